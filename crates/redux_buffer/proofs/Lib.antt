@@ -1,0 +1,5 @@
+pub mod Walks
+pub mod Ranges
+pub mod Written
+pub mod Steps
+pub mod Sending

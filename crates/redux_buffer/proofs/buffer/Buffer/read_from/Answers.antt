@@ -1,0 +1,23 @@
+use Rattle.std.proofs.Common.{◌≡◌, ◌≤◌, length, arith, rules, ◌∙◌, ap, sym}
+use Rattle.redux_buffer.specs.Block.{usable}
+use Rattle.redux_buffer.specs.BufImpl.{placed}
+use Rattle.redux_buffer.proofs.Written.{written_adds}
+use Rattle.redux_buffer.proofs.buffer.Buffer.read_from.Goals as goal
+
+pub returns-clause-read : goal.returns-clause-read
+returns-clause-read g c =
+    let n = c.in_ok-n.n in
+    let w = c.read_told.new.buf in
+    let whole : length w ≡ usable (placed c.self.inside.imp).block = search rules in
+    let given : n ≤ length w = c.in_ok-n.ensures.bound.0 in
+    let room : n ≤ usable (placed c.self.inside.imp).block = omega arith in
+    rw (← c.self.view_is) (record {
+      no_room = λ none. absurd (c.if-usable_space-eq0.false (c.usable_space.ensures.value ∙ ap usable (sym c.self.view_is) ∙ none));
+      read = λ some. record {
+        out = w;
+        offered = whole;
+        bound = c.in_ok-n.ensures.bound;
+        told = c.in_ok-n.ensures.told;
+        added = written_adds c.self.inside.imp c.bytes_written.new.self w n c.self.invariant c.bytes_written.ensures.whole whole room c.bytes_written.ensures.bytes c.bytes_written.ensures.shift;
+      };
+    })

@@ -1,0 +1,184 @@
+-- What contracts see of a buffer, and what its calls do to it.
+use Rattle.std.specs.Prelude.{◌≡◌, ℕ, ◌+◌, ◌-◌, ◌*◌, ◌/◌, ◌^◌, ◌<◌, ◌≤◌, ◌==◌, ◌||◌, nat_le, nat_lt, min, if◌then◌else◌, List, [], ◌++◌, length, take, drop, ⊤}
+
+-- a plain buffer moves its bytes only when asked, a ring has all its free space behind its bytes
+pub data Kind : Type 0 where
+  Plain : Kind
+  Ring : Kind
+
+-- the bytes, the tail that `write_buf` would lend now, the capacity and its limit, and two counts: how many bytes were
+-- consumed, and how many a call moved to another place in the storage
+pub record Block : Type 0 where
+  pub bytes : List ℕ
+  pub tail : List ℕ
+  pub capacity : ℕ
+  pub limit : ℕ
+  pub kind : Kind
+  pub consumed : ℕ
+  pub moved : ℕ
+
+-- a block, and where its first byte stands in the storage
+pub record Placed : Type 0 where
+  pub block : Block
+  pub place : ℕ
+
+-- a value, or a fact, for each kind
+abbrev pub by_kind : {T : Type 0} → Kind → T → T → T
+by_kind Plain x y = x
+by_kind Ring x y = y
+
+abbrev pub OnKind : Kind → Type 0 → Type 0 → Type 0
+OnKind Plain P Q = P
+OnKind Ring P Q = Q
+
+-- how many bytes can be written now
+abbrev pub usable : Block → ℕ
+usable b = length b.tail
+
+-- the least multiple of 4096 that is at least c
+abbrev pub round : ℕ → ℕ
+round c = (c + 4095) / 4096 * 4096
+
+-- the greatest capacity
+abbrev pub limit_of : Kind → ℕ
+limit_of k = by_kind k (2 ^ 62) (2 ^ 61)
+
+-- the capacity that `reserve a` needs, where there is too little usable space
+abbrev pub needed : Block → ℕ → ℕ
+needed b a = by_kind b.kind
+    (if length b.bytes == 0 then b.capacity + a else b.capacity - usable b + a)
+    (round (length b.bytes + a))
+
+-- the capacity after `reserve a`
+abbrev pub capacity_for : Block → ℕ → ℕ
+capacity_for b a = if nat_le a (usable b) then b.capacity else needed b a
+
+-- what is true of every block
+pub record IsBlock (b : Block) : Type 0 where
+  pub limit : b.capacity ≤ b.limit
+  pub most : b.limit ≤ limit_of b.kind
+  pub fits : length b.bytes + usable b ≤ b.capacity
+  pub space : OnKind b.kind (length b.bytes ≡ 0 → usable b ≡ b.capacity) (length b.bytes + usable b ≡ b.capacity)
+  pub moves : OnKind b.kind ⊤ (b.moved ≤ b.consumed)
+
+-- the same with the place, which in a ring has come as far only by what was consumed
+pub record IsPlaced (p : Placed) : Type 0 where
+  pub block : IsBlock p.block
+  pub place : OnKind p.block.kind (p.place + (length p.block.bytes + usable p.block) ≡ p.block.capacity) (p.block.moved + p.place ≤ p.block.consumed)
+
+-- a block that was just made
+pub record IsNew (k : Kind) (cap : ℕ) (b : Block) : Type 0 where
+  pub limit : b.limit ≡ limit_of k
+  pub bytes : b.bytes ≡ []
+  pub usable : usable b ≡ cap
+  pub capacity : b.capacity ≡ cap
+  pub kind : b.kind ≡ k
+  pub consumed : b.consumed ≡ 0
+  pub moved : b.moved ≡ 0
+
+-- a ring that grew has its bytes at the front
+abbrev pub Lands : Placed → Placed → Type 0
+Lands old new = OnKind old.block.kind ⊤ (old.block.capacity < new.block.capacity → new.place ≡ 0)
+
+-- ws written over xs, which keeps its length
+abbrev pub refilled : List ℕ → List ℕ → List ℕ
+refilled xs ws = take (length xs) (ws ++ drop (length ws) xs)
+
+-- what `write_buf` lends out of: a ring whose place has passed its capacity is drawn back to the front
+abbrev pub drawn : Placed → Placed
+drawn p = by_kind p.block.kind p (
+    if nat_lt p.block.capacity p.place
+    then record { block = record p.block { moved = p.block.moved + length p.block.bytes }; place = 0 }
+    else p)
+
+-- p with ws written over its tail
+abbrev pub with_tail : Placed → List ℕ → Placed
+with_tail p ws = let q = drawn p in record q { block = record q.block { tail = refilled p.block.tail ws } }
+
+-- p with ws written over its bytes. A ws that is longer, which no loan leaves, goes on into the tail where that is behind them
+abbrev pub with_bytes : Placed → List ℕ → Placed
+with_bytes p ws = record p {
+  block = record p.block {
+    bytes = refilled p.block.bytes ws;
+    tail = if nat_lt p.block.capacity p.place then p.block.tail else refilled p.block.tail (drop (length p.block.bytes) ws);
+  };
+}
+
+-- the first n bytes of the tail become the last bytes
+pub record Appends (n : ℕ) (old new : Block) : Type 0 where
+  pub bytes : new.bytes ≡ old.bytes ++ take n old.tail
+  pub usable : usable new ≡ usable old - n
+  pub capacity : new.capacity ≡ old.capacity
+  pub limit : new.limit ≡ old.limit
+  pub kind : new.kind ≡ old.kind
+  pub consumed : new.consumed ≡ old.consumed
+
+-- the first n bytes are dropped, or all
+pub record Takes (n : ℕ) (old new : Block) : Type 0 where
+  pub bytes : new.bytes ≡ drop n old.bytes
+  pub usable : OnKind old.kind (0 < length new.bytes → usable new ≡ usable old) ⊤
+  pub capacity : new.capacity ≡ old.capacity
+  pub limit : new.limit ≡ old.limit
+  pub kind : new.kind ≡ old.kind
+  pub consumed : new.consumed ≡ old.consumed + min n (length old.bytes)
+
+-- there is usable space for a more bytes
+pub record Grows (a : ℕ) (old new : Block) : Type 0 where
+  pub bytes : new.bytes ≡ old.bytes
+  pub capacity : new.capacity ≡ capacity_for old a
+  pub usable : usable new ≡ usable old + (new.capacity - old.capacity)
+  pub limit : new.limit ≡ old.limit
+  pub kind : new.kind ≡ old.kind
+  pub consumed : new.consumed ≡ old.consumed
+  pub moved : new.moved ≡ old.moved
+
+-- all free space is usable
+pub record Settles (old new : Block) : Type 0 where
+  pub bytes : new.bytes ≡ old.bytes
+  pub usable : usable new ≡ old.capacity - length old.bytes
+  pub capacity : new.capacity ≡ old.capacity
+  pub limit : new.limit ≡ old.limit
+  pub kind : new.kind ≡ old.kind
+  pub consumed : new.consumed ≡ old.consumed
+
+-- how many bytes a step shifted that dropped n
+abbrev pub shifted : ℕ → Placed → Placed → ℕ
+shifted n old new =
+    if (length new.block.bytes == 0) || (nat_lt old.block.capacity new.block.capacity || (new.place == old.place + n))
+    then 0 else length new.block.bytes
+
+-- the step that dropped n counts what it shifted
+abbrev pub CountsShift : ℕ → Placed → Placed → Type 0
+CountsShift n old new = new.block.moved ≡ old.block.moved + shifted n old new
+
+-- only a ring may move bytes unasked
+abbrev pub MovesOnlyRing : Block → Block → Type 0
+MovesOnlyRing old new = OnKind old.kind (new.moved ≡ old.moved) (old.moved ≤ new.moved)
+
+-- all but the tail's bytes, and what a ring moved, is as before
+pub record Keeps (old new : Block) : Type 0 where
+  pub bytes : new.bytes ≡ old.bytes
+  pub usable : usable new ≡ usable old
+  pub capacity : new.capacity ≡ old.capacity
+  pub limit : new.limit ≡ old.limit
+  pub kind : new.kind ≡ old.kind
+  pub consumed : new.consumed ≡ old.consumed
+  pub moved : MovesOnlyRing old new
+
+-- xs stands behind the old bytes
+pub record Adds (xs : List ℕ) (old new : Block) : Type 0 where
+  pub bytes : new.bytes ≡ old.bytes ++ xs
+  pub usable : usable new ≡ usable old - length xs
+  pub capacity : new.capacity ≡ old.capacity
+  pub limit : new.limit ≡ old.limit
+  pub kind : new.kind ≡ old.kind
+  pub consumed : new.consumed ≡ old.consumed
+  pub moved : MovesOnlyRing old new
+
+-- where the first byte of a plain block stands
+abbrev pub place_of : Block → ℕ
+place_of b = b.capacity - usable b - length b.bytes
+
+-- a plain block that is settled counts its bytes as moved, unless they stood at the front
+abbrev pub MovesToFront : Block → Block → Type 0
+MovesToFront old new = OnKind old.kind (new.moved ≡ old.moved + (if place_of old == 0 then 0 else length old.bytes)) (old.moved ≤ new.moved)

@@ -1,0 +1,10 @@
+pub mod Grow
+pub mod RawLends
+pub mod Block
+pub mod BufImpl
+pub mod StreamLog
+pub mod Grows
+pub mod Calls
+pub mod Told
+pub mod Faults
+pub mod Transfer

@@ -1,0 +1,142 @@
+-- What a stream tells of its own calls, and what each call adds to it.
+use Rattle.std.specs.Prelude.{◌≡◌, ℕ, ◌+◌, ◌≤◌, List, [], ◌∷◌, ◌++◌, length, take, drop, Result, Ok, Err, ◌&&◌, ◌==◌, nat_lt, if◌then◌else◌}
+use Rattle.std.specs.IoError.{error_kind}
+use Rattle.std.specs.declared.io.Error.{Error}
+use Rattle.std.specs.declared.io.ErrorKind.{ErrorKind}
+
+-- what a reader tells of its reads: the bytes that it gave, the reads that it answered, the length of the last slice
+-- that it was lent, its `Ok(0)` to slices that were not empty, and the kinds of its faults
+pub record ReadLog : Type 0 where
+  pub given : List ℕ
+  pub asks : ℕ
+  pub offer : ℕ
+  pub zero_answers : ℕ
+  pub faults : List ErrorKind
+
+-- what a writer tells of its writes and flushes: the bytes that it took, those that it had taken at its last Ok flush,
+-- the length of the last slice, its `Ok(0)` to slices that were not empty, and the kinds of its faults
+pub record WriteLog : Type 0 where
+  pub received : List ℕ
+  pub flushed : List ℕ
+  pub offer : ℕ
+  pub zero_writes : ℕ
+  pub faults : List ErrorKind
+
+-- what a buffered reader tells: the bytes that it shows, those that were consumed, its Ok fills that showed nothing,
+-- and the kinds of its faults
+pub record FillLog : Type 0 where
+  pub shown : List ℕ
+  pub consumed : List ℕ
+  pub ends : ℕ
+  pub faults : List ErrorKind
+
+pub record StreamLog : Type 0 where
+  pub reads : ReadLog
+  pub writes : WriteLog
+  pub fills : FillLog
+  pub seek_faults : List ErrorKind
+
+-- a stream that was not called yet
+abbrev pub no_calls : StreamLog
+no_calls = record {
+  reads = record { given = []; asks = 0; offer = 0; zero_answers = 0; faults = [] };
+  writes = record { received = []; flushed = []; offer = 0; zero_writes = 0; faults = [] };
+  fills = record { shown = []; consumed = []; ends = 0; faults = [] };
+  seek_faults = [];
+}
+
+-- the bytes of bs that an answer took: the first n at `Ok(n)`, none at `Err`
+abbrev pub taken : List ℕ → Result ℕ Error → List ℕ
+taken bs (Ok n) = take n bs
+taken bs (Err e) = []
+
+-- an answer `Ok(0)` to a slice that is not empty is counted
+abbrev pub with_zero : ℕ → List ℕ → Result ℕ Error → ℕ
+with_zero before bs (Ok n) = if n == 0 && nat_lt 0 (length bs) then before + 1 else before
+with_zero before bs (Err e) = before
+
+-- an `Err` adds its kind, and an `Ok` nothing
+abbrev pub with_fault : {A : Type 0} → List ErrorKind → Result A Error → List ErrorKind
+with_fault before (Ok a) = before
+with_fault before (Err e) = before ++ error_kind e ∷ []
+
+-- an Ok `flush` notes what was received
+abbrev pub with_flush : List ℕ → List ℕ → Result (Unit {0}) Error → List ℕ
+with_flush before received (Ok _) = received
+with_flush before received (Err e) = before
+
+-- after `read(buf)`, which left the slice as buf
+abbrev pub after_read : StreamLog → List ℕ → Result ℕ Error → StreamLog
+after_read log buf answer = record log {
+  reads = record {
+    given = log.reads.given ++ taken buf answer;
+    asks = log.reads.asks + 1;
+    offer = length buf;
+    zero_answers = with_zero log.reads.zero_answers buf answer;
+    faults = with_fault log.reads.faults answer;
+  };
+}
+
+-- after `write(buf)`
+abbrev pub after_write : StreamLog → List ℕ → Result ℕ Error → StreamLog
+after_write log buf answer = record log {
+  writes = record {
+    received = log.writes.received ++ taken buf answer;
+    flushed = log.writes.flushed;
+    offer = length buf;
+    zero_writes = with_zero log.writes.zero_writes buf answer;
+    faults = with_fault log.writes.faults answer;
+  };
+}
+
+-- after `flush()`
+abbrev pub after_flush : StreamLog → Result (Unit {0}) Error → StreamLog
+after_flush log answer = record log {
+  writes = record {
+    received = log.writes.received;
+    flushed = with_flush log.writes.flushed log.writes.received answer;
+    offer = log.writes.offer;
+    zero_writes = log.writes.zero_writes;
+    faults = with_fault log.writes.faults answer;
+  };
+}
+
+-- after `seek(..)`
+abbrev pub after_seek : StreamLog → Result ℕ Error → StreamLog
+after_seek log answer = record log { seek_faults = with_fault log.seek_faults answer }
+
+-- after `consume(amount)`
+abbrev pub after_consume : StreamLog → ℕ → StreamLog
+after_consume log amount = record log {
+  fills = record {
+    shown = drop amount log.fills.shown;
+    consumed = log.fills.consumed ++ take amount log.fills.shown;
+    ends = log.fills.ends;
+    faults = log.fills.faults;
+  };
+}
+
+-- an Ok `fill_buf` that shows nothing is counted
+abbrev pub with_end : ℕ → List ℕ → ℕ
+with_end before shown = if length shown == 0 then before + 1 else before
+
+-- after `fill_buf()` showed these bytes
+abbrev pub after_shown : StreamLog → List ℕ → StreamLog
+after_shown log bytes = record log {
+  fills = record {
+    shown = bytes;
+    consumed = log.fills.consumed;
+    ends = with_end log.fills.ends bytes;
+    faults = log.fills.faults;
+  };
+}
+
+-- the lists of bytes and of faults only go on, and the counts only rise
+pub record WriteLogGrows (old new : WriteLog) : Type 0 where
+  pub received : (more : List ℕ) × (new.received ≡ old.received ++ more)
+  pub zero_writes : old.zero_writes ≤ new.zero_writes
+  pub faults : (more : List ErrorKind) × (new.faults ≡ old.faults ++ more)
+
+-- the same, as a word that a proof opens only where it needs to
+unfoldable pub WritesGoOn : StreamLog → StreamLog → Type 0
+WritesGoOn old new = WriteLogGrows old.writes new.writes

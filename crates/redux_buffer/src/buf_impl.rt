@@ -1,0 +1,177 @@
+//! Either kind of buffer.
+ghost use Rattle.std.specs.Prelude.{◌≡◌, ◌+◌, ◌-◌, ◌^◌, ◌≤◌, ◌<◌, ◌↔◌, ℕ, List, [], ◌++◌, length, min, IsTrue, IfOk, IsOk, OnOk, OnErr};
+ghost use Rattle.std.specs.Borrow.{Lends, Array, sem, u8};
+ghost use Rattle.redux_buffer.specs.Grow.{FitsWithin};
+ghost use Rattle.redux_buffer.specs.Block.{Plain, Ring, IsPlaced, IsNew, Lands, Appends, Takes, Grows, Settles, CountsShift, usable, capacity_for, with_tail, with_bytes, round};
+ghost use Rattle.redux_buffer.specs.BufImpl.{placed, with_placed};
+ghost use Rattle.redux_buffer.specs.contracts.buf_impl.BufImpl.{the_row};
+
+use crate::grow_error::GrowError;
+use crate::slice_deque_buf::SliceDequeBuf;
+use crate::std_buf::StdBuf;
+use std::alloc::Global;
+
+/// A buffer of either kind, with the calls that the two kinds share.
+#[derive(Debug, Drop)]
+pub enum BufImpl {
+    /// The plain kind.
+    Std(StdBuf),
+    /// The ring.
+    Ringbuf(SliceDequeBuf),
+}
+
+impl BufImpl {
+    /// An empty plain buffer of capacity `cap` in bytes.
+    pub fn with_capacity(alloc: Global, cap: usize) -> Result<Self, GrowError>
+        ensures made { IfOk result (λ b. IsNew Plain cap (placed b).block × IsPlaced (placed b)) }
+        ensures limit { FitsWithin result cap (2 ^ 62) }
+        ensures succeeds { cap ≡ 0 → IsOk result }
+    {
+        Ok(BufImpl::Std(StdBuf::with_capacity(alloc, cap)?))
+    }
+
+    /// An empty ring of at least `cap` bytes.
+    pub fn with_capacity_ringbuf(alloc: Global, cap: usize) -> Result<Self, GrowError>
+        ensures made { IfOk result (λ b. IsNew Ring (round cap) (placed b).block × IsPlaced (placed b)) }
+        ensures limit { FitsWithin result (round cap) (2 ^ 61) }
+        ensures succeeds { cap ≡ 0 → IsOk result }
+    {
+        Ok(BufImpl::Ringbuf(SliceDequeBuf::with_capacity(alloc, cap)?))
+    }
+
+    /// Whether it is a ring.
+    pub fn is_ringbuf(&self) -> bool
+        ensures ring { IsTrue result ↔ ((placed self.now).block.kind ≡ Ring) }
+        ensures whole { IsPlaced (placed self.now) }
+    {
+        match self {
+            BufImpl::Std(b) => {
+                let _ = b.capacity();
+                false
+            }
+            BufImpl::Ringbuf(b) => {
+                let _ = b.capacity();
+                true
+            }
+        }
+    }
+
+    /// The capacity in bytes.
+    pub fn capacity(&self) -> usize
+        ensures value { result ≡ (placed self.now).block.capacity }
+        ensures whole { IsPlaced (placed self.now) }
+    {
+        match self {
+            BufImpl::Std(b) => b.capacity(),
+            BufImpl::Ringbuf(b) => b.capacity(),
+        }
+    }
+
+    /// How many bytes it holds.
+    pub fn len(&self) -> usize
+        ensures value { result ≡ length (placed self.now).block.bytes }
+        ensures whole { IsPlaced (placed self.now) }
+    {
+        match self {
+            BufImpl::Std(b) => b.len(),
+            BufImpl::Ringbuf(b) => b.len(),
+        }
+    }
+
+    /// How many bytes can be written behind those that it holds.
+    pub fn usable_space(&self) -> usize
+        ensures value { result ≡ usable (placed self.now).block }
+        ensures whole { IsPlaced (placed self.now) }
+    {
+        match self {
+            BufImpl::Std(b) => b.usable_space(),
+            BufImpl::Ringbuf(b) => b.usable_space(),
+        }
+    }
+
+    /// The bytes.
+    pub fn buf(&self) -> &[u8]
+        ensures { result.now ≡ (placed self.now).block.bytes }
+    {
+        match self {
+            BufImpl::Std(b) => b.buf(),
+            BufImpl::Ringbuf(b) => b.buf(),
+        }
+    }
+
+    /// Lends the whole usable tail. What is written there counts once [`bytes_written`](BufImpl::bytes_written) says so.
+    pub fn write_buf(&mut self) -> &mut [u8]
+        ensures* writes_back { sem 𝓛 (Lends the_row (Array u8 0) self.entry result
+            (λ w. with_placed self.old (with_tail (placed self.old) w))) }
+        ensures value { result.now ≡ (placed self.old).block.tail }
+    {
+        match self {
+            BufImpl::Std(b) => b.write_buf(),
+            BufImpl::Ringbuf(b) => b.write_buf(),
+        }
+    }
+
+    /// The bytes, for writing.
+    pub fn buf_mut(&mut self) -> &mut [u8]
+        ensures* writes_back { sem 𝓛 (Lends the_row (Array u8 0) self.entry result
+            (λ w. with_placed self.old (with_bytes (placed self.old) w))) }
+        ensures value { result.now ≡ (placed self.old).block.bytes }
+    {
+        match self {
+            BufImpl::Std(b) => b.buf_mut(),
+            BufImpl::Ringbuf(b) => b.buf_mut(),
+        }
+    }
+
+    /// Takes the first `n` bytes of the tail, or all of it where it has fewer, as the last bytes.
+    pub fn bytes_written(&mut self, n: usize)
+        ensures bytes { Appends n (placed self.old).block (placed self.new).block }
+        ensures shift { CountsShift 0 (placed self.old) (placed self.new) }
+        ensures whole { IsPlaced (placed self.new) }
+    {
+        match self {
+            BufImpl::Std(b) => b.bytes_written(n),
+            BufImpl::Ringbuf(b) => b.bytes_written(n),
+        }
+    }
+
+    /// Drops the first `n` bytes, or all where it holds fewer.
+    pub fn consume(&mut self, n: usize)
+        ensures bytes { Takes n (placed self.old).block (placed self.new).block }
+        ensures shift { CountsShift (min n (length (placed self.old).block.bytes)) (placed self.old) (placed self.new) }
+        ensures whole { IsPlaced (placed self.new) }
+    {
+        match self {
+            BufImpl::Std(b) => b.consume(n),
+            BufImpl::Ringbuf(b) => b.consume(n),
+        }
+    }
+
+    /// Makes all free space usable: a plain buffer moves its bytes to the front, a ring does nothing.
+    pub fn make_room(&mut self)
+        ensures bytes { Settles (placed self.old).block (placed self.new).block }
+        ensures shift { CountsShift 0 (placed self.old) (placed self.new) }
+        ensures whole { IsPlaced (placed self.new) }
+    {
+        match self {
+            BufImpl::Std(b) => b.make_room(),
+            BufImpl::Ringbuf(b) => b.make_room(),
+        }
+    }
+
+    /// Makes sure that `a` more bytes can be written. A refusal changes nothing.
+    pub fn reserve(&mut self, a: usize) -> Result<(), GrowError>
+        ensures grown { OnOk result (Grows a (placed self.old).block (placed self.new).block) }
+        ensures place { Lands (placed self.old) (placed self.new) }
+        ensures shift { CountsShift 0 (placed self.old) (placed self.new) }
+        ensures unchanged { OnErr result (placed self.new ≡ placed self.old) }
+        ensures limit { FitsWithin result (capacity_for (placed self.old).block a) (placed self.old).block.limit }
+        ensures succeeds { a ≤ usable (placed self.old).block → IsOk result }
+        ensures whole { IsPlaced (placed self.new) }
+    {
+        match self {
+            BufImpl::Std(b) => b.reserve(a),
+            BufImpl::Ringbuf(b) => b.reserve(a),
+        }
+    }
+}

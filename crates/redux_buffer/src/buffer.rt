@@ -1,0 +1,222 @@
+//! The buffer that readers and writers hold.
+ghost use Rattle.std.specs.Prelude.{◌≡◌, ◌+◌, ◌-◌, ◌*◌, ◌^◌, ◌≤◌, ◌<◌, ◌↔◌, ℕ, List, [], ◌++◌, length, min, take, drop, IsTrue, IfOk, IsOk, IsOkUnless, OnOk, OnErr, MatchResult, nat_le, if◌then◌else◌};
+ghost use Rattle.redux_buffer.specs.Grow.{FitsWithin};
+ghost use Rattle.redux_buffer.specs.Block.{Plain, Ring, IsBlock, IsNew, Takes, Grows, Settles, Keeps, Adds, MovesOnlyRing, MovesToFront, usable, capacity_for, round};
+
+use crate::DEFAULT_BUF_SIZE;
+use crate::buf_impl::BufImpl;
+use crate::grow_error::GrowError;
+use std::alloc::Global;
+use std::marker::Model;
+
+mod transfer;
+
+/// A buffer of bytes, plain or ring, which grows only where it is asked to.
+///
+/// A plain buffer moves its bytes in [`make_room`](Buffer::make_room) alone. A ring may move them by itself, never more
+/// of them than were consumed.
+#[derive(Debug, Drop)]
+pub struct Buffer {
+    imp: BufImpl,
+}
+
+impl Model for Buffer {
+    ghost use Rattle.redux_buffer.specs.Block.{Block, IsPlaced};
+
+    ghost Value = { Block };
+
+    ghost use Rattle.redux_buffer.specs.BufImpl.{placed};
+
+    ghost view = { λ b. (placed b.imp).block };
+
+    ghost invariant = { λ b. IsPlaced (placed b.imp) };
+}
+
+// Writes `src` over the front of `room`.
+fn put_front(room: &mut [u8], src: &[u8])
+    requires { length src.now ≤ length room.old }
+    ensures { room.new ≡ src.now ++ drop (length src.now) room.old }
+{
+    room[..src.len()].copy_from_slice(src);
+}
+
+impl Buffer {
+    /// An empty plain buffer of [`DEFAULT_BUF_SIZE`] bytes.
+    pub fn new(alloc: Global) -> Result<Self, GrowError>
+        ensures made { IfOk result (λ b. IsNew Plain 8192 b × IsBlock b) }
+        ensures refused { IsOkUnless result GrowError.Memory }
+    {
+        Buffer::with_capacity(alloc, DEFAULT_BUF_SIZE)
+    }
+
+    /// An empty ring of [`DEFAULT_BUF_SIZE`] bytes.
+    pub fn new_ringbuf(alloc: Global) -> Result<Self, GrowError>
+        ensures made { IfOk result (λ b. IsNew Ring 8192 b × IsBlock b) }
+        ensures refused { IsOkUnless result GrowError.Memory }
+    {
+        Buffer::with_capacity_ringbuf(alloc, DEFAULT_BUF_SIZE)
+    }
+
+    /// An empty plain buffer of capacity `cap` in bytes, or `TooLarge` past [`MAX_CAPACITY`](crate::MAX_CAPACITY).
+    pub fn with_capacity(alloc: Global, cap: usize) -> Result<Self, GrowError>
+        ensures made { IfOk result (λ b. IsNew Plain cap b × IsBlock b) }
+        ensures limit { FitsWithin result cap (2 ^ 62) }
+        ensures succeeds { cap ≡ 0 → IsOk result }
+    {
+        Ok(Buffer {
+            imp: BufImpl::with_capacity(alloc, cap)?,
+        })
+    }
+
+    /// An empty ring whose capacity in bytes is the least multiple of [`RING_UNIT`](crate::RING_UNIT) that is at least `cap`,
+    /// or `TooLarge` past [`MAX_RING`](crate::MAX_RING).
+    pub fn with_capacity_ringbuf(alloc: Global, cap: usize) -> Result<Self, GrowError>
+        ensures made { IfOk result (λ b. IsNew Ring (round cap) b × IsBlock b) }
+        ensures limit { FitsWithin result (round cap) (2 ^ 61) }
+        ensures succeeds { cap ≡ 0 → IsOk result }
+    {
+        Ok(Buffer {
+            imp: BufImpl::with_capacity_ringbuf(alloc, cap)?,
+        })
+    }
+
+    /// How many bytes it holds.
+    pub fn len(&self) -> usize
+        ensures value { result ≡ length self.now.bytes }
+        ensures whole { IsBlock self.now }
+    {
+        self.imp.len()
+    }
+
+    /// Whether it holds no byte.
+    pub fn is_empty(&self) -> bool
+        ensures value { IsTrue result ↔ (length self.now.bytes ≡ 0) }
+        ensures whole { IsBlock self.now }
+    {
+        self.imp.len() == 0
+    }
+
+    /// Whether it is a ring.
+    pub fn is_ringbuf(&self) -> bool
+        ensures value { IsTrue result ↔ (self.now.kind ≡ Ring) }
+        ensures whole { IsBlock self.now }
+    {
+        self.imp.is_ringbuf()
+    }
+
+    /// The capacity in bytes.
+    pub fn capacity(&self) -> usize
+        ensures value { result ≡ self.now.capacity }
+        ensures whole { IsBlock self.now }
+    {
+        self.imp.capacity()
+    }
+
+    /// How many bytes can be written behind those that it holds. Less than the free space where a plain buffer has free
+    /// space in front of its bytes.
+    pub fn usable_space(&self) -> usize
+        ensures value { result ≡ usable self.now }
+        ensures whole { IsBlock self.now }
+    {
+        self.imp.usable_space()
+    }
+
+    /// The capacity without the bytes that it holds.
+    pub fn free_space(&self) -> usize
+        ensures value { result ≡ self.now.capacity - length self.now.bytes }
+        ensures whole { IsBlock self.now }
+    {
+        self.imp.capacity() - self.imp.len()
+    }
+
+    /// The bytes.
+    pub fn buf(&self) -> &[u8]
+        ensures { result.now ≡ self.now.bytes }
+    {
+        self.imp.buf()
+    }
+
+    /// Makes all free space usable: a plain buffer moves its bytes to the front, a ring does nothing.
+    pub fn make_room(&mut self)
+        ensures bytes { Settles self.old self.new }
+        ensures moved { MovesToFront self.old self.new }
+        ensures whole { IsBlock self.new }
+    {
+        self.imp.make_room();
+    }
+
+    /// Drops the first `n` bytes, or all where it holds fewer.
+    pub fn consume(&mut self, n: usize)
+        ensures bytes { Takes n self.old self.new }
+        ensures moved { MovesOnlyRing self.old self.new }
+        ensures whole { IsBlock self.new }
+    {
+        self.imp.consume(n);
+    }
+
+    /// Makes sure that `a` more bytes can be written. A refusal changes nothing.
+    pub fn reserve(&mut self, a: usize) -> Result<(), GrowError>
+        ensures grown { OnOk result (Grows a self.old self.new) }
+        ensures unchanged { OnErr result (self.new ≡ self.old) }
+        ensures limit { FitsWithin result (capacity_for self.old a) self.old.limit }
+        ensures succeeds { a ≤ usable self.old → IsOk result }
+        ensures whole { IsBlock self.new }
+    {
+        self.imp.reserve(a)
+    }
+
+    /// Appends the first bytes of `src`, as many as can be written now, and answers how many those are.
+    pub fn copy_from_slice(&mut self, src: &[u8]) -> usize
+        ensures count { result ≡ min (usable self.old) (length src.now) }
+        ensures bytes { Adds (take result src.now) self.old self.new }
+        ensures whole { IsBlock self.new }
+    {
+        let n = src.len().min(self.imp.usable_space());
+        put_front(self.imp.write_buf(), &src[..n]);
+        self.imp.bytes_written(n);
+        n
+    }
+
+    /// Copies the first bytes to the front of `out`, as many as fit, drops them, and answers how many those are.
+    pub fn copy_to_slice(&mut self, out: &mut [u8]) -> usize
+        ensures count { result ≡ min (length self.old.bytes) (length out.old) }
+        ensures copied { out.new ≡ take result self.old.bytes ++ drop result out.old }
+        ensures bytes { Takes result self.old self.new }
+        ensures moved { MovesOnlyRing self.old self.new }
+        ensures whole { IsBlock self.new }
+    {
+        let n = out.len().min(self.imp.len());
+        out[..n].copy_from_slice(&self.imp.buf()[..n]);
+        self.consume(n);
+        n
+    }
+
+    /// Appends all of `b`, and grows by twice its length where that many bytes cannot be written now. A refusal changes
+    /// nothing.
+    pub fn push_bytes(&mut self, b: &[u8]) -> Result<(), GrowError>
+        ensures ok { OnOk result (self.new.bytes ≡ self.old.bytes ++ b.now) }
+        ensures fits { length b.now ≤ usable self.old → OnOk result (Adds b.now self.old self.new) }
+        ensures err { OnErr result (self.new ≡ self.old) }
+        ensures limit { FitsWithin result (if nat_le (length b.now) (usable self.old) then self.old.capacity else capacity_for self.old (2 * length b.now)) self.old.limit }
+        ensures capacity { OnOk result (self.new.capacity ≡ (if nat_le (length b.now) (usable self.old) then self.old.capacity else capacity_for self.old (2 * length b.now))) }
+        ensures counts { (self.new.kind ≡ self.old.kind) × (self.new.consumed ≡ self.old.consumed) × MovesOnlyRing self.old self.new }
+        ensures succeeds { length b.now ≤ usable self.old → IsOk result }
+        ensures whole { IsBlock self.new }
+    {
+        if self.usable_space() < b.len() {
+            self.reserve(2 * b.len())?;
+        }
+        let _ = self.copy_from_slice(b);
+        Ok(())
+    }
+
+    /// Drops all bytes.
+    pub fn clear(&mut self)
+        ensures bytes { Takes (length self.old.bytes) self.old self.new }
+        ensures moved { MovesOnlyRing self.old self.new }
+        ensures whole { IsBlock self.new }
+    {
+        let len = self.len();
+        self.consume(len);
+    }
+}

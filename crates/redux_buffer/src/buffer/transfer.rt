@@ -1,0 +1,99 @@
+//! What a buffer reads from and writes to a stream.
+ghost use Rattle.std.specs.Prelude.{◌≡◌, ◌≤◌, ◌<◌, ◌⊎◌, length, Ok, OnErr};
+ghost use Rattle.std.specs.Io.{WritesAtMost};
+ghost use Rattle.redux_buffer.specs.Block.{IsBlock, Keeps, MovesOnlyRing, usable};
+ghost use Rattle.redux_buffer.specs.Transfer.{ReadsFrom, WritesTo, WritesRetried, Sends};
+
+use crate::INTERRUPT_LIMIT;
+use crate::buffer::Buffer;
+use crate::tell::{TellRead, TellWrite};
+use std::io;
+use std::io::ErrorKind;
+
+impl Buffer {
+    /// Reads once, into all the space that can be written, and answers how many bytes came. Answers `Ok(0)` and doesn't
+    /// ask the reader where there is no such space. A fault of the reader changes nothing.
+    pub fn read_from<R: TellRead>(&mut self, rdr: &mut R) -> io::Result<usize>
+        ensures read { ReadsFrom self.old (R.log rdr.old) result self.new (R.log rdr.new) }
+        ensures not_asked { usable self.old ≡ 0 → rdr.new ≡ rdr.old }
+        ensures err { OnErr result (Keeps self.old self.new) }
+        ensures whole { IsBlock self.new }
+    {
+        if self.usable_space() == 0 {
+            return Ok(0);
+        }
+        let n = rdr.read_told(self.imp.write_buf())?;
+        self.imp.bytes_written(n);
+        Ok(n)
+    }
+
+    /// Writes all bytes once, drops those that the writer took, and answers how many those are. Answers `Ok(0)` and
+    /// doesn't ask the writer where the buffer is empty. A fault of the writer changes nothing.
+    pub fn write_to<W: TellWrite>(&mut self, wrt: &mut W) -> io::Result<usize>
+        ensures wrote { WritesTo self.old (W.log wrt.old) result self.new (W.log wrt.new) }
+        ensures not_asked { length self.old.bytes ≡ 0 → wrt.new ≡ wrt.old }
+        ensures moved { MovesOnlyRing self.old self.new }
+        ensures stretch { W.stretch wrt.old wrt.new }
+        ensures whole { IsBlock self.new }
+    {
+        if self.is_empty() {
+            return Ok(0);
+        }
+        let n = wrt.write_told(self.buf())?;
+        self.consume(n);
+        Ok(n)
+    }
+
+    /// Writes the first `max` bytes, or all where there are fewer, by as many writes as it takes. Each write offers all
+    /// that is left of them.
+    ///
+    /// 64 `Interrupted` in a row are retried, and the 65th is answered; a write that takes bytes ends the row. A write
+    /// that takes nothing is answered as `WriteZero`. At any fault the buffer has lost just what the writer took.
+    pub fn write_max<W: TellWrite>(&mut self, max: usize, wrt: &mut W) -> io::Result<()>
+        ensures sent { Sends max self.old (W.log wrt.old) result self.new (W.log wrt.new) }
+        ensures not_asked { max ≡ 0 ⊎ (length self.old.bytes ≡ 0) → (wrt.new ≡ wrt.old) × (self.new ≡ self.old) }
+        ensures stretch { W.stretch wrt.old wrt.new }
+        ensures whole { IsBlock self.new }
+    {
+        let mut left = max.min(self.len());
+        while left > 0 {
+            let n = write_retried(wrt, &self.buf()[..left])?;
+            if n == 0 {
+                return Err(io::Error::from(ErrorKind::WriteZero));
+            }
+            self.consume(n);
+            left -= n;
+        }
+        Ok(())
+    }
+
+    /// Writes all bytes, as [`write_max`](Buffer::write_max) does.
+    pub fn write_all<W: TellWrite>(&mut self, wrt: &mut W) -> io::Result<()>
+        ensures sent { Sends (length self.old.bytes) self.old (W.log wrt.old) result self.new (W.log wrt.new) }
+        ensures not_asked { length self.old.bytes ≡ 0 → (wrt.new ≡ wrt.old) × (self.new ≡ self.old) }
+        ensures stretch { W.stretch wrt.old wrt.new }
+        ensures whole { IsBlock self.new }
+    {
+        let len = self.len();
+        self.write_max(len, wrt)
+    }
+}
+
+// One write, asked again where it was interrupted, `INTERRUPT_LIMIT` times at the most.
+fn write_retried<W: TellWrite>(wrt: &mut W, bytes: &[u8]) -> io::Result<usize>
+    ensures bound { WritesAtMost result bytes.now }
+    ensures wrote { WritesRetried bytes.now (W.log wrt.old) result (W.log wrt.new) }
+    ensures stretch { W.stretch wrt.old wrt.new }
+{
+    for _ in 0..INTERRUPT_LIMIT {
+        match wrt.write_told(bytes) {
+            Ok(n) => return Ok(n),
+            Err(e) => {
+                if e.kind() != ErrorKind::Interrupted {
+                    return Err(e);
+                }
+            }
+        }
+    }
+    wrt.write_told(bytes)
+}

@@ -1,0 +1,37 @@
+//! Buffers of bytes, plain and ring, and the streams that fill and drain them.
+//!
+//! The crate `buffer_redux` hands on every name of this one.
+#![tactic(auto)]
+
+pub use buf_impl::BufImpl;
+pub use buffer::Buffer;
+pub use count::Count;
+pub use grow_error::GrowError;
+pub use raw_buf::RawBuf;
+pub use slice_deque_buf::SliceDequeBuf;
+pub use std_buf::StdBuf;
+
+mod buf_impl;
+mod buffer;
+mod count;
+mod grow_error;
+pub mod laws;
+mod raw_buf;
+mod slice_deque_buf;
+mod std_buf;
+pub mod tell;
+
+/// The capacity in bytes of a buffer that is made without one.
+pub const DEFAULT_BUF_SIZE: usize = 8192;
+
+/// The capacity of a ring is a multiple of this many bytes.
+pub const RING_UNIT: usize = 4096;
+
+/// How many `Interrupted` in a row a sending call retries.
+pub const INTERRUPT_LIMIT: u32 = 64;
+
+/// The greatest capacity of a plain buffer, in bytes.
+pub const MAX_CAPACITY: usize = 1 << 62;
+
+/// The greatest capacity of a ring, in bytes.
+pub const MAX_RING: usize = 1 << 61;

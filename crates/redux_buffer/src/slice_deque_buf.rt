@@ -1,0 +1,209 @@
+//! The ring.
+ghost use Rattle.std.specs.Prelude.{◌≡◌, ◌+◌, ◌-◌, ◌^◌, ◌≤◌, ◌<◌, ◌↔◌, ℕ, List, [], ◌++◌, length, min, IsTrue, IfOk, IsOk, OnOk, OnErr};
+ghost use Rattle.std.specs.Borrow.{Lends, Array, sem, u8};
+ghost use Rattle.redux_buffer.specs.Grow.{FitsWithin};
+ghost use Rattle.redux_buffer.specs.Block.{Ring, IsPlaced, IsNew, Lands, Appends, Takes, Grows, Settles, CountsShift, usable, capacity_for, with_tail, with_bytes, round};
+ghost use Rattle.redux_buffer.specs.contracts.slice_deque_buf.SliceDequeBuf.{the_row};
+
+use crate::count::Count;
+use crate::grow_error::GrowError;
+use crate::raw_buf::RawBuf;
+use crate::{MAX_RING, RING_UNIT};
+use std::alloc::Global;
+use std::marker::Model;
+
+/// The ring: all its free space can be written at any time, and both that space and the bytes are one slice.
+///
+/// The bytes stand at `head..head + len` of storage that is twice the capacity. A [`consume`](SliceDequeBuf::consume)
+/// that takes the head past the capacity moves what is left to the front, which is never more than was consumed since
+/// the last such move.
+#[derive(Debug, Drop)]
+pub struct SliceDequeBuf {
+    buf: RawBuf,
+    cap: usize,
+    head: usize,
+    len: usize,
+    consumed: Count,
+    moved: Count,
+}
+
+impl Model for SliceDequeBuf {
+    ghost use Rattle.std.specs.Prelude.{◌≡◌, ◌+◌, ◌≤◌, ◌^◌, length, drop, slice_range};
+    ghost use Rattle.redux_buffer.specs.Block.{Placed, Ring};
+
+    ghost Value = { Placed };
+
+    ghost view = { λ b. record {
+      block = record {
+        bytes = slice_range b.buf b.head (b.head + b.len);
+        tail = slice_range b.buf (b.head + b.len) (b.head + b.cap);
+        capacity = b.cap;
+        limit = 2 ^ 61;
+        kind = Ring;
+        consumed = b.consumed.total;
+        moved = b.moved.total;
+      };
+      place = b.head;
+    } };
+
+    ghost invariant = { λ b. (b.head ≤ b.cap) × (b.len ≤ b.cap) × (length b.buf ≡ b.cap + b.cap) × (b.cap ≤ 2 ^ 61) × (b.moved.total + b.head ≤ b.consumed.total) };
+}
+
+// The least multiple of the unit that is at least `n`.
+fn round_up(n: usize) -> usize
+    requires { n ≤ 2 ^ 61 }
+    ensures value { result ≡ round n }
+    ensures limit { result ≤ 2 ^ 61 }
+    ensures above { n ≤ result }
+{
+    (n + (RING_UNIT - 1)) / RING_UNIT * RING_UNIT
+}
+
+impl SliceDequeBuf {
+    /// An empty ring whose capacity in bytes is the least multiple of [`RING_UNIT`] that is at least `cap`, or `TooLarge` past
+    /// [`MAX_RING`].
+    pub fn with_capacity(alloc: Global, cap: usize) -> Result<Self, GrowError>
+        ensures made { IfOk result (λ b. IsNew Ring (round cap) b.block × IsPlaced b) }
+        ensures limit { FitsWithin result (round cap) (2 ^ 61) }
+        ensures succeeds { cap ≡ 0 → IsOk result }
+    {
+        if cap > MAX_RING {
+            return Err(GrowError::TooLarge);
+        }
+        let cap = round_up(cap);
+        let buf = RawBuf::with_capacity(alloc, 2 * cap)?;
+        Ok(SliceDequeBuf {
+            buf,
+            cap,
+            head: 0,
+            len: 0,
+            consumed: Count::zero(),
+            moved: Count::zero(),
+        })
+    }
+
+    /// The capacity in bytes, half of the memory that the ring takes.
+    pub fn capacity(&self) -> usize
+        ensures value { result ≡ self.now.block.capacity }
+        ensures whole { IsPlaced self.now }
+        ensures kind { self.now.block.kind ≡ Ring }
+    {
+        self.cap
+    }
+
+    /// How many bytes it holds.
+    pub fn len(&self) -> usize
+        ensures value { result ≡ length self.now.block.bytes }
+        ensures whole { IsPlaced self.now }
+        ensures kind { self.now.block.kind ≡ Ring }
+    {
+        self.len
+    }
+
+    /// How many bytes can be written behind those that it holds: the capacity without them.
+    pub fn usable_space(&self) -> usize
+        ensures value { result ≡ usable self.now.block }
+        ensures whole { IsPlaced self.now }
+        ensures kind { self.now.block.kind ≡ Ring }
+    {
+        self.cap - self.len
+    }
+
+    /// The bytes.
+    pub fn buf(&self) -> &[u8]
+        ensures { result.now ≡ self.now.block.bytes }
+    {
+        &self.buf.as_slice()[self.head..self.head + self.len]
+    }
+
+    /// Lends all free space as one slice. What is written there counts once [`bytes_written`](SliceDequeBuf::bytes_written)
+    /// says so.
+    pub fn write_buf(&mut self) -> &mut [u8]
+        ensures* writes_back { sem 𝓛 (Lends the_row (Array u8 0) self.entry result (with_tail self.old)) }
+        ensures value { result.now ≡ self.old.block.tail }
+    {
+        let start = self.head + self.len;
+        let end = self.head + self.cap;
+        self.buf.range_mut(start, end)
+    }
+
+    /// The bytes, for writing.
+    pub fn buf_mut(&mut self) -> &mut [u8]
+        ensures* writes_back { sem 𝓛 (Lends the_row (Array u8 0) self.entry result (with_bytes self.old)) }
+        ensures value { result.now ≡ self.old.block.bytes }
+    {
+        let start = self.head;
+        let end = self.head + self.len;
+        self.buf.range_mut(start, end)
+    }
+
+    #[tactic(auto, using(crate::proofs::Ranges::range_takes, crate::proofs::Ranges::length_range))]
+    /// Takes the first `n` bytes of the tail, or all of it where it has fewer, as the last bytes.
+    pub fn bytes_written(&mut self, n: usize)
+        ensures bytes { Appends n self.old.block self.new.block }
+        ensures shift { CountsShift 0 self.old self.new }
+        ensures whole { IsPlaced self.new }
+    {
+        self.len += n.min(self.cap - self.len);
+    }
+
+    #[tactic(auto, using(crate::proofs::Ranges::drop_range, crate::proofs::Ranges::length_range))]
+    /// Drops the first `n` bytes, or all where it holds fewer.
+    pub fn consume(&mut self, n: usize)
+        ensures bytes { Takes n self.old.block self.new.block }
+        ensures shift { CountsShift (min n (length self.old.block.bytes)) self.old self.new }
+        ensures whole { IsPlaced self.new }
+    {
+        if n >= self.len {
+            self.consumed.add(self.len);
+            self.head = 0;
+            self.len = 0;
+            return;
+        }
+        self.consumed.add(n);
+        self.head += n;
+        self.len -= n;
+        if self.head <= self.cap {
+            return;
+        }
+        let (start, end) = (self.head, self.head + self.len);
+        self.buf.as_mut_slice().copy_within(start..end, 0);
+        self.moved.add(self.len);
+        self.head = 0;
+    }
+
+    /// Does nothing: all free space can be written as it is.
+    pub fn make_room(&mut self)
+        ensures bytes { Settles self.old.block self.new.block }
+        ensures shift { CountsShift 0 self.old self.new }
+        ensures whole { IsPlaced self.new }
+    {
+        let _ = &self.cap;
+    }
+
+    /// Makes sure that `a` more bytes can be written. The capacity stays a multiple of [`RING_UNIT`], and the bytes of a ring
+    /// that grew stand at the front. A refusal changes nothing.
+    pub fn reserve(&mut self, a: usize) -> Result<(), GrowError>
+        ensures grown { OnOk result (Grows a self.old.block self.new.block) }
+        ensures place { Lands self.old self.new }
+        ensures shift { CountsShift 0 self.old self.new }
+        ensures unchanged { OnErr result (self.new ≡ self.old) }
+        ensures limit { FitsWithin result (capacity_for self.old.block a) self.old.block.limit }
+        ensures succeeds { a ≤ usable self.old.block → IsOk result }
+        ensures whole { IsPlaced self.new }
+    {
+        if a <= self.cap - self.len {
+            return Ok(());
+        }
+        if a > MAX_RING - self.len {
+            return Err(GrowError::TooLarge);
+        }
+        let cap = round_up(self.len + a);
+        let end = self.head + self.len;
+        let buf = self.buf.copy_of(self.head, end, 2 * cap)?;
+        self.buf = buf;
+        self.head = 0;
+        self.cap = cap;
+        Ok(())
+    }
+}

@@ -1,0 +1,189 @@
+//! The plain buffer.
+ghost use Rattle.std.specs.Prelude.{◌≡◌, ◌+◌, ◌-◌, ◌^◌, ◌≤◌, ◌<◌, ◌↔◌, ℕ, List, [], ◌++◌, length, min, IsTrue, IfOk, IsOk, OnOk, OnErr};
+ghost use Rattle.std.specs.Borrow.{Lends, Array, sem, u8};
+ghost use Rattle.redux_buffer.specs.Grow.{FitsWithin};
+ghost use Rattle.redux_buffer.specs.Block.{Plain, IsPlaced, IsNew, Lands, Appends, Takes, Grows, Settles, CountsShift, usable, capacity_for, with_tail, with_bytes};
+ghost use Rattle.redux_buffer.specs.contracts.std_buf.StdBuf.{the_row};
+
+use crate::MAX_CAPACITY;
+use crate::count::Count;
+use crate::grow_error::GrowError;
+use crate::raw_buf::RawBuf;
+use std::alloc::Global;
+use std::marker::Model;
+
+/// The plain buffer: its bytes stand at `pos..end` of a [`RawBuf`], and what is behind them can be written.
+///
+/// It moves its bytes in [`make_room`](StdBuf::make_room) alone.
+#[derive(Debug, Drop)]
+pub struct StdBuf {
+    buf: RawBuf,
+    pos: usize,
+    end: usize,
+    consumed: Count,
+    moved: Count,
+}
+
+impl Model for StdBuf {
+    ghost use Rattle.std.specs.Prelude.{◌≡◌, ◌≤◌, ◌^◌, length, drop, slice_range};
+    ghost use Rattle.redux_buffer.specs.Block.{Placed, Plain};
+
+    ghost Value = { Placed };
+
+    ghost view = { λ b. record {
+      block = record { bytes = slice_range b.buf b.pos b.end; tail = drop b.end b.buf; capacity = length b.buf; limit = 2 ^ 62; kind = Plain; consumed = b.consumed.total; moved = b.moved.total };
+      place = b.pos;
+    } };
+
+    ghost invariant = { λ b. (b.pos ≤ b.end) × (b.end ≤ length b.buf) × (length b.buf ≤ 2 ^ 62) × (b.pos ≡ b.end → b.end ≡ 0) };
+}
+
+impl StdBuf {
+    /// An empty buffer of capacity `cap` in bytes, or `TooLarge` past [`MAX_CAPACITY`](crate::MAX_CAPACITY).
+    pub fn with_capacity(alloc: Global, cap: usize) -> Result<Self, GrowError>
+        ensures made { IfOk result (λ b. IsNew Plain cap b.block × IsPlaced b) }
+        ensures limit { FitsWithin result cap (2 ^ 62) }
+        ensures succeeds { cap ≡ 0 → IsOk result }
+    {
+        let buf = RawBuf::with_capacity(alloc, cap)?;
+        Ok(StdBuf {
+            buf,
+            pos: 0,
+            end: 0,
+            consumed: Count::zero(),
+            moved: Count::zero(),
+        })
+    }
+
+    /// The capacity in bytes.
+    pub fn capacity(&self) -> usize
+        ensures value { result ≡ self.now.block.capacity }
+        ensures whole { IsPlaced self.now }
+        ensures kind { self.now.block.kind ≡ Plain }
+    {
+        let _ = self.end;
+        self.buf.capacity()
+    }
+
+    /// How many bytes it holds.
+    pub fn len(&self) -> usize
+        ensures value { result ≡ length self.now.block.bytes }
+        ensures whole { IsPlaced self.now }
+        ensures kind { self.now.block.kind ≡ Plain }
+    {
+        self.end - self.pos
+    }
+
+    /// How many bytes can be written behind those that it holds.
+    pub fn usable_space(&self) -> usize
+        ensures value { result ≡ usable self.now.block }
+        ensures whole { IsPlaced self.now }
+        ensures kind { self.now.block.kind ≡ Plain }
+    {
+        self.buf.capacity() - self.end
+    }
+
+    /// The bytes.
+    pub fn buf(&self) -> &[u8]
+        ensures { result.now ≡ self.now.block.bytes }
+    {
+        &self.buf.as_slice()[self.pos..self.end]
+    }
+
+    /// Whether it is empty.
+    pub fn check_cursors(&mut self) -> bool
+        ensures empty { IsTrue result ↔ (length self.old.block.bytes ≡ 0) }
+        ensures unchanged { self.new ≡ self.old }
+    {
+        self.pos == self.end
+    }
+
+    /// Lends the whole usable tail. What is written there counts once [`bytes_written`](StdBuf::bytes_written) says so.
+    pub fn write_buf(&mut self) -> &mut [u8]
+        ensures* writes_back { sem 𝓛 (Lends the_row (Array u8 0) self.entry result (with_tail self.old)) }
+        ensures value { result.now ≡ self.old.block.tail }
+    {
+        let start = self.end;
+        let end = self.buf.capacity();
+        self.buf.range_mut(start, end)
+    }
+
+    /// The bytes, for writing.
+    pub fn buf_mut(&mut self) -> &mut [u8]
+        ensures* writes_back { sem 𝓛 (Lends the_row (Array u8 0) self.entry result (with_bytes self.old)) }
+        ensures value { result.now ≡ self.old.block.bytes }
+    {
+        let (start, end) = (self.pos, self.end);
+        self.buf.range_mut(start, end)
+    }
+
+    /// Takes the first `n` bytes of the tail, or all of it where it has fewer, as the last bytes.
+    pub fn bytes_written(&mut self, n: usize)
+        ensures bytes { Appends n self.old.block self.new.block }
+        ensures shift { CountsShift 0 self.old self.new }
+        ensures whole { IsPlaced self.new }
+    {
+        let room = self.buf.capacity() - self.end;
+        self.end += n.min(room);
+    }
+
+    #[tactic(auto, using(crate::proofs::Ranges::drop_range, crate::proofs::Ranges::length_range))]
+    /// Drops the first `n` bytes, or all where it holds fewer.
+    pub fn consume(&mut self, n: usize)
+        ensures bytes { Takes n self.old.block self.new.block }
+        ensures shift { CountsShift (min n (length self.old.block.bytes)) self.old self.new }
+        ensures whole { IsPlaced self.new }
+    {
+        let len = self.end - self.pos;
+        if n < len {
+            self.pos += n;
+            self.consumed.add(n);
+        } else {
+            self.pos = 0;
+            self.end = 0;
+            self.consumed.add(len);
+        }
+    }
+
+    /// Moves the bytes to the front, so that all free space can be written.
+    pub fn make_room(&mut self)
+        ensures bytes { Settles self.old.block self.new.block }
+        ensures shift { CountsShift 0 self.old self.new }
+        ensures whole { IsPlaced self.new }
+    {
+        if self.pos == 0 {
+            return;
+        }
+        let len = self.end - self.pos;
+        self.buf.as_mut_slice().copy_within(self.pos..self.end, 0);
+        self.pos = 0;
+        self.end = len;
+        self.moved.add(len);
+    }
+
+    /// Makes sure that `a` more bytes can be written. A refusal changes nothing.
+    pub fn reserve(&mut self, a: usize) -> Result<(), GrowError>
+        ensures grown { OnOk result (Grows a self.old.block self.new.block) }
+        ensures place { Lands self.old self.new }
+        ensures shift { CountsShift 0 self.old self.new }
+        ensures unchanged { OnErr result (self.new ≡ self.old) }
+        ensures limit { FitsWithin result (capacity_for self.old.block a) self.old.block.limit }
+        ensures succeeds { a ≤ usable self.old.block → IsOk result }
+        ensures whole { IsPlaced self.new }
+    {
+        let capacity = self.buf.capacity();
+        let usable = capacity - self.end;
+        if usable >= a || self.buf.reserve_in_place(a - usable) {
+            return Ok(());
+        }
+        if self.end > 0 {
+            return self.buf.reserve(a - usable);
+        }
+        // No byte of an empty buffer is worth copying.
+        if a > MAX_CAPACITY - capacity {
+            return Err(GrowError::TooLarge);
+        }
+        self.buf = self.buf.copy_of(0, 0, capacity + a)?;
+        Ok(())
+    }
+}

@@ -1,0 +1,54 @@
+//! The calls of std's streams, under contracts that tell of each call.
+ghost use Rattle.std.specs.Prelude.{◌≡◌};
+ghost use Rattle.std.specs.Io.{ReadsAtMost, WritesAtMost};
+ghost use Rattle.redux_buffer.specs.StreamLog.{StreamLog, after_read, after_write, after_flush, after_seek, WritesGoOn};
+
+use std::io;
+use std::io::SeekFrom;
+
+/// A stream that tells what its calls were.
+pub trait Tell {
+    // All calls so far. What a stream has no calls for stays as it began.
+    ghost log: { Self → StreamLog };
+}
+
+/// An honest reader: `Ok(n)` gave the first n bytes of the slice, and an `Err` gave none.
+pub trait TellRead: Tell {
+    /// [`Read::read`](std::io::Read::read).
+    fn read_told(&mut self, buf: &mut [u8]) -> io::Result<usize>
+        ensures bound { ReadsAtMost result buf.new }
+        ensures told { Self.log self.new ≡ after_read (Self.log self.old) buf.new result };
+}
+
+/// An honest writer: `Ok(n)` took the first n bytes of the slice, and an `Err` took none.
+pub trait TellWrite: Tell {
+    // What any calls, one after another, may do to the writer.
+    ghost stretch: { Self → Self → Type 0 };
+
+    /// [`Write::write`](std::io::Write::write).
+    fn write_told(&mut self, buf: &[u8]) -> io::Result<usize>
+        ensures bound { WritesAtMost result buf.now }
+        ensures told { Self.log self.new ≡ after_write (Self.log self.old) buf.now result }
+        ensures stretch { stretch self.old self.new };
+
+    /// [`Write::flush`](std::io::Write::flush).
+    fn flush_told(&mut self) -> io::Result<()>
+        ensures told { Self.log self.new ≡ after_flush (Self.log self.old) result }
+        ensures stretch { stretch self.old self.new };
+
+    // No call is a stretch too.
+    ghost stretch_none: { (s : Self) → stretch s s };
+
+    // Two stretches join.
+    ghost stretch_joins: { (a b c : Self) → stretch a b → stretch b c → stretch a c };
+
+    // In a stretch the log only goes on.
+    ghost stretch_grows: { (s t : Self) → stretch s t → WritesGoOn (Self.log s) (Self.log t) };
+}
+
+/// A seeker that tells of its faults.
+pub trait TellSeek: Tell {
+    /// [`Seek::seek`](std::io::Seek::seek).
+    fn seek_told(&mut self, to: SeekFrom) -> io::Result<u64>
+        ensures told { Self.log self.new ≡ after_seek (Self.log self.old) result };
+}
