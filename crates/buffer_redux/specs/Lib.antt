@@ -1,0 +1,12 @@
+pub use Rattle.redux_buffer.specs.Block
+pub use Rattle.redux_buffer.specs.Faults
+pub use Rattle.redux_buffer.specs.Grow
+pub use Rattle.redux_buffer.specs.Potential
+pub use Rattle.redux_buffer.specs.StreamLog
+pub use Rattle.redux_buffer.specs.Told
+pub use Rattle.redux_buffer.specs.Transfer
+pub mod Policy
+pub mod MakeError
+pub mod ReaderState
+pub mod Fill
+pub mod BufReader

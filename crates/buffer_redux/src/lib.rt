@@ -1,0 +1,20 @@
+//! Buffered readers and writers with policies, proved to lose no byte.
+//!
+//! [`BufReader`] and [`BufWriter`] have the names and the behaviour of their namesakes in std. A policy of the module
+//! [`policy`] says when bytes move. The streams inside tell what they are asked (module [`tell`]), and any stream of std
+//! goes in as a [`Told`](tell::Told).
+#![tactic(auto)]
+
+pub mod policy;
+
+mod buf_reader;
+mod errors;
+
+pub use buf_reader::BufReader;
+pub use errors::MakeError;
+pub use redux_buffer::{
+    BufImpl, Buffer, Count, DEFAULT_BUF_SIZE, GrowError, INTERRUPT_LIMIT, MAX_CAPACITY, MAX_RING,
+    RING_UNIT, RawBuf, SliceDequeBuf, StdBuf,
+};
+pub use redux_buffer::laws;
+pub use redux_buffer::tell;
