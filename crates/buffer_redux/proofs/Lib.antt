@@ -1,3 +1,4 @@
 pub mod Turning
 pub mod FillFacts
 pub mod FillClaims
+pub mod WriterFacts

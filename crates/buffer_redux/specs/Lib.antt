@@ -10,3 +10,5 @@ pub mod MakeError
 pub mod ReaderState
 pub mod Fill
 pub mod BufReader
+pub mod WriterState
+pub mod BufWriter

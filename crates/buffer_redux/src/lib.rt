@@ -8,9 +8,11 @@
 pub mod policy;
 
 mod buf_reader;
+mod buf_writer;
 mod errors;
 
 pub use buf_reader::BufReader;
+pub use buf_writer::BufWriter;
 pub use errors::MakeError;
 pub use redux_buffer::{
     BufImpl, Buffer, Count, DEFAULT_BUF_SIZE, GrowError, INTERRUPT_LIMIT, MAX_CAPACITY, MAX_RING,

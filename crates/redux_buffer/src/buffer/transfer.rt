@@ -51,7 +51,8 @@ impl Buffer {
     /// that takes nothing is answered as `WriteZero`. At any fault the buffer has lost just what the writer took.
     pub fn write_max<W: TellWrite>(&mut self, max: usize, wrt: &mut W) -> io::Result<()>
         ensures sent { Sends max self.old (W.log wrt.old) result self.new (W.log wrt.new) }
-        ensures not_asked { max ≡ 0 ⊎ (length self.old.bytes ≡ 0) → (wrt.new ≡ wrt.old) × (self.new ≡ self.old) }
+        ensures idle { max ≡ 0 ⊎ (length self.old.bytes ≡ 0)
+            → (result ≡ Ok tt) × (wrt.new ≡ wrt.old) × (self.new ≡ self.old) }
         ensures stretch { W.stretch wrt.old wrt.new }
         ensures whole { IsBlock self.new }
     {
@@ -70,7 +71,8 @@ impl Buffer {
     /// Writes all bytes, as [`write_max`](Buffer::write_max) does.
     pub fn write_all<W: TellWrite>(&mut self, wrt: &mut W) -> io::Result<()>
         ensures sent { Sends (length self.old.bytes) self.old (W.log wrt.old) result self.new (W.log wrt.new) }
-        ensures not_asked { length self.old.bytes ≡ 0 → (wrt.new ≡ wrt.old) × (self.new ≡ self.old) }
+        ensures idle { length self.old.bytes ≡ 0
+            → (result ≡ Ok tt) × (wrt.new ≡ wrt.old) × (self.new ≡ self.old) }
         ensures stretch { W.stretch wrt.old wrt.new }
         ensures whole { IsBlock self.new }
     {
