@@ -8,3 +8,4 @@ pub mod Calls
 pub mod Told
 pub mod Faults
 pub mod Transfer
+pub mod Script
