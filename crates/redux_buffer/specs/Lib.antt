@@ -9,3 +9,4 @@ pub mod Told
 pub mod Faults
 pub mod Transfer
 pub mod Potential
+pub mod Script

@@ -17,6 +17,7 @@ mod count;
 mod grow_error;
 pub mod laws;
 mod raw_buf;
+pub mod script;
 mod slice_deque_buf;
 mod std_buf;
 pub mod tell;
