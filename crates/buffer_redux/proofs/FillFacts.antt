@@ -80,9 +80,10 @@ module _ {P : Type 0} (ask : ReadTable P) where
     pub longer : length s.block.bytes + k ≤ length t.block.bytes
     pub capacity : s.block.capacity ≤ t.block.capacity
     pub kind : t.block.kind ≡ s.block.kind
+    pub consumed : t.block.consumed ≡ s.block.consumed
 
   same_facts : (s : ReaderState P) → TurnsFacts 0 s s
-  same_facts s = record { hands_on = HandsOn-none s; faults = refl; zero_answers = refl; asks = omega arith; longer = omega arith; capacity = omega arith; kind = refl }
+  same_facts s = record { hands_on = HandsOn-none s; faults = refl; zero_answers = refl; asks = omega arith; longer = omega arith; capacity = omega arith; kind = refl; consumed = refl }
 
   pub turns_facts : (k : ℕ) (s t : ReaderState P) → Turns ask k s t → TurnsFacts k s t
   turns_facts zero s t e = subst (TurnsFacts 0 s) e (same_facts s)
@@ -102,6 +103,7 @@ module _ {P : Type 0} (ask : ReadTable P) where
         longer = omega (arith, more, before.longer, turn.some, ap length law.bytes);
         capacity = omega (arith, before.capacity, law.capacity, read.added.capacity);
         kind = read.added.kind ∙ law.kind ∙ before.kind;
+        consumed = read.added.consumed ∙ law.consumed ∙ before.consumed;
       }
 
   -- the last ask of a turn
@@ -143,7 +145,9 @@ module _ {P : Type 0} (ask : ReadTable P) where
     pub hands_on : HandsOn s [] t
     pub caused : Caused ask s answer t
     pub stopped : Stopped ask s answer t
+    pub kind : t.block.kind ≡ s.block.kind
     pub capacity : s.block.capacity ≤ t.block.capacity
+    pub consumed : t.block.consumed ≡ s.block.consumed
     pub empty : is_ok answer ≡ true → length t.block.bytes ≡ 0 → EmptyShown ask s t
     pub last : s.log.reads.asks < t.log.reads.asks → LastAsk ask s t
 
@@ -152,7 +156,9 @@ module _ {P : Type 0} (ask : ReadTable P) where
     hands_on = HandsOn-joins s m t [] [] before.hands_on (HandsOn-same m t (ap (λ l. l.reads.given) end.told) end.lawful.bytes);
     caused = ap (λ l. l.reads.faults) end.told ∙ before.faults;
     stopped = inl (record { policy = m.policy; block = m.block; gave = end.asked; lawful = end.lawful });
+    kind = end.lawful.kind ∙ before.kind;
     capacity = omega (arith, before.capacity, end.lawful.capacity);
+    consumed = end.lawful.consumed ∙ before.consumed;
     empty = λ _ none. inl (record { policy = m.policy; policy' = t.policy; before = m.block; after = t.block; gave = end.asked; bytes = no_bytes_of m.block.bytes (omega (arith, ap length end.lawful.bytes)) });
     last = last_kept k s m t turns end.told;
   }
@@ -160,7 +166,9 @@ module _ {P : Type 0} (ask : ReadTable P) where
     hands_on = HandsOn-joins s m t [] [] before.hands_on (HandsOn-same m t (ap (λ l. l.reads.given) end.told) end.lawful.bytes);
     caused = ap (λ l. l.reads.faults) end.told ∙ before.faults;
     stopped = inr (inl (end.full, record { policy = m.policy; block = m.block; gave = end.asked; lawful = end.lawful }));
+    kind = end.lawful.kind ∙ before.kind;
     capacity = omega (arith, before.capacity, end.lawful.capacity);
+    consumed = end.lawful.consumed ∙ before.consumed;
     empty = λ _ none. inr (inl (full_empty t.block end.whole end.full none));
     last = last_kept k s m t turns end.told;
   }
@@ -170,7 +178,9 @@ module _ {P : Type 0} (ask : ReadTable P) where
         hands_on = HandsOn-joins s m t [] [] before.hands_on (HandsOn-read m t end.seen (Ok 0) end.ordered.lawful end.read);
         caused = ap (λ l. l.reads.faults) end.read.told ∙ before.faults;
         stopped = inr (inr (omega (arith, before.zero_answers, rose)));
+        kind = end.read.added.kind ∙ end.ordered.lawful.kind ∙ before.kind;
         capacity = omega (arith, before.capacity, end.ordered.lawful.capacity, end.read.added.capacity);
+        consumed = end.read.added.consumed ∙ end.ordered.lawful.consumed ∙ before.consumed;
         empty = λ _ none. inr (inr (omega (arith, before.zero_answers, rose)));
         last = λ some. record {
           policy = m.policy;
@@ -188,7 +198,9 @@ module _ {P : Type 0} (ask : ReadTable P) where
     hands_on = HandsOn-joins s m t [] [] before.hands_on (HandsOn-same m t (ap (λ l. l.reads.given) end.told) end.lawful.bytes);
     caused = inr (record { policy = m.policy; block = m.block; gave = end.asked; lawful = end.lawful });
     stopped = tt;
+    kind = end.lawful.kind ∙ before.kind;
     capacity = omega (arith, before.capacity, end.lawful.capacity);
+    consumed = end.lawful.consumed ∙ before.consumed;
     empty = λ no. cc;
     last = last_kept k s m t turns end.told;
   }
@@ -197,7 +209,9 @@ module _ {P : Type 0} (ask : ReadTable P) where
         hands_on = HandsOn-joins s m t [] [] before.hands_on (HandsOn-read m t end.seen (Err e) end.ordered.lawful end.read);
         caused = inl (ap (λ l. l.reads.faults) end.read.told ∙ ap (λ l. l ++ error_kind e ∷ []) before.faults);
         stopped = tt;
+        kind = end.read.added.kind ∙ end.ordered.lawful.kind ∙ before.kind;
         capacity = omega (arith, before.capacity, end.ordered.lawful.capacity, end.read.added.capacity);
+        consumed = end.read.added.consumed ∙ end.ordered.lawful.consumed ∙ before.consumed;
         empty = λ no. cc;
         last = λ some. record {
           policy = m.policy;

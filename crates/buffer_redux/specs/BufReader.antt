@@ -90,6 +90,9 @@ FillsSparing claims s t = (n : ℕ) → (claims s.policy).spares ≡ Some n
 -- all that filling promises
 pub record Fills {P A : Type 0} (table : ReadTable P) (claims : P → ReadClaims) (s : ReaderState P) (answer : Result A Error) (t : ReaderState P) : Type 0 where
   pub hands_on : HandsOn s [] t
+  pub kind : t.block.kind ≡ s.block.kind
+  pub capacity : s.block.capacity ≤ t.block.capacity
+  pub consumed : t.block.consumed ≡ s.block.consumed
   pub caused : Caused (read_ask table claims) s answer t
   pub stopped : Stopped (read_ask table claims) s answer t
   pub empty : is_ok answer ≡ true → length t.block.bytes ≡ 0 → EmptyShown (read_ask table claims) s t

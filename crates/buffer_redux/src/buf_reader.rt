@@ -58,6 +58,35 @@ impl<R> BufReader<R, StdPolicy> {
         }
     }
 
+    /// A reader over a ring of [`DEFAULT_BUF_SIZE`] bytes. A refusal hands `inner` back.
+    pub fn new_ringbuf(alloc: Global, inner: R) -> Result<Self, MakeError<R>>
+        ensures made { IfOk result (λ r. IsNew Ring 8192 (reader_block r)) }
+        ensures inner { IfOk result (λ r. reader_inner r ≡ inner) }
+        ensures handed_back { IfErr result (λ e. e.0 ≡ inner) }
+        ensures limit { FitsWithin (growth result) 8192 (2 ^ 61) }
+    {
+        BufReader::with_capacity_ringbuf(alloc, DEFAULT_BUF_SIZE, inner)
+    }
+
+    /// A reader over a ring whose capacity in bytes is the least multiple of [`RING_UNIT`](crate::RING_UNIT) that is at least
+    /// `cap`. A refusal hands `inner` back.
+    pub fn with_capacity_ringbuf(
+        alloc: Global,
+        cap: usize,
+        inner: R,
+    ) -> Result<Self, MakeError<R>>
+        ensures made { IfOk result (λ r. IsNew Ring (round cap) (reader_block r)) }
+        ensures inner { IfOk result (λ r. reader_inner r ≡ inner) }
+        ensures handed_back { IfErr result (λ e. e.0 ≡ inner) }
+        ensures limit { FitsWithin (growth result) (round cap) (2 ^ 61) }
+        ensures succeeds { cap ≡ 0 → IsOk result }
+    {
+        match Buffer::with_capacity_ringbuf(alloc, cap) {
+            Ok(buf) => Ok(BufReader::with_buffer(buf, inner)),
+            Err(e) => Err(MakeError(inner, e)),
+        }
+    }
+
     /// A reader over a buffer of yours. The bytes that `buf` holds are handed out first.
     pub fn with_buffer(buf: Buffer, inner: R) -> Self
         ensures block { reader_block result ≡ buf }

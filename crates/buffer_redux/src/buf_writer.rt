@@ -2,7 +2,7 @@
 ghost use Rattle.std.specs.Prelude.{◌≡◌, ◌<◌, ◌≤◌, ◌^◌, [], length, take, Ok, IfOk, IfErr, OnOk, IsOk};
 ghost use Rattle.std.specs.Io.{WritesAtMost};
 ghost use Rattle.std.specs.IoError.{error_kind};
-ghost use Rattle.redux_buffer.specs.Block.{Plain, IsBlock, IsNew};
+ghost use Rattle.redux_buffer.specs.Block.{Plain, Ring, IsBlock, IsNew, round};
 ghost use Rattle.redux_buffer.specs.Grow.{FitsWithin};
 ghost use Rattle.redux_buffer.specs.StreamLog.{taken};
 ghost use Rattle.buffer_redux.specs.MakeError.{growth};
@@ -49,6 +49,35 @@ impl<W: TellWrite> BufWriter<W, StdPolicy> {
         ensures succeeds { cap ≡ 0 → IsOk result }
     {
         match Buffer::with_capacity(alloc, cap) {
+            Ok(buf) => Ok(BufWriter::with_buffer(buf, inner)),
+            Err(e) => Err(MakeError(inner, e)),
+        }
+    }
+
+    /// A writer over a ring of [`DEFAULT_BUF_SIZE`] bytes. A refusal hands `inner` back.
+    pub fn new_ringbuf(alloc: Global, inner: W) -> Result<Self, MakeError<W>>
+        ensures made { IfOk result (λ w. IsNew Ring 8192 (writer_block w)) }
+        ensures inner { IfOk result (λ w. writer_inner w ≡ inner) }
+        ensures handed_back { IfErr result (λ e. e.0 ≡ inner) }
+        ensures limit { FitsWithin (growth result) 8192 (2 ^ 61) }
+    {
+        BufWriter::with_capacity_ringbuf(alloc, DEFAULT_BUF_SIZE, inner)
+    }
+
+    /// A writer over a ring whose capacity in bytes is the least multiple of [`RING_UNIT`](crate::RING_UNIT) that is at least
+    /// `cap`. A refusal hands `inner` back.
+    pub fn with_capacity_ringbuf(
+        alloc: Global,
+        cap: usize,
+        inner: W,
+    ) -> Result<Self, MakeError<W>>
+        ensures made { IfOk result (λ w. IsNew Ring (round cap) (writer_block w)) }
+        ensures inner { IfOk result (λ w. writer_inner w ≡ inner) }
+        ensures handed_back { IfErr result (λ e. e.0 ≡ inner) }
+        ensures limit { FitsWithin (growth result) (round cap) (2 ^ 61) }
+        ensures succeeds { cap ≡ 0 → IsOk result }
+    {
+        match Buffer::with_capacity_ringbuf(alloc, cap) {
             Ok(buf) => Ok(BufWriter::with_buffer(buf, inner)),
             Err(e) => Err(MakeError(inner, e)),
         }
