@@ -209,6 +209,7 @@ module _ {P : Type 0} (table : ReadTable P) (claims : P → ReadClaims) where
   fills s r t f =
       let facts = filled_facts (read_ask table claims) s r t f in record {
         hands_on = facts.hands_on;
+        grows = facts.grows;
         kind = facts.kind;
         capacity = facts.capacity;
         consumed = facts.consumed;
@@ -223,7 +224,7 @@ module _ {P : Type 0} (table : ReadTable P) (claims : P → ReadClaims) where
 
   -- the same of another answer
   pub fills_ok : {A B : Type 0} (s : ReaderState P) (a : A) (b : B) (t : ReaderState P) → Fills table claims s (Ok a) t → Fills table claims s (Ok b) t
-  fills_ok s a b t f = record { hands_on = f.hands_on; kind = f.kind; capacity = f.capacity; consumed = f.consumed; caused = f.caused; stopped = f.stopped; empty = f.empty; last = f.last; ahead = f.ahead; steadily = f.steadily; sparing = f.sparing }
+  fills_ok s a b t f = record { hands_on = f.hands_on; grows = f.grows; kind = f.kind; capacity = f.capacity; consumed = f.consumed; caused = f.caused; stopped = f.stopped; empty = f.empty; last = f.last; ahead = f.ahead; steadily = f.steadily; sparing = f.sparing }
 
   pub fills_err : (A B : Type 0) (s : ReaderState P) (e : Error) (t : ReaderState P) → Fills {A = A} table claims s (Err e) t → Fills {A = B} table claims s (Err e) t
-  fills_err A B s e t f = record { hands_on = f.hands_on; kind = f.kind; capacity = f.capacity; consumed = f.consumed; caused = f.caused; stopped = f.stopped; empty = f.empty; last = f.last; ahead = f.ahead; steadily = f.steadily; sparing = f.sparing }
+  fills_err A B s e t f = record { hands_on = f.hands_on; grows = f.grows; kind = f.kind; capacity = f.capacity; consumed = f.consumed; caused = f.caused; stopped = f.stopped; empty = f.empty; last = f.last; ahead = f.ahead; steadily = f.steadily; sparing = f.sparing }

@@ -3,12 +3,12 @@ use Rattle.std.proofs.Common.{◌≡◌, ℕ, zero, suc, ◌+◌, ◌-◌, ◌<�
 use Rattle.std.specs.IoError.{error_kind}
 use Rattle.std.specs.declared.io.Error.{Error}
 use Rattle.redux_buffer.specs.Block.{Block, Kind, Plain, Ring, OnKind, IsBlock, usable}
-use Rattle.redux_buffer.specs.StreamLog.{StreamLog, taken, with_zero}
+use Rattle.redux_buffer.specs.StreamLog.{StreamLog, ReadLogGrows, taken, with_zero}
 use Rattle.redux_buffer.specs.Transfer.{ReadsOnce}
 use Rattle.buffer_redux.specs.Policy.{Lawful, ReadTable}
 use Rattle.buffer_redux.specs.ReaderState.{ReaderState}
 use Rattle.buffer_redux.specs.Fill.{Turn, Turns, Ends, Filled}
-use Rattle.buffer_redux.specs.BufReader.{HandsOn, PolicyGave, Caused, Stopped, LastAsk, EmptyShown, EmptyRead}
+use Rattle.buffer_redux.specs.BufReader.{HandsOn, HandsOn-none, HandsOn-joins, PolicyGave, Caused, Stopped, LastAsk, EmptyShown, EmptyRead}
 
 pub no_bytes_of : (l : List ℕ) → length l ≡ 0 → l ≡ []
 no_bytes_of [] e = refl
@@ -41,18 +41,6 @@ pub zero_rose : (b b' : Block) (log log' : StreamLog) → ReadsOnce b log (Ok 0)
 zero_rose b b' log log' read room = ap (λ l. l.reads.zero_answers) read.told ∙ grind (arith, read.offered)
 
 module _ {P : Type 0} where
-  pub HandsOn-none : (s : ReaderState P) → HandsOn s [] s
-  HandsOn-none s = record { got = []; given = sym (append-nil s.log.reads.given); equal = sym (append-nil s.block.bytes) }
-
-  pub HandsOn-joins : (s m t : ReaderState P) (h k : List ℕ) → HandsOn s h m → HandsOn m k t → HandsOn s (h ++ k) t
-  HandsOn-joins s m t h k a b = record {
-    got = a.got ++ b.got;
-    given = b.given ∙ ap (λ l. l ++ b.got) a.given ∙ append_assoc s.log.reads.given a.got b.got;
-    equal =
-        append_assoc h k t.block.bytes ∙ ap (λ l. h ++ l) b.equal ∙ sym (append_assoc h m.block.bytes b.got)
-        ∙ ap (λ l. l ++ b.got) a.equal ∙ append_assoc s.block.bytes a.got b.got;
-  }
-
   -- nothing was given, and the bytes stayed
   pub HandsOn-same : (s t : ReaderState P) → t.log.reads.given ≡ s.log.reads.given → t.block.bytes ≡ s.block.bytes → HandsOn s [] t
   HandsOn-same s t g b = record { got = []; given = g ∙ sym (append-nil s.log.reads.given); equal = b ∙ sym (append-nil s.block.bytes) }
@@ -143,6 +131,7 @@ module _ {P : Type 0} (ask : ReadTable P) where
   -- the facts of a whole filling
   pub record FilledFacts {A : Type 0} (s : ReaderState P) (answer : Result A Error) (t : ReaderState P) : Type 0 where
     pub hands_on : HandsOn s [] t
+    pub grows : ReadLogGrows s.log.reads t.log.reads
     pub caused : Caused ask s answer t
     pub stopped : Stopped ask s answer t
     pub kind : t.block.kind ≡ s.block.kind
@@ -151,9 +140,19 @@ module _ {P : Type 0} (ask : ReadTable P) where
     pub empty : is_ok answer ≡ true → length t.block.bytes ≡ 0 → EmptyShown ask s t
     pub last : s.log.reads.asks < t.log.reads.asks → LastAsk ask s t
 
+  -- the log of some turns, after which the reader was not asked
+  grows_by_turns : (k : ℕ) (s m t : ReaderState P) → TurnsFacts k s m → t.log ≡ m.log → ReadLogGrows s.log.reads t.log.reads
+  grows_by_turns k s m t before same = record {
+    given = (before.hands_on.got, ap (λ l. l.reads.given) same ∙ before.hands_on.given);
+    asks = omega (arith, before.asks, ap (λ l. l.reads.asks) same);
+    zero_answers = omega (arith, before.zero_answers, ap (λ l. l.reads.zero_answers) same);
+    faults = ([], ap (λ l. l.reads.faults) same ∙ before.faults ∙ sym (append-nil s.log.reads.faults));
+  }
+
   ok_facts : {A : Type 0} (k : ℕ) (s m t : ReaderState P) (a : A) → TurnsFacts k s m → Turns ask k s m → Ends ask m (Ok a) t → FilledFacts s (Ok a) t
   ok_facts k s m t a before turns (inl end) = record {
     hands_on = HandsOn-joins s m t [] [] before.hands_on (HandsOn-same m t (ap (λ l. l.reads.given) end.told) end.lawful.bytes);
+    grows = grows_by_turns k s m t before end.told;
     caused = ap (λ l. l.reads.faults) end.told ∙ before.faults;
     stopped = inl (record { policy = m.policy; block = m.block; gave = end.asked; lawful = end.lawful });
     kind = end.lawful.kind ∙ before.kind;
@@ -164,6 +163,7 @@ module _ {P : Type 0} (ask : ReadTable P) where
   }
   ok_facts k s m t a before turns (inr (inl end)) = record {
     hands_on = HandsOn-joins s m t [] [] before.hands_on (HandsOn-same m t (ap (λ l. l.reads.given) end.told) end.lawful.bytes);
+    grows = grows_by_turns k s m t before end.told;
     caused = ap (λ l. l.reads.faults) end.told ∙ before.faults;
     stopped = inr (inl (end.full, record { policy = m.policy; block = m.block; gave = end.asked; lawful = end.lawful }));
     kind = end.lawful.kind ∙ before.kind;
@@ -174,8 +174,15 @@ module _ {P : Type 0} (ask : ReadTable P) where
   }
   ok_facts k s m t a before turns (inr (inr end)) =
       let rose = zero_rose end.seen t.block m.log t.log end.read end.ordered.room in
-      let once = asked_once end.seen t.block m.log t.log 0 end.read in record {
-        hands_on = HandsOn-joins s m t [] [] before.hands_on (HandsOn-read m t end.seen (Ok 0) end.ordered.lawful end.read);
+      let once = asked_once end.seen t.block m.log t.log 0 end.read in
+      let both = HandsOn-joins s m t [] [] before.hands_on (HandsOn-read m t end.seen (Ok 0) end.ordered.lawful end.read) in record {
+        hands_on = both;
+        grows = record {
+          given = (both.got, both.given);
+          asks = omega (arith, before.asks, once);
+          zero_answers = omega (arith, before.zero_answers, rose);
+          faults = ([], ap (λ l. l.reads.faults) end.read.told ∙ before.faults ∙ sym (append-nil s.log.reads.faults));
+        };
         caused = ap (λ l. l.reads.faults) end.read.told ∙ before.faults;
         stopped = inr (inr (omega (arith, before.zero_answers, rose)));
         kind = end.read.added.kind ∙ end.ordered.lawful.kind ∙ before.kind;
@@ -196,6 +203,7 @@ module _ {P : Type 0} (ask : ReadTable P) where
   err_facts : {A : Type 0} (k : ℕ) (s m t : ReaderState P) (e : Error) → TurnsFacts k s m → Turns ask k s m → Ends {A = A} ask m (Err e) t → FilledFacts {A = A} s (Err e) t
   err_facts k s m t e before turns (inl end) = record {
     hands_on = HandsOn-joins s m t [] [] before.hands_on (HandsOn-same m t (ap (λ l. l.reads.given) end.told) end.lawful.bytes);
+    grows = grows_by_turns k s m t before end.told;
     caused = inr (record { policy = m.policy; block = m.block; gave = end.asked; lawful = end.lawful });
     stopped = tt;
     kind = end.lawful.kind ∙ before.kind;
@@ -205,8 +213,15 @@ module _ {P : Type 0} (ask : ReadTable P) where
     last = last_kept k s m t turns end.told;
   }
   err_facts k s m t e before turns (inr end) =
-      let once : t.log.reads.asks ≡ m.log.reads.asks + 1 = ap (λ l. l.reads.asks) end.read.told in record {
-        hands_on = HandsOn-joins s m t [] [] before.hands_on (HandsOn-read m t end.seen (Err e) end.ordered.lawful end.read);
+      let once : t.log.reads.asks ≡ m.log.reads.asks + 1 = ap (λ l. l.reads.asks) end.read.told in
+      let both = HandsOn-joins s m t [] [] before.hands_on (HandsOn-read m t end.seen (Err e) end.ordered.lawful end.read) in record {
+        hands_on = both;
+        grows = record {
+          given = (both.got, both.given);
+          asks = omega (arith, before.asks, once);
+          zero_answers = omega (arith, before.zero_answers, ap (λ l. l.reads.zero_answers) end.read.told);
+          faults = (error_kind e ∷ [], ap (λ l. l.reads.faults) end.read.told ∙ ap (λ l. l ++ error_kind e ∷ []) before.faults);
+        };
         caused = inl (ap (λ l. l.reads.faults) end.read.told ∙ ap (λ l. l ++ error_kind e ∷ []) before.faults);
         stopped = tt;
         kind = end.read.added.kind ∙ end.ordered.lawful.kind ∙ before.kind;

@@ -8,7 +8,7 @@ use Rattle.redux_buffer.specs.Transfer.{DoesNothing, Sends}
 use Rattle.buffer_redux.specs.Policy.{Lawful, WriteTable, WrittenTable, WriteClaims, WritesSteadily, write_ask}
 use Rattle.buffer_redux.specs.declared.policy.FlushAmt.{FlushAmt}
 use Rattle.buffer_redux.specs.WriterState.{WriterState}
-use Rattle.buffer_redux.specs.BufWriter.{FlushesAmount, WritesPast, CopiesIn, TakesIn, Prepared, Finished, Wrote, PassesOn, NoSpace, EmptyWrite}
+use Rattle.buffer_redux.specs.BufWriter.{FlushesAmount, WritesPast, CopiesIn, TakesIn, Prepared, Finished, Wrote, PassesOn, PassesOn-joins, NoSpace, EmptyWrite}
 use Rattle.buffer_redux.proofs.FillFacts.{no_bytes_of}
 
 pub le_or_lt : (n m : ℕ) → (n ≤ m) ⊎ (m < n)
@@ -29,15 +29,6 @@ ways_in b incoming = elim (le_or_lt 1 (length b.bytes)) [
 ]
 
 module _ {P : Type 0} where
-  pub PassesOn-joins : (s m t : WriterState P) (a b : List ℕ) → PassesOn s a m → PassesOn m b t → PassesOn s (a ++ b) t
-  PassesOn-joins s m t a b p q = record {
-    sent = p.sent ++ q.sent;
-    received = q.received ∙ ap (λ l. l ++ q.sent) p.received ∙ append_assoc s.log.writes.received p.sent q.sent;
-    equal =
-        append_assoc p.sent q.sent t.block.bytes ∙ ap (λ l. p.sent ++ l) q.equal ∙ sym (append_assoc p.sent m.block.bytes b)
-        ∙ ap (λ l. l ++ b) p.equal ∙ append_assoc s.block.bytes a b;
-  }
-
   -- nothing was received, and xs came behind the bytes
   pub PassesOn-added : (s t : WriterState P) (xs : List ℕ) → t.log.writes.received ≡ s.log.writes.received → t.block.bytes ≡ s.block.bytes ++ xs → PassesOn s xs t
   PassesOn-added s t xs r b = record { sent = []; received = r ∙ sym (append-nil s.log.writes.received); equal = b }

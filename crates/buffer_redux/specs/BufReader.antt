@@ -1,11 +1,12 @@
 -- What the calls of a buffered reader promise.
 use Rattle.std.specs.Prelude.{◌≡◌, ℕ, ◌+◌, ◌-◌, ◌*◌, ◌<◌, ◌≤◌, ◌⊎◌, List, [], ◌∷◌, ◌++◌, length, min, Result, Ok, Err, Bool, true, false, Option, None, Some, is_ok, MatchResult, ⊤}
+use Rattle.std.proofs.Common.{sym, ap, ◌∙◌, append_assoc, append-nil}
 use Rattle.std.specs.Io.{ReadsAtMost}
 use Rattle.std.specs.IoError.{error_kind}
 use Rattle.std.specs.declared.io.Error.{Error}
 use Rattle.redux_buffer.specs.Block.{Block, OnKind, Takes, MovesOnlyRing, usable}
 use Rattle.redux_buffer.specs.Potential.{potential}
-use Rattle.redux_buffer.specs.StreamLog.{StreamLog, after_read}
+use Rattle.redux_buffer.specs.StreamLog.{StreamLog, ReadLogGrows, after_read}
 use Rattle.buffer_redux.specs.declared.policy.DoRead.{DoRead}
 use Rattle.buffer_redux.specs.Policy.{Lawful, ReadTable, ConsumeTable, no_read, read_now, ReadClaims, read_ask}
 use Rattle.buffer_redux.specs.ReaderState.{ReaderState}
@@ -90,6 +91,7 @@ FillsSparing claims s t = (n : ℕ) → (claims s.policy).spares ≡ Some n
 -- all that filling promises
 pub record Fills {P A : Type 0} (table : ReadTable P) (claims : P → ReadClaims) (s : ReaderState P) (answer : Result A Error) (t : ReaderState P) : Type 0 where
   pub hands_on : HandsOn s [] t
+  pub grows : ReadLogGrows s.log.reads t.log.reads
   pub kind : t.block.kind ≡ s.block.kind
   pub capacity : s.block.capacity ≤ t.block.capacity
   pub consumed : t.block.consumed ≡ s.block.consumed
@@ -129,3 +131,16 @@ GoesPast b room = (length b.bytes ≡ 0) × (b.capacity ≤ room)
 
 abbrev pub StaysInside : Block → ℕ → Type 0
 StaysInside b room = (0 < length b.bytes) ⊎ (room < b.capacity)
+
+-- no call hands on nothing, and two stretches of calls join
+pub HandsOn-none : {P : Type 0} (s : ReaderState P) → HandsOn s [] s
+HandsOn-none s = record { got = []; given = sym (append-nil s.log.reads.given); equal = sym (append-nil s.block.bytes) }
+
+pub HandsOn-joins : {P : Type 0} (s m t : ReaderState P) (h k : List ℕ) → HandsOn s h m → HandsOn m k t → HandsOn s (h ++ k) t
+HandsOn-joins s m t h k a b = record {
+  got = a.got ++ b.got;
+  given = b.given ∙ ap (λ l. l ++ b.got) a.given ∙ append_assoc s.log.reads.given a.got b.got;
+  equal =
+      append_assoc h k t.block.bytes ∙ ap (λ l. h ++ l) b.equal ∙ sym (append_assoc h m.block.bytes b.got)
+      ∙ ap (λ l. l ++ b.got) a.equal ∙ append_assoc s.block.bytes a.got b.got;
+}

@@ -1,5 +1,6 @@
 -- What the calls of a buffered writer do and promise.
 use Rattle.std.specs.Prelude.{◌≡◌, ℕ, ◌-◌, ◌<◌, ◌≤◌, ◌⊎◌, List, [], ◌++◌, length, min, take, Result, Ok, Err, MatchResult, IfErr, OnOk}
+use Rattle.std.proofs.Common.{sym, ap, ◌∙◌, append_assoc, append-nil}
 use Rattle.std.specs.Io.{WritesAtMost}
 use Rattle.std.specs.IoError.{error_kind}
 use Rattle.std.specs.declared.io.Error.{Error}
@@ -127,3 +128,16 @@ pub record IsFlushed {P : Type 0} (s t : WriterState P) : Type 0 where
   pub empty : t.block.bytes ≡ []
   pub flushed : t.log.writes.flushed ≡ t.log.writes.received
   pub no_fault : OnlyInterrupted s.log.writes.faults t.log.writes.faults
+
+-- no call passes on nothing, and two stretches of calls join
+pub PassesOn-none : {P : Type 0} (s : WriterState P) → PassesOn s [] s
+PassesOn-none s = record { sent = []; received = sym (append-nil s.log.writes.received); equal = sym (append-nil s.block.bytes) }
+
+pub PassesOn-joins : {P : Type 0} (s m t : WriterState P) (a b : List ℕ) → PassesOn s a m → PassesOn m b t → PassesOn s (a ++ b) t
+PassesOn-joins s m t a b p q = record {
+  sent = p.sent ++ q.sent;
+  received = q.received ∙ ap (λ l. l ++ q.sent) p.received ∙ append_assoc s.log.writes.received p.sent q.sent;
+  equal =
+      append_assoc p.sent q.sent t.block.bytes ∙ ap (λ l. p.sent ++ l) q.equal ∙ sym (append_assoc p.sent m.block.bytes b)
+      ∙ ap (λ l. l ++ b) p.equal ∙ append_assoc s.block.bytes a b;
+}

@@ -138,6 +138,7 @@ impl<W: TellWrite, P> BufWriter<W, P> {
         ensures flushed { FlushesAmount amount (writer_block self.old) (W.log (writer_inner self.old)) result
             (writer_block self.new) (W.log (writer_inner self.new)) }
         ensures policy { writer_policy self.new ≡ writer_policy self.old }
+        ensures stretch { W.stretch (writer_inner self.old) (writer_inner self.new) }
         ensures whole { IsBlock (writer_block self.old) }
     {
         if amount > self.buf.len() {
@@ -151,6 +152,7 @@ impl<W: TellWrite, P> BufWriter<W, P> {
         ensures took_in { TakesIn bytes.now (writer_block self.old) (W.log (writer_inner self.old)) result
             (writer_block self.new) (W.log (writer_inner self.new)) }
         ensures policy { writer_policy self.new ≡ writer_policy self.old }
+        ensures stretch { W.stretch (writer_inner self.old) (writer_inner self.new) }
     {
         if self.buf.is_empty() && bytes.len() >= self.buf.capacity() {
             return self.inner.write_told(bytes);
@@ -173,6 +175,7 @@ impl<W: TellWrite, P: WriterPolicy> Write for BufWriter<W, P> {
               (writer_state W.log self.old) (length bytes.now) (writer_state W.log self.new) }
         ensures steps { Writes (write_ask P.write_table P.write_claims) P.written_table
             (writer_state W.log self.old) bytes.now result (writer_state W.log self.new) }
+        ensures stretch { W.stretch (writer_inner self.old) (writer_inner self.new) }
     {
         let FlushAmt(first) = self.policy.before_write(&mut self.buf, bytes.len())?;
         self.flush_amount(first)?;
@@ -188,6 +191,7 @@ impl<W: TellWrite, P: WriterPolicy> Write for BufWriter<W, P> {
         ensures caused { IfErr result (λ e. SendCaused (W.log (writer_inner self.old)).writes
             (W.log (writer_inner self.new)).writes (error_kind e)) }
         ensures steps { Flushes (writer_state W.log self.old) result (writer_state W.log self.new) }
+        ensures stretch { W.stretch (writer_inner self.old) (writer_inner self.new) }
     {
         self.buf.write_all(&mut self.inner)?;
         self.inner.flush_told()

@@ -132,6 +132,12 @@ after_shown log bytes = record log {
 }
 
 -- the lists of bytes and of faults only go on, and the counts only rise
+pub record ReadLogGrows (old new : ReadLog) : Type 0 where
+  pub given : (more : List ℕ) × (new.given ≡ old.given ++ more)
+  pub asks : old.asks ≤ new.asks
+  pub zero_answers : old.zero_answers ≤ new.zero_answers
+  pub faults : (more : List ErrorKind) × (new.faults ≡ old.faults ++ more)
+
 pub record WriteLogGrows (old new : WriteLog) : Type 0 where
   pub received : (more : List ℕ) × (new.received ≡ old.received ++ more)
   pub zero_writes : old.zero_writes ≤ new.zero_writes

@@ -1,0 +1,39 @@
+-- What copying moves from a reader to a writer.
+use Rattle.std.specs.Prelude.{◌≡◌, ℕ, ◌<◌, ◌≤◌, List, [], ◌++◌, length}
+use Rattle.buffer_redux.specs.Block.{Block}
+use Rattle.buffer_redux.specs.StreamLog.{StreamLog}
+use Rattle.buffer_redux.specs.BufReader.{HandsOn}
+use Rattle.buffer_redux.specs.BufWriter.{PassesOn}
+use Rattle.buffer_redux.specs.ReaderState.{ReaderState}
+use Rattle.buffer_redux.specs.WriterState.{WriterState}
+
+-- a buffer that was just made, of this capacity at least
+pub record IsFresh (cap : ℕ) (b : Block) : Type 0 where
+  pub bytes : b.bytes ≡ []
+  pub capacity : cap ≤ b.capacity
+
+-- n bytes that the reader handed on were accepted by the writer
+pub record MovedBy {P Q : Type 0} (n : ℕ) (s t : ReaderState P) (u v : WriterState Q) : Type 0 where
+  pub bytes : List ℕ
+  pub count : length bytes ≡ n
+  pub handed : HandsOn s bytes t
+  pub passed : PassesOn u bytes v
+
+abbrev pub Moves : {P Q : Type 0} → ReaderState P → ReaderState P → WriterState Q → WriterState Q → Type 0
+Moves s t u v = (n : ℕ) × MovedBy n s t u v
+
+-- what was received is a beginning of what was given
+pub record IsBeginning (read read' written written' : StreamLog) : Type 0 where
+  pub received : List ℕ
+  pub rest : List ℕ
+  pub given : read'.reads.given ≡ read.reads.given ++ (received ++ rest)
+  pub taken : written'.writes.received ≡ written.writes.received ++ received
+
+-- what was received is what was given, all of it: the reader answered `Ok(0)`
+pub record Copied (total : ℕ) (read read' written written' : StreamLog) : Type 0 where
+  pub bytes : List ℕ
+  pub count : length bytes ≡ total
+  pub given : read'.reads.given ≡ read.reads.given ++ bytes
+  pub received : written'.writes.received ≡ written.writes.received ++ bytes
+  pub flushed : written'.writes.flushed ≡ written'.writes.received
+  pub ended : read.reads.zero_answers < read'.reads.zero_answers
