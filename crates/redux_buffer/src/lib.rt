@@ -21,6 +21,8 @@ pub mod script;
 mod slice_deque_buf;
 mod std_buf;
 pub mod tell;
+#[cfg(test)]
+mod tests;
 
 /// The capacity in bytes of a buffer that is made without one.
 pub const DEFAULT_BUF_SIZE: usize = 8192;

@@ -12,6 +12,9 @@ use crate::{MAX_RING, RING_UNIT};
 use std::alloc::Global;
 use std::marker::Model;
 
+#[cfg(test)]
+mod tests;
+
 /// The ring: all its free space can be written at any time, and both that space and the bytes are one slice.
 ///
 /// The bytes stand at `head..head + len` of storage that is twice the capacity. A [`consume`](SliceDequeBuf::consume)

@@ -1,0 +1,71 @@
+//! The scripted streams, and the streams that tell.
+use crate::script::{Answer, ScriptReader, ScriptWriter};
+use crate::tell::{TellRead, TellSeek, TellWrite, Told};
+use std::io::{Cursor, ErrorKind, SeekFrom};
+use std::test::Fail;
+
+const SCRIPT: [Answer; 5] = [
+    Answer::ServeEach(2),
+    Answer::Interrupt(2),
+    Answer::Serve(1),
+    Answer::Fail(ErrorKind::TimedOut),
+    Answer::Interrupt(0),
+];
+
+const ANSWERS: [Result<usize, ErrorKind>; 5] = [
+    Err(ErrorKind::Interrupted),
+    Err(ErrorKind::Interrupted),
+    Ok(1),
+    Err(ErrorKind::TimedOut),
+    Ok(2),
+];
+
+#[test]
+fn reader(rt: HostRuntime) -> Result<(), Fail> {
+    let mut rdr = Told::new(ScriptReader::new(rt.alloc(), &[1, 2, 3, 4], &SCRIPT)?);
+    let mut out = [0u8; 3];
+    for want in ANSWERS {
+        assert_eq!(rt; rdr.read_told(&mut out).map_err(|e| e.kind()), want);
+    }
+    assert_eq!(rt; out, [2, 3, 0]);
+    for want in [1, 0] {
+        assert_eq!(rt; rdr.read_told(&mut out)?, want);
+    }
+    assert_eq!(rt; out, [4, 3, 0]);
+    assert_eq!(rt; rdr.get_ref().offers(), [3; 7].as_slice());
+    assert_eq!(rt; rdr.into_inner().served(), 4);
+    Ok(())
+}
+
+#[test]
+fn writer(rt: HostRuntime) -> Result<(), Fail> {
+    let mut wrt = Told::new(ScriptWriter::new(rt.alloc(), &SCRIPT)?);
+    for want in ANSWERS {
+        assert_eq!(rt; wrt.write_told(&[1, 2, 3]).map_err(|e| e.kind()), want);
+    }
+    wrt.flush_told()?;
+    assert_eq!(rt; wrt.get_ref().taken(), [1, 1, 2].as_slice());
+    assert_eq!(rt; wrt.get_ref().offers(), [3; 5].as_slice());
+    assert_eq!(rt; wrt.into_inner().flushes(), 1);
+    Ok(())
+}
+
+#[test]
+fn seeker(rt: HostRuntime) -> Result<(), Fail> {
+    let mut skr = Told::new(Cursor::new([1u8, 2, 3].as_slice()));
+    assert_eq!(rt; skr.seek_told(SeekFrom::End(-1))?, 2);
+    let mut last = [0u8; 2];
+    assert_eq!(rt; skr.read_told(&mut last)?, 1);
+    assert_eq!(rt; last, [3, 0]);
+    Ok(())
+}
+
+#[test]
+fn printed(rt: HostRuntime) -> Result<(), Fail> {
+    let told = Told::new(Answer::Serve(1));
+    assert_eq!(rt;
+        format!(in rt.alloc(); "{told:?}")?.as_str(),
+        "Told { stream: Serve(1) }"
+    );
+    Ok(())
+}
