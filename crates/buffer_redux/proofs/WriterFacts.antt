@@ -1,14 +1,16 @@
 -- What follows from the steps of a write.
-use Rattle.std.proofs.Common.{◌≡◌, ℕ, zero, suc, ◌+◌, ◌-◌, ◌<◌, ◌≤◌, ◌⊎◌, List, [], ◌++◌, length, take, drop, Result, Ok, Err, refl, sym, ap, ◌∙◌, arith, inl, inr, append_assoc, append-nil, length-append, length-drop, min, subst}
+use Rattle.std.proofs.Common.{◌≡◌, ℕ, zero, suc, ◌+◌, ◌-◌, ◌<◌, ◌≤◌, ◌⊎◌, List, [], ◌∷◌, ◌++◌, true, length, take, drop, Result, Ok, Err, refl, sym, ap, ◌∙◌, arith, inl, inr, append_assoc, append-nil, length-append, length-drop, min, subst}
 use Rattle.std.proofs.lemmas.List.{take-append-drop}
+use Rattle.std.specs.IoError.{error_kind}
 use Rattle.std.specs.declared.io.Error.{Error}
+use Rattle.std.specs.declared.io.ErrorKind.{ErrorKind}
 use Rattle.redux_buffer.specs.Block.{Block, IsBlock, usable}
 use Rattle.redux_buffer.specs.StreamLog.{StreamLog, taken}
 use Rattle.redux_buffer.specs.Transfer.{DoesNothing, Sends}
-use Rattle.buffer_redux.specs.Policy.{Lawful, WriteTable, WrittenTable, WriteClaims, WritesSteadily, write_ask}
+use Rattle.buffer_redux.specs.Policy.{Lawful, WriteTable, WrittenTable, WriteClaims, FlushesSteadily, StaysSteady, write_ask}
 use Rattle.buffer_redux.specs.declared.policy.FlushAmt.{FlushAmt}
 use Rattle.buffer_redux.specs.WriterState.{WriterState}
-use Rattle.buffer_redux.specs.BufWriter.{FlushesAmount, WritesPast, CopiesIn, TakesIn, Prepared, Finished, Wrote, PassesOn, PassesOn-joins, NoSpace, EmptyWrite}
+use Rattle.buffer_redux.specs.BufWriter.{FlushesAmount, SendCaused, WritesPast, CopiesIn, TakesIn, Prepared, Finished, Wrote, Writes, WriteCaused, WriterFailed, WritesSteadily, PassesOn, PassesOn-joins, NoSpace, EmptyWrite}
 use Rattle.buffer_redux.proofs.FillFacts.{no_bytes_of}
 
 pub le_or_lt : (n m : ℕ) → (n ≤ m) ⊎ (m < n)
@@ -103,7 +105,7 @@ module _ {P : Type 0} where
 
   -- what the clauses of `before_write` and of the flush after it say, as one fact
   pub prepared_so : (table : WriteTable P) (claims : P → WriteClaims) (incoming : ℕ) (s m : WriterState P) (p : P) (seen : Block) (amount : FlushAmt) (flushed : Result (Unit {0}) Error)
-      → Lawful s.block seen → table s.policy s.block incoming (Ok amount) p seen → WritesSteadily (claims s.policy).steady incoming (Ok amount) (claims p).steady seen
+      → Lawful s.block seen → table s.policy s.block incoming (Ok amount) p seen → FlushesSteadily (claims s.policy).steady incoming (Ok amount) (claims p).steady seen
       → IsBlock seen → FlushesAmount (amount.0) seen s.log flushed m.block m.log → m.policy ≡ p → Prepared (write_ask table claims) incoming s flushed m
   prepared_so table claims incoming s m p seen amount flushed law answered steady whole flush same = record {
     seen = seen;
@@ -119,15 +121,15 @@ module _ {P : Type 0} where
       let seen : WriterState P = record { policy = m.policy; block = p.seen; log = s.log } in
       PassesOn-joins s seen m [] [] (PassesOn-same s seen refl p.lawful.bytes) (PassesOn-flush seen m (p.amount.0) flushed p.flush)
 
-  pub PassesOn-finished : (table : WrittenTable P) (m t : WriterState P) → Finished table m t → PassesOn m [] t
-  PassesOn-finished table m t f = PassesOn-flush m t (f.amount.0) f.flushed f.flush
+  pub PassesOn-finished : (table : WrittenTable P) (claims : P → WriteClaims) (m t : WriterState P) → Finished table claims m t → PassesOn m [] t
+  PassesOn-finished table claims m t f = PassesOn-flush m t (f.amount.0) f.flushed f.flush
 
-  module _ (ask : WriteTable P) (table : WrittenTable P) (s : WriterState P) (bs : List ℕ) (n : ℕ) (t : WriterState P) (wrote : Wrote ask table s bs n t) where
+  module _ (ask : WriteTable P) (table : WrittenTable P) (claims : P → WriteClaims) (s : WriterState P) (bs : List ℕ) (n : ℕ) (t : WriterState P) (wrote : Wrote ask table claims s bs n t) where
     pub wrote_passes_on : PassesOn s (take n bs) t
     wrote_passes_on =
         let first = PassesOn-prepared ask (length bs) s wrote.before (Ok tt) wrote.prepared in
         let second = PassesOn-takes wrote.before wrote.after bs (Ok n) wrote.took_in in
-        let last = PassesOn-finished table wrote.after t wrote.finished in
+        let last = PassesOn-finished table claims wrote.after t wrote.finished in
         subst (λ l. PassesOn s l t) (append-nil (take n bs))
         (PassesOn-joins s wrote.after t (take n bs) [] (PassesOn-joins s wrote.before wrote.after [] (take n bs) first second) last)
 
@@ -166,6 +168,7 @@ module _ {P : Type 0} where
           before = wrote.before;
           prepared = wrote.prepared;
           full = omega (arith, ap length kept, settled.usable, full, capacity, law.capacity);
+          room = omega (arith, settled.usable, full);
           kept = kept;
         }
 
@@ -174,3 +177,92 @@ module _ {P : Type 0} where
       | inl past ↦ inl (took_nothing none some past)
       | inr inside ↦ inr (no_space none some inside)
     ]
+
+-- what the claim to be steady brings
+module _ {P : Type 0} (table : WriteTable P) (claims : P → WriteClaims) where
+  kept_steady : (p p' : P) (incoming : ℕ) (r : Result FlushAmt Error) (b : Block) → (claims p).steady ≡ true
+      → FlushesSteadily (claims p).steady incoming r (claims p').steady b → FlushesSteadily true incoming r (claims p').steady b
+  kept_steady p p' incoming r b w k = subst (λ o. FlushesSteadily o incoming r (claims p').steady b) w k
+
+  -- a steady policy flushes all before a write that doesn't fit, so there is space where there is capacity
+  steady_space : (s : WriterState P) (incoming : ℕ) → (claims s.policy).steady ≡ true → 0 < incoming → 0 < s.block.capacity → NoSpace (write_ask table claims) s incoming → ⊥
+  steady_space s incoming w some capacity space =
+      let p = space.prepared in
+      let seen : WriterState P = record { policy = space.before.policy; block = p.seen; log = s.log } in
+      let same = capacity_stays seen space.before (p.amount.0) (Ok tt) p.flush in
+      let long : length space.before.block.bytes ≡ length p.seen.bytes = ap length space.kept ∙ sym (ap length p.lawful.bytes) in
+      let tight : usable p.seen ≡ 0 = omega (arith, p.whole.fits, space.room, same, long) in
+      let all : p.amount.0 ≡ length p.seen.bytes = (kept_steady s.policy space.before.policy incoming (Ok p.amount) p.seen w p.asked.steady).2 (omega (arith, tight, some)) in
+      elim (flush_ways (p.amount.0) (length p.seen.bytes)) [
+        | inl none ↦ (
+            let empty : length p.seen.bytes ≡ 0 = elim none [ inl zero' ↦ omega (arith, zero', all) | inr past ↦ omega (arith, past, all) ] in
+            omega (arith, empty, space.room, same, long, p.lawful.capacity, capacity)
+          )
+        | inr amount ↦ (
+            let sends = p.flush.sends amount.0 amount.1 in
+            let left = ap length sends.sent.dropped.bytes ∙ length-drop sends.count p.seen.bytes in
+            omega (arith, sends.whole, all, left, long, amount.0)
+          )
+      ]
+
+  -- why a write failed
+  flush_caused : (s t : WriterState P) (amount : ℕ) (e : Error) → FlushesAmount amount s.block s.log (Err e) t.block t.log → SendCaused s.log.writes t.log.writes (error_kind e)
+  flush_caused s t amount e f = elim (flush_ways amount (length s.block.bytes)) [
+    | inl none ↦ (let odd = (f.idle none).answered in cc)
+    | inr some ↦ (f.sends some.0 some.1).failed.caused
+  ]
+
+  flush_faults : (s t : WriterState P) (amount : ℕ) → FlushesAmount amount s.block s.log (Ok tt) t.block t.log
+      → (more : List ErrorKind) × (t.log.writes.faults ≡ s.log.writes.faults ++ more)
+  flush_faults s t amount f = elim (flush_ways amount (length s.block.bytes)) [
+    | inl none ↦ ([], ap (λ l. l.writes.faults) (f.idle none).told ∙ sym (append-nil s.log.writes.faults))
+    | inr some ↦ (let met = (f.sends some.0 some.1).no_fault in (met.0, met.1))
+  ]
+
+  pub writes_caused : (written : WrittenTable P) (s : WriterState P) (bs : List ℕ) (e : Error) (t : WriterState P)
+      → Writes (write_ask table claims) written claims s bs (Err e) t → WriteCaused (write_ask table claims) s (length bs) (Err e) t
+  writes_caused written s bs e t (inl refused) = inl refused.asked
+  writes_caused written s bs e t (inr (inl p)) =
+      let seen : WriterState P = record { policy = t.policy; block = p.seen; log = s.log } in
+      inr (flush_caused seen t (p.amount.0) e p.flush)
+  writes_caused written s bs e t (inr (inr faulted)) =
+      let p = faulted.prepared in
+      let seen : WriterState P = record { policy = faulted.before.policy; block = p.seen; log = s.log } in
+      let met = flush_faults seen faulted.before (p.amount.0) p.flush in
+      elim (ways_in faulted.before.block (length bs)) [
+        | inl past ↦ inr (inr (met.0, ap (λ l. l.writes.faults) (faulted.took_in.past past).told ∙ ap (λ l. l ++ error_kind e ∷ []) met.1))
+        | inr inside ↦ (let odd = (faulted.took_in.copied inside).answered in cc)
+      ]
+
+  blamed : (s t : WriterState P) (incoming : ℕ) (e : Error) → (claims s.policy).steady ≡ true → WriteCaused (write_ask table claims) s incoming (Err e) t
+      → WriterFailed s.log.writes t.log.writes
+  blamed s t incoming e w (inl refused) = (let odd = (kept_steady s.policy t.policy incoming (Err e) t.block w refused.steady).1 in cc)
+  blamed s t incoming e w (inr (inl zero')) = inr zero'.1
+  blamed s t incoming e w (inr (inr faulted)) =
+      inl (omega (arith, ap length faulted.1, length-append (s.log.writes.faults ++ faulted.0) (error_kind e ∷ []), length-append s.log.writes.faults faulted.0))
+
+  still_steady : (written : WrittenTable P) (s : WriterState P) (bs : List ℕ) (e : Error) (t : WriterState P)
+      → Writes (write_ask table claims) written claims s bs (Err e) t → (claims s.policy).steady ≡ true → (claims t.policy).steady ≡ true
+  still_steady written s bs e t (inl refused) w = (kept_steady s.policy t.policy (length bs) (Err e) t.block w refused.asked.steady).0
+  still_steady written s bs e t (inr (inl p)) w = (kept_steady s.policy t.policy (length bs) (Ok p.amount) p.seen w p.asked.steady).0
+  still_steady written s bs e t (inr (inr faulted)) w =
+      ap (λ p. (claims p).steady) faulted.policy
+      ∙ (kept_steady s.policy faulted.before.policy (length bs) (Ok faulted.prepared.amount) faulted.prepared.seen w faulted.prepared.asked.steady).0
+
+  pub writes_steadily : (written : WrittenTable P) (s : WriterState P) (bs : List ℕ) (answer : Result ℕ Error) (t : WriterState P)
+      → Writes (write_ask table claims) written claims s bs answer t → (claims s.policy).steady ≡ true → WritesSteadily claims s (length bs) answer t
+  writes_steadily written s bs (Ok n) t wrote w =
+      let kept = (kept_steady s.policy wrote.before.policy (length bs) (Ok wrote.prepared.amount) wrote.prepared.seen w wrote.prepared.asked.steady).0 in
+      let after : (claims wrote.after.policy).steady ≡ true = ap (λ p. (claims p).steady) wrote.policy ∙ kept in record {
+        steady = subst (λ o. StaysSteady o (claims t.policy).steady) after wrote.finished.steady;
+        err = tt;
+        empty = λ is some capacity. elim (wrote_nothing (write_ask table claims) written claims s bs n t wrote (cc) some) [
+          | inl rose ↦ rose
+          | inr space ↦ absurd (steady_space s (length bs) w some capacity space)
+        ];
+      }
+  writes_steadily written s bs (Err e) t failed w = record {
+    steady = still_steady written s bs e t failed w;
+    err = blamed s t (length bs) e w (writes_caused written s bs e t failed);
+    empty = λ is. cc;
+  }

@@ -1,5 +1,5 @@
 -- What the calls of a buffered writer do and promise.
-use Rattle.std.specs.Prelude.{◌≡◌, ℕ, ◌-◌, ◌<◌, ◌≤◌, ◌⊎◌, List, [], ◌++◌, length, min, take, Result, Ok, Err, MatchResult, IfErr, OnOk}
+use Rattle.std.specs.Prelude.{◌≡◌, ℕ, ◌-◌, ◌<◌, ◌≤◌, ◌⊎◌, List, [], ◌++◌, length, min, take, Result, Ok, Err, MatchResult, true, IfErr, OnOk, OnErr}
 use Rattle.std.proofs.Common.{sym, ap, ◌∙◌, append_assoc, append-nil}
 use Rattle.std.specs.Io.{WritesAtMost}
 use Rattle.std.specs.IoError.{error_kind}
@@ -11,7 +11,7 @@ use Rattle.redux_buffer.specs.StreamLog.{StreamLog, WriteLog, taken, after_write
 use Rattle.redux_buffer.specs.Faults.{FaultedBy, OnlyInterrupted}
 use Rattle.redux_buffer.specs.Transfer.{DoesNothing, Sends}
 use Rattle.buffer_redux.specs.declared.policy.FlushAmt.{FlushAmt}
-use Rattle.buffer_redux.specs.Policy.{Lawful, WriteTable, WrittenTable}
+use Rattle.buffer_redux.specs.Policy.{Lawful, WriteTable, WrittenTable, WriteClaims, StaysSteady}
 use Rattle.buffer_redux.specs.WriterState.{WriterState}
 
 -- the flush of an amount: nothing at 0, and nothing where fewer bytes are buffered; else the first amount bytes are sent
@@ -56,20 +56,21 @@ pub record Prepared {P : Type 0} (ask : WriteTable P) (incoming : ℕ) (s : Writ
   pub flush : FlushesAmount (amount.0) seen s.log flushed m.block m.log
 
 -- the policy was asked once more, and the amount that it answered was flushed, whether or not that failed
-pub record Finished {P : Type 0} (table : WrittenTable P) (m : WriterState P) (t : WriterState P) : Type 0 where
+pub record Finished {P : Type 0} (table : WrittenTable P) (claims : P → WriteClaims) (m : WriterState P) (t : WriterState P) : Type 0 where
   pub amount : FlushAmt
   pub flushed : Result (Unit {0}) Error
   pub answered : table m.policy m.block amount t.policy
+  pub steady : StaysSteady (claims m.policy).steady (claims t.policy).steady
   pub flush : FlushesAmount (amount.0) m.block m.log flushed t.block t.log
 
 -- the steps of a write that answered `Ok(n)`
-pub record Wrote {P : Type 0} (ask : WriteTable P) (table : WrittenTable P) (s : WriterState P) (bs : List ℕ) (n : ℕ) (t : WriterState P) : Type 0 where
+pub record Wrote {P : Type 0} (ask : WriteTable P) (table : WrittenTable P) (claims : P → WriteClaims) (s : WriterState P) (bs : List ℕ) (n : ℕ) (t : WriterState P) : Type 0 where
   pub before : WriterState P
   pub after : WriterState P
   pub prepared : Prepared ask (length bs) s (Ok tt) before
   pub took_in : TakesIn bs before.block before.log (Ok n) after.block after.log
   pub policy : after.policy ≡ before.policy
-  pub finished : Finished table after t
+  pub finished : Finished table claims after t
 
 -- the policy answered the error, and nothing else was done
 pub record WriteRefused {P : Type 0} (ask : WriteTable P) (s : WriterState P) (bs : List ℕ) (e : Error) (t : WriterState P) : Type 0 where
@@ -85,9 +86,9 @@ pub record WriteFaulted {P : Type 0} (ask : WriteTable P) (s : WriterState P) (b
   pub policy : t.policy ≡ before.policy
 
 -- what `write(bs)` does, step after step
-abbrev pub Writes : {P : Type 0} → WriteTable P → WrittenTable P → WriterState P → List ℕ → Result ℕ Error → WriterState P → Type 0
-Writes ask table s bs (Ok n) t = Wrote ask table s bs n t
-Writes ask table s bs (Err e) t = WriteRefused ask s bs e t ⊎ (Prepared ask (length bs) s (Err e) t ⊎ WriteFaulted ask s bs e t)
+abbrev pub Writes : {P : Type 0} → WriteTable P → WrittenTable P → (P → WriteClaims) → WriterState P → List ℕ → Result ℕ Error → WriterState P → Type 0
+Writes ask table claims s bs (Ok n) t = Wrote ask table claims s bs n t
+Writes ask table claims s bs (Err e) t = WriteRefused ask s bs e t ⊎ (Prepared ask (length bs) s (Err e) t ⊎ WriteFaulted ask s bs e t)
 
 -- the bytes received since, then those buffered, are those that were buffered, then those accepted
 pub record PassesOn {P : Type 0} (s : WriterState P) (accepted : List ℕ) (t : WriterState P) : Type 0 where
@@ -109,11 +110,22 @@ pub record NoSpace {P : Type 0} (ask : WriteTable P) (s : WriterState P) (incomi
   pub before : WriterState P
   pub prepared : Prepared ask incoming s (Ok tt) before
   pub full : s.block.capacity - length s.block.bytes ≡ 0
+  pub room : before.block.capacity - length before.block.bytes ≡ 0
   pub kept : before.block.bytes ≡ s.block.bytes
 
 -- nothing of something was taken in only where the inner writer took nothing, or there was no space
 abbrev pub EmptyWrite : {P : Type 0} → WriteTable P → WriterState P → ℕ → WriterState P → Type 0
 EmptyWrite ask s incoming t = (s.log.writes.zero_writes < t.log.writes.zero_writes) ⊎ NoSpace ask s incoming
+
+-- a fault came, or a write took nothing of something
+abbrev pub WriterFailed : WriteLog → WriteLog → Type 0
+WriterFailed old new = (length old.faults < length new.faults) ⊎ (old.zero_writes < new.zero_writes)
+
+-- under a steady policy an error is the inner writer's, and so is taking in nothing of something where there is capacity
+pub record WritesSteadily {P : Type 0} (claims : P → WriteClaims) (s : WriterState P) (incoming : ℕ) (answer : Result ℕ Error) (t : WriterState P) : Type 0 where
+  pub steady : (claims t.policy).steady ≡ true
+  pub err : OnErr answer (WriterFailed s.log.writes t.log.writes)
+  pub empty : answer ≡ Ok 0 → 0 < incoming → 0 < s.block.capacity → s.log.writes.zero_writes < t.log.writes.zero_writes
 
 -- what `flush()` does: all bytes are sent, and then the inner writer is flushed
 pub record Flushes {P : Type 0} (s : WriterState P) (answer : Result (Unit {0}) Error) (t : WriterState P) : Type 0 where

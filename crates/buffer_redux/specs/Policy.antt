@@ -88,9 +88,9 @@ KeepsSparing None b claim' b' = ⊤
 KeepsSparing (Some n) b claim' b' = (claim' ≡ Some n) × OnKind b.kind (SparesPlain n b b') ⊤
 
 -- what the claim asks of a call of `before_write`
-abbrev pub WritesSteadily : Bool → ℕ → Result FlushAmt Error → Bool → Block → Type 0
-WritesSteadily false incoming r claim' b' = ⊤
-WritesSteadily true incoming r claim' b' = (claim' ≡ true) × IsOk r
+abbrev pub FlushesSteadily : Bool → ℕ → Result FlushAmt Error → Bool → Block → Type 0
+FlushesSteadily false incoming r claim' b' = ⊤
+FlushesSteadily true incoming r claim' b' = (claim' ≡ true) × IsOk r
     × MatchResult r (λ a. usable b' < incoming → a.0 ≡ length b'.bytes) (λ _. ⊤)
 
 abbrev pub StaysSteady : Bool → Bool → Type 0
@@ -112,7 +112,7 @@ read_ask table claims p b r p' b' = ReadAsked table claims p b r p' b'
 pub record WriteAsked {P : Type 0} (table : WriteTable P) (claims : P → WriteClaims) (p : P) (b : Block) (incoming : ℕ) (r : Result FlushAmt Error) (p' : P) (b' : Block) : Type 0 where
   pub law : Lawful b b'
   pub answered : table p b incoming r p' b'
-  pub steady : WritesSteadily (claims p).steady incoming r (claims p').steady b'
+  pub steady : FlushesSteadily (claims p).steady incoming r (claims p').steady b'
 
 abbrev pub write_ask : {P : Type 0} → WriteTable P → (P → WriteClaims) → WriteTable P
 write_ask table claims p b incoming r p' b' = WriteAsked table claims p b incoming r p' b'

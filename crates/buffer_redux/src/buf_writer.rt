@@ -1,5 +1,5 @@
 //! The buffered writer.
-ghost use Rattle.std.specs.Prelude.{◌≡◌, ◌<◌, ◌≤◌, ◌^◌, [], length, take, Ok, IfOk, IfErr, OnOk, IsOk};
+ghost use Rattle.std.specs.Prelude.{◌≡◌, ◌<◌, ◌≤◌, ◌^◌, [], length, take, true, Ok, IfOk, IfErr, OnOk, IsOk};
 ghost use Rattle.std.specs.Io.{WritesAtMost};
 ghost use Rattle.std.specs.IoError.{error_kind};
 ghost use Rattle.redux_buffer.specs.Block.{Plain, Ring, IsBlock, IsNew, round};
@@ -8,7 +8,7 @@ ghost use Rattle.redux_buffer.specs.StreamLog.{taken};
 ghost use Rattle.buffer_redux.specs.MakeError.{growth};
 ghost use Rattle.buffer_redux.specs.Policy.{write_ask};
 ghost use Rattle.buffer_redux.specs.WriterState.{writer_state, writer_block, writer_inner, writer_policy};
-ghost use Rattle.buffer_redux.specs.BufWriter.{FlushesAmount, TakesIn, Writes, PassesOn, WriteCaused, EmptyWrite, Flushes, IsFlushed, SendCaused};
+ghost use Rattle.buffer_redux.specs.BufWriter.{FlushesAmount, TakesIn, Writes, WritesSteadily, PassesOn, WriteCaused, EmptyWrite, Flushes, IsFlushed, SendCaused};
 
 use crate::errors::MakeError;
 use crate::policy::{FlushAmt, StdPolicy, WriterPolicy};
@@ -173,7 +173,9 @@ impl<W: TellWrite, P: WriterPolicy> Write for BufWriter<W, P> {
         ensures empty { result ≡ Ok 0 → 0 < length bytes.now
             → EmptyWrite (write_ask P.write_table P.write_claims)
               (writer_state W.log self.old) (length bytes.now) (writer_state W.log self.new) }
-        ensures steps { Writes (write_ask P.write_table P.write_claims) P.written_table
+        ensures steadily { (P.write_claims (writer_policy self.old)).steady ≡ true → WritesSteadily P.write_claims
+            (writer_state W.log self.old) (length bytes.now) result (writer_state W.log self.new) }
+        ensures steps { Writes (write_ask P.write_table P.write_claims) P.written_table P.write_claims
             (writer_state W.log self.old) bytes.now result (writer_state W.log self.new) }
         ensures stretch { W.stretch (writer_inner self.old) (writer_inner self.new) }
     {

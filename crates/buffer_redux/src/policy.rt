@@ -5,7 +5,7 @@
 //! of yours answers and changes, and claims, which readers and writers rest further promises on. Both may be left out.
 ghost use Rattle.std.specs.Prelude.{◌≡◌, ◌==◌, ℕ, length, refl, ⊤, Some, true};
 ghost use Rattle.redux_buffer.specs.Block.{Block};
-ghost use Rattle.buffer_redux.specs.Policy.{Lawful, ReadTable, ConsumeTable, WriteTable, WrittenTable, ReadClaims, WriteClaims, no_read_claims, no_write_claims, KeepsMinimum, KeepsSteady, KeepsSparing, WritesSteadily, StaysSteady, amount_when_full, std_read_table, std_write_table};
+ghost use Rattle.buffer_redux.specs.Policy.{Lawful, ReadTable, ConsumeTable, WriteTable, WrittenTable, ReadClaims, WriteClaims, no_read_claims, no_write_claims, KeepsMinimum, KeepsSteady, KeepsSparing, FlushesSteadily, StaysSteady, amount_when_full, std_read_table, std_write_table};
 
 use redux_buffer::Buffer;
 use std::io;
@@ -70,7 +70,7 @@ pub trait WriterPolicy {
     fn before_write(&mut self, buf: &mut Buffer, incoming: usize) -> io::Result<FlushAmt>
         ensures law { Lawful buf.old buf.new }
         ensures table { write_table self.old buf.old incoming result self.new buf.new }
-        ensures steady { WritesSteadily (write_claims self.old).steady incoming result
+        ensures steady { FlushesSteadily (write_claims self.old).steady incoming result
             (write_claims self.new).steady buf.new };
 
     /// Asked after bytes were written, for the amount to flush then. Nothing by default.
