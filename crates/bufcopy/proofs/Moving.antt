@@ -1,11 +1,12 @@
 -- How what moves in one turn after another adds up.
-use Rattle.std.proofs.Common.{◌≡◌, ◌∙◌, ℕ, ◌+◌, List, [], ◌++◌, length, refl, sym, ap, append_assoc, append-nil, length-append, subst}
-use Rattle.buffer_redux.specs.StreamLog.{StreamLog}
+use Rattle.std.proofs.Common.{◌≡◌, ◌∙◌, ℕ, ◌+◌, List, [], ◌++◌, length, refl, sym, ap, append_assoc, append-nil, length-append, subst, arith}
+use Rattle.std.specs.declared.io.ErrorKind.{ErrorKind}
+use Rattle.buffer_redux.specs.StreamLog.{StreamLog, ReadLogGrows, WritesGoOn}
 use Rattle.buffer_redux.specs.BufReader.{HandsOn-none, HandsOn-joins}
 use Rattle.buffer_redux.specs.BufWriter.{PassesOn, PassesOn-none, PassesOn-joins}
 use Rattle.buffer_redux.specs.ReaderState.{ReaderState}
 use Rattle.buffer_redux.specs.WriterState.{WriterState}
-use Rattle.bufcopy.specs.Copy.{MovedBy, IsBeginning}
+use Rattle.bufcopy.specs.Copy.{MovedBy, IsBeginning, CountsRise, MovedTooMuch, OverTotal}
 
 -- nothing was given, and nothing received
 pub IsBeginning-none : (read written : StreamLog) → IsBeginning read read written written
@@ -14,6 +15,25 @@ IsBeginning-none read written = record {
   rest = [];
   given = sym (append-nil read.reads.given);
   taken = sym (append-nil written.writes.received);
+}
+
+-- what the logs of a fill and of a write say of the counts
+pub counts_rise : (a b x y : StreamLog) → ReadLogGrows a.reads b.reads → WritesGoOn x y → CountsRise a b x y
+unfolding WritesGoOn
+counts_rise a b x y p q = record {
+  zero_answers = p.zero_answers;
+  read_faults = omega (arith, ap length p.faults.1, length-append a.reads.faults p.faults.0);
+  write_faults = omega (arith, ap length q.faults.1, length-append x.writes.faults q.faults.0);
+  zero_writes = q.zero_writes;
+}
+
+-- the counts go on rising
+pub rises_on : (a b c x y z : StreamLog) → CountsRise a b x y → CountsRise b c y z → CountsRise a c x z
+rises_on a b c x y z p q = record {
+  zero_answers = omega (arith, p.zero_answers, q.zero_answers);
+  read_faults = omega (arith, p.read_faults, q.read_faults);
+  write_faults = omega (arith, p.write_faults, q.write_faults);
+  zero_writes = omega (arith, p.zero_writes, q.zero_writes);
 }
 
 module _ {P Q : Type 0} where
@@ -66,3 +86,14 @@ module _ {P Q : Type 0} (n : ℕ) (s t : ReaderState P) (u w v : WriterState Q) 
     handed = a.handed;
     passed = subst (λ l. PassesOn u l v) (append-nil a.bytes) (PassesOn-joins u w v a.bytes [] a.passed flushed);
   }
+
+-- too many moved bytes are too many given ones
+module _ {P Q : Type 0} (kind : ErrorKind) (s t : ReaderState P) (u v : WriterState Q) where
+  pub over_total : MovedTooMuch kind s t u v → s.block.bytes ≡ [] → OverTotal kind s.log t.log
+  over_total much none =
+      let got = ap length much.moved.handed.given ∙ length-append s.log.reads.given much.moved.handed.got in
+      let moved = ap length much.moved.handed.equal in
+      (
+        much.other,
+        omega (arith, much.large, much.moved.count, got, moved, ap length none, length-append much.moved.bytes t.block.bytes, length-append s.block.bytes much.moved.handed.got),
+      )

@@ -1,9 +1,11 @@
 -- What copying moves from a reader to a writer.
-use Rattle.std.specs.Prelude.{◌≡◌, ℕ, ◌<◌, ◌≤◌, List, [], ◌++◌, length}
+use Rattle.std.specs.Prelude.{◌≡◌, ℕ, ◌-◌, ◌^◌, ◌<◌, ◌≤◌, ◌⊎◌, List, [], ◌++◌, length}
+use Rattle.std.specs.declared.io.ErrorKind.{ErrorKind}
+use Rattle.std.specs.declared.io.ErrorKind.TheVariants.{Other, OutOfMemory}
 use Rattle.buffer_redux.specs.Block.{Block}
 use Rattle.buffer_redux.specs.StreamLog.{StreamLog}
 use Rattle.buffer_redux.specs.BufReader.{HandsOn}
-use Rattle.buffer_redux.specs.BufWriter.{PassesOn}
+use Rattle.buffer_redux.specs.BufWriter.{PassesOn, WriterFailed}
 use Rattle.buffer_redux.specs.ReaderState.{ReaderState}
 use Rattle.buffer_redux.specs.WriterState.{WriterState}
 
@@ -37,3 +39,30 @@ pub record Copied (total : ℕ) (read read' written written' : StreamLog) : Type
   pub received : written'.writes.received ≡ written.writes.received ++ bytes
   pub flushed : written'.writes.flushed ≡ written'.writes.received
   pub ended : read.reads.zero_answers < read'.reads.zero_answers
+
+-- the counts of both streams only rose
+pub record CountsRise (read read' written written' : StreamLog) : Type 0 where
+  pub zero_answers : read.reads.zero_answers ≤ read'.reads.zero_answers
+  pub read_faults : length read.reads.faults ≤ length read'.reads.faults
+  pub write_faults : length written.writes.faults ≤ length written'.writes.faults
+  pub zero_writes : written.writes.zero_writes ≤ written'.writes.zero_writes
+
+-- one of the streams failed: a fault came, or a write took nothing of something
+abbrev pub StreamFailed : StreamLog → StreamLog → StreamLog → StreamLog → Type 0
+StreamFailed read read' written written' = (length read.reads.faults < length read'.reads.faults) ⊎ WriterFailed written.writes written'.writes
+
+-- more bytes moved than a `u64` counts
+pub record MovedTooMuch {P Q : Type 0} (kind : ErrorKind) (s t : ReaderState P) (u v : WriterState Q) : Type 0 where
+  pub other : kind ≡ Other
+  pub count : ℕ
+  pub large : 2 ^ 64 ≤ count
+  pub moved : MovedBy count s t u v
+
+-- more bytes were given than a `u64` counts
+abbrev pub OverTotal : ErrorKind → StreamLog → StreamLog → Type 0
+OverTotal kind read read' = (kind ≡ Other) × (2 ^ 64 ≤ length read'.reads.given - length read.reads.given)
+
+-- why a copy failed with this kind: a stream failed, its buffers were refused, or the total passed what a `u64` counts
+abbrev pub CopyFailed : ErrorKind → StreamLog → StreamLog → StreamLog → StreamLog → Type 0
+CopyFailed kind read read' written written' =
+    StreamFailed read read' written written' ⊎ ((kind ≡ OutOfMemory) ⊎ OverTotal kind read read')

@@ -1,13 +1,14 @@
 //! The copy itself, over any two streams that tell.
-ghost use Rattle.std.specs.Prelude.{◌≡◌, ◌<◌, ◌≤◌, [], length, Ok, Err, IfOk, IfErr, OnOk, OnErr};
+ghost use Rattle.std.specs.Prelude.{◌≡◌, ◌<◌, ◌≤◌, ◌⊎◌, [], length, Ok, Err, IfOk, IfErr, OnOk, OnErr};
 ghost use Rattle.std.specs.IoError.{error_kind};
 ghost use Rattle.buffer_redux.specs.BufReader.{RanDry};
+ghost use Rattle.buffer_redux.specs.BufWriter.{WriterFailed};
 ghost use Rattle.buffer_redux.specs.ReaderState.{reader_state, reader_block, reader_inner};
 ghost use Rattle.buffer_redux.specs.WriterState.{writer_state, writer_block, writer_inner};
-ghost use Rattle.bufcopy.specs.Copy.{IsFresh, Moves, MovedBy, Copied, IsBeginning};
+ghost use Rattle.bufcopy.specs.Copy.{IsFresh, Moves, MovedBy, Copied, IsBeginning, CountsRise, StreamFailed, MovedTooMuch, CopyFailed};
 
 use buffer_redux::tell::{TellRead, TellWrite};
-use buffer_redux::{BufReader, BufWriter, MakeError};
+use buffer_redux::{BufReader, BufWriter, GrowError, MakeError};
 use std::alloc::Global;
 use std::io;
 use std::io::{BufRead, ErrorKind, Write};
@@ -27,6 +28,7 @@ pub fn run<R: TellRead, W: TellWrite>(
     requires some { 1 ≤ cap }
     requires most { cap ≤ MAX_CAPACITY }
     ensures copied { IfOk result.0 (λ total. Copied total (R.log reader) (R.log result.1) (W.log writer) (W.log result.2)) }
+    ensures caused { IfErr result.0 (λ e. CopyFailed (error_kind e) (R.log reader) (R.log result.1) (W.log writer) (W.log result.2)) }
     ensures a_beginning { IsBeginning (R.log reader) (R.log result.1) (W.log writer) (W.log result.2) }
 {
     let mut source = match buffered_reader(alloc, ring, cap, reader) {
@@ -52,9 +54,11 @@ fn buffered_reader<R: TellRead>(
     cap: usize,
     reader: R,
 ) -> Result<BufReader<R>, MakeError<R>>
+    requires { cap ≤ MAX_CAPACITY }
     ensures made { IfOk result (λ r. IsFresh cap (reader_block r)) }
     ensures inner { IfOk result (λ r. reader_inner r ≡ reader) }
     ensures handed_back { IfErr result (λ e. e.0 ≡ reader) }
+    ensures refused { IfErr result (λ e. e.1 ≡ GrowError.Memory) }
 {
     if ring {
         BufReader::with_capacity_ringbuf(alloc, cap, reader)
@@ -69,9 +73,11 @@ fn buffered_writer<W: TellWrite>(
     cap: usize,
     writer: W,
 ) -> Result<BufWriter<W>, MakeError<W>>
+    requires { cap ≤ MAX_CAPACITY }
     ensures made { IfOk result (λ w. IsFresh cap (writer_block w)) }
     ensures inner { IfOk result (λ w. writer_inner w ≡ writer) }
     ensures handed_back { IfErr result (λ e. e.0 ≡ writer) }
+    ensures refused { IfErr result (λ e. e.1 ≡ GrowError.Memory) }
 {
     if ring {
         BufWriter::with_capacity_ringbuf(alloc, cap, writer)
@@ -85,7 +91,8 @@ fn copy_all<R: TellRead, W: TellWrite>(
     source: &mut BufReader<R>,
     target: &mut BufWriter<W>,
 ) -> io::Result<u64>
-    requires { 0 < (reader_block source.old).capacity }
+    requires source_capacity { 0 < (reader_block source.old).capacity }
+    requires target_capacity { 0 < (writer_block target.old).capacity }
     ensures moves { Moves (reader_state R.log source.old) (reader_state R.log source.new)
         (writer_state W.log target.old) (writer_state W.log target.new) }
     ensures total { IfOk result (λ total. MovedBy total (reader_state R.log source.old) (reader_state R.log source.new)
@@ -93,6 +100,10 @@ fn copy_all<R: TellRead, W: TellWrite>(
     ensures nothing_left { OnOk result (((reader_block source.new).bytes ≡ []) × ((writer_block target.new).bytes ≡ [])) }
     ensures flushed { OnOk result ((W.log (writer_inner target.new)).writes.flushed ≡ (W.log (writer_inner target.new)).writes.received) }
     ensures ended { OnOk result (RanDry (reader_state R.log source.old) (reader_state R.log source.new)) }
+    ensures failed { IfErr result (λ e. StreamFailed (R.log (reader_inner source.old)) (R.log (reader_inner source.new))
+        (W.log (writer_inner target.old)) (W.log (writer_inner target.new))
+        ⊎ MovedTooMuch (error_kind e) (reader_state R.log source.old) (reader_state R.log source.new)
+          (writer_state W.log target.old) (writer_state W.log target.new)) }
 {
     let total = copy_turns(source, target)?;
     if source.buf_len() > 0 {
@@ -107,13 +118,22 @@ fn copy_turns<R: TellRead, W: TellWrite>(
     source: &mut BufReader<R>,
     target: &mut BufWriter<W>,
 ) -> io::Result<u64>
-    requires { 0 < (reader_block source.old).capacity }
+    requires source_capacity { 0 < (reader_block source.old).capacity }
+    requires target_capacity { 0 < (writer_block target.old).capacity }
     ensures moves { Moves (reader_state R.log source.old) (reader_state R.log source.new)
         (writer_state W.log target.old) (writer_state W.log target.new) }
     ensures total { IfOk result (λ total. MovedBy total (reader_state R.log source.old) (reader_state R.log source.new)
         (writer_state W.log target.old) (writer_state W.log target.new)) }
     ensures ended { OnOk result ((reader_block source.new).bytes ≡ []
         → RanDry (reader_state R.log source.old) (reader_state R.log source.new)) }
+    ensures rise { CountsRise (R.log (reader_inner source.old)) (R.log (reader_inner source.new))
+        (W.log (writer_inner target.old)) (W.log (writer_inner target.new)) }
+    ensures failed { IfErr result (λ e. StreamFailed (R.log (reader_inner source.old)) (R.log (reader_inner source.new))
+        (W.log (writer_inner target.old)) (W.log (writer_inner target.new))
+        ⊎ MovedTooMuch (error_kind e) (reader_state R.log source.old) (reader_state R.log source.new)
+          (writer_state W.log target.old) (writer_state W.log target.new)) }
+    ensures refused { OnOk result (0 < length (reader_block source.new).bytes
+        → WriterFailed (W.log (writer_inner target.old)).writes (W.log (writer_inner target.new)).writes) }
 {
     let mut total = 0u64;
     'turns: loop {
@@ -133,15 +153,22 @@ fn copy_turn<R: TellRead, W: TellWrite>(
     source: &mut BufReader<R>,
     target: &mut BufWriter<W>,
 ) -> io::Result<usize>
-    requires { 0 < (reader_block source.old).capacity }
+    requires source_capacity { 0 < (reader_block source.old).capacity }
+    requires target_capacity { 0 < (writer_block target.old).capacity }
     ensures moved { IfOk result (λ taken. MovedBy taken (reader_state R.log source.old) (reader_state R.log source.new)
         (writer_state W.log target.old) (writer_state W.log target.new)) }
     ensures err { OnErr result (MovedBy 0 (reader_state R.log source.old) (reader_state R.log source.new)
         (writer_state W.log target.old) (writer_state W.log target.new)) }
     ensures ended { result ≡ Ok 0 → (reader_block source.new).bytes ≡ []
         → RanDry (reader_state R.log source.old) (reader_state R.log source.new) }
-    ensures given { (R.log (reader_inner source.old)).reads.zero_answers ≤ (R.log (reader_inner source.new)).reads.zero_answers }
-    ensures capacity { 0 < (reader_block source.new).capacity }
+    ensures rise { CountsRise (R.log (reader_inner source.old)) (R.log (reader_inner source.new))
+        (W.log (writer_inner target.old)) (W.log (writer_inner target.new)) }
+    ensures failed { OnErr result (StreamFailed (R.log (reader_inner source.old)) (R.log (reader_inner source.new))
+        (W.log (writer_inner target.old)) (W.log (writer_inner target.new))) }
+    ensures refused { result ≡ Ok 0 → 0 < length (reader_block source.new).bytes
+        → WriterFailed (W.log (writer_inner target.old)).writes (W.log (writer_inner target.new)).writes }
+    ensures source_capacity { 0 < (reader_block source.new).capacity }
+    ensures target_capacity { 0 < (writer_block target.new).capacity }
 {
     let taken = match source.fill_buf() {
         Ok(bytes) => target.write(bytes)?,

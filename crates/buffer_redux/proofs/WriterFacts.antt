@@ -178,6 +178,40 @@ module _ {P : Type 0} where
       | inr inside ↦ inr (no_space none some inside)
     ]
 
+-- no write lowers the capacity
+module _ {P : Type 0} (ask : WriteTable P) (table : WrittenTable P) (claims : P → WriteClaims) (s : WriterState P) (bs : List ℕ) where
+  prepared_capacity : (m : WriterState P) (flushed : Result (Unit {0}) Error) → Prepared ask (length bs) s flushed m → s.block.capacity ≤ m.block.capacity
+  prepared_capacity m flushed p =
+      let seen : WriterState P = record { policy = m.policy; block = p.seen; log = s.log } in
+      let stays = capacity_stays seen m (p.amount.0) flushed p.flush in
+      omega (arith, p.lawful.capacity, stays)
+
+  taken_capacity : (m t : WriterState P) (answer : Result ℕ Error) → TakesIn bs m.block m.log answer t.block t.log → m.block.capacity ≡ t.block.capacity
+  taken_capacity m t answer f = elim (ways_in m.block (length bs)) [
+    | inl past ↦ sym (ap (λ b. b.capacity) (f.past past).block)
+    | inr inside ↦ (
+        let copied = f.copied inside in
+        let settled : copied.settled.capacity ≡ m.block.capacity = elim (le_or_lt 1 (usable m.block)) [
+          | inl some ↦ ap (λ b. b.capacity) (copied.roomy (omega (arith, some)))
+          | inr none ↦ (copied.tight (omega (arith, none))).capacity
+        ] in
+        sym (copied.added.capacity ∙ settled)
+      )
+  ]
+
+  pub writes_capacity : (answer : Result ℕ Error) (t : WriterState P) → Writes ask table claims s bs answer t → s.block.capacity ≤ t.block.capacity
+  writes_capacity (Ok n) t wrote =
+      let first = prepared_capacity wrote.before (Ok tt) wrote.prepared in
+      let second = taken_capacity wrote.before wrote.after (Ok n) wrote.took_in in
+      let last = capacity_stays wrote.after t (wrote.finished.amount.0) wrote.finished.flushed wrote.finished.flush in
+      omega (arith, first, second, last)
+  writes_capacity (Err e) t (inl refused) = refused.lawful.capacity
+  writes_capacity (Err e) t (inr (inl prepared)) = prepared_capacity t (Err e) prepared
+  writes_capacity (Err e) t (inr (inr faulted)) =
+      let first = prepared_capacity faulted.before (Ok tt) faulted.prepared in
+      let second = taken_capacity faulted.before t (Err e) faulted.took_in in
+      omega (arith, first, second)
+
 -- what the claim to be steady brings
 module _ {P : Type 0} (table : WriteTable P) (claims : P → WriteClaims) where
   kept_steady : (p p' : P) (incoming : ℕ) (r : Result FlushAmt Error) (b : Block) → (claims p).steady ≡ true

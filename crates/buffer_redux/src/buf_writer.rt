@@ -173,6 +173,7 @@ impl<W: TellWrite, P: WriterPolicy> Write for BufWriter<W, P> {
         ensures empty { result ≡ Ok 0 → 0 < length bytes.now
             → EmptyWrite (write_ask P.write_table P.write_claims)
               (writer_state W.log self.old) (length bytes.now) (writer_state W.log self.new) }
+        ensures capacity { (writer_block self.old).capacity ≤ (writer_block self.new).capacity }
         ensures steadily { (P.write_claims (writer_policy self.old)).steady ≡ true → WritesSteadily P.write_claims
             (writer_state W.log self.old) (length bytes.now) result (writer_state W.log self.new) }
         ensures steps { Writes (write_ask P.write_table P.write_claims) P.written_table P.write_claims
@@ -192,6 +193,7 @@ impl<W: TellWrite, P: WriterPolicy> Write for BufWriter<W, P> {
         ensures ok { OnOk result (IsFlushed (writer_state W.log self.old) (writer_state W.log self.new)) }
         ensures caused { IfErr result (λ e. SendCaused (W.log (writer_inner self.old)).writes
             (W.log (writer_inner self.new)).writes (error_kind e)) }
+        ensures capacity { (writer_block self.new).capacity ≡ (writer_block self.old).capacity }
         ensures steps { Flushes (writer_state W.log self.old) result (writer_state W.log self.new) }
         ensures stretch { W.stretch (writer_inner self.old) (writer_inner self.new) }
     {

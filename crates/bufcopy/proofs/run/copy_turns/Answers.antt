@@ -1,15 +1,30 @@
-use Rattle.std.proofs.Common.{arith}
-use Rattle.bufcopy.proofs.Moving.{MovedBy-joins}
+use Rattle.std.proofs.Common.{◌+◌, arith, inr}
+use Rattle.bufcopy.proofs.Moving.{MovedBy-joins, rises_on}
 use Rattle.bufcopy.proofs.run.copy_turns.Goals as goal
 
 pub turns-preserved : goal.turns-preserved
 turns-preserved g c =
     let turn = c.in_ok-taken.ensures in record {
       moved = rw c.in-Some.ensures.1 (MovedBy-joins _ _ _ _ _ _ _ _ c.turns.invariant.moved turn.moved);
-      zero_answers = omega (arith, c.turns.invariant.zero_answers, turn.given);
-      capacity = turn.capacity;
+      rise = rises_on _ _ _ _ _ _ c.turns.invariant.rise turn.rise;
+      source_capacity = turn.source_capacity;
+      target_capacity = turn.target_capacity;
     }
 
 pub returns-in-None-clause-moves : goal.returns-in-None-clause-moves
 returns-in-None-clause-moves g c =
     (_, MovedBy-joins _ _ _ _ _ _ _ _ c.turns.invariant.moved c.in_ok-taken.ensures.moved)
+
+pub returns-in_err-taken-clause-moves : goal.returns-in_err-taken-clause-moves
+returns-in_err-taken-clause-moves g c =
+    (_, MovedBy-joins _ _ _ _ _ _ _ _ c.turns.invariant.moved c.in_err-taken.ensures.err)
+
+pub returns-in-None-clause-failed : goal.returns-in-None-clause-failed
+returns-in-None-clause-failed g c =
+    let over = c.in-None.ensures in
+    inr (record {
+      other = c.from.ensures;
+      count = c.turns.total + c.in_ok-taken.taken;
+      large = omega (arith, over);
+      moved = MovedBy-joins _ _ _ _ _ _ _ _ c.turns.invariant.moved c.in_ok-taken.ensures.moved;
+    })

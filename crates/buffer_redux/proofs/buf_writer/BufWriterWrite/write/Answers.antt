@@ -3,7 +3,7 @@ use Rattle.std.proofs.lemmas.Result.{err_from_is_err_and}
 use Rattle.buffer_redux.specs.Policy.{StaysSteady, write_ask}
 use Rattle.buffer_redux.specs.WriterState.{writer_state}
 use Rattle.buffer_redux.specs.BufWriter.{Writes}
-use Rattle.buffer_redux.proofs.WriterFacts.{prepared_so, wrote_passes_on, wrote_nothing, writes_steadily}
+use Rattle.buffer_redux.proofs.WriterFacts.{prepared_so, wrote_passes_on, wrote_nothing, writes_steadily, writes_capacity}
 use Rattle.buffer_redux.proofs.buf_writer.BufWriterWrite.write.Goals as goal
 
 -- the steps at each way out
@@ -84,3 +84,12 @@ returns-clause-empty g c is some = wrote_nothing _ _ _ _ _ _ _ (wrote g c) (cc) 
 
 pub returns-clause-steadily : goal.returns-clause-steadily
 returns-clause-steadily g c w = writes_steadily g.P.WriterPolicy.write_table g.P.WriterPolicy.write_claims g.P.WriterPolicy.written_table _ _ _ _ (wrote g c) w
+
+pub returns-clause-capacity : goal.returns-clause-capacity
+returns-clause-capacity g c = writes_capacity (write_ask g.P.WriterPolicy.write_table g.P.WriterPolicy.write_claims) g.P.WriterPolicy.written_table g.P.WriterPolicy.write_claims _ _ (Ok c.in_ok-written.written) _ (wrote g c)
+
+pub returns-in_err-flush_amount-clause-capacity : goal.returns-in_err-flush_amount-clause-capacity
+returns-in_err-flush_amount-clause-capacity g c = writes_capacity (write_ask g.P.WriterPolicy.write_table g.P.WriterPolicy.write_claims) g.P.WriterPolicy.written_table g.P.WriterPolicy.write_claims _ _ (Err c.in_err-flush_amount.field-0.0) _ (unsent g c)
+
+pub returns-in_err-written-clause-capacity : goal.returns-in_err-written-clause-capacity
+returns-in_err-written-clause-capacity g c = writes_capacity (write_ask g.P.WriterPolicy.write_table g.P.WriterPolicy.write_claims) g.P.WriterPolicy.written_table g.P.WriterPolicy.write_claims _ _ (Err c.in_err-written.field-0.0) _ (faulted g c)
