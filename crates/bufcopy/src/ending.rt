@@ -7,7 +7,7 @@ use std::io;
 use std::io::ErrorKind;
 
 /// How a run ends.
-#[derive(Clone, Copy, Debug, PartialEq)]
+#[derive(Clone, Copy, Debug, PartialEq, Eq)]
 pub enum Ending {
     /// Every byte was copied.
     Done,
@@ -57,5 +57,38 @@ impl Ending {
             Ending::Usage => "usage: bufcopy [std|ring] [CAPACITY]",
             Ending::Memory => "bufcopy: out of memory",
         }
+    }
+}
+
+#[cfg(test)]
+mod tests {
+    use super::*;
+
+    #[test]
+    fn tells_how_a_run_ended(rt: HostRuntime) {
+        for (answer, ending, status, line) in [
+            (Ok(7), Ending::Done, 0, ""),
+            (
+                Err(io::Error::from(ErrorKind::WriteZero)),
+                Ending::Failed,
+                1,
+                "bufcopy: read or write failed",
+            ),
+            (
+                Err(io::Error::from(ErrorKind::OutOfMemory)),
+                Ending::Memory,
+                3,
+                "bufcopy: out of memory",
+            ),
+        ] {
+            assert_eq!(rt; Ending::of(&answer), ending);
+            assert_eq!(rt; ending.status(), status, "of {ending:?}");
+            assert_eq!(rt; ending.line(), line, "of {ending:?}");
+        }
+        assert_eq!(rt; Ending::Usage.status(), 2);
+        assert_eq!(rt;
+            Ending::Usage.line(),
+            "usage: bufcopy [std|ring] [CAPACITY]"
+        );
     }
 }

@@ -9,7 +9,7 @@ use std::process::ExitCode;
 use std::rt::Env;
 
 // How a run with the words that the program was given ends.
-fn run(rt: &(impl Env + AllocGlobal)) -> Ending {
+fn outcome(rt: &(impl Env + AllocGlobal)) -> Ending {
     let words = match std::env::args(rt) {
         Ok(words) => words,
         Err(e) => return Ending::of(&Err(e)),
@@ -26,7 +26,7 @@ fn run(rt: &(impl Env + AllocGlobal)) -> Ending {
 }
 
 fn main(rt: HostRuntime) -> ExitCode {
-    let ending = run(&rt);
+    let ending = outcome(&rt);
     let line = ending.line();
     if !line.is_empty() {
         // There is nowhere left to tell of a fault here.

@@ -56,3 +56,47 @@ fn capacity(word: &str) -> Option<usize>
     }
     Some(capacity)
 }
+
+#[cfg(test)]
+mod tests {
+    use super::*;
+    use std::alloc::{AllocError, Global};
+    use std::test::Fail;
+
+    fn asked(alloc: Global, words: &[&str]) -> Result<Option<(bool, usize)>, AllocError> {
+        let mut owned = Vec::new(alloc);
+        for word in words {
+            owned.push(String::from_str(alloc, *word)?)?;
+        }
+        Ok(settings(owned.as_slice()))
+    }
+
+    #[test]
+    fn reads_the_words(rt: HostRuntime) -> Result<(), Fail> {
+        for (words, want) in [
+            ([].as_slice(), Some((false, 8192))),
+            (["std"].as_slice(), Some((false, 8192))),
+            (["ring"].as_slice(), Some((true, 8192))),
+            (["64"].as_slice(), Some((false, 64))),
+            (["1"].as_slice(), Some((false, 1))),
+            (["0000064"].as_slice(), Some((false, 64))),
+            (["1048576"].as_slice(), Some((false, 1048576))),
+            (["ring", "64"].as_slice(), Some((true, 64))),
+            (["std", "64"].as_slice(), Some((false, 64))),
+            ([""].as_slice(), None),
+            (["Ring"].as_slice(), None),
+            (["64 "].as_slice(), None),
+            (["00000064"].as_slice(), None),
+            (["std", "0"].as_slice(), None),
+            (["ring", "1048577"].as_slice(), None),
+            (["std", "+5"].as_slice(), None),
+            (["ring", "std"].as_slice(), None),
+            (["64", "std"].as_slice(), None),
+            (["64", "64"].as_slice(), None),
+            (["std", "64", "1"].as_slice(), None),
+        ] {
+            assert_eq!(rt; asked(rt.alloc(), words)?, want, "of {words:?}");
+        }
+        Ok(())
+    }
+}
