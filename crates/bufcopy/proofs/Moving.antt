@@ -1,5 +1,5 @@
 -- How what moves in one turn after another adds up.
-use Rattle.std.proofs.Common.{◌≡◌, ◌∙◌, ℕ, ◌+◌, List, [], ◌++◌, length, refl, sym, ap, append_assoc, append-nil, length-append, subst, arith}
+use Rattle.std.proofs.Common.{◌≡◌, ◌∙◌, ℕ, ◌+◌, [], ◌++◌, length, refl, sym, ap, append_assoc, append-nil, length-append, subst, arith}
 use Rattle.std.specs.declared.io.ErrorKind.{ErrorKind}
 use Rattle.buffer_redux.specs.StreamLog.{StreamLog, ReadLogGrows, WritesGoOn}
 use Rattle.buffer_redux.specs.BufReader.{HandsOn-none, HandsOn-joins}
@@ -92,8 +92,7 @@ module _ {P Q : Type 0} (kind : ErrorKind) (s t : ReaderState P) (u v : WriterSt
   pub over_total : MovedTooMuch kind s t u v → s.block.bytes ≡ [] → OverTotal kind s.log t.log
   over_total much none =
       let got = ap length much.moved.handed.given ∙ length-append s.log.reads.given much.moved.handed.got in
-      let moved = ap length much.moved.handed.equal in
-      (
+      let moved = ap length much.moved.handed.equal in (
         much.other,
         omega (arith, much.large, much.moved.count, got, moved, ap length none, length-append much.moved.bytes t.block.bytes, length-append s.block.bytes much.moved.handed.got),
       )

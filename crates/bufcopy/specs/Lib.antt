@@ -1,1 +1,3 @@
 pub mod Copy
+pub mod Ending
+pub mod Settings

@@ -1,10 +1,46 @@
-//! Copies standard input to standard output.
+//! Copies standard input to standard output through buffers.
 #![tactic(auto)]
 
+mod ending;
 mod run;
+mod settings;
+#[cfg(test)]
+mod tests;
 
+use crate::ending::Ending;
 use buffer_redux::tell::Told;
+use std::process::ExitCode;
 
-fn main(rt: HostRuntime) {
-    let _ = run::run(rt.alloc(), false, 8192, Told::new(rt.stdin()), Told::new(rt.stdout()));
+// Copies as the words that the program was given ask for.
+fn outcome(rt: &HostRuntime) -> Ending {
+    let words = match std::env::args(rt) {
+        Ok(words) => words,
+        Err(e) => return run::ending(&Err(e)),
+    };
+    // The first is the program's own name.
+    let words: Vec<String> = match words.skip(1).collect(rt.alloc()) {
+        Ok(words) => words,
+        Err(e) => return run::ending(&Err(e.into())),
+    };
+    let Some((ring, cap)) = settings::settings(words.as_slice()) else {
+        return Ending::Usage;
+    };
+    let (answer, _, _) = run::run(
+        rt.alloc(),
+        ring,
+        cap,
+        Told::new(rt.stdin()),
+        Told::new(rt.stdout()),
+    );
+    run::ending(&answer)
+}
+
+fn main(rt: HostRuntime) -> ExitCode {
+    let ending = outcome(&rt);
+    let line = ending.line();
+    if !line.is_empty() {
+        // There is nowhere left to tell of a fault here.
+        let _ = rt.eprintln(line);
+    }
+    ExitCode::from(ending.status())
 }

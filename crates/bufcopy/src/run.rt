@@ -1,5 +1,5 @@
 //! The copy itself, over any two streams that tell.
-ghost use Rattle.std.specs.Prelude.{◌≡◌, ◌<◌, ◌≤◌, ◌⊎◌, [], length, Ok, Err, IfOk, IfErr, OnOk, OnErr};
+ghost use Rattle.std.specs.Prelude.{◌≡◌, ◌≢◌, ◌<◌, ◌≤◌, ◌⊎◌, [], length, Ok, Err, IfOk, IfErr, OnOk, OnErr};
 ghost use Rattle.std.specs.IoError.{error_kind};
 ghost use Rattle.buffer_redux.specs.BufReader.{RanDry};
 ghost use Rattle.buffer_redux.specs.BufWriter.{WriterFailed};
@@ -7,14 +7,13 @@ ghost use Rattle.buffer_redux.specs.ReaderState.{reader_state, reader_block, rea
 ghost use Rattle.buffer_redux.specs.WriterState.{writer_state, writer_block, writer_inner};
 ghost use Rattle.bufcopy.specs.Copy.{IsFresh, Moves, MovedBy, Copied, IsBeginning, CountsRise, StreamFailed, MovedTooMuch, CopyFailed};
 
+use crate::ending::Ending;
+use crate::settings::GREATEST_CAPACITY;
 use buffer_redux::tell::{TellRead, TellWrite};
 use buffer_redux::{BufReader, BufWriter, GrowError, MakeError};
 use std::alloc::Global;
 use std::io;
 use std::io::{BufRead, ErrorKind, Write};
-
-/// The greatest capacity that [`run`] takes, in bytes.
-pub const MAX_CAPACITY: usize = 1 << 20;
 
 /// Copies from `reader` to `writer` until the reader ends, through buffers of `cap` bytes, and answers how many bytes went
 /// over. Both streams come back, also after a fault; nothing more is sent then.
@@ -26,7 +25,7 @@ pub fn run<R: TellRead, W: TellWrite>(
     writer: W,
 ) -> (io::Result<u64>, R, W)
     requires some { 1 ≤ cap }
-    requires most { cap ≤ MAX_CAPACITY }
+    requires most { cap ≤ GREATEST_CAPACITY }
     ensures copied { IfOk result.0 (λ total. Copied total (R.log reader) (R.log result.1) (W.log writer) (W.log result.2)) }
     ensures caused { IfErr result.0 (λ e. CopyFailed (error_kind e) (R.log reader) (R.log result.1) (W.log writer) (W.log result.2)) }
     ensures a_beginning { IsBeginning (R.log reader) (R.log result.1) (W.log writer) (W.log result.2) }
@@ -54,7 +53,7 @@ fn buffered_reader<R: TellRead>(
     cap: usize,
     reader: R,
 ) -> Result<BufReader<R>, MakeError<R>>
-    requires { cap ≤ MAX_CAPACITY }
+    requires { cap ≤ GREATEST_CAPACITY }
     ensures made { IfOk result (λ r. IsFresh cap (reader_block r)) }
     ensures inner { IfOk result (λ r. reader_inner r ≡ reader) }
     ensures handed_back { IfErr result (λ e. e.0 ≡ reader) }
@@ -73,7 +72,7 @@ fn buffered_writer<W: TellWrite>(
     cap: usize,
     writer: W,
 ) -> Result<BufWriter<W>, MakeError<W>>
-    requires { cap ≤ MAX_CAPACITY }
+    requires { cap ≤ GREATEST_CAPACITY }
     ensures made { IfOk result (λ w. IsFresh cap (writer_block w)) }
     ensures inner { IfOk result (λ w. writer_inner w ≡ writer) }
     ensures handed_back { IfErr result (λ e. e.0 ≡ writer) }
@@ -103,7 +102,7 @@ fn copy_all<R: TellRead, W: TellWrite>(
     ensures failed { IfErr result (λ e. StreamFailed (R.log (reader_inner source.old)) (R.log (reader_inner source.new))
         (W.log (writer_inner target.old)) (W.log (writer_inner target.new))
         ⊎ MovedTooMuch (error_kind e) (reader_state R.log source.old) (reader_state R.log source.new)
-          (writer_state W.log target.old) (writer_state W.log target.new)) }
+        (writer_state W.log target.old) (writer_state W.log target.new)) }
 {
     let total = copy_turns(source, target)?;
     if source.buf_len() > 0 {
@@ -131,7 +130,7 @@ fn copy_turns<R: TellRead, W: TellWrite>(
     ensures failed { IfErr result (λ e. StreamFailed (R.log (reader_inner source.old)) (R.log (reader_inner source.new))
         (W.log (writer_inner target.old)) (W.log (writer_inner target.new))
         ⊎ MovedTooMuch (error_kind e) (reader_state R.log source.old) (reader_state R.log source.new)
-          (writer_state W.log target.old) (writer_state W.log target.new)) }
+        (writer_state W.log target.old) (writer_state W.log target.new)) }
     ensures refused { OnOk result (0 < length (reader_block source.new).bytes
         → WriterFailed (W.log (writer_inner target.old)).writes (W.log (writer_inner target.new)).writes) }
 {
@@ -176,4 +175,17 @@ fn copy_turn<R: TellRead, W: TellWrite>(
     };
     source.consume(taken);
     Ok(taken)
+}
+
+/// How a run ends that gave this answer.
+pub fn ending(answer: &io::Result<u64>) -> Ending
+    ensures done { OnOk answer.now (result ≡ Ending.Done) }
+    ensures memory { IfErr answer.now (λ e. error_kind e ≡ ErrorKind.OutOfMemory → result ≡ Ending.Memory) }
+    ensures failed { IfErr answer.now (λ e. error_kind e ≢ ErrorKind.OutOfMemory → result ≡ Ending.Failed) }
+{
+    match answer {
+        Ok(_) => Ending::Done,
+        Err(e) if e.kind() == ErrorKind::OutOfMemory => Ending::Memory,
+        Err(_) => Ending::Failed,
+    }
 }

@@ -19,4 +19,5 @@ pub use redux_buffer::{
     RING_UNIT, RawBuf, SliceDequeBuf, StdBuf,
 };
 pub use redux_buffer::laws;
+pub use redux_buffer::script;
 pub use redux_buffer::tell;

@@ -1,4 +1,3 @@
-use Rattle.std.proofs.Common.{ap, sym}
 use Rattle.bufcopy.proofs.Moving.{counts_rise}
 use Rattle.bufcopy.proofs.run.copy_turn.Goals as goal
 

@@ -7,7 +7,7 @@ use Rattle.bufcopy.proofs.run.copy_turns.Given as goal
 abbrev pub invariant-turns : goal.invariant-turns
 invariant-turns g l = record {
   moved : MovedBy l.total (reader_state g.R.Tell.log l.initial.source) (reader_state g.R.Tell.log l.source)
-    (writer_state g.W.Tell.log l.initial.target) (writer_state g.W.Tell.log l.target);
+      (writer_state g.W.Tell.log l.initial.target) (writer_state g.W.Tell.log l.target);
   rise : CountsRise (g.R.Tell.log l.initial.source.inner) (g.R.Tell.log l.source.inner) (g.W.Tell.log l.initial.target.inner) (g.W.Tell.log l.target.inner);
   source_capacity : 0 < l.source.buf.capacity;
   target_capacity : 0 < l.target.buf.capacity;

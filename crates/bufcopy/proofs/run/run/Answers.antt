@@ -12,4 +12,4 @@ pub returns-clause-a_beginning : goal.returns-clause-a_beginning
 returns-clause-a_beginning g c =
     let moves = c.copy_all-answer.ensures.moves in
     rw (c.into_inner_with_buffer-reader-2.ensures.inner, c.into_inner_with_buffer-writer.ensures.inner, ← c.in-Ok.ensures.inner, ← c.in-Ok-buffered_writer.ensures.inner)
-        (beginning moves.0 _ _ _ _ moves.1 c.in-Ok.ensures.made.bytes c.in-Ok-buffered_writer.ensures.made.bytes)
+    (beginning moves.0 _ _ _ _ moves.1 c.in-Ok.ensures.made.bytes c.in-Ok-buffered_writer.ensures.made.bytes)

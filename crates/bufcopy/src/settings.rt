@@ -1,0 +1,102 @@
+//! What the words after the program's name ask for.
+ghost use Rattle.std.specs.Prelude.{◌≡◌, ◌↔◌, ℕ, Bool, Some, map, SomeIff, string_bytes};
+ghost use Rattle.std.specs.Str.Parse.{digits_value};
+ghost use Rattle.bufcopy.specs.Settings.{AskFor, IsCapacity, NamesBuffer};
+
+use buffer_redux::DEFAULT_BUF_SIZE;
+
+// The capacity where no word says one.
+const DEFAULT_CAPACITY: usize = DEFAULT_BUF_SIZE;
+
+/// The greatest capacity that may be asked for, in bytes.
+pub const GREATEST_CAPACITY: usize = 1048576;
+
+// The most digits that a capacity may have.
+const GREATEST_LENGTH: usize = 7;
+
+/// Whether the words after the program's name want a ring, and the capacity that they want: an optional `std` or `ring`,
+/// then an optional capacity, and nothing else. Without words it is `std`, and 8192 bytes.
+pub fn settings(words: &[String]) -> Option<(bool, usize)>
+    ensures { (ring : Bool) (capacity : ℕ) →
+        (result ≡ Some (ring, capacity)) ↔ AskFor (map string_bytes words.now) ring capacity }
+{
+    match words {
+        [] => Some((false, DEFAULT_CAPACITY)),
+        [word] => match buffer(word.as_str()) {
+            Some(ring) => Some((ring, DEFAULT_CAPACITY)),
+            None => Some((false, capacity(word.as_str())?)),
+        },
+        [first, last] => Some((buffer(first.as_str())?, capacity(last.as_str())?)),
+        _ => None,
+    }
+}
+
+// Whether the buffer that this word names is a ring.
+fn buffer(word: &str) -> Option<bool>
+    ensures { (ring : Bool) → (result ≡ Some ring) ↔ NamesBuffer word.now ring }
+{
+    match word {
+        "ring" => Some(true),
+        "std" => Some(false),
+        _ => None,
+    }
+}
+
+// The capacity that this word is.
+fn capacity(word: &str) -> Option<usize>
+    ensures { SomeIff result (IsCapacity word.now) (digits_value 10 word.now) }
+{
+    // `parse` alone would take a sign.
+    if word.len() > GREATEST_LENGTH || !word.bytes().all(|byte| byte.is_ascii_digit()) {
+        return None;
+    }
+    let capacity = word.parse::<usize>().ok()?;
+    if capacity == 0 || capacity > GREATEST_CAPACITY {
+        return None;
+    }
+    Some(capacity)
+}
+
+#[cfg(test)]
+mod tests {
+    use super::*;
+    use std::alloc::{AllocError, Global};
+    use std::test::Fail;
+
+    fn asked(alloc: Global, words: &[&str]) -> Result<Option<(bool, usize)>, AllocError> {
+        let mut owned = Vec::new(alloc);
+        for word in words {
+            owned.push(String::from_str(alloc, *word)?)?;
+        }
+        Ok(settings(owned.as_slice()))
+    }
+
+    #[test]
+    fn reads_the_words(rt: HostRuntime) -> Result<(), Fail> {
+        for (words, want) in [
+            ([].as_slice(), Some((false, 8192))),
+            (["std"].as_slice(), Some((false, 8192))),
+            (["ring"].as_slice(), Some((true, 8192))),
+            (["64"].as_slice(), Some((false, 64))),
+            (["1"].as_slice(), Some((false, 1))),
+            (["0000064"].as_slice(), Some((false, 64))),
+            (["1048576"].as_slice(), Some((false, 1048576))),
+            (["ring", "64"].as_slice(), Some((true, 64))),
+            (["std", "64"].as_slice(), Some((false, 64))),
+            ([""].as_slice(), None),
+            (["Ring"].as_slice(), None),
+            (["64 "].as_slice(), None),
+            (["00000064"].as_slice(), None),
+            (["std", "0"].as_slice(), None),
+            (["ring", "1048577"].as_slice(), None),
+            (["std", "+5"].as_slice(), None),
+            (["ring", "std"].as_slice(), None),
+            (["64", "std"].as_slice(), None),
+            (["64", "64"].as_slice(), None),
+            (["std", "64", "1"].as_slice(), None),
+        ] {
+            assert_eq!(rt; asked(rt.alloc(), words)?, want, "of {words:?}");
+        }
+        Ok(())
+    }
+}

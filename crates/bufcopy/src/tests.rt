@@ -1,0 +1,155 @@
+//! Whole runs.
+ghost use Rattle.std.specs.Prelude.{◌≤◌};
+
+use crate::ending::Ending;
+use crate::run::{ending, run};
+use buffer_redux::script::{Answer, ScriptReader, ScriptWriter};
+use buffer_redux::tell::Told;
+use std::alloc::{AllocError, Global};
+use std::io;
+use std::io::ErrorKind;
+use std::test::Fail;
+
+// What a run answered, and what its streams gave, took and were asked.
+#[derive(Drop)]
+struct Ran {
+    answer: io::Result<u64>,
+    reader: ScriptReader,
+    writer: ScriptWriter,
+}
+
+fn tried(
+    alloc: Global,
+    ring: bool,
+    cap: usize,
+    bytes: &[u8],
+    reads: &[Answer],
+    writes: &[Answer],
+) -> Result<Ran, AllocError>
+    requires some { 1 ≤ cap }
+    requires most { cap ≤ 1048576 }
+{
+    let reader = Told::new(ScriptReader::new(alloc, bytes, reads)?);
+    let writer = Told::new(ScriptWriter::new(alloc, writes)?);
+    let (answer, reader, writer) = run(alloc, ring, cap, reader, writer);
+    Ok(Ran {
+        answer,
+        reader: reader.into_inner(),
+        writer: writer.into_inner(),
+    })
+}
+
+#[test]
+fn copies_two_lines(rt: HostRuntime) -> Result<(), Fail> {
+    for ring in [false, true] {
+        let text = b"one\ntwo\n".as_slice();
+        let ran = tried(rt.alloc(), ring, 8192, text, &[], &[])?;
+        assert_eq!(rt; ran.answer?, 8);
+        assert_eq!(rt; ran.writer.taken(), text);
+        assert_eq!(rt; ran.writer.flushes(), 1);
+    }
+    Ok(())
+}
+
+#[test]
+fn copies_around_the_capacity(rt: HostRuntime) -> Result<(), Fail> {
+    for cap in [1, 2, 3, 4095, 4096, 4097, 8192] {
+        for len in [cap - 1, cap, cap + 1, 2 * cap, 10000] {
+            let mut bytes = Vec::new(rt.alloc());
+            for i in 0..len {
+                bytes.push((i % 251) as u8)?;
+            }
+            for ring in [false, true] {
+                let ran = tried(rt.alloc(), ring, cap, bytes.as_slice(), &[], &[])?;
+                assert_eq!(rt; ran.answer?, len as u64);
+                assert!(rt;
+                    ran.writer.taken() == bytes.as_slice(),
+                    "{len} bytes through {cap}"
+                );
+            }
+        }
+    }
+    Ok(())
+}
+
+#[test]
+fn tells_how_a_run_ended(rt: HostRuntime) {
+    for (answer, want, status, line) in [
+        (Ok(7), Ending::Done, 0, ""),
+        (
+            Err(io::Error::from(ErrorKind::WriteZero)),
+            Ending::Failed,
+            1,
+            "bufcopy: read or write failed",
+        ),
+        (
+            Err(io::Error::from(ErrorKind::OutOfMemory)),
+            Ending::Memory,
+            3,
+            "bufcopy: out of memory",
+        ),
+    ] {
+        let ending = ending(&answer);
+        assert_eq!(rt; ending, want);
+        assert_eq!(rt; ending.status(), status, "of {ending:?}");
+        assert_eq!(rt; ending.line(), line, "of {ending:?}");
+    }
+    assert_eq!(rt; Ending::Usage.status(), 2);
+    assert_eq!(rt;
+        Ending::Usage.line(),
+        "usage: bufcopy [std|ring] [CAPACITY]"
+    );
+}
+
+#[test]
+fn ends_at_the_first_fault(rt: HostRuntime) -> Result<(), Fail> {
+    let other = Answer::Fail(ErrorKind::Other);
+    let interrupted = Answer::Fail(ErrorKind::Interrupted);
+    let two = Answer::Serve(2);
+    let none: &[Answer] = &[];
+    for (bytes, reads, writes, kind, taken) in [
+        // A write takes nothing of something.
+        (
+            b"abc".as_slice(),
+            none,
+            [Answer::ServeEach(0)].as_slice(),
+            ErrorKind::WriteZero,
+            b"".as_slice(),
+        ),
+        // A read fails: the first, the second, the third, and the one at the end.
+        (b"abcdef", &[other], none, ErrorKind::Other, b""),
+        (b"abcdef", &[two, other], none, ErrorKind::Other, b"ab"),
+        (
+            b"abcdef",
+            &[two, two, other],
+            none,
+            ErrorKind::Other,
+            b"abcd",
+        ),
+        (
+            b"abcdef",
+            &[two, two, two, other],
+            none,
+            ErrorKind::Other,
+            b"abcdef",
+        ),
+        // A write fails.
+        (b"abcdef", none, &[other], ErrorKind::Other, b""),
+        (b"abcdef", none, &[two, other], ErrorKind::Other, b"ab"),
+        (
+            b"abcdef",
+            none,
+            &[two, two, other],
+            ErrorKind::Other,
+            b"abcd",
+        ),
+        // Every fault ends a run, `Interrupted` too.
+        (b"abcdef", &[interrupted], none, ErrorKind::Interrupted, b""),
+    ] {
+        let ran = tried(rt.alloc(), false, 2, bytes, reads, writes)?;
+        assert_eq!(rt; ran.answer.as_ref().err().map(io::Error::kind), Some(kind));
+        assert_eq!(rt; ran.writer.taken(), taken, "after {kind:?}");
+        assert_eq!(rt; ending(&ran.answer), Ending::Failed);
+    }
+    Ok(())
+}
