@@ -1,12 +1,12 @@
 -- What contracts see of a buffer, and what its calls do to it.
-use Rattle.std.specs.Prelude.{◌≡◌, ℕ, ◌+◌, ◌-◌, ◌*◌, ◌/◌, ◌^◌, ◌<◌, ◌≤◌, ◌==◌, ◌||◌, nat_le, nat_lt, min, if◌then◌else◌, List, [], ◌++◌, length, take, drop, ⊤}
+use Rattle.std.specs.Prelude.{◌≡◌, ℕ, Bool, true, ◌+◌, ◌-◌, ◌*◌, ◌/◌, ◌^◌, ◌<◌, ◌≤◌, ◌==◌, ◌||◌, nat_le, nat_lt, min, if◌then◌else◌, List, [], ◌++◌, length, take, drop, ⊤}
 
 -- a plain buffer moves its bytes only when asked, a ring has all its free space behind its bytes
 pub data Kind : Type 0 where
   Plain : Kind
   Ring : Kind
 
--- the bytes, the tail that `write_buf` would lend now, the capacity and its limit, and two counts: how many bytes were
+-- the bytes, the tail that `write_buf` would lend now and whether it stands right behind the bytes, the capacity and its limit, and two counts: how many bytes were
 -- consumed, and how many a call moved to another place in the storage
 pub record Block : Type 0 where
   pub bytes : List ℕ
@@ -14,6 +14,7 @@ pub record Block : Type 0 where
   pub capacity : ℕ
   pub limit : ℕ
   pub kind : Kind
+  pub tail_behind : Bool
   pub consumed : ℕ
   pub moved : ℕ
 
@@ -88,20 +89,18 @@ refilled xs ws = take (length xs) (ws ++ drop (length ws) xs)
 abbrev pub drawn : Placed → Placed
 drawn p = by_kind p.block.kind p (
     if nat_lt p.block.capacity p.place
-    then record { block = record p.block { moved = p.block.moved + length p.block.bytes }; place = 0 }
+    then record { block = record p.block { moved = p.block.moved + length p.block.bytes; tail_behind = true }; place = 0 }
     else p)
 
 -- p with ws written over its tail
 abbrev pub with_tail : Placed → List ℕ → Placed
 with_tail p ws = let q = drawn p in record q { block = record q.block { tail = refilled p.block.tail ws } }
 
--- p with ws written over its bytes. A ws that is longer, which no loan leaves, goes on into the tail where that is behind them
-abbrev pub with_bytes : Placed → List ℕ → Placed
-with_bytes p ws = record p {
-  block = record p.block {
-    bytes = refilled p.block.bytes ws;
-    tail = if nat_lt p.block.capacity p.place then p.block.tail else refilled p.block.tail (drop (length p.block.bytes) ws);
-  };
+-- b with ws written over its bytes. A ws that is longer, which no loan leaves, goes on into a tail that is behind them
+abbrev pub with_bytes : Block → List ℕ → Block
+with_bytes b ws = record b {
+  bytes = refilled b.bytes ws;
+  tail = if b.tail_behind then refilled b.tail (drop (length b.bytes) ws) else b.tail;
 }
 
 -- the first n bytes of the tail become the last bytes
@@ -179,6 +178,16 @@ pub record Adds (xs : List ℕ) (old new : Block) : Type 0 where
 abbrev pub place_of : Block → ℕ
 place_of b = b.capacity - usable b - length b.bytes
 
--- a plain block that is settled counts its bytes as moved, unless they stood at the front
+-- a plain block that is settled counts its bytes as moved, unless they stood at the front; a ring moves none
 abbrev pub MovesToFront : Block → Block → Type 0
-MovesToFront old new = OnKind old.kind (new.moved ≡ old.moved + (if place_of old == 0 then 0 else length old.bytes)) (old.moved ≤ new.moved)
+MovesToFront old new = new.moved ≡ old.moved + by_kind old.kind (if place_of old == 0 then 0 else length old.bytes) 0
+
+-- all but the bytes of the tail is as before
+pub record Same (old new : Block) : Type 0 where
+  pub bytes : new.bytes ≡ old.bytes
+  pub usable : usable new ≡ usable old
+  pub capacity : new.capacity ≡ old.capacity
+  pub limit : new.limit ≡ old.limit
+  pub kind : new.kind ≡ old.kind
+  pub consumed : new.consumed ≡ old.consumed
+  pub moved : new.moved ≡ old.moved

@@ -1,5 +1,6 @@
 -- What a stream tells of its own calls, and what each call adds to it.
 use Rattle.std.specs.Prelude.{◌≡◌, ℕ, ◌+◌, ◌≤◌, List, [], ◌∷◌, ◌++◌, length, take, drop, Result, Ok, Err, ◌&&◌, ◌==◌, nat_lt, if◌then◌else◌}
+use Rattle.std.specs.Borrow.{Bor}
 use Rattle.std.specs.IoError.{error_kind}
 use Rattle.std.specs.declared.io.Error.{Error}
 use Rattle.std.specs.declared.io.ErrorKind.{ErrorKind}
@@ -130,6 +131,23 @@ after_shown log bytes = record log {
     faults = log.fills.faults;
   };
 }
+
+-- after `fill_buf()` answered this error, with these bytes shown by then
+abbrev pub after_fill_fault : StreamLog → List ℕ → Error → StreamLog
+after_fill_fault log shown e = record log {
+  fills = record {
+    shown = shown;
+    consumed = log.fills.consumed;
+    ends = log.fills.ends;
+    faults = log.fills.faults ++ error_kind e ∷ [];
+  };
+}
+
+-- what `fill_buf()` makes of a log, once its slice is given back. What is shown after an `Err` is left open: bytes may
+-- have come before the fault
+abbrev pub FillTells : StreamLog → Result (Bor (List ℕ)) Error → StreamLog → Type 0
+FillTells old (Ok bytes) new = new ≡ after_shown old bytes.now
+FillTells old (Err e) new = (shown : List ℕ) × (new ≡ after_fill_fault old shown e)
 
 -- the lists of bytes and of faults only go on, and the counts only rise
 pub record ReadLogGrows (old new : ReadLog) : Type 0 where

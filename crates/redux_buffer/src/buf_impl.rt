@@ -114,7 +114,7 @@ impl BufImpl {
     /// The bytes, for writing.
     pub fn buf_mut(&mut self) -> &mut [u8]
         ensures* writes_back { sem 𝓛 (Lends the_row (Array u8 0) self.entry result
-            (λ w. with_placed self.old (with_bytes (placed self.old) w))) }
+            (λ w. with_placed self.old (record (placed self.old) { block = with_bytes (placed self.old).block w }))) }
         ensures value { result.now ≡ (placed self.old).block.bytes }
     {
         match self {
@@ -150,6 +150,7 @@ impl BufImpl {
     /// Makes all free space usable: a plain buffer moves its bytes to the front, a ring does nothing.
     pub fn make_room(&mut self)
         ensures bytes { Settles (placed self.old).block (placed self.new).block }
+        ensures ring { (placed self.old).block.kind ≡ Ring → placed self.new ≡ placed self.old }
         ensures shift { CountsShift 0 (placed self.old) (placed self.new) }
         ensures whole { IsPlaced (placed self.new) }
     {

@@ -1,7 +1,9 @@
 //! The buffer that readers and writers hold.
 ghost use Rattle.std.specs.Prelude.{◌≡◌, ◌+◌, ◌-◌, ◌*◌, ◌^◌, ◌≤◌, ◌<◌, ◌↔◌, ℕ, List, [], ◌++◌, length, min, take, drop, IsTrue, IfOk, IsOk, IsOkUnless, OnOk, OnErr, MatchResult, nat_le, if◌then◌else◌};
+ghost use Rattle.std.specs.Borrow.{Lends, Array, sem, u8};
 ghost use Rattle.redux_buffer.specs.Grow.{FitsWithin};
-ghost use Rattle.redux_buffer.specs.Block.{Plain, Ring, IsBlock, IsNew, Takes, Grows, Settles, Keeps, Adds, MovesOnlyRing, MovesToFront, usable, capacity_for, round};
+ghost use Rattle.redux_buffer.specs.contracts.buffer.Buffer.{the_row};
+ghost use Rattle.redux_buffer.specs.Block.{Plain, with_bytes, Ring, IsBlock, IsNew, Takes, Grows, Settles, Keeps, Adds, MovesOnlyRing, MovesToFront, usable, capacity_for, round};
 
 use crate::DEFAULT_BUF_SIZE;
 use crate::buf_impl::BufImpl;
@@ -134,6 +136,14 @@ impl Buffer {
         ensures { result.now ≡ self.now.bytes }
     {
         self.imp.buf()
+    }
+
+    /// The bytes, for writing.
+    pub fn buf_mut(&mut self) -> &mut [u8]
+        ensures* writes_back { sem 𝓛 (Lends the_row (Array u8 0) self.entry result (with_bytes self.old)) }
+        ensures value { result.now ≡ self.old.bytes }
+    {
+        self.imp.buf_mut()
     }
 
     /// Makes all free space usable: a plain buffer moves its bytes to the front, a ring does nothing.

@@ -1,6 +1,6 @@
-//! Laws of the buffer, each as the contract of a function that does nothing.
-ghost use Rattle.std.specs.Prelude.{◌≡◌, ◌≤◌};
-ghost use Rattle.redux_buffer.specs.Block.{Ring};
+//! Laws of the buffer, each as the contract of a function over its calls.
+ghost use Rattle.std.specs.Prelude.{◌≡◌, ◌-◌, ◌≤◌, [], length, min, take};
+ghost use Rattle.redux_buffer.specs.Block.{Ring, Same, usable};
 
 use crate::buffer::Buffer;
 
@@ -9,4 +9,22 @@ pub fn ring_law(buffer: &Buffer)
     ensures { buffer.now.kind ≡ Ring → buffer.now.moved ≤ buffer.now.consumed }
 {
     let _ = buffer.len();
+}
+
+/// Making room where all free space is usable changes nothing, as it is after making room.
+pub fn make_room_again(buffer: &mut Buffer)
+    requires { usable buffer.old ≡ buffer.old.capacity - length buffer.old.bytes }
+    ensures { Same buffer.old buffer.new }
+{
+    buffer.make_room();
+}
+
+/// What is copied into an empty buffer and out of it again are the bytes that fitted.
+pub fn copy_through(buffer: &mut Buffer, src: &[u8], out: &mut [u8]) -> usize
+    requires { buffer.old.bytes ≡ [] }
+    ensures count { result ≡ min (usable buffer.old) (min (length src.now) (length out.old)) }
+    ensures bytes { take result out.new ≡ take result src.now }
+{
+    let _ = buffer.copy_from_slice(src);
+    buffer.copy_to_slice(out)
 }

@@ -31,7 +31,7 @@ pub struct SliceDequeBuf {
 }
 
 impl Model for SliceDequeBuf {
-    ghost use Rattle.std.specs.Prelude.{◌≡◌, ◌+◌, ◌≤◌, ◌^◌, length, drop, slice_range};
+    ghost use Rattle.std.specs.Prelude.{◌≡◌, ◌+◌, ◌≤◌, ◌^◌, true, length, slice_range};
     ghost use Rattle.redux_buffer.specs.Block.{Placed, Ring};
 
     ghost Value = { Placed };
@@ -43,6 +43,7 @@ impl Model for SliceDequeBuf {
         capacity = b.cap;
         limit = 2 ^ 61;
         kind = Ring;
+        tail_behind = true;
         consumed = b.consumed.total;
         moved = b.moved.total;
       };
@@ -132,7 +133,8 @@ impl SliceDequeBuf {
 
     /// The bytes, for writing.
     pub fn buf_mut(&mut self) -> &mut [u8]
-        ensures* writes_back { sem 𝓛 (Lends the_row (Array u8 0) self.entry result (with_bytes self.old)) }
+        ensures* writes_back { sem 𝓛 (Lends the_row (Array u8 0) self.entry result
+            (λ w. record self.old { block = with_bytes self.old.block w })) }
         ensures value { result.now ≡ self.old.block.bytes }
     {
         let start = self.head;
@@ -177,6 +179,7 @@ impl SliceDequeBuf {
 
     /// Does nothing: all free space can be written as it is.
     pub fn make_room(&mut self)
+        ensures unchanged { self.new ≡ self.old }
         ensures bytes { Settles self.old.block self.new.block }
         ensures shift { CountsShift 0 self.old self.new }
         ensures whole { IsPlaced self.new }

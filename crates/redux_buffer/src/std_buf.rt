@@ -25,13 +25,13 @@ pub struct StdBuf {
 }
 
 impl Model for StdBuf {
-    ghost use Rattle.std.specs.Prelude.{◌≡◌, ◌≤◌, ◌^◌, length, drop, slice_range};
+    ghost use Rattle.std.specs.Prelude.{◌≡◌, ◌≤◌, ◌^◌, true, length, drop, slice_range};
     ghost use Rattle.redux_buffer.specs.Block.{Placed, Plain};
 
     ghost Value = { Placed };
 
     ghost view = { λ b. record {
-      block = record { bytes = slice_range b.buf b.pos b.end; tail = drop b.end b.buf; capacity = length b.buf; limit = 2 ^ 62; kind = Plain; consumed = b.consumed.total; moved = b.moved.total };
+      block = record { bytes = slice_range b.buf b.pos b.end; tail = drop b.end b.buf; capacity = length b.buf; limit = 2 ^ 62; kind = Plain; tail_behind = true; consumed = b.consumed.total; moved = b.moved.total };
       place = b.pos;
     } };
 
@@ -110,7 +110,8 @@ impl StdBuf {
 
     /// The bytes, for writing.
     pub fn buf_mut(&mut self) -> &mut [u8]
-        ensures* writes_back { sem 𝓛 (Lends the_row (Array u8 0) self.entry result (with_bytes self.old)) }
+        ensures* writes_back { sem 𝓛 (Lends the_row (Array u8 0) self.entry result
+            (λ w. record self.old { block = with_bytes self.old.block w })) }
         ensures value { result.now ≡ self.old.block.bytes }
     {
         let (start, end) = (self.pos, self.end);
@@ -150,6 +151,7 @@ impl StdBuf {
         ensures bytes { Settles self.old.block self.new.block }
         ensures shift { CountsShift 0 self.old self.new }
         ensures whole { IsPlaced self.new }
+        ensures kind { self.new.block.kind ≡ Plain }
     {
         if self.pos == 0 {
             return;

@@ -9,5 +9,5 @@ mod streams;
 mod told;
 
 pub use log::{Call, CallLog};
-pub use streams::{Tell, TellRead, TellSeek, TellWrite};
+pub use streams::{Tell, TellBufRead, TellRead, TellSeek, TellWrite};
 pub use told::Told;

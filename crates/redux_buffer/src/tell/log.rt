@@ -7,13 +7,17 @@ use std::io;
 use std::marker::Model;
 use std::mem::size_of;
 
-/// One call of a stream with its answer. A `Read` has the slice as the call left it.
+/// One call of a stream with its answer. A `Read` has the slice as the call left it, and a fill is `Shown` or a
+/// `FillFault`.
 #[derive(Clone, Copy, Drop)]
 pub enum Call<'a> {
     Read(&'a [u8], &'a io::Result<usize>),
     Write(&'a [u8], &'a io::Result<usize>),
     Flush(&'a io::Result<()>),
     Seek(&'a io::Result<u64>),
+    Shown(&'a [u8]),
+    FillFault(&'a [u8], &'a io::Error),
+    Consume(usize),
 }
 
 /// What a stream was asked and what it answered so far, as clauses read it in `log`.

@@ -1,7 +1,9 @@
 //! The calls of std's streams, under contracts that tell of each call.
 ghost use Rattle.std.specs.Prelude.{◌≡◌};
 ghost use Rattle.std.specs.Io.{ReadsAtMost, WritesAtMost};
-ghost use Rattle.redux_buffer.specs.StreamLog.{StreamLog, after_read, after_write, after_flush, after_seek, WritesGoOn};
+ghost use Rattle.std.specs.Borrow.{sem};
+ghost use Rattle.std.specs.Io.BufRead.{Rests};
+ghost use Rattle.redux_buffer.specs.StreamLog.{StreamLog, after_read, after_write, after_flush, after_seek, after_consume, FillTells, WritesGoOn};
 
 use std::io;
 use std::io::SeekFrom;
@@ -44,6 +46,28 @@ pub trait TellWrite: Tell {
 
     // In a stretch the log only goes on.
     ghost stretch_grows: { (s t : Self) → stretch s t → WritesGoOn (Self.log s) (Self.log t) };
+}
+
+/// An honest buffered reader: what a fill shows is what is consumed next.
+pub trait TellBufRead: Tell {
+    // What any calls, one after another, may do to the reader.
+    ghost stretch: { Self → Self → Type 0 };
+
+    /// [`BufRead::fill_buf`](std::io::BufRead::fill_buf).
+    fn fill_told(&mut self) -> io::Result<&[u8]>
+        ensures* after_borrow { sem 𝓛 (Rests Self.row self.entry (λ new.
+            FillTells (Self.log self.old) result (Self.log new) × stretch self.old new)) };
+
+    /// [`BufRead::consume`](std::io::BufRead::consume).
+    fn consume_told(&mut self, amount: usize)
+        ensures told { Self.log self.new ≡ after_consume (Self.log self.old) amount }
+        ensures stretch { stretch self.old self.new };
+
+    // No call is a stretch too.
+    ghost stretch_none: { (s : Self) → stretch s s };
+
+    // Two stretches join.
+    ghost stretch_joins: { (a b c : Self) → stretch a b → stretch b c → stretch a c };
 }
 
 /// A seeker that tells of its faults.

@@ -1,5 +1,5 @@
 //! The kinds of buffer by themselves.
-use crate::{BufImpl, GrowError, RawBuf, SliceDequeBuf, StdBuf};
+use crate::{BufImpl, Buffer, GrowError, RawBuf, SliceDequeBuf, StdBuf, laws};
 use std::process::Abort;
 use std::test::Fail;
 
@@ -71,5 +71,27 @@ fn raw(rt: HostRuntime) -> Result<(), Fail> {
     raw.as_mut_slice().fill(7);
     raw.reserve(1)?;
     assert_eq!(rt; raw.as_slice(), [7, 7, 0].as_slice());
+    Ok(())
+}
+
+#[test]
+fn whole(rt: HostRuntime) -> Result<(), Fail> {
+    let mut whole = Buffer::with_capacity(rt.alloc(), 4)?;
+    assert_eq!(rt; whole.copy_from_slice(&[1, 2, 3]), 3);
+    whole.buf_mut()[..2].fill(8);
+    whole.consume(1);
+    whole.make_room();
+    laws::make_room_again(&mut whole);
+    assert_eq!(rt; whole.buf(), [8, 3].as_slice());
+    assert_eq!(rt; whole.usable_space(), 2);
+    Ok(())
+}
+
+#[test]
+fn through(rt: HostRuntime) -> Result<(), Fail> {
+    let mut empty = Buffer::with_capacity(rt.alloc(), 4)?;
+    let mut out = [0u8; 5];
+    assert_eq!(rt; laws::copy_through(&mut empty, &[1, 2, 3, 4, 5], &mut out), 4);
+    assert_eq!(rt; out, [1, 2, 3, 4, 0]);
     Ok(())
 }

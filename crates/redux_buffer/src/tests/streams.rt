@@ -1,6 +1,9 @@
 //! The scripted streams, and the streams that tell.
+ghost use Rattle.std.specs.Prelude.{⊤};
+
 use crate::script::{Answer, ScriptReader, ScriptWriter};
-use crate::tell::{TellRead, TellSeek, TellWrite, Told};
+use crate::tell::{Call, CallLog, Tell, TellBufRead, TellRead, TellSeek, TellWrite, Told};
+use std::io;
 use std::io::{Cursor, ErrorKind, SeekFrom};
 use std::test::Fail;
 
@@ -67,5 +70,52 @@ fn printed(rt: HostRuntime) -> Result<(), Fail> {
         format!(in rt.alloc(); "{told:?}")?.as_str(),
         "Told { stream: Serve(1) }"
     );
+    Ok(())
+}
+
+// A buffered reader that holds all its bytes from the first.
+#[derive(Drop)]
+struct Page<'a> {
+    left: &'a [u8],
+    calls: CallLog,
+}
+
+impl Tell for Page<'_> {
+    ghost log = { λ s. s.calls.log };
+}
+
+impl TellBufRead for Page<'_> {
+    ghost stretch = { λ _ _. ⊤ };
+
+    fn fill_told(&mut self) -> io::Result<&[u8]> {
+        self.calls.note(&Call::Shown(self.left));
+        Ok(self.left)
+    }
+
+    fn consume_told(&mut self, amount: usize) {
+        self.left = &self.left[amount.min(self.left.len())..];
+        self.calls.note(&Call::Consume(amount));
+    }
+
+    ghost stretch_none = { λ _. tt };
+
+    ghost stretch_joins = { λ _ _ _ _ _. tt };
+}
+
+fn shown_len<B: TellBufRead>(reader: &mut B) -> io::Result<usize> {
+    Ok(reader.fill_told()?.len())
+}
+
+#[test]
+fn buffered(rt: HostRuntime) -> Result<(), Fail> {
+    let mut page = Page {
+        left: &[1, 2, 3],
+        calls: CallLog::new(),
+    };
+    assert_eq!(rt; shown_len(&mut page)?, 3);
+    page.consume_told(2);
+    assert_eq!(rt; page.fill_told()?, [3].as_slice());
+    page.consume_told(usize::MAX);
+    assert_eq!(rt; shown_len(&mut page)?, 0);
     Ok(())
 }
