@@ -86,7 +86,7 @@ module _ {P : Type 0} (table : ReadTable P) (claims : P → ReadClaims) where
   steady_ok : {A : Type 0} (k : ℕ) (s m t : ReaderState P) (a : A) → (claims m.policy).steady ≡ true
       → TurnsFacts (read_ask table claims) k s m → Ends (read_ask table claims) m (Ok a) t
       → ((claims t.policy).steady ≡ true) × (true ≡ false → length s.log.reads.faults < length t.log.reads.faults)
-        × (true ≡ true → 0 < s.block.capacity → length t.block.bytes ≡ 0 → s.log.reads.zero_answers < t.log.reads.zero_answers)
+      × (true ≡ true → 0 < s.block.capacity → length t.block.bytes ≡ 0 → s.log.reads.zero_answers < t.log.reads.zero_answers)
   steady_ok k s m t a w facts (inl end) =
       let kept = kept_steady m no_read t.policy w end.asked.steady in
       (kept.0, (λ no. cc), (λ _ _ none. let odd = kept.2 (omega (arith, ap length end.lawful.bytes)) in cc))
@@ -101,7 +101,7 @@ module _ {P : Type 0} (table : ReadTable P) (claims : P → ReadClaims) where
   steady_err : (A : Type 0) (k : ℕ) (s m t : ReaderState P) (e : Error) → (claims m.policy).steady ≡ true
       → TurnsFacts (read_ask table claims) k s m → Ends {A = A} (read_ask table claims) m (Err e) t
       → ((claims t.policy).steady ≡ true) × (false ≡ false → length s.log.reads.faults < length t.log.reads.faults)
-        × (false ≡ true → 0 < s.block.capacity → length t.block.bytes ≡ 0 → s.log.reads.zero_answers < t.log.reads.zero_answers)
+      × (false ≡ true → 0 < s.block.capacity → length t.block.bytes ≡ 0 → s.log.reads.zero_answers < t.log.reads.zero_answers)
   steady_err A k s m t e w facts (inl end) =
       let kept = kept_steady m (Err e) t.policy w end.asked.steady in
       let odd = kept.1 in cc
@@ -142,10 +142,13 @@ module _ {P : Type 0} (table : ReadTable P) (claims : P → ReadClaims) where
           kept = kept.0;
           held = on_kind s.block.kind seen.kind (PotentialHeld n s m × SparesPlain n m.block seen) (t.block.moved ≡ seen.moved) (PotentialHeld n s t)
               (kind' ∙ kind)
-              (λ h same. (omega (arith, h.0.0, h.1.0, same), (λ keep le three.
-                  let first = h.0.1 keep le three in
-                  let second = h.1.1 keep le (omega (arith, grown, three)) in
-                  omega (arith, first, second, more, same, capacity, room))))
+              (λ h same. (
+                omega (arith, h.0.0, h.1.0, same),
+                (λ keep le three.
+                    let first = h.0.1 keep le three in
+                    let second = h.1.1 keep le (omega (arith, grown, three)) in
+                    omega (arith, first, second, more, same, capacity, room)),
+              ))
               (on_kind s.block.kind m.block.kind (PotentialHeld n s m) (SparesPlain n m.block seen) (PotentialHeld n s m × SparesPlain n m.block seen) kind (λ x y. (x, y)) before.held kept.1)
               (plain_part seen.kind moved);
         }

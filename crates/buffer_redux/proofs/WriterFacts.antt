@@ -74,7 +74,7 @@ module _ {P : Type 0} where
           let left = ap length sent.dropped.bytes ∙ length-drop (f.sends some.0 some.1).count s.block.bytes in
           let none : (f.sends some.0 some.1).count ≡ 0 = omega (arith, left, sent.within, long) in
           sent.dropped.bytes ∙ ap (λ k. drop k s.block.bytes) none
-        )
+          )
     ]
 
   -- bytes taken in past the buffer, or into it
@@ -88,12 +88,12 @@ module _ {P : Type 0} where
           received = ap (λ l. l.writes.received) direct.told;
           equal = ap (λ l. taken bs answer ++ l) empty ∙ append-nil (taken bs answer) ∙ ap (λ l. l ++ taken bs answer) (sym none);
         }
-      )
+        )
     | inr inside ↦ (
         let copied = f.copied inside in
         PassesOn-added s t (taken bs answer) (ap (λ l. l.writes.received) copied.told)
         (copied.added.bytes ∙ ap (λ l. l ++ taken bs answer) (settled_bytes s t bs answer copied))
-      )
+        )
   ]
     where
       settled_bytes : (s t : WriterState P) (bs : List ℕ) (answer : Result ℕ Error) (copied : Rattle.buffer_redux.specs.BufWriter.Copies bs s.block s.log answer t.block t.log)
@@ -163,7 +163,7 @@ module _ {P : Type 0} where
         let capacity = capacity_stays seen wrote.before (wrote.prepared.amount.0) (Ok tt) wrote.prepared.flush in
         let law = wrote.prepared.lawful in
         let kept : wrote.before.block.bytes ≡ s.block.bytes =
-            bytes_stay seen wrote.before (wrote.prepared.amount.0) (Ok tt) wrote.prepared.flush (omega (arith, settled.usable, full, capacity, wrote.prepared.whole.fits)) ∙ law.bytes in
+        bytes_stay seen wrote.before (wrote.prepared.amount.0) (Ok tt) wrote.prepared.flush (omega (arith, settled.usable, full, capacity, wrote.prepared.whole.fits)) ∙ law.bytes in
         record {
           before = wrote.before;
           prepared = wrote.prepared;

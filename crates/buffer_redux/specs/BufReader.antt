@@ -81,7 +81,7 @@ FillsSteadily claims s ok t = (claims s.policy).steady ≡ true → ((claims t.p
 abbrev pub PotentialHeld : {P : Type 0} → ℕ → ReaderState P → ReaderState P → Type 0
 PotentialHeld n s t = (s.block.moved ≤ t.block.moved)
     × ((keep : ℕ) → n ≤ keep → 3 * keep ≤ s.block.capacity
-      → potential keep t.block + length s.log.reads.given ≤ potential keep s.block + length t.log.reads.given)
+    → potential keep t.block + length s.log.reads.given ≤ potential keep s.block + length t.log.reads.given)
 
 -- under a policy that spares a number the potential of a plain buffer is held
 abbrev pub FillsSparing : {P : Type 0} → (P → ReadClaims) → ReaderState P → ReaderState P → Type 0

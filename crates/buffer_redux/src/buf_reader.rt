@@ -22,6 +22,9 @@ use std::alloc::Global;
 use std::io;
 use std::io::{BufRead, Read};
 
+#[cfg(test)]
+mod tests;
+
 /// A reader with a buffer, which reads ahead as its policy says.
 ///
 /// No byte is lost or changes place: what was handed out, then what is buffered, is what was buffered at first, then
@@ -70,11 +73,7 @@ impl<R> BufReader<R, StdPolicy> {
 
     /// A reader over a ring whose capacity in bytes is the least multiple of [`RING_UNIT`](crate::RING_UNIT) that is at least
     /// `cap`. A refusal hands `inner` back.
-    pub fn with_capacity_ringbuf(
-        alloc: Global,
-        cap: usize,
-        inner: R,
-    ) -> Result<Self, MakeError<R>>
+    pub fn with_capacity_ringbuf(alloc: Global, cap: usize, inner: R) -> Result<Self, MakeError<R>>
         ensures made { IfOk result (λ r. IsNew Ring (round cap) (reader_block r)) }
         ensures inner { IfOk result (λ r. reader_inner r ≡ inner) }
         ensures handed_back { IfErr result (λ e. e.0 ≡ inner) }
@@ -198,7 +197,7 @@ impl<R: TellRead, P: ReaderPolicy> Read for BufReader<R, P> {
             → ReadsDirect (reader_state R.log self.old) out.new result (reader_state R.log self.new) }
         ensures buffered { StaysInside (reader_block self.old) (length out.old)
             → ReadsBuffered P.read_table P.read_claims P.consume_table
-              (reader_state R.log self.old) (length out.old) result (reader_state R.log self.new) }
+            (reader_state R.log self.old) (length out.old) result (reader_state R.log self.new) }
     {
         if self.buf.is_empty() && out.len() >= self.buf.capacity() {
             return self.inner.read_told(out);

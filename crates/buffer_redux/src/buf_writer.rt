@@ -18,6 +18,9 @@ use std::alloc::Global;
 use std::io;
 use std::io::Write;
 
+#[cfg(test)]
+mod tests;
+
 /// A writer with a buffer, which flushes as its policy says.
 ///
 /// No byte is lost or changes place: what the inner writer received, then what is buffered, is what was buffered at
@@ -66,11 +69,7 @@ impl<W: TellWrite> BufWriter<W, StdPolicy> {
 
     /// A writer over a ring whose capacity in bytes is the least multiple of [`RING_UNIT`](crate::RING_UNIT) that is at least
     /// `cap`. A refusal hands `inner` back.
-    pub fn with_capacity_ringbuf(
-        alloc: Global,
-        cap: usize,
-        inner: W,
-    ) -> Result<Self, MakeError<W>>
+    pub fn with_capacity_ringbuf(alloc: Global, cap: usize, inner: W) -> Result<Self, MakeError<W>>
         ensures made { IfOk result (λ w. IsNew Ring (round cap) (writer_block w)) }
         ensures inner { IfOk result (λ w. writer_inner w ≡ inner) }
         ensures handed_back { IfErr result (λ e. e.0 ≡ inner) }

@@ -5,19 +5,17 @@
 //! goes in as a [`Told`](tell::Told).
 #![tactic(auto)]
 
-pub mod policy;
-
 mod buf_reader;
 mod buf_writer;
 mod errors;
+pub mod policy;
+#[cfg(test)]
+mod tests;
 
 pub use buf_reader::BufReader;
 pub use buf_writer::BufWriter;
 pub use errors::MakeError;
 pub use redux_buffer::{
     BufImpl, Buffer, Count, DEFAULT_BUF_SIZE, GrowError, INTERRUPT_LIMIT, MAX_CAPACITY, MAX_RING,
-    RING_UNIT, RawBuf, SliceDequeBuf, StdBuf,
+    RING_UNIT, RawBuf, SliceDequeBuf, StdBuf, laws, script, tell,
 };
-pub use redux_buffer::laws;
-pub use redux_buffer::script;
-pub use redux_buffer::tell;

@@ -9,7 +9,7 @@ abbrev pub invariant-loop-self : goal.invariant-loop-self
 invariant-loop-self g l = record {
   count : ℕ;
   turns : Turns (read_ask g.P.ReaderPolicy.read_table g.P.ReaderPolicy.read_claims) count
-    (reader_state g.R.Tell.log l.initial.self) (reader_state g.R.Tell.log l.self);
+      (reader_state g.R.Tell.log l.initial.self) (reader_state g.R.Tell.log l.self);
 }
 
 abbrev pub decreases-loop-self : goal.decreases-loop-self

@@ -1,0 +1,15 @@
+//! Readers and writers by worked examples, and each public call once.
+mod makers;
+mod reader;
+mod writer;
+
+use redux_buffer::Buffer;
+use std::alloc::Global;
+use std::test::Fail;
+
+/// A plain buffer of this capacity that holds these bytes.
+pub fn holding(alloc: Global, capacity: usize, bytes: &[u8]) -> Result<Buffer, Fail> {
+    let mut buf = Buffer::with_capacity(alloc, capacity)?;
+    let _ = buf.copy_from_slice(bytes);
+    Ok(buf)
+}
