@@ -1,12 +1,12 @@
 -- What follows from the steps of a write.
-use Rattle.std.proofs.Common.{◌≡◌, ℕ, zero, suc, ◌+◌, ◌-◌, ◌<◌, ◌≤◌, ◌⊎◌, List, [], ◌∷◌, ◌++◌, true, length, take, drop, Result, Ok, Err, refl, sym, ap, ◌∙◌, arith, inl, inr, append_assoc, append-nil, length-append, length-drop, min, subst}
+use Rattle.std.proofs.Common.{◌≡◌, ℕ, zero, suc, ◌+◌, ◌<◌, ◌≤◌, ◌⊎◌, List, [], ◌∷◌, ◌++◌, true, length, take, drop, Result, Ok, Err, refl, sym, ap, ◌∙◌, arith, inl, inr, append-nil, length-append, length-drop, min, subst}
 use Rattle.std.proofs.lemmas.List.{take-append-drop}
 use Rattle.std.specs.IoError.{error_kind}
 use Rattle.std.specs.declared.io.Error.{Error}
 use Rattle.std.specs.declared.io.ErrorKind.{ErrorKind}
 use Rattle.redux_buffer.specs.Block.{Block, IsBlock, usable}
-use Rattle.redux_buffer.specs.StreamLog.{StreamLog, taken}
-use Rattle.redux_buffer.specs.Transfer.{DoesNothing, Sends}
+use Rattle.redux_buffer.specs.StreamLog.{taken}
+use Rattle.redux_buffer.specs.Transfer.{Sends}
 use Rattle.buffer_redux.specs.Policy.{Lawful, WriteTable, WrittenTable, WriteClaims, FlushesSteadily, StaysSteady, write_ask}
 use Rattle.buffer_redux.specs.declared.policy.FlushAmt.{FlushAmt}
 use Rattle.buffer_redux.specs.WriterState.{WriterState}
@@ -196,7 +196,7 @@ module _ {P : Type 0} (ask : WriteTable P) (table : WrittenTable P) (claims : P 
           | inr none ↦ (copied.tight (omega (arith, none))).capacity
         ] in
         sym (copied.added.capacity ∙ settled)
-      )
+        )
   ]
 
   pub writes_capacity : (answer : Result ℕ Error) (t : WriterState P) → Writes ask table claims s bs answer t → s.block.capacity ≤ t.block.capacity
@@ -231,12 +231,12 @@ module _ {P : Type 0} (table : WriteTable P) (claims : P → WriteClaims) where
         | inl none ↦ (
             let empty : length p.seen.bytes ≡ 0 = elim none [ inl zero' ↦ omega (arith, zero', all) | inr past ↦ omega (arith, past, all) ] in
             omega (arith, empty, space.room, same, long, p.lawful.capacity, capacity)
-          )
+            )
         | inr amount ↦ (
             let sends = p.flush.sends amount.0 amount.1 in
             let left = ap length sends.sent.dropped.bytes ∙ length-drop sends.count p.seen.bytes in
             omega (arith, sends.whole, all, left, long, amount.0)
-          )
+            )
       ]
 
   -- why a write failed

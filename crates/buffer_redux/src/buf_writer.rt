@@ -171,7 +171,7 @@ impl<W: TellWrite, P: WriterPolicy> Write for BufWriter<W, P> {
             (writer_state W.log self.old) (length bytes.now) result (writer_state W.log self.new) }
         ensures empty { result ≡ Ok 0 → 0 < length bytes.now
             → EmptyWrite (write_ask P.write_table P.write_claims)
-              (writer_state W.log self.old) (length bytes.now) (writer_state W.log self.new) }
+            (writer_state W.log self.old) (length bytes.now) (writer_state W.log self.new) }
         ensures capacity { (writer_block self.old).capacity ≤ (writer_block self.new).capacity }
         ensures steadily { (P.write_claims (writer_policy self.old)).steady ≡ true → WritesSteadily P.write_claims
             (writer_state W.log self.old) (length bytes.now) result (writer_state W.log self.new) }

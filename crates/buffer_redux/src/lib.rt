@@ -8,6 +8,7 @@
 mod buf_reader;
 mod buf_writer;
 mod errors;
+pub mod laws;
 pub mod policy;
 #[cfg(test)]
 mod tests;
@@ -17,5 +18,5 @@ pub use buf_writer::BufWriter;
 pub use errors::MakeError;
 pub use redux_buffer::{
     BufImpl, Buffer, Count, DEFAULT_BUF_SIZE, GrowError, INTERRUPT_LIMIT, MAX_CAPACITY, MAX_RING,
-    RING_UNIT, RawBuf, SliceDequeBuf, StdBuf, laws, script, tell,
+    RING_UNIT, RawBuf, SliceDequeBuf, StdBuf, script, tell,
 };

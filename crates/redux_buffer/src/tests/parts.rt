@@ -91,7 +91,10 @@ fn whole(rt: HostRuntime) -> Result<(), Fail> {
 fn through(rt: HostRuntime) -> Result<(), Fail> {
     let mut empty = Buffer::with_capacity(rt.alloc(), 4)?;
     let mut out = [0u8; 5];
-    assert_eq!(rt; laws::copy_through(&mut empty, &[1, 2, 3, 4, 5], &mut out), 4);
+    assert_eq!(rt;
+        laws::copy_through(&mut empty, &[1, 2, 3, 4, 5], &mut out),
+        4
+    );
     assert_eq!(rt; out, [1, 2, 3, 4, 0]);
     Ok(())
 }
