@@ -1,18 +1,17 @@
 -- What filling promises under a policy that claims something, and all that it promises.
-use Rattle.std.proofs.Common.{◌≡◌, ℕ, zero, suc, ◌+◌, ◌-◌, ◌*◌, ◌<◌, ◌≤◌, Bool, true, false, List, [], ◌∷◌, ◌++◌, length, take, Result, Ok, Err, refl, sym, ap, subst, ◌∙◌, arith, inl, inr, append-nil, length-append, Option, None, Some, is_ok}
+use Rattle.std.proofs.Common.{◌≡◌, ℕ, zero, suc, ◌+◌, ◌-◌, ◌<◌, ◌≤◌, true, false, List, [], ◌∷◌, ◌++◌, length, take, Result, Ok, Err, refl, sym, ap, subst, ◌∙◌, arith, inl, inr, append-nil, length-append, Option, None, Some, is_ok}
 use Rattle.std.specs.Bool.{⊤}
 use Rattle.std.specs.IoError.{error_kind}
 use Rattle.std.specs.declared.io.Error.{Error}
 use Rattle.redux_buffer.specs.Block.{Block, Kind, Plain, Ring, OnKind, usable}
-use Rattle.redux_buffer.specs.Potential.{potential}
 use Rattle.redux_buffer.specs.StreamLog.{taken}
 use Rattle.redux_buffer.specs.Transfer.{ReadsOnce}
 use Rattle.buffer_redux.specs.declared.policy.DoRead.{DoRead}
 use Rattle.buffer_redux.specs.Policy.{ReadTable, no_read, read_now, ReadClaims, KeepsMinimum, KeepsSteady, KeepsSparing, SparesPlain, read_ask}
 use Rattle.buffer_redux.specs.ReaderState.{ReaderState}
-use Rattle.buffer_redux.specs.Fill.{Turn, Turns, Ends, Filled}
+use Rattle.buffer_redux.specs.Fill.{Turns, Ends, Filled}
 use Rattle.buffer_redux.specs.BufReader.{LooksAhead, FillsSteadily, FillsSparing, PotentialHeld, Fills}
-use Rattle.buffer_redux.proofs.FillFacts.{TurnsFacts, turns_facts, filled_facts, asked_once, zero_rose, full_empty, got_length}
+use Rattle.buffer_redux.proofs.FillFacts.{TurnsFacts, turns_facts, filled_facts, asked_once, zero_rose, full_empty}
 
 module _ {P : Type 0} (table : ReadTable P) (claims : P → ReadClaims) where
   module _ (n : ℕ) where

@@ -1,14 +1,14 @@
 -- What follows from the turns of filling.
-use Rattle.std.proofs.Common.{◌≡◌, ℕ, zero, suc, ◌+◌, ◌-◌, ◌<◌, ◌≤◌, ◌⊎◌, Bool, true, false, List, [], ◌∷◌, ◌++◌, length, take, Result, Ok, Err, refl, sym, ap, subst, ◌∙◌, arith, inl, inr, append_assoc, append-nil, length-append, length-take-le, is_ok}
+use Rattle.std.proofs.Common.{◌≡◌, ℕ, zero, suc, ◌+◌, ◌<◌, ◌≤◌, true, List, [], ◌∷◌, ◌++◌, length, take, Result, Ok, Err, refl, sym, ap, subst, ◌∙◌, arith, inl, inr, append-nil, length-append, length-take-le, is_ok}
 use Rattle.std.specs.IoError.{error_kind}
 use Rattle.std.specs.declared.io.Error.{Error}
 use Rattle.redux_buffer.specs.Block.{Block, Kind, Plain, Ring, OnKind, IsBlock, usable}
-use Rattle.redux_buffer.specs.StreamLog.{StreamLog, ReadLogGrows, taken, with_zero}
+use Rattle.redux_buffer.specs.StreamLog.{StreamLog, ReadLogGrows, taken}
 use Rattle.redux_buffer.specs.Transfer.{ReadsOnce}
 use Rattle.buffer_redux.specs.Policy.{Lawful, ReadTable}
 use Rattle.buffer_redux.specs.ReaderState.{ReaderState}
-use Rattle.buffer_redux.specs.Fill.{Turn, Turns, Ends, Filled}
-use Rattle.buffer_redux.specs.BufReader.{HandsOn, HandsOn-none, HandsOn-joins, PolicyGave, Caused, Stopped, LastAsk, EmptyShown, EmptyRead}
+use Rattle.buffer_redux.specs.Fill.{Turns, Ends, Filled}
+use Rattle.buffer_redux.specs.BufReader.{HandsOn, HandsOn-none, HandsOn-joins, Caused, Stopped, LastAsk, EmptyShown, EmptyRead}
 
 pub no_bytes_of : (l : List ℕ) → length l ≡ 0 → l ≡ []
 no_bytes_of [] e = refl

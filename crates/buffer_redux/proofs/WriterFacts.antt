@@ -1,10 +1,10 @@
 -- What follows from the steps of a write.
-use Rattle.std.proofs.Common.{◌≡◌, ℕ, zero, suc, ◌+◌, ◌-◌, ◌<◌, ◌≤◌, ◌⊎◌, List, [], ◌++◌, length, take, drop, Result, Ok, Err, refl, sym, ap, ◌∙◌, arith, inl, inr, append_assoc, append-nil, length-append, length-drop, min, subst}
+use Rattle.std.proofs.Common.{◌≡◌, ℕ, zero, suc, ◌+◌, ◌<◌, ◌≤◌, ◌⊎◌, List, [], ◌++◌, length, take, drop, Result, Ok, refl, sym, ap, ◌∙◌, arith, inl, inr, append-nil, length-drop, min, subst}
 use Rattle.std.proofs.lemmas.List.{take-append-drop}
 use Rattle.std.specs.declared.io.Error.{Error}
 use Rattle.redux_buffer.specs.Block.{Block, IsBlock, usable}
-use Rattle.redux_buffer.specs.StreamLog.{StreamLog, taken}
-use Rattle.redux_buffer.specs.Transfer.{DoesNothing, Sends}
+use Rattle.redux_buffer.specs.StreamLog.{taken}
+use Rattle.redux_buffer.specs.Transfer.{Sends}
 use Rattle.buffer_redux.specs.Policy.{Lawful, WriteTable, WrittenTable, WriteClaims, WritesSteadily, write_ask}
 use Rattle.buffer_redux.specs.declared.policy.FlushAmt.{FlushAmt}
 use Rattle.buffer_redux.specs.WriterState.{WriterState}

@@ -6,7 +6,7 @@ use Rattle.std.specs.IoError.{error_kind}
 use Rattle.std.specs.declared.io.Error.{Error}
 use Rattle.redux_buffer.specs.Block.{Block, OnKind, Takes, MovesOnlyRing, usable}
 use Rattle.redux_buffer.specs.Potential.{potential}
-use Rattle.redux_buffer.specs.StreamLog.{StreamLog, ReadLogGrows, after_read}
+use Rattle.redux_buffer.specs.StreamLog.{ReadLogGrows, after_read}
 use Rattle.buffer_redux.specs.declared.policy.DoRead.{DoRead}
 use Rattle.buffer_redux.specs.Policy.{Lawful, ReadTable, ConsumeTable, no_read, read_now, ReadClaims, read_ask}
 use Rattle.buffer_redux.specs.ReaderState.{ReaderState}

@@ -1,5 +1,5 @@
 -- What the calls of a buffered writer do and promise.
-use Rattle.std.specs.Prelude.{◌≡◌, ℕ, ◌-◌, ◌<◌, ◌≤◌, ◌⊎◌, List, [], ◌++◌, length, min, take, Result, Ok, Err, MatchResult, IfErr, OnOk}
+use Rattle.std.specs.Prelude.{◌≡◌, ℕ, ◌-◌, ◌<◌, ◌≤◌, ◌⊎◌, List, [], ◌++◌, length, min, Result, Ok, Err, MatchResult, IfErr}
 use Rattle.std.proofs.Common.{sym, ap, ◌∙◌, append_assoc, append-nil}
 use Rattle.std.specs.Io.{WritesAtMost}
 use Rattle.std.specs.IoError.{error_kind}

@@ -1,7 +1,7 @@
 -- What a policy may do, and what it may claim.
 use Rattle.std.specs.Prelude.{◌≡◌, ℕ, ◌*◌, ◌<◌, ◌≤◌, ◌==◌, Bool, true, false, length, Result, Ok, Err, IsOk, MatchResult, MatchBool, ⊤, Option, None, Some, nat_lt, if◌then◌else◌}
 use Rattle.std.specs.declared.io.Error.{Error}
-use Rattle.redux_buffer.specs.Block.{Block, Kind, Plain, Ring, OnKind, usable}
+use Rattle.redux_buffer.specs.Block.{Block, OnKind, usable}
 use Rattle.redux_buffer.specs.Potential.{potential}
 use Rattle.buffer_redux.specs.declared.policy.DoRead.{DoRead}
 use Rattle.buffer_redux.specs.declared.policy.FlushAmt.{FlushAmt}

@@ -1,4 +1,4 @@
-use Rattle.std.proofs.Common.{◌≡◌, ℕ, suc, ◌<◌, ◌≤◌, Ok, Err, arith, inl, inr, refl}
+use Rattle.std.proofs.Common.{suc, Ok, Err, arith, inl, inr, refl}
 use Rattle.std.proofs.lemmas.Result.{err_from_is_err_and}
 use Rattle.buffer_redux.specs.Policy.{read_ask}
 use Rattle.buffer_redux.specs.ReaderState.{reader_state}

@@ -1,4 +1,4 @@
-use Rattle.std.proofs.Common.{◌≡◌, ℕ, ◌-◌, ◌^◌, ◌≤◌, length}
+use Rattle.std.proofs.Common.{ℕ, ◌-◌, ◌^◌, length}
 use Rattle.buffer_redux.specs.Policy.{read_ask}
 use Rattle.buffer_redux.specs.ReaderState.{reader_state}
 use Rattle.buffer_redux.specs.Fill.{Turns}

@@ -1,4 +1,4 @@
-use Rattle.std.proofs.Common.{◌≡◌, Ok, Err, refl}
+use Rattle.std.proofs.Common.{refl}
 use Rattle.std.proofs.lemmas.Result.{err_from_is_err_and}
 use Rattle.buffer_redux.specs.ReaderState.{reader_state}
 use Rattle.buffer_redux.proofs.FillClaims.{fills, fills_ok, fills_err}

@@ -1,9 +1,9 @@
-use Rattle.std.proofs.Common.{◌≡◌, ℕ, ◌≤◌, [], ◌++◌, length, take, min, Ok, Err, refl, sym, ap, subst, ◌∙◌, arith, IsTrue, true, false, length-append}
+use Rattle.std.proofs.Common.{◌≡◌, ◌≤◌, [], length, take, min, refl, sym, ap, subst, ◌∙◌, arith, length-append}
 use Rattle.std.proofs.lemmas.Result.{err_from_is_err_and}
 use Rattle.buffer_redux.specs.Policy.{read_ask}
 use Rattle.buffer_redux.specs.ReaderState.{reader_state}
 use Rattle.buffer_redux.specs.BufReader.{HandsOn, HandsOn-joins}
-use Rattle.buffer_redux.proofs.FillFacts.{filled_facts, empty_read, no_bytes_of}
+use Rattle.buffer_redux.proofs.FillFacts.{filled_facts, empty_read}
 use Rattle.buffer_redux.proofs.FillClaims.{fills, fills_ok, fills_err}
 use Rattle.buffer_redux.proofs.buf_reader.BufReaderRead.read.Goals as goal
 use Rattle.buffer_redux.proofs.buf_reader.BufReaderRead.read.Goals.{else-is_empty-via-then-is_empty+else-out-capacity, else-is_empty-via-else-is_empty}

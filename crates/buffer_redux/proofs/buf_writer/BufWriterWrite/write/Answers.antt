@@ -1,4 +1,4 @@
-use Rattle.std.proofs.Common.{◌≡◌, length, Ok, Err, refl, inr, subst, sym}
+use Rattle.std.proofs.Common.{length, inr, subst, sym}
 use Rattle.std.proofs.lemmas.Result.{err_from_is_err_and}
 use Rattle.buffer_redux.specs.Policy.{write_ask}
 use Rattle.buffer_redux.specs.WriterState.{writer_state}
