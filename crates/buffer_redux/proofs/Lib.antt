@@ -2,3 +2,4 @@ pub mod Turning
 pub mod FillFacts
 pub mod FillClaims
 pub mod WriterFacts
+pub mod Resting

@@ -210,7 +210,11 @@ impl<R: TellRead, P: ReaderPolicy> Read for BufReader<R, P> {
 }
 
 impl<R: TellRead, P: ReaderPolicy> BufRead for BufReader<R, P> {
-    fn fill_buf(&mut self) -> io::Result<&[u8]> {
+    fn fill_buf(&mut self) -> io::Result<&[u8]>
+        ensures* after_borrow { sem 𝓛 (Rests (the_row R.row P.row) self.entry (λ new.
+            Fills P.read_table P.read_claims (reader_state R.log self.entry.now) result (reader_state R.log new)
+            × IfOk result (λ bytes. bytes.now ≡ (reader_block new).bytes))) }
+    {
         BufReader::fill_buf(self)
     }
 
