@@ -6,8 +6,8 @@ pub data Kind : Type 0 where
   Plain : Kind
   Ring : Kind
 
--- the bytes, the tail that `write_buf` would lend now and whether it stands right behind the bytes, the capacity and its limit, and two counts: how many bytes were
--- consumed, and how many a call moved to another place in the storage
+-- the bytes, the tail that `write_buf` would lend now and whether it stands right behind the bytes, the capacity and
+-- its limit, and two counts: how many bytes were consumed, and how many a call moved to another place in the storage
 pub record Block : Type 0 where
   pub bytes : List ℕ
   pub tail : List ℕ
