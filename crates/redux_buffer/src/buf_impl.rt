@@ -44,6 +44,7 @@ impl BufImpl {
         ensures ring { IsTrue result ↔ ((placed self.now).block.kind ≡ Ring) }
         ensures whole { IsPlaced (placed self.now) }
     {
+        // Which kind a block is, its own calls tell.
         match self {
             BufImpl::Std(b) => {
                 let _ = b.capacity();

@@ -184,6 +184,7 @@ impl SliceDequeBuf {
         ensures shift { CountsShift 0 self.old self.new }
         ensures whole { IsPlaced self.new }
     {
+        // Names a field, so that what is true of every ring is known here.
         let _ = &self.cap;
     }
 

@@ -61,7 +61,6 @@ impl StdBuf {
         ensures whole { IsPlaced self.now }
         ensures kind { self.now.block.kind ≡ Plain }
     {
-        let _ = self.end;
         self.buf.capacity()
     }
 
