@@ -1,12 +1,14 @@
 -- How what moves in one turn after another adds up.
-use Rattle.std.proofs.Common.{◌≡◌, ◌∙◌, ℕ, ◌+◌, [], ◌++◌, length, refl, sym, ap, append_assoc, append-nil, length-append, subst, arith}
+use Rattle.std.proofs.Common.{◌≡◌, ◌∙◌, ℕ, ◌+◌, ◌⊎◌, inl, inr, Result, Ok, Err, IfErr, List, [], ◌++◌, length, refl, sym, ap, append_assoc, append-nil, length-append, subst, arith}
+use Rattle.std.specs.IoError.{error_kind}
+use Rattle.std.specs.declared.io.Error.{Error}
 use Rattle.std.specs.declared.io.ErrorKind.{ErrorKind}
 use Rattle.buffer_redux.specs.StreamLog.{StreamLog, ReadLogGrows, WritesGoOn}
 use Rattle.buffer_redux.specs.BufReader.{HandsOn-none, HandsOn-joins}
 use Rattle.buffer_redux.specs.BufWriter.{PassesOn, PassesOn-none, PassesOn-joins}
 use Rattle.buffer_redux.specs.ReaderState.{ReaderState}
 use Rattle.buffer_redux.specs.WriterState.{WriterState}
-use Rattle.bufcopy.specs.Copy.{MovedBy, IsBeginning, CountsRise, MovedTooMuch, OverTotal}
+use Rattle.bufcopy.specs.Copy.{MovedBy, IsBeginning, LogsGoOn, StreamFailed, MovedTooMuch, OverTotal, CopyFailed}
 
 -- nothing was given, and nothing received
 pub IsBeginning-none : (read written : StreamLog) → IsBeginning read read written written
@@ -17,22 +19,25 @@ IsBeginning-none read written = record {
   taken = sym (append-nil written.writes.received);
 }
 
--- what the logs of a fill and of a write say of the counts
-pub counts_rise : (a b x y : StreamLog) → ReadLogGrows a.reads b.reads → WritesGoOn x y → CountsRise a b x y
+-- what the logs of a fill and of a write say of both streams
+pub logs_go_on : (a b x y : StreamLog) → ReadLogGrows a.reads b.reads → WritesGoOn x y → LogsGoOn a b x y
 unfolding WritesGoOn
-counts_rise a b x y p q = record {
+logs_go_on a b x y p q = record {
   zero_answers = p.zero_answers;
-  read_faults = omega (arith, ap length p.faults.1, length-append a.reads.faults p.faults.0);
-  write_faults = omega (arith, ap length q.faults.1, length-append x.writes.faults q.faults.0);
+  read_faults = p.faults;
+  write_faults = q.faults;
   zero_writes = q.zero_writes;
 }
 
--- the counts go on rising
-pub rises_on : (a b c x y z : StreamLog) → CountsRise a b x y → CountsRise b c y z → CountsRise a c x z
-rises_on a b c x y z p q = record {
+-- the faults go on
+faults_go_on : (xs ys zs : List ErrorKind) → ((more : List ErrorKind) × (ys ≡ xs ++ more)) → ((more : List ErrorKind) × (zs ≡ ys ++ more)) → (more : List ErrorKind) × (zs ≡ xs ++ more)
+faults_go_on xs ys zs p q = (p.0 ++ q.0, q.1 ∙ ap (λ l. l ++ q.0) p.1 ∙ append_assoc xs p.0 q.0)
+
+pub goes_on : (a b c x y z : StreamLog) → LogsGoOn a b x y → LogsGoOn b c y z → LogsGoOn a c x z
+goes_on a b c x y z p q = record {
   zero_answers = omega (arith, p.zero_answers, q.zero_answers);
-  read_faults = omega (arith, p.read_faults, q.read_faults);
-  write_faults = omega (arith, p.write_faults, q.write_faults);
+  read_faults = faults_go_on a.reads.faults b.reads.faults c.reads.faults p.read_faults q.read_faults;
+  write_faults = faults_go_on x.writes.faults y.writes.faults z.writes.faults p.write_faults q.write_faults;
   zero_writes = omega (arith, p.zero_writes, q.zero_writes);
 }
 
@@ -96,3 +101,12 @@ module _ {P Q : Type 0} (kind : ErrorKind) (s t : ReaderState P) (u v : WriterSt
         much.other,
         omega (arith, much.large, much.moved.count, got, moved, ap length none, length-append much.moved.bytes t.block.bytes, length-append s.block.bytes much.moved.handed.got),
       )
+
+-- why copying failed between buffers that were empty at first
+module _ {P Q A : Type 0} (s t : ReaderState P) (u v : WriterState Q) (none : s.block.bytes ≡ []) where
+  pub copy_failed :
+      (result : Result A Error) → IfErr result (λ e. StreamFailed (error_kind e) s.log t.log u.log v.log ⊎ MovedTooMuch (error_kind e) s t u v)
+      → IfErr result (λ e. CopyFailed (error_kind e) s.log t.log u.log v.log)
+  copy_failed (Ok n) failed = failed
+  copy_failed (Err e) (inl failed) = inl failed
+  copy_failed (Err e) (inr much) = inr (inr (over_total (error_kind e) s t u v much none))

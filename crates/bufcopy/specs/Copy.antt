@@ -4,8 +4,9 @@ use Rattle.std.specs.declared.io.ErrorKind.{ErrorKind}
 use Rattle.std.specs.declared.io.ErrorKind.TheVariants.{Other, OutOfMemory}
 use Rattle.buffer_redux.specs.Block.{Block}
 use Rattle.buffer_redux.specs.StreamLog.{StreamLog}
+use Rattle.buffer_redux.specs.Faults.{FaultedBy}
 use Rattle.buffer_redux.specs.BufReader.{HandsOn}
-use Rattle.buffer_redux.specs.BufWriter.{PassesOn, WriterFailed}
+use Rattle.buffer_redux.specs.BufWriter.{PassesOn, SendCaused}
 use Rattle.buffer_redux.specs.ReaderState.{ReaderState}
 use Rattle.buffer_redux.specs.WriterState.{WriterState}
 
@@ -40,16 +41,17 @@ pub record Copied (total : ℕ) (read read' written written' : StreamLog) : Type
   pub flushed : written'.writes.flushed ≡ written'.writes.received
   pub ended : read.reads.zero_answers < read'.reads.zero_answers
 
--- the counts of both streams only rose
-pub record CountsRise (read read' written written' : StreamLog) : Type 0 where
+-- the empty answers and the faults of both streams only went on
+pub record LogsGoOn (read read' written written' : StreamLog) : Type 0 where
   pub zero_answers : read.reads.zero_answers ≤ read'.reads.zero_answers
-  pub read_faults : length read.reads.faults ≤ length read'.reads.faults
-  pub write_faults : length written.writes.faults ≤ length written'.writes.faults
+  pub read_faults : (more : List ErrorKind) × (read'.reads.faults ≡ read.reads.faults ++ more)
+  pub write_faults : (more : List ErrorKind) × (written'.writes.faults ≡ written.writes.faults ++ more)
   pub zero_writes : written.writes.zero_writes ≤ written'.writes.zero_writes
 
--- one of the streams failed: a fault came, or a write took nothing of something
-abbrev pub StreamFailed : StreamLog → StreamLog → StreamLog → StreamLog → Type 0
-StreamFailed read read' written written' = (length read.reads.faults < length read'.reads.faults) ⊎ WriterFailed written.writes written'.writes
+-- a stream failed with this kind: by its last fault, or as `WriteZero` by a write that took nothing of something
+abbrev pub StreamFailed : ErrorKind → StreamLog → StreamLog → StreamLog → StreamLog → Type 0
+StreamFailed kind read read' written written' =
+    FaultedBy read.reads.faults read'.reads.faults kind ⊎ SendCaused written.writes written'.writes kind
 
 -- more bytes moved than a `u64` counts
 pub record MovedTooMuch {P Q : Type 0} (kind : ErrorKind) (s t : ReaderState P) (u v : WriterState Q) : Type 0 where
@@ -62,7 +64,7 @@ pub record MovedTooMuch {P Q : Type 0} (kind : ErrorKind) (s t : ReaderState P) 
 abbrev pub OverTotal : ErrorKind → StreamLog → StreamLog → Type 0
 OverTotal kind read read' = (kind ≡ Other) × (2 ^ 64 ≤ length read'.reads.given - length read.reads.given)
 
--- why a copy failed with this kind: a stream failed, its buffers were refused, or the total passed what a `u64` counts
+-- why a copy failed with this kind: a stream failed with it, its buffers were refused, or the total passed what a `u64` counts
 abbrev pub CopyFailed : ErrorKind → StreamLog → StreamLog → StreamLog → StreamLog → Type 0
 CopyFailed kind read read' written written' =
-    StreamFailed read read' written written' ⊎ ((kind ≡ OutOfMemory) ⊎ OverTotal kind read read')
+    StreamFailed kind read read' written written' ⊎ ((kind ≡ OutOfMemory) ⊎ OverTotal kind read read')

@@ -1,11 +1,11 @@
 //! The copy itself, over any two streams that tell.
-ghost use Rattle.std.specs.Prelude.{◌≡◌, ◌≢◌, ◌<◌, ◌≤◌, ◌⊎◌, [], length, Ok, Err, IfOk, IfErr, OnOk, OnErr};
+ghost use Rattle.std.specs.Prelude.{◌≡◌, ◌≢◌, ◌<◌, ◌≤◌, ◌⊎◌, [], length, Ok, Err, IfOk, IfErr, OnOk, OnErr, if◌then◌else◌};
 ghost use Rattle.std.specs.IoError.{error_kind};
+ghost use Rattle.buffer_redux.specs.Block.{Plain, Ring};
 ghost use Rattle.buffer_redux.specs.BufReader.{RanDry};
-ghost use Rattle.buffer_redux.specs.BufWriter.{WriterFailed};
 ghost use Rattle.buffer_redux.specs.ReaderState.{reader_state, reader_block, reader_inner};
 ghost use Rattle.buffer_redux.specs.WriterState.{writer_state, writer_block, writer_inner};
-ghost use Rattle.bufcopy.specs.Copy.{IsFresh, Moves, MovedBy, Copied, IsBeginning, CountsRise, StreamFailed, MovedTooMuch, CopyFailed};
+ghost use Rattle.bufcopy.specs.Copy.{IsFresh, Moves, MovedBy, Copied, IsBeginning, LogsGoOn, StreamFailed, MovedTooMuch, CopyFailed};
 
 use crate::ending::Ending;
 use crate::settings::GREATEST_CAPACITY;
@@ -55,6 +55,7 @@ fn buffered_reader<R: TellRead>(
 ) -> Result<BufReader<R>, MakeError<R>>
     requires { cap ≤ GREATEST_CAPACITY }
     ensures made { IfOk result (λ r. IsFresh cap (reader_block r)) }
+    ensures kind { IfOk result (λ r. (reader_block r).kind ≡ (if ring then Ring else Plain)) }
     ensures inner { IfOk result (λ r. reader_inner r ≡ reader) }
     ensures handed_back { IfErr result (λ e. e.0 ≡ reader) }
     ensures refused { IfErr result (λ e. e.1 ≡ GrowError.Memory) }
@@ -74,6 +75,7 @@ fn buffered_writer<W: TellWrite>(
 ) -> Result<BufWriter<W>, MakeError<W>>
     requires { cap ≤ GREATEST_CAPACITY }
     ensures made { IfOk result (λ w. IsFresh cap (writer_block w)) }
+    ensures kind { IfOk result (λ w. (writer_block w).kind ≡ (if ring then Ring else Plain)) }
     ensures inner { IfOk result (λ w. writer_inner w ≡ writer) }
     ensures handed_back { IfErr result (λ e. e.0 ≡ writer) }
     ensures refused { IfErr result (λ e. e.1 ≡ GrowError.Memory) }
@@ -99,7 +101,7 @@ fn copy_all<R: TellRead, W: TellWrite>(
     ensures nothing_left { OnOk result (((reader_block source.new).bytes ≡ []) × ((writer_block target.new).bytes ≡ [])) }
     ensures flushed { OnOk result ((W.log (writer_inner target.new)).writes.flushed ≡ (W.log (writer_inner target.new)).writes.received) }
     ensures ended { OnOk result (RanDry (reader_state R.log source.old) (reader_state R.log source.new)) }
-    ensures failed { IfErr result (λ e. StreamFailed (R.log (reader_inner source.old)) (R.log (reader_inner source.new))
+    ensures failed { IfErr result (λ e. StreamFailed (error_kind e) (R.log (reader_inner source.old)) (R.log (reader_inner source.new))
         (W.log (writer_inner target.old)) (W.log (writer_inner target.new))
         ⊎ MovedTooMuch (error_kind e) (reader_state R.log source.old) (reader_state R.log source.new)
         (writer_state W.log target.old) (writer_state W.log target.new)) }
@@ -125,14 +127,14 @@ fn copy_turns<R: TellRead, W: TellWrite>(
         (writer_state W.log target.old) (writer_state W.log target.new)) }
     ensures ended { OnOk result ((reader_block source.new).bytes ≡ []
         → RanDry (reader_state R.log source.old) (reader_state R.log source.new)) }
-    ensures rise { CountsRise (R.log (reader_inner source.old)) (R.log (reader_inner source.new))
+    ensures go_on { LogsGoOn (R.log (reader_inner source.old)) (R.log (reader_inner source.new))
         (W.log (writer_inner target.old)) (W.log (writer_inner target.new)) }
-    ensures failed { IfErr result (λ e. StreamFailed (R.log (reader_inner source.old)) (R.log (reader_inner source.new))
+    ensures failed { IfErr result (λ e. StreamFailed (error_kind e) (R.log (reader_inner source.old)) (R.log (reader_inner source.new))
         (W.log (writer_inner target.old)) (W.log (writer_inner target.new))
         ⊎ MovedTooMuch (error_kind e) (reader_state R.log source.old) (reader_state R.log source.new)
         (writer_state W.log target.old) (writer_state W.log target.new)) }
     ensures refused { OnOk result (0 < length (reader_block source.new).bytes
-        → WriterFailed (W.log (writer_inner target.old)).writes (W.log (writer_inner target.new)).writes) }
+        → (W.log (writer_inner target.old)).writes.zero_writes < (W.log (writer_inner target.new)).writes.zero_writes) }
 {
     let mut total = 0u64;
     'turns: loop {
@@ -160,12 +162,12 @@ fn copy_turn<R: TellRead, W: TellWrite>(
         (writer_state W.log target.old) (writer_state W.log target.new)) }
     ensures ended { result ≡ Ok 0 → (reader_block source.new).bytes ≡ []
         → RanDry (reader_state R.log source.old) (reader_state R.log source.new) }
-    ensures rise { CountsRise (R.log (reader_inner source.old)) (R.log (reader_inner source.new))
+    ensures go_on { LogsGoOn (R.log (reader_inner source.old)) (R.log (reader_inner source.new))
         (W.log (writer_inner target.old)) (W.log (writer_inner target.new)) }
-    ensures failed { OnErr result (StreamFailed (R.log (reader_inner source.old)) (R.log (reader_inner source.new))
+    ensures failed { IfErr result (λ e. StreamFailed (error_kind e) (R.log (reader_inner source.old)) (R.log (reader_inner source.new))
         (W.log (writer_inner target.old)) (W.log (writer_inner target.new))) }
     ensures refused { result ≡ Ok 0 → 0 < length (reader_block source.new).bytes
-        → WriterFailed (W.log (writer_inner target.old)).writes (W.log (writer_inner target.new)).writes }
+        → (W.log (writer_inner target.old)).writes.zero_writes < (W.log (writer_inner target.new)).writes.zero_writes }
     ensures source_capacity { 0 < (reader_block source.new).capacity }
     ensures target_capacity { 0 < (writer_block target.new).capacity }
 {

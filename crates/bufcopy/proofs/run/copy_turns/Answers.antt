@@ -1,12 +1,12 @@
 use Rattle.std.proofs.Common.{◌+◌, arith, inr}
-use Rattle.bufcopy.proofs.Moving.{MovedBy-joins, rises_on}
+use Rattle.bufcopy.proofs.Moving.{MovedBy-joins, goes_on}
 use Rattle.bufcopy.proofs.run.copy_turns.Goals as goal
 
 pub turns-preserved : goal.turns-preserved
 turns-preserved g c =
     let turn = c.in_ok-taken.ensures in record {
       moved = rw c.in-Some.ensures.1 (MovedBy-joins _ _ _ _ _ _ _ _ c.turns.invariant.moved turn.moved);
-      rise = rises_on _ _ _ _ _ _ c.turns.invariant.rise turn.rise;
+      go_on = goes_on _ _ _ _ _ _ c.turns.invariant.go_on turn.go_on;
       source_capacity = turn.source_capacity;
       target_capacity = turn.target_capacity;
     }
