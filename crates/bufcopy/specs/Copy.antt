@@ -64,7 +64,11 @@ pub record MovedTooMuch {P Q : Type 0} (kind : ErrorKind) (s t : ReaderState P) 
 abbrev pub OverTotal : ErrorKind → StreamLog → StreamLog → Type 0
 OverTotal kind read read' = (kind ≡ Other) × (2 ^ 64 ≤ length read'.reads.given - length read.reads.given)
 
--- why a copy failed with this kind: a stream failed with it, its buffers were refused, or the total passed what a `u64` counts
+-- a buffer was refused before either stream was called
+abbrev pub BufferRefused : ErrorKind → StreamLog → StreamLog → StreamLog → StreamLog → Type 0
+BufferRefused kind read read' written written' = (kind ≡ OutOfMemory) × (read' ≡ read) × (written' ≡ written)
+
+-- why a copy failed with this kind: a stream failed with it, a buffer was refused, or the total passed what a `u64` counts
 abbrev pub CopyFailed : ErrorKind → StreamLog → StreamLog → StreamLog → StreamLog → Type 0
 CopyFailed kind read read' written written' =
-    StreamFailed kind read read' written written' ⊎ ((kind ≡ OutOfMemory) ⊎ OverTotal kind read read')
+    StreamFailed kind read read' written written' ⊎ (BufferRefused kind read read' written written' ⊎ OverTotal kind read read')
