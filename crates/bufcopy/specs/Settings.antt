@@ -17,11 +17,13 @@ NamesBuffer word ring = ((word ≡ codes "ring") × (ring ≡ true)) ⊎ ((word 
 
 -- no word, and no ring is wanted, or one word that names the buffer
 abbrev pub AskForBuffer : List (List ℕ) → Bool → Type 0
-AskForBuffer words ring = ((words ≡ []) × (ring ≡ false)) ⊎ ((word : List ℕ) × (words ≡ word ∷ []) × NamesBuffer word ring)
+AskForBuffer words ring = ((words ≡ []) × (ring ≡ false))
+    ⊎ ((word : List ℕ) × (words ≡ word ∷ []) × NamesBuffer word ring)
 
 -- no word, and the capacity is 8192, or one word that is the capacity
 abbrev pub AskForCapacity : List (List ℕ) → ℕ → Type 0
-AskForCapacity words capacity = ((words ≡ []) × (capacity ≡ 8192)) ⊎ ((word : List ℕ) × (words ≡ word ∷ []) × IsCapacity word × (capacity ≡ digits_value 10 word))
+AskForCapacity words capacity = ((words ≡ []) × (capacity ≡ 8192))
+    ⊎ ((word : List ℕ) × (words ≡ word ∷ []) × IsCapacity word × (capacity ≡ digits_value 10 word))
 
 -- first the words for the buffer, then those for the capacity, and nothing else
 pub record AskFor (words : List (List ℕ)) (ring : Bool) (capacity : ℕ) : Type 0 where

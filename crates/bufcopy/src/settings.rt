@@ -15,7 +15,7 @@ pub const GREATEST_CAPACITY: usize = 1048576;
 const GREATEST_LENGTH: usize = 7;
 
 /// Whether the words after the program's name want a ring, and the capacity that they want: an optional `std` or `ring`,
-/// then an optional capacity, and nothing else. Without words it is `std`, and 8192 bytes.
+/// then an optional capacity, and no more words. Without words it is `std`, and 8192 bytes.
 pub fn settings(words: &[String]) -> Option<(bool, usize)>
     ensures { (ring : Bool) (capacity : ℕ) →
         (result ≡ Some (ring, capacity)) ↔ AskFor (map string_bytes words.now) ring capacity }

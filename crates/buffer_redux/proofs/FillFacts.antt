@@ -1,18 +1,19 @@
 -- What follows from the turns of filling.
-use Rattle.std.proofs.Common.{◌≡◌, ℕ, zero, suc, ◌+◌, ◌<◌, ◌≤◌, true, List, [], ◌∷◌, ◌++◌, length, take, Result, Ok, Err, refl, sym, ap, subst, ◌∙◌, arith, inl, inr, append-nil, length-append, length-take-le, is_ok}
+use Rattle.std.proofs.Common.{◌≡◌, ℕ, zero, suc, ◌+◌, ◌<◌, ◌≤◌, true, List, [], ◌∷◌, ◌++◌, length, take, Result, Ok, Err, refl, sym, ap, subst, ◌∙◌, arith, inl, inr, append-nil, length-append, length-take-le, le_refl, le_trans, is_ok}
+use Rattle.std.proofs.lemmas.Bool.{cases_lt}
+use Rattle.std.proofs.lemmas.List.{nil_from_length}
 use Rattle.std.specs.IoError.{error_kind}
 use Rattle.std.specs.declared.io.Error.{Error}
 use Rattle.redux_buffer.specs.Block.{Block, Kind, Plain, Ring, OnKind, IsBlock, usable}
-use Rattle.redux_buffer.specs.StreamLog.{StreamLog, ReadLogGrows, taken}
-use Rattle.redux_buffer.specs.Transfer.{ReadsOnce}
-use Rattle.buffer_redux.specs.Policy.{Lawful, ReadTable}
-use Rattle.buffer_redux.specs.ReaderState.{ReaderState}
+use Rattle.redux_buffer.specs.LogGrows.{ReadLogGrows, ReadLogGrows-none, ReadLogGrows-joins, ReadLogGrows-read}
+use Rattle.redux_buffer.specs.StreamLog.{StreamLog, taken, after_read}
+use Rattle.redux_buffer.specs.Transfer.{ReadsOnce, ReadsFrom}
+use Rattle.buffer_redux.specs.Policy.{Lawful, ReadRules, BeforeRead}
+use Rattle.buffer_redux.specs.declared.policy.DoRead.{DoRead}
+use Rattle.buffer_redux.specs.Buffered.{Buffered, GoesDirect, StaysInside}
 use Rattle.buffer_redux.specs.Fill.{Turns, Ends, Filled}
-use Rattle.buffer_redux.specs.BufReader.{HandsOn, HandsOn-none, HandsOn-joins, Caused, Stopped, LastAsk, EmptyShown, EmptyRead}
-
-pub no_bytes_of : (l : List ℕ) → length l ≡ 0 → l ≡ []
-no_bytes_of [] e = refl
-no_bytes_of (x ∷ xs) e = absurd (omega arith)
+use Rattle.buffer_redux.specs.BufReader.{ReadsInOrder, ReadErrorCaused, FillEnded, LastAsk, EmptyFillCaused, EmptyReadCaused}
+use Rattle.buffer_redux.specs.ReaderLaws.{ReadsInOrder-none, ReadsInOrder-joins}
 
 -- one read that gave n bytes
 module _ (b b' : Block) (log log' : StreamLog) (n : ℕ) (read : ReadsOnce b log (Ok n) b' log') where
@@ -40,62 +41,130 @@ full_empty b whole full none = full_empty_at b b.kind whole.space full none
 pub zero_rose : (b b' : Block) (log log' : StreamLog) → ReadsOnce b log (Ok 0) b' log' → 0 < usable b → log'.reads.zero_answers ≡ log.reads.zero_answers + 1
 zero_rose b b' log log' read room = ap (λ l. l.reads.zero_answers) read.told ∙ grind (arith, read.offered)
 
-module _ {P : Type 0} where
-  -- nothing was given, and the bytes stayed
-  pub HandsOn-same : (s t : ReaderState P) → t.log.reads.given ≡ s.log.reads.given → t.block.bytes ≡ s.block.bytes → HandsOn s [] t
-  HandsOn-same s t g b = record { got = []; given = g ∙ sym (append-nil s.log.reads.given); equal = b ∙ sym (append-nil s.block.bytes) }
+-- a read lets its log go on
+pub read_grows : (b b' : Block) (log log' : StreamLog) (answer : Result ℕ Error) → ReadsOnce b log answer b' log' → ReadLogGrows log.reads log'.reads
+read_grows b b' log log' answer read = subst (λ l. ReadLogGrows log.reads l.reads) (sym read.told) (ReadLogGrows-read log read.out answer)
 
-  -- a lawful policy, and then one read
-  pub HandsOn-read : (s t : ReaderState P) (seen : Block) (answer : Result ℕ Error) → Lawful s.block seen → ReadsOnce seen s.log answer t.block t.log → HandsOn s [] t
-  HandsOn-read s t seen answer law read = record {
-    got = taken read.out answer;
-    given = ap (λ l. l.reads.given) read.told;
-    equal = read.added.bytes ∙ ap (λ l. l ++ taken read.out answer) law.bytes;
+-- one read, or none where nothing can be written
+pub ReadsInOrder-read_from : {S P : Type 0} (s t : Buffered S P) (answer : Result ℕ Error) → ReadsFrom s.block s.log answer t.block t.log → ReadsInOrder s [] t
+ReadsInOrder-read_from s t answer read = elim (cases_lt 0 (usable s.block)) [
+  | inl room ↦ (let once = read.read room in record { got = taken once.out answer; given = ap (λ l. l.reads.given) once.told; equal = once.added.bytes })
+  | inr full ↦ (
+      let nothing = read.no_room (omega (arith, full)) in
+      record { got = []; given = ap (λ l. l.reads.given) nothing.told ∙ sym (append-nil s.log.reads.given); equal = ap (λ b. b.bytes) nothing.buffer ∙ sym (append-nil s.block.bytes) }
+      )
+]
+
+pub read_from_grows : (b b' : Block) (log log' : StreamLog) (answer : Result ℕ Error) → ReadsFrom b log answer b' log' → ReadLogGrows log.reads log'.reads
+read_from_grows b b' log log' answer read = elim (cases_lt 0 (usable b)) [
+  | inl room ↦ read_grows b b' log log' answer (read.read room)
+  | inr full ↦ subst (λ l. ReadLogGrows log.reads l.reads) (sym (read.no_room (omega (arith, full))).told) (ReadLogGrows-none log.reads)
+]
+
+-- one read past an empty buffer
+pub ReadsInOrder-direct : {S P : Type 0} (s t : Buffered S P) (out : List ℕ) (answer : Result ℕ Error) → GoesDirect after_read s out answer t
+    → length s.block.bytes ≡ 0 → ReadsInOrder s (taken out answer) t
+ReadsInOrder-direct s t out answer direct none =
+    let empty = nil_from_length s.block.bytes none in record {
+      got = taken out answer;
+      given = ap (λ l. l.reads.given) direct.told;
+      equal =
+          ap (λ b. taken out answer ++ b.bytes) direct.block ∙ ap (λ l. taken out answer ++ l) empty ∙ append-nil (taken out answer)
+          ∙ ap (λ l. l ++ taken out answer) (sym empty);
+    }
+
+-- a read through the buffer that hands out nothing though there is room has found some capacity
+pub inside_room : {S P : Type 0} (s m : Buffered S P) (room : ℕ) → StaysInside s.block room → ReadsInOrder s [] m → length m.block.bytes ≡ 0 → 0 < s.block.capacity
+inside_room s m room inside order none = elim inside [
+  | inl some ↦ (let grown = ap length order.equal in absurd (omega (arith, grown, length-append s.block.bytes order.got, some, none)))
+  | inr less ↦ omega (arith, less)
+]
+
+module _ {S P : Type 0} (rules : ReadRules P) where
+  -- what every turn and every end of filling keep
+  pub record Holds (s t : Buffered S P) : Type 0 where
+    pub in_order : ReadsInOrder s [] t
+    pub grows : ReadLogGrows s.log.reads t.log.reads
+    pub kind : t.block.kind ≡ s.block.kind
+    pub capacity : s.block.capacity ≤ t.block.capacity
+    pub consumed : t.block.consumed ≡ s.block.consumed
+    pub claims : rules.claims t.policy ≡ rules.claims s.policy
+
+  Holds-none : (s : Buffered S P) → Holds s s
+  Holds-none s = record { in_order = ReadsInOrder-none s; grows = ReadLogGrows-none s.log.reads; kind = refl; capacity = le_refl _; consumed = refl; claims = refl }
+
+  Holds-joins : (s m t : Buffered S P) → Holds s m → Holds m t → Holds s t
+  Holds-joins s m t p q = record {
+    in_order = ReadsInOrder-joins s m t [] [] p.in_order q.in_order;
+    grows = ReadLogGrows-joins s.log.reads m.log.reads t.log.reads p.grows q.grows;
+    kind = q.kind ∙ p.kind;
+    capacity = le_trans p.capacity q.capacity;
+    consumed = q.consumed ∙ p.consumed;
+    claims = q.claims ∙ p.claims;
   }
 
-module _ {P : Type 0} (ask : ReadTable P) where
+  -- the policy alone, and the policy and then one read
+  Holds-asked : (s t : Buffered S P) (answer : Result DoRead Error) → BeforeRead rules s.policy s.block answer t.policy t.block → t.log ≡ s.log → Holds s t
+  Holds-asked s t answer asked told = record {
+    in_order = record { got = []; given = ap (λ l. l.reads.given) told ∙ sym (append-nil s.log.reads.given); equal = asked.law.bytes ∙ sym (append-nil s.block.bytes) };
+    grows = subst (λ l. ReadLogGrows s.log.reads l.reads) (sym told) (ReadLogGrows-none s.log.reads);
+    kind = asked.law.kind;
+    capacity = asked.law.capacity;
+    consumed = asked.law.consumed;
+    claims = asked.claims;
+  }
+
+  Holds-read : (s t : Buffered S P) (seen : Block) (order : Result DoRead Error) (answer : Result ℕ Error)
+      → BeforeRead rules s.policy s.block order t.policy seen → ReadsOnce seen s.log answer t.block t.log → Holds s t
+  Holds-read s t seen order answer asked read = record {
+    in_order = record {
+      got = taken read.out answer;
+      given = ap (λ l. l.reads.given) read.told;
+      equal = read.added.bytes ∙ ap (λ l. l ++ taken read.out answer) asked.law.bytes;
+    };
+    grows = read_grows seen t.block s.log t.log answer read;
+    kind = read.added.kind ∙ asked.law.kind;
+    capacity = omega (arith, asked.law.capacity, read.added.capacity);
+    consumed = read.added.consumed ∙ asked.law.consumed;
+    claims = asked.claims;
+  }
+
   -- what filled nothing hands out nothing for the same cause, where there is capacity
-  pub empty_read : (s m t : ReaderState P) → EmptyShown ask s m → (m.block.capacity ≡ 0 → ⊥) → t.log.reads.zero_answers ≡ m.log.reads.zero_answers → EmptyRead ask s t
+  pub empty_read : (s m t : Buffered S P) → EmptyFillCaused rules s m → 0 < m.block.capacity → t.log.reads.zero_answers ≡ m.log.reads.zero_answers → EmptyReadCaused rules s t
   empty_read s m t (inl said) room same = inl said
-  empty_read s m t (inr (inl none)) room same = absurd (room none)
+  empty_read s m t (inr (inl none)) room same = absurd (omega (arith, none, room))
   empty_read s m t (inr (inr rose)) room same = inr (omega (arith, same, rose))
 
-  pub record TurnsFacts (k : ℕ) (s t : ReaderState P) : Type 0 where
-    pub hands_on : HandsOn s [] t
+  pub record TurnsFacts (k : ℕ) (s t : Buffered S P) : Type 0 where
+    pub holds : Holds s t
     pub faults : t.log.reads.faults ≡ s.log.reads.faults
     pub zero_answers : t.log.reads.zero_answers ≡ s.log.reads.zero_answers
     pub asks : t.log.reads.asks ≡ s.log.reads.asks + k
     pub longer : length s.block.bytes + k ≤ length t.block.bytes
-    pub capacity : s.block.capacity ≤ t.block.capacity
-    pub kind : t.block.kind ≡ s.block.kind
-    pub consumed : t.block.consumed ≡ s.block.consumed
 
-  same_facts : (s : ReaderState P) → TurnsFacts 0 s s
-  same_facts s = record { hands_on = HandsOn-none s; faults = refl; zero_answers = refl; asks = omega arith; longer = omega arith; capacity = omega arith; kind = refl; consumed = refl }
+  same_facts : (s : Buffered S P) → TurnsFacts 0 s s
+  same_facts s = record { holds = Holds-none s; faults = refl; zero_answers = refl; asks = omega arith; longer = omega arith }
 
-  pub turns_facts : (k : ℕ) (s t : ReaderState P) → Turns ask k s t → TurnsFacts k s t
+  pub turns_facts : (k : ℕ) (s t : Buffered S P) → Turns rules k s t → TurnsFacts k s t
   turns_facts zero s t e = subst (TurnsFacts 0 s) e (same_facts s)
   turns_facts (suc k) s t h =
       let m = h.0 in
       let before = turns_facts k s m h.1 in
       let turn = h.2 in
       let read = turn.read in
-      let law = turn.ordered.lawful in
+      let asked = turn.ordered.asked in
       let once = asked_once turn.seen t.block m.log t.log turn.count read in
       let more = longer turn.seen t.block m.log t.log turn.count read in
       record {
-        hands_on = HandsOn-joins s m t [] [] before.hands_on (HandsOn-read m t turn.seen (Ok turn.count) law read);
+        holds = Holds-joins s m t before.holds (Holds-read m t turn.seen _ (Ok turn.count) asked read);
         faults = ap (λ l. l.reads.faults) read.told ∙ before.faults;
         zero_answers = zero_kept turn.seen t.block m.log t.log turn.count read turn.some ∙ before.zero_answers;
         asks = omega (arith, once, before.asks);
-        longer = omega (arith, more, before.longer, turn.some, ap length law.bytes);
-        capacity = omega (arith, before.capacity, law.capacity, read.added.capacity);
-        kind = read.added.kind ∙ law.kind ∙ before.kind;
-        consumed = read.added.consumed ∙ law.consumed ∙ before.consumed;
+        longer = omega (arith, more, before.longer, turn.some, ap length asked.law.bytes);
       }
 
   -- the last ask of a turn
-  last_of_turns : (k : ℕ) (s t : ReaderState P) → Turns ask (suc k) s t → LastAsk ask s t
+  last_of_turns : (k : ℕ) (s t : Buffered S P) → Turns rules (suc k) s t → LastAsk rules s t
   last_of_turns k s t h =
       let m = h.0 in
       let before = turns_facts k s m h.1 in
@@ -110,12 +179,12 @@ module _ {P : Type 0} (ask : ReadTable P) where
         offer = ap (λ l. l.reads.offer) turn.read.told ∙ turn.read.offered;
       }
 
-  last_of : (k : ℕ) (s m : ReaderState P) → Turns ask k s m → s.log.reads.asks < m.log.reads.asks → LastAsk ask s m
+  last_of : (k : ℕ) (s m : Buffered S P) → Turns rules k s m → s.log.reads.asks < m.log.reads.asks → LastAsk rules s m
   last_of zero s m e some = absurd (omega (arith, ap (λ x. x.log.reads.asks) e))
   last_of (suc k) s m h some = last_of_turns k s m h
 
   -- the reader was not asked since
-  last_kept : (k : ℕ) (s m t : ReaderState P) → Turns ask k s m → t.log ≡ m.log → s.log.reads.asks < t.log.reads.asks → LastAsk ask s t
+  last_kept : (k : ℕ) (s m t : Buffered S P) → Turns rules k s m → t.log ≡ m.log → s.log.reads.asks < t.log.reads.asks → LastAsk rules s t
   last_kept k s m t h same some =
       let asks : t.log.reads.asks ≡ m.log.reads.asks = ap (λ l. l.reads.asks) same in
       let a = last_of k s m h (omega (arith, asks)) in record {
@@ -129,65 +198,42 @@ module _ {P : Type 0} (ask : ReadTable P) where
       }
 
   -- the facts of a whole filling
-  pub record FilledFacts {A : Type 0} (s : ReaderState P) (answer : Result A Error) (t : ReaderState P) : Type 0 where
-    pub hands_on : HandsOn s [] t
-    pub grows : ReadLogGrows s.log.reads t.log.reads
-    pub caused : Caused ask s answer t
-    pub stopped : Stopped ask s answer t
-    pub kind : t.block.kind ≡ s.block.kind
-    pub capacity : s.block.capacity ≤ t.block.capacity
-    pub consumed : t.block.consumed ≡ s.block.consumed
-    pub empty : is_ok answer ≡ true → length t.block.bytes ≡ 0 → EmptyShown ask s t
-    pub last : s.log.reads.asks < t.log.reads.asks → LastAsk ask s t
+  pub record FilledFacts {A : Type 0} (s : Buffered S P) (answer : Result A Error) (t : Buffered S P) : Type 0 where
+    pub holds : Holds s t
+    pub caused : ReadErrorCaused rules s answer t
+    pub ended : FillEnded rules s answer t
+    pub empty : is_ok answer ≡ true → length t.block.bytes ≡ 0 → EmptyFillCaused rules s t
+    pub last : s.log.reads.asks < t.log.reads.asks → LastAsk rules s t
 
-  -- the log of some turns, after which the reader was not asked
-  grows_by_turns : (k : ℕ) (s m t : ReaderState P) → TurnsFacts k s m → t.log ≡ m.log → ReadLogGrows s.log.reads t.log.reads
-  grows_by_turns k s m t before same = record {
-    given = (before.hands_on.got, ap (λ l. l.reads.given) same ∙ before.hands_on.given);
-    asks = omega (arith, before.asks, ap (λ l. l.reads.asks) same);
-    zero_answers = omega (arith, before.zero_answers, ap (λ l. l.reads.zero_answers) same);
-    faults = ([], ap (λ l. l.reads.faults) same ∙ before.faults ∙ sym (append-nil s.log.reads.faults));
-  }
-
-  ok_facts : {A : Type 0} (k : ℕ) (s m t : ReaderState P) (a : A) → TurnsFacts k s m → Turns ask k s m → Ends ask m (Ok a) t → FilledFacts s (Ok a) t
-  ok_facts k s m t a before turns (inl end) = record {
-    hands_on = HandsOn-joins s m t [] [] before.hands_on (HandsOn-same m t (ap (λ l. l.reads.given) end.told) end.lawful.bytes);
-    grows = grows_by_turns k s m t before end.told;
+  ok_facts : {A : Type 0} (k : ℕ) (s m t : Buffered S P) (a : A) → IsBlock t.block → TurnsFacts k s m → Turns rules k s m → Ends rules m (Ok a) t
+      → FilledFacts s (Ok a) t
+  ok_facts k s m t a whole before turns (inl end) = record {
+    holds = Holds-joins s m t before.holds (Holds-asked m t _ end.asked end.told);
     caused = ap (λ l. l.reads.faults) end.told ∙ before.faults;
-    stopped = inl (record { policy = m.policy; block = m.block; gave = end.asked; lawful = end.lawful });
-    kind = end.lawful.kind ∙ before.kind;
-    capacity = omega (arith, before.capacity, end.lawful.capacity);
-    consumed = end.lawful.consumed ∙ before.consumed;
-    empty = λ _ none. inl (record { policy = m.policy; policy' = t.policy; before = m.block; after = t.block; gave = end.asked; bytes = no_bytes_of m.block.bytes (omega (arith, ap length end.lawful.bytes)) });
+    ended = inl (record { policy = m.policy; block = m.block; gave = end.asked });
+    empty = λ _ none. inl (record {
+      policy = m.policy;
+      policy' = t.policy;
+      before = m.block;
+      after = t.block;
+      gave = end.asked;
+      bytes = nil_from_length m.block.bytes (omega (arith, ap length end.asked.law.bytes));
+    });
     last = last_kept k s m t turns end.told;
   }
-  ok_facts k s m t a before turns (inr (inl end)) = record {
-    hands_on = HandsOn-joins s m t [] [] before.hands_on (HandsOn-same m t (ap (λ l. l.reads.given) end.told) end.lawful.bytes);
-    grows = grows_by_turns k s m t before end.told;
+  ok_facts k s m t a whole before turns (inr (inl end)) = record {
+    holds = Holds-joins s m t before.holds (Holds-asked m t _ end.asked end.told);
     caused = ap (λ l. l.reads.faults) end.told ∙ before.faults;
-    stopped = inr (inl (end.full, record { policy = m.policy; block = m.block; gave = end.asked; lawful = end.lawful }));
-    kind = end.lawful.kind ∙ before.kind;
-    capacity = omega (arith, before.capacity, end.lawful.capacity);
-    consumed = end.lawful.consumed ∙ before.consumed;
-    empty = λ _ none. inr (inl (full_empty t.block end.whole end.full none));
+    ended = inr (inl (end.full, record { policy = m.policy; block = m.block; gave = end.asked }));
+    empty = λ _ none. inr (inl (full_empty t.block whole end.full none));
     last = last_kept k s m t turns end.told;
   }
-  ok_facts k s m t a before turns (inr (inr end)) =
+  ok_facts k s m t a whole before turns (inr (inr end)) =
       let rose = zero_rose end.seen t.block m.log t.log end.read end.ordered.room in
-      let once = asked_once end.seen t.block m.log t.log 0 end.read in
-      let both = HandsOn-joins s m t [] [] before.hands_on (HandsOn-read m t end.seen (Ok 0) end.ordered.lawful end.read) in record {
-        hands_on = both;
-        grows = record {
-          given = (both.got, both.given);
-          asks = omega (arith, before.asks, once);
-          zero_answers = omega (arith, before.zero_answers, rose);
-          faults = ([], ap (λ l. l.reads.faults) end.read.told ∙ before.faults ∙ sym (append-nil s.log.reads.faults));
-        };
+      let once = asked_once end.seen t.block m.log t.log 0 end.read in record {
+        holds = Holds-joins s m t before.holds (Holds-read m t end.seen _ (Ok 0) end.ordered.asked end.read);
         caused = ap (λ l. l.reads.faults) end.read.told ∙ before.faults;
-        stopped = inr (inr (omega (arith, before.zero_answers, rose)));
-        kind = end.read.added.kind ∙ end.ordered.lawful.kind ∙ before.kind;
-        capacity = omega (arith, before.capacity, end.ordered.lawful.capacity, end.read.added.capacity);
-        consumed = end.read.added.consumed ∙ end.ordered.lawful.consumed ∙ before.consumed;
+        ended = inr (inr (omega (arith, before.zero_answers, rose)));
         empty = λ _ none. inr (inr (omega (arith, before.zero_answers, rose)));
         last = λ some. record {
           policy = m.policy;
@@ -200,33 +246,20 @@ module _ {P : Type 0} (ask : ReadTable P) where
         };
       }
 
-  err_facts : {A : Type 0} (k : ℕ) (s m t : ReaderState P) (e : Error) → TurnsFacts k s m → Turns ask k s m → Ends {A = A} ask m (Err e) t → FilledFacts {A = A} s (Err e) t
+  err_facts : {A : Type 0} (k : ℕ) (s m t : Buffered S P) (e : Error) → TurnsFacts k s m → Turns rules k s m → Ends {A = A} rules m (Err e) t
+      → FilledFacts {A = A} s (Err e) t
   err_facts k s m t e before turns (inl end) = record {
-    hands_on = HandsOn-joins s m t [] [] before.hands_on (HandsOn-same m t (ap (λ l. l.reads.given) end.told) end.lawful.bytes);
-    grows = grows_by_turns k s m t before end.told;
-    caused = inr (record { policy = m.policy; block = m.block; gave = end.asked; lawful = end.lawful });
-    stopped = tt;
-    kind = end.lawful.kind ∙ before.kind;
-    capacity = omega (arith, before.capacity, end.lawful.capacity);
-    consumed = end.lawful.consumed ∙ before.consumed;
+    holds = Holds-joins s m t before.holds (Holds-asked m t _ end.asked end.told);
+    caused = inr (record { policy = m.policy; block = m.block; gave = end.asked });
+    ended = tt;
     empty = λ no. cc;
     last = last_kept k s m t turns end.told;
   }
   err_facts k s m t e before turns (inr end) =
-      let once : t.log.reads.asks ≡ m.log.reads.asks + 1 = ap (λ l. l.reads.asks) end.read.told in
-      let both = HandsOn-joins s m t [] [] before.hands_on (HandsOn-read m t end.seen (Err e) end.ordered.lawful end.read) in record {
-        hands_on = both;
-        grows = record {
-          given = (both.got, both.given);
-          asks = omega (arith, before.asks, once);
-          zero_answers = omega (arith, before.zero_answers, ap (λ l. l.reads.zero_answers) end.read.told);
-          faults = (error_kind e ∷ [], ap (λ l. l.reads.faults) end.read.told ∙ ap (λ l. l ++ error_kind e ∷ []) before.faults);
-        };
+      let once : t.log.reads.asks ≡ m.log.reads.asks + 1 = ap (λ l. l.reads.asks) end.read.told in record {
+        holds = Holds-joins s m t before.holds (Holds-read m t end.seen _ (Err e) end.ordered.asked end.read);
         caused = inl (ap (λ l. l.reads.faults) end.read.told ∙ ap (λ l. l ++ error_kind e ∷ []) before.faults);
-        stopped = tt;
-        kind = end.read.added.kind ∙ end.ordered.lawful.kind ∙ before.kind;
-        capacity = omega (arith, before.capacity, end.ordered.lawful.capacity, end.read.added.capacity);
-        consumed = end.read.added.consumed ∙ end.ordered.lawful.consumed ∙ before.consumed;
+        ended = tt;
         empty = λ no. cc;
         last = λ some. record {
           policy = m.policy;
@@ -239,6 +272,6 @@ module _ {P : Type 0} (ask : ReadTable P) where
         };
       }
 
-  pub filled_facts : {A : Type 0} (s : ReaderState P) (answer : Result A Error) (t : ReaderState P) → Filled ask s answer t → FilledFacts s answer t
-  filled_facts s (Ok a) t f = ok_facts f.count s f.last t a (turns_facts f.count s f.last f.turns) f.turns f.ends
-  filled_facts s (Err e) t f = err_facts f.count s f.last t e (turns_facts f.count s f.last f.turns) f.turns f.ends
+  pub filled_facts : {A : Type 0} (s : Buffered S P) (answer : Result A Error) (t : Buffered S P) → IsBlock t.block → Filled rules s answer t → FilledFacts s answer t
+  filled_facts s (Ok a) t whole f = ok_facts f.count s f.last t a whole (turns_facts f.count s f.last f.turns) f.turns f.ends
+  filled_facts s (Err e) t whole f = err_facts f.count s f.last t e (turns_facts f.count s f.last f.turns) f.turns f.ends

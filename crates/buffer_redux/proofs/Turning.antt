@@ -1,47 +1,39 @@
 -- Each way through one turn of filling.
-use Rattle.std.proofs.Common.{◌≡◌, ℕ, ◌<◌, Bool, true, false, Result, Ok, Err, refl, sym, subst, arith}
+use Rattle.std.proofs.Common.{◌≡◌, ℕ, ◌<◌, Bool, true, false, Ok, Err, sym, subst, arith}
 use Rattle.std.specs.declared.io.Error.{Error}
-use Rattle.redux_buffer.specs.Block.{Block, IsBlock, usable}
-use Rattle.redux_buffer.specs.StreamLog.{StreamLog}
+use Rattle.redux_buffer.specs.Block.{Block, usable}
 use Rattle.redux_buffer.specs.Transfer.{ReadsFrom}
 use Rattle.buffer_redux.specs.declared.policy.DoRead.{DoRead}
-use Rattle.buffer_redux.specs.Policy.{Lawful, ReadTable, ReadClaims, ReadAsked, KeepsMinimum, KeepsSteady, KeepsSparing}
-use Rattle.buffer_redux.specs.ReaderState.{ReaderState}
+use Rattle.buffer_redux.specs.Policy.{ReadRules, BeforeRead}
+use Rattle.buffer_redux.specs.Buffered.{Buffered}
 use Rattle.buffer_redux.specs.Fill.{Ordered, Turn, Declined, Full, Dry, Faulted}
 
--- what the clauses of `before_read` say, as one fact
-pub asked_so : {P : Type 0} (table : ReadTable P) (claims : P → ReadClaims) (p : P) (b : Block) (r : Result DoRead Error) (p' : P) (b' : Block)
-    → Lawful b b' → table p b r p' b' → KeepsMinimum (claims p).minimum b r (claims p').minimum b' → KeepsSteady (claims p).steady b r (claims p').steady
-    → KeepsSparing (claims p).spares b (claims p').spares b' → ReadAsked table claims p b r p' b'
-asked_so table claims p b r p' b' law answered minimum steady spares = record { law = law; answered = answered; minimum = minimum; steady = steady; spares = spares }
+module _ {S P : Type 0} (rules : ReadRules P) (s : Buffered S P) where
+  -- the answer as the rules name it
+  asked_as : (d : DoRead) (v : Bool) (p : P) (b : Block) → BeforeRead rules s.policy s.block (Ok d) p b → d.0 ≡ v → BeforeRead rules s.policy s.block (Ok (record { 0 = v })) p b
+  asked_as d v p b a e = subst (λ w. BeforeRead rules s.policy s.block (Ok (record { 0 = w })) p b) e a
 
-module _ {P : Type 0} (ask : ReadTable P) (s : ReaderState P) where
-  -- the answer as the table names it
-  asked_as : (d : DoRead) (v : Bool) (p : P) (b : Block) → ask s.policy s.block (Ok d) p b → d.0 ≡ v → ask s.policy s.block (Ok (record { 0 = v })) p b
-  asked_as d v p b a e = subst (λ w. ask s.policy s.block (Ok (record { 0 = w })) p b) e a
+  ordered : (d : DoRead) (p p' : P) (b : Block) → BeforeRead rules s.policy s.block (Ok d) p b → d.0 ≡ true → 0 < usable b → p' ≡ p → Ordered rules s p' b
+  ordered d p p' b a e room q =
+      subst (λ x. Ordered rules s x b) (sym q) (record { asked = asked_as d true p b a e; room = room })
 
-  ordered : (d : DoRead) (p p' : P) (b : Block) → ask s.policy s.block (Ok d) p b → d.0 ≡ true → Lawful s.block b → 0 < usable b → p' ≡ p → Ordered ask s p' b
-  ordered d p p' b a e law room q =
-      subst (λ x. Ordered ask s x b) (sym q) (record { asked = asked_as d true p b a e; lawful = law; room = room })
+  pub declined_made : (d : DoRead) (t : Buffered S P) → BeforeRead rules s.policy s.block (Ok d) t.policy t.block → d.0 ≡ false → t.log ≡ s.log → Declined rules s t
+  declined_made d t a e same = record { asked = asked_as d false t.policy t.block a e; told = same }
 
-  pub declined_made : (d : DoRead) (p : P) (b : Block) → ask s.policy s.block (Ok d) p b → d.0 ≡ false → Lawful s.block b
-      → Declined ask s (record { policy = p; block = b; log = s.log })
-  declined_made d p b a e law = record { asked = asked_as d false p b a e; lawful = law; told = refl }
+  pub full_made : (d : DoRead) (t : Buffered S P) → BeforeRead rules s.policy s.block (Ok d) t.policy t.block → d.0 ≡ true → usable t.block ≡ 0
+      → t.log ≡ s.log → Full rules s t
+  full_made d t a e full same = record { asked = asked_as d true t.policy t.block a e; full = full; told = same }
 
-  pub full_made : (d : DoRead) (p : P) (b : Block) → ask s.policy s.block (Ok d) p b → d.0 ≡ true → Lawful s.block b → usable b ≡ 0 → IsBlock b
-      → Full ask s (record { policy = p; block = b; log = s.log })
-  full_made d p b a e law full whole = record { asked = asked_as d true p b a e; lawful = law; full = full; whole = whole; told = refl }
+  module _ (t : Buffered S P) (d : DoRead) (p : P) (b : Block) (asked : BeforeRead rules s.policy s.block (Ok d) p b) (yes : d.0 ≡ true) (room : 0 < usable b) (same : t.policy ≡ p) where
+    pub turn_made : (n : ℕ) → ReadsFrom b s.log (Ok n) t.block t.log → (n ≡ 0 → ⊥) → Turn rules s t
+    turn_made n read some = record { seen = b; count = n; ordered = ordered d p t.policy b asked yes room same; some = omega (arith, some); read = read.read room }
 
-  module _ (d : DoRead) (p p' : P) (b b' : Block) (log : StreamLog) (asked : ask s.policy s.block (Ok d) p b) (yes : d.0 ≡ true) (law : Lawful s.block b) (room : 0 < usable b) (same : p' ≡ p) where
-    pub turn_made : (n : ℕ) → ReadsFrom b s.log (Ok n) b' log → (n ≡ 0 → ⊥) → Turn ask s (record { policy = p'; block = b'; log = log })
-    turn_made n read some = record { seen = b; count = n; ordered = ordered d p p' b asked yes law room same; some = omega (arith, some); read = read.read room }
-
-    pub dry_made : (n : ℕ) → ReadsFrom b s.log (Ok n) b' log → n ≡ 0 → Dry ask s (record { policy = p'; block = b'; log = log })
+    pub dry_made : (n : ℕ) → ReadsFrom b s.log (Ok n) t.block t.log → n ≡ 0 → Dry rules s t
     dry_made n read none = record {
       seen = b;
-      ordered = ordered d p p' b asked yes law room same;
-      read = (subst (λ k. ReadsFrom b s.log (Ok k) b' log) none read).read room;
+      ordered = ordered d p t.policy b asked yes room same;
+      read = (subst (λ k. ReadsFrom b s.log (Ok k) t.block t.log) none read).read room;
     }
 
-    pub faulted_made : (e : Error) → ReadsFrom b s.log (Err e) b' log → Faulted ask s e (record { policy = p'; block = b'; log = log })
-    faulted_made e read = record { seen = b; ordered = ordered d p p' b asked yes law room same; read = read.read room }
+    pub faulted_made : (e : Error) → ReadsFrom b s.log (Err e) t.block t.log → Faulted rules s e t
+    faulted_made e read = record { seen = b; ordered = ordered d p t.policy b asked yes room same; read = read.read room }

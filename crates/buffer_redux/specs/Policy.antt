@@ -1,33 +1,128 @@
 -- What a policy may do, and what it may claim.
-use Rattle.std.specs.Prelude.{◌≡◌, ℕ, ◌*◌, ◌<◌, ◌≤◌, ◌==◌, Bool, true, false, length, Result, Ok, Err, IsOk, MatchResult, MatchBool, ⊤, Option, None, Some, nat_lt, if◌then◌else◌}
+use Rattle.std.specs.Prelude.{◌≡◌, ℕ, List, ◌-◌, slice_index, ◌*◌, ◌<◌, ◌≤◌, ◌==◌, Bool, true, false, length, Result, Ok, Err, IfOk, IsOkAnd, MatchBool, ⊤, Option, None, Some, nat_lt, if◌then◌else◌}
 use Rattle.std.specs.declared.io.Error.{Error}
-use Rattle.redux_buffer.specs.Block.{Block, OnKind, usable}
+use Rattle.redux_buffer.specs.Block.{Block, IsBlock, OnKind, usable}
 use Rattle.redux_buffer.specs.Potential.{potential}
 use Rattle.buffer_redux.specs.declared.policy.DoRead.{DoRead}
 use Rattle.buffer_redux.specs.declared.policy.FlushAmt.{FlushAmt}
 
--- the law of every policy's call, also where it answers `Err`
+-- the law of every policy's call, also where it returns `Err`
 pub record Lawful (old new : Block) : Type 0 where
   pub bytes : new.bytes ≡ old.bytes
   pub kind : new.kind ≡ old.kind
   pub consumed : new.consumed ≡ old.consumed
   pub capacity : old.capacity ≤ new.capacity
+  pub whole : IsBlock old → IsBlock new
 
--- what a call of `before_read` may be: the policy and the buffer before, the answer, and both after
-abbrev pub ReadTable : Type 0 → Type 1
-ReadTable P = P → Block → Result DoRead Error → P → Block → Type 0
+-- a table: which calls of `before_read` there may be, by the policy and the buffer before, the answer, and both after
+abbrev pub BeforeReadTable : Type 0 → Type 1
+BeforeReadTable P = P → Block → Result DoRead Error → P → Block → Type 0
 
 -- the same of `after_consume` of an amount
-abbrev pub ConsumeTable : Type 0 → Type 1
-ConsumeTable P = P → Block → ℕ → P → Block → Type 0
+abbrev pub AfterConsumeTable : Type 0 → Type 1
+AfterConsumeTable P = P → Block → ℕ → P → Block → Type 0
 
 -- the same of `before_write` of so many incoming bytes
-abbrev pub WriteTable : Type 0 → Type 1
-WriteTable P = P → Block → ℕ → Result FlushAmt Error → P → Block → Type 0
+abbrev pub BeforeWriteTable : Type 0 → Type 1
+BeforeWriteTable P = P → Block → ℕ → Result FlushAmt Error → P → Block → Type 0
 
 -- the same of `after_write`, which leaves the buffer
-abbrev pub WrittenTable : Type 0 → Type 1
-WrittenTable P = P → Block → FlushAmt → P → Type 0
+abbrev pub AfterWriteTable : Type 0 → Type 1
+AfterWriteTable P = P → Block → FlushAmt → P → Type 0
+
+-- what a reader's policy may claim beyond its tables
+pub record ReadClaims : Type 0 where
+  -- it has filling go on until this many bytes are there, and no longer
+  pub minimum : Option ℕ
+  -- it returns no error, and reads into an empty buffer
+  pub steady : Bool
+  -- it spares each number from this one on: where the capacity is three times as large, it doesn't raise the potential
+  pub spares : Option ℕ
+
+abbrev pub no_read_claims : ReadClaims
+no_read_claims = record { minimum = None; steady = false; spares = None }
+
+-- what a writer's policy may claim: that it returns no error, and flushes all where the incoming bytes don't fit
+pub record WriteClaims : Type 0 where
+  pub steady : Bool
+
+abbrev pub no_write_claims : WriteClaims
+no_write_claims = record { steady = false }
+
+-- what the calls of a reader's policy may answer and change beside the law, and what it claims
+pub record ReadRules (P : Type 0) : Type 1 where
+  pub before_read : BeforeReadTable P
+  pub after_consume : AfterConsumeTable P
+  pub claims : P → ReadClaims
+
+-- the same of a writer's policy
+pub record WriteRules (P : Type 0) : Type 1 where
+  pub before_write : BeforeWriteTable P
+  pub after_write : AfterWriteTable P
+  pub claims : P → WriteClaims
+
+-- no more than the law
+abbrev pub any_read_rules : {P : Type 0} → ReadRules P
+any_read_rules = record { before_read = λ _ _ _ _ _. ⊤; after_consume = λ _ _ _ _ _. ⊤; claims = λ _. no_read_claims }
+
+abbrev pub any_write_rules : {P : Type 0} → WriteRules P
+any_write_rules = record { before_write = λ _ _ _ _ _ _. ⊤; after_write = λ _ _ _ _. ⊤; claims = λ _. no_write_claims }
+
+-- what each claim asks of a call of `before_read`. A minimum: it reads where fewer bytes are there, and leaves room then
+abbrev pub ReadsToMinimum : Option ℕ → Block → Result DoRead Error → Block → Type 0
+ReadsToMinimum None b answer b' = ⊤
+ReadsToMinimum (Some n) b answer b' =
+    IfOk answer (λ d. MatchBool d.0 ((length b.bytes < n) × (0 < usable b')) (n ≤ length b.bytes))
+
+abbrev pub ReadsSteadily : Bool → Block → Result DoRead Error → Type 0
+ReadsSteadily false b answer = ⊤
+ReadsSteadily true b answer = IsOkAnd answer (λ d. length b.bytes ≡ 0 → d.0 ≡ true)
+
+-- a plain buffer of three times the number moves no more bytes than its potential falls
+pub record SparesPlain (n : ℕ) (old new : Block) : Type 0 where
+  pub moved : old.moved ≤ new.moved
+  pub held : (keep : ℕ) → n ≤ keep → 3 * keep ≤ old.capacity → potential keep new ≤ potential keep old
+
+abbrev pub Spares : Option ℕ → Block → Block → Type 0
+Spares None old new = ⊤
+Spares (Some n) old new = OnKind old.kind (SparesPlain n old new) ⊤
+
+-- what the claim asks of a call of `before_write`
+abbrev pub FlushesSteadily : Bool → ℕ → Result FlushAmt Error → Block → Type 0
+FlushesSteadily false incoming answer b' = ⊤
+FlushesSteadily true incoming answer b' = IsOkAnd answer (λ a. usable b' < incoming → a.0 ≡ length b'.bytes)
+
+-- one call of `before_read`. What the policy claims doesn't change in a call
+pub record BeforeRead {P : Type 0} (rules : ReadRules P)
+    (p : P) (b : Block) (answer : Result DoRead Error) (p' : P) (b' : Block) : Type 0 where
+  pub law : Lawful b b'
+  pub allowed : rules.before_read p b answer p' b'
+  pub claims : rules.claims p' ≡ rules.claims p
+  pub minimum : ReadsToMinimum (rules.claims p).minimum b answer b'
+  pub steady : ReadsSteadily (rules.claims p).steady b answer
+  pub spares : Spares (rules.claims p).spares b b'
+
+-- one call of `after_consume` of so many bytes
+pub record AfterConsume {P : Type 0} (rules : ReadRules P)
+    (p : P) (b : Block) (amount : ℕ) (p' : P) (b' : Block) : Type 0 where
+  pub law : Lawful b b'
+  pub allowed : rules.after_consume p b amount p' b'
+  pub claims : rules.claims p' ≡ rules.claims p
+  pub spares : Spares (rules.claims p).spares b b'
+
+-- one call of `before_write` of so many incoming bytes
+pub record BeforeWrite {P : Type 0} (rules : WriteRules P)
+    (p : P) (b : Block) (incoming : ℕ) (answer : Result FlushAmt Error) (p' : P) (b' : Block) : Type 0 where
+  pub law : Lawful b b'
+  pub allowed : rules.before_write p b incoming answer p' b'
+  pub claims : rules.claims p' ≡ rules.claims p
+  pub steady : FlushesSteadily (rules.claims p).steady incoming answer b'
+
+-- one call of `after_write`
+pub record AfterWrite {P : Type 0} (rules : WriteRules P) (p : P) (b : Block) (amount : FlushAmt)
+    (p' : P) : Type 0 where
+  pub allowed : rules.after_write p b amount p'
+  pub claims : rules.claims p' ≡ rules.claims p
 
 -- the answers `Ok(DoRead(false))` and `Ok(DoRead(true))`
 abbrev pub no_read : Result DoRead Error
@@ -41,78 +136,38 @@ abbrev pub amount_when_full : Block → ℕ → ℕ
 amount_when_full b incoming = if nat_lt (usable b) incoming then length b.bytes else 0
 
 -- `StdPolicy` reads only where nothing is buffered, and changes nothing
-abbrev pub std_read_table : {P : Type 0} → ReadTable P
-std_read_table p b (Ok d) p' b' = (p' ≡ p) × (b' ≡ b) × (d.0 ≡ (length b.bytes == 0))
-std_read_table p b (Err e) p' b' = ⊥
+abbrev pub std_before_read : {P : Type 0} → BeforeReadTable P
+std_before_read p b (Ok d) p' b' = (p' ≡ p) × (b' ≡ b) × (d.0 ≡ (length b.bytes == 0))
+std_before_read p b (Err e) p' b' = ⊥
 
--- `StdPolicy` flushes all where the incoming bytes don't fit, and changes nothing
-abbrev pub std_write_table : {P : Type 0} → WriteTable P
-std_write_table p b incoming (Ok a) p' b' = (p' ≡ p) × (b' ≡ b) × (a.0 ≡ amount_when_full b incoming)
-std_write_table p b incoming (Err e) p' b' = ⊥
+abbrev pub std_read_rules : {P : Type 0} → ReadRules P
+std_read_rules = record {
+  before_read = std_before_read;
+  after_consume = λ p b n p' b'. (p' ≡ p) × (b' ≡ b);
+  claims = λ p. record { minimum = None; steady = true; spares = Some 0 };
+}
 
--- what a reader's policy may claim beyond its table
-pub record ReadClaims : Type 0 where
-  -- it has filling go on until this many bytes are there, and no longer
-  pub minimum : Option ℕ
-  -- it answers no error, and reads into an empty buffer
-  pub steady : Bool
-  -- it spares each number from this one on: where the capacity is three times as large, it doesn't raise the potential
-  pub spares : Option ℕ
+-- `StdPolicy` flushes all before a write that doesn't fit, nothing after one, and changes nothing
+abbrev pub std_before_write : {P : Type 0} → BeforeWriteTable P
+std_before_write p b incoming (Ok a) p' b' = (p' ≡ p) × (b' ≡ b) × (a.0 ≡ amount_when_full b incoming)
+std_before_write p b incoming (Err e) p' b' = ⊥
 
-abbrev pub no_read_claims : ReadClaims
-no_read_claims = record { minimum = None; steady = false; spares = None }
+abbrev pub std_write_rules : {P : Type 0} → WriteRules P
+std_write_rules = record {
+  before_write = std_before_write;
+  after_write = λ p b a p'. (p' ≡ p) × (a.0 ≡ 0);
+  claims = λ p. record { steady = true };
+}
 
--- what a writer's policy may claim: that it answers no error, and flushes all where the incoming bytes don't fit
-pub record WriteClaims : Type 0 where
-  pub steady : Bool
+-- an amount that goes through the last such byte, and is 0 where there is none
+pub record FlushesThrough (byte : ℕ) (bytes : List ℕ) (amount : ℕ) : Type 0 where
+  pub last : 0 < amount → (amount ≤ length bytes) × (slice_index bytes (amount - 1) ≡ byte)
+  pub none_after : (k : ℕ) → amount ≤ k → k < length bytes → ¬ (slice_index bytes k ≡ byte)
 
-abbrev pub no_write_claims : WriteClaims
-no_write_claims = record { steady = false }
-
--- what each claim asks of a call of `before_read`
-abbrev pub KeepsMinimum : Option ℕ → Block → Result DoRead Error → Option ℕ → Block → Type 0
-KeepsMinimum None b r claim' b' = ⊤
-KeepsMinimum (Some n) b r claim' b' = (claim' ≡ Some n)
-    × MatchResult r (λ d. MatchBool d.0 ((length b.bytes < n) × (0 < usable b')) (n ≤ length b.bytes)) (λ _. ⊤)
-
-abbrev pub KeepsSteady : Bool → Block → Result DoRead Error → Bool → Type 0
-KeepsSteady false b r claim' = ⊤
-KeepsSteady true b r claim' = (claim' ≡ true) × IsOk r × (length b.bytes ≡ 0 → MatchResult r (λ d. d.0 ≡ true) (λ _. ⊤))
-
--- a plain buffer of three times the capacity moves no more than its potential falls
-abbrev pub SparesPlain : ℕ → Block → Block → Type 0
-SparesPlain n b b' = (b.moved ≤ b'.moved) × ((keep : ℕ) → n ≤ keep → 3 * keep ≤ b.capacity → potential keep b' ≤ potential keep b)
-
-abbrev pub KeepsSparing : Option ℕ → Block → Option ℕ → Block → Type 0
-KeepsSparing None b claim' b' = ⊤
-KeepsSparing (Some n) b claim' b' = (claim' ≡ Some n) × OnKind b.kind (SparesPlain n b b') ⊤
-
--- what the claim asks of a call of `before_write`
-abbrev pub FlushesSteadily : Bool → ℕ → Result FlushAmt Error → Bool → Block → Type 0
-FlushesSteadily false incoming r claim' b' = ⊤
-FlushesSteadily true incoming r claim' b' = (claim' ≡ true) × IsOk r
-    × MatchResult r (λ a. usable b' < incoming → a.0 ≡ length b'.bytes) (λ _. ⊤)
-
-abbrev pub StaysSteady : Bool → Bool → Type 0
-StaysSteady false claim' = ⊤
-StaysSteady true claim' = claim' ≡ true
-
--- one call of `before_read`, as a reader knows it
-pub record ReadAsked {P : Type 0} (table : ReadTable P) (claims : P → ReadClaims) (p : P) (b : Block) (r : Result DoRead Error) (p' : P) (b' : Block) : Type 0 where
-  pub law : Lawful b b'
-  pub answered : table p b r p' b'
-  pub minimum : KeepsMinimum (claims p).minimum b r (claims p').minimum b'
-  pub steady : KeepsSteady (claims p).steady b r (claims p').steady
-  pub spares : KeepsSparing (claims p).spares b (claims p').spares b'
-
-abbrev pub read_ask : {P : Type 0} → ReadTable P → (P → ReadClaims) → ReadTable P
-read_ask table claims p b r p' b' = ReadAsked table claims p b r p' b'
-
--- one call of `before_write`, as a writer knows it
-pub record WriteAsked {P : Type 0} (table : WriteTable P) (claims : P → WriteClaims) (p : P) (b : Block) (incoming : ℕ) (r : Result FlushAmt Error) (p' : P) (b' : Block) : Type 0 where
-  pub law : Lawful b b'
-  pub answered : table p b incoming r p' b'
-  pub steady : FlushesSteadily (claims p).steady incoming r (claims p').steady b'
-
-abbrev pub write_ask : {P : Type 0} → WriteTable P → (P → WriteClaims) → WriteTable P
-write_ask table claims p b incoming r p' b' = WriteAsked table claims p b incoming r p' b'
+-- `FlushOn` flushes after a write through the last such byte, and does else what `StdPolicy` does
+abbrev pub flush_on_rules : {P : Type 0} → (P → ℕ) → WriteRules P
+flush_on_rules byte = record {
+  before_write = std_before_write;
+  after_write = λ p b a p'. (p' ≡ p) × FlushesThrough (byte p) b.bytes (a.0);
+  claims = λ p. record { steady = true };
+}

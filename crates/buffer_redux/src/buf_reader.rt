@@ -1,58 +1,62 @@
 //! The buffered reader.
-ghost use Rattle.std.specs.Prelude.{◌≡◌, ◌<◌, ◌≤◌, ◌^◌, [], length, take, min, Ok, IfOk, IfErr, OnErr, IsOk};
-ghost use Rattle.std.specs.Borrow.{sem};
+ghost use Rattle.std.specs.Prelude.{◌≡◌, ◌<◌, ◌≤◌, ◌^◌, [], length, take, drop, min, Ok, IfOk, OnErr, IsOk};
+ghost use Rattle.std.specs.Borrow.{sem, Lends};
 ghost use Rattle.std.specs.Io.{ReadsAtMost};
 ghost use Rattle.std.specs.Io.BufRead.{Rests};
-ghost use Rattle.redux_buffer.specs.Block.{Plain, Ring, IsNew, Keeps, round, usable};
-ghost use Rattle.redux_buffer.specs.Grow.{FitsWithin};
-ghost use Rattle.redux_buffer.specs.StreamLog.{taken};
+ghost use Rattle.redux_buffer.specs.Block.{Plain, Ring, IsBlock, LeavesBytes, round, usable};
+ghost use Rattle.redux_buffer.specs.LogGrows.{ReadLogGrows};
+ghost use Rattle.redux_buffer.specs.StreamLog.{taken, after_read};
 ghost use Rattle.redux_buffer.specs.Transfer.{ReadsFrom};
 ghost use Rattle.buffer_redux.specs.contracts.buf_reader.BufReader.{the_row};
-ghost use Rattle.buffer_redux.specs.MakeError.{growth};
-ghost use Rattle.buffer_redux.specs.Policy.{read_ask};
 ghost use Rattle.buffer_redux.specs.Fill.{Filled};
-ghost use Rattle.buffer_redux.specs.ReaderState.{reader_state, reader_block, reader_inner, reader_policy};
-ghost use Rattle.buffer_redux.specs.BufReader.{HandsOn, Caused, EmptyRead, Fills, Consumes, ReadsDirect, ReadsBuffered, GoesPast, StaysInside};
+ghost use Rattle.buffer_redux.specs.Buffered.{with_inner, with_policy, Makes, GoesPast, StaysInside, GoesDirect};
+ghost use Rattle.buffer_redux.specs.BufReader.{ReadsInOrder, ReadErrorCaused, EmptyReadCaused, RanDry, FillBuf, ReaderConsumes, ReadsBuffered, LeavesRest};
+ghost use Rattle.buffer_redux.specs.ReaderLaws.{WantsBytes};
 
 use crate::errors::MakeError;
 use crate::policy::{ReaderPolicy, StdPolicy};
-use redux_buffer::tell::TellRead;
+use redux_buffer::laws::block_law;
+use redux_buffer::tell::{Tell, TellRead};
 use redux_buffer::{Buffer, DEFAULT_BUF_SIZE};
 use std::alloc::Global;
 use std::io;
 use std::io::{BufRead, Read};
-
-#[cfg(test)]
-mod tests;
+use std::marker::Model;
 
 /// A reader with a buffer, which reads ahead as its policy says.
 ///
 /// No byte is lost or changes place: what was handed out, then what is buffered, is what was buffered at first, then
 /// what the inner reader gave.
 #[derive(Drop)]
-pub struct BufReader<R, P = StdPolicy> {
+pub struct BufReader<R: Tell, P = StdPolicy> {
     buf: Buffer,
     inner: R,
     policy: P,
 }
 
-impl<R> BufReader<R, StdPolicy> {
+impl<R: Tell, P> Model for BufReader<R, P> {
+    ghost use Rattle.redux_buffer.specs.Block.{IsBlock};
+    ghost use Rattle.buffer_redux.specs.Buffered.{Buffered};
+
+    ghost Value = { Buffered R P };
+
+    ghost view = { λ r. record { policy = r.policy; block = r.buf; inner = r.inner; log = R.log r.inner } };
+
+    // What is true of every buffer, said again where a policy changes it.
+    ghost invariant = { λ r. IsBlock r.buf };
+}
+
+impl<R: Tell> BufReader<R, StdPolicy> {
     /// A reader over a plain buffer of [`DEFAULT_BUF_SIZE`] bytes. A refusal hands `inner` back.
     pub fn new(alloc: Global, inner: R) -> Result<Self, MakeError<R>>
-        ensures made { IfOk result (λ r. IsNew Plain 8192 (reader_block r)) }
-        ensures inner { IfOk result (λ r. reader_inner r ≡ inner) }
-        ensures handed_back { IfErr result (λ e. e.0 ≡ inner) }
-        ensures limit { FitsWithin (growth result) 8192 (2 ^ 62) }
+        ensures made { Makes R.log Plain 8192 (2 ^ 62) inner result }
     {
         BufReader::with_capacity(alloc, DEFAULT_BUF_SIZE, inner)
     }
 
     /// A reader over a plain buffer of `cap` bytes. A refusal hands `inner` back.
     pub fn with_capacity(alloc: Global, cap: usize, inner: R) -> Result<Self, MakeError<R>>
-        ensures made { IfOk result (λ r. IsNew Plain cap (reader_block r)) }
-        ensures inner { IfOk result (λ r. reader_inner r ≡ inner) }
-        ensures handed_back { IfErr result (λ e. e.0 ≡ inner) }
-        ensures limit { FitsWithin (growth result) cap (2 ^ 62) }
+        ensures made { Makes R.log Plain cap (2 ^ 62) inner result }
         ensures succeeds { cap ≡ 0 → IsOk result }
     {
         match Buffer::with_capacity(alloc, cap) {
@@ -63,10 +67,7 @@ impl<R> BufReader<R, StdPolicy> {
 
     /// A reader over a ring of [`DEFAULT_BUF_SIZE`] bytes. A refusal hands `inner` back.
     pub fn new_ringbuf(alloc: Global, inner: R) -> Result<Self, MakeError<R>>
-        ensures made { IfOk result (λ r. IsNew Ring 8192 (reader_block r)) }
-        ensures inner { IfOk result (λ r. reader_inner r ≡ inner) }
-        ensures handed_back { IfErr result (λ e. e.0 ≡ inner) }
-        ensures limit { FitsWithin (growth result) 8192 (2 ^ 61) }
+        ensures made { Makes R.log Ring 8192 (2 ^ 61) inner result }
     {
         BufReader::with_capacity_ringbuf(alloc, DEFAULT_BUF_SIZE, inner)
     }
@@ -74,10 +75,7 @@ impl<R> BufReader<R, StdPolicy> {
     /// A reader over a ring whose capacity in bytes is the least multiple of [`RING_UNIT`](crate::RING_UNIT) that is at least
     /// `cap`. A refusal hands `inner` back.
     pub fn with_capacity_ringbuf(alloc: Global, cap: usize, inner: R) -> Result<Self, MakeError<R>>
-        ensures made { IfOk result (λ r. IsNew Ring (round cap) (reader_block r)) }
-        ensures inner { IfOk result (λ r. reader_inner r ≡ inner) }
-        ensures handed_back { IfErr result (λ e. e.0 ≡ inner) }
-        ensures limit { FitsWithin (growth result) (round cap) (2 ^ 61) }
+        ensures made { Makes R.log Ring (round cap) (2 ^ 61) inner result }
         ensures succeeds { cap ≡ 0 → IsOk result }
     {
         match Buffer::with_capacity_ringbuf(alloc, cap) {
@@ -88,9 +86,9 @@ impl<R> BufReader<R, StdPolicy> {
 
     /// A reader over a buffer of yours. The bytes that `buf` holds are handed out first.
     pub fn with_buffer(buf: Buffer, inner: R) -> Self
-        ensures block { reader_block result ≡ buf }
-        ensures inner { reader_inner result ≡ inner }
+        ensures { result ≡ record { policy = record {}; block = buf; inner = inner; log = R.log inner } }
     {
+        block_law(&buf);
         BufReader {
             buf,
             inner,
@@ -99,41 +97,86 @@ impl<R> BufReader<R, StdPolicy> {
     }
 }
 
-impl<R, P> BufReader<R, P> {
+impl<R: Tell, P> BufReader<R, P> {
+    /// The same reader under another policy.
+    pub fn set_policy<Q: ReaderPolicy>(self, policy: Q) -> BufReader<R, Q>
+    where
+        P: Drop,
+        ensures { result ≡ with_policy self policy }
+    {
+        let BufReader {
+            buf,
+            inner,
+            policy: _,
+        } = self;
+        BufReader { buf, inner, policy }
+    }
+
+    /// The policy.
+    pub fn policy(&self) -> &P
+        ensures { result.now ≡ self.now.policy }
+    {
+        &self.policy
+    }
+
+    /// The policy, for changes.
+    pub fn policy_mut(&mut self) -> &mut P
+        ensures* writes_back { sem 𝓛 (Lends (the_row R.row P.row R.Tell) P.row
+            self.entry result (with_policy self.old)) }
+        ensures value { result.now ≡ self.old.policy }
+    {
+        &mut self.policy
+    }
+
+    /// The inner reader.
+    pub fn get_ref(&self) -> &R
+        ensures inner { result.now ≡ self.now.inner }
+        ensures log { R.log result.now ≡ self.now.log }
+    {
+        &self.inner
+    }
+
+    /// The inner reader, for changes. What it is asked through this is not asked by the buffered reader.
+    pub fn get_mut(&mut self) -> &mut R
+        ensures* writes_back { sem 𝓛 (Lends (the_row R.row P.row R.Tell) R.row
+            self.entry result (with_inner R.log self.old)) }
+        ensures inner { result.now ≡ self.old.inner }
+        ensures log { R.log result.now ≡ self.old.log }
+    {
+        &mut self.inner
+    }
+
     /// The buffered bytes, without a read.
     pub fn buffer(&self) -> &[u8]
-        ensures { result.now ≡ (reader_block self.now).bytes }
+        ensures value { result.now ≡ self.now.block.bytes }
+        ensures whole { IsBlock self.now.block }
     {
         self.buf.buf()
     }
 
     /// How many bytes are buffered.
     pub fn buf_len(&self) -> usize
-        ensures { result ≡ length (reader_block self.now).bytes }
+        ensures value { result ≡ length self.now.block.bytes }
+        ensures whole { IsBlock self.now.block }
     {
         self.buf.len()
     }
 
     /// The capacity of the buffer in bytes.
     pub fn capacity(&self) -> usize
-        ensures { result ≡ (reader_block self.now).capacity }
+        ensures value { result ≡ self.now.block.capacity }
+        ensures whole { IsBlock self.now.block }
     {
         self.buf.capacity()
     }
 
-    /// The inner reader.
-    pub fn get_ref(&self) -> &R
-        ensures { result.now ≡ reader_inner self.now }
-    {
-        &self.inner
-    }
-
-    /// The inner reader and the buffer with the bytes that are left.
+    /// The inner reader and the buffer with the bytes that are left. The policy is dropped.
     pub fn into_inner_with_buffer(self) -> (R, Buffer)
     where
         P: Drop,
-        ensures inner { result.0 ≡ reader_inner self }
-        ensures block { result.1 ≡ reader_block self }
+        ensures inner { result.0 ≡ self.inner }
+        ensures log { R.log result.0 ≡ self.log }
+        ensures block { result.1 ≡ self.block }
     {
         let BufReader {
             buf,
@@ -145,36 +188,25 @@ impl<R, P> BufReader<R, P> {
 }
 
 impl<R: TellRead, P> BufReader<R, P> {
-    /// Reads once into the buffer, without the policy, and answers how many bytes came. Answers `Ok(0)` and doesn't ask
-    /// the reader where nothing can be written behind the buffered bytes.
+    /// Reads once into the buffer, without the policy, and returns how many bytes came. Returns `Ok(0)` and doesn't ask
+    /// the reader where nothing can be written behind the buffered bytes. A fault of the reader changes nothing.
     pub fn read_into_buf(&mut self) -> io::Result<usize>
-        ensures read { ReadsFrom (reader_block self.old) (R.log (reader_inner self.old)) result
-            (reader_block self.new) (R.log (reader_inner self.new)) }
-        ensures not_asked { usable (reader_block self.old) ≡ 0 → reader_inner self.new ≡ reader_inner self.old }
-        ensures err { OnErr result (Keeps (reader_block self.old) (reader_block self.new)) }
-        ensures policy { reader_policy self.new ≡ reader_policy self.old }
+        ensures read { ReadsFrom self.old.block self.old.log result self.new.block self.new.log }
+        ensures in_order { ReadsInOrder self.old [] self.new }
+        ensures grows { ReadLogGrows self.old.log.reads self.new.log.reads }
+        ensures not_asked { usable self.old.block ≡ 0 → self.new.inner ≡ self.old.inner }
+        ensures err { OnErr result (LeavesBytes self.old.block self.new.block) }
+        ensures policy { self.new.policy ≡ self.old.policy }
+        ensures whole { IsBlock self.new.block }
     {
         self.buf.read_from(&mut self.inner)
     }
 }
 
 impl<R: TellRead, P: ReaderPolicy> BufReader<R, P> {
-    /// Reads as long as the policy says so, and answers the buffered bytes.
-    ///
-    /// A fault of the reader, `Interrupted` among them, or an `Err` of the policy is answered at once. The bytes that
-    /// came before it stay buffered.
-    pub fn fill_buf(&mut self) -> io::Result<&[u8]>
-        ensures* after_borrow { sem 𝓛 (Rests (the_row R.row P.row) self.entry (λ new.
-            Fills P.read_table P.read_claims (reader_state R.log self.entry.now) result (reader_state R.log new)
-            × IfOk result (λ bytes. bytes.now ≡ (reader_block new).bytes))) }
-    {
-        self.fill()?;
-        Ok(self.buf.buf())
-    }
-
     fn fill(&mut self) -> io::Result<()>
-        ensures filled { Filled (read_ask P.read_table P.read_claims)
-            (reader_state R.log self.old) result (reader_state R.log self.new) }
+        ensures filled { Filled P.rules self.old result self.new }
+        ensures whole { IsBlock self.new.block }
     {
         while self.policy.before_read(&mut self.buf)?.0 && self.buf.usable_space() > 0 {
             if self.read_into_buf()? == 0 {
@@ -188,16 +220,20 @@ impl<R: TellRead, P: ReaderPolicy> BufReader<R, P> {
 impl<R: TellRead, P: ReaderPolicy> Read for BufReader<R, P> {
     fn read(&mut self, out: &mut [u8]) -> io::Result<usize>
         ensures bound { ReadsAtMost result out.new }
-        ensures hands_on { HandsOn (reader_state R.log self.old) (taken out.new result) (reader_state R.log self.new) }
-        ensures caused { Caused (read_ask P.read_table P.read_claims)
-            (reader_state R.log self.old) result (reader_state R.log self.new) }
-        ensures empty { result ≡ Ok 0 → 0 < length out.old → EmptyRead (read_ask P.read_table P.read_claims)
-            (reader_state R.log self.old) (reader_state R.log self.new) }
-        ensures direct { GoesPast (reader_block self.old) (length out.old)
-            → ReadsDirect (reader_state R.log self.old) out.new result (reader_state R.log self.new) }
-        ensures buffered { StaysInside (reader_block self.old) (length out.old)
-            → ReadsBuffered P.read_table P.read_claims P.consume_table
-            (reader_state R.log self.old) (length out.old) result (reader_state R.log self.new) }
+        ensures in_order { ReadsInOrder self.old (taken out.new result) self.new }
+        ensures grows { ReadLogGrows self.old.log.reads self.new.log.reads }
+        ensures caused { ReadErrorCaused P.rules self.old result self.new }
+        ensures empty { result ≡ Ok 0 → 0 < length out.old → EmptyReadCaused P.rules self.old self.new }
+        ensures ran_dry { result ≡ Ok 0 → 0 < length out.old
+            → WantsBytes (P.rules.claims self.old.policy) → RanDry self.old self.new }
+        ensures capacity { self.old.block.capacity ≤ self.new.block.capacity }
+        ensures claims { P.rules.claims self.new.policy ≡ P.rules.claims self.old.policy }
+        ensures whole { IsBlock self.new.block }
+        ensures direct { GoesPast self.old.block (length out.old)
+            → GoesDirect after_read self.old out.new result self.new }
+        ensures buffered { StaysInside self.old.block (length out.old)
+            → ReadsBuffered P.rules self.old (length out.old) result self.new }
+        ensures rest { StaysInside self.old.block (length out.old) → LeavesRest out.old result out.new }
     {
         if self.buf.is_empty() && out.len() >= self.buf.capacity() {
             return self.inner.read_told(out);
@@ -210,18 +246,25 @@ impl<R: TellRead, P: ReaderPolicy> Read for BufReader<R, P> {
 }
 
 impl<R: TellRead, P: ReaderPolicy> BufRead for BufReader<R, P> {
+    /// Reads as long as the policy says so, and returns the buffered bytes.
+    ///
+    /// A fault of the reader, `Interrupted` among them, or an `Err` of the policy is returned at once. The bytes that
+    /// came before it stay buffered.
     fn fill_buf(&mut self) -> io::Result<&[u8]>
-        ensures* after_borrow { sem 𝓛 (Rests (the_row R.row P.row) self.entry (λ new.
-            Fills P.read_table P.read_claims (reader_state R.log self.entry.now) result (reader_state R.log new)
-            × IfOk result (λ bytes. bytes.now ≡ (reader_block new).bytes))) }
+        ensures* after_borrow { sem 𝓛 (Rests (the_row R.row P.row R.Tell) self.entry
+            (FillBuf P.rules self.entry.now result)) }
     {
-        BufReader::fill_buf(self)
+        self.fill()?;
+        Ok(self.buf.buf())
     }
 
+    /// Drops the first `amount` bytes that are buffered, or all, and tells the policy how many those were.
     fn consume(&mut self, amount: usize)
-        ensures hands_on { HandsOn (reader_state R.log self.old) (take amount (reader_block self.old).bytes)
-            (reader_state R.log self.new) }
-        ensures consumed { Consumes P.consume_table amount (reader_state R.log self.old) (reader_state R.log self.new) }
+        ensures in_order { ReadsInOrder self.old (take amount self.old.block.bytes) self.new }
+        ensures grows { ReadLogGrows self.old.log.reads self.new.log.reads }
+        ensures consumed { ReaderConsumes P.rules amount self.old self.new }
+        ensures capacity { self.old.block.capacity ≤ self.new.block.capacity }
+        ensures whole { IsBlock self.new.block }
     {
         let amt = amount.min(self.buf.len());
         self.buf.consume(amt);
@@ -229,10 +272,11 @@ impl<R: TellRead, P: ReaderPolicy> BufRead for BufReader<R, P> {
     }
 }
 
-// Copies the front of `from` into `out`, and answers how many bytes fitted.
+// Copies the front of `from` into `out`, and returns how many bytes fitted.
 fn copy_front(from: &[u8], out: &mut [u8]) -> usize
     ensures count { result ≡ min (length out.old) (length from.now) }
     ensures bytes { take result out.new ≡ take result from.now }
+    ensures rest { drop result out.new ≡ drop result out.old }
 {
     let n = out.len().min(from.len());
     out[..n].copy_from_slice(&from[..n]);

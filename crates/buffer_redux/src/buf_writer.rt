@@ -1,25 +1,26 @@
 //! The buffered writer.
-ghost use Rattle.std.specs.Prelude.{◌≡◌, ◌<◌, ◌≤◌, ◌^◌, [], length, take, true, Ok, IfOk, IfErr, OnOk, IsOk};
+ghost use Rattle.std.specs.Prelude.{◌≡◌, ◌<◌, ◌≤◌, ◌^◌, [], length, Ok, IfErr, OnOk, OnErr, IsOk};
+ghost use Rattle.std.specs.Borrow.{sem, Lends};
 ghost use Rattle.std.specs.Io.{WritesAtMost};
+ghost use Rattle.std.specs.Io.KnownBytes.{Keeps, WriteAppends};
 ghost use Rattle.std.specs.IoError.{error_kind};
-ghost use Rattle.redux_buffer.specs.Block.{Plain, Ring, IsBlock, IsNew, round};
-ghost use Rattle.redux_buffer.specs.Grow.{FitsWithin};
+ghost use Rattle.redux_buffer.specs.Block.{Plain, Ring, IsBlock, round};
+ghost use Rattle.redux_buffer.specs.Faults.{SendErrorCaused};
+ghost use Rattle.redux_buffer.specs.LogGrows.{WriteLogGrows};
 ghost use Rattle.redux_buffer.specs.StreamLog.{taken};
-ghost use Rattle.buffer_redux.specs.MakeError.{growth};
-ghost use Rattle.buffer_redux.specs.Policy.{write_ask};
-ghost use Rattle.buffer_redux.specs.WriterState.{writer_state, writer_block, writer_inner, writer_policy};
-ghost use Rattle.buffer_redux.specs.BufWriter.{FlushesAmount, TakesIn, Writes, WritesSteadily, PassesOn, WriteCaused, EmptyWrite, Flushes, IsFlushed, SendCaused};
+ghost use Rattle.buffer_redux.specs.contracts.buf_writer.BufWriter.{the_row};
+ghost use Rattle.buffer_redux.specs.Buffered.{with_inner, with_policy, InnerWent, Makes};
+ghost use Rattle.buffer_redux.specs.BufWriter.{writer_contents, FlushesAmount, TakesIn, Finished, Writes, WritesSteadily, WritesInOrder, WriteErrorCaused, EmptyWriteCaused, Flushes, IsFlushed};
 
 use crate::errors::MakeError;
 use crate::policy::{FlushAmt, StdPolicy, WriterPolicy};
+use redux_buffer::laws::block_law;
 use redux_buffer::tell::TellWrite;
 use redux_buffer::{Buffer, DEFAULT_BUF_SIZE};
 use std::alloc::Global;
 use std::io;
 use std::io::Write;
-
-#[cfg(test)]
-mod tests;
+use std::marker::Model;
 
 /// A writer with a buffer, which flushes as its policy says.
 ///
@@ -32,23 +33,29 @@ pub struct BufWriter<W: TellWrite, P = StdPolicy> {
     policy: P,
 }
 
+impl<W: TellWrite, P> Model for BufWriter<W, P> {
+    ghost use Rattle.redux_buffer.specs.Block.{IsBlock};
+    ghost use Rattle.buffer_redux.specs.Buffered.{Buffered};
+
+    ghost Value = { Buffered W P };
+
+    ghost view = { λ w. record { policy = w.policy; block = w.buf; inner = w.inner; log = W.log w.inner } };
+
+    // What is true of every buffer, said again where a policy changes it.
+    ghost invariant = { λ w. IsBlock w.buf };
+}
+
 impl<W: TellWrite> BufWriter<W, StdPolicy> {
     /// A writer over a plain buffer of [`DEFAULT_BUF_SIZE`] bytes. A refusal hands `inner` back.
     pub fn new(alloc: Global, inner: W) -> Result<Self, MakeError<W>>
-        ensures made { IfOk result (λ w. IsNew Plain 8192 (writer_block w)) }
-        ensures inner { IfOk result (λ w. writer_inner w ≡ inner) }
-        ensures handed_back { IfErr result (λ e. e.0 ≡ inner) }
-        ensures limit { FitsWithin (growth result) 8192 (2 ^ 62) }
+        ensures made { Makes W.log Plain 8192 (2 ^ 62) inner result }
     {
         BufWriter::with_capacity(alloc, DEFAULT_BUF_SIZE, inner)
     }
 
     /// A writer over a plain buffer of `cap` bytes. A refusal hands `inner` back.
     pub fn with_capacity(alloc: Global, cap: usize, inner: W) -> Result<Self, MakeError<W>>
-        ensures made { IfOk result (λ w. IsNew Plain cap (writer_block w)) }
-        ensures inner { IfOk result (λ w. writer_inner w ≡ inner) }
-        ensures handed_back { IfErr result (λ e. e.0 ≡ inner) }
-        ensures limit { FitsWithin (growth result) cap (2 ^ 62) }
+        ensures made { Makes W.log Plain cap (2 ^ 62) inner result }
         ensures succeeds { cap ≡ 0 → IsOk result }
     {
         match Buffer::with_capacity(alloc, cap) {
@@ -59,10 +66,7 @@ impl<W: TellWrite> BufWriter<W, StdPolicy> {
 
     /// A writer over a ring of [`DEFAULT_BUF_SIZE`] bytes. A refusal hands `inner` back.
     pub fn new_ringbuf(alloc: Global, inner: W) -> Result<Self, MakeError<W>>
-        ensures made { IfOk result (λ w. IsNew Ring 8192 (writer_block w)) }
-        ensures inner { IfOk result (λ w. writer_inner w ≡ inner) }
-        ensures handed_back { IfErr result (λ e. e.0 ≡ inner) }
-        ensures limit { FitsWithin (growth result) 8192 (2 ^ 61) }
+        ensures made { Makes W.log Ring 8192 (2 ^ 61) inner result }
     {
         BufWriter::with_capacity_ringbuf(alloc, DEFAULT_BUF_SIZE, inner)
     }
@@ -70,10 +74,7 @@ impl<W: TellWrite> BufWriter<W, StdPolicy> {
     /// A writer over a ring whose capacity in bytes is the least multiple of [`RING_UNIT`](crate::RING_UNIT) that is at least
     /// `cap`. A refusal hands `inner` back.
     pub fn with_capacity_ringbuf(alloc: Global, cap: usize, inner: W) -> Result<Self, MakeError<W>>
-        ensures made { IfOk result (λ w. IsNew Ring (round cap) (writer_block w)) }
-        ensures inner { IfOk result (λ w. writer_inner w ≡ inner) }
-        ensures handed_back { IfErr result (λ e. e.0 ≡ inner) }
-        ensures limit { FitsWithin (growth result) (round cap) (2 ^ 61) }
+        ensures made { Makes W.log Ring (round cap) (2 ^ 61) inner result }
         ensures succeeds { cap ≡ 0 → IsOk result }
     {
         match Buffer::with_capacity_ringbuf(alloc, cap) {
@@ -84,9 +85,9 @@ impl<W: TellWrite> BufWriter<W, StdPolicy> {
 
     /// A writer over a buffer of yours. The bytes that `buf` holds are written out first.
     pub fn with_buffer(buf: Buffer, inner: W) -> Self
-        ensures block { writer_block result ≡ buf }
-        ensures inner { writer_inner result ≡ inner }
+        ensures { result ≡ record { policy = record {}; block = buf; inner = inner; log = W.log inner } }
     {
+        block_law(&buf);
         BufWriter {
             buf,
             inner,
@@ -96,33 +97,78 @@ impl<W: TellWrite> BufWriter<W, StdPolicy> {
 }
 
 impl<W: TellWrite, P> BufWriter<W, P> {
+    /// The same writer under another policy. Nothing is sent.
+    pub fn set_policy<Q: WriterPolicy>(self, policy: Q) -> BufWriter<W, Q>
+    where
+        P: Drop,
+        ensures { result ≡ with_policy self policy }
+    {
+        let BufWriter {
+            buf,
+            inner,
+            policy: _,
+        } = self;
+        BufWriter { buf, inner, policy }
+    }
+
+    /// The policy.
+    pub fn policy(&self) -> &P
+        ensures { result.now ≡ self.now.policy }
+    {
+        &self.policy
+    }
+
+    /// The policy, for changes.
+    pub fn policy_mut(&mut self) -> &mut P
+        ensures* writes_back { sem 𝓛 (Lends (the_row W.row P.row W.TellWrite.own W.Tell.own) P.row
+            self.entry result (with_policy self.old)) }
+        ensures value { result.now ≡ self.old.policy }
+    {
+        &mut self.policy
+    }
+
+    /// The inner writer.
+    pub fn get_ref(&self) -> &W
+        ensures inner { result.now ≡ self.now.inner }
+        ensures log { W.log result.now ≡ self.now.log }
+    {
+        &self.inner
+    }
+
+    /// The inner writer, for changes. What is written through this goes out before the buffered bytes.
+    pub fn get_mut(&mut self) -> &mut W
+        ensures* writes_back { sem 𝓛 (Lends (the_row W.row P.row W.TellWrite.own W.Tell.own) W.row
+            self.entry result (with_inner W.log self.old)) }
+        ensures inner { result.now ≡ self.old.inner }
+        ensures log { W.log result.now ≡ self.old.log }
+    {
+        &mut self.inner
+    }
+
     /// How many bytes are buffered.
     pub fn buf_len(&self) -> usize
-        ensures { result ≡ length (writer_block self.now).bytes }
+        ensures value { result ≡ length self.now.block.bytes }
+        ensures whole { IsBlock self.now.block }
     {
         self.buf.len()
     }
 
     /// The capacity of the buffer in bytes.
     pub fn capacity(&self) -> usize
-        ensures { result ≡ (writer_block self.now).capacity }
+        ensures value { result ≡ self.now.block.capacity }
+        ensures whole { IsBlock self.now.block }
     {
         self.buf.capacity()
     }
 
-    /// The inner writer.
-    pub fn get_ref(&self) -> &W
-        ensures { result.now ≡ writer_inner self.now }
-    {
-        &self.inner
-    }
-
-    /// The inner writer and the buffer with the bytes that were not written out. Nothing is sent.
+    /// The inner writer and the buffer with the bytes that were not written out. Nothing is sent, and the policy is
+    /// dropped.
     pub fn into_inner_with_buffer(self) -> (W, Buffer)
     where
         P: Drop,
-        ensures inner { result.0 ≡ writer_inner self }
-        ensures block { result.1 ≡ writer_block self }
+        ensures inner { result.0 ≡ self.inner }
+        ensures log { W.log result.0 ≡ self.log }
+        ensures block { result.1 ≡ self.block }
     {
         let BufWriter {
             buf,
@@ -134,11 +180,9 @@ impl<W: TellWrite, P> BufWriter<W, P> {
 
     // Sends the first `amount` bytes: none at 0, and none where fewer are buffered.
     fn flush_amount(&mut self, amount: usize) -> io::Result<()>
-        ensures flushed { FlushesAmount amount (writer_block self.old) (W.log (writer_inner self.old)) result
-            (writer_block self.new) (W.log (writer_inner self.new)) }
-        ensures policy { writer_policy self.new ≡ writer_policy self.old }
-        ensures stretch { W.stretch (writer_inner self.old) (writer_inner self.new) }
-        ensures whole { IsBlock (writer_block self.old) }
+        ensures flushed { FlushesAmount amount self.old result self.new }
+        ensures whole { IsBlock self.new.block }
+        ensures stretch { InnerWent W.log W.stretch self.old self.new }
     {
         if amount > self.buf.len() {
             return Ok(());
@@ -148,10 +192,9 @@ impl<W: TellWrite, P> BufWriter<W, P> {
 
     // Takes bytes in past an empty buffer that is no larger, and else copies those that fit.
     fn take_in(&mut self, bytes: &[u8]) -> io::Result<usize>
-        ensures took_in { TakesIn bytes.now (writer_block self.old) (W.log (writer_inner self.old)) result
-            (writer_block self.new) (W.log (writer_inner self.new)) }
-        ensures policy { writer_policy self.new ≡ writer_policy self.old }
-        ensures stretch { W.stretch (writer_inner self.old) (writer_inner self.new) }
+        ensures took_in { TakesIn bytes.now self.old result self.new }
+        ensures whole { IsBlock self.new.block }
+        ensures stretch { InnerWent W.log W.stretch self.old self.new }
     {
         if self.buf.is_empty() && bytes.len() >= self.buf.capacity() {
             return self.inner.write_told(bytes);
@@ -163,38 +206,55 @@ impl<W: TellWrite, P> BufWriter<W, P> {
     }
 }
 
+impl<W: TellWrite, P: WriterPolicy> BufWriter<W, P> {
+    // Asks the policy after a write, and flushes the amount that it returns, whether or not that fails.
+    fn finish(&mut self)
+        ensures finished { Finished P.rules self.old self.new }
+        ensures whole { IsBlock self.new.block }
+        ensures stretch { InnerWent W.log W.stretch self.old self.new }
+    {
+        let FlushAmt(last) = self.policy.after_write(&self.buf);
+        let _ = self.flush_amount(last);
+    }
+}
+
 impl<W: TellWrite, P: WriterPolicy> Write for BufWriter<W, P> {
+    ghost contents = { writer_contents };
+
     fn write(&mut self, bytes: &[u8]) -> io::Result<usize>
         ensures bound { WritesAtMost result bytes.now }
-        ensures passes_on { PassesOn (writer_state W.log self.old) (taken bytes.now result) (writer_state W.log self.new) }
-        ensures caused { WriteCaused (write_ask P.write_table P.write_claims)
-            (writer_state W.log self.old) (length bytes.now) result (writer_state W.log self.new) }
+        ensures bytes { WriteAppends (writer_contents self.old) (writer_contents self.new) result bytes.now }
+        ensures in_order { WritesInOrder self.old (taken bytes.now result) self.new }
+        ensures grows { WriteLogGrows self.old.log.writes self.new.log.writes }
+        ensures not_flushed { self.new.log.writes.flushed ≡ self.old.log.writes.flushed }
+        ensures caused { WriteErrorCaused P.rules self.old (length bytes.now) result self.new }
         ensures empty { result ≡ Ok 0 → 0 < length bytes.now
-            → EmptyWrite (write_ask P.write_table P.write_claims)
-            (writer_state W.log self.old) (length bytes.now) (writer_state W.log self.new) }
-        ensures capacity { (writer_block self.old).capacity ≤ (writer_block self.new).capacity }
-        ensures steadily { (P.write_claims (writer_policy self.old)).steady ≡ true → WritesSteadily P.write_claims
-            (writer_state W.log self.old) (length bytes.now) result (writer_state W.log self.new) }
-        ensures steps { Writes (write_ask P.write_table P.write_claims) P.written_table P.write_claims
-            (writer_state W.log self.old) bytes.now result (writer_state W.log self.new) }
-        ensures stretch { W.stretch (writer_inner self.old) (writer_inner self.new) }
+            → EmptyWriteCaused P.rules self.old (length bytes.now) self.new }
+        ensures capacity { self.old.block.capacity ≤ self.new.block.capacity }
+        ensures claims { P.rules.claims self.new.policy ≡ P.rules.claims self.old.policy }
+        ensures whole { IsBlock self.new.block }
+        ensures steadily { WritesSteadily P.rules self.old (length bytes.now) result self.new }
+        ensures steps { Writes P.rules self.old bytes.now result self.new }
+        ensures stretch { InnerWent W.log W.stretch self.old self.new }
     {
         let FlushAmt(first) = self.policy.before_write(&mut self.buf, bytes.len())?;
         self.flush_amount(first)?;
         let written = self.take_in(bytes)?;
-        let FlushAmt(last) = self.policy.after_write(&self.buf);
-        let _ = self.flush_amount(last);
+        self.finish();
         Ok(written)
     }
 
     fn flush(&mut self) -> io::Result<()>
-        ensures passes_on { PassesOn (writer_state W.log self.old) [] (writer_state W.log self.new) }
-        ensures ok { OnOk result (IsFlushed (writer_state W.log self.old) (writer_state W.log self.new)) }
-        ensures caused { IfErr result (λ e. SendCaused (W.log (writer_inner self.old)).writes
-            (W.log (writer_inner self.new)).writes (error_kind e)) }
-        ensures capacity { (writer_block self.new).capacity ≡ (writer_block self.old).capacity }
-        ensures steps { Flushes (writer_state W.log self.old) result (writer_state W.log self.new) }
-        ensures stretch { W.stretch (writer_inner self.old) (writer_inner self.new) }
+        ensures bytes { Keeps (writer_contents self.old) (writer_contents self.new) }
+        ensures in_order { WritesInOrder self.old [] self.new }
+        ensures grows { WriteLogGrows self.old.log.writes self.new.log.writes }
+        ensures ok { OnOk result (IsFlushed self.old self.new) }
+        ensures not_flushed { OnErr result (self.new.log.writes.flushed ≡ self.old.log.writes.flushed) }
+        ensures caused { IfErr result (λ e. SendErrorCaused self.old.log.writes self.new.log.writes (error_kind e)) }
+        ensures capacity { self.new.block.capacity ≡ self.old.block.capacity }
+        ensures whole { IsBlock self.new.block }
+        ensures steps { Flushes self.old result self.new }
+        ensures stretch { InnerWent W.log W.stretch self.old self.new }
     {
         self.buf.write_all(&mut self.inner)?;
         self.inner.flush_told()

@@ -19,7 +19,7 @@ impl<T: fmt::Debug + Drop> Error for MakeError<T> {}
 impl<T: Drop> From<MakeError<T>> for io::Error {
     ghost use Rattle.std.specs.Prelude.{◌≡◌};
     ghost use Rattle.std.specs.IoError.{error_kind};
-    ghost use Rattle.redux_buffer.specs.Grow.{kind_of};
+    ghost use Rattle.redux_buffer.specs.GrowError.{kind_of};
 
     ghost from_gives = { λ e r. error_kind r ≡ kind_of (e.1) };
 

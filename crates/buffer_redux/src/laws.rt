@@ -4,10 +4,10 @@ ghost use Rattle.std.specs.Prelude.{◌≡◌};
 use crate::buf_reader::BufReader;
 use crate::buf_writer::BufWriter;
 pub use redux_buffer::laws::{copy_through, make_room_again, ring_law};
-use redux_buffer::tell::TellWrite;
+use redux_buffer::tell::{Tell, TellWrite};
 
 /// A reader that is taken apart and built again is the reader that it was.
-pub fn rebuild_reader<R>(reader: BufReader<R>) -> BufReader<R>
+pub fn rebuild_reader<R: Tell>(reader: BufReader<R>) -> BufReader<R>
     ensures { result ≡ reader }
 {
     let (inner, buf) = reader.into_inner_with_buffer();

@@ -1,6 +1,7 @@
 //! Readers and writers by worked examples, and each public call once.
 mod example;
 mod makers;
+mod policies;
 mod reader;
 mod writer;
 

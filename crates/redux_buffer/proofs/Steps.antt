@@ -1,11 +1,7 @@
 -- Facts that depend on the kind of a block, over no step and over one step after another.
-use Rattle.std.proofs.Common.{◌≡◌, ◌∙◌, ℕ, ◌+◌, ◌≤◌, ◌<◌, length, drop, subst, refl, arith, length-drop, drop-drop, ap, le_refl, ◌-◌}
+use Rattle.std.proofs.Common.{◌≡◌, ◌∙◌, ℕ, ◌+◌, ◌≤◌, ◌<◌, length, drop, subst, arith, length-drop, drop-drop, ap, ◌-◌}
 use Rattle.std.specs.Bool.{⊤}
-use Rattle.redux_buffer.specs.Block.{Kind, Plain, Ring, OnKind, Block, usable, Takes, MovesOnlyRing}
-
-pub OnKind-all : (k : Kind) (P Q : Type 0) → P → Q → OnKind k P Q
-OnKind-all Plain P Q p q = p
-OnKind-all Ring P Q p q = q
+use Rattle.redux_buffer.specs.Block.{Kind, Plain, Ring, OnKind, Block, usable, ConsumesFirst, OnlyRingMoves}
 
 -- two facts on blocks of one kind give a third
 pub OnKind-joins : (k k' : Kind) (P P' P'' Q Q' Q'' : Type 0) → k' ≡ k → (P → P' → P'') → (Q → Q' → Q'')
@@ -13,26 +9,13 @@ pub OnKind-joins : (k k' : Kind) (P P' P'' Q Q' Q'' : Type 0) → k' ≡ k → (
 OnKind-joins Plain k' P P' P'' Q Q' Q'' e f g x y = f x (subst (λ z. OnKind z P' Q') e y)
 OnKind-joins Ring k' P P' P'' Q Q' Q'' e f g x y = g x (subst (λ z. OnKind z P' Q') e y)
 
-pub MovesOnlyRing-none : (b : Block) → MovesOnlyRing b b
-MovesOnlyRing-none b = OnKind-all b.kind _ _ refl (le_refl b.moved)
-
-pub MovesOnlyRing-joins : (a b c : Block) → b.kind ≡ a.kind → MovesOnlyRing a b → MovesOnlyRing b c → MovesOnlyRing a c
-MovesOnlyRing-joins a b c e p q =
+pub OnlyRingMoves-joins : (a b c : Block) → b.kind ≡ a.kind → OnlyRingMoves a b → OnlyRingMoves b c → OnlyRingMoves a c
+OnlyRingMoves-joins a b c e p q =
     OnKind-joins a.kind b.kind (b.moved ≡ a.moved) (c.moved ≡ b.moved) (c.moved ≡ a.moved) (a.moved ≤ b.moved) (b.moved ≤ c.moved) (a.moved ≤ c.moved)
     e (λ x y. y ∙ x) (λ x y. omega arith) p q
 
-pub Takes-none : (b : Block) → Takes 0 b b
-Takes-none b = record {
-  bytes = refl;
-  usable = OnKind-all b.kind _ _ (λ some. refl) tt;
-  capacity = refl;
-  limit = refl;
-  kind = refl;
-  consumed = omega arith;
-}
-
-pub Takes-joins : (n m : ℕ) (a b c : Block) → Takes n a b → Takes m b c → Takes (n + m) a c
-Takes-joins n m a b c p q =
+pub ConsumesFirst-joins : (n m : ℕ) (a b c : Block) → ConsumesFirst n a b → ConsumesFirst m b c → ConsumesFirst (n + m) a c
+ConsumesFirst-joins n m a b c p q =
     let left : length b.bytes ≡ length a.bytes - n = ap length p.bytes ∙ length-drop n a.bytes in
     let last : length c.bytes ≡ length b.bytes - m = ap length q.bytes ∙ length-drop m b.bytes in record {
       bytes = q.bytes ∙ ap (drop m) p.bytes ∙ drop-drop m n a.bytes;

@@ -1,7 +1,7 @@
 -- What contracts see of a buffer, and what its calls do to it.
-use Rattle.std.specs.Prelude.{◌≡◌, ℕ, Bool, true, ◌+◌, ◌-◌, ◌*◌, ◌/◌, ◌^◌, ◌<◌, ◌≤◌, ◌==◌, ◌||◌, nat_le, nat_lt, min, if◌then◌else◌, List, [], ◌++◌, length, take, drop, ⊤}
+use Rattle.std.specs.Prelude.{◌≡◌, ℕ, Bool, true, ◌+◌, ◌-◌, ◌*◌, ◌/◌, ◌^◌, ◌<◌, ◌≤◌, ◌==◌, ◌||◌, nat_le, nat_lt, min, if◌then◌else◌, List, [], ◌++◌, length, take, drop, replicate, ⊤}
 
--- a plain buffer moves its bytes only when asked, a ring has all its free space behind its bytes
+-- a plain buffer moves its bytes only when asked, a ring can be written in all its free space at any time
 pub data Kind : Type 0 where
   Plain : Kind
   Ring : Kind
@@ -54,6 +54,10 @@ needed b a = by_kind b.kind
 abbrev pub capacity_for : Block → ℕ → ℕ
 capacity_for b a = if nat_le a (usable b) then b.capacity else needed b a
 
+-- the capacity after `push_bytes(xs)`, which grows by twice their number where they don't fit
+abbrev pub capacity_to_push : Block → List ℕ → ℕ
+capacity_to_push b xs = if nat_le (length xs) (usable b) then b.capacity else capacity_for b (2 * length xs)
+
 -- what is true of every block
 pub record IsBlock (b : Block) : Type 0 where
   pub limit : b.capacity ≤ b.limit
@@ -65,12 +69,14 @@ pub record IsBlock (b : Block) : Type 0 where
 -- the same with the place, which in a ring has come as far only by what was consumed
 pub record IsPlaced (p : Placed) : Type 0 where
   pub block : IsBlock p.block
-  pub place : OnKind p.block.kind (p.place + (length p.block.bytes + usable p.block) ≡ p.block.capacity) (p.block.moved + p.place ≤ p.block.consumed)
+  pub place : OnKind p.block.kind (p.place + (length p.block.bytes + usable p.block) ≡ p.block.capacity)
+      (p.block.moved + p.place ≤ p.block.consumed)
 
--- a block that was just made
+-- a block that was just made, of zeros
 pub record IsNew (k : Kind) (cap : ℕ) (b : Block) : Type 0 where
   pub limit : b.limit ≡ limit_of k
   pub bytes : b.bytes ≡ []
+  pub tail : b.tail ≡ replicate cap 0
   pub usable : usable b ≡ cap
   pub capacity : b.capacity ≡ cap
   pub kind : b.kind ≡ k
@@ -78,8 +84,8 @@ pub record IsNew (k : Kind) (cap : ℕ) (b : Block) : Type 0 where
   pub moved : b.moved ≡ 0
 
 -- a ring that grew has its bytes at the front
-abbrev pub Lands : Placed → Placed → Type 0
-Lands old new = OnKind old.block.kind ⊤ (old.block.capacity < new.block.capacity → new.place ≡ 0)
+abbrev pub GrowsToFront : Placed → Placed → Type 0
+GrowsToFront old new = OnKind old.block.kind ⊤ (old.block.capacity < new.block.capacity → new.place ≡ 0)
 
 -- ws written over xs, which keeps its length
 abbrev pub refilled : List ℕ → List ℕ → List ℕ
@@ -104,7 +110,7 @@ with_bytes b ws = record b {
 }
 
 -- the first n bytes of the tail become the last bytes
-pub record Appends (n : ℕ) (old new : Block) : Type 0 where
+pub record BytesWritten (n : ℕ) (old new : Block) : Type 0 where
   pub bytes : new.bytes ≡ old.bytes ++ take n old.tail
   pub usable : usable new ≡ usable old - n
   pub capacity : new.capacity ≡ old.capacity
@@ -113,7 +119,7 @@ pub record Appends (n : ℕ) (old new : Block) : Type 0 where
   pub consumed : new.consumed ≡ old.consumed
 
 -- the first n bytes are dropped, or all
-pub record Takes (n : ℕ) (old new : Block) : Type 0 where
+pub record ConsumesFirst (n : ℕ) (old new : Block) : Type 0 where
   pub bytes : new.bytes ≡ drop n old.bytes
   pub usable : OnKind old.kind (0 < length new.bytes → usable new ≡ usable old) ⊤
   pub capacity : new.capacity ≡ old.capacity
@@ -121,18 +127,19 @@ pub record Takes (n : ℕ) (old new : Block) : Type 0 where
   pub kind : new.kind ≡ old.kind
   pub consumed : new.consumed ≡ old.consumed + min n (length old.bytes)
 
--- there is usable space for a more bytes
-pub record Grows (a : ℕ) (old new : Block) : Type 0 where
+-- there is usable space for a more bytes, and what was added to it is zeros
+pub record Reserves (a : ℕ) (old new : Block) : Type 0 where
   pub bytes : new.bytes ≡ old.bytes
   pub capacity : new.capacity ≡ capacity_for old a
   pub usable : usable new ≡ usable old + (new.capacity - old.capacity)
+  pub added : drop (length old.tail) new.tail ≡ replicate (new.capacity - old.capacity) 0
   pub limit : new.limit ≡ old.limit
   pub kind : new.kind ≡ old.kind
   pub consumed : new.consumed ≡ old.consumed
   pub moved : new.moved ≡ old.moved
 
 -- all free space is usable
-pub record Settles (old new : Block) : Type 0 where
+pub record MakesRoom (old new : Block) : Type 0 where
   pub bytes : new.bytes ≡ old.bytes
   pub usable : usable new ≡ old.capacity - length old.bytes
   pub capacity : new.capacity ≡ old.capacity
@@ -151,28 +158,38 @@ abbrev pub CountsShift : ℕ → Placed → Placed → Type 0
 CountsShift n old new = new.block.moved ≡ old.block.moved + shifted n old new
 
 -- only a ring may move bytes unasked
-abbrev pub MovesOnlyRing : Block → Block → Type 0
-MovesOnlyRing old new = OnKind old.kind (new.moved ≡ old.moved) (old.moved ≤ new.moved)
+abbrev pub OnlyRingMoves : Block → Block → Type 0
+OnlyRingMoves old new = OnKind old.kind (new.moved ≡ old.moved) (old.moved ≤ new.moved)
 
 -- all but the tail's bytes, and what a ring moved, is as before
-pub record Keeps (old new : Block) : Type 0 where
+pub record LeavesBytes (old new : Block) : Type 0 where
   pub bytes : new.bytes ≡ old.bytes
   pub usable : usable new ≡ usable old
   pub capacity : new.capacity ≡ old.capacity
   pub limit : new.limit ≡ old.limit
   pub kind : new.kind ≡ old.kind
   pub consumed : new.consumed ≡ old.consumed
-  pub moved : MovesOnlyRing old new
+  pub moved : OnlyRingMoves old new
 
 -- xs stands behind the old bytes
-pub record Adds (xs : List ℕ) (old new : Block) : Type 0 where
+pub record Extends (xs : List ℕ) (old new : Block) : Type 0 where
   pub bytes : new.bytes ≡ old.bytes ++ xs
   pub usable : usable new ≡ usable old - length xs
   pub capacity : new.capacity ≡ old.capacity
   pub limit : new.limit ≡ old.limit
   pub kind : new.kind ≡ old.kind
   pub consumed : new.consumed ≡ old.consumed
-  pub moved : MovesOnlyRing old new
+  pub moved : OnlyRingMoves old new
+
+-- xs stands behind the old bytes, also where there was too little space for it at first
+pub record PushesBytes (xs : List ℕ) (old new : Block) : Type 0 where
+  pub bytes : new.bytes ≡ old.bytes ++ xs
+  pub capacity : new.capacity ≡ capacity_to_push old xs
+  pub usable : usable new ≡ usable old + (new.capacity - old.capacity) - length xs
+  pub limit : new.limit ≡ old.limit
+  pub kind : new.kind ≡ old.kind
+  pub consumed : new.consumed ≡ old.consumed
+  pub moved : OnlyRingMoves old new
 
 -- where the first byte of a plain block stands
 abbrev pub place_of : Block → ℕ
@@ -183,7 +200,7 @@ abbrev pub MovesToFront : Block → Block → Type 0
 MovesToFront old new = new.moved ≡ old.moved + by_kind old.kind (if place_of old == 0 then 0 else length old.bytes) 0
 
 -- all but the bytes of the tail is as before
-pub record Same (old new : Block) : Type 0 where
+pub record SameButTail (old new : Block) : Type 0 where
   pub bytes : new.bytes ≡ old.bytes
   pub usable : usable new ≡ usable old
   pub capacity : new.capacity ≡ old.capacity

@@ -1,22 +1,79 @@
 -- What the faults that a stream tells say of a call.
-use Rattle.std.specs.Prelude.{◌≡◌, ◌+◌, ◌≤◌, ◌<◌, ◌⊎◌, List, [], ◌∷◌, ◌++◌, All, length}
+use Rattle.std.specs.Prelude.{◌≡◌, ℕ, ◌+◌, ◌≤◌, ◌⊎◌, List, [], ◌∷◌, ◌++◌, replicate}
+use Rattle.std.proofs.Common.{sym, refl, ap, ◌∙◌, append-nil, append_assoc}
+use Rattle.std.proofs.lemmas.List.{replicate-append-replicate}
 use Rattle.std.specs.declared.io.ErrorKind.{ErrorKind}
 use Rattle.std.specs.declared.io.ErrorKind.TheVariants.{Interrupted, WriteZero}
 use Rattle.redux_buffer.specs.StreamLog.{WriteLog}
 
--- the faults rose, and the last of them is of this kind
-abbrev pub FaultedBy : List ErrorKind → List ErrorKind → ErrorKind → Type 0
-FaultedBy old new kind = (more : List ErrorKind) × (new ≡ old ++ more ++ kind ∷ [])
+-- faults came, and the last of them is of this kind
+pub record FaultedBy (old new : List ErrorKind) (kind : ErrorKind) : Type 0 where
+  pub before : List ErrorKind
+  pub faults : new ≡ old ++ before ++ kind ∷ []
 
--- no fault came but `Interrupted`
-abbrev pub OnlyInterrupted : List ErrorKind → List ErrorKind → Type 0
-OnlyInterrupted old new = (more : List ErrorKind) × (new ≡ old ++ more) × All (λ k. k ≡ Interrupted) more
+-- so many writes were interrupted, and nothing else went wrong
+pub record OnlyInterrupted (times : ℕ) (old new : WriteLog) : Type 0 where
+  pub faults : new.faults ≡ old.faults ++ replicate times Interrupted
+  pub zero_writes : new.zero_writes ≡ old.zero_writes
 
--- `Interrupted` is answered only after 64 retries
-abbrev pub InterruptedOften : List ErrorKind → List ErrorKind → ErrorKind → Type 0
-InterruptedOften old new kind = kind ≡ Interrupted → length old + 65 ≤ length new
+pub record MetInterrupts (old new : WriteLog) : Type 0 where
+  pub times : ℕ
+  pub only : OnlyInterrupted times old new
 
--- sending failed with this kind: by a write that took nothing of something, or by the writer's last fault
-pub record SendFailed (old new : WriteLog) (kind : ErrorKind) : Type 0 where
-  pub caused : ((kind ≡ WriteZero) × (old.zero_writes < new.zero_writes)) ⊎ FaultedBy old.faults new.faults kind
-  pub interrupted : InterruptedOften old.faults new.faults kind
+-- after so many interrupted writes, one took nothing of something, which is answered as `WriteZero`
+pub record TookNothing (times : ℕ) (old new : WriteLog) (kind : ErrorKind) : Type 0 where
+  pub is_write_zero : kind ≡ WriteZero
+  pub faults : new.faults ≡ old.faults ++ replicate times Interrupted
+  pub zero_writes : new.zero_writes ≡ old.zero_writes + 1
+
+-- after so many interrupted writes, a call answered a fault of this kind
+pub record FaultedAfter (times : ℕ) (old new : WriteLog) (kind : ErrorKind) : Type 0 where
+  pub faults : new.faults ≡ old.faults ++ replicate times Interrupted ++ kind ∷ []
+  pub zero_writes : new.zero_writes ≡ old.zero_writes
+
+-- sending failed so: `Interrupted` is answered only after 64 interrupted writes
+pub record SendFailed (times : ℕ) (old new : WriteLog) (kind : ErrorKind) : Type 0 where
+  pub cause : TookNothing times old new kind ⊎ FaultedAfter times old new kind
+  pub often : kind ≡ Interrupted → 64 ≤ times
+
+-- an error of this kind was caused by a write that took nothing of something, or by the writer's last fault; before it
+-- came no fault but `Interrupted`
+pub record SendErrorCaused (old new : WriteLog) (kind : ErrorKind) : Type 0 where
+  pub interrupts : ℕ
+  pub cause : TookNothing interrupts old new kind ⊎ FaultedAfter interrupts old new kind
+
+-- no write was interrupted yet, and one row of interrupted writes joins another
+pub OnlyInterrupted-none : (log : WriteLog) → OnlyInterrupted 0 log log
+OnlyInterrupted-none log = record { faults = sym (append-nil log.faults); zero_writes = refl }
+
+pub OnlyInterrupted-joins : (n k : ℕ) (a b c : WriteLog) → OnlyInterrupted n a b → OnlyInterrupted k b c
+    → OnlyInterrupted (n + k) a c
+OnlyInterrupted-joins n k a b c p q = record {
+  faults =
+      q.faults ∙ ap (λ l. l ++ replicate k Interrupted) p.faults
+      ∙ append_assoc a.faults (replicate n Interrupted) (replicate k Interrupted)
+      ∙ ap (λ l. a.faults ++ l) (replicate-append-replicate n k Interrupted);
+  zero_writes = q.zero_writes ∙ p.zero_writes;
+}
+
+-- what goes wrong after interrupted writes goes wrong after all of them
+pub TookNothing-after : (n k : ℕ) (a b c : WriteLog) (kind : ErrorKind) → OnlyInterrupted n a b
+    → TookNothing k b c kind → TookNothing (n + k) a c kind
+TookNothing-after n k a b c kind p q =
+    let front : WriteLog = record c { zero_writes = b.zero_writes } in
+    record {
+      is_write_zero = q.is_write_zero;
+      faults = (OnlyInterrupted-joins n k a b front p (record { faults = q.faults; zero_writes = refl })).faults;
+      zero_writes = q.zero_writes ∙ ap (λ z. z + 1) p.zero_writes;
+    }
+
+pub FaultedAfter-after : (n k : ℕ) (a b c : WriteLog) (kind : ErrorKind) → OnlyInterrupted n a b
+    → FaultedAfter k b c kind → FaultedAfter (n + k) a c kind
+FaultedAfter-after n k a b c kind p q =
+    let front : WriteLog = record b { faults = b.faults ++ replicate k Interrupted } in
+    record {
+      faults = q.faults
+          ∙ ap (λ l. l ++ kind ∷ [])
+          (OnlyInterrupted-joins n k a b front p (record { faults = refl; zero_writes = refl })).faults;
+      zero_writes = q.zero_writes ∙ p.zero_writes;
+    }

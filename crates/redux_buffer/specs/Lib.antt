@@ -1,12 +1,13 @@
-pub mod Grow
+pub mod GrowError
 pub mod RawLends
 pub mod Block
+pub mod Potential
 pub mod BufImpl
+pub mod GoesOn
 pub mod StreamLog
-pub mod Grows
+pub mod LogGrows
 pub mod Calls
 pub mod Told
 pub mod Faults
 pub mod Transfer
-pub mod Potential
 pub mod Script

@@ -27,10 +27,13 @@ pub record Step : Type 0 where
   pub left : Plan
 
 abbrev pub step_from : ℕ → ℕ → List Answer → Step
-step_from (suc k) most answers = record { reply = Fails Interrupted; left = record { interrupts = k; most = most; answers = answers } }
+step_from (suc k) most answers = record
+    { reply = Fails Interrupted; left = record { interrupts = k; most = most; answers = answers } }
 step_from zero most [] = record { reply = Serves most; left = record { interrupts = 0; most = most; answers = [] } }
-step_from zero most (Serve n ∷ answers) = record { reply = Serves (min n most); left = record { interrupts = 0; most = most; answers = answers } }
-step_from zero most (Fail kind ∷ answers) = record { reply = Fails kind; left = record { interrupts = 0; most = most; answers = answers } }
+step_from zero most (Serve n ∷ answers) = record
+    { reply = Serves (min n most); left = record { interrupts = 0; most = most; answers = answers } }
+step_from zero most (Fail kind ∷ answers) = record
+    { reply = Fails kind; left = record { interrupts = 0; most = most; answers = answers } }
 step_from zero most (Interrupt n ∷ answers) = step_from n most answers
 step_from zero most (ServeEach n ∷ answers) = step_from 0 n answers
 
@@ -69,7 +72,8 @@ abbrev pub Called : Progress → ℕ → ℕ → Result ℕ Error → Progress �
 Called old offered room answer new = Answers old offered room answer new ⊎ RunsOut old answer new
 
 abbrev pub progress_of : Script → Progress
-progress_of s = record { plan = record { interrupts = s.interrupts; most = s.most; answers = s.answers.items }; offers = s.offers.items }
+progress_of s = record
+    { plan = record { interrupts = s.interrupts; most = s.most; answers = s.answers.items }; offers = s.offers.items }
 
 -- what contracts see of a `ScriptReader`: its progress, how many bytes it has served, and those that are left
 abbrev pub reader_progress : ScriptReader → Progress

@@ -1,5 +1,6 @@
 -- What a stream tells of its own calls, and what each call adds to it.
-use Rattle.std.specs.Prelude.{◌≡◌, ℕ, ◌+◌, ◌≤◌, List, [], ◌∷◌, ◌++◌, length, take, drop, Result, Ok, Err, ◌&&◌, ◌==◌, nat_lt, if◌then◌else◌}
+use Rattle.std.specs.Prelude.{◌≡◌, ℕ, ◌+◌, ◌<◌, ◌⊎◌, List, [], ◌∷◌, ◌++◌, length, take, drop, Result, Ok, Err, ◌&&◌, ◌==◌, nat_lt, if◌then◌else◌}
+use Rattle.std.proofs.Common.{arith}
 use Rattle.std.specs.Borrow.{Bor}
 use Rattle.std.specs.IoError.{error_kind}
 use Rattle.std.specs.declared.io.Error.{Error}
@@ -55,6 +56,15 @@ taken bs (Err e) = []
 abbrev pub with_zero : ℕ → List ℕ → Result ℕ Error → ℕ
 with_zero before bs (Ok n) = if n == 0 && nat_lt 0 (length bs) then before + 1 else before
 with_zero before bs (Err e) = before
+
+-- what took some of it, or had nothing to take, is not counted
+pub zero_of_some : (n : ℕ) (buf : List ℕ) (before : ℕ) → (0 < n) ⊎ (length buf ≡ 0)
+    → with_zero before buf (Ok n) ≡ before
+zero_of_some n buf before some = grind arith
+
+pub zero_of_none : (n : ℕ) (buf : List ℕ) (before : ℕ) → n ≡ 0 → 0 < length buf
+    → with_zero before buf (Ok n) ≡ before + 1
+zero_of_none n buf before none some = grind arith
 
 -- an `Err` adds its kind, and an `Ok` nothing
 abbrev pub with_fault : {A : Type 0} → List ErrorKind → Result A Error → List ErrorKind
@@ -148,19 +158,3 @@ after_fill_fault log shown e = record log {
 abbrev pub FillTells : StreamLog → Result (Bor (List ℕ)) Error → StreamLog → Type 0
 FillTells old (Ok bytes) new = new ≡ after_shown old bytes.now
 FillTells old (Err e) new = (shown : List ℕ) × (new ≡ after_fill_fault old shown e)
-
--- the lists of bytes and of faults only go on, and the counts only rise
-pub record ReadLogGrows (old new : ReadLog) : Type 0 where
-  pub given : (more : List ℕ) × (new.given ≡ old.given ++ more)
-  pub asks : old.asks ≤ new.asks
-  pub zero_answers : old.zero_answers ≤ new.zero_answers
-  pub faults : (more : List ErrorKind) × (new.faults ≡ old.faults ++ more)
-
-pub record WriteLogGrows (old new : WriteLog) : Type 0 where
-  pub received : (more : List ℕ) × (new.received ≡ old.received ++ more)
-  pub zero_writes : old.zero_writes ≤ new.zero_writes
-  pub faults : (more : List ErrorKind) × (new.faults ≡ old.faults ++ more)
-
--- the same, as a word that a proof opens only where it needs to
-unfoldable pub WritesGoOn : StreamLog → StreamLog → Type 0
-WritesGoOn old new = WriteLogGrows old.writes new.writes

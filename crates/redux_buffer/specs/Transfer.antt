@@ -1,39 +1,45 @@
 -- What goes between a buffer and a stream.
-use Rattle.std.specs.Prelude.{◌≡◌, ℕ, ◌≤◌, ◌<◌, List, ◌++◌, length, min, take, Result, Ok, MatchResult, IfErr, OnOk}
+use Rattle.std.specs.Prelude.{◌≡◌, ℕ, ◌+◌, ◌*◌, ◌≤◌, ◌<◌, List, ◌++◌, length, min, take, replicate, Result, Ok, MatchResult, IfErr, OnOk}
 use Rattle.std.specs.Io.{ReadsAtMost, WritesAtMost}
 use Rattle.std.specs.IoError.{error_kind}
 use Rattle.std.specs.declared.io.Error.{Error}
-use Rattle.redux_buffer.specs.Block.{Block, Adds, Takes, MovesOnlyRing, usable}
-use Rattle.redux_buffer.specs.StreamLog.{StreamLog, taken, with_zero, after_read, after_write}
-use Rattle.redux_buffer.specs.Faults.{FaultedBy, OnlyInterrupted, InterruptedOften, SendFailed}
+use Rattle.std.specs.declared.io.ErrorKind.TheVariants.{Interrupted}
+use Rattle.redux_buffer.specs.Block.{Block, Extends, ConsumesFirst, OnlyRingMoves, usable}
+use Rattle.redux_buffer.specs.StreamLog.{StreamLog, taken, with_zero, with_fault, after_read, after_write}
+use Rattle.redux_buffer.specs.Faults.{OnlyInterrupted, SendFailed}
 
 -- one read into the whole tail, which left it as out; what was given stands behind the bytes
-pub record ReadsOnce (old : Block) (log : StreamLog) (answer : Result ℕ Error) (new : Block) (log' : StreamLog) : Type 0 where
+pub record ReadsOnce (old : Block) (log : StreamLog) (answer : Result ℕ Error) (new : Block)
+    (log' : StreamLog) : Type 0 where
   pub out : List ℕ
   pub offered : length out ≡ usable old
   pub bound : ReadsAtMost answer out
   pub told : log' ≡ after_read log out answer
-  pub added : Adds (taken out answer) old new
+  pub added : Extends (taken out answer) old new
 
 -- nothing was done, since there was nothing to do
-pub record DoesNothing {A : Type 0} (nothing : A) (old : Block) (log : StreamLog) (answer : Result A Error) (new : Block) (log' : StreamLog) : Type 0 where
+pub record DoesNothing {A : Type 0} (nothing : A) (old : Block) (log : StreamLog) (answer : Result A Error)
+    (new : Block) (log' : StreamLog) : Type 0 where
   pub answered : answer ≡ Ok nothing
   pub buffer : new ≡ old
   pub told : log' ≡ log
 
 -- one read, or none where nothing can be written
-pub record ReadsFrom (old : Block) (log : StreamLog) (answer : Result ℕ Error) (new : Block) (log' : StreamLog) : Type 0 where
+pub record ReadsFrom (old : Block) (log : StreamLog) (answer : Result ℕ Error)
+    (new : Block) (log' : StreamLog) : Type 0 where
   pub no_room : usable old ≡ 0 → DoesNothing 0 old log answer new log'
   pub read : 0 < usable old → ReadsOnce old log answer new log'
 
 -- one write of all the bytes, of which those that were taken are dropped
-pub record WritesOnce (old : Block) (log : StreamLog) (answer : Result ℕ Error) (new : Block) (log' : StreamLog) : Type 0 where
+pub record WritesOnce (old : Block) (log : StreamLog) (answer : Result ℕ Error) (new : Block)
+    (log' : StreamLog) : Type 0 where
   pub bound : WritesAtMost answer old.bytes
   pub told : log' ≡ after_write log old.bytes answer
-  pub dropped : MatchResult answer (λ n. Takes n old new) (λ _. new ≡ old)
+  pub dropped : MatchResult answer (λ n. ConsumesFirst n old new) (λ _. new ≡ old)
 
 -- one write, or none of an empty buffer
-pub record WritesTo (old : Block) (log : StreamLog) (answer : Result ℕ Error) (new : Block) (log' : StreamLog) : Type 0 where
+pub record WritesTo (old : Block) (log : StreamLog) (answer : Result ℕ Error) (new : Block)
+    (log' : StreamLog) : Type 0 where
   pub empty : length old.bytes ≡ 0 → DoesNothing 0 old log answer new log'
   pub write : 0 < length old.bytes → WritesOnce old log answer new log'
 
@@ -43,31 +49,35 @@ pub record OnlyWrites (old new : StreamLog) : Type 0 where
   pub fills : new.fills ≡ old.fills
   pub seek_faults : new.seek_faults ≡ old.seek_faults
 
--- a write of bs, asked again where it was interrupted
+-- a write of bs, asked again where it was interrupted: 64 times at the most, and `Interrupted` is answered only then
 pub record WritesRetried (bs : List ℕ) (log : StreamLog) (answer : Result ℕ Error) (log' : StreamLog) : Type 0 where
+  pub interrupts : ℕ
+  pub most : interrupts ≤ 64
+  pub often : IfErr answer (λ e. error_kind e ≡ Interrupted → interrupts ≡ 64)
   pub received : log'.writes.received ≡ log.writes.received ++ taken bs answer
   pub flushed : log'.writes.flushed ≡ log.writes.flushed
   pub zero_writes : log'.writes.zero_writes ≡ with_zero log.writes.zero_writes bs answer
-  pub no_fault : OnOk answer (OnlyInterrupted log.writes.faults log'.writes.faults)
-  pub faulted : IfErr answer (λ e. FaultedBy log.writes.faults log'.writes.faults (error_kind e))
-  pub interrupted : IfErr answer (λ e. InterruptedOften log.writes.faults log'.writes.faults (error_kind e))
+  pub faults : log'.writes.faults ≡ with_fault (log.writes.faults ++ replicate interrupts Interrupted) answer
   pub others : OnlyWrites log log'
 
 -- the first count bytes went out
 pub record Sent (count : ℕ) (old : Block) (log : StreamLog) (new : Block) (log' : StreamLog) : Type 0 where
   pub within : count ≤ length old.bytes
-  pub dropped : Takes count old new
-  pub moved : MovesOnlyRing old new
+  pub dropped : ConsumesFirst count old new
+  pub moved : OnlyRingMoves old new
   pub received : log'.writes.received ≡ log.writes.received ++ take count old.bytes
   pub flushed : log'.writes.flushed ≡ log.writes.flushed
-  pub zero_writes : log.writes.zero_writes ≤ log'.writes.zero_writes
   pub others : OnlyWrites log log'
 
--- the first amount bytes were sent, or all where there are fewer; where that failed, those that the writer took
-pub record Sends (amount : ℕ) (old : Block) (log : StreamLog) (answer : Result (Unit {0}) Error) (new : Block) (log' : StreamLog) : Type 0 where
+-- the first amount bytes were sent, or all where there are fewer; where that failed, those that the writer took. For
+-- each byte that went out there were at most 64 interrupted writes, and 64 more before a failure
+pub record Sends (amount : ℕ) (old : Block) (log : StreamLog) (answer : Result (Unit {0}) Error) (new : Block)
+    (log' : StreamLog) : Type 0 where
   pub count : ℕ
+  pub interrupts : ℕ
   pub sent : Sent count old log new log'
   pub most : count ≤ amount
   pub whole : OnOk answer (count ≡ min amount (length old.bytes))
-  pub no_fault : OnOk answer (OnlyInterrupted log.writes.faults log'.writes.faults)
-  pub failed : IfErr answer (λ e. SendFailed log.writes log'.writes (error_kind e))
+  pub ok : OnOk answer (OnlyInterrupted interrupts log.writes log'.writes)
+  pub failed : IfErr answer (λ e. SendFailed interrupts log.writes log'.writes (error_kind e))
+  pub few : MatchResult answer (λ _. interrupts ≤ 64 * count) (λ _. interrupts ≤ 64 * count + 64)

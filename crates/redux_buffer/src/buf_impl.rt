@@ -1,8 +1,8 @@
 //! Either kind of buffer.
 ghost use Rattle.std.specs.Prelude.{◌≡◌, ◌+◌, ◌-◌, ◌^◌, ◌≤◌, ◌<◌, ◌↔◌, ℕ, List, [], ◌++◌, length, min, IsTrue, IfOk, IsOk, OnOk, OnErr};
 ghost use Rattle.std.specs.Borrow.{Lends, Array, sem, u8};
-ghost use Rattle.redux_buffer.specs.Grow.{FitsWithin};
-ghost use Rattle.redux_buffer.specs.Block.{Plain, Ring, IsPlaced, IsNew, Lands, Appends, Takes, Grows, Settles, CountsShift, usable, capacity_for, with_tail, with_bytes, round};
+ghost use Rattle.redux_buffer.specs.GrowError.{FitsWithin};
+ghost use Rattle.redux_buffer.specs.Block.{Plain, Ring, IsPlaced, IsNew, GrowsToFront, BytesWritten, ConsumesFirst, Reserves, MakesRoom, CountsShift, usable, capacity_for, with_tail, with_bytes, round};
 ghost use Rattle.redux_buffer.specs.BufImpl.{placed, with_placed};
 ghost use Rattle.redux_buffer.specs.contracts.buf_impl.BufImpl.{the_row};
 
@@ -126,7 +126,7 @@ impl BufImpl {
 
     /// Takes the first `n` bytes of the tail, or all of it where it has fewer, as the last bytes.
     pub fn bytes_written(&mut self, n: usize)
-        ensures bytes { Appends n (placed self.old).block (placed self.new).block }
+        ensures bytes { BytesWritten n (placed self.old).block (placed self.new).block }
         ensures shift { CountsShift 0 (placed self.old) (placed self.new) }
         ensures whole { IsPlaced (placed self.new) }
     {
@@ -138,7 +138,7 @@ impl BufImpl {
 
     /// Drops the first `n` bytes, or all where it holds fewer.
     pub fn consume(&mut self, n: usize)
-        ensures bytes { Takes n (placed self.old).block (placed self.new).block }
+        ensures bytes { ConsumesFirst n (placed self.old).block (placed self.new).block }
         ensures shift { CountsShift (min n (length (placed self.old).block.bytes)) (placed self.old) (placed self.new) }
         ensures whole { IsPlaced (placed self.new) }
     {
@@ -150,7 +150,7 @@ impl BufImpl {
 
     /// Makes all free space usable: a plain buffer moves its bytes to the front, a ring does nothing.
     pub fn make_room(&mut self)
-        ensures bytes { Settles (placed self.old).block (placed self.new).block }
+        ensures bytes { MakesRoom (placed self.old).block (placed self.new).block }
         ensures ring { (placed self.old).block.kind ≡ Ring → placed self.new ≡ placed self.old }
         ensures shift { CountsShift 0 (placed self.old) (placed self.new) }
         ensures whole { IsPlaced (placed self.new) }
@@ -163,8 +163,8 @@ impl BufImpl {
 
     /// Makes sure that `a` more bytes can be written. A refusal changes nothing.
     pub fn reserve(&mut self, a: usize) -> Result<(), GrowError>
-        ensures grown { OnOk result (Grows a (placed self.old).block (placed self.new).block) }
-        ensures place { Lands (placed self.old) (placed self.new) }
+        ensures grown { OnOk result (Reserves a (placed self.old).block (placed self.new).block) }
+        ensures place { GrowsToFront (placed self.old) (placed self.new) }
         ensures shift { CountsShift 0 (placed self.old) (placed self.new) }
         ensures unchanged { OnErr result (placed self.new ≡ placed self.old) }
         ensures limit { FitsWithin result (capacity_for (placed self.old).block a) (placed self.old).block.limit }

@@ -1,9 +1,9 @@
 //! The buffer that readers and writers hold.
-ghost use Rattle.std.specs.Prelude.{◌≡◌, ◌+◌, ◌-◌, ◌*◌, ◌^◌, ◌≤◌, ◌<◌, ◌↔◌, ℕ, List, [], ◌++◌, length, min, take, drop, IsTrue, IfOk, IsOk, IsOkUnless, OnOk, OnErr, MatchResult, nat_le, if◌then◌else◌};
+ghost use Rattle.std.specs.Prelude.{◌≡◌, ◌+◌, ◌-◌, ◌*◌, ◌^◌, ◌≤◌, ◌<◌, ◌↔◌, ℕ, List, [], ◌++◌, length, min, take, drop, IsTrue, IfOk, IsOk, IsOkUnless, OnOk, OnErr, MatchResult};
 ghost use Rattle.std.specs.Borrow.{Lends, Array, sem, u8};
-ghost use Rattle.redux_buffer.specs.Grow.{FitsWithin};
+ghost use Rattle.redux_buffer.specs.GrowError.{FitsWithin};
 ghost use Rattle.redux_buffer.specs.contracts.buffer.Buffer.{the_row};
-ghost use Rattle.redux_buffer.specs.Block.{Plain, with_bytes, Ring, IsBlock, IsNew, Takes, Grows, Settles, Keeps, Adds, MovesOnlyRing, MovesToFront, usable, capacity_for, round};
+ghost use Rattle.redux_buffer.specs.Block.{Plain, with_bytes, Ring, IsBlock, IsNew, ConsumesFirst, Reserves, MakesRoom, LeavesBytes, Extends, PushesBytes, OnlyRingMoves, MovesToFront, usable, capacity_for, capacity_to_push, round};
 
 use crate::DEFAULT_BUF_SIZE;
 use crate::buf_impl::BufImpl;
@@ -82,6 +82,14 @@ impl Buffer {
         })
     }
 
+    // What is true of every buffer. It does nothing: naming the field makes it known.
+    #[inline(always)]
+    pub(crate) fn is_block(&self)
+        ensures { IsBlock self.now }
+    {
+        let _ = &self.imp;
+    }
+
     /// How many bytes it holds.
     pub fn len(&self) -> usize
         ensures value { result ≡ length self.now.bytes }
@@ -148,7 +156,7 @@ impl Buffer {
 
     /// Makes all free space usable: a plain buffer moves its bytes to the front, a ring does nothing.
     pub fn make_room(&mut self)
-        ensures bytes { Settles self.old self.new }
+        ensures bytes { MakesRoom self.old self.new }
         ensures moved { MovesToFront self.old self.new }
         ensures whole { IsBlock self.new }
     {
@@ -157,8 +165,8 @@ impl Buffer {
 
     /// Drops the first `n` bytes, or all where it holds fewer.
     pub fn consume(&mut self, n: usize)
-        ensures bytes { Takes n self.old self.new }
-        ensures moved { MovesOnlyRing self.old self.new }
+        ensures bytes { ConsumesFirst n self.old self.new }
+        ensures moved { OnlyRingMoves self.old self.new }
         ensures whole { IsBlock self.new }
     {
         self.imp.consume(n);
@@ -166,7 +174,7 @@ impl Buffer {
 
     /// Makes sure that `a` more bytes can be written. A refusal changes nothing.
     pub fn reserve(&mut self, a: usize) -> Result<(), GrowError>
-        ensures grown { OnOk result (Grows a self.old self.new) }
+        ensures grown { OnOk result (Reserves a self.old self.new) }
         ensures unchanged { OnErr result (self.new ≡ self.old) }
         ensures limit { FitsWithin result (capacity_for self.old a) self.old.limit }
         ensures succeeds { a ≤ usable self.old → IsOk result }
@@ -175,10 +183,10 @@ impl Buffer {
         self.imp.reserve(a)
     }
 
-    /// Appends the first bytes of `src`, as many as can be written now, and answers how many those are.
+    /// Appends the first bytes of `src`, as many as can be written now, and returns how many those are.
     pub fn copy_from_slice(&mut self, src: &[u8]) -> usize
         ensures count { result ≡ min (usable self.old) (length src.now) }
-        ensures bytes { Adds (take result src.now) self.old self.new }
+        ensures bytes { Extends (take result src.now) self.old self.new }
         ensures whole { IsBlock self.new }
     {
         let n = src.len().min(self.imp.usable_space());
@@ -187,12 +195,12 @@ impl Buffer {
         n
     }
 
-    /// Copies the first bytes to the front of `out`, as many as fit, drops them, and answers how many those are.
+    /// Copies the first bytes to the front of `out`, as many as fit, drops them, and returns how many those are.
     pub fn copy_to_slice(&mut self, out: &mut [u8]) -> usize
         ensures count { result ≡ min (length self.old.bytes) (length out.old) }
         ensures copied { out.new ≡ take result self.old.bytes ++ drop result out.old }
-        ensures bytes { Takes result self.old self.new }
-        ensures moved { MovesOnlyRing self.old self.new }
+        ensures bytes { ConsumesFirst result self.old self.new }
+        ensures moved { OnlyRingMoves self.old self.new }
         ensures whole { IsBlock self.new }
     {
         let n = out.len().min(self.imp.len());
@@ -204,12 +212,9 @@ impl Buffer {
     /// Appends all of `b`, and grows by twice its length where that many bytes cannot be written now. A refusal changes
     /// nothing.
     pub fn push_bytes(&mut self, b: &[u8]) -> Result<(), GrowError>
-        ensures ok { OnOk result (self.new.bytes ≡ self.old.bytes ++ b.now) }
-        ensures fits { length b.now ≤ usable self.old → OnOk result (Adds b.now self.old self.new) }
-        ensures err { OnErr result (self.new ≡ self.old) }
-        ensures limit { FitsWithin result (if nat_le (length b.now) (usable self.old) then self.old.capacity else capacity_for self.old (2 * length b.now)) self.old.limit }
-        ensures capacity { OnOk result (self.new.capacity ≡ (if nat_le (length b.now) (usable self.old) then self.old.capacity else capacity_for self.old (2 * length b.now))) }
-        ensures counts { (self.new.kind ≡ self.old.kind) × (self.new.consumed ≡ self.old.consumed) × MovesOnlyRing self.old self.new }
+        ensures pushed { OnOk result (PushesBytes b.now self.old self.new) }
+        ensures unchanged { OnErr result (self.new ≡ self.old) }
+        ensures limit { FitsWithin result (capacity_to_push self.old b.now) self.old.limit }
         ensures succeeds { length b.now ≤ usable self.old → IsOk result }
         ensures whole { IsBlock self.new }
     {
@@ -222,8 +227,8 @@ impl Buffer {
 
     /// Drops all bytes.
     pub fn clear(&mut self)
-        ensures bytes { Takes (length self.old.bytes) self.old self.new }
-        ensures moved { MovesOnlyRing self.old self.new }
+        ensures bytes { ConsumesFirst (length self.old.bytes) self.old self.new }
+        ensures moved { OnlyRingMoves self.old self.new }
         ensures whole { IsBlock self.new }
     {
         let len = self.len();

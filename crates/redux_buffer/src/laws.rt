@@ -1,20 +1,30 @@
 //! Laws of the buffer, each as the contract of a function over its calls.
 ghost use Rattle.std.specs.Prelude.{◌≡◌, ◌-◌, ◌≤◌, [], length, min, take};
-ghost use Rattle.redux_buffer.specs.Block.{Ring, Same, usable};
+ghost use Rattle.redux_buffer.specs.Block.{Ring, IsBlock, SameButTail, usable};
 
 use crate::buffer::Buffer;
 
-/// A ring has moved at most as many bytes as were consumed from it.
+/// What is true of every buffer: its bytes and its usable space fit its capacity, which is within its limit; an empty
+/// plain buffer and every ring can use all their free space; a ring has moved at most what was consumed. It does nothing.
+#[inline(always)]
+pub fn block_law(buffer: &Buffer)
+    ensures { IsBlock buffer.now }
+{
+    buffer.is_block();
+}
+
+/// A ring has moved at most as many bytes as were consumed from it. It does nothing.
+#[inline(always)]
 pub fn ring_law(buffer: &Buffer)
     ensures { buffer.now.kind ≡ Ring → buffer.now.moved ≤ buffer.now.consumed }
 {
-    let _ = buffer.len();
+    buffer.is_block();
 }
 
 /// Making room where all free space is usable changes nothing, as it is after making room.
 pub fn make_room_again(buffer: &mut Buffer)
     requires { usable buffer.old ≡ buffer.old.capacity - length buffer.old.bytes }
-    ensures { Same buffer.old buffer.new }
+    ensures { SameButTail buffer.old buffer.new }
 {
     buffer.make_room();
 }

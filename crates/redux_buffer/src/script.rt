@@ -69,9 +69,9 @@ impl Script {
 }
 
 /// A reader that serves its bytes in order, each call as the script says. After the script it serves as much as is asked
-/// for, and after its bytes it answers `Ok(0)`.
+/// for, and after its bytes it returns `Ok(0)`.
 ///
-/// A call that finds no memory to note its offer answers `OutOfMemory`, and changes nothing.
+/// A call that finds no memory to note its offer returns `OutOfMemory`, and changes nothing.
 #[derive(Debug, Drop)]
 pub struct ScriptReader {
     script: Script,
@@ -137,7 +137,7 @@ impl Read for ScriptReader {
 
 /// A writer that takes bytes, each call as the script says. After the script it takes all that it is offered.
 ///
-/// A call that finds no memory to note its offer, or for its bytes, answers `OutOfMemory`, and changes nothing.
+/// A call that finds no memory to note its offer, or for its bytes, returns `OutOfMemory`, and changes nothing.
 #[derive(Debug, Drop)]
 pub struct ScriptWriter {
     script: Script,

@@ -1,8 +1,8 @@
 //! The ring.
 ghost use Rattle.std.specs.Prelude.{◌≡◌, ◌+◌, ◌-◌, ◌^◌, ◌≤◌, ◌<◌, ◌↔◌, ℕ, List, [], ◌++◌, length, min, IsTrue, IfOk, IsOk, OnOk, OnErr};
 ghost use Rattle.std.specs.Borrow.{Lends, Array, sem, u8};
-ghost use Rattle.redux_buffer.specs.Grow.{FitsWithin};
-ghost use Rattle.redux_buffer.specs.Block.{Ring, IsPlaced, IsNew, Lands, Appends, Takes, Grows, Settles, CountsShift, usable, capacity_for, with_tail, with_bytes, round};
+ghost use Rattle.redux_buffer.specs.GrowError.{FitsWithin};
+ghost use Rattle.redux_buffer.specs.Block.{Ring, IsPlaced, IsNew, GrowsToFront, BytesWritten, ConsumesFirst, Reserves, MakesRoom, CountsShift, usable, capacity_for, with_tail, with_bytes, round};
 ghost use Rattle.redux_buffer.specs.contracts.slice_deque_buf.SliceDequeBuf.{the_row};
 
 use crate::count::Count;
@@ -145,17 +145,17 @@ impl SliceDequeBuf {
     #[tactic(auto, using(crate::proofs::Ranges::range_takes, crate::proofs::Ranges::length_range))]
     /// Takes the first `n` bytes of the tail, or all of it where it has fewer, as the last bytes.
     pub fn bytes_written(&mut self, n: usize)
-        ensures bytes { Appends n self.old.block self.new.block }
+        ensures bytes { BytesWritten n self.old.block self.new.block }
         ensures shift { CountsShift 0 self.old self.new }
         ensures whole { IsPlaced self.new }
     {
         self.len += n.min(self.cap - self.len);
     }
 
-    #[tactic(auto, using(crate::proofs::Ranges::drop_range, crate::proofs::Ranges::length_range))]
     /// Drops the first `n` bytes, or all where it holds fewer.
+    #[tactic(auto, using(crate::proofs::Ranges::drop_range, crate::proofs::Ranges::length_range))]
     pub fn consume(&mut self, n: usize)
-        ensures bytes { Takes n self.old.block self.new.block }
+        ensures bytes { ConsumesFirst n self.old.block self.new.block }
         ensures shift { CountsShift (min n (length self.old.block.bytes)) self.old self.new }
         ensures whole { IsPlaced self.new }
     {
@@ -180,7 +180,7 @@ impl SliceDequeBuf {
     /// Does nothing: all free space can be written as it is.
     pub fn make_room(&mut self)
         ensures unchanged { self.new ≡ self.old }
-        ensures bytes { Settles self.old.block self.new.block }
+        ensures bytes { MakesRoom self.old.block self.new.block }
         ensures shift { CountsShift 0 self.old self.new }
         ensures whole { IsPlaced self.new }
     {
@@ -191,8 +191,8 @@ impl SliceDequeBuf {
     /// Makes sure that `a` more bytes can be written. The capacity stays a multiple of [`RING_UNIT`], and the bytes of a ring
     /// that grew stand at the front. A refusal changes nothing.
     pub fn reserve(&mut self, a: usize) -> Result<(), GrowError>
-        ensures grown { OnOk result (Grows a self.old.block self.new.block) }
-        ensures place { Lands self.old self.new }
+        ensures grown { OnOk result (Reserves a self.old.block self.new.block) }
+        ensures place { GrowsToFront self.old self.new }
         ensures shift { CountsShift 0 self.old self.new }
         ensures unchanged { OnErr result (self.new ≡ self.old) }
         ensures limit { FitsWithin result (capacity_for self.old.block a) self.old.block.limit }

@@ -1,8 +1,8 @@
 //! The plain buffer.
 ghost use Rattle.std.specs.Prelude.{◌≡◌, ◌+◌, ◌-◌, ◌^◌, ◌≤◌, ◌<◌, ◌↔◌, ℕ, List, [], ◌++◌, length, min, IsTrue, IfOk, IsOk, OnOk, OnErr};
 ghost use Rattle.std.specs.Borrow.{Lends, Array, sem, u8};
-ghost use Rattle.redux_buffer.specs.Grow.{FitsWithin};
-ghost use Rattle.redux_buffer.specs.Block.{Plain, IsPlaced, IsNew, Lands, Appends, Takes, Grows, Settles, CountsShift, usable, capacity_for, with_tail, with_bytes};
+ghost use Rattle.redux_buffer.specs.GrowError.{FitsWithin};
+ghost use Rattle.redux_buffer.specs.Block.{Plain, IsPlaced, IsNew, GrowsToFront, BytesWritten, ConsumesFirst, Reserves, MakesRoom, CountsShift, usable, capacity_for, with_tail, with_bytes};
 ghost use Rattle.redux_buffer.specs.contracts.std_buf.StdBuf.{the_row};
 
 use crate::MAX_CAPACITY;
@@ -31,11 +31,21 @@ impl Model for StdBuf {
     ghost Value = { Placed };
 
     ghost view = { λ b. record {
-      block = record { bytes = slice_range b.buf b.pos b.end; tail = drop b.end b.buf; capacity = length b.buf; limit = 2 ^ 62; kind = Plain; tail_behind = true; consumed = b.consumed.total; moved = b.moved.total };
+      block = record {
+        bytes = slice_range b.buf b.pos b.end;
+        tail = drop b.end b.buf;
+        capacity = length b.buf;
+        limit = 2 ^ 62;
+        kind = Plain;
+        tail_behind = true;
+        consumed = b.consumed.total;
+        moved = b.moved.total;
+      };
       place = b.pos;
     } };
 
-    ghost invariant = { λ b. (b.pos ≤ b.end) × (b.end ≤ length b.buf) × (length b.buf ≤ 2 ^ 62) × (b.pos ≡ b.end → b.end ≡ 0) };
+    ghost invariant = { λ b. (b.pos ≤ b.end) × (b.end ≤ length b.buf) × (length b.buf ≤ 2 ^ 62)
+        × (b.pos ≡ b.end → b.end ≡ 0) };
 }
 
 impl StdBuf {
@@ -119,7 +129,7 @@ impl StdBuf {
 
     /// Takes the first `n` bytes of the tail, or all of it where it has fewer, as the last bytes.
     pub fn bytes_written(&mut self, n: usize)
-        ensures bytes { Appends n self.old.block self.new.block }
+        ensures bytes { BytesWritten n self.old.block self.new.block }
         ensures shift { CountsShift 0 self.old self.new }
         ensures whole { IsPlaced self.new }
     {
@@ -127,10 +137,10 @@ impl StdBuf {
         self.end += n.min(room);
     }
 
-    #[tactic(auto, using(crate::proofs::Ranges::drop_range, crate::proofs::Ranges::length_range))]
     /// Drops the first `n` bytes, or all where it holds fewer.
+    #[tactic(auto, using(crate::proofs::Ranges::drop_range, crate::proofs::Ranges::length_range))]
     pub fn consume(&mut self, n: usize)
-        ensures bytes { Takes n self.old.block self.new.block }
+        ensures bytes { ConsumesFirst n self.old.block self.new.block }
         ensures shift { CountsShift (min n (length self.old.block.bytes)) self.old self.new }
         ensures whole { IsPlaced self.new }
     {
@@ -147,7 +157,7 @@ impl StdBuf {
 
     /// Moves the bytes to the front, so that all free space can be written.
     pub fn make_room(&mut self)
-        ensures bytes { Settles self.old.block self.new.block }
+        ensures bytes { MakesRoom self.old.block self.new.block }
         ensures shift { CountsShift 0 self.old self.new }
         ensures whole { IsPlaced self.new }
         ensures kind { self.new.block.kind ≡ Plain }
@@ -164,8 +174,8 @@ impl StdBuf {
 
     /// Makes sure that `a` more bytes can be written. A refusal changes nothing.
     pub fn reserve(&mut self, a: usize) -> Result<(), GrowError>
-        ensures grown { OnOk result (Grows a self.old.block self.new.block) }
-        ensures place { Lands self.old self.new }
+        ensures grown { OnOk result (Reserves a self.old.block self.new.block) }
+        ensures place { GrowsToFront self.old self.new }
         ensures shift { CountsShift 0 self.old self.new }
         ensures unchanged { OnErr result (self.new ≡ self.old) }
         ensures limit { FitsWithin result (capacity_for self.old.block a) self.old.block.limit }

@@ -7,7 +7,7 @@ use std::io;
 use std::io::{BufRead, Read, Write};
 use std::test::Fail;
 
-/// Copies the first buffer of `from` to `to`, and answers how many bytes those are.
+/// Copies the first buffer of `from` to `to`, and returns how many bytes those are.
 fn copy_front<R: Read + Drop, W: Write + Drop>(alloc: Global, from: R, to: W) -> io::Result<usize> {
     let mut reader = BufReader::new(alloc, Told::new(from))?;
     let mut writer = BufWriter::new(alloc, Told::new(to))?;

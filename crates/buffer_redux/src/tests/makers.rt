@@ -18,6 +18,16 @@ fn refused<B: Drop, S>(rt: &impl Abort, outcome: Result<B, MakeError<S>>) -> (Gr
 }
 
 #[test]
+fn printed(rt: HostRuntime) -> Result<(), Fail> {
+    let refusal = MakeError(7u8, GrowError::Memory);
+    assert_eq!(rt;
+        format!(in rt.alloc(); "{refusal}")?.as_str(),
+        "out of memory"
+    );
+    Ok(())
+}
+
+#[test]
 fn readers(rt: HostRuntime) -> Result<(), Fail> {
     let alloc = rt.alloc();
     let inner = Told::new([7].as_slice());

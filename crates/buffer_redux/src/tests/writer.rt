@@ -107,6 +107,12 @@ fn offers(rt: HostRuntime) -> Result<(), Fail> {
     assert_eq!(rt; wrt.write(&[1, 2, 3])?, 1);
     assert_eq!(rt; taken(&wrt), [1].as_slice());
     assert_eq!(rt; wrt.get_ref().get_ref().offers(), [3].as_slice());
+
+    // Each write of a flush offers all that is left.
+    let inner = told(rt.alloc(), &[Answer::ServeEach(1)])?;
+    let mut wrt = BufWriter::with_buffer(holding(rt.alloc(), 4, &[1, 2, 3])?, inner);
+    wrt.flush()?;
+    assert_eq!(rt; wrt.get_ref().get_ref().offers(), [3, 2, 1].as_slice());
     Ok(())
 }
 

@@ -1,7 +1,7 @@
 //! What a buffer reads from and writes to a stream.
 ghost use Rattle.std.specs.Prelude.{◌≡◌, ◌≤◌, ◌<◌, ◌⊎◌, length, Ok, OnErr};
 ghost use Rattle.std.specs.Io.{WritesAtMost};
-ghost use Rattle.redux_buffer.specs.Block.{IsBlock, Keeps, MovesOnlyRing, usable};
+ghost use Rattle.redux_buffer.specs.Block.{IsBlock, LeavesBytes, OnlyRingMoves, usable};
 ghost use Rattle.redux_buffer.specs.Transfer.{ReadsFrom, WritesTo, WritesRetried, Sends};
 
 use crate::INTERRUPT_LIMIT;
@@ -11,12 +11,12 @@ use std::io;
 use std::io::ErrorKind;
 
 impl Buffer {
-    /// Reads once, into all the space that can be written, and answers how many bytes came. Answers `Ok(0)` and doesn't
+    /// Reads once, into all the space that can be written, and returns how many bytes came. Returns `Ok(0)` and doesn't
     /// ask the reader where there is no such space. A fault of the reader changes nothing.
     pub fn read_from<R: TellRead>(&mut self, rdr: &mut R) -> io::Result<usize>
         ensures read { ReadsFrom self.old (R.log rdr.old) result self.new (R.log rdr.new) }
         ensures not_asked { usable self.old ≡ 0 → rdr.new ≡ rdr.old }
-        ensures err { OnErr result (Keeps self.old self.new) }
+        ensures err { OnErr result (LeavesBytes self.old self.new) }
         ensures whole { IsBlock self.new }
     {
         if self.usable_space() == 0 {
@@ -27,12 +27,12 @@ impl Buffer {
         Ok(n)
     }
 
-    /// Writes all bytes once, drops those that the writer took, and answers how many those are. Answers `Ok(0)` and
+    /// Writes all bytes once, drops those that the writer took, and returns how many those are. Returns `Ok(0)` and
     /// doesn't ask the writer where the buffer is empty. A fault of the writer changes nothing.
     pub fn write_to<W: TellWrite>(&mut self, wrt: &mut W) -> io::Result<usize>
         ensures wrote { WritesTo self.old (W.log wrt.old) result self.new (W.log wrt.new) }
         ensures not_asked { length self.old.bytes ≡ 0 → wrt.new ≡ wrt.old }
-        ensures moved { MovesOnlyRing self.old self.new }
+        ensures moved { OnlyRingMoves self.old self.new }
         ensures stretch { W.stretch wrt.old wrt.new }
         ensures whole { IsBlock self.new }
     {
@@ -47,8 +47,8 @@ impl Buffer {
     /// Writes the first `max` bytes, or all where there are fewer, by as many writes as it takes. Each write offers all
     /// that is left of them.
     ///
-    /// 64 `Interrupted` in a row are retried, and the 65th is answered; a write that takes bytes ends the row. A write
-    /// that takes nothing is answered as `WriteZero`. At any fault the buffer has lost just what the writer took.
+    /// 64 `Interrupted` in a row are retried, and the 65th is returned; a write that takes bytes ends the row. A write
+    /// that takes nothing is returned as `WriteZero`. At any fault the buffer has lost just what the writer took.
     pub fn write_max<W: TellWrite>(&mut self, max: usize, wrt: &mut W) -> io::Result<()>
         ensures sent { Sends max self.old (W.log wrt.old) result self.new (W.log wrt.new) }
         ensures idle { max ≡ 0 ⊎ (length self.old.bytes ≡ 0)

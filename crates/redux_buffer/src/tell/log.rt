@@ -20,7 +20,7 @@ pub enum Call<'a> {
     Consume(usize),
 }
 
-/// What a stream was asked and what it answered so far, as clauses read it in `log`.
+/// What a stream was asked and what it returned so far, as clauses read it in `log`.
 #[derive(Drop)]
 pub struct CallLog {
     pub ghost log: { StreamLog },

@@ -3,7 +3,8 @@ ghost use Rattle.std.specs.Prelude.{◌≡◌};
 ghost use Rattle.std.specs.Io.{ReadsAtMost, WritesAtMost};
 ghost use Rattle.std.specs.Borrow.{sem};
 ghost use Rattle.std.specs.Io.BufRead.{Rests};
-ghost use Rattle.redux_buffer.specs.StreamLog.{StreamLog, after_read, after_write, after_flush, after_seek, after_consume, FillTells, WritesGoOn};
+ghost use Rattle.redux_buffer.specs.StreamLog.{StreamLog, after_read, after_write, after_flush, after_seek, after_consume, FillTells};
+ghost use Rattle.redux_buffer.specs.LogGrows.{WritesGoOn, FillsGoOn};
 
 use std::io;
 use std::io::SeekFrom;
@@ -68,6 +69,9 @@ pub trait TellBufRead: Tell {
 
     // Two stretches join.
     ghost stretch_joins: { (a b c : Self) → stretch a b → stretch b c → stretch a c };
+
+    // In a stretch the log only goes on.
+    ghost stretch_grows: { (s t : Self) → stretch s t → FillsGoOn (Self.log s) (Self.log t) };
 }
 
 /// A seeker that tells of its faults.

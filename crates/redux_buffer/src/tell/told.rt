@@ -3,8 +3,8 @@ ghost use Rattle.std.specs.Prelude.{◌≡◌};
 ghost use Rattle.std.specs.Io.{ReadsAtMost, WritesAtMost};
 ghost use Rattle.std.specs.Io.KnownBytes.{Keeps, ReadConsumes, WriteAppends};
 ghost use Rattle.std.specs.Io.Seek.{SeekMoves};
-ghost use Rattle.redux_buffer.specs.StreamLog.{no_calls, after_read, after_write, after_flush, after_seek, WriteLogGrows};
-ghost use Rattle.redux_buffer.specs.Grows.{WriteLogGrows-none, WriteLogGrows-joins, WritesGoOn-of};
+ghost use Rattle.redux_buffer.specs.StreamLog.{no_calls, after_read, after_write, after_flush, after_seek};
+ghost use Rattle.redux_buffer.specs.LogGrows.{WritesGoOn-of};
 
 use crate::tell::log::{Call, CallLog};
 use crate::tell::streams::{Tell, TellRead, TellSeek, TellWrite};
@@ -85,14 +85,14 @@ impl<S: Read> TellRead for Told<S> {
 }
 
 impl<S: Write> TellWrite for Told<S> {
-    ghost use Rattle.redux_buffer.specs.Told.{told_stream, told_log};
+    ghost use Rattle.redux_buffer.specs.Told.{told_stream, told_log, ToldWrites, ToldWrites-none, ToldWrites-joins};
 
-    ghost stretch = { λ s t. WriteLogGrows s.calls.log.writes t.calls.log.writes };
+    ghost stretch = { ToldWrites S.contents };
 
     fn write_told(&mut self, buf: &[u8]) -> io::Result<usize>
         ensures bound { WritesAtMost result buf.now }
         ensures told { told_log self.new ≡ after_write (told_log self.old) buf.now result }
-        ensures stretch { WriteLogGrows (told_log self.old).writes (told_log self.new).writes }
+        ensures stretch { ToldWrites S.contents self.old self.new }
         ensures passed_on { WriteAppends (S.contents (told_stream self.old))
             (S.contents (told_stream self.new)) result buf.now }
     {
@@ -103,7 +103,7 @@ impl<S: Write> TellWrite for Told<S> {
 
     fn flush_told(&mut self) -> io::Result<()>
         ensures told { told_log self.new ≡ after_flush (told_log self.old) result }
-        ensures stretch { WriteLogGrows (told_log self.old).writes (told_log self.new).writes }
+        ensures stretch { ToldWrites S.contents self.old self.new }
         ensures passed_on { Keeps (S.contents (told_stream self.old))
             (S.contents (told_stream self.new)) }
     {
@@ -112,11 +112,11 @@ impl<S: Write> TellWrite for Told<S> {
         answer
     }
 
-    ghost stretch_none = { λ s. WriteLogGrows-none s.calls.log.writes };
+    ghost stretch_none = { ToldWrites-none S.contents };
 
-    ghost stretch_joins = { λ a b c. WriteLogGrows-joins a.calls.log.writes b.calls.log.writes c.calls.log.writes };
+    ghost stretch_joins = { ToldWrites-joins S.contents };
 
-    ghost stretch_grows = { λ s t grows. WritesGoOn-of s.calls.log t.calls.log grows };
+    ghost stretch_grows = { λ s t stretch. WritesGoOn-of s.calls.log t.calls.log stretch.grows };
 }
 
 impl<S: Seek> TellSeek for Told<S> {

@@ -1,5 +1,5 @@
 //! The scripted streams, and the streams that tell.
-ghost use Rattle.std.specs.Prelude.{⊤};
+ghost use Rattle.redux_buffer.specs.LogGrows.{FillLogGrows, FillLogGrows-none, FillLogGrows-joins, FillsGoOn-of};
 
 use crate::script::{Answer, ScriptReader, ScriptWriter};
 use crate::tell::{Call, CallLog, Tell, TellBufRead, TellRead, TellSeek, TellWrite, Told};
@@ -53,6 +53,32 @@ fn writer(rt: HostRuntime) -> Result<(), Fail> {
     Ok(())
 }
 
+// An empty slice is passed on too, and a call that fails asks its stream once.
+#[test]
+fn passed_on(rt: HostRuntime) -> Result<(), Fail> {
+    let other = [Answer::Fail(ErrorKind::Other)];
+    let mut rdr = Told::new(ScriptReader::new(rt.alloc(), &[1], &other)?);
+    let mut out = [0u8; 2];
+    assert_eq!(rt;
+        rdr.read_told(&mut out).map_err(|e| e.kind()),
+        Err(ErrorKind::Other)
+    );
+    assert_eq!(rt; rdr.read_told(&mut [])?, 0);
+    assert_eq!(rt; rdr.read_told(&mut out)?, 1);
+    assert_eq!(rt; rdr.get_ref().offers(), [2, 0, 2].as_slice());
+
+    let mut wrt = Told::new(ScriptWriter::new(rt.alloc(), &other)?);
+    assert_eq!(rt;
+        wrt.write_told(&[1]).map_err(|e| e.kind()),
+        Err(ErrorKind::Other)
+    );
+    assert_eq!(rt; wrt.write_told(&[])?, 0);
+    wrt.flush_told()?;
+    assert_eq!(rt; wrt.get_ref().offers(), [1, 0].as_slice());
+    assert_eq!(rt; wrt.get_ref().flushes(), 1);
+    Ok(())
+}
+
 #[test]
 fn seeker(rt: HostRuntime) -> Result<(), Fail> {
     let mut skr = Told::new(Cursor::new([1u8, 2, 3].as_slice()));
@@ -85,7 +111,7 @@ impl Tell for Page<'_> {
 }
 
 impl TellBufRead for Page<'_> {
-    ghost stretch = { λ _ _. ⊤ };
+    ghost stretch = { λ s t. FillLogGrows s.calls.log.fills t.calls.log.fills };
 
     fn fill_told(&mut self) -> io::Result<&[u8]> {
         self.calls.note(&Call::Shown(self.left));
@@ -97,9 +123,11 @@ impl TellBufRead for Page<'_> {
         self.calls.note(&Call::Consume(amount));
     }
 
-    ghost stretch_none = { λ _. tt };
+    ghost stretch_none = { λ s. FillLogGrows-none s.calls.log.fills };
 
-    ghost stretch_joins = { λ _ _ _ _ _. tt };
+    ghost stretch_joins = { λ a b c. FillLogGrows-joins a.calls.log.fills b.calls.log.fills c.calls.log.fills };
+
+    ghost stretch_grows = { λ s t grows. FillsGoOn-of s.calls.log t.calls.log grows };
 }
 
 fn shown_len<B: TellBufRead>(reader: &mut B) -> io::Result<usize> {

@@ -1,6 +1,4 @@
 use Rattle.std.proofs.Common.{ℕ, ◌-◌, ◌^◌, length}
-use Rattle.buffer_redux.specs.Policy.{read_ask}
-use Rattle.buffer_redux.specs.ReaderState.{reader_state}
 use Rattle.buffer_redux.specs.Fill.{Turns}
 use Rattle.buffer_redux.proofs.buf_reader.BufReader.fill.Given as goal
 
@@ -8,9 +6,8 @@ use Rattle.buffer_redux.proofs.buf_reader.BufReader.fill.Given as goal
 abbrev pub invariant-loop-self : goal.invariant-loop-self
 invariant-loop-self g l = record {
   count : ℕ;
-  turns : Turns (read_ask g.P.ReaderPolicy.read_table g.P.ReaderPolicy.read_claims) count
-      (reader_state g.R.Tell.log l.initial.self) (reader_state g.R.Tell.log l.self);
+  turns : Turns g.P.ReaderPolicy.rules count l.initial.self l.self;
 }
 
 abbrev pub decreases-loop-self : goal.decreases-loop-self
-decreases-loop-self g l = 2 ^ 62 - length l.self.buf.bytes
+decreases-loop-self g l = 2 ^ 62 - length l.self.block.bytes

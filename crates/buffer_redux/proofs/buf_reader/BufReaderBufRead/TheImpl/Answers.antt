@@ -15,7 +15,7 @@ fill_buf-meets g c =
     (fact_i 𝓤 (Unit {0}) _ tt)
     (λ _. id⊢ 𝓤 _)
     (λ r e. fact_i 𝓤 (Unit {0}) _ tt)
-    (λ r e _. via 𝓤 _ (rests_widens g.world.𝓛 (the_row (param 0 g.row.R) (param 1 g.row.P)) c.args.self _ _ (λ new f. (tt, tt)))
+    (λ r e _. via 𝓤 _ (rests_widens g.world.𝓛 (the_row (param 0 g.row.R) (param 1 g.row.P) g.R.Tell) c.args.self _ _ (λ new f. (tt, tt)))
     (via 𝓤 _ (with_fact 𝓤 _ _ tt) (with_fact 𝓤 _ _ tt)))
     (λ _. tt)
     (λ _ r e _. tt)

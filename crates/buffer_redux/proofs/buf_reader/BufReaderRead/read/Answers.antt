@@ -1,72 +1,114 @@
-use Rattle.std.proofs.Common.{◌≡◌, ◌≤◌, [], length, take, min, refl, sym, ap, subst, ◌∙◌, arith, length-append}
+use Rattle.std.proofs.Common.{◌≡◌, ℕ, ◌<◌, ◌≤◌, [], ◌++◌, length, take, min, Ok, Err, inl, inr, refl, sym, ap, subst, ◌∙◌, arith, le_trans}
+use Rattle.std.proofs.Common.{rules}
+use Rattle.std.proofs.lemmas.Bool.{cases_lt}
 use Rattle.std.proofs.lemmas.Result.{err_from_is_err_and}
-use Rattle.buffer_redux.specs.Policy.{read_ask}
-use Rattle.buffer_redux.specs.ReaderState.{reader_state}
-use Rattle.buffer_redux.specs.BufReader.{HandsOn, HandsOn-joins}
-use Rattle.buffer_redux.proofs.FillFacts.{filled_facts, empty_read}
-use Rattle.buffer_redux.proofs.FillClaims.{fills, fills_ok, fills_err}
+use Rattle.redux_buffer.specs.LogGrows.{ReadLogGrows-joins}
+use Rattle.buffer_redux.specs.Buffered.{StaysInside}
+use Rattle.buffer_redux.specs.BufReader.{ReadsInOrder, Fills}
+use Rattle.buffer_redux.specs.ReaderLaws.{ReadsInOrder-joins, Fills-empty}
+use Rattle.buffer_redux.proofs.FillFacts.{ReadsInOrder-direct, empty_read, inside_room}
+use Rattle.buffer_redux.proofs.FillClaims.{fills, filled_ok, filled_err}
 use Rattle.buffer_redux.proofs.buf_reader.BufReaderRead.read.Goals as goal
 use Rattle.buffer_redux.proofs.buf_reader.BufReaderRead.read.Goals.{else-is_empty-via-then-is_empty+else-out-capacity, else-is_empty-via-else-is_empty}
 
-pub returns-in_err-fill-clause-hands_on : goal.returns-in_err-fill-clause-hands_on
-returns-in_err-fill-clause-hands_on g c =
+-- what the fill promises, where it failed and where it didn't
+failed : (g : _) (c : goal.After-from_residual g) → Fills {A = ℕ} g.P.ReaderPolicy.rules c.args.self.now (Err c.in_err-fill.field-0.0) c.fill.new.self
+failed g c =
+    let f = c.in_err-fill.ensures in
+    fills g.P.ReaderPolicy.rules _ _ _ f.whole (filled_err g.P.ReaderPolicy.rules _ _ _ _ _ f.filled)
+
+filled : (g : _) (c : goal.After-consume g) → Fills g.P.ReaderPolicy.rules c.args.self.now (Ok c.copy_front-n.result) c.fill.new.self
+filled g c =
+    let f = c.in_ok-fill.ensures in
+    fills g.P.ReaderPolicy.rules _ _ _ f.whole (filled_ok g.P.ReaderPolicy.rules _ _ c.copy_front-n.result _ f.filled)
+
+-- where nothing is handed out, the fill showed nothing, and there was capacity
+nothing : (g : _) (c : goal.After-consume g) → c.copy_front-n.result ≡ 0 → 0 < length c.args.out.now → length c.fill.new.self.block.bytes ≡ 0
+nothing g c none some =
+    omega (arith, c.copy_front-n.ensures.count, ap length c.buf.ensures, ap (λ x. length x.block.bytes) c.self-2.view_is, none, some)
+
+roomy : (g : _) (c : goal.After-consume g) → length c.fill.new.self.block.bytes ≡ 0 → 0 < c.args.self.now.block.capacity
+roomy g c none =
+    let s = c.args.self.now in
+    let inside : StaysInside s.block (length c.args.out.now) = elim c.else-is_empty.branch [
+      | else-is_empty-via-then-is_empty+else-out-capacity w ↦ inr (omega (arith, w.if-out-capacity.false, w.capacity.ensures.value, ap (λ x. x.block.capacity) c.self.view_is))
+      | else-is_empty-via-else-is_empty w ↦ elim (cases_lt 0 (length s.block.bytes)) [
+        | inl some ↦ inl some
+        | inr few ↦ (let yes = c.is_empty.ensures.value.1 (omega (arith, few, ap (λ x. length x.block.bytes) c.self.view_is)) in let no = w.if-is_empty.false in cc)
+      ]
+    ] in
+    inside_room s c.fill.new.self (length c.args.out.now) inside (filled g c).in_order none
+
+pub returns-then-out-capacity-clause-in_order : goal.returns-then-out-capacity-clause-in_order
+returns-then-out-capacity-clause-in_order g c =
+    rw (← c.self.view_is) (ReadsInOrder-direct _ _ _ _ (record { policy = refl; block = refl; bound = search rules; told = c.read_told.ensures.told })
+    (c.is_empty.ensures.value.0 c.if-is_empty.true))
+
+pub returns-in_err-fill-clause-in_order : goal.returns-in_err-fill-clause-in_order
+returns-in_err-fill-clause-in_order g c =
     let p = err_from_is_err_and c.from_residual.result c.from_residual.ensures.1 in
-    let f = filled_facts (read_ask g.P.ReaderPolicy.read_table g.P.ReaderPolicy.read_claims) (reader_state g.R.Tell.log c.args.self.now) _ (reader_state g.R.Tell.log c.fill.new.self) c.in_err-fill.ensures.filled in
-    rw p.1 f.hands_on
+    rw p.1 (failed g c).in_order
+
+pub returns-in_err-fill-clause-grows : goal.returns-in_err-fill-clause-grows
+returns-in_err-fill-clause-grows g c = (failed g c).grows
 
 pub returns-in_err-fill-clause-caused : goal.returns-in_err-fill-clause-caused
 returns-in_err-fill-clause-caused g c =
     let p = err_from_is_err_and c.from_residual.result c.from_residual.ensures.1 in
-    let f = filled_facts (read_ask g.P.ReaderPolicy.read_table g.P.ReaderPolicy.read_claims) (reader_state g.R.Tell.log c.args.self.now) _ (reader_state g.R.Tell.log c.fill.new.self) c.in_err-fill.ensures.filled in
-    rw (p.1, p.2) f.caused
+    rw (p.1, p.2) (failed g c).caused
+
+pub returns-in_err-fill-clause-capacity : goal.returns-in_err-fill-clause-capacity
+returns-in_err-fill-clause-capacity g c = (failed g c).capacity
+
+pub returns-in_err-fill-clause-claims : goal.returns-in_err-fill-clause-claims
+returns-in_err-fill-clause-claims g c = (failed g c).claims
 
 pub returns-in_err-fill-clause-buffered : goal.returns-in_err-fill-clause-buffered
 returns-in_err-fill-clause-buffered g c =
     let p = err_from_is_err_and c.from_residual.result c.from_residual.ensures.1 in
-    let f = fills g.P.ReaderPolicy.read_table g.P.ReaderPolicy.read_claims (reader_state g.R.Tell.log c.args.self.now) _ (reader_state g.R.Tell.log c.fill.new.self) c.in_err-fill.ensures.filled in
-    rw (p.1, p.2) (λ inside. record {
-      filled = reader_state g.R.Tell.log c.fill.new.self;
-      fills = fills_err g.P.ReaderPolicy.read_table g.P.ReaderPolicy.read_claims _ _ _ _ _ f;
-      handed = refl;
-    })
+    rw (p.1, p.2) (λ inside. record { filled = c.fill.new.self; fills = failed g c; handed = refl })
 
-pub returns-clause-hands_on : goal.returns-clause-hands_on
-returns-clause-hands_on g c =
-    let s = reader_state g.R.Tell.log c.args.self.now in
-    let m = reader_state g.R.Tell.log c.fill.new.self in
-    let t = reader_state g.R.Tell.log c.consume.new.self in
-    let f = filled_facts (read_ask g.P.ReaderPolicy.read_table g.P.ReaderPolicy.read_claims) s _ m c.in_ok-fill.ensures.filled in
+pub returns-clause-in_order : goal.returns-clause-in_order
+returns-clause-in_order g c =
+    let s = c.args.self.now in
+    let m = c.fill.new.self in
+    let t = c.consume.new.self in
     let same : take c.copy_front-n.result m.block.bytes ≡ take c.copy_front-n.result c.copy_front-n.new.out =
-    ap (take c.copy_front-n.result) (sym c.buf.ensures) ∙ sym c.copy_front-n.ensures.bytes in
-    HandsOn-joins s m t [] (take c.copy_front-n.result c.copy_front-n.new.out) f.hands_on
-    (subst (λ l. HandsOn m l t) same c.consume.ensures.hands_on)
+    ap (λ x. take c.copy_front-n.result x.block.bytes) (sym c.self-2.view_is) ∙ ap (take c.copy_front-n.result) (sym c.buf.ensures) ∙ sym c.copy_front-n.ensures.bytes in
+    ReadsInOrder-joins s m t [] (take c.copy_front-n.result c.copy_front-n.new.out) (filled g c).in_order
+    (subst (λ l. ReadsInOrder m l t) same c.consume.ensures.in_order)
+
+pub returns-clause-grows : goal.returns-clause-grows
+returns-clause-grows g c = ReadLogGrows-joins _ _ _ (filled g c).grows c.consume.ensures.grows
 
 pub returns-clause-caused : goal.returns-clause-caused
-returns-clause-caused g c =
-    let f = filled_facts (read_ask g.P.ReaderPolicy.read_table g.P.ReaderPolicy.read_claims) (reader_state g.R.Tell.log c.args.self.now) _ (reader_state g.R.Tell.log c.fill.new.self) c.in_ok-fill.ensures.filled in
-    ap (λ l. l.reads.faults) c.consume.ensures.consumed.told ∙ f.caused
+returns-clause-caused g c = ap (λ l. l.reads.faults) c.consume.ensures.consumed.told ∙ (filled g c).caused
 
 pub returns-clause-empty : goal.returns-clause-empty
 returns-clause-empty g c is some =
-    let ask = read_ask g.P.ReaderPolicy.read_table g.P.ReaderPolicy.read_claims in
-    let s = reader_state g.R.Tell.log c.args.self.now in
-    let m = reader_state g.R.Tell.log c.fill.new.self in
-    let t = reader_state g.R.Tell.log c.consume.new.self in
-    let f = filled_facts ask s _ m c.in_ok-fill.ensures.filled in
-    let none : c.copy_front-n.result ≡ 0 = cc in
-    let empty : length m.block.bytes ≡ 0 = omega (arith, c.copy_front-n.ensures.count, ap length c.buf.ensures, none) in
-    let grown : length s.block.bytes ≤ length m.block.bytes = omega (arith, ap length f.hands_on.equal, length-append s.block.bytes f.hands_on.got) in
-    empty_read ask s m t (f.empty refl empty)
-    (λ no_capacity. elim c.else-is_empty.branch [
-      | else-is_empty-via-then-is_empty+else-out-capacity w ↦ omega (arith, w.if-out-capacity.false, w.capacity.ensures.value, f.capacity, no_capacity)
-      | else-is_empty-via-else-is_empty w ↦ (let yes = c.is_empty.ensures.value.1 (omega arith) in let no = w.if-is_empty.false in cc)
-    ])
-    (ap (λ l. l.reads.zero_answers) c.consume.ensures.consumed.told)
+    let f = filled g c in
+    let none = nothing g c (cc) some in
+    let room = roomy g c none in
+    empty_read g.P.ReaderPolicy.rules c.args.self.now c.fill.new.self c.consume.new.self (f.empty refl none) (omega (arith, room, f.capacity)) (ap (λ l. l.reads.zero_answers) c.consume.ensures.consumed.told)
+
+pub returns-clause-ran_dry : goal.returns-clause-ran_dry
+returns-clause-ran_dry g c is some wants =
+    let none = nothing g c (cc) some in
+    let dry = Fills-empty g.P.ReaderPolicy.rules _ _ _ (filled g c) wants (roomy g c none) none in
+    omega (arith, dry, ap (λ l. l.reads.zero_answers) c.consume.ensures.consumed.told)
+
+pub returns-clause-capacity : goal.returns-clause-capacity
+returns-clause-capacity g c = le_trans (filled g c).capacity c.consume.ensures.capacity
+
+pub returns-clause-claims : goal.returns-clause-claims
+returns-clause-claims g c = c.consume.ensures.consumed.told_policy.claims ∙ (filled g c).claims
 
 pub returns-clause-buffered : goal.returns-clause-buffered
-returns-clause-buffered g c inside =
-    let f = fills g.P.ReaderPolicy.read_table g.P.ReaderPolicy.read_claims (reader_state g.R.Tell.log c.args.self.now) _ (reader_state g.R.Tell.log c.fill.new.self) c.in_ok-fill.ensures.filled in record {
-      filled = reader_state g.R.Tell.log c.fill.new.self;
-      fills = fills_ok g.P.ReaderPolicy.read_table g.P.ReaderPolicy.read_claims _ _ c.copy_front-n.result _ f;
-      handed = (c.copy_front-n.ensures.count ∙ ap (λ l. min (length c.args.out.now) (length l)) c.buf.ensures, c.consume.ensures.consumed);
-    }
+returns-clause-buffered g c inside = record {
+  filled = c.fill.new.self;
+  fills = filled g c;
+  handed = (
+    c.copy_front-n.ensures.count ∙ ap (λ l. min (length c.args.out.now) (length l)) c.buf.ensures ∙ ap (λ x. min (length c.args.out.now) (length x.block.bytes)) c.self-2.view_is,
+    c.consume.ensures.consumed,
+  );
+}

@@ -1,0 +1,60 @@
+-- What contracts see of a buffered reader or writer.
+use Rattle.std.specs.Prelude.{◌≡◌, ℕ, ◌<◌, ◌≤◌, ◌⊎◌, List, length, Result, IfOk, IfErr}
+use Rattle.std.specs.Io.{WritesAtMost}
+use Rattle.std.specs.declared.io.Error.{Error}
+use Rattle.redux_buffer.specs.Block.{Block, Kind, IsNew, IsBlock}
+use Rattle.redux_buffer.specs.GrowError.{FitsWithin}
+use Rattle.redux_buffer.specs.StreamLog.{StreamLog}
+use Rattle.buffer_redux.specs.declared.errors.MakeError.{MakeError}
+use Rattle.buffer_redux.specs.MakeError.{growth}
+
+-- the policy, the buffer, the stream inside, and what that stream tells
+pub record Buffered (S P : Type 0) : Type 0 where
+  pub policy : P
+  pub block : Block
+  pub inner : S
+  pub log : StreamLog
+
+-- made over this stream, with an empty buffer
+pub record IsMade {S P : Type 0} (tells : S → StreamLog) (kind : Kind) (cap : ℕ) (stream : S) (b : Buffered S P)
+    : Type 0 where
+  pub new : IsNew kind cap b.block
+  pub whole : IsBlock b.block
+  pub inner : b.inner ≡ stream
+  pub log : b.log ≡ tells stream
+
+-- what a maker returns: such a one, or the stream and why no buffer of this capacity was had
+pub record Makes {S P : Type 0} (tells : S → StreamLog) (kind : Kind) (cap limit : ℕ) (stream : S)
+    (answer : Result (Buffered S P) (MakeError S)) : Type 0 where
+  pub made : IfOk answer (IsMade tells kind cap stream)
+  pub handed_back : IfErr answer (λ e. e.0 ≡ stream)
+  pub within : FitsWithin (growth answer) cap limit
+
+-- a call goes past the buffer where that is empty, and no larger than the slice
+abbrev pub GoesPast : Block → ℕ → Type 0
+GoesPast b room = (length b.bytes ≡ 0) × (b.capacity ≤ room)
+
+abbrev pub StaysInside : Block → ℕ → Type 0
+StaysInside b room = (0 < length b.bytes) ⊎ (room < b.capacity)
+
+-- one call of the stream inside for all of the bytes; neither the policy nor the buffer was touched
+pub record GoesDirect {S P : Type 0} (after : StreamLog → List ℕ → Result ℕ Error → StreamLog)
+    (s : Buffered S P) (bytes : List ℕ) (answer : Result ℕ Error) (t : Buffered S P) : Type 0 where
+  pub policy : t.policy ≡ s.policy
+  pub block : t.block ≡ s.block
+  pub bound : WritesAtMost answer bytes
+  pub told : t.log ≡ after s.log bytes answer
+
+-- calls took the stream inside from where it was to where it is, and the log is what it tells
+pub record InnerWent {S P : Type 0} (tells : S → StreamLog) (stretch : S → S → Type 0)
+    (s t : Buffered S P) : Type 0 where
+  pub calls : stretch s.inner t.inner
+  pub told_before : s.log ≡ tells s.inner
+  pub told_after : t.log ≡ tells t.inner
+
+-- under another policy, and with another stream inside
+abbrev pub with_policy : {S P Q : Type 0} → Buffered S P → Q → Buffered S Q
+with_policy b p = record { policy = p; block = b.block; inner = b.inner; log = b.log }
+
+abbrev pub with_inner : {S P : Type 0} → (S → StreamLog) → Buffered S P → S → Buffered S P
+with_inner tells b stream = record b { inner = stream; log = tells stream }

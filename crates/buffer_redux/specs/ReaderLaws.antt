@@ -1,0 +1,69 @@
+-- Laws of a buffered reader, for the proofs of those who call one.
+use Rattle.std.specs.Prelude.{◌≡◌, ℕ, ◌<◌, ◌≤◌, ◌⊎◌, List, [], ◌++◌, length, take, Result, Ok, Option, None, Some, is_ok, true}
+use Rattle.std.proofs.Common.{sym, ap, subst, refl, ◌∙◌, arith, inl, inr, append_assoc, append-nil}
+use Rattle.std.proofs.Math.Seq.{take-length}
+use Rattle.std.specs.declared.io.Error.{Error}
+use Rattle.buffer_redux.specs.Policy.{ReadRules, ReadClaims}
+use Rattle.buffer_redux.specs.Buffered.{Buffered}
+use Rattle.buffer_redux.specs.BufReader.{ReadsInOrder, RanDry, LooksAhead, Fills}
+
+-- no call hands out nothing, and two stretches of calls join
+pub ReadsInOrder-none : {S P : Type 0} (s : Buffered S P) → ReadsInOrder s [] s
+ReadsInOrder-none s =
+    record { got = []; given = sym (append-nil s.log.reads.given); equal = sym (append-nil s.block.bytes) }
+
+pub ReadsInOrder-joins : {S P : Type 0} (s m t : Buffered S P) (h k : List ℕ)
+    → ReadsInOrder s h m → ReadsInOrder m k t → ReadsInOrder s (h ++ k) t
+ReadsInOrder-joins s m t h k a b = record {
+  got = a.got ++ b.got;
+  given = b.given ∙ ap (λ l. l ++ b.got) a.given ∙ append_assoc s.log.reads.given a.got b.got;
+  equal =
+      append_assoc h k t.block.bytes ∙ ap (λ l. h ++ l) b.equal ∙ sym (append_assoc h m.block.bytes b.got)
+      ∙ ap (λ l. l ++ b.got) a.equal ∙ append_assoc s.block.bytes a.got b.got;
+}
+
+-- a call that hands out nothing more
+pub ReadsInOrder-then : {S P : Type 0} (s m t : Buffered S P) (h : List ℕ)
+    → ReadsInOrder s h m → ReadsInOrder m [] t → ReadsInOrder s h t
+ReadsInOrder-then s m t h a b = subst (λ l. ReadsInOrder s l t) (append-nil h) (ReadsInOrder-joins s m t h [] a b)
+
+-- from an empty buffer on, what was given is what was handed out, then what is buffered
+pub ReadsInOrder-fresh : {S P : Type 0} (s t : Buffered S P) (handed : List ℕ) → s.block.bytes ≡ []
+    → ReadsInOrder s handed t
+    → t.log.reads.given ≡ s.log.reads.given ++ (handed ++ t.block.bytes)
+ReadsInOrder-fresh s t handed none a =
+    a.given ∙ ap (λ l. s.log.reads.given ++ l) (sym (a.equal ∙ ap (λ l. l ++ a.got) none))
+
+-- all that a fill showed and that was then consumed was handed out
+pub ReadsInOrder-shown : {S P : Type 0} (s m t : Buffered S P) (h shown : List ℕ) → ReadsInOrder s h m
+    → shown ≡ m.block.bytes
+    → ReadsInOrder m (take (length shown) m.block.bytes) t → ReadsInOrder s (h ++ shown) t
+ReadsInOrder-shown s m t h shown a same b =
+    let all : take (length shown) m.block.bytes ≡ shown =
+    ap (λ l. take (length l) m.block.bytes) same ∙ take-length m.block.bytes ∙ sym same in
+    ReadsInOrder-joins s m t h shown a (subst (λ l. ReadsInOrder m l t) all b)
+
+-- a policy that doesn't leave an empty buffer empty where the reader has bytes: it is steady, or claims a minimum
+abbrev pub WantsSome : Option ℕ → Type 0
+WantsSome None = ⊥
+WantsSome (Some n) = 0 < n
+
+abbrev pub WantsBytes : ReadClaims → Type 0
+WantsBytes claims = (claims.steady ≡ true) ⊎ WantsSome claims.minimum
+
+ahead_dry : {S P : Type 0} (s t : Buffered S P) (o : Option ℕ) → WantsSome o → LooksAhead o s true t
+    → length t.block.bytes ≡ 0 → RanDry s t
+ahead_dry s t None wants ahead none = absurd wants
+ahead_dry s t (Some n) wants ahead none = elim (ahead.enough refl) [
+  | inl enough ↦ absurd (omega (arith, enough, wants, none))
+  | inr dry ↦ dry
+]
+
+-- under such a policy a fill that shows nothing means that the reader ran dry
+pub Fills-empty : {S P A : Type 0} (rules : ReadRules P) (s : Buffered S P) (a : A) (t : Buffered S P)
+    → Fills rules s (Ok a) t
+    → WantsBytes (rules.claims s.policy) → 0 < s.block.capacity → length t.block.bytes ≡ 0 → RanDry s t
+Fills-empty rules s a t fills wants room none = elim wants [
+  | inl steady ↦ (fills.steadily steady).empty refl room none
+  | inr some ↦ ahead_dry s t (rules.claims s.policy).minimum some fills.ahead none
+]

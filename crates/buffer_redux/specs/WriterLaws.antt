@@ -1,0 +1,133 @@
+-- Laws of a buffered writer, for the proofs of those who call one.
+use Rattle.std.specs.Prelude.{◌≡◌, ℕ, ◌+◌, ◌<◌, ◌≤◌, ◌⊎◌, List, [], ◌++◌, length, Ok}
+use Rattle.std.proofs.Common.{sym, ap, subst, refl, ◌∙◌, arith, inl, inr, append_assoc, append-nil}
+use Rattle.std.proofs.lemmas.Bool.{cases_lt}
+use Rattle.std.specs.declared.io.ErrorKind.TheVariants.{WriteZero}
+use Rattle.redux_buffer.specs.Block.{Block}
+use Rattle.redux_buffer.specs.Faults.{OnlyInterrupted, OnlyInterrupted-none, MetInterrupts, TookNothing}
+use Rattle.redux_buffer.specs.StreamLog.{WriteLog, with_zero, zero_of_some, zero_of_none}
+use Rattle.buffer_redux.specs.Policy.{std_write_rules}
+use Rattle.buffer_redux.specs.Buffered.{Buffered, GoesPast, StaysInside}
+use Rattle.buffer_redux.specs.BufWriter.{WritesInOrder, FlushesAmount, Wrote}
+
+-- no call accepts nothing, and two stretches of calls join
+pub WritesInOrder-none : {S P : Type 0} (s : Buffered S P) → WritesInOrder s [] s
+WritesInOrder-none s =
+    record { sent = []; received = sym (append-nil s.log.writes.received); equal = sym (append-nil s.block.bytes) }
+
+pub WritesInOrder-joins : {S P : Type 0} (s m t : Buffered S P) (a b : List ℕ)
+    → WritesInOrder s a m → WritesInOrder m b t → WritesInOrder s (a ++ b) t
+WritesInOrder-joins s m t a b p q = record {
+  sent = p.sent ++ q.sent;
+  received = q.received ∙ ap (λ l. l ++ q.sent) p.received ∙ append_assoc s.log.writes.received p.sent q.sent;
+  equal =
+      append_assoc p.sent q.sent t.block.bytes ∙ ap (λ l. p.sent ++ l) q.equal
+      ∙ sym (append_assoc p.sent m.block.bytes b)
+      ∙ ap (λ l. l ++ b) p.equal ∙ append_assoc s.block.bytes a b;
+}
+
+-- a call that accepts nothing more
+pub WritesInOrder-then : {S P : Type 0} (s m t : Buffered S P) (a : List ℕ)
+    → WritesInOrder s a m → WritesInOrder m [] t → WritesInOrder s a t
+WritesInOrder-then s m t a p q = subst (λ l. WritesInOrder s l t) (append-nil a) (WritesInOrder-joins s m t a [] p q)
+
+-- the same as one equation: what the writer holds gained the accepted bytes
+pub WritesInOrder-contents : {S P : Type 0} (s t : Buffered S P) (accepted : List ℕ) → WritesInOrder s accepted t
+    → t.log.writes.received ++ t.block.bytes ≡ (s.log.writes.received ++ s.block.bytes) ++ accepted
+WritesInOrder-contents s t accepted p =
+    ap (λ l. l ++ t.block.bytes) p.received ∙ append_assoc s.log.writes.received p.sent t.block.bytes
+    ∙ ap (λ l. s.log.writes.received ++ l) p.equal ∙ sym (append_assoc s.log.writes.received s.block.bytes accepted)
+
+-- from an empty buffer on, what was received, then what is buffered, is what was accepted
+pub WritesInOrder-fresh : {S P : Type 0} (s t : Buffered S P) (accepted : List ℕ) → s.block.bytes ≡ []
+    → WritesInOrder s accepted t
+    → t.log.writes.received ++ t.block.bytes ≡ s.log.writes.received ++ accepted
+WritesInOrder-fresh s t accepted none p =
+    WritesInOrder-contents s t accepted p ∙ ap (λ l. (s.log.writes.received ++ l) ++ accepted) none
+    ∙ ap (λ l. l ++ accepted) (append-nil s.log.writes.received)
+
+-- a flush of an amount does nothing, or sends; a write goes past the buffer, or into it
+pub flush_ways : (amount len : ℕ) → ((amount ≡ 0) ⊎ (len < amount)) ⊎ ((0 < amount) × (amount ≤ len))
+flush_ways amount len = elim (cases_lt 0 amount) [
+  | inl some ↦ elim (cases_lt len amount) [ inl past ↦ inl (inr past) | inr fits ↦ inr (some, fits) ]
+  | inr none ↦ inl (inl (omega (arith, none)))
+]
+
+pub ways_in : (b : Block) (incoming : ℕ) → GoesPast b incoming ⊎ StaysInside b incoming
+ways_in b incoming = elim (cases_lt 0 (length b.bytes)) [
+  | inl some ↦ inr (inl some)
+  | inr none ↦ elim (cases_lt incoming b.capacity) [ inl inside ↦ inr (inr inside) | inr past ↦ inl (omega (arith, none), past) ]
+]
+
+-- what an Ok flush of an amount met: interrupted writes alone
+pub FlushesAmount-met : {S P : Type 0} (s t : Buffered S P) (amount : ℕ) → FlushesAmount amount s (Ok tt) t
+    → MetInterrupts s.log.writes t.log.writes
+FlushesAmount-met s t amount f = elim (flush_ways amount (length s.block.bytes)) [
+  | inl none ↦ record {
+    times = 0;
+    only = subst (λ l. OnlyInterrupted 0 s.log.writes l.writes) (sym (f.idle none).told) (OnlyInterrupted-none s.log.writes);
+  }
+  | inr some ↦ (let sends = f.sends some.0 some.1 in record { times = sends.interrupts; only = sends.ok })
+]
+
+-- what an Ok write under `StdPolicy` met: interrupted writes, and then perhaps one that took nothing of something, where
+-- that is what it returns
+pub record StdWriteMet {S P : Type 0} (s : Buffered S P) (bs : List ℕ) (n : ℕ) (t : Buffered S P) : Type 0 where
+  pub times : ℕ
+  pub met : OnlyInterrupted times s.log.writes t.log.writes
+      ⊎ ((n ≡ 0) × (0 < length bs) × TookNothing times s.log.writes t.log.writes WriteZero)
+
+-- a call of the writer inside that took n of bs
+direct_met : (times n : ℕ) (bs : List ℕ) (a b c : WriteLog) → OnlyInterrupted times a b → c.faults ≡ b.faults
+    → c.zero_writes ≡ with_zero b.zero_writes bs (Ok n)
+    → OnlyInterrupted times a c ⊎ ((n ≡ 0) × (0 < length bs) × TookNothing times a c WriteZero)
+direct_met times n bs a b c only faults zero = elim (cases_lt 0 n) [
+  | inl some ↦ inl (record {
+    faults = faults ∙ only.faults;
+    zero_writes = zero
+        ∙ zero_of_some n bs b.zero_writes (inl some) ∙ only.zero_writes;
+  })
+  | inr none ↦ elim (cases_lt 0 (length bs)) [
+    | inl room ↦ inr (
+      omega (arith, none),
+      room,
+      record {
+        is_write_zero = refl;
+        faults = faults ∙ only.faults;
+        zero_writes = zero ∙ zero_of_none n bs b.zero_writes (omega (arith, none)) room
+            ∙ ap (λ z. z + 1) only.zero_writes;
+      },
+    )
+    | inr empty ↦ inl (record {
+      faults = faults ∙ only.faults;
+      zero_writes = zero
+          ∙ zero_of_some n bs b.zero_writes (inr (omega (arith, empty))) ∙ only.zero_writes;
+    })
+  ]
+]
+
+pub Wrote-std : {S P : Type 0} (s : Buffered S P) (bs : List ℕ) (n : ℕ) (t : Buffered S P)
+    → Wrote std_write_rules s bs n t
+    → StdWriteMet s bs n t
+Wrote-std s bs n t wrote =
+    let p = wrote.prepared in
+    let first = FlushesAmount-met p.seen wrote.before (p.amount.0) p.flush in
+    let still : t.log ≡ wrote.after.log = (wrote.finished.flush.idle (inl wrote.finished.asked.allowed.1)).told in
+    let only : OnlyInterrupted first.times s.log.writes wrote.before.log.writes =
+    subst (λ l. OnlyInterrupted first.times l.writes wrote.before.log.writes) p.told first.only in
+    let last : OnlyInterrupted first.times s.log.writes wrote.after.log.writes
+    ⊎ ((n ≡ 0) × (0 < length bs) × TookNothing first.times s.log.writes wrote.after.log.writes WriteZero) =
+    elim (ways_in wrote.before.block (length bs)) [
+      | inl past ↦ (
+          let told = (wrote.took_in.past past).told in
+          direct_met first.times n bs s.log.writes wrote.before.log.writes wrote.after.log.writes only
+          (ap (λ l. l.writes.faults) told) (ap (λ l. l.writes.zero_writes) told)
+          )
+      | inr inside ↦ inl
+          (subst (λ l. OnlyInterrupted first.times s.log.writes l.writes) (sym (wrote.took_in.inside inside).told) only)
+    ] in
+    record {
+      times = first.times;
+      met = subst (λ l. OnlyInterrupted first.times s.log.writes l.writes
+          ⊎ ((n ≡ 0) × (0 < length bs) × TookNothing first.times s.log.writes l.writes WriteZero)) (sym still) last;
+    }
