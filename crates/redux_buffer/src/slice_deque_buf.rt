@@ -2,7 +2,7 @@
 ghost use Rattle.std.specs.Prelude.{◌≡◌, ◌+◌, ◌-◌, ◌^◌, ◌≤◌, ◌<◌, ◌↔◌, ℕ, List, [], ◌++◌, length, min, IsTrue, IfOk, IsOk, OnOk, OnErr};
 ghost use Rattle.std.specs.Borrow.{Lends, Array, sem, u8};
 ghost use Rattle.redux_buffer.specs.GrowError.{FitsWithin};
-ghost use Rattle.redux_buffer.specs.Block.{Ring, IsPlaced, IsNew, GrowsToFront, BytesWritten, ConsumesFirst, Reserves, MakesRoom, CountsShift, usable, capacity_for, with_tail, with_bytes, round};
+ghost use Rattle.redux_buffer.specs.Block.{Ring, IsPlaced, IsNew, GrowsToFront, BytesWritten, ConsumesFirst, Reserves, MakesRoom, CountsShift, usable, capacity_for, with_tail, with_bytes, drawn, round};
 ghost use Rattle.redux_buffer.specs.contracts.slice_deque_buf.SliceDequeBuf.{the_row};
 
 use crate::count::Count;
@@ -17,9 +17,10 @@ mod tests;
 
 /// The ring: all its free space can be written at any time, and both that space and the bytes are one slice.
 ///
-/// The bytes stand at `head..head + len` of storage that is twice the capacity. A [`consume`](SliceDequeBuf::consume)
-/// that takes the head past the capacity moves what is left to the front, which is never more than was consumed since
-/// the last such move.
+/// The bytes stand at `head..head + len` of storage that is twice the capacity. They go to its front when the ring grows,
+/// and when bytes are next written after a [`consume`](SliceDequeBuf::consume) has taken the head past the capacity. That is
+/// fewer moves than in the `consume` itself: what is consumed before that write is not moved, and a ring that was emptied by
+/// then moves nothing.
 #[derive(Debug, Drop)]
 pub struct SliceDequeBuf {
     buf: RawBuf,
@@ -31,7 +32,7 @@ pub struct SliceDequeBuf {
 }
 
 impl Model for SliceDequeBuf {
-    ghost use Rattle.std.specs.Prelude.{◌≡◌, ◌+◌, ◌≤◌, ◌^◌, true, length, slice_range};
+    ghost use Rattle.std.specs.Prelude.{◌≡◌, ◌+◌, ◌≤◌, ◌^◌, length, slice_range, nat_le, nat_lt, if◌then◌else◌};
     ghost use Rattle.redux_buffer.specs.Block.{Placed, Ring};
 
     ghost Value = { Placed };
@@ -39,18 +40,20 @@ impl Model for SliceDequeBuf {
     ghost view = { λ b. record {
       block = record {
         bytes = slice_range b.buf b.head (b.head + b.len);
-        tail = slice_range b.buf (b.head + b.len) (b.head + b.cap);
+        tail = if nat_lt b.cap b.head then slice_range b.buf b.len b.cap
+            else slice_range b.buf (b.head + b.len) (b.head + b.cap);
         capacity = b.cap;
         limit = 2 ^ 61;
         kind = Ring;
-        tail_behind = true;
+        tail_behind = nat_le b.head b.cap;
         consumed = b.consumed.total;
         moved = b.moved.total;
       };
       place = b.head;
     } };
 
-    ghost invariant = { λ b. (b.head ≤ b.cap) × (b.len ≤ b.cap) × (length b.buf ≡ b.cap + b.cap) × (b.cap ≤ 2 ^ 61) × (b.moved.total + b.head ≤ b.consumed.total) };
+    ghost invariant = { λ b. (b.head + b.len ≤ b.cap + b.cap) × (b.len ≤ b.cap) × (length b.buf ≡ b.cap + b.cap)
+        × (b.cap ≤ 2 ^ 61) × (b.len ≡ 0 → b.head ≡ 0) × (b.moved.total + b.head ≤ b.consumed.total) };
 }
 
 // The least multiple of the unit that is at least `n`.
@@ -120,12 +123,26 @@ impl SliceDequeBuf {
         &self.buf.as_slice()[self.head..self.head + self.len]
     }
 
+    // Moves the bytes to the front.
+    fn draw_back(&mut self)
+        requires { self.old.block.capacity < self.old.place }
+        ensures { self.new ≡ drawn self.old }
+    {
+        let (start, end) = (self.head, self.head + self.len);
+        self.buf.as_mut_slice().copy_within(start..end, 0);
+        self.moved.add(self.len);
+        self.head = 0;
+    }
+
     /// Lends all free space as one slice. What is written there counts once [`bytes_written`](SliceDequeBuf::bytes_written)
     /// says so.
     pub fn write_buf(&mut self) -> &mut [u8]
         ensures* writes_back { sem 𝓛 (Lends the_row (Array u8 0) self.entry result (with_tail self.old)) }
         ensures value { result.now ≡ self.old.block.tail }
     {
+        if self.head > self.cap {
+            self.draw_back();
+        }
         let start = self.head + self.len;
         let end = self.head + self.cap;
         self.buf.range_mut(start, end)
@@ -142,14 +159,19 @@ impl SliceDequeBuf {
         self.buf.range_mut(start, end)
     }
 
-    #[tactic(auto, using(crate::proofs::Ranges::range_takes, crate::proofs::Ranges::length_range))]
     /// Takes the first `n` bytes of the tail, or all of it where it has fewer, as the last bytes.
     pub fn bytes_written(&mut self, n: usize)
         ensures bytes { BytesWritten n self.old.block self.new.block }
         ensures shift { CountsShift 0 self.old self.new }
         ensures whole { IsPlaced self.new }
     {
-        self.len += n.min(self.cap - self.len);
+        let written = n.min(self.cap - self.len);
+        if self.head > self.cap {
+            self.draw_back();
+            // A step that changes the place counts every byte that is held after it.
+            self.moved.add(written);
+        }
+        self.len += written;
     }
 
     /// Drops the first `n` bytes, or all where it holds fewer.
@@ -168,13 +190,6 @@ impl SliceDequeBuf {
         self.consumed.add(n);
         self.head += n;
         self.len -= n;
-        if self.head <= self.cap {
-            return;
-        }
-        let (start, end) = (self.head, self.head + self.len);
-        self.buf.as_mut_slice().copy_within(start..end, 0);
-        self.moved.add(self.len);
-        self.head = 0;
     }
 
     /// Does nothing: all free space can be written as it is.
