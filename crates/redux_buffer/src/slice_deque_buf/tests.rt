@@ -73,3 +73,24 @@ fn written_without_a_loan(rt: HostRuntime) -> Result<(), Fail> {
     assert!(rt; ring.buf().starts_with(&[8; 96]));
     Ok(())
 }
+
+// A head exactly at the capacity is not past it: the next loan moves nothing. One byte further it does.
+#[test]
+fn at_the_capacity(rt: HostRuntime) -> Result<(), Fail> {
+    let mut ring = SliceDequeBuf::with_capacity(rt.alloc(), 4096)?;
+    for (written, dropped, head, len) in [(4096, 4000, 4000, 96), (4000, 96, 4096, 4000)] {
+        ring.write_buf().fill(7);
+        ring.bytes_written(written);
+        ring.consume(dropped);
+        assert_eq!(rt; (ring.head, ring.len()), (head, len));
+    }
+    assert_eq!(rt; ring.write_buf().len(), 96);
+    assert_eq!(rt; ring.head, 4096);
+    ring.consume(1);
+    assert_eq!(rt; ring.head, 4097);
+    assert_eq!(rt; ring.write_buf().len(), 97);
+    assert_eq!(rt; ring.head, 0);
+    ring.consume(3999);
+    assert_eq!(rt; (ring.head, ring.len()), (0, 0));
+    Ok(())
+}
