@@ -15,7 +15,7 @@ use Rattle.redux_buffer.specs.Transfer.{Sends}
 use Rattle.buffer_redux.specs.Policy.{WriteRules, BeforeWrite, FlushesSteadily}
 use Rattle.buffer_redux.specs.declared.policy.FlushAmt.{FlushAmt}
 use Rattle.buffer_redux.specs.Buffered.{Buffered, GoesPast, StaysInside, with_policy}
-use Rattle.buffer_redux.specs.BufWriter.{FlushesAmount, TakesIn, CopiesIn, Prepared, Finished, Wrote, Writes, WriteErrorCaused, WriterFailed, WritesSteadily, WritesInOrder, NoSpace, EmptyWriteCaused}
+use Rattle.buffer_redux.specs.BufWriter.{FlushesAmount, TakesIn, CopiesIn, Prepared, Finished, Wrote, Writes, WriteErrorCaused, WriterFailed, WritesSteadily, WritesInOrder, NoSpace, TookNothingPast, EmptyWriteCaused}
 use Rattle.buffer_redux.specs.WriterLaws.{flush_ways, ways_in, WritesInOrder-joins, FlushesAmount-met}
 
 -- sending lets the log go on
@@ -159,13 +159,26 @@ module _ {S P : Type 0} where
         (StepKeeps-takes wrote.before wrote.after bs (Ok n) wrote.took_in))
         (StepKeeps-finished rules wrote.after t wrote.finished)
 
-    took_nothing : n ≡ 0 → 0 < length bs → GoesPast wrote.before.block (length bs) → s.log.writes.zero_writes < t.log.writes.zero_writes
+    took_nothing : n ≡ 0 → 0 < length bs → GoesPast wrote.before.block (length bs) → TookNothingPast rules s (length bs) t
     took_nothing none some past =
+        let p = wrote.prepared in
+        let first = FlushesAmount-met p.seen wrote.before (p.amount.0) p.flush in
         let direct = wrote.took_in.past past in
-        let first = StepKeeps-prepared rules (length bs) s wrote.before (Ok tt) wrote.prepared in
-        let last = StepKeeps-finished rules wrote.after t wrote.finished in
         let rose : wrote.after.log.writes.zero_writes ≡ wrote.before.log.writes.zero_writes + 1 = ap (λ l. l.writes.zero_writes) direct.told ∙ grind arith in
-        omega (arith, rose, first.grows.zero_writes, last.grows.zero_writes)
+        let empty : length wrote.after.block.bytes ≡ 0 = ap (λ b. length b.bytes) direct.block ∙ past.0 in
+        let still : t.log ≡ wrote.after.log = elim (cases_lt 0 (wrote.finished.amount.0)) [
+          | inl some_more ↦ (wrote.finished.flush.idle (inr (omega (arith, empty, some_more)))).told
+          | inr no_more ↦ (wrote.finished.flush.idle (inl (omega (arith, no_more)))).told
+        ] in
+        record {
+          before = wrote.before;
+          prepared = p;
+          past = past;
+          zero_writes = omega (
+            arith, rose, first.only.zero_writes,
+            ap (λ l. l.writes.zero_writes) p.told, ap (λ l. l.writes.zero_writes) still,
+          );
+        }
 
     no_space : n ≡ 0 → 0 < length bs → StaysInside wrote.before.block (length bs) → NoSpace rules s (length bs)
     no_space none some inside =
@@ -302,7 +315,7 @@ module _ {S P : Type 0} (rules : WriteRules P) where
   writes_steadily s bs (Ok n) t wrote steady = record {
     err = tt;
     empty = λ is some capacity. elim (wrote_nothing rules s bs n t wrote (cc) some) [
-      | inl rose ↦ rose
+      | inl nothing ↦ omega (arith, nothing.zero_writes)
       | inr space ↦ absurd (steady_space s (length bs) steady some capacity space)
     ];
   }

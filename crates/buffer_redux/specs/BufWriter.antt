@@ -1,5 +1,5 @@
 -- What the calls of a buffered writer do and promise.
-use Rattle.std.specs.Prelude.{◌≡◌, ℕ, ◌-◌, ◌<◌, ◌≤◌, ◌⊎◌, List, [], ◌++◌, length, min, Option, Some, Result, Ok, Err, MatchResult, true, IfErr, OnErr}
+use Rattle.std.specs.Prelude.{◌≡◌, ℕ, ◌+◌, ◌-◌, ◌<◌, ◌≤◌, ◌⊎◌, List, [], ◌++◌, length, min, Option, Some, Result, Ok, Err, MatchResult, true, IfErr, OnErr}
 use Rattle.std.specs.IoError.{error_kind}
 use Rattle.std.specs.declared.io.Error.{Error}
 use Rattle.redux_buffer.specs.Block.{Block, IsBlock, Extends, MakesRoom, usable}
@@ -103,10 +103,17 @@ pub record NoSpace {S P : Type 0} (rules : WriteRules P) (s : Buffered S P) (inc
   pub room : before.block.capacity - length before.block.bytes ≡ 0
   pub kept : before.block.bytes ≡ s.block.bytes
 
--- nothing of something was taken in only where the inner writer took nothing, or there was no space
+-- the write past the buffer took nothing, and no other write did
+pub record TookNothingPast {S P : Type 0} (rules : WriteRules P) (s : Buffered S P) (incoming : ℕ) (t : Buffered S P)
+    : Type 0 where
+  pub before : Buffered S P
+  pub prepared : Prepared rules incoming s (Ok tt) before
+  pub past : GoesPast before.block incoming
+  pub zero_writes : t.log.writes.zero_writes ≡ s.log.writes.zero_writes + 1
+
+-- nothing of something was taken in only where the write past the buffer took nothing, or there was no space
 abbrev pub EmptyWriteCaused : {S P : Type 0} → WriteRules P → Buffered S P → ℕ → Buffered S P → Type 0
-EmptyWriteCaused rules s incoming t =
-    (s.log.writes.zero_writes < t.log.writes.zero_writes) ⊎ NoSpace rules s incoming
+EmptyWriteCaused rules s incoming t = TookNothingPast rules s incoming t ⊎ NoSpace rules s incoming
 
 -- a fault came, or a write took nothing of something
 abbrev pub WriterFailed : WriteLog → WriteLog → Type 0

@@ -14,4 +14,7 @@ pub mod Fill
 pub mod BufReader
 pub mod ReaderLaws
 pub mod BufWriter
+pub mod WriterPolicies
 pub mod WriterLaws
+pub mod WriteLaws
+pub mod WriterPolicyLaws

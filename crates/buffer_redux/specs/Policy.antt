@@ -1,5 +1,5 @@
 -- What a policy may do, and what it may claim.
-use Rattle.std.specs.Prelude.{◌≡◌, ℕ, List, ◌-◌, slice_index, ◌*◌, ◌<◌, ◌≤◌, ◌==◌, Bool, true, false, length, Result, Ok, Err, IfOk, IsOkAnd, MatchBool, ⊤, Option, None, Some, nat_lt, if◌then◌else◌}
+use Rattle.std.specs.Prelude.{◌≡◌, ℕ, ◌*◌, ◌<◌, ◌≤◌, ◌==◌, Bool, true, false, length, Result, Ok, Err, IfOk, IsOkAnd, MatchBool, ⊤, Option, None, Some, nat_lt, if◌then◌else◌}
 use Rattle.std.specs.declared.io.Error.{Error}
 use Rattle.redux_buffer.specs.Block.{Block, IsBlock, OnKind, usable}
 use Rattle.redux_buffer.specs.Potential.{potential}
@@ -156,18 +156,5 @@ abbrev pub std_write_rules : {P : Type 0} → WriteRules P
 std_write_rules = record {
   before_write = std_before_write;
   after_write = λ p b a p'. (p' ≡ p) × (a.0 ≡ 0);
-  claims = λ p. record { steady = true };
-}
-
--- an amount that goes through the last such byte, and is 0 where there is none
-pub record FlushesThrough (byte : ℕ) (bytes : List ℕ) (amount : ℕ) : Type 0 where
-  pub last : 0 < amount → (amount ≤ length bytes) × (slice_index bytes (amount - 1) ≡ byte)
-  pub none_after : (k : ℕ) → amount ≤ k → k < length bytes → ¬ (slice_index bytes k ≡ byte)
-
--- `FlushOn` flushes after a write through the last such byte, and does else what `StdPolicy` does
-abbrev pub flush_on_rules : {P : Type 0} → (P → ℕ) → WriteRules P
-flush_on_rules byte = record {
-  before_write = std_before_write;
-  after_write = λ p b a p'. (p' ≡ p) × FlushesThrough (byte p) b.bytes (a.0);
   claims = λ p. record { steady = true };
 }

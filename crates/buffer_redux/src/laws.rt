@@ -1,6 +1,12 @@
 //! Laws, each as the contract of a function over the calls. Those of the buffer come from `redux_buffer`.
 ghost use Rattle.std.specs.Prelude.{◌≡◌};
 
+mod writes;
+
+pub use writes::{
+    flush_at_least_law, flush_exact_law, flush_on_law, flush_on_newline_law, write_law,
+};
+
 use crate::buf_reader::BufReader;
 use crate::buf_writer::BufWriter;
 pub use redux_buffer::laws::{copy_through, make_room_again, ring_law};

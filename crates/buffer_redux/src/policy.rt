@@ -21,9 +21,12 @@
 //! `reader.set_policy(Eager)` puts a reader under it. Beside the law a policy may have `rules`: two tables, which say
 //! exactly what its calls return and change, and claims, which readers and writers rest further promises on.
 ghost use Rattle.std.specs.Prelude.{◌≡◌, ◌==◌, length};
-ghost use Rattle.buffer_redux.specs.Policy.{ReadRules, WriteRules, any_read_rules, any_write_rules, std_read_rules, std_write_rules, flush_on_rules, BeforeRead, AfterConsume, BeforeWrite, AfterWrite, amount_when_full};
+ghost use Rattle.buffer_redux.specs.Policy.{ReadRules, WriteRules, any_read_rules, any_write_rules, std_read_rules, std_write_rules, BeforeRead, AfterConsume, BeforeWrite, AfterWrite, amount_when_full};
 
-use memchr::memrchr;
+mod writers;
+
+pub use writers::{FlushAtLeast, FlushExact, FlushOn, FlushOnNewline};
+
 use redux_buffer::Buffer;
 use std::io;
 
@@ -110,24 +113,5 @@ impl WriterPolicy for StdPolicy {
 
     fn after_write(&mut self, _buf: &Buffer) -> FlushAmt {
         FlushAmt(0)
-    }
-}
-
-/// Flushes as std does before a write, and after it through the last such byte that is buffered.
-#[derive(Debug, Default, Drop)]
-pub struct FlushOn(pub u8);
-
-impl WriterPolicy for FlushOn {
-    ghost rules = { flush_on_rules (λ p. p.0) };
-
-    fn before_write(&mut self, buf: &mut Buffer, incoming: usize) -> io::Result<FlushAmt> {
-        Ok(flush_when_full(buf, incoming))
-    }
-
-    fn after_write(&mut self, buf: &Buffer) -> FlushAmt {
-        match memrchr(self.0, buf.buf()) {
-            Some(last) => FlushAmt(last + 1),
-            None => FlushAmt(0),
-        }
     }
 }

@@ -4,6 +4,7 @@ mod makers;
 mod policies;
 mod reader;
 mod writer;
+mod writer_policies;
 
 use redux_buffer::Buffer;
 use std::alloc::Global;
