@@ -52,7 +52,10 @@ pub record InnerWent {S P : Type 0} (tells : S → StreamLog) (stretch : S → S
   pub told_before : s.log ≡ tells s.inner
   pub told_after : t.log ≡ tells t.inner
 
--- under another policy, and with another stream inside
+-- with another buffer, under another policy, and with another stream inside
+abbrev pub with_block : {S P : Type 0} → Buffered S P → Block → Buffered S P
+with_block b block = record b { block = block }
+
 abbrev pub with_policy : {S P Q : Type 0} → Buffered S P → Q → Buffered S Q
 with_policy b p = record { policy = p; block = b.block; inner = b.inner; log = b.log }
 

@@ -8,6 +8,7 @@ pub use Rattle.redux_buffer.specs.StreamLog
 pub use Rattle.redux_buffer.specs.Told
 pub use Rattle.redux_buffer.specs.Transfer
 pub mod Policy
+pub mod MinBuffered
 pub mod MakeError
 pub mod Buffered
 pub mod Fill

@@ -5,7 +5,7 @@ use Rattle.std.proofs.Math.Seq.{take-length}
 use Rattle.std.specs.declared.io.Error.{Error}
 use Rattle.buffer_redux.specs.Policy.{ReadRules, ReadClaims}
 use Rattle.buffer_redux.specs.Buffered.{Buffered}
-use Rattle.buffer_redux.specs.BufReader.{ReadsInOrder, RanDry, LooksAhead, Fills}
+use Rattle.buffer_redux.specs.BufReader.{ReadsInOrder, RanDry, LooksAhead, FillsToMinimum, Fills}
 
 -- no call hands out nothing, and two stretches of calls join
 pub ReadsInOrder-none : {S P : Type 0} (s : Buffered S P) → ReadsInOrder s [] s
@@ -67,3 +67,10 @@ Fills-empty rules s a t fills wants room none = elim wants [
   | inl steady ↦ (fills.steadily steady).empty refl room none
   | inr some ↦ ahead_dry s t (rules.claims s.policy).minimum some fills.ahead none
 ]
+
+-- under a policy that claims a minimum of n, an Ok fill shows n bytes, or the reader ran dry in it; and whatever it
+-- returns, it asked no more often than bytes were missing
+pub Fills-ahead : {S P A : Type 0} (rules : ReadRules P) (n : ℕ) (s : Buffered S P) (answer : Result A Error)
+    (t : Buffered S P) → Fills rules s answer t → (rules.claims s.policy).minimum ≡ Some n
+    → FillsToMinimum n s (is_ok answer) t
+Fills-ahead rules n s answer t fills claimed = subst (λ o. LooksAhead o s (is_ok answer) t) claimed fills.ahead

@@ -1,15 +1,16 @@
 //! The buffered reader.
-ghost use Rattle.std.specs.Prelude.{◌≡◌, ◌<◌, ◌≤◌, ◌^◌, [], length, take, drop, min, Ok, IfOk, OnErr, IsOk};
+ghost use Rattle.std.specs.Prelude.{◌≡◌, ◌<◌, ◌≤◌, ◌^◌, [], length, take, drop, min, Ok, IfOk, OnOk, OnErr, IsOk};
 ghost use Rattle.std.specs.Borrow.{sem, Lends};
 ghost use Rattle.std.specs.Io.{ReadsAtMost};
 ghost use Rattle.std.specs.Io.BufRead.{Rests};
-ghost use Rattle.redux_buffer.specs.Block.{Plain, Ring, IsBlock, LeavesBytes, round, usable};
+ghost use Rattle.redux_buffer.specs.Block.{Plain, Ring, IsBlock, LeavesBytes, MakesRoom, MovesToFront, Reserves, capacity_for, round, usable};
+ghost use Rattle.redux_buffer.specs.GrowError.{FitsWithin};
 ghost use Rattle.redux_buffer.specs.LogGrows.{ReadLogGrows};
 ghost use Rattle.redux_buffer.specs.StreamLog.{taken, after_read};
 ghost use Rattle.redux_buffer.specs.Transfer.{ReadsFrom};
 ghost use Rattle.buffer_redux.specs.contracts.buf_reader.BufReader.{the_row};
 ghost use Rattle.buffer_redux.specs.Fill.{Filled};
-ghost use Rattle.buffer_redux.specs.Buffered.{with_inner, with_policy, Makes, GoesPast, StaysInside, GoesDirect};
+ghost use Rattle.buffer_redux.specs.Buffered.{with_block, with_inner, with_policy, Makes, GoesPast, StaysInside, GoesDirect};
 ghost use Rattle.buffer_redux.specs.BufReader.{ReadsInOrder, ReadErrorCaused, EmptyReadCaused, RanDry, FillBuf, ReaderConsumes, ReadsBuffered, LeavesRest};
 ghost use Rattle.buffer_redux.specs.ReaderLaws.{WantsBytes};
 
@@ -17,7 +18,7 @@ use crate::errors::MakeError;
 use crate::policy::{ReaderPolicy, StdPolicy};
 use redux_buffer::laws::block_law;
 use redux_buffer::tell::{Tell, TellRead};
-use redux_buffer::{Buffer, DEFAULT_BUF_SIZE};
+use redux_buffer::{Buffer, DEFAULT_BUF_SIZE, GrowError};
 use std::alloc::Global;
 use std::io;
 use std::io::{BufRead, Read};
@@ -27,7 +28,7 @@ use std::marker::Model;
 ///
 /// No byte is lost or changes place: what was handed out, then what is buffered, is what was buffered at first, then
 /// what the inner reader gave.
-#[derive(Drop)]
+#[derive(Debug, Drop)]
 pub struct BufReader<R: Tell, P = StdPolicy> {
     buf: Buffer,
     inner: R,
@@ -168,6 +169,41 @@ impl<R: Tell, P> BufReader<R, P> {
         ensures whole { IsBlock self.now.block }
     {
         self.buf.capacity()
+    }
+
+    /// Makes all free space of the buffer usable: a plain one moves its bytes to the front, a ring does nothing.
+    pub fn make_room(&mut self)
+        ensures room { MakesRoom self.old.block self.new.block }
+        ensures moved { MovesToFront self.old.block self.new.block }
+        ensures in_order { ReadsInOrder self.old [] self.new }
+        ensures others { self.new ≡ with_block self.old self.new.block }
+        ensures whole { IsBlock self.new.block }
+    {
+        self.buf.make_room();
+    }
+
+    /// Makes sure that `a` more bytes can be read into the buffer behind those that it holds. A refusal changes nothing.
+    pub fn reserve(&mut self, a: usize) -> Result<(), GrowError>
+        ensures grown { OnOk result (Reserves a self.old.block self.new.block) }
+        ensures unchanged { OnErr result (self.new ≡ self.old) }
+        ensures limit { FitsWithin result (capacity_for self.old.block a) self.old.block.limit }
+        ensures succeeds { a ≤ usable self.old.block → IsOk result }
+        ensures in_order { ReadsInOrder self.old [] self.new }
+        ensures others { self.new ≡ with_block self.old self.new.block }
+        ensures whole { IsBlock self.new.block }
+    {
+        self.buf.reserve(a)
+    }
+
+    /// The inner reader. The bytes that are left in the buffer are gone, and the policy is dropped;
+    /// [`into_inner_with_buffer`](BufReader::into_inner_with_buffer) keeps the bytes.
+    pub fn into_inner(self) -> R
+    where
+        P: Drop,
+        ensures inner { result ≡ self.inner }
+        ensures log { R.log result ≡ self.log }
+    {
+        self.into_inner_with_buffer().0
     }
 
     /// The inner reader and the buffer with the bytes that are left. The policy is dropped.

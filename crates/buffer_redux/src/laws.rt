@@ -1,5 +1,6 @@
 //! Laws, each as the contract of a function over the calls. Those of the buffer come from `redux_buffer`.
-ghost use Rattle.std.specs.Prelude.{◌≡◌};
+ghost use Rattle.std.specs.Prelude.{◌≡◌, ◌<◌, length, Ok, IfOk, is_ok};
+ghost use Rattle.buffer_redux.specs.BufReader.{FillsToMinimum, RanDry};
 
 mod writes;
 
@@ -9,8 +10,11 @@ pub use writes::{
 
 use crate::buf_reader::BufReader;
 use crate::buf_writer::BufWriter;
+use crate::policy::MinBuffered;
 pub use redux_buffer::laws::{copy_through, make_room_again, ring_law};
-use redux_buffer::tell::{Tell, TellWrite};
+use redux_buffer::tell::{Tell, TellRead, TellWrite};
+use std::io;
+use std::io::{BufRead, Read};
 
 /// A reader that is taken apart and built again is the reader that it was.
 pub fn rebuild_reader<R: Tell>(reader: BufReader<R>) -> BufReader<R>
@@ -26,4 +30,25 @@ pub fn rebuild_writer<W: TellWrite>(writer: BufWriter<W>) -> BufWriter<W>
 {
     let (inner, buf) = writer.into_inner_with_buffer();
     BufWriter::with_buffer(buf, inner)
+}
+
+/// How many bytes `fill_buf` shows under [`MinBuffered`]. An `Ok` is at least the minimum, or the source gave none when
+/// it was asked in this call. It is asked no more often than bytes were missing at first, at an `Err` too, wherever the
+/// bytes stand in the buffer and however few of them come at a time.
+pub fn look_ahead<R: TellRead>(reader: &mut BufReader<R, MinBuffered>) -> io::Result<usize>
+    ensures shown { IfOk result (λ n. n ≡ length reader.new.block.bytes) }
+    ensures ahead { FillsToMinimum reader.old.policy.0 reader.old (is_ok result) reader.new }
+{
+    Ok(reader.fill_buf()?.len())
+}
+
+/// Under [`MinBuffered`] of 1 or more, a `read` into some room answers `Ok(0)` only where the source gave none when it
+/// was asked in this call.
+pub fn read_until_dry<R: TellRead>(
+    reader: &mut BufReader<R, MinBuffered>,
+    out: &mut [u8],
+) -> io::Result<usize>
+    ensures ran_dry { result ≡ Ok 0 → 0 < length out.old → 0 < reader.old.policy.0 → RanDry reader.old reader.new }
+{
+    reader.read(out)
 }

@@ -23,8 +23,10 @@
 ghost use Rattle.std.specs.Prelude.{◌≡◌, ◌==◌, length};
 ghost use Rattle.buffer_redux.specs.Policy.{ReadRules, WriteRules, any_read_rules, any_write_rules, std_read_rules, std_write_rules, BeforeRead, AfterConsume, BeforeWrite, AfterWrite, amount_when_full};
 
+mod min_buffered;
 mod writers;
 
+pub use min_buffered::MinBuffered;
 pub use writers::{FlushAtLeast, FlushExact, FlushOn, FlushOnNewline};
 
 use redux_buffer::Buffer;

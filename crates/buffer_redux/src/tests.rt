@@ -1,5 +1,6 @@
 //! Readers and writers by worked examples, and each public call once.
 mod example;
+mod lookahead;
 mod makers;
 mod policies;
 mod reader;

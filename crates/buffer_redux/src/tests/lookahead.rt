@@ -1,0 +1,340 @@
+//! Looking ahead, reading up to a byte, and the calls of a reader that move, grow or free its buffer.
+use crate::policy::{DoRead, MinBuffered, ReaderPolicy, StdPolicy};
+use crate::tests::holding;
+use crate::{BufReader, Buffer, GrowError, laws};
+use memchr::memchr;
+use redux_buffer::script::{Answer, ScriptReader};
+use redux_buffer::tell::Told;
+use std::alloc::Global;
+use std::io;
+use std::io::{BufRead, ErrorKind, Read};
+use std::process::Abort;
+use std::test::Fail;
+
+type Reader<P> = BufReader<Told<ScriptReader>, P>;
+
+#[derive(Clone, Copy)]
+enum Step<'a> {
+    // fill_buf, which shows these bytes or fails
+    Fill(Result<&'a [u8], ErrorKind>),
+    // a read into so many bytes, and how many it hands out
+    Read(usize, usize),
+    Consume(usize),
+    Reserve(usize),
+    // the capacity, and how often the source was asked so far
+    Stands(usize, usize),
+}
+
+// A reader of `bytes` by this script over such a buffer, under this policy.
+fn reader<P: ReaderPolicy>(
+    alloc: Global,
+    buf: Buffer,
+    bytes: &[u8],
+    script: &[Answer],
+    policy: P,
+) -> Result<Reader<P>, Fail>
+where
+    P: Drop,
+{
+    let inner = Told::new(ScriptReader::new(alloc, bytes, script)?);
+    Ok(BufReader::with_buffer(buf, inner).set_policy(policy))
+}
+
+fn shown<P: ReaderPolicy>(rdr: &mut Reader<P>) -> Result<&[u8], ErrorKind> {
+    rdr.fill_buf().map_err(|e| e.kind())
+}
+
+fn asks<P>(rdr: &Reader<P>) -> usize {
+    rdr.get_ref().get_ref().offers().len()
+}
+
+fn walks<P: ReaderPolicy>(
+    rt: &impl Abort,
+    rdr: &mut Reader<P>,
+    steps: &[Step<'_>],
+) -> Result<(), Fail> {
+    let mut out = [0u8; 8];
+    for &step in steps {
+        match step {
+            Step::Fill(bytes) => assert_eq!(rt; shown(rdr), bytes),
+            Step::Read(room, count) => {
+                assert!(rt; room <= out.len());
+                assert_eq!(rt; rdr.read(&mut out[..room])?, count);
+            }
+            Step::Consume(amount) => rdr.consume(amount),
+            Step::Reserve(amount) => rdr.reserve(amount)?,
+            Step::Stands(capacity, count) => {
+                assert_eq!(rt; (rdr.capacity(), asks(rdr)), (capacity, count));
+            }
+        }
+    }
+    Ok(())
+}
+
+const FROM_ZERO: [u8; 20] = [
+    0, 1, 2, 3, 4, 5, 6, 7, 8, 9, 10, 11, 12, 13, 14, 15, 16, 17, 18, 19,
+];
+
+const FROM_ONE: [u8; 15] = [1, 2, 3, 4, 5, 6, 7, 8, 9, 10, 11, 12, 13, 14, 15];
+
+// A capacity and a minimum, what the source gives by which script, and the steps.
+type Row<'a> = (usize, usize, &'a [u8], &'a [Answer], &'a [Step<'a>]);
+
+// The buffer grows to the minimum, and bytes are moved where fewer than the minimum fit behind them.
+#[test]
+fn grows_and_moves(rt: HostRuntime) -> Result<(), Fail> {
+    let rows: [Row<'_>; 4] = [
+        (
+            4,
+            6,
+            &FROM_ZERO,
+            &[],
+            &[Step::Fill(Ok(&[0, 1, 2, 3, 4, 5])), Step::Stands(6, 2)],
+        ),
+        (
+            0,
+            4,
+            &FROM_ZERO,
+            &[],
+            &[
+                Step::Fill(Ok(&[0, 1, 2, 3])),
+                Step::Stands(4, 1),
+                Step::Reserve(4),
+                Step::Stands(8, 1),
+                Step::Fill(Ok(&[0, 1, 2, 3])),
+                Step::Consume(2),
+                Step::Fill(Ok(&[2, 3, 4, 5, 6, 7])),
+                Step::Consume(4),
+                Step::Fill(Ok(&[6, 7, 8, 9, 10, 11, 12, 13])),
+                Step::Consume(4),
+                Step::Fill(Ok(&[10, 11, 12, 13])),
+                Step::Consume(2),
+                Step::Fill(Ok(&[12, 13, 14, 15, 16, 17, 18, 19])),
+                Step::Consume(8),
+                Step::Fill(Ok(&[])),
+            ],
+        ),
+        (
+            8,
+            6,
+            &FROM_ONE,
+            &[],
+            &[
+                Step::Fill(Ok(&[1, 2, 3, 4, 5, 6, 7, 8])),
+                Step::Consume(3),
+                Step::Fill(Ok(&[4, 5, 6, 7, 8, 9, 10, 11])),
+            ],
+        ),
+        (
+            8,
+            0,
+            &[9],
+            &[],
+            &[
+                Step::Fill(Ok(&[])),
+                Step::Read(1, 0),
+                Step::Stands(8, 0),
+                Step::Read(8, 1),
+                Step::Stands(8, 1),
+            ],
+        ),
+    ];
+    for (capacity, min, bytes, script, steps) in rows {
+        let buf = Buffer::with_capacity(rt.alloc(), capacity)?;
+        let mut rdr = reader(rt.alloc(), buf, bytes, script, MinBuffered(min))?;
+        walks(&rt, &mut rdr, steps)?;
+    }
+    Ok(())
+}
+
+// However the bytes come, a fill ends at the minimum, at a fault or where none come.
+#[test]
+fn short_reads(rt: HostRuntime) -> Result<(), Fail> {
+    let rows: [Row<'_>; 4] = [
+        (
+            8,
+            4,
+            &[1, 2, 3, 4, 5],
+            &[Answer::Serve(2), Answer::Fail(ErrorKind::Other)],
+            &[
+                Step::Fill(Err(ErrorKind::Other)),
+                Step::Stands(8, 2),
+                Step::Fill(Ok(&[1, 2, 3, 4, 5])),
+            ],
+        ),
+        (
+            8,
+            4,
+            &[1, 2, 3, 4, 5],
+            &[Answer::ServeEach(1)],
+            &[Step::Fill(Ok(&[1, 2, 3, 4])), Step::Stands(8, 4)],
+        ),
+        (
+            8,
+            4,
+            &[1, 2, 3, 4, 5],
+            &[Answer::Serve(2), Answer::Serve(0)],
+            &[
+                Step::Fill(Ok(&[1, 2])),
+                Step::Stands(8, 2),
+                Step::Fill(Ok(&[1, 2, 3, 4, 5])),
+            ],
+        ),
+        (
+            8,
+            usize::MAX,
+            &[1],
+            &[],
+            &[Step::Fill(Err(ErrorKind::InvalidInput)), Step::Stands(8, 0)],
+        ),
+    ];
+    for (capacity, min, bytes, script, steps) in rows {
+        let buf = Buffer::with_capacity(rt.alloc(), capacity)?;
+        let mut rdr = reader(rt.alloc(), buf, bytes, script, MinBuffered(min))?;
+        walks(&rt, &mut rdr, steps)?;
+    }
+
+    let script = [0, 1, 2, 0, 1, 0].map(Answer::Serve);
+    let buf = Buffer::new(rt.alloc())?;
+    let mut rdr = reader(rt.alloc(), buf, &[0; 4], &script, StdPolicy)?;
+    let steps = [0, 1, 2, 0, 1, 0, 0].map(|count| Step::Read(2, count));
+    walks(&rt, &mut rdr, &steps)
+}
+
+#[test]
+fn in_a_ring(rt: HostRuntime) -> Result<(), Fail> {
+    let bytes = vec![in rt.alloc(); 9u8; 10000]?;
+    let buf = Buffer::with_capacity_ringbuf(rt.alloc(), 4096)?;
+    let mut rdr = reader(rt.alloc(), buf, &bytes, &[], MinBuffered(5000))?;
+    walks(
+        &rt,
+        &mut rdr,
+        &[Step::Fill(Ok(&bytes[..8192])), Step::Stands(8192, 2)],
+    )
+}
+
+#[test]
+fn another_minimum(rt: HostRuntime) -> Result<(), Fail> {
+    let buf = Buffer::with_capacity(rt.alloc(), 0)?;
+    let mut rdr = reader(rt.alloc(), buf, &FROM_ZERO, &[], MinBuffered(4))?;
+    walks(
+        &rt,
+        &mut rdr,
+        &[Step::Fill(Ok(&[0, 1, 2, 3])), Step::Stands(4, 1)],
+    )?;
+    rdr.policy_mut().set_min(6);
+    walks(
+        &rt,
+        &mut rdr,
+        &[Step::Fill(Ok(&[0, 1, 2, 3, 4, 5])), Step::Stands(6, 2)],
+    )
+}
+
+// Does as the policy inside, and counts the bytes that it moved.
+#[derive(Drop)]
+struct Weighing {
+    inner: MinBuffered,
+    moved: usize,
+}
+
+fn place(buffer: &Buffer) -> usize {
+    buffer.capacity() - buffer.usable_space() - buffer.len()
+}
+
+impl ReaderPolicy for Weighing {
+    fn before_read(&mut self, buffer: &mut Buffer) -> io::Result<DoRead> {
+        let from = place(buffer);
+        let answer = self.inner.before_read(buffer);
+        if place(buffer) != from {
+            self.moved = self.moved.saturating_add(buffer.len());
+        }
+        answer
+    }
+
+    fn after_consume(&mut self, buffer: &mut Buffer, amt: usize) {
+        self.inner.after_consume(buffer, amt);
+    }
+}
+
+#[test]
+fn moves_few(rt: HostRuntime) -> Result<(), Fail> {
+    let policy = Weighing {
+        inner: MinBuffered(4),
+        moved: 0,
+    };
+    let buf = Buffer::with_capacity(rt.alloc(), 8)?;
+    let mut rdr = reader(rt.alloc(), buf, &FROM_ONE, &[], policy)?;
+    let steps = [
+        Step::Fill(Ok(&[1, 2, 3, 4, 5, 6, 7, 8])),
+        Step::Consume(3),
+        Step::Fill(Ok(&[4, 5, 6, 7, 8])),
+        Step::Consume(4),
+        Step::Fill(Ok(&[8, 9, 10, 11, 12, 13, 14, 15])),
+        Step::Consume(5),
+        Step::Fill(Ok(&[13, 14, 15])),
+    ];
+    walks(&rt, &mut rdr, &steps)?;
+    assert_eq!(rt; rdr.policy().moved, 4);
+    Ok(())
+}
+
+// All bytes up to and with the first `end`, or all that are left.
+fn read_until<R: BufRead>(alloc: Global, rdr: &mut R, end: u8) -> Result<Vec<u8>, Fail> {
+    let mut all = Vec::new(alloc);
+    for _ in 0..u64::MAX {
+        let bytes = rdr.fill_buf()?;
+        let found = memchr(end, bytes);
+        let count = match found {
+            Some(at) => at + 1,
+            None => bytes.len(),
+        };
+        all.extend_from_slice(&bytes[..count])?;
+        rdr.consume(count);
+        if found.is_some() || count == 0 {
+            break;
+        }
+    }
+    Ok(all)
+}
+
+#[test]
+fn up_to_a_byte(rt: HostRuntime) -> Result<(), Fail> {
+    let rows: [(&[u8], &[(u8, &[u8])]); 2] = [
+        (
+            &[0, 1, 2, 1, 0],
+            &[(0, &[0]), (2, &[1, 2]), (1, &[1]), (8, &[0]), (9, &[])],
+        ),
+        (
+            b"a\nb\nc",
+            &[(10, b"a\n"), (10, b"b\n"), (10, b"c"), (10, b"")],
+        ),
+    ];
+    for (bytes, parts) in rows {
+        let buf = Buffer::with_capacity(rt.alloc(), 2)?;
+        let mut rdr = reader(rt.alloc(), buf, bytes, &[], StdPolicy)?;
+        for &(end, part) in parts {
+            assert_eq!(rt; read_until(rt.alloc(), &mut rdr, end)?.as_slice(), part);
+        }
+    }
+    Ok(())
+}
+
+#[test]
+fn parts(rt: HostRuntime) -> Result<(), Fail> {
+    let buf = holding(rt.alloc(), 4, &[1, 2, 3, 4])?;
+    let mut rdr = reader(rt.alloc(), buf, &[5, 6, 7, 8, 9], &[], MinBuffered(1))?;
+    rdr.consume(2);
+    rdr.make_room();
+    assert_eq!(rt; rdr.read_into_buf()?, 2);
+    assert!(rt; matches!(rdr.reserve(usize::MAX), Err(GrowError::TooLarge)));
+    rdr.reserve(1)?;
+    assert_eq!(rt; rdr.capacity(), 5);
+    assert_eq!(rt; laws::look_ahead(&mut rdr)?, 4);
+    let mut out = [0u8; 4];
+    assert_eq!(rt; laws::read_until_dry(&mut rdr, &mut out)?, 4);
+    assert_eq!(rt; out, [3, 4, 5, 6]);
+    let text = format!(in rt.alloc(); "{rdr:?}")?;
+    assert!(rt; text.as_str().contains("MinBuffered(1)"));
+    assert_eq!(rt; rdr.into_inner().get_ref().served(), 2);
+    Ok(())
+}
