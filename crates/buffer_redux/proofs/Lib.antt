@@ -3,3 +3,4 @@ pub mod FillFacts
 pub mod FillClaims
 pub mod WriterFacts
 pub mod Resting
+pub mod Unwrapped

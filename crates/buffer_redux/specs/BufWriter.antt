@@ -1,14 +1,15 @@
 -- What the calls of a buffered writer do and promise.
-use Rattle.std.specs.Prelude.{◌≡◌, ℕ, ◌+◌, ◌-◌, ◌<◌, ◌≤◌, ◌⊎◌, List, [], ◌++◌, length, min, Option, Some, Result, Ok, Err, MatchResult, true, IfErr, OnErr}
+use Rattle.std.specs.Prelude.{◌≡◌, ℕ, ◌+◌, ◌-◌, ◌<◌, ◌≤◌, ◌⊎◌, List, [], ◌∷◌, ◌++◌, length, min, Option, Some, Result, Ok, Err, MatchResult, true, IfErr, OnOk, OnErr}
 use Rattle.std.specs.IoError.{error_kind}
 use Rattle.std.specs.declared.io.Error.{Error}
+use Rattle.std.specs.declared.io.traits.SeekFrom.{SeekFrom}
 use Rattle.redux_buffer.specs.Block.{Block, IsBlock, Extends, MakesRoom, usable}
-use Rattle.redux_buffer.specs.StreamLog.{StreamLog, WriteLog, taken, after_write, after_flush}
+use Rattle.redux_buffer.specs.StreamLog.{StreamLog, WriteLog, SeekCall, taken, after_write, after_flush, after_seek}
 use Rattle.redux_buffer.specs.Faults.{OnlyInterrupted, SendErrorCaused}
 use Rattle.redux_buffer.specs.Transfer.{DoesNothing, Sends}
 use Rattle.buffer_redux.specs.declared.policy.FlushAmt.{FlushAmt}
 use Rattle.buffer_redux.specs.Policy.{WriteRules, BeforeWrite, AfterWrite}
-use Rattle.buffer_redux.specs.Buffered.{Buffered, GoesPast, StaysInside, GoesDirect, with_policy}
+use Rattle.buffer_redux.specs.Buffered.{Buffered, GoesPast, StaysInside, GoesDirect, InnerWent, with_policy}
 
 -- the bytes received since, then those buffered, are those that were buffered, then those accepted
 pub record WritesInOrder {S P : Type 0} (s : Buffered S P) (accepted : List ℕ) (t : Buffered S P) : Type 0 where
@@ -148,3 +149,47 @@ pub record IsFlushed {S P : Type 0} (s t : Buffered S P) : Type 0 where
   pub flushed : t.log.writes.flushed ≡ t.log.writes.received
   pub interrupts : ℕ
   pub only : OnlyInterrupted interrupts s.log.writes t.log.writes
+
+-- all that is promised of a flush with this answer
+pub record WasFlushed {S P : Type 0} (tells : S → StreamLog) (stretch : S → S → Type 0)
+    (s : Buffered S P) (answer : Result (Unit {0}) Error) (t : Buffered S P) : Type 0 where
+  pub steps : Flushes s answer t
+  pub in_order : WritesInOrder s [] t
+  pub ok : OnOk answer (IsFlushed s t)
+  pub caused : IfErr answer (λ e. SendErrorCaused s.log.writes t.log.writes (error_kind e))
+  pub went : InnerWent tells stretch s t
+
+-- one seek of the inner writer; neither the policy nor the buffer was touched
+pub record SeeksInner {S P : Type 0} (tells : S → StreamLog) (s : Buffered S P) (to : SeekFrom)
+    (answer : Result ℕ Error) (t : Buffered S P) : Type 0 where
+  pub policy : t.policy ≡ s.policy
+  pub block : t.block ≡ s.block
+  pub log : t.log ≡ after_seek s.log to answer
+  pub told : t.log ≡ tells t.inner
+
+-- what `seek(to)` does: a flush, whose error it returns, and then one seek of the inner writer to the same place
+pub record Seeks {S P : Type 0} (tells : S → StreamLog) (stretch : S → S → Type 0) (s : Buffered S P) (to : SeekFrom)
+    (answer : Result ℕ Error) (t : Buffered S P) : Type 0 where
+  pub flushing : Result (Unit {0}) Error
+  pub left : Buffered S P
+  pub flushed : WasFlushed tells stretch s flushing left
+  pub ended : MatchResult flushing (λ _. SeeksInner tells left to answer t) (λ e. (answer ≡ Err e) × (t ≡ left))
+
+-- the seeks that were told, with one more
+abbrev pub with_seek : List SeekCall → SeekFrom → Result ℕ Error → List SeekCall
+with_seek calls to answer = calls ++ record { to = to; answer = answer } ∷ []
+
+-- what an Ok `seek(to)` has done: all is flushed, and the inner writer was asked once to seek, and gave this answer
+pub record IsSought {S P : Type 0} (s : Buffered S P) (to : SeekFrom) (answer : Result ℕ Error) (t : Buffered S P)
+    : Type 0 where
+  pub flushed : IsFlushed s t
+  pub asked : t.log.seeks.calls ≡ with_seek s.log.seeks.calls to answer
+
+-- the flush failed, and the inner writer was not asked to seek
+pub record NotSought {S P : Type 0} (s : Buffered S P) (e : Error) (t : Buffered S P) : Type 0 where
+  pub caused : SendErrorCaused s.log.writes t.log.writes (error_kind e)
+  pub asked : t.log.seeks.calls ≡ s.log.seeks.calls
+
+-- an error is that of the flush, or of the inner writer's seek
+abbrev pub SeekErrorCaused : {S P : Type 0} → Buffered S P → SeekFrom → Error → Buffered S P → Type 0
+SeekErrorCaused s to e t = NotSought s e t ⊎ IsSought s to (Err e) t

@@ -15,7 +15,9 @@ pub mod Fill
 pub mod BufReader
 pub mod ReaderLaws
 pub mod BufWriter
+pub mod Unwrapping
 pub mod WriterPolicies
+pub mod LineWriter
 pub mod WriterLaws
 pub mod WriteLaws
 pub mod WriterPolicyLaws

@@ -1,32 +1,36 @@
 //! The buffered writer.
-ghost use Rattle.std.specs.Prelude.{◌≡◌, ◌<◌, ◌≤◌, ◌^◌, [], length, Ok, IfErr, OnOk, OnErr, IsOk};
+ghost use Rattle.std.specs.Prelude.{None, ◌≡◌, ◌<◌, ◌≤◌, ◌^◌, [], length, Ok, IfErr, OnOk, OnErr, IsOk};
 ghost use Rattle.std.specs.Borrow.{sem, Lends};
 ghost use Rattle.std.specs.Io.{WritesAtMost};
 ghost use Rattle.std.specs.Io.KnownBytes.{Keeps, WriteAppends};
+ghost use Rattle.std.specs.Io.Seek.{SeekMoves};
 ghost use Rattle.std.specs.IoError.{error_kind};
-ghost use Rattle.redux_buffer.specs.Block.{Plain, Ring, IsBlock, round};
+ghost use Rattle.redux_buffer.specs.Block.{Plain, Ring, IsBlock, Reserves, MakesRoom, MovesToFront, capacity_for, round, usable};
+ghost use Rattle.redux_buffer.specs.GrowError.{FitsWithin};
 ghost use Rattle.redux_buffer.specs.Faults.{SendErrorCaused};
 ghost use Rattle.redux_buffer.specs.LogGrows.{WriteLogGrows};
 ghost use Rattle.redux_buffer.specs.StreamLog.{taken};
 ghost use Rattle.buffer_redux.specs.contracts.buf_writer.BufWriter.{the_row};
-ghost use Rattle.buffer_redux.specs.Buffered.{with_inner, with_policy, InnerWent, Makes};
-ghost use Rattle.buffer_redux.specs.BufWriter.{writer_contents, FlushesAmount, TakesIn, Finished, Writes, WritesSteadily, WritesInOrder, WriteErrorCaused, EmptyWriteCaused, Flushes, IsFlushed};
+ghost use Rattle.buffer_redux.specs.Buffered.{with_block, with_inner, with_policy, InnerWent, Makes};
+ghost use Rattle.buffer_redux.specs.BufWriter.{writer_contents, FlushesAmount, TakesIn, Finished, Writes, WritesSteadily, WritesInOrder, WriteErrorCaused, EmptyWriteCaused, Flushes, IsFlushed, Seeks, IsSought, SeekErrorCaused};
 
 use crate::errors::MakeError;
 use crate::policy::{FlushAmt, StdPolicy, WriterPolicy};
 use redux_buffer::laws::block_law;
-use redux_buffer::tell::TellWrite;
-use redux_buffer::{Buffer, DEFAULT_BUF_SIZE};
+use redux_buffer::tell::{TellSeek, TellWrite};
+use redux_buffer::{Buffer, DEFAULT_BUF_SIZE, GrowError};
 use std::alloc::Global;
 use std::io;
-use std::io::Write;
+use std::io::{Seek, SeekFrom, Write};
 use std::marker::Model;
+
+mod unwrapping;
 
 /// A writer with a buffer, which flushes as its policy says.
 ///
 /// No byte is lost or changes place: what the inner writer received, then what is buffered, is what was buffered at
 /// first, then what was accepted.
-#[derive(Drop)]
+#[derive(Debug)]
 pub struct BufWriter<W: TellWrite, P = StdPolicy> {
     buf: Buffer,
     inner: W,
@@ -97,20 +101,6 @@ impl<W: TellWrite> BufWriter<W, StdPolicy> {
 }
 
 impl<W: TellWrite, P> BufWriter<W, P> {
-    /// The same writer under another policy. Nothing is sent.
-    pub fn set_policy<Q: WriterPolicy>(self, policy: Q) -> BufWriter<W, Q>
-    where
-        P: Drop,
-        ensures { result ≡ with_policy self policy }
-    {
-        let BufWriter {
-            buf,
-            inner,
-            policy: _,
-        } = self;
-        BufWriter { buf, inner, policy }
-    }
-
     /// The policy.
     pub fn policy(&self) -> &P
         ensures { result.now ≡ self.now.policy }
@@ -161,21 +151,26 @@ impl<W: TellWrite, P> BufWriter<W, P> {
         self.buf.capacity()
     }
 
-    /// The inner writer and the buffer with the bytes that were not written out. Nothing is sent, and the policy is
-    /// dropped.
-    pub fn into_inner_with_buffer(self) -> (W, Buffer)
-    where
-        P: Drop,
-        ensures inner { result.0 ≡ self.inner }
-        ensures log { W.log result.0 ≡ self.log }
-        ensures block { result.1 ≡ self.block }
+    /// Makes sure that `a` more bytes fit behind those that are buffered. A refusal changes nothing.
+    pub fn reserve(&mut self, a: usize) -> Result<(), GrowError>
+        ensures grown { OnOk result (Reserves a self.old.block self.new.block) }
+        ensures unchanged { OnErr result (self.new.block ≡ self.old.block) }
+        ensures limit { FitsWithin result (capacity_for self.old.block a) self.old.block.limit }
+        ensures succeeds { a ≤ usable self.old.block → IsOk result }
+        ensures others { self.new ≡ with_block self.old self.new.block }
+        ensures whole { IsBlock self.new.block }
     {
-        let BufWriter {
-            buf,
-            inner,
-            policy: _,
-        } = self;
-        (inner, buf)
+        self.buf.reserve(a)
+    }
+
+    /// Makes all free space usable: a plain buffer moves its bytes to the front, a ring does nothing.
+    pub fn make_room(&mut self)
+        ensures bytes { MakesRoom self.old.block self.new.block }
+        ensures moved { MovesToFront self.old.block self.new.block }
+        ensures others { self.new ≡ with_block self.old self.new.block }
+        ensures whole { IsBlock self.new.block }
+    {
+        self.buf.make_room();
     }
 
     // Sends the first `amount` bytes: none at 0, and none where fewer are buffered.
@@ -208,7 +203,7 @@ impl<W: TellWrite, P> BufWriter<W, P> {
 
 impl<W: TellWrite, P: WriterPolicy> BufWriter<W, P> {
     // Asks the policy after a write, and flushes the amount that it returns, whether or not that fails.
-    fn finish(&mut self)
+    fn flush_after(&mut self)
         ensures finished { Finished P.rules self.old self.new }
         ensures whole { IsBlock self.new.block }
         ensures stretch { InnerWent W.log W.stretch self.old self.new }
@@ -240,7 +235,7 @@ impl<W: TellWrite, P: WriterPolicy> Write for BufWriter<W, P> {
         let FlushAmt(first) = self.policy.before_write(&mut self.buf, bytes.len())?;
         self.flush_amount(first)?;
         let written = self.take_in(bytes)?;
-        self.finish();
+        self.flush_after();
         Ok(written)
     }
 
@@ -258,5 +253,36 @@ impl<W: TellWrite, P: WriterPolicy> Write for BufWriter<W, P> {
     {
         self.buf.write_all(&mut self.inner)?;
         self.inner.flush_told()
+    }
+}
+
+/// Flushes, and then asks the inner writer to seek to the same place. Where the flush fails, its error is returned, and no
+/// seek is made.
+impl<W: TellWrite + TellSeek, P: WriterPolicy> Seek for BufWriter<W, P> {
+    fn seek(&mut self, to: SeekFrom) -> io::Result<u64>
+        ensures moves { SeekMoves None None None to result }
+        ensures bytes { Keeps None None }
+        ensures in_order { WritesInOrder self.old [] self.new }
+        ensures grows { WriteLogGrows self.old.log.writes self.new.log.writes }
+        ensures ok { OnOk result (IsSought self.old to result self.new) }
+        ensures caused { IfErr result (λ e. SeekErrorCaused self.old to e self.new) }
+        ensures capacity { self.new.block.capacity ≡ self.old.block.capacity }
+        ensures whole { IsBlock self.new.block }
+        ensures steps { Seeks W.log W.stretch self.old to result self.new }
+    {
+        self.flush()?;
+        self.inner.seek_told(to)
+    }
+}
+
+/// Sends what is buffered, without a flush of the inner writer, and forgets a fault.
+impl<W: TellWrite + Drop, P: Drop> Drop for BufWriter<W, P> {
+    fn drop(mut self) {
+        let _ = self.buf.write_all(&mut self.inner);
+        let BufWriter {
+            buf: _,
+            inner: _,
+            policy: _,
+        } = self;
     }
 }

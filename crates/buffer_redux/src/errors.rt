@@ -27,3 +27,48 @@ impl<T: Drop> From<MakeError<T>> for io::Error {
         io::Error::from(e.1)
     }
 }
+
+/// Why a writer could not be unwrapped: the fault that its flush met, with the writer and the bytes that were not sent.
+///
+/// A writer that is dropped sends once more, also where this is dropped or turned into an `io::Error`.
+#[derive(Debug, Drop)]
+pub struct IntoInnerError<W>(pub W, pub io::Error);
+
+impl<W> IntoInnerError<W> {
+    ghost use Rattle.std.specs.Prelude.{◌≡◌};
+
+    /// The fault.
+    pub fn error(&self) -> &io::Error
+        ensures { result.now ≡ self.now.1 }
+    {
+        &self.1
+    }
+
+    /// The writer, with the bytes that were not sent.
+    pub fn into_inner(self) -> W
+        ensures { result ≡ self.0 }
+    {
+        let IntoInnerError(writer, _) = self;
+        writer
+    }
+}
+
+impl<T> fmt::Display for IntoInnerError<T> {
+    fn fmt<W: fmt::Write>(&self, f: &mut fmt::Formatter<W>) -> fmt::Result {
+        fmt::Display::fmt(&self.1, f)
+    }
+}
+
+impl<T: fmt::Debug + Drop> Error for IntoInnerError<T> {}
+
+/// The fault. The writer is dropped.
+impl<T: Drop> From<IntoInnerError<T>> for io::Error {
+    ghost use Rattle.std.specs.Prelude.{◌≡◌};
+
+    ghost from_gives = { λ e r. r ≡ e.1 };
+
+    fn from(e: IntoInnerError<T>) -> io::Error {
+        let IntoInnerError(_, fault) = e;
+        fault
+    }
+}

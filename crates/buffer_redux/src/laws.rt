@@ -1,6 +1,7 @@
 //! Laws, each as the contract of a function over the calls. Those of the buffer come from `redux_buffer`.
-ghost use Rattle.std.specs.Prelude.{◌≡◌, ◌<◌, length, Ok, IfOk, is_ok};
+ghost use Rattle.std.specs.Prelude.{◌≡◌, ◌<◌, [], length, Ok, IfOk, is_ok};
 ghost use Rattle.buffer_redux.specs.BufReader.{FillsToMinimum, RanDry};
+ghost use Rattle.buffer_redux.specs.Unwrapping.{KeepsUnsent};
 
 mod writes;
 
@@ -11,6 +12,7 @@ pub use writes::{
 use crate::buf_reader::BufReader;
 use crate::buf_writer::BufWriter;
 use crate::policy::MinBuffered;
+use redux_buffer::Buffer;
 pub use redux_buffer::laws::{copy_through, make_room_again, ring_law};
 use redux_buffer::tell::{Tell, TellRead, TellWrite};
 use std::io;
@@ -51,4 +53,18 @@ pub fn read_until_dry<R: TellRead>(
     ensures ran_dry { result ≡ Ok 0 → 0 < length out.old → 0 < reader.old.policy.0 → RanDry reader.old reader.new }
 {
     reader.read(out)
+}
+
+/// What could not be sent is handed back by a handler that leaves it, so no byte is lost.
+pub fn keep_unsent<W: TellWrite, P: Drop>(writer: BufWriter<W, P>) -> (W, Buffer)
+    ensures { KeepsUnsent W.log writer result.0 result.1 }
+{
+    writer.finish(|_inner, _unsent, _fault| {})
+}
+
+/// What could not be sent is dropped by a handler that clears it, so the buffer always comes back empty.
+pub fn drop_unsent<W: TellWrite, P: Drop>(writer: BufWriter<W, P>) -> (W, Buffer)
+    ensures { result.1.bytes ≡ [] }
+{
+    writer.finish(|_inner, unsent, _fault| unsent.clear())
 }

@@ -9,13 +9,15 @@ mod buf_reader;
 mod buf_writer;
 mod errors;
 pub mod laws;
+mod line_writer;
 pub mod policy;
 #[cfg(test)]
 mod tests;
 
 pub use buf_reader::BufReader;
 pub use buf_writer::BufWriter;
-pub use errors::MakeError;
+pub use errors::{IntoInnerError, MakeError};
+pub use line_writer::LineWriter;
 pub use redux_buffer::{
     BufImpl, Buffer, Count, DEFAULT_BUF_SIZE, GrowError, INTERRUPT_LIMIT, MAX_CAPACITY, MAX_RING,
     RING_UNIT, RawBuf, SliceDequeBuf, StdBuf, script, tell,

@@ -1,9 +1,11 @@
 //! Readers and writers by worked examples, and each public call once.
 mod example;
+mod lines;
 mod lookahead;
 mod makers;
 mod policies;
 mod reader;
+mod unwrapping;
 mod writer;
 mod writer_policies;
 

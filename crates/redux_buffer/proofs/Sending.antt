@@ -18,7 +18,7 @@ pub record Interrupts (count : ℕ) (old new : StreamLog) : Type 0 where
   pub others : OnlyWrites old new
 
 OnlyWrites-joins : (a b c : StreamLog) → OnlyWrites a b → OnlyWrites b c → OnlyWrites a c
-OnlyWrites-joins a b c p q = record { reads = q.reads ∙ p.reads; fills = q.fills ∙ p.fills; seek_faults = q.seek_faults ∙ p.seek_faults }
+OnlyWrites-joins a b c p q = record { reads = q.reads ∙ p.reads; fills = q.fills ∙ p.fills; seeks = q.seeks ∙ p.seeks }
 
 module _ (k i len : ℕ) (a b : Block) (log log' log'' : StreamLog) (sent : Sent k a log b log') (only : OnlyInterrupted i log.writes log'.writes) (few : i ≤ 64 * k) where
   -- one write more, which took n bytes of the first len

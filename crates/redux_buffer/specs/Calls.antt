@@ -7,7 +7,7 @@ abbrev pub after_call : StreamLog → Call → StreamLog
 after_call log (Read buf answer) = after_read log buf.now answer.now
 after_call log (Write buf answer) = after_write log buf.now answer.now
 after_call log (Flush answer) = after_flush log answer.now
-after_call log (Seek answer) = after_seek log answer.now
+after_call log (Seek to answer) = after_seek log to answer.now
 after_call log (Shown bytes) = after_shown log bytes.now
 after_call log (FillFault shown error) = after_fill_fault log shown.now error.now
 after_call log (Consume amount) = after_consume log amount

@@ -4,11 +4,13 @@ use Rattle.std.specs.IoError.{error_kind}
 use Rattle.std.specs.declared.io.Error.{Error}
 use Rattle.std.specs.declared.io.ErrorKind.{ErrorKind}
 use Rattle.std.specs.declared.io.ErrorKind.TheVariants.{Interrupted, OutOfMemory}
+use Rattle.std.specs.declared.io.traits.SeekFrom.{SeekFrom}
 use Rattle.redux_buffer.specs.declared.script.Answer.{Answer}
 use Rattle.redux_buffer.specs.declared.script.Answer.TheVariants.{Serve, Fail, Interrupt, ServeEach}
 use Rattle.redux_buffer.specs.declared.script.Script.{Script}
 use Rattle.redux_buffer.specs.declared.script.ScriptReader.{ScriptReader}
 use Rattle.redux_buffer.specs.declared.script.ScriptWriter.{ScriptWriter}
+use Rattle.redux_buffer.specs.declared.script.ScriptSeeker.{ScriptSeeker}
 
 -- one answer of a scripted stream: at most so many bytes, or a fault
 pub data Reply : Type 0 where
@@ -94,3 +96,37 @@ taken_bytes w = w.taken.items
 
 abbrev pub flush_count : ScriptWriter → ℕ
 flush_count w = w.flushes
+
+-- what is left of the script of a `ScriptSeeker`, and where it was asked to go so far
+pub record SeekProgress : Type 0 where
+  pub answers : List (Result ℕ ErrorKind)
+  pub targets : List SeekFrom
+
+-- a seek returns the next answer of the script, and `Ok(0)` after the script
+abbrev pub SeekReplies : List (Result ℕ ErrorKind) → Result ℕ Error → Type 0
+SeekReplies [] answer = answer ≡ Ok 0
+SeekReplies (Ok position ∷ answers) answer = answer ≡ Ok position
+SeekReplies (Err kind ∷ answers) answer = IsErrAnd answer (λ e. error_kind e ≡ kind)
+
+-- a seek that was noted goes by the next answer
+pub record SeekAnswers (old : SeekProgress) (to : SeekFrom) (answer : Result ℕ Error) (new : SeekProgress)
+    : Type 0 where
+  pub noted : new.targets ≡ old.targets ++ to ∷ []
+  pub left : new.answers ≡ drop 1 old.answers
+  pub reply : SeekReplies old.answers answer
+
+-- a seek that could not be noted changes nothing
+pub record SeekRunsOut (old : SeekProgress) (answer : Result ℕ Error) (new : SeekProgress) : Type 0 where
+  pub kind : IsErrAnd answer (λ e. error_kind e ≡ OutOfMemory)
+  pub unchanged : new ≡ old
+
+-- one seek of a `ScriptSeeker`
+abbrev pub Sought : SeekProgress → SeekFrom → Result ℕ Error → SeekProgress → Type 0
+Sought old to answer new = SeekAnswers old to answer new ⊎ SeekRunsOut old answer new
+
+-- what contracts see of a `ScriptSeeker`: its progress, and the stream inside
+abbrev pub seeker_progress : {S : Type 0} → ScriptSeeker S → SeekProgress
+seeker_progress s = record { answers = s.answers.items; targets = s.targets.items }
+
+abbrev pub seeker_stream : {S : Type 0} → ScriptSeeker S → S
+seeker_stream s = s.stream

@@ -5,6 +5,7 @@ use Rattle.std.specs.Borrow.{Bor}
 use Rattle.std.specs.IoError.{error_kind}
 use Rattle.std.specs.declared.io.Error.{Error}
 use Rattle.std.specs.declared.io.ErrorKind.{ErrorKind}
+use Rattle.std.specs.declared.io.traits.SeekFrom.{SeekFrom}
 
 -- what a reader tells of its reads: the bytes that it gave, the reads that it answered, the length of the last slice
 -- that it was lent, its `Ok(0)` to slices that were not empty, and the kinds of its faults
@@ -32,11 +33,21 @@ pub record FillLog : Type 0 where
   pub ends : ℕ
   pub faults : List ErrorKind
 
+-- one seek, with its answer
+pub record SeekCall : Type 0 where
+  pub to : SeekFrom
+  pub answer : Result ℕ Error
+
+-- what a seeker tells: all its seeks in order, and the kinds of its faults
+pub record SeekLog : Type 0 where
+  pub calls : List SeekCall
+  pub faults : List ErrorKind
+
 pub record StreamLog : Type 0 where
   pub reads : ReadLog
   pub writes : WriteLog
   pub fills : FillLog
-  pub seek_faults : List ErrorKind
+  pub seeks : SeekLog
 
 -- a stream that was not called yet
 abbrev pub no_calls : StreamLog
@@ -44,7 +55,7 @@ no_calls = record {
   reads = record { given = []; asks = 0; offer = 0; zero_answers = 0; faults = [] };
   writes = record { received = []; flushed = []; offer = 0; zero_writes = 0; faults = [] };
   fills = record { shown = []; consumed = []; ends = 0; faults = [] };
-  seek_faults = [];
+  seeks = record { calls = []; faults = [] };
 }
 
 -- the bytes of bs that an answer took: the first n at `Ok(n)`, none at `Err`
@@ -112,9 +123,14 @@ after_flush log answer = record log {
   };
 }
 
--- after `seek(..)`
-abbrev pub after_seek : StreamLog → Result ℕ Error → StreamLog
-after_seek log answer = record log { seek_faults = with_fault log.seek_faults answer }
+-- after `seek(to)`
+abbrev pub after_seek : StreamLog → SeekFrom → Result ℕ Error → StreamLog
+after_seek log to answer = record log {
+  seeks = record {
+    calls = log.seeks.calls ++ record { to = to; answer = answer } ∷ [];
+    faults = with_fault log.seeks.faults answer;
+  };
+}
 
 -- after `consume(amount)`
 abbrev pub after_consume : StreamLog → ℕ → StreamLog

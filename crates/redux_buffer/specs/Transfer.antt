@@ -47,7 +47,7 @@ pub record WritesTo (old : Block) (log : StreamLog) (answer : Result ℕ Error) 
 pub record OnlyWrites (old new : StreamLog) : Type 0 where
   pub reads : new.reads ≡ old.reads
   pub fills : new.fills ≡ old.fills
-  pub seek_faults : new.seek_faults ≡ old.seek_faults
+  pub seeks : new.seeks ≡ old.seeks
 
 -- a write of bs, asked again where it was interrupted: 64 times at the most, and `Interrupted` is answered only then
 pub record WritesRetried (bs : List ℕ) (log : StreamLog) (answer : Result ℕ Error) (log' : StreamLog) : Type 0 where

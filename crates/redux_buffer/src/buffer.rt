@@ -228,10 +228,10 @@ impl Buffer {
     /// Drops all bytes.
     pub fn clear(&mut self)
         ensures bytes { ConsumesFirst (length self.old.bytes) self.old self.new }
-        ensures moved { OnlyRingMoves self.old self.new }
+        ensures moved { self.new.moved ≡ self.old.moved }
         ensures whole { IsBlock self.new }
     {
         let len = self.len();
-        self.consume(len);
+        self.imp.consume(len);
     }
 }

@@ -4,6 +4,7 @@ ghost use Rattle.std.specs.Borrow.{ftrue};
 ghost use Rattle.redux_buffer.specs.StreamLog.{StreamLog, no_calls};
 
 use std::io;
+use std::io::SeekFrom;
 use std::marker::Model;
 use std::mem::size_of;
 
@@ -14,7 +15,7 @@ pub enum Call<'a> {
     Read(&'a [u8], &'a io::Result<usize>),
     Write(&'a [u8], &'a io::Result<usize>),
     Flush(&'a io::Result<()>),
-    Seek(&'a io::Result<u64>),
+    Seek(SeekFrom, &'a io::Result<u64>),
     Shown(&'a [u8]),
     FillFault(&'a [u8], &'a io::Error),
     Consume(usize),

@@ -74,9 +74,9 @@ pub trait TellBufRead: Tell {
     ghost stretch_grows: { (s t : Self) → stretch s t → FillsGoOn (Self.log s) (Self.log t) };
 }
 
-/// A seeker that tells of its faults.
+/// A seeker that tells where it was asked to go, and what it answered.
 pub trait TellSeek: Tell {
     /// [`Seek::seek`](std::io::Seek::seek).
     fn seek_told(&mut self, to: SeekFrom) -> io::Result<u64>
-        ensures told { Self.log self.new ≡ after_seek (Self.log self.old) result };
+        ensures told { Self.log self.new ≡ after_seek (Self.log self.old) to result };
 }

@@ -123,13 +123,13 @@ impl<S: Seek> TellSeek for Told<S> {
     ghost use Rattle.redux_buffer.specs.Told.{told_stream, told_log};
 
     fn seek_told(&mut self, to: SeekFrom) -> io::Result<u64>
-        ensures told { told_log self.new ≡ after_seek (told_log self.old) result }
+        ensures told { told_log self.new ≡ after_seek (told_log self.old) to result }
         ensures passed_on { SeekMoves (S.stream_position (told_stream self.old))
             (S.stream_position (told_stream self.new)) (S.stream_bytes (told_stream self.old)) to result }
         ensures bytes { Keeps (S.stream_bytes (told_stream self.old)) (S.stream_bytes (told_stream self.new)) }
     {
         let answer = self.stream.seek(to);
-        self.calls.note(&Call::Seek(&answer));
+        self.calls.note(&Call::Seek(to, &answer));
         answer
     }
 }

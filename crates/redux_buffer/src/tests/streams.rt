@@ -1,7 +1,7 @@
 //! The scripted streams, and the streams that tell.
 ghost use Rattle.redux_buffer.specs.LogGrows.{FillLogGrows, FillLogGrows-none, FillLogGrows-joins, FillsGoOn-of};
 
-use crate::script::{Answer, ScriptReader, ScriptWriter};
+use crate::script::{Answer, ScriptReader, ScriptSeeker, ScriptWriter};
 use crate::tell::{Call, CallLog, Tell, TellBufRead, TellRead, TellSeek, TellWrite, Told};
 use std::io;
 use std::io::{Cursor, ErrorKind, SeekFrom};
@@ -86,6 +86,40 @@ fn seeker(rt: HostRuntime) -> Result<(), Fail> {
     let mut last = [0u8; 2];
     assert_eq!(rt; skr.read_told(&mut last)?, 1);
     assert_eq!(rt; last, [3, 0]);
+    Ok(())
+}
+
+// A scripted seeker answers and notes each seek, and its reads and writes go on to the stream inside.
+#[test]
+fn scripted_seeker(rt: HostRuntime) -> Result<(), Fail> {
+    let targets = [
+        SeekFrom::Start(u64::MAX),
+        SeekFrom::End(-1),
+        SeekFrom::Current(2),
+    ];
+    let answers = [Ok(u64::MAX), Err(ErrorKind::TimedOut)];
+    let inner = ScriptReader::new(rt.alloc(), &[1, 2], &[])?;
+    let mut skr = Told::new(ScriptSeeker::new(rt.alloc(), inner, &answers)?);
+    for (to, want) in [
+        (targets[0], answers[0]),
+        (targets[1], answers[1]),
+        (targets[2], Ok(0)),
+    ] {
+        assert_eq!(rt; skr.seek_told(to).map_err(|e| e.kind()), want);
+    }
+    let mut out = [0u8; 3];
+    assert_eq!(rt; skr.read_told(&mut out)?, 2);
+    assert_eq!(rt; out, [1, 2, 0]);
+    assert_eq!(rt; skr.get_ref().targets(), targets.as_slice());
+    assert_eq!(rt; skr.get_ref().get_ref().offers(), [3].as_slice());
+
+    let inner = ScriptWriter::new(rt.alloc(), &[])?;
+    let mut skr = Told::new(ScriptSeeker::new(rt.alloc(), inner, &[])?);
+    assert_eq!(rt; skr.write_told(&[3, 4])?, 2);
+    skr.flush_told()?;
+    assert_eq!(rt; skr.get_ref().get_ref().taken(), [3, 4].as_slice());
+    assert_eq!(rt; skr.get_ref().get_ref().flushes(), 1);
+    assert_eq!(rt; skr.get_ref().targets().len(), 0);
     Ok(())
 }
 

@@ -36,7 +36,7 @@ faulted g c = rw (← c.self.view_is) (inr (inr (record {
   took_in = c.in_err-written.ensures.took_in;
 })))
 
-wrote : (g : _) (c : goal.After-finish g) → Writes g.P.WriterPolicy.rules c.args.self.now c.args.bytes.now (Ok c.in_ok-written.written) c.finish.new.self
+wrote : (g : _) (c : goal.After-flush_after g) → Writes g.P.WriterPolicy.rules c.args.self.now c.args.bytes.now (Ok c.in_ok-written.written) c.flush_after.new.self
 wrote g c = rw (← c.self.view_is) (record {
   before = c.flush_amount.new.self;
   after = c.take_in.new.self;
@@ -49,7 +49,7 @@ wrote g c = rw (← c.self.view_is) (record {
     flush = c.in_ok-flush_amount.ensures.flushed;
   };
   took_in = c.in_ok-written.ensures.took_in;
-  finished = c.finish.ensures.finished;
+  finished = c.flush_after.ensures.finished;
 })
 
 pub returns-in_err-first-clause-steadily : goal.returns-in_err-first-clause-steadily
@@ -172,7 +172,7 @@ pub returns-clause-stretch : goal.returns-clause-stretch
 returns-clause-stretch g c =
     let first = c.in_ok-flush_amount.ensures.stretch in
     let second = c.in_ok-written.ensures.stretch in
-    let last = c.finish.ensures.stretch in
+    let last = c.flush_after.ensures.stretch in
     let both = g.met.W.TellWrite.stretch_joins _ _ _ first.calls second.calls in
     rw (← c.self.view_is) (record {
       calls = g.met.W.TellWrite.stretch_joins _ _ _ both last.calls;

@@ -1,0 +1,37 @@
+use Rattle.std.proofs.Common.{Ok, Err, refl, sym}
+use Rattle.buffer_redux.specs.Buffered.{Buffered}
+use Rattle.buffer_redux.proofs.buf_writer.BufWriter.finish.Goals as goal
+use Rattle.buffer_redux.proofs.buf_writer.BufWriter.finish.Goals.{in-Err, in_default}
+
+pub returns : goal.returns
+returns g c =
+    let tells = g.W.Tell.log in
+    let parts = c.into_inner_with_buffer-inner.ensures in
+    let sent : Buffered g.row.W.Denot g.row.P.Denot =
+    record { policy = c.args.self.policy; block = c.write_all.new.self; inner = c.write_all.new.wrt; log = tells c.write_all.new.wrt } in
+    elim c.match-write_all.branch [
+      | in-Err w ↦ rw (w.inner-is, w.unsent-is) (record {
+          sending = Err w.in-Err.e;
+          sent = sent;
+          sends = rw (← parts.block, ← parts.log) w.in-Err.ensures.sent;
+          went = record { calls = rw (← parts.inner) w.in-Err.ensures.stretch; told_before = rw (← parts.inner) (sym parts.log); told_after = refl };
+          ended = record {
+            lent_inner = _;
+            lent_buffer = _;
+            left_inner = _;
+            left_buffer = _;
+            called = w.handler.ensures;
+            shows_inner = refl;
+            shows_buffer = refl;
+            leaves_inner = refl;
+            leaves_buffer = refl;
+          };
+        })
+      | in_default w ↦ rw (w.inner-is, w.unsent-is) (record {
+          sending = Ok tt;
+          sent = sent;
+          sends = rw (← parts.block, ← parts.log) w.in_default.ensures.sent;
+          went = record { calls = rw (← parts.inner) w.in_default.ensures.stretch; told_before = rw (← parts.inner) (sym parts.log); told_after = refl };
+          ended = (refl, refl);
+        })
+    ]

@@ -1,0 +1,51 @@
+-- What the calls promise that take a buffered writer apart.
+use Rattle.std.specs.Prelude.{◌≡◌, ◌⊎◌, [], length, Result, MatchResult}
+use Rattle.std.specs.Borrow.{MutBor}
+use Rattle.std.specs.declared.io.Error.{Error}
+use Rattle.std.specs.declared.io.ErrorKind.{ErrorKind}
+use Rattle.redux_buffer.specs.Block.{Block}
+use Rattle.redux_buffer.specs.Faults.{SendErrorCaused}
+use Rattle.redux_buffer.specs.StreamLog.{StreamLog}
+use Rattle.redux_buffer.specs.Transfer.{Sends}
+use Rattle.buffer_redux.specs.Buffered.{Buffered, InnerWent, with_block, with_inner}
+use Rattle.buffer_redux.specs.BufWriter.{WritesInOrder, WasFlushed}
+
+-- the inner writer of what a flush with this answer left
+pub record InnerOfFlushed {S P : Type 0} (tells : S → StreamLog) (stretch : S → S → Type 0)
+    (s : Buffered S P) (answer : Result (Unit {0}) Error) (inner : S) : Type 0 where
+  pub left : Buffered S P
+  pub flushed : WasFlushed tells stretch s answer left
+  pub is_inner : left.inner ≡ inner
+
+-- what a handler may do: the writer and the buffer that it is lent, the fault, and both when it gives them back
+abbrev pub Handler : Type 0 → Type 1
+Handler S = MutBor S → MutBor Block → Error → MutBor S → MutBor Block → Type 0
+
+-- the handler was called with this writer, this buffer and this fault, and left these
+pub record Handled {S : Type 0} (handler : Handler S) (inner : S) (b : Block) (e : Error) (inner' : S) (b' : Block)
+    : Type 0 where
+  pub lent_inner : MutBor S
+  pub lent_buffer : MutBor Block
+  pub left_inner : MutBor S
+  pub left_buffer : MutBor Block
+  pub called : handler lent_inner lent_buffer e left_inner left_buffer
+  pub shows_inner : lent_inner.now ≡ inner
+  pub shows_buffer : lent_buffer.now ≡ b
+  pub leaves_inner : left_inner.now ≡ inner'
+  pub leaves_buffer : left_buffer.now ≡ b'
+
+-- all bytes were sent, and both parts come as that left them; where it failed, as the handler left them after that
+pub record SendsOrHandles {S P : Type 0} (tells : S → StreamLog) (stretch : S → S → Type 0) (handler : Handler S)
+    (s : Buffered S P) (inner : S) (b : Block) : Type 0 where
+  pub sending : Result (Unit {0}) Error
+  pub sent : Buffered S P
+  pub sends : Sends (length s.block.bytes) s.block s.log sending sent.block sent.log
+  pub went : InnerWent tells stretch s sent
+  pub ended : MatchResult sending
+      (λ _. (inner ≡ sent.inner) × (b ≡ sent.block)) (λ e. Handled handler sent.inner sent.block e inner b)
+
+-- no byte was lost: what was received since, then what is left, is what was buffered, and bytes are left only where
+-- sending failed
+pub record KeepsUnsent {S P : Type 0} (tells : S → StreamLog) (s : Buffered S P) (inner : S) (b : Block) : Type 0 where
+  pub in_order : WritesInOrder s [] (with_inner tells (with_block s b) inner)
+  pub why : (b.bytes ≡ []) ⊎ ((kind : ErrorKind) × SendErrorCaused s.log.writes (tells inner).writes kind)

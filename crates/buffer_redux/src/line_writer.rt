@@ -1,0 +1,222 @@
+//! A buffered writer that flushes lines.
+ghost use Rattle.std.specs.Prelude.{◌≡◌, ◌<◌, ◌≤◌, ◌^◌, [], length, Ok, Err, IfErr, OnOk, OnErr, IsOk, MatchResult, MatchOption};
+ghost use Rattle.std.specs.Borrow.{sem, Lends};
+ghost use Rattle.std.specs.Io.{WritesAtMost};
+ghost use Rattle.std.specs.Io.KnownBytes.{Keeps, WriteAppends};
+ghost use Rattle.std.specs.IoError.{error_kind};
+ghost use Rattle.redux_buffer.specs.Block.{Plain, Ring, IsBlock, Reserves, capacity_for, round, usable};
+ghost use Rattle.redux_buffer.specs.GrowError.{FitsWithin};
+ghost use Rattle.redux_buffer.specs.Faults.{SendErrorCaused};
+ghost use Rattle.redux_buffer.specs.LogGrows.{WriteLogGrows};
+ghost use Rattle.redux_buffer.specs.StreamLog.{taken};
+ghost use Rattle.buffer_redux.specs.contracts.line_writer.LineWriter.{the_row};
+ghost use Rattle.buffer_redux.specs.Buffered.{with_block, with_inner, InnerWent, Makes};
+ghost use Rattle.buffer_redux.specs.BufWriter.{writer_contents, Writes, WritesSteadily, WritesInOrder, WriteErrorCaused, EmptyWriteCaused, Flushes, IsFlushed, WasFlushed};
+ghost use Rattle.buffer_redux.specs.LineWriter.{line_rules};
+ghost use Rattle.buffer_redux.specs.Unwrapping.{InnerOfFlushed, SendsOrHandles};
+
+use crate::buf_writer::BufWriter;
+use crate::errors::{IntoInnerError, MakeError};
+use crate::policy::FlushOnNewline;
+use redux_buffer::tell::TellWrite;
+use redux_buffer::{Buffer, DEFAULT_BUF_SIZE, GrowError};
+use std::alloc::Global;
+use std::io;
+use std::io::Write;
+use std::marker::Model;
+
+/// A [`BufWriter`] under [`FlushOnNewline`]: after each write it flushes through the last newline, the byte 10, that is
+/// buffered.
+#[derive(Debug, Drop)]
+pub struct LineWriter<W: TellWrite> {
+    writer: BufWriter<W, FlushOnNewline>,
+}
+
+// It is seen as the writer that it is, so that all that is said of one is said of the other in the same words.
+impl<W: TellWrite> Model for LineWriter<W> {
+    ghost use Rattle.buffer_redux.specs.Buffered.{Buffered};
+    ghost use Rattle.buffer_redux.specs.declared.policy.writers.FlushOnNewline.{FlushOnNewline};
+
+    ghost Value = { Buffered W FlushOnNewline };
+
+    ghost view = { λ l. l.writer };
+}
+
+impl<W: TellWrite> LineWriter<W> {
+    /// A writer over a plain buffer of [`DEFAULT_BUF_SIZE`] bytes. A refusal hands `inner` back.
+    pub fn new(alloc: Global, inner: W) -> Result<Self, MakeError<W>>
+        ensures made { Makes W.log Plain 8192 (2 ^ 62) inner result }
+    {
+        LineWriter::with_capacity(alloc, DEFAULT_BUF_SIZE, inner)
+    }
+
+    /// A writer over a plain buffer of `cap` bytes. A refusal hands `inner` back.
+    pub fn with_capacity(alloc: Global, cap: usize, inner: W) -> Result<Self, MakeError<W>>
+        ensures made { Makes W.log Plain cap (2 ^ 62) inner result }
+        ensures succeeds { cap ≡ 0 → IsOk result }
+    {
+        match Buffer::with_capacity(alloc, cap) {
+            Ok(buf) => Ok(LineWriter::with_buffer(buf, inner)),
+            Err(e) => Err(MakeError(inner, e)),
+        }
+    }
+
+    /// A writer over a ring of [`DEFAULT_BUF_SIZE`] bytes. A refusal hands `inner` back.
+    pub fn new_ringbuf(alloc: Global, inner: W) -> Result<Self, MakeError<W>>
+        ensures made { Makes W.log Ring 8192 (2 ^ 61) inner result }
+    {
+        LineWriter::with_capacity_ringbuf(alloc, DEFAULT_BUF_SIZE, inner)
+    }
+
+    /// A writer over a ring whose capacity in bytes is the least multiple of [`RING_UNIT`](crate::RING_UNIT) that is at least
+    /// `cap`. A refusal hands `inner` back.
+    pub fn with_capacity_ringbuf(alloc: Global, cap: usize, inner: W) -> Result<Self, MakeError<W>>
+        ensures made { Makes W.log Ring (round cap) (2 ^ 61) inner result }
+        ensures succeeds { cap ≡ 0 → IsOk result }
+    {
+        match Buffer::with_capacity_ringbuf(alloc, cap) {
+            Ok(buf) => Ok(LineWriter::with_buffer(buf, inner)),
+            Err(e) => Err(MakeError(inner, e)),
+        }
+    }
+
+    /// A writer over a buffer of yours. The bytes that `buf` holds are written out first.
+    pub fn with_buffer(buf: Buffer, inner: W) -> Self
+        ensures { result ≡ record { policy = record {}; block = buf; inner = inner; log = W.log inner } }
+    {
+        LineWriter {
+            writer: BufWriter::with_buffer(buf, inner).set_policy(FlushOnNewline),
+        }
+    }
+
+    /// The inner writer.
+    pub fn get_ref(&self) -> &W
+        ensures inner { result.now ≡ self.now.inner }
+        ensures log { W.log result.now ≡ self.now.log }
+    {
+        self.writer.get_ref()
+    }
+
+    /// The inner writer, for changes. What is written through this goes out before the buffered bytes.
+    pub fn get_mut(&mut self) -> &mut W
+        ensures* writes_back { sem 𝓛 (Lends (the_row W.row W.TellWrite.own W.Tell.own) W.row
+            self.entry result (with_inner W.log self.old)) }
+        ensures inner { result.now ≡ self.old.inner }
+        ensures log { W.log result.now ≡ self.old.log }
+    {
+        self.writer.get_mut()
+    }
+
+    /// How many bytes are buffered.
+    pub fn buf_len(&self) -> usize
+        ensures value { result ≡ length self.now.block.bytes }
+        ensures whole { IsBlock self.now.block }
+    {
+        self.writer.buf_len()
+    }
+
+    /// The capacity of the buffer in bytes.
+    pub fn capacity(&self) -> usize
+        ensures value { result ≡ self.now.block.capacity }
+        ensures whole { IsBlock self.now.block }
+    {
+        self.writer.capacity()
+    }
+
+    /// Makes sure that `a` more bytes fit behind those that are buffered. A refusal changes nothing.
+    pub fn reserve(&mut self, a: usize) -> Result<(), GrowError>
+        ensures grown { OnOk result (Reserves a self.old.block self.new.block) }
+        ensures unchanged { OnErr result (self.new.block ≡ self.old.block) }
+        ensures limit { FitsWithin result (capacity_for self.old.block a) self.old.block.limit }
+        ensures succeeds { a ≤ usable self.old.block → IsOk result }
+        ensures others { self.new ≡ with_block self.old self.new.block }
+        ensures whole { IsBlock self.new.block }
+    {
+        self.writer.reserve(a)
+    }
+
+    /// The inner writer and the buffer with the bytes that were not written out. Nothing is sent.
+    ///
+    /// [`BufWriter::into_inner_with_buffer`] is the same call; the original names the two so.
+    pub fn into_inner_with_buf(self) -> (W, Buffer)
+        ensures inner { result.0 ≡ self.inner }
+        ensures log { W.log result.0 ≡ self.log }
+        ensures block { result.1 ≡ self.block }
+    {
+        let LineWriter { writer } = self;
+        writer.into_inner_with_buffer()
+    }
+
+    /// Flushes, and hands the inner writer back; where that fails, the line writer with the bytes that were not sent, and
+    /// the fault.
+    pub fn into_inner(self) -> Result<W, IntoInnerError<Self>>
+        ensures { MatchResult result
+            (InnerOfFlushed W.log W.stretch self (Ok tt)) (λ e. WasFlushed W.log W.stretch self (Err e.1) e.0) }
+    {
+        let LineWriter { writer } = self;
+        match writer.into_inner() {
+            Ok(inner) => Ok(inner),
+            Err(IntoInnerError(writer, e)) => Err(IntoInnerError(LineWriter { writer }, e)),
+        }
+    }
+
+    /// Flushes, and hands the inner writer back, with the fault where that fails. The bytes that were not sent then are
+    /// gone.
+    pub fn into_inner_with_err(self) -> (W, Option<io::Error>)
+        ensures { MatchOption result.1
+            (InnerOfFlushed W.log W.stretch self (Ok tt) result.0)
+            (λ e. InnerOfFlushed W.log W.stretch self (Err e) result.0) }
+    {
+        let LineWriter { writer } = self;
+        writer.into_inner_with_err()
+    }
+
+    /// Sends what is buffered, without a flush of the inner writer, and hands both parts back. Where sending fails,
+    /// `handler` is called once, with the inner writer, the buffer as the fault left it, and the fault.
+    pub fn finish<F: FnOnce(&mut W, &mut Buffer, io::Error)>(self, handler: F) -> (W, Buffer)
+    where
+        requires { F.IsAlwaysCallable handler }
+        ensures { SendsOrHandles W.log W.stretch (λ w b e w' b'. F.post handler w b e tt w' b') self result.0 result.1 }
+    {
+        let LineWriter { writer } = self;
+        writer.finish(handler)
+    }
+}
+
+// Each call is that of a `BufWriter` under the rules of `FlushOnNewline`.
+impl<W: TellWrite> Write for LineWriter<W> {
+    ghost contents = { writer_contents };
+
+    fn write(&mut self, bytes: &[u8]) -> io::Result<usize>
+        ensures bound { WritesAtMost result bytes.now }
+        ensures bytes { WriteAppends (writer_contents self.old) (writer_contents self.new) result bytes.now }
+        ensures in_order { WritesInOrder self.old (taken bytes.now result) self.new }
+        ensures grows { WriteLogGrows self.old.log.writes self.new.log.writes }
+        ensures not_flushed { self.new.log.writes.flushed ≡ self.old.log.writes.flushed }
+        ensures caused { WriteErrorCaused line_rules self.old (length bytes.now) result self.new }
+        ensures empty { result ≡ Ok 0 → 0 < length bytes.now
+            → EmptyWriteCaused line_rules self.old (length bytes.now) self.new }
+        ensures capacity { self.old.block.capacity ≤ self.new.block.capacity }
+        ensures whole { IsBlock self.new.block }
+        ensures steadily { WritesSteadily line_rules self.old (length bytes.now) result self.new }
+        ensures steps { Writes line_rules self.old bytes.now result self.new }
+        ensures stretch { InnerWent W.log W.stretch self.old self.new }
+    {
+        self.writer.write(bytes)
+    }
+
+    fn flush(&mut self) -> io::Result<()>
+        ensures bytes { Keeps (writer_contents self.old) (writer_contents self.new) }
+        ensures in_order { WritesInOrder self.old [] self.new }
+        ensures grows { WriteLogGrows self.old.log.writes self.new.log.writes }
+        ensures ok { OnOk result (IsFlushed self.old self.new) }
+        ensures not_flushed { OnErr result (self.new.log.writes.flushed ≡ self.old.log.writes.flushed) }
+        ensures caused { IfErr result (λ e. SendErrorCaused self.old.log.writes self.new.log.writes (error_kind e)) }
+        ensures capacity { self.new.block.capacity ≡ self.old.block.capacity }
+        ensures whole { IsBlock self.new.block }
+        ensures steps { Flushes self.old result self.new }
+        ensures stretch { InnerWent W.log W.stretch self.old self.new }
+    {
+        self.writer.flush()
+    }
+}
