@@ -13,6 +13,7 @@ pub mod MakeError
 pub mod Buffered
 pub mod Fill
 pub mod BufReader
+pub mod Seek
 pub mod ReaderLaws
 pub mod BufWriter
 pub mod Unwrapping

@@ -1,11 +1,12 @@
 -- Laws of a buffered reader, for the proofs of those who call one.
-use Rattle.std.specs.Prelude.{◌≡◌, ℕ, ◌<◌, ◌≤◌, ◌⊎◌, List, [], ◌++◌, length, take, Result, Ok, Option, None, Some, is_ok, true}
+use Rattle.std.specs.Prelude.{◌≡◌, ℕ, ◌<◌, ◌≤◌, ◌⊎◌, List, [], ◌++◌, length, take, Result, Ok, Err, Option, None, Some, is_ok, true}
 use Rattle.std.proofs.Common.{sym, ap, subst, refl, ◌∙◌, arith, inl, inr, append_assoc, append-nil}
 use Rattle.std.proofs.Math.Seq.{take-length}
 use Rattle.std.specs.declared.io.Error.{Error}
 use Rattle.buffer_redux.specs.Policy.{ReadRules, ReadClaims}
 use Rattle.buffer_redux.specs.Buffered.{Buffered}
 use Rattle.buffer_redux.specs.BufReader.{ReadsInOrder, RanDry, LooksAhead, FillsToMinimum, Fills}
+use Rattle.buffer_redux.specs.Seek.{SeekLeaves}
 
 -- no call hands out nothing, and two stretches of calls join
 pub ReadsInOrder-none : {S P : Type 0} (s : Buffered S P) → ReadsInOrder s [] s
@@ -74,3 +75,26 @@ pub Fills-ahead : {S P A : Type 0} (rules : ReadRules P) (n : ℕ) (s : Buffered
     (t : Buffered S P) → Fills rules s answer t → (rules.claims s.policy).minimum ≡ Some n
     → FillsToMinimum n s (is_ok answer) t
 Fills-ahead rules n s answer t fills claimed = subst (λ o. LooksAhead o s (is_ok answer) t) claimed fills.ahead
+
+-- an Ok seek drops what was buffered as if it had been handed out, and nothing is given in it. From there on
+-- `ReadsInOrder-fresh` says what is handed out
+pub ReadsInOrder-seek : {S P : Type 0} (s : Buffered S P) (n : ℕ) (t : Buffered S P) → SeekLeaves s (Ok n) t
+    → ReadsInOrder s s.block.bytes t
+ReadsInOrder-seek s n t leaves = record {
+  got = [];
+  given = ap (λ l. l.given) leaves.reads ∙ sym (append-nil s.log.reads.given);
+  equal = ap (λ l. s.block.bytes ++ l) leaves.ok.bytes;
+}
+
+-- a failed seek drops all of it, or nothing
+pub ReadsInOrder-failed_seek : {S P : Type 0} (s : Buffered S P) (e : Error) (t : Buffered S P)
+    → SeekLeaves {A = ℕ} s (Err e) t → ReadsInOrder s [] t ⊎ ReadsInOrder s s.block.bytes t
+ReadsInOrder-failed_seek s e t leaves =
+    let given : t.log.reads.given ≡ s.log.reads.given ++ [] =
+    ap (λ l. l.given) leaves.reads ∙ sym (append-nil s.log.reads.given) in
+    elim leaves.err [
+      | inl left ↦ inl (record
+          { got = []; given = given; equal = ap (λ b. b.bytes) left ∙ sym (append-nil s.block.bytes) })
+      | inr cleared ↦ inr (record
+          { got = []; given = given; equal = ap (λ l. s.block.bytes ++ l) cleared.bytes })
+    ]

@@ -24,6 +24,10 @@ use std::io;
 use std::io::{BufRead, Read};
 use std::marker::Model;
 
+mod seek;
+
+pub use seek::{SeekPlan, seek_plan};
+
 /// A reader with a buffer, which reads ahead as its policy says.
 ///
 /// No byte is lost or changes place: what was handed out, then what is buffered, is what was buffered at first, then

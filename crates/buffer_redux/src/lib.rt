@@ -14,7 +14,7 @@ pub mod policy;
 #[cfg(test)]
 mod tests;
 
-pub use buf_reader::BufReader;
+pub use buf_reader::{BufReader, SeekPlan, seek_plan};
 pub use buf_writer::BufWriter;
 pub use errors::{IntoInnerError, MakeError};
 pub use line_writer::LineWriter;

@@ -127,6 +127,16 @@ pub record ConsumesFirst (n : ℕ) (old new : Block) : Type 0 where
   pub kind : new.kind ≡ old.kind
   pub consumed : new.consumed ≡ old.consumed + min n (length old.bytes)
 
+-- all bytes are dropped, and none is moved
+pub record Clears (old new : Block) : Type 0 where
+  pub bytes : new.bytes ≡ []
+  pub usable : usable new ≡ old.capacity
+  pub capacity : new.capacity ≡ old.capacity
+  pub limit : new.limit ≡ old.limit
+  pub kind : new.kind ≡ old.kind
+  pub consumed : new.consumed ≡ old.consumed + length old.bytes
+  pub moved : new.moved ≡ old.moved
+
 -- there is usable space for a more bytes, and what was added to it is zeros
 pub record Reserves (a : ℕ) (old new : Block) : Type 0 where
   pub bytes : new.bytes ≡ old.bytes

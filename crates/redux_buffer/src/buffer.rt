@@ -3,7 +3,7 @@ ghost use Rattle.std.specs.Prelude.{◌≡◌, ◌+◌, ◌-◌, ◌*◌, ◌^�
 ghost use Rattle.std.specs.Borrow.{Lends, Array, sem, u8};
 ghost use Rattle.redux_buffer.specs.GrowError.{FitsWithin};
 ghost use Rattle.redux_buffer.specs.contracts.buffer.Buffer.{the_row};
-ghost use Rattle.redux_buffer.specs.Block.{Plain, with_bytes, Ring, IsBlock, IsNew, ConsumesFirst, Reserves, MakesRoom, LeavesBytes, Extends, PushesBytes, OnlyRingMoves, MovesToFront, usable, capacity_for, capacity_to_push, round};
+ghost use Rattle.redux_buffer.specs.Block.{Plain, with_bytes, Ring, IsBlock, IsNew, ConsumesFirst, Clears, Reserves, MakesRoom, LeavesBytes, Extends, PushesBytes, OnlyRingMoves, MovesToFront, usable, capacity_for, capacity_to_push, round};
 
 use crate::DEFAULT_BUF_SIZE;
 use crate::buf_impl::BufImpl;
@@ -227,8 +227,7 @@ impl Buffer {
 
     /// Drops all bytes.
     pub fn clear(&mut self)
-        ensures bytes { ConsumesFirst (length self.old.bytes) self.old self.new }
-        ensures moved { self.new.moved ≡ self.old.moved }
+        ensures bytes { Clears self.old self.new }
         ensures whole { IsBlock self.new }
     {
         let len = self.len();

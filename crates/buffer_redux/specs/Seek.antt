@@ -1,0 +1,49 @@
+-- Which seeks a seek of a buffered reader makes, and what it does to the reader.
+use Rattle.std.specs.Prelude.{◌≡◌, ℕ, ℤ, pos, ◌^◌, ◌-ℤ◌, neg_ℤ, int_le, ◌⊎◌, Result, Err, MatchResult, OnOk, OnErr, if◌then◌else◌}
+use Rattle.std.specs.declared.io.Error.{Error}
+use Rattle.std.specs.declared.io.traits.SeekFrom.{SeekFrom}
+use Rattle.std.specs.declared.io.traits.SeekFrom.TheVariants.{Start, End, Current}
+use Rattle.redux_buffer.specs.Block.{Clears}
+use Rattle.redux_buffer.specs.StreamLog.{after_seek}
+use Rattle.buffer_redux.specs.declared.buf_reader.seek.SeekPlan.{SeekPlan}
+use Rattle.buffer_redux.specs.declared.buf_reader.seek.SeekPlan.TheVariants.{One, Two}
+use Rattle.buffer_redux.specs.Buffered.{Buffered}
+
+-- the least i64
+abbrev pub least_offset : ℤ
+least_offset = neg_ℤ (pos (2 ^ 63))
+
+-- the plan of a seek with len bytes buffered, by which the stream inside is ahead of the reader
+abbrev pub planned : SeekFrom → ℕ → SeekPlan
+planned (Start n) len = One (Start n)
+planned (End n) len = One (End n)
+planned (Current n) len =
+    if int_le least_offset (n -ℤ pos len) then One (Current (n -ℤ pos len)) else Two (neg_ℤ (pos len)) n
+
+-- one seek of the stream inside: an Ok empties the buffer, a fault leaves it
+pub record SeeksOnce {S P : Type 0} (to : SeekFrom) (s : Buffered S P) (answer : Result ℕ Error) (t : Buffered S P)
+    : Type 0 where
+  pub told : t.log ≡ after_seek s.log to answer
+  pub policy : t.policy ≡ s.policy
+  pub block : MatchResult answer (λ _. Clears s.block t.block) (λ _. t.block ≡ s.block)
+
+-- two seeks from where the stream inside is, the second where the first didn't fail
+pub record SeeksTwice {S P : Type 0} (first second : ℤ) (s : Buffered S P) (answer : Result ℕ Error) (t : Buffered S P)
+    : Type 0 where
+  pub between : Buffered S P
+  pub answered : Result ℕ Error
+  pub begun : SeeksOnce (Current first) s answered between
+  pub ended : MatchResult answered (λ _. SeeksOnce (Current second) between answer t)
+      (λ e. (answer ≡ Err e) × (t ≡ between))
+
+abbrev pub Seeks : {S P : Type 0} → SeekPlan → Buffered S P → Result ℕ Error → Buffered S P → Type 0
+Seeks (One to) s answer t = SeeksOnce to s answer t
+Seeks (Two first second) s answer t = SeeksTwice first second s answer t
+
+-- what a seek leaves of the reader: an Ok dropped what was buffered, an Err dropped all of it or nothing, and neither
+-- policy nor reads were touched
+pub record SeekLeaves {S P A : Type 0} (s : Buffered S P) (answer : Result A Error) (t : Buffered S P) : Type 0 where
+  pub policy : t.policy ≡ s.policy
+  pub reads : t.log.reads ≡ s.log.reads
+  pub ok : OnOk answer (Clears s.block t.block)
+  pub err : OnErr answer ((t.block ≡ s.block) ⊎ Clears s.block t.block)

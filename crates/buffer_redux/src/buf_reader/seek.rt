@@ -1,0 +1,75 @@
+//! Seeks of the buffered reader.
+ghost use Rattle.std.specs.Prelude.{◌≡◌, ◌^◌, ◌≤◌, None, length};
+ghost use Rattle.std.specs.Io.KnownBytes.{Keeps};
+ghost use Rattle.std.specs.Io.Seek.{SeekMoves};
+ghost use Rattle.redux_buffer.specs.Block.{IsBlock};
+ghost use Rattle.redux_buffer.specs.StreamLog.{with_fault};
+ghost use Rattle.buffer_redux.specs.Seek.{planned, Seeks, SeeksOnce, SeekLeaves};
+
+use crate::buf_reader::BufReader;
+use redux_buffer::tell::TellSeek;
+use std::io;
+use std::io::{Seek, SeekFrom};
+
+/// Which seeks of the inner reader one seek of a [`BufReader`] is.
+#[derive(Clone, Copy, Debug)]
+pub enum SeekPlan {
+    /// One seek.
+    One(SeekFrom),
+    /// A seek by the first offset from where the inner reader is, and one by the second from there.
+    Two(i64, i64),
+}
+
+/// The plan of a seek to `to` with `len` bytes buffered, which the inner reader is ahead by. An offset from the current
+/// position is so many less; where an `i64` has no such number, the inner reader goes back by `len` first.
+///
+/// `len` is at most 2^62, as is the capacity of every buffer.
+pub fn seek_plan(to: SeekFrom, len: usize) -> SeekPlan
+    requires { len ≤ 2 ^ 62 }
+    ensures { result ≡ planned to len }
+{
+    let SeekFrom::Current(offset) = to else {
+        return SeekPlan::One(to);
+    };
+    let ahead = len as i64;
+    match offset.checked_sub(ahead) {
+        Some(rest) => SeekPlan::One(SeekFrom::Current(rest)),
+        None => SeekPlan::Two(-ahead, offset),
+    }
+}
+
+impl<R: TellSeek, P> BufReader<R, P> {
+    // Empties the buffer where the inner reader sought, and leaves it where that failed.
+    fn seek_once(&mut self, to: SeekFrom) -> io::Result<u64>
+        ensures seeks { SeeksOnce to self.old result self.new }
+        ensures whole { IsBlock self.new.block }
+    {
+        let position = self.inner.seek_told(to)?;
+        self.buf.clear();
+        Ok(position)
+    }
+}
+
+// A `TellSeek` doesn't say where it is, so neither does this one.
+impl<R: TellSeek, P> Seek for BufReader<R, P> {
+    /// Seeks as [`seek_plan`] says, and returns what the last seek returned. The policy is not asked.
+    ///
+    /// An Ok seek drops the buffered bytes. A fault is returned at once: one of the first seek leaves the buffer, one of
+    /// the second leaves it empty.
+    fn seek(&mut self, to: SeekFrom) -> io::Result<u64>
+        ensures moves { SeekMoves None None None to result }
+        ensures bytes { Keeps None None }
+        ensures seeks { Seeks (planned to (length self.old.block.bytes)) self.old result self.new }
+        ensures leaves { SeekLeaves self.old result self.new }
+        ensures caused { self.new.log.seeks.faults ≡ with_fault self.old.log.seeks.faults result }
+        ensures whole { IsBlock self.new.block }
+    {
+        match seek_plan(to, self.buf.len()) {
+            SeekPlan::One(to) => self.seek_once(to),
+            SeekPlan::Two(back, offset) => {
+                self.seek_once(SeekFrom::Current(back))?;
+                self.seek_once(SeekFrom::Current(offset))
+            }
+        }
+    }
+}
