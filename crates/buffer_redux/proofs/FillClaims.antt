@@ -1,5 +1,5 @@
 -- What filling promises under a policy that claims something, and all that it promises.
-use Rattle.std.proofs.Common.{◌≡◌, ℕ, zero, suc, ◌+◌, ◌-◌, ◌<◌, ◌≤◌, true, false, List, [], ◌∷◌, ◌++◌, length, take, Result, Ok, Err, refl, sym, ap, subst, ◌∙◌, arith, inl, inr, append-nil, length-append, Option, None, Some, is_ok}
+use Rattle.std.proofs.Common.{◌≡◌, ℕ, zero, suc, ◌+◌, ◌-◌, ◌≤◌, true, false, List, [], ◌∷◌, ◌++◌, length, take, Result, Ok, Err, refl, sym, ap, subst, ◌∙◌, arith, inl, inr, append-nil, length-append, Option, None, Some, is_ok}
 use Rattle.std.specs.Bool.{⊤}
 use Rattle.std.specs.IoError.{error_kind}
 use Rattle.std.specs.declared.io.Error.{Error}
@@ -10,8 +10,8 @@ use Rattle.buffer_redux.specs.declared.policy.DoRead.{DoRead}
 use Rattle.buffer_redux.specs.Policy.{ReadRules, BeforeRead, no_read, read_now, ReadsToMinimum, ReadsSteadily, Spares, SparesPlain}
 use Rattle.buffer_redux.specs.Buffered.{Buffered}
 use Rattle.buffer_redux.specs.Fill.{Turns, Ends, Filled}
-use Rattle.buffer_redux.specs.BufReader.{LooksAhead, FillsToMinimum, SteadyFill, FillsSteadily, FillsSparing, PotentialHeld, Fills}
-use Rattle.buffer_redux.proofs.FillFacts.{TurnsFacts, turns_facts, filled_facts, asked_once, zero_rose, full_empty}
+use Rattle.buffer_redux.specs.BufReader.{LooksAhead, FillsToMinimum, SteadyFill, PotentialHeld, Fills}
+use Rattle.buffer_redux.proofs.FillFacts.{turns_facts, filled_facts, asked_once, zero_rose, full_empty}
 
 on_kind : (k k' : Kind) (X Y Z : Type 0) → k' ≡ k → (X → Y → Z) → OnKind k X ⊤ → OnKind k' Y ⊤ → OnKind k Z ⊤
 on_kind Plain k' X Y Z e f x y = f x (subst (λ o. OnKind o Y ⊤) e y)

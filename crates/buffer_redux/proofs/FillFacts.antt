@@ -8,7 +8,7 @@ use Rattle.redux_buffer.specs.Block.{Block, Kind, Plain, Ring, OnKind, IsBlock, 
 use Rattle.redux_buffer.specs.LogGrows.{ReadLogGrows, ReadLogGrows-none, ReadLogGrows-joins, ReadLogGrows-read}
 use Rattle.redux_buffer.specs.StreamLog.{StreamLog, taken, after_read}
 use Rattle.redux_buffer.specs.Transfer.{ReadsOnce, ReadsFrom}
-use Rattle.buffer_redux.specs.Policy.{Lawful, ReadRules, BeforeRead}
+use Rattle.buffer_redux.specs.Policy.{ReadRules, BeforeRead}
 use Rattle.buffer_redux.specs.declared.policy.DoRead.{DoRead}
 use Rattle.buffer_redux.specs.Buffered.{Buffered, GoesDirect, StaysInside}
 use Rattle.buffer_redux.specs.Fill.{Turns, Ends, Filled}

@@ -21,7 +21,7 @@ module _ {S P : Type 0} (tells : S → StreamLog) (stretch : S → S → Type 0)
     (s : Buffered S P) where
   both_left : (sending : Result (Unit {0}) Error) (sent : Buffered S P) (inner : S) (b : Block)
       → MatchResult sending
-          (λ _. (inner ≡ sent.inner) × (b ≡ sent.block)) (λ e. Handled handler sent.inner sent.block e inner b)
+      (λ _. (inner ≡ sent.inner) × (b ≡ sent.block)) (λ e. Handled handler sent.inner sent.block e inner b)
       → (inner ≡ sent.inner) × (b ≡ sent.block)
   both_left (Ok _) sent inner b same = same
   both_left (Err e) sent inner b h =

@@ -1,12 +1,12 @@
 -- What follows from the steps of a write.
-use Rattle.std.proofs.Common.{◌≡◌, ℕ, zero, suc, ◌+◌, ◌<◌, ◌≤◌, ◌⊎◌, List, [], ◌∷◌, ◌++◌, true, length, take, drop, replicate, Result, Ok, Err, refl, sym, ap, ◌∙◌, arith, inl, inr, append-nil, append_assoc, length-append, length-drop, le_refl, min, subst}
+use Rattle.std.proofs.Common.{◌≡◌, ℕ, ◌+◌, ◌<◌, ◌≤◌, List, [], ◌∷◌, ◌++◌, true, length, take, drop, replicate, Result, Ok, Err, sym, ap, ◌∙◌, arith, inl, inr, append-nil, append_assoc, length-append, length-drop, min, subst}
 use Rattle.std.proofs.lemmas.Bool.{cases_lt}
 use Rattle.std.proofs.lemmas.List.{nil_from_length, take-append-drop}
 use Rattle.std.specs.IoError.{error_kind}
 use Rattle.std.specs.declared.io.Error.{Error}
 use Rattle.std.specs.declared.io.ErrorKind.{ErrorKind}
 use Rattle.std.specs.declared.io.ErrorKind.TheVariants.{Interrupted}
-use Rattle.redux_buffer.specs.Block.{Block, IsBlock, usable}
+use Rattle.redux_buffer.specs.Block.{Block, usable}
 use Rattle.redux_buffer.specs.Faults.{SendErrorCaused, FaultedAfter-after}
 use Rattle.redux_buffer.specs.GoesOn.{GoesOn}
 use Rattle.redux_buffer.specs.LogGrows.{WriteLogGrows, WriteLogGrows-none, WriteLogGrows-joins, WriteLogGrows-write}
@@ -175,8 +175,11 @@ module _ {S P : Type 0} where
           prepared = p;
           past = past;
           zero_writes = omega (
-            arith, rose, first.only.zero_writes,
-            ap (λ l. l.writes.zero_writes) p.told, ap (λ l. l.writes.zero_writes) still,
+            arith,
+            rose,
+            first.only.zero_writes,
+            ap (λ l. l.writes.zero_writes) p.told,
+            ap (λ l. l.writes.zero_writes) still,
           );
         }
 

@@ -7,7 +7,7 @@ use Rattle.redux_buffer.specs.Block.{Block, IsBlock, OnKind, ConsumesFirst, Only
 use Rattle.redux_buffer.specs.Potential.{potential}
 use Rattle.redux_buffer.specs.LogGrows.{ReadLogGrows}
 use Rattle.buffer_redux.specs.declared.policy.DoRead.{DoRead}
-use Rattle.buffer_redux.specs.Policy.{ReadRules, ReadClaims, BeforeRead, AfterConsume, no_read, read_now}
+use Rattle.buffer_redux.specs.Policy.{ReadRules, BeforeRead, AfterConsume, no_read, read_now}
 use Rattle.buffer_redux.specs.Buffered.{Buffered}
 
 -- the bytes handed out, then those buffered, are those that were buffered, then those given since

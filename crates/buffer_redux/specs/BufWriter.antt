@@ -168,7 +168,7 @@ pub record SeeksInner {S P : Type 0} (tells : S → StreamLog) (s : Buffered S P
   pub told : t.log ≡ tells t.inner
 
 -- what `seek(to)` does: a flush, whose error it returns, and then one seek of the inner writer to the same place
-pub record Seeks {S P : Type 0} (tells : S → StreamLog) (stretch : S → S → Type 0) (s : Buffered S P) (to : SeekFrom)
+pub record SeeksFlushed {S P : Type 0} (tells : S → StreamLog) (stretch : S → S → Type 0) (s : Buffered S P) (to : SeekFrom)
     (answer : Result ℕ Error) (t : Buffered S P) : Type 0 where
   pub flushing : Result (Unit {0}) Error
   pub left : Buffered S P

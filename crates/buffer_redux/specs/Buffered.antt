@@ -52,12 +52,12 @@ pub record InnerWent {S P : Type 0} (tells : S → StreamLog) (stretch : S → S
   pub told_before : s.log ≡ tells s.inner
   pub told_after : t.log ≡ tells t.inner
 
--- under another policy, with another stream inside, and with another buffer
+-- with another buffer, under another policy, and with another stream inside
+abbrev pub with_block : {S P : Type 0} → Buffered S P → Block → Buffered S P
+with_block b block = record b { block = block }
+
 abbrev pub with_policy : {S P Q : Type 0} → Buffered S P → Q → Buffered S Q
 with_policy b p = record { policy = p; block = b.block; inner = b.inner; log = b.log }
 
 abbrev pub with_inner : {S P : Type 0} → (S → StreamLog) → Buffered S P → S → Buffered S P
 with_inner tells b stream = record b { inner = stream; log = tells stream }
-
-abbrev pub with_block : {S P : Type 0} → Buffered S P → Block → Buffered S P
-with_block b block = record b { block = block }

@@ -10,7 +10,7 @@ use Rattle.redux_buffer.specs.Faults.{SendErrorCaused}
 use Rattle.redux_buffer.specs.StreamLog.{WriteLog, after_write, with_zero}
 use Rattle.buffer_redux.specs.Policy.{WriteRules}
 use Rattle.buffer_redux.specs.Buffered.{Buffered, GoesPast, StaysInside, with_policy}
-use Rattle.buffer_redux.specs.BufWriter.{FlushesAmount, CopiesIn, Wrote, Writes}
+use Rattle.buffer_redux.specs.BufWriter.{FlushesAmount, CopiesIn, Wrote, WriteFaulted, Writes}
 use Rattle.buffer_redux.specs.WriterLaws.{flush_ways, ways_in, FlushesAmount-met}
 
 -- a flush that failed: the bytes that the writer took are gone, and no more
@@ -119,7 +119,9 @@ module _ {S P : Type 0} (amount : ℕ) where
       elim stopped.caused.cause [
         | inl nothing ↦ absurd (omega (arith, nothing.zero_writes, zero))
         | inr fault ↦ absurd (omega (
-          arith, faults, ap length fault.faults,
+          arith,
+          faults,
+          ap length fault.faults,
           length-append (s.log.writes.faults ++ replicate stopped.caused.interrupts Interrupted) (error_kind e ∷ []),
           length-append s.log.writes.faults (replicate stopped.caused.interrupts Interrupted),
         ))
@@ -167,11 +169,17 @@ module _ {S P : Type 0} (rules : WriteRules P) (s : Buffered S P) (bs : List ℕ
         let told = ap (λ l. l.writes.zero_writes) p.told in
         elim (ways_in wrote.before.block (length bs)) [
           | inl past ↦ omega (
-            arith, told, met.only.zero_writes, ap (λ l. l.writes.zero_writes) (wrote.took_in.past past).told,
+            arith,
+            told,
+            met.only.zero_writes,
+            ap (λ l. l.writes.zero_writes) (wrote.took_in.past past).told,
             zero_rises wrote.before.log.writes.zero_writes n bs,
           )
           | inr inside ↦ omega (
-            arith, told, met.only.zero_writes, ap (λ l. l.writes.zero_writes) (wrote.took_in.inside inside).told,
+            arith,
+            told,
+            met.only.zero_writes,
+            ap (λ l. l.writes.zero_writes) (wrote.took_in.inside inside).told,
           )
         ]
 
@@ -183,11 +191,17 @@ module _ {S P : Type 0} (rules : WriteRules P) (s : Buffered S P) (bs : List ℕ
         let more = length-append p.seen.log.writes.faults (replicate met.times Interrupted) in
         elim (ways_in wrote.before.block (length bs)) [
           | inl past ↦ omega (
-            arith, told, more, ap length met.only.faults,
+            arith,
+            told,
+            more,
+            ap length met.only.faults,
             ap (λ l. length l.writes.faults) (wrote.took_in.past past).told,
           )
           | inr inside ↦ omega (
-            arith, told, more, ap length met.only.faults,
+            arith,
+            told,
+            more,
+            ap length met.only.faults,
             ap (λ l. length l.writes.faults) (wrote.took_in.inside inside).told,
           )
         ]
@@ -209,3 +223,12 @@ pub Writes-exactly : {S P : Type 0} (rules : WriteRules P) (s : Buffered S P) (b
     (t : Buffered S P) → Writes rules s bs answer t → IfOk answer (λ n. WroteExactly rules s bs n t)
 Writes-exactly rules s bs (Ok n) t wrote = Wrote-exactly rules s bs n t wrote
 Writes-exactly rules s bs (Err e) t failed = tt
+
+-- a write that failed as it took bytes in had gone past the buffer, and offered all of them
+pub WriteFaulted-past : {S P : Type 0} (rules : WriteRules P) (s : Buffered S P) (bs : List ℕ) (e : Error)
+    (t : Buffered S P) (faulted : WriteFaulted rules s bs e t)
+    → GoesPast faulted.before.block (length bs) × (t.log ≡ after_write faulted.before.log bs (Err e))
+WriteFaulted-past rules s bs e t faulted = elim (ways_in faulted.before.block (length bs)) [
+  | inl past ↦ (past, (faulted.took_in.past past).told)
+  | inr inside ↦ (let odd = (faulted.took_in.inside inside).answered in cc)
+]

@@ -114,6 +114,7 @@ module _ {S P : Type 0} (byte : P → ℕ) (s : Buffered S P) (bs : List ℕ) (n
     (wrote : Wrote (flush_on_rules byte) s bs n t) where
   pub Wrote-flush_on : EachTook s.log.writes t.log.writes → HasNo (byte s.policy) t.block.bytes
   Wrote-flush_on took =
+      let same = asked_policy (flush_on_rules byte) (PolicyStays-flush_on byte) s t bs n wrote in
       let through = wrote.finished.asked.allowed.1 in
       let amount = wrote.finished.amount.0 in
       let within : amount ≤ length wrote.after.block.bytes = elim (cases_lt 0 amount) [
@@ -122,8 +123,9 @@ module _ {S P : Type 0} (byte : P → ℕ) (s : Buffered S P) (bs : List ℕ) (n
       ] in
       let left = (Wrote-left (flush_on_rules byte) s bs n t wrote took).enough within in
       λ k in_range is. through.none_after (amount + k) (omega arith)
-          (omega (arith, in_range, ap length left, length-drop amount wrote.after.block.bytes))
-          (sym (get_or-drop amount wrote.after.block.bytes k 0) ∙ ap (λ l. slice_index l k) (sym left) ∙ is ∙ ap byte (sym (asked_policy (flush_on_rules byte) (PolicyStays-flush_on byte) s t bs n wrote)))
+      (omega (arith, in_range, ap length left, length-drop amount wrote.after.block.bytes))
+      (sym (get_or-drop amount wrote.after.block.bytes k 0) ∙ ap (λ l. slice_index l k) (sym left) ∙ is
+      ∙ ap byte (sym same))
 
 -- a write under `FlushAtLeast` leaves fewer bytes than its number, where each write of the inner writer took
 -- something
@@ -131,13 +133,17 @@ module _ {S P : Type 0} (least : P → ℕ) (s : Buffered S P) (bs : List ℕ) (
     (wrote : Wrote (at_least_rules least) s bs n t) where
   pub Wrote-at_least : EachTook s.log.writes t.log.writes → length t.block.bytes < max (least s.policy) 1
   Wrote-at_least took =
+      let same = asked_policy (at_least_rules least) (PolicyStays-at_least least) s t bs n wrote in
       let amount : wrote.finished.amount.0 ≡ max (length wrote.after.block.bytes) (least s.policy) =
-      wrote.finished.asked.allowed.1 ∙ ap (λ p. max (length wrote.after.block.bytes) (least p)) (asked_policy (at_least_rules least) (PolicyStays-at_least least) s t bs n wrote) in
+      wrote.finished.asked.allowed.1 ∙ ap (λ p. max (length wrote.after.block.bytes) (least p)) same in
       let left = Wrote-left (at_least_rules least) s bs n t wrote took in
       elim (cases_lt (length wrote.after.block.bytes) (least s.policy)) [
         | inl few ↦ omega (arith, few, ap length (left.fewer (omega (arith, few, amount))))
         | inr many ↦ omega (
-          arith, many, amount, ap length (left.enough (omega (arith, many, amount))),
+          arith,
+          many,
+          amount,
+          ap length (left.enough (omega (arith, many, amount))),
           length-drop (wrote.finished.amount.0) wrote.after.block.bytes,
         )
       ]
@@ -163,12 +169,13 @@ module _ {S P : Type 0} (exact : P → ℕ) (s : Buffered S P) (bs : List ℕ) (
 
   pub Wrote-exact-last : EachTook s.log.writes t.log.writes → SentAllOrNone (exact s.policy) wrote.after t
   Wrote-exact-last took =
+      let same = asked_policy (exact_rules exact) (PolicyStays-exact exact) s t bs n wrote in
       let sent = FlushesAmount-exact (wrote.finished.amount.0) (with_policy wrote.after t.policy) t
       (Wrote-flushed (exact_rules exact) s bs n t wrote took) in
       record {
         sent = sent.sent;
         received = sent.received;
-        exact = subst (λ a. AllOrNone a sent.sent) (wrote.finished.asked.allowed.1 ∙ ap exact (asked_policy (exact_rules exact) (PolicyStays-exact exact) s t bs n wrote)) sent.exact;
+        exact = subst (λ a. AllOrNone a sent.sent) (wrote.finished.asked.allowed.1 ∙ ap exact same) sent.exact;
       }
 
   pub Wrote-exact : EachTook s.log.writes t.log.writes → SendsExactly (exact s.policy) bs s.log.writes t.log.writes
@@ -218,6 +225,6 @@ module _ {S P : Type 0} (s : Buffered S P) (bs : List ℕ) where
   pub Writes-exact : (exact : P → ℕ) (answer : Result ℕ Error) (t : Buffered S P)
       → Writes (exact_rules exact) s bs answer t
       → OnOk answer (EachTook s.log.writes t.log.writes
-          → SendsExactly (exact s.policy) bs s.log.writes t.log.writes)
+      → SendsExactly (exact s.policy) bs s.log.writes t.log.writes)
   Writes-exact exact (Ok n) t wrote = Wrote-exact exact s bs n t wrote
   Writes-exact exact (Err e) t failed = tt

@@ -20,9 +20,9 @@ use redux_buffer::laws::block_law;
 use redux_buffer::tell::{Tell, TellRead};
 use redux_buffer::{Buffer, DEFAULT_BUF_SIZE, GrowError};
 use std::alloc::Global;
-use std::io;
 use std::io::{BufRead, Read};
 use std::marker::Model;
+use std::{fmt, io};
 
 mod seek;
 
@@ -31,8 +31,8 @@ pub use seek::{SeekPlan, seek_plan};
 /// A reader with a buffer, which reads ahead as its policy says.
 ///
 /// No byte is lost or changes place: what was handed out, then what is buffered, is what was buffered at first, then
-/// what the inner reader gave.
-#[derive(Debug, Drop)]
+/// what the inner reader gave. A seek goes elsewhere, and drops what is buffered.
+#[derive(Drop)]
 pub struct BufReader<R: Tell, P = StdPolicy> {
     buf: Buffer,
     inner: R,
@@ -309,6 +309,18 @@ impl<R: TellRead, P: ReaderPolicy> BufRead for BufReader<R, P> {
         let amt = amount.min(self.buf.len());
         self.buf.consume(amt);
         self.policy.after_consume(&mut self.buf, amt);
+    }
+}
+
+/// The reader, how much is buffered of which capacity, and the policy; not the bytes.
+impl<R: Tell + fmt::Debug, P: fmt::Debug> fmt::Debug for BufReader<R, P> {
+    fn fmt<W: fmt::Write>(&self, f: &mut fmt::Formatter<W>) -> fmt::Result {
+        f.debug_struct("BufReader")
+            .field("reader", &self.inner)
+            .field("buf_len", &self.buf.len())
+            .field("capacity", &self.buf.capacity())
+            .field("policy", &self.policy)
+            .finish()
     }
 }
 

@@ -12,7 +12,7 @@ ghost use Rattle.redux_buffer.specs.LogGrows.{WriteLogGrows};
 ghost use Rattle.redux_buffer.specs.StreamLog.{taken};
 ghost use Rattle.buffer_redux.specs.contracts.buf_writer.BufWriter.{the_row};
 ghost use Rattle.buffer_redux.specs.Buffered.{with_block, with_inner, with_policy, InnerWent, Makes};
-ghost use Rattle.buffer_redux.specs.BufWriter.{writer_contents, FlushesAmount, TakesIn, Finished, Writes, WritesSteadily, WritesInOrder, WriteErrorCaused, EmptyWriteCaused, Flushes, IsFlushed, Seeks, IsSought, SeekErrorCaused};
+ghost use Rattle.buffer_redux.specs.BufWriter.{writer_contents, FlushesAmount, TakesIn, Finished, Writes, WritesSteadily, WritesInOrder, WriteErrorCaused, EmptyWriteCaused, Flushes, IsFlushed, SeeksFlushed, IsSought, SeekErrorCaused};
 
 use crate::errors::MakeError;
 use crate::policy::{FlushAmt, StdPolicy, WriterPolicy};
@@ -20,9 +20,9 @@ use redux_buffer::laws::block_law;
 use redux_buffer::tell::{TellSeek, TellWrite};
 use redux_buffer::{Buffer, DEFAULT_BUF_SIZE, GrowError};
 use std::alloc::Global;
-use std::io;
 use std::io::{Seek, SeekFrom, Write};
 use std::marker::Model;
+use std::{fmt, io};
 
 mod unwrapping;
 
@@ -30,7 +30,9 @@ mod unwrapping;
 ///
 /// No byte is lost or changes place: what the inner writer received, then what is buffered, is what was buffered at
 /// first, then what was accepted.
-#[derive(Debug)]
+///
+/// A writer that is dropped sends what is buffered, without a flush of the inner writer, and forgets a fault; the bytes
+/// that were not sent then are lost. [`finish`](BufWriter::finish) does the same and tells of a fault.
 pub struct BufWriter<W: TellWrite, P = StdPolicy> {
     buf: Buffer,
     inner: W,
@@ -151,26 +153,28 @@ impl<W: TellWrite, P> BufWriter<W, P> {
         self.buf.capacity()
     }
 
-    /// Makes sure that `a` more bytes fit behind those that are buffered. A refusal changes nothing.
-    pub fn reserve(&mut self, a: usize) -> Result<(), GrowError>
-        ensures grown { OnOk result (Reserves a self.old.block self.new.block) }
-        ensures unchanged { OnErr result (self.new.block ≡ self.old.block) }
-        ensures limit { FitsWithin result (capacity_for self.old.block a) self.old.block.limit }
-        ensures succeeds { a ≤ usable self.old.block → IsOk result }
-        ensures others { self.new ≡ with_block self.old self.new.block }
-        ensures whole { IsBlock self.new.block }
-    {
-        self.buf.reserve(a)
-    }
-
-    /// Makes all free space usable: a plain buffer moves its bytes to the front, a ring does nothing.
+    /// Makes all free space of the buffer usable: a plain one moves its bytes to the front, a ring does nothing.
     pub fn make_room(&mut self)
-        ensures bytes { MakesRoom self.old.block self.new.block }
+        ensures room { MakesRoom self.old.block self.new.block }
         ensures moved { MovesToFront self.old.block self.new.block }
+        ensures in_order { WritesInOrder self.old [] self.new }
         ensures others { self.new ≡ with_block self.old self.new.block }
         ensures whole { IsBlock self.new.block }
     {
         self.buf.make_room();
+    }
+
+    /// Makes sure that `a` more bytes fit behind those that are buffered. A refusal changes nothing.
+    pub fn reserve(&mut self, a: usize) -> Result<(), GrowError>
+        ensures grown { OnOk result (Reserves a self.old.block self.new.block) }
+        ensures unchanged { OnErr result (self.new ≡ self.old) }
+        ensures limit { FitsWithin result (capacity_for self.old.block a) self.old.block.limit }
+        ensures succeeds { a ≤ usable self.old.block → IsOk result }
+        ensures in_order { WritesInOrder self.old [] self.new }
+        ensures others { self.new ≡ with_block self.old self.new.block }
+        ensures whole { IsBlock self.new.block }
+    {
+        self.buf.reserve(a)
     }
 
     // Sends the first `amount` bytes: none at 0, and none where fewer are buffered.
@@ -195,7 +199,7 @@ impl<W: TellWrite, P> BufWriter<W, P> {
             return self.inner.write_told(bytes);
         }
         if self.buf.usable_space() == 0 {
-            self.buf.make_room();
+            self.make_room();
         }
         Ok(self.buf.copy_from_slice(bytes))
     }
@@ -268,7 +272,7 @@ impl<W: TellWrite + TellSeek, P: WriterPolicy> Seek for BufWriter<W, P> {
         ensures caused { IfErr result (λ e. SeekErrorCaused self.old to e self.new) }
         ensures capacity { self.new.block.capacity ≡ self.old.block.capacity }
         ensures whole { IsBlock self.new.block }
-        ensures steps { Seeks W.log W.stretch self.old to result self.new }
+        ensures steps { SeeksFlushed W.log W.stretch self.old to result self.new }
     {
         self.flush()?;
         self.inner.seek_told(to)
@@ -284,5 +288,16 @@ impl<W: TellWrite + Drop, P: Drop> Drop for BufWriter<W, P> {
             inner: _,
             policy: _,
         } = self;
+    }
+}
+
+impl<W: TellWrite + fmt::Debug, P: fmt::Debug> fmt::Debug for BufWriter<W, P> {
+    fn fmt<F: fmt::Write>(&self, f: &mut fmt::Formatter<F>) -> fmt::Result {
+        f.debug_struct("BufWriter")
+            .field("writer", &self.inner)
+            .field("buf_len", &self.buf.len())
+            .field("capacity", &self.buf.capacity())
+            .field("policy", &self.policy)
+            .finish()
     }
 }

@@ -1,13 +1,11 @@
 //! Laws, each as the contract of a function over the calls. Those of the buffer come from `redux_buffer`.
 ghost use Rattle.std.specs.Prelude.{◌≡◌, ◌<◌, [], length, Ok, IfOk, is_ok};
-ghost use Rattle.buffer_redux.specs.BufReader.{FillsToMinimum, RanDry};
+ghost use Rattle.redux_buffer.specs.StreamLog.{taken};
+ghost use Rattle.buffer_redux.specs.BufReader.{FillsToMinimum, RanDry, ReadErrorCaused, ReadsInOrder};
+ghost use Rattle.buffer_redux.specs.MinBuffered.{min_read_rules};
 ghost use Rattle.buffer_redux.specs.Unwrapping.{KeepsUnsent};
 
 mod writes;
-
-pub use writes::{
-    flush_at_least_law, flush_exact_law, flush_on_law, flush_on_newline_law, write_law,
-};
 
 use crate::buf_reader::BufReader;
 use crate::buf_writer::BufWriter;
@@ -17,6 +15,9 @@ pub use redux_buffer::laws::{copy_through, make_room_again, ring_law};
 use redux_buffer::tell::{Tell, TellRead, TellWrite};
 use std::io;
 use std::io::{BufRead, Read};
+pub use writes::{
+    flush_at_least_law, flush_exact_law, flush_on_law, flush_on_newline_law, write_law,
+};
 
 /// A reader that is taken apart and built again is the reader that it was.
 pub fn rebuild_reader<R: Tell>(reader: BufReader<R>) -> BufReader<R>
@@ -40,6 +41,8 @@ pub fn rebuild_writer<W: TellWrite>(writer: BufWriter<W>) -> BufWriter<W>
 pub fn look_ahead<R: TellRead>(reader: &mut BufReader<R, MinBuffered>) -> io::Result<usize>
     ensures shown { IfOk result (λ n. n ≡ length reader.new.block.bytes) }
     ensures ahead { FillsToMinimum reader.old.policy.0 reader.old (is_ok result) reader.new }
+    ensures in_order { ReadsInOrder reader.old [] reader.new }
+    ensures caused { ReadErrorCaused min_read_rules reader.old result reader.new }
 {
     Ok(reader.fill_buf()?.len())
 }
@@ -51,6 +54,8 @@ pub fn read_until_dry<R: TellRead>(
     out: &mut [u8],
 ) -> io::Result<usize>
     ensures ran_dry { result ≡ Ok 0 → 0 < length out.old → 0 < reader.old.policy.0 → RanDry reader.old reader.new }
+    ensures in_order { ReadsInOrder reader.old (taken out.new result) reader.new }
+    ensures caused { ReadErrorCaused min_read_rules reader.old result reader.new }
 {
     reader.read(out)
 }

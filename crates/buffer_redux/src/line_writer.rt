@@ -126,9 +126,10 @@ impl<W: TellWrite> LineWriter<W> {
     /// Makes sure that `a` more bytes fit behind those that are buffered. A refusal changes nothing.
     pub fn reserve(&mut self, a: usize) -> Result<(), GrowError>
         ensures grown { OnOk result (Reserves a self.old.block self.new.block) }
-        ensures unchanged { OnErr result (self.new.block ≡ self.old.block) }
+        ensures unchanged { OnErr result (self.new ≡ self.old) }
         ensures limit { FitsWithin result (capacity_for self.old.block a) self.old.block.limit }
         ensures succeeds { a ≤ usable self.old.block → IsOk result }
+        ensures in_order { WritesInOrder self.old [] self.new }
         ensures others { self.new ≡ with_block self.old self.new.block }
         ensures whole { IsBlock self.new.block }
     {

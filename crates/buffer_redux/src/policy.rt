@@ -27,10 +27,9 @@ mod min_buffered;
 mod writers;
 
 pub use min_buffered::MinBuffered;
-pub use writers::{FlushAtLeast, FlushExact, FlushOn, FlushOnNewline};
-
 use redux_buffer::Buffer;
 use std::io;
+pub use writers::{FlushAtLeast, FlushExact, FlushOn, FlushOnNewline};
 
 /// Whether a `BufReader` is to read into its buffer.
 #[derive(Clone, Copy, Debug)]

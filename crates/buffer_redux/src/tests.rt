@@ -5,6 +5,7 @@ mod lookahead;
 mod makers;
 mod policies;
 mod reader;
+mod seeks;
 mod unwrapping;
 mod writer;
 mod writer_policies;

@@ -2,11 +2,10 @@
 ghost use Rattle.buffer_redux.specs.Policy.{Lawful};
 ghost use Rattle.buffer_redux.specs.WriterPolicies.{EnsuresCapacity, at_least_rules, exact_rules, flush_on_rules};
 
+use super::{FlushAmt, WriterPolicy, flush_when_full};
 use memchr::memrchr;
 use redux_buffer::Buffer;
 use std::io;
-
-use super::{FlushAmt, WriterPolicy, flush_when_full};
 
 /// Flushes as std does before a write, and after it through the last such byte that is buffered.
 #[derive(Debug, Default, Drop)]

@@ -24,10 +24,7 @@ fn taken(lines: &Lines) -> &[u8] {
 
 // A line writer over a buffer of capacity 4 that holds the three bytes `a`, newline, `b`.
 fn holding_a_line(alloc: Global, script: &[Answer]) -> Result<Lines, Fail> {
-    Ok(LineWriter::with_buffer(
-        holding(alloc, 4, b"a\nb")?,
-        told(alloc, script)?,
-    ))
+    Ok(LineWriter::with_buffer(holding(alloc, 4, b"a\nb")?, told(alloc, script)?))
 }
 
 #[test]

@@ -1,7 +1,7 @@
 //! Looking ahead, reading up to a byte, and the calls of a reader that move, grow or free its buffer.
 use crate::policy::{DoRead, MinBuffered, ReaderPolicy, StdPolicy};
 use crate::tests::holding;
-use crate::{BufReader, Buffer, GrowError, laws};
+use crate::{BufReader, Buffer, laws};
 use memchr::memchr;
 use redux_buffer::script::{Answer, ScriptReader};
 use redux_buffer::tell::Told;
@@ -19,8 +19,12 @@ enum Step<'a> {
     Fill(Result<&'a [u8], ErrorKind>),
     // a read into so many bytes, and how many it hands out
     Read(usize, usize),
+    // read_into_buf, and how many bytes came
+    ReadInto(usize),
     Consume(usize),
-    Reserve(usize),
+    MakeRoom,
+    // reserve, and the kind of its refusal
+    Reserve(usize, Result<(), ErrorKind>),
     // the capacity, and how often the source was asked so far
     Stands(usize, usize),
 }
@@ -44,6 +48,10 @@ fn shown<P: ReaderPolicy>(rdr: &mut Reader<P>) -> Result<&[u8], ErrorKind> {
     rdr.fill_buf().map_err(|e| e.kind())
 }
 
+fn reserved<P>(rdr: &mut Reader<P>, amount: usize) -> Result<(), ErrorKind> {
+    rdr.reserve(amount).map_err(|e| io::Error::from(e).kind())
+}
+
 fn asks<P>(rdr: &Reader<P>) -> usize {
     rdr.get_ref().get_ref().offers().len()
 }
@@ -61,8 +69,10 @@ fn walks<P: ReaderPolicy>(
                 assert!(rt; room <= out.len());
                 assert_eq!(rt; rdr.read(&mut out[..room])?, count);
             }
+            Step::ReadInto(count) => assert_eq!(rt; rdr.read_into_buf()?, count),
             Step::Consume(amount) => rdr.consume(amount),
-            Step::Reserve(amount) => rdr.reserve(amount)?,
+            Step::MakeRoom => rdr.make_room(),
+            Step::Reserve(amount, answer) => assert_eq!(rt; reserved(rdr, amount), answer),
             Step::Stands(capacity, count) => {
                 assert_eq!(rt; (rdr.capacity(), asks(rdr)), (capacity, count));
             }
@@ -70,6 +80,9 @@ fn walks<P: ReaderPolicy>(
     }
     Ok(())
 }
+
+// No machine has so many bytes.
+const NO_MACHINE: usize = 1 << 60;
 
 const FROM_ZERO: [u8; 20] = [
     0, 1, 2, 3, 4, 5, 6, 7, 8, 9, 10, 11, 12, 13, 14, 15, 16, 17, 18, 19,
@@ -99,7 +112,7 @@ fn grows_and_moves(rt: HostRuntime) -> Result<(), Fail> {
             &[
                 Step::Fill(Ok(&[0, 1, 2, 3])),
                 Step::Stands(4, 1),
-                Step::Reserve(4),
+                Step::Reserve(4, Ok(())),
                 Step::Stands(8, 1),
                 Step::Fill(Ok(&[0, 1, 2, 3])),
                 Step::Consume(2),
@@ -150,7 +163,7 @@ fn grows_and_moves(rt: HostRuntime) -> Result<(), Fail> {
 // However the bytes come, a fill ends at the minimum, at a fault or where none come.
 #[test]
 fn short_reads(rt: HostRuntime) -> Result<(), Fail> {
-    let rows: [Row<'_>; 4] = [
+    let rows: [Row<'_>; 5] = [
         (
             8,
             4,
@@ -186,6 +199,13 @@ fn short_reads(rt: HostRuntime) -> Result<(), Fail> {
             &[1],
             &[],
             &[Step::Fill(Err(ErrorKind::InvalidInput)), Step::Stands(8, 0)],
+        ),
+        (
+            8,
+            NO_MACHINE,
+            &[1],
+            &[],
+            &[Step::Fill(Err(ErrorKind::OutOfMemory)), Step::Stands(8, 0)],
         ),
     ];
     for (capacity, min, bytes, script, steps) in rows {
@@ -320,21 +340,55 @@ fn up_to_a_byte(rt: HostRuntime) -> Result<(), Fail> {
 }
 
 #[test]
-fn parts(rt: HostRuntime) -> Result<(), Fail> {
+fn room(rt: HostRuntime) -> Result<(), Fail> {
     let buf = holding(rt.alloc(), 4, &[1, 2, 3, 4])?;
-    let mut rdr = reader(rt.alloc(), buf, &[5, 6, 7, 8, 9], &[], MinBuffered(1))?;
-    rdr.consume(2);
-    rdr.make_room();
-    assert_eq!(rt; rdr.read_into_buf()?, 2);
-    assert!(rt; matches!(rdr.reserve(usize::MAX), Err(GrowError::TooLarge)));
-    rdr.reserve(1)?;
-    assert_eq!(rt; rdr.capacity(), 5);
-    assert_eq!(rt; laws::look_ahead(&mut rdr)?, 4);
-    let mut out = [0u8; 4];
-    assert_eq!(rt; laws::read_until_dry(&mut rdr, &mut out)?, 4);
-    assert_eq!(rt; out, [3, 4, 5, 6]);
+    let mut rdr = reader(rt.alloc(), buf, &[5, 6, 7], &[], StdPolicy)?;
+    let steps = [
+        Step::Consume(2),
+        Step::ReadInto(0),
+        Step::MakeRoom,
+        Step::ReadInto(2),
+        Step::Reserve(usize::MAX, Err(ErrorKind::InvalidInput)),
+        Step::Reserve(NO_MACHINE, Err(ErrorKind::OutOfMemory)),
+        Step::Stands(4, 1),
+        Step::Reserve(1, Ok(())),
+        Step::Stands(5, 1),
+        Step::Fill(Ok(&[3, 4, 5, 6])),
+    ];
+    walks(&rt, &mut rdr, &steps)
+}
+
+// The source comes out as it is, and what is buffered is gone.
+#[test]
+fn source(rt: HostRuntime) -> Result<(), Fail> {
+    let buf = holding(rt.alloc(), 4, &[1])?;
+    let rdr = reader(rt.alloc(), buf, &[2], &[], MinBuffered(2))?;
     let text = format!(in rt.alloc(); "{rdr:?}")?;
-    assert!(rt; text.as_str().contains("MinBuffered(1)"));
-    assert_eq!(rt; rdr.into_inner().get_ref().served(), 2);
+    assert!(rt;
+        text.as_str()
+            .ends_with("buf_len: 1, capacity: 4, policy: MinBuffered(2) }")
+    );
+    assert_eq!(rt; rdr.into_inner().get_ref().served(), 0);
+    Ok(())
+}
+
+fn ahead(rdr: &mut Reader<MinBuffered>) -> Result<usize, ErrorKind> {
+    laws::look_ahead(rdr).map_err(|e| e.kind())
+}
+
+fn until_dry(rdr: &mut Reader<MinBuffered>, out: &mut [u8]) -> Result<usize, ErrorKind> {
+    laws::read_until_dry(rdr, out).map_err(|e| e.kind())
+}
+
+#[test]
+fn by_law(rt: HostRuntime) -> Result<(), Fail> {
+    let script = [Answer::ServeEach(1)];
+    let buf = holding(rt.alloc(), 4, &[1])?;
+    let mut rdr = reader(rt.alloc(), buf, &[2, 3], &script, MinBuffered(2))?;
+    assert_eq!(rt; ahead(&mut rdr), Ok(2));
+    let mut out = [0u8; 2];
+    for count in [2, 1, 0] {
+        assert_eq!(rt; until_dry(&mut rdr, &mut out), Ok(count));
+    }
     Ok(())
 }

@@ -19,10 +19,7 @@ const FAULTS: [Answer; 2] = [Answer::Serve(2), Answer::Fail(ErrorKind::Other)];
 // A writer over a buffer of capacity 4 that holds [1, 2, 3].
 fn writer(alloc: Global, script: &[Answer]) -> Result<BufWriter<Stream>, Fail> {
     let inner = Told::new(ScriptWriter::new(alloc, script)?);
-    Ok(BufWriter::with_buffer(
-        holding(alloc, 4, &[1, 2, 3])?,
-        inner,
-    ))
+    Ok(BufWriter::with_buffer(holding(alloc, 4, &[1, 2, 3])?, inner))
 }
 
 // Both parts, how often the handler was called, the last buffer that it was lent, and the last fault.
@@ -117,10 +114,16 @@ fn hands_back(rt: HostRuntime) -> Result<(), Fail> {
     let error = IntoInnerError(7u8, fault());
     assert_eq!(rt; error.error().kind(), ErrorKind::Other);
     let text = format!(in rt.alloc(); "{error}")?;
-    assert_eq!(rt; text.as_str(), format!(in rt.alloc(); "{}", fault())?.as_str());
+    assert_eq!(rt;
+        text.as_str(),
+        format!(in rt.alloc(); "{}", fault())?.as_str()
+    );
     assert!(rt; !format!(in rt.alloc(); "{error:?}")?.is_empty());
     assert_eq!(rt; error.into_inner(), 7);
-    assert_eq!(rt; io::Error::from(IntoInnerError(7u8, fault())).kind(), ErrorKind::Other);
+    assert_eq!(rt;
+        io::Error::from(IntoInnerError(7u8, fault())).kind(),
+        ErrorKind::Other
+    );
     Ok(())
 }
 
@@ -200,14 +203,15 @@ fn over_counts(
         most,
         before_fault,
     });
-    Ok(BufWriter::with_buffer(
-        holding(alloc, 4, &[1, 2, 3])?,
-        inner,
-    ))
+    Ok(BufWriter::with_buffer(holding(alloc, 4, &[1, 2, 3])?, inner))
 }
 
 // Takes a writer apart in one of six ways, and drops the parts. Returns how often the stream was dropped before that.
-fn taken_apart<'a>(wrt: BufWriter<Told<Counting<'a>>>, drops: &'a Cell<usize>, way: usize) -> usize {
+fn taken_apart<'a>(
+    wrt: BufWriter<Told<Counting<'a>>>,
+    drops: &'a Cell<usize>,
+    way: usize,
+) -> usize {
     match way {
         0 => {
             drop(wrt);
@@ -318,7 +322,13 @@ fn sought<W: Seek>(wrt: &mut W, to: SeekFrom) -> Result<u64, ErrorKind> {
 fn seeks_in_vain(rt: HostRuntime) -> Result<(), Fail> {
     // The script of the writes, that of the seeks, what a seek to 5 answers, what was taken, and how many seeks there were.
     let broken = Err(ErrorKind::BrokenPipe);
-    let rows: [(&[Answer], Result<u64, ErrorKind>, Result<u64, ErrorKind>, &[u8], usize); 3] = [
+    let rows: [(
+        &[Answer],
+        Result<u64, ErrorKind>,
+        Result<u64, ErrorKind>,
+        &[u8],
+        usize,
+    ); 3] = [
         (&[], Ok(5), Ok(5), &[1, 2, 3], 1),
         (&[], broken, broken, &[1, 2, 3], 1),
         (&FAULTS, Ok(5), Err(ErrorKind::Other), &[1, 2], 0),

@@ -11,27 +11,27 @@ returns g c =
     record { policy = c.args.self.policy; block = c.write_all.new.self; inner = c.write_all.new.wrt; log = tells c.write_all.new.wrt } in
     elim c.match-write_all.branch [
       | in-Err w ↦ rw (w.inner-is, w.unsent-is) (record {
-          sending = Err w.in-Err.e;
-          sent = sent;
-          sends = rw (← parts.block, ← parts.log) w.in-Err.ensures.sent;
-          went = record { calls = rw (← parts.inner) w.in-Err.ensures.stretch; told_before = rw (← parts.inner) (sym parts.log); told_after = refl };
-          ended = record {
-            lent_inner = _;
-            lent_buffer = _;
-            left_inner = _;
-            left_buffer = _;
-            called = w.handler.ensures;
-            shows_inner = refl;
-            shows_buffer = refl;
-            leaves_inner = refl;
-            leaves_buffer = refl;
-          };
-        })
+        sending = Err w.in-Err.e;
+        sent = sent;
+        sends = rw (← parts.block, ← parts.log) w.in-Err.ensures.sent;
+        went = record { calls = rw (← parts.inner) w.in-Err.ensures.stretch; told_before = rw (← parts.inner) (sym parts.log); told_after = refl };
+        ended = record {
+          lent_inner = _;
+          lent_buffer = _;
+          left_inner = _;
+          left_buffer = _;
+          called = w.handler.ensures;
+          shows_inner = refl;
+          shows_buffer = refl;
+          leaves_inner = refl;
+          leaves_buffer = refl;
+        };
+      })
       | in_default w ↦ rw (w.inner-is, w.unsent-is) (record {
-          sending = Ok tt;
-          sent = sent;
-          sends = rw (← parts.block, ← parts.log) w.in_default.ensures.sent;
-          went = record { calls = rw (← parts.inner) w.in_default.ensures.stretch; told_before = rw (← parts.inner) (sym parts.log); told_after = refl };
-          ended = (refl, refl);
-        })
+        sending = Ok tt;
+        sent = sent;
+        sends = rw (← parts.block, ← parts.log) w.in_default.ensures.sent;
+        went = record { calls = rw (← parts.inner) w.in_default.ensures.stretch; told_before = rw (← parts.inner) (sym parts.log); told_after = refl };
+        ended = (refl, refl);
+      })
     ]

@@ -1,6 +1,6 @@
-use Rattle.std.proofs.Common.{length, Ok, Err, refl, inl, inr}
+use Rattle.std.proofs.Common.{Ok, Err, refl, inl, inr}
 use Rattle.std.proofs.lemmas.Result.{err_from_is_err_and}
-use Rattle.buffer_redux.specs.BufWriter.{Prepared, Writes}
+use Rattle.buffer_redux.specs.BufWriter.{Writes}
 use Rattle.buffer_redux.specs.WriterLaws.{WritesInOrder-contents}
 use Rattle.buffer_redux.proofs.WriterFacts.{writes_keep, writes_claims, writes_caused, wrote_nothing, writes_steadily}
 use Rattle.buffer_redux.proofs.buf_writer.BufWriterWrite.write.Goals as goal
