@@ -4,3 +4,4 @@ pub mod FillClaims
 pub mod WriterFacts
 pub mod Resting
 pub mod Unwrapped
+pub mod WriteOn

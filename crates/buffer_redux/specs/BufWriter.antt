@@ -90,6 +90,28 @@ Writes rules s bs (Ok n) t = Wrote rules s bs n t
 Writes rules s bs (Err e) t =
     WriteRefused rules s bs e t ⊎ (Prepared rules (length bs) s (Err e) t ⊎ WriteFaulted rules s bs e t)
 
+-- the steps after the first question, where the write returned `Ok(n)`
+pub record WroteOn {S P : Type 0} (rules : WriteRules P) (amount : ℕ) (m : Buffered S P) (bs : List ℕ) (n : ℕ)
+    (t : Buffered S P) : Type 0 where
+  pub before : Buffered S P
+  pub after : Buffered S P
+  pub flush : FlushesAmount amount m (Ok tt) before
+  pub took_in : TakesIn bs before (Ok n) after
+  pub finished : Finished rules after t
+
+-- and where the inner writer returned the error to the write past the buffer
+pub record FaultedOn {S P : Type 0} (amount : ℕ) (m : Buffered S P) (bs : List ℕ) (e : Error) (t : Buffered S P)
+    : Type 0 where
+  pub before : Buffered S P
+  pub flush : FlushesAmount amount m (Ok tt) before
+  pub took_in : TakesIn bs before (Err e) t
+
+-- what `write(bs)` does once the policy has answered the amount
+abbrev pub WritesOn : {S P : Type 0} → WriteRules P → ℕ → Buffered S P → List ℕ → Result ℕ Error → Buffered S P
+    → Type 0
+WritesOn rules amount m bs (Ok n) t = WroteOn rules amount m bs n t
+WritesOn rules amount m bs (Err e) t = FlushesAmount amount m (Err e) t ⊎ FaultedOn amount m bs e t
+
 -- an error is the policy's answer, or was caused by the inner writer
 abbrev pub WriteErrorCaused : {S P : Type 0} → WriteRules P → Buffered S P → ℕ → Result ℕ Error → Buffered S P → Type 0
 WriteErrorCaused rules s incoming answer t = IfErr answer (λ e.
@@ -168,8 +190,8 @@ pub record SeeksInner {S P : Type 0} (tells : S → StreamLog) (s : Buffered S P
   pub told : t.log ≡ tells t.inner
 
 -- what `seek(to)` does: a flush, whose error it returns, and then one seek of the inner writer to the same place
-pub record SeeksFlushed {S P : Type 0} (tells : S → StreamLog) (stretch : S → S → Type 0) (s : Buffered S P) (to : SeekFrom)
-    (answer : Result ℕ Error) (t : Buffered S P) : Type 0 where
+pub record SeeksFlushed {S P : Type 0} (tells : S → StreamLog) (stretch : S → S → Type 0)
+    (s : Buffered S P) (to : SeekFrom) (answer : Result ℕ Error) (t : Buffered S P) : Type 0 where
   pub flushing : Result (Unit {0}) Error
   pub left : Buffered S P
   pub flushed : WasFlushed tells stretch s flushing left

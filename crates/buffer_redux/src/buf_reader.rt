@@ -1,5 +1,5 @@
 //! The buffered reader.
-ghost use Rattle.std.specs.Prelude.{◌≡◌, ◌<◌, ◌≤◌, ◌^◌, [], length, take, drop, min, Ok, IfOk, OnOk, OnErr, IsOk};
+ghost use Rattle.std.specs.Prelude.{◌≡◌, ◌<◌, ◌≤◌, ◌^◌, [], ◌++◌, length, take, drop, min, Ok, IfOk, OnOk, OnErr, IsOk};
 ghost use Rattle.std.specs.Borrow.{sem, Lends};
 ghost use Rattle.std.specs.Io.{ReadsAtMost};
 ghost use Rattle.std.specs.Io.BufRead.{Rests};
@@ -244,6 +244,8 @@ impl<R: TellRead, P> BufReader<R, P> {
 }
 
 impl<R: TellRead, P: ReaderPolicy> BufReader<R, P> {
+    // Inlined, so that a call that finds its bytes buffered makes no answer of `fill`.
+    #[inline(always)]
     fn fill(&mut self) -> io::Result<()>
         ensures filled { Filled P.rules self.old result self.new }
         ensures whole { IsBlock self.new.block }
@@ -254,6 +256,23 @@ impl<R: TellRead, P: ReaderPolicy> BufReader<R, P> {
             }
         }
         Ok(())
+    }
+}
+
+impl<R: TellRead, P: ReaderPolicy> BufReader<R, P> {
+    // Hands out the first bytes that are buffered, as many as fit, and tells the policy how many those were.
+    fn hand_out(&mut self, out: &mut [u8]) -> usize
+        ensures count { result ≡ min (length self.old.block.bytes) (length out.old) }
+        ensures copied { out.new ≡ take result self.old.block.bytes ++ drop result out.old }
+        ensures in_order { ReadsInOrder self.old (take result self.old.block.bytes) self.new }
+        ensures grows { ReadLogGrows self.old.log.reads self.new.log.reads }
+        ensures consumed { ReaderConsumes P.rules result self.old self.new }
+        ensures capacity { self.old.block.capacity ≤ self.new.block.capacity }
+        ensures whole { IsBlock self.new.block }
+    {
+        let n = self.buf.copy_to_slice(out);
+        self.policy.after_consume(&mut self.buf, n);
+        n
     }
 }
 
@@ -279,9 +298,7 @@ impl<R: TellRead, P: ReaderPolicy> Read for BufReader<R, P> {
             return self.inner.read_told(out);
         }
         self.fill()?;
-        let n = copy_front(self.buf.buf(), out);
-        self.consume(n);
-        Ok(n)
+        Ok(self.hand_out(out))
     }
 }
 
@@ -315,22 +332,11 @@ impl<R: TellRead, P: ReaderPolicy> BufRead for BufReader<R, P> {
 /// The reader, how much is buffered of which capacity, and the policy; not the bytes.
 impl<R: Tell + fmt::Debug, P: fmt::Debug> fmt::Debug for BufReader<R, P> {
     fn fmt<W: fmt::Write>(&self, f: &mut fmt::Formatter<W>) -> fmt::Result {
-        f.debug_struct("BufReader")
+        f.debug_struct("buffer_redux::BufReader")
             .field("reader", &self.inner)
             .field("buf_len", &self.buf.len())
             .field("capacity", &self.buf.capacity())
             .field("policy", &self.policy)
             .finish()
     }
-}
-
-// Copies the front of `from` into `out`, and returns how many bytes fitted.
-fn copy_front(from: &[u8], out: &mut [u8]) -> usize
-    ensures count { result ≡ min (length out.old) (length from.now) }
-    ensures bytes { take result out.new ≡ take result from.now }
-    ensures rest { drop result out.new ≡ drop result out.old }
-{
-    let n = out.len().min(from.len());
-    out[..n].copy_from_slice(&from[..n]);
-    n
 }

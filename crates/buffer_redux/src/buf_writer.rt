@@ -12,7 +12,7 @@ ghost use Rattle.redux_buffer.specs.LogGrows.{WriteLogGrows};
 ghost use Rattle.redux_buffer.specs.StreamLog.{taken};
 ghost use Rattle.buffer_redux.specs.contracts.buf_writer.BufWriter.{the_row};
 ghost use Rattle.buffer_redux.specs.Buffered.{with_block, with_inner, with_policy, InnerWent, Makes};
-ghost use Rattle.buffer_redux.specs.BufWriter.{writer_contents, FlushesAmount, TakesIn, Finished, Writes, WritesSteadily, WritesInOrder, WriteErrorCaused, EmptyWriteCaused, Flushes, IsFlushed, SeeksFlushed, IsSought, SeekErrorCaused};
+ghost use Rattle.buffer_redux.specs.BufWriter.{writer_contents, FlushesAmount, TakesIn, Finished, Writes, WritesOn, WritesSteadily, WritesInOrder, WriteErrorCaused, EmptyWriteCaused, Flushes, IsFlushed, SeeksFlushed, IsSought, SeekErrorCaused};
 
 use crate::errors::MakeError;
 use crate::policy::{FlushAmt, StdPolicy, WriterPolicy};
@@ -178,18 +178,20 @@ impl<W: TellWrite, P> BufWriter<W, P> {
     }
 
     // Sends the first `amount` bytes: none at 0, and none where fewer are buffered.
+    #[inline(always)]
     fn flush_amount(&mut self, amount: usize) -> io::Result<()>
         ensures flushed { FlushesAmount amount self.old result self.new }
         ensures whole { IsBlock self.new.block }
         ensures stretch { InnerWent W.log W.stretch self.old self.new }
     {
-        if amount > self.buf.len() {
+        if amount == 0 || amount > self.buf.len() {
             return Ok(());
         }
         self.buf.write_max(amount, &mut self.inner)
     }
 
     // Takes bytes in past an empty buffer that is no larger, and else copies those that fit.
+    #[inline(always)]
     fn take_in(&mut self, bytes: &[u8]) -> io::Result<usize>
         ensures took_in { TakesIn bytes.now self.old result self.new }
         ensures whole { IsBlock self.new.block }
@@ -206,7 +208,22 @@ impl<W: TellWrite, P> BufWriter<W, P> {
 }
 
 impl<W: TellWrite, P: WriterPolicy> BufWriter<W, P> {
+    // All of a write but the first question: flushes the amount, takes the bytes in and asks the policy once more.
+    #[inline(never)]
+    fn write_slowly(&mut self, first: usize, bytes: &[u8]) -> io::Result<usize>
+        ensures bound { WritesAtMost result bytes.now }
+        ensures steps { WritesOn P.rules first self.old bytes.now result self.new }
+        ensures whole { IsBlock self.new.block }
+        ensures stretch { InnerWent W.log W.stretch self.old self.new }
+    {
+        self.flush_amount(first)?;
+        let written = self.take_in(bytes)?;
+        self.flush_after();
+        Ok(written)
+    }
+
     // Asks the policy after a write, and flushes the amount that it returns, whether or not that fails.
+    #[inline(always)]
     fn flush_after(&mut self)
         ensures finished { Finished P.rules self.old self.new }
         ensures whole { IsBlock self.new.block }
@@ -220,6 +237,7 @@ impl<W: TellWrite, P: WriterPolicy> BufWriter<W, P> {
 impl<W: TellWrite, P: WriterPolicy> Write for BufWriter<W, P> {
     ghost contents = { writer_contents };
 
+    #[inline(always)]
     fn write(&mut self, bytes: &[u8]) -> io::Result<usize>
         ensures bound { WritesAtMost result bytes.now }
         ensures bytes { WriteAppends (writer_contents self.old) (writer_contents self.new) result bytes.now }
@@ -237,10 +255,13 @@ impl<W: TellWrite, P: WriterPolicy> Write for BufWriter<W, P> {
         ensures stretch { InnerWent W.log W.stretch self.old self.new }
     {
         let FlushAmt(first) = self.policy.before_write(&mut self.buf, bytes.len())?;
-        self.flush_amount(first)?;
-        let written = self.take_in(bytes)?;
+        if first > 0 || bytes.len() >= self.buf.usable_space() {
+            return self.write_slowly(first, bytes);
+        }
+        // Nothing is sent first, and the bytes fit with room to spare.
+        let copied = self.buf.copy_from_slice(bytes);
         self.flush_after();
-        Ok(written)
+        Ok(copied)
     }
 
     fn flush(&mut self) -> io::Result<()>

@@ -1,5 +1,6 @@
 pub mod Walks
 pub mod Ranges
+pub mod Cleared
 pub mod Written
 pub mod Steps
 pub mod Sending

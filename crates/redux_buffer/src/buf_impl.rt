@@ -1,8 +1,8 @@
 //! Either kind of buffer.
-ghost use Rattle.std.specs.Prelude.{◌≡◌, ◌+◌, ◌-◌, ◌^◌, ◌≤◌, ◌<◌, ◌↔◌, ℕ, List, [], ◌++◌, length, min, IsTrue, IfOk, IsOk, OnOk, OnErr};
+ghost use Rattle.std.specs.Prelude.{◌≡◌, ◌+◌, ◌-◌, ◌^◌, ◌≤◌, ◌<◌, ◌↔◌, ℕ, List, [], ◌++◌, length, min, take, drop, IsTrue, IfOk, IsOk, OnOk, OnErr};
 ghost use Rattle.std.specs.Borrow.{Lends, Array, sem, u8};
 ghost use Rattle.redux_buffer.specs.GrowError.{FitsWithin};
-ghost use Rattle.redux_buffer.specs.Block.{Plain, Ring, IsPlaced, IsNew, GrowsToFront, BytesWritten, ConsumesFirst, Reserves, MakesRoom, CountsShift, usable, capacity_for, with_tail, with_bytes, round};
+ghost use Rattle.redux_buffer.specs.Block.{Plain, Ring, IsPlaced, IsNew, GrowsToFront, BytesWritten, ConsumesFirst, Extends, Reserves, MakesRoom, CountsShift, usable, capacity_for, with_tail, with_bytes, drawn, round};
 ghost use Rattle.redux_buffer.specs.BufImpl.{placed, with_placed};
 ghost use Rattle.redux_buffer.specs.contracts.buf_impl.BufImpl.{the_row};
 
@@ -145,6 +145,35 @@ impl BufImpl {
         match self {
             BufImpl::Std(b) => b.consume(n),
             BufImpl::Ringbuf(b) => b.consume(n),
+        }
+    }
+
+    // Copies the first bytes of `src` behind the bytes, as many as fit there, and returns how many those are. A ring is
+    // drawn back first where `write_buf` would do so.
+    pub(crate) fn append(&mut self, src: &[u8]) -> usize
+        ensures count { result ≡ min (usable (placed self.old).block) (length src.now) }
+        ensures bytes { Extends (take result src.now) (placed self.old).block (placed self.new).block }
+        ensures place { (placed self.new).place ≡ (drawn (placed self.old)).place }
+        ensures moved { (placed self.new).block.moved ≡ (drawn (placed self.old)).block.moved }
+        ensures whole { IsPlaced (placed self.new) }
+    {
+        match self {
+            BufImpl::Std(b) => b.append(src),
+            BufImpl::Ringbuf(b) => b.append(src),
+        }
+    }
+
+    // Copies the first bytes to the front of `out`, as many as fit, drops them, and returns how many those are.
+    pub(crate) fn take_out(&mut self, out: &mut [u8]) -> usize
+        ensures count { result ≡ min (length (placed self.old).block.bytes) (length out.old) }
+        ensures copied { out.new ≡ take result (placed self.old).block.bytes ++ drop result out.old }
+        ensures bytes { ConsumesFirst result (placed self.old).block (placed self.new).block }
+        ensures shift { CountsShift result (placed self.old) (placed self.new) }
+        ensures whole { IsPlaced (placed self.new) }
+    {
+        match self {
+            BufImpl::Std(b) => b.take_out(out),
+            BufImpl::Ringbuf(b) => b.take_out(out),
         }
     }
 

@@ -34,14 +34,6 @@ impl Model for Buffer {
     ghost invariant = { λ b. IsPlaced (placed b.imp) };
 }
 
-// Writes `src` over the front of `room`.
-fn put_front(room: &mut [u8], src: &[u8])
-    requires { length src.now ≤ length room.old }
-    ensures { room.new ≡ src.now ++ drop (length src.now) room.old }
-{
-    room[..src.len()].copy_from_slice(src);
-}
-
 impl Buffer {
     /// An empty plain buffer of [`DEFAULT_BUF_SIZE`] bytes.
     pub fn new(alloc: Global) -> Result<Self, GrowError>
@@ -189,10 +181,7 @@ impl Buffer {
         ensures bytes { Extends (take result src.now) self.old self.new }
         ensures whole { IsBlock self.new }
     {
-        let n = src.len().min(self.imp.usable_space());
-        put_front(self.imp.write_buf(), &src[..n]);
-        self.imp.bytes_written(n);
-        n
+        self.imp.append(src)
     }
 
     /// Copies the first bytes to the front of `out`, as many as fit, drops them, and returns how many those are.
@@ -203,10 +192,7 @@ impl Buffer {
         ensures moved { OnlyRingMoves self.old self.new }
         ensures whole { IsBlock self.new }
     {
-        let n = out.len().min(self.imp.len());
-        out[..n].copy_from_slice(&self.imp.buf()[..n]);
-        self.consume(n);
-        n
+        self.imp.take_out(out)
     }
 
     /// Appends all of `b`, and grows by twice its length where that many bytes cannot be written now. A refusal changes

@@ -1,5 +1,5 @@
 //! The storage of a buffer: bytes that were all written, zeros at first.
-ghost use Rattle.std.specs.Prelude.{◌≡◌, false, ◌+◌, ◌-◌, ◌^◌, ◌≤◌, ◌<◌, ℕ, List, ◌++◌, length, slice_range, replicate, IfOk, IsOk, IsOkUnless, OnOk, OnErr};
+ghost use Rattle.std.specs.Prelude.{◌≡◌, false, ◌+◌, ◌-◌, ◌^◌, ◌≤◌, ◌<◌, ℕ, List, ◌++◌, length, take, drop, slice_range, replicate, IfOk, IsOk, IsOkUnless, OnOk, OnErr};
 ghost use Rattle.std.specs.Borrow.{sem};
 ghost use Rattle.redux_buffer.specs.GrowError.{FitsWithin};
 ghost use Rattle.redux_buffer.specs.RawLends.{lends_all, lends_range};
@@ -76,6 +76,15 @@ impl RawBuf {
         ensures value { result.now ≡ slice_range self.old start end }
     {
         self.buf.slice_mut(start..end)
+    }
+
+    // Writes zeros over the bytes `start..end`.
+    pub(crate) fn clear_range(&mut self, start: usize, end: usize)
+        requires start_le_end { start ≤ end }
+        requires in_bounds { end ≤ length self.old }
+        ensures { self.new ≡ take start self.old ++ (replicate (end - start) 0 ++ drop end self.old) }
+    {
+        self.range_mut(start, end).fill(0);
     }
 
     // A block of `cap` bytes that begins with the bytes `start..end`. They stay here too.

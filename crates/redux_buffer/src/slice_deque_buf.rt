@@ -1,8 +1,8 @@
 //! The ring.
-ghost use Rattle.std.specs.Prelude.{◌≡◌, ◌+◌, ◌-◌, ◌^◌, ◌≤◌, ◌<◌, ◌↔◌, ℕ, List, [], ◌++◌, length, min, IsTrue, IfOk, IsOk, OnOk, OnErr};
+ghost use Rattle.std.specs.Prelude.{◌≡◌, ◌+◌, ◌-◌, ◌^◌, ◌≤◌, ◌<◌, ◌↔◌, ℕ, List, [], ◌++◌, length, min, take, drop, IsTrue, IfOk, IsOk, OnOk, OnErr};
 ghost use Rattle.std.specs.Borrow.{Lends, Array, sem, u8};
 ghost use Rattle.redux_buffer.specs.GrowError.{FitsWithin};
-ghost use Rattle.redux_buffer.specs.Block.{Ring, IsPlaced, IsNew, GrowsToFront, BytesWritten, ConsumesFirst, Reserves, MakesRoom, CountsShift, usable, capacity_for, with_tail, with_bytes, drawn, round};
+ghost use Rattle.redux_buffer.specs.Block.{Ring, IsPlaced, IsNew, GrowsToFront, BytesWritten, ConsumesFirst, Extends, Reserves, MakesRoom, CountsShift, usable, capacity_for, with_tail, with_bytes, drawn, round};
 ghost use Rattle.redux_buffer.specs.contracts.slice_deque_buf.SliceDequeBuf.{the_row};
 
 use crate::count::Count;
@@ -124,6 +124,7 @@ impl SliceDequeBuf {
     }
 
     // Moves the bytes to the front.
+    #[inline(never)]
     fn draw_back(&mut self)
         requires { self.old.block.capacity < self.old.place }
         ensures { self.new ≡ drawn self.old }
@@ -192,6 +193,41 @@ impl SliceDequeBuf {
         self.len -= n;
     }
 
+    // Copies the first bytes of `src` behind the bytes, as many as fit there, and returns how many those are. The bytes
+    // are drawn back first where `write_buf` would do so.
+    pub(crate) fn append(&mut self, src: &[u8]) -> usize
+        ensures count { result ≡ min (usable self.old.block) (length src.now) }
+        ensures bytes { Extends (take result src.now) self.old.block self.new.block }
+        ensures place { self.new.place ≡ (drawn self.old).place }
+        ensures moved { self.new.block.moved ≡ (drawn self.old).block.moved }
+        ensures whole { IsPlaced self.new }
+    {
+        if self.head > self.cap {
+            self.draw_back();
+        }
+        let start = self.head + self.len;
+        let n = src.len().min(self.cap - self.len);
+        self.buf
+            .range_mut(start, start + n)
+            .copy_from_slice(&src[..n]);
+        self.len += n;
+        n
+    }
+
+    // Copies the first bytes to the front of `out`, as many as fit, drops them, and returns how many those are.
+    pub(crate) fn take_out(&mut self, out: &mut [u8]) -> usize
+        ensures count { result ≡ min (length self.old.block.bytes) (length out.old) }
+        ensures copied { out.new ≡ take result self.old.block.bytes ++ drop result out.old }
+        ensures bytes { ConsumesFirst result self.old.block self.new.block }
+        ensures shift { CountsShift result self.old self.new }
+        ensures whole { IsPlaced self.new }
+    {
+        let n = out.len().min(self.len);
+        out[..n].copy_from_slice(&self.buf()[..n]);
+        self.consume(n);
+        n
+    }
+
     /// Does nothing: all free space can be written as it is.
     pub fn make_room(&mut self)
         ensures unchanged { self.new ≡ self.old }
@@ -221,10 +257,17 @@ impl SliceDequeBuf {
             return Err(GrowError::TooLarge);
         }
         let cap = round_up(self.len + a);
-        let end = self.head + self.len;
-        let buf = self.buf.copy_of(self.head, end, 2 * cap)?;
-        self.buf = buf;
-        self.head = 0;
+        if self.head > 0 {
+            // Bytes that have to move anyhow are moved once, into a new block.
+            let end = self.head + self.len;
+            self.buf = self.buf.copy_of(self.head, end, 2 * cap)?;
+            self.head = 0;
+            self.cap = cap;
+            return Ok(());
+        }
+        self.buf.reserve(2 * (cap - self.cap))?;
+        // What the growth adds to the tail may have been written before.
+        self.buf.clear_range(self.cap, cap.min(2 * self.cap));
         self.cap = cap;
         Ok(())
     }

@@ -1,8 +1,8 @@
 //! The plain buffer.
-ghost use Rattle.std.specs.Prelude.{◌≡◌, ◌+◌, ◌-◌, ◌^◌, ◌≤◌, ◌<◌, ◌↔◌, ℕ, List, [], ◌++◌, length, min, IsTrue, IfOk, IsOk, OnOk, OnErr};
+ghost use Rattle.std.specs.Prelude.{◌≡◌, ◌+◌, ◌-◌, ◌^◌, ◌≤◌, ◌<◌, ◌↔◌, ℕ, List, [], ◌++◌, length, min, take, drop, IsTrue, IfOk, IsOk, OnOk, OnErr};
 ghost use Rattle.std.specs.Borrow.{Lends, Array, sem, u8};
 ghost use Rattle.redux_buffer.specs.GrowError.{FitsWithin};
-ghost use Rattle.redux_buffer.specs.Block.{Plain, IsPlaced, IsNew, GrowsToFront, BytesWritten, ConsumesFirst, Reserves, MakesRoom, CountsShift, usable, capacity_for, with_tail, with_bytes};
+ghost use Rattle.redux_buffer.specs.Block.{Plain, IsPlaced, IsNew, GrowsToFront, BytesWritten, ConsumesFirst, Extends, Reserves, MakesRoom, CountsShift, usable, capacity_for, with_tail, with_bytes};
 ghost use Rattle.redux_buffer.specs.contracts.std_buf.StdBuf.{the_row};
 
 use crate::MAX_CAPACITY;
@@ -153,6 +153,36 @@ impl StdBuf {
             self.end = 0;
             self.consumed.add(len);
         }
+    }
+
+    // Copies the first bytes of `src` behind the bytes, as many as fit there, and returns how many those are.
+    pub(crate) fn append(&mut self, src: &[u8]) -> usize
+        ensures count { result ≡ min (usable self.old.block) (length src.now) }
+        ensures bytes { Extends (take result src.now) self.old.block self.new.block }
+        ensures place { self.new.place ≡ self.old.place }
+        ensures moved { self.new.block.moved ≡ self.old.block.moved }
+        ensures whole { IsPlaced self.new }
+        ensures kind { self.new.block.kind ≡ Plain }
+    {
+        let n = src.len().min(self.buf.capacity() - self.end);
+        let end = self.end + n;
+        self.buf.range_mut(self.end, end).copy_from_slice(&src[..n]);
+        self.end = end;
+        n
+    }
+
+    // Copies the first bytes to the front of `out`, as many as fit, drops them, and returns how many those are.
+    pub(crate) fn take_out(&mut self, out: &mut [u8]) -> usize
+        ensures count { result ≡ min (length self.old.block.bytes) (length out.old) }
+        ensures copied { out.new ≡ take result self.old.block.bytes ++ drop result out.old }
+        ensures bytes { ConsumesFirst result self.old.block self.new.block }
+        ensures shift { CountsShift result self.old self.new }
+        ensures whole { IsPlaced self.new }
+    {
+        let n = out.len().min(self.len());
+        out[..n].copy_from_slice(&self.buf()[..n]);
+        self.consume(n);
+        n
     }
 
     /// Moves the bytes to the front, so that all free space can be written.

@@ -5,6 +5,7 @@ use crate::tests::holding;
 use redux_buffer::script::{Answer, ScriptWriter};
 use redux_buffer::tell::Told;
 use std::alloc::Global;
+use std::io;
 use std::io::{ErrorKind, Write};
 use std::process::Abort;
 use std::test::Fail;
@@ -48,12 +49,22 @@ fn writes<P: WriterPolicy>(rt: &impl Abort, wrt: &mut Writer<P>, rows: &[Row<'_>
     }
 }
 
+// A flush sends what is left, and the stream then has all of this.
+fn ends<P: WriterPolicy>(rt: &impl Abort, mut wrt: Writer<P>, sent: &[u8]) -> io::Result<()>
+where
+    P: Drop,
+{
+    wrt.flush()?;
+    assert_eq!(rt; taken(&wrt), sent);
+    Ok(())
+}
+
 fn taken<P>(wrt: &Writer<P>) -> &[u8] {
     wrt.get_ref().get_ref().taken()
 }
 
 // The lengths of the slices that the stream was offered.
-fn offers<P>(wrt: &Writer<P>) -> &[usize] {
+fn offered<P>(wrt: &Writer<P>) -> &[usize] {
     wrt.get_ref().get_ref().offers()
 }
 
@@ -68,15 +79,11 @@ fn flushes_at_least(rt: HostRuntime) -> Result<(), Fail> {
     let mut wrt = reserve(wrt, 7, FlushAtLeast(4))?;
     assert_eq!(rt; wrt.capacity(), 8);
     let six = [1, 2, 3, 4, 5, 6];
-    writes(
-        &rt,
-        &mut wrt,
-        &[
-            (&[2, 3], Ok(2), &[], 3),
-            (&[4, 5, 6], Ok(3), &six, 0),
-            (&[7, 8, 9], Ok(3), &six, 3),
-        ],
-    );
+    writes(&rt, &mut wrt, &[
+        (&[2, 3], Ok(2), &[], 3),
+        (&[4, 5, 6], Ok(3), &six, 0),
+        (&[7, 8, 9], Ok(3), &six, 3),
+    ]);
     wrt.flush()?;
     assert_eq!(rt; taken(&wrt), [1, 2, 3, 4, 5, 6, 7, 8, 9].as_slice());
 
@@ -109,47 +116,47 @@ fn flushes_exactly(rt: HostRuntime) -> Result<(), Fail> {
     assert_eq!(rt; wrt.capacity(), 4);
     let mut wrt = reserve(wrt, 7, FlushExact(4))?;
     assert_eq!(rt; wrt.capacity(), 8);
-    writes(
-        &rt,
-        &mut wrt,
-        &[
-            (&[2, 3], Ok(2), &[], 3),
-            (&[4, 5, 6], Ok(3), &eight[..4], 2),
-            (&[7, 8, 9, 10], Ok(4), &eight, 2),
-        ],
-    );
-    wrt.flush()?;
-    assert_eq!(rt; taken(&wrt), [1, 2, 3, 4, 5, 6, 7, 8, 9, 10].as_slice());
+    writes(&rt, &mut wrt, &[
+        (&[2, 3], Ok(2), &[], 3),
+        (&[4, 5, 6], Ok(3), &eight[..4], 2),
+        (&[7, 8, 9, 10], Ok(4), &eight, 2),
+    ]);
+    ends(&rt, wrt, &[1, 2, 3, 4, 5, 6, 7, 8, 9, 10])?;
+    Ok(())
+}
 
-    // Three bytes go out before the copy, and three after it.
+// Three bytes go out before the copy, and three after it.
+#[test]
+fn flushes_twice(rt: HostRuntime) -> Result<(), Fail> {
+    let eight = [1, 2, 3, 4, 5, 6, 7, 8];
     let mut wrt = writer(rt.alloc(), 8, &eight, &[], FlushExact(3))?;
     writes(&rt, &mut wrt, &[(&[9, 10], Ok(2), &eight[..6], 4)]);
     let (_, buf) = wrt.into_inner_with_buffer();
     assert_eq!(rt; buf.buf(), [7, 8, 9, 10].as_slice());
+    Ok(())
+}
 
-    // Nothing goes out, and no more goes in than fits.
+// Nothing goes out, and no more goes in than fits.
+#[test]
+fn flushes_none(rt: HostRuntime) -> Result<(), Fail> {
     let mut wrt = writer(rt.alloc(), 2, &[], &[], FlushExact(0))?;
-    writes(
-        &rt,
-        &mut wrt,
-        &[
-            (&[1], Ok(1), &[], 1),
-            (&[2], Ok(1), &[], 2),
-            (&[3], Ok(0), &[], 2),
-        ],
-    );
-    wrt.flush()?;
-    assert_eq!(rt; taken(&wrt), [1, 2].as_slice());
+    writes(&rt, &mut wrt, &[(&[1], Ok(1), &[], 1), (&[2], Ok(1), &[], 2), (&[3], Ok(0), &[], 2)]);
+    ends(&rt, wrt, &[1, 2])?;
+    Ok(())
+}
 
+#[test]
+fn offers(rt: HostRuntime) -> Result<(), Fail> {
     // Past the buffer all bytes go out as they are.
+    let six = [1, 2, 3, 4, 5, 6];
     let mut wrt = writer(rt.alloc(), 4, &[], &[], FlushExact(4))?;
-    writes(&rt, &mut wrt, &[(&eight[..6], Ok(6), &eight[..6], 0)]);
-    assert_eq!(rt; offers(&wrt), [6].as_slice());
+    writes(&rt, &mut wrt, &[(&six, Ok(6), &six, 0)]);
+    assert_eq!(rt; offered(&wrt), [6].as_slice());
 
     // What the stream takes byte by byte is asked again until it is three.
     let mut wrt = writer(rt.alloc(), 8, &[], &[Answer::ServeEach(1)], FlushExact(3))?;
-    writes(&rt, &mut wrt, &[(&eight[..4], Ok(4), &eight[..3], 1)]);
-    assert_eq!(rt; offers(&wrt).len(), 3);
+    writes(&rt, &mut wrt, &[(&six[..4], Ok(4), &six[..3], 1)]);
+    assert_eq!(rt; offered(&wrt), [3, 2, 1].as_slice());
     Ok(())
 }
 
@@ -170,49 +177,35 @@ fn makes_room(rt: HostRuntime) -> Result<(), Fail> {
 #[test]
 fn flushes_through(rt: HostRuntime) -> Result<(), Fail> {
     let mut wrt = writer(rt.alloc(), 8, &[], &[], FlushOn(0))?;
-    writes(
-        &rt,
-        &mut wrt,
-        &[
-            (&[1, 2, 3], Ok(3), &[], 3),
-            (&[0, 4, 5], Ok(3), &[1, 2, 3, 0], 2),
-            (&[6, 7, 8, 9, 10, 11, 12], Ok(7), &[1, 2, 3, 0, 4, 5], 7),
-            (
-                &[0],
-                Ok(1),
-                &[1, 2, 3, 0, 4, 5, 6, 7, 8, 9, 10, 11, 12, 0],
-                0,
-            ),
-        ],
-    );
+    writes(&rt, &mut wrt, &[
+        (&[1, 2, 3], Ok(3), &[], 3),
+        (&[0, 4, 5], Ok(3), &[1, 2, 3, 0], 2),
+        (&[6, 7, 8, 9, 10, 11, 12], Ok(7), &[1, 2, 3, 0, 4, 5], 7),
+        (&[0], Ok(1), &[1, 2, 3, 0, 4, 5, 6, 7, 8, 9, 10, 11, 12, 0], 0),
+    ]);
 
     let mut wrt = writer(rt.alloc(), 8, &[], &[], FlushOnNewline)?;
-    writes(
-        &rt,
-        &mut wrt,
-        &[
-            (&[1, 2, 3], Ok(3), &[], 3),
-            (&[10, 4, 5], Ok(3), &[1, 2, 3, 10], 2),
-            (
-                &[6, 7, 8, 9, 10, 11, 12],
-                Ok(7),
-                &[1, 2, 3, 10, 4, 5, 6, 7, 8, 9, 10],
-                2,
-            ),
-            (
-                &[10],
-                Ok(1),
-                &[1, 2, 3, 10, 4, 5, 6, 7, 8, 9, 10, 11, 12, 10],
-                0,
-            ),
-        ],
-    );
+    writes(&rt, &mut wrt, &[
+        (&[1, 2, 3], Ok(3), &[], 3),
+        (&[10, 4, 5], Ok(3), &[1, 2, 3, 10], 2),
+        (&[6, 7, 8, 9, 10, 11, 12], Ok(7), &[1, 2, 3, 10, 4, 5, 6, 7, 8, 9, 10], 2),
+        (&[10], Ok(1), &[1, 2, 3, 10, 4, 5, 6, 7, 8, 9, 10, 11, 12, 10], 0),
+    ]);
 
-    // Of several such bytes the last counts.
+    Ok(())
+}
+
+// Of several such bytes the last counts.
+#[test]
+fn flushes_through_the_last(rt: HostRuntime) -> Result<(), Fail> {
     let mut wrt = writer(rt.alloc(), 8, &[], &[], FlushOn(0))?;
     writes(&rt, &mut wrt, &[(&[0, 1, 0, 2], Ok(4), &[0, 1, 0], 1)]);
+    Ok(())
+}
 
-    // The last flush may fail: what the stream took of it is gone, and no more.
+// The last flush may fail: what the stream took of it is gone, and no more.
+#[test]
+fn last_flush_fails(rt: HostRuntime) -> Result<(), Fail> {
     let script = [Answer::Serve(2), Answer::Fail(ErrorKind::Other)];
     let mut wrt = writer(rt.alloc(), 8, &[], &script, FlushOnNewline)?;
     writes(&rt, &mut wrt, &[(b"ab\ncd", Ok(5), b"ab", 3)]);

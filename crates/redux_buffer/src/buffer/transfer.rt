@@ -13,6 +13,7 @@ use std::io::ErrorKind;
 impl Buffer {
     /// Reads once, into all the space that can be written, and returns how many bytes came. Returns `Ok(0)` and doesn't
     /// ask the reader where there is no such space. A fault of the reader changes nothing.
+    #[inline(never)]
     pub fn read_from<R: TellRead>(&mut self, rdr: &mut R) -> io::Result<usize>
         ensures read { ReadsFrom self.old (R.log rdr.old) result self.new (R.log rdr.new) }
         ensures not_asked { usable self.old ≡ 0 → rdr.new ≡ rdr.old }
@@ -49,6 +50,7 @@ impl Buffer {
     ///
     /// 64 `Interrupted` in a row are retried, and the 65th is returned; a write that takes bytes ends the row. A write
     /// that takes nothing is returned as `WriteZero`. At any fault the buffer has lost just what the writer took.
+    #[inline(never)]
     pub fn write_max<W: TellWrite>(&mut self, max: usize, wrt: &mut W) -> io::Result<()>
         ensures sent { Sends max self.old (W.log wrt.old) result self.new (W.log wrt.new) }
         ensures idle { max ≡ 0 ⊎ (length self.old.bytes ≡ 0)

@@ -1,4 +1,4 @@
-use Rattle.std.proofs.Common.{◌≡◌, ℕ, ◌<◌, [], length, take, min, Ok, Err, inl, inr, refl, sym, ap, subst, ◌∙◌, arith, le_trans}
+use Rattle.std.proofs.Common.{◌≡◌, ℕ, ◌<◌, [], length, take, drop, take_at, length-take-le, Ok, Err, inl, inr, refl, sym, ap, subst, ◌∙◌, arith, le_trans}
 use Rattle.std.proofs.Common.{rules}
 use Rattle.std.proofs.lemmas.Bool.{cases_lt}
 use Rattle.std.proofs.lemmas.Result.{err_from_is_err_and}
@@ -17,17 +17,17 @@ failed g c =
     let f = c.in_err-fill.ensures in
     fills g.P.ReaderPolicy.rules _ _ _ f.whole (filled_err g.P.ReaderPolicy.rules _ _ _ _ _ f.filled)
 
-filled : (g : _) (c : goal.After-consume g) → Fills g.P.ReaderPolicy.rules c.args.self.now (Ok c.copy_front-n.result) c.fill.new.self
+filled : (g : _) (c : goal.After-slice_known-2-1 g) → Fills g.P.ReaderPolicy.rules c.args.self.now (Ok c.hand_out.result) c.fill.new.self
 filled g c =
     let f = c.in_ok-fill.ensures in
-    fills g.P.ReaderPolicy.rules _ _ _ f.whole (filled_ok g.P.ReaderPolicy.rules _ _ c.copy_front-n.result _ f.filled)
+    fills g.P.ReaderPolicy.rules _ _ _ f.whole (filled_ok g.P.ReaderPolicy.rules _ _ c.hand_out.result _ f.filled)
 
 -- where nothing is handed out, the fill showed nothing, and there was capacity
-nothing : (g : _) (c : goal.After-consume g) → c.copy_front-n.result ≡ 0 → 0 < length c.args.out.now → length c.fill.new.self.block.bytes ≡ 0
+nothing : (g : _) (c : goal.After-slice_known-2-1 g) → c.hand_out.result ≡ 0 → 0 < length c.args.out.now → length c.fill.new.self.block.bytes ≡ 0
 nothing g c none some =
-    omega (arith, c.copy_front-n.ensures.count, ap length c.buf.ensures, ap (λ x. length x.block.bytes) c.self-2.view_is, none, some)
+    omega (arith, c.hand_out.ensures.count, none, some)
 
-roomy : (g : _) (c : goal.After-consume g) → length c.fill.new.self.block.bytes ≡ 0 → 0 < c.args.self.now.block.capacity
+roomy : (g : _) (c : goal.After-slice_known-2-1 g) → length c.fill.new.self.block.bytes ≡ 0 → 0 < c.args.self.now.block.capacity
 roomy g c none =
     let s = c.args.self.now in
     let inside : StaysInside s.block (length c.args.out.now) = elim c.else-is_empty.branch [
@@ -72,43 +72,42 @@ pub returns-clause-in_order : goal.returns-clause-in_order
 returns-clause-in_order g c =
     let s = c.args.self.now in
     let m = c.fill.new.self in
-    let t = c.consume.new.self in
-    let same : take c.copy_front-n.result m.block.bytes ≡ take c.copy_front-n.result c.copy_front-n.new.out =
-    ap (λ x. take c.copy_front-n.result x.block.bytes) (sym c.self-2.view_is) ∙ ap (take c.copy_front-n.result) (sym c.buf.ensures) ∙ sym c.copy_front-n.ensures.bytes in
-    ReadsInOrder-joins s m t [] (take c.copy_front-n.result c.copy_front-n.new.out) (filled g c).in_order
-    (subst (λ l. ReadsInOrder m l t) same c.consume.ensures.in_order)
+    let t = c.hand_out.new.self in
+    let n = c.hand_out.result in
+    let front = length-take-le n m.block.bytes (omega (arith, c.hand_out.ensures.count)) in
+    let same : take n m.block.bytes ≡ take n c.hand_out.new.out =
+    sym (ap (take n) c.hand_out.ensures.copied ∙ take_at (take n m.block.bytes) (drop n c.args.out.now) n front) in
+    ReadsInOrder-joins s m t [] (take n c.hand_out.new.out) (filled g c).in_order
+    (subst (λ l. ReadsInOrder m l t) same c.hand_out.ensures.in_order)
 
 pub returns-clause-grows : goal.returns-clause-grows
-returns-clause-grows g c = ReadLogGrows-joins _ _ _ (filled g c).grows c.consume.ensures.grows
+returns-clause-grows g c = ReadLogGrows-joins _ _ _ (filled g c).grows c.hand_out.ensures.grows
 
 pub returns-clause-caused : goal.returns-clause-caused
-returns-clause-caused g c = ap (λ l. l.reads.faults) c.consume.ensures.consumed.told ∙ (filled g c).caused
+returns-clause-caused g c = ap (λ l. l.reads.faults) c.hand_out.ensures.consumed.told ∙ (filled g c).caused
 
 pub returns-clause-empty : goal.returns-clause-empty
 returns-clause-empty g c is some =
     let f = filled g c in
     let none = nothing g c (cc) some in
     let room = roomy g c none in
-    empty_read g.P.ReaderPolicy.rules c.args.self.now c.fill.new.self c.consume.new.self (f.empty refl none) (omega (arith, room, f.capacity)) (ap (λ l. l.reads.zero_answers) c.consume.ensures.consumed.told)
+    empty_read g.P.ReaderPolicy.rules c.args.self.now c.fill.new.self c.hand_out.new.self (f.empty refl none) (omega (arith, room, f.capacity)) (ap (λ l. l.reads.zero_answers) c.hand_out.ensures.consumed.told)
 
 pub returns-clause-ran_dry : goal.returns-clause-ran_dry
 returns-clause-ran_dry g c is some wants =
     let none = nothing g c (cc) some in
     let dry = Fills-empty g.P.ReaderPolicy.rules _ _ _ (filled g c) wants (roomy g c none) none in
-    omega (arith, dry, ap (λ l. l.reads.zero_answers) c.consume.ensures.consumed.told)
+    omega (arith, dry, ap (λ l. l.reads.zero_answers) c.hand_out.ensures.consumed.told)
 
 pub returns-clause-capacity : goal.returns-clause-capacity
-returns-clause-capacity g c = le_trans (filled g c).capacity c.consume.ensures.capacity
+returns-clause-capacity g c = le_trans (filled g c).capacity c.hand_out.ensures.capacity
 
 pub returns-clause-claims : goal.returns-clause-claims
-returns-clause-claims g c = c.consume.ensures.consumed.told_policy.claims ∙ (filled g c).claims
+returns-clause-claims g c = c.hand_out.ensures.consumed.told_policy.claims ∙ (filled g c).claims
 
 pub returns-clause-buffered : goal.returns-clause-buffered
 returns-clause-buffered g c inside = record {
   filled = c.fill.new.self;
   fills = filled g c;
-  handed = (
-    c.copy_front-n.ensures.count ∙ ap (λ l. min (length c.args.out.now) (length l)) c.buf.ensures ∙ ap (λ x. min (length c.args.out.now) (length x.block.bytes)) c.self-2.view_is,
-    c.consume.ensures.consumed,
-  );
+  handed = (omega (arith, c.hand_out.ensures.count), c.hand_out.ensures.consumed);
 }

@@ -1,0 +1,126 @@
+//! The cases of `crates/bench` over the types of Rust's std: `std SHAPE CAPACITY PIECE TOTAL`, all three in bytes. It prints
+//! how many bytes went over.
+use std::hint::black_box;
+use std::io::{self, BufRead, BufReader, BufWriter, Read, Write};
+
+struct Source<'a> {
+    left: &'a [u8],
+}
+
+impl Read for Source<'_> {
+    #[inline(never)]
+    fn read(&mut self, out: &mut [u8]) -> io::Result<usize> {
+        let n = out.len().min(self.left.len());
+        let (given, left) = self.left.split_at(n);
+        out[..n].copy_from_slice(given);
+        self.left = left;
+        Ok(n)
+    }
+}
+
+#[derive(Default)]
+struct Sink {
+    firsts: u64,
+}
+
+impl Write for Sink {
+    #[inline(never)]
+    fn write(&mut self, bytes: &[u8]) -> io::Result<usize> {
+        if let Some(first) = bytes.first() {
+            self.firsts = self.firsts.wrapping_add(u64::from(*first));
+        }
+        Ok(bytes.len())
+    }
+
+    fn flush(&mut self) -> io::Result<()> {
+        Ok(())
+    }
+}
+
+#[inline(never)]
+fn read_to_end(mut reader: impl Read, out: &mut [u8]) -> io::Result<u64> {
+    let mut total = 0;
+    loop {
+        let n = reader.read(out)?;
+        if n == 0 {
+            return Ok(total);
+        }
+        total += n as u64;
+    }
+}
+
+#[inline(never)]
+fn fill_to_end(mut reader: impl BufRead, piece: usize) -> io::Result<u64> {
+    let mut total = 0;
+    loop {
+        let n = reader.fill_buf()?.len().min(piece);
+        if n == 0 {
+            return Ok(total);
+        }
+        reader.consume(n);
+        total += n as u64;
+    }
+}
+
+#[inline(never)]
+fn write_often(mut writer: impl Write, piece: &[u8], least: u64) -> io::Result<u64> {
+    let mut total = 0;
+    while total < least {
+        total += writer.write(piece)? as u64;
+    }
+    writer.flush()?;
+    Ok(total)
+}
+
+#[inline(never)]
+fn copy_to_end(mut reader: impl BufRead, mut writer: impl Write) -> io::Result<u64> {
+    let mut total = 0;
+    loop {
+        let n = writer.write(reader.fill_buf()?)?;
+        if n == 0 {
+            break;
+        }
+        reader.consume(n);
+        total += n as u64;
+    }
+    writer.flush()?;
+    Ok(total)
+}
+
+#[no_mangle]
+#[inline(never)]
+fn measured(shape: &str, capacity: usize, piece: usize, bytes: &[u8]) -> io::Result<u64> {
+    let reader = || BufReader::with_capacity(capacity, Source { left: bytes });
+    let writer = |capacity| BufWriter::with_capacity(capacity, Sink::default());
+    match shape {
+        "read" => read_to_end(reader(), &mut vec![0; piece]),
+        "fill" => fill_to_end(reader(), piece),
+        "write" => write_often(writer(capacity), &bytes[..piece], bytes.len() as u64),
+        "copy" => copy_to_end(reader(), writer(piece)),
+        _ => Ok(0),
+    }
+}
+
+fn noise(total: usize) -> Vec<u8> {
+    let mut state = 1u32;
+    (0..total)
+        .map(|_| {
+            state = state.wrapping_mul(1103515245).wrapping_add(12345);
+            (state >> 16) as u8
+        })
+        .collect()
+}
+
+fn main() -> io::Result<()> {
+    let words: Vec<String> = std::env::args().skip(1).collect();
+    let [shape, numbers @ ..] = words.as_slice() else {
+        return Err(io::ErrorKind::InvalidInput.into());
+    };
+    let numbers: Vec<usize> = numbers.iter().filter_map(|word| word.parse().ok()).collect();
+    let [capacity, piece, total] = numbers[..] else {
+        return Err(io::ErrorKind::InvalidInput.into());
+    };
+    let bytes = black_box(noise(total));
+    println!("{}", measured(shape, capacity, piece, &bytes)?);
+    Ok(())
+}

@@ -1,0 +1,65 @@
+# sh bench/table.sh
+#
+# Proves and builds crates/bench, builds bench/std.rs, and prints a table in Markdown: how many instructions each case takes
+# for a byte that goes over, as callgrind counts them, whatever else the machine does. It needs valgrind; the last column
+# needs rustc. A case is one line of `cases` below; one of a new shape is a function in crates/bench/src/cases.rs and one in
+# bench/std.rs too.
+set -eu
+
+cases='read in pieces of 64|read 8192 64 8388608
+read in pieces of 4096|read 8192 4096 8388608
+fill 16384, consume 100|fill 16384 100 8388608
+write pieces of 16|write 8192 16 8388608
+write pieces of 100|write 8192 100 8388608
+copy through 8192 and 8192|copy 8192 8192 8388608
+copy through 8192 and 16384|copy 8192 16384 8388608
+grow from 4096 to 1 MiB by 4096|grow 4096 4096 1048576'
+
+here=$(cd "$(dirname "$0")" && pwd)
+if ! command -v valgrind > /dev/null; then
+    echo "bench: valgrind is missing, and nothing can be counted without it" >&2
+    exit 1
+fi
+scratch=$(mktemp -d)
+trap 'rm -rf "$scratch"' EXIT
+(cd "$here/../crates/bench" && rt run > "$scratch/built" 2>&1) || {
+    cat "$scratch/built" >&2
+    exit 1
+}
+bench=$here/../crates/bench/out/bench
+rust=
+if command -v rustc > /dev/null; then
+    rustc -C opt-level=3 -C target-cpu=x86-64-v2 -o "$scratch/std" "$here/std.rs"
+    rust=$scratch/std
+else
+    echo "bench: rustc is missing, so the column of Rust's std is empty" >&2
+fi
+
+# Instructions a byte of one program with its words.
+count() {
+    over=$(valgrind --tool=callgrind --callgrind-out-file=/dev/null '--toggle-collect=*measured*' "$@" 2> "$scratch/counted")
+    if [ "$over" = 0 ]; then
+        echo '–'
+    else
+        sed -n 's/.*Collected : //p' "$scratch/counted" | awk -v over="$over" '{ printf "%.3f\n", $1 / over }'
+    fi
+}
+
+echo "| Instructions a byte | plain | ring | the kit's std | Rust's std |"
+echo '|---|---|---|---|---|'
+echo "$cases" | while IFS='|' read -r name words; do
+    # The words are split on purpose, here and below.
+    set -- $words
+    shape=$1
+    shift
+    row="| $name |"
+    for kind in plain ring std; do
+        row="$row $(count "$bench" "$shape" "$kind" "$@") |"
+    done
+    if [ -n "$rust" ]; then
+        row="$row $(count "$rust" "$shape" "$@") |"
+    else
+        row="$row – |"
+    fi
+    echo "$row"
+done

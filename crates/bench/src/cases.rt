@@ -1,0 +1,241 @@
+//! What is measured, and over which types.
+
+use crate::streams::{Sink, Source};
+use buffer_redux::tell::Told;
+use buffer_redux::{BufImpl, BufReader, BufWriter};
+use std::alloc::Global;
+use std::io;
+use std::io::{BufRead, Read, Write};
+
+/// What is done.
+#[derive(Clone, Copy)]
+pub enum Shape {
+    /// Reads into a slice until nothing comes.
+    Read,
+    /// Fills the buffer and consumes a piece of it, until it stays empty.
+    Fill,
+    /// Writes the same bytes again and again, and flushes.
+    Write,
+    /// Copies from a reader to a writer whose capacity is the piece, and flushes.
+    Copy,
+    /// Fills a buffer and lets it grow by a piece, again and again.
+    Grow,
+}
+
+impl Shape {
+    pub fn named(word: &str) -> Option<Shape> {
+        match word {
+            "read" => Some(Shape::Read),
+            "fill" => Some(Shape::Fill),
+            "write" => Some(Shape::Write),
+            "copy" => Some(Shape::Copy),
+            "grow" => Some(Shape::Grow),
+            _ => None,
+        }
+    }
+}
+
+/// Over which types: the two buffers of this project, or std's own.
+#[derive(Clone, Copy)]
+pub enum Kind {
+    Plain,
+    Ring,
+    Std,
+}
+
+impl Kind {
+    pub fn named(word: &str) -> Option<Kind> {
+        match word {
+            "plain" => Some(Kind::Plain),
+            "ring" => Some(Kind::Ring),
+            "std" => Some(Kind::Std),
+            _ => None,
+        }
+    }
+}
+
+/// One case: the capacity of the buffer, and the length of what a call asks for, in bytes.
+#[derive(Clone, Copy)]
+pub struct Case {
+    pub shape: Shape,
+    pub kind: Kind,
+    pub capacity: usize,
+    pub piece: usize,
+}
+
+/// Runs a case over these bytes, and returns how many went over. What is counted is what goes on in here.
+#[inline(never)]
+pub fn measured(alloc: Global, case: &Case, bytes: &[u8]) -> io::Result<u64> {
+    match case.shape {
+        Shape::Read => read(alloc, case, bytes),
+        Shape::Fill => fill(alloc, case, bytes),
+        Shape::Write => write(alloc, case, bytes),
+        Shape::Copy => copy(alloc, case, bytes),
+        Shape::Grow => grow(alloc, case, bytes.len()),
+    }
+}
+
+fn told(bytes: &[u8]) -> Told<Source<'_>> {
+    Told::new(Source { left: bytes })
+}
+
+fn told_sink() -> Told<Sink> {
+    Told::new(Sink::default())
+}
+
+fn read(alloc: Global, case: &Case, bytes: &[u8]) -> io::Result<u64> {
+    let mut piece = vec![in alloc; 0u8; case.piece]?;
+    let out = piece.as_mut_slice();
+    let cap = case.capacity;
+    match case.kind {
+        Kind::Plain => read_to_end(BufReader::with_capacity(alloc, cap, told(bytes))?, out),
+        Kind::Ring => read_to_end(
+            BufReader::with_capacity_ringbuf(alloc, cap, told(bytes))?,
+            out,
+        ),
+        Kind::Std => read_to_end(
+            io::BufReader::with_capacity(alloc, cap, Source { left: bytes })?,
+            out,
+        ),
+    }
+}
+
+#[inline(never)]
+fn read_to_end<R: Read + Drop>(reader: R, out: &mut [u8]) -> io::Result<u64> {
+    let mut reader = reader;
+    let mut total = 0u64;
+    for _ in 0..u64::MAX {
+        let n = reader.read(out)?;
+        if n == 0 {
+            break;
+        }
+        total = total.wrapping_add(n as u64);
+    }
+    Ok(total)
+}
+
+fn fill(alloc: Global, case: &Case, bytes: &[u8]) -> io::Result<u64> {
+    let (cap, piece) = (case.capacity, case.piece);
+    match case.kind {
+        Kind::Plain => fill_to_end(BufReader::with_capacity(alloc, cap, told(bytes))?, piece),
+        Kind::Ring => fill_to_end(
+            BufReader::with_capacity_ringbuf(alloc, cap, told(bytes))?,
+            piece,
+        ),
+        Kind::Std => fill_to_end(
+            io::BufReader::with_capacity(alloc, cap, Source { left: bytes })?,
+            piece,
+        ),
+    }
+}
+
+#[inline(never)]
+fn fill_to_end<R: BufRead + Drop>(reader: R, piece: usize) -> io::Result<u64> {
+    let mut reader = reader;
+    let mut total = 0u64;
+    for _ in 0..u64::MAX {
+        let n = reader.fill_buf()?.len().min(piece);
+        if n == 0 {
+            break;
+        }
+        reader.consume(n);
+        total = total.wrapping_add(n as u64);
+    }
+    Ok(total)
+}
+
+fn write(alloc: Global, case: &Case, bytes: &[u8]) -> io::Result<u64> {
+    let cap = case.capacity;
+    let total = bytes.len() as u64;
+    let piece = &bytes[..case.piece.min(bytes.len())];
+    match case.kind {
+        Kind::Plain => write_often(
+            BufWriter::with_capacity(alloc, cap, told_sink())?,
+            piece,
+            total,
+        ),
+        Kind::Ring => write_often(
+            BufWriter::with_capacity_ringbuf(alloc, cap, told_sink())?,
+            piece,
+            total,
+        ),
+        Kind::Std => write_often(
+            io::BufWriter::with_capacity(alloc, cap, Sink::default())?,
+            piece,
+            total,
+        ),
+    }
+}
+
+#[inline(never)]
+fn write_often<W: Write + Drop>(writer: W, piece: &[u8], least: u64) -> io::Result<u64> {
+    let mut writer = writer;
+    let mut total = 0u64;
+    for _ in 0..u64::MAX {
+        if total >= least {
+            break;
+        }
+        total = total.wrapping_add(writer.write(piece)? as u64);
+    }
+    writer.flush()?;
+    Ok(total)
+}
+
+fn copy(alloc: Global, case: &Case, bytes: &[u8]) -> io::Result<u64> {
+    let (from, to) = (case.capacity, case.piece);
+    match case.kind {
+        Kind::Plain => copy_to_end(
+            BufReader::with_capacity(alloc, from, told(bytes))?,
+            BufWriter::with_capacity(alloc, to, told_sink())?,
+        ),
+        Kind::Ring => copy_to_end(
+            BufReader::with_capacity_ringbuf(alloc, from, told(bytes))?,
+            BufWriter::with_capacity_ringbuf(alloc, to, told_sink())?,
+        ),
+        Kind::Std => copy_to_end(
+            io::BufReader::with_capacity(alloc, from, Source { left: bytes })?,
+            io::BufWriter::with_capacity(alloc, to, Sink::default())?,
+        ),
+    }
+}
+
+#[inline(never)]
+fn copy_to_end<R: BufRead + Drop, W: Write + Drop>(reader: R, writer: W) -> io::Result<u64> {
+    let mut reader = reader;
+    let mut writer = writer;
+    let mut total = 0u64;
+    for _ in 0..u64::MAX {
+        let n = writer.write(reader.fill_buf()?)?;
+        if n == 0 {
+            break;
+        }
+        reader.consume(n);
+        total = total.wrapping_add(n as u64);
+    }
+    writer.flush()?;
+    Ok(total)
+}
+
+// There is no such buffer in std: it answers 0.
+fn grow(alloc: Global, case: &Case, to: usize) -> io::Result<u64> {
+    let (from, by) = (case.capacity, case.piece);
+    match case.kind {
+        Kind::Plain => grow_often(BufImpl::with_capacity(alloc, from)?, by, to),
+        Kind::Ring => grow_often(BufImpl::with_capacity_ringbuf(alloc, from)?, by, to),
+        Kind::Std => Ok(0),
+    }
+}
+
+#[inline(never)]
+fn grow_often(buf: BufImpl, by: usize, to: usize) -> io::Result<u64> {
+    let mut buf = buf;
+    for _ in 0..u64::MAX {
+        if buf.capacity() >= to {
+            break;
+        }
+        let room = buf.usable_space();
+        buf.bytes_written(room);
+        buf.reserve(by)?;
+    }
+    Ok(buf.capacity() as u64)
+}
