@@ -5,3 +5,6 @@ pub mod WriterFacts
 pub mod Resting
 pub mod Unwrapped
 pub mod WriteOn
+pub mod PlayReading
+pub mod PlayWriting
+pub mod WriterCounts

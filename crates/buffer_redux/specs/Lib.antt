@@ -15,10 +15,12 @@ pub mod Fill
 pub mod BufReader
 pub mod Seek
 pub mod ReaderLaws
+pub mod PlayReader
 pub mod BufWriter
 pub mod Unwrapping
 pub mod WriterPolicies
 pub mod LineWriter
 pub mod WriterLaws
+pub mod PlayWriter
 pub mod WriteLaws
 pub mod WriterPolicyLaws

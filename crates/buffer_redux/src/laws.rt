@@ -5,8 +5,10 @@ ghost use Rattle.buffer_redux.specs.BufReader.{FillsToMinimum, RanDry, ReadError
 ghost use Rattle.buffer_redux.specs.MinBuffered.{min_read_rules};
 ghost use Rattle.buffer_redux.specs.Unwrapping.{KeepsUnsent};
 
+mod between;
 mod writes;
 
+pub use between::{rebuild_reader_under, rebuild_writer_under};
 use crate::buf_reader::BufReader;
 use crate::buf_writer::BufWriter;
 use crate::policy::MinBuffered;

@@ -10,6 +10,7 @@ mod buf_writer;
 mod errors;
 pub mod laws;
 mod line_writer;
+pub mod play;
 pub mod policy;
 #[cfg(test)]
 mod tests;

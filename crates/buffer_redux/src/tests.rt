@@ -3,6 +3,7 @@ mod example;
 mod lines;
 mod lookahead;
 mod makers;
+mod play;
 mod policies;
 mod reader;
 mod seeks;

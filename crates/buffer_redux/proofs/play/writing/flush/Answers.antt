@@ -1,0 +1,27 @@
+use Rattle.std.proofs.Common.{Ok, Err, rules}
+use Rattle.buffer_redux.proofs.WriterCounts.{Flushes-counts}
+use Rattle.buffer_redux.proofs.play.writing.flush.Goals as goal
+
+pub returns-in-Ok-clause-step : goal.returns-in-Ok-clause-step
+returns-in-Ok-clause-step g c =
+    let w = c.in-Ok.ensures in
+    record {
+      accepts = record {
+        in_order = w.in_order;
+        grows = w.grows;
+        consumed = Flushes-counts c.args.writer.now (Ok tt) c.flush.new.self w.steps;
+      };
+      answers = w.ok;
+    }
+
+pub returns-in-Err-clause-step : goal.returns-in-Err-clause-step
+returns-in-Err-clause-step g c =
+    let w = c.in-Err.ensures in
+    record {
+      accepts = record {
+        in_order = w.in_order;
+        grows = w.grows;
+        consumed = Flushes-counts c.args.writer.now (Err c.in-Err.e) c.flush.new.self w.steps;
+      };
+      answers = record { error = c.in-Err.e; is_kind = search rules; caused = search rules; steps = w.steps };
+    }

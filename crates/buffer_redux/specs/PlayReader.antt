@@ -1,0 +1,151 @@
+-- The calls of a buffered reader as steps, and whole runs of them.
+use Rattle.std.specs.Prelude.{◌≡◌, ℕ, ◌+◌, ◌<◌, ◌≤◌, List, [], ◌∷◌, ◌++◌, length, take, min, Ok, Err, Bool, MatchBool}
+use Rattle.std.specs.IoError.{error_kind}
+use Rattle.std.specs.declared.io.Error.{Error}
+use Rattle.std.specs.declared.io.ErrorKind.{ErrorKind}
+use Rattle.redux_buffer.specs.declared.grow_error.GrowError.{GrowError}
+use Rattle.redux_buffer.specs.Block.{Reserves, MakesRoom, capacity_for, usable}
+use Rattle.redux_buffer.specs.GrowError.{FitsWithin}
+use Rattle.redux_buffer.specs.LogGrows.{ReadLogGrows}
+use Rattle.redux_buffer.specs.Transfer.{ReadsFrom}
+use Rattle.buffer_redux.specs.declared.play.ReaderCall.{ReaderCall}
+use Rattle.buffer_redux.specs.declared.play.ReaderCall.TheVariants.{Read, Fill, Consume, ReadIntoBuf, MakeRoom, Reserve}
+use Rattle.buffer_redux.specs.declared.play.ReaderAnswer.{ReaderAnswer}
+use Rattle.buffer_redux.specs.declared.play.ReaderAnswer.TheVariants.{Count, Shown, Done, Fault, Refused}
+use Rattle.buffer_redux.specs.Policy.{ReadRules}
+use Rattle.buffer_redux.specs.Buffered.{Buffered, with_block}
+use Rattle.buffer_redux.specs.BufReader.{ReadsInOrder, ReadErrorCaused, EmptyReadCaused, EmptyFillCaused, ReaderConsumes}
+
+-- a reader, and the bytes that were handed out so far
+pub record Handing (S P : Type 0) : Type 0 where
+  pub reader : Buffered S P
+  pub handed : List ℕ
+
+abbrev pub with_handed : {S P : Type 0} → Buffered S P → List ℕ → Handing S P
+with_handed r handed = record { reader = r; handed = handed }
+
+-- `Read(n)` with `Count(k)`: at most n bytes, and all n where bytes stay buffered
+pub record ReadCounted {S P : Type 0} (rules : ReadRules P) (s : Buffered S P) (n k : ℕ) (out : List ℕ)
+    (t : Buffered S P) : Type 0 where
+  pub count : length out ≡ k
+  pub most : k ≤ n
+  pub whole : 0 < length t.block.bytes → k ≡ n
+  pub caused : ReadErrorCaused rules s (Ok k) t
+  pub empty : k ≡ 0 → 0 < n → EmptyReadCaused rules s t
+
+-- `Fill` with `Shown(k)`: all that is buffered was shown
+pub record FillShown {S P : Type 0} (rules : ReadRules P) (s : Buffered S P) (k : ℕ) (out : List ℕ)
+    (t : Buffered S P) : Type 0 where
+  pub none : out ≡ []
+  pub count : k ≡ length t.block.bytes
+  pub caused : ReadErrorCaused rules s (Ok k) t
+  pub empty : k ≡ 0 → EmptyFillCaused rules s t
+
+-- `Read` or `Fill` with `Fault(kind)`: nothing was handed out
+pub record ReadFailed {S P : Type 0} (rules : ReadRules P) (s : Buffered S P) (kind : ErrorKind) (out : List ℕ)
+    (t : Buffered S P) : Type 0 where
+  pub none : out ≡ []
+  pub error : Error
+  pub is_kind : error_kind error ≡ kind
+  pub caused : ReadErrorCaused {A = ℕ} rules s (Err error) t
+
+-- `Consume(n)` with `Count(k)`: the first n bytes, or all; the reader inside was not asked
+pub record ConsumeCounted {S P : Type 0} (rules : ReadRules P) (s : Buffered S P) (n k : ℕ) (out : List ℕ)
+    (t : Buffered S P) : Type 0 where
+  pub count : k ≡ min n (length s.block.bytes)
+  pub front : out ≡ take k s.block.bytes
+  pub consumes : ReaderConsumes rules n s t
+
+-- `ReadIntoBuf` with `Count(k)`: one read into the buffer gave k bytes, or there was no room for one
+pub record IntoBufCounted {S P : Type 0} (s : Buffered S P) (k : ℕ) (out : List ℕ) (t : Buffered S P) : Type 0 where
+  pub none : out ≡ []
+  pub read : ReadsFrom s.block s.log (Ok k) t.block t.log
+
+-- `ReadIntoBuf` with `Fault(kind)`: one read into the buffer met this fault
+pub record IntoBufFailed {S P : Type 0} (s : Buffered S P) (kind : ErrorKind) (out : List ℕ) (t : Buffered S P)
+    : Type 0 where
+  pub none : out ≡ []
+  pub error : Error
+  pub is_kind : error_kind error ≡ kind
+  pub read : ReadsFrom s.block s.log (Err error) t.block t.log
+
+-- `MakeRoom` with `Done`: the same bytes, with all free space usable
+pub record RoomMade {S P : Type 0} (s : Buffered S P) (out : List ℕ) (t : Buffered S P) : Type 0 where
+  pub none : out ≡ []
+  pub room : MakesRoom s.block t.block
+  pub others : t ≡ with_block s t.block
+
+-- `Reserve(a)` with `Done`: the same bytes, with a usable behind them
+pub record ReserveDone {S P : Type 0} (s : Buffered S P) (a : ℕ) (out : List ℕ) (t : Buffered S P) : Type 0 where
+  pub none : out ≡ []
+  pub grown : Reserves a s.block t.block
+  pub enough : a ≤ usable t.block
+  pub others : t ≡ with_block s t.block
+
+-- `Reserve(a)` with `Refused(e)`: it was needed and not had, and nothing changed
+pub record ReserveRefused {S P : Type 0} (s : Buffered S P) (a : ℕ) (e : GrowError) (out : List ℕ)
+    (t : Buffered S P) : Type 0 where
+  pub none : out ≡ []
+  pub needed : usable s.block < a
+  pub limit : FitsWithin {T = Unit {0}} (Err e) (capacity_for s.block a) s.block.limit
+  pub unchanged : t ≡ s
+
+-- what this answer to this call says of the reader before and after, and of the bytes handed out; other pairs are no
+-- steps
+abbrev pub ReaderAnswers : {S P : Type 0} → ReadRules P → Buffered S P → ReaderCall → ReaderAnswer → List ℕ
+    → Buffered S P → Type 0
+ReaderAnswers rules s (Read n) (Count k) out t = ReadCounted rules s n k out t
+ReaderAnswers rules s (Read n) (Fault kind) out t = ReadFailed rules s kind out t
+ReaderAnswers rules s Fill (Shown k) out t = FillShown rules s k out t
+ReaderAnswers rules s Fill (Fault kind) out t = ReadFailed rules s kind out t
+ReaderAnswers rules s (Consume n) (Count k) out t = ConsumeCounted rules s n k out t
+ReaderAnswers rules s ReadIntoBuf (Count k) out t = IntoBufCounted s k out t
+ReaderAnswers rules s ReadIntoBuf (Fault kind) out t = IntoBufFailed s kind out t
+ReaderAnswers rules s MakeRoom Done out t = RoomMade s out t
+ReaderAnswers rules s (Reserve a) Done out t = ReserveDone s a out t
+ReaderAnswers rules s (Reserve a) (Refused e) out t = ReserveRefused s a e out t
+ReaderAnswers rules s call answer out t = ⊥
+
+-- bytes were handed out, and none was lost or changed place; no more were consumed than handed out
+pub record HandsOut {S P : Type 0} (s : Handing S P) (out : List ℕ) (t : Handing S P) : Type 0 where
+  pub handed : t.handed ≡ s.handed ++ out
+  pub in_order : ReadsInOrder s.reader out t.reader
+  pub grows : ReadLogGrows s.reader.log.reads t.reader.log.reads
+  pub consumed : t.reader.block.consumed ≤ s.reader.block.consumed + length out
+
+-- one call with its answer
+pub record ReaderStep {S P : Type 0} (rules : ReadRules P) (s : Handing S P) (call : ReaderCall) (answer : ReaderAnswer)
+    (t : Handing S P) : Type 0 where
+  pub out : List ℕ
+  pub hands_out : HandsOut s out t
+  pub answers : ReaderAnswers rules s.reader call answer out t.reader
+
+-- calls with as many answers, one step after another
+abbrev pub ReaderRuns : {S P : Type 0} → ReadRules P → Handing S P → List ReaderCall → List ReaderAnswer → Handing S P
+    → Type 0
+ReaderRuns rules s [] [] t = s ≡ t
+ReaderRuns {S} {P} rules s (call ∷ calls) (answer ∷ answers) t =
+    (m : Handing S P) × ReaderStep rules s call answer m × ReaderRuns rules m calls answers t
+ReaderRuns rules s [] (answer ∷ answers) t = ⊥
+ReaderRuns rules s (call ∷ calls) [] t = ⊥
+
+-- what was played: the answers that were gained are a run of the first calls, as many as there are answers; at Ok these
+-- are all calls, and else some are left, of which none was begun
+pub record ReaderPlays {S P : Type 0} (rules : ReadRules P) (s : Handing S P) (calls : List ReaderCall)
+    (old : List ReaderAnswer) (ok : Bool) (new : List ReaderAnswer) (t : Handing S P) : Type 0 where
+  pub answers : List ReaderAnswer
+  pub gained : new ≡ old ++ answers
+  pub run : ReaderRuns rules s (take (length answers) calls) answers t
+  pub ended : MatchBool ok (length answers ≡ length calls) (length answers < length calls)
+  pub out : List ℕ
+  pub hands_out : HandsOut s out t
+
+-- how long a slice a call reads into, and how many bytes it may hand out
+abbrev pub room_to_read : ReaderCall → ℕ
+room_to_read (Read n) = n
+room_to_read call = 0
+
+abbrev pub most_handed : {S P : Type 0} → Buffered S P → ReaderCall → ℕ
+most_handed r (Read n) = n
+most_handed r (Consume n) = min n (length r.block.bytes)
+most_handed r call = 0

@@ -1,0 +1,38 @@
+//! What holds between two runs of calls: a reader or a writer goes on where the first run left it.
+ghost use Rattle.std.specs.Prelude.{◌≡◌, ℕ, List};
+ghost use Rattle.buffer_redux.specs.Buffered.{Buffered, with_policy};
+ghost use Rattle.buffer_redux.specs.BufReader.{ReadsInOrder};
+ghost use Rattle.buffer_redux.specs.BufWriter.{WritesInOrder};
+
+use crate::buf_reader::BufReader;
+use crate::buf_writer::BufWriter;
+use crate::policy::{ReaderPolicy, WriterPolicy};
+use redux_buffer::tell::{Tell, TellWrite};
+
+/// A reader that is taken apart, built again and put under another policy. What was handed out up to here, and what is
+/// buffered, is in order as before, so a further run goes on with it.
+pub fn rebuild_reader_under<R: Tell, P: Drop, Q: ReaderPolicy>(
+    reader: BufReader<R, P>,
+    policy: Q,
+) -> BufReader<R, Q>
+    ensures same { result ≡ with_policy reader policy }
+    ensures in_order { (first : Buffered R P) (handed : List ℕ) → ReadsInOrder first handed reader
+        → ReadsInOrder (with_policy first policy) handed result }
+{
+    let (inner, buf) = reader.into_inner_with_buffer();
+    BufReader::with_buffer(buf, inner).set_policy(policy)
+}
+
+/// A writer that is taken apart, built again and put under another policy. What was accepted up to here is in order as
+/// before, and nothing was sent.
+pub fn rebuild_writer_under<W: TellWrite, P: Drop, Q: WriterPolicy>(
+    writer: BufWriter<W, P>,
+    policy: Q,
+) -> BufWriter<W, Q>
+    ensures same { result ≡ with_policy writer policy }
+    ensures in_order { (first : Buffered W P) (accepted : List ℕ) → WritesInOrder first accepted writer
+        → WritesInOrder (with_policy first policy) accepted result }
+{
+    let (inner, buf) = writer.into_inner_with_buffer();
+    BufWriter::with_buffer(buf, inner).set_policy(policy)
+}
