@@ -16,6 +16,7 @@ pub mod BufReader
 pub mod Seek
 pub mod ReaderLaws
 pub mod PlayReader
+pub mod Unbuffer
 pub mod BufWriter
 pub mod Unwrapping
 pub mod WriterPolicies

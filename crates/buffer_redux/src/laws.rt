@@ -8,10 +8,10 @@ ghost use Rattle.buffer_redux.specs.Unwrapping.{KeepsUnsent};
 mod between;
 mod writes;
 
-pub use between::{rebuild_reader_under, rebuild_writer_under};
 use crate::buf_reader::BufReader;
 use crate::buf_writer::BufWriter;
 use crate::policy::MinBuffered;
+pub use between::{rebuild_reader_under, rebuild_writer_under};
 use redux_buffer::Buffer;
 pub use redux_buffer::laws::{copy_through, make_room_again, ring_law};
 use redux_buffer::tell::{Tell, TellRead, TellWrite};

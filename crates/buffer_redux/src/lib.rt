@@ -14,6 +14,7 @@ pub mod play;
 pub mod policy;
 #[cfg(test)]
 mod tests;
+mod unbuffer;
 
 pub use buf_reader::{BufReader, SeekPlan, seek_plan};
 pub use buf_writer::BufWriter;
@@ -23,3 +24,4 @@ pub use redux_buffer::{
     BufImpl, Buffer, Count, DEFAULT_BUF_SIZE, GrowError, INTERRUPT_LIMIT, MAX_CAPACITY, MAX_RING,
     RING_UNIT, RawBuf, SliceDequeBuf, StdBuf, script, tell,
 };
+pub use unbuffer::Unbuffer;

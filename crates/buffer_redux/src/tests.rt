@@ -7,6 +7,7 @@ mod play;
 mod policies;
 mod reader;
 mod seeks;
+mod unbuffer;
 mod unwrapping;
 mod writer;
 mod writer_policies;

@@ -79,11 +79,15 @@ fn flushes_at_least(rt: HostRuntime) -> Result<(), Fail> {
     let mut wrt = reserve(wrt, 7, FlushAtLeast(4))?;
     assert_eq!(rt; wrt.capacity(), 8);
     let six = [1, 2, 3, 4, 5, 6];
-    writes(&rt, &mut wrt, &[
-        (&[2, 3], Ok(2), &[], 3),
-        (&[4, 5, 6], Ok(3), &six, 0),
-        (&[7, 8, 9], Ok(3), &six, 3),
-    ]);
+    writes(
+        &rt,
+        &mut wrt,
+        &[
+            (&[2, 3], Ok(2), &[], 3),
+            (&[4, 5, 6], Ok(3), &six, 0),
+            (&[7, 8, 9], Ok(3), &six, 3),
+        ],
+    );
     wrt.flush()?;
     assert_eq!(rt; taken(&wrt), [1, 2, 3, 4, 5, 6, 7, 8, 9].as_slice());
 
@@ -116,11 +120,15 @@ fn flushes_exactly(rt: HostRuntime) -> Result<(), Fail> {
     assert_eq!(rt; wrt.capacity(), 4);
     let mut wrt = reserve(wrt, 7, FlushExact(4))?;
     assert_eq!(rt; wrt.capacity(), 8);
-    writes(&rt, &mut wrt, &[
-        (&[2, 3], Ok(2), &[], 3),
-        (&[4, 5, 6], Ok(3), &eight[..4], 2),
-        (&[7, 8, 9, 10], Ok(4), &eight, 2),
-    ]);
+    writes(
+        &rt,
+        &mut wrt,
+        &[
+            (&[2, 3], Ok(2), &[], 3),
+            (&[4, 5, 6], Ok(3), &eight[..4], 2),
+            (&[7, 8, 9, 10], Ok(4), &eight, 2),
+        ],
+    );
     ends(&rt, wrt, &[1, 2, 3, 4, 5, 6, 7, 8, 9, 10])?;
     Ok(())
 }
@@ -140,7 +148,15 @@ fn flushes_twice(rt: HostRuntime) -> Result<(), Fail> {
 #[test]
 fn flushes_none(rt: HostRuntime) -> Result<(), Fail> {
     let mut wrt = writer(rt.alloc(), 2, &[], &[], FlushExact(0))?;
-    writes(&rt, &mut wrt, &[(&[1], Ok(1), &[], 1), (&[2], Ok(1), &[], 2), (&[3], Ok(0), &[], 2)]);
+    writes(
+        &rt,
+        &mut wrt,
+        &[
+            (&[1], Ok(1), &[], 1),
+            (&[2], Ok(1), &[], 2),
+            (&[3], Ok(0), &[], 2),
+        ],
+    );
     ends(&rt, wrt, &[1, 2])?;
     Ok(())
 }
@@ -177,20 +193,43 @@ fn makes_room(rt: HostRuntime) -> Result<(), Fail> {
 #[test]
 fn flushes_through(rt: HostRuntime) -> Result<(), Fail> {
     let mut wrt = writer(rt.alloc(), 8, &[], &[], FlushOn(0))?;
-    writes(&rt, &mut wrt, &[
-        (&[1, 2, 3], Ok(3), &[], 3),
-        (&[0, 4, 5], Ok(3), &[1, 2, 3, 0], 2),
-        (&[6, 7, 8, 9, 10, 11, 12], Ok(7), &[1, 2, 3, 0, 4, 5], 7),
-        (&[0], Ok(1), &[1, 2, 3, 0, 4, 5, 6, 7, 8, 9, 10, 11, 12, 0], 0),
-    ]);
+    writes(
+        &rt,
+        &mut wrt,
+        &[
+            (&[1, 2, 3], Ok(3), &[], 3),
+            (&[0, 4, 5], Ok(3), &[1, 2, 3, 0], 2),
+            (&[6, 7, 8, 9, 10, 11, 12], Ok(7), &[1, 2, 3, 0, 4, 5], 7),
+            (
+                &[0],
+                Ok(1),
+                &[1, 2, 3, 0, 4, 5, 6, 7, 8, 9, 10, 11, 12, 0],
+                0,
+            ),
+        ],
+    );
 
     let mut wrt = writer(rt.alloc(), 8, &[], &[], FlushOnNewline)?;
-    writes(&rt, &mut wrt, &[
-        (&[1, 2, 3], Ok(3), &[], 3),
-        (&[10, 4, 5], Ok(3), &[1, 2, 3, 10], 2),
-        (&[6, 7, 8, 9, 10, 11, 12], Ok(7), &[1, 2, 3, 10, 4, 5, 6, 7, 8, 9, 10], 2),
-        (&[10], Ok(1), &[1, 2, 3, 10, 4, 5, 6, 7, 8, 9, 10, 11, 12, 10], 0),
-    ]);
+    writes(
+        &rt,
+        &mut wrt,
+        &[
+            (&[1, 2, 3], Ok(3), &[], 3),
+            (&[10, 4, 5], Ok(3), &[1, 2, 3, 10], 2),
+            (
+                &[6, 7, 8, 9, 10, 11, 12],
+                Ok(7),
+                &[1, 2, 3, 10, 4, 5, 6, 7, 8, 9, 10],
+                2,
+            ),
+            (
+                &[10],
+                Ok(1),
+                &[1, 2, 3, 10, 4, 5, 6, 7, 8, 9, 10, 11, 12, 10],
+                0,
+            ),
+        ],
+    );
 
     Ok(())
 }

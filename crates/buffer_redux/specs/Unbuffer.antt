@@ -1,0 +1,44 @@
+-- What contracts see of an `Unbuffer`.
+use Rattle.std.specs.Prelude.{◌≡◌, ℕ, ◌<◌, List, [], ◌++◌, length, min, drop, Option, None, Some, Result, Ok, ⊤}
+use Rattle.std.specs.Io.{ReadsAtMost}
+use Rattle.std.specs.declared.io.Error.{Error}
+use Rattle.redux_buffer.specs.Block.{Block}
+use Rattle.redux_buffer.specs.StreamLog.{StreamLog, after_read}
+
+-- the bytes that are left of the buffer, the reader inside, and what that reader tells
+pub record Unbuffered (R : Type 0) : Type 0 where
+  pub left : List ℕ
+  pub inner : R
+  pub log : StreamLog
+
+-- the bytes of a buffer that is there
+abbrev pub bytes_in : Option Block → List ℕ
+bytes_in None = []
+bytes_in (Some b) = b.bytes
+
+-- a buffer that is there has bytes
+abbrev pub FreedWhenEmpty : Option Block → Type 0
+FreedWhenEmpty None = ⊤
+FreedWhenEmpty (Some b) = 0 < length b.bytes
+
+-- the bytes handed out, then those left, are those that were left, then those given since
+pub record HandsOutInOrder {R : Type 0} (s : Unbuffered R) (handed : List ℕ) (t : Unbuffered R) : Type 0 where
+  pub got : List ℕ
+  pub given : t.log.reads.given ≡ s.log.reads.given ++ got
+  pub equal : handed ++ t.left ≡ s.left ++ got
+
+-- as many of the bytes left were handed out as there are or as fit into the slice, and the reader was not asked
+pub record HandsOutLeft {R : Type 0} (s : Unbuffered R) (out : List ℕ) (answer : Result ℕ Error) (out' : List ℕ)
+    (t : Unbuffered R) : Type 0 where
+  pub count : answer ≡ Ok (min (length s.left) (length out))
+  pub left : t.left ≡ drop (length out) s.left
+  pub rest : drop (length s.left) out' ≡ drop (length s.left) out
+  pub inner : t.inner ≡ s.inner
+  pub told : t.log ≡ s.log
+
+-- the reader was asked once, for the whole slice, and its answer was given
+pub record AsksReader {R : Type 0} (s : Unbuffered R) (answer : Result ℕ Error) (out' : List ℕ) (t : Unbuffered R)
+    : Type 0 where
+  pub bound : ReadsAtMost answer out'
+  pub left : t.left ≡ []
+  pub told : t.log ≡ after_read s.log out' answer

@@ -1,0 +1,115 @@
+//! A reader that gives its buffer up.
+ghost use Rattle.std.specs.Prelude.{◌≡◌, ◌==◌, ◌<◌, length};
+ghost use Rattle.std.specs.Io.{ReadsAtMost};
+ghost use Rattle.redux_buffer.specs.LogGrows.{ReadLogGrows};
+ghost use Rattle.redux_buffer.specs.StreamLog.{taken};
+ghost use Rattle.buffer_redux.specs.Unbuffer.{HandsOutInOrder, HandsOutLeft, AsksReader};
+
+use crate::buf_reader::BufReader;
+use redux_buffer::Buffer;
+use redux_buffer::tell::{Tell, TellRead};
+use std::io::Read;
+use std::marker::Model;
+use std::{fmt, io};
+
+/// A reader that hands out what is left of a buffer, and then reads past it.
+///
+/// It is what [`BufReader::unbuffer`] returns. The buffer is freed as soon as it has no bytes left. No byte is lost or
+/// changes place: what was handed out, then what is left, is what was left at first, then what the inner reader gave.
+#[derive(Drop)]
+pub struct Unbuffer<R: Tell> {
+    buf: Option<Buffer>,
+    inner: R,
+}
+
+impl<R: Tell> Model for Unbuffer<R> {
+    ghost use Rattle.buffer_redux.specs.Unbuffer.{Unbuffered, bytes_in, FreedWhenEmpty};
+
+    ghost Value = { Unbuffered R };
+
+    ghost view = { λ u. record { left = bytes_in u.buf; inner = u.inner; log = R.log u.inner } };
+
+    // A buffer without bytes is freed.
+    ghost invariant = { λ u. FreedWhenEmpty u.buf };
+}
+
+impl<R: Tell, P> BufReader<R, P> {
+    /// The same reader without a buffer: the buffered bytes are handed out first, and no more are buffered. An empty
+    /// buffer is freed at once, and the policy is dropped.
+    pub fn unbuffer(self) -> Unbuffer<R>
+    where
+        P: Drop,
+        ensures { result ≡ record { left = self.block.bytes; inner = self.inner; log = self.log } }
+    {
+        let (inner, buf) = self.into_inner_with_buffer();
+        Unbuffer {
+            buf: if buf.is_empty() { None } else { Some(buf) },
+            inner,
+        }
+    }
+}
+
+impl<R: Tell> Unbuffer<R> {
+    /// Whether no bytes are left of the buffer, so that the next read asks the inner reader.
+    pub fn is_buf_empty(&self) -> bool
+        ensures { result ≡ (length self.now.left == 0) }
+    {
+        self.buf.is_none()
+    }
+
+    /// How many bytes are left.
+    pub fn buf_len(&self) -> usize
+        ensures { result ≡ length self.now.left }
+    {
+        self.buf().len()
+    }
+
+    /// The bytes that are left.
+    pub fn buf(&self) -> &[u8]
+        ensures { result.now ≡ self.now.left }
+    {
+        match &self.buf {
+            Some(buf) => buf.buf(),
+            None => &[],
+        }
+    }
+
+    /// The inner reader. Bytes that are left are gone.
+    pub fn into_inner(self) -> R
+        ensures inner { result ≡ self.inner }
+        ensures log { R.log result ≡ self.log }
+    {
+        let Unbuffer { buf: _, inner } = self;
+        inner
+    }
+}
+
+impl<R: TellRead> Read for Unbuffer<R> {
+    /// Hands out bytes that are left, as many as fit, and doesn't ask the inner reader; where none are left, asks it
+    /// once and returns its answer. An empty `out` leaves what is left.
+    fn read(&mut self, out: &mut [u8]) -> io::Result<usize>
+        ensures bound { ReadsAtMost result out.new }
+        ensures in_order { HandsOutInOrder self.old (taken out.new result) self.new }
+        ensures grows { ReadLogGrows self.old.log.reads self.new.log.reads }
+        ensures left { 0 < length self.old.left → HandsOutLeft self.old out.old result out.new self.new }
+        ensures asked { length self.old.left ≡ 0 → AsksReader self.old result out.new self.new }
+    {
+        let Some(buf) = &mut self.buf else {
+            return self.inner.read_told(out);
+        };
+        let n = buf.copy_to_slice(out);
+        if buf.is_empty() {
+            self.buf = None;
+        }
+        Ok(n)
+    }
+}
+
+impl<R: Tell + fmt::Debug> fmt::Debug for Unbuffer<R> {
+    fn fmt<W: fmt::Write>(&self, f: &mut fmt::Formatter<W>) -> fmt::Result {
+        f.debug_struct("Unbuffer")
+            .field("inner", &self.inner)
+            .field("left", &self.buf_len())
+            .finish()
+    }
+}
