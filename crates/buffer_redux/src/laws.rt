@@ -18,7 +18,7 @@ use redux_buffer::tell::{Tell, TellRead, TellWrite};
 use std::io;
 use std::io::{BufRead, Read};
 pub use writes::{
-    flush_at_least_law, flush_exact_law, flush_on_law, flush_on_newline_law, write_law,
+    flush_at_least_law, flush_exact_law, flush_on_law, flush_on_newline_law, line_law, write_law,
 };
 
 /// A reader that is taken apart and built again is the reader that it was.

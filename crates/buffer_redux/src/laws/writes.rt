@@ -1,11 +1,13 @@
 //! What a write does under each policy.
 ghost use Rattle.std.specs.Prelude.{◌≡◌, ◌<◌, length, max, IfOk, OnOk};
 ghost use Rattle.buffer_redux.specs.BufWriter.{Writes};
+ghost use Rattle.buffer_redux.specs.LineWriter.{line_rules};
 ghost use Rattle.buffer_redux.specs.WriteLaws.{EachTook, WroteExactly};
 ghost use Rattle.buffer_redux.specs.WriterPolicies.{at_least_rules, exact_rules, flush_on_rules};
 ghost use Rattle.buffer_redux.specs.WriterPolicyLaws.{HasNo, SendsExactly};
 
 use crate::buf_writer::BufWriter;
+use crate::line_writer::LineWriter;
 use crate::policy::{FlushAtLeast, FlushExact, FlushOn, FlushOnNewline, WriterPolicy};
 use redux_buffer::tell::TellWrite;
 use std::io;
@@ -47,6 +49,15 @@ pub fn flush_on_newline_law<W: TellWrite>(
         → HasNo 10 writer.new.block.bytes) }
     ensures policy { writer.new.policy ≡ writer.old.policy }
     ensures steps { Writes (flush_on_rules (λ p. 10)) writer.old bytes.now result writer.new }
+{
+    writer.write(bytes)
+}
+
+/// An Ok write of a [`LineWriter`] leaves no newline, the byte 10, where each write of the inner writer took something.
+pub fn line_law<W: TellWrite>(writer: &mut LineWriter<W>, bytes: &[u8]) -> io::Result<usize>
+    ensures none_left { OnOk result (EachTook writer.old.log.writes writer.new.log.writes
+        → HasNo 10 writer.new.block.bytes) }
+    ensures steps { Writes line_rules writer.old bytes.now result writer.new }
 {
     writer.write(bytes)
 }
