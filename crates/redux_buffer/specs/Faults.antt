@@ -11,6 +11,16 @@ pub record FaultedBy (old new : List ErrorKind) (kind : ErrorKind) : Type 0 wher
   pub before : List ErrorKind
   pub faults : new ≡ old ++ before ++ kind ∷ []
 
+-- no fault came but `Interrupted`
+pub record OnlyInterrupts (old new : List ErrorKind) : Type 0 where
+  pub times : ℕ
+  pub faults : new ≡ old ++ replicate times Interrupted
+
+-- after such faults came one of this kind
+pub record FaultAfterInterrupts (old new : List ErrorKind) (kind : ErrorKind) : Type 0 where
+  pub times : ℕ
+  pub faults : new ≡ old ++ replicate times Interrupted ++ kind ∷ []
+
 -- so many writes were interrupted, and nothing else went wrong
 pub record OnlyInterrupted (times : ℕ) (old new : WriteLog) : Type 0 where
   pub faults : new.faults ≡ old.faults ++ replicate times Interrupted
@@ -42,6 +52,30 @@ pub record SendErrorCaused (old new : WriteLog) (kind : ErrorKind) : Type 0 wher
   pub interrupts : ℕ
   pub cause : TookNothing interrupts old new kind ⊎ FaultedAfter interrupts old new kind
 
+-- one row of `Interrupted` joins another, and the fault after it comes after both
+interrupts_join : (n k : ℕ) (a b c : List ErrorKind) → b ≡ a ++ replicate n Interrupted
+    → c ≡ b ++ replicate k Interrupted → c ≡ a ++ replicate (n + k) Interrupted
+interrupts_join n k a b c p q =
+    q ∙ ap (λ l. l ++ replicate k Interrupted) p ∙ append_assoc a (replicate n Interrupted) (replicate k Interrupted)
+    ∙ ap (λ l. a ++ l) (replicate-append-replicate n k Interrupted)
+
+fault_after : (n k : ℕ) (a b c : List ErrorKind) (kind : ErrorKind) → b ≡ a ++ replicate n Interrupted
+    → c ≡ b ++ replicate k Interrupted ++ kind ∷ [] → c ≡ a ++ replicate (n + k) Interrupted ++ kind ∷ []
+fault_after n k a b c kind p q =
+    q ∙ ap (λ l. l ++ kind ∷ []) (interrupts_join n k a b (b ++ replicate k Interrupted) p refl)
+
+pub OnlyInterrupts-none : (faults : List ErrorKind) → OnlyInterrupts faults faults
+OnlyInterrupts-none faults = record { times = 0; faults = sym (append-nil faults) }
+
+pub OnlyInterrupts-joins : (a b c : List ErrorKind) → OnlyInterrupts a b → OnlyInterrupts b c → OnlyInterrupts a c
+OnlyInterrupts-joins a b c p q =
+    record { times = p.times + q.times; faults = interrupts_join p.times q.times a b c p.faults q.faults }
+
+pub FaultAfterInterrupts-after : (a b c : List ErrorKind) (kind : ErrorKind) → OnlyInterrupts a b
+    → FaultAfterInterrupts b c kind → FaultAfterInterrupts a c kind
+FaultAfterInterrupts-after a b c kind p q =
+    record { times = p.times + q.times; faults = fault_after p.times q.times a b c kind p.faults q.faults }
+
 -- no write was interrupted yet, and one row of interrupted writes joins another
 pub OnlyInterrupted-none : (log : WriteLog) → OnlyInterrupted 0 log log
 OnlyInterrupted-none log = record { faults = sym (append-nil log.faults); zero_writes = refl }
@@ -49,31 +83,26 @@ OnlyInterrupted-none log = record { faults = sym (append-nil log.faults); zero_w
 pub OnlyInterrupted-joins : (n k : ℕ) (a b c : WriteLog) → OnlyInterrupted n a b → OnlyInterrupted k b c
     → OnlyInterrupted (n + k) a c
 OnlyInterrupted-joins n k a b c p q = record {
-  faults =
-      q.faults ∙ ap (λ l. l ++ replicate k Interrupted) p.faults
-      ∙ append_assoc a.faults (replicate n Interrupted) (replicate k Interrupted)
-      ∙ ap (λ l. a.faults ++ l) (replicate-append-replicate n k Interrupted);
+  faults = interrupts_join n k a.faults b.faults c.faults p.faults q.faults;
   zero_writes = q.zero_writes ∙ p.zero_writes;
 }
+
+pub MetInterrupts-joins : (a b c : WriteLog) → MetInterrupts a b → MetInterrupts b c → MetInterrupts a c
+MetInterrupts-joins a b c p q =
+    record { times = p.times + q.times; only = OnlyInterrupted-joins p.times q.times a b c p.only q.only }
 
 -- what goes wrong after interrupted writes goes wrong after all of them
 pub TookNothing-after : (n k : ℕ) (a b c : WriteLog) (kind : ErrorKind) → OnlyInterrupted n a b
     → TookNothing k b c kind → TookNothing (n + k) a c kind
-TookNothing-after n k a b c kind p q =
-    let front : WriteLog = record c { zero_writes = b.zero_writes } in
-    record {
-      is_write_zero = q.is_write_zero;
-      faults = (OnlyInterrupted-joins n k a b front p (record { faults = q.faults; zero_writes = refl })).faults;
-      zero_writes = q.zero_writes ∙ ap (λ z. z + 1) p.zero_writes;
-    }
+TookNothing-after n k a b c kind p q = record {
+  is_write_zero = q.is_write_zero;
+  faults = interrupts_join n k a.faults b.faults c.faults p.faults q.faults;
+  zero_writes = q.zero_writes ∙ ap (λ z. z + 1) p.zero_writes;
+}
 
 pub FaultedAfter-after : (n k : ℕ) (a b c : WriteLog) (kind : ErrorKind) → OnlyInterrupted n a b
     → FaultedAfter k b c kind → FaultedAfter (n + k) a c kind
-FaultedAfter-after n k a b c kind p q =
-    let front : WriteLog = record b { faults = b.faults ++ replicate k Interrupted } in
-    record {
-      faults = q.faults
-          ∙ ap (λ l. l ++ kind ∷ [])
-          (OnlyInterrupted-joins n k a b front p (record { faults = refl; zero_writes = refl })).faults;
-      zero_writes = q.zero_writes ∙ p.zero_writes;
-    }
+FaultedAfter-after n k a b c kind p q = record {
+  faults = fault_after n k a.faults b.faults c.faults kind p.faults q.faults;
+  zero_writes = q.zero_writes ∙ p.zero_writes;
+}
