@@ -2,6 +2,7 @@ pub mod Turning
 pub mod FillFacts
 pub mod FillClaims
 pub mod WriterFacts
+pub mod Telling
 pub mod Resting
 pub mod Unwrapped
 pub mod WriteOn

@@ -119,6 +119,7 @@ pub record FillBuf {S P : Type 0} (rules : ReadRules P)
     (s : Buffered S P) (answer : Result (Bor (List ℕ)) Error) (t : Buffered S P) : Type 0 where
   pub fills : Fills rules s answer t
   pub shown : IfOk answer (λ bytes. bytes.now ≡ t.block.bytes)
+  pub noted : t.calls ≡ s.calls
 
 -- the first n bytes were dropped, or all, and the policy was told so
 pub record ReaderConsumes {S P : Type 0} (rules : ReadRules P) (n : ℕ) (s t : Buffered S P) : Type 0 where

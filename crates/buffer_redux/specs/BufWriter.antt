@@ -188,6 +188,7 @@ pub record SeeksInner {S P : Type 0} (tells : S → StreamLog) (s : Buffered S P
   pub block : t.block ≡ s.block
   pub log : t.log ≡ after_seek s.log to answer
   pub told : t.log ≡ tells t.inner
+  pub noted : t.calls ≡ s.calls
 
 -- what `seek(to)` does: a flush, whose error it returns, and then one seek of the inner writer to the same place
 pub record SeeksFlushed {S P : Type 0} (tells : S → StreamLog) (stretch : S → S → Type 0)

@@ -4,16 +4,17 @@ use Rattle.std.specs.Io.{WritesAtMost}
 use Rattle.std.specs.declared.io.Error.{Error}
 use Rattle.redux_buffer.specs.Block.{Block, Kind, IsNew, IsBlock}
 use Rattle.redux_buffer.specs.GrowError.{FitsWithin}
-use Rattle.redux_buffer.specs.StreamLog.{StreamLog}
+use Rattle.redux_buffer.specs.StreamLog.{StreamLog, no_calls}
 use Rattle.buffer_redux.specs.declared.errors.MakeError.{MakeError}
 use Rattle.buffer_redux.specs.MakeError.{growth}
 
--- the policy, the buffer, the stream inside, and what that stream tells
+-- the policy, the buffer, the stream inside, what that stream tells, and what was noted of the calls of its own
 pub record Buffered (S P : Type 0) : Type 0 where
   pub policy : P
   pub block : Block
   pub inner : S
   pub log : StreamLog
+  pub calls : StreamLog
 
 -- made over this stream, with an empty buffer
 pub record IsMade {S P : Type 0} (tells : S → StreamLog) (kind : Kind) (cap : ℕ) (stream : S) (b : Buffered S P)
@@ -22,6 +23,7 @@ pub record IsMade {S P : Type 0} (tells : S → StreamLog) (kind : Kind) (cap : 
   pub whole : IsBlock b.block
   pub inner : b.inner ≡ stream
   pub log : b.log ≡ tells stream
+  pub calls : b.calls ≡ no_calls
 
 -- what a maker returns: such a one, or the stream and why no buffer of this capacity was had
 pub record Makes {S P : Type 0} (tells : S → StreamLog) (kind : Kind) (cap limit : ℕ) (stream : S)
@@ -45,19 +47,30 @@ pub record GoesDirect {S P : Type 0} (after : StreamLog → List ℕ → Result 
   pub bound : WritesAtMost answer bytes
   pub told : t.log ≡ after s.log bytes answer
 
--- calls took the stream inside from where it was to where it is, and the log is what it tells
+-- calls took the stream inside from where it was to where it is, the log is what it tells, and no call of its own was
+-- noted
 pub record InnerWent {S P : Type 0} (tells : S → StreamLog) (stretch : S → S → Type 0)
     (s t : Buffered S P) : Type 0 where
   pub calls : stretch s.inner t.inner
   pub told_before : s.log ≡ tells s.inner
   pub told_after : t.log ≡ tells t.inner
+  pub noted : t.calls ≡ s.calls
 
 -- with another buffer, under another policy, and with another stream inside
 abbrev pub with_block : {S P : Type 0} → Buffered S P → Block → Buffered S P
 with_block b block = record b { block = block }
 
 abbrev pub with_policy : {S P Q : Type 0} → Buffered S P → Q → Buffered S Q
-with_policy b p = record { policy = p; block = b.block; inner = b.inner; log = b.log }
+with_policy b p = record { policy = p; block = b.block; inner = b.inner; log = b.log; calls = b.calls }
 
 abbrev pub with_inner : {S P : Type 0} → (S → StreamLog) → Buffered S P → S → Buffered S P
 with_inner tells b stream = record b { inner = stream; log = tells stream }
+
+-- with these calls of its own
+abbrev pub with_calls : {S P : Type 0} → Buffered S P → StreamLog → Buffered S P
+with_calls b calls = record b { calls = calls }
+
+-- over this buffer, with no call of its own yet
+abbrev pub over_buffer : {S P : Type 0} → (S → StreamLog) → P → Block → S → Buffered S P
+over_buffer tells p block stream =
+    record { policy = p; block = block; inner = stream; log = tells stream; calls = no_calls }

@@ -22,6 +22,8 @@ pub mod Unwrapping
 pub mod WriterPolicies
 pub mod LineWriter
 pub mod WriterLaws
+pub mod ReaderTells
+pub mod WriterTells
 pub mod PlayWriter
 pub mod WriteLaws
 pub mod WriterPolicyLaws

@@ -24,6 +24,7 @@ planned (Current n) len =
 pub record SeeksOnce {S P : Type 0} (to : SeekFrom) (s : Buffered S P) (answer : Result ℕ Error) (t : Buffered S P)
     : Type 0 where
   pub told : t.log ≡ after_seek s.log to answer
+  pub noted : t.calls ≡ s.calls
   pub policy : t.policy ≡ s.policy
   pub block : MatchResult answer (λ _. Clears s.block t.block) (λ _. t.block ≡ s.block)
 
@@ -45,5 +46,6 @@ Seeks (Two first second) s answer t = SeeksTwice first second s answer t
 pub record SeekLeaves {S P A : Type 0} (s : Buffered S P) (answer : Result A Error) (t : Buffered S P) : Type 0 where
   pub policy : t.policy ≡ s.policy
   pub reads : t.log.reads ≡ s.log.reads
+  pub noted : t.calls ≡ s.calls
   pub ok : OnOk answer (Clears s.block t.block)
   pub err : OnErr answer ((t.block ≡ s.block) ⊎ Clears s.block t.block)

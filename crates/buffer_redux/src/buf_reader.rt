@@ -10,14 +10,14 @@ ghost use Rattle.redux_buffer.specs.StreamLog.{taken, after_read};
 ghost use Rattle.redux_buffer.specs.Transfer.{ReadsFrom};
 ghost use Rattle.buffer_redux.specs.contracts.buf_reader.BufReader.{the_row};
 ghost use Rattle.buffer_redux.specs.Fill.{Filled};
-ghost use Rattle.buffer_redux.specs.Buffered.{with_block, with_inner, with_policy, Makes, GoesPast, StaysInside, GoesDirect};
+ghost use Rattle.buffer_redux.specs.Buffered.{over_buffer, with_block, with_inner, with_policy, Makes, GoesPast, StaysInside, GoesDirect};
 ghost use Rattle.buffer_redux.specs.BufReader.{ReadsInOrder, ReadErrorCaused, EmptyReadCaused, RanDry, FillBuf, ReaderConsumes, ReadsBuffered, LeavesRest};
 ghost use Rattle.buffer_redux.specs.ReaderLaws.{WantsBytes};
 
 use crate::errors::MakeError;
 use crate::policy::{ReaderPolicy, StdPolicy};
 use redux_buffer::laws::block_law;
-use redux_buffer::tell::{Tell, TellRead};
+use redux_buffer::tell::{CallLog, Tell, TellRead};
 use redux_buffer::{Buffer, DEFAULT_BUF_SIZE, GrowError};
 use std::alloc::Global;
 use std::io::{BufRead, Read};
@@ -25,6 +25,7 @@ use std::marker::Model;
 use std::{fmt, io};
 
 mod seek;
+mod tells;
 
 pub use seek::{SeekPlan, seek_plan};
 
@@ -37,6 +38,7 @@ pub struct BufReader<R: Tell, P = StdPolicy> {
     buf: Buffer,
     inner: R,
     policy: P,
+    calls: CallLog,
 }
 
 impl<R: Tell, P> Model for BufReader<R, P> {
@@ -45,7 +47,13 @@ impl<R: Tell, P> Model for BufReader<R, P> {
 
     ghost Value = { Buffered R P };
 
-    ghost view = { λ r. record { policy = r.policy; block = r.buf; inner = r.inner; log = R.log r.inner } };
+    ghost view = { λ r. record {
+      policy = r.policy;
+      block = r.buf;
+      inner = r.inner;
+      log = R.log r.inner;
+      calls = r.calls.log;
+    } };
 
     // What is true of every buffer, said again where a policy changes it.
     ghost invariant = { λ r. IsBlock r.buf };
@@ -91,13 +99,14 @@ impl<R: Tell> BufReader<R, StdPolicy> {
 
     /// A reader over a buffer of yours. The bytes that `buf` holds are handed out first.
     pub fn with_buffer(buf: Buffer, inner: R) -> Self
-        ensures { result ≡ record { policy = record {}; block = buf; inner = inner; log = R.log inner } }
+        ensures { result ≡ over_buffer R.log (record {}) buf inner }
     {
         block_law(&buf);
         BufReader {
             buf,
             inner,
             policy: StdPolicy,
+            calls: CallLog::new(),
         }
     }
 }
@@ -113,8 +122,15 @@ impl<R: Tell, P> BufReader<R, P> {
             buf,
             inner,
             policy: _,
+            calls,
         } = self;
-        BufReader { buf, inner, policy }
+        // The calls that it noted stay.
+        BufReader {
+            buf,
+            inner,
+            policy,
+            calls,
+        }
     }
 
     /// The policy.
@@ -222,6 +238,7 @@ impl<R: Tell, P> BufReader<R, P> {
             buf,
             inner,
             policy: _,
+            calls: _,
         } = self;
         (inner, buf)
     }
@@ -237,6 +254,7 @@ impl<R: TellRead, P> BufReader<R, P> {
         ensures not_asked { usable self.old.block ≡ 0 → self.new.inner ≡ self.old.inner }
         ensures err { OnErr result (LeavesBytes self.old.block self.new.block) }
         ensures policy { self.new.policy ≡ self.old.policy }
+        ensures noted { self.new.calls ≡ self.old.calls }
         ensures whole { IsBlock self.new.block }
     {
         self.buf.read_from(&mut self.inner)
@@ -248,6 +266,7 @@ impl<R: TellRead, P: ReaderPolicy> BufReader<R, P> {
     #[inline(always)]
     fn fill(&mut self) -> io::Result<()>
         ensures filled { Filled P.rules self.old result self.new }
+        ensures noted { self.new.calls ≡ self.old.calls }
         ensures whole { IsBlock self.new.block }
     {
         while self.policy.before_read(&mut self.buf)?.0 && self.buf.usable_space() > 0 {
@@ -267,6 +286,7 @@ impl<R: TellRead, P: ReaderPolicy> BufReader<R, P> {
         ensures in_order { ReadsInOrder self.old (take result self.old.block.bytes) self.new }
         ensures grows { ReadLogGrows self.old.log.reads self.new.log.reads }
         ensures consumed { ReaderConsumes P.rules result self.old self.new }
+        ensures noted { self.new.calls ≡ self.old.calls }
         ensures capacity { self.old.block.capacity ≤ self.new.block.capacity }
         ensures whole { IsBlock self.new.block }
     {
@@ -293,6 +313,7 @@ impl<R: TellRead, P: ReaderPolicy> Read for BufReader<R, P> {
         ensures buffered { StaysInside self.old.block (length out.old)
             → ReadsBuffered P.rules self.old (length out.old) result self.new }
         ensures rest { StaysInside self.old.block (length out.old) → LeavesRest out.old result out.new }
+        ensures noted { self.new.calls ≡ self.old.calls }
     {
         if self.buf.is_empty() && out.len() >= self.buf.capacity() {
             return self.inner.read_told(out);
@@ -320,6 +341,7 @@ impl<R: TellRead, P: ReaderPolicy> BufRead for BufReader<R, P> {
         ensures in_order { ReadsInOrder self.old (take amount self.old.block.bytes) self.new }
         ensures grows { ReadLogGrows self.old.log.reads self.new.log.reads }
         ensures consumed { ReaderConsumes P.rules amount self.old self.new }
+        ensures noted { self.new.calls ≡ self.old.calls }
         ensures capacity { self.old.block.capacity ≤ self.new.block.capacity }
         ensures whole { IsBlock self.new.block }
     {

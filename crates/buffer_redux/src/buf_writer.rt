@@ -11,19 +11,20 @@ ghost use Rattle.redux_buffer.specs.Faults.{SendErrorCaused};
 ghost use Rattle.redux_buffer.specs.LogGrows.{WriteLogGrows};
 ghost use Rattle.redux_buffer.specs.StreamLog.{taken};
 ghost use Rattle.buffer_redux.specs.contracts.buf_writer.BufWriter.{the_row};
-ghost use Rattle.buffer_redux.specs.Buffered.{with_block, with_inner, with_policy, InnerWent, Makes};
+ghost use Rattle.buffer_redux.specs.Buffered.{over_buffer, with_block, with_inner, with_policy, InnerWent, Makes};
 ghost use Rattle.buffer_redux.specs.BufWriter.{writer_contents, FlushesAmount, TakesIn, Finished, Writes, WritesOn, WritesSteadily, WritesInOrder, WriteErrorCaused, EmptyWriteCaused, Flushes, IsFlushed, SeeksFlushed, IsSought, SeekErrorCaused};
 
 use crate::errors::MakeError;
 use crate::policy::{FlushAmt, StdPolicy, WriterPolicy};
 use redux_buffer::laws::block_law;
-use redux_buffer::tell::{TellSeek, TellWrite};
+use redux_buffer::tell::{CallLog, TellSeek, TellWrite};
 use redux_buffer::{Buffer, DEFAULT_BUF_SIZE, GrowError};
 use std::alloc::Global;
 use std::io::{Seek, SeekFrom, Write};
 use std::marker::Model;
 use std::{fmt, io};
 
+mod tells;
 mod unwrapping;
 
 /// A writer with a buffer, which flushes as its policy says.
@@ -37,6 +38,7 @@ pub struct BufWriter<W: TellWrite, P = StdPolicy> {
     buf: Buffer,
     inner: W,
     policy: P,
+    calls: CallLog,
 }
 
 impl<W: TellWrite, P> Model for BufWriter<W, P> {
@@ -45,7 +47,13 @@ impl<W: TellWrite, P> Model for BufWriter<W, P> {
 
     ghost Value = { Buffered W P };
 
-    ghost view = { λ w. record { policy = w.policy; block = w.buf; inner = w.inner; log = W.log w.inner } };
+    ghost view = { λ w. record {
+      policy = w.policy;
+      block = w.buf;
+      inner = w.inner;
+      log = W.log w.inner;
+      calls = w.calls.log;
+    } };
 
     // What is true of every buffer, said again where a policy changes it.
     ghost invariant = { λ w. IsBlock w.buf };
@@ -91,13 +99,14 @@ impl<W: TellWrite> BufWriter<W, StdPolicy> {
 
     /// A writer over a buffer of yours. The bytes that `buf` holds are written out first.
     pub fn with_buffer(buf: Buffer, inner: W) -> Self
-        ensures { result ≡ record { policy = record {}; block = buf; inner = inner; log = W.log inner } }
+        ensures { result ≡ over_buffer W.log (record {}) buf inner }
     {
         block_law(&buf);
         BufWriter {
             buf,
             inner,
             policy: StdPolicy,
+            calls: CallLog::new(),
         }
     }
 }
@@ -308,6 +317,7 @@ impl<W: TellWrite + Drop, P: Drop> Drop for BufWriter<W, P> {
             buf: _,
             inner: _,
             policy: _,
+            calls: _,
         } = self;
     }
 }

@@ -1,6 +1,7 @@
 //! Laws, each as the contract of a function over the calls. Those of the buffer come from `redux_buffer`.
 ghost use Rattle.std.specs.Prelude.{◌≡◌, ◌<◌, [], length, Ok, IfOk, is_ok};
-ghost use Rattle.redux_buffer.specs.StreamLog.{taken};
+ghost use Rattle.redux_buffer.specs.StreamLog.{no_calls, taken};
+ghost use Rattle.buffer_redux.specs.Buffered.{with_calls};
 ghost use Rattle.buffer_redux.specs.BufReader.{FillsToMinimum, RanDry, ReadErrorCaused, ReadsInOrder};
 ghost use Rattle.buffer_redux.specs.MinBuffered.{min_read_rules};
 ghost use Rattle.buffer_redux.specs.Unwrapping.{KeepsUnsent};
@@ -21,17 +22,18 @@ pub use writes::{
     flush_at_least_law, flush_exact_law, flush_on_law, flush_on_newline_law, line_law, write_law,
 };
 
-/// A reader that is taken apart and built again is the reader that it was.
+/// A reader that is taken apart and built again is the reader that it was, but that no call of its own is noted.
 pub fn rebuild_reader<R: Tell>(reader: BufReader<R>) -> BufReader<R>
-    ensures { result ≡ reader }
+    ensures { result ≡ with_calls reader no_calls }
 {
     let (inner, buf) = reader.into_inner_with_buffer();
     BufReader::with_buffer(buf, inner)
 }
 
-/// A writer that is taken apart and built again is the writer that it was, and nothing was sent.
+/// A writer that is taken apart and built again is the writer that it was, but that no call of its own is noted. Nothing
+/// was sent.
 pub fn rebuild_writer<W: TellWrite>(writer: BufWriter<W>) -> BufWriter<W>
-    ensures { result ≡ writer }
+    ensures { result ≡ with_calls writer no_calls }
 {
     let (inner, buf) = writer.into_inner_with_buffer();
     BufWriter::with_buffer(buf, inner)

@@ -10,10 +10,12 @@ ghost use Rattle.redux_buffer.specs.Faults.{SendErrorCaused};
 ghost use Rattle.redux_buffer.specs.LogGrows.{WriteLogGrows};
 ghost use Rattle.redux_buffer.specs.StreamLog.{taken};
 ghost use Rattle.buffer_redux.specs.contracts.line_writer.LineWriter.{the_row};
-ghost use Rattle.buffer_redux.specs.Buffered.{with_block, with_inner, InnerWent, Makes};
+ghost use Rattle.buffer_redux.specs.Buffered.{over_buffer, with_block, with_inner, InnerWent, Makes};
 ghost use Rattle.buffer_redux.specs.BufWriter.{writer_contents, Writes, WritesSteadily, WritesInOrder, WriteErrorCaused, EmptyWriteCaused, Flushes, IsFlushed, WasFlushed};
 ghost use Rattle.buffer_redux.specs.LineWriter.{line_rules};
 ghost use Rattle.buffer_redux.specs.Unwrapping.{InnerOfFlushed, SendsOrHandles};
+
+mod tells;
 
 use crate::buf_writer::BufWriter;
 use crate::errors::{IntoInnerError, MakeError};
@@ -82,7 +84,7 @@ impl<W: TellWrite> LineWriter<W> {
 
     /// A writer over a buffer of yours. The bytes that `buf` holds are written out first.
     pub fn with_buffer(buf: Buffer, inner: W) -> Self
-        ensures { result ≡ record { policy = record {}; block = buf; inner = inner; log = W.log inner } }
+        ensures { result ≡ over_buffer W.log (record {}) buf inner }
     {
         LineWriter {
             writer: BufWriter::with_buffer(buf, inner).set_policy(FlushOnNewline),

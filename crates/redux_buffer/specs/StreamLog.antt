@@ -143,6 +143,10 @@ after_consume log amount = record log {
   };
 }
 
+-- the same log where these bytes are shown
+abbrev pub with_shown : StreamLog → List ℕ → StreamLog
+with_shown log bytes = record log { fills = record log.fills { shown = bytes } }
+
 -- an Ok `fill_buf` that shows nothing is counted
 abbrev pub with_end : ℕ → List ℕ → ℕ
 with_end before shown = if length shown == 0 then before + 1 else before

@@ -24,8 +24,15 @@ impl<W: TellWrite, P> BufWriter<W, P> {
             buf,
             inner,
             policy: _,
+            calls,
         } = self;
-        BufWriter { buf, inner, policy }
+        // The calls that it noted stay.
+        BufWriter {
+            buf,
+            inner,
+            policy,
+            calls,
+        }
     }
 
     /// The inner writer and the buffer with the bytes that were not written out. Nothing is sent, and the policy is
@@ -41,6 +48,7 @@ impl<W: TellWrite, P> BufWriter<W, P> {
             buf,
             inner,
             policy: _,
+            calls: _,
         } = self;
         (inner, buf)
     }
@@ -76,6 +84,7 @@ impl<W: TellWrite, P: WriterPolicy + Drop> BufWriter<W, P> {
                     buf: _,
                     inner,
                     policy: _,
+                    calls: _,
                 } = self;
                 Ok(inner)
             }
@@ -98,6 +107,7 @@ impl<W: TellWrite, P: WriterPolicy + Drop> BufWriter<W, P> {
             buf: _,
             inner,
             policy: _,
+            calls: _,
         } = self;
         (inner, fault)
     }

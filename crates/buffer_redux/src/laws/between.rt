@@ -1,6 +1,7 @@
 //! What holds between two runs of calls: a reader or a writer goes on where the first run left it.
 ghost use Rattle.std.specs.Prelude.{◌≡◌, ℕ, List};
-ghost use Rattle.buffer_redux.specs.Buffered.{Buffered, with_policy};
+ghost use Rattle.redux_buffer.specs.StreamLog.{no_calls};
+ghost use Rattle.buffer_redux.specs.Buffered.{Buffered, with_calls, with_policy};
 ghost use Rattle.buffer_redux.specs.BufReader.{ReadsInOrder};
 ghost use Rattle.buffer_redux.specs.BufWriter.{WritesInOrder};
 
@@ -15,7 +16,7 @@ pub fn rebuild_reader_under<R: Tell, P: Drop, Q: ReaderPolicy>(
     reader: BufReader<R, P>,
     policy: Q,
 ) -> BufReader<R, Q>
-    ensures same { result ≡ with_policy reader policy }
+    ensures same { result ≡ with_policy (with_calls reader no_calls) policy }
     ensures in_order { (first : Buffered R P) (handed : List ℕ) → ReadsInOrder first handed reader
         → ReadsInOrder (with_policy first policy) handed result }
 {
@@ -29,7 +30,7 @@ pub fn rebuild_writer_under<W: TellWrite, P: Drop, Q: WriterPolicy>(
     writer: BufWriter<W, P>,
     policy: Q,
 ) -> BufWriter<W, Q>
-    ensures same { result ≡ with_policy writer policy }
+    ensures same { result ≡ with_policy (with_calls writer no_calls) policy }
     ensures in_order { (first : Buffered W P) (accepted : List ℕ) → WritesInOrder first accepted writer
         → WritesInOrder (with_policy first policy) accepted result }
 {

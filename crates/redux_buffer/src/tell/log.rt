@@ -8,8 +8,8 @@ use std::io::SeekFrom;
 use std::marker::Model;
 use std::mem::size_of;
 
-/// One call of a stream with its answer. A `Read` has the slice as the call left it, and a fill is `Shown` or a
-/// `FillFault`.
+/// One call of a stream with its answer. A `Read` has the slice as the call left it, a fill is `Shown` or a
+/// `FillFault`, and a `Consume` has the bytes that were shown before it.
 #[derive(Clone, Copy, Drop)]
 pub enum Call<'a> {
     Read(&'a [u8], &'a io::Result<usize>),
@@ -18,7 +18,7 @@ pub enum Call<'a> {
     Seek(SeekFrom, &'a io::Result<u64>),
     Shown(&'a [u8]),
     FillFault(&'a [u8], &'a io::Error),
-    Consume(usize),
+    Consume(&'a [u8], usize),
 }
 
 /// What a stream was asked and what it returned so far, as clauses read it in `log`.

@@ -1,4 +1,4 @@
-use Rattle.std.proofs.Common.{suc, arith, inl, inr, refl, subst, sym}
+use Rattle.std.proofs.Common.{suc, arith, rules, inl, inr, refl, subst, sym}
 use Rattle.std.proofs.lemmas.Result.{err_from_is_err_and}
 use Rattle.buffer_redux.specs.Fill.{Turns}
 use Rattle.buffer_redux.proofs.Turning.{declined_made, full_made, turn_made, dry_made, faulted_made}
@@ -6,15 +6,16 @@ use Rattle.buffer_redux.proofs.buf_reader.BufReader.fill.Goals as goal
 
 pub loop-self-preserved : goal.loop-self-preserved
 loop-self-preserved g c =
-    let rules = g.P.ReaderPolicy.rules in
+    let table = g.P.ReaderPolicy.rules in
     record {
       count = suc c.loop-self.invariant.count;
       turns = (
         _,
-        subst (Turns rules c.loop-self.invariant.count c.args.self.now) (sym c.self.view_is) c.loop-self.invariant.turns,
-        turn_made rules _ _ c.in_ok-before_read.field-0 _ _ c.in_ok-before_read.ensures c.if-branch.true (omega (arith, c.usable_space.ensures.value)) c.read_into_buf.ensures.policy
+        subst (Turns table c.loop-self.invariant.count c.args.self.now) (sym c.self.view_is) c.loop-self.invariant.turns,
+        turn_made table _ _ c.in_ok-before_read.field-0 _ _ c.in_ok-before_read.ensures c.if-branch.true (omega (arith, c.usable_space.ensures.value)) c.read_into_buf.ensures.policy
             c.in_ok-read_into_buf.field-0 c.in_ok-read_into_buf.ensures.read c.if-branch-eq0.false,
       );
+      noted = search rules;
     }
 
 pub returns-in_err-before_read-clause-filled : goal.returns-in_err-before_read-clause-filled

@@ -1,4 +1,4 @@
-use Rattle.std.proofs.Common.{ℕ, ◌-◌, ◌^◌, length}
+use Rattle.std.proofs.Common.{◌≡◌, ℕ, ◌-◌, ◌^◌, length}
 use Rattle.buffer_redux.specs.Fill.{Turns}
 use Rattle.buffer_redux.proofs.buf_reader.BufReader.fill.Given as goal
 
@@ -7,6 +7,7 @@ abbrev pub invariant-loop-self : goal.invariant-loop-self
 invariant-loop-self g l = record {
   count : ℕ;
   turns : Turns g.P.ReaderPolicy.rules count l.initial.self l.self;
+  noted : l.self.calls ≡ l.initial.self.calls;
 }
 
 abbrev pub decreases-loop-self : goal.decreases-loop-self

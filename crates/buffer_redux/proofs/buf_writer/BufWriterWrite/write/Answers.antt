@@ -14,10 +14,10 @@ at_once g c =
     let n = c.copy_from_slice-copied.result in
     let whole = c.in_ok-first.ensures.law.whole c.self.invariant in
     rw (← c.self.view_is) (writes_on g.P.WriterPolicy.rules _
-    (record { policy = c.before_write.new.self; block = c.before_write.new.buf; inner = c.self.inside.inner; log = g.W.Tell.log c.self.inside.inner })
+    (record { policy = c.before_write.new.self; block = c.before_write.new.buf; inner = c.self.inside.inner; log = g.W.Tell.log c.self.inside.inner; calls = c.self.inside.calls.log })
     c.args.bytes.now c.in_ok-first.field-0 c.in_ok-first.ensures whole refl (Ok n) c.flush_after.new.self (record {
-      before = record { policy = c.before_write.new.self; block = c.before_write.new.buf; inner = c.self.inside.inner; log = g.W.Tell.log c.self.inside.inner };
-      after = record { policy = c.before_write.new.self; block = c.copy_from_slice-copied.new.self; inner = c.self.inside.inner; log = g.W.Tell.log c.self.inside.inner };
+      before = record { policy = c.before_write.new.self; block = c.before_write.new.buf; inner = c.self.inside.inner; log = g.W.Tell.log c.self.inside.inner; calls = c.self.inside.calls.log };
+      after = record { policy = c.before_write.new.self; block = c.copy_from_slice-copied.new.self; inner = c.self.inside.inner; log = g.W.Tell.log c.self.inside.inner; calls = c.self.inside.calls.log };
       flush = flushes_none _ _ (omega (arith, c.if-first-gt0.false, c.in_ok-first.first-is));
       took_in = takes_in_roomy _ _ c.args.bytes.now n whole (omega (arith, c.if-bytes-usable_space.false, c.usable_space.ensures.value))
           c.copy_from_slice-copied.ensures.count c.copy_from_slice-copied.ensures.bytes refl refl;

@@ -1,0 +1,26 @@
+use Rattle.std.proofs.Common.{rules, ap}
+use Rattle.buffer_redux.proofs.FillClaims.{fills}
+use Rattle.buffer_redux.proofs.Telling.{filled_went}
+use Rattle.buffer_redux.proofs.buf_reader.BufReader.fill_noted.Goals as goal
+
+pub returns-in-Ok-clause-noted : goal.returns-in-Ok-clause-noted
+returns-in-Ok-clause-noted g c = search rules
+
+pub returns-in-Err-clause-noted : goal.returns-in-Err-clause-noted
+returns-in-Err-clause-noted g c = search rules
+
+pub returns-in-Ok-clause-went : goal.returns-in-Ok-clause-went
+returns-in-Ok-clause-went g c =
+    let table = g.P.ReaderPolicy.rules in
+    let s = c.args.self.now in
+    let m = c.fill-answer.new.self in
+    let f = fills table s c.fill-answer.result m c.fill-answer.ensures.whole c.fill-answer.ensures.filled in
+    filled_went table s m _ (ap (λ x. x.policy) c.self.view_is) (ap (λ x. x.block) c.self.view_is) (ap (λ x. x.log) c.self.view_is) c.fill-answer.result f (returns-in-Ok-clause-noted g c)
+
+pub returns-in-Err-clause-went : goal.returns-in-Err-clause-went
+returns-in-Err-clause-went g c =
+    let table = g.P.ReaderPolicy.rules in
+    let s = c.args.self.now in
+    let m = c.fill-answer.new.self in
+    let f = fills table s c.fill-answer.result m c.fill-answer.ensures.whole c.fill-answer.ensures.filled in
+    filled_went table s m _ (ap (λ x. x.policy) c.self.view_is) (ap (λ x. x.block) c.self.view_is) (ap (λ x. x.log) c.self.view_is) c.fill-answer.result f (returns-in-Err-clause-noted g c)

@@ -1,0 +1,23 @@
+use Rattle.std.proofs.Common.{rules, ◌≡◌, ◌+◌, ◌≤◌, ap, subst, sym, arith}
+use Rattle.redux_buffer.specs.StreamLog.{after_flush}
+use Rattle.redux_buffer.specs.LogGrows.{WriteLogGrows, WriteLogGrows-flush}
+use Rattle.buffer_redux.specs.WriterTells.{writer_log, failures}
+use Rattle.buffer_redux.proofs.Telling.{call_went, flush_fails}
+use Rattle.buffer_redux.proofs.buf_writer.tells.BufWriterTellWrite.flush_told.Goals as goal
+
+pub returns-clause-told : goal.returns-clause-told
+returns-clause-told g c = search rules
+
+pub returns-clause-stretch : goal.returns-clause-stretch
+returns-clause-stretch g c =
+    let table = g.P.WriterPolicy.rules in
+    let s = c.args.self.now in
+    let m = c.flush-answer.new.self in
+    let answer = c.flush-answer.result in
+    let flush = c.flush-answer.ensures in
+    let noted : c.note.new.self.log ≡ after_flush s.calls answer = search rules in
+    call_went g.W.TellWrite.stretch table s m _ (ap (λ x. x.inner) c.self.view_is) (ap (λ x. x.policy) c.self.view_is) (ap (λ x. x.block) c.self.view_is)
+    (ap (λ x. x.log) c.self.view_is) flush.stretch.calls flush.grows
+    (subst (λ l. WriteLogGrows (writer_log s).writes l.writes) (sym (returns-clause-told g c)) (WriteLogGrows-flush (writer_log s) answer)) (omega (arith, flush.capacity))
+    (ap table.claims flush.steps.policy)
+    (λ steady room. subst (λ l. failures l.writes + failures s.log.writes ≤ failures s.calls.writes + failures m.log.writes) (sym noted) (flush_fails s m answer flush.grows flush.caused))

@@ -1,0 +1,92 @@
+-- What a buffered reader tells of its own calls, and what any of them, one after another, may do to it.
+use Rattle.std.specs.Prelude.{◌≡◌, ℕ, ◌+◌, ◌<◌, ◌≤◌, List, [], ◌++◌, Result, Ok, Err, true}
+use Rattle.std.proofs.Common.{refl, sym, ap, ◌∙◌, arith, le_refl, le_trans, append-nil, append_assoc}
+use Rattle.std.specs.declared.io.Error.{Error}
+use Rattle.std.specs.declared.io.ErrorKind.{ErrorKind}
+use Rattle.redux_buffer.specs.StreamLog.{StreamLog, with_shown, after_shown, after_fill_fault}
+use Rattle.redux_buffer.specs.LogGrows.{ReadLogGrows, ReadLogGrows-none, ReadLogGrows-joins, FillLogGrows, FillLogGrows-none, FillLogGrows-joins, FillsGoOn, FillsGoOn-of}
+use Rattle.buffer_redux.specs.Policy.{ReadRules}
+use Rattle.buffer_redux.specs.Buffered.{Buffered}
+use Rattle.buffer_redux.specs.BufReader.{ReadsInOrder}
+use Rattle.buffer_redux.specs.ReaderLaws.{ReadsInOrder-none, ReadsInOrder-joins}
+
+-- what it shows is what is buffered; the rest was noted call by call
+abbrev pub reader_log : {S P : Type 0} → Buffered S P → StreamLog
+reader_log b = with_shown b.calls b.block.bytes
+
+-- after a fill with this answer, by which these bytes are shown
+abbrev pub after_fill : {A : Type 0} → StreamLog → Result A Error → List ℕ → StreamLog
+after_fill log (Ok a) shown = after_shown log shown
+after_fill log (Err e) shown = after_fill_fault log shown e
+
+-- the same faults came to two lists
+pub record FaultsAlike (old new old' new' : List ErrorKind) : Type 0 where
+  pub more : List ErrorKind
+  pub first : new ≡ old ++ more
+  pub second : new' ≡ old' ++ more
+
+-- no byte is lost between the inner reader and what was consumed. Under a steady policy its faults are the inner
+-- reader's, and where there is capacity it ended only where the inner reader gave nothing
+pub record ReaderWent {S P : Type 0} (rules : ReadRules P) (s t : Buffered S P) : Type 0 where
+  pub handed : List ℕ
+  pub consumed : t.calls.fills.consumed ≡ s.calls.fills.consumed ++ handed
+  pub in_order : ReadsInOrder s handed t
+  pub grows : ReadLogGrows s.log.reads t.log.reads
+  pub own_grows : FillLogGrows s.calls.fills t.calls.fills
+  pub capacity : s.block.capacity ≤ t.block.capacity
+  pub claims : rules.claims t.policy ≡ rules.claims s.policy
+  pub faults : (rules.claims s.policy).steady ≡ true
+      → FaultsAlike s.calls.fills.faults t.calls.fills.faults s.log.reads.faults t.log.reads.faults
+  pub ends : (rules.claims s.policy).steady ≡ true → 0 < s.block.capacity
+      → t.calls.fills.ends + s.log.reads.zero_answers ≤ s.calls.fills.ends + t.log.reads.zero_answers
+
+FaultsAlike-none : (xs ys : List ErrorKind) → FaultsAlike xs xs ys ys
+FaultsAlike-none xs ys = record { more = []; first = sym (append-nil xs); second = sym (append-nil ys) }
+
+FaultsAlike-joins : (a b c a' b' c' : List ErrorKind) → FaultsAlike a b a' b' → FaultsAlike b c b' c'
+    → FaultsAlike a c a' c'
+FaultsAlike-joins a b c a' b' c' p q = record {
+  more = p.more ++ q.more;
+  first = q.first ∙ ap (λ l. l ++ q.more) p.first ∙ append_assoc a p.more q.more;
+  second = q.second ∙ ap (λ l. l ++ q.more) p.second ∙ append_assoc a' p.more q.more;
+}
+
+module _ {S P : Type 0} (rules : ReadRules P) where
+  pub ReaderWent-none : (s : Buffered S P) → ReaderWent rules s s
+  ReaderWent-none s = record {
+    handed = [];
+    consumed = sym (append-nil s.calls.fills.consumed);
+    in_order = ReadsInOrder-none s;
+    grows = ReadLogGrows-none s.log.reads;
+    own_grows = FillLogGrows-none s.calls.fills;
+    capacity = le_refl _;
+    claims = refl;
+    faults = λ steady. FaultsAlike-none s.calls.fills.faults s.log.reads.faults;
+    ends = λ steady room. le_refl _;
+  }
+
+  pub ReaderWent-joins : (a b c : Buffered S P) → ReaderWent rules a b → ReaderWent rules b c → ReaderWent rules a c
+  ReaderWent-joins a b c p q =
+      let still : (rules.claims a.policy).steady ≡ true → (rules.claims b.policy).steady ≡ true =
+      λ steady. ap (λ x. x.steady) p.claims ∙ steady in
+      record {
+        handed = p.handed ++ q.handed;
+        consumed = q.consumed ∙ ap (λ l. l ++ q.handed) p.consumed
+            ∙ append_assoc a.calls.fills.consumed p.handed q.handed;
+        in_order = ReadsInOrder-joins a b c p.handed q.handed p.in_order q.in_order;
+        grows = ReadLogGrows-joins a.log.reads b.log.reads c.log.reads p.grows q.grows;
+        own_grows = FillLogGrows-joins a.calls.fills b.calls.fills c.calls.fills p.own_grows q.own_grows;
+        capacity = le_trans p.capacity q.capacity;
+        claims = q.claims ∙ p.claims;
+        faults = λ steady. FaultsAlike-joins a.calls.fills.faults b.calls.fills.faults c.calls.fills.faults
+            a.log.reads.faults b.log.reads.faults c.log.reads.faults (p.faults steady) (q.faults (still steady));
+        ends = λ steady room. omega
+            (arith, p.ends steady room, q.ends (still steady) (omega (arith, room, p.capacity)));
+      }
+
+  pub ReaderWent-grows : (s t : Buffered S P) → ReaderWent rules s t → FillsGoOn (reader_log s) (reader_log t)
+  ReaderWent-grows s t went = FillsGoOn-of (reader_log s) (reader_log t) (record {
+    consumed = went.own_grows.consumed;
+    ends = went.own_grows.ends;
+    faults = went.own_grows.faults;
+  })

@@ -1,0 +1,52 @@
+//! A buffered reader as a stream that tells of its own calls.
+ghost use Rattle.std.specs.Prelude.{◌≡◌};
+ghost use Rattle.redux_buffer.specs.StreamLog.{after_consume};
+ghost use Rattle.buffer_redux.specs.ReaderTells.{reader_log, after_fill, ReaderWent, ReaderWent-none, ReaderWent-joins, ReaderWent-grows};
+
+use crate::buf_reader::BufReader;
+use crate::policy::ReaderPolicy;
+use redux_buffer::tell::{Call, Tell, TellBufRead, TellRead};
+use std::io;
+use std::io::BufRead;
+
+impl<R: Tell, P> Tell for BufReader<R, P> {
+    ghost log = { reader_log };
+}
+
+impl<R: TellRead, P: ReaderPolicy> BufReader<R, P> {
+    // Fills, and notes the call before what it shows is lent.
+    fn fill_noted(&mut self) -> io::Result<()>
+        ensures noted { self.new.calls ≡ after_fill self.old.calls result self.new.block.bytes }
+        ensures went { ReaderWent P.rules self.old self.new }
+    {
+        let answer = self.fill();
+        match &answer {
+            Ok(()) => self.calls.note(&Call::Shown(self.buf.buf())),
+            Err(e) => self.calls.note(&Call::FillFault(self.buf.buf(), e)),
+        }
+        answer
+    }
+}
+
+impl<R: TellRead, P: ReaderPolicy> TellBufRead for BufReader<R, P> {
+    ghost stretch = { ReaderWent P.rules };
+
+    fn fill_told(&mut self) -> io::Result<&[u8]> {
+        self.fill_noted()?;
+        Ok(self.buf.buf())
+    }
+
+    fn consume_told(&mut self, amount: usize)
+        ensures told { reader_log self.new ≡ after_consume (reader_log self.old) amount }
+        ensures stretch { ReaderWent P.rules self.old self.new }
+    {
+        self.calls.note(&Call::Consume(self.buf.buf(), amount));
+        self.consume(amount);
+    }
+
+    ghost stretch_none = { ReaderWent-none P.rules };
+
+    ghost stretch_joins = { ReaderWent-joins P.rules };
+
+    ghost stretch_grows = { ReaderWent-grows P.rules };
+}

@@ -1,0 +1,44 @@
+//! A buffered writer as a stream that tells of its own calls.
+ghost use Rattle.std.specs.Prelude.{◌≡◌};
+ghost use Rattle.std.specs.Io.{WritesAtMost};
+ghost use Rattle.redux_buffer.specs.StreamLog.{after_write, after_flush};
+ghost use Rattle.buffer_redux.specs.WriterTells.{writer_log, WriterWent, WriterWent-none, WriterWent-joins, WriterWent-grows};
+
+use crate::buf_writer::BufWriter;
+use crate::policy::WriterPolicy;
+use redux_buffer::tell::{Call, Tell, TellWrite};
+use std::io;
+use std::io::Write;
+
+impl<W: TellWrite, P> Tell for BufWriter<W, P> {
+    ghost log = { writer_log };
+}
+
+impl<W: TellWrite, P: WriterPolicy> TellWrite for BufWriter<W, P> {
+    ghost stretch = { WriterWent W.stretch P.rules };
+
+    fn write_told(&mut self, buf: &[u8]) -> io::Result<usize>
+        ensures bound { WritesAtMost result buf.now }
+        ensures told { writer_log self.new ≡ after_write (writer_log self.old) buf.now result }
+        ensures stretch { WriterWent W.stretch P.rules self.old self.new }
+    {
+        let answer = self.write(buf);
+        self.calls.note(&Call::Write(buf, &answer));
+        answer
+    }
+
+    fn flush_told(&mut self) -> io::Result<()>
+        ensures told { writer_log self.new ≡ after_flush (writer_log self.old) result }
+        ensures stretch { WriterWent W.stretch P.rules self.old self.new }
+    {
+        let answer = self.flush();
+        self.calls.note(&Call::Flush(&answer));
+        answer
+    }
+
+    ghost stretch_none = { WriterWent-none W.stretch P.rules W.stretch_none };
+
+    ghost stretch_joins = { WriterWent-joins W.stretch P.rules W.stretch_joins };
+
+    ghost stretch_grows = { WriterWent-grows W.stretch P.rules };
+}

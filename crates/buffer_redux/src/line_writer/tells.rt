@@ -1,0 +1,40 @@
+//! A line writer as a stream that tells of its own calls.
+ghost use Rattle.std.specs.Prelude.{◌≡◌};
+ghost use Rattle.std.specs.Io.{WritesAtMost};
+ghost use Rattle.redux_buffer.specs.StreamLog.{after_write, after_flush};
+ghost use Rattle.buffer_redux.specs.LineWriter.{line_rules};
+ghost use Rattle.buffer_redux.specs.WriterTells.{writer_log, WriterWent, WriterWent-none, WriterWent-joins, WriterWent-grows};
+
+use crate::line_writer::LineWriter;
+use redux_buffer::tell::{Tell, TellWrite};
+use std::io;
+
+impl<W: TellWrite> Tell for LineWriter<W> {
+    ghost log = { writer_log };
+}
+
+// It tells what the writer inside it tells.
+impl<W: TellWrite> TellWrite for LineWriter<W> {
+    ghost stretch = { WriterWent W.stretch line_rules };
+
+    fn write_told(&mut self, buf: &[u8]) -> io::Result<usize>
+        ensures bound { WritesAtMost result buf.now }
+        ensures told { writer_log self.new ≡ after_write (writer_log self.old) buf.now result }
+        ensures stretch { WriterWent W.stretch line_rules self.old self.new }
+    {
+        self.writer.write_told(buf)
+    }
+
+    fn flush_told(&mut self) -> io::Result<()>
+        ensures told { writer_log self.new ≡ after_flush (writer_log self.old) result }
+        ensures stretch { WriterWent W.stretch line_rules self.old self.new }
+    {
+        self.writer.flush_told()
+    }
+
+    ghost stretch_none = { WriterWent-none W.stretch line_rules W.stretch_none };
+
+    ghost stretch_joins = { WriterWent-joins W.stretch line_rules W.stretch_joins };
+
+    ghost stretch_grows = { WriterWent-grows W.stretch line_rules };
+}
