@@ -1,4 +1,5 @@
 pub mod Turning
+pub mod Copying
 pub mod FillFacts
 pub mod FillClaims
 pub mod WriterFacts

@@ -24,6 +24,7 @@ pub mod LineWriter
 pub mod WriterLaws
 pub mod ReaderTells
 pub mod WriterTells
+pub mod Copy
 pub mod PlayWriter
 pub mod WriteLaws
 pub mod WriterPolicyLaws

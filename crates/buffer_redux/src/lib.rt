@@ -7,6 +7,7 @@
 
 mod buf_reader;
 mod buf_writer;
+mod copy;
 mod errors;
 pub mod laws;
 mod line_writer;
@@ -18,6 +19,7 @@ mod unbuffer;
 
 pub use buf_reader::{BufReader, SeekPlan, seek_plan};
 pub use buf_writer::BufWriter;
+pub use copy::copy_buf;
 pub use errors::{IntoInnerError, MakeError};
 pub use line_writer::LineWriter;
 pub use redux_buffer::{

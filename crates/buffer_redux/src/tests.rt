@@ -1,4 +1,5 @@
 //! Readers and writers by worked examples, and each public call once.
+mod copy;
 mod example;
 mod lines;
 mod lookahead;

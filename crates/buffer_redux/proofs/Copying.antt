@@ -1,0 +1,79 @@
+-- How what a copy's turns move adds up.
+use Rattle.std.proofs.Common.{◌∙◌, ℕ, ◌+◌, ◌<◌, Result, Ok, Err, IfOk, IfErr, [], ◌++◌, inl, inr, refl, sym, ap, subst, append_assoc, append-nil, length-append, le_refl, le_trans, arith}
+use Rattle.std.specs.IoError.{error_kind}
+use Rattle.std.specs.declared.io.Error.{Error}
+use Rattle.std.specs.declared.io.ErrorKind.{ErrorKind}
+use Rattle.std.specs.declared.io.ErrorKind.TheVariants.{WriteZero}
+use Rattle.redux_buffer.specs.StreamLog.{FillLog, WriteLog}
+use Rattle.redux_buffer.specs.Faults.{OnlyInterrupts-none, OnlyInterrupts-joins, FaultAfterInterrupts-after, OnlyInterrupted-none, MetInterrupts-joins, TookNothing-after, FaultedAfter-after}
+use Rattle.buffer_redux.specs.Copy.{MovedBy, CopiesOn, CopyEnded, StreamFailed}
+
+MovedBy-none : (a : FillLog) (x : WriteLog) → MovedBy 0 a a x x
+MovedBy-none a x = record
+    { bytes = []; count = refl; consumed = sym (append-nil a.consumed); received = sym (append-nil x.received); not_flushed = refl }
+
+pub MovedBy-joins : (n k : ℕ) (a b c : FillLog) (x y z : WriteLog) → MovedBy n a b x y → MovedBy k b c y z → MovedBy (n + k) a c x z
+MovedBy-joins n k a b c x y z p q = record {
+  bytes = p.bytes ++ q.bytes;
+  count = length-append p.bytes q.bytes ∙ (λ i. p.count i + q.count i);
+  consumed = q.consumed ∙ ap (λ l. l ++ q.bytes) p.consumed ∙ append_assoc a.consumed p.bytes q.bytes;
+  received = q.received ∙ ap (λ l. l ++ q.bytes) p.received ∙ append_assoc x.received p.bytes q.bytes;
+  not_flushed = q.not_flushed ∙ p.not_flushed;
+}
+
+pub CopiesOn-none : (a : FillLog) (x : WriteLog) → CopiesOn 0 a a x x
+CopiesOn-none a x = record {
+  moved = MovedBy-none a x;
+  ends = le_refl _;
+  reader = OnlyInterrupts-none a.faults;
+  writer = record { times = 0; only = OnlyInterrupted-none x };
+}
+
+-- what comes after turns in which the streams were at most interrupted
+module _ (n : ℕ) (a b c : FillLog) (x y z : WriteLog) (before : CopiesOn n a b x y) where
+  pub CopiesOn-joins : (k : ℕ) → CopiesOn k b c y z → CopiesOn (n + k) a c x z
+  CopiesOn-joins k last = record {
+    moved = MovedBy-joins n k a b c x y z before.moved last.moved;
+    ends = le_trans before.ends last.ends;
+    reader = OnlyInterrupts-joins a.faults b.faults c.faults before.reader last.reader;
+    writer = MetInterrupts-joins x y z before.writer last.writer;
+  }
+
+  pub CopyEnded-after : CopyEnded b c y z → CopyEnded a c x z
+  CopyEnded-after last = record {
+    reader = OnlyInterrupts-joins a.faults b.faults c.faults before.reader last.reader;
+    ended = elim last.ended [
+      | inl out ↦ inl (record
+          { empty = out.empty; ended = omega (arith, before.ends, out.ended); writer = MetInterrupts-joins x y z before.writer out.writer })
+      | inr stuck ↦ inr (record {
+        left = stuck.left;
+        interrupts = before.writer.times + stuck.interrupts;
+        writer = TookNothing-after before.writer.times stuck.interrupts x y z WriteZero before.writer.only stuck.writer;
+      })
+    ];
+  }
+
+  pub StreamFailed-after : (kind : ErrorKind) → StreamFailed kind b c y z → StreamFailed kind a c x z
+  StreamFailed-after kind (inl source) = inl (record {
+    fault = FaultAfterInterrupts-after a.faults b.faults c.faults kind before.reader source.fault;
+    writer = MetInterrupts-joins x y z before.writer source.writer;
+  })
+  StreamFailed-after kind (inr target) = inr (record {
+    reader = OnlyInterrupts-joins a.faults b.faults c.faults before.reader target.reader;
+    interrupts = before.writer.times + target.interrupts;
+    fault = FaultedAfter-after before.writer.times target.interrupts x y z kind before.writer.only target.fault;
+  })
+
+-- a turn after turns that were only interrupted
+module _ (a b c : FillLog) (x y z : WriteLog) (before : CopiesOn 0 a b x y) where
+  pub CopiesOn-after : (n : ℕ) → CopiesOn n b c y z → CopiesOn n a c x z
+  CopiesOn-after n last = subst (λ k. CopiesOn k a c x z) (omega arith) (CopiesOn-joins 0 a b c x y z before n last)
+
+  pub copies_after : {A : Type 0} (answer : Result ℕ A) → IfOk answer (λ n. 0 < n → CopiesOn n b c y z) → IfOk answer (λ n. 0 < n → CopiesOn n a c x z)
+  copies_after (Ok n) copies = λ some. CopiesOn-after n (copies some)
+  copies_after (Err e) copies = tt
+
+  pub failed_after : {A : Type 0} (answer : Result A Error)
+      → IfErr answer (λ e. StreamFailed (error_kind e) b c y z) → IfErr answer (λ e. StreamFailed (error_kind e) a c x z)
+  failed_after (Ok n) failed = tt
+  failed_after (Err e) failed = StreamFailed-after 0 a b c x y z before (error_kind e) failed
