@@ -4,6 +4,8 @@ ghost use Rattle.redux_buffer.specs.Block.{Ring, IsBlock, SameButTail, usable};
 
 use crate::buffer::Buffer;
 
+pub mod potential;
+
 /// What is true of every buffer: its bytes and its usable space fit its capacity, which is within its limit; an empty
 /// plain buffer and every ring can use all their free space; a ring has moved at most what was consumed. It does nothing.
 #[inline(always)]

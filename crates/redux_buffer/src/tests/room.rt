@@ -1,4 +1,6 @@
 //! What a buffer holds, and how it lies in its storage, step by step.
+use crate::laws::potential;
+use crate::tell::Told;
 use crate::tests::NO_MACHINE;
 use crate::{Buffer, GrowError, laws};
 use std::process::Abort;
@@ -146,5 +148,36 @@ fn made(rt: HostRuntime) -> Result<(), Fail> {
     shows(&rt, &plain, &[], 8192, 8192);
     assert!(rt; !plain.is_ringbuf());
     assert_eq!(rt; plain.free_space(), 8192);
+    Ok(())
+}
+
+// The laws of the potential are the calls.
+#[test]
+fn by_law(rt: HostRuntime) -> Result<(), Fail> {
+    let mut b = Buffer::with_capacity(rt.alloc(), 6)?;
+    assert_eq!(rt; potential::copy_from_slice(&mut b, &[1, 2, 3, 4]), 4);
+    potential::consume(&mut b, 2);
+    shows(&rt, &b, &[3, 4], 6, 2);
+    potential::make_room(&mut b);
+    shows(&rt, &b, &[3, 4], 6, 4);
+    potential::push_bytes(&mut b, &[5])?;
+    assert_eq!(rt;
+        potential::read_from(&mut b, &mut Told::new([6, 7].as_slice()))?,
+        2
+    );
+    potential::reserve(&mut b, 4)?;
+    shows(&rt, &b, &[3, 4, 5, 6, 7], 9, 4);
+    let mut out = [0u8; 1];
+    assert_eq!(rt; potential::copy_to_slice(&mut b, &mut out), 1);
+    let mut wrt = Told::new(Vec::new(rt.alloc()));
+    potential::write_max(&mut b, 1, &mut wrt)?;
+    shows(&rt, &b, &[5, 6, 7], 9, 4);
+    assert_eq!(rt; potential::write_to(&mut b, &mut wrt)?, 3);
+    assert_eq!(rt; potential::copy_from_slice(&mut b, &[8]), 1);
+    potential::write_all(&mut b, &mut wrt)?;
+    assert_eq!(rt; potential::copy_from_slice(&mut b, &[9]), 1);
+    potential::clear(&mut b);
+    shows(&rt, &b, &[], 9, 9);
+    assert_eq!(rt; wrt.get_ref().as_slice(), [4, 5, 6, 7, 8].as_slice());
     Ok(())
 }

@@ -1,0 +1,93 @@
+//! What each call does to the potential of a plain buffer: the bytes that it has moved, and how far its bytes reach beyond
+//! a number of places, whatever that number is.
+//!
+//! Only bytes that are appended raise it, and `make_room` where there was room enough. So who makes room only where it
+//! pays moves no more bytes than were appended.
+ghost use Rattle.std.specs.Prelude.{◌≡◌, ℕ, length, MatchResult, OnOk, OnErr};
+ghost use Rattle.redux_buffer.specs.Block.{Plain};
+ghost use Rattle.redux_buffer.specs.Potential.{PlainRises, RisesAtMost, RoomPays};
+
+use crate::buffer::Buffer;
+use crate::grow_error::GrowError;
+use crate::tell::{TellRead, TellWrite};
+use std::io;
+
+/// Dropping bytes doesn't raise the potential.
+pub fn consume(buffer: &mut Buffer, n: usize)
+    ensures { PlainRises 0 buffer.old buffer.new }
+{
+    buffer.consume(n);
+}
+
+/// Copying bytes out doesn't raise it.
+pub fn copy_to_slice(buffer: &mut Buffer, out: &mut [u8]) -> usize
+    ensures { PlainRises 0 buffer.old buffer.new }
+{
+    buffer.copy_to_slice(out)
+}
+
+/// Dropping all bytes doesn't raise it.
+pub fn clear(buffer: &mut Buffer)
+    ensures { PlainRises 0 buffer.old buffer.new }
+{
+    buffer.clear();
+}
+
+/// A growth doesn't raise it, nor one that is refused.
+pub fn reserve(buffer: &mut Buffer, a: usize) -> Result<(), GrowError>
+    ensures { PlainRises 0 buffer.old buffer.new }
+{
+    buffer.reserve(a)
+}
+
+/// Appending raises it by at most the bytes that were appended.
+pub fn copy_from_slice(buffer: &mut Buffer, src: &[u8]) -> usize
+    ensures { PlainRises result buffer.old buffer.new }
+{
+    buffer.copy_from_slice(src)
+}
+
+/// Pushing raises it by at most the bytes that were pushed, also where the buffer grows for them, and a refusal not at all.
+pub fn push_bytes(buffer: &mut Buffer, b: &[u8]) -> Result<(), GrowError>
+    ensures pushed { OnOk result (PlainRises (length b.now) buffer.old buffer.new) }
+    ensures refused { OnErr result (PlainRises 0 buffer.old buffer.new) }
+{
+    buffer.push_bytes(b)
+}
+
+/// Reading raises it by at most the bytes that came, and a fault not at all.
+pub fn read_from<R: TellRead>(buffer: &mut Buffer, rdr: &mut R) -> io::Result<usize>
+    ensures { MatchResult result (λ n. PlainRises n buffer.old buffer.new) (λ _. PlainRises 0 buffer.old buffer.new) }
+{
+    buffer.read_from(rdr)
+}
+
+/// A write of all bytes doesn't raise it, whatever is taken of them.
+pub fn write_to<W: TellWrite>(buffer: &mut Buffer, wrt: &mut W) -> io::Result<usize>
+    ensures { PlainRises 0 buffer.old buffer.new }
+{
+    buffer.write_to(wrt)
+}
+
+/// Sending the first bytes doesn't raise it.
+pub fn write_max<W: TellWrite>(buffer: &mut Buffer, max: usize, wrt: &mut W) -> io::Result<()>
+    ensures { PlainRises 0 buffer.old buffer.new }
+{
+    buffer.write_max(max, wrt)
+}
+
+/// Sending all bytes doesn't raise it.
+pub fn write_all<W: TellWrite>(buffer: &mut Buffer, wrt: &mut W) -> io::Result<()>
+    ensures { PlainRises 0 buffer.old buffer.new }
+{
+    buffer.write_all(wrt)
+}
+
+/// Making room doesn't raise it where that pays: the capacity is three times the number, and no more than the number is
+/// buffered, nor fits behind what is.
+pub fn make_room(buffer: &mut Buffer)
+    ensures { buffer.old.kind ≡ Plain → (keep : ℕ) → RoomPays keep buffer.old
+        → RisesAtMost keep 0 buffer.old buffer.new }
+{
+    buffer.make_room();
+}
