@@ -1,21 +1,17 @@
 -- What filling promises under a policy that claims something, and all that it promises.
 use Rattle.std.proofs.Common.{◌≡◌, ℕ, zero, suc, ◌+◌, ◌-◌, ◌≤◌, true, false, List, [], ◌∷◌, ◌++◌, length, take, Result, Ok, Err, refl, sym, ap, subst, ◌∙◌, arith, inl, inr, append-nil, length-append, Option, None, Some, is_ok}
-use Rattle.std.specs.Bool.{⊤}
 use Rattle.std.specs.IoError.{error_kind}
 use Rattle.std.specs.declared.io.Error.{Error}
-use Rattle.redux_buffer.specs.Block.{Block, Kind, Plain, Ring, OnKind, IsBlock, OnlyRingMoves, usable}
-use Rattle.redux_buffer.specs.StreamLog.{taken}
+use Rattle.redux_buffer.specs.Block.{Block, IsBlock, usable}
 use Rattle.redux_buffer.specs.Transfer.{ReadsOnce}
 use Rattle.buffer_redux.specs.declared.policy.DoRead.{DoRead}
-use Rattle.buffer_redux.specs.Policy.{ReadRules, BeforeRead, no_read, read_now, ReadsToMinimum, ReadsSteadily, Spares, SparesPlain}
+use Rattle.buffer_redux.specs.Policy.{ReadRules, BeforeRead, no_read, read_now, ReadsToMinimum, ReadsSteadily, ClaimsToSpare}
 use Rattle.buffer_redux.specs.Buffered.{Buffered}
 use Rattle.buffer_redux.specs.Fill.{Turns, Ends, Filled}
-use Rattle.buffer_redux.specs.BufReader.{LooksAhead, FillsToMinimum, SteadyFill, PotentialHeld, Fills}
+use Rattle.buffer_redux.specs.BufReader.{LooksAhead, FillsToMinimum, SteadyFill, Fills}
+use Rattle.buffer_redux.specs.Sparing.{Spared, Spared-none, Spared-joins}
+use Rattle.buffer_redux.proofs.SparingFacts.{Spared-asked, Spared-read}
 use Rattle.buffer_redux.proofs.FillFacts.{turns_facts, filled_facts, asked_once, zero_rose, full_empty}
-
-on_kind : (k k' : Kind) (X Y Z : Type 0) → k' ≡ k → (X → Y → Z) → OnKind k X ⊤ → OnKind k' Y ⊤ → OnKind k Z ⊤
-on_kind Plain k' X Y Z e f x y = f x (subst (λ o. OnKind o Y ⊤) e y)
-on_kind Ring k' X Y Z e f x y = tt
 
 module _ {S P : Type 0} (rules : ReadRules P) where
   -- the claims after some turns are those before them
@@ -120,89 +116,40 @@ module _ {S P : Type 0} (rules : ReadRules P) where
     steady_fill (Ok a) t whole f = steady_ok f.count f.last t a whole f.turns f.ends
     steady_fill {A} (Err e) t whole f = steady_err A f.count f.last t e f.turns f.ends
 
-  module _ (n : ℕ) where
-    -- the potential of a plain buffer was held
-    Spared : Buffered S P → Buffered S P → Type 0
-    Spared s t = OnKind s.block.kind (PotentialHeld n s t) ⊤
+  module _ (keep : ℕ) (s : Buffered S P) (claims : ClaimsToSpare (rules.claims s.policy).spares keep) where
+    -- the policy alone
+    spared_asked : (k : ℕ) (m t : Buffered S P) (r : Result DoRead Error) → Turns rules k s m
+        → BeforeRead rules m.policy m.block r t.policy t.block → t.log ≡ m.log → Spared keep m t
+    spared_asked k m t r h asked same =
+        Spared-asked keep m t (rules.claims m.policy).spares (subst (λ c. ClaimsToSpare c.spares keep) (sym (claimed k s m h)) claims)
+        asked.law asked.spares same
 
-    spared_none : (s : Buffered S P) → Spared s s
-    unfolding Spared
-    spared_none s = at s.block.kind
-      where
-        at : (k : Kind) → OnKind k (PotentialHeld n s s) ⊤
-        at Plain = record { moved = omega arith; held = λ keep le room. omega arith }
-        at Ring = tt
+    -- the policy, and then one read
+    spared_read : (k : ℕ) (m t : Buffered S P) (seen : Block) (answer : Result ℕ Error) → Turns rules k s m
+        → BeforeRead rules m.policy m.block read_now t.policy seen → ReadsOnce seen m.log answer t.block t.log → Spared keep m t
+    spared_read k m t seen answer h asked read =
+        let ordered : Buffered S P = record { policy = t.policy; block = seen; inner = t.inner; log = m.log; calls = t.calls } in
+        Spared-joins keep m ordered t (spared_asked k m ordered read_now h asked refl) (Spared-read keep ordered t answer read)
 
-    -- one call of the policy, and then a read that gave got, or none
-    spared_step : (s m t : Buffered S P) (seen : Block) (got : List ℕ)
-        → Spared s m → s.block.capacity ≤ m.block.capacity → m.block.kind ≡ s.block.kind → Spares (Some n) m.block seen
-        → t.log.reads.given ≡ m.log.reads.given ++ got → OnlyRingMoves seen t.block → seen.kind ≡ m.block.kind
-        → t.block.capacity ≡ seen.capacity → usable t.block ≡ usable seen - length got
-        → Spared s t
-    unfolding Spared
-    spared_step s m t seen got before grown kind spares given moved kind' capacity room =
-        let more : length t.log.reads.given ≡ length m.log.reads.given + length got = ap length given ∙ length-append m.log.reads.given got in
-        on_kind s.block.kind seen.kind (PotentialHeld n s m × SparesPlain n m.block seen) (t.block.moved ≡ seen.moved) (PotentialHeld n s t)
-        (kind' ∙ kind)
-        (λ h same. record {
-          moved = omega (arith, h.0.moved, h.1.moved, same);
-          held = λ keep le three.
-              let first = h.0.held keep le three in
-              let second = h.1.held keep le (omega (arith, grown, three)) in
-              omega (arith, first, second, more, same, capacity, room);
-        })
-        (on_kind s.block.kind m.block.kind (PotentialHeld n s m) (SparesPlain n m.block seen) (PotentialHeld n s m × SparesPlain n m.block seen) kind (λ x y. (x, y)) before spares)
-        (plain_part seen.kind moved)
-      where
-        plain_part : (k : Kind) → OnKind k (t.block.moved ≡ seen.moved) (seen.moved ≤ t.block.moved) → OnKind k (t.block.moved ≡ seen.moved) ⊤
-        plain_part Plain x = x
-        plain_part Ring x = tt
+    spared_turns : (k : ℕ) (t : Buffered S P) → Turns rules k s t → Spared keep s t
+    spared_turns zero t e = subst (λ x. Spared keep s x) e (Spared-none keep s)
+    spared_turns (suc k) t h =
+        let m = h.0 in
+        let turn = h.2 in
+        Spared-joins keep s m t (spared_turns k m h.1) (spared_read k m t turn.seen (Ok turn.count) h.1 turn.ordered.asked turn.read)
 
-    module _ (s : Buffered S P) (spares : (rules.claims s.policy).spares ≡ Some n) where
-      at_spares : (k : ℕ) (m : Buffered S P) (b : Block) (r : Result DoRead Error) (p : Buffered S P) → Turns rules k s m
-          → BeforeRead rules m.policy m.block r p.policy b → Spares (Some n) m.block b
-      at_spares k m b r p h asked = subst (λ o. Spares o m.block b) (ap (λ c. c.spares) (claimed k s m h) ∙ spares) asked.spares
+    spared_end : {A : Type 0} (k : ℕ) (m : Buffered S P) (r : Result A Error) (t : Buffered S P) → Turns rules k s m → Ends rules m r t → Spared keep m t
+    spared_end k m (Ok a) t h (inl end) = spared_asked k m t no_read h end.asked end.told
+    spared_end k m (Ok a) t h (inr (inl end)) = spared_asked k m t read_now h end.asked end.told
+    spared_end k m (Ok a) t h (inr (inr end)) = spared_read k m t end.seen (Ok 0) h end.ordered.asked end.read
+    spared_end k m (Err e) t h (inl end) = spared_asked k m t (Err e) h end.asked end.told
+    spared_end k m (Err e) t h (inr end) = spared_read k m t end.seen (Err e) h end.ordered.asked end.read
 
-      spared_turns : (k : ℕ) (t : Buffered S P) → Turns rules k s t → Spared s t
-      spared_turns zero t e = subst (Spared s) e (spared_none s)
-      spared_turns (suc k) t h =
-          let m = h.0 in
-          let turn = h.2 in
-          let facts = turns_facts rules k s m h.1 in
-          spared_step s m t turn.seen (take turn.count turn.read.out) (spared_turns k m h.1) facts.holds.capacity facts.holds.kind
-          (at_spares k m turn.seen read_now t h.1 turn.ordered.asked) (ap (λ l. l.reads.given) turn.read.told) turn.read.added.moved
-          turn.ordered.asked.law.kind turn.read.added.capacity turn.read.added.usable
-
-      -- the policy alone
-      spared_last : (k : ℕ) (m t : Buffered S P) (r : Result DoRead Error) → Turns rules k s m
-          → BeforeRead rules m.policy m.block r t.policy t.block → t.log ≡ m.log → Spared s t
-      spared_last k m t r h asked same =
-          let facts = turns_facts rules k s m h in
-          spared_step s m t t.block [] (spared_turns k m h) facts.holds.capacity facts.holds.kind (at_spares k m t.block r t h asked)
-          (ap (λ l. l.reads.given) same ∙ sym (append-nil m.log.reads.given)) (still t.block.kind) asked.law.kind refl (omega arith)
-        where
-          still : (o : Kind) → OnKind o (t.block.moved ≡ t.block.moved) (t.block.moved ≤ t.block.moved)
-          still Plain = refl
-          still Ring = omega arith
-
-      -- the policy, and then one read
-      spared_read : (k : ℕ) (m t : Buffered S P) (seen : Block) (answer : Result ℕ Error) → Turns rules k s m
-          → BeforeRead rules m.policy m.block read_now t.policy seen → ReadsOnce seen m.log answer t.block t.log → Spared s t
-      spared_read k m t seen answer h asked read =
-          let facts = turns_facts rules k s m h in
-          spared_step s m t seen (taken read.out answer) (spared_turns k m h) facts.holds.capacity facts.holds.kind (at_spares k m seen read_now t h asked)
-          (ap (λ l. l.reads.given) read.told) read.added.moved asked.law.kind read.added.capacity read.added.usable
-
-      spared_ends : {A : Type 0} (k : ℕ) (m : Buffered S P) (r : Result A Error) (t : Buffered S P) → Turns rules k s m → Ends rules m r t → Spared s t
-      spared_ends k m (Ok a) t h (inl end) = spared_last k m t no_read h end.asked end.told
-      spared_ends k m (Ok a) t h (inr (inl end)) = spared_last k m t read_now h end.asked end.told
-      spared_ends k m (Ok a) t h (inr (inr end)) = spared_read k m t end.seen (Ok 0) h end.ordered.asked end.read
-      spared_ends k m (Err e) t h (inl end) = spared_last k m t (Err e) h end.asked end.told
-      spared_ends k m (Err e) t h (inr end) = spared_read k m t end.seen (Err e) h end.ordered.asked end.read
+    spared_filled : {A : Type 0} (r : Result A Error) (t : Buffered S P) → Filled rules s r t → Spared keep s t
+    spared_filled r t f = Spared-joins keep s f.last t (spared_turns f.count f.last f.turns) (spared_end f.count f.last r t f.turns f.ends)
 
   -- all that filling promises
   pub fills : {A : Type 0} (s : Buffered S P) (r : Result A Error) (t : Buffered S P) → IsBlock t.block → Filled rules s r t → Fills rules s r t
-  unfolding Spared
   fills s r t whole f =
       let facts = filled_facts rules s r t whole f in
       let holds = facts.holds in record {
@@ -219,7 +166,7 @@ module _ {S P : Type 0} (rules : ReadRules P) where
         last = facts.last;
         ahead = looks_ahead (rules.claims s.policy).minimum s r t refl f;
         steadily = λ w. steady_fill s w r t whole f;
-        sparing = λ n w. spared_ends n s w f.count f.last r t f.turns f.ends;
+        sparing = λ keep claims. spared_filled keep s claims r t f;
       }
 
   -- filling ends so too where the call returns something else at Ok

@@ -1,5 +1,6 @@
 pub mod Turning
 pub mod Copying
+pub mod SparingFacts
 pub mod FillFacts
 pub mod FillClaims
 pub mod WriterFacts

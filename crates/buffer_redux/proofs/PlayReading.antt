@@ -1,12 +1,15 @@
 -- Runs of a reader go on by one step, and hand out what their steps do.
 use Rattle.std.proofs.Common.{◌≡◌, ℕ, ◌<◌, Bool, List, [], ◌∷◌, ◌++◌, length, take, refl, sym, ap, subst, ◌∙◌, arith, append_assoc, append-nil, length-append}
+use Rattle.std.proofs.lemmas.List.Elements.{All-head, All-tail, All-take}
+use Rattle.std.specs.List.{All}
 use Rattle.std.specs.Prelude.{MatchBool}
 use Rattle.redux_buffer.specs.LogGrows.{ReadLogGrows-none, ReadLogGrows-joins}
 use Rattle.buffer_redux.specs.declared.play.ReaderCall.{ReaderCall}
 use Rattle.buffer_redux.specs.declared.play.ReaderAnswer.{ReaderAnswer}
-use Rattle.buffer_redux.specs.Policy.{ReadRules}
+use Rattle.buffer_redux.specs.Policy.{ReadRules, ClaimsToSpare}
 use Rattle.buffer_redux.specs.ReaderLaws.{ReadsInOrder-none, ReadsInOrder-joins}
-use Rattle.buffer_redux.specs.PlayReader.{Handing, HandsOut, ReaderStep, ReaderRuns, ReaderPlays}
+use Rattle.buffer_redux.specs.PlayReader.{Handing, HandsOut, MakesNoRoom, ReaderStep, ReaderRuns, ReaderPlays}
+use Rattle.buffer_redux.specs.Sparing.{Spared, Spared-none, Spared-joins, SparesClaimed}
 
 pub HandsOut-none : {S P : Type 0} (s : Handing S P) → HandsOut s [] s
 HandsOut-none s = record {
@@ -47,6 +50,27 @@ module _ {S P : Type 0} (rules : ReadRules P) where
       let rest = ReaderRuns-hands_out h.0 calls answers t h.2 in
       (h.1.out ++ rest.0, HandsOut-joins s h.0 t h.1.out rest.0 h.1.hands_out rest.1)
 
+  -- what the policy claims stays in a run, and a run that doesn't make room spares what it claims to
+  pub ReaderRuns-claims : (s : Handing S P) (calls : List ReaderCall) (answers : List ReaderAnswer) (t : Handing S P)
+      → ReaderRuns rules s calls answers t → rules.claims t.reader.policy ≡ rules.claims s.reader.policy
+  ReaderRuns-claims s [] [] t e = ap (λ (x : Handing S P). rules.claims x.reader.policy) (sym e)
+  ReaderRuns-claims s [] (a ∷ answers) t e = absurd e
+  ReaderRuns-claims s (c ∷ calls) [] t e = absurd e
+  ReaderRuns-claims s (c ∷ calls) (a ∷ answers) t h = ReaderRuns-claims h.0 calls answers t h.2 ∙ h.1.claims
+
+  pub ReaderRuns-sparing : (s : Handing S P) (calls : List ReaderCall) (answers : List ReaderAnswer) (t : Handing S P)
+      → ReaderRuns rules s calls answers t → All MakesNoRoom calls → SparesClaimed rules s.reader t.reader
+  ReaderRuns-sparing s [] [] t e still keep claims =
+      subst (λ (x : Handing S P). Spared keep s.reader x.reader) e (Spared-none keep s.reader)
+  ReaderRuns-sparing s [] (a ∷ answers) t e still keep claims = absurd e
+  ReaderRuns-sparing s (c ∷ calls) [] t e still keep claims = absurd e
+  ReaderRuns-sparing s (c ∷ calls) (a ∷ answers) t h still keep claims =
+      let m : Handing S P = h.0 in
+      Spared-joins keep s.reader m.reader t.reader
+      (h.1.sparing (All-head MakesNoRoom c calls still) keep claims)
+      (ReaderRuns-sparing m calls answers t h.2 (All-tail MakesNoRoom c calls still) keep
+      (subst (λ x. ClaimsToSpare x.spares keep) (sym h.1.claims) claims))
+
   -- where the player stops, at the end or at a call that it didn't begin
   pub ReaderPlays-stops : (s : Handing S P) (calls : List ReaderCall) (old answers : List ReaderAnswer) (t : Handing S P)
       (new : List ReaderAnswer) → new ≡ old ++ answers → (ok : Bool) (index : ℕ) → length answers ≡ index
@@ -61,4 +85,6 @@ module _ {S P : Type 0} (rules : ReadRules P) where
         ended = subst (λ n. MatchBool ok (n ≡ length calls) (n < length calls)) (sym count) ended;
         out = out.0;
         hands_out = out.1;
+        claims = ReaderRuns-claims s (take index calls) answers t run;
+        sparing = λ still. ReaderRuns-sparing s (take index calls) answers t run (All-take MakesNoRoom index calls still);
       }

@@ -1,14 +1,14 @@
 -- What the calls of a buffered reader promise.
-use Rattle.std.specs.Prelude.{◌≡◌, ℕ, ◌+◌, ◌-◌, ◌*◌, ◌<◌, ◌≤◌, ◌⊎◌, List, [], ◌∷◌, ◌++◌, length, drop, min, Result, Ok, Err, Bool, true, false, Option, None, Some, is_ok, IfOk, MatchResult, ⊤}
+use Rattle.std.specs.Prelude.{◌≡◌, ℕ, ◌+◌, ◌-◌, ◌<◌, ◌≤◌, ◌⊎◌, List, [], ◌∷◌, ◌++◌, length, drop, min, Result, Ok, Err, Bool, true, false, Option, None, Some, is_ok, IfOk, MatchResult, ⊤}
 use Rattle.std.specs.Borrow.{Bor}
 use Rattle.std.specs.IoError.{error_kind}
 use Rattle.std.specs.declared.io.Error.{Error}
-use Rattle.redux_buffer.specs.Block.{Block, IsBlock, OnKind, ConsumesFirst, OnlyRingMoves, usable}
-use Rattle.redux_buffer.specs.Potential.{potential}
+use Rattle.redux_buffer.specs.Block.{Block, IsBlock, ConsumesFirst, OnlyRingMoves, usable}
 use Rattle.redux_buffer.specs.LogGrows.{ReadLogGrows}
 use Rattle.buffer_redux.specs.declared.policy.DoRead.{DoRead}
 use Rattle.buffer_redux.specs.Policy.{ReadRules, BeforeRead, AfterConsume, no_read, read_now}
 use Rattle.buffer_redux.specs.Buffered.{Buffered}
+use Rattle.buffer_redux.specs.Sparing.{SparesClaimed}
 
 -- the bytes handed out, then those buffered, are those that were buffered, then those given since
 pub record ReadsInOrder {S P : Type 0} (s : Buffered S P) (handed : List ℕ) (t : Buffered S P) : Type 0 where
@@ -85,17 +85,6 @@ pub record SteadyFill {S P : Type 0} (s : Buffered S P) (ok : Bool) (t : Buffere
 abbrev pub FillsSteadily : {S P : Type 0} → ReadRules P → Buffered S P → Bool → Buffered S P → Type 0
 FillsSteadily rules s ok t = (rules.claims s.policy).steady ≡ true → SteadyFill s ok t
 
--- the potential of a buffer of three times the number rose by no more than was given
-pub record PotentialHeld {S P : Type 0} (n : ℕ) (s t : Buffered S P) : Type 0 where
-  pub moved : s.block.moved ≤ t.block.moved
-  pub held : (keep : ℕ) → n ≤ keep → 3 * keep ≤ s.block.capacity
-      → potential keep t.block + length s.log.reads.given ≤ potential keep s.block + length t.log.reads.given
-
--- so it is of a plain buffer under a policy that spares the number
-abbrev pub FillsSparing : {S P : Type 0} → ReadRules P → Buffered S P → Buffered S P → Type 0
-FillsSparing rules s t =
-    (n : ℕ) → (rules.claims s.policy).spares ≡ Some n → OnKind s.block.kind (PotentialHeld n s t) ⊤
-
 -- all that filling promises
 pub record Fills {S P A : Type 0} (rules : ReadRules P) (s : Buffered S P) (answer : Result A Error) (t : Buffered S P)
     : Type 0 where
@@ -112,7 +101,7 @@ pub record Fills {S P A : Type 0} (rules : ReadRules P) (s : Buffered S P) (answ
   pub last : s.log.reads.asks < t.log.reads.asks → LastAsk rules s t
   pub ahead : LooksAhead (rules.claims s.policy).minimum s (is_ok answer) t
   pub steadily : FillsSteadily rules s (is_ok answer) t
-  pub sparing : FillsSparing rules s t
+  pub sparing : SparesClaimed rules s t
 
 -- what `fill_buf()` does: it fills, and at Ok lends all that is buffered
 pub record FillBuf {S P : Type 0} (rules : ReadRules P)

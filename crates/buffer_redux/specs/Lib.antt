@@ -11,6 +11,7 @@ pub mod Policy
 pub mod MinBuffered
 pub mod MakeError
 pub mod Buffered
+pub mod Sparing
 pub mod Fill
 pub mod BufReader
 pub mod Seek

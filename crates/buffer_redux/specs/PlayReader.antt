@@ -1,5 +1,6 @@
 -- The calls of a buffered reader as steps, and whole runs of them.
-use Rattle.std.specs.Prelude.{◌≡◌, ℕ, ◌+◌, ◌<◌, ◌≤◌, List, [], ◌∷◌, ◌++◌, length, take, min, Ok, Err, Bool, MatchBool}
+use Rattle.std.specs.Prelude.{◌≡◌, ℕ, ◌+◌, ◌<◌, ◌≤◌, List, [], ◌∷◌, ◌++◌, length, take, min, Ok, Err, Bool, MatchBool, ⊤}
+use Rattle.std.specs.List.{All}
 use Rattle.std.specs.IoError.{error_kind}
 use Rattle.std.specs.declared.io.Error.{Error}
 use Rattle.std.specs.declared.io.ErrorKind.{ErrorKind}
@@ -15,6 +16,7 @@ use Rattle.buffer_redux.specs.declared.play.ReaderAnswer.TheVariants.{Count, Sho
 use Rattle.buffer_redux.specs.Policy.{ReadRules}
 use Rattle.buffer_redux.specs.Buffered.{Buffered, with_block}
 use Rattle.buffer_redux.specs.BufReader.{ReadsInOrder, ReadErrorCaused, EmptyReadCaused, EmptyFillCaused, ReaderConsumes}
+use Rattle.buffer_redux.specs.Sparing.{SparesClaimed}
 
 -- a reader, and the bytes that were handed out so far
 pub record Handing (S P : Type 0) : Type 0 where
@@ -113,12 +115,19 @@ pub record HandsOut {S P : Type 0} (s : Handing S P) (out : List ℕ) (t : Handi
   pub grows : ReadLogGrows s.reader.log.reads t.reader.log.reads
   pub consumed : t.reader.block.consumed ≤ s.reader.block.consumed + length out
 
--- one call with its answer
+-- a call that doesn't make room by itself
+abbrev pub MakesNoRoom : ReaderCall → Type 0
+MakesNoRoom MakeRoom = ⊥
+MakesNoRoom call = ⊤
+
+-- one call with its answer. What the policy claims stays, and it spares what the policy claims to, unless it makes room
 pub record ReaderStep {S P : Type 0} (rules : ReadRules P) (s : Handing S P) (call : ReaderCall) (answer : ReaderAnswer)
     (t : Handing S P) : Type 0 where
   pub out : List ℕ
   pub hands_out : HandsOut s out t
   pub answers : ReaderAnswers rules s.reader call answer out t.reader
+  pub claims : rules.claims t.reader.policy ≡ rules.claims s.reader.policy
+  pub sparing : MakesNoRoom call → SparesClaimed rules s.reader t.reader
 
 -- calls with as many answers, one step after another
 abbrev pub ReaderRuns : {S P : Type 0} → ReadRules P → Handing S P → List ReaderCall → List ReaderAnswer → Handing S P
@@ -139,6 +148,8 @@ pub record ReaderPlays {S P : Type 0} (rules : ReadRules P) (s : Handing S P) (c
   pub ended : MatchBool ok (length answers ≡ length calls) (length answers < length calls)
   pub out : List ℕ
   pub hands_out : HandsOut s out t
+  pub claims : rules.claims t.reader.policy ≡ rules.claims s.reader.policy
+  pub sparing : All MakesNoRoom calls → SparesClaimed rules s.reader t.reader
 
 -- how long a slice a call reads into, and how many bytes it may hand out
 abbrev pub room_to_read : ReaderCall → ℕ

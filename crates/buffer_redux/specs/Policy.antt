@@ -87,6 +87,11 @@ abbrev pub Spares : Option ℕ → Block → Block → Type 0
 Spares None old new = ⊤
 Spares (Some n) old new = OnKind old.kind (SparesPlain n old new) ⊤
 
+-- the numbers that such a claim speaks of
+abbrev pub ClaimsToSpare : Option ℕ → ℕ → Type 0
+ClaimsToSpare None keep = ⊥
+ClaimsToSpare (Some n) keep = n ≤ keep
+
 -- what the claim asks of a call of `before_write`
 abbrev pub FlushesSteadily : Bool → ℕ → Result FlushAmt Error → Block → Type 0
 FlushesSteadily false incoming answer b' = ⊤

@@ -1,5 +1,5 @@
 //! The buffered reader.
-ghost use Rattle.std.specs.Prelude.{◌≡◌, ◌<◌, ◌≤◌, ◌^◌, [], ◌++◌, length, take, drop, min, Ok, IfOk, OnOk, OnErr, IsOk};
+ghost use Rattle.std.specs.Prelude.{◌≡◌, ℕ, ◌<◌, ◌≤◌, ◌^◌, [], ◌++◌, length, take, drop, min, Ok, IfOk, OnOk, OnErr, IsOk};
 ghost use Rattle.std.specs.Borrow.{sem, Lends};
 ghost use Rattle.std.specs.Io.{ReadsAtMost};
 ghost use Rattle.std.specs.Io.BufRead.{Rests};
@@ -13,6 +13,7 @@ ghost use Rattle.buffer_redux.specs.Fill.{Filled};
 ghost use Rattle.buffer_redux.specs.Buffered.{over_buffer, with_block, with_inner, with_policy, Makes, GoesPast, StaysInside, GoesDirect};
 ghost use Rattle.buffer_redux.specs.BufReader.{ReadsInOrder, ReadErrorCaused, EmptyReadCaused, RanDry, FillBuf, ReaderConsumes, ReadsBuffered, LeavesRest};
 ghost use Rattle.buffer_redux.specs.ReaderLaws.{WantsBytes};
+ghost use Rattle.buffer_redux.specs.Sparing.{Spared, SparesClaimed};
 
 use crate::errors::MakeError;
 use crate::policy::{ReaderPolicy, StdPolicy};
@@ -209,6 +210,7 @@ impl<R: Tell, P> BufReader<R, P> {
         ensures limit { FitsWithin result (capacity_for self.old.block a) self.old.block.limit }
         ensures succeeds { a ≤ usable self.old.block → IsOk result }
         ensures in_order { ReadsInOrder self.old [] self.new }
+        ensures spared { (keep : ℕ) → Spared keep self.old self.new }
         ensures others { self.new ≡ with_block self.old self.new.block }
         ensures whole { IsBlock self.new.block }
     {
@@ -255,6 +257,7 @@ impl<R: TellRead, P> BufReader<R, P> {
         ensures err { OnErr result (LeavesBytes self.old.block self.new.block) }
         ensures policy { self.new.policy ≡ self.old.policy }
         ensures noted { self.new.calls ≡ self.old.calls }
+        ensures spared { (keep : ℕ) → Spared keep self.old self.new }
         ensures whole { IsBlock self.new.block }
     {
         self.buf.read_from(&mut self.inner)
@@ -287,6 +290,7 @@ impl<R: TellRead, P: ReaderPolicy> BufReader<R, P> {
         ensures grows { ReadLogGrows self.old.log.reads self.new.log.reads }
         ensures consumed { ReaderConsumes P.rules result self.old self.new }
         ensures noted { self.new.calls ≡ self.old.calls }
+        ensures sparing { SparesClaimed P.rules self.old self.new }
         ensures capacity { self.old.block.capacity ≤ self.new.block.capacity }
         ensures whole { IsBlock self.new.block }
     {
@@ -307,6 +311,7 @@ impl<R: TellRead, P: ReaderPolicy> Read for BufReader<R, P> {
             → WantsBytes (P.rules.claims self.old.policy) → RanDry self.old self.new }
         ensures capacity { self.old.block.capacity ≤ self.new.block.capacity }
         ensures claims { P.rules.claims self.new.policy ≡ P.rules.claims self.old.policy }
+        ensures sparing { SparesClaimed P.rules self.old self.new }
         ensures whole { IsBlock self.new.block }
         ensures direct { GoesPast self.old.block (length out.old)
             → GoesDirect after_read self.old out.new result self.new }
@@ -342,6 +347,7 @@ impl<R: TellRead, P: ReaderPolicy> BufRead for BufReader<R, P> {
         ensures grows { ReadLogGrows self.old.log.reads self.new.log.reads }
         ensures consumed { ReaderConsumes P.rules amount self.old self.new }
         ensures noted { self.new.calls ≡ self.old.calls }
+        ensures sparing { SparesClaimed P.rules self.old self.new }
         ensures capacity { self.old.block.capacity ≤ self.new.block.capacity }
         ensures whole { IsBlock self.new.block }
     {

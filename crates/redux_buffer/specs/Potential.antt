@@ -2,7 +2,7 @@
 use Rattle.std.specs.Prelude.{◌≡◌, ℕ, ◌+◌, ◌-◌, ◌*◌, ◌<◌, ◌≤◌, ◌==◌, List, length, nat_le, ⊤}
 use Rattle.std.proofs.Common.{◌∙◌, arith, inl, inr, subst}
 use Rattle.std.proofs.lemmas.Bool.{cases_lt, cond_both, leb-false}
-use Rattle.redux_buffer.specs.Block.{Block, Kind, Plain, OnKind, IsBlock, ConsumesFirst, Clears, Reserves, Extends, PushesBytes, MakesRoom, MovesToFront, OnlyRingMoves, usable, place_of, needed, capacity_for, capacity_to_push}
+use Rattle.redux_buffer.specs.Block.{Block, Kind, Plain, OnKind, IsBlock, ConsumesFirst, Reserves, Extends, MakesRoom, MovesToFront, OnlyRingMoves, usable, place_of, needed, capacity_for}
 
 -- what was moved, and how far the bytes reach beyond the first keep places
 abbrev pub potential : ℕ → Block → ℕ
@@ -27,11 +27,6 @@ pub record RoomPays (keep : ℕ) (b : Block) : Type 0 where
 pub of_plain : (k : Kind) (P Q : Type 0) → k ≡ Plain → OnKind k P Q → P
 of_plain k P Q plain x = subst (λ o. OnKind o P Q) plain x
 
--- nothing but the bytes of the tail changed
-pub potential-same : (old new : Block) → new.moved ≡ old.moved → new.capacity ≡ old.capacity → usable new ≡ usable old
-    → PlainRises 0 old new
-potential-same old new moved capacity room plain keep = record { moved = omega arith; held = omega arith }
-
 -- dropping bytes doesn't raise the potential
 pub potential-consume : (n : ℕ) (old new : Block) → ConsumesFirst n old new → OnlyRingMoves old new → IsBlock new
     → PlainRises 0 old new
@@ -46,10 +41,6 @@ potential-consume n old new drops moves whole plain keep =
         | inr none ↦ omega (arith, still, all (omega (arith, none)), drops.capacity)
       ];
     }
-
-pub potential-clear : (old new : Block) → Clears old new → PlainRises 0 old new
-potential-clear old new clears plain keep =
-    record { moved = omega (arith, clears.moved); held = omega (arith, clears.moved, clears.usable, clears.capacity) }
 
 -- a plain block grows only upwards, and as much behind its bytes as in all
 needed_grows : (b : Block) (a : ℕ) → b.kind ≡ Plain → usable b < a → b.capacity ≤ needed b a
@@ -70,13 +61,6 @@ pub potential-append : (xs : List ℕ) (old new : Block) → Extends xs old new 
 potential-append xs old new adds plain keep =
     let still = of_plain old.kind (new.moved ≡ old.moved) (old.moved ≤ new.moved) plain adds.moved in
     record { moved = omega (arith, still); held = omega (arith, still, adds.usable, adds.capacity) }
-
-pub potential-push : (xs : List ℕ) (old new : Block) → PushesBytes xs old new → PlainRises (length xs) old new
-potential-push xs old new adds plain keep =
-    let still = of_plain old.kind (new.moved ≡ old.moved) (old.moved ≤ new.moved) plain adds.moved in
-    let up : old.capacity ≤ capacity_to_push old xs =
-    cond_both (nat_le (length xs) (usable old)) old.capacity (capacity_for old (2 * length xs)) (λ c. old.capacity ≤ c) (λ _. omega arith) (λ _. capacity_grows old (2 * length xs) plain) in
-    record { moved = omega (arith, still); held = omega (arith, still, up, adds.usable, adds.capacity) }
 
 -- making room doesn't raise it where it pays
 pub potential-make_room : (keep : ℕ) (old new : Block) → MakesRoom old new → MovesToFront old new → RoomPays keep old

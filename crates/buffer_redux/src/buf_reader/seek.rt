@@ -1,10 +1,11 @@
 //! Seeks of the buffered reader.
-ghost use Rattle.std.specs.Prelude.{◌≡◌, ◌^◌, ◌≤◌, None, length};
+ghost use Rattle.std.specs.Prelude.{◌≡◌, ℕ, ◌^◌, ◌≤◌, None, length};
 ghost use Rattle.std.specs.Io.KnownBytes.{Keeps};
 ghost use Rattle.std.specs.Io.Seek.{SeekMoves};
 ghost use Rattle.redux_buffer.specs.Block.{IsBlock};
 ghost use Rattle.redux_buffer.specs.StreamLog.{with_fault};
 ghost use Rattle.buffer_redux.specs.Seek.{planned, Seeks, SeeksOnce, SeekLeaves};
+ghost use Rattle.buffer_redux.specs.Sparing.{Spared};
 
 use crate::buf_reader::BufReader;
 use redux_buffer::tell::TellSeek;
@@ -61,6 +62,7 @@ impl<R: TellSeek, P> Seek for BufReader<R, P> {
         ensures bytes { Keeps None None }
         ensures seeks { Seeks (planned to (length self.old.block.bytes)) self.old result self.new }
         ensures leaves { SeekLeaves self.old result self.new }
+        ensures spared { (keep : ℕ) → Spared keep self.old self.new }
         ensures caused { self.new.log.seeks.faults ≡ with_fault self.old.log.seeks.faults result }
         ensures whole { IsBlock self.new.block }
     {

@@ -3,9 +3,11 @@ use Rattle.std.proofs.Common.{rules}
 use Rattle.std.proofs.lemmas.Bool.{cases_lt}
 use Rattle.std.proofs.lemmas.Result.{err_from_is_err_and}
 use Rattle.redux_buffer.specs.LogGrows.{ReadLogGrows-joins}
+use Rattle.buffer_redux.specs.Policy.{ClaimsToSpare}
 use Rattle.buffer_redux.specs.Buffered.{StaysInside}
 use Rattle.buffer_redux.specs.BufReader.{ReadsInOrder, Fills}
 use Rattle.buffer_redux.specs.ReaderLaws.{ReadsInOrder-joins, Fills-empty}
+use Rattle.buffer_redux.specs.Sparing.{Spared-joins}
 use Rattle.buffer_redux.proofs.FillFacts.{ReadsInOrder-direct, empty_read, inside_room}
 use Rattle.buffer_redux.proofs.FillClaims.{fills, filled_ok, filled_err}
 use Rattle.buffer_redux.proofs.buf_reader.BufReaderRead.read.Goals as goal
@@ -104,6 +106,16 @@ returns-clause-capacity g c = le_trans (filled g c).capacity c.hand_out.ensures.
 
 pub returns-clause-claims : goal.returns-clause-claims
 returns-clause-claims g c = c.hand_out.ensures.consumed.told_policy.claims ∙ (filled g c).claims
+
+pub returns-in_err-fill-clause-sparing : goal.returns-in_err-fill-clause-sparing
+returns-in_err-fill-clause-sparing g c = (failed g c).sparing
+
+pub returns-clause-sparing : goal.returns-clause-sparing
+returns-clause-sparing g c =
+    let f = filled g c in
+    λ keep claims.
+    Spared-joins keep c.args.self.now c.fill.new.self c.hand_out.new.self (f.sparing keep claims)
+    (c.hand_out.ensures.sparing keep (subst (λ x. ClaimsToSpare x.spares keep) (sym f.claims) claims))
 
 pub returns-clause-buffered : goal.returns-clause-buffered
 returns-clause-buffered g c inside = record {
