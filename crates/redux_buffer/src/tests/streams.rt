@@ -141,11 +141,15 @@ struct Page<'a> {
 }
 
 impl Tell for Page<'_> {
-    ghost log = { λ s. s.calls.log };
+    ghost use Rattle.redux_buffer.specs.StreamLog.{with_shown};
+
+    ghost log = { λ s. with_shown s.calls.log s.left.now };
 }
 
 impl TellBufRead for Page<'_> {
-    ghost stretch = { λ s t. FillLogGrows s.calls.log.fills t.calls.log.fills };
+    ghost use Rattle.redux_buffer.specs.StreamLog.{with_shown};
+
+    ghost stretch = { λ s t. FillLogGrows (with_shown s.calls.log s.left.now).fills (with_shown t.calls.log t.left.now).fills };
 
     fn fill_told(&mut self) -> io::Result<&[u8]> {
         self.calls.note(&Call::Shown(self.left));
@@ -153,15 +157,15 @@ impl TellBufRead for Page<'_> {
     }
 
     fn consume_told(&mut self, amount: usize) {
+        self.calls.note(&Call::Consume(self.left, amount));
         self.left = &self.left[amount.min(self.left.len())..];
-        self.calls.note(&Call::Consume(amount));
     }
 
-    ghost stretch_none = { λ s. FillLogGrows-none s.calls.log.fills };
+    ghost stretch_none = { λ s. FillLogGrows-none _ };
 
-    ghost stretch_joins = { λ a b c. FillLogGrows-joins a.calls.log.fills b.calls.log.fills c.calls.log.fills };
+    ghost stretch_joins = { λ a b c. FillLogGrows-joins _ _ _ };
 
-    ghost stretch_grows = { λ s t grows. FillsGoOn-of s.calls.log t.calls.log grows };
+    ghost stretch_grows = { λ s t grows. FillsGoOn-of (with_shown s.calls.log s.left.now) (with_shown t.calls.log t.left.now) grows };
 }
 
 fn shown_len<B: TellBufRead>(reader: &mut B) -> io::Result<usize> {
