@@ -1,5 +1,5 @@
 -- What spares a number: a call of a policy that claims to, and a read into the buffer.
-use Rattle.std.proofs.Common.{◌≡◌, ℕ, ◌+◌, ◌≤◌, length, Result, Option, None, Some, ap, arith, length-append}
+use Rattle.std.proofs.Common.{◌≡◌, ℕ, length, Result, Option, None, Some, ap, arith, length-append}
 use Rattle.std.specs.Bool.{⊤}
 use Rattle.std.specs.declared.io.Error.{Error}
 use Rattle.redux_buffer.specs.Potential.{of_plain, potential-append}

@@ -1,7 +1,7 @@
 -- How calls of a reader spare its plain buffer moves, over any stretch of them.
-use Rattle.std.specs.Prelude.{◌≡◌, ℕ, ◌+◌, ◌*◌, ◌≤◌, List, [], length}
+use Rattle.std.specs.Prelude.{◌≡◌, ℕ, ◌+◌, ◌*◌, ◌≤◌, [], length}
 use Rattle.std.proofs.Common.{◌∙◌, ap, arith, le_refl, le_trans, refl}
-use Rattle.redux_buffer.specs.Block.{Block, Kind, Plain, OnKind, IsBlock, usable}
+use Rattle.redux_buffer.specs.Block.{Plain, IsBlock, usable}
 use Rattle.redux_buffer.specs.Potential.{potential, of_plain}
 use Rattle.buffer_redux.specs.Policy.{ReadRules, ClaimsToSpare}
 use Rattle.buffer_redux.specs.Buffered.{Buffered, with_policy}

@@ -7,6 +7,7 @@ ghost use Rattle.buffer_redux.specs.MinBuffered.{min_read_rules};
 ghost use Rattle.buffer_redux.specs.Unwrapping.{KeepsUnsent};
 
 mod between;
+mod sparing;
 mod writes;
 
 use crate::buf_reader::BufReader;
@@ -14,8 +15,9 @@ use crate::buf_writer::BufWriter;
 use crate::policy::MinBuffered;
 pub use between::{rebuild_reader_under, rebuild_writer_under};
 use redux_buffer::Buffer;
-pub use redux_buffer::laws::{copy_through, make_room_again, ring_law};
+pub use redux_buffer::laws::{copy_through, make_room_again, potential, ring_law};
 use redux_buffer::tell::{Tell, TellRead, TellWrite};
+pub use sparing::{play_sparing, spare_between};
 use std::io;
 use std::io::{BufRead, Read};
 pub use writes::{

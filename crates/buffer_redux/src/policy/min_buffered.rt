@@ -1,6 +1,7 @@
 //! A policy that looks ahead.
-ghost use Rattle.std.specs.Prelude.{◌≡◌};
+ghost use Rattle.std.specs.Prelude.{◌≡◌, ℕ, ◌≤◌};
 ghost use Rattle.buffer_redux.specs.MinBuffered.{min_read_rules};
+ghost use Rattle.buffer_redux.specs.Policy.{ClaimsToSpare};
 
 use crate::policy::{DoRead, ReaderPolicy};
 use redux_buffer::Buffer;
@@ -15,9 +16,10 @@ use std::io;
 pub struct MinBuffered(pub usize);
 
 impl MinBuffered {
-    /// Another number of bytes, from the next call on.
+    /// Another number of bytes, from the next call on. Numbers that are at least as large are spared from then on.
     pub fn set_min(&mut self, min: usize)
-        ensures { self.new ≡ record { 0 = min } }
+        ensures number { self.new ≡ record { 0 = min } }
+        ensures spared { (keep : ℕ) → min ≤ keep → ClaimsToSpare (min_read_rules.claims self.new).spares keep }
     {
         self.0 = min;
     }
