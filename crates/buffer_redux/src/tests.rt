@@ -4,6 +4,7 @@ mod example;
 mod lines;
 mod lookahead;
 mod makers;
+mod moves;
 mod play;
 mod policies;
 mod reader;

@@ -1,5 +1,5 @@
 //! Looking ahead, reading up to a byte, and the calls of a reader that move, grow or free its buffer.
-use crate::policy::{DoRead, MinBuffered, ReaderPolicy, StdPolicy};
+use crate::policy::{MinBuffered, ReaderPolicy, StdPolicy};
 use crate::tests::holding;
 use crate::{BufReader, Buffer, laws};
 use memchr::memchr;
@@ -248,54 +248,6 @@ fn another_minimum(rt: HostRuntime) -> Result<(), Fail> {
         &mut rdr,
         &[Step::Fill(Ok(&[0, 1, 2, 3, 4, 5])), Step::Stands(6, 2)],
     )
-}
-
-// Does as the policy inside, and counts the bytes that it moved.
-#[derive(Drop)]
-struct Weighing {
-    inner: MinBuffered,
-    moved: usize,
-}
-
-fn place(buffer: &Buffer) -> usize {
-    buffer.capacity() - buffer.usable_space() - buffer.len()
-}
-
-impl ReaderPolicy for Weighing {
-    fn before_read(&mut self, buffer: &mut Buffer) -> io::Result<DoRead> {
-        let from = place(buffer);
-        let answer = self.inner.before_read(buffer);
-        if place(buffer) != from {
-            self.moved = self.moved.saturating_add(buffer.len());
-        }
-        answer
-    }
-
-    fn after_consume(&mut self, buffer: &mut Buffer, amt: usize) {
-        self.inner.after_consume(buffer, amt);
-    }
-}
-
-#[test]
-fn moves_few(rt: HostRuntime) -> Result<(), Fail> {
-    let policy = Weighing {
-        inner: MinBuffered(4),
-        moved: 0,
-    };
-    let buf = Buffer::with_capacity(rt.alloc(), 8)?;
-    let mut rdr = reader(rt.alloc(), buf, &FROM_ONE, &[], policy)?;
-    let steps = [
-        Step::Fill(Ok(&[1, 2, 3, 4, 5, 6, 7, 8])),
-        Step::Consume(3),
-        Step::Fill(Ok(&[4, 5, 6, 7, 8])),
-        Step::Consume(4),
-        Step::Fill(Ok(&[8, 9, 10, 11, 12, 13, 14, 15])),
-        Step::Consume(5),
-        Step::Fill(Ok(&[13, 14, 15])),
-    ];
-    walks(&rt, &mut rdr, &steps)?;
-    assert_eq!(rt; rdr.policy().moved, 4);
-    Ok(())
 }
 
 // All bytes up to and with the first `end`, or all that are left.
