@@ -7,6 +7,7 @@ pub mod GoesOn
 pub mod StreamLog
 pub mod LogGrows
 pub mod Calls
+pub mod GivesRemaining
 pub mod Told
 pub mod Faults
 pub mod Transfer

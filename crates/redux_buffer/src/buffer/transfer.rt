@@ -1,7 +1,9 @@
 //! What a buffer reads from and writes to a stream.
 ghost use Rattle.std.specs.Prelude.{◌≡◌, ◌≤◌, ◌<◌, ◌⊎◌, length, Ok, OnErr};
 ghost use Rattle.std.specs.Io.{WritesAtMost};
+ghost use Rattle.std.specs.Io.KnownBytes.{IsAtEnd};
 ghost use Rattle.redux_buffer.specs.Block.{IsBlock, LeavesBytes, OnlyRingMoves, usable};
+ghost use Rattle.redux_buffer.specs.GivesRemaining.{GivesRemaining};
 ghost use Rattle.redux_buffer.specs.Transfer.{ReadsFrom, WritesTo, WritesRetried, Sends};
 
 use crate::INTERRUPT_LIMIT;
@@ -18,6 +20,9 @@ impl Buffer {
         ensures read { ReadsFrom self.old (R.log rdr.old) result self.new (R.log rdr.new) }
         ensures not_asked { usable self.old ≡ 0 → rdr.new ≡ rdr.old }
         ensures err { OnErr result (LeavesBytes self.old self.new) }
+        ensures known { GivesRemaining (R.remaining rdr.old) (R.log rdr.old).reads
+            (R.remaining rdr.new) (R.log rdr.new).reads }
+        ensures end { result ≡ Ok 0 → 0 < usable self.old → IsAtEnd (R.remaining rdr.new) }
         ensures whole { IsBlock self.new }
     {
         if self.usable_space() == 0 {

@@ -1,6 +1,7 @@
 //! The calls of std's streams, under contracts that tell of each call.
-ghost use Rattle.std.specs.Prelude.{◌≡◌};
+ghost use Rattle.std.specs.Prelude.{◌≡◌, ℕ, List, Option, None};
 ghost use Rattle.std.specs.Io.{ReadsAtMost, WritesAtMost};
+ghost use Rattle.std.specs.Io.KnownBytes.{ReadConsumes};
 ghost use Rattle.std.specs.Borrow.{sem};
 ghost use Rattle.std.specs.Io.BufRead.{Rests};
 ghost use Rattle.redux_buffer.specs.StreamLog.{StreamLog, after_read, after_write, after_flush, after_seek, after_consume, FillTells};
@@ -17,10 +18,14 @@ pub trait Tell {
 
 /// An honest reader: `Ok(n)` gave the first n bytes of the slice, and an `Err` gave none.
 pub trait TellRead: Tell {
+    // The bytes that reads will give from here on, where they are known, as std's `Read` has them.
+    ghost remaining: { Self → Option (List ℕ) } = { λ _. None };
+
     /// [`Read::read`](std::io::Read::read).
     fn read_told(&mut self, buf: &mut [u8]) -> io::Result<usize>
         ensures bound { ReadsAtMost result buf.new }
-        ensures told { Self.log self.new ≡ after_read (Self.log self.old) buf.new result };
+        ensures told { Self.log self.new ≡ after_read (Self.log self.old) buf.new result }
+        ensures bytes { ReadConsumes (remaining self.old) (remaining self.new) result buf.new };
 }
 
 /// An honest writer: `Ok(n)` took the first n bytes of the slice, and an `Err` took none.

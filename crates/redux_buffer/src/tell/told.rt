@@ -72,10 +72,12 @@ impl<S> Tell for Told<S> {
 impl<S: Read> TellRead for Told<S> {
     ghost use Rattle.redux_buffer.specs.Told.{told_stream, told_log};
 
+    ghost remaining = { λ t. S.remaining t.stream };
+
     fn read_told(&mut self, buf: &mut [u8]) -> io::Result<usize>
         ensures bound { ReadsAtMost result buf.new }
         ensures told { told_log self.new ≡ after_read (told_log self.old) buf.new result }
-        ensures passed_on { ReadConsumes (S.remaining (told_stream self.old))
+        ensures bytes { ReadConsumes (S.remaining (told_stream self.old))
             (S.remaining (told_stream self.new)) result buf.new }
     {
         let answer = self.stream.read(buf);
