@@ -1,7 +1,8 @@
 //! The calls of std's streams, under contracts that tell of each call.
 ghost use Rattle.std.specs.Prelude.{◌≡◌, ℕ, List, Option, None};
 ghost use Rattle.std.specs.Io.{ReadsAtMost, WritesAtMost};
-ghost use Rattle.std.specs.Io.KnownBytes.{ReadConsumes};
+ghost use Rattle.std.specs.Io.KnownBytes.{Keeps, ReadConsumes};
+ghost use Rattle.std.specs.Io.Seek.{SeekMoves};
 ghost use Rattle.std.specs.Borrow.{sem};
 ghost use Rattle.std.specs.Io.BufRead.{Rests};
 ghost use Rattle.redux_buffer.specs.StreamLog.{StreamLog, after_read, after_write, after_flush, after_seek, after_consume, FillTells};
@@ -81,7 +82,16 @@ pub trait TellBufRead: Tell {
 
 /// A seeker that tells where it was asked to go, and what it answered.
 pub trait TellSeek: Tell {
+    // Where the stream stands, where that is known, as std's `Seek` has it.
+    ghost stream_position: { Self → Option ℕ } = { λ _. None };
+
+    // All bytes of the stream, which a seek from the end counts, where they are known.
+    ghost stream_bytes: { Self → Option (List ℕ) } = { λ _. None };
+
     /// [`Seek::seek`](std::io::Seek::seek).
     fn seek_told(&mut self, to: SeekFrom) -> io::Result<u64>
-        ensures told { Self.log self.new ≡ after_seek (Self.log self.old) to result };
+        ensures told { Self.log self.new ≡ after_seek (Self.log self.old) to result }
+        ensures moves { SeekMoves (stream_position self.old) (stream_position self.new)
+            (stream_bytes self.old) to result }
+        ensures bytes { Keeps (stream_bytes self.old) (stream_bytes self.new) };
 }

@@ -124,9 +124,13 @@ impl<S: Write> TellWrite for Told<S> {
 impl<S: Seek> TellSeek for Told<S> {
     ghost use Rattle.redux_buffer.specs.Told.{told_stream, told_log};
 
+    ghost stream_position = { λ t. S.stream_position t.stream };
+
+    ghost stream_bytes = { λ t. S.stream_bytes t.stream };
+
     fn seek_told(&mut self, to: SeekFrom) -> io::Result<u64>
         ensures told { told_log self.new ≡ after_seek (told_log self.old) to result }
-        ensures passed_on { SeekMoves (S.stream_position (told_stream self.old))
+        ensures moves { SeekMoves (S.stream_position (told_stream self.old))
             (S.stream_position (told_stream self.new)) (S.stream_bytes (told_stream self.old)) to result }
         ensures bytes { Keeps (S.stream_bytes (told_stream self.old)) (S.stream_bytes (told_stream self.new)) }
     {
