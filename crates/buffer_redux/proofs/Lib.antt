@@ -3,6 +3,7 @@ pub mod Copying
 pub mod SparingFacts
 pub mod FillFacts
 pub mod FillClaims
+pub mod KnownAhead
 pub mod WriterFacts
 pub mod Telling
 pub mod Resting

@@ -5,6 +5,7 @@ use Rattle.std.specs.IoError.{error_kind}
 use Rattle.std.specs.declared.io.Error.{Error}
 use Rattle.redux_buffer.specs.Block.{Block, IsBlock, ConsumesFirst, OnlyRingMoves, usable}
 use Rattle.redux_buffer.specs.LogGrows.{ReadLogGrows}
+use Rattle.redux_buffer.specs.GivesRemaining.{GivesRemaining}
 use Rattle.buffer_redux.specs.declared.policy.DoRead.{DoRead}
 use Rattle.buffer_redux.specs.Policy.{ReadRules, BeforeRead, AfterConsume, no_read, read_now}
 use Rattle.buffer_redux.specs.Buffered.{Buffered}
@@ -103,10 +104,15 @@ pub record Fills {S P A : Type 0} (rules : ReadRules P) (s : Buffered S P) (answ
   pub steadily : FillsSteadily rules s (is_ok answer) t
   pub sparing : SparesClaimed rules s t
 
+-- of what the reader inside was known to have left, just what it gave since is gone
+abbrev pub InnerGives : {S P : Type 0} → (S → Option (List ℕ)) → Buffered S P → Buffered S P → Type 0
+InnerGives remaining s t = GivesRemaining (remaining s.inner) s.log.reads (remaining t.inner) t.log.reads
+
 -- what `fill_buf()` does: it fills, and at Ok lends all that is buffered
-pub record FillBuf {S P : Type 0} (rules : ReadRules P)
+pub record FillBuf {S P : Type 0} (remaining : S → Option (List ℕ)) (rules : ReadRules P)
     (s : Buffered S P) (answer : Result (Bor (List ℕ)) Error) (t : Buffered S P) : Type 0 where
   pub fills : Fills rules s answer t
+  pub known : InnerGives remaining s t
   pub shown : IfOk answer (λ bytes. bytes.now ≡ t.block.bytes)
   pub noted : t.calls ≡ s.calls
 

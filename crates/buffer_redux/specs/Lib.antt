@@ -1,5 +1,6 @@
 pub use Rattle.redux_buffer.specs.Block
 pub use Rattle.redux_buffer.specs.Faults
+pub use Rattle.redux_buffer.specs.GivesRemaining
 pub use Rattle.redux_buffer.specs.GoesOn
 pub use Rattle.redux_buffer.specs.GrowError
 pub use Rattle.redux_buffer.specs.LogGrows
@@ -16,6 +17,7 @@ pub mod Fill
 pub mod BufReader
 pub mod Seek
 pub mod ReaderLaws
+pub mod Remaining
 pub mod PlayReader
 pub mod Unbuffer
 pub mod BufWriter

@@ -3,9 +3,10 @@ use Rattle.std.specs.Prelude.{◌≡◌, ℕ, ◌<◌, ◌⊎◌, List, [], ◌+
 use Rattle.std.proofs.Common.{sym, ap, subst, refl, ◌∙◌, arith, inl, inr, append_assoc, append-nil}
 use Rattle.std.proofs.Math.Seq.{take-length}
 use Rattle.std.specs.declared.io.Error.{Error}
+use Rattle.redux_buffer.specs.GivesRemaining.{GivesRemaining-none, GivesRemaining-joins}
 use Rattle.buffer_redux.specs.Policy.{ReadRules, ReadClaims}
 use Rattle.buffer_redux.specs.Buffered.{Buffered}
-use Rattle.buffer_redux.specs.BufReader.{ReadsInOrder, RanDry, LooksAhead, FillsToMinimum, Fills}
+use Rattle.buffer_redux.specs.BufReader.{ReadsInOrder, InnerGives, RanDry, LooksAhead, FillsToMinimum, Fills}
 use Rattle.buffer_redux.specs.Seek.{SeekLeaves}
 
 -- no call hands out nothing, and two stretches of calls join
@@ -43,6 +44,15 @@ ReadsInOrder-shown s m t h shown a same b =
     let all : take (length shown) m.block.bytes ≡ shown =
     ap (λ l. take (length l) m.block.bytes) same ∙ take-length m.block.bytes ∙ sym same in
     ReadsInOrder-joins s m t h shown a (subst (λ l. ReadsInOrder m l t) all b)
+
+-- of what the reader inside had left no call took anything, and two stretches of calls join
+pub InnerGives-none : {S P : Type 0} (remaining : S → Option (List ℕ)) (s : Buffered S P) → InnerGives remaining s s
+InnerGives-none remaining s = GivesRemaining-none (remaining s.inner) s.log.reads
+
+pub InnerGives-joins : {S P : Type 0} (remaining : S → Option (List ℕ)) (s m t : Buffered S P)
+    → InnerGives remaining s m → InnerGives remaining m t → InnerGives remaining s t
+InnerGives-joins remaining s m t p q = GivesRemaining-joins (remaining s.inner) s.log.reads
+    (remaining m.inner) m.log.reads (remaining t.inner) t.log.reads p q
 
 -- a policy that doesn't leave an empty buffer empty where the reader has bytes: it is steady, or claims a minimum
 abbrev pub WantsSome : Option ℕ → Type 0

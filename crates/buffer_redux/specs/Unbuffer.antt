@@ -1,6 +1,7 @@
 -- What contracts see of an `Unbuffer`.
 use Rattle.std.specs.Prelude.{◌≡◌, ℕ, ◌<◌, List, [], ◌++◌, length, min, drop, Option, None, Some, Result, Ok, ⊤}
 use Rattle.std.specs.Io.{ReadsAtMost}
+use Rattle.std.specs.Io.KnownBytes.{prepend_known}
 use Rattle.std.specs.declared.io.Error.{Error}
 use Rattle.redux_buffer.specs.Block.{Block}
 use Rattle.redux_buffer.specs.StreamLog.{StreamLog, after_read}
@@ -10,6 +11,10 @@ pub record Unbuffered (R : Type 0) : Type 0 where
   pub left : List ℕ
   pub inner : R
   pub log : StreamLog
+
+-- what it is known to have left: the bytes that are left of the buffer, and then what the reader inside has left
+abbrev pub unbuffer_remaining : {R : Type 0} → (R → Option (List ℕ)) → Unbuffered R → Option (List ℕ)
+unbuffer_remaining remaining u = prepend_known u.left (remaining u.inner)
 
 -- the bytes of a buffer that is there
 abbrev pub bytes_in : Option Block → List ℕ

@@ -1,8 +1,9 @@
 //! The buffered reader.
-ghost use Rattle.std.specs.Prelude.{◌≡◌, ℕ, ◌<◌, ◌≤◌, ◌^◌, [], ◌++◌, length, take, drop, min, Ok, IfOk, OnOk, OnErr, IsOk};
+ghost use Rattle.std.specs.Prelude.{◌≡◌, ℕ, ◌<◌, ◌≤◌, ◌^◌, [], ◌++◌, length, take, drop, min, Ok, Some, IfSome, IfOk, OnOk, OnErr, IsOk};
 ghost use Rattle.std.specs.Borrow.{sem, Lends};
-ghost use Rattle.std.specs.Io.{ReadsAtMost};
-ghost use Rattle.std.specs.Io.BufRead.{Rests};
+ghost use Rattle.std.specs.Io.{ReadsAtMost, StartsWith};
+ghost use Rattle.std.specs.Io.BufRead.{Rests, DropsConsumable};
+ghost use Rattle.std.specs.Io.KnownBytes.{IsAtEnd, ReadConsumes};
 ghost use Rattle.redux_buffer.specs.Block.{Plain, Ring, IsBlock, LeavesBytes, MakesRoom, MovesToFront, Reserves, capacity_for, round, usable};
 ghost use Rattle.redux_buffer.specs.GrowError.{FitsWithin};
 ghost use Rattle.redux_buffer.specs.LogGrows.{ReadLogGrows};
@@ -11,8 +12,9 @@ ghost use Rattle.redux_buffer.specs.Transfer.{ReadsFrom};
 ghost use Rattle.buffer_redux.specs.contracts.buf_reader.BufReader.{the_row};
 ghost use Rattle.buffer_redux.specs.Fill.{Filled};
 ghost use Rattle.buffer_redux.specs.Buffered.{over_buffer, with_block, with_inner, with_policy, Makes, GoesPast, StaysInside, GoesDirect};
-ghost use Rattle.buffer_redux.specs.BufReader.{ReadsInOrder, ReadErrorCaused, EmptyReadCaused, RanDry, FillBuf, ReaderConsumes, ReadsBuffered, LeavesRest};
+ghost use Rattle.buffer_redux.specs.BufReader.{ReadsInOrder, ReadErrorCaused, EmptyReadCaused, RanDry, InnerGives, FillBuf, ReaderConsumes, ReadsBuffered, LeavesRest};
 ghost use Rattle.buffer_redux.specs.ReaderLaws.{WantsBytes};
+ghost use Rattle.buffer_redux.specs.Remaining.{reader_remaining};
 ghost use Rattle.buffer_redux.specs.Sparing.{Spared, SparesClaimed};
 
 use crate::errors::MakeError;
@@ -255,6 +257,8 @@ impl<R: TellRead, P> BufReader<R, P> {
         ensures grows { ReadLogGrows self.old.log.reads self.new.log.reads }
         ensures not_asked { usable self.old.block ≡ 0 → self.new.inner ≡ self.old.inner }
         ensures err { OnErr result (LeavesBytes self.old.block self.new.block) }
+        ensures known { InnerGives R.remaining self.old self.new }
+        ensures end { result ≡ Ok 0 → 0 < usable self.old.block → IsAtEnd (R.remaining self.new.inner) }
         ensures policy { self.new.policy ≡ self.old.policy }
         ensures noted { self.new.calls ≡ self.old.calls }
         ensures spared { (keep : ℕ) → Spared keep self.old self.new }
@@ -269,6 +273,8 @@ impl<R: TellRead, P: ReaderPolicy> BufReader<R, P> {
     #[inline(always)]
     fn fill(&mut self) -> io::Result<()>
         ensures filled { Filled P.rules self.old result self.new }
+        ensures known { InnerGives R.remaining self.old self.new }
+        ensures end { RanDry self.old self.new → IsAtEnd (R.remaining self.new.inner) }
         ensures noted { self.new.calls ≡ self.old.calls }
         ensures whole { IsBlock self.new.block }
     {
@@ -287,6 +293,7 @@ impl<R: TellRead, P: ReaderPolicy> BufReader<R, P> {
         ensures count { result ≡ min (length self.old.block.bytes) (length out.old) }
         ensures copied { out.new ≡ take result self.old.block.bytes ++ drop result out.old }
         ensures in_order { ReadsInOrder self.old (take result self.old.block.bytes) self.new }
+        ensures inner { self.new.inner ≡ self.old.inner }
         ensures grows { ReadLogGrows self.old.log.reads self.new.log.reads }
         ensures consumed { ReaderConsumes P.rules result self.old self.new }
         ensures noted { self.new.calls ≡ self.old.calls }
@@ -301,8 +308,13 @@ impl<R: TellRead, P: ReaderPolicy> BufReader<R, P> {
 }
 
 impl<R: TellRead, P: ReaderPolicy> Read for BufReader<R, P> {
+    ghost remaining = { reader_remaining R.remaining P.rules };
+
     fn read(&mut self, out: &mut [u8]) -> io::Result<usize>
         ensures bound { ReadsAtMost result out.new }
+        ensures bytes { ReadConsumes (reader_remaining R.remaining P.rules self.old)
+            (reader_remaining R.remaining P.rules self.new) result out.new }
+        ensures known { InnerGives R.remaining self.old self.new }
         ensures in_order { ReadsInOrder self.old (taken out.new result) self.new }
         ensures grows { ReadLogGrows self.old.log.reads self.new.log.reads }
         ensures caused { ReadErrorCaused P.rules self.old result self.new }
@@ -329,13 +341,19 @@ impl<R: TellRead, P: ReaderPolicy> Read for BufReader<R, P> {
 }
 
 impl<R: TellRead, P: ReaderPolicy> BufRead for BufReader<R, P> {
+    ghost consumable_len = { λ r. Some (length r.block.bytes) };
+
     /// Reads as long as the policy says so, and returns the buffered bytes.
     ///
     /// A fault of the reader, `Interrupted` among them, or an `Err` of the policy is returned at once. The bytes that
     /// came before it stay buffered.
     fn fill_buf(&mut self) -> io::Result<&[u8]>
+        ensures front { IfSome (reader_remaining R.remaining P.rules self.old)
+            (λ xs. IfOk result (λ bytes. StartsWith xs bytes.now)) }
+        ensures end { IfSome (reader_remaining R.remaining P.rules self.old)
+            (λ xs. IfOk result (λ bytes. length bytes.now ≡ 0 → xs ≡ [])) }
         ensures* after_borrow { sem 𝓛 (Rests (the_row R.row P.row R.Tell) self.entry
-            (FillBuf P.rules self.entry.now result)) }
+            (FillBuf R.remaining P.rules self.entry.now result)) }
     {
         self.fill()?;
         Ok(self.buf.buf())
@@ -343,7 +361,10 @@ impl<R: TellRead, P: ReaderPolicy> BufRead for BufReader<R, P> {
 
     /// Drops the first `amount` bytes that are buffered, or all, and tells the policy how many those were.
     fn consume(&mut self, amount: usize)
+        ensures bytes { DropsConsumable (reader_remaining R.remaining P.rules self.old)
+            (reader_remaining R.remaining P.rules self.new) (Some (length self.old.block.bytes)) amount }
         ensures in_order { ReadsInOrder self.old (take amount self.old.block.bytes) self.new }
+        ensures inner { self.new.inner ≡ self.old.inner }
         ensures grows { ReadLogGrows self.old.log.reads self.new.log.reads }
         ensures consumed { ReaderConsumes P.rules amount self.old self.new }
         ensures noted { self.new.calls ≡ self.old.calls }

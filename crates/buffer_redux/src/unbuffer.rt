@@ -1,9 +1,10 @@
 //! A reader that gives its buffer up.
 ghost use Rattle.std.specs.Prelude.{◌≡◌, ◌==◌, ◌<◌, length};
 ghost use Rattle.std.specs.Io.{ReadsAtMost};
+ghost use Rattle.std.specs.Io.KnownBytes.{ReadConsumes};
 ghost use Rattle.redux_buffer.specs.LogGrows.{ReadLogGrows};
 ghost use Rattle.redux_buffer.specs.StreamLog.{taken};
-ghost use Rattle.buffer_redux.specs.Unbuffer.{HandsOutInOrder, HandsOutLeft, AsksReader};
+ghost use Rattle.buffer_redux.specs.Unbuffer.{unbuffer_remaining, HandsOutInOrder, HandsOutLeft, AsksReader};
 
 use crate::buf_reader::BufReader;
 use redux_buffer::Buffer;
@@ -85,10 +86,14 @@ impl<R: Tell> Unbuffer<R> {
 }
 
 impl<R: TellRead> Read for Unbuffer<R> {
+    ghost remaining = { unbuffer_remaining R.remaining };
+
     /// Hands out bytes that are left, as many as fit, and doesn't ask the inner reader; where none are left, asks it
     /// once and returns its answer. An empty `out` leaves what is left.
     fn read(&mut self, out: &mut [u8]) -> io::Result<usize>
         ensures bound { ReadsAtMost result out.new }
+        ensures bytes { ReadConsumes (unbuffer_remaining R.remaining self.old)
+            (unbuffer_remaining R.remaining self.new) result out.new }
         ensures in_order { HandsOutInOrder self.old (taken out.new result) self.new }
         ensures grows { ReadLogGrows self.old.log.reads self.new.log.reads }
         ensures left { 0 < length self.old.left → HandsOutLeft self.old out.old result out.new self.new }

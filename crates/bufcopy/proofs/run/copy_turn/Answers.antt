@@ -3,10 +3,10 @@ use Rattle.std.proofs.lemmas.Bool.{cases_lt}
 use Rattle.std.proofs.lemmas.List.{nil_from_length}
 use Rattle.std.proofs.lemmas.Result.{err_from_is_err_and}
 use Rattle.buffer_redux.specs.BufReader.{ReadsInOrder, Fills}
-use Rattle.buffer_redux.specs.Faults.{OnlyInterrupted}
+use Rattle.buffer_redux.specs.Faults.{OnlyInterrupted, OnlyInterrupted-none}
 use Rattle.buffer_redux.specs.Policy.{std_read_rules}
 use Rattle.buffer_redux.specs.ReaderLaws.{ReadsInOrder-joins, Fills-empty}
-use Rattle.buffer_redux.specs.WriterLaws.{StdWriteMet, Wrote-std}
+use Rattle.buffer_redux.specs.WriterLaws.{StdWriteMet, Wrote-std, WritesInOrder-none}
 use Rattle.bufcopy.specs.Copy.{MovedBy, CopiesOn}
 use Rattle.bufcopy.proofs.run.copy_turn.Goals as goal
 
@@ -24,6 +24,21 @@ returns-in_err-taken-in-Ok-clause-failed g c =
       });
       not_flushed = write.not_flushed;
     })
+
+-- a fill that failed, which its policy never does
+pub returns-in-Err-clause-failed : goal.returns-in-Err-clause-failed
+returns-in-Err-clause-failed g c =
+    let u = c.args.target.now in
+    let f = rw c.in-Err.is at c.fill_buf.follows.holds-at-none.fills in
+    record {
+      count = 0;
+      moved = record { bytes = []; count = refl; handed = f.in_order; passed = WritesInOrder-none u };
+      failed = elim f.caused [
+        | inl fault ↦ inl (record { fault = fault; met = record { times = 0; only = OnlyInterrupted-none u.log.writes } })
+        | inr gave ↦ absurd gave.gave.allowed
+      ];
+      not_flushed = refl;
+    }
 
 -- the fill of the turn
 filled : (g : _) (c : goal.After-consume g) → Fills std_read_rules c.args.source.now (Ok c.in-Ok.bytes) c.fill_buf.follows.lender-at-none

@@ -1,6 +1,9 @@
-use Rattle.std.proofs.Common.{suc, arith, rules, inl, inr, refl, subst, sym}
+use Rattle.std.proofs.Common.{◌<◌, suc, arith, rules, inl, inr, refl, subst, sym}
 use Rattle.std.proofs.lemmas.Result.{err_from_is_err_and}
+use Rattle.redux_buffer.specs.GivesRemaining.{GivesRemaining-joins}
+use Rattle.buffer_redux.specs.BufReader.{InnerGives}
 use Rattle.buffer_redux.specs.Fill.{Turns}
+use Rattle.buffer_redux.proofs.KnownAhead.{dry_never, err_counts_none}
 use Rattle.buffer_redux.proofs.Turning.{declined_made, full_made, turn_made, dry_made, faulted_made}
 use Rattle.buffer_redux.proofs.buf_reader.BufReader.fill.Goals as goal
 
@@ -16,6 +19,8 @@ loop-self-preserved g c =
             c.in_ok-read_into_buf.field-0 c.in_ok-read_into_buf.ensures.read c.if-branch-eq0.false,
       );
       noted = search rules;
+      known = GivesRemaining-joins _ _ (g.R.TellRead.remaining c.self.inside.inner) (g.R.Tell.log c.self.inside.inner).reads _ _
+          (subst (InnerGives g.R.TellRead.remaining c.args.self.now) (sym c.self.view_is) c.loop-self.invariant.known) c.read_into_buf.ensures.known;
     }
 
 pub returns-in_err-before_read-clause-filled : goal.returns-in_err-before_read-clause-filled
@@ -72,3 +77,46 @@ returns-then-branch-eq0-clause-filled g c =
       turns = subst (Turns rules c.loop-self.invariant.count c.args.self.now) (sym c.self.view_is) c.loop-self.invariant.turns;
       ends = inr (inr (dry_made rules _ _ c.in_ok-before_read.field-0 _ _ c.in_ok-before_read.ensures c.if-branch.true (omega (arith, c.usable_space.ensures.value)) c.read_into_buf.ensures.policy c.in_ok-read_into_buf.field-0 c.in_ok-read_into_buf.ensures.read c.if-branch-eq0.true));
     }
+
+pub returns-in_err-before_read-clause-known : goal.returns-in_err-before_read-clause-known
+returns-in_err-before_read-clause-known g c =
+    subst (InnerGives g.R.TellRead.remaining c.args.self.now) (sym c.self.view_is) c.loop-self.invariant.known
+
+pub returns-in_err-before_read-clause-end : goal.returns-in_err-before_read-clause-end
+returns-in_err-before_read-clause-end g c rose =
+    absurd (dry_never g.P.ReaderPolicy.rules c.loop-self.invariant.count c.args.self.now _
+    (subst (Turns g.P.ReaderPolicy.rules c.loop-self.invariant.count c.args.self.now) (sym c.self.view_is) c.loop-self.invariant.turns) rose)
+
+pub returns-else-usable_space-gt0-clause-known : goal.returns-else-usable_space-gt0-clause-known
+returns-else-usable_space-gt0-clause-known g c =
+    subst (InnerGives g.R.TellRead.remaining c.args.self.now) (sym c.self.view_is) c.loop-self.invariant.known
+
+pub returns-else-usable_space-gt0-clause-end : goal.returns-else-usable_space-gt0-clause-end
+returns-else-usable_space-gt0-clause-end g c rose =
+    absurd (dry_never g.P.ReaderPolicy.rules c.loop-self.invariant.count c.args.self.now _
+    (subst (Turns g.P.ReaderPolicy.rules c.loop-self.invariant.count c.args.self.now) (sym c.self.view_is) c.loop-self.invariant.turns) rose)
+
+pub returns-else-branch-clause-known : goal.returns-else-branch-clause-known
+returns-else-branch-clause-known g c =
+    subst (InnerGives g.R.TellRead.remaining c.args.self.now) (sym c.self.view_is) c.loop-self.invariant.known
+
+pub returns-else-branch-clause-end : goal.returns-else-branch-clause-end
+returns-else-branch-clause-end g c rose =
+    absurd (dry_never g.P.ReaderPolicy.rules c.loop-self.invariant.count c.args.self.now _
+    (subst (Turns g.P.ReaderPolicy.rules c.loop-self.invariant.count c.args.self.now) (sym c.self.view_is) c.loop-self.invariant.turns) rose)
+
+pub returns-in_err-read_into_buf-clause-known : goal.returns-in_err-read_into_buf-clause-known
+returns-in_err-read_into_buf-clause-known g c =
+    GivesRemaining-joins _ _ (g.R.TellRead.remaining c.self.inside.inner) (g.R.Tell.log c.self.inside.inner).reads _ _
+    (subst (InnerGives g.R.TellRead.remaining c.args.self.now) (sym c.self.view_is) c.loop-self.invariant.known) c.read_into_buf.ensures.known
+
+pub returns-then-branch-eq0-clause-known : goal.returns-then-branch-eq0-clause-known
+returns-then-branch-eq0-clause-known g c =
+    GivesRemaining-joins _ _ (g.R.TellRead.remaining c.self.inside.inner) (g.R.Tell.log c.self.inside.inner).reads _ _
+    (subst (InnerGives g.R.TellRead.remaining c.args.self.now) (sym c.self.view_is) c.loop-self.invariant.known) c.read_into_buf.ensures.known
+
+pub returns-in_err-read_into_buf-clause-end : goal.returns-in_err-read_into_buf-clause-end
+returns-in_err-read_into_buf-clause-end g c rose =
+    let same = err_counts_none _ _ _ _ _ c.in_err-read_into_buf.ensures.read (omega (arith, c.usable_space.ensures.value)) in
+    absurd (dry_never g.P.ReaderPolicy.rules c.loop-self.invariant.count c.args.self.now _
+    (subst (Turns g.P.ReaderPolicy.rules c.loop-self.invariant.count c.args.self.now) (sym c.self.view_is) c.loop-self.invariant.turns) (subst (λ z. c.args.self.now.log.reads.zero_answers < z) same rose))

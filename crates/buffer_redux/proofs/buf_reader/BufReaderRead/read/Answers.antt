@@ -1,12 +1,16 @@
-use Rattle.std.proofs.Common.{◌≡◌, ℕ, ◌<◌, [], length, take, drop, take_at, length-take-le, Ok, Err, inl, inr, refl, sym, ap, subst, ◌∙◌, arith, le_trans}
+use Rattle.std.proofs.Common.{◌≡◌, ℕ, ◌<◌, [], length, min, take, drop, take_at, length-take-le, Ok, Err, inl, inr, refl, sym, ap, subst, ◌∙◌, arith, le_trans}
 use Rattle.std.proofs.Common.{rules}
 use Rattle.std.proofs.lemmas.Bool.{cases_lt}
 use Rattle.std.proofs.lemmas.Result.{err_from_is_err_and}
 use Rattle.redux_buffer.specs.LogGrows.{ReadLogGrows-joins}
 use Rattle.buffer_redux.specs.Policy.{ClaimsToSpare}
 use Rattle.buffer_redux.specs.Buffered.{StaysInside}
-use Rattle.buffer_redux.specs.BufReader.{ReadsInOrder, Fills}
-use Rattle.buffer_redux.specs.ReaderLaws.{ReadsInOrder-joins, Fills-empty}
+use Rattle.buffer_redux.specs.BufReader.{ReadsInOrder, InnerGives, Fills}
+use Rattle.buffer_redux.specs.ReaderLaws.{ReadsInOrder-joins, Fills-empty, WantsBytes}
+use Rattle.buffer_redux.specs.Remaining.{reader_remaining}
+use Rattle.std.specs.Io.KnownBytes.{IsAtEnd}
+use Rattle.std.proofs.lemmas.List.{nil_from_length, length-drop}
+use Rattle.buffer_redux.proofs.KnownAhead.{Keeps_of, remaining_gives, remaining_ends}
 use Rattle.buffer_redux.specs.Sparing.{Spared-joins}
 use Rattle.buffer_redux.proofs.FillFacts.{ReadsInOrder-direct, empty_read, inside_room}
 use Rattle.buffer_redux.proofs.FillClaims.{fills, filled_ok, filled_err}
@@ -123,3 +127,39 @@ returns-clause-buffered g c inside = record {
   fills = filled g c;
   handed = (omega (arith, c.hand_out.ensures.count), c.hand_out.ensures.consumed);
 }
+
+pub returns-in_err-fill-clause-bytes : goal.returns-in_err-fill-clause-bytes
+returns-in_err-fill-clause-bytes g c =
+    let rules = g.P.ReaderPolicy.rules in
+    let remaining = g.R.TellRead.remaining in
+    let s = c.args.self.now in
+    let t = c.fill.new.self in
+    let p = err_from_is_err_and c.from_residual.result c.from_residual.ensures.1 in
+    let f = failed g c in
+    rw p.1 (Keeps_of (reader_remaining remaining rules s) (reader_remaining remaining rules t)
+    (remaining_gives remaining rules s t [] f.in_order c.in_err-fill.ensures.known f.claims f.capacity))
+
+pub returns-clause-known : goal.returns-clause-known
+returns-clause-known g c =
+    let e = c.hand_out.ensures in
+    rw (e.inner, e.consumed.told) c.in_ok-fill.ensures.known
+
+pub returns-clause-bytes : goal.returns-clause-bytes
+returns-clause-bytes g c =
+    let rules = g.P.ReaderPolicy.rules in
+    let remaining = g.R.TellRead.remaining in
+    let s = c.args.self.now in
+    let m = c.fill.new.self in
+    let t = c.hand_out.new.self in
+    let f = filled g c in
+    let e = c.hand_out.ensures in
+    let claims : rules.claims t.policy ≡ rules.claims s.policy = e.consumed.told_policy.claims ∙ f.claims in
+    let known : InnerGives remaining s t = returns-clause-known g c in (
+      remaining_gives remaining rules s t (take c.hand_out.result c.hand_out.new.out) (returns-clause-in_order g c) known claims (le_trans f.capacity e.capacity),
+      λ none some.
+          let empty = nothing g c none (omega (arith, some, c.hand_out.auto.out)) in
+          remaining_ends remaining rules t
+          (λ wants room. subst (λ i. IsAtEnd (remaining i)) (sym e.inner)
+          (c.in_ok-fill.ensures.end (Fills-empty rules s c.hand_out.result m f (subst WantsBytes claims wants) (roomy g c empty) empty)))
+          (nil_from_length t.block.bytes (omega (arith, ap length e.consumed.told_policy.law.bytes, ap length e.consumed.dropped.bytes, length-drop (min c.hand_out.result (length m.block.bytes)) m.block.bytes, empty))),
+    )
