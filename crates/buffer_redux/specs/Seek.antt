@@ -1,5 +1,5 @@
 -- Which seeks a seek of a buffered reader makes, and what it does to the reader.
-use Rattle.std.specs.Prelude.{◌≡◌, ℕ, ℤ, pos, ◌^◌, ◌-ℤ◌, neg_ℤ, int_le, ◌⊎◌, Result, Err, MatchResult, OnOk, OnErr, if◌then◌else◌}
+use Rattle.std.specs.Prelude.{◌≡◌, ℕ, ℤ, pos, ◌-◌, ◌^◌, ◌-ℤ◌, neg_ℤ, nat_le, int_le, ◌⊎◌, length, Option, None, Some, Result, Err, MatchResult, OnOk, OnErr, if◌then◌else◌}
 use Rattle.std.specs.declared.io.Error.{Error}
 use Rattle.std.specs.declared.io.traits.SeekFrom.{SeekFrom}
 use Rattle.std.specs.declared.io.traits.SeekFrom.TheVariants.{Start, End, Current}
@@ -49,3 +49,12 @@ pub record SeekLeaves {S P A : Type 0} (s : Buffered S P) (answer : Result A Err
   pub noted : t.calls ≡ s.calls
   pub ok : OnOk answer (Clears s.block t.block)
   pub err : OnErr answer ((t.block ≡ s.block) ⊎ Clears s.block t.block)
+
+-- the place that is len bytes before one that is known
+abbrev pub place_before : ℕ → Option ℕ → Option ℕ
+place_before len None = None
+place_before len (Some place) = if nat_le len place then Some (place - len) else None
+
+-- where a reader is known to stand: before the stream inside by the bytes that are buffered
+abbrev pub reader_position : {S P : Type 0} → (S → Option ℕ) → Buffered S P → Option ℕ
+reader_position position r = place_before (length r.block.bytes) (position r.inner)

@@ -1,10 +1,10 @@
 //! Seeks of the buffered reader.
-ghost use Rattle.std.specs.Prelude.{◌≡◌, ℕ, ◌^◌, ◌≤◌, None, length};
+ghost use Rattle.std.specs.Prelude.{◌≡◌, ℕ, ◌^◌, ◌≤◌, length};
 ghost use Rattle.std.specs.Io.KnownBytes.{Keeps};
 ghost use Rattle.std.specs.Io.Seek.{SeekMoves};
 ghost use Rattle.redux_buffer.specs.Block.{IsBlock};
 ghost use Rattle.redux_buffer.specs.StreamLog.{with_fault};
-ghost use Rattle.buffer_redux.specs.Seek.{planned, Seeks, SeeksOnce, SeekLeaves};
+ghost use Rattle.buffer_redux.specs.Seek.{planned, reader_position, Seeks, SeeksOnce, SeekLeaves};
 ghost use Rattle.buffer_redux.specs.Sparing.{Spared};
 
 use crate::buf_reader::BufReader;
@@ -42,6 +42,9 @@ pub fn seek_plan(to: SeekFrom, len: usize) -> SeekPlan
 impl<R: TellSeek, P> BufReader<R, P> {
     // Empties the buffer where the inner reader sought, and leaves it where that failed.
     fn seek_once(&mut self, to: SeekFrom) -> io::Result<u64>
+        ensures moves { SeekMoves (R.stream_position self.old.inner)
+            (R.stream_position self.new.inner) (R.stream_bytes self.old.inner) to result }
+        ensures bytes { Keeps (R.stream_bytes self.old.inner) (R.stream_bytes self.new.inner) }
         ensures seeks { SeeksOnce to self.old result self.new }
         ensures whole { IsBlock self.new.block }
     {
@@ -51,15 +54,19 @@ impl<R: TellSeek, P> BufReader<R, P> {
     }
 }
 
-// A `TellSeek` doesn't say where it is, so neither does this one.
 impl<R: TellSeek, P> Seek for BufReader<R, P> {
+    ghost stream_position = { reader_position R.stream_position };
+
+    ghost stream_bytes = { λ r. R.stream_bytes r.inner };
+
     /// Seeks as [`seek_plan`] says, and returns what the last seek returned. The policy is not asked.
     ///
     /// An Ok seek drops the buffered bytes. A fault is returned at once: one of the first seek leaves the buffer, one of
     /// the second leaves it empty.
     fn seek(&mut self, to: SeekFrom) -> io::Result<u64>
-        ensures moves { SeekMoves None None None to result }
-        ensures bytes { Keeps None None }
+        ensures moves { SeekMoves (reader_position R.stream_position self.old)
+            (reader_position R.stream_position self.new) (R.stream_bytes self.old.inner) to result }
+        ensures bytes { Keeps (R.stream_bytes self.old.inner) (R.stream_bytes self.new.inner) }
         ensures seeks { Seeks (planned to (length self.old.block.bytes)) self.old result self.new }
         ensures leaves { SeekLeaves self.old result self.new }
         ensures spared { (keep : ℕ) → Spared keep self.old self.new }
