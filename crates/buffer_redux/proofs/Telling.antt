@@ -1,20 +1,23 @@
 -- How what was noted of a call fits what the call did.
-use Rattle.std.proofs.Common.{◌≡◌, ◌∙◌, ℕ, ◌+◌, ◌<◌, ◌≤◌, List, [], ◌∷◌, ◌++◌, length, Result, Ok, Err, IfErr, true, inl, inr, refl, sym, ap, subst, append-nil, length-append, replicate, le_refl, arith}
+use Rattle.std.proofs.Common.{◌≡◌, ◌∙◌, ℕ, ◌+◌, ◌<◌, ◌≤◌, List, [], ◌∷◌, ◌++◌, length, Result, Ok, Err, IfErr, true, inl, inr, refl, sym, ap, subst, append-nil, length-append, replicate, le_refl, arith, OnOk}
 use Rattle.std.proofs.lemmas.Bool.{cases_lt}
+use Rattle.std.proofs.lemmas.List.{append_cancel_left, length-replicate}
 use Rattle.std.specs.IoError.{error_kind}
 use Rattle.std.specs.declared.io.Error.{Error}
 use Rattle.std.specs.declared.io.ErrorKind.{ErrorKind}
-use Rattle.std.specs.declared.io.ErrorKind.TheVariants.{Interrupted}
+use Rattle.std.specs.declared.io.ErrorKind.TheVariants.{Interrupted, WriteZero}
 use Rattle.redux_buffer.specs.GoesOn.{GoesOn-none}
 use Rattle.redux_buffer.specs.StreamLog.{StreamLog, WriteLog, with_end, zero_of_some, zero_of_none, after_write, after_flush}
 use Rattle.redux_buffer.specs.LogGrows.{ReadLogGrows, WriteLogGrows, FillLogGrows}
-use Rattle.redux_buffer.specs.Faults.{SendErrorCaused}
+use Rattle.redux_buffer.specs.Faults.{MetInterrupts, MetInterrupts-err, SendErrorCaused}
 use Rattle.buffer_redux.specs.Policy.{ReadRules, WriteRules, ReadsSteadily}
 use Rattle.buffer_redux.specs.Buffered.{Buffered}
 use Rattle.buffer_redux.specs.BufReader.{Fills}
-use Rattle.buffer_redux.specs.BufWriter.{WriterFailed, SteadyWrite}
+use Rattle.buffer_redux.specs.BufWriter.{WriterFailed, SteadyWrite, Writes, WriteErrorCaused, IsFlushed}
+use Rattle.buffer_redux.specs.WriterLaws.{Wrote-met}
+use Rattle.buffer_redux.proofs.WriterFacts.{steady_caused}
 use Rattle.buffer_redux.specs.ReaderTells.{after_fill, FaultsAlike, ReaderWent}
-use Rattle.buffer_redux.specs.WriterTells.{writer_log, failures, WriterWent}
+use Rattle.buffer_redux.specs.WriterTells.{writer_log, failures, TellsFailures, WriterWent}
 
 end_rises : (n : ℕ) (shown : List ℕ) → n ≤ with_end n shown
 end_rises n shown = grind arith
@@ -135,12 +138,78 @@ pub call_went : {S P : Type 0} (stretch : S → S → Type 0) (rules : WriteRule
     → WriteLogGrows (writer_log s).writes (writer_log t).writes → s.block.capacity ≤ m.block.capacity → rules.claims m.policy ≡ rules.claims s.policy
     → ((rules.claims s.policy).steady ≡ true → 0 < s.block.capacity
     → failures t.calls.writes + failures s.log.writes ≤ failures s.calls.writes + failures m.log.writes)
+    → (TellsFailures rules s.policy → MetInterrupts s.calls.writes t.calls.writes → MetInterrupts s.log.writes m.log.writes)
     → WriterWent stretch rules s t
-call_went stretch rules s m t inner policy block log went grows own capacity claims fails = record {
+call_went stretch rules s m t inner policy block log went grows own capacity claims fails met = record {
   inner = subst (stretch s.inner) (sym inner) went;
   grows = subst (λ l. WriteLogGrows s.log.writes l.writes) (sym log) grows;
   own_grows = own;
   capacity = omega (arith, ap (λ b. b.capacity) block, capacity);
   claims = ap rules.claims policy ∙ claims;
   fails = λ steady room. omega (arith, fails steady room, ap (λ l. failures l.writes) log);
+  met = λ tells only. subst (λ l. MetInterrupts s.log.writes l.writes) (sym log) (met tells only);
 }
+
+-- of one call: the kind of its own fault, and that there is none
+same_kind : (faults : List ErrorKind) (a b : ErrorKind) → faults ++ a ∷ [] ≡ faults ++ b ∷ [] → a ≡ b
+same_kind faults a b same = let e = append_cancel_left faults (a ∷ []) (b ∷ []) same in cc
+
+no_fault : (faults : List ErrorKind) (kind : ErrorKind) → faults ≡ faults ++ kind ∷ [] → ⊥
+no_fault faults kind odd = omega (arith, ap length odd, length-append faults (kind ∷ []))
+
+one_interrupt : (faults : List ErrorKind) (k : ℕ) (kind : ErrorKind) → faults ++ kind ∷ [] ≡ faults ++ replicate k Interrupted → kind ≡ Interrupted
+one_interrupt faults k kind same =
+    let e = append_cancel_left faults (kind ∷ []) (replicate k Interrupted) same in
+    let one : k ≡ 1 = omega (arith, ap length e, length-replicate {A = ErrorKind} k Interrupted) in
+    let f : kind ∷ [] ≡ replicate 1 Interrupted = subst (λ j. kind ∷ [] ≡ replicate j Interrupted) one e in
+    cc
+
+-- a call that failed so, and was at most interrupted itself
+err_met : (own own' inner inner' : WriteLog) (kind : ErrorKind) → own'.faults ≡ own.faults ++ kind ∷ [] → SendErrorCaused inner inner' kind → MetInterrupts own own'
+    → MetInterrupts inner inner'
+err_met own own' inner inner' kind fault caused met =
+    let is = one_interrupt own.faults met.times kind (sym fault ∙ met.only.faults) in
+    MetInterrupts-err inner inner' (subst (SendErrorCaused inner inner') is caused)
+
+module _ {S P : Type 0} (rules : WriteRules P) (s t : Buffered S P) (bs : List ℕ) (tells : TellsFailures rules s.policy) where
+  pub write_met : (answer : Result ℕ Error) → Writes rules s bs answer t → WriteErrorCaused rules s (length bs) answer t
+      → MetInterrupts s.calls.writes (after_write s.calls bs answer).writes → MetInterrupts s.log.writes t.log.writes
+  write_met (Ok n) wrote caused own = elim (Wrote-met rules s bs n t tells.1 wrote).met [
+    | inl only ↦ record { times = _; only = only }
+    | inr nothing ↦ absurd (omega (arith, own.only.zero_writes, zero_of_none n bs s.calls.writes.zero_writes nothing.0 nothing.1))
+  ]
+  write_met (Err e) failed caused own = err_met s.calls.writes (after_write s.calls bs (Err e)).writes s.log.writes t.log.writes (error_kind e) refl
+      (steady_caused rules s t (length bs) e tells.0 caused) own
+
+  pub write_fault : (answer : Result ℕ Error) (kind : ErrorKind) → WriteErrorCaused rules s (length bs) answer t
+      → (after_write s.calls bs answer).writes.faults ≡ s.calls.writes.faults ++ kind ∷ [] → SendErrorCaused s.log.writes t.log.writes kind
+  write_fault (Ok n) kind caused odd = absurd (no_fault s.calls.writes.faults kind odd)
+  write_fault (Err e) kind caused same =
+      subst (SendErrorCaused s.log.writes t.log.writes) (same_kind s.calls.writes.faults (error_kind e) kind same) (steady_caused rules s t (length bs) e tells.0 caused)
+
+  pub write_nothing : (answer : Result ℕ Error) → Writes rules s bs answer t → SteadyWrite s (length bs) answer t → 0 < s.block.capacity
+      → (after_write s.calls bs answer).writes.zero_writes ≡ s.calls.writes.zero_writes + 1 → SendErrorCaused s.log.writes t.log.writes WriteZero
+  write_nothing (Err e) failed steadily room odd = absurd (omega (arith, odd))
+  write_nothing (Ok n) wrote steadily room zero =
+      let met = Wrote-met rules s bs n t tells.1 wrote in
+      elim met.met [
+        | inr nothing ↦ record { interrupts = met.times; cause = inl nothing.2 }
+        | inl only ↦ elim (cases_lt 0 n) [
+          | inl some ↦ absurd (omega (arith, zero, zero_of_some n bs s.calls.writes.zero_writes (inl some)))
+          | inr none ↦ elim (cases_lt 0 (length bs)) [
+            | inl given ↦ absurd (omega (arith, steadily.empty (ap Ok (omega (arith, none))) given room, only.zero_writes))
+            | inr empty ↦ absurd (omega (arith, zero, zero_of_some n bs s.calls.writes.zero_writes (inr (omega (arith, empty)))))
+          ]
+        ]
+      ]
+
+module _ {S P : Type 0} (s t : Buffered S P) where
+  pub flush_met : (answer : Result (Unit {0}) Error) → OnOk answer (IsFlushed s t) → IfErr answer (λ e. SendErrorCaused s.log.writes t.log.writes (error_kind e))
+      → MetInterrupts s.calls.writes (after_flush s.calls answer).writes → MetInterrupts s.log.writes t.log.writes
+  flush_met (Ok a) flushed caused own = record { times = flushed.interrupts; only = flushed.only }
+  flush_met (Err e) flushed caused own = err_met s.calls.writes (after_flush s.calls (Err e)).writes s.log.writes t.log.writes (error_kind e) refl caused own
+
+  pub flush_fault : (answer : Result (Unit {0}) Error) (kind : ErrorKind) → IfErr answer (λ e. SendErrorCaused s.log.writes t.log.writes (error_kind e))
+      → (after_flush s.calls answer).writes.faults ≡ s.calls.writes.faults ++ kind ∷ [] → SendErrorCaused s.log.writes t.log.writes kind
+  flush_fault (Ok a) kind caused odd = absurd (no_fault s.calls.writes.faults kind odd)
+  flush_fault (Err e) kind caused same = subst (SendErrorCaused s.log.writes t.log.writes) (same_kind s.calls.writes.faults (error_kind e) kind same) caused

@@ -308,10 +308,10 @@ module _ {S P : Type 0} (rules : WriteRules P) where
         }));
       }))
 
-  err_blamed : (s t : Buffered S P) (incoming : ℕ) (e : Error) → (rules.claims s.policy).steady ≡ true → WriteErrorCaused rules s incoming (Err e) t
-      → WriterFailed s.log.writes t.log.writes
-  err_blamed s t incoming e steady (inl refused) = absurd (asks_steadily rules s.policy s.block incoming (Err e) t.policy t.block steady refused)
-  err_blamed s t incoming e steady (inr caused) = blamed s.log.writes t.log.writes (error_kind e) caused
+  pub steady_caused : (s t : Buffered S P) (incoming : ℕ) (e : Error) → (rules.claims s.policy).steady ≡ true → WriteErrorCaused rules s incoming (Err e) t
+      → SendErrorCaused s.log.writes t.log.writes (error_kind e)
+  steady_caused s t incoming e steady (inl refused) = absurd (asks_steadily rules s.policy s.block incoming (Err e) t.policy t.block steady refused)
+  steady_caused s t incoming e steady (inr caused) = caused
 
   pub writes_steadily : (s : Buffered S P) (bs : List ℕ) (answer : Result ℕ Error) (t : Buffered S P)
       → Writes rules s bs answer t → WritesSteadily rules s (length bs) answer t
@@ -323,6 +323,6 @@ module _ {S P : Type 0} (rules : WriteRules P) where
     ];
   }
   writes_steadily s bs (Err e) t failed steady = record {
-    err = err_blamed s t (length bs) e steady (writes_caused s bs e t failed);
+    err = blamed s.log.writes t.log.writes (error_kind e) (steady_caused s t (length bs) e steady (writes_caused s bs e t failed));
     empty = λ is. cc;
   }

@@ -6,7 +6,8 @@ use Rattle.std.specs.declared.io.ErrorKind.TheVariants.{WriteZero}
 use Rattle.redux_buffer.specs.Block.{Block}
 use Rattle.redux_buffer.specs.Faults.{OnlyInterrupted, OnlyInterrupted-none, MetInterrupts, TookNothing}
 use Rattle.redux_buffer.specs.StreamLog.{WriteLog, with_zero, zero_of_some, zero_of_none}
-use Rattle.buffer_redux.specs.Policy.{std_write_rules}
+use Rattle.buffer_redux.specs.declared.policy.FlushAmt.{FlushAmt}
+use Rattle.buffer_redux.specs.Policy.{WriteRules}
 use Rattle.buffer_redux.specs.Buffered.{Buffered, GoesPast, StaysInside}
 use Rattle.buffer_redux.specs.BufWriter.{WritesInOrder, FlushesAmount, Wrote}
 
@@ -70,9 +71,14 @@ FlushesAmount-met s t amount f = elim (flush_ways amount (length s.block.bytes))
   | inr some ↦ (let sends = f.sends some.0 some.1 in record { times = sends.interrupts; only = sends.ok })
 ]
 
--- what an Ok write under `StdPolicy` met: interrupted writes, and then perhaps one that took nothing of something, where
--- that is what it returns
-pub record StdWriteMet {S P : Type 0} (s : Buffered S P) (bs : List ℕ) (n : ℕ) (t : Buffered S P) : Type 0 where
+-- the rules have nothing flushed after a write, as those of `StdPolicy` have
+abbrev pub FlushesNothingAfter : {P : Type 0} → WriteRules P → Type 0
+FlushesNothingAfter {P} rules =
+    (p : P) (b : Block) (a : FlushAmt) (p' : P) → rules.after_write p b a p' → a.0 ≡ 0
+
+-- what an Ok write met where nothing is flushed after it: interrupted writes, and then perhaps one that took nothing of
+-- something, where that is what it returns
+pub record WriteMet {S P : Type 0} (s : Buffered S P) (bs : List ℕ) (n : ℕ) (t : Buffered S P) : Type 0 where
   pub times : ℕ
   pub met : OnlyInterrupted times s.log.writes t.log.writes
       ⊎ ((n ≡ 0) × (0 < length bs) × TookNothing times s.log.writes t.log.writes WriteZero)
@@ -106,13 +112,13 @@ direct_met times n bs a b c only faults zero = elim (cases_lt 0 n) [
   ]
 ]
 
-pub Wrote-std : {S P : Type 0} (s : Buffered S P) (bs : List ℕ) (n : ℕ) (t : Buffered S P)
-    → Wrote std_write_rules s bs n t
-    → StdWriteMet s bs n t
-Wrote-std s bs n t wrote =
+pub Wrote-met : {S P : Type 0} (rules : WriteRules P) (s : Buffered S P) (bs : List ℕ) (n : ℕ) (t : Buffered S P)
+    → FlushesNothingAfter rules → Wrote rules s bs n t → WriteMet s bs n t
+Wrote-met rules s bs n t nothing_after wrote =
     let p = wrote.prepared in
     let first = FlushesAmount-met p.seen wrote.before (p.amount.0) p.flush in
-    let still : t.log ≡ wrote.after.log = (wrote.finished.flush.idle (inl wrote.finished.asked.allowed.1)).told in
+    let still : t.log ≡ wrote.after.log = (wrote.finished.flush.idle
+    (inl (nothing_after _ _ wrote.finished.amount _ wrote.finished.asked.allowed))).told in
     let only : OnlyInterrupted first.times s.log.writes wrote.before.log.writes =
     subst (λ l. OnlyInterrupted first.times l.writes wrote.before.log.writes) p.told first.only in
     let last : OnlyInterrupted first.times s.log.writes wrote.after.log.writes

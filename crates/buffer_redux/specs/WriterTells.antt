@@ -1,10 +1,14 @@
 -- What a buffered writer tells of its own calls, and what any of them, one after another, may do to it.
-use Rattle.std.specs.Prelude.{◌≡◌, ℕ, ◌+◌, ◌<◌, ◌≤◌, ◌++◌, length, true}
+use Rattle.std.specs.Prelude.{◌≡◌, ℕ, ◌+◌, ◌<◌, ◌≤◌, [], ◌∷◌, ◌++◌, length, true}
 use Rattle.std.proofs.Common.{refl, ap, ◌∙◌, arith, le_refl, le_trans}
+use Rattle.std.specs.declared.io.ErrorKind.{ErrorKind}
+use Rattle.std.specs.declared.io.ErrorKind.TheVariants.{WriteZero}
+use Rattle.redux_buffer.specs.Faults.{MetInterrupts, MetInterrupts-joins, MetInterrupts-parts, OnlyInterrupted-none, SendErrorCaused}
 use Rattle.redux_buffer.specs.StreamLog.{StreamLog, WriteLog}
 use Rattle.redux_buffer.specs.LogGrows.{WriteLogGrows, WriteLogGrows-none, WriteLogGrows-joins, WritesGoOn, WritesGoOn-of}
 use Rattle.buffer_redux.specs.Policy.{WriteRules}
 use Rattle.buffer_redux.specs.Buffered.{Buffered}
+use Rattle.buffer_redux.specs.WriterLaws.{FlushesNothingAfter}
 
 -- it received what the inner writer did, and then what is buffered, and flushed what the inner writer did; the rest was
 -- noted call by call
@@ -20,8 +24,13 @@ writer_log b = record b.calls {
 abbrev pub failures : WriteLog → ℕ
 failures log = length log.faults + log.zero_writes
 
+-- a policy under which no failure is kept back: it is steady, and has nothing flushed after a write
+abbrev pub TellsFailures : {P : Type 0} → WriteRules P → P → Type 0
+TellsFailures rules p = ((rules.claims p).steady ≡ true) × FlushesNothingAfter rules
+
 -- the lists and counts only go on, its own and the inner writer's. Under a steady policy, where there is capacity, it
--- failed no more often than the inner writer
+-- failed no more often than the inner writer; and where no failure is kept back, the inner writer was at most interrupted
+-- where it was so itself
 pub record WriterWent {S P : Type 0} (stretch : S → S → Type 0) (rules : WriteRules P) (s t : Buffered S P)
     : Type 0 where
   pub inner : stretch s.inner t.inner
@@ -31,8 +40,37 @@ pub record WriterWent {S P : Type 0} (stretch : S → S → Type 0) (rules : Wri
   pub claims : rules.claims t.policy ≡ rules.claims s.policy
   pub fails : (rules.claims s.policy).steady ≡ true → 0 < s.block.capacity
       → failures t.calls.writes + failures s.log.writes ≤ failures s.calls.writes + failures t.log.writes
+  pub met : TellsFailures rules s.policy → MetInterrupts s.calls.writes t.calls.writes
+      → MetInterrupts s.log.writes t.log.writes
+
+-- one call where no failure is kept back: a fault that it returned, and a write that took nothing of something, is what
+-- the inner writer met last, after interrupted writes
+pub record WriterCalled {S P : Type 0} (rules : WriteRules P) (s t : Buffered S P) : Type 0 where
+  pub fault : TellsFailures rules s.policy → (kind : ErrorKind)
+      → t.calls.writes.faults ≡ s.calls.writes.faults ++ kind ∷ []
+      → SendErrorCaused s.log.writes t.log.writes kind
+  pub nothing : TellsFailures rules s.policy → 0 < s.block.capacity
+      → t.calls.writes.zero_writes ≡ s.calls.writes.zero_writes + 1
+      → SendErrorCaused s.log.writes t.log.writes WriteZero
 
 module _ {S P : Type 0} (stretch : S → S → Type 0) (rules : WriteRules P) where
+  -- the interrupted calls of a stretch are those of its parts
+  parts_of : (a b c : Buffered S P) → WriteLogGrows (writer_log a).writes (writer_log b).writes
+      → WriteLogGrows (writer_log b).writes (writer_log c).writes → MetInterrupts a.calls.writes c.calls.writes
+      → MetInterrupts a.calls.writes b.calls.writes × MetInterrupts b.calls.writes c.calls.writes
+  parts_of a b c p q met =
+      let parts = MetInterrupts-parts (writer_log a).writes (writer_log b).writes (writer_log c).writes p q
+      (record { times = met.times; only = record { faults = met.only.faults; zero_writes = met.only.zero_writes } }) in (
+        record {
+          times = parts.0.times;
+          only = record { faults = parts.0.only.faults; zero_writes = parts.0.only.zero_writes };
+        },
+        record {
+          times = parts.1.times;
+          only = record { faults = parts.1.only.faults; zero_writes = parts.1.only.zero_writes };
+        },
+      )
+
   pub WriterWent-none : ((w : S) → stretch w w) → (s : Buffered S P) → WriterWent stretch rules s s
   WriterWent-none none s = record {
     inner = none s.inner;
@@ -41,23 +79,32 @@ module _ {S P : Type 0} (stretch : S → S → Type 0) (rules : WriteRules P) wh
     capacity = le_refl _;
     claims = refl;
     fails = λ steady room. le_refl _;
+    met = λ tells only. record { times = 0; only = OnlyInterrupted-none s.log.writes };
   }
 
   pub WriterWent-joins : ((u v w : S) → stretch u v → stretch v w → stretch u w) → (a b c : Buffered S P)
       → WriterWent stretch rules a b → WriterWent stretch rules b c → WriterWent stretch rules a c
-  WriterWent-joins joins a b c p q = record {
-    inner = joins a.inner b.inner c.inner p.inner q.inner;
-    grows = WriteLogGrows-joins a.log.writes b.log.writes c.log.writes p.grows q.grows;
-    own_grows =
-        WriteLogGrows-joins (writer_log a).writes (writer_log b).writes (writer_log c).writes p.own_grows q.own_grows;
-    capacity = le_trans p.capacity q.capacity;
-    claims = q.claims ∙ p.claims;
-    fails = λ steady room. omega (
-      arith,
-      p.fails steady room,
-      q.fails (ap (λ x. x.steady) p.claims ∙ steady) (omega (arith, room, p.capacity)),
-    );
-  }
+  WriterWent-joins joins a b c p q =
+      let still : TellsFailures rules a.policy → TellsFailures rules b.policy =
+      λ tells. (ap (λ x. x.steady) p.claims ∙ tells.0, tells.1) in
+      let parts : MetInterrupts a.calls.writes c.calls.writes
+      → MetInterrupts a.calls.writes b.calls.writes × MetInterrupts b.calls.writes c.calls.writes =
+      parts_of a b c p.own_grows q.own_grows in
+      record {
+        inner = joins a.inner b.inner c.inner p.inner q.inner;
+        grows = WriteLogGrows-joins a.log.writes b.log.writes c.log.writes p.grows q.grows;
+        own_grows =
+            WriteLogGrows-joins (writer_log a).writes (writer_log b).writes (writer_log c).writes p.own_grows q.own_grows;
+        capacity = le_trans p.capacity q.capacity;
+        claims = q.claims ∙ p.claims;
+        fails = λ steady room. omega (
+          arith,
+          p.fails steady room,
+          q.fails (ap (λ x. x.steady) p.claims ∙ steady) (omega (arith, room, p.capacity)),
+        );
+        met = λ tells only. MetInterrupts-joins a.log.writes b.log.writes c.log.writes
+            (p.met tells (parts only).0) (q.met (still tells) (parts only).1);
+      }
 
   pub WriterWent-grows : (s t : Buffered S P) → WriterWent stretch rules s t
       → WritesGoOn (writer_log s) (writer_log t)

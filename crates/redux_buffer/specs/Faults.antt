@@ -1,9 +1,10 @@
 -- What the faults that a stream tells say of a call.
-use Rattle.std.specs.Prelude.{◌≡◌, ℕ, ◌+◌, ◌≤◌, ◌⊎◌, List, [], ◌∷◌, ◌++◌, replicate}
-use Rattle.std.proofs.Common.{sym, refl, ap, ◌∙◌, append-nil, append_assoc}
-use Rattle.std.proofs.lemmas.List.{replicate-append-replicate}
+use Rattle.std.specs.Prelude.{◌≡◌, ℕ, ◌+◌, ◌-◌, ◌≤◌, ◌⊎◌, List, [], ◌∷◌, ◌++◌, length, take, drop, replicate}
+use Rattle.std.proofs.Common.{sym, refl, ap, ◌∙◌, arith, inl, inr, append-nil, append_assoc, length-append}
+use Rattle.std.proofs.lemmas.List.{replicate-append-replicate, length-replicate, take_at, drop_at, take-replicate, drop-replicate, append_cancel_left}
 use Rattle.std.specs.declared.io.ErrorKind.{ErrorKind}
 use Rattle.std.specs.declared.io.ErrorKind.TheVariants.{Interrupted, WriteZero}
+use Rattle.redux_buffer.specs.LogGrows.{WriteLogGrows}
 use Rattle.redux_buffer.specs.StreamLog.{WriteLog}
 
 -- faults came, and the last of them is of this kind
@@ -91,6 +92,58 @@ pub MetInterrupts-joins : (a b c : WriteLog) → MetInterrupts a b → MetInterr
 MetInterrupts-joins a b c p q =
     record { times = p.times + q.times; only = OnlyInterrupted-joins p.times q.times a b c p.only q.only }
 
+-- each part of a row of `Interrupted` is one
+row_parts : (xs ys : List ErrorKind) (n : ℕ) → xs ++ ys ≡ replicate n Interrupted
+    → (xs ≡ replicate (length xs) Interrupted) × (ys ≡ replicate (n - length xs) Interrupted)
+row_parts xs ys n row =
+    let long : length xs ≤ n =
+    omega (arith, length-append xs ys, ap length row, length-replicate {A = ErrorKind} n Interrupted) in (
+      sym (take_at xs ys (length xs) refl) ∙ ap (take (length xs)) row ∙ take-replicate (length xs) n Interrupted long,
+      sym (drop_at xs ys (length xs) refl) ∙ ap (drop (length xs)) row ∙ drop-replicate (length xs) n Interrupted,
+    )
+
+-- where nothing but interrupted writes was met in a stretch, so it was in each of its parts
+pub MetInterrupts-parts : (a b c : WriteLog) → WriteLogGrows a b → WriteLogGrows b c → MetInterrupts a c
+    → MetInterrupts a b × MetInterrupts b c
+MetInterrupts-parts a b c p q met =
+    let first = p.faults.more in
+    let second = q.faults.more in
+    let row : first ++ second ≡ replicate met.times Interrupted =
+    append_cancel_left a.faults (first ++ second) (replicate met.times Interrupted)
+    (sym (append_assoc a.faults first second) ∙ sym (ap (λ l. l ++ second) p.faults.equal) ∙ sym q.faults.equal
+    ∙ met.only.faults) in
+    let parts = row_parts first second met.times row in (
+      record {
+        times = length first;
+        only = record {
+          faults = p.faults.equal ∙ ap (λ l. a.faults ++ l) parts.0;
+          zero_writes = omega (arith, p.zero_writes, q.zero_writes, met.only.zero_writes);
+        };
+      },
+      record {
+        times = met.times - length first;
+        only = record {
+          faults = q.faults.equal ∙ ap (λ l. b.faults ++ l) parts.1;
+          zero_writes = omega (arith, p.zero_writes, q.zero_writes, met.only.zero_writes);
+        };
+      },
+    )
+
+-- an error `Interrupted` is one more interrupted write
+pub MetInterrupts-err : (old new : WriteLog) → SendErrorCaused old new Interrupted → MetInterrupts old new
+MetInterrupts-err old new caused = elim caused.cause [
+  | inl nothing ↦ (let odd = nothing.is_write_zero in cc)
+  | inr fault ↦ record {
+    times = caused.interrupts + 1;
+    only = record {
+      faults = fault.faults
+          ∙ append_assoc old.faults (replicate caused.interrupts Interrupted) (Interrupted ∷ [])
+          ∙ ap (λ l. old.faults ++ l) (replicate-append-replicate caused.interrupts 1 Interrupted);
+      zero_writes = fault.zero_writes;
+    };
+  }
+]
+
 -- what goes wrong after interrupted writes goes wrong after all of them
 pub TookNothing-after : (n k : ℕ) (a b c : WriteLog) (kind : ErrorKind) → OnlyInterrupted n a b
     → TookNothing k b c kind → TookNothing (n + k) a c kind
@@ -105,4 +158,14 @@ pub FaultedAfter-after : (n k : ℕ) (a b c : WriteLog) (kind : ErrorKind) → O
 FaultedAfter-after n k a b c kind p q = record {
   faults = fault_after n k a.faults b.faults c.faults kind p.faults q.faults;
   zero_writes = q.zero_writes ∙ p.zero_writes;
+}
+
+pub SendErrorCaused-after : (a b c : WriteLog) (kind : ErrorKind) → MetInterrupts a b → SendErrorCaused b c kind
+    → SendErrorCaused a c kind
+SendErrorCaused-after a b c kind met caused = record {
+  interrupts = met.times + caused.interrupts;
+  cause = elim caused.cause [
+    | inl nothing ↦ inl (TookNothing-after met.times caused.interrupts a b c kind met.only nothing)
+    | inr fault ↦ inr (FaultedAfter-after met.times caused.interrupts a b c kind met.only fault)
+  ];
 }

@@ -2,7 +2,7 @@
 ghost use Rattle.std.specs.Prelude.{◌≡◌};
 ghost use Rattle.std.specs.Io.{WritesAtMost};
 ghost use Rattle.redux_buffer.specs.StreamLog.{after_write, after_flush};
-ghost use Rattle.buffer_redux.specs.WriterTells.{writer_log, WriterWent, WriterWent-none, WriterWent-joins, WriterWent-grows};
+ghost use Rattle.buffer_redux.specs.WriterTells.{writer_log, WriterCalled, WriterWent, WriterWent-none, WriterWent-joins, WriterWent-grows};
 
 use crate::buf_writer::BufWriter;
 use crate::policy::WriterPolicy;
@@ -17,10 +17,13 @@ impl<W: TellWrite, P> Tell for BufWriter<W, P> {
 impl<W: TellWrite, P: WriterPolicy> TellWrite for BufWriter<W, P> {
     ghost stretch = { WriterWent W.stretch P.rules };
 
+    ghost call = { WriterCalled P.rules };
+
     fn write_told(&mut self, buf: &[u8]) -> io::Result<usize>
         ensures bound { WritesAtMost result buf.now }
         ensures told { writer_log self.new ≡ after_write (writer_log self.old) buf.now result }
         ensures stretch { WriterWent W.stretch P.rules self.old self.new }
+        ensures call { WriterCalled P.rules self.old self.new }
     {
         let answer = self.write(buf);
         self.calls.note(&Call::Write(buf, &answer));
@@ -30,6 +33,7 @@ impl<W: TellWrite, P: WriterPolicy> TellWrite for BufWriter<W, P> {
     fn flush_told(&mut self) -> io::Result<()>
         ensures told { writer_log self.new ≡ after_flush (writer_log self.old) result }
         ensures stretch { WriterWent W.stretch P.rules self.old self.new }
+        ensures call { WriterCalled P.rules self.old self.new }
     {
         let answer = self.flush();
         self.calls.note(&Call::Flush(&answer));

@@ -3,7 +3,7 @@ ghost use Rattle.std.specs.Prelude.{◌≡◌};
 ghost use Rattle.std.specs.Io.{WritesAtMost};
 ghost use Rattle.redux_buffer.specs.StreamLog.{after_write, after_flush};
 ghost use Rattle.buffer_redux.specs.LineWriter.{line_rules};
-ghost use Rattle.buffer_redux.specs.WriterTells.{writer_log, WriterWent, WriterWent-none, WriterWent-joins, WriterWent-grows};
+ghost use Rattle.buffer_redux.specs.WriterTells.{writer_log, WriterCalled, WriterWent, WriterWent-none, WriterWent-joins, WriterWent-grows};
 
 use crate::line_writer::LineWriter;
 use redux_buffer::tell::{Tell, TellWrite};
@@ -17,10 +17,13 @@ impl<W: TellWrite> Tell for LineWriter<W> {
 impl<W: TellWrite> TellWrite for LineWriter<W> {
     ghost stretch = { WriterWent W.stretch line_rules };
 
+    ghost call = { WriterCalled line_rules };
+
     fn write_told(&mut self, buf: &[u8]) -> io::Result<usize>
         ensures bound { WritesAtMost result buf.now }
         ensures told { writer_log self.new ≡ after_write (writer_log self.old) buf.now result }
         ensures stretch { WriterWent W.stretch line_rules self.old self.new }
+        ensures call { WriterCalled line_rules self.old self.new }
     {
         self.writer.write_told(buf)
     }
@@ -28,6 +31,7 @@ impl<W: TellWrite> TellWrite for LineWriter<W> {
     fn flush_told(&mut self) -> io::Result<()>
         ensures told { writer_log self.new ≡ after_flush (writer_log self.old) result }
         ensures stretch { WriterWent W.stretch line_rules self.old self.new }
+        ensures call { WriterCalled line_rules self.old self.new }
     {
         self.writer.flush_told()
     }

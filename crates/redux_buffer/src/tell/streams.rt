@@ -1,5 +1,5 @@
 //! The calls of std's streams, under contracts that tell of each call.
-ghost use Rattle.std.specs.Prelude.{◌≡◌, ℕ, List, Option, None};
+ghost use Rattle.std.specs.Prelude.{◌≡◌, ⊤, ℕ, List, Option, None};
 ghost use Rattle.std.specs.Io.{ReadsAtMost, WritesAtMost};
 ghost use Rattle.std.specs.Io.KnownBytes.{Keeps, ReadConsumes};
 ghost use Rattle.std.specs.Io.Seek.{SeekMoves};
@@ -34,16 +34,21 @@ pub trait TellWrite: Tell {
     // What any calls, one after another, may do to the writer.
     ghost stretch: { Self → Self → Type 0 };
 
+    // What one call does beyond that, and is lost where calls are taken together: nothing, where a writer says nothing.
+    ghost call: { Self → Self → Type 0 } = { λ _ _. ⊤ };
+
     /// [`Write::write`](std::io::Write::write).
     fn write_told(&mut self, buf: &[u8]) -> io::Result<usize>
         ensures bound { WritesAtMost result buf.now }
         ensures told { Self.log self.new ≡ after_write (Self.log self.old) buf.now result }
-        ensures stretch { stretch self.old self.new };
+        ensures stretch { stretch self.old self.new }
+        ensures call { call self.old self.new };
 
     /// [`Write::flush`](std::io::Write::flush).
     fn flush_told(&mut self) -> io::Result<()>
         ensures told { Self.log self.new ≡ after_flush (Self.log self.old) result }
-        ensures stretch { stretch self.old self.new };
+        ensures stretch { stretch self.old self.new }
+        ensures call { call self.old self.new };
 
     // No call is a stretch too.
     ghost stretch_none: { (s : Self) → stretch s s };

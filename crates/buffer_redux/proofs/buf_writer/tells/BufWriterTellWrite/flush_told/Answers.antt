@@ -1,8 +1,9 @@
-use Rattle.std.proofs.Common.{rules, ◌≡◌, ◌+◌, ◌≤◌, ap, subst, sym, arith}
+use Rattle.std.proofs.Common.{rules, ◌≡◌, ◌∙◌, ◌+◌, ◌≤◌, ap, subst, sym, arith}
+use Rattle.redux_buffer.specs.Faults.{MetInterrupts, SendErrorCaused}
 use Rattle.redux_buffer.specs.StreamLog.{after_flush}
 use Rattle.redux_buffer.specs.LogGrows.{WriteLogGrows, WriteLogGrows-flush}
 use Rattle.buffer_redux.specs.WriterTells.{writer_log, failures}
-use Rattle.buffer_redux.proofs.Telling.{call_went, flush_fails}
+use Rattle.buffer_redux.proofs.Telling.{call_went, flush_fails, flush_met, flush_fault}
 use Rattle.buffer_redux.proofs.buf_writer.tells.BufWriterTellWrite.flush_told.Goals as goal
 
 pub returns-clause-told : goal.returns-clause-told
@@ -21,3 +22,17 @@ returns-clause-stretch g c =
     (subst (λ l. WriteLogGrows (writer_log s).writes l.writes) (sym (returns-clause-told g c)) (WriteLogGrows-flush (writer_log s) answer)) (omega (arith, flush.capacity))
     (ap table.claims flush.steps.policy)
     (λ steady room. subst (λ l. failures l.writes + failures s.log.writes ≤ failures s.calls.writes + failures m.log.writes) (sym noted) (flush_fails s m answer flush.grows flush.caused))
+    (λ tells. subst (λ l. MetInterrupts s.calls.writes l.writes → MetInterrupts s.log.writes m.log.writes) (sym noted) (flush_met s m answer flush.ok flush.caused))
+
+pub returns-clause-call : goal.returns-clause-call
+returns-clause-call g c =
+    let s = c.args.self.now in
+    let m = c.flush-answer.new.self in
+    let answer = c.flush-answer.result in
+    let flush = c.flush-answer.ensures in
+    let noted : c.note.new.self.log ≡ after_flush s.calls answer = search rules in
+    record {
+      fault = λ tells kind is. subst (λ l. SendErrorCaused s.log.writes l kind) (sym (ap (λ x. x.log.writes) c.self.view_is))
+          (flush_fault s m answer kind flush.caused (sym (ap (λ l. l.writes.faults) noted) ∙ is));
+      nothing = λ tells room is. absurd (omega (arith, is, ap (λ l. l.writes.zero_writes) noted));
+    }

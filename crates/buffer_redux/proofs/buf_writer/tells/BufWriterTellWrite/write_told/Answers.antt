@@ -1,8 +1,10 @@
-use Rattle.std.proofs.Common.{rules, ◌≡◌, ◌+◌, ◌≤◌, ap, subst, sym}
+use Rattle.std.proofs.Common.{rules, ◌≡◌, ◌∙◌, ◌+◌, ◌≤◌, ap, subst, sym}
+use Rattle.std.specs.declared.io.ErrorKind.TheVariants.{WriteZero}
+use Rattle.redux_buffer.specs.Faults.{MetInterrupts, SendErrorCaused}
 use Rattle.redux_buffer.specs.StreamLog.{after_write}
 use Rattle.redux_buffer.specs.LogGrows.{WriteLogGrows, WriteLogGrows-write}
 use Rattle.buffer_redux.specs.WriterTells.{writer_log, failures}
-use Rattle.buffer_redux.proofs.Telling.{call_went, write_fails}
+use Rattle.buffer_redux.proofs.Telling.{call_went, write_fails, write_met, write_fault, write_nothing}
 use Rattle.buffer_redux.proofs.buf_writer.tells.BufWriterTellWrite.write_told.Goals as goal
 
 pub returns-clause-told : goal.returns-clause-told
@@ -20,3 +22,20 @@ returns-clause-stretch g c =
     (ap (λ x. x.log) c.self.view_is) wrote.stretch.calls wrote.grows
     (subst (λ l. WriteLogGrows (writer_log s).writes l.writes) (sym (returns-clause-told g c)) (WriteLogGrows-write (writer_log s) bs answer)) wrote.capacity wrote.claims
     (λ steady room. subst (λ l. failures l.writes + failures s.log.writes ≤ failures s.calls.writes + failures m.log.writes) (sym noted) (write_fails s m bs answer wrote.grows (wrote.steadily steady) room))
+    (λ tells. subst (λ l. MetInterrupts s.calls.writes l.writes → MetInterrupts s.log.writes m.log.writes) (sym noted) (write_met g.P.WriterPolicy.rules s m bs tells answer wrote.steps wrote.caused))
+
+pub returns-clause-call : goal.returns-clause-call
+returns-clause-call g c =
+    let table = g.P.WriterPolicy.rules in
+    let s = c.args.self.now in
+    let m = c.write-answer.new.self in
+    let bs = c.args.buf.now in
+    let answer = c.write-answer.result in
+    let wrote = c.write-answer.ensures in
+    let noted : c.note.new.self.log ≡ after_write s.calls bs answer = search rules in
+    let same = ap (λ x. x.log.writes) c.self.view_is in
+    record {
+      fault = λ tells kind is. subst (λ l. SendErrorCaused s.log.writes l kind) (sym same) (write_fault table s m bs tells answer kind wrote.caused (sym (ap (λ l. l.writes.faults) noted) ∙ is));
+      nothing = λ tells room is. subst (λ l. SendErrorCaused s.log.writes l WriteZero) (sym same)
+          (write_nothing table s m bs tells answer wrote.steps (wrote.steadily tells.0) room (sym (ap (λ l. l.writes.zero_writes) noted) ∙ is));
+    }
