@@ -1,12 +1,10 @@
 -- How what a copy's turns move adds up.
-use Rattle.std.proofs.Common.{◌∙◌, ℕ, ◌+◌, ◌<◌, Result, Ok, Err, IfOk, IfErr, [], ◌++◌, inl, inr, refl, sym, ap, subst, append_assoc, append-nil, length-append, le_refl, le_trans, arith}
+use Rattle.std.proofs.Common.{◌∙◌, ℕ, ◌+◌, ◌<◌, List, Result, Ok, Err, IfOk, IfErr, [], ◌++◌, inl, inr, refl, sym, ap, subst, append_assoc, append-nil, length-append, le_refl, le_trans, arith}
 use Rattle.std.specs.IoError.{error_kind}
 use Rattle.std.specs.declared.io.Error.{Error}
-use Rattle.std.specs.declared.io.ErrorKind.{ErrorKind}
-use Rattle.std.specs.declared.io.ErrorKind.TheVariants.{WriteZero}
-use Rattle.redux_buffer.specs.StreamLog.{FillLog, WriteLog}
-use Rattle.redux_buffer.specs.Faults.{OnlyInterrupts-none, OnlyInterrupts-joins, FaultAfterInterrupts-after, OnlyInterrupted-none, MetInterrupts-joins, TookNothing-after, FaultedAfter-after}
-use Rattle.buffer_redux.specs.Copy.{MovedBy, CopiesOn, CopyEnded, StreamFailed}
+use Rattle.redux_buffer.specs.StreamLog.{StreamLog, FillLog, WriteLog}
+use Rattle.redux_buffer.specs.Faults.{OnlyInterrupts-none, OnlyInterrupts-joins, FaultAfterInterrupts-after, OnlyInterrupted-none, MetInterrupts-joins}
+use Rattle.buffer_redux.specs.Copy.{MovedBy, CopiesOn, LastWrite, CopyEnded, StreamFailed}
 
 MovedBy-none : (a : FillLog) (x : WriteLog) → MovedBy 0 a a x x
 MovedBy-none a x = record
@@ -29,7 +27,7 @@ CopiesOn-none a x = record {
   writer = record { times = 0; only = OnlyInterrupted-none x };
 }
 
--- what comes after turns in which the streams were at most interrupted
+-- turns that follow one another
 module _ (n : ℕ) (a b c : FillLog) (x y z : WriteLog) (before : CopiesOn n a b x y) where
   pub CopiesOn-joins : (k : ℕ) → CopiesOn k b c y z → CopiesOn (n + k) a c x z
   CopiesOn-joins k last = record {
@@ -39,30 +37,39 @@ module _ (n : ℕ) (a b c : FillLog) (x y z : WriteLog) (before : CopiesOn n a b
     writer = MetInterrupts-joins x y z before.writer last.writer;
   }
 
-  pub CopyEnded-after : CopyEnded b c y z → CopyEnded a c x z
-  CopyEnded-after last = record {
-    reader = OnlyInterrupts-joins a.faults b.faults c.faults before.reader last.reader;
-    ended = elim last.ended [
-      | inl out ↦ inl (record
-          { empty = out.empty; ended = omega (arith, before.ends, out.ended); writer = MetInterrupts-joins x y z before.writer out.writer })
-      | inr stuck ↦ inr (record {
-        left = stuck.left;
-        interrupts = before.writer.times + stuck.interrupts;
-        writer = TookNothing-after before.writer.times stuck.interrupts x y z WriteZero before.writer.only stuck.writer;
-      })
-    ];
+-- what comes after turns in which the streams were at most interrupted
+module _ {W : Type 0} (tells : W → StreamLog) (stretch call : W → W → Type 0) (joins : (u v w : W) → stretch u v → stretch v w → stretch u w)
+    (n : ℕ) (a b c : FillLog) (x y z : W) (before : CopiesOn n a b (tells x).writes (tells y).writes) (went : stretch x y) where
+  LastWrite-after : (bytes : List ℕ) (answer : Result ℕ Error) → LastWrite tells stretch call y bytes answer z → LastWrite tells stretch call x bytes answer z
+  LastWrite-after bytes answer last = record {
+    before = last.before;
+    went = joins x y last.before went last.went;
+    met = MetInterrupts-joins (tells x).writes (tells y).writes (tells last.before).writes before.writer last.met;
+    called = last.called;
+    told = last.told;
   }
 
-  pub StreamFailed-after : (kind : ErrorKind) → StreamFailed kind b c y z → StreamFailed kind a c x z
-  StreamFailed-after kind (inl source) = inl (record {
-    fault = FaultAfterInterrupts-after a.faults b.faults c.faults kind before.reader source.fault;
-    writer = MetInterrupts-joins x y z before.writer source.writer;
+  pub CopyEnded-after : CopyEnded tells stretch call b c y z → CopyEnded tells stretch call a c x z
+  CopyEnded-after ended = record {
+    reader = OnlyInterrupts-joins a.faults b.faults c.faults before.reader ended.reader;
+    last = LastWrite-after c.shown (Ok 0) ended.last;
+    ends = λ none. omega (arith, before.ends, ended.ends none);
+  }
+
+  pub StreamFailed-after : (e : Error) → StreamFailed tells stretch call e b c y z → StreamFailed tells stretch call e a c x z
+  StreamFailed-after e (inl source) = inl (record {
+    fault = FaultAfterInterrupts-after a.faults b.faults c.faults (error_kind e) before.reader source.fault;
+    writer = MetInterrupts-joins (tells x).writes (tells y).writes (tells z).writes before.writer source.writer;
   })
-  StreamFailed-after kind (inr target) = inr (record {
+  StreamFailed-after e (inr target) = inr (record {
     reader = OnlyInterrupts-joins a.faults b.faults c.faults before.reader target.reader;
-    interrupts = before.writer.times + target.interrupts;
-    fault = FaultedAfter-after before.writer.times target.interrupts x y z kind before.writer.only target.fault;
+    last = LastWrite-after c.shown (Err e) target.last;
   })
+
+  pub failed_after : {A : Type 0} (answer : Result A Error)
+      → IfErr answer (λ e. StreamFailed tells stretch call e b c y z) → IfErr answer (λ e. StreamFailed tells stretch call e a c x z)
+  failed_after (Ok k) failed = tt
+  failed_after (Err e) failed = StreamFailed-after e failed
 
 -- a turn after turns that were only interrupted
 module _ (a b c : FillLog) (x y z : WriteLog) (before : CopiesOn 0 a b x y) where
@@ -72,8 +79,3 @@ module _ (a b c : FillLog) (x y z : WriteLog) (before : CopiesOn 0 a b x y) wher
   pub copies_after : {A : Type 0} (answer : Result ℕ A) → IfOk answer (λ n. 0 < n → CopiesOn n b c y z) → IfOk answer (λ n. 0 < n → CopiesOn n a c x z)
   copies_after (Ok n) copies = λ some. CopiesOn-after n (copies some)
   copies_after (Err e) copies = tt
-
-  pub failed_after : {A : Type 0} (answer : Result A Error)
-      → IfErr answer (λ e. StreamFailed (error_kind e) b c y z) → IfErr answer (λ e. StreamFailed (error_kind e) a c x z)
-  failed_after (Ok n) failed = tt
-  failed_after (Err e) failed = StreamFailed-after 0 a b c x y z before (error_kind e) failed

@@ -1,9 +1,11 @@
 -- What copying from a buffered reader to a writer does.
-use Rattle.std.specs.Prelude.{◌≡◌, ℕ, ◌+◌, ◌^◌, ◌<◌, ◌≤◌, ◌⊎◌, List, [], ◌++◌, length}
+use Rattle.std.specs.Prelude.{◌≡◌, ℕ, ◌+◌, ◌^◌, ◌<◌, ◌≤◌, ◌⊎◌, List, [], ◌++◌, length, Result, Ok, Err}
+use Rattle.std.specs.IoError.{error_kind}
+use Rattle.std.specs.declared.io.Error.{Error}
 use Rattle.std.specs.declared.io.ErrorKind.{ErrorKind}
-use Rattle.std.specs.declared.io.ErrorKind.TheVariants.{Other, WriteZero}
-use Rattle.redux_buffer.specs.StreamLog.{FillLog, WriteLog}
-use Rattle.redux_buffer.specs.Faults.{OnlyInterrupts, FaultAfterInterrupts, MetInterrupts, TookNothing, FaultedAfter}
+use Rattle.std.specs.declared.io.ErrorKind.TheVariants.{Other}
+use Rattle.redux_buffer.specs.StreamLog.{StreamLog, FillLog, WriteLog, after_write}
+use Rattle.redux_buffer.specs.Faults.{OnlyInterrupts, FaultAfterInterrupts, MetInterrupts}
 
 -- the writer received n bytes, and these are the ones that the reader was told are consumed
 pub record MovedBy (n : ℕ) (from from' : FillLog) (to to' : WriteLog) : Type 0 where
@@ -20,47 +22,52 @@ pub record CopiesOn (n : ℕ) (from from' : FillLog) (to to' : WriteLog) : Type 
   pub reader : OnlyInterrupts from.faults from'.faults
   pub writer : MetInterrupts to to'
 
--- the reader had nothing to show
-pub record RanOut (from from' : FillLog) (to to' : WriteLog) : Type 0 where
-  pub empty : from'.shown ≡ []
-  pub ended : from.ends < from'.ends
+-- the writer was at most interrupted, up to its last call: a write of these bytes with this answer
+pub record LastWrite {W : Type 0} (tells : W → StreamLog) (stretch call : W → W → Type 0)
+    (w : W) (bytes : List ℕ) (answer : Result ℕ Error) (w' : W) : Type 0 where
+  pub before : W
+  pub went : stretch w before
+  pub met : MetInterrupts (tells w).writes (tells before).writes
+  pub called : call before w'
+  pub told : tells w' ≡ after_write (tells before) bytes answer
+
+-- copying ended: the last write took nothing of all that is shown, the reader was at most interrupted, and where it had
+-- nothing to show it told so
+pub record CopyEnded {W : Type 0} (tells : W → StreamLog) (stretch call : W → W → Type 0)
+    (from from' : FillLog) (w w' : W) : Type 0 where
+  pub reader : OnlyInterrupts from.faults from'.faults
+  pub last : LastWrite tells stretch call w from'.shown (Ok 0) w'
+  pub ends : length from'.shown ≡ 0 → from.ends < from'.ends
+
+-- the reader failed with this error, and the writer was at most interrupted
+pub record SourceFailed (e : Error) (from from' : FillLog) (to to' : WriteLog) : Type 0 where
+  pub fault : FaultAfterInterrupts from.faults from'.faults (error_kind e)
   pub writer : MetInterrupts to to'
 
--- the writer took nothing of what is shown
-pub record GotStuck (from from' : FillLog) (to to' : WriteLog) : Type 0 where
-  pub left : 0 < length from'.shown
-  pub interrupts : ℕ
-  pub writer : TookNothing interrupts to to' WriteZero
-
--- why copying ended: the last turn moved nothing, and the streams were at most interrupted
-pub record CopyEnded (from from' : FillLog) (to to' : WriteLog) : Type 0 where
+-- the last write, of all that is shown, failed with this error, and the reader was at most interrupted
+pub record TargetFailed {W : Type 0} (tells : W → StreamLog) (stretch call : W → W → Type 0)
+    (e : Error) (from from' : FillLog) (w w' : W) : Type 0 where
   pub reader : OnlyInterrupts from.faults from'.faults
-  pub ended : RanOut from from' to to' ⊎ GotStuck from from' to to'
+  pub last : LastWrite tells stretch call w from'.shown (Err e) w'
 
--- the reader failed with this kind, and the writer was at most interrupted
-pub record SourceFailed (kind : ErrorKind) (from from' : FillLog) (to to' : WriteLog) : Type 0 where
-  pub fault : FaultAfterInterrupts from.faults from'.faults kind
-  pub writer : MetInterrupts to to'
-
--- the writer failed with this kind, and the reader was at most interrupted
-pub record TargetFailed (kind : ErrorKind) (from from' : FillLog) (to to' : WriteLog) : Type 0 where
-  pub reader : OnlyInterrupts from.faults from'.faults
-  pub interrupts : ℕ
-  pub fault : FaultedAfter interrupts to to' kind
-
-abbrev pub StreamFailed : ErrorKind → FillLog → FillLog → WriteLog → WriteLog → Type 0
-StreamFailed kind from from' to to' = SourceFailed kind from from' to to' ⊎ TargetFailed kind from from' to to'
+abbrev pub StreamFailed : {W : Type 0} → (W → StreamLog) → (W → W → Type 0) → (W → W → Type 0) → Error
+    → FillLog → FillLog → W → W → Type 0
+StreamFailed tells stretch call e from from' w w' =
+    SourceFailed e from from' (tells w).writes (tells w').writes ⊎ TargetFailed tells stretch call e from from' w w'
 
 -- more bytes were moved than a `u64` counts, and the streams were at most interrupted
-pub record MovedTooMuch (kind : ErrorKind) (from from' : FillLog) (to to' : WriteLog) : Type 0 where
-  pub other : kind ≡ Other
+pub record MovedTooMuch (e : Error) (from from' : FillLog) (to to' : WriteLog) : Type 0 where
+  pub other : error_kind e ≡ Other
   pub count : ℕ
   pub large : 2 ^ 64 ≤ count
   pub copies : CopiesOn count from from' to to'
 
--- why a copy failed with this kind
-abbrev pub CopyFailed : ErrorKind → FillLog → FillLog → WriteLog → WriteLog → Type 0
-CopyFailed kind from from' to to' = StreamFailed kind from from' to to' ⊎ MovedTooMuch kind from from' to to'
+-- why a copy failed with this error
+abbrev pub CopyFailed : {W : Type 0} → (W → StreamLog) → (W → W → Type 0) → (W → W → Type 0) → Error
+    → FillLog → FillLog → W → W → Type 0
+CopyFailed tells stretch call e from from' w w' =
+    StreamFailed tells stretch call e from from' w w'
+    ⊎ MovedTooMuch e from from' (tells w).writes (tells w').writes
 
 -- the streams met so many faults, both together
 abbrev pub FaultsRise : ℕ → FillLog → FillLog → WriteLog → WriteLog → Type 0

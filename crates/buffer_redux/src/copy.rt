@@ -24,9 +24,9 @@ pub fn copy_buf<B: TellBufRead, W: TellWrite>(b: &mut B, w: &mut W) -> io::Resul
     ensures total { IfOk result (λ n.
         MovedBy n (B.log b.old).fills (B.log b.new).fills (W.log w.old).writes (W.log w.new).writes) }
     ensures ended { OnOk result
-        (CopyEnded (B.log b.old).fills (B.log b.new).fills (W.log w.old).writes (W.log w.new).writes) }
-    ensures failed { IfErr result (λ e. CopyFailed (error_kind e)
-        (B.log b.old).fills (B.log b.new).fills (W.log w.old).writes (W.log w.new).writes) }
+        (CopyEnded W.log W.stretch W.call (B.log b.old).fills (B.log b.new).fills w.old w.new) }
+    ensures failed { IfErr result (λ e. CopyFailed W.log W.stretch W.call e
+        (B.log b.old).fills (B.log b.new).fills w.old w.new) }
     ensures often { IfErr result (λ e. error_kind e ≡ ErrorKind.Interrupted
         → FaultsRise 65 (B.log b.old).fills (B.log b.new).fills (W.log w.old).writes (W.log w.new).writes) }
     ensures reader { B.stretch b.old b.new }
@@ -58,11 +58,11 @@ fn copy_retried<B: TellBufRead, W: TellWrite>(b: &mut B, w: &mut W) -> io::Resul
     ensures copies { IfOk result (λ n. 0 < n → CopiesOn n
         (B.log b.old).fills (B.log b.new).fills (W.log w.old).writes (W.log w.new).writes) }
     ensures ended { result ≡ Ok 0
-        → CopyEnded (B.log b.old).fills (B.log b.new).fills (W.log w.old).writes (W.log w.new).writes }
+        → CopyEnded W.log W.stretch W.call (B.log b.old).fills (B.log b.new).fills w.old w.new }
     ensures nothing { result ≡ Ok 0
         → MovedBy 0 (B.log b.old).fills (B.log b.new).fills (W.log w.old).writes (W.log w.new).writes }
-    ensures failed { IfErr result (λ e. StreamFailed (error_kind e)
-        (B.log b.old).fills (B.log b.new).fills (W.log w.old).writes (W.log w.new).writes) }
+    ensures failed { IfErr result (λ e. StreamFailed W.log W.stretch W.call e
+        (B.log b.old).fills (B.log b.new).fills w.old w.new) }
     ensures kept { OnErr result
         (MovedBy 0 (B.log b.old).fills (B.log b.new).fills (W.log w.old).writes (W.log w.new).writes) }
     ensures often { IfErr result (λ e. error_kind e ≡ ErrorKind.Interrupted
@@ -88,11 +88,11 @@ fn copy_turn<B: TellBufRead, W: TellWrite>(b: &mut B, w: &mut W) -> io::Result<u
     ensures copies { IfOk result (λ n. 0 < n → CopiesOn n
         (B.log b.old).fills (B.log b.new).fills (W.log w.old).writes (W.log w.new).writes) }
     ensures ended { result ≡ Ok 0
-        → CopyEnded (B.log b.old).fills (B.log b.new).fills (W.log w.old).writes (W.log w.new).writes }
+        → CopyEnded W.log W.stretch W.call (B.log b.old).fills (B.log b.new).fills w.old w.new }
     ensures nothing { result ≡ Ok 0
         → MovedBy 0 (B.log b.old).fills (B.log b.new).fills (W.log w.old).writes (W.log w.new).writes }
-    ensures failed { IfErr result (λ e. StreamFailed (error_kind e)
-        (B.log b.old).fills (B.log b.new).fills (W.log w.old).writes (W.log w.new).writes) }
+    ensures failed { IfErr result (λ e. StreamFailed W.log W.stretch W.call e
+        (B.log b.old).fills (B.log b.new).fills w.old w.new) }
     ensures interrupted { IfErr result (λ e. error_kind e ≡ ErrorKind.Interrupted → CopiesOn 0
         (B.log b.old).fills (B.log b.new).fills (W.log w.old).writes (W.log w.new).writes) }
     ensures kept { OnErr result

@@ -6,7 +6,7 @@ use Rattle.buffer_redux.proofs.copy.copy_buf.Goals as goal
 pub returns-in_err-taken-clause-failed : goal.returns-in_err-taken-clause-failed
 returns-in_err-taken-clause-failed g c =
     let p = err_from_is_err_and c.from_residual.result c.from_residual.ensures.1 in
-    rw (p.1, p.2) (inl (StreamFailed-after _ _ _ _ _ _ _ c.turns.invariant.copies _ c.in_err-taken.ensures.failed))
+    rw (p.1, p.2) (inl (StreamFailed-after _ _ _ g.met.W.TellWrite.stretch_joins _ _ _ _ _ _ _ c.turns.invariant.copies c.turns.invariant.writer _ c.in_err-taken.ensures.failed))
 
 pub returns-in_err-taken-clause-reader : goal.returns-in_err-taken-clause-reader
 returns-in_err-taken-clause-reader g c = g.met.B.TellBufRead.stretch_joins _ _ _ c.turns.invariant.reader c.in_err-taken.ensures.reader
@@ -15,7 +15,7 @@ pub returns-in_err-taken-clause-writer : goal.returns-in_err-taken-clause-writer
 returns-in_err-taken-clause-writer g c = g.met.W.TellWrite.stretch_joins _ _ _ c.turns.invariant.writer c.in_err-taken.ensures.writer
 
 pub returns-then-taken-eq0-clause-ended : goal.returns-then-taken-eq0-clause-ended
-returns-then-taken-eq0-clause-ended g c = CopyEnded-after _ _ _ _ _ _ _ c.turns.invariant.copies (c.in_ok-taken.ensures.ended (cc))
+returns-then-taken-eq0-clause-ended g c = CopyEnded-after _ _ _ g.met.W.TellWrite.stretch_joins _ _ _ _ _ _ _ c.turns.invariant.copies c.turns.invariant.writer (c.in_ok-taken.ensures.ended (cc))
 
 pub turns-preserved : goal.turns-preserved
 turns-preserved g c =
