@@ -2,15 +2,15 @@
 ghost use Rattle.std.specs.Prelude.{◌≡◌, ◌≢◌, ◌<◌, ◌≤◌, ◌⊎◌, Ok, IfOk, IfErr, OnOk, OnErr, if◌then◌else◌};
 ghost use Rattle.std.specs.IoError.{error_kind};
 ghost use Rattle.buffer_redux.specs.Block.{Plain, Ring};
-ghost use Rattle.bufcopy.specs.Copy.{IsFresh, CopiesOn, RanOut, GotStuck, CopyStopped, MovedTooMuch, CopiedAll, Copied, IsBeginning, CopyFailed};
+ghost use Rattle.bufcopy.specs.Copy.{IsFresh, EitherFailed, OverTotal, Copied, IsBeginning, RunFailed};
 
 use crate::ending::Ending;
 use crate::settings::GREATEST_CAPACITY;
 use buffer_redux::tell::{TellRead, TellWrite};
-use buffer_redux::{BufReader, BufWriter, GrowError, MakeError};
+use buffer_redux::{BufReader, BufWriter, GrowError, MakeError, copy_buf};
 use std::alloc::Global;
 use std::io;
-use std::io::{BufRead, ErrorKind, Write};
+use std::io::{ErrorKind, Write};
 
 /// Copies from `reader` to `writer` until the reader ends, through buffers of `cap` bytes, and returns how many bytes went
 /// over. Both streams come back, also after a fault; nothing more is sent then.
@@ -26,7 +26,7 @@ pub fn run<R: TellRead, W: TellWrite>(
     ensures copied { IfOk result.0 (λ total.
         Copied total (R.log reader) (R.log result.1) (W.log writer) (W.log result.2)) }
     ensures caused { IfErr result.0 (λ e.
-        CopyFailed (error_kind e) (R.log reader) (R.log result.1) (W.log writer) (W.log result.2)) }
+        RunFailed (error_kind e) (R.log reader) (R.log result.1) (W.log writer) (W.log result.2)) }
     ensures a_beginning { IsBeginning (R.log reader) (R.log result.1) (W.log writer) (W.log result.2) }
     ensures not_flushed { OnErr result.0 ((W.log result.2).writes.flushed ≡ (W.log writer).writes.flushed) }
 {
@@ -94,67 +94,22 @@ fn copy_all<R: TellRead, W: TellWrite>(
     source: &mut BufReader<R>,
     target: &mut BufWriter<W>,
 ) -> io::Result<u64>
-    requires source_capacity { 0 < source.old.block.capacity }
-    requires target_capacity { 0 < target.old.block.capacity }
-    ensures copied { IfOk result (λ total. CopiedAll total source.old source.new target.old target.new) }
-    ensures failed { IfErr result (λ e.
-        CopyStopped (error_kind e) source.old source.new target.old target.new
-        ⊎ MovedTooMuch (error_kind e) source.old source.new target.old target.new) }
+    requires source { IsFresh 1 source.old.block }
+    requires target { IsFresh 1 target.old.block }
+    ensures copied { IfOk result (λ total.
+        Copied total source.old.log source.new.log target.old.log target.new.log) }
+    ensures caused { IfErr result (λ e.
+        EitherFailed (error_kind e) source.old.log source.new.log target.old.log target.new.log
+        ⊎ OverTotal (error_kind e) source.old.log source.new.log) }
+    ensures a_beginning { IsBeginning source.old.log source.new.log target.old.log target.new.log }
+    ensures not_flushed { OnErr result (target.new.log.writes.flushed ≡ target.old.log.writes.flushed) }
 {
-    let total = copy_turns(source, target)?;
+    let total = copy_buf(source, target)?;
     if source.buf_len() > 0 {
         return Err(io::Error::from(ErrorKind::WriteZero));
     }
     target.flush()?;
     Ok(total)
-}
-
-// Copies turn by turn until a write takes nothing.
-fn copy_turns<R: TellRead, W: TellWrite>(
-    source: &mut BufReader<R>,
-    target: &mut BufWriter<W>,
-) -> io::Result<u64>
-    requires source_capacity { 0 < source.old.block.capacity }
-    requires target_capacity { 0 < target.old.block.capacity }
-    ensures ended { IfOk result (λ total. RanOut total source.old source.new target.old target.new
-        ⊎ GotStuck total source.old source.new target.old target.new) }
-    ensures failed { IfErr result (λ e.
-        CopyStopped (error_kind e) source.old source.new target.old target.new
-        ⊎ MovedTooMuch (error_kind e) source.old source.new target.old target.new) }
-{
-    let mut total = 0u64;
-    'turns: loop {
-        let taken = copy_turn(source, target)?;
-        if taken == 0 {
-            return Ok(total);
-        }
-        match total.checked_add(taken as u64) {
-            Some(sum) => total = sum,
-            None => return Err(io::Error::from(ErrorKind::Other)),
-        }
-    }
-}
-
-// One fill, one write of the whole slice, and a consume of what was taken.
-fn copy_turn<R: TellRead, W: TellWrite>(
-    source: &mut BufReader<R>,
-    target: &mut BufWriter<W>,
-) -> io::Result<usize>
-    requires source_capacity { 0 < source.old.block.capacity }
-    requires target_capacity { 0 < target.old.block.capacity }
-    ensures copies { IfOk result (λ taken. 0 < taken
-        → CopiesOn taken source.old source.new target.old target.new) }
-    ensures ended { result ≡ Ok 0 → RanOut 0 source.old source.new target.old target.new
-        ⊎ GotStuck 0 source.old source.new target.old target.new }
-    ensures failed { IfErr result (λ e.
-        CopyStopped (error_kind e) source.old source.new target.old target.new) }
-{
-    let taken = match source.fill_buf() {
-        Ok(bytes) => target.write(bytes)?,
-        Err(e) => return Err(e),
-    };
-    source.consume(taken);
-    Ok(taken)
 }
 
 /// How a run ends that returned this.

@@ -101,7 +101,7 @@ fn tells_how_a_run_ended(rt: HostRuntime) {
 #[test]
 fn ends_at_the_first_fault(rt: HostRuntime) -> Result<(), Fail> {
     let other = Answer::Fail(ErrorKind::Other);
-    let interrupted = Answer::Fail(ErrorKind::Interrupted);
+    let many = Answer::Interrupt(65);
     let two = Answer::Serve(2);
     let none: &[Answer] = &[];
     for (bytes, reads, writes, kind, taken) in [
@@ -140,13 +140,32 @@ fn ends_at_the_first_fault(rt: HostRuntime) -> Result<(), Fail> {
             ErrorKind::Other,
             b"abcd",
         ),
-        // Every fault ends a run, `Interrupted` too.
-        (b"abcdef", &[interrupted], none, ErrorKind::Interrupted, b""),
+        // The reader is interrupted too often in a row.
+        (b"abcdef", &[many], none, ErrorKind::Interrupted, b""),
+        (b"abcdef", &[two, many], none, ErrorKind::Interrupted, b"ab"),
     ] {
         let ran = tried(rt.alloc(), false, 2, bytes, reads, writes)?;
         assert_eq!(rt; ran.answer.as_ref().err().map(io::Error::kind), Some(kind));
         assert_eq!(rt; ran.writer.taken(), taken, "after {kind:?}");
         assert!(rt; matches!(ending(&ran.answer), Ending::Failed));
+    }
+    Ok(())
+}
+
+// 64 interrupted turns in a row are begun again, as often as a row comes.
+#[test]
+fn goes_on_after_interrupts(rt: HostRuntime) -> Result<(), Fail> {
+    let rows = [
+        Answer::Interrupt(64),
+        Answer::Serve(2),
+        Answer::Interrupt(64),
+    ];
+    let none: &[Answer] = &[];
+    for (reads, writes) in [(rows.as_slice(), none), (none, rows.as_slice())] {
+        let ran = tried(rt.alloc(), false, 2, b"abc", reads, writes)?;
+        assert_eq!(rt; ran.answer?, 3);
+        assert_eq!(rt; ran.writer.taken(), b"abc".as_slice());
+        assert_eq!(rt; ran.writer.flushes(), 1);
     }
     Ok(())
 }

@@ -39,9 +39,9 @@ pub record CopyEnded {W : Type 0} (tells : W → StreamLog) (stretch call : W �
   pub last : LastWrite tells stretch call w from'.shown (Ok 0) w'
   pub ends : length from'.shown ≡ 0 → from.ends < from'.ends
 
--- the reader failed with this error, and the writer was at most interrupted
-pub record SourceFailed (e : Error) (from from' : FillLog) (to to' : WriteLog) : Type 0 where
-  pub fault : FaultAfterInterrupts from.faults from'.faults (error_kind e)
+-- the reader, whose faults these are, failed with this kind, and the writer was at most interrupted
+pub record SourceFailed (kind : ErrorKind) (faults faults' : List ErrorKind) (to to' : WriteLog) : Type 0 where
+  pub fault : FaultAfterInterrupts faults faults' kind
   pub writer : MetInterrupts to to'
 
 -- the last write, of all that is shown, failed with this error, and the reader was at most interrupted
@@ -53,7 +53,8 @@ pub record TargetFailed {W : Type 0} (tells : W → StreamLog) (stretch call : W
 abbrev pub StreamFailed : {W : Type 0} → (W → StreamLog) → (W → W → Type 0) → (W → W → Type 0) → Error
     → FillLog → FillLog → W → W → Type 0
 StreamFailed tells stretch call e from from' w w' =
-    SourceFailed e from from' (tells w).writes (tells w').writes ⊎ TargetFailed tells stretch call e from from' w w'
+    SourceFailed (error_kind e) from.faults from'.faults (tells w).writes (tells w').writes
+    ⊎ TargetFailed tells stretch call e from from' w w'
 
 -- more bytes were moved than a `u64` counts, and the streams were at most interrupted
 pub record MovedTooMuch (e : Error) (from from' : FillLog) (to to' : WriteLog) : Type 0 where

@@ -1,8 +1,11 @@
 -- What a buffered reader tells of its own calls, and what any of them, one after another, may do to it.
-use Rattle.std.specs.Prelude.{◌≡◌, ℕ, ◌+◌, ◌<◌, ◌≤◌, List, [], ◌++◌, Result, Ok, Err, true}
+use Rattle.std.specs.Prelude.{◌≡◌, ℕ, ◌+◌, ◌<◌, ◌≤◌, List, [], ◌∷◌, ◌++◌, replicate, Result, Ok, Err, true}
 use Rattle.std.proofs.Common.{refl, sym, ap, ◌∙◌, arith, le_refl, le_trans, append-nil, append_assoc}
 use Rattle.std.specs.declared.io.Error.{Error}
 use Rattle.std.specs.declared.io.ErrorKind.{ErrorKind}
+use Rattle.std.specs.declared.io.ErrorKind.TheVariants.{Interrupted}
+use Rattle.std.proofs.lemmas.List.{append_cancel_left}
+use Rattle.redux_buffer.specs.Faults.{OnlyInterrupts, FaultAfterInterrupts}
 use Rattle.redux_buffer.specs.StreamLog.{StreamLog, with_shown, after_shown, after_fill_fault}
 use Rattle.redux_buffer.specs.LogGrows.{ReadLogGrows, ReadLogGrows-none, ReadLogGrows-joins, FillLogGrows, FillLogGrows-none, FillLogGrows-joins, FillsGoOn, FillsGoOn-of}
 use Rattle.buffer_redux.specs.Policy.{ReadRules}
@@ -49,6 +52,24 @@ FaultsAlike-joins a b c a' b' c' p q = record {
   more = p.more ++ q.more;
   first = q.first ∙ ap (λ l. l ++ q.more) p.first ∙ append_assoc a p.more q.more;
   second = q.second ∙ ap (λ l. l ++ q.more) p.second ∙ append_assoc a' p.more q.more;
+}
+
+-- what interrupted calls are in one list, they are in the other
+pub FaultsAlike-only : (a b a' b' : List ErrorKind) → FaultsAlike a b a' b' → OnlyInterrupts a b → OnlyInterrupts a' b'
+FaultsAlike-only a b a' b' alike only = record {
+  times = only.times;
+  faults = alike.second ∙ ap (λ l. a' ++ l)
+      (append_cancel_left a alike.more (replicate only.times Interrupted) (sym alike.first ∙ only.faults));
+}
+
+pub FaultsAlike-fault : (a b a' b' : List ErrorKind) (kind : ErrorKind) → FaultsAlike a b a' b'
+    → FaultAfterInterrupts a b kind → FaultAfterInterrupts a' b' kind
+FaultsAlike-fault a b a' b' kind alike fault = record {
+  times = fault.times;
+  faults = alike.second ∙ ap (λ l. a' ++ l) (append_cancel_left a alike.more
+      (replicate fault.times Interrupted ++ kind ∷ [])
+      (sym alike.first ∙ fault.faults ∙ append_assoc a (replicate fault.times Interrupted) (kind ∷ [])))
+      ∙ sym (append_assoc a' (replicate fault.times Interrupted) (kind ∷ []));
 }
 
 module _ {S P : Type 0} (rules : ReadRules P) where

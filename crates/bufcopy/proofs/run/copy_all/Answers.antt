@@ -1,22 +1,48 @@
-use Rattle.std.proofs.Common.{length, ap, inl, inr, arith}
+use Rattle.std.proofs.Common.{inl, arith}
 use Rattle.std.proofs.lemmas.Result.{err_from_is_err_and}
-use Rattle.bufcopy.proofs.Moving.{CopyStopped-stuck, CopyStopped-flush, CopiedAll-flush, ran_out}
+use Rattle.bufcopy.proofs.Moving.{copy_begins, flush_begins, copy_caused, left_caused, flush_caused, flush_copied}
 use Rattle.bufcopy.proofs.run.copy_all.Goals as goal
 
-pub returns-then-buf_len-gt0-clause-failed : goal.returns-then-buf_len-gt0-clause-failed
-returns-then-buf_len-gt0-clause-failed g c = elim c.in_ok-total.ensures.ended [
-  | inl out ↦ absurd (omega (arith, c.if-buf_len-gt0.true, c.buf_len.ensures.value, ap length out.empty))
-  | inr stuck ↦ inl (CopyStopped-stuck _ _ _ _ _ _ stuck c.from.ensures)
-]
+pub returns-in_err-total-clause-caused : goal.returns-in_err-total-clause-caused
+returns-in_err-total-clause-caused g c =
+    let p = err_from_is_err_and c.from_residual.result c.from_residual.ensures.1 in
+    let copy = c.in_err-total.ensures in
+    rw (p.1, p.2) (copy_caused g.W.TellWrite.stretch _ _ _ _ copy.reader copy.writer c.requires.source.bytes c.requires.target.bytes _ copy.failed)
 
-pub returns-in_err-flush-clause-failed : goal.returns-in_err-flush-clause-failed
-returns-in_err-flush-clause-failed g c =
+pub returns-in_err-total-clause-a_beginning : goal.returns-in_err-total-clause-a_beginning
+returns-in_err-total-clause-a_beginning g c =
+    let copy = c.in_err-total.ensures in
+    copy_begins g.W.TellWrite.stretch _ _ _ _ copy.reader copy.writer c.requires.source.bytes c.requires.target.bytes copy.moved.0 copy.moved.1
+
+pub returns-then-buf_len-gt0-clause-caused : goal.returns-then-buf_len-gt0-clause-caused
+returns-then-buf_len-gt0-clause-caused g c =
+    let copy = c.in_ok-total.ensures in
+    inl (left_caused g.W.TellWrite.stretch _ _ _ _ copy.reader copy.writer c.requires.source.bytes c.requires.target.bytes copy.ended _ c.from.ensures
+    (omega (arith, c.if-buf_len-gt0.true, c.buf_len.ensures.value)) (omega (arith, c.requires.target.capacity)))
+
+pub returns-then-buf_len-gt0-clause-a_beginning : goal.returns-then-buf_len-gt0-clause-a_beginning
+returns-then-buf_len-gt0-clause-a_beginning g c =
+    let copy = c.in_ok-total.ensures in
+    copy_begins g.W.TellWrite.stretch _ _ _ _ copy.reader copy.writer c.requires.source.bytes c.requires.target.bytes copy.moved.0 copy.moved.1
+
+pub returns-in_err-flush-clause-caused : goal.returns-in_err-flush-clause-caused
+returns-in_err-flush-clause-caused g c =
     let p = err_from_is_err_and c.from_residual-in_err-flush.result c.from_residual-in_err-flush.ensures.1 in
-    let out = ran_out _ _ _ _ _ c.in_ok-total.ensures.ended (omega (arith, c.if-buf_len-gt0.false, c.buf_len.ensures.value)) in
-    let flush = c.in_err-flush.ensures in
-    rw (p.1, p.2) (inl (CopyStopped-flush _ _ _ _ _ out.copies _ _ flush.in_order flush.caused flush.not_flushed))
+    let copy = c.in_ok-total.ensures in
+    rw (p.1, p.2) (inl (flush_caused g.W.TellWrite.stretch _ _ _ _ copy.reader copy.writer c.requires.source.bytes c.requires.target.bytes copy.ended (omega (arith, c.if-buf_len-gt0.false, c.buf_len.ensures.value)) c.flush.new.self _ c.in_err-flush.ensures.caused))
+
+pub returns-in_err-flush-clause-a_beginning : goal.returns-in_err-flush-clause-a_beginning
+returns-in_err-flush-clause-a_beginning g c =
+    let copy = c.in_ok-total.ensures in
+    flush_begins g.W.TellWrite.stretch _ _ _ _ copy.reader copy.writer c.requires.source.bytes c.requires.target.bytes copy.moved.0 copy.moved.1 _ c.in_err-flush.ensures.in_order
 
 pub returns-clause-copied : goal.returns-clause-copied
 returns-clause-copied g c =
-    let out = ran_out _ _ _ _ _ c.in_ok-total.ensures.ended (omega (arith, c.if-buf_len-gt0.false, c.buf_len.ensures.value)) in
-    CopiedAll-flush _ _ _ _ _ _ out c.flush.ensures.in_order c.in_ok-flush.ensures.ok
+    let copy = c.in_ok-total.ensures in
+    flush_copied g.W.TellWrite.stretch _ _ _ _ copy.reader copy.writer c.requires.source.bytes c.requires.target.bytes copy.ended (omega (arith, c.if-buf_len-gt0.false, c.buf_len.ensures.value)) _ _ copy.total
+    (omega (arith, c.requires.source.capacity)) c.in_ok-flush.ensures.in_order c.in_ok-flush.ensures.ok
+
+pub returns-clause-a_beginning : goal.returns-clause-a_beginning
+returns-clause-a_beginning g c =
+    let copy = c.in_ok-total.ensures in
+    flush_begins g.W.TellWrite.stretch _ _ _ _ copy.reader copy.writer c.requires.source.bytes c.requires.target.bytes copy.moved.0 copy.moved.1 _ c.in_ok-flush.ensures.in_order

@@ -1,4 +1,4 @@
-use Rattle.bufcopy.proofs.Moving.{IsBeginning-none, beginning, moved_so, copy_failed}
+use Rattle.bufcopy.proofs.Moving.{IsBeginning-none}
 use Rattle.bufcopy.proofs.run.run.Goals as goal
 
 pub returns-in-Err-clause-a_beginning : goal.returns-in-Err-clause-a_beginning
@@ -10,11 +10,5 @@ returns-in-Err-buffered_writer-clause-a_beginning g c =
 
 pub returns-clause-a_beginning : goal.returns-clause-a_beginning
 returns-clause-a_beginning g c =
-    let moved = moved_so _ _ _ _ c.copy_all-answer.result c.copy_all-answer.ensures.copied c.copy_all-answer.ensures.failed in
     rw (c.into_inner_with_buffer-reader-2.ensures.log, c.into_inner_with_buffer-writer.ensures.log, ← c.in-Ok.ensures.log, ← c.in-Ok-buffered_writer.ensures.log)
-    (beginning moved.0 _ _ _ _ moved.1 c.in-Ok.ensures.made.bytes c.in-Ok-buffered_writer.ensures.made.bytes)
-
-pub returns-clause-caused : goal.returns-clause-caused
-returns-clause-caused g c =
-    rw (c.into_inner_with_buffer-reader-2.ensures.log, c.into_inner_with_buffer-writer.ensures.log, ← c.in-Ok.ensures.log, ← c.in-Ok-buffered_writer.ensures.log)
-    (copy_failed _ _ _ _ c.in-Ok.ensures.made.bytes c.copy_all-answer.result c.copy_all-answer.ensures.failed)
+    c.copy_all-answer.ensures.a_beginning
