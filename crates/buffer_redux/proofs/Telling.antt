@@ -15,7 +15,7 @@ use Rattle.buffer_redux.specs.Buffered.{Buffered}
 use Rattle.buffer_redux.specs.BufReader.{Fills}
 use Rattle.buffer_redux.specs.BufWriter.{WriterFailed, SteadyWrite, Writes, WriteErrorCaused, IsFlushed}
 use Rattle.buffer_redux.specs.WriterLaws.{Wrote-met}
-use Rattle.buffer_redux.proofs.WriterFacts.{steady_caused}
+use Rattle.buffer_redux.proofs.WriterFacts.{blamed, steady_caused}
 use Rattle.buffer_redux.specs.ReaderTells.{after_fill, FaultsAlike, ReaderWent}
 use Rattle.buffer_redux.specs.WriterTells.{writer_log, failures, TellsFailures, WriterWent}
 
@@ -92,17 +92,6 @@ rose : (old new : WriteLog) → WriteLogGrows old new → WriterFailed old new �
 rose old new on (inl fault) = omega (arith, fault, on.zero_writes)
 rose old new on (inr zero) = omega (arith, zero, ap length on.faults.equal, length-append old.faults on.faults.more)
 
-sending_failed : (old new : WriteLog) (kind : ErrorKind) → SendErrorCaused old new kind → WriterFailed old new
-sending_failed old new kind caused = elim caused.cause [
-  | inl nothing ↦ inr (omega (arith, nothing.zero_writes))
-  | inr fault ↦ inl (omega (
-    arith,
-    ap length fault.faults,
-    length-append (old.faults ++ replicate caused.interrupts Interrupted) (kind ∷ []),
-    length-append old.faults (replicate caused.interrupts Interrupted),
-  ))
-]
-
 -- under a steady policy a failed write, or one that took nothing of something, is a failure of the inner writer's
 pub write_fails : {S P : Type 0} (s t : Buffered S P) (bs : List ℕ) (answer : Result ℕ Error) → WriteLogGrows s.log.writes t.log.writes
     → SteadyWrite s (length bs) answer t → 0 < s.block.capacity
@@ -128,7 +117,7 @@ pub flush_fails : {S P : Type 0} (s t : Buffered S P) (answer : Result (Unit {0}
 flush_fails s t (Ok a) on caused = omega (arith, held s.log.writes t.log.writes on)
 flush_fails s t (Err e) on caused = omega (
   arith,
-  rose s.log.writes t.log.writes on (sending_failed s.log.writes t.log.writes (error_kind e) caused),
+  rose s.log.writes t.log.writes on (blamed s.log.writes t.log.writes (error_kind e) caused),
   length-append s.calls.writes.faults (error_kind e ∷ []),
 )
 

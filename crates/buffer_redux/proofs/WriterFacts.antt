@@ -228,7 +228,7 @@ asks_steadily : {P : Type 0} (rules : WriteRules P) (p : P) (b : Block) (incomin
     → BeforeWrite rules p b incoming answer p' b' → FlushesSteadily true incoming answer b'
 asks_steadily rules p b incoming answer p' b' steady asked = subst (λ o. FlushesSteadily o incoming answer b') steady asked.steady
 
-blamed : (old new : WriteLog) (kind : ErrorKind) → SendErrorCaused old new kind → WriterFailed old new
+pub blamed : (old new : WriteLog) (kind : ErrorKind) → SendErrorCaused old new kind → WriterFailed old new
 blamed old new kind caused = elim caused.cause [
   | inl nothing ↦ inr (omega (arith, nothing.zero_writes))
   | inr fault ↦ inl (omega (arith, ap length fault.faults, length-append (old.faults ++ replicate caused.interrupts Interrupted) (kind ∷ []), length-append old.faults (replicate caused.interrupts Interrupted)))

@@ -127,6 +127,12 @@ fn lines(rt: HostRuntime) -> Result<(), Fail> {
     assert_eq!(rt; copied(&mut from, &mut to), Ok(13));
     assert_eq!(rt; to.get_ref().get_ref().taken(), b"one\ntwo\n".as_slice());
     assert_eq!(rt; to.buf_len(), 5);
+    to.flush_told()?;
+    assert_eq!(rt;
+        to.get_ref().get_ref().taken(),
+        b"one\ntwo\nthree".as_slice()
+    );
+    assert_eq!(rt; to.get_ref().get_ref().flushes(), 1);
     Ok(())
 }
 

@@ -34,7 +34,7 @@ pub trait TellWrite: Tell {
     // What any calls, one after another, may do to the writer.
     ghost stretch: { Self → Self → Type 0 };
 
-    // What one call does beyond that, and is lost where calls are taken together: nothing, where a writer says nothing.
+    // What is known of one call alone, and not of several together: by default nothing.
     ghost call: { Self → Self → Type 0 } = { λ _ _. ⊤ };
 
     /// [`Write::write`](std::io::Write::write).
