@@ -1,7 +1,7 @@
 //! The cases of `crates/bench` over the types of Rust's std: `std SHAPE CAPACITY PIECE TOTAL`, all three in bytes. It prints
 //! how many bytes went over.
 use std::hint::black_box;
-use std::io::{self, BufRead, BufReader, BufWriter, Read, Write};
+use std::io::{self, BufRead, BufReader, BufWriter, LineWriter, Read, Write};
 
 struct Source<'a> {
     left: &'a [u8],
@@ -87,6 +87,12 @@ fn copy_to_end(mut reader: impl BufRead, mut writer: impl Write) -> io::Result<u
     Ok(total)
 }
 
+fn copy_at_once(mut reader: impl BufRead, mut writer: impl Write) -> io::Result<u64> {
+    let total = io::copy(&mut reader, &mut writer)?;
+    writer.flush()?;
+    Ok(total)
+}
+
 #[no_mangle]
 #[inline(never)]
 fn measured(shape: &str, capacity: usize, piece: usize, bytes: &[u8]) -> io::Result<u64> {
@@ -96,7 +102,14 @@ fn measured(shape: &str, capacity: usize, piece: usize, bytes: &[u8]) -> io::Res
         "read" => read_to_end(reader(), &mut vec![0; piece]),
         "fill" => fill_to_end(reader(), piece),
         "write" => write_often(writer(capacity), &bytes[..piece], bytes.len() as u64),
+        "lines" => {
+            let mut line = vec![b'x'; piece];
+            line[piece - 1] = b'\n';
+            let lines = LineWriter::with_capacity(capacity, Sink::default());
+            write_often(lines, &line, bytes.len() as u64)
+        }
         "copy" => copy_to_end(reader(), writer(piece)),
+        "copy_buf" => copy_at_once(reader(), writer(piece)),
         _ => Ok(0),
     }
 }

@@ -9,10 +9,13 @@ set -eu
 cases='read in pieces of 64|read 8192 64 8388608
 read in pieces of 4096|read 8192 4096 8388608
 fill 16384, consume 100|fill 16384 100 8388608
+the same under MinBuffered(4096)|look 16384 100 8388608
 write pieces of 16|write 8192 16 8388608
 write pieces of 100|write 8192 100 8388608
+write lines of 80|lines 8192 80 8388608
 copy through 8192 and 8192|copy 8192 8192 8388608
 copy through 8192 and 16384|copy 8192 16384 8388608
+copy_buf through 8192 and 8192|copy_buf 8192 8192 8388608
 grow from 4096 to 1 MiB by 4096|grow 4096 4096 1048576'
 
 here=$(cd "$(dirname "$0")" && pwd)

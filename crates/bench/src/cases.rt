@@ -1,8 +1,9 @@
 //! What is measured, and over which types.
 
 use crate::streams::{Sink, Source};
-use buffer_redux::tell::Told;
-use buffer_redux::{BufImpl, BufReader, BufWriter};
+use buffer_redux::policy::MinBuffered;
+use buffer_redux::tell::{TellBufRead, TellWrite, Told};
+use buffer_redux::{BufImpl, BufReader, BufWriter, LineWriter, copy_buf};
 use std::alloc::Global;
 use std::io;
 use std::io::{BufRead, Read, Write};
@@ -14,10 +15,16 @@ pub enum Shape {
     Read,
     /// Fills the buffer and consumes a piece of it, until it stays empty.
     Fill,
+    /// The same with at least `LEAST` bytes shown, as long as there are so many.
+    Look,
     /// Writes the same bytes again and again, and flushes.
     Write,
+    /// Writes a line of the piece's length again and again to a line writer, and flushes.
+    Lines,
     /// Copies from a reader to a writer whose capacity is the piece, and flushes.
     Copy,
+    /// The same by one call of `copy_buf`.
+    CopyBuf,
     /// Fills a buffer and lets it grow by a piece, again and again.
     Grow,
 }
@@ -27,8 +34,11 @@ impl Shape {
         match word {
             "read" => Some(Shape::Read),
             "fill" => Some(Shape::Fill),
+            "look" => Some(Shape::Look),
             "write" => Some(Shape::Write),
+            "lines" => Some(Shape::Lines),
             "copy" => Some(Shape::Copy),
+            "copy_buf" => Some(Shape::CopyBuf),
             "grow" => Some(Shape::Grow),
             _ => None,
         }
@@ -63,14 +73,20 @@ pub struct Case {
     pub piece: usize,
 }
 
+/// How many bytes a lookahead asks for.
+const LEAST: usize = 4096;
+
 /// Runs a case over these bytes, and returns how many went over. What is counted is what goes on in here.
 #[inline(never)]
 pub fn measured(alloc: Global, case: &Case, bytes: &[u8]) -> io::Result<u64> {
     match case.shape {
         Shape::Read => read(alloc, case, bytes),
         Shape::Fill => fill(alloc, case, bytes),
+        Shape::Look => look(alloc, case, bytes),
         Shape::Write => write(alloc, case, bytes),
+        Shape::Lines => lines(alloc, case, bytes.len() as u64),
         Shape::Copy => copy(alloc, case, bytes),
+        Shape::CopyBuf => copy_at_once(alloc, case, bytes),
         Shape::Grow => grow(alloc, case, bytes.len()),
     }
 }
@@ -129,6 +145,24 @@ fn fill(alloc: Global, case: &Case, bytes: &[u8]) -> io::Result<u64> {
     }
 }
 
+// No policy of std's looks ahead: it answers 0.
+fn look(alloc: Global, case: &Case, bytes: &[u8]) -> io::Result<u64> {
+    let (cap, piece) = (case.capacity, case.piece);
+    match case.kind {
+        Kind::Plain => fill_to_end(
+            BufReader::with_capacity(alloc, cap, told(bytes))?.set_policy(MinBuffered(LEAST)),
+            piece,
+        ),
+        Kind::Ring => fill_to_end(
+            BufReader::with_capacity_ringbuf(alloc, cap, told(bytes))?.set_policy(MinBuffered(
+                LEAST,
+            )),
+            piece,
+        ),
+        Kind::Std => Ok(0),
+    }
+}
+
 #[inline(never)]
 fn fill_to_end<R: BufRead + Drop>(reader: R, piece: usize) -> io::Result<u64> {
     let mut reader = reader;
@@ -162,6 +196,31 @@ fn write(alloc: Global, case: &Case, bytes: &[u8]) -> io::Result<u64> {
         Kind::Std => write_often(
             io::BufWriter::with_capacity(alloc, cap, Sink::default())?,
             piece,
+            total,
+        ),
+    }
+}
+
+fn lines(alloc: Global, case: &Case, total: u64) -> io::Result<u64> {
+    let cap = case.capacity;
+    let mut line = vec![in alloc; b'x'; case.piece]?;
+    if let Some(last) = line.last_mut() {
+        *last = b'\n';
+    }
+    match case.kind {
+        Kind::Plain => write_often(
+            LineWriter::with_capacity(alloc, cap, told_sink())?,
+            line.as_slice(),
+            total,
+        ),
+        Kind::Ring => write_often(
+            LineWriter::with_capacity_ringbuf(alloc, cap, told_sink())?,
+            line.as_slice(),
+            total,
+        ),
+        Kind::Std => write_often(
+            io::LineWriter::with_capacity(alloc, cap, Sink::default())?,
+            line.as_slice(),
             total,
         ),
     }
@@ -213,6 +272,31 @@ fn copy_to_end<R: BufRead + Drop, W: Write + Drop>(reader: R, writer: W) -> io::
         total = total.wrapping_add(n as u64);
     }
     writer.flush()?;
+    Ok(total)
+}
+
+// The kit's `copy` goes through a block of its own: it answers 0.
+fn copy_at_once(alloc: Global, case: &Case, bytes: &[u8]) -> io::Result<u64> {
+    let (from, to) = (case.capacity, case.piece);
+    match case.kind {
+        Kind::Plain => copy_bufs(
+            BufReader::with_capacity(alloc, from, told(bytes))?,
+            BufWriter::with_capacity(alloc, to, told_sink())?,
+        ),
+        Kind::Ring => copy_bufs(
+            BufReader::with_capacity_ringbuf(alloc, from, told(bytes))?,
+            BufWriter::with_capacity_ringbuf(alloc, to, told_sink())?,
+        ),
+        Kind::Std => Ok(0),
+    }
+}
+
+#[inline(never)]
+fn copy_bufs<B: TellBufRead + Drop, W: TellWrite + Drop>(reader: B, writer: W) -> io::Result<u64> {
+    let mut reader = reader;
+    let mut writer = writer;
+    let total = copy_buf(&mut reader, &mut writer)?;
+    writer.flush_told()?;
     Ok(total)
 }
 

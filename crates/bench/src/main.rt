@@ -58,8 +58,11 @@ fn run_all(rt: &HostRuntime) -> io::Result<()> {
     for (name, shape, capacity, piece) in [
         ("read", Shape::Read, 8192, 64),
         ("fill", Shape::Fill, 8192, 100),
+        ("look", Shape::Look, 16384, 100),
         ("write", Shape::Write, 8192, 100),
+        ("lines", Shape::Lines, 8192, 80),
         ("copy", Shape::Copy, 4096, 8192),
+        ("copy_buf", Shape::CopyBuf, 4096, 8192),
         ("grow", Shape::Grow, 4096, 4096),
     ] {
         let plain = Case {
