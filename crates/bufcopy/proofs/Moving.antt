@@ -1,5 +1,5 @@
 -- What a copy between two buffered streams says of the streams inside.
-use Rattle.std.proofs.Common.{◌≡◌, ◌∙◌, ℕ, ◌-◌, ◌^◌, ◌<◌, ◌≤◌, ◌⊎◌, inl, inr, List, Ok, Err, [], ◌++◌, length, refl, sym, ap, subst, append_assoc, append-nil, length-append, arith}
+use Rattle.std.proofs.Common.{◌≡◌, ◌∙◌, ℕ, ◌-◌, ◌^◌, ◌<◌, ◌≤◌, ◌⊎◌, inl, inr, List, Option, Ok, Err, [], ◌++◌, length, refl, sym, ap, subst, append_assoc, append-nil, length-append, arith}
 use Rattle.std.proofs.lemmas.List.{append_cancel_left, nil_from_length}
 use Rattle.std.specs.IoError.{error_kind}
 use Rattle.std.specs.declared.io.Error.{Error}
@@ -89,7 +89,7 @@ module _ {W Q : Type 0} (stretch : W → W → Type 0) (u v : Buffered W Q) (byt
         })
 
 -- a copy between buffers that were empty at first
-module _ {R P W Q : Type 0} (stretch : W → W → Type 0) (s t : Buffered R P) (u v : Buffered W Q) (went : ReaderWent std_read_rules s t) (went' : WriterWent stretch std_write_rules u v)
+module _ {R P W Q : Type 0} (remaining : R → Option (List ℕ)) (stretch : W → W → Type 0) (s t : Buffered R P) (u v : Buffered W Q) (went : ReaderWent remaining std_read_rules s t) (went' : WriterWent stretch std_write_rules u v)
     (none : s.block.bytes ≡ []) (none' : u.block.bytes ≡ []) where
   module _ (n : ℕ) (moved : MovedBy n (reader_log s).fills (reader_log t).fills (writer_log u).writes (writer_log v).writes) where
     handed : ReadsInOrder s moved.bytes t
@@ -159,7 +159,7 @@ module _ {R P W Q : Type 0} (stretch : W → W → Type 0) (s t : Buffered R P) 
             given = all.0;
             received = all.1;
             flushed = flushed.flushed;
-            ended = omega (arith, went.ends refl room, ended.ends left);
+            ended = omega (arith, went.ends (inl refl) room, ended.ends left);
             reader = only ended.reader;
             writer =
                 MetInterrupts-joins u.log.writes v.log.writes v'.log.writes (out_met stretch u v t.block.bytes ended.last left went') (record { times = flushed.interrupts; only = flushed.only });

@@ -91,7 +91,7 @@ at_end : (o : Option (List ℕ)) (P : Type 0) → (P → IsAtEnd o) → IfSome o
 at_end None P h = tt
 at_end (Some xs) P h = h
 
-IfSome_if : (b : Bool) (a : Option (List ℕ)) (P : List ℕ → Type 0) → (b ≡ false → IfSome a P) → IfSome (cond b None a) P
+pub IfSome_if : (b : Bool) (a : Option (List ℕ)) (P : List ℕ → Type 0) → (b ≡ false → IfSome a P) → IfSome (cond b None a) P
 IfSome_if true a P h = tt
 IfSome_if false a P h = h refl
 
@@ -113,12 +113,12 @@ module _ {S P : Type 0} (remaining : S → Option (List ℕ)) (rules : ReadRules
       (goes_on_if (not ((rules.claims s.policy).steady || wants_some (rules.claims s.policy).minimum)) s.block.capacity t.block.capacity grown is))
       ahead_gives
 
-at_nothing : (a : Option (List ℕ)) (bs : List ℕ) → bs ≡ [] → IsAtEnd a → IsAtEnd (prepend_known bs a)
+pub at_nothing : (a : Option (List ℕ)) (bs : List ℕ) → bs ≡ [] → IsAtEnd a → IsAtEnd (prepend_known bs a)
 at_nothing None bs none e = tt
 at_nothing (Some y) bs none e = ap (λ l. l ++ y) none ∙ e
 
 module _ {S P : Type 0} (remaining : S → Option (List ℕ)) (rules : ReadRules P) (s : Buffered S P) where
-  wants_so : may_stop rules s ≡ false → WantsBytes (rules.claims s.policy) × (0 < s.block.capacity)
+  pub wants_so : may_stop rules s ≡ false → WantsBytes (rules.claims s.policy) × (0 < s.block.capacity)
   wants_so is =
       let both = or_is_false (not ((rules.claims s.policy).steady || wants_some (rules.claims s.policy).minimum)) (s.block.capacity == 0) is in
       (wants_if (rules.claims s.policy).steady (rules.claims s.policy).minimum both.0, has_room s.block.capacity both.1)

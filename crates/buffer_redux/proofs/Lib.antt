@@ -13,3 +13,4 @@ pub mod WriteOn
 pub mod PlayReading
 pub mod PlayWriting
 pub mod WriterCounts
+pub mod CopyKnown

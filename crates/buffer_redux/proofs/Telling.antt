@@ -1,5 +1,5 @@
 -- How what was noted of a call fits what the call did.
-use Rattle.std.proofs.Common.{◌≡◌, ◌∙◌, ℕ, ◌+◌, ◌<◌, ◌≤◌, List, [], ◌∷◌, ◌++◌, length, Result, Ok, Err, IfErr, true, inl, inr, refl, sym, ap, subst, append-nil, length-append, replicate, le_refl, arith, OnOk}
+use Rattle.std.proofs.Common.{◌≡◌, ◌∙◌, ℕ, ◌+◌, ◌<◌, ◌≤◌, List, [], ◌∷◌, ◌++◌, length, Option, Result, Ok, Err, IfErr, true, inl, inr, refl, sym, ap, subst, append-nil, length-append, replicate, le_refl, arith, OnOk}
 use Rattle.std.proofs.lemmas.Bool.{cases_lt}
 use Rattle.std.proofs.lemmas.List.{append_cancel_left, length-replicate}
 use Rattle.std.specs.IoError.{error_kind}
@@ -12,10 +12,12 @@ use Rattle.redux_buffer.specs.LogGrows.{ReadLogGrows, WriteLogGrows, FillLogGrow
 use Rattle.redux_buffer.specs.Faults.{MetInterrupts, MetInterrupts-err, SendErrorCaused}
 use Rattle.buffer_redux.specs.Policy.{ReadRules, WriteRules, ReadsSteadily}
 use Rattle.buffer_redux.specs.Buffered.{Buffered}
-use Rattle.buffer_redux.specs.BufReader.{Fills}
+use Rattle.redux_buffer.specs.GivesRemaining.{GivesRemaining}
+use Rattle.buffer_redux.specs.BufReader.{Fills, InnerGives}
 use Rattle.buffer_redux.specs.BufWriter.{WriterFailed, SteadyWrite, Writes, WriteErrorCaused, IsFlushed}
 use Rattle.buffer_redux.specs.WriterLaws.{Wrote-met}
 use Rattle.buffer_redux.proofs.WriterFacts.{blamed, steady_caused}
+use Rattle.buffer_redux.specs.ReaderLaws.{Fills-empty, WantsBytes}
 use Rattle.buffer_redux.specs.ReaderTells.{after_fill, FaultsAlike, ReaderWent}
 use Rattle.buffer_redux.specs.WriterTells.{writer_log, failures, TellsFailures, WriterWent}
 
@@ -39,7 +41,8 @@ fill_grows log (Err e) shown =
     record { consumed = GoesOn-none log.fills.consumed; ends = le_refl _; faults = record { more = error_kind e ∷ []; equal = refl } }
 
 -- a fill that was noted; noting it changed no more than the calls
-module _ {S P : Type 0} (rules : ReadRules P) (s m t : Buffered S P) (policy : t.policy ≡ m.policy) (block : t.block ≡ m.block) (log : t.log ≡ m.log) where
+module _ {S P : Type 0} (remaining : S → Option (List ℕ)) (rules : ReadRules P) (s m t : Buffered S P) (policy : t.policy ≡ m.policy) (block : t.block ≡ m.block)
+    (inner : t.inner ≡ m.inner) (log : t.log ≡ m.log) where
   faults_alike : (answer : Result (Unit {0}) Error) → Fills rules s answer m → (rules.claims s.policy).steady ≡ true
       → FaultsAlike s.calls.fills.faults (after_fill s.calls answer t.block.bytes).fills.faults s.log.reads.faults m.log.reads.faults
   faults_alike (Ok a) f steady =
@@ -53,20 +56,20 @@ module _ {S P : Type 0} (rules : ReadRules P) (s m t : Buffered S P) (policy : t
     ];
   }
 
-  ends_bound : (answer : Result (Unit {0}) Error) → Fills rules s answer m → (rules.claims s.policy).steady ≡ true → 0 < s.block.capacity
+  ends_bound : (answer : Result (Unit {0}) Error) → Fills rules s answer m → WantsBytes (rules.claims s.policy) → 0 < s.block.capacity
       → (after_fill s.calls answer t.block.bytes).fills.ends + s.log.reads.zero_answers ≤ s.calls.fills.ends + m.log.reads.zero_answers
-  ends_bound (Ok a) f steady room = elim (cases_lt 0 (length t.block.bytes)) [
+  ends_bound (Ok a) f wants room = elim (cases_lt 0 (length t.block.bytes)) [
     | inl some ↦ omega (arith, end_same s.calls.fills.ends t.block.bytes some, f.grows.zero_answers)
     | inr few ↦ (
         let none : length t.block.bytes ≡ 0 = omega (arith, few) in
-        let dry = (f.steadily steady).empty refl room (ap (λ b. length b.bytes) (sym block) ∙ none) in
+        let dry = Fills-empty rules s a m f wants room (ap (λ b. length b.bytes) (sym block) ∙ none) in
         omega (arith, end_noted s.calls.fills.ends t.block.bytes none, dry)
         )
   ]
-  ends_bound (Err e) f steady room = omega (arith, f.grows.zero_answers)
+  ends_bound (Err e) f wants room = omega (arith, f.grows.zero_answers)
 
-  pub filled_went : (answer : Result (Unit {0}) Error) → Fills rules s answer m → t.calls ≡ after_fill s.calls answer t.block.bytes → ReaderWent rules s t
-  filled_went answer f noted = record {
+  pub filled_went : (answer : Result (Unit {0}) Error) → Fills rules s answer m → InnerGives remaining s m → t.calls ≡ after_fill s.calls answer t.block.bytes → ReaderWent remaining rules s t
+  filled_went answer f gives noted = record {
     handed = [];
     consumed = ap (λ l. l.fills.consumed) noted ∙ consumed_stays s.calls answer t.block.bytes ∙ sym (append-nil s.calls.fills.consumed);
     in_order = record {
@@ -74,6 +77,8 @@ module _ {S P : Type 0} (rules : ReadRules P) (s m t : Buffered S P) (policy : t
       given = ap (λ l. l.reads.given) log ∙ f.in_order.given;
       equal = ap (λ b. b.bytes) block ∙ f.in_order.equal;
     };
+    known = subst (λ l. GivesRemaining (remaining s.inner) s.log.reads (remaining t.inner) l.reads) (sym log)
+        (subst (λ i. GivesRemaining (remaining s.inner) s.log.reads (remaining i) m.log.reads) (sym inner) gives);
     grows = subst (λ l. ReadLogGrows s.log.reads l.reads) (sym log) f.grows;
     own_grows = subst (λ l. FillLogGrows s.calls.fills l.fills) (sym noted) (fill_grows s.calls answer t.block.bytes);
     capacity = omega (arith, ap (λ b. b.capacity) block, f.capacity);
@@ -81,7 +86,7 @@ module _ {S P : Type 0} (rules : ReadRules P) (s m t : Buffered S P) (policy : t
     faults = λ steady. subst (λ l. FaultsAlike s.calls.fills.faults l.fills.faults s.log.reads.faults t.log.reads.faults) (sym noted)
         (subst (λ l. FaultsAlike s.calls.fills.faults (after_fill s.calls answer t.block.bytes).fills.faults s.log.reads.faults l.reads.faults) (sym log)
         (faults_alike answer f steady));
-    ends = λ steady room. omega (arith, ends_bound answer f steady room, ap (λ l. l.fills.ends) noted, ap (λ l. l.reads.zero_answers) log);
+    ends = λ wants room. omega (arith, ends_bound answer f wants room, ap (λ l. l.fills.ends) noted, ap (λ l. l.reads.zero_answers) log);
   }
 
 -- a writer fails no less often as its log goes on, and more often where it failed

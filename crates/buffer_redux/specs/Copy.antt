@@ -1,5 +1,6 @@
 -- What copying from a buffered reader to a writer does.
-use Rattle.std.specs.Prelude.{◌≡◌, ℕ, ◌+◌, ◌^◌, ◌<◌, ◌≤◌, ◌⊎◌, List, ◌++◌, length, Result, Ok, Err}
+use Rattle.std.specs.Prelude.{◌≡◌, ℕ, ◌+◌, ◌^◌, ◌<◌, ◌≤◌, ◌⊎◌, List, [], ◌++◌, length, Option, IfSome, Result, Ok, Err}
+use Rattle.std.specs.Io.KnownBytes.{Consumes}
 use Rattle.std.specs.IoError.{error_kind}
 use Rattle.std.specs.declared.io.Error.{Error}
 use Rattle.std.specs.declared.io.ErrorKind.{ErrorKind}
@@ -73,3 +74,14 @@ CopyFailed tells stretch call e from from' w w' =
 -- the streams met so many faults, both together
 abbrev pub FaultsRise : ℕ → FillLog → FillLog → WriteLog → WriteLog → Type 0
 FaultsRise n from from' to to' = length from.faults + length to.faults + n ≤ length from'.faults + length to'.faults
+
+-- the writer received just what the reader, of which all that is left is known, lost
+pub record MovesKnown (left left' : Option (List ℕ)) (to to' : WriteLog) : Type 0 where
+  pub bytes : List ℕ
+  pub received : to'.received ≡ to.received ++ bytes
+  pub went : Consumes left left' bytes
+
+-- the writer received all that the reader was known to have left, or once took nothing of something
+abbrev pub ReceivesAll : Option (List ℕ) → WriteLog → WriteLog → Type 0
+ReceivesAll left to to' =
+    IfSome left (λ xs. (to'.received ≡ to.received ++ xs) ⊎ (to.zero_writes < to'.zero_writes))

@@ -49,6 +49,10 @@ ReadsInOrder-shown s m t h shown a same b =
 pub InnerGives-none : {S P : Type 0} (remaining : S → Option (List ℕ)) (s : Buffered S P) → InnerGives remaining s s
 InnerGives-none remaining s = GivesRemaining-none (remaining s.inner) s.log.reads
 
+pub InnerGives-same : {S P : Type 0} (remaining : S → Option (List ℕ)) (s t : Buffered S P) → t.inner ≡ s.inner
+    → t.log ≡ s.log → InnerGives remaining s t
+InnerGives-same remaining s t inner told = rw (inner, told) (InnerGives-none remaining s)
+
 pub InnerGives-joins : {S P : Type 0} (remaining : S → Option (List ℕ)) (s m t : Buffered S P)
     → InnerGives remaining s m → InnerGives remaining m t → InnerGives remaining s t
 InnerGives-joins remaining s m t p q = GivesRemaining-joins (remaining s.inner) s.log.reads

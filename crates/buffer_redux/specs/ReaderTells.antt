@@ -1,6 +1,6 @@
 -- What a buffered reader tells of its own calls, and what any of them, one after another, may do to it.
-use Rattle.std.specs.Prelude.{◌≡◌, ℕ, ◌+◌, ◌<◌, ◌≤◌, List, [], ◌∷◌, ◌++◌, replicate, Result, Ok, Err, true}
-use Rattle.std.proofs.Common.{refl, sym, ap, ◌∙◌, arith, le_refl, le_trans, append-nil, append_assoc}
+use Rattle.std.specs.Prelude.{◌≡◌, ℕ, ◌+◌, ◌<◌, ◌≤◌, List, [], ◌∷◌, ◌++◌, replicate, Option, Result, Ok, Err, true}
+use Rattle.std.proofs.Common.{refl, sym, ap, subst, ◌∙◌, arith, le_refl, le_trans, append-nil, append_assoc}
 use Rattle.std.specs.declared.io.Error.{Error}
 use Rattle.std.specs.declared.io.ErrorKind.{ErrorKind}
 use Rattle.std.specs.declared.io.ErrorKind.TheVariants.{Interrupted}
@@ -10,8 +10,8 @@ use Rattle.redux_buffer.specs.StreamLog.{StreamLog, with_shown, after_shown, aft
 use Rattle.redux_buffer.specs.LogGrows.{ReadLogGrows, ReadLogGrows-none, ReadLogGrows-joins, FillLogGrows, FillLogGrows-none, FillLogGrows-joins, FillsGoOn, FillsGoOn-of}
 use Rattle.buffer_redux.specs.Policy.{ReadRules}
 use Rattle.buffer_redux.specs.Buffered.{Buffered}
-use Rattle.buffer_redux.specs.BufReader.{ReadsInOrder}
-use Rattle.buffer_redux.specs.ReaderLaws.{ReadsInOrder-none, ReadsInOrder-joins}
+use Rattle.buffer_redux.specs.BufReader.{ReadsInOrder, InnerGives}
+use Rattle.buffer_redux.specs.ReaderLaws.{ReadsInOrder-none, ReadsInOrder-joins, InnerGives-none, InnerGives-joins, WantsBytes}
 
 -- what it shows is what is buffered; the rest was noted call by call
 abbrev pub reader_log : {S P : Type 0} → Buffered S P → StreamLog
@@ -28,19 +28,22 @@ pub record FaultsAlike (old new old' new' : List ErrorKind) : Type 0 where
   pub first : new ≡ old ++ more
   pub second : new' ≡ old' ++ more
 
--- no byte is lost between the inner reader and what was consumed. Under a steady policy its faults are the inner
--- reader's, and where there is capacity it ended only where the inner reader gave nothing
-pub record ReaderWent {S P : Type 0} (rules : ReadRules P) (s t : Buffered S P) : Type 0 where
+-- no byte is lost between the inner reader and what was consumed, and of what that is known to have left just what it
+-- gave is gone. Under a steady policy its faults are the inner reader's. Where the policy is steady or claims a minimum,
+-- and there is capacity, it ended only where the inner reader gave nothing
+pub record ReaderWent {S P : Type 0} (remaining : S → Option (List ℕ)) (rules : ReadRules P) (s t : Buffered S P)
+    : Type 0 where
   pub handed : List ℕ
   pub consumed : t.calls.fills.consumed ≡ s.calls.fills.consumed ++ handed
   pub in_order : ReadsInOrder s handed t
+  pub known : InnerGives remaining s t
   pub grows : ReadLogGrows s.log.reads t.log.reads
   pub own_grows : FillLogGrows s.calls.fills t.calls.fills
   pub capacity : s.block.capacity ≤ t.block.capacity
   pub claims : rules.claims t.policy ≡ rules.claims s.policy
   pub faults : (rules.claims s.policy).steady ≡ true
       → FaultsAlike s.calls.fills.faults t.calls.fills.faults s.log.reads.faults t.log.reads.faults
-  pub ends : (rules.claims s.policy).steady ≡ true → 0 < s.block.capacity
+  pub ends : WantsBytes (rules.claims s.policy) → 0 < s.block.capacity
       → t.calls.fills.ends + s.log.reads.zero_answers ≤ s.calls.fills.ends + t.log.reads.zero_answers
 
 FaultsAlike-none : (xs ys : List ErrorKind) → FaultsAlike xs xs ys ys
@@ -72,21 +75,22 @@ FaultsAlike-fault a b a' b' kind alike fault = record {
       ∙ sym (append_assoc a' (replicate fault.times Interrupted) (kind ∷ []));
 }
 
-module _ {S P : Type 0} (rules : ReadRules P) where
-  pub ReaderWent-none : (s : Buffered S P) → ReaderWent rules s s
+module _ {S P : Type 0} (remaining : S → Option (List ℕ)) (rules : ReadRules P) where
+  pub ReaderWent-none : (s : Buffered S P) → ReaderWent remaining rules s s
   ReaderWent-none s = record {
     handed = [];
     consumed = sym (append-nil s.calls.fills.consumed);
     in_order = ReadsInOrder-none s;
+    known = InnerGives-none remaining s;
     grows = ReadLogGrows-none s.log.reads;
     own_grows = FillLogGrows-none s.calls.fills;
     capacity = le_refl _;
     claims = refl;
     faults = λ steady. FaultsAlike-none s.calls.fills.faults s.log.reads.faults;
-    ends = λ steady room. le_refl _;
+    ends = λ wants room. le_refl _;
   }
 
-  pub ReaderWent-joins : (a b c : Buffered S P) → ReaderWent rules a b → ReaderWent rules b c → ReaderWent rules a c
+  pub ReaderWent-joins : (a b c : Buffered S P) → ReaderWent remaining rules a b → ReaderWent remaining rules b c → ReaderWent remaining rules a c
   ReaderWent-joins a b c p q =
       let still : (rules.claims a.policy).steady ≡ true → (rules.claims b.policy).steady ≡ true =
       λ steady. ap (λ x. x.steady) p.claims ∙ steady in
@@ -95,17 +99,18 @@ module _ {S P : Type 0} (rules : ReadRules P) where
         consumed = q.consumed ∙ ap (λ l. l ++ q.handed) p.consumed
             ∙ append_assoc a.calls.fills.consumed p.handed q.handed;
         in_order = ReadsInOrder-joins a b c p.handed q.handed p.in_order q.in_order;
+        known = InnerGives-joins remaining a b c p.known q.known;
         grows = ReadLogGrows-joins a.log.reads b.log.reads c.log.reads p.grows q.grows;
         own_grows = FillLogGrows-joins a.calls.fills b.calls.fills c.calls.fills p.own_grows q.own_grows;
         capacity = le_trans p.capacity q.capacity;
         claims = q.claims ∙ p.claims;
         faults = λ steady. FaultsAlike-joins a.calls.fills.faults b.calls.fills.faults c.calls.fills.faults
             a.log.reads.faults b.log.reads.faults c.log.reads.faults (p.faults steady) (q.faults (still steady));
-        ends = λ steady room. omega
-            (arith, p.ends steady room, q.ends (still steady) (omega (arith, room, p.capacity)));
+        ends = λ wants room. omega
+            (arith, p.ends wants room, q.ends (subst WantsBytes (sym p.claims) wants) (omega (arith, room, p.capacity)));
       }
 
-  pub ReaderWent-grows : (s t : Buffered S P) → ReaderWent rules s t → FillsGoOn (reader_log s) (reader_log t)
+  pub ReaderWent-grows : (s t : Buffered S P) → ReaderWent remaining rules s t → FillsGoOn (reader_log s) (reader_log t)
   ReaderWent-grows s t went = FillsGoOn-of (reader_log s) (reader_log t) (record {
     consumed = went.own_grows.consumed;
     ends = went.own_grows.ends;

@@ -1,9 +1,11 @@
 //! Laws, each as the contract of a function over the calls. Those of the buffer come from `redux_buffer`.
-ghost use Rattle.std.specs.Prelude.{◌≡◌, ◌<◌, [], length, Ok, IfOk, is_ok};
+ghost use Rattle.std.specs.Prelude.{◌≡◌, ◌<◌, [], length, Ok, IfOk, OnOk, is_ok};
 ghost use Rattle.redux_buffer.specs.StreamLog.{no_calls, taken};
 ghost use Rattle.buffer_redux.specs.Buffered.{with_calls};
 ghost use Rattle.buffer_redux.specs.BufReader.{FillsToMinimum, RanDry, ReadErrorCaused, ReadsInOrder};
+ghost use Rattle.buffer_redux.specs.Copy.{MovesKnown, ReceivesAll};
 ghost use Rattle.buffer_redux.specs.MinBuffered.{min_read_rules};
+ghost use Rattle.buffer_redux.specs.Remaining.{reader_remaining};
 ghost use Rattle.buffer_redux.specs.Unwrapping.{KeepsUnsent};
 
 mod between;
@@ -12,7 +14,8 @@ mod writes;
 
 use crate::buf_reader::BufReader;
 use crate::buf_writer::BufWriter;
-use crate::policy::MinBuffered;
+use crate::copy::copy_buf;
+use crate::policy::{MinBuffered, ReaderPolicy};
 pub use between::{rebuild_reader_under, rebuild_writer_under};
 use redux_buffer::Buffer;
 pub use redux_buffer::laws::{copy_through, make_room_again, potential, ring_law};
@@ -78,4 +81,19 @@ pub fn drop_unsent<W: TellWrite, P: Drop>(writer: BufWriter<W, P>) -> (W, Buffer
     ensures { result.1.bytes ≡ [] }
 {
     writer.finish(|_inner, unsent, _fault| unsent.clear())
+}
+
+/// Of a reader of which std knows what is left, [`copy_buf`] moves just that to the writer. At `Ok` that was all, unless
+/// the writer took nothing of something.
+pub fn copy_known<R: TellRead, P: ReaderPolicy, W: TellWrite>(
+    from: &mut BufReader<R, P>,
+    to: &mut W,
+) -> io::Result<u64>
+    ensures moved { MovesKnown (reader_remaining R.remaining P.rules from.old)
+        (reader_remaining R.remaining P.rules from.new) (W.log to.old).writes (W.log to.new).writes }
+    ensures all { OnOk result (ReceivesAll (reader_remaining R.remaining P.rules from.old)
+        (W.log to.old).writes (W.log to.new).writes) }
+    ensures writer { W.stretch to.old to.new }
+{
+    copy_buf(from, to)
 }

@@ -17,7 +17,7 @@ impl<R: TellRead, P: ReaderPolicy> BufReader<R, P> {
     // Fills, and notes the call before what it shows is lent.
     fn fill_noted(&mut self) -> io::Result<()>
         ensures noted { self.new.calls ≡ after_fill self.old.calls result self.new.block.bytes }
-        ensures went { ReaderWent P.rules self.old self.new }
+        ensures went { ReaderWent R.remaining P.rules self.old self.new }
     {
         let answer = self.fill();
         match &answer {
@@ -29,7 +29,7 @@ impl<R: TellRead, P: ReaderPolicy> BufReader<R, P> {
 }
 
 impl<R: TellRead, P: ReaderPolicy> TellBufRead for BufReader<R, P> {
-    ghost stretch = { ReaderWent P.rules };
+    ghost stretch = { ReaderWent R.remaining P.rules };
 
     fn fill_told(&mut self) -> io::Result<&[u8]> {
         self.fill_noted()?;
@@ -38,15 +38,15 @@ impl<R: TellRead, P: ReaderPolicy> TellBufRead for BufReader<R, P> {
 
     fn consume_told(&mut self, amount: usize)
         ensures told { reader_log self.new ≡ after_consume (reader_log self.old) amount }
-        ensures stretch { ReaderWent P.rules self.old self.new }
+        ensures stretch { ReaderWent R.remaining P.rules self.old self.new }
     {
         self.calls.note(&Call::Consume(self.buf.buf(), amount));
         self.consume(amount);
     }
 
-    ghost stretch_none = { ReaderWent-none P.rules };
+    ghost stretch_none = { ReaderWent-none R.remaining P.rules };
 
-    ghost stretch_joins = { ReaderWent-joins P.rules };
+    ghost stretch_joins = { ReaderWent-joins R.remaining P.rules };
 
-    ghost stretch_grows = { ReaderWent-grows P.rules };
+    ghost stretch_grows = { ReaderWent-grows R.remaining P.rules };
 }

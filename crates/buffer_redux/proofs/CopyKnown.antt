@@ -1,0 +1,68 @@
+-- What copying moves from a reader of which it is known what is left.
+use Rattle.std.proofs.Common.{◌≡◌, ℕ, ◌<◌, ◌⊎◌, List, [], ◌++◌, length, Bool, false, cond, Option, None, Some, IfSome, Result, Ok, Err, OnOk, refl, sym, ap, ◌∙◌, arith, inl, inr}
+use Rattle.std.proofs.lemmas.Bool.{cases_lt}
+use Rattle.std.proofs.lemmas.List.{append_cancel_left, nil_from_length}
+use Rattle.std.proofs.KnownBytes.{Consumes-whole}
+use Rattle.std.specs.Io.KnownBytes.{Consumes, IsAtEnd, prepend_known}
+use Rattle.std.specs.declared.io.Error.{Error}
+use Rattle.redux_buffer.specs.StreamLog.{StreamLog, WriteLog, zero_of_none}
+use Rattle.buffer_redux.specs.Policy.{ReadRules}
+use Rattle.buffer_redux.specs.Buffered.{Buffered}
+use Rattle.buffer_redux.specs.ReaderTells.{reader_log, ReaderWent}
+use Rattle.buffer_redux.specs.Copy.{MovedBy, CopyEnded, MovesKnown, ReceivesAll}
+use Rattle.buffer_redux.specs.Remaining.{ahead, may_stop, reader_remaining}
+use Rattle.buffer_redux.proofs.KnownAhead.{remaining_gives, ahead_gives, wants_so, at_nothing, IfSome_if}
+
+if_any : (o : Option (List ℕ)) (P : List ℕ → Type 0) → ((xs : List ℕ) → P xs) → IfSome o P
+if_any None P h = tt
+if_any (Some xs) P h = h xs
+
+-- what was handed out is all that there was, where nothing is left
+whole : (a b : Option (List ℕ)) (bs bs' handed : List ℕ) (P : List ℕ → Type 0)
+    → Consumes (prepend_known bs a) (prepend_known bs' b) handed → bs' ≡ [] → IfSome a (λ _. IsAtEnd b) → P handed
+    → IfSome (prepend_known bs a) P
+whole None b bs bs' handed P went none ended holds = tt
+whole (Some x) b bs bs' handed P went none ended holds =
+    Consumes-whole (prepend_known bs (Some x)) (prepend_known bs' b) handed P went (at_nothing b bs' none ended) holds
+
+pub on_ok : (answer : Result ℕ Error) (P Q : Type 0) → (P → Q) → OnOk answer P → OnOk answer Q
+on_ok (Ok n) P Q h p = h p
+on_ok (Err e) P Q h p = tt
+
+module _ {S P : Type 0} (remaining : S → Option (List ℕ)) (rules : ReadRules P) (s t : Buffered S P)
+    (went : ReaderWent remaining rules s t) (n : ℕ) (to to' : WriteLog)
+    (moved : MovedBy n (reader_log s).fills (reader_log t).fills to to') where
+  same : moved.bytes ≡ went.handed
+  same = append_cancel_left s.calls.fills.consumed moved.bytes went.handed (sym moved.consumed ∙ went.consumed)
+
+  received : to'.received ≡ to.received ++ went.handed
+  received = moved.received ∙ ap (λ l. to.received ++ l) same
+
+  pub moves_known : MovesKnown (reader_remaining remaining rules s) (reader_remaining remaining rules t) to to'
+  moves_known = record {
+    bytes = went.handed;
+    received = received;
+    went = remaining_gives remaining rules s t went.handed went.in_order went.known went.claims went.capacity;
+  }
+
+  pub receives_all : {W : Type 0} (tells : W → StreamLog) (stretch call : W → W → Type 0) (w w' : W)
+      → (tells w).writes ≡ to → (tells w').writes ≡ to' → CopyEnded tells stretch call (reader_log s).fills (reader_log t).fills w w'
+      → ReceivesAll (reader_remaining remaining rules s) to to'
+  receives_all tells stretch call w w' at at' ended = IfSome_if (may_stop rules s) (ahead remaining s) _ (λ is.
+    let wants = wants_so remaining rules s is in
+    elim (cases_lt 0 (length t.block.bytes)) [
+      | inl some ↦ if_any (ahead remaining s) _ (λ xs. inr (omega (
+        arith,
+        ap (λ l. l.zero_writes) at,
+        ap (λ l. l.zero_writes) at',
+        ap (λ l. l.writes.zero_writes) ended.last.told,
+        ended.last.met.only.zero_writes,
+        zero_of_none 0 t.block.bytes (tells ended.last.before).writes.zero_writes refl some,
+      )))
+      | inr few ↦ (
+        let none : length t.block.bytes ≡ 0 = omega (arith, few) in
+        whole (remaining s.inner) (remaining t.inner) s.block.bytes t.block.bytes went.handed _
+        (ahead_gives remaining rules s t went.handed went.in_order went.known) (nil_from_length t.block.bytes none)
+        (went.known.dry (omega (arith, ended.ends none, went.ends wants.0 wants.1))) (inl received)
+        )
+    ])
