@@ -7,11 +7,6 @@ use Rattle.std.specs.declared.io.ErrorKind.TheVariants.{Interrupted, WriteZero}
 use Rattle.redux_buffer.specs.LogGrows.{WriteLogGrows}
 use Rattle.redux_buffer.specs.StreamLog.{WriteLog}
 
--- faults came, and the last of them is of this kind
-pub record FaultedBy (old new : List ErrorKind) (kind : ErrorKind) : Type 0 where
-  pub before : List ErrorKind
-  pub faults : new ≡ old ++ before ++ kind ∷ []
-
 -- no fault came but `Interrupted`
 pub record OnlyInterrupts (old new : List ErrorKind) : Type 0 where
   pub times : ℕ
