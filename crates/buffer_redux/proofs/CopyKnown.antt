@@ -49,20 +49,20 @@ module _ {S P : Type 0} (remaining : S → Option (List ℕ)) (rules : ReadRules
       → (tells w).writes ≡ to → (tells w').writes ≡ to' → CopyEnded tells stretch call (reader_log s).fills (reader_log t).fills w w'
       → ReceivesAll (reader_remaining remaining rules s) to to'
   receives_all tells stretch call w w' at at' ended = IfSome_if (may_stop rules s) (ahead remaining s) _ (λ is.
-    let wants = wants_so remaining rules s is in
-    elim (cases_lt 0 (length t.block.bytes)) [
-      | inl some ↦ if_any (ahead remaining s) _ (λ xs. inr (omega (
-        arith,
-        ap (λ l. l.zero_writes) at,
-        ap (λ l. l.zero_writes) at',
-        ap (λ l. l.writes.zero_writes) ended.last.told,
-        ended.last.met.only.zero_writes,
-        zero_of_none 0 t.block.bytes (tells ended.last.before).writes.zero_writes refl some,
-      )))
-      | inr few ↦ (
-        let none : length t.block.bytes ≡ 0 = omega (arith, few) in
-        whole (remaining s.inner) (remaining t.inner) s.block.bytes t.block.bytes went.handed _
-        (ahead_gives remaining rules s t went.handed went.in_order went.known) (nil_from_length t.block.bytes none)
-        (went.known.dry (omega (arith, ended.ends none, went.ends wants.0 wants.1))) (inl received)
-        )
-    ])
+      let wants = wants_so remaining rules s is in
+      elim (cases_lt 0 (length t.block.bytes)) [
+        | inl some ↦ if_any (ahead remaining s) _ (λ xs. inr (omega (
+          arith,
+          ap (λ l. l.zero_writes) at,
+          ap (λ l. l.zero_writes) at',
+          ap (λ l. l.writes.zero_writes) ended.last.told,
+          ended.last.met.only.zero_writes,
+          zero_of_none 0 t.block.bytes (tells ended.last.before).writes.zero_writes refl some,
+        )))
+        | inr few ↦ (
+            let none : length t.block.bytes ≡ 0 = omega (arith, few) in
+            whole (remaining s.inner) (remaining t.inner) s.block.bytes t.block.bytes went.handed _
+            (ahead_gives remaining rules s t went.handed went.in_order went.known) (nil_from_length t.block.bytes none)
+            (went.known.dry (omega (arith, ended.ends none, went.ends wants.0 wants.1))) (inl received)
+            )
+      ])

@@ -1,10 +1,11 @@
 //! Laws, each as the contract of a function over the calls. Those of the buffer come from `redux_buffer`.
-ghost use Rattle.std.specs.Prelude.{◌≡◌, ◌<◌, [], length, Ok, IfOk, OnOk, is_ok};
+ghost use Rattle.std.specs.Prelude.{◌≡◌, ◌<◌, [], length, Ok, IfOk, IfErr, OnOk, is_ok};
 ghost use Rattle.redux_buffer.specs.StreamLog.{no_calls, taken};
 ghost use Rattle.buffer_redux.specs.Buffered.{with_calls};
 ghost use Rattle.buffer_redux.specs.BufReader.{FillsToMinimum, RanDry, ReadErrorCaused, ReadsInOrder};
-ghost use Rattle.buffer_redux.specs.Copy.{MovesKnown, ReceivesAll};
+ghost use Rattle.buffer_redux.specs.Copy.{CopyFailed, MovedBy, MovesKnown, ReceivesAll};
 ghost use Rattle.buffer_redux.specs.MinBuffered.{min_read_rules};
+ghost use Rattle.buffer_redux.specs.ReaderTells.{reader_log};
 ghost use Rattle.buffer_redux.specs.Remaining.{reader_remaining};
 ghost use Rattle.buffer_redux.specs.Unwrapping.{KeepsUnsent};
 
@@ -93,6 +94,10 @@ pub fn copy_known<R: TellRead, P: ReaderPolicy, W: TellWrite>(
         (reader_remaining R.remaining P.rules from.new) (W.log to.old).writes (W.log to.new).writes }
     ensures all { OnOk result (ReceivesAll (reader_remaining R.remaining P.rules from.old)
         (W.log to.old).writes (W.log to.new).writes) }
+    ensures total { IfOk result (λ n. MovedBy n (reader_log from.old).fills (reader_log from.new).fills
+        (W.log to.old).writes (W.log to.new).writes) }
+    ensures failed { IfErr result (λ e. CopyFailed W.log W.stretch W.call e
+        (reader_log from.old).fills (reader_log from.new).fills to.old to.new) }
     ensures writer { W.stretch to.old to.new }
 {
     copy_buf(from, to)
