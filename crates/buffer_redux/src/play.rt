@@ -118,6 +118,9 @@ impl WriterRun {
 ///
 /// The room for all that a call may add, and the slice that a `Read` reads into, are made before the call is begun. Where
 /// memory for that is refused, every call before is recorded whole, and the next was not begun.
+///
+/// Calls without a `MakeRoom` spare a plain buffer moves, as far as the policy claims to. What that means over several runs
+/// is said by [`play_sparing`](crate::laws::play_sparing).
 pub fn play_reader<R: TellRead, P: ReaderPolicy>(
     alloc: Global,
     reader: &mut BufReader<R, P>,

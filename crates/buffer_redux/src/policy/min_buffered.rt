@@ -12,6 +12,9 @@ use std::io;
 /// With 0 it never reads into the buffer. It makes room where that many bytes don't fit behind those that are there and
 /// would fit then, or where nothing can be written. A growth that is refused is an `Err` of the kind that the
 /// [`GrowError`](crate::GrowError) becomes, and leaves the buffer as it is.
+///
+/// With three times this number as its capacity, a plain buffer that was empty has moved since then no more bytes than the
+/// reader was given: see [`play_sparing`](crate::laws::play_sparing).
 #[derive(Debug, Drop)]
 pub struct MinBuffered(pub usize);
 
