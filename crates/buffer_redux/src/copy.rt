@@ -1,5 +1,5 @@
 //! Copying from a buffered reader to a writer.
-ghost use Rattle.std.specs.Prelude.{◌≡◌, ◌+◌, ◌^◌, ◌<◌, ◌≤◌, ℕ, Ok, IfOk, IfErr, OnOk, OnErr, IfSome, IfNone, MatchResult, length};
+ghost use Rattle.std.specs.Prelude.{◌≡◌, ◌+◌, ◌^◌, ◌<◌, ◌≤◌, ℕ, Ok, IfOk, IfErr, OnOk, OnErr, IfSome, IfNone};
 ghost use Rattle.std.specs.IoError.{error_kind};
 ghost use Rattle.buffer_redux.specs.Copy.{MovedBy, CopiesOn, CopyEnded, StreamFailed, CopyFailed, FaultsRise};
 
