@@ -14,3 +14,4 @@ pub mod PlayReading
 pub mod PlayWriting
 pub mod WriterCounts
 pub mod CopyKnown
+pub mod FlushKnown

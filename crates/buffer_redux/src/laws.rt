@@ -1,8 +1,11 @@
 //! Laws, each as the contract of a function over the calls. Those of the buffer come from `redux_buffer`.
 ghost use Rattle.std.specs.Prelude.{◌≡◌, ◌<◌, [], length, Ok, IfOk, IfErr, OnOk, is_ok};
+ghost use Rattle.std.specs.Io.KnownBytes.{Appends};
 ghost use Rattle.redux_buffer.specs.StreamLog.{no_calls, taken};
+ghost use Rattle.redux_buffer.specs.Told.{told_stream};
 ghost use Rattle.buffer_redux.specs.Buffered.{with_calls};
 ghost use Rattle.buffer_redux.specs.BufReader.{FillsToMinimum, RanDry, ReadErrorCaused, ReadsInOrder};
+ghost use Rattle.buffer_redux.specs.BufWriter.{IsFlushed};
 ghost use Rattle.buffer_redux.specs.Copy.{CopyFailed, MovedBy, MovesKnown, ReceivesAll};
 ghost use Rattle.buffer_redux.specs.MinBuffered.{min_read_rules};
 ghost use Rattle.buffer_redux.specs.ReaderTells.{reader_log};
@@ -16,14 +19,14 @@ mod writes;
 use crate::buf_reader::BufReader;
 use crate::buf_writer::BufWriter;
 use crate::copy::copy_buf;
-use crate::policy::{MinBuffered, ReaderPolicy};
+use crate::policy::{MinBuffered, ReaderPolicy, WriterPolicy};
 pub use between::{rebuild_reader_under, rebuild_writer_under};
 use redux_buffer::Buffer;
 pub use redux_buffer::laws::{copy_through, make_room_again, potential, ring_law};
-use redux_buffer::tell::{Tell, TellRead, TellWrite};
+use redux_buffer::tell::{Tell, TellRead, TellWrite, Told};
 pub use sparing::{play_sparing, spare_between};
 use std::io;
-use std::io::{BufRead, Read};
+use std::io::{BufRead, Read, Write};
 pub use writes::{
     flush_at_least_law, flush_exact_law, flush_on_law, flush_on_newline_law, line_law, write_law,
 };
@@ -101,4 +104,13 @@ pub fn copy_known<R: TellRead, P: ReaderPolicy, W: TellWrite>(
     ensures writer { W.stretch to.old to.new }
 {
     copy_buf(from, to)
+}
+
+/// After an Ok flush, a stream of std of which std knows what it holds has gained what was buffered.
+pub fn flush_known<S: Write, P: WriterPolicy>(writer: &mut BufWriter<Told<S>, P>) -> io::Result<()>
+    ensures held { OnOk result (Appends (S.contents (told_stream writer.old.inner))
+        (S.contents (told_stream writer.new.inner)) writer.old.block.bytes) }
+    ensures flushed { OnOk result (IsFlushed writer.old writer.new) }
+{
+    writer.flush()
 }

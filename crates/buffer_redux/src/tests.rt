@@ -1,6 +1,7 @@
 //! Readers and writers by worked examples, and each public call once.
 mod copy;
 mod example;
+mod known;
 mod lines;
 mod lookahead;
 mod makers;
