@@ -1,4 +1,4 @@
-use Rattle.std.proofs.Common.{◌≡◌, Ok, length, refl, subst, sym, ap, ◌∙◌}
+use Rattle.std.proofs.Common.{◌≡◌, Ok, refl, subst, sym, ap, ◌∙◌}
 use Rattle.std.proofs.lemmas.Result.{err_from_is_err_and}
 use Rattle.buffer_redux.specs.BufReader.{Fills, InnerGives}
 use Rattle.buffer_redux.specs.ReaderLaws.{Fills-empty}

@@ -1,4 +1,4 @@
-use Rattle.std.proofs.Common.{◌≡◌, ℕ, ◌<◌, List, [], ◌++◌, length, take, drop, min, Option, Result, Ok, sym, ap, subst, ◌∙◌, arith, rules, append-nil, length-take-le, take_at}
+use Rattle.std.proofs.Common.{◌≡◌, ℕ, ◌<◌, List, [], ◌++◌, length, take, drop, min, Option, Result, Ok, sym, ap, ◌∙◌, arith, rules, append-nil, length-take-le, take_at}
 use Rattle.std.proofs.lemmas.List.{take-append-drop, nil_from_length}
 use Rattle.std.proofs.KnownBytes.{Keeps-refl, prepend_known-nil, prepend_known-read}
 use Rattle.std.specs.Io.KnownBytes.{prepend_known, ReadConsumes}
