@@ -19,11 +19,12 @@ if_any (Some xs) P h = h xs
 
 -- what was handed out is all that there was, where nothing is left
 whole : (a b : Option (List ℕ)) (bs bs' handed : List ℕ) (P : List ℕ → Type 0)
-    → Consumes (prepend_known bs a) (prepend_known bs' b) handed → bs' ≡ [] → IfSome a (λ _. IsAtEnd b) → P handed
-    → IfSome (prepend_known bs a) P
+    → Consumes (prepend_known bs a) (prepend_known bs' b) handed → bs' ≡ [] → IfSome a (λ _. IsAtEnd b)
+    → P handed → IfSome (prepend_known bs a) P
 whole None b bs bs' handed P went none ended holds = tt
 whole (Some x) b bs bs' handed P went none ended holds =
-    Consumes-whole (prepend_known bs (Some x)) (prepend_known bs' b) handed P went (at_nothing b bs' none ended) holds
+    Consumes-whole (prepend_known bs (Some x)) (prepend_known bs' b) handed P went
+    (at_nothing b bs' none ended) holds
 
 pub on_ok : (answer : Result ℕ Error) (P Q : Type 0) → (P → Q) → OnOk answer P → OnOk answer Q
 on_ok (Ok n) P Q h p = h p
@@ -33,12 +34,14 @@ module _ {S P : Type 0} (remaining : S → Option (List ℕ)) (rules : ReadRules
     (went : ReaderWent remaining rules s t) (n : ℕ) (to to' : WriteLog)
     (moved : MovedBy n (reader_log s).fills (reader_log t).fills to to') where
   same : moved.bytes ≡ went.handed
-  same = append_cancel_left s.calls.fills.consumed moved.bytes went.handed (sym moved.consumed ∙ went.consumed)
+  same =
+      append_cancel_left s.calls.fills.consumed moved.bytes went.handed (sym moved.consumed ∙ went.consumed)
 
   received : to'.received ≡ to.received ++ went.handed
   received = moved.received ∙ ap (λ l. to.received ++ l) same
 
-  pub moves_known : MovesKnown (reader_remaining remaining rules s) (reader_remaining remaining rules t) to to'
+  pub moves_known : MovesKnown (reader_remaining remaining rules s)
+      (reader_remaining remaining rules t) to to'
   moves_known = record {
     bytes = went.handed;
     received = received;
@@ -46,9 +49,11 @@ module _ {S P : Type 0} (remaining : S → Option (List ℕ)) (rules : ReadRules
   }
 
   pub receives_all : {W : Type 0} (tells : W → StreamLog) (stretch call : W → W → Type 0) (w w' : W)
-      → (tells w).writes ≡ to → (tells w').writes ≡ to' → CopyEnded tells stretch call (reader_log s).fills (reader_log t).fills w w'
+      → (tells w).writes ≡ to → (tells w').writes ≡ to'
+      → CopyEnded tells stretch call (reader_log s).fills (reader_log t).fills w w'
       → ReceivesAll (reader_remaining remaining rules s) to to'
-  receives_all tells stretch call w w' at at' ended = IfSome_if (may_stop rules s) (ahead remaining s) _ (λ is.
+  receives_all tells stretch call w w' at at' ended =
+      IfSome_if (may_stop rules s) (ahead remaining s) _ (λ is.
       let wants = wants_so remaining rules s is in
       elim (cases_lt 0 (length t.block.bytes)) [
         | inl some ↦ if_any (ahead remaining s) _ (λ xs. inr (omega (
@@ -62,7 +67,8 @@ module _ {S P : Type 0} (remaining : S → Option (List ℕ)) (rules : ReadRules
         | inr few ↦ (
             let none : length t.block.bytes ≡ 0 = omega (arith, few) in
             whole (remaining s.inner) (remaining t.inner) s.block.bytes t.block.bytes went.handed _
-            (ahead_gives remaining rules s t went.handed went.in_order went.known) (nil_from_length t.block.bytes none)
+            (ahead_gives remaining rules s t went.handed went.in_order went.known)
+            (nil_from_length t.block.bytes none)
             (went.known.dry (omega (arith, ended.ends none, went.ends wants.0 wants.1))) (inl received)
             )
       ])

@@ -7,10 +7,16 @@ use Rattle.redux_buffer.specs.Faults.{OnlyInterrupts-none, OnlyInterrupts-joins,
 use Rattle.buffer_redux.specs.Copy.{MovedBy, CopiesOn, LastWrite, CopyEnded, StreamFailed}
 
 MovedBy-none : (a : FillLog) (x : WriteLog) → MovedBy 0 a a x x
-MovedBy-none a x = record
-    { bytes = []; count = refl; consumed = sym (append-nil a.consumed); received = sym (append-nil x.received); not_flushed = refl }
+MovedBy-none a x = record {
+  bytes = [];
+  count = refl;
+  consumed = sym (append-nil a.consumed);
+  received = sym (append-nil x.received);
+  not_flushed = refl;
+}
 
-pub MovedBy-joins : (n k : ℕ) (a b c : FillLog) (x y z : WriteLog) → MovedBy n a b x y → MovedBy k b c y z → MovedBy (n + k) a c x z
+pub MovedBy-joins : (n k : ℕ) (a b c : FillLog) (x y z : WriteLog)
+    → MovedBy n a b x y → MovedBy k b c y z → MovedBy (n + k) a c x z
 MovedBy-joins n k a b c x y z p q = record {
   bytes = p.bytes ++ q.bytes;
   count = length-append p.bytes q.bytes ∙ (λ i. p.count i + q.count i);
@@ -38,13 +44,16 @@ module _ (n : ℕ) (a b c : FillLog) (x y z : WriteLog) (before : CopiesOn n a b
   }
 
 -- what comes after turns in which the streams were at most interrupted
-module _ {W : Type 0} (tells : W → StreamLog) (stretch call : W → W → Type 0) (joins : (u v w : W) → stretch u v → stretch v w → stretch u w)
-    (n : ℕ) (a b c : FillLog) (x y z : W) (before : CopiesOn n a b (tells x).writes (tells y).writes) (went : stretch x y) where
-  LastWrite-after : (bytes : List ℕ) (answer : Result ℕ Error) → LastWrite tells stretch call y bytes answer z → LastWrite tells stretch call x bytes answer z
+module _ {W : Type 0} (tells : W → StreamLog) (stretch call : W → W → Type 0)
+    (joins : (u v w : W) → stretch u v → stretch v w → stretch u w) (n : ℕ) (a b c : FillLog) (x y z : W)
+    (before : CopiesOn n a b (tells x).writes (tells y).writes) (went : stretch x y) where
+  LastWrite-after : (bytes : List ℕ) (answer : Result ℕ Error)
+      → LastWrite tells stretch call y bytes answer z → LastWrite tells stretch call x bytes answer z
   LastWrite-after bytes answer last = record {
     before = last.before;
     went = joins x y last.before went last.went;
-    met = MetInterrupts-joins (tells x).writes (tells y).writes (tells last.before).writes before.writer last.met;
+    met = MetInterrupts-joins (tells x).writes (tells y).writes
+        (tells last.before).writes before.writer last.met;
     called = last.called;
     told = last.told;
   }
@@ -56,10 +65,12 @@ module _ {W : Type 0} (tells : W → StreamLog) (stretch call : W → W → Type
     ends = λ none. omega (arith, before.ends, ended.ends none);
   }
 
-  pub StreamFailed-after : (e : Error) → StreamFailed tells stretch call e b c y z → StreamFailed tells stretch call e a c x z
+  pub StreamFailed-after : (e : Error)
+      → StreamFailed tells stretch call e b c y z → StreamFailed tells stretch call e a c x z
   StreamFailed-after e (inl source) = inl (record {
     fault = FaultAfterInterrupts-after a.faults b.faults c.faults (error_kind e) before.reader source.fault;
-    writer = MetInterrupts-joins (tells x).writes (tells y).writes (tells z).writes before.writer source.writer;
+    writer =
+        MetInterrupts-joins (tells x).writes (tells y).writes (tells z).writes before.writer source.writer;
   })
   StreamFailed-after e (inr target) = inr (record {
     reader = OnlyInterrupts-joins a.faults b.faults c.faults before.reader target.reader;
@@ -67,15 +78,18 @@ module _ {W : Type 0} (tells : W → StreamLog) (stretch call : W → W → Type
   })
 
   pub failed_after : {A : Type 0} (answer : Result A Error)
-      → IfErr answer (λ e. StreamFailed tells stretch call e b c y z) → IfErr answer (λ e. StreamFailed tells stretch call e a c x z)
+      → IfErr answer (λ e. StreamFailed tells stretch call e b c y z)
+      → IfErr answer (λ e. StreamFailed tells stretch call e a c x z)
   failed_after (Ok k) failed = tt
   failed_after (Err e) failed = StreamFailed-after e failed
 
 -- a turn after turns that were only interrupted
 module _ (a b c : FillLog) (x y z : WriteLog) (before : CopiesOn 0 a b x y) where
   pub CopiesOn-after : (n : ℕ) → CopiesOn n b c y z → CopiesOn n a c x z
-  CopiesOn-after n last = subst (λ k. CopiesOn k a c x z) (omega arith) (CopiesOn-joins 0 a b c x y z before n last)
+  CopiesOn-after n last =
+      subst (λ k. CopiesOn k a c x z) (omega arith) (CopiesOn-joins 0 a b c x y z before n last)
 
-  pub copies_after : {A : Type 0} (answer : Result ℕ A) → IfOk answer (λ n. 0 < n → CopiesOn n b c y z) → IfOk answer (λ n. 0 < n → CopiesOn n a c x z)
+  pub copies_after : {A : Type 0} (answer : Result ℕ A)
+      → IfOk answer (λ n. 0 < n → CopiesOn n b c y z) → IfOk answer (λ n. 0 < n → CopiesOn n a c x z)
   copies_after (Ok n) copies = λ some. CopiesOn-after n (copies some)
   copies_after (Err e) copies = tt

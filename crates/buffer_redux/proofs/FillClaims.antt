@@ -19,10 +19,12 @@ module _ {S P : Type 0} (rules : ReadRules P) where
   claimed k s m h = (turns_facts rules k s m h).holds.claims
 
   module _ (n : ℕ) (s : Buffered S P) (wants : (rules.claims s.policy).minimum ≡ Some n) where
-    at_minimum : (k : ℕ) (m : Buffered S P) (b : Block) (r : Result DoRead Error) (p : Buffered S P) → Turns rules k s m
-        → BeforeRead rules m.policy m.block r p.policy b → ReadsToMinimum (Some n) m.block r b
+    at_minimum : (k : ℕ) (m : Buffered S P) (b : Block) (r : Result DoRead Error) (p : Buffered S P)
+        → Turns rules k s m → BeforeRead rules m.policy m.block r p.policy b
+        → ReadsToMinimum (Some n) m.block r b
     at_minimum k m b r p h asked =
-        subst (λ o. ReadsToMinimum o m.block r b) (ap (λ c. c.minimum) (claimed k s m h) ∙ wants) asked.minimum
+        subst (λ o. ReadsToMinimum o m.block r b)
+        (ap (λ c. c.minimum) (claimed k s m h) ∙ wants) asked.minimum
 
     -- each turn found fewer bytes than the minimum
     few_turns : (k : ℕ) (t : Buffered S P) → Turns rules k s t → k ≤ n - length s.block.bytes
@@ -35,7 +37,8 @@ module _ {S P : Type 0} (rules : ReadRules P) where
         let facts = turns_facts rules k s m h.1 in
         omega (arith, before, facts.longer, found.0)
 
-    to_minimum_ok : {A : Type 0} (k : ℕ) (m t : Buffered S P) (a : A) → Turns rules k s m → Ends rules m (Ok a) t → FillsToMinimum n s true t
+    to_minimum_ok : {A : Type 0} (k : ℕ) (m t : Buffered S P) (a : A)
+        → Turns rules k s m → Ends rules m (Ok a) t → FillsToMinimum n s true t
     to_minimum_ok k m t a h (inl end) =
         let found = at_minimum k m t.block no_read t h end.asked in
         let facts = turns_facts rules k s m h in
@@ -56,7 +59,8 @@ module _ {S P : Type 0} (rules : ReadRules P) where
           asks = omega (arith, once, facts.asks, facts.longer, found.0);
         }
 
-    to_minimum_err : (A : Type 0) (k : ℕ) (m t : Buffered S P) (e : Error) → Turns rules k s m → Ends {A = A} rules m (Err e) t → FillsToMinimum n s false t
+    to_minimum_err : (A : Type 0) (k : ℕ) (m t : Buffered S P) (e : Error)
+        → Turns rules k s m → Ends {A = A} rules m (Err e) t → FillsToMinimum n s false t
     to_minimum_err A k m t e h (inl end) =
         let facts = turns_facts rules k s m h in
         let few = few_turns k m h in
@@ -68,21 +72,24 @@ module _ {S P : Type 0} (rules : ReadRules P) where
         let once : t.log.reads.asks ≡ m.log.reads.asks + 1 = ap (λ l. l.reads.asks) end.read.told in
         record { enough = λ no. cc; asks = omega (arith, once, facts.asks, facts.longer, found.0) }
 
-    to_minimum : {A : Type 0} (r : Result A Error) (t : Buffered S P) → Filled rules s r t → FillsToMinimum n s (is_ok r) t
+    to_minimum : {A : Type 0} (r : Result A Error) (t : Buffered S P)
+        → Filled rules s r t → FillsToMinimum n s (is_ok r) t
     to_minimum (Ok a) t f = to_minimum_ok f.count f.last t a f.turns f.ends
     to_minimum {A} (Err e) t f = to_minimum_err A f.count f.last t e f.turns f.ends
 
-  looks_ahead : {A : Type 0} (o : Option ℕ) (s : Buffered S P) (r : Result A Error) (t : Buffered S P) → (rules.claims s.policy).minimum ≡ o
-      → Filled rules s r t → LooksAhead o s (is_ok r) t
+  looks_ahead : {A : Type 0} (o : Option ℕ) (s : Buffered S P) (r : Result A Error) (t : Buffered S P)
+      → (rules.claims s.policy).minimum ≡ o → Filled rules s r t → LooksAhead o s (is_ok r) t
   looks_ahead None s r t w f = tt
   looks_ahead (Some n) s r t w f = to_minimum n s w r t f
 
   module _ (s : Buffered S P) (steady : (rules.claims s.policy).steady ≡ true) where
-    at_steady : (k : ℕ) (m : Buffered S P) (b : Block) (r : Result DoRead Error) (p : Buffered S P) → Turns rules k s m
-        → BeforeRead rules m.policy m.block r p.policy b → ReadsSteadily true m.block r
-    at_steady k m b r p h asked = subst (λ o. ReadsSteadily o m.block r) (ap (λ c. c.steady) (claimed k s m h) ∙ steady) asked.steady
+    at_steady : (k : ℕ) (m : Buffered S P) (b : Block) (r : Result DoRead Error) (p : Buffered S P)
+        → Turns rules k s m → BeforeRead rules m.policy m.block r p.policy b → ReadsSteadily true m.block r
+    at_steady k m b r p h asked =
+        subst (λ o. ReadsSteadily o m.block r) (ap (λ c. c.steady) (claimed k s m h) ∙ steady) asked.steady
 
-    steady_ok : {A : Type 0} (k : ℕ) (m t : Buffered S P) (a : A) → IsBlock t.block → Turns rules k s m → Ends rules m (Ok a) t → SteadyFill s true t
+    steady_ok : {A : Type 0} (k : ℕ) (m t : Buffered S P) (a : A)
+        → IsBlock t.block → Turns rules k s m → Ends rules m (Ok a) t → SteadyFill s true t
     steady_ok k m t a whole h (inl end) =
         let says = at_steady k m t.block no_read t h end.asked in
         record {
@@ -102,17 +109,26 @@ module _ {S P : Type 0} (rules : ReadRules P) where
         let rose = zero_rose end.seen t.block m.log t.log end.read end.ordered.room in
         record { faulted = λ no. cc; empty = λ _ _ _. omega (arith, facts.zero_answers, rose) }
 
-    steady_err : (A : Type 0) (k : ℕ) (m t : Buffered S P) (e : Error) → Turns rules k s m → Ends {A = A} rules m (Err e) t → SteadyFill s false t
+    steady_err : (A : Type 0) (k : ℕ) (m t : Buffered S P) (e : Error)
+        → Turns rules k s m → Ends {A = A} rules m (Err e) t → SteadyFill s false t
     steady_err A k m t e h (inl end) = (let odd = at_steady k m t.block (Err e) t h end.asked in absurd odd)
     steady_err A k m t e h (inr end) =
         let facts = turns_facts rules k s m h in
-        let more : t.log.reads.faults ≡ m.log.reads.faults ++ error_kind e ∷ [] = ap (λ l. l.reads.faults) end.read.told in
+        let more : t.log.reads.faults ≡ m.log.reads.faults ++ error_kind e ∷ [] =
+        ap (λ l. l.reads.faults) end.read.told in
         record {
-          faulted = λ _. omega (arith, ap length more, length-append m.log.reads.faults (error_kind e ∷ []), ap length facts.faults);
+          faulted = λ _.
+              omega (
+                arith,
+                ap length more,
+                length-append m.log.reads.faults (error_kind e ∷ []),
+                ap length facts.faults,
+              );
           empty = λ no. cc;
         }
 
-    steady_fill : {A : Type 0} (r : Result A Error) (t : Buffered S P) → IsBlock t.block → Filled rules s r t → SteadyFill s (is_ok r) t
+    steady_fill : {A : Type 0} (r : Result A Error) (t : Buffered S P)
+        → IsBlock t.block → Filled rules s r t → SteadyFill s (is_ok r) t
     steady_fill (Ok a) t whole f = steady_ok f.count f.last t a whole f.turns f.ends
     steady_fill {A} (Err e) t whole f = steady_err A f.count f.last t e f.turns f.ends
 
@@ -121,35 +137,49 @@ module _ {S P : Type 0} (rules : ReadRules P) where
     spared_asked : (k : ℕ) (m t : Buffered S P) (r : Result DoRead Error) → Turns rules k s m
         → BeforeRead rules m.policy m.block r t.policy t.block → t.log ≡ m.log → Spared keep m t
     spared_asked k m t r h asked same =
-        Spared-asked keep m t (rules.claims m.policy).spares (subst (λ c. ClaimsToSpare c.spares keep) (sym (claimed k s m h)) claims)
+        Spared-asked keep m t (rules.claims m.policy).spares
+        (subst (λ c. ClaimsToSpare c.spares keep) (sym (claimed k s m h)) claims)
         asked.law asked.spares same
 
     -- the policy, and then one read
-    spared_read : (k : ℕ) (m t : Buffered S P) (seen : Block) (answer : Result ℕ Error) → Turns rules k s m
-        → BeforeRead rules m.policy m.block read_now t.policy seen → ReadsOnce seen m.log answer t.block t.log → Spared keep m t
+    spared_read : (k : ℕ) (m t : Buffered S P) (seen : Block) (answer : Result ℕ Error)
+        → Turns rules k s m → BeforeRead rules m.policy m.block read_now t.policy seen
+        → ReadsOnce seen m.log answer t.block t.log → Spared keep m t
     spared_read k m t seen answer h asked read =
-        let ordered : Buffered S P = record { policy = t.policy; block = seen; inner = t.inner; log = m.log; calls = t.calls } in
-        Spared-joins keep m ordered t (spared_asked k m ordered read_now h asked refl) (Spared-read keep ordered t answer read)
+        let ordered : Buffered S P = record {
+          policy = t.policy;
+          block = seen;
+          inner = t.inner;
+          log = m.log;
+          calls = t.calls;
+        } in
+        Spared-joins keep m ordered t (spared_asked k m ordered read_now h asked refl)
+        (Spared-read keep ordered t answer read)
 
     spared_turns : (k : ℕ) (t : Buffered S P) → Turns rules k s t → Spared keep s t
     spared_turns zero t e = subst (λ x. Spared keep s x) e (Spared-none keep s)
     spared_turns (suc k) t h =
         let m = h.0 in
         let turn = h.2 in
-        Spared-joins keep s m t (spared_turns k m h.1) (spared_read k m t turn.seen (Ok turn.count) h.1 turn.ordered.asked turn.read)
+        Spared-joins keep s m t (spared_turns k m h.1)
+        (spared_read k m t turn.seen (Ok turn.count) h.1 turn.ordered.asked turn.read)
 
-    spared_end : {A : Type 0} (k : ℕ) (m : Buffered S P) (r : Result A Error) (t : Buffered S P) → Turns rules k s m → Ends rules m r t → Spared keep m t
+    spared_end : {A : Type 0} (k : ℕ) (m : Buffered S P) (r : Result A Error) (t : Buffered S P)
+        → Turns rules k s m → Ends rules m r t → Spared keep m t
     spared_end k m (Ok a) t h (inl end) = spared_asked k m t no_read h end.asked end.told
     spared_end k m (Ok a) t h (inr (inl end)) = spared_asked k m t read_now h end.asked end.told
     spared_end k m (Ok a) t h (inr (inr end)) = spared_read k m t end.seen (Ok 0) h end.ordered.asked end.read
     spared_end k m (Err e) t h (inl end) = spared_asked k m t (Err e) h end.asked end.told
     spared_end k m (Err e) t h (inr end) = spared_read k m t end.seen (Err e) h end.ordered.asked end.read
 
-    spared_filled : {A : Type 0} (r : Result A Error) (t : Buffered S P) → Filled rules s r t → Spared keep s t
-    spared_filled r t f = Spared-joins keep s f.last t (spared_turns f.count f.last f.turns) (spared_end f.count f.last r t f.turns f.ends)
+    spared_filled : {A : Type 0} (r : Result A Error) (t : Buffered S P)
+        → Filled rules s r t → Spared keep s t
+    spared_filled r t f = Spared-joins keep s f.last t (spared_turns f.count f.last f.turns)
+        (spared_end f.count f.last r t f.turns f.ends)
 
   -- all that filling promises
-  pub fills : {A : Type 0} (s : Buffered S P) (r : Result A Error) (t : Buffered S P) → IsBlock t.block → Filled rules s r t → Fills rules s r t
+  pub fills : {A : Type 0} (s : Buffered S P) (r : Result A Error) (t : Buffered S P)
+      → IsBlock t.block → Filled rules s r t → Fills rules s r t
   fills s r t whole f =
       let facts = filled_facts rules s r t whole f in
       let holds = facts.holds in record {
@@ -170,8 +200,10 @@ module _ {S P : Type 0} (rules : ReadRules P) where
       }
 
   -- filling ends so too where the call returns something else at Ok
-  pub filled_ok : {A B : Type 0} (s : Buffered S P) (a : A) (b : B) (t : Buffered S P) → Filled rules s (Ok a) t → Filled rules s (Ok b) t
+  pub filled_ok : {A B : Type 0} (s : Buffered S P) (a : A) (b : B) (t : Buffered S P)
+      → Filled rules s (Ok a) t → Filled rules s (Ok b) t
   filled_ok s a b t f = record { count = f.count; last = f.last; turns = f.turns; ends = f.ends }
 
-  pub filled_err : (A B : Type 0) (s : Buffered S P) (e : Error) (t : Buffered S P) → Filled {A = A} rules s (Err e) t → Filled {A = B} rules s (Err e) t
+  pub filled_err : (A B : Type 0) (s : Buffered S P) (e : Error) (t : Buffered S P)
+      → Filled {A = A} rules s (Err e) t → Filled {A = B} rules s (Err e) t
   filled_err A B s e t f = record { count = f.count; last = f.last; turns = f.turns; ends = f.ends }

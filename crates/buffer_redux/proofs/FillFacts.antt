@@ -27,9 +27,12 @@ module _ (b b' : Block) (log log' : StreamLog) (n : ℕ) (read : ReadsOnce b log
   got_length = length-take-le n read.out read.bound.0
 
   pub longer : length b'.bytes ≡ length b.bytes + n
-  longer = ap length read.added.bytes ∙ length-append b.bytes (take n read.out) ∙ ap (λ k. length b.bytes + k) got_length
+  longer =
+      ap length read.added.bytes ∙ length-append b.bytes (take n read.out)
+      ∙ ap (λ k. length b.bytes + k) got_length
 
-full_empty_at : (b : Block) (k : Kind) → OnKind k (length b.bytes ≡ 0 → usable b ≡ b.capacity) (length b.bytes + usable b ≡ b.capacity)
+full_empty_at : (b : Block) (k : Kind)
+    → OnKind k (length b.bytes ≡ 0 → usable b ≡ b.capacity) (length b.bytes + usable b ≡ b.capacity)
     → usable b ≡ 0 → length b.bytes ≡ 0 → b.capacity ≡ 0
 full_empty_at b Plain space full none = omega (arith, space none)
 full_empty_at b Ring space full none = omega (arith, space)
@@ -38,45 +41,65 @@ full_empty_at b Ring space full none = omega (arith, space)
 pub full_empty : (b : Block) → IsBlock b → usable b ≡ 0 → length b.bytes ≡ 0 → b.capacity ≡ 0
 full_empty b whole full none = full_empty_at b b.kind whole.space full none
 
-pub zero_rose : (b b' : Block) (log log' : StreamLog) → ReadsOnce b log (Ok 0) b' log' → 0 < usable b → log'.reads.zero_answers ≡ log.reads.zero_answers + 1
+pub zero_rose : (b b' : Block) (log log' : StreamLog)
+    → ReadsOnce b log (Ok 0) b' log' → 0 < usable b → log'.reads.zero_answers ≡ log.reads.zero_answers + 1
 zero_rose b b' log log' read room = ap (λ l. l.reads.zero_answers) read.told ∙ grind (arith, read.offered)
 
 -- a read lets its log go on
-pub read_grows : (b b' : Block) (log log' : StreamLog) (answer : Result ℕ Error) → ReadsOnce b log answer b' log' → ReadLogGrows log.reads log'.reads
-read_grows b b' log log' answer read = subst (λ l. ReadLogGrows log.reads l.reads) (sym read.told) (ReadLogGrows-read log read.out answer)
+pub read_grows : (b b' : Block) (log log' : StreamLog) (answer : Result ℕ Error)
+    → ReadsOnce b log answer b' log' → ReadLogGrows log.reads log'.reads
+read_grows b b' log log' answer read =
+    subst (λ l. ReadLogGrows log.reads l.reads) (sym read.told) (ReadLogGrows-read log read.out answer)
 
 -- one read, or none where nothing can be written
-pub ReadsInOrder-read_from : {S P : Type 0} (s t : Buffered S P) (answer : Result ℕ Error) → ReadsFrom s.block s.log answer t.block t.log → ReadsInOrder s [] t
+pub ReadsInOrder-read_from : {S P : Type 0} (s t : Buffered S P) (answer : Result ℕ Error)
+    → ReadsFrom s.block s.log answer t.block t.log → ReadsInOrder s [] t
 ReadsInOrder-read_from s t answer read = elim (cases_lt 0 (usable s.block)) [
-  | inl room ↦ (let once = read.read room in record { got = taken once.out answer; given = ap (λ l. l.reads.given) once.told; equal = once.added.bytes })
+  | inl room ↦
+      (let once = read.read room in record {
+        got = taken once.out answer;
+        given = ap (λ l. l.reads.given) once.told;
+        equal = once.added.bytes;
+      })
   | inr full ↦ (
       let nothing = read.no_room (omega (arith, full)) in
-      record { got = []; given = ap (λ l. l.reads.given) nothing.told ∙ sym (append-nil s.log.reads.given); equal = ap (λ b. b.bytes) nothing.buffer ∙ sym (append-nil s.block.bytes) }
+      record {
+        got = [];
+        given = ap (λ l. l.reads.given) nothing.told ∙ sym (append-nil s.log.reads.given);
+        equal = ap (λ b. b.bytes) nothing.buffer ∙ sym (append-nil s.block.bytes);
+      }
       )
 ]
 
-pub read_from_grows : (b b' : Block) (log log' : StreamLog) (answer : Result ℕ Error) → ReadsFrom b log answer b' log' → ReadLogGrows log.reads log'.reads
+pub read_from_grows : (b b' : Block) (log log' : StreamLog) (answer : Result ℕ Error)
+    → ReadsFrom b log answer b' log' → ReadLogGrows log.reads log'.reads
 read_from_grows b b' log log' answer read = elim (cases_lt 0 (usable b)) [
   | inl room ↦ read_grows b b' log log' answer (read.read room)
-  | inr full ↦ subst (λ l. ReadLogGrows log.reads l.reads) (sym (read.no_room (omega (arith, full))).told) (ReadLogGrows-none log.reads)
+  | inr full ↦
+      subst (λ l. ReadLogGrows log.reads l.reads) (sym (read.no_room (omega (arith, full))).told)
+      (ReadLogGrows-none log.reads)
 ]
 
 -- one read past an empty buffer
-pub ReadsInOrder-direct : {S P : Type 0} (s t : Buffered S P) (out : List ℕ) (answer : Result ℕ Error) → GoesDirect after_read s out answer t
-    → length s.block.bytes ≡ 0 → ReadsInOrder s (taken out answer) t
+pub ReadsInOrder-direct : {S P : Type 0} (s t : Buffered S P) (out : List ℕ) (answer : Result ℕ Error)
+    → GoesDirect after_read s out answer t → length s.block.bytes ≡ 0 → ReadsInOrder s (taken out answer) t
 ReadsInOrder-direct s t out answer direct none =
     let empty = nil_from_length s.block.bytes none in record {
       got = taken out answer;
       given = ap (λ l. l.reads.given) direct.told;
       equal =
-          ap (λ b. taken out answer ++ b.bytes) direct.block ∙ ap (λ l. taken out answer ++ l) empty ∙ append-nil (taken out answer)
+          ap (λ b. taken out answer ++ b.bytes) direct.block ∙ ap (λ l. taken out answer ++ l) empty
+          ∙ append-nil (taken out answer)
           ∙ ap (λ l. l ++ taken out answer) (sym empty);
     }
 
 -- a read through the buffer that hands out nothing though there is room has found some capacity
-pub inside_room : {S P : Type 0} (s m : Buffered S P) (room : ℕ) → StaysInside s.block room → ReadsInOrder s [] m → length m.block.bytes ≡ 0 → 0 < s.block.capacity
+pub inside_room : {S P : Type 0} (s m : Buffered S P) (room : ℕ)
+    → StaysInside s.block room → ReadsInOrder s [] m → length m.block.bytes ≡ 0 → 0 < s.block.capacity
 inside_room s m room inside order none = elim inside [
-  | inl some ↦ (let grown = ap length order.equal in absurd (omega (arith, grown, length-append s.block.bytes order.got, some, none)))
+  | inl some ↦
+      (let grown = ap length order.equal in
+      absurd (omega (arith, grown, length-append s.block.bytes order.got, some, none)))
   | inr less ↦ omega (arith, less)
 ]
 
@@ -91,7 +114,14 @@ module _ {S P : Type 0} (rules : ReadRules P) where
     pub claims : rules.claims t.policy ≡ rules.claims s.policy
 
   Holds-none : (s : Buffered S P) → Holds s s
-  Holds-none s = record { in_order = ReadsInOrder-none s; grows = ReadLogGrows-none s.log.reads; kind = refl; capacity = le_refl _; consumed = refl; claims = refl }
+  Holds-none s = record {
+    in_order = ReadsInOrder-none s;
+    grows = ReadLogGrows-none s.log.reads;
+    kind = refl;
+    capacity = le_refl _;
+    consumed = refl;
+    claims = refl;
+  }
 
   Holds-joins : (s m t : Buffered S P) → Holds s m → Holds m t → Holds s t
   Holds-joins s m t p q = record {
@@ -104,9 +134,14 @@ module _ {S P : Type 0} (rules : ReadRules P) where
   }
 
   -- the policy alone, and the policy and then one read
-  Holds-asked : (s t : Buffered S P) (answer : Result DoRead Error) → BeforeRead rules s.policy s.block answer t.policy t.block → t.log ≡ s.log → Holds s t
+  Holds-asked : (s t : Buffered S P) (answer : Result DoRead Error)
+      → BeforeRead rules s.policy s.block answer t.policy t.block → t.log ≡ s.log → Holds s t
   Holds-asked s t answer asked told = record {
-    in_order = record { got = []; given = ap (λ l. l.reads.given) told ∙ sym (append-nil s.log.reads.given); equal = asked.law.bytes ∙ sym (append-nil s.block.bytes) };
+    in_order = record {
+      got = [];
+      given = ap (λ l. l.reads.given) told ∙ sym (append-nil s.log.reads.given);
+      equal = asked.law.bytes ∙ sym (append-nil s.block.bytes);
+    };
     grows = subst (λ l. ReadLogGrows s.log.reads l.reads) (sym told) (ReadLogGrows-none s.log.reads);
     kind = asked.law.kind;
     capacity = asked.law.capacity;
@@ -115,7 +150,8 @@ module _ {S P : Type 0} (rules : ReadRules P) where
   }
 
   Holds-read : (s t : Buffered S P) (seen : Block) (order : Result DoRead Error) (answer : Result ℕ Error)
-      → BeforeRead rules s.policy s.block order t.policy seen → ReadsOnce seen s.log answer t.block t.log → Holds s t
+      → BeforeRead rules s.policy s.block order t.policy seen
+      → ReadsOnce seen s.log answer t.block t.log → Holds s t
   Holds-read s t seen order answer asked read = record {
     in_order = record {
       got = taken read.out answer;
@@ -130,7 +166,8 @@ module _ {S P : Type 0} (rules : ReadRules P) where
   }
 
   -- what filled nothing hands out nothing for the same cause, where there is capacity
-  pub empty_read : (s m t : Buffered S P) → EmptyFillCaused rules s m → 0 < m.block.capacity → t.log.reads.zero_answers ≡ m.log.reads.zero_answers → EmptyReadCaused rules s t
+  pub empty_read : (s m t : Buffered S P) → EmptyFillCaused rules s m → 0 < m.block.capacity
+      → t.log.reads.zero_answers ≡ m.log.reads.zero_answers → EmptyReadCaused rules s t
   empty_read s m t (inl said) room same = inl said
   empty_read s m t (inr (inl none)) room same = absurd (omega (arith, none, room))
   empty_read s m t (inr (inr rose)) room same = inr (omega (arith, same, rose))
@@ -143,7 +180,13 @@ module _ {S P : Type 0} (rules : ReadRules P) where
     pub longer : length s.block.bytes + k ≤ length t.block.bytes
 
   same_facts : (s : Buffered S P) → TurnsFacts 0 s s
-  same_facts s = record { holds = Holds-none s; faults = refl; zero_answers = refl; asks = omega arith; longer = omega arith }
+  same_facts s = record {
+    holds = Holds-none s;
+    faults = refl;
+    zero_answers = refl;
+    asks = omega arith;
+    longer = omega arith;
+  }
 
   pub turns_facts : (k : ℕ) (s t : Buffered S P) → Turns rules k s t → TurnsFacts k s t
   turns_facts zero s t e = subst (TurnsFacts 0 s) e (same_facts s)
@@ -158,7 +201,8 @@ module _ {S P : Type 0} (rules : ReadRules P) where
       record {
         holds = Holds-joins s m t before.holds (Holds-read m t turn.seen _ (Ok turn.count) asked read);
         faults = ap (λ l. l.reads.faults) read.told ∙ before.faults;
-        zero_answers = zero_kept turn.seen t.block m.log t.log turn.count read turn.some ∙ before.zero_answers;
+        zero_answers =
+            zero_kept turn.seen t.block m.log t.log turn.count read turn.some ∙ before.zero_answers;
         asks = omega (arith, once, before.asks);
         longer = omega (arith, more, before.longer, turn.some, ap length asked.law.bytes);
       }
@@ -179,12 +223,14 @@ module _ {S P : Type 0} (rules : ReadRules P) where
         offer = ap (λ l. l.reads.offer) turn.read.told ∙ turn.read.offered;
       }
 
-  last_of : (k : ℕ) (s m : Buffered S P) → Turns rules k s m → s.log.reads.asks < m.log.reads.asks → LastAsk rules s m
+  last_of : (k : ℕ) (s m : Buffered S P)
+      → Turns rules k s m → s.log.reads.asks < m.log.reads.asks → LastAsk rules s m
   last_of zero s m e some = absurd (omega (arith, ap (λ x. x.log.reads.asks) e))
   last_of (suc k) s m h some = last_of_turns k s m h
 
   -- the reader was not asked since
-  last_kept : (k : ℕ) (s m t : Buffered S P) → Turns rules k s m → t.log ≡ m.log → s.log.reads.asks < t.log.reads.asks → LastAsk rules s t
+  last_kept : (k : ℕ) (s m t : Buffered S P)
+      → Turns rules k s m → t.log ≡ m.log → s.log.reads.asks < t.log.reads.asks → LastAsk rules s t
   last_kept k s m t h same some =
       let asks : t.log.reads.asks ≡ m.log.reads.asks = ap (λ l. l.reads.asks) same in
       let a = last_of k s m h (omega (arith, asks)) in record {
@@ -198,15 +244,16 @@ module _ {S P : Type 0} (rules : ReadRules P) where
       }
 
   -- the facts of a whole filling
-  pub record FilledFacts {A : Type 0} (s : Buffered S P) (answer : Result A Error) (t : Buffered S P) : Type 0 where
+  pub record FilledFacts {A : Type 0} (s : Buffered S P) (answer : Result A Error)
+      (t : Buffered S P) : Type 0 where
     pub holds : Holds s t
     pub caused : ReadErrorCaused rules s answer t
     pub ended : FillEnded rules s answer t
     pub empty : is_ok answer ≡ true → length t.block.bytes ≡ 0 → EmptyFillCaused rules s t
     pub last : s.log.reads.asks < t.log.reads.asks → LastAsk rules s t
 
-  ok_facts : {A : Type 0} (k : ℕ) (s m t : Buffered S P) (a : A) → IsBlock t.block → TurnsFacts k s m → Turns rules k s m → Ends rules m (Ok a) t
-      → FilledFacts s (Ok a) t
+  ok_facts : {A : Type 0} (k : ℕ) (s m t : Buffered S P) (a : A) → IsBlock t.block → TurnsFacts k s m
+      → Turns rules k s m → Ends rules m (Ok a) t → FilledFacts s (Ok a) t
   ok_facts k s m t a whole before turns (inl end) = record {
     holds = Holds-joins s m t before.holds (Holds-asked m t _ end.asked end.told);
     caused = ap (λ l. l.reads.faults) end.told ∙ before.faults;
@@ -246,8 +293,8 @@ module _ {S P : Type 0} (rules : ReadRules P) where
         };
       }
 
-  err_facts : {A : Type 0} (k : ℕ) (s m t : Buffered S P) (e : Error) → TurnsFacts k s m → Turns rules k s m → Ends {A = A} rules m (Err e) t
-      → FilledFacts {A = A} s (Err e) t
+  err_facts : {A : Type 0} (k : ℕ) (s m t : Buffered S P) (e : Error) → TurnsFacts k s m → Turns rules k s m
+      → Ends {A = A} rules m (Err e) t → FilledFacts {A = A} s (Err e) t
   err_facts k s m t e before turns (inl end) = record {
     holds = Holds-joins s m t before.holds (Holds-asked m t _ end.asked end.told);
     caused = inr (record { policy = m.policy; block = m.block; gave = end.asked });
@@ -258,7 +305,8 @@ module _ {S P : Type 0} (rules : ReadRules P) where
   err_facts k s m t e before turns (inr end) =
       let once : t.log.reads.asks ≡ m.log.reads.asks + 1 = ap (λ l. l.reads.asks) end.read.told in record {
         holds = Holds-joins s m t before.holds (Holds-read m t end.seen _ (Err e) end.ordered.asked end.read);
-        caused = inl (ap (λ l. l.reads.faults) end.read.told ∙ ap (λ l. l ++ error_kind e ∷ []) before.faults);
+        caused =
+            inl (ap (λ l. l.reads.faults) end.read.told ∙ ap (λ l. l ++ error_kind e ∷ []) before.faults);
         ended = tt;
         empty = λ no. cc;
         last = λ some. record {
@@ -272,6 +320,9 @@ module _ {S P : Type 0} (rules : ReadRules P) where
         };
       }
 
-  pub filled_facts : {A : Type 0} (s : Buffered S P) (answer : Result A Error) (t : Buffered S P) → IsBlock t.block → Filled rules s answer t → FilledFacts s answer t
-  filled_facts s (Ok a) t whole f = ok_facts f.count s f.last t a whole (turns_facts f.count s f.last f.turns) f.turns f.ends
-  filled_facts s (Err e) t whole f = err_facts f.count s f.last t e (turns_facts f.count s f.last f.turns) f.turns f.ends
+  pub filled_facts : {A : Type 0} (s : Buffered S P) (answer : Result A Error) (t : Buffered S P)
+      → IsBlock t.block → Filled rules s answer t → FilledFacts s answer t
+  filled_facts s (Ok a) t whole f =
+      ok_facts f.count s f.last t a whole (turns_facts f.count s f.last f.turns) f.turns f.ends
+  filled_facts s (Err e) t whole f =
+      err_facts f.count s f.last t e (turns_facts f.count s f.last f.turns) f.turns f.ends

@@ -53,11 +53,12 @@ Consumes_if false true a c bs h k = let odd = h refl in cc
 Consumes_if false false a c bs h k = k
 
 -- in a turn the reader didn't run dry, nor in a read that failed
-pub dry_never : {S P : Type 0} (rules : ReadRules P) (k : ℕ) (s m : Buffered S P) → Turns rules k s m → s.log.reads.zero_answers < m.log.reads.zero_answers → ⊥
+pub dry_never : {S P : Type 0} (rules : ReadRules P) (k : ℕ) (s m : Buffered S P)
+    → Turns rules k s m → s.log.reads.zero_answers < m.log.reads.zero_answers → ⊥
 dry_never rules k s m turns rose = omega (arith, rose, (turns_facts rules k s m turns).zero_answers)
 
-pub err_counts_none : (b b' : Block) (log log' : StreamLog) (e : Error) → ReadsFrom b log (Err e) b' log' → 0 < usable b
-    → log'.reads.zero_answers ≡ log.reads.zero_answers
+pub err_counts_none : (b b' : Block) (log log' : StreamLog) (e : Error)
+    → ReadsFrom b log (Err e) b' log' → 0 < usable b → log'.reads.zero_answers ≡ log.reads.zero_answers
 err_counts_none b b' log log' e read room = ap (λ l. l.reads.zero_answers) (read.read room).told
 
 -- what the buffer gained is what the reader inside lost
@@ -68,7 +69,8 @@ Consumes_ahead None b bs bs' handed got more before after p q e went = tt
 Consumes_ahead (Some x) None bs bs' handed got more before after p q e went = absurd went
 Consumes_ahead (Some x) (Some y) bs bs' handed got more before after p q e went =
     let same : more ≡ got = append_cancel_left before more got (sym q ∙ p) in
-    ap (λ l. bs ++ l) went ∙ sym (append_assoc bs more y) ∙ ap (λ l. l ++ y) (ap (λ l. bs ++ l) same ∙ sym e) ∙ append_assoc handed bs' y
+    ap (λ l. bs ++ l) went ∙ sym (append_assoc bs more y) ∙ ap (λ l. l ++ y) (ap (λ l. bs ++ l) same ∙ sym e)
+    ∙ append_assoc handed bs' y
 
 pub Keeps_of : (a b : Option (List ℕ)) → Consumes a b [] → Keeps a b
 Keeps_of None b p = tt
@@ -76,7 +78,8 @@ Keeps_of (Some x) None p = absurd p
 Keeps_of (Some x) (Some y) p = sym p
 
 -- the front of a buffer that leaves it leaves the known bytes
-pub DropsConsumable_of : (a b : Option (List ℕ)) (bs : List ℕ) (n : ℕ) → Consumes a b (take n bs) → DropsConsumable a b (Some (length bs)) n
+pub DropsConsumable_of : (a b : Option (List ℕ)) (bs : List ℕ) (n : ℕ)
+    → Consumes a b (take n bs) → DropsConsumable a b (Some (length bs)) n
 DropsConsumable_of None b bs n p = tt
 DropsConsumable_of (Some x) None bs n p = absurd p
 DropsConsumable_of (Some x) (Some y) bs n p = λ fits.
@@ -91,7 +94,8 @@ at_end : (o : Option (List ℕ)) (P : Type 0) → (P → IsAtEnd o) → IfSome o
 at_end None P h = tt
 at_end (Some xs) P h = h
 
-pub IfSome_if : (b : Bool) (a : Option (List ℕ)) (P : List ℕ → Type 0) → (b ≡ false → IfSome a P) → IfSome (cond b None a) P
+pub IfSome_if : (b : Bool) (a : Option (List ℕ)) (P : List ℕ → Type 0)
+    → (b ≡ false → IfSome a P) → IfSome (cond b None a) P
 IfSome_if true a P h = tt
 IfSome_if false a P h = h refl
 
@@ -99,18 +103,22 @@ IsAtEnd_if : (b : Bool) (a : Option (List ℕ)) → (b ≡ false → IsAtEnd a) 
 IsAtEnd_if true a h = tt
 IsAtEnd_if false a h = h refl
 
-module _ {S P : Type 0} (remaining : S → Option (List ℕ)) (rules : ReadRules P) (s t : Buffered S P) (handed : List ℕ)
-    (order : ReadsInOrder s handed t) (known : InnerGives remaining s t) where
+module _ {S P : Type 0} (remaining : S → Option (List ℕ)) (rules : ReadRules P) (s t : Buffered S P)
+    (handed : List ℕ) (order : ReadsInOrder s handed t) (known : InnerGives remaining s t) where
   -- what is ahead lost what was handed out
   pub ahead_gives : Consumes (ahead remaining s) (ahead remaining t) handed
-  ahead_gives = Consumes_ahead (remaining s.inner) (remaining t.inner) s.block.bytes t.block.bytes handed order.got known.more
-      s.log.reads.given t.log.reads.given order.given known.given order.equal known.went
+  ahead_gives = Consumes_ahead (remaining s.inner) (remaining t.inner) s.block.bytes t.block.bytes
+      handed order.got known.more s.log.reads.given t.log.reads.given
+      order.given known.given order.equal known.went
 
   pub remaining_gives : rules.claims t.policy ≡ rules.claims s.policy → s.block.capacity ≤ t.block.capacity
       → Consumes (reader_remaining remaining rules s) (reader_remaining remaining rules t) handed
-  remaining_gives claims grown = Consumes_if (may_stop rules s) (may_stop rules t) (ahead remaining s) (ahead remaining t) handed
-      (λ is. subst (λ c. (not (c.steady || wants_some c.minimum) || (t.block.capacity == 0)) ≡ false) (sym claims)
-      (goes_on_if (not ((rules.claims s.policy).steady || wants_some (rules.claims s.policy).minimum)) s.block.capacity t.block.capacity grown is))
+  remaining_gives claims grown =
+      Consumes_if (may_stop rules s) (may_stop rules t) (ahead remaining s) (ahead remaining t) handed
+      (λ is. subst (λ c. (not (c.steady || wants_some c.minimum) || (t.block.capacity == 0)) ≡ false)
+      (sym claims)
+      (goes_on_if (not ((rules.claims s.policy).steady || wants_some (rules.claims s.policy).minimum))
+      s.block.capacity t.block.capacity grown is))
       ahead_gives
 
 pub at_nothing : (a : Option (List ℕ)) (bs : List ℕ) → bs ≡ [] → IsAtEnd a → IsAtEnd (prepend_known bs a)
@@ -120,8 +128,12 @@ at_nothing (Some y) bs none e = ap (λ l. l ++ y) none ∙ e
 module _ {S P : Type 0} (remaining : S → Option (List ℕ)) (rules : ReadRules P) (s : Buffered S P) where
   pub wants_so : may_stop rules s ≡ false → WantsBytes (rules.claims s.policy) × (0 < s.block.capacity)
   wants_so is =
-      let both = or_is_false (not ((rules.claims s.policy).steady || wants_some (rules.claims s.policy).minimum)) (s.block.capacity == 0) is in
-      (wants_if (rules.claims s.policy).steady (rules.claims s.policy).minimum both.0, has_room s.block.capacity both.1)
+      let both =
+      or_is_false (not ((rules.claims s.policy).steady || wants_some (rules.claims s.policy).minimum))
+      (s.block.capacity == 0) is in (
+        wants_if (rules.claims s.policy).steady (rules.claims s.policy).minimum both.0,
+        has_room s.block.capacity both.1,
+      )
 
   -- where nothing is buffered and the reader inside has nothing left, nothing is ahead
   pub remaining_ends : (WantsBytes (rules.claims s.policy) → 0 < s.block.capacity → IsAtEnd (remaining s.inner))
@@ -144,22 +156,26 @@ module _ {S P : Type 0} (remaining : S → Option (List ℕ)) (rules : ReadRules
           (λ _. prepend_known-front (ahead remaining s) (remaining t.inner) shown lent)
 
       -- and where it shows nothing, nothing is ahead
-      pub fill_end : (WantsBytes (rules.claims s.policy) → 0 < s.block.capacity → length t.block.bytes ≡ 0 → IsAtEnd (remaining t.inner))
+      pub fill_end : (WantsBytes (rules.claims s.policy) → 0 < s.block.capacity → length t.block.bytes ≡ 0
+          → IsAtEnd (remaining t.inner))
           → IfSome (reader_remaining remaining rules s) (λ xs. length shown ≡ 0 → xs ≡ [])
       fill_end ended = IfSome_if (may_stop rules s) (ahead remaining s) (λ xs. length shown ≡ 0 → xs ≡ [])
           (λ is. at_end (ahead remaining s) (length shown ≡ 0)
-          (λ none. prepend_known-end (ahead remaining s) (remaining t.inner) shown lent (nil_from_length shown none)
+          (λ none. prepend_known-end (ahead remaining s) (remaining t.inner) shown lent
+          (nil_from_length shown none)
           (ended (wants_so is).0 (wants_so is).1 (ap length (sym same) ∙ none))))
 
-shows_at_most : (answer : Result (Bor (List ℕ)) Error) (bytes : List ℕ) → IfOk answer (λ shown. shown.now ≡ bytes)
-    → IfOk answer (λ shown. length shown.now ≤ length bytes)
+shows_at_most : (answer : Result (Bor (List ℕ)) Error) (bytes : List ℕ)
+    → IfOk answer (λ shown. shown.now ≡ bytes) → IfOk answer (λ shown. length shown.now ≤ length bytes)
 shows_at_most (Ok shown) bytes same = le_of_eq (ap length same)
 shows_at_most (Err e) bytes same = tt
 
 -- std's clause on a fill
-pub fill_keeps : {S P : Type 0} (remaining : S → Option (List ℕ)) (rules : ReadRules P) (s : Buffered S P) (answer : Result (Bor (List ℕ)) Error)
+pub fill_keeps : {S P : Type 0} (remaining : S → Option (List ℕ)) (rules : ReadRules P) (s : Buffered S P)
+    (answer : Result (Bor (List ℕ)) Error)
     (t : Buffered S P) → FillBuf remaining rules s answer t
-    → FillKeeps (reader_remaining remaining rules s) (reader_remaining remaining rules t) (Some (length t.block.bytes)) answer
+    → FillKeeps (reader_remaining remaining rules s) (reader_remaining remaining rules t)
+    (Some (length t.block.bytes)) answer
 fill_keeps remaining rules s answer t f = (
   Keeps_of (reader_remaining remaining rules s) (reader_remaining remaining rules t)
       (remaining_gives remaining rules s t [] f.fills.in_order f.known f.fills.claims f.fills.capacity),

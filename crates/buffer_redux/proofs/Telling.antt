@@ -30,34 +30,55 @@ end_same n shown some = grind arith
 end_noted : (n : ℕ) (shown : List ℕ) → length shown ≡ 0 → with_end n shown ≡ n + 1
 end_noted n shown none = grind arith
 
-consumed_stays : {A : Type 0} (log : StreamLog) (answer : Result A Error) (shown : List ℕ) → (after_fill log answer shown).fills.consumed ≡ log.fills.consumed
+consumed_stays : {A : Type 0} (log : StreamLog) (answer : Result A Error) (shown : List ℕ)
+    → (after_fill log answer shown).fills.consumed ≡ log.fills.consumed
 consumed_stays log (Ok a) shown = refl
 consumed_stays log (Err e) shown = refl
 
-fill_grows : {A : Type 0} (log : StreamLog) (answer : Result A Error) (shown : List ℕ) → FillLogGrows log.fills (after_fill log answer shown).fills
+fill_grows : {A : Type 0} (log : StreamLog) (answer : Result A Error) (shown : List ℕ)
+    → FillLogGrows log.fills (after_fill log answer shown).fills
 fill_grows log (Ok a) shown =
-    record { consumed = GoesOn-none log.fills.consumed; ends = end_rises log.fills.ends shown; faults = GoesOn-none log.fills.faults }
+    record {
+      consumed = GoesOn-none log.fills.consumed;
+      ends = end_rises log.fills.ends shown;
+      faults = GoesOn-none log.fills.faults;
+    }
 fill_grows log (Err e) shown =
-    record { consumed = GoesOn-none log.fills.consumed; ends = le_refl _; faults = record { more = error_kind e ∷ []; equal = refl } }
+    record {
+      consumed = GoesOn-none log.fills.consumed;
+      ends = le_refl _;
+      faults = record { more = error_kind e ∷ []; equal = refl };
+    }
 
 -- a fill that was noted; noting it changed no more than the calls
-module _ {S P : Type 0} (remaining : S → Option (List ℕ)) (rules : ReadRules P) (s m t : Buffered S P) (policy : t.policy ≡ m.policy) (block : t.block ≡ m.block)
-    (inner : t.inner ≡ m.inner) (log : t.log ≡ m.log) where
-  faults_alike : (answer : Result (Unit {0}) Error) → Fills rules s answer m → (rules.claims s.policy).steady ≡ true
-      → FaultsAlike s.calls.fills.faults (after_fill s.calls answer t.block.bytes).fills.faults s.log.reads.faults m.log.reads.faults
+module _ {S P : Type 0} (remaining : S → Option (List ℕ)) (rules : ReadRules P) (s m t : Buffered S P)
+    (policy : t.policy ≡ m.policy) (block : t.block ≡ m.block) (inner : t.inner ≡ m.inner)
+    (log : t.log ≡ m.log) where
+  faults_alike : (answer : Result (Unit {0}) Error)
+      → Fills rules s answer m → (rules.claims s.policy).steady ≡ true
+      → FaultsAlike s.calls.fills.faults (after_fill s.calls answer t.block.bytes).fills.faults
+      s.log.reads.faults m.log.reads.faults
   faults_alike (Ok a) f steady =
-      record { more = []; first = sym (append-nil s.calls.fills.faults); second = f.caused ∙ sym (append-nil s.log.reads.faults) }
+      record {
+        more = [];
+        first = sym (append-nil s.calls.fills.faults);
+        second = f.caused ∙ sym (append-nil s.log.reads.faults);
+      }
   faults_alike (Err e) f steady = record {
     more = error_kind e ∷ [];
     first = refl;
     second = elim f.caused [
       | inl fault ↦ fault
-      | inr gave ↦ absurd (subst (λ b. ReadsSteadily b gave.block (Err e)) (ap (λ x. x.steady) (sym gave.gave.claims ∙ f.claims) ∙ steady) gave.gave.steady)
+      | inr gave ↦
+          absurd (subst (λ b. ReadsSteadily b gave.block (Err e))
+          (ap (λ x. x.steady) (sym gave.gave.claims ∙ f.claims) ∙ steady) gave.gave.steady)
     ];
   }
 
-  ends_bound : (answer : Result (Unit {0}) Error) → Fills rules s answer m → WantsBytes (rules.claims s.policy) → 0 < s.block.capacity
-      → (after_fill s.calls answer t.block.bytes).fills.ends + s.log.reads.zero_answers ≤ s.calls.fills.ends + m.log.reads.zero_answers
+  ends_bound : (answer : Result (Unit {0}) Error)
+      → Fills rules s answer m → WantsBytes (rules.claims s.policy) → 0 < s.block.capacity
+      → (after_fill s.calls answer t.block.bytes).fills.ends + s.log.reads.zero_answers
+      ≤ s.calls.fills.ends + m.log.reads.zero_answers
   ends_bound (Ok a) f wants room = elim (cases_lt 0 (length t.block.bytes)) [
     | inl some ↦ omega (arith, end_same s.calls.fills.ends t.block.bytes some, f.grows.zero_answers)
     | inr few ↦ (
@@ -68,57 +89,84 @@ module _ {S P : Type 0} (remaining : S → Option (List ℕ)) (rules : ReadRules
   ]
   ends_bound (Err e) f wants room = omega (arith, f.grows.zero_answers)
 
-  pub filled_went : (answer : Result (Unit {0}) Error) → Fills rules s answer m → InnerGives remaining s m → t.calls ≡ after_fill s.calls answer t.block.bytes → ReaderWent remaining rules s t
+  pub filled_went : (answer : Result (Unit {0}) Error) → Fills rules s answer m → InnerGives remaining s m
+      → t.calls ≡ after_fill s.calls answer t.block.bytes → ReaderWent remaining rules s t
   filled_went answer f gives noted = record {
     handed = [];
-    consumed = ap (λ l. l.fills.consumed) noted ∙ consumed_stays s.calls answer t.block.bytes ∙ sym (append-nil s.calls.fills.consumed);
+    consumed =
+        ap (λ l. l.fills.consumed) noted ∙ consumed_stays s.calls answer t.block.bytes
+        ∙ sym (append-nil s.calls.fills.consumed);
     in_order = record {
       got = f.in_order.got;
       given = ap (λ l. l.reads.given) log ∙ f.in_order.given;
       equal = ap (λ b. b.bytes) block ∙ f.in_order.equal;
     };
     known = subst (λ l. GivesRemaining (remaining s.inner) s.log.reads (remaining t.inner) l.reads) (sym log)
-        (subst (λ i. GivesRemaining (remaining s.inner) s.log.reads (remaining i) m.log.reads) (sym inner) gives);
+        (subst (λ i. GivesRemaining (remaining s.inner) s.log.reads (remaining i) m.log.reads)
+        (sym inner) gives);
     grows = subst (λ l. ReadLogGrows s.log.reads l.reads) (sym log) f.grows;
-    own_grows = subst (λ l. FillLogGrows s.calls.fills l.fills) (sym noted) (fill_grows s.calls answer t.block.bytes);
+    own_grows =
+        subst (λ l. FillLogGrows s.calls.fills l.fills) (sym noted) (fill_grows s.calls answer t.block.bytes);
     capacity = omega (arith, ap (λ b. b.capacity) block, f.capacity);
     claims = ap rules.claims policy ∙ f.claims;
-    faults = λ steady. subst (λ l. FaultsAlike s.calls.fills.faults l.fills.faults s.log.reads.faults t.log.reads.faults) (sym noted)
-        (subst (λ l. FaultsAlike s.calls.fills.faults (after_fill s.calls answer t.block.bytes).fills.faults s.log.reads.faults l.reads.faults) (sym log)
+    faults = λ steady.
+        subst (λ l. FaultsAlike s.calls.fills.faults l.fills.faults s.log.reads.faults t.log.reads.faults) (sym noted)
+        (subst (λ l. FaultsAlike s.calls.fills.faults (after_fill s.calls answer t.block.bytes).fills.faults
+        s.log.reads.faults l.reads.faults) (sym log)
         (faults_alike answer f steady));
-    ends = λ wants room. omega (arith, ends_bound answer f wants room, ap (λ l. l.fills.ends) noted, ap (λ l. l.reads.zero_answers) log);
+    ends = λ wants room.
+        omega (arith, ends_bound answer f wants room, ap (λ l. l.fills.ends) noted, ap (λ l. l.reads.zero_answers) log);
   }
 
 -- a writer fails no less often as its log goes on, and more often where it failed
 held : (old new : WriteLog) → WriteLogGrows old new → failures old ≤ failures new
-held old new on = omega (arith, on.zero_writes, ap length on.faults.equal, length-append old.faults on.faults.more)
+held old new on =
+    omega (arith, on.zero_writes, ap length on.faults.equal, length-append old.faults on.faults.more)
 
 rose : (old new : WriteLog) → WriteLogGrows old new → WriterFailed old new → failures old + 1 ≤ failures new
 rose old new on (inl fault) = omega (arith, fault, on.zero_writes)
-rose old new on (inr zero) = omega (arith, zero, ap length on.faults.equal, length-append old.faults on.faults.more)
+rose old new on (inr zero) =
+    omega (arith, zero, ap length on.faults.equal, length-append old.faults on.faults.more)
 
 -- under a steady policy a failed write, or one that took nothing of something, is a failure of the inner writer's
-pub write_fails : {S P : Type 0} (s t : Buffered S P) (bs : List ℕ) (answer : Result ℕ Error) → WriteLogGrows s.log.writes t.log.writes
-    → SteadyWrite s (length bs) answer t → 0 < s.block.capacity
-    → failures (after_write s.calls bs answer).writes + failures s.log.writes ≤ failures s.calls.writes + failures t.log.writes
+pub write_fails : {S P : Type 0} (s t : Buffered S P) (bs : List ℕ) (answer : Result ℕ Error)
+    → WriteLogGrows s.log.writes t.log.writes → SteadyWrite s (length bs) answer t → 0 < s.block.capacity
+    → failures (after_write s.calls bs answer).writes + failures s.log.writes
+    ≤ failures s.calls.writes + failures t.log.writes
 write_fails s t bs (Err e) on steadily room =
-    omega (arith, rose s.log.writes t.log.writes on steadily.err, length-append s.calls.writes.faults (error_kind e ∷ []))
+    omega (
+      arith,
+      rose s.log.writes t.log.writes on steadily.err,
+      length-append s.calls.writes.faults (error_kind e ∷ []),
+    )
 write_fails s t bs (Ok n) on steadily room = elim (cases_lt 0 n) [
-  | inl some ↦ omega (arith, zero_of_some n bs s.calls.writes.zero_writes (inl some), held s.log.writes t.log.writes on)
+  | inl some ↦
+      omega (arith, zero_of_some n bs s.calls.writes.zero_writes (inl some), held s.log.writes t.log.writes on)
   | inr none ↦ elim (cases_lt 0 (length bs)) [
     | inl given ↦ (
         let zero : n ≡ 0 = omega (arith, none) in
         let nothing = steadily.empty (ap Ok zero) given room in
-        omega (arith, zero_of_none n bs s.calls.writes.zero_writes zero given, rose s.log.writes t.log.writes on (inr nothing))
+        omega (
+          arith,
+          zero_of_none n bs s.calls.writes.zero_writes zero given,
+          rose s.log.writes t.log.writes on (inr nothing),
         )
-    | inr empty ↦ omega (arith, zero_of_some n bs s.calls.writes.zero_writes (inr (omega (arith, empty))), held s.log.writes t.log.writes on)
+        )
+    | inr empty ↦
+        omega (
+          arith,
+          zero_of_some n bs s.calls.writes.zero_writes (inr (omega (arith, empty))),
+          held s.log.writes t.log.writes on,
+        )
   ]
 ]
 
 -- and so is a failed flush
-pub flush_fails : {S P : Type 0} (s t : Buffered S P) (answer : Result (Unit {0}) Error) → WriteLogGrows s.log.writes t.log.writes
+pub flush_fails : {S P : Type 0} (s t : Buffered S P) (answer : Result (Unit {0}) Error)
+    → WriteLogGrows s.log.writes t.log.writes
     → IfErr answer (λ e. SendErrorCaused s.log.writes t.log.writes (error_kind e))
-    → failures (after_flush s.calls answer).writes + failures s.log.writes ≤ failures s.calls.writes + failures t.log.writes
+    → failures (after_flush s.calls answer).writes + failures s.log.writes
+    ≤ failures s.calls.writes + failures t.log.writes
 flush_fails s t (Ok a) on caused = omega (arith, held s.log.writes t.log.writes on)
 flush_fails s t (Err e) on caused = omega (
   arith,
@@ -128,8 +176,9 @@ flush_fails s t (Err e) on caused = omega (
 
 -- a call of a writer that was noted; noting it changed no more than the calls
 pub call_went : {S P : Type 0} (stretch : S → S → Type 0) (rules : WriteRules P) (s m t : Buffered S P)
-    → t.inner ≡ m.inner → t.policy ≡ m.policy → t.block ≡ m.block → t.log ≡ m.log → stretch s.inner m.inner → WriteLogGrows s.log.writes m.log.writes
-    → WriteLogGrows (writer_log s).writes (writer_log t).writes → s.block.capacity ≤ m.block.capacity → rules.claims m.policy ≡ rules.claims s.policy
+    → t.inner ≡ m.inner → t.policy ≡ m.policy → t.block ≡ m.block → t.log ≡ m.log → stretch s.inner m.inner
+    → WriteLogGrows s.log.writes m.log.writes → WriteLogGrows (writer_log s).writes (writer_log t).writes
+    → s.block.capacity ≤ m.block.capacity → rules.claims m.policy ≡ rules.claims s.policy
     → ((rules.claims s.policy).steady ≡ true → 0 < s.block.capacity
     → failures t.calls.writes + failures s.log.writes ≤ failures s.calls.writes + failures m.log.writes)
     → (TellsFailures rules s.policy → MetInterrupts s.calls.writes t.calls.writes → MetInterrupts s.log.writes m.log.writes)
@@ -151,7 +200,8 @@ same_kind faults a b same = let e = append_cancel_left faults (a ∷ []) (b ∷ 
 no_fault : (faults : List ErrorKind) (kind : ErrorKind) → faults ≡ faults ++ kind ∷ [] → ⊥
 no_fault faults kind odd = omega (arith, ap length odd, length-append faults (kind ∷ []))
 
-one_interrupt : (faults : List ErrorKind) (k : ℕ) (kind : ErrorKind) → faults ++ kind ∷ [] ≡ faults ++ replicate k Interrupted → kind ≡ Interrupted
+one_interrupt : (faults : List ErrorKind) (k : ℕ) (kind : ErrorKind)
+    → faults ++ kind ∷ [] ≡ faults ++ replicate k Interrupted → kind ≡ Interrupted
 one_interrupt faults k kind same =
     let e = append_cancel_left faults (kind ∷ []) (replicate k Interrupted) same in
     let one : k ≡ 1 = omega (arith, ap length e, length-replicate {A = ErrorKind} k Interrupted) in
@@ -159,30 +209,41 @@ one_interrupt faults k kind same =
     cc
 
 -- a call that failed so, and was at most interrupted itself
-err_met : (own own' inner inner' : WriteLog) (kind : ErrorKind) → own'.faults ≡ own.faults ++ kind ∷ [] → SendErrorCaused inner inner' kind → MetInterrupts own own'
-    → MetInterrupts inner inner'
+err_met : (own own' inner inner' : WriteLog) (kind : ErrorKind) → own'.faults ≡ own.faults ++ kind ∷ []
+    → SendErrorCaused inner inner' kind → MetInterrupts own own' → MetInterrupts inner inner'
 err_met own own' inner inner' kind fault caused met =
     let is = one_interrupt own.faults met.times kind (sym fault ∙ met.only.faults) in
     MetInterrupts-err inner inner' (subst (SendErrorCaused inner inner') is caused)
 
-module _ {S P : Type 0} (rules : WriteRules P) (s t : Buffered S P) (bs : List ℕ) (tells : TellsFailures rules s.policy) where
-  pub write_met : (answer : Result ℕ Error) → Writes rules s bs answer t → WriteErrorCaused rules s (length bs) answer t
-      → MetInterrupts s.calls.writes (after_write s.calls bs answer).writes → MetInterrupts s.log.writes t.log.writes
+module _ {S P : Type 0} (rules : WriteRules P) (s t : Buffered S P) (bs : List ℕ)
+    (tells : TellsFailures rules s.policy) where
+  pub write_met : (answer : Result ℕ Error)
+      → Writes rules s bs answer t → WriteErrorCaused rules s (length bs) answer t
+      → MetInterrupts s.calls.writes (after_write s.calls bs answer).writes
+      → MetInterrupts s.log.writes t.log.writes
   write_met (Ok n) wrote caused own = elim (Wrote-met rules s bs n t tells.1 wrote).met [
     | inl only ↦ record { times = _; only = only }
-    | inr nothing ↦ absurd (omega (arith, own.only.zero_writes, zero_of_none n bs s.calls.writes.zero_writes nothing.0 nothing.1))
+    | inr nothing ↦
+        absurd (omega (arith, own.only.zero_writes, zero_of_none n bs s.calls.writes.zero_writes nothing.0 nothing.1))
   ]
-  write_met (Err e) failed caused own = err_met s.calls.writes (after_write s.calls bs (Err e)).writes s.log.writes t.log.writes (error_kind e) refl
+  write_met (Err e) failed caused own = err_met s.calls.writes (after_write s.calls bs (Err e)).writes
+      s.log.writes t.log.writes (error_kind e) refl
       (steady_caused rules s t (length bs) e tells.0 caused) own
 
-  pub write_fault : (answer : Result ℕ Error) (kind : ErrorKind) → WriteErrorCaused rules s (length bs) answer t
-      → (after_write s.calls bs answer).writes.faults ≡ s.calls.writes.faults ++ kind ∷ [] → SendErrorCaused s.log.writes t.log.writes kind
+  pub write_fault : (answer : Result ℕ Error) (kind : ErrorKind)
+      → WriteErrorCaused rules s (length bs) answer t
+      → (after_write s.calls bs answer).writes.faults ≡ s.calls.writes.faults ++ kind ∷ []
+      → SendErrorCaused s.log.writes t.log.writes kind
   write_fault (Ok n) kind caused odd = absurd (no_fault s.calls.writes.faults kind odd)
   write_fault (Err e) kind caused same =
-      subst (SendErrorCaused s.log.writes t.log.writes) (same_kind s.calls.writes.faults (error_kind e) kind same) (steady_caused rules s t (length bs) e tells.0 caused)
+      subst (SendErrorCaused s.log.writes t.log.writes)
+      (same_kind s.calls.writes.faults (error_kind e) kind same)
+      (steady_caused rules s t (length bs) e tells.0 caused)
 
-  pub write_nothing : (answer : Result ℕ Error) → Writes rules s bs answer t → SteadyWrite s (length bs) answer t → 0 < s.block.capacity
-      → (after_write s.calls bs answer).writes.zero_writes ≡ s.calls.writes.zero_writes + 1 → SendErrorCaused s.log.writes t.log.writes WriteZero
+  pub write_nothing : (answer : Result ℕ Error)
+      → Writes rules s bs answer t → SteadyWrite s (length bs) answer t → 0 < s.block.capacity
+      → (after_write s.calls bs answer).writes.zero_writes ≡ s.calls.writes.zero_writes + 1
+      → SendErrorCaused s.log.writes t.log.writes WriteZero
   write_nothing (Err e) failed steadily room odd = absurd (omega (arith, odd))
   write_nothing (Ok n) wrote steadily room zero =
       let met = Wrote-met rules s bs n t tells.1 wrote in
@@ -191,19 +252,27 @@ module _ {S P : Type 0} (rules : WriteRules P) (s t : Buffered S P) (bs : List �
         | inl only ↦ elim (cases_lt 0 n) [
           | inl some ↦ absurd (omega (arith, zero, zero_of_some n bs s.calls.writes.zero_writes (inl some)))
           | inr none ↦ elim (cases_lt 0 (length bs)) [
-            | inl given ↦ absurd (omega (arith, steadily.empty (ap Ok (omega (arith, none))) given room, only.zero_writes))
-            | inr empty ↦ absurd (omega (arith, zero, zero_of_some n bs s.calls.writes.zero_writes (inr (omega (arith, empty)))))
+            | inl given ↦
+                absurd (omega (arith, steadily.empty (ap Ok (omega (arith, none))) given room, only.zero_writes))
+            | inr empty ↦
+                absurd (omega (arith, zero, zero_of_some n bs s.calls.writes.zero_writes (inr (omega (arith, empty)))))
           ]
         ]
       ]
 
 module _ {S P : Type 0} (s t : Buffered S P) where
-  pub flush_met : (answer : Result (Unit {0}) Error) → OnOk answer (IsFlushed s t) → IfErr answer (λ e. SendErrorCaused s.log.writes t.log.writes (error_kind e))
-      → MetInterrupts s.calls.writes (after_flush s.calls answer).writes → MetInterrupts s.log.writes t.log.writes
+  pub flush_met : (answer : Result (Unit {0}) Error) → OnOk answer (IsFlushed s t)
+      → IfErr answer (λ e. SendErrorCaused s.log.writes t.log.writes (error_kind e))
+      → MetInterrupts s.calls.writes (after_flush s.calls answer).writes
+      → MetInterrupts s.log.writes t.log.writes
   flush_met (Ok a) flushed caused own = record { times = flushed.interrupts; only = flushed.only }
-  flush_met (Err e) flushed caused own = err_met s.calls.writes (after_flush s.calls (Err e)).writes s.log.writes t.log.writes (error_kind e) refl caused own
+  flush_met (Err e) flushed caused own = err_met s.calls.writes (after_flush s.calls (Err e)).writes
+      s.log.writes t.log.writes (error_kind e) refl caused own
 
-  pub flush_fault : (answer : Result (Unit {0}) Error) (kind : ErrorKind) → IfErr answer (λ e. SendErrorCaused s.log.writes t.log.writes (error_kind e))
-      → (after_flush s.calls answer).writes.faults ≡ s.calls.writes.faults ++ kind ∷ [] → SendErrorCaused s.log.writes t.log.writes kind
+  pub flush_fault : (answer : Result (Unit {0}) Error) (kind : ErrorKind)
+      → IfErr answer (λ e. SendErrorCaused s.log.writes t.log.writes (error_kind e))
+      → (after_flush s.calls answer).writes.faults ≡ s.calls.writes.faults ++ kind ∷ []
+      → SendErrorCaused s.log.writes t.log.writes kind
   flush_fault (Ok a) kind caused odd = absurd (no_fault s.calls.writes.faults kind odd)
-  flush_fault (Err e) kind caused same = subst (SendErrorCaused s.log.writes t.log.writes) (same_kind s.calls.writes.faults (error_kind e) kind same) caused
+  flush_fault (Err e) kind caused same = subst (SendErrorCaused s.log.writes t.log.writes)
+      (same_kind s.calls.writes.faults (error_kind e) kind same) caused

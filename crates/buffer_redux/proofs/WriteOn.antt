@@ -12,26 +12,48 @@ use Rattle.buffer_redux.proofs.WriterFacts.{writes_keep, wrote_nothing}
 
 -- the first question, and what is left of the write
 module _ {S P : Type 0} (rules : WriteRules P) (s m : Buffered S P) (bs : List ℕ) (amount : FlushAmt)
-    (asked : BeforeWrite rules s.policy s.block (length bs) (Ok amount) m.policy m.block) (whole : IsBlock m.block) (told : m.log ≡ s.log) where
-  prepared : (answer : Result (Unit {0}) Error) (before : Buffered S P) → FlushesAmount (amount.0) m answer before → Prepared rules (length bs) s answer before
-  prepared answer before flush = record { seen = m; amount = amount; asked = asked; whole = whole; told = told; flush = flush }
+    (asked : BeforeWrite rules s.policy s.block (length bs) (Ok amount) m.policy m.block)
+    (whole : IsBlock m.block) (told : m.log ≡ s.log) where
+  prepared : (answer : Result (Unit {0}) Error) (before : Buffered S P)
+      → FlushesAmount (amount.0) m answer before → Prepared rules (length bs) s answer before
+  prepared answer before flush = record {
+    seen = m;
+    amount = amount;
+    asked = asked;
+    whole = whole;
+    told = told;
+    flush = flush;
+  }
 
-  pub writes_on : (answer : Result ℕ Error) (t : Buffered S P) → WritesOn rules (amount.0) m bs answer t → Writes rules s bs answer t
+  pub writes_on : (answer : Result ℕ Error) (t : Buffered S P)
+      → WritesOn rules (amount.0) m bs answer t → Writes rules s bs answer t
   writes_on (Ok n) t w =
-      record { before = w.before; after = w.after; prepared = prepared (Ok tt) w.before w.flush; took_in = w.took_in; finished = w.finished }
+      record {
+        before = w.before;
+        after = w.after;
+        prepared = prepared (Ok tt) w.before w.flush;
+        took_in = w.took_in;
+        finished = w.finished;
+      }
   writes_on (Err e) t (inl unsent) = inr (inl (prepared (Err e) t unsent))
-  writes_on (Err e) t (inr faulted) = inr (inr (record { before = faulted.before; prepared = prepared (Ok tt) faulted.before faulted.flush; took_in = faulted.took_in }))
+  writes_on (Err e) t (inr faulted) = inr (inr (record {
+    before = faulted.before;
+    prepared = prepared (Ok tt) faulted.before faulted.flush;
+    took_in = faulted.took_in;
+  }))
 
 -- where nothing is sent first, and where bytes fit with room to spare
-pub flushes_none : {S P : Type 0} (m : Buffered S P) (amount : ℕ) → amount ≡ 0 → FlushesAmount amount m (Ok tt) m
+pub flushes_none : {S P : Type 0} (m : Buffered S P) (amount : ℕ)
+    → amount ≡ 0 → FlushesAmount amount m (Ok tt) m
 flushes_none m amount none = record {
   policy = refl;
   idle = λ _. record { answered = refl; buffer = refl; told = refl };
   sends = λ some. absurd (omega (arith, none, some));
 }
 
-pub takes_in_roomy : {S P : Type 0} (m t : Buffered S P) (bs : List ℕ) (n : ℕ) → IsBlock m.block → length bs < usable m.block
-    → n ≡ min (usable m.block) (length bs) → Extends (take n bs) m.block t.block → t.policy ≡ m.policy → t.log ≡ m.log → TakesIn bs m (Ok n) t
+pub takes_in_roomy : {S P : Type 0} (m t : Buffered S P) (bs : List ℕ) (n : ℕ)
+    → IsBlock m.block → length bs < usable m.block → n ≡ min (usable m.block) (length bs)
+    → Extends (take n bs) m.block t.block → t.policy ≡ m.policy → t.log ≡ m.log → TakesIn bs m (Ok n) t
 takes_in_roomy m t bs n whole room count added policy told = record {
   past = λ past. absurd (omega (arith, past.1, whole.fits, room));
   inside = λ inside. record {
@@ -48,11 +70,13 @@ takes_in_roomy m t bs n whole room count added policy told = record {
 module _ {S P : Type 0} (rules : WriteRules P) (s : Buffered S P) (bs : List ℕ) where
   pub writes_contents : (answer : Result ℕ Error) (t : Buffered S P) → Writes rules s bs answer t
       → WriteAppends (writer_contents s) (writer_contents t) answer bs
-  writes_contents (Ok n) t w = WritesInOrder-contents s t (take n bs) (writes_keep rules s bs (Ok n) t w).in_order
+  writes_contents (Ok n) t w =
+      WritesInOrder-contents s t (take n bs) (writes_keep rules s bs (Ok n) t w).in_order
   writes_contents (Err e) t w =
-      WritesInOrder-contents s t [] (writes_keep rules s bs (Err e) t w).in_order ∙ append-nil (s.log.writes.received ++ s.block.bytes)
+      WritesInOrder-contents s t [] (writes_keep rules s bs (Err e) t w).in_order
+      ∙ append-nil (s.log.writes.received ++ s.block.bytes)
 
-  pub writes_nothing : (answer : Result ℕ Error) (t : Buffered S P) → Writes rules s bs answer t → answer ≡ Ok 0 → 0 < length bs
-      → EmptyWriteCaused rules s (length bs) t
+  pub writes_nothing : (answer : Result ℕ Error) (t : Buffered S P)
+      → Writes rules s bs answer t → answer ≡ Ok 0 → 0 < length bs → EmptyWriteCaused rules s (length bs) t
   writes_nothing (Ok n) t w is some = wrote_nothing rules s bs n t w (cc) some
   writes_nothing (Err e) t w is some = cc

@@ -31,7 +31,8 @@ pub record FaultsAlike (old new old' new' : List ErrorKind) : Type 0 where
 -- no byte is lost between the inner reader and what was consumed, and of what that is known to have left just what it
 -- gave is gone. Under a steady policy its faults are the inner reader's. Where the policy is steady or claims a minimum,
 -- and there is capacity, it ended only where the inner reader gave nothing
-pub record ReaderWent {S P : Type 0} (remaining : S → Option (List ℕ)) (rules : ReadRules P) (s t : Buffered S P)
+pub record ReaderWent {S P : Type 0} (remaining : S → Option (List ℕ))
+    (rules : ReadRules P) (s t : Buffered S P)
     : Type 0 where
   pub handed : List ℕ
   pub consumed : t.calls.fills.consumed ≡ s.calls.fills.consumed ++ handed
@@ -58,7 +59,8 @@ FaultsAlike-joins a b c a' b' c' p q = record {
 }
 
 -- what interrupted calls are in one list, they are in the other
-pub FaultsAlike-only : (a b a' b' : List ErrorKind) → FaultsAlike a b a' b' → OnlyInterrupts a b → OnlyInterrupts a' b'
+pub FaultsAlike-only : (a b a' b' : List ErrorKind)
+    → FaultsAlike a b a' b' → OnlyInterrupts a b → OnlyInterrupts a' b'
 FaultsAlike-only a b a' b' alike only = record {
   times = only.times;
   faults = alike.second ∙ ap (λ l. a' ++ l)
@@ -90,7 +92,8 @@ module _ {S P : Type 0} (remaining : S → Option (List ℕ)) (rules : ReadRules
     ends = λ wants room. le_refl _;
   }
 
-  pub ReaderWent-joins : (a b c : Buffered S P) → ReaderWent remaining rules a b → ReaderWent remaining rules b c → ReaderWent remaining rules a c
+  pub ReaderWent-joins : (a b c : Buffered S P)
+      → ReaderWent remaining rules a b → ReaderWent remaining rules b c → ReaderWent remaining rules a c
   ReaderWent-joins a b c p q =
       let still : (rules.claims a.policy).steady ≡ true → (rules.claims b.policy).steady ≡ true =
       λ steady. ap (λ x. x.steady) p.claims ∙ steady in
@@ -105,12 +108,17 @@ module _ {S P : Type 0} (remaining : S → Option (List ℕ)) (rules : ReadRules
         capacity = le_trans p.capacity q.capacity;
         claims = q.claims ∙ p.claims;
         faults = λ steady. FaultsAlike-joins a.calls.fills.faults b.calls.fills.faults c.calls.fills.faults
-            a.log.reads.faults b.log.reads.faults c.log.reads.faults (p.faults steady) (q.faults (still steady));
-        ends = λ wants room. omega
-            (arith, p.ends wants room, q.ends (subst WantsBytes (sym p.claims) wants) (omega (arith, room, p.capacity)));
+            a.log.reads.faults b.log.reads.faults c.log.reads.faults
+            (p.faults steady) (q.faults (still steady));
+        ends = λ wants room. omega (
+          arith,
+          p.ends wants room,
+          q.ends (subst WantsBytes (sym p.claims) wants) (omega (arith, room, p.capacity)),
+        );
       }
 
-  pub ReaderWent-grows : (s t : Buffered S P) → ReaderWent remaining rules s t → FillsGoOn (reader_log s) (reader_log t)
+  pub ReaderWent-grows : (s t : Buffered S P)
+      → ReaderWent remaining rules s t → FillsGoOn (reader_log s) (reader_log t)
   ReaderWent-grows s t went = FillsGoOn-of (reader_log s) (reader_log t) (record {
     consumed = went.own_grows.consumed;
     ends = went.own_grows.ends;
