@@ -4,7 +4,8 @@ use Rattle.buffer_redux.proofs.copy.copy_buf.Given as goal
 
 abbrev pub invariant-turns : goal.invariant-turns
 invariant-turns g l = record {
-  copies : CopiesOn l.total (g.B.Tell.log l.initial.b).fills (g.B.Tell.log l.b).fills (g.W.Tell.log l.initial.w).writes (g.W.Tell.log l.w).writes;
+  copies : CopiesOn l.total (g.B.Tell.log l.initial.b).fills (g.B.Tell.log l.b).fills
+      (g.W.Tell.log l.initial.w).writes (g.W.Tell.log l.w).writes;
   reader : g.B.TellBufRead.stretch l.initial.b l.b;
   writer : g.W.TellWrite.stretch l.initial.w l.w;
 }

@@ -3,8 +3,10 @@ use Rattle.buffer_redux.proofs.copy.copy_retried.Given as goal
 
 abbrev pub invariant-loop : goal.invariant-loop
 invariant-loop g l = record {
-  copies : CopiesOn 0 (g.B.Tell.log l.initial.b).fills (g.B.Tell.log l.b).fills (g.W.Tell.log l.initial.w).writes (g.W.Tell.log l.w).writes;
-  faults : FaultsRise l.counter (g.B.Tell.log l.initial.b).fills (g.B.Tell.log l.b).fills (g.W.Tell.log l.initial.w).writes (g.W.Tell.log l.w).writes;
+  copies : CopiesOn 0 (g.B.Tell.log l.initial.b).fills (g.B.Tell.log l.b).fills
+      (g.W.Tell.log l.initial.w).writes (g.W.Tell.log l.w).writes;
+  faults : FaultsRise l.counter (g.B.Tell.log l.initial.b).fills (g.B.Tell.log l.b).fills
+      (g.W.Tell.log l.initial.w).writes (g.W.Tell.log l.w).writes;
   reader : g.B.TellBufRead.stretch l.initial.b l.b;
   writer : g.W.TellWrite.stretch l.initial.w l.w;
 }

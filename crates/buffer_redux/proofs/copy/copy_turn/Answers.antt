@@ -13,18 +13,26 @@ returns-clause-ended g c is =
     let bytes = c.in-Ok.bytes.now in
     let filled = (rw c.in-Ok.is at c.fill_told.follows.holds-at-none).0 in
     let consumed = c.consume_told.ensures.told in
-    let shown = ap (λ l. l.fills.shown) consumed ∙ ap (λ l. drop n l.fills.shown) filled ∙ ap (λ k. drop k bytes) none in
+    let shown =
+    ap (λ l. l.fills.shown) consumed ∙ ap (λ l. drop n l.fills.shown) filled
+    ∙ ap (λ k. drop k bytes) none in
     record {
       reader = record {
         times = 0;
-        faults = ap (λ l. l.fills.faults) consumed ∙ ap (λ l. l.fills.faults) filled ∙ sym (append-nil (g.B.Tell.log c.args.b.now).fills.faults);
+        faults =
+            ap (λ l. l.fills.faults) consumed ∙ ap (λ l. l.fills.faults) filled
+            ∙ sym (append-nil (g.B.Tell.log c.args.b.now).fills.faults);
       };
       last = record {
         before = c.args.w.now;
         went = g.met.W.TellWrite.stretch_none c.args.w.now;
         met = record { times = 0; only = OnlyInterrupted-none (g.W.Tell.log c.args.w.now).writes };
         called = c.in_ok-taken-in-Ok.ensures.call;
-        told = subst (λ l. g.W.Tell.log c.write_told.new.self ≡ after_write (g.W.Tell.log c.args.w.now) l (Ok 0)) (sym shown) (subst (λ k. g.W.Tell.log c.write_told.new.self ≡ after_write (g.W.Tell.log c.args.w.now) bytes (Ok k)) none c.in_ok-taken-in-Ok.ensures.told);
+        told =
+            subst (λ l. g.W.Tell.log c.write_told.new.self ≡ after_write (g.W.Tell.log c.args.w.now) l (Ok 0))
+            (sym shown)
+            (subst (λ k. g.W.Tell.log c.write_told.new.self ≡ after_write (g.W.Tell.log c.args.w.now) bytes (Ok k))
+            none c.in_ok-taken-in-Ok.ensures.told);
       };
       ends = λ empty. omega (
         arith,

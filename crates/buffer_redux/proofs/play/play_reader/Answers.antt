@@ -29,7 +29,8 @@ loop-call-preserved g c =
     let answer = c.step-answer.result in
     let call = get_or c.args.calls.now c.loop-call.call-index (Read 0) in
     let step : ReaderStep rules m call answer t =
-    subst (λ l. ReaderStep rules (with_handed c.loop-call.reader l) call answer t) stays.handed_stays c.step-answer.ensures.step in
+    subst (λ l. ReaderStep rules (with_handed c.loop-call.reader l) call answer t) stays.handed_stays
+    c.step-answer.ensures.step in
     record {
       answers = inv.answers ++ answer ∷ [];
       gained = c.record.ensures ∙ ap (λ l. l ++ answer ∷ []) (stays.answers_stay ∙ inv.gained)
@@ -37,7 +38,8 @@ loop-call-preserved g c =
       count = length-append inv.answers (answer ∷ []) ∙ omega (arith, inv.count);
       run = subst (λ l. ReaderRuns rules s l (inv.answers ++ answer ∷ []) t)
           (sym (take_more c.args.calls.now c.loop-call.call-index (Read 0) c.loop-call-test.true))
-          (ReaderRuns-more rules s (take c.loop-call.call-index c.args.calls.now) inv.answers m call answer t inv.run step);
+          (ReaderRuns-more rules s (take c.loop-call.call-index c.args.calls.now) inv.answers m
+          call answer t inv.run step);
       whole = c.step-answer.ensures.whole;
     }
 

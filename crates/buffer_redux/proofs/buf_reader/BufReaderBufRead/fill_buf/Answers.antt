@@ -15,7 +15,16 @@ returns-in_err-fill g c =
     let p = err_from_is_err_and c.from_residual.result c.from_residual.ensures.1 in
     let f = c.in_err-fill.ensures in
     rw (p.1, p.2) (
-      (refl, (λ _. tt), record { fills = fills rules _ _ _ f.whole (filled_err rules _ _ _ _ _ f.filled); known = f.known; shown = tt; noted = f.noted }),
+      (
+        refl,
+        (λ _. tt),
+        record {
+          fills = fills rules _ _ _ f.whole (filled_err rules _ _ _ _ _ f.filled);
+          known = f.known;
+          shown = tt;
+          noted = f.noted;
+        },
+      ),
       record { front = some_holds known _ tt; end = some_holds known _ tt; after_borrow = tt },
     )
 

@@ -18,36 +18,49 @@ use Rattle.buffer_redux.proofs.buf_reader.BufReaderRead.read.Goals as goal
 use Rattle.buffer_redux.proofs.buf_reader.BufReaderRead.read.Goals.{else-is_empty-via-then-is_empty+else-out-capacity, else-is_empty-via-else-is_empty}
 
 -- what the fill promises, where it failed and where it didn't
-failed : (g : _) (c : goal.After-from_residual g) → Fills {A = ℕ} g.P.ReaderPolicy.rules c.args.self.now (Err c.in_err-fill.field-0.0) c.fill.new.self
+failed : (g : _) (c : goal.After-from_residual g)
+    → Fills {A = ℕ} g.P.ReaderPolicy.rules c.args.self.now (Err c.in_err-fill.field-0.0) c.fill.new.self
 failed g c =
     let f = c.in_err-fill.ensures in
     fills g.P.ReaderPolicy.rules _ _ _ f.whole (filled_err g.P.ReaderPolicy.rules _ _ _ _ _ f.filled)
 
-filled : (g : _) (c : goal.After-slice_known-2-1 g) → Fills g.P.ReaderPolicy.rules c.args.self.now (Ok c.hand_out.result) c.fill.new.self
+filled : (g : _) (c : goal.After-slice_known-2-1 g)
+    → Fills g.P.ReaderPolicy.rules c.args.self.now (Ok c.hand_out.result) c.fill.new.self
 filled g c =
     let f = c.in_ok-fill.ensures in
-    fills g.P.ReaderPolicy.rules _ _ _ f.whole (filled_ok g.P.ReaderPolicy.rules _ _ c.hand_out.result _ f.filled)
+    fills g.P.ReaderPolicy.rules _ _ _ f.whole
+    (filled_ok g.P.ReaderPolicy.rules _ _ c.hand_out.result _ f.filled)
 
 -- where nothing is handed out, the fill showed nothing, and there was capacity
-nothing : (g : _) (c : goal.After-slice_known-2-1 g) → c.hand_out.result ≡ 0 → 0 < length c.args.out.now → length c.fill.new.self.block.bytes ≡ 0
+nothing : (g : _) (c : goal.After-slice_known-2-1 g)
+    → c.hand_out.result ≡ 0 → 0 < length c.args.out.now → length c.fill.new.self.block.bytes ≡ 0
 nothing g c none some =
     omega (arith, c.hand_out.ensures.count, none, some)
 
-roomy : (g : _) (c : goal.After-slice_known-2-1 g) → length c.fill.new.self.block.bytes ≡ 0 → 0 < c.args.self.now.block.capacity
+roomy : (g : _) (c : goal.After-slice_known-2-1 g)
+    → length c.fill.new.self.block.bytes ≡ 0 → 0 < c.args.self.now.block.capacity
 roomy g c none =
     let s = c.args.self.now in
     let inside : StaysInside s.block (length c.args.out.now) = elim c.else-is_empty.branch [
-      | else-is_empty-via-then-is_empty+else-out-capacity w ↦ inr (omega (arith, w.if-out-capacity.false, w.capacity.ensures.value, ap (λ x. x.block.capacity) c.self.view_is))
+      | else-is_empty-via-then-is_empty+else-out-capacity w ↦
+          inr (omega (arith, w.if-out-capacity.false, w.capacity.ensures.value, ap (λ x. x.block.capacity) c.self.view_is))
       | else-is_empty-via-else-is_empty w ↦ elim (cases_lt 0 (length s.block.bytes)) [
         | inl some ↦ inl some
-        | inr few ↦ (let yes = c.is_empty.ensures.value.1 (omega (arith, few, ap (λ x. length x.block.bytes) c.self.view_is)) in let no = w.if-is_empty.false in cc)
+        | inr few ↦
+            (let yes = c.is_empty.ensures.value.1 (omega (arith, few, ap (λ x. length x.block.bytes) c.self.view_is)) in
+            let no = w.if-is_empty.false in cc)
       ]
     ] in
     inside_room s c.fill.new.self (length c.args.out.now) inside (filled g c).in_order none
 
 pub returns-then-out-capacity-clause-in_order : goal.returns-then-out-capacity-clause-in_order
 returns-then-out-capacity-clause-in_order g c =
-    rw (← c.self.view_is) (ReadsInOrder-direct _ _ _ _ (record { policy = refl; block = refl; bound = search rules; told = c.read_told.ensures.told })
+    rw (← c.self.view_is) (ReadsInOrder-direct _ _ _ _ (record {
+      policy = refl;
+      block = refl;
+      bound = search rules;
+      told = c.read_told.ensures.told;
+    })
     (c.is_empty.ensures.value.0 c.if-is_empty.true))
 
 pub returns-in_err-fill-clause-in_order : goal.returns-in_err-fill-clause-in_order
@@ -97,7 +110,8 @@ returns-clause-empty g c is some =
     let f = filled g c in
     let none = nothing g c (cc) some in
     let room = roomy g c none in
-    empty_read g.P.ReaderPolicy.rules c.args.self.now c.fill.new.self c.hand_out.new.self (f.empty refl none) (omega (arith, room, f.capacity)) (ap (λ l. l.reads.zero_answers) c.hand_out.ensures.consumed.told)
+    empty_read g.P.ReaderPolicy.rules c.args.self.now c.fill.new.self c.hand_out.new.self (f.empty refl none)
+    (omega (arith, room, f.capacity)) (ap (λ l. l.reads.zero_answers) c.hand_out.ensures.consumed.told)
 
 pub returns-clause-ran_dry : goal.returns-clause-ran_dry
 returns-clause-ran_dry g c is some wants =
@@ -155,11 +169,21 @@ returns-clause-bytes g c =
     let e = c.hand_out.ensures in
     let claims : rules.claims t.policy ≡ rules.claims s.policy = e.consumed.told_policy.claims ∙ f.claims in
     let known : InnerGives remaining s t = returns-clause-known g c in (
-      remaining_gives remaining rules s t (take c.hand_out.result c.hand_out.new.out) (returns-clause-in_order g c) known claims (le_trans f.capacity e.capacity),
+      remaining_gives remaining rules s t (take c.hand_out.result c.hand_out.new.out)
+          (returns-clause-in_order g c) known claims (le_trans f.capacity e.capacity),
       λ none some.
           let empty = nothing g c none (omega (arith, some, c.hand_out.auto.out)) in
           remaining_ends remaining rules t
           (λ wants room. subst (λ i. IsAtEnd (remaining i)) (sym e.inner)
-          (c.in_ok-fill.ensures.end (Fills-empty rules s c.hand_out.result m f (subst WantsBytes claims wants) (roomy g c empty) empty)))
-          (nil_from_length t.block.bytes (omega (arith, ap length e.consumed.told_policy.law.bytes, ap length e.consumed.dropped.bytes, length-drop (min c.hand_out.result (length m.block.bytes)) m.block.bytes, empty))),
+          (c.in_ok-fill.ensures.end
+          (Fills-empty rules s c.hand_out.result m f
+          (subst WantsBytes claims wants) (roomy g c empty) empty)))
+          (nil_from_length t.block.bytes
+          (omega (
+            arith,
+            ap length e.consumed.told_policy.law.bytes,
+            ap length e.consumed.dropped.bytes,
+            length-drop (min c.hand_out.result (length m.block.bytes)) m.block.bytes,
+            empty,
+          ))),
     )

@@ -8,13 +8,24 @@ returns g c =
     let tells = g.W.Tell.log in
     let parts = c.into_inner_with_buffer-inner.ensures in
     let sent : Buffered g.row.W.Denot g.row.P.Denot =
-    record { policy = c.args.self.policy; block = c.write_all.new.self; inner = c.write_all.new.wrt; log = tells c.write_all.new.wrt; calls = c.args.self.calls } in
+    record {
+      policy = c.args.self.policy;
+      block = c.write_all.new.self;
+      inner = c.write_all.new.wrt;
+      log = tells c.write_all.new.wrt;
+      calls = c.args.self.calls;
+    } in
     elim c.match-write_all.branch [
       | in-Err w ↦ rw (w.inner-is, w.unsent-is) (record {
         sending = Err w.in-Err.e;
         sent = sent;
         sends = rw (← parts.block, ← parts.log) w.in-Err.ensures.sent;
-        went = record { calls = rw (← parts.inner) w.in-Err.ensures.stretch; told_before = rw (← parts.inner) (sym parts.log); told_after = refl; noted = refl };
+        went = record {
+          calls = rw (← parts.inner) w.in-Err.ensures.stretch;
+          told_before = rw (← parts.inner) (sym parts.log);
+          told_after = refl;
+          noted = refl;
+        };
         ended = record {
           lent_inner = _;
           lent_buffer = _;
@@ -31,7 +42,12 @@ returns g c =
         sending = Ok tt;
         sent = sent;
         sends = rw (← parts.block, ← parts.log) w.in_default.ensures.sent;
-        went = record { calls = rw (← parts.inner) w.in_default.ensures.stretch; told_before = rw (← parts.inner) (sym parts.log); told_after = refl; noted = refl };
+        went = record {
+          calls = rw (← parts.inner) w.in_default.ensures.stretch;
+          told_before = rw (← parts.inner) (sym parts.log);
+          told_after = refl;
+          noted = refl;
+        };
         ended = (refl, refl);
       })
     ]

@@ -6,15 +6,23 @@ use Rattle.buffer_redux.proofs.WriterFacts.{WritesInOrder-sends, sends_grow}
 use Rattle.buffer_redux.proofs.buf_writer.BufWriterWrite.flush.Goals as goal
 
 pub returns-in_err-write_all-clause-in_order : goal.returns-in_err-write_all-clause-in_order
-returns-in_err-write_all-clause-in_order g c = rw (← c.self.view_is) (WritesInOrder-sends _ _ _ _ c.in_err-write_all.ensures.sent)
+returns-in_err-write_all-clause-in_order g c =
+    rw (← c.self.view_is) (WritesInOrder-sends _ _ _ _ c.in_err-write_all.ensures.sent)
 
 pub returns-in_err-write_all-clause-grows : goal.returns-in_err-write_all-clause-grows
-returns-in_err-write_all-clause-grows g c = rw (← c.self.view_is) (sends_grow _ _ _ _ _ _ c.in_err-write_all.ensures.sent)
+returns-in_err-write_all-clause-grows g c =
+    rw (← c.self.view_is) (sends_grow _ _ _ _ _ _ c.in_err-write_all.ensures.sent)
 
 pub returns-in_err-write_all-clause-steps : goal.returns-in_err-write_all-clause-steps
 returns-in_err-write_all-clause-steps g c =
     let p = err_from_is_err_and c.from_residual.result c.from_residual.ensures.1 in
-    rw (p.1, p.2, ← c.self.view_is) (record { policy = refl; sent_log = _; sending = _; sends = c.in_err-write_all.ensures.sent; ended = (refl, refl) })
+    rw (p.1, p.2, ← c.self.view_is) (record {
+      policy = refl;
+      sent_log = _;
+      sending = _;
+      sends = c.in_err-write_all.ensures.sent;
+      ended = (refl, refl);
+    })
 
 pub returns-clause-in_order : goal.returns-clause-in_order
 returns-clause-in_order g c =
@@ -23,7 +31,9 @@ returns-clause-in_order g c =
     rw (← c.self.view_is) (record {
       sent = take f.count bytes;
       received = ap (λ l. l.writes.received) c.flush_told.ensures.told ∙ f.sent.received;
-      equal = ap (λ l. take f.count bytes ++ l) f.sent.dropped.bytes ∙ take-append-drop f.count bytes ∙ sym (append-nil bytes);
+      equal =
+          ap (λ l. take f.count bytes ++ l) f.sent.dropped.bytes ∙ take-append-drop f.count bytes
+          ∙ sym (append-nil bytes);
     })
 
 pub returns-clause-grows : goal.returns-clause-grows
@@ -34,4 +44,10 @@ returns-clause-grows g c =
 
 pub returns-clause-steps : goal.returns-clause-steps
 returns-clause-steps g c =
-    rw (← c.self.view_is) (record { policy = refl; sent_log = _; sending = _; sends = c.in_ok-write_all.ensures.sent; ended = c.flush_told.ensures.told })
+    rw (← c.self.view_is) (record {
+      policy = refl;
+      sent_log = _;
+      sending = _;
+      sends = c.in_ok-write_all.ensures.sent;
+      ended = c.flush_told.ensures.told;
+    })

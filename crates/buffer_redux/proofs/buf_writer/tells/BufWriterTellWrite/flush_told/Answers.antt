@@ -17,12 +17,19 @@ returns-clause-stretch g c =
     let answer = c.flush-answer.result in
     let flush = c.flush-answer.ensures in
     let noted : c.note.new.self.log ≡ after_flush s.calls answer = search rules in
-    call_went g.W.TellWrite.stretch table s m _ (ap (λ x. x.inner) c.self.view_is) (ap (λ x. x.policy) c.self.view_is) (ap (λ x. x.block) c.self.view_is)
+    call_went g.W.TellWrite.stretch table s m _ (ap (λ x. x.inner) c.self.view_is)
+    (ap (λ x. x.policy) c.self.view_is) (ap (λ x. x.block) c.self.view_is)
     (ap (λ x. x.log) c.self.view_is) flush.stretch.calls flush.grows
-    (subst (λ l. WriteLogGrows (writer_log s).writes l.writes) (sym (returns-clause-told g c)) (WriteLogGrows-flush (writer_log s) answer)) (omega (arith, flush.capacity))
+    (subst (λ l. WriteLogGrows (writer_log s).writes l.writes) (sym (returns-clause-told g c))
+    (WriteLogGrows-flush (writer_log s) answer))
+    (omega (arith, flush.capacity))
     (ap table.claims flush.steps.policy)
-    (λ steady room. subst (λ l. failures l.writes + failures s.log.writes ≤ failures s.calls.writes + failures m.log.writes) (sym noted) (flush_fails s m answer flush.grows flush.caused))
-    (λ tells. subst (λ l. MetInterrupts s.calls.writes l.writes → MetInterrupts s.log.writes m.log.writes) (sym noted) (flush_met s m answer flush.ok flush.caused))
+    (λ steady room.
+    subst (λ l. failures l.writes + failures s.log.writes ≤ failures s.calls.writes + failures m.log.writes)
+    (sym noted) (flush_fails s m answer flush.grows flush.caused))
+    (λ tells.
+    subst (λ l. MetInterrupts s.calls.writes l.writes → MetInterrupts s.log.writes m.log.writes)
+    (sym noted) (flush_met s m answer flush.ok flush.caused))
 
 pub returns-clause-call : goal.returns-clause-call
 returns-clause-call g c =
@@ -32,7 +39,8 @@ returns-clause-call g c =
     let flush = c.flush-answer.ensures in
     let noted : c.note.new.self.log ≡ after_flush s.calls answer = search rules in
     record {
-      fault = λ tells kind is. subst (λ l. SendErrorCaused s.log.writes l kind) (sym (ap (λ x. x.log.writes) c.self.view_is))
+      fault = λ tells kind is.
+          subst (λ l. SendErrorCaused s.log.writes l kind) (sym (ap (λ x. x.log.writes) c.self.view_is))
           (flush_fault s m answer kind flush.caused (sym (ap (λ l. l.writes.faults) noted) ∙ is));
       nothing = λ tells room is. absurd (omega (arith, is, ap (λ l. l.writes.zero_writes) noted));
     }

@@ -18,11 +18,17 @@ returns-clause-stretch g c =
     let answer = c.write-answer.result in
     let wrote = c.write-answer.ensures in
     let noted : c.note.new.self.log ≡ after_write s.calls bs answer = search rules in
-    call_went g.W.TellWrite.stretch g.P.WriterPolicy.rules s m _ (ap (λ x. x.inner) c.self.view_is) (ap (λ x. x.policy) c.self.view_is) (ap (λ x. x.block) c.self.view_is)
+    call_went g.W.TellWrite.stretch g.P.WriterPolicy.rules s m _ (ap (λ x. x.inner) c.self.view_is)
+    (ap (λ x. x.policy) c.self.view_is) (ap (λ x. x.block) c.self.view_is)
     (ap (λ x. x.log) c.self.view_is) wrote.stretch.calls wrote.grows
-    (subst (λ l. WriteLogGrows (writer_log s).writes l.writes) (sym (returns-clause-told g c)) (WriteLogGrows-write (writer_log s) bs answer)) wrote.capacity wrote.claims
-    (λ steady room. subst (λ l. failures l.writes + failures s.log.writes ≤ failures s.calls.writes + failures m.log.writes) (sym noted) (write_fails s m bs answer wrote.grows (wrote.steadily steady) room))
-    (λ tells. subst (λ l. MetInterrupts s.calls.writes l.writes → MetInterrupts s.log.writes m.log.writes) (sym noted) (write_met g.P.WriterPolicy.rules s m bs tells answer wrote.steps wrote.caused))
+    (subst (λ l. WriteLogGrows (writer_log s).writes l.writes) (sym (returns-clause-told g c))
+    (WriteLogGrows-write (writer_log s) bs answer)) wrote.capacity wrote.claims
+    (λ steady room.
+    subst (λ l. failures l.writes + failures s.log.writes ≤ failures s.calls.writes + failures m.log.writes)
+    (sym noted) (write_fails s m bs answer wrote.grows (wrote.steadily steady) room))
+    (λ tells.
+    subst (λ l. MetInterrupts s.calls.writes l.writes → MetInterrupts s.log.writes m.log.writes)
+    (sym noted) (write_met g.P.WriterPolicy.rules s m bs tells answer wrote.steps wrote.caused))
 
 pub returns-clause-call : goal.returns-clause-call
 returns-clause-call g c =
@@ -35,7 +41,11 @@ returns-clause-call g c =
     let noted : c.note.new.self.log ≡ after_write s.calls bs answer = search rules in
     let same = ap (λ x. x.log.writes) c.self.view_is in
     record {
-      fault = λ tells kind is. subst (λ l. SendErrorCaused s.log.writes l kind) (sym same) (write_fault table s m bs tells answer kind wrote.caused (sym (ap (λ l. l.writes.faults) noted) ∙ is));
+      fault = λ tells kind is.
+          subst (λ l. SendErrorCaused s.log.writes l kind) (sym same)
+          (write_fault table s m bs tells answer kind wrote.caused
+          (sym (ap (λ l. l.writes.faults) noted) ∙ is));
       nothing = λ tells room is. subst (λ l. SendErrorCaused s.log.writes l WriteZero) (sym same)
-          (write_nothing table s m bs tells answer wrote.steps (wrote.steadily tells.0) room (sym (ap (λ l. l.writes.zero_writes) noted) ∙ is));
+          (write_nothing table s m bs tells answer wrote.steps (wrote.steadily tells.0) room
+          (sym (ap (λ l. l.writes.zero_writes) noted) ∙ is));
     }
