@@ -31,9 +31,11 @@ tells_all : {Q : Type 0} (q : Q) → TellsFailures std_write_rules q
 tells_all q = (refl, λ p b a p' allowed. allowed.1)
 
 -- what was handed on between buffers that were empty at first
-module _ {R P W Q : Type 0} (s t : Buffered R P) (u v : Buffered W Q) (none : s.block.bytes ≡ []) (none' : u.block.bytes ≡ []) (bytes : List ℕ) (handed : ReadsInOrder s bytes t) where
+module _ {R P W Q : Type 0} (s t : Buffered R P) (u v : Buffered W Q) (none : s.block.bytes ≡ [])
+    (none' : u.block.bytes ≡ []) (bytes : List ℕ) (handed : ReadsInOrder s bytes t) where
   given : t.log.reads.given ≡ s.log.reads.given ++ (bytes ++ t.block.bytes)
-  given = handed.given ∙ ap (λ l. s.log.reads.given ++ l) (sym (handed.equal ∙ ap (λ l. l ++ handed.got) none))
+  given =
+      handed.given ∙ ap (λ l. s.log.reads.given ++ l) (sym (handed.equal ∙ ap (λ l. l ++ handed.got) none))
 
   module _ (passed : WritesInOrder u bytes v) where
     sent : passed.sent ++ v.block.bytes ≡ bytes
@@ -50,50 +52,72 @@ module _ {R P W Q : Type 0} (s t : Buffered R P) (u v : Buffered W Q) (none : s.
       taken = passed.received;
     }
 
-    whole : t.block.bytes ≡ [] → v.block.bytes ≡ [] → (t.log.reads.given ≡ s.log.reads.given ++ bytes) × (v.log.writes.received ≡ u.log.writes.received ++ bytes)
+    whole : t.block.bytes ≡ [] → v.block.bytes ≡ []
+        → (t.log.reads.given ≡ s.log.reads.given ++ bytes) × (v.log.writes.received ≡ u.log.writes.received ++ bytes)
     whole left left' = (
-      given ∙ ap (λ l. s.log.reads.given ++ (bytes ++ l)) left ∙ ap (λ l. s.log.reads.given ++ l) (append-nil bytes),
-      passed.received ∙ ap (λ l. u.log.writes.received ++ l) (sym (append-nil passed.sent) ∙ ap (λ l. passed.sent ++ l) (sym left') ∙ sent),
+      given ∙ ap (λ l. s.log.reads.given ++ (bytes ++ l)) left
+          ∙ ap (λ l. s.log.reads.given ++ l) (append-nil bytes),
+      passed.received ∙ ap (λ l. u.log.writes.received ++ l)
+          (sym (append-nil passed.sent) ∙ ap (λ l. passed.sent ++ l) (sym left') ∙ sent),
     )
 
 -- what a writer told of interrupted calls
-own_met : {W Q : Type 0} (u v : Buffered W Q) → MetInterrupts (writer_log u).writes (writer_log v).writes → MetInterrupts u.calls.writes v.calls.writes
-own_met u v met = record { times = met.times; only = record { faults = met.only.faults; zero_writes = met.only.zero_writes } }
+own_met : {W Q : Type 0} (u v : Buffered W Q)
+    → MetInterrupts (writer_log u).writes (writer_log v).writes → MetInterrupts u.calls.writes v.calls.writes
+own_met u v met = record {
+  times = met.times;
+  only = record { faults = met.only.faults; zero_writes = met.only.zero_writes };
+}
 
 -- what the writer inside met where the last write of a copy had this answer
 module _ {W Q : Type 0} (stretch : W → W → Type 0) (u v : Buffered W Q) (bytes : List ℕ) where
-  err_caused : (e : Error) → LastWrite writer_log (WriterWent stretch std_write_rules) (WriterCalled std_write_rules) u bytes (Err e) v
+  err_caused : (e : Error)
+      → LastWrite writer_log (WriterWent stretch std_write_rules) (WriterCalled std_write_rules) u bytes (Err e) v
       → SendErrorCaused u.log.writes v.log.writes (error_kind e)
   err_caused e last =
       let m = last.before in
-      SendErrorCaused-after u.log.writes m.log.writes v.log.writes (error_kind e) (last.went.met (tells_all u.policy) (own_met u m last.met))
+      SendErrorCaused-after u.log.writes m.log.writes v.log.writes (error_kind e)
+      (last.went.met (tells_all u.policy) (own_met u m last.met))
       (last.called.fault (tells_all m.policy) (error_kind e) (ap (λ l. l.writes.faults) last.told))
 
-  module _ (last : LastWrite writer_log (WriterWent stretch std_write_rules) (WriterCalled std_write_rules) u bytes (Ok 0) v) where
-    stuck_caused : 0 < length bytes → 0 < u.block.capacity → SendErrorCaused u.log.writes v.log.writes WriteZero
+  module _ (last : LastWrite writer_log (WriterWent stretch std_write_rules)
+      (WriterCalled std_write_rules) u bytes (Ok 0) v) where
+    stuck_caused : 0 < length bytes → 0 < u.block.capacity
+        → SendErrorCaused u.log.writes v.log.writes WriteZero
     stuck_caused some room =
         let m = last.before in
-        SendErrorCaused-after u.log.writes m.log.writes v.log.writes WriteZero (last.went.met (tells_all u.policy) (own_met u m last.met))
+        SendErrorCaused-after u.log.writes m.log.writes v.log.writes WriteZero
+        (last.went.met (tells_all u.policy) (own_met u m last.met))
         (last.called.nothing (tells_all m.policy) (omega (arith, room, last.went.capacity))
-        (ap (λ l. l.writes.zero_writes) last.told ∙ zero_of_none 0 bytes m.calls.writes.zero_writes refl some))
+        (ap (λ l. l.writes.zero_writes) last.told
+        ∙ zero_of_none 0 bytes m.calls.writes.zero_writes refl some))
 
-    out_met : length bytes ≡ 0 → WriterWent stretch std_write_rules u v → MetInterrupts u.log.writes v.log.writes
+    out_met : length bytes ≡ 0 → WriterWent stretch std_write_rules u v
+        → MetInterrupts u.log.writes v.log.writes
     out_met none went =
         let m = last.before in
         went.met (tells_all u.policy) (record {
           times = last.met.times;
           only = record {
             faults = ap (λ l. l.writes.faults) last.told ∙ last.met.only.faults;
-            zero_writes = ap (λ l. l.writes.zero_writes) last.told ∙ zero_of_some 0 bytes m.calls.writes.zero_writes (inr none) ∙ last.met.only.zero_writes;
+            zero_writes =
+                ap (λ l. l.writes.zero_writes) last.told
+                ∙ zero_of_some 0 bytes m.calls.writes.zero_writes (inr none) ∙ last.met.only.zero_writes;
           };
         })
 
 -- a copy between buffers that were empty at first
-module _ {R P W Q : Type 0} (remaining : R → Option (List ℕ)) (stretch : W → W → Type 0) (s t : Buffered R P) (u v : Buffered W Q) (went : ReaderWent remaining std_read_rules s t) (went' : WriterWent stretch std_write_rules u v)
-    (none : s.block.bytes ≡ []) (none' : u.block.bytes ≡ []) where
-  module _ (n : ℕ) (moved : MovedBy n (reader_log s).fills (reader_log t).fills (writer_log u).writes (writer_log v).writes) where
+module _ {R P W Q : Type 0} (remaining : R → Option (List ℕ)) (stretch : W → W → Type 0) (s t : Buffered R P)
+    (u v : Buffered W Q) (went : ReaderWent remaining std_read_rules s t)
+    (went' : WriterWent stretch std_write_rules u v) (none : s.block.bytes ≡ [])
+    (none' : u.block.bytes ≡ []) where
+  module _ (n : ℕ)
+      (moved : MovedBy n (reader_log s).fills (reader_log t).fills
+      (writer_log u).writes (writer_log v).writes) where
     handed : ReadsInOrder s moved.bytes t
-    handed = subst (λ l. ReadsInOrder s l t) (append_cancel_left s.calls.fills.consumed went.handed moved.bytes (sym went.consumed ∙ moved.consumed)) went.in_order
+    handed = subst (λ l. ReadsInOrder s l t)
+        (append_cancel_left s.calls.fills.consumed went.handed moved.bytes
+        (sym went.consumed ∙ moved.consumed)) went.in_order
 
     passed : WritesInOrder u moved.bytes v
     passed =
@@ -101,8 +125,10 @@ module _ {R P W Q : Type 0} (remaining : R → Option (List ℕ)) (stretch : W �
         record {
           sent = more;
           received = went'.grows.received.equal;
-          equal = append_cancel_left u.log.writes.received (more ++ v.block.bytes) (u.block.bytes ++ moved.bytes)
-              (sym (append_assoc u.log.writes.received more v.block.bytes) ∙ sym (ap (λ l. l ++ v.block.bytes) went'.grows.received.equal)
+          equal =
+              append_cancel_left u.log.writes.received (more ++ v.block.bytes) (u.block.bytes ++ moved.bytes)
+              (sym (append_assoc u.log.writes.received more v.block.bytes)
+              ∙ sym (ap (λ l. l ++ v.block.bytes) went'.grows.received.equal)
               ∙ moved.received ∙ append_assoc u.log.writes.received u.block.bytes moved.bytes);
         }
 
@@ -110,7 +136,8 @@ module _ {R P W Q : Type 0} (remaining : R → Option (List ℕ)) (stretch : W �
     copy_begins = beginning s t u v none none' moved.bytes handed passed
 
     pub flush_begins : (v' : Buffered W Q) → WritesInOrder v [] v' → IsBeginning s.log t.log u.log v'.log
-    flush_begins v' flush = beginning s t u v' none none' moved.bytes handed (WritesInOrder-then u v v' moved.bytes passed flush)
+    flush_begins v' flush =
+        beginning s t u v' none none' moved.bytes handed (WritesInOrder-then u v v' moved.bytes passed flush)
 
     over : 2 ^ 64 ≤ n → 2 ^ 64 ≤ length t.log.reads.given - length s.log.reads.given
     over large = omega (
@@ -122,37 +149,54 @@ module _ {R P W Q : Type 0} (remaining : R → Option (List ℕ)) (stretch : W �
       length-append moved.bytes t.block.bytes,
     )
 
-  only : OnlyInterrupts s.calls.fills.faults t.calls.fills.faults → OnlyInterrupts s.log.reads.faults t.log.reads.faults
-  only = FaultsAlike-only s.calls.fills.faults t.calls.fills.faults s.log.reads.faults t.log.reads.faults (went.faults refl)
+  only : OnlyInterrupts s.calls.fills.faults t.calls.fills.faults
+      → OnlyInterrupts s.log.reads.faults t.log.reads.faults
+  only = FaultsAlike-only s.calls.fills.faults t.calls.fills.faults
+      s.log.reads.faults t.log.reads.faults (went.faults refl)
 
-  pub copy_caused : (e : Error) → CopyFailed writer_log (WriterWent stretch std_write_rules) (WriterCalled std_write_rules) e (reader_log s).fills (reader_log t).fills u v
+  pub copy_caused : (e : Error)
+      → CopyFailed writer_log (WriterWent stretch std_write_rules) (WriterCalled std_write_rules) e
+      (reader_log s).fills (reader_log t).fills u v
       → EitherFailed (error_kind e) s.log t.log u.log v.log ⊎ OverTotal (error_kind e) s.log t.log
   copy_caused e (inl (inl source)) = inl (inl (record {
-    fault = FaultsAlike-fault s.calls.fills.faults t.calls.fills.faults s.log.reads.faults t.log.reads.faults (error_kind e) (went.faults refl) source.fault;
+    fault = FaultsAlike-fault s.calls.fills.faults t.calls.fills.faults s.log.reads.faults t.log.reads.faults
+        (error_kind e) (went.faults refl) source.fault;
     writer = went'.met (tells_all u.policy) (own_met u v source.writer);
   }))
-  copy_caused e (inl (inr target)) = inl (inr (record { reader = only target.reader; caused = err_caused stretch u v t.block.bytes e target.last }))
+  copy_caused e (inl (inr target)) = inl (inr (record {
+    reader = only target.reader;
+    caused = err_caused stretch u v t.block.bytes e target.last;
+  }))
   copy_caused e (inr much) = inr (much.other, over much.count much.copies.moved much.large)
 
-  module _ (ended : CopyEnded writer_log (WriterWent stretch std_write_rules) (WriterCalled std_write_rules) (reader_log s).fills (reader_log t).fills u v) where
+  module _ (ended : CopyEnded writer_log (WriterWent stretch std_write_rules) (WriterCalled std_write_rules)
+      (reader_log s).fills (reader_log t).fills u v) where
     -- bytes are left in the reader
-    pub left_caused : (kind : ErrorKind) → kind ≡ WriteZero → 0 < length t.block.bytes → 0 < u.block.capacity → EitherFailed kind s.log t.log u.log v.log
+    pub left_caused : (kind : ErrorKind) → kind ≡ WriteZero → 0 < length t.block.bytes → 0 < u.block.capacity
+        → EitherFailed kind s.log t.log u.log v.log
     left_caused kind is some room = inr (record {
       reader = only ended.reader;
-      caused = subst (SendErrorCaused u.log.writes v.log.writes) (sym is) (stuck_caused stretch u v t.block.bytes ended.last some room);
+      caused = subst (SendErrorCaused u.log.writes v.log.writes) (sym is)
+          (stuck_caused stretch u v t.block.bytes ended.last some room);
     })
 
     module _ (left : length t.block.bytes ≡ 0) (v' : Buffered W Q) where
-      pub flush_caused : (kind : ErrorKind) → SendErrorCaused v.log.writes v'.log.writes kind → EitherFailed kind s.log t.log u.log v'.log
+      pub flush_caused : (kind : ErrorKind)
+          → SendErrorCaused v.log.writes v'.log.writes kind → EitherFailed kind s.log t.log u.log v'.log
       flush_caused kind caused = inr (record {
         reader = only ended.reader;
-        caused = SendErrorCaused-after u.log.writes v.log.writes v'.log.writes kind (out_met stretch u v t.block.bytes ended.last left went') caused;
+        caused = SendErrorCaused-after u.log.writes v.log.writes v'.log.writes kind
+            (out_met stretch u v t.block.bytes ended.last left went') caused;
       })
 
-      pub flush_copied : (total : ℕ) → MovedBy total (reader_log s).fills (reader_log t).fills (writer_log u).writes (writer_log v).writes → 0 < s.block.capacity
-          → WritesInOrder v [] v' → IsFlushed v v' → Copied total s.log t.log u.log v'.log
+      pub flush_copied : (total : ℕ)
+          → MovedBy total (reader_log s).fills (reader_log t).fills (writer_log u).writes (writer_log v).writes
+          → 0 < s.block.capacity → WritesInOrder v [] v' → IsFlushed v v'
+          → Copied total s.log t.log u.log v'.log
       flush_copied total moved room flush flushed =
-          let all = whole s t u v' none none' moved.bytes (handed total moved) (WritesInOrder-then u v v' moved.bytes (passed total moved) flush) (nil_from_length t.block.bytes left) flushed.empty in
+          let all = whole s t u v' none none' moved.bytes (handed total moved)
+          (WritesInOrder-then u v v' moved.bytes (passed total moved) flush)
+          (nil_from_length t.block.bytes left) flushed.empty in
           record {
             bytes = moved.bytes;
             count = moved.count;
@@ -162,5 +206,9 @@ module _ {R P W Q : Type 0} (remaining : R → Option (List ℕ)) (stretch : W �
             ended = omega (arith, went.ends (inl refl) room, ended.ends left);
             reader = only ended.reader;
             writer =
-                MetInterrupts-joins u.log.writes v.log.writes v'.log.writes (out_met stretch u v t.block.bytes ended.last left went') (record { times = flushed.interrupts; only = flushed.only });
+                MetInterrupts-joins u.log.writes v.log.writes v'.log.writes
+                (out_met stretch u v t.block.bytes ended.last left went') (record {
+                  times = flushed.interrupts;
+                  only = flushed.only;
+                });
           }

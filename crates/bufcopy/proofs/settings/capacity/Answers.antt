@@ -21,9 +21,11 @@ digits_read : IsNumeralModel (All IsAsciiDigit) (digits_value 10)
 digits_read = numerals_by_value _ digits_told
 
 -- what does not parse is no capacity
-refused : {E : Type 0} (word : List ℕ) (r : Result ℕ E) → ParsesUnsigned 64 10 word r → result_ok r ≡ None → ¬ IsCapacity word
+refused : {E : Type 0} (word : List ℕ) (r : Result ℕ E)
+    → ParsesUnsigned 64 10 word r → result_ok r ≡ None → ¬ IsCapacity word
 refused word (Ok n) p none = cc
-refused word (Err e) p none = λ is. parse_digits digits_read 64 word (Err e) p is.digits (omega (arith, is.not_empty), omega (arith, is.not_large))
+refused word (Err e) p none = λ is.
+    parse_digits digits_read 64 word (Err e) p is.digits (omega (arith, is.not_empty), omega (arith, is.not_large))
 
 pub returns-in_err-capacity : goal.returns-in_err-capacity
 returns-in_err-capacity c =
