@@ -17,43 +17,47 @@ mod tests;
 
 /// The ring: all its free space can be written at any time, and both that space and the bytes are one slice.
 ///
-/// The bytes stand at `head..head + len` of storage that is twice the capacity. They go to its front when the ring grows,
-/// and when bytes are next written after a [`consume`](SliceDequeBuf::consume) has taken the head past the capacity. That is
-/// fewer moves than in the `consume` itself: what is consumed before that write is not moved, and a ring that was emptied by
-/// then moves nothing.
+/// The bytes stand at `head..end` of storage that is twice the capacity, and `stop` is one capacity behind `head`. The tail
+/// is `end..stop` where the storage reaches that far. Once a [`consume`](SliceDequeBuf::consume) has taken the head past the
+/// capacity it doesn't: the bytes go to the front when more are next written, and the tail is what is behind them there. That
+/// is fewer moves than in the `consume` itself: what is consumed before that write is not moved, and a ring that was emptied
+/// by then moves nothing. The bytes go to the front when the ring grows, too.
+///
+/// [`StdBuf`](crate::std_buf::StdBuf) has the same fields in the same order: the compiler then makes one code of what both do.
 #[derive(Debug, Drop)]
 pub struct SliceDequeBuf {
     buf: RawBuf,
-    cap: usize,
     head: usize,
-    len: usize,
+    end: usize,
+    stop: usize,
     consumed: Count,
     moved: Count,
 }
 
 impl Model for SliceDequeBuf {
-    ghost use Rattle.std.specs.Prelude.{◌≡◌, ◌+◌, ◌≤◌, ◌^◌, length, slice_range, nat_le, nat_lt, if◌then◌else◌};
+    ghost use Rattle.std.specs.Prelude.{◌≡◌, ◌+◌, ◌-◌, ◌*◌, ◌≤◌, ◌^◌, length, slice_range, nat_le, nat_lt, if◌then◌else◌};
     ghost use Rattle.redux_buffer.specs.Block.{Placed, Ring};
 
     ghost Value = { Placed };
 
     ghost view = { λ b. record {
       block = record {
-        bytes = slice_range b.buf b.head (b.head + b.len);
-        tail = if nat_lt b.cap b.head then slice_range b.buf b.len b.cap
-            else slice_range b.buf (b.head + b.len) (b.head + b.cap);
-        capacity = b.cap;
+        bytes = slice_range b.buf b.head b.end;
+        tail = if nat_lt (length b.buf) b.stop then slice_range b.buf (b.end - b.head) (b.stop - b.head)
+            else slice_range b.buf b.end b.stop;
+        capacity = b.stop - b.head;
         limit = 2 ^ 61;
         kind = Ring;
-        tail_behind = nat_le b.head b.cap;
+        tail_behind = nat_le b.stop (length b.buf);
         consumed = b.consumed.total;
         moved = b.moved.total;
       };
       place = b.head;
     } };
 
-    ghost invariant = { λ b. (b.head + b.len ≤ b.cap + b.cap) × (b.len ≤ b.cap) × (length b.buf ≡ b.cap + b.cap)
-        × (b.cap ≤ 2 ^ 61) × (b.len ≡ 0 → b.head ≡ 0) × (b.moved.total + b.head ≤ b.consumed.total) };
+    ghost invariant = { λ b. (b.head ≤ b.end) × (b.end ≤ b.stop) × (b.end ≤ length b.buf)
+        × (length b.buf ≡ 2 * (b.stop - b.head)) × (b.stop - b.head ≤ 2 ^ 61) × (b.head ≡ b.end → b.end ≡ 0)
+        × (b.moved.total + b.head ≤ b.consumed.total) };
 }
 
 // The least multiple of the unit that is at least `n`.
@@ -81,9 +85,9 @@ impl SliceDequeBuf {
         let buf = RawBuf::with_capacity(alloc, 2 * cap)?;
         Ok(SliceDequeBuf {
             buf,
-            cap,
             head: 0,
-            len: 0,
+            end: 0,
+            stop: cap,
             consumed: Count::zero(),
             moved: Count::zero(),
         })
@@ -95,7 +99,7 @@ impl SliceDequeBuf {
         ensures whole { IsPlaced self.now }
         ensures kind { self.now.block.kind ≡ Ring }
     {
-        self.cap
+        self.stop - self.head
     }
 
     /// How many bytes it holds.
@@ -104,7 +108,7 @@ impl SliceDequeBuf {
         ensures whole { IsPlaced self.now }
         ensures kind { self.now.block.kind ≡ Ring }
     {
-        self.len
+        self.end - self.head
     }
 
     /// How many bytes can be written behind those that it holds: the capacity without them.
@@ -113,14 +117,14 @@ impl SliceDequeBuf {
         ensures whole { IsPlaced self.now }
         ensures kind { self.now.block.kind ≡ Ring }
     {
-        self.cap - self.len
+        self.stop - self.end
     }
 
     /// The bytes.
     pub fn buf(&self) -> &[u8]
         ensures { result.now ≡ self.now.block.bytes }
     {
-        &self.buf.as_slice()[self.head..self.head + self.len]
+        &self.buf.as_slice()[self.head..self.end]
     }
 
     // Moves the bytes to the front.
@@ -129,10 +133,12 @@ impl SliceDequeBuf {
         requires { self.old.block.capacity < self.old.place }
         ensures { self.new ≡ drawn self.old }
     {
-        let (start, end) = (self.head, self.head + self.len);
-        self.buf.as_mut_slice().copy_within(start..end, 0);
-        self.moved.add(self.len);
+        let len = self.end - self.head;
+        self.buf.as_mut_slice().copy_within(self.head..self.end, 0);
+        self.moved.add(len);
+        self.stop -= self.head;
         self.head = 0;
+        self.end = len;
     }
 
     /// Lends all free space as one slice. What is written there counts once [`bytes_written`](SliceDequeBuf::bytes_written)
@@ -141,11 +147,10 @@ impl SliceDequeBuf {
         ensures* writes_back { sem 𝓛 (Lends the_row (Array u8 0) self.entry result (with_tail self.old)) }
         ensures value { result.now ≡ self.old.block.tail }
     {
-        if self.head > self.cap {
+        if self.stop > self.buf.capacity() {
             self.draw_back();
         }
-        let start = self.head + self.len;
-        let end = self.head + self.cap;
+        let (start, end) = (self.end, self.stop);
         self.buf.range_mut(start, end)
     }
 
@@ -155,8 +160,7 @@ impl SliceDequeBuf {
             (λ w. record self.old { block = with_bytes self.old.block w })) }
         ensures value { result.now ≡ self.old.block.bytes }
     {
-        let start = self.head;
-        let end = self.head + self.len;
+        let (start, end) = (self.head, self.end);
         self.buf.range_mut(start, end)
     }
 
@@ -166,13 +170,13 @@ impl SliceDequeBuf {
         ensures shift { CountsShift 0 self.old self.new }
         ensures whole { IsPlaced self.new }
     {
-        let written = n.min(self.cap - self.len);
-        if self.head > self.cap {
+        let written = n.min(self.stop - self.end);
+        if self.stop > self.buf.capacity() {
             self.draw_back();
             // A step that changes the place counts every byte that is held after it.
             self.moved.add(written);
         }
-        self.len += written;
+        self.end += written;
     }
 
     /// Drops the first `n` bytes, or all where it holds fewer.
@@ -182,15 +186,17 @@ impl SliceDequeBuf {
         ensures shift { CountsShift (min n (length self.old.block.bytes)) self.old self.new }
         ensures whole { IsPlaced self.new }
     {
-        if n >= self.len {
-            self.consumed.add(self.len);
+        let len = self.end - self.head;
+        if n < len {
+            self.head += n;
+            self.stop += n;
+            self.consumed.add(n);
+        } else {
+            self.stop -= self.head;
             self.head = 0;
-            self.len = 0;
-            return;
+            self.end = 0;
+            self.consumed.add(len);
         }
-        self.consumed.add(n);
-        self.head += n;
-        self.len -= n;
     }
 
     // Copies the first bytes of `src` behind the bytes, as many as fit there, and returns how many those are. The bytes
@@ -202,15 +208,13 @@ impl SliceDequeBuf {
         ensures moved { self.new.block.moved ≡ (drawn self.old).block.moved }
         ensures whole { IsPlaced self.new }
     {
-        if self.head > self.cap {
+        if self.stop > self.buf.capacity() {
             self.draw_back();
         }
-        let start = self.head + self.len;
-        let n = src.len().min(self.cap - self.len);
-        self.buf
-            .range_mut(start, start + n)
-            .copy_from_slice(&src[..n]);
-        self.len += n;
+        let n = src.len().min(self.stop - self.end);
+        let end = self.end + n;
+        self.buf.range_mut(self.end, end).copy_from_slice(&src[..n]);
+        self.end = end;
         n
     }
 
@@ -222,7 +226,7 @@ impl SliceDequeBuf {
         ensures shift { CountsShift result self.old self.new }
         ensures whole { IsPlaced self.new }
     {
-        let n = out.len().min(self.len);
+        let n = out.len().min(self.len());
         out[..n].copy_from_slice(&self.buf()[..n]);
         self.consume(n);
         n
@@ -236,7 +240,7 @@ impl SliceDequeBuf {
         ensures whole { IsPlaced self.new }
     {
         // Names a field, so that what is true of every ring is known here.
-        let _ = &self.cap;
+        let _ = &self.stop;
     }
 
     /// Makes sure that `a` more bytes can be written. The capacity stays a multiple of [`RING_UNIT`], and the bytes of a ring
@@ -250,25 +254,26 @@ impl SliceDequeBuf {
         ensures succeeds { a ≤ usable self.old.block → IsOk result }
         ensures whole { IsPlaced self.new }
     {
-        if a <= self.cap - self.len {
+        let len = self.end - self.head;
+        if a <= self.stop - self.end {
             return Ok(());
         }
-        if a > MAX_RING - self.len {
+        if a > MAX_RING - len {
             return Err(GrowError::TooLarge);
         }
-        let cap = round_up(self.len + a);
+        let cap = round_up(len + a);
         if self.head > 0 {
             // Bytes that have to move anyhow are moved once, into a new block.
-            let end = self.head + self.len;
-            self.buf = self.buf.copy_of(self.head, end, 2 * cap)?;
+            self.buf = self.buf.copy_of(self.head, self.end, 2 * cap)?;
             self.head = 0;
-            self.cap = cap;
+            self.end = len;
+            self.stop = cap;
             return Ok(());
         }
-        self.buf.reserve(2 * (cap - self.cap))?;
+        self.buf.reserve(2 * (cap - self.stop))?;
         // What the growth adds to the tail may have been written before.
-        self.buf.clear_range(self.cap, cap.min(2 * self.cap));
-        self.cap = cap;
+        self.buf.clear_range(self.stop, cap.min(2 * self.stop));
+        self.stop = cap;
         Ok(())
     }
 }

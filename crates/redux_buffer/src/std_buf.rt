@@ -12,14 +12,19 @@ use crate::raw_buf::RawBuf;
 use std::alloc::Global;
 use std::marker::Model;
 
-/// The plain buffer: its bytes stand at `pos..end` of a [`RawBuf`], and what is behind them can be written.
+/// The plain buffer: its bytes stand at `pos..end` of a [`RawBuf`], and what is behind them, up to `stop`, can be written.
+/// `stop` is the end of the storage.
 ///
 /// It moves its bytes in [`make_room`](StdBuf::make_room) alone.
+///
+/// [`SliceDequeBuf`](crate::slice_deque_buf::SliceDequeBuf) has the same fields in the same order: the compiler then makes one
+/// code of what both do.
 #[derive(Debug, Drop)]
 pub struct StdBuf {
     buf: RawBuf,
     pos: usize,
     end: usize,
+    stop: usize,
     consumed: Count,
     moved: Count,
 }
@@ -34,7 +39,7 @@ impl Model for StdBuf {
       block = record {
         bytes = slice_range b.buf b.pos b.end;
         tail = drop b.end b.buf;
-        capacity = length b.buf;
+        capacity = b.stop;
         limit = 2 ^ 62;
         kind = Plain;
         tail_behind = true;
@@ -44,7 +49,7 @@ impl Model for StdBuf {
       place = b.pos;
     } };
 
-    ghost invariant = { λ b. (b.pos ≤ b.end) × (b.end ≤ length b.buf) × (length b.buf ≤ 2 ^ 62)
+    ghost invariant = { λ b. (b.pos ≤ b.end) × (b.end ≤ b.stop) × (b.stop ≡ length b.buf) × (b.stop ≤ 2 ^ 62)
         × (b.pos ≡ b.end → b.end ≡ 0) };
 }
 
@@ -60,6 +65,7 @@ impl StdBuf {
             buf,
             pos: 0,
             end: 0,
+            stop: cap,
             consumed: Count::zero(),
             moved: Count::zero(),
         })
@@ -71,7 +77,7 @@ impl StdBuf {
         ensures whole { IsPlaced self.now }
         ensures kind { self.now.block.kind ≡ Plain }
     {
-        self.buf.capacity()
+        self.stop
     }
 
     /// How many bytes it holds.
@@ -89,7 +95,7 @@ impl StdBuf {
         ensures whole { IsPlaced self.now }
         ensures kind { self.now.block.kind ≡ Plain }
     {
-        self.buf.capacity() - self.end
+        self.stop - self.end
     }
 
     /// The bytes.
@@ -112,8 +118,7 @@ impl StdBuf {
         ensures* writes_back { sem 𝓛 (Lends the_row (Array u8 0) self.entry result (with_tail self.old)) }
         ensures value { result.now ≡ self.old.block.tail }
     {
-        let start = self.end;
-        let end = self.buf.capacity();
+        let (start, end) = (self.end, self.stop);
         self.buf.range_mut(start, end)
     }
 
@@ -133,7 +138,7 @@ impl StdBuf {
         ensures shift { CountsShift 0 self.old self.new }
         ensures whole { IsPlaced self.new }
     {
-        let room = self.buf.capacity() - self.end;
+        let room = self.stop - self.end;
         self.end += n.min(room);
     }
 
@@ -164,7 +169,7 @@ impl StdBuf {
         ensures whole { IsPlaced self.new }
         ensures kind { self.new.block.kind ≡ Plain }
     {
-        let n = src.len().min(self.buf.capacity() - self.end);
+        let n = src.len().min(self.stop - self.end);
         let end = self.end + n;
         self.buf.range_mut(self.end, end).copy_from_slice(&src[..n]);
         self.end = end;
@@ -212,19 +217,26 @@ impl StdBuf {
         ensures succeeds { a ≤ usable self.old.block → IsOk result }
         ensures whole { IsPlaced self.new }
     {
-        let capacity = self.buf.capacity();
-        let usable = capacity - self.end;
-        if usable >= a || self.buf.reserve_in_place(a - usable) {
+        let usable = self.stop - self.end;
+        if usable >= a {
+            return Ok(());
+        }
+        let more = a - usable;
+        if self.buf.reserve_in_place(more) {
+            self.stop = self.buf.capacity();
             return Ok(());
         }
         if self.end > 0 {
-            return self.buf.reserve(a - usable);
+            self.buf.reserve(more)?;
+            self.stop += more;
+            return Ok(());
         }
         // No byte of an empty buffer is worth copying.
-        if a > MAX_CAPACITY - capacity {
+        if a > MAX_CAPACITY - self.stop {
             return Err(GrowError::TooLarge);
         }
-        self.buf = self.buf.copy_of(0, 0, capacity + a)?;
+        self.buf = self.buf.copy_of(0, 0, self.stop + a)?;
+        self.stop += a;
         Ok(())
     }
 }

@@ -6,10 +6,10 @@ use std::test::Fail;
 
 // How many bytes a step shifted that found the head at `head` and dropped `n` bytes.
 fn shifted(ring: &SliceDequeBuf, head: usize, n: usize) -> usize {
-    if ring.len == 0 || head.checked_add(n) == Some(ring.head) {
+    if ring.len() == 0 || head.checked_add(n) == Some(ring.head) {
         return 0;
     }
-    ring.len
+    ring.len()
 }
 
 // Each row is a read into the whole tail, as `Buffer::read_from` does it, and a consume: how many bytes came, the head then
@@ -33,7 +33,7 @@ fn reads(rt: HostRuntime) -> Result<(), Fail> {
         assert_eq!(rt; (ring.head, shifted(&ring, before, 0)), (head, moved));
         ring.bytes_written(n);
         assert_eq!(rt; ring.head, head);
-        let dropped = ring.len.min(4000);
+        let dropped = ring.len().min(4000);
         ring.consume(4000);
         assert_eq!(rt; (ring.head, shifted(&ring, head, dropped)), (consumed, 0));
     }

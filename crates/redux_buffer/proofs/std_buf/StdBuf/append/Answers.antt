@@ -14,9 +14,16 @@ returns-clause-bytes c =
     let size : length ws ≡ n = ap length is ∙ fits in
     let all = length_refilled_from b.buf b.end ws (omega arith) in
     rw (← c.self.view_is) (record {
-      bytes = range_appends b.buf ws b.pos b.end n size (omega arith) (omega arith) ∙ ap (λ l. slice_range b.buf b.pos b.end ++ l) is;
-      usable = omega (arith, fits, all, length-drop (b.end + n) (refilled_from b.buf b.end ws), length-drop b.end b.buf);
-      capacity = all;
+      bytes = range_appends b.buf ws b.pos b.end n size (omega arith) (omega arith)
+          ∙ ap (λ l. slice_range b.buf b.pos b.end ++ l) is;
+      usable = omega (
+        arith,
+        fits,
+        all,
+        length-drop (b.end + n) (refilled_from b.buf b.end ws),
+        length-drop b.end b.buf,
+      );
+      capacity = refl;
       limit = refl;
       kind = refl;
       consumed = refl;
