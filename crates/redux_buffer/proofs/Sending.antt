@@ -1,5 +1,6 @@
 -- What sending does, write after write.
-use Rattle.std.proofs.Common.{◌≡◌, ◌∙◌, ℕ, ◌+◌, ◌*◌, ◌<◌, ◌≤◌, [], ◌++◌, length, take, sym, refl, ap, arith, append-nil, append_assoc, ◌-◌, length-drop, take-take, Result, Ok, Err, inl, inr}
+use Rattle.std.proofs.Common.{◌≡◌, ◌∙◌, ℕ, ◌+◌, ◌-◌, ◌*◌, ◌<◌, ◌≤◌, [], ◌++◌, length, take, sym, refl, ap, arith}
+use Rattle.std.proofs.Common.{append-nil, append_assoc, length-drop, take-take, Result, Ok, Err, inl, inr}
 use Rattle.std.proofs.Math.Seq.{take-add}
 use Rattle.std.specs.IoError.{error_kind}
 use Rattle.std.specs.declared.io.Error.{Error}
@@ -20,30 +21,36 @@ pub record Interrupts (count : ℕ) (old new : StreamLog) : Type 0 where
 OnlyWrites-joins : (a b c : StreamLog) → OnlyWrites a b → OnlyWrites b c → OnlyWrites a c
 OnlyWrites-joins a b c p q = record { reads = q.reads ∙ p.reads; fills = q.fills ∙ p.fills; seeks = q.seeks ∙ p.seeks }
 
-module _ (k i len : ℕ) (a b : Block) (log log' log'' : StreamLog) (sent : Sent k a log b log') (only : OnlyInterrupted i log.writes log'.writes) (few : i ≤ 64 * k) where
+module _ (k i len : ℕ) (a b : Block) (log log' log'' : StreamLog) (sent : Sent k a log b log')
+    (only : OnlyInterrupted i log.writes log'.writes) (few : i ≤ 64 * k) where
   -- one write more, which took n bytes of the first len
-  pub Sent-more : (n : ℕ) (c : Block) → WritesRetried (take len b.bytes) log' (Ok n) log'' → n ≤ len → n ≤ length b.bytes
-      → ConsumesFirst n b c → OnlyRingMoves b c → Sent (k + n) a log c log''
+  pub Sent-more : (n : ℕ) (c : Block) → WritesRetried (take len b.bytes) log' (Ok n) log'' → n ≤ len
+      → n ≤ length b.bytes → ConsumesFirst n b c → OnlyRingMoves b c → Sent (k + n) a log c log''
   Sent-more n c wrote short room took moved =
       let left : length b.bytes ≡ length a.bytes - k = ap length sent.dropped.bytes ∙ length-drop k a.bytes in record {
         within = omega (arith, sent.within, left);
         dropped = ConsumesFirst-joins k n a b c sent.dropped took;
         moved = OnlyRingMoves-joins a b c sent.dropped.kind sent.moved moved;
         received =
-            wrote.received ∙ ap (λ l. l ++ take n (take len b.bytes)) sent.received ∙ append_assoc log.writes.received (take k a.bytes) (take n (take len b.bytes))
-            ∙ ap (λ l. log.writes.received ++ (take k a.bytes ++ l)) (take-take n len b.bytes short ∙ ap (take n) sent.dropped.bytes)
+            wrote.received ∙ ap (λ l. l ++ take n (take len b.bytes)) sent.received
+            ∙ append_assoc log.writes.received (take k a.bytes) (take n (take len b.bytes))
+            ∙ ap (λ l. log.writes.received ++ (take k a.bytes ++ l))
+            (take-take n len b.bytes short ∙ ap (take n) sent.dropped.bytes)
             ∙ ap (λ l. log.writes.received ++ l) (sym (take-add k n a.bytes));
         flushed = wrote.flushed ∙ sent.flushed;
         others = OnlyWrites-joins log log' log'' sent.others wrote.others;
       }
 
-  pub only_more : (n : ℕ) → 0 < n → (wrote : WritesRetried (take len b.bytes) log' (Ok n) log'') → OnlyInterrupted (i + wrote.interrupts) log.writes log''.writes
-  only_more n some wrote = OnlyInterrupted-joins i wrote.interrupts log.writes log'.writes log''.writes only
-      (record { faults = wrote.faults; zero_writes = wrote.zero_writes ∙ zero_of_some n (take len b.bytes) log'.writes.zero_writes (inl some) })
+  pub only_more : (n : ℕ) → 0 < n → (wrote : WritesRetried (take len b.bytes) log' (Ok n) log'')
+      → OnlyInterrupted (i + wrote.interrupts) log.writes log''.writes
+  only_more n some wrote = OnlyInterrupted-joins i wrote.interrupts log.writes log'.writes log''.writes only (record {
+    faults = wrote.faults;
+    zero_writes = wrote.zero_writes ∙ zero_of_some n (take len b.bytes) log'.writes.zero_writes (inl some);
+  })
 
   -- the same where the last write failed, or took nothing
-  Sent-still : (answer : Result ℕ Error) → WritesRetried (take len b.bytes) log' answer log'' → taken (take len b.bytes) answer ≡ []
-      → Sent k a log b log''
+  Sent-still : (answer : Result ℕ Error) → WritesRetried (take len b.bytes) log' answer log''
+      → taken (take len b.bytes) answer ≡ [] → Sent k a log b log''
   Sent-still answer wrote none = record {
     within = sent.within;
     dropped = sent.dropped;
@@ -54,7 +61,8 @@ module _ (k i len : ℕ) (a b : Block) (log log' log'' : StreamLog) (sent : Sent
   }
 
   -- the next write failed
-  pub sends_failed : (amount : ℕ) (e : Error) → k ≤ amount → WritesRetried (take len b.bytes) log' (Err e) log'' → Sends amount a log (Err e) b log''
+  pub sends_failed : (amount : ℕ) (e : Error) → k ≤ amount → WritesRetried (take len b.bytes) log' (Err e) log''
+      → Sends amount a log (Err e) b log''
   sends_failed amount e most wrote = record {
     count = k;
     interrupts = i + wrote.interrupts;
@@ -63,16 +71,18 @@ module _ (k i len : ℕ) (a b : Block) (log log' log'' : StreamLog) (sent : Sent
     whole = tt;
     ok = tt;
     failed = record {
-      cause = inr (FaultedAfter-after i wrote.interrupts log.writes log'.writes log''.writes (error_kind e) only
-          (record { faults = wrote.faults; zero_writes = wrote.zero_writes }));
+      cause = inr (FaultedAfter-after i wrote.interrupts log.writes log'.writes log''.writes (error_kind e) only (record {
+        faults = wrote.faults;
+        zero_writes = wrote.zero_writes;
+      }));
       often = λ kind. let all = wrote.often kind in omega (arith, all);
     };
     few = omega (arith, few, wrote.most);
   }
 
   -- the next write took nothing of something
-  pub sends_nothing : (amount n : ℕ) (e : Error) → k ≤ amount → n ≡ 0 → 0 < length (take len b.bytes) → error_kind e ≡ WriteZero
-      → WritesRetried (take len b.bytes) log' (Ok n) log'' → Sends amount a log (Err e) b log''
+  pub sends_nothing : (amount n : ℕ) (e : Error) → k ≤ amount → n ≡ 0 → 0 < length (take len b.bytes)
+      → error_kind e ≡ WriteZero → WritesRetried (take len b.bytes) log' (Ok n) log'' → Sends amount a log (Err e) b log''
   sends_nothing amount n e most none some kind wrote = record {
     count = k;
     interrupts = i + wrote.interrupts;
@@ -81,8 +91,11 @@ module _ (k i len : ℕ) (a b : Block) (log log' log'' : StreamLog) (sent : Sent
     whole = tt;
     ok = tt;
     failed = record {
-      cause = inl (TookNothing-after i wrote.interrupts log.writes log'.writes log''.writes (error_kind e) only
-          (record { is_write_zero = kind; faults = wrote.faults; zero_writes = wrote.zero_writes ∙ zero_of_none n (take len b.bytes) log'.writes.zero_writes none some }));
+      cause = inl (TookNothing-after i wrote.interrupts log.writes log'.writes log''.writes (error_kind e) only (record {
+        is_write_zero = kind;
+        faults = wrote.faults;
+        zero_writes = wrote.zero_writes ∙ zero_of_none n (take len b.bytes) log'.writes.zero_writes none some;
+      }));
       often = λ interrupted. cc;
     };
     few = omega (arith, few, wrote.most);

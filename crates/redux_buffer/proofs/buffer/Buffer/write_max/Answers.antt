@@ -8,7 +8,8 @@ returns-in_err-n-clause-sent g c =
     let inv = c.loop-left.invariant in
     let wrote = rw c.buf.ensures at c.in_err-n.ensures.wrote in
     let p = err_from_is_err_and c.from_residual.result c.from_residual.ensures.1 in
-    rw (p.1, p.2) (sends_failed inv.count inv.interrupts c.loop-left.left _ _ _ _ _ inv.sent inv.only inv.few c.args.max c.in_err-n.field-0.0 (omega (arith, inv.rest)) wrote)
+    rw (p.1, p.2) (sends_failed inv.count inv.interrupts c.loop-left.left _ _ _ _ _ inv.sent inv.only inv.few
+    c.args.max c.in_err-n.field-0.0 (omega (arith, inv.rest)) wrote)
 
 pub returns-then-n-eq0-clause-sent : goal.returns-then-n-eq0-clause-sent
 returns-then-n-eq0-clause-sent g c =
@@ -16,8 +17,8 @@ returns-then-n-eq0-clause-sent g c =
     let left = c.loop-left.left in
     let wrote = rw c.buf.ensures at c.in_ok-n.ensures.wrote in
     let size = length-take-le left c.loop-left.self.bytes inv.room in
-    sends_nothing inv.count inv.interrupts left _ _ _ _ _ inv.sent inv.only inv.few c.args.max c.in_ok-n.n c.from.result (omega (arith, inv.rest))
-    c.if-n-eq0.true (omega (arith, size)) c.from.ensures wrote
+    sends_nothing inv.count inv.interrupts left _ _ _ _ _ inv.sent inv.only inv.few c.args.max c.in_ok-n.n c.from.result
+    (omega (arith, inv.rest)) c.if-n-eq0.true (omega (arith, size)) c.from.ensures wrote
 
 pub loop-left-preserved : goal.loop-left-preserved
 loop-left-preserved g c =
@@ -29,11 +30,13 @@ loop-left-preserved g c =
     let size = length-take-le left c.loop-left.self.bytes inv.room in
     let fits : n ≤ left = omega (arith, bound, size) in
     let some : 0 < n = omega arith in
-    let last : length c.consume.new.self.bytes ≡ length c.loop-left.self.bytes - n = ap length c.consume.ensures.bytes.bytes ∙ length-drop n c.loop-left.self.bytes in
+    let last : length c.consume.new.self.bytes ≡ length c.loop-left.self.bytes - n =
+    ap length c.consume.ensures.bytes.bytes ∙ length-drop n c.loop-left.self.bytes in
     record {
       count = inv.count + n;
       interrupts = inv.interrupts + wrote.interrupts;
-      sent = Sent-more inv.count inv.interrupts left _ _ _ _ _ inv.sent inv.only inv.few n _ wrote fits (omega (arith, inv.room)) c.consume.ensures.bytes c.consume.ensures.moved;
+      sent = Sent-more inv.count inv.interrupts left _ _ _ _ _ inv.sent inv.only inv.few n _ wrote fits
+          (omega (arith, inv.room)) c.consume.ensures.bytes c.consume.ensures.moved;
       rest = omega (arith, inv.rest);
       room = omega (arith, inv.room, last);
       only = only_more inv.count inv.interrupts left _ _ _ _ _ inv.sent inv.only inv.few n some wrote;
