@@ -217,7 +217,9 @@ impl<W: TellWrite, P> BufWriter<W, P> {
 }
 
 impl<W: TellWrite, P: WriterPolicy> BufWriter<W, P> {
-    // All of a write but the first question: flushes the amount, takes the bytes in and asks the policy once more.
+    // All of a write but the first question: flushes the amount, takes the bytes in and asks the policy once more. It
+    // stands apart, as what few writes come to, so that the others are short in their callers.
+    #[cold]
     #[inline(never)]
     fn write_slowly(&mut self, first: usize, bytes: &[u8]) -> io::Result<usize>
         ensures bound { WritesAtMost result bytes.now }
@@ -264,8 +266,11 @@ impl<W: TellWrite, P: WriterPolicy> Write for BufWriter<W, P> {
         ensures stretch { InnerWent W.log W.stretch self.old self.new }
     {
         let FlushAmt(first) = self.policy.before_write(&mut self.buf, bytes.len())?;
-        if first > 0 || bytes.len() >= self.buf.usable_space() {
+        if first > 0 {
             return self.write_slowly(first, bytes);
+        }
+        if bytes.len() >= self.buf.usable_space() {
+            return self.write_slowly(0, bytes);
         }
         // Nothing is sent first, and the bytes fit with room to spare.
         let copied = self.buf.copy_from_slice(bytes);

@@ -84,10 +84,19 @@ pub fn flush_when_full(buf: &Buffer, incoming: usize) -> FlushAmt
     ensures { result.0 ≡ amount_when_full buf.now incoming }
 {
     if incoming > buf.usable_space() {
-        FlushAmt(buf.len())
+        flush_all(buf)
     } else {
         FlushAmt(0)
     }
+}
+
+// The amount stands apart, so that it isn't computed where the bytes fit.
+#[cold]
+#[inline(never)]
+fn flush_all(buf: &Buffer) -> FlushAmt
+    ensures { result.0 ≡ length buf.now.bytes }
+{
+    FlushAmt(buf.len())
 }
 
 /// What the types of `std::io` do: a reader reads only where nothing is buffered, a writer flushes only where the
