@@ -2,7 +2,8 @@
 use Rattle.std.specs.Prelude.{◌≡◌, ℕ, ◌+◌, ◌-◌, ◌*◌, ◌<◌, ◌≤◌, ◌==◌, List, length, nat_le, ⊤}
 use Rattle.std.proofs.Common.{◌∙◌, arith, inl, inr, subst}
 use Rattle.std.proofs.lemmas.Bool.{cases_lt, cond_both, leb-false}
-use Rattle.redux_buffer.specs.Block.{Block, Kind, Plain, OnKind, IsBlock, ConsumesFirst, Reserves, Extends, MakesRoom, MovesToFront, OnlyRingMoves, usable, place_of, needed, capacity_for}
+use Rattle.redux_buffer.specs.Block.{Block, Kind, Plain, OnKind, IsBlock, ConsumesFirst, Reserves, Extends}
+use Rattle.redux_buffer.specs.Block.{MakesRoom, MovesToFront, OnlyRingMoves, usable, place_of, needed, capacity_for}
 
 -- what was moved, and how far the bytes reach beyond the first keep places
 abbrev pub potential : ℕ → Block → ℕ
@@ -33,7 +34,9 @@ pub potential-consume : (n : ℕ) (old new : Block) → ConsumesFirst n old new 
 potential-consume n old new drops moves whole plain keep =
     let still = of_plain old.kind (new.moved ≡ old.moved) (old.moved ≤ new.moved) plain moves in
     let kept = of_plain old.kind (0 < length new.bytes → usable new ≡ usable old) ⊤ plain drops.usable in
-    let all = of_plain new.kind (length new.bytes ≡ 0 → usable new ≡ new.capacity) (length new.bytes + usable new ≡ new.capacity) (drops.kind ∙ plain) whole.space in
+    let all = of_plain new.kind
+    (length new.bytes ≡ 0 → usable new ≡ new.capacity) (length new.bytes + usable new ≡ new.capacity)
+    (drops.kind ∙ plain) whole.space in
     record {
       moved = omega (arith, still);
       held = elim (cases_lt 0 (length new.bytes)) [
@@ -45,11 +48,13 @@ potential-consume n old new drops moves whole plain keep =
 -- a plain block grows only upwards, and as much behind its bytes as in all
 needed_grows : (b : Block) (a : ℕ) → b.kind ≡ Plain → usable b < a → b.capacity ≤ needed b a
 needed_grows b a plain few =
-    rw plain (cond_both (length b.bytes == 0) (b.capacity + a) (b.capacity - usable b + a) (λ c. b.capacity ≤ c) (λ _. omega arith) (λ _. omega arith))
+    rw plain (cond_both (length b.bytes == 0) (b.capacity + a) (b.capacity - usable b + a)
+    (λ c. b.capacity ≤ c) (λ _. omega arith) (λ _. omega arith))
 
 capacity_grows : (b : Block) (a : ℕ) → b.kind ≡ Plain → b.capacity ≤ capacity_for b a
 capacity_grows b a plain =
-    cond_both (nat_le a (usable b)) b.capacity (needed b a) (λ c. b.capacity ≤ c) (λ _. omega arith) (λ few. needed_grows b a plain (leb-false a (usable b) few))
+    cond_both (nat_le a (usable b)) b.capacity (needed b a) (λ c. b.capacity ≤ c)
+    (λ _. omega arith) (λ few. needed_grows b a plain (leb-false a (usable b) few))
 
 pub potential-reserve : (a : ℕ) (old new : Block) → Reserves a old new → PlainRises 0 old new
 potential-reserve a old new grows plain keep =
@@ -67,6 +72,7 @@ pub potential-make_room : (keep : ℕ) (old new : Block) → MakesRoom old new �
     → old.kind ≡ Plain → RisesAtMost keep 0 old new
 potential-make_room keep old new room moves pays plain =
     let all : new.moved ≤ old.moved + length old.bytes =
-    rw (moves, plain) (cond_both (place_of old == 0) 0 (length old.bytes) (λ n. old.moved + n ≤ old.moved + length old.bytes) (λ _. omega arith) (λ _. omega arith)) in
+    rw (moves, plain) (cond_both (place_of old == 0) 0 (length old.bytes)
+    (λ n. old.moved + n ≤ old.moved + length old.bytes) (λ _. omega arith) (λ _. omega arith)) in
     let none : old.moved ≤ new.moved = omega (arith, moves) in
     record { moved = none; held = omega (arith, all, room.usable, room.capacity, pays.capacity, pays.held, pays.usable) }
