@@ -1,5 +1,5 @@
 //! Laws of the buffer, each as the contract of a function over its calls.
-ghost use Rattle.std.specs.Prelude.{◌≡◌, ◌-◌, ◌≤◌, [], length, min, take};
+ghost use Rattle.std.specs.Prelude.{◌≡◌, ◌+◌, ◌-◌, ◌≤◌, [], length, min, take, drop};
 ghost use Rattle.redux_buffer.specs.Block.{Ring, IsBlock, SameButTail, usable};
 
 use crate::buffer::Buffer;
@@ -31,11 +31,15 @@ pub fn make_room_again(buffer: &mut Buffer)
     buffer.make_room();
 }
 
-/// What is copied into an empty buffer and out of it again are the bytes that fitted.
+/// What is copied into an empty buffer and out of it again are the bytes that fitted. Those that fit only the buffer stay
+/// in it.
 pub fn copy_through(buffer: &mut Buffer, src: &[u8], out: &mut [u8]) -> usize
     requires { buffer.old.bytes ≡ [] }
     ensures count { result ≡ min (usable buffer.old) (min (length src.now) (length out.old)) }
     ensures bytes { take result out.new ≡ take result src.now }
+    ensures rest { drop result out.new ≡ drop result out.old }
+    ensures left { buffer.new.bytes ≡ drop result (take (usable buffer.old) src.now) }
+    ensures through { buffer.new.consumed ≡ buffer.old.consumed + result }
 {
     let _ = buffer.copy_from_slice(src);
     buffer.copy_to_slice(out)
