@@ -1,14 +1,19 @@
 //! Laws, each as the contract of a function over the calls. Those of the buffer come from `redux_buffer`.
 ghost use Rattle.std.specs.Prelude.{◌≡◌, ◌<◌, [], length, Ok, IfOk, IfErr, OnOk, is_ok};
 ghost use Rattle.std.specs.Io.KnownBytes.{Appends};
-ghost use Rattle.redux_buffer.specs.StreamLog.{no_calls, taken};
+ghost use Rattle.std.specs.IoError.{error_kind};
+ghost use Rattle.redux_buffer.specs.Block.{Block};
+ghost use Rattle.redux_buffer.specs.Faults.{SendErrorCaused};
+ghost use Rattle.redux_buffer.specs.StreamLog.{no_calls, taken, after_read};
 ghost use Rattle.redux_buffer.specs.Told.{told_stream};
-ghost use Rattle.buffer_redux.specs.Buffered.{with_calls};
+ghost use Rattle.buffer_redux.specs.Buffered.{with_calls, GoesPast, StaysInside, GoesDirect};
 ghost use Rattle.buffer_redux.specs.BufReader.{FillsToMinimum, RanDry, ReadErrorCaused, ReadsInOrder};
-ghost use Rattle.buffer_redux.specs.BufWriter.{IsFlushed};
-ghost use Rattle.buffer_redux.specs.Copy.{CopyFailed, MovedBy, MovesKnown, ReceivesAll};
+ghost use Rattle.buffer_redux.specs.BufReader.{ReadsBuffered, LeavesRest};
+ghost use Rattle.buffer_redux.specs.BufWriter.{Flushes, IsFlushed};
+ghost use Rattle.buffer_redux.specs.Copy.{CopyEnded, CopyFailed, FaultsRise, MovedBy};
+ghost use Rattle.buffer_redux.specs.Copy.{MovesKnown, ReceivesAll};
 ghost use Rattle.buffer_redux.specs.MinBuffered.{min_read_rules};
-ghost use Rattle.buffer_redux.specs.ReaderTells.{reader_log};
+ghost use Rattle.buffer_redux.specs.ReaderTells.{reader_log, ReaderWent};
 ghost use Rattle.buffer_redux.specs.Remaining.{reader_remaining};
 ghost use Rattle.buffer_redux.specs.Unwrapping.{KeepsUnsent};
 
@@ -26,7 +31,7 @@ pub use redux_buffer::laws::{copy_through, make_room_again, potential, ring_law}
 use redux_buffer::tell::{Tell, TellRead, TellWrite, Told};
 pub use sparing::{play_sparing, spare_between};
 use std::io;
-use std::io::{BufRead, Read, Write};
+use std::io::{BufRead, ErrorKind, Read, Write};
 pub use writes::{
     flush_at_least_law, flush_exact_law, flush_on_law, flush_on_newline_law, line_law, write_law,
 };
@@ -56,6 +61,8 @@ pub fn look_ahead<R: TellRead>(reader: &mut BufReader<R, MinBuffered>) -> io::Re
     ensures ahead { FillsToMinimum reader.old.policy.0 reader.old (is_ok result) reader.new }
     ensures in_order { ReadsInOrder reader.old [] reader.new }
     ensures caused { ReadErrorCaused min_read_rules reader.old result reader.new }
+    ensures claims { min_read_rules.claims reader.new.policy
+        ≡ min_read_rules.claims reader.old.policy }
 {
     Ok(reader.fill_buf()?.len())
 }
@@ -69,6 +76,11 @@ pub fn read_until_dry<R: TellRead>(
     ensures ran_dry { result ≡ Ok 0 → 0 < length out.old → 0 < reader.old.policy.0 → RanDry reader.old reader.new }
     ensures in_order { ReadsInOrder reader.old (taken out.new result) reader.new }
     ensures caused { ReadErrorCaused min_read_rules reader.old result reader.new }
+    ensures direct { GoesPast reader.old.block (length out.old)
+        → GoesDirect after_read reader.old out.new result reader.new }
+    ensures buffered { StaysInside reader.old.block (length out.old)
+        → ReadsBuffered min_read_rules reader.old (length out.old) result reader.new }
+    ensures rest { StaysInside reader.old.block (length out.old) → LeavesRest out.old result out.new }
 {
     reader.read(out)
 }
@@ -80,9 +92,11 @@ pub fn keep_unsent<W: TellWrite, P: Drop>(writer: BufWriter<W, P>) -> (W, Buffer
     writer.finish(|_inner, _unsent, _fault| {})
 }
 
-/// What could not be sent is dropped by a handler that clears it, so the buffer always comes back empty.
+/// What could not be sent is dropped by a handler that clears it, so the buffer always comes back empty. Bytes are
+/// dropped only where sending failed.
 pub fn drop_unsent<W: TellWrite, P: Drop>(writer: BufWriter<W, P>) -> (W, Buffer)
-    ensures { result.1.bytes ≡ [] }
+    ensures empty { result.1.bytes ≡ [] }
+    ensures sent { (unsent : Block) × KeepsUnsent W.log writer result.0 unsent }
 {
     writer.finish(|_inner, unsent, _fault| unsent.clear())
 }
@@ -99,8 +113,14 @@ pub fn copy_known<R: TellRead, P: ReaderPolicy, W: TellWrite>(
         (W.log to.old).writes (W.log to.new).writes) }
     ensures total { IfOk result (λ n. MovedBy n (reader_log from.old).fills (reader_log from.new).fills
         (W.log to.old).writes (W.log to.new).writes) }
+    ensures ended { OnOk result (CopyEnded W.log W.stretch W.call
+        (reader_log from.old).fills (reader_log from.new).fills to.old to.new) }
     ensures failed { IfErr result (λ e. CopyFailed W.log W.stretch W.call e
         (reader_log from.old).fills (reader_log from.new).fills to.old to.new) }
+    ensures often { IfErr result (λ e. error_kind e ≡ ErrorKind.Interrupted
+        → FaultsRise 65 (reader_log from.old).fills (reader_log from.new).fills
+        (W.log to.old).writes (W.log to.new).writes) }
+    ensures reader { ReaderWent R.remaining P.rules from.old from.new }
     ensures writer { W.stretch to.old to.new }
 {
     copy_buf(from, to)
@@ -111,6 +131,9 @@ pub fn flush_known<S: Write, P: WriterPolicy>(writer: &mut BufWriter<Told<S>, P>
     ensures held { OnOk result (Appends (S.contents (told_stream writer.old.inner))
         (S.contents (told_stream writer.new.inner)) writer.old.block.bytes) }
     ensures flushed { OnOk result (IsFlushed writer.old writer.new) }
+    ensures caused { IfErr result (λ e.
+        SendErrorCaused writer.old.log.writes writer.new.log.writes (error_kind e)) }
+    ensures steps { Flushes writer.old result writer.new }
 {
     writer.flush()
 }

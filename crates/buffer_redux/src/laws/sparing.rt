@@ -1,9 +1,9 @@
 //! Runs that spare a plain buffer moves, one after another.
-ghost use Rattle.std.specs.Prelude.{◌≡◌, ℕ, ◌≤◌};
+ghost use Rattle.std.specs.Prelude.{◌≡◌, ℕ, ◌≤◌, is_ok};
 ghost use Rattle.std.specs.List.{All};
 ghost use Rattle.buffer_redux.specs.Buffered.{Buffered};
 ghost use Rattle.buffer_redux.specs.MinBuffered.{min_read_rules};
-ghost use Rattle.buffer_redux.specs.PlayReader.{MakesNoRoom};
+ghost use Rattle.buffer_redux.specs.PlayReader.{MakesNoRoom, ReaderPlays, with_handed};
 ghost use Rattle.buffer_redux.specs.Policy.{ClaimsToSpare};
 ghost use Rattle.buffer_redux.specs.Sparing.{BeginsEmpty, MovedAtMostGiven, Spared};
 
@@ -31,6 +31,9 @@ pub fn play_sparing<R: TellRead, P: ReaderPolicy>(
         → All MakesNoRoom calls.now → Spared keep first reader.old → BeginsEmpty keep first
         → MovedAtMostGiven first reader.new }
     ensures claims { P.rules.claims reader.new.policy ≡ P.rules.claims reader.old.policy }
+    ensures plays { ReaderPlays P.rules
+        (with_handed reader.old run.old.handed.items) calls.now run.old.answers.items (is_ok result)
+        run.new.answers.items (with_handed reader.new run.new.handed.items) }
 {
     play_reader(alloc, reader, calls, run)
 }
