@@ -1,10 +1,16 @@
 -- How calls of a reader spare its plain buffer moves, over any stretch of them.
-use Rattle.std.specs.Prelude.{◌≡◌, ℕ, ◌+◌, ◌*◌, ◌≤◌, [], length}
+use Rattle.std.specs.Prelude.{◌≡◌, ℕ, ◌+◌, ◌*◌, ◌<◌, ◌≤◌, ◌⊎◌, [], length, Result, Ok, Err}
 use Rattle.std.proofs.Common.{◌∙◌, ap, arith, le_refl, le_trans, refl}
-use Rattle.redux_buffer.specs.Block.{Plain, IsBlock, usable}
+use Rattle.std.specs.IoError.{error_kind}
+use Rattle.std.specs.declared.io.Error.{Error}
+use Rattle.std.specs.declared.io.traits.SeekFrom.{SeekFrom}
+use Rattle.redux_buffer.specs.Block.{Plain, IsBlock, Reserves, capacity_for, usable}
+use Rattle.redux_buffer.specs.GrowError.{FitsWithin, kind_of}
 use Rattle.redux_buffer.specs.Potential.{potential, of_plain}
+use Rattle.redux_buffer.specs.declared.grow_error.GrowError.{GrowError}
 use Rattle.buffer_redux.specs.Policy.{ReadRules, ClaimsToSpare}
-use Rattle.buffer_redux.specs.Buffered.{Buffered, with_policy}
+use Rattle.buffer_redux.specs.Buffered.{Buffered, with_block, with_policy}
+use Rattle.buffer_redux.specs.Seek.{planned, Seeks}
 
 -- no move was undone, and the potential rose by no more than was given
 pub record PotentialHeld {S P Q : Type 0} (keep : ℕ) (s : Buffered S P) (t : Buffered S Q) : Type 0 where
@@ -33,6 +39,27 @@ pub record BeginsEmpty {S P : Type 0} (keep : ℕ) (s : Buffered S P) : Type 0 w
   pub plain : s.block.kind ≡ Plain
   pub empty : s.block.bytes ≡ []
   pub capacity : 3 * keep ≤ s.block.capacity
+
+-- a growth by so many bytes was refused, which the error tells by its kind, and left the reader
+pub record GrowthRefused {S P : Type 0} (more : ℕ) (s : Buffered S P) (e : Error) (t : Buffered S P) : Type 0 where
+  pub tight : usable s.block < more
+  pub refusal : GrowError
+  pub tells : error_kind e ≡ kind_of refusal
+  pub within : FitsWithin {T = Unit {0}} (Err refusal) (capacity_for s.block more) s.block.limit
+  pub unchanged : t ≡ s
+
+-- the buffer has grown by so many bytes, where they didn't fit, and then the reader sought
+pub record GrewAndSought {S P : Type 0} (more : ℕ) (to : SeekFrom) (s : Buffered S P) (answer : Result ℕ Error)
+    (t : Buffered S P) : Type 0 where
+  pub grown : Buffered S P
+  pub grows : Reserves more s.block grown.block
+  pub others : grown ≡ with_block s grown.block
+  pub seeks : Seeks (planned to (length grown.block.bytes)) grown answer t
+
+-- an error is the refusal of the growth, or the seek's
+abbrev pub GrowsAndSeeks : {S P : Type 0} → ℕ → SeekFrom → Buffered S P → Result ℕ Error → Buffered S P → Type 0
+GrowsAndSeeks more to s (Ok n) t = GrewAndSought more to s (Ok n) t
+GrowsAndSeeks more to s (Err e) t = GrowthRefused more s e t ⊎ GrewAndSought more to s (Err e) t
 
 -- no call spares every number, and two stretches join, also where the policy is another from the second on
 pub Spared-none : {S P : Type 0} (keep : ℕ) (s : Buffered S P) → Spared keep s s

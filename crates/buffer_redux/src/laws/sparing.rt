@@ -1,11 +1,11 @@
 //! Runs that spare a plain buffer moves, one after another.
 ghost use Rattle.std.specs.Prelude.{◌≡◌, ℕ, ◌≤◌, is_ok};
 ghost use Rattle.std.specs.List.{All};
-ghost use Rattle.buffer_redux.specs.Buffered.{Buffered};
+ghost use Rattle.buffer_redux.specs.Buffered.{Buffered, with_policy};
 ghost use Rattle.buffer_redux.specs.MinBuffered.{min_read_rules};
 ghost use Rattle.buffer_redux.specs.PlayReader.{MakesNoRoom, ReaderPlays, with_handed};
 ghost use Rattle.buffer_redux.specs.Policy.{ClaimsToSpare};
-ghost use Rattle.buffer_redux.specs.Sparing.{BeginsEmpty, MovedAtMostGiven, Spared};
+ghost use Rattle.buffer_redux.specs.Sparing.{BeginsEmpty, GrowsAndSeeks, MovedAtMostGiven, Spared};
 
 use crate::buf_reader::BufReader;
 use crate::play::{ReaderCall, ReaderRun, play_reader};
@@ -39,7 +39,8 @@ pub fn play_sparing<R: TellRead, P: ReaderPolicy>(
 }
 
 /// What may come between two runs: another minimum, a growth of the buffer, and a seek. What was spared up to here is
-/// spared on, and so is each number that is at least the new minimum; also where the growth or the seek fails.
+/// spared on, and so is each number that is at least the new minimum; also where the growth or the seek fails. The new
+/// minimum stays then too, and nothing but it is new where the growth was refused.
 pub fn spare_between<R: TellSeek>(
     reader: &mut BufReader<R, MinBuffered>,
     min: usize,
@@ -50,6 +51,8 @@ pub fn spare_between<R: TellSeek>(
         → Spared keep first reader.new }
     ensures claims { (keep : ℕ) → min ≤ keep
         → ClaimsToSpare (min_read_rules.claims reader.new.policy).spares keep }
+    ensures ended { GrowsAndSeeks more to (with_policy reader.old (record { 0 = min }))
+        result reader.new }
 {
     reader.policy_mut().set_min(min);
     reader.reserve(more)?;
