@@ -6,15 +6,15 @@ use Rattle.buffer_redux.proofs.WriteOn.{writes_on, flushes_none, takes_in_roomy,
 use Rattle.buffer_redux.proofs.buf_writer.BufWriterWrite.write.Goals as goal
 
 -- the steps where something is sent first, where the bytes may not fit, and where neither is so
-slowly : (g : _) (c : goal.After-write_slowly g)
-    → Writes g.P.WriterPolicy.rules c.args.self.now c.args.bytes.now c.write_slowly.result c.write_slowly.new.self
+slowly : (g : _) (c : goal.After-write_aside g)
+    → Writes g.P.WriterPolicy.rules c.args.self.now c.args.bytes.now c.write_aside.result c.write_aside.new.self
 slowly g c = rw (← c.self.view_is) (writes_on g.P.WriterPolicy.rules _ _ c.args.bytes.now c.in_ok-first.field-0
-    c.in_ok-first.ensures (c.in_ok-first.ensures.law.whole c.self.invariant) refl c.write_slowly.result
-    c.write_slowly.new.self c.write_slowly.ensures.steps)
+    c.in_ok-first.ensures (c.in_ok-first.ensures.law.whole c.self.invariant) refl c.write_aside.result
+    c.write_aside.new.self c.write_aside.ensures.steps)
 
-crowded : (g : _) (c : goal.After-write_slowly-then-bytes-usable_space g)
-    → Writes g.P.WriterPolicy.rules c.args.self.now c.args.bytes.now c.write_slowly-then-bytes-usable_space.result
-    c.write_slowly-then-bytes-usable_space.new.self
+crowded : (g : _) (c : goal.After-write_aside-then-bytes-usable_space g)
+    → Writes g.P.WriterPolicy.rules c.args.self.now c.args.bytes.now c.write_aside-then-bytes-usable_space.result
+    c.write_aside-then-bytes-usable_space.new.self
 crowded g c =
     let none : c.in_ok-first.field-0.0 ≡ 0 = omega (arith, c.if-first-gt0.false, c.in_ok-first.first-is) in
     let before : Buffered g.row.W.Denot g.row.P.Denot = record {
@@ -26,8 +26,8 @@ crowded g c =
     } in
     rw (← c.self.view_is) (writes_on g.P.WriterPolicy.rules _ before c.args.bytes.now c.in_ok-first.field-0
     c.in_ok-first.ensures (c.in_ok-first.ensures.law.whole c.self.invariant) refl
-    c.write_slowly-then-bytes-usable_space.result c.write_slowly-then-bytes-usable_space.new.self
-    (rw none c.write_slowly-then-bytes-usable_space.ensures.steps))
+    c.write_aside-then-bytes-usable_space.result c.write_aside-then-bytes-usable_space.new.self
+    (rw none c.write_aside-then-bytes-usable_space.ensures.steps))
 
 at_once : (g : _) (c : goal.After-flush_after g)
     → Writes g.P.WriterPolicy.rules c.args.self.now c.args.bytes.now (Ok c.copy_from_slice-copied.result)
