@@ -10,4 +10,5 @@ returns-clause-moved g c =
 pub returns-clause-all : goal.returns-clause-all
 returns-clause-all g c =
     let e = c.copy_buf.ensures in
-    on_ok _ _ _ (receives_all g.R.TellRead.remaining g.P.ReaderPolicy.rules _ _ e.reader e.moved.0 _ _ e.moved.1 g.W.Tell.log g.W.TellWrite.stretch g.W.TellWrite.call _ _ refl refl) e.ended
+    on_ok _ _ _ (receives_all g.R.TellRead.remaining g.P.ReaderPolicy.rules _ _ e.reader e.moved.0 _ _ e.moved.1
+    g.W.Tell.log g.W.TellWrite.stretch g.W.TellWrite.call _ _ refl refl) e.ended

@@ -3,4 +3,6 @@ use Rattle.buffer_redux.proofs.Unwrapped.{keeps_unsent}
 use Rattle.buffer_redux.proofs.laws.keep_unsent.Goals as goal
 
 pub returns : goal.returns
-returns g c = keeps_unsent g.W.Tell.log g.W.TellWrite.stretch _ (λ w w' b b' e called. search rules) c.args.writer _ _ c.finish.ensures
+returns g c =
+    keeps_unsent g.W.Tell.log g.W.TellWrite.stretch _ (λ w w' b b' e called. search rules)
+    c.args.writer _ _ c.finish.ensures

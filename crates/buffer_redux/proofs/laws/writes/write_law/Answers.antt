@@ -2,4 +2,6 @@ use Rattle.buffer_redux.specs.WriteLaws.{Writes-exactly}
 use Rattle.buffer_redux.proofs.laws.writes.write_law.Goals as goal
 
 pub returns-clause-exactly : goal.returns-clause-exactly
-returns-clause-exactly g c = Writes-exactly g.P.WriterPolicy.rules c.args.writer.now c.args.bytes.now c.write.result c.write.new.self c.write.ensures.steps
+returns-clause-exactly g c =
+    Writes-exactly g.P.WriterPolicy.rules c.args.writer.now c.args.bytes.now
+    c.write.result c.write.new.self c.write.ensures.steps
