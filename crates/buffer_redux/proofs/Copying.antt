@@ -1,21 +1,12 @@
 -- How what a copy's turns move adds up.
-use Rattle.std.proofs.Common.{◌∙◌, ℕ, ◌+◌, ◌<◌, List, Result, Ok, Err, IfOk, IfErr, [], ◌++◌, inl, inr, refl, sym, ap, subst, append_assoc, append-nil, length-append, le_refl, le_trans, arith}
+use Rattle.std.proofs.Common.{◌∙◌, ℕ, ◌+◌, ◌<◌, List, Result, Ok, Err, IfOk, IfErr, ◌++◌, inl, inr, ap, subst, append_assoc, length-append, le_trans, arith}
 use Rattle.std.specs.IoError.{error_kind}
 use Rattle.std.specs.declared.io.Error.{Error}
 use Rattle.redux_buffer.specs.StreamLog.{StreamLog, FillLog, WriteLog}
-use Rattle.redux_buffer.specs.Faults.{OnlyInterrupts-none, OnlyInterrupts-joins, FaultAfterInterrupts-after, OnlyInterrupted-none, MetInterrupts-joins}
+use Rattle.redux_buffer.specs.Faults.{OnlyInterrupts-joins, FaultAfterInterrupts-after, MetInterrupts-joins}
 use Rattle.buffer_redux.specs.Copy.{MovedBy, CopiesOn, LastWrite, CopyEnded, StreamFailed}
 
-MovedBy-none : (a : FillLog) (x : WriteLog) → MovedBy 0 a a x x
-MovedBy-none a x = record {
-  bytes = [];
-  count = refl;
-  consumed = sym (append-nil a.consumed);
-  received = sym (append-nil x.received);
-  not_flushed = refl;
-}
-
-pub MovedBy-joins : (n k : ℕ) (a b c : FillLog) (x y z : WriteLog)
+MovedBy-joins : (n k : ℕ) (a b c : FillLog) (x y z : WriteLog)
     → MovedBy n a b x y → MovedBy k b c y z → MovedBy (n + k) a c x z
 MovedBy-joins n k a b c x y z p q = record {
   bytes = p.bytes ++ q.bytes;
@@ -23,14 +14,6 @@ MovedBy-joins n k a b c x y z p q = record {
   consumed = q.consumed ∙ ap (λ l. l ++ q.bytes) p.consumed ∙ append_assoc a.consumed p.bytes q.bytes;
   received = q.received ∙ ap (λ l. l ++ q.bytes) p.received ∙ append_assoc x.received p.bytes q.bytes;
   not_flushed = q.not_flushed ∙ p.not_flushed;
-}
-
-pub CopiesOn-none : (a : FillLog) (x : WriteLog) → CopiesOn 0 a a x x
-CopiesOn-none a x = record {
-  moved = MovedBy-none a x;
-  ends = le_refl _;
-  reader = OnlyInterrupts-none a.faults;
-  writer = record { times = 0; only = OnlyInterrupted-none x };
 }
 
 -- turns that follow one another

@@ -204,6 +204,6 @@ module _ {S P : Type 0} (rules : ReadRules P) where
       → Filled rules s (Ok a) t → Filled rules s (Ok b) t
   filled_ok s a b t f = record { count = f.count; last = f.last; turns = f.turns; ends = f.ends }
 
-  pub filled_err : (A B : Type 0) (s : Buffered S P) (e : Error) (t : Buffered S P)
+  pub filled_err : {A B : Type 0} (s : Buffered S P) (e : Error) (t : Buffered S P)
       → Filled {A = A} rules s (Err e) t → Filled {A = B} rules s (Err e) t
-  filled_err A B s e t f = record { count = f.count; last = f.last; turns = f.turns; ends = f.ends }
+  filled_err s e t f = record { count = f.count; last = f.last; turns = f.turns; ends = f.ends }

@@ -1,12 +1,12 @@
 -- What is known of the bytes ahead of a buffered reader, call after call.
-use Rattle.std.proofs.Common.{◌≡◌, ℕ, zero, suc, ◌<◌, ◌≤◌, ◌==◌, ◌||◌, ◌⊎◌, not, cond, List, [], ◌++◌, Bool, true, false, length, take, drop, Result, Ok, Err, Option, None, Some, IfSome, IfOk, le_of_eq, refl, sym, ap, subst, ◌∙◌, arith, inl, inr, append_assoc}
-use Rattle.std.proofs.lemmas.List.{append_cancel_left, length-take-le, nil_from_length}
-use Rattle.std.proofs.Math.Seq.{drop-append_seam}
+use Rattle.std.proofs.Common.{◌≡◌, ℕ, zero, suc, ◌<◌, ◌≤◌, ◌==◌, ◌||◌, ◌⊎◌, not, cond, List, [], ◌++◌, Bool, true, false, length, Result, Ok, Err, Option, None, Some, IfSome, IfOk, le_of_eq, refl, sym, ap, subst, ◌∙◌, arith, inl, inr, append_assoc}
+use Rattle.std.proofs.lemmas.Bool.{not-false}
+use Rattle.std.proofs.lemmas.List.{append_cancel_left, nil_from_length}
 use Rattle.std.proofs.KnownBytes.{prepend_known-front, prepend_known-end}
 use Rattle.std.specs.Io.{StartsWith}
 use Rattle.std.specs.Io.KnownBytes.{Keeps, Consumes, IsAtEnd, prepend_known}
 use Rattle.std.specs.Borrow.{Bor}
-use Rattle.std.specs.Io.BufRead.{DropsConsumable, FillKeeps}
+use Rattle.std.specs.Io.BufRead.{FillKeeps}
 use Rattle.std.specs.declared.io.Error.{Error}
 use Rattle.buffer_redux.specs.Policy.{ReadRules}
 use Rattle.buffer_redux.specs.Buffered.{Buffered}
@@ -30,11 +30,7 @@ wants_some_if (Some n) e = grind (arith, e)
 
 wants_if : (st : Bool) (m : Option ℕ) → not (st || wants_some m) ≡ false → (st ≡ true) ⊎ WantsSome m
 wants_if true m e = inl refl
-wants_if false m e = inr (wants_some_if m (no_not (wants_some m) e))
-  where
-    no_not : (b : Bool) → not b ≡ false → b ≡ true
-    no_not true e = refl
-    no_not false e = cc
+wants_if false m e = inr (wants_some_if m (not-false (wants_some m) e))
 
 has_room : (c : ℕ) → (c == 0) ≡ false → 0 < c
 has_room zero e = cc
@@ -76,15 +72,6 @@ pub Keeps_of : (a b : Option (List ℕ)) → Consumes a b [] → Keeps a b
 Keeps_of None b p = tt
 Keeps_of (Some x) None p = absurd p
 Keeps_of (Some x) (Some y) p = sym p
-
--- the front of a buffer that leaves it leaves the known bytes
-pub DropsConsumable_of : (a b : Option (List ℕ)) (bs : List ℕ) (n : ℕ)
-    → Consumes a b (take n bs) → DropsConsumable a b (Some (length bs)) n
-DropsConsumable_of None b bs n p = tt
-DropsConsumable_of (Some x) None bs n p = absurd p
-DropsConsumable_of (Some x) (Some y) bs n p = λ fits.
-    let whole = length-take-le n bs fits in
-    ap Some (sym (ap (drop n) p ∙ ap (λ k. drop k (take n bs ++ y)) (sym whole) ∙ drop-append_seam (take n bs) y))
 
 pub some_holds : (o : Option (List ℕ)) (Q : Type 0) → Q → IfSome o (λ _. Q)
 some_holds None Q q = tt

@@ -4,7 +4,6 @@ pub mod SparingFacts
 pub mod FillFacts
 pub mod FillClaims
 pub mod KnownAhead
-pub mod KnownPosition
 pub mod WriterFacts
 pub mod Telling
 pub mod Resting

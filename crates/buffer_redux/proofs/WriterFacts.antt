@@ -288,26 +288,6 @@ blamed old new kind caused = elim caused.cause [
 ]
 
 module _ {S P : Type 0} (rules : WriteRules P) where
-  -- the policy's claims stay over the steps of a write
-  prepared_claims : (incoming : ℕ) (s m : Buffered S P) (flushed : Result (Unit {0}) Error) → Prepared rules incoming s flushed m
-      → rules.claims m.policy ≡ rules.claims s.policy
-  prepared_claims incoming s m flushed p = ap rules.claims p.flush.policy ∙ p.asked.claims
-
-  took_in_policy : (bs : List ℕ) (s t : Buffered S P) (answer : Result ℕ Error) → TakesIn bs s answer t → t.policy ≡ s.policy
-  took_in_policy bs s t answer f = elim (ways_in s.block (length bs))
-      [ inl past ↦ (f.past past).policy | inr inside ↦ (f.inside inside).policy ]
-
-  pub writes_claims : (s : Buffered S P) (bs : List ℕ) (answer : Result ℕ Error) (t : Buffered S P) → Writes rules s bs answer t
-      → rules.claims t.policy ≡ rules.claims s.policy
-  writes_claims s bs (Ok n) t wrote =
-      wrote.finished.asked.claims ∙ ap rules.claims (took_in_policy bs wrote.before wrote.after (Ok n) wrote.took_in)
-      ∙ prepared_claims (length bs) s wrote.before (Ok tt) wrote.prepared
-  writes_claims s bs (Err e) t (inl refused) = refused.asked.claims
-  writes_claims s bs (Err e) t (inr (inl prepared)) = prepared_claims (length bs) s t (Err e) prepared
-  writes_claims s bs (Err e) t (inr (inr faulted)) =
-      ap rules.claims (took_in_policy bs faulted.before t (Err e) faulted.took_in)
-      ∙ prepared_claims (length bs) s faulted.before (Ok tt) faulted.prepared
-
   -- a steady policy flushes all before a write that doesn't fit, so there is space where there is capacity
   steady_space : (s : Buffered S P) (incoming : ℕ) → (rules.claims s.policy).steady ≡ true → 0 < incoming
       → 0 < s.block.capacity → NoSpace rules s incoming → ⊥

@@ -19,7 +19,7 @@ returns-in_err-fill g c =
         refl,
         (λ _. tt),
         record {
-          fills = fills rules _ _ _ f.whole (filled_err rules _ _ _ _ _ f.filled);
+          fills = fills rules _ _ _ f.whole (filled_err rules _ _ _ f.filled);
           known = f.known;
           shown = tt;
           noted = f.noted;

@@ -22,7 +22,7 @@ failed : (g : _) (c : goal.After-from_residual g)
     → Fills {A = ℕ} g.P.ReaderPolicy.rules c.args.self.now (Err c.in_err-fill.field-0.0) c.fill.new.self
 failed g c =
     let f = c.in_err-fill.ensures in
-    fills g.P.ReaderPolicy.rules _ _ _ f.whole (filled_err g.P.ReaderPolicy.rules _ _ _ _ _ f.filled)
+    fills g.P.ReaderPolicy.rules _ _ _ f.whole (filled_err g.P.ReaderPolicy.rules _ _ _ f.filled)
 
 filled : (g : _) (c : goal.After-slice_known-2-1 g)
     → Fills g.P.ReaderPolicy.rules c.args.self.now (Ok c.hand_out.result) c.fill.new.self

@@ -1,8 +1,5 @@
-use Rattle.std.proofs.Common.{◌≡◌, ℕ, ◌<◌, List, [], ◌++◌, length, take, drop, min, Option, Result, Ok, sym, ap, ◌∙◌, arith, rules, append-nil, length-take-le, take_at}
+use Rattle.std.proofs.Common.{◌≡◌, ℕ, List, [], ◌++◌, length, take, drop, min, sym, ap, ◌∙◌, arith, rules, append-nil, length-take-le, take_at}
 use Rattle.std.proofs.lemmas.List.{take-append-drop, nil_from_length}
-use Rattle.std.proofs.KnownBytes.{Keeps-refl, prepend_known-nil, prepend_known-read}
-use Rattle.std.specs.Io.KnownBytes.{prepend_known, ReadConsumes}
-use Rattle.std.specs.declared.io.Error.{Error}
 use Rattle.redux_buffer.specs.StreamLog.{taken}
 use Rattle.buffer_redux.specs.Unbuffer.{Unbuffered, HandsOutInOrder, bytes_in}
 use Rattle.buffer_redux.proofs.unbuffer.UnbufferRead.read.Goals as goal
@@ -43,17 +40,3 @@ returns-then-is_empty-clause-in_order g c =
     (copy.ensures.count ∙ ap (λ l. min (length l) (length c.args.out.now)) (sym had))
     (copy.ensures.copied ∙ ap (λ l. take copy.result l ++ drop copy.result c.args.out.now) (sym had))
     (freed ∙ sym none ∙ copy.ensures.bytes.bytes ∙ ap (drop copy.result) (sym had)) told
-
--- what was left lost the front that was handed out, which is something where the slice has room
-lost : (known : Option (List ℕ)) (left left' out : List ℕ) (n : ℕ)
-    → take n out ++ left' ≡ left ++ [] → (n ≡ 0 → 0 < length out → ⊥)
-    → ReadConsumes {E = Error} (prepend_known left known) (prepend_known left' known) (Ok n) out
-lost known left left' out n equal some =
-    let parts = prepend_known-read (prepend_known left known) known left left' (take n out) ⊥
-    (Keeps-refl (prepend_known left known)) (sym (equal ∙ append-nil left)) (λ x. absurd x) in
-    (parts.0, λ none room. absurd (some none room))
-
--- where nothing was left, the reader's own clause is that of the read
-asked : (a b : Option (List ℕ)) (answer : Result ℕ Error) (out : List ℕ) → ReadConsumes a b answer out
-    → ReadConsumes (prepend_known [] a) (prepend_known [] b) answer out
-asked a b answer out read = rw (prepend_known-nil a, prepend_known-nil b) read
