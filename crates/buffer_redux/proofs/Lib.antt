@@ -4,6 +4,7 @@ pub mod SparingFacts
 pub mod FillFacts
 pub mod FillClaims
 pub mod KnownAhead
+pub mod WriteSteps
 pub mod WriterFacts
 pub mod Telling
 pub mod Resting

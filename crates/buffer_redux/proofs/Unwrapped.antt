@@ -11,7 +11,7 @@ use Rattle.redux_buffer.specs.StreamLog.{StreamLog}
 use Rattle.redux_buffer.specs.Transfer.{Sends}
 use Rattle.buffer_redux.specs.Buffered.{Buffered}
 use Rattle.buffer_redux.specs.Unwrapping.{Handler, Handled, SendsOrHandles, KeepsUnsent}
-use Rattle.buffer_redux.proofs.WriterFacts.{WritesInOrder-sends}
+use Rattle.buffer_redux.proofs.WriteSteps.{WritesInOrder-sends}
 
 abbrev pub Leaves : {S : Type 0} → Handler S → Type 0
 Leaves {S} handler =

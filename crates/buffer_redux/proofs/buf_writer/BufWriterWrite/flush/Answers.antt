@@ -2,7 +2,7 @@ use Rattle.std.proofs.Common.{◌++◌, take, refl, sym, ap, ◌∙◌, append-n
 use Rattle.std.proofs.lemmas.List.{take-append-drop}
 use Rattle.std.proofs.lemmas.Result.{err_from_is_err_and}
 use Rattle.redux_buffer.specs.LogGrows.{WriteLogGrows-joins, WriteLogGrows-flush}
-use Rattle.buffer_redux.proofs.WriterFacts.{WritesInOrder-sends, sends_grow}
+use Rattle.buffer_redux.proofs.WriteSteps.{WritesInOrder-sends, sends_grow}
 use Rattle.buffer_redux.proofs.buf_writer.BufWriterWrite.flush.Goals as goal
 
 pub returns-in_err-write_all-clause-in_order : goal.returns-in_err-write_all-clause-in_order

@@ -1,0 +1,200 @@
+-- What each step of a write keeps.
+use Rattle.std.proofs.Common.{◌≡◌, ℕ, ◌≤◌, List, [], ◌∷◌, ◌++◌, length, take, drop, replicate, Result, Ok, Err, sym, ap, ◌∙◌, arith, inl, inr, append-nil, append_assoc, length-drop, subst}
+use Rattle.std.proofs.lemmas.Bool.{cases_lt}
+use Rattle.std.proofs.lemmas.List.{nil_from_length, take-append-drop}
+use Rattle.std.specs.IoError.{error_kind}
+use Rattle.std.specs.declared.io.Error.{Error}
+use Rattle.std.specs.declared.io.ErrorKind.TheVariants.{Interrupted}
+use Rattle.redux_buffer.specs.Block.{Block, usable}
+use Rattle.redux_buffer.specs.GoesOn.{GoesOn}
+use Rattle.redux_buffer.specs.LogGrows.{WriteLogGrows, WriteLogGrows-none, WriteLogGrows-joins, WriteLogGrows-write}
+use Rattle.redux_buffer.specs.StreamLog.{StreamLog, taken}
+use Rattle.redux_buffer.specs.Transfer.{Sends}
+use Rattle.buffer_redux.specs.Policy.{WriteRules}
+use Rattle.buffer_redux.specs.Buffered.{Buffered, with_policy}
+use Rattle.buffer_redux.specs.BufWriter.{FlushesAmount, TakesIn, CopiesIn, Prepared, Finished, WritesInOrder}
+use Rattle.buffer_redux.specs.WriterLaws.{flush_ways, ways_in, WritesInOrder-joins}
+
+-- sending lets the log go on
+sent_faults : (amount : ℕ) (b b' : Block) (log log' : StreamLog) (answer : Result (Unit {0}) Error)
+    → Sends amount b log answer b' log'
+    → GoesOn log.writes.faults log'.writes.faults × (log.writes.zero_writes ≤ log'.writes.zero_writes)
+sent_faults amount b b' log log' (Ok _) f =
+    (record { more = _; equal = f.ok.faults }, omega (arith, f.ok.zero_writes))
+sent_faults amount b b' log log' (Err e) f = elim f.failed.cause [
+  | inl nothing ↦ (record { more = _; equal = nothing.faults }, omega (arith, nothing.zero_writes))
+  | inr fault ↦ (
+    record {
+      more = replicate f.interrupts Interrupted ++ error_kind e ∷ [];
+      equal = fault.faults
+          ∙ append_assoc log.writes.faults (replicate f.interrupts Interrupted) (error_kind e ∷ []);
+    },
+    omega (arith, fault.zero_writes),
+  )
+]
+
+pub sends_grow : (amount : ℕ) (b b' : Block) (log log' : StreamLog) (answer : Result (Unit {0}) Error)
+    → Sends amount b log answer b' log' → WriteLogGrows log.writes log'.writes
+sends_grow amount b b' log log' answer f =
+    let faults = sent_faults amount b b' log log' answer f in record {
+      received = record { more = take f.count b.bytes; equal = f.sent.received };
+      flushed = inl f.sent.flushed;
+      zero_writes = faults.1;
+      faults = faults.0;
+    }
+
+pub log_same : (log log' : StreamLog) → log' ≡ log → WriteLogGrows log.writes log'.writes
+log_same log log' same =
+    subst (λ l. WriteLogGrows log.writes l.writes) (sym same) (WriteLogGrows-none log.writes)
+
+module _ {S P : Type 0} where
+  -- nothing was received, and xs came behind the bytes
+  WritesInOrder-added : (s t : Buffered S P) (xs : List ℕ) → t.log.writes.received ≡ s.log.writes.received
+      → t.block.bytes ≡ s.block.bytes ++ xs → WritesInOrder s xs t
+  WritesInOrder-added s t xs r b =
+      record { sent = []; received = r ∙ sym (append-nil s.log.writes.received); equal = b }
+
+  pub WritesInOrder-same : (s t : Buffered S P) → t.log ≡ s.log → t.block.bytes ≡ s.block.bytes
+      → WritesInOrder s [] t
+  WritesInOrder-same s t told b =
+      WritesInOrder-added s t [] (ap (λ l. l.writes.received) told) (b ∙ sym (append-nil s.block.bytes))
+
+  pub WritesInOrder-sends : (s t : Buffered S P) (amount : ℕ) (answer : Result (Unit {0}) Error)
+      → Sends amount s.block s.log answer t.block t.log → WritesInOrder s [] t
+  WritesInOrder-sends s t amount answer f = record {
+    sent = take f.count s.block.bytes;
+    received = f.sent.received;
+    equal =
+        ap (λ l. take f.count s.block.bytes ++ l) f.sent.dropped.bytes
+        ∙ take-append-drop f.count s.block.bytes ∙ sym (append-nil s.block.bytes);
+  }
+
+  -- what every step of a write keeps
+  pub record StepKeeps (s : Buffered S P) (accepted : List ℕ) (t : Buffered S P) : Type 0 where
+    pub in_order : WritesInOrder s accepted t
+    pub grows : WriteLogGrows s.log.writes t.log.writes
+    pub flushed : t.log.writes.flushed ≡ s.log.writes.flushed
+    pub capacity : s.block.capacity ≤ t.block.capacity
+
+  pub StepKeeps-joins : (s m t : Buffered S P) (a b : List ℕ)
+      → StepKeeps s a m → StepKeeps m b t → StepKeeps s (a ++ b) t
+  StepKeeps-joins s m t a b p q = record {
+    in_order = WritesInOrder-joins s m t a b p.in_order q.in_order;
+    grows = WriteLogGrows-joins s.log.writes m.log.writes t.log.writes p.grows q.grows;
+    flushed = q.flushed ∙ p.flushed;
+    capacity = omega (arith, p.capacity, q.capacity);
+  }
+
+  -- a step that accepts nothing more
+  pub StepKeeps-then : (s m t : Buffered S P) (a : List ℕ)
+      → StepKeeps s a m → StepKeeps m [] t → StepKeeps s a t
+  StepKeeps-then s m t a p q = subst (λ l. StepKeeps s l t) (append-nil a) (StepKeeps-joins s m t a [] p q)
+
+  module _ (s t : Buffered S P) (amount : ℕ) (answer : Result (Unit {0}) Error)
+      (f : FlushesAmount amount s answer t) where
+    pub capacity_stays : t.block.capacity ≡ s.block.capacity
+    capacity_stays = elim (flush_ways amount (length s.block.bytes)) [
+      | inl none ↦ ap (λ b. b.capacity) (f.idle none).buffer
+      | inr some ↦ (f.sends some.0 some.1).sent.dropped.capacity
+    ]
+
+    -- where no byte left, all stayed
+    pub bytes_stay : length s.block.bytes ≤ length t.block.bytes → t.block.bytes ≡ s.block.bytes
+    bytes_stay long = elim (flush_ways amount (length s.block.bytes)) [
+      | inl none ↦ ap (λ b. b.bytes) (f.idle none).buffer
+      | inr some ↦ (
+          let sends = f.sends some.0 some.1 in
+          let left = ap length sends.sent.dropped.bytes ∙ length-drop sends.count s.block.bytes in
+          let none : sends.count ≡ 0 = omega (arith, left, sends.sent.within, long) in
+          sends.sent.dropped.bytes ∙ ap (λ k. drop k s.block.bytes) none
+          )
+    ]
+
+    StepKeeps-flush : StepKeeps s [] t
+    StepKeeps-flush = elim (flush_ways amount (length s.block.bytes)) [
+      | inl none ↦ (
+          let idle = f.idle none in
+          record {
+            in_order = WritesInOrder-same s t idle.told (ap (λ b. b.bytes) idle.buffer);
+            grows = log_same s.log t.log idle.told;
+            flushed = ap (λ l. l.writes.flushed) idle.told;
+            capacity = omega (arith, capacity_stays);
+          }
+          )
+      | inr some ↦ (
+          let sends = f.sends some.0 some.1 in
+          record {
+            in_order = WritesInOrder-sends s t amount answer sends;
+            grows = sends_grow amount _ _ _ _ answer sends;
+            flushed = sends.sent.flushed;
+            capacity = omega (arith, capacity_stays);
+          }
+          )
+    ]
+
+  -- bytes copied in behind those that the buffer had
+  settled_bytes : (bs : List ℕ) (s : Buffered S P) (answer : Result ℕ Error) (t : Buffered S P)
+      (copied : CopiesIn bs s answer t)
+      → (copied.settled.bytes ≡ s.block.bytes) × (copied.settled.capacity ≡ s.block.capacity)
+  settled_bytes bs s answer t copied = elim (cases_lt 0 (usable s.block)) [
+    | inl some ↦ (let same = copied.roomy some in (ap (λ b. b.bytes) same, ap (λ b. b.capacity) same))
+    | inr none ↦ (let made = copied.tight (omega (arith, none)) in (made.bytes, made.capacity))
+  ]
+
+  -- bytes taken in past the buffer, or into it
+  pub StepKeeps-takes : (s t : Buffered S P) (bs : List ℕ) (answer : Result ℕ Error)
+      → TakesIn bs s answer t → StepKeeps s (taken bs answer) t
+  StepKeeps-takes s t bs answer f = elim (ways_in s.block (length bs)) [
+    | inl past ↦ (
+        let direct = f.past past in
+        let none = nil_from_length s.block.bytes past.0 in
+        let empty : t.block.bytes ≡ [] = ap (λ b. b.bytes) direct.block ∙ none in record {
+          in_order = record {
+            sent = taken bs answer;
+            received = ap (λ l. l.writes.received) direct.told;
+            equal =
+                ap (λ l. taken bs answer ++ l) empty ∙ append-nil (taken bs answer)
+                ∙ ap (λ l. l ++ taken bs answer) (sym none);
+          };
+          grows = subst (λ l. WriteLogGrows s.log.writes l.writes) (sym direct.told)
+              (WriteLogGrows-write s.log bs answer);
+          flushed = ap (λ l. l.writes.flushed) direct.told;
+          capacity = omega (arith, ap (λ b. b.capacity) direct.block);
+        }
+        )
+    | inr inside ↦ (
+        let copied = f.inside inside in
+        let settled = settled_bytes bs s answer t copied in record {
+          in_order = WritesInOrder-added s t (taken bs answer) (ap (λ l. l.writes.received) copied.told)
+              (copied.added.bytes ∙ ap (λ l. l ++ taken bs answer) settled.0);
+          grows = log_same s.log t.log copied.told;
+          flushed = ap (λ l. l.writes.flushed) copied.told;
+          capacity = omega (arith, copied.added.capacity, settled.1);
+        }
+        )
+  ]
+
+  pub StepKeeps-prepared : (rules : WriteRules P) (incoming : ℕ) (s m : Buffered S P)
+      (flushed : Result (Unit {0}) Error) → Prepared rules incoming s flushed m → StepKeeps s [] m
+  StepKeeps-prepared rules incoming s m flushed p = StepKeeps-joins s p.seen m [] []
+      (record {
+        in_order = WritesInOrder-same s p.seen p.told p.asked.law.bytes;
+        grows = log_same s.log p.seen.log p.told;
+        flushed = ap (λ l. l.writes.flushed) p.told;
+        capacity = p.asked.law.capacity;
+      })
+      (StepKeeps-flush p.seen m (p.amount.0) flushed p.flush)
+
+  pub StepKeeps-finished : (rules : WriteRules P) (m t : Buffered S P) → Finished rules m t → StepKeeps m [] t
+  StepKeeps-finished rules m t f =
+      let kept = StepKeeps-flush (with_policy m t.policy) t (f.amount.0) f.flushed f.flush in
+      record {
+        in_order = record {
+          sent = kept.in_order.sent;
+          received = kept.in_order.received;
+          equal = kept.in_order.equal;
+        };
+        grows = kept.grows;
+        flushed = kept.flushed;
+        capacity = kept.capacity;
+      }
