@@ -13,16 +13,16 @@ use Rattle.buffer_redux.specs.Copy.{MovedBy, CopyEnded, MovesKnown, ReceivesAll}
 use Rattle.buffer_redux.specs.Remaining.{ahead, may_stop, reader_remaining}
 use Rattle.buffer_redux.proofs.KnownAhead.{remaining_gives, ahead_gives, wants_so, at_nothing, IfSome_if}
 
-if_any : (o : Option (List ℕ)) (P : List ℕ → Type 0) → ((xs : List ℕ) → P xs) → IfSome o P
-if_any None P h = tt
-if_any (Some xs) P h = h xs
+IfSome_any : (o : Option (List ℕ)) (P : List ℕ → Type 0) → ((xs : List ℕ) → P xs) → IfSome o P
+IfSome_any None P h = tt
+IfSome_any (Some xs) P h = h xs
 
 -- what was handed out is all that there was, where nothing is left
-whole : (a b : Option (List ℕ)) (bs bs' handed : List ℕ) (P : List ℕ → Type 0)
+handed_all : (a b : Option (List ℕ)) (bs bs' handed : List ℕ) (P : List ℕ → Type 0)
     → Consumes (prepend_known bs a) (prepend_known bs' b) handed → bs' ≡ [] → IfSome a (λ _. IsAtEnd b)
     → P handed → IfSome (prepend_known bs a) P
-whole None b bs bs' handed P went none ended holds = tt
-whole (Some x) b bs bs' handed P went none ended holds =
+handed_all None b bs bs' handed P went none ended holds = tt
+handed_all (Some x) b bs bs' handed P went none ended holds =
     Consumes-whole (prepend_known bs (Some x)) (prepend_known bs' b) handed P went
     (at_nothing b bs' none ended) holds
 
@@ -33,12 +33,12 @@ on_ok (Err e) P Q h p = tt
 module _ {S P : Type 0} (remaining : S → Option (List ℕ)) (rules : ReadRules P) (s t : Buffered S P)
     (went : ReaderWent remaining rules s t) (n : ℕ) (to to' : WriteLog)
     (moved : MovedBy n (reader_log s).fills (reader_log t).fills to to') where
-  same : moved.bytes ≡ went.handed
-  same =
+  moved_handed : moved.bytes ≡ went.handed
+  moved_handed =
       append_cancel_left s.calls.fills.consumed moved.bytes went.handed (sym moved.consumed ∙ went.consumed)
 
   received : to'.received ≡ to.received ++ went.handed
-  received = moved.received ∙ ap (λ l. to.received ++ l) same
+  received = moved.received ∙ ap (λ l. to.received ++ l) moved_handed
 
   pub moves_known : MovesKnown (reader_remaining remaining rules s)
       (reader_remaining remaining rules t) to to'
@@ -56,7 +56,7 @@ module _ {S P : Type 0} (remaining : S → Option (List ℕ)) (rules : ReadRules
       IfSome_if (may_stop rules s) (ahead remaining s) _ (λ is.
       let wants = wants_so remaining rules s is in
       elim (cases_lt 0 (length t.block.bytes)) [
-        | inl some ↦ if_any (ahead remaining s) _ (λ xs. inr (omega (
+        | inl some ↦ IfSome_any (ahead remaining s) _ (λ xs. inr (omega (
           arith,
           ap (λ l. l.zero_writes) at,
           ap (λ l. l.zero_writes) at',
@@ -66,7 +66,7 @@ module _ {S P : Type 0} (remaining : S → Option (List ℕ)) (rules : ReadRules
         )))
         | inr few ↦ (
             let none : length t.block.bytes ≡ 0 = omega (arith, few) in
-            whole (remaining s.inner) (remaining t.inner) s.block.bytes t.block.bytes went.handed _
+            handed_all (remaining s.inner) (remaining t.inner) s.block.bytes t.block.bytes went.handed _
             (ahead_gives remaining rules s t went.handed went.in_order went.known)
             (nil_from_length t.block.bytes none)
             (went.known.dry (omega (arith, ended.ends none, went.ends wants.0 wants.1))) (inl received)

@@ -17,17 +17,17 @@ use Rattle.buffer_redux.specs.ReaderLaws.{ReadsInOrder-none, ReadsInOrder-joins}
 
 -- one read that gave n bytes
 module _ (b b' : Block) (log log' : StreamLog) (n : ℕ) (read : ReadsOnce b log (Ok n) b' log') where
-  pub zero_kept : 0 < n → log'.reads.zero_answers ≡ log.reads.zero_answers
+  zero_kept : 0 < n → log'.reads.zero_answers ≡ log.reads.zero_answers
   zero_kept some = ap (λ l. l.reads.zero_answers) read.told ∙ grind arith
 
   pub asked_once : log'.reads.asks ≡ log.reads.asks + 1
   asked_once = ap (λ l. l.reads.asks) read.told
 
-  pub got_length : length (take n read.out) ≡ n
+  got_length : length (take n read.out) ≡ n
   got_length = length-take-le n read.out read.bound.0
 
-  pub longer : length b'.bytes ≡ length b.bytes + n
-  longer =
+  length_after_read : length b'.bytes ≡ length b.bytes + n
+  length_after_read =
       ap length read.added.bytes ∙ length-append b.bytes (take n read.out)
       ∙ ap (λ k. length b.bytes + k) got_length
 
@@ -46,7 +46,7 @@ pub zero_rose : (b b' : Block) (log log' : StreamLog)
 zero_rose b b' log log' read room = ap (λ l. l.reads.zero_answers) read.told ∙ grind (arith, read.offered)
 
 -- a read lets its log go on
-pub read_grows : (b b' : Block) (log log' : StreamLog) (answer : Result ℕ Error)
+read_grows : (b b' : Block) (log log' : StreamLog) (answer : Result ℕ Error)
     → ReadsOnce b log answer b' log' → ReadLogGrows log.reads log'.reads
 read_grows b b' log log' answer read =
     subst (λ l. ReadLogGrows log.reads l.reads) (sym read.told) (ReadLogGrows-read log read.out answer)
@@ -197,7 +197,7 @@ module _ {S P : Type 0} (rules : ReadRules P) where
       let read = turn.read in
       let asked = turn.ordered.asked in
       let once = asked_once turn.seen t.block m.log t.log turn.count read in
-      let more = longer turn.seen t.block m.log t.log turn.count read in
+      let more = length_after_read turn.seen t.block m.log t.log turn.count read in
       record {
         holds = Holds-joins s m t before.holds (Holds-read m t turn.seen _ (Ok turn.count) asked read);
         faults = ap (λ l. l.reads.faults) read.told ∙ before.faults;

@@ -11,7 +11,7 @@ use Rattle.buffer_redux.specs.ReaderLaws.{ReadsInOrder-none, ReadsInOrder-joins}
 use Rattle.buffer_redux.specs.PlayReader.{Handing, HandsOut, MakesNoRoom, ReaderStep, ReaderRuns, ReaderPlays}
 use Rattle.buffer_redux.specs.Sparing.{Spared, Spared-none, Spared-joins, SparesClaimed}
 
-pub HandsOut-none : {S P : Type 0} (s : Handing S P) → HandsOut s [] s
+HandsOut-none : {S P : Type 0} (s : Handing S P) → HandsOut s [] s
 HandsOut-none s = record {
   handed = sym (append-nil s.handed);
   in_order = ReadsInOrder-none s.reader;
@@ -19,7 +19,7 @@ HandsOut-none s = record {
   consumed = omega arith;
 }
 
-pub HandsOut-joins : {S P : Type 0} (s m t : Handing S P) (a b : List ℕ) → HandsOut s a m → HandsOut m b t
+HandsOut-joins : {S P : Type 0} (s m t : Handing S P) (a b : List ℕ) → HandsOut s a m → HandsOut m b t
     → HandsOut s (a ++ b) t
 HandsOut-joins s m t a b p q = record {
   handed = q.handed ∙ ap (λ l. l ++ b) p.handed ∙ append_assoc s.handed a b;
@@ -41,7 +41,7 @@ module _ {S P : Type 0} (rules : ReadRules P) where
       (h.0, h.1, ReaderRuns-more h.0 calls answers m call answer t h.2 step)
 
   -- what a run handed out
-  pub ReaderRuns-hands_out : (s : Handing S P) (calls : List ReaderCall) (answers : List ReaderAnswer) (t : Handing S P)
+  ReaderRuns-hands_out : (s : Handing S P) (calls : List ReaderCall) (answers : List ReaderAnswer) (t : Handing S P)
       → ReaderRuns rules s calls answers t → (out : List ℕ) × HandsOut s out t
   ReaderRuns-hands_out s [] [] t e = ([], subst (HandsOut s []) e (HandsOut-none s))
   ReaderRuns-hands_out s [] (a ∷ answers) t e = absurd e
@@ -51,14 +51,14 @@ module _ {S P : Type 0} (rules : ReadRules P) where
       (h.1.out ++ rest.0, HandsOut-joins s h.0 t h.1.out rest.0 h.1.hands_out rest.1)
 
   -- what the policy claims stays in a run, and a run that doesn't make room spares what it claims to
-  pub ReaderRuns-claims : (s : Handing S P) (calls : List ReaderCall) (answers : List ReaderAnswer) (t : Handing S P)
+  ReaderRuns-claims : (s : Handing S P) (calls : List ReaderCall) (answers : List ReaderAnswer) (t : Handing S P)
       → ReaderRuns rules s calls answers t → rules.claims t.reader.policy ≡ rules.claims s.reader.policy
   ReaderRuns-claims s [] [] t e = ap (λ (x : Handing S P). rules.claims x.reader.policy) (sym e)
   ReaderRuns-claims s [] (a ∷ answers) t e = absurd e
   ReaderRuns-claims s (c ∷ calls) [] t e = absurd e
   ReaderRuns-claims s (c ∷ calls) (a ∷ answers) t h = ReaderRuns-claims h.0 calls answers t h.2 ∙ h.1.claims
 
-  pub ReaderRuns-sparing : (s : Handing S P) (calls : List ReaderCall) (answers : List ReaderAnswer) (t : Handing S P)
+  ReaderRuns-sparing : (s : Handing S P) (calls : List ReaderCall) (answers : List ReaderAnswer) (t : Handing S P)
       → ReaderRuns rules s calls answers t → All MakesNoRoom calls → SparesClaimed rules s.reader t.reader
   ReaderRuns-sparing s [] [] t e still keep claims =
       subst (λ (x : Handing S P). Spared keep s.reader x.reader) e (Spared-none keep s.reader)

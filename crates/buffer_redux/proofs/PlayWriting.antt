@@ -9,14 +9,14 @@ use Rattle.buffer_redux.specs.Buffered.{Buffered}
 use Rattle.buffer_redux.specs.WriterLaws.{WritesInOrder-none, WritesInOrder-joins}
 use Rattle.buffer_redux.specs.PlayWriter.{Accepts, WriterStep, WriterRuns, WriterPlays, accepted, accepted_by}
 
-pub Accepts-none : {S P : Type 0} (s : Buffered S P) → Accepts s [] s
+Accepts-none : {S P : Type 0} (s : Buffered S P) → Accepts s [] s
 Accepts-none s = record {
   in_order = WritesInOrder-none s;
   grows = WriteLogGrows-none s.log.writes;
   consumed = omega arith;
 }
 
-pub Accepts-joins : {S P : Type 0} (s m t : Buffered S P) (a b : List ℕ) → Accepts s a m → Accepts m b t
+Accepts-joins : {S P : Type 0} (s m t : Buffered S P) (a b : List ℕ) → Accepts s a m → Accepts m b t
     → Accepts s (a ++ b) t
 Accepts-joins s m t a b p q = record {
   in_order = WritesInOrder-joins s m t a b p.in_order q.in_order;
@@ -36,7 +36,7 @@ module _ {S P : Type 0} (rules : WriteRules P) where
       (h.0, h.1, WriterRuns-more h.0 calls answers m call answer t h.2 step)
 
   -- what a run accepted
-  pub WriterRuns-accepts : (s : Buffered S P) (calls : List WriterCall) (answers : List WriterAnswer) (t : Buffered S P)
+  WriterRuns-accepts : (s : Buffered S P) (calls : List WriterCall) (answers : List WriterAnswer) (t : Buffered S P)
       → WriterRuns rules s calls answers t → Accepts s (accepted calls answers) t
   WriterRuns-accepts s [] [] t e = subst (Accepts s []) e (Accepts-none s)
   WriterRuns-accepts s [] (a ∷ answers) t e = absurd e

@@ -119,13 +119,13 @@ module _ {S P : Type 0} (remaining : S → Option (List ℕ)) (rules : ReadRules
   }
 
 -- a writer fails no less often as its log goes on, and more often where it failed
-held : (old new : WriteLog) → WriteLogGrows old new → failures old ≤ failures new
-held old new on =
+failures_kept : (old new : WriteLog) → WriteLogGrows old new → failures old ≤ failures new
+failures_kept old new on =
     omega (arith, on.zero_writes, ap length on.faults.equal, length-append old.faults on.faults.more)
 
-rose : (old new : WriteLog) → WriteLogGrows old new → WriterFailed old new → failures old + 1 ≤ failures new
-rose old new on (inl fault) = omega (arith, fault, on.zero_writes)
-rose old new on (inr zero) =
+failures_rise : (old new : WriteLog) → WriteLogGrows old new → WriterFailed old new → failures old + 1 ≤ failures new
+failures_rise old new on (inl fault) = omega (arith, fault, on.zero_writes)
+failures_rise old new on (inr zero) =
     omega (arith, zero, ap length on.faults.equal, length-append old.faults on.faults.more)
 
 -- under a steady policy a failed write, or one that took nothing of something, is a failure of the inner writer's
@@ -136,12 +136,12 @@ pub write_fails : {S P : Type 0} (s t : Buffered S P) (bs : List ℕ) (answer : 
 write_fails s t bs (Err e) on steadily room =
     omega (
       arith,
-      rose s.log.writes t.log.writes on steadily.err,
+      failures_rise s.log.writes t.log.writes on steadily.err,
       length-append s.calls.writes.faults (error_kind e ∷ []),
     )
 write_fails s t bs (Ok n) on steadily room = elim (cases_lt 0 n) [
   | inl some ↦
-      omega (arith, zero_of_some n bs s.calls.writes.zero_writes (inl some), held s.log.writes t.log.writes on)
+      omega (arith, zero_of_some n bs s.calls.writes.zero_writes (inl some), failures_kept s.log.writes t.log.writes on)
   | inr none ↦ elim (cases_lt 0 (length bs)) [
     | inl given ↦ (
         let zero : n ≡ 0 = omega (arith, none) in
@@ -149,14 +149,14 @@ write_fails s t bs (Ok n) on steadily room = elim (cases_lt 0 n) [
         omega (
           arith,
           zero_of_none n bs s.calls.writes.zero_writes zero given,
-          rose s.log.writes t.log.writes on (inr nothing),
+          failures_rise s.log.writes t.log.writes on (inr nothing),
         )
         )
     | inr empty ↦
         omega (
           arith,
           zero_of_some n bs s.calls.writes.zero_writes (inr (omega (arith, empty))),
-          held s.log.writes t.log.writes on,
+          failures_kept s.log.writes t.log.writes on,
         )
   ]
 ]
@@ -167,10 +167,10 @@ pub flush_fails : {S P : Type 0} (s t : Buffered S P) (answer : Result (Unit {0}
     → IfErr answer (λ e. SendErrorCaused s.log.writes t.log.writes (error_kind e))
     → failures (after_flush s.calls answer).writes + failures s.log.writes
     ≤ failures s.calls.writes + failures t.log.writes
-flush_fails s t (Ok a) on caused = omega (arith, held s.log.writes t.log.writes on)
+flush_fails s t (Ok a) on caused = omega (arith, failures_kept s.log.writes t.log.writes on)
 flush_fails s t (Err e) on caused = omega (
   arith,
-  rose s.log.writes t.log.writes on (blamed s.log.writes t.log.writes (error_kind e) caused),
+  failures_rise s.log.writes t.log.writes on (blamed s.log.writes t.log.writes (error_kind e) caused),
   length-append s.calls.writes.faults (error_kind e ∷ []),
 )
 

@@ -32,14 +32,14 @@ filled g c =
     (filled_ok g.P.ReaderPolicy.rules _ _ c.hand_out.result _ f.filled)
 
 -- where nothing is handed out, the fill showed nothing, and there was capacity
-nothing : (g : _) (c : goal.After-slice_known-2-1 g)
+showed_nothing : (g : _) (c : goal.After-slice_known-2-1 g)
     → c.hand_out.result ≡ 0 → 0 < length c.args.out.now → length c.fill.new.self.block.bytes ≡ 0
-nothing g c none some =
+showed_nothing g c none some =
     omega (arith, c.hand_out.ensures.count, none, some)
 
-roomy : (g : _) (c : goal.After-slice_known-2-1 g)
+had_capacity : (g : _) (c : goal.After-slice_known-2-1 g)
     → length c.fill.new.self.block.bytes ≡ 0 → 0 < c.args.self.now.block.capacity
-roomy g c none =
+had_capacity g c none =
     let s = c.args.self.now in
     let inside : StaysInside s.block (length c.args.out.now) = elim c.else-is_empty.branch [
       | else-is_empty-via-then-is_empty+else-out-capacity w ↦
@@ -108,15 +108,15 @@ returns-clause-caused g c = ap (λ l. l.reads.faults) c.hand_out.ensures.consume
 pub returns-clause-empty : goal.returns-clause-empty
 returns-clause-empty g c is some =
     let f = filled g c in
-    let none = nothing g c (cc) some in
-    let room = roomy g c none in
+    let none = showed_nothing g c (cc) some in
+    let room = had_capacity g c none in
     empty_read g.P.ReaderPolicy.rules c.args.self.now c.fill.new.self c.hand_out.new.self (f.empty refl none)
     (omega (arith, room, f.capacity)) (ap (λ l. l.reads.zero_answers) c.hand_out.ensures.consumed.told)
 
 pub returns-clause-ran_dry : goal.returns-clause-ran_dry
 returns-clause-ran_dry g c is some wants =
-    let none = nothing g c (cc) some in
-    let dry = Fills-empty g.P.ReaderPolicy.rules _ _ _ (filled g c) wants (roomy g c none) none in
+    let none = showed_nothing g c (cc) some in
+    let dry = Fills-empty g.P.ReaderPolicy.rules _ _ _ (filled g c) wants (had_capacity g c none) none in
     omega (arith, dry, ap (λ l. l.reads.zero_answers) c.hand_out.ensures.consumed.told)
 
 pub returns-clause-capacity : goal.returns-clause-capacity
@@ -172,12 +172,12 @@ returns-clause-bytes g c =
       remaining_gives remaining rules s t (take c.hand_out.result c.hand_out.new.out)
           (returns-clause-in_order g c) known claims (le_trans f.capacity e.capacity),
       λ none some.
-          let empty = nothing g c none (omega (arith, some, c.hand_out.auto.out)) in
+          let empty = showed_nothing g c none (omega (arith, some, c.hand_out.auto.out)) in
           remaining_ends remaining rules t
           (λ wants room. subst (λ i. IsAtEnd (remaining i)) (sym e.inner)
           (c.in_ok-fill.ensures.end
           (Fills-empty rules s c.hand_out.result m f
-          (subst WantsBytes claims wants) (roomy g c empty) empty)))
+          (subst WantsBytes claims wants) (had_capacity g c empty) empty)))
           (nil_from_length t.block.bytes
           (omega (
             arith,
