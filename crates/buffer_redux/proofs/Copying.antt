@@ -17,9 +17,9 @@ MovedBy-joins n k a b c x y z p q = record {
 }
 
 -- turns that follow one another
-module _ (n : ℕ) (a b c : FillLog) (x y z : WriteLog) (before : CopiesOn n a b x y) where
-  pub CopiesOn-joins : (k : ℕ) → CopiesOn k b c y z → CopiesOn (n + k) a c x z
-  CopiesOn-joins k last = record {
+module _ {n : ℕ} {a b : FillLog} {x y : WriteLog} (before : CopiesOn n a b x y) where
+  pub CopiesOn-joins : {k : ℕ} {c : FillLog} {z : WriteLog} → CopiesOn k b c y z → CopiesOn (n + k) a c x z
+  CopiesOn-joins {k} {c} {z} last = record {
     moved = MovedBy-joins n k a b c x y z before.moved last.moved;
     ends = le_trans before.ends last.ends;
     reader = OnlyInterrupts-joins a.faults b.faults c.faults before.reader last.reader;
@@ -28,9 +28,9 @@ module _ (n : ℕ) (a b c : FillLog) (x y z : WriteLog) (before : CopiesOn n a b
 
 -- what comes after turns in which the streams were at most interrupted
 module _ {W : Type 0} (tells : W → StreamLog) (stretch call : W → W → Type 0)
-    (joins : (u v w : W) → stretch u v → stretch v w → stretch u w) (n : ℕ) (a b c : FillLog) (x y z : W)
+    (joins : (u v w : W) → stretch u v → stretch v w → stretch u w) {n : ℕ} {a b : FillLog} {x y : W}
     (before : CopiesOn n a b (tells x).writes (tells y).writes) (went : stretch x y) where
-  LastWrite-after : (bytes : List ℕ) (answer : Result ℕ Error)
+  LastWrite-after : {z : W} (bytes : List ℕ) (answer : Result ℕ Error)
       → LastWrite tells stretch call y bytes answer z → LastWrite tells stretch call x bytes answer z
   LastWrite-after bytes answer last = record {
     before = last.before;
@@ -41,38 +41,39 @@ module _ {W : Type 0} (tells : W → StreamLog) (stretch call : W → W → Type
     told = last.told;
   }
 
-  pub CopyEnded-after : CopyEnded tells stretch call b c y z → CopyEnded tells stretch call a c x z
-  CopyEnded-after ended = record {
+  pub CopyEnded-after : {c : FillLog} {z : W}
+      → CopyEnded tells stretch call b c y z → CopyEnded tells stretch call a c x z
+  CopyEnded-after {c} ended = record {
     reader = OnlyInterrupts-joins a.faults b.faults c.faults before.reader ended.reader;
     last = LastWrite-after c.shown (Ok 0) ended.last;
     ends = λ none. omega (arith, before.ends, ended.ends none);
   }
 
-  pub StreamFailed-after : (e : Error)
+  pub StreamFailed-after : {e : Error} {c : FillLog} {z : W}
       → StreamFailed tells stretch call e b c y z → StreamFailed tells stretch call e a c x z
-  StreamFailed-after e (inl source) = inl (record {
+  StreamFailed-after {e} {c} {z} (inl source) = inl (record {
     fault = FaultAfterInterrupts-after a.faults b.faults c.faults (error_kind e) before.reader source.fault;
     writer =
         MetInterrupts-joins (tells x).writes (tells y).writes (tells z).writes before.writer source.writer;
   })
-  StreamFailed-after e (inr target) = inr (record {
+  StreamFailed-after {e} {c} (inr target) = inr (record {
     reader = OnlyInterrupts-joins a.faults b.faults c.faults before.reader target.reader;
     last = LastWrite-after c.shown (Err e) target.last;
   })
 
-  pub failed_after : {A : Type 0} (answer : Result A Error)
+  pub failed_after : (c : FillLog) (z : W) {A : Type 0} (answer : Result A Error)
       → IfErr answer (λ e. StreamFailed tells stretch call e b c y z)
       → IfErr answer (λ e. StreamFailed tells stretch call e a c x z)
-  failed_after (Ok k) failed = tt
-  failed_after (Err e) failed = StreamFailed-after e failed
+  failed_after c z (Ok k) failed = tt
+  failed_after c z (Err e) failed = StreamFailed-after failed
 
 -- a turn after turns that were only interrupted
-module _ (a b c : FillLog) (x y z : WriteLog) (before : CopiesOn 0 a b x y) where
-  pub CopiesOn-after : (n : ℕ) → CopiesOn n b c y z → CopiesOn n a c x z
-  CopiesOn-after n last =
-      subst (λ k. CopiesOn k a c x z) (omega arith) (CopiesOn-joins 0 a b c x y z before n last)
+module _ {a b : FillLog} {x y : WriteLog} (before : CopiesOn 0 a b x y) where
+  pub CopiesOn-after : {n : ℕ} {c : FillLog} {z : WriteLog} → CopiesOn n b c y z → CopiesOn n a c x z
+  CopiesOn-after {c = c} {z = z} last =
+      subst (λ k. CopiesOn k a c x z) (omega arith) (CopiesOn-joins before last)
 
-  pub copies_after : {A : Type 0} (answer : Result ℕ A)
+  pub copies_after : (c : FillLog) (z : WriteLog) {A : Type 0} (answer : Result ℕ A)
       → IfOk answer (λ n. 0 < n → CopiesOn n b c y z) → IfOk answer (λ n. 0 < n → CopiesOn n a c x z)
-  copies_after (Ok n) copies = λ some. CopiesOn-after n (copies some)
-  copies_after (Err e) copies = tt
+  copies_after c z (Ok n) copies = λ some. CopiesOn-after (copies some)
+  copies_after c z (Err e) copies = tt
