@@ -50,10 +50,19 @@ fill_grows log (Err e) shown =
       faults = record { more = error_kind e ∷ []; equal = refl };
     }
 
--- a fill that was noted; noting it changed no more than the calls
+-- what noting a call changes: the log of calls
+abbrev pub with_calls : {S P : Type 0} → Buffered S P → StreamLog → Buffered S P
+with_calls s calls = record { policy = s.policy; block = s.block; inner = s.inner; log = s.log; calls = calls }
+
+-- a fill that was noted
 module _ {S P : Type 0} (remaining : S → Option (List ℕ)) (rules : ReadRules P) (s m t : Buffered S P)
-    (policy : t.policy ≡ m.policy) (block : t.block ≡ m.block) (inner : t.inner ≡ m.inner)
-    (log : t.log ≡ m.log) where
+    (is : t ≡ m) (calls : StreamLog) where
+  log : t.log ≡ m.log
+  log = ap (λ x. x.log) is
+
+  block : t.block ≡ m.block
+  block = ap (λ x. x.block) is
+
   faults_alike : (answer : Result (Unit {0}) Error)
       → Fills rules s answer m → (rules.claims s.policy).steady ≡ true
       → FaultsAlike s.calls.fills.faults (after_fill s.calls answer t.block.bytes).fills.faults
@@ -90,7 +99,7 @@ module _ {S P : Type 0} (remaining : S → Option (List ℕ)) (rules : ReadRules
   ends_bound (Err e) f wants room = omega (arith, f.grows.zero_answers)
 
   pub filled_went : (answer : Result (Unit {0}) Error) → Fills rules s answer m → InnerGives remaining s m
-      → t.calls ≡ after_fill s.calls answer t.block.bytes → ReaderWent remaining rules s t
+      → calls ≡ after_fill s.calls answer t.block.bytes → ReaderWent remaining rules s (with_calls t calls)
   filled_went answer f gives noted = record {
     handed = [];
     consumed =
@@ -103,12 +112,12 @@ module _ {S P : Type 0} (remaining : S → Option (List ℕ)) (rules : ReadRules
     };
     known = subst (λ l. GivesRemaining (remaining s.inner) s.log.reads (remaining t.inner) l.reads) (sym log)
         (subst (λ i. GivesRemaining (remaining s.inner) s.log.reads (remaining i) m.log.reads)
-        (sym inner) gives);
+        (sym (ap (λ x. x.inner) is)) gives);
     grows = subst (λ l. ReadLogGrows s.log.reads l.reads) (sym log) f.grows;
     own_grows =
         subst (λ l. FillLogGrows s.calls.fills l.fills) (sym noted) (fill_grows s.calls answer t.block.bytes);
     capacity = omega (arith, ap (λ b. b.capacity) block, f.capacity);
-    claims = ap rules.claims policy ∙ f.claims;
+    claims = ap (λ x. rules.claims x.policy) is ∙ f.claims;
     faults = λ steady.
         subst (λ l. FaultsAlike s.calls.fills.faults l.fills.faults s.log.reads.faults t.log.reads.faults) (sym noted)
         (subst (λ l. FaultsAlike s.calls.fills.faults (after_fill s.calls answer t.block.bytes).fills.faults
@@ -174,24 +183,32 @@ flush_fails s t (Err e) on caused = omega (
   length-append s.calls.writes.faults (error_kind e ∷ []),
 )
 
--- a call of a writer that was noted; noting it changed no more than the calls
+-- a call of a writer that was noted
 pub call_went : {S P : Type 0} (stretch : S → S → Type 0) (rules : WriteRules P) (s m t : Buffered S P)
-    → t.inner ≡ m.inner → t.policy ≡ m.policy → t.block ≡ m.block → t.log ≡ m.log → stretch s.inner m.inner
-    → WriteLogGrows s.log.writes m.log.writes → WriteLogGrows (writer_log s).writes (writer_log t).writes
+    (calls noted : StreamLog) → t ≡ m → calls ≡ noted → stretch s.inner m.inner
+    → WriteLogGrows s.log.writes m.log.writes → WriteLogGrows (writer_log s).writes (writer_log (with_calls t calls)).writes
     → s.block.capacity ≤ m.block.capacity → rules.claims m.policy ≡ rules.claims s.policy
     → ((rules.claims s.policy).steady ≡ true → 0 < s.block.capacity
-    → failures t.calls.writes + failures s.log.writes ≤ failures s.calls.writes + failures m.log.writes)
-    → (TellsFailures rules s.policy → MetInterrupts s.calls.writes t.calls.writes → MetInterrupts s.log.writes m.log.writes)
-    → WriterWent stretch rules s t
-call_went stretch rules s m t inner policy block log went grows own capacity claims fails met = record {
-  inner = subst (stretch s.inner) (sym inner) went;
-  grows = subst (λ l. WriteLogGrows s.log.writes l.writes) (sym log) grows;
-  own_grows = own;
-  capacity = omega (arith, ap (λ b. b.capacity) block, capacity);
-  claims = ap rules.claims policy ∙ claims;
-  fails = λ steady room. omega (arith, fails steady room, ap (λ l. failures l.writes) log);
-  met = λ tells only. subst (λ l. MetInterrupts s.log.writes l.writes) (sym log) (met tells only);
-}
+    → failures noted.writes + failures s.log.writes ≤ failures s.calls.writes + failures m.log.writes)
+    → (TellsFailures rules s.policy → MetInterrupts s.calls.writes noted.writes
+    → MetInterrupts s.log.writes m.log.writes)
+    → WriterWent stretch rules s (with_calls t calls)
+call_went stretch rules s m t calls noted is told went grows own capacity claims fails met =
+    let log : t.log ≡ m.log = ap (λ x. x.log) is in record {
+      inner = subst (stretch s.inner) (sym (ap (λ x. x.inner) is)) went;
+      grows = subst (λ l. WriteLogGrows s.log.writes l.writes) (sym log) grows;
+      own_grows = own;
+      capacity = omega (arith, ap (λ x. x.block.capacity) is, capacity);
+      claims = ap (λ x. rules.claims x.policy) is ∙ claims;
+      fails = λ steady room. omega (
+        arith,
+        fails steady room,
+        ap (λ l. failures l.writes) told,
+        ap (λ l. failures l.writes) log,
+      );
+      met = λ tells only. subst (λ l. MetInterrupts s.log.writes l.writes) (sym log)
+          (met tells (subst (λ l. MetInterrupts s.calls.writes l.writes) told only));
+    }
 
 -- of one call: the kind of its own fault, and that there is none
 same_kind : (faults : List ErrorKind) (a b : ErrorKind) → faults ++ a ∷ [] ≡ faults ++ b ∷ [] → a ≡ b

@@ -1,4 +1,4 @@
-use Rattle.std.proofs.Common.{rules, ap}
+use Rattle.std.proofs.Common.{rules}
 use Rattle.buffer_redux.proofs.FillClaims.{fills}
 use Rattle.buffer_redux.proofs.Telling.{filled_went}
 use Rattle.buffer_redux.proofs.buf_reader.BufReader.fill_noted.Goals as goal
@@ -15,9 +15,8 @@ returns-in-Ok-clause-went g c =
     let s = c.args.self.now in
     let m = c.fill-answer.new.self in
     let f = fills table s c.fill-answer.result m c.fill-answer.ensures.whole c.fill-answer.ensures.filled in
-    filled_went g.R.TellRead.remaining table s m _ (ap (λ x. x.policy) c.self.view_is)
-    (ap (λ x. x.block) c.self.view_is) (ap (λ x. x.inner) c.self.view_is) (ap (λ x. x.log) c.self.view_is)
-    c.fill-answer.result f c.fill-answer.ensures.known (returns-in-Ok-clause-noted g c)
+    filled_went g.R.TellRead.remaining table s m _ c.self.view_is _ c.fill-answer.result f
+    c.fill-answer.ensures.known (returns-in-Ok-clause-noted g c)
 
 pub returns-in-Err-clause-went : goal.returns-in-Err-clause-went
 returns-in-Err-clause-went g c =
@@ -25,6 +24,5 @@ returns-in-Err-clause-went g c =
     let s = c.args.self.now in
     let m = c.fill-answer.new.self in
     let f = fills table s c.fill-answer.result m c.fill-answer.ensures.whole c.fill-answer.ensures.filled in
-    filled_went g.R.TellRead.remaining table s m _ (ap (λ x. x.policy) c.self.view_is)
-    (ap (λ x. x.block) c.self.view_is) (ap (λ x. x.inner) c.self.view_is) (ap (λ x. x.log) c.self.view_is)
-    c.fill-answer.result f c.fill-answer.ensures.known (returns-in-Err-clause-noted g c)
+    filled_went g.R.TellRead.remaining table s m _ c.self.view_is _ c.fill-answer.result f
+    c.fill-answer.ensures.known (returns-in-Err-clause-noted g c)

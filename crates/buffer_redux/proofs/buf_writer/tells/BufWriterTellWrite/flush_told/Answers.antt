@@ -1,8 +1,8 @@
-use Rattle.std.proofs.Common.{rules, ◌≡◌, ◌∙◌, ◌+◌, ◌≤◌, ap, subst, sym, arith}
-use Rattle.redux_buffer.specs.Faults.{MetInterrupts, SendErrorCaused}
+use Rattle.std.proofs.Common.{rules, ◌≡◌, ◌∙◌, ap, subst, sym, arith}
+use Rattle.redux_buffer.specs.Faults.{SendErrorCaused}
 use Rattle.redux_buffer.specs.StreamLog.{after_flush}
 use Rattle.redux_buffer.specs.LogGrows.{WriteLogGrows, WriteLogGrows-flush}
-use Rattle.buffer_redux.specs.WriterTells.{writer_log, failures}
+use Rattle.buffer_redux.specs.WriterTells.{writer_log}
 use Rattle.buffer_redux.proofs.Telling.{call_went, flush_fails, flush_met, flush_fault}
 use Rattle.buffer_redux.proofs.buf_writer.tells.BufWriterTellWrite.flush_told.Goals as goal
 
@@ -17,19 +17,14 @@ returns-clause-stretch g c =
     let answer = c.flush-answer.result in
     let flush = c.flush-answer.ensures in
     let noted : c.note.new.self.log ≡ after_flush s.calls answer = search rules in
-    call_went g.W.TellWrite.stretch table s m _ (ap (λ x. x.inner) c.self.view_is)
-    (ap (λ x. x.policy) c.self.view_is) (ap (λ x. x.block) c.self.view_is)
-    (ap (λ x. x.log) c.self.view_is) flush.stretch.calls flush.grows
+    call_went g.W.TellWrite.stretch table s m _ _ (after_flush s.calls answer) c.self.view_is noted
+    flush.stretch.calls flush.grows
     (subst (λ l. WriteLogGrows (writer_log s).writes l.writes) (sym (returns-clause-told g c))
     (WriteLogGrows-flush (writer_log s) answer))
     (omega (arith, flush.capacity))
     (ap table.claims flush.steps.policy)
-    (λ steady room.
-    subst (λ l. failures l.writes + failures s.log.writes ≤ failures s.calls.writes + failures m.log.writes)
-    (sym noted) (flush_fails s m answer flush.grows flush.caused))
-    (λ tells.
-    subst (λ l. MetInterrupts s.calls.writes l.writes → MetInterrupts s.log.writes m.log.writes)
-    (sym noted) (flush_met s m answer flush.ok flush.caused))
+    (λ steady room. flush_fails s m answer flush.grows flush.caused)
+    (λ tells. flush_met s m answer flush.ok flush.caused)
 
 pub returns-clause-call : goal.returns-clause-call
 returns-clause-call g c =

@@ -1,9 +1,9 @@
-use Rattle.std.proofs.Common.{rules, ◌≡◌, ◌∙◌, ◌+◌, ◌≤◌, ap, subst, sym}
+use Rattle.std.proofs.Common.{rules, ◌≡◌, ◌∙◌, ap, subst, sym}
 use Rattle.std.specs.declared.io.ErrorKind.TheVariants.{WriteZero}
-use Rattle.redux_buffer.specs.Faults.{MetInterrupts, SendErrorCaused}
+use Rattle.redux_buffer.specs.Faults.{SendErrorCaused}
 use Rattle.redux_buffer.specs.StreamLog.{after_write}
 use Rattle.redux_buffer.specs.LogGrows.{WriteLogGrows, WriteLogGrows-write}
-use Rattle.buffer_redux.specs.WriterTells.{writer_log, failures}
+use Rattle.buffer_redux.specs.WriterTells.{writer_log}
 use Rattle.buffer_redux.proofs.Telling.{call_went, write_fails, write_met, write_fault, write_nothing}
 use Rattle.buffer_redux.proofs.buf_writer.tells.BufWriterTellWrite.write_told.Goals as goal
 
@@ -18,17 +18,12 @@ returns-clause-stretch g c =
     let answer = c.write-answer.result in
     let wrote = c.write-answer.ensures in
     let noted : c.note.new.self.log ≡ after_write s.calls bs answer = search rules in
-    call_went g.W.TellWrite.stretch g.P.WriterPolicy.rules s m _ (ap (λ x. x.inner) c.self.view_is)
-    (ap (λ x. x.policy) c.self.view_is) (ap (λ x. x.block) c.self.view_is)
-    (ap (λ x. x.log) c.self.view_is) wrote.stretch.calls wrote.grows
+    call_went g.W.TellWrite.stretch g.P.WriterPolicy.rules s m _ _ (after_write s.calls bs answer) c.self.view_is
+    noted wrote.stretch.calls wrote.grows
     (subst (λ l. WriteLogGrows (writer_log s).writes l.writes) (sym (returns-clause-told g c))
     (WriteLogGrows-write (writer_log s) bs answer)) wrote.capacity wrote.claims
-    (λ steady room.
-    subst (λ l. failures l.writes + failures s.log.writes ≤ failures s.calls.writes + failures m.log.writes)
-    (sym noted) (write_fails s m bs answer wrote.grows (wrote.steadily steady) room))
-    (λ tells.
-    subst (λ l. MetInterrupts s.calls.writes l.writes → MetInterrupts s.log.writes m.log.writes)
-    (sym noted) (write_met g.P.WriterPolicy.rules s m bs tells answer wrote.steps wrote.caused))
+    (λ steady room. write_fails s m bs answer wrote.grows (wrote.steadily steady) room)
+    (λ tells. write_met g.P.WriterPolicy.rules s m bs tells answer wrote.steps wrote.caused)
 
 pub returns-clause-call : goal.returns-clause-call
 returns-clause-call g c =
