@@ -107,8 +107,8 @@ module _ {W Q : Type 0} (stretch : W → W → Type 0) (u v : Buffered W Q) (byt
         })
 
 -- a copy between buffers that were empty at first
-module _ {R P W Q : Type 0} (remaining : R → Option (List ℕ)) (stretch : W → W → Type 0) (s t : Buffered R P)
-    (u v : Buffered W Q) (went : ReaderWent remaining std_read_rules s t)
+module _ {R P W Q : Type 0} {remaining : R → Option (List ℕ)} {stretch : W → W → Type 0} {s t : Buffered R P}
+    {u v : Buffered W Q} (went : ReaderWent remaining std_read_rules s t)
     (went' : WriterWent stretch std_write_rules u v) (none : s.block.bytes ≡ [])
     (none' : u.block.bytes ≡ []) where
   module _ (n : ℕ)

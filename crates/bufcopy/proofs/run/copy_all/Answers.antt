@@ -7,57 +7,49 @@ pub returns-in_err-total-clause-caused : goal.returns-in_err-total-clause-caused
 returns-in_err-total-clause-caused g c =
     let p = err_from_is_err_and c.from_residual.result c.from_residual.ensures.1 in
     let copy = c.in_err-total.ensures in
-    rw (p.1, p.2) (copy_caused g.R.TellRead.remaining g.W.TellWrite.stretch _ _ _ _ copy.reader copy.writer
-    c.requires.source.bytes c.requires.target.bytes _ copy.failed)
+    rw (p.1, p.2) (copy_caused copy.reader copy.writer c.requires.source.bytes c.requires.target.bytes _ copy.failed)
 
 pub returns-in_err-total-clause-a_beginning : goal.returns-in_err-total-clause-a_beginning
 returns-in_err-total-clause-a_beginning g c =
     let copy = c.in_err-total.ensures in
-    copy_begins g.R.TellRead.remaining g.W.TellWrite.stretch _ _ _ _ copy.reader copy.writer
-    c.requires.source.bytes c.requires.target.bytes copy.moved.0 copy.moved.1
+    copy_begins copy.reader copy.writer c.requires.source.bytes c.requires.target.bytes copy.moved.0 copy.moved.1
 
 pub returns-then-buf_len-gt0-clause-caused : goal.returns-then-buf_len-gt0-clause-caused
 returns-then-buf_len-gt0-clause-caused g c =
     let copy = c.in_ok-total.ensures in
-    inl (left_caused g.R.TellRead.remaining g.W.TellWrite.stretch _ _ _ _ copy.reader copy.writer
-    c.requires.source.bytes c.requires.target.bytes copy.ended _ c.from.ensures
+    inl (left_caused copy.reader copy.writer c.requires.source.bytes c.requires.target.bytes copy.ended _ c.from.ensures
     (omega (arith, c.if-buf_len-gt0.true, c.buf_len.ensures.value))
     (omega (arith, c.requires.target.capacity)))
 
 pub returns-then-buf_len-gt0-clause-a_beginning : goal.returns-then-buf_len-gt0-clause-a_beginning
 returns-then-buf_len-gt0-clause-a_beginning g c =
     let copy = c.in_ok-total.ensures in
-    copy_begins g.R.TellRead.remaining g.W.TellWrite.stretch _ _ _ _ copy.reader copy.writer
-    c.requires.source.bytes c.requires.target.bytes copy.moved.0 copy.moved.1
+    copy_begins copy.reader copy.writer c.requires.source.bytes c.requires.target.bytes copy.moved.0 copy.moved.1
 
 pub returns-in_err-flush-clause-caused : goal.returns-in_err-flush-clause-caused
 returns-in_err-flush-clause-caused g c =
     let p = err_from_is_err_and c.from_residual-in_err-flush.result c.from_residual-in_err-flush.ensures.1 in
     let copy = c.in_ok-total.ensures in
     rw (p.1, p.2) (inl
-    (flush_caused g.R.TellRead.remaining g.W.TellWrite.stretch _ _ _ _ copy.reader copy.writer
-    c.requires.source.bytes c.requires.target.bytes copy.ended
+    (flush_caused copy.reader copy.writer c.requires.source.bytes c.requires.target.bytes copy.ended
     (omega (arith, c.if-buf_len-gt0.false, c.buf_len.ensures.value)) c.flush.new.self _
     c.in_err-flush.ensures.caused))
 
 pub returns-in_err-flush-clause-a_beginning : goal.returns-in_err-flush-clause-a_beginning
 returns-in_err-flush-clause-a_beginning g c =
     let copy = c.in_ok-total.ensures in
-    flush_begins g.R.TellRead.remaining g.W.TellWrite.stretch _ _ _ _ copy.reader copy.writer
-    c.requires.source.bytes c.requires.target.bytes copy.moved.0 copy.moved.1 _
+    flush_begins copy.reader copy.writer c.requires.source.bytes c.requires.target.bytes copy.moved.0 copy.moved.1 _
     c.in_err-flush.ensures.in_order
 
 pub returns-clause-copied : goal.returns-clause-copied
 returns-clause-copied g c =
     let copy = c.in_ok-total.ensures in
-    flush_copied g.R.TellRead.remaining g.W.TellWrite.stretch _ _ _ _ copy.reader copy.writer
-    c.requires.source.bytes c.requires.target.bytes copy.ended
+    flush_copied copy.reader copy.writer c.requires.source.bytes c.requires.target.bytes copy.ended
     (omega (arith, c.if-buf_len-gt0.false, c.buf_len.ensures.value)) _ _ copy.total
     (omega (arith, c.requires.source.capacity)) c.in_ok-flush.ensures.in_order c.in_ok-flush.ensures.ok
 
 pub returns-clause-a_beginning : goal.returns-clause-a_beginning
 returns-clause-a_beginning g c =
     let copy = c.in_ok-total.ensures in
-    flush_begins g.R.TellRead.remaining g.W.TellWrite.stretch _ _ _ _ copy.reader copy.writer
-    c.requires.source.bytes c.requires.target.bytes copy.moved.0 copy.moved.1 _
+    flush_begins copy.reader copy.writer c.requires.source.bytes c.requires.target.bytes copy.moved.0 copy.moved.1 _
     c.in_ok-flush.ensures.in_order
