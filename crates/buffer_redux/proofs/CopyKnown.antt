@@ -11,11 +11,7 @@ use Rattle.buffer_redux.specs.Buffered.{Buffered}
 use Rattle.buffer_redux.specs.ReaderTells.{reader_log, ReaderWent}
 use Rattle.buffer_redux.specs.Copy.{MovedBy, CopyEnded, MovesKnown, ReceivesAll}
 use Rattle.buffer_redux.specs.Remaining.{ahead, may_stop, reader_remaining}
-use Rattle.buffer_redux.proofs.KnownAhead.{remaining_gives, ahead_gives, wants_so, at_nothing, IfSome_if}
-
-IfSome_any : (o : Option (List ℕ)) (P : List ℕ → Type 0) → ((xs : List ℕ) → P xs) → IfSome o P
-IfSome_any None P h = tt
-IfSome_any (Some xs) P h = h xs
+use Rattle.buffer_redux.proofs.KnownAhead.{remaining_gives, ahead_gives, wants_so, at_nothing, IfSome_if, IfSome_any}
 
 -- what was handed out is all that there was, where nothing is left
 handed_all : (a b : Option (List ℕ)) (bs bs' handed : List ℕ) (P : List ℕ → Type 0)

@@ -73,9 +73,9 @@ Keeps_of None b p = tt
 Keeps_of (Some x) None p = absurd p
 Keeps_of (Some x) (Some y) p = sym p
 
-pub some_holds : (o : Option (List ℕ)) (Q : Type 0) → Q → IfSome o (λ _. Q)
-some_holds None Q q = tt
-some_holds (Some x) Q q = q
+pub IfSome_any : (o : Option (List ℕ)) (P : List ℕ → Type 0) → ((xs : List ℕ) → P xs) → IfSome o P
+IfSome_any None P h = tt
+IfSome_any (Some xs) P h = h xs
 
 at_end : (o : Option (List ℕ)) (P : Type 0) → (P → IsAtEnd o) → IfSome o (λ xs. P → xs ≡ [])
 at_end None P h = tt
@@ -166,5 +166,5 @@ pub fill_keeps : {S P : Type 0} (remaining : S → Option (List ℕ)) (rules : R
 fill_keeps remaining rules s answer t f = (
   Keeps_of (reader_remaining remaining rules s) (reader_remaining remaining rules t)
       (remaining_gives remaining rules s t [] f.fills.in_order f.known f.fills.claims f.fills.capacity),
-  some_holds (reader_remaining remaining rules s) _ (shows_at_most answer t.block.bytes f.shown),
+  IfSome_any (reader_remaining remaining rules s) _ (λ _. shows_at_most answer t.block.bytes f.shown),
 )

@@ -30,7 +30,8 @@ HandsOut-joins s m t a b p q = record {
 }
 
 module _ {S P : Type 0} (rules : ReadRules P) where
-  pub ReaderRuns-more : (s : Handing S P) (calls : List ReaderCall) (answers : List ReaderAnswer) (m : Handing S P)
+  pub ReaderRuns-more : (s : Handing S P) (calls : List ReaderCall) (answers : List ReaderAnswer)
+      (m : Handing S P)
       (call : ReaderCall) (answer : ReaderAnswer) (t : Handing S P)
       → ReaderRuns rules s calls answers m → ReaderStep rules m call answer t
       → ReaderRuns rules s (calls ++ call ∷ []) (answers ++ answer ∷ []) t
@@ -41,7 +42,8 @@ module _ {S P : Type 0} (rules : ReadRules P) where
       (h.0, h.1, ReaderRuns-more h.0 calls answers m call answer t h.2 step)
 
   -- what a run handed out
-  ReaderRuns-hands_out : (s : Handing S P) (calls : List ReaderCall) (answers : List ReaderAnswer) (t : Handing S P)
+  ReaderRuns-hands_out : (s : Handing S P) (calls : List ReaderCall) (answers : List ReaderAnswer)
+      (t : Handing S P)
       → ReaderRuns rules s calls answers t → (out : List ℕ) × HandsOut s out t
   ReaderRuns-hands_out s [] [] t e = ([], subst (HandsOut s []) e (HandsOut-none s))
   ReaderRuns-hands_out s [] (a ∷ answers) t e = absurd e
@@ -51,14 +53,16 @@ module _ {S P : Type 0} (rules : ReadRules P) where
       (h.1.out ++ rest.0, HandsOut-joins s h.0 t h.1.out rest.0 h.1.hands_out rest.1)
 
   -- what the policy claims stays in a run, and a run that doesn't make room spares what it claims to
-  ReaderRuns-claims : (s : Handing S P) (calls : List ReaderCall) (answers : List ReaderAnswer) (t : Handing S P)
+  ReaderRuns-claims : (s : Handing S P) (calls : List ReaderCall) (answers : List ReaderAnswer)
+      (t : Handing S P)
       → ReaderRuns rules s calls answers t → rules.claims t.reader.policy ≡ rules.claims s.reader.policy
   ReaderRuns-claims s [] [] t e = ap (λ (x : Handing S P). rules.claims x.reader.policy) (sym e)
   ReaderRuns-claims s [] (a ∷ answers) t e = absurd e
   ReaderRuns-claims s (c ∷ calls) [] t e = absurd e
   ReaderRuns-claims s (c ∷ calls) (a ∷ answers) t h = ReaderRuns-claims h.0 calls answers t h.2 ∙ h.1.claims
 
-  ReaderRuns-sparing : (s : Handing S P) (calls : List ReaderCall) (answers : List ReaderAnswer) (t : Handing S P)
+  ReaderRuns-sparing : (s : Handing S P) (calls : List ReaderCall) (answers : List ReaderAnswer)
+      (t : Handing S P)
       → ReaderRuns rules s calls answers t → All MakesNoRoom calls → SparesClaimed rules s.reader t.reader
   ReaderRuns-sparing s [] [] t e still keep claims =
       subst (λ (x : Handing S P). Spared keep s.reader x.reader) e (Spared-none keep s.reader)
@@ -72,7 +76,8 @@ module _ {S P : Type 0} (rules : ReadRules P) where
       (subst (λ x. ClaimsToSpare x.spares keep) (sym h.1.claims) claims))
 
   -- where the player stops, at the end or at a call that it didn't begin
-  pub ReaderPlays-stops : (s : Handing S P) (calls : List ReaderCall) (old answers : List ReaderAnswer) (t : Handing S P)
+  pub ReaderPlays-stops : (s : Handing S P) (calls : List ReaderCall) (old answers : List ReaderAnswer)
+      (t : Handing S P)
       (new : List ReaderAnswer) → new ≡ old ++ answers → (ok : Bool) (index : ℕ) → length answers ≡ index
       → ReaderRuns rules s (take index calls) answers t
       → MatchBool ok (index ≡ length calls) (index < length calls) → ReaderPlays rules s calls old ok new t

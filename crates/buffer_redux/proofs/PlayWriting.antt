@@ -25,7 +25,8 @@ Accepts-joins s m t a b p q = record {
 }
 
 module _ {S P : Type 0} (rules : WriteRules P) where
-  pub WriterRuns-more : (s : Buffered S P) (calls : List WriterCall) (answers : List WriterAnswer) (m : Buffered S P)
+  pub WriterRuns-more : (s : Buffered S P) (calls : List WriterCall) (answers : List WriterAnswer)
+      (m : Buffered S P)
       (call : WriterCall) (answer : WriterAnswer) (t : Buffered S P)
       → WriterRuns rules s calls answers m → WriterStep rules m call answer t
       → WriterRuns rules s (calls ++ call ∷ []) (answers ++ answer ∷ []) t
@@ -36,7 +37,8 @@ module _ {S P : Type 0} (rules : WriteRules P) where
       (h.0, h.1, WriterRuns-more h.0 calls answers m call answer t h.2 step)
 
   -- what a run accepted
-  WriterRuns-accepts : (s : Buffered S P) (calls : List WriterCall) (answers : List WriterAnswer) (t : Buffered S P)
+  WriterRuns-accepts : (s : Buffered S P) (calls : List WriterCall) (answers : List WriterAnswer)
+      (t : Buffered S P)
       → WriterRuns rules s calls answers t → Accepts s (accepted calls answers) t
   WriterRuns-accepts s [] [] t e = subst (Accepts s []) e (Accepts-none s)
   WriterRuns-accepts s [] (a ∷ answers) t e = absurd e
@@ -46,7 +48,8 @@ module _ {S P : Type 0} (rules : WriteRules P) where
       (WriterRuns-accepts h.0 calls answers t h.2)
 
   -- where the player stops, at the end or at a call that it didn't begin
-  pub WriterPlays-stops : (s : Buffered S P) (calls : List WriterCall) (old answers : List WriterAnswer) (t : Buffered S P)
+  pub WriterPlays-stops : (s : Buffered S P) (calls : List WriterCall) (old answers : List WriterAnswer)
+      (t : Buffered S P)
       (new : List WriterAnswer) → new ≡ old ++ answers → (ok : Bool) (index : ℕ) → length answers ≡ index
       → WriterRuns rules s (take index calls) answers t
       → MatchBool ok (index ≡ length calls) (index < length calls) → WriterPlays rules s calls old ok new t

@@ -132,7 +132,8 @@ failures_kept : (old new : WriteLog) → WriteLogGrows old new → failures old 
 failures_kept old new on =
     omega (arith, on.zero_writes, ap length on.faults.equal, length-append old.faults on.faults.more)
 
-failures_rise : (old new : WriteLog) → WriteLogGrows old new → WriterFailed old new → failures old + 1 ≤ failures new
+failures_rise : (old new : WriteLog) → WriteLogGrows old new → WriterFailed old new
+    → failures old + 1 ≤ failures new
 failures_rise old new on (inl fault) = omega (arith, fault, on.zero_writes)
 failures_rise old new on (inr zero) =
     omega (arith, zero, ap length on.faults.equal, length-append old.faults on.faults.more)
@@ -186,7 +187,8 @@ flush_fails s t (Err e) on caused = omega (
 -- a call of a writer that was noted
 pub call_went : {S P : Type 0} (stretch : S → S → Type 0) (rules : WriteRules P) (s m t : Buffered S P)
     (calls noted : StreamLog) → t ≡ m → calls ≡ noted → stretch s.inner m.inner
-    → WriteLogGrows s.log.writes m.log.writes → WriteLogGrows (writer_log s).writes (writer_log (with_calls t calls)).writes
+    → WriteLogGrows s.log.writes m.log.writes
+    → WriteLogGrows (writer_log s).writes (writer_log (with_calls t calls)).writes
     → s.block.capacity ≤ m.block.capacity → rules.claims m.policy ≡ rules.claims s.policy
     → ((rules.claims s.policy).steady ≡ true → 0 < s.block.capacity
     → failures noted.writes + failures s.log.writes ≤ failures s.calls.writes + failures m.log.writes)

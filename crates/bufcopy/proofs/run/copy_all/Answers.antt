@@ -17,7 +17,8 @@ returns-in_err-total-clause-a_beginning g c =
 pub returns-then-buf_len-gt0-clause-caused : goal.returns-then-buf_len-gt0-clause-caused
 returns-then-buf_len-gt0-clause-caused g c =
     let copy = c.in_ok-total.ensures in
-    inl (left_caused copy.reader copy.writer c.requires.source.bytes c.requires.target.bytes copy.ended _ c.from.ensures
+    inl (left_caused copy.reader copy.writer c.requires.source.bytes c.requires.target.bytes copy.ended _
+    c.from.ensures
     (omega (arith, c.if-buf_len-gt0.true, c.buf_len.ensures.value))
     (omega (arith, c.requires.target.capacity)))
 

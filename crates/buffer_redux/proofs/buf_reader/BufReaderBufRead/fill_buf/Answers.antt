@@ -4,7 +4,7 @@ use Rattle.buffer_redux.specs.BufReader.{Fills, InnerGives}
 use Rattle.buffer_redux.specs.ReaderLaws.{Fills-empty}
 use Rattle.buffer_redux.specs.Remaining.{reader_remaining}
 use Rattle.buffer_redux.proofs.FillClaims.{fills, filled_ok, filled_err}
-use Rattle.buffer_redux.proofs.KnownAhead.{some_holds, fill_front, fill_end}
+use Rattle.buffer_redux.proofs.KnownAhead.{IfSome_any, fill_front, fill_end}
 use Rattle.buffer_redux.proofs.buf_reader.BufReaderBufRead.fill_buf.Goals as goal
 
 pub returns-in_err-fill : goal.returns-in_err-fill
@@ -25,7 +25,7 @@ returns-in_err-fill g c =
           noted = f.noted;
         },
       ),
-      record { front = some_holds known _ tt; end = some_holds known _ tt; after_borrow = tt },
+      record { front = IfSome_any known _ (λ _. tt); end = IfSome_any known _ (λ _. tt); after_borrow = tt },
     )
 
 pub returns : goal.returns
