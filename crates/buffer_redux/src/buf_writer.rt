@@ -5,14 +5,17 @@ ghost use Rattle.std.specs.Io.{WritesAtMost};
 ghost use Rattle.std.specs.Io.KnownBytes.{Keeps, WriteAppends};
 ghost use Rattle.std.specs.Io.Seek.{SeekMoves};
 ghost use Rattle.std.specs.IoError.{error_kind};
-ghost use Rattle.redux_buffer.specs.Block.{Plain, Ring, IsBlock, Reserves, MakesRoom, MovesToFront, capacity_for, round, usable};
+ghost use Rattle.redux_buffer.specs.Block.{Plain, Ring, IsBlock, Reserves, MakesRoom, MovesToFront};
+ghost use Rattle.redux_buffer.specs.Block.{capacity_for, round, usable};
 ghost use Rattle.redux_buffer.specs.GrowError.{FitsWithin};
 ghost use Rattle.redux_buffer.specs.Faults.{SendErrorCaused};
 ghost use Rattle.redux_buffer.specs.LogGrows.{WriteLogGrows};
 ghost use Rattle.redux_buffer.specs.StreamLog.{taken};
 ghost use Rattle.buffer_redux.specs.contracts.buf_writer.BufWriter.{the_row};
 ghost use Rattle.buffer_redux.specs.Buffered.{over_buffer, with_block, with_inner, with_policy, InnerWent, Makes};
-ghost use Rattle.buffer_redux.specs.BufWriter.{writer_contents, FlushesAmount, TakesIn, Finished, Writes, WritesOn, WritesSteadily, WritesInOrder, WriteErrorCaused, EmptyWriteCaused, Flushes, IsFlushed, SeeksFlushed, IsSought, SeekErrorCaused};
+ghost use Rattle.buffer_redux.specs.BufWriter.{writer_contents, FlushesAmount, TakesIn, Finished, Writes, WritesOn};
+ghost use Rattle.buffer_redux.specs.BufWriter.{WritesSteadily, WritesInOrder, WriteErrorCaused, EmptyWriteCaused};
+ghost use Rattle.buffer_redux.specs.BufWriter.{Flushes, IsFlushed, SeeksFlushed, IsSought, SeekErrorCaused};
 
 use crate::errors::MakeError;
 use crate::policy::{FlushAmt, StdPolicy, WriterPolicy};
@@ -85,8 +88,8 @@ impl<W: TellWrite> BufWriter<W, StdPolicy> {
         BufWriter::with_capacity_ringbuf(alloc, DEFAULT_BUF_SIZE, inner)
     }
 
-    /// A writer over a ring whose capacity in bytes is the least multiple of [`RING_UNIT`](crate::RING_UNIT) that is at least
-    /// `cap`. A refusal hands `inner` back.
+    /// A writer over a ring whose capacity in bytes is the least multiple of [`RING_UNIT`](crate::RING_UNIT) that is at
+    /// least `cap`. A refusal hands `inner` back.
     pub fn with_capacity_ringbuf(alloc: Global, cap: usize, inner: W) -> Result<Self, MakeError<W>>
         ensures made { Makes W.log Ring (round cap) (2 ^ 61) inner result }
         ensures succeeds { cap ≡ 0 → IsOk result }

@@ -21,7 +21,9 @@
 //! `reader.set_policy(Eager)` puts a reader under it. Beside the law a policy may have `rules`: two tables, which say
 //! exactly what its calls return and change, and claims, which readers and writers rest further promises on.
 ghost use Rattle.std.specs.Prelude.{◌≡◌, ◌==◌, length};
-ghost use Rattle.buffer_redux.specs.Policy.{ReadRules, WriteRules, any_read_rules, any_write_rules, std_read_rules, std_write_rules, BeforeRead, AfterConsume, BeforeWrite, AfterWrite, amount_when_full};
+ghost use Rattle.buffer_redux.specs.Policy.{ReadRules, WriteRules, any_read_rules, any_write_rules};
+ghost use Rattle.buffer_redux.specs.Policy.{std_read_rules, std_write_rules, amount_when_full};
+ghost use Rattle.buffer_redux.specs.Policy.{BeforeRead, AfterConsume, BeforeWrite, AfterWrite};
 
 mod min_buffered;
 mod writers;

@@ -88,10 +88,6 @@ pub returns-then-bytes-usable_space-clause-empty : goal.returns-then-bytes-usabl
 returns-then-bytes-usable_space-clause-empty g c is some =
     writes_nothing g.P.WriterPolicy.rules _ _ _ _ (crowded g c) is some
 
-pub returns-then-bytes-usable_space-clause-steadily : goal.returns-then-bytes-usable_space-clause-steadily
-returns-then-bytes-usable_space-clause-steadily g c steady =
-    writes_steadily g.P.WriterPolicy.rules _ _ _ _ (crowded g c) steady
-
 pub returns-then-bytes-usable_space-clause-steps : goal.returns-then-bytes-usable_space-clause-steps
 returns-then-bytes-usable_space-clause-steps g c = crowded g c
 
