@@ -123,8 +123,8 @@ module _ {S P : Type 0} (remaining : S → Option (List ℕ)) (rules : ReadRules
       )
 
   -- where nothing is buffered and the reader inside has nothing left, nothing is ahead
-  pub remaining_ends : (WantsBytes (rules.claims s.policy) → 0 < s.block.capacity → IsAtEnd (remaining s.inner))
-      → s.block.bytes ≡ [] → IsAtEnd (reader_remaining remaining rules s)
+  pub remaining_ends : (WantsBytes (rules.claims s.policy) → 0 < s.block.capacity
+      → IsAtEnd (remaining s.inner)) → s.block.bytes ≡ [] → IsAtEnd (reader_remaining remaining rules s)
   remaining_ends ended none = IsAtEnd_if (may_stop rules s) (ahead remaining s)
       (λ is. at_nothing (remaining s.inner) s.block.bytes none (ended (wants_so is).0 (wants_so is).1))
 

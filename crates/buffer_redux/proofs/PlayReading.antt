@@ -35,7 +35,8 @@ module _ {S P : Type 0} (rules : ReadRules P) where
       (call : ReaderCall) (answer : ReaderAnswer) (t : Handing S P)
       → ReaderRuns rules s calls answers m → ReaderStep rules m call answer t
       → ReaderRuns rules s (calls ++ call ∷ []) (answers ++ answer ∷ []) t
-  ReaderRuns-more s [] [] m call answer t e step = (t, subst (λ x. ReaderStep rules x call answer t) (sym e) step, refl)
+  ReaderRuns-more s [] [] m call answer t e step =
+      (t, subst (λ x. ReaderStep rules x call answer t) (sym e) step, refl)
   ReaderRuns-more s [] (a ∷ answers) m call answer t e step = absurd e
   ReaderRuns-more s (c ∷ calls) [] m call answer t e step = absurd e
   ReaderRuns-more s (c ∷ calls) (a ∷ answers) m call answer t h step =
@@ -91,5 +92,6 @@ module _ {S P : Type 0} (rules : ReadRules P) where
         out = out.0;
         hands_out = out.1;
         claims = ReaderRuns-claims s (take index calls) answers t run;
-        sparing = λ still. ReaderRuns-sparing s (take index calls) answers t run (All-take MakesNoRoom index calls still);
+        sparing = λ still.
+            ReaderRuns-sparing s (take index calls) answers t run (All-take MakesNoRoom index calls still);
       }

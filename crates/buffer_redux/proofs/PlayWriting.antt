@@ -30,7 +30,8 @@ module _ {S P : Type 0} (rules : WriteRules P) where
       (call : WriterCall) (answer : WriterAnswer) (t : Buffered S P)
       → WriterRuns rules s calls answers m → WriterStep rules m call answer t
       → WriterRuns rules s (calls ++ call ∷ []) (answers ++ answer ∷ []) t
-  WriterRuns-more s [] [] m call answer t e step = (t, subst (λ x. WriterStep rules x call answer t) (sym e) step, refl)
+  WriterRuns-more s [] [] m call answer t e step =
+      (t, subst (λ x. WriterStep rules x call answer t) (sym e) step, refl)
   WriterRuns-more s [] (a ∷ answers) m call answer t e step = absurd e
   WriterRuns-more s (c ∷ calls) [] m call answer t e step = absurd e
   WriterRuns-more s (c ∷ calls) (a ∷ answers) m call answer t h step =

@@ -52,7 +52,13 @@ fill_grows log (Err e) shown =
 
 -- what noting a call changes: the log of calls
 abbrev pub with_calls : {S P : Type 0} → Buffered S P → StreamLog → Buffered S P
-with_calls s calls = record { policy = s.policy; block = s.block; inner = s.inner; log = s.log; calls = calls }
+with_calls s calls = record {
+  policy = s.policy;
+  block = s.block;
+  inner = s.inner;
+  log = s.log;
+  calls = calls;
+}
 
 -- a fill that was noted
 module _ {S P : Type 0} (remaining : S → Option (List ℕ)) (rules : ReadRules P) (s m t : Buffered S P)
@@ -119,12 +125,18 @@ module _ {S P : Type 0} (remaining : S → Option (List ℕ)) (rules : ReadRules
     capacity = omega (arith, ap (λ b. b.capacity) block, f.capacity);
     claims = ap (λ x. rules.claims x.policy) is ∙ f.claims;
     faults = λ steady.
-        subst (λ l. FaultsAlike s.calls.fills.faults l.fills.faults s.log.reads.faults t.log.reads.faults) (sym noted)
+        subst (λ l. FaultsAlike s.calls.fills.faults l.fills.faults s.log.reads.faults t.log.reads.faults)
+        (sym noted)
         (subst (λ l. FaultsAlike s.calls.fills.faults (after_fill s.calls answer t.block.bytes).fills.faults
         s.log.reads.faults l.reads.faults) (sym log)
         (faults_alike answer f steady));
     ends = λ wants room.
-        omega (arith, ends_bound answer f wants room, ap (λ l. l.fills.ends) noted, ap (λ l. l.reads.zero_answers) log);
+        omega (
+          arith,
+          ends_bound answer f wants room,
+          ap (λ l. l.fills.ends) noted,
+          ap (λ l. l.reads.zero_answers) log,
+        );
   }
 
 -- a writer fails no less often as its log goes on, and more often where it failed
@@ -138,7 +150,8 @@ failures_rise old new on (inl fault) = omega (arith, fault, on.zero_writes)
 failures_rise old new on (inr zero) =
     omega (arith, zero, ap length on.faults.equal, length-append old.faults on.faults.more)
 
--- under a steady policy a failed write, or one that took nothing of something, is a failure of the inner writer's
+-- under a steady policy a failed write, or one that took nothing of something, is a failure of the inner
+-- writer's
 pub write_fails : {S P : Type 0} (s t : Buffered S P) (bs : List ℕ) (answer : Result ℕ Error)
     → WriteLogGrows s.log.writes t.log.writes → SteadyWrite s (length bs) answer t → 0 < s.block.capacity
     → failures (after_write s.calls bs answer).writes + failures s.log.writes
@@ -151,7 +164,11 @@ write_fails s t bs (Err e) on steadily room =
     )
 write_fails s t bs (Ok n) on steadily room = elim (cases_lt 0 n) [
   | inl some ↦
-      omega (arith, zero_of_some n bs s.calls.writes.zero_writes (inl some), failures_kept s.log.writes t.log.writes on)
+      omega (
+        arith,
+        zero_of_some n bs s.calls.writes.zero_writes (inl some),
+        failures_kept s.log.writes t.log.writes on,
+      )
   | inr none ↦ elim (cases_lt 0 (length bs)) [
     | inl given ↦ (
         let zero : n ≡ 0 = omega (arith, none) in
@@ -243,7 +260,11 @@ module _ {S P : Type 0} (rules : WriteRules P) (s t : Buffered S P) (bs : List �
   write_met (Ok n) wrote caused own = elim (Wrote-met rules s bs n t tells.1 wrote).met [
     | inl only ↦ record { times = _; only = only }
     | inr nothing ↦
-        absurd (omega (arith, own.only.zero_writes, zero_of_none n bs s.calls.writes.zero_writes nothing.0 nothing.1))
+        absurd (omega (
+          arith,
+          own.only.zero_writes,
+          zero_of_none n bs s.calls.writes.zero_writes nothing.0 nothing.1,
+        ))
   ]
   write_met (Err e) failed caused own = err_met s.calls.writes (after_write s.calls bs (Err e)).writes
       s.log.writes t.log.writes (error_kind e) refl
@@ -272,9 +293,17 @@ module _ {S P : Type 0} (rules : WriteRules P) (s t : Buffered S P) (bs : List �
           | inl some ↦ absurd (omega (arith, zero, zero_of_some n bs s.calls.writes.zero_writes (inl some)))
           | inr none ↦ elim (cases_lt 0 (length bs)) [
             | inl given ↦
-                absurd (omega (arith, steadily.empty (ap Ok (omega (arith, none))) given room, only.zero_writes))
+                absurd (omega (
+                  arith,
+                  steadily.empty (ap Ok (omega (arith, none))) given room,
+                  only.zero_writes,
+                ))
             | inr empty ↦
-                absurd (omega (arith, zero, zero_of_some n bs s.calls.writes.zero_writes (inr (omega (arith, empty)))))
+                absurd (omega (
+                  arith,
+                  zero,
+                  zero_of_some n bs s.calls.writes.zero_writes (inr (omega (arith, empty))),
+                ))
           ]
         ]
       ]

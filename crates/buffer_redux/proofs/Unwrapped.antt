@@ -15,9 +15,11 @@ use Rattle.buffer_redux.proofs.WriteSteps.{WritesInOrder-sends}
 
 abbrev pub Leaves : {S : Type 0} → Handler S → Type 0
 Leaves {S} handler =
-    (w w' : MutBor S) (b b' : MutBor Block) (e : Error) → handler w b e w' b' → (w'.now ≡ w.now) × (b'.now ≡ b.now)
+    (w w' : MutBor S) (b b' : MutBor Block) (e : Error) → handler w b e w' b'
+    → (w'.now ≡ w.now) × (b'.now ≡ b.now)
 
-module _ {S P : Type 0} (tells : S → StreamLog) (stretch : S → S → Type 0) (handler : Handler S) (leaves : Leaves handler)
+module _ {S P : Type 0} (tells : S → StreamLog) (stretch : S → S → Type 0) (handler : Handler S)
+    (leaves : Leaves handler)
     (s : Buffered S P) where
   both_left : (sending : Result (Unit {0}) Error) (sent : Buffered S P) (inner : S) (b : Block)
       → MatchResult sending

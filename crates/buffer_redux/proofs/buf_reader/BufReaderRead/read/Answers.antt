@@ -43,7 +43,12 @@ had_capacity g c none =
     let s = c.args.self.now in
     let inside : StaysInside s.block (length c.args.out.now) = elim c.else-is_empty.branch [
       | else-is_empty-via-then-is_empty+else-out-capacity w ↦
-          inr (omega (arith, w.if-out-capacity.false, w.capacity.ensures.value, ap (λ x. x.block.capacity) c.self.view_is))
+          inr (omega (
+            arith,
+            w.if-out-capacity.false,
+            w.capacity.ensures.value,
+            ap (λ x. x.block.capacity) c.self.view_is,
+          ))
       | else-is_empty-via-else-is_empty w ↦ elim (cases_lt 0 (length s.block.bytes)) [
         | inl some ↦ inl some
         | inr few ↦
@@ -95,7 +100,8 @@ returns-clause-in_order g c =
     let n = c.hand_out.result in
     let front = length-take-le n m.block.bytes (omega (arith, c.hand_out.ensures.count)) in
     let same : take n m.block.bytes ≡ take n c.hand_out.new.out =
-    sym (ap (take n) c.hand_out.ensures.copied ∙ take_at (take n m.block.bytes) (drop n c.args.out.now) n front) in
+    sym (ap (take n) c.hand_out.ensures.copied
+    ∙ take_at (take n m.block.bytes) (drop n c.args.out.now) n front) in
     ReadsInOrder-joins s m t [] (take n c.hand_out.new.out) (filled g c).in_order
     (subst (λ l. ReadsInOrder m l t) same c.hand_out.ensures.in_order)
 

@@ -18,8 +18,8 @@ returns-clause-stretch g c =
     let answer = c.write-answer.result in
     let wrote = c.write-answer.ensures in
     let noted : c.note.new.self.log ≡ after_write s.calls bs answer = search rules in
-    call_went g.W.TellWrite.stretch g.P.WriterPolicy.rules s m _ _ (after_write s.calls bs answer) c.self.view_is
-    noted wrote.stretch.calls wrote.grows
+    call_went g.W.TellWrite.stretch g.P.WriterPolicy.rules s m _ _ (after_write s.calls bs answer)
+    c.self.view_is noted wrote.stretch.calls wrote.grows
     (subst (λ l. WriteLogGrows (writer_log s).writes l.writes) (sym (returns-clause-told g c))
     (WriteLogGrows-write (writer_log s) bs answer)) wrote.capacity wrote.claims
     (λ steady room. write_fails s m bs answer wrote.grows (wrote.steadily steady) room)
