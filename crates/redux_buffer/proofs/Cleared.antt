@@ -11,8 +11,16 @@ cleared xs s e = take s xs ++ (replicate (e - s) 0 ++ drop e xs)
 pub length_cleared : (xs : List ℕ) (s e : ℕ) → s ≤ e → e ≤ length xs → length (cleared xs s e) ≡ length xs
 length_cleared xs s e p q =
     let zeros : List ℕ = replicate (e - s) 0 in
-    let parts : length (cleared xs s e) ≡ length (take s xs) + length (zeros ++ drop e xs) = length-append (take s xs) (zeros ++ drop e xs) in
-    omega (arith, parts, length-append zeros (drop e xs), length-replicate {A = ℕ} (e - s) 0, length-take-le s xs (omega arith), length-drop e xs)
+    let parts : length (cleared xs s e) ≡ length (take s xs) + length (zeros ++ drop e xs) =
+    length-append (take s xs) (zeros ++ drop e xs) in
+    omega (
+      arith,
+      parts,
+      length-append zeros (drop e xs),
+      length-replicate {A = ℕ} (e - s) 0,
+      length-take-le s xs (omega arith),
+      length-drop e xs,
+    )
 
 module _ (xs : List ℕ) (grown cap e : ℕ) where
   abbrev now : List ℕ
@@ -25,7 +33,8 @@ module _ (xs : List ℕ) (grown cap e : ℕ) where
       let all = xs ++ zeros in
       let front = length-take-le cap all (omega (arith, length-append xs zeros)) in
       between_is now from to
-      ∙ ap (drop from) (take-append-le to (take cap all) (replicate (e - cap) 0 ++ drop e all) (omega (arith, front)) ∙ take-take to cap all within ∙ take-append-le to xs zeros (omega arith))
+      ∙ ap (drop from) (take-append-le to (take cap all) (replicate (e - cap) 0 ++ drop e all) (omega (arith, front))
+      ∙ take-take to cap all within ∙ take-append-le to xs zeros (omega arith))
       ∙ sym (between_is xs from to)
 
   -- from there on to the new capacity it is zeros, where the block was twice the old one and grew by as much

@@ -11,7 +11,8 @@ OnKind-joins Ring k' P P' P'' Q Q' Q'' e f g x y = g x (subst (λ z. OnKind z P'
 
 pub OnlyRingMoves-joins : (a b c : Block) → b.kind ≡ a.kind → OnlyRingMoves a b → OnlyRingMoves b c → OnlyRingMoves a c
 OnlyRingMoves-joins a b c e p q =
-    OnKind-joins a.kind b.kind (b.moved ≡ a.moved) (c.moved ≡ b.moved) (c.moved ≡ a.moved) (a.moved ≤ b.moved) (b.moved ≤ c.moved) (a.moved ≤ c.moved)
+    OnKind-joins a.kind b.kind (b.moved ≡ a.moved) (c.moved ≡ b.moved) (c.moved ≡ a.moved)
+    (a.moved ≤ b.moved) (b.moved ≤ c.moved) (a.moved ≤ c.moved)
     e (λ x y. y ∙ x) (λ x y. omega arith) p q
 
 pub ConsumesFirst-joins : (n m : ℕ) (a b c : Block) → ConsumesFirst n a b → ConsumesFirst m b c → ConsumesFirst (n + m) a c
@@ -19,7 +20,8 @@ ConsumesFirst-joins n m a b c p q =
     let left : length b.bytes ≡ length a.bytes - n = ap length p.bytes ∙ length-drop n a.bytes in
     let last : length c.bytes ≡ length b.bytes - m = ap length q.bytes ∙ length-drop m b.bytes in record {
       bytes = q.bytes ∙ ap (drop m) p.bytes ∙ drop-drop m n a.bytes;
-      usable = OnKind-joins a.kind b.kind (0 < length b.bytes → usable b ≡ usable a) (0 < length c.bytes → usable c ≡ usable b) (0 < length c.bytes → usable c ≡ usable a) ⊤ ⊤ ⊤
+      usable = OnKind-joins a.kind b.kind (0 < length b.bytes → usable b ≡ usable a)
+          (0 < length c.bytes → usable c ≡ usable b) (0 < length c.bytes → usable c ≡ usable a) ⊤ ⊤ ⊤
           p.kind (λ x y some. y some ∙ x (omega arith)) (λ x y. tt) p.usable q.usable;
       capacity = q.capacity ∙ p.capacity;
       limit = q.limit ∙ p.limit;

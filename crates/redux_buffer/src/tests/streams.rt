@@ -165,7 +165,8 @@ impl TellBufRead for Page<'_> {
 
     ghost stretch_joins = { λ a b c. FillLogGrows-joins _ _ _ };
 
-    ghost stretch_grows = { λ s t grows. FillsGoOn-of (with_shown s.calls.log s.left.now) (with_shown t.calls.log t.left.now) grows };
+    ghost stretch_grows = { λ s t grows.
+        FillsGoOn-of (with_shown s.calls.log s.left.now) (with_shown t.calls.log t.left.now) grows };
 }
 
 fn shown_len<B: TellBufRead>(reader: &mut B) -> io::Result<usize> {

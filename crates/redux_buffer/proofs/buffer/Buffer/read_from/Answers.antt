@@ -12,12 +12,14 @@ returns-clause-read g c =
     let given : n ≤ length w = c.in_ok-n.ensures.bound.0 in
     let room : n ≤ usable (placed c.self.inside.imp).block = omega arith in
     rw (← c.self.view_is) (record {
-      no_room = λ none. absurd (c.if-usable_space-eq0.false (c.usable_space.ensures.value ∙ ap usable (sym c.self.view_is) ∙ none));
+      no_room = λ none. absurd
+          (c.if-usable_space-eq0.false (c.usable_space.ensures.value ∙ ap usable (sym c.self.view_is) ∙ none));
       read = λ some. record {
         out = w;
         offered = whole;
         bound = c.in_ok-n.ensures.bound;
         told = c.in_ok-n.ensures.told;
-        added = written_adds c.self.inside.imp c.bytes_written.new.self w n c.self.invariant c.bytes_written.ensures.whole whole room c.bytes_written.ensures.bytes c.bytes_written.ensures.shift;
+        added = written_adds c.self.inside.imp c.bytes_written.new.self w n c.self.invariant
+            c.bytes_written.ensures.whole whole room c.bytes_written.ensures.bytes c.bytes_written.ensures.shift;
       };
     })

@@ -20,7 +20,9 @@ add_spec 𝓤 𝓛 𝓜 𝓡 wired =
     let b = a.0.ref_ptr.0 in let o = a.0.ref_ptr.1 in let h = a.0.now in
     let vs = mut_vals a.0 in let us = uint_vals w64 a.1.0 in
     let h' : Count = record { total = h.total + a.1.0 } in
-    qed 𝓛 (((‵ (flft κs.0 qs.0) ⊛ ‵ ftrue) ⊛ (‵ ((MutRef (named 0) κs.0 T.the_row).own_val a.0 vs) ⊛ (‵ (usize.own_val a.1.0 us) ⊛ ‵ ftrue))) ∷ raw ((c κs a).requires n) ∷ []) ∵
+    qed 𝓛 (((‵ (flft κs.0 qs.0) ⊛ ‵ ftrue)
+    ⊛ (‵ ((MutRef (named 0) κs.0 T.the_row).own_val a.0 vs) ⊛ (‵ (usize.own_val a.1.0 us) ⊛ ‵ ftrue)))
+    ∷ raw ((c κs a).requires n) ∷ []) ∵
     split ! $ split ! $ move ! (2 ∷ []) $ split ! $
     -- [self; the number; the token of self; the other tokens; the `requires`]
     enter ! _ _ _ _ _ $ alloc_all ! (λ l. pass_all ! refl ((tt, tt), ((tt, record { fits = are.1.0.1 }), tt)) $
@@ -29,6 +31,7 @@ add_spec 𝓤 𝓛 𝓜 𝓡 wired =
     move ! (1 ∷ []) $ use1 𝓛 (‵ (T.the_row.own_val h' ws)) (id⊢ 𝓤 _) $ move ! (1 ∷ 0 ∷ []) $ closes ! tt T.the_row h' ws b o $
     -- [two parts of self; the token of self; self's first part; the number; the other tokens; the `requires`]
     returns ! (look_at ! 0 refl) $ free_all ! refl $ keep ! (3 ∷ 0 ∷ 1 ∷ 2 ∷ 5 ∷ []) $
-    suffices ! _ (ends_at 𝓛 f.ended stayed c ((κs, qs, bounds, a, (vs, (us, tt))), n) vunit tt (h', (tt, tt)) (tt, (tt, tt))) $ says ! refl $
+    suffices ! _ (ends_at 𝓛 f.ended stayed c ((κs, qs, bounds, a, (vs, (us, tt))), n) vunit tt
+    (h', (tt, tt)) (tt, (tt, tt))) $ says ! refl $
     group ! 3 $ nothing ! $ nothing ! $ fjoin ! $ move ! (1 ∷ 0 ∷ []) $ join ! $ move ! (1 ∷ 2 ∷ 0 ∷ []) $ join ! $
     feq_i ! _ (vunit ∷ []) _ refl $ move ! (1 ∷ 2 ∷ 0 ∷ []) $ done !)))
