@@ -4,7 +4,7 @@ use Rattle.std.proofs.Common.{◌∙◌, ap, arith, le_refl, le_trans, refl}
 use Rattle.std.specs.IoError.{error_kind}
 use Rattle.std.specs.declared.io.Error.{Error}
 use Rattle.std.specs.declared.io.traits.SeekFrom.{SeekFrom}
-use Rattle.redux_buffer.specs.Block.{Plain, IsBlock, Reserves, capacity_for, usable}
+use Rattle.redux_buffer.specs.Block.{Block, Plain, IsBlock, Reserves, capacity_for, usable}
 use Rattle.redux_buffer.specs.GrowError.{FitsWithin, kind_of}
 use Rattle.redux_buffer.specs.Potential.{potential, of_plain}
 use Rattle.redux_buffer.specs.declared.grow_error.GrowError.{GrowError}
@@ -40,7 +40,7 @@ pub record BeginsEmpty {S P : Type 0} (keep : ℕ) (s : Buffered S P) : Type 0 w
   pub empty : s.block.bytes ≡ []
   pub capacity : 3 * keep ≤ s.block.capacity
 
--- a growth by so many bytes was refused, which the error tells by its kind, and left the reader
+-- a growth by so many bytes was refused, which the error tells by its kind, and left the reader as it was
 pub record GrowthRefused {S P : Type 0} (more : ℕ) (s : Buffered S P) (e : Error) (t : Buffered S P) : Type 0 where
   pub tight : usable s.block < more
   pub refusal : GrowError
@@ -48,15 +48,14 @@ pub record GrowthRefused {S P : Type 0} (more : ℕ) (s : Buffered S P) (e : Err
   pub within : FitsWithin {T = Unit {0}} (Err refusal) (capacity_for s.block more) s.block.limit
   pub unchanged : t ≡ s
 
--- the buffer has grown by so many bytes, where they didn't fit, and then the reader sought
+-- the buffer grew by so many bytes, where they didn't fit, and then the reader sought
 pub record GrewAndSought {S P : Type 0} (more : ℕ) (to : SeekFrom) (s : Buffered S P) (answer : Result ℕ Error)
     (t : Buffered S P) : Type 0 where
-  pub grown : Buffered S P
-  pub grows : Reserves more s.block grown.block
-  pub others : grown ≡ with_block s grown.block
-  pub seeks : Seeks (planned to (length grown.block.bytes)) grown answer t
+  pub grown : Block
+  pub grows : Reserves more s.block grown
+  pub seeks : Seeks (planned to (length grown.bytes)) (with_block s grown) answer t
 
--- an error is the refusal of the growth, or the seek's
+-- the buffer grew, and then the reader sought; an error is the refusal of the growth, which ended it, or the seek's
 abbrev pub GrowsAndSeeks : {S P : Type 0} → ℕ → SeekFrom → Buffered S P → Result ℕ Error → Buffered S P → Type 0
 GrowsAndSeeks more to s (Ok n) t = GrewAndSought more to s (Ok n) t
 GrowsAndSeeks more to s (Err e) t = GrowthRefused more s e t ⊎ GrewAndSought more to s (Err e) t

@@ -221,7 +221,7 @@ impl<W: TellWrite, P> BufWriter<W, P> {
 
 impl<W: TellWrite, P: WriterPolicy> BufWriter<W, P> {
     // All of a write but the first question: flushes the amount, takes the bytes in and asks the policy once more. It
-    // stands apart, as what few writes come to, so that the others are short in their callers.
+    // stands apart, so that a write that sends nothing first and fits is short in its caller.
     #[cold]
     #[inline(never)]
     fn write_slowly(&mut self, first: usize, bytes: &[u8]) -> io::Result<usize>

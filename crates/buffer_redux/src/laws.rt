@@ -7,7 +7,7 @@ ghost use Rattle.redux_buffer.specs.Faults.{SendErrorCaused};
 ghost use Rattle.redux_buffer.specs.StreamLog.{no_calls, taken, after_read};
 ghost use Rattle.redux_buffer.specs.Told.{told_stream};
 ghost use Rattle.buffer_redux.specs.Buffered.{with_calls, GoesPast, StaysInside, GoesDirect};
-ghost use Rattle.buffer_redux.specs.BufReader.{FillsToMinimum, RanDry, ReadErrorCaused, ReadsInOrder};
+ghost use Rattle.buffer_redux.specs.BufReader.{Fills, FillsToMinimum, RanDry, ReadErrorCaused, ReadsInOrder};
 ghost use Rattle.buffer_redux.specs.BufReader.{ReadsBuffered, LeavesRest};
 ghost use Rattle.buffer_redux.specs.BufWriter.{Flushes, IsFlushed};
 ghost use Rattle.buffer_redux.specs.Copy.{CopyEnded, CopyFailed, FaultsRise, MovedBy};
@@ -61,8 +61,7 @@ pub fn look_ahead<R: TellRead>(reader: &mut BufReader<R, MinBuffered>) -> io::Re
     ensures ahead { FillsToMinimum reader.old.policy.0 reader.old (is_ok result) reader.new }
     ensures in_order { ReadsInOrder reader.old [] reader.new }
     ensures caused { ReadErrorCaused min_read_rules reader.old result reader.new }
-    ensures claims { min_read_rules.claims reader.new.policy
-        ≡ min_read_rules.claims reader.old.policy }
+    ensures fills { Fills min_read_rules reader.old result reader.new }
 {
     Ok(reader.fill_buf()?.len())
 }

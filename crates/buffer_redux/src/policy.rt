@@ -86,16 +86,16 @@ pub fn flush_when_full(buf: &Buffer, incoming: usize) -> FlushAmt
     ensures { result.0 ≡ amount_when_full buf.now incoming }
 {
     if incoming > buf.usable_space() {
-        flush_all(buf)
+        amount_of_all(buf)
     } else {
         FlushAmt(0)
     }
 }
 
-// The amount stands apart, so that it isn't computed where the bytes fit.
+// Apart, so that it isn't computed where the bytes fit.
 #[cold]
 #[inline(never)]
-fn flush_all(buf: &Buffer) -> FlushAmt
+fn amount_of_all(buf: &Buffer) -> FlushAmt
     ensures { result.0 ≡ length buf.now.bytes }
 {
     FlushAmt(buf.len())

@@ -1,9 +1,9 @@
 //! The buffer that readers and writers hold.
-ghost use Rattle.std.specs.Prelude.{◌≡◌, ◌+◌, ◌-◌, ◌*◌, ◌^◌, ◌≤◌, ◌<◌, ◌↔◌, ℕ, List, [], ◌++◌, length, min, take, drop, IsTrue, IfOk, IsOk, IsOkUnless, OnOk, OnErr, MatchResult};
+ghost use Rattle.std.specs.Prelude.{◌≡◌, ◌+◌, ◌-◌, ◌*◌, ◌^◌, ◌≤◌, ◌<◌, ◌↔◌, ◌++◌, length, min, take, drop, IsTrue, IfOk, IsOk, IsOkUnless, OnOk, OnErr};
 ghost use Rattle.std.specs.Borrow.{Lends, Array, sem, u8};
 ghost use Rattle.redux_buffer.specs.GrowError.{FitsWithin};
 ghost use Rattle.redux_buffer.specs.contracts.buffer.Buffer.{the_row};
-ghost use Rattle.redux_buffer.specs.Block.{Plain, with_bytes, Ring, IsBlock, IsNew, ConsumesFirst, Clears, Reserves, MakesRoom, LeavesBytes, Extends, PushesBytes, OnlyRingMoves, MovesToFront, usable, capacity_for, capacity_to_push, round};
+ghost use Rattle.redux_buffer.specs.Block.{Plain, with_bytes, Ring, IsBlock, IsNew, ConsumesFirst, Clears, Reserves, MakesRoom, Extends, PushesBytes, OnlyRingMoves, MovesToFront, usable, capacity_for, capacity_to_push, round};
 
 use crate::DEFAULT_BUF_SIZE;
 use crate::buf_impl::BufImpl;

@@ -1,6 +1,6 @@
 //! Laws of the buffer, each as the contract of a function over its calls.
 ghost use Rattle.std.specs.Prelude.{◌≡◌, ◌+◌, ◌-◌, ◌≤◌, [], length, min, take, drop};
-ghost use Rattle.redux_buffer.specs.Block.{Ring, IsBlock, SameButTail, usable};
+ghost use Rattle.redux_buffer.specs.Block.{Ring, IsBlock, OnlyRingMoves, SameButTail, usable};
 
 use crate::buffer::Buffer;
 
@@ -40,6 +40,8 @@ pub fn copy_through(buffer: &mut Buffer, src: &[u8], out: &mut [u8]) -> usize
     ensures rest { drop result out.new ≡ drop result out.old }
     ensures left { buffer.new.bytes ≡ drop result (take (usable buffer.old) src.now) }
     ensures through { buffer.new.consumed ≡ buffer.old.consumed + result }
+    ensures capacity { buffer.new.capacity ≡ buffer.old.capacity }
+    ensures moved { OnlyRingMoves buffer.old buffer.new }
 {
     let _ = buffer.copy_from_slice(src);
     buffer.copy_to_slice(out)

@@ -1,5 +1,5 @@
 //! The plain buffer.
-ghost use Rattle.std.specs.Prelude.{◌≡◌, ◌+◌, ◌-◌, ◌^◌, ◌≤◌, ◌<◌, ◌↔◌, ℕ, List, [], ◌++◌, length, min, take, drop, IsTrue, IfOk, IsOk, OnOk, OnErr};
+ghost use Rattle.std.specs.Prelude.{◌≡◌, ◌+◌, ◌-◌, ◌^◌, ◌≤◌, ◌<◌, ◌↔◌, ◌++◌, length, min, take, drop, IsTrue, IfOk, IsOk, OnOk, OnErr};
 ghost use Rattle.std.specs.Borrow.{Lends, Array, sem, u8};
 ghost use Rattle.redux_buffer.specs.GrowError.{FitsWithin};
 ghost use Rattle.redux_buffer.specs.Block.{Plain, IsPlaced, IsNew, GrowsToFront, BytesWritten, ConsumesFirst, Extends, Reserves, MakesRoom, CountsShift, usable, capacity_for, with_tail, with_bytes};
@@ -221,12 +221,8 @@ impl StdBuf {
         if usable >= a {
             return Ok(());
         }
-        let more = a - usable;
-        if self.buf.reserve_in_place(more) {
-            self.stop = self.buf.capacity();
-            return Ok(());
-        }
         if self.end > 0 {
+            let more = a - usable;
             self.buf.reserve(more)?;
             self.stop += more;
             return Ok(());

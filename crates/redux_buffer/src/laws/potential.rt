@@ -3,6 +3,7 @@
 //!
 //! Only bytes that are appended raise it, and `make_room` where there was room enough. So who makes room only where it
 //! pays moves no more bytes than were appended.
+//! Each function is its call, and promises what that did beside.
 ghost use Rattle.std.specs.Prelude.{◌≡◌, ◌≤◌, ℕ, ◌++◌, length, min, take, drop, MatchResult, OnOk, OnErr, IsOk};
 ghost use Rattle.redux_buffer.specs.Block.{Plain, ConsumesFirst, Clears, Reserves, Extends, PushesBytes};
 ghost use Rattle.redux_buffer.specs.Block.{MakesRoom, MovesToFront, usable, capacity_for, capacity_to_push};
@@ -86,6 +87,8 @@ pub fn read_from<R: TellRead>(buffer: &mut Buffer, rdr: &mut R) -> io::Result<us
 /// A write of all bytes doesn't raise it, whatever is taken of them.
 pub fn write_to<W: TellWrite>(buffer: &mut Buffer, wrt: &mut W) -> io::Result<usize>
     ensures wrote { WritesTo buffer.old (W.log wrt.old) result buffer.new (W.log wrt.new) }
+    ensures not_asked { length buffer.old.bytes ≡ 0 → wrt.new ≡ wrt.old }
+    ensures stretch { W.stretch wrt.old wrt.new }
     ensures potential { PlainRises 0 buffer.old buffer.new }
 {
     buffer.write_to(wrt)
@@ -94,6 +97,7 @@ pub fn write_to<W: TellWrite>(buffer: &mut Buffer, wrt: &mut W) -> io::Result<us
 /// Sending the first bytes doesn't raise it.
 pub fn write_max<W: TellWrite>(buffer: &mut Buffer, max: usize, wrt: &mut W) -> io::Result<()>
     ensures sent { Sends max buffer.old (W.log wrt.old) result buffer.new (W.log wrt.new) }
+    ensures stretch { W.stretch wrt.old wrt.new }
     ensures potential { PlainRises 0 buffer.old buffer.new }
 {
     buffer.write_max(max, wrt)
@@ -103,6 +107,7 @@ pub fn write_max<W: TellWrite>(buffer: &mut Buffer, max: usize, wrt: &mut W) -> 
 pub fn write_all<W: TellWrite>(buffer: &mut Buffer, wrt: &mut W) -> io::Result<()>
     ensures sent { Sends (length buffer.old.bytes) buffer.old (W.log wrt.old) result
         buffer.new (W.log wrt.new) }
+    ensures stretch { W.stretch wrt.old wrt.new }
     ensures potential { PlainRises 0 buffer.old buffer.new }
 {
     buffer.write_all(wrt)

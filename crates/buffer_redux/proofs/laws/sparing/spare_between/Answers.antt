@@ -16,8 +16,7 @@ returns-clause-ended g c =
     by_seek c.args.more c.args.to (with_policy c.args.reader.now (record { 0 = c.args.min }))
     c.seek.result c.seek.new.self
     (record {
-      grown = c.reserve.new.self;
+      grown = c.reserve.new.self.block;
       grows = search rules;
-      others = search rules;
       seeks = search rules;
     })
