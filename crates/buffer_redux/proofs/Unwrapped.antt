@@ -1,56 +1,78 @@
--- What follows where a writer was taken apart by a handler that leaves what it is lent.
-use Rattle.std.proofs.Common.{◌≡◌, ◌⊎◌, [], length, Result, Ok, Err, sym, ap, subst, ◌∙◌, arith, inl, inr, length-drop}
+-- What follows where a writer was taken apart by a handler that leaves the inner writer, and leaves or clears the
+-- buffer.
+use Rattle.std.proofs.Common.{◌≡◌, ◌⊎◌, [], length, Result, Ok, Err}
+use Rattle.std.proofs.Common.{sym, ap, ◌∙◌, arith, inl, inr, length-drop}
 use Rattle.std.proofs.lemmas.List.{nil_from_length}
 use Rattle.std.specs.Prelude.{MatchResult}
 use Rattle.std.specs.Borrow.{MutBor}
 use Rattle.std.specs.IoError.{error_kind}
 use Rattle.std.specs.declared.io.Error.{Error}
-use Rattle.redux_buffer.specs.Block.{Block}
+use Rattle.redux_buffer.specs.Block.{Block, Clears}
 use Rattle.redux_buffer.specs.Faults.{SendErrorCaused}
 use Rattle.redux_buffer.specs.StreamLog.{StreamLog}
 use Rattle.redux_buffer.specs.Transfer.{Sends}
-use Rattle.buffer_redux.specs.Buffered.{Buffered}
-use Rattle.buffer_redux.specs.Unwrapping.{Handler, Handled, SendsOrHandles, KeepsUnsent}
+use Rattle.buffer_redux.specs.Buffered.{Buffered, with_block, with_inner}
+use Rattle.buffer_redux.specs.Unwrapping.{Handler, Handled, SendsOrHandles, KeepsUnsent, DropsUnsent}
 use Rattle.buffer_redux.proofs.WriteSteps.{WritesInOrder-sends}
 
-abbrev pub Leaves : {S : Type 0} → Handler S → Type 0
-Leaves {S} handler =
+-- a handler leaves the inner writer as it was, and the buffer in this relation to what it was
+abbrev pub Leaves : {S : Type 0} → Handler S → (Block → Block → Type 0) → Type 0
+Leaves {S} handler Left =
     (w w' : MutBor S) (b b' : MutBor Block) (e : Error) → handler w b e w' b'
-    → (w'.now ≡ w.now) × (b'.now ≡ b.now)
+    → (w'.now ≡ w.now) × Left b.now b'.now
 
 module _ {S P : Type 0} (tells : S → StreamLog) (stretch : S → S → Type 0) (handler : Handler S)
-    (leaves : Leaves handler)
     (s : Buffered S P) where
-  both_left : (sending : Result (Unit {0}) Error) (sent : Buffered S P) (inner : S) (b : Block)
+  parts_left : (Left : Block → Block → Type 0) → Leaves handler Left
+      → (sending : Result (Unit {0}) Error) (sent : Buffered S P) (inner : S) (b : Block)
       → MatchResult sending
       (λ _. (inner ≡ sent.inner) × (b ≡ sent.block)) (λ e. Handled handler sent.inner sent.block e inner b)
-      → (inner ≡ sent.inner) × (b ≡ sent.block)
-  both_left (Ok _) sent inner b same = same
-  both_left (Err e) sent inner b h =
-      let same = leaves h.lent_inner h.left_inner h.lent_buffer h.left_buffer e h.called in
-      (sym h.leaves_inner ∙ same.0 ∙ h.shows_inner, sym h.leaves_buffer ∙ same.1 ∙ h.shows_buffer)
+      → (inner ≡ sent.inner) × MatchResult sending (λ _. b ≡ sent.block) (λ _. Left sent.block b)
+  parts_left Left leaves (Ok _) sent inner b same = same
+  parts_left Left leaves (Err e) sent inner b h =
+      let left = leaves h.lent_inner h.left_inner h.lent_buffer h.left_buffer e h.called in
+      (sym h.leaves_inner ∙ left.0 ∙ h.shows_inner, rw (sym h.shows_buffer, sym h.leaves_buffer) left.1)
 
-  why_left : (sending : Result (Unit {0}) Error) (sent : Buffered S P)
-      → Sends (length s.block.bytes) s.block s.log sending sent.block sent.log → sent.log ≡ tells sent.inner
-      → (sent.block.bytes ≡ []) ⊎ ((kind : _) × SendErrorCaused s.log.writes (tells sent.inner).writes kind)
-  why_left (Ok _) sent f told = inl (nil_from_length sent.block.bytes
+  same_left : (sending : Result (Unit {0}) Error) (b b' : Block)
+      → MatchResult sending (λ _. b' ≡ b) (λ _. b' ≡ b) → b' ≡ b
+  same_left (Ok _) b b' same = same
+  same_left (Err _) b b' same = same
+
+  why_left : (sending : Result (Unit {0}) Error) (b : Block) (log : StreamLog)
+      → Sends (length s.block.bytes) s.block s.log sending b log
+      → (b.bytes ≡ []) ⊎ ((kind : _) × SendErrorCaused s.log.writes log.writes kind)
+  why_left (Ok _) b log f = inl (nil_from_length b.bytes
       (omega (arith, ap length f.sent.dropped.bytes, length-drop f.count s.block.bytes, f.whole)))
-  why_left (Err e) sent f told = inr (
-    error_kind e,
-    subst (λ l. SendErrorCaused s.log.writes l.writes (error_kind e)) told
-        (record { interrupts = f.interrupts; cause = f.failed.cause }),
-  )
+  why_left (Err e) b log f =
+      inr (error_kind e, record { interrupts = f.interrupts; cause = f.failed.cause })
 
-  pub keeps_unsent : (inner : S) (b : Block) → SendsOrHandles tells stretch handler s inner b
-      → KeepsUnsent tells s inner b
-  keeps_unsent inner b f =
-      let left = both_left f.sending f.sent inner b f.ended in
-      let sent = WritesInOrder-sends s f.sent (length s.block.bytes) f.sending f.sends in
-      rw (left.0, left.1) (record {
-        in_order = record {
-          sent = sent.sent;
-          received = ap (λ l. l.writes.received) (sym f.went.told_after) ∙ sent.received;
-          equal = sent.equal;
-        };
-        why = why_left f.sending f.sent f.sends f.went.told_after;
+  -- what sending left, before the handler was called
+  sending_keeps : (inner : S) (b : Block) (f : SendsOrHandles tells stretch handler s inner b)
+      → KeepsUnsent tells s f.sent.inner f.sent.block
+  sending_keeps inner b f =
+      let left : Buffered S P = with_inner tells (with_block s f.sent.block) f.sent.inner in
+      let sends : Sends (length s.block.bytes) s.block s.log f.sending left.block left.log =
+      rw (sym f.went.told_after) f.sends in
+      record {
+        sending = f.sending;
+        sends = sends;
+        in_order = WritesInOrder-sends s left (length s.block.bytes) f.sending sends;
+        why = why_left f.sending left.block left.log sends;
+      }
+
+  pub keeps_unsent : Leaves handler (λ b b'. b' ≡ b)
+      → (inner : S) (b : Block) → SendsOrHandles tells stretch handler s inner b → KeepsUnsent tells s inner b
+  keeps_unsent leaves inner b f =
+      let left = parts_left (λ b b'. b' ≡ b) leaves f.sending f.sent inner b f.ended in
+      rw (left.0, same_left f.sending f.sent.block b left.1) (sending_keeps inner b f)
+
+  pub drops_unsent : Leaves handler Clears
+      → (inner : S) (b : Block) → SendsOrHandles tells stretch handler s inner b → DropsUnsent tells s inner b
+  unfolding sending_keeps
+  drops_unsent leaves inner b f =
+      let left = parts_left Clears leaves f.sending f.sent inner b f.ended in
+      rw (left.0) (record {
+        unsent = f.sent.block;
+        kept = sending_keeps inner b f;
+        dropped = left.1;
       })

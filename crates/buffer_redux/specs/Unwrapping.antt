@@ -3,7 +3,7 @@ use Rattle.std.specs.Prelude.{◌≡◌, ◌⊎◌, [], length, Result, MatchRes
 use Rattle.std.specs.Borrow.{MutBor}
 use Rattle.std.specs.declared.io.Error.{Error}
 use Rattle.std.specs.declared.io.ErrorKind.{ErrorKind}
-use Rattle.redux_buffer.specs.Block.{Block}
+use Rattle.redux_buffer.specs.Block.{Block, Clears}
 use Rattle.redux_buffer.specs.Faults.{SendErrorCaused}
 use Rattle.redux_buffer.specs.StreamLog.{StreamLog}
 use Rattle.redux_buffer.specs.Transfer.{Sends}
@@ -44,8 +44,17 @@ pub record SendsOrHandles {S P : Type 0} (tells : S → StreamLog) (stretch : S 
   pub ended : MatchResult sending
       (λ _. (inner ≡ sent.inner) × (b ≡ sent.block)) (λ e. Handled handler sent.inner sent.block e inner b)
 
--- no byte was lost: what was received since, then what is left, is what was buffered, and bytes are left only where
--- sending failed
+-- all bytes were sent, or those stay that a fault left unsent, and the inner writer tells of no other call. So no byte
+-- was lost: what was received since, then what is left, is what was buffered, and bytes are left only where sending
+-- failed
 pub record KeepsUnsent {S P : Type 0} (tells : S → StreamLog) (s : Buffered S P) (inner : S) (b : Block) : Type 0 where
+  pub sending : Result (Unit {0}) Error
+  pub sends : Sends (length s.block.bytes) s.block s.log sending b (tells inner)
   pub in_order : WritesInOrder s [] (with_inner tells (with_block s b) inner)
   pub why : (b.bytes ≡ []) ⊎ ((kind : ErrorKind) × SendErrorCaused s.log.writes (tells inner).writes kind)
+
+-- all bytes were sent, or those that a fault left unsent were dropped, and the buffer keeps its capacity
+pub record DropsUnsent {S P : Type 0} (tells : S → StreamLog) (s : Buffered S P) (inner : S) (b : Block) : Type 0 where
+  pub unsent : Block
+  pub kept : KeepsUnsent tells s inner unsent
+  pub dropped : MatchResult kept.sending (λ _. b ≡ unsent) (λ _. Clears unsent b)

@@ -2,7 +2,6 @@
 ghost use Rattle.std.specs.Prelude.{◌≡◌, ◌<◌, [], length, Ok, IfOk, IfErr, OnOk, is_ok};
 ghost use Rattle.std.specs.Io.KnownBytes.{Appends};
 ghost use Rattle.std.specs.IoError.{error_kind};
-ghost use Rattle.redux_buffer.specs.Block.{Block};
 ghost use Rattle.redux_buffer.specs.Faults.{SendErrorCaused};
 ghost use Rattle.redux_buffer.specs.StreamLog.{no_calls, taken, after_read};
 ghost use Rattle.redux_buffer.specs.Told.{told_stream};
@@ -15,7 +14,7 @@ ghost use Rattle.buffer_redux.specs.Copy.{MovesKnown, ReceivesAll};
 ghost use Rattle.buffer_redux.specs.MinBuffered.{min_read_rules};
 ghost use Rattle.buffer_redux.specs.ReaderTells.{reader_log, ReaderWent};
 ghost use Rattle.buffer_redux.specs.Remaining.{reader_remaining};
-ghost use Rattle.buffer_redux.specs.Unwrapping.{KeepsUnsent};
+ghost use Rattle.buffer_redux.specs.Unwrapping.{DropsUnsent, KeepsUnsent};
 
 mod between;
 mod sparing;
@@ -95,7 +94,7 @@ pub fn keep_unsent<W: TellWrite, P: Drop>(writer: BufWriter<W, P>) -> (W, Buffer
 /// dropped only where sending failed.
 pub fn drop_unsent<W: TellWrite, P: Drop>(writer: BufWriter<W, P>) -> (W, Buffer)
     ensures empty { result.1.bytes ≡ [] }
-    ensures sent { (unsent : Block) × KeepsUnsent W.log writer result.0 unsent }
+    ensures dropped { DropsUnsent W.log writer result.0 result.1 }
 {
     writer.finish(|_inner, unsent, _fault| unsent.clear())
 }

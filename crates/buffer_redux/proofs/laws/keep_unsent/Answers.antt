@@ -4,5 +4,5 @@ use Rattle.buffer_redux.proofs.laws.keep_unsent.Goals as goal
 
 pub returns : goal.returns
 returns g c =
-    keeps_unsent g.W.Tell.log g.W.TellWrite.stretch _ (λ w w' b b' e called. search rules)
-    c.args.writer _ _ c.finish.ensures
+    keeps_unsent g.W.Tell.log g.W.TellWrite.stretch _ c.args.writer (λ w w' b b' e called. search rules)
+    _ _ c.finish.ensures
