@@ -88,7 +88,7 @@ module _ {W Q : Type 0} (stretch : W → W → Type 0) (u v : Buffered W Q) (byt
         let m = last.before in
         SendErrorCaused-after u.log.writes m.log.writes v.log.writes WriteZero
         (last.went.met (tells_all u.policy) (own_met u m last.met))
-        (last.called.nothing (tells_all m.policy) (omega (arith, room, last.went.capacity))
+        (last.called.nothing (tells_all m.policy)
         (ap (λ l. l.writes.zero_writes) last.told
         ∙ zero_of_none 0 bytes m.calls.writes.zero_writes refl some))
 

@@ -183,6 +183,7 @@ module _ {S P : Type 0} (rules : ReadRules P) where
   fills s r t whole f =
       let facts = filled_facts rules s r t whole f in
       let holds = facts.holds in record {
+        filled = f;
         in_order = holds.in_order;
         grows = holds.grows;
         kind = holds.kind;
@@ -207,3 +208,44 @@ module _ {S P : Type 0} (rules : ReadRules P) where
   pub filled_err : {A B : Type 0} (s : Buffered S P) (e : Error) (t : Buffered S P)
       → Filled {A = A} rules s (Err e) t → Filled {A = B} rules s (Err e) t
   filled_err s e t f = record { count = f.count; last = f.last; turns = f.turns; ends = f.ends }
+
+-- filling did the same where the call returned something else
+pub Fills_ok : {S P A B : Type 0} (rules : ReadRules P) (s : Buffered S P) (a : A) (b : B) (t : Buffered S P)
+    → Fills rules s (Ok a) t → Fills rules s (Ok b) t
+Fills_ok rules s a b t f = record {
+  filled = record { count = f.filled.count; last = f.filled.last; turns = f.filled.turns; ends = f.filled.ends };
+  in_order = f.in_order;
+  grows = f.grows;
+  kind = f.kind;
+  capacity = f.capacity;
+  consumed = f.consumed;
+  whole = f.whole;
+  claims = f.claims;
+  caused = f.caused;
+  ended = f.ended;
+  empty = f.empty;
+  last = f.last;
+  ahead = f.ahead;
+  steadily = f.steadily;
+  sparing = f.sparing;
+}
+
+pub Fills_err : {S P A B : Type 0} (rules : ReadRules P) (s : Buffered S P) (e : Error) (t : Buffered S P)
+    → Fills {A = A} rules s (Err e) t → Fills {A = B} rules s (Err e) t
+Fills_err rules s e t f = record {
+  filled = record { count = f.filled.count; last = f.filled.last; turns = f.filled.turns; ends = f.filled.ends };
+  in_order = f.in_order;
+  grows = f.grows;
+  kind = f.kind;
+  capacity = f.capacity;
+  consumed = f.consumed;
+  whole = f.whole;
+  claims = f.claims;
+  caused = f.caused;
+  ended = f.ended;
+  empty = f.empty;
+  last = f.last;
+  ahead = f.ahead;
+  steadily = f.steadily;
+  sparing = f.sparing;
+}

@@ -8,11 +8,11 @@ use Rattle.redux_buffer.specs.Block.{Block, Kind, Plain, Ring, OnKind, IsBlock, 
 use Rattle.redux_buffer.specs.LogGrows.{ReadLogGrows, ReadLogGrows-none, ReadLogGrows-joins, ReadLogGrows-read}
 use Rattle.redux_buffer.specs.StreamLog.{StreamLog, taken, after_read}
 use Rattle.redux_buffer.specs.Transfer.{ReadsOnce, ReadsFrom}
-use Rattle.buffer_redux.specs.Policy.{ReadRules, BeforeRead}
+use Rattle.buffer_redux.specs.Policy.{no_read, ReadRules, BeforeRead}
 use Rattle.buffer_redux.specs.declared.policy.DoRead.{DoRead}
 use Rattle.buffer_redux.specs.Buffered.{Buffered, GoesDirect, StaysInside}
 use Rattle.buffer_redux.specs.Fill.{Turns, Ends, Filled}
-use Rattle.buffer_redux.specs.BufReader.{ReadsInOrder, ReadErrorCaused, FillEnded, LastAsk, EmptyFillCaused, EmptyReadCaused}
+use Rattle.buffer_redux.specs.BufReader.{PolicyDeclined, ReadsInOrder, ReadErrorCaused, FillEnded, LastAsk, EmptyFillCaused, EmptyReadCaused}
 use Rattle.buffer_redux.specs.ReaderLaws.{ReadsInOrder-none, ReadsInOrder-joins}
 
 -- one read that gave n bytes
@@ -252,20 +252,24 @@ module _ {S P : Type 0} (rules : ReadRules P) where
     pub empty : is_ok answer ≡ true → length t.block.bytes ≡ 0 → EmptyFillCaused rules s t
     pub last : s.log.reads.asks < t.log.reads.asks → LastAsk rules s t
 
+  said_first : (k : ℕ) (s m t : Buffered S P) → Turns rules k s m → TurnsFacts k s m
+      → BeforeRead rules m.policy m.block no_read t.policy t.block → length t.block.bytes ≡ 0 → PolicyDeclined rules s
+  said_first zero s m t e facts asked none = subst (λ x. PolicyDeclined rules x) (sym e) (record {
+    policy' = t.policy;
+    after = t.block;
+    gave = asked;
+    none = nil_from_length m.block.bytes (omega (arith, ap length asked.law.bytes, none));
+  })
+  said_first (suc k) s m t h facts asked none =
+      absurd (omega (arith, facts.longer, ap length asked.law.bytes, none))
+
   ok_facts : {A : Type 0} (k : ℕ) (s m t : Buffered S P) (a : A) → IsBlock t.block → TurnsFacts k s m
       → Turns rules k s m → Ends rules m (Ok a) t → FilledFacts s (Ok a) t
   ok_facts k s m t a whole before turns (inl end) = record {
     holds = Holds-joins s m t before.holds (Holds-asked m t _ end.asked end.told);
     caused = ap (λ l. l.reads.faults) end.told ∙ before.faults;
     ended = inl (record { policy = m.policy; block = m.block; gave = end.asked });
-    empty = λ _ none. inl (record {
-      policy = m.policy;
-      policy' = t.policy;
-      before = m.block;
-      after = t.block;
-      gave = end.asked;
-      bytes = nil_from_length m.block.bytes (omega (arith, ap length end.asked.law.bytes));
-    });
+    empty = λ _ none. inl (said_first k s m t turns before end.asked none);
     last = last_kept k s m t turns end.told;
   }
   ok_facts k s m t a whole before turns (inr (inl end)) = record {

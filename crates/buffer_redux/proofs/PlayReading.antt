@@ -17,6 +17,7 @@ HandsOut-none s = record {
   in_order = ReadsInOrder-none s.reader;
   grows = ReadLogGrows-none s.reader.log.reads;
   consumed = omega arith;
+  capacity = omega arith;
 }
 
 HandsOut-joins : {S P : Type 0} (s m t : Handing S P) (a b : List ℕ) → HandsOut s a m → HandsOut m b t
@@ -27,6 +28,7 @@ HandsOut-joins s m t a b p q = record {
   grows =
       ReadLogGrows-joins s.reader.log.reads m.reader.log.reads t.reader.log.reads p.grows q.grows;
   consumed = omega (arith, length-append a b, p.consumed, q.consumed);
+  capacity = omega (arith, p.capacity, q.capacity);
 }
 
 module _ {S P : Type 0} (rules : ReadRules P) where

@@ -14,6 +14,7 @@ Accepts-none s = record {
   in_order = WritesInOrder-none s;
   grows = WriteLogGrows-none s.log.writes;
   consumed = omega arith;
+  capacity = omega arith;
 }
 
 Accepts-joins : {S P : Type 0} (s m t : Buffered S P) (a b : List ℕ) → Accepts s a m → Accepts m b t
@@ -22,6 +23,7 @@ Accepts-joins s m t a b p q = record {
   in_order = WritesInOrder-joins s m t a b p.in_order q.in_order;
   grows = WriteLogGrows-joins s.log.writes m.log.writes t.log.writes p.grows q.grows;
   consumed = omega (arith, p.consumed, q.consumed);
+  capacity = omega (arith, p.capacity, q.capacity);
 }
 
 module _ {S P : Type 0} (rules : WriteRules P) where

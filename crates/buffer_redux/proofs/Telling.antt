@@ -153,16 +153,16 @@ failures_rise old new on (inr zero) =
 -- under a steady policy a failed write, or one that took nothing of something, is a failure of the inner
 -- writer's
 pub write_fails : {S P : Type 0} (s t : Buffered S P) (bs : List ℕ) (answer : Result ℕ Error)
-    → WriteLogGrows s.log.writes t.log.writes → SteadyWrite s (length bs) answer t → 0 < s.block.capacity
+    → WriteLogGrows s.log.writes t.log.writes → SteadyWrite s (length bs) answer t
     → failures (after_write s.calls bs answer).writes + failures s.log.writes
     ≤ failures s.calls.writes + failures t.log.writes
-write_fails s t bs (Err e) on steadily room =
+write_fails s t bs (Err e) on steadily =
     omega (
       arith,
       failures_rise s.log.writes t.log.writes on steadily.err,
       length-append s.calls.writes.faults (error_kind e ∷ []),
     )
-write_fails s t bs (Ok n) on steadily room = elim (cases_lt 0 n) [
+write_fails s t bs (Ok n) on steadily = elim (cases_lt 0 n) [
   | inl some ↦
       omega (
         arith,
@@ -172,7 +172,7 @@ write_fails s t bs (Ok n) on steadily room = elim (cases_lt 0 n) [
   | inr none ↦ elim (cases_lt 0 (length bs)) [
     | inl given ↦ (
         let zero : n ≡ 0 = omega (arith, none) in
-        let nothing = steadily.empty (ap Ok zero) given room in
+        let nothing = steadily.empty (ap Ok zero) given in
         omega (
           arith,
           zero_of_none n bs s.calls.writes.zero_writes zero given,
@@ -207,7 +207,7 @@ pub call_went : {S P : Type 0} (stretch : S → S → Type 0) (rules : WriteRule
     → WriteLogGrows s.log.writes m.log.writes
     → WriteLogGrows (writer_log s).writes (writer_log (with_calls t calls)).writes
     → s.block.capacity ≤ m.block.capacity → rules.claims m.policy ≡ rules.claims s.policy
-    → ((rules.claims s.policy).steady ≡ true → 0 < s.block.capacity
+    → ((rules.claims s.policy).steady ≡ true
     → failures noted.writes + failures s.log.writes ≤ failures s.calls.writes + failures m.log.writes)
     → (TellsFailures rules s.policy → MetInterrupts s.calls.writes noted.writes
     → MetInterrupts s.log.writes m.log.writes)
@@ -219,9 +219,9 @@ call_went stretch rules s m t calls noted is told went grows own capacity claims
       own_grows = own;
       capacity = omega (arith, ap (λ x. x.block.capacity) is, capacity);
       claims = ap (λ x. rules.claims x.policy) is ∙ claims;
-      fails = λ steady room. omega (
+      fails = λ steady. omega (
         arith,
-        fails steady room,
+        fails steady,
         ap (λ l. failures l.writes) told,
         ap (λ l. failures l.writes) log,
       );
@@ -281,11 +281,11 @@ module _ {S P : Type 0} (rules : WriteRules P) (s t : Buffered S P) (bs : List �
       (steady_caused rules s t (length bs) e tells.0 caused)
 
   pub write_nothing : (answer : Result ℕ Error)
-      → Writes rules s bs answer t → SteadyWrite s (length bs) answer t → 0 < s.block.capacity
+      → Writes rules s bs answer t → SteadyWrite s (length bs) answer t
       → (after_write s.calls bs answer).writes.zero_writes ≡ s.calls.writes.zero_writes + 1
       → SendErrorCaused s.log.writes t.log.writes WriteZero
-  write_nothing (Err e) failed steadily room odd = absurd (omega (arith, odd))
-  write_nothing (Ok n) wrote steadily room zero =
+  write_nothing (Err e) failed steadily odd = absurd (omega (arith, odd))
+  write_nothing (Ok n) wrote steadily zero =
       let met = Wrote-met rules s bs n t tells.1 wrote in
       elim met.met [
         | inr nothing ↦ record { interrupts = met.times; cause = inl nothing.2 }
@@ -295,7 +295,7 @@ module _ {S P : Type 0} (rules : WriteRules P) (s t : Buffered S P) (bs : List �
             | inl given ↦
                 absurd (omega (
                   arith,
-                  steadily.empty (ap Ok (omega (arith, none))) given room,
+                  steadily.empty (ap Ok (omega (arith, none))) given,
                   only.zero_writes,
                 ))
             | inr empty ↦

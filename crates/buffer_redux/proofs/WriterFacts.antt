@@ -72,6 +72,7 @@ module _ {S P : Type 0} (rules : WriteRules P) (s : Buffered S P) (bs : List ℕ
         full = omega (arith, ap length kept, settled.usable, full, capacity, law.capacity);
         room = omega (arith, settled.usable, full);
         kept = kept;
+        inside = inside;
       }
 
   pub wrote_nothing : n ≡ 0 → 0 < length bs → EmptyWriteCaused rules s (length bs) t
@@ -119,10 +120,10 @@ blamed old new kind caused = elim caused.cause [
 ]
 
 module _ {S P : Type 0} (rules : WriteRules P) where
-  -- a steady policy flushes all before a write that doesn't fit, so there is space where there is capacity
+  -- a steady policy flushes all before a write that doesn't fit, so there is space where the write stays inside
   steady_space : (s : Buffered S P) (incoming : ℕ) → (rules.claims s.policy).steady ≡ true → 0 < incoming
-      → 0 < s.block.capacity → NoSpace rules s incoming → ⊥
-  steady_space s incoming steady some capacity space =
+      → NoSpace rules s incoming → ⊥
+  steady_space s incoming steady some space =
       let p = space.prepared in
       let same = capacity_stays p.seen space.before (p.amount.0) (Ok tt) p.flush in
       let long : length space.before.block.bytes ≡ length p.seen.block.bytes =
@@ -135,7 +136,7 @@ module _ {S P : Type 0} (rules : WriteRules P) where
         | inl none ↦ (
             let empty : length p.seen.block.bytes ≡ 0 =
             elim none [ inl zero' ↦ omega (arith, zero', all) | inr past ↦ omega (arith, past, all) ] in
-            omega (arith, empty, space.room, same, long, p.asked.law.capacity, capacity)
+            elim space.inside [ inl held ↦ omega (arith, held, long, empty) | inr small ↦ omega (arith, small, space.room, empty, long) ]
             )
         | inr amount ↦ (
             let sends = p.flush.sends amount.0 amount.1 in
@@ -197,9 +198,9 @@ module _ {S P : Type 0} (rules : WriteRules P) where
       → Writes rules s bs answer t → WritesSteadily rules s (length bs) answer t
   writes_steadily s bs (Ok n) t wrote steady = record {
     err = tt;
-    empty = λ is some capacity. elim (wrote_nothing rules s bs n t wrote (cc) some) [
+    empty = λ is some. elim (wrote_nothing rules s bs n t wrote (cc) some) [
       | inl nothing ↦ omega (arith, nothing.zero_writes)
-      | inr space ↦ absurd (steady_space s (length bs) steady some capacity space)
+      | inr space ↦ absurd (steady_space s (length bs) steady some space)
     ];
   }
   writes_steadily s bs (Err e) t failed steady = record {

@@ -9,6 +9,7 @@ use Rattle.redux_buffer.specs.GivesRemaining.{GivesRemaining}
 use Rattle.buffer_redux.specs.declared.policy.DoRead.{DoRead}
 use Rattle.buffer_redux.specs.Policy.{ReadRules, BeforeRead, AfterConsume, no_read, read_now}
 use Rattle.buffer_redux.specs.Buffered.{Buffered}
+use Rattle.buffer_redux.specs.Fill.{Filled}
 use Rattle.buffer_redux.specs.Sparing.{SparesClaimed}
 
 -- the bytes handed out, then those buffered, are those that were buffered, then those given since
@@ -24,14 +25,12 @@ pub record PolicyGave {S P : Type 0} (rules : ReadRules P) (answer : Result DoRe
   pub block : Block
   pub gave : BeforeRead rules policy block answer t.policy t.block
 
--- the policy gave this answer in a call that found these bytes
-pub record PolicySaid {P : Type 0} (rules : ReadRules P) (answer : Result DoRead Error) (found : List ℕ) : Type 0 where
-  pub policy : P
+-- nothing is buffered, and the policy, asked first about that, said no
+pub record PolicyDeclined {S P : Type 0} (rules : ReadRules P) (s : Buffered S P) : Type 0 where
   pub policy' : P
-  pub before : Block
   pub after : Block
-  pub gave : BeforeRead rules policy before answer policy' after
-  pub bytes : before.bytes ≡ found
+  pub gave : BeforeRead rules s.policy s.block no_read policy' after
+  pub none : s.block.bytes ≡ []
 
 -- an error is the reader's last fault, or the policy's answer; an Ok met no fault
 abbrev pub ReadErrorCaused : {S P A : Type 0} → ReadRules P → Buffered S P → Result A Error → Buffered S P → Type 0
@@ -51,11 +50,11 @@ FillEnded rules s (Err e) t = ⊤
 
 -- a fill shows nothing only where the policy said no over an empty buffer, there is no capacity, or the reader ran dry
 abbrev pub EmptyFillCaused : {S P : Type 0} → ReadRules P → Buffered S P → Buffered S P → Type 0
-EmptyFillCaused rules s t = PolicySaid rules no_read [] ⊎ ((t.block.capacity ≡ 0) ⊎ RanDry s t)
+EmptyFillCaused rules s t = PolicyDeclined rules s ⊎ ((t.block.capacity ≡ 0) ⊎ RanDry s t)
 
 -- a read hands out nothing only where the policy said no over an empty buffer, or the reader ran dry
 abbrev pub EmptyReadCaused : {S P : Type 0} → ReadRules P → Buffered S P → Buffered S P → Type 0
-EmptyReadCaused rules s t = PolicySaid rules no_read [] ⊎ RanDry s t
+EmptyReadCaused rules s t = PolicyDeclined rules s ⊎ RanDry s t
 
 -- the last ask was ordered by a policy that saw almost all that came of these asks, and it offered all the room
 pub record LastAsk {S P : Type 0} (rules : ReadRules P) (s t : Buffered S P) : Type 0 where
@@ -89,6 +88,7 @@ FillsSteadily rules s ok t = (rules.claims s.policy).steady ≡ true → SteadyF
 -- all that filling promises
 pub record Fills {S P A : Type 0} (rules : ReadRules P) (s : Buffered S P) (answer : Result A Error) (t : Buffered S P)
     : Type 0 where
+  pub filled : Filled rules s answer t
   pub in_order : ReadsInOrder s [] t
   pub grows : ReadLogGrows s.log.reads t.log.reads
   pub kind : t.block.kind ≡ s.block.kind

@@ -125,6 +125,7 @@ pub record NoSpace {S P : Type 0} (rules : WriteRules P) (s : Buffered S P) (inc
   pub full : s.block.capacity - length s.block.bytes ≡ 0
   pub room : before.block.capacity - length before.block.bytes ≡ 0
   pub kept : before.block.bytes ≡ s.block.bytes
+  pub inside : StaysInside before.block incoming
 
 -- the write past the buffer took nothing, and no other write did
 pub record TookNothingPast {S P : Type 0} (rules : WriteRules P) (s : Buffered S P) (incoming : ℕ) (t : Buffered S P)
@@ -142,11 +143,11 @@ EmptyWriteCaused rules s incoming t = TookNothingPast rules s incoming t ⊎ NoS
 abbrev pub WriterFailed : WriteLog → WriteLog → Type 0
 WriterFailed old new = (length old.faults < length new.faults) ⊎ (old.zero_writes < new.zero_writes)
 
--- an error is the inner writer's, and so is taking in nothing of something where there is capacity
+-- an error is the inner writer's, and so is taking in nothing of something
 pub record SteadyWrite {S P : Type 0} (s : Buffered S P) (incoming : ℕ) (answer : Result ℕ Error) (t : Buffered S P)
     : Type 0 where
   pub err : OnErr answer (WriterFailed s.log.writes t.log.writes)
-  pub empty : answer ≡ Ok 0 → 0 < incoming → 0 < s.block.capacity
+  pub empty : answer ≡ Ok 0 → 0 < incoming
       → s.log.writes.zero_writes < t.log.writes.zero_writes
 
 -- so it is under a steady policy

@@ -1,5 +1,5 @@
 -- The calls of a buffered reader as steps, and whole runs of them.
-use Rattle.std.specs.Prelude.{◌≡◌, ℕ, ◌+◌, ◌<◌, ◌≤◌, List, [], ◌∷◌, ◌++◌, length, take, min, Ok, Err, Bool, MatchBool, ⊤}
+use Rattle.std.specs.Prelude.{Result, ◌≡◌, ℕ, ◌+◌, ◌<◌, ◌≤◌, List, [], ◌∷◌, ◌++◌, length, take, min, Ok, Err, Bool, MatchBool, ⊤}
 use Rattle.std.specs.List.{All}
 use Rattle.std.specs.IoError.{error_kind}
 use Rattle.std.specs.declared.io.Error.{Error}
@@ -14,8 +14,10 @@ use Rattle.buffer_redux.specs.declared.play.ReaderCall.TheVariants.{Read, Fill, 
 use Rattle.buffer_redux.specs.declared.play.ReaderAnswer.{ReaderAnswer}
 use Rattle.buffer_redux.specs.declared.play.ReaderAnswer.TheVariants.{Count, Shown, Done, Fault, Refused}
 use Rattle.buffer_redux.specs.Policy.{ReadRules}
-use Rattle.buffer_redux.specs.Buffered.{Buffered, with_block}
-use Rattle.buffer_redux.specs.BufReader.{ReadsInOrder, ReadErrorCaused, EmptyReadCaused, EmptyFillCaused, ReaderConsumes}
+use Rattle.buffer_redux.specs.Buffered.{Buffered, with_block, GoesPast, StaysInside, GoesDirect}
+use Rattle.buffer_redux.specs.Fill.{Filled}
+use Rattle.redux_buffer.specs.StreamLog.{after_read}
+use Rattle.buffer_redux.specs.BufReader.{ReadsInOrder, ReadErrorCaused, EmptyReadCaused, EmptyFillCaused, ReaderConsumes, ReadsBuffered}
 use Rattle.buffer_redux.specs.Sparing.{SparesClaimed}
 
 -- a reader, and the bytes that were handed out so far
@@ -26,6 +28,12 @@ pub record Handing (S P : Type 0) : Type 0 where
 abbrev pub with_handed : {S P : Type 0} → Buffered S P → List ℕ → Handing S P
 with_handed r handed = record { reader = r; handed = handed }
 
+-- `Read(n)` goes past the buffer, or through it
+pub record ReadSteps {S P : Type 0} (rules : ReadRules P) (s : Buffered S P) (n : ℕ) (answer : Result ℕ Error)
+    (t : Buffered S P) : Type 0 where
+  pub past : GoesPast s.block n → (bytes : List ℕ) × (length bytes ≡ n) × GoesDirect after_read s bytes answer t
+  pub inside : StaysInside s.block n → ReadsBuffered rules s n answer t
+
 -- `Read(n)` with `Count(k)`: at most n bytes, and all n where bytes stay buffered
 pub record ReadCounted {S P : Type 0} (rules : ReadRules P) (s : Buffered S P) (n k : ℕ) (out : List ℕ)
     (t : Buffered S P) : Type 0 where
@@ -34,6 +42,7 @@ pub record ReadCounted {S P : Type 0} (rules : ReadRules P) (s : Buffered S P) (
   pub whole : 0 < length t.block.bytes → k ≡ n
   pub caused : ReadErrorCaused rules s (Ok k) t
   pub empty : k ≡ 0 → 0 < n → EmptyReadCaused rules s t
+  pub steps : ReadSteps rules s n (Ok k) t
 
 -- `Fill` with `Shown(k)`: all that is buffered was shown
 pub record FillShown {S P : Type 0} (rules : ReadRules P) (s : Buffered S P) (k : ℕ) (out : List ℕ)
@@ -42,14 +51,25 @@ pub record FillShown {S P : Type 0} (rules : ReadRules P) (s : Buffered S P) (k 
   pub count : k ≡ length t.block.bytes
   pub caused : ReadErrorCaused rules s (Ok k) t
   pub empty : k ≡ 0 → EmptyFillCaused rules s t
+  pub fills : Filled rules s (Ok k) t
 
--- `Read` or `Fill` with `Fault(kind)`: nothing was handed out
-pub record ReadFailed {S P : Type 0} (rules : ReadRules P) (s : Buffered S P) (kind : ErrorKind) (out : List ℕ)
+-- `Fill` with `Fault(kind)`
+pub record FillFailed {S P : Type 0} (rules : ReadRules P) (s : Buffered S P) (kind : ErrorKind) (out : List ℕ)
     (t : Buffered S P) : Type 0 where
   pub none : out ≡ []
   pub error : Error
   pub is_kind : error_kind error ≡ kind
   pub caused : ReadErrorCaused {A = ℕ} rules s (Err error) t
+  pub fills : Filled {A = ℕ} rules s (Err error) t
+
+-- `Read(n)` with `Fault(kind)`: nothing was handed out
+pub record ReadFailed {S P : Type 0} (rules : ReadRules P) (s : Buffered S P) (n : ℕ) (kind : ErrorKind) (out : List ℕ)
+    (t : Buffered S P) : Type 0 where
+  pub none : out ≡ []
+  pub error : Error
+  pub is_kind : error_kind error ≡ kind
+  pub caused : ReadErrorCaused {A = ℕ} rules s (Err error) t
+  pub steps : ReadSteps rules s n (Err error) t
 
 -- `Consume(n)` with `Count(k)`: the first n bytes, or all; the reader inside was not asked
 pub record ConsumeCounted {S P : Type 0} (rules : ReadRules P) (s : Buffered S P) (n k : ℕ) (out : List ℕ)
@@ -97,9 +117,9 @@ pub record ReserveRefused {S P : Type 0} (s : Buffered S P) (a : ℕ) (e : GrowE
 abbrev pub ReaderAnswers : {S P : Type 0} → ReadRules P → Buffered S P → ReaderCall → ReaderAnswer → List ℕ
     → Buffered S P → Type 0
 ReaderAnswers rules s (Read n) (Count k) out t = ReadCounted rules s n k out t
-ReaderAnswers rules s (Read n) (Fault kind) out t = ReadFailed rules s kind out t
+ReaderAnswers rules s (Read n) (Fault kind) out t = ReadFailed rules s n kind out t
 ReaderAnswers rules s Fill (Shown k) out t = FillShown rules s k out t
-ReaderAnswers rules s Fill (Fault kind) out t = ReadFailed rules s kind out t
+ReaderAnswers rules s Fill (Fault kind) out t = FillFailed rules s kind out t
 ReaderAnswers rules s (Consume n) (Count k) out t = ConsumeCounted rules s n k out t
 ReaderAnswers rules s ReadIntoBuf (Count k) out t = IntoBufCounted s k out t
 ReaderAnswers rules s ReadIntoBuf (Fault kind) out t = IntoBufFailed s kind out t
@@ -114,6 +134,7 @@ pub record HandsOut {S P : Type 0} (s : Handing S P) (out : List ℕ) (t : Handi
   pub in_order : ReadsInOrder s.reader out t.reader
   pub grows : ReadLogGrows s.reader.log.reads t.reader.log.reads
   pub consumed : t.reader.block.consumed ≤ s.reader.block.consumed + length out
+  pub capacity : s.reader.block.capacity ≤ t.reader.block.capacity
 
 -- a call that doesn't make room by itself
 abbrev pub MakesNoRoom : ReaderCall → Type 0

@@ -41,6 +41,11 @@ pub record WriteFailed {S P : Type 0} (rules : WriteRules P) (s : Buffered S P) 
   pub caused : WriteErrorCaused rules s (length bs) (Err error) t
   pub steps : Writes rules s bs (Err error) t
 
+-- `Flush` with `Done`
+pub record FlushDone {S P : Type 0} (s t : Buffered S P) : Type 0 where
+  pub done : IsFlushed s t
+  pub steps : Flushes s (Ok tt) t
+
 -- `Flush` with `Fault(kind)`: sending failed, or the flush of the writer inside
 pub record FlushFailed {S P : Type 0} (s : Buffered S P) (kind : ErrorKind) (t : Buffered S P) : Type 0 where
   pub error : Error
@@ -71,7 +76,7 @@ abbrev pub WriterAnswers : {S P : Type 0} → WriteRules P → Buffered S P → 
     → Type 0
 WriterAnswers rules s (Write bs) (Count k) t = WriteCounted rules s bs.now k t
 WriterAnswers rules s (Write bs) (Fault kind) t = WriteFailed rules s bs.now kind t
-WriterAnswers rules s Flush Done t = IsFlushed s t
+WriterAnswers rules s Flush Done t = FlushDone s t
 WriterAnswers rules s Flush (Fault kind) t = FlushFailed s kind t
 WriterAnswers rules s MakeRoom Done t = WriterRoomMade s t
 WriterAnswers rules s (Reserve a) Done t = WriterReserveDone s a t
@@ -87,6 +92,7 @@ pub record Accepts {S P : Type 0} (s : Buffered S P) (taken_in : List ℕ) (t : 
   pub in_order : WritesInOrder s taken_in t
   pub grows : WriteLogGrows s.log.writes t.log.writes
   pub consumed : ConsumesSent s t
+  pub capacity : s.block.capacity ≤ t.block.capacity
 
 -- one call with its answer
 pub record WriterStep {S P : Type 0} (rules : WriteRules P) (s : Buffered S P) (call : WriterCall)

@@ -28,9 +28,8 @@ failures log = length log.faults + log.zero_writes
 abbrev pub TellsFailures : {P : Type 0} → WriteRules P → P → Type 0
 TellsFailures rules p = ((rules.claims p).steady ≡ true) × FlushesNothingAfter rules
 
--- the lists and counts only go on, its own and the inner writer's. Under a steady policy, where there is capacity, it
--- failed no more often than the inner writer; and where no failure is kept back, the inner writer was at most interrupted
--- where it was so itself
+-- the lists and counts only go on, its own and the inner writer's. Under a steady policy it failed no more often than the
+-- inner writer; and where no failure is kept back, the inner writer was at most interrupted where it was so itself
 pub record WriterWent {S P : Type 0} (stretch : S → S → Type 0) (rules : WriteRules P) (s t : Buffered S P)
     : Type 0 where
   pub inner : stretch s.inner t.inner
@@ -38,7 +37,7 @@ pub record WriterWent {S P : Type 0} (stretch : S → S → Type 0) (rules : Wri
   pub own_grows : WriteLogGrows (writer_log s).writes (writer_log t).writes
   pub capacity : s.block.capacity ≤ t.block.capacity
   pub claims : rules.claims t.policy ≡ rules.claims s.policy
-  pub fails : (rules.claims s.policy).steady ≡ true → 0 < s.block.capacity
+  pub fails : (rules.claims s.policy).steady ≡ true
       → failures t.calls.writes + failures s.log.writes ≤ failures s.calls.writes + failures t.log.writes
   pub met : TellsFailures rules s.policy → MetInterrupts s.calls.writes t.calls.writes
       → MetInterrupts s.log.writes t.log.writes
@@ -49,7 +48,7 @@ pub record WriterCalled {S P : Type 0} (rules : WriteRules P) (s t : Buffered S 
   pub fault : TellsFailures rules s.policy → (kind : ErrorKind)
       → t.calls.writes.faults ≡ s.calls.writes.faults ++ kind ∷ []
       → SendErrorCaused s.log.writes t.log.writes kind
-  pub nothing : TellsFailures rules s.policy → 0 < s.block.capacity
+  pub nothing : TellsFailures rules s.policy
       → t.calls.writes.zero_writes ≡ s.calls.writes.zero_writes + 1
       → SendErrorCaused s.log.writes t.log.writes WriteZero
 
@@ -78,7 +77,7 @@ module _ {S P : Type 0} (stretch : S → S → Type 0) (rules : WriteRules P) wh
     own_grows = WriteLogGrows-none (writer_log s).writes;
     capacity = le_refl _;
     claims = refl;
-    fails = λ steady room. le_refl _;
+    fails = λ steady. le_refl _;
     met = λ tells only. record { times = 0; only = OnlyInterrupted-none s.log.writes };
   }
 
@@ -97,10 +96,10 @@ module _ {S P : Type 0} (stretch : S → S → Type 0) (rules : WriteRules P) wh
             WriteLogGrows-joins (writer_log a).writes (writer_log b).writes (writer_log c).writes p.own_grows q.own_grows;
         capacity = le_trans p.capacity q.capacity;
         claims = q.claims ∙ p.claims;
-        fails = λ steady room. omega (
+        fails = λ steady. omega (
           arith,
-          p.fails steady room,
-          q.fails (ap (λ x. x.steady) p.claims ∙ steady) (omega (arith, room, p.capacity)),
+          p.fails steady,
+          q.fails (ap (λ x. x.steady) p.claims ∙ steady),
         );
         met = λ tells only. MetInterrupts-joins a.log.writes b.log.writes c.log.writes
             (p.met tells (parts only).0) (q.met (still tells) (parts only).1);

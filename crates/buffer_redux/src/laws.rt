@@ -55,6 +55,7 @@ pub fn rebuild_writer<W: TellWrite>(writer: BufWriter<W>) -> BufWriter<W>
 /// How many bytes `fill_buf` shows under [`MinBuffered`]. An `Ok` is at least the minimum, or the source gave none when
 /// it was asked in this call. It is asked no more often than bytes were missing at first, at an `Err` too, wherever the
 /// bytes stand in the buffer and however few of them come at a time.
+#[tactic(auto, using(crate::proofs::FillClaims::Fills_ok, crate::proofs::FillClaims::Fills_err))]
 pub fn look_ahead<R: TellRead>(reader: &mut BufReader<R, MinBuffered>) -> io::Result<usize>
     ensures shown { IfOk result (λ n. n ≡ length reader.new.block.bytes) }
     ensures ahead { FillsToMinimum reader.old.policy.0 reader.old (is_ok result) reader.new }

@@ -81,6 +81,7 @@ fn read<R: TellRead, P: ReaderPolicy>(
     }
 }
 
+#[tactic(auto, using(crate::proofs::FillClaims::filled_ok, crate::proofs::FillClaims::filled_err))]
 fn fill<R: TellRead, P: ReaderPolicy>(reader: &mut BufReader<R, P>) -> ReaderAnswer
     ensures step { (handed : List ℕ) → ReaderStep P.rules (with_handed reader.old handed) Fill result
         (with_handed reader.new handed) }

@@ -1,4 +1,4 @@
-use Rattle.std.proofs.Common.{Ok, Err, rules}
+use Rattle.std.proofs.Common.{Ok, Err, rules, arith}
 use Rattle.buffer_redux.proofs.WriterCounts.{Flushes-counts}
 use Rattle.buffer_redux.proofs.play.writing.flush.Goals as goal
 
@@ -10,8 +10,9 @@ returns-in-Ok-clause-step g c =
         in_order = w.in_order;
         grows = w.grows;
         consumed = Flushes-counts c.args.writer.now (Ok tt) c.flush.new.self w.steps;
+        capacity = omega (arith, w.capacity);
       };
-      answers = w.ok;
+      answers = record { done = w.ok; steps = w.steps };
     }
 
 pub returns-in-Err-clause-step : goal.returns-in-Err-clause-step
@@ -22,6 +23,7 @@ returns-in-Err-clause-step g c =
         in_order = w.in_order;
         grows = w.grows;
         consumed = Flushes-counts c.args.writer.now (Err c.in-Err.e) c.flush.new.self w.steps;
+        capacity = omega (arith, w.capacity);
       };
       answers = record { error = c.in-Err.e; is_kind = search rules; caused = search rules; steps = w.steps };
     }

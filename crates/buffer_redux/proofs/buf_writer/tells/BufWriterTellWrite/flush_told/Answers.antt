@@ -23,7 +23,7 @@ returns-clause-stretch g c =
     (WriteLogGrows-flush (writer_log s) answer))
     (omega (arith, flush.capacity))
     (ap table.claims flush.steps.policy)
-    (λ steady room. flush_fails s m answer flush.grows flush.caused)
+    (λ steady. flush_fails s m answer flush.grows flush.caused)
     (λ tells. flush_met s m answer flush.ok flush.caused)
 
 pub returns-clause-call : goal.returns-clause-call
@@ -37,5 +37,5 @@ returns-clause-call g c =
       fault = λ tells kind is.
           subst (λ l. SendErrorCaused s.log.writes l kind) (sym (ap (λ x. x.log.writes) c.self.view_is))
           (flush_fault s m answer kind flush.caused (sym (ap (λ l. l.writes.faults) noted) ∙ is));
-      nothing = λ tells room is. absurd (omega (arith, is, ap (λ l. l.writes.zero_writes) noted));
+      nothing = λ tells is. absurd (omega (arith, is, ap (λ l. l.writes.zero_writes) noted));
     }

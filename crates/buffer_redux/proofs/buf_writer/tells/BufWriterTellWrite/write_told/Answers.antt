@@ -22,7 +22,7 @@ returns-clause-stretch g c =
     c.self.view_is noted wrote.stretch.calls wrote.grows
     (subst (λ l. WriteLogGrows (writer_log s).writes l.writes) (sym (returns-clause-told g c))
     (WriteLogGrows-write (writer_log s) bs answer)) wrote.capacity wrote.claims
-    (λ steady room. write_fails s m bs answer wrote.grows (wrote.steadily steady) room)
+    (λ steady. write_fails s m bs answer wrote.grows (wrote.steadily steady))
     (λ tells. write_met g.P.WriterPolicy.rules s m bs tells answer wrote.steps wrote.caused)
 
 pub returns-clause-call : goal.returns-clause-call
@@ -40,7 +40,7 @@ returns-clause-call g c =
           subst (λ l. SendErrorCaused s.log.writes l kind) (sym same)
           (write_fault table s m bs tells answer kind wrote.caused
           (sym (ap (λ l. l.writes.faults) noted) ∙ is));
-      nothing = λ tells room is. subst (λ l. SendErrorCaused s.log.writes l WriteZero) (sym same)
-          (write_nothing table s m bs tells answer wrote.steps (wrote.steadily tells.0) room
+      nothing = λ tells is. subst (λ l. SendErrorCaused s.log.writes l WriteZero) (sym same)
+          (write_nothing table s m bs tells answer wrote.steps (wrote.steadily tells.0)
           (sym (ap (λ l. l.writes.zero_writes) noted) ∙ is));
     }

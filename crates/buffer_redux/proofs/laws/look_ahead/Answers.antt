@@ -1,0 +1,12 @@
+use Rattle.std.proofs.Common.{ℕ, Err}
+use Rattle.std.proofs.lemmas.Result.{err_from_is_err_and}
+use Rattle.buffer_redux.specs.MinBuffered.{min_read_rules}
+use Rattle.buffer_redux.proofs.FillClaims.{Fills_err}
+use Rattle.buffer_redux.proofs.laws.look_ahead.Goals as goal
+
+pub returns-in_err-fill_buf-clause-fills : goal.returns-in_err-fill_buf-clause-fills
+returns-in_err-fill_buf-clause-fills g c =
+    let p = err_from_is_err_and c.from_residual.result c.from_residual.ensures.1 in
+    let f = (rw c.in_err-fill_buf.was at c.fill_buf.follows.holds-at-none) in
+    rw (p.1, p.2) (Fills_err min_read_rules c.args.reader.now (c.in_err-fill_buf.field-0.0)
+    c.fill_buf.follows.lender-at-none f.fills)
