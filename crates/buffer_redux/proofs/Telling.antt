@@ -11,10 +11,11 @@ use Rattle.redux_buffer.specs.StreamLog.{StreamLog, WriteLog, with_end, zero_of_
 use Rattle.redux_buffer.specs.LogGrows.{ReadLogGrows, WriteLogGrows, FillLogGrows}
 use Rattle.redux_buffer.specs.Faults.{MetInterrupts, MetInterrupts-err, SendErrorCaused}
 use Rattle.buffer_redux.specs.Policy.{ReadRules, WriteRules, ReadsSteadily}
-use Rattle.buffer_redux.specs.Buffered.{Buffered}
+use Rattle.buffer_redux.specs.Buffered.{Buffered, with_policy}
+use Rattle.buffer_redux.specs.Fill.{Ends, Filled}
 use Rattle.redux_buffer.specs.GivesRemaining.{GivesRemaining}
 use Rattle.buffer_redux.specs.BufReader.{Fills, InnerGives}
-use Rattle.buffer_redux.specs.BufWriter.{WriterFailed, SteadyWrite, Writes, WriteErrorCaused, IsFlushed}
+use Rattle.buffer_redux.specs.BufWriter.{WriterFailed, SteadyWrite, Writes, WriteErrorCaused, IsFlushed, Flushes, FlushesAmount, TakesIn}
 use Rattle.buffer_redux.specs.WriterLaws.{Wrote-met}
 use Rattle.buffer_redux.proofs.WriterFacts.{blamed, steady_caused}
 use Rattle.buffer_redux.specs.ReaderLaws.{Fills-empty, WantsBytes}
@@ -59,6 +60,94 @@ with_calls s calls = record {
   log = s.log;
   calls = calls;
 }
+
+-- noting a call changes nothing of what filling, a write or a flush did
+module _ {S P A : Type 0} (rules : ReadRules P) (t : Buffered S P) (calls : StreamLog) where
+  ends_noted : (s : Buffered S P) (answer : Result A Error) → Ends rules s answer t
+      → Ends rules s answer (with_calls t calls)
+  ends_noted s (Ok a) (inl end) = inl (record { asked = end.asked; told = end.told })
+  ends_noted s (Ok a) (inr (inl end)) = inr (inl (record { asked = end.asked; full = end.full; told = end.told }))
+  ends_noted s (Ok a) (inr (inr end)) = inr (inr (record {
+    seen = end.seen;
+    ordered = record { asked = end.ordered.asked; room = end.ordered.room };
+    read = end.read;
+  }))
+  ends_noted s (Err e) (inl end) = inl (record { asked = end.asked; told = end.told })
+  ends_noted s (Err e) (inr end) = inr (record {
+    seen = end.seen;
+    ordered = record { asked = end.ordered.asked; room = end.ordered.room };
+    read = end.read;
+  })
+
+  pub filled_noted : (s : Buffered S P) (answer : Result A Error) → Filled rules s answer t
+      → Filled rules s answer (with_calls t calls)
+  filled_noted s answer f =
+      record { count = f.count; last = f.last; turns = f.turns; ends = ends_noted f.last answer f.ends }
+
+module _ {S P : Type 0} (t : Buffered S P) (calls : StreamLog) where
+  amount_noted : (amount : ℕ) (s : Buffered S P) (answer : Result (Unit {0}) Error)
+      → FlushesAmount amount s answer t → FlushesAmount amount s answer (with_calls t calls)
+  amount_noted amount s answer f = record { policy = f.policy; idle = f.idle; sends = f.sends }
+
+  takes_noted : (bs : List ℕ) (s : Buffered S P) (answer : Result ℕ Error)
+      → TakesIn bs s answer t → TakesIn bs s answer (with_calls t calls)
+  takes_noted bs s answer f = record {
+    past = λ past. (
+        let direct = f.past past in
+        record { policy = direct.policy; block = direct.block; bound = direct.bound; told = direct.told }
+        );
+    inside = λ inside. (
+        let copies = f.inside inside in
+        record {
+          policy = copies.policy;
+          settled = copies.settled;
+          roomy = copies.roomy;
+          tight = copies.tight;
+          answered = copies.answered;
+          added = copies.added;
+          told = copies.told;
+        }
+        );
+  }
+
+  pub flushes_noted : (s : Buffered S P) (answer : Result (Unit {0}) Error)
+      → Flushes s answer t → Flushes s answer (with_calls t calls)
+  flushes_noted s answer f = record {
+    policy = f.policy;
+    sent_log = f.sent_log;
+    sending = f.sending;
+    sends = f.sends;
+    ended = f.ended;
+  }
+
+  pub writes_noted : (rules : WriteRules P) (s : Buffered S P) (bs : List ℕ) (answer : Result ℕ Error)
+      → Writes rules s bs answer t → Writes rules s bs answer (with_calls t calls)
+  writes_noted rules s bs (Ok n) f = record {
+    before = f.before;
+    after = f.after;
+    prepared = f.prepared;
+    took_in = f.took_in;
+    finished = record {
+      amount = f.finished.amount;
+      flushed = f.finished.flushed;
+      asked = f.finished.asked;
+      flush = amount_noted (f.finished.amount.0) (with_policy f.after t.policy) f.finished.flushed f.finished.flush;
+    };
+  }
+  writes_noted rules s bs (Err e) (inl f) = inl (record { asked = f.asked; told = f.told })
+  writes_noted rules s bs (Err e) (inr (inl f)) = inr (inl (record {
+    seen = f.seen;
+    amount = f.amount;
+    asked = f.asked;
+    whole = f.whole;
+    told = f.told;
+    flush = amount_noted (f.amount.0) f.seen (Err e) f.flush;
+  }))
+  writes_noted rules s bs (Err e) (inr (inr f)) = inr (inr (record {
+    before = f.before;
+    prepared = f.prepared;
+    took_in = takes_noted bs f.before (Err e) f.took_in;
+  }))
 
 -- a fill that was noted
 module _ {S P : Type 0} (remaining : S → Option (List ℕ)) (rules : ReadRules P) (s m t : Buffered S P)

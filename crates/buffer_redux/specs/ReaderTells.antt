@@ -1,16 +1,17 @@
 -- What a buffered reader tells of its own calls, and what any of them, one after another, may do to it.
 use Rattle.std.specs.Prelude.{◌≡◌, ℕ, ◌+◌, ◌<◌, ◌≤◌, List, [], ◌∷◌, ◌++◌, replicate, Option, Result, Ok, Err, true}
 use Rattle.std.proofs.Common.{refl, sym, ap, subst, ◌∙◌, arith, le_refl, le_trans, append-nil, append_assoc}
+use Rattle.std.specs.Borrow.{Bor}
 use Rattle.std.specs.declared.io.Error.{Error}
 use Rattle.std.specs.declared.io.ErrorKind.{ErrorKind}
 use Rattle.std.specs.declared.io.ErrorKind.TheVariants.{Interrupted}
 use Rattle.std.proofs.lemmas.List.{append_cancel_left}
 use Rattle.redux_buffer.specs.Faults.{OnlyInterrupts, FaultAfterInterrupts}
-use Rattle.redux_buffer.specs.StreamLog.{StreamLog, with_shown, after_shown, after_fill_fault}
+use Rattle.redux_buffer.specs.StreamLog.{StreamLog, FillTells, with_shown, after_shown, after_fill_fault}
 use Rattle.redux_buffer.specs.LogGrows.{ReadLogGrows, ReadLogGrows-none, ReadLogGrows-joins, FillLogGrows, FillLogGrows-none, FillLogGrows-joins, FillsGoOn, FillsGoOn-of}
 use Rattle.buffer_redux.specs.Policy.{ReadRules}
 use Rattle.buffer_redux.specs.Buffered.{Buffered}
-use Rattle.buffer_redux.specs.BufReader.{ReadsInOrder, InnerGives}
+use Rattle.buffer_redux.specs.BufReader.{Fills, ReadsInOrder, InnerGives}
 use Rattle.buffer_redux.specs.ReaderLaws.{ReadsInOrder-none, ReadsInOrder-joins, InnerGives-none, InnerGives-joins, WantsBytes}
 
 -- what it shows is what is buffered; the rest was noted call by call
@@ -46,6 +47,13 @@ pub record ReaderWent {S P : Type 0} (remaining : S → Option (List ℕ))
       → FaultsAlike s.calls.fills.faults t.calls.fills.faults s.log.reads.faults t.log.reads.faults
   pub ends : WantsBytes (rules.claims s.policy) → 0 < s.block.capacity
       → t.calls.fills.ends + s.log.reads.zero_answers ≤ s.calls.fills.ends + t.log.reads.zero_answers
+
+-- what `fill_told()` does, once its slice is given back: it fills, and tells what it shows
+pub record FillTold {S P : Type 0} (remaining : S → Option (List ℕ)) (rules : ReadRules P)
+    (s : Buffered S P) (answer : Result (Bor (List ℕ)) Error) (t : Buffered S P) : Type 0 where
+  pub tells : FillTells (reader_log s) answer (reader_log t)
+  pub went : ReaderWent remaining rules s t
+  pub fills : Fills rules s answer t
 
 FaultsAlike-none : (xs ys : List ErrorKind) → FaultsAlike xs xs ys ys
 FaultsAlike-none xs ys = record { more = []; first = sym (append-nil xs); second = sym (append-nil ys) }

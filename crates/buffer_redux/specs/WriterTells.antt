@@ -1,5 +1,5 @@
 -- What a buffered writer tells of its own calls, and what any of them, one after another, may do to it.
-use Rattle.std.specs.Prelude.{◌≡◌, ℕ, ◌+◌, ◌<◌, ◌≤◌, [], ◌∷◌, ◌++◌, length, true}
+use Rattle.std.specs.Prelude.{◌≡◌, ℕ, ◌+◌, ◌≤◌, [], ◌∷◌, ◌++◌, length, true}
 use Rattle.std.proofs.Common.{refl, ap, ◌∙◌, arith, le_refl, le_trans}
 use Rattle.std.specs.declared.io.ErrorKind.{ErrorKind}
 use Rattle.std.specs.declared.io.ErrorKind.TheVariants.{WriteZero}

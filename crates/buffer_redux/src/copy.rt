@@ -14,10 +14,11 @@ use std::io::ErrorKind;
 /// Copies from `b` to `w` without a buffer of its own until a write takes nothing, and returns how many bytes went over.
 /// The writer is not flushed.
 ///
-/// A turn is one fill, one write of all that it shows, and a consume of what the writer took. At the end of the reader
-/// the writer is called with an empty slice. 64 turns in a row that end as `Interrupted` are begun again, and the 65th
-/// is returned; any other fault is returned at once. Whether it is `Ok` or not, the bytes that were consumed are those
-/// that were received. `Other` without a fault is returned where the count passes what a `u64` holds.
+/// A turn is one fill, one write of all that it shows, and a consume of what the writer took; where that is nothing, no
+/// consume. At the end of the reader the writer is called with an empty slice. 64 turns in a row that end as
+/// `Interrupted` are begun again, and the 65th is returned; any other fault is returned at once. Whether it is `Ok` or
+/// not, the bytes that were consumed are those that were received. `Other` without a fault is returned where the count
+/// passes what a `u64` holds.
 pub fn copy_buf<B: TellBufRead, W: TellWrite>(b: &mut B, w: &mut W) -> io::Result<u64>
     ensures moved { (n : ℕ)
         × MovedBy n (B.log b.old).fills (B.log b.new).fills (W.log w.old).writes (W.log w.new).writes }
@@ -83,7 +84,7 @@ fn copy_retried<B: TellBufRead, W: TellWrite>(b: &mut B, w: &mut W) -> io::Resul
     copy_turn(b, w)
 }
 
-// One fill, one write of the whole slice, and a consume of what was taken.
+// One fill, one write of the whole slice, and a consume of what was taken, where that is something.
 fn copy_turn<B: TellBufRead, W: TellWrite>(b: &mut B, w: &mut W) -> io::Result<usize>
     ensures copies { IfOk result (λ n. 0 < n → CopiesOn n
         (B.log b.old).fills (B.log b.new).fills (W.log w.old).writes (W.log w.new).writes) }
@@ -106,6 +107,9 @@ fn copy_turn<B: TellBufRead, W: TellWrite>(b: &mut B, w: &mut W) -> io::Result<u
         Ok(bytes) => w.write_told(bytes)?,
         Err(e) => return Err(e),
     };
+    if taken == 0 {
+        return Ok(0);
+    }
     b.consume_told(taken);
     Ok(taken)
 }

@@ -1,7 +1,13 @@
 //! A buffered reader as a stream that tells of its own calls.
 ghost use Rattle.std.specs.Prelude.{◌≡◌};
+ghost use Rattle.std.specs.Borrow.{sem};
+ghost use Rattle.std.specs.Io.BufRead.{Rests};
+ghost use Rattle.redux_buffer.specs.Block.{IsBlock};
 ghost use Rattle.redux_buffer.specs.StreamLog.{after_consume};
-ghost use Rattle.buffer_redux.specs.ReaderTells.{reader_log, after_fill, ReaderWent, ReaderWent-none, ReaderWent-joins, ReaderWent-grows};
+ghost use Rattle.buffer_redux.specs.contracts.buf_reader.BufReader.{the_row};
+ghost use Rattle.buffer_redux.specs.BufReader.{ReaderConsumes};
+ghost use Rattle.buffer_redux.specs.Fill.{Filled};
+ghost use Rattle.buffer_redux.specs.ReaderTells.{reader_log, after_fill, FillTold, ReaderWent, ReaderWent-none, ReaderWent-joins, ReaderWent-grows};
 
 use crate::buf_reader::BufReader;
 use crate::policy::ReaderPolicy;
@@ -18,6 +24,8 @@ impl<R: TellRead, P: ReaderPolicy> BufReader<R, P> {
     fn fill_noted(&mut self) -> io::Result<()>
         ensures noted { self.new.calls ≡ after_fill self.old.calls result self.new.block.bytes }
         ensures went { ReaderWent R.remaining P.rules self.old self.new }
+        ensures filled { Filled P.rules self.old result self.new }
+        ensures whole { IsBlock self.new.block }
     {
         let answer = self.fill();
         match &answer {
@@ -31,7 +39,10 @@ impl<R: TellRead, P: ReaderPolicy> BufReader<R, P> {
 impl<R: TellRead, P: ReaderPolicy> TellBufRead for BufReader<R, P> {
     ghost stretch = { ReaderWent R.remaining P.rules };
 
-    fn fill_told(&mut self) -> io::Result<&[u8]> {
+    fn fill_told(&mut self) -> io::Result<&[u8]>
+        ensures* after_borrow { sem 𝓛 (Rests (the_row R.row P.row R.Tell) self.entry
+            (FillTold R.remaining P.rules self.entry.now result)) }
+    {
         self.fill_noted()?;
         Ok(self.buf.buf())
     }
@@ -39,6 +50,7 @@ impl<R: TellRead, P: ReaderPolicy> TellBufRead for BufReader<R, P> {
     fn consume_told(&mut self, amount: usize)
         ensures told { reader_log self.new ≡ after_consume (reader_log self.old) amount }
         ensures stretch { ReaderWent R.remaining P.rules self.old self.new }
+        ensures consumed { ReaderConsumes P.rules amount self.old self.new }
     {
         self.calls.note(&Call::Consume(self.buf.buf(), amount));
         self.consume(amount);

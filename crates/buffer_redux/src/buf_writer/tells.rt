@@ -2,6 +2,7 @@
 ghost use Rattle.std.specs.Prelude.{◌≡◌};
 ghost use Rattle.std.specs.Io.{WritesAtMost};
 ghost use Rattle.redux_buffer.specs.StreamLog.{after_write, after_flush};
+ghost use Rattle.buffer_redux.specs.BufWriter.{Writes, Flushes};
 ghost use Rattle.buffer_redux.specs.WriterTells.{writer_log, WriterCalled, WriterWent, WriterWent-none, WriterWent-joins, WriterWent-grows};
 
 use crate::buf_writer::BufWriter;
@@ -24,6 +25,7 @@ impl<W: TellWrite, P: WriterPolicy> TellWrite for BufWriter<W, P> {
         ensures told { writer_log self.new ≡ after_write (writer_log self.old) buf.now result }
         ensures stretch { WriterWent W.stretch P.rules self.old self.new }
         ensures call { WriterCalled P.rules self.old self.new }
+        ensures steps { Writes P.rules self.old buf.now result self.new }
     {
         let answer = self.write(buf);
         self.calls.note(&Call::Write(buf, &answer));
@@ -34,6 +36,7 @@ impl<W: TellWrite, P: WriterPolicy> TellWrite for BufWriter<W, P> {
         ensures told { writer_log self.new ≡ after_flush (writer_log self.old) result }
         ensures stretch { WriterWent W.stretch P.rules self.old self.new }
         ensures call { WriterCalled P.rules self.old self.new }
+        ensures steps { Flushes self.old result self.new }
     {
         let answer = self.flush();
         self.calls.note(&Call::Flush(&answer));

@@ -2,6 +2,7 @@
 ghost use Rattle.std.specs.Prelude.{◌≡◌};
 ghost use Rattle.std.specs.Io.{WritesAtMost};
 ghost use Rattle.redux_buffer.specs.StreamLog.{after_write, after_flush};
+ghost use Rattle.buffer_redux.specs.BufWriter.{Writes, Flushes};
 ghost use Rattle.buffer_redux.specs.LineWriter.{line_rules};
 ghost use Rattle.buffer_redux.specs.WriterTells.{writer_log, WriterCalled, WriterWent, WriterWent-none, WriterWent-joins, WriterWent-grows};
 
@@ -24,6 +25,7 @@ impl<W: TellWrite> TellWrite for LineWriter<W> {
         ensures told { writer_log self.new ≡ after_write (writer_log self.old) buf.now result }
         ensures stretch { WriterWent W.stretch line_rules self.old self.new }
         ensures call { WriterCalled line_rules self.old self.new }
+        ensures steps { Writes line_rules self.old buf.now result self.new }
     {
         self.writer.write_told(buf)
     }
@@ -32,6 +34,7 @@ impl<W: TellWrite> TellWrite for LineWriter<W> {
         ensures told { writer_log self.new ≡ after_flush (writer_log self.old) result }
         ensures stretch { WriterWent W.stretch line_rules self.old self.new }
         ensures call { WriterCalled line_rules self.old self.new }
+        ensures steps { Flushes self.old result self.new }
     {
         self.writer.flush_told()
     }

@@ -1,9 +1,12 @@
 //! Copying, by worked examples.
+use crate::policy::{DoRead, ReaderPolicy, read_when_empty};
 use crate::tests::holding;
 use crate::{BufReader, BufWriter, LineWriter, copy_buf};
+use redux_buffer::Buffer;
 use redux_buffer::script::{Answer, ScriptReader, ScriptWriter};
 use redux_buffer::tell::{TellWrite, Told};
 use std::alloc::{AllocError, Global};
+use std::io;
 use std::io::{ErrorKind, Write};
 use std::test::Fail;
 
@@ -149,5 +152,37 @@ fn through_two(rt: HostRuntime) -> Result<(), Fail> {
     to.flush()?;
     assert_eq!(rt; to.get_ref().get_ref().get_ref().taken(), bytes.as_slice());
     assert_eq!(rt; to.get_ref().get_ref().get_ref().flushes(), 1);
+    Ok(())
+}
+
+// Counts how often it is told that bytes were consumed.
+#[derive(Drop)]
+struct CountsConsumes(usize);
+
+impl ReaderPolicy for CountsConsumes {
+    fn before_read(&mut self, buffer: &mut Buffer) -> io::Result<DoRead> {
+        Ok(read_when_empty(buffer))
+    }
+
+    fn after_consume(&mut self, _buffer: &mut Buffer, _amt: usize) {
+        self.0 = self.0.saturating_add(1);
+    }
+}
+
+// The turn in which the writer took nothing consumes nothing, and the reader's policy isn't told of it.
+#[test]
+fn consumes_only_what_was_taken(rt: HostRuntime) -> Result<(), Fail> {
+    let rows: [(&[u8], &[Answer], u64, usize); 4] = [
+        (&[], &[], 0, 0),
+        (&[1, 2, 3], &[Answer::Serve(0)], 0, 0),
+        (&[1, 2, 3], &[], 3, 1),
+        (&[1, 2, 3], &[Answer::Serve(2), Answer::Serve(0)], 2, 1),
+    ];
+    for &(bytes, answers, total, consumes) in &rows {
+        let mut from = reader(rt.alloc(), bytes, &[])?.set_policy(CountsConsumes(0));
+        let mut to = writer(rt.alloc(), answers)?;
+        assert_eq!(rt; copy_buf(&mut from, &mut to)?, total);
+        assert_eq!(rt; from.policy().0, consumes);
+    }
     Ok(())
 }

@@ -1,4 +1,4 @@
-use Rattle.std.proofs.Common.{◌≡◌, ℕ, ◌<◌, List, length, drop, Ok, sym, ap, subst, ◌∙◌, arith, append-nil}
+use Rattle.std.proofs.Common.{◌≡◌, ℕ, ◌<◌, List, length, Ok, sym, ap, subst, ◌∙◌, arith, append-nil}
 use Rattle.redux_buffer.specs.Faults.{OnlyInterrupted-none}
 use Rattle.redux_buffer.specs.StreamLog.{with_end, after_write}
 use Rattle.buffer_redux.proofs.copy.copy_turn.Goals as goal
@@ -6,21 +6,17 @@ use Rattle.buffer_redux.proofs.copy.copy_turn.Goals as goal
 end_noted : (before : ℕ) (shown : List ℕ) → length shown ≡ 0 → before < with_end before shown
 end_noted before shown none = grind arith
 
-pub returns-clause-ended : goal.returns-clause-ended
-returns-clause-ended g c is =
-    let n = c.in_ok-taken-in-Ok.taken in
-    let none : n ≡ 0 = cc in
+pub returns-then-taken-eq0-clause-ended : goal.returns-then-taken-eq0-clause-ended
+returns-then-taken-eq0-clause-ended g c is =
+    let none = c.if-taken-eq0.true in
     let bytes = c.in-Ok.bytes.now in
     let filled = (rw c.in-Ok.is at c.fill_told.follows.holds-at-none).0 in
-    let consumed = c.consume_told.ensures.told in
-    let shown =
-    ap (λ l. l.fills.shown) consumed ∙ ap (λ l. drop n l.fills.shown) filled
-    ∙ ap (λ k. drop k bytes) none in
+    let shown = ap (λ l. l.fills.shown) filled in
     record {
       reader = record {
         times = 0;
         faults =
-            ap (λ l. l.fills.faults) consumed ∙ ap (λ l. l.fills.faults) filled
+            ap (λ l. l.fills.faults) filled
             ∙ sym (append-nil (g.B.Tell.log c.args.b.now).fills.faults);
       };
       last = record {
@@ -36,7 +32,6 @@ returns-clause-ended g c is =
       };
       ends = λ empty. omega (
         arith,
-        ap (λ l. l.fills.ends) consumed,
         ap (λ l. l.fills.ends) filled,
         end_noted (g.B.Tell.log c.args.b.now).fills.ends bytes (omega (arith, ap length shown, empty)),
       );

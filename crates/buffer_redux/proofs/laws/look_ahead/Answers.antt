@@ -1,4 +1,3 @@
-use Rattle.std.proofs.Common.{ℕ, Err}
 use Rattle.std.proofs.lemmas.Result.{err_from_is_err_and}
 use Rattle.buffer_redux.specs.MinBuffered.{min_read_rules}
 use Rattle.buffer_redux.proofs.FillClaims.{Fills_err}

@@ -1,4 +1,4 @@
-use Rattle.std.proofs.Common.{ℕ, ◌≡◌, [], length, Ok, Err, refl, sym, ap, arith, append-nil}
+use Rattle.std.proofs.Common.{[], length, refl, sym, ap, arith, append-nil}
 use Rattle.buffer_redux.proofs.FillClaims.{filled_ok, filled_err}
 use Rattle.buffer_redux.proofs.play.reading.fill.Goals as goal
 

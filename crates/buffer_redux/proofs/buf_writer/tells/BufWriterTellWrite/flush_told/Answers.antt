@@ -3,7 +3,8 @@ use Rattle.redux_buffer.specs.Faults.{SendErrorCaused}
 use Rattle.redux_buffer.specs.StreamLog.{after_flush}
 use Rattle.redux_buffer.specs.LogGrows.{WriteLogGrows, WriteLogGrows-flush}
 use Rattle.buffer_redux.specs.WriterTells.{writer_log}
-use Rattle.buffer_redux.proofs.Telling.{call_went, flush_fails, flush_met, flush_fault}
+use Rattle.buffer_redux.specs.BufWriter.{Flushes}
+use Rattle.buffer_redux.proofs.Telling.{call_went, flush_fails, flush_met, flush_fault, flushes_noted}
 use Rattle.buffer_redux.proofs.buf_writer.tells.BufWriterTellWrite.flush_told.Goals as goal
 
 pub returns-clause-told : goal.returns-clause-told
@@ -39,3 +40,9 @@ returns-clause-call g c =
           (flush_fault s m answer kind flush.caused (sym (ap (λ l. l.writes.faults) noted) ∙ is));
       nothing = λ tells is. absurd (omega (arith, is, ap (λ l. l.writes.zero_writes) noted));
     }
+
+pub returns-clause-steps : goal.returns-clause-steps
+returns-clause-steps g c =
+    let s = c.args.self.now in
+    let answer = c.flush-answer.result in
+    flushes_noted _ _ s answer (subst (Flushes s answer) (sym c.self.view_is) c.flush-answer.ensures.steps)

@@ -4,7 +4,8 @@ use Rattle.redux_buffer.specs.Faults.{SendErrorCaused}
 use Rattle.redux_buffer.specs.StreamLog.{after_write}
 use Rattle.redux_buffer.specs.LogGrows.{WriteLogGrows, WriteLogGrows-write}
 use Rattle.buffer_redux.specs.WriterTells.{writer_log}
-use Rattle.buffer_redux.proofs.Telling.{call_went, write_fails, write_met, write_fault, write_nothing}
+use Rattle.buffer_redux.specs.BufWriter.{Writes}
+use Rattle.buffer_redux.proofs.Telling.{call_went, write_fails, write_met, write_fault, write_nothing, writes_noted}
 use Rattle.buffer_redux.proofs.buf_writer.tells.BufWriterTellWrite.write_told.Goals as goal
 
 pub returns-clause-told : goal.returns-clause-told
@@ -44,3 +45,12 @@ returns-clause-call g c =
           (write_nothing table s m bs tells answer wrote.steps (wrote.steadily tells.0)
           (sym (ap (λ l. l.writes.zero_writes) noted) ∙ is));
     }
+
+pub returns-clause-steps : goal.returns-clause-steps
+returns-clause-steps g c =
+    let table = g.P.WriterPolicy.rules in
+    let s = c.args.self.now in
+    let bs = c.args.buf.now in
+    let answer = c.write-answer.result in
+    writes_noted _ _ table s bs answer
+    (subst (Writes table s bs answer) (sym c.self.view_is) c.write-answer.ensures.steps)

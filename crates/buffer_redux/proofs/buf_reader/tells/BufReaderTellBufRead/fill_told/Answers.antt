@@ -1,0 +1,50 @@
+use Rattle.std.proofs.Common.{◌≡◌, Ok, refl, subst, sym, ap, ◌∙◌}
+use Rattle.std.proofs.lemmas.Result.{err_from_is_err_and}
+use Rattle.redux_buffer.specs.StreamLog.{with_shown, after_shown}
+use Rattle.buffer_redux.specs.BufReader.{Fills}
+use Rattle.buffer_redux.specs.ReaderTells.{reader_log, ReaderWent}
+use Rattle.buffer_redux.proofs.FillClaims.{fills, filled_ok, filled_err}
+use Rattle.buffer_redux.proofs.buf_reader.tells.BufReaderTellBufRead.fill_told.Goals as goal
+
+pub returns-in_err-fill_noted : goal.returns-in_err-fill_noted
+returns-in_err-fill_noted g c =
+    let rules = g.P.ReaderPolicy.rules in
+    let p = err_from_is_err_and c.from_residual.result c.from_residual.ensures.1 in
+    let f = c.in_err-fill_noted.ensures in
+    let bytes = c.fill_noted.new.self.block.bytes in
+    rw (p.1, p.2) (
+      (
+        refl,
+        (λ _. tt),
+        record {
+          tells = (bytes, ap (λ l. with_shown l bytes) f.noted);
+          went = f.went;
+          fills = fills rules _ _ _ f.whole (filled_err rules _ _ _ f.filled);
+        },
+      ),
+      record { after_borrow = tt },
+    )
+
+pub returns : goal.returns
+returns g c =
+    let rules = g.P.ReaderPolicy.rules in
+    let s = c.args.self.now in
+    let t = c.fill_noted.new.self in
+    let f = c.in_ok-fill_noted.ensures in
+    let done = fills rules s _ t f.whole (filled_ok rules _ _ c.buf.result _ f.filled) in
+    let shown : t.block.bytes ≡ c.buf.result.now =
+    sym (c.buf.ensures ∙ ap (λ x. x.block.bytes) c.self.view_is) in
+    let tells : reader_log t ≡ after_shown (reader_log s) c.buf.result.now =
+    subst (λ l. reader_log t ≡ after_shown (reader_log s) l) shown
+    (ap (λ l. with_shown l t.block.bytes) f.noted) in (
+      (
+        refl,
+        (λ _. tt),
+        record {
+          tells = ap reader_log c.self.view_is ∙ tells;
+          went = subst (ReaderWent g.R.TellRead.remaining rules s) (sym c.self.view_is) f.went;
+          fills = subst (Fills rules s (Ok c.buf.result)) (sym c.self.view_is) done;
+        },
+      ),
+      record { after_borrow = tt },
+    )
