@@ -2,6 +2,7 @@
 mod copy;
 mod example;
 mod known;
+mod limits;
 mod lines;
 mod lookahead;
 mod makers;

@@ -32,6 +32,10 @@ abbrev pub OnKind : Kind → Type 0 → Type 0 → Type 0
 OnKind Plain P Q = P
 OnKind Ring P Q = Q
 
+-- b with another limit
+abbrev pub with_limit : Block → ℕ → Block
+with_limit b limit = record b { limit = limit }
+
 -- how many bytes can be written now
 abbrev pub usable : Block → ℕ
 usable b = length b.tail
@@ -66,9 +70,10 @@ pub record IsBlock (b : Block) : Type 0 where
   pub space : OnKind b.kind (length b.bytes ≡ 0 → usable b ≡ b.capacity) (length b.bytes + usable b ≡ b.capacity)
   pub moves : OnKind b.kind ⊤ (b.moved ≤ b.consumed)
 
--- the same with the place, which in a ring has come as far only by what was consumed
+-- the same with the place, which in a ring has come as far only by what was consumed, and with the kind's own limit
 pub record IsPlaced (p : Placed) : Type 0 where
   pub block : IsBlock p.block
+  pub limit : p.block.limit ≡ limit_of p.block.kind
   pub place : OnKind p.block.kind (p.place + (length p.block.bytes + usable p.block) ≡ p.block.capacity)
       (p.block.moved + p.place ≤ p.block.consumed)
 

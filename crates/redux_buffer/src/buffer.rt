@@ -3,11 +3,11 @@ ghost use Rattle.std.specs.Prelude.{◌≡◌, ◌+◌, ◌-◌, ◌*◌, ◌^�
 ghost use Rattle.std.specs.Borrow.{Lends, Array, sem, u8};
 ghost use Rattle.redux_buffer.specs.GrowError.{FitsWithin};
 ghost use Rattle.redux_buffer.specs.contracts.buffer.Buffer.{the_row};
-ghost use Rattle.redux_buffer.specs.Block.{Plain, with_bytes, Ring, IsBlock, IsNew, ConsumesFirst, Clears, Reserves, MakesRoom, Extends, PushesBytes, OnlyRingMoves, MovesToFront, usable, capacity_for, capacity_to_push, round};
+ghost use Rattle.redux_buffer.specs.Block.{Plain, with_bytes, with_limit, limit_of, Ring, IsBlock, IsNew, ConsumesFirst, Clears, Reserves, MakesRoom, Extends, PushesBytes, OnlyRingMoves, MovesToFront, usable, capacity_for, capacity_to_push, round};
 
-use crate::DEFAULT_BUF_SIZE;
 use crate::buf_impl::BufImpl;
 use crate::grow_error::GrowError;
+use crate::{DEFAULT_BUF_SIZE, MAX_CAPACITY, MAX_RING, RING_UNIT};
 use std::alloc::Global;
 use std::marker::Model;
 
@@ -20,18 +20,19 @@ mod transfer;
 #[derive(Debug, Drop)]
 pub struct Buffer {
     imp: BufImpl,
+    limit: usize,
 }
 
 impl Model for Buffer {
-    ghost use Rattle.redux_buffer.specs.Block.{Block, IsPlaced};
+    ghost use Rattle.redux_buffer.specs.Block.{Block, IsBlock, IsPlaced, with_limit};
 
     ghost Value = { Block };
 
     ghost use Rattle.redux_buffer.specs.BufImpl.{placed};
 
-    ghost view = { λ b. (placed b.imp).block };
+    ghost view = { λ b. with_limit (placed b.imp).block b.limit };
 
-    ghost invariant = { λ b. IsPlaced (placed b.imp) };
+    ghost invariant = { λ b. IsPlaced (placed b.imp) × IsBlock (with_limit (placed b.imp).block b.limit) };
 }
 
 impl Buffer {
@@ -59,6 +60,7 @@ impl Buffer {
     {
         Ok(Buffer {
             imp: BufImpl::with_capacity(alloc, cap)?,
+            limit: MAX_CAPACITY,
         })
     }
 
@@ -71,6 +73,7 @@ impl Buffer {
     {
         Ok(Buffer {
             imp: BufImpl::with_capacity_ringbuf(alloc, cap)?,
+            limit: MAX_RING,
         })
     }
 
@@ -131,6 +134,36 @@ impl Buffer {
         self.imp.capacity() - self.imp.len()
     }
 
+    /// The greatest capacity in bytes that it may grow to: that of its kind, [`MAX_CAPACITY`] or [`MAX_RING`], unless
+    /// [`set_limit`](Buffer::set_limit) made it smaller.
+    pub fn limit(&self) -> usize
+        ensures value { result ≡ self.now.limit }
+        ensures whole { IsBlock self.now }
+    {
+        self.limit
+    }
+
+    /// Makes `limit` the greatest capacity, or that of its kind where `limit` is more. Returns `TooLarge`, and changes
+    /// nothing, where `limit` is below the present capacity.
+    pub fn set_limit(&mut self, limit: usize) -> Result<(), GrowError>
+        ensures set { OnOk result (self.new ≡ with_limit self.old (min limit (limit_of self.old.kind))) }
+        ensures unchanged { OnErr result (self.new ≡ self.old) }
+        ensures below { FitsWithin result self.old.capacity limit }
+        ensures refused { IsOkUnless result GrowError.TooLarge }
+        ensures whole { IsBlock self.new }
+    {
+        if limit < self.capacity() {
+            return Err(GrowError::TooLarge);
+        }
+        let most = if self.is_ringbuf() {
+            MAX_RING
+        } else {
+            MAX_CAPACITY
+        };
+        self.limit = limit.min(most);
+        Ok(())
+    }
+
     /// The bytes.
     pub fn buf(&self) -> &[u8]
         ensures { result.now ≡ self.now.bytes }
@@ -164,6 +197,24 @@ impl Buffer {
         self.imp.consume(n);
     }
 
+    // Whether the capacity that `reserve(a)` needs is within the limit.
+    fn allows(&self, a: usize) -> bool
+        ensures { IsTrue result ↔ (capacity_for self.now a ≤ self.now.limit) }
+    {
+        let usable = self.usable_space();
+        if a <= usable {
+            return true;
+        }
+        let (kept, most) = if self.is_ringbuf() {
+            (self.len(), self.limit - self.limit % RING_UNIT)
+        } else if self.is_empty() {
+            (self.capacity(), self.limit)
+        } else {
+            (self.capacity() - usable, self.limit)
+        };
+        a <= most.saturating_sub(kept)
+    }
+
     /// Makes sure that `a` more bytes can be written. A refusal changes nothing.
     pub fn reserve(&mut self, a: usize) -> Result<(), GrowError>
         ensures grown { OnOk result (Reserves a self.old self.new) }
@@ -172,6 +223,9 @@ impl Buffer {
         ensures succeeds { a ≤ usable self.old → IsOk result }
         ensures whole { IsBlock self.new }
     {
+        if !self.allows(a) {
+            return Err(GrowError::TooLarge);
+        }
         self.imp.reserve(a)
     }
 

@@ -4,9 +4,9 @@
 //! Only bytes that are appended raise it, and `make_room` where there was room enough. So who makes room only where it
 //! pays moves no more bytes than were appended.
 //! Each function is its call, and promises what that did beside.
-ghost use Rattle.std.specs.Prelude.{◌≡◌, ◌≤◌, ℕ, ◌++◌, length, min, take, drop, MatchResult, OnOk, OnErr, IsOk};
+ghost use Rattle.std.specs.Prelude.{◌≡◌, ◌≤◌, ℕ, ◌++◌, length, min, take, drop, MatchResult, OnOk, OnErr, IsOk, IsOkUnless};
 ghost use Rattle.redux_buffer.specs.Block.{Plain, ConsumesFirst, Clears, Reserves, Extends, PushesBytes};
-ghost use Rattle.redux_buffer.specs.Block.{MakesRoom, MovesToFront, usable, capacity_for, capacity_to_push};
+ghost use Rattle.redux_buffer.specs.Block.{MakesRoom, MovesToFront, usable, capacity_for, capacity_to_push, limit_of, with_limit};
 ghost use Rattle.redux_buffer.specs.GrowError.{FitsWithin};
 ghost use Rattle.redux_buffer.specs.Potential.{PlainRises, RisesAtMost, RoomPays};
 ghost use Rattle.redux_buffer.specs.Transfer.{ReadsFrom, WritesTo, Sends};
@@ -51,6 +51,17 @@ pub fn reserve(buffer: &mut Buffer, a: usize) -> Result<(), GrowError>
     ensures potential { PlainRises 0 buffer.old buffer.new }
 {
     buffer.reserve(a)
+}
+
+/// A limit doesn't raise it, nor one that is refused.
+pub fn set_limit(buffer: &mut Buffer, limit: usize) -> Result<(), GrowError>
+    ensures set { OnOk result (buffer.new ≡ with_limit buffer.old (min limit (limit_of buffer.old.kind))) }
+    ensures unchanged { OnErr result (buffer.new ≡ buffer.old) }
+    ensures below { FitsWithin result buffer.old.capacity limit }
+    ensures refused { IsOkUnless result GrowError.TooLarge }
+    ensures potential { PlainRises 0 buffer.old buffer.new }
+{
+    buffer.set_limit(limit)
 }
 
 /// Appending raises it by at most the bytes that were appended.

@@ -97,7 +97,7 @@ fn printed(rt: HostRuntime) -> Result<(), Fail> {
     }
     prints(&rt, &GrowError::TooLarge, "TooLarge")?;
     let plain =
-        "Buffer { imp: Std(StdBuf { buf: RawBuf { buf: [0] }, pos: 0, end: 0, stop: 1, consumed: Count, moved: Count }) }";
+        "Buffer { imp: Std(StdBuf { buf: RawBuf { buf: [0] }, pos: 0, end: 0, stop: 1, consumed: Count, moved: Count }), limit: 4611686018427387904 }";
     prints(&rt, &Buffer::with_capacity(rt.alloc(), 1)?, plain)?;
     let ring =
         "SliceDequeBuf { buf: RawBuf { buf: [] }, head: 0, end: 0, stop: 0, consumed: Count, moved: Count }";

@@ -18,6 +18,10 @@ enum Step<'a> {
     TooLarge(usize),
     NoMemory(usize),
     Clear,
+    // a push that is refused
+    PushTooLarge(&'a [u8]),
+    // set_limit, whether it is taken, and the limit then
+    Limit(usize, bool, usize),
 }
 
 // A step, and what the buffer then holds, its capacity and how many bytes can be written.
@@ -42,6 +46,14 @@ fn takes(b: &mut Buffer, step: Step<'_>) -> bool {
         Step::Clear => {
             b.clear();
             true
+        }
+        Step::PushTooLarge(src) => matches!(b.push_bytes(src), Err(GrowError::TooLarge)),
+        Step::Limit(limit, taken, then) => {
+            let answered = match b.set_limit(limit) {
+                Ok(()) => taken,
+                Err(e) => !taken && matches!(e, GrowError::TooLarge),
+            };
+            answered && b.limit() == then
         }
     }
 }
@@ -109,6 +121,97 @@ fn grown(rt: HostRuntime) -> Result<(), Fail> {
     Ok(())
 }
 
+const MAX: usize = 4611686018427387904;
+
+// What is needed is held against the limit, which is at least the capacity and at most that of the kind.
+#[test]
+fn limited(rt: HostRuntime) -> Result<(), Fail> {
+    let rows: [(usize, &[Row<'_>]); 4] = [
+        (
+            4,
+            &[
+                (Step::Copy(&[1, 2, 3], 3), &[1, 2, 3], 4, 1),
+                (Step::Limit(6, true, 6), &[1, 2, 3], 4, 1),
+                (Step::Reserve(3), &[1, 2, 3], 6, 3),
+                (Step::TooLarge(4), &[1, 2, 3], 6, 3),
+                (Step::Limit(5, false, 6), &[1, 2, 3], 6, 3),
+                (
+                    Step::Limit(18446744073709551615, true, MAX),
+                    &[1, 2, 3],
+                    6,
+                    3,
+                ),
+                (Step::Reserve(4), &[1, 2, 3], 7, 4),
+            ],
+        ),
+        // 4 and twice 5 would be needed
+        (
+            4,
+            &[
+                (Step::Limit(8, true, 8), &[], 4, 4),
+                (Step::PushTooLarge(&[1, 2, 3, 4, 5]), &[], 4, 4),
+                (Step::Push(&[1, 2, 3, 4]), &[1, 2, 3, 4], 4, 0),
+                (Step::Push(&[5, 6]), &[1, 2, 3, 4, 5, 6], 8, 2),
+            ],
+        ),
+        (
+            0,
+            &[
+                (Step::Limit(0, true, 0), &[], 0, 0),
+                (Step::Reserve(0), &[], 0, 0),
+                (Step::TooLarge(1), &[], 0, 0),
+            ],
+        ),
+        // no call but set_limit changes it
+        (
+            4,
+            &[
+                (Step::Limit(9, true, 9), &[], 4, 4),
+                (Step::Copy(&[1, 2, 3, 4], 4), &[1, 2, 3, 4], 4, 0),
+                (Step::Consume(1), &[2, 3, 4], 4, 0),
+                (Step::MakeRoom, &[2, 3, 4], 4, 1),
+                (Step::TooLarge(7), &[2, 3, 4], 4, 1),
+                (Step::Clear, &[], 4, 4),
+                (Step::TooLarge(6), &[], 4, 4),
+                (Step::Reserve(5), &[], 9, 9),
+                (Step::Limit(9, true, 9), &[], 9, 9),
+            ],
+        ),
+    ];
+    for (capacity, rows) in rows {
+        walks(&rt, Buffer::with_capacity(rt.alloc(), capacity), rows)?;
+    }
+    Ok(())
+}
+
+// A ring stays below its limit by whole units.
+#[test]
+fn ring_limited(rt: HostRuntime) -> Result<(), Fail> {
+    let ten = [7; 10];
+    let rows: &[Row<'_>] = &[
+        (Step::Copy(&ten, 10), &ten, 4096, 4086),
+        (Step::Limit(5000, true, 5000), &ten, 4096, 4086),
+        (Step::Reserve(4086), &ten, 4096, 4086),
+        (Step::TooLarge(4087), &ten, 4096, 4086),
+        (Step::Limit(4095, false, 5000), &ten, 4096, 4086),
+        (Step::Limit(8192, true, 8192), &ten, 4096, 4086),
+        (Step::Reserve(8182), &ten, 8192, 8182),
+        (Step::TooLarge(8183), &ten, 8192, 8182),
+        (
+            Step::Limit(MAX, true, 2305843009213693952),
+            &ten,
+            8192,
+            8182,
+        ),
+    ];
+    walks(&rt, Buffer::with_capacity_ringbuf(rt.alloc(), 4096), rows)?;
+    let plain = Buffer::with_capacity(rt.alloc(), 0)?;
+    assert_eq!(rt; plain.limit(), MAX);
+    let ring = Buffer::with_capacity_ringbuf(rt.alloc(), 0)?;
+    assert_eq!(rt; ring.limit(), 2305843009213693952);
+    Ok(())
+}
+
 // All free space of a ring is one slice, across its end too.
 #[test]
 fn ring(rt: HostRuntime) -> Result<(), Fail> {
@@ -165,6 +268,7 @@ fn by_law(rt: HostRuntime) -> Result<(), Fail> {
         potential::read_from(&mut b, &mut Told::new([6, 7].as_slice()))?,
         2
     );
+    potential::set_limit(&mut b, 9)?;
     potential::reserve(&mut b, 4)?;
     shows(&rt, &b, &[3, 4, 5, 6, 7], 9, 4);
     let mut out = [0u8; 1];

@@ -19,7 +19,8 @@ returns-clause-read g c =
         offered = whole;
         bound = c.in_ok-n.ensures.bound;
         told = c.in_ok-n.ensures.told;
-        added = written_adds c.self.inside.imp c.bytes_written.new.self w n c.self.invariant
-            c.bytes_written.ensures.whole whole room c.bytes_written.ensures.bytes c.bytes_written.ensures.shift;
+        added = written_adds c.self.inside.imp c.bytes_written.new.self w n c.self.invariant.0
+            c.bytes_written.ensures.whole whole room c.bytes_written.ensures.bytes c.bytes_written.ensures.shift
+            c.self.inside.limit;
       };
     })

@@ -76,5 +76,6 @@ returns-clause-whole c =
         space = omega (arith, bytes, tail);
         moves = omega arith;
       };
+      limit = refl;
       place = omega arith;
     }
