@@ -1,5 +1,5 @@
 -- What filling promises under a policy that claims something, and all that it promises.
-use Rattle.std.proofs.Common.{◌≡◌, ℕ, zero, suc, ◌+◌, ◌-◌, ◌≤◌, true, false, [], ◌∷◌, ◌++◌, length, Result, Ok, Err, refl, sym, ap, subst, ◌∙◌, arith, inl, inr, length-append, Option, None, Some, is_ok}
+use Rattle.std.proofs.Common.{◌≡◌, ℕ, zero, suc, ◌+◌, ◌-◌, ◌≤◌, true, false, [], ◌∷◌, ◌++◌, length, Result, Ok, Err, refl, sym, ap, subst, ◌∙◌, arith, inl, inr, append-nil, length-append, Option, None, Some, is_ok}
 use Rattle.std.specs.IoError.{error_kind}
 use Rattle.std.specs.declared.io.Error.{Error}
 use Rattle.redux_buffer.specs.Block.{Block, IsBlock}
@@ -33,9 +33,34 @@ module _ {S P : Type 0} (rules : ReadRules P) where
         let m = h.0 in
         let turn = h.2 in
         let before = few_turns k m h.1 in
-        let found = at_minimum k m turn.seen read_now t h.1 turn.ordered.asked in
+        let found = (at_minimum k m turn.seen read_now t h.1 turn.ordered.asked).ok in
         let facts = turns_facts rules k s m h.1 in
         omega (arith, before, facts.longer, found.0)
+
+    -- there was no turn where so many bytes were there
+    no_turns : (k : ℕ) (m : Buffered S P) → Turns rules k s m → n ≤ length s.block.bytes → m.log ≡ s.log
+    no_turns zero m e enough = ap (λ x. x.log) (sym e)
+    no_turns (suc k) m h enough = absurd (omega (arith, few_turns (suc k) m h, enough))
+
+    -- no turn grew a buffer that can hold so many
+    same_capacity : (k : ℕ) (m : Buffered S P) → Turns rules k s m → n ≤ s.block.capacity
+        → m.block.capacity ≡ s.block.capacity
+    same_capacity zero m e holds = ap (λ x. x.block.capacity) (sym e)
+    same_capacity (suc k) t h holds =
+        let m = h.0 in
+        let turn = h.2 in
+        let before = same_capacity k m h.1 holds in
+        let found = at_minimum k m turn.seen read_now t h.1 turn.ordered.asked in
+        turn.read.added.capacity ∙ found.capacity (omega (arith, before, holds)) ∙ before
+
+    -- and none changed the limit
+    same_limit : (k : ℕ) (m : Buffered S P) → Turns rules k s m → m.block.limit ≡ s.block.limit
+    same_limit zero m e = ap (λ x. x.block.limit) (sym e)
+    same_limit (suc k) t h =
+        let m = h.0 in
+        let turn = h.2 in
+        let found = at_minimum k m turn.seen read_now t h.1 turn.ordered.asked in
+        turn.read.added.limit ∙ found.limit ∙ same_limit k m h.1
 
     to_minimum_ok : {A : Type 0} (k : ℕ) (m t : Buffered S P) (a : A)
         → Turns rules k s m → Ends rules m (Ok a) t → FillsToMinimum n s true t
@@ -45,10 +70,18 @@ module _ {S P : Type 0} (rules : ReadRules P) where
         let few = few_turns k m h in
         let asks : t.log.reads.asks ≡ m.log.reads.asks = ap (λ l. l.reads.asks) end.told in
         let long : length t.block.bytes ≡ length m.block.bytes = ap length end.asked.law.bytes in
-        record { enough = λ _. inl (omega (arith, found, long)); asks = omega (arith, asks, facts.asks, few) }
+        record {
+          enough = λ _. inl (omega (arith, found.ok, long));
+          few = λ no. cc;
+          asks = omega (arith, asks, facts.asks, few);
+          untouched = λ enough. end.told ∙ no_turns k m h enough;
+          capacity = λ holds.
+              let before = same_capacity k m h holds in found.capacity (omega (arith, before, holds)) ∙ before;
+          limit = found.limit ∙ same_limit k m h;
+        }
     to_minimum_ok k m t a h (inr (inl end)) =
         let found = at_minimum k m t.block read_now t h end.asked in
-        absurd (omega (arith, found.1, end.full))
+        absurd (omega (arith, found.ok.1, end.full))
     to_minimum_ok k m t a h (inr (inr end)) =
         let found = at_minimum k m end.seen read_now t h end.ordered.asked in
         let facts = turns_facts rules k s m h in
@@ -56,21 +89,48 @@ module _ {S P : Type 0} (rules : ReadRules P) where
         let once = asked_once end.seen t.block m.log t.log 0 end.read in
         record {
           enough = λ _. inr (omega (arith, facts.zero_answers, rose));
-          asks = omega (arith, once, facts.asks, facts.longer, found.0);
+          few = λ no. cc;
+          asks = omega (arith, once, facts.asks, facts.longer, found.ok.0);
+          untouched = λ enough. absurd (omega (arith, facts.longer, found.ok.0, enough));
+          capacity = λ holds.
+              let before = same_capacity k m h holds in
+              end.read.added.capacity ∙ found.capacity (omega (arith, before, holds)) ∙ before;
+          limit = end.read.added.limit ∙ found.limit ∙ same_limit k m h;
         }
 
     to_minimum_err : (A : Type 0) (k : ℕ) (m t : Buffered S P) (e : Error)
         → Turns rules k s m → Ends {A = A} rules m (Err e) t → FillsToMinimum n s false t
     to_minimum_err A k m t e h (inl end) =
+        let found = at_minimum k m t.block (Err e) t h end.asked in
         let facts = turns_facts rules k s m h in
         let few = few_turns k m h in
         let asks : t.log.reads.asks ≡ m.log.reads.asks = ap (λ l. l.reads.asks) end.told in
-        record { enough = λ no. cc; asks = omega (arith, asks, facts.asks, few) }
+        let long : length t.block.bytes ≡ length m.block.bytes = ap length end.asked.law.bytes in
+        record {
+          enough = λ no. cc;
+          few = λ _. omega (arith, found.err, long);
+          asks = omega (arith, asks, facts.asks, few);
+          untouched = λ enough. end.told ∙ no_turns k m h enough;
+          capacity = λ holds.
+              let before = same_capacity k m h holds in found.capacity (omega (arith, before, holds)) ∙ before;
+          limit = found.limit ∙ same_limit k m h;
+        }
     to_minimum_err A k m t e h (inr end) =
         let found = at_minimum k m end.seen read_now t h end.ordered.asked in
         let facts = turns_facts rules k s m h in
         let once : t.log.reads.asks ≡ m.log.reads.asks + 1 = ap (λ l. l.reads.asks) end.read.told in
-        record { enough = λ no. cc; asks = omega (arith, once, facts.asks, facts.longer, found.0) }
+        let long : length t.block.bytes ≡ length m.block.bytes =
+        ap length (end.read.added.bytes ∙ append-nil end.seen.bytes ∙ end.ordered.asked.law.bytes) in
+        record {
+          enough = λ no. cc;
+          few = λ _. omega (arith, long, found.ok.0);
+          asks = omega (arith, once, facts.asks, facts.longer, found.ok.0);
+          untouched = λ enough. absurd (omega (arith, facts.longer, found.ok.0, enough));
+          capacity = λ holds.
+              let before = same_capacity k m h holds in
+              end.read.added.capacity ∙ found.capacity (omega (arith, before, holds)) ∙ before;
+          limit = end.read.added.limit ∙ found.limit ∙ same_limit k m h;
+        }
 
     to_minimum : {A : Type 0} (r : Result A Error) (t : Buffered S P)
         → Filled rules s r t → FillsToMinimum n s (is_ok r) t

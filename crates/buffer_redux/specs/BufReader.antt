@@ -66,10 +66,15 @@ pub record LastAsk {S P : Type 0} (rules : ReadRules P) (s t : Buffered S P) : T
   pub saw : length s.block.bytes + t.log.reads.asks ≤ length before.bytes + s.log.reads.asks + 1
   pub offer : t.log.reads.offer ≡ usable after
 
--- filling up to a minimum goes on until so many bytes are there, and asks for no more
+-- filling up to a minimum goes on until so many bytes are there, and asks for no more. An `Err` leaves fewer. Where so
+-- many are there, the reader isn't called; a capacity that holds so many stays, and so does the limit
 pub record FillsToMinimum {S P : Type 0} (n : ℕ) (s : Buffered S P) (ok : Bool) (t : Buffered S P) : Type 0 where
   pub enough : ok ≡ true → (n ≤ length t.block.bytes) ⊎ RanDry s t
+  pub few : ok ≡ false → length t.block.bytes < n
   pub asks : t.log.reads.asks ≤ s.log.reads.asks + (n - length s.block.bytes)
+  pub untouched : n ≤ length s.block.bytes → t.log ≡ s.log
+  pub capacity : n ≤ s.block.capacity → t.block.capacity ≡ s.block.capacity
+  pub limit : t.block.limit ≡ s.block.limit
 
 -- so it is where the policy claims a minimum
 abbrev pub LooksAhead : {S P : Type 0} → Option ℕ → Buffered S P → Bool → Buffered S P → Type 0

@@ -1,5 +1,5 @@
 -- What a policy may do, and what it may claim.
-use Rattle.std.specs.Prelude.{◌≡◌, ℕ, ◌*◌, ◌<◌, ◌≤◌, ◌==◌, Bool, true, false, length, Result, Ok, Err, IfOk, IsOkAnd, MatchBool, ⊤, Option, None, Some, nat_lt, if◌then◌else◌}
+use Rattle.std.specs.Prelude.{◌≡◌, ℕ, ◌*◌, ◌<◌, ◌≤◌, ◌==◌, Bool, true, false, length, Result, Ok, Err, IfOk, OnErr, IsOkAnd, MatchBool, ⊤, Option, None, Some, nat_lt, if◌then◌else◌}
 use Rattle.std.specs.declared.io.Error.{Error}
 use Rattle.redux_buffer.specs.Block.{Block, IsBlock, OnKind, usable}
 use Rattle.redux_buffer.specs.Potential.{potential}
@@ -68,11 +68,17 @@ any_read_rules = record { before_read = λ _ _ _ _ _. ⊤; after_consume = λ _ 
 abbrev pub any_write_rules : {P : Type 0} → WriteRules P
 any_write_rules = record { before_write = λ _ _ _ _ _ _. ⊤; after_write = λ _ _ _ _. ⊤; claims = λ _. no_write_claims }
 
--- what each claim asks of a call of `before_read`. A minimum: it reads where fewer bytes are there, and leaves room then
+-- what each claim asks of a call of `before_read`. A minimum: it reads where fewer bytes are there, and leaves room then;
+-- it fails only there, doesn't grow a buffer that can hold so many, and leaves the limit
+pub record ReadsUpTo (n : ℕ) (b : Block) (answer : Result DoRead Error) (b' : Block) : Type 0 where
+  pub ok : IfOk answer (λ d. MatchBool d.0 ((length b.bytes < n) × (0 < usable b')) (n ≤ length b.bytes))
+  pub err : OnErr answer (length b.bytes < n)
+  pub capacity : n ≤ b.capacity → b'.capacity ≡ b.capacity
+  pub limit : b'.limit ≡ b.limit
+
 abbrev pub ReadsToMinimum : Option ℕ → Block → Result DoRead Error → Block → Type 0
 ReadsToMinimum None b answer b' = ⊤
-ReadsToMinimum (Some n) b answer b' =
-    IfOk answer (λ d. MatchBool d.0 ((length b.bytes < n) × (0 < usable b')) (n ≤ length b.bytes))
+ReadsToMinimum (Some n) b answer b' = ReadsUpTo n b answer b'
 
 abbrev pub ReadsSteadily : Bool → Block → Result DoRead Error → Type 0
 ReadsSteadily false b answer = ⊤

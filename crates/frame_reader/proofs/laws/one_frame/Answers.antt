@@ -1,0 +1,5 @@
+use Rattle.frame_reader.specs.NextLaws.{frame-same}
+use Rattle.frame_reader.proofs.laws.one_frame.Goals as goal
+
+pub returns : goal.returns
+returns c = frame-same

@@ -1,0 +1,29 @@
+use Rattle.std.proofs.Common.{Ok, Some, ◌-◌, drop, take, refl, subst, sym}
+use Rattle.frame_reader.specs.Framing.{Framing, lent_payload}
+use Rattle.frame_reader.specs.Next.{Next, loaded}
+use Rattle.frame_reader.specs.NextLaws.{Next-ready, Next-too_long}
+use Rattle.frame_reader.proofs.reader.FrameReader.next.Goals as goal
+
+pub returns-then-branch : goal.returns-then-branch
+returns-then-branch g c =
+    let remaining = g.R.TellRead.remaining in
+    let s = c.args.self.now in
+    let t = c.load.new.self in
+    let f = c.self.inside in
+    let u : Framing g.row.R.Denot = record { reader = f.reader; max = f.max; lent = f.lent } in
+    let bytes = c.buffer.result.now in
+    let found = take (f.lent - 2) (drop 2 bytes) in
+    let loads : Next remaining s (Ok (Some (lent_payload t))) t =
+    subst (λ b. Next remaining s (loaded (Ok b) t) t) c.if-branch.true c.in_ok-load.ensures.next in
+    let shows : Next remaining s (Ok (Some (lent_payload u))) u =
+    subst (λ x. Next remaining s (Ok (Some (lent_payload x))) x) (sym c.self.view_is) loads in
+    let lends : Next remaining s (Ok (Some found)) u =
+    subst (λ l. Next remaining s (Ok (Some (take (f.lent - 2) (drop 2 l)))) u) (sym c.buffer.ensures.value) shows in (
+      (refl, (λ _. tt), lends),
+      record {
+        after_borrow = tt;
+        fits = lends.answers.0;
+        ready = λ payload more fits front. (Next-ready remaining s (Ok (Some found)) u payload more lends fits front).0;
+        too_long = λ len above front. (Next-too_long remaining s (Ok (Some found)) u len lends above front).0;
+      },
+    )

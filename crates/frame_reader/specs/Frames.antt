@@ -1,0 +1,56 @@
+-- Frames, and streams of them.
+use Rattle.std.specs.Prelude.{◌≡◌, ℕ, ◌+◌, ◌<◌, ◌^◌, ◌≤◌, ◌⊎◌, List, ◌++◌, length}
+use Rattle.std.specs.Int.{w16, to_be_bytes}
+use Rattle.std.specs.List.{All, flat_map}
+
+-- a length in two bytes, the higher first
+abbrev pub header : ℕ → List ℕ
+header len = to_be_bytes w16 len
+
+-- a payload's frame: its length, and then the payload
+abbrev pub frame : List ℕ → List ℕ
+frame payload = header (length payload) ++ payload
+
+-- a payload that a frame can carry
+abbrev pub Fits : ℕ → List ℕ → Type 0
+Fits max payload = length payload ≤ max
+
+-- the frames of these payloads, one behind the other
+abbrev pub frames : List (List ℕ) → List ℕ
+frames payloads = flat_map frame payloads
+
+-- the bytes begin with this length
+pub record BeginsWith (len : ℕ) (bytes : List ℕ) : Type 0 where
+  pub word : len < 2 ^ 16
+  pub more : List ℕ
+  pub equal : bytes ≡ header len ++ more
+
+-- the bytes begin with a frame, of a payload of at most max bytes
+pub record BeginsWhole (max : ℕ) (bytes : List ℕ) : Type 0 where
+  pub payload : List ℕ
+  pub more : List ℕ
+  pub fits : Fits max payload
+  pub equal : bytes ≡ frame payload ++ more
+
+-- they begin with a length above max
+pub record BeginsTooLong (max : ℕ) (bytes : List ℕ) : Type 0 where
+  pub len : ℕ
+  pub above : max < len
+  pub begins : BeginsWith len bytes
+
+-- they are less than a frame whose length is at most max, and more than its length
+pub record StopsInPayload (max : ℕ) (bytes : List ℕ) : Type 0 where
+  pub len : ℕ
+  pub fits : len ≤ max
+  pub begins : BeginsWith len bytes
+  pub short : length bytes < 2 + len
+
+-- they are less than a frame, and not nothing
+abbrev pub IsCutShort : ℕ → List ℕ → Type 0
+IsCutShort max bytes = (length bytes ≡ 1) ⊎ StopsInPayload max bytes
+
+-- a stream is the frames of these payloads, and then bytes that don't begin with a whole one
+pub record Splits (max : ℕ) (stream : List ℕ) (payloads : List (List ℕ)) (left : List ℕ) : Type 0 where
+  pub equal : stream ≡ frames payloads ++ left
+  pub fit : All (Fits max) payloads
+  pub no_more : ¬ BeginsWhole max left

@@ -1,0 +1,79 @@
+-- What the calls of a reader of frames promise.
+use Rattle.std.specs.Prelude.{◌≡◌, ℕ, ◌<◌, ◌⊎◌, List, [], ◌∷◌, ◌++◌, length, Option, None, Some, Result, Ok, Err, Bool, true, false, option_copied}
+use Rattle.std.specs.Borrow.{Bor}
+use Rattle.std.specs.List.{All}
+use Rattle.std.specs.IoError.{error_kind}
+use Rattle.buffer_redux.specs.LogGrows.{ReadLogGrows}
+use Rattle.buffer_redux.specs.BufReader.{InnerGives, RanDry}
+use Rattle.buffer_redux.specs.Sparing.{PotentialHeld}
+use Rattle.frame_reader.specs.declared.error.FrameError.{FrameError}
+use Rattle.frame_reader.specs.declared.error.FrameError.TheVariants.{Truncated, TooLong, Io}
+use Rattle.frame_reader.specs.Frames.{Fits, frames, BeginsWith, BeginsWhole, BeginsTooLong, IsCutShort}
+use Rattle.frame_reader.specs.Framing.{Framing, IsFraming, rest, most, lent_payload}
+
+-- the frames of these payloads, then what is left, are what was left, then what was given since
+pub record HandsFrames {S : Type 0} (s : Framing S) (payloads : List (List ℕ)) (t : Framing S) : Type 0 where
+  pub got : List ℕ
+  pub given : t.reader.log.reads.given ≡ s.reader.log.reads.given ++ got
+  pub equal : frames payloads ++ rest t ≡ rest s ++ got
+
+-- what any calls do, one after another, that handed out these payloads. Each payload fits; no byte is lost; of what the
+-- inner reader is known to have left, just what it gave is gone; no more bytes are moved than are given, over all calls
+-- since the reader was made; and no memory is taken
+pub record FramesWent {S : Type 0} (remaining : S → Option (List ℕ)) (s : Framing S) (payloads : List (List ℕ))
+    (t : Framing S) : Type 0 where
+  pub fit : All (Fits s.max) payloads
+  pub hands : HandsFrames s payloads t
+  pub known : InnerGives remaining s.reader t.reader
+  pub grows : ReadLogGrows s.reader.log.reads t.reader.log.reads
+  pub held : PotentialHeld (most s) s.reader t.reader
+  pub capacity : t.reader.block.capacity ≡ s.reader.block.capacity
+  pub limit : t.reader.block.limit ≡ s.reader.block.limit
+  pub max : t.max ≡ s.max
+
+-- the answer, with the payload in place of the slice that is lent
+abbrev pub copied : {E : Type 0} → Result (Option (Bor (List ℕ))) E → Result (Option (List ℕ)) E
+copied (Ok found) = Ok (option_copied found)
+copied (Err e) = Err e
+
+-- the payloads that an answer hands out: one, or none
+abbrev pub handed : {E : Type 0} → Result (Option (List ℕ)) E → List (List ℕ)
+handed (Ok (Some payload)) = payload ∷ []
+handed (Ok None) = []
+handed (Err e) = []
+
+-- no fault was met
+abbrev pub NoFault : {S : Type 0} → Framing S → Framing S → Type 0
+NoFault s t = t.reader.log.reads.faults ≡ s.reader.log.reads.faults
+
+-- the reader gave nothing though it was asked for something, and met no fault
+abbrev pub Ended : {S : Type 0} → Framing S → Framing S → Type 0
+Ended s t = RanDry s.reader t.reader × NoFault s t
+
+-- what each answer means, by what is left
+abbrev pub NextAnswers : {S : Type 0} → Framing S → Result (Option (List ℕ)) FrameError → Framing S → Type 0
+NextAnswers s (Ok (Some payload)) t = Fits s.max payload × NoFault s t
+NextAnswers s (Ok None) t = (rest t ≡ []) × Ended s t
+NextAnswers s (Err (Truncated have)) t = (have ≡ length (rest t)) × IsCutShort s.max (rest t) × Ended s t
+NextAnswers s (Err (TooLong len)) t = (s.max < len) × BeginsWith len (rest t) × NoFault s t
+NextAnswers s (Err (Io e)) t =
+    (t.reader.log.reads.faults ≡ s.reader.log.reads.faults ++ error_kind e ∷ [])
+    × ((rest t ≡ []) ⊎ IsCutShort s.max (rest t))
+
+-- what is left settles the answer: it begins with a whole frame, or with a length that is too large
+abbrev pub IsSettled : ℕ → List ℕ → Type 0
+IsSettled max bytes = BeginsWhole max bytes ⊎ BeginsTooLong max bytes
+
+-- what one call of `next` does
+pub record Next {S : Type 0} (remaining : S → Option (List ℕ)) (s : Framing S)
+    (answer : Result (Option (List ℕ)) FrameError) (t : Framing S) : Type 0 where
+  pub went : FramesWent remaining s (handed answer) t
+  pub answers : NextAnswers s answer t
+  pub not_asked : IsSettled s.max (rest s) → t.reader.log ≡ s.reader.log
+  pub whole : IsFraming t
+
+-- what is lent once the next frame stands at the front
+abbrev pub loaded : {S : Type 0} → Result Bool FrameError → Framing S → Result (Option (List ℕ)) FrameError
+loaded (Ok true) t = Ok (Some (lent_payload t))
+loaded (Ok false) t = Ok None
+loaded (Err e) t = Err e

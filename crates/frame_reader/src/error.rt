@@ -1,0 +1,40 @@
+//! Why there is no next frame.
+use std::error::Error;
+use std::{fmt, io};
+
+/// Why there is no next frame. What came of it stays buffered, and the next call looks at it again.
+#[derive(Debug, Drop)]
+pub enum FrameError {
+    /// The stream ended after so many bytes of the frame, those of its length among them.
+    Truncated(usize),
+    /// The frame's payload has this length, which is more than the reader takes.
+    TooLong(u16),
+    /// The stream failed.
+    Io(io::Error),
+}
+
+impl fmt::Display for FrameError {
+    fn fmt<W: fmt::Write>(&self, f: &mut fmt::Formatter<W>) -> fmt::Result {
+        match self {
+            FrameError::Truncated(have) => write!(
+                f,
+                "the stream ended after {have} bytes of a frame"
+            ),
+            FrameError::TooLong(len) => write!(f, "a frame of {len} bytes is too long"),
+            FrameError::Io(e) => fmt::Display::fmt(e, f),
+        }
+    }
+}
+
+impl Error for FrameError {}
+
+impl From<io::Error> for FrameError {
+    ghost use Rattle.std.specs.Prelude.{◌≡◌};
+    ghost use Rattle.frame_reader.specs.declared.error.FrameError.TheVariants.{Io};
+
+    ghost from_gives = { λ e r. r ≡ Io e };
+
+    fn from(e: io::Error) -> FrameError {
+        FrameError::Io(e)
+    }
+}
