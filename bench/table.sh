@@ -2,7 +2,7 @@
 #
 # Proves and builds crates/bench, builds bench/std.rs, and prints a table in Markdown: how many instructions each case takes
 # for a byte that goes over, as callgrind counts them, whatever else the machine does. It needs valgrind; the last column
-# needs rustc. A case is one line of `cases` below; one of a new shape is a function in crates/bench/src/cases.rs and one in
+# needs rustc. A case is one line of `cases` below; one of a new shape is a function in crates/bench/src/cases.rt and one in
 # bench/std.rs too.
 set -eu
 

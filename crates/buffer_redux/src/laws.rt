@@ -26,7 +26,7 @@ use crate::copy::copy_buf;
 use crate::policy::{MinBuffered, ReaderPolicy, WriterPolicy};
 pub use between::{rebuild_reader_under, rebuild_writer_under};
 use redux_buffer::Buffer;
-pub use redux_buffer::laws::{copy_through, make_room_again, potential, ring_law};
+pub use redux_buffer::laws::{block_law, copy_through, make_room_again, potential, ring_law};
 use redux_buffer::tell::{Tell, TellRead, TellWrite, Told};
 pub use sparing::{play_sparing, spare_between};
 use std::io;
