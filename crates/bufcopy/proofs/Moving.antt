@@ -3,9 +3,8 @@ use Rattle.std.proofs.Common.{◌≡◌, ◌∙◌, ℕ, ◌-◌, ◌^◌, ◌<�
 use Rattle.std.proofs.lemmas.List.{append_cancel_left, nil_from_length}
 use Rattle.std.specs.IoError.{error_kind}
 use Rattle.std.specs.declared.io.Error.{Error}
-use Rattle.std.specs.declared.io.ErrorKind.{ErrorKind}
 use Rattle.std.specs.declared.io.ErrorKind.TheVariants.{WriteZero}
-use Rattle.buffer_redux.specs.Faults.{MetInterrupts, MetInterrupts-joins, OnlyInterrupts, SendErrorCaused, SendErrorCaused-after}
+use Rattle.buffer_redux.specs.Faults.{TookNothing, TookNothing-after, MetInterrupts, MetInterrupts-joins, OnlyInterrupts, SendErrorCaused, SendErrorCaused-after}
 use Rattle.buffer_redux.specs.StreamLog.{StreamLog, zero_of_some, zero_of_none}
 use Rattle.buffer_redux.specs.Policy.{std_read_rules, std_write_rules}
 use Rattle.buffer_redux.specs.Buffered.{Buffered}
@@ -65,40 +64,47 @@ module _ {R P W Q : Type 0} (s t : Buffered R P) (u v : Buffered W Q) (none : s.
 own_met : {W Q : Type 0} (u v : Buffered W Q)
     → MetInterrupts (writer_log u).writes (writer_log v).writes → MetInterrupts u.calls.writes v.calls.writes
 own_met u v met = record {
-  times = met.times;
-  only = record { faults = met.only.faults; zero_writes = met.only.zero_writes };
+  interrupts = met.interrupts;
+  only = record {
+    interrupted = met.only.interrupted;
+    faults = met.only.faults;
+    zero_writes = met.only.zero_writes;
+  };
 }
 
 -- what the writer inside met where the last write of a copy had this answer
 module _ {W Q : Type 0} (stretch : W → W → Type 0) (u v : Buffered W Q) (bytes : List ℕ) where
   err_caused : (e : Error)
       → LastWrite writer_log (WriterWent stretch std_write_rules) (WriterCalled std_write_rules) u bytes (Err e) v
-      → SendErrorCaused u.log.writes v.log.writes (error_kind e)
+      → SendErrorCaused u.log.writes v.log.writes e
   err_caused e last =
       let m = last.before in
-      SendErrorCaused-after u.log.writes m.log.writes v.log.writes (error_kind e)
+      SendErrorCaused-after u.log.writes m.log.writes v.log.writes e
       (last.went.met (tells_all u.policy) (own_met u m last.met))
-      (last.called.fault (tells_all m.policy) (error_kind e) (ap (λ l. l.writes.faults) last.told))
+      (last.called.fault (tells_all m.policy) e (ap (λ l. l.writes.faults) last.told))
 
   module _ (last : LastWrite writer_log (WriterWent stretch std_write_rules)
       (WriterCalled std_write_rules) u bytes (Ok 0) v) where
     stuck_caused : 0 < length bytes → 0 < u.block.capacity
-        → SendErrorCaused u.log.writes v.log.writes WriteZero
+        → (interrupts : List Error) × TookNothing interrupts u.log.writes v.log.writes WriteZero
     stuck_caused some room =
         let m = last.before in
-        SendErrorCaused-after u.log.writes m.log.writes v.log.writes WriteZero
-        (last.went.met (tells_all u.policy) (own_met u m last.met))
-        (last.called.nothing (tells_all m.policy)
+        let met = last.went.met (tells_all u.policy) (own_met u m last.met) in
+        let nothing = last.called.nothing (tells_all m.policy)
         (ap (λ l. l.writes.zero_writes) last.told
-        ∙ zero_of_none 0 bytes m.calls.writes.zero_writes refl some))
+        ∙ zero_of_none 0 bytes m.calls.writes.zero_writes refl some) in (
+          met.interrupts ++ nothing.0,
+          TookNothing-after met.interrupts nothing.0 u.log.writes m.log.writes v.log.writes WriteZero met.only nothing.1,
+        )
 
     out_met : length bytes ≡ 0 → WriterWent stretch std_write_rules u v
         → MetInterrupts u.log.writes v.log.writes
     out_met none went =
         let m = last.before in
         went.met (tells_all u.policy) (record {
-          times = last.met.times;
+          interrupts = last.met.interrupts;
           only = record {
+            interrupted = last.met.only.interrupted;
             faults = ap (λ l. l.writes.faults) last.told ∙ last.met.only.faults;
             zero_writes =
                 ap (λ l. l.writes.zero_writes) last.told
@@ -157,10 +163,10 @@ module _ {R P W Q : Type 0} {remaining : R → Option (List ℕ)} {stretch : W �
   pub copy_caused : (e : Error)
       → CopyFailed writer_log (WriterWent stretch std_write_rules) (WriterCalled std_write_rules) e
       (reader_log s).fills (reader_log t).fills u v
-      → EitherFailed (error_kind e) s.log t.log u.log v.log ⊎ OverTotal (error_kind e) s.log t.log
+      → EitherFailed e s.log t.log u.log v.log ⊎ OverTotal e s.log t.log
   copy_caused e (inl (inl source)) = inl (inl (record {
     fault = FaultsAlike-fault s.calls.fills.faults t.calls.fills.faults s.log.reads.faults t.log.reads.faults
-        (error_kind e) (went.faults refl) source.fault;
+        e (went.faults refl) source.fault;
     writer = went'.met (tells_all u.policy) (own_met u v source.writer);
   }))
   copy_caused e (inl (inr target)) = inl (inr (record {
@@ -172,20 +178,24 @@ module _ {R P W Q : Type 0} {remaining : R → Option (List ℕ)} {stretch : W �
   module _ (ended : CopyEnded writer_log (WriterWent stretch std_write_rules) (WriterCalled std_write_rules)
       (reader_log s).fills (reader_log t).fills u v) where
     -- bytes are left in the reader
-    pub left_caused : (kind : ErrorKind) → kind ≡ WriteZero → 0 < length t.block.bytes → 0 < u.block.capacity
-        → EitherFailed kind s.log t.log u.log v.log
-    left_caused kind is some room = inr (record {
-      reader = only ended.reader;
-      caused = subst (SendErrorCaused u.log.writes v.log.writes) (sym is)
-          (stuck_caused stretch u v t.block.bytes ended.last some room);
-    })
+    pub left_caused : (e : Error) → error_kind e ≡ WriteZero → 0 < length t.block.bytes → 0 < u.block.capacity
+        → EitherFailed e s.log t.log u.log v.log
+    left_caused e is some room =
+        let stuck = stuck_caused stretch u v t.block.bytes ended.last some room in
+        inr (record {
+          reader = only ended.reader;
+          caused = record {
+            interrupts = stuck.0;
+            cause = inl (subst (TookNothing stuck.0 u.log.writes v.log.writes) (sym is) stuck.1);
+          };
+        })
 
     module _ (left : length t.block.bytes ≡ 0) (v' : Buffered W Q) where
-      pub flush_caused : (kind : ErrorKind)
-          → SendErrorCaused v.log.writes v'.log.writes kind → EitherFailed kind s.log t.log u.log v'.log
-      flush_caused kind caused = inr (record {
+      pub flush_caused : (e : Error)
+          → SendErrorCaused v.log.writes v'.log.writes e → EitherFailed e s.log t.log u.log v'.log
+      flush_caused e caused = inr (record {
         reader = only ended.reader;
-        caused = SendErrorCaused-after u.log.writes v.log.writes v'.log.writes kind
+        caused = SendErrorCaused-after u.log.writes v.log.writes v'.log.writes e
             (out_met stretch u v t.block.bytes ended.last left went') caused;
       })
 
@@ -208,7 +218,7 @@ module _ {R P W Q : Type 0} {remaining : R → Option (List ℕ)} {stretch : W �
             writer =
                 MetInterrupts-joins u.log.writes v.log.writes v'.log.writes
                 (out_met stretch u v t.block.bytes ended.last left went') (record {
-                  times = flushed.interrupts;
+                  interrupts = flushed.interrupts;
                   only = flushed.only;
                 });
           }

@@ -1,6 +1,7 @@
 -- What a run moves from a reader to a writer.
 use Rattle.std.specs.Prelude.{◌≡◌, ℕ, ◌-◌, ◌^◌, ◌<◌, ◌≤◌, ◌⊎◌, List, [], ◌++◌, length}
-use Rattle.std.specs.declared.io.ErrorKind.{ErrorKind}
+use Rattle.std.specs.IoError.{error_kind}
+use Rattle.std.specs.declared.io.Error.{Error}
 use Rattle.std.specs.declared.io.ErrorKind.TheVariants.{Other, OutOfMemory}
 use Rattle.buffer_redux.specs.Block.{Block}
 use Rattle.buffer_redux.specs.StreamLog.{StreamLog}
@@ -30,27 +31,28 @@ pub record Copied (total : ℕ) (read read' written written' : StreamLog) : Type
   pub reader : OnlyInterrupts read.reads.faults read'.reads.faults
   pub writer : MetInterrupts written.writes written'.writes
 
--- sending to the writer failed with this kind, and the reader was at most interrupted
-pub record SendingFailed (kind : ErrorKind) (read read' written written' : StreamLog) : Type 0 where
+-- sending to the writer failed with this error, and the reader was at most interrupted
+pub record SendingFailed (e : Error) (read read' written written' : StreamLog) : Type 0 where
   pub reader : OnlyInterrupts read.reads.faults read'.reads.faults
-  pub caused : SendErrorCaused written.writes written'.writes kind
+  pub caused : SendErrorCaused written.writes written'.writes e
 
--- one of the streams failed with this kind
-abbrev pub EitherFailed : ErrorKind → StreamLog → StreamLog → StreamLog → StreamLog → Type 0
-EitherFailed kind read read' written written' =
-    SourceFailed kind read.reads.faults read'.reads.faults written.writes written'.writes
-    ⊎ SendingFailed kind read read' written written'
+-- one of the streams failed with this error
+abbrev pub EitherFailed : Error → StreamLog → StreamLog → StreamLog → StreamLog → Type 0
+EitherFailed e read read' written written' =
+    SourceFailed e read.reads.faults read'.reads.faults written.writes written'.writes
+    ⊎ SendingFailed e read read' written written'
 
 -- more bytes were given than a `u64` counts
-abbrev pub OverTotal : ErrorKind → StreamLog → StreamLog → Type 0
-OverTotal kind read read' = (kind ≡ Other) × (2 ^ 64 ≤ length read'.reads.given - length read.reads.given)
+abbrev pub OverTotal : Error → StreamLog → StreamLog → Type 0
+OverTotal e read read' = (error_kind e ≡ Other) × (2 ^ 64 ≤ length read'.reads.given - length read.reads.given)
 
 -- a buffer was refused before either stream was called
-abbrev pub BufferRefused : ErrorKind → StreamLog → StreamLog → StreamLog → StreamLog → Type 0
-BufferRefused kind read read' written written' = (kind ≡ OutOfMemory) × (read' ≡ read) × (written' ≡ written)
+abbrev pub BufferRefused : Error → StreamLog → StreamLog → StreamLog → StreamLog → Type 0
+BufferRefused e read read' written written' =
+    (error_kind e ≡ OutOfMemory) × (read' ≡ read) × (written' ≡ written)
 
--- why a run failed with this kind: a stream failed with it, a buffer was refused, or the total passed what a `u64` counts
-abbrev pub RunFailed : ErrorKind → StreamLog → StreamLog → StreamLog → StreamLog → Type 0
-RunFailed kind read read' written written' =
-    EitherFailed kind read read' written written'
-    ⊎ (BufferRefused kind read read' written written' ⊎ OverTotal kind read read')
+-- why a run failed with this error: a stream failed with it, a buffer was refused, or the total passed what a `u64` counts
+abbrev pub RunFailed : Error → StreamLog → StreamLog → StreamLog → StreamLog → Type 0
+RunFailed e read read' written written' =
+    EitherFailed e read read' written written'
+    ⊎ (BufferRefused e read read' written written' ⊎ OverTotal e read read')

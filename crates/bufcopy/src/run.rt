@@ -26,7 +26,7 @@ pub fn run<R: TellRead, W: TellWrite>(
     ensures copied { IfOk result.0 (λ total.
         Copied total (R.log reader) (R.log result.1) (W.log writer) (W.log result.2)) }
     ensures caused { IfErr result.0 (λ e.
-        RunFailed (error_kind e) (R.log reader) (R.log result.1) (W.log writer) (W.log result.2)) }
+        RunFailed e (R.log reader) (R.log result.1) (W.log writer) (W.log result.2)) }
     ensures a_beginning { IsBeginning (R.log reader) (R.log result.1) (W.log writer) (W.log result.2) }
     ensures not_flushed { OnErr result.0 ((W.log result.2).writes.flushed ≡ (W.log writer).writes.flushed) }
 {
@@ -99,8 +99,8 @@ fn copy_all<R: TellRead, W: TellWrite>(
     ensures copied { IfOk result (λ total.
         Copied total source.old.log source.new.log target.old.log target.new.log) }
     ensures caused { IfErr result (λ e.
-        EitherFailed (error_kind e) source.old.log source.new.log target.old.log target.new.log
-        ⊎ OverTotal (error_kind e) source.old.log source.new.log) }
+        EitherFailed e source.old.log source.new.log target.old.log target.new.log
+        ⊎ OverTotal e source.old.log source.new.log) }
     ensures a_beginning { IsBeginning source.old.log source.new.log target.old.log target.new.log }
     ensures not_flushed { OnErr result (target.new.log.writes.flushed ≡ target.old.log.writes.flushed) }
 {

@@ -1,6 +1,5 @@
 -- How what a copy's turns move adds up.
 use Rattle.std.proofs.Common.{◌∙◌, ℕ, ◌+◌, ◌<◌, List, Result, Ok, Err, IfOk, IfErr, ◌++◌, inl, inr, ap, subst, append_assoc, length-append, le_trans, arith}
-use Rattle.std.specs.IoError.{error_kind}
 use Rattle.std.specs.declared.io.Error.{Error}
 use Rattle.redux_buffer.specs.StreamLog.{StreamLog, FillLog, WriteLog}
 use Rattle.redux_buffer.specs.Faults.{OnlyInterrupts-joins, FaultAfterInterrupts-after, MetInterrupts-joins}
@@ -52,7 +51,7 @@ module _ {W : Type 0} (tells : W → StreamLog) (stretch call : W → W → Type
   pub StreamFailed-after : {e : Error} {c : FillLog} {z : W}
       → StreamFailed tells stretch call e b c y z → StreamFailed tells stretch call e a c x z
   StreamFailed-after {e} {c} {z} (inl source) = inl (record {
-    fault = FaultAfterInterrupts-after a.faults b.faults c.faults (error_kind e) before.reader source.fault;
+    fault = FaultAfterInterrupts-after a.faults b.faults c.faults e before.reader source.fault;
     writer =
         MetInterrupts-joins (tells x).writes (tells y).writes (tells z).writes before.writer source.writer;
   })

@@ -1,6 +1,5 @@
 -- What filling promises under a policy that claims something, and all that it promises.
 use Rattle.std.proofs.Common.{◌≡◌, ℕ, zero, suc, ◌+◌, ◌-◌, ◌≤◌, true, false, [], ◌∷◌, ◌++◌, length, Result, Ok, Err, refl, sym, ap, subst, ◌∙◌, arith, inl, inr, append-nil, length-append, Option, None, Some, is_ok}
-use Rattle.std.specs.IoError.{error_kind}
 use Rattle.std.specs.declared.io.Error.{Error}
 use Rattle.redux_buffer.specs.Block.{Block, IsBlock}
 use Rattle.redux_buffer.specs.Transfer.{ReadsOnce}
@@ -174,14 +173,14 @@ module _ {S P : Type 0} (rules : ReadRules P) where
     steady_err A k m t e h (inl end) = (let odd = at_steady k m t.block (Err e) t h end.asked in absurd odd)
     steady_err A k m t e h (inr end) =
         let facts = turns_facts rules k s m h in
-        let more : t.log.reads.faults ≡ m.log.reads.faults ++ error_kind e ∷ [] =
+        let more : t.log.reads.faults ≡ m.log.reads.faults ++ e ∷ [] =
         ap (λ l. l.reads.faults) end.read.told in
         record {
           faulted = λ _.
               omega (
                 arith,
                 ap length more,
-                length-append m.log.reads.faults (error_kind e ∷ []),
+                length-append m.log.reads.faults (e ∷ []),
                 ap length facts.faults,
               );
           empty = λ no. cc;

@@ -2,7 +2,6 @@
 use Rattle.std.proofs.Common.{◌≡◌, ℕ, zero, suc, ◌+◌, ◌<◌, ◌≤◌, true, List, [], ◌∷◌, ◌++◌, length, take, Result, Ok, Err, refl, sym, ap, subst, ◌∙◌, arith, inl, inr, append-nil, length-append, length-take-le, le_refl, le_trans, is_ok}
 use Rattle.std.proofs.lemmas.Bool.{cases_lt}
 use Rattle.std.proofs.lemmas.List.{nil_from_length}
-use Rattle.std.specs.IoError.{error_kind}
 use Rattle.std.specs.declared.io.Error.{Error}
 use Rattle.redux_buffer.specs.Block.{Block, Kind, Plain, Ring, OnKind, IsBlock, usable}
 use Rattle.redux_buffer.specs.LogGrows.{ReadLogGrows, ReadLogGrows-none, ReadLogGrows-joins, ReadLogGrows-read}
@@ -310,7 +309,7 @@ module _ {S P : Type 0} (rules : ReadRules P) where
       let once : t.log.reads.asks ≡ m.log.reads.asks + 1 = ap (λ l. l.reads.asks) end.read.told in record {
         holds = Holds-joins s m t before.holds (Holds-read m t end.seen _ (Err e) end.ordered.asked end.read);
         caused =
-            inl (ap (λ l. l.reads.faults) end.read.told ∙ ap (λ l. l ++ error_kind e ∷ []) before.faults);
+            inl (ap (λ l. l.reads.faults) end.read.told ∙ ap (λ l. l ++ e ∷ []) before.faults);
         ended = tt;
         empty = λ no. cc;
         last = λ some. record {

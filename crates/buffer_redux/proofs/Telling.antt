@@ -1,15 +1,15 @@
 -- How what was noted of a call fits what the call did.
-use Rattle.std.proofs.Common.{◌≡◌, ◌∙◌, ℕ, ◌+◌, ◌<◌, ◌≤◌, List, [], ◌∷◌, ◌++◌, length, Option, Result, Ok, Err, IfErr, true, inl, inr, refl, sym, ap, subst, append-nil, length-append, replicate, le_refl, arith, OnOk}
+use Rattle.std.proofs.Common.{◌≡◌, ◌∙◌, ℕ, ◌+◌, ◌<◌, ◌≤◌, List, [], ◌∷◌, ◌++◌, length, Option, Result, Ok, Err, IfErr, true, inl, inr, refl, sym, ap, subst, append-nil, length-append, le_refl, arith, OnOk}
 use Rattle.std.proofs.lemmas.Bool.{cases_lt}
-use Rattle.std.proofs.lemmas.List.{append_cancel_left, length-replicate}
-use Rattle.std.specs.IoError.{error_kind}
+use Rattle.std.proofs.lemmas.List.{append_cancel_left}
+use Rattle.std.proofs.lemmas.List.Elements.{All-head}
+use Rattle.std.specs.List.{All}
 use Rattle.std.specs.declared.io.Error.{Error}
-use Rattle.std.specs.declared.io.ErrorKind.{ErrorKind}
-use Rattle.std.specs.declared.io.ErrorKind.TheVariants.{Interrupted, WriteZero}
+use Rattle.std.specs.declared.io.ErrorKind.TheVariants.{WriteZero}
 use Rattle.redux_buffer.specs.GoesOn.{GoesOn-none}
 use Rattle.redux_buffer.specs.StreamLog.{StreamLog, WriteLog, with_end, zero_of_some, zero_of_none, after_write, after_flush}
 use Rattle.redux_buffer.specs.LogGrows.{ReadLogGrows, WriteLogGrows, FillLogGrows}
-use Rattle.redux_buffer.specs.Faults.{MetInterrupts, MetInterrupts-err, SendErrorCaused}
+use Rattle.redux_buffer.specs.Faults.{IsInterrupt, MetInterrupts, MetInterrupts-err, TookNothing, SendErrorCaused}
 use Rattle.buffer_redux.specs.Policy.{ReadRules, WriteRules, ReadsSteadily}
 use Rattle.buffer_redux.specs.Buffered.{Buffered, with_policy}
 use Rattle.buffer_redux.specs.Fill.{Ends, Filled}
@@ -48,7 +48,7 @@ fill_grows log (Err e) shown =
     record {
       consumed = GoesOn-none log.fills.consumed;
       ends = le_refl _;
-      faults = record { more = error_kind e ∷ []; equal = refl };
+      faults = record { more = e ∷ []; equal = refl };
     }
 
 -- what noting a call changes: the log of calls
@@ -169,7 +169,7 @@ module _ {S P : Type 0} (remaining : S → Option (List ℕ)) (rules : ReadRules
         second = f.caused ∙ sym (append-nil s.log.reads.faults);
       }
   faults_alike (Err e) f steady = record {
-    more = error_kind e ∷ [];
+    more = e ∷ [];
     first = refl;
     second = elim f.caused [
       | inl fault ↦ fault
@@ -249,7 +249,7 @@ write_fails s t bs (Err e) on steadily =
     omega (
       arith,
       failures_rise s.log.writes t.log.writes on steadily.err,
-      length-append s.calls.writes.faults (error_kind e ∷ []),
+      length-append s.calls.writes.faults (e ∷ []),
     )
 write_fails s t bs (Ok n) on steadily = elim (cases_lt 0 n) [
   | inl some ↦
@@ -280,14 +280,14 @@ write_fails s t bs (Ok n) on steadily = elim (cases_lt 0 n) [
 -- and so is a failed flush
 pub flush_fails : {S P : Type 0} (s t : Buffered S P) (answer : Result (Unit {0}) Error)
     → WriteLogGrows s.log.writes t.log.writes
-    → IfErr answer (λ e. SendErrorCaused s.log.writes t.log.writes (error_kind e))
+    → IfErr answer (λ e. SendErrorCaused s.log.writes t.log.writes e)
     → failures (after_flush s.calls answer).writes + failures s.log.writes
     ≤ failures s.calls.writes + failures t.log.writes
 flush_fails s t (Ok a) on caused = omega (arith, failures_kept s.log.writes t.log.writes on)
 flush_fails s t (Err e) on caused = omega (
   arith,
-  failures_rise s.log.writes t.log.writes on (blamed s.log.writes t.log.writes (error_kind e) caused),
-  length-append s.calls.writes.faults (error_kind e ∷ []),
+  failures_rise s.log.writes t.log.writes on (blamed s.log.writes t.log.writes e caused),
+  length-append s.calls.writes.faults (e ∷ []),
 )
 
 -- a call of a writer that was noted
@@ -318,27 +318,24 @@ call_went stretch rules s m t calls noted is told went grows own capacity claims
           (met tells (subst (λ l. MetInterrupts s.calls.writes l.writes) told only));
     }
 
--- of one call: the kind of its own fault, and that there is none
-same_kind : (faults : List ErrorKind) (a b : ErrorKind) → faults ++ a ∷ [] ≡ faults ++ b ∷ [] → a ≡ b
-same_kind faults a b same = let e = append_cancel_left faults (a ∷ []) (b ∷ []) same in cc
+-- of one call: its own fault, and that there is none
+same_fault : (faults : List Error) (a b : Error) → faults ++ a ∷ [] ≡ faults ++ b ∷ [] → a ≡ b
+same_fault faults a b same = let e = append_cancel_left faults (a ∷ []) (b ∷ []) same in cc
 
-no_fault : (faults : List ErrorKind) (kind : ErrorKind) → faults ≡ faults ++ kind ∷ [] → ⊥
-no_fault faults kind odd = omega (arith, ap length odd, length-append faults (kind ∷ []))
+no_fault : (faults : List Error) (e : Error) → faults ≡ faults ++ e ∷ [] → ⊥
+no_fault faults e odd = omega (arith, ap length odd, length-append faults (e ∷ []))
 
-one_interrupt : (faults : List ErrorKind) (k : ℕ) (kind : ErrorKind)
-    → faults ++ kind ∷ [] ≡ faults ++ replicate k Interrupted → kind ≡ Interrupted
-one_interrupt faults k kind same =
-    let e = append_cancel_left faults (kind ∷ []) (replicate k Interrupted) same in
-    let one : k ≡ 1 = omega (arith, ap length e, length-replicate {A = ErrorKind} k Interrupted) in
-    let f : kind ∷ [] ≡ replicate 1 Interrupted = subst (λ j. kind ∷ [] ≡ replicate j Interrupted) one e in
-    cc
+one_interrupt : (faults interrupts : List Error) (e : Error) → faults ++ e ∷ [] ≡ faults ++ interrupts
+    → All IsInterrupt interrupts → IsInterrupt e
+one_interrupt faults interrupts e same all =
+    All-head IsInterrupt e [] (subst (All IsInterrupt) (sym (append_cancel_left faults (e ∷ []) interrupts same)) all)
 
 -- a call that failed so, and was at most interrupted itself
-err_met : (own own' inner inner' : WriteLog) (kind : ErrorKind) → own'.faults ≡ own.faults ++ kind ∷ []
-    → SendErrorCaused inner inner' kind → MetInterrupts own own' → MetInterrupts inner inner'
-err_met own own' inner inner' kind fault caused met =
-    let is = one_interrupt own.faults met.times kind (sym fault ∙ met.only.faults) in
-    MetInterrupts-err inner inner' (subst (SendErrorCaused inner inner') is caused)
+err_met : (own own' inner inner' : WriteLog) (e : Error) → own'.faults ≡ own.faults ++ e ∷ []
+    → SendErrorCaused inner inner' e → MetInterrupts own own' → MetInterrupts inner inner'
+err_met own own' inner inner' e fault caused met =
+    let is = one_interrupt own.faults met.interrupts e (sym fault ∙ met.only.faults) met.only.interrupted in
+    MetInterrupts-err inner inner' e is caused
 
 module _ {S P : Type 0} (rules : WriteRules P) (s t : Buffered S P) (bs : List ℕ)
     (tells : TellsFailures rules s.policy) where
@@ -347,7 +344,7 @@ module _ {S P : Type 0} (rules : WriteRules P) (s t : Buffered S P) (bs : List �
       → MetInterrupts s.calls.writes (after_write s.calls bs answer).writes
       → MetInterrupts s.log.writes t.log.writes
   write_met (Ok n) wrote caused own = elim (Wrote-met rules s bs n t tells.1 wrote).met [
-    | inl only ↦ record { times = _; only = only }
+    | inl only ↦ record { interrupts = _; only = only }
     | inr nothing ↦
         absurd (omega (
           arith,
@@ -356,28 +353,28 @@ module _ {S P : Type 0} (rules : WriteRules P) (s t : Buffered S P) (bs : List �
         ))
   ]
   write_met (Err e) failed caused own = err_met s.calls.writes (after_write s.calls bs (Err e)).writes
-      s.log.writes t.log.writes (error_kind e) refl
+      s.log.writes t.log.writes e refl
       (steady_caused rules s t (length bs) e tells.0 caused) own
 
-  pub write_fault : (answer : Result ℕ Error) (kind : ErrorKind)
+  pub write_fault : (answer : Result ℕ Error) (f : Error)
       → WriteErrorCaused rules s (length bs) answer t
-      → (after_write s.calls bs answer).writes.faults ≡ s.calls.writes.faults ++ kind ∷ []
-      → SendErrorCaused s.log.writes t.log.writes kind
-  write_fault (Ok n) kind caused odd = absurd (no_fault s.calls.writes.faults kind odd)
-  write_fault (Err e) kind caused same =
+      → (after_write s.calls bs answer).writes.faults ≡ s.calls.writes.faults ++ f ∷ []
+      → SendErrorCaused s.log.writes t.log.writes f
+  write_fault (Ok n) f caused odd = absurd (no_fault s.calls.writes.faults f odd)
+  write_fault (Err e) f caused same =
       subst (SendErrorCaused s.log.writes t.log.writes)
-      (same_kind s.calls.writes.faults (error_kind e) kind same)
+      (same_fault s.calls.writes.faults e f same)
       (steady_caused rules s t (length bs) e tells.0 caused)
 
   pub write_nothing : (answer : Result ℕ Error)
       → Writes rules s bs answer t → SteadyWrite s (length bs) answer t
       → (after_write s.calls bs answer).writes.zero_writes ≡ s.calls.writes.zero_writes + 1
-      → SendErrorCaused s.log.writes t.log.writes WriteZero
+      → (interrupts : List Error) × TookNothing interrupts s.log.writes t.log.writes WriteZero
   write_nothing (Err e) failed steadily odd = absurd (omega (arith, odd))
   write_nothing (Ok n) wrote steadily zero =
       let met = Wrote-met rules s bs n t tells.1 wrote in
       elim met.met [
-        | inr nothing ↦ record { interrupts = met.times; cause = inl nothing.2 }
+        | inr nothing ↦ (met.interrupts, nothing.2)
         | inl only ↦ elim (cases_lt 0 n) [
           | inl some ↦ absurd (omega (arith, zero, zero_of_some n bs s.calls.writes.zero_writes (inl some)))
           | inr none ↦ elim (cases_lt 0 (length bs)) [
@@ -399,17 +396,17 @@ module _ {S P : Type 0} (rules : WriteRules P) (s t : Buffered S P) (bs : List �
 
 module _ {S P : Type 0} (s t : Buffered S P) where
   pub flush_met : (answer : Result (Unit {0}) Error) → OnOk answer (IsFlushed s t)
-      → IfErr answer (λ e. SendErrorCaused s.log.writes t.log.writes (error_kind e))
+      → IfErr answer (λ e. SendErrorCaused s.log.writes t.log.writes e)
       → MetInterrupts s.calls.writes (after_flush s.calls answer).writes
       → MetInterrupts s.log.writes t.log.writes
-  flush_met (Ok a) flushed caused own = record { times = flushed.interrupts; only = flushed.only }
+  flush_met (Ok a) flushed caused own = record { interrupts = flushed.interrupts; only = flushed.only }
   flush_met (Err e) flushed caused own = err_met s.calls.writes (after_flush s.calls (Err e)).writes
-      s.log.writes t.log.writes (error_kind e) refl caused own
+      s.log.writes t.log.writes e refl caused own
 
-  pub flush_fault : (answer : Result (Unit {0}) Error) (kind : ErrorKind)
-      → IfErr answer (λ e. SendErrorCaused s.log.writes t.log.writes (error_kind e))
-      → (after_flush s.calls answer).writes.faults ≡ s.calls.writes.faults ++ kind ∷ []
-      → SendErrorCaused s.log.writes t.log.writes kind
-  flush_fault (Ok a) kind caused odd = absurd (no_fault s.calls.writes.faults kind odd)
-  flush_fault (Err e) kind caused same = subst (SendErrorCaused s.log.writes t.log.writes)
-      (same_kind s.calls.writes.faults (error_kind e) kind same) caused
+  pub flush_fault : (answer : Result (Unit {0}) Error) (f : Error)
+      → IfErr answer (λ e. SendErrorCaused s.log.writes t.log.writes e)
+      → (after_flush s.calls answer).writes.faults ≡ s.calls.writes.faults ++ f ∷ []
+      → SendErrorCaused s.log.writes t.log.writes f
+  flush_fault (Ok a) f caused odd = absurd (no_fault s.calls.writes.faults f odd)
+  flush_fault (Err e) f caused same = subst (SendErrorCaused s.log.writes t.log.writes)
+      (same_fault s.calls.writes.faults e f same) caused

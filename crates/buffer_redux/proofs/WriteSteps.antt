@@ -1,10 +1,8 @@
 -- What each step of a write keeps.
-use Rattle.std.proofs.Common.{◌≡◌, ℕ, ◌≤◌, List, [], ◌∷◌, ◌++◌, length, take, drop, replicate, Result, Ok, Err, sym, ap, ◌∙◌, arith, inl, inr, append-nil, append_assoc, length-drop, subst}
+use Rattle.std.proofs.Common.{◌≡◌, ℕ, ◌≤◌, List, [], ◌∷◌, ◌++◌, length, take, drop, Result, Ok, Err, sym, ap, ◌∙◌, arith, inl, inr, append-nil, append_assoc, length-drop, subst}
 use Rattle.std.proofs.lemmas.Bool.{cases_lt}
 use Rattle.std.proofs.lemmas.List.{nil_from_length, take-append-drop}
-use Rattle.std.specs.IoError.{error_kind}
 use Rattle.std.specs.declared.io.Error.{Error}
-use Rattle.std.specs.declared.io.ErrorKind.TheVariants.{Interrupted}
 use Rattle.redux_buffer.specs.Block.{Block, usable}
 use Rattle.redux_buffer.specs.GoesOn.{GoesOn}
 use Rattle.redux_buffer.specs.LogGrows.{WriteLogGrows, WriteLogGrows-none, WriteLogGrows-joins, WriteLogGrows-write}
@@ -25,9 +23,9 @@ sent_faults amount b b' log log' (Err e) f = elim f.failed.cause [
   | inl nothing ↦ (record { more = _; equal = nothing.faults }, omega (arith, nothing.zero_writes))
   | inr fault ↦ (
     record {
-      more = replicate f.interrupts Interrupted ++ error_kind e ∷ [];
+      more = f.interrupts ++ e ∷ [];
       equal = fault.faults
-          ∙ append_assoc log.writes.faults (replicate f.interrupts Interrupted) (error_kind e ∷ []);
+          ∙ append_assoc log.writes.faults f.interrupts (e ∷ []);
     },
     omega (arith, fault.zero_writes),
   )

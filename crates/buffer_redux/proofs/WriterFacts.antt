@@ -1,12 +1,10 @@
 -- What follows from a whole write: what it keeps, why it failed, and why it took nothing.
-use Rattle.std.proofs.Common.{◌≡◌, ℕ, ◌+◌, ◌<◌, List, [], ◌∷◌, ◌++◌, true, length, take, replicate, Result, Ok, Err, sym, ap, ◌∙◌, arith, inl, inr, append-nil, length-append, length-drop, min, subst}
+use Rattle.std.proofs.Common.{◌≡◌, ℕ, ◌+◌, ◌<◌, List, [], ◌∷◌, ◌++◌, true, length, take, Result, Ok, Err, sym, ap, ◌∙◌, arith, inl, inr, append-nil, length-append, length-drop, min, subst}
 use Rattle.std.proofs.lemmas.Bool.{cases_lt}
-use Rattle.std.specs.IoError.{error_kind}
 use Rattle.std.specs.declared.io.Error.{Error}
-use Rattle.std.specs.declared.io.ErrorKind.{ErrorKind}
-use Rattle.std.specs.declared.io.ErrorKind.TheVariants.{Interrupted}
 use Rattle.redux_buffer.specs.Block.{Block, usable}
-use Rattle.redux_buffer.specs.Faults.{SendErrorCaused, FaultedAfter-after}
+use Rattle.std.proofs.lemmas.List.Elements.{All-nil}
+use Rattle.redux_buffer.specs.Faults.{IsInterrupt, SendErrorCaused, FaultedAfter-after}
 use Rattle.redux_buffer.specs.StreamLog.{WriteLog, taken, after_write}
 use Rattle.buffer_redux.specs.Policy.{WriteRules, BeforeWrite, FlushesSteadily}
 use Rattle.buffer_redux.specs.declared.policy.FlushAmt.{FlushAmt}
@@ -108,14 +106,14 @@ asks_steadily : {P : Type 0} (rules : WriteRules P) (p : P) (b : Block) (incomin
 asks_steadily rules p b incoming answer p' b' steady asked =
     subst (λ o. FlushesSteadily o incoming answer b') steady asked.steady
 
-pub blamed : (old new : WriteLog) (kind : ErrorKind) → SendErrorCaused old new kind → WriterFailed old new
-blamed old new kind caused = elim caused.cause [
+pub blamed : (old new : WriteLog) (e : Error) → SendErrorCaused old new e → WriterFailed old new
+blamed old new e caused = elim caused.cause [
   | inl nothing ↦ inr (omega (arith, nothing.zero_writes))
   | inr fault ↦ inl (omega (
     arith,
     ap length fault.faults,
-    length-append (old.faults ++ replicate caused.interrupts Interrupted) (kind ∷ []),
-    length-append old.faults (replicate caused.interrupts Interrupted),
+    length-append (old.faults ++ caused.interrupts) (e ∷ []),
+    length-append old.faults caused.interrupts,
   ))
 ]
 
@@ -147,7 +145,7 @@ module _ {S P : Type 0} (rules : WriteRules P) where
 
   -- why a write failed
   flush_caused : (s t : Buffered S P) (amount : ℕ) (e : Error)
-      → FlushesAmount amount s (Err e) t → SendErrorCaused s.log.writes t.log.writes (error_kind e)
+      → FlushesAmount amount s (Err e) t → SendErrorCaused s.log.writes t.log.writes e
   flush_caused s t amount e f = elim (flush_ways amount (length s.block.bytes)) [
     | inl none ↦ (let odd = (f.idle none).answered in cc)
     | inr some ↦ (
@@ -157,9 +155,9 @@ module _ {S P : Type 0} (rules : WriteRules P) where
   ]
 
   -- an error that the inner writer caused after the policy was asked
-  after_asked : (s m t : Buffered S P) (kind : ErrorKind) → m.log ≡ s.log
-      → SendErrorCaused m.log.writes t.log.writes kind → SendErrorCaused s.log.writes t.log.writes kind
-  after_asked s m t kind told caused = subst (λ l. SendErrorCaused l.writes t.log.writes kind) told caused
+  after_asked : (s m t : Buffered S P) (e : Error) → m.log ≡ s.log
+      → SendErrorCaused m.log.writes t.log.writes e → SendErrorCaused s.log.writes t.log.writes e
+  after_asked s m t e told caused = subst (λ l. SendErrorCaused l.writes t.log.writes e) told caused
 
   direct_fault : (bs : List ℕ) (m t : Buffered S P) (e : Error) → TakesIn bs m (Err e) t
       → t.log ≡ after_write m.log bs (Err e)
@@ -172,24 +170,25 @@ module _ {S P : Type 0} (rules : WriteRules P) where
       → Writes rules s bs (Err e) t → WriteErrorCaused rules s (length bs) (Err e) t
   writes_caused s bs e t (inl refused) = inl refused.asked
   writes_caused s bs e t (inr (inl p)) =
-      inr (after_asked s p.seen t (error_kind e) p.told (flush_caused p.seen t (p.amount.0) e p.flush))
+      inr (after_asked s p.seen t e p.told (flush_caused p.seen t (p.amount.0) e p.flush))
   writes_caused s bs e t (inr (inr faulted)) =
       let p = faulted.prepared in
       let m = faulted.before in
       let only = FlushesAmount-met p.seen m (p.amount.0) p.flush in
       let told = direct_fault bs m t e faulted.took_in in
-      inr (after_asked s p.seen t (error_kind e) p.told (record {
-        interrupts = only.times + 0;
-        cause = inr (FaultedAfter-after only.times 0 p.seen.log.writes m.log.writes t.log.writes
-            (error_kind e) only.only (record {
+      inr (after_asked s p.seen t e p.told (record {
+        interrupts = only.interrupts ++ [];
+        cause = inr (FaultedAfter-after only.interrupts [] p.seen.log.writes m.log.writes t.log.writes
+            e only.only (record {
+              interrupted = All-nil IsInterrupt;
               faults = ap (λ l. l.writes.faults) told
-                  ∙ ap (λ l. l ++ error_kind e ∷ []) (sym (append-nil m.log.writes.faults));
+                  ∙ ap (λ l. l ++ e ∷ []) (sym (append-nil m.log.writes.faults));
               zero_writes = ap (λ l. l.writes.zero_writes) told;
             }));
       }))
 
   pub steady_caused : (s t : Buffered S P) (incoming : ℕ) (e : Error) → (rules.claims s.policy).steady ≡ true
-      → WriteErrorCaused rules s incoming (Err e) t → SendErrorCaused s.log.writes t.log.writes (error_kind e)
+      → WriteErrorCaused rules s incoming (Err e) t → SendErrorCaused s.log.writes t.log.writes e
   steady_caused s t incoming e steady (inl refused) =
       absurd (asks_steadily rules s.policy s.block incoming (Err e) t.policy t.block steady refused)
   steady_caused s t incoming e steady (inr caused) = caused
@@ -204,7 +203,7 @@ module _ {S P : Type 0} (rules : WriteRules P) where
     ];
   }
   writes_steadily s bs (Err e) t failed steady = record {
-    err = blamed s.log.writes t.log.writes (error_kind e)
+    err = blamed s.log.writes t.log.writes e
         (steady_caused s t (length bs) e steady (writes_caused s bs e t failed));
     empty = λ is. cc;
   }

@@ -1,7 +1,6 @@
 -- What the calls of a buffered reader promise.
 use Rattle.std.specs.Prelude.{◌≡◌, ℕ, ◌+◌, ◌-◌, ◌<◌, ◌≤◌, ◌⊎◌, List, [], ◌∷◌, ◌++◌, length, drop, min, Result, Ok, Err, Bool, true, false, Option, None, Some, is_ok, IfOk, MatchResult, ⊤}
 use Rattle.std.specs.Borrow.{Bor}
-use Rattle.std.specs.IoError.{error_kind}
 use Rattle.std.specs.declared.io.Error.{Error}
 use Rattle.redux_buffer.specs.Block.{Block, IsBlock, ConsumesFirst, OnlyRingMoves, usable}
 use Rattle.redux_buffer.specs.LogGrows.{ReadLogGrows}
@@ -36,7 +35,7 @@ pub record PolicyDeclined {S P : Type 0} (rules : ReadRules P) (s : Buffered S P
 abbrev pub ReadErrorCaused : {S P A : Type 0} → ReadRules P → Buffered S P → Result A Error → Buffered S P → Type 0
 ReadErrorCaused rules s (Ok a) t = t.log.reads.faults ≡ s.log.reads.faults
 ReadErrorCaused rules s (Err e) t =
-    (t.log.reads.faults ≡ s.log.reads.faults ++ error_kind e ∷ []) ⊎ PolicyGave rules (Err e) t
+    (t.log.reads.faults ≡ s.log.reads.faults ++ e ∷ []) ⊎ PolicyGave rules (Err e) t
 
 -- the reader gave nothing though it was asked for something
 abbrev pub RanDry : {S P : Type 0} → Buffered S P → Buffered S P → Type 0

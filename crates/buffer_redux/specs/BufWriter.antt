@@ -1,6 +1,5 @@
 -- What the calls of a buffered writer do and promise.
 use Rattle.std.specs.Prelude.{◌≡◌, ℕ, ◌+◌, ◌-◌, ◌<◌, ◌≤◌, ◌⊎◌, List, [], ◌∷◌, ◌++◌, length, min, Option, Some, Result, Ok, Err, MatchResult, true, IfErr, OnOk, OnErr}
-use Rattle.std.specs.IoError.{error_kind}
 use Rattle.std.specs.declared.io.Error.{Error}
 use Rattle.std.specs.declared.io.traits.SeekFrom.{SeekFrom}
 use Rattle.redux_buffer.specs.Block.{Block, IsBlock, Extends, MakesRoom, usable}
@@ -116,7 +115,7 @@ WritesOn rules amount m bs (Err e) t = FlushesAmount amount m (Err e) t ⊎ Faul
 abbrev pub WriteErrorCaused : {S P : Type 0} → WriteRules P → Buffered S P → ℕ → Result ℕ Error → Buffered S P → Type 0
 WriteErrorCaused rules s incoming answer t = IfErr answer (λ e.
     BeforeWrite rules s.policy s.block incoming (Err e) t.policy t.block
-    ⊎ SendErrorCaused s.log.writes t.log.writes (error_kind e))
+    ⊎ SendErrorCaused s.log.writes t.log.writes e)
 
 -- no space was free as the call began, and flushing before the copy made none
 pub record NoSpace {S P : Type 0} (rules : WriteRules P) (s : Buffered S P) (incoming : ℕ) : Type 0 where
@@ -170,7 +169,7 @@ pub record IsFlushed {S P : Type 0} (s t : Buffered S P) : Type 0 where
   pub empty : t.block.bytes ≡ []
   pub received : t.log.writes.received ≡ s.log.writes.received ++ s.block.bytes
   pub flushed : t.log.writes.flushed ≡ t.log.writes.received
-  pub interrupts : ℕ
+  pub interrupts : List Error
   pub only : OnlyInterrupted interrupts s.log.writes t.log.writes
 
 -- all that is promised of a flush with this answer
@@ -179,7 +178,7 @@ pub record WasFlushed {S P : Type 0} (tells : S → StreamLog) (stretch : S → 
   pub steps : Flushes s answer t
   pub in_order : WritesInOrder s [] t
   pub ok : OnOk answer (IsFlushed s t)
-  pub caused : IfErr answer (λ e. SendErrorCaused s.log.writes t.log.writes (error_kind e))
+  pub caused : IfErr answer (λ e. SendErrorCaused s.log.writes t.log.writes e)
   pub went : InnerWent tells stretch s t
 
 -- one seek of the inner writer; neither the policy nor the buffer was touched
@@ -211,7 +210,7 @@ pub record IsSought {S P : Type 0} (s : Buffered S P) (to : SeekFrom) (answer : 
 
 -- the flush failed, and the inner writer was not asked to seek
 pub record NotSought {S P : Type 0} (s : Buffered S P) (e : Error) (t : Buffered S P) : Type 0 where
-  pub caused : SendErrorCaused s.log.writes t.log.writes (error_kind e)
+  pub caused : SendErrorCaused s.log.writes t.log.writes e
   pub asked : t.log.seeks.calls ≡ s.log.seeks.calls
 
 -- an error is that of the flush, or of the inner writer's seek

@@ -3,7 +3,6 @@ use Rattle.std.specs.Prelude.{◌≡◌, ℕ, ◌+◌, ◌^◌, ◌<◌, ◌≤�
 use Rattle.std.specs.Io.KnownBytes.{Consumes}
 use Rattle.std.specs.IoError.{error_kind}
 use Rattle.std.specs.declared.io.Error.{Error}
-use Rattle.std.specs.declared.io.ErrorKind.{ErrorKind}
 use Rattle.std.specs.declared.io.ErrorKind.TheVariants.{Other}
 use Rattle.redux_buffer.specs.StreamLog.{StreamLog, FillLog, WriteLog, after_write}
 use Rattle.redux_buffer.specs.Faults.{OnlyInterrupts, FaultAfterInterrupts, MetInterrupts}
@@ -40,9 +39,9 @@ pub record CopyEnded {W : Type 0} (tells : W → StreamLog) (stretch call : W �
   pub last : LastWrite tells stretch call w from'.shown (Ok 0) w'
   pub ends : length from'.shown ≡ 0 → from.ends < from'.ends
 
--- the reader, whose faults these are, failed with this kind, and the writer was at most interrupted
-pub record SourceFailed (kind : ErrorKind) (faults faults' : List ErrorKind) (to to' : WriteLog) : Type 0 where
-  pub fault : FaultAfterInterrupts faults faults' kind
+-- the reader, whose faults these are, failed with this error, and the writer was at most interrupted
+pub record SourceFailed (e : Error) (faults faults' : List Error) (to to' : WriteLog) : Type 0 where
+  pub fault : FaultAfterInterrupts faults faults' e
   pub writer : MetInterrupts to to'
 
 -- the last write, of all that is shown, failed with this error, and the reader was at most interrupted
@@ -54,7 +53,7 @@ pub record TargetFailed {W : Type 0} (tells : W → StreamLog) (stretch call : W
 abbrev pub StreamFailed : {W : Type 0} → (W → StreamLog) → (W → W → Type 0) → (W → W → Type 0) → Error
     → FillLog → FillLog → W → W → Type 0
 StreamFailed tells stretch call e from from' w w' =
-    SourceFailed (error_kind e) from.faults from'.faults (tells w).writes (tells w').writes
+    SourceFailed e from.faults from'.faults (tells w).writes (tells w').writes
     ⊎ TargetFailed tells stretch call e from from' w w'
 
 -- more bytes were moved than a `u64` counts, and the streams were at most interrupted

@@ -50,7 +50,7 @@ pub record FlushDone {S P : Type 0} (s t : Buffered S P) : Type 0 where
 pub record FlushFailed {S P : Type 0} (s : Buffered S P) (kind : ErrorKind) (t : Buffered S P) : Type 0 where
   pub error : Error
   pub is_kind : error_kind error ≡ kind
-  pub caused : SendErrorCaused s.log.writes t.log.writes kind
+  pub caused : SendErrorCaused s.log.writes t.log.writes error
   pub steps : Flushes s (Err error) t
 
 -- `MakeRoom` with `Done`: the same bytes, with all free space usable

@@ -1,10 +1,8 @@
 -- What a buffered reader tells of its own calls, and what any of them, one after another, may do to it.
-use Rattle.std.specs.Prelude.{◌≡◌, ℕ, ◌+◌, ◌<◌, ◌≤◌, List, [], ◌∷◌, ◌++◌, replicate, Option, Result, Ok, Err, true}
+use Rattle.std.specs.Prelude.{◌≡◌, ℕ, ◌+◌, ◌<◌, ◌≤◌, List, [], ◌∷◌, ◌++◌, Option, Result, Ok, Err, true}
 use Rattle.std.proofs.Common.{refl, sym, ap, subst, ◌∙◌, arith, le_refl, le_trans, append-nil, append_assoc}
 use Rattle.std.specs.Borrow.{Bor}
 use Rattle.std.specs.declared.io.Error.{Error}
-use Rattle.std.specs.declared.io.ErrorKind.{ErrorKind}
-use Rattle.std.specs.declared.io.ErrorKind.TheVariants.{Interrupted}
 use Rattle.std.proofs.lemmas.List.{append_cancel_left}
 use Rattle.redux_buffer.specs.Faults.{OnlyInterrupts, FaultAfterInterrupts}
 use Rattle.redux_buffer.specs.StreamLog.{StreamLog, FillTells, with_shown, after_shown, after_fill_fault}
@@ -24,8 +22,8 @@ after_fill log (Ok a) shown = after_shown log shown
 after_fill log (Err e) shown = after_fill_fault log shown e
 
 -- the same faults came to two lists
-pub record FaultsAlike (old new old' new' : List ErrorKind) : Type 0 where
-  pub more : List ErrorKind
+pub record FaultsAlike (old new old' new' : List Error) : Type 0 where
+  pub more : List Error
   pub first : new ≡ old ++ more
   pub second : new' ≡ old' ++ more
 
@@ -55,10 +53,10 @@ pub record FillTold {S P : Type 0} (remaining : S → Option (List ℕ)) (rules 
   pub went : ReaderWent remaining rules s t
   pub fills : Fills rules s answer t
 
-FaultsAlike-none : (xs ys : List ErrorKind) → FaultsAlike xs xs ys ys
+FaultsAlike-none : (xs ys : List Error) → FaultsAlike xs xs ys ys
 FaultsAlike-none xs ys = record { more = []; first = sym (append-nil xs); second = sym (append-nil ys) }
 
-FaultsAlike-joins : (a b c a' b' c' : List ErrorKind) → FaultsAlike a b a' b' → FaultsAlike b c b' c'
+FaultsAlike-joins : (a b c a' b' c' : List Error) → FaultsAlike a b a' b' → FaultsAlike b c b' c'
     → FaultsAlike a c a' c'
 FaultsAlike-joins a b c a' b' c' p q = record {
   more = p.more ++ q.more;
@@ -67,22 +65,24 @@ FaultsAlike-joins a b c a' b' c' p q = record {
 }
 
 -- what interrupted calls are in one list, they are in the other
-pub FaultsAlike-only : (a b a' b' : List ErrorKind)
+pub FaultsAlike-only : (a b a' b' : List Error)
     → FaultsAlike a b a' b' → OnlyInterrupts a b → OnlyInterrupts a' b'
 FaultsAlike-only a b a' b' alike only = record {
-  times = only.times;
+  interrupts = only.interrupts;
+  interrupted = only.interrupted;
   faults = alike.second ∙ ap (λ l. a' ++ l)
-      (append_cancel_left a alike.more (replicate only.times Interrupted) (sym alike.first ∙ only.faults));
+      (append_cancel_left a alike.more only.interrupts (sym alike.first ∙ only.faults));
 }
 
-pub FaultsAlike-fault : (a b a' b' : List ErrorKind) (kind : ErrorKind) → FaultsAlike a b a' b'
-    → FaultAfterInterrupts a b kind → FaultAfterInterrupts a' b' kind
-FaultsAlike-fault a b a' b' kind alike fault = record {
-  times = fault.times;
+pub FaultsAlike-fault : (a b a' b' : List Error) (e : Error) → FaultsAlike a b a' b'
+    → FaultAfterInterrupts a b e → FaultAfterInterrupts a' b' e
+FaultsAlike-fault a b a' b' e alike fault = record {
+  interrupts = fault.interrupts;
+  interrupted = fault.interrupted;
   faults = alike.second ∙ ap (λ l. a' ++ l) (append_cancel_left a alike.more
-      (replicate fault.times Interrupted ++ kind ∷ [])
-      (sym alike.first ∙ fault.faults ∙ append_assoc a (replicate fault.times Interrupted) (kind ∷ [])))
-      ∙ sym (append_assoc a' (replicate fault.times Interrupted) (kind ∷ []));
+      (fault.interrupts ++ e ∷ [])
+      (sym alike.first ∙ fault.faults ∙ append_assoc a fault.interrupts (e ∷ [])))
+      ∙ sym (append_assoc a' fault.interrupts (e ∷ []));
 }
 
 module _ {S P : Type 0} (remaining : S → Option (List ℕ)) (rules : ReadRules P) where

@@ -2,7 +2,6 @@
 use Rattle.std.specs.Prelude.{◌≡◌, ◌⊎◌, [], length, Result, MatchResult}
 use Rattle.std.specs.Borrow.{MutBor}
 use Rattle.std.specs.declared.io.Error.{Error}
-use Rattle.std.specs.declared.io.ErrorKind.{ErrorKind}
 use Rattle.redux_buffer.specs.Block.{Block, Clears}
 use Rattle.redux_buffer.specs.Faults.{SendErrorCaused}
 use Rattle.redux_buffer.specs.StreamLog.{StreamLog}
@@ -51,7 +50,7 @@ pub record KeepsUnsent {S P : Type 0} (tells : S → StreamLog) (s : Buffered S 
   pub sending : Result (Unit {0}) Error
   pub sends : Sends (length s.block.bytes) s.block s.log sending b (tells inner)
   pub in_order : WritesInOrder s [] (with_inner tells (with_block s b) inner)
-  pub why : (b.bytes ≡ []) ⊎ ((kind : ErrorKind) × SendErrorCaused s.log.writes (tells inner).writes kind)
+  pub why : (b.bytes ≡ []) ⊎ ((e : Error) × SendErrorCaused s.log.writes (tells inner).writes e)
 
 -- all bytes were sent, or those that a fault left unsent were dropped, and the buffer keeps its capacity
 pub record DropsUnsent {S P : Type 0} (tells : S → StreamLog) (s : Buffered S P) (inner : S) (b : Block) : Type 0 where

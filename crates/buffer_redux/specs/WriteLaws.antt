@@ -1,10 +1,8 @@
 -- What every Ok write returned and left, for the proofs of those who call one.
-use Rattle.std.specs.Prelude.{◌≡◌, ℕ, ◌-◌, ◌<◌, ◌≤◌, List, [], ◌∷◌, ◌++◌, length, take, drop, min, replicate, nat_lt, if◌then◌else◌, Result, Ok, Err, OnOk, IfOk, IfErr}
+use Rattle.std.specs.Prelude.{◌≡◌, ℕ, ◌-◌, ◌<◌, ◌≤◌, List, [], ◌∷◌, ◌++◌, length, take, drop, min, nat_lt, if◌then◌else◌, Result, Ok, Err, OnOk, IfOk, IfErr}
 use Rattle.std.proofs.Common.{sym, ap, ◌∙◌, arith, rules, inl, inr, length-append}
 use Rattle.std.proofs.lemmas.Bool.{cases_lt, lt-ltb, le-ltb}
-use Rattle.std.specs.IoError.{error_kind}
 use Rattle.std.specs.declared.io.Error.{Error}
-use Rattle.std.specs.declared.io.ErrorKind.TheVariants.{Interrupted}
 use Rattle.redux_buffer.specs.Block.{Block, usable}
 use Rattle.redux_buffer.specs.Faults.{SendErrorCaused}
 use Rattle.redux_buffer.specs.StreamLog.{WriteLog, after_write, with_zero}
@@ -19,7 +17,7 @@ pub record FlushStopped {S P : Type 0} (amount : ℕ) (s : Buffered S P) (e : Er
   pub most : count ≤ amount
   pub received : t.log.writes.received ≡ s.log.writes.received ++ take count s.block.bytes
   pub left : t.block.bytes ≡ drop count s.block.bytes
-  pub caused : SendErrorCaused s.log.writes t.log.writes (error_kind e)
+  pub caused : SendErrorCaused s.log.writes t.log.writes e
 
 -- what the flush of an amount leaves: the bytes behind the first amount, or all of them where there are fewer
 pub record FlushLeaves {S P : Type 0} (amount : ℕ)
@@ -122,8 +120,8 @@ module _ {S P : Type 0} (amount : ℕ) where
           arith,
           faults,
           ap length fault.faults,
-          length-append (s.log.writes.faults ++ replicate stopped.caused.interrupts Interrupted) (error_kind e ∷ []),
-          length-append s.log.writes.faults (replicate stopped.caused.interrupts Interrupted),
+          length-append (s.log.writes.faults ++ stopped.caused.interrupts) (e ∷ []),
+          length-append s.log.writes.faults stopped.caused.interrupts,
         ))
       ]
 
@@ -188,7 +186,7 @@ module _ {S P : Type 0} (rules : WriteRules P) (s : Buffered S P) (bs : List ℕ
         let p = wrote.prepared in
         let met = FlushesAmount-met p.seen wrote.before (p.amount.0) p.flush in
         let told = ap (λ l. length l.writes.faults) p.told in
-        let more = length-append p.seen.log.writes.faults (replicate met.times Interrupted) in
+        let more = length-append p.seen.log.writes.faults met.interrupts in
         elim (ways_in wrote.before.block (length bs)) [
           | inl past ↦ omega (
             arith,

@@ -2,6 +2,7 @@
 use Rattle.std.specs.Prelude.{◌≡◌, ℕ, ◌+◌, ◌<◌, ◌≤◌, ◌⊎◌, List, [], ◌++◌, length, Ok}
 use Rattle.std.proofs.Common.{sym, ap, subst, refl, ◌∙◌, arith, inl, inr, append_assoc, append-nil}
 use Rattle.std.proofs.lemmas.Bool.{cases_lt}
+use Rattle.std.specs.declared.io.Error.{Error}
 use Rattle.std.specs.declared.io.ErrorKind.TheVariants.{WriteZero}
 use Rattle.redux_buffer.specs.Block.{Block}
 use Rattle.redux_buffer.specs.Faults.{OnlyInterrupted, OnlyInterrupted-none, MetInterrupts, TookNothing}
@@ -65,10 +66,10 @@ pub FlushesAmount-met : {S P : Type 0} (s t : Buffered S P) (amount : ℕ) → F
     → MetInterrupts s.log.writes t.log.writes
 FlushesAmount-met s t amount f = elim (flush_ways amount (length s.block.bytes)) [
   | inl none ↦ record {
-    times = 0;
-    only = subst (λ l. OnlyInterrupted 0 s.log.writes l.writes) (sym (f.idle none).told) (OnlyInterrupted-none s.log.writes);
+    interrupts = [];
+    only = subst (λ l. OnlyInterrupted [] s.log.writes l.writes) (sym (f.idle none).told) (OnlyInterrupted-none s.log.writes);
   }
-  | inr some ↦ (let sends = f.sends some.0 some.1 in record { times = sends.interrupts; only = sends.ok })
+  | inr some ↦ (let sends = f.sends some.0 some.1 in record { interrupts = sends.interrupts; only = sends.ok })
 ]
 
 -- the rules have nothing flushed after a write, as those of `StdPolicy` have
@@ -79,16 +80,17 @@ FlushesNothingAfter {P} rules =
 -- what an Ok write met where nothing is flushed after it: interrupted writes, and then perhaps one that took nothing of
 -- something, where that is what it returns
 pub record WriteMet {S P : Type 0} (s : Buffered S P) (bs : List ℕ) (n : ℕ) (t : Buffered S P) : Type 0 where
-  pub times : ℕ
-  pub met : OnlyInterrupted times s.log.writes t.log.writes
-      ⊎ ((n ≡ 0) × (0 < length bs) × TookNothing times s.log.writes t.log.writes WriteZero)
+  pub interrupts : List Error
+  pub met : OnlyInterrupted interrupts s.log.writes t.log.writes
+      ⊎ ((n ≡ 0) × (0 < length bs) × TookNothing interrupts s.log.writes t.log.writes WriteZero)
 
 -- a call of the writer inside that took n of bs
-direct_met : (times n : ℕ) (bs : List ℕ) (a b c : WriteLog) → OnlyInterrupted times a b → c.faults ≡ b.faults
+direct_met : (es : List Error) (n : ℕ) (bs : List ℕ) (a b c : WriteLog) → OnlyInterrupted es a b → c.faults ≡ b.faults
     → c.zero_writes ≡ with_zero b.zero_writes bs (Ok n)
-    → OnlyInterrupted times a c ⊎ ((n ≡ 0) × (0 < length bs) × TookNothing times a c WriteZero)
-direct_met times n bs a b c only faults zero = elim (cases_lt 0 n) [
+    → OnlyInterrupted es a c ⊎ ((n ≡ 0) × (0 < length bs) × TookNothing es a c WriteZero)
+direct_met es n bs a b c only faults zero = elim (cases_lt 0 n) [
   | inl some ↦ inl (record {
+    interrupted = only.interrupted;
     faults = faults ∙ only.faults;
     zero_writes = zero
         ∙ zero_of_some n bs b.zero_writes (inl some) ∙ only.zero_writes;
@@ -99,12 +101,14 @@ direct_met times n bs a b c only faults zero = elim (cases_lt 0 n) [
       room,
       record {
         is_write_zero = refl;
+        interrupted = only.interrupted;
         faults = faults ∙ only.faults;
         zero_writes = zero ∙ zero_of_none n bs b.zero_writes (omega (arith, none)) room
             ∙ ap (λ z. z + 1) only.zero_writes;
       },
     )
     | inr empty ↦ inl (record {
+      interrupted = only.interrupted;
       faults = faults ∙ only.faults;
       zero_writes = zero
           ∙ zero_of_some n bs b.zero_writes (inr (omega (arith, empty))) ∙ only.zero_writes;
@@ -119,21 +123,21 @@ Wrote-met rules s bs n t nothing_after wrote =
     let first = FlushesAmount-met p.seen wrote.before (p.amount.0) p.flush in
     let still : t.log ≡ wrote.after.log = (wrote.finished.flush.idle
     (inl (nothing_after _ _ wrote.finished.amount _ wrote.finished.asked.allowed))).told in
-    let only : OnlyInterrupted first.times s.log.writes wrote.before.log.writes =
-    subst (λ l. OnlyInterrupted first.times l.writes wrote.before.log.writes) p.told first.only in
-    let last : OnlyInterrupted first.times s.log.writes wrote.after.log.writes
-    ⊎ ((n ≡ 0) × (0 < length bs) × TookNothing first.times s.log.writes wrote.after.log.writes WriteZero) =
+    let only : OnlyInterrupted first.interrupts s.log.writes wrote.before.log.writes =
+    subst (λ l. OnlyInterrupted first.interrupts l.writes wrote.before.log.writes) p.told first.only in
+    let last : OnlyInterrupted first.interrupts s.log.writes wrote.after.log.writes
+    ⊎ ((n ≡ 0) × (0 < length bs) × TookNothing first.interrupts s.log.writes wrote.after.log.writes WriteZero) =
     elim (ways_in wrote.before.block (length bs)) [
       | inl past ↦ (
           let told = (wrote.took_in.past past).told in
-          direct_met first.times n bs s.log.writes wrote.before.log.writes wrote.after.log.writes only
+          direct_met first.interrupts n bs s.log.writes wrote.before.log.writes wrote.after.log.writes only
           (ap (λ l. l.writes.faults) told) (ap (λ l. l.writes.zero_writes) told)
           )
       | inr inside ↦ inl
-          (subst (λ l. OnlyInterrupted first.times s.log.writes l.writes) (sym (wrote.took_in.inside inside).told) only)
+          (subst (λ l. OnlyInterrupted first.interrupts s.log.writes l.writes) (sym (wrote.took_in.inside inside).told) only)
     ] in
     record {
-      times = first.times;
-      met = subst (λ l. OnlyInterrupted first.times s.log.writes l.writes
-          ⊎ ((n ≡ 0) × (0 < length bs) × TookNothing first.times s.log.writes l.writes WriteZero)) (sym still) last;
+      interrupts = first.interrupts;
+      met = subst (λ l. OnlyInterrupted first.interrupts s.log.writes l.writes
+          ⊎ ((n ≡ 0) × (0 < length bs) × TookNothing first.interrupts s.log.writes l.writes WriteZero)) (sym still) last;
     }

@@ -1,9 +1,9 @@
 -- What a buffered writer tells of its own calls, and what any of them, one after another, may do to it.
-use Rattle.std.specs.Prelude.{◌≡◌, ℕ, ◌+◌, ◌≤◌, [], ◌∷◌, ◌++◌, length, true}
+use Rattle.std.specs.Prelude.{◌≡◌, ℕ, ◌+◌, ◌≤◌, List, [], ◌∷◌, ◌++◌, length, true}
 use Rattle.std.proofs.Common.{refl, ap, ◌∙◌, arith, le_refl, le_trans}
-use Rattle.std.specs.declared.io.ErrorKind.{ErrorKind}
+use Rattle.std.specs.declared.io.Error.{Error}
 use Rattle.std.specs.declared.io.ErrorKind.TheVariants.{WriteZero}
-use Rattle.redux_buffer.specs.Faults.{MetInterrupts, MetInterrupts-joins, MetInterrupts-parts, OnlyInterrupted-none, SendErrorCaused}
+use Rattle.redux_buffer.specs.Faults.{MetInterrupts, MetInterrupts-joins, MetInterrupts-parts, OnlyInterrupted-none, TookNothing, SendErrorCaused}
 use Rattle.redux_buffer.specs.StreamLog.{StreamLog, WriteLog}
 use Rattle.redux_buffer.specs.LogGrows.{WriteLogGrows, WriteLogGrows-none, WriteLogGrows-joins, WritesGoOn, WritesGoOn-of}
 use Rattle.buffer_redux.specs.Policy.{WriteRules}
@@ -42,15 +42,16 @@ pub record WriterWent {S P : Type 0} (stretch : S → S → Type 0) (rules : Wri
   pub met : TellsFailures rules s.policy → MetInterrupts s.calls.writes t.calls.writes
       → MetInterrupts s.log.writes t.log.writes
 
--- one call where no failure is kept back: a fault that it returned, and a write that took nothing of something, is what
--- the inner writer met last, after interrupted writes
+-- one call where no failure is kept back: an error that it returned is the one that the inner writer returned last, or
+-- came of a write that took nothing of something; and so did an answer that took nothing of something. Before that came
+-- interrupted writes alone
 pub record WriterCalled {S P : Type 0} (rules : WriteRules P) (s t : Buffered S P) : Type 0 where
-  pub fault : TellsFailures rules s.policy → (kind : ErrorKind)
-      → t.calls.writes.faults ≡ s.calls.writes.faults ++ kind ∷ []
-      → SendErrorCaused s.log.writes t.log.writes kind
+  pub fault : TellsFailures rules s.policy → (e : Error)
+      → t.calls.writes.faults ≡ s.calls.writes.faults ++ e ∷ []
+      → SendErrorCaused s.log.writes t.log.writes e
   pub nothing : TellsFailures rules s.policy
       → t.calls.writes.zero_writes ≡ s.calls.writes.zero_writes + 1
-      → SendErrorCaused s.log.writes t.log.writes WriteZero
+      → (interrupts : List Error) × TookNothing interrupts s.log.writes t.log.writes WriteZero
 
 module _ {S P : Type 0} (stretch : S → S → Type 0) (rules : WriteRules P) where
   -- the interrupted calls of a stretch are those of its parts
@@ -59,14 +60,29 @@ module _ {S P : Type 0} (stretch : S → S → Type 0) (rules : WriteRules P) wh
       → MetInterrupts a.calls.writes b.calls.writes × MetInterrupts b.calls.writes c.calls.writes
   parts_of a b c p q met =
       let parts = MetInterrupts-parts (writer_log a).writes (writer_log b).writes (writer_log c).writes p q
-      (record { times = met.times; only = record { faults = met.only.faults; zero_writes = met.only.zero_writes } }) in (
+      (record {
+        interrupts = met.interrupts;
+        only = record {
+          interrupted = met.only.interrupted;
+          faults = met.only.faults;
+          zero_writes = met.only.zero_writes;
+        };
+      }) in (
         record {
-          times = parts.0.times;
-          only = record { faults = parts.0.only.faults; zero_writes = parts.0.only.zero_writes };
+          interrupts = parts.0.interrupts;
+          only = record {
+            interrupted = parts.0.only.interrupted;
+            faults = parts.0.only.faults;
+            zero_writes = parts.0.only.zero_writes;
+          };
         },
         record {
-          times = parts.1.times;
-          only = record { faults = parts.1.only.faults; zero_writes = parts.1.only.zero_writes };
+          interrupts = parts.1.interrupts;
+          only = record {
+            interrupted = parts.1.only.interrupted;
+            faults = parts.1.only.faults;
+            zero_writes = parts.1.only.zero_writes;
+          };
         },
       )
 
@@ -78,7 +94,7 @@ module _ {S P : Type 0} (stretch : S → S → Type 0) (rules : WriteRules P) wh
     capacity = le_refl _;
     claims = refl;
     fails = λ steady. le_refl _;
-    met = λ tells only. record { times = 0; only = OnlyInterrupted-none s.log.writes };
+    met = λ tells only. record { interrupts = []; only = OnlyInterrupted-none s.log.writes };
   }
 
   pub WriterWent-joins : ((u v w : S) → stretch u v → stretch v w → stretch u w) → (a b c : Buffered S P)

@@ -4,7 +4,6 @@ ghost use Rattle.std.specs.Borrow.{sem, Lends};
 ghost use Rattle.std.specs.Io.{WritesAtMost};
 ghost use Rattle.std.specs.Io.KnownBytes.{Keeps, WriteAppends};
 ghost use Rattle.std.specs.Io.Seek.{SeekMoves};
-ghost use Rattle.std.specs.IoError.{error_kind};
 ghost use Rattle.redux_buffer.specs.Block.{Plain, Ring, IsBlock, Reserves, MakesRoom, MovesToFront};
 ghost use Rattle.redux_buffer.specs.Block.{capacity_for, round, usable};
 ghost use Rattle.redux_buffer.specs.GrowError.{FitsWithin};
@@ -299,7 +298,7 @@ impl<W: TellWrite, P: WriterPolicy> Write for BufWriter<W, P> {
         ensures grows { WriteLogGrows self.old.log.writes self.new.log.writes }
         ensures ok { OnOk result (IsFlushed self.old self.new) }
         ensures not_flushed { OnErr result (self.new.log.writes.flushed ≡ self.old.log.writes.flushed) }
-        ensures caused { IfErr result (λ e. SendErrorCaused self.old.log.writes self.new.log.writes (error_kind e)) }
+        ensures caused { IfErr result (λ e. SendErrorCaused self.old.log.writes self.new.log.writes e) }
         ensures capacity { self.new.block.capacity ≡ self.old.block.capacity }
         ensures whole { IsBlock self.new.block }
         ensures steps { Flushes self.old result self.new }

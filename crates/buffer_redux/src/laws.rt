@@ -131,7 +131,7 @@ pub fn flush_known<S: Write, P: WriterPolicy>(writer: &mut BufWriter<Told<S>, P>
         (S.contents (told_stream writer.new.inner)) writer.old.block.bytes) }
     ensures flushed { OnOk result (IsFlushed writer.old writer.new) }
     ensures caused { IfErr result (λ e.
-        SendErrorCaused writer.old.log.writes writer.new.log.writes (error_kind e)) }
+        SendErrorCaused writer.old.log.writes writer.new.log.writes e) }
     ensures steps { Flushes writer.old result writer.new }
 {
     writer.flush()

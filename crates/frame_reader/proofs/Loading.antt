@@ -4,7 +4,6 @@ use Rattle.std.proofs.lemmas.List.{append_cancel_left, nil_from_length, take-app
 use Rattle.std.specs.Prelude.{slice_range}
 use Rattle.std.proofs.Math.Seq.{drop-append-add}
 use Rattle.std.proofs.lemmas.List.Elements.{All-nil, All-cons}
-use Rattle.std.specs.IoError.{error_kind}
 use Rattle.std.specs.declared.io.Error.{Error}
 use Rattle.buffer_redux.specs.BufReader.{RanDry}
 use Rattle.frame_reader.specs.declared.error.FrameError.TheVariants.{Truncated, TooLong, Io}
@@ -97,12 +96,12 @@ module _ {S : Type 0} (remaining : S → Option (List ℕ)) (s m u : Framing S)
   faults_m : m.reader.log.reads.faults ≡ s.reader.log.reads.faults
   faults_m = ap (λ l. l.reads.faults) told0
 
-  pub first_fault : (e : Error) → u.reader.log.reads.faults ≡ m.reader.log.reads.faults ++ error_kind e ∷ []
+  pub first_fault : (e : Error) → u.reader.log.reads.faults ≡ m.reader.log.reads.faults ++ e ∷ []
       → length u.reader.block.bytes < 2 → Next remaining s (Err (Io e)) u
   first_fault e fault few = record {
     went = went_u;
     answers = (
-      fault ∙ ap (λ l. l ++ error_kind e ∷ []) faults_m,
+      fault ∙ ap (λ l. l ++ e ∷ []) faults_m,
       few_bytes s.max (rest u) (omega (arith, few, ap length (rest_whole u lent1))),
     );
     not_asked = settled_u;
@@ -190,11 +189,11 @@ module _ {S : Type 0} (remaining : S → Option (List ℕ)) (s m u : Framing S)
       })
 
       pub second_fault : (e : Error)
-          → v.reader.log.reads.faults ≡ u.reader.log.reads.faults ++ error_kind e ∷ []
+          → v.reader.log.reads.faults ≡ u.reader.log.reads.faults ++ e ∷ []
           → length v.reader.block.bytes < 2 + len → Next remaining s (Err (Io e)) v
       second_fault e fault few = record {
         went = went_v;
-        answers = (fault ∙ ap (λ l. l ++ error_kind e ∷ []) faults_u, inr (stops few));
+        answers = (fault ∙ ap (λ l. l ++ e ∷ []) faults_u, inr (stops few));
         not_asked = settled_v;
         whole = whole2;
       }

@@ -2,7 +2,6 @@
 use Rattle.std.specs.Prelude.{◌≡◌, ℕ, ◌<◌, ◌⊎◌, List, [], ◌∷◌, ◌++◌, length, Option, None, Some, Result, Ok, Err, Bool, true, false, option_copied}
 use Rattle.std.specs.Borrow.{Bor}
 use Rattle.std.specs.List.{All}
-use Rattle.std.specs.IoError.{error_kind}
 use Rattle.buffer_redux.specs.LogGrows.{ReadLogGrows}
 use Rattle.buffer_redux.specs.BufReader.{InnerGives, RanDry}
 use Rattle.buffer_redux.specs.Sparing.{PotentialHeld}
@@ -57,7 +56,7 @@ NextAnswers s (Ok None) t = (rest t ≡ []) × Ended s t
 NextAnswers s (Err (Truncated have)) t = (have ≡ length (rest t)) × IsCutShort s.max (rest t) × Ended s t
 NextAnswers s (Err (TooLong len)) t = (s.max < len) × BeginsWith len (rest t) × NoFault s t
 NextAnswers s (Err (Io e)) t =
-    (t.reader.log.reads.faults ≡ s.reader.log.reads.faults ++ error_kind e ∷ [])
+    (t.reader.log.reads.faults ≡ s.reader.log.reads.faults ++ e ∷ [])
     × ((rest t ≡ []) ⊎ IsCutShort s.max (rest t))
 
 -- what is left settles the answer: it begins with a whole frame, or with a length that is too large

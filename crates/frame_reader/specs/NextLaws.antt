@@ -5,13 +5,12 @@ use Rattle.std.proofs.Math.Seq.{take-append_seam}
 use Rattle.std.proofs.lemmas.List.{append_cancel_left, nil_from_length}
 use Rattle.std.proofs.lemmas.List.Elements.{All-nil, All-append, All-head, All-tail}
 use Rattle.std.specs.List.{All}
-use Rattle.std.specs.IoError.{error_kind}
-use Rattle.std.specs.declared.io.ErrorKind.{ErrorKind}
 use Rattle.buffer_redux.specs.BufReader.{RanDry}
 use Rattle.buffer_redux.specs.LogGrows.{ReadLogGrows-none, ReadLogGrows-joins}
 use Rattle.buffer_redux.specs.ReaderLaws.{InnerGives-none, InnerGives-joins}
 use Rattle.buffer_redux.specs.Sparing.{PotentialHeld, MovedAtMostGiven}
 use Rattle.buffer_redux.specs.StreamLog.{StreamLog}
+use Rattle.std.specs.declared.io.Error.{Error}
 use Rattle.frame_reader.specs.declared.error.FrameError.{FrameError}
 use Rattle.frame_reader.specs.declared.error.FrameError.TheVariants.{Truncated, TooLong, Io}
 use Rattle.frame_reader.specs.Frames.{Fits, header, frame, frames, BeginsWith, BeginsWhole, Splits}
@@ -159,12 +158,12 @@ module _ {S : Type 0} (remaining : S → Option (List ℕ)) (s t : Framing S) wh
   no_dry : {A : Type 0} → t.reader.log ≡ s.reader.log → RanDry s.reader t.reader → A
   no_dry told dry = absurd (omega (arith, dry, ap (λ l. l.reads.zero_answers) told))
 
-  no_fault : {A : Type 0} (kind : ErrorKind) → t.reader.log ≡ s.reader.log
-      → t.reader.log.reads.faults ≡ s.reader.log.reads.faults ++ kind ∷ [] → A
-  no_fault kind told fault = absurd (omega (
+  no_fault : {A : Type 0} (e : Error) → t.reader.log ≡ s.reader.log
+      → t.reader.log.reads.faults ≡ s.reader.log.reads.faults ++ e ∷ [] → A
+  no_fault e told fault = absurd (omega (
     arith,
     ap length fault,
-    length-append s.reader.log.reads.faults (kind ∷ []),
+    length-append s.reader.log.reads.faults (e ∷ []),
     ap (λ l. length l.reads.faults) told,
   ))
 
@@ -184,7 +183,7 @@ module _ {S : Type 0} (remaining : S → Option (List ℕ)) (s t : Framing S) wh
       let parts = header-same len (length payload) begins.more (payload ++ more) begins.word (omega (arith, fits, word))
       (sym begins.equal ∙ same ∙ front ∙ append_assoc (header (length payload)) payload more) in
       absurd (omega (arith, parts.0, fits, answers.0))
-  ready payload more word fits front told (Err (Io e)) answers same = no_fault (error_kind e) told answers.0
+  ready payload more word fits front told (Err (Io e)) answers same = no_fault e told answers.0
 
   -- the length that is too large
   refused : (len : ℕ) → s.max < 2 ^ 16 → s.max < len → BeginsWith len (rest s)
@@ -202,7 +201,7 @@ module _ {S : Type 0} (remaining : S → Option (List ℕ)) (s t : Framing S) wh
       let parts = header-same found len begins.more front.more begins.word front.word
       (sym begins.equal ∙ same ∙ front.equal) in
       (ap (λ n. Err (TooLong n)) parts.0, same)
-  refused len word above front told (Err (Io e)) answers same = no_fault (error_kind e) told answers.0
+  refused len word above front told (Err (Io e)) answers same = no_fault e told answers.0
 
 -- a whole frame that stands in front is handed out, and the inner reader isn't called
 pub Next-ready : {S : Type 0} (remaining : S → Option (List ℕ)) (s : Framing S)

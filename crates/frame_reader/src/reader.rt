@@ -2,7 +2,6 @@
 ghost use Rattle.std.specs.Prelude.{◌≡◌, ℕ, ◌<◌, ◌≤◌, ◌⊎◌, ◌^◌, List, [], ◌∷◌, ◌++◌, length, Ok, Err, Some, IfOk, IfErr, IfSome, OnOk, OnErr, true};
 ghost use Rattle.std.specs.Borrow.{sem};
 ghost use Rattle.std.specs.Io.BufRead.{Rests};
-ghost use Rattle.std.specs.IoError.{error_kind};
 ghost use Rattle.buffer_redux.specs.Block.{IsBlock};
 ghost use Rattle.buffer_redux.specs.BufReader.{RanDry};
 ghost use Rattle.frame_reader.specs.contracts.reader.FrameReader.{the_row};
@@ -147,7 +146,7 @@ impl<R: TellRead> FrameReader<R> {
         ensures few { OnErr result (length self.new.reader.block.bytes < min) }
         ensures no_fault { OnOk result (NoFault self.old self.new) }
         ensures fault { IfErr result (λ e. self.new.reader.log.reads.faults
-            ≡ self.old.reader.log.reads.faults ++ error_kind e ∷ []) }
+            ≡ self.old.reader.log.reads.faults ++ e ∷ []) }
         ensures untouched { min ≤ length self.old.reader.block.bytes
             → self.new.reader.log ≡ self.old.reader.log }
         ensures whole { IsFraming self.new }

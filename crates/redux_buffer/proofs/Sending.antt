@@ -1,13 +1,14 @@
 -- What sending does, write after write.
-use Rattle.std.proofs.Common.{◌≡◌, ◌∙◌, ℕ, ◌+◌, ◌-◌, ◌*◌, ◌<◌, ◌≤◌, [], ◌++◌, length, take, sym, refl, ap, arith}
-use Rattle.std.proofs.Common.{append-nil, append_assoc, length-drop, take-take, Result, Ok, Err, inl, inr}
+use Rattle.std.proofs.Common.{◌≡◌, ◌∙◌, ℕ, ◌+◌, ◌-◌, ◌*◌, ◌<◌, ◌≤◌, List, [], ◌∷◌, ◌++◌, length, take, sym, refl, ap, arith}
+use Rattle.std.proofs.Common.{append-nil, append_assoc, length-append, length-drop, take-take, Result, Ok, Err, inl, inr}
 use Rattle.std.proofs.Math.Seq.{take-add}
+use Rattle.std.proofs.lemmas.List.Elements.{All-push}
 use Rattle.std.specs.IoError.{error_kind}
 use Rattle.std.specs.declared.io.Error.{Error}
 use Rattle.std.specs.declared.io.ErrorKind.TheVariants.{WriteZero}
 use Rattle.redux_buffer.specs.Block.{Block, ConsumesFirst, OnlyRingMoves}
-use Rattle.redux_buffer.specs.StreamLog.{StreamLog, taken, zero_of_some, zero_of_none}
-use Rattle.redux_buffer.specs.Faults.{OnlyInterrupted, OnlyInterrupted-joins, TookNothing-after, FaultedAfter-after}
+use Rattle.redux_buffer.specs.StreamLog.{StreamLog, taken, after_write, zero_of_some, zero_of_none}
+use Rattle.redux_buffer.specs.Faults.{IsInterrupt, OnlyInterrupted, OnlyInterrupted-joins, TookNothing-after, FaultedAfter-after}
 use Rattle.redux_buffer.specs.Transfer.{OnlyWrites, WritesRetried, Sent, Sends}
 use Rattle.redux_buffer.proofs.Steps.{OnlyRingMoves-joins, ConsumesFirst-joins}
 
@@ -15,14 +16,37 @@ use Rattle.redux_buffer.proofs.Steps.{OnlyRingMoves-joins, ConsumesFirst-joins}
 pub record Interrupts (count : ℕ) (old new : StreamLog) : Type 0 where
   pub received : new.writes.received ≡ old.writes.received
   pub flushed : new.writes.flushed ≡ old.writes.flushed
-  pub only : OnlyInterrupted count old.writes new.writes
+  pub errors : List Error
+  pub number : length errors ≡ count
+  pub only : OnlyInterrupted errors old.writes new.writes
   pub others : OnlyWrites old new
 
 OnlyWrites-joins : (a b c : StreamLog) → OnlyWrites a b → OnlyWrites b c → OnlyWrites a c
 OnlyWrites-joins a b c p q = record { reads = q.reads ∙ p.reads; fills = q.fills ∙ p.fills; seeks = q.seeks ∙ p.seeks }
 
-module _ (k i len : ℕ) (a b : Block) (log log' log'' : StreamLog) (sent : Sent k a log b log')
-    (only : OnlyInterrupted i log.writes log'.writes) (few : i ≤ 64 * k) where
+-- one more
+pub Interrupts-more : (count : ℕ) (bs : List ℕ) (e : Error) (a b c : StreamLog) → Interrupts count a b
+    → IsInterrupt e → c ≡ after_write b bs (Err e) → Interrupts (count + 1) a c
+Interrupts-more count bs e a b c met is told = record {
+  received = ap (λ l. l.writes.received) told ∙ append-nil b.writes.received ∙ met.received;
+  flushed = ap (λ l. l.writes.flushed) told ∙ met.flushed;
+  errors = met.errors ++ e ∷ [];
+  number = omega (arith, met.number, length-append met.errors (e ∷ []));
+  only = record {
+    interrupted = All-push IsInterrupt met.errors e met.only.interrupted is;
+    faults = ap (λ l. l.writes.faults) told ∙ ap (λ l. l ++ e ∷ []) met.only.faults
+        ∙ append_assoc a.writes.faults met.errors (e ∷ []);
+    zero_writes = ap (λ l. l.writes.zero_writes) told ∙ met.only.zero_writes;
+  };
+  others = record {
+    reads = ap (λ l. l.reads) told ∙ met.others.reads;
+    fills = ap (λ l. l.fills) told ∙ met.others.fills;
+    seeks = ap (λ l. l.seeks) told ∙ met.others.seeks;
+  };
+}
+
+module _ (k : ℕ) (es : List Error) (len : ℕ) (a b : Block) (log log' log'' : StreamLog) (sent : Sent k a log b log')
+    (only : OnlyInterrupted es log.writes log'.writes) (few : length es ≤ 64 * k) where
   -- one write more, which took n bytes of the first len
   pub Sent-more : (n : ℕ) (c : Block) → WritesRetried (take len b.bytes) log' (Ok n) log'' → n ≤ len
       → n ≤ length b.bytes → ConsumesFirst n b c → OnlyRingMoves b c → Sent (k + n) a log c log''
@@ -42,8 +66,9 @@ module _ (k i len : ℕ) (a b : Block) (log log' log'' : StreamLog) (sent : Sent
       }
 
   pub only_more : (n : ℕ) → 0 < n → (wrote : WritesRetried (take len b.bytes) log' (Ok n) log'')
-      → OnlyInterrupted (i + wrote.interrupts) log.writes log''.writes
-  only_more n some wrote = OnlyInterrupted-joins i wrote.interrupts log.writes log'.writes log''.writes only (record {
+      → OnlyInterrupted (es ++ wrote.interrupts) log.writes log''.writes
+  only_more n some wrote = OnlyInterrupted-joins es wrote.interrupts log.writes log'.writes log''.writes only (record {
+    interrupted = wrote.interrupted;
     faults = wrote.faults;
     zero_writes = wrote.zero_writes ∙ zero_of_some n (take len b.bytes) log'.writes.zero_writes (inl some);
   })
@@ -65,19 +90,20 @@ module _ (k i len : ℕ) (a b : Block) (log log' log'' : StreamLog) (sent : Sent
       → Sends amount a log (Err e) b log''
   sends_failed amount e most wrote = record {
     count = k;
-    interrupts = i + wrote.interrupts;
+    interrupts = es ++ wrote.interrupts;
     sent = Sent-still (Err e) wrote refl;
     most = most;
     whole = tt;
     ok = tt;
     failed = record {
-      cause = inr (FaultedAfter-after i wrote.interrupts log.writes log'.writes log''.writes (error_kind e) only (record {
+      cause = inr (FaultedAfter-after es wrote.interrupts log.writes log'.writes log''.writes e only (record {
+        interrupted = wrote.interrupted;
         faults = wrote.faults;
         zero_writes = wrote.zero_writes;
       }));
-      often = λ kind. let all = wrote.often kind in omega (arith, all);
+      often = λ kind. let all = wrote.often kind in omega (arith, all, length-append es wrote.interrupts);
     };
-    few = omega (arith, few, wrote.most);
+    few = omega (arith, few, wrote.most, length-append es wrote.interrupts);
   }
 
   -- the next write took nothing of something
@@ -85,18 +111,19 @@ module _ (k i len : ℕ) (a b : Block) (log log' log'' : StreamLog) (sent : Sent
       → error_kind e ≡ WriteZero → WritesRetried (take len b.bytes) log' (Ok n) log'' → Sends amount a log (Err e) b log''
   sends_nothing amount n e most none some kind wrote = record {
     count = k;
-    interrupts = i + wrote.interrupts;
+    interrupts = es ++ wrote.interrupts;
     sent = Sent-still (Ok n) wrote (ap (λ m. take m (take len b.bytes)) none);
     most = most;
     whole = tt;
     ok = tt;
     failed = record {
-      cause = inl (TookNothing-after i wrote.interrupts log.writes log'.writes log''.writes (error_kind e) only (record {
+      cause = inl (TookNothing-after es wrote.interrupts log.writes log'.writes log''.writes (error_kind e) only (record {
         is_write_zero = kind;
+        interrupted = wrote.interrupted;
         faults = wrote.faults;
         zero_writes = wrote.zero_writes ∙ zero_of_none n (take len b.bytes) log'.writes.zero_writes none some;
       }));
       often = λ interrupted. cc;
     };
-    few = omega (arith, few, wrote.most);
+    few = omega (arith, few, wrote.most, length-append es wrote.interrupts);
   }

@@ -1,9 +1,7 @@
 -- How a log grows: its lists only go on, and its counts only rise.
 use Rattle.std.specs.Prelude.{◌≡◌, ℕ, ◌≤◌, ◌⊎◌, List, [], ◌∷◌, Result, Ok, Err}
 use Rattle.std.proofs.Common.{◌∙◌, inl, inr, refl, le_refl, le_trans, subst, sym, arith}
-use Rattle.std.specs.IoError.{error_kind}
 use Rattle.std.specs.declared.io.Error.{Error}
-use Rattle.std.specs.declared.io.ErrorKind.{ErrorKind}
 use Rattle.redux_buffer.specs.GoesOn.{GoesOn, GoesOn-none, GoesOn-joins}
 use Rattle.redux_buffer.specs.StreamLog.{ReadLog, WriteLog, FillLog, StreamLog, taken, with_zero, with_fault, with_flush, after_read, after_write, after_flush}
 
@@ -89,10 +87,10 @@ zero_rises : (answer : Result ℕ Error) (buf : List ℕ) (z : ℕ) → z ≤ wi
 zero_rises (Ok n) buf z = grind arith
 zero_rises (Err e) buf z = le_refl z
 
-fault_goes_on : {A : Type 0} (answer : Result A Error) (faults : List ErrorKind)
+fault_goes_on : {A : Type 0} (answer : Result A Error) (faults : List Error)
     → GoesOn faults (with_fault faults answer)
 fault_goes_on (Ok a) faults = GoesOn-none faults
-fault_goes_on (Err e) faults = record { more = error_kind e ∷ []; equal = refl }
+fault_goes_on (Err e) faults = record { more = e ∷ []; equal = refl }
 
 flush_goes_on : (answer : Result (Unit {0}) Error) (log : WriteLog)
     → (with_flush log.flushed log.received answer ≡ log.flushed)

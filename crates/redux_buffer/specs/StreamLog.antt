@@ -2,46 +2,44 @@
 use Rattle.std.specs.Prelude.{◌≡◌, ℕ, ◌+◌, ◌<◌, ◌⊎◌, List, [], ◌∷◌, ◌++◌, length, take, drop, Result, Ok, Err, ◌&&◌, ◌==◌, nat_lt, if◌then◌else◌}
 use Rattle.std.proofs.Common.{arith}
 use Rattle.std.specs.Borrow.{Bor}
-use Rattle.std.specs.IoError.{error_kind}
 use Rattle.std.specs.declared.io.Error.{Error}
-use Rattle.std.specs.declared.io.ErrorKind.{ErrorKind}
 use Rattle.std.specs.declared.io.traits.SeekFrom.{SeekFrom}
 
 -- what a reader tells of its reads: the bytes that it gave, the reads that it answered, the length of the last slice
--- that it was lent, its `Ok(0)` to slices that were not empty, and the kinds of its faults
+-- that it was lent, its `Ok(0)` to slices that were not empty, and its faults
 pub record ReadLog : Type 0 where
   pub given : List ℕ
   pub asks : ℕ
   pub offer : ℕ
   pub zero_answers : ℕ
-  pub faults : List ErrorKind
+  pub faults : List Error
 
 -- what a writer tells of its writes and flushes: the bytes that it took, those that it had taken at its last Ok flush,
--- the length of the last slice, its `Ok(0)` to slices that were not empty, and the kinds of its faults
+-- the length of the last slice, its `Ok(0)` to slices that were not empty, and its faults
 pub record WriteLog : Type 0 where
   pub received : List ℕ
   pub flushed : List ℕ
   pub offer : ℕ
   pub zero_writes : ℕ
-  pub faults : List ErrorKind
+  pub faults : List Error
 
 -- what a buffered reader tells: the bytes that it shows, those that were consumed, its Ok fills that showed nothing,
--- and the kinds of its faults
+-- and its faults
 pub record FillLog : Type 0 where
   pub shown : List ℕ
   pub consumed : List ℕ
   pub ends : ℕ
-  pub faults : List ErrorKind
+  pub faults : List Error
 
 -- one seek, with its answer
 pub record SeekCall : Type 0 where
   pub to : SeekFrom
   pub answer : Result ℕ Error
 
--- what a seeker tells: all its seeks in order, and the kinds of its faults
+-- what a seeker tells: all its seeks in order, and its faults
 pub record SeekLog : Type 0 where
   pub calls : List SeekCall
-  pub faults : List ErrorKind
+  pub faults : List Error
 
 pub record StreamLog : Type 0 where
   pub reads : ReadLog
@@ -77,10 +75,10 @@ pub zero_of_none : (n : ℕ) (buf : List ℕ) (before : ℕ) → n ≡ 0 → 0 <
     → with_zero before buf (Ok n) ≡ before + 1
 zero_of_none n buf before none some = grind arith
 
--- an `Err` adds its kind, and an `Ok` nothing
-abbrev pub with_fault : {A : Type 0} → List ErrorKind → Result A Error → List ErrorKind
+-- an `Err` adds its error, and an `Ok` nothing
+abbrev pub with_fault : {A : Type 0} → List Error → Result A Error → List Error
 with_fault before (Ok a) = before
-with_fault before (Err e) = before ++ error_kind e ∷ []
+with_fault before (Err e) = before ++ e ∷ []
 
 -- an Ok `flush` notes what was received
 abbrev pub with_flush : List ℕ → List ℕ → Result (Unit {0}) Error → List ℕ
@@ -169,7 +167,7 @@ after_fill_fault log shown e = record log {
     shown = shown;
     consumed = log.fills.consumed;
     ends = log.fills.ends;
-    faults = log.fills.faults ++ error_kind e ∷ [];
+    faults = log.fills.faults ++ e ∷ [];
   };
 }
 

@@ -1,12 +1,11 @@
 -- What goes between a buffer and a stream.
-use Rattle.std.specs.Prelude.{◌≡◌, ℕ, ◌+◌, ◌*◌, ◌≤◌, ◌<◌, List, ◌++◌, length, min, take, replicate, Result, Ok, MatchResult, IfErr, OnOk}
+use Rattle.std.specs.Prelude.{◌≡◌, ℕ, ◌+◌, ◌*◌, ◌≤◌, ◌<◌, List, ◌++◌, length, min, take, Result, Ok, MatchResult, IfErr, OnOk}
 use Rattle.std.specs.Io.{ReadsAtMost, WritesAtMost}
-use Rattle.std.specs.IoError.{error_kind}
+use Rattle.std.specs.List.{All}
 use Rattle.std.specs.declared.io.Error.{Error}
-use Rattle.std.specs.declared.io.ErrorKind.TheVariants.{Interrupted}
 use Rattle.redux_buffer.specs.Block.{Block, Extends, ConsumesFirst, OnlyRingMoves, usable}
 use Rattle.redux_buffer.specs.StreamLog.{StreamLog, taken, with_zero, with_fault, after_read, after_write}
-use Rattle.redux_buffer.specs.Faults.{OnlyInterrupted, SendFailed}
+use Rattle.redux_buffer.specs.Faults.{IsInterrupt, OnlyInterrupted, SendFailed}
 
 -- one read into the whole tail, which left it as out; what was given stands behind the bytes
 pub record ReadsOnce (old : Block) (log : StreamLog) (answer : Result ℕ Error) (new : Block)
@@ -51,13 +50,14 @@ pub record OnlyWrites (old new : StreamLog) : Type 0 where
 
 -- a write of bs, asked again where it was interrupted: 64 times at the most, and `Interrupted` is answered only then
 pub record WritesRetried (bs : List ℕ) (log : StreamLog) (answer : Result ℕ Error) (log' : StreamLog) : Type 0 where
-  pub interrupts : ℕ
-  pub most : interrupts ≤ 64
-  pub often : IfErr answer (λ e. error_kind e ≡ Interrupted → interrupts ≡ 64)
+  pub interrupts : List Error
+  pub interrupted : All IsInterrupt interrupts
+  pub most : length interrupts ≤ 64
+  pub often : IfErr answer (λ e. IsInterrupt e → length interrupts ≡ 64)
   pub received : log'.writes.received ≡ log.writes.received ++ taken bs answer
   pub flushed : log'.writes.flushed ≡ log.writes.flushed
   pub zero_writes : log'.writes.zero_writes ≡ with_zero log.writes.zero_writes bs answer
-  pub faults : log'.writes.faults ≡ with_fault (log.writes.faults ++ replicate interrupts Interrupted) answer
+  pub faults : log'.writes.faults ≡ with_fault (log.writes.faults ++ interrupts) answer
   pub others : OnlyWrites log log'
 
 -- the first count bytes went out
@@ -74,10 +74,11 @@ pub record Sent (count : ℕ) (old : Block) (log : StreamLog) (new : Block) (log
 pub record Sends (amount : ℕ) (old : Block) (log : StreamLog) (answer : Result (Unit {0}) Error) (new : Block)
     (log' : StreamLog) : Type 0 where
   pub count : ℕ
-  pub interrupts : ℕ
+  pub interrupts : List Error
   pub sent : Sent count old log new log'
   pub most : count ≤ amount
   pub whole : OnOk answer (count ≡ min amount (length old.bytes))
   pub ok : OnOk answer (OnlyInterrupted interrupts log.writes log'.writes)
-  pub failed : IfErr answer (λ e. SendFailed interrupts log.writes log'.writes (error_kind e))
-  pub few : MatchResult answer (λ _. interrupts ≤ 64 * count) (λ _. interrupts ≤ 64 * count + 64)
+  pub failed : IfErr answer (λ e. SendFailed interrupts log.writes log'.writes e)
+  pub few : MatchResult answer (λ _. length interrupts ≤ 64 * count)
+      (λ _. length interrupts ≤ 64 * count + 64)

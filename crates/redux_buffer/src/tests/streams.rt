@@ -4,7 +4,7 @@ ghost use Rattle.redux_buffer.specs.LogGrows.{FillLogGrows, FillLogGrows-none, F
 use crate::script::{Answer, ScriptReader, ScriptSeeker, ScriptWriter};
 use crate::tell::{Call, CallLog, Tell, TellBufRead, TellRead, TellSeek, TellWrite, Told};
 use std::io;
-use std::io::{Cursor, ErrorKind, SeekFrom};
+use std::io::{Cursor, ErrorKind, Read, Seek, SeekFrom, Write};
 use std::test::Fail;
 
 const SCRIPT: [Answer; 5] = [
@@ -76,6 +76,57 @@ fn passed_on(rt: HostRuntime) -> Result<(), Fail> {
     wrt.flush_told()?;
     assert_eq!(rt; wrt.get_ref().offers(), [1, 0].as_slice());
     assert_eq!(rt; wrt.get_ref().flushes(), 1);
+    Ok(())
+}
+
+// Fails at each call, with a text of its own.
+#[derive(Drop)]
+struct Failing;
+
+impl Failing {
+    fn error() -> io::Error {
+        io::Error::new(ErrorKind::Other, "its own text")
+    }
+}
+
+impl Read for Failing {
+    fn read(&mut self, _buf: &mut [u8]) -> io::Result<usize> {
+        Err(Failing::error())
+    }
+}
+
+impl Write for Failing {
+    fn write(&mut self, _buf: &[u8]) -> io::Result<usize> {
+        Err(Failing::error())
+    }
+
+    fn flush(&mut self) -> io::Result<()> {
+        Err(Failing::error())
+    }
+}
+
+impl Seek for Failing {
+    fn seek(&mut self, _to: SeekFrom) -> io::Result<u64> {
+        Err(Failing::error())
+    }
+}
+
+// An error of the stream comes as it is.
+#[test]
+fn errors(rt: HostRuntime) -> Result<(), Fail> {
+    let mut told = Told::new(Failing);
+    let errors = [
+        told.read_told(&mut [0]).err(),
+        told.write_told(&[1]).err(),
+        told.flush_told().err(),
+        told.seek_told(SeekFrom::Start(0)).err(),
+    ];
+    for error in errors {
+        assert_eq!(rt;
+            format!(in rt.alloc(); "{error:?}")?.as_str(),
+            "Some(Custom { kind: Other, error: \"its own text\" })"
+        );
+    }
     Ok(())
 }
 

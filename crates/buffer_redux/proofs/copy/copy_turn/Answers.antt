@@ -1,5 +1,6 @@
-use Rattle.std.proofs.Common.{◌≡◌, ℕ, ◌<◌, List, length, Ok, sym, ap, subst, ◌∙◌, arith, append-nil}
-use Rattle.redux_buffer.specs.Faults.{OnlyInterrupted-none}
+use Rattle.std.proofs.Common.{◌≡◌, ℕ, ◌<◌, List, [], length, Ok, sym, ap, subst, ◌∙◌, arith, append-nil}
+use Rattle.std.proofs.lemmas.List.Elements.{All-nil}
+use Rattle.redux_buffer.specs.Faults.{IsInterrupt, OnlyInterrupted-none}
 use Rattle.redux_buffer.specs.StreamLog.{with_end, after_write}
 use Rattle.buffer_redux.proofs.copy.copy_turn.Goals as goal
 
@@ -14,7 +15,8 @@ returns-then-taken-eq0-clause-ended g c is =
     let shown = ap (λ l. l.fills.shown) filled in
     record {
       reader = record {
-        times = 0;
+        interrupts = [];
+        interrupted = All-nil IsInterrupt;
         faults =
             ap (λ l. l.fills.faults) filled
             ∙ sym (append-nil (g.B.Tell.log c.args.b.now).fills.faults);
@@ -22,7 +24,7 @@ returns-then-taken-eq0-clause-ended g c is =
       last = record {
         before = c.args.w.now;
         went = g.met.W.TellWrite.stretch_none c.args.w.now;
-        met = record { times = 0; only = OnlyInterrupted-none (g.W.Tell.log c.args.w.now).writes };
+        met = record { interrupts = []; only = OnlyInterrupted-none (g.W.Tell.log c.args.w.now).writes };
         called = c.in_ok-taken-in-Ok.ensures.call;
         told =
             subst (λ l. g.W.Tell.log c.write_told.new.self ≡ after_write (g.W.Tell.log c.args.w.now) l (Ok 0))

@@ -1,5 +1,6 @@
-use Rattle.std.proofs.Common.{◌≡◌, ◌≤◌, ◌<◌, ◌+◌, ◌-◌, length, arith, ap, ◌∙◌, length-drop, length-take-le}
+use Rattle.std.proofs.Common.{◌≡◌, ◌≤◌, ◌<◌, ◌+◌, ◌-◌, [], ◌++◌, length, arith, rules, ap, ◌∙◌, length-append, length-drop, length-take-le}
 use Rattle.std.proofs.lemmas.Result.{err_from_is_err_and}
+use Rattle.redux_buffer.specs.Faults.{OnlyInterrupted-none}
 use Rattle.redux_buffer.proofs.Sending.{Sent-more, only_more, sends_failed, sends_nothing}
 use Rattle.redux_buffer.proofs.buffer.Buffer.write_max.Goals as goal
 
@@ -20,6 +21,20 @@ returns-then-n-eq0-clause-sent g c =
     sends_nothing inv.count inv.interrupts left _ _ _ _ _ inv.sent inv.only inv.few c.args.max c.in_ok-n.n c.from.result
     (omega (arith, inv.rest)) c.if-n-eq0.true (omega (arith, size)) c.from.ensures wrote
 
+pub loop-left-init : goal.loop-left-init
+loop-left-init g c = record {
+  count = 0;
+  interrupts = [];
+  sent = search rules;
+  rest = search rules;
+  room = search rules;
+  only = OnlyInterrupted-none (g.W.Tell.log c.args.wrt.now).writes;
+  few = omega arith;
+  untouched = search rules;
+  stretch = search rules;
+  whole = search rules;
+}
+
 pub loop-left-preserved : goal.loop-left-preserved
 loop-left-preserved g c =
     let inv = c.loop-left.invariant in
@@ -34,13 +49,13 @@ loop-left-preserved g c =
     ap length c.consume.ensures.bytes.bytes ∙ length-drop n c.loop-left.self.bytes in
     record {
       count = inv.count + n;
-      interrupts = inv.interrupts + wrote.interrupts;
+      interrupts = inv.interrupts ++ wrote.interrupts;
       sent = Sent-more inv.count inv.interrupts left _ _ _ _ _ inv.sent inv.only inv.few n _ wrote fits
           (omega (arith, inv.room)) c.consume.ensures.bytes c.consume.ensures.moved;
       rest = omega (arith, inv.rest);
       room = omega (arith, inv.room, last);
       only = only_more inv.count inv.interrupts left _ _ _ _ _ inv.sent inv.only inv.few n some wrote;
-      few = omega (arith, inv.few, wrote.most, some);
+      few = omega (arith, inv.few, wrote.most, some, length-append inv.interrupts wrote.interrupts);
       untouched = λ none. absurd (c.if-n-eq0.false (omega (arith, none)));
       stretch = g.met.W.TellWrite.stretch_joins _ _ _ inv.stretch c.in_ok-n.ensures.stretch;
       whole = c.consume.ensures.whole;

@@ -1,4 +1,5 @@
-use Rattle.std.proofs.Common.{◌≡◌, ◌≤◌, ◌+◌, ◌*◌, ℕ, length, min}
+use Rattle.std.proofs.Common.{◌≡◌, ◌≤◌, ◌+◌, ◌*◌, ℕ, List, length, min}
+use Rattle.std.specs.declared.io.Error.{Error}
 use Rattle.redux_buffer.specs.Block.{IsBlock}
 use Rattle.redux_buffer.specs.Faults.{OnlyInterrupted}
 use Rattle.redux_buffer.specs.Transfer.{Sent}
@@ -7,12 +8,12 @@ use Rattle.redux_buffer.proofs.buffer.Buffer.write_max.Given as goal
 abbrev pub invariant-loop-left : goal.invariant-loop-left
 invariant-loop-left g l = record {
   count : ℕ;
-  interrupts : ℕ;
+  interrupts : List Error;
   sent : Sent count l.initial.self (g.W.Tell.log l.initial.wrt) l.self (g.W.Tell.log l.wrt);
   rest : count + l.left ≡ min l.fn.max (length l.initial.self.bytes);
   room : l.left ≤ length l.self.bytes;
   only : OnlyInterrupted interrupts (g.W.Tell.log l.initial.wrt).writes (g.W.Tell.log l.wrt).writes;
-  few : interrupts ≤ 64 * count;
+  few : length interrupts ≤ 64 * count;
   untouched : count ≡ 0 → (l.wrt ≡ l.initial.wrt) × (l.self ≡ l.initial.self);
   stretch : g.W.TellWrite.stretch l.initial.wrt l.wrt;
   whole : IsBlock l.self;

@@ -35,9 +35,9 @@ returns-clause-call g c =
     let flush = c.flush-answer.ensures in
     let noted : c.note.new.self.log ≡ after_flush s.calls answer = search rules in
     record {
-      fault = λ tells kind is.
-          subst (λ l. SendErrorCaused s.log.writes l kind) (sym (ap (λ x. x.log.writes) c.self.view_is))
-          (flush_fault s m answer kind flush.caused (sym (ap (λ l. l.writes.faults) noted) ∙ is));
+      fault = λ tells e is.
+          subst (λ l. SendErrorCaused s.log.writes l e) (sym (ap (λ x. x.log.writes) c.self.view_is))
+          (flush_fault s m answer e flush.caused (sym (ap (λ l. l.writes.faults) noted) ∙ is));
       nothing = λ tells is. absurd (omega (arith, is, ap (λ l. l.writes.zero_writes) noted));
     }
 

@@ -1,6 +1,7 @@
-use Rattle.std.proofs.Common.{rules, ◌≡◌, ◌∙◌, ap, subst, sym}
+use Rattle.std.proofs.Common.{rules, ◌≡◌, ◌∙◌, List, ap, subst, sym}
+use Rattle.std.specs.declared.io.Error.{Error}
 use Rattle.std.specs.declared.io.ErrorKind.TheVariants.{WriteZero}
-use Rattle.redux_buffer.specs.Faults.{SendErrorCaused}
+use Rattle.redux_buffer.specs.Faults.{TookNothing, SendErrorCaused}
 use Rattle.redux_buffer.specs.StreamLog.{after_write}
 use Rattle.redux_buffer.specs.LogGrows.{WriteLogGrows, WriteLogGrows-write}
 use Rattle.buffer_redux.specs.WriterTells.{writer_log}
@@ -37,11 +38,11 @@ returns-clause-call g c =
     let noted : c.note.new.self.log ≡ after_write s.calls bs answer = search rules in
     let same = ap (λ x. x.log.writes) c.self.view_is in
     record {
-      fault = λ tells kind is.
-          subst (λ l. SendErrorCaused s.log.writes l kind) (sym same)
-          (write_fault table s m bs tells answer kind wrote.caused
+      fault = λ tells e is.
+          subst (λ l. SendErrorCaused s.log.writes l e) (sym same)
+          (write_fault table s m bs tells answer e wrote.caused
           (sym (ap (λ l. l.writes.faults) noted) ∙ is));
-      nothing = λ tells is. subst (λ l. SendErrorCaused s.log.writes l WriteZero) (sym same)
+      nothing = λ tells is. subst (λ l. (interrupts : List Error) × TookNothing interrupts s.log.writes l WriteZero) (sym same)
           (write_nothing table s m bs tells answer wrote.steps (wrote.steadily tells.0)
           (sym (ap (λ l. l.writes.zero_writes) noted) ∙ is));
     }
