@@ -3,3 +3,8 @@ pub mod Framing
 pub mod Next
 pub mod NextLaws
 pub mod Laws
+pub mod Outgoing
+pub mod WriteFrame
+pub mod WriteFrameLaws
+pub mod KnownFrames
+pub mod RoundTrip

@@ -123,7 +123,7 @@ FramesWent-joins remaining s m t ps qs p q =
       max = q.max ∙ p.max;
     }
 
-drop_none : (n : ℕ) (bytes : List ℕ) → bytes ≡ [] → drop n bytes ≡ []
+pub drop_none : (n : ℕ) (bytes : List ℕ) → bytes ≡ [] → drop n bytes ≡ []
 drop_none n bytes none = nil_from_length (drop n bytes) (omega (arith, length-drop n bytes, ap length none))
 
 -- the same of a reader that was just made: what was given since is the frames that were handed out, then what is left,

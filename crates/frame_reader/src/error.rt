@@ -1,4 +1,4 @@
-//! Why there is no next frame.
+//! Why there is no next frame, and why a frame was not taken in.
 use std::error::Error;
 use std::{fmt, io};
 
@@ -36,5 +36,36 @@ impl From<io::Error> for FrameError {
 
     fn from(e: io::Error) -> FrameError {
         FrameError::Io(e)
+    }
+}
+
+/// Why a frame was not taken in. Nothing of it was, so the call can be made again.
+#[derive(Debug, Drop)]
+pub enum WriteFrameError {
+    /// The payload has this length, which is more than the writer takes.
+    TooLong(usize),
+    /// The stream failed as what was buffered was sent to make room.
+    Io(io::Error),
+}
+
+impl fmt::Display for WriteFrameError {
+    fn fmt<W: fmt::Write>(&self, f: &mut fmt::Formatter<W>) -> fmt::Result {
+        match self {
+            WriteFrameError::TooLong(len) => { write!(f, "a payload of {len} bytes is too long") }
+            WriteFrameError::Io(e) => fmt::Display::fmt(e, f),
+        }
+    }
+}
+
+impl Error for WriteFrameError {}
+
+impl From<io::Error> for WriteFrameError {
+    ghost use Rattle.std.specs.Prelude.{◌≡◌};
+    ghost use Rattle.frame_reader.specs.declared.error.WriteFrameError.TheVariants.{Io};
+
+    ghost from_gives = { λ e r. r ≡ Io e };
+
+    fn from(e: io::Error) -> WriteFrameError {
+        WriteFrameError::Io(e)
     }
 }

@@ -19,7 +19,7 @@ use std::io::BufRead;
 use std::marker::Model;
 
 /// How many bytes the length of a frame takes.
-const HEADER: usize = 2;
+pub const HEADER: usize = 2;
 
 /// A reader of frames, over a plain buffer that was made large enough once.
 #[derive(Drop)]
@@ -156,8 +156,8 @@ impl<R: TellRead> FrameReader<R> {
     }
 }
 
-// A plain buffer that no call lets grow.
-fn fixed_buffer(alloc: Global, capacity: usize) -> Result<Buffer, GrowError>
+/// A plain buffer that no call lets grow.
+pub fn fixed_buffer(alloc: Global, capacity: usize) -> Result<Buffer, GrowError>
     requires { capacity ≤ 2 ^ 62 }
     ensures made { IfOk result (IsFixed capacity) }
     ensures whole { IfOk result IsBlock }

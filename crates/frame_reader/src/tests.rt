@@ -8,6 +8,8 @@ use std::io::ErrorKind;
 use std::process::Abort;
 use std::test::Fail;
 
+mod writer;
+
 type Frames = FrameReader<Told<ScriptReader>>;
 
 // What a call of `next` is to answer.

@@ -1,0 +1,67 @@
+-- What the calls of a writer of frames promise.
+use Rattle.std.specs.Prelude.{◌≡◌, ℕ, ◌+◌, ◌<◌, ◌≤◌, List, [], ◌∷◌, ◌++◌, length, Result, Ok, Err, ⊤}
+use Rattle.std.specs.List.{All}
+use Rattle.buffer_redux.specs.BufWriter.{WritesInOrder}
+use Rattle.buffer_redux.specs.Faults.{MetInterrupts, SendErrorCaused}
+use Rattle.frame_reader.specs.declared.error.WriteFrameError.{WriteFrameError}
+use Rattle.frame_reader.specs.declared.error.WriteFrameError.TheVariants.{TooLong, Io}
+use Rattle.frame_reader.specs.Frames.{Fits, frame, frames}
+use Rattle.frame_reader.specs.Outgoing.{Outgoing, IsOutgoing, room, unsent}
+
+-- what any calls do, one after another, that took in the frames of these payloads. Each payload fits; what was received
+-- since, then what is buffered, is what was buffered, then these frames, whole and in order; and no memory is taken
+pub record FramesTaken {S : Type 0} (stretch : S → S → Type 0) (s : Outgoing S) (payloads : List (List ℕ))
+    (t : Outgoing S) : Type 0 where
+  pub fit : All (Fits s.max) payloads
+  pub in_order : WritesInOrder s.writer (frames payloads) t.writer
+  pub calls : stretch s.writer.inner t.writer.inner
+  pub capacity : t.writer.block.capacity ≡ s.writer.block.capacity
+  pub limit : t.writer.block.limit ≡ s.writer.block.limit
+  pub max : t.max ≡ s.max
+
+-- these bytes were copied behind those that are buffered, and the inner writer wasn't called
+pub record PutsIn {S : Type 0} (stretch : S → S → Type 0) (s : Outgoing S) (bytes : List ℕ) (t : Outgoing S)
+    : Type 0 where
+  pub added : unsent t ≡ unsent s ++ bytes
+  pub told : t.writer.log ≡ s.writer.log
+  pub calls : stretch s.writer.inner t.writer.inner
+  pub capacity : t.writer.block.capacity ≡ s.writer.block.capacity
+  pub limit : t.writer.block.limit ≡ s.writer.block.limit
+  pub max : t.max ≡ s.max
+  pub whole : IsOutgoing t
+
+-- the payloads that an answer took in: the one, or none
+abbrev pub accepted : List ℕ → Result (Unit {0}) WriteFrameError → List (List ℕ)
+accepted payload (Ok _) = payload ∷ []
+accepted payload (Err e) = []
+
+-- what each answer means. No answer leaves a part of the frame
+abbrev pub WriteFrameAnswers : {S : Type 0} → Outgoing S → List ℕ → Result (Unit {0}) WriteFrameError → Outgoing S → Type 0
+WriteFrameAnswers s payload (Ok _) t =
+    Fits s.max payload × MetInterrupts s.writer.log.writes t.writer.log.writes
+WriteFrameAnswers s payload (Err (TooLong len)) t = (len ≡ length payload) × (s.max < len) × (t ≡ s)
+WriteFrameAnswers s payload (Err (Io e)) t =
+    Fits s.max payload × SendErrorCaused s.writer.log.writes t.writer.log.writes e
+
+-- where the frame fits behind what is buffered, it stands there, and the inner writer isn't called
+pub record FrameAdded {S : Type 0} (s : Outgoing S) (payload : List ℕ)
+    (answer : Result (Unit {0}) WriteFrameError) (t : Outgoing S) : Type 0 where
+  pub ok : answer ≡ Ok tt
+  pub told : t.writer.log ≡ s.writer.log
+  pub added : unsent t ≡ unsent s ++ frame payload
+
+-- where it doesn't, all that was buffered is sent first, and the inner writer isn't flushed
+abbrev pub SendsFirst : {S : Type 0} → Outgoing S → List ℕ → Result (Unit {0}) WriteFrameError → Outgoing S → Type 0
+SendsFirst s payload (Ok _) t =
+    (t.writer.log.writes.received ≡ s.writer.log.writes.received ++ unsent s) × (unsent t ≡ frame payload)
+SendsFirst s payload (Err e) t = ⊤
+
+-- what one call of `write_frame` does
+pub record WritesFrame {S : Type 0} (stretch : S → S → Type 0) (s : Outgoing S) (payload : List ℕ)
+    (answer : Result (Unit {0}) WriteFrameError) (t : Outgoing S) : Type 0 where
+  pub went : FramesTaken stretch s (accepted payload answer) t
+  pub answers : WriteFrameAnswers s payload answer t
+  pub fits : Fits s.max payload → 2 + length payload ≤ room s → FrameAdded s payload answer t
+  pub full : Fits s.max payload → room s < 2 + length payload → SendsFirst s payload answer t
+  pub not_flushed : t.writer.log.writes.flushed ≡ s.writer.log.writes.flushed
+  pub whole : IsOutgoing t

@@ -1,0 +1,152 @@
+//! The writer of frames.
+ghost use Rattle.std.specs.Prelude.{◌≡◌, ℕ, ◌+◌, ◌-◌, ◌*◌, ◌<◌, ◌≤◌, ◌^◌, List, [], ◌++◌, length, Ok, Err, IfOk, IfErr, OnOk, OnErr, MatchResult, true, false};
+ghost use Rattle.buffer_redux.specs.Block.{IsBlock, usable};
+ghost use Rattle.buffer_redux.specs.Buffered.{InnerWent};
+ghost use Rattle.buffer_redux.specs.BufWriter.{WritesInOrder, WasFlushed};
+ghost use Rattle.buffer_redux.specs.Unwrapping.{InnerOfFlushed};
+ghost use Rattle.buffer_redux.specs.Faults.{MetInterrupts, SendErrorCaused};
+ghost use Rattle.frame_reader.specs.Frames.{Fits, frames};
+ghost use Rattle.frame_reader.specs.Outgoing.{IsOutgoing, IsUnused, room, unsent};
+ghost use Rattle.frame_reader.specs.WriteFrame.{FramesTaken, PutsIn, WritesFrame};
+
+use crate::error::WriteFrameError;
+use crate::reader::{HEADER, fixed_buffer};
+use crate::when_told::WhenTold;
+use buffer_redux::tell::TellWrite;
+use buffer_redux::{BufWriter, GrowError, IntoInnerError, MakeError};
+use std::alloc::Global;
+use std::io;
+use std::io::Write;
+use std::marker::Model;
+
+/// A writer of frames, over a plain buffer that was made large enough once. A frame is taken in whole, or not at all.
+#[derive(Drop)]
+pub struct FrameWriter<W: TellWrite> {
+    writer: BufWriter<W, WhenTold>,
+    max: u16,
+}
+
+impl<W: TellWrite> Model for FrameWriter<W> {
+    ghost use Rattle.frame_reader.specs.Outgoing.{Outgoing, IsOutgoing};
+
+    ghost Value = { Outgoing W };
+
+    ghost view = { λ f. record { writer = f.writer; max = f.max } };
+
+    ghost invariant = { λ f. IsOutgoing (record { writer = f.writer; max = f.max }) };
+}
+
+impl<W: TellWrite> FrameWriter<W> {
+    /// A writer of frames whose payload has at most `max` bytes. A refusal hands `inner` back.
+    pub fn new(alloc: Global, inner: W, max: u16) -> Result<Self, MakeError<W>>
+        ensures made { IfOk result (IsUnused W.log max inner) }
+        ensures whole { IfOk result IsOutgoing }
+        ensures handed_back { IfErr result (λ e. e.0 ≡ inner) }
+        ensures refused { IfErr result (λ e. e.1 ≡ GrowError.Memory) }
+    {
+        let buffer = match fixed_buffer(alloc, 3 * (HEADER + usize::from(max))) {
+            Ok(buffer) => buffer,
+            Err(e) => return Err(MakeError(inner, e)),
+        };
+        Ok(FrameWriter {
+            writer: BufWriter::with_buffer(buffer, inner).set_policy(WhenTold(false)),
+            max,
+        })
+    }
+
+    /// The inner writer.
+    pub fn get_ref(&self) -> &W
+        ensures inner { result.now ≡ self.now.writer.inner }
+        ensures log { W.log result.now ≡ self.now.writer.log }
+        ensures whole { IsOutgoing self.now }
+    {
+        self.writer.get_ref()
+    }
+
+    /// Takes the payload's frame in. It is sent where a later frame finds no room, and by [`flush`](FrameWriter::flush).
+    ///
+    /// At an `Err` nothing of the frame was taken in, so the call can be made again.
+    pub fn write_frame(&mut self, payload: &[u8]) -> Result<(), WriteFrameError>
+        ensures { WritesFrame W.stretch self.old payload.now result self.new }
+    {
+        if payload.len() > usize::from(self.max) {
+            return Err(WriteFrameError::TooLong(payload.len()));
+        }
+        self.make_room(HEADER + payload.len())?;
+        self.put(&(payload.len() as u16).to_be_bytes());
+        self.put(payload);
+        Ok(())
+    }
+
+    /// Sends all frames, and flushes the inner writer.
+    pub fn flush(&mut self) -> io::Result<()>
+        ensures flushed { WasFlushed W.log W.stretch self.old.writer result self.new.writer }
+        ensures went { FramesTaken W.stretch self.old [] self.new }
+        ensures whole { IsOutgoing self.new }
+    {
+        self.writer.flush()
+    }
+
+    /// Flushes, and hands the inner writer back; where that fails, the writer with the bytes that were not sent, and the
+    /// fault.
+    pub fn into_inner(mut self) -> Result<W, IntoInnerError<Self>>
+        ensures { MatchResult result (InnerOfFlushed W.log W.stretch self.writer (Ok tt))
+            (λ e. WasFlushed W.log W.stretch self.writer (Err e.1) e.0.writer × FramesTaken W.stretch self [] e.0) }
+    {
+        match self.flush() {
+            Ok(()) => {
+                let FrameWriter { writer, max: _ } = self;
+                let (inner, _) = writer.into_inner_with_buffer();
+                Ok(inner)
+            }
+            Err(e) => Err(IntoInnerError(self, e)),
+        }
+    }
+
+    // Sends all that is buffered where so many more bytes don't fit, and makes all free space usable.
+    fn make_room(&mut self, whole: usize) -> io::Result<()>
+        ensures went { FramesTaken W.stretch self.old [] self.new }
+        ensures fits { whole ≤ room self.old → (result ≡ Ok tt) × (self.new.writer.log ≡ self.old.writer.log) }
+        ensures full { room self.old < whole → OnOk result (unsent self.new ≡ []) }
+        ensures usable { OnOk result (usable self.new.writer.block ≡ room self.new) }
+        ensures met { OnOk result (MetInterrupts self.old.writer.log.writes self.new.writer.log.writes) }
+        ensures caused { IfErr result (λ e. SendErrorCaused self.old.writer.log.writes self.new.writer.log.writes e) }
+        ensures not_flushed { self.new.writer.log.writes.flushed ≡ self.old.writer.log.writes.flushed }
+        ensures whole { IsOutgoing self.new }
+    {
+        if self.writer.capacity() - self.writer.buf_len() < whole {
+            self.send()?;
+        }
+        self.writer.make_room();
+        Ok(())
+    }
+
+    // Sends all that is buffered.
+    #[tactic(auto, using(crate::proofs::Sending::met_sending))]
+    fn send(&mut self) -> io::Result<()>
+        ensures went { FramesTaken W.stretch self.old [] self.new }
+        ensures empty { OnOk result (unsent self.new ≡ []) }
+        ensures met { OnOk result (MetInterrupts self.old.writer.log.writes self.new.writer.log.writes) }
+        ensures caused { IfErr result (λ e. SendErrorCaused self.old.writer.log.writes self.new.writer.log.writes e) }
+        ensures not_flushed { self.new.writer.log.writes.flushed ≡ self.old.writer.log.writes.flushed }
+        ensures whole { IsOutgoing self.new }
+    {
+        self.writer.policy_mut().0 = true;
+        let sent = self.writer.write(&[]);
+        self.writer.policy_mut().0 = false;
+        match sent {
+            Ok(_) => Ok(()),
+            Err(e) => Err(e),
+        }
+    }
+
+    // Copies bytes in, for which there is room.
+    fn put(&mut self, bytes: &[u8])
+        requires room { length bytes.now ≤ usable self.old.writer.block }
+        requires inside { length bytes.now < self.old.writer.block.capacity }
+        ensures put { PutsIn W.stretch self.old bytes.now self.new }
+        ensures usable { usable self.old.writer.block ≤ usable self.new.writer.block + length bytes.now }
+    {
+        let _ = self.writer.write(bytes);
+    }
+}
