@@ -73,6 +73,43 @@ fn write_often(mut writer: impl Write, piece: &[u8], least: u64) -> io::Result<u
 }
 
 #[inline(never)]
+fn exact_to_end(mut reader: impl Read, least: u64) -> io::Result<u64> {
+    let mut word = [0u8; 8];
+    let (mut total, mut sum) = (0u64, 0u8);
+    while total < least {
+        reader.read_exact(&mut word)?;
+        sum = sum.wrapping_add(word[7]);
+        total += 8;
+    }
+    Ok(if sum == 255 { total + 1 } else { total })
+}
+
+#[inline(never)]
+fn write_all_often(mut writer: impl Write, piece: &[u8], least: u64) -> io::Result<u64> {
+    let mut total = 0;
+    while total < least {
+        writer.write_all(piece)?;
+        total += piece.len() as u64;
+    }
+    writer.flush()?;
+    Ok(total)
+}
+
+#[inline(never)]
+fn format_often(mut writer: impl Write, least: u64) -> io::Result<u64> {
+    let name = black_box("value");
+    let (mut total, mut at) = (0, 0u64);
+    while total < least {
+        let number = 1000000 + at;
+        at += 1;
+        write!(writer, "{name} {number}: {name}\n")?;
+        total += 21;
+    }
+    writer.flush()?;
+    Ok(total)
+}
+
+#[inline(never)]
 fn copy_to_end(mut reader: impl BufRead, mut writer: impl Write) -> io::Result<u64> {
     let mut total = 0;
     loop {
@@ -98,6 +135,7 @@ fn copy_at_once(mut reader: impl BufRead, mut writer: impl Write) -> io::Result<
 fn measured(shape: &str, capacity: usize, piece: usize, bytes: &[u8]) -> io::Result<u64> {
     let reader = || BufReader::with_capacity(capacity, Source { left: bytes });
     let writer = |capacity| BufWriter::with_capacity(capacity, Sink::default());
+    let lines = |capacity| LineWriter::with_capacity(capacity, Sink::default());
     match shape {
         "read" => read_to_end(reader(), &mut vec![0; piece]),
         "fill" => fill_to_end(reader(), piece),
@@ -105,11 +143,14 @@ fn measured(shape: &str, capacity: usize, piece: usize, bytes: &[u8]) -> io::Res
         "lines" => {
             let mut line = vec![b'x'; piece];
             line[piece - 1] = b'\n';
-            let lines = LineWriter::with_capacity(capacity, Sink::default());
-            write_often(lines, &line, bytes.len() as u64)
+            write_often(lines(capacity), &line, bytes.len() as u64)
         }
         "copy" => copy_to_end(reader(), writer(piece)),
         "copy_buf" => copy_at_once(reader(), writer(piece)),
+        "exact" => exact_to_end(reader(), bytes.len() as u64),
+        "write_all" => write_all_often(writer(capacity), &bytes[..piece], bytes.len() as u64),
+        "format" => format_often(writer(capacity), bytes.len() as u64),
+        "format_lines" => format_often(lines(capacity), bytes.len() as u64),
         _ => Ok(0),
     }
 }

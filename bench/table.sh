@@ -8,14 +8,21 @@ set -eu
 
 cases='read in pieces of 64|read 8192 64 8388608
 read in pieces of 4096|read 8192 4096 8388608
+read a byte a call|read 8192 1 1048576
+read_exact of 8|exact 8192 8 8388608
 fill 16384, consume 100|fill 16384 100 8388608
 the same under MinBuffered(4096)|look 16384 100 8388608
 write pieces of 16|write 8192 16 8388608
 write pieces of 100|write 8192 100 8388608
+write_all of 16|write_all 8192 16 8388608
+write_all of 100|write_all 8192 100 8388608
+write! of 21|format 8192 21 2097152
+write! of 21 to a LineWriter|format_lines 8192 21 2097152
 write lines of 80|lines 8192 80 8388608
 copy through 8192 and 8192|copy 8192 8192 8388608
 copy through 8192 and 16384|copy 8192 16384 8388608
 copy_buf through 8192 and 8192|copy_buf 8192 8192 8388608
+Unbuffer with 1 MiB left, pieces of 64|unbuffer 1048576 64 1048576
 grow from 4096 to 1 MiB by 4096|grow 4096 4096 1048576'
 
 here=$(cd "$(dirname "$0")" && pwd)

@@ -1,6 +1,7 @@
 //! What is measured, and over which types.
 
 use crate::streams::{Sink, Source};
+use crate::whole::{exact, format, format_lines, unbuffer, write_all};
 use buffer_redux::policy::MinBuffered;
 use buffer_redux::tell::{TellBufRead, TellWrite, Told};
 use buffer_redux::{BufImpl, BufReader, BufWriter, LineWriter, copy_buf};
@@ -27,6 +28,16 @@ pub enum Shape {
     CopyBuf,
     /// Fills a buffer and lets it grow by a piece, again and again.
     Grow,
+    /// Reads words of 8 bytes by `read_exact`.
+    Exact,
+    /// Writes the same bytes again and again by `write_all`, and flushes.
+    WriteAll,
+    /// Writes short lines by `write!`, and flushes.
+    Format,
+    /// The same to a line writer.
+    FormatLines,
+    /// Fills the buffer once, and reads what is left in an `Unbuffer` in pieces.
+    Unbuffer,
 }
 
 impl Shape {
@@ -40,6 +51,11 @@ impl Shape {
             "copy" => Some(Shape::Copy),
             "copy_buf" => Some(Shape::CopyBuf),
             "grow" => Some(Shape::Grow),
+            "exact" => Some(Shape::Exact),
+            "write_all" => Some(Shape::WriteAll),
+            "format" => Some(Shape::Format),
+            "format_lines" => Some(Shape::FormatLines),
+            "unbuffer" => Some(Shape::Unbuffer),
             _ => None,
         }
     }
@@ -88,14 +104,19 @@ pub fn measured(alloc: Global, case: &Case, bytes: &[u8]) -> io::Result<u64> {
         Shape::Copy => copy(alloc, case, bytes),
         Shape::CopyBuf => copy_at_once(alloc, case, bytes),
         Shape::Grow => grow(alloc, case, bytes.len()),
+        Shape::Exact => exact(alloc, case, bytes),
+        Shape::WriteAll => write_all(alloc, case, bytes),
+        Shape::Format => format(alloc, case, bytes.len() as u64),
+        Shape::FormatLines => format_lines(alloc, case, bytes.len() as u64),
+        Shape::Unbuffer => unbuffer(alloc, case, bytes),
     }
 }
 
-fn told(bytes: &[u8]) -> Told<Source<'_>> {
+pub fn told(bytes: &[u8]) -> Told<Source<'_>> {
     Told::new(Source { left: bytes })
 }
 
-fn told_sink() -> Told<Sink> {
+pub fn told_sink() -> Told<Sink> {
     Told::new(Sink::default())
 }
 
@@ -117,7 +138,7 @@ fn read(alloc: Global, case: &Case, bytes: &[u8]) -> io::Result<u64> {
 }
 
 #[inline(never)]
-fn read_to_end<R: Read + Drop>(reader: R, out: &mut [u8]) -> io::Result<u64> {
+pub fn read_to_end<R: Read + Drop>(reader: R, out: &mut [u8]) -> io::Result<u64> {
     let mut reader = reader;
     let mut total = 0u64;
     for _ in 0..u64::MAX {

@@ -4,6 +4,7 @@
 
 mod cases;
 mod streams;
+mod whole;
 
 use crate::cases::{Case, Kind, Shape, measured};
 use std::alloc::{AllocError, Global};
@@ -64,6 +65,11 @@ fn run_all(rt: &HostRuntime) -> io::Result<()> {
         ("copy", Shape::Copy, 4096, 8192),
         ("copy_buf", Shape::CopyBuf, 4096, 8192),
         ("grow", Shape::Grow, 4096, 4096),
+        ("exact", Shape::Exact, 8192, 8),
+        ("write_all", Shape::WriteAll, 8192, 100),
+        ("format", Shape::Format, 8192, 21),
+        ("format_lines", Shape::FormatLines, 8192, 21),
+        ("unbuffer", Shape::Unbuffer, 40000, 64),
     ] {
         let plain = Case {
             shape,

@@ -163,7 +163,7 @@ module _ {R P W Q : Type 0} {remaining : R → Option (List ℕ)} {stretch : W �
   pub copy_caused : (e : Error)
       → CopyFailed writer_log (WriterWent stretch std_write_rules) (WriterCalled std_write_rules) e
       (reader_log s).fills (reader_log t).fills u v
-      → EitherFailed e s.log t.log u.log v.log ⊎ OverTotal e s.log t.log
+      → EitherFailed e s.log t.log u.log v.log ⊎ OverTotal e s.log t.log u.log v.log
   copy_caused e (inl (inl source)) = inl (inl (record {
     fault = FaultsAlike-fault s.calls.fills.faults t.calls.fills.faults s.log.reads.faults t.log.reads.faults
         e (went.faults refl) source.fault;
@@ -173,7 +173,12 @@ module _ {R P W Q : Type 0} {remaining : R → Option (List ℕ)} {stretch : W �
     reader = only target.reader;
     caused = err_caused stretch u v t.block.bytes e target.last;
   }))
-  copy_caused e (inr much) = inr (much.other, over much.count much.copies.moved much.large)
+  copy_caused e (inr much) = inr (record {
+    other = much.other;
+    large = over much.count much.copies.moved much.large;
+    reader = only much.copies.reader;
+    writer = went'.met (tells_all u.policy) (own_met u v much.copies.writer);
+  })
 
   module _ (ended : CopyEnded writer_log (WriterWent stretch std_write_rules) (WriterCalled std_write_rules)
       (reader_log s).fills (reader_log t).fills u v) where

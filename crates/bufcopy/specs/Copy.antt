@@ -42,9 +42,12 @@ EitherFailed e read read' written written' =
     SourceFailed e read.reads.faults read'.reads.faults written.writes written'.writes
     ⊎ SendingFailed e read read' written written'
 
--- more bytes were given than a `u64` counts
-abbrev pub OverTotal : Error → StreamLog → StreamLog → Type 0
-OverTotal e read read' = (error_kind e ≡ Other) × (2 ^ 64 ≤ length read'.reads.given - length read.reads.given)
+-- more bytes were given than a `u64` counts, and both streams were at most interrupted
+pub record OverTotal (e : Error) (read read' written written' : StreamLog) : Type 0 where
+  pub other : error_kind e ≡ Other
+  pub large : 2 ^ 64 ≤ length read'.reads.given - length read.reads.given
+  pub reader : OnlyInterrupts read.reads.faults read'.reads.faults
+  pub writer : MetInterrupts written.writes written'.writes
 
 -- a buffer was refused before either stream was called
 abbrev pub BufferRefused : Error → StreamLog → StreamLog → StreamLog → StreamLog → Type 0
@@ -55,4 +58,4 @@ BufferRefused e read read' written written' =
 abbrev pub RunFailed : Error → StreamLog → StreamLog → StreamLog → StreamLog → Type 0
 RunFailed e read read' written written' =
     EitherFailed e read read' written written'
-    ⊎ (BufferRefused e read read' written written' ⊎ OverTotal e read read')
+    ⊎ (BufferRefused e read read' written written' ⊎ OverTotal e read read' written written')

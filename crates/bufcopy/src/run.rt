@@ -100,7 +100,7 @@ fn copy_all<R: TellRead, W: TellWrite>(
         Copied total source.old.log source.new.log target.old.log target.new.log) }
     ensures caused { IfErr result (λ e.
         EitherFailed e source.old.log source.new.log target.old.log target.new.log
-        ⊎ OverTotal e source.old.log source.new.log) }
+        ⊎ OverTotal e source.old.log source.new.log target.old.log target.new.log) }
     ensures a_beginning { IsBeginning source.old.log source.new.log target.old.log target.new.log }
     ensures not_flushed { OnErr result (target.new.log.writes.flushed ≡ target.old.log.writes.flushed) }
 {

@@ -1,26 +1,16 @@
 -- What copying moves from a reader of which it is known what is left.
-use Rattle.std.proofs.Common.{◌≡◌, ℕ, List, [], ◌++◌, length, Option, None, Some, IfSome, Result, Ok, Err, OnOk, refl, sym, ap, ◌∙◌, arith, inl, inr}
+use Rattle.std.proofs.Common.{◌≡◌, ℕ, List, ◌++◌, length, Option, Result, Ok, Err, OnOk, refl, sym, ap, ◌∙◌, arith, inl, inr}
 use Rattle.std.proofs.lemmas.Bool.{cases_lt}
 use Rattle.std.proofs.lemmas.List.{append_cancel_left, nil_from_length}
-use Rattle.std.proofs.KnownBytes.{Consumes-whole}
-use Rattle.std.specs.Io.KnownBytes.{Consumes, IsAtEnd, prepend_known}
 use Rattle.std.specs.declared.io.Error.{Error}
-use Rattle.redux_buffer.specs.StreamLog.{StreamLog, WriteLog, zero_of_none}
-use Rattle.buffer_redux.specs.Policy.{ReadRules}
+use Rattle.redux_tell.specs.StreamLog.{StreamLog, WriteLog, zero_of_none}
+use Rattle.redux_policy.specs.Policy.{ReadRules}
 use Rattle.buffer_redux.specs.Buffered.{Buffered}
+use Rattle.buffer_redux.specs.ReaderLaws.{ReadsInOrder-ahead, remaining_gives, IfSome-unless, handed_all}
 use Rattle.buffer_redux.specs.ReaderTells.{reader_log, ReaderWent}
-use Rattle.buffer_redux.specs.Copy.{MovedBy, CopyEnded, MovesKnown, ReceivesAll}
+use Rattle.redux_tell.specs.Copy.{MovedBy, CopyEnded, MovesKnown, ReceivesAll}
 use Rattle.buffer_redux.specs.Remaining.{ahead, may_stop, reader_remaining}
-use Rattle.buffer_redux.proofs.KnownAhead.{remaining_gives, ahead_gives, wants_so, at_nothing, IfSome_if, IfSome_any}
-
--- what was handed out is all that there was, where nothing is left
-handed_all : (a b : Option (List ℕ)) (bs bs' handed : List ℕ) (P : List ℕ → Type 0)
-    → Consumes (prepend_known bs a) (prepend_known bs' b) handed → bs' ≡ [] → IfSome a (λ _. IsAtEnd b)
-    → P handed → IfSome (prepend_known bs a) P
-handed_all None b bs bs' handed P went none ended holds = tt
-handed_all (Some x) b bs bs' handed P went none ended holds =
-    Consumes-whole (prepend_known bs (Some x)) (prepend_known bs' b) handed P went
-    (at_nothing b bs' none ended) holds
+use Rattle.buffer_redux.proofs.KnownAhead.{wants_so, IfSome_any}
 
 pub on_ok : (answer : Result ℕ Error) (P Q : Type 0) → (P → Q) → OnOk answer P → OnOk answer Q
 on_ok (Ok n) P Q h p = h p
@@ -49,7 +39,7 @@ module _ {S P : Type 0} (remaining : S → Option (List ℕ)) (rules : ReadRules
       → CopyEnded tells stretch call (reader_log s).fills (reader_log t).fills w w'
       → ReceivesAll (reader_remaining remaining rules s) to to'
   receives_all tells stretch call w w' at at' ended =
-      IfSome_if (may_stop rules s) (ahead remaining s) _ (λ is.
+      IfSome-unless (may_stop rules s) (ahead remaining s) _ (λ is.
       let wants = wants_so remaining rules s is in
       elim (cases_lt 0 (length t.block.bytes)) [
         | inl some ↦ IfSome_any (ahead remaining s) _ (λ xs. inr (omega (
@@ -63,7 +53,7 @@ module _ {S P : Type 0} (remaining : S → Option (List ℕ)) (rules : ReadRules
         | inr few ↦ (
             let none : length t.block.bytes ≡ 0 = omega (arith, few) in
             handed_all (remaining s.inner) (remaining t.inner) s.block.bytes t.block.bytes went.handed _
-            (ahead_gives remaining rules s t went.handed went.in_order went.known)
+            (ReadsInOrder-ahead remaining s t went.handed went.in_order went.known)
             (nil_from_length t.block.bytes none)
             (went.known.dry (omega (arith, ended.ends none, went.ends wants.0 wants.1))) (inl received)
             )

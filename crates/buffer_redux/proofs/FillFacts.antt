@@ -4,14 +4,14 @@ use Rattle.std.proofs.lemmas.Bool.{cases_lt}
 use Rattle.std.proofs.lemmas.List.{nil_from_length}
 use Rattle.std.specs.declared.io.Error.{Error}
 use Rattle.redux_buffer.specs.Block.{Block, Kind, Plain, Ring, OnKind, IsBlock, usable}
-use Rattle.redux_buffer.specs.LogGrows.{ReadLogGrows, ReadLogGrows-none, ReadLogGrows-joins, ReadLogGrows-read}
-use Rattle.redux_buffer.specs.StreamLog.{StreamLog, taken, after_read}
+use Rattle.redux_tell.specs.LogGrows.{ReadLogGrows, ReadLogGrows-none, ReadLogGrows-joins, ReadLogGrows-read}
+use Rattle.redux_tell.specs.StreamLog.{StreamLog, taken, after_read}
 use Rattle.redux_buffer.specs.Transfer.{ReadsOnce, ReadsFrom}
-use Rattle.buffer_redux.specs.Policy.{no_read, ReadRules, BeforeRead}
-use Rattle.buffer_redux.specs.declared.policy.DoRead.{DoRead}
+use Rattle.redux_policy.specs.Policy.{no_read, read_now, ReadRules, BeforeRead}
+use Rattle.redux_policy.specs.declared.DoRead.{DoRead}
 use Rattle.buffer_redux.specs.Buffered.{Buffered, GoesDirect, StaysInside}
-use Rattle.buffer_redux.specs.Fill.{Turns, Ends, Filled}
-use Rattle.buffer_redux.specs.BufReader.{PolicyDeclined, ReadsInOrder, ReadErrorCaused, FillEnded, LastAsk, EmptyFillCaused, EmptyReadCaused}
+use Rattle.buffer_redux.specs.Fill.{Ordered, Turns, Declined, Ends, Filled}
+use Rattle.buffer_redux.specs.BufReader.{PolicyGave, PolicyDeclined, ReadsInOrder, ReaderConsumes, ReadErrorCaused, FillEnded, LastAsk, EmptyFillCaused, EmptyReadCaused}
 use Rattle.buffer_redux.specs.ReaderLaws.{ReadsInOrder-none, ReadsInOrder-joins}
 
 -- one read that gave n bytes
@@ -166,10 +166,11 @@ module _ {S P : Type 0} (rules : ReadRules P) where
 
   -- what filled nothing hands out nothing for the same cause, where there is capacity
   pub empty_read : (s m t : Buffered S P) → EmptyFillCaused rules s m → 0 < m.block.capacity
-      → t.log.reads.zero_answers ≡ m.log.reads.zero_answers → EmptyReadCaused rules s t
-  empty_read s m t (inl said) room same = inl said
-  empty_read s m t (inr (inl none)) room same = absurd (omega (arith, none, room))
-  empty_read s m t (inr (inr rose)) room same = inr (omega (arith, same, rose))
+      → ReaderConsumes rules 0 m t → EmptyReadCaused rules s t
+  empty_read s m t (inl said) room handed = inl (record { filled = m; declined = said; handed = handed })
+  empty_read s m t (inr (inl none)) room handed = absurd (omega (arith, none, room))
+  empty_read s m t (inr (inr rose)) room handed =
+      inr (omega (arith, ap (λ l. l.reads.zero_answers) handed.told, rose))
 
   pub record TurnsFacts (k : ℕ) (s t : Buffered S P) : Type 0 where
     pub holds : Holds s t
@@ -206,41 +207,34 @@ module _ {S P : Type 0} (rules : ReadRules P) where
         longer = omega (arith, more, before.longer, turn.some, ap length asked.law.bytes);
       }
 
-  -- the last ask of a turn
-  last_of_turns : (k : ℕ) (s t : Buffered S P) → Turns rules (suc k) s t → LastAsk rules s t
-  last_of_turns k s t h =
-      let m = h.0 in
-      let before = turns_facts k s m h.1 in
-      let turn = h.2 in
-      let once = asked_once turn.seen t.block m.log t.log turn.count turn.read in record {
-        policy = m.policy;
-        policy' = t.policy;
-        before = m.block;
-        after = turn.seen;
-        asked = turn.ordered.asked;
-        saw = omega (arith, before.longer, before.asks, once);
-        offer = ap (λ l. l.reads.offer) turn.read.told ∙ turn.read.offered;
+  -- the ask that this answer was given to, after these turns, where nothing was asked since
+  asked_last : (k : ℕ) (s m t : Buffered S P) (policy : P) (seen left : Block) (answer : Result ℕ Error) (log : StreamLog)
+      → Turns rules k s m → Ordered rules m policy seen → ReadsOnce seen m.log answer left log → t.log ≡ log
+      → LastAsk rules s t
+  asked_last k s m t policy seen left answer log turns ordered read same =
+      let before = turns_facts k s m turns in
+      let told : t.log ≡ after_read m.log read.out answer = same ∙ read.told in record {
+        count = k;
+        before = m;
+        policy = policy;
+        seen = seen;
+        turns = turns;
+        ordered = ordered;
+        saw = before.longer;
+        asks = ap (λ l. l.reads.asks) told ∙ ap (λ n. n + 1) before.asks;
+        out = read.out;
+        answer = answer;
+        told = told;
+        offer = ap (λ l. l.reads.offer) told ∙ read.offered;
       }
 
-  last_of : (k : ℕ) (s m : Buffered S P)
-      → Turns rules k s m → s.log.reads.asks < m.log.reads.asks → LastAsk rules s m
-  last_of zero s m e some = absurd (omega (arith, ap (λ x. x.log.reads.asks) e))
-  last_of (suc k) s m h some = last_of_turns k s m h
-
-  -- the reader was not asked since
+  -- that of the last turn
   last_kept : (k : ℕ) (s m t : Buffered S P)
       → Turns rules k s m → t.log ≡ m.log → s.log.reads.asks < t.log.reads.asks → LastAsk rules s t
-  last_kept k s m t h same some =
-      let asks : t.log.reads.asks ≡ m.log.reads.asks = ap (λ l. l.reads.asks) same in
-      let a = last_of k s m h (omega (arith, asks)) in record {
-        policy = a.policy;
-        policy' = a.policy';
-        before = a.before;
-        after = a.after;
-        asked = a.asked;
-        saw = omega (arith, a.saw, asks);
-        offer = ap (λ l. l.reads.offer) same ∙ a.offer;
-      }
+  last_kept zero s m t e same some = absurd (omega (arith, some, ap (λ l. l.reads.asks) same, ap (λ x. x.log.reads.asks) e))
+  last_kept (suc k) s m t h same some =
+      let turn = h.2 in
+      asked_last k s h.0 t m.policy turn.seen m.block (Ok turn.count) m.log h.1 turn.ordered turn.read same
 
   -- the facts of a whole filling
   pub record FilledFacts {A : Type 0} (s : Buffered S P) (answer : Result A Error)
@@ -251,77 +245,62 @@ module _ {S P : Type 0} (rules : ReadRules P) where
     pub empty : is_ok answer ≡ true → length t.block.bytes ≡ 0 → EmptyFillCaused rules s t
     pub last : s.log.reads.asks < t.log.reads.asks → LastAsk rules s t
 
+  -- what the policy gave after these turns
+  gave_last : (k : ℕ) (s m t : Buffered S P) (answer : Result DoRead Error) → Turns rules k s m
+      → BeforeRead rules m.policy m.block answer t.policy t.block → t.log ≡ m.log → PolicyGave rules answer s t
+  gave_last k s m t answer turns asked told = record { count = k; last = m; turns = turns; gave = asked; told = told }
+
+  -- where nothing is buffered, there was no turn
   said_first : (k : ℕ) (s m t : Buffered S P) → Turns rules k s m → TurnsFacts k s m
-      → BeforeRead rules m.policy m.block no_read t.policy t.block → length t.block.bytes ≡ 0 → PolicyDeclined rules s
-  said_first zero s m t e facts asked none = subst (λ x. PolicyDeclined rules x) (sym e) (record {
-    policy' = t.policy;
-    after = t.block;
-    gave = asked;
-    none = nil_from_length m.block.bytes (omega (arith, ap length asked.law.bytes, none));
+      → Declined rules m t → length t.block.bytes ≡ 0 → PolicyDeclined rules s t
+  said_first zero s m t e facts end none = subst (λ x. PolicyDeclined rules x t) (sym e) (record {
+    none = nil_from_length m.block.bytes (omega (arith, ap length end.asked.law.bytes, none));
+    declined = end;
   })
-  said_first (suc k) s m t h facts asked none =
-      absurd (omega (arith, facts.longer, ap length asked.law.bytes, none))
+  said_first (suc k) s m t h facts end none =
+      absurd (omega (arith, facts.longer, ap length end.asked.law.bytes, none))
 
   ok_facts : {A : Type 0} (k : ℕ) (s m t : Buffered S P) (a : A) → IsBlock t.block → TurnsFacts k s m
       → Turns rules k s m → Ends rules m (Ok a) t → FilledFacts s (Ok a) t
   ok_facts k s m t a whole before turns (inl end) = record {
     holds = Holds-joins s m t before.holds (Holds-asked m t _ end.asked end.told);
     caused = ap (λ l. l.reads.faults) end.told ∙ before.faults;
-    ended = inl (record { policy = m.policy; block = m.block; gave = end.asked });
-    empty = λ _ none. inl (said_first k s m t turns before end.asked none);
+    ended = inl (gave_last k s m t no_read turns end.asked end.told);
+    empty = λ _ none. inl (said_first k s m t turns before end none);
     last = last_kept k s m t turns end.told;
   }
   ok_facts k s m t a whole before turns (inr (inl end)) = record {
     holds = Holds-joins s m t before.holds (Holds-asked m t _ end.asked end.told);
     caused = ap (λ l. l.reads.faults) end.told ∙ before.faults;
-    ended = inr (inl (end.full, record { policy = m.policy; block = m.block; gave = end.asked }));
+    ended = inr (inl (end.full, gave_last k s m t read_now turns end.asked end.told));
     empty = λ _ none. inr (inl (full_empty t.block whole end.full none));
     last = last_kept k s m t turns end.told;
   }
   ok_facts k s m t a whole before turns (inr (inr end)) =
-      let rose = zero_rose end.seen t.block m.log t.log end.read end.ordered.room in
-      let once = asked_once end.seen t.block m.log t.log 0 end.read in record {
+      let rose = zero_rose end.seen t.block m.log t.log end.read end.ordered.room in record {
         holds = Holds-joins s m t before.holds (Holds-read m t end.seen _ (Ok 0) end.ordered.asked end.read);
         caused = ap (λ l. l.reads.faults) end.read.told ∙ before.faults;
         ended = inr (inr (omega (arith, before.zero_answers, rose)));
         empty = λ _ none. inr (inr (omega (arith, before.zero_answers, rose)));
-        last = λ some. record {
-          policy = m.policy;
-          policy' = t.policy;
-          before = m.block;
-          after = end.seen;
-          asked = end.ordered.asked;
-          saw = omega (arith, before.longer, before.asks, once);
-          offer = ap (λ l. l.reads.offer) end.read.told ∙ end.read.offered;
-        };
+        last = λ some. asked_last k s m t t.policy end.seen t.block (Ok 0) t.log turns end.ordered end.read refl;
       }
 
   err_facts : {A : Type 0} (k : ℕ) (s m t : Buffered S P) (e : Error) → TurnsFacts k s m → Turns rules k s m
       → Ends {A = A} rules m (Err e) t → FilledFacts {A = A} s (Err e) t
   err_facts k s m t e before turns (inl end) = record {
     holds = Holds-joins s m t before.holds (Holds-asked m t _ end.asked end.told);
-    caused = inr (record { policy = m.policy; block = m.block; gave = end.asked });
+    caused = inr (gave_last k s m t (Err e) turns end.asked end.told);
     ended = tt;
     empty = λ no. cc;
     last = last_kept k s m t turns end.told;
   }
-  err_facts k s m t e before turns (inr end) =
-      let once : t.log.reads.asks ≡ m.log.reads.asks + 1 = ap (λ l. l.reads.asks) end.read.told in record {
-        holds = Holds-joins s m t before.holds (Holds-read m t end.seen _ (Err e) end.ordered.asked end.read);
-        caused =
-            inl (ap (λ l. l.reads.faults) end.read.told ∙ ap (λ l. l ++ e ∷ []) before.faults);
-        ended = tt;
-        empty = λ no. cc;
-        last = λ some. record {
-          policy = m.policy;
-          policy' = t.policy;
-          before = m.block;
-          after = end.seen;
-          asked = end.ordered.asked;
-          saw = omega (arith, before.longer, before.asks, once);
-          offer = ap (λ l. l.reads.offer) end.read.told ∙ end.read.offered;
-        };
-      }
+  err_facts k s m t e before turns (inr end) = record {
+    holds = Holds-joins s m t before.holds (Holds-read m t end.seen _ (Err e) end.ordered.asked end.read);
+    caused = inl (ap (λ l. l.reads.faults) end.read.told ∙ ap (λ l. l ++ e ∷ []) before.faults);
+    ended = tt;
+    empty = λ no. cc;
+    last = λ some. asked_last k s m t t.policy end.seen t.block (Err e) t.log turns end.ordered end.read refl;
+  }
 
   pub filled_facts : {A : Type 0} (s : Buffered S P) (answer : Result A Error) (t : Buffered S P)
       → IsBlock t.block → Filled rules s answer t → FilledFacts s answer t

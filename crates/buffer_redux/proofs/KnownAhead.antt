@@ -1,21 +1,21 @@
 -- What is known of the bytes ahead of a buffered reader, call after call.
-use Rattle.std.proofs.Common.{◌≡◌, ℕ, zero, suc, ◌<◌, ◌≤◌, ◌==◌, ◌||◌, ◌⊎◌, not, cond, List, [], ◌++◌, Bool, true, false, length, Result, Ok, Err, Option, None, Some, IfSome, IfOk, le_of_eq, refl, sym, ap, subst, ◌∙◌, arith, inl, inr, append_assoc}
+use Rattle.std.proofs.Common.{◌≡◌, ℕ, zero, suc, ◌<◌, ◌≤◌, ◌==◌, ◌||◌, ◌⊎◌, not, cond, List, [], Bool, true, false, length, Result, Ok, Err, Option, None, Some, IfSome, IfOk, le_of_eq, refl, sym, ap, subst, ◌∙◌, arith, inl, inr}
 use Rattle.std.proofs.lemmas.Bool.{not-false}
-use Rattle.std.proofs.lemmas.List.{append_cancel_left, nil_from_length}
+use Rattle.std.proofs.lemmas.List.{nil_from_length}
 use Rattle.std.proofs.KnownBytes.{prepend_known-front, prepend_known-end}
 use Rattle.std.specs.Io.{StartsWith}
-use Rattle.std.specs.Io.KnownBytes.{Keeps, Consumes, IsAtEnd, prepend_known}
+use Rattle.std.specs.Io.KnownBytes.{Keeps, IsAtEnd, prepend_known}
 use Rattle.std.specs.Borrow.{Bor}
 use Rattle.std.specs.Io.BufRead.{FillKeeps}
 use Rattle.std.specs.declared.io.Error.{Error}
-use Rattle.buffer_redux.specs.Policy.{ReadRules}
+use Rattle.redux_policy.specs.Policy.{ReadRules}
 use Rattle.buffer_redux.specs.Buffered.{Buffered}
 use Rattle.redux_buffer.specs.Block.{Block, usable}
-use Rattle.redux_buffer.specs.StreamLog.{StreamLog}
+use Rattle.redux_tell.specs.StreamLog.{StreamLog}
 use Rattle.redux_buffer.specs.Transfer.{ReadsFrom}
 use Rattle.buffer_redux.specs.BufReader.{ReadsInOrder, InnerGives, FillBuf}
 use Rattle.buffer_redux.specs.Fill.{Turns}
-use Rattle.buffer_redux.specs.ReaderLaws.{WantsSome, WantsBytes}
+use Rattle.buffer_redux.specs.ReaderLaws.{ReadsInOrder-ahead, WantsSome, WantsBytes, Keeps-of, IfSome-unless, remaining_gives, at_nothing}
 use Rattle.buffer_redux.proofs.FillFacts.{turns_facts}
 use Rattle.buffer_redux.specs.Remaining.{ahead, may_stop, wants_some, reader_remaining}
 
@@ -36,18 +36,6 @@ has_room : (c : ℕ) → (c == 0) ≡ false → 0 < c
 has_room zero e = cc
 has_room (suc c) e = omega arith
 
-goes_on_if : (b : Bool) (c c' : ℕ) → c ≤ c' → (b || (c == 0)) ≡ false → (b || (c' == 0)) ≡ false
-goes_on_if true c c' grown e = cc
-goes_on_if false zero c' grown e = cc
-goes_on_if false (suc c) zero grown e = absurd (omega (arith, grown))
-goes_on_if false (suc c) (suc c') grown e = grind arith
-
-Consumes_if : (b b' : Bool) (a c : Option (List ℕ)) (bs : List ℕ) → (b ≡ false → b' ≡ false) → Consumes a c bs
-    → Consumes (cond b None a) (cond b' None c) bs
-Consumes_if true b' a c bs h k = tt
-Consumes_if false true a c bs h k = let odd = h refl in cc
-Consumes_if false false a c bs h k = k
-
 -- in a turn the reader didn't run dry, nor in a read that failed
 pub dry_never : {S P : Type 0} (rules : ReadRules P) (k : ℕ) (s m : Buffered S P)
     → Turns rules k s m → s.log.reads.zero_answers < m.log.reads.zero_answers → ⊥
@@ -57,22 +45,6 @@ pub err_counts_none : (b b' : Block) (log log' : StreamLog) (e : Error)
     → ReadsFrom b log (Err e) b' log' → 0 < usable b → log'.reads.zero_answers ≡ log.reads.zero_answers
 err_counts_none b b' log log' e read room = ap (λ l. l.reads.zero_answers) (read.read room).told
 
--- what the buffer gained is what the reader inside lost
-Consumes_ahead : (a b : Option (List ℕ)) (bs bs' handed got more before after : List ℕ)
-    → after ≡ before ++ got → after ≡ before ++ more → handed ++ bs' ≡ bs ++ got → Consumes a b more
-    → Consumes (prepend_known bs a) (prepend_known bs' b) handed
-Consumes_ahead None b bs bs' handed got more before after p q e went = tt
-Consumes_ahead (Some x) None bs bs' handed got more before after p q e went = absurd went
-Consumes_ahead (Some x) (Some y) bs bs' handed got more before after p q e went =
-    let same : more ≡ got = append_cancel_left before more got (sym q ∙ p) in
-    ap (λ l. bs ++ l) went ∙ sym (append_assoc bs more y) ∙ ap (λ l. l ++ y) (ap (λ l. bs ++ l) same ∙ sym e)
-    ∙ append_assoc handed bs' y
-
-pub Keeps_of : (a b : Option (List ℕ)) → Consumes a b [] → Keeps a b
-Keeps_of None b p = tt
-Keeps_of (Some x) None p = absurd p
-Keeps_of (Some x) (Some y) p = sym p
-
 pub IfSome_any : (o : Option (List ℕ)) (P : List ℕ → Type 0) → ((xs : List ℕ) → P xs) → IfSome o P
 IfSome_any None P h = tt
 IfSome_any (Some xs) P h = h xs
@@ -81,36 +53,9 @@ at_end : (o : Option (List ℕ)) (P : Type 0) → (P → IsAtEnd o) → IfSome o
 at_end None P h = tt
 at_end (Some xs) P h = h
 
-pub IfSome_if : (b : Bool) (a : Option (List ℕ)) (P : List ℕ → Type 0)
-    → (b ≡ false → IfSome a P) → IfSome (cond b None a) P
-IfSome_if true a P h = tt
-IfSome_if false a P h = h refl
-
 IsAtEnd_if : (b : Bool) (a : Option (List ℕ)) → (b ≡ false → IsAtEnd a) → IsAtEnd (cond b None a)
 IsAtEnd_if true a h = tt
 IsAtEnd_if false a h = h refl
-
-module _ {S P : Type 0} (remaining : S → Option (List ℕ)) (rules : ReadRules P) (s t : Buffered S P)
-    (handed : List ℕ) (order : ReadsInOrder s handed t) (known : InnerGives remaining s t) where
-  -- what is ahead lost what was handed out
-  pub ahead_gives : Consumes (ahead remaining s) (ahead remaining t) handed
-  ahead_gives = Consumes_ahead (remaining s.inner) (remaining t.inner) s.block.bytes t.block.bytes
-      handed order.got known.more s.log.reads.given t.log.reads.given
-      order.given known.given order.equal known.went
-
-  pub remaining_gives : rules.claims t.policy ≡ rules.claims s.policy → s.block.capacity ≤ t.block.capacity
-      → Consumes (reader_remaining remaining rules s) (reader_remaining remaining rules t) handed
-  remaining_gives claims grown =
-      Consumes_if (may_stop rules s) (may_stop rules t) (ahead remaining s) (ahead remaining t) handed
-      (λ is. subst (λ c. (not (c.steady || wants_some c.minimum) || (t.block.capacity == 0)) ≡ false)
-      (sym claims)
-      (goes_on_if (not ((rules.claims s.policy).steady || wants_some (rules.claims s.policy).minimum))
-      s.block.capacity t.block.capacity grown is))
-      ahead_gives
-
-pub at_nothing : (a : Option (List ℕ)) (bs : List ℕ) → bs ≡ [] → IsAtEnd a → IsAtEnd (prepend_known bs a)
-at_nothing None bs none e = tt
-at_nothing (Some y) bs none e = ap (λ l. l ++ y) none ∙ e
 
 module _ {S P : Type 0} (remaining : S → Option (List ℕ)) (rules : ReadRules P) (s : Buffered S P) where
   pub wants_so : may_stop rules s ≡ false → WantsBytes (rules.claims s.policy) × (0 < s.block.capacity)
@@ -131,7 +76,7 @@ module _ {S P : Type 0} (remaining : S → Option (List ℕ)) (rules : ReadRules
   module _ (t : Buffered S P) (order : ReadsInOrder s [] t)
       (known : InnerGives remaining s t) where
     kept : Keeps (ahead remaining s) (ahead remaining t)
-    kept = Keeps_of (ahead remaining s) (ahead remaining t) (ahead_gives remaining rules s t [] order known)
+    kept = Keeps-of (ahead remaining s) (ahead remaining t) (ReadsInOrder-ahead remaining s t [] order known)
 
     module _ (shown : List ℕ) (same : shown ≡ t.block.bytes) where
       lent : Keeps (ahead remaining s) (prepend_known shown (remaining t.inner))
@@ -139,14 +84,14 @@ module _ {S P : Type 0} (remaining : S → Option (List ℕ)) (rules : ReadRules
 
       -- what a fill shows is the front of what is ahead
       pub fill_front : IfSome (reader_remaining remaining rules s) (λ xs. StartsWith xs shown)
-      fill_front = IfSome_if (may_stop rules s) (ahead remaining s) (λ xs. StartsWith xs shown)
+      fill_front = IfSome-unless (may_stop rules s) (ahead remaining s) (λ xs. StartsWith xs shown)
           (λ _. prepend_known-front (ahead remaining s) (remaining t.inner) shown lent)
 
       -- and where it shows nothing, nothing is ahead
       pub fill_end : (WantsBytes (rules.claims s.policy) → 0 < s.block.capacity → length t.block.bytes ≡ 0
           → IsAtEnd (remaining t.inner))
           → IfSome (reader_remaining remaining rules s) (λ xs. length shown ≡ 0 → xs ≡ [])
-      fill_end ended = IfSome_if (may_stop rules s) (ahead remaining s) (λ xs. length shown ≡ 0 → xs ≡ [])
+      fill_end ended = IfSome-unless (may_stop rules s) (ahead remaining s) (λ xs. length shown ≡ 0 → xs ≡ [])
           (λ is. at_end (ahead remaining s) (length shown ≡ 0)
           (λ none. prepend_known-end (ahead remaining s) (remaining t.inner) shown lent
           (nil_from_length shown none)
@@ -164,7 +109,7 @@ pub fill_keeps : {S P : Type 0} (remaining : S → Option (List ℕ)) (rules : R
     → FillKeeps (reader_remaining remaining rules s) (reader_remaining remaining rules t)
     (Some (length t.block.bytes)) answer
 fill_keeps remaining rules s answer t f = (
-  Keeps_of (reader_remaining remaining rules s) (reader_remaining remaining rules t)
+  Keeps-of (reader_remaining remaining rules s) (reader_remaining remaining rules t)
       (remaining_gives remaining rules s t [] f.fills.in_order f.known f.fills.claims f.fills.capacity),
   IfSome_any (reader_remaining remaining rules s) _ (λ _. shows_at_most answer t.block.bytes f.shown),
 )

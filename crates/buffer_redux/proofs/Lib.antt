@@ -1,5 +1,4 @@
 pub mod Turning
-pub mod Copying
 pub mod SparingFacts
 pub mod FillFacts
 pub mod FillClaims
@@ -15,3 +14,6 @@ pub mod PlayWriting
 pub mod WriterCounts
 pub mod CopyKnown
 pub mod FlushKnown
+pub mod WriteAll
+pub mod ReadAll
+pub mod ReadSteps

@@ -3,10 +3,10 @@ use Rattle.std.proofs.Common.{◌≡◌, ℕ, ◌<◌, Bool, List, [], ◌∷◌
 use Rattle.std.proofs.lemmas.List.Elements.{All-head, All-tail, All-take}
 use Rattle.std.specs.List.{All}
 use Rattle.std.specs.Prelude.{MatchBool}
-use Rattle.redux_buffer.specs.LogGrows.{ReadLogGrows-none, ReadLogGrows-joins}
+use Rattle.redux_tell.specs.LogGrows.{ReadLogGrows-none, ReadLogGrows-joins}
 use Rattle.buffer_redux.specs.declared.play.ReaderCall.{ReaderCall}
 use Rattle.buffer_redux.specs.declared.play.ReaderAnswer.{ReaderAnswer}
-use Rattle.buffer_redux.specs.Policy.{ReadRules, ClaimsToSpare}
+use Rattle.redux_policy.specs.Policy.{ReadRules, ClaimsToSpare}
 use Rattle.buffer_redux.specs.ReaderLaws.{ReadsInOrder-none, ReadsInOrder-joins}
 use Rattle.buffer_redux.specs.PlayReader.{Handing, HandsOut, MakesNoRoom, ReaderStep, ReaderRuns, ReaderPlays}
 use Rattle.buffer_redux.specs.Sparing.{Spared, Spared-none, Spared-joins, SparesClaimed}
@@ -18,6 +18,8 @@ HandsOut-none s = record {
   grows = ReadLogGrows-none s.reader.log.reads;
   consumed = omega arith;
   capacity = omega arith;
+  kind = refl;
+  noted = refl;
 }
 
 HandsOut-joins : {S P : Type 0} (s m t : Handing S P) (a b : List ℕ) → HandsOut s a m → HandsOut m b t
@@ -29,6 +31,8 @@ HandsOut-joins s m t a b p q = record {
       ReadLogGrows-joins s.reader.log.reads m.reader.log.reads t.reader.log.reads p.grows q.grows;
   consumed = omega (arith, length-append a b, p.consumed, q.consumed);
   capacity = omega (arith, p.capacity, q.capacity);
+  kind = q.kind ∙ p.kind;
+  noted = q.noted ∙ p.noted;
 }
 
 module _ {S P : Type 0} (rules : ReadRules P) where

@@ -1,10 +1,10 @@
 -- Runs of a writer go on by one step, and accept what their steps do; and no call consumes more than it sends.
-use Rattle.std.proofs.Common.{◌≡◌, ℕ, ◌<◌, Bool, List, [], ◌∷◌, ◌++◌, length, take, refl, sym, subst, arith}
+use Rattle.std.proofs.Common.{◌≡◌, ℕ, ◌<◌, Bool, List, [], ◌∷◌, ◌++◌, length, take, refl, sym, subst, ◌∙◌, arith}
 use Rattle.std.specs.Prelude.{MatchBool}
-use Rattle.redux_buffer.specs.LogGrows.{WriteLogGrows-none, WriteLogGrows-joins}
+use Rattle.redux_tell.specs.LogGrows.{WriteLogGrows-none, WriteLogGrows-joins}
 use Rattle.buffer_redux.specs.declared.play.WriterCall.{WriterCall}
 use Rattle.buffer_redux.specs.declared.play.WriterAnswer.{WriterAnswer}
-use Rattle.buffer_redux.specs.Policy.{WriteRules}
+use Rattle.redux_policy.specs.Policy.{WriteRules}
 use Rattle.buffer_redux.specs.Buffered.{Buffered}
 use Rattle.buffer_redux.specs.WriterLaws.{WritesInOrder-none, WritesInOrder-joins}
 use Rattle.buffer_redux.specs.PlayWriter.{Accepts, WriterStep, WriterRuns, WriterPlays, accepted, accepted_by}
@@ -15,6 +15,8 @@ Accepts-none s = record {
   grows = WriteLogGrows-none s.log.writes;
   consumed = omega arith;
   capacity = omega arith;
+  kind = refl;
+  noted = refl;
 }
 
 Accepts-joins : {S P : Type 0} (s m t : Buffered S P) (a b : List ℕ) → Accepts s a m → Accepts m b t
@@ -24,6 +26,8 @@ Accepts-joins s m t a b p q = record {
   grows = WriteLogGrows-joins s.log.writes m.log.writes t.log.writes p.grows q.grows;
   consumed = omega (arith, p.consumed, q.consumed);
   capacity = omega (arith, p.capacity, q.capacity);
+  kind = q.kind ∙ p.kind;
+  noted = q.noted ∙ p.noted;
 }
 
 module _ {S P : Type 0} (rules : WriteRules P) where

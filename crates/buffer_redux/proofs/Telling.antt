@@ -6,14 +6,14 @@ use Rattle.std.proofs.lemmas.List.Elements.{All-head}
 use Rattle.std.specs.List.{All}
 use Rattle.std.specs.declared.io.Error.{Error}
 use Rattle.std.specs.declared.io.ErrorKind.TheVariants.{WriteZero}
-use Rattle.redux_buffer.specs.GoesOn.{GoesOn-none}
-use Rattle.redux_buffer.specs.StreamLog.{StreamLog, WriteLog, with_end, zero_of_some, zero_of_none, after_write, after_flush}
-use Rattle.redux_buffer.specs.LogGrows.{ReadLogGrows, WriteLogGrows, FillLogGrows}
-use Rattle.redux_buffer.specs.Faults.{IsInterrupt, MetInterrupts, MetInterrupts-err, TookNothing, SendErrorCaused}
-use Rattle.buffer_redux.specs.Policy.{ReadRules, WriteRules, ReadsSteadily}
+use Rattle.redux_tell.specs.GoesOn.{GoesOn-none}
+use Rattle.redux_tell.specs.StreamLog.{StreamLog, WriteLog, with_end, zero_of_some, zero_of_none, after_write, after_flush}
+use Rattle.redux_tell.specs.LogGrows.{ReadLogGrows, WriteLogGrows, FillLogGrows}
+use Rattle.redux_tell.specs.Faults.{IsInterrupt, MetInterrupts, MetInterrupts-err, TookNothing, SendErrorCaused}
+use Rattle.redux_policy.specs.Policy.{ReadRules, WriteRules, ReadsSteadily}
 use Rattle.buffer_redux.specs.Buffered.{Buffered, with_policy}
 use Rattle.buffer_redux.specs.Fill.{Ends, Filled}
-use Rattle.redux_buffer.specs.GivesRemaining.{GivesRemaining}
+use Rattle.redux_tell.specs.GivesRemaining.{GivesRemaining}
 use Rattle.buffer_redux.specs.BufReader.{Fills, InnerGives}
 use Rattle.buffer_redux.specs.BufWriter.{WriterFailed, SteadyWrite, Writes, WriteErrorCaused, IsFlushed, Flushes, FlushesAmount, TakesIn}
 use Rattle.buffer_redux.specs.WriterLaws.{Wrote-met}
@@ -174,7 +174,7 @@ module _ {S P : Type 0} (remaining : S → Option (List ℕ)) (rules : ReadRules
     second = elim f.caused [
       | inl fault ↦ fault
       | inr gave ↦
-          absurd (subst (λ b. ReadsSteadily b gave.block (Err e))
+          absurd (subst (λ b. ReadsSteadily b gave.last.block (Err e))
           (ap (λ x. x.steady) (sym gave.gave.claims ∙ f.claims) ∙ steady) gave.gave.steady)
     ];
   }
@@ -340,7 +340,7 @@ err_met own own' inner inner' e fault caused met =
 module _ {S P : Type 0} (rules : WriteRules P) (s t : Buffered S P) (bs : List ℕ)
     (tells : TellsFailures rules s.policy) where
   pub write_met : (answer : Result ℕ Error)
-      → Writes rules s bs answer t → WriteErrorCaused rules s (length bs) answer t
+      → Writes rules s bs answer t → WriteErrorCaused rules s bs answer t
       → MetInterrupts s.calls.writes (after_write s.calls bs answer).writes
       → MetInterrupts s.log.writes t.log.writes
   write_met (Ok n) wrote caused own = elim (Wrote-met rules s bs n t tells.1 wrote).met [
@@ -354,17 +354,17 @@ module _ {S P : Type 0} (rules : WriteRules P) (s t : Buffered S P) (bs : List �
   ]
   write_met (Err e) failed caused own = err_met s.calls.writes (after_write s.calls bs (Err e)).writes
       s.log.writes t.log.writes e refl
-      (steady_caused rules s t (length bs) e tells.0 caused) own
+      (steady_caused rules s t bs e tells.0 caused) own
 
   pub write_fault : (answer : Result ℕ Error) (f : Error)
-      → WriteErrorCaused rules s (length bs) answer t
+      → WriteErrorCaused rules s bs answer t
       → (after_write s.calls bs answer).writes.faults ≡ s.calls.writes.faults ++ f ∷ []
       → SendErrorCaused s.log.writes t.log.writes f
   write_fault (Ok n) f caused odd = absurd (no_fault s.calls.writes.faults f odd)
   write_fault (Err e) f caused same =
       subst (SendErrorCaused s.log.writes t.log.writes)
       (same_fault s.calls.writes.faults e f same)
-      (steady_caused rules s t (length bs) e tells.0 caused)
+      (steady_caused rules s t bs e tells.0 caused)
 
   pub write_nothing : (answer : Result ℕ Error)
       → Writes rules s bs answer t → SteadyWrite s (length bs) answer t

@@ -1,14 +1,13 @@
 -- What follows where a writer was taken apart by a handler that leaves the inner writer, and leaves or clears the
 -- buffer.
-use Rattle.std.proofs.Common.{◌≡◌, ◌⊎◌, [], length, Result, Ok, Err}
-use Rattle.std.proofs.Common.{sym, ap, ◌∙◌, arith, inl, inr, length-drop}
+use Rattle.std.proofs.Common.{◌≡◌, [], length, Result, Ok, Err, sym, ap, ◌∙◌, arith, length-drop}
 use Rattle.std.proofs.lemmas.List.{nil_from_length}
 use Rattle.std.specs.Prelude.{MatchResult}
 use Rattle.std.specs.Borrow.{MutBor}
 use Rattle.std.specs.declared.io.Error.{Error}
 use Rattle.redux_buffer.specs.Block.{Block, Clears}
-use Rattle.redux_buffer.specs.Faults.{SendErrorCaused}
-use Rattle.redux_buffer.specs.StreamLog.{StreamLog}
+use Rattle.redux_tell.specs.Faults.{SendErrorCaused}
+use Rattle.redux_tell.specs.StreamLog.{StreamLog}
 use Rattle.redux_buffer.specs.Transfer.{Sends}
 use Rattle.buffer_redux.specs.Buffered.{Buffered, with_block, with_inner}
 use Rattle.buffer_redux.specs.Unwrapping.{Handler, Handled, SendsOrHandles, KeepsUnsent, DropsUnsent}
@@ -39,11 +38,10 @@ module _ {S P : Type 0} (tells : S → StreamLog) (stretch : S → S → Type 0)
 
   why_left : (sending : Result (Unit {0}) Error) (b : Block) (log : StreamLog)
       → Sends (length s.block.bytes) s.block s.log sending b log
-      → (b.bytes ≡ []) ⊎ ((e : Error) × SendErrorCaused s.log.writes log.writes e)
-  why_left (Ok _) b log f = inl (nil_from_length b.bytes
-      (omega (arith, ap length f.sent.dropped.bytes, length-drop f.count s.block.bytes, f.whole)))
-  why_left (Err e) b log f =
-      inr (e, record { interrupts = f.interrupts; cause = f.failed.cause })
+      → MatchResult sending (λ _. b.bytes ≡ []) (λ e. SendErrorCaused s.log.writes log.writes e)
+  why_left (Ok _) b log f = nil_from_length b.bytes
+      (omega (arith, ap length f.sent.dropped.bytes, length-drop f.count s.block.bytes, f.whole))
+  why_left (Err e) b log f = record { interrupts = f.interrupts; cause = f.failed.cause }
 
   -- what sending left, before the handler was called
   sending_keeps : (inner : S) (b : Block) (f : SendsOrHandles tells stretch handler s inner b)

@@ -3,12 +3,12 @@ use Rattle.std.proofs.Common.{◌≡◌, ℕ, ◌<◌, List, [], ◌++◌, lengt
 use Rattle.std.specs.Io.KnownBytes.{WriteAppends}
 use Rattle.std.specs.declared.io.Error.{Error}
 use Rattle.redux_buffer.specs.Block.{IsBlock, Extends, usable}
-use Rattle.buffer_redux.specs.Policy.{WriteRules, BeforeWrite}
-use Rattle.buffer_redux.specs.declared.policy.FlushAmt.{FlushAmt}
+use Rattle.redux_policy.specs.Policy.{WriteRules, BeforeWrite}
+use Rattle.redux_policy.specs.declared.FlushAmt.{FlushAmt}
 use Rattle.buffer_redux.specs.Buffered.{Buffered}
-use Rattle.buffer_redux.specs.BufWriter.{writer_contents, FlushesAmount, TakesIn, Prepared, Writes, WritesOn, EmptyWriteCaused}
+use Rattle.buffer_redux.specs.BufWriter.{writer_contents, FlushesAmount, TakesIn, Prepared, Writes, WritesOn}
 use Rattle.buffer_redux.specs.WriterLaws.{WritesInOrder-contents}
-use Rattle.buffer_redux.proofs.WriterFacts.{writes_keep, wrote_nothing}
+use Rattle.buffer_redux.proofs.WriterFacts.{writes_keep}
 
 -- the first question, and what is left of the write
 module _ {S P : Type 0} (rules : WriteRules P) (s m : Buffered S P) (bs : List ℕ) (amount : FlushAmt)
@@ -75,8 +75,3 @@ module _ {S P : Type 0} (rules : WriteRules P) (s : Buffered S P) (bs : List ℕ
   writes_contents (Err e) t w =
       WritesInOrder-contents s t [] (writes_keep rules s bs (Err e) t w).in_order
       ∙ append-nil (s.log.writes.received ++ s.block.bytes)
-
-  pub writes_nothing : (answer : Result ℕ Error) (t : Buffered S P)
-      → Writes rules s bs answer t → answer ≡ Ok 0 → 0 < length bs → EmptyWriteCaused rules s (length bs) t
-  writes_nothing (Ok n) t w is some = wrote_nothing rules s bs n t w (cc) some
-  writes_nothing (Err e) t w is some = cc

@@ -4,11 +4,11 @@ use Rattle.std.proofs.lemmas.Bool.{cases_lt}
 use Rattle.std.proofs.lemmas.List.{nil_from_length, take-append-drop}
 use Rattle.std.specs.declared.io.Error.{Error}
 use Rattle.redux_buffer.specs.Block.{Block, usable}
-use Rattle.redux_buffer.specs.GoesOn.{GoesOn}
-use Rattle.redux_buffer.specs.LogGrows.{WriteLogGrows, WriteLogGrows-none, WriteLogGrows-joins, WriteLogGrows-write}
-use Rattle.redux_buffer.specs.StreamLog.{StreamLog, taken}
+use Rattle.redux_tell.specs.GoesOn.{GoesOn}
+use Rattle.redux_tell.specs.LogGrows.{WriteLogGrows, WriteLogGrows-none, WriteLogGrows-joins, WriteLogGrows-write}
+use Rattle.redux_tell.specs.StreamLog.{StreamLog, taken}
 use Rattle.redux_buffer.specs.Transfer.{Sends}
-use Rattle.buffer_redux.specs.Policy.{WriteRules}
+use Rattle.redux_policy.specs.Policy.{WriteRules}
 use Rattle.buffer_redux.specs.Buffered.{Buffered, with_policy}
 use Rattle.buffer_redux.specs.BufWriter.{FlushesAmount, TakesIn, CopiesIn, Prepared, Finished, WritesInOrder}
 use Rattle.buffer_redux.specs.WriterLaws.{flush_ways, ways_in, WritesInOrder-joins}

@@ -1,15 +1,15 @@
 -- What follows from a whole write: what it keeps, why it failed, and why it took nothing.
-use Rattle.std.proofs.Common.{◌≡◌, ℕ, ◌+◌, ◌<◌, List, [], ◌∷◌, ◌++◌, true, length, take, Result, Ok, Err, sym, ap, ◌∙◌, arith, inl, inr, append-nil, length-append, length-drop, min, subst}
+use Rattle.std.proofs.Common.{◌≡◌, ℕ, zero, suc, ◌+◌, ◌<◌, List, [], ◌∷◌, ◌++◌, true, length, take, Result, Ok, Err, refl, sym, ap, ◌∙◌, arith, inl, inr, append-nil, length-append, length-drop, min, subst}
 use Rattle.std.proofs.lemmas.Bool.{cases_lt}
 use Rattle.std.specs.declared.io.Error.{Error}
 use Rattle.redux_buffer.specs.Block.{Block, usable}
 use Rattle.std.proofs.lemmas.List.Elements.{All-nil}
-use Rattle.redux_buffer.specs.Faults.{IsInterrupt, SendErrorCaused, FaultedAfter-after}
-use Rattle.redux_buffer.specs.StreamLog.{WriteLog, taken, after_write}
-use Rattle.buffer_redux.specs.Policy.{WriteRules, BeforeWrite, FlushesSteadily}
-use Rattle.buffer_redux.specs.declared.policy.FlushAmt.{FlushAmt}
+use Rattle.redux_tell.specs.Faults.{IsInterrupt, SendErrorCaused, FaultedAfter-after}
+use Rattle.redux_tell.specs.StreamLog.{WriteLog, taken, after_write}
+use Rattle.redux_policy.specs.Policy.{WriteRules, BeforeWrite, FlushesSteadily}
+use Rattle.redux_policy.specs.declared.FlushAmt.{FlushAmt}
 use Rattle.buffer_redux.specs.Buffered.{Buffered, GoesPast, StaysInside}
-use Rattle.buffer_redux.specs.BufWriter.{FlushesAmount, TakesIn, Wrote, Writes, WriteErrorCaused, WriterFailed, WritesSteadily, NoSpace, TookNothingPast, EmptyWriteCaused}
+use Rattle.buffer_redux.specs.BufWriter.{FlushesAmount, TakesIn, Prepared, Wrote, Writes, WriteErrorCaused, WriterFailed, WritesSteadily, NoSpace, TookNothingPast, EmptyWriteCaused}
 use Rattle.buffer_redux.specs.WriterLaws.{flush_ways, ways_in, FlushesAmount-met}
 use Rattle.buffer_redux.proofs.WriteSteps.{StepKeeps, log_same, WritesInOrder-same, StepKeeps-joins, StepKeeps-then, capacity_stays, bytes_stay, StepKeeps-takes, StepKeeps-prepared, StepKeeps-finished}
 
@@ -23,7 +23,7 @@ module _ {S P : Type 0} (rules : WriteRules P) (s : Buffered S P) (bs : List ℕ
       (StepKeeps-finished rules wrote.after t wrote.finished)
 
   took_nothing : n ≡ 0 → 0 < length bs → GoesPast wrote.before.block (length bs)
-      → TookNothingPast rules s (length bs) t
+      → TookNothingPast s (length bs) wrote.before t
   took_nothing none some past =
       let p = wrote.prepared in
       let first = FlushesAmount-met p.seen wrote.before (p.amount.0) p.flush in
@@ -36,8 +36,6 @@ module _ {S P : Type 0} (rules : WriteRules P) (s : Buffered S P) (bs : List ℕ
         | inr no_more ↦ (wrote.finished.flush.idle (inl (omega (arith, no_more)))).told
       ] in
       record {
-        before = wrote.before;
-        prepared = p;
         past = past;
         zero_writes = omega (
           arith,
@@ -48,7 +46,8 @@ module _ {S P : Type 0} (rules : WriteRules P) (s : Buffered S P) (bs : List ℕ
         );
       }
 
-  no_space : n ≡ 0 → 0 < length bs → StaysInside wrote.before.block (length bs) → NoSpace rules s (length bs)
+  no_space : n ≡ 0 → 0 < length bs → StaysInside wrote.before.block (length bs)
+      → NoSpace s (length bs) wrote.before
   no_space none some inside =
       let p = wrote.prepared in
       let copied = wrote.took_in.inside inside in
@@ -65,19 +64,22 @@ module _ {S P : Type 0} (rules : WriteRules P) (s : Buffered S P) (bs : List ℕ
       bytes_stay p.seen wrote.before (p.amount.0) (Ok tt) p.flush
       (omega (arith, settled.usable, full, capacity, p.whole.fits)) ∙ law.bytes in
       record {
-        before = wrote.before;
-        prepared = p;
         full = omega (arith, ap length kept, settled.usable, full, capacity, law.capacity);
         room = omega (arith, settled.usable, full);
         kept = kept;
         inside = inside;
       }
 
-  pub wrote_nothing : n ≡ 0 → 0 < length bs → EmptyWriteCaused rules s (length bs) t
-  wrote_nothing none some = elim (ways_in wrote.before.block (length bs)) [
-    | inl past ↦ inl (took_nothing none some past)
-    | inr inside ↦ inr (no_space none some inside)
-  ]
+-- why a write took nothing of something
+pub wrote_nothing : {S P : Type 0} (rules : WriteRules P) (s : Buffered S P) (bs : List ℕ) (t : Buffered S P)
+    → Wrote rules s bs 0 t → 0 < length bs → EmptyWriteCaused rules s bs t
+wrote_nothing rules s bs t wrote some = record {
+  steps = wrote;
+  why = elim (ways_in wrote.before.block (length bs)) [
+    | inl past ↦ inl (took_nothing rules s bs 0 t wrote refl some past)
+    | inr inside ↦ inr (no_space rules s bs 0 t wrote refl some inside)
+  ];
+}
 
 -- what every write keeps: the joined lists, a log that goes on, and at least the capacity
 pub writes_keep : {S P : Type 0} (rules : WriteRules P) (s : Buffered S P) (bs : List ℕ)
@@ -119,12 +121,11 @@ blamed old new e caused = elim caused.cause [
 
 module _ {S P : Type 0} (rules : WriteRules P) where
   -- a steady policy flushes all before a write that doesn't fit, so there is space where the write stays inside
-  steady_space : (s : Buffered S P) (incoming : ℕ) → (rules.claims s.policy).steady ≡ true → 0 < incoming
-      → NoSpace rules s incoming → ⊥
-  steady_space s incoming steady some space =
-      let p = space.prepared in
-      let same = capacity_stays p.seen space.before (p.amount.0) (Ok tt) p.flush in
-      let long : length space.before.block.bytes ≡ length p.seen.block.bytes =
+  steady_space : (s before : Buffered S P) (incoming : ℕ) → (rules.claims s.policy).steady ≡ true → 0 < incoming
+      → Prepared rules incoming s (Ok tt) before → NoSpace s incoming before → ⊥
+  steady_space s before incoming steady some p space =
+      let same = capacity_stays p.seen before (p.amount.0) (Ok tt) p.flush in
+      let long : length before.block.bytes ≡ length p.seen.block.bytes =
       ap length space.kept ∙ sym (ap length p.asked.law.bytes) in
       let tight : usable p.seen.block ≡ 0 = omega (arith, p.whole.fits, space.room, same, long) in
       let all : p.amount.0 ≡ length p.seen.block.bytes =
@@ -166,9 +167,9 @@ module _ {S P : Type 0} (rules : WriteRules P) where
     | inr inside ↦ (let odd = (f.inside inside).answered in cc)
   ]
 
-  writes_caused : (s : Buffered S P) (bs : List ℕ) (e : Error) (t : Buffered S P)
-      → Writes rules s bs (Err e) t → WriteErrorCaused rules s (length bs) (Err e) t
-  writes_caused s bs e t (inl refused) = inl refused.asked
+  pub writes_caused : (s : Buffered S P) (bs : List ℕ) (e : Error) (t : Buffered S P)
+      → Writes rules s bs (Err e) t → WriteErrorCaused rules s bs (Err e) t
+  writes_caused s bs e t (inl refused) = inl refused
   writes_caused s bs e t (inr (inl p)) =
       inr (after_asked s p.seen t e p.told (flush_caused p.seen t (p.amount.0) e p.flush))
   writes_caused s bs e t (inr (inr faulted)) =
@@ -187,23 +188,33 @@ module _ {S P : Type 0} (rules : WriteRules P) where
             }));
       }))
 
-  pub steady_caused : (s t : Buffered S P) (incoming : ℕ) (e : Error) → (rules.claims s.policy).steady ≡ true
-      → WriteErrorCaused rules s incoming (Err e) t → SendErrorCaused s.log.writes t.log.writes e
-  steady_caused s t incoming e steady (inl refused) =
-      absurd (asks_steadily rules s.policy s.block incoming (Err e) t.policy t.block steady refused)
-  steady_caused s t incoming e steady (inr caused) = caused
+  pub steady_caused : (s t : Buffered S P) (bs : List ℕ) (e : Error) → (rules.claims s.policy).steady ≡ true
+      → WriteErrorCaused rules s bs (Err e) t → SendErrorCaused s.log.writes t.log.writes e
+  steady_caused s t bs e steady (inl refused) =
+      absurd (asks_steadily rules s.policy s.block (length bs) (Err e) t.policy t.block steady refused.asked)
+  steady_caused s t bs e steady (inr caused) = caused
+
+  -- what took nothing of something under such a policy, a write of the inner writer did
+  steady_nothing : (s : Buffered S P) (bs : List ℕ) (t : Buffered S P) → (rules.claims s.policy).steady ≡ true
+      → 0 < length bs → EmptyWriteCaused rules s bs t → s.log.writes.zero_writes < t.log.writes.zero_writes
+  steady_nothing s bs t steady some caused = elim caused.why [
+    | inl nothing ↦ omega (arith, nothing.zero_writes)
+    | inr space ↦ absurd (steady_space s caused.steps.before (length bs) steady some caused.steps.prepared space)
+  ]
+
+  pub writes_nothing : (s : Buffered S P) (bs : List ℕ) (answer : Result ℕ Error) (t : Buffered S P)
+      → Writes rules s bs answer t → answer ≡ Ok 0 → 0 < length bs → EmptyWriteCaused rules s bs t
+  writes_nothing s bs (Ok zero) t w is some = wrote_nothing rules s bs t w some
+  writes_nothing s bs (Ok (suc n)) t w is some = absurd (cc)
+  writes_nothing s bs (Err e) t w is some = absurd (cc)
 
   pub writes_steadily : (s : Buffered S P) (bs : List ℕ) (answer : Result ℕ Error) (t : Buffered S P)
       → Writes rules s bs answer t → WritesSteadily rules s (length bs) answer t
   writes_steadily s bs (Ok n) t wrote steady = record {
     err = tt;
-    empty = λ is some. elim (wrote_nothing rules s bs n t wrote (cc) some) [
-      | inl nothing ↦ omega (arith, nothing.zero_writes)
-      | inr space ↦ absurd (steady_space s (length bs) steady some space)
-    ];
+    empty = λ is some. steady_nothing s bs t steady some (writes_nothing s bs (Ok n) t wrote is some);
   }
   writes_steadily s bs (Err e) t failed steady = record {
-    err = blamed s.log.writes t.log.writes e
-        (steady_caused s t (length bs) e steady (writes_caused s bs e t failed));
+    err = blamed s.log.writes t.log.writes e (steady_caused s t bs e steady (writes_caused s bs e t failed));
     empty = λ is. cc;
   }

@@ -3,12 +3,13 @@ use Rattle.std.specs.Prelude.{◌≡◌, ℕ, ◌+◌, ◌-◌, ◌<◌, ◌≤�
 use Rattle.std.specs.Borrow.{Bor}
 use Rattle.std.specs.declared.io.Error.{Error}
 use Rattle.redux_buffer.specs.Block.{Block, IsBlock, ConsumesFirst, OnlyRingMoves, usable}
-use Rattle.redux_buffer.specs.LogGrows.{ReadLogGrows}
-use Rattle.redux_buffer.specs.GivesRemaining.{GivesRemaining}
-use Rattle.buffer_redux.specs.declared.policy.DoRead.{DoRead}
-use Rattle.buffer_redux.specs.Policy.{ReadRules, BeforeRead, AfterConsume, no_read, read_now}
+use Rattle.redux_tell.specs.LogGrows.{ReadLogGrows}
+use Rattle.redux_tell.specs.StreamLog.{after_read}
+use Rattle.redux_tell.specs.GivesRemaining.{GivesRemaining}
+use Rattle.redux_policy.specs.declared.DoRead.{DoRead}
+use Rattle.redux_policy.specs.Policy.{ReadRules, BeforeRead, AfterConsume, no_read, read_now}
 use Rattle.buffer_redux.specs.Buffered.{Buffered}
-use Rattle.buffer_redux.specs.Fill.{Filled}
+use Rattle.buffer_redux.specs.Fill.{Turns, Ordered, Declined, Filled}
 use Rattle.buffer_redux.specs.Sparing.{SparesClaimed}
 
 -- the bytes handed out, then those buffered, are those that were buffered, then those given since
@@ -17,25 +18,39 @@ pub record ReadsInOrder {S P : Type 0} (s : Buffered S P) (handed : List ℕ) (t
   pub given : t.log.reads.given ≡ s.log.reads.given ++ got
   pub equal : handed ++ t.block.bytes ≡ s.block.bytes ++ got
 
--- the policy gave this answer in its last call, which left it and the buffer as they are now
-pub record PolicyGave {S P : Type 0} (rules : ReadRules P) (answer : Result DoRead Error) (t : Buffered S P)
-    : Type 0 where
-  pub policy : P
-  pub block : Block
-  pub gave : BeforeRead rules policy block answer t.policy t.block
+-- the first n bytes were dropped, or all, and the policy was told so
+pub record ReaderConsumes {S P : Type 0} (rules : ReadRules P) (n : ℕ) (s t : Buffered S P) : Type 0 where
+  pub left : Block
+  pub dropped : ConsumesFirst (min n (length s.block.bytes)) s.block left
+  pub moved : OnlyRingMoves s.block left
+  pub told_policy : AfterConsume rules s.policy left (min n (length s.block.bytes)) t.policy t.block
+  pub told : t.log ≡ s.log
 
--- nothing is buffered, and the policy, asked first about that, said no
-pub record PolicyDeclined {S P : Type 0} (rules : ReadRules P) (s : Buffered S P) : Type 0 where
-  pub policy' : P
-  pub after : Block
-  pub gave : BeforeRead rules s.policy s.block no_read policy' after
+-- after these turns the policy gave this answer, which left it and the buffer as they are now, and nothing was read since
+pub record PolicyGave {S P : Type 0} (rules : ReadRules P) (answer : Result DoRead Error) (s t : Buffered S P)
+    : Type 0 where
+  pub count : ℕ
+  pub last : Buffered S P
+  pub turns : Turns rules count s last
+  pub gave : BeforeRead rules last.policy last.block answer t.policy t.block
+  pub told : t.log ≡ last.log
+
+-- nothing is buffered, and the policy, asked about that, said no, which ended the filling
+pub record PolicyDeclined {S P : Type 0} (rules : ReadRules P) (s t : Buffered S P) : Type 0 where
   pub none : s.block.bytes ≡ []
+  pub declined : Declined rules s t
+
+-- so filling ended, and then nothing was handed out, of which the policy was told
+pub record ReadDeclined {S P : Type 0} (rules : ReadRules P) (s t : Buffered S P) : Type 0 where
+  pub filled : Buffered S P
+  pub declined : PolicyDeclined rules s filled
+  pub handed : ReaderConsumes rules 0 filled t
 
 -- an error is the reader's last fault, or the policy's answer; an Ok met no fault
 abbrev pub ReadErrorCaused : {S P A : Type 0} → ReadRules P → Buffered S P → Result A Error → Buffered S P → Type 0
 ReadErrorCaused rules s (Ok a) t = t.log.reads.faults ≡ s.log.reads.faults
 ReadErrorCaused rules s (Err e) t =
-    (t.log.reads.faults ≡ s.log.reads.faults ++ e ∷ []) ⊎ PolicyGave rules (Err e) t
+    (t.log.reads.faults ≡ s.log.reads.faults ++ e ∷ []) ⊎ PolicyGave rules (Err e) s t
 
 -- the reader gave nothing though it was asked for something
 abbrev pub RanDry : {S P : Type 0} → Buffered S P → Buffered S P → Type 0
@@ -44,26 +59,31 @@ RanDry s t = s.log.reads.zero_answers < t.log.reads.zero_answers
 -- filling ended since the policy said no, or left no room, or the reader gave nothing
 abbrev pub FillEnded : {S P A : Type 0} → ReadRules P → Buffered S P → Result A Error → Buffered S P → Type 0
 FillEnded rules s (Ok a) t =
-    PolicyGave rules no_read t ⊎ ((usable t.block ≡ 0) × PolicyGave rules read_now t) ⊎ RanDry s t
+    PolicyGave rules no_read s t ⊎ ((usable t.block ≡ 0) × PolicyGave rules read_now s t) ⊎ RanDry s t
 FillEnded rules s (Err e) t = ⊤
 
 -- a fill shows nothing only where the policy said no over an empty buffer, there is no capacity, or the reader ran dry
 abbrev pub EmptyFillCaused : {S P : Type 0} → ReadRules P → Buffered S P → Buffered S P → Type 0
-EmptyFillCaused rules s t = PolicyDeclined rules s ⊎ ((t.block.capacity ≡ 0) ⊎ RanDry s t)
+EmptyFillCaused rules s t = PolicyDeclined rules s t ⊎ ((t.block.capacity ≡ 0) ⊎ RanDry s t)
 
 -- a read hands out nothing only where the policy said no over an empty buffer, or the reader ran dry
 abbrev pub EmptyReadCaused : {S P : Type 0} → ReadRules P → Buffered S P → Buffered S P → Type 0
-EmptyReadCaused rules s t = PolicyDeclined rules s ⊎ RanDry s t
+EmptyReadCaused rules s t = ReadDeclined rules s t ⊎ RanDry s t
 
--- the last ask was ordered by a policy that saw almost all that came of these asks, and it offered all the room
+-- the last ask: after these turns the policy, which saw all that came of them, ordered it, and it offered all the room
 pub record LastAsk {S P : Type 0} (rules : ReadRules P) (s t : Buffered S P) : Type 0 where
+  pub count : ℕ
+  pub before : Buffered S P
   pub policy : P
-  pub policy' : P
-  pub before : Block
-  pub after : Block
-  pub asked : BeforeRead rules policy before read_now policy' after
-  pub saw : length s.block.bytes + t.log.reads.asks ≤ length before.bytes + s.log.reads.asks + 1
-  pub offer : t.log.reads.offer ≡ usable after
+  pub seen : Block
+  pub turns : Turns rules count s before
+  pub ordered : Ordered rules before policy seen
+  pub saw : length s.block.bytes + count ≤ length before.block.bytes
+  pub asks : t.log.reads.asks ≡ s.log.reads.asks + count + 1
+  pub out : List ℕ
+  pub answer : Result ℕ Error
+  pub told : t.log ≡ after_read before.log out answer
+  pub offer : t.log.reads.offer ≡ usable seen
 
 -- filling up to a minimum goes on until so many bytes are there, and asks for no more. An `Err` leaves fewer. Where so
 -- many are there, the reader isn't called; a capacity that holds so many stays, and so does the limit
@@ -112,6 +132,22 @@ pub record Fills {S P A : Type 0} (rules : ReadRules P) (s : Buffered S P) (answ
 abbrev pub InnerGives : {S P : Type 0} → (S → Option (List ℕ)) → Buffered S P → Buffered S P → Type 0
 InnerGives remaining s t = GivesRemaining (remaining s.inner) s.log.reads (remaining t.inner) t.log.reads
 
+-- what any calls do, one after another, that hand out these bytes and make no seek
+pub record ReadsAlong {S P : Type 0} (remaining : S → Option (List ℕ)) (rules : ReadRules P)
+    (s : Buffered S P) (handed : List ℕ) (t : Buffered S P) : Type 0 where
+  pub in_order : ReadsInOrder s handed t
+  pub known : InnerGives remaining s t
+  pub grows : ReadLogGrows s.log.reads t.log.reads
+  pub capacity : s.block.capacity ≤ t.block.capacity
+  pub claims : rules.claims t.policy ≡ rules.claims s.policy
+
+-- all that there was is handed out: nothing is buffered, and the reader inside gave nothing when it was asked for more
+pub record ReadsToEnd {S P : Type 0} (remaining : S → Option (List ℕ)) (rules : ReadRules P)
+    (s : Buffered S P) (handed : List ℕ) (t : Buffered S P) : Type 0 where
+  pub along : ReadsAlong remaining rules s handed t
+  pub none : t.block.bytes ≡ []
+  pub dry : RanDry s t
+
 -- what `fill_buf()` does: it fills, and at Ok lends all that is buffered
 pub record FillBuf {S P : Type 0} (remaining : S → Option (List ℕ)) (rules : ReadRules P)
     (s : Buffered S P) (answer : Result (Bor (List ℕ)) Error) (t : Buffered S P) : Type 0 where
@@ -119,14 +155,6 @@ pub record FillBuf {S P : Type 0} (remaining : S → Option (List ℕ)) (rules :
   pub known : InnerGives remaining s t
   pub shown : IfOk answer (λ bytes. bytes.now ≡ t.block.bytes)
   pub noted : t.calls ≡ s.calls
-
--- the first n bytes were dropped, or all, and the policy was told so
-pub record ReaderConsumes {S P : Type 0} (rules : ReadRules P) (n : ℕ) (s t : Buffered S P) : Type 0 where
-  pub left : Block
-  pub dropped : ConsumesFirst (min n (length s.block.bytes)) s.block left
-  pub moved : OnlyRingMoves s.block left
-  pub told_policy : AfterConsume rules s.policy left (min n (length s.block.bytes)) t.policy t.block
-  pub told : t.log ≡ s.log
 
 -- what stands behind the bytes that were handed out is as it was, and all of the slice where none were
 abbrev pub LeavesRest : List ℕ → Result ℕ Error → List ℕ → Type 0

@@ -3,11 +3,11 @@ use Rattle.std.specs.Prelude.{◌≡◌, ℕ, ◌+◌, ◌-◌, ◌<◌, ◌≤�
 use Rattle.std.specs.declared.io.Error.{Error}
 use Rattle.std.specs.declared.io.traits.SeekFrom.{SeekFrom}
 use Rattle.redux_buffer.specs.Block.{Block, IsBlock, Extends, MakesRoom, usable}
-use Rattle.redux_buffer.specs.StreamLog.{StreamLog, WriteLog, SeekCall, taken, after_write, after_flush, after_seek}
-use Rattle.redux_buffer.specs.Faults.{OnlyInterrupted, SendErrorCaused}
+use Rattle.redux_tell.specs.StreamLog.{StreamLog, WriteLog, SeekCall, taken, after_write, after_flush, after_seek}
+use Rattle.redux_tell.specs.Faults.{OnlyInterrupted, MetInterrupts, SendErrorCaused}
 use Rattle.redux_buffer.specs.Transfer.{DoesNothing, Sends}
-use Rattle.buffer_redux.specs.declared.policy.FlushAmt.{FlushAmt}
-use Rattle.buffer_redux.specs.Policy.{WriteRules, BeforeWrite, AfterWrite}
+use Rattle.redux_policy.specs.declared.FlushAmt.{FlushAmt}
+use Rattle.redux_policy.specs.Policy.{WriteRules, BeforeWrite, AfterWrite}
 use Rattle.buffer_redux.specs.Buffered.{Buffered, GoesPast, StaysInside, GoesDirect, InnerWent, with_policy}
 
 -- the bytes received since, then those buffered, are those that were buffered, then those accepted
@@ -111,32 +111,30 @@ abbrev pub WritesOn : {S P : Type 0} → WriteRules P → ℕ → Buffered S P �
 WritesOn rules amount m bs (Ok n) t = WroteOn rules amount m bs n t
 WritesOn rules amount m bs (Err e) t = FlushesAmount amount m (Err e) t ⊎ FaultedOn amount m bs e t
 
--- an error is the policy's answer, or was caused by the inner writer
-abbrev pub WriteErrorCaused : {S P : Type 0} → WriteRules P → Buffered S P → ℕ → Result ℕ Error → Buffered S P → Type 0
-WriteErrorCaused rules s incoming answer t = IfErr answer (λ e.
-    BeforeWrite rules s.policy s.block incoming (Err e) t.policy t.block
-    ⊎ SendErrorCaused s.log.writes t.log.writes e)
+-- an error is the policy's answer, and nothing else was done, or it was caused by the inner writer
+abbrev pub WriteErrorCaused : {S P : Type 0} → WriteRules P → Buffered S P → List ℕ → Result ℕ Error → Buffered S P
+    → Type 0
+WriteErrorCaused rules s bs answer t =
+    IfErr answer (λ e. WriteRefused rules s bs e t ⊎ SendErrorCaused s.log.writes t.log.writes e)
 
--- no space was free as the call began, and flushing before the copy made none
-pub record NoSpace {S P : Type 0} (rules : WriteRules P) (s : Buffered S P) (incoming : ℕ) : Type 0 where
-  pub before : Buffered S P
-  pub prepared : Prepared rules incoming s (Ok tt) before
+-- the write past the buffer, which stood so before it, took nothing, and no other write did
+pub record TookNothingPast {S P : Type 0} (s : Buffered S P) (incoming : ℕ) (before t : Buffered S P) : Type 0 where
+  pub past : GoesPast before.block incoming
+  pub zero_writes : t.log.writes.zero_writes ≡ s.log.writes.zero_writes + 1
+
+-- no space was free as the call began, and the flush before the copy, which found the buffer so, made none
+pub record NoSpace {S P : Type 0} (s : Buffered S P) (incoming : ℕ) (before : Buffered S P) : Type 0 where
   pub full : s.block.capacity - length s.block.bytes ≡ 0
   pub room : before.block.capacity - length before.block.bytes ≡ 0
   pub kept : before.block.bytes ≡ s.block.bytes
   pub inside : StaysInside before.block incoming
 
--- the write past the buffer took nothing, and no other write did
-pub record TookNothingPast {S P : Type 0} (rules : WriteRules P) (s : Buffered S P) (incoming : ℕ) (t : Buffered S P)
+-- nothing of something was taken in only where, after its first flush, the write past the buffer took nothing, or there
+-- was no space
+pub record EmptyWriteCaused {S P : Type 0} (rules : WriteRules P) (s : Buffered S P) (bs : List ℕ) (t : Buffered S P)
     : Type 0 where
-  pub before : Buffered S P
-  pub prepared : Prepared rules incoming s (Ok tt) before
-  pub past : GoesPast before.block incoming
-  pub zero_writes : t.log.writes.zero_writes ≡ s.log.writes.zero_writes + 1
-
--- nothing of something was taken in only where the write past the buffer took nothing, or there was no space
-abbrev pub EmptyWriteCaused : {S P : Type 0} → WriteRules P → Buffered S P → ℕ → Buffered S P → Type 0
-EmptyWriteCaused rules s incoming t = TookNothingPast rules s incoming t ⊎ NoSpace rules s incoming
+  pub steps : Wrote rules s bs 0 t
+  pub why : TookNothingPast s (length bs) steps.before t ⊎ NoSpace s (length bs) steps.before
 
 -- a fault came, or a write took nothing of something
 abbrev pub WriterFailed : WriteLog → WriteLog → Type 0
@@ -152,6 +150,13 @@ pub record SteadyWrite {S P : Type 0} (s : Buffered S P) (incoming : ℕ) (answe
 -- so it is under a steady policy
 abbrev pub WritesSteadily : {S P : Type 0} → WriteRules P → Buffered S P → ℕ → Result ℕ Error → Buffered S P → Type 0
 WritesSteadily rules s incoming answer t = (rules.claims s.policy).steady ≡ true → SteadyWrite s incoming answer t
+
+-- what an Ok `send()` has done: nothing is buffered, the inner writer received what was, and nothing went wrong but that
+-- writes were interrupted
+pub record IsSent {S P : Type 0} (s t : Buffered S P) : Type 0 where
+  pub empty : t.block.bytes ≡ []
+  pub received : t.log.writes.received ≡ s.log.writes.received ++ s.block.bytes
+  pub met : MetInterrupts s.log.writes t.log.writes
 
 -- what `flush()` does: all bytes are sent, and then the inner writer is flushed
 pub record Flushes {S P : Type 0} (s : Buffered S P) (answer : Result (Unit {0}) Error)

@@ -4,20 +4,19 @@ use Rattle.std.specs.List.{All}
 use Rattle.std.specs.IoError.{error_kind}
 use Rattle.std.specs.declared.io.Error.{Error}
 use Rattle.std.specs.declared.io.ErrorKind.{ErrorKind}
-use Rattle.redux_buffer.specs.declared.grow_error.GrowError.{GrowError}
-use Rattle.redux_buffer.specs.Block.{Reserves, MakesRoom, capacity_for, usable}
-use Rattle.redux_buffer.specs.GrowError.{FitsWithin}
-use Rattle.redux_buffer.specs.LogGrows.{ReadLogGrows}
+use Rattle.redux_buffer.specs.Block.{LeavesBytes}
+use Rattle.redux_tell.specs.LogGrows.{ReadLogGrows}
 use Rattle.redux_buffer.specs.Transfer.{ReadsFrom}
 use Rattle.buffer_redux.specs.declared.play.ReaderCall.{ReaderCall}
 use Rattle.buffer_redux.specs.declared.play.ReaderCall.TheVariants.{Read, Fill, Consume, ReadIntoBuf, MakeRoom, Reserve}
 use Rattle.buffer_redux.specs.declared.play.ReaderAnswer.{ReaderAnswer}
 use Rattle.buffer_redux.specs.declared.play.ReaderAnswer.TheVariants.{Count, Shown, Done, Fault, Refused}
-use Rattle.buffer_redux.specs.Policy.{ReadRules}
-use Rattle.buffer_redux.specs.Buffered.{Buffered, with_block, GoesPast, StaysInside, GoesDirect}
+use Rattle.redux_policy.specs.Policy.{ReadRules}
+use Rattle.buffer_redux.specs.Buffered.{Buffered, GoesPast, StaysInside, GoesDirect}
 use Rattle.buffer_redux.specs.Fill.{Filled}
-use Rattle.redux_buffer.specs.StreamLog.{after_read}
+use Rattle.redux_tell.specs.StreamLog.{after_read}
 use Rattle.buffer_redux.specs.BufReader.{ReadsInOrder, ReadErrorCaused, EmptyReadCaused, EmptyFillCaused, ReaderConsumes, ReadsBuffered}
+use Rattle.buffer_redux.specs.PlayRoom.{RoomMade, ReserveDone, ReserveRefused}
 use Rattle.buffer_redux.specs.Sparing.{SparesClaimed}
 
 -- a reader, and the bytes that were handed out so far
@@ -78,39 +77,22 @@ pub record ConsumeCounted {S P : Type 0} (rules : ReadRules P) (s : Buffered S P
   pub front : out ≡ take k s.block.bytes
   pub consumes : ReaderConsumes rules n s t
 
--- `ReadIntoBuf` with `Count(k)`: one read into the buffer gave k bytes, or there was no room for one
+-- `ReadIntoBuf` with `Count(k)`: one read into the buffer gave k bytes, or there was no room for one. The policy was not
+-- asked
 pub record IntoBufCounted {S P : Type 0} (s : Buffered S P) (k : ℕ) (out : List ℕ) (t : Buffered S P) : Type 0 where
   pub none : out ≡ []
   pub read : ReadsFrom s.block s.log (Ok k) t.block t.log
+  pub policy : t.policy ≡ s.policy
 
--- `ReadIntoBuf` with `Fault(kind)`: one read into the buffer met this fault
+-- `ReadIntoBuf` with `Fault(kind)`: one read into the buffer met this fault, and left the bytes
 pub record IntoBufFailed {S P : Type 0} (s : Buffered S P) (kind : ErrorKind) (out : List ℕ) (t : Buffered S P)
     : Type 0 where
   pub none : out ≡ []
   pub error : Error
   pub is_kind : error_kind error ≡ kind
   pub read : ReadsFrom s.block s.log (Err error) t.block t.log
-
--- `MakeRoom` with `Done`: the same bytes, with all free space usable
-pub record RoomMade {S P : Type 0} (s : Buffered S P) (out : List ℕ) (t : Buffered S P) : Type 0 where
-  pub none : out ≡ []
-  pub room : MakesRoom s.block t.block
-  pub others : t ≡ with_block s t.block
-
--- `Reserve(a)` with `Done`: the same bytes, with a usable behind them
-pub record ReserveDone {S P : Type 0} (s : Buffered S P) (a : ℕ) (out : List ℕ) (t : Buffered S P) : Type 0 where
-  pub none : out ≡ []
-  pub grown : Reserves a s.block t.block
-  pub enough : a ≤ usable t.block
-  pub others : t ≡ with_block s t.block
-
--- `Reserve(a)` with `Refused(e)`: it was needed and not had, and nothing changed
-pub record ReserveRefused {S P : Type 0} (s : Buffered S P) (a : ℕ) (e : GrowError) (out : List ℕ)
-    (t : Buffered S P) : Type 0 where
-  pub none : out ≡ []
-  pub needed : usable s.block < a
-  pub limit : FitsWithin {T = Unit {0}} (Err e) (capacity_for s.block a) s.block.limit
-  pub unchanged : t ≡ s
+  pub left : LeavesBytes s.block t.block
+  pub policy : t.policy ≡ s.policy
 
 -- what this answer to this call says of the reader before and after, and of the bytes handed out; other pairs are no
 -- steps
@@ -123,18 +105,21 @@ ReaderAnswers rules s Fill (Fault kind) out t = FillFailed rules s kind out t
 ReaderAnswers rules s (Consume n) (Count k) out t = ConsumeCounted rules s n k out t
 ReaderAnswers rules s ReadIntoBuf (Count k) out t = IntoBufCounted s k out t
 ReaderAnswers rules s ReadIntoBuf (Fault kind) out t = IntoBufFailed s kind out t
-ReaderAnswers rules s MakeRoom Done out t = RoomMade s out t
-ReaderAnswers rules s (Reserve a) Done out t = ReserveDone s a out t
-ReaderAnswers rules s (Reserve a) (Refused e) out t = ReserveRefused s a e out t
+ReaderAnswers rules s MakeRoom Done out t = (out ≡ []) × RoomMade s t
+ReaderAnswers rules s (Reserve a) Done out t = (out ≡ []) × ReserveDone s a t
+ReaderAnswers rules s (Reserve a) (Refused e) out t = (out ≡ []) × ReserveRefused s a e t
 ReaderAnswers rules s call answer out t = ⊥
 
--- bytes were handed out, and none was lost or changed place; no more were consumed than handed out
+-- bytes were handed out, and none was lost or changed place; no more were consumed than handed out. The capacity didn't
+-- fall, the kind stayed, and the reader noted no call of its own
 pub record HandsOut {S P : Type 0} (s : Handing S P) (out : List ℕ) (t : Handing S P) : Type 0 where
   pub handed : t.handed ≡ s.handed ++ out
   pub in_order : ReadsInOrder s.reader out t.reader
   pub grows : ReadLogGrows s.reader.log.reads t.reader.log.reads
   pub consumed : t.reader.block.consumed ≤ s.reader.block.consumed + length out
   pub capacity : s.reader.block.capacity ≤ t.reader.block.capacity
+  pub kind : t.reader.block.kind ≡ s.reader.block.kind
+  pub noted : t.reader.calls ≡ s.reader.calls
 
 -- a call that doesn't make room by itself
 abbrev pub MakesNoRoom : ReaderCall → Type 0

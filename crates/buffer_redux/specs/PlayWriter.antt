@@ -3,18 +3,16 @@ use Rattle.std.specs.Prelude.{◌≡◌, ℕ, ◌+◌, ◌<◌, ◌≤◌, List,
 use Rattle.std.specs.IoError.{error_kind}
 use Rattle.std.specs.declared.io.Error.{Error}
 use Rattle.std.specs.declared.io.ErrorKind.{ErrorKind}
-use Rattle.redux_buffer.specs.declared.grow_error.GrowError.{GrowError}
-use Rattle.redux_buffer.specs.Block.{Reserves, MakesRoom, capacity_for, usable}
-use Rattle.redux_buffer.specs.Faults.{SendErrorCaused}
-use Rattle.redux_buffer.specs.GrowError.{FitsWithin}
-use Rattle.redux_buffer.specs.LogGrows.{WriteLogGrows}
+use Rattle.redux_tell.specs.Faults.{SendErrorCaused}
+use Rattle.redux_tell.specs.LogGrows.{WriteLogGrows}
 use Rattle.buffer_redux.specs.declared.play.WriterCall.{WriterCall}
 use Rattle.buffer_redux.specs.declared.play.WriterCall.TheVariants.{Write, Flush, MakeRoom, Reserve}
 use Rattle.buffer_redux.specs.declared.play.WriterAnswer.{WriterAnswer}
 use Rattle.buffer_redux.specs.declared.play.WriterAnswer.TheVariants.{Count, Done, Fault, Refused}
-use Rattle.buffer_redux.specs.Policy.{WriteRules}
-use Rattle.buffer_redux.specs.Buffered.{Buffered, with_block}
+use Rattle.redux_policy.specs.Policy.{WriteRules}
+use Rattle.buffer_redux.specs.Buffered.{Buffered}
 use Rattle.buffer_redux.specs.BufWriter.{WritesInOrder, WriteErrorCaused, EmptyWriteCaused, Writes, Flushes, IsFlushed}
+use Rattle.buffer_redux.specs.PlayRoom.{RoomMade, ReserveDone, ReserveRefused}
 
 -- the bytes that a call with this answer took in: the first k of a write that returned `Ok(k)`, and of all calls
 abbrev pub accepted_by : WriterCall → WriterAnswer → List ℕ
@@ -30,7 +28,7 @@ accepted (call ∷ calls) (answer ∷ answers) = accepted_by call answer ++ acce
 pub record WriteCounted {S P : Type 0} (rules : WriteRules P) (s : Buffered S P) (bs : List ℕ) (k : ℕ)
     (t : Buffered S P) : Type 0 where
   pub most : k ≤ length bs
-  pub empty : k ≡ 0 → 0 < length bs → EmptyWriteCaused rules s (length bs) t
+  pub empty : k ≡ 0 → 0 < length bs → EmptyWriteCaused rules s bs t
   pub steps : Writes rules s bs (Ok k) t
 
 -- `Write(bs)` with `Fault(kind)`: nothing was taken in
@@ -38,7 +36,7 @@ pub record WriteFailed {S P : Type 0} (rules : WriteRules P) (s : Buffered S P) 
     (t : Buffered S P) : Type 0 where
   pub error : Error
   pub is_kind : error_kind error ≡ kind
-  pub caused : WriteErrorCaused rules s (length bs) (Err error) t
+  pub caused : WriteErrorCaused rules s bs (Err error) t
   pub steps : Writes rules s bs (Err error) t
 
 -- `Flush` with `Done`
@@ -53,24 +51,6 @@ pub record FlushFailed {S P : Type 0} (s : Buffered S P) (kind : ErrorKind) (t :
   pub caused : SendErrorCaused s.log.writes t.log.writes error
   pub steps : Flushes s (Err error) t
 
--- `MakeRoom` with `Done`: the same bytes, with all free space usable
-pub record WriterRoomMade {S P : Type 0} (s t : Buffered S P) : Type 0 where
-  pub room : MakesRoom s.block t.block
-  pub others : t ≡ with_block s t.block
-
--- `Reserve(a)` with `Done`: the same bytes, with a usable behind them
-pub record WriterReserveDone {S P : Type 0} (s : Buffered S P) (a : ℕ) (t : Buffered S P) : Type 0 where
-  pub grown : Reserves a s.block t.block
-  pub enough : a ≤ usable t.block
-  pub others : t ≡ with_block s t.block
-
--- `Reserve(a)` with `Refused(e)`: it was needed and not had, and nothing changed
-pub record WriterReserveRefused {S P : Type 0} (s : Buffered S P) (a : ℕ) (e : GrowError) (t : Buffered S P)
-    : Type 0 where
-  pub needed : usable s.block < a
-  pub limit : FitsWithin {T = Unit {0}} (Err e) (capacity_for s.block a) s.block.limit
-  pub unchanged : t ≡ s
-
 -- what this answer to this call says of the writer before and after; other pairs are no steps
 abbrev pub WriterAnswers : {S P : Type 0} → WriteRules P → Buffered S P → WriterCall → WriterAnswer → Buffered S P
     → Type 0
@@ -78,21 +58,24 @@ WriterAnswers rules s (Write bs) (Count k) t = WriteCounted rules s bs.now k t
 WriterAnswers rules s (Write bs) (Fault kind) t = WriteFailed rules s bs.now kind t
 WriterAnswers rules s Flush Done t = FlushDone s t
 WriterAnswers rules s Flush (Fault kind) t = FlushFailed s kind t
-WriterAnswers rules s MakeRoom Done t = WriterRoomMade s t
-WriterAnswers rules s (Reserve a) Done t = WriterReserveDone s a t
-WriterAnswers rules s (Reserve a) (Refused e) t = WriterReserveRefused s a e t
+WriterAnswers rules s MakeRoom Done t = RoomMade s t
+WriterAnswers rules s (Reserve a) Done t = ReserveDone s a t
+WriterAnswers rules s (Reserve a) (Refused e) t = ReserveRefused s a e t
 WriterAnswers rules s call answer t = ⊥
 
 -- no more was consumed than the writer inside received
 abbrev pub ConsumesSent : {S P : Type 0} → Buffered S P → Buffered S P → Type 0
 ConsumesSent s t = t.block.consumed + length s.log.writes.received ≤ s.block.consumed + length t.log.writes.received
 
--- bytes were taken in, and none was lost or changed place
+-- bytes were taken in, and none was lost or changed place. The capacity didn't fall, the kind stayed, and the writer noted
+-- no call of its own
 pub record Accepts {S P : Type 0} (s : Buffered S P) (taken_in : List ℕ) (t : Buffered S P) : Type 0 where
   pub in_order : WritesInOrder s taken_in t
   pub grows : WriteLogGrows s.log.writes t.log.writes
   pub consumed : ConsumesSent s t
   pub capacity : s.block.capacity ≤ t.block.capacity
+  pub kind : t.block.kind ≡ s.block.kind
+  pub noted : t.calls ≡ s.calls
 
 -- one call with its answer
 pub record WriterStep {S P : Type 0} (rules : WriteRules P) (s : Buffered S P) (call : WriterCall)

@@ -4,10 +4,10 @@ use Rattle.std.proofs.Common.{refl, sym, ap, subst, ◌∙◌, arith, le_refl, l
 use Rattle.std.specs.Borrow.{Bor}
 use Rattle.std.specs.declared.io.Error.{Error}
 use Rattle.std.proofs.lemmas.List.{append_cancel_left}
-use Rattle.redux_buffer.specs.Faults.{OnlyInterrupts, FaultAfterInterrupts}
-use Rattle.redux_buffer.specs.StreamLog.{StreamLog, FillTells, with_shown, after_shown, after_fill_fault}
-use Rattle.redux_buffer.specs.LogGrows.{ReadLogGrows, ReadLogGrows-none, ReadLogGrows-joins, FillLogGrows, FillLogGrows-none, FillLogGrows-joins, FillsGoOn, FillsGoOn-of}
-use Rattle.buffer_redux.specs.Policy.{ReadRules}
+use Rattle.redux_tell.specs.Faults.{OnlyInterrupts, FaultAfterInterrupts}
+use Rattle.redux_tell.specs.StreamLog.{StreamLog, FillTells, with_shown, after_shown, after_fill_fault}
+use Rattle.redux_tell.specs.LogGrows.{ReadLogGrows, ReadLogGrows-none, ReadLogGrows-joins, FillLogGrows, FillLogGrows-none, FillLogGrows-joins, FillsGoOn, FillsGoOn-of}
+use Rattle.redux_policy.specs.Policy.{ReadRules}
 use Rattle.buffer_redux.specs.Buffered.{Buffered}
 use Rattle.buffer_redux.specs.BufReader.{Fills, ReadsInOrder, InnerGives}
 use Rattle.buffer_redux.specs.ReaderLaws.{ReadsInOrder-none, ReadsInOrder-joins, InnerGives-none, InnerGives-joins, WantsBytes}
@@ -28,8 +28,8 @@ pub record FaultsAlike (old new old' new' : List Error) : Type 0 where
   pub second : new' ≡ old' ++ more
 
 -- no byte is lost between the inner reader and what was consumed, and of what that is known to have left just what it
--- gave is gone. Under a steady policy its faults are the inner reader's. Where the policy is steady or claims a minimum,
--- and there is capacity, it ended only where the inner reader gave nothing
+-- gave is gone. Under a steady policy its faults are the inner reader's. Where the policy is steady or claims a minimum
+-- of at least 1, and there is capacity, it ended only where the inner reader gave nothing
 pub record ReaderWent {S P : Type 0} (remaining : S → Option (List ℕ))
     (rules : ReadRules P) (s t : Buffered S P)
     : Type 0 where

@@ -4,7 +4,7 @@ use Rattle.std.specs.declared.io.Error.{Error}
 use Rattle.std.specs.declared.io.traits.SeekFrom.{SeekFrom}
 use Rattle.std.specs.declared.io.traits.SeekFrom.TheVariants.{Start, End, Current}
 use Rattle.redux_buffer.specs.Block.{Clears}
-use Rattle.redux_buffer.specs.StreamLog.{after_seek}
+use Rattle.redux_tell.specs.StreamLog.{after_seek}
 use Rattle.buffer_redux.specs.declared.buf_reader.seek.SeekPlan.{SeekPlan}
 use Rattle.buffer_redux.specs.declared.buf_reader.seek.SeekPlan.TheVariants.{One, Two}
 use Rattle.buffer_redux.specs.Buffered.{Buffered}

@@ -8,7 +8,7 @@ use Rattle.redux_buffer.specs.Block.{Block, Plain, IsBlock, Reserves, capacity_f
 use Rattle.redux_buffer.specs.GrowError.{FitsWithin, kind_of}
 use Rattle.redux_buffer.specs.Potential.{potential, of_plain}
 use Rattle.redux_buffer.specs.declared.grow_error.GrowError.{GrowError}
-use Rattle.buffer_redux.specs.Policy.{ReadRules, ClaimsToSpare}
+use Rattle.redux_policy.specs.Policy.{ReadRules, ClaimsToSpare}
 use Rattle.buffer_redux.specs.Buffered.{Buffered, with_block, with_policy}
 use Rattle.buffer_redux.specs.Seek.{planned, Seeks}
 

@@ -4,13 +4,18 @@ use Rattle.std.specs.Io.{ReadsAtMost}
 use Rattle.std.specs.Io.KnownBytes.{prepend_known}
 use Rattle.std.specs.declared.io.Error.{Error}
 use Rattle.redux_buffer.specs.Block.{Block}
-use Rattle.redux_buffer.specs.StreamLog.{StreamLog, after_read}
+use Rattle.redux_tell.specs.StreamLog.{StreamLog, after_read}
+use Rattle.buffer_redux.specs.Buffered.{Buffered}
 
 -- the bytes that are left of the buffer, the reader inside, and what that reader tells
 pub record Unbuffered (R : Type 0) : Type 0 where
   pub left : List ℕ
   pub inner : R
   pub log : StreamLog
+
+-- what a buffered reader becomes
+abbrev pub unbuffered : {S P : Type 0} → Buffered S P → Unbuffered S
+unbuffered r = record { left = r.block.bytes; inner = r.inner; log = r.log }
 
 -- what it is known to have left: the bytes that are left of the buffer, and then what the reader inside has left
 abbrev pub unbuffer_remaining : {R : Type 0} → (R → Option (List ℕ)) → Unbuffered R → Option (List ℕ)

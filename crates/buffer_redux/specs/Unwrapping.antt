@@ -1,10 +1,10 @@
 -- What the calls promise that take a buffered writer apart.
-use Rattle.std.specs.Prelude.{◌≡◌, ◌⊎◌, [], length, Result, MatchResult}
+use Rattle.std.specs.Prelude.{◌≡◌, [], length, Result, MatchResult}
 use Rattle.std.specs.Borrow.{MutBor}
 use Rattle.std.specs.declared.io.Error.{Error}
 use Rattle.redux_buffer.specs.Block.{Block, Clears}
-use Rattle.redux_buffer.specs.Faults.{SendErrorCaused}
-use Rattle.redux_buffer.specs.StreamLog.{StreamLog}
+use Rattle.redux_tell.specs.Faults.{SendErrorCaused}
+use Rattle.redux_tell.specs.StreamLog.{StreamLog}
 use Rattle.redux_buffer.specs.Transfer.{Sends}
 use Rattle.buffer_redux.specs.Buffered.{Buffered, InnerWent, with_block, with_inner}
 use Rattle.buffer_redux.specs.BufWriter.{WritesInOrder, WasFlushed}
@@ -45,12 +45,12 @@ pub record SendsOrHandles {S P : Type 0} (tells : S → StreamLog) (stretch : S 
 
 -- all bytes were sent, or those stay that a fault left unsent, and the inner writer tells of no other call. So no byte
 -- was lost: what was received since, then what is left, is what was buffered, and bytes are left only where sending
--- failed
+-- failed with an error of this cause
 pub record KeepsUnsent {S P : Type 0} (tells : S → StreamLog) (s : Buffered S P) (inner : S) (b : Block) : Type 0 where
   pub sending : Result (Unit {0}) Error
   pub sends : Sends (length s.block.bytes) s.block s.log sending b (tells inner)
   pub in_order : WritesInOrder s [] (with_inner tells (with_block s b) inner)
-  pub why : (b.bytes ≡ []) ⊎ ((e : Error) × SendErrorCaused s.log.writes (tells inner).writes e)
+  pub why : MatchResult sending (λ _. b.bytes ≡ []) (λ e. SendErrorCaused s.log.writes (tells inner).writes e)
 
 -- all bytes were sent, or those that a fault left unsent were dropped, and the buffer keeps its capacity
 pub record DropsUnsent {S P : Type 0} (tells : S → StreamLog) (s : Buffered S P) (inner : S) (b : Block) : Type 0 where

@@ -1,15 +1,17 @@
 -- Laws of a buffered writer, for the proofs of those who call one.
-use Rattle.std.specs.Prelude.{◌≡◌, ℕ, ◌+◌, ◌<◌, ◌≤◌, ◌⊎◌, List, [], ◌++◌, length, Ok}
+use Rattle.std.specs.Prelude.{◌≡◌, ℕ, ◌+◌, ◌-◌, ◌<◌, ◌≤◌, ◌⊎◌, List, [], ◌++◌, length, take, drop, Ok}
 use Rattle.std.proofs.Common.{sym, ap, subst, refl, ◌∙◌, arith, inl, inr, append_assoc, append-nil}
+use Rattle.std.proofs.Math.Seq.{take-add}
+use Rattle.std.proofs.lemmas.Slice.{between_to_end}
 use Rattle.std.proofs.lemmas.Bool.{cases_lt}
 use Rattle.std.specs.declared.io.Error.{Error}
 use Rattle.std.specs.declared.io.ErrorKind.TheVariants.{WriteZero}
 use Rattle.redux_buffer.specs.Block.{Block}
-use Rattle.redux_buffer.specs.Faults.{OnlyInterrupted, OnlyInterrupted-none, MetInterrupts, TookNothing}
-use Rattle.redux_buffer.specs.StreamLog.{WriteLog, with_zero, zero_of_some, zero_of_none}
-use Rattle.buffer_redux.specs.declared.policy.FlushAmt.{FlushAmt}
-use Rattle.buffer_redux.specs.Policy.{WriteRules}
-use Rattle.buffer_redux.specs.Buffered.{Buffered, GoesPast, StaysInside}
+use Rattle.redux_tell.specs.Faults.{OnlyInterrupted, OnlyInterrupted-none, MetInterrupts, TookNothing}
+use Rattle.redux_tell.specs.StreamLog.{StreamLog, WriteLog, with_zero, zero_of_some, zero_of_none}
+use Rattle.redux_policy.specs.declared.FlushAmt.{FlushAmt}
+use Rattle.redux_policy.specs.Policy.{WriteRules}
+use Rattle.buffer_redux.specs.Buffered.{Buffered, GoesPast, StaysInside, InnerWent}
 use Rattle.buffer_redux.specs.BufWriter.{WritesInOrder, FlushesAmount, Wrote}
 
 -- no call accepts nothing, and two stretches of calls join
@@ -47,6 +49,28 @@ pub WritesInOrder-fresh : {S P : Type 0} (s t : Buffered S P) (accepted : List �
 WritesInOrder-fresh s t accepted none p =
     WritesInOrder-contents s t accepted p ∙ ap (λ l. (s.log.writes.received ++ l) ++ accepted) none
     ∙ ap (λ l. l ++ accepted) (append-nil s.log.writes.received)
+
+-- a turn of a loop that writes a slice piece by piece: behind the first `at` bytes, n more were accepted
+pub WritesInOrder-piece : {S P : Type 0} (s m t : Buffered S P) (bytes : List ℕ) (at n : ℕ) → at ≤ length bytes
+    → WritesInOrder s (take at bytes) m → WritesInOrder m (take n (take (length bytes - at) (drop at bytes))) t
+    → WritesInOrder s (take (at + n) bytes) t
+WritesInOrder-piece s m t bytes at n within before wrote =
+    let rest : take (length bytes - at) (drop at bytes) ≡ drop at bytes =
+    between_to_end bytes at (length bytes) (omega arith) in
+    subst (λ l. WritesInOrder s l t) (sym (take-add at n bytes))
+    (WritesInOrder-joins s m t (take at bytes) (take n (drop at bytes)) before
+    (subst (λ l. WritesInOrder m (take n l) t) rest wrote))
+
+-- two stretches of calls of the stream inside join
+pub InnerWent-joins : {S P : Type 0} (tells : S → StreamLog) (stretch : S → S → Type 0)
+    → ((u v w : S) → stretch u v → stretch v w → stretch u w) → (a b c : Buffered S P)
+    → InnerWent tells stretch a b → InnerWent tells stretch b c → InnerWent tells stretch a c
+InnerWent-joins tells stretch joins a b c p q = record {
+  calls = joins a.inner b.inner c.inner p.calls q.calls;
+  told_before = p.told_before;
+  told_after = q.told_after;
+  noted = q.noted ∙ p.noted;
+}
 
 -- a flush of an amount does nothing, or sends; a write goes past the buffer, or into it
 pub flush_ways : (amount len : ℕ) → ((amount ≡ 0) ⊎ (len < amount)) ⊎ ((0 < amount) × (amount ≤ len))

@@ -1,16 +1,15 @@
 -- What a write leaves and sends by its policy, for the proofs of those who call one.
-use Rattle.std.specs.Prelude.{◌≡◌, ℕ, ◌+◌, ◌<◌, ◌≤◌, ◌⊎◌, List, [], ◌++◌, length, take, max, slice_index, Result, Ok, Err, OnOk}
-use Rattle.std.proofs.Common.{refl, sym, ap, subst, ◌∙◌, arith, inl, inr, append-nil, length-drop, length-take}
+use Rattle.std.specs.Prelude.{◌≡◌, ℕ, ◌+◌, ◌<◌, ◌≤◌, ◌⊎◌, List, [], ◌++◌, length, take, max, slice_index, Result, Ok, Err, OnOk, IfOk}
+use Rattle.std.proofs.Common.{refl, sym, ap, subst, ◌∙◌, arith, inl, inr, append-nil, length-drop, length-take-le}
 use Rattle.std.proofs.lemmas.Bool.{cases_lt}
 use Rattle.std.proofs.lemmas.List.{get_or-drop}
 use Rattle.std.specs.declared.io.Error.{Error}
 use Rattle.redux_buffer.specs.Block.{Block}
-use Rattle.redux_buffer.specs.StreamLog.{WriteLog}
-use Rattle.buffer_redux.specs.declared.policy.FlushAmt.{FlushAmt}
-use Rattle.buffer_redux.specs.Policy.{WriteRules, std_before_write}
+use Rattle.redux_policy.specs.declared.FlushAmt.{FlushAmt}
+use Rattle.redux_policy.specs.Policy.{WriteRules, std_before_write}
 use Rattle.buffer_redux.specs.Buffered.{Buffered, with_policy}
 use Rattle.buffer_redux.specs.BufWriter.{FlushesAmount, TakesIn, Prepared, Wrote, Writes}
-use Rattle.buffer_redux.specs.WriterPolicies.{at_least_before_write, at_least_rules, exact_before_write, exact_rules, flush_on_rules}
+use Rattle.redux_policy.specs.WriterPolicies.{at_least_before_write, at_least_rules, exact_before_write, exact_rules, flush_on_rules}
 use Rattle.buffer_redux.specs.WriterLaws.{flush_ways, ways_in}
 use Rattle.buffer_redux.specs.WriteLaws.{EachTook, Wrote-left, Wrote-flushed}
 
@@ -22,9 +21,10 @@ HasNo byte bytes = (k : ℕ) → k < length bytes → ¬ (slice_index bytes k �
 abbrev pub AllOrNone : ℕ → List ℕ → Type 0
 AllOrNone n bytes = (length bytes ≡ n) ⊎ (length bytes ≡ 0)
 
--- what a flush sent: so many bytes, or none
+-- what a flush sent: so many of the first bytes that are buffered, or none
 pub record SentAllOrNone {S P : Type 0} (n : ℕ) (s t : Buffered S P) : Type 0 where
   pub sent : List ℕ
+  pub front : sent ≡ take (length sent) s.block.bytes
   pub received : t.log.writes.received ≡ s.log.writes.received ++ sent
   pub exact : AllOrNone n sent
 
@@ -33,14 +33,17 @@ module _ {S P : Type 0} (amount : ℕ) where
   FlushesAmount-exact s t f = elim (flush_ways amount (length s.block.bytes)) [
     | inl none ↦ record {
       sent = [];
+      front = refl;
       received = ap (λ l. l.writes.received) (f.idle none).told ∙ sym (append-nil s.log.writes.received);
       exact = inr refl;
     }
     | inr some ↦ (
-        let sends = f.sends some.0 some.1 in record {
+        let sends = f.sends some.0 some.1 in
+        let count = length-take-le sends.count s.block.bytes sends.sent.within in record {
           sent = take sends.count s.block.bytes;
+          front = ap (λ k. take k s.block.bytes) (sym count);
           received = sends.sent.received;
-          exact = inl (omega (arith, length-take sends.count s.block.bytes, sends.whole, some.1));
+          exact = inl (omega (arith, count, sends.whole, some.1));
         }
         )
   ]
@@ -148,24 +151,31 @@ module _ {S P : Type 0} (least : P → ℕ) (s : Buffered S P) (bs : List ℕ) (
         )
       ]
 
--- what a write under `FlushExact` sent: the flush before, the bytes that went past the buffer, and the flush after
-pub record SendsExactly (n : ℕ) (bs : List ℕ) (old new : WriteLog) : Type 0 where
-  pub first : List ℕ
+-- what the steps of a write under `FlushExact` sent: the flush before, the bytes that went past the buffer, and the flush
+-- after
+pub record SendsExactly {S P : Type 0} (rules : WriteRules P) (n : ℕ) (s : Buffered S P) (bs : List ℕ) (k : ℕ)
+    (t : Buffered S P) : Type 0 where
+  pub steps : Wrote rules s bs k t
+  pub first : SentAllOrNone n s steps.before
   pub past : List ℕ
-  pub last : List ℕ
-  pub received : new.received ≡ ((old.received ++ first) ++ past) ++ last
-  pub first_exact : AllOrNone n first
-  pub past_input : (past ≡ []) ⊎ ((k : ℕ) × (past ≡ take k bs))
-  pub last_exact : AllOrNone n last
+  pub went_past : steps.after.log.writes.received ≡ steps.before.log.writes.received ++ past
+  pub past_input : (past ≡ []) ⊎ (past ≡ take k bs)
+  pub last : SentAllOrNone n steps.after t
 
 -- a write under `FlushExact` flushes its number of bytes or none, where each write of the inner writer took
 -- something
 module _ {S P : Type 0} (exact : P → ℕ) (s : Buffered S P) (bs : List ℕ) (n : ℕ) (t : Buffered S P)
     (wrote : Wrote (exact_rules exact) s bs n t) where
-  pub Wrote-exact-first : SentAllOrNone (exact s.policy) wrote.prepared.seen wrote.before
+  pub Wrote-exact-first : SentAllOrNone (exact s.policy) s wrote.before
   Wrote-exact-first =
-      subst (λ a. SentAllOrNone a wrote.prepared.seen wrote.before) (wrote.prepared.asked.allowed.1)
-      (FlushesAmount-exact (wrote.prepared.amount.0) wrote.prepared.seen wrote.before wrote.prepared.flush)
+      let p = wrote.prepared in
+      let sent = FlushesAmount-exact (p.amount.0) p.seen wrote.before p.flush in
+      record {
+        sent = sent.sent;
+        front = sent.front ∙ ap (take (length sent.sent)) p.asked.law.bytes;
+        received = sent.received ∙ ap (λ l. l.writes.received ++ sent.sent) p.told;
+        exact = subst (λ a. AllOrNone a sent.sent) p.asked.allowed.1 sent.exact;
+      }
 
   pub Wrote-exact-last : EachTook s.log.writes t.log.writes → SentAllOrNone (exact s.policy) wrote.after t
   Wrote-exact-last took =
@@ -174,39 +184,32 @@ module _ {S P : Type 0} (exact : P → ℕ) (s : Buffered S P) (bs : List ℕ) (
       (Wrote-flushed (exact_rules exact) s bs n t wrote took) in
       record {
         sent = sent.sent;
+        front = sent.front;
         received = sent.received;
         exact = subst (λ a. AllOrNone a sent.sent) (wrote.finished.asked.allowed.1 ∙ ap exact same) sent.exact;
       }
 
-  pub Wrote-exact : EachTook s.log.writes t.log.writes → SendsExactly (exact s.policy) bs s.log.writes t.log.writes
-  Wrote-exact took =
-      let first = Wrote-exact-first in
-      let last = Wrote-exact-last took in
-      let told = ap (λ l. l.writes.received) wrote.prepared.told in
-      elim (ways_in wrote.before.block (length bs)) [
-        | inl past ↦ record {
-          first = first.sent;
-          past = take n bs;
-          last = last.sent;
-          received = last.received ∙ ap (λ l. l ++ last.sent)
-              (ap (λ l. l.writes.received) (wrote.took_in.past past).told
-              ∙ ap (λ l. l ++ take n bs) (first.received ∙ ap (λ l. l ++ first.sent) told));
-          first_exact = first.exact;
-          past_input = inr (n, refl);
-          last_exact = last.exact;
-        }
-        | inr inside ↦ record {
-          first = first.sent;
-          past = [];
-          last = last.sent;
-          received = last.received ∙ ap (λ l. l ++ last.sent)
-              (ap (λ l. l.writes.received) (wrote.took_in.inside inside).told ∙ first.received
-              ∙ ap (λ l. l ++ first.sent) told ∙ sym (append-nil (s.log.writes.received ++ first.sent)));
-          first_exact = first.exact;
-          past_input = inl refl;
-          last_exact = last.exact;
-        }
-      ]
+  pub Wrote-exact : EachTook s.log.writes t.log.writes
+      → SendsExactly (exact_rules exact) (exact s.policy) s bs n t
+  Wrote-exact took = elim (ways_in wrote.before.block (length bs)) [
+    | inl past ↦ record {
+      steps = wrote;
+      first = Wrote-exact-first;
+      past = take n bs;
+      went_past = ap (λ l. l.writes.received) (wrote.took_in.past past).told;
+      past_input = inr refl;
+      last = Wrote-exact-last took;
+    }
+    | inr inside ↦ record {
+      steps = wrote;
+      first = Wrote-exact-first;
+      past = [];
+      went_past = ap (λ l. l.writes.received) (wrote.took_in.inside inside).told
+          ∙ sym (append-nil wrote.before.log.writes.received);
+      past_input = inl refl;
+      last = Wrote-exact-last took;
+    }
+  ]
 
 -- the same of a write that may have failed
 module _ {S P : Type 0} (s : Buffered S P) (bs : List ℕ) where
@@ -224,7 +227,7 @@ module _ {S P : Type 0} (s : Buffered S P) (bs : List ℕ) where
 
   pub Writes-exact : (exact : P → ℕ) (answer : Result ℕ Error) (t : Buffered S P)
       → Writes (exact_rules exact) s bs answer t
-      → OnOk answer (EachTook s.log.writes t.log.writes
-      → SendsExactly (exact s.policy) bs s.log.writes t.log.writes)
+      → IfOk answer (λ k. EachTook s.log.writes t.log.writes
+      → SendsExactly (exact_rules exact) (exact s.policy) s bs k t)
   Writes-exact exact (Ok n) t wrote = Wrote-exact exact s bs n t wrote
   Writes-exact exact (Err e) t failed = tt

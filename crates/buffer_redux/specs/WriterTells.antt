@@ -1,13 +1,14 @@
 -- What a buffered writer tells of its own calls, and what any of them, one after another, may do to it.
-use Rattle.std.specs.Prelude.{◌≡◌, ℕ, ◌+◌, ◌≤◌, List, [], ◌∷◌, ◌++◌, length, true}
+use Rattle.std.specs.Prelude.{◌≡◌, ℕ, ◌+◌, ◌≤◌, ◌⊎◌, List, [], ◌∷◌, ◌++◌, length, true, Result}
 use Rattle.std.proofs.Common.{refl, ap, ◌∙◌, arith, le_refl, le_trans}
 use Rattle.std.specs.declared.io.Error.{Error}
 use Rattle.std.specs.declared.io.ErrorKind.TheVariants.{WriteZero}
-use Rattle.redux_buffer.specs.Faults.{MetInterrupts, MetInterrupts-joins, MetInterrupts-parts, OnlyInterrupted-none, TookNothing, SendErrorCaused}
-use Rattle.redux_buffer.specs.StreamLog.{StreamLog, WriteLog}
-use Rattle.redux_buffer.specs.LogGrows.{WriteLogGrows, WriteLogGrows-none, WriteLogGrows-joins, WritesGoOn, WritesGoOn-of}
-use Rattle.buffer_redux.specs.Policy.{WriteRules}
+use Rattle.redux_tell.specs.Faults.{MetInterrupts, MetInterrupts-joins, MetInterrupts-parts, OnlyInterrupted-none, TookNothing, SendErrorCaused}
+use Rattle.redux_tell.specs.StreamLog.{StreamLog, WriteLog, after_write, after_flush}
+use Rattle.redux_tell.specs.LogGrows.{WriteLogGrows, WriteLogGrows-none, WriteLogGrows-joins, WritesGoOn, WritesGoOn-of}
+use Rattle.redux_policy.specs.Policy.{WriteRules}
 use Rattle.buffer_redux.specs.Buffered.{Buffered}
+use Rattle.buffer_redux.specs.BufWriter.{Writes, Flushes}
 use Rattle.buffer_redux.specs.WriterLaws.{FlushesNothingAfter}
 
 -- it received what the inner writer did, and then what is buffered, and flushed what the inner writer did; the rest was
@@ -42,10 +43,23 @@ pub record WriterWent {S P : Type 0} (stretch : S → S → Type 0) (rules : Wri
   pub met : TellsFailures rules s.policy → MetInterrupts s.calls.writes t.calls.writes
       → MetInterrupts s.log.writes t.log.writes
 
--- one call where no failure is kept back: an error that it returned is the one that the inner writer returned last, or
--- came of a write that took nothing of something; and so did an answer that took nothing of something. Before that came
--- interrupted writes alone
+-- one call was a write of these bytes, or a flush, with this answer
+pub record CalledWrite {S P : Type 0} (rules : WriteRules P) (s t : Buffered S P) : Type 0 where
+  pub bytes : List ℕ
+  pub answer : Result ℕ Error
+  pub steps : Writes rules s bytes answer t
+  pub noted : t.calls ≡ after_write s.calls bytes answer
+
+pub record CalledFlush {S P : Type 0} (s t : Buffered S P) : Type 0 where
+  pub answer : Result (Unit {0}) Error
+  pub steps : Flushes s answer t
+  pub noted : t.calls ≡ after_flush s.calls answer
+
+-- one call, step after step. Where no failure is kept back, an error that it returned is the one that the inner writer
+-- returned last, or came of a write that took nothing of something; and so did an answer that took nothing of something.
+-- Before that came interrupted writes alone
 pub record WriterCalled {S P : Type 0} (rules : WriteRules P) (s t : Buffered S P) : Type 0 where
+  pub steps : CalledWrite rules s t ⊎ CalledFlush s t
   pub fault : TellsFailures rules s.policy → (e : Error)
       → t.calls.writes.faults ≡ s.calls.writes.faults ++ e ∷ []
       → SendErrorCaused s.log.writes t.log.writes e

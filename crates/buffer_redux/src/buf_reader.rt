@@ -1,32 +1,34 @@
 //! The buffered reader.
-ghost use Rattle.std.specs.Prelude.{◌≡◌, ℕ, ◌<◌, ◌≤◌, ◌^◌, [], ◌++◌, length, take, drop, min, Ok, Some, IfSome, IfOk, OnOk, OnErr, IsOk};
+ghost use Rattle.std.specs.Prelude.{◌≡◌, ◌≢◌, ℕ, ◌<◌, ◌≤◌, ◌^◌, [], ◌++◌, length, take, drop, min, Ok, Some, IfSome, IfOk, IfErr, OnOk, OnErr, IsOk};
 ghost use Rattle.std.specs.Borrow.{sem, Lends};
 ghost use Rattle.std.specs.Io.{ReadsAtMost, StartsWith};
 ghost use Rattle.std.specs.Io.BufRead.{Rests, DropsConsumable};
-ghost use Rattle.std.specs.Io.KnownBytes.{IsAtEnd, ReadConsumes};
+ghost use Rattle.std.specs.Io.KnownBytes.{Consumes, IsAtEnd, ReadConsumes};
+ghost use Rattle.std.specs.IoError.{error_kind};
 ghost use Rattle.redux_buffer.specs.Block.{Plain, Ring, IsBlock, LeavesBytes, MakesRoom, MovesToFront, Reserves, capacity_for, round, usable};
 ghost use Rattle.redux_buffer.specs.GrowError.{FitsWithin};
-ghost use Rattle.redux_buffer.specs.LogGrows.{ReadLogGrows};
-ghost use Rattle.redux_buffer.specs.StreamLog.{taken, after_read};
+ghost use Rattle.redux_tell.specs.LogGrows.{ReadLogGrows};
+ghost use Rattle.redux_tell.specs.StreamLog.{taken, after_read};
 ghost use Rattle.redux_buffer.specs.Transfer.{ReadsFrom};
 ghost use Rattle.buffer_redux.specs.contracts.buf_reader.BufReader.{the_row};
-ghost use Rattle.buffer_redux.specs.Fill.{Filled};
 ghost use Rattle.buffer_redux.specs.Buffered.{over_buffer, with_block, with_inner, with_policy, Makes, GoesPast, StaysInside, GoesDirect};
 ghost use Rattle.buffer_redux.specs.BufReader.{ReadsInOrder, ReadErrorCaused, EmptyReadCaused, RanDry, InnerGives, FillBuf, ReaderConsumes, ReadsBuffered, LeavesRest};
+ghost use Rattle.buffer_redux.specs.ReadAll.{HandedBeginning, ReadsExactly};
 ghost use Rattle.buffer_redux.specs.ReaderLaws.{WantsBytes};
 ghost use Rattle.buffer_redux.specs.Remaining.{reader_remaining};
 ghost use Rattle.buffer_redux.specs.Sparing.{Spared, SparesClaimed};
 
 use crate::errors::MakeError;
-use crate::policy::{ReaderPolicy, StdPolicy};
 use redux_buffer::laws::block_law;
-use redux_buffer::tell::{CallLog, Tell, TellRead};
 use redux_buffer::{Buffer, DEFAULT_BUF_SIZE, GrowError};
+use redux_policy::{DoRead, ReaderPolicy, StdPolicy};
+use redux_tell::tell::{CallLog, Tell, TellRead};
 use std::alloc::Global;
-use std::io::{BufRead, Read};
+use std::io::{BufRead, ErrorKind, Read};
 use std::marker::Model;
 use std::{fmt, io};
 
+mod filling;
 mod seek;
 mod tells;
 
@@ -268,48 +270,10 @@ impl<R: TellRead, P> BufReader<R, P> {
     }
 }
 
-impl<R: TellRead, P: ReaderPolicy> BufReader<R, P> {
-    // Inlined, so that a call that finds its bytes buffered makes no answer of `fill`.
-    #[inline(always)]
-    fn fill(&mut self) -> io::Result<()>
-        ensures filled { Filled P.rules self.old result self.new }
-        ensures known { InnerGives R.remaining self.old self.new }
-        ensures end { RanDry self.old self.new → IsAtEnd (R.remaining self.new.inner) }
-        ensures noted { self.new.calls ≡ self.old.calls }
-        ensures whole { IsBlock self.new.block }
-    {
-        while self.policy.before_read(&mut self.buf)?.0 && self.buf.usable_space() > 0 {
-            if self.read_into_buf()? == 0 {
-                break;
-            }
-        }
-        Ok(())
-    }
-}
-
-impl<R: TellRead, P: ReaderPolicy> BufReader<R, P> {
-    // Hands out the first bytes that are buffered, as many as fit, and tells the policy how many those were.
-    fn hand_out(&mut self, out: &mut [u8]) -> usize
-        ensures count { result ≡ min (length self.old.block.bytes) (length out.old) }
-        ensures copied { out.new ≡ take result self.old.block.bytes ++ drop result out.old }
-        ensures in_order { ReadsInOrder self.old (take result self.old.block.bytes) self.new }
-        ensures inner { self.new.inner ≡ self.old.inner }
-        ensures grows { ReadLogGrows self.old.log.reads self.new.log.reads }
-        ensures consumed { ReaderConsumes P.rules result self.old self.new }
-        ensures noted { self.new.calls ≡ self.old.calls }
-        ensures sparing { SparesClaimed P.rules self.old self.new }
-        ensures capacity { self.old.block.capacity ≤ self.new.block.capacity }
-        ensures whole { IsBlock self.new.block }
-    {
-        let n = self.buf.copy_to_slice(out);
-        self.policy.after_consume(&mut self.buf, n);
-        n
-    }
-}
-
 impl<R: TellRead, P: ReaderPolicy> Read for BufReader<R, P> {
     ghost remaining = { reader_remaining R.remaining P.rules };
 
+    #[inline(always)]
     fn read(&mut self, out: &mut [u8]) -> io::Result<usize>
         ensures bound { ReadsAtMost result out.new }
         ensures bytes { ReadConsumes (reader_remaining R.remaining P.rules self.old)
@@ -322,6 +286,7 @@ impl<R: TellRead, P: ReaderPolicy> Read for BufReader<R, P> {
         ensures ran_dry { result ≡ Ok 0 → 0 < length out.old
             → WantsBytes (P.rules.claims self.old.policy) → RanDry self.old self.new }
         ensures capacity { self.old.block.capacity ≤ self.new.block.capacity }
+        ensures kind { self.new.block.kind ≡ self.old.block.kind }
         ensures claims { P.rules.claims self.new.policy ≡ P.rules.claims self.old.policy }
         ensures sparing { SparesClaimed P.rules self.old self.new }
         ensures whole { IsBlock self.new.block }
@@ -335,8 +300,37 @@ impl<R: TellRead, P: ReaderPolicy> Read for BufReader<R, P> {
         if self.buf.is_empty() && out.len() >= self.buf.capacity() {
             return self.inner.read_told(out);
         }
-        self.fill()?;
+        if self.policy.before_read(&mut self.buf)?.0 && self.buf.usable_space() > 0 {
+            return self.read_aside(out);
+        }
         Ok(self.hand_out(out))
+    }
+
+    /// Reads until the slice is full: after a short read into what is left, and after one that was interrupted once more. A
+    /// read that hands out nothing is returned as `UnexpectedEof`, and `TimedOut` comes after 2^64 - 1 reads.
+    #[inline(always)]
+    fn read_exact(&mut self, out: &mut [u8]) -> io::Result<()>
+        ensures bytes { OnOk result (Consumes (reader_remaining R.remaining P.rules self.old)
+            (reader_remaining R.remaining P.rules self.new) out.new) }
+        ensures in_order { OnOk result (ReadsInOrder self.old out.new self.new) }
+        ensures beginning { HandedBeginning out.new self.old self.new }
+        ensures retried { IfErr result (λ e. error_kind e ≢ ErrorKind.Interrupted) }
+        ensures whole { IsBlock self.new.block }
+        ensures steps { ReadsExactly R.remaining P.rules self.old result out.new self.new }
+    {
+        if self.buf.len() < out.len() || out.is_empty() {
+            return self.read_rest_aside(out);
+        }
+        match self.policy.before_read(&mut self.buf) {
+            Ok(DoRead(more)) => {
+                if more {
+                    return self.read_ordered_aside(out);
+                }
+                let _count = self.hand_out(out);
+                Ok(())
+            }
+            Err(e) => self.read_on_aside(e, out),
+        }
     }
 }
 

@@ -1,31 +1,35 @@
 //! The buffered writer.
-ghost use Rattle.std.specs.Prelude.{None, ◌≡◌, ◌<◌, ◌≤◌, ◌^◌, [], length, Ok, IfErr, OnOk, OnErr, IsOk};
+ghost use Rattle.std.specs.Prelude.{None, ◌≡◌, ◌≢◌, ◌<◌, ◌≤◌, ◌^◌, [], length, Ok, IfErr, OnOk, OnErr, IsOk};
 ghost use Rattle.std.specs.Borrow.{sem, Lends};
 ghost use Rattle.std.specs.Io.{WritesAtMost};
-ghost use Rattle.std.specs.Io.KnownBytes.{Keeps, WriteAppends};
+ghost use Rattle.std.specs.Io.KnownBytes.{Appends, Keeps, WriteAppends};
 ghost use Rattle.std.specs.Io.Seek.{SeekMoves};
+ghost use Rattle.std.specs.IoError.{error_kind};
 ghost use Rattle.redux_buffer.specs.Block.{Plain, Ring, IsBlock, Reserves, MakesRoom, MovesToFront};
 ghost use Rattle.redux_buffer.specs.Block.{capacity_for, round, usable};
 ghost use Rattle.redux_buffer.specs.GrowError.{FitsWithin};
-ghost use Rattle.redux_buffer.specs.Faults.{SendErrorCaused};
-ghost use Rattle.redux_buffer.specs.LogGrows.{WriteLogGrows};
-ghost use Rattle.redux_buffer.specs.StreamLog.{taken};
+ghost use Rattle.redux_buffer.specs.Transfer.{Sends};
+ghost use Rattle.redux_tell.specs.Faults.{SendErrorCaused};
+ghost use Rattle.redux_tell.specs.LogGrows.{WriteLogGrows};
+ghost use Rattle.redux_tell.specs.StreamLog.{taken};
 ghost use Rattle.buffer_redux.specs.contracts.buf_writer.BufWriter.{the_row};
 ghost use Rattle.buffer_redux.specs.Buffered.{over_buffer, with_block, with_inner, with_policy, InnerWent, Makes};
-ghost use Rattle.buffer_redux.specs.BufWriter.{writer_contents, FlushesAmount, TakesIn, Finished, Writes, WritesOn};
+ghost use Rattle.buffer_redux.specs.BufWriter.{writer_contents, FlushesAmount, TakesIn, Finished, Writes};
 ghost use Rattle.buffer_redux.specs.BufWriter.{WritesSteadily, WritesInOrder, WriteErrorCaused, EmptyWriteCaused};
-ghost use Rattle.buffer_redux.specs.BufWriter.{Flushes, IsFlushed, SeeksFlushed, IsSought, SeekErrorCaused};
+ghost use Rattle.buffer_redux.specs.BufWriter.{Flushes, IsFlushed, IsSent, SeeksFlushed, IsSought, SeekErrorCaused};
+ghost use Rattle.buffer_redux.specs.WriteAll.{TookBeginning, WritesAll};
 
 use crate::errors::MakeError;
-use crate::policy::{FlushAmt, StdPolicy, WriterPolicy};
 use redux_buffer::laws::block_law;
-use redux_buffer::tell::{CallLog, TellSeek, TellWrite};
 use redux_buffer::{Buffer, DEFAULT_BUF_SIZE, GrowError};
+use redux_policy::{FlushAmt, StdPolicy, WriterPolicy};
+use redux_tell::tell::{CallLog, TellSeek, TellWrite};
 use std::alloc::Global;
-use std::io::{Seek, SeekFrom, Write};
+use std::io::{ErrorKind, Seek, SeekFrom, Write};
 use std::marker::Model;
 use std::{fmt, io};
 
+mod slowly;
 mod tells;
 mod unwrapping;
 
@@ -188,6 +192,25 @@ impl<W: TellWrite, P> BufWriter<W, P> {
         self.buf.reserve(a)
     }
 
+    /// Sends all that is buffered, without a flush of the inner writer. Where that fails, just what the inner writer took is
+    /// no longer buffered, so the call can be made again.
+    ///
+    /// The original has no such call: it sends all only where it flushes too.
+    pub fn send(&mut self) -> io::Result<()>
+        ensures sends { Sends (length self.old.block.bytes) self.old.block self.old.log
+            result self.new.block self.new.log }
+        ensures in_order { WritesInOrder self.old [] self.new }
+        ensures ok { OnOk result (IsSent self.old self.new) }
+        ensures not_flushed { self.new.log.writes.flushed ≡ self.old.log.writes.flushed }
+        ensures caused { IfErr result (λ e. SendErrorCaused self.old.log.writes self.new.log.writes e) }
+        ensures policy { self.new.policy ≡ self.old.policy }
+        ensures capacity { self.new.block.capacity ≡ self.old.block.capacity }
+        ensures whole { IsBlock self.new.block }
+        ensures stretch { InnerWent W.log W.stretch self.old self.new }
+    {
+        self.buf.write_all(&mut self.inner)
+    }
+
     // Sends the first `amount` bytes: none at 0, and none where fewer are buffered.
     #[inline(always)]
     fn flush_amount(&mut self, amount: usize) -> io::Result<()>
@@ -219,34 +242,6 @@ impl<W: TellWrite, P> BufWriter<W, P> {
 }
 
 impl<W: TellWrite, P: WriterPolicy> BufWriter<W, P> {
-    // All of a write but the first question: flushes the amount, takes the bytes in and asks the policy once more. It
-    // stands apart, so that a write that sends nothing first and fits is short in its caller.
-    #[cold]
-    #[inline(never)]
-    fn write_slowly(&mut self, first: usize, bytes: &[u8]) -> io::Result<usize>
-        ensures bound { WritesAtMost result bytes.now }
-        ensures steps { WritesOn P.rules first self.old bytes.now result self.new }
-        ensures whole { IsBlock self.new.block }
-        ensures stretch { InnerWent W.log W.stretch self.old self.new }
-    {
-        self.flush_amount(first)?;
-        let written = self.take_in(bytes)?;
-        self.flush_after();
-        Ok(written)
-    }
-
-    // Goes on in `write_slowly`. The kit's compiler clears the answer of a call, here 96 bytes, where the function that makes
-    // the call begins; of a call made in here, which is inlined, that is behind the tests of `write`.
-    #[inline(always)]
-    fn write_aside(&mut self, first: usize, bytes: &[u8]) -> io::Result<usize>
-        ensures bound { WritesAtMost result bytes.now }
-        ensures steps { WritesOn P.rules first self.old bytes.now result self.new }
-        ensures whole { IsBlock self.new.block }
-        ensures stretch { InnerWent W.log W.stretch self.old self.new }
-    {
-        self.write_slowly(first, bytes)
-    }
-
     // Asks the policy after a write, and flushes the amount that it returns, whether or not that fails.
     #[inline(always)]
     fn flush_after(&mut self)
@@ -269,10 +264,11 @@ impl<W: TellWrite, P: WriterPolicy> Write for BufWriter<W, P> {
         ensures in_order { WritesInOrder self.old (taken bytes.now result) self.new }
         ensures grows { WriteLogGrows self.old.log.writes self.new.log.writes }
         ensures not_flushed { self.new.log.writes.flushed ≡ self.old.log.writes.flushed }
-        ensures caused { WriteErrorCaused P.rules self.old (length bytes.now) result self.new }
+        ensures caused { WriteErrorCaused P.rules self.old bytes.now result self.new }
         ensures empty { result ≡ Ok 0 → 0 < length bytes.now
-            → EmptyWriteCaused P.rules self.old (length bytes.now) self.new }
+            → EmptyWriteCaused P.rules self.old bytes.now self.new }
         ensures capacity { self.old.block.capacity ≤ self.new.block.capacity }
+        ensures kind { self.new.block.kind ≡ self.old.block.kind }
         ensures claims { P.rules.claims self.new.policy ≡ P.rules.claims self.old.policy }
         ensures whole { IsBlock self.new.block }
         ensures steadily { WritesSteadily P.rules self.old (length bytes.now) result self.new }
@@ -292,6 +288,39 @@ impl<W: TellWrite, P: WriterPolicy> Write for BufWriter<W, P> {
         Ok(copied)
     }
 
+    /// Writes until all is taken in: after a short write what is left, and after one that was interrupted the same again. A
+    /// write that takes nothing is returned as `WriteZero`, and `TimedOut` comes after 2^64 - 1 writes.
+    #[inline(always)]
+    fn write_all(&mut self, bytes: &[u8]) -> io::Result<()>
+        ensures bytes { OnOk result (Appends (writer_contents self.old) (writer_contents self.new) bytes.now) }
+        ensures in_order { OnOk result (WritesInOrder self.old bytes.now self.new) }
+        ensures beginning { TookBeginning bytes.now self.old self.new }
+        ensures retried { IfErr result (λ e. error_kind e ≢ ErrorKind.Interrupted) }
+        ensures whole { IsBlock self.new.block }
+        ensures steps { WritesAll W.log W.stretch P.rules self.old bytes.now result self.new }
+        ensures stretch { InnerWent W.log W.stretch self.old self.new }
+    {
+        if bytes.is_empty() {
+            let _ = &self.buf;
+            return Ok(());
+        }
+        match self.policy.before_write(&mut self.buf, bytes.len()) {
+            Ok(FlushAmt(first)) => {
+                if first > 0 {
+                    return self.write_rest_aside(first, bytes);
+                }
+                if self.buf.usable_space() <= bytes.len() {
+                    return self.write_rest_aside(0, bytes);
+                }
+                // Nothing is sent first, and the bytes fit with room to spare.
+                let _copied = self.buf.copy_from_slice(bytes);
+                self.flush_after();
+                Ok(())
+            }
+            Err(e) => self.write_on_aside(e, bytes),
+        }
+    }
+
     fn flush(&mut self) -> io::Result<()>
         ensures bytes { Keeps (writer_contents self.old) (writer_contents self.new) }
         ensures in_order { WritesInOrder self.old [] self.new }
@@ -300,11 +329,12 @@ impl<W: TellWrite, P: WriterPolicy> Write for BufWriter<W, P> {
         ensures not_flushed { OnErr result (self.new.log.writes.flushed ≡ self.old.log.writes.flushed) }
         ensures caused { IfErr result (λ e. SendErrorCaused self.old.log.writes self.new.log.writes e) }
         ensures capacity { self.new.block.capacity ≡ self.old.block.capacity }
+        ensures kind { self.new.block.kind ≡ self.old.block.kind }
         ensures whole { IsBlock self.new.block }
         ensures steps { Flushes self.old result self.new }
         ensures stretch { InnerWent W.log W.stretch self.old self.new }
     {
-        self.buf.write_all(&mut self.inner)?;
+        self.send()?;
         self.inner.flush_told()
     }
 }
@@ -331,7 +361,7 @@ impl<W: TellWrite + TellSeek, P: WriterPolicy> Seek for BufWriter<W, P> {
 /// Sends what is buffered, without a flush of the inner writer, and forgets a fault.
 impl<W: TellWrite + Drop, P: Drop> Drop for BufWriter<W, P> {
     fn drop(mut self) {
-        let _ = self.buf.write_all(&mut self.inner);
+        let _ = self.send();
         let BufWriter {
             buf: _,
             inner: _,

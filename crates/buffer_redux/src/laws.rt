@@ -1,33 +1,35 @@
 //! Laws, each as the contract of a function over the calls. Those of the buffer come from `redux_buffer`.
-ghost use Rattle.std.specs.Prelude.{◌≡◌, ◌<◌, [], length, Ok, IfOk, IfErr, OnOk, is_ok};
-ghost use Rattle.std.specs.Io.KnownBytes.{Appends};
+ghost use Rattle.std.specs.Prelude.{◌≡◌, ◌<◌, [], length, take, Ok, IfOk, IfErr, IfSome, OnOk, is_ok};
+ghost use Rattle.std.specs.Io.KnownBytes.{Appends, Keeps};
 ghost use Rattle.std.specs.IoError.{error_kind};
-ghost use Rattle.redux_buffer.specs.Faults.{SendErrorCaused};
-ghost use Rattle.redux_buffer.specs.StreamLog.{no_calls, taken, after_read};
-ghost use Rattle.redux_buffer.specs.Told.{told_stream};
+ghost use Rattle.redux_tell.specs.Faults.{SendErrorCaused};
+ghost use Rattle.redux_tell.specs.StreamLog.{no_calls, taken, after_read};
+ghost use Rattle.redux_tell.specs.Told.{told_stream};
 ghost use Rattle.buffer_redux.specs.Buffered.{with_calls, GoesPast, StaysInside, GoesDirect};
 ghost use Rattle.buffer_redux.specs.BufReader.{Fills, FillsToMinimum, RanDry, ReadErrorCaused, ReadsInOrder};
 ghost use Rattle.buffer_redux.specs.BufReader.{ReadsBuffered, LeavesRest};
 ghost use Rattle.buffer_redux.specs.BufWriter.{Flushes, IsFlushed};
-ghost use Rattle.buffer_redux.specs.Copy.{CopyEnded, CopyFailed, FaultsRise, MovedBy};
-ghost use Rattle.buffer_redux.specs.Copy.{MovesKnown, ReceivesAll};
-ghost use Rattle.buffer_redux.specs.MinBuffered.{min_read_rules};
+ghost use Rattle.redux_tell.specs.Copy.{CopyEnded, CopyFailed, FaultsRise, MovedBy};
+ghost use Rattle.redux_tell.specs.Copy.{MeetsFewFaults, MovesKnown, ReceivesAll};
+ghost use Rattle.redux_policy.specs.MinBuffered.{min_read_rules};
 ghost use Rattle.buffer_redux.specs.ReaderTells.{reader_log, ReaderWent};
 ghost use Rattle.buffer_redux.specs.Remaining.{reader_remaining};
 ghost use Rattle.buffer_redux.specs.Unwrapping.{DropsUnsent, KeepsUnsent};
 
 mod between;
+mod lines;
 mod sparing;
 mod writes;
 
 use crate::buf_reader::BufReader;
 use crate::buf_writer::BufWriter;
-use crate::copy::copy_buf;
-use crate::policy::{MinBuffered, ReaderPolicy, WriterPolicy};
 pub use between::{rebuild_reader_under, rebuild_writer_under};
+pub use lines::{drop_unsent_lines, keep_unsent_lines};
 use redux_buffer::Buffer;
 pub use redux_buffer::laws::{block_law, copy_through, make_room_again, potential, ring_law};
-use redux_buffer::tell::{Tell, TellRead, TellWrite, Told};
+use redux_policy::{MinBuffered, ReaderPolicy, WriterPolicy};
+use redux_tell::copy_buf;
+use redux_tell::tell::{Tell, TellRead, TellWrite, Told};
 pub use sparing::{play_sparing, spare_between};
 use std::io;
 use std::io::{BufRead, ErrorKind, Read, Write};
@@ -54,7 +56,8 @@ pub fn rebuild_writer<W: TellWrite>(writer: BufWriter<W>) -> BufWriter<W>
 
 /// How many bytes `fill_buf` shows under [`MinBuffered`]. An `Ok` is at least the minimum, or the source gave none when
 /// it was asked in this call. It is asked no more often than bytes were missing at first, at an `Err` too, wherever the
-/// bytes stand in the buffer and however few of them come at a time.
+/// bytes stand in the buffer and however few of them come at a time. Where std knows what is left, the first of those bytes
+/// are shown, as many as the minimum, or all.
 #[tactic(auto, using(crate::proofs::FillClaims::Fills_ok, crate::proofs::FillClaims::Fills_err))]
 pub fn look_ahead<R: TellRead>(reader: &mut BufReader<R, MinBuffered>) -> io::Result<usize>
     ensures shown { IfOk result (λ n. n ≡ length reader.new.block.bytes) }
@@ -62,6 +65,10 @@ pub fn look_ahead<R: TellRead>(reader: &mut BufReader<R, MinBuffered>) -> io::Re
     ensures in_order { ReadsInOrder reader.old [] reader.new }
     ensures caused { ReadErrorCaused min_read_rules reader.old result reader.new }
     ensures fills { Fills min_read_rules reader.old result reader.new }
+    ensures first { OnOk result (IfSome (reader_remaining R.remaining min_read_rules reader.old)
+        (λ xs. take reader.old.policy.0 reader.new.block.bytes ≡ take reader.old.policy.0 xs)) }
+    ensures left { Keeps (reader_remaining R.remaining min_read_rules reader.old)
+        (reader_remaining R.remaining min_read_rules reader.new) }
 {
     Ok(reader.fill_buf()?.len())
 }
@@ -119,6 +126,8 @@ pub fn copy_known<R: TellRead, P: ReaderPolicy, W: TellWrite>(
     ensures often { IfErr result (λ e. error_kind e ≡ ErrorKind.Interrupted
         → FaultsRise 65 (reader_log from.old).fills (reader_log from.new).fills
         (W.log to.old).writes (W.log to.new).writes) }
+    ensures few { MeetsFewFaults result (reader_log from.old).fills (reader_log from.new).fills
+        (W.log to.old).writes (W.log to.new).writes }
     ensures reader { ReaderWent R.remaining P.rules from.old from.new }
     ensures writer { W.stretch to.old to.new }
 {

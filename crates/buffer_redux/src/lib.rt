@@ -5,25 +5,22 @@
 //! goes in as a [`Told`](tell::Told).
 #![tactic(auto)]
 
+mod all_bytes;
 mod buf_reader;
 mod buf_writer;
-mod copy;
 mod errors;
 pub mod laws;
 mod line_writer;
 pub mod play;
-pub mod policy;
-#[cfg(test)]
-mod tests;
 mod unbuffer;
 
 pub use buf_reader::{BufReader, SeekPlan, seek_plan};
 pub use buf_writer::BufWriter;
-pub use copy::copy_buf;
 pub use errors::{IntoInnerError, MakeError};
 pub use line_writer::LineWriter;
 pub use redux_buffer::{
     BufImpl, Buffer, Count, DEFAULT_BUF_SIZE, GrowError, INTERRUPT_LIMIT, MAX_CAPACITY, MAX_RING,
-    RING_UNIT, RawBuf, SliceDequeBuf, StdBuf, script, tell,
+    RING_UNIT, RawBuf, SliceDequeBuf, StdBuf, copy_buf, copy_turn, script, tell,
 };
+pub use redux_policy as policy;
 pub use unbuffer::Unbuffer;

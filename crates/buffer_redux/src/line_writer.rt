@@ -1,29 +1,32 @@
 //! A buffered writer that flushes lines.
-ghost use Rattle.std.specs.Prelude.{◌≡◌, ◌<◌, ◌≤◌, ◌^◌, [], length, Ok, Err, IfErr, OnOk, OnErr, IsOk, MatchResult, MatchOption};
+ghost use Rattle.std.specs.Prelude.{◌≡◌, ◌≢◌, ◌<◌, ◌≤◌, ◌^◌, [], length, Ok, Err, IfErr, OnOk, OnErr, IsOk, MatchResult, MatchOption};
 ghost use Rattle.std.specs.Borrow.{sem, Lends};
 ghost use Rattle.std.specs.Io.{WritesAtMost};
-ghost use Rattle.std.specs.Io.KnownBytes.{Keeps, WriteAppends};
+ghost use Rattle.std.specs.Io.KnownBytes.{Appends, Keeps, WriteAppends};
+ghost use Rattle.std.specs.IoError.{error_kind};
 ghost use Rattle.redux_buffer.specs.Block.{Plain, Ring, IsBlock, Reserves, capacity_for, round, usable};
 ghost use Rattle.redux_buffer.specs.GrowError.{FitsWithin};
-ghost use Rattle.redux_buffer.specs.Faults.{SendErrorCaused};
-ghost use Rattle.redux_buffer.specs.LogGrows.{WriteLogGrows};
-ghost use Rattle.redux_buffer.specs.StreamLog.{taken};
+ghost use Rattle.redux_buffer.specs.Transfer.{Sends};
+ghost use Rattle.redux_tell.specs.Faults.{SendErrorCaused};
+ghost use Rattle.redux_tell.specs.LogGrows.{WriteLogGrows};
+ghost use Rattle.redux_tell.specs.StreamLog.{taken};
 ghost use Rattle.buffer_redux.specs.contracts.line_writer.LineWriter.{the_row};
 ghost use Rattle.buffer_redux.specs.Buffered.{over_buffer, with_block, with_inner, InnerWent, Makes};
-ghost use Rattle.buffer_redux.specs.BufWriter.{writer_contents, Writes, WritesSteadily, WritesInOrder, WriteErrorCaused, EmptyWriteCaused, Flushes, IsFlushed, WasFlushed};
+ghost use Rattle.buffer_redux.specs.BufWriter.{writer_contents, Writes, WritesSteadily, WritesInOrder, WriteErrorCaused, EmptyWriteCaused, Flushes, IsFlushed, IsSent, WasFlushed};
 ghost use Rattle.buffer_redux.specs.LineWriter.{line_rules};
 ghost use Rattle.buffer_redux.specs.Unwrapping.{InnerOfFlushed, SendsOrHandles};
+ghost use Rattle.buffer_redux.specs.WriteAll.{TookBeginning, WritesAll};
 
 mod tells;
 
 use crate::buf_writer::BufWriter;
 use crate::errors::{IntoInnerError, MakeError};
-use crate::policy::FlushOnNewline;
-use redux_buffer::tell::TellWrite;
 use redux_buffer::{Buffer, DEFAULT_BUF_SIZE, GrowError};
+use redux_policy::FlushOnNewline;
+use redux_tell::tell::TellWrite;
 use std::alloc::Global;
 use std::io;
-use std::io::Write;
+use std::io::{ErrorKind, Write};
 use std::marker::Model;
 
 /// A [`BufWriter`] under [`FlushOnNewline`]: after each write it flushes through the last newline, the byte 10, that is
@@ -36,7 +39,7 @@ pub struct LineWriter<W: TellWrite> {
 // It is seen as the writer that it is, so that all that is said of one is said of the other in the same words.
 impl<W: TellWrite> Model for LineWriter<W> {
     ghost use Rattle.buffer_redux.specs.Buffered.{Buffered};
-    ghost use Rattle.buffer_redux.specs.declared.policy.writers.FlushOnNewline.{FlushOnNewline};
+    ghost use Rattle.redux_policy.specs.declared.writers.FlushOnNewline.{FlushOnNewline};
 
     ghost Value = { Buffered W FlushOnNewline };
 
@@ -137,6 +140,23 @@ impl<W: TellWrite> LineWriter<W> {
         self.writer.reserve(a)
     }
 
+    /// Sends all that is buffered, without a flush of the inner writer. Where that fails, just what the inner writer took is
+    /// no longer buffered, so the call can be made again.
+    pub fn send(&mut self) -> io::Result<()>
+        ensures sends { Sends (length self.old.block.bytes) self.old.block self.old.log
+            result self.new.block self.new.log }
+        ensures in_order { WritesInOrder self.old [] self.new }
+        ensures ok { OnOk result (IsSent self.old self.new) }
+        ensures not_flushed { self.new.log.writes.flushed ≡ self.old.log.writes.flushed }
+        ensures caused { IfErr result (λ e. SendErrorCaused self.old.log.writes self.new.log.writes e) }
+        ensures policy { self.new.policy ≡ self.old.policy }
+        ensures capacity { self.new.block.capacity ≡ self.old.block.capacity }
+        ensures whole { IsBlock self.new.block }
+        ensures stretch { InnerWent W.log W.stretch self.old self.new }
+    {
+        self.writer.send()
+    }
+
     /// The inner writer and the buffer with the bytes that were not written out. Nothing is sent.
     ///
     /// [`BufWriter::into_inner_with_buffer`] is the same call; the original names the two so.
@@ -195,16 +215,30 @@ impl<W: TellWrite> Write for LineWriter<W> {
         ensures in_order { WritesInOrder self.old (taken bytes.now result) self.new }
         ensures grows { WriteLogGrows self.old.log.writes self.new.log.writes }
         ensures not_flushed { self.new.log.writes.flushed ≡ self.old.log.writes.flushed }
-        ensures caused { WriteErrorCaused line_rules self.old (length bytes.now) result self.new }
+        ensures caused { WriteErrorCaused line_rules self.old bytes.now result self.new }
         ensures empty { result ≡ Ok 0 → 0 < length bytes.now
-            → EmptyWriteCaused line_rules self.old (length bytes.now) self.new }
+            → EmptyWriteCaused line_rules self.old bytes.now self.new }
         ensures capacity { self.old.block.capacity ≤ self.new.block.capacity }
+        ensures kind { self.new.block.kind ≡ self.old.block.kind }
         ensures whole { IsBlock self.new.block }
         ensures steadily { WritesSteadily line_rules self.old (length bytes.now) result self.new }
         ensures steps { Writes line_rules self.old bytes.now result self.new }
         ensures stretch { InnerWent W.log W.stretch self.old self.new }
     {
         self.writer.write(bytes)
+    }
+
+    #[inline(always)]
+    fn write_all(&mut self, bytes: &[u8]) -> io::Result<()>
+        ensures bytes { OnOk result (Appends (writer_contents self.old) (writer_contents self.new) bytes.now) }
+        ensures in_order { OnOk result (WritesInOrder self.old bytes.now self.new) }
+        ensures beginning { TookBeginning bytes.now self.old self.new }
+        ensures retried { IfErr result (λ e. error_kind e ≢ ErrorKind.Interrupted) }
+        ensures whole { IsBlock self.new.block }
+        ensures steps { WritesAll W.log W.stretch line_rules self.old bytes.now result self.new }
+        ensures stretch { InnerWent W.log W.stretch self.old self.new }
+    {
+        self.writer.write_all(bytes)
     }
 
     fn flush(&mut self) -> io::Result<()>
@@ -215,6 +249,7 @@ impl<W: TellWrite> Write for LineWriter<W> {
         ensures not_flushed { OnErr result (self.new.log.writes.flushed ≡ self.old.log.writes.flushed) }
         ensures caused { IfErr result (λ e. SendErrorCaused self.old.log.writes self.new.log.writes e) }
         ensures capacity { self.new.block.capacity ≡ self.old.block.capacity }
+        ensures kind { self.new.block.kind ≡ self.old.block.kind }
         ensures whole { IsBlock self.new.block }
         ensures steps { Flushes self.old result self.new }
         ensures stretch { InnerWent W.log W.stretch self.old self.new }

@@ -13,10 +13,10 @@ mod writing;
 
 use crate::buf_reader::BufReader;
 use crate::buf_writer::BufWriter;
-use crate::policy::{ReaderPolicy, WriterPolicy};
 use record::record;
 use redux_buffer::GrowError;
-use redux_buffer::tell::{TellRead, TellWrite};
+use redux_policy::{ReaderPolicy, WriterPolicy};
+use redux_tell::tell::{TellRead, TellWrite};
 use std::alloc::{AllocError, Global};
 use std::io::ErrorKind;
 

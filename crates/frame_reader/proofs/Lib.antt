@@ -1,5 +1,5 @@
 pub mod Lengths
 pub mod Loading
-pub mod Sending
 pub mod TakingIn
 pub mod Stepping
+pub mod Recording

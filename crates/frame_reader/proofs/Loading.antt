@@ -10,7 +10,8 @@ use Rattle.frame_reader.specs.declared.error.FrameError.TheVariants.{Truncated, 
 use Rattle.frame_reader.specs.Frames.{Fits, header, frame, BeginsWith, IsCutShort}
 use Rattle.frame_reader.specs.Framing.{Framing, IsFraming, rest}
 use Rattle.frame_reader.specs.Next.{FramesWent, IsSettled, Next}
-use Rattle.frame_reader.specs.NextLaws.{header-same, FramesWent-joins}
+use Rattle.frame_reader.specs.FramesLaws.{header-same}
+use Rattle.frame_reader.specs.NextLaws.{FramesWent-joins}
 
 -- what is settled has a length
 settled_long : (max : ℕ) (bytes : List ℕ) → IsSettled max bytes → 2 ≤ length bytes
@@ -35,7 +36,8 @@ settled_whole : (max len : ℕ) (bytes : List ℕ) → max < 2 ^ 16 → len ≤ 
     → IsSettled max bytes → 2 + len ≤ length bytes
 settled_whole max len bytes word fits begins (inl whole) =
     let same = header-same len (length whole.payload) begins.more (whole.payload ++ whole.more)
-    begins.word (omega (arith, word, whole.fits)) (sym begins.equal ∙ whole.equal ∙ append_assoc (header (length whole.payload)) whole.payload whole.more) in
+    begins.word (omega (arith, word, whole.fits)) (sym begins.equal ∙ whole.equal
+    ∙ append_assoc (header (length whole.payload)) whole.payload whole.more) in
     omega (arith, same.0, ap length whole.equal, length-append whole.payload whole.more)
 settled_whole max len bytes word fits begins (inr above) =
     let same = header-same len above.len begins.more above.begins.more

@@ -1,30 +1,12 @@
 -- What the steps of `write_frame` come to: room is made, and then a length and a payload are copied in.
 use Rattle.std.proofs.Common.{◌≡◌, ℕ, ◌+◌, ◌<◌, ◌≤◌, List, [], ◌∷◌, ◌++◌, length, Ok, Err, refl, sym, ap, subst, ◌∙◌, arith, append-nil, append_assoc}
 use Rattle.std.proofs.lemmas.List.{append_cancel_left}
-use Rattle.std.proofs.lemmas.List.Elements.{All-nil}
-use Rattle.buffer_redux.specs.Block.{MakesRoom}
-use Rattle.buffer_redux.specs.Buffered.{Buffered, with_block}
-use Rattle.buffer_redux.specs.BufWriter.{WritesInOrder}
 use Rattle.buffer_redux.specs.Faults.{MetInterrupts}
 use Rattle.frame_reader.specs.declared.error.WriteFrameError.TheVariants.{TooLong}
-use Rattle.frame_reader.specs.declared.when_told.WhenTold.{WhenTold}
 use Rattle.frame_reader.specs.Frames.{Fits, header, frame}
 use Rattle.frame_reader.specs.Outgoing.{Outgoing, IsOutgoing, room, unsent}
 use Rattle.frame_reader.specs.WriteFrame.{FramesTaken, PutsIn, WritesFrame}
 use Rattle.frame_reader.specs.WriteFrameLaws.{FramesTaken-none, FramesTaken-joins, FramesTaken-put}
-
--- bytes that are moved to the front are the same bytes
-pub settled : {S : Type 0} (stretch : S → S → Type 0) → ((x : S) → stretch x x) → (f : Outgoing S)
-    (w : Buffered S WhenTold) → w ≡ with_block f.writer w.block → MakesRoom f.writer.block w.block
-    → WritesInOrder f.writer [] w → FramesTaken stretch f [] (record { writer = w; max = f.max })
-settled stretch none f w others moved in_order = record {
-  fit = All-nil (Fits f.max);
-  in_order = in_order;
-  calls = subst (λ x. stretch f.writer.inner x) (sym (ap (λ x. x.inner) others)) (none f.writer.inner);
-  capacity = moved.capacity;
-  limit = moved.limit;
-  max = refl;
-}
 
 -- a payload that is too long changes nothing
 pub too_long : {S : Type 0} (stretch : S → S → Type 0) → ((x : S) → stretch x x) → (s : Outgoing S) (payload : List ℕ)

@@ -4,7 +4,7 @@ use Rattle.buffer_redux.specs.Block.{Block, IsBlock, Plain, usable}
 use Rattle.buffer_redux.specs.Buffered.{Buffered}
 use Rattle.buffer_redux.specs.Potential.{potential}
 use Rattle.buffer_redux.specs.StreamLog.{StreamLog}
-use Rattle.buffer_redux.specs.declared.policy.min_buffered.MinBuffered.{MinBuffered}
+use Rattle.buffer_redux.specs.declared.policy.MinBuffered.{MinBuffered}
 
 -- the buffered reader, the greatest length of a payload, and how many of the first bytes that are buffered are the
 -- frame that was lent last

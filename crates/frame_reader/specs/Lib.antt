@@ -1,10 +1,12 @@
 pub mod Frames
+pub mod FramesLaws
 pub mod Framing
 pub mod Next
 pub mod NextLaws
-pub mod Laws
 pub mod Outgoing
 pub mod WriteFrame
 pub mod WriteFrameLaws
+pub mod Runs
+pub mod RunsLaws
 pub mod KnownFrames
-pub mod RoundTrip
+pub mod KnownFramesLaws

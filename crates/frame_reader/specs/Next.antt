@@ -30,13 +30,17 @@ pub record FramesWent {S : Type 0} (remaining : S → Option (List ℕ)) (s : Fr
   pub limit : t.reader.block.limit ≡ s.reader.block.limit
   pub max : t.max ≡ s.max
 
+-- what a call of `next` answers: a payload, `None` at the end, or why there is no frame
+abbrev pub NextAnswer : Type 0
+NextAnswer = Result (Option (List ℕ)) FrameError
+
 -- the answer, with the payload in place of the slice that is lent
-abbrev pub copied : {E : Type 0} → Result (Option (Bor (List ℕ))) E → Result (Option (List ℕ)) E
+abbrev pub copied : Result (Option (Bor (List ℕ))) FrameError → NextAnswer
 copied (Ok found) = Ok (option_copied found)
 copied (Err e) = Err e
 
 -- the payloads that an answer hands out: one, or none
-abbrev pub handed : {E : Type 0} → Result (Option (List ℕ)) E → List (List ℕ)
+abbrev pub handed : NextAnswer → List (List ℕ)
 handed (Ok (Some payload)) = payload ∷ []
 handed (Ok None) = []
 handed (Err e) = []
@@ -50,7 +54,7 @@ abbrev pub Ended : {S : Type 0} → Framing S → Framing S → Type 0
 Ended s t = RanDry s.reader t.reader × NoFault s t
 
 -- what each answer means, by what is left
-abbrev pub NextAnswers : {S : Type 0} → Framing S → Result (Option (List ℕ)) FrameError → Framing S → Type 0
+abbrev pub NextAnswers : {S : Type 0} → Framing S → NextAnswer → Framing S → Type 0
 NextAnswers s (Ok (Some payload)) t = Fits s.max payload × NoFault s t
 NextAnswers s (Ok None) t = (rest t ≡ []) × Ended s t
 NextAnswers s (Err (Truncated have)) t = (have ≡ length (rest t)) × IsCutShort s.max (rest t) × Ended s t
@@ -65,14 +69,14 @@ IsSettled max bytes = BeginsWhole max bytes ⊎ BeginsTooLong max bytes
 
 -- what one call of `next` does
 pub record Next {S : Type 0} (remaining : S → Option (List ℕ)) (s : Framing S)
-    (answer : Result (Option (List ℕ)) FrameError) (t : Framing S) : Type 0 where
+    (answer : NextAnswer) (t : Framing S) : Type 0 where
   pub went : FramesWent remaining s (handed answer) t
   pub answers : NextAnswers s answer t
   pub not_asked : IsSettled s.max (rest s) → t.reader.log ≡ s.reader.log
   pub whole : IsFraming t
 
 -- what is lent once the next frame stands at the front
-abbrev pub loaded : {S : Type 0} → Result Bool FrameError → Framing S → Result (Option (List ℕ)) FrameError
+abbrev pub loaded : {S : Type 0} → Result Bool FrameError → Framing S → NextAnswer
 loaded (Ok true) t = Ok (Some (lent_payload t))
 loaded (Ok false) t = Ok None
 loaded (Err e) t = Err e

@@ -1,9 +1,9 @@
--- Laws of frames and of a reader of them, for the proofs of those who call one.
-use Rattle.std.specs.Prelude.{◌≡◌, ℕ, ◌+◌, ◌/◌, ◌%◌, ◌<◌, ◌≤◌, ◌^◌, List, [], ◌∷◌, ◌++◌, length, take, drop, Option, None, Some, Result, Ok, Err}
+-- Laws of a reader of frames, for the proofs of those who call one.
+use Rattle.std.specs.Prelude.{◌≡◌, ℕ, ◌+◌, ◌<◌, ◌≤◌, ◌^◌, List, [], ◌∷◌, ◌++◌, length, drop, Option, None, Some, Ok, Err}
 use Rattle.std.proofs.Common.{sym, ap, subst, ◌∙◌, arith, inl, inr, refl, length-drop, length-append, le_refl, append_assoc, append-nil}
-use Rattle.std.proofs.Math.Seq.{take-append_seam}
 use Rattle.std.proofs.lemmas.List.{append_cancel_left, nil_from_length}
-use Rattle.std.proofs.lemmas.List.Elements.{All-nil, All-append, All-head, All-tail}
+use Rattle.std.proofs.lemmas.List.Concat.{flat_map-append}
+use Rattle.std.proofs.lemmas.List.Elements.{All-nil, All-append}
 use Rattle.std.specs.List.{All}
 use Rattle.buffer_redux.specs.BufReader.{RanDry}
 use Rattle.buffer_redux.specs.LogGrows.{ReadLogGrows-none, ReadLogGrows-joins}
@@ -11,67 +11,11 @@ use Rattle.buffer_redux.specs.ReaderLaws.{InnerGives-none, InnerGives-joins}
 use Rattle.buffer_redux.specs.Sparing.{PotentialHeld, MovedAtMostGiven}
 use Rattle.buffer_redux.specs.StreamLog.{StreamLog}
 use Rattle.std.specs.declared.io.Error.{Error}
-use Rattle.frame_reader.specs.declared.error.FrameError.{FrameError}
 use Rattle.frame_reader.specs.declared.error.FrameError.TheVariants.{Truncated, TooLong, Io}
-use Rattle.frame_reader.specs.Frames.{Fits, header, frame, frames, BeginsWith, BeginsWhole, Splits}
+use Rattle.frame_reader.specs.Frames.{Fits, header, frame, frames, BeginsWith}
+use Rattle.frame_reader.specs.FramesLaws.{header-same, frame-same}
 use Rattle.frame_reader.specs.Framing.{Framing, IsFresh, rest}
-use Rattle.frame_reader.specs.Next.{HandsFrames, FramesWent, Next, NextAnswers, handed}
-
--- the frames of two lists of payloads stand one behind the other
-pub frames-append : (ps qs : List (List ℕ)) → frames (ps ++ qs) ≡ frames ps ++ frames qs
-frames-append [] qs = refl
-frames-append (p ∷ ps) qs =
-    ap (λ l. frame p ++ l) (frames-append ps qs) ∙ sym (append_assoc (frame p) (frames ps) (frames qs))
-
--- no length begins with another
-pub header-same : (a b : ℕ) (xs ys : List ℕ) → a < 2 ^ 16 → b < 2 ^ 16 → header a ++ xs ≡ header b ++ ys
-    → (a ≡ b) × (xs ≡ ys)
-header-same a b xs ys small small' same =
-    let high : a / 256 % 256 ≡ b / 256 % 256 = cc in
-    let low : a % 256 ≡ b % 256 = cc in
-    (omega arith, cc)
-
--- no frame begins another, so a stream is made of frames in one way
-pub frame-same : (p q xs ys : List ℕ) → length p < 2 ^ 16 → length q < 2 ^ 16 → frame p ++ xs ≡ frame q ++ ys
-    → (p ≡ q) × (xs ≡ ys)
-frame-same p q xs ys small small' same =
-    let parts = header-same (length p) (length q) (p ++ xs) (q ++ ys) small small'
-    (sym (append_assoc (header (length p)) p xs) ∙ same ∙ append_assoc (header (length q)) q ys) in
-    let first : p ≡ q =
-    sym (take-append_seam p xs) ∙ ap (λ l. take (length p) l) parts.1
-    ∙ ap (λ n. take n (q ++ ys)) parts.0 ∙ take-append_seam q ys in
-    (first, append_cancel_left p xs ys (parts.1 ∙ ap (λ l. l ++ ys) (sym first)))
-
--- two readings of a stream are one
-splits-same : (max : ℕ) (ps qs : List (List ℕ)) (xs ys : List ℕ) → max < 2 ^ 16
-    → All (Fits max) ps → All (Fits max) qs → ¬ BeginsWhole max xs → ¬ BeginsWhole max ys
-    → frames ps ++ xs ≡ frames qs ++ ys → (ps ≡ qs) × (xs ≡ ys)
-splits-same max [] [] xs ys word fit fit' last last' same = (refl, same)
-splits-same max [] (q ∷ qs) xs ys word fit fit' last last' same = absurd (last (record {
-  payload = q;
-  more = frames qs ++ ys;
-  fits = All-head (Fits max) q qs fit';
-  equal = same ∙ append_assoc (frame q) (frames qs) ys;
-}))
-splits-same max (p ∷ ps) [] xs ys word fit fit' last last' same = absurd (last' (record {
-  payload = p;
-  more = frames ps ++ xs;
-  fits = All-head (Fits max) p ps fit;
-  equal = sym same ∙ append_assoc (frame p) (frames ps) xs;
-}))
-splits-same max (p ∷ ps) (q ∷ qs) xs ys word fit fit' last last' same =
-    let small : length p < 2 ^ 16 = omega (arith, All-head (Fits max) p ps fit, word) in
-    let small' : length q < 2 ^ 16 = omega (arith, All-head (Fits max) q qs fit', word) in
-    let first = frame-same p q (frames ps ++ xs) (frames qs ++ ys) small small'
-    (sym (append_assoc (frame p) (frames ps) xs) ∙ same ∙ append_assoc (frame q) (frames qs) ys) in
-    let others = splits-same max ps qs xs ys word (All-tail (Fits max) p ps fit) (All-tail (Fits max) q qs fit')
-    last last' first.1 in
-    (ap (λ l. l ∷ ps) first.0 ∙ ap (λ l. q ∷ l) others.0, others.1)
-
-pub Splits-same : (max : ℕ) (stream : List ℕ) (ps qs : List (List ℕ)) (xs ys : List ℕ) → max < 2 ^ 16
-    → Splits max stream ps xs → Splits max stream qs ys → (ps ≡ qs) × (xs ≡ ys)
-Splits-same max stream ps qs xs ys word a b =
-    splits-same max ps qs xs ys word a.fit b.fit a.no_more b.no_more (sym a.equal ∙ b.equal)
+use Rattle.frame_reader.specs.Next.{HandsFrames, FramesWent, Next, NextAnswer, NextAnswers, handed}
 
 -- no call hands out nothing, and calls join
 pub HandsFrames-none : {S : Type 0} (s : Framing S) → HandsFrames s [] s
@@ -87,7 +31,7 @@ HandsFrames-joins s m t ps qs a b = record {
   got = a.got ++ b.got;
   given = b.given ∙ ap (λ l. l ++ b.got) a.given ∙ append_assoc s.reader.log.reads.given a.got b.got;
   equal =
-      ap (λ l. l ++ rest t) (frames-append ps qs)
+      ap (λ l. l ++ rest t) (flat_map-append frame ps qs)
       ∙ append_assoc (frames ps) (frames qs) (rest t) ∙ ap (λ l. frames ps ++ l) b.equal
       ∙ sym (append_assoc (frames ps) (rest m) b.got)
       ∙ ap (λ l. l ++ b.got) a.equal ∙ append_assoc (rest s) a.got b.got;
@@ -145,10 +89,10 @@ FramesWent-moved remaining tells max stream s t payloads fresh went =
 
 -- a call that leaves the log as it is hands out what is there
 module _ {S : Type 0} (remaining : S → Option (List ℕ)) (s t : Framing S) where
-  abbrev Still : Result (Option (List ℕ)) FrameError → Type 0
+  abbrev Still : NextAnswer → Type 0
   Still answer = frames (handed answer) ++ rest t ≡ rest s
 
-  still : (answer : Result (Option (List ℕ)) FrameError) → FramesWent remaining s (handed answer) t
+  still : (answer : NextAnswer) → FramesWent remaining s (handed answer) t
       → t.reader.log ≡ s.reader.log → Still answer
   still answer went told =
       let none : went.hands.got ≡ [] = append_cancel_left s.reader.log.reads.given went.hands.got []
@@ -169,7 +113,7 @@ module _ {S : Type 0} (remaining : S → Option (List ℕ)) (s t : Framing S) wh
 
   -- the whole frame that stands in front
   ready : (payload more : List ℕ) → s.max < 2 ^ 16 → length payload ≤ s.max → rest s ≡ frame payload ++ more
-      → t.reader.log ≡ s.reader.log → (answer : Result (Option (List ℕ)) FrameError) → NextAnswers s answer t
+      → t.reader.log ≡ s.reader.log → (answer : NextAnswer) → NextAnswers s answer t
       → Still answer → (answer ≡ Ok (Some payload)) × (rest t ≡ more)
   ready payload more word fits front told (Ok (Some found)) answers same =
       let parts = frame-same found payload (rest t) more
@@ -187,7 +131,7 @@ module _ {S : Type 0} (remaining : S → Option (List ℕ)) (s t : Framing S) wh
 
   -- the length that is too large
   refused : (len : ℕ) → s.max < 2 ^ 16 → s.max < len → BeginsWith len (rest s)
-      → t.reader.log ≡ s.reader.log → (answer : Result (Option (List ℕ)) FrameError) → NextAnswers s answer t
+      → t.reader.log ≡ s.reader.log → (answer : NextAnswer) → NextAnswers s answer t
       → Still answer → (answer ≡ Err (TooLong len)) × (rest t ≡ rest s)
   refused len word above front told (Ok (Some found)) answers same =
       let parts = header-same (length found) len (found ++ rest t) front.more (omega (arith, answers.0, word)) front.word
@@ -205,7 +149,7 @@ module _ {S : Type 0} (remaining : S → Option (List ℕ)) (s t : Framing S) wh
 
 -- a whole frame that stands in front is handed out, and the inner reader isn't called
 pub Next-ready : {S : Type 0} (remaining : S → Option (List ℕ)) (s : Framing S)
-    (answer : Result (Option (List ℕ)) FrameError) (t : Framing S) (payload more : List ℕ)
+    (answer : NextAnswer) (t : Framing S) (payload more : List ℕ)
     → Next remaining s answer t → length payload ≤ s.max → rest s ≡ frame payload ++ more
     → (answer ≡ Ok (Some payload)) × (rest t ≡ more)
 Next-ready remaining s answer t payload more next fits front =
@@ -215,7 +159,7 @@ Next-ready remaining s answer t payload more next fits front =
 
 -- a length that is too large is refused each time, and the inner reader isn't called
 pub Next-too_long : {S : Type 0} (remaining : S → Option (List ℕ)) (s : Framing S)
-    (answer : Result (Option (List ℕ)) FrameError) (t : Framing S) (len : ℕ)
+    (answer : NextAnswer) (t : Framing S) (len : ℕ)
     → Next remaining s answer t → s.max < len → BeginsWith len (rest s)
     → (answer ≡ Err (TooLong len)) × (rest t ≡ rest s)
 Next-too_long remaining s answer t len next above front =

@@ -30,13 +30,17 @@ pub record PutsIn {S : Type 0} (stretch : S → S → Type 0) (s : Outgoing S) (
   pub max : t.max ≡ s.max
   pub whole : IsOutgoing t
 
+-- what a call of `write_frame` answers
+abbrev pub WriteAnswer : Type 0
+WriteAnswer = Result (Unit {0}) WriteFrameError
+
 -- the payloads that an answer took in: the one, or none
-abbrev pub accepted : List ℕ → Result (Unit {0}) WriteFrameError → List (List ℕ)
+abbrev pub accepted : List ℕ → WriteAnswer → List (List ℕ)
 accepted payload (Ok _) = payload ∷ []
 accepted payload (Err e) = []
 
 -- what each answer means. No answer leaves a part of the frame
-abbrev pub WriteFrameAnswers : {S : Type 0} → Outgoing S → List ℕ → Result (Unit {0}) WriteFrameError → Outgoing S → Type 0
+abbrev pub WriteFrameAnswers : {S : Type 0} → Outgoing S → List ℕ → WriteAnswer → Outgoing S → Type 0
 WriteFrameAnswers s payload (Ok _) t =
     Fits s.max payload × MetInterrupts s.writer.log.writes t.writer.log.writes
 WriteFrameAnswers s payload (Err (TooLong len)) t = (len ≡ length payload) × (s.max < len) × (t ≡ s)
@@ -45,23 +49,28 @@ WriteFrameAnswers s payload (Err (Io e)) t =
 
 -- where the frame fits behind what is buffered, it stands there, and the inner writer isn't called
 pub record FrameAdded {S : Type 0} (s : Outgoing S) (payload : List ℕ)
-    (answer : Result (Unit {0}) WriteFrameError) (t : Outgoing S) : Type 0 where
+    (answer : WriteAnswer) (t : Outgoing S) : Type 0 where
   pub ok : answer ≡ Ok tt
   pub told : t.writer.log ≡ s.writer.log
   pub added : unsent t ≡ unsent s ++ frame payload
 
 -- where it doesn't, all that was buffered is sent first, and the inner writer isn't flushed
-abbrev pub SendsFirst : {S : Type 0} → Outgoing S → List ℕ → Result (Unit {0}) WriteFrameError → Outgoing S → Type 0
+abbrev pub SendsFirst : {S : Type 0} → Outgoing S → List ℕ → WriteAnswer → Outgoing S → Type 0
 SendsFirst s payload (Ok _) t =
     (t.writer.log.writes.received ≡ s.writer.log.writes.received ++ unsent s) × (unsent t ≡ frame payload)
 SendsFirst s payload (Err e) t = ⊤
 
 -- what one call of `write_frame` does
 pub record WritesFrame {S : Type 0} (stretch : S → S → Type 0) (s : Outgoing S) (payload : List ℕ)
-    (answer : Result (Unit {0}) WriteFrameError) (t : Outgoing S) : Type 0 where
+    (answer : WriteAnswer) (t : Outgoing S) : Type 0 where
   pub went : FramesTaken stretch s (accepted payload answer) t
   pub answers : WriteFrameAnswers s payload answer t
   pub fits : Fits s.max payload → 2 + length payload ≤ room s → FrameAdded s payload answer t
   pub full : Fits s.max payload → room s < 2 + length payload → SendsFirst s payload answer t
   pub not_flushed : t.writer.log.writes.flushed ≡ s.writer.log.writes.flushed
   pub whole : IsOutgoing t
+
+-- an error that isn't about a length
+abbrev pub IsFault : WriteFrameError → Type 0
+IsFault (Io e) = ⊤
+IsFault (TooLong len) = ⊥

@@ -1,13 +1,13 @@
 -- Laws of a writer of frames, for the proofs of those who call one.
 use Rattle.std.specs.Prelude.{◌≡◌, ℕ, List, [], ◌∷◌, ◌++◌, length}
 use Rattle.std.proofs.Common.{sym, ap, subst, ◌∙◌, refl, append-nil, append_assoc}
+use Rattle.std.proofs.lemmas.List.Concat.{flat_map-append}
 use Rattle.std.proofs.lemmas.List.Elements.{All-nil, All-append, All-cons}
 use Rattle.std.specs.List.{All}
 use Rattle.buffer_redux.specs.BufWriter.{WritesInOrder}
 use Rattle.buffer_redux.specs.StreamLog.{StreamLog}
 use Rattle.buffer_redux.specs.WriterLaws.{WritesInOrder-none, WritesInOrder-joins, WritesInOrder-fresh}
 use Rattle.frame_reader.specs.Frames.{Fits, header, frame, frames}
-use Rattle.frame_reader.specs.NextLaws.{frames-append}
 use Rattle.frame_reader.specs.Outgoing.{Outgoing, IsUnused, unsent}
 use Rattle.frame_reader.specs.WriteFrame.{FramesTaken, PutsIn}
 
@@ -28,7 +28,7 @@ pub FramesTaken-joins : {S : Type 0} (stretch : S → S → Type 0)
     → FramesTaken stretch s ps m → FramesTaken stretch m qs t → FramesTaken stretch s (ps ++ qs) t
 FramesTaken-joins stretch joins s m t ps qs p q = record {
   fit = All-append (Fits s.max) ps qs p.fit (subst (λ max. All (Fits max) qs) p.max q.fit);
-  in_order = subst (λ l. WritesInOrder s.writer l t.writer) (sym (frames-append ps qs))
+  in_order = subst (λ l. WritesInOrder s.writer l t.writer) (sym (flat_map-append frame ps qs))
       (WritesInOrder-joins s.writer m.writer t.writer (frames ps) (frames qs) p.in_order q.in_order);
   calls = joins s.writer.inner m.writer.inner t.writer.inner p.calls q.calls;
   capacity = q.capacity ∙ p.capacity;

@@ -1,27 +1,27 @@
 //! The reader of frames.
-ghost use Rattle.std.specs.Prelude.{◌≡◌, ℕ, ◌<◌, ◌≤◌, ◌⊎◌, ◌^◌, List, [], ◌∷◌, ◌++◌, length, Ok, Err, Some, IfOk, IfErr, IfSome, OnOk, OnErr, true};
+ghost use Rattle.std.specs.Prelude.{◌≡◌, ℕ, ◌<◌, ◌≤◌, ◌⊎◌, List, [], ◌∷◌, ◌++◌, length, Ok, Err, Some, IfOk, IfErr, IfSome, OnOk, OnErr, true};
 ghost use Rattle.std.specs.Borrow.{sem};
 ghost use Rattle.std.specs.Io.BufRead.{Rests};
-ghost use Rattle.buffer_redux.specs.Block.{IsBlock};
 ghost use Rattle.buffer_redux.specs.BufReader.{RanDry};
 ghost use Rattle.frame_reader.specs.contracts.reader.FrameReader.{the_row};
 ghost use Rattle.frame_reader.specs.Frames.{BeginsWith, frame};
-ghost use Rattle.frame_reader.specs.Framing.{IsFixed, IsFraming, IsFresh, rest, most};
+ghost use Rattle.frame_reader.specs.Framing.{IsFraming, IsFresh, rest, most};
 ghost use Rattle.frame_reader.specs.Next.{FramesWent, NoFault, Next, copied, loaded};
 
 use crate::error::FrameError;
+use crate::frame::{HEADER, frame_buffer, length_of};
 use buffer_redux::policy::MinBuffered;
 use buffer_redux::tell::{Tell, TellRead};
-use buffer_redux::{BufReader, Buffer, GrowError, MakeError};
+use buffer_redux::{BufReader, GrowError, MakeError};
 use std::alloc::Global;
 use std::io;
 use std::io::BufRead;
 use std::marker::Model;
 
-/// How many bytes the length of a frame takes.
-pub const HEADER: usize = 2;
-
-/// A reader of frames, over a plain buffer that was made large enough once.
+/// A reader of frames whose payload has at most so many bytes.
+///
+/// It lends each payload out of a plain buffer of `3 * (2 + max)` bytes. [`new`](FrameReader::new) makes it, and no other call
+/// takes memory. No more bytes are moved in it than are read.
 #[derive(Drop)]
 pub struct FrameReader<R: Tell> {
     reader: BufReader<R, MinBuffered>,
@@ -48,15 +48,14 @@ impl<R: Tell> FrameReader<R> {
         ensures handed_back { IfErr result (λ e. e.0 ≡ inner) }
         ensures refused { IfErr result (λ e. e.1 ≡ GrowError.Memory) }
     {
-        let buffer = match fixed_buffer(alloc, 3 * (HEADER + usize::from(max))) {
-            Ok(buffer) => buffer,
-            Err(e) => return Err(MakeError(inner, e)),
-        };
-        Ok(FrameReader {
-            reader: BufReader::with_buffer(buffer, inner).set_policy(MinBuffered(HEADER)),
-            max,
-            lent: 0,
-        })
+        match frame_buffer(alloc, max) {
+            Ok(buffer) => Ok(FrameReader {
+                reader: BufReader::with_buffer(buffer, inner).set_policy(MinBuffered(HEADER)),
+                max,
+                lent: 0,
+            }),
+            Err(e) => Err(MakeError(inner, e)),
+        }
     }
 
     /// The inner reader.
@@ -66,6 +65,19 @@ impl<R: Tell> FrameReader<R> {
         ensures whole { IsFraming self.now }
     {
         self.reader.get_ref()
+    }
+
+    /// The inner reader. What is buffered is gone; [`rest`](FrameReader::rest) shows it before.
+    pub fn into_inner(self) -> R
+        ensures inner { result ≡ self.reader.inner }
+        ensures log { R.log result ≡ self.reader.log }
+    {
+        let FrameReader {
+            reader,
+            max: _,
+            lent: _,
+        } = self;
+        reader.into_inner()
     }
 
     /// The buffered bytes behind the frame that was lent last.
@@ -78,8 +90,11 @@ impl<R: Tell> FrameReader<R> {
 }
 
 impl<R: TellRead> FrameReader<R> {
-    /// Lends the payload of the next frame, out of the buffer; the next call drops it. `None` where the stream ended
-    /// behind the last frame.
+    /// Lends the payload of the next frame out of the buffer; the next call drops it. `None` where the stream ended behind
+    /// the last frame. The stream is read only where no whole frame is buffered.
+    ///
+    /// An `Err` says why there is no frame, and leaves what came of it: the next call looks at it again. So a `TooLong` is
+    /// returned each time.
     pub fn next(&mut self) -> Result<Option<&[u8]>, FrameError>
         ensures* after_borrow { sem 𝓛 (Rests (the_row R.row R.Tell) self.entry
             (Next R.remaining self.entry.now (copied result))) }
@@ -154,24 +169,4 @@ impl<R: TellRead> FrameReader<R> {
         self.reader.policy_mut().set_min(min);
         Ok(self.reader.fill_buf()?.len())
     }
-}
-
-/// A plain buffer that no call lets grow.
-pub fn fixed_buffer(alloc: Global, capacity: usize) -> Result<Buffer, GrowError>
-    requires { capacity ≤ 2 ^ 62 }
-    ensures made { IfOk result (IsFixed capacity) }
-    ensures whole { IfOk result IsBlock }
-    ensures refused { IfErr result (λ e. e ≡ GrowError.Memory) }
-{
-    let mut buffer = Buffer::with_capacity(alloc, capacity)?;
-    buffer.set_limit(capacity)?;
-    Ok(buffer)
-}
-
-// The length that a frame begins with.
-fn length_of(bytes: &[u8]) -> u16
-    requires { HEADER ≤ length bytes.now }
-    ensures { BeginsWith result bytes.now }
-{
-    u16::from_be_bytes([bytes[0], bytes[1]])
 }

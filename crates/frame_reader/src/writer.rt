@@ -1,28 +1,29 @@
 //! The writer of frames.
-ghost use Rattle.std.specs.Prelude.{◌≡◌, ℕ, ◌+◌, ◌-◌, ◌*◌, ◌<◌, ◌≤◌, ◌^◌, List, [], ◌++◌, length, Ok, Err, IfOk, IfErr, OnOk, OnErr, MatchResult, true, false};
-ghost use Rattle.buffer_redux.specs.Block.{IsBlock, usable};
-ghost use Rattle.buffer_redux.specs.Buffered.{InnerWent};
-ghost use Rattle.buffer_redux.specs.BufWriter.{WritesInOrder, WasFlushed};
+ghost use Rattle.std.specs.Prelude.{◌≡◌, ◌+◌, ◌-◌, ◌<◌, ◌≤◌, [], length, Ok, Err, IfOk, IfErr, OnOk, MatchResult};
+ghost use Rattle.buffer_redux.specs.Block.{usable};
+ghost use Rattle.buffer_redux.specs.BufWriter.{IsSent, WasFlushed};
 ghost use Rattle.buffer_redux.specs.Unwrapping.{InnerOfFlushed};
 ghost use Rattle.buffer_redux.specs.Faults.{MetInterrupts, SendErrorCaused};
-ghost use Rattle.frame_reader.specs.Frames.{Fits, frames};
+ghost use Rattle.frame_reader.specs.Frames.{frames};
 ghost use Rattle.frame_reader.specs.Outgoing.{IsOutgoing, IsUnused, room, unsent};
 ghost use Rattle.frame_reader.specs.WriteFrame.{FramesTaken, PutsIn, WritesFrame};
 
 use crate::error::WriteFrameError;
-use crate::reader::{HEADER, fixed_buffer};
-use crate::when_told::WhenTold;
+use crate::frame::{HEADER, frame_buffer};
 use buffer_redux::tell::TellWrite;
-use buffer_redux::{BufWriter, GrowError, IntoInnerError, MakeError};
+use buffer_redux::{BufWriter, Buffer, GrowError, IntoInnerError, MakeError};
 use std::alloc::Global;
 use std::io;
 use std::io::Write;
 use std::marker::Model;
 
-/// A writer of frames, over a plain buffer that was made large enough once. A frame is taken in whole, or not at all.
+/// A writer of frames whose payload has at most so many bytes. A frame is taken in whole, or not at all.
+///
+/// It keeps them in a plain buffer of `3 * (2 + max)` bytes. [`new`](FrameWriter::new) makes it, and no other call takes
+/// memory. A writer that is dropped sends what is buffered, without a flush of the inner writer, and forgets a fault.
 #[derive(Drop)]
 pub struct FrameWriter<W: TellWrite> {
-    writer: BufWriter<W, WhenTold>,
+    writer: BufWriter<W>,
     max: u16,
 }
 
@@ -44,14 +45,13 @@ impl<W: TellWrite> FrameWriter<W> {
         ensures handed_back { IfErr result (λ e. e.0 ≡ inner) }
         ensures refused { IfErr result (λ e. e.1 ≡ GrowError.Memory) }
     {
-        let buffer = match fixed_buffer(alloc, 3 * (HEADER + usize::from(max))) {
-            Ok(buffer) => buffer,
-            Err(e) => return Err(MakeError(inner, e)),
-        };
-        Ok(FrameWriter {
-            writer: BufWriter::with_buffer(buffer, inner).set_policy(WhenTold(false)),
-            max,
-        })
+        match frame_buffer(alloc, max) {
+            Ok(buffer) => Ok(FrameWriter {
+                writer: BufWriter::with_buffer(buffer, inner),
+                max,
+            }),
+            Err(e) => Err(MakeError(inner, e)),
+        }
     }
 
     /// The inner writer.
@@ -65,7 +65,8 @@ impl<W: TellWrite> FrameWriter<W> {
 
     /// Takes the payload's frame in. It is sent where a later frame finds no room, and by [`flush`](FrameWriter::flush).
     ///
-    /// At an `Err` nothing of the frame was taken in, so the call can be made again.
+    /// At an `Err` nothing of the frame was taken in, so the call can be made again. A `TooLong` changes nothing at all; an
+    /// `Io` comes only where the frame found no room, and then just what the inner writer took is gone from the buffer.
     pub fn write_frame(&mut self, payload: &[u8]) -> Result<(), WriteFrameError>
         ensures { WritesFrame W.stretch self.old payload.now result self.new }
     {
@@ -76,6 +77,18 @@ impl<W: TellWrite> FrameWriter<W> {
         self.put(&(payload.len() as u16).to_be_bytes());
         self.put(payload);
         Ok(())
+    }
+
+    /// Sends all frames, without a flush of the inner writer. Where that fails, just what the inner writer took is no longer
+    /// buffered.
+    pub fn send(&mut self) -> io::Result<()>
+        ensures went { FramesTaken W.stretch self.old [] self.new }
+        ensures ok { OnOk result (IsSent self.old.writer self.new.writer) }
+        ensures caused { IfErr result (λ e. SendErrorCaused self.old.writer.log.writes self.new.writer.log.writes e) }
+        ensures not_flushed { self.new.writer.log.writes.flushed ≡ self.old.writer.log.writes.flushed }
+        ensures whole { IsOutgoing self.new }
+    {
+        self.writer.send()
     }
 
     /// Sends all frames, and flushes the inner writer.
@@ -95,12 +108,21 @@ impl<W: TellWrite> FrameWriter<W> {
     {
         match self.flush() {
             Ok(()) => {
-                let FrameWriter { writer, max: _ } = self;
-                let (inner, _) = writer.into_inner_with_buffer();
+                let (inner, _) = self.into_inner_with_buffer();
                 Ok(inner)
             }
             Err(e) => Err(IntoInnerError(self, e)),
         }
+    }
+
+    /// The inner writer, and the buffer with the bytes of frames that were not sent. Nothing is sent.
+    pub fn into_inner_with_buffer(self) -> (W, Buffer)
+        ensures inner { result.0 ≡ self.writer.inner }
+        ensures log { W.log result.0 ≡ self.writer.log }
+        ensures block { result.1 ≡ self.writer.block }
+    {
+        let FrameWriter { writer, max: _ } = self;
+        writer.into_inner_with_buffer()
     }
 
     // Sends all that is buffered where so many more bytes don't fit, and makes all free space usable.
@@ -119,25 +141,6 @@ impl<W: TellWrite> FrameWriter<W> {
         }
         self.writer.make_room();
         Ok(())
-    }
-
-    // Sends all that is buffered.
-    #[tactic(auto, using(crate::proofs::Sending::met_sending))]
-    fn send(&mut self) -> io::Result<()>
-        ensures went { FramesTaken W.stretch self.old [] self.new }
-        ensures empty { OnOk result (unsent self.new ≡ []) }
-        ensures met { OnOk result (MetInterrupts self.old.writer.log.writes self.new.writer.log.writes) }
-        ensures caused { IfErr result (λ e. SendErrorCaused self.old.writer.log.writes self.new.writer.log.writes e) }
-        ensures not_flushed { self.new.writer.log.writes.flushed ≡ self.old.writer.log.writes.flushed }
-        ensures whole { IsOutgoing self.new }
-    {
-        self.writer.policy_mut().0 = true;
-        let sent = self.writer.write(&[]);
-        self.writer.policy_mut().0 = false;
-        match sent {
-            Ok(_) => Ok(()),
-            Err(e) => Err(e),
-        }
     }
 
     // Copies bytes in, for which there is room.

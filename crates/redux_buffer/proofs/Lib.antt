@@ -1,4 +1,3 @@
-pub mod Walks
 pub mod Ranges
 pub mod Cleared
 pub mod Written

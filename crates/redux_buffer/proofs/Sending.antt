@@ -7,8 +7,8 @@ use Rattle.std.specs.IoError.{error_kind}
 use Rattle.std.specs.declared.io.Error.{Error}
 use Rattle.std.specs.declared.io.ErrorKind.TheVariants.{WriteZero}
 use Rattle.redux_buffer.specs.Block.{Block, ConsumesFirst, OnlyRingMoves}
-use Rattle.redux_buffer.specs.StreamLog.{StreamLog, taken, after_write, zero_of_some, zero_of_none}
-use Rattle.redux_buffer.specs.Faults.{IsInterrupt, OnlyInterrupted, OnlyInterrupted-joins, TookNothing-after, FaultedAfter-after}
+use Rattle.redux_tell.specs.StreamLog.{StreamLog, taken, after_write, zero_of_some, zero_of_none}
+use Rattle.redux_tell.specs.Faults.{IsInterrupt, OnlyInterrupted, OnlyInterrupted-joins, TookNothing-after, FaultedAfter-after}
 use Rattle.redux_buffer.specs.Transfer.{OnlyWrites, WritesRetried, Sent, Sends}
 use Rattle.redux_buffer.proofs.Steps.{OnlyRingMoves-joins, ConsumesFirst-joins}
 

@@ -145,6 +145,19 @@ impl Buffer {
 
     /// Makes `limit` the greatest capacity, or that of its kind where `limit` is more. Returns `TooLarge`, and changes
     /// nothing, where `limit` is below the present capacity.
+    ///
+    /// So a server bounds what one connection may buffer, whatever length the other end announces:
+    ///
+    /// ```
+    /// /// A reader of one connection. It grows to 65536 bytes at the most.
+    /// fn connection<R: Read + Drop>(alloc: Global, stream: R) -> Result<BufReader<Told<R>>, GrowError> {
+    ///     let mut buf = Buffer::with_capacity(alloc, 4096)?;
+    ///     buf.set_limit(65536)?;
+    ///     Ok(BufReader::with_buffer(buf, Told::new(stream)))
+    /// }
+    /// ```
+    ///
+    /// `connection.reserve(length)?` then makes room for a message, or returns `TooLarge` and takes no memory.
     pub fn set_limit(&mut self, limit: usize) -> Result<(), GrowError>
         ensures set { OnOk result (self.new ≡ with_limit self.old (min limit (limit_of self.old.kind))) }
         ensures unchanged { OnErr result (self.new ≡ self.old) }

@@ -1,6 +1,7 @@
-//! Buffers of bytes, plain and ring, and the streams that fill and drain them.
+//! Buffers of bytes, plain and ring.
 //!
-//! The crate `buffer_redux` hands on every name of this one.
+//! Every name of `redux_tell`, the streams that fill and drain them, is handed on, and the crate `buffer_redux` hands on
+//! every name of this one.
 #![tactic(auto)]
 
 pub use buf_impl::BufImpl;
@@ -8,6 +9,7 @@ pub use buffer::Buffer;
 pub use count::Count;
 pub use grow_error::GrowError;
 pub use raw_buf::RawBuf;
+pub use redux_tell::{INTERRUPT_LIMIT, copy_buf, copy_turn, script, tell};
 pub use slice_deque_buf::SliceDequeBuf;
 pub use std_buf::StdBuf;
 
@@ -17,21 +19,14 @@ mod count;
 mod grow_error;
 pub mod laws;
 mod raw_buf;
-pub mod script;
 mod slice_deque_buf;
 mod std_buf;
-pub mod tell;
-#[cfg(test)]
-mod tests;
 
 /// The capacity in bytes of a buffer that is made without one.
 pub const DEFAULT_BUF_SIZE: usize = 8192;
 
 /// The capacity of a ring is a multiple of this many bytes.
 pub const RING_UNIT: usize = 4096;
-
-/// How many `Interrupted` in a row a sending call retries.
-pub const INTERRUPT_LIMIT: u32 = 64;
 
 /// The greatest capacity of a plain buffer, in bytes.
 pub const MAX_CAPACITY: usize = 1 << 62;

@@ -3,15 +3,15 @@ ghost use Rattle.std.specs.Prelude.{◌≡◌};
 ghost use Rattle.std.specs.Borrow.{sem};
 ghost use Rattle.std.specs.Io.BufRead.{Rests};
 ghost use Rattle.redux_buffer.specs.Block.{IsBlock};
-ghost use Rattle.redux_buffer.specs.StreamLog.{after_consume};
+ghost use Rattle.redux_tell.specs.StreamLog.{after_consume};
 ghost use Rattle.buffer_redux.specs.contracts.buf_reader.BufReader.{the_row};
 ghost use Rattle.buffer_redux.specs.BufReader.{ReaderConsumes};
 ghost use Rattle.buffer_redux.specs.Fill.{Filled};
 ghost use Rattle.buffer_redux.specs.ReaderTells.{reader_log, after_fill, FillTold, ReaderWent, ReaderWent-none, ReaderWent-joins, ReaderWent-grows};
 
 use crate::buf_reader::BufReader;
-use crate::policy::ReaderPolicy;
-use redux_buffer::tell::{Call, Tell, TellBufRead, TellRead};
+use redux_policy::ReaderPolicy;
+use redux_tell::tell::{Call, Tell, TellBufRead, TellRead};
 use std::io;
 use std::io::BufRead;
 

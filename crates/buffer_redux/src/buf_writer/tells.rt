@@ -1,13 +1,13 @@
 //! A buffered writer as a stream that tells of its own calls.
 ghost use Rattle.std.specs.Prelude.{◌≡◌};
 ghost use Rattle.std.specs.Io.{WritesAtMost};
-ghost use Rattle.redux_buffer.specs.StreamLog.{after_write, after_flush};
+ghost use Rattle.redux_tell.specs.StreamLog.{after_write, after_flush};
 ghost use Rattle.buffer_redux.specs.BufWriter.{Writes, Flushes};
 ghost use Rattle.buffer_redux.specs.WriterTells.{writer_log, WriterCalled, WriterWent, WriterWent-none, WriterWent-joins, WriterWent-grows};
 
 use crate::buf_writer::BufWriter;
-use crate::policy::WriterPolicy;
-use redux_buffer::tell::{Call, Tell, TellWrite};
+use redux_policy::WriterPolicy;
+use redux_tell::tell::{Call, Tell, TellWrite};
 use std::io;
 use std::io::Write;
 

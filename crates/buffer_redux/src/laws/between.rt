@@ -1,14 +1,14 @@
 //! What holds between two runs of calls: a reader or a writer goes on where the first run left it.
 ghost use Rattle.std.specs.Prelude.{◌≡◌, ℕ, List};
-ghost use Rattle.redux_buffer.specs.StreamLog.{no_calls};
+ghost use Rattle.redux_tell.specs.StreamLog.{no_calls};
 ghost use Rattle.buffer_redux.specs.Buffered.{Buffered, with_calls, with_policy};
 ghost use Rattle.buffer_redux.specs.BufReader.{ReadsInOrder};
 ghost use Rattle.buffer_redux.specs.BufWriter.{WritesInOrder};
 
 use crate::buf_reader::BufReader;
 use crate::buf_writer::BufWriter;
-use crate::policy::{ReaderPolicy, WriterPolicy};
-use redux_buffer::tell::{Tell, TellWrite};
+use redux_policy::{ReaderPolicy, WriterPolicy};
+use redux_tell::tell::{Tell, TellWrite};
 
 /// A reader that is taken apart, built again and put under another policy. What was handed out up to here, and what is
 /// buffered, is in order as before, so a further run goes on with it.

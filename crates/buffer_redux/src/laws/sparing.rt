@@ -2,15 +2,15 @@
 ghost use Rattle.std.specs.Prelude.{◌≡◌, ℕ, ◌≤◌, is_ok};
 ghost use Rattle.std.specs.List.{All};
 ghost use Rattle.buffer_redux.specs.Buffered.{Buffered, with_policy};
-ghost use Rattle.buffer_redux.specs.MinBuffered.{min_read_rules};
+ghost use Rattle.redux_policy.specs.MinBuffered.{min_read_rules};
 ghost use Rattle.buffer_redux.specs.PlayReader.{MakesNoRoom, ReaderPlays, with_handed};
-ghost use Rattle.buffer_redux.specs.Policy.{ClaimsToSpare};
+ghost use Rattle.redux_policy.specs.Policy.{ClaimsToSpare};
 ghost use Rattle.buffer_redux.specs.Sparing.{BeginsEmpty, GrowsAndSeeks, MovedAtMostGiven, Spared};
 
 use crate::buf_reader::BufReader;
 use crate::play::{ReaderCall, ReaderRun, play_reader};
-use crate::policy::{MinBuffered, ReaderPolicy};
-use redux_buffer::tell::{TellRead, TellSeek};
+use redux_policy::{MinBuffered, ReaderPolicy};
+use redux_tell::tell::{TellRead, TellSeek};
 use std::alloc::{AllocError, Global};
 use std::io;
 use std::io::{Seek, SeekFrom};

@@ -3,13 +3,13 @@ ghost use Rattle.std.specs.Prelude.{◌≡◌, ◌<◌, length, max, IfOk, OnOk}
 ghost use Rattle.buffer_redux.specs.BufWriter.{Writes};
 ghost use Rattle.buffer_redux.specs.LineWriter.{line_rules};
 ghost use Rattle.buffer_redux.specs.WriteLaws.{EachTook, WroteExactly};
-ghost use Rattle.buffer_redux.specs.WriterPolicies.{at_least_rules, exact_rules, flush_on_rules};
+ghost use Rattle.redux_policy.specs.WriterPolicies.{at_least_rules, exact_rules, flush_on_rules};
 ghost use Rattle.buffer_redux.specs.WriterPolicyLaws.{HasNo, SendsExactly};
 
 use crate::buf_writer::BufWriter;
 use crate::line_writer::LineWriter;
-use crate::policy::{FlushAtLeast, FlushExact, FlushOn, FlushOnNewline, WriterPolicy};
-use redux_buffer::tell::TellWrite;
+use redux_policy::{FlushAtLeast, FlushExact, FlushOn, FlushOnNewline, WriterPolicy};
+use redux_tell::tell::TellWrite;
 use std::io;
 use std::io::Write;
 
@@ -82,8 +82,8 @@ pub fn flush_exact_law<W: TellWrite>(
     writer: &mut BufWriter<W, FlushExact>,
     bytes: &[u8],
 ) -> io::Result<usize>
-    ensures sent { OnOk result (EachTook writer.old.log.writes writer.new.log.writes
-        → SendsExactly writer.old.policy.0 bytes.now writer.old.log.writes writer.new.log.writes) }
+    ensures sent { IfOk result (λ k. EachTook writer.old.log.writes writer.new.log.writes
+        → SendsExactly (exact_rules (λ p. p.0)) writer.old.policy.0 writer.old bytes.now k writer.new) }
     ensures policy { writer.new.policy ≡ writer.old.policy }
     ensures steps { Writes (exact_rules (λ p. p.0)) writer.old bytes.now result writer.new }
 {

@@ -1,13 +1,13 @@
 //! A line writer as a stream that tells of its own calls.
 ghost use Rattle.std.specs.Prelude.{◌≡◌};
 ghost use Rattle.std.specs.Io.{WritesAtMost};
-ghost use Rattle.redux_buffer.specs.StreamLog.{after_write, after_flush};
+ghost use Rattle.redux_tell.specs.StreamLog.{after_write, after_flush};
 ghost use Rattle.buffer_redux.specs.BufWriter.{Writes, Flushes};
 ghost use Rattle.buffer_redux.specs.LineWriter.{line_rules};
 ghost use Rattle.buffer_redux.specs.WriterTells.{writer_log, WriterCalled, WriterWent, WriterWent-none, WriterWent-joins, WriterWent-grows};
 
 use crate::line_writer::LineWriter;
-use redux_buffer::tell::{Tell, TellWrite};
+use redux_tell::tell::{Tell, TellWrite};
 use std::io;
 
 impl<W: TellWrite> Tell for LineWriter<W> {

@@ -7,8 +7,8 @@ ghost use Rattle.buffer_redux.specs.PlayReader.{ReaderStep, with_handed, room_to
 use crate::buf_reader::BufReader;
 use crate::play::record::hand_out;
 use crate::play::{ReaderAnswer, ReaderCall, ReaderRun};
-use crate::policy::ReaderPolicy;
-use redux_buffer::tell::{Tell, TellRead};
+use redux_policy::ReaderPolicy;
+use redux_tell::tell::{Tell, TellRead};
 use std::alloc::{AllocError, Global};
 use std::io::{BufRead, Read};
 

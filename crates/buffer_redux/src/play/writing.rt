@@ -5,8 +5,8 @@ ghost use Rattle.buffer_redux.specs.PlayWriter.{WriterStep};
 
 use crate::buf_writer::BufWriter;
 use crate::play::{WriterAnswer, WriterCall};
-use crate::policy::WriterPolicy;
-use redux_buffer::tell::TellWrite;
+use redux_policy::WriterPolicy;
+use redux_tell::tell::TellWrite;
 use std::io::Write;
 
 // Makes the call.

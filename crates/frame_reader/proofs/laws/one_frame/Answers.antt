@@ -1,4 +1,4 @@
-use Rattle.frame_reader.specs.NextLaws.{frame-same}
+use Rattle.frame_reader.specs.FramesLaws.{frame-same}
 use Rattle.frame_reader.proofs.laws.one_frame.Goals as goal
 
 pub returns : goal.returns

@@ -1,5 +1,5 @@
 use Rattle.std.proofs.Common.{arith}
-use Rattle.frame_reader.specs.NextLaws.{Splits-same}
+use Rattle.frame_reader.specs.FramesLaws.{Splits-same}
 use Rattle.frame_reader.proofs.laws.one_reading.Goals as goal
 
 pub returns : goal.returns

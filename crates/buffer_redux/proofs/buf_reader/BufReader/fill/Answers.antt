@@ -1,6 +1,6 @@
 use Rattle.std.proofs.Common.{◌<◌, suc, arith, rules, inl, inr, refl, subst, sym}
 use Rattle.std.proofs.lemmas.Result.{err_from_is_err_and}
-use Rattle.redux_buffer.specs.GivesRemaining.{GivesRemaining-joins}
+use Rattle.redux_tell.specs.GivesRemaining.{GivesRemaining-joins}
 use Rattle.buffer_redux.specs.BufReader.{InnerGives}
 use Rattle.buffer_redux.specs.Fill.{Turns}
 use Rattle.buffer_redux.proofs.KnownAhead.{dry_never, err_counts_none}

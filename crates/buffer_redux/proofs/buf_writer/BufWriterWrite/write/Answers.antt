@@ -1,8 +1,8 @@
 use Rattle.std.proofs.Common.{◌≡◌, Ok, refl, arith}
 use Rattle.buffer_redux.specs.Buffered.{Buffered}
 use Rattle.buffer_redux.specs.BufWriter.{Writes}
-use Rattle.buffer_redux.proofs.WriterFacts.{writes_keep, writes_steadily}
-use Rattle.buffer_redux.proofs.WriteOn.{writes_on, flushes_none, takes_in_roomy, writes_contents, writes_nothing}
+use Rattle.buffer_redux.proofs.WriterFacts.{writes_keep, writes_nothing, writes_steadily}
+use Rattle.buffer_redux.proofs.WriteOn.{writes_on, flushes_none, takes_in_roomy, writes_contents}
 use Rattle.buffer_redux.proofs.buf_writer.BufWriterWrite.write.Goals as goal
 
 -- the steps where something is sent first, where the bytes may not fit, and where neither is so

@@ -16,6 +16,8 @@ returns-in-Ok-clause-step g c handed =
         grows = f.fills.grows;
         consumed = omega (arith, f.fills.consumed);
         capacity = f.fills.capacity;
+        kind = f.fills.kind;
+        noted = f.noted;
       };
       answers = record {
         none = refl;
@@ -42,6 +44,8 @@ returns-in-Err-clause-step g c handed =
         grows = f.fills.grows;
         consumed = omega (arith, f.fills.consumed);
         capacity = f.fills.capacity;
+        kind = f.fills.kind;
+        noted = f.noted;
       };
       answers = record {
         none = refl;

@@ -11,6 +11,8 @@ returns-in-Ok-clause-step g c =
         grows = w.grows;
         consumed = Flushes-counts c.args.writer.now (Ok tt) c.flush.new.self w.steps;
         capacity = omega (arith, w.capacity);
+        kind = w.kind;
+        noted = w.stretch.noted;
       };
       answers = record { done = w.ok; steps = w.steps };
     }
@@ -24,6 +26,8 @@ returns-in-Err-clause-step g c =
         grows = w.grows;
         consumed = Flushes-counts c.args.writer.now (Err c.in-Err.e) c.flush.new.self w.steps;
         capacity = omega (arith, w.capacity);
+        kind = w.kind;
+        noted = w.stretch.noted;
       };
       answers = record { error = c.in-Err.e; is_kind = search rules; caused = search rules; steps = w.steps };
     }

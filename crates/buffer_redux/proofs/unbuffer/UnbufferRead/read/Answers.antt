@@ -1,6 +1,6 @@
 use Rattle.std.proofs.Common.{◌≡◌, ℕ, List, [], ◌++◌, length, take, drop, min, sym, ap, ◌∙◌, arith, rules, append-nil, length-take-le, take_at}
 use Rattle.std.proofs.lemmas.List.{take-append-drop, nil_from_length}
-use Rattle.redux_buffer.specs.StreamLog.{taken}
+use Rattle.redux_tell.specs.StreamLog.{taken}
 use Rattle.buffer_redux.specs.Unbuffer.{Unbuffered, HandsOutInOrder, bytes_in}
 use Rattle.buffer_redux.proofs.unbuffer.UnbufferRead.read.Goals as goal
 

@@ -92,7 +92,8 @@ returns-clause-next g c =
     (subst (BeginsWith c.length_of-len.result)
     (c.buffer.ensures.value ∙ ap (λ x. x.reader.block.bytes) c.self.view_is) c.length_of-len.ensures) in
     let max = ap (λ x. x.max) c.self.view_is in
-    subst (λ x. Next g.R.TellRead.remaining s (Ok (Some (slice_range x.reader.block.bytes 2 (2 + len)))) (record x { lent = 2 + len }))
+    subst (λ x. Next g.R.TellRead.remaining s (Ok (Some (slice_range x.reader.block.bytes 2 (2 + len))))
+    (record x { lent = 2 + len }))
     (sym c.self-2.view_is)
     (found g.R.TellRead.remaining s c.drop_lent.new.self u d.went d.rest d.lent d.told f.went f.lent f.untouched f.whole
     len begins f.no_fault

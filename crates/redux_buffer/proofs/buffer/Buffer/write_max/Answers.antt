@@ -1,6 +1,6 @@
 use Rattle.std.proofs.Common.{◌≡◌, ◌≤◌, ◌<◌, ◌+◌, ◌-◌, [], ◌++◌, length, arith, rules, ap, ◌∙◌, length-append, length-drop, length-take-le}
 use Rattle.std.proofs.lemmas.Result.{err_from_is_err_and}
-use Rattle.redux_buffer.specs.Faults.{OnlyInterrupted-none}
+use Rattle.redux_tell.specs.Faults.{OnlyInterrupted-none}
 use Rattle.redux_buffer.proofs.Sending.{Sent-more, only_more, sends_failed, sends_nothing}
 use Rattle.redux_buffer.proofs.buffer.Buffer.write_max.Goals as goal
 

@@ -1,7 +1,7 @@
-use Rattle.std.proofs.Common.{rules, ◌≡◌, ◌∙◌, ap, subst, sym, arith}
-use Rattle.redux_buffer.specs.Faults.{SendErrorCaused}
-use Rattle.redux_buffer.specs.StreamLog.{after_flush}
-use Rattle.redux_buffer.specs.LogGrows.{WriteLogGrows, WriteLogGrows-flush}
+use Rattle.std.proofs.Common.{rules, ◌≡◌, ◌∙◌, inr, ap, subst, sym, arith}
+use Rattle.redux_tell.specs.Faults.{SendErrorCaused}
+use Rattle.redux_tell.specs.StreamLog.{after_flush}
+use Rattle.redux_tell.specs.LogGrows.{WriteLogGrows, WriteLogGrows-flush}
 use Rattle.buffer_redux.specs.WriterTells.{writer_log}
 use Rattle.buffer_redux.specs.BufWriter.{Flushes}
 use Rattle.buffer_redux.proofs.Telling.{call_went, flush_fails, flush_met, flush_fault, flushes_noted}
@@ -27,6 +27,12 @@ returns-clause-stretch g c =
     (λ steady. flush_fails s m answer flush.grows flush.caused)
     (λ tells. flush_met s m answer flush.ok flush.caused)
 
+pub returns-clause-steps : goal.returns-clause-steps
+returns-clause-steps g c =
+    let s = c.args.self.now in
+    let answer = c.flush-answer.result in
+    flushes_noted _ _ s answer (subst (Flushes s answer) (sym c.self.view_is) c.flush-answer.ensures.steps)
+
 pub returns-clause-call : goal.returns-clause-call
 returns-clause-call g c =
     let s = c.args.self.now in
@@ -35,14 +41,9 @@ returns-clause-call g c =
     let flush = c.flush-answer.ensures in
     let noted : c.note.new.self.log ≡ after_flush s.calls answer = search rules in
     record {
+      steps = inr (record { answer = answer; steps = returns-clause-steps g c; noted = noted });
       fault = λ tells e is.
           subst (λ l. SendErrorCaused s.log.writes l e) (sym (ap (λ x. x.log.writes) c.self.view_is))
           (flush_fault s m answer e flush.caused (sym (ap (λ l. l.writes.faults) noted) ∙ is));
       nothing = λ tells is. absurd (omega (arith, is, ap (λ l. l.writes.zero_writes) noted));
     }
-
-pub returns-clause-steps : goal.returns-clause-steps
-returns-clause-steps g c =
-    let s = c.args.self.now in
-    let answer = c.flush-answer.result in
-    flushes_noted _ _ s answer (subst (Flushes s answer) (sym c.self.view_is) c.flush-answer.ensures.steps)

@@ -1,9 +1,9 @@
-use Rattle.std.proofs.Common.{rules, ◌≡◌, ◌∙◌, List, ap, subst, sym}
+use Rattle.std.proofs.Common.{rules, ◌≡◌, ◌∙◌, List, inl, ap, subst, sym}
 use Rattle.std.specs.declared.io.Error.{Error}
 use Rattle.std.specs.declared.io.ErrorKind.TheVariants.{WriteZero}
-use Rattle.redux_buffer.specs.Faults.{TookNothing, SendErrorCaused}
-use Rattle.redux_buffer.specs.StreamLog.{after_write}
-use Rattle.redux_buffer.specs.LogGrows.{WriteLogGrows, WriteLogGrows-write}
+use Rattle.redux_tell.specs.Faults.{TookNothing, SendErrorCaused}
+use Rattle.redux_tell.specs.StreamLog.{after_write}
+use Rattle.redux_tell.specs.LogGrows.{WriteLogGrows, WriteLogGrows-write}
 use Rattle.buffer_redux.specs.WriterTells.{writer_log}
 use Rattle.buffer_redux.specs.BufWriter.{Writes}
 use Rattle.buffer_redux.proofs.Telling.{call_went, write_fails, write_met, write_fault, write_nothing, writes_noted}
@@ -27,6 +27,15 @@ returns-clause-stretch g c =
     (λ steady. write_fails s m bs answer wrote.grows (wrote.steadily steady))
     (λ tells. write_met g.P.WriterPolicy.rules s m bs tells answer wrote.steps wrote.caused)
 
+pub returns-clause-steps : goal.returns-clause-steps
+returns-clause-steps g c =
+    let table = g.P.WriterPolicy.rules in
+    let s = c.args.self.now in
+    let bs = c.args.buf.now in
+    let answer = c.write-answer.result in
+    writes_noted _ _ table s bs answer
+    (subst (Writes table s bs answer) (sym c.self.view_is) c.write-answer.ensures.steps)
+
 pub returns-clause-call : goal.returns-clause-call
 returns-clause-call g c =
     let table = g.P.WriterPolicy.rules in
@@ -38,6 +47,7 @@ returns-clause-call g c =
     let noted : c.note.new.self.log ≡ after_write s.calls bs answer = search rules in
     let same = ap (λ x. x.log.writes) c.self.view_is in
     record {
+      steps = inl (record { bytes = bs; answer = answer; steps = returns-clause-steps g c; noted = noted });
       fault = λ tells e is.
           subst (λ l. SendErrorCaused s.log.writes l e) (sym same)
           (write_fault table s m bs tells answer e wrote.caused
@@ -46,12 +56,3 @@ returns-clause-call g c =
           (write_nothing table s m bs tells answer wrote.steps (wrote.steadily tells.0)
           (sym (ap (λ l. l.writes.zero_writes) noted) ∙ is));
     }
-
-pub returns-clause-steps : goal.returns-clause-steps
-returns-clause-steps g c =
-    let table = g.P.WriterPolicy.rules in
-    let s = c.args.self.now in
-    let bs = c.args.buf.now in
-    let answer = c.write-answer.result in
-    writes_noted _ _ table s bs answer
-    (subst (Writes table s bs answer) (sym c.self.view_is) c.write-answer.ensures.steps)

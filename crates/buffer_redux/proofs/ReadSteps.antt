@@ -1,0 +1,317 @@
+-- What follows from the fill of a read and from what is handed out after it.
+use Rattle.std.proofs.Common.{◌≡◌, ℕ, zero, suc, ◌<◌, ◌≤◌, List, [], length, min, take, drop, Bool, true, false, Result, Ok, Err, Option, refl, sym, ap, subst, ◌∙◌, arith, inl, inr, le_trans, take_at, drop_at, length-take-le, length-append, length-drop}
+use Rattle.std.proofs.lemmas.List.{nil_from_length}
+use Rattle.std.specs.Io.{ReadsAtMost}
+use Rattle.std.specs.Io.KnownBytes.{IsAtEnd, ReadConsumes}
+use Rattle.std.specs.declared.io.Error.{Error}
+use Rattle.redux_buffer.specs.Block.{IsBlock, usable}
+use Rattle.redux_tell.specs.LogGrows.{ReadLogGrows, ReadLogGrows-joins}
+use Rattle.redux_tell.specs.StreamLog.{taken}
+use Rattle.redux_buffer.specs.Transfer.{ReadsFrom}
+use Rattle.redux_policy.specs.declared.DoRead.{DoRead}
+use Rattle.redux_policy.specs.Policy.{ReadRules, ClaimsToSpare, read_now}
+use Rattle.buffer_redux.specs.Buffered.{Buffered, StaysInside}
+use Rattle.buffer_redux.specs.Fill.{Turn, Turns, Filled}
+use Rattle.buffer_redux.specs.BufReader.{ReadsInOrder, ReadErrorCaused, EmptyReadCaused, RanDry, InnerGives, ReaderConsumes, Fills, ReadsBuffered, LeavesRest}
+use Rattle.buffer_redux.specs.ReaderLaws.{ReadsInOrder-joins, InnerGives-same, InnerGives-joins, Fills-empty, WantsBytes, Keeps-of, remaining_gives}
+use Rattle.buffer_redux.specs.Remaining.{reader_remaining}
+use Rattle.buffer_redux.specs.Sparing.{SparesClaimed, Spared-joins}
+use Rattle.buffer_redux.specs.ReadInside.{AskedRead, FillDone, ReadThrough, ReadsInside}
+use Rattle.buffer_redux.specs.ReadAll.{OneRead}
+use Rattle.buffer_redux.proofs.ReadAll.{one_read}
+use Rattle.buffer_redux.proofs.FillFacts.{turns_facts, empty_read, inside_room}
+use Rattle.buffer_redux.proofs.FillClaims.{fills}
+use Rattle.buffer_redux.proofs.KnownAhead.{err_counts_none, remaining_ends}
+use Rattle.buffer_redux.proofs.Turning.{declined_made, full_made, turn_made, dry_made, faulted_made}
+
+-- a turn before others
+turn_first : {S P : Type 0} (rules : ReadRules P) (k : ℕ) (s m t : Buffered S P) → Turn rules s m → Turns rules k m t
+    → Turns rules (suc k) s t
+turn_first rules zero s m t turn none = (s, refl, subst (Turn rules s) none turn)
+turn_first rules (suc k) s m t turn turns = (turns.0, turn_first rules k s m turns.0 turn turns.1, turns.2)
+
+filled_after : {S P A : Type 0} (rules : ReadRules P) (s m t : Buffered S P) (answer : Result A Error) → Turn rules s m
+    → Filled rules m answer t → Filled rules s answer t
+filled_after rules s m t answer turn f = record {
+  count = suc f.count;
+  last = f.last;
+  turns = turn_first rules f.count s m f.last turn f.turns;
+  ends = f.ends;
+}
+
+-- the answer as the rules name it
+pub asked_so : {S P : Type 0} (rules : ReadRules P) (s m : Buffered S P) (d : DoRead) (v : Bool) → d.0 ≡ v
+    → AskedRead rules (Ok d) s m → AskedRead rules (Ok (record { 0 = v })) s m
+asked_so rules s m d v is a = subst (λ w. AskedRead rules (Ok (record { 0 = w })) s m) is a
+
+-- one read into the buffer
+pub record ReadInto {S P : Type 0} (remaining : S → Option (List ℕ)) (m : Buffered S P) (answer : Result ℕ Error)
+    (t : Buffered S P) : Type 0 where
+  pub read : ReadsFrom m.block m.log answer t.block t.log
+  pub known : InnerGives remaining m t
+  pub policy : t.policy ≡ m.policy
+  pub noted : t.calls ≡ m.calls
+  pub whole : IsBlock t.block
+
+module _ {S P : Type 0} (remaining : S → Option (List ℕ)) (rules : ReadRules P) (s m : Buffered S P) where
+  -- where the policy said no, or left no room, or returned an error, nothing was read
+  module _ (d : DoRead) (asked : AskedRead rules (Ok d) s m) where
+    quietly : {A : Type 0} (a : A) → Filled rules s (Ok a) m → FillDone remaining rules s (Ok a) m
+    quietly a f = record {
+      filled = f;
+      known = InnerGives-same remaining s m asked.inner asked.told;
+      ended = λ rose. absurd (omega (arith, rose, ap (λ l. l.reads.zero_answers) asked.told));
+      noted = asked.noted;
+      whole = asked.asked.law.whole asked.whole;
+    }
+
+    pub declined_did : {A : Type 0} (a : A) → d.0 ≡ false → FillDone remaining rules s (Ok a) m
+    declined_did a is_no = quietly a (record {
+      count = 0;
+      last = s;
+      turns = refl;
+      ends = inl (declined_made rules s d m asked.asked is_no asked.told);
+    })
+
+    pub full_did : {A : Type 0} (a : A) → d.0 ≡ true → usable m.block ≡ 0 → FillDone remaining rules s (Ok a) m
+    full_did a is_yes full = quietly a (record {
+      count = 0;
+      last = s;
+      turns = refl;
+      ends = inr (inl (full_made rules s d m asked.asked is_yes full asked.told));
+    })
+
+  pub refused_did : {A : Type 0} (e : Error) → AskedRead rules (Err e) s m → FillDone {A = A} remaining rules s (Err e) m
+  refused_did e asked = record {
+    filled = record { count = 0; last = s; turns = refl; ends = inl (record { asked = asked.asked; told = asked.told }) };
+    known = InnerGives-same remaining s m asked.inner asked.told;
+    ended = λ rose. absurd (omega (arith, rose, ap (λ l. l.reads.zero_answers) asked.told));
+    noted = asked.noted;
+    whole = asked.asked.law.whole asked.whole;
+  }
+
+  -- where it ordered a read and left room
+  module _ (asked : AskedRead rules read_now s m) (room : 0 < usable m.block) (t : Buffered S P) where
+    known_since : InnerGives remaining m t → InnerGives remaining s t
+    known_since known = InnerGives-joins remaining s m t (InnerGives-same remaining s m asked.inner asked.told) known
+
+    since : (answer : Result ℕ Error) → ReadsFrom m.block m.log answer t.block t.log
+        → ReadsFrom m.block s.log answer t.block t.log
+    since answer read = subst (λ l. ReadsFrom m.block l answer t.block t.log) asked.told read
+
+    pub fault_did : {A : Type 0} (e : Error) → ReadInto remaining m (Err e) t → FillDone {A = A} remaining rules s (Err e) t
+    fault_did e r = record {
+      filled = record {
+        count = 0;
+        last = s;
+        turns = refl;
+        ends = inr (faulted_made rules s t (record { 0 = true }) m.policy m.block asked.asked refl room r.policy e
+            (since (Err e) r.read));
+      };
+      known = known_since r.known;
+      ended = λ rose. absurd (omega (
+        arith,
+        rose,
+        err_counts_none m.block t.block m.log t.log e r.read room,
+        ap (λ l. l.reads.zero_answers) asked.told,
+      ));
+      noted = r.noted ∙ asked.noted;
+      whole = r.whole;
+    }
+
+    pub dry_did : {A : Type 0} (a : A) (n : ℕ) → n ≡ 0 → ReadInto remaining m (Ok n) t → IsAtEnd (remaining t.inner)
+        → FillDone remaining rules s (Ok a) t
+    dry_did a n none r ended = record {
+      filled = record {
+        count = 0;
+        last = s;
+        turns = refl;
+        ends = inr (inr (dry_made rules s t (record { 0 = true }) m.policy m.block asked.asked refl room r.policy n
+            (since (Ok n) r.read) none));
+      };
+      known = known_since r.known;
+      ended = λ rose. ended;
+      noted = r.noted ∙ asked.noted;
+      whole = r.whole;
+    }
+
+    pub more_did : {A : Type 0} (n : ℕ) → (n ≡ 0 → ⊥) → ReadInto remaining m (Ok n) t
+        → (answer : Result A Error) (u : Buffered S P) → FillDone remaining rules t answer u
+        → FillDone remaining rules s answer u
+    more_did n some r answer u f =
+        let turn : Turn rules s t = turn_made rules s t (record { 0 = true }) m.policy m.block asked.asked refl room
+        r.policy n (since (Ok n) r.read) some in
+        let facts = turns_facts rules 1 s t (s, refl, turn) in
+        record {
+          filled = filled_after rules s t u answer turn f.filled;
+          known = InnerGives-joins remaining s t u (known_since r.known) f.known;
+          ended = λ rose. f.ended (omega (arith, rose, facts.zero_answers));
+          noted = f.noted ∙ r.noted ∙ asked.noted;
+          whole = f.whole;
+        }
+
+-- all that a read through the buffer promises
+pub record ReadSays {S P : Type 0} (remaining : S → Option (List ℕ)) (rules : ReadRules P) (s : Buffered S P)
+    (out : List ℕ) (answer : Result ℕ Error) (out' : List ℕ) (t : Buffered S P) : Type 0 where
+  pub bound : ReadsAtMost answer out'
+  pub bytes : ReadConsumes (reader_remaining remaining rules s) (reader_remaining remaining rules t) answer out'
+  pub known : InnerGives remaining s t
+  pub in_order : ReadsInOrder s (taken out' answer) t
+  pub grows : ReadLogGrows s.log.reads t.log.reads
+  pub caused : ReadErrorCaused rules s answer t
+  pub empty : answer ≡ Ok 0 → 0 < length out → EmptyReadCaused rules s t
+  pub ran_dry : answer ≡ Ok 0 → 0 < length out → WantsBytes (rules.claims s.policy) → RanDry s t
+  pub capacity : s.block.capacity ≤ t.block.capacity
+  pub kind : t.block.kind ≡ s.block.kind
+  pub claims : rules.claims t.policy ≡ rules.claims s.policy
+  pub sparing : SparesClaimed rules s t
+  pub whole : IsBlock t.block
+  pub buffered : ReadsBuffered rules s (length out) answer t
+  pub rest : LeavesRest out answer out'
+  pub noted : t.calls ≡ s.calls
+  pub long : length out' ≡ length out
+
+module _ {S P : Type 0} (remaining : S → Option (List ℕ)) (rules : ReadRules P) (s : Buffered S P) (out : List ℕ) where
+  module _ (n : ℕ) (out' : List ℕ) (t : Buffered S P) (r : ReadThrough remaining rules s out n out' t)
+      (inside : StaysInside s.block (length out)) where
+    filled : Fills rules s (Ok n) r.filled
+    filled = fills rules s (Ok n) r.filled r.fill.whole r.fill.filled
+
+    -- where nothing is handed out, the fill showed nothing, and there was capacity
+    showed_nothing : n ≡ 0 → 0 < length out → length r.filled.block.bytes ≡ 0
+    showed_nothing none some = omega (arith, r.hands.count, none, some)
+
+    had_capacity : length r.filled.block.bytes ≡ 0 → 0 < s.block.capacity
+    had_capacity none = inside_room s r.filled (length out) inside filled.in_order none
+
+    front_length : length (take n r.filled.block.bytes) ≡ n
+    front_length = length-take-le n r.filled.block.bytes (omega (arith, r.hands.count))
+
+    front_same : take n r.filled.block.bytes ≡ take n out'
+    front_same = sym (ap (take n) r.hands.copied ∙ take_at (take n r.filled.block.bytes) (drop n out) n front_length)
+
+    same_length : length out' ≡ length out
+    same_length = omega (
+      arith,
+      ap length r.hands.copied,
+      length-append (take n r.filled.block.bytes) (drop n out),
+      front_length,
+      length-drop n out,
+      r.hands.count,
+    )
+
+    inside_order : ReadsInOrder s (take n out') t
+    inside_order = ReadsInOrder-joins s r.filled t [] (take n out') filled.in_order
+        (subst (λ l. ReadsInOrder r.filled l t) front_same r.hands.in_order)
+
+    inside_known : InnerGives remaining s t
+    inside_known = InnerGives-joins remaining s r.filled t r.fill.known
+        (InnerGives-same remaining r.filled t r.hands.inner r.hands.consumed.told)
+
+    inside_claims : rules.claims t.policy ≡ rules.claims s.policy
+    inside_claims = r.hands.consumed.told_policy.claims ∙ filled.claims
+
+    inside_dry : n ≡ 0 → 0 < length out → WantsBytes (rules.claims s.policy) → RanDry s r.filled
+    inside_dry is some wants =
+        let none = showed_nothing is some in
+        Fills-empty rules s n r.filled filled wants (had_capacity none) none
+
+    inside_bytes : ReadConsumes {E = Error} (reader_remaining remaining rules s) (reader_remaining remaining rules t)
+        (Ok n) out'
+    inside_bytes = (
+      remaining_gives remaining rules s t (take n out') inside_order inside_known inside_claims
+          (le_trans filled.capacity r.hands.capacity),
+      λ none some.
+          let empty = showed_nothing none (omega (arith, some, same_length)) in
+          remaining_ends remaining rules t
+          (λ wants room. subst (λ i. IsAtEnd (remaining i)) (sym r.hands.inner)
+          (r.fill.ended (inside_dry none (omega (arith, some, same_length)) (subst WantsBytes inside_claims wants))))
+          (nil_from_length t.block.bytes
+          (omega (
+            arith,
+            ap length r.hands.consumed.told_policy.law.bytes,
+            ap length r.hands.consumed.dropped.bytes,
+            length-drop (min n (length r.filled.block.bytes)) r.filled.block.bytes,
+            empty,
+          ))),
+    )
+
+  pub says : (answer : Result ℕ Error) (out' : List ℕ) (t : Buffered S P) → ReadsInside remaining rules s out answer out' t
+      → StaysInside s.block (length out) → ReadSays remaining rules s out answer out' t
+  says (Ok n) out' t r inside =
+      let f = filled n out' t r inside in
+      let long = same_length n out' t r inside in
+      let short : n ≤ length out' = omega (arith, r.hands.count, long) in
+      record {
+        bound = (short, sym (length-take-le n out' short));
+        bytes = inside_bytes n out' t r inside;
+        known = inside_known n out' t r inside;
+        in_order = inside_order n out' t r inside;
+        grows = ReadLogGrows-joins _ _ _ f.grows r.hands.grows;
+        caused = ap (λ l. l.reads.faults) r.hands.consumed.told ∙ f.caused;
+        empty = λ is some.
+            let none = showed_nothing n out' t r inside (cc) some in
+            let room = had_capacity n out' t r inside none in
+            empty_read rules s r.filled t (f.empty refl none) (omega (arith, room, f.capacity))
+            (subst (λ k. ReaderConsumes rules k r.filled t) (cc) r.hands.consumed);
+        ran_dry = λ is some wants.
+            let dry = inside_dry n out' t r inside (cc) some wants in
+            omega (arith, dry, ap (λ l. l.reads.zero_answers) r.hands.consumed.told);
+        capacity = le_trans f.capacity r.hands.capacity;
+        kind = r.hands.consumed.told_policy.law.kind ∙ r.hands.consumed.dropped.kind ∙ f.kind;
+        claims = inside_claims n out' t r inside;
+        sparing = λ keep claims. Spared-joins keep s r.filled t (f.sparing keep claims)
+            (r.hands.sparing keep (subst (λ x. ClaimsToSpare x.spares keep) (sym f.claims) claims));
+        whole = r.hands.whole;
+        buffered = record {
+          filled = r.filled;
+          fills = f;
+          handed = (omega (arith, r.hands.count), r.hands.consumed);
+        };
+        rest = ap (drop n) r.hands.copied
+            ∙ drop_at (take n r.filled.block.bytes) (drop n out) n (front_length n out' t r inside);
+        noted = r.hands.noted ∙ r.fill.noted;
+        long = long;
+      }
+  says (Err e) out' t r inside =
+      let f : Fills rules s (Err e) t = fills rules s (Err e) t r.fill.whole r.fill.filled in
+      record {
+        bound = tt;
+        bytes = Keeps-of (reader_remaining remaining rules s) (reader_remaining remaining rules t)
+            (remaining_gives remaining rules s t [] f.in_order r.fill.known f.claims f.capacity);
+        known = r.fill.known;
+        in_order = f.in_order;
+        grows = f.grows;
+        caused = f.caused;
+        empty = λ is some. cc;
+        ran_dry = λ is some wants. cc;
+        capacity = f.capacity;
+        kind = f.kind;
+        claims = f.claims;
+        sparing = f.sparing;
+        whole = f.whole;
+        buffered = record { filled = t; fills = f; handed = refl };
+        rest = r.same;
+        noted = r.fill.noted;
+        long = ap length r.same;
+      }
+
+  pub one_read_says : (answer : Result ℕ Error) (out' : List ℕ) (t : Buffered S P) → IsBlock s.block
+      → ReadsInside remaining rules s out answer out' t → StaysInside s.block (length out)
+      → OneRead remaining rules s out' answer t
+  one_read_says answer out' t whole r inside =
+      let a = says answer out' t r inside in
+      one_read remaining rules s (length out) out' answer t a.long whole a.bound
+      (λ past. absurd (elim inside [ inl some ↦ omega (arith, past.0, some) | inr less ↦ omega (arith, past.1, less) ]))
+      (λ _. a.buffered)
+      (record {
+        in_order = a.in_order;
+        known = a.known;
+        grows = a.grows;
+        capacity = a.capacity;
+        kind = a.kind;
+        claims = a.claims;
+        sparing = a.sparing;
+        whole = a.whole;
+        noted = a.noted;
+      }) a.caused a.empty a.ran_dry

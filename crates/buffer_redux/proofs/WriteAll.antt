@@ -1,0 +1,310 @@
+-- A write of all bytes, write after write.
+use Rattle.std.proofs.Common.{◌≡◌, ◌≢◌, ℕ, suc, ◌+◌, ◌-◌, ◌<◌, ◌≤◌, List, [], ◌++◌, length, take, drop, Result, Ok, Err, IfErr, OnOk, refl, sym, ap, subst, ◌∙◌, arith, le_refl, le_trans, inl, inr, append-nil, take_all, take-add, length-drop}
+use Rattle.std.proofs.lemmas.Bool.{cases_lt}
+use Rattle.std.proofs.lemmas.Slice.{between_to_end}
+use Rattle.std.specs.IoError.{error_kind}
+use Rattle.std.specs.declared.io.Error.{Error}
+use Rattle.std.specs.declared.io.ErrorKind.{ErrorKind}
+use Rattle.std.specs.declared.io.ErrorKind.TheVariants.{Interrupted, WriteZero}
+use Rattle.std.specs.Io.{WritesAtMost}
+use Rattle.std.specs.Io.KnownBytes.{Appends}
+use Rattle.redux_buffer.specs.Block.{IsBlock, usable}
+use Rattle.redux_tell.specs.LogGrows.{WriteLogGrows-none, WriteLogGrows-joins}
+use Rattle.redux_tell.specs.StreamLog.{StreamLog, taken}
+use Rattle.redux_policy.specs.Policy.{WriteRules}
+use Rattle.buffer_redux.specs.AllBytes.{GoesBy, EndsBy, GaveUp}
+use Rattle.buffer_redux.specs.Buffered.{Buffered, InnerWent}
+use Rattle.buffer_redux.specs.BufWriter.{writer_contents, WritesInOrder, FlushesAmount, TakesIn, Prepared, Finished, Writes, WriteErrorCaused}
+use Rattle.buffer_redux.specs.WriterLaws.{WritesInOrder-none, WritesInOrder-joins, WritesInOrder-contents, flush_ways, ways_in}
+use Rattle.buffer_redux.specs.WriteAll.{WriteTurns, TookFront, TookBeginning, WritesAll, OneWrite}
+use Rattle.buffer_redux.proofs.WriterFacts.{writes_keep, writes_caused, writes_steadily, writes_nothing}
+
+-- what stays in a write: the policy's claims, and the kind of the buffer
+module _ {S P : Type 0} where
+  takes_in_policy : (m t : Buffered S P) (bs : List ℕ) (answer : Result ℕ Error)
+      → TakesIn bs m answer t → t.policy ≡ m.policy
+  takes_in_policy m t bs answer f =
+      elim (ways_in m.block (length bs)) [ inl past ↦ (f.past past).policy | inr inside ↦ (f.inside inside).policy ]
+
+  takes_in_kind : (m t : Buffered S P) (bs : List ℕ) (answer : Result ℕ Error)
+      → TakesIn bs m answer t → t.block.kind ≡ m.block.kind
+  takes_in_kind m t bs answer f = elim (ways_in m.block (length bs)) [
+    | inl past ↦ ap (λ b. b.kind) (f.past past).block
+    | inr inside ↦ (
+        let copied = f.inside inside in
+        copied.added.kind ∙ elim (cases_lt 0 (usable m.block)) [
+          | inl some ↦ ap (λ b. b.kind) (copied.roomy some)
+          | inr none ↦ (copied.tight (omega (arith, none))).kind
+        ]
+        )
+  ]
+
+  flush_kind : (amount : ℕ) (m t : Buffered S P) (answer : Result (Unit {0}) Error)
+      → FlushesAmount amount m answer t → t.block.kind ≡ m.block.kind
+  flush_kind amount m t answer f = elim (flush_ways amount (length m.block.bytes)) [
+    | inl none ↦ ap (λ b. b.kind) (f.idle none).buffer
+    | inr some ↦ (f.sends some.0 some.1).sent.dropped.kind
+  ]
+
+  prepared_kind : (rules : WriteRules P) (incoming : ℕ) (s m : Buffered S P) (answer : Result (Unit {0}) Error)
+      → Prepared rules incoming s answer m → m.block.kind ≡ s.block.kind
+  prepared_kind rules incoming s m answer p =
+      flush_kind (p.amount.0) p.seen m answer p.flush ∙ p.asked.law.kind
+
+  finished_kind : (rules : WriteRules P) (m t : Buffered S P) → Finished rules m t → t.block.kind ≡ m.block.kind
+  finished_kind rules m t f = flush_kind (f.amount.0) _ t f.flushed f.flush
+
+  module _ (rules : WriteRules P) (s : Buffered S P) (bs : List ℕ) where
+    claims_stay : (answer : Result ℕ Error) (t : Buffered S P) → Writes rules s bs answer t
+        → rules.claims t.policy ≡ rules.claims s.policy
+    claims_stay (Ok n) t w =
+        w.finished.asked.claims ∙ ap rules.claims (takes_in_policy w.before w.after bs (Ok n) w.took_in)
+        ∙ ap rules.claims w.prepared.flush.policy ∙ w.prepared.asked.claims
+    claims_stay (Err e) t (inl refused) = refused.asked.claims
+    claims_stay (Err e) t (inr (inl p)) = ap rules.claims p.flush.policy ∙ p.asked.claims
+    claims_stay (Err e) t (inr (inr f)) =
+        ap rules.claims (takes_in_policy f.before t bs (Err e) f.took_in)
+        ∙ ap rules.claims f.prepared.flush.policy ∙ f.prepared.asked.claims
+
+    kind_stays : (answer : Result ℕ Error) (t : Buffered S P) → Writes rules s bs answer t
+        → t.block.kind ≡ s.block.kind
+    kind_stays (Ok n) t w =
+        finished_kind rules w.after t w.finished ∙ takes_in_kind w.before w.after bs (Ok n) w.took_in
+        ∙ prepared_kind rules (length bs) s w.before (Ok tt) w.prepared
+    kind_stays (Err e) t (inl refused) = refused.asked.law.kind
+    kind_stays (Err e) t (inr (inl p)) = prepared_kind rules (length bs) s t (Err e) p
+    kind_stays (Err e) t (inr (inr f)) =
+        takes_in_kind f.before t bs (Err e) f.took_in
+        ∙ prepared_kind rules (length bs) s f.before (Ok tt) f.prepared
+
+    caused_of : (answer : Result ℕ Error) (t : Buffered S P) → Writes rules s bs answer t
+        → WriteErrorCaused rules s bs answer t
+    caused_of (Ok n) t w = tt
+    caused_of (Err e) t w = writes_caused rules s bs e t w
+
+zero_on : (n : ℕ) → 0 + n ≡ n
+zero_on n = omega arith
+
+pub one_more : (k : ℕ) → suc k ≡ k + 1
+one_more k = omega arith
+
+-- a write of the slice from `at` on is one of the bytes that are left
+pub bound_rest : (answer : Result ℕ Error) (bs : List ℕ) (at : ℕ)
+    → WritesAtMost answer (take (length bs - at) (drop at bs)) → WritesAtMost answer (drop at bs)
+bound_rest answer bs at bound = subst (WritesAtMost answer) (between_to_end bs at (length bs) (le_refl _)) bound
+
+pub one_rest : {S P : Type 0} (tells : S → StreamLog) (stretch : S → S → Type 0) (rules : WriteRules P)
+    (m : Buffered S P) (bs : List ℕ) (at : ℕ) (answer : Result ℕ Error) (t : Buffered S P) → IsBlock m.block
+    → IsBlock t.block → Writes rules m (take (length bs - at) (drop at bs)) answer t → InnerWent tells stretch m t
+    → OneWrite tells stretch rules m (drop at bs) answer t
+one_rest tells stretch rules m bs at answer t before after steps went = record {
+  steps = subst (λ l. Writes rules m l answer t) (between_to_end bs at (length bs) (le_refl _)) steps;
+  whole = (before, after);
+  went = went;
+}
+
+-- what a turn took that was gone on from, and one that ended it
+pub further_by : (answer : Result ℕ Error) (n : ℕ) → GoesBy answer n → (bs : List ℕ) → WritesAtMost answer bs
+    → (n ≤ length bs) × (taken bs answer ≡ take n bs)
+further_by (Ok k) n goes bs bound = (omega (arith, goes.1, bound), ap (λ x. take x bs) (sym goes.1))
+further_by (Err e) n goes bs bound = (omega (arith, goes.1), sym (ap (λ x. take x bs) goes.1))
+
+pub none_taken : (nothing : ErrorKind) (answer : Result ℕ Error) (e : Error) → EndsBy nothing answer e → (bs : List ℕ)
+    → taken bs answer ≡ []
+none_taken nothing (Ok k) e ends bs = ap (λ x. take x bs) ends.0
+none_taken nothing (Err x) e ends bs = refl
+
+pub not_interrupted : (nothing : ErrorKind) → nothing ≢ Interrupted → (answer : Result ℕ Error) (e : Error)
+    → EndsBy nothing answer e → error_kind e ≢ Interrupted
+not_interrupted nothing other (Ok k) e ends odd = other (sym ends.1 ∙ odd)
+not_interrupted nothing other (Err x) e ends odd = ends.1 odd
+
+module _ {S P : Type 0} (tells : S → StreamLog) (stretch : S → S → Type 0) (rules : WriteRules P) where
+  -- so many turns took the bytes before `at` in
+  pub record Turned (s : Buffered S P) (bs : List ℕ) (turns at : ℕ) (t : Buffered S P) : Type 0 where
+    pub within : at ≤ length bs
+    pub run : WriteTurns rules bs turns at s t
+    pub front : TookFront tells stretch rules s (take at bs) t
+
+module _ {S P : Type 0} (tells : S → StreamLog) (stretch : S → S → Type 0)
+    (none : (a : S) → stretch a a) (joins : (a b c : S) → stretch a b → stretch b c → stretch a c)
+    (rules : WriteRules P) where
+  front_none : (s : Buffered S P) → IsBlock s.block → s.log ≡ tells s.inner
+      → TookFront tells stretch rules s [] s
+  front_none s whole told = record {
+    in_order = WritesInOrder-none s;
+    grows = WriteLogGrows-none s.log.writes;
+    not_flushed = refl;
+    capacity = le_refl _;
+    kind = refl;
+    claims = refl;
+    whole = whole;
+    went = record { calls = none s.inner; told_before = told; told_after = told; noted = refl };
+  }
+
+  front_joins : (s m t : Buffered S P) (a b : List ℕ) → TookFront tells stretch rules s a m
+      → TookFront tells stretch rules m b t → TookFront tells stretch rules s (a ++ b) t
+  front_joins s m t a b p q = record {
+    in_order = WritesInOrder-joins s m t a b p.in_order q.in_order;
+    grows = WriteLogGrows-joins s.log.writes m.log.writes t.log.writes p.grows q.grows;
+    not_flushed = q.not_flushed ∙ p.not_flushed;
+    capacity = le_trans p.capacity q.capacity;
+    kind = q.kind ∙ p.kind;
+    claims = q.claims ∙ p.claims;
+    whole = q.whole;
+    went = record {
+      calls = joins s.inner m.inner t.inner p.went.calls q.went.calls;
+      told_before = p.went.told_before;
+      told_after = q.went.told_after;
+      noted = q.went.noted ∙ p.went.noted;
+    };
+  }
+
+  front_of : (s : Buffered S P) (bs : List ℕ) (answer : Result ℕ Error) (t : Buffered S P)
+      → OneWrite tells stretch rules s bs answer t → TookFront tells stretch rules s (taken bs answer) t
+  front_of s bs answer t w =
+      let keeps = writes_keep rules s bs answer t w.steps in
+      record {
+        in_order = keeps.in_order;
+        grows = keeps.grows;
+        not_flushed = keeps.flushed;
+        capacity = keeps.capacity;
+        kind = kind_stays rules s bs answer t w.steps;
+        claims = claims_stay rules s bs answer t w.steps;
+        whole = w.whole.1;
+        went = w.went;
+      }
+
+  pub turned_none : (s : Buffered S P) (bs : List ℕ) → IsBlock s.block → s.log ≡ tells s.inner
+      → Turned tells stretch rules s bs 0 0 s
+  turned_none s bs whole told =
+      record { within = omega arith; run = (refl, refl); front = front_none s whole told }
+
+  module _ (s : Buffered S P) (bs : List ℕ) (turns at : ℕ) (m : Buffered S P)
+      (before : Turned tells stretch rules s bs turns at m) where
+    -- one more write of the bytes that are left
+    module _ (answer : Result ℕ Error) (t : Buffered S P) (fewer : at < length bs)
+        (one : OneWrite tells stretch rules m (drop at bs) answer t) where
+      both : TookFront tells stretch rules s (take at bs ++ taken (drop at bs) answer) t
+      both = front_joins s m t (take at bs) (taken (drop at bs) answer) before.front
+          (front_of m (drop at bs) answer t one)
+
+      pub turned_more : (n : ℕ) → GoesBy answer n → WritesAtMost answer (drop at bs)
+          → Turned tells stretch rules s bs (turns + 1) (at + n) t
+      turned_more n goes bound =
+          let step = further_by answer n goes (drop at bs) bound in
+          record {
+            within = omega (arith, step.0, fewer, length-drop at bs);
+            run = subst (λ k. WriteTurns rules bs k (at + n) s t) (one_more turns) (
+              at,
+              m,
+              before.run,
+              record { fewer = fewer; answer = answer; steps = one.steps; further = n; goes = goes; adds = refl },
+            );
+            front = subst (λ l. TookFront tells stretch rules s l t)
+                (ap (λ l. take at bs ++ l) step.1 ∙ sym (take-add at n bs)) both;
+          }
+
+      pub ended_failed : (e : Error) → EndsBy WriteZero answer e → WritesAll tells stretch rules s bs (Err e) t
+      ended_failed e ends =
+          let some : 0 < length (drop at bs) = omega (arith, fewer, length-drop at bs) in
+          record {
+            turns = turns;
+            count = at;
+            within = before.within;
+            last = m;
+            run = before.run;
+            first = before.front;
+            front = subst (λ l. TookFront tells stretch rules s l t)
+                (ap (λ l. take at bs ++ l) (none_taken WriteZero answer e ends (drop at bs)) ∙ append-nil (take at bs)) both;
+            ended = inl (record {
+              some = some;
+              answer = answer;
+              ends = ends;
+              caused = caused_of rules m (drop at bs) answer t one.steps;
+              empty = λ is. writes_nothing rules m (drop at bs) answer t one.steps is some;
+              steadily = writes_steadily rules m (drop at bs) answer t one.steps;
+              steps = one.steps;
+            });
+          }
+
+    pub ended_all : length bs ≤ at → WritesAll tells stretch rules s bs (Ok tt) m
+    ended_all long = record {
+      turns = turns;
+      count = at;
+      within = before.within;
+      last = m;
+      run = before.run;
+      first = before.front;
+      front = before.front;
+      ended = (omega (arith, long, before.within), refl);
+    }
+
+    pub ended_late : (e : Error) → GaveUp turns e → WritesAll tells stretch rules s bs (Err e) m
+    ended_late e late = record {
+      turns = turns;
+      count = at;
+      within = before.within;
+      last = m;
+      run = before.run;
+      first = before.front;
+      front = before.front;
+      ended = inr (late, refl);
+    }
+
+  -- the first write of some bytes
+  module _ (s : Buffered S P) (bs : List ℕ) (answer : Result ℕ Error) (t : Buffered S P) (some : 0 < length bs)
+      (one : OneWrite tells stretch rules s bs answer t) where
+    pub first_more : (n : ℕ) → GoesBy answer n → WritesAtMost answer bs → Turned tells stretch rules s bs 1 n t
+    first_more n goes bound =
+        subst (λ k. Turned tells stretch rules s bs 1 k t) (zero_on n)
+        (turned_more s bs 0 0 s (turned_none s bs one.whole.0 one.went.told_before) answer t some one n goes bound)
+
+    pub first_failed : (e : Error) → EndsBy WriteZero answer e → WritesAll tells stretch rules s bs (Err e) t
+    first_failed e ends =
+        ended_failed s bs 0 0 s (turned_none s bs one.whole.0 one.went.told_before) answer t some one e ends
+
+  -- no byte, and all bytes at once
+  pub all_none : (s : Buffered S P) → IsBlock s.block → s.log ≡ tells s.inner
+      → WritesAll tells stretch rules s [] (Ok tt) s
+  all_none s whole told = ended_all s [] 0 0 s (turned_none s [] whole told) (le_refl 0)
+
+  pub all_at_once : (s : Buffered S P) (bs : List ℕ) (n : ℕ) (t : Buffered S P) → 0 < length bs → n ≡ length bs
+      → OneWrite tells stretch rules s bs (Ok n) t → WritesAll tells stretch rules s bs (Ok tt) t
+  all_at_once s bs n t some full w =
+      ended_all s bs 1 n t
+      (first_more s bs (Ok n) t some w n (omega (arith, some, full), refl) (omega (arith, full)))
+      (omega (arith, full))
+
+-- what a caller reads of the whole
+module _ {S P : Type 0} (tells : S → StreamLog) (stretch : S → S → Type 0) (rules : WriteRules P)
+    (s : Buffered S P) (bs : List ℕ) (t : Buffered S P) where
+  pub all_in_order : (answer : Result (Unit {0}) Error) → WritesAll tells stretch rules s bs answer t
+      → OnOk answer (WritesInOrder s bs t)
+  all_in_order (Ok _) w =
+      subst (λ l. WritesInOrder s l t) (take_all w.count bs (omega (arith, w.ended.0))) w.front.in_order
+  all_in_order (Err e) w = tt
+
+  pub all_bytes : (answer : Result (Unit {0}) Error) → WritesAll tells stretch rules s bs answer t
+      → OnOk answer (Appends (writer_contents s) (writer_contents t) bs)
+  all_bytes (Ok _) w = WritesInOrder-contents s t bs (all_in_order (Ok tt) w)
+  all_bytes (Err e) w = tt
+
+  pub all_retried : (answer : Result (Unit {0}) Error) → WritesAll tells stretch rules s bs answer t
+      → IfErr answer (λ e. error_kind e ≢ Interrupted)
+  all_retried (Ok _) w = tt
+  all_retried (Err e) w = elim w.ended [
+    | inl failed ↦ not_interrupted WriteZero (λ odd. cc) failed.answer e failed.ends
+    | inr late ↦ λ odd. (let two = sym late.0.timed_out ∙ odd in cc)
+  ]
+
+  pub all_beginning : (answer : Result (Unit {0}) Error) → WritesAll tells stretch rules s bs answer t
+      → TookBeginning bs s t
+  all_beginning answer w = record { count = w.count; within = w.within; in_order = w.front.in_order }
+
+  pub all_whole : (answer : Result (Unit {0}) Error) → WritesAll tells stretch rules s bs answer t → IsBlock t.block
+  all_whole answer w = w.front.whole
+
+  pub all_went : (answer : Result (Unit {0}) Error) → WritesAll tells stretch rules s bs answer t
+      → InnerWent tells stretch s t
+  all_went answer w = w.front.went

@@ -1,0 +1,39 @@
+use Rattle.std.proofs.Common.{◌≡◌, true, Ok, refl, inl, ap, arith}
+use Rattle.redux_buffer.specs.Block.{usable}
+use Rattle.buffer_redux.proofs.ReadSteps.{one_read_says, full_did}
+use Rattle.buffer_redux.proofs.buf_reader.BufReader.read_ordered.Goals as goal
+
+pub returns-then-usable_space-gt0 : goal.returns-then-usable_space-gt0
+returns-then-usable_space-gt0 g c = record {
+  exact = λ s asked some.
+      c.read_on.ensures.exact s (one_read_says g.R.TellRead.remaining g.P.ReaderPolicy.rules s c.args.out.now
+      c.read_slowly-answer.result c.read_slowly-answer.new.out c.read_slowly-answer.new.self asked.whole
+      (c.read_slowly-answer.ensures.read s asked) (inl some));
+}
+
+pub returns : goal.returns
+returns g c = record {
+  exact = λ s asked some.
+      let h = c.hand_out-n.ensures in
+      let full : usable c.args.self.now.block ≡ 0 =
+      omega (arith, c.usable_space.ensures.value, c.if-usable_space-gt0.false, ap (λ x. usable x.block) c.self.view_is) in
+      c.read_on-2.ensures.exact s (one_read_says g.R.TellRead.remaining g.P.ReaderPolicy.rules s c.args.out.now
+      (Ok c.hand_out-n.result) c.hand_out-n.new.out c.hand_out-n.new.self asked.whole
+      (record {
+        filled = c.args.self.now;
+        fill = full_did g.R.TellRead.remaining g.P.ReaderPolicy.rules s c.args.self.now (record { 0 = true }) asked
+            c.hand_out-n.result refl full;
+        hands = record {
+          count = h.count;
+          copied = h.copied;
+          in_order = h.in_order;
+          inner = h.inner;
+          grows = h.grows;
+          consumed = h.consumed;
+          noted = h.noted;
+          sparing = h.sparing;
+          capacity = h.capacity;
+          whole = h.whole;
+        };
+      }) (inl some));
+}

@@ -1,0 +1,43 @@
+use Rattle.std.proofs.Common.{◌≡◌, ◌==◌, ℕ, true, zero, suc, [], Ok, length, refl, arith, sym, ◌∙◌}
+use Rattle.std.proofs.lemmas.List.{nil_from_length}
+use Rattle.buffer_redux.specs.ReadAll.{ReadsExactly}
+use Rattle.buffer_redux.proofs.ReadAll.{all_none, one_read}
+use Rattle.buffer_redux.proofs.buf_reader.BufReader.read_rest.Goals as goal
+
+zero_of : (n : ℕ) → (n == 0) ≡ true → n ≡ 0
+zero_of zero is = refl
+zero_of (suc n) is = grind (arith, is)
+
+-- nothing is to be read, and a read after another
+nothing : (g : _) (c : goal.Then-is_empty g)
+    → ReadsExactly g.R.TellRead.remaining g.P.ReaderPolicy.rules c.args.self.now (Ok tt) c.args.out.now c.args.self.now
+nothing g c =
+    let empty : c.args.out.now ≡ [] = nil_from_length c.args.out.now
+    (zero_of (length c.args.out.now) (sym c.is_empty.ensures ∙ c.if-is_empty.true)) in
+    rw empty (rw (← c.self.view_is) (all_none _ _ _ c.self.invariant))
+
+turns : (g : _) (c : goal.After-slice_known-3-1 g)
+    → ReadsExactly g.R.TellRead.remaining g.P.ReaderPolicy.rules c.args.self.now c.read_on.result c.read_on.new.out
+    c.read_on.new.self
+turns g c =
+    let r = c.read-answer.ensures in
+    c.read_on.ensures.exact c.args.self.now
+    (one_read _ _ _ _ c.read-answer.new.out _ _ c.read-answer.auto.out (rw (← c.self.view_is) c.self.invariant) r.bound
+    r.direct r.buffered
+    (record {
+      in_order = r.in_order;
+      known = r.known;
+      grows = r.grows;
+      capacity = r.capacity;
+      kind = r.kind;
+      claims = r.claims;
+      sparing = r.sparing;
+      whole = r.whole;
+      noted = r.noted;
+    }) r.caused r.empty r.ran_dry)
+
+pub returns-then-is_empty : goal.returns-then-is_empty
+returns-then-is_empty g c = record { exact = nothing g c }
+
+pub returns : goal.returns
+returns g c = record { exact = turns g c }

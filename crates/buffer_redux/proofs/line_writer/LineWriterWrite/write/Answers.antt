@@ -1,0 +1,4 @@
+use Rattle.buffer_redux.proofs.line_writer.LineWriterWrite.write.Goals as goal
+
+pub returns-clause-empty : goal.returns-clause-empty
+returns-clause-empty g c is some = rw (← c.self.view_is) (c.write.ensures.empty is some)

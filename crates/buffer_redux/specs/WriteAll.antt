@@ -1,0 +1,91 @@
+-- What a write of all bytes promises: a write after another, of what is left, where one was short or interrupted.
+use Rattle.std.specs.Prelude.{◌≡◌, ℕ, ◌+◌, ◌<◌, ◌≤◌, ◌⊎◌, List, length, take, drop, Result, Ok, MatchResult, zero, suc}
+use Rattle.std.specs.declared.io.Error.{Error}
+use Rattle.std.specs.declared.io.ErrorKind.TheVariants.{WriteZero}
+use Rattle.redux_buffer.specs.Block.{IsBlock}
+use Rattle.redux_tell.specs.LogGrows.{WriteLogGrows}
+use Rattle.redux_tell.specs.StreamLog.{StreamLog}
+use Rattle.redux_policy.specs.declared.FlushAmt.{FlushAmt}
+use Rattle.redux_policy.specs.Policy.{WriteRules, BeforeWrite}
+use Rattle.buffer_redux.specs.AllBytes.{GoesBy, EndsBy, GaveUp}
+use Rattle.buffer_redux.specs.Buffered.{Buffered, InnerWent}
+use Rattle.buffer_redux.specs.BufWriter.{WritesInOrder, Writes, WriteErrorCaused, EmptyWriteCaused, WritesSteadily}
+
+-- a write of the bytes behind the first `before` was gone on from; the first `count` are taken in now
+pub record WriteTurn {S P : Type 0} (rules : WriteRules P) (bs : List ℕ) (before count : ℕ) (s t : Buffered S P)
+    : Type 0 where
+  pub fewer : before < length bs
+  pub answer : Result ℕ Error
+  pub steps : Writes rules s (drop before bs) answer t
+  pub further : ℕ
+  pub goes : GoesBy answer further
+  pub adds : count ≡ before + further
+
+-- so many turns, one after another, took the first `count` bytes in
+abbrev pub WriteTurns : {S P : Type 0} → WriteRules P → List ℕ → ℕ → ℕ → Buffered S P → Buffered S P → Type 0
+WriteTurns rules bs zero count s t = (count ≡ 0) × (s ≡ t)
+WriteTurns {S} {P} rules bs (suc k) count s t =
+    (before : ℕ) × (m : Buffered S P) × WriteTurns rules bs k before s m × WriteTurn rules bs before count m t
+
+-- just these bytes were taken in, and none was lost or changed place. Nothing was flushed, the capacity didn't fall, and
+-- the kind and the policy's claims stayed
+pub record TookFront {S P : Type 0} (tells : S → StreamLog) (stretch : S → S → Type 0) (rules : WriteRules P)
+    (s : Buffered S P) (front : List ℕ) (t : Buffered S P) : Type 0 where
+  pub in_order : WritesInOrder s front t
+  pub grows : WriteLogGrows s.log.writes t.log.writes
+  pub not_flushed : t.log.writes.flushed ≡ s.log.writes.flushed
+  pub capacity : s.block.capacity ≤ t.block.capacity
+  pub kind : t.block.kind ≡ s.block.kind
+  pub claims : rules.claims t.policy ≡ rules.claims s.policy
+  pub whole : IsBlock t.block
+  pub went : InnerWent tells stretch s t
+
+-- some first bytes were taken in
+pub record TookBeginning {S P : Type 0} (bs : List ℕ) (s t : Buffered S P) : Type 0 where
+  pub count : ℕ
+  pub within : count ≤ length bs
+  pub in_order : WritesInOrder s (take count bs) t
+
+-- a write of the bytes that were left, which were some, ended it
+pub record LastWriteFailed {S P : Type 0} (rules : WriteRules P) (rest : List ℕ) (e : Error) (m t : Buffered S P)
+    : Type 0 where
+  pub some : 0 < length rest
+  pub answer : Result ℕ Error
+  pub ends : EndsBy WriteZero answer e
+  pub caused : WriteErrorCaused rules m rest answer t
+  pub empty : answer ≡ Ok 0 → EmptyWriteCaused rules m rest t
+  pub steadily : WritesSteadily rules m (length rest) answer t
+  pub steps : Writes rules m rest answer t
+
+-- what `write_all(bs)` does: turns took the first `count` bytes in. At `Ok` these are all; at `Err` one more write ended it,
+-- which took nothing in, or there were too many turns
+pub record WritesAll {S P : Type 0} (tells : S → StreamLog) (stretch : S → S → Type 0) (rules : WriteRules P)
+    (s : Buffered S P) (bs : List ℕ) (answer : Result (Unit {0}) Error) (t : Buffered S P) : Type 0 where
+  pub turns : ℕ
+  pub count : ℕ
+  pub within : count ≤ length bs
+  pub last : Buffered S P
+  pub run : WriteTurns rules bs turns count s last
+  pub first : TookFront tells stretch rules s (take count bs) last
+  pub front : TookFront tells stretch rules s (take count bs) t
+  pub ended : MatchResult answer (λ _. (count ≡ length bs) × (t ≡ last))
+      (λ e. LastWriteFailed rules (drop count bs) e last t ⊎ (GaveUp turns e × (t ≡ last)))
+
+-- one write, with this answer
+pub record OneWrite {S P : Type 0} (tells : S → StreamLog) (stretch : S → S → Type 0) (rules : WriteRules P)
+    (s : Buffered S P) (bs : List ℕ) (answer : Result ℕ Error) (t : Buffered S P) : Type 0 where
+  pub steps : Writes rules s bs answer t
+  pub whole : IsBlock s.block × IsBlock t.block
+  pub went : InnerWent tells stretch s t
+
+-- the policy was asked before so many incoming bytes and answered this amount, and nothing else was done
+pub record AskedFirst {S P : Type 0} (tells : S → StreamLog) (rules : WriteRules P) (incoming amount : ℕ)
+    (s m : Buffered S P) : Type 0 where
+  pub answer : FlushAmt
+  pub is : answer.0 ≡ amount
+  pub asked : BeforeWrite rules s.policy s.block incoming (Ok answer) m.policy m.block
+  pub whole : IsBlock s.block
+  pub inner : m.inner ≡ s.inner
+  pub told_before : s.log ≡ tells s.inner
+  pub told : m.log ≡ s.log
+  pub noted : m.calls ≡ s.calls

@@ -1,0 +1,172 @@
+//! The parts of a read: filling the buffer, handing bytes out, and reading on until a slice is full.
+ghost use Rattle.std.specs.Prelude.{◌≡◌, ◌<◌, ◌≤◌, ◌++◌, Ok, Err, length, min, take, drop};
+ghost use Rattle.std.specs.Io.{ReadsAtMost};
+ghost use Rattle.std.specs.Io.KnownBytes.{IsAtEnd};
+ghost use Rattle.redux_buffer.specs.Block.{IsBlock, usable};
+ghost use Rattle.redux_tell.specs.LogGrows.{ReadLogGrows};
+ghost use Rattle.buffer_redux.specs.Buffered.{Buffered};
+ghost use Rattle.buffer_redux.specs.BufReader.{InnerGives, RanDry, ReaderConsumes, ReadsInOrder};
+ghost use Rattle.buffer_redux.specs.Fill.{Filled};
+ghost use Rattle.buffer_redux.specs.ReadAll.{OneRead, ReadsExactly};
+ghost use Rattle.buffer_redux.specs.ReadInside.{AskedRead, FillDone, ReadsInside};
+ghost use Rattle.buffer_redux.specs.Sparing.{SparesClaimed};
+ghost use Rattle.redux_policy.specs.Policy.{read_now};
+
+use crate::all_bytes::further;
+use crate::buf_reader::BufReader;
+use redux_policy::ReaderPolicy;
+use redux_tell::tell::TellRead;
+use std::io;
+use std::io::{ErrorKind, Read};
+
+impl<R: TellRead, P: ReaderPolicy> BufReader<R, P> {
+    // Inlined, so that a call that finds its bytes buffered makes no answer of `fill`.
+    #[inline(always)]
+    pub(super) fn fill(&mut self) -> io::Result<()>
+        ensures filled { Filled P.rules self.old result self.new }
+        ensures known { InnerGives R.remaining self.old self.new }
+        ensures end { RanDry self.old self.new → IsAtEnd (R.remaining self.new.inner) }
+        ensures noted { self.new.calls ≡ self.old.calls }
+        ensures whole { IsBlock self.new.block }
+    {
+        while self.policy.before_read(&mut self.buf)?.0 && self.buf.usable_space() > 0 {
+            if self.read_into_buf()? == 0 {
+                break;
+            }
+        }
+        Ok(())
+    }
+
+    // Hands out the first bytes that are buffered, as many as fit, and tells the policy how many those were.
+    #[inline(always)]
+    pub(super) fn hand_out(&mut self, out: &mut [u8]) -> usize
+        ensures count { result ≡ min (length self.old.block.bytes) (length out.old) }
+        ensures copied { out.new ≡ take result self.old.block.bytes ++ drop result out.old }
+        ensures in_order { ReadsInOrder self.old (take result self.old.block.bytes) self.new }
+        ensures inner { self.new.inner ≡ self.old.inner }
+        ensures grows { ReadLogGrows self.old.log.reads self.new.log.reads }
+        ensures consumed { ReaderConsumes P.rules result self.old self.new }
+        ensures noted { self.new.calls ≡ self.old.calls }
+        ensures sparing { SparesClaimed P.rules self.old self.new }
+        ensures capacity { self.old.block.capacity ≤ self.new.block.capacity }
+        ensures whole { IsBlock self.new.block }
+    {
+        let n = self.buf.copy_to_slice(out);
+        self.policy.after_consume(&mut self.buf, n);
+        n
+    }
+
+    // Fills on after the policy ordered a read and left room.
+    #[inline(always)]
+    fn fill_on(&mut self) -> io::Result<()>
+        requires room { 0 < usable self.old.block }
+        ensures fill { (s : Buffered R P) → AskedRead P.rules read_now s self.old
+            → FillDone R.remaining P.rules s result self.new }
+    {
+        if self.read_into_buf()? == 0 {
+            return Ok(());
+        }
+        self.fill()
+    }
+
+    // All of a read through the buffer after the policy ordered the first read into it and left room.
+    #[cold]
+    #[inline(never)]
+    fn read_slowly(&mut self, out: &mut [u8]) -> io::Result<usize>
+        requires room { 0 < usable self.old.block }
+        ensures bound { ReadsAtMost result out.new }
+        ensures read { (s : Buffered R P) → AskedRead P.rules read_now s self.old
+            → ReadsInside R.remaining P.rules s out.old result out.new self.new }
+    {
+        self.fill_on()?;
+        Ok(self.hand_out(out))
+    }
+
+    // The kit's compiler clears the answer of a call where the function that makes the call begins; of a call made in here,
+    // which is inlined, that is behind the tests of the caller. So it is of each `aside`.
+    #[inline(always)]
+    pub(super) fn read_aside(&mut self, out: &mut [u8]) -> io::Result<usize>
+        requires room { 0 < usable self.old.block }
+        ensures bound { ReadsAtMost result out.new }
+        ensures read { (s : Buffered R P) → AskedRead P.rules read_now s self.old
+            → ReadsInside R.remaining P.rules s out.old result out.new self.new }
+    {
+        self.read_slowly(out)
+    }
+
+    // Goes on after the first read of a read of a whole slice, which returned `answer`: reads what is left, where that read
+    // was short or interrupted.
+    #[cold]
+    #[inline(never)]
+    fn read_on(&mut self, answer: io::Result<usize>, out: &mut [u8]) -> io::Result<()>
+        requires bound { ReadsAtMost answer out.old }
+        requires some { 0 < length out.old }
+        ensures exact { (s : Buffered R P) → OneRead R.remaining P.rules s out.old answer self.old
+            → ReadsExactly R.remaining P.rules s result out.new self.new }
+    {
+        let mut at = further(answer, ErrorKind::UnexpectedEof)?;
+        for _ in 1..u64::MAX {
+            if at >= out.len() {
+                return Ok(());
+            }
+            at += further(self.read(&mut out[at..]), ErrorKind::UnexpectedEof)?;
+        }
+        Err(io::Error::from(ErrorKind::TimedOut))
+    }
+
+    // A read of a whole slice where fewer bytes are buffered, or the slice is empty.
+    #[cold]
+    #[inline(never)]
+    fn read_rest(&mut self, out: &mut [u8]) -> io::Result<()>
+        ensures exact { ReadsExactly R.remaining P.rules self.old result out.new self.new }
+    {
+        if out.is_empty() {
+            let _ = &self.buf;
+            return Ok(());
+        }
+        let answer = self.read(out);
+        self.read_on(answer, out)
+    }
+
+    #[inline(always)]
+    pub(super) fn read_rest_aside(&mut self, out: &mut [u8]) -> io::Result<()>
+        ensures exact { ReadsExactly R.remaining P.rules self.old result out.new self.new }
+    {
+        self.read_rest(out)
+    }
+
+    // A read of a whole slice after the policy ordered a read over bytes that suffice.
+    #[cold]
+    #[inline(never)]
+    fn read_ordered(&mut self, out: &mut [u8]) -> io::Result<()>
+        requires some { 0 < length out.old }
+        ensures exact { (s : Buffered R P) → AskedRead P.rules read_now s self.old → 0 < length s.block.bytes
+            → ReadsExactly R.remaining P.rules s result out.new self.new }
+    {
+        if self.buf.usable_space() > 0 {
+            let answer = self.read_slowly(out);
+            return self.read_on(answer, out);
+        }
+        let n = self.hand_out(out);
+        self.read_on(Ok(n), out)
+    }
+
+    #[inline(always)]
+    pub(super) fn read_ordered_aside(&mut self, out: &mut [u8]) -> io::Result<()>
+        requires some { 0 < length out.old }
+        ensures exact { (s : Buffered R P) → AskedRead P.rules read_now s self.old → 0 < length s.block.bytes
+            → ReadsExactly R.remaining P.rules s result out.new self.new }
+    {
+        self.read_ordered(out)
+    }
+
+    // The policy returned this error to the first question of a read of a whole slice.
+    #[inline(always)]
+    pub(super) fn read_on_aside(&mut self, e: io::Error, out: &mut [u8]) -> io::Result<()>
+        requires some { 0 < length out.old }
+        ensures exact { (s : Buffered R P) → OneRead R.remaining P.rules s out.old (Err e) self.old
+            → ReadsExactly R.remaining P.rules s result out.new self.new }
+    {
+        self.read_on(Err(e), out)
+    }
+}

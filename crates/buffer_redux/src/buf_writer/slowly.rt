@@ -1,0 +1,95 @@
+//! What few writes come to: the steps after the first question of the policy, and further writes of what is left.
+ghost use Rattle.std.specs.Prelude.{◌<◌, Err, length};
+ghost use Rattle.std.specs.Io.{WritesAtMost};
+ghost use Rattle.redux_buffer.specs.Block.{IsBlock};
+ghost use Rattle.buffer_redux.specs.Buffered.{Buffered, InnerWent};
+ghost use Rattle.buffer_redux.specs.BufWriter.{WritesOn};
+ghost use Rattle.buffer_redux.specs.WriteAll.{AskedFirst, OneWrite, WritesAll};
+
+use crate::all_bytes::further;
+use crate::buf_writer::BufWriter;
+use redux_policy::WriterPolicy;
+use redux_tell::tell::TellWrite;
+use std::io;
+use std::io::{ErrorKind, Write};
+
+impl<W: TellWrite, P: WriterPolicy> BufWriter<W, P> {
+    // All of a write but the first question: flushes the amount, takes the bytes in and asks the policy once more. It
+    // stands apart, so that a write that sends nothing first and fits is short in its caller.
+    #[cold]
+    #[inline(never)]
+    fn write_slowly(&mut self, first: usize, bytes: &[u8]) -> io::Result<usize>
+        ensures bound { WritesAtMost result bytes.now }
+        ensures steps { WritesOn P.rules first self.old bytes.now result self.new }
+        ensures whole { IsBlock self.new.block }
+        ensures stretch { InnerWent W.log W.stretch self.old self.new }
+    {
+        self.flush_amount(first)?;
+        let written = self.take_in(bytes)?;
+        self.flush_after();
+        Ok(written)
+    }
+
+    // Goes on in `write_slowly`. The kit's compiler clears the answer of a call, here 96 bytes, where the function that makes
+    // the call begins; of a call made in here, which is inlined, that is behind the tests of `write`.
+    #[inline(always)]
+    pub(super) fn write_aside(&mut self, first: usize, bytes: &[u8]) -> io::Result<usize>
+        ensures bound { WritesAtMost result bytes.now }
+        ensures steps { WritesOn P.rules first self.old bytes.now result self.new }
+        ensures whole { IsBlock self.new.block }
+        ensures stretch { InnerWent W.log W.stretch self.old self.new }
+    {
+        self.write_slowly(first, bytes)
+    }
+
+    // Goes on after the first write of a write of all bytes, which returned `answer`: writes what is left, where that write
+    // was short or interrupted.
+    #[cold]
+    #[inline(never)]
+    fn write_on(&mut self, answer: io::Result<usize>, bytes: &[u8]) -> io::Result<()>
+        requires bound { WritesAtMost answer bytes.now }
+        requires some { 0 < length bytes.now }
+        ensures all { (s : Buffered W P) → OneWrite W.log W.stretch P.rules s bytes.now answer self.old
+            → WritesAll W.log W.stretch P.rules s bytes.now result self.new }
+    {
+        let mut at = further(answer, ErrorKind::WriteZero)?;
+        for _ in 1..u64::MAX {
+            if at >= bytes.len() {
+                return Ok(());
+            }
+            at += further(self.write(&bytes[at..]), ErrorKind::WriteZero)?;
+        }
+        Err(io::Error::from(ErrorKind::TimedOut))
+    }
+
+    // All of a write of all bytes but the first question. It stands apart, as `write_slowly` does.
+    #[cold]
+    #[inline(never)]
+    fn write_rest(&mut self, first: usize, bytes: &[u8]) -> io::Result<()>
+        requires some { 0 < length bytes.now }
+        ensures all { (s : Buffered W P) → AskedFirst W.log P.rules (length bytes.now) first s self.old
+            → WritesAll W.log W.stretch P.rules s bytes.now result self.new }
+    {
+        let answer = self.write_slowly(first, bytes);
+        self.write_on(answer, bytes)
+    }
+
+    // These are inlined, as `write_aside` is.
+    #[inline(always)]
+    pub(super) fn write_rest_aside(&mut self, first: usize, bytes: &[u8]) -> io::Result<()>
+        requires some { 0 < length bytes.now }
+        ensures all { (s : Buffered W P) → AskedFirst W.log P.rules (length bytes.now) first s self.old
+            → WritesAll W.log W.stretch P.rules s bytes.now result self.new }
+    {
+        self.write_rest(first, bytes)
+    }
+
+    #[inline(always)]
+    pub(super) fn write_on_aside(&mut self, e: io::Error, bytes: &[u8]) -> io::Result<()>
+        requires some { 0 < length bytes.now }
+        ensures all { (s : Buffered W P) → OneWrite W.log W.stretch P.rules s bytes.now (Err e) self.old
+            → WritesAll W.log W.stretch P.rules s bytes.now result self.new }
+    {
+        self.write_on(Err(e), bytes)
+    }
+}

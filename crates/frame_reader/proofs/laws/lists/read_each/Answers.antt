@@ -1,0 +1,45 @@
+use Rattle.std.proofs.Common.{◌≡◌, ◌+◌, map, drop, ◌++◌, ◌∷◌, [], Ok, sym, subst, arith}
+use Rattle.frame_reader.specs.Next.{Next}
+use Rattle.frame_reader.specs.Runs.{recorded}
+use Rattle.frame_reader.proofs.Stepping.{ReadsAll, kept_more, leaves, read_more, read_none, read_some}
+use Rattle.frame_reader.proofs.laws.lists.read_each.Goals as goal
+
+pub next_of_known-requires : goal.next_of_known-requires
+next_of_known-requires g c = record {
+  left = leaves (λ v. v.items) c.args.payloads.now c.loop.index g.R.TellRead.remaining c.args.reader.now c.loop.reader
+      (map (λ v. v.items) c.loop.kept.items) c.requires.fit c.loop.invariant;
+}
+
+pub unreachable-requires : goal.unreachable-requires
+unreachable-requires g c =
+    let remaining = g.R.TellRead.remaining in
+    read_none (λ v. v.items) c.args.payloads.now c.loop.index remaining c.args.reader.now c.loop.reader
+    (map (λ v. v.items) c.loop.kept.items) c.requires.fit c.loop.invariant c.loop-item.result c.loop-test.true
+    c.loop-item.is c.next_of_known.new.reader
+    (subst (λ o. Next remaining c.loop.reader (recorded (Ok o)) c.next_of_known.new.reader) c.in-None.is
+    c.in_ok-payload.ensures.next)
+
+pub loop-preserved : goal.loop-preserved
+loop-preserved g c =
+    let remaining = g.R.TellRead.remaining in
+    let t = c.next_of_known.new.reader in
+    let kept = map (λ v. v.items) c.loop.kept.items in
+    let all = map (λ v. v.items) c.args.payloads.now in
+    let payload = c.in-Some.payload.items in
+    let added : map (λ v. v.items) c.push.new.self.items ≡ kept ++ payload ∷ [] =
+    kept_more (λ v. v.items) c.loop.kept.items c.push.new.self.items c.in-Some.payload
+    c.in_ok-push-in-Some.ensures.items in
+    subst (λ l. ReadsAll remaining c.args.reader.now all l (map (λ v. v.items) (drop (c.loop.index + 1) c.args.payloads.now))
+    t) (sym added)
+    (read_some (λ v. v.items) c.args.payloads.now c.loop.index remaining c.args.reader.now c.loop.reader
+    kept c.requires.fit c.loop.invariant c.loop-item.result c.loop-test.true c.loop-item.is t payload
+    (subst (λ o. Next remaining c.loop.reader (recorded (Ok o)) t) c.in-Some.is c.in_ok-payload.ensures.next))
+
+pub unreachable-requires-in-Some-2 : goal.unreachable-requires-in-Some-2
+unreachable-requires-in-Some-2 g c =
+    let remaining = g.R.TellRead.remaining in
+    let t = c.next_of_known-2.new.reader in
+    read_more (λ v. v.items) c.args.payloads.now c.loop.index remaining c.args.reader.now c.loop.reader
+    (map (λ v. v.items) c.loop.kept.items) c.requires.fit c.loop.invariant (omega (arith, c.loop-test.false))
+    c.in-Some-2.field-0.items t
+    (subst (λ o. Next remaining c.loop.reader (recorded (Ok o)) t) c.in-Some-2.is c.in_ok-next_of_known.ensures.next)

@@ -1,0 +1,14 @@
+use Rattle.std.proofs.Common.{◌≡◌, List, ◌++◌, length, map, take}
+use Rattle.frame_reader.specs.Runs.{WriteRuns}
+use Rattle.frame_reader.specs.WriteFrame.{WriteAnswer}
+use Rattle.frame_reader.proofs.laws.runs.play_write_frame.Given as goal
+
+-- the answers so far are a run of the payloads so far
+abbrev pub invariant-loop-payload : goal.invariant-loop-payload
+invariant-loop-payload g l = record {
+  answers : List WriteAnswer;
+  gained : l.answers.items ≡ l.fn.answers.items ++ answers;
+  count : length answers ≡ l.payload-index;
+  run : WriteRuns g.W.TellWrite.stretch l.fn.writer (map (λ v. v.items) (take l.payload-index l.payloads)) answers
+      l.writer;
+}

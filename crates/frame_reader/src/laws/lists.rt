@@ -1,0 +1,111 @@
+//! Lists of payloads, written and read again.
+ghost use Rattle.std.specs.Prelude.{◌≡◌, map, IfOk, IfErr, OnOk};
+ghost use Rattle.std.specs.List.{All};
+ghost use Rattle.frame_reader.specs.Frames.{Fits, frames};
+ghost use Rattle.frame_reader.specs.KnownFrames.{HasLeft, LeavesFrames};
+ghost use Rattle.frame_reader.specs.Next.{Next};
+ghost use Rattle.frame_reader.specs.Runs.{WritesEach, recorded};
+ghost use Rattle.frame_reader.specs.WriteFrame.{IsFault};
+
+use crate::error::{FrameError, WriteFrameError};
+use crate::laws::runs::next_copied;
+use crate::reader::FrameReader;
+use crate::writer::FrameWriter;
+use buffer_redux::tell::{TellRead, TellWrite, Told};
+use std::alloc::Global;
+use std::io;
+
+/// Writes the frame of each payload, up to the first `Err`. The payloads before that one were taken in then.
+pub fn write_each<W: TellWrite>(
+    writer: &mut FrameWriter<W>,
+    payloads: &[Vec<u8>],
+) -> Result<(), WriteFrameError>
+    ensures each { WritesEach W.stretch writer.old (map (λ v. v.items) payloads.now) result writer.new }
+    ensures fault { IfErr result (λ e.
+        All (Fits writer.old.max) (map (λ v. v.items) payloads.now) → IsFault e) }
+{
+    for payload in payloads {
+        writer.write_frame(payload)?;
+    }
+    Ok(())
+}
+
+/// Reads frames of which it is known that their payloads are these, and no others.
+pub fn read_each<R: TellRead>(
+    alloc: Global,
+    reader: &mut FrameReader<R>,
+    payloads: &[Vec<u8>],
+) -> io::Result<Vec<Vec<u8>>>
+    requires fit { All (Fits reader.old.max) (map (λ v. v.items) payloads.now) }
+    requires left { HasLeft R.remaining reader.old (map (λ v. v.items) payloads.now) }
+    ensures same { IfOk result (λ kept. map (λ v. v.items) kept.items ≡ map (λ v. v.items) payloads.now) }
+{
+    let mut kept = Vec::new(alloc);
+    for _ in payloads {
+        match next_of_known(alloc, reader)? {
+            Some(payload) => kept.push(payload)?,
+            None => unreachable!(),
+        }
+    }
+    match next_of_known(alloc, reader)? {
+        Some(_) => unreachable!(),
+        None => Ok(kept),
+    }
+}
+
+// One call of `next`, where it is known that just frames are left: no frame is cut short then, and none is too long.
+fn next_of_known<R: TellRead>(
+    alloc: Global,
+    reader: &mut FrameReader<R>,
+) -> io::Result<Option<Vec<u8>>>
+    requires left { LeavesFrames R.remaining reader.old }
+    ensures next { IfOk result (λ found. Next R.remaining reader.old (recorded (Ok found)) reader.new) }
+{
+    match next_copied(alloc, reader)? {
+        Ok(found) => Ok(found),
+        Err(FrameError::Io(e)) => Err(e),
+        Err(FrameError::Truncated(_)) => unreachable!(),
+        Err(FrameError::TooLong(_)) => unreachable!(),
+    }
+}
+
+/// Payloads that are written and flushed are read again, each of them whole, in order, and no other.
+pub fn round_trip(
+    alloc: Global,
+    payloads: &[Vec<u8>],
+    max: u16,
+) -> Result<Vec<Vec<u8>>, WriteFrameError>
+    ensures same { IfOk result (λ kept. map (λ v. v.items) kept.items ≡ map (λ v. v.items) payloads.now) }
+    ensures fault { IfErr result (λ e. All (Fits max) (map (λ v. v.items) payloads.now) → IsFault e) }
+{
+    let bytes = written(alloc, payloads, max)?;
+    Ok(read_back(alloc, bytes.as_slice(), payloads, max)?)
+}
+
+// The frames of the payloads.
+fn written(alloc: Global, payloads: &[Vec<u8>], max: u16) -> Result<Vec<u8>, WriteFrameError>
+    ensures fit { OnOk result (All (Fits max) (map (λ v. v.items) payloads.now)) }
+    ensures fault { IfErr result (λ e. All (Fits max) (map (λ v. v.items) payloads.now) → IsFault e) }
+    ensures frames { IfOk result (λ bytes. bytes.items ≡ frames (map (λ v. v.items) payloads.now)) }
+{
+    let inner = Told::new(Vec::new(alloc));
+    let mut writer = FrameWriter::new(alloc, inner, max).map_err(io::Error::from)?;
+    write_each(&mut writer, payloads)?;
+    let inner = writer.into_inner().map_err(io::Error::from)?;
+    Ok(inner.into_inner())
+}
+
+// The payloads of the frames, which are known to be these.
+fn read_back(
+    alloc: Global,
+    bytes: &[u8],
+    payloads: &[Vec<u8>],
+    max: u16,
+) -> io::Result<Vec<Vec<u8>>>
+    requires fit { All (Fits max) (map (λ v. v.items) payloads.now) }
+    requires frames { bytes.now ≡ frames (map (λ v. v.items) payloads.now) }
+    ensures same { IfOk result (λ kept. map (λ v. v.items) kept.items ≡ map (λ v. v.items) payloads.now) }
+{
+    let mut reader = FrameReader::new(alloc, Told::new(bytes), max)?;
+    read_each(alloc, &mut reader, payloads)
+}

@@ -1,0 +1,3 @@
+pub mod Policy
+pub mod MinBuffered
+pub mod WriterPolicies

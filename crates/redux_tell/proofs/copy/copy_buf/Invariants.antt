@@ -1,0 +1,16 @@
+use Rattle.std.proofs.Common.{◌-◌, ◌*◌, ◌^◌}
+use Rattle.redux_tell.specs.Copy.{CopiesOn, FaultsAtMost}
+use Rattle.redux_tell.proofs.copy.copy_buf.Given as goal
+
+abbrev pub invariant-turns : goal.invariant-turns
+invariant-turns g l = record {
+  copies : CopiesOn l.total (g.B.Tell.log l.initial.b).fills (g.B.Tell.log l.b).fills
+      (g.W.Tell.log l.initial.w).writes (g.W.Tell.log l.w).writes;
+  few : FaultsAtMost (64 * l.total) (g.B.Tell.log l.initial.b).fills (g.B.Tell.log l.b).fills
+      (g.W.Tell.log l.initial.w).writes (g.W.Tell.log l.w).writes;
+  reader : g.B.TellBufRead.stretch l.initial.b l.b;
+  writer : g.W.TellWrite.stretch l.initial.w l.w;
+}
+
+abbrev pub decreases-turns : goal.decreases-turns
+decreases-turns g l = 2 ^ 64 - l.total

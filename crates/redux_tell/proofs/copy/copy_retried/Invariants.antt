@@ -1,0 +1,14 @@
+use Rattle.redux_tell.specs.Copy.{CopiesOn, FaultsRise, FaultsAtMost}
+use Rattle.redux_tell.proofs.copy.copy_retried.Given as goal
+
+abbrev pub invariant-loop : goal.invariant-loop
+invariant-loop g l = record {
+  copies : CopiesOn 0 (g.B.Tell.log l.initial.b).fills (g.B.Tell.log l.b).fills
+      (g.W.Tell.log l.initial.w).writes (g.W.Tell.log l.w).writes;
+  faults : FaultsRise l.counter (g.B.Tell.log l.initial.b).fills (g.B.Tell.log l.b).fills
+      (g.W.Tell.log l.initial.w).writes (g.W.Tell.log l.w).writes;
+  few : FaultsAtMost l.counter (g.B.Tell.log l.initial.b).fills (g.B.Tell.log l.b).fills
+      (g.W.Tell.log l.initial.w).writes (g.W.Tell.log l.w).writes;
+  reader : g.B.TellBufRead.stretch l.initial.b l.b;
+  writer : g.W.TellWrite.stretch l.initial.w l.w;
+}

@@ -1,0 +1,99 @@
+-- What copying from a buffered reader to a writer does.
+use Rattle.std.specs.Prelude.{◌≡◌, ℕ, ◌+◌, ◌-◌, ◌*◌, ◌^◌, ◌<◌, ◌≤◌, ◌⊎◌, List, ◌++◌, length, Option, IfSome, Result, Ok, Err}
+use Rattle.std.specs.Io.KnownBytes.{Consumes}
+use Rattle.std.specs.IoError.{error_kind}
+use Rattle.std.specs.declared.io.Error.{Error}
+use Rattle.std.specs.declared.io.ErrorKind.TheVariants.{Other}
+use Rattle.redux_tell.specs.StreamLog.{StreamLog, FillLog, WriteLog, after_write}
+use Rattle.redux_tell.specs.Faults.{OnlyInterrupts, FaultAfterInterrupts, MetInterrupts}
+
+-- the writer received n bytes, and these are the ones that the reader was told are consumed
+pub record MovedBy (n : ℕ) (from from' : FillLog) (to to' : WriteLog) : Type 0 where
+  pub bytes : List ℕ
+  pub count : length bytes ≡ n
+  pub consumed : from'.consumed ≡ from.consumed ++ bytes
+  pub received : to'.received ≡ to.received ++ bytes
+  pub not_flushed : to'.flushed ≡ to.flushed
+
+-- turns that moved n bytes, in which the streams were at most interrupted
+pub record CopiesOn (n : ℕ) (from from' : FillLog) (to to' : WriteLog) : Type 0 where
+  pub moved : MovedBy n from from' to to'
+  pub ends : from.ends ≤ from'.ends
+  pub reader : OnlyInterrupts from.faults from'.faults
+  pub writer : MetInterrupts to to'
+
+-- the writer was at most interrupted, up to its last call: a write of these bytes with this answer
+pub record LastWrite {W : Type 0} (tells : W → StreamLog) (stretch call : W → W → Type 0)
+    (w : W) (bytes : List ℕ) (answer : Result ℕ Error) (w' : W) : Type 0 where
+  pub before : W
+  pub went : stretch w before
+  pub met : MetInterrupts (tells w).writes (tells before).writes
+  pub called : call before w'
+  pub told : tells w' ≡ after_write (tells before) bytes answer
+
+-- copying ended: the last write took nothing of all that is shown, the reader was at most interrupted, and where it had
+-- nothing to show it told so
+pub record CopyEnded {W : Type 0} (tells : W → StreamLog) (stretch call : W → W → Type 0)
+    (from from' : FillLog) (w w' : W) : Type 0 where
+  pub reader : OnlyInterrupts from.faults from'.faults
+  pub last : LastWrite tells stretch call w from'.shown (Ok 0) w'
+  pub ends : length from'.shown ≡ 0 → from.ends < from'.ends
+
+-- the reader, whose faults these are, failed with this error, and the writer was at most interrupted
+pub record SourceFailed (e : Error) (faults faults' : List Error) (to to' : WriteLog) : Type 0 where
+  pub fault : FaultAfterInterrupts faults faults' e
+  pub writer : MetInterrupts to to'
+
+-- the last write, of all that is shown, failed with this error, and the reader was at most interrupted
+pub record TargetFailed {W : Type 0} (tells : W → StreamLog) (stretch call : W → W → Type 0)
+    (e : Error) (from from' : FillLog) (w w' : W) : Type 0 where
+  pub reader : OnlyInterrupts from.faults from'.faults
+  pub last : LastWrite tells stretch call w from'.shown (Err e) w'
+
+abbrev pub StreamFailed : {W : Type 0} → (W → StreamLog) → (W → W → Type 0) → (W → W → Type 0) → Error
+    → FillLog → FillLog → W → W → Type 0
+StreamFailed tells stretch call e from from' w w' =
+    SourceFailed e from.faults from'.faults (tells w).writes (tells w').writes
+    ⊎ TargetFailed tells stretch call e from from' w w'
+
+-- more bytes were moved than a `u64` counts, and the streams were at most interrupted
+pub record MovedTooMuch (e : Error) (from from' : FillLog) (to to' : WriteLog) : Type 0 where
+  pub other : error_kind e ≡ Other
+  pub count : ℕ
+  pub large : 2 ^ 64 ≤ count
+  pub copies : CopiesOn count from from' to to'
+
+-- why a copy failed with this error
+abbrev pub CopyFailed : {W : Type 0} → (W → StreamLog) → (W → W → Type 0) → (W → W → Type 0) → Error
+    → FillLog → FillLog → W → W → Type 0
+CopyFailed tells stretch call e from from' w w' =
+    StreamFailed tells stretch call e from from' w w'
+    ⊎ MovedTooMuch e from from' (tells w).writes (tells w').writes
+
+-- the streams met so many faults, both together
+abbrev pub FaultsRise : ℕ → FillLog → FillLog → WriteLog → WriteLog → Type 0
+FaultsRise n from from' to to' = length from.faults + length to.faults + n ≤ length from'.faults + length to'.faults
+
+-- and no more than so many
+abbrev pub FaultsAtMost : ℕ → FillLog → FillLog → WriteLog → WriteLog → Type 0
+FaultsAtMost n from from' to to' = length from'.faults + length to'.faults ≤ length from.faults + length to.faults + n
+
+-- how many bytes were consumed since
+abbrev pub consumed_since : FillLog → FillLog → ℕ
+consumed_since from from' = length from'.consumed - length from.consumed
+
+-- the faults were at most 64 for each byte that went over, and 64 in the last turn, with one more where that failed
+abbrev pub MeetsFewFaults : {A : Type 0} → Result A Error → FillLog → FillLog → WriteLog → WriteLog → Type 0
+MeetsFewFaults (Ok a) from from' to to' = FaultsAtMost (64 * (consumed_since from from' + 1)) from from' to to'
+MeetsFewFaults (Err e) from from' to to' = FaultsAtMost (64 * (consumed_since from from' + 1) + 1) from from' to to'
+
+-- the writer received just what the reader, of which all that is left is known, lost
+pub record MovesKnown (left left' : Option (List ℕ)) (to to' : WriteLog) : Type 0 where
+  pub bytes : List ℕ
+  pub received : to'.received ≡ to.received ++ bytes
+  pub went : Consumes left left' bytes
+
+-- the writer received all that the reader was known to have left, or once took nothing of something
+abbrev pub ReceivesAll : Option (List ℕ) → WriteLog → WriteLog → Type 0
+ReceivesAll left to to' =
+    IfSome left (λ xs. (to'.received ≡ to.received ++ xs) ⊎ (to.zero_writes < to'.zero_writes))

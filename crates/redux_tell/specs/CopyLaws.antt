@@ -1,0 +1,96 @@
+-- Laws of copying turn by turn, for the proofs of those who make the turns.
+use Rattle.std.proofs.Common.{ℕ, ◌+◌, ◌<◌, List, Result, Ok, Err, IfOk, IfErr, inl, inr, subst, le_trans, arith, refl, sym, [], append-nil, ◌∙◌, ◌++◌, ap, append_assoc, length-append, le_refl}
+use Rattle.std.specs.declared.io.Error.{Error}
+use Rattle.redux_tell.specs.StreamLog.{StreamLog, FillLog, WriteLog}
+use Rattle.redux_tell.specs.Faults.{OnlyInterrupts-none, OnlyInterrupted-none, OnlyInterrupts-joins, FaultAfterInterrupts-after, MetInterrupts-joins}
+use Rattle.redux_tell.specs.Copy.{MovedBy, CopiesOn, LastWrite, CopyEnded, StreamFailed}
+
+-- no turn moves nothing, and two turns one after the other move what both do
+pub MovedBy-none : (from : FillLog) (to : WriteLog) → MovedBy 0 from from to to
+MovedBy-none from to = record {
+  bytes = [];
+  count = refl;
+  consumed = sym (append-nil from.consumed);
+  received = sym (append-nil to.received);
+  not_flushed = refl;
+}
+
+pub MovedBy-joins : (n k : ℕ) (a b c : FillLog) (x y z : WriteLog)
+    → MovedBy n a b x y → MovedBy k b c y z → MovedBy (n + k) a c x z
+MovedBy-joins n k a b c x y z p q = record {
+  bytes = p.bytes ++ q.bytes;
+  count = length-append p.bytes q.bytes ∙ (λ i. p.count i + q.count i);
+  consumed = q.consumed ∙ ap (λ l. l ++ q.bytes) p.consumed ∙ append_assoc a.consumed p.bytes q.bytes;
+  received = q.received ∙ ap (λ l. l ++ q.bytes) p.received ∙ append_assoc x.received p.bytes q.bytes;
+  not_flushed = q.not_flushed ∙ p.not_flushed;
+}
+
+pub CopiesOn-none : (from : FillLog) (to : WriteLog) → CopiesOn 0 from from to to
+CopiesOn-none from to = record {
+  moved = MovedBy-none from to;
+  ends = le_refl _;
+  reader = OnlyInterrupts-none from.faults;
+  writer = record { interrupts = []; only = OnlyInterrupted-none to };
+}
+
+-- turns that follow one another
+module _ {n : ℕ} {a b : FillLog} {x y : WriteLog} (before : CopiesOn n a b x y) where
+  pub CopiesOn-joins : {k : ℕ} {c : FillLog} {z : WriteLog} → CopiesOn k b c y z → CopiesOn (n + k) a c x z
+  CopiesOn-joins {k} {c} {z} last = record {
+    moved = MovedBy-joins n k a b c x y z before.moved last.moved;
+    ends = le_trans before.ends last.ends;
+    reader = OnlyInterrupts-joins a.faults b.faults c.faults before.reader last.reader;
+    writer = MetInterrupts-joins x y z before.writer last.writer;
+  }
+
+-- what comes after turns in which the streams were at most interrupted
+module _ {W : Type 0} (tells : W → StreamLog) (stretch call : W → W → Type 0)
+    (joins : (u v w : W) → stretch u v → stretch v w → stretch u w) {n : ℕ} {a b : FillLog} {x y : W}
+    (before : CopiesOn n a b (tells x).writes (tells y).writes) (went : stretch x y) where
+  LastWrite-after : {z : W} (bytes : List ℕ) (answer : Result ℕ Error)
+      → LastWrite tells stretch call y bytes answer z → LastWrite tells stretch call x bytes answer z
+  LastWrite-after bytes answer last = record {
+    before = last.before;
+    went = joins x y last.before went last.went;
+    met = MetInterrupts-joins (tells x).writes (tells y).writes
+        (tells last.before).writes before.writer last.met;
+    called = last.called;
+    told = last.told;
+  }
+
+  pub CopyEnded-after : {c : FillLog} {z : W}
+      → CopyEnded tells stretch call b c y z → CopyEnded tells stretch call a c x z
+  CopyEnded-after {c} ended = record {
+    reader = OnlyInterrupts-joins a.faults b.faults c.faults before.reader ended.reader;
+    last = LastWrite-after c.shown (Ok 0) ended.last;
+    ends = λ none. omega (arith, before.ends, ended.ends none);
+  }
+
+  pub StreamFailed-after : {e : Error} {c : FillLog} {z : W}
+      → StreamFailed tells stretch call e b c y z → StreamFailed tells stretch call e a c x z
+  StreamFailed-after {e} {c} {z} (inl source) = inl (record {
+    fault = FaultAfterInterrupts-after a.faults b.faults c.faults e before.reader source.fault;
+    writer =
+        MetInterrupts-joins (tells x).writes (tells y).writes (tells z).writes before.writer source.writer;
+  })
+  StreamFailed-after {e} {c} (inr target) = inr (record {
+    reader = OnlyInterrupts-joins a.faults b.faults c.faults before.reader target.reader;
+    last = LastWrite-after c.shown (Err e) target.last;
+  })
+
+  pub failed_after : (c : FillLog) (z : W) {A : Type 0} (answer : Result A Error)
+      → IfErr answer (λ e. StreamFailed tells stretch call e b c y z)
+      → IfErr answer (λ e. StreamFailed tells stretch call e a c x z)
+  failed_after c z (Ok k) failed = tt
+  failed_after c z (Err e) failed = StreamFailed-after failed
+
+-- a turn after turns that were only interrupted
+module _ {a b : FillLog} {x y : WriteLog} (before : CopiesOn 0 a b x y) where
+  pub CopiesOn-after : {n : ℕ} {c : FillLog} {z : WriteLog} → CopiesOn n b c y z → CopiesOn n a c x z
+  CopiesOn-after {c = c} {z = z} last =
+      subst (λ k. CopiesOn k a c x z) (omega arith) (CopiesOn-joins before last)
+
+  pub copies_after : (c : FillLog) (z : WriteLog) {A : Type 0} (answer : Result ℕ A)
+      → IfOk answer (λ n. 0 < n → CopiesOn n b c y z) → IfOk answer (λ n. 0 < n → CopiesOn n a c x z)
+  copies_after c z (Ok n) copies = λ some. CopiesOn-after (copies some)
+  copies_after c z (Err e) copies = tt

@@ -1,0 +1,10 @@
+pub mod GoesOn
+pub mod StreamLog
+pub mod LogGrows
+pub mod Calls
+pub mod GivesRemaining
+pub mod Told
+pub mod Faults
+pub mod Script
+pub mod Copy
+pub mod CopyLaws

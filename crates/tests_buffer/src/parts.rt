@@ -1,0 +1,100 @@
+//! The kinds of buffer by themselves.
+use redux_buffer::{BufImpl, Buffer, GrowError, RawBuf, SliceDequeBuf, StdBuf, laws};
+use std::process::Abort;
+use std::test::Fail;
+
+#[test]
+fn plain(rt: HostRuntime) -> Result<(), Fail> {
+    let mut plain = StdBuf::with_capacity(rt.alloc(), 4)?;
+    assert!(rt; plain.check_cursors());
+    plain.write_buf().fill(7);
+    plain.bytes_written(1);
+    assert_eq!(rt; (plain.len(), plain.usable_space()), (1, 3));
+    plain.bytes_written(18446744073709551615);
+    assert_eq!(rt; (plain.len(), plain.usable_space()), (4, 0));
+    plain.buf_mut()[..3].fill(8);
+    plain.consume(2);
+    plain.make_room();
+    assert_eq!(rt; plain.buf(), [8, 7].as_slice());
+    assert_eq!(rt; plain.usable_space(), 2);
+    Ok(())
+}
+
+#[test]
+fn ring(rt: HostRuntime) -> Result<(), Fail> {
+    let mut ring = SliceDequeBuf::with_capacity(rt.alloc(), 4096)?;
+    ring.write_buf().fill(7);
+    ring.bytes_written(3);
+    ring.buf_mut()[..2].fill(8);
+    ring.consume(1);
+    ring.make_room();
+    assert_eq!(rt; ring.buf(), [8, 7].as_slice());
+    assert_eq!(rt; ring.usable_space(), 4094);
+    Ok(())
+}
+
+fn either_writes(
+    rt: &impl Abort,
+    made: Result<BufImpl, GrowError>,
+    is_ring: bool,
+    usable: usize,
+) -> Result<(), Fail> {
+    let mut either = made?;
+    assert_eq!(rt; either.is_ringbuf(), is_ring);
+    either.write_buf().fill(7);
+    either.bytes_written(2);
+    either.buf_mut().fill(8);
+    either.bytes_written(1);
+    either.consume(1);
+    either.make_room();
+    either.reserve(2)?;
+    assert_eq!(rt; either.buf(), [8, 7].as_slice());
+    assert_eq!(rt; either.len(), 2);
+    assert_eq!(rt; either.usable_space(), usable);
+    Ok(())
+}
+
+#[test]
+fn either(rt: HostRuntime) -> Result<(), Fail> {
+    either_writes(&rt, BufImpl::with_capacity(rt.alloc(), 4), false, 2)?;
+    either_writes(
+        &rt,
+        BufImpl::with_capacity_ringbuf(rt.alloc(), 4),
+        true,
+        4094,
+    )
+}
+
+#[test]
+fn raw(rt: HostRuntime) -> Result<(), Fail> {
+    let mut raw = RawBuf::with_capacity(rt.alloc(), 2)?;
+    raw.as_mut_slice().fill(7);
+    raw.reserve(1)?;
+    assert_eq!(rt; raw.as_slice(), [7, 7, 0].as_slice());
+    Ok(())
+}
+
+#[test]
+fn whole(rt: HostRuntime) -> Result<(), Fail> {
+    let mut whole = Buffer::with_capacity(rt.alloc(), 4)?;
+    assert_eq!(rt; whole.copy_from_slice(&[1, 2, 3]), 3);
+    whole.buf_mut()[..2].fill(8);
+    whole.consume(1);
+    whole.make_room();
+    laws::make_room_again(&mut whole);
+    assert_eq!(rt; whole.buf(), [8, 3].as_slice());
+    assert_eq!(rt; whole.usable_space(), 2);
+    Ok(())
+}
+
+#[test]
+fn through(rt: HostRuntime) -> Result<(), Fail> {
+    let mut empty = Buffer::with_capacity(rt.alloc(), 4)?;
+    let mut out = [0u8; 5];
+    assert_eq!(rt;
+        laws::copy_through(&mut empty, &[1, 2, 3, 4, 5], &mut out),
+        4
+    );
+    assert_eq!(rt; out, [1, 2, 3, 4, 0]);
+    Ok(())
+}

@@ -1,0 +1,19 @@
+//! What the tests of several crates share.
+#![tactic(auto)]
+
+ghost use Rattle.std.specs.Prelude.{◌≡◌, take, IfOk};
+
+use redux_buffer::{Buffer, GrowError};
+use std::alloc::Global;
+
+/// No machine has so many bytes, and each kind of buffer may be so large.
+pub const NO_MACHINE: usize = 1 << 60;
+
+/// A plain buffer of this capacity that holds the first of these bytes, as many as fit.
+pub fn holding(alloc: Global, capacity: usize, bytes: &[u8]) -> Result<Buffer, GrowError>
+    ensures { IfOk result (λ b. b.bytes ≡ take capacity bytes.now) }
+{
+    let mut buf = Buffer::with_capacity(alloc, capacity)?;
+    let _ = buf.copy_from_slice(bytes);
+    Ok(buf)
+}

@@ -1,0 +1,13 @@
+//! Readers by worked examples, and each of their public calls once.
+#![tactic(auto)]
+
+#[cfg(test)]
+mod lookahead;
+#[cfg(test)]
+mod moves;
+#[cfg(test)]
+mod reader;
+#[cfg(test)]
+mod seeks;
+#[cfg(test)]
+mod unbuffer;

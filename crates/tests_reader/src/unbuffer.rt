@@ -1,0 +1,108 @@
+//! A reader that gives its buffer up, by worked examples.
+use buffer_redux::policy::StdPolicy;
+use buffer_redux::script::{Answer, ScriptReader};
+use buffer_redux::tell::Told;
+use buffer_redux::{BufReader, Unbuffer};
+use std::alloc::Global;
+use std::io::{ErrorKind, Read};
+use std::process::Abort;
+use std::test::Fail;
+use tests_common::holding;
+
+type Unbuffered = Unbuffer<Told<ScriptReader>>;
+
+// The room of a read, what it hands out, and what is left afterwards.
+type Step<'a> = (usize, Result<&'a [u8], ErrorKind>, &'a [u8]);
+
+fn unbuffered(
+    alloc: Global,
+    held: &[u8],
+    bytes: &[u8],
+    script: &[Answer],
+) -> Result<Unbuffered, Fail> {
+    let inner = Told::new(ScriptReader::new(alloc, bytes, script)?);
+    let reader: BufReader<_, StdPolicy> = BufReader::with_buffer(holding(alloc, 4, held)?, inner);
+    Ok(reader.unbuffer())
+}
+
+fn handed<'a>(rdr: &mut Unbuffered, out: &'a mut [u8]) -> Result<&'a [u8], ErrorKind> {
+    match rdr.read(out) {
+        Ok(n) => Ok(&out[..n]),
+        Err(e) => Err(e.kind()),
+    }
+}
+
+fn left(rt: &impl Abort, rdr: &Unbuffered, bytes: &[u8]) -> Result<(), Fail> {
+    assert_eq!(rt; rdr.buf(), bytes);
+    assert_eq!(rt; rdr.buf_len(), bytes.len());
+    assert_eq!(rt; rdr.is_buf_empty(), bytes.is_empty());
+    Ok(())
+}
+
+// Reads step by step, and compares the offers that the inner reader saw.
+fn walks(
+    rt: &impl Abort,
+    mut rdr: Unbuffered,
+    steps: &[Step<'_>],
+    offers: &[usize],
+) -> Result<(), Fail> {
+    let mut out = [0u8; 3];
+    for &(room, answer, rest) in steps {
+        assert!(rt; room <= out.len());
+        assert_eq!(rt; handed(&mut rdr, &mut out[..room]), answer);
+        left(rt, &rdr, rest)?;
+    }
+    assert_eq!(rt; rdr.into_inner().get_ref().offers(), offers);
+    Ok(())
+}
+
+#[test]
+fn reads(rt: HostRuntime) -> Result<(), Fail> {
+    let alloc = rt.alloc();
+    let rdr = unbuffered(alloc, &[1, 2], &[], &[])?;
+    left(&rt, &rdr, &[1, 2])?;
+    walks(
+        &rt,
+        rdr,
+        &[(0, Ok(&[]), &[1, 2]), (3, Ok(&[1, 2]), &[])],
+        &[],
+    )?;
+
+    let rdr = unbuffered(alloc, &[], &[7], &[])?;
+    left(&rt, &rdr, &[])?;
+    walks(&rt, rdr, &[(2, Ok(&[7]), &[])], &[2])?;
+
+    let steps: [Step<'_>; 5] = [
+        (2, Ok(&[1, 2]), &[3]),
+        (1, Ok(&[3]), &[]),
+        (2, Ok(&[4, 5]), &[]),
+        (3, Ok(&[6]), &[]),
+        (3, Ok(&[]), &[]),
+    ];
+    let rdr = unbuffered(alloc, &[1, 2, 3], &[4, 5, 6], &[])?;
+    walks(&rt, rdr, &steps, &[2, 3, 3])?;
+
+    let steps: [Step<'_>; 2] = [(0, Ok(&[]), &[]), (1, Ok(&[7]), &[])];
+    walks(&rt, unbuffered(alloc, &[], &[7], &[])?, &steps, &[0, 1])
+}
+
+#[test]
+fn reads_after_faults(rt: HostRuntime) -> Result<(), Fail> {
+    let faults = [Answer::Interrupt(1), Answer::Fail(ErrorKind::TimedOut)];
+    let steps: [Step<'_>; 4] = [
+        (3, Ok(&[1]), &[]),
+        (3, Err(ErrorKind::Interrupted), &[]),
+        (3, Err(ErrorKind::TimedOut), &[]),
+        (3, Ok(&[7]), &[]),
+    ];
+    let rdr = unbuffered(rt.alloc(), &[1], &[7], &faults)?;
+    walks(&rt, rdr, &steps, &[3, 3, 3])
+}
+
+#[test]
+fn shows(rt: HostRuntime) -> Result<(), Fail> {
+    let rdr = unbuffered(rt.alloc(), &[1], &[2], &[])?;
+    let text = format!(in rt.alloc(); "{rdr:?}")?;
+    assert!(rt; text.starts_with("Unbuffer"));
+    Ok(())
+}

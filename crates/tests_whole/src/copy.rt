@@ -1,0 +1,187 @@
+//! Copying, by worked examples.
+use buffer_redux::policy::{DoRead, ReaderPolicy, read_when_empty};
+use buffer_redux::script::{Answer, ScriptReader, ScriptWriter};
+use buffer_redux::tell::{TellWrite, Told};
+use buffer_redux::{BufReader, BufWriter, Buffer, LineWriter, copy_buf};
+use std::alloc::{AllocError, Global};
+use std::io;
+use std::io::{ErrorKind, Write};
+use std::test::Fail;
+use tests_common::holding;
+
+type Reader = BufReader<Told<ScriptReader>>;
+
+type Writer = Told<ScriptWriter>;
+
+// What the reader gives by which script, the script of the writer, what copying returns, what the writer received, what
+// is left in the reader, and the offers that the writer saw last.
+type Row<'a> = (
+    &'a [u8],
+    &'a [Answer],
+    &'a [Answer],
+    Result<u64, ErrorKind>,
+    &'a [u8],
+    &'a [u8],
+    &'a [usize],
+);
+
+fn reader(alloc: Global, bytes: &[u8], script: &[Answer]) -> Result<Reader, Fail> {
+    let inner = Told::new(ScriptReader::new(alloc, bytes, script)?);
+    Ok(BufReader::with_buffer(holding(alloc, 4, &[])?, inner))
+}
+
+fn writer(alloc: Global, script: &[Answer]) -> Result<Writer, AllocError> {
+    Ok(Told::new(ScriptWriter::new(alloc, script)?))
+}
+
+fn buffered<W: TellWrite + Drop>(
+    alloc: Global,
+    capacity: usize,
+    inner: W,
+) -> Result<BufWriter<W>, Fail> {
+    Ok(BufWriter::with_buffer(holding(alloc, capacity, &[])?, inner))
+}
+
+fn copied<W: TellWrite>(from: &mut Reader, to: &mut W) -> Result<u64, ErrorKind> {
+    copy_buf(from, to).map_err(|e| e.kind())
+}
+
+#[test]
+fn copies(rt: HostRuntime) -> Result<(), Fail> {
+    let nothing = [Answer::Serve(0)];
+    let in_rows = [
+        Answer::Interrupt(64),
+        Answer::Serve(1),
+        Answer::Interrupt(64),
+        Answer::Serve(1),
+    ];
+    let too_often = [Answer::Interrupt(65)];
+    let fault = [Answer::Serve(2), Answer::Fail(ErrorKind::Other)];
+    let rows: [Row<'_>; 8] = [
+        (&[], &[], &[], Ok(0), &[], &[], &[0]),
+        (&[1, 2, 3], &[], &[], Ok(3), &[1, 2, 3], &[], &[3, 0]),
+        (&[1, 2, 3], &[], &nothing, Ok(0), &[], &[1, 2, 3], &[3]),
+        (&[1, 2], &in_rows, &[], Ok(2), &[1, 2], &[], &[1, 1, 0]),
+        (
+            &[1, 2],
+            &too_often,
+            &[],
+            Err(ErrorKind::Interrupted),
+            &[],
+            &[],
+            &[],
+        ),
+        (
+            &[1, 2, 3],
+            &fault,
+            &[],
+            Err(ErrorKind::Other),
+            &[1, 2],
+            &[],
+            &[2],
+        ),
+        (
+            &[1, 2, 3],
+            &[],
+            &fault,
+            Err(ErrorKind::Other),
+            &[1, 2],
+            &[3],
+            &[3, 1],
+        ),
+        (&[1, 2, 3], &[], &in_rows, Ok(3), &[1, 2, 3], &[], &[]),
+    ];
+    for &(bytes, script, answers, answer, received, left, offers) in &rows {
+        let mut from = reader(rt.alloc(), bytes, script)?;
+        let mut to = writer(rt.alloc(), answers)?;
+        assert_eq!(rt; copied(&mut from, &mut to), answer);
+        assert_eq!(rt; to.get_ref().taken(), received);
+        assert_eq!(rt; from.buffer(), left);
+        assert!(rt; offers.is_empty() || to.get_ref().offers() == offers);
+        assert_eq!(rt; to.get_ref().flushes(), 0);
+    }
+    Ok(())
+}
+
+// A writer that is interrupted 65 times in a row leaves all bytes in the reader.
+#[test]
+fn gives_up(rt: HostRuntime) -> Result<(), Fail> {
+    let mut from = reader(rt.alloc(), &[1, 2, 3], &[])?;
+    let mut to = writer(rt.alloc(), &[Answer::Interrupt(65)])?;
+    assert_eq!(rt; copied(&mut from, &mut to), Err(ErrorKind::Interrupted));
+    assert_eq!(rt; to.get_ref().offers().len(), 65);
+    assert_eq!(rt; from.get_ref().get_ref().offers().len(), 1);
+    assert_eq!(rt; from.buffer(), [1, 2, 3].as_slice());
+    assert_eq!(rt; copied(&mut from, &mut to), Ok(3));
+    Ok(())
+}
+
+// From a ring into a writer that looks at the bytes.
+#[test]
+fn lines(rt: HostRuntime) -> Result<(), Fail> {
+    let inner = Told::new(ScriptReader::new(
+        rt.alloc(),
+        b"one\ntwo\nthree",
+        &[Answer::ServeEach(2)],
+    )?);
+    let mut from = BufReader::with_capacity_ringbuf(rt.alloc(), 64, inner)?;
+    let mut to = LineWriter::with_buffer(holding(rt.alloc(), 8, &[])?, writer(rt.alloc(), &[])?);
+    assert_eq!(rt; copied(&mut from, &mut to), Ok(13));
+    assert_eq!(rt; to.get_ref().get_ref().taken(), b"one\ntwo\n".as_slice());
+    assert_eq!(rt; to.buf_len(), 5);
+    to.flush_told()?;
+    assert_eq!(rt;
+        to.get_ref().get_ref().taken(),
+        b"one\ntwo\nthree".as_slice()
+    );
+    assert_eq!(rt; to.get_ref().get_ref().flushes(), 1);
+    Ok(())
+}
+
+// Into a buffered writer of a buffered writer, of which a flush reaches the writer inside.
+#[test]
+fn through_two(rt: HostRuntime) -> Result<(), Fail> {
+    let bytes = [1, 2, 3, 4, 5, 6, 7, 8, 9, 10];
+    let mut from = reader(rt.alloc(), &bytes, &[])?;
+    let inner = buffered(rt.alloc(), 16, writer(rt.alloc(), &[Answer::ServeEach(3)])?)?;
+    let mut to = buffered(rt.alloc(), 8, inner)?;
+    assert_eq!(rt; copied(&mut from, &mut to), Ok(10));
+    assert_eq!(rt; to.buf_len() + to.get_ref().buf_len(), 10);
+    assert_eq!(rt; to.get_ref().get_ref().get_ref().taken(), [].as_slice());
+    to.flush()?;
+    assert_eq!(rt; to.get_ref().get_ref().get_ref().taken(), bytes.as_slice());
+    assert_eq!(rt; to.get_ref().get_ref().get_ref().flushes(), 1);
+    Ok(())
+}
+
+// Counts how often it is told that bytes were consumed.
+#[derive(Drop)]
+struct CountsConsumes(usize);
+
+impl ReaderPolicy for CountsConsumes {
+    fn before_read(&mut self, buffer: &mut Buffer) -> io::Result<DoRead> {
+        Ok(read_when_empty(buffer))
+    }
+
+    fn after_consume(&mut self, _buffer: &mut Buffer, _amt: usize) {
+        self.0 = self.0.saturating_add(1);
+    }
+}
+
+// The turn in which the writer took nothing consumes nothing, and the reader's policy isn't told of it.
+#[test]
+fn consumes_only_what_was_taken(rt: HostRuntime) -> Result<(), Fail> {
+    let rows: [(&[u8], &[Answer], u64, usize); 4] = [
+        (&[], &[], 0, 0),
+        (&[1, 2, 3], &[Answer::Serve(0)], 0, 0),
+        (&[1, 2, 3], &[], 3, 1),
+        (&[1, 2, 3], &[Answer::Serve(2), Answer::Serve(0)], 2, 1),
+    ];
+    for &(bytes, answers, total, consumes) in &rows {
+        let mut from = reader(rt.alloc(), bytes, &[])?.set_policy(CountsConsumes(0));
+        let mut to = writer(rt.alloc(), answers)?;
+        assert_eq!(rt; copy_buf(&mut from, &mut to)?, total);
+        assert_eq!(rt; from.policy().0, consumes);
+    }
+    Ok(())
+}

@@ -1,0 +1,136 @@
+//! The examples of README and CALLING, and the laws.
+ghost use Rattle.std.specs.Prelude.{◌≡◌, ◌++◌, ◌≤◌, IfOk, IsTrue, Ok, OnOk, Some, false, length, take};
+ghost use Rattle.buffer_redux.specs.BufReader.{RanDry};
+ghost use Rattle.buffer_redux.specs.BufWriter.{WritesInOrder};
+ghost use Rattle.buffer_redux.specs.Policy.{any_read_rules, no_read_claims};
+
+use buffer_redux::policy::{DoRead, MinBuffered, ReaderPolicy, WriterPolicy};
+use buffer_redux::tell::{TellRead, TellWrite, Told};
+use buffer_redux::{BufReader, BufWriter, Buffer, laws};
+use std::alloc::Global;
+use std::io;
+use std::io::{BufRead, Read, Write};
+use std::test::Fail;
+use tests_common::holding;
+
+/// Writes one entry of a log, and flushes it.
+fn log<W: TellWrite, P: WriterPolicy>(writer: &mut BufWriter<W, P>, entry: &[u8]) -> io::Result<()>
+    ensures received { OnOk result (writer.new.log.writes.received
+        ≡ writer.old.log.writes.received ++ (writer.old.block.bytes ++ entry.now)) }
+    ensures flushed { OnOk result (writer.new.log.writes.flushed ≡ writer.new.log.writes.received) }
+{
+    writer.write_all(entry)?;
+    writer.flush()
+}
+
+#[test]
+fn logs(rt: HostRuntime) -> Result<(), Fail> {
+    let mut device = Vec::new(rt.alloc());
+    let mut writer = BufWriter::with_capacity(rt.alloc(), 4, Told::new(&mut device))?;
+    assert_eq!(rt; writer.write(b"ab")?, 2);
+    log(&mut writer, b"cdefg\n")?;
+    assert_eq!(rt; writer.buf_len(), 0);
+    drop(writer);
+    assert_eq!(rt; device.as_slice(), b"abcdefg\n".as_slice());
+    Ok(())
+}
+
+/// Hands on what is buffered of `from`, as far as `to` takes it.
+fn hand_on<R: TellRead, P: ReaderPolicy, W: TellWrite>(
+    from: &mut BufReader<R, P>,
+    to: &mut BufWriter<W>,
+) -> io::Result<usize>
+    ensures sent { IfOk result (λ n. WritesInOrder to.old (take n from.old.block.bytes) to.new) }
+{
+    let taken = to.write(from.buffer())?;
+    from.consume(taken);
+    Ok(taken)
+}
+
+/// A reader over a stream of std that looks ahead by so many bytes.
+fn look_ahead<R: Read + Drop>(
+    alloc: Global,
+    from: R,
+    min: usize,
+) -> io::Result<BufReader<Told<R>, MinBuffered>> {
+    Ok(BufReader::new(alloc, Told::new(from))?.set_policy(MinBuffered(min)))
+}
+
+/// Asks for more only where fewer than sixteen bytes are there. It claims nothing, so it says nothing more.
+#[derive(Drop)]
+struct Sparse;
+
+impl ReaderPolicy for Sparse {
+    fn before_read(&mut self, buffer: &mut Buffer) -> io::Result<DoRead> {
+        Ok(DoRead(buffer.len() < 16))
+    }
+
+    fn after_consume(&mut self, _buffer: &mut Buffer, _amt: usize) {}
+}
+
+/// Keeps sixteen bytes in sight, and claims so.
+#[derive(Drop)]
+struct LookAhead;
+
+impl ReaderPolicy for LookAhead {
+    ghost rules = { record any_read_rules { claims = λ p. record no_read_claims { minimum = Some 16 } } };
+
+    fn before_read(&mut self, buffer: &mut Buffer) -> io::Result<DoRead> {
+        let len = buffer.len();
+        if len >= 16 {
+            return Ok(DoRead(false));
+        }
+        if buffer.capacity() < 16 {
+            buffer.reserve(16 - len)?;
+        }
+        buffer.make_room();
+        Ok(DoRead(true))
+    }
+
+    fn after_consume(&mut self, _buffer: &mut Buffer, _amt: usize) {}
+}
+
+/// Whether sixteen bytes are in sight. Where they aren't, the reader ran dry.
+fn sees_header<R: TellRead>(reader: &mut BufReader<R, LookAhead>) -> io::Result<bool>
+    ensures seen { IfOk result (λ seen. IsTrue seen → 16 ≤ length reader.new.block.bytes) }
+    ensures dry { result ≡ Ok false → RanDry reader.old reader.new }
+{
+    Ok(reader.fill_buf()?.len() >= 16)
+}
+
+#[test]
+fn sees_what_a_policy_keeps_in_sight(rt: HostRuntime) -> Result<(), Fail> {
+    let text = b"sixteen bytes or more".as_slice();
+    let reader = BufReader::with_capacity(rt.alloc(), 4, Told::new(text))?;
+    let mut reader = reader.set_policy(LookAhead);
+    assert!(rt; sees_header(&mut reader)?);
+    reader.consume(10);
+    assert!(rt; !sees_header(&mut reader)?);
+    assert_eq!(rt; reader.buffer(), b"tes or more".as_slice());
+    let mut reader = BufReader::new(rt.alloc(), Told::new(text))?.set_policy(Sparse);
+    assert_eq!(rt; reader.fill_buf()?, text);
+    Ok(())
+}
+
+#[test]
+fn hands_on_what_is_buffered(rt: HostRuntime) -> Result<(), Fail> {
+    let mut reader = look_ahead(rt.alloc(), b"hello".as_slice(), 5)?;
+    assert_eq!(rt; reader.fill_buf()?.len(), 5);
+    let mut writer = BufWriter::with_capacity(rt.alloc(), 3, Told::new(Vec::new(rt.alloc())))?;
+    assert_eq!(rt; hand_on(&mut reader, &mut writer)?, 5);
+    assert_eq!(rt; writer.get_ref().get_ref().as_slice(), b"hello".as_slice());
+    Ok(())
+}
+
+#[test]
+fn rebuilt(rt: HostRuntime) -> Result<(), Fail> {
+    let buf = holding(rt.alloc(), 4, &[1, 2])?;
+    let reader = laws::rebuild_reader(BufReader::with_buffer(buf, Told::new([3].as_slice())));
+    assert_eq!(rt; reader.buffer(), [1, 2].as_slice());
+    let (_, buf) = reader.into_inner_with_buffer();
+    let to = Told::new(Vec::new(rt.alloc()));
+    let writer = laws::rebuild_writer(BufWriter::with_buffer(buf, to));
+    assert_eq!(rt; writer.buf_len(), 2);
+    assert!(rt; writer.get_ref().get_ref().is_empty());
+    Ok(())
+}

@@ -1,0 +1,217 @@
+//! Callers that know what a stream of std has left or holds. Their contracts need no proof of their own.
+ghost use Rattle.std.specs.Prelude.{◌≡◌, ◌-◌, ◌<◌, ◌≤◌, ◌++◌, Some, OnOk, IfOk, take, drop, length, vec_items, string_bytes};
+ghost use Rattle.std.specs.Io.BufRead.{take_through};
+ghost use Rattle.std.specs.Io.Cursor.{cursor_position, cursor_inner};
+ghost use Rattle.buffer_redux.specs.Told.{told_stream};
+ghost use Rattle.buffer_redux.specs.Copy.{ReceivesAll};
+ghost use Rattle.buffer_redux.specs.WriterTells.{writer_log};
+
+use buffer_redux::tell::Told;
+use buffer_redux::{BufReader, BufWriter, Buffer, Unbuffer, laws};
+use std::alloc::Global;
+use std::io;
+use std::io::{BufRead, Cursor, Read, Seek, SeekFrom, Write};
+use std::test::Fail;
+use tests_common::holding;
+
+type Bytes<'a> = BufReader<Told<&'a [u8]>>;
+
+type Text<'a> = BufReader<Told<Cursor<&'a [u8]>>>;
+
+// All of a source, through a buffer of either kind.
+fn read_whole(alloc: Global, ring: bool, source: &[u8]) -> Result<Vec<u8>, Fail>
+    ensures { IfOk result (λ all. vec_items all ≡ source.now) }
+{
+    let mut reader = if ring {
+        BufReader::new_ringbuf(alloc, Told::new(source))?
+    } else {
+        BufReader::new(alloc, Told::new(source))?
+    };
+    let mut all = Vec::new(alloc);
+    reader.read_to_end(&mut all)?;
+    Ok(all)
+}
+
+// All that is left: what is buffered, and then the slice.
+fn read_rest(reader: &mut Bytes<'_>, into: &mut Vec<u8>) -> io::Result<usize>
+    ensures { 0 < reader.old.block.capacity → OnOk result (vec_items into.new
+        ≡ vec_items into.old ++ (reader.old.block.bytes ++ (told_stream reader.old.inner).now)) }
+{
+    reader.read_to_end(into)
+}
+
+// The same of a reader that gave its buffer up.
+fn read_unbuffered(reader: &mut Unbuffer<Told<&[u8]>>, into: &mut Vec<u8>) -> io::Result<usize>
+    ensures { OnOk result (vec_items into.new
+        ≡ vec_items into.old ++ (reader.old.left ++ (told_stream reader.old.inner).now)) }
+{
+    reader.read_to_end(into)
+}
+
+// The next line of a text with its line feed, and what is left behind it.
+fn next_line(reader: &mut Text<'_>, line: &mut String) -> io::Result<usize>
+    ensures text { 0 < reader.old.block.capacity → OnOk result (string_bytes line.new
+        ≡ string_bytes line.old ++ take_through 10 (reader.old.block.bytes
+        ++ drop (cursor_position (told_stream reader.old.inner)) (cursor_inner (told_stream reader.old.inner)).now)) }
+{
+    reader.read_line(line)
+}
+
+// The next two records, of the lengths of the slices.
+fn read_records(reader: &mut Bytes<'_>, first: &mut [u8], second: &mut [u8]) -> io::Result<()>
+    ensures { 0 < reader.old.block.capacity → OnOk result ((first.new ++ second.new)
+        ≡ take (length (first.new ++ second.new)) (reader.old.block.bytes ++ (told_stream reader.old.inner).now)) }
+{
+    reader.read_exact(first)?;
+    reader.read_exact(second)
+}
+
+// Records that std wrote into a `Vec` come back as they were, as far as the slices go.
+fn round_trip(
+    alloc: Global,
+    first: &[u8],
+    second: &[u8],
+    one: &mut [u8],
+    two: &mut [u8],
+) -> Result<(), Fail>
+    ensures { OnOk result ((one.new ++ two.new) ≡ take (length (one.new ++ two.new)) (first.now ++ second.now)) }
+{
+    let mut held = Vec::new(alloc);
+    held.write_all(first)?;
+    held.write_all(second)?;
+    let mut reader = BufReader::new(alloc, Told::new(held.as_slice()))?;
+    read_records(&mut reader, one, two)?;
+    Ok(())
+}
+
+// After the flush the inner writer received what was buffered, and then both records.
+fn put<W: Write>(writer: &mut BufWriter<Told<W>>, first: &[u8], second: &[u8]) -> io::Result<()>
+    ensures { OnOk result (writer.new.log.writes.received
+        ≡ ((writer.old.log.writes.received ++ writer.old.block.bytes) ++ first.now) ++ second.now) }
+{
+    writer.write_all(first)?;
+    writer.write_all(second)?;
+    writer.flush()
+}
+
+// After the flush the `Vec` is what it was, then what was buffered.
+fn settle(writer: &mut BufWriter<Told<Vec<u8>>>) -> io::Result<()>
+    ensures { OnOk result (vec_items (told_stream writer.new.inner)
+        ≡ vec_items (told_stream writer.old.inner) ++ writer.old.block.bytes) }
+{
+    laws::flush_known(writer)
+}
+
+// Of a copy at Ok: what was buffered, and then the slice, went over, unless the writer once took nothing.
+fn copy_rest(reader: &mut Bytes<'_>, writer: &mut BufWriter<Told<Vec<u8>>>) -> io::Result<u64>
+    ensures { 0 < reader.old.block.capacity → OnOk result (ReceivesAll
+        (Some (reader.old.block.bytes ++ (told_stream reader.old.inner).now))
+        (writer_log writer.old).writes (writer_log writer.new).writes) }
+{
+    laws::copy_known(reader, writer)
+}
+
+// Where the reader stands: the cursor is ahead of it by what is buffered.
+fn place(reader: &mut Text<'_>) -> io::Result<u64>
+    ensures { IfOk result (λ at. length reader.old.block.bytes ≤ cursor_position (told_stream reader.old.inner)
+        → at ≡ cursor_position (told_stream reader.old.inner) - length reader.old.block.bytes) }
+{
+    reader.stream_position()
+}
+
+#[test]
+fn lines_of_a_cursor(rt: HostRuntime) -> Result<(), Fail> {
+    for ring in [false, true] {
+        let source = Cursor::new(b"first\n\na line that is longer\nlast".as_slice());
+        let buf = if ring {
+            Buffer::with_capacity_ringbuf(rt.alloc(), 4)?
+        } else {
+            Buffer::with_capacity(rt.alloc(), 4)?
+        };
+        let mut reader = BufReader::with_buffer(buf, Told::new(source));
+        for want in ["first\n", "\n", "a line that is longer\n", "last", ""] {
+            let mut line = String::new(rt.alloc());
+            assert_eq!(rt; next_line(&mut reader, &mut line)?, want.len());
+            assert_eq!(rt; line.as_str(), want);
+        }
+    }
+    Ok(())
+}
+
+#[test]
+fn records_there_and_back(rt: HostRuntime) -> Result<(), Fail> {
+    let (mut one, mut two) = ([0u8; 3], [0u8; 2]);
+    round_trip(rt.alloc(), &[1, 2, 3], &[4, 5], &mut one, &mut two)?;
+    assert_eq!(rt; one, [1, 2, 3]);
+    assert_eq!(rt; two, [4, 5]);
+
+    let buf = holding(rt.alloc(), 4, &[1])?;
+    let mut writer = BufWriter::with_buffer(buf, Told::new(Vec::new(rt.alloc())));
+    assert_eq!(rt; writer.write(&[2, 3])?, 2);
+    settle(&mut writer)?;
+    assert_eq!(rt; writer.get_ref().get_ref().as_slice(), [1, 2, 3].as_slice());
+    put(&mut writer, &[4, 5, 6, 7, 8], &[9])?;
+    let held = writer.get_ref().get_ref().as_slice();
+    assert_eq!(rt; held, [1, 2, 3, 4, 5, 6, 7, 8, 9].as_slice());
+    Ok(())
+}
+
+#[test]
+fn all_of_a_source(rt: HostRuntime) -> Result<(), Fail> {
+    let source = b"b\nthe rest".as_slice();
+    for ring in [false, true] {
+        assert_eq!(rt; read_whole(rt.alloc(), ring, source)?.as_slice(), source);
+    }
+    Ok(())
+}
+
+// One byte that is buffered, and a source behind it.
+fn begun(alloc: Global) -> Result<Bytes<'static>, Fail> {
+    let source = Told::new(b"b\nthe rest".as_slice());
+    Ok(BufReader::with_buffer(holding(alloc, 4, b"a")?, source))
+}
+
+#[test]
+fn all_that_is_left(rt: HostRuntime) -> Result<(), Fail> {
+    let mut reader = begun(rt.alloc())?;
+    let mut all = Vec::new(rt.alloc());
+    assert_eq!(rt; read_rest(&mut reader, &mut all)?, 11);
+    assert_eq!(rt; all.as_slice(), b"ab\nthe rest".as_slice());
+    assert_eq!(rt; read_rest(&mut reader, &mut all)?, 0);
+    Ok(())
+}
+
+#[test]
+fn all_that_is_left_of_an_unbuffered_one(rt: HostRuntime) -> Result<(), Fail> {
+    let mut all = Vec::new(rt.alloc());
+    let mut reader = begun(rt.alloc())?.unbuffer();
+    assert_eq!(rt; read_unbuffered(&mut reader, &mut all)?, 11);
+    assert_eq!(rt; all.as_slice(), b"ab\nthe rest".as_slice());
+    Ok(())
+}
+
+#[test]
+fn a_copy_of_all_that_is_left(rt: HostRuntime) -> Result<(), Fail> {
+    let mut reader = begun(rt.alloc())?;
+    let mut writer = BufWriter::new(rt.alloc(), Told::new(Vec::new(rt.alloc())))?;
+    assert_eq!(rt; copy_rest(&mut reader, &mut writer)?, 11);
+    writer.flush()?;
+    assert_eq!(rt;
+        writer.get_ref().get_ref().as_slice(),
+        b"ab\nthe rest".as_slice()
+    );
+    Ok(())
+}
+
+#[test]
+fn places_of_a_cursor(rt: HostRuntime) -> Result<(), Fail> {
+    let source = Cursor::new([0, 1, 2, 3, 4, 5].as_slice());
+    let buf = Buffer::with_capacity(rt.alloc(), 4)?;
+    let mut reader = BufReader::with_buffer(buf, Told::new(source));
+    assert_eq!(rt; reader.fill_buf()?, [0, 1, 2, 3].as_slice());
+    reader.consume(1);
+    assert_eq!(rt; place(&mut reader)?, 1);
+    assert_eq!(rt; reader.seek(SeekFrom::Current(2))?, 3);
+    assert_eq!(rt; reader.fill_buf()?, [3, 4, 5].as_slice());
+    Ok(())
+}
