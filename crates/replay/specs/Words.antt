@@ -1,0 +1,36 @@
+-- What the words of a line stand for.
+use Rattle.std.specs.Prelude.{◌≡◌, ◌≤◌, ◌<◌, ◌^◌, ℕ, List, length, take, drop, All, codes}
+use Rattle.std.specs.Char.{IsAsciiDigit}
+use Rattle.std.specs.Str.Parse.{digits_value}
+use Rattle.buffer_redux.specs.declared.play.ReaderCall.{ReaderCall}
+use Rattle.buffer_redux.specs.declared.play.ReaderCall.TheVariants.{Read, Fill, Consume, ReadIntoBuf, MakeRoom, Reserve}
+use Rattle.replay.specs.declared.case.WriterWord.{WriterWord}
+use Rattle.replay.specs.declared.case.WriterWord.TheVariants as writer
+
+-- decimal digits and nothing else, of a value below 2^64
+pub record IsNumber (word : List ℕ) : Type 0 where
+  pub not_empty : 1 ≤ length word
+  pub digits : All IsAsciiDigit word
+  pub not_large : digits_value 10 word < 2 ^ 64
+
+-- this letter, and then this number
+pub record IsSized (letter : List ℕ) (n : ℕ) (word : List ℕ) : Type 0 where
+  pub first : take 1 word ≡ letter
+  pub number : IsNumber (drop 1 word)
+  pub value : digits_value 10 (drop 1 word) ≡ n
+
+-- the word of a call of a reader
+abbrev pub IsReaderWord : ReaderCall → List ℕ → Type 0
+IsReaderWord (Read n) word = IsSized (codes "R") n word
+IsReaderWord Fill word = word ≡ codes "F"
+IsReaderWord (Consume n) word = IsSized (codes "C") n word
+IsReaderWord ReadIntoBuf word = word ≡ codes "I"
+IsReaderWord MakeRoom word = word ≡ codes "M"
+IsReaderWord (Reserve n) word = IsSized (codes "V") n word
+
+-- the word of a call of a writer
+abbrev pub IsWriterWord : WriterWord → List ℕ → Type 0
+IsWriterWord (writer.Write n) word = IsSized (codes "W") n word
+IsWriterWord writer.Flush word = word ≡ codes "L"
+IsWriterWord writer.MakeRoom word = word ≡ codes "M"
+IsWriterWord (writer.Reserve n) word = IsSized (codes "V") n word

@@ -1,0 +1,69 @@
+//! What a line asks for: a buffered reader or writer, what the stream inside answers, and the calls.
+use buffer_redux::play::ReaderCall;
+use buffer_redux::script::Answer;
+
+/// What a line asks for.
+#[derive(Debug, Drop)]
+pub enum Case {
+    Reader(ReaderCase),
+    Writer(WriterCase),
+}
+
+/// The kind of a buffer.
+#[derive(Clone, Copy, Debug)]
+pub enum Kind {
+    Plain,
+    Ring,
+}
+
+/// The buffer that is asked for.
+#[derive(Clone, Copy, Debug)]
+pub struct Storage {
+    pub kind: Kind,
+    pub capacity: usize,
+}
+
+/// The policy of a reader.
+#[derive(Clone, Copy, Debug)]
+pub enum ReaderRule {
+    Std,
+    Min(usize),
+}
+
+/// The policy of a writer.
+#[derive(Clone, Copy, Debug)]
+pub enum WriterRule {
+    Std,
+    AtLeast(usize),
+    Exact(usize),
+    On(u8),
+    Newline,
+}
+
+/// A call of a writer, with how many bytes a write offers.
+#[derive(Clone, Copy, Debug)]
+pub enum WriterWord {
+    Write(usize),
+    Flush,
+    MakeRoom,
+    Reserve(usize),
+}
+
+/// A buffered reader over a source of so many bytes, and the calls.
+#[derive(Debug, Drop)]
+pub struct ReaderCase {
+    pub storage: Storage,
+    pub rule: ReaderRule,
+    pub source: usize,
+    pub script: Vec<Answer>,
+    pub calls: Vec<ReaderCall>,
+}
+
+/// A buffered writer, and the calls.
+#[derive(Debug, Drop)]
+pub struct WriterCase {
+    pub storage: Storage,
+    pub rule: WriterRule,
+    pub script: Vec<Answer>,
+    pub calls: Vec<WriterWord>,
+}

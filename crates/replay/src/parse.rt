@@ -1,0 +1,165 @@
+//! Reading a line: what it asks for, or why that can't be told.
+use crate::case::{
+    Case, Kind, ReaderCase, ReaderRule, Storage, WriterCase, WriterRule, WriterWord,
+};
+use crate::words::{answer, number, reader_call, writer_call};
+use buffer_redux::play::ReaderCall;
+use buffer_redux::script::Answer;
+use std::alloc::{AllocError, AllocFailed, Global};
+use std::fmt;
+
+/// Why a line has no answer.
+#[derive(Debug, Drop)]
+pub enum Unread<'a> {
+    /// It is not four parts with ` | ` between them.
+    Parts,
+    /// This first part names no buffered stream.
+    Stream(&'a str),
+    /// This is no number of bytes that the source can have.
+    Source(&'a str),
+    /// This is no answer of a stream.
+    Answer(&'a str),
+    /// This is no call.
+    Call(&'a str),
+    /// There is not enough memory.
+    Memory,
+}
+
+impl From<AllocError> for Unread<'_> {
+    fn from(_e: AllocError) -> Self {
+        Unread::Memory
+    }
+}
+
+impl<T: Drop> From<AllocFailed<T>> for Unread<'_> {
+    fn from(_e: AllocFailed<T>) -> Self {
+        Unread::Memory
+    }
+}
+
+impl fmt::Display for Unread<'_> {
+    fn fmt<W: fmt::Write>(&self, f: &mut fmt::Formatter<W>) -> fmt::Result {
+        match self {
+            Unread::Parts => f.write_str("not four parts"),
+            Unread::Stream(text) => write!(f, "`{text}` is no buffered stream"),
+            Unread::Source(text) => write!(f, "`{text}` is no number of bytes for a source"),
+            Unread::Answer(word) => write!(f, "`{word}` is no answer of a stream"),
+            Unread::Call(word) => write!(f, "`{word}` is no call"),
+            Unread::Memory => f.write_str("not enough memory"),
+        }
+    }
+}
+
+// What the first part names.
+enum Stream {
+    Reader(Storage, ReaderRule),
+    Writer(Storage, WriterRule),
+}
+
+/// What this line asks for.
+pub fn case(alloc: Global, line: &str) -> Result<Case, Unread<'_>> {
+    let Some((stream, source, script, calls)) = parts(line) else {
+        return Err(Unread::Parts);
+    };
+    let count = number(source).ok_or(Unread::Source(source))?;
+    let script = answers(alloc, script)?;
+    match buffered_stream(alloc, stream)? {
+        Some(Stream::Reader(storage, rule)) => Ok(Case::Reader(ReaderCase {
+            storage,
+            rule,
+            source: count,
+            script,
+            calls: reader_calls(alloc, calls)?,
+        })),
+        // A writer has no source.
+        Some(Stream::Writer(_, _)) if count > 0 => Err(Unread::Source(source)),
+        Some(Stream::Writer(storage, rule)) => Ok(Case::Writer(WriterCase {
+            storage,
+            rule,
+            script,
+            calls: writer_calls(alloc, calls)?,
+        })),
+        None => Err(Unread::Stream(stream)),
+    }
+}
+
+fn parts(line: &str) -> Option<(&str, &str, &str, &str)> {
+    let (stream, others) = line.split_once(" | ")?;
+    let (source, others) = others.split_once(" | ")?;
+    let (script, calls) = others.split_once(" | ")?;
+    Some((stream, source, script, calls))
+}
+
+fn buffered_stream(alloc: Global, text: &str) -> Result<Option<Stream>, AllocError> {
+    let words: Vec<&str> = text.split_whitespace().collect(alloc)?;
+    Ok(stream_of(words.as_slice()))
+}
+
+fn stream_of(words: &[&str]) -> Option<Stream> {
+    let [side, kind, capacity, rule @ ..] = words else {
+        return None;
+    };
+    let storage = Storage {
+        kind: kind_of(*kind)?,
+        capacity: number(*capacity)?,
+    };
+    match *side {
+        "reader" => Some(Stream::Reader(storage, reader_rule(rule)?)),
+        "writer" => Some(Stream::Writer(storage, writer_rule(rule)?)),
+        _ => None,
+    }
+}
+
+fn kind_of(word: &str) -> Option<Kind> {
+    match word {
+        "plain" => Some(Kind::Plain),
+        "ring" => Some(Kind::Ring),
+        _ => None,
+    }
+}
+
+fn reader_rule(words: &[&str]) -> Option<ReaderRule> {
+    match words {
+        ["std"] => Some(ReaderRule::Std),
+        ["min", n] => Some(ReaderRule::Min(number(*n)?)),
+        _ => None,
+    }
+}
+
+fn writer_rule(words: &[&str]) -> Option<WriterRule> {
+    match words {
+        ["std"] => Some(WriterRule::Std),
+        ["newline"] => Some(WriterRule::Newline),
+        ["atleast", n] => Some(WriterRule::AtLeast(number(*n)?)),
+        ["exact", n] => Some(WriterRule::Exact(number(*n)?)),
+        ["on", byte] => Some(WriterRule::On(byte.parse::<u8>().ok()?)),
+        _ => None,
+    }
+}
+
+// What the stream inside answers; `-` is nothing.
+fn answers(alloc: Global, text: &str) -> Result<Vec<Answer>, Unread<'_>> {
+    let mut answers = Vec::new(alloc);
+    if text != "-" {
+        for word in text.split_whitespace() {
+            answers.push(answer(word).ok_or(Unread::Answer(word))?)?;
+        }
+    }
+    Ok(answers)
+}
+
+fn reader_calls(alloc: Global, text: &str) -> Result<Vec<ReaderCall>, Unread<'_>> {
+    let mut calls = Vec::new(alloc);
+    for word in text.split_whitespace() {
+        calls.push(reader_call(word).ok_or(Unread::Call(word))?)?;
+    }
+    Ok(calls)
+}
+
+fn writer_calls(alloc: Global, text: &str) -> Result<Vec<WriterWord>, Unread<'_>> {
+    let mut calls = Vec::new(alloc);
+    for word in text.split_whitespace() {
+        calls.push(writer_call(word).ok_or(Unread::Call(word))?)?;
+    }
+    Ok(calls)
+}

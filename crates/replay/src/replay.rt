@@ -1,0 +1,66 @@
+//! Lines in, answers out.
+ghost use Rattle.std.specs.Prelude.{◌≡◌};
+
+use crate::parse::{Unread, case};
+use crate::play::answer;
+use std::alloc::Global;
+use std::io;
+use std::io::{BufRead, ErrorKind, Write};
+
+/// How a replay ends that read and wrote all.
+#[derive(Clone, Copy, Debug)]
+pub enum Ending {
+    /// Each line was played.
+    AllPlayed,
+    /// A line was not.
+    SomeUnread,
+}
+
+impl Ending {
+    /// The status that the process ends with.
+    pub fn status(&self) -> u8
+        ensures played { self.now ≡ Ending.AllPlayed → result ≡ 0 }
+        ensures unread { self.now ≡ Ending.SomeUnread → result ≡ 2 }
+    {
+        match self {
+            Ending::AllPlayed => 0,
+            Ending::SomeUnread => 2,
+        }
+    }
+}
+
+/// Plays each line of `input`, and writes a line for each to `output`: its answers, or why it has none.
+pub fn replay<R: BufRead + Drop, W: Write>(
+    alloc: Global,
+    input: R,
+    output: &mut W,
+) -> io::Result<Ending> {
+    let mut ending = Ending::AllPlayed;
+    let mut number: u64 = 0;
+    for line in input.lines(alloc) {
+        number = number.saturating_add(1);
+        let line = match line {
+            Ok(line) => line,
+            Err(e) if e.kind() == ErrorKind::InvalidData => {
+                ending = Ending::SomeUnread;
+                writeln!(output, "line {number}: not text")?;
+                continue;
+            }
+            Err(e) => return Err(e),
+        };
+        match played(alloc, line.as_str()) {
+            Ok(text) => writeln!(output, "{text}")?,
+            Err(e) => {
+                ending = Ending::SomeUnread;
+                writeln!(output, "line {number}: {e}")?;
+            }
+        }
+    }
+    output.flush()?;
+    Ok(ending)
+}
+
+fn played(alloc: Global, line: &str) -> Result<String, Unread<'_>> {
+    let case = case(alloc, line)?;
+    Ok(answer(alloc, &case)?)
+}
