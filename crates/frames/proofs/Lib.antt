@@ -1,0 +1,7 @@
+pub mod FirstLine
+pub mod Faring
+pub mod Packing
+pub mod PackingAll
+pub mod PackRuns
+pub mod Unpacking
+pub mod UnpackRuns

@@ -1,0 +1,35 @@
+use Rattle.std.proofs.Common.{◌≡◌, rules}
+use Rattle.std.specs.IoError.{error_kind}
+use Rattle.std.specs.declared.io.ErrorKind.TheVariants.{OutOfMemory}
+use Rattle.frames.proofs.UnpackRuns.{unpack_ran, unpack_refused}
+use Rattle.frames.proofs.unpack.unpack.Goals as goal
+
+pub returns-in-Err : goal.returns-in-Err
+returns-in-Err g c =
+    let memory : error_kind c.from.result ≡ OutOfMemory = search rules in
+    rw (c.into.ensures, c.in-Err.ensures.handed_back) (unpack_refused c.args.most _ _ c.from.result memory)
+
+pub returns-in-Err-line_target : goal.returns-in-Err-line_target
+returns-in-Err-line_target g c =
+    let memory : error_kind c.from-in-Err-line_target.result ≡ OutOfMemory = search rules in
+    rw (
+      c.into-in-Err-line_target.ensures,
+      c.into_inner.ensures.log,
+      c.in-Ok.ensures.made.log,
+      c.in-Err-line_target.ensures.handed_back,
+    )
+    (unpack_refused c.args.most _ _ c.from-in-Err-line_target.result memory)
+
+pub returns : goal.returns
+returns g c =
+    let made = c.in-Ok.ensures.made in
+    rw (
+      c.into_inner-2.ensures.log,
+      c.into_inner_with_buffer-writer.ensures.log,
+      ← made.log,
+      ← c.in-Ok-line_target.ensures.log,
+      ← made.max,
+    )
+    (unpack_ran g.R.TellRead.remaining c.in-Ok.source c.unpack_all-answer.new.source c.in-Ok-line_target.target
+    c.unpack_all-answer.new.target made.empty c.in-Ok-line_target.ensures.empty c.unpack_all-answer.result
+    c.unpack_all-answer.ensures)

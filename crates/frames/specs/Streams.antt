@@ -1,0 +1,52 @@
+-- How the two streams of a run fared.
+use Rattle.std.specs.Prelude.{◌≡◌, ℕ, ◌+◌, ◌^◌, ◌<◌, ◌≤◌, ◌⊎◌, ◌∷◌, [], ◌++◌}
+use Rattle.std.specs.IoError.{error_kind}
+use Rattle.std.specs.declared.io.Error.{Error}
+use Rattle.std.specs.declared.io.ErrorKind.TheVariants.{Other, OutOfMemory}
+use Rattle.buffer_redux.specs.Faults.{MetInterrupts, SendErrorCaused}
+use Rattle.buffer_redux.specs.StreamLog.{StreamLog}
+
+-- no read failed, and writes were at most interrupted
+pub record MetNoFault (read read' written written' : StreamLog) : Type 0 where
+  pub reader : read'.reads.faults ≡ read.reads.faults
+  pub writer : MetInterrupts written.writes written'.writes
+
+-- a read failed with this error, and writes were at most interrupted
+pub record ReadFailed (e : Error) (read read' written written' : StreamLog) : Type 0 where
+  pub reader : read'.reads.faults ≡ read.reads.faults ++ e ∷ []
+  pub writer : MetInterrupts written.writes written'.writes
+
+-- sending to the writer failed with this error, and no read failed
+pub record SendFailed (e : Error) (read read' written written' : StreamLog) : Type 0 where
+  pub reader : read'.reads.faults ≡ read.reads.faults
+  pub writer : SendErrorCaused written.writes written'.writes e
+
+-- one of the streams failed with this error
+abbrev pub EitherFailed : Error → StreamLog → StreamLog → StreamLog → StreamLog → Type 0
+EitherFailed e read read' written written' =
+    ReadFailed e read read' written written' ⊎ SendFailed e read read' written written'
+
+-- as many frames went over as the run counts
+pub record OverCount (e : Error) (count : ℕ) (read read' written written' : StreamLog) : Type 0 where
+  pub other : error_kind e ≡ Other
+  pub large : 2 ^ 64 ≤ count + 1
+  pub met : MetNoFault read read' written written'
+
+-- a run of so many frames failed with this error: a stream did, or the count ended
+abbrev pub Stopped : Error → ℕ → StreamLog → StreamLog → StreamLog → StreamLog → Type 0
+Stopped e count read read' written written' =
+    EitherFailed e read read' written written' ⊎ OverCount e count read read' written written'
+
+-- a buffer was refused before either stream was called
+pub record BufferRefused (e : Error) (read read' written written' : StreamLog) : Type 0 where
+  pub memory : error_kind e ≡ OutOfMemory
+  pub read_same : read' ≡ read
+  pub written_same : written' ≡ written
+
+-- the reader gave nothing though it was asked for something
+abbrev pub GaveNothing : StreamLog → StreamLog → Type 0
+GaveNothing read read' = read.reads.zero_answers < read'.reads.zero_answers
+
+-- what was received has been flushed
+abbrev pub AllFlushed : StreamLog → Type 0
+AllFlushed written = written.writes.flushed ≡ written.writes.received

@@ -1,0 +1,152 @@
+//! Lines made frames, over any two streams that tell.
+ghost use Rattle.std.specs.Prelude.{◌≡◌, ◌≤◌, ◌⊎◌, [], ◌∷◌, ◌++◌, length, take, drop, IfOk, IfErr, OnOk};
+ghost use Rattle.buffer_redux.specs.BufReader.{ReadsInOrder, RanDry};
+ghost use Rattle.buffer_redux.specs.LogGrows.{ReadLogGrows};
+ghost use Rattle.frames.specs.Lines.{IsFirstLine};
+ghost use Rattle.frames.specs.Pack.{IsLineSource, PacksNext, PacksAll, PacksAndFlushes, PackRan};
+
+use crate::error::{RunError, is_fault};
+use buffer_redux::policy::MinBuffered;
+use buffer_redux::tell::{TellRead, TellWrite};
+use buffer_redux::{BufReader, GrowError, MakeError};
+use frame_reader::FrameWriter;
+use memchr::memchr;
+use std::alloc::Global;
+use std::io;
+use std::io::{BufRead, ErrorKind};
+
+/// Makes each line that `reader` gives a frame, and sends the frames to `writer`. What stands behind the last line's end is
+/// a line too. A line of more than `most` bytes ends the run; the frames of the lines before it are sent then.
+///
+/// Both streams come back, also after a fault.
+pub fn pack<R: TellRead, W: TellWrite>(
+    alloc: Global,
+    most: u16,
+    reader: R,
+    writer: W,
+) -> (Result<(), RunError>, R, W)
+    ensures { PackRan most (R.log reader) (R.log result.1) (W.log writer) (W.log result.2) result.0 }
+{
+    let mut source = match line_source(alloc, most, reader) {
+        Ok(source) => source,
+        Err(MakeError(reader, e)) => return (Err(io::Error::from(e).into()), reader, writer),
+    };
+    let mut target = match FrameWriter::new(alloc, writer, most) {
+        Ok(target) => target,
+        Err(MakeError(writer, e)) => {
+            return (Err(io::Error::from(e).into()), source.into_inner(), writer);
+        }
+    };
+    let answer = pack_all(&mut source, &mut target);
+    let (writer, _) = target.into_inner_with_buffer();
+    (answer, source.into_inner(), writer)
+}
+
+// A reader whose buffer shows a whole line, or more bytes than a line may have.
+fn line_source<R: TellRead>(
+    alloc: Global,
+    most: u16,
+    reader: R,
+) -> Result<BufReader<R, MinBuffered>, MakeError<R>>
+    ensures made { IfOk result (IsLineSource most) }
+    ensures empty { IfOk result (λ r. r.block.bytes ≡ []) }
+    ensures inner { IfOk result (λ r. r.inner ≡ reader) }
+    ensures log { IfOk result (λ r. r.log ≡ R.log reader) }
+    ensures handed_back { IfErr result (λ e. e.0 ≡ reader) }
+    ensures refused { IfErr result (λ e. e.1 ≡ GrowError.Memory) }
+{
+    let ahead = usize::from(most) + 1;
+    let source = BufReader::with_capacity(alloc, 2 * ahead, reader)?;
+    Ok(source.set_policy(MinBuffered(ahead)))
+}
+
+// Makes all lines frames, and flushes them, also those before one that is too long.
+fn pack_all<R: TellRead, W: TellWrite>(
+    source: &mut BufReader<R, MinBuffered>,
+    target: &mut FrameWriter<W>,
+) -> Result<(), RunError>
+    requires { IsLineSource target.old.max source.old }
+    ensures { PacksAndFlushes W.stretch source.old target.old result source.new target.new }
+{
+    let answer = pack_lines(source, target);
+    if is_fault(&answer) {
+        return answer;
+    }
+    target.flush()?;
+    answer
+}
+
+// Makes each line a frame.
+fn pack_lines<R: TellRead, W: TellWrite>(
+    source: &mut BufReader<R, MinBuffered>,
+    target: &mut FrameWriter<W>,
+) -> Result<(), RunError>
+    requires { IsLineSource target.old.max source.old }
+    ensures { PacksAll W.stretch source.old target.old result source.new target.new }
+{
+    for _ in 0..u64::MAX {
+        if !pack_line(source, target)? {
+            return Ok(());
+        }
+    }
+    Err(io::Error::from(ErrorKind::Other).into())
+}
+
+// Makes the next line a frame, and returns whether its end was there.
+fn pack_line<R: TellRead, W: TellWrite>(
+    source: &mut BufReader<R, MinBuffered>,
+    target: &mut FrameWriter<W>,
+) -> Result<bool, RunError>
+    requires { IsLineSource target.old.max source.old }
+    ensures { PacksNext W.stretch source.old target.old result source.new target.new }
+{
+    fill(source)?;
+    if source.buf_len() == 0 {
+        return Ok(false);
+    }
+    let bytes = source.buffer();
+    let line = first_line(bytes);
+    let ends = line.len() < bytes.len();
+    let taken = bytes.len().min(line.len() + 1);
+    target.write_frame(line)?;
+    drop_first(source, taken);
+    Ok(ends)
+}
+
+// Reads until there are as many bytes as the policy wants.
+fn fill<R: TellRead>(source: &mut BufReader<R, MinBuffered>) -> io::Result<()>
+    requires ahead { source.old.policy.0 ≤ source.old.block.capacity }
+    ensures in_order { ReadsInOrder source.old [] source.new }
+    ensures grows { ReadLogGrows source.old.log.reads source.new.log.reads }
+    ensures policy { source.new.policy ≡ source.old.policy }
+    ensures capacity { source.old.block.capacity ≤ source.new.block.capacity }
+    ensures no_fault { OnOk result (source.new.log.reads.faults ≡ source.old.log.reads.faults) }
+    ensures fault { IfErr result (λ e. source.new.log.reads.faults ≡ source.old.log.reads.faults ++ e ∷ []) }
+    ensures enough { OnOk result ((source.old.policy.0 ≤ length source.new.block.bytes)
+        ⊎ RanDry source.old source.new) }
+{
+    let _ = source.fill_buf()?;
+    Ok(())
+}
+
+// Drops the first bytes that are buffered.
+fn drop_first<R: TellRead>(source: &mut BufReader<R, MinBuffered>, amount: usize)
+    requires { amount ≤ length source.old.block.bytes }
+    ensures in_order { ReadsInOrder source.old (take amount source.old.block.bytes) source.new }
+    ensures left { source.new.block.bytes ≡ drop amount source.old.block.bytes }
+    ensures told { source.new.log ≡ source.old.log }
+    ensures policy { source.new.policy ≡ source.old.policy }
+    ensures capacity { source.old.block.capacity ≤ source.new.block.capacity }
+{
+    source.consume(amount);
+}
+
+// The bytes before the first end of a line, or all where there is none.
+fn first_line(bytes: &[u8]) -> &[u8]
+    ensures { IsFirstLine bytes.now result.now }
+{
+    match memchr(b'\n', bytes) {
+        Some(end) => &bytes[..end],
+        None => bytes,
+    }
+}

@@ -1,0 +1,155 @@
+//! Payloads printed as lines, over any two streams that tell.
+ghost use Rattle.std.specs.Prelude.{◌≡◌, ◌+◌, ◌<◌, ◌≤◌, [], ◌∷◌, ◌++◌, length, IfOk, IfErr, OnOk, OnErr};
+ghost use Rattle.buffer_redux.specs.Block.{Plain, usable};
+ghost use Rattle.buffer_redux.specs.BufWriter.{WritesInOrder};
+ghost use Rattle.buffer_redux.specs.Faults.{MetInterrupts, SendErrorCaused};
+ghost use Rattle.frames.specs.Lines.{newline};
+ghost use Rattle.frames.specs.Unpack.{IsLineTarget, UnpacksNext, UnpacksAll, UnpacksAndFlushes, UnpackRan};
+
+use crate::error::{RunError, is_fault};
+use buffer_redux::tell::{TellRead, TellWrite};
+use buffer_redux::{BufWriter, GrowError, MakeError};
+use frame_reader::FrameReader;
+use std::alloc::Global;
+use std::io;
+use std::io::{ErrorKind, Write};
+
+/// Prints the payload of each frame that `reader` gives as a line on `writer`. Bytes that are no frame of at most `most`
+/// bytes end the run; the lines of the frames before them are sent then.
+///
+/// Both streams come back, also after a fault.
+pub fn unpack<R: TellRead, W: TellWrite>(
+    alloc: Global,
+    most: u16,
+    reader: R,
+    writer: W,
+) -> (Result<(), RunError>, R, W)
+    ensures { UnpackRan most (R.log reader) (R.log result.1) (W.log writer) (W.log result.2) result.0 }
+{
+    let mut source = match FrameReader::new(alloc, reader, most) {
+        Ok(source) => source,
+        Err(MakeError(reader, e)) => return (Err(io::Error::from(e).into()), reader, writer),
+    };
+    let mut target = match line_target(alloc, most, writer) {
+        Ok(target) => target,
+        Err(MakeError(writer, e)) => {
+            return (Err(io::Error::from(e).into()), source.into_inner(), writer);
+        }
+    };
+    let answer = unpack_all(&mut source, &mut target);
+    let (writer, _) = target.into_inner_with_buffer();
+    (answer, source.into_inner(), writer)
+}
+
+// A writer that takes a line in whole.
+fn line_target<W: TellWrite>(
+    alloc: Global,
+    most: u16,
+    writer: W,
+) -> Result<BufWriter<W>, MakeError<W>>
+    ensures made { IfOk result (IsLineTarget most) }
+    ensures empty { IfOk result (λ w. w.block.bytes ≡ []) }
+    ensures inner { IfOk result (λ w. w.inner ≡ writer) }
+    ensures log { IfOk result (λ w. w.log ≡ W.log writer) }
+    ensures handed_back { IfErr result (λ e. e.0 ≡ writer) }
+    ensures refused { IfErr result (λ e. e.1 ≡ GrowError.Memory) }
+{
+    BufWriter::with_capacity(alloc, 2 * (usize::from(most) + 1), writer)
+}
+
+// Prints all payloads, and flushes them, also those before bytes that are no frame.
+fn unpack_all<R: TellRead, W: TellWrite>(
+    source: &mut FrameReader<R>,
+    target: &mut BufWriter<W>,
+) -> Result<(), RunError>
+    requires { IsLineTarget source.old.max target.old }
+    ensures { UnpacksAndFlushes R.remaining source.old target.old result source.new target.new }
+{
+    let answer = unpack_frames(source, target);
+    if is_fault(&answer) {
+        return answer;
+    }
+    target.flush()?;
+    answer
+}
+
+// Prints each payload.
+fn unpack_frames<R: TellRead, W: TellWrite>(
+    source: &mut FrameReader<R>,
+    target: &mut BufWriter<W>,
+) -> Result<(), RunError>
+    requires { IsLineTarget source.old.max target.old }
+    ensures { UnpacksAll R.remaining source.old target.old result source.new target.new }
+{
+    for _ in 0..u64::MAX {
+        if !unpack_frame(source, target)? {
+            return Ok(());
+        }
+    }
+    Err(io::Error::from(ErrorKind::Other).into())
+}
+
+// Prints the next payload, and returns whether there was one.
+fn unpack_frame<R: TellRead, W: TellWrite>(
+    source: &mut FrameReader<R>,
+    target: &mut BufWriter<W>,
+) -> Result<bool, RunError>
+    requires { IsLineTarget source.old.max target.old }
+    ensures { UnpacksNext R.remaining source.old target.old result source.new target.new }
+{
+    match source.next()? {
+        Some(payload) => {
+            print_line(target, payload)?;
+            Ok(true)
+        }
+        None => Ok(false),
+    }
+}
+
+// Takes the line in with its end, or nothing of it where room can't be had.
+fn print_line<W: TellWrite>(target: &mut BufWriter<W>, line: &[u8]) -> io::Result<()>
+    requires { IsLineTarget (length line.now) target.old }
+    ensures taken { OnOk result (WritesInOrder target.old (line.now ++ newline ∷ []) target.new) }
+    ensures none { OnErr result (WritesInOrder target.old [] target.new) }
+    ensures met { OnOk result (MetInterrupts target.old.log.writes target.new.log.writes) }
+    ensures caused { IfErr result (λ e. SendErrorCaused target.old.log.writes target.new.log.writes e) }
+    ensures kind { target.new.block.kind ≡ target.old.block.kind }
+    ensures capacity { target.new.block.capacity ≡ target.old.block.capacity }
+{
+    make_room(target, line.len() + 1)?;
+    put(target, line);
+    put(target, b"\n");
+    Ok(())
+}
+
+// Sends all that is buffered where so many more bytes don't fit, and makes all free space usable.
+fn make_room<W: TellWrite>(target: &mut BufWriter<W>, whole: usize) -> io::Result<()>
+    requires plain { target.old.block.kind ≡ Plain }
+    requires inside { whole ≤ target.old.block.capacity }
+    ensures none { WritesInOrder target.old [] target.new }
+    ensures room { OnOk result (whole ≤ usable target.new.block) }
+    ensures met { OnOk result (MetInterrupts target.old.log.writes target.new.log.writes) }
+    ensures caused { IfErr result (λ e. SendErrorCaused target.old.log.writes target.new.log.writes e) }
+    ensures kind { target.new.block.kind ≡ target.old.block.kind }
+    ensures capacity { target.new.block.capacity ≡ target.old.block.capacity }
+{
+    if target.capacity() - target.buf_len() < whole {
+        target.send()?;
+    }
+    target.make_room();
+    Ok(())
+}
+
+// Copies bytes in, for which there is room.
+fn put<W: TellWrite>(target: &mut BufWriter<W>, bytes: &[u8])
+    requires room { length bytes.now ≤ usable target.old.block }
+    requires inside { length bytes.now < target.old.block.capacity }
+    ensures taken { WritesInOrder target.old bytes.now target.new }
+    ensures added { target.new.block.bytes ≡ target.old.block.bytes ++ bytes.now }
+    ensures told { target.new.log ≡ target.old.log }
+    ensures usable { usable target.old.block ≤ usable target.new.block + length bytes.now }
+    ensures kind { target.new.block.kind ≡ target.old.block.kind }
+    ensures capacity { target.new.block.capacity ≡ target.old.block.capacity }
+{
+    let _ = target.write(bytes);
+}
