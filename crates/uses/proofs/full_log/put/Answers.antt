@@ -1,0 +1,21 @@
+use Rattle.std.proofs.Common.{length, ap, arith, length-drop}
+use Rattle.std.proofs.lemmas.Slice.{between_to_end}
+use Rattle.buffer_redux.specs.WriterLaws.{WritesInOrder-piece, WritesInOrder-then}
+use Rattle.uses.proofs.full_log.put.Goals as goal
+
+pub loop-at-preserved : goal.loop-at-preserved
+loop-at-preserved g c =
+    let at = c.loop-at.at in
+    let text = c.args.text.now in
+    let before = c.loop-at.invariant in
+    let rest = ap length (between_to_end text at (length text) (omega arith)) in record {
+      within = omega (arith, c.in-Ok.ensures.bound, rest, length-drop at text);
+      taken = WritesInOrder-piece _ _ _ text at _ before.within before.taken c.in-Ok.ensures.in_order;
+    }
+
+pub returns-in-Ok-eq0-clause-taken : goal.returns-in-Ok-eq0-clause-taken
+returns-in-Ok-eq0-clause-taken g c = WritesInOrder-then _ c.loop-at.log _ _ c.loop-at.invariant.taken
+    (rw c.in-Ok-eq0.field-0-test at c.in-Ok-eq0.ensures.in_order)
+
+pub returns-in-Err-clause-taken : goal.returns-in-Err-clause-taken
+returns-in-Err-clause-taken g c = WritesInOrder-then _ c.loop-at.log _ _ c.loop-at.invariant.taken c.in-Err.ensures.in_order

@@ -1,0 +1,12 @@
+use Rattle.std.proofs.Common.{◌≡◌, ℕ, List}
+use Rattle.buffer_redux.specs.BufReader.{ReadsAlong}
+use Rattle.uses.specs.LineCount.{line_feeds}
+use Rattle.uses.proofs.line_count.count_lines.Given as goal
+
+-- the bytes that were handed out have this many line feeds
+abbrev pub invariant-loop-turn : goal.invariant-loop-turn
+invariant-loop-turn g l = record {
+  handed : List ℕ;
+  along : ReadsAlong g.R.TellRead.remaining g.P.ReaderPolicy.rules l.initial.reader handed l.reader;
+  count : l.lines ≡ line_feeds handed;
+}

@@ -1,0 +1,6 @@
+pub mod IntLines
+pub mod LineCount
+pub mod Progress
+pub mod Records
+pub mod Sniff
+pub mod Survive

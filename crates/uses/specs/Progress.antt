@@ -1,0 +1,16 @@
+-- What a copy that tells its progress says.
+use Rattle.std.specs.Prelude.{◌≡◌, ℕ, ◌≤◌, zero, suc}
+use Rattle.std.specs.Io.Iter.{u64_saturate}
+
+-- k calls of a callback with numbers that don't fall, the last of them n
+abbrev pub Reports : {F : Type 0} → (F → ℕ → F → Type 0) → F → ℕ → ℕ → F → Type 0
+Reports step f zero n g = (n ≡ 0) × (g ≡ f)
+Reports {F} step f (suc k) n g = (m : ℕ) × (before : F) × Reports step f k m before × (m ≤ n) × step before n g
+
+-- the callback was last told of so many bytes
+pub record Tells {F : Type 0} (step : F → ℕ → F → Type 0) (report : F) (count : ℕ) : Type 0 where
+  pub calls : ℕ
+  pub total : ℕ
+  pub last : F
+  pub told : Reports step report calls total last
+  pub counts : total ≡ u64_saturate count

@@ -1,0 +1,58 @@
+//! A log that keeps the bytes which its device doesn't take, and sends them later.
+ghost use Rattle.std.specs.Prelude.{◌≡◌, [], ◌++◌, OnOk, OnErr, length, take};
+ghost use Rattle.buffer_redux.specs.BufWriter.{WritesInOrder};
+ghost use Rattle.buffer_redux.specs.Unwrapping.{KeepsUnsent};
+
+#[cfg(test)]
+mod tests;
+
+use buffer_redux::laws::keep_unsent_lines;
+use buffer_redux::tell::TellWrite;
+use buffer_redux::{Buffer, LineWriter};
+use std::io;
+use std::io::{ErrorKind, Write};
+
+/// Writes to the log, and returns how many bytes it took: all, unless there was a fault.
+pub fn put<W: TellWrite>(log: &mut LineWriter<W>, text: &[u8]) -> (usize, io::Result<()>)
+    ensures taken { WritesInOrder log.old (take result.0 text.now) log.new }
+    ensures all { OnOk result.1 (result.0 ≡ length text.now) }
+{
+    let mut at = 0;
+    while at < text.len() {
+        match log.write(&text[at..]) {
+            Ok(0) => return (at, Err(io::Error::from(ErrorKind::WriteZero))),
+            Ok(n) => at += n,
+            Err(e) => return (at, Err(e)),
+        }
+    }
+    (at, Ok(()))
+}
+
+/// Sends what the log holds. What the device doesn't take comes back beside it.
+pub fn close<W: TellWrite>(log: LineWriter<W>) -> (W, Buffer)
+    ensures { KeepsUnsent W.log log result.0 result.1 }
+{
+    keep_unsent_lines(log)
+}
+
+/// The same log again, over a device that may take bytes by now.
+pub fn reopen<W: TellWrite>(device: W, unsent: Buffer) -> LineWriter<W>
+    ensures log { result.log ≡ W.log device }
+    ensures unsent { result.block ≡ unsent }
+{
+    LineWriter::with_buffer(unsent, device)
+}
+
+/// Closes the log, and tries so many times again to send what is left.
+pub fn close_patiently<W: TellWrite>(log: LineWriter<W>, tries: u32) -> (W, Buffer)
+    ensures { (W.log result.0).writes.received ++ result.1.bytes ≡ log.log.writes.received ++ log.block.bytes }
+{
+    let (mut device, mut unsent) = close(log);
+    for _try in 0..tries {
+        if unsent.is_empty() {
+            break;
+        }
+        (device, unsent) = close(reopen(device, unsent));
+    }
+    (device, unsent)
+}

@@ -1,0 +1,13 @@
+//! Uses of `buffer_redux`, each short enough to copy, proved by its public contracts alone, and run by a test.
+//!
+//! Begin with [`line_count`]: a loop over `fill_buf` and `consume` whose contract names the bytes.
+#![tactic(auto)]
+
+pub mod full_log;
+pub mod int_lines;
+pub mod line_count;
+pub mod own_policy;
+pub mod progress;
+pub mod records;
+pub mod sniff;
+pub mod survive;

@@ -1,0 +1,15 @@
+use super::count_lines;
+use buffer_redux::BufReader;
+use buffer_redux::policy::MinBuffered;
+use buffer_redux::tell::Told;
+use std::test::Fail;
+
+#[test]
+fn counts_lines(rt: HostRuntime) -> Result<(), Fail> {
+    let text = b"one\ntwo\n\nand no end".as_slice();
+    let mut reader = BufReader::with_capacity(rt.alloc(), 4, Told::new(text))?;
+    assert_eq!(rt; count_lines(&mut reader)?, 3);
+    let reader = BufReader::new_ringbuf(rt.alloc(), Told::new(text))?;
+    assert_eq!(rt; count_lines(&mut reader.set_policy(MinBuffered(9)))?, 3);
+    Ok(())
+}

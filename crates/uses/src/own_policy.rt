@@ -1,0 +1,44 @@
+//! A policy of one's own that claims a minimum, and what follows of the claim for whoever fills under it.
+ghost use Rattle.std.specs.Prelude.{◌≡◌, ◌≤◌, Some, Ok, false, IfOk, IsTrue, length};
+ghost use Rattle.buffer_redux.specs.BufReader.{RanDry};
+
+#[cfg(test)]
+mod tests;
+
+use buffer_redux::policy::{DoRead, ReaderPolicy};
+use buffer_redux::tell::TellRead;
+use buffer_redux::{BufReader, Buffer};
+use std::io;
+use std::io::{BufRead, ErrorKind};
+
+/// Has sixteen bytes in sight, as far as there are so many.
+#[derive(Drop)]
+pub struct HeaderFirst;
+
+impl ReaderPolicy for HeaderFirst {
+    ghost use Rattle.buffer_redux.specs.Policy.{any_read_rules, no_read_claims};
+
+    ghost rules = { record any_read_rules { claims = λ p. record no_read_claims { minimum = Some 16 } } };
+
+    fn before_read(&mut self, buffer: &mut Buffer) -> io::Result<DoRead> {
+        let len = buffer.len();
+        if len >= 16 {
+            return Ok(DoRead(false));
+        }
+        buffer.make_room();
+        match buffer.reserve(16 - len) {
+            Ok(()) => Ok(DoRead(true)),
+            Err(_) => Err(io::Error::from(ErrorKind::OutOfMemory)),
+        }
+    }
+
+    fn after_consume(&mut self, _buffer: &mut Buffer, _amt: usize) {}
+}
+
+/// Whether sixteen bytes are in sight; if not, the stream has ended.
+pub fn sees_header<R: TellRead>(reader: &mut BufReader<R, HeaderFirst>) -> io::Result<bool>
+    ensures seen { IfOk result (λ seen. IsTrue seen → 16 ≤ length reader.new.block.bytes) }
+    ensures ended { result ≡ Ok false → RanDry reader.old reader.new }
+{
+    Ok(reader.fill_buf()?.len() >= 16)
+}

@@ -1,0 +1,67 @@
+//! Reads a stream to its end over faults that pass, without losing a byte.
+ghost use Rattle.std.specs.Prelude.{◌≡◌, ◌<◌, Ok, OnOk, vec_items};
+ghost use Rattle.buffer_redux.specs.BufReader.{RanDry};
+ghost use Rattle.buffer_redux.specs.ReaderLaws.{WantsBytes};
+ghost use Rattle.uses.specs.Survive.{Gains};
+
+#[cfg(test)]
+mod tests;
+
+use buffer_redux::BufReader;
+use buffer_redux::policy::ReaderPolicy;
+use buffer_redux::tell::TellRead;
+use std::io;
+use std::io::{BufRead, ErrorKind};
+
+/// Appends what `reader` still has to `into`, up to its end, a fault that doesn't pass, or more than `faults` that do.
+/// After any fault the same call goes on where this one stopped.
+pub fn read_patiently<R: TellRead, P: ReaderPolicy>(
+    reader: &mut BufReader<R, P>,
+    into: &mut Vec<u8>,
+    faults: u32,
+) -> io::Result<()>
+    requires capacity { 0 < reader.old.block.capacity }
+    requires wants { WantsBytes (P.rules.claims reader.old.policy) }
+    ensures gained { Gains R.remaining P.rules reader.old (vec_items into.old) reader.new (vec_items into.new) }
+    ensures end { OnOk result (RanDry reader.old reader.new) }
+{
+    let mut left = faults;
+    for _turn in 0..u64::MAX {
+        match read_turn(reader, into) {
+            Ok(0) => return Ok(()),
+            Ok(_) => {}
+            Err(e) => {
+                if left == 0 || !passes(e.kind()) {
+                    return Err(e);
+                }
+                left -= 1;
+            }
+        }
+    }
+    Err(io::Error::from(ErrorKind::Other))
+}
+
+// Whether a fault is one after which reading may go on.
+fn passes(kind: ErrorKind) -> bool {
+    matches!(
+        kind,
+        ErrorKind::Interrupted | ErrorKind::WouldBlock | ErrorKind::TimedOut
+    )
+}
+
+// All that one fill shows. 0 only where the reader gave nothing.
+fn read_turn<R: TellRead, P: ReaderPolicy>(
+    reader: &mut BufReader<R, P>,
+    into: &mut Vec<u8>,
+) -> io::Result<usize>
+    requires capacity { 0 < reader.old.block.capacity }
+    requires wants { WantsBytes (P.rules.claims reader.old.policy) }
+    ensures gained { Gains R.remaining P.rules reader.old (vec_items into.old) reader.new (vec_items into.new) }
+    ensures dry { result ≡ Ok 0 → RanDry reader.old reader.new }
+{
+    let shown = reader.fill_buf()?;
+    let len = shown.len();
+    into.extend_from_slice(shown)?;
+    reader.consume(len);
+    Ok(len)
+}

@@ -1,0 +1,26 @@
+use super::read_patiently;
+use buffer_redux::BufReader;
+use buffer_redux::script::{Answer, ScriptReader};
+use buffer_redux::tell::Told;
+use std::io::ErrorKind;
+use std::test::Fail;
+
+#[test]
+fn faults_lose_no_byte(rt: HostRuntime) -> Result<(), Fail> {
+    let script = [
+        Answer::Serve(2),
+        Answer::Fail(ErrorKind::WouldBlock),
+        Answer::Interrupt(1),
+        Answer::Serve(1),
+        Answer::Fail(ErrorKind::Other),
+    ];
+    let inner = ScriptReader::new(rt.alloc(), b"all of it", &script)?;
+    let mut reader = BufReader::with_capacity(rt.alloc(), 4, Told::new(inner))?;
+    let mut all = Vec::new(rt.alloc());
+    let answer = read_patiently(&mut reader, &mut all, 5).map_err(|e| e.kind());
+    assert_eq!(rt; answer, Err(ErrorKind::Other));
+    assert_eq!(rt; all.as_slice(), b"all".as_slice());
+    read_patiently(&mut reader, &mut all, 0)?;
+    assert_eq!(rt; all.as_slice(), b"all of it".as_slice());
+    Ok(())
+}
