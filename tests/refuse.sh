@@ -1,0 +1,115 @@
+# sh tests/refuse.sh
+#
+# What no proof and no test shows of the program: each allocation of bufcopy, copying its stored input, is refused in turn,
+# its first, then its second and so on, until none is left to refuse. And the built program is run as a shell runs it: with
+# words, into a full device, a closed pipe and a closed output, from a folder and a closed input.
+#
+# It says how many runs there were, writes nothing into the repository but what rt builds, and ends with status 0 only
+# where each run ended well.
+set -u
+
+# More refusals than the program meets, and how many are tried side by side.
+most=40
+beside=4
+
+cd "$(dirname "$0")/.." || exit 1
+scratch=$(mktemp -d)
+trap 'rm -rf "$scratch"' EXIT
+failed=0
+
+wrong() { # what is said of it, a file to show
+    echo "refuse: $1" >&2
+    tail -n 40 "$2" >&2
+    failed=1
+}
+
+# Runs the program with allocation N refused.
+try() { # N
+    cd crates/bufcopy || exit 1
+    rt try --fail-alloc "$1" < stdin > "$scratch/out.$1" 2> "$scratch/err.$1"
+    echo $? > "$scratch/status.$1"
+}
+
+# Whether run N met no refusal. A refusal is told by the status and a line, and nothing was written.
+met_none() { # N
+    status=$(cat "$scratch/status.$1")
+    if [ "$status" -eq 0 ]; then
+        cmp -s "$scratch/out.$1" crates/bufcopy/stdout || wrong 'bufcopy: it copied something else' "$scratch/err.$1"
+        return 0
+    fi
+    if [ "$status" -ne 3 ] || [ -s "$scratch/out.$1" ] || ! grep -q '^bufcopy: out of memory$' "$scratch/err.$1"; then
+        wrong "bufcopy: status $status where allocation $1 is refused" "$scratch/err.$1"
+    fi
+    return 1
+}
+
+# Refuses one allocation after another, and says how many runs met a refusal.
+refuse() {
+    first=1
+    while [ "$first" -le "$most" ]; do
+        for n in $(seq "$first" $((first + beside - 1))); do
+            (try "$n") &
+        done
+        wait
+        for n in $(seq "$first" $((first + beside - 1))); do
+            if met_none "$n"; then
+                echo "bufcopy: $((n - 1)) runs met a refusal, and one met none"
+                return
+            fi
+        done
+        first=$((first + beside))
+    done
+    wrong "bufcopy: refusals go on past $most" "$scratch/err.$most"
+}
+
+# What a run as a shell makes it wrote, and how it ended.
+ended() { # what was run, its status, the status wanted, the line wanted on standard error
+    if [ "$2" -ne "$3" ]; then wrong "bufcopy $1: status $2, not $3" "$scratch/err"; fi
+    if [ "$(cat "$scratch/err")" != "$4" ]; then wrong "bufcopy $1: another line" "$scratch/err"; fi
+    shells=$((shells + 1))
+}
+
+holds() { # what was run, the file that standard output should equal
+    cmp -s "$scratch/out" "$2" || wrong "bufcopy $1: other bytes" "$scratch/err"
+}
+
+as_a_shell() {
+    shells=0
+    bufcopy=$PWD/crates/bufcopy/out/bufcopy
+    lines=$scratch/lines
+    nothing=/dev/null
+    seq 30000 > "$lines"
+    for words in '' ring std 64 'ring 64' 'std 7' 'ring 1048576'; do
+        # Unquoted, since these are words.
+        "$bufcopy" $words < "$lines" > "$scratch/out" 2> "$scratch/err"
+        ended "$words" $? 0 ''
+        holds "$words" "$lines"
+    done
+    for words in other 'std 0' 'ring 1048577' 'std +5' '64 std' 'ring 64 64'; do
+        "$bufcopy" $words < "$lines" > "$scratch/out" 2> "$scratch/err"
+        ended "$words" $? 2 'usage: bufcopy [std|ring] [CAPACITY]'
+        holds "$words" "$nothing"
+    done
+    fault='bufcopy: read or write failed'
+    "$bufcopy" < "$lines" > /dev/full 2> "$scratch/err"
+    ended 'into a full device' $? 1 "$fault"
+    { "$bufcopy" < "$lines" 2> "$scratch/err"; echo $? > "$scratch/status"; } | :
+    ended 'into a closed pipe' "$(cat "$scratch/status")" 1 "$fault"
+    "$bufcopy" < "$lines" >&- 2> "$scratch/err"
+    ended 'into a closed output' $? 1 "$fault"
+    "$bufcopy" < "$scratch" > "$scratch/out" 2> "$scratch/err"
+    ended 'from a folder' $? 1 "$fault"
+    holds 'from a folder' "$nothing"
+    "$bufcopy" > "$scratch/out" 2> "$scratch/err" <&-
+    ended 'from a closed input' $? 1 "$fault"
+    holds 'from a closed input' "$nothing"
+    echo "bufcopy: $shells runs as a shell makes them"
+}
+
+if (cd crates/bufcopy && rt run < stdin) > "$scratch/built" 2>&1; then
+    as_a_shell
+else
+    wrong 'bufcopy is not built' "$scratch/built"
+fi
+refuse
+exit "$failed"
