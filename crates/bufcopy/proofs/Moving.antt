@@ -92,7 +92,7 @@ module _ {W Q : Type 0} (stretch : W → W → Type 0) (u v : Buffered W Q) (byt
         let met = last.went.met (tells_all u.policy) (own_met u m last.met) in
         let nothing = last.called.nothing (tells_all m.policy)
         (ap (λ l. l.writes.zero_writes) last.told
-        ∙ zero_of_none 0 bytes m.calls.writes.zero_writes refl some) in (
+        ∙ zero_of_none 0 bytes m.own_calls.writes.zero_writes refl some) in (
           met.interrupts ++ nothing.0,
           TookNothing-after met.interrupts nothing.0 u.log.writes m.log.writes v.log.writes WriteZero met.only nothing.1,
         )
@@ -108,7 +108,7 @@ module _ {W Q : Type 0} (stretch : W → W → Type 0) (u v : Buffered W Q) (byt
             faults = ap (λ l. l.writes.faults) last.told ∙ last.met.only.faults;
             zero_writes =
                 ap (λ l. l.writes.zero_writes) last.told
-                ∙ zero_of_some 0 bytes m.calls.writes.zero_writes (inr none) ∙ last.met.only.zero_writes;
+                ∙ zero_of_some 0 bytes m.own_calls.writes.zero_writes (inr none) ∙ last.met.only.zero_writes;
           };
         })
 
@@ -122,7 +122,7 @@ module _ {R P W Q : Type 0} {remaining : R → Option (List ℕ)} {stretch : W �
       (writer_log u).writes (writer_log v).writes) where
     handed : ReadsInOrder s moved.bytes t
     handed = subst (λ l. ReadsInOrder s l t)
-        (append_cancel_left s.calls.fills.consumed went.handed moved.bytes
+        (append_cancel_left s.own_calls.fills.consumed went.handed moved.bytes
         (sym went.consumed ∙ moved.consumed)) went.in_order
 
     passed : WritesInOrder u moved.bytes v
@@ -155,9 +155,9 @@ module _ {R P W Q : Type 0} {remaining : R → Option (List ℕ)} {stretch : W �
       length-append moved.bytes t.block.bytes,
     )
 
-  only : OnlyInterrupts s.calls.fills.faults t.calls.fills.faults
+  only : OnlyInterrupts s.own_calls.fills.faults t.own_calls.fills.faults
       → OnlyInterrupts s.log.reads.faults t.log.reads.faults
-  only = FaultsAlike-only s.calls.fills.faults t.calls.fills.faults
+  only = FaultsAlike-only s.own_calls.fills.faults t.own_calls.fills.faults
       s.log.reads.faults t.log.reads.faults (went.faults refl)
 
   pub copy_caused : (e : Error)
@@ -165,7 +165,7 @@ module _ {R P W Q : Type 0} {remaining : R → Option (List ℕ)} {stretch : W �
       (reader_log s).fills (reader_log t).fills u v
       → EitherFailed e s.log t.log u.log v.log ⊎ OverTotal e s.log t.log u.log v.log
   copy_caused e (inl (inl source)) = inl (inl (record {
-    fault = FaultsAlike-fault s.calls.fills.faults t.calls.fills.faults s.log.reads.faults t.log.reads.faults
+    fault = FaultsAlike-fault s.own_calls.fills.faults t.own_calls.fills.faults s.log.reads.faults t.log.reads.faults
         e (went.faults refl) source.fault;
     writer = went'.met (tells_all u.policy) (own_met u v source.writer);
   }))

@@ -27,7 +27,7 @@ pub record Copied (total : ℕ) (read read' written written' : StreamLog) : Type
   pub given : read'.reads.given ≡ read.reads.given ++ bytes
   pub received : written'.writes.received ≡ written.writes.received ++ bytes
   pub flushed : written'.writes.flushed ≡ written'.writes.received
-  pub ended : read.reads.zero_answers < read'.reads.zero_answers
+  pub ended : read.reads.zero_reads < read'.reads.zero_reads
   pub reader : OnlyInterrupts read.reads.faults read'.reads.faults
   pub writer : MetInterrupts written.writes written'.writes
 

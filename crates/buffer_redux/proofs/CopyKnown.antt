@@ -21,7 +21,7 @@ module _ {S P : Type 0} (remaining : S → Option (List ℕ)) (rules : ReadRules
     (moved : MovedBy n (reader_log s).fills (reader_log t).fills to to') where
   moved_handed : moved.bytes ≡ went.handed
   moved_handed =
-      append_cancel_left s.calls.fills.consumed moved.bytes went.handed (sym moved.consumed ∙ went.consumed)
+      append_cancel_left s.own_calls.fills.consumed moved.bytes went.handed (sym moved.consumed ∙ went.consumed)
 
   received : to'.received ≡ to.received ++ went.handed
   received = moved.received ∙ ap (λ l. to.received ++ l) moved_handed

@@ -87,7 +87,7 @@ module _ {S P : Type 0} (rules : ReadRules P) where
         let rose = zero_rose end.seen t.block m.log t.log end.read end.ordered.room in
         let once = asked_once end.seen t.block m.log t.log 0 end.read in
         record {
-          enough = λ _. inr (omega (arith, facts.zero_answers, rose));
+          enough = λ _. inr (omega (arith, facts.zero_reads, rose));
           few = λ no. cc;
           asks = omega (arith, once, facts.asks, facts.longer, found.ok.0);
           untouched = λ enough. absurd (omega (arith, facts.longer, found.ok.0, enough));
@@ -166,7 +166,7 @@ module _ {S P : Type 0} (rules : ReadRules P) where
     steady_ok k m t a whole h (inr (inr end)) =
         let facts = turns_facts rules k s m h in
         let rose = zero_rose end.seen t.block m.log t.log end.read end.ordered.room in
-        record { faulted = λ no. cc; empty = λ _ _ _. omega (arith, facts.zero_answers, rose) }
+        record { faulted = λ no. cc; empty = λ _ _ _. omega (arith, facts.zero_reads, rose) }
 
     steady_err : (A : Type 0) (k : ℕ) (m t : Buffered S P) (e : Error)
         → Turns rules k s m → Ends {A = A} rules m (Err e) t → SteadyFill s false t
@@ -210,7 +210,7 @@ module _ {S P : Type 0} (rules : ReadRules P) where
           block = seen;
           inner = t.inner;
           log = m.log;
-          calls = t.calls;
+          own_calls = t.own_calls;
         } in
         Spared-joins keep m ordered t (spared_asked k m ordered read_now h asked refl)
         (Spared-read keep ordered t answer read)

@@ -5,7 +5,7 @@ use Rattle.std.proofs.lemmas.List.{nil_from_length}
 use Rattle.std.specs.declared.io.Error.{Error}
 use Rattle.redux_buffer.specs.Block.{Block, Kind, Plain, Ring, OnKind, IsBlock, usable}
 use Rattle.redux_tell.specs.LogGrows.{ReadLogGrows, ReadLogGrows-none, ReadLogGrows-joins, ReadLogGrows-read}
-use Rattle.redux_tell.specs.StreamLog.{StreamLog, taken, after_read}
+use Rattle.redux_tell.specs.StreamLog.{StreamLog, portion, after_read}
 use Rattle.redux_buffer.specs.Transfer.{ReadsOnce, ReadsFrom}
 use Rattle.redux_policy.specs.Policy.{no_read, read_now, ReadRules, BeforeRead}
 use Rattle.redux_policy.specs.declared.DoRead.{DoRead}
@@ -16,8 +16,8 @@ use Rattle.buffer_redux.specs.ReaderLaws.{ReadsInOrder-none, ReadsInOrder-joins}
 
 -- one read that gave n bytes
 module _ (b b' : Block) (log log' : StreamLog) (n : ℕ) (read : ReadsOnce b log (Ok n) b' log') where
-  zero_kept : 0 < n → log'.reads.zero_answers ≡ log.reads.zero_answers
-  zero_kept some = ap (λ l. l.reads.zero_answers) read.told ∙ grind arith
+  zero_kept : 0 < n → log'.reads.zero_reads ≡ log.reads.zero_reads
+  zero_kept some = ap (λ l. l.reads.zero_reads) read.told ∙ grind arith
 
   pub asked_once : log'.reads.asks ≡ log.reads.asks + 1
   asked_once = ap (λ l. l.reads.asks) read.told
@@ -41,8 +41,8 @@ pub full_empty : (b : Block) → IsBlock b → usable b ≡ 0 → length b.bytes
 full_empty b whole full none = full_empty_at b b.kind whole.space full none
 
 pub zero_rose : (b b' : Block) (log log' : StreamLog)
-    → ReadsOnce b log (Ok 0) b' log' → 0 < usable b → log'.reads.zero_answers ≡ log.reads.zero_answers + 1
-zero_rose b b' log log' read room = ap (λ l. l.reads.zero_answers) read.told ∙ grind (arith, read.offered)
+    → ReadsOnce b log (Ok 0) b' log' → 0 < usable b → log'.reads.zero_reads ≡ log.reads.zero_reads + 1
+zero_rose b b' log log' read room = ap (λ l. l.reads.zero_reads) read.told ∙ grind (arith, read.offered)
 
 -- a read lets its log go on
 read_grows : (b b' : Block) (log log' : StreamLog) (answer : Result ℕ Error)
@@ -56,7 +56,7 @@ pub ReadsInOrder-read_from : {S P : Type 0} (s t : Buffered S P) (answer : Resul
 ReadsInOrder-read_from s t answer read = elim (cases_lt 0 (usable s.block)) [
   | inl room ↦
       (let once = read.read room in record {
-        got = taken once.out answer;
+        got = portion once.out answer;
         given = ap (λ l. l.reads.given) once.told;
         equal = once.added.bytes;
       })
@@ -81,15 +81,15 @@ read_from_grows b b' log log' answer read = elim (cases_lt 0 (usable b)) [
 
 -- one read past an empty buffer
 pub ReadsInOrder-direct : {S P : Type 0} (s t : Buffered S P) (out : List ℕ) (answer : Result ℕ Error)
-    → GoesDirect after_read s out answer t → length s.block.bytes ≡ 0 → ReadsInOrder s (taken out answer) t
+    → GoesDirect after_read s out answer t → length s.block.bytes ≡ 0 → ReadsInOrder s (portion out answer) t
 ReadsInOrder-direct s t out answer direct none =
     let empty = nil_from_length s.block.bytes none in record {
-      got = taken out answer;
+      got = portion out answer;
       given = ap (λ l. l.reads.given) direct.told;
       equal =
-          ap (λ b. taken out answer ++ b.bytes) direct.block ∙ ap (λ l. taken out answer ++ l) empty
-          ∙ append-nil (taken out answer)
-          ∙ ap (λ l. l ++ taken out answer) (sym empty);
+          ap (λ b. portion out answer ++ b.bytes) direct.block ∙ ap (λ l. portion out answer ++ l) empty
+          ∙ append-nil (portion out answer)
+          ∙ ap (λ l. l ++ portion out answer) (sym empty);
     }
 
 -- a read through the buffer that hands out nothing though there is room has found some capacity
@@ -153,9 +153,9 @@ module _ {S P : Type 0} (rules : ReadRules P) where
       → ReadsOnce seen s.log answer t.block t.log → Holds s t
   Holds-read s t seen order answer asked read = record {
     in_order = record {
-      got = taken read.out answer;
+      got = portion read.out answer;
       given = ap (λ l. l.reads.given) read.told;
-      equal = read.added.bytes ∙ ap (λ l. l ++ taken read.out answer) asked.law.bytes;
+      equal = read.added.bytes ∙ ap (λ l. l ++ portion read.out answer) asked.law.bytes;
     };
     grows = read_grows seen t.block s.log t.log answer read;
     kind = read.added.kind ∙ asked.law.kind;
@@ -170,12 +170,12 @@ module _ {S P : Type 0} (rules : ReadRules P) where
   empty_read s m t (inl said) room handed = inl (record { filled = m; declined = said; handed = handed })
   empty_read s m t (inr (inl none)) room handed = absurd (omega (arith, none, room))
   empty_read s m t (inr (inr rose)) room handed =
-      inr (omega (arith, ap (λ l. l.reads.zero_answers) handed.told, rose))
+      inr (omega (arith, ap (λ l. l.reads.zero_reads) handed.told, rose))
 
   pub record TurnsFacts (k : ℕ) (s t : Buffered S P) : Type 0 where
     pub holds : Holds s t
     pub faults : t.log.reads.faults ≡ s.log.reads.faults
-    pub zero_answers : t.log.reads.zero_answers ≡ s.log.reads.zero_answers
+    pub zero_reads : t.log.reads.zero_reads ≡ s.log.reads.zero_reads
     pub asks : t.log.reads.asks ≡ s.log.reads.asks + k
     pub longer : length s.block.bytes + k ≤ length t.block.bytes
 
@@ -183,7 +183,7 @@ module _ {S P : Type 0} (rules : ReadRules P) where
   same_facts s = record {
     holds = Holds-none s;
     faults = refl;
-    zero_answers = refl;
+    zero_reads = refl;
     asks = omega arith;
     longer = omega arith;
   }
@@ -201,8 +201,8 @@ module _ {S P : Type 0} (rules : ReadRules P) where
       record {
         holds = Holds-joins s m t before.holds (Holds-read m t turn.seen _ (Ok turn.count) asked read);
         faults = ap (λ l. l.reads.faults) read.told ∙ before.faults;
-        zero_answers =
-            zero_kept turn.seen t.block m.log t.log turn.count read turn.some ∙ before.zero_answers;
+        zero_reads =
+            zero_kept turn.seen t.block m.log t.log turn.count read turn.some ∙ before.zero_reads;
         asks = omega (arith, once, before.asks);
         longer = omega (arith, more, before.longer, turn.some, ap length asked.law.bytes);
       }
@@ -280,8 +280,8 @@ module _ {S P : Type 0} (rules : ReadRules P) where
       let rose = zero_rose end.seen t.block m.log t.log end.read end.ordered.room in record {
         holds = Holds-joins s m t before.holds (Holds-read m t end.seen _ (Ok 0) end.ordered.asked end.read);
         caused = ap (λ l. l.reads.faults) end.read.told ∙ before.faults;
-        ended = inr (inr (omega (arith, before.zero_answers, rose)));
-        empty = λ _ none. inr (inr (omega (arith, before.zero_answers, rose)));
+        ended = inr (inr (omega (arith, before.zero_reads, rose)));
+        empty = λ _ none. inr (inr (omega (arith, before.zero_reads, rose)));
         last = λ some. asked_last k s m t t.policy end.seen t.block (Ok 0) t.log turns end.ordered end.read refl;
       }
 

@@ -38,12 +38,12 @@ has_room (suc c) e = omega arith
 
 -- in a turn the reader didn't run dry, nor in a read that failed
 pub dry_never : {S P : Type 0} (rules : ReadRules P) (k : ℕ) (s m : Buffered S P)
-    → Turns rules k s m → s.log.reads.zero_answers < m.log.reads.zero_answers → ⊥
-dry_never rules k s m turns rose = omega (arith, rose, (turns_facts rules k s m turns).zero_answers)
+    → Turns rules k s m → s.log.reads.zero_reads < m.log.reads.zero_reads → ⊥
+dry_never rules k s m turns rose = omega (arith, rose, (turns_facts rules k s m turns).zero_reads)
 
 pub err_counts_none : (b b' : Block) (log log' : StreamLog) (e : Error)
-    → ReadsFrom b log (Err e) b' log' → 0 < usable b → log'.reads.zero_answers ≡ log.reads.zero_answers
-err_counts_none b b' log log' e read room = ap (λ l. l.reads.zero_answers) (read.read room).told
+    → ReadsFrom b log (Err e) b' log' → 0 < usable b → log'.reads.zero_reads ≡ log.reads.zero_reads
+err_counts_none b b' log log' e read room = ap (λ l. l.reads.zero_reads) (read.read room).told
 
 pub IfSome_any : (o : Option (List ℕ)) (P : List ℕ → Type 0) → ((xs : List ℕ) → P xs) → IfSome o P
 IfSome_any None P h = tt

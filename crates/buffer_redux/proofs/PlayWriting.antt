@@ -7,7 +7,7 @@ use Rattle.buffer_redux.specs.declared.play.WriterAnswer.{WriterAnswer}
 use Rattle.redux_policy.specs.Policy.{WriteRules}
 use Rattle.buffer_redux.specs.Buffered.{Buffered}
 use Rattle.buffer_redux.specs.WriterLaws.{WritesInOrder-none, WritesInOrder-joins}
-use Rattle.buffer_redux.specs.PlayWriter.{Accepts, WriterStep, WriterRuns, WriterPlays, accepted, accepted_by}
+use Rattle.buffer_redux.specs.PlayWriter.{Accepts, WriterStep, WriterRuns, WriterPlays, accepted_bytes, bytes_accepted_by}
 
 Accepts-none : {S P : Type 0} (s : Buffered S P) → Accepts s [] s
 Accepts-none s = record {
@@ -46,12 +46,12 @@ module _ {S P : Type 0} (rules : WriteRules P) where
   -- what a run accepted
   WriterRuns-accepts : (s : Buffered S P) (calls : List WriterCall) (answers : List WriterAnswer)
       (t : Buffered S P)
-      → WriterRuns rules s calls answers t → Accepts s (accepted calls answers) t
+      → WriterRuns rules s calls answers t → Accepts s (accepted_bytes calls answers) t
   WriterRuns-accepts s [] [] t e = subst (Accepts s []) e (Accepts-none s)
   WriterRuns-accepts s [] (a ∷ answers) t e = absurd e
   WriterRuns-accepts s (c ∷ calls) [] t e = absurd e
   WriterRuns-accepts s (c ∷ calls) (a ∷ answers) t h =
-      Accepts-joins s h.0 t (accepted_by c a) (accepted calls answers) h.1.accepts
+      Accepts-joins s h.0 t (bytes_accepted_by c a) (accepted_bytes calls answers) h.1.accepts
       (WriterRuns-accepts h.0 calls answers t h.2)
 
   -- where the player stops, at the end or at a call that it didn't begin

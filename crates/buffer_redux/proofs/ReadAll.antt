@@ -10,7 +10,7 @@ use Rattle.std.specs.declared.io.Error.{Error}
 use Rattle.std.specs.declared.io.ErrorKind.TheVariants.{Interrupted, UnexpectedEof}
 use Rattle.redux_buffer.specs.Block.{IsBlock}
 use Rattle.redux_tell.specs.LogGrows.{ReadLogGrows-none, ReadLogGrows-joins}
-use Rattle.redux_tell.specs.StreamLog.{taken, after_read}
+use Rattle.redux_tell.specs.StreamLog.{portion, after_read}
 use Rattle.redux_policy.specs.Policy.{ReadRules, ClaimsToSpare}
 use Rattle.buffer_redux.specs.AllBytes.{GoesBy, EndsBy, GaveUp}
 use Rattle.buffer_redux.specs.Buffered.{Buffered, GoesPast, StaysInside, GoesDirect}
@@ -23,7 +23,7 @@ use Rattle.buffer_redux.proofs.WriteAll.{one_more, none_taken, not_interrupted}
 
 -- how many bytes a turn took that was gone on from
 pub taken_by : (answer : Result ℕ Error) (n : ℕ) → GoesBy answer n → (slice : List ℕ) → ReadsAtMost answer slice
-    → (n ≤ length slice) × (taken slice answer ≡ take n slice)
+    → (n ≤ length slice) × (portion slice answer ≡ take n slice)
 taken_by (Ok k) n goes slice bound = (omega (arith, goes.1, bound.0), ap (λ x. take x slice) (sym goes.1))
 taken_by (Err e) n goes slice bound = (omega (arith, goes.1), sym (ap (λ x. take x slice) goes.1))
 
@@ -99,7 +99,7 @@ module _ {S P : Type 0} (remaining : S → Option (List ℕ)) (rules : ReadRules
       pub turned_more : (n : ℕ) → GoesBy answer n → Turned s room (turns + 1) (handed ++ take n slice) t
       turned_more n goes =
           let took = taken_by answer n goes slice one.bound in
-          let same : handed ++ taken slice answer ≡ handed ++ take n slice = ap (λ l. handed ++ l) took.1 in
+          let same : handed ++ portion slice answer ≡ handed ++ take n slice = ap (λ l. handed ++ l) took.1 in
           record {
             within = omega (
               arith,
@@ -125,7 +125,7 @@ module _ {S P : Type 0} (remaining : S → Option (List ℕ)) (rules : ReadRules
               },
             );
             front = subst (λ l. HandedFront remaining rules s l t) same
-                (front_joins s m t handed (taken slice answer) before.front one.front);
+                (front_joins s m t handed (portion slice answer) before.front one.front);
           }
 
       pub ended_failed : (out : List ℕ) (at : ℕ) → length out ≡ room → at ≤ length out → take at out ≡ handed
@@ -141,7 +141,7 @@ module _ {S P : Type 0} (remaining : S → Option (List ℕ)) (rules : ReadRules
             first = rw same before.front;
             front = rw same (subst (λ l. HandedFront remaining rules s l t)
                 (ap (λ l. handed ++ l) (none_taken UnexpectedEof answer e ends slice) ∙ append-nil handed)
-                (front_joins s m t handed (taken slice answer) before.front one.front));
+                (front_joins s m t handed (portion slice answer) before.front one.front));
             ended = inl (record {
               some = omega (arith, fewer, count, long);
               slice = slice;
@@ -232,7 +232,7 @@ module _ {S P : Type 0} (remaining : S → Option (List ℕ)) (rules : ReadRules
       → length slice ≡ n → IsBlock s.block → ReadsAtMost answer slice
       → (GoesPast s.block n → GoesDirect after_read s slice answer t)
       → (StaysInside s.block n → ReadsBuffered rules s n answer t)
-      → HandedFront remaining rules s (taken slice answer) t → ReadErrorCaused rules s answer t
+      → HandedFront remaining rules s (portion slice answer) t → ReadErrorCaused rules s answer t
       → (answer ≡ Ok 0 → 0 < n → EmptyReadCaused rules s t)
       → (answer ≡ Ok 0 → 0 < n → WantsBytes (rules.claims s.policy) → RanDry s t)
       → OneRead remaining rules s slice answer t

@@ -6,7 +6,7 @@ use Rattle.std.specs.Io.KnownBytes.{IsAtEnd, ReadConsumes}
 use Rattle.std.specs.declared.io.Error.{Error}
 use Rattle.redux_buffer.specs.Block.{IsBlock, usable}
 use Rattle.redux_tell.specs.LogGrows.{ReadLogGrows, ReadLogGrows-joins}
-use Rattle.redux_tell.specs.StreamLog.{taken}
+use Rattle.redux_tell.specs.StreamLog.{portion}
 use Rattle.redux_buffer.specs.Transfer.{ReadsFrom}
 use Rattle.redux_policy.specs.declared.DoRead.{DoRead}
 use Rattle.redux_policy.specs.Policy.{ReadRules, ClaimsToSpare, read_now}
@@ -50,7 +50,7 @@ pub record ReadInto {S P : Type 0} (remaining : S → Option (List ℕ)) (m : Bu
   pub read : ReadsFrom m.block m.log answer t.block t.log
   pub known : InnerGives remaining m t
   pub policy : t.policy ≡ m.policy
-  pub noted : t.calls ≡ m.calls
+  pub noted : t.own_calls ≡ m.own_calls
   pub whole : IsBlock t.block
 
 module _ {S P : Type 0} (remaining : S → Option (List ℕ)) (rules : ReadRules P) (s m : Buffered S P) where
@@ -60,7 +60,7 @@ module _ {S P : Type 0} (remaining : S → Option (List ℕ)) (rules : ReadRules
     quietly a f = record {
       filled = f;
       known = InnerGives-same remaining s m asked.inner asked.told;
-      ended = λ rose. absurd (omega (arith, rose, ap (λ l. l.reads.zero_answers) asked.told));
+      ended = λ rose. absurd (omega (arith, rose, ap (λ l. l.reads.zero_reads) asked.told));
       noted = asked.noted;
       whole = asked.asked.law.whole asked.whole;
     }
@@ -85,7 +85,7 @@ module _ {S P : Type 0} (remaining : S → Option (List ℕ)) (rules : ReadRules
   refused_did e asked = record {
     filled = record { count = 0; last = s; turns = refl; ends = inl (record { asked = asked.asked; told = asked.told }) };
     known = InnerGives-same remaining s m asked.inner asked.told;
-    ended = λ rose. absurd (omega (arith, rose, ap (λ l. l.reads.zero_answers) asked.told));
+    ended = λ rose. absurd (omega (arith, rose, ap (λ l. l.reads.zero_reads) asked.told));
     noted = asked.noted;
     whole = asked.asked.law.whole asked.whole;
   }
@@ -113,7 +113,7 @@ module _ {S P : Type 0} (remaining : S → Option (List ℕ)) (rules : ReadRules
         arith,
         rose,
         err_counts_none m.block t.block m.log t.log e r.read room,
-        ap (λ l. l.reads.zero_answers) asked.told,
+        ap (λ l. l.reads.zero_reads) asked.told,
       ));
       noted = r.noted ∙ asked.noted;
       whole = r.whole;
@@ -145,7 +145,7 @@ module _ {S P : Type 0} (remaining : S → Option (List ℕ)) (rules : ReadRules
         record {
           filled = filled_after rules s t u answer turn f.filled;
           known = InnerGives-joins remaining s t u (known_since r.known) f.known;
-          ended = λ rose. f.ended (omega (arith, rose, facts.zero_answers));
+          ended = λ rose. f.ended (omega (arith, rose, facts.zero_reads));
           noted = f.noted ∙ r.noted ∙ asked.noted;
           whole = f.whole;
         }
@@ -156,7 +156,7 @@ pub record ReadSays {S P : Type 0} (remaining : S → Option (List ℕ)) (rules 
   pub bound : ReadsAtMost answer out'
   pub bytes : ReadConsumes (reader_remaining remaining rules s) (reader_remaining remaining rules t) answer out'
   pub known : InnerGives remaining s t
-  pub in_order : ReadsInOrder s (taken out' answer) t
+  pub in_order : ReadsInOrder s (portion out' answer) t
   pub grows : ReadLogGrows s.log.reads t.log.reads
   pub caused : ReadErrorCaused rules s answer t
   pub empty : answer ≡ Ok 0 → 0 < length out → EmptyReadCaused rules s t
@@ -168,7 +168,7 @@ pub record ReadSays {S P : Type 0} (remaining : S → Option (List ℕ)) (rules 
   pub whole : IsBlock t.block
   pub buffered : ReadsBuffered rules s (length out) answer t
   pub rest : LeavesRest out answer out'
-  pub noted : t.calls ≡ s.calls
+  pub noted : t.own_calls ≡ s.own_calls
   pub long : length out' ≡ length out
 
 module _ {S P : Type 0} (remaining : S → Option (List ℕ)) (rules : ReadRules P) (s : Buffered S P) (out : List ℕ) where
@@ -256,7 +256,7 @@ module _ {S P : Type 0} (remaining : S → Option (List ℕ)) (rules : ReadRules
             (subst (λ k. ReaderConsumes rules k r.filled t) (cc) r.hands.consumed);
         ran_dry = λ is some wants.
             let dry = inside_dry n out' t r inside (cc) some wants in
-            omega (arith, dry, ap (λ l. l.reads.zero_answers) r.hands.consumed.told);
+            omega (arith, dry, ap (λ l. l.reads.zero_reads) r.hands.consumed.told);
         capacity = le_trans f.capacity r.hands.capacity;
         kind = r.hands.consumed.told_policy.law.kind ∙ r.hands.consumed.dropped.kind ∙ f.kind;
         claims = inside_claims n out' t r inside;

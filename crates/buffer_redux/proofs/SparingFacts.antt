@@ -3,7 +3,7 @@ use Rattle.std.proofs.Common.{◌≡◌, ℕ, length, Result, Option, None, Some
 use Rattle.std.specs.Bool.{⊤}
 use Rattle.std.specs.declared.io.Error.{Error}
 use Rattle.redux_buffer.specs.Potential.{of_plain, potential-append}
-use Rattle.redux_tell.specs.StreamLog.{taken}
+use Rattle.redux_tell.specs.StreamLog.{portion}
 use Rattle.redux_buffer.specs.Transfer.{ReadsOnce}
 use Rattle.redux_policy.specs.Policy.{ClaimsToSpare, Lawful, Spares, SparesPlain}
 use Rattle.buffer_redux.specs.Buffered.{Buffered}
@@ -23,7 +23,7 @@ module _ {S P Q : Type 0} (keep : ℕ) (s : Buffered S P) (t : Buffered S Q) whe
 
   pub Spared-read : (answer : Result ℕ Error) → ReadsOnce s.block s.log answer t.block t.log → Spared keep s t
   Spared-read answer read =
-      let came = taken read.out answer in
+      let came = portion read.out answer in
       let more = ap (λ l. length l.reads.given) read.told in
       let sum = length-append s.log.reads.given came in
       record {

@@ -11,7 +11,7 @@ use Rattle.redux_tell.specs.StreamLog.{StreamLog, WriteLog, with_end, zero_of_so
 use Rattle.redux_tell.specs.LogGrows.{ReadLogGrows, WriteLogGrows, FillLogGrows}
 use Rattle.redux_tell.specs.Faults.{IsInterrupt, MetInterrupts, MetInterrupts-err, TookNothing, SendErrorCaused}
 use Rattle.redux_policy.specs.Policy.{ReadRules, WriteRules, ReadsSteadily}
-use Rattle.buffer_redux.specs.Buffered.{Buffered, with_policy}
+use Rattle.buffer_redux.specs.Buffered.{Buffered, with_calls, with_policy}
 use Rattle.buffer_redux.specs.Fill.{Ends, Filled}
 use Rattle.redux_tell.specs.GivesRemaining.{GivesRemaining}
 use Rattle.buffer_redux.specs.BufReader.{Fills, InnerGives}
@@ -41,7 +41,7 @@ fill_grows : {A : Type 0} (log : StreamLog) (answer : Result A Error) (shown : L
 fill_grows log (Ok a) shown =
     record {
       consumed = GoesOn-none log.fills.consumed;
-      ends = end_rises log.fills.ends shown;
+      ends = end_rises log.fills.zero_fills shown;
       faults = GoesOn-none log.fills.faults;
     }
 fill_grows log (Err e) shown =
@@ -50,16 +50,6 @@ fill_grows log (Err e) shown =
       ends = le_refl _;
       faults = record { more = e ∷ []; equal = refl };
     }
-
--- what noting a call changes: the log of calls
-abbrev pub with_calls : {S P : Type 0} → Buffered S P → StreamLog → Buffered S P
-with_calls s calls = record {
-  policy = s.policy;
-  block = s.block;
-  inner = s.inner;
-  log = s.log;
-  calls = calls;
-}
 
 -- noting a call changes nothing of what filling, a write or a flush did
 module _ {S P A : Type 0} (rules : ReadRules P) (t : Buffered S P) (calls : StreamLog) where
@@ -158,14 +148,13 @@ module _ {S P : Type 0} (remaining : S → Option (List ℕ)) (rules : ReadRules
   block : t.block ≡ m.block
   block = ap (λ x. x.block) is
 
-  faults_alike : (answer : Result (Unit {0}) Error)
-      → Fills rules s answer m → (rules.claims s.policy).steady ≡ true
-      → FaultsAlike s.calls.fills.faults (after_fill s.calls answer t.block.bytes).fills.faults
+  faults_alike : (answer : Result (Unit {0}) Error) → Fills rules s answer m → (rules.claims s.policy).steady ≡ true
+      → FaultsAlike s.own_calls.fills.faults (after_fill s.own_calls answer t.block.bytes).fills.faults
       s.log.reads.faults m.log.reads.faults
   faults_alike (Ok a) f steady =
       record {
         more = [];
-        first = sym (append-nil s.calls.fills.faults);
+        first = sym (append-nil s.own_calls.fills.faults);
         second = f.caused ∙ sym (append-nil s.log.reads.faults);
       }
   faults_alike (Err e) f steady = record {
@@ -181,25 +170,25 @@ module _ {S P : Type 0} (remaining : S → Option (List ℕ)) (rules : ReadRules
 
   ends_bound : (answer : Result (Unit {0}) Error)
       → Fills rules s answer m → WantsBytes (rules.claims s.policy) → 0 < s.block.capacity
-      → (after_fill s.calls answer t.block.bytes).fills.ends + s.log.reads.zero_answers
-      ≤ s.calls.fills.ends + m.log.reads.zero_answers
+      → (after_fill s.own_calls answer t.block.bytes).fills.zero_fills + s.log.reads.zero_reads
+      ≤ s.own_calls.fills.zero_fills + m.log.reads.zero_reads
   ends_bound (Ok a) f wants room = elim (cases_lt 0 (length t.block.bytes)) [
-    | inl some ↦ omega (arith, end_same s.calls.fills.ends t.block.bytes some, f.grows.zero_answers)
+    | inl some ↦ omega (arith, end_same s.own_calls.fills.zero_fills t.block.bytes some, f.grows.zero_reads)
     | inr few ↦ (
         let none : length t.block.bytes ≡ 0 = omega (arith, few) in
         let dry = Fills-empty rules s a m f wants room (ap (λ b. length b.bytes) (sym block) ∙ none) in
-        omega (arith, end_noted s.calls.fills.ends t.block.bytes none, dry)
+        omega (arith, end_noted s.own_calls.fills.zero_fills t.block.bytes none, dry)
         )
   ]
-  ends_bound (Err e) f wants room = omega (arith, f.grows.zero_answers)
+  ends_bound (Err e) f wants room = omega (arith, f.grows.zero_reads)
 
   pub filled_went : (answer : Result (Unit {0}) Error) → Fills rules s answer m → InnerGives remaining s m
-      → calls ≡ after_fill s.calls answer t.block.bytes → ReaderWent remaining rules s (with_calls t calls)
+      → calls ≡ after_fill s.own_calls answer t.block.bytes → ReaderWent remaining rules s (with_calls t calls)
   filled_went answer f gives noted = record {
     handed = [];
     consumed =
-        ap (λ l. l.fills.consumed) noted ∙ consumed_stays s.calls answer t.block.bytes
-        ∙ sym (append-nil s.calls.fills.consumed);
+        ap (λ l. l.fills.consumed) noted ∙ consumed_stays s.own_calls answer t.block.bytes
+        ∙ sym (append-nil s.own_calls.fills.consumed);
     in_order = record {
       got = f.in_order.got;
       given = ap (λ l. l.reads.given) log ∙ f.in_order.given;
@@ -210,21 +199,21 @@ module _ {S P : Type 0} (remaining : S → Option (List ℕ)) (rules : ReadRules
         (sym (ap (λ x. x.inner) is)) gives);
     grows = subst (λ l. ReadLogGrows s.log.reads l.reads) (sym log) f.grows;
     own_grows =
-        subst (λ l. FillLogGrows s.calls.fills l.fills) (sym noted) (fill_grows s.calls answer t.block.bytes);
+        subst (λ l. FillLogGrows s.own_calls.fills l.fills) (sym noted) (fill_grows s.own_calls answer t.block.bytes);
     capacity = omega (arith, ap (λ b. b.capacity) block, f.capacity);
     claims = ap (λ x. rules.claims x.policy) is ∙ f.claims;
     faults = λ steady.
-        subst (λ l. FaultsAlike s.calls.fills.faults l.fills.faults s.log.reads.faults t.log.reads.faults)
+        subst (λ l. FaultsAlike s.own_calls.fills.faults l.fills.faults s.log.reads.faults t.log.reads.faults)
         (sym noted)
-        (subst (λ l. FaultsAlike s.calls.fills.faults (after_fill s.calls answer t.block.bytes).fills.faults
+        (subst (λ l. FaultsAlike s.own_calls.fills.faults (after_fill s.own_calls answer t.block.bytes).fills.faults
         s.log.reads.faults l.reads.faults) (sym log)
         (faults_alike answer f steady));
     ends = λ wants room.
         omega (
           arith,
           ends_bound answer f wants room,
-          ap (λ l. l.fills.ends) noted,
-          ap (λ l. l.reads.zero_answers) log,
+          ap (λ l. l.fills.zero_fills) noted,
+          ap (λ l. l.reads.zero_reads) log,
         );
   }
 
@@ -233,8 +222,7 @@ failures_kept : (old new : WriteLog) → WriteLogGrows old new → failures old 
 failures_kept old new on =
     omega (arith, on.zero_writes, ap length on.faults.equal, length-append old.faults on.faults.more)
 
-failures_rise : (old new : WriteLog) → WriteLogGrows old new → WriterFailed old new
-    → failures old + 1 ≤ failures new
+failures_rise : (old new : WriteLog) → WriteLogGrows old new → WriterFailed old new → failures old + 1 ≤ failures new
 failures_rise old new on (inl fault) = omega (arith, fault, on.zero_writes)
 failures_rise old new on (inr zero) =
     omega (arith, zero, ap length on.faults.equal, length-append old.faults on.faults.more)
@@ -243,19 +231,19 @@ failures_rise old new on (inr zero) =
 -- writer's
 pub write_fails : {S P : Type 0} (s t : Buffered S P) (bs : List ℕ) (answer : Result ℕ Error)
     → WriteLogGrows s.log.writes t.log.writes → SteadyWrite s (length bs) answer t
-    → failures (after_write s.calls bs answer).writes + failures s.log.writes
-    ≤ failures s.calls.writes + failures t.log.writes
+    → failures (after_write s.own_calls bs answer).writes + failures s.log.writes
+    ≤ failures s.own_calls.writes + failures t.log.writes
 write_fails s t bs (Err e) on steadily =
     omega (
       arith,
       failures_rise s.log.writes t.log.writes on steadily.err,
-      length-append s.calls.writes.faults (e ∷ []),
+      length-append s.own_calls.writes.faults (e ∷ []),
     )
 write_fails s t bs (Ok n) on steadily = elim (cases_lt 0 n) [
   | inl some ↦
       omega (
         arith,
-        zero_of_some n bs s.calls.writes.zero_writes (inl some),
+        zero_of_some n bs s.own_calls.writes.zero_writes (inl some),
         failures_kept s.log.writes t.log.writes on,
       )
   | inr none ↦ elim (cases_lt 0 (length bs)) [
@@ -264,14 +252,14 @@ write_fails s t bs (Ok n) on steadily = elim (cases_lt 0 n) [
         let nothing = steadily.empty (ap Ok zero) given in
         omega (
           arith,
-          zero_of_none n bs s.calls.writes.zero_writes zero given,
+          zero_of_none n bs s.own_calls.writes.zero_writes zero given,
           failures_rise s.log.writes t.log.writes on (inr nothing),
         )
         )
     | inr empty ↦
         omega (
           arith,
-          zero_of_some n bs s.calls.writes.zero_writes (inr (omega (arith, empty))),
+          zero_of_some n bs s.own_calls.writes.zero_writes (inr (omega (arith, empty))),
           failures_kept s.log.writes t.log.writes on,
         )
   ]
@@ -279,15 +267,14 @@ write_fails s t bs (Ok n) on steadily = elim (cases_lt 0 n) [
 
 -- and so is a failed flush
 pub flush_fails : {S P : Type 0} (s t : Buffered S P) (answer : Result (Unit {0}) Error)
-    → WriteLogGrows s.log.writes t.log.writes
-    → IfErr answer (λ e. SendErrorCaused s.log.writes t.log.writes e)
-    → failures (after_flush s.calls answer).writes + failures s.log.writes
-    ≤ failures s.calls.writes + failures t.log.writes
+    → WriteLogGrows s.log.writes t.log.writes → IfErr answer (λ e. SendErrorCaused s.log.writes t.log.writes e)
+    → failures (after_flush s.own_calls answer).writes + failures s.log.writes
+    ≤ failures s.own_calls.writes + failures t.log.writes
 flush_fails s t (Ok a) on caused = omega (arith, failures_kept s.log.writes t.log.writes on)
 flush_fails s t (Err e) on caused = omega (
   arith,
   failures_rise s.log.writes t.log.writes on (blamed s.log.writes t.log.writes e caused),
-  length-append s.calls.writes.faults (e ∷ []),
+  length-append s.own_calls.writes.faults (e ∷ []),
 )
 
 -- a call of a writer that was noted
@@ -297,8 +284,8 @@ pub call_went : {S P : Type 0} (stretch : S → S → Type 0) (rules : WriteRule
     → WriteLogGrows (writer_log s).writes (writer_log (with_calls t calls)).writes
     → s.block.capacity ≤ m.block.capacity → rules.claims m.policy ≡ rules.claims s.policy
     → ((rules.claims s.policy).steady ≡ true
-    → failures noted.writes + failures s.log.writes ≤ failures s.calls.writes + failures m.log.writes)
-    → (TellsFailures rules s.policy → MetInterrupts s.calls.writes noted.writes
+    → failures noted.writes + failures s.log.writes ≤ failures s.own_calls.writes + failures m.log.writes)
+    → (TellsFailures rules s.policy → MetInterrupts s.own_calls.writes noted.writes
     → MetInterrupts s.log.writes m.log.writes)
     → WriterWent stretch rules s (with_calls t calls)
 call_went stretch rules s m t calls noted is told went grows own capacity claims fails met =
@@ -315,7 +302,7 @@ call_went stretch rules s m t calls noted is told went grows own capacity claims
         ap (λ l. failures l.writes) log,
       );
       met = λ tells only. subst (λ l. MetInterrupts s.log.writes l.writes) (sym log)
-          (met tells (subst (λ l. MetInterrupts s.calls.writes l.writes) told only));
+          (met tells (subst (λ l. MetInterrupts s.own_calls.writes l.writes) told only));
     }
 
 -- of one call: its own fault, and that there is none
@@ -341,7 +328,7 @@ module _ {S P : Type 0} (rules : WriteRules P) (s t : Buffered S P) (bs : List �
     (tells : TellsFailures rules s.policy) where
   pub write_met : (answer : Result ℕ Error)
       → Writes rules s bs answer t → WriteErrorCaused rules s bs answer t
-      → MetInterrupts s.calls.writes (after_write s.calls bs answer).writes
+      → MetInterrupts s.own_calls.writes (after_write s.own_calls bs answer).writes
       → MetInterrupts s.log.writes t.log.writes
   write_met (Ok n) wrote caused own = elim (Wrote-met rules s bs n t tells.1 wrote).met [
     | inl only ↦ record { interrupts = _; only = only }
@@ -349,26 +336,26 @@ module _ {S P : Type 0} (rules : WriteRules P) (s t : Buffered S P) (bs : List �
         absurd (omega (
           arith,
           own.only.zero_writes,
-          zero_of_none n bs s.calls.writes.zero_writes nothing.0 nothing.1,
+          zero_of_none n bs s.own_calls.writes.zero_writes nothing.0 nothing.1,
         ))
   ]
-  write_met (Err e) failed caused own = err_met s.calls.writes (after_write s.calls bs (Err e)).writes
+  write_met (Err e) failed caused own = err_met s.own_calls.writes (after_write s.own_calls bs (Err e)).writes
       s.log.writes t.log.writes e refl
       (steady_caused rules s t bs e tells.0 caused) own
 
   pub write_fault : (answer : Result ℕ Error) (f : Error)
       → WriteErrorCaused rules s bs answer t
-      → (after_write s.calls bs answer).writes.faults ≡ s.calls.writes.faults ++ f ∷ []
+      → (after_write s.own_calls bs answer).writes.faults ≡ s.own_calls.writes.faults ++ f ∷ []
       → SendErrorCaused s.log.writes t.log.writes f
-  write_fault (Ok n) f caused odd = absurd (no_fault s.calls.writes.faults f odd)
+  write_fault (Ok n) f caused odd = absurd (no_fault s.own_calls.writes.faults f odd)
   write_fault (Err e) f caused same =
       subst (SendErrorCaused s.log.writes t.log.writes)
-      (same_fault s.calls.writes.faults e f same)
+      (same_fault s.own_calls.writes.faults e f same)
       (steady_caused rules s t bs e tells.0 caused)
 
   pub write_nothing : (answer : Result ℕ Error)
       → Writes rules s bs answer t → SteadyWrite s (length bs) answer t
-      → (after_write s.calls bs answer).writes.zero_writes ≡ s.calls.writes.zero_writes + 1
+      → (after_write s.own_calls bs answer).writes.zero_writes ≡ s.own_calls.writes.zero_writes + 1
       → (interrupts : List Error) × TookNothing interrupts s.log.writes t.log.writes WriteZero
   write_nothing (Err e) failed steadily odd = absurd (omega (arith, odd))
   write_nothing (Ok n) wrote steadily zero =
@@ -376,7 +363,7 @@ module _ {S P : Type 0} (rules : WriteRules P) (s t : Buffered S P) (bs : List �
       elim met.met [
         | inr nothing ↦ (met.interrupts, nothing.2)
         | inl only ↦ elim (cases_lt 0 n) [
-          | inl some ↦ absurd (omega (arith, zero, zero_of_some n bs s.calls.writes.zero_writes (inl some)))
+          | inl some ↦ absurd (omega (arith, zero, zero_of_some n bs s.own_calls.writes.zero_writes (inl some)))
           | inr none ↦ elim (cases_lt 0 (length bs)) [
             | inl given ↦
                 absurd (omega (
@@ -388,7 +375,7 @@ module _ {S P : Type 0} (rules : WriteRules P) (s t : Buffered S P) (bs : List �
                 absurd (omega (
                   arith,
                   zero,
-                  zero_of_some n bs s.calls.writes.zero_writes (inr (omega (arith, empty))),
+                  zero_of_some n bs s.own_calls.writes.zero_writes (inr (omega (arith, empty))),
                 ))
           ]
         ]
@@ -397,16 +384,16 @@ module _ {S P : Type 0} (rules : WriteRules P) (s t : Buffered S P) (bs : List �
 module _ {S P : Type 0} (s t : Buffered S P) where
   pub flush_met : (answer : Result (Unit {0}) Error) → OnOk answer (IsFlushed s t)
       → IfErr answer (λ e. SendErrorCaused s.log.writes t.log.writes e)
-      → MetInterrupts s.calls.writes (after_flush s.calls answer).writes
+      → MetInterrupts s.own_calls.writes (after_flush s.own_calls answer).writes
       → MetInterrupts s.log.writes t.log.writes
   flush_met (Ok a) flushed caused own = record { interrupts = flushed.interrupts; only = flushed.only }
-  flush_met (Err e) flushed caused own = err_met s.calls.writes (after_flush s.calls (Err e)).writes
+  flush_met (Err e) flushed caused own = err_met s.own_calls.writes (after_flush s.own_calls (Err e)).writes
       s.log.writes t.log.writes e refl caused own
 
   pub flush_fault : (answer : Result (Unit {0}) Error) (f : Error)
       → IfErr answer (λ e. SendErrorCaused s.log.writes t.log.writes e)
-      → (after_flush s.calls answer).writes.faults ≡ s.calls.writes.faults ++ f ∷ []
+      → (after_flush s.own_calls answer).writes.faults ≡ s.own_calls.writes.faults ++ f ∷ []
       → SendErrorCaused s.log.writes t.log.writes f
-  flush_fault (Ok a) f caused odd = absurd (no_fault s.calls.writes.faults f odd)
+  flush_fault (Ok a) f caused odd = absurd (no_fault s.own_calls.writes.faults f odd)
   flush_fault (Err e) f caused same = subst (SendErrorCaused s.log.writes t.log.writes)
-      (same_fault s.calls.writes.faults e f same) caused
+      (same_fault s.own_calls.writes.faults e f same) caused

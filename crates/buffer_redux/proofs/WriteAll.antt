@@ -10,7 +10,7 @@ use Rattle.std.specs.Io.{WritesAtMost}
 use Rattle.std.specs.Io.KnownBytes.{Appends}
 use Rattle.redux_buffer.specs.Block.{IsBlock, usable}
 use Rattle.redux_tell.specs.LogGrows.{WriteLogGrows-none, WriteLogGrows-joins}
-use Rattle.redux_tell.specs.StreamLog.{StreamLog, taken}
+use Rattle.redux_tell.specs.StreamLog.{StreamLog, portion}
 use Rattle.redux_policy.specs.Policy.{WriteRules}
 use Rattle.buffer_redux.specs.AllBytes.{GoesBy, EndsBy, GaveUp}
 use Rattle.buffer_redux.specs.Buffered.{Buffered, InnerWent}
@@ -105,12 +105,12 @@ one_rest tells stretch rules m bs at answer t before after steps went = record {
 
 -- what a turn took that was gone on from, and one that ended it
 pub further_by : (answer : Result ℕ Error) (n : ℕ) → GoesBy answer n → (bs : List ℕ) → WritesAtMost answer bs
-    → (n ≤ length bs) × (taken bs answer ≡ take n bs)
+    → (n ≤ length bs) × (portion bs answer ≡ take n bs)
 further_by (Ok k) n goes bs bound = (omega (arith, goes.1, bound), ap (λ x. take x bs) (sym goes.1))
 further_by (Err e) n goes bs bound = (omega (arith, goes.1), sym (ap (λ x. take x bs) goes.1))
 
 pub none_taken : (nothing : ErrorKind) (answer : Result ℕ Error) (e : Error) → EndsBy nothing answer e → (bs : List ℕ)
-    → taken bs answer ≡ []
+    → portion bs answer ≡ []
 none_taken nothing (Ok k) e ends bs = ap (λ x. take x bs) ends.0
 none_taken nothing (Err x) e ends bs = refl
 
@@ -161,7 +161,7 @@ module _ {S P : Type 0} (tells : S → StreamLog) (stretch : S → S → Type 0)
   }
 
   front_of : (s : Buffered S P) (bs : List ℕ) (answer : Result ℕ Error) (t : Buffered S P)
-      → OneWrite tells stretch rules s bs answer t → TookFront tells stretch rules s (taken bs answer) t
+      → OneWrite tells stretch rules s bs answer t → TookFront tells stretch rules s (portion bs answer) t
   front_of s bs answer t w =
       let keeps = writes_keep rules s bs answer t w.steps in
       record {
@@ -185,8 +185,8 @@ module _ {S P : Type 0} (tells : S → StreamLog) (stretch : S → S → Type 0)
     -- one more write of the bytes that are left
     module _ (answer : Result ℕ Error) (t : Buffered S P) (fewer : at < length bs)
         (one : OneWrite tells stretch rules m (drop at bs) answer t) where
-      both : TookFront tells stretch rules s (take at bs ++ taken (drop at bs) answer) t
-      both = front_joins s m t (take at bs) (taken (drop at bs) answer) before.front
+      both : TookFront tells stretch rules s (take at bs ++ portion (drop at bs) answer) t
+      both = front_joins s m t (take at bs) (portion (drop at bs) answer) before.front
           (front_of m (drop at bs) answer t one)
 
       pub turned_more : (n : ℕ) → GoesBy answer n → WritesAtMost answer (drop at bs)

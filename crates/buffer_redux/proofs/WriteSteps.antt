@@ -6,7 +6,7 @@ use Rattle.std.specs.declared.io.Error.{Error}
 use Rattle.redux_buffer.specs.Block.{Block, usable}
 use Rattle.redux_tell.specs.GoesOn.{GoesOn}
 use Rattle.redux_tell.specs.LogGrows.{WriteLogGrows, WriteLogGrows-none, WriteLogGrows-joins, WriteLogGrows-write}
-use Rattle.redux_tell.specs.StreamLog.{StreamLog, taken}
+use Rattle.redux_tell.specs.StreamLog.{StreamLog, portion}
 use Rattle.redux_buffer.specs.Transfer.{Sends}
 use Rattle.redux_policy.specs.Policy.{WriteRules}
 use Rattle.buffer_redux.specs.Buffered.{Buffered, with_policy}
@@ -141,18 +141,18 @@ module _ {S P : Type 0} where
 
   -- bytes taken in past the buffer, or into it
   pub StepKeeps-takes : (s t : Buffered S P) (bs : List ℕ) (answer : Result ℕ Error)
-      → TakesIn bs s answer t → StepKeeps s (taken bs answer) t
+      → TakesIn bs s answer t → StepKeeps s (portion bs answer) t
   StepKeeps-takes s t bs answer f = elim (ways_in s.block (length bs)) [
     | inl past ↦ (
         let direct = f.past past in
         let none = nil_from_length s.block.bytes past.0 in
         let empty : t.block.bytes ≡ [] = ap (λ b. b.bytes) direct.block ∙ none in record {
           in_order = record {
-            sent = taken bs answer;
+            sent = portion bs answer;
             received = ap (λ l. l.writes.received) direct.told;
             equal =
-                ap (λ l. taken bs answer ++ l) empty ∙ append-nil (taken bs answer)
-                ∙ ap (λ l. l ++ taken bs answer) (sym none);
+                ap (λ l. portion bs answer ++ l) empty ∙ append-nil (portion bs answer)
+                ∙ ap (λ l. l ++ portion bs answer) (sym none);
           };
           grows = subst (λ l. WriteLogGrows s.log.writes l.writes) (sym direct.told)
               (WriteLogGrows-write s.log bs answer);
@@ -163,8 +163,8 @@ module _ {S P : Type 0} where
     | inr inside ↦ (
         let copied = f.inside inside in
         let settled = settled_bytes bs s answer t copied in record {
-          in_order = WritesInOrder-added s t (taken bs answer) (ap (λ l. l.writes.received) copied.told)
-              (copied.added.bytes ∙ ap (λ l. l ++ taken bs answer) settled.0);
+          in_order = WritesInOrder-added s t (portion bs answer) (ap (λ l. l.writes.received) copied.told)
+              (copied.added.bytes ∙ ap (λ l. l ++ portion bs answer) settled.0);
           grows = log_same s.log t.log copied.told;
           flushed = ap (λ l. l.writes.flushed) copied.told;
           capacity = omega (arith, copied.added.capacity, settled.1);

@@ -5,7 +5,7 @@ use Rattle.std.proofs.lemmas.Bool.{cases_lt}
 use Rattle.std.proofs.lemmas.List.{length-take}
 use Rattle.std.specs.declared.io.Error.{Error}
 use Rattle.redux_buffer.specs.Block.{Block, usable}
-use Rattle.redux_tell.specs.StreamLog.{StreamLog, taken, after_write, after_flush}
+use Rattle.redux_tell.specs.StreamLog.{StreamLog, portion, after_write, after_flush}
 use Rattle.redux_buffer.specs.Transfer.{Sends}
 use Rattle.redux_policy.specs.Policy.{WriteRules}
 use Rattle.buffer_redux.specs.Buffered.{Buffered, GoesDirect, with_policy}
@@ -53,7 +53,7 @@ module _ {S P : Type 0} where
     arith,
     ap (λ b. b.consumed) f.block,
     ap (λ l. length l.writes.received) f.told,
-    length-append s.log.writes.received (taken bs answer),
+    length-append s.log.writes.received (portion bs answer),
   )
 
   copy_counts : (s : Buffered S P) (bs : List ℕ) (answer : Result ℕ Error) (t : Buffered S P)

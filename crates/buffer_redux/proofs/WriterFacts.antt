@@ -5,7 +5,7 @@ use Rattle.std.specs.declared.io.Error.{Error}
 use Rattle.redux_buffer.specs.Block.{Block, usable}
 use Rattle.std.proofs.lemmas.List.Elements.{All-nil}
 use Rattle.redux_tell.specs.Faults.{IsInterrupt, SendErrorCaused, FaultedAfter-after}
-use Rattle.redux_tell.specs.StreamLog.{WriteLog, taken, after_write}
+use Rattle.redux_tell.specs.StreamLog.{WriteLog, portion, after_write}
 use Rattle.redux_policy.specs.Policy.{WriteRules, BeforeWrite, FlushesSteadily}
 use Rattle.redux_policy.specs.declared.FlushAmt.{FlushAmt}
 use Rattle.buffer_redux.specs.Buffered.{Buffered, GoesPast, StaysInside}
@@ -84,7 +84,7 @@ wrote_nothing rules s bs t wrote some = record {
 -- what every write keeps: the joined lists, a log that goes on, and at least the capacity
 pub writes_keep : {S P : Type 0} (rules : WriteRules P) (s : Buffered S P) (bs : List ℕ)
     (answer : Result ℕ Error) (t : Buffered S P)
-    → Writes rules s bs answer t → StepKeeps s (taken bs answer) t
+    → Writes rules s bs answer t → StepKeeps s (portion bs answer) t
 writes_keep rules s bs (Ok n) t wrote = wrote_keeps rules s bs n t wrote
 writes_keep rules s bs (Err e) t (inl refused) =
     record {

@@ -54,7 +54,7 @@ ReadErrorCaused rules s (Err e) t =
 
 -- the reader gave nothing though it was asked for something
 abbrev pub RanDry : {S P : Type 0} → Buffered S P → Buffered S P → Type 0
-RanDry s t = s.log.reads.zero_answers < t.log.reads.zero_answers
+RanDry s t = s.log.reads.zero_reads < t.log.reads.zero_reads
 
 -- filling ended since the policy said no, or left no room, or the reader gave nothing
 abbrev pub FillEnded : {S P A : Type 0} → ReadRules P → Buffered S P → Result A Error → Buffered S P → Type 0
@@ -154,7 +154,7 @@ pub record FillBuf {S P : Type 0} (remaining : S → Option (List ℕ)) (rules :
   pub fills : Fills rules s answer t
   pub known : InnerGives remaining s t
   pub shown : IfOk answer (λ bytes. bytes.now ≡ t.block.bytes)
-  pub noted : t.calls ≡ s.calls
+  pub noted : t.own_calls ≡ s.own_calls
 
 -- what stands behind the bytes that were handed out is as it was, and all of the slice where none were
 abbrev pub LeavesRest : List ℕ → Result ℕ Error → List ℕ → Type 0

@@ -3,7 +3,7 @@ use Rattle.std.specs.Prelude.{◌≡◌, ℕ, ◌+◌, ◌-◌, ◌<◌, ◌≤�
 use Rattle.std.specs.declared.io.Error.{Error}
 use Rattle.std.specs.declared.io.traits.SeekFrom.{SeekFrom}
 use Rattle.redux_buffer.specs.Block.{Block, IsBlock, Extends, MakesRoom, usable}
-use Rattle.redux_tell.specs.StreamLog.{StreamLog, WriteLog, SeekCall, taken, after_write, after_flush, after_seek}
+use Rattle.redux_tell.specs.StreamLog.{StreamLog, WriteLog, SeekCall, portion, after_write, after_flush, after_seek}
 use Rattle.redux_tell.specs.Faults.{OnlyInterrupted, MetInterrupts, SendErrorCaused}
 use Rattle.redux_buffer.specs.Transfer.{DoesNothing, Sends}
 use Rattle.redux_policy.specs.declared.FlushAmt.{FlushAmt}
@@ -35,7 +35,7 @@ pub record CopiesIn {S P : Type 0} (bs : List ℕ) (s : Buffered S P) (answer : 
   pub roomy : 0 < usable s.block → settled ≡ s.block
   pub tight : usable s.block ≡ 0 → MakesRoom s.block settled
   pub answered : answer ≡ Ok (min (usable settled) (length bs))
-  pub added : Extends (taken bs answer) settled t.block
+  pub added : Extends (portion bs answer) settled t.block
   pub told : t.log ≡ s.log
 
 -- bytes are taken in past the buffer, or into it
@@ -193,7 +193,7 @@ pub record SeeksInner {S P : Type 0} (tells : S → StreamLog) (s : Buffered S P
   pub block : t.block ≡ s.block
   pub log : t.log ≡ after_seek s.log to answer
   pub told : t.log ≡ tells t.inner
-  pub noted : t.calls ≡ s.calls
+  pub noted : t.own_calls ≡ s.own_calls
 
 -- what `seek(to)` does: a flush, whose error it returns, and then one seek of the inner writer to the same place
 pub record SeeksFlushed {S P : Type 0} (tells : S → StreamLog) (stretch : S → S → Type 0)

@@ -14,7 +14,7 @@ pub record Buffered (S P : Type 0) : Type 0 where
   pub block : Block
   pub inner : S
   pub log : StreamLog
-  pub calls : StreamLog
+  pub own_calls : StreamLog
 
 -- made over this stream, with an empty buffer
 pub record IsMade {S P : Type 0} (tells : S → StreamLog) (kind : Kind) (cap : ℕ) (stream : S) (b : Buffered S P)
@@ -23,7 +23,7 @@ pub record IsMade {S P : Type 0} (tells : S → StreamLog) (kind : Kind) (cap : 
   pub whole : IsBlock b.block
   pub inner : b.inner ≡ stream
   pub log : b.log ≡ tells stream
-  pub calls : b.calls ≡ no_calls
+  pub calls : b.own_calls ≡ no_calls
 
 -- what a maker returns: such a one, or the stream and why no buffer of this capacity was had
 pub record Makes {S P : Type 0} (tells : S → StreamLog) (kind : Kind) (cap limit : ℕ) (stream : S)
@@ -54,23 +54,23 @@ pub record InnerWent {S P : Type 0} (tells : S → StreamLog) (stretch : S → S
   pub calls : stretch s.inner t.inner
   pub told_before : s.log ≡ tells s.inner
   pub told_after : t.log ≡ tells t.inner
-  pub noted : t.calls ≡ s.calls
+  pub noted : t.own_calls ≡ s.own_calls
 
 -- with another buffer, under another policy, and with another stream inside
 abbrev pub with_block : {S P : Type 0} → Buffered S P → Block → Buffered S P
 with_block b block = record b { block = block }
 
 abbrev pub with_policy : {S P Q : Type 0} → Buffered S P → Q → Buffered S Q
-with_policy b p = record { policy = p; block = b.block; inner = b.inner; log = b.log; calls = b.calls }
+with_policy b p = record { policy = p; block = b.block; inner = b.inner; log = b.log; own_calls = b.own_calls }
 
 abbrev pub with_inner : {S P : Type 0} → (S → StreamLog) → Buffered S P → S → Buffered S P
 with_inner tells b stream = record b { inner = stream; log = tells stream }
 
 -- with these calls of its own
 abbrev pub with_calls : {S P : Type 0} → Buffered S P → StreamLog → Buffered S P
-with_calls b calls = record b { calls = calls }
+with_calls b calls = record b { own_calls = calls }
 
 -- over this buffer, with no call of its own yet
 abbrev pub over_buffer : {S P : Type 0} → (S → StreamLog) → P → Block → S → Buffered S P
 over_buffer tells p block stream =
-    record { policy = p; block = block; inner = stream; log = tells stream; calls = no_calls }
+    record { policy = p; block = block; inner = stream; log = tells stream; own_calls = no_calls }

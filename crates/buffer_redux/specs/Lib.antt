@@ -35,5 +35,5 @@ pub mod WriterLaws
 pub mod ReaderTells
 pub mod WriterTells
 pub mod PlayWriter
-pub mod WriteLaws
+pub mod WroteExactly
 pub mod WriterPolicyLaws

@@ -119,7 +119,7 @@ pub record HandsOut {S P : Type 0} (s : Handing S P) (out : List ℕ) (t : Handi
   pub consumed : t.reader.block.consumed ≤ s.reader.block.consumed + length out
   pub capacity : s.reader.block.capacity ≤ t.reader.block.capacity
   pub kind : t.reader.block.kind ≡ s.reader.block.kind
-  pub noted : t.reader.calls ≡ s.reader.calls
+  pub noted : t.reader.own_calls ≡ s.reader.own_calls
 
 -- a call that doesn't make room by itself
 abbrev pub MakesNoRoom : ReaderCall → Type 0

@@ -15,14 +15,14 @@ use Rattle.buffer_redux.specs.BufWriter.{WritesInOrder, WriteErrorCaused, EmptyW
 use Rattle.buffer_redux.specs.PlayRoom.{RoomMade, ReserveDone, ReserveRefused}
 
 -- the bytes that a call with this answer took in: the first k of a write that returned `Ok(k)`, and of all calls
-abbrev pub accepted_by : WriterCall → WriterAnswer → List ℕ
-accepted_by (Write bs) (Count k) = take k bs.now
-accepted_by call answer = []
+abbrev pub bytes_accepted_by : WriterCall → WriterAnswer → List ℕ
+bytes_accepted_by (Write bs) (Count k) = take k bs.now
+bytes_accepted_by call answer = []
 
-abbrev pub accepted : List WriterCall → List WriterAnswer → List ℕ
-accepted [] answers = []
-accepted (call ∷ calls) [] = []
-accepted (call ∷ calls) (answer ∷ answers) = accepted_by call answer ++ accepted calls answers
+abbrev pub accepted_bytes : List WriterCall → List WriterAnswer → List ℕ
+accepted_bytes [] answers = []
+accepted_bytes (call ∷ calls) [] = []
+accepted_bytes (call ∷ calls) (answer ∷ answers) = bytes_accepted_by call answer ++ accepted_bytes calls answers
 
 -- `Write(bs)` with `Count(k)`: the first k bytes of bs were taken in
 pub record WriteCounted {S P : Type 0} (rules : WriteRules P) (s : Buffered S P) (bs : List ℕ) (k : ℕ)
@@ -75,12 +75,12 @@ pub record Accepts {S P : Type 0} (s : Buffered S P) (taken_in : List ℕ) (t : 
   pub consumed : ConsumesSent s t
   pub capacity : s.block.capacity ≤ t.block.capacity
   pub kind : t.block.kind ≡ s.block.kind
-  pub noted : t.calls ≡ s.calls
+  pub noted : t.own_calls ≡ s.own_calls
 
 -- one call with its answer
 pub record WriterStep {S P : Type 0} (rules : WriteRules P) (s : Buffered S P) (call : WriterCall)
     (answer : WriterAnswer) (t : Buffered S P) : Type 0 where
-  pub accepts : Accepts s (accepted_by call answer) t
+  pub accepts : Accepts s (bytes_accepted_by call answer) t
   pub answers : WriterAnswers rules s call answer t
 
 -- calls with as many answers, one step after another
@@ -100,4 +100,4 @@ pub record WriterPlays {S P : Type 0} (rules : WriteRules P) (s : Buffered S P) 
   pub gained : new ≡ old ++ answers
   pub run : WriterRuns rules s (take (length answers) calls) answers t
   pub ended : MatchBool ok (length answers ≡ length calls) (length answers < length calls)
-  pub accepts : Accepts s (accepted (take (length answers) calls) answers) t
+  pub accepts : Accepts s (accepted_bytes (take (length answers) calls) answers) t

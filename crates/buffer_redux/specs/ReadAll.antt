@@ -5,7 +5,7 @@ use Rattle.std.specs.declared.io.Error.{Error}
 use Rattle.std.specs.declared.io.ErrorKind.TheVariants.{UnexpectedEof}
 use Rattle.redux_buffer.specs.Block.{IsBlock}
 use Rattle.redux_tell.specs.LogGrows.{ReadLogGrows}
-use Rattle.redux_tell.specs.StreamLog.{taken}
+use Rattle.redux_tell.specs.StreamLog.{portion}
 use Rattle.redux_policy.specs.Policy.{ReadRules}
 use Rattle.buffer_redux.specs.AllBytes.{GoesBy, EndsBy, GaveUp}
 use Rattle.buffer_redux.specs.Buffered.{Buffered}
@@ -26,7 +26,7 @@ pub record HandedFront {S P : Type 0} (remaining : S → Option (List ℕ)) (rul
   pub claims : rules.claims t.policy ≡ rules.claims s.policy
   pub sparing : SparesClaimed rules s t
   pub whole : IsBlock t.block
-  pub noted : t.calls ≡ s.calls
+  pub noted : t.own_calls ≡ s.own_calls
 
 -- one read, which left the slice so, with all that `read` promises
 pub record OneRead {S P : Type 0} (remaining : S → Option (List ℕ)) (rules : ReadRules P)
@@ -34,7 +34,7 @@ pub record OneRead {S P : Type 0} (remaining : S → Option (List ℕ)) (rules :
   pub whole : IsBlock s.block
   pub bound : ReadsAtMost answer slice
   pub steps : ReadSteps rules s (length slice) answer t
-  pub front : HandedFront remaining rules s (taken slice answer) t
+  pub front : HandedFront remaining rules s (portion slice answer) t
   pub caused : ReadErrorCaused rules s answer t
   pub empty : answer ≡ Ok 0 → 0 < length slice → EmptyReadCaused rules s t
   pub ran_dry : answer ≡ Ok 0 → 0 < length slice → WantsBytes (rules.claims s.policy) → RanDry s t
@@ -49,7 +49,7 @@ pub record ReadTurn {S P : Type 0} (remaining : S → Option (List ℕ)) (rules 
   pub read : OneRead remaining rules s slice answer t
   pub further : ℕ
   pub goes : GoesBy answer further
-  pub adds : handed ≡ before ++ taken slice answer
+  pub adds : handed ≡ before ++ portion slice answer
 
 -- so many turns, one after another, handed these bytes out
 abbrev pub ReadTurns : {S P : Type 0} → (S → Option (List ℕ)) → ReadRules P → ℕ → ℕ → List ℕ → Buffered S P

@@ -18,7 +18,7 @@ pub record AskedRead {S P : Type 0} (rules : ReadRules P) (answer : Result DoRea
   pub whole : IsBlock s.block
   pub inner : m.inner ≡ s.inner
   pub told : m.log ≡ s.log
-  pub noted : m.calls ≡ s.calls
+  pub noted : m.own_calls ≡ s.own_calls
 
 -- what a fill did
 pub record FillDone {S P A : Type 0} (remaining : S → Option (List ℕ)) (rules : ReadRules P)
@@ -26,7 +26,7 @@ pub record FillDone {S P A : Type 0} (remaining : S → Option (List ℕ)) (rule
   pub filled : Filled rules s answer t
   pub known : InnerGives remaining s t
   pub ended : RanDry s t → IsAtEnd (remaining t.inner)
-  pub noted : t.calls ≡ s.calls
+  pub noted : t.own_calls ≡ s.own_calls
   pub whole : IsBlock t.block
 
 -- the first n bytes that are buffered were handed out, as many as fit
@@ -38,7 +38,7 @@ pub record HandOut {S P : Type 0} (rules : ReadRules P) (m : Buffered S P) (out 
   pub inner : t.inner ≡ m.inner
   pub grows : ReadLogGrows m.log.reads t.log.reads
   pub consumed : ReaderConsumes rules n m t
-  pub noted : t.calls ≡ m.calls
+  pub noted : t.own_calls ≡ m.own_calls
   pub sparing : SparesClaimed rules m t
   pub capacity : m.block.capacity ≤ t.block.capacity
   pub whole : IsBlock t.block

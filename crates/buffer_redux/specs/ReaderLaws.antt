@@ -332,7 +332,7 @@ module _ {S P : Type 0} (remaining : S → Option (List ℕ)) (rules : ReadRules
         record {
           along = filled_along;
           none = nil_from_length f.block.bytes empty;
-          dry = omega (arith, before.grows.zero_answers, dry);
+          dry = omega (arith, before.grows.zero_reads, dry);
         }
 
   -- what was handed out up to the end is all that was known to be left

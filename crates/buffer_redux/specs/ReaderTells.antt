@@ -14,7 +14,7 @@ use Rattle.buffer_redux.specs.ReaderLaws.{ReadsInOrder-none, ReadsInOrder-joins,
 
 -- what it shows is what is buffered; the rest was noted call by call
 abbrev pub reader_log : {S P : Type 0} → Buffered S P → StreamLog
-reader_log b = with_shown b.calls b.block.bytes
+reader_log b = with_shown b.own_calls b.block.bytes
 
 -- after a fill with this answer, by which these bytes are shown
 abbrev pub after_fill : {A : Type 0} → StreamLog → Result A Error → List ℕ → StreamLog
@@ -34,17 +34,17 @@ pub record ReaderWent {S P : Type 0} (remaining : S → Option (List ℕ))
     (rules : ReadRules P) (s t : Buffered S P)
     : Type 0 where
   pub handed : List ℕ
-  pub consumed : t.calls.fills.consumed ≡ s.calls.fills.consumed ++ handed
+  pub consumed : t.own_calls.fills.consumed ≡ s.own_calls.fills.consumed ++ handed
   pub in_order : ReadsInOrder s handed t
   pub known : InnerGives remaining s t
   pub grows : ReadLogGrows s.log.reads t.log.reads
-  pub own_grows : FillLogGrows s.calls.fills t.calls.fills
+  pub own_grows : FillLogGrows s.own_calls.fills t.own_calls.fills
   pub capacity : s.block.capacity ≤ t.block.capacity
   pub claims : rules.claims t.policy ≡ rules.claims s.policy
   pub faults : (rules.claims s.policy).steady ≡ true
-      → FaultsAlike s.calls.fills.faults t.calls.fills.faults s.log.reads.faults t.log.reads.faults
+      → FaultsAlike s.own_calls.fills.faults t.own_calls.fills.faults s.log.reads.faults t.log.reads.faults
   pub ends : WantsBytes (rules.claims s.policy) → 0 < s.block.capacity
-      → t.calls.fills.ends + s.log.reads.zero_answers ≤ s.calls.fills.ends + t.log.reads.zero_answers
+      → t.own_calls.fills.zero_fills + s.log.reads.zero_reads ≤ s.own_calls.fills.zero_fills + t.log.reads.zero_reads
 
 -- what `fill_told()` does, once its slice is given back: it fills, and tells what it shows
 pub record FillTold {S P : Type 0} (remaining : S → Option (List ℕ)) (rules : ReadRules P)
@@ -89,14 +89,14 @@ module _ {S P : Type 0} (remaining : S → Option (List ℕ)) (rules : ReadRules
   pub ReaderWent-none : (s : Buffered S P) → ReaderWent remaining rules s s
   ReaderWent-none s = record {
     handed = [];
-    consumed = sym (append-nil s.calls.fills.consumed);
+    consumed = sym (append-nil s.own_calls.fills.consumed);
     in_order = ReadsInOrder-none s;
     known = InnerGives-none remaining s;
     grows = ReadLogGrows-none s.log.reads;
-    own_grows = FillLogGrows-none s.calls.fills;
+    own_grows = FillLogGrows-none s.own_calls.fills;
     capacity = le_refl _;
     claims = refl;
-    faults = λ steady. FaultsAlike-none s.calls.fills.faults s.log.reads.faults;
+    faults = λ steady. FaultsAlike-none s.own_calls.fills.faults s.log.reads.faults;
     ends = λ wants room. le_refl _;
   }
 
@@ -108,14 +108,14 @@ module _ {S P : Type 0} (remaining : S → Option (List ℕ)) (rules : ReadRules
       record {
         handed = p.handed ++ q.handed;
         consumed = q.consumed ∙ ap (λ l. l ++ q.handed) p.consumed
-            ∙ append_assoc a.calls.fills.consumed p.handed q.handed;
+            ∙ append_assoc a.own_calls.fills.consumed p.handed q.handed;
         in_order = ReadsInOrder-joins a b c p.handed q.handed p.in_order q.in_order;
         known = InnerGives-joins remaining a b c p.known q.known;
         grows = ReadLogGrows-joins a.log.reads b.log.reads c.log.reads p.grows q.grows;
-        own_grows = FillLogGrows-joins a.calls.fills b.calls.fills c.calls.fills p.own_grows q.own_grows;
+        own_grows = FillLogGrows-joins a.own_calls.fills b.own_calls.fills c.own_calls.fills p.own_grows q.own_grows;
         capacity = le_trans p.capacity q.capacity;
         claims = q.claims ∙ p.claims;
-        faults = λ steady. FaultsAlike-joins a.calls.fills.faults b.calls.fills.faults c.calls.fills.faults
+        faults = λ steady. FaultsAlike-joins a.own_calls.fills.faults b.own_calls.fills.faults c.own_calls.fills.faults
             a.log.reads.faults b.log.reads.faults c.log.reads.faults
             (p.faults steady) (q.faults (still steady));
         ends = λ wants room. omega (

@@ -14,17 +14,17 @@ abbrev pub least_offset : ℤ
 least_offset = neg_ℤ (pos (2 ^ 63))
 
 -- the plan of a seek with len bytes buffered, by which the stream inside is ahead of the reader
-abbrev pub planned : SeekFrom → ℕ → SeekPlan
-planned (Start n) len = One (Start n)
-planned (End n) len = One (End n)
-planned (Current n) len =
+abbrev pub plan_for : SeekFrom → ℕ → SeekPlan
+plan_for (Start n) len = One (Start n)
+plan_for (End n) len = One (End n)
+plan_for (Current n) len =
     if int_le least_offset (n -ℤ pos len) then One (Current (n -ℤ pos len)) else Two (neg_ℤ (pos len)) n
 
 -- one seek of the stream inside: an Ok empties the buffer, a fault leaves it
 pub record SeeksOnce {S P : Type 0} (to : SeekFrom) (s : Buffered S P) (answer : Result ℕ Error) (t : Buffered S P)
     : Type 0 where
   pub told : t.log ≡ after_seek s.log to answer
-  pub noted : t.calls ≡ s.calls
+  pub noted : t.own_calls ≡ s.own_calls
   pub policy : t.policy ≡ s.policy
   pub block : MatchResult answer (λ _. Clears s.block t.block) (λ _. t.block ≡ s.block)
 
@@ -46,7 +46,7 @@ Seeks (Two first second) s answer t = SeeksTwice first second s answer t
 pub record SeekLeaves {S P A : Type 0} (s : Buffered S P) (answer : Result A Error) (t : Buffered S P) : Type 0 where
   pub policy : t.policy ≡ s.policy
   pub reads : t.log.reads ≡ s.log.reads
-  pub noted : t.calls ≡ s.calls
+  pub noted : t.own_calls ≡ s.own_calls
   pub ok : OnOk answer (Clears s.block t.block)
   pub err : OnErr answer ((t.block ≡ s.block) ⊎ Clears s.block t.block)
 

@@ -10,7 +10,7 @@ use Rattle.redux_buffer.specs.Potential.{potential, of_plain}
 use Rattle.redux_buffer.specs.declared.grow_error.GrowError.{GrowError}
 use Rattle.redux_policy.specs.Policy.{ReadRules, ClaimsToSpare}
 use Rattle.buffer_redux.specs.Buffered.{Buffered, with_block, with_policy}
-use Rattle.buffer_redux.specs.Seek.{planned, Seeks}
+use Rattle.buffer_redux.specs.Seek.{plan_for, Seeks}
 
 -- no move was undone, and the potential rose by no more than was given
 pub record PotentialHeld {S P Q : Type 0} (keep : ℕ) (s : Buffered S P) (t : Buffered S Q) : Type 0 where
@@ -53,7 +53,7 @@ pub record GrewAndSought {S P : Type 0} (more : ℕ) (to : SeekFrom) (s : Buffer
     (t : Buffered S P) : Type 0 where
   pub grown : Block
   pub grows : Reserves more s.block grown
-  pub seeks : Seeks (planned to (length grown.bytes)) (with_block s grown) answer t
+  pub seeks : Seeks (plan_for to (length grown.bytes)) (with_block s grown) answer t
 
 -- the buffer grew, and then the reader sought; an error is the refusal of the growth, which ended it, or the seek's
 abbrev pub GrowsAndSeeks : {S P : Type 0} → ℕ → SeekFrom → Buffered S P → Result ℕ Error → Buffered S P → Type 0

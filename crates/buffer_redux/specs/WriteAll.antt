@@ -88,4 +88,4 @@ pub record AskedFirst {S P : Type 0} (tells : S → StreamLog) (rules : WriteRul
   pub inner : m.inner ≡ s.inner
   pub told_before : s.log ≡ tells s.inner
   pub told : m.log ≡ s.log
-  pub noted : m.calls ≡ s.calls
+  pub noted : m.own_calls ≡ s.own_calls

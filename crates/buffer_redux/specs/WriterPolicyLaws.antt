@@ -11,7 +11,7 @@ use Rattle.buffer_redux.specs.Buffered.{Buffered, with_policy}
 use Rattle.buffer_redux.specs.BufWriter.{FlushesAmount, TakesIn, Prepared, Wrote, Writes}
 use Rattle.redux_policy.specs.WriterPolicies.{at_least_before_write, at_least_rules, exact_before_write, exact_rules, flush_on_rules}
 use Rattle.buffer_redux.specs.WriterLaws.{flush_ways, ways_in}
-use Rattle.buffer_redux.specs.WriteLaws.{EachTook, Wrote-left, Wrote-flushed}
+use Rattle.buffer_redux.specs.WroteExactly.{EachTook, Wrote-left, Wrote-flushed}
 
 -- no place holds the byte
 abbrev pub HasNo : ℕ → List ℕ → Type 0

@@ -14,8 +14,8 @@ use Rattle.buffer_redux.specs.WriterLaws.{FlushesNothingAfter}
 -- it received what the inner writer did, and then what is buffered, and flushed what the inner writer did; the rest was
 -- noted call by call
 abbrev pub writer_log : {S P : Type 0} → Buffered S P → StreamLog
-writer_log b = record b.calls {
-  writes = record b.calls.writes {
+writer_log b = record b.own_calls {
+  writes = record b.own_calls.writes {
     received = b.log.writes.received ++ b.block.bytes;
     flushed = b.log.writes.flushed;
   };
@@ -39,8 +39,8 @@ pub record WriterWent {S P : Type 0} (stretch : S → S → Type 0) (rules : Wri
   pub capacity : s.block.capacity ≤ t.block.capacity
   pub claims : rules.claims t.policy ≡ rules.claims s.policy
   pub fails : (rules.claims s.policy).steady ≡ true
-      → failures t.calls.writes + failures s.log.writes ≤ failures s.calls.writes + failures t.log.writes
-  pub met : TellsFailures rules s.policy → MetInterrupts s.calls.writes t.calls.writes
+      → failures t.own_calls.writes + failures s.log.writes ≤ failures s.own_calls.writes + failures t.log.writes
+  pub met : TellsFailures rules s.policy → MetInterrupts s.own_calls.writes t.own_calls.writes
       → MetInterrupts s.log.writes t.log.writes
 
 -- one call was a write of these bytes, or a flush, with this answer
@@ -48,12 +48,12 @@ pub record CalledWrite {S P : Type 0} (rules : WriteRules P) (s t : Buffered S P
   pub bytes : List ℕ
   pub answer : Result ℕ Error
   pub steps : Writes rules s bytes answer t
-  pub noted : t.calls ≡ after_write s.calls bytes answer
+  pub noted : t.own_calls ≡ after_write s.own_calls bytes answer
 
 pub record CalledFlush {S P : Type 0} (s t : Buffered S P) : Type 0 where
   pub answer : Result (Unit {0}) Error
   pub steps : Flushes s answer t
-  pub noted : t.calls ≡ after_flush s.calls answer
+  pub noted : t.own_calls ≡ after_flush s.own_calls answer
 
 -- one call, step after step. Where no failure is kept back, an error that it returned is the one that the inner writer
 -- returned last, or came of a write that took nothing of something; and so did an answer that took nothing of something.
@@ -61,17 +61,17 @@ pub record CalledFlush {S P : Type 0} (s t : Buffered S P) : Type 0 where
 pub record WriterCalled {S P : Type 0} (rules : WriteRules P) (s t : Buffered S P) : Type 0 where
   pub steps : CalledWrite rules s t ⊎ CalledFlush s t
   pub fault : TellsFailures rules s.policy → (e : Error)
-      → t.calls.writes.faults ≡ s.calls.writes.faults ++ e ∷ []
+      → t.own_calls.writes.faults ≡ s.own_calls.writes.faults ++ e ∷ []
       → SendErrorCaused s.log.writes t.log.writes e
   pub nothing : TellsFailures rules s.policy
-      → t.calls.writes.zero_writes ≡ s.calls.writes.zero_writes + 1
+      → t.own_calls.writes.zero_writes ≡ s.own_calls.writes.zero_writes + 1
       → (interrupts : List Error) × TookNothing interrupts s.log.writes t.log.writes WriteZero
 
 module _ {S P : Type 0} (stretch : S → S → Type 0) (rules : WriteRules P) where
   -- the interrupted calls of a stretch are those of its parts
   parts_of : (a b c : Buffered S P) → WriteLogGrows (writer_log a).writes (writer_log b).writes
-      → WriteLogGrows (writer_log b).writes (writer_log c).writes → MetInterrupts a.calls.writes c.calls.writes
-      → MetInterrupts a.calls.writes b.calls.writes × MetInterrupts b.calls.writes c.calls.writes
+      → WriteLogGrows (writer_log b).writes (writer_log c).writes → MetInterrupts a.own_calls.writes c.own_calls.writes
+      → MetInterrupts a.own_calls.writes b.own_calls.writes × MetInterrupts b.own_calls.writes c.own_calls.writes
   parts_of a b c p q met =
       let parts = MetInterrupts-parts (writer_log a).writes (writer_log b).writes (writer_log c).writes p q
       (record {
@@ -116,8 +116,8 @@ module _ {S P : Type 0} (stretch : S → S → Type 0) (rules : WriteRules P) wh
   WriterWent-joins joins a b c p q =
       let still : TellsFailures rules a.policy → TellsFailures rules b.policy =
       λ tells. (ap (λ x. x.steady) p.claims ∙ tells.0, tells.1) in
-      let parts : MetInterrupts a.calls.writes c.calls.writes
-      → MetInterrupts a.calls.writes b.calls.writes × MetInterrupts b.calls.writes c.calls.writes =
+      let parts : MetInterrupts a.own_calls.writes c.own_calls.writes
+      → MetInterrupts a.own_calls.writes b.own_calls.writes × MetInterrupts b.own_calls.writes c.own_calls.writes =
       parts_of a b c p.own_grows q.own_grows in
       record {
         inner = joins a.inner b.inner c.inner p.inner q.inner;

@@ -8,7 +8,7 @@ ghost use Rattle.std.specs.IoError.{error_kind};
 ghost use Rattle.redux_buffer.specs.Block.{Plain, Ring, IsBlock, LeavesBytes, MakesRoom, MovesToFront, Reserves, capacity_for, round, usable};
 ghost use Rattle.redux_buffer.specs.GrowError.{FitsWithin};
 ghost use Rattle.redux_tell.specs.LogGrows.{ReadLogGrows};
-ghost use Rattle.redux_tell.specs.StreamLog.{taken, after_read};
+ghost use Rattle.redux_tell.specs.StreamLog.{portion, after_read};
 ghost use Rattle.redux_buffer.specs.Transfer.{ReadsFrom};
 ghost use Rattle.buffer_redux.specs.contracts.buf_reader.BufReader.{the_row};
 ghost use Rattle.buffer_redux.specs.Buffered.{over_buffer, with_block, with_inner, with_policy, Makes, GoesPast, StaysInside, GoesDirect};
@@ -57,7 +57,7 @@ impl<R: Tell, P> Model for BufReader<R, P> {
       block = r.buf;
       inner = r.inner;
       log = R.log r.inner;
-      calls = r.calls.log;
+      own_calls = r.calls.log;
     } };
 
     // What is true of every buffer, said again where a policy changes it.
@@ -262,7 +262,7 @@ impl<R: TellRead, P> BufReader<R, P> {
         ensures known { InnerGives R.remaining self.old self.new }
         ensures end { result ≡ Ok 0 → 0 < usable self.old.block → IsAtEnd (R.remaining self.new.inner) }
         ensures policy { self.new.policy ≡ self.old.policy }
-        ensures noted { self.new.calls ≡ self.old.calls }
+        ensures noted { self.new.own_calls ≡ self.old.own_calls }
         ensures spared { (keep : ℕ) → Spared keep self.old self.new }
         ensures whole { IsBlock self.new.block }
     {
@@ -279,7 +279,7 @@ impl<R: TellRead, P: ReaderPolicy> Read for BufReader<R, P> {
         ensures bytes { ReadConsumes (reader_remaining R.remaining P.rules self.old)
             (reader_remaining R.remaining P.rules self.new) result out.new }
         ensures known { InnerGives R.remaining self.old self.new }
-        ensures in_order { ReadsInOrder self.old (taken out.new result) self.new }
+        ensures in_order { ReadsInOrder self.old (portion out.new result) self.new }
         ensures grows { ReadLogGrows self.old.log.reads self.new.log.reads }
         ensures caused { ReadErrorCaused P.rules self.old result self.new }
         ensures empty { result ≡ Ok 0 → 0 < length out.old → EmptyReadCaused P.rules self.old self.new }
@@ -295,7 +295,7 @@ impl<R: TellRead, P: ReaderPolicy> Read for BufReader<R, P> {
         ensures buffered { StaysInside self.old.block (length out.old)
             → ReadsBuffered P.rules self.old (length out.old) result self.new }
         ensures rest { StaysInside self.old.block (length out.old) → LeavesRest out.old result out.new }
-        ensures noted { self.new.calls ≡ self.old.calls }
+        ensures noted { self.new.own_calls ≡ self.old.own_calls }
     {
         if self.buf.is_empty() && out.len() >= self.buf.capacity() {
             return self.inner.read_told(out);
@@ -361,7 +361,7 @@ impl<R: TellRead, P: ReaderPolicy> BufRead for BufReader<R, P> {
         ensures inner { self.new.inner ≡ self.old.inner }
         ensures grows { ReadLogGrows self.old.log.reads self.new.log.reads }
         ensures consumed { ReaderConsumes P.rules amount self.old self.new }
-        ensures noted { self.new.calls ≡ self.old.calls }
+        ensures noted { self.new.own_calls ≡ self.old.own_calls }
         ensures sparing { SparesClaimed P.rules self.old self.new }
         ensures capacity { self.old.block.capacity ≤ self.new.block.capacity }
         ensures whole { IsBlock self.new.block }

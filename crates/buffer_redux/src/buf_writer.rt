@@ -11,7 +11,7 @@ ghost use Rattle.redux_buffer.specs.GrowError.{FitsWithin};
 ghost use Rattle.redux_buffer.specs.Transfer.{Sends};
 ghost use Rattle.redux_tell.specs.Faults.{SendErrorCaused};
 ghost use Rattle.redux_tell.specs.LogGrows.{WriteLogGrows};
-ghost use Rattle.redux_tell.specs.StreamLog.{taken};
+ghost use Rattle.redux_tell.specs.StreamLog.{portion};
 ghost use Rattle.buffer_redux.specs.contracts.buf_writer.BufWriter.{the_row};
 ghost use Rattle.buffer_redux.specs.Buffered.{over_buffer, with_block, with_inner, with_policy, InnerWent, Makes};
 ghost use Rattle.buffer_redux.specs.BufWriter.{writer_contents, FlushesAmount, TakesIn, Finished, Writes};
@@ -58,7 +58,7 @@ impl<W: TellWrite, P> Model for BufWriter<W, P> {
       block = w.buf;
       inner = w.inner;
       log = W.log w.inner;
-      calls = w.calls.log;
+      own_calls = w.calls.log;
     } };
 
     // What is true of every buffer, said again where a policy changes it.
@@ -261,7 +261,7 @@ impl<W: TellWrite, P: WriterPolicy> Write for BufWriter<W, P> {
     fn write(&mut self, bytes: &[u8]) -> io::Result<usize>
         ensures bound { WritesAtMost result bytes.now }
         ensures bytes { WriteAppends (writer_contents self.old) (writer_contents self.new) result bytes.now }
-        ensures in_order { WritesInOrder self.old (taken bytes.now result) self.new }
+        ensures in_order { WritesInOrder self.old (portion bytes.now result) self.new }
         ensures grows { WriteLogGrows self.old.log.writes self.new.log.writes }
         ensures not_flushed { self.new.log.writes.flushed ≡ self.old.log.writes.flushed }
         ensures caused { WriteErrorCaused P.rules self.old bytes.now result self.new }

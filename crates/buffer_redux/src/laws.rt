@@ -3,7 +3,7 @@ ghost use Rattle.std.specs.Prelude.{◌≡◌, ◌<◌, [], length, take, Ok, If
 ghost use Rattle.std.specs.Io.KnownBytes.{Appends, Keeps};
 ghost use Rattle.std.specs.IoError.{error_kind};
 ghost use Rattle.redux_tell.specs.Faults.{SendErrorCaused};
-ghost use Rattle.redux_tell.specs.StreamLog.{no_calls, taken, after_read};
+ghost use Rattle.redux_tell.specs.StreamLog.{no_calls, portion, after_read};
 ghost use Rattle.redux_tell.specs.Told.{told_stream};
 ghost use Rattle.buffer_redux.specs.Buffered.{with_calls, GoesPast, StaysInside, GoesDirect};
 ghost use Rattle.buffer_redux.specs.BufReader.{Fills, FillsToMinimum, RanDry, ReadErrorCaused, ReadsInOrder};
@@ -80,7 +80,7 @@ pub fn read_until_dry<R: TellRead>(
     out: &mut [u8],
 ) -> io::Result<usize>
     ensures ran_dry { result ≡ Ok 0 → 0 < length out.old → 0 < reader.old.policy.0 → RanDry reader.old reader.new }
-    ensures in_order { ReadsInOrder reader.old (taken out.new result) reader.new }
+    ensures in_order { ReadsInOrder reader.old (portion out.new result) reader.new }
     ensures caused { ReadErrorCaused min_read_rules reader.old result reader.new }
     ensures direct { GoesPast reader.old.block (length out.old)
         → GoesDirect after_read reader.old out.new result reader.new }

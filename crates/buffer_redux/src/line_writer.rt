@@ -9,7 +9,7 @@ ghost use Rattle.redux_buffer.specs.GrowError.{FitsWithin};
 ghost use Rattle.redux_buffer.specs.Transfer.{Sends};
 ghost use Rattle.redux_tell.specs.Faults.{SendErrorCaused};
 ghost use Rattle.redux_tell.specs.LogGrows.{WriteLogGrows};
-ghost use Rattle.redux_tell.specs.StreamLog.{taken};
+ghost use Rattle.redux_tell.specs.StreamLog.{portion};
 ghost use Rattle.buffer_redux.specs.contracts.line_writer.LineWriter.{the_row};
 ghost use Rattle.buffer_redux.specs.Buffered.{over_buffer, with_block, with_inner, InnerWent, Makes};
 ghost use Rattle.buffer_redux.specs.BufWriter.{writer_contents, Writes, WritesSteadily, WritesInOrder, WriteErrorCaused, EmptyWriteCaused, Flushes, IsFlushed, IsSent, WasFlushed};
@@ -212,7 +212,7 @@ impl<W: TellWrite> Write for LineWriter<W> {
     fn write(&mut self, bytes: &[u8]) -> io::Result<usize>
         ensures bound { WritesAtMost result bytes.now }
         ensures bytes { WriteAppends (writer_contents self.old) (writer_contents self.new) result bytes.now }
-        ensures in_order { WritesInOrder self.old (taken bytes.now result) self.new }
+        ensures in_order { WritesInOrder self.old (portion bytes.now result) self.new }
         ensures grows { WriteLogGrows self.old.log.writes self.new.log.writes }
         ensures not_flushed { self.new.log.writes.flushed ≡ self.old.log.writes.flushed }
         ensures caused { WriteErrorCaused line_rules self.old bytes.now result self.new }

@@ -3,7 +3,7 @@ ghost use Rattle.std.specs.Prelude.{◌≡◌, ◌==◌, ◌<◌, length};
 ghost use Rattle.std.specs.Io.{ReadsAtMost};
 ghost use Rattle.std.specs.Io.KnownBytes.{ReadConsumes};
 ghost use Rattle.redux_tell.specs.LogGrows.{ReadLogGrows};
-ghost use Rattle.redux_tell.specs.StreamLog.{taken};
+ghost use Rattle.redux_tell.specs.StreamLog.{portion};
 ghost use Rattle.buffer_redux.specs.Unbuffer.{unbuffered, unbuffer_remaining, HandsOutInOrder, HandsOutLeft, AsksReader};
 
 use crate::buf_reader::BufReader;
@@ -94,7 +94,7 @@ impl<R: TellRead> Read for Unbuffer<R> {
         ensures bound { ReadsAtMost result out.new }
         ensures bytes { ReadConsumes (unbuffer_remaining R.remaining self.old)
             (unbuffer_remaining R.remaining self.new) result out.new }
-        ensures in_order { HandsOutInOrder self.old (taken out.new result) self.new }
+        ensures in_order { HandsOutInOrder self.old (portion out.new result) self.new }
         ensures grows { ReadLogGrows self.old.log.reads self.new.log.reads }
         ensures left { 0 < length self.old.left → HandsOutLeft self.old out.old result out.new self.new }
         ensures asked { length self.old.left ≡ 0 → AsksReader self.old result out.new self.new }

@@ -93,7 +93,7 @@ module _ {S : Type 0} (remaining : S → Option (List ℕ)) (s m u : Framing S)
       ∙ told0
 
   dry_u : RanDry m.reader u.reader → RanDry s.reader u.reader
-  dry_u dry = omega (arith, dry, ap (λ l. l.reads.zero_answers) told0)
+  dry_u dry = omega (arith, dry, ap (λ l. l.reads.zero_reads) told0)
 
   faults_m : m.reader.log.reads.faults ≡ s.reader.log.reads.faults
   faults_m = ap (λ l. l.reads.faults) told0
@@ -177,7 +177,7 @@ module _ {S : Type 0} (remaining : S → Option (List ℕ)) (s m u : Framing S)
           untouched2 (omega (arith, long, ap length same)) ∙ told
 
       dry_v : RanDry u.reader v.reader → RanDry s.reader v.reader
-      dry_v dry = omega (arith, dry, went1.grows.zero_answers, ap (λ l. l.reads.zero_answers) told0)
+      dry_v dry = omega (arith, dry, went1.grows.zero_reads, ap (λ l. l.reads.zero_reads) told0)
 
       faults_u : u.reader.log.reads.faults ≡ s.reader.log.reads.faults
       faults_u = fault1 ∙ faults_m

@@ -83,7 +83,7 @@ module _ {S : Type 0} (remaining : S → Option (List ℕ)) (s t : Framing S) wh
       (rest s) (rest t) (frames (handed answer)) hands.got next.went.known hands.given hands.equal
 
   -- what is buffered is all that is left, where the inner reader ran dry
-  all_buffered : (known more : List ℕ) → s.reader.log.reads.zero_answers < t.reader.log.reads.zero_answers
+  all_buffered : (known more : List ℕ) → s.reader.log.reads.zero_reads < t.reader.log.reads.zero_reads
       → (answer : NextAnswer) → Next remaining s answer t
       → ahead_of remaining s ≡ Some known → ahead_of remaining t ≡ Some more → more ≡ rest t
   all_buffered known more dry answer next was is =

@@ -100,7 +100,7 @@ module _ {S : Type 0} (remaining : S → Option (List ℕ)) (s t : Framing S) wh
       went.hands.equal ∙ ap (λ l. rest s ++ l) none ∙ append-nil (rest s)
 
   no_dry : {A : Type 0} → t.reader.log ≡ s.reader.log → RanDry s.reader t.reader → A
-  no_dry told dry = absurd (omega (arith, dry, ap (λ l. l.reads.zero_answers) told))
+  no_dry told dry = absurd (omega (arith, dry, ap (λ l. l.reads.zero_reads) told))
 
   no_fault : {A : Type 0} (e : Error) → t.reader.log ≡ s.reader.log
       → t.reader.log.reads.faults ≡ s.reader.log.reads.faults ++ e ∷ [] → A

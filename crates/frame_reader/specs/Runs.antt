@@ -8,7 +8,7 @@ use Rattle.frame_reader.specs.declared.error.WriteFrameError.{WriteFrameError}
 use Rattle.frame_reader.specs.Framing.{Framing}
 use Rattle.frame_reader.specs.Next.{FramesWent, Next, NextAnswer, handed}
 use Rattle.frame_reader.specs.Outgoing.{Outgoing}
-use Rattle.frame_reader.specs.WriteFrame.{FramesTaken, WriteAnswer, WritesFrame, accepted}
+use Rattle.frame_reader.specs.WriteFrame.{FramesTaken, WriteAnswer, WritesFrame, accepted_frames}
 
 -- an answer of `next` that was recorded, by the bytes of its payload
 abbrev pub recorded : Result (Option (Vec ℕ)) FrameError → NextAnswer
@@ -60,7 +60,7 @@ WriteRuns stretch s (payload ∷ payloads) [] t = ⊥
 
 -- the payloads that they took in: those whose call returned `Ok`
 abbrev pub all_accepted : List (List ℕ) → List WriteAnswer → List (List ℕ)
-all_accepted (payload ∷ payloads) (answer ∷ answers) = accepted payload answer ++ all_accepted payloads answers
+all_accepted (payload ∷ payloads) (answer ∷ answers) = accepted_frames payload answer ++ all_accepted payloads answers
 all_accepted payloads answers = []
 
 -- what was played: the answers that were gained are a run of the first payloads, as many as there are answers; at Ok

@@ -7,7 +7,7 @@ use Rattle.frame_reader.specs.Next.{FramesWent, Next, NextAnswer, handed}
 use Rattle.frame_reader.specs.NextLaws.{FramesWent-none, FramesWent-joins}
 use Rattle.frame_reader.specs.Outgoing.{Outgoing}
 use Rattle.frame_reader.specs.Runs.{NextRuns, WriteRuns, AllWritten, all_handed, all_accepted, all_ok}
-use Rattle.frame_reader.specs.WriteFrame.{FramesTaken, WriteAnswer, WritesFrame, accepted}
+use Rattle.frame_reader.specs.WriteFrame.{FramesTaken, WriteAnswer, WritesFrame, accepted_frames}
 use Rattle.frame_reader.specs.WriteFrameLaws.{FramesTaken-none, FramesTaken-joins}
 
 -- what is taken in where each answer is `Ok`, and that only payloads with an answer count
@@ -20,7 +20,7 @@ pub all_accepted-take : (payloads : List (List ℕ)) (answers : List WriteAnswer
 all_accepted-take [] [] = refl
 all_accepted-take [] (a ∷ answers) = refl
 all_accepted-take (p ∷ payloads) [] = refl
-all_accepted-take (p ∷ payloads) (a ∷ answers) = ap (λ l. accepted p a ++ l) (all_accepted-take payloads answers)
+all_accepted-take (p ∷ payloads) (a ∷ answers) = ap (λ l. accepted_frames p a ++ l) (all_accepted-take payloads answers)
 
 module _ {S : Type 0} (remaining : S → Option (List ℕ)) where
   pub NextRuns-more : (s : Framing S) (answers : List NextAnswer) (m : Framing S) (answer : NextAnswer) (t : Framing S)
@@ -63,7 +63,7 @@ module _ {S : Type 0} (stretch : S → S → Type 0) where
     WriteRuns-taken s [] (a ∷ answers) t run = absurd run
     WriteRuns-taken s (p ∷ payloads) [] t run = absurd run
     WriteRuns-taken s (p ∷ payloads) (a ∷ answers) t run =
-        FramesTaken-joins stretch joins s run.0 t (accepted p a) (all_accepted payloads answers) run.1.went
+        FramesTaken-joins stretch joins s run.0 t (accepted_frames p a) (all_accepted payloads answers) run.1.went
         (WriteRuns-taken run.0 payloads answers t run.2)
 
     pub AllWritten-taken : (s : Outgoing S) (payloads : List (List ℕ)) (t : Outgoing S) → AllWritten stretch s payloads t

@@ -35,9 +35,9 @@ abbrev pub WriteAnswer : Type 0
 WriteAnswer = Result (Unit {0}) WriteFrameError
 
 -- the payloads that an answer took in: the one, or none
-abbrev pub accepted : List ℕ → WriteAnswer → List (List ℕ)
-accepted payload (Ok _) = payload ∷ []
-accepted payload (Err e) = []
+abbrev pub accepted_frames : List ℕ → WriteAnswer → List (List ℕ)
+accepted_frames payload (Ok _) = payload ∷ []
+accepted_frames payload (Err e) = []
 
 -- what each answer means. No answer leaves a part of the frame
 abbrev pub WriteFrameAnswers : {S : Type 0} → Outgoing S → List ℕ → WriteAnswer → Outgoing S → Type 0
@@ -63,7 +63,7 @@ SendsFirst s payload (Err e) t = ⊤
 -- what one call of `write_frame` does
 pub record WritesFrame {S : Type 0} (stretch : S → S → Type 0) (s : Outgoing S) (payload : List ℕ)
     (answer : WriteAnswer) (t : Outgoing S) : Type 0 where
-  pub went : FramesTaken stretch s (accepted payload answer) t
+  pub went : FramesTaken stretch s (accepted_frames payload answer) t
   pub answers : WriteFrameAnswers s payload answer t
   pub fits : Fits s.max payload → 2 + length payload ≤ room s → FrameAdded s payload answer t
   pub full : Fits s.max payload → room s < 2 + length payload → SendsFirst s payload answer t

@@ -166,7 +166,7 @@ module _ {R W : Type 0} (stretch : W → W → Type 0) (none : (x : W) → stret
                   dry = omega (
                     arith,
                     dry (omega (arith, wrote.answers.0, ap length is)),
-                    ap (λ l. l.reads.zero_answers) told,
+                    ap (λ l. l.reads.zero_reads) told,
                   );
                 };
               }

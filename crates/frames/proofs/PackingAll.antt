@@ -90,7 +90,7 @@ module _ {R W : Type 0} (stretch : W → W → Type 0) (none : (x : W) → stret
         went = Packs-joins stretch none joins s m t u w v (ended before.lines) one.last before.lines (last_line one.last)
             before.went one.went;
       },
-      record { left = one.end.left; dry = omega (arith, before.went.grows.zero_answers, one.end.dry) },
+      record { left = one.end.left; dry = omega (arith, before.went.grows.zero_reads, one.end.dry) },
       met_too one.met,
     )
 

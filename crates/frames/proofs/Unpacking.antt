@@ -137,7 +137,7 @@ module _ {R W : Type 0} (remaining : R → Option (List ℕ)) (s : Framing R) (u
     each_more one = (each_counted one).0
 
     dry_too : RanDry m.reader t.reader → RanDry s.reader t.reader
-    dry_too dry = omega (arith, before.went.went.grows.zero_answers, dry)
+    dry_too dry = omega (arith, before.went.went.grows.zero_reads, dry)
 
     pub all_done : UnpacksNext remaining m w (Ok false) t v → UnpacksAll remaining s u (Ok tt) t v
     all_done next = (each_more next.0, record { left = next.1.left; dry = dry_too next.1.dry })

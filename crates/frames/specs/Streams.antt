@@ -45,7 +45,7 @@ pub record BufferRefused (e : Error) (read read' written written' : StreamLog) :
 
 -- the reader gave nothing though it was asked for something
 abbrev pub GaveNothing : StreamLog → StreamLog → Type 0
-GaveNothing read read' = read.reads.zero_answers < read'.reads.zero_answers
+GaveNothing read read' = read.reads.zero_reads < read'.reads.zero_reads
 
 -- what was received has been flushed
 abbrev pub AllFlushed : StreamLog → Type 0

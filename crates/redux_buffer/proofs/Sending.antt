@@ -7,7 +7,7 @@ use Rattle.std.specs.IoError.{error_kind}
 use Rattle.std.specs.declared.io.Error.{Error}
 use Rattle.std.specs.declared.io.ErrorKind.TheVariants.{WriteZero}
 use Rattle.redux_buffer.specs.Block.{Block, ConsumesFirst, OnlyRingMoves}
-use Rattle.redux_tell.specs.StreamLog.{StreamLog, taken, after_write, zero_of_some, zero_of_none}
+use Rattle.redux_tell.specs.StreamLog.{StreamLog, portion, after_write, zero_of_some, zero_of_none}
 use Rattle.redux_tell.specs.Faults.{IsInterrupt, OnlyInterrupted, OnlyInterrupted-joins, TookNothing-after, FaultedAfter-after}
 use Rattle.redux_buffer.specs.Transfer.{OnlyWrites, WritesRetried, Sent, Sends}
 use Rattle.redux_buffer.proofs.Steps.{OnlyRingMoves-joins, ConsumesFirst-joins}
@@ -75,7 +75,7 @@ module _ (k : ℕ) (es : List Error) (len : ℕ) (a b : Block) (log log' log'' :
 
   -- the same where the last write failed, or took nothing
   Sent-still : (answer : Result ℕ Error) → WritesRetried (take len b.bytes) log' answer log''
-      → taken (take len b.bytes) answer ≡ [] → Sent k a log b log''
+      → portion (take len b.bytes) answer ≡ [] → Sent k a log b log''
   Sent-still answer wrote none = record {
     within = sent.within;
     dropped = sent.dropped;

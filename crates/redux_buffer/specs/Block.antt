@@ -49,14 +49,14 @@ abbrev pub limit_of : Kind → ℕ
 limit_of k = by_kind k (2 ^ 62) (2 ^ 61)
 
 -- the capacity that `reserve a` needs, where there is too little usable space
-abbrev pub needed : Block → ℕ → ℕ
-needed b a = by_kind b.kind
+abbrev pub needed_capacity : Block → ℕ → ℕ
+needed_capacity b a = by_kind b.kind
     (if length b.bytes == 0 then b.capacity + a else b.capacity - usable b + a)
     (round (length b.bytes + a))
 
 -- the capacity after `reserve a`
 abbrev pub capacity_for : Block → ℕ → ℕ
-capacity_for b a = if nat_le a (usable b) then b.capacity else needed b a
+capacity_for b a = if nat_le a (usable b) then b.capacity else needed_capacity b a
 
 -- the capacity after `push_bytes(xs)`, which grows by twice their number where they don't fit
 abbrev pub capacity_to_push : Block → List ℕ → ℕ
@@ -93,25 +93,25 @@ abbrev pub GrowsToFront : Placed → Placed → Type 0
 GrowsToFront old new = OnKind old.block.kind ⊤ (old.block.capacity < new.block.capacity → new.place ≡ 0)
 
 -- ws written over xs, which keeps its length
-abbrev pub refilled : List ℕ → List ℕ → List ℕ
-refilled xs ws = take (length xs) (ws ++ drop (length ws) xs)
+abbrev pub overwrite : List ℕ → List ℕ → List ℕ
+overwrite xs ws = take (length xs) (ws ++ drop (length ws) xs)
 
 -- what `write_buf` lends out of: a ring whose place has passed its capacity is drawn back to the front
-abbrev pub drawn : Placed → Placed
-drawn p = by_kind p.block.kind p (
+abbrev pub draw_back : Placed → Placed
+draw_back p = by_kind p.block.kind p (
     if nat_lt p.block.capacity p.place
     then record { block = record p.block { moved = p.block.moved + length p.block.bytes; tail_behind = true }; place = 0 }
     else p)
 
 -- p with ws written over its tail
 abbrev pub with_tail : Placed → List ℕ → Placed
-with_tail p ws = let q = drawn p in record q { block = record q.block { tail = refilled p.block.tail ws } }
+with_tail p ws = let q = draw_back p in record q { block = record q.block { tail = overwrite p.block.tail ws } }
 
 -- b with ws written over its bytes. A ws that is longer, which no loan leaves, goes on into a tail that is behind them
 abbrev pub with_bytes : Block → List ℕ → Block
 with_bytes b ws = record b {
-  bytes = refilled b.bytes ws;
-  tail = if b.tail_behind then refilled b.tail (drop (length b.bytes) ws) else b.tail;
+  bytes = overwrite b.bytes ws;
+  tail = if b.tail_behind then overwrite b.tail (drop (length b.bytes) ws) else b.tail;
 }
 
 -- the first n bytes of the tail become the last bytes
@@ -163,14 +163,14 @@ pub record MakesRoom (old new : Block) : Type 0 where
   pub consumed : new.consumed ≡ old.consumed
 
 -- how many bytes a step shifted that dropped n
-abbrev pub shifted : ℕ → Placed → Placed → ℕ
-shifted n old new =
+abbrev pub shift_count : ℕ → Placed → Placed → ℕ
+shift_count n old new =
     if (length new.block.bytes == 0) || (nat_lt old.block.capacity new.block.capacity || (new.place == old.place + n))
     then 0 else length new.block.bytes
 
 -- the step that dropped n counts what it shifted
 abbrev pub CountsShift : ℕ → Placed → Placed → Type 0
-CountsShift n old new = new.block.moved ≡ old.block.moved + shifted n old new
+CountsShift n old new = new.block.moved ≡ old.block.moved + shift_count n old new
 
 -- only a ring may move bytes unasked
 abbrev pub OnlyRingMoves : Block → Block → Type 0

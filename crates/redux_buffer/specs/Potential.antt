@@ -3,7 +3,7 @@ use Rattle.std.specs.Prelude.{◌≡◌, ℕ, ◌+◌, ◌-◌, ◌*◌, ◌<◌
 use Rattle.std.proofs.Common.{◌∙◌, arith, inl, inr, subst}
 use Rattle.std.proofs.lemmas.Bool.{cases_lt, cond_both, leb-false}
 use Rattle.redux_buffer.specs.Block.{Block, Kind, Plain, OnKind, IsBlock, ConsumesFirst, Reserves, Extends}
-use Rattle.redux_buffer.specs.Block.{MakesRoom, MovesToFront, OnlyRingMoves, usable, place_of, needed, capacity_for}
+use Rattle.redux_buffer.specs.Block.{MakesRoom, MovesToFront, OnlyRingMoves, usable, place_of, needed_capacity, capacity_for}
 
 -- what was moved, and how far the bytes reach beyond the first keep places
 abbrev pub potential : ℕ → Block → ℕ
@@ -46,14 +46,14 @@ potential-consume n old new drops moves whole plain keep =
     }
 
 -- a plain block grows only upwards, and as much behind its bytes as in all
-needed_grows : (b : Block) (a : ℕ) → b.kind ≡ Plain → usable b < a → b.capacity ≤ needed b a
+needed_grows : (b : Block) (a : ℕ) → b.kind ≡ Plain → usable b < a → b.capacity ≤ needed_capacity b a
 needed_grows b a plain few =
     rw plain (cond_both (length b.bytes == 0) (b.capacity + a) (b.capacity - usable b + a)
     (λ c. b.capacity ≤ c) (λ _. omega arith) (λ _. omega arith))
 
 capacity_grows : (b : Block) (a : ℕ) → b.kind ≡ Plain → b.capacity ≤ capacity_for b a
 capacity_grows b a plain =
-    cond_both (nat_le a (usable b)) b.capacity (needed b a) (λ c. b.capacity ≤ c)
+    cond_both (nat_le a (usable b)) b.capacity (needed_capacity b a) (λ c. b.capacity ≤ c)
     (λ _. omega arith) (λ few. needed_grows b a plain (leb-false a (usable b) few))
 
 pub potential-reserve : (a : ℕ) (old new : Block) → Reserves a old new → PlainRises 0 old new

@@ -4,7 +4,7 @@ use Rattle.std.specs.Io.{ReadsAtMost, WritesAtMost}
 use Rattle.std.specs.List.{All}
 use Rattle.std.specs.declared.io.Error.{Error}
 use Rattle.redux_buffer.specs.Block.{Block, Extends, ConsumesFirst, OnlyRingMoves, usable}
-use Rattle.redux_tell.specs.StreamLog.{StreamLog, taken, with_zero, with_fault, after_read, after_write}
+use Rattle.redux_tell.specs.StreamLog.{StreamLog, portion, with_zero, with_fault, after_read, after_write}
 use Rattle.redux_tell.specs.Faults.{IsInterrupt, OnlyInterrupted, SendFailed}
 
 -- one read into the whole tail, which left it as out; what was given stands behind the bytes
@@ -14,7 +14,7 @@ pub record ReadsOnce (old : Block) (log : StreamLog) (answer : Result ℕ Error)
   pub offered : length out ≡ usable old
   pub bound : ReadsAtMost answer out
   pub told : log' ≡ after_read log out answer
-  pub added : Extends (taken out answer) old new
+  pub added : Extends (portion out answer) old new
 
 -- nothing was done, since there was nothing to do
 pub record DoesNothing {A : Type 0} (nothing : A) (old : Block) (log : StreamLog) (answer : Result A Error)
@@ -54,7 +54,7 @@ pub record WritesRetried (bs : List ℕ) (log : StreamLog) (answer : Result ℕ 
   pub interrupted : All IsInterrupt interrupts
   pub most : length interrupts ≤ 64
   pub often : IfErr answer (λ e. IsInterrupt e → length interrupts ≡ 64)
-  pub received : log'.writes.received ≡ log.writes.received ++ taken bs answer
+  pub received : log'.writes.received ≡ log.writes.received ++ portion bs answer
   pub flushed : log'.writes.flushed ≡ log.writes.flushed
   pub zero_writes : log'.writes.zero_writes ≡ with_zero log.writes.zero_writes bs answer
   pub faults : log'.writes.faults ≡ with_fault (log.writes.faults ++ interrupts) answer

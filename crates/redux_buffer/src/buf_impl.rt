@@ -2,8 +2,8 @@
 ghost use Rattle.std.specs.Prelude.{◌≡◌, ◌+◌, ◌-◌, ◌^◌, ◌≤◌, ◌<◌, ◌↔◌, ◌++◌, length, min, take, drop, IsTrue, IfOk, IsOk, OnOk, OnErr};
 ghost use Rattle.std.specs.Borrow.{Lends, Array, sem, u8};
 ghost use Rattle.redux_buffer.specs.GrowError.{FitsWithin};
-ghost use Rattle.redux_buffer.specs.Block.{Plain, Ring, IsPlaced, IsNew, GrowsToFront, BytesWritten, ConsumesFirst, Extends, Reserves, MakesRoom, CountsShift, usable, capacity_for, with_tail, with_bytes, drawn, round};
-ghost use Rattle.redux_buffer.specs.BufImpl.{placed, with_placed};
+ghost use Rattle.redux_buffer.specs.Block.{Plain, Ring, IsPlaced, IsNew, GrowsToFront, BytesWritten, ConsumesFirst, Extends, Reserves, MakesRoom, CountsShift, usable, capacity_for, with_tail, with_bytes, draw_back, round};
+ghost use Rattle.redux_buffer.specs.BufImpl.{as_placed, with_placed};
 ghost use Rattle.redux_buffer.specs.contracts.buf_impl.BufImpl.{the_row};
 
 use crate::grow_error::GrowError;
@@ -23,7 +23,7 @@ pub enum BufImpl {
 impl BufImpl {
     /// An empty plain buffer of capacity `cap` in bytes.
     pub fn with_capacity(alloc: Global, cap: usize) -> Result<Self, GrowError>
-        ensures made { IfOk result (λ b. IsNew Plain cap (placed b).block × IsPlaced (placed b)) }
+        ensures made { IfOk result (λ b. IsNew Plain cap (as_placed b).block × IsPlaced (as_placed b)) }
         ensures limit { FitsWithin result cap (2 ^ 62) }
         ensures succeeds { cap ≡ 0 → IsOk result }
     {
@@ -32,7 +32,7 @@ impl BufImpl {
 
     /// An empty ring of at least `cap` bytes.
     pub fn with_capacity_ringbuf(alloc: Global, cap: usize) -> Result<Self, GrowError>
-        ensures made { IfOk result (λ b. IsNew Ring (round cap) (placed b).block × IsPlaced (placed b)) }
+        ensures made { IfOk result (λ b. IsNew Ring (round cap) (as_placed b).block × IsPlaced (as_placed b)) }
         ensures limit { FitsWithin result (round cap) (2 ^ 61) }
         ensures succeeds { cap ≡ 0 → IsOk result }
     {
@@ -41,8 +41,8 @@ impl BufImpl {
 
     /// Whether it is a ring.
     pub fn is_ringbuf(&self) -> bool
-        ensures ring { IsTrue result ↔ ((placed self.now).block.kind ≡ Ring) }
-        ensures whole { IsPlaced (placed self.now) }
+        ensures ring { IsTrue result ↔ ((as_placed self.now).block.kind ≡ Ring) }
+        ensures whole { IsPlaced (as_placed self.now) }
     {
         // Which kind a block is, its own calls tell.
         match self {
@@ -59,8 +59,8 @@ impl BufImpl {
 
     /// The capacity in bytes.
     pub fn capacity(&self) -> usize
-        ensures value { result ≡ (placed self.now).block.capacity }
-        ensures whole { IsPlaced (placed self.now) }
+        ensures value { result ≡ (as_placed self.now).block.capacity }
+        ensures whole { IsPlaced (as_placed self.now) }
     {
         match self {
             BufImpl::Std(b) => b.capacity(),
@@ -70,8 +70,8 @@ impl BufImpl {
 
     /// How many bytes it holds.
     pub fn len(&self) -> usize
-        ensures value { result ≡ length (placed self.now).block.bytes }
-        ensures whole { IsPlaced (placed self.now) }
+        ensures value { result ≡ length (as_placed self.now).block.bytes }
+        ensures whole { IsPlaced (as_placed self.now) }
     {
         match self {
             BufImpl::Std(b) => b.len(),
@@ -81,8 +81,8 @@ impl BufImpl {
 
     /// How many bytes can be written behind those that it holds.
     pub fn usable_space(&self) -> usize
-        ensures value { result ≡ usable (placed self.now).block }
-        ensures whole { IsPlaced (placed self.now) }
+        ensures value { result ≡ usable (as_placed self.now).block }
+        ensures whole { IsPlaced (as_placed self.now) }
     {
         match self {
             BufImpl::Std(b) => b.usable_space(),
@@ -92,7 +92,7 @@ impl BufImpl {
 
     /// The bytes.
     pub fn buf(&self) -> &[u8]
-        ensures { result.now ≡ (placed self.now).block.bytes }
+        ensures { result.now ≡ (as_placed self.now).block.bytes }
     {
         match self {
             BufImpl::Std(b) => b.buf(),
@@ -103,8 +103,8 @@ impl BufImpl {
     /// Lends the whole usable tail. What is written there counts once [`bytes_written`](BufImpl::bytes_written) says so.
     pub fn write_buf(&mut self) -> &mut [u8]
         ensures* writes_back { sem 𝓛 (Lends the_row (Array u8 0) self.entry result
-            (λ w. with_placed self.old (with_tail (placed self.old) w))) }
-        ensures value { result.now ≡ (placed self.old).block.tail }
+            (λ w. with_placed self.old (with_tail (as_placed self.old) w))) }
+        ensures value { result.now ≡ (as_placed self.old).block.tail }
     {
         match self {
             BufImpl::Std(b) => b.write_buf(),
@@ -115,8 +115,8 @@ impl BufImpl {
     /// The bytes, for writing.
     pub fn buf_mut(&mut self) -> &mut [u8]
         ensures* writes_back { sem 𝓛 (Lends the_row (Array u8 0) self.entry result
-            (λ w. with_placed self.old (record (placed self.old) { block = with_bytes (placed self.old).block w }))) }
-        ensures value { result.now ≡ (placed self.old).block.bytes }
+            (λ w. with_placed self.old (record (as_placed self.old) { block = with_bytes (as_placed self.old).block w }))) }
+        ensures value { result.now ≡ (as_placed self.old).block.bytes }
     {
         match self {
             BufImpl::Std(b) => b.buf_mut(),
@@ -126,9 +126,9 @@ impl BufImpl {
 
     /// Takes the first `n` bytes of the tail, or all of it where it has fewer, as the last bytes.
     pub fn bytes_written(&mut self, n: usize)
-        ensures bytes { BytesWritten n (placed self.old).block (placed self.new).block }
-        ensures shift { CountsShift 0 (placed self.old) (placed self.new) }
-        ensures whole { IsPlaced (placed self.new) }
+        ensures bytes { BytesWritten n (as_placed self.old).block (as_placed self.new).block }
+        ensures shift { CountsShift 0 (as_placed self.old) (as_placed self.new) }
+        ensures whole { IsPlaced (as_placed self.new) }
     {
         match self {
             BufImpl::Std(b) => b.bytes_written(n),
@@ -138,9 +138,9 @@ impl BufImpl {
 
     /// Drops the first `n` bytes, or all where it holds fewer.
     pub fn consume(&mut self, n: usize)
-        ensures bytes { ConsumesFirst n (placed self.old).block (placed self.new).block }
-        ensures shift { CountsShift (min n (length (placed self.old).block.bytes)) (placed self.old) (placed self.new) }
-        ensures whole { IsPlaced (placed self.new) }
+        ensures bytes { ConsumesFirst n (as_placed self.old).block (as_placed self.new).block }
+        ensures shift { CountsShift (min n (length (as_placed self.old).block.bytes)) (as_placed self.old) (as_placed self.new) }
+        ensures whole { IsPlaced (as_placed self.new) }
     {
         match self {
             BufImpl::Std(b) => b.consume(n),
@@ -151,11 +151,11 @@ impl BufImpl {
     // Copies the first bytes of `src` behind the bytes, as many as fit there, and returns how many those are. A ring is
     // drawn back first where `write_buf` would do so.
     pub(crate) fn append(&mut self, src: &[u8]) -> usize
-        ensures count { result ≡ min (usable (placed self.old).block) (length src.now) }
-        ensures bytes { Extends (take result src.now) (placed self.old).block (placed self.new).block }
-        ensures place { (placed self.new).place ≡ (drawn (placed self.old)).place }
-        ensures moved { (placed self.new).block.moved ≡ (drawn (placed self.old)).block.moved }
-        ensures whole { IsPlaced (placed self.new) }
+        ensures count { result ≡ min (usable (as_placed self.old).block) (length src.now) }
+        ensures bytes { Extends (take result src.now) (as_placed self.old).block (as_placed self.new).block }
+        ensures place { (as_placed self.new).place ≡ (draw_back (as_placed self.old)).place }
+        ensures moved { (as_placed self.new).block.moved ≡ (draw_back (as_placed self.old)).block.moved }
+        ensures whole { IsPlaced (as_placed self.new) }
     {
         match self {
             BufImpl::Std(b) => b.append(src),
@@ -165,11 +165,11 @@ impl BufImpl {
 
     // Copies the first bytes to the front of `out`, as many as fit, drops them, and returns how many those are.
     pub(crate) fn take_out(&mut self, out: &mut [u8]) -> usize
-        ensures count { result ≡ min (length (placed self.old).block.bytes) (length out.old) }
-        ensures copied { out.new ≡ take result (placed self.old).block.bytes ++ drop result out.old }
-        ensures bytes { ConsumesFirst result (placed self.old).block (placed self.new).block }
-        ensures shift { CountsShift result (placed self.old) (placed self.new) }
-        ensures whole { IsPlaced (placed self.new) }
+        ensures count { result ≡ min (length (as_placed self.old).block.bytes) (length out.old) }
+        ensures copied { out.new ≡ take result (as_placed self.old).block.bytes ++ drop result out.old }
+        ensures bytes { ConsumesFirst result (as_placed self.old).block (as_placed self.new).block }
+        ensures shift { CountsShift result (as_placed self.old) (as_placed self.new) }
+        ensures whole { IsPlaced (as_placed self.new) }
     {
         match self {
             BufImpl::Std(b) => b.take_out(out),
@@ -179,10 +179,10 @@ impl BufImpl {
 
     /// Makes all free space usable: a plain buffer moves its bytes to the front, a ring does nothing.
     pub fn make_room(&mut self)
-        ensures bytes { MakesRoom (placed self.old).block (placed self.new).block }
-        ensures ring { (placed self.old).block.kind ≡ Ring → placed self.new ≡ placed self.old }
-        ensures shift { CountsShift 0 (placed self.old) (placed self.new) }
-        ensures whole { IsPlaced (placed self.new) }
+        ensures bytes { MakesRoom (as_placed self.old).block (as_placed self.new).block }
+        ensures ring { (as_placed self.old).block.kind ≡ Ring → as_placed self.new ≡ as_placed self.old }
+        ensures shift { CountsShift 0 (as_placed self.old) (as_placed self.new) }
+        ensures whole { IsPlaced (as_placed self.new) }
     {
         match self {
             BufImpl::Std(b) => b.make_room(),
@@ -192,13 +192,13 @@ impl BufImpl {
 
     /// Makes sure that `a` more bytes can be written. A refusal changes nothing.
     pub fn reserve(&mut self, a: usize) -> Result<(), GrowError>
-        ensures grown { OnOk result (Reserves a (placed self.old).block (placed self.new).block) }
-        ensures place { GrowsToFront (placed self.old) (placed self.new) }
-        ensures shift { CountsShift 0 (placed self.old) (placed self.new) }
-        ensures unchanged { OnErr result (placed self.new ≡ placed self.old) }
-        ensures limit { FitsWithin result (capacity_for (placed self.old).block a) (placed self.old).block.limit }
-        ensures succeeds { a ≤ usable (placed self.old).block → IsOk result }
-        ensures whole { IsPlaced (placed self.new) }
+        ensures grown { OnOk result (Reserves a (as_placed self.old).block (as_placed self.new).block) }
+        ensures place { GrowsToFront (as_placed self.old) (as_placed self.new) }
+        ensures shift { CountsShift 0 (as_placed self.old) (as_placed self.new) }
+        ensures unchanged { OnErr result (as_placed self.new ≡ as_placed self.old) }
+        ensures limit { FitsWithin result (capacity_for (as_placed self.old).block a) (as_placed self.old).block.limit }
+        ensures succeeds { a ≤ usable (as_placed self.old).block → IsOk result }
+        ensures whole { IsPlaced (as_placed self.new) }
     {
         match self {
             BufImpl::Std(b) => b.reserve(a),

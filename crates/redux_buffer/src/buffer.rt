@@ -28,11 +28,11 @@ impl Model for Buffer {
 
     ghost Value = { Block };
 
-    ghost use Rattle.redux_buffer.specs.BufImpl.{placed};
+    ghost use Rattle.redux_buffer.specs.BufImpl.{as_placed};
 
-    ghost view = { λ b. with_limit (placed b.imp).block b.limit };
+    ghost view = { λ b. with_limit (as_placed b.imp).block b.limit };
 
-    ghost invariant = { λ b. IsPlaced (placed b.imp) × IsBlock (with_limit (placed b.imp).block b.limit) };
+    ghost invariant = { λ b. IsPlaced (as_placed b.imp) × IsBlock (with_limit (as_placed b.imp).block b.limit) };
 }
 
 impl Buffer {

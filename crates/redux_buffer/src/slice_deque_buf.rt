@@ -2,7 +2,7 @@
 ghost use Rattle.std.specs.Prelude.{◌≡◌, ◌+◌, ◌-◌, ◌^◌, ◌≤◌, ◌<◌, ◌++◌, length, min, take, drop, IfOk, IsOk, OnOk, OnErr};
 ghost use Rattle.std.specs.Borrow.{Lends, Array, sem, u8};
 ghost use Rattle.redux_buffer.specs.GrowError.{FitsWithin};
-ghost use Rattle.redux_buffer.specs.Block.{Ring, IsPlaced, IsNew, GrowsToFront, BytesWritten, ConsumesFirst, Extends, Reserves, MakesRoom, CountsShift, usable, capacity_for, with_tail, with_bytes, drawn, round};
+ghost use Rattle.redux_buffer.specs.Block.{Ring, IsPlaced, IsNew, GrowsToFront, BytesWritten, ConsumesFirst, Extends, Reserves, MakesRoom, CountsShift, usable, capacity_for, with_tail, with_bytes, draw_back, round};
 ghost use Rattle.redux_buffer.specs.contracts.slice_deque_buf.SliceDequeBuf.{the_row};
 
 use crate::count::Count;
@@ -131,7 +131,7 @@ impl SliceDequeBuf {
     #[inline(never)]
     fn draw_back(&mut self)
         requires { self.old.block.capacity < self.old.place }
-        ensures { self.new ≡ drawn self.old }
+        ensures { self.new ≡ draw_back self.old }
     {
         let len = self.end - self.head;
         self.buf.as_mut_slice().copy_within(self.head..self.end, 0);
@@ -204,8 +204,8 @@ impl SliceDequeBuf {
     pub(crate) fn append(&mut self, src: &[u8]) -> usize
         ensures count { result ≡ min (usable self.old.block) (length src.now) }
         ensures bytes { Extends (take result src.now) self.old.block self.new.block }
-        ensures place { self.new.place ≡ (drawn self.old).place }
-        ensures moved { self.new.block.moved ≡ (drawn self.old).block.moved }
+        ensures place { self.new.place ≡ (draw_back self.old).place }
+        ensures moved { self.new.block.moved ≡ (draw_back self.old).block.moved }
         ensures whole { IsPlaced self.new }
     {
         if self.stop > self.buf.capacity() {

@@ -18,7 +18,7 @@ pub record MovedBy (n : ℕ) (from from' : FillLog) (to to' : WriteLog) : Type 0
 -- turns that moved n bytes, in which the streams were at most interrupted
 pub record CopiesOn (n : ℕ) (from from' : FillLog) (to to' : WriteLog) : Type 0 where
   pub moved : MovedBy n from from' to to'
-  pub ends : from.ends ≤ from'.ends
+  pub ends : from.zero_fills ≤ from'.zero_fills
   pub reader : OnlyInterrupts from.faults from'.faults
   pub writer : MetInterrupts to to'
 
@@ -37,7 +37,7 @@ pub record CopyEnded {W : Type 0} (tells : W → StreamLog) (stretch call : W �
     (from from' : FillLog) (w w' : W) : Type 0 where
   pub reader : OnlyInterrupts from.faults from'.faults
   pub last : LastWrite tells stretch call w from'.shown (Ok 0) w'
-  pub ends : length from'.shown ≡ 0 → from.ends < from'.ends
+  pub ends : length from'.shown ≡ 0 → from.zero_fills < from'.zero_fills
 
 -- the reader, whose faults these are, failed with this error, and the writer was at most interrupted
 pub record SourceFailed (e : Error) (faults faults' : List Error) (to to' : WriteLog) : Type 0 where

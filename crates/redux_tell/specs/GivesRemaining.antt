@@ -14,7 +14,7 @@ pub record GivesRemaining (left : Option (List ℕ)) (log : ReadLog) (left' : Op
   pub more : List ℕ
   pub given : log'.given ≡ log.given ++ more
   pub went : Consumes left left' more
-  pub dry : log.zero_answers < log'.zero_answers → IfSome left (λ _. IsAtEnd left')
+  pub dry : log.zero_reads < log'.zero_reads → IfSome left (λ _. IsAtEnd left')
 
 pub GivesRemaining-none : (left : Option (List ℕ)) (log : ReadLog) → GivesRemaining left log left log
 GivesRemaining-none left log = record {
@@ -45,7 +45,7 @@ GivesRemaining-joins a k b l c m p q = record {
   more = p.more ++ q.more;
   given = q.given ∙ ap (λ l. l ++ q.more) p.given ∙ append_assoc k.given p.more q.more;
   went = Consumes-trans a b c p.more q.more p.went q.went;
-  dry = λ rose. elim (cases_lt k.zero_answers l.zero_answers) [
+  dry = λ rose. elim (cases_lt k.zero_reads l.zero_reads) [
     | inl first ↦ stays_at_end a b c p.more q.more p.went q.went (p.dry first)
     | inr second ↦ ends_later a b c p.more p.went (q.dry (omega (arith, rose, second)))
   ];
@@ -69,15 +69,15 @@ GivesRemaining-read left left' log log' buf (Ok n) bytes told = record {
   given = ap (λ l. l.reads.given) told;
   went = bytes.0;
   dry = λ rose.
-      let counted = ap (λ l. l.reads.zero_answers) told in
-      let none = zero_of_risen n buf log.reads.zero_answers (subst (λ k. log.reads.zero_answers < k) counted rose) in
+      let counted = ap (λ l. l.reads.zero_reads) told in
+      let none = zero_of_risen n buf log.reads.zero_reads (subst (λ k. log.reads.zero_reads < k) counted rose) in
       at_end left left' (bytes.1 none.0 none.1);
 }
 GivesRemaining-read left left' log log' buf (Err e) bytes told = record {
   more = [];
   given = ap (λ l. l.reads.given) told;
   went = Consumes-kept left left left' [] (Consumes-nil left) bytes;
-  dry = λ rose. absurd (omega (arith, rose, ap (λ l. l.reads.zero_answers) told));
+  dry = λ rose. absurd (omega (arith, rose, ap (λ l. l.reads.zero_reads) told));
 }
 
 -- bytes that are buffered before those that are left, gain what is given, and lose what is handed out: of all of them just

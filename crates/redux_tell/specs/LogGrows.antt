@@ -3,12 +3,12 @@ use Rattle.std.specs.Prelude.{◌≡◌, ℕ, ◌≤◌, ◌⊎◌, List, [], �
 use Rattle.std.proofs.Common.{◌∙◌, inl, inr, refl, le_refl, le_trans, subst, sym, arith}
 use Rattle.std.specs.declared.io.Error.{Error}
 use Rattle.redux_tell.specs.GoesOn.{GoesOn, GoesOn-none, GoesOn-joins}
-use Rattle.redux_tell.specs.StreamLog.{ReadLog, WriteLog, FillLog, StreamLog, taken, with_zero, with_fault, with_flush, after_read, after_write, after_flush}
+use Rattle.redux_tell.specs.StreamLog.{ReadLog, WriteLog, FillLog, StreamLog, portion, with_zero, with_fault, with_flush, after_read, after_write, after_flush}
 
 pub record ReadLogGrows (old new : ReadLog) : Type 0 where
   pub given : GoesOn old.given new.given
   pub asks : old.asks ≤ new.asks
-  pub zero_answers : old.zero_answers ≤ new.zero_answers
+  pub zero_reads : old.zero_reads ≤ new.zero_reads
   pub faults : GoesOn old.faults new.faults
 
 -- it was flushed since: of what was received at first nothing is left out, and what is flushed was received
@@ -25,7 +25,7 @@ pub record WriteLogGrows (old new : WriteLog) : Type 0 where
 -- what is shown changes with each call
 pub record FillLogGrows (old new : FillLog) : Type 0 where
   pub consumed : GoesOn old.consumed new.consumed
-  pub ends : old.ends ≤ new.ends
+  pub ends : old.zero_fills ≤ new.zero_fills
   pub faults : GoesOn old.faults new.faults
 
 -- the same of a stream's writes and fills, as words that a proof opens only where it needs to
@@ -37,13 +37,13 @@ FillsGoOn old new = FillLogGrows old.fills new.fills
 
 pub ReadLogGrows-none : (s : ReadLog) → ReadLogGrows s s
 ReadLogGrows-none s = record
-    { given = GoesOn-none s.given; asks = le_refl _; zero_answers = le_refl _; faults = GoesOn-none s.faults }
+    { given = GoesOn-none s.given; asks = le_refl _; zero_reads = le_refl _; faults = GoesOn-none s.faults }
 
 pub ReadLogGrows-joins : (a b c : ReadLog) → ReadLogGrows a b → ReadLogGrows b c → ReadLogGrows a c
 ReadLogGrows-joins a b c p q = record {
   given = GoesOn-joins a.given b.given c.given p.given q.given;
   asks = le_trans p.asks q.asks;
-  zero_answers = le_trans p.zero_answers q.zero_answers;
+  zero_reads = le_trans p.zero_reads q.zero_reads;
   faults = GoesOn-joins a.faults b.faults c.faults p.faults q.faults;
 }
 
@@ -101,16 +101,16 @@ flush_goes_on (Err e) log = inl refl
 pub ReadLogGrows-read : (log : StreamLog) (buf : List ℕ) (answer : Result ℕ Error)
     → ReadLogGrows log.reads (after_read log buf answer).reads
 ReadLogGrows-read log buf answer = record {
-  given = record { more = taken buf answer; equal = refl };
+  given = record { more = portion buf answer; equal = refl };
   asks = omega arith;
-  zero_answers = zero_rises answer buf log.reads.zero_answers;
+  zero_reads = zero_rises answer buf log.reads.zero_reads;
   faults = fault_goes_on answer log.reads.faults;
 }
 
 pub WriteLogGrows-write : (log : StreamLog) (buf : List ℕ) (answer : Result ℕ Error)
     → WriteLogGrows log.writes (after_write log buf answer).writes
 WriteLogGrows-write log buf answer = record {
-  received = record { more = taken buf answer; equal = refl };
+  received = record { more = portion buf answer; equal = refl };
   flushed = inl refl;
   zero_writes = zero_rises answer buf log.writes.zero_writes;
   faults = fault_goes_on answer log.writes.faults;

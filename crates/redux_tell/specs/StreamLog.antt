@@ -11,7 +11,7 @@ pub record ReadLog : Type 0 where
   pub given : List ℕ
   pub asks : ℕ
   pub offer : ℕ
-  pub zero_answers : ℕ
+  pub zero_reads : ℕ
   pub faults : List Error
 
 -- what a writer tells of its writes and flushes: the bytes that it took, those that it had taken at its last Ok flush,
@@ -28,7 +28,7 @@ pub record WriteLog : Type 0 where
 pub record FillLog : Type 0 where
   pub shown : List ℕ
   pub consumed : List ℕ
-  pub ends : ℕ
+  pub zero_fills : ℕ
   pub faults : List Error
 
 -- one seek, with its answer
@@ -50,16 +50,16 @@ pub record StreamLog : Type 0 where
 -- a stream that was not called yet
 abbrev pub no_calls : StreamLog
 no_calls = record {
-  reads = record { given = []; asks = 0; offer = 0; zero_answers = 0; faults = [] };
+  reads = record { given = []; asks = 0; offer = 0; zero_reads = 0; faults = [] };
   writes = record { received = []; flushed = []; offer = 0; zero_writes = 0; faults = [] };
-  fills = record { shown = []; consumed = []; ends = 0; faults = [] };
+  fills = record { shown = []; consumed = []; zero_fills = 0; faults = [] };
   seeks = record { calls = []; faults = [] };
 }
 
 -- the bytes of bs that an answer took: the first n at `Ok(n)`, none at `Err`
-abbrev pub taken : List ℕ → Result ℕ Error → List ℕ
-taken bs (Ok n) = take n bs
-taken bs (Err e) = []
+abbrev pub portion : List ℕ → Result ℕ Error → List ℕ
+portion bs (Ok n) = take n bs
+portion bs (Err e) = []
 
 -- an answer `Ok(0)` to a slice that is not empty is counted
 abbrev pub with_zero : ℕ → List ℕ → Result ℕ Error → ℕ
@@ -89,10 +89,10 @@ with_flush before received (Err e) = before
 abbrev pub after_read : StreamLog → List ℕ → Result ℕ Error → StreamLog
 after_read log buf answer = record log {
   reads = record {
-    given = log.reads.given ++ taken buf answer;
+    given = log.reads.given ++ portion buf answer;
     asks = log.reads.asks + 1;
     offer = length buf;
-    zero_answers = with_zero log.reads.zero_answers buf answer;
+    zero_reads = with_zero log.reads.zero_reads buf answer;
     faults = with_fault log.reads.faults answer;
   };
 }
@@ -101,7 +101,7 @@ after_read log buf answer = record log {
 abbrev pub after_write : StreamLog → List ℕ → Result ℕ Error → StreamLog
 after_write log buf answer = record log {
   writes = record {
-    received = log.writes.received ++ taken buf answer;
+    received = log.writes.received ++ portion buf answer;
     flushed = log.writes.flushed;
     offer = length buf;
     zero_writes = with_zero log.writes.zero_writes buf answer;
@@ -136,7 +136,7 @@ after_consume log amount = record log {
   fills = record {
     shown = drop amount log.fills.shown;
     consumed = log.fills.consumed ++ take amount log.fills.shown;
-    ends = log.fills.ends;
+    zero_fills = log.fills.zero_fills;
     faults = log.fills.faults;
   };
 }
@@ -155,7 +155,7 @@ after_shown log bytes = record log {
   fills = record {
     shown = bytes;
     consumed = log.fills.consumed;
-    ends = with_end log.fills.ends bytes;
+    zero_fills = with_end log.fills.zero_fills bytes;
     faults = log.fills.faults;
   };
 }
@@ -166,7 +166,7 @@ after_fill_fault log shown e = record log {
   fills = record {
     shown = shown;
     consumed = log.fills.consumed;
-    ends = log.fills.ends;
+    zero_fills = log.fills.zero_fills;
     faults = log.fills.faults ++ e ∷ [];
   };
 }

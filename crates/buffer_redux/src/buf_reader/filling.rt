@@ -26,7 +26,7 @@ impl<R: TellRead, P: ReaderPolicy> BufReader<R, P> {
         ensures filled { Filled P.rules self.old result self.new }
         ensures known { InnerGives R.remaining self.old self.new }
         ensures end { RanDry self.old self.new → IsAtEnd (R.remaining self.new.inner) }
-        ensures noted { self.new.calls ≡ self.old.calls }
+        ensures noted { self.new.own_calls ≡ self.old.own_calls }
         ensures whole { IsBlock self.new.block }
     {
         while self.policy.before_read(&mut self.buf)?.0 && self.buf.usable_space() > 0 {
@@ -46,7 +46,7 @@ impl<R: TellRead, P: ReaderPolicy> BufReader<R, P> {
         ensures inner { self.new.inner ≡ self.old.inner }
         ensures grows { ReadLogGrows self.old.log.reads self.new.log.reads }
         ensures consumed { ReaderConsumes P.rules result self.old self.new }
-        ensures noted { self.new.calls ≡ self.old.calls }
+        ensures noted { self.new.own_calls ≡ self.old.own_calls }
         ensures sparing { SparesClaimed P.rules self.old self.new }
         ensures capacity { self.old.block.capacity ≤ self.new.block.capacity }
         ensures whole { IsBlock self.new.block }

@@ -4,7 +4,7 @@ ghost use Rattle.std.specs.Io.KnownBytes.{Keeps};
 ghost use Rattle.std.specs.Io.Seek.{SeekMoves};
 ghost use Rattle.redux_buffer.specs.Block.{IsBlock};
 ghost use Rattle.redux_tell.specs.StreamLog.{with_fault};
-ghost use Rattle.buffer_redux.specs.Seek.{planned, reader_position, Seeks, SeeksOnce, SeekLeaves};
+ghost use Rattle.buffer_redux.specs.Seek.{plan_for, reader_position, Seeks, SeeksOnce, SeekLeaves};
 ghost use Rattle.buffer_redux.specs.Sparing.{Spared};
 
 use crate::buf_reader::BufReader;
@@ -27,7 +27,7 @@ pub enum SeekPlan {
 /// `len` is at most 2^62, as is the capacity of every buffer.
 pub fn seek_plan(to: SeekFrom, len: usize) -> SeekPlan
     requires { len ≤ 2 ^ 62 }
-    ensures { result ≡ planned to len }
+    ensures { result ≡ plan_for to len }
 {
     let SeekFrom::Current(offset) = to else {
         return SeekPlan::One(to);
@@ -67,7 +67,7 @@ impl<R: TellSeek, P> Seek for BufReader<R, P> {
         ensures moves { SeekMoves (reader_position R.stream_position self.old)
             (reader_position R.stream_position self.new) (R.stream_bytes self.old.inner) to result }
         ensures bytes { Keeps (R.stream_bytes self.old.inner) (R.stream_bytes self.new.inner) }
-        ensures seeks { Seeks (planned to (length self.old.block.bytes)) self.old result self.new }
+        ensures seeks { Seeks (plan_for to (length self.old.block.bytes)) self.old result self.new }
         ensures leaves { SeekLeaves self.old result self.new }
         ensures spared { (keep : ℕ) → Spared keep self.old self.new }
         ensures caused { self.new.log.seeks.faults ≡ with_fault self.old.log.seeks.faults result }

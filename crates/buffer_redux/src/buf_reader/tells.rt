@@ -22,7 +22,7 @@ impl<R: Tell, P> Tell for BufReader<R, P> {
 impl<R: TellRead, P: ReaderPolicy> BufReader<R, P> {
     // Fills, and notes the call before what it shows is lent.
     fn fill_noted(&mut self) -> io::Result<()>
-        ensures noted { self.new.calls ≡ after_fill self.old.calls result self.new.block.bytes }
+        ensures noted { self.new.own_calls ≡ after_fill self.old.own_calls result self.new.block.bytes }
         ensures went { ReaderWent R.remaining P.rules self.old self.new }
         ensures filled { Filled P.rules self.old result self.new }
         ensures whole { IsBlock self.new.block }

@@ -2,7 +2,7 @@
 ghost use Rattle.std.specs.Prelude.{◌≡◌, ◌<◌, length, max, IfOk, OnOk};
 ghost use Rattle.buffer_redux.specs.BufWriter.{Writes};
 ghost use Rattle.buffer_redux.specs.LineWriter.{line_rules};
-ghost use Rattle.buffer_redux.specs.WriteLaws.{EachTook, WroteExactly};
+ghost use Rattle.buffer_redux.specs.WroteExactly.{EachTook, WroteExactly};
 ghost use Rattle.redux_policy.specs.WriterPolicies.{at_least_rules, exact_rules, flush_on_rules};
 ghost use Rattle.buffer_redux.specs.WriterPolicyLaws.{HasNo, SendsExactly};
 

@@ -34,7 +34,7 @@ returns-then-taken-eq0-clause-ended g c is =
       };
       ends = λ empty. omega (
         arith,
-        ap (λ l. l.fills.ends) filled,
-        end_noted (g.B.Tell.log c.args.b.now).fills.ends bytes (omega (arith, ap length shown, empty)),
+        ap (λ l. l.fills.zero_fills) filled,
+        end_noted (g.B.Tell.log c.args.b.now).fills.zero_fills bytes (omega (arith, ap length shown, empty)),
       );
     }

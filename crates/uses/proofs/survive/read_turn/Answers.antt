@@ -22,4 +22,4 @@ pub returns-clause-dry : goal.returns-clause-dry
 returns-clause-dry g c is =
     let filled = rw c.in_ok-shown.was at c.fill_buf.follows.holds-at-none in
     let end = ReadsToEnd-of _ _ _ _ [] _ _ (ReadsAlong-none _ _ _) filled c.requires.wants c.requires.capacity (cc) in
-    omega (arith, end.dry, ap (λ l. l.reads.zero_answers) c.consume.ensures.consumed.told)
+    omega (arith, end.dry, ap (λ l. l.reads.zero_reads) c.consume.ensures.consumed.told)

@@ -145,4 +145,4 @@ returns-in_err-read_into_buf-clause-end g c rose =
     absurd (dry_never g.P.ReaderPolicy.rules c.loop-self.invariant.count c.args.self.now _
     (subst (Turns g.P.ReaderPolicy.rules c.loop-self.invariant.count c.args.self.now) (sym c.self.view_is)
     c.loop-self.invariant.turns)
-    (subst (λ z. c.args.self.now.log.reads.zero_answers < z) same rose))
+    (subst (λ z. c.args.self.now.log.reads.zero_reads < z) same rose))

@@ -8,7 +8,7 @@ abbrev pub invariant-loop-self : goal.invariant-loop-self
 invariant-loop-self g l = record {
   count : ℕ;
   turns : Turns g.P.ReaderPolicy.rules count l.initial.self l.self;
-  noted : l.self.calls ≡ l.initial.self.calls;
+  noted : l.self.own_calls ≡ l.initial.self.own_calls;
   known : InnerGives g.R.TellRead.remaining l.initial.self l.self;
 }
 

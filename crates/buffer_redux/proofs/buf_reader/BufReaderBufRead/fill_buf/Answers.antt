@@ -44,7 +44,7 @@ returns g c =
           fills = subst (Fills rules s (Ok c.buf.result)) (sym c.self.view_is) done;
           known = subst (InnerGives remaining s) (sym c.self.view_is) f.known;
           shown = c.buf.ensures;
-          noted = ap (λ b. b.calls) c.self.view_is ∙ f.noted;
+          noted = ap (λ b. b.own_calls) c.self.view_is ∙ f.noted;
         },
       ),
       record {

@@ -78,7 +78,7 @@ slow g c =
       block = c.before_read.new.buffer;
       inner = c.self.inside.inner;
       log = g.R.Tell.log c.self.inside.inner;
-      calls = c.self.inside.calls.log;
+      own_calls = c.self.inside.calls.log;
     } in
     let asked : AskedRead table (Ok c.in_ok-before_read.field-0) c.args.self.now m = rw (← c.self.view_is) (record
     { asked = c.in_ok-before_read.ensures; whole = c.self.invariant; inner = refl; told = refl; noted = refl }) in
@@ -93,7 +93,7 @@ refused : (g : _) (c : goal.After-from_residual g)
       block = c.before_read.new.buffer;
       inner = c.self.inside.inner;
       log = g.R.Tell.log c.self.inside.inner;
-      calls = c.self.inside.calls.log;
+      own_calls = c.self.inside.calls.log;
     })
 refused g c =
     let table = g.P.ReaderPolicy.rules in
@@ -104,7 +104,7 @@ refused g c =
       block = c.before_read.new.buffer;
       inner = c.self.inside.inner;
       log = g.R.Tell.log c.self.inside.inner;
-      calls = c.self.inside.calls.log;
+      own_calls = c.self.inside.calls.log;
     } in
     let asked : AskedRead table (Err e) c.args.self.now m = rw (← c.self.view_is) (record
     { asked = c.in_err-before_read.ensures; whole = c.self.invariant; inner = refl; told = refl; noted = refl }) in
@@ -125,7 +125,7 @@ fast g c =
       block = c.before_read.new.buffer;
       inner = c.self.inside.inner;
       log = g.R.Tell.log c.self.inside.inner;
-      calls = c.self.inside.calls.log;
+      own_calls = c.self.inside.calls.log;
     } in
     let asked : AskedRead table (Ok d) c.args.self.now m = rw (← c.self.view_is) (record
     { asked = c.in_ok-before_read.ensures; whole = c.self.invariant; inner = refl; told = refl; noted = refl }) in

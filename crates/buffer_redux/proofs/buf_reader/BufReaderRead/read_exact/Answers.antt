@@ -21,7 +21,7 @@ ordered g c =
       block = c.before_read.new.buffer;
       inner = c.self-2.inside.inner;
       log = g.R.Tell.log c.self-2.inside.inner;
-      calls = c.self-2.inside.calls.log;
+      own_calls = c.self-2.inside.calls.log;
     } in
     let some : 0 < length c.args.self.now.block.bytes = omega (
       arith,
@@ -48,7 +48,7 @@ declined g c =
       block = c.before_read.new.buffer;
       inner = c.self-2.inside.inner;
       log = g.R.Tell.log c.self-2.inside.inner;
-      calls = c.self-2.inside.calls.log;
+      own_calls = c.self-2.inside.calls.log;
     } in
     let some : 0 < length c.args.self.now.block.bytes = omega (
       arith,
@@ -106,7 +106,7 @@ refused g c =
       block = c.before_read.new.buffer;
       inner = c.self-2.inside.inner;
       log = g.R.Tell.log c.self-2.inside.inner;
-      calls = c.self-2.inside.calls.log;
+      own_calls = c.self-2.inside.calls.log;
     } in
     let some : 0 < length c.args.self.now.block.bytes = omega (
       arith,

@@ -13,7 +13,7 @@ returns g c =
       block = c.write_all.new.self;
       inner = c.write_all.new.wrt;
       log = tells c.write_all.new.wrt;
-      calls = c.args.self.calls;
+      own_calls = c.args.self.own_calls;
     } in
     elim c.match-write_all.branch [
       | in-Err w ↦ rw (w.inner-is, w.unsent-is) (record {

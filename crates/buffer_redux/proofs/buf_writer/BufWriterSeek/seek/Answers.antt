@@ -31,7 +31,7 @@ returns-clause-steps g c =
         block = ap (λ b. b.block) c.self.view_is;
         log = c.seek_told.ensures.told ∙ ap (λ b. after_seek b.log c.args.to c.seek_told.result) c.self.view_is;
         told = refl;
-        noted = ap (λ b. b.calls) c.self.view_is;
+        noted = ap (λ b. b.own_calls) c.self.view_is;
       };
     }
 

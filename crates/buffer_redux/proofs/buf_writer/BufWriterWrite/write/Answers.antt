@@ -22,7 +22,7 @@ crowded g c =
       block = c.before_write.new.buf;
       inner = c.self.inside.inner;
       log = g.W.Tell.log c.self.inside.inner;
-      calls = c.self.inside.calls.log;
+      own_calls = c.self.inside.calls.log;
     } in
     rw (← c.self.view_is) (writes_on g.P.WriterPolicy.rules _ before c.args.bytes.now c.in_ok-first.field-0
     c.in_ok-first.ensures (c.in_ok-first.ensures.law.whole c.self.invariant) refl
@@ -40,7 +40,7 @@ at_once g c =
       block = c.before_write.new.buf;
       inner = c.self.inside.inner;
       log = g.W.Tell.log c.self.inside.inner;
-      calls = c.self.inside.calls.log;
+      own_calls = c.self.inside.calls.log;
     } in
     let after : Buffered g.row.W.Denot g.row.P.Denot = record before { block = c.copy_from_slice-copied.new.self } in
     rw (← c.self.view_is) (writes_on g.P.WriterPolicy.rules _ before c.args.bytes.now c.in_ok-first.field-0

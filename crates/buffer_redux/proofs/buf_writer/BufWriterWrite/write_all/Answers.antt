@@ -68,7 +68,7 @@ at_once g c =
       block = c.before_write.new.buf;
       inner = c.self.inside.inner;
       log = g.W.Tell.log c.self.inside.inner;
-      calls = c.self.inside.calls.log;
+      own_calls = c.self.inside.calls.log;
     } in
     let after : Buffered g.row.W.Denot g.row.P.Denot = record before { block = c.copy_from_slice-copied.new.self } in
     all_at_once _ _ g.met.W.TellWrite.stretch_none g.met.W.TellWrite.stretch_joins rules c.args.self.now

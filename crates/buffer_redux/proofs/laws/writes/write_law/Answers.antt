@@ -1,4 +1,4 @@
-use Rattle.buffer_redux.specs.WriteLaws.{Writes-exactly}
+use Rattle.buffer_redux.specs.WroteExactly.{Writes-exactly}
 use Rattle.buffer_redux.proofs.laws.writes.write_law.Goals as goal
 
 pub returns-clause-exactly : goal.returns-clause-exactly

@@ -1,6 +1,6 @@
 use Rattle.std.proofs.Common.{◌≡◌, ℕ, List, [], ◌++◌, length, take, drop, min, sym, ap, ◌∙◌, arith, rules, append-nil, length-take-le, take_at}
 use Rattle.std.proofs.lemmas.List.{take-append-drop, nil_from_length}
-use Rattle.redux_tell.specs.StreamLog.{taken}
+use Rattle.redux_tell.specs.StreamLog.{portion}
 use Rattle.buffer_redux.specs.Unbuffer.{Unbuffered, HandsOutInOrder, bytes_in}
 use Rattle.buffer_redux.proofs.unbuffer.UnbufferRead.read.Goals as goal
 
@@ -18,7 +18,7 @@ handed s t n m out rest count copied left told = record {
 
 pub returns-in_default-clause-in_order : goal.returns-in_default-clause-in_order
 returns-in_default-clause-in_order g c =
-    let given = taken c.read_told.new.buf c.read_told.result in
+    let given = portion c.read_told.new.buf c.read_told.result in
     let left : bytes_in c.self.inside.buf ≡ [] = ap bytes_in c.in_default.is in
     rw (← c.self.view_is) (record {
       got = given;

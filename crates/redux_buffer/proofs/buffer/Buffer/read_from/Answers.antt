@@ -1,6 +1,6 @@
 use Rattle.std.proofs.Common.{◌≡◌, ◌≤◌, length, arith, rules, ◌∙◌, ap, sym}
 use Rattle.redux_buffer.specs.Block.{usable}
-use Rattle.redux_buffer.specs.BufImpl.{placed}
+use Rattle.redux_buffer.specs.BufImpl.{as_placed}
 use Rattle.redux_buffer.proofs.Written.{written_adds}
 use Rattle.redux_buffer.proofs.buffer.Buffer.read_from.Goals as goal
 
@@ -8,9 +8,9 @@ pub returns-clause-read : goal.returns-clause-read
 returns-clause-read g c =
     let n = c.in_ok-n.n in
     let w = c.read_told.new.buf in
-    let whole : length w ≡ usable (placed c.self.inside.imp).block = search rules in
+    let whole : length w ≡ usable (as_placed c.self.inside.imp).block = search rules in
     let given : n ≤ length w = c.in_ok-n.ensures.bound.0 in
-    let room : n ≤ usable (placed c.self.inside.imp).block = omega arith in
+    let room : n ≤ usable (as_placed c.self.inside.imp).block = omega arith in
     rw (← c.self.view_is) (record {
       no_room = λ none. absurd
           (c.if-usable_space-eq0.false (c.usable_space.ensures.value ∙ ap usable (sym c.self.view_is) ∙ none));

@@ -1,6 +1,6 @@
 use Rattle.std.proofs.Common.{◌≡◌, ◌≤◌, ◌+◌, ◌-◌, ◌++◌, length, take, refl, sym, subst, ap, ◌∙◌, arith, length-take-le}
 use Rattle.std.proofs.lemmas.Bool.{le-ltb}
-use Rattle.redux_buffer.specs.Block.{Ring, drawn}
+use Rattle.redux_buffer.specs.Block.{Ring, draw_back}
 use Rattle.redux_buffer.specs.RawLends.{refilled_from}
 use Rattle.redux_buffer.specs.contracts.slice_deque_buf.SliceDequeBuf.{the_view}
 use Rattle.redux_buffer.proofs.Ranges.{range_appends, length_range, length_refilled_from, ring_tail_length}
@@ -9,7 +9,7 @@ use Rattle.redux_buffer.proofs.slice_deque_buf.SliceDequeBuf.append.Goals as goa
 use Rattle.redux_buffer.proofs.slice_deque_buf.SliceDequeBuf.append.Goals.{then-self-capacity, else-self-capacity}
 
 -- where the branches join, the ring is drawn back, and so its tail lies behind the bytes
-is_drawn : (c : goal.After-self-2-1) → the_view c.self-2.inside ≡ drawn c.args.self.now
+is_drawn : (c : goal.After-self-2-1) → the_view c.self-2.inside ≡ draw_back c.args.self.now
 is_drawn c =
     let a = c.self.inside in
     c.self-2.view_is ∙ elim c.if-self-capacity.branch [

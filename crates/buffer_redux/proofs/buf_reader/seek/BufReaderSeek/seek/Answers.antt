@@ -1,6 +1,6 @@
 use Rattle.std.proofs.Common.{◌≡◌, length, refl, to_z-of_z, SFits, w64}
 use Rattle.std.proofs.lemmas.Result.{err_from_is_err_and}
-use Rattle.buffer_redux.specs.Seek.{planned}
+use Rattle.buffer_redux.specs.Seek.{plan_for}
 use Rattle.buffer_redux.specs.declared.buf_reader.seek.SeekPlan.TheVariants.{Two}
 use Rattle.buffer_redux.proofs.buf_reader.seek.BufReaderSeek.seek.Goals as goal
 
@@ -8,7 +8,7 @@ use Rattle.buffer_redux.proofs.buf_reader.seek.BufReaderSeek.seek.Goals as goal
 pub returns-in_err-seek_once-in-Two-clause-seeks : goal.returns-in_err-seek_once-in-Two-clause-seeks
 returns-in_err-seek_once-in-Two-clause-seeks g c =
     let back : SFits w64 c.in-Two.back = search in
-    let plan : planned c.args.to (length c.args.self.now.block.bytes) ≡ Two c.in-Two.back c.in-Two.offset =
+    let plan : plan_for c.args.to (length c.args.self.now.block.bytes) ≡ Two c.in-Two.back c.in-Two.offset =
     rw (← c.self.view_is, ← c.len.ensures.value, ← c.seek_plan.ensures) c.in-Two.is in
     let p = err_from_is_err_and c.from_residual.result c.from_residual.ensures.1 in
     rw (plan, p.1, p.2) (record {
@@ -22,7 +22,7 @@ pub returns-in_ok-seek_once-in-Two-clause-seeks : goal.returns-in_ok-seek_once-i
 returns-in_ok-seek_once-in-Two-clause-seeks g c =
     let back : SFits w64 c.in-Two.back = search in
     let offset : SFits w64 c.in-Two.offset = search in
-    let plan : planned c.args.to (length c.args.self.now.block.bytes) ≡ Two c.in-Two.back c.in-Two.offset =
+    let plan : plan_for c.args.to (length c.args.self.now.block.bytes) ≡ Two c.in-Two.back c.in-Two.offset =
     rw (← c.self.view_is, ← c.len.ensures.value, ← c.seek_plan.ensures) c.in-Two.is in
     rw plan (record {
       between = c.seek_once-in-Two.new.self;

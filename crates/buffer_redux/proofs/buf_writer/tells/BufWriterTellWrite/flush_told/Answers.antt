@@ -17,8 +17,8 @@ returns-clause-stretch g c =
     let m = c.flush-answer.new.self in
     let answer = c.flush-answer.result in
     let flush = c.flush-answer.ensures in
-    let noted : c.note.new.self.log ≡ after_flush s.calls answer = search rules in
-    call_went g.W.TellWrite.stretch table s m _ _ (after_flush s.calls answer) c.self.view_is noted
+    let noted : c.note.new.self.log ≡ after_flush s.own_calls answer = search rules in
+    call_went g.W.TellWrite.stretch table s m _ _ (after_flush s.own_calls answer) c.self.view_is noted
     flush.stretch.calls flush.grows
     (subst (λ l. WriteLogGrows (writer_log s).writes l.writes) (sym (returns-clause-told g c))
     (WriteLogGrows-flush (writer_log s) answer))
@@ -39,7 +39,7 @@ returns-clause-call g c =
     let m = c.flush-answer.new.self in
     let answer = c.flush-answer.result in
     let flush = c.flush-answer.ensures in
-    let noted : c.note.new.self.log ≡ after_flush s.calls answer = search rules in
+    let noted : c.note.new.self.log ≡ after_flush s.own_calls answer = search rules in
     record {
       steps = inr (record { answer = answer; steps = returns-clause-steps g c; noted = noted });
       fault = λ tells e is.

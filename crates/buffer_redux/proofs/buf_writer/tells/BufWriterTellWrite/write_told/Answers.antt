@@ -19,8 +19,8 @@ returns-clause-stretch g c =
     let bs = c.args.buf.now in
     let answer = c.write-answer.result in
     let wrote = c.write-answer.ensures in
-    let noted : c.note.new.self.log ≡ after_write s.calls bs answer = search rules in
-    call_went g.W.TellWrite.stretch g.P.WriterPolicy.rules s m _ _ (after_write s.calls bs answer)
+    let noted : c.note.new.self.log ≡ after_write s.own_calls bs answer = search rules in
+    call_went g.W.TellWrite.stretch g.P.WriterPolicy.rules s m _ _ (after_write s.own_calls bs answer)
     c.self.view_is noted wrote.stretch.calls wrote.grows
     (subst (λ l. WriteLogGrows (writer_log s).writes l.writes) (sym (returns-clause-told g c))
     (WriteLogGrows-write (writer_log s) bs answer)) wrote.capacity wrote.claims
@@ -44,7 +44,7 @@ returns-clause-call g c =
     let bs = c.args.buf.now in
     let answer = c.write-answer.result in
     let wrote = c.write-answer.ensures in
-    let noted : c.note.new.self.log ≡ after_write s.calls bs answer = search rules in
+    let noted : c.note.new.self.log ≡ after_write s.own_calls bs answer = search rules in
     let same = ap (λ x. x.log.writes) c.self.view_is in
     record {
       steps = inl (record { bytes = bs; answer = answer; steps = returns-clause-steps g c; noted = noted });
