@@ -38,6 +38,13 @@ pub use seek::{SeekPlan, seek_plan};
 ///
 /// No byte is lost or changes place: what was handed out, then what is buffered, is what was buffered at first, then
 /// what the inner reader gave. A seek goes elsewhere, and drops what is buffered.
+///
+/// ```
+/// let mut reader = BufReader::with_capacity(alloc, 4, Told::new(b"abcdef".as_slice()))?;
+/// assert_eq!(rt; reader.fill_buf()?, b"abcd".as_slice());
+/// reader.consume(3);
+/// assert_eq!(rt; reader.buffer(), b"d".as_slice());
+/// ```
 #[derive(Drop)]
 pub struct BufReader<R: Tell, P = StdPolicy> {
     buf: Buffer,

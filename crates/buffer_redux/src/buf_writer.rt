@@ -40,6 +40,14 @@ mod unwrapping;
 ///
 /// A writer that is dropped sends what is buffered, without a flush of the inner writer, and forgets a fault; the bytes
 /// that were not sent then are lost. [`finish`](BufWriter::finish) does the same and tells of a fault.
+///
+/// ```
+/// let mut writer = BufWriter::with_capacity(alloc, 4, Told::new(Vec::new(alloc)))?;
+/// assert_eq!(rt; writer.write(b"abc")?, 3);
+/// assert_eq!(rt; writer.buf_len(), 3);
+/// writer.flush()?;
+/// assert_eq!(rt; writer.get_ref().get_ref().as_slice(), b"abc".as_slice());
+/// ```
 pub struct BufWriter<W: TellWrite, P = StdPolicy> {
     buf: Buffer,
     inner: W,

@@ -4,6 +4,14 @@ use std::error::Error;
 use std::{fmt, io};
 
 /// Why a reader or a writer could not be made, with the stream that was to go into it.
+///
+/// ```
+/// let refused = BufReader::with_capacity(alloc, usize::MAX, Told::new(b"abc".as_slice()));
+/// if let Err(MakeError(stream, why)) = refused {
+///     assert!(rt; matches!(why, GrowError::TooLarge));
+///     assert_eq!(rt; stream.into_inner(), b"abc".as_slice());
+/// }
+/// ```
 #[derive(Debug, Drop)]
 pub struct MakeError<T>(pub T, pub GrowError);
 
@@ -31,6 +39,16 @@ impl<T: Drop> From<MakeError<T>> for io::Error {
 /// Why a writer could not be unwrapped: the fault that its flush met, with the writer and the bytes that were not sent.
 ///
 /// A writer that is dropped sends once more, also where this is dropped or turned into an `io::Error`.
+///
+/// ```
+/// let full = ScriptWriter::new(alloc, &[Answer::Fail(ErrorKind::StorageFull)])?;
+/// let mut writer = BufWriter::new(alloc, Told::new(full))?;
+/// writer.write_all(b"abc")?;
+/// if let Err(failed) = writer.into_inner() {
+///     assert_eq!(rt; failed.error().kind(), ErrorKind::StorageFull);
+///     assert_eq!(rt; failed.into_inner().buf_len(), 3);
+/// }
+/// ```
 #[derive(Debug, Drop)]
 pub struct IntoInnerError<W>(pub W, pub io::Error);
 

@@ -31,6 +31,13 @@ use std::marker::Model;
 
 /// A [`BufWriter`] under [`FlushOnNewline`]: after each write it flushes through the last newline, the byte 10, that is
 /// buffered.
+///
+/// ```
+/// let mut writer = LineWriter::new(alloc, Told::new(Vec::new(alloc)))?;
+/// writer.write_all(b"one\ntwo")?;
+/// assert_eq!(rt; writer.get_ref().get_ref().as_slice(), b"one\n".as_slice());
+/// assert_eq!(rt; writer.buf_len(), 3);
+/// ```
 #[derive(Debug, Drop)]
 pub struct LineWriter<W: TellWrite> {
     writer: BufWriter<W, FlushOnNewline>,

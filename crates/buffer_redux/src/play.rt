@@ -53,6 +53,20 @@ pub enum ReaderAnswer {
 }
 
 /// What the calls of a reader returned, and the bytes that they handed out: those that were read or consumed, in order.
+///
+/// ```
+/// let mut reader = BufReader::with_capacity(alloc, 4, Told::new(b"abcde".as_slice()))?;
+/// let mut run = ReaderRun::new(alloc);
+/// play_reader(
+///     alloc,
+///     &mut reader,
+///     &[ReaderCall::Read(2), ReaderCall::Fill],
+///     &mut run,
+/// )?;
+/// let answers = run.answers.as_slice();
+/// assert!(rt; matches!(answers, [ReaderAnswer::Count(2), ReaderAnswer::Shown(2)]));
+/// assert_eq!(rt; run.handed.as_slice(), b"ab".as_slice());
+/// ```
 #[derive(Debug, Drop)]
 pub struct ReaderRun {
     pub answers: Vec<ReaderAnswer>,
@@ -99,6 +113,18 @@ pub enum WriterAnswer {
 }
 
 /// What the calls of a writer returned.
+///
+/// ```
+/// let mut writer = BufWriter::with_capacity(alloc, 2, Told::new(Vec::new(alloc)))?;
+/// let mut run = WriterRun::new(alloc);
+/// play_writer(
+///     &mut writer,
+///     &[WriterCall::Write(b"abc"), WriterCall::Flush],
+///     &mut run,
+/// )?;
+/// let answers = run.answers.as_slice();
+/// assert!(rt; matches!(answers, [WriterAnswer::Count(3), WriterAnswer::Done]));
+/// ```
 #[derive(Debug, Drop)]
 pub struct WriterRun {
     pub answers: Vec<WriterAnswer>,

@@ -17,6 +17,16 @@ use std::{fmt, io};
 ///
 /// It is what [`BufReader::unbuffer`] returns. The buffer is freed as soon as it has no bytes left. No byte is lost or
 /// changes place: what was handed out, then what is left, is what was left at first, then what the inner reader gave.
+///
+/// ```
+/// let mut reader = BufReader::with_capacity(alloc, 2, Told::new(b"abc".as_slice()))?;
+/// assert_eq!(rt; reader.fill_buf()?, b"ab".as_slice());
+/// let mut rest = reader.unbuffer();
+/// let mut out = [0; 4];
+/// assert_eq!(rt; rest.read(&mut out)?, 2);
+/// assert!(rt; rest.is_buf_empty());
+/// assert_eq!(rt; rest.read(&mut out)?, 1);
+/// ```
 #[derive(Drop)]
 pub struct Unbuffer<R: Tell> {
     buf: Option<Buffer>,

@@ -3,6 +3,12 @@ use std::error::Error;
 use std::{fmt, io};
 
 /// Why there is no next frame. What came of it stays buffered, and the next call looks at it again.
+///
+/// ```
+/// let mut reader = FrameReader::new(alloc, Told::new(b"\x00\x02h".as_slice()), 100)?;
+/// assert!(rt; matches!(reader.next(), Err(FrameError::Truncated(3))));
+/// assert_eq!(rt; reader.rest(), b"\x00\x02h".as_slice());
+/// ```
 #[derive(Debug, Drop)]
 pub enum FrameError {
     /// The stream ended after so many bytes of the frame, those of its length among them.
@@ -40,6 +46,12 @@ impl From<io::Error> for FrameError {
 }
 
 /// Why a frame was not taken in. Nothing of it was, so the call can be made again.
+///
+/// ```
+/// let mut writer = FrameWriter::new(alloc, Told::new(Vec::new(alloc)), 4)?;
+/// let refused = writer.write_frame(b"hello");
+/// assert!(rt; matches!(refused, Err(WriteFrameError::TooLong(5))));
+/// ```
 #[derive(Debug, Drop)]
 pub enum WriteFrameError {
     /// The payload has this length, which is more than the writer takes.

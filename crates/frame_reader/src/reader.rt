@@ -22,6 +22,14 @@ use std::marker::Model;
 ///
 /// It lends each payload out of a plain buffer of `3 * (2 + max)` bytes. [`new`](FrameReader::new) makes it, and no other call
 /// takes memory. No more bytes are moved in it than are read.
+///
+/// ```
+/// let stream = Told::new(b"\x00\x02hi\x00\x00".as_slice());
+/// let mut reader = FrameReader::new(alloc, stream, 100)?;
+/// assert!(rt; matches!(reader.next(), Ok(Some(b"hi"))));
+/// assert!(rt; matches!(reader.next(), Ok(Some(b""))));
+/// assert!(rt; matches!(reader.next(), Ok(None)));
+/// ```
 #[derive(Drop)]
 pub struct FrameReader<R: Tell> {
     reader: BufReader<R, MinBuffered>,

@@ -21,6 +21,16 @@ use std::marker::Model;
 ///
 /// It keeps them in a plain buffer of `3 * (2 + max)` bytes. [`new`](FrameWriter::new) makes it, and no other call takes
 /// memory. A writer that is dropped sends what is buffered, without a flush of the inner writer, and forgets a fault.
+///
+/// ```
+/// let mut writer = FrameWriter::new(alloc, Told::new(Vec::new(alloc)), 4)?;
+/// assert!(rt; writer.write_frame(b"hi").is_ok());
+/// writer.flush()?;
+/// assert_eq!(rt;
+///     writer.get_ref().get_ref().as_slice(),
+///     b"\x00\x02hi".as_slice()
+/// );
+/// ```
 #[derive(Drop)]
 pub struct FrameWriter<W: TellWrite> {
     writer: BufWriter<W>,

@@ -17,6 +17,16 @@ mod transfer;
 ///
 /// A plain buffer moves its bytes in [`make_room`](Buffer::make_room) alone. A ring may move them by itself, never more
 /// of them than were consumed.
+///
+/// ```
+/// let mut buffer = Buffer::with_capacity(alloc, 4)?;
+/// assert_eq!(rt; buffer.copy_from_slice(b"abcdef"), 4);
+/// buffer.consume(1);
+/// assert_eq!(rt; buffer.buf(), b"bcd".as_slice());
+/// assert_eq!(rt; buffer.usable_space(), 0);
+/// buffer.make_room();
+/// assert_eq!(rt; buffer.usable_space(), 1);
+/// ```
 #[derive(Debug, Drop)]
 pub struct Buffer {
     imp: BufImpl,
@@ -150,7 +160,9 @@ impl Buffer {
     ///
     /// ```
     /// /// A reader of one connection. It grows to 65536 bytes at the most.
-    /// fn connection<R: Read + Drop>(alloc: Global, stream: R) -> Result<BufReader<Told<R>>, GrowError> {
+    /// fn connection<R: Read + Drop>(alloc: Global, stream: R) -> Result<BufReader<Told<R>>, GrowError>
+    ///     ensures bounded { IfOk result (λ reader. reader.block.limit ≡ 65536) }
+    /// {
     ///     let mut buf = Buffer::with_capacity(alloc, 4096)?;
     ///     buf.set_limit(65536)?;
     ///     Ok(BufReader::with_buffer(buf, Told::new(stream)))

@@ -3,6 +3,13 @@ use std::error::Error;
 use std::{fmt, io};
 
 /// Why a buffer could not be made or could not grow. The buffer is as it was.
+///
+/// ```
+/// let mut buffer = Buffer::with_capacity(alloc, 4)?;
+/// buffer.set_limit(6)?;
+/// assert!(rt; matches!(buffer.reserve(7), Err(GrowError::TooLarge)));
+/// assert_eq!(rt; buffer.capacity(), 4);
+/// ```
 #[derive(Clone, Copy, Debug)]
 pub enum GrowError {
     /// The needed capacity passes the limit. No memory was asked for.

@@ -10,6 +10,12 @@ use std::alloc::Global;
 use std::marker::Model;
 
 /// A block of bytes, all of them written: zeros when it is made or grown. Contracts see the list of its bytes.
+///
+/// ```
+/// let mut block = RawBuf::with_capacity(alloc, 2)?;
+/// block.as_mut_slice().copy_from_slice(b"ab");
+/// assert_eq!(rt; block.as_slice(), b"ab".as_slice());
+/// ```
 #[derive(Debug, Drop)]
 pub struct RawBuf {
     buf: Vec<u8>,

@@ -15,6 +15,12 @@ use std::io;
 ///
 /// With three times this number as its capacity, a plain buffer that was empty has moved since then no more bytes than the
 /// reader was given: see [`play_sparing`](crate::laws::play_sparing).
+///
+/// ```
+/// let slow = ScriptReader::new(alloc, b"abcdefgh", &[Answer::ServeEach(2)])?;
+/// let mut reader = BufReader::new(alloc, Told::new(slow))?.set_policy(MinBuffered(5));
+/// assert_eq!(rt; reader.fill_buf()?, b"abcdef".as_slice());
+/// ```
 #[derive(Debug, Drop)]
 pub struct MinBuffered(pub usize);
 

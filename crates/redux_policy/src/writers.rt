@@ -8,6 +8,12 @@ use redux_buffer::Buffer;
 use std::io;
 
 /// Flushes as std does before a write, and after it through the last such byte that is buffered.
+///
+/// ```
+/// let mut writer = BufWriter::new(alloc, Told::new(Vec::new(alloc)))?.set_policy(FlushOn(b';'));
+/// writer.write_all(b"a;b;c")?;
+/// assert_eq!(rt; writer.get_ref().get_ref().as_slice(), b"a;b;".as_slice());
+/// ```
 #[derive(Debug, Default, Drop)]
 pub struct FlushOn(pub u8);
 
@@ -28,6 +34,12 @@ impl WriterPolicy for FlushOn {
 
 /// Flushes as std does before a write, and after it through the last newline, the byte 10, that is buffered:
 /// `FlushOn(b'\n')`.
+///
+/// ```
+/// let mut writer = BufWriter::new(alloc, Told::new(Vec::new(alloc)))?.set_policy(FlushOnNewline);
+/// writer.write_all(b"a\nb")?;
+/// assert_eq!(rt; writer.get_ref().get_ref().as_slice(), b"a\n".as_slice());
+/// ```
 #[derive(Debug, Default, Drop)]
 pub struct FlushOnNewline;
 
@@ -59,6 +71,14 @@ fn ensure_capacity(buf: &mut Buffer, capacity: usize) -> io::Result<()>
 ///
 /// Before a write it makes sure that the buffer has the capacity for so many bytes. A refusal is an `Err` of the kind of
 /// its [`GrowError`](crate::GrowError); the buffer is then as it was, and nothing was sent.
+///
+/// ```
+/// let mut writer = BufWriter::new(alloc, Told::new(Vec::new(alloc)))?.set_policy(FlushAtLeast(3));
+/// writer.write_all(b"ab")?;
+/// assert_eq!(rt; writer.buf_len(), 2);
+/// writer.write_all(b"cd")?;
+/// assert_eq!(rt; writer.buf_len(), 0);
+/// ```
 #[derive(Debug, Default, Drop)]
 pub struct FlushAtLeast(pub usize);
 
@@ -80,6 +100,13 @@ impl WriterPolicy for FlushAtLeast {
 /// Before a write it makes sure that the buffer has the capacity for so many bytes, and makes room where fewer are
 /// buffered and the incoming ones don't fit behind them. A refusal is an `Err` of the kind of its
 /// [`GrowError`](crate::GrowError); the buffer is then as it was, and nothing was sent.
+///
+/// ```
+/// let mut writer = BufWriter::new(alloc, Told::new(Vec::new(alloc)))?.set_policy(FlushExact(3));
+/// writer.write_all(b"abcd")?;
+/// assert_eq!(rt; writer.get_ref().get_ref().as_slice(), b"abc".as_slice());
+/// assert_eq!(rt; writer.buf_len(), 1);
+/// ```
 #[derive(Debug, Default, Drop)]
 pub struct FlushExact(pub usize);
 

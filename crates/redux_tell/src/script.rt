@@ -73,6 +73,15 @@ impl Script {
 /// for, and after its bytes it returns `Ok(0)`.
 ///
 /// A call that finds no memory to note its offer returns `OutOfMemory`, and changes nothing.
+///
+/// ```
+/// let script = [Answer::Serve(2), Answer::Fail(ErrorKind::TimedOut)];
+/// let mut reader = ScriptReader::new(alloc, b"abc", &script)?;
+/// let mut out = [0; 4];
+/// assert_eq!(rt; reader.read(&mut out)?, 2);
+/// assert!(rt; reader.read(&mut out).is_err());
+/// assert_eq!(rt; reader.read(&mut out)?, 1);
+/// ```
 #[derive(Debug, Drop)]
 pub struct ScriptReader {
     script: Script,
@@ -139,6 +148,13 @@ impl Read for ScriptReader {
 /// A writer that takes bytes, each call as the script says. After the script it takes all that it is offered.
 ///
 /// A call that finds no memory to note its offer, or for its bytes, returns `OutOfMemory`, and changes nothing.
+///
+/// ```
+/// let mut writer = ScriptWriter::new(alloc, &[Answer::Interrupt(1), Answer::ServeEach(2)])?;
+/// assert!(rt; writer.write(b"abc").is_err());
+/// assert_eq!(rt; writer.write(b"abc")?, 2);
+/// assert_eq!(rt; writer.taken(), b"ab".as_slice());
+/// ```
 #[derive(Debug, Drop)]
 pub struct ScriptWriter {
     script: Script,
@@ -219,6 +235,12 @@ impl Write for ScriptWriter {
 /// writes go on to the stream inside. After the script each seek returns `Ok(0)`.
 ///
 /// A seek that finds no memory to note where it goes returns `OutOfMemory`, and changes nothing.
+///
+/// ```
+/// let mut stream = ScriptSeeker::new(alloc, b"abc".as_slice(), &[Ok(7)])?;
+/// assert_eq!(rt; stream.seek(SeekFrom::End(-1))?, 7);
+/// assert!(rt; matches!(stream.targets(), [SeekFrom::End(-1)]));
+/// ```
 #[derive(Debug, Drop)]
 pub struct ScriptSeeker<S> {
     stream: S,

@@ -13,6 +13,11 @@ use std::io;
 use std::io::{Seek, SeekFrom};
 
 /// Which seeks of the inner reader one seek of a [`BufReader`] is.
+///
+/// ```
+/// let plan = seek_plan(SeekFrom::Current(1), 4);
+/// assert!(rt; matches!(plan, SeekPlan::One(SeekFrom::Current(-3))));
+/// ```
 #[derive(Clone, Copy, Debug)]
 pub enum SeekPlan {
     /// One seek.

@@ -14,6 +14,12 @@ use std::io::{Read, Seek, SeekFrom, Write};
 use std::{fmt, io};
 
 /// Tells of the calls that go through it to a stream of std. It takes no more room than the stream.
+///
+/// ```
+/// let mut file = Told::new(Vec::<u8>::new(alloc));
+/// assert_eq!(rt; file.write_told(b"abc")?, 3);
+/// assert_eq!(rt; file.into_inner().as_slice(), b"abc".as_slice());
+/// ```
 pub struct Told<S> {
     stream: S,
     calls: CallLog,

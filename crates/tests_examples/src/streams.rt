@@ -1,0 +1,45 @@
+//! Streams of std that tell, and scripted ones.
+use buffer_redux::script::{Answer, ScriptReader, ScriptSeeker, ScriptWriter};
+use buffer_redux::tell::{TellWrite, Told};
+use std::io::{ErrorKind, Read, Seek, SeekFrom, Write};
+use std::test::Fail;
+
+#[test]
+fn told(rt: HostRuntime) -> Result<(), Fail> {
+    let alloc = rt.alloc();
+    let mut file = Told::new(Vec::<u8>::new(alloc));
+    assert_eq!(rt; file.write_told(b"abc")?, 3);
+    assert_eq!(rt; file.into_inner().as_slice(), b"abc".as_slice());
+    Ok(())
+}
+
+#[test]
+fn script_reader(rt: HostRuntime) -> Result<(), Fail> {
+    let alloc = rt.alloc();
+    let script = [Answer::Serve(2), Answer::Fail(ErrorKind::TimedOut)];
+    let mut reader = ScriptReader::new(alloc, b"abc", &script)?;
+    let mut out = [0; 4];
+    assert_eq!(rt; reader.read(&mut out)?, 2);
+    assert!(rt; reader.read(&mut out).is_err());
+    assert_eq!(rt; reader.read(&mut out)?, 1);
+    Ok(())
+}
+
+#[test]
+fn script_writer(rt: HostRuntime) -> Result<(), Fail> {
+    let alloc = rt.alloc();
+    let mut writer = ScriptWriter::new(alloc, &[Answer::Interrupt(1), Answer::ServeEach(2)])?;
+    assert!(rt; writer.write(b"abc").is_err());
+    assert_eq!(rt; writer.write(b"abc")?, 2);
+    assert_eq!(rt; writer.taken(), b"ab".as_slice());
+    Ok(())
+}
+
+#[test]
+fn script_seeker(rt: HostRuntime) -> Result<(), Fail> {
+    let alloc = rt.alloc();
+    let mut stream = ScriptSeeker::new(alloc, b"abc".as_slice(), &[Ok(7)])?;
+    assert_eq!(rt; stream.seek(SeekFrom::End(-1))?, 7);
+    assert!(rt; matches!(stream.targets(), [SeekFrom::End(-1)]));
+    Ok(())
+}

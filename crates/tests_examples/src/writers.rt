@@ -1,0 +1,56 @@
+//! Writers, and what runs them.
+use buffer_redux::play::{WriterAnswer, WriterCall, WriterRun, play_writer};
+use buffer_redux::script::{Answer, ScriptWriter};
+use buffer_redux::tell::Told;
+use buffer_redux::{BufWriter, LineWriter};
+use std::io::{ErrorKind, Write};
+use std::test::Fail;
+
+#[test]
+fn buf_writer(rt: HostRuntime) -> Result<(), Fail> {
+    let alloc = rt.alloc();
+    let mut writer = BufWriter::with_capacity(alloc, 4, Told::new(Vec::new(alloc)))?;
+    assert_eq!(rt; writer.write(b"abc")?, 3);
+    assert_eq!(rt; writer.buf_len(), 3);
+    writer.flush()?;
+    assert_eq!(rt; writer.get_ref().get_ref().as_slice(), b"abc".as_slice());
+    Ok(())
+}
+
+#[test]
+fn line_writer(rt: HostRuntime) -> Result<(), Fail> {
+    let alloc = rt.alloc();
+    let mut writer = LineWriter::new(alloc, Told::new(Vec::new(alloc)))?;
+    writer.write_all(b"one\ntwo")?;
+    assert_eq!(rt; writer.get_ref().get_ref().as_slice(), b"one\n".as_slice());
+    assert_eq!(rt; writer.buf_len(), 3);
+    Ok(())
+}
+
+#[test]
+fn into_inner_error(rt: HostRuntime) -> Result<(), Fail> {
+    let alloc = rt.alloc();
+    let full = ScriptWriter::new(alloc, &[Answer::Fail(ErrorKind::StorageFull)])?;
+    let mut writer = BufWriter::new(alloc, Told::new(full))?;
+    writer.write_all(b"abc")?;
+    if let Err(failed) = writer.into_inner() {
+        assert_eq!(rt; failed.error().kind(), ErrorKind::StorageFull);
+        assert_eq!(rt; failed.into_inner().buf_len(), 3);
+    }
+    Ok(())
+}
+
+#[test]
+fn writer_run(rt: HostRuntime) -> Result<(), Fail> {
+    let alloc = rt.alloc();
+    let mut writer = BufWriter::with_capacity(alloc, 2, Told::new(Vec::new(alloc)))?;
+    let mut run = WriterRun::new(alloc);
+    play_writer(
+        &mut writer,
+        &[WriterCall::Write(b"abc"), WriterCall::Flush],
+        &mut run,
+    )?;
+    let answers = run.answers.as_slice();
+    assert!(rt; matches!(answers, [WriterAnswer::Count(3), WriterAnswer::Done]));
+    Ok(())
+}
