@@ -82,7 +82,10 @@ flush_ways amount len = elim (cases_lt 0 amount) [
 pub ways_in : (b : Block) (incoming : ℕ) → GoesPast b incoming ⊎ StaysInside b incoming
 ways_in b incoming = elim (cases_lt 0 (length b.bytes)) [
   | inl some ↦ inr (inl some)
-  | inr none ↦ elim (cases_lt incoming b.capacity) [ inl inside ↦ inr (inr inside) | inr past ↦ inl (omega (arith, none), past) ]
+  | inr none ↦ elim (cases_lt incoming b.capacity) [
+    inl inside ↦ inr (inr inside)
+    | inr past ↦ inl (omega (arith, none), past)
+  ]
 ]
 
 -- what an Ok flush of an amount met: interrupted writes alone

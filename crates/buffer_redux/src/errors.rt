@@ -7,9 +7,12 @@ use std::{fmt, io};
 ///
 /// ```
 /// let refused = BufReader::with_capacity(alloc, usize::MAX, Told::new(b"abc".as_slice()));
-/// if let Err(MakeError(stream, why)) = refused {
-///     assert!(rt; matches!(why, GrowError::TooLarge));
-///     assert_eq!(rt; stream.into_inner(), b"abc".as_slice());
+/// match refused {
+///     Ok(reader) => drop(reader),
+///     Err(MakeError(stream, why)) => {
+///         assert!(rt; matches!(why, GrowError::TooLarge));
+///         assert_eq!(rt; stream.into_inner(), b"abc".as_slice());
+///     }
 /// }
 /// ```
 #[derive(Debug, Drop)]

@@ -10,7 +10,8 @@ use Rattle.buffer_redux.proofs.buf_reader.BufReaderRead.read.Goals as goal
 use Rattle.buffer_redux.proofs.buf_reader.BufReaderRead.read.Goals.{else-is_empty-via-then-is_empty+else-out-capacity, else-is_empty-via-else-is_empty, else-branch-via-then-branch+else-usable_space-gt0, else-branch-via-else-branch}
 
 -- the slice isn't read past the buffer, in each of the three ways on
-inside_slow : (g : _) (c : goal.After-slice_known-then-usable_space-gt0-1 g) → StaysInside c.args.self.now.block (length c.args.out.now)
+inside_slow : (g : _) (c : goal.After-slice_known-then-usable_space-gt0-1 g)
+    → StaysInside c.args.self.now.block (length c.args.out.now)
 inside_slow g c =
     let s = c.args.self.now in
     elim c.else-is_empty.branch [

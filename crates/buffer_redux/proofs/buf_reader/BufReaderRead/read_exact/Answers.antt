@@ -31,7 +31,8 @@ ordered g c =
       ap (λ x. length x.block.bytes) c.self.view_is,
     ) in
     let asked : AskedRead table (Ok c.in-Ok.field-0) c.args.self.now m =
-    rw (← c.self-2.view_is) (record { asked = c.in-Ok.ensures; whole = c.self-2.invariant; inner = refl; told = refl; noted = refl }) in
+    rw (← c.self-2.view_is)
+    (record { asked = c.in-Ok.ensures; whole = c.self-2.invariant; inner = refl; told = refl; noted = refl }) in
     c.read_ordered_aside.ensures.exact c.args.self.now
     (asked_so table c.args.self.now m c.in-Ok.field-0 true c.if-more.true asked) some
 
@@ -58,7 +59,8 @@ declined g c =
       ap (λ x. length x.block.bytes) c.self.view_is,
     ) in
     let asked : AskedRead table (Ok c.in-Ok.field-0) c.args.self.now m =
-    rw (← c.self-2.view_is) (record { asked = c.in-Ok.ensures; whole = c.self-2.invariant; inner = refl; told = refl; noted = refl }) in
+    rw (← c.self-2.view_is)
+    (record { asked = c.in-Ok.ensures; whole = c.self-2.invariant; inner = refl; told = refl; noted = refl }) in
     let all : ReadsInside remaining table c.args.self.now c.args.out.now (Ok n) c.hand_out-count.new.out
     c.hand_out-count.new.self = record {
       filled = m;
@@ -116,7 +118,8 @@ refused g c =
       ap (λ x. length x.block.bytes) c.self.view_is,
     ) in
     let asked : AskedRead table (Err c.in-Err.e) c.args.self.now m =
-    rw (← c.self-2.view_is) (record { asked = c.in-Err.ensures; whole = c.self-2.invariant; inner = refl; told = refl; noted = refl }) in
+    rw (← c.self-2.view_is)
+    (record { asked = c.in-Err.ensures; whole = c.self-2.invariant; inner = refl; told = refl; noted = refl }) in
     c.read_on_aside.ensures.exact c.args.self.now (one_read_says remaining table c.args.self.now c.args.out.now
     (Err c.in-Err.e) c.args.out.now m (rw (← c.self-2.view_is) c.self-2.invariant)
     (record { fill = refused_did remaining table c.args.self.now m c.in-Err.e asked; same = refl }) (inl some))

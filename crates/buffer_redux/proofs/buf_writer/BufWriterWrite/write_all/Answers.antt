@@ -62,7 +62,8 @@ at_once g c =
     let whole = c.in-Ok.ensures.law.whole c.self.invariant in
     let roomy : length c.args.bytes.now < usable c.before_write.new.buf =
     omega (arith, c.if-usable_space-bytes.false, c.usable_space.ensures.value) in
-    let some : 0 < length c.args.bytes.now = omega (arith, some_of (length c.args.bytes.now) (sym c.is_empty.ensures ∙ c.if-is_empty.false)) in
+    let some : 0 < length c.args.bytes.now =
+    omega (arith, some_of (length c.args.bytes.now) (sym c.is_empty.ensures ∙ c.if-is_empty.false)) in
     let before : Buffered g.row.W.Denot g.row.P.Denot = record {
       policy = c.before_write.new.self;
       block = c.before_write.new.buf;
