@@ -3,6 +3,7 @@
 //! Begin with [`line_count`]: a loop over `fill_buf` and `consume` whose contract names the bytes.
 #![tactic(auto)]
 
+pub mod csv_rows;
 pub mod full_log;
 pub mod int_lines;
 pub mod line_count;
