@@ -3,26 +3,26 @@ use buffer_redux::BufReader;
 use buffer_redux::policy::MinBuffered;
 use buffer_redux::tell::Told;
 use csv::ByteRecord;
+use std::alloc::{AllocError, Global};
 use std::fs;
 use std::fs::File;
-use std::process::Abort;
 use std::test::Fail;
 
 const TEXT: &[u8] = b"\xef\xbb\xbfport,depth\r\n\"Skagen, south\",\"7 \"\"m\"\"\"\r\nBlokhus,";
 
-fn same_rows(rt: &impl Abort, rows: &[ByteRecord]) -> Result<(), Fail> {
-    let want = [
-        [b"port".as_slice(), b"depth".as_slice()],
-        [b"Skagen, south".as_slice(), b"7 \"m\"".as_slice()],
-        [b"Blokhus".as_slice(), b"".as_slice()],
-    ];
-    assert_eq!(rt; rows.len(), want.len());
-    for (row, fields) in rows.iter().zip(want) {
-        assert_eq!(rt; row.get(0), Some(fields[0]));
-        assert_eq!(rt; row.get(1), Some(fields[1]));
-        assert_eq!(rt; row.get(2), None);
+const ROWS: &[u8] = b"port|depth|\nSkagen, south|7 \"m\"|\nBlokhus||\n";
+
+// Each field before a bar, and each row on a line.
+fn fields_of(alloc: Global, rows: &[ByteRecord]) -> Result<Vec<u8>, AllocError> {
+    let mut text = Vec::new(alloc);
+    for row in rows {
+        for field in row {
+            text.extend_from_slice(field)?;
+            text.push(b'|')?;
+        }
+        text.push(b'\n')?;
     }
-    Ok(())
+    Ok(text)
 }
 
 #[test]
@@ -31,13 +31,17 @@ fn reads_rows_of_a_file(rt: HostRuntime) -> Result<(), Fail> {
     fs::write(&rt, path, TEXT)?;
     let rows = rows_in(rt.alloc(), File::open(&rt, path)?);
     fs::remove_file(&rt, path)?;
-    same_rows(&rt, rows?.as_slice())
+    assert_eq!(rt; fields_of(rt.alloc(), rows?.as_slice())?.as_slice(), ROWS);
+    Ok(())
 }
 
 #[test]
 fn reads_rows_behind_a_small_buffer(rt: HostRuntime) -> Result<(), Fail> {
-    let reader = BufReader::with_capacity(rt.alloc(), 4, Told::new(TEXT))?;
-    same_rows(&rt, read_rows(rt.alloc(), reader)?.as_slice())?;
-    let reader = BufReader::new_ringbuf(rt.alloc(), Told::new(TEXT))?.set_policy(MinBuffered(9));
-    same_rows(&rt, read_rows(rt.alloc(), reader)?.as_slice())
+    let plain = BufReader::with_capacity(rt.alloc(), 4, Told::new(TEXT))?;
+    let rows = read_rows(rt.alloc(), plain)?;
+    assert_eq!(rt; fields_of(rt.alloc(), rows.as_slice())?.as_slice(), ROWS);
+    let ring = BufReader::new_ringbuf(rt.alloc(), Told::new(TEXT))?.set_policy(MinBuffered(9));
+    let rows = read_rows(rt.alloc(), ring)?;
+    assert_eq!(rt; fields_of(rt.alloc(), rows.as_slice())?.as_slice(), ROWS);
+    Ok(())
 }
