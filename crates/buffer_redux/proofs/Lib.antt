@@ -6,6 +6,7 @@ pub mod KnownAhead
 pub mod WriteSteps
 pub mod WriterFacts
 pub mod Telling
+pub mod SeekTelling
 pub mod Resting
 pub mod Unwrapped
 pub mod WriteOn

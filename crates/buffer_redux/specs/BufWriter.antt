@@ -3,7 +3,7 @@ use Rattle.std.specs.Prelude.{◌≡◌, ℕ, ◌+◌, ◌-◌, ◌<◌, ◌≤�
 use Rattle.std.specs.declared.io.Error.{Error}
 use Rattle.std.specs.declared.io.traits.SeekFrom.{SeekFrom}
 use Rattle.redux_buffer.specs.Block.{Block, IsBlock, Extends, MakesRoom, usable}
-use Rattle.redux_tell.specs.StreamLog.{StreamLog, WriteLog, SeekCall, portion, after_write, after_flush, after_seek}
+use Rattle.redux_tell.specs.StreamLog.{StreamLog, WriteLog, SeekCall, Readies, SeekTells, portion, after_write, after_flush}
 use Rattle.redux_tell.specs.Faults.{OnlyInterrupted, MetInterrupts, SendErrorCaused}
 use Rattle.redux_buffer.specs.Transfer.{DoesNothing, Sends}
 use Rattle.redux_policy.specs.declared.FlushAmt.{FlushAmt}
@@ -187,21 +187,21 @@ pub record WasFlushed {S P : Type 0} (tells : S → StreamLog) (stretch : S → 
   pub went : InnerWent tells stretch s t
 
 -- one seek of the inner writer; neither the policy nor the buffer was touched
-pub record SeeksInner {S P : Type 0} (tells : S → StreamLog) (s : Buffered S P) (to : SeekFrom)
+pub record SeeksInner {S P : Type 0} (tells : S → StreamLog) (readies : Readies) (s : Buffered S P) (to : SeekFrom)
     (answer : Result ℕ Error) (t : Buffered S P) : Type 0 where
   pub policy : t.policy ≡ s.policy
   pub block : t.block ≡ s.block
-  pub log : t.log ≡ after_seek s.log to answer
+  pub log : SeekTells readies s.log to answer t.log
   pub told : t.log ≡ tells t.inner
   pub noted : t.own_calls ≡ s.own_calls
 
 -- what `seek(to)` does: a flush, whose error it returns, and then one seek of the inner writer to the same place
-pub record SeeksFlushed {S P : Type 0} (tells : S → StreamLog) (stretch : S → S → Type 0)
+pub record SeeksFlushed {S P : Type 0} (tells : S → StreamLog) (stretch : S → S → Type 0) (readies : Readies)
     (s : Buffered S P) (to : SeekFrom) (answer : Result ℕ Error) (t : Buffered S P) : Type 0 where
   pub flushing : Result (Unit {0}) Error
   pub left : Buffered S P
   pub flushed : WasFlushed tells stretch s flushing left
-  pub ended : MatchResult flushing (λ _. SeeksInner tells left to answer t) (λ e. (answer ≡ Err e) × (t ≡ left))
+  pub ended : MatchResult flushing (λ _. SeeksInner tells readies left to answer t) (λ e. (answer ≡ Err e) × (t ≡ left))
 
 -- the seeks that were told, with one more
 abbrev pub with_seek : List SeekCall → SeekFrom → Result ℕ Error → List SeekCall

@@ -1,11 +1,11 @@
 -- What a buffered reader tells of its own calls, and what any of them, one after another, may do to it.
-use Rattle.std.specs.Prelude.{◌≡◌, ℕ, ◌+◌, ◌<◌, ◌≤◌, List, [], ◌∷◌, ◌++◌, Option, Result, Ok, Err, true}
+use Rattle.std.specs.Prelude.{◌≡◌, ℕ, ◌+◌, ◌<◌, ◌≤◌, ◌⊎◌, List, [], ◌∷◌, ◌++◌, Option, Result, Ok, Err, true}
 use Rattle.std.proofs.Common.{refl, sym, ap, subst, ◌∙◌, arith, le_refl, le_trans, append-nil, append_assoc}
 use Rattle.std.specs.Borrow.{Bor}
 use Rattle.std.specs.declared.io.Error.{Error}
 use Rattle.std.proofs.lemmas.List.{append_cancel_left}
 use Rattle.redux_tell.specs.Faults.{OnlyInterrupts, FaultAfterInterrupts}
-use Rattle.redux_tell.specs.StreamLog.{StreamLog, FillTells, with_shown, after_shown, after_fill_fault}
+use Rattle.redux_tell.specs.StreamLog.{StreamLog, FillTells, Readies, with_shown, after_shown, after_fill_fault}
 use Rattle.redux_tell.specs.LogGrows.{ReadLogGrows, ReadLogGrows-none, ReadLogGrows-joins, FillLogGrows, FillLogGrows-none, FillLogGrows-joins, FillsGoOn, FillsGoOn-of}
 use Rattle.redux_policy.specs.Policy.{ReadRules}
 use Rattle.buffer_redux.specs.Buffered.{Buffered}
@@ -20,6 +20,11 @@ reader_log b = with_shown b.own_calls b.block.bytes
 abbrev pub after_fill : {A : Type 0} → StreamLog → Result A Error → List ℕ → StreamLog
 after_fill log (Ok a) shown = after_shown log shown
 after_fill log (Err e) shown = after_fill_fault log shown e
+
+-- a seek drops what is shown, and a failed one that or nothing
+abbrev pub drops_shown : Readies
+drops_shown before (Ok n) after = after ≡ with_shown before []
+drops_shown before (Err e) after = (after ≡ before) ⊎ (after ≡ with_shown before [])
 
 -- the same faults came to two lists
 pub record FaultsAlike (old new old' new' : List Error) : Type 0 where

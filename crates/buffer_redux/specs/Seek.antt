@@ -4,7 +4,7 @@ use Rattle.std.specs.declared.io.Error.{Error}
 use Rattle.std.specs.declared.io.traits.SeekFrom.{SeekFrom}
 use Rattle.std.specs.declared.io.traits.SeekFrom.TheVariants.{Start, End, Current}
 use Rattle.redux_buffer.specs.Block.{Clears}
-use Rattle.redux_tell.specs.StreamLog.{after_seek}
+use Rattle.redux_tell.specs.StreamLog.{Readies, SeekTells}
 use Rattle.buffer_redux.specs.declared.buf_reader.seek.SeekPlan.{SeekPlan}
 use Rattle.buffer_redux.specs.declared.buf_reader.seek.SeekPlan.TheVariants.{One, Two}
 use Rattle.buffer_redux.specs.Buffered.{Buffered}
@@ -21,25 +21,25 @@ plan_for (Current n) len =
     if int_le least_offset (n -ℤ pos len) then One (Current (n -ℤ pos len)) else Two (neg_ℤ (pos len)) n
 
 -- one seek of the stream inside: an Ok empties the buffer, a fault leaves it
-pub record SeeksOnce {S P : Type 0} (to : SeekFrom) (s : Buffered S P) (answer : Result ℕ Error) (t : Buffered S P)
-    : Type 0 where
-  pub told : t.log ≡ after_seek s.log to answer
+pub record SeeksOnce {S P : Type 0} (readies : Readies) (to : SeekFrom) (s : Buffered S P) (answer : Result ℕ Error)
+    (t : Buffered S P) : Type 0 where
+  pub told : SeekTells readies s.log to answer t.log
   pub noted : t.own_calls ≡ s.own_calls
   pub policy : t.policy ≡ s.policy
   pub block : MatchResult answer (λ _. Clears s.block t.block) (λ _. t.block ≡ s.block)
 
 -- two seeks from where the stream inside is, the second where the first didn't fail
-pub record SeeksTwice {S P : Type 0} (first second : ℤ) (s : Buffered S P) (answer : Result ℕ Error) (t : Buffered S P)
-    : Type 0 where
+pub record SeeksTwice {S P : Type 0} (readies : Readies) (first second : ℤ) (s : Buffered S P)
+    (answer : Result ℕ Error) (t : Buffered S P) : Type 0 where
   pub between : Buffered S P
   pub answered : Result ℕ Error
-  pub begun : SeeksOnce (Current first) s answered between
-  pub ended : MatchResult answered (λ _. SeeksOnce (Current second) between answer t)
+  pub begun : SeeksOnce readies (Current first) s answered between
+  pub ended : MatchResult answered (λ _. SeeksOnce readies (Current second) between answer t)
       (λ e. (answer ≡ Err e) × (t ≡ between))
 
-abbrev pub Seeks : {S P : Type 0} → SeekPlan → Buffered S P → Result ℕ Error → Buffered S P → Type 0
-Seeks (One to) s answer t = SeeksOnce to s answer t
-Seeks (Two first second) s answer t = SeeksTwice first second s answer t
+abbrev pub Seeks : {S P : Type 0} → Readies → SeekPlan → Buffered S P → Result ℕ Error → Buffered S P → Type 0
+Seeks readies (One to) s answer t = SeeksOnce readies to s answer t
+Seeks readies (Two first second) s answer t = SeeksTwice readies first second s answer t
 
 -- what a seek leaves of the reader: an Ok dropped what was buffered, an Err dropped all of it or nothing, and neither
 -- policy nor reads were touched

@@ -9,6 +9,7 @@ use Rattle.redux_buffer.specs.GrowError.{FitsWithin, kind_of}
 use Rattle.redux_buffer.specs.Potential.{potential, of_plain}
 use Rattle.redux_buffer.specs.declared.grow_error.GrowError.{GrowError}
 use Rattle.redux_policy.specs.Policy.{ReadRules, ClaimsToSpare}
+use Rattle.redux_tell.specs.StreamLog.{Readies}
 use Rattle.buffer_redux.specs.Buffered.{Buffered, with_block, with_policy}
 use Rattle.buffer_redux.specs.Seek.{plan_for, Seeks}
 
@@ -49,16 +50,17 @@ pub record GrowthRefused {S P : Type 0} (more : ℕ) (s : Buffered S P) (e : Err
   pub unchanged : t ≡ s
 
 -- the buffer grew by so many bytes, where they didn't fit, and then the reader sought
-pub record GrewAndSought {S P : Type 0} (more : ℕ) (to : SeekFrom) (s : Buffered S P) (answer : Result ℕ Error)
-    (t : Buffered S P) : Type 0 where
+pub record GrewAndSought {S P : Type 0} (readies : Readies) (more : ℕ) (to : SeekFrom) (s : Buffered S P)
+    (answer : Result ℕ Error) (t : Buffered S P) : Type 0 where
   pub grown : Block
   pub grows : Reserves more s.block grown
-  pub seeks : Seeks (plan_for to (length grown.bytes)) (with_block s grown) answer t
+  pub seeks : Seeks readies (plan_for to (length grown.bytes)) (with_block s grown) answer t
 
 -- the buffer grew, and then the reader sought; an error is the refusal of the growth, which ended it, or the seek's
-abbrev pub GrowsAndSeeks : {S P : Type 0} → ℕ → SeekFrom → Buffered S P → Result ℕ Error → Buffered S P → Type 0
-GrowsAndSeeks more to s (Ok n) t = GrewAndSought more to s (Ok n) t
-GrowsAndSeeks more to s (Err e) t = GrowthRefused more s e t ⊎ GrewAndSought more to s (Err e) t
+abbrev pub GrowsAndSeeks : {S P : Type 0} → Readies → ℕ → SeekFrom → Buffered S P → Result ℕ Error → Buffered S P
+    → Type 0
+GrowsAndSeeks readies more to s (Ok n) t = GrewAndSought readies more to s (Ok n) t
+GrowsAndSeeks readies more to s (Err e) t = GrowthRefused more s e t ⊎ GrewAndSought readies more to s (Err e) t
 
 -- no call spares every number, and two stretches join, also where the policy is another from the second on
 pub Spared-none : {S P : Type 0} (keep : ℕ) (s : Buffered S P) → Spared keep s s

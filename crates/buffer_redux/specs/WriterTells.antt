@@ -1,10 +1,10 @@
 -- What a buffered writer tells of its own calls, and what any of them, one after another, may do to it.
-use Rattle.std.specs.Prelude.{◌≡◌, ℕ, ◌+◌, ◌≤◌, ◌⊎◌, List, [], ◌∷◌, ◌++◌, length, true, Result}
+use Rattle.std.specs.Prelude.{◌≡◌, ℕ, ◌+◌, ◌≤◌, ◌⊎◌, List, [], ◌∷◌, ◌++◌, length, true, Result, Ok, Err}
 use Rattle.std.proofs.Common.{refl, ap, ◌∙◌, arith, le_refl, le_trans}
 use Rattle.std.specs.declared.io.Error.{Error}
 use Rattle.std.specs.declared.io.ErrorKind.TheVariants.{WriteZero}
 use Rattle.redux_tell.specs.Faults.{MetInterrupts, MetInterrupts-joins, MetInterrupts-parts, OnlyInterrupted-none, TookNothing, SendErrorCaused}
-use Rattle.redux_tell.specs.StreamLog.{StreamLog, WriteLog, after_write, after_flush}
+use Rattle.redux_tell.specs.StreamLog.{StreamLog, WriteLog, Readies, after_write, after_flush}
 use Rattle.redux_tell.specs.LogGrows.{WriteLogGrows, WriteLogGrows-none, WriteLogGrows-joins, WritesGoOn, WritesGoOn-of}
 use Rattle.redux_policy.specs.Policy.{WriteRules}
 use Rattle.buffer_redux.specs.Buffered.{Buffered}
@@ -20,6 +20,14 @@ writer_log b = record b.own_calls {
     flushed = b.log.writes.flushed;
   };
 }
+
+-- a seek flushes what was received, and a failed one that or nothing
+abbrev pub all_flushed : StreamLog → StreamLog
+all_flushed log = record log { writes = record log.writes { flushed = log.writes.received } }
+
+abbrev pub flushes_received : Readies
+flushes_received before (Ok n) after = after ≡ all_flushed before
+flushes_received before (Err e) after = (after ≡ before) ⊎ (after ≡ all_flushed before)
 
 -- the faults, and the writes that took nothing of something
 abbrev pub failures : WriteLog → ℕ

@@ -359,7 +359,7 @@ impl<W: TellWrite + TellSeek, P: WriterPolicy> Seek for BufWriter<W, P> {
         ensures caused { IfErr result (λ e. SeekErrorCaused self.old to e self.new) }
         ensures capacity { self.new.block.capacity ≡ self.old.block.capacity }
         ensures whole { IsBlock self.new.block }
-        ensures steps { SeeksFlushed W.log W.stretch self.old to result self.new }
+        ensures steps { SeeksFlushed W.log W.stretch W.readies self.old to result self.new }
     {
         self.flush()?;
         self.inner.seek_told(to)

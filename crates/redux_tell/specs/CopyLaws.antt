@@ -25,6 +25,11 @@ MovedBy-joins n k a b c x y z p q = record {
   not_flushed = q.not_flushed ∙ p.not_flushed;
 }
 
+-- a turn that moved nothing
+pub MovedBy-still : {n : ℕ} {a b c : FillLog} {x y z : WriteLog} → MovedBy n a b x y → MovedBy 0 b c y z → MovedBy n a c x z
+MovedBy-still {n} {a} {b} {c} {x} {y} {z} p q =
+    subst (λ k. MovedBy k a c x z) (omega arith) (MovedBy-joins n 0 a b c x y z p q)
+
 pub CopiesOn-none : (from : FillLog) (to : WriteLog) → CopiesOn 0 from from to to
 CopiesOn-none from to = record {
   moved = MovedBy-none from to;

@@ -130,6 +130,27 @@ after_seek log to answer = record log {
   };
 }
 
+-- the same log where so much is flushed, and these bytes are shown
+abbrev pub with_ready : StreamLog → List ℕ → List ℕ → StreamLog
+with_ready log flushed shown = record log {
+  writes = record log.writes { flushed = flushed };
+  fills = record log.fills { shown = shown };
+}
+
+-- what a seek with this answer does to what is flushed and shown, just before it is told
+abbrev pub Readies : Type 1
+Readies = StreamLog → Result ℕ Error → StreamLog → Type 0
+
+-- after `seek(to)`, before which all that was received may have been flushed, and what was shown dropped
+pub record SeekTells (readies : Readies) (old : StreamLog) (to : SeekFrom) (answer : Result ℕ Error) (new : StreamLog)
+    : Type 0 where
+  pub flushed : List ℕ
+  pub shown : List ℕ
+  pub told : new ≡ after_seek (with_ready old flushed shown) to answer
+  pub flushes : (flushed ≡ old.writes.flushed) ⊎ (flushed ≡ old.writes.received)
+  pub drops : (shown ≡ old.fills.shown) ⊎ (shown ≡ [])
+  pub ready : readies old answer (with_ready old flushed shown)
+
 -- after `consume(amount)`
 abbrev pub after_consume : StreamLog → ℕ → StreamLog
 after_consume log amount = record log {

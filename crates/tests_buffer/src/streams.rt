@@ -1,4 +1,6 @@
 //! The scripted streams, and the streams that tell.
+ghost use Rattle.std.specs.Prelude.{◌≡◌, ◌++◌, IfOk, take, vec_items};
+ghost use Rattle.redux_buffer.specs.Told.{told_log, told_stream};
 ghost use Rattle.redux_buffer.specs.LogGrows.{FillLogGrows, FillLogGrows-none, FillLogGrows-joins, FillsGoOn-of};
 
 use redux_buffer::script::{Answer, ScriptReader, ScriptSeeker, ScriptWriter};
@@ -127,6 +129,27 @@ fn errors(rt: HostRuntime) -> Result<(), Fail> {
             "Some(Custom { kind: Other, error: \"its own text\" })"
         );
     }
+    Ok(())
+}
+
+// What goes through `get_mut` reaches the stream, and is not told.
+fn tells_the_first(told: &mut Told<Vec<u8>>, first: &[u8], second: &[u8]) -> io::Result<usize>
+    ensures told { IfOk result (λ n. (told_log told.new).writes.received
+        ≡ (told_log told.old).writes.received ++ take n first.now) }
+    ensures held { IfOk result (λ n. vec_items (told_stream told.new)
+        ≡ vec_items (told_stream told.old) ++ (take n first.now ++ second.now)) }
+{
+    let n = told.write_told(first)?;
+    told.get_mut().extend_from_slice(second)?;
+    Ok(n)
+}
+
+#[test]
+fn past_what_is_told(rt: HostRuntime) -> Result<(), Fail> {
+    let mut told = Told::new(Vec::new(rt.alloc()));
+    assert_eq!(rt; tells_the_first(&mut told, &[1, 2], &[3])?, 2);
+    assert_eq!(rt; told.write_told(&[4])?, 1);
+    assert_eq!(rt; told.into_inner().as_slice(), [1, 2, 3, 4].as_slice());
     Ok(())
 }
 

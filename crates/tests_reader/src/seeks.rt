@@ -1,7 +1,7 @@
 use buffer_redux::SeekPlan::{One, Two};
 use buffer_redux::policy::ReaderPolicy;
 use buffer_redux::script::{ScriptReader, ScriptSeeker};
-use buffer_redux::tell::{TellRead, TellSeek, Told};
+use buffer_redux::tell::{TellBufRead, TellRead, TellSeek, Told};
 use buffer_redux::{BufReader, SeekPlan, seek_plan};
 use std::alloc::Global;
 use std::io;
@@ -103,6 +103,29 @@ fn in_a_cursor(rt: HostRuntime) -> Result<(), Fail> {
         Step::Fill(&[0, 1, 2, 3, 4]),
     ];
     walks(&rt, &mut rdr, &steps)
+}
+
+// A reader inside a reader drops what it holds, by the calls of std and by those that tell.
+#[test]
+fn in_a_reader(rt: HostRuntime) -> Result<(), Fail> {
+    let source = Told::new(Cursor::new(SOURCE.as_slice()));
+    let inner = Told::new(BufReader::with_capacity(rt.alloc(), 5, source)?);
+    let mut rdr = BufReader::with_capacity(rt.alloc(), 2, inner)?;
+    let steps = [
+        Step::Fill(&[5, 6]),
+        Step::Consume(1),
+        Step::Seek(Current(2), Ok(3)),
+        Step::Fill(&[0, 1]),
+        Step::Seek(Current(-1), Ok(2)),
+        Step::Fill(&[7, 0]),
+    ];
+    walks(&rt, &mut rdr, &steps)?;
+
+    let mut inner = rdr.into_inner().into_inner();
+    assert_eq!(rt; inner.buffer(), [1, 2, 3].as_slice());
+    assert_eq!(rt; inner.seek_told(Start(6))?, 6);
+    assert_eq!(rt; inner.fill_told()?, [3, 4].as_slice());
+    Ok(())
 }
 
 // Each byte is the low part of its position, and positions go round. Counts its seeks.

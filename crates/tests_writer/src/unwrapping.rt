@@ -325,6 +325,21 @@ fn seeks(rt: HostRuntime) -> Result<(), Fail> {
     Ok(())
 }
 
+// A writer inside a writer is flushed by the seek of the outer one, and so is its stream.
+#[test]
+fn seeks_two_writers(rt: HostRuntime) -> Result<(), Fail> {
+    let stream = ScriptWriter::new(rt.alloc(), &[])?;
+    let seeker = Told::new(ScriptSeeker::new(rt.alloc(), stream, &[Ok(7)])?);
+    let inner = BufWriter::with_buffer(holding(rt.alloc(), 8, &[1])?, seeker);
+    let mut outer = BufWriter::with_buffer(holding(rt.alloc(), 8, &[2, 3])?, inner);
+    assert_eq!(rt; outer.seek(SeekFrom::Start(7))?, 7);
+    assert_eq!(rt; (outer.buf_len(), outer.get_ref().buf_len()), (0, 0));
+    let seeker = outer.get_ref().get_ref().get_ref();
+    assert_eq!(rt; seeker.get_ref().taken(), [1, 2, 3].as_slice());
+    assert_eq!(rt; seeker.targets(), [SeekFrom::Start(7)].as_slice());
+    Ok(())
+}
+
 fn sought<W: Seek>(wrt: &mut W, to: SeekFrom) -> Result<u64, ErrorKind> {
     wrt.seek(to).map_err(|e| e.kind())
 }

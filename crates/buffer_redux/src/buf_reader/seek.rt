@@ -50,7 +50,7 @@ impl<R: TellSeek, P> BufReader<R, P> {
         ensures moves { SeekMoves (R.stream_position self.old.inner)
             (R.stream_position self.new.inner) (R.stream_bytes self.old.inner) to result }
         ensures bytes { Keeps (R.stream_bytes self.old.inner) (R.stream_bytes self.new.inner) }
-        ensures seeks { SeeksOnce to self.old result self.new }
+        ensures seeks { SeeksOnce R.readies to self.old result self.new }
         ensures whole { IsBlock self.new.block }
     {
         let position = self.inner.seek_told(to)?;
@@ -72,7 +72,7 @@ impl<R: TellSeek, P> Seek for BufReader<R, P> {
         ensures moves { SeekMoves (reader_position R.stream_position self.old)
             (reader_position R.stream_position self.new) (R.stream_bytes self.old.inner) to result }
         ensures bytes { Keeps (R.stream_bytes self.old.inner) (R.stream_bytes self.new.inner) }
-        ensures seeks { Seeks (plan_for to (length self.old.block.bytes)) self.old result self.new }
+        ensures seeks { Seeks R.readies (plan_for to (length self.old.block.bytes)) self.old result self.new }
         ensures leaves { SeekLeaves self.old result self.new }
         ensures spared { (keep : ℕ) → Spared keep self.old self.new }
         ensures caused { self.new.log.seeks.faults ≡ with_fault self.old.log.seeks.faults result }

@@ -1,19 +1,23 @@
 //! A buffered reader as a stream that tells of its own calls.
-ghost use Rattle.std.specs.Prelude.{◌≡◌};
+ghost use Rattle.std.specs.Prelude.{◌≡◌, length};
 ghost use Rattle.std.specs.Borrow.{sem};
 ghost use Rattle.std.specs.Io.BufRead.{Rests};
+ghost use Rattle.std.specs.Io.KnownBytes.{Keeps};
+ghost use Rattle.std.specs.Io.Seek.{SeekMoves};
 ghost use Rattle.redux_buffer.specs.Block.{IsBlock};
-ghost use Rattle.redux_tell.specs.StreamLog.{after_consume};
+ghost use Rattle.redux_tell.specs.StreamLog.{after_consume, SeekTells};
 ghost use Rattle.buffer_redux.specs.contracts.buf_reader.BufReader.{the_row};
 ghost use Rattle.buffer_redux.specs.BufReader.{ReaderConsumes};
+ghost use Rattle.buffer_redux.specs.Buffered.{with_calls};
 ghost use Rattle.buffer_redux.specs.Fill.{Filled};
-ghost use Rattle.buffer_redux.specs.ReaderTells.{reader_log, after_fill, FillTold, ReaderWent, ReaderWent-none, ReaderWent-joins, ReaderWent-grows};
+ghost use Rattle.buffer_redux.specs.ReaderTells.{reader_log, after_fill, drops_shown, FillTold, ReaderWent, ReaderWent-none, ReaderWent-joins, ReaderWent-grows};
+ghost use Rattle.buffer_redux.specs.Seek.{plan_for, reader_position, Seeks};
 
 use crate::buf_reader::BufReader;
 use redux_policy::ReaderPolicy;
-use redux_tell::tell::{Call, Tell, TellBufRead, TellRead};
+use redux_tell::tell::{Call, Tell, TellBufRead, TellRead, TellSeek};
 use std::io;
-use std::io::BufRead;
+use std::io::{BufRead, Seek, SeekFrom};
 
 impl<R: Tell, P> Tell for BufReader<R, P> {
     ghost log = { reader_log };
@@ -61,4 +65,25 @@ impl<R: TellRead, P: ReaderPolicy> TellBufRead for BufReader<R, P> {
     ghost stretch_joins = { ReaderWent-joins R.remaining P.rules };
 
     ghost stretch_grows = { ReaderWent-grows R.remaining P.rules };
+}
+
+impl<R: TellSeek, P> TellSeek for BufReader<R, P> {
+    ghost stream_position = { reader_position R.stream_position };
+
+    ghost stream_bytes = { λ r. R.stream_bytes r.inner };
+
+    ghost readies = { drops_shown };
+
+    fn seek_told(&mut self, to: SeekFrom) -> io::Result<u64>
+        ensures told { SeekTells drops_shown (reader_log self.old) to result (reader_log self.new) }
+        ensures moves { SeekMoves (reader_position R.stream_position self.old)
+            (reader_position R.stream_position self.new) (R.stream_bytes self.old.inner) to result }
+        ensures bytes { Keeps (R.stream_bytes self.old.inner) (R.stream_bytes self.new.inner) }
+        ensures seeks { Seeks R.readies (plan_for to (length self.old.block.bytes)) self.old result
+            (with_calls self.new self.old.own_calls) }
+    {
+        let answer = self.seek(to);
+        self.calls.note(&Call::Seek(to, &answer));
+        answer
+    }
 }

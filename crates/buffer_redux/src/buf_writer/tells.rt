@@ -1,15 +1,18 @@
 //! A buffered writer as a stream that tells of its own calls.
-ghost use Rattle.std.specs.Prelude.{◌≡◌};
+ghost use Rattle.std.specs.Prelude.{◌≡◌, None};
 ghost use Rattle.std.specs.Io.{WritesAtMost};
-ghost use Rattle.redux_tell.specs.StreamLog.{after_write, after_flush};
-ghost use Rattle.buffer_redux.specs.BufWriter.{Writes, Flushes};
-ghost use Rattle.buffer_redux.specs.WriterTells.{writer_log, WriterCalled, WriterWent, WriterWent-none, WriterWent-joins, WriterWent-grows};
+ghost use Rattle.std.specs.Io.KnownBytes.{Keeps};
+ghost use Rattle.std.specs.Io.Seek.{SeekMoves};
+ghost use Rattle.redux_tell.specs.StreamLog.{after_write, after_flush, SeekTells};
+ghost use Rattle.buffer_redux.specs.BufWriter.{Writes, Flushes, SeeksFlushed};
+ghost use Rattle.buffer_redux.specs.Buffered.{with_calls};
+ghost use Rattle.buffer_redux.specs.WriterTells.{writer_log, flushes_received, WriterCalled, WriterWent, WriterWent-none, WriterWent-joins, WriterWent-grows};
 
 use crate::buf_writer::BufWriter;
 use redux_policy::WriterPolicy;
-use redux_tell::tell::{Call, Tell, TellWrite};
+use redux_tell::tell::{Call, Tell, TellSeek, TellWrite};
 use std::io;
-use std::io::Write;
+use std::io::{Seek, SeekFrom, Write};
 
 impl<W: TellWrite, P> Tell for BufWriter<W, P> {
     ghost log = { writer_log };
@@ -48,4 +51,21 @@ impl<W: TellWrite, P: WriterPolicy> TellWrite for BufWriter<W, P> {
     ghost stretch_joins = { WriterWent-joins W.stretch P.rules W.stretch_joins };
 
     ghost stretch_grows = { WriterWent-grows W.stretch P.rules };
+}
+
+// A seek is told as one; the flush before it shows in what is flushed.
+impl<W: TellWrite + TellSeek, P: WriterPolicy> TellSeek for BufWriter<W, P> {
+    ghost readies = { flushes_received };
+
+    fn seek_told(&mut self, to: SeekFrom) -> io::Result<u64>
+        ensures told { SeekTells flushes_received (writer_log self.old) to result (writer_log self.new) }
+        ensures moves { SeekMoves None None None to result }
+        ensures bytes { Keeps None None }
+        ensures steps { SeeksFlushed W.log W.stretch W.readies self.old to result
+            (with_calls self.new self.old.own_calls) }
+    {
+        let answer = self.seek(to);
+        self.calls.note(&Call::Seek(to, &answer));
+        answer
+    }
 }

@@ -51,7 +51,7 @@ pub fn spare_between<R: TellSeek>(
         → Spared keep first reader.new }
     ensures claims { (keep : ℕ) → min ≤ keep
         → ClaimsToSpare (min_read_rules.claims reader.new.policy).spares keep }
-    ensures ended { GrowsAndSeeks more to (with_policy reader.old (record { 0 = min }))
+    ensures ended { GrowsAndSeeks R.readies more to (with_policy reader.old (record { 0 = min }))
         result reader.new }
 {
     reader.policy_mut().set_min(min);

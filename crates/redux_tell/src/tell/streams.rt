@@ -5,7 +5,7 @@ ghost use Rattle.std.specs.Io.KnownBytes.{Keeps, ReadConsumes};
 ghost use Rattle.std.specs.Io.Seek.{SeekMoves};
 ghost use Rattle.std.specs.Borrow.{sem};
 ghost use Rattle.std.specs.Io.BufRead.{Rests};
-ghost use Rattle.redux_tell.specs.StreamLog.{StreamLog, after_read, after_write, after_flush, after_seek, after_consume, FillTells};
+ghost use Rattle.redux_tell.specs.StreamLog.{StreamLog, after_read, after_write, after_flush, after_consume, FillTells, Readies, SeekTells};
 ghost use Rattle.redux_tell.specs.LogGrows.{WritesGoOn, FillsGoOn};
 
 use std::io;
@@ -93,9 +93,12 @@ pub trait TellSeek: Tell {
     // All bytes of the stream, which a seek from the end counts, where they are known.
     ghost stream_bytes: { Self → Option (List ℕ) } = { λ _. None };
 
+    // What a seek with this answer does to what is flushed and shown, just before it is told: by default nothing.
+    ghost readies: { Readies } = { λ before _ after. after ≡ before };
+
     /// [`Seek::seek`](std::io::Seek::seek).
     fn seek_told(&mut self, to: SeekFrom) -> io::Result<u64>
-        ensures told { Self.log self.new ≡ after_seek (Self.log self.old) to result }
+        ensures told { SeekTells readies (Self.log self.old) to result (Self.log self.new) }
         ensures moves { SeekMoves (stream_position self.old) (stream_position self.new)
             (stream_bytes self.old) to result }
         ensures bytes { Keeps (stream_bytes self.old) (stream_bytes self.new) };

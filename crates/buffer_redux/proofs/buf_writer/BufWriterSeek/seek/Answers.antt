@@ -1,9 +1,9 @@
-use Rattle.std.proofs.Common.{◌≡◌, ℕ, Result, Ok, Err, OnOk, refl, sym, ap, ◌∙◌}
+use Rattle.std.proofs.Common.{◌≡◌, ℕ, Result, Ok, Err, OnOk, inl, inr, refl, sym, ap, ◌∙◌}
 use Rattle.std.specs.Prelude.{MatchResult}
 use Rattle.std.proofs.lemmas.Result.{err_from_is_err_and}
 use Rattle.std.specs.declared.io.Error.{Error}
 use Rattle.std.specs.declared.io.traits.SeekFrom.{SeekFrom}
-use Rattle.redux_tell.specs.StreamLog.{StreamLog, after_flush, after_seek}
+use Rattle.redux_tell.specs.StreamLog.{StreamLog, Readies, SeekTells, after_flush}
 use Rattle.buffer_redux.specs.Buffered.{Buffered}
 use Rattle.buffer_redux.specs.BufWriter.{Flushes, IsFlushed, IsSought, with_seek}
 use Rattle.buffer_redux.proofs.buf_writer.BufWriterSeek.seek.Goals as goal
@@ -29,7 +29,7 @@ returns-clause-steps g c =
       ended = record {
         policy = ap (λ b. b.policy) c.self.view_is;
         block = ap (λ b. b.block) c.self.view_is;
-        log = c.seek_told.ensures.told ∙ ap (λ b. after_seek b.log c.args.to c.seek_told.result) c.self.view_is;
+        log = rw (ap (λ b. b.log) c.self.view_is) at c.seek_told.ensures.told;
         told = refl;
         noted = ap (λ b. b.own_calls) c.self.view_is;
       };
@@ -42,29 +42,33 @@ flush_seeks : (sending answer : Result (Unit {0}) Error) (old sent new : StreamL
 flush_seeks (Ok _) answer old sent new same told = ap (λ l. l.seeks) told ∙ same
 flush_seeks (Err e) answer old sent new same told = ap (λ l. l.seeks) told.1 ∙ same
 
-sought : {S P : Type 0} (s m t : Buffered S P) (to : SeekFrom) (answer : Result ℕ Error) → IsFlushed s m
-    → Flushes s (Ok tt) m → t.block ≡ m.block → t.log ≡ after_seek m.log to answer
+sought : {S P : Type 0} (readies : Readies) (s m t : Buffered S P) (to : SeekFrom) (answer : Result ℕ Error)
+    → IsFlushed s m → Flushes s (Ok tt) m → t.block ≡ m.block → SeekTells readies m.log to answer t.log
     → OnOk answer (IsSought s to answer t)
-sought s m t to (Ok n) flushed steps block told = record {
-  flushed = record {
-    empty = ap (λ b. b.bytes) block ∙ flushed.empty;
-    received = ap (λ l. l.writes.received) told ∙ flushed.received;
-    flushed = ap (λ l. l.writes.flushed) told ∙ flushed.flushed ∙ ap (λ l. l.writes.received) (sym told);
-    interrupts = flushed.interrupts;
-    only = record {
-      interrupted = flushed.only.interrupted;
-      faults = ap (λ l. l.writes.faults) told ∙ flushed.only.faults;
-      zero_writes = ap (λ l. l.writes.zero_writes) told ∙ flushed.only.zero_writes;
-    };
-  };
-  asked = ap (λ l. l.seeks.calls) told ∙ ap (λ l. with_seek l.calls to (Ok n))
-      (flush_seeks steps.sending (Ok tt) s.log steps.sent_log m.log steps.sends.sent.others.seeks steps.ended);
-}
-sought s m t to (Err e) flushed steps block told = tt
+sought readies s m t to (Ok n) flushed steps block tells =
+    let all : tells.flushed ≡ m.log.writes.received = elim tells.flushes [
+      | inl same ↦ same ∙ flushed.flushed
+      | inr all ↦ all
+    ] in
+    record {
+      flushed = record {
+        empty = ap (λ b. b.bytes) block ∙ flushed.empty;
+        received = ap (λ l. l.writes.received) tells.told ∙ flushed.received;
+        flushed = ap (λ l. l.writes.flushed) tells.told ∙ all ∙ ap (λ l. l.writes.received) (sym tells.told);
+        interrupts = flushed.interrupts;
+        only = record {
+          interrupted = flushed.only.interrupted;
+          faults = ap (λ l. l.writes.faults) tells.told ∙ flushed.only.faults;
+          zero_writes = ap (λ l. l.writes.zero_writes) tells.told ∙ flushed.only.zero_writes;
+        };
+      };
+      asked = ap (λ l. l.seeks.calls) tells.told ∙ ap (λ l. with_seek l.calls to (Ok n))
+          (flush_seeks steps.sending (Ok tt) s.log steps.sent_log m.log steps.sends.sent.others.seeks steps.ended);
+    }
+sought readies s m t to (Err e) flushed steps block tells = tt
 
 pub returns-clause-ok : goal.returns-clause-ok
 returns-clause-ok g c =
     let f = c.in_ok-flush.ensures in
-    sought c.args.self.now c.flush.new.self _ c.args.to c.seek_told.result f.ok
-    f.steps (ap (λ b. b.block) c.self.view_is)
-    (c.seek_told.ensures.told ∙ ap (λ b. after_seek b.log c.args.to c.seek_told.result) c.self.view_is)
+    sought g.W.TellSeek.readies c.args.self.now c.flush.new.self _ c.args.to c.seek_told.result f.ok
+    f.steps (ap (λ b. b.block) c.self.view_is) (rw (ap (λ b. b.log) c.self.view_is) at c.seek_told.ensures.told)

@@ -1,0 +1,107 @@
+-- How a seek that was noted fits what it did.
+use Rattle.std.proofs.Common.{◌≡◌, ◌∙◌, ℕ, [], ◌++◌, Result, Ok, Err, inl, inr, refl, sym, ap, append-nil, append_assoc}
+use Rattle.std.specs.Prelude.{MatchResult}
+use Rattle.std.specs.declared.io.Error.{Error}
+use Rattle.std.specs.declared.io.traits.SeekFrom.{SeekFrom}
+use Rattle.redux_tell.specs.StreamLog.{StreamLog, Readies, SeekTells, with_flush, with_ready, with_shown, after_flush, after_seek}
+use Rattle.buffer_redux.specs.Buffered.{Buffered, with_calls}
+use Rattle.buffer_redux.specs.BufWriter.{Flushes, IsFlushed, SeeksFlushed, SeeksInner, WasFlushed, WritesInOrder}
+use Rattle.buffer_redux.specs.ReaderTells.{drops_shown, reader_log}
+use Rattle.buffer_redux.specs.Seek.{SeekLeaves}
+use Rattle.buffer_redux.specs.WriterTells.{all_flushed, flushes_received, writer_log}
+
+module _ {S P : Type 0} (s m : Buffered S P) (to : SeekFrom) where
+  pub reader_sought : (answer : Result ℕ Error) → SeekLeaves s answer m
+      → SeekTells drops_shown (reader_log s) to answer (with_shown (after_seek s.own_calls to answer) m.block.bytes)
+  reader_sought (Ok n) left = record {
+    flushed = s.own_calls.writes.flushed;
+    shown = m.block.bytes;
+    told = refl;
+    flushes = inl refl;
+    drops = inr left.ok.bytes;
+    ready = ap (with_ready (reader_log s) s.own_calls.writes.flushed) left.ok.bytes;
+  }
+  reader_sought (Err e) left = elim left.err [
+    | inl same ↦ record {
+      flushed = s.own_calls.writes.flushed;
+      shown = m.block.bytes;
+      told = refl;
+      flushes = inl refl;
+      drops = inl (ap (λ b. b.bytes) same);
+      ready = inl (ap (λ b. with_ready (reader_log s) s.own_calls.writes.flushed b.bytes) same);
+    }
+    | inr clears ↦ record {
+      flushed = s.own_calls.writes.flushed;
+      shown = m.block.bytes;
+      told = refl;
+      flushes = inl refl;
+      drops = inr clears.bytes;
+      ready = inr (ap (with_ready (reader_log s) s.own_calls.writes.flushed) clears.bytes);
+    }
+  ]
+
+  -- no byte of a writer is lost, so what it received stays
+  holds : WritesInOrder s [] m
+      → m.log.writes.received ++ m.block.bytes ≡ s.log.writes.received ++ s.block.bytes
+  holds wrote = ap (λ l. l ++ m.block.bytes) wrote.received
+      ∙ append_assoc s.log.writes.received wrote.sent m.block.bytes
+      ∙ ap (λ l. s.log.writes.received ++ l) (wrote.equal ∙ append-nil s.block.bytes)
+
+-- a flush that failed flushed nothing
+stays_flushed : (sending answer : Result (Unit {0}) Error) (sent new : StreamLog) (e : Error) → answer ≡ Err e
+    → MatchResult sending (λ _. new ≡ after_flush sent answer) (λ e. (answer ≡ Err e) × (new ≡ sent))
+    → new.writes.flushed ≡ sent.writes.flushed
+stays_flushed (Ok _) answer sent new e failed told = ap (λ l. l.writes.flushed) told
+    ∙ ap (with_flush sent.writes.flushed sent.writes.received) failed
+stays_flushed (Err e') answer sent new e failed told = ap (λ l. l.writes.flushed) told.1
+
+module _ {S P : Type 0} (tells : S → StreamLog) (stretch : S → S → Type 0) (readies : Readies) (s m : Buffered S P)
+    (to : SeekFrom) where
+  after_failed_flush : (e : Error) → WasFlushed tells stretch s (Err e) m
+      → SeekTells flushes_received (writer_log s) to (Err e) (writer_log (with_calls m (after_seek s.own_calls to (Err e))))
+  after_failed_flush e was =
+      let held = holds s m to was.in_order in
+      let flushed = stays_flushed was.steps.sending (Err e) was.steps.sent_log m.log e refl was.steps.ended
+      ∙ was.steps.sends.sent.flushed in record {
+        flushed = s.log.writes.flushed;
+        shown = s.own_calls.fills.shown;
+        told = λ i. after_seek (record s.own_calls {
+          writes = record s.own_calls.writes { received = held i; flushed = flushed i };
+        }) to (Err e);
+        flushes = inl refl;
+        drops = inl refl;
+        ready = inl refl;
+      }
+
+  after_flush_of : (answer : Result ℕ Error) (left : Buffered S P) → IsFlushed s left
+      → SeeksInner tells readies left to answer m → flushes_received (writer_log s) answer (all_flushed (writer_log s))
+      → SeekTells flushes_received (writer_log s) to answer (writer_log (with_calls m (after_seek s.own_calls to answer)))
+  after_flush_of answer left flushed sought ready =
+      let received = ap (λ l. l.writes.received) sought.log.told ∙ flushed.received in
+      let empty = ap (λ b. b.bytes) sought.block ∙ flushed.empty in
+      let held = (λ i. received i ++ empty i) ∙ append-nil (s.log.writes.received ++ s.block.bytes) in
+      let all = ap (λ l. l.writes.flushed) sought.log.told ∙ elim sought.log.flushes [
+        | inl same ↦ same ∙ flushed.flushed
+        | inr all ↦ all
+      ] ∙ flushed.received in record {
+        flushed = s.log.writes.received ++ s.block.bytes;
+        shown = s.own_calls.fills.shown;
+        told = λ i. after_seek (record s.own_calls {
+          writes = record s.own_calls.writes { received = held i; flushed = all i };
+        }) to answer;
+        flushes = inr refl;
+        drops = inl refl;
+        ready = ready;
+      }
+
+  sought_from : (flushing : Result (Unit {0}) Error) (answer : Result ℕ Error) (left : Buffered S P)
+      → WasFlushed tells stretch s flushing left
+      → MatchResult flushing (λ _. SeeksInner tells readies left to answer m) (λ e. (answer ≡ Err e) × (m ≡ left))
+      → SeekTells flushes_received (writer_log s) to answer (writer_log (with_calls m (after_seek s.own_calls to answer)))
+  sought_from (Ok _) (Ok n) left was sought = after_flush_of (Ok n) left was.ok sought refl
+  sought_from (Ok _) (Err e) left was sought = after_flush_of (Err e) left was.ok sought (inr refl)
+  sought_from (Err e) answer left was ended = rw (ended.0) (after_failed_flush e (rw ended.1 was))
+
+  pub writer_sought : (answer : Result ℕ Error) → SeeksFlushed tells stretch readies s to answer m
+      → SeekTells flushes_received (writer_log s) to answer (writer_log (with_calls m (after_seek s.own_calls to answer)))
+  writer_sought answer steps = sought_from steps.flushing answer steps.left steps.flushed steps.ended
