@@ -10,7 +10,5 @@ Reports {F} step f (suc k) n g = (m : ℕ) × (before : F) × Reports step f k m
 -- the callback was last told of so many bytes
 pub record Tells {F : Type 0} (step : F → ℕ → F → Type 0) (report : F) (count : ℕ) : Type 0 where
   pub calls : ℕ
-  pub total : ℕ
   pub last : F
-  pub told : Reports step report calls total last
-  pub counts : total ≡ u64_saturate count
+  pub told : Reports step report calls (u64_saturate count) last

@@ -12,7 +12,7 @@ invariant-loop-turn g l = record {
       (g.W.Tell.log l.initial.to).writes (g.W.Tell.log l.to).writes;
   total : l.total ≡ u64_saturate count;
   calls : ℕ;
-  told : Reports (λ p n q. goal.F-step g p n tt q) l.fn.report calls l.total l.report;
+  told : Reports (λ p n q. goal.F-step g p n tt q) l.fn.report calls (u64_saturate count) l.report;
   reader : g.B.TellBufRead.stretch l.initial.from l.from;
   writer : g.W.TellWrite.stretch l.initial.to l.to;
 }
