@@ -6,5 +6,6 @@ pub mod GivesRemaining
 pub mod Told
 pub mod Faults
 pub mod Script
+pub mod FaultAt
 pub mod Copy
 pub mod CopyLaws

@@ -4,6 +4,9 @@ ghost use Rattle.std.specs.Io.{ReadsAtMost, WritesAtMost};
 ghost use Rattle.std.specs.Io.KnownBytes.{Keeps, ReadConsumes, WriteAppends};
 ghost use Rattle.std.specs.Io.Seek.{SeekMoves};
 
+mod fault_at;
+
+pub use fault_at::FaultAt;
 use std::alloc::{AllocError, Global};
 use std::collections::VecDeque;
 use std::io;
