@@ -3,7 +3,7 @@ ghost use Rattle.std.specs.Prelude.{◌≡◌, ◌++◌, IfOk, take, vec_items};
 ghost use Rattle.redux_buffer.specs.Told.{told_log, told_stream};
 ghost use Rattle.redux_buffer.specs.LogGrows.{FillLogGrows, FillLogGrows-none, FillLogGrows-joins, FillsGoOn-of};
 
-use redux_buffer::script::{Answer, ScriptReader, ScriptSeeker, ScriptWriter};
+use redux_buffer::script::{Answer, FaultAt, ScriptReader, ScriptSeeker, ScriptWriter};
 use redux_buffer::tell::{Call, CallLog, Tell, TellBufRead, TellRead, TellSeek, TellWrite, Told};
 use std::io;
 use std::io::{Cursor, ErrorKind, Read, Seek, SeekFrom, Write};
@@ -194,6 +194,92 @@ fn scripted_seeker(rt: HostRuntime) -> Result<(), Fail> {
     assert_eq!(rt; skr.get_ref().get_ref().taken(), [3, 4].as_slice());
     assert_eq!(rt; skr.get_ref().get_ref().flushes(), 1);
     assert_eq!(rt; skr.get_ref().targets().len(), 0);
+    Ok(())
+}
+
+type AnyStream = FaultAt<ScriptSeeker<ScriptWriter>>;
+
+// A write of three bytes, a seek and a flush, and what each returns.
+fn three_calls(stream: &mut AnyStream) -> [Result<u64, ErrorKind>; 3] {
+    [
+        stream
+            .write(&[1, 2, 3])
+            .map(|n| n as u64)
+            .map_err(|e| e.kind()),
+        stream.seek(SeekFrom::Start(7)).map_err(|e| e.kind()),
+        stream.flush().map(|()| 0).map_err(|e| e.kind()),
+    ]
+}
+
+// One call of nine goes wrong, or that and the next ones, and the stream inside has the others.
+#[test]
+fn fault_at(rt: HostRuntime) -> Result<(), Fail> {
+    let interrupted = Err(ErrorKind::Interrupted);
+    let fault = Err(ErrorKind::TimedOut);
+    let failing = Answer::Fail(ErrorKind::TimedOut);
+    let none = [Ok(3), Ok(0), Ok(0)];
+    let two = [Ok(2), Ok(0), Ok(0)];
+    // How many calls come before the one, its answer, what the second three calls return, and the last three, how many
+    // bytes are taken, and how many seeks and flushes there were.
+    let rows = [
+        (9, failing, none, none, 9, 3, 3),
+        (3, failing, [fault, Ok(0), Ok(0)], none, 6, 3, 3),
+        (4, failing, [Ok(3), fault, Ok(0)], none, 9, 2, 3),
+        (5, failing, [Ok(3), Ok(0), fault], none, 9, 3, 2),
+        (
+            4,
+            Answer::Interrupt(3),
+            [Ok(3), interrupted, interrupted],
+            [interrupted, Ok(0), Ok(0)],
+            6,
+            2,
+            2,
+        ),
+        (3, Answer::Serve(0), [Ok(0); 3], none, 6, 3, 3),
+        (3, Answer::Serve(1), [Ok(1), Ok(0), Ok(0)], none, 7, 3, 3),
+        (4, Answer::Serve(1), none, none, 9, 3, 3),
+        (3, Answer::ServeEach(2), two, two, 7, 3, 3),
+    ];
+    for (before, answer, second, third, taken, seeks, flushes) in rows {
+        let inner = ScriptWriter::new(rt.alloc(), &[])?;
+        let inner = ScriptSeeker::new(rt.alloc(), inner, &[])?;
+        let mut stream = FaultAt::new(inner, before, answer);
+        for answers in [none, second, third] {
+            assert_eq!(rt; three_calls(&mut stream), answers);
+        }
+        assert_eq!(rt; stream.calls(), 9);
+        assert_eq!(rt; stream.get_ref().targets().len(), seeks);
+        assert_eq!(rt; stream.get_ref().get_ref().taken().len(), taken);
+        assert_eq!(rt; stream.get_ref().get_ref().flushes(), flushes);
+    }
+    Ok(())
+}
+
+// Of a reader too, whose bytes stay where they are at a fault, and which isn't asked for an `Ok(0)`.
+#[test]
+fn fault_at_a_read(rt: HostRuntime) -> Result<(), Fail> {
+    let rows: [(Answer, Result<usize, ErrorKind>, usize, usize); 4] = [
+        (
+            Answer::Fail(ErrorKind::TimedOut),
+            Err(ErrorKind::TimedOut),
+            2,
+            2,
+        ),
+        (Answer::Interrupt(1), Err(ErrorKind::Interrupted), 2, 2),
+        (Answer::Serve(0), Ok(0), 2, 2),
+        (Answer::Serve(1), Ok(1), 2, 3),
+    ];
+    for (answer, want, next, asks) in rows {
+        let inner = ScriptReader::new(rt.alloc(), &[1, 2, 3, 4, 5], &[])?;
+        let mut stream = FaultAt::new(inner, 1, answer);
+        let mut out = [0u8; 2];
+        assert_eq!(rt; stream.read(&mut out)?, 2);
+        assert_eq!(rt; stream.read(&mut out).map_err(|e| e.kind()), want);
+        assert_eq!(rt; stream.read(&mut out)?, next);
+        assert_eq!(rt; out, if asks == 2 { [3, 4] } else { [4, 5] });
+        assert_eq!(rt; stream.get_ref().offers().len(), asks);
+        assert_eq!(rt; stream.calls(), 3);
+    }
     Ok(())
 }
 
