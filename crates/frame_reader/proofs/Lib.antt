@@ -1,4 +1,5 @@
 pub mod Lengths
+pub mod Ending
 pub mod Loading
 pub mod TakingIn
 pub mod Stepping

@@ -9,7 +9,7 @@ use Rattle.buffer_redux.specs.BufReader.{RanDry}
 use Rattle.frame_reader.specs.declared.error.FrameError.TheVariants.{Truncated, TooLong, Io}
 use Rattle.frame_reader.specs.Frames.{Fits, header, frame, BeginsWith, IsCutShort}
 use Rattle.frame_reader.specs.Framing.{Framing, IsFraming, rest}
-use Rattle.frame_reader.specs.Next.{FramesWent, IsSettled, Next}
+use Rattle.frame_reader.specs.Next.{FramesWent, IsSettled, Next, empties}
 use Rattle.frame_reader.specs.FramesLaws.{header-same}
 use Rattle.frame_reader.specs.NextLaws.{FramesWent-joins}
 
@@ -98,34 +98,41 @@ module _ {S : Type 0} (remaining : S → Option (List ℕ)) (s m u : Framing S)
   faults_m : m.reader.log.reads.faults ≡ s.reader.log.reads.faults
   faults_m = ap (λ l. l.reads.faults) told0
 
+  empties_m : empties m.reader ≡ empties s.reader
+  empties_m = ap (λ l. l.reads.zero_reads) told0
+
   pub first_fault : (e : Error) → u.reader.log.reads.faults ≡ m.reader.log.reads.faults ++ e ∷ []
-      → length u.reader.block.bytes < 2 → Next remaining s (Err (Io e)) u
-  first_fault e fault few = record {
+      → length u.reader.block.bytes < 2 → empties u.reader ≡ empties m.reader → Next remaining s (Err (Io e)) u
+  first_fault e fault few none = record {
     went = went_u;
     answers = (
       fault ∙ ap (λ l. l ++ e ∷ []) faults_m,
       few_bytes s.max (rest u) (omega (arith, few, ap length (rest_whole u lent1))),
     );
     not_asked = settled_u;
+    once = omega (arith, none, empties_m);
     whole = whole1;
   }
 
   pub first_end : u.reader.log.reads.faults ≡ m.reader.log.reads.faults → length u.reader.block.bytes ≡ 0
-      → (2 ≤ length u.reader.block.bytes) ⊎ RanDry m.reader u.reader → Next remaining s (Ok None) u
-  first_end fault none enough = record {
+      → (2 ≤ length u.reader.block.bytes) ⊎ RanDry m.reader u.reader → empties u.reader ≡ empties m.reader + 1
+      → Next remaining s (Ok None) u
+  first_end fault none enough once = record {
     went = went_u;
     answers = (
       rest_whole u lent1 ∙ nil_from_length u.reader.block.bytes none,
       (elim enough [ inl many ↦ absurd (omega (arith, many, none)) | inr dry ↦ dry_u dry ], fault ∙ faults_m),
     );
     not_asked = settled_u;
+    once = omega (arith, once, empties_m);
     whole = whole1;
   }
 
   pub first_short : (have : ℕ) → have ≡ length u.reader.block.bytes → 0 < have → have < 2
       → u.reader.log.reads.faults ≡ m.reader.log.reads.faults
-      → (2 ≤ length u.reader.block.bytes) ⊎ RanDry m.reader u.reader → Next remaining s (Err (Truncated have)) u
-  first_short have is some few fault enough = record {
+      → (2 ≤ length u.reader.block.bytes) ⊎ RanDry m.reader u.reader → empties u.reader ≡ empties m.reader + 1
+      → Next remaining s (Err (Truncated have)) u
+  first_short have is some few fault enough once = record {
     went = went_u;
     answers = (
       is ∙ sym (ap length (rest_whole u lent1)),
@@ -133,11 +140,12 @@ module _ {S : Type 0} (remaining : S → Option (List ℕ)) (s m u : Framing S)
       (elim enough [ inl many ↦ absurd (omega (arith, many, is, few)) | inr dry ↦ dry_u dry ], fault ∙ faults_m),
     );
     not_asked = settled_u;
+    once = omega (arith, once, empties_m);
     whole = whole1;
   }
 
   module _ (len : ℕ) (begins : BeginsWith len u.reader.block.bytes)
-      (fault1 : u.reader.log.reads.faults ≡ m.reader.log.reads.faults) where
+      (fault1 : u.reader.log.reads.faults ≡ m.reader.log.reads.faults) (none1 : empties u.reader ≡ empties m.reader) where
     pub too_long : s.max < len → Next remaining s (Err (TooLong len)) u
     too_long above = record {
       went = went_u;
@@ -147,6 +155,7 @@ module _ {S : Type 0} (remaining : S → Option (List ℕ)) (s m u : Framing S)
         fault1 ∙ faults_m,
       );
       not_asked = settled_u;
+      once = omega (arith, none1, empties_m);
       whole = whole1;
     }
 
@@ -192,19 +201,21 @@ module _ {S : Type 0} (remaining : S → Option (List ℕ)) (s m u : Framing S)
 
       pub second_fault : (e : Error)
           → v.reader.log.reads.faults ≡ u.reader.log.reads.faults ++ e ∷ []
-          → length v.reader.block.bytes < 2 + len → Next remaining s (Err (Io e)) v
-      second_fault e fault few = record {
+          → length v.reader.block.bytes < 2 + len → empties v.reader ≡ empties u.reader
+          → Next remaining s (Err (Io e)) v
+      second_fault e fault few none = record {
         went = went_v;
         answers = (fault ∙ ap (λ l. l ++ e ∷ []) faults_u, inr (stops few));
         not_asked = settled_v;
+        once = omega (arith, none, none1, empties_m);
         whole = whole2;
       }
 
       module _ (fault2 : v.reader.log.reads.faults ≡ u.reader.log.reads.faults) where
         pub second_short : (have : ℕ) → have ≡ length v.reader.block.bytes → have < 2 + len
             → (2 + len ≤ length v.reader.block.bytes) ⊎ RanDry u.reader v.reader
-            → Next remaining s (Err (Truncated have)) v
-        second_short have is few enough = record {
+            → empties v.reader ≡ empties u.reader + 1 → Next remaining s (Err (Truncated have)) v
+        second_short have is few enough once = record {
           went = went_v;
           answers = (
             is ∙ sym (ap length (rest_whole v lent2)),
@@ -215,13 +226,14 @@ module _ {S : Type 0} (remaining : S → Option (List ℕ)) (s m u : Framing S)
             ),
           );
           not_asked = settled_v;
+          once = omega (arith, once, none1, empties_m);
           whole = whole2;
         }
 
         -- the frame is whole, and is lent
-        pub found : 2 + len ≤ length v.reader.block.bytes
+        pub found : 2 + len ≤ length v.reader.block.bytes → empties v.reader ≡ empties u.reader
             → Next remaining s (Ok (Some (slice_range v.reader.block.bytes 2 (2 + len)))) (record v { lent = 2 + len })
-        found long =
+        found long none =
             let bytes = v.reader.block.bytes in
             let payload = slice_range bytes 2 (2 + len) in
             let fits_payload : Fits s.max payload = omega (arith, slice_length len bytes long, fits) in
@@ -245,6 +257,7 @@ module _ {S : Type 0} (remaining : S → Option (List ℕ)) (s m u : Framing S)
               };
               answers = (fits_payload, fault2 ∙ faults_u);
               not_asked = settled_v;
+              once = omega (arith, none, none1, empties_m);
               whole = record {
                 word = whole2.word;
                 block = whole2.block;

@@ -1,7 +1,8 @@
 -- What the calls of a reader of frames promise.
-use Rattle.std.specs.Prelude.{◌≡◌, ℕ, ◌<◌, ◌⊎◌, List, [], ◌∷◌, ◌++◌, length, Option, None, Some, Result, Ok, Err, Bool, true, false, option_copied}
+use Rattle.std.specs.Prelude.{◌≡◌, ℕ, ◌+◌, ◌<◌, ◌⊎◌, List, [], ◌∷◌, ◌++◌, length, Option, None, Some, Result, Ok, Err, Bool, true, false, option_copied}
 use Rattle.std.specs.Borrow.{Bor}
 use Rattle.std.specs.List.{All}
+use Rattle.buffer_redux.specs.Buffered.{Buffered}
 use Rattle.buffer_redux.specs.LogGrows.{ReadLogGrows}
 use Rattle.buffer_redux.specs.BufReader.{InnerGives, RanDry}
 use Rattle.buffer_redux.specs.Sparing.{PotentialHeld}
@@ -67,12 +68,25 @@ NextAnswers s (Err (Io e)) t =
 abbrev pub IsSettled : ℕ → List ℕ → Type 0
 IsSettled max bytes = BeginsWhole max bytes ⊎ BeginsTooLong max bytes
 
--- what one call of `next` does
+-- how often the reader gave nothing so far though it was asked for something
+abbrev pub empties : {S P : Type 0} → Buffered S P → ℕ
+empties s = s.log.reads.zero_reads
+
+-- how often it gave nothing in one call: once where the stream ended
+abbrev pub ends_met : NextAnswer → ℕ
+ends_met (Ok (Some payload)) = 0
+ends_met (Ok None) = 1
+ends_met (Err (Truncated have)) = 1
+ends_met (Err (TooLong len)) = 0
+ends_met (Err (Io e)) = 0
+
+-- what one call of `next` does. Once the reader gave nothing, it isn't asked again
 pub record Next {S : Type 0} (remaining : S → Option (List ℕ)) (s : Framing S)
     (answer : NextAnswer) (t : Framing S) : Type 0 where
   pub went : FramesWent remaining s (handed answer) t
   pub answers : NextAnswers s answer t
   pub not_asked : IsSettled s.max (rest s) → t.reader.log ≡ s.reader.log
+  pub once : empties t.reader ≡ empties s.reader + ends_met answer
   pub whole : IsFraming t
 
 -- what is lent once the next frame stands at the front

@@ -1,12 +1,12 @@
 //! The reader of frames.
-ghost use Rattle.std.specs.Prelude.{◌≡◌, ℕ, ◌<◌, ◌≤◌, ◌⊎◌, List, [], ◌∷◌, ◌++◌, length, Ok, Err, Some, IfOk, IfErr, IfSome, OnOk, OnErr, true};
+ghost use Rattle.std.specs.Prelude.{◌≡◌, ℕ, ◌+◌, ◌<◌, ◌≤◌, ◌⊎◌, List, [], ◌∷◌, ◌++◌, length, Ok, Err, Some, IfOk, IfErr, IfSome, OnOk, OnErr, true};
 ghost use Rattle.std.specs.Borrow.{sem};
 ghost use Rattle.std.specs.Io.BufRead.{Rests};
 ghost use Rattle.buffer_redux.specs.BufReader.{RanDry};
 ghost use Rattle.frame_reader.specs.contracts.reader.FrameReader.{the_row};
 ghost use Rattle.frame_reader.specs.Frames.{BeginsWith, frame};
 ghost use Rattle.frame_reader.specs.Framing.{IsFraming, IsFresh, rest, most};
-ghost use Rattle.frame_reader.specs.Next.{FramesWent, NoFault, Next, copied, loaded};
+ghost use Rattle.frame_reader.specs.Next.{FramesWent, NoFault, Next, copied, empties, loaded};
 
 use crate::error::FrameError;
 use crate::frame::{HEADER, frame_buffer, length_of};
@@ -172,6 +172,11 @@ impl<R: TellRead> FrameReader<R> {
             ≡ self.old.reader.log.reads.faults ++ e ∷ []) }
         ensures untouched { min ≤ length self.old.reader.block.bytes
             → self.new.reader.log ≡ self.old.reader.log }
+        ensures none { OnOk result (min ≤ length self.new.reader.block.bytes
+            → empties self.new.reader ≡ empties self.old.reader) }
+        ensures once { OnOk result (length self.new.reader.block.bytes < min
+            → empties self.new.reader ≡ empties self.old.reader + 1) }
+        ensures no_end { OnErr result (empties self.new.reader ≡ empties self.old.reader) }
         ensures whole { IsFraming self.new }
     {
         self.reader.policy_mut().set_min(min);

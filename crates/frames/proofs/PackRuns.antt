@@ -11,7 +11,7 @@ use Rattle.buffer_redux.specs.ReaderLaws.{ReadsInOrder-fresh}
 use Rattle.buffer_redux.specs.StreamLog.{StreamLog}
 use Rattle.buffer_redux.specs.WriterLaws.{WritesInOrder-fresh}
 use Rattle.buffer_redux.specs.declared.policy.MinBuffered.{MinBuffered}
-use Rattle.frame_reader.specs.Frames.{frames}
+use Rattle.frame_reader.specs.Frames.{Fits, frames}
 use Rattle.frame_reader.specs.Outgoing.{Outgoing, unsent}
 use Rattle.frame_reader.specs.WriteFrame.{FramesTaken}
 use Rattle.frame_reader.specs.WriteFrameLaws.{FramesTaken-joins}
@@ -64,10 +64,11 @@ module _ {R W : Type 0} (stretch : W → W → Type 0) (joins : (a b c : W) → 
   pub flush_failed_after : (answer : Result (Unit {0}) RunError) → faulted answer ≡ false
       → PacksAll stretch s u answer t w → (e : Error)
       → SendErrorCaused w.writer.log.writes v.writer.log.writes e → PacksAndFlushes stretch s u (Err (Io e)) t v
-  flush_failed_after (Ok _) other p e caused = (some_sent p.0, fails_after p.2 e caused _)
+  flush_failed_after (Ok _) other p e caused = (some_sent p.0, inr p.1, fails_after p.2 e caused _)
   flush_failed_after (Err TooLong) other p e caused =
       let long = long_sent p.0 in (
         record { text = ended long.lines; lines = long.lines; has = all_ended long.lines long.plain; went = long.went },
+        inl refl,
         fails_after p.1 e caused _,
       )
   flush_failed_after (Err Truncated) other p e caused = absurd p
@@ -80,7 +81,7 @@ pub kept : {R W : Type 0} (stretch : W → W → Type 0) (s t : Buffered R MinBu
 kept stretch s t u v (Ok _) other p = absurd (false≢true other)
 kept stretch s t u v (Err TooLong) other p = absurd (false≢true other)
 kept stretch s t u v (Err Truncated) other p = absurd (false≢true other)
-kept stretch s t u v (Err (Io e)) other p = p
+kept stretch s t u v (Err (Io e)) other p = (p.0, inl p.1, p.2)
 
 -- from empty buffers on
 module _ {R W : Type 0} (stretch : W → W → Type 0) (s t : Buffered R MinBuffered) (u v : Outgoing W)
@@ -107,6 +108,7 @@ module _ {R W : Type 0} (stretch : W → W → Type 0) (s t : Buffered R MinBuff
           text = some.text;
           lines = some.lines;
           has = some.has;
+          fit = some.went.taken.fit;
           given = given some.text some.lines some.went
               ∙ ap (λ l. s.log.reads.given ++ (some.text ++ l)) p.1.left
               ∙ ap (λ l. s.log.reads.given ++ l) (append-nil some.text);
@@ -122,6 +124,7 @@ module _ {R W : Type 0} (stretch : W → W → Type 0) (s t : Buffered R MinBuff
           lines = long.lines;
           more = t.block.bytes;
           plain = long.plain;
+          fit = long.went.taken.fit;
           long = long.long;
           given = given (ended long.lines) long.lines long.went;
           received = all_received (ended long.lines) long.lines long.went p.2.empty;
@@ -139,10 +142,12 @@ module _ {R W : Type 0} (stretch : W → W → Type 0) (s t : Buffered R MinBuff
           more = t.block.bytes;
           unsent = unsent v;
           has = some.has;
+          fit = some.went.taken.fit;
+          whole = elim p.1 [ inl none_cut ↦ inl none_cut | inr end ↦ inr (end.left, end.dry) ];
           given = given some.text some.lines some.went;
           received = received some.text some.lines some.went;
         };
-        caused = inl p.1;
+        caused = inl p.2;
       }
 
 -- a buffer was refused
@@ -155,6 +160,8 @@ pack_refused most read written e memory = record {
     more = [];
     unsent = [];
     has = all_ended [] (All-nil IsLine);
+    fit = All-nil (Fits most);
+    whole = inl refl;
     given = sym (append-nil read.reads.given);
     received = refl;
   };

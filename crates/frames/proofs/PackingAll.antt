@@ -38,7 +38,7 @@ plain_last [] plain = All-nil IsLine
 plain_last (byte ∷ more) plain = All-cons IsLine (byte ∷ more) [] plain (All-nil IsLine)
 
 -- lines with their ends are a text
-pub all_ended : (lines : List (List ℕ)) → All IsLine lines → HasLines (ended lines) lines
+abbrev pub all_ended : (lines : List (List ℕ)) → All IsLine lines → HasLines (ended lines) lines
 all_ended lines plain = record {
   whole = lines;
   last = [];
@@ -118,6 +118,7 @@ module _ {R W : Type 0} (stretch : W → W → Type 0) (none : (x : W) → stret
         has = all_ended before.lines before.plain;
         went = then_none next.0;
       },
+      refl,
       inl (EitherFailed-after e s.log m.log t.log u.writer.log w.writer.log v.writer.log before.met next.1),
     )
 
@@ -130,5 +131,6 @@ module _ {R W : Type 0} (stretch : W → W → Type 0) (none : (x : W) → stret
       has = all_ended before.lines before.plain;
       went = before.went;
     },
+    refl,
     inr (record { other = is; large = omega (arith, large, before.all); met = before.met }),
   )

@@ -7,7 +7,7 @@ use Rattle.buffer_redux.specs.Buffered.{Buffered}
 use Rattle.buffer_redux.specs.LogGrows.{ReadLogGrows}
 use Rattle.buffer_redux.specs.StreamLog.{StreamLog}
 use Rattle.buffer_redux.specs.declared.policy.MinBuffered.{MinBuffered}
-use Rattle.frame_reader.specs.Frames.{frames}
+use Rattle.frame_reader.specs.Frames.{Fits, frames}
 use Rattle.frame_reader.specs.Outgoing.{Outgoing, unsent}
 use Rattle.frame_reader.specs.WriteFrame.{FramesTaken}
 use Rattle.frame_reader.specs.declared.error.WriteFrameError.{WriteFrameError}
@@ -96,7 +96,8 @@ PacksAll stretch s u (Ok _) t v = PacksSome stretch s u t v × NothingLeft s t �
 PacksAll stretch s u (Err TooLong) t v = PacksToLong stretch s u t v × NoneFailed s u t v
 PacksAll stretch s u (Err Truncated) t v = ⊥
 PacksAll stretch s u (Err (Io e)) t v =
-    (some : PacksSome stretch s u t v) × Stopped e (length some.lines) s.log t.log u.writer.log v.writer.log
+    (some : PacksSome stretch s u t v) × (some.has.last ≡ [])
+    × Stopped e (length some.lines) s.log t.log u.writer.log v.writer.log
 
 -- all that was taken in was received and flushed
 pub record AllSent {W : Type 0} (v : Outgoing W) : Type 0 where
@@ -111,48 +112,54 @@ PacksAndFlushes stretch s u (Ok _) t v =
 PacksAndFlushes stretch s u (Err TooLong) t v = PacksToLong stretch s u t v × NoneFailed s u t v × AllSent v
 PacksAndFlushes stretch s u (Err Truncated) t v = ⊥
 PacksAndFlushes stretch s u (Err (Io e)) t v =
-    (some : PacksSome stretch s u t v) × Stopped e (length some.lines) s.log t.log u.writer.log v.writer.log
+    (some : PacksSome stretch s u t v) × ((some.has.last ≡ []) ⊎ NothingLeft s t)
+    × Stopped e (length some.lines) s.log t.log u.writer.log v.writer.log
 
--- all that was given is a text, what was received is the frames of its lines, and the writer has flushed them
-pub record Packed (read read' written written' : StreamLog) : Type 0 where
+-- all that was given is a text of lines that fit, what was received is their frames, and the writer has flushed them
+pub record Packed (most : ℕ) (read read' written written' : StreamLog) : Type 0 where
   pub text : List ℕ
   pub lines : List (List ℕ)
   pub has : HasLines text lines
+  pub fit : All (Fits most) lines
   pub given : read'.reads.given ≡ read.reads.given ++ text
   pub ended : GaveNothing read read'
   pub received : written'.writes.received ≡ written.writes.received ++ frames lines
   pub flushed : AllFlushed written'
 
--- what was given is some lines and then one that is too long; what was received is the frames of those before it
+-- what was given is some lines that fit and then one that is too long; what was received is the frames of those before it
 pub record PackedToLong (most : ℕ) (read read' written written' : StreamLog) : Type 0 where
   pub lines : List (List ℕ)
   pub more : List ℕ
   pub plain : All IsLine lines
+  pub fit : All (Fits most) lines
   pub long : BeginsLong most more
   pub given : read'.reads.given ≡ read.reads.given ++ (ended lines ++ more)
   pub received : written'.writes.received ≡ written.writes.received ++ frames lines
   pub flushed : AllFlushed written'
 
--- what was received is a beginning of the frames of lines that were given
-pub record PackedBeginning (read read' written written' : StreamLog) (lines : List (List ℕ)) : Type 0 where
+-- what was received is a beginning of the frames of lines that were given and fit. One without its end is among them only
+-- where the reader had no more to give
+pub record PackedBeginning (most : ℕ) (read read' written written' : StreamLog) (lines : List (List ℕ)) : Type 0 where
   pub text : List ℕ
   pub more : List ℕ
   pub unsent : List ℕ
   pub has : HasLines text lines
+  pub fit : All (Fits most) lines
+  pub whole : (has.last ≡ []) ⊎ ((more ≡ []) × GaveNothing read read')
   pub given : read'.reads.given ≡ read.reads.given ++ (text ++ more)
   pub received : written'.writes.received ++ unsent ≡ written.writes.received ++ frames lines
 
 -- a fault ended the run, or a buffer was refused before it began
-pub record PackFailed (e : Error) (read read' written written' : StreamLog) : Type 0 where
+pub record PackFailed (most : ℕ) (e : Error) (read read' written written' : StreamLog) : Type 0 where
   pub lines : List (List ℕ)
-  pub beginning : PackedBeginning read read' written written' lines
+  pub beginning : PackedBeginning most read read' written written' lines
   pub caused : Stopped e (length lines) read read' written written' ⊎ BufferRefused e read read' written written'
 
 -- what a run of `pack` did
 abbrev pub PackRan : ℕ → StreamLog → StreamLog → StreamLog → StreamLog → Result (Unit {0}) RunError → Type 0
 PackRan most read read' written written' (Ok _) =
-    Packed read read' written written' × MetNoFault read read' written written'
+    Packed most read read' written written' × MetNoFault read read' written written'
 PackRan most read read' written written' (Err TooLong) =
     PackedToLong most read read' written written' × MetNoFault read read' written written'
 PackRan most read read' written written' (Err Truncated) = ⊥
-PackRan most read read' written written' (Err (Io e)) = PackFailed e read read' written written'
+PackRan most read read' written written' (Err (Io e)) = PackFailed most e read read' written written'

@@ -28,7 +28,6 @@ returns g c =
       c.into_inner_with_buffer-writer.ensures.log,
       ← c.in-Ok.ensures.log,
       ← made.log,
-      ← made.max,
     )
-    (pack_ran g.W.TellWrite.stretch c.in-Ok.source c.pack_all-answer.new.source c.in-Ok-new.target
-    c.pack_all-answer.new.target c.in-Ok.ensures.empty made.empty c.pack_all-answer.result c.pack_all-answer.ensures)
+    (rw made.max at (pack_ran g.W.TellWrite.stretch c.in-Ok.source c.pack_all-answer.new.source c.in-Ok-new.target
+    c.pack_all-answer.new.target c.in-Ok.ensures.empty made.empty c.pack_all-answer.result c.pack_all-answer.ensures))

@@ -1,0 +1,23 @@
+use Rattle.std.proofs.Common.{◌≡◌, ◌+◌, ap, ◌∙◌, arith}
+use Rattle.std.proofs.lemmas.Result.{err_from_is_err_and}
+use Rattle.frame_reader.specs.Next.{empties}
+use Rattle.frame_reader.proofs.Ending.{none_before_fault, none_where_enough, once_at_end}
+use Rattle.frame_reader.proofs.reader.FrameReader.fill_to.Goals as goal
+
+pub returns-in_err-fill_buf-clause-no_end : goal.returns-in_err-fill_buf-clause-no_end
+returns-in_err-fill_buf-clause-no_end g c =
+    let f = rw c.in_err-fill_buf.was at c.fill_buf.follows.holds-at-none in
+    let p = err_from_is_err_and c.from_residual.result c.from_residual.ensures.1 in
+    rw p.1 (none_before_fault _ _ _ f.fills ∙ ap (λ x. empties x.reader) c.self.view_is)
+
+pub returns-clause-none : goal.returns-clause-none
+returns-clause-none g c many =
+    let f = rw c.in_ok-fill_buf.was at c.fill_buf.follows.holds-at-none in
+    let number : c.set_min.new.self.0 ≡ c.args.min = ap (λ p. p.0) c.set_min.ensures.number in
+    none_where_enough _ _ _ f.fills (omega (arith, many, number)) ∙ ap (λ x. empties x.reader) c.self.view_is
+
+pub returns-clause-once : goal.returns-clause-once
+returns-clause-once g c few =
+    let f = rw c.in_ok-fill_buf.was at c.fill_buf.follows.holds-at-none in
+    let number : c.set_min.new.self.0 ≡ c.args.min = ap (λ p. p.0) c.set_min.ensures.number in
+    once_at_end _ _ _ f.fills (omega (arith, few, number)) ∙ ap (λ x. empties x.reader + 1) c.self.view_is
