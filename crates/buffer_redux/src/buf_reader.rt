@@ -325,7 +325,9 @@ impl<R: TellRead, P: ReaderPolicy> Read for BufReader<R, P> {
         ensures whole { IsBlock self.new.block }
         ensures steps { ReadsExactly R.remaining P.rules self.old result out.new self.new }
     {
-        if self.buf.len() < out.len() || out.is_empty() {
+        // The first test is for the compiler alone: an empty buffer has fewer bytes than any slice that isn't empty, but of that
+        // it asks again in the policy.
+        if self.buf.is_empty() || self.buf.len() < out.len() || out.is_empty() {
             return self.read_rest_aside(out);
         }
         match self.policy.before_read(&mut self.buf) {

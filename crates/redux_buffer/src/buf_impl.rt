@@ -1,8 +1,8 @@
 //! Either kind of buffer.
-ghost use Rattle.std.specs.Prelude.{◌≡◌, ◌+◌, ◌-◌, ◌^◌, ◌≤◌, ◌<◌, ◌↔◌, ◌++◌, length, min, take, drop, IsTrue, IfOk, IsOk, OnOk, OnErr};
+ghost use Rattle.std.specs.Prelude.{◌≡◌, true, false, ◌+◌, ◌-◌, ◌^◌, ◌≤◌, ◌<◌, ◌↔◌, ◌++◌, length, min, take, drop, IsTrue, IfOk, IsOk, OnOk, OnErr};
 ghost use Rattle.std.specs.Borrow.{Lends, Array, sem, u8};
 ghost use Rattle.redux_buffer.specs.GrowError.{FitsWithin};
-ghost use Rattle.redux_buffer.specs.Block.{Plain, Ring, IsPlaced, IsNew, GrowsToFront, BytesWritten, ConsumesFirst, Extends, Reserves, MakesRoom, CountsShift, usable, capacity_for, with_tail, with_bytes, draw_back, round};
+ghost use Rattle.redux_buffer.specs.Block.{Plain, Ring, IsPlaced, IsNew, GrowsToFront, BytesWritten, ConsumesFirst, Extends, Reserves, MakesRoom, CountsShift, IsInFront, usable, capacity_for, with_tail, with_bytes, draw_back, round};
 ghost use Rattle.redux_buffer.specs.BufImpl.{as_placed, with_placed};
 ghost use Rattle.redux_buffer.specs.contracts.buf_impl.BufImpl.{the_row};
 
@@ -148,6 +148,77 @@ impl BufImpl {
         }
     }
 
+    // Whether the bytes are to be drawn back before the tail is written. The two kinds have the same fields, so this and the
+    // other parts of `append` are one code for both.
+    fn is_past(&self) -> bool
+        ensures past { result ≡ true → (as_placed self.now).block.kind ≡ Ring }
+        ensures far { result ≡ true → (as_placed self.now).block.capacity < (as_placed self.now).place }
+        ensures in_front { result ≡ false → IsInFront (as_placed self.now) }
+        ensures whole { IsPlaced (as_placed self.now) }
+    {
+        match self {
+            BufImpl::Std(b) => {
+                let _ = b.capacity();
+                b.is_past()
+            }
+            BufImpl::Ringbuf(b) => {
+                let _ = b.capacity();
+                b.is_past()
+            }
+        }
+    }
+
+    // Draws a ring back, whose tail reaches past its storage.
+    #[cold]
+    #[inline(never)]
+    fn draw_back(&mut self)
+        requires ring { (as_placed self.old).block.kind ≡ Ring }
+        requires far { (as_placed self.old).block.capacity < (as_placed self.old).place }
+        ensures draw_back { as_placed self.new ≡ draw_back (as_placed self.old) }
+    {
+        match self {
+            BufImpl::Std(b) => {
+                let _ = b.capacity();
+            }
+            BufImpl::Ringbuf(b) => b.draw_back(),
+        }
+    }
+
+    // Lends the first `n` bytes of a tail that doesn't reach past the storage.
+    fn write_front(&mut self, n: usize) -> &mut [u8]
+        requires fits { n ≤ usable (as_placed self.old).block }
+        requires in_front { IsInFront (as_placed self.old) }
+        ensures* writes_back { sem 𝓛 (Lends the_row (Array u8 0) self.entry result
+            (λ w. with_placed self.old (with_tail (as_placed self.old) w))) }
+        ensures value { result.now ≡ take n (as_placed self.old).block.tail }
+    {
+        match self {
+            BufImpl::Std(b) => b.write_front(n),
+            BufImpl::Ringbuf(b) => {
+                let _ = b.capacity();
+                b.write_front(n)
+            }
+        }
+    }
+
+    // Takes the first `n` bytes of such a tail as the last bytes.
+    fn take_front(&mut self, n: usize)
+        requires fits { n ≤ usable (as_placed self.old).block }
+        requires in_front { IsInFront (as_placed self.old) }
+        ensures bytes { BytesWritten n (as_placed self.old).block (as_placed self.new).block }
+        ensures place { (as_placed self.new).place ≡ (as_placed self.old).place }
+        ensures moved { (as_placed self.new).block.moved ≡ (as_placed self.old).block.moved }
+        ensures whole { IsPlaced (as_placed self.new) }
+    {
+        match self {
+            BufImpl::Std(b) => b.take_front(n),
+            BufImpl::Ringbuf(b) => {
+                let _ = b.capacity();
+                b.take_front(n);
+            }
+        }
+    }
+
     // Copies the first bytes of `src` behind the bytes, as many as fit there, and returns how many those are. A ring is
     // drawn back first where `write_buf` would do so.
     pub(crate) fn append(&mut self, src: &[u8]) -> usize
@@ -157,10 +228,13 @@ impl BufImpl {
         ensures moved { (as_placed self.new).block.moved ≡ (draw_back (as_placed self.old)).block.moved }
         ensures whole { IsPlaced (as_placed self.new) }
     {
-        match self {
-            BufImpl::Std(b) => b.append(src),
-            BufImpl::Ringbuf(b) => b.append(src),
+        if self.is_past() {
+            self.draw_back();
         }
+        let n = src.len().min(self.usable_space());
+        self.write_front(n).copy_from_slice(&src[..n]);
+        self.take_front(n);
+        n
     }
 
     // Copies the first bytes to the front of `out`, as many as fit, drops them, and returns how many those are.

@@ -1,5 +1,5 @@
 //! The ring.
-ghost use Rattle.std.specs.Prelude.{◌≡◌, ◌+◌, ◌-◌, ◌^◌, ◌≤◌, ◌<◌, ◌++◌, length, min, take, drop, IfOk, IsOk, OnOk, OnErr};
+ghost use Rattle.std.specs.Prelude.{◌≡◌, ◌+◌, ◌-◌, ◌^◌, ◌≤◌, ◌<◌, ◌↔◌, ◌++◌, length, min, take, drop, IsTrue, IfOk, IsOk, OnOk, OnErr};
 ghost use Rattle.std.specs.Borrow.{Lends, Array, sem, u8};
 ghost use Rattle.redux_buffer.specs.GrowError.{FitsWithin};
 ghost use Rattle.redux_buffer.specs.Block.{Ring, IsPlaced, IsNew, GrowsToFront, BytesWritten, ConsumesFirst, Extends, Reserves, MakesRoom, CountsShift, usable, capacity_for, with_tail, with_bytes, draw_back, round};
@@ -127,9 +127,17 @@ impl SliceDequeBuf {
         &self.buf.as_slice()[self.head..self.end]
     }
 
+    // Whether the tail reaches past the storage.
+    pub(crate) fn is_past(&self) -> bool
+        ensures value { IsTrue result ↔ (self.now.block.capacity < self.now.place) }
+        ensures kind { self.now.block.kind ≡ Ring }
+    {
+        self.stop > self.buf.capacity()
+    }
+
     // Moves the bytes to the front.
     #[inline(never)]
-    fn draw_back(&mut self)
+    pub(crate) fn draw_back(&mut self)
         requires { self.old.block.capacity < self.old.place }
         ensures { self.new ≡ draw_back self.old }
     {
@@ -199,23 +207,28 @@ impl SliceDequeBuf {
         }
     }
 
-    // Copies the first bytes of `src` behind the bytes, as many as fit there, and returns how many those are. The bytes
-    // are drawn back first where `write_buf` would do so.
-    pub(crate) fn append(&mut self, src: &[u8]) -> usize
-        ensures count { result ≡ min (usable self.old.block) (length src.now) }
-        ensures bytes { Extends (take result src.now) self.old.block self.new.block }
-        ensures place { self.new.place ≡ (draw_back self.old).place }
-        ensures moved { self.new.block.moved ≡ (draw_back self.old).block.moved }
-        ensures whole { IsPlaced self.new }
+    // Lends the first `n` bytes of the tail, where it doesn't reach past the storage.
+    pub(crate) fn write_front(&mut self, n: usize) -> &mut [u8]
+        requires fits { n ≤ usable self.old.block }
+        requires in_front { self.old.place ≤ self.old.block.capacity }
+        ensures* writes_back { sem 𝓛 (Lends the_row (Array u8 0) self.entry result (with_tail self.old)) }
+        ensures value { result.now ≡ take n self.old.block.tail }
     {
-        if self.stop > self.buf.capacity() {
-            self.draw_back();
-        }
-        let n = src.len().min(self.stop - self.end);
-        let end = self.end + n;
-        self.buf.range_mut(self.end, end).copy_from_slice(&src[..n]);
-        self.end = end;
-        n
+        let (start, end) = (self.end, self.end + n);
+        self.buf.range_mut(start, end)
+    }
+
+    // Takes the first `n` bytes of the tail, which doesn't reach past the storage, as the last bytes.
+    pub(crate) fn take_front(&mut self, n: usize)
+        requires fits { n ≤ usable self.old.block }
+        requires in_front { self.old.place ≤ self.old.block.capacity }
+        ensures bytes { BytesWritten n self.old.block self.new.block }
+        ensures place { self.new.place ≡ self.old.place }
+        ensures moved { self.new.block.moved ≡ self.old.block.moved }
+        ensures whole { IsPlaced self.new }
+        ensures kind { self.new.block.kind ≡ Ring }
+    {
+        self.end += n;
     }
 
     // Copies the first bytes to the front of `out`, as many as fit, drops them, and returns how many those are.

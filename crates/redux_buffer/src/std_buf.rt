@@ -1,5 +1,5 @@
 //! The plain buffer.
-ghost use Rattle.std.specs.Prelude.{◌≡◌, ◌+◌, ◌-◌, ◌^◌, ◌≤◌, ◌<◌, ◌↔◌, ◌++◌, length, min, take, drop, IsTrue, IfOk, IsOk, OnOk, OnErr};
+ghost use Rattle.std.specs.Prelude.{◌≡◌, false, ◌+◌, ◌-◌, ◌^◌, ◌≤◌, ◌<◌, ◌↔◌, ◌++◌, length, min, take, drop, IsTrue, IfOk, IsOk, OnOk, OnErr};
 ghost use Rattle.std.specs.Borrow.{Lends, Array, sem, u8};
 ghost use Rattle.redux_buffer.specs.GrowError.{FitsWithin};
 ghost use Rattle.redux_buffer.specs.Block.{Plain, IsPlaced, IsNew, GrowsToFront, BytesWritten, ConsumesFirst, Extends, Reserves, MakesRoom, CountsShift, usable, capacity_for, with_tail, with_bytes};
@@ -160,20 +160,34 @@ impl StdBuf {
         }
     }
 
-    // Copies the first bytes of `src` behind the bytes, as many as fit there, and returns how many those are.
-    pub(crate) fn append(&mut self, src: &[u8]) -> usize
-        ensures count { result ≡ min (usable self.old.block) (length src.now) }
-        ensures bytes { Extends (take result src.now) self.old.block self.new.block }
+    // Whether the tail reaches past the storage, asked as a ring asks it. It never does.
+    pub(crate) fn is_past(&self) -> bool
+        ensures value { result ≡ false }
+        ensures kind { self.now.block.kind ≡ Plain }
+    {
+        self.stop > self.buf.capacity()
+    }
+
+    // Lends the first `n` bytes of the tail.
+    pub(crate) fn write_front(&mut self, n: usize) -> &mut [u8]
+        requires { n ≤ usable self.old.block }
+        ensures* writes_back { sem 𝓛 (Lends the_row (Array u8 0) self.entry result (with_tail self.old)) }
+        ensures value { result.now ≡ take n self.old.block.tail }
+    {
+        let (start, end) = (self.end, self.end + n);
+        self.buf.range_mut(start, end)
+    }
+
+    // Takes the first `n` bytes of the tail as the last bytes.
+    pub(crate) fn take_front(&mut self, n: usize)
+        requires { n ≤ usable self.old.block }
+        ensures bytes { BytesWritten n self.old.block self.new.block }
         ensures place { self.new.place ≡ self.old.place }
         ensures moved { self.new.block.moved ≡ self.old.block.moved }
         ensures whole { IsPlaced self.new }
         ensures kind { self.new.block.kind ≡ Plain }
     {
-        let n = src.len().min(self.stop - self.end);
-        let end = self.end + n;
-        self.buf.range_mut(self.end, end).copy_from_slice(&src[..n]);
-        self.end = end;
-        n
+        self.end += n;
     }
 
     // Copies the first bytes to the front of `out`, as many as fit, drops them, and returns how many those are.

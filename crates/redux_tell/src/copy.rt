@@ -92,6 +92,7 @@ fn copy_retried<B: TellBufRead, W: TellWrite>(b: &mut B, w: &mut W) -> io::Resul
 /// One turn of [`copy_buf`], for a loop that counts, reports or stops between turns: one fill, one write of all that it
 /// shows, and a consume of what the writer took. Returns how many bytes went over. Where those are none, nothing is
 /// consumed, and copying has ended. A fault is returned at once, `Interrupted` too, and moves nothing.
+#[inline(always)]
 pub fn copy_turn<B: TellBufRead, W: TellWrite>(b: &mut B, w: &mut W) -> io::Result<usize>
     ensures copies { IfOk result (λ n. 0 < n → CopiesOn n
         (B.log b.old).fills (B.log b.new).fills (W.log w.old).writes (W.log w.new).writes) }

@@ -27,7 +27,7 @@ ordered g c =
       arith,
       c.if-len-out.false,
       c.len.ensures.value,
-      none_not (length c.args.out.now) (sym c.is_empty.ensures ∙ c.if-is_empty.false),
+      none_not (length c.args.out.now) (sym c.is_empty-else-len-out.ensures ∙ c.if-is_empty-2.false),
       ap (λ x. length x.block.bytes) c.self.view_is,
     ) in
     let asked : AskedRead table (Ok c.in-Ok.field-0) c.args.self.now m =
@@ -55,7 +55,7 @@ declined g c =
       arith,
       c.if-len-out.false,
       c.len.ensures.value,
-      none_not (length c.args.out.now) (sym c.is_empty.ensures ∙ c.if-is_empty.false),
+      none_not (length c.args.out.now) (sym c.is_empty-else-len-out.ensures ∙ c.if-is_empty-2.false),
       ap (λ x. length x.block.bytes) c.self.view_is,
     ) in
     let asked : AskedRead table (Ok c.in-Ok.field-0) c.args.self.now m =
@@ -95,7 +95,7 @@ declined g c =
       ap (λ x. length x.block.bytes) c.self.view_is,
     ) in
     all_at_once remaining table c.args.self.now c.hand_out-count.new.out n c.hand_out-count.new.self
-    (omega (arith, a.long, none_not (length c.args.out.now) (sym c.is_empty.ensures ∙ c.if-is_empty.false))) long one
+    (omega (arith, a.long, none_not (length c.args.out.now) (sym c.is_empty-else-len-out.ensures ∙ c.if-is_empty-2.false))) long one
 
 refused : (g : _) (c : goal.After-slice_known-in-Err-1 g)
     → ReadsExactly g.R.TellRead.remaining g.P.ReaderPolicy.rules c.args.self.now c.read_on_aside.result
@@ -114,7 +114,7 @@ refused g c =
       arith,
       c.if-len-out.false,
       c.len.ensures.value,
-      none_not (length c.args.out.now) (sym c.is_empty.ensures ∙ c.if-is_empty.false),
+      none_not (length c.args.out.now) (sym c.is_empty-else-len-out.ensures ∙ c.if-is_empty-2.false),
       ap (λ x. length x.block.bytes) c.self.view_is,
     ) in
     let asked : AskedRead table (Err c.in-Err.e) c.args.self.now m =
@@ -124,23 +124,23 @@ refused g c =
     (Err c.in-Err.e) c.args.out.now m (rw (← c.self-2.view_is) c.self-2.invariant)
     (record { fill = refused_did remaining table c.args.self.now m c.in-Err.e asked; same = refl }) (inl some))
 
-pub returns-then-len-out-clause-steps : goal.returns-then-len-out-clause-steps
-returns-then-len-out-clause-steps g c = c.read_rest_aside.ensures.exact
+pub returns-then-is_empty-clause-steps : goal.returns-then-is_empty-clause-steps
+returns-then-is_empty-clause-steps g c = c.read_rest_aside.ensures.exact
 
-pub returns-then-len-out-clause-bytes : goal.returns-then-len-out-clause-bytes
-returns-then-len-out-clause-bytes g c = all_bytes _ _ _ _ _ _ c.read_rest_aside.ensures.exact
+pub returns-then-is_empty-clause-bytes : goal.returns-then-is_empty-clause-bytes
+returns-then-is_empty-clause-bytes g c = all_bytes _ _ _ _ _ _ c.read_rest_aside.ensures.exact
 
-pub returns-then-len-out-clause-in_order : goal.returns-then-len-out-clause-in_order
-returns-then-len-out-clause-in_order g c = all_in_order _ _ _ _ _ _ c.read_rest_aside.ensures.exact
+pub returns-then-is_empty-clause-in_order : goal.returns-then-is_empty-clause-in_order
+returns-then-is_empty-clause-in_order g c = all_in_order _ _ _ _ _ _ c.read_rest_aside.ensures.exact
 
-pub returns-then-len-out-clause-beginning : goal.returns-then-len-out-clause-beginning
-returns-then-len-out-clause-beginning g c = all_beginning _ _ _ _ _ _ c.read_rest_aside.ensures.exact
+pub returns-then-is_empty-clause-beginning : goal.returns-then-is_empty-clause-beginning
+returns-then-is_empty-clause-beginning g c = all_beginning _ _ _ _ _ _ c.read_rest_aside.ensures.exact
 
-pub returns-then-len-out-clause-retried : goal.returns-then-len-out-clause-retried
-returns-then-len-out-clause-retried g c = all_retried _ _ _ _ _ _ c.read_rest_aside.ensures.exact
+pub returns-then-is_empty-clause-retried : goal.returns-then-is_empty-clause-retried
+returns-then-is_empty-clause-retried g c = all_retried _ _ _ _ _ _ c.read_rest_aside.ensures.exact
 
-pub returns-then-len-out-clause-whole : goal.returns-then-len-out-clause-whole
-returns-then-len-out-clause-whole g c = all_whole _ _ _ _ _ _ c.read_rest_aside.ensures.exact
+pub returns-then-is_empty-clause-whole : goal.returns-then-is_empty-clause-whole
+returns-then-is_empty-clause-whole g c = all_whole _ _ _ _ _ _ c.read_rest_aside.ensures.exact
 
 pub returns-then-more-clause-steps : goal.returns-then-more-clause-steps
 returns-then-more-clause-steps g c = (ordered g c)
