@@ -136,7 +136,7 @@ module _ {S P : Type 0} (rules : WriteRules P) where
             let empty : length p.seen.block.bytes ≡ 0 =
             elim none [ inl zero' ↦ omega (arith, zero', all) | inr past ↦ omega (arith, past, all) ] in
             elim space.inside [
-              inl held ↦ omega (arith, held, long, empty)
+              | inl held ↦ omega (arith, held, long, empty)
               | inr small ↦ omega (arith, small, space.room, empty, long)
             ]
             )

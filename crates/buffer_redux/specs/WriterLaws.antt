@@ -83,7 +83,7 @@ pub ways_in : (b : Block) (incoming : ℕ) → GoesPast b incoming ⊎ StaysInsi
 ways_in b incoming = elim (cases_lt 0 (length b.bytes)) [
   | inl some ↦ inr (inl some)
   | inr none ↦ elim (cases_lt incoming b.capacity) [
-    inl inside ↦ inr (inr inside)
+    | inl inside ↦ inr (inr inside)
     | inr past ↦ inl (omega (arith, none), past)
   ]
 ]
