@@ -1,5 +1,5 @@
 -- What sending does, write after write.
-use Rattle.std.proofs.Common.{◌≡◌, ◌∙◌, ℕ, ◌+◌, ◌-◌, ◌*◌, ◌<◌, ◌≤◌, List, [], ◌∷◌, ◌++◌, length, take, sym, refl, ap, arith}
+use Rattle.std.proofs.Common.{◌≡◌, ◌∙◌, ℕ, ◌+◌, ◌-◌, ◌*◌, ◌<◌, ◌≤◌, List, [], ◌∷◌, ◌++◌, length, min, take, sym, refl, ap, arith}
 use Rattle.std.proofs.Common.{append-nil, append_assoc, length-append, length-drop, take-take, Result, Ok, Err, inl, inr}
 use Rattle.std.proofs.Math.Seq.{take-add}
 use Rattle.std.proofs.lemmas.List.Elements.{All-push}
@@ -86,14 +86,15 @@ module _ (k : ℕ) (es : List Error) (len : ℕ) (a b : Block) (log log' log'' :
   }
 
   -- the next write failed
-  pub sends_failed : (amount : ℕ) (e : Error) → k ≤ amount → WritesRetried (take len b.bytes) log' (Err e) log''
+  pub sends_failed : (amount : ℕ) (e : Error) → k < min amount (length a.bytes) → WritesRetried (take len b.bytes) log' (Err e) log''
       → Sends amount a log (Err e) b log''
-  sends_failed amount e most wrote = record {
+  sends_failed amount e fewer wrote = record {
     count = k;
     interrupts = es ++ wrote.interrupts;
     sent = Sent-still (Err e) wrote refl;
-    most = most;
+    most = omega (arith, fewer);
     whole = tt;
+    unsent = fewer;
     ok = tt;
     failed = record {
       cause = inr (FaultedAfter-after es wrote.interrupts log.writes log'.writes log''.writes e only (record {
@@ -107,14 +108,15 @@ module _ (k : ℕ) (es : List Error) (len : ℕ) (a b : Block) (log log' log'' :
   }
 
   -- the next write took nothing of something
-  pub sends_nothing : (amount n : ℕ) (e : Error) → k ≤ amount → n ≡ 0 → 0 < length (take len b.bytes)
+  pub sends_nothing : (amount n : ℕ) (e : Error) → k < min amount (length a.bytes) → n ≡ 0 → 0 < length (take len b.bytes)
       → error_kind e ≡ WriteZero → WritesRetried (take len b.bytes) log' (Ok n) log'' → Sends amount a log (Err e) b log''
-  sends_nothing amount n e most none some kind wrote = record {
+  sends_nothing amount n e fewer none some kind wrote = record {
     count = k;
     interrupts = es ++ wrote.interrupts;
     sent = Sent-still (Ok n) wrote (ap (λ m. take m (take len b.bytes)) none);
-    most = most;
+    most = omega (arith, fewer);
     whole = tt;
+    unsent = fewer;
     ok = tt;
     failed = record {
       cause = inl (TookNothing-after es wrote.interrupts log.writes log'.writes log''.writes (error_kind e) only (record {

@@ -1,5 +1,5 @@
 -- What goes between a buffer and a stream.
-use Rattle.std.specs.Prelude.{◌≡◌, ℕ, ◌+◌, ◌*◌, ◌≤◌, ◌<◌, List, ◌++◌, length, min, take, Result, Ok, MatchResult, IfErr, OnOk}
+use Rattle.std.specs.Prelude.{◌≡◌, ℕ, ◌+◌, ◌*◌, ◌≤◌, ◌<◌, List, ◌++◌, length, min, take, Result, Ok, MatchResult, IfErr, OnOk, OnErr}
 use Rattle.std.specs.Io.{ReadsAtMost, WritesAtMost}
 use Rattle.std.specs.List.{All}
 use Rattle.std.specs.declared.io.Error.{Error}
@@ -69,8 +69,8 @@ pub record Sent (count : ℕ) (old : Block) (log : StreamLog) (new : Block) (log
   pub flushed : log'.writes.flushed ≡ log.writes.flushed
   pub others : OnlyWrites log log'
 
--- the first amount bytes were sent, or all where there are fewer; where that failed, those that the writer took. For
--- each byte that went out there were at most 64 interrupted writes, and 64 more before a failure
+-- the first amount bytes were sent, or all where there are fewer; where that failed, those that the writer took, and not
+-- all of them. For each byte that went out there were at most 64 interrupted writes, and 64 more before a failure
 pub record Sends (amount : ℕ) (old : Block) (log : StreamLog) (answer : Result (Unit {0}) Error) (new : Block)
     (log' : StreamLog) : Type 0 where
   pub count : ℕ
@@ -78,6 +78,7 @@ pub record Sends (amount : ℕ) (old : Block) (log : StreamLog) (answer : Result
   pub sent : Sent count old log new log'
   pub most : count ≤ amount
   pub whole : OnOk answer (count ≡ min amount (length old.bytes))
+  pub unsent : OnErr answer (count < min amount (length old.bytes))
   pub ok : OnOk answer (OnlyInterrupted interrupts log.writes log'.writes)
   pub failed : IfErr answer (λ e. SendFailed interrupts log.writes log'.writes e)
   pub few : MatchResult answer (λ _. length interrupts ≤ 64 * count)
