@@ -81,7 +81,7 @@ module _ {W Q : Type 0} (stretch : W → W → Type 0) (u v : Buffered W Q) (byt
       let m = last.before in
       SendErrorCaused-after u.log.writes m.log.writes v.log.writes e
       (last.went.met (tells_all u.policy) (own_met u m last.met))
-      (last.called.fault (tells_all m.policy) e (ap (λ l. l.writes.faults) last.told))
+      (last.called.fault (tells_all m.policy).0 e (ap (λ l. l.writes.faults) last.told))
 
   module _ (last : LastWrite writer_log (WriterWent stretch std_write_rules)
       (WriterCalled std_write_rules) u bytes (Ok 0) v) where
@@ -90,7 +90,7 @@ module _ {W Q : Type 0} (stretch : W → W → Type 0) (u v : Buffered W Q) (byt
     stuck_caused some room =
         let m = last.before in
         let met = last.went.met (tells_all u.policy) (own_met u m last.met) in
-        let nothing = last.called.nothing (tells_all m.policy)
+        let nothing = last.called.nothing (tells_all m.policy).0
         (ap (λ l. l.writes.zero_writes) last.told
         ∙ zero_of_none 0 bytes m.own_calls.writes.zero_writes refl some) in (
           met.interrupts ++ nothing.0,

@@ -17,7 +17,7 @@ use Rattle.redux_tell.specs.GivesRemaining.{GivesRemaining}
 use Rattle.buffer_redux.specs.BufReader.{Fills, InnerGives}
 use Rattle.buffer_redux.specs.BufWriter.{WriterFailed, SteadyWrite, Writes, WriteErrorCaused, IsFlushed, Flushes, FlushesAmount, TakesIn}
 use Rattle.buffer_redux.specs.WriterLaws.{Wrote-met}
-use Rattle.buffer_redux.proofs.WriterFacts.{blamed, steady_caused}
+use Rattle.buffer_redux.proofs.WriterFacts.{blamed, steady_caused, steady_met_nothing}
 use Rattle.buffer_redux.specs.ReaderLaws.{Fills-empty, WantsBytes}
 use Rattle.buffer_redux.specs.ReaderTells.{after_fill, FaultsAlike, ReaderWent}
 use Rattle.buffer_redux.specs.WriterTells.{writer_log, failures, TellsFailures, WriterWent}
@@ -324,6 +324,37 @@ err_met own own' inner inner' e fault caused met =
     let is = one_interrupt own.faults met.interrupts e (sym fault ∙ met.only.faults) met.only.interrupted in
     MetInterrupts-err inner inner' e is caused
 
+-- under a steady policy an error of a write is caused by the inner writer
+pub write_fault : {S P : Type 0} (rules : WriteRules P) (s t : Buffered S P) (bs : List ℕ)
+    → (rules.claims s.policy).steady ≡ true → (answer : Result ℕ Error) (f : Error)
+    → WriteErrorCaused rules s bs answer t
+    → (after_write s.own_calls bs answer).writes.faults ≡ s.own_calls.writes.faults ++ f ∷ []
+    → SendErrorCaused s.log.writes t.log.writes f
+write_fault rules s t bs steady (Ok n) f caused odd = absurd (no_fault s.own_calls.writes.faults f odd)
+write_fault rules s t bs steady (Err e) f caused same =
+    subst (SendErrorCaused s.log.writes t.log.writes)
+    (same_fault s.own_calls.writes.faults e f same)
+    (steady_caused rules s t bs e steady caused)
+
+-- and so is an answer that took nothing of something
+pub write_nothing : {S P : Type 0} (rules : WriteRules P) (s t : Buffered S P) (bs : List ℕ)
+    → (rules.claims s.policy).steady ≡ true → (answer : Result ℕ Error) → Writes rules s bs answer t
+    → (after_write s.own_calls bs answer).writes.zero_writes ≡ s.own_calls.writes.zero_writes + 1
+    → (interrupts : List Error) × TookNothing interrupts s.log.writes t.log.writes WriteZero
+write_nothing rules s t bs steady (Err e) failed odd = absurd (omega (arith, odd))
+write_nothing rules s t bs steady (Ok n) wrote zero = elim (cases_lt 0 n) [
+  | inl some ↦ absurd (omega (arith, zero, zero_of_some n bs s.own_calls.writes.zero_writes (inl some)))
+  | inr none ↦ elim (cases_lt 0 (length bs)) [
+    | inl given ↦ steady_met_nothing rules s bs n t steady wrote (omega (arith, none)) given
+    | inr empty ↦
+        absurd (omega (
+          arith,
+          zero,
+          zero_of_some n bs s.own_calls.writes.zero_writes (inr (omega (arith, empty))),
+        ))
+  ]
+]
+
 module _ {S P : Type 0} (rules : WriteRules P) (s t : Buffered S P) (bs : List ℕ)
     (tells : TellsFailures rules s.policy) where
   pub write_met : (answer : Result ℕ Error)
@@ -342,44 +373,6 @@ module _ {S P : Type 0} (rules : WriteRules P) (s t : Buffered S P) (bs : List �
   write_met (Err e) failed caused own = err_met s.own_calls.writes (after_write s.own_calls bs (Err e)).writes
       s.log.writes t.log.writes e refl
       (steady_caused rules s t bs e tells.0 caused) own
-
-  pub write_fault : (answer : Result ℕ Error) (f : Error)
-      → WriteErrorCaused rules s bs answer t
-      → (after_write s.own_calls bs answer).writes.faults ≡ s.own_calls.writes.faults ++ f ∷ []
-      → SendErrorCaused s.log.writes t.log.writes f
-  write_fault (Ok n) f caused odd = absurd (no_fault s.own_calls.writes.faults f odd)
-  write_fault (Err e) f caused same =
-      subst (SendErrorCaused s.log.writes t.log.writes)
-      (same_fault s.own_calls.writes.faults e f same)
-      (steady_caused rules s t bs e tells.0 caused)
-
-  pub write_nothing : (answer : Result ℕ Error)
-      → Writes rules s bs answer t → SteadyWrite s (length bs) answer t
-      → (after_write s.own_calls bs answer).writes.zero_writes ≡ s.own_calls.writes.zero_writes + 1
-      → (interrupts : List Error) × TookNothing interrupts s.log.writes t.log.writes WriteZero
-  write_nothing (Err e) failed steadily odd = absurd (omega (arith, odd))
-  write_nothing (Ok n) wrote steadily zero =
-      let met = Wrote-met rules s bs n t tells.1 wrote in
-      elim met.met [
-        | inr nothing ↦ (met.interrupts, nothing.2)
-        | inl only ↦ elim (cases_lt 0 n) [
-          | inl some ↦ absurd (omega (arith, zero, zero_of_some n bs s.own_calls.writes.zero_writes (inl some)))
-          | inr none ↦ elim (cases_lt 0 (length bs)) [
-            | inl given ↦
-                absurd (omega (
-                  arith,
-                  steadily.empty (ap Ok (omega (arith, none))) given,
-                  only.zero_writes,
-                ))
-            | inr empty ↦
-                absurd (omega (
-                  arith,
-                  zero,
-                  zero_of_some n bs s.own_calls.writes.zero_writes (inr (omega (arith, empty))),
-                ))
-          ]
-        ]
-      ]
 
 module _ {S P : Type 0} (s t : Buffered S P) where
   pub flush_met : (answer : Result (Unit {0}) Error) → OnOk answer (IsFlushed s t)

@@ -2,9 +2,10 @@
 use Rattle.std.proofs.Common.{◌≡◌, ℕ, zero, suc, ◌+◌, ◌<◌, List, [], ◌∷◌, ◌++◌, true, length, take, Result, Ok, Err, refl, sym, ap, ◌∙◌, arith, inl, inr, append-nil, length-append, length-drop, min, subst}
 use Rattle.std.proofs.lemmas.Bool.{cases_lt}
 use Rattle.std.specs.declared.io.Error.{Error}
+use Rattle.std.specs.declared.io.ErrorKind.TheVariants.{WriteZero}
 use Rattle.redux_buffer.specs.Block.{Block, usable}
 use Rattle.std.proofs.lemmas.List.Elements.{All-nil}
-use Rattle.redux_tell.specs.Faults.{IsInterrupt, SendErrorCaused, FaultedAfter-after}
+use Rattle.redux_tell.specs.Faults.{IsInterrupt, TookNothing, SendErrorCaused, FaultedAfter-after}
 use Rattle.redux_tell.specs.StreamLog.{WriteLog, portion, after_write}
 use Rattle.redux_policy.specs.Policy.{WriteRules, BeforeWrite, FlushesSteadily}
 use Rattle.redux_policy.specs.declared.FlushAmt.{FlushAmt}
@@ -22,29 +23,44 @@ module _ {S P : Type 0} (rules : WriteRules P) (s : Buffered S P) (bs : List ℕ
       (StepKeeps-takes wrote.before wrote.after bs (Ok n) wrote.took_in))
       (StepKeeps-finished rules wrote.after t wrote.finished)
 
-  took_nothing : n ≡ 0 → 0 < length bs → GoesPast wrote.before.block (length bs)
-      → TookNothingPast s (length bs) wrote.before t
-  took_nothing none some past =
+  -- after a write past the buffer nothing is there to flush
+  still_past : GoesPast wrote.before.block (length bs) → t.log ≡ wrote.after.log
+  still_past past =
+      let direct = wrote.took_in.past past in
+      let empty : length wrote.after.block.bytes ≡ 0 = ap (λ b. length b.bytes) direct.block ∙ past.0 in
+      elim (cases_lt 0 (wrote.finished.amount.0)) [
+        | inl some_more ↦ (wrote.finished.flush.idle (inr (omega (arith, empty, some_more)))).told
+        | inr no_more ↦ (wrote.finished.flush.idle (inl (omega (arith, no_more)))).told
+      ]
+
+  met_nothing : n ≡ 0 → 0 < length bs → GoesPast wrote.before.block (length bs)
+      → (interrupts : List Error) × TookNothing interrupts s.log.writes t.log.writes WriteZero
+  met_nothing none some past =
       let p = wrote.prepared in
       let first = FlushesAmount-met p.seen wrote.before (p.amount.0) p.flush in
       let direct = wrote.took_in.past past in
       let rose : wrote.after.log.writes.zero_writes ≡ wrote.before.log.writes.zero_writes + 1 =
       ap (λ l. l.writes.zero_writes) direct.told ∙ grind arith in
-      let empty : length wrote.after.block.bytes ≡ 0 = ap (λ b. length b.bytes) direct.block ∙ past.0 in
-      let still : t.log ≡ wrote.after.log = elim (cases_lt 0 (wrote.finished.amount.0)) [
-        | inl some_more ↦ (wrote.finished.flush.idle (inr (omega (arith, empty, some_more)))).told
-        | inr no_more ↦ (wrote.finished.flush.idle (inl (omega (arith, no_more)))).told
-      ] in
-      record {
-        past = past;
-        zero_writes = omega (
-          arith,
-          rose,
-          first.only.zero_writes,
-          ap (λ l. l.writes.zero_writes) p.told,
-          ap (λ l. l.writes.zero_writes) still,
-        );
-      }
+      let still = still_past past in (
+        first.interrupts,
+        record {
+          is_write_zero = refl;
+          interrupted = first.only.interrupted;
+          faults = ap (λ l. l.writes.faults) (still ∙ direct.told) ∙ first.only.faults
+              ∙ ap (λ l. l.writes.faults ++ first.interrupts) p.told;
+          zero_writes = omega (
+            arith,
+            rose,
+            first.only.zero_writes,
+            ap (λ l. l.writes.zero_writes) p.told,
+            ap (λ l. l.writes.zero_writes) still,
+          );
+        },
+      )
+
+  took_nothing : n ≡ 0 → 0 < length bs → GoesPast wrote.before.block (length bs)
+      → TookNothingPast s (length bs) wrote.before t
+  took_nothing none some past = record { past = past; zero_writes = (met_nothing none some past).1.zero_writes }
 
   no_space : n ≡ 0 → 0 < length bs → StaysInside wrote.before.block (length bs)
       → NoSpace s (length bs) wrote.before
@@ -203,6 +219,15 @@ module _ {S P : Type 0} (rules : WriteRules P) where
   steady_nothing s bs t steady some caused = elim caused.why [
     | inl nothing ↦ omega (arith, nothing.zero_writes)
     | inr space ↦ absurd (steady_space s caused.steps.before (length bs) steady some caused.steps.prepared space)
+  ]
+
+  pub steady_met_nothing : (s : Buffered S P) (bs : List ℕ) (n : ℕ) (t : Buffered S P)
+      → (rules.claims s.policy).steady ≡ true → Wrote rules s bs n t → n ≡ 0 → 0 < length bs
+      → (interrupts : List Error) × TookNothing interrupts s.log.writes t.log.writes WriteZero
+  steady_met_nothing s bs n t steady wrote none some = elim (ways_in wrote.before.block (length bs)) [
+    | inl past ↦ met_nothing rules s bs n t wrote none some past
+    | inr inside ↦ absurd (steady_space s wrote.before (length bs) steady some wrote.prepared
+        (no_space rules s bs n t wrote none some inside))
   ]
 
   pub writes_nothing : (s : Buffered S P) (bs : List ℕ) (answer : Result ℕ Error) (t : Buffered S P)

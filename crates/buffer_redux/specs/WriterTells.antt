@@ -63,15 +63,15 @@ pub record CalledFlush {S P : Type 0} (s t : Buffered S P) : Type 0 where
   pub steps : Flushes s answer t
   pub noted : t.own_calls ≡ after_flush s.own_calls answer
 
--- one call, step after step. Where no failure is kept back, an error that it returned is the one that the inner writer
--- returned last, or came of a write that took nothing of something; and so did an answer that took nothing of something.
--- Before that came interrupted writes alone
+-- one call, step after step. Under a steady policy an error that it returned is the one that the inner writer returned
+-- last, or came of a write that took nothing of something; and so did an answer that took nothing of something. Before
+-- that came interrupted writes alone
 pub record WriterCalled {S P : Type 0} (rules : WriteRules P) (s t : Buffered S P) : Type 0 where
   pub steps : CalledWrite rules s t ⊎ CalledFlush s t
-  pub fault : TellsFailures rules s.policy → (e : Error)
+  pub fault : (rules.claims s.policy).steady ≡ true → (e : Error)
       → t.own_calls.writes.faults ≡ s.own_calls.writes.faults ++ e ∷ []
       → SendErrorCaused s.log.writes t.log.writes e
-  pub nothing : TellsFailures rules s.policy
+  pub nothing : (rules.claims s.policy).steady ≡ true
       → t.own_calls.writes.zero_writes ≡ s.own_calls.writes.zero_writes + 1
       → (interrupts : List Error) × TookNothing interrupts s.log.writes t.log.writes WriteZero
 

@@ -42,8 +42,8 @@ returns-clause-call g c =
     let noted : c.note.new.self.log ≡ after_flush s.own_calls answer = search rules in
     record {
       steps = inr (record { answer = answer; steps = returns-clause-steps g c; noted = noted });
-      fault = λ tells e is.
+      fault = λ steady e is.
           subst (λ l. SendErrorCaused s.log.writes l e) (sym (ap (λ x. x.log.writes) c.self.view_is))
           (flush_fault s m answer e flush.caused (sym (ap (λ l. l.writes.faults) noted) ∙ is));
-      nothing = λ tells is. absurd (omega (arith, is, ap (λ l. l.writes.zero_writes) noted));
+      nothing = λ steady is. absurd (omega (arith, is, ap (λ l. l.writes.zero_writes) noted));
     }

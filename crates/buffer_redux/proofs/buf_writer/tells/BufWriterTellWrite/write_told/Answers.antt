@@ -48,11 +48,11 @@ returns-clause-call g c =
     let same = ap (λ x. x.log.writes) c.self.view_is in
     record {
       steps = inl (record { bytes = bs; answer = answer; steps = returns-clause-steps g c; noted = noted });
-      fault = λ tells e is.
+      fault = λ steady e is.
           subst (λ l. SendErrorCaused s.log.writes l e) (sym same)
-          (write_fault table s m bs tells answer e wrote.caused
+          (write_fault table s m bs steady answer e wrote.caused
           (sym (ap (λ l. l.writes.faults) noted) ∙ is));
-      nothing = λ tells is. subst (λ l. (interrupts : List Error) × TookNothing interrupts s.log.writes l WriteZero) (sym same)
-          (write_nothing table s m bs tells answer wrote.steps (wrote.steadily tells.0)
+      nothing = λ steady is. subst (λ l. (interrupts : List Error) × TookNothing interrupts s.log.writes l WriteZero) (sym same)
+          (write_nothing table s m bs steady answer wrote.steps
           (sym (ap (λ l. l.writes.zero_writes) noted) ∙ is));
     }
