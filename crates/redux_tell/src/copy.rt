@@ -106,6 +106,8 @@ pub fn copy_turn<B: TellBufRead, W: TellWrite>(b: &mut B, w: &mut W) -> io::Resu
         (B.log b.old).fills (B.log b.new).fills (W.log w.old).writes (W.log w.new).writes) }
     ensures kept { OnErr result
         (MovedBy 0 (B.log b.old).fills (B.log b.new).fills (W.log w.old).writes (W.log w.new).writes) }
+    ensures none_ended { IfOk result (λ n. 0 < n → (B.log b.new).fills.zero_fills ≡ (B.log b.old).fills.zero_fills) }
+    ensures ended_once { (B.log b.new).fills.zero_fills ≤ (B.log b.old).fills.zero_fills + 1 }
     ensures one_fault { OnErr result
         (FaultsRise 1 (B.log b.old).fills (B.log b.new).fills (W.log w.old).writes (W.log w.new).writes) }
     ensures few { MatchResult result
