@@ -73,6 +73,19 @@ fn write_often(mut writer: impl Write, piece: &[u8], least: u64) -> io::Result<u
 }
 
 #[inline(never)]
+fn each_byte(mut reader: impl Read) -> io::Result<u64> {
+    let mut byte = [0u8; 1];
+    let mut total = 0;
+    loop {
+        let n = reader.read(&mut byte)?;
+        if n == 0 {
+            return Ok(total);
+        }
+        total += n as u64;
+    }
+}
+
+#[inline(never)]
 fn exact_to_end(mut reader: impl Read, least: u64) -> io::Result<u64> {
     let mut word = [0u8; 8];
     let (mut total, mut sum) = (0u64, 0u8);
@@ -147,6 +160,7 @@ fn measured(shape: &str, capacity: usize, piece: usize, bytes: &[u8]) -> io::Res
         }
         "copy" => copy_to_end(reader(), writer(piece)),
         "copy_buf" => copy_at_once(reader(), writer(piece)),
+        "byte" => each_byte(reader()),
         "exact" => exact_to_end(reader(), bytes.len() as u64),
         "write_all" => write_all_often(writer(capacity), &bytes[..piece], bytes.len() as u64),
         "format" => format_often(writer(capacity), bytes.len() as u64),

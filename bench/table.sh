@@ -1,14 +1,15 @@
 # sh bench/table.sh
 #
-# Proves and builds crates/bench, builds bench/std.rs, and prints a table in Markdown: how many instructions each case takes
-# for a byte that goes over, as callgrind counts them, whatever else the machine does. It needs valgrind; the last column
-# needs rustc. A case is one line of `cases` below; one of a new shape is a function in crates/bench/src/cases.rt and one in
-# bench/std.rs too.
+# Proves and builds crates/bench, builds bench/std.rs, and prints two tables in Markdown. The first says how many instructions
+# each case takes for a byte that goes over, as callgrind counts them, whatever else the machine does; the second the same
+# where a policy looks ahead, for when a ring pays. It needs valgrind; the last column of the first needs rustc. A case is one
+# line of `cases` below; one of a new shape is a function in crates/bench/src/cases.rt and one in bench/std.rs too.
+# `sh bench/table.sh pays` prints the second table alone.
 set -eu
 
 cases='read in pieces of 64|read 8192 64 8388608
 read in pieces of 4096|read 8192 4096 8388608
-read a byte a call|read 8192 1 1048576
+read a byte a call|byte 8192 1 1048576
 read_exact of 8|exact 8192 8 8388608
 fill 16384, consume 100|fill 16384 100 8388608
 the same under MinBuffered(4096)|look 16384 100 8388608
@@ -24,6 +25,14 @@ copy through 8192 and 16384|copy 8192 16384 8388608
 copy_buf through 8192 and 8192|copy_buf 8192 8192 8388608
 Unbuffer with 1 MiB left, pieces of 64|unbuffer 1048576 64 1048576
 grow from 4096 to 1 MiB by 4096|grow 4096 4096 1048576'
+
+# The capacity, and how many bytes a read gives at most. 4096 bytes are looked ahead by, and 100 consumed at a time.
+pays='4096 4096
+8192 100
+8192 512
+12288 512
+16384 512
+65536 512'
 
 here=$(cd "$(dirname "$0")" && pwd)
 if ! command -v valgrind > /dev/null; then
@@ -55,6 +64,24 @@ count() {
     fi
 }
 
+# When a ring pays: MinBuffered(4096) over a stream that gives few bytes a read.
+print_pays() {
+    echo '| Capacity, bytes a read | plain | ring |'
+    echo '|---|---|---|'
+    echo "$pays" | while read -r capacity most; do
+        row="| $capacity, $most |"
+        for kind in plain ring; do
+            row="$row $(count "$bench" packets "$kind" "$capacity" "$most" 8388608) |"
+        done
+        echo "$row"
+    done
+}
+
+if [ "${1-}" = pays ]; then
+    print_pays
+    exit
+fi
+
 echo "| Instructions a byte | plain | ring | the kit's std | Rust's std |"
 echo '|---|---|---|---|---|'
 echo "$cases" | while IFS='|' read -r name words; do
@@ -73,3 +100,6 @@ echo "$cases" | while IFS='|' read -r name words; do
     fi
     echo "$row"
 done
+
+echo
+print_pays

@@ -1,7 +1,7 @@
 //! What is measured, and over which types.
 
-use crate::streams::{Sink, Source};
-use crate::whole::{exact, format, format_lines, unbuffer, write_all};
+use crate::streams::{Packets, Sink, Source};
+use crate::whole::{bytes_apart, exact, format, format_lines, unbuffer, write_all};
 use buffer_redux::policy::MinBuffered;
 use buffer_redux::tell::{TellBufRead, TellWrite, Told};
 use buffer_redux::{BufImpl, BufReader, BufWriter, LineWriter, copy_buf};
@@ -18,6 +18,8 @@ pub enum Shape {
     Fill,
     /// The same with at least `LEAST` bytes shown, as long as there are so many.
     Look,
+    /// The same from a stream that gives a piece a call, with 100 bytes consumed at a time.
+    Packets,
     /// Writes the same bytes again and again, and flushes.
     Write,
     /// Writes a line of the piece's length again and again to a line writer, and flushes.
@@ -28,6 +30,8 @@ pub enum Shape {
     CopyBuf,
     /// Fills a buffer and lets it grow by a piece, again and again.
     Grow,
+    /// Reads a byte a call.
+    Byte,
     /// Reads words of 8 bytes by `read_exact`.
     Exact,
     /// Writes the same bytes again and again by `write_all`, and flushes.
@@ -46,11 +50,13 @@ impl Shape {
             "read" => Some(Shape::Read),
             "fill" => Some(Shape::Fill),
             "look" => Some(Shape::Look),
+            "packets" => Some(Shape::Packets),
             "write" => Some(Shape::Write),
             "lines" => Some(Shape::Lines),
             "copy" => Some(Shape::Copy),
             "copy_buf" => Some(Shape::CopyBuf),
             "grow" => Some(Shape::Grow),
+            "byte" => Some(Shape::Byte),
             "exact" => Some(Shape::Exact),
             "write_all" => Some(Shape::WriteAll),
             "format" => Some(Shape::Format),
@@ -99,11 +105,13 @@ pub fn measured(alloc: Global, case: &Case, bytes: &[u8]) -> io::Result<u64> {
         Shape::Read => read(alloc, case, bytes),
         Shape::Fill => fill(alloc, case, bytes),
         Shape::Look => look(alloc, case, bytes),
+        Shape::Packets => packets(alloc, case, bytes),
         Shape::Write => write(alloc, case, bytes),
         Shape::Lines => lines(alloc, case, bytes.len() as u64),
         Shape::Copy => copy(alloc, case, bytes),
         Shape::CopyBuf => copy_at_once(alloc, case, bytes),
         Shape::Grow => grow(alloc, case, bytes.len()),
+        Shape::Byte => bytes_apart(alloc, case, bytes),
         Shape::Exact => exact(alloc, case, bytes),
         Shape::WriteAll => write_all(alloc, case, bytes),
         Shape::Format => format(alloc, case, bytes.len() as u64),
@@ -179,6 +187,26 @@ fn look(alloc: Global, case: &Case, bytes: &[u8]) -> io::Result<u64> {
                 LEAST,
             )),
             piece,
+        ),
+        Kind::Std => Ok(0),
+    }
+}
+
+// No policy of std's looks ahead: it answers 0.
+fn packets(alloc: Global, case: &Case, bytes: &[u8]) -> io::Result<u64> {
+    let cap = case.capacity;
+    let stream = Told::new(Packets {
+        left: bytes,
+        most: case.piece,
+    });
+    match case.kind {
+        Kind::Plain => fill_to_end(
+            BufReader::with_capacity(alloc, cap, stream)?.set_policy(MinBuffered(LEAST)),
+            100,
+        ),
+        Kind::Ring => fill_to_end(
+            BufReader::with_capacity_ringbuf(alloc, cap, stream)?.set_policy(MinBuffered(LEAST)),
+            100,
         ),
         Kind::Std => Ok(0),
     }

@@ -7,6 +7,33 @@ use std::alloc::Global;
 use std::io;
 use std::io::{BufRead, Read, Write};
 
+pub fn bytes_apart(alloc: Global, case: &Case, bytes: &[u8]) -> io::Result<u64> {
+    let cap = case.capacity;
+    match case.kind {
+        Kind::Plain => each_byte(BufReader::with_capacity(alloc, cap, told(bytes))?),
+        Kind::Ring => each_byte(BufReader::with_capacity_ringbuf(alloc, cap, told(bytes))?),
+        Kind::Std => {
+            let source = Source { left: bytes };
+            each_byte(io::BufReader::with_capacity(alloc, cap, source)?)
+        }
+    }
+}
+
+#[inline(never)]
+fn each_byte<R: Read + Drop>(reader: R) -> io::Result<u64> {
+    let mut reader = reader;
+    let mut byte = [0u8; 1];
+    let mut total = 0u64;
+    for _ in 0..u64::MAX {
+        let n = reader.read(&mut byte)?;
+        if n == 0 {
+            break;
+        }
+        total = total.wrapping_add(n as u64);
+    }
+    Ok(total)
+}
+
 pub fn exact(alloc: Global, case: &Case, bytes: &[u8]) -> io::Result<u64> {
     let cap = case.capacity;
     let least = bytes.len() as u64;
