@@ -2,7 +2,7 @@
 ghost use Rattle.std.specs.Prelude.{◌≡◌, ◌+◌, ◌-◌, ◌^◌, ◌≤◌, ◌<◌, ◌↔◌, ◌++◌, length, min, take, drop, IsTrue, IfOk, IsOk, OnOk, OnErr};
 ghost use Rattle.std.specs.Borrow.{Lends, Array, sem, u8};
 ghost use Rattle.redux_buffer.specs.GrowError.{FitsWithin};
-ghost use Rattle.redux_buffer.specs.Block.{Ring, IsPlaced, IsNew, GrowsToFront, BytesWritten, ConsumesFirst, Extends, Reserves, MakesRoom, CountsShift, usable, capacity_for, with_tail, with_bytes, draw_back, round};
+ghost use Rattle.redux_buffer.specs.Block.{Ring, IsPlaced, IsNew, GrowsToFront, BytesWritten, ConsumesFirst, Reserves, MakesRoom, CountsShift, usable, capacity_for, with_tail, with_bytes, draw_back, round};
 ghost use Rattle.redux_buffer.specs.contracts.slice_deque_buf.SliceDequeBuf.{the_row};
 
 use crate::count::Count;

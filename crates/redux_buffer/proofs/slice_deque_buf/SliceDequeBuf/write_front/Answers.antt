@@ -1,7 +1,7 @@
-use Rattle.std.proofs.Common.{true, ◌≡◌, ◌≤◌, ◌+◌, ◌^◌, ◌-◌, length, take, drop, slice_range, refl, sym, ap, ◌∙◌, arith}
+use Rattle.std.proofs.Common.{true, ◌≡◌, ◌≤◌, ◌^◌, ◌-◌, length, take, drop, slice_range, refl, sym, ap, ◌∙◌, arith}
 use Rattle.std.proofs.lemmas.Bool.{le-ltb, le-leb}
 use Rattle.std.proofs.lemmas.List.{take-take}
-use Rattle.redux_buffer.specs.Block.{Ring, draw_back, with_tail}
+use Rattle.redux_buffer.specs.Block.{Ring}
 use Rattle.redux_buffer.specs.RawLends.{refilled_from}
 use Rattle.redux_buffer.specs.contracts.slice_deque_buf.SliceDequeBuf.{the_view}
 use Rattle.redux_buffer.proofs.Ranges.{range_refilled_below, range_refilled, length_refilled_from, range_front, ring_tail_length}

@@ -1,6 +1,4 @@
-use Rattle.std.proofs.Common.{◌≤◌, ◌+◌, ◌^◌, length, take, true, refl, ap, ◌∙◌, arith, length-drop}
-use Rattle.std.proofs.lemmas.Slice.{between_is}
-use Rattle.std.proofs.lemmas.List.{drop-take}
+use Rattle.std.proofs.Common.{◌≤◌, ◌^◌, length, take, true, refl, ap, ◌∙◌, arith}
 use Rattle.redux_buffer.specs.Block.{Plain, with_tail}
 use Rattle.redux_buffer.proofs.Ranges.{range_refilled_below, drop_refilled_from, range_front}
 use Rattle.redux_buffer.proofs.std_buf.StdBuf.write_front.Goals as goal
