@@ -8,6 +8,7 @@ pub mod full_log;
 pub mod int_lines;
 pub mod line_count;
 pub mod own_policy;
+pub mod packed;
 pub mod progress;
 pub mod records;
 pub mod sniff;

@@ -19,7 +19,8 @@ nothing_left : (n : ℕ) → place_before 0 (Some n) ≡ Some n
 nothing_left n = grind arith
 
 two_moves : (known between after : Option ℕ) (b b' : Option (List ℕ)) (len n : ℕ) (offset : ℤ) (answer : Result ℕ Error)
-    → SeekMoves {E = Error} known between b (Current (neg_ℤ (pos len))) (Ok n) → SeekMoves between after b' (Current offset) answer
+    → SeekMoves {E = Error} known between b (Current (neg_ℤ (pos len))) (Ok n)
+    → SeekMoves between after b' (Current offset) answer
     → SeekMoves (place_before len known) (place_before 0 after) b (Current offset) answer
 two_moves None between after b b' len n offset answer back on = tt
 two_moves (Some place) between after b b' len n offset (Ok m) back on =

@@ -1,0 +1,40 @@
+//! Packs records through a buffered writer into a vector, which holds just their frames in the end.
+ghost use Rattle.std.specs.Prelude.{◌≡◌, OnOk, IfOk, vec_items};
+ghost use Rattle.buffer_redux.specs.Buffered.{InnerWent};
+ghost use Rattle.buffer_redux.specs.BufWriter.{WritesInOrder};
+ghost use Rattle.uses.specs.Records.{frame, frames, IsShort, AreShort};
+
+#[cfg(test)]
+mod tests;
+
+use buffer_redux::BufWriter;
+use buffer_redux::policy::WriterPolicy;
+use buffer_redux::tell::{TellWrite, Told};
+use std::alloc::Global;
+use std::io;
+use std::io::Write;
+
+/// The frames of all records.
+pub fn packed(alloc: Global, records: &[Vec<u8>]) -> io::Result<Vec<u8>>
+    requires short { AreShort records.now }
+    ensures { IfOk result (λ v. vec_items v ≡ frames records.now) }
+{
+    let mut writer = BufWriter::new(alloc, Told::new(Vec::new(alloc)))?;
+    for bytes in records {
+        pack_record(&mut writer, bytes.as_slice())?;
+    }
+    Ok(writer.into_inner()?.into_inner())
+}
+
+/// Writes one record. Its frame then stands behind what the writer received before, there or in its buffer.
+pub fn pack_record<W: TellWrite, P: WriterPolicy>(
+    writer: &mut BufWriter<W, P>,
+    bytes: &[u8],
+) -> io::Result<()>
+    requires short { IsShort bytes.now }
+    ensures packed { OnOk result (WritesInOrder writer.old (frame bytes.now) writer.new) }
+    ensures went { InnerWent W.log W.stretch writer.old writer.new }
+{
+    writer.write_all(&(bytes.len() as u16).to_be_bytes())?;
+    writer.write_all(bytes)
+}
