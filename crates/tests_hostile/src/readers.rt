@@ -1,0 +1,144 @@
+//! Readers over a stream that goes wrong, played, and then read on without their buffer.
+use crate::policies::{READER_RULES, ReaderRule, Restless};
+use crate::reader_rows::{Row, rows};
+use crate::streams::{Hostile, calls, faults, hostile, inside};
+use crate::sweep::{Case, Fault, Outcome, first, first_loss, holding, numbered, tells_of_one};
+use buffer_redux::play::{ReaderAnswer, ReaderCall, ReaderRun, play_reader};
+use buffer_redux::policy::{MinBuffered, ReaderPolicy};
+use buffer_redux::script::ScriptReader;
+use buffer_redux::{BufReader, Unbuffer};
+use std::alloc::{AllocError, Global};
+use std::io::{ErrorKind, Read};
+use std::process::Abort;
+use std::test::Fail;
+
+type Stream = Hostile<ScriptReader>;
+
+// So many reads follow the calls of a row, each into so many bytes.
+const READS: usize = 4;
+
+const ROOM: usize = 3;
+
+#[derive(Drop)]
+struct Played<'a> {
+    row: Row,
+    ring: bool,
+    rule: ReaderRule,
+    // What is held, and then what the stream gives.
+    bytes: &'a [u8],
+}
+
+impl Case for Played<'_> {
+    fn run(&self, alloc: Global, fault: Fault) -> Result<Outcome, Fail> {
+        let (row, bytes) = (&self.row, self.bytes);
+        let source = ScriptReader::new(alloc, bytes.get(row.held..).unwrap_or(&[]), row.script)?;
+        let buf = holding(alloc, self.ring, row.capacity, first(bytes, row.held))?;
+        let rdr = BufReader::with_buffer(buf, hostile(alloc, source, fault));
+        match self.rule {
+            ReaderRule::Std => self.plays(alloc, rdr),
+            ReaderRule::Min(min) => self.plays(alloc, rdr.set_policy(MinBuffered(min))),
+            ReaderRule::Restless => self.plays(alloc, rdr.set_policy(Restless)),
+        }
+    }
+}
+
+impl Played<'_> {
+    fn plays<P: ReaderPolicy + Drop>(
+        &self,
+        alloc: Global,
+        mut rdr: BufReader<Stream, P>,
+    ) -> Result<Outcome, Fail> {
+        let mut run = ReaderRun::new(alloc);
+        play_reader(alloc, &mut rdr, self.row.calls, &mut run)?;
+        let mut returned = kinds(alloc, run.answers.as_slice())?;
+        let mut joined = run.handed;
+        let mut rest = rdr.unbuffer();
+        reads_on(&mut rest, &mut joined, &mut returned)?;
+        joined.extend_from_slice(rest.buf())?;
+        let inner = rest.into_inner();
+        let given = self.row.held.saturating_add(inside(&inner).served());
+        Ok(Outcome {
+            calls: calls(&inner),
+            joined,
+            whole: Vec::from_slice(alloc, first(self.bytes, given))?,
+            returned,
+            caused: Vec::from_slice(alloc, faults(&inner))?,
+        })
+    }
+}
+
+/// The kinds of the errors among the answers.
+pub fn kinds(alloc: Global, answers: &[ReaderAnswer]) -> Result<Vec<ErrorKind>, AllocError> {
+    let mut kinds = Vec::new(alloc);
+    for answer in answers {
+        if let ReaderAnswer::Fault(kind) = answer {
+            kinds.push(*kind)?;
+        }
+    }
+    Ok(kinds)
+}
+
+fn reads_on(
+    rest: &mut Unbuffer<Stream>,
+    handed: &mut Vec<u8>,
+    returned: &mut Vec<ErrorKind>,
+) -> Result<(), Fail> {
+    let mut out = [0u8; ROOM];
+    for _ in 0..READS {
+        match rest.read(&mut out) {
+            Ok(count) => handed.extend_from_slice(&out[..count])?,
+            Err(e) => returned.push(e.kind())?,
+        }
+    }
+    Ok(())
+}
+
+// The first loss in a row under any policy, in a buffer of this kind.
+fn sweeps(rt: &impl Abort, alloc: Global, ring: bool) -> Result<(), Fail> {
+    for row in rows() {
+        let bytes = numbered(alloc, row.held.saturating_add(row.len))?;
+        for rule in READER_RULES {
+            let case = Played {
+                row: *row,
+                ring,
+                rule,
+                bytes: bytes.as_slice(),
+            };
+            let loss = first_loss(rt, alloc, &case, false)?;
+            assert!(rt; loss.is_none(), "{row:?}, {rule:?}, ring {ring}: {loss:?}");
+        }
+    }
+    Ok(())
+}
+
+#[test]
+fn lose_nothing(rt: HostRuntime) -> Result<(), Fail> {
+    sweeps(&rt, rt.alloc(), false)
+}
+
+#[test]
+fn lose_nothing_in_a_ring(rt: HostRuntime) -> Result<(), Fail> {
+    sweeps(&rt, rt.alloc(), true)
+}
+
+#[test]
+fn tell_what_is_lost(rt: HostRuntime) -> Result<(), Fail> {
+    let row = Row {
+        name: "one read",
+        capacity: 4,
+        held: 0,
+        len: 1,
+        script: &[],
+        calls: &[ReaderCall::Read(1)],
+    };
+    for ring in [false, true] {
+        let case = Played {
+            row,
+            ring,
+            rule: ReaderRule::Std,
+            bytes: &[7],
+        };
+        assert!(rt; tells_of_one(&rt, rt.alloc(), &case)?);
+    }
+    Ok(())
+}
