@@ -1,11 +1,11 @@
 -- How a seek that was noted fits what it did.
-use Rattle.std.proofs.Common.{◌≡◌, ◌∙◌, ℕ, [], ◌++◌, Result, Ok, Err, inl, inr, refl, sym, ap, append-nil, append_assoc}
+use Rattle.std.proofs.Common.{◌≡◌, ◌∙◌, ℕ, [], ◌++◌, Result, Ok, Err, inl, inr, refl, ap, append-nil, append_assoc}
 use Rattle.std.specs.Prelude.{MatchResult}
 use Rattle.std.specs.declared.io.Error.{Error}
 use Rattle.std.specs.declared.io.traits.SeekFrom.{SeekFrom}
 use Rattle.redux_tell.specs.StreamLog.{StreamLog, Readies, SeekTells, with_flush, with_ready, with_shown, after_flush, after_seek}
 use Rattle.buffer_redux.specs.Buffered.{Buffered, with_calls}
-use Rattle.buffer_redux.specs.BufWriter.{Flushes, IsFlushed, SeeksFlushed, SeeksInner, WasFlushed, WritesInOrder}
+use Rattle.buffer_redux.specs.BufWriter.{IsFlushed, SeeksFlushed, SeeksInner, WasFlushed, WritesInOrder}
 use Rattle.buffer_redux.specs.ReaderTells.{drops_shown, reader_log}
 use Rattle.buffer_redux.specs.Seek.{SeekLeaves}
 use Rattle.buffer_redux.specs.WriterTells.{all_flushed, flushes_received, writer_log}

@@ -1,4 +1,4 @@
-use Rattle.std.proofs.Common.{◌≡◌, ◌+◌, ◌-ℤ◌, int_le, inl, inr, [], MatchResult, ℕ, ℤ, List, Option, None, Some, Result, Ok, Err, length, pos, neg_ℤ, zero, suc, ap, sym, subst, ◌∙◌, refl, arith, to_z-of_z, SFits, w64}
+use Rattle.std.proofs.Common.{◌≡◌, ◌-ℤ◌, int_le, inl, inr, [], MatchResult, ℕ, ℤ, List, Option, None, Some, Result, Ok, Err, length, pos, neg_ℤ, zero, suc, ap, ◌∙◌, refl, arith, to_z-of_z, SFits, w64}
 use Rattle.std.specs.Io.Seek.{IsAtOffset, SeekMoves}
 use Rattle.std.specs.declared.io.Error.{Error}
 use Rattle.std.specs.declared.io.traits.SeekFrom.{SeekFrom}
