@@ -4,6 +4,7 @@ ghost use Rattle.buffer_redux.specs.Block.{usable};
 ghost use Rattle.buffer_redux.specs.BufWriter.{IsSent, WasFlushed};
 ghost use Rattle.buffer_redux.specs.Unwrapping.{InnerOfFlushed};
 ghost use Rattle.buffer_redux.specs.Faults.{MetInterrupts, SendErrorCaused};
+ghost use Rattle.buffer_redux.specs.Transfer.{Sends};
 ghost use Rattle.frame_reader.specs.Frames.{frames};
 ghost use Rattle.frame_reader.specs.Outgoing.{IsOutgoing, IsUnused, room, unsent};
 ghost use Rattle.frame_reader.specs.WriteFrame.{FramesTaken, PutsIn, WritesFrame};
@@ -92,6 +93,8 @@ impl<W: TellWrite> FrameWriter<W> {
     /// Sends all frames, without a flush of the inner writer. Where that fails, just what the inner writer took is no longer
     /// buffered.
     pub fn send(&mut self) -> io::Result<()>
+        ensures sends { Sends (length (unsent self.old)) self.old.writer.block self.old.writer.log
+            result self.new.writer.block self.new.writer.log }
         ensures went { FramesTaken W.stretch self.old [] self.new }
         ensures ok { OnOk result (IsSent self.old.writer self.new.writer) }
         ensures caused { IfErr result (λ e. SendErrorCaused self.old.writer.log.writes self.new.writer.log.writes e) }
