@@ -62,7 +62,7 @@ module _ {R P W Q : Type 0} (s t : Buffered R P) (u v : Buffered W Q) (none : s.
 
 -- what a writer told of interrupted calls
 own_met : {W Q : Type 0} (u v : Buffered W Q)
-    → MetInterrupts (writer_log u).writes (writer_log v).writes → MetInterrupts u.calls.writes v.calls.writes
+    → MetInterrupts (writer_log u).writes (writer_log v).writes → MetInterrupts u.own_calls.writes v.own_calls.writes
 own_met u v met = record {
   interrupts = met.interrupts;
   only = record {
