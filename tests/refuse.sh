@@ -1,19 +1,29 @@
 # sh tests/refuse.sh
 #
-# What no proof and no test shows of the program: each allocation of bufcopy, copying its stored input, is refused in turn,
-# its first, then its second and so on, until none is left to refuse. And the built program is run as a shell runs it: with
-# words, into a full device, a closed pipe and a closed output, from a folder and a closed input.
+# What no proof and no test of a crate shows: what becomes of a refusal of memory at each place, and what the built program
+# does as a shell runs it.
 #
-# It says how many runs there were, writes nothing into the repository but what rt builds, and ends with status 0 only
-# where each run ended well.
+# - tests_refused makes each call that takes memory, and looks at what a refusal leaves. It is run with its first allocation
+#   refused, then with its second and so on, until runs meet none.
+# - So is bufcopy, copying its stored input: a refusal is told by the status and a line, and nothing is written.
+# - bufcopy runs with words, into a full device, a closed pipe and a closed output, from a folder and a closed input.
+#
+# It says how many runs there were, writes nothing into the repository but what rt builds in the folders out/, and ends with
+# status 0 only where each run ended well.
 set -u
+unset RT_BACKEND RT_SECONDS
 
-# More refusals than the program meets, and how many are tried side by side.
+# How many runs of tests_refused there are, more than it meets refusals; and how many allocations it makes itself at most, so
+# that the one which its build refuses comes after them.
+runs=104
+before=200
+
+# More refusals than bufcopy meets, and how many are tried side by side.
 most=40
-beside=4
+beside=2
 
 cd "$(dirname "$0")/.." || exit 1
-scratch=$(mktemp -d)
+scratch=$(mktemp -d) || exit 1
 trap 'rm -rf "$scratch"' EXIT
 failed=0
 
@@ -23,10 +33,42 @@ wrong() { # what is said of it, a file to show
     failed=1
 }
 
-# Runs the program with allocation N refused.
+# Runs tests_refused, built once with one allocation refused, after more and fewer allocations of its own: a run each.
+try_calls() {
+    mkdir "$scratch/cases"
+    for n in $(seq "$runs"); do
+        echo $((before - n)) > "$scratch/cases/$(printf %04d "$n")"
+    done
+    cd crates/tests_refused || exit 1
+    # The interpreter is left out, since it would take minutes.
+    rt try --fail-alloc "$before" --steps 1 --cases "$scratch/cases" > "$scratch/calls" 2> "$scratch/calls.err" < /dev/null
+    echo $? > "$scratch/calls.status"
+}
+
+# Whether the first runs met a refusal each, none of which was lost, and those after them met none.
+judge_calls() {
+    if [ "$(cat "$scratch/calls.status")" -ne 0 ]; then
+        wrong 'tests_refused: a run did not end well' "$scratch/calls.err"
+    fi
+    awk -v runs="$runs" '
+        /^== / { next }
+        /^refused in / && !none { met++; next }
+        /^no refusal$/ { none++; next }
+        { print; lost = 1 }
+        END {
+            if (lost || !met || !none || met + none != runs) { print met + 0, "refused,", none + 0, "not"; exit 1 }
+            print "tests_refused: " met " runs met a refusal, and " none " met none"
+        }' "$scratch/calls" > "$scratch/judged" || {
+        wrong 'tests_refused: a refusal was lost, or changed something' "$scratch/judged"
+        return
+    }
+    cat "$scratch/judged"
+}
+
+# Runs bufcopy with allocation N refused.
 try() { # N
     cd crates/bufcopy || exit 1
-    rt try --fail-alloc "$1" < stdin > "$scratch/out.$1" 2> "$scratch/err.$1"
+    rt try --fail-alloc "$1" --steps 1 < stdin > "$scratch/out.$1" 2> "$scratch/err.$1"
     echo $? > "$scratch/status.$1"
 }
 
@@ -53,6 +95,7 @@ refuse() {
         wait
         for n in $(seq "$first" $((first + beside - 1))); do
             if met_none "$n"; then
+                if [ "$n" -eq 1 ]; then wrong 'bufcopy: its first allocation is not refused' "$scratch/err.1"; fi
                 echo "bufcopy: $((n - 1)) runs met a refusal, and one met none"
                 return
             fi
@@ -77,7 +120,8 @@ as_a_shell() {
     shells=0
     bufcopy=$PWD/crates/bufcopy/out/bufcopy
     lines=$scratch/lines
-    nothing=/dev/null
+    nothing=$scratch/nothing
+    : > "$nothing"
     seq 30000 > "$lines"
     for words in '' ring std 64 'ring 64' 'std 7' 'ring 1048576'; do
         # Unquoted, since these are words.
@@ -91,8 +135,13 @@ as_a_shell() {
         holds "$words" "$nothing"
     done
     fault='bufcopy: read or write failed'
-    "$bufcopy" < "$lines" > /dev/full 2> "$scratch/err"
-    ended 'into a full device' $? 1 "$fault"
+    if [ -c /dev/full ] && (: > /dev/full) 2> "$nothing"; then
+        "$bufcopy" < "$lines" > /dev/full 2> "$scratch/err"
+        ended 'into a full device' $? 1 "$fault"
+    else
+        echo 'bufcopy: here is no full device to copy into'
+        : > "$nothing"
+    fi
     { "$bufcopy" < "$lines" 2> "$scratch/err"; echo $? > "$scratch/status"; } | :
     ended 'into a closed pipe' "$(cat "$scratch/status")" 1 "$fault"
     "$bufcopy" < "$lines" >&- 2> "$scratch/err"
@@ -106,10 +155,13 @@ as_a_shell() {
     echo "bufcopy: $shells runs as a shell makes them"
 }
 
+(try_calls) &
 if (cd crates/bufcopy && rt run < stdin) > "$scratch/built" 2>&1; then
     as_a_shell
 else
     wrong 'bufcopy is not built' "$scratch/built"
 fi
+wait
+judge_calls
 refuse
 exit "$failed"

@@ -1,0 +1,313 @@
+//! Amounts near 2^61, 2^62, 2^63 and 2^64 in each public call that takes one, of either kind: a growth is `TooLarge` exactly
+//! past the limit, nothing wraps, and what is refused changes nothing. No machine has as much as the limits allow.
+use crate::growths::placed;
+use crate::seen::digest;
+use crate::streams::{Sink, Source, empty_sink, has_taken, reading};
+use crate::trial::{Stop, granted, is};
+use buffer_redux::play::{
+    ReaderAnswer, ReaderCall, ReaderRun, WriterAnswer, WriterCall, WriterRun, play_reader,
+    play_writer,
+};
+use buffer_redux::tell::Told;
+use buffer_redux::{
+    BufImpl, BufReader, BufWriter, Buffer, GrowError, LineWriter, MAX_CAPACITY, MAX_RING,
+    MakeError, RawBuf, SeekPlan, SliceDequeBuf, StdBuf, seek_plan,
+};
+use std::alloc::Global;
+use std::io::{BufRead, SeekFrom};
+
+const POWERS: [usize; 4] = [1 << 61, 1 << 62, 1 << 63, usize::MAX];
+
+// How many amounts are tried from two above a power downwards.
+const SPAN: usize = 12;
+
+fn near(power: usize, below: usize) -> usize {
+    power.saturating_add(2).saturating_sub(below)
+}
+
+// What is returned for an amount of which `most` is the greatest within the limit.
+fn refusal(amount: usize, most: usize) -> GrowError {
+    if amount > most {
+        GrowError::TooLarge
+    } else {
+        GrowError::Memory
+    }
+}
+
+fn is_refused(outcome: Result<(), GrowError>, amount: usize, most: usize) -> Result<(), Stop> {
+    match (outcome, refusal(amount, most)) {
+        (Err(GrowError::TooLarge), GrowError::TooLarge) => Ok(()),
+        (Err(GrowError::Memory), GrowError::Memory) => Ok(()),
+        _ => Err(Stop::Wrong("another refusal")),
+    }
+}
+
+#[derive(Clone, Copy)]
+enum Maker {
+    Raw,
+    Plain,
+    Ring,
+    Either,
+    EitherRing,
+    Buffer,
+    BufferRing,
+    Reader,
+    ReaderRing,
+    Writer,
+    WriterRing,
+    Lines,
+    LinesRing,
+}
+
+const MAKERS: [(Maker, usize); 13] = [
+    (Maker::Raw, MAX_CAPACITY),
+    (Maker::Plain, MAX_CAPACITY),
+    (Maker::Ring, MAX_RING),
+    (Maker::Either, MAX_CAPACITY),
+    (Maker::EitherRing, MAX_RING),
+    (Maker::Buffer, MAX_CAPACITY),
+    (Maker::BufferRing, MAX_RING),
+    (Maker::Reader, MAX_CAPACITY),
+    (Maker::ReaderRing, MAX_RING),
+    (Maker::Writer, MAX_CAPACITY),
+    (Maker::WriterRing, MAX_RING),
+    (Maker::Lines, MAX_CAPACITY),
+    (Maker::LinesRing, MAX_RING),
+];
+
+fn cause<B: Drop, S: Drop>(outcome: Result<B, MakeError<S>>) -> Result<(), GrowError> {
+    match outcome {
+        Ok(_) => Ok(()),
+        Err(MakeError(_, e)) => Err(e),
+    }
+}
+
+fn done<B: Drop>(outcome: Result<B, GrowError>) -> Result<(), GrowError> {
+    match outcome {
+        Ok(_) => Ok(()),
+        Err(e) => Err(e),
+    }
+}
+
+fn make(alloc: Global, maker: Maker, n: usize) -> Result<(), GrowError> {
+    match maker {
+        Maker::Raw => done(RawBuf::with_capacity(alloc, n)),
+        Maker::Plain => done(StdBuf::with_capacity(alloc, n)),
+        Maker::Ring => done(SliceDequeBuf::with_capacity(alloc, n)),
+        Maker::Either => done(BufImpl::with_capacity(alloc, n)),
+        Maker::EitherRing => done(BufImpl::with_capacity_ringbuf(alloc, n)),
+        Maker::Buffer => done(Buffer::with_capacity(alloc, n)),
+        Maker::BufferRing => done(Buffer::with_capacity_ringbuf(alloc, n)),
+        Maker::Reader => cause(BufReader::with_capacity(alloc, n, reading(b"x"))),
+        Maker::ReaderRing => cause(BufReader::with_capacity_ringbuf(alloc, n, reading(b"x"))),
+        Maker::Writer => cause(BufWriter::with_capacity(alloc, n, empty_sink())),
+        Maker::WriterRing => cause(BufWriter::with_capacity_ringbuf(alloc, n, empty_sink())),
+        Maker::Lines => cause(LineWriter::with_capacity(alloc, n, empty_sink())),
+        Maker::LinesRing => cause(LineWriter::with_capacity_ringbuf(alloc, n, empty_sink())),
+    }
+}
+
+pub fn makers(alloc: Global) -> Result<(), Stop> {
+    for (maker, most) in MAKERS {
+        for power in POWERS {
+            for below in 0..SPAN {
+                let n = near(power, below);
+                is_refused(make(alloc, maker, n), n, most)?;
+            }
+        }
+    }
+    Ok(())
+}
+
+#[derive(Debug, Drop)]
+enum Grower {
+    Raw(RawBuf),
+    Plain(StdBuf),
+    Ring(SliceDequeBuf),
+    Either(BufImpl),
+    Whole(Buffer),
+    Reader(BufReader<Told<Source<'static>>>),
+    Writer(BufWriter<Sink>),
+    Lines(LineWriter<Sink>),
+}
+
+impl Grower {
+    fn grow(&mut self, n: usize) -> Result<(), GrowError> {
+        match self {
+            Grower::Raw(raw) => raw.reserve(n),
+            Grower::Plain(plain) => plain.reserve(n),
+            Grower::Ring(ring) => ring.reserve(n),
+            Grower::Either(either) => either.reserve(n),
+            Grower::Whole(whole) => whole.reserve(n),
+            Grower::Reader(rdr) => rdr.reserve(n),
+            Grower::Writer(wrt) => wrt.reserve(n),
+            Grower::Lines(lines) => lines.reserve(n),
+        }
+    }
+
+    // `used` is what is added to an amount for the capacity that it needs, up to the limit.
+    fn refuses(mut self, used: usize, limit: usize) -> Result<(), Stop> {
+        let before = digest(&self);
+        for power in POWERS {
+            for below in 0..SPAN {
+                let n = near(power, below);
+                is_refused(self.grow(n), n, limit.saturating_sub(used))?;
+            }
+        }
+        is(digest(&self) == before, "a refusal changed something")
+    }
+}
+
+// `placed` has a limit of its own, which is taken away.
+fn unlimited(alloc: Global, is_ring: bool) -> Result<Buffer, Stop> {
+    let mut buf = placed(alloc, is_ring)?;
+    granted(buf.set_limit(usize::MAX))?;
+    Ok(buf)
+}
+
+pub fn growths(alloc: Global) -> Result<(), Stop> {
+    Grower::Raw(RawBuf::with_capacity(alloc, 4)?).refuses(4, MAX_CAPACITY)?;
+    Grower::Plain(StdBuf::with_capacity(alloc, 8)?).refuses(8, MAX_CAPACITY)?;
+    Grower::Ring(SliceDequeBuf::with_capacity(alloc, 8)?).refuses(0, MAX_RING)?;
+    for (is_ring, used, limit) in [(false, 5, MAX_CAPACITY), (true, 3, MAX_RING)] {
+        let mut either = if is_ring {
+            BufImpl::with_capacity_ringbuf(alloc, 8)?
+        } else {
+            BufImpl::with_capacity(alloc, 8)?
+        };
+        either.bytes_written(5);
+        either.consume(2);
+        Grower::Either(either).refuses(used, limit)?;
+        Grower::Whole(placed(alloc, is_ring)?).refuses(used, 9000)?;
+        Grower::Whole(unlimited(alloc, is_ring)?).refuses(used, limit)?;
+        let rdr = BufReader::with_buffer(unlimited(alloc, is_ring)?, reading(b"x"));
+        Grower::Reader(rdr).refuses(used, limit)?;
+        let wrt = BufWriter::with_buffer(unlimited(alloc, is_ring)?, empty_sink());
+        Grower::Writer(wrt).refuses(used, limit)?;
+        let lines = LineWriter::with_buffer(unlimited(alloc, is_ring)?, empty_sink());
+        Grower::Lines(lines).refuses(used, limit)?;
+    }
+    Ok(())
+}
+
+// Counts of bytes are held against what is there.
+fn counts_of(alloc: Global, is_ring: bool, n: usize) -> Result<(), Stop> {
+    let mut either = if is_ring {
+        BufImpl::with_capacity_ringbuf(alloc, 8)?
+    } else {
+        BufImpl::with_capacity(alloc, 8)?
+    };
+    either.bytes_written(n);
+    is(either.len() == either.capacity(), "as many as fit")?;
+    either.consume(n);
+    is(
+        either.usable_space() == either.capacity(),
+        "as many as there are",
+    )?;
+
+    let mut buf = placed(alloc, is_ring)?;
+    granted(buf.set_limit(n))?;
+    is(
+        buf.limit() == n.min(if is_ring { MAX_RING } else { MAX_CAPACITY }),
+        "the limit",
+    )?;
+    let mut sink = empty_sink();
+    buf.write_max(n, &mut sink)?;
+    is(
+        buf.is_empty() && has_taken(&sink, &[1, 2, 3]),
+        "what is sent",
+    )?;
+    let mut rdr = BufReader::with_buffer(placed(alloc, is_ring)?, reading(b"x"));
+    rdr.consume(n);
+    let (_, mut buf) = rdr.into_inner_with_buffer();
+    is(
+        buf.usable_space() == buf.capacity(),
+        "as many as a reader has",
+    )?;
+    is(buf.copy_from_slice(&[4]) == 1, "bytes that don't fit")?;
+    buf.consume(n);
+    is(
+        buf.usable_space() == buf.capacity(),
+        "as many as a buffer has",
+    )
+}
+
+pub fn counts(alloc: Global) -> Result<(), Stop> {
+    for power in POWERS {
+        for below in 0..SPAN {
+            let n = near(power, below);
+            counts_of(alloc, false, n)?;
+            counts_of(alloc, true, n)?;
+            is(
+                !RawBuf::with_capacity(alloc, 1)?.reserve_in_place(n),
+                "room in place",
+            )?;
+        }
+    }
+    Ok(())
+}
+
+fn play_of(alloc: Global, is_ring: bool, n: usize) -> Result<(), Stop> {
+    let most = if is_ring {
+        MAX_RING - 3
+    } else {
+        MAX_CAPACITY - 5
+    };
+    let refused = refusal(n, most);
+    let mut rdr = BufReader::with_buffer(unlimited(alloc, is_ring)?, reading(b"x"));
+    let mut run = ReaderRun::new(alloc);
+    let calls = [
+        ReaderCall::Reserve(n),
+        ReaderCall::Consume(n),
+        ReaderCall::Read(n),
+    ];
+    is(
+        play_reader(alloc, &mut rdr, &calls, &mut run).is_err(),
+        "a slice of so much",
+    )?;
+    let answers = [ReaderAnswer::Refused(refused), ReaderAnswer::Count(3)];
+    is(
+        digest(&run.answers.as_slice()) == digest(&answers.as_slice()),
+        "the answers",
+    )?;
+    is(rdr.get_ref().get_ref().asks == 0, "the last call was begun")?;
+
+    let mut wrt = BufWriter::with_buffer(unlimited(alloc, is_ring)?, empty_sink());
+    let mut run = WriterRun::new(alloc);
+    granted(play_writer(&mut wrt, &[WriterCall::Reserve(n)], &mut run))?;
+    let answers = [WriterAnswer::Refused(refused)];
+    is(
+        digest(&run.answers.as_slice()) == digest(&answers.as_slice()),
+        "the answer",
+    )
+}
+
+pub fn plays(alloc: Global) -> Result<(), Stop> {
+    for power in POWERS {
+        for below in 0..SPAN {
+            let n = near(power, below);
+            play_of(alloc, false, n)?;
+            play_of(alloc, true, n)?;
+        }
+    }
+    Ok(())
+}
+
+// A seek back from the far end of the longest buffer is one seek down to -2^63, and two below.
+pub fn seeks() -> Result<(), Stop> {
+    let half = 4611686018427387904;
+    is(
+        matches!(
+            seek_plan(SeekFrom::Current(-4611686018427387904), half),
+            SeekPlan::One(SeekFrom::Current(i64::MIN))
+        ),
+        "one seek",
+    )?;
+    is(
+        matches!(
+            seek_plan(SeekFrom::Current(-4611686018427387905), half),
+            SeekPlan::Two(-4611686018427387904, -4611686018427387905)
+        ),
+        "two seeks",
+    )
+}
