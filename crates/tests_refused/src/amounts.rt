@@ -8,13 +8,15 @@ use buffer_redux::play::{
     ReaderAnswer, ReaderCall, ReaderRun, WriterAnswer, WriterCall, WriterRun, play_reader,
     play_writer,
 };
+use buffer_redux::policy::{FlushAtLeast, FlushExact, MinBuffered, WriterPolicy};
 use buffer_redux::tell::Told;
 use buffer_redux::{
     BufImpl, BufReader, BufWriter, Buffer, GrowError, LineWriter, MAX_CAPACITY, MAX_RING,
     MakeError, RawBuf, SeekPlan, SliceDequeBuf, StdBuf, seek_plan,
 };
 use std::alloc::Global;
-use std::io::{BufRead, SeekFrom};
+use std::io;
+use std::io::{BufRead, ErrorKind, SeekFrom, Write};
 
 const POWERS: [usize; 4] = [1 << 61, 1 << 62, 1 << 63, usize::MAX];
 
@@ -242,6 +244,66 @@ pub fn counts(alloc: Global) -> Result<(), Stop> {
                 !RawBuf::with_capacity(alloc, 1)?.reserve_in_place(n),
                 "room in place",
             )?;
+        }
+    }
+    Ok(())
+}
+
+// The kind of the error by which a policy hands on the refusal.
+fn kind(refusal: GrowError) -> ErrorKind {
+    match refusal {
+        GrowError::TooLarge => ErrorKind::InvalidInput,
+        GrowError::Memory => ErrorKind::OutOfMemory,
+    }
+}
+
+fn write_fails<P: WriterPolicy + Drop>(
+    buf: Buffer,
+    policy: P,
+    wanted: ErrorKind,
+) -> Result<(), Stop> {
+    let before = digest(&buf);
+    let mut wrt = BufWriter::with_buffer(buf, empty_sink()).set_policy(policy);
+    match wrt.write(&[4]) {
+        Ok(_) => return Err(Stop::Wrong("a write without room")),
+        Err(e) => is(e.kind() == wanted, "another error of a write")?,
+    }
+    let (inner, buf) = wrt.into_inner_with_buffer();
+    is(
+        has_taken(&inner, b"") && digest(&buf) == before,
+        "a refusal changed something",
+    )
+}
+
+// A policy that needs a capacity asks for what is missing: it adds that to what is used.
+fn minimum_of(alloc: Global, is_ring: bool, n: usize) -> Result<(), Stop> {
+    let wanted = if is_ring {
+        kind(refusal(n, MAX_RING - 3 + 4096))
+    } else {
+        kind(refusal(n, MAX_CAPACITY - 5 + 8))
+    };
+    let buf = unlimited(alloc, is_ring)?;
+    let before = digest(&buf);
+    let mut rdr = BufReader::with_buffer(buf, reading(b"x")).set_policy(MinBuffered(n));
+    match rdr.fill_buf() {
+        Ok(_) => return Err(Stop::Wrong("a fill without room")),
+        Err(e) => is(e.kind() == wanted, "another error of a fill")?,
+    }
+    let (inner, buf) = rdr.into_inner_with_buffer();
+    is(
+        inner.get_ref().asks == 0 && digest(&buf) == before,
+        "a refusal changed something",
+    )?;
+    write_fails(unlimited(alloc, is_ring)?, FlushAtLeast(n), wanted)?;
+    write_fails(unlimited(alloc, is_ring)?, FlushExact(n), wanted)
+}
+
+pub fn minimums(alloc: Global) -> Result<(), Stop> {
+    for power in POWERS {
+        for below in 0..SPAN {
+            let n = near(power, below);
+            minimum_of(alloc, false, n)?;
+            minimum_of(alloc, true, n)?;
         }
     }
     Ok(())

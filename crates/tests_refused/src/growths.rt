@@ -2,7 +2,9 @@
 use crate::seen::digest;
 use crate::streams::{empty_sink, has_taken, reading};
 use crate::trial::{Stop, Trial, granted, is};
-use buffer_redux::{BufReader, BufWriter, Buffer, LineWriter, RawBuf, SliceDequeBuf, StdBuf};
+use buffer_redux::{
+    BufImpl, BufReader, BufWriter, Buffer, LineWriter, RawBuf, SliceDequeBuf, StdBuf,
+};
 use std::alloc::Global;
 
 // A growth of so much doesn't fit into either kind. A plain one adds it to its capacity less usable, a ring rounds up.
@@ -86,6 +88,29 @@ pub fn ring_block(alloc: Global, trial: &mut Trial) -> Result<(), Stop> {
         "the room",
     )?;
     is(ring.buf() == [7; 3].as_slice(), "the bytes")
+}
+
+pub fn either(alloc: Global, trial: &mut Trial) -> Result<(), Stop> {
+    for (is_ring, capacity, usable) in KINDS {
+        let mut either = if is_ring {
+            BufImpl::with_capacity_ringbuf(alloc, 8)?
+        } else {
+            BufImpl::with_capacity(alloc, 8)?
+        };
+        either.bytes_written(5);
+        either.consume(2);
+        let before = digest(&either);
+        if let Err(e) = either.reserve(MORE) {
+            trial.refused(e, digest(&either) == before)?;
+            granted(either.reserve(MORE))?;
+        }
+        is(
+            (either.capacity(), either.usable_space()) == (capacity, usable),
+            "the room",
+        )?;
+        is(either.buf() == [0; 3].as_slice(), "the bytes")?;
+    }
+    Ok(())
 }
 
 pub fn buffers(alloc: Global, trial: &mut Trial) -> Result<(), Stop> {

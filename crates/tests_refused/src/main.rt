@@ -23,15 +23,18 @@ use std::io::Read;
 #[derive(Clone, Copy, Debug)]
 enum Check {
     Blocks,
+    Either,
     Buffers,
     Readers,
     Writers,
     LineWriters,
     Frames,
     BlocksNeedNone,
+    BuffersNeedNone,
     Storage,
     PlainGrows,
     RingGrows,
+    EitherGrows,
     BuffersGrow,
     ReadersGrow,
     WritersGrow,
@@ -41,6 +44,8 @@ enum Check {
     Fills,
     Writes,
     LooksAhead,
+    LooksAheadInRing,
+    GrowsEachTurn,
     FlushesAtLeast,
     FlushesExactly,
     PlaysReads,
@@ -48,21 +53,25 @@ enum Check {
     HugeMakers,
     HugeGrowths,
     HugeCounts,
+    HugeMinimums,
     HugePlays,
     Seeks,
 }
 
-const REFUSED: [Check; 23] = [
+const REFUSED: [Check; 28] = [
     Check::Blocks,
+    Check::Either,
     Check::Buffers,
     Check::Readers,
     Check::Writers,
     Check::LineWriters,
     Check::Frames,
     Check::BlocksNeedNone,
+    Check::BuffersNeedNone,
     Check::Storage,
     Check::PlainGrows,
     Check::RingGrows,
+    Check::EitherGrows,
     Check::BuffersGrow,
     Check::ReadersGrow,
     Check::WritersGrow,
@@ -72,6 +81,8 @@ const REFUSED: [Check; 23] = [
     Check::Fills,
     Check::Writes,
     Check::LooksAhead,
+    Check::LooksAheadInRing,
+    Check::GrowsEachTurn,
     Check::FlushesAtLeast,
     Check::FlushesExactly,
     Check::PlaysReads,
@@ -79,10 +90,11 @@ const REFUSED: [Check; 23] = [
 ];
 
 // These meet refusals of their own, so they are left out where one is asked for.
-const HUGE: [Check; 5] = [
+const HUGE: [Check; 6] = [
     Check::HugeMakers,
     Check::HugeGrowths,
     Check::HugeCounts,
+    Check::HugeMinimums,
     Check::HugePlays,
     Check::Seeks,
 ];
@@ -90,15 +102,18 @@ const HUGE: [Check; 5] = [
 fn checked(check: Check, alloc: Global, trial: &mut Trial) -> Result<(), Stop> {
     match check {
         Check::Blocks => makers::blocks(alloc, trial),
+        Check::Either => makers::either(alloc, trial),
         Check::Buffers => makers::buffers(alloc, trial),
         Check::Readers => makers::readers(alloc, trial),
         Check::Writers => makers::writers(alloc, trial),
         Check::LineWriters => makers::line_writers(alloc, trial),
         Check::Frames => makers::frames(alloc, trial),
         Check::BlocksNeedNone => makers::blocks_need_none(alloc),
+        Check::BuffersNeedNone => makers::buffers_need_none(alloc),
         Check::Storage => growths::storage(alloc, trial),
         Check::PlainGrows => growths::plain_block(alloc, trial),
         Check::RingGrows => growths::ring_block(alloc, trial),
+        Check::EitherGrows => growths::either(alloc, trial),
         Check::BuffersGrow => growths::buffers(alloc, trial),
         Check::ReadersGrow => growths::readers(alloc, trial),
         Check::WritersGrow => growths::writers(alloc, trial),
@@ -108,6 +123,8 @@ fn checked(check: Check, alloc: Global, trial: &mut Trial) -> Result<(), Stop> {
         Check::Fills => policies::fills(alloc, trial),
         Check::Writes => policies::writes(alloc, trial),
         Check::LooksAhead => policies::looks_ahead(alloc, trial),
+        Check::LooksAheadInRing => policies::looks_ahead_in_ring(alloc, trial),
+        Check::GrowsEachTurn => policies::grows_each_turn(alloc, trial),
         Check::FlushesAtLeast => policies::flushes_at_least(alloc, trial),
         Check::FlushesExactly => policies::flushes_exactly(alloc, trial),
         Check::PlaysReads => plays::reads(alloc, trial),
@@ -115,6 +132,7 @@ fn checked(check: Check, alloc: Global, trial: &mut Trial) -> Result<(), Stop> {
         Check::HugeMakers => amounts::makers(alloc),
         Check::HugeGrowths => amounts::growths(alloc),
         Check::HugeCounts => amounts::counts(alloc),
+        Check::HugeMinimums => amounts::minimums(alloc),
         Check::HugePlays => amounts::plays(alloc),
         Check::Seeks => amounts::seeks(),
     }

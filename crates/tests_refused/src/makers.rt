@@ -63,6 +63,32 @@ pub fn blocks(alloc: Global, trial: &mut Trial) -> Result<(), Stop> {
     is((ring.len(), ring.usable_space()) == (0, 4096), "the ring")
 }
 
+fn either_of(alloc: Global, is_ring: bool) -> Result<BufImpl, GrowError> {
+    if is_ring {
+        BufImpl::with_capacity_ringbuf(alloc, 4)
+    } else {
+        BufImpl::with_capacity(alloc, 4)
+    }
+}
+
+pub fn either(alloc: Global, trial: &mut Trial) -> Result<(), Stop> {
+    for (is_ring, capacity) in [(false, 4), (true, 4096)] {
+        let either = match either_of(alloc, is_ring) {
+            Ok(either) => either,
+            Err(e) => {
+                trial.refused(e, true)?;
+                granted(either_of(alloc, is_ring))?
+            }
+        };
+        is(
+            (either.is_ringbuf(), either.len()) == (is_ring, 0),
+            "the kind",
+        )?;
+        is(either.usable_space() == capacity, "the room")?;
+    }
+    Ok(())
+}
+
 fn buffer_of(alloc: Global, maker: Maker) -> Result<Buffer, GrowError> {
     match maker {
         Maker::Usual => Buffer::new(alloc),
@@ -217,5 +243,29 @@ pub fn blocks_need_none(alloc: Global) -> Result<(), Stop> {
     granted(BufWriter::with_capacity_ringbuf(alloc, 0, empty_sink()))?.make_room();
     granted(LineWriter::with_capacity(alloc, 0, empty_sink()))?.flush()?;
     granted(LineWriter::with_capacity_ringbuf(alloc, 0, empty_sink()))?.flush()?;
+    Ok(())
+}
+
+fn empty_of(alloc: Global, is_ring: bool) -> Result<Buffer, GrowError> {
+    if is_ring {
+        Buffer::with_capacity_ringbuf(alloc, 0)
+    } else {
+        Buffer::with_capacity(alloc, 0)
+    }
+}
+
+pub fn buffers_need_none(alloc: Global) -> Result<(), Stop> {
+    for is_ring in [false, true] {
+        let mut buf = granted(empty_of(alloc, is_ring))?;
+        granted(buf.reserve(0))?;
+        granted(buf.push_bytes(b""))?;
+        buf.reserve(4)?;
+        granted(buf.push_bytes(b"ab"))?;
+        granted(buf.reserve(2))?;
+        let mut rdr = BufReader::with_buffer(buf, reading(TEXT));
+        granted(rdr.reserve(2))?;
+        let mut left = rdr.unbuffer();
+        is(left.read(&mut [0u8; 8])? == 2, "what is left")?;
+    }
     Ok(())
 }

@@ -3,11 +3,14 @@ use crate::growths::placed;
 use crate::seen::digest;
 use crate::streams::{Sink, Source, empty_sink, has_taken, reading};
 use crate::trial::{Stop, Trial, granted, is};
-use buffer_redux::policy::{FlushAtLeast, FlushExact, MinBuffered, WriterPolicy};
+use buffer_redux::policy::{
+    DoRead, FlushAtLeast, FlushExact, MinBuffered, ReaderPolicy, WriterPolicy,
+};
 use buffer_redux::tell::Told;
 use buffer_redux::{BufReader, BufWriter, Buffer};
 use std::alloc::Global;
-use std::io::{BufRead, Write};
+use std::io;
+use std::io::{BufRead, ErrorKind, Write};
 
 const BYTES: [u8; 20] = [
     0, 1, 2, 3, 4, 5, 6, 7, 8, 9, 10, 11, 12, 13, 14, 15, 16, 17, 18, 19,
@@ -120,6 +123,68 @@ pub fn looks_ahead(alloc: Global, trial: &mut Trial) -> Result<(), Stop> {
         }
         fill(trial, &mut rdr)?;
         is(BYTES.get(from..to) == Some(rdr.buffer()), "what is shown")?;
+        is(rdr.capacity() == capacity, "the capacity")?;
+    }
+    Ok(())
+}
+
+// The first 4096 bytes fit, and what is then missing doesn't.
+pub fn looks_ahead_in_ring(alloc: Global, trial: &mut Trial) -> Result<(), Stop> {
+    let bytes = [7u8; 10000];
+    let mut rdr = BufReader::with_capacity_ringbuf(alloc, 4096, reading(&bytes))?;
+    is(rdr.read_into_buf()? == 4096, "the first read")?;
+    let mut rdr = rdr.set_policy(MinBuffered(5000));
+    fill(trial, &mut rdr)?;
+    is(
+        (rdr.buf_len(), rdr.capacity()) == (8192, 8192),
+        "what is shown",
+    )?;
+    is(
+        rdr.get_ref().get_ref().asks == 2,
+        "how often the stream is asked",
+    )
+}
+
+// Grows before each read, whether there is room or not.
+#[derive(Drop)]
+struct Greedy;
+
+impl ReaderPolicy for Greedy {
+    fn before_read(&mut self, buffer: &mut Buffer) -> io::Result<DoRead> {
+        buffer.reserve(4096)?;
+        Ok(DoRead(true))
+    }
+
+    fn after_consume(&mut self, _buffer: &mut Buffer, _amt: usize) {}
+}
+
+// A fill of several turns that is refused in one of them keeps the bytes of those before.
+pub fn grows_each_turn(alloc: Global, trial: &mut Trial) -> Result<(), Stop> {
+    let bytes = [7u8; 10000];
+    for (is_ring, capacity) in [(false, 14096), (true, 16384)] {
+        let buf = if is_ring {
+            Buffer::with_capacity_ringbuf(alloc, 0)?
+        } else {
+            Buffer::with_capacity(alloc, 0)?
+        };
+        let mut rdr = BufReader::with_buffer(buf, reading(&bytes)).set_policy(Greedy);
+        if let Err(e) = rdr.fill_buf() {
+            is(
+                e.kind() == ErrorKind::OutOfMemory,
+                "a stream or a policy fails",
+            )?;
+            trial.meets()?;
+            let room = rdr.get_ref().get_ref().asks.saturating_mul(4096);
+            is(rdr.capacity() == room, "the capacity of the turns before")?;
+            is(
+                rdr.buf_len() == room.min(10000),
+                "the bytes of the turns before",
+            )?;
+        }
+        is(
+            granted(rdr.fill_buf())? == bytes.as_slice(),
+            "what is shown",
+        )?;
         is(rdr.capacity() == capacity, "the capacity")?;
     }
     Ok(())
