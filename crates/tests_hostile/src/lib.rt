@@ -5,6 +5,12 @@
 #![tactic(auto)]
 
 #[cfg(test)]
+mod copies;
+#[cfg(test)]
+mod frames;
+#[cfg(test)]
+mod nested;
+#[cfg(test)]
 mod policies;
 #[cfg(test)]
 mod reader_rows;
@@ -12,6 +18,8 @@ mod reader_rows;
 mod readers;
 #[cfg(test)]
 mod rows;
+#[cfg(test)]
+mod seeks;
 #[cfg(test)]
 mod streams;
 #[cfg(test)]

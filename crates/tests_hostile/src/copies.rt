@@ -1,0 +1,197 @@
+//! Copies from a reader to a writer, one of them over a stream that goes wrong, asked for again where they fail.
+use crate::policies::Restless;
+use crate::streams::{Hostile, calls, faults, hostile, inside};
+use crate::sweep::{Case, Fault, Outcome, first, first_loss, holding, numbered, tells_of_one};
+use buffer_redux::policy::{FlushOn, MinBuffered, ReaderPolicy, WriterPolicy};
+use buffer_redux::script::{Answer, ScriptReader, ScriptWriter};
+use buffer_redux::{BufReader, BufWriter, copy_buf};
+use std::alloc::Global;
+use std::io;
+use std::io::ErrorKind;
+use std::test::Fail;
+
+type Source = Hostile<ScriptReader>;
+
+type Target = Hostile<ScriptWriter>;
+
+// How many bytes the source gives by which script, and the script of the target.
+type Row = (usize, &'static [Answer], &'static [Answer]);
+
+const ROWS: [Row; 9] = [
+    (0, &[], &[]),
+    (3, &[], &[]),
+    (3, &[], &[Answer::Serve(0)]),
+    (
+        2,
+        &[
+            Answer::Interrupt(64),
+            Answer::Serve(1),
+            Answer::Interrupt(64),
+        ],
+        &[],
+    ),
+    (2, &[Answer::Interrupt(65)], &[]),
+    (3, &[Answer::Serve(2), Answer::Fail(ErrorKind::Other)], &[]),
+    (3, &[], &[Answer::Serve(2), Answer::Fail(ErrorKind::Other)]),
+    (
+        3,
+        &[],
+        &[
+            Answer::Interrupt(64),
+            Answer::Serve(1),
+            Answer::Interrupt(64),
+        ],
+    ),
+    (13, &[Answer::ServeEach(2)], &[Answer::ServeEach(3)]),
+];
+
+// So often a copy is asked for.
+const COPIES: usize = 3;
+
+// The policies of the reader and the writer.
+#[derive(Clone, Copy, Debug)]
+enum Rules {
+    Std,
+    Ahead,
+    Restless,
+}
+
+#[derive(Drop)]
+struct Copied<'a> {
+    row: Row,
+    bytes: &'a [u8],
+    ring: bool,
+    rules: Rules,
+    // Whether the target goes wrong, and not the source.
+    at_target: bool,
+}
+
+impl Case for Copied<'_> {
+    fn run(&self, alloc: Global, fault: Fault) -> Result<Outcome, Fail> {
+        let (source, target) = if self.at_target {
+            (self.source(alloc, Fault::NONE)?, self.target(alloc, fault)?)
+        } else {
+            (self.source(alloc, fault)?, self.target(alloc, Fault::NONE)?)
+        };
+        match self.rules {
+            Rules::Std => self.copies(alloc, source, target),
+            Rules::Ahead => self.copies(
+                alloc,
+                source.set_policy(MinBuffered(4)),
+                target.set_policy(FlushOn(1)),
+            ),
+            Rules::Restless => self.copies(
+                alloc,
+                source.set_policy(Restless),
+                target.set_policy(Restless),
+            ),
+        }
+    }
+}
+
+impl Copied<'_> {
+    fn source(&self, alloc: Global, fault: Fault) -> Result<BufReader<Source>, Fail> {
+        let stream = ScriptReader::new(alloc, self.bytes, self.row.1)?;
+        let buf = holding(alloc, self.ring, 4, &[])?;
+        Ok(BufReader::with_buffer(buf, hostile(alloc, stream, fault)))
+    }
+
+    fn target(&self, alloc: Global, fault: Fault) -> Result<BufWriter<Target>, Fail> {
+        let stream = ScriptWriter::new(alloc, self.row.2)?;
+        let buf = holding(alloc, self.ring, 3, &[])?;
+        Ok(BufWriter::with_buffer(buf, hostile(alloc, stream, fault)))
+    }
+
+    fn copies<P: ReaderPolicy + Drop, Q: WriterPolicy + Drop>(
+        &self,
+        alloc: Global,
+        mut from: BufReader<Source, P>,
+        mut to: BufWriter<Target, Q>,
+    ) -> Result<Outcome, Fail> {
+        let mut returned = Vec::new(alloc);
+        let mut caused = Vec::new(alloc);
+        for _ in 0..COPIES {
+            let before = (faults(from.get_ref()).len(), faults(to.get_ref()).len());
+            if let Err(e) = copy_once(&mut from, &mut to) {
+                returned.push(e.kind())?;
+                let read = last(faults(from.get_ref()), before.0);
+                let written = last(faults(to.get_ref()), before.1);
+                caused.push(either(e.kind(), read, written))?;
+            }
+        }
+        let (target, unsent) = to.into_inner_with_buffer();
+        let (source, unread) = from.into_inner_with_buffer();
+        let mut joined = Vec::from_slice(alloc, inside(&target).taken())?;
+        joined.extend_from_slice(unsent.buf())?;
+        joined.extend_from_slice(unread.buf())?;
+        let calls = if self.at_target {
+            calls(&target)
+        } else {
+            calls(&source)
+        };
+        Ok(Outcome {
+            calls,
+            joined,
+            whole: Vec::from_slice(alloc, first(self.bytes, inside(&source).served()))?,
+            returned,
+            caused,
+        })
+    }
+}
+
+fn copy_once<P: ReaderPolicy, Q: WriterPolicy>(
+    from: &mut BufReader<Source, P>,
+    to: &mut BufWriter<Target, Q>,
+) -> io::Result<u64> {
+    copy_buf(from, to)
+}
+
+// The last of the kinds, but of the first ones.
+fn last(kinds: &[ErrorKind], before: usize) -> Option<ErrorKind> {
+    kinds.iter().skip(before).last().copied()
+}
+
+// The kind, where the source or the target returned it last. Else another.
+fn either(kind: ErrorKind, read: Option<ErrorKind>, written: Option<ErrorKind>) -> ErrorKind {
+    if read == Some(kind) || written == Some(kind) {
+        kind
+    } else {
+        ErrorKind::NotFound
+    }
+}
+
+#[test]
+fn lose_nothing(rt: HostRuntime) -> Result<(), Fail> {
+    for row in ROWS {
+        let bytes = numbered(rt.alloc(), row.0)?;
+        for rules in [Rules::Std, Rules::Ahead, Rules::Restless] {
+            for (ring, at_target) in [(false, false), (false, true), (true, false), (true, true)] {
+                let case = Copied {
+                    row,
+                    bytes: bytes.as_slice(),
+                    ring,
+                    rules,
+                    at_target,
+                };
+                let loss = first_loss(&rt, rt.alloc(), &case, false)?;
+                assert!(rt; loss.is_none(), "{row:?}, {rules:?}, ring {ring}: {loss:?}");
+            }
+        }
+    }
+    Ok(())
+}
+
+#[test]
+fn tell_what_is_lost(rt: HostRuntime) -> Result<(), Fail> {
+    for at_target in [false, true] {
+        let case = Copied {
+            row: (3, &[], &[]),
+            bytes: &[1, 2, 3],
+            ring: false,
+            rules: Rules::Restless,
+            at_target,
+        };
+        assert!(rt; tells_of_one(&rt, rt.alloc(), &case)?);
+    }
+    Ok(())
+}
