@@ -1,6 +1,8 @@
 //! Whole runs.
 ghost use Rattle.std.specs.Prelude.{◌≤◌};
 
+mod hostile;
+
 use crate::ending::Ending;
 use crate::run::{ending, run};
 use buffer_redux::script::{Answer, ScriptReader, ScriptWriter};
