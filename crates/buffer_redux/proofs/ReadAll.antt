@@ -10,11 +10,11 @@ use Rattle.std.specs.declared.io.Error.{Error}
 use Rattle.std.specs.declared.io.ErrorKind.TheVariants.{Interrupted, UnexpectedEof}
 use Rattle.redux_buffer.specs.Block.{IsBlock}
 use Rattle.redux_tell.specs.LogGrows.{ReadLogGrows-none, ReadLogGrows-joins}
-use Rattle.redux_tell.specs.StreamLog.{portion, after_read}
+use Rattle.redux_tell.specs.StreamLog.{portion}
 use Rattle.redux_policy.specs.Policy.{ReadRules, ClaimsToSpare}
 use Rattle.buffer_redux.specs.AllBytes.{GoesBy, EndsBy, GaveUp}
-use Rattle.buffer_redux.specs.Buffered.{Buffered, GoesPast, StaysInside, GoesDirect}
-use Rattle.buffer_redux.specs.BufReader.{ReadsInOrder, ReadErrorCaused, EmptyReadCaused, RanDry, ReadsBuffered}
+use Rattle.buffer_redux.specs.Buffered.{Buffered, GoesPast, StaysInside}
+use Rattle.buffer_redux.specs.BufReader.{ReadsInOrder, ReaderKeeps, ReadErrorCaused, EmptyReadCaused, RanDry, Reads, ReadsBuffered}
 use Rattle.buffer_redux.specs.ReaderLaws.{ReadsInOrder-none, ReadsInOrder-joins, InnerGives-none, InnerGives-joins, WantsBytes, remaining_gives}
 use Rattle.buffer_redux.specs.Remaining.{reader_remaining}
 use Rattle.buffer_redux.specs.Sparing.{Spared-none, Spared-joins}
@@ -54,9 +54,8 @@ module _ (at : ℕ) (out new : List ℕ) (within : at ≤ length out) where
   )
 
 module _ {S P : Type 0} (remaining : S → Option (List ℕ)) (rules : ReadRules P) where
-  front_none : (s : Buffered S P) → IsBlock s.block → HandedFront remaining rules s [] s
-  front_none s whole = record {
-    in_order = ReadsInOrder-none s;
+  keeps_none : (s : Buffered S P) → IsBlock s.block → ReaderKeeps remaining rules s s
+  keeps_none s whole = record {
     known = InnerGives-none remaining s;
     grows = ReadLogGrows-none s.log.reads;
     capacity = le_refl _;
@@ -67,10 +66,9 @@ module _ {S P : Type 0} (remaining : S → Option (List ℕ)) (rules : ReadRules
     noted = refl;
   }
 
-  front_joins : (s m t : Buffered S P) (a b : List ℕ) → HandedFront remaining rules s a m
-      → HandedFront remaining rules m b t → HandedFront remaining rules s (a ++ b) t
-  front_joins s m t a b p q = record {
-    in_order = ReadsInOrder-joins s m t a b p.in_order q.in_order;
+  pub keeps_joins : (s m t : Buffered S P) → ReaderKeeps remaining rules s m → ReaderKeeps remaining rules m t
+      → ReaderKeeps remaining rules s t
+  keeps_joins s m t p q = record {
     known = InnerGives-joins remaining s m t p.known q.known;
     grows = ReadLogGrows-joins s.log.reads m.log.reads t.log.reads p.grows q.grows;
     capacity = le_trans p.capacity q.capacity;
@@ -80,6 +78,16 @@ module _ {S P : Type 0} (remaining : S → Option (List ℕ)) (rules : ReadRules
         (q.sparing keep (subst (λ x. ClaimsToSpare x.spares keep) (sym p.claims) claims));
     whole = q.whole;
     noted = q.noted ∙ p.noted;
+  }
+
+  front_none : (s : Buffered S P) → IsBlock s.block → HandedFront remaining rules s [] s
+  front_none s whole = record { in_order = ReadsInOrder-none s; keeps = keeps_none s whole }
+
+  front_joins : (s m t : Buffered S P) (a b : List ℕ) → HandedFront remaining rules s a m
+      → HandedFront remaining rules m b t → HandedFront remaining rules s (a ++ b) t
+  front_joins s m t a b p q = record {
+    in_order = ReadsInOrder-joins s m t a b p.in_order q.in_order;
+    keeps = keeps_joins s m t p.keeps q.keeps;
   }
 
   -- so many turns handed these bytes out, into a slice of `room` bytes
@@ -227,24 +235,22 @@ module _ {S P : Type 0} (remaining : S → Option (List ℕ)) (rules : ReadRules
         (put_length at out new within part) (omega (arith, within, put_length at out new within part))
         (put_front at out new within) e ends
 
-  -- all that `read` promises, of a slice of n bytes
-  pub one_read : (s : Buffered S P) (n : ℕ) (slice : List ℕ) (answer : Result ℕ Error) (t : Buffered S P)
-      → length slice ≡ n → IsBlock s.block → ReadsAtMost answer slice
-      → (GoesPast s.block n → GoesDirect after_read s slice answer t)
-      → (StaysInside s.block n → ReadsBuffered rules s n answer t)
-      → HandedFront remaining rules s (portion slice answer) t → ReadErrorCaused rules s answer t
-      → (answer ≡ Ok 0 → 0 < n → EmptyReadCaused rules s t)
-      → (answer ≡ Ok 0 → 0 < n → WantsBytes (rules.claims s.policy) → RanDry s t)
-      → OneRead remaining rules s slice answer t
-  one_read s n slice answer t same whole bound direct buffered front caused empty ran_dry = record {
+  -- all that `read` promises
+  pub one_read : (s : Buffered S P) (out : List ℕ) (answer : Result ℕ Error) (out' : List ℕ) (t : Buffered S P)
+      → length out' ≡ length out → IsBlock s.block → ReadsAtMost answer out' → Reads rules s out answer out' t
+      → ReadsInOrder s (portion out' answer) t → ReaderKeeps remaining rules s t → ReadErrorCaused rules s answer t
+      → (answer ≡ Ok 0 → 0 < length out → EmptyReadCaused rules s t)
+      → (answer ≡ Ok 0 → 0 < length out → WantsBytes (rules.claims s.policy) → RanDry s t)
+      → OneRead remaining rules s out' answer t
+  one_read s out answer out' t same whole bound steps in_order keeps caused empty ran_dry = record {
     whole = whole;
     bound = bound;
     steps = record {
-      past = λ past. (slice, refl, direct (subst (GoesPast s.block) same past));
+      past = λ past. (out', refl, steps.direct (subst (GoesPast s.block) same past));
       inside = λ inside. subst (λ k. ReadsBuffered rules s k answer t) (sym same)
-          (buffered (subst (StaysInside s.block) same inside));
+          (steps.buffered (subst (StaysInside s.block) same inside));
     };
-    front = front;
+    front = record { in_order = in_order; keeps = keeps };
     caused = caused;
     empty = λ is some. empty is (omega (arith, some, same));
     ran_dry = λ is some. ran_dry is (omega (arith, some, same));
@@ -261,7 +267,7 @@ module _ {S P : Type 0} (remaining : S → Option (List ℕ)) (rules : ReadRules
     pub all_bytes : (answer : Result (Unit {0}) Error) → ReadsExactly remaining rules s answer out t
         → OnOk answer (Consumes (reader_remaining remaining rules s) (reader_remaining remaining rules t) out)
     all_bytes (Ok _) r =
-        remaining_gives remaining rules s t out (all_in_order (Ok tt) r) r.front.known r.front.claims r.front.capacity
+        remaining_gives remaining rules s t out (all_in_order (Ok tt) r) r.front.keeps.known r.front.keeps.claims r.front.keeps.capacity
     all_bytes (Err e) r = tt
 
     pub all_beginning : (answer : Result (Unit {0}) Error) → ReadsExactly remaining rules s answer out t
@@ -277,4 +283,4 @@ module _ {S P : Type 0} (remaining : S → Option (List ℕ)) (rules : ReadRules
     ]
 
     pub all_whole : (answer : Result (Unit {0}) Error) → ReadsExactly remaining rules s answer out t → IsBlock t.block
-    all_whole answer r = r.front.whole
+    all_whole answer r = r.front.keeps.whole

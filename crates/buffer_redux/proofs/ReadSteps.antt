@@ -1,24 +1,22 @@
 -- What follows from the fill of a read and from what is handed out after it.
-use Rattle.std.proofs.Common.{◌≡◌, ℕ, zero, suc, ◌<◌, ◌≤◌, List, [], length, min, take, drop, Bool, true, false, Result, Ok, Err, Option, refl, sym, ap, subst, ◌∙◌, arith, inl, inr, le_trans, take_at, drop_at, length-take-le, length-append, length-drop}
+use Rattle.std.proofs.Common.{◌≡◌, ℕ, zero, suc, ◌<◌, ◌≤◌, List, [], length, min, take, drop, Bool, true, false, Result, Ok, Err, Option, refl, sym, ap, subst, ◌∙◌, arith, inl, inr, take_at, drop_at, length-take-le, length-append, length-drop}
 use Rattle.std.proofs.lemmas.List.{nil_from_length}
 use Rattle.std.specs.Io.{ReadsAtMost}
 use Rattle.std.specs.Io.KnownBytes.{IsAtEnd, ReadConsumes}
 use Rattle.std.specs.declared.io.Error.{Error}
 use Rattle.redux_buffer.specs.Block.{IsBlock, usable}
-use Rattle.redux_tell.specs.LogGrows.{ReadLogGrows, ReadLogGrows-joins}
 use Rattle.redux_tell.specs.StreamLog.{portion}
 use Rattle.redux_buffer.specs.Transfer.{ReadsFrom}
 use Rattle.redux_policy.specs.declared.DoRead.{DoRead}
-use Rattle.redux_policy.specs.Policy.{ReadRules, ClaimsToSpare, read_now}
+use Rattle.redux_policy.specs.Policy.{ReadRules, read_now}
 use Rattle.buffer_redux.specs.Buffered.{Buffered, StaysInside}
 use Rattle.buffer_redux.specs.Fill.{Turn, Turns, Filled}
-use Rattle.buffer_redux.specs.BufReader.{ReadsInOrder, ReadErrorCaused, EmptyReadCaused, RanDry, InnerGives, ReaderConsumes, Fills, ReadsBuffered, LeavesRest}
+use Rattle.buffer_redux.specs.BufReader.{ReadsInOrder, ReadErrorCaused, EmptyReadCaused, RanDry, InnerGives, ReaderConsumes, ReaderKeeps, Fills, Reads, ReadsBuffered, LeavesRest}
 use Rattle.buffer_redux.specs.ReaderLaws.{ReadsInOrder-joins, InnerGives-same, InnerGives-joins, Fills-empty, WantsBytes, Keeps-of, remaining_gives}
 use Rattle.buffer_redux.specs.Remaining.{reader_remaining}
-use Rattle.buffer_redux.specs.Sparing.{SparesClaimed, Spared-joins}
 use Rattle.buffer_redux.specs.ReadInside.{AskedRead, FillDone, ReadThrough, ReadsInside}
 use Rattle.buffer_redux.specs.ReadAll.{OneRead}
-use Rattle.buffer_redux.proofs.ReadAll.{one_read}
+use Rattle.buffer_redux.proofs.ReadAll.{keeps_joins, one_read}
 use Rattle.buffer_redux.proofs.FillFacts.{turns_facts, empty_read, inside_room}
 use Rattle.buffer_redux.proofs.FillClaims.{fills}
 use Rattle.buffer_redux.proofs.KnownAhead.{err_counts_none, remaining_ends}
@@ -150,25 +148,32 @@ module _ {S P : Type 0} (remaining : S → Option (List ℕ)) (rules : ReadRules
           whole = f.whole;
         }
 
+-- what a fill keeps
+filled_keeps : {S P A : Type 0} (remaining : S → Option (List ℕ)) (rules : ReadRules P) (s : Buffered S P)
+    (answer : Result A Error) (t : Buffered S P) → Fills rules s answer t → FillDone remaining rules s answer t
+    → ReaderKeeps remaining rules s t
+filled_keeps remaining rules s answer t f done = record {
+  known = done.known;
+  grows = f.grows;
+  capacity = f.capacity;
+  kind = f.kind;
+  claims = f.claims;
+  sparing = f.sparing;
+  whole = f.whole;
+  noted = done.noted;
+}
+
 -- all that a read through the buffer promises
 pub record ReadSays {S P : Type 0} (remaining : S → Option (List ℕ)) (rules : ReadRules P) (s : Buffered S P)
     (out : List ℕ) (answer : Result ℕ Error) (out' : List ℕ) (t : Buffered S P) : Type 0 where
   pub bound : ReadsAtMost answer out'
   pub bytes : ReadConsumes (reader_remaining remaining rules s) (reader_remaining remaining rules t) answer out'
-  pub known : InnerGives remaining s t
   pub in_order : ReadsInOrder s (portion out' answer) t
-  pub grows : ReadLogGrows s.log.reads t.log.reads
   pub caused : ReadErrorCaused rules s answer t
   pub empty : answer ≡ Ok 0 → 0 < length out → EmptyReadCaused rules s t
   pub ran_dry : answer ≡ Ok 0 → 0 < length out → WantsBytes (rules.claims s.policy) → RanDry s t
-  pub capacity : s.block.capacity ≤ t.block.capacity
-  pub kind : t.block.kind ≡ s.block.kind
-  pub claims : rules.claims t.policy ≡ rules.claims s.policy
-  pub sparing : SparesClaimed rules s t
-  pub whole : IsBlock t.block
-  pub buffered : ReadsBuffered rules s (length out) answer t
-  pub rest : LeavesRest out answer out'
-  pub noted : t.own_calls ≡ s.own_calls
+  pub steps : Reads rules s out answer out' t
+  pub keeps : ReaderKeeps remaining rules s t
   pub long : length out' ≡ length out
 
 module _ {S P : Type 0} (remaining : S → Option (List ℕ)) (rules : ReadRules P) (s : Buffered S P) (out : List ℕ) where
@@ -204,12 +209,9 @@ module _ {S P : Type 0} (remaining : S → Option (List ℕ)) (rules : ReadRules
     inside_order = ReadsInOrder-joins s r.filled t [] (take n out') filled.in_order
         (subst (λ l. ReadsInOrder r.filled l t) front_same r.hands.in_order)
 
-    inside_known : InnerGives remaining s t
-    inside_known = InnerGives-joins remaining s r.filled t r.fill.known
-        (InnerGives-same remaining r.filled t r.hands.inner r.hands.consumed.told)
-
-    inside_claims : rules.claims t.policy ≡ rules.claims s.policy
-    inside_claims = r.hands.consumed.told_policy.claims ∙ filled.claims
+    inside_keeps : ReaderKeeps remaining rules s t
+    inside_keeps = keeps_joins remaining rules s r.filled t (filled_keeps remaining rules s (Ok n) r.filled filled r.fill)
+        r.hands.keeps
 
     inside_dry : n ≡ 0 → 0 < length out → WantsBytes (rules.claims s.policy) → RanDry s r.filled
     inside_dry is some wants =
@@ -219,13 +221,13 @@ module _ {S P : Type 0} (remaining : S → Option (List ℕ)) (rules : ReadRules
     inside_bytes : ReadConsumes {E = Error} (reader_remaining remaining rules s) (reader_remaining remaining rules t)
         (Ok n) out'
     inside_bytes = (
-      remaining_gives remaining rules s t (take n out') inside_order inside_known inside_claims
-          (le_trans filled.capacity r.hands.capacity),
+      remaining_gives remaining rules s t (take n out') inside_order inside_keeps.known inside_keeps.claims
+          inside_keeps.capacity,
       λ none some.
           let empty = showed_nothing none (omega (arith, some, same_length)) in
           remaining_ends remaining rules t
           (λ wants room. subst (λ i. IsAtEnd (remaining i)) (sym r.hands.inner)
-          (r.fill.ended (inside_dry none (omega (arith, some, same_length)) (subst WantsBytes inside_claims wants))))
+          (r.fill.ended (inside_dry none (omega (arith, some, same_length)) (subst WantsBytes inside_keeps.claims wants))))
           (nil_from_length t.block.bytes
           (omega (
             arith,
@@ -236,6 +238,15 @@ module _ {S P : Type 0} (remaining : S → Option (List ℕ)) (rules : ReadRules
           ))),
     )
 
+  -- a read inside goes through the buffer alone
+  through_buffer : {answer : Result ℕ Error} {out' : List ℕ} {t : Buffered S P} → StaysInside s.block (length out)
+      → ReadsBuffered rules s (length out) answer t → LeavesRest out answer out' → Reads rules s out answer out' t
+  through_buffer inside buffered rest = record {
+    direct = λ past. absurd (elim inside [ inl some ↦ omega (arith, past.0, some) | inr less ↦ omega (arith, past.1, less) ]);
+    buffered = λ _. buffered;
+    rest = λ _. rest;
+  }
+
   pub says : (answer : Result ℕ Error) (out' : List ℕ) (t : Buffered S P) → ReadsInside remaining rules s out answer out' t
       → StaysInside s.block (length out) → ReadSays remaining rules s out answer out' t
   says (Ok n) out' t r inside =
@@ -245,9 +256,7 @@ module _ {S P : Type 0} (remaining : S → Option (List ℕ)) (rules : ReadRules
       record {
         bound = (short, sym (length-take-le n out' short));
         bytes = inside_bytes n out' t r inside;
-        known = inside_known n out' t r inside;
         in_order = inside_order n out' t r inside;
-        grows = ReadLogGrows-joins _ _ _ f.grows r.hands.grows;
         caused = ap (λ l. l.reads.faults) r.hands.consumed.told ∙ f.caused;
         empty = λ is some.
             let none = showed_nothing n out' t r inside (cc) some in
@@ -257,20 +266,14 @@ module _ {S P : Type 0} (remaining : S → Option (List ℕ)) (rules : ReadRules
         ran_dry = λ is some wants.
             let dry = inside_dry n out' t r inside (cc) some wants in
             omega (arith, dry, ap (λ l. l.reads.zero_reads) r.hands.consumed.told);
-        capacity = le_trans f.capacity r.hands.capacity;
-        kind = r.hands.consumed.told_policy.law.kind ∙ r.hands.consumed.dropped.kind ∙ f.kind;
-        claims = inside_claims n out' t r inside;
-        sparing = λ keep claims. Spared-joins keep s r.filled t (f.sparing keep claims)
-            (r.hands.sparing keep (subst (λ x. ClaimsToSpare x.spares keep) (sym f.claims) claims));
-        whole = r.hands.whole;
-        buffered = record {
+        steps = through_buffer inside (record {
           filled = r.filled;
           fills = f;
           handed = (omega (arith, r.hands.count), r.hands.consumed);
-        };
-        rest = ap (drop n) r.hands.copied
-            ∙ drop_at (take n r.filled.block.bytes) (drop n out) n (front_length n out' t r inside);
-        noted = r.hands.noted ∙ r.fill.noted;
+        })
+            (ap (drop n) r.hands.copied
+            ∙ drop_at (take n r.filled.block.bytes) (drop n out) n (front_length n out' t r inside));
+        keeps = inside_keeps n out' t r inside;
         long = long;
       }
   says (Err e) out' t r inside =
@@ -279,20 +282,12 @@ module _ {S P : Type 0} (remaining : S → Option (List ℕ)) (rules : ReadRules
         bound = tt;
         bytes = Keeps-of (reader_remaining remaining rules s) (reader_remaining remaining rules t)
             (remaining_gives remaining rules s t [] f.in_order r.fill.known f.claims f.capacity);
-        known = r.fill.known;
         in_order = f.in_order;
-        grows = f.grows;
         caused = f.caused;
         empty = λ is some. cc;
         ran_dry = λ is some wants. cc;
-        capacity = f.capacity;
-        kind = f.kind;
-        claims = f.claims;
-        sparing = f.sparing;
-        whole = f.whole;
-        buffered = record { filled = t; fills = f; handed = refl };
-        rest = r.same;
-        noted = r.fill.noted;
+        steps = through_buffer inside (record { filled = t; fills = f; handed = refl }) r.same;
+        keeps = filled_keeps remaining rules s (Err e) t f r.fill;
         long = ap length r.same;
       }
 
@@ -301,17 +296,4 @@ module _ {S P : Type 0} (remaining : S → Option (List ℕ)) (rules : ReadRules
       → OneRead remaining rules s out' answer t
   one_read_says answer out' t whole r inside =
       let a = says answer out' t r inside in
-      one_read remaining rules s (length out) out' answer t a.long whole a.bound
-      (λ past. absurd (elim inside [ inl some ↦ omega (arith, past.0, some) | inr less ↦ omega (arith, past.1, less) ]))
-      (λ _. a.buffered)
-      (record {
-        in_order = a.in_order;
-        known = a.known;
-        grows = a.grows;
-        capacity = a.capacity;
-        kind = a.kind;
-        claims = a.claims;
-        sparing = a.sparing;
-        whole = a.whole;
-        noted = a.noted;
-      }) a.caused a.empty a.ran_dry
+      one_read remaining rules s out answer out' t a.long whole a.bound a.steps a.in_order a.keeps a.caused a.empty a.ran_dry

@@ -14,7 +14,7 @@ use Rattle.redux_tell.specs.StreamLog.{StreamLog, portion}
 use Rattle.redux_policy.specs.Policy.{WriteRules}
 use Rattle.buffer_redux.specs.AllBytes.{GoesBy, EndsBy, GaveUp}
 use Rattle.buffer_redux.specs.Buffered.{Buffered, InnerWent}
-use Rattle.buffer_redux.specs.BufWriter.{writer_contents, WritesInOrder, FlushesAmount, TakesIn, Prepared, Finished, Writes, WriteErrorCaused}
+use Rattle.buffer_redux.specs.BufWriter.{writer_contents, WritesInOrder, FlushesAmount, TakesIn, Prepared, Finished, Writes, WriterKeeps, WriteErrorCaused}
 use Rattle.buffer_redux.specs.WriterLaws.{WritesInOrder-none, WritesInOrder-joins, WritesInOrder-contents, flush_ways, ways_in}
 use Rattle.buffer_redux.specs.WriteAll.{WriteTurns, TookFront, TookBeginning, WritesAll, OneWrite}
 use Rattle.buffer_redux.proofs.WriterFacts.{writes_keep, writes_caused, writes_steadily, writes_nothing}
@@ -82,6 +82,22 @@ module _ {S P : Type 0} where
     caused_of (Ok n) t w = tt
     caused_of (Err e) t w = writes_caused rules s bs e t w
 
+-- what a write keeps
+pub writer_keeps : {S P : Type 0} (tells : S → StreamLog) (stretch : S → S → Type 0) (rules : WriteRules P)
+    (s : Buffered S P) (bs : List ℕ) (answer : Result ℕ Error) (t : Buffered S P) → IsBlock t.block
+    → Writes rules s bs answer t → InnerWent tells stretch s t → WriterKeeps tells stretch rules s t
+writer_keeps tells stretch rules s bs answer t whole steps went =
+    let keeps = writes_keep rules s bs answer t steps in
+    record {
+      grows = keeps.grows;
+      not_flushed = keeps.flushed;
+      capacity = keeps.capacity;
+      kind = kind_stays rules s bs answer t steps;
+      claims = claims_stay rules s bs answer t steps;
+      whole = whole;
+      went = went;
+    }
+
 zero_on : (n : ℕ) → 0 + n ≡ n
 zero_on n = omega arith
 
@@ -133,19 +149,20 @@ module _ {S P : Type 0} (tells : S → StreamLog) (stretch : S → S → Type 0)
       → TookFront tells stretch rules s [] s
   front_none s whole told = record {
     in_order = WritesInOrder-none s;
-    grows = WriteLogGrows-none s.log.writes;
-    not_flushed = refl;
-    capacity = le_refl _;
-    kind = refl;
-    claims = refl;
-    whole = whole;
-    went = record { calls = none s.inner; told_before = told; told_after = told; noted = refl };
+    keeps = record {
+      grows = WriteLogGrows-none s.log.writes;
+      not_flushed = refl;
+      capacity = le_refl _;
+      kind = refl;
+      claims = refl;
+      whole = whole;
+      went = record { calls = none s.inner; told_before = told; told_after = told; noted = refl };
+    };
   }
 
-  front_joins : (s m t : Buffered S P) (a b : List ℕ) → TookFront tells stretch rules s a m
-      → TookFront tells stretch rules m b t → TookFront tells stretch rules s (a ++ b) t
-  front_joins s m t a b p q = record {
-    in_order = WritesInOrder-joins s m t a b p.in_order q.in_order;
+  keeps_joins : (s m t : Buffered S P) → WriterKeeps tells stretch rules s m → WriterKeeps tells stretch rules m t
+      → WriterKeeps tells stretch rules s t
+  keeps_joins s m t p q = record {
     grows = WriteLogGrows-joins s.log.writes m.log.writes t.log.writes p.grows q.grows;
     not_flushed = q.not_flushed ∙ p.not_flushed;
     capacity = le_trans p.capacity q.capacity;
@@ -160,20 +177,19 @@ module _ {S P : Type 0} (tells : S → StreamLog) (stretch : S → S → Type 0)
     };
   }
 
+  front_joins : (s m t : Buffered S P) (a b : List ℕ) → TookFront tells stretch rules s a m
+      → TookFront tells stretch rules m b t → TookFront tells stretch rules s (a ++ b) t
+  front_joins s m t a b p q = record {
+    in_order = WritesInOrder-joins s m t a b p.in_order q.in_order;
+    keeps = keeps_joins s m t p.keeps q.keeps;
+  }
+
   front_of : (s : Buffered S P) (bs : List ℕ) (answer : Result ℕ Error) (t : Buffered S P)
       → OneWrite tells stretch rules s bs answer t → TookFront tells stretch rules s (portion bs answer) t
-  front_of s bs answer t w =
-      let keeps = writes_keep rules s bs answer t w.steps in
-      record {
-        in_order = keeps.in_order;
-        grows = keeps.grows;
-        not_flushed = keeps.flushed;
-        capacity = keeps.capacity;
-        kind = kind_stays rules s bs answer t w.steps;
-        claims = claims_stay rules s bs answer t w.steps;
-        whole = w.whole.1;
-        went = w.went;
-      }
+  front_of s bs answer t w = record {
+    in_order = (writes_keep rules s bs answer t w.steps).in_order;
+    keeps = writer_keeps tells stretch rules s bs answer t w.whole.1 w.steps w.went;
+  }
 
   pub turned_none : (s : Buffered S P) (bs : List ℕ) → IsBlock s.block → s.log ≡ tells s.inner
       → Turned tells stretch rules s bs 0 0 s
@@ -303,8 +319,8 @@ module _ {S P : Type 0} (tells : S → StreamLog) (stretch : S → S → Type 0)
   all_beginning answer w = record { count = w.count; within = w.within; in_order = w.front.in_order }
 
   pub all_whole : (answer : Result (Unit {0}) Error) → WritesAll tells stretch rules s bs answer t → IsBlock t.block
-  all_whole answer w = w.front.whole
+  all_whole answer w = w.front.keeps.whole
 
   pub all_went : (answer : Result (Unit {0}) Error) → WritesAll tells stretch rules s bs answer t
       → InnerWent tells stretch s t
-  all_went answer w = w.front.went
+  all_went answer w = w.front.keeps.went

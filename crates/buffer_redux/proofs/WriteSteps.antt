@@ -1,16 +1,16 @@
 -- What each step of a write keeps.
-use Rattle.std.proofs.Common.{◌≡◌, ℕ, ◌≤◌, List, [], ◌∷◌, ◌++◌, length, take, drop, Result, Ok, Err, sym, ap, ◌∙◌, arith, inl, inr, append-nil, append_assoc, length-drop, subst}
+use Rattle.std.proofs.Common.{◌≡◌, ℕ, ◌≤◌, List, [], ◌∷◌, ◌++◌, length, take, drop, take_all, Result, Ok, Err, refl, sym, ap, ◌∙◌, arith, inl, inr, append-nil, append_assoc, length-drop, subst}
 use Rattle.std.proofs.lemmas.Bool.{cases_lt}
-use Rattle.std.proofs.lemmas.List.{nil_from_length, take-append-drop}
+use Rattle.std.proofs.lemmas.List.{drop_all, nil_from_length, take-append-drop}
 use Rattle.std.specs.declared.io.Error.{Error}
-use Rattle.redux_buffer.specs.Block.{Block, usable}
+use Rattle.redux_buffer.specs.Block.{Block, IsBlock, usable}
 use Rattle.redux_tell.specs.GoesOn.{GoesOn}
 use Rattle.redux_tell.specs.LogGrows.{WriteLogGrows, WriteLogGrows-none, WriteLogGrows-joins, WriteLogGrows-write}
 use Rattle.redux_tell.specs.StreamLog.{StreamLog, portion}
 use Rattle.redux_buffer.specs.Transfer.{Sends}
 use Rattle.redux_policy.specs.Policy.{WriteRules}
-use Rattle.buffer_redux.specs.Buffered.{Buffered, with_policy}
-use Rattle.buffer_redux.specs.BufWriter.{FlushesAmount, TakesIn, CopiesIn, Prepared, Finished, WritesInOrder}
+use Rattle.buffer_redux.specs.Buffered.{Buffered, InnerWent, with_policy}
+use Rattle.buffer_redux.specs.BufWriter.{FlushesAmount, TakesIn, CopiesIn, Prepared, Finished, WritesInOrder, WasSent, WasFlushed}
 use Rattle.buffer_redux.specs.WriterLaws.{flush_ways, ways_in, WritesInOrder-joins}
 
 -- sending lets the log go on
@@ -65,6 +65,60 @@ module _ {S P : Type 0} where
     equal =
         ap (λ l. take f.count s.block.bytes ++ l) f.sent.dropped.bytes
         ∙ take-append-drop f.count s.block.bytes ∙ sym (append-nil s.block.bytes);
+  }
+
+  -- what a send and a failed flush promise, of their sending
+  pub was_sent : (tells : S → StreamLog) (stretch : S → S → Type 0) (s t : Buffered S P)
+      (answer : Result (Unit {0}) Error) → Sends (length s.block.bytes) s.block s.log answer t.block t.log
+      → t.policy ≡ s.policy → IsBlock t.block → InnerWent tells stretch s t → WasSent tells stretch s answer t
+  was_sent tells stretch s t (Ok _) f policy whole went =
+      let all : length s.block.bytes ≤ f.count = omega (arith, f.whole) in
+      record {
+        sends = f;
+        in_order = WritesInOrder-sends s t (length s.block.bytes) (Ok tt) f;
+        ok = record {
+          empty = f.sent.dropped.bytes ∙ drop_all f.count s.block.bytes all;
+          received = f.sent.received ∙ ap (λ l. s.log.writes.received ++ l) (take_all f.count s.block.bytes all);
+          met = record { interrupts = f.interrupts; only = f.ok };
+        };
+        caused = tt;
+        not_flushed = f.sent.flushed;
+        policy = policy;
+        capacity = f.sent.dropped.capacity;
+        whole = whole;
+        went = went;
+      }
+  was_sent tells stretch s t (Err e) f policy whole went = record {
+    sends = f;
+    in_order = WritesInOrder-sends s t (length s.block.bytes) (Err e) f;
+    ok = tt;
+    caused = record { interrupts = f.interrupts; cause = f.failed.cause };
+    not_flushed = f.sent.flushed;
+    policy = policy;
+    capacity = f.sent.dropped.capacity;
+    whole = whole;
+    went = went;
+  }
+
+  pub not_sent : (tells : S → StreamLog) (stretch : S → S → Type 0) (s t : Buffered S P) (e : Error)
+      → WasSent tells stretch s (Err e) t → WasFlushed tells stretch s (Err e) t
+  not_sent tells stretch s t e sent = record {
+    steps = record {
+      policy = sent.policy;
+      sent_log = t.log;
+      sending = Err e;
+      sends = sent.sends;
+      ended = (refl, refl);
+    };
+    in_order = sent.in_order;
+    ok = tt;
+    caused = sent.caused;
+    not_flushed = sent.not_flushed;
+    grows = sends_grow (length s.block.bytes) _ _ _ _ (Err e) sent.sends;
+    capacity = sent.capacity;
+    kind = sent.sends.sent.dropped.kind;
+    whole = sent.whole;
+    went = sent.went;
   }
 
   -- what every step of a write keeps

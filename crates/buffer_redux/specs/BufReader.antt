@@ -8,7 +8,7 @@ use Rattle.redux_tell.specs.StreamLog.{after_read}
 use Rattle.redux_tell.specs.GivesRemaining.{GivesRemaining}
 use Rattle.redux_policy.specs.declared.DoRead.{DoRead}
 use Rattle.redux_policy.specs.Policy.{ReadRules, BeforeRead, AfterConsume, no_read, read_now}
-use Rattle.buffer_redux.specs.Buffered.{Buffered}
+use Rattle.buffer_redux.specs.Buffered.{Buffered, GoesPast, StaysInside, GoesDirect}
 use Rattle.buffer_redux.specs.Fill.{Turns, Ordered, Declined, Filled}
 use Rattle.buffer_redux.specs.Sparing.{SparesClaimed}
 
@@ -132,6 +132,20 @@ pub record Fills {S P A : Type 0} (rules : ReadRules P) (s : Buffered S P) (answ
 abbrev pub InnerGives : {S P : Type 0} → (S → Option (List ℕ)) → Buffered S P → Buffered S P → Type 0
 InnerGives remaining s t = GivesRemaining (remaining s.inner) s.log.reads (remaining t.inner) t.log.reads
 
+-- what each call keeps that hands bytes out: of the bytes known inside just those given are gone, and the log only goes on;
+-- the capacity doesn't fall, and the kind and the policy's claims stay; what the policy claims to spare is spared; and no
+-- call of its own is noted
+pub record ReaderKeeps {S P : Type 0} (remaining : S → Option (List ℕ)) (rules : ReadRules P) (s t : Buffered S P)
+    : Type 0 where
+  pub known : InnerGives remaining s t
+  pub grows : ReadLogGrows s.log.reads t.log.reads
+  pub capacity : s.block.capacity ≤ t.block.capacity
+  pub kind : t.block.kind ≡ s.block.kind
+  pub claims : rules.claims t.policy ≡ rules.claims s.policy
+  pub sparing : SparesClaimed rules s t
+  pub whole : IsBlock t.block
+  pub noted : t.own_calls ≡ s.own_calls
+
 -- what any calls do, one after another, that hand out these bytes and make no seek
 pub record ReadsAlong {S P : Type 0} (remaining : S → Option (List ℕ)) (rules : ReadRules P)
     (s : Buffered S P) (handed : List ℕ) (t : Buffered S P) : Type 0 where
@@ -167,3 +181,11 @@ pub record ReadsBuffered {S P : Type 0} (rules : ReadRules P)
   pub fills : Fills rules s answer filled
   pub handed : MatchResult answer
       (λ n. (n ≡ min room (length filled.block.bytes)) × ReaderConsumes rules n filled t) (λ _. t ≡ filled)
+
+-- what `read(out)` does, which left the slice as out': past the buffer one ask for the whole slice, or a fill and a copy,
+-- which leaves what stands behind its bytes
+pub record Reads {S P : Type 0} (rules : ReadRules P) (s : Buffered S P) (out : List ℕ) (answer : Result ℕ Error)
+    (out' : List ℕ) (t : Buffered S P) : Type 0 where
+  pub direct : GoesPast s.block (length out) → GoesDirect after_read s out' answer t
+  pub buffered : StaysInside s.block (length out) → ReadsBuffered rules s (length out) answer t
+  pub rest : StaysInside s.block (length out) → LeavesRest out answer out'

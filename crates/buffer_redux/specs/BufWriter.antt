@@ -3,6 +3,7 @@ use Rattle.std.specs.Prelude.{◌≡◌, ℕ, ◌+◌, ◌-◌, ◌<◌, ◌≤�
 use Rattle.std.specs.declared.io.Error.{Error}
 use Rattle.std.specs.declared.io.traits.SeekFrom.{SeekFrom}
 use Rattle.redux_buffer.specs.Block.{Block, IsBlock, Extends, MakesRoom, usable}
+use Rattle.redux_tell.specs.LogGrows.{WriteLogGrows}
 use Rattle.redux_tell.specs.StreamLog.{StreamLog, WriteLog, SeekCall, Readies, SeekTells, portion, after_write, after_flush}
 use Rattle.redux_tell.specs.Faults.{OnlyInterrupted, MetInterrupts, SendErrorCaused}
 use Rattle.redux_buffer.specs.Transfer.{DoesNothing, Sends}
@@ -151,12 +152,37 @@ pub record SteadyWrite {S P : Type 0} (s : Buffered S P) (incoming : ℕ) (answe
 abbrev pub WritesSteadily : {S P : Type 0} → WriteRules P → Buffered S P → ℕ → Result ℕ Error → Buffered S P → Type 0
 WritesSteadily rules s incoming answer t = (rules.claims s.policy).steady ≡ true → SteadyWrite s incoming answer t
 
+-- what each write keeps: the log only goes on, and nothing is flushed; the capacity doesn't fall, and the kind and the
+-- policy's claims stay; the inner writer went a stretch of calls, and no call of its own is noted
+pub record WriterKeeps {S P : Type 0} (tells : S → StreamLog) (stretch : S → S → Type 0) (rules : WriteRules P)
+    (s t : Buffered S P) : Type 0 where
+  pub grows : WriteLogGrows s.log.writes t.log.writes
+  pub not_flushed : t.log.writes.flushed ≡ s.log.writes.flushed
+  pub capacity : s.block.capacity ≤ t.block.capacity
+  pub kind : t.block.kind ≡ s.block.kind
+  pub claims : rules.claims t.policy ≡ rules.claims s.policy
+  pub whole : IsBlock t.block
+  pub went : InnerWent tells stretch s t
+
 -- what an Ok `send()` has done: nothing is buffered, the inner writer received what was, and nothing went wrong but that
 -- writes were interrupted
 pub record IsSent {S P : Type 0} (s t : Buffered S P) : Type 0 where
   pub empty : t.block.bytes ≡ []
   pub received : t.log.writes.received ≡ s.log.writes.received ++ s.block.bytes
   pub met : MetInterrupts s.log.writes t.log.writes
+
+-- all that is promised of a send with this answer
+pub record WasSent {S P : Type 0} (tells : S → StreamLog) (stretch : S → S → Type 0)
+    (s : Buffered S P) (answer : Result (Unit {0}) Error) (t : Buffered S P) : Type 0 where
+  pub sends : Sends (length s.block.bytes) s.block s.log answer t.block t.log
+  pub in_order : WritesInOrder s [] t
+  pub ok : OnOk answer (IsSent s t)
+  pub caused : IfErr answer (λ e. SendErrorCaused s.log.writes t.log.writes e)
+  pub not_flushed : t.log.writes.flushed ≡ s.log.writes.flushed
+  pub policy : t.policy ≡ s.policy
+  pub capacity : t.block.capacity ≡ s.block.capacity
+  pub whole : IsBlock t.block
+  pub went : InnerWent tells stretch s t
 
 -- what `flush()` does: all bytes are sent, and then the inner writer is flushed
 pub record Flushes {S P : Type 0} (s : Buffered S P) (answer : Result (Unit {0}) Error)
@@ -184,6 +210,11 @@ pub record WasFlushed {S P : Type 0} (tells : S → StreamLog) (stretch : S → 
   pub in_order : WritesInOrder s [] t
   pub ok : OnOk answer (IsFlushed s t)
   pub caused : IfErr answer (λ e. SendErrorCaused s.log.writes t.log.writes e)
+  pub not_flushed : OnErr answer (t.log.writes.flushed ≡ s.log.writes.flushed)
+  pub grows : WriteLogGrows s.log.writes t.log.writes
+  pub capacity : t.block.capacity ≡ s.block.capacity
+  pub kind : t.block.kind ≡ s.block.kind
+  pub whole : IsBlock t.block
   pub went : InnerWent tells stretch s t
 
 -- one seek of the inner writer; neither the policy nor the buffer was touched

@@ -4,29 +4,19 @@ use Rattle.std.specs.Io.{ReadsAtMost}
 use Rattle.std.specs.declared.io.Error.{Error}
 use Rattle.std.specs.declared.io.ErrorKind.TheVariants.{UnexpectedEof}
 use Rattle.redux_buffer.specs.Block.{IsBlock}
-use Rattle.redux_tell.specs.LogGrows.{ReadLogGrows}
 use Rattle.redux_tell.specs.StreamLog.{portion}
 use Rattle.redux_policy.specs.Policy.{ReadRules}
 use Rattle.buffer_redux.specs.AllBytes.{GoesBy, EndsBy, GaveUp}
 use Rattle.buffer_redux.specs.Buffered.{Buffered}
-use Rattle.buffer_redux.specs.BufReader.{ReadsInOrder, ReadErrorCaused, EmptyReadCaused, RanDry, InnerGives}
+use Rattle.buffer_redux.specs.BufReader.{ReadsInOrder, ReaderKeeps, ReadErrorCaused, EmptyReadCaused, RanDry}
 use Rattle.buffer_redux.specs.PlayReader.{ReadSteps}
 use Rattle.buffer_redux.specs.ReaderLaws.{WantsBytes}
-use Rattle.buffer_redux.specs.Sparing.{SparesClaimed}
 
--- just these bytes were handed out, and none was lost or changed place. The capacity didn't fall, the kind and the policy's
--- claims stayed, what the policy claims to spare was spared, and the reader noted no call of its own
+-- just these bytes were handed out, and none was lost or changed place
 pub record HandedFront {S P : Type 0} (remaining : S → Option (List ℕ)) (rules : ReadRules P)
     (s : Buffered S P) (handed : List ℕ) (t : Buffered S P) : Type 0 where
   pub in_order : ReadsInOrder s handed t
-  pub known : InnerGives remaining s t
-  pub grows : ReadLogGrows s.log.reads t.log.reads
-  pub capacity : s.block.capacity ≤ t.block.capacity
-  pub kind : t.block.kind ≡ s.block.kind
-  pub claims : rules.claims t.policy ≡ rules.claims s.policy
-  pub sparing : SparesClaimed rules s t
-  pub whole : IsBlock t.block
-  pub noted : t.own_calls ≡ s.own_calls
+  pub keeps : ReaderKeeps remaining rules s t
 
 -- one read, which left the slice so, with all that `read` promises
 pub record OneRead {S P : Type 0} (remaining : S → Option (List ℕ)) (rules : ReadRules P)

@@ -1,15 +1,13 @@
 -- The parts of a read through the buffer: one question of the policy, the fill that goes on from it, and what is handed out.
-use Rattle.std.specs.Prelude.{◌≡◌, ℕ, ◌≤◌, List, ◌++◌, length, take, drop, min, Result, Ok, Err, Option}
+use Rattle.std.specs.Prelude.{◌≡◌, ℕ, List, ◌++◌, length, take, drop, min, Result, Ok, Err, Option}
 use Rattle.std.specs.Io.KnownBytes.{IsAtEnd}
 use Rattle.std.specs.declared.io.Error.{Error}
 use Rattle.redux_buffer.specs.Block.{IsBlock}
-use Rattle.redux_tell.specs.LogGrows.{ReadLogGrows}
 use Rattle.redux_policy.specs.declared.DoRead.{DoRead}
 use Rattle.redux_policy.specs.Policy.{ReadRules, BeforeRead}
 use Rattle.buffer_redux.specs.Buffered.{Buffered}
 use Rattle.buffer_redux.specs.Fill.{Filled}
-use Rattle.buffer_redux.specs.BufReader.{ReadsInOrder, RanDry, InnerGives, ReaderConsumes}
-use Rattle.buffer_redux.specs.Sparing.{SparesClaimed}
+use Rattle.buffer_redux.specs.BufReader.{ReadsInOrder, ReaderKeeps, RanDry, InnerGives, ReaderConsumes}
 
 -- the policy was asked and answered so, and nothing else was done
 pub record AskedRead {S P : Type 0} (rules : ReadRules P) (answer : Result DoRead Error) (s m : Buffered S P)
@@ -30,25 +28,21 @@ pub record FillDone {S P A : Type 0} (remaining : S → Option (List ℕ)) (rule
   pub whole : IsBlock t.block
 
 -- the first n bytes that are buffered were handed out, as many as fit
-pub record HandOut {S P : Type 0} (rules : ReadRules P) (m : Buffered S P) (out : List ℕ) (n : ℕ)
-    (out' : List ℕ) (t : Buffered S P) : Type 0 where
+pub record HandOut {S P : Type 0} (remaining : S → Option (List ℕ)) (rules : ReadRules P) (m : Buffered S P) (out : List ℕ)
+    (n : ℕ) (out' : List ℕ) (t : Buffered S P) : Type 0 where
   pub count : n ≡ min (length m.block.bytes) (length out)
   pub copied : out' ≡ take n m.block.bytes ++ drop n out
   pub in_order : ReadsInOrder m (take n m.block.bytes) t
   pub inner : t.inner ≡ m.inner
-  pub grows : ReadLogGrows m.log.reads t.log.reads
   pub consumed : ReaderConsumes rules n m t
-  pub noted : t.own_calls ≡ m.own_calls
-  pub sparing : SparesClaimed rules m t
-  pub capacity : m.block.capacity ≤ t.block.capacity
-  pub whole : IsBlock t.block
+  pub keeps : ReaderKeeps remaining rules m t
 
 -- a fill, and then bytes were handed out unless it failed
 pub record ReadThrough {S P : Type 0} (remaining : S → Option (List ℕ)) (rules : ReadRules P)
     (s : Buffered S P) (out : List ℕ) (n : ℕ) (out' : List ℕ) (t : Buffered S P) : Type 0 where
   pub filled : Buffered S P
   pub fill : FillDone remaining rules s (Ok n) filled
-  pub hands : HandOut rules filled out n out' t
+  pub hands : HandOut remaining rules filled out n out' t
 
 pub record ReadFillFailed {S P : Type 0} (remaining : S → Option (List ℕ)) (rules : ReadRules P)
     (s : Buffered S P) (out : List ℕ) (e : Error) (out' : List ℕ) (t : Buffered S P) : Type 0 where

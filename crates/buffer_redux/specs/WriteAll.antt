@@ -3,13 +3,12 @@ use Rattle.std.specs.Prelude.{◌≡◌, ℕ, ◌+◌, ◌<◌, ◌≤◌, ◌�
 use Rattle.std.specs.declared.io.Error.{Error}
 use Rattle.std.specs.declared.io.ErrorKind.TheVariants.{WriteZero}
 use Rattle.redux_buffer.specs.Block.{IsBlock}
-use Rattle.redux_tell.specs.LogGrows.{WriteLogGrows}
 use Rattle.redux_tell.specs.StreamLog.{StreamLog}
 use Rattle.redux_policy.specs.declared.FlushAmt.{FlushAmt}
 use Rattle.redux_policy.specs.Policy.{WriteRules, BeforeWrite}
 use Rattle.buffer_redux.specs.AllBytes.{GoesBy, EndsBy, GaveUp}
 use Rattle.buffer_redux.specs.Buffered.{Buffered, InnerWent}
-use Rattle.buffer_redux.specs.BufWriter.{WritesInOrder, Writes, WriteErrorCaused, EmptyWriteCaused, WritesSteadily}
+use Rattle.buffer_redux.specs.BufWriter.{WritesInOrder, Writes, WriterKeeps, WriteErrorCaused, EmptyWriteCaused, WritesSteadily}
 
 -- a write of the bytes behind the first `before` was gone on from; the first `count` are taken in now
 pub record WriteTurn {S P : Type 0} (rules : WriteRules P) (bs : List ℕ) (before count : ℕ) (s t : Buffered S P)
@@ -27,18 +26,11 @@ WriteTurns rules bs zero count s t = (count ≡ 0) × (s ≡ t)
 WriteTurns {S} {P} rules bs (suc k) count s t =
     (before : ℕ) × (m : Buffered S P) × WriteTurns rules bs k before s m × WriteTurn rules bs before count m t
 
--- just these bytes were taken in, and none was lost or changed place. Nothing was flushed, the capacity didn't fall, and
--- the kind and the policy's claims stayed
+-- just these bytes were taken in, and none was lost or changed place
 pub record TookFront {S P : Type 0} (tells : S → StreamLog) (stretch : S → S → Type 0) (rules : WriteRules P)
     (s : Buffered S P) (front : List ℕ) (t : Buffered S P) : Type 0 where
   pub in_order : WritesInOrder s front t
-  pub grows : WriteLogGrows s.log.writes t.log.writes
-  pub not_flushed : t.log.writes.flushed ≡ s.log.writes.flushed
-  pub capacity : s.block.capacity ≤ t.block.capacity
-  pub kind : t.block.kind ≡ s.block.kind
-  pub claims : rules.claims t.policy ≡ rules.claims s.policy
-  pub whole : IsBlock t.block
-  pub went : InnerWent tells stretch s t
+  pub keeps : WriterKeeps tells stretch rules s t
 
 -- some first bytes were taken in
 pub record TookBeginning {S P : Type 0} (bs : List ℕ) (s t : Buffered S P) : Type 0 where

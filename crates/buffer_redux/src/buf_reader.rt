@@ -8,15 +8,15 @@ ghost use Rattle.std.specs.IoError.{error_kind};
 ghost use Rattle.redux_buffer.specs.Block.{Plain, Ring, IsBlock, LeavesBytes, MakesRoom, MovesToFront, Reserves, capacity_for, round, usable};
 ghost use Rattle.redux_buffer.specs.GrowError.{FitsWithin};
 ghost use Rattle.redux_tell.specs.LogGrows.{ReadLogGrows};
-ghost use Rattle.redux_tell.specs.StreamLog.{portion, after_read};
+ghost use Rattle.redux_tell.specs.StreamLog.{portion};
 ghost use Rattle.redux_buffer.specs.Transfer.{ReadsFrom};
 ghost use Rattle.buffer_redux.specs.contracts.buf_reader.BufReader.{the_row};
-ghost use Rattle.buffer_redux.specs.Buffered.{over_buffer, with_block, with_inner, with_policy, Makes, GoesPast, StaysInside, GoesDirect};
-ghost use Rattle.buffer_redux.specs.BufReader.{ReadsInOrder, ReadErrorCaused, EmptyReadCaused, RanDry, InnerGives, FillBuf, ReaderConsumes, ReadsBuffered, LeavesRest};
+ghost use Rattle.buffer_redux.specs.Buffered.{over_buffer, with_block, with_inner, with_policy, Makes};
+ghost use Rattle.buffer_redux.specs.BufReader.{ReadsInOrder, ReadErrorCaused, EmptyReadCaused, RanDry, InnerGives, FillBuf, ReaderConsumes, ReaderKeeps, Reads};
 ghost use Rattle.buffer_redux.specs.ReadAll.{HandedBeginning, ReadsExactly};
 ghost use Rattle.buffer_redux.specs.ReaderLaws.{WantsBytes};
 ghost use Rattle.buffer_redux.specs.Remaining.{reader_remaining};
-ghost use Rattle.buffer_redux.specs.Sparing.{Spared, SparesClaimed};
+ghost use Rattle.buffer_redux.specs.Sparing.{Spared};
 
 use crate::errors::MakeError;
 use redux_buffer::laws::block_law;
@@ -285,24 +285,13 @@ impl<R: TellRead, P: ReaderPolicy> Read for BufReader<R, P> {
         ensures bound { ReadsAtMost result out.new }
         ensures bytes { ReadConsumes (reader_remaining R.remaining P.rules self.old)
             (reader_remaining R.remaining P.rules self.new) result out.new }
-        ensures known { InnerGives R.remaining self.old self.new }
         ensures in_order { ReadsInOrder self.old (portion out.new result) self.new }
-        ensures grows { ReadLogGrows self.old.log.reads self.new.log.reads }
         ensures caused { ReadErrorCaused P.rules self.old result self.new }
         ensures empty { result ≡ Ok 0 → 0 < length out.old → EmptyReadCaused P.rules self.old self.new }
         ensures ran_dry { result ≡ Ok 0 → 0 < length out.old
             → WantsBytes (P.rules.claims self.old.policy) → RanDry self.old self.new }
-        ensures capacity { self.old.block.capacity ≤ self.new.block.capacity }
-        ensures kind { self.new.block.kind ≡ self.old.block.kind }
-        ensures claims { P.rules.claims self.new.policy ≡ P.rules.claims self.old.policy }
-        ensures sparing { SparesClaimed P.rules self.old self.new }
-        ensures whole { IsBlock self.new.block }
-        ensures direct { GoesPast self.old.block (length out.old)
-            → GoesDirect after_read self.old out.new result self.new }
-        ensures buffered { StaysInside self.old.block (length out.old)
-            → ReadsBuffered P.rules self.old (length out.old) result self.new }
-        ensures rest { StaysInside self.old.block (length out.old) → LeavesRest out.old result out.new }
-        ensures noted { self.new.own_calls ≡ self.old.own_calls }
+        ensures steps { Reads P.rules self.old out.old result out.new self.new }
+        ensures keeps { ReaderKeeps R.remaining P.rules self.old self.new }
     {
         if self.buf.is_empty() && out.len() >= self.buf.capacity() {
             return self.inner.read_told(out);
@@ -368,12 +357,8 @@ impl<R: TellRead, P: ReaderPolicy> BufRead for BufReader<R, P> {
             (reader_remaining R.remaining P.rules self.new) (Some (length self.old.block.bytes)) amount }
         ensures in_order { ReadsInOrder self.old (take amount self.old.block.bytes) self.new }
         ensures inner { self.new.inner ≡ self.old.inner }
-        ensures grows { ReadLogGrows self.old.log.reads self.new.log.reads }
         ensures consumed { ReaderConsumes P.rules amount self.old self.new }
-        ensures noted { self.new.own_calls ≡ self.old.own_calls }
-        ensures sparing { SparesClaimed P.rules self.old self.new }
-        ensures capacity { self.old.block.capacity ≤ self.new.block.capacity }
-        ensures whole { IsBlock self.new.block }
+        ensures keeps { ReaderKeeps R.remaining P.rules self.old self.new }
     {
         let amt = amount.min(self.buf.len());
         self.buf.consume(amt);

@@ -8,15 +8,13 @@ ghost use Rattle.std.specs.IoError.{error_kind};
 ghost use Rattle.redux_buffer.specs.Block.{Plain, Ring, IsBlock, Reserves, MakesRoom, MovesToFront};
 ghost use Rattle.redux_buffer.specs.Block.{capacity_for, round, usable};
 ghost use Rattle.redux_buffer.specs.GrowError.{FitsWithin};
-ghost use Rattle.redux_buffer.specs.Transfer.{Sends};
-ghost use Rattle.redux_tell.specs.Faults.{SendErrorCaused};
 ghost use Rattle.redux_tell.specs.LogGrows.{WriteLogGrows};
 ghost use Rattle.redux_tell.specs.StreamLog.{portion};
 ghost use Rattle.buffer_redux.specs.contracts.buf_writer.BufWriter.{the_row};
 ghost use Rattle.buffer_redux.specs.Buffered.{over_buffer, with_block, with_inner, with_policy, InnerWent, Makes};
 ghost use Rattle.buffer_redux.specs.BufWriter.{writer_contents, FlushesAmount, TakesIn, Finished, Writes};
-ghost use Rattle.buffer_redux.specs.BufWriter.{WritesSteadily, WritesInOrder, WriteErrorCaused, EmptyWriteCaused};
-ghost use Rattle.buffer_redux.specs.BufWriter.{Flushes, IsFlushed, IsSent, SeeksFlushed, IsSought, SeekErrorCaused};
+ghost use Rattle.buffer_redux.specs.BufWriter.{WritesSteadily, WritesInOrder, WriterKeeps, WriteErrorCaused, EmptyWriteCaused};
+ghost use Rattle.buffer_redux.specs.BufWriter.{WasSent, WasFlushed, SeeksFlushed, IsSought, SeekErrorCaused};
 ghost use Rattle.buffer_redux.specs.WriteAll.{TookBeginning, WritesAll};
 
 use crate::errors::MakeError;
@@ -205,16 +203,7 @@ impl<W: TellWrite, P> BufWriter<W, P> {
     ///
     /// The original has no such call: it sends all only where it flushes too.
     pub fn send(&mut self) -> io::Result<()>
-        ensures sends { Sends (length self.old.block.bytes) self.old.block self.old.log
-            result self.new.block self.new.log }
-        ensures in_order { WritesInOrder self.old [] self.new }
-        ensures ok { OnOk result (IsSent self.old self.new) }
-        ensures not_flushed { self.new.log.writes.flushed ≡ self.old.log.writes.flushed }
-        ensures caused { IfErr result (λ e. SendErrorCaused self.old.log.writes self.new.log.writes e) }
-        ensures policy { self.new.policy ≡ self.old.policy }
-        ensures capacity { self.new.block.capacity ≡ self.old.block.capacity }
-        ensures whole { IsBlock self.new.block }
-        ensures stretch { InnerWent W.log W.stretch self.old self.new }
+        ensures sent { WasSent W.log W.stretch self.old result self.new }
     {
         self.buf.write_all(&mut self.inner)
     }
@@ -270,18 +259,12 @@ impl<W: TellWrite, P: WriterPolicy> Write for BufWriter<W, P> {
         ensures bound { WritesAtMost result bytes.now }
         ensures bytes { WriteAppends (writer_contents self.old) (writer_contents self.new) result bytes.now }
         ensures in_order { WritesInOrder self.old (portion bytes.now result) self.new }
-        ensures grows { WriteLogGrows self.old.log.writes self.new.log.writes }
-        ensures not_flushed { self.new.log.writes.flushed ≡ self.old.log.writes.flushed }
         ensures caused { WriteErrorCaused P.rules self.old bytes.now result self.new }
         ensures empty { result ≡ Ok 0 → 0 < length bytes.now
             → EmptyWriteCaused P.rules self.old bytes.now self.new }
-        ensures capacity { self.old.block.capacity ≤ self.new.block.capacity }
-        ensures kind { self.new.block.kind ≡ self.old.block.kind }
-        ensures claims { P.rules.claims self.new.policy ≡ P.rules.claims self.old.policy }
-        ensures whole { IsBlock self.new.block }
         ensures steadily { WritesSteadily P.rules self.old (length bytes.now) result self.new }
         ensures steps { Writes P.rules self.old bytes.now result self.new }
-        ensures stretch { InnerWent W.log W.stretch self.old self.new }
+        ensures keeps { WriterKeeps W.log W.stretch P.rules self.old self.new }
     {
         let FlushAmt(first) = self.policy.before_write(&mut self.buf, bytes.len())?;
         if first > 0 {
@@ -331,16 +314,7 @@ impl<W: TellWrite, P: WriterPolicy> Write for BufWriter<W, P> {
 
     fn flush(&mut self) -> io::Result<()>
         ensures bytes { Keeps (writer_contents self.old) (writer_contents self.new) }
-        ensures in_order { WritesInOrder self.old [] self.new }
-        ensures grows { WriteLogGrows self.old.log.writes self.new.log.writes }
-        ensures ok { OnOk result (IsFlushed self.old self.new) }
-        ensures not_flushed { OnErr result (self.new.log.writes.flushed ≡ self.old.log.writes.flushed) }
-        ensures caused { IfErr result (λ e. SendErrorCaused self.old.log.writes self.new.log.writes e) }
-        ensures capacity { self.new.block.capacity ≡ self.old.block.capacity }
-        ensures kind { self.new.block.kind ≡ self.old.block.kind }
-        ensures whole { IsBlock self.new.block }
-        ensures steps { Flushes self.old result self.new }
-        ensures stretch { InnerWent W.log W.stretch self.old self.new }
+        ensures flushed { WasFlushed W.log W.stretch self.old result self.new }
     {
         self.send()?;
         self.inner.flush_told()

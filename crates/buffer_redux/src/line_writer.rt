@@ -6,13 +6,10 @@ ghost use Rattle.std.specs.Io.KnownBytes.{Appends, Keeps, WriteAppends};
 ghost use Rattle.std.specs.IoError.{error_kind};
 ghost use Rattle.redux_buffer.specs.Block.{Plain, Ring, IsBlock, Reserves, capacity_for, round, usable};
 ghost use Rattle.redux_buffer.specs.GrowError.{FitsWithin};
-ghost use Rattle.redux_buffer.specs.Transfer.{Sends};
-ghost use Rattle.redux_tell.specs.Faults.{SendErrorCaused};
-ghost use Rattle.redux_tell.specs.LogGrows.{WriteLogGrows};
 ghost use Rattle.redux_tell.specs.StreamLog.{portion};
 ghost use Rattle.buffer_redux.specs.contracts.line_writer.LineWriter.{the_row};
 ghost use Rattle.buffer_redux.specs.Buffered.{over_buffer, with_block, with_inner, InnerWent, Makes};
-ghost use Rattle.buffer_redux.specs.BufWriter.{writer_contents, Writes, WritesSteadily, WritesInOrder, WriteErrorCaused, EmptyWriteCaused, Flushes, IsFlushed, IsSent, WasFlushed};
+ghost use Rattle.buffer_redux.specs.BufWriter.{writer_contents, Writes, WritesSteadily, WritesInOrder, WriterKeeps, WriteErrorCaused, EmptyWriteCaused, WasSent, WasFlushed};
 ghost use Rattle.buffer_redux.specs.LineWriter.{line_rules};
 ghost use Rattle.buffer_redux.specs.Unwrapping.{InnerOfFlushed, SendsOrHandles};
 ghost use Rattle.buffer_redux.specs.WriteAll.{TookBeginning, WritesAll};
@@ -150,16 +147,7 @@ impl<W: TellWrite> LineWriter<W> {
     /// Sends all that is buffered, without a flush of the inner writer. Where that fails, just what the inner writer took is
     /// no longer buffered, so the call can be made again.
     pub fn send(&mut self) -> io::Result<()>
-        ensures sends { Sends (length self.old.block.bytes) self.old.block self.old.log
-            result self.new.block self.new.log }
-        ensures in_order { WritesInOrder self.old [] self.new }
-        ensures ok { OnOk result (IsSent self.old self.new) }
-        ensures not_flushed { self.new.log.writes.flushed ≡ self.old.log.writes.flushed }
-        ensures caused { IfErr result (λ e. SendErrorCaused self.old.log.writes self.new.log.writes e) }
-        ensures policy { self.new.policy ≡ self.old.policy }
-        ensures capacity { self.new.block.capacity ≡ self.old.block.capacity }
-        ensures whole { IsBlock self.new.block }
-        ensures stretch { InnerWent W.log W.stretch self.old self.new }
+        ensures sent { WasSent W.log W.stretch self.old result self.new }
     {
         self.writer.send()
     }
@@ -220,17 +208,12 @@ impl<W: TellWrite> Write for LineWriter<W> {
         ensures bound { WritesAtMost result bytes.now }
         ensures bytes { WriteAppends (writer_contents self.old) (writer_contents self.new) result bytes.now }
         ensures in_order { WritesInOrder self.old (portion bytes.now result) self.new }
-        ensures grows { WriteLogGrows self.old.log.writes self.new.log.writes }
-        ensures not_flushed { self.new.log.writes.flushed ≡ self.old.log.writes.flushed }
         ensures caused { WriteErrorCaused line_rules self.old bytes.now result self.new }
         ensures empty { result ≡ Ok 0 → 0 < length bytes.now
             → EmptyWriteCaused line_rules self.old bytes.now self.new }
-        ensures capacity { self.old.block.capacity ≤ self.new.block.capacity }
-        ensures kind { self.new.block.kind ≡ self.old.block.kind }
-        ensures whole { IsBlock self.new.block }
         ensures steadily { WritesSteadily line_rules self.old (length bytes.now) result self.new }
         ensures steps { Writes line_rules self.old bytes.now result self.new }
-        ensures stretch { InnerWent W.log W.stretch self.old self.new }
+        ensures keeps { WriterKeeps W.log W.stretch line_rules self.old self.new }
     {
         self.writer.write(bytes)
     }
@@ -250,16 +233,7 @@ impl<W: TellWrite> Write for LineWriter<W> {
 
     fn flush(&mut self) -> io::Result<()>
         ensures bytes { Keeps (writer_contents self.old) (writer_contents self.new) }
-        ensures in_order { WritesInOrder self.old [] self.new }
-        ensures grows { WriteLogGrows self.old.log.writes self.new.log.writes }
-        ensures ok { OnOk result (IsFlushed self.old self.new) }
-        ensures not_flushed { OnErr result (self.new.log.writes.flushed ≡ self.old.log.writes.flushed) }
-        ensures caused { IfErr result (λ e. SendErrorCaused self.old.log.writes self.new.log.writes e) }
-        ensures capacity { self.new.block.capacity ≡ self.old.block.capacity }
-        ensures kind { self.new.block.kind ≡ self.old.block.kind }
-        ensures whole { IsBlock self.new.block }
-        ensures steps { Flushes self.old result self.new }
-        ensures stretch { InnerWent W.log W.stretch self.old self.new }
+        ensures flushed { WasFlushed W.log W.stretch self.old result self.new }
     {
         self.writer.flush()
     }

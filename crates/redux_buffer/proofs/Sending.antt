@@ -86,8 +86,8 @@ module _ (k : ℕ) (es : List Error) (len : ℕ) (a b : Block) (log log' log'' :
   }
 
   -- the next write failed
-  pub sends_failed : (amount : ℕ) (e : Error) → k < min amount (length a.bytes) → WritesRetried (take len b.bytes) log' (Err e) log''
-      → Sends amount a log (Err e) b log''
+  pub sends_failed : (amount : ℕ) (e : Error) → k < min amount (length a.bytes)
+      → WritesRetried (take len b.bytes) log' (Err e) log'' → Sends amount a log (Err e) b log''
   sends_failed amount e fewer wrote = record {
     count = k;
     interrupts = es ++ wrote.interrupts;
@@ -108,8 +108,9 @@ module _ (k : ℕ) (es : List Error) (len : ℕ) (a b : Block) (log log' log'' :
   }
 
   -- the next write took nothing of something
-  pub sends_nothing : (amount n : ℕ) (e : Error) → k < min amount (length a.bytes) → n ≡ 0 → 0 < length (take len b.bytes)
-      → error_kind e ≡ WriteZero → WritesRetried (take len b.bytes) log' (Ok n) log'' → Sends amount a log (Err e) b log''
+  pub sends_nothing : (amount n : ℕ) (e : Error) → k < min amount (length a.bytes) → n ≡ 0
+      → 0 < length (take len b.bytes) → error_kind e ≡ WriteZero
+      → WritesRetried (take len b.bytes) log' (Ok n) log'' → Sends amount a log (Err e) b log''
   sends_nothing amount n e fewer none some kind wrote = record {
     count = k;
     interrupts = es ++ wrote.interrupts;

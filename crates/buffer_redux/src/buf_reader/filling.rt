@@ -1,15 +1,13 @@
 //! The parts of a read: filling the buffer, handing bytes out, and reading on until a slice is full.
-ghost use Rattle.std.specs.Prelude.{◌≡◌, ◌<◌, ◌≤◌, ◌++◌, Ok, Err, length, min, take, drop};
+ghost use Rattle.std.specs.Prelude.{◌≡◌, ◌<◌, Ok, Err, length};
 ghost use Rattle.std.specs.Io.{ReadsAtMost};
 ghost use Rattle.std.specs.Io.KnownBytes.{IsAtEnd};
 ghost use Rattle.redux_buffer.specs.Block.{IsBlock, usable};
-ghost use Rattle.redux_tell.specs.LogGrows.{ReadLogGrows};
 ghost use Rattle.buffer_redux.specs.Buffered.{Buffered};
-ghost use Rattle.buffer_redux.specs.BufReader.{InnerGives, RanDry, ReaderConsumes, ReadsInOrder};
+ghost use Rattle.buffer_redux.specs.BufReader.{InnerGives, RanDry};
 ghost use Rattle.buffer_redux.specs.Fill.{Filled};
 ghost use Rattle.buffer_redux.specs.ReadAll.{OneRead, ReadsExactly};
-ghost use Rattle.buffer_redux.specs.ReadInside.{AskedRead, FillDone, ReadsInside};
-ghost use Rattle.buffer_redux.specs.Sparing.{SparesClaimed};
+ghost use Rattle.buffer_redux.specs.ReadInside.{AskedRead, FillDone, HandOut, ReadsInside};
 ghost use Rattle.redux_policy.specs.Policy.{read_now};
 
 use crate::all_bytes::further;
@@ -40,16 +38,7 @@ impl<R: TellRead, P: ReaderPolicy> BufReader<R, P> {
     // Hands out the first bytes that are buffered, as many as fit, and tells the policy how many those were.
     #[inline(always)]
     pub(super) fn hand_out(&mut self, out: &mut [u8]) -> usize
-        ensures count { result ≡ min (length self.old.block.bytes) (length out.old) }
-        ensures copied { out.new ≡ take result self.old.block.bytes ++ drop result out.old }
-        ensures in_order { ReadsInOrder self.old (take result self.old.block.bytes) self.new }
-        ensures inner { self.new.inner ≡ self.old.inner }
-        ensures grows { ReadLogGrows self.old.log.reads self.new.log.reads }
-        ensures consumed { ReaderConsumes P.rules result self.old self.new }
-        ensures noted { self.new.own_calls ≡ self.old.own_calls }
-        ensures sparing { SparesClaimed P.rules self.old self.new }
-        ensures capacity { self.old.block.capacity ≤ self.new.block.capacity }
-        ensures whole { IsBlock self.new.block }
+        ensures hands { HandOut R.remaining P.rules self.old out.old result out.new self.new }
     {
         let n = self.buf.copy_to_slice(out);
         self.policy.after_consume(&mut self.buf, n);

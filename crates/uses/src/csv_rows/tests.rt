@@ -27,7 +27,7 @@ fn fields_of(alloc: Global, rows: &[ByteRecord]) -> Result<Vec<u8>, AllocError> 
 
 #[test]
 fn reads_rows_of_a_file(rt: HostRuntime) -> Result<(), Fail> {
-    let path = "/tmp/khakiplane_reads_rows_of_a_file.csv";
+    let path = "reads_rows_of_a_file.csv";
     fs::write(&rt, path, TEXT)?;
     let rows = rows_in(rt.alloc(), File::open(&rt, path)?);
     fs::remove_file(&rt, path)?;

@@ -34,23 +34,23 @@ returns-in_err-flush-clause-caused g c =
     rw (p.1, p.2) (inl
     (flush_caused copy.reader copy.writer c.requires.source.bytes c.requires.target.bytes copy.ended
     (omega (arith, c.if-buf_len-gt0.false, c.buf_len.ensures.value)) c.flush.new.self _
-    c.in_err-flush.ensures.caused))
+    c.in_err-flush.ensures.flushed.caused))
 
 pub returns-in_err-flush-clause-a_beginning : goal.returns-in_err-flush-clause-a_beginning
 returns-in_err-flush-clause-a_beginning g c =
     let copy = c.in_ok-total.ensures in
     flush_begins copy.reader copy.writer c.requires.source.bytes c.requires.target.bytes copy.moved.0 copy.moved.1 _
-    c.in_err-flush.ensures.in_order
+    c.in_err-flush.ensures.flushed.in_order
 
 pub returns-clause-copied : goal.returns-clause-copied
 returns-clause-copied g c =
     let copy = c.in_ok-total.ensures in
     flush_copied copy.reader copy.writer c.requires.source.bytes c.requires.target.bytes copy.ended
     (omega (arith, c.if-buf_len-gt0.false, c.buf_len.ensures.value)) _ _ copy.total
-    (omega (arith, c.requires.source.capacity)) c.in_ok-flush.ensures.in_order c.in_ok-flush.ensures.ok
+    (omega (arith, c.requires.source.capacity)) c.in_ok-flush.ensures.flushed.in_order c.in_ok-flush.ensures.flushed.ok
 
 pub returns-clause-a_beginning : goal.returns-clause-a_beginning
 returns-clause-a_beginning g c =
     let copy = c.in_ok-total.ensures in
     flush_begins copy.reader copy.writer c.requires.source.bytes c.requires.target.bytes copy.moved.0 copy.moved.1 _
-    c.in_ok-flush.ensures.in_order
+    c.in_ok-flush.ensures.flushed.in_order

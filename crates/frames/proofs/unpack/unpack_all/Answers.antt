@@ -12,7 +12,7 @@ returns-then-is_fault g c =
 pub returns-in_err-flush : goal.returns-in_err-flush
 returns-in_err-flush g c =
     let p = err_from_is_err_and c.from_residual.result c.from_residual.ensures.1 in
-    let f = c.in_err-flush.ensures in
+    let f = c.in_err-flush.ensures.flushed in
     rw (p.1, p.2)
     (flush_failed_after g.R.TellRead.remaining c.args.source.now c.unpack_frames-answer.new.source c.args.target.now
     c.unpack_frames-answer.new.target c.flush.new.self f.in_order f.kind f.capacity c.unpack_frames-answer.result
@@ -20,7 +20,7 @@ returns-in_err-flush g c =
 
 pub returns : goal.returns
 returns g c =
-    let f = c.in_ok-flush.ensures in
+    let f = c.in_ok-flush.ensures.flushed in
     flushed_after g.R.TellRead.remaining c.args.source.now c.unpack_frames-answer.new.source c.args.target.now
     c.unpack_frames-answer.new.target c.flush.new.self f.in_order f.kind f.capacity c.unpack_frames-answer.result
     (sym c.is_fault.ensures ∙ c.if-is_fault.false) c.unpack_frames-answer.ensures

@@ -51,18 +51,8 @@ loop-preserved g c =
           let before = c.loop.invariant.turned s first in
           slice_goes_on g.R.TellRead.remaining g.P.ReaderPolicy.rules s c.loop.out c.loop.counter c.loop.at c.loop.self
           before c.if-at-out.false c.read.new.out (part g c) c.read.result c.read.new.self
-          (one_read _ _ _ _ c.read.new.out _ _ c.read.auto.out before.front.whole r.bound r.direct r.buffered
-          (record {
-            in_order = r.in_order;
-            known = r.known;
-            grows = r.grows;
-            capacity = r.capacity;
-            kind = r.kind;
-            claims = r.claims;
-            sparing = r.sparing;
-            whole = r.whole;
-            noted = r.noted;
-          }) r.caused r.empty r.ran_dry)
+          (one_read _ _ _ _ _ c.read.new.out _ c.read.auto.out before.front.keeps.whole r.bound r.steps r.in_order r.keeps
+          r.caused r.empty r.ran_dry)
           c.in_ok-at-2.field-0 c.in_ok-at-2.ensures;
     }
 
@@ -84,18 +74,8 @@ returns-in_err-at-2 g c =
           let p = err_from_is_err_and c.from_residual-in_err-at-2.result c.from_residual-in_err-at-2.ensures.1 in
           rw (p.1, p.2) (slice_ended g.R.TellRead.remaining g.P.ReaderPolicy.rules s c.loop.out c.loop.counter c.loop.at
           c.loop.self before c.if-at-out.false c.read.new.out length-part c.read.result c.read.new.self
-          (one_read _ _ _ _ c.read.new.out _ _ c.read.auto.out before.front.whole r.bound r.direct r.buffered
-          (record {
-            in_order = r.in_order;
-            known = r.known;
-            grows = r.grows;
-            capacity = r.capacity;
-            kind = r.kind;
-            claims = r.claims;
-            sparing = r.sparing;
-            whole = r.whole;
-            noted = r.noted;
-          }) r.caused r.empty r.ran_dry)
+          (one_read _ _ _ _ _ c.read.new.out _ c.read.auto.out before.front.keeps.whole r.bound r.steps r.in_order r.keeps
+          r.caused r.empty r.ran_dry)
           _ c.in_err-at-2.ensures);
     }
 

@@ -23,17 +23,6 @@ returns g c = record {
         filled = c.args.self.now;
         fill = full_did g.R.TellRead.remaining g.P.ReaderPolicy.rules s c.args.self.now (record { 0 = true }) asked
             c.hand_out-n.result refl full;
-        hands = record {
-          count = h.count;
-          copied = h.copied;
-          in_order = h.in_order;
-          inner = h.inner;
-          grows = h.grows;
-          consumed = h.consumed;
-          noted = h.noted;
-          sparing = h.sparing;
-          capacity = h.capacity;
-          whole = h.whole;
-        };
+        hands = h.hands;
       }) (inl some));
 }

@@ -22,19 +22,8 @@ turns : (g : _) (c : goal.After-slice_known-3-1 g)
 turns g c =
     let r = c.read-answer.ensures in
     c.read_on.ensures.exact c.args.self.now
-    (one_read _ _ _ _ c.read-answer.new.out _ _ c.read-answer.auto.out (rw (← c.self.view_is) c.self.invariant) r.bound
-    r.direct r.buffered
-    (record {
-      in_order = r.in_order;
-      known = r.known;
-      grows = r.grows;
-      capacity = r.capacity;
-      kind = r.kind;
-      claims = r.claims;
-      sparing = r.sparing;
-      whole = r.whole;
-      noted = r.noted;
-    }) r.caused r.empty r.ran_dry)
+    (one_read _ _ _ _ _ c.read-answer.new.out _ c.read-answer.auto.out (rw (← c.self.view_is) c.self.invariant) r.bound
+    r.steps r.in_order r.keeps r.caused r.empty r.ran_dry)
 
 pub returns-then-is_empty : goal.returns-then-is_empty
 returns-then-is_empty g c = record { exact = nothing g c }

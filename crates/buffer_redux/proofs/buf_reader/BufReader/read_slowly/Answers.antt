@@ -31,16 +31,5 @@ returns-clause-read g c s asked =
         noted = f.noted;
         whole = f.whole;
       };
-      hands = record {
-        count = h.count;
-        copied = h.copied;
-        in_order = h.in_order;
-        inner = h.inner;
-        grows = h.grows;
-        consumed = h.consumed;
-        noted = h.noted;
-        sparing = h.sparing;
-        capacity = h.capacity;
-        whole = h.whole;
-      };
+      hands = h.hands;
     }

@@ -142,18 +142,7 @@ fast g c =
     (record {
       filled = c.else-branch.self;
       fill = fill;
-      hands = record {
-        count = h.count;
-        copied = h.copied;
-        in_order = h.in_order;
-        inner = h.inner;
-        grows = h.grows;
-        consumed = h.consumed;
-        noted = h.noted;
-        sparing = h.sparing;
-        capacity = h.capacity;
-        whole = h.whole;
-      };
+      hands = h.hands;
     }) (inside_fast g c)
 
 pub returns-then-out-capacity-clause-in_order : goal.returns-then-out-capacity-clause-in_order
@@ -172,14 +161,8 @@ returns-then-usable_space-gt0-clause-bound g c = (slow g c).bound
 pub returns-then-usable_space-gt0-clause-bytes : goal.returns-then-usable_space-gt0-clause-bytes
 returns-then-usable_space-gt0-clause-bytes g c = (slow g c).bytes
 
-pub returns-then-usable_space-gt0-clause-known : goal.returns-then-usable_space-gt0-clause-known
-returns-then-usable_space-gt0-clause-known g c = (slow g c).known
-
 pub returns-then-usable_space-gt0-clause-in_order : goal.returns-then-usable_space-gt0-clause-in_order
 returns-then-usable_space-gt0-clause-in_order g c = (slow g c).in_order
-
-pub returns-then-usable_space-gt0-clause-grows : goal.returns-then-usable_space-gt0-clause-grows
-returns-then-usable_space-gt0-clause-grows g c = (slow g c).grows
 
 pub returns-then-usable_space-gt0-clause-caused : goal.returns-then-usable_space-gt0-clause-caused
 returns-then-usable_space-gt0-clause-caused g c = (slow g c).caused
@@ -190,29 +173,11 @@ returns-then-usable_space-gt0-clause-empty g c = (slow g c).empty
 pub returns-then-usable_space-gt0-clause-ran_dry : goal.returns-then-usable_space-gt0-clause-ran_dry
 returns-then-usable_space-gt0-clause-ran_dry g c = (slow g c).ran_dry
 
-pub returns-then-usable_space-gt0-clause-capacity : goal.returns-then-usable_space-gt0-clause-capacity
-returns-then-usable_space-gt0-clause-capacity g c = (slow g c).capacity
+pub returns-then-usable_space-gt0-clause-steps : goal.returns-then-usable_space-gt0-clause-steps
+returns-then-usable_space-gt0-clause-steps g c = (slow g c).steps
 
-pub returns-then-usable_space-gt0-clause-kind : goal.returns-then-usable_space-gt0-clause-kind
-returns-then-usable_space-gt0-clause-kind g c = (slow g c).kind
-
-pub returns-then-usable_space-gt0-clause-claims : goal.returns-then-usable_space-gt0-clause-claims
-returns-then-usable_space-gt0-clause-claims g c = (slow g c).claims
-
-pub returns-then-usable_space-gt0-clause-sparing : goal.returns-then-usable_space-gt0-clause-sparing
-returns-then-usable_space-gt0-clause-sparing g c = (slow g c).sparing
-
-pub returns-then-usable_space-gt0-clause-whole : goal.returns-then-usable_space-gt0-clause-whole
-returns-then-usable_space-gt0-clause-whole g c = (slow g c).whole
-
-pub returns-then-usable_space-gt0-clause-buffered : goal.returns-then-usable_space-gt0-clause-buffered
-returns-then-usable_space-gt0-clause-buffered g c inside = (slow g c).buffered
-
-pub returns-then-usable_space-gt0-clause-rest : goal.returns-then-usable_space-gt0-clause-rest
-returns-then-usable_space-gt0-clause-rest g c inside = (slow g c).rest
-
-pub returns-then-usable_space-gt0-clause-noted : goal.returns-then-usable_space-gt0-clause-noted
-returns-then-usable_space-gt0-clause-noted g c = (slow g c).noted
+pub returns-then-usable_space-gt0-clause-keeps : goal.returns-then-usable_space-gt0-clause-keeps
+returns-then-usable_space-gt0-clause-keeps g c = (slow g c).keeps
 
 pub returns-in_err-before_read-clause-bound : goal.returns-in_err-before_read-clause-bound
 returns-in_err-before_read-clause-bound g c = (refused g c).bound
@@ -220,14 +185,8 @@ returns-in_err-before_read-clause-bound g c = (refused g c).bound
 pub returns-in_err-before_read-clause-bytes : goal.returns-in_err-before_read-clause-bytes
 returns-in_err-before_read-clause-bytes g c = (refused g c).bytes
 
-pub returns-in_err-before_read-clause-known : goal.returns-in_err-before_read-clause-known
-returns-in_err-before_read-clause-known g c = (refused g c).known
-
 pub returns-in_err-before_read-clause-in_order : goal.returns-in_err-before_read-clause-in_order
 returns-in_err-before_read-clause-in_order g c = (refused g c).in_order
-
-pub returns-in_err-before_read-clause-grows : goal.returns-in_err-before_read-clause-grows
-returns-in_err-before_read-clause-grows g c = (refused g c).grows
 
 pub returns-in_err-before_read-clause-caused : goal.returns-in_err-before_read-clause-caused
 returns-in_err-before_read-clause-caused g c = (refused g c).caused
@@ -238,29 +197,11 @@ returns-in_err-before_read-clause-empty g c = (refused g c).empty
 pub returns-in_err-before_read-clause-ran_dry : goal.returns-in_err-before_read-clause-ran_dry
 returns-in_err-before_read-clause-ran_dry g c = (refused g c).ran_dry
 
-pub returns-in_err-before_read-clause-capacity : goal.returns-in_err-before_read-clause-capacity
-returns-in_err-before_read-clause-capacity g c = (refused g c).capacity
+pub returns-in_err-before_read-clause-steps : goal.returns-in_err-before_read-clause-steps
+returns-in_err-before_read-clause-steps g c = (refused g c).steps
 
-pub returns-in_err-before_read-clause-kind : goal.returns-in_err-before_read-clause-kind
-returns-in_err-before_read-clause-kind g c = (refused g c).kind
-
-pub returns-in_err-before_read-clause-claims : goal.returns-in_err-before_read-clause-claims
-returns-in_err-before_read-clause-claims g c = (refused g c).claims
-
-pub returns-in_err-before_read-clause-sparing : goal.returns-in_err-before_read-clause-sparing
-returns-in_err-before_read-clause-sparing g c = (refused g c).sparing
-
-pub returns-in_err-before_read-clause-whole : goal.returns-in_err-before_read-clause-whole
-returns-in_err-before_read-clause-whole g c = (refused g c).whole
-
-pub returns-in_err-before_read-clause-buffered : goal.returns-in_err-before_read-clause-buffered
-returns-in_err-before_read-clause-buffered g c inside = (refused g c).buffered
-
-pub returns-in_err-before_read-clause-rest : goal.returns-in_err-before_read-clause-rest
-returns-in_err-before_read-clause-rest g c inside = (refused g c).rest
-
-pub returns-in_err-before_read-clause-noted : goal.returns-in_err-before_read-clause-noted
-returns-in_err-before_read-clause-noted g c = (refused g c).noted
+pub returns-in_err-before_read-clause-keeps : goal.returns-in_err-before_read-clause-keeps
+returns-in_err-before_read-clause-keeps g c = (refused g c).keeps
 
 pub returns-clause-bound : goal.returns-clause-bound
 returns-clause-bound g c = (fast g c).bound
@@ -268,14 +209,8 @@ returns-clause-bound g c = (fast g c).bound
 pub returns-clause-bytes : goal.returns-clause-bytes
 returns-clause-bytes g c = (fast g c).bytes
 
-pub returns-clause-known : goal.returns-clause-known
-returns-clause-known g c = (fast g c).known
-
 pub returns-clause-in_order : goal.returns-clause-in_order
 returns-clause-in_order g c = (fast g c).in_order
-
-pub returns-clause-grows : goal.returns-clause-grows
-returns-clause-grows g c = (fast g c).grows
 
 pub returns-clause-caused : goal.returns-clause-caused
 returns-clause-caused g c = (fast g c).caused
@@ -286,26 +221,8 @@ returns-clause-empty g c = (fast g c).empty
 pub returns-clause-ran_dry : goal.returns-clause-ran_dry
 returns-clause-ran_dry g c = (fast g c).ran_dry
 
-pub returns-clause-capacity : goal.returns-clause-capacity
-returns-clause-capacity g c = (fast g c).capacity
+pub returns-clause-steps : goal.returns-clause-steps
+returns-clause-steps g c = (fast g c).steps
 
-pub returns-clause-kind : goal.returns-clause-kind
-returns-clause-kind g c = (fast g c).kind
-
-pub returns-clause-claims : goal.returns-clause-claims
-returns-clause-claims g c = (fast g c).claims
-
-pub returns-clause-sparing : goal.returns-clause-sparing
-returns-clause-sparing g c = (fast g c).sparing
-
-pub returns-clause-whole : goal.returns-clause-whole
-returns-clause-whole g c = (fast g c).whole
-
-pub returns-clause-buffered : goal.returns-clause-buffered
-returns-clause-buffered g c inside = (fast g c).buffered
-
-pub returns-clause-rest : goal.returns-clause-rest
-returns-clause-rest g c inside = (fast g c).rest
-
-pub returns-clause-noted : goal.returns-clause-noted
-returns-clause-noted g c = (fast g c).noted
+pub returns-clause-keeps : goal.returns-clause-keeps
+returns-clause-keeps g c = (fast g c).keeps

@@ -66,18 +66,7 @@ declined g c =
       filled = m;
       fill = declined_did remaining table c.args.self.now m c.in-Ok.field-0 asked n
           c.if-more.false;
-      hands = record {
-        count = h.count;
-        copied = h.copied;
-        in_order = h.in_order;
-        inner = h.inner;
-        grows = h.grows;
-        consumed = h.consumed;
-        noted = h.noted;
-        sparing = h.sparing;
-        capacity = h.capacity;
-        whole = h.whole;
-      };
+      hands = h.hands;
     } in
     let a = says remaining table c.args.self.now c.args.out.now (Ok n) c.hand_out-count.new.out
     c.hand_out-count.new.self all (inl some) in
@@ -88,14 +77,18 @@ declined g c =
     let long : n ≡ length c.hand_out-count.new.out = omega (
       arith,
       a.long,
-      h.count,
+      h.hands.count,
       kept,
       c.if-len-out.false,
       c.len.ensures.value,
       ap (λ x. length x.block.bytes) c.self.view_is,
     ) in
     all_at_once remaining table c.args.self.now c.hand_out-count.new.out n c.hand_out-count.new.self
-    (omega (arith, a.long, none_not (length c.args.out.now) (sym c.is_empty-else-len-out.ensures ∙ c.if-is_empty-2.false))) long one
+    (omega (
+      arith,
+      a.long,
+      none_not (length c.args.out.now) (sym c.is_empty-else-len-out.ensures ∙ c.if-is_empty-2.false),
+    )) long one
 
 refused : (g : _) (c : goal.After-slice_known-in-Err-1 g)
     → ReadsExactly g.R.TellRead.remaining g.P.ReaderPolicy.rules c.args.self.now c.read_on_aside.result

@@ -1,5 +1,11 @@
-use Rattle.buffer_redux.proofs.WriteSteps.{WritesInOrder-sends}
+use Rattle.std.proofs.Common.{refl}
+use Rattle.buffer_redux.proofs.WriteSteps.{was_sent}
 use Rattle.buffer_redux.proofs.buf_writer.BufWriter.send.Goals as goal
 
-pub returns-clause-in_order : goal.returns-clause-in_order
-returns-clause-in_order g c = rw (← c.self.view_is) (WritesInOrder-sends _ _ _ _ c.write_all.ensures.sent)
+pub returns : goal.returns
+returns g c =
+    let w = c.write_all.ensures in
+    record {
+      sent = rw (← c.self.view_is) (was_sent _ _ _ _ _ w.sent refl w.whole
+          (record { calls = w.stretch; told_before = refl; told_after = refl; noted = refl }));
+    }

@@ -32,8 +32,8 @@ loop-preserved g c = record {
       let before = c.loop.invariant.turned s first in
       turned_more _ _ g.met.W.TellWrite.stretch_none g.met.W.TellWrite.stretch_joins _ s _ _ _ _ before _ _
       c.if-at-bytes.false
-      (one_rest _ _ _ _ _ c.loop.at _ _ before.front.whole c.write.ensures.whole c.write.ensures.steps
-      c.write.ensures.stretch)
+      (one_rest _ _ _ _ _ c.loop.at _ _ before.front.keeps.whole c.write.ensures.keeps.whole c.write.ensures.steps
+      c.write.ensures.keeps.went)
       c.in_ok-at-2.field-0 c.in_ok-at-2.ensures (bound_rest _ c.args.bytes.now c.loop.at c.write.ensures.bound);
 }
 
@@ -53,8 +53,8 @@ returns-in_err-at-2 g c = record {
       let p = err_from_is_err_and c.from_residual-in_err-at-2.result c.from_residual-in_err-at-2.ensures.1 in
       rw (p.1, p.2) (ended_failed _ _ g.met.W.TellWrite.stretch_none g.met.W.TellWrite.stretch_joins _ s _ _ _ _ before
       _ _ c.if-at-bytes.false
-      (one_rest _ _ _ _ _ c.loop.at _ _ before.front.whole c.write.ensures.whole c.write.ensures.steps
-      c.write.ensures.stretch)
+      (one_rest _ _ _ _ _ c.loop.at _ _ before.front.keeps.whole c.write.ensures.keeps.whole c.write.ensures.steps
+      c.write.ensures.keeps.went)
       _ c.in_err-at-2.ensures);
 }
 

@@ -15,7 +15,7 @@ returns-in_err-flush-clause-steps g c =
     rw (p.1, p.2) (record {
       flushing = Err c.in_err-flush.field-0.0;
       left = c.flush.new.self;
-      flushed = record { steps = f.steps; in_order = f.in_order; ok = f.ok; caused = f.caused; went = f.stretch };
+      flushed = f.flushed;
       ended = (refl, refl);
     })
 
@@ -25,7 +25,7 @@ returns-clause-steps g c =
     record {
       flushing = Ok tt;
       left = c.flush.new.self;
-      flushed = record { steps = f.steps; in_order = f.in_order; ok = f.ok; caused = f.caused; went = f.stretch };
+      flushed = f.flushed;
       ended = record {
         policy = ap (λ b. b.policy) c.self.view_is;
         block = ap (λ b. b.block) c.self.view_is;
@@ -70,5 +70,5 @@ sought readies s m t to (Err e) flushed steps block tells = tt
 pub returns-clause-ok : goal.returns-clause-ok
 returns-clause-ok g c =
     let f = c.in_ok-flush.ensures in
-    sought g.W.TellSeek.readies c.args.self.now c.flush.new.self _ c.args.to c.seek_told.result f.ok
-    f.steps (ap (λ b. b.block) c.self.view_is) (rw (ap (λ b. b.log) c.self.view_is) at c.seek_told.ensures.told)
+    sought g.W.TellSeek.readies c.args.self.now c.flush.new.self _ c.args.to c.seek_told.result f.flushed.ok
+    f.flushed.steps (ap (λ b. b.block) c.self.view_is) (rw (ap (λ b. b.log) c.self.view_is) at c.seek_told.ensures.told)

@@ -1,6 +1,7 @@
-use Rattle.std.proofs.Common.{◌≡◌, Ok, refl, arith}
-use Rattle.buffer_redux.specs.Buffered.{Buffered}
+use Rattle.std.proofs.Common.{◌≡◌, Ok, refl, arith, rules}
+use Rattle.buffer_redux.specs.Buffered.{Buffered, InnerWent}
 use Rattle.buffer_redux.specs.BufWriter.{Writes}
+use Rattle.buffer_redux.proofs.WriteAll.{writer_keeps}
 use Rattle.buffer_redux.proofs.WriterFacts.{writes_keep, writes_nothing, writes_steadily}
 use Rattle.buffer_redux.proofs.WriteOn.{writes_on, flushes_none, takes_in_roomy, writes_contents}
 use Rattle.buffer_redux.proofs.buf_writer.BufWriterWrite.write.Goals as goal
@@ -60,8 +61,10 @@ returns-then-first-gt0-clause-bytes g c = writes_contents g.P.WriterPolicy.rules
 pub returns-then-first-gt0-clause-in_order : goal.returns-then-first-gt0-clause-in_order
 returns-then-first-gt0-clause-in_order g c = (writes_keep g.P.WriterPolicy.rules _ _ _ _ (slowly g c)).in_order
 
-pub returns-then-first-gt0-clause-grows : goal.returns-then-first-gt0-clause-grows
-returns-then-first-gt0-clause-grows g c = (writes_keep g.P.WriterPolicy.rules _ _ _ _ (slowly g c)).grows
+pub returns-then-first-gt0-clause-keeps : goal.returns-then-first-gt0-clause-keeps
+returns-then-first-gt0-clause-keeps g c =
+    let went : InnerWent g.W.Tell.log g.W.TellWrite.stretch c.args.self.now c.write_aside.new.self = search rules in
+    writer_keeps _ _ g.P.WriterPolicy.rules _ _ _ _ c.write_aside.ensures.whole (slowly g c) went
 
 pub returns-then-first-gt0-clause-empty : goal.returns-then-first-gt0-clause-empty
 returns-then-first-gt0-clause-empty g c is some =
@@ -81,8 +84,10 @@ pub returns-then-bytes-usable_space-clause-in_order : goal.returns-then-bytes-us
 returns-then-bytes-usable_space-clause-in_order g c =
     (writes_keep g.P.WriterPolicy.rules _ _ _ _ (crowded g c)).in_order
 
-pub returns-then-bytes-usable_space-clause-grows : goal.returns-then-bytes-usable_space-clause-grows
-returns-then-bytes-usable_space-clause-grows g c = (writes_keep g.P.WriterPolicy.rules _ _ _ _ (crowded g c)).grows
+pub returns-then-bytes-usable_space-clause-keeps : goal.returns-then-bytes-usable_space-clause-keeps
+returns-then-bytes-usable_space-clause-keeps g c =
+    let went : InnerWent g.W.Tell.log g.W.TellWrite.stretch c.args.self.now c.write_aside-then-bytes-usable_space.new.self = search rules in
+    writer_keeps _ _ g.P.WriterPolicy.rules _ _ _ _ c.write_aside-then-bytes-usable_space.ensures.whole (crowded g c) went
 
 pub returns-then-bytes-usable_space-clause-empty : goal.returns-then-bytes-usable_space-clause-empty
 returns-then-bytes-usable_space-clause-empty g c is some =
@@ -95,9 +100,10 @@ pub returns-clause-in_order : goal.returns-clause-in_order
 returns-clause-in_order g c =
     (writes_keep g.P.WriterPolicy.rules _ _ (Ok c.copy_from_slice-copied.result) _ (at_once g c)).in_order
 
-pub returns-clause-grows : goal.returns-clause-grows
-returns-clause-grows g c =
-    (writes_keep g.P.WriterPolicy.rules _ _ (Ok c.copy_from_slice-copied.result) _ (at_once g c)).grows
+pub returns-clause-keeps : goal.returns-clause-keeps
+returns-clause-keeps g c =
+    let went : InnerWent g.W.Tell.log g.W.TellWrite.stretch c.args.self.now c.flush_after.new.self = search rules in
+    writer_keeps _ _ g.P.WriterPolicy.rules _ _ (Ok c.copy_from_slice-copied.result) _ c.flush_after.ensures.whole (at_once g c) went
 
 pub returns-clause-steps : goal.returns-clause-steps
 returns-clause-steps g c = at_once g c

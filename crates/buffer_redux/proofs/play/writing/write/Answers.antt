@@ -8,12 +8,12 @@ returns-in-Ok-clause-step g c =
     record {
       accepts = record {
         in_order = w.in_order;
-        grows = w.grows;
+        grows = w.keeps.grows;
         consumed = Writes-counts g.P.WriterPolicy.rules c.args.writer.now c.args.bytes.now (Ok c.in-Ok.count)
             c.write.new.self w.steps;
-        capacity = w.capacity;
-        kind = w.kind;
-        noted = w.stretch.noted;
+        capacity = w.keeps.capacity;
+        kind = w.keeps.kind;
+        noted = w.keeps.went.noted;
       };
       answers = record { most = w.bound; empty = λ none some. w.empty (ap (λ n. Ok n) none) some; steps = w.steps };
     }
@@ -24,12 +24,12 @@ returns-in-Err-clause-step g c =
     record {
       accepts = record {
         in_order = w.in_order;
-        grows = w.grows;
+        grows = w.keeps.grows;
         consumed = Writes-counts g.P.WriterPolicy.rules c.args.writer.now c.args.bytes.now (Err c.in-Err.e)
             c.write.new.self w.steps;
-        capacity = w.capacity;
-        kind = w.kind;
-        noted = w.stretch.noted;
+        capacity = w.keeps.capacity;
+        kind = w.keeps.kind;
+        noted = w.keeps.went.noted;
       };
       answers = record { error = c.in-Err.e; is_kind = search rules; caused = w.caused; steps = w.steps };
     }

@@ -16,10 +16,10 @@ returns-clause-stretch g c =
     let s = c.args.self.now in
     let m = c.flush-answer.new.self in
     let answer = c.flush-answer.result in
-    let flush = c.flush-answer.ensures in
+    let flush = c.flush-answer.ensures.flushed in
     let noted : c.note.new.self.log ≡ after_flush s.own_calls answer = search rules in
     call_went g.W.TellWrite.stretch table s m _ _ (after_flush s.own_calls answer) c.self.view_is noted
-    flush.stretch.calls flush.grows
+    flush.went.calls flush.grows
     (subst (λ l. WriteLogGrows (writer_log s).writes l.writes) (sym (returns-clause-told g c))
     (WriteLogGrows-flush (writer_log s) answer))
     (omega (arith, flush.capacity))
@@ -31,14 +31,14 @@ pub returns-clause-steps : goal.returns-clause-steps
 returns-clause-steps g c =
     let s = c.args.self.now in
     let answer = c.flush-answer.result in
-    flushes_noted _ _ s answer (subst (Flushes s answer) (sym c.self.view_is) c.flush-answer.ensures.steps)
+    flushes_noted _ _ s answer (subst (Flushes s answer) (sym c.self.view_is) c.flush-answer.ensures.flushed.steps)
 
 pub returns-clause-call : goal.returns-clause-call
 returns-clause-call g c =
     let s = c.args.self.now in
     let m = c.flush-answer.new.self in
     let answer = c.flush-answer.result in
-    let flush = c.flush-answer.ensures in
+    let flush = c.flush-answer.ensures.flushed in
     let noted : c.note.new.self.log ≡ after_flush s.own_calls answer = search rules in
     record {
       steps = inr (record { answer = answer; steps = returns-clause-steps g c; noted = noted });

@@ -21,10 +21,10 @@ returns-clause-stretch g c =
     let wrote = c.write-answer.ensures in
     let noted : c.note.new.self.log ≡ after_write s.own_calls bs answer = search rules in
     call_went g.W.TellWrite.stretch g.P.WriterPolicy.rules s m _ _ (after_write s.own_calls bs answer)
-    c.self.view_is noted wrote.stretch.calls wrote.grows
+    c.self.view_is noted wrote.keeps.went.calls wrote.keeps.grows
     (subst (λ l. WriteLogGrows (writer_log s).writes l.writes) (sym (returns-clause-told g c))
-    (WriteLogGrows-write (writer_log s) bs answer)) wrote.capacity wrote.claims
-    (λ steady. write_fails s m bs answer wrote.grows (wrote.steadily steady))
+    (WriteLogGrows-write (writer_log s) bs answer)) wrote.keeps.capacity wrote.keeps.claims
+    (λ steady. write_fails s m bs answer wrote.keeps.grows (wrote.steadily steady))
     (λ tells. write_met g.P.WriterPolicy.rules s m bs tells answer wrote.steps wrote.caused)
 
 pub returns-clause-steps : goal.returns-clause-steps
