@@ -1,7 +1,6 @@
 //! Laws, each as the contract of a function over the calls. Those of the buffer come from `redux_buffer`.
 ghost use Rattle.std.specs.Prelude.{◌≡◌, ◌<◌, [], length, take, Ok, IfOk, IfErr, IfSome, OnOk, is_ok};
 ghost use Rattle.std.specs.Io.KnownBytes.{Appends, Keeps};
-ghost use Rattle.std.specs.IoError.{error_kind};
 ghost use Rattle.redux_tell.specs.Faults.{SendErrorCaused};
 ghost use Rattle.redux_tell.specs.StreamLog.{no_calls, portion, after_read};
 ghost use Rattle.redux_tell.specs.Told.{told_stream};
@@ -9,8 +8,7 @@ ghost use Rattle.buffer_redux.specs.Buffered.{with_calls, GoesPast, StaysInside,
 ghost use Rattle.buffer_redux.specs.BufReader.{Fills, FillsToMinimum, RanDry, ReadErrorCaused, ReadsInOrder};
 ghost use Rattle.buffer_redux.specs.BufReader.{ReadsBuffered, LeavesRest};
 ghost use Rattle.buffer_redux.specs.BufWriter.{Flushes, IsFlushed};
-ghost use Rattle.redux_tell.specs.Copy.{CopyEnded, CopyFailed, FaultsRise, MovedBy};
-ghost use Rattle.redux_tell.specs.Copy.{MeetsFewFaults, MovesKnown, ReceivesAll};
+ghost use Rattle.redux_tell.specs.Copy.{CopyBuf, MovesKnown, ReceivesAll};
 ghost use Rattle.redux_policy.specs.MinBuffered.{min_read_rules};
 ghost use Rattle.buffer_redux.specs.ReaderTells.{reader_log, ReaderWent};
 ghost use Rattle.buffer_redux.specs.Remaining.{reader_remaining};
@@ -32,7 +30,7 @@ use redux_tell::copy_buf;
 use redux_tell::tell::{Tell, TellRead, TellWrite, Told};
 pub use sparing::{play_sparing, spare_between};
 use std::io;
-use std::io::{BufRead, ErrorKind, Read, Write};
+use std::io::{BufRead, Read, Write};
 pub use writes::{
     flush_at_least_law, flush_exact_law, flush_on_law, flush_on_newline_law, line_law, write_law,
 };
@@ -117,17 +115,8 @@ pub fn copy_known<R: TellRead, P: ReaderPolicy, W: TellWrite>(
         (reader_remaining R.remaining P.rules from.new) (W.log to.old).writes (W.log to.new).writes }
     ensures all { OnOk result (ReceivesAll (reader_remaining R.remaining P.rules from.old)
         (W.log to.old).writes (W.log to.new).writes) }
-    ensures total { IfOk result (λ n. MovedBy n (reader_log from.old).fills (reader_log from.new).fills
-        (W.log to.old).writes (W.log to.new).writes) }
-    ensures ended { OnOk result (CopyEnded W.log W.stretch W.call
-        (reader_log from.old).fills (reader_log from.new).fills to.old to.new) }
-    ensures failed { IfErr result (λ e. CopyFailed W.log W.stretch W.call e
-        (reader_log from.old).fills (reader_log from.new).fills to.old to.new) }
-    ensures often { IfErr result (λ e. error_kind e ≡ ErrorKind.Interrupted
-        → FaultsRise 65 (reader_log from.old).fills (reader_log from.new).fills
-        (W.log to.old).writes (W.log to.new).writes) }
-    ensures few { MeetsFewFaults result (reader_log from.old).fills (reader_log from.new).fills
-        (W.log to.old).writes (W.log to.new).writes }
+    ensures copied { CopyBuf W.log W.stretch W.call result
+        (reader_log from.old).fills (reader_log from.new).fills to.old to.new }
     ensures reader { ReaderWent R.remaining P.rules from.old from.new }
     ensures writer { W.stretch to.old to.new }
 {

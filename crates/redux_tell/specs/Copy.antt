@@ -1,9 +1,9 @@
 -- What copying from a buffered reader to a writer does.
-use Rattle.std.specs.Prelude.{◌≡◌, ℕ, ◌+◌, ◌-◌, ◌*◌, ◌^◌, ◌<◌, ◌≤◌, ◌⊎◌, List, ◌++◌, length, Option, IfSome, Result, Ok, Err}
+use Rattle.std.specs.Prelude.{◌≡◌, ℕ, ◌+◌, ◌-◌, ◌*◌, ◌^◌, ◌<◌, ◌≤◌, ◌⊎◌, List, ◌++◌, length, Option, IfSome, Result, Ok, Err, IfOk, IfErr, OnOk, OnErr, MatchResult}
 use Rattle.std.specs.Io.KnownBytes.{Consumes}
 use Rattle.std.specs.IoError.{error_kind}
 use Rattle.std.specs.declared.io.Error.{Error}
-use Rattle.std.specs.declared.io.ErrorKind.TheVariants.{Other}
+use Rattle.std.specs.declared.io.ErrorKind.TheVariants.{Interrupted, Other}
 use Rattle.redux_tell.specs.StreamLog.{StreamLog, FillLog, WriteLog, after_write}
 use Rattle.redux_tell.specs.Faults.{OnlyInterrupts, FaultAfterInterrupts, MetInterrupts}
 
@@ -86,6 +86,52 @@ consumed_since from from' = length from'.consumed - length from.consumed
 abbrev pub MeetsFewFaults : {A : Type 0} → Result A Error → FillLog → FillLog → WriteLog → WriteLog → Type 0
 MeetsFewFaults (Ok a) from from' to to' = FaultsAtMost (64 * (consumed_since from from' + 1)) from from' to to'
 MeetsFewFaults (Err e) from from' to to' = FaultsAtMost (64 * (consumed_since from from' + 1) + 1) from from' to to'
+
+-- what one turn of a copy answered, also one that was begun again where it was interrupted: how many bytes went over, none
+-- at the end, or why a stream failed, and then none went over
+pub record TurnAnswers {W : Type 0} (tells : W → StreamLog) (stretch call : W → W → Type 0) (result : Result ℕ Error)
+    (from from' : FillLog) (w w' : W) : Type 0 where
+  pub copies : IfOk result (λ n. 0 < n → CopiesOn n from from' (tells w).writes (tells w').writes)
+  pub ended : result ≡ Ok 0 → CopyEnded tells stretch call from from' w w'
+  pub nothing : result ≡ Ok 0 → MovedBy 0 from from' (tells w).writes (tells w').writes
+  pub failed : IfErr result (λ e. StreamFailed tells stretch call e from from' w w')
+  pub kept : OnErr result (MovedBy 0 from from' (tells w).writes (tells w').writes)
+
+-- one turn of a copy: a failure is one fault, which moved nothing, and a reader that showed nothing isn't asked again
+pub record CopyTurn {W : Type 0} (tells : W → StreamLog) (stretch call : W → W → Type 0) (result : Result ℕ Error)
+    (from from' : FillLog) (w w' : W) : Type 0 where
+  pub answers : TurnAnswers tells stretch call result from from' w w'
+  pub interrupted : IfErr result
+      (λ e. error_kind e ≡ Interrupted → CopiesOn 0 from from' (tells w).writes (tells w').writes)
+  pub none_ended : IfOk result (λ n. 0 < n → from'.zero_fills ≡ from.zero_fills)
+  pub ended_once : from'.zero_fills ≤ from.zero_fills + 1
+  pub one_fault : OnErr result (FaultsRise 1 from from' (tells w).writes (tells w').writes)
+  pub few : MatchResult result
+      (λ _. FaultsAtMost 0 from from' (tells w).writes (tells w').writes)
+      (λ _. FaultsAtMost 1 from from' (tells w).writes (tells w').writes)
+
+-- a turn that is begun again where it was interrupted, 64 times at the most
+pub record CopyRetried {W : Type 0} (tells : W → StreamLog) (stretch call : W → W → Type 0) (result : Result ℕ Error)
+    (from from' : FillLog) (w w' : W) : Type 0 where
+  pub answers : TurnAnswers tells stretch call result from from' w w'
+  pub often : IfErr result
+      (λ e. error_kind e ≡ Interrupted → FaultsRise 65 from from' (tells w).writes (tells w').writes)
+  pub few : MatchResult result
+      (λ _. FaultsAtMost 64 from from' (tells w).writes (tells w').writes)
+      (λ _. FaultsAtMost 65 from from' (tells w).writes (tells w').writes)
+
+-- a whole copy: at Ok it ended, and the total is the number of bytes that went over; at an `Err` some went over, and
+-- `Interrupted` comes only after 64 more such faults
+pub record CopyBuf {W : Type 0} (tells : W → StreamLog) (stretch call : W → W → Type 0) (result : Result ℕ Error)
+    (from from' : FillLog) (w w' : W) : Type 0 where
+  pub moved : MatchResult result
+      (λ n. MovedBy n from from' (tells w).writes (tells w').writes)
+      (λ _. (n : ℕ) × MovedBy n from from' (tells w).writes (tells w').writes)
+  pub ended : OnOk result (CopyEnded tells stretch call from from' w w')
+  pub failed : IfErr result (λ e. CopyFailed tells stretch call e from from' w w')
+  pub often : IfErr result
+      (λ e. error_kind e ≡ Interrupted → FaultsRise 65 from from' (tells w).writes (tells w').writes)
+  pub few : MeetsFewFaults result from from' (tells w).writes (tells w').writes
 
 -- the writer received just what the reader, of which all that is left is known, lost
 pub record MovesKnown (left left' : Option (List ℕ)) (to to' : WriteLog) : Type 0 where

@@ -1,9 +1,9 @@
 -- Laws of copying turn by turn, for the proofs of those who make the turns.
-use Rattle.std.proofs.Common.{ℕ, ◌+◌, ◌<◌, List, Result, Ok, Err, IfOk, IfErr, inl, inr, subst, le_trans, arith, refl, sym, [], append-nil, ◌∙◌, ◌++◌, ap, append_assoc, length-append, le_refl}
+use Rattle.std.proofs.Common.{ℕ, ◌+◌, List, Result, Ok, Err, inl, inr, subst, le_trans, arith, refl, sym, [], append-nil, ◌∙◌, ◌++◌, ap, append_assoc, length-append, le_refl}
 use Rattle.std.specs.declared.io.Error.{Error}
 use Rattle.redux_tell.specs.StreamLog.{StreamLog, FillLog, WriteLog}
 use Rattle.redux_tell.specs.Faults.{OnlyInterrupts-none, OnlyInterrupted-none, OnlyInterrupts-joins, FaultAfterInterrupts-after, MetInterrupts-joins}
-use Rattle.redux_tell.specs.Copy.{MovedBy, CopiesOn, LastWrite, CopyEnded, StreamFailed}
+use Rattle.redux_tell.specs.Copy.{MovedBy, CopiesOn, LastWrite, CopyEnded, StreamFailed, TurnAnswers, CopyBuf}
 
 -- no turn moves nothing, and two turns one after the other move what both do
 pub MovedBy-none : (from : FillLog) (to : WriteLog) → MovedBy 0 from from to to
@@ -83,19 +83,36 @@ module _ {W : Type 0} (tells : W → StreamLog) (stretch call : W → W → Type
     last = LastWrite-after c.shown (Err e) target.last;
   })
 
-  pub failed_after : (c : FillLog) (z : W) {A : Type 0} (answer : Result A Error)
-      → IfErr answer (λ e. StreamFailed tells stretch call e b c y z)
-      → IfErr answer (λ e. StreamFailed tells stretch call e a c x z)
-  failed_after c z (Ok k) failed = tt
-  failed_after c z (Err e) failed = StreamFailed-after failed
-
 -- a turn after turns that were only interrupted
 module _ {a b : FillLog} {x y : WriteLog} (before : CopiesOn 0 a b x y) where
   pub CopiesOn-after : {n : ℕ} {c : FillLog} {z : WriteLog} → CopiesOn n b c y z → CopiesOn n a c x z
   CopiesOn-after {c = c} {z = z} last =
       subst (λ k. CopiesOn k a c x z) (omega arith) (CopiesOn-joins before last)
 
-  pub copies_after : (c : FillLog) (z : WriteLog) {A : Type 0} (answer : Result ℕ A)
-      → IfOk answer (λ n. 0 < n → CopiesOn n b c y z) → IfOk answer (λ n. 0 < n → CopiesOn n a c x z)
-  copies_after c z (Ok n) copies = λ some. CopiesOn-after (copies some)
-  copies_after c z (Err e) copies = tt
+-- what a turn answers that was begun again
+module _ {W : Type 0} (tells : W → StreamLog) (stretch call : W → W → Type 0)
+    (joins : (u v w : W) → stretch u v → stretch v w → stretch u w) {a b : FillLog} {x y : W}
+    (before : CopiesOn 0 a b (tells x).writes (tells y).writes) (went : stretch x y) where
+  pub TurnAnswers-after : {c : FillLog} {z : W} (answer : Result ℕ Error)
+      → TurnAnswers tells stretch call answer b c y z → TurnAnswers tells stretch call answer a c x z
+  TurnAnswers-after (Ok n) turn = record {
+    copies = λ some. CopiesOn-after before (turn.copies some);
+    ended = λ is. CopyEnded-after tells stretch call joins before went (turn.ended is);
+    nothing = λ is. MovedBy-still before.moved (turn.nothing is);
+    failed = tt;
+    kept = tt;
+  }
+  TurnAnswers-after (Err e) turn = record {
+    copies = tt;
+    ended = λ is. CopyEnded-after tells stretch call joins before went (turn.ended is);
+    nothing = λ is. MovedBy-still before.moved (turn.nothing is);
+    failed = StreamFailed-after tells stretch call joins before went turn.failed;
+    kept = MovedBy-still before.moved turn.kept;
+  }
+
+-- how much went over in a copy, whatever it answered
+pub CopyBuf-moved : {W : Type 0} {tells : W → StreamLog} {stretch call : W → W → Type 0} {a b : FillLog} {x y : W}
+    → (answer : Result ℕ Error) → CopyBuf tells stretch call answer a b x y
+    → (n : ℕ) × MovedBy n a b (tells x).writes (tells y).writes
+CopyBuf-moved (Ok n) copied = (n, copied.moved)
+CopyBuf-moved (Err e) copied = copied.moved

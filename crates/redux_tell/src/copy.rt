@@ -1,7 +1,6 @@
 //! Copying from a buffered reader to a writer.
-ghost use Rattle.std.specs.Prelude.{◌≡◌, ◌+◌, ◌^◌, ◌<◌, ◌≤◌, ℕ, Ok, IfOk, IfErr, OnOk, OnErr, IfSome, IfNone, MatchResult};
-ghost use Rattle.std.specs.IoError.{error_kind};
-ghost use Rattle.redux_tell.specs.Copy.{MovedBy, CopiesOn, CopyEnded, StreamFailed, CopyFailed, FaultsRise, FaultsAtMost, MeetsFewFaults};
+ghost use Rattle.std.specs.Prelude.{◌≡◌, ◌+◌, ◌^◌, ◌≤◌, IfSome, IfNone};
+ghost use Rattle.redux_tell.specs.Copy.{CopyBuf, CopyRetried, CopyTurn};
 
 #[cfg(test)]
 mod tests;
@@ -20,18 +19,7 @@ use std::io::ErrorKind;
 /// not, the bytes that were consumed are those that were received. `Other` without a fault is returned where the count
 /// passes what a `u64` holds.
 pub fn copy_buf<B: TellBufRead, W: TellWrite>(b: &mut B, w: &mut W) -> io::Result<u64>
-    ensures moved { (n : ℕ)
-        × MovedBy n (B.log b.old).fills (B.log b.new).fills (W.log w.old).writes (W.log w.new).writes }
-    ensures total { IfOk result (λ n.
-        MovedBy n (B.log b.old).fills (B.log b.new).fills (W.log w.old).writes (W.log w.new).writes) }
-    ensures ended { OnOk result
-        (CopyEnded W.log W.stretch W.call (B.log b.old).fills (B.log b.new).fills w.old w.new) }
-    ensures failed { IfErr result (λ e. CopyFailed W.log W.stretch W.call e
-        (B.log b.old).fills (B.log b.new).fills w.old w.new) }
-    ensures often { IfErr result (λ e. error_kind e ≡ ErrorKind.Interrupted
-        → FaultsRise 65 (B.log b.old).fills (B.log b.new).fills (W.log w.old).writes (W.log w.new).writes) }
-    ensures few { MeetsFewFaults result
-        (B.log b.old).fills (B.log b.new).fills (W.log w.old).writes (W.log w.new).writes }
+    ensures copied { CopyBuf W.log W.stretch W.call result (B.log b.old).fills (B.log b.new).fills w.old w.new }
     ensures reader { B.stretch b.old b.new }
     ensures writer { W.stretch w.old w.new }
 {
@@ -58,21 +46,7 @@ fn add_total(total: u64, n: usize) -> Option<u64>
 
 // A turn, begun again where it was interrupted, `INTERRUPT_LIMIT` times at the most.
 fn copy_retried<B: TellBufRead, W: TellWrite>(b: &mut B, w: &mut W) -> io::Result<usize>
-    ensures copies { IfOk result (λ n. 0 < n → CopiesOn n
-        (B.log b.old).fills (B.log b.new).fills (W.log w.old).writes (W.log w.new).writes) }
-    ensures ended { result ≡ Ok 0
-        → CopyEnded W.log W.stretch W.call (B.log b.old).fills (B.log b.new).fills w.old w.new }
-    ensures nothing { result ≡ Ok 0
-        → MovedBy 0 (B.log b.old).fills (B.log b.new).fills (W.log w.old).writes (W.log w.new).writes }
-    ensures failed { IfErr result (λ e. StreamFailed W.log W.stretch W.call e
-        (B.log b.old).fills (B.log b.new).fills w.old w.new) }
-    ensures kept { OnErr result
-        (MovedBy 0 (B.log b.old).fills (B.log b.new).fills (W.log w.old).writes (W.log w.new).writes) }
-    ensures often { IfErr result (λ e. error_kind e ≡ ErrorKind.Interrupted
-        → FaultsRise 65 (B.log b.old).fills (B.log b.new).fills (W.log w.old).writes (W.log w.new).writes) }
-    ensures few { MatchResult result
-        (λ _. FaultsAtMost 64 (B.log b.old).fills (B.log b.new).fills (W.log w.old).writes (W.log w.new).writes)
-        (λ _. FaultsAtMost 65 (B.log b.old).fills (B.log b.new).fills (W.log w.old).writes (W.log w.new).writes) }
+    ensures retried { CopyRetried W.log W.stretch W.call result (B.log b.old).fills (B.log b.new).fills w.old w.new }
     ensures reader { B.stretch b.old b.new }
     ensures writer { W.stretch w.old w.new }
 {
@@ -94,25 +68,7 @@ fn copy_retried<B: TellBufRead, W: TellWrite>(b: &mut B, w: &mut W) -> io::Resul
 /// consumed, and copying has ended. A fault is returned at once, `Interrupted` too, and moves nothing.
 #[inline(always)]
 pub fn copy_turn<B: TellBufRead, W: TellWrite>(b: &mut B, w: &mut W) -> io::Result<usize>
-    ensures copies { IfOk result (λ n. 0 < n → CopiesOn n
-        (B.log b.old).fills (B.log b.new).fills (W.log w.old).writes (W.log w.new).writes) }
-    ensures ended { result ≡ Ok 0
-        → CopyEnded W.log W.stretch W.call (B.log b.old).fills (B.log b.new).fills w.old w.new }
-    ensures nothing { result ≡ Ok 0
-        → MovedBy 0 (B.log b.old).fills (B.log b.new).fills (W.log w.old).writes (W.log w.new).writes }
-    ensures failed { IfErr result (λ e. StreamFailed W.log W.stretch W.call e
-        (B.log b.old).fills (B.log b.new).fills w.old w.new) }
-    ensures interrupted { IfErr result (λ e. error_kind e ≡ ErrorKind.Interrupted → CopiesOn 0
-        (B.log b.old).fills (B.log b.new).fills (W.log w.old).writes (W.log w.new).writes) }
-    ensures kept { OnErr result
-        (MovedBy 0 (B.log b.old).fills (B.log b.new).fills (W.log w.old).writes (W.log w.new).writes) }
-    ensures none_ended { IfOk result (λ n. 0 < n → (B.log b.new).fills.zero_fills ≡ (B.log b.old).fills.zero_fills) }
-    ensures ended_once { (B.log b.new).fills.zero_fills ≤ (B.log b.old).fills.zero_fills + 1 }
-    ensures one_fault { OnErr result
-        (FaultsRise 1 (B.log b.old).fills (B.log b.new).fills (W.log w.old).writes (W.log w.new).writes) }
-    ensures few { MatchResult result
-        (λ _. FaultsAtMost 0 (B.log b.old).fills (B.log b.new).fills (W.log w.old).writes (W.log w.new).writes)
-        (λ _. FaultsAtMost 1 (B.log b.old).fills (B.log b.new).fills (W.log w.old).writes (W.log w.new).writes) }
+    ensures turn { CopyTurn W.log W.stretch W.call result (B.log b.old).fills (B.log b.new).fills w.old w.new }
     ensures reader { B.stretch b.old b.new }
     ensures writer { W.stretch w.old w.new }
 {

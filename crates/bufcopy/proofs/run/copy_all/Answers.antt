@@ -7,17 +7,17 @@ pub returns-in_err-total-clause-caused : goal.returns-in_err-total-clause-caused
 returns-in_err-total-clause-caused g c =
     let p = err_from_is_err_and c.from_residual.result c.from_residual.ensures.1 in
     let copy = c.in_err-total.ensures in
-    rw (p.1, p.2) (copy_caused copy.reader copy.writer c.requires.source.bytes c.requires.target.bytes _ copy.failed)
+    rw (p.1, p.2) (copy_caused copy.reader copy.writer c.requires.source.bytes c.requires.target.bytes _ copy.copied.failed)
 
 pub returns-in_err-total-clause-a_beginning : goal.returns-in_err-total-clause-a_beginning
 returns-in_err-total-clause-a_beginning g c =
     let copy = c.in_err-total.ensures in
-    copy_begins copy.reader copy.writer c.requires.source.bytes c.requires.target.bytes copy.moved.0 copy.moved.1
+    copy_begins copy.reader copy.writer c.requires.source.bytes c.requires.target.bytes copy.copied.moved.0 copy.copied.moved.1
 
 pub returns-then-buf_len-gt0-clause-caused : goal.returns-then-buf_len-gt0-clause-caused
 returns-then-buf_len-gt0-clause-caused g c =
     let copy = c.in_ok-total.ensures in
-    inl (left_caused copy.reader copy.writer c.requires.source.bytes c.requires.target.bytes copy.ended _
+    inl (left_caused copy.reader copy.writer c.requires.source.bytes c.requires.target.bytes copy.copied.ended _
     c.from.ensures
     (omega (arith, c.if-buf_len-gt0.true, c.buf_len.ensures.value))
     (omega (arith, c.requires.target.capacity)))
@@ -25,32 +25,32 @@ returns-then-buf_len-gt0-clause-caused g c =
 pub returns-then-buf_len-gt0-clause-a_beginning : goal.returns-then-buf_len-gt0-clause-a_beginning
 returns-then-buf_len-gt0-clause-a_beginning g c =
     let copy = c.in_ok-total.ensures in
-    copy_begins copy.reader copy.writer c.requires.source.bytes c.requires.target.bytes copy.moved.0 copy.moved.1
+    copy_begins copy.reader copy.writer c.requires.source.bytes c.requires.target.bytes _ copy.copied.moved
 
 pub returns-in_err-flush-clause-caused : goal.returns-in_err-flush-clause-caused
 returns-in_err-flush-clause-caused g c =
     let p = err_from_is_err_and c.from_residual-in_err-flush.result c.from_residual-in_err-flush.ensures.1 in
     let copy = c.in_ok-total.ensures in
     rw (p.1, p.2) (inl
-    (flush_caused copy.reader copy.writer c.requires.source.bytes c.requires.target.bytes copy.ended
+    (flush_caused copy.reader copy.writer c.requires.source.bytes c.requires.target.bytes copy.copied.ended
     (omega (arith, c.if-buf_len-gt0.false, c.buf_len.ensures.value)) c.flush.new.self _
     c.in_err-flush.ensures.flushed.caused))
 
 pub returns-in_err-flush-clause-a_beginning : goal.returns-in_err-flush-clause-a_beginning
 returns-in_err-flush-clause-a_beginning g c =
     let copy = c.in_ok-total.ensures in
-    flush_begins copy.reader copy.writer c.requires.source.bytes c.requires.target.bytes copy.moved.0 copy.moved.1 _
+    flush_begins copy.reader copy.writer c.requires.source.bytes c.requires.target.bytes _ copy.copied.moved _
     c.in_err-flush.ensures.flushed.in_order
 
 pub returns-clause-copied : goal.returns-clause-copied
 returns-clause-copied g c =
     let copy = c.in_ok-total.ensures in
-    flush_copied copy.reader copy.writer c.requires.source.bytes c.requires.target.bytes copy.ended
-    (omega (arith, c.if-buf_len-gt0.false, c.buf_len.ensures.value)) _ _ copy.total
+    flush_copied copy.reader copy.writer c.requires.source.bytes c.requires.target.bytes copy.copied.ended
+    (omega (arith, c.if-buf_len-gt0.false, c.buf_len.ensures.value)) _ _ copy.copied.moved
     (omega (arith, c.requires.source.capacity)) c.in_ok-flush.ensures.flushed.in_order c.in_ok-flush.ensures.flushed.ok
 
 pub returns-clause-a_beginning : goal.returns-clause-a_beginning
 returns-clause-a_beginning g c =
     let copy = c.in_ok-total.ensures in
-    flush_begins copy.reader copy.writer c.requires.source.bytes c.requires.target.bytes copy.moved.0 copy.moved.1 _
+    flush_begins copy.reader copy.writer c.requires.source.bytes c.requires.target.bytes _ copy.copied.moved _
     c.in_ok-flush.ensures.flushed.in_order

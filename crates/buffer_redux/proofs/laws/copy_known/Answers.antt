@@ -1,14 +1,17 @@
 use Rattle.std.proofs.Common.{refl}
+use Rattle.redux_tell.specs.CopyLaws.{CopyBuf-moved}
 use Rattle.buffer_redux.proofs.CopyKnown.{on_ok, moves_known, receives_all}
 use Rattle.buffer_redux.proofs.laws.copy_known.Goals as goal
 
 pub returns-clause-moved : goal.returns-clause-moved
 returns-clause-moved g c =
     let e = c.copy_buf.ensures in
-    moves_known g.R.TellRead.remaining g.P.ReaderPolicy.rules _ _ e.reader e.moved.0 _ _ e.moved.1
+    let moved = CopyBuf-moved c.copy_buf.result e.copied in
+    moves_known g.R.TellRead.remaining g.P.ReaderPolicy.rules _ _ e.reader moved.0 _ _ moved.1
 
 pub returns-clause-all : goal.returns-clause-all
 returns-clause-all g c =
     let e = c.copy_buf.ensures in
-    on_ok _ _ _ (receives_all g.R.TellRead.remaining g.P.ReaderPolicy.rules _ _ e.reader e.moved.0 _ _ e.moved.1
-    g.W.Tell.log g.W.TellWrite.stretch g.W.TellWrite.call _ _ refl refl) e.ended
+    let moved = CopyBuf-moved c.copy_buf.result e.copied in
+    on_ok _ _ _ (receives_all g.R.TellRead.remaining g.P.ReaderPolicy.rules _ _ e.reader moved.0 _ _ moved.1
+    g.W.Tell.log g.W.TellWrite.stretch g.W.TellWrite.call _ _ refl refl) e.copied.ended

@@ -1,14 +1,22 @@
-use Rattle.std.proofs.Common.{◌+◌, arith, inl, inr}
+use Rattle.std.proofs.Common.{◌+◌, arith, rules, inl, inr}
 use Rattle.std.proofs.lemmas.Result.{err_from_is_err_and}
-use Rattle.redux_tell.specs.CopyLaws.{CopiesOn-joins, CopyEnded-after, StreamFailed-after}
+use Rattle.redux_tell.specs.CopyLaws.{MovedBy-still, CopiesOn-joins, CopyEnded-after, StreamFailed-after}
+use Rattle.redux_tell.proofs.Turning.{moved_count, faults_come}
 use Rattle.redux_tell.proofs.copy.copy_buf.Goals as goal
 
-pub returns-in_err-taken-clause-failed : goal.returns-in_err-taken-clause-failed
-returns-in_err-taken-clause-failed g c =
+pub returns-in_err-taken-clause-copied : goal.returns-in_err-taken-clause-copied
+returns-in_err-taken-clause-copied g c =
     let p = err_from_is_err_and c.from_residual.result c.from_residual.ensures.1 in
-    rw (p.1, p.2) (inl
-    (StreamFailed-after _ _ _ g.met.W.TellWrite.stretch_joins c.turns.invariant.copies c.turns.invariant.writer
-    c.in_err-taken.ensures.failed))
+    let before = c.turns.invariant in
+    let turn = c.in_err-taken.ensures.retried in
+    let moved = MovedBy-still before.copies.moved turn.answers.kept in
+    rw (p.1, p.2) (record {
+      moved = (c.turns.total, moved);
+      ended = tt;
+      failed = inl (StreamFailed-after _ _ _ g.met.W.TellWrite.stretch_joins before.copies before.writer turn.answers.failed);
+      often = λ is. omega (arith, turn.often is, faults_come before.copies);
+      few = omega (arith, before.few, turn.few, moved_count moved);
+    })
 
 pub returns-in_err-taken-clause-reader : goal.returns-in_err-taken-clause-reader
 returns-in_err-taken-clause-reader g c =
@@ -18,38 +26,46 @@ pub returns-in_err-taken-clause-writer : goal.returns-in_err-taken-clause-writer
 returns-in_err-taken-clause-writer g c =
     g.met.W.TellWrite.stretch_joins _ _ _ c.turns.invariant.writer c.in_err-taken.ensures.writer
 
-pub returns-then-taken-eq0-clause-ended : goal.returns-then-taken-eq0-clause-ended
-returns-then-taken-eq0-clause-ended g c =
-    CopyEnded-after _ _ _ g.met.W.TellWrite.stretch_joins c.turns.invariant.copies c.turns.invariant.writer
-    (c.in_ok-taken.ensures.ended (cc))
+pub returns-then-taken-eq0-clause-copied : goal.returns-then-taken-eq0-clause-copied
+returns-then-taken-eq0-clause-copied g c =
+    let before = c.turns.invariant in
+    let turn = c.in_ok-taken.ensures.retried in
+    let moved = MovedBy-still before.copies.moved (turn.answers.nothing (cc)) in
+    record {
+      moved = moved;
+      ended = CopyEnded-after _ _ _ g.met.W.TellWrite.stretch_joins before.copies before.writer (turn.answers.ended (cc));
+      failed = tt;
+      often = tt;
+      few = omega (arith, before.few, turn.few, moved_count moved);
+    }
 
 pub turns-preserved : goal.turns-preserved
 turns-preserved g c =
     let before = c.turns.invariant in
-    let turn = c.in_ok-taken.ensures in
+    let turn = c.in_ok-taken.ensures.retried in
     let some = c.if-taken-eq0.false in
     record {
       copies = rw c.in-Some.ensures.some
-          (CopiesOn-joins before.copies (turn.copies (omega (arith, some))));
+          (CopiesOn-joins before.copies (turn.answers.copies (omega (arith, some))));
       few = omega (arith, c.in-Some.ensures.some, before.few, turn.few, some);
-      reader = g.met.B.TellBufRead.stretch_joins _ _ _ before.reader turn.reader;
-      writer = g.met.W.TellWrite.stretch_joins _ _ _ before.writer turn.writer;
+      reader = g.met.B.TellBufRead.stretch_joins _ _ _ before.reader c.in_ok-taken.ensures.reader;
+      writer = g.met.W.TellWrite.stretch_joins _ _ _ before.writer c.in_ok-taken.ensures.writer;
     }
 
-pub returns-in-None-clause-moved : goal.returns-in-None-clause-moved
-returns-in-None-clause-moved g c =
-    let some = c.if-taken-eq0.false in
-    let copies = CopiesOn-joins c.turns.invariant.copies
-    (c.in_ok-taken.ensures.copies (omega (arith, some))) in
-    (c.turns.total + c.in_ok-taken.taken, copies.moved)
-
-pub returns-in-None-clause-failed : goal.returns-in-None-clause-failed
-returns-in-None-clause-failed g c =
-    let some = c.if-taken-eq0.false in
-    inr (record {
-      other = c.from.ensures;
-      count = c.turns.total + c.in_ok-taken.taken;
-      large = c.in-None.ensures.none;
-      copies = CopiesOn-joins c.turns.invariant.copies
-          (c.in_ok-taken.ensures.copies (omega (arith, some)));
-    })
+pub returns-in-None-clause-copied : goal.returns-in-None-clause-copied
+returns-in-None-clause-copied g c =
+    let before = c.turns.invariant in
+    let turn = c.in_ok-taken.ensures.retried in
+    let copies = CopiesOn-joins before.copies (turn.answers.copies (omega (arith, c.if-taken-eq0.false))) in
+    record {
+      moved = (c.turns.total + c.in_ok-taken.taken, copies.moved);
+      ended = tt;
+      failed = inr (record {
+        other = c.from.ensures;
+        count = c.turns.total + c.in_ok-taken.taken;
+        large = c.in-None.ensures.none;
+        copies = copies;
+      });
+      often = search rules;
+      few = omega (arith, before.few, turn.few, moved_count copies.moved);
+    }

@@ -1,40 +1,19 @@
-use Rattle.std.proofs.Common.{◌≡◌, ℕ, ◌<◌, List, [], length, Ok, sym, ap, subst, ◌∙◌, arith, append-nil}
-use Rattle.std.proofs.lemmas.List.Elements.{All-nil}
-use Rattle.redux_tell.specs.Faults.{IsInterrupt, OnlyInterrupted-none}
-use Rattle.redux_tell.specs.StreamLog.{with_end, after_write}
+use Rattle.std.proofs.lemmas.Result.{err_from_is_err_and}
+use Rattle.redux_tell.proofs.Turning.{not_filled, not_written}
 use Rattle.redux_tell.proofs.copy.copy_turn.Goals as goal
 
-end_noted : (before : ℕ) (shown : List ℕ) → length shown ≡ 0 → before < with_end before shown
-end_noted before shown none = grind arith
-
-pub returns-then-taken-eq0-clause-ended : goal.returns-then-taken-eq0-clause-ended
-returns-then-taken-eq0-clause-ended g c is =
-    let none = c.if-taken-eq0.true in
-    let bytes = c.in-Ok.bytes.now in
+pub returns-in_err-taken-in-Ok-clause-turn : goal.returns-in_err-taken-in-Ok-clause-turn
+returns-in_err-taken-in-Ok-clause-turn g c =
+    let p = err_from_is_err_and c.from_residual.result c.from_residual.ensures.1 in
     let filled = (rw c.in-Ok.is at c.fill_told.follows.holds-at-none).0 in
-    let shown = ap (λ l. l.fills.shown) filled in
-    record {
-      reader = record {
-        interrupts = [];
-        interrupted = All-nil IsInterrupt;
-        faults =
-            ap (λ l. l.fills.faults) filled
-            ∙ sym (append-nil (g.B.Tell.log c.args.b.now).fills.faults);
-      };
-      last = record {
-        before = c.args.w.now;
-        went = g.met.W.TellWrite.stretch_none c.args.w.now;
-        met = record { interrupts = []; only = OnlyInterrupted-none (g.W.Tell.log c.args.w.now).writes };
-        called = c.in_ok-taken-in-Ok.ensures.call;
-        told =
-            subst (λ l. g.W.Tell.log c.write_told.new.self ≡ after_write (g.W.Tell.log c.args.w.now) l (Ok 0))
-            (sym shown)
-            (subst (λ k. g.W.Tell.log c.write_told.new.self ≡ after_write (g.W.Tell.log c.args.w.now) bytes (Ok k))
-            none c.in_ok-taken-in-Ok.ensures.told);
-      };
-      ends = λ empty. omega (
-        arith,
-        ap (λ l. l.fills.zero_fills) filled,
-        end_noted (g.B.Tell.log c.args.b.now).fills.zero_fills bytes (omega (arith, ap length shown, empty)),
-      );
-    }
+    let wrote = c.in_err-taken-in-Ok.ensures in
+    rw (p.1, p.2, filled)
+    (not_written g.W.Tell.log g.W.TellWrite.stretch g.W.TellWrite.call (g.B.Tell.log c.args.b.now) c.args.w.now
+    g.met.W.TellWrite.stretch_none c.in-Ok.bytes.now _ c.write_told.new.self wrote.told wrote.call)
+
+pub returns-in-Err-clause-turn : goal.returns-in-Err-clause-turn
+returns-in-Err-clause-turn g c =
+    let filled = (rw c.in-Err.is at c.fill_told.follows.holds-at-none).0 in
+    rw filled.1
+    (not_filled g.W.Tell.log g.W.TellWrite.stretch g.W.TellWrite.call (g.B.Tell.log c.args.b.now) c.args.w.now filled.0
+    c.in-Err.e)
