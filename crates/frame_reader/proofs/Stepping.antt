@@ -11,7 +11,7 @@ use Rattle.frame_reader.specs.Frames.{Fits}
 use Rattle.frame_reader.specs.Framing.{Framing}
 use Rattle.frame_reader.specs.KnownFrames.{HasLeft, LeavesFrames}
 use Rattle.frame_reader.specs.KnownFramesLaws.{Next-known}
-use Rattle.frame_reader.specs.Next.{Next}
+use Rattle.frame_reader.specs.Next.{Next, NoFault}
 use Rattle.frame_reader.specs.Outgoing.{Outgoing}
 use Rattle.frame_reader.specs.Runs.{AllWritten, WriteRuns, WriteStopped, WritesEach}
 use Rattle.frame_reader.specs.RunsLaws.{AllWritten-more, AllWritten-taken, WriteRuns-more}
@@ -102,6 +102,7 @@ pub record ReadsAll {S : Type 0} (remaining : S → Option (List ℕ)) (s : Fram
   pub all_are : kept ++ left ≡ all
   pub max : t.max ≡ s.max
   pub has : HasLeft remaining t left
+  pub no_fault : NoFault s t
 
 module _ {V S : Type 0} (f : V → List ℕ) (vs : List V) (i : ℕ) (remaining : S → Option (List ℕ)) (s m : Framing S)
     (kept : List (List ℕ)) (fit : All (Fits s.max) (map f vs))
@@ -133,6 +134,7 @@ module _ {V S : Type 0} (f : V → List ℕ) (vs : List V) (i : ℕ) (remaining 
               ∙ ap (λ l. kept ++ l) (sym step) ∙ so_far.all_are;
           max = next.went.max ∙ so_far.max;
           has = known.1;
+          no_fault = next.answers.1 ∙ so_far.no_fault;
         }
 
     pub read_none : Next remaining m (Ok None) t → ⊥

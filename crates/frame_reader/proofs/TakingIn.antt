@@ -2,10 +2,11 @@
 use Rattle.std.proofs.Common.{◌≡◌, ℕ, ◌+◌, ◌<◌, ◌≤◌, List, [], ◌∷◌, ◌++◌, length, Ok, Err, refl, sym, ap, subst, ◌∙◌, arith, append-nil, append_assoc}
 use Rattle.std.proofs.lemmas.List.{append_cancel_left}
 use Rattle.buffer_redux.specs.Faults.{MetInterrupts}
+use Rattle.buffer_redux.specs.Transfer.{Sends}
 use Rattle.frame_reader.specs.declared.error.WriteFrameError.TheVariants.{TooLong}
 use Rattle.frame_reader.specs.Frames.{Fits, header, frame}
 use Rattle.frame_reader.specs.Outgoing.{Outgoing, IsOutgoing, room, unsent}
-use Rattle.frame_reader.specs.WriteFrame.{FramesTaken, PutsIn, WritesFrame}
+use Rattle.frame_reader.specs.WriteFrame.{FramesTaken, PutsIn, SendsAll, WritesFrame}
 use Rattle.frame_reader.specs.WriteFrameLaws.{FramesTaken-none, FramesTaken-joins, FramesTaken-put}
 
 -- a payload that is too long changes nothing
@@ -15,7 +16,7 @@ too_long stretch none s payload whole above = record {
   went = FramesTaken-none stretch none s;
   answers = (refl, above, refl);
   fits = λ fits enough. absurd (omega (arith, fits, above));
-  full = λ fits few. tt;
+  full = λ fits few. absurd (omega (arith, fits, above));
   not_flushed = refl;
   whole = whole;
 }
@@ -44,10 +45,11 @@ module _ {S : Type 0} (stretch : S → S → Type 0) (joins : (a b c : S) → st
   pub frame_taken : Fits s.max payload
       → (2 + length payload ≤ room s → m.writer.log ≡ s.writer.log)
       → (room s < 2 + length payload → unsent m ≡ [])
+      → (room s < 2 + length payload → SendsAll s (Ok tt) m)
       → MetInterrupts s.writer.log.writes m.writer.log.writes
       → m.writer.log.writes.flushed ≡ s.writer.log.writes.flushed
       → WritesFrame stretch s payload (Ok tt) t
-  frame_taken fits enough few met flushed = record {
+  frame_taken fits enough few sends met flushed = record {
     went = FramesTaken-joins stretch joins s m t [] (payload ∷ []) went
         (FramesTaken-put stretch joins m h t payload (subst (λ n. length payload ≤ n) (sym went.max) fits) first second);
     answers = (fits, subst (λ l. MetInterrupts s.writer.log.writes l.writes) (sym told) met);
@@ -56,10 +58,14 @@ module _ {S : Type 0} (stretch : S → S → Type 0) (joins : (a b c : S) → st
       told = told ∙ enough roomy;
       added = put ∙ ap (λ l. l ++ frame payload) (same_unsent (enough roomy));
     };
-    full = λ _ tight. (
-      ap (λ l. l.writes.received) told ∙ sent_all (few tight),
-      put ∙ ap (λ l. l ++ frame payload) (few tight),
-    );
+    full = λ _ tight. record {
+      sends = (
+        (sends tight).0,
+        subst (λ l. Sends (length (unsent s)) s.writer.block s.writer.log (Ok tt) (sends tight).0 l) (sym told) (sends tight).1,
+      );
+      received = ap (λ l. l.writes.received) told ∙ sent_all (few tight);
+      added = put ∙ ap (λ l. l ++ frame payload) (few tight);
+    };
     not_flushed = ap (λ l. l.writes.flushed) told ∙ flushed;
     whole = second.whole;
   }

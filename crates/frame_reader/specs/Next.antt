@@ -1,7 +1,10 @@
 -- What the calls of a reader of frames promise.
 use Rattle.std.specs.Prelude.{◌≡◌, ℕ, ◌+◌, ◌<◌, ◌⊎◌, List, [], ◌∷◌, ◌++◌, length, Option, None, Some, Result, Ok, Err, Bool, true, false, option_copied}
 use Rattle.std.specs.Borrow.{Bor}
+use Rattle.std.specs.IoError.{error_kind}
 use Rattle.std.specs.List.{All}
+use Rattle.std.specs.declared.io.Error.{Error}
+use Rattle.std.specs.declared.io.ErrorKind.TheVariants.{OutOfMemory}
 use Rattle.buffer_redux.specs.Buffered.{Buffered}
 use Rattle.buffer_redux.specs.LogGrows.{ReadLogGrows}
 use Rattle.buffer_redux.specs.BufReader.{InnerGives, RanDry}
@@ -50,6 +53,14 @@ handed (Err e) = []
 abbrev pub NoFault : {S : Type 0} → Framing S → Framing S → Type 0
 NoFault s t = t.reader.log.reads.faults ≡ s.reader.log.reads.faults
 
+-- this error is the one fault that the reader met
+abbrev pub Faulted : {S : Type 0} → Framing S → Error → Framing S → Type 0
+Faulted s e t = t.reader.log.reads.faults ≡ s.reader.log.reads.faults ++ e ∷ []
+
+-- why reading failed with this error: memory was refused, and no fault was met, or it is the one fault that the reader met
+abbrev pub ReadFails : {S : Type 0} → Framing S → Error → Framing S → Type 0
+ReadFails s e t = ((error_kind e ≡ OutOfMemory) × NoFault s t) ⊎ Faulted s e t
+
 -- the reader gave nothing though it was asked for something, and met no fault
 abbrev pub Ended : {S : Type 0} → Framing S → Framing S → Type 0
 Ended s t = RanDry s.reader t.reader × NoFault s t
@@ -60,9 +71,7 @@ NextAnswers s (Ok (Some payload)) t = Fits s.max payload × NoFault s t
 NextAnswers s (Ok None) t = (rest t ≡ []) × Ended s t
 NextAnswers s (Err (Truncated have)) t = (have ≡ length (rest t)) × IsCutShort s.max (rest t) × Ended s t
 NextAnswers s (Err (TooLong len)) t = (s.max < len) × BeginsWith len (rest t) × NoFault s t
-NextAnswers s (Err (Io e)) t =
-    (t.reader.log.reads.faults ≡ s.reader.log.reads.faults ++ e ∷ [])
-    × ((rest t ≡ []) ⊎ IsCutShort s.max (rest t))
+NextAnswers s (Err (Io e)) t = Faulted s e t × ((rest t ≡ []) ⊎ IsCutShort s.max (rest t))
 
 -- what is left settles the answer: it begins with a whole frame, or with a length that is too large
 abbrev pub IsSettled : ℕ → List ℕ → Type 0

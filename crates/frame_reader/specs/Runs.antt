@@ -1,5 +1,5 @@
 -- Runs of calls: what was recorded of them, and what they come to.
-use Rattle.std.specs.Prelude.{◌≡◌, ℕ, ◌<◌, List, [], ◌∷◌, ◌++◌, length, map, take, Bool, MatchBool, Option, Result, Ok, Err}
+use Rattle.std.specs.Prelude.{◌≡◌, ℕ, ◌<◌, List, [], ◌∷◌, ◌++◌, length, map, take, Bool, MatchBool, Option, Some, Result, Ok, Err}
 use Rattle.std.specs.Global.{Vec}
 use Rattle.std.specs.List.{flat_map}
 use Rattle.std.specs.Option.{option_map}
@@ -44,10 +44,10 @@ pub record NextStopped {S : Type 0} (remaining : S → Option (List ℕ)) (s : F
   pub run : NextRuns remaining s (answers ++ lost ∷ []) t
   pub went : FramesWent remaining s (all_handed (answers ++ lost ∷ [])) t
 
--- one call was made, whatever it answered
-pub record NextMade {S : Type 0} (remaining : S → Option (List ℕ)) (s t : Framing S) : Type 0 where
-  pub answer : NextAnswer
-  pub next : Next remaining s answer t
+-- one call was made, and what it handed out is lost
+pub record NextLost {S : Type 0} (remaining : S → Option (List ℕ)) (s t : Framing S) : Type 0 where
+  pub payload : List ℕ
+  pub next : Next remaining s (Ok (Some payload)) t
 
 -- calls of `write_frame` with these payloads, one after another, with as many answers
 abbrev pub WriteRuns : {S : Type 0} → (S → S → Type 0) → Outgoing S → List (List ℕ) → List WriteAnswer → Outgoing S

@@ -1,8 +1,11 @@
 -- What the calls of a writer of frames promise.
 use Rattle.std.specs.Prelude.{◌≡◌, ℕ, ◌+◌, ◌<◌, ◌≤◌, List, [], ◌∷◌, ◌++◌, length, Result, Ok, Err, ⊤}
 use Rattle.std.specs.List.{All}
+use Rattle.std.specs.declared.io.Error.{Error}
+use Rattle.buffer_redux.specs.Block.{Block}
 use Rattle.buffer_redux.specs.BufWriter.{WritesInOrder}
 use Rattle.buffer_redux.specs.Faults.{MetInterrupts, SendErrorCaused}
+use Rattle.buffer_redux.specs.Transfer.{Sends}
 use Rattle.frame_reader.specs.declared.error.WriteFrameError.{WriteFrameError}
 use Rattle.frame_reader.specs.declared.error.WriteFrameError.TheVariants.{TooLong, Io}
 use Rattle.frame_reader.specs.Frames.{Fits, frame, frames}
@@ -54,11 +57,23 @@ pub record FrameAdded {S : Type 0} (s : Outgoing S) (payload : List ℕ)
   pub told : t.writer.log ≡ s.writer.log
   pub added : unsent t ≡ unsent s ++ frame payload
 
+-- all that was buffered was sent, once, with this answer; where that failed, nothing was done since
+abbrev pub SendsAll : {S : Type 0} → Outgoing S → Result (Unit {0}) Error → Outgoing S → Type 0
+SendsAll s (Ok _) t =
+    (sent : Block) × Sends (length (unsent s)) s.writer.block s.writer.log (Ok tt) sent t.writer.log
+SendsAll s (Err e) t = Sends (length (unsent s)) s.writer.block s.writer.log (Err e) t.writer.block t.writer.log
+
+-- all went out, and then the frame was taken in
+pub record SentFirst {S : Type 0} (s : Outgoing S) (payload : List ℕ) (t : Outgoing S) : Type 0 where
+  pub sends : SendsAll s (Ok tt) t
+  pub received : t.writer.log.writes.received ≡ s.writer.log.writes.received ++ unsent s
+  pub added : unsent t ≡ frame payload
+
 -- where it doesn't, all that was buffered is sent first, and the inner writer isn't flushed
 abbrev pub SendsFirst : {S : Type 0} → Outgoing S → List ℕ → WriteAnswer → Outgoing S → Type 0
-SendsFirst s payload (Ok _) t =
-    (t.writer.log.writes.received ≡ s.writer.log.writes.received ++ unsent s) × (unsent t ≡ frame payload)
-SendsFirst s payload (Err e) t = ⊤
+SendsFirst s payload (Ok _) t = SentFirst s payload t
+SendsFirst s payload (Err (Io e)) t = SendsAll s (Err e) t
+SendsFirst s payload (Err (TooLong len)) t = ⊥
 
 -- what one call of `write_frame` does
 pub record WritesFrame {S : Type 0} (stretch : S → S → Type 0) (s : Outgoing S) (payload : List ℕ)

@@ -7,7 +7,7 @@ ghost use Rattle.buffer_redux.specs.Faults.{MetInterrupts, SendErrorCaused};
 ghost use Rattle.buffer_redux.specs.Transfer.{Sends};
 ghost use Rattle.frame_reader.specs.Frames.{frames};
 ghost use Rattle.frame_reader.specs.Outgoing.{IsOutgoing, IsUnused, room, unsent};
-ghost use Rattle.frame_reader.specs.WriteFrame.{FramesTaken, PutsIn, WritesFrame};
+ghost use Rattle.frame_reader.specs.WriteFrame.{FramesTaken, PutsIn, SendsAll, WritesFrame};
 
 use crate::error::WriteFrameError;
 use crate::frame::{HEADER, frame_buffer};
@@ -143,6 +143,7 @@ impl<W: TellWrite> FrameWriter<W> {
         ensures went { FramesTaken W.stretch self.old [] self.new }
         ensures fits { whole ≤ room self.old → (result ≡ Ok tt) × (self.new.writer.log ≡ self.old.writer.log) }
         ensures full { room self.old < whole → OnOk result (unsent self.new ≡ []) }
+        ensures sends { room self.old < whole → SendsAll self.old result self.new }
         ensures usable { OnOk result (usable self.new.writer.block ≡ room self.new) }
         ensures met { OnOk result (MetInterrupts self.old.writer.log.writes self.new.writer.log.writes) }
         ensures caused { IfErr result (λ e. SendErrorCaused self.old.writer.log.writes self.new.writer.log.writes e) }

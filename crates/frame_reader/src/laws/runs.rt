@@ -1,7 +1,7 @@
 //! Any number of calls, one after another, each with its answer.
 ghost use Rattle.std.specs.Prelude.{map, IfOk, OnOk, OnErr, is_ok};
 ghost use Rattle.frame_reader.specs.Next.{Next};
-ghost use Rattle.frame_reader.specs.Runs.{NextMade, NextPlayed, NextStopped, WritePlayed, recorded};
+ghost use Rattle.frame_reader.specs.Runs.{NextLost, NextPlayed, NextStopped, WritePlayed, recorded};
 
 use crate::error::{FrameError, WriteFrameError};
 use crate::reader::FrameReader;
@@ -31,13 +31,13 @@ pub fn play_next<R: TellRead>(
     Ok(())
 }
 
-/// One call of `next`, with the payload copied. An `Err` is refused memory; the call was made.
+/// One call of `next`, with the payload copied. An `Err` is refused memory: the call was made, and its payload is lost.
 pub fn next_copied<R: TellRead>(
     alloc: Global,
     reader: &mut FrameReader<R>,
 ) -> Result<Result<Option<Vec<u8>>, FrameError>, AllocError>
     ensures next { IfOk result (λ answer. Next R.remaining reader.old (recorded answer) reader.new) }
-    ensures made { OnErr result (NextMade R.remaining reader.old reader.new) }
+    ensures lost { OnErr result (NextLost R.remaining reader.old reader.new) }
 {
     match reader.next() {
         Ok(Some(payload)) => Ok(Ok(Some(Vec::from_slice(alloc, payload)?))),

@@ -1,4 +1,4 @@
-use Rattle.std.proofs.Common.{map, ◌+◌, ◌++◌, ◌∷◌, [], arith, length-append, ap, ◌∙◌}
+use Rattle.std.proofs.Common.{map, ◌+◌, ◌++◌, ◌∷◌, [], Ok, Some, arith, length-append, ap, ◌∙◌}
 use Rattle.frame_reader.specs.Runs.{recorded}
 use Rattle.frame_reader.specs.RunsLaws.{NextRuns-more}
 use Rattle.frame_reader.proofs.Recording.{gains_more, next_played, next_stopped, on_err}
@@ -7,11 +7,11 @@ use Rattle.frame_reader.proofs.laws.runs.play_next.Goals as goal
 pub returns-in_err-answer-clause-stopped : goal.returns-in_err-answer-clause-stopped
 returns-in_err-answer-clause-stopped g c =
     let inv = c.loop.invariant in
-    let last = c.in_err-answer.ensures.made in
+    let last = c.in_err-answer.ensures.lost in
     on_err c.from_residual.result
     (next_stopped g.R.TellRead.remaining c.args.reader.now c.loop.reader (map recorded c.args.answers.now.items)
     (map recorded c.loop.answers.items) inv.answers inv.gained inv.run c.args.calls
-    (omega (arith, inv.count, c.loop-test.true)) last.answer c.next_copied.new.reader last.next)
+    (omega (arith, inv.count, c.loop-test.true)) (Ok (Some last.payload)) c.next_copied.new.reader last.next)
 
 pub returns-in_err-push-clause-stopped : goal.returns-in_err-push-clause-stopped
 returns-in_err-push-clause-stopped g c =

@@ -19,4 +19,4 @@ returns g c =
     c.put-2.new.self c.args.payload.now m.went
     (subst (λ l. PutsIn stretch c.make_room.new.self l c.put.new.self) c.to_be_bytes.ensures c.put.ensures.put)
     c.put-2.ensures.put (omega (arith, max, c.from.ensures, c.if-payload-from.false))
-    (λ roomy. (m.fits roomy).1) m.full m.met m.not_flushed
+    (λ roomy. (m.fits roomy).1) m.full m.sends m.met m.not_flushed
