@@ -5,6 +5,7 @@ use Rattle.std.specs.IoError.{error_kind}
 use Rattle.std.specs.declared.io.Error.{Error}
 use Rattle.std.specs.declared.io.ErrorKind.{ErrorKind}
 use Rattle.redux_buffer.specs.Block.{LeavesBytes}
+use Rattle.redux_buffer.specs.GrowError.{GrowthRefused}
 use Rattle.redux_tell.specs.LogGrows.{ReadLogGrows}
 use Rattle.redux_buffer.specs.Transfer.{ReadsFrom}
 use Rattle.buffer_redux.specs.declared.play.ReaderCall.{ReaderCall}
@@ -16,7 +17,7 @@ use Rattle.buffer_redux.specs.Buffered.{Buffered, GoesPast, StaysInside, GoesDir
 use Rattle.buffer_redux.specs.Fill.{Filled}
 use Rattle.redux_tell.specs.StreamLog.{after_read}
 use Rattle.buffer_redux.specs.BufReader.{ReadsInOrder, ReadErrorCaused, EmptyReadCaused, EmptyFillCaused, ReaderConsumes, ReadsBuffered}
-use Rattle.buffer_redux.specs.PlayRoom.{RoomMade, ReserveDone, ReserveRefused}
+use Rattle.buffer_redux.specs.PlayRoom.{RoomMade, ReserveDone}
 use Rattle.buffer_redux.specs.Sparing.{SparesClaimed}
 
 -- a reader, and the bytes that were handed out so far
@@ -107,7 +108,7 @@ ReaderAnswers rules s ReadIntoBuf (Count k) out t = IntoBufCounted s k out t
 ReaderAnswers rules s ReadIntoBuf (Fault kind) out t = IntoBufFailed s kind out t
 ReaderAnswers rules s MakeRoom Done out t = (out ≡ []) × RoomMade s t
 ReaderAnswers rules s (Reserve a) Done out t = (out ≡ []) × ReserveDone s a t
-ReaderAnswers rules s (Reserve a) (Refused e) out t = (out ≡ []) × ReserveRefused s a e t
+ReaderAnswers rules s (Reserve a) (Refused e) out t = (out ≡ []) × GrowthRefused a s.block e × (t ≡ s)
 ReaderAnswers rules s call answer out t = ⊥
 
 -- bytes were handed out, and none was lost or changed place; no more were consumed than handed out. The capacity didn't

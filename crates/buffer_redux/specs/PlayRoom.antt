@@ -1,8 +1,6 @@
--- What the players say of a `make_room` and a `reserve`, of a reader and of a writer alike.
-use Rattle.std.specs.Prelude.{◌≡◌, ℕ, ◌<◌, ◌≤◌, Err}
-use Rattle.redux_buffer.specs.Block.{MakesRoom, MovesToFront, Reserves, capacity_for, usable}
-use Rattle.redux_buffer.specs.GrowError.{FitsWithin}
-use Rattle.redux_buffer.specs.declared.grow_error.GrowError.{GrowError}
+-- What the players say of a `make_room` and of a `reserve` that was had, of a reader and of a writer alike.
+use Rattle.std.specs.Prelude.{◌≡◌, ℕ, ◌≤◌}
+use Rattle.redux_buffer.specs.Block.{MakesRoom, MovesToFront, Reserves, usable}
 use Rattle.buffer_redux.specs.Buffered.{Buffered, with_block}
 
 -- `MakeRoom` with `Done`: the same bytes, with all free space usable; a plain buffer moved them to the front for that
@@ -16,9 +14,3 @@ pub record ReserveDone {S P : Type 0} (s : Buffered S P) (a : ℕ) (t : Buffered
   pub grown : Reserves a s.block t.block
   pub enough : a ≤ usable t.block
   pub others : t ≡ with_block s t.block
-
--- `Reserve(a)` with `Refused(e)`: it was needed and not had, and nothing changed
-pub record ReserveRefused {S P : Type 0} (s : Buffered S P) (a : ℕ) (e : GrowError) (t : Buffered S P) : Type 0 where
-  pub needed : usable s.block < a
-  pub limit : FitsWithin {T = Unit {0}} (Err e) (capacity_for s.block a) s.block.limit
-  pub unchanged : t ≡ s

@@ -3,6 +3,7 @@ use Rattle.std.specs.Prelude.{◌≡◌, ℕ, ◌+◌, ◌<◌, ◌≤◌, List,
 use Rattle.std.specs.IoError.{error_kind}
 use Rattle.std.specs.declared.io.Error.{Error}
 use Rattle.std.specs.declared.io.ErrorKind.{ErrorKind}
+use Rattle.redux_buffer.specs.GrowError.{GrowthRefused}
 use Rattle.redux_tell.specs.Faults.{SendErrorCaused}
 use Rattle.redux_tell.specs.LogGrows.{WriteLogGrows}
 use Rattle.buffer_redux.specs.declared.play.WriterCall.{WriterCall}
@@ -12,7 +13,7 @@ use Rattle.buffer_redux.specs.declared.play.WriterAnswer.TheVariants.{Count, Don
 use Rattle.redux_policy.specs.Policy.{WriteRules}
 use Rattle.buffer_redux.specs.Buffered.{Buffered}
 use Rattle.buffer_redux.specs.BufWriter.{WritesInOrder, WriteErrorCaused, EmptyWriteCaused, Writes, Flushes, IsFlushed}
-use Rattle.buffer_redux.specs.PlayRoom.{RoomMade, ReserveDone, ReserveRefused}
+use Rattle.buffer_redux.specs.PlayRoom.{RoomMade, ReserveDone}
 
 -- the bytes that a call with this answer took in: the first k of a write that returned `Ok(k)`, and of all calls
 abbrev pub bytes_accepted_by : WriterCall → WriterAnswer → List ℕ
@@ -60,7 +61,7 @@ WriterAnswers rules s Flush Done t = FlushDone s t
 WriterAnswers rules s Flush (Fault kind) t = FlushFailed s kind t
 WriterAnswers rules s MakeRoom Done t = RoomMade s t
 WriterAnswers rules s (Reserve a) Done t = ReserveDone s a t
-WriterAnswers rules s (Reserve a) (Refused e) t = ReserveRefused s a e t
+WriterAnswers rules s (Reserve a) (Refused e) t = GrowthRefused a s.block e × (t ≡ s)
 WriterAnswers rules s call answer t = ⊥
 
 -- no more was consumed than the writer inside received

@@ -1,13 +1,11 @@
 -- How calls of a reader spare its plain buffer moves, over any stretch of them.
-use Rattle.std.specs.Prelude.{◌≡◌, ℕ, ◌+◌, ◌*◌, ◌<◌, ◌≤◌, ◌⊎◌, [], length, Result, Ok, Err}
+use Rattle.std.specs.Prelude.{◌≡◌, ℕ, ◌+◌, ◌*◌, ◌≤◌, ◌⊎◌, [], length, Result, Ok, Err}
 use Rattle.std.proofs.Common.{◌∙◌, ap, arith, le_refl, le_trans, refl}
-use Rattle.std.specs.IoError.{error_kind}
 use Rattle.std.specs.declared.io.Error.{Error}
 use Rattle.std.specs.declared.io.traits.SeekFrom.{SeekFrom}
-use Rattle.redux_buffer.specs.Block.{Block, Plain, IsBlock, Reserves, capacity_for, usable}
-use Rattle.redux_buffer.specs.GrowError.{FitsWithin, kind_of}
+use Rattle.redux_buffer.specs.Block.{Block, Plain, IsBlock, Reserves, usable}
+use Rattle.redux_buffer.specs.GrowError.{GrowthFailed}
 use Rattle.redux_buffer.specs.Potential.{potential, of_plain}
-use Rattle.redux_buffer.specs.declared.grow_error.GrowError.{GrowError}
 use Rattle.redux_policy.specs.Policy.{ReadRules, ClaimsToSpare}
 use Rattle.redux_tell.specs.StreamLog.{Readies}
 use Rattle.buffer_redux.specs.Buffered.{Buffered, with_block, with_policy}
@@ -41,14 +39,6 @@ pub record BeginsEmpty {S P : Type 0} (keep : ℕ) (s : Buffered S P) : Type 0 w
   pub empty : s.block.bytes ≡ []
   pub capacity : 3 * keep ≤ s.block.capacity
 
--- a growth by so many bytes was refused, which the error tells by its kind, and left the reader as it was
-pub record GrowthRefused {S P : Type 0} (more : ℕ) (s : Buffered S P) (e : Error) (t : Buffered S P) : Type 0 where
-  pub tight : usable s.block < more
-  pub refusal : GrowError
-  pub tells : error_kind e ≡ kind_of refusal
-  pub within : FitsWithin {T = Unit {0}} (Err refusal) (capacity_for s.block more) s.block.limit
-  pub unchanged : t ≡ s
-
 -- the buffer grew by so many bytes, where they didn't fit, and then the reader sought
 pub record GrewAndSought {S P : Type 0} (readies : Readies) (more : ℕ) (to : SeekFrom) (s : Buffered S P)
     (answer : Result ℕ Error) (t : Buffered S P) : Type 0 where
@@ -56,11 +46,13 @@ pub record GrewAndSought {S P : Type 0} (readies : Readies) (more : ℕ) (to : S
   pub grows : Reserves more s.block grown
   pub seeks : Seeks readies (plan_for to (length grown.bytes)) (with_block s grown) answer t
 
--- the buffer grew, and then the reader sought; an error is the refusal of the growth, which ended it, or the seek's
+-- the buffer grew, and then the reader sought; an error is the refusal of the growth, which ended it and left all as it
+-- was, or the seek's
 abbrev pub GrowsAndSeeks : {S P : Type 0} → Readies → ℕ → SeekFrom → Buffered S P → Result ℕ Error → Buffered S P
     → Type 0
 GrowsAndSeeks readies more to s (Ok n) t = GrewAndSought readies more to s (Ok n) t
-GrowsAndSeeks readies more to s (Err e) t = GrowthRefused more s e t ⊎ GrewAndSought readies more to s (Err e) t
+GrowsAndSeeks readies more to s (Err e) t =
+    (GrowthFailed more s.block e × (t ≡ s)) ⊎ GrewAndSought readies more to s (Err e) t
 
 -- no call spares every number, and two stretches join, also where the policy is another from the second on
 pub Spared-none : {S P : Type 0} (keep : ℕ) (s : Buffered S P) → Spared keep s s

@@ -1,7 +1,10 @@
 -- When a growth or a maker is refused.
-use Rattle.std.specs.Prelude.{ℕ, ◌≤◌, ◌<◌, Result, Ok, Err}
+use Rattle.std.specs.Prelude.{◌≡◌, ℕ, ◌≤◌, ◌<◌, Result, Ok, Err}
+use Rattle.std.specs.IoError.{error_kind}
+use Rattle.std.specs.declared.io.Error.{Error}
 use Rattle.std.specs.declared.io.ErrorKind.{ErrorKind}
 use Rattle.std.specs.declared.io.ErrorKind.TheVariants.{InvalidInput, OutOfMemory}
+use Rattle.redux_buffer.specs.Block.{Block, capacity_for, usable}
 use Rattle.redux_buffer.specs.declared.grow_error.GrowError.{GrowError}
 use Rattle.redux_buffer.specs.declared.grow_error.GrowError.TheVariants.{TooLarge, Memory}
 
@@ -15,3 +18,14 @@ FitsWithin (Err Memory) needed limit = needed ≤ limit
 abbrev pub kind_of : GrowError → ErrorKind
 kind_of TooLarge = InvalidInput
 kind_of Memory = OutOfMemory
+
+-- room for so many more bytes was needed, and refused for this reason
+pub record GrowthRefused (more : ℕ) (b : Block) (refusal : GrowError) : Type 0 where
+  pub tight : usable b < more
+  pub within : FitsWithin {T = Unit {0}} (Err refusal) (capacity_for b more) b.limit
+
+-- it was refused, which an I/O error tells by its kind
+pub record GrowthFailed (more : ℕ) (b : Block) (e : Error) : Type 0 where
+  pub refusal : GrowError
+  pub tells : error_kind e ≡ kind_of refusal
+  pub refused : GrowthRefused more b refusal

@@ -1,10 +1,7 @@
 -- What `MinBuffered` does before a read.
 use Rattle.std.specs.Prelude.{◌≡◌, ℕ, ◌-◌, ◌<◌, ◌≤◌, length, Ok, Err, MatchBool, Some, false}
-use Rattle.std.specs.IoError.{error_kind}
-use Rattle.std.specs.declared.io.Error.{Error}
-use Rattle.redux_buffer.specs.Block.{Block, MakesRoom, MovesToFront, Reserves, capacity_for, usable}
-use Rattle.redux_buffer.specs.GrowError.{FitsWithin, kind_of}
-use Rattle.redux_buffer.specs.declared.grow_error.GrowError.{GrowError}
+use Rattle.redux_buffer.specs.Block.{Block, MakesRoom, MovesToFront, Reserves, usable}
+use Rattle.redux_buffer.specs.GrowError.{GrowthFailed}
 use Rattle.redux_policy.specs.declared.min_buffered.MinBuffered.{MinBuffered}
 use Rattle.redux_policy.specs.Policy.{BeforeReadTable, ReadRules}
 
@@ -29,19 +26,13 @@ pub record ReadiesFor (n : ℕ) (old new : Block) : Type 0 where
   pub full : n ≤ old.capacity → free_space old < n → usable old ≡ 0 → MakesRoomInFront old new
   pub not_full : n ≤ old.capacity → free_space old < n → 0 < usable old → new ≡ old
 
--- the growth of a buffer that is too small to hold n bytes was refused, which the error tells by its kind
-pub record RefusedFor (n : ℕ) (e : Error) (old new : Block) : Type 0 where
-  pub too_small : old.capacity < n
-  pub refusal : GrowError
-  pub tells : error_kind e ≡ kind_of refusal
-  pub within : FitsWithin {T = Unit {0}} (Err refusal) (capacity_for old (n - old.capacity)) old.limit
-  pub unchanged : new ≡ old
-
--- `MinBuffered` reads where fewer bytes than its number are there, and itself never changes
+-- `MinBuffered` reads where fewer bytes than its number are there. It fails only where what a capacity of its number
+-- lacks was refused, and itself never changes
 abbrev pub min_before_read : BeforeReadTable MinBuffered
 min_before_read p b (Ok d) p' b' =
     (p' ≡ p) × MatchBool d.0 ((length b.bytes < p.0) × ReadiesFor p.0 b b') ((p.0 ≤ length b.bytes) × (b' ≡ b))
-min_before_read p b (Err e) p' b' = (p' ≡ p) × (length b.bytes < p.0) × RefusedFor p.0 e b b'
+min_before_read p b (Err e) p' b' =
+    (p' ≡ p) × (b' ≡ b) × (length b.bytes < p.0) × GrowthFailed (p.0 - b.capacity) b e
 
 abbrev pub min_read_rules : ReadRules MinBuffered
 min_read_rules = record {

@@ -1,10 +1,8 @@
 -- What the policies of writers do that flush by the bytes, or by how many are buffered.
-use Rattle.std.specs.Prelude.{◌≡◌, ℕ, List, ◌-◌, ◌<◌, ◌≤◌, ◌⊎◌, slice_index, length, max, true, Result, Ok, Err, MatchResult}
-use Rattle.std.specs.IoError.{error_kind}
+use Rattle.std.specs.Prelude.{◌≡◌, ℕ, List, ◌-◌, ◌<◌, ◌≤◌, ◌⊎◌, slice_index, length, max, true, Result, Ok, Err}
 use Rattle.std.specs.declared.io.Error.{Error}
-use Rattle.redux_buffer.specs.declared.grow_error.GrowError.{GrowError}
-use Rattle.redux_buffer.specs.GrowError.{FitsWithin, kind_of}
-use Rattle.redux_buffer.specs.Block.{Block, Reserves, MakesRoom, usable, capacity_for}
+use Rattle.redux_buffer.specs.Block.{Block, Reserves, MakesRoom, usable}
+use Rattle.redux_buffer.specs.GrowError.{GrowthFailed}
 use Rattle.redux_policy.specs.Policy.{WriteRules, BeforeWriteTable, amount_when_full, no_write_claims, std_before_write}
 
 -- an amount that goes through the last such byte, and is 0 where there is none
@@ -25,16 +23,10 @@ pub record Ensured (n : ℕ) (old new : Block) : Type 0 where
   pub enough : n ≤ old.capacity → new ≡ old
   pub grown : old.capacity < n → Reserves (n - old.capacity) old new
 
--- what a capacity of n lacks was refused, and nothing changed
-pub record EnsureRefused (n : ℕ) (old : Block) (e : Error) (new : Block) : Type 0 where
-  pub lacks : old.capacity < n
-  pub refusal : GrowError
-  pub kind : error_kind e ≡ kind_of refusal
-  pub limit : FitsWithin {T = Unit {0}} (Err refusal) (capacity_for old (n - old.capacity)) old.limit
-  pub unchanged : new ≡ old
-
+-- what a capacity of n lacks was reserved, or refused, and nothing changed then
 abbrev pub EnsuresCapacity : ℕ → Block → Result (Unit {0}) Error → Block → Type 0
-EnsuresCapacity n old answer new = MatchResult answer (λ _. Ensured n old new) (λ e. EnsureRefused n old e new)
+EnsuresCapacity n old (Ok _) new = Ensured n old new
+EnsuresCapacity n old (Err e) new = (new ≡ old) × GrowthFailed (n - old.capacity) old e
 
 -- all free space became usable where the incoming bytes don't fit behind fewer than n bytes
 pub record MakesRoomBelow (n incoming : ℕ) (old new : Block) : Type 0 where
@@ -45,7 +37,7 @@ pub record MakesRoomBelow (n incoming : ℕ) (old new : Block) : Type 0 where
 abbrev pub at_least_before_write : {P : Type 0} → (P → ℕ) → BeforeWriteTable P
 at_least_before_write least p b incoming (Ok a) p' b' =
     (p' ≡ p) × Ensured (least p) b b' × (a.0 ≡ amount_when_full b' incoming)
-at_least_before_write least p b incoming (Err e) p' b' = (p' ≡ p) × EnsureRefused (least p) b e b'
+at_least_before_write least p b incoming (Err e) p' b' = (p' ≡ p) × EnsuresCapacity (least p) b (Err e) b'
 
 -- after a write it flushes all, where that is at least its number
 abbrev pub at_least_rules : {P : Type 0} → (P → ℕ) → WriteRules P
@@ -60,7 +52,7 @@ at_least_rules least = record {
 abbrev pub exact_before_write : {P : Type 0} → (P → ℕ) → BeforeWriteTable P
 exact_before_write exact p b incoming (Ok a) p' b' =
     (p' ≡ p) × (a.0 ≡ exact p) × ((m : Block) × Ensured (exact p) b m × MakesRoomBelow (exact p) incoming m b')
-exact_before_write exact p b incoming (Err e) p' b' = (p' ≡ p) × EnsureRefused (exact p) b e b'
+exact_before_write exact p b incoming (Err e) p' b' = (p' ≡ p) × EnsuresCapacity (exact p) b (Err e) b'
 
 -- so it does after a write
 abbrev pub exact_rules : {P : Type 0} → (P → ℕ) → WriteRules P

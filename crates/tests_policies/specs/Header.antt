@@ -1,10 +1,7 @@
 -- What `Header` does before a read.
 use Rattle.std.specs.Prelude.{◌≡◌, ◌<◌, ◌≤◌, length, Ok, Err, MatchBool, Some, false}
-use Rattle.std.specs.IoError.{error_kind}
-use Rattle.std.specs.declared.io.Error.{Error}
-use Rattle.buffer_redux.specs.Block.{Block, MakesRoom, MovesToFront, Reserves, capacity_for, usable}
-use Rattle.buffer_redux.specs.GrowError.{FitsWithin, kind_of}
-use Rattle.buffer_redux.specs.declared.GrowError.{GrowError}
+use Rattle.buffer_redux.specs.Block.{Block, MakesRoom, MovesToFront, Reserves, usable}
+use Rattle.buffer_redux.specs.GrowError.{GrowthFailed}
 use Rattle.buffer_redux.specs.Policy.{BeforeReadTable, ReadRules}
 use Rattle.tests_policies.specs.declared.claims.Header.{Header}
 
@@ -14,19 +11,12 @@ pub record ReadiesHeader (old new : Block) : Type 0 where
   pub tight : 16 ≤ old.capacity → usable old < 16 → MakesRoom old new × MovesToFront old new
   pub roomy : 16 ≤ old.capacity → 16 ≤ usable old → new ≡ old
 
--- the growth of a buffer that can't hold sixteen bytes was refused, which the error tells by its kind
-pub record HeaderRefused (e : Error) (old new : Block) : Type 0 where
-  pub small : old.capacity < 16
-  pub refusal : GrowError
-  pub tells : error_kind e ≡ kind_of refusal
-  pub within : FitsWithin {T = Unit {0}} (Err refusal) (capacity_for old 48) old.limit
-  pub unchanged : new ≡ old
-
--- it reads where fewer than sixteen bytes are there
+-- it reads where fewer than sixteen bytes are there, and fails only where it can't hold them and its growth was refused
 abbrev pub header_before_read : BeforeReadTable Header
 header_before_read p b (Ok d) p' b' =
     (p' ≡ p) × MatchBool d.0 ((length b.bytes < 16) × ReadiesHeader b b') ((16 ≤ length b.bytes) × (b' ≡ b))
-header_before_read p b (Err e) p' b' = (p' ≡ p) × (length b.bytes < 16) × HeaderRefused e b b'
+header_before_read p b (Err e) p' b' =
+    (p' ≡ p) × (b' ≡ b) × (length b.bytes < 16) × (b.capacity < 16) × GrowthFailed 48 b e
 
 -- it keeps sixteen bytes in sight, and spares that number and each larger one
 abbrev pub header_rules : ReadRules Header
