@@ -8,9 +8,9 @@ use Rattle.std.specs.declared.io.traits.SeekFrom.{SeekFrom}
 use Rattle.redux_tell.specs.declared.script.Answer.{Answer}
 use Rattle.redux_tell.specs.declared.script.Answer.TheVariants.{Serve, Fail, Interrupt, ServeEach}
 use Rattle.redux_tell.specs.declared.script.Script.{Script}
-use Rattle.redux_tell.specs.declared.script.ScriptReader.{ScriptReader}
-use Rattle.redux_tell.specs.declared.script.ScriptWriter.{ScriptWriter}
-use Rattle.redux_tell.specs.declared.script.ScriptSeeker.{ScriptSeeker}
+use Rattle.redux_tell.specs.declared.script.reader.ScriptReader.{ScriptReader}
+use Rattle.redux_tell.specs.declared.script.writer.ScriptWriter.{ScriptWriter}
+use Rattle.redux_tell.specs.declared.script.seeker.ScriptSeeker.{ScriptSeeker}
 
 -- one answer of a scripted stream: at most so many bytes, or a fault
 pub data Reply : Type 0 where
