@@ -41,12 +41,16 @@ fill_grows : {A : Type 0} (log : StreamLog) (answer : Result A Error) (shown : L
 fill_grows log (Ok a) shown =
     record {
       consumed = GoesOn-none log.fills.consumed;
+      asks = omega arith;
+      consumes = le_refl _;
       ends = end_rises log.fills.zero_fills shown;
       faults = GoesOn-none log.fills.faults;
     }
 fill_grows log (Err e) shown =
     record {
       consumed = GoesOn-none log.fills.consumed;
+      asks = omega arith;
+      consumes = le_refl _;
       ends = le_refl _;
       faults = record { more = e ∷ []; equal = refl };
     }

@@ -134,6 +134,8 @@ module _ {S P : Type 0} (remaining : S → Option (List ℕ)) (rules : ReadRules
       → ReaderWent remaining rules s t → FillsGoOn (reader_log s) (reader_log t)
   ReaderWent-grows s t went = FillsGoOn-of (reader_log s) (reader_log t) (record {
     consumed = went.own_grows.consumed;
+    asks = went.own_grows.asks;
+    consumes = went.own_grows.consumes;
     ends = went.own_grows.ends;
     faults = went.own_grows.faults;
   })

@@ -25,6 +25,8 @@ pub record WriteLogGrows (old new : WriteLog) : Type 0 where
 -- what is shown changes with each call
 pub record FillLogGrows (old new : FillLog) : Type 0 where
   pub consumed : GoesOn old.consumed new.consumed
+  pub asks : old.asks ≤ new.asks
+  pub consumes : old.consumes ≤ new.consumes
   pub ends : old.zero_fills ≤ new.zero_fills
   pub faults : GoesOn old.faults new.faults
 
@@ -73,11 +75,19 @@ WriteLogGrows-joins a b c p q = record {
 }
 
 pub FillLogGrows-none : (s : FillLog) → FillLogGrows s s
-FillLogGrows-none s = record { consumed = GoesOn-none s.consumed; ends = le_refl _; faults = GoesOn-none s.faults }
+FillLogGrows-none s = record {
+  consumed = GoesOn-none s.consumed;
+  asks = le_refl _;
+  consumes = le_refl _;
+  ends = le_refl _;
+  faults = GoesOn-none s.faults;
+}
 
 pub FillLogGrows-joins : (a b c : FillLog) → FillLogGrows a b → FillLogGrows b c → FillLogGrows a c
 FillLogGrows-joins a b c p q = record {
   consumed = GoesOn-joins a.consumed b.consumed c.consumed p.consumed q.consumed;
+  asks = le_trans p.asks q.asks;
+  consumes = le_trans p.consumes q.consumes;
   ends = le_trans p.ends q.ends;
   faults = GoesOn-joins a.faults b.faults c.faults p.faults q.faults;
 }

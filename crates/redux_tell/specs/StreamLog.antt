@@ -23,11 +23,13 @@ pub record WriteLog : Type 0 where
   pub zero_writes : ℕ
   pub faults : List Error
 
--- what a buffered reader tells: the bytes that it shows, those that were consumed, its Ok fills that showed nothing,
--- and its faults
+-- what a buffered reader tells: the bytes that it shows, those that were consumed, the fills that it answered, the
+-- consumes, its Ok fills that showed nothing, and its faults
 pub record FillLog : Type 0 where
   pub shown : List ℕ
   pub consumed : List ℕ
+  pub asks : ℕ
+  pub consumes : ℕ
   pub zero_fills : ℕ
   pub faults : List Error
 
@@ -52,7 +54,7 @@ abbrev pub no_calls : StreamLog
 no_calls = record {
   reads = record { given = []; asks = 0; offer = 0; zero_reads = 0; faults = [] };
   writes = record { received = []; flushed = []; offer = 0; zero_writes = 0; faults = [] };
-  fills = record { shown = []; consumed = []; zero_fills = 0; faults = [] };
+  fills = record { shown = []; consumed = []; asks = 0; consumes = 0; zero_fills = 0; faults = [] };
   seeks = record { calls = []; faults = [] };
 }
 
@@ -157,6 +159,8 @@ after_consume log amount = record log {
   fills = record {
     shown = drop amount log.fills.shown;
     consumed = log.fills.consumed ++ take amount log.fills.shown;
+    asks = log.fills.asks;
+    consumes = log.fills.consumes + 1;
     zero_fills = log.fills.zero_fills;
     faults = log.fills.faults;
   };
@@ -176,6 +180,8 @@ after_shown log bytes = record log {
   fills = record {
     shown = bytes;
     consumed = log.fills.consumed;
+    asks = log.fills.asks + 1;
+    consumes = log.fills.consumes;
     zero_fills = with_end log.fills.zero_fills bytes;
     faults = log.fills.faults;
   };
@@ -187,6 +193,8 @@ after_fill_fault log shown e = record log {
   fills = record {
     shown = shown;
     consumed = log.fills.consumed;
+    asks = log.fills.asks + 1;
+    consumes = log.fills.consumes;
     zero_fills = log.fills.zero_fills;
     faults = log.fills.faults ++ e ∷ [];
   };
