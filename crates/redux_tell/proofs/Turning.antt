@@ -11,12 +11,13 @@ use Rattle.redux_tell.specs.Faults.{IsInterrupt, MetInterrupts, OnlyInterrupts-n
 use Rattle.redux_tell.specs.StreamLog.{StreamLog, FillLog, WriteLog, after_fill_fault, after_shown, after_write, with_end}
 
 -- nothing was consumed, and nothing received
-still : (a b : FillLog) (x y : WriteLog) → b.consumed ≡ a.consumed → y.received ≡ x.received → y.flushed ≡ x.flushed
-    → MovedBy 0 a b x y
-still a b x y consumed received flushed = record {
+still : (a b : FillLog) (x y : WriteLog) → b.consumed ≡ a.consumed → b.consumes ≡ a.consumes → y.received ≡ x.received
+    → y.flushed ≡ x.flushed → MovedBy 0 a b x y
+still a b x y consumed consumes received flushed = record {
   bytes = [];
   count = refl;
   consumed = consumed ∙ sym (append-nil a.consumed);
+  consumes = omega (arith, consumes);
   received = received ∙ sym (append-nil x.received);
   not_flushed = flushed;
 }
@@ -34,7 +35,7 @@ module _ {W : Type 0} (tells : W → StreamLog) (stretch call : W → W → Type
   not_filled shown e =
       let none : MetInterrupts (tells w).writes (tells w).writes =
       record { interrupts = []; only = OnlyInterrupted-none (tells w).writes } in
-      let kept = still from.fills (after_fill_fault from shown e).fills (tells w).writes (tells w).writes refl refl refl in
+      let kept = still from.fills (after_fill_fault from shown e).fills (tells w).writes (tells w).writes refl refl refl refl in
       record {
         answers = record {
           copies = tt;
@@ -53,9 +54,12 @@ module _ {W : Type 0} (tells : W → StreamLog) (stretch call : W → W → Type
         interrupted = λ is. record {
           moved = kept;
           ends = le_refl _;
+          fills = omega (arith, length-append from.fills.faults (e ∷ []));
           reader = record { interrupts = e ∷ []; interrupted = one_interrupt e is; faults = refl };
           writer = none;
         };
+        one_fill = refl;
+        one_consume = omega arith;
         none_ended = tt;
         ended_once = omega arith;
         one_fault = omega (arith, length-append from.fills.faults (e ∷ []));
@@ -68,7 +72,7 @@ module _ {W : Type 0} (tells : W → StreamLog) (stretch call : W → W → Type
       → CopyTurn tells stretch call (Err e) from.fills (after_shown from bytes).fills w w'
   not_written none bytes e w' told called =
       let faults = ap (λ l. l.writes.faults) told in
-      let kept = still from.fills (after_shown from bytes).fills (tells w).writes (tells w').writes refl
+      let kept = still from.fills (after_shown from bytes).fills (tells w).writes (tells w').writes refl refl
       (ap (λ l. l.writes.received) told ∙ append-nil (tells w).writes.received) (ap (λ l. l.writes.flushed) told) in
       let ends = end_counted from.fills.zero_fills bytes in
       record {
@@ -91,6 +95,7 @@ module _ {W : Type 0} (tells : W → StreamLog) (stretch call : W → W → Type
         interrupted = λ is. record {
           moved = kept;
           ends = ends.0;
+          fills = omega (arith, ap length faults, length-append (tells w).writes.faults (e ∷ []));
           reader = OnlyInterrupts-none from.fills.faults;
           writer = record {
             interrupts = e ∷ [];
@@ -101,6 +106,8 @@ module _ {W : Type 0} (tells : W → StreamLog) (stretch call : W → W → Type
             };
           };
         };
+        one_fill = refl;
+        one_consume = omega arith;
         none_ended = tt;
         ended_once = ends.1;
         one_fault = omega (arith, ap length faults, length-append (tells w).writes.faults (e ∷ []));
@@ -118,11 +125,13 @@ module _ {W : Type 0} (tells : W → StreamLog) (stretch call : W → W → Type
     answers = TurnAnswers-after tells stretch call joins before went (Ok n) turn.answers;
     often = tt;
     few = omega (arith, few, turn.few);
+    fills = omega (arith, before.fills, turn.one_fill, turn.one_fault);
   }
   last_retried (Err e) rise few turn = record {
     answers = TurnAnswers-after tells stretch call joins before went (Err e) turn.answers;
     often = λ is. omega (arith, rise, turn.one_fault);
     few = omega (arith, few, turn.few);
+    fills = omega (arith, before.fills, turn.one_fill, turn.one_fault);
   }
 
 -- how many bytes were consumed, and that faults only come

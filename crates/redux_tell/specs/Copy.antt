@@ -7,18 +7,25 @@ use Rattle.std.specs.declared.io.ErrorKind.TheVariants.{Interrupted, Other}
 use Rattle.redux_tell.specs.StreamLog.{StreamLog, FillLog, WriteLog, after_write}
 use Rattle.redux_tell.specs.Faults.{OnlyInterrupts, FaultAfterInterrupts, MetInterrupts}
 
--- the writer received n bytes, and these are the ones that the reader was told are consumed
+-- the writer received n bytes, and these are the ones that the reader was told are consumed. No consume was empty
 pub record MovedBy (n : ℕ) (from from' : FillLog) (to to' : WriteLog) : Type 0 where
   pub bytes : List ℕ
   pub count : length bytes ≡ n
   pub consumed : from'.consumed ≡ from.consumed ++ bytes
+  pub consumes : from'.consumes ≤ from.consumes + n
   pub received : to'.received ≡ to.received ++ bytes
   pub not_flushed : to'.flushed ≡ to.flushed
 
--- turns that moved n bytes, in which the streams were at most interrupted
+-- so many fills were made at the most, and one for each fault that the streams met
+abbrev pub FillsAtMost : ℕ → FillLog → FillLog → WriteLog → WriteLog → Type 0
+FillsAtMost n from from' to to' =
+    from'.asks + (length from.faults + length to.faults) ≤ from.asks + n + (length from'.faults + length to'.faults)
+
+-- turns that moved n bytes, in which the streams were at most interrupted; those were one for each byte at the most
 pub record CopiesOn (n : ℕ) (from from' : FillLog) (to to' : WriteLog) : Type 0 where
   pub moved : MovedBy n from from' to to'
   pub ends : from.zero_fills ≤ from'.zero_fills
+  pub fills : FillsAtMost n from from' to to'
   pub reader : OnlyInterrupts from.faults from'.faults
   pub writer : MetInterrupts to to'
 
@@ -97,15 +104,19 @@ pub record TurnAnswers {W : Type 0} (tells : W → StreamLog) (stretch call : W 
   pub failed : IfErr result (λ e. StreamFailed tells stretch call e from from' w w')
   pub kept : OnErr result (MovedBy 0 from from' (tells w).writes (tells w').writes)
 
--- one turn of a copy: a failure is one fault, which moved nothing, and a reader that showed nothing isn't asked again
+-- one turn of a copy: one fill, and one consume where bytes went over; a failure is one fault, which moved nothing
 pub record CopyTurn {W : Type 0} (tells : W → StreamLog) (stretch call : W → W → Type 0) (result : Result ℕ Error)
     (from from' : FillLog) (w w' : W) : Type 0 where
   pub answers : TurnAnswers tells stretch call result from from' w w'
   pub interrupted : IfErr result
       (λ e. error_kind e ≡ Interrupted → CopiesOn 0 from from' (tells w).writes (tells w').writes)
+  pub one_fill : from'.asks ≡ from.asks + 1
+  pub one_consume : from'.consumes ≤ from.consumes + 1
   pub none_ended : IfOk result (λ n. 0 < n → from'.zero_fills ≡ from.zero_fills)
   pub ended_once : from'.zero_fills ≤ from.zero_fills + 1
-  pub one_fault : OnErr result (FaultsRise 1 from from' (tells w).writes (tells w').writes)
+  pub one_fault : MatchResult result
+      (λ _. FaultsRise 0 from from' (tells w).writes (tells w').writes)
+      (λ _. FaultsRise 1 from from' (tells w).writes (tells w').writes)
   pub few : MatchResult result
       (λ _. FaultsAtMost 0 from from' (tells w).writes (tells w').writes)
       (λ _. FaultsAtMost 1 from from' (tells w).writes (tells w').writes)
@@ -119,6 +130,7 @@ pub record CopyRetried {W : Type 0} (tells : W → StreamLog) (stretch call : W 
   pub few : MatchResult result
       (λ _. FaultsAtMost 64 from from' (tells w).writes (tells w').writes)
       (λ _. FaultsAtMost 65 from from' (tells w).writes (tells w').writes)
+  pub fills : FillsAtMost 1 from from' (tells w).writes (tells w').writes
 
 -- a whole copy: at Ok it ended, and the total is the number of bytes that went over; at an `Err` some went over, and
 -- `Interrupted` comes only after 64 more such faults
@@ -132,6 +144,7 @@ pub record CopyBuf {W : Type 0} (tells : W → StreamLog) (stretch call : W → 
   pub often : IfErr result
       (λ e. error_kind e ≡ Interrupted → FaultsRise 65 from from' (tells w).writes (tells w').writes)
   pub few : MeetsFewFaults result from from' (tells w).writes (tells w').writes
+  pub fills : FillsAtMost (consumed_since from from' + 1) from from' (tells w).writes (tells w').writes
 
 -- the writer received just what the reader, of which all that is left is known, lost
 pub record MovesKnown (left left' : Option (List ℕ)) (to to' : WriteLog) : Type 0 where

@@ -11,6 +11,7 @@ MovedBy-none from to = record {
   bytes = [];
   count = refl;
   consumed = sym (append-nil from.consumed);
+  consumes = omega arith;
   received = sym (append-nil to.received);
   not_flushed = refl;
 }
@@ -21,6 +22,7 @@ MovedBy-joins n k a b c x y z p q = record {
   bytes = p.bytes ++ q.bytes;
   count = length-append p.bytes q.bytes ∙ (λ i. p.count i + q.count i);
   consumed = q.consumed ∙ ap (λ l. l ++ q.bytes) p.consumed ∙ append_assoc a.consumed p.bytes q.bytes;
+  consumes = omega (arith, p.consumes, q.consumes);
   received = q.received ∙ ap (λ l. l ++ q.bytes) p.received ∙ append_assoc x.received p.bytes q.bytes;
   not_flushed = q.not_flushed ∙ p.not_flushed;
 }
@@ -34,6 +36,7 @@ pub CopiesOn-none : (from : FillLog) (to : WriteLog) → CopiesOn 0 from from to
 CopiesOn-none from to = record {
   moved = MovedBy-none from to;
   ends = le_refl _;
+  fills = omega arith;
   reader = OnlyInterrupts-none from.faults;
   writer = record { interrupts = []; only = OnlyInterrupted-none to };
 }
@@ -44,6 +47,7 @@ module _ {n : ℕ} {a b : FillLog} {x y : WriteLog} (before : CopiesOn n a b x y
   CopiesOn-joins {k} {c} {z} last = record {
     moved = MovedBy-joins n k a b c x y z before.moved last.moved;
     ends = le_trans before.ends last.ends;
+    fills = omega (arith, before.fills, last.fills);
     reader = OnlyInterrupts-joins a.faults b.faults c.faults before.reader last.reader;
     writer = MetInterrupts-joins x y z before.writer last.writer;
   }

@@ -11,6 +11,7 @@ returns-in-Ok-clause-retried g c =
       answers = TurnAnswers-after _ _ _ g.met.W.TellWrite.stretch_joins before.copies before.writer (Ok c.in-Ok.n) turn.answers;
       often = tt;
       few = omega (arith, before.few, turn.few);
+      fills = omega (arith, before.copies.fills, turn.one_fill, turn.one_fault);
     }
 
 pub returns-then-ne-clause-retried : goal.returns-then-ne-clause-retried
@@ -21,6 +22,7 @@ returns-then-ne-clause-retried g c =
       answers = TurnAnswers-after _ _ _ g.met.W.TellWrite.stretch_joins before.copies before.writer (Err c.in-Err.e) turn.answers;
       often = search rules;
       few = omega (arith, before.few, turn.few);
+      fills = omega (arith, before.copies.fills, turn.one_fill, turn.one_fault);
     }
 
 pub loop-preserved : goal.loop-preserved
