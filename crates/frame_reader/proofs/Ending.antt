@@ -3,7 +3,7 @@ use Rattle.std.proofs.Common.{◌≡◌, ℕ, zero, suc, ◌+◌, ◌<◌, ◌�
 use Rattle.std.specs.declared.io.Error.{Error}
 use Rattle.buffer_redux.specs.BufReader.{Fills, RanDry}
 use Rattle.buffer_redux.specs.Buffered.{Buffered}
-use Rattle.buffer_redux.specs.Fill.{Turns, Filled}
+use Rattle.buffer_redux.specs.Fill.{Turns}
 use Rattle.buffer_redux.specs.MinBuffered.{min_read_rules}
 use Rattle.buffer_redux.specs.StreamLog.{zero_of_some, zero_of_none}
 use Rattle.buffer_redux.specs.declared.policy.MinBuffered.{MinBuffered}

@@ -1,19 +1,23 @@
 -- One step of a loop over payloads.
-use Rattle.std.proofs.Common.{refl, ◌≡◌, ℕ, suc, ◌+◌, ◌<◌, ◌≤◌, List, [], ◌∷◌, ◌++◌, length, map, take, drop, sym, ap, subst, ◌∙◌, arith, append_assoc, append-nil, get_or}
+use Rattle.std.proofs.Common.{refl, ◌≡◌, ℕ, suc, ◌+◌, ◌<◌, ◌≤◌, List, [], ◌∷◌, ◌++◌, length, map, take, drop, sym, ap, subst, ◌∙◌, arith, append_assoc, append-nil, get_or, inl, inr}
 use Rattle.std.specs.Prelude.{Option, None, Some, Ok, Err}
+use Rattle.std.specs.IoError.{error_kind}
 use Rattle.std.specs.List.{All}
+use Rattle.std.specs.declared.io.Error.{Error}
+use Rattle.std.specs.declared.io.ErrorKind.TheVariants.{OutOfMemory}
 use Rattle.std.proofs.Math.Seq.{drop-cons}
 use Rattle.std.proofs.lemmas.List.{drop-map, drop_all, map-append, take_all, take_more, take-append-drop, drop_at}
 use Rattle.std.proofs.lemmas.List.Elements.{All-head, All-drop}
+use Rattle.frame_reader.specs.declared.error.FrameError.TheVariants as why
 use Rattle.frame_reader.specs.declared.error.WriteFrameError.{WriteFrameError}
 use Rattle.frame_reader.specs.declared.error.WriteFrameError.TheVariants.{TooLong, Io}
 use Rattle.frame_reader.specs.Frames.{Fits}
 use Rattle.frame_reader.specs.Framing.{Framing}
-use Rattle.frame_reader.specs.KnownFrames.{HasLeft, LeavesFrames}
+use Rattle.frame_reader.specs.KnownFrames.{HasLeft, LeavesFrames, ReadStopped}
 use Rattle.frame_reader.specs.KnownFramesLaws.{Next-known}
 use Rattle.frame_reader.specs.Next.{Next, NoFault}
 use Rattle.frame_reader.specs.Outgoing.{Outgoing}
-use Rattle.frame_reader.specs.Runs.{AllWritten, WriteRuns, WriteStopped, WritesEach}
+use Rattle.frame_reader.specs.Runs.{AllWritten, NextFails, WriteRuns, WriteStopped, WritesEach}
 use Rattle.frame_reader.specs.RunsLaws.{AllWritten-more, AllWritten-taken, WriteRuns-more}
 use Rattle.frame_reader.specs.WriteFrame.{FramesTaken, IsFault, WriteAnswer, WritesFrame}
 use Rattle.frame_reader.specs.WriteFrameLaws.{FramesTaken-joins}
@@ -114,6 +118,15 @@ module _ {V S : Type 0} (f : V → List ℕ) (vs : List V) (i : ℕ) (remaining 
   pub leaves : LeavesFrames remaining m
   leaves = record { payloads = map f (drop i vs); fit = left_fit; has = so_far.has }
 
+  read_faulted : (e : Error) (t : Framing S) → Next remaining m (Err (why.Io e)) t → ReadStopped remaining s (map f vs) e t
+  read_faulted e t next = record {
+    done = kept;
+    later = map f (drop i vs);
+    all = sym so_far.all_are;
+    left = Next-known remaining m t (Err (why.Io e)) (map f (drop i vs)) next left_fit so_far.has;
+    failed = inr (next.answers.0 ∙ ap (λ l. l ++ e ∷ []) so_far.no_fault);
+  }
+
   module _ (x : V) (inside : i < length vs) (is : x ≡ get_or vs i x) (t : Framing S) where
     step : map f (drop i vs) ≡ f x ∷ map f (drop (i + 1) vs)
     step = behind f vs i x inside is
@@ -137,6 +150,22 @@ module _ {V S : Type 0} (f : V → List ℕ) (vs : List V) (i : ℕ) (remaining 
           no_fault = next.answers.1 ∙ so_far.no_fault;
         }
 
+    pub read_lost : (found : List ℕ) (e : Error) → error_kind e ≡ OutOfMemory → Next remaining m (Ok (Some found)) t
+        → ReadStopped remaining s (map f vs) e t
+    read_lost found e memory next =
+        let more = read_some found next in
+        record {
+          done = kept ++ found ∷ [];
+          later = map f (drop (i + 1) vs);
+          all = sym more.all_are;
+          left = more.has;
+          failed = inl (memory, more.no_fault);
+        }
+
+    pub read_fails : (e : Error) → NextFails remaining m e t → ReadStopped remaining s (map f vs) e t
+    read_fails e (inl lost) = read_lost lost.1.payload e lost.0 lost.1.next
+    read_fails e (inr faulted) = read_faulted e t faulted
+
     pub read_none : Next remaining m (Ok None) t → ⊥
     read_none next = Next-known remaining m t (Ok None) (f x ∷ map f (drop (i + 1) vs)) next first_fit first_has
 
@@ -147,6 +176,10 @@ module _ {V S : Type 0} (f : V → List ℕ) (vs : List V) (i : ℕ) (remaining 
     pub read_more : (found : List ℕ) (t : Framing S) → Next remaining m (Ok (Some found)) t → ⊥
     read_more found t next = Next-known remaining m t (Ok (Some found)) [] next
         (subst (λ l. All (Fits m.max) l) none_left left_fit) (subst (λ l. HasLeft remaining m l) none_left so_far.has)
+
+    pub end_fails : (e : Error) (t : Framing S) → NextFails remaining m e t → ReadStopped remaining s (map f vs) e t
+    end_fails e t (inl lost) = absurd (read_more lost.1.payload t lost.1.next)
+    end_fails e t (inr faulted) = read_faulted e t faulted
 
     pub all_kept : kept ≡ map f vs
     all_kept = sym (append-nil kept) ∙ ap (λ l. kept ++ l) (sym none_left) ∙ so_far.all_are

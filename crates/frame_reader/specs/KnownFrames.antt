@@ -1,11 +1,12 @@
 -- What a reader of frames hands out of a stream that is known.
-use Rattle.std.specs.Prelude.{◌≡◌, ℕ, List, [], ◌∷◌, Option, None, Some, Ok, Err}
+use Rattle.std.specs.Prelude.{◌≡◌, ℕ, List, [], ◌∷◌, ◌++◌, Option, None, Some, Ok, Err}
 use Rattle.std.specs.Io.KnownBytes.{prepend_known}
 use Rattle.std.specs.List.{All}
+use Rattle.std.specs.declared.io.Error.{Error}
 use Rattle.frame_reader.specs.declared.error.FrameError.TheVariants.{Truncated, TooLong, Io}
 use Rattle.frame_reader.specs.Frames.{Fits, frames}
 use Rattle.frame_reader.specs.Framing.{Framing, rest}
-use Rattle.frame_reader.specs.Next.{NextAnswer}
+use Rattle.frame_reader.specs.Next.{NextAnswer, ReadFails}
 
 -- the bytes behind the frame that was lent last, where they are known: those that are buffered, and then those that the
 -- inner reader is known to have left
@@ -32,3 +33,12 @@ NextKnown remaining (Ok None) [] t = HasLeft remaining t []
 NextKnown remaining (Err (Io e)) payloads t = HasLeft remaining t payloads
 NextKnown remaining (Err (Truncated have)) payloads t = ⊥
 NextKnown remaining (Err (TooLong len)) payloads t = ⊥
+
+-- the first of these payloads were handed out, and then reading failed with this error: the frames of the others are left
+pub record ReadStopped {S : Type 0} (remaining : S → Option (List ℕ)) (s : Framing S) (payloads : List (List ℕ))
+    (e : Error) (t : Framing S) : Type 0 where
+  pub done : List (List ℕ)
+  pub later : List (List ℕ)
+  pub all : payloads ≡ done ++ later
+  pub left : HasLeft remaining t later
+  pub failed : ReadFails s e t

@@ -2,9 +2,9 @@
 ghost use Rattle.std.specs.Prelude.{◌≡◌, map, IfOk, IfErr, OnOk};
 ghost use Rattle.std.specs.List.{All};
 ghost use Rattle.frame_reader.specs.Frames.{Fits, frames};
-ghost use Rattle.frame_reader.specs.KnownFrames.{HasLeft, LeavesFrames};
-ghost use Rattle.frame_reader.specs.Next.{Next, ReadFails};
-ghost use Rattle.frame_reader.specs.Runs.{WritesEach, recorded};
+ghost use Rattle.frame_reader.specs.KnownFrames.{HasLeft, LeavesFrames, ReadStopped};
+ghost use Rattle.frame_reader.specs.Next.{Next};
+ghost use Rattle.frame_reader.specs.Runs.{NextFails, WritesEach, recorded};
 ghost use Rattle.frame_reader.specs.WriteFrame.{IsFault};
 
 use crate::error::{FrameError, WriteFrameError};
@@ -31,7 +31,7 @@ pub fn write_each<W: TellWrite>(
 }
 
 /// Reads frames of which it is known that their payloads are these, and no others. An `Err` is refused memory, or the
-/// fault of the inner reader.
+/// fault of the inner reader; what is left then is the frames of the last of them.
 pub fn read_each<R: TellRead>(
     alloc: Global,
     reader: &mut FrameReader<R>,
@@ -40,7 +40,8 @@ pub fn read_each<R: TellRead>(
     requires fit { All (Fits reader.old.max) (map (λ v. v.items) payloads.now) }
     requires left { HasLeft R.remaining reader.old (map (λ v. v.items) payloads.now) }
     ensures same { IfOk result (λ kept. map (λ v. v.items) kept.items ≡ map (λ v. v.items) payloads.now) }
-    ensures failed { IfErr result (λ e. ReadFails reader.old e reader.new) }
+    ensures stopped { IfErr result (λ e.
+        ReadStopped R.remaining reader.old (map (λ v. v.items) payloads.now) e reader.new) }
 {
     let mut kept = Vec::new(alloc);
     for _ in payloads {
@@ -62,7 +63,7 @@ fn next_of_known<R: TellRead>(
 ) -> io::Result<Option<Vec<u8>>>
     requires left { LeavesFrames R.remaining reader.old }
     ensures next { IfOk result (λ found. Next R.remaining reader.old (recorded (Ok found)) reader.new) }
-    ensures failed { IfErr result (λ e. ReadFails reader.old e reader.new) }
+    ensures failed { IfErr result (λ e. NextFails R.remaining reader.old e reader.new) }
 {
     match next_copied(alloc, reader)? {
         Ok(found) => Ok(found),

@@ -1,7 +1,8 @@
 use Rattle.std.proofs.Common.{◌≡◌, ◌+◌, map, drop, ◌++◌, ◌∷◌, [], Ok, sym, subst, arith}
+use Rattle.std.proofs.lemmas.Result.{err_from_is_err_and}
 use Rattle.frame_reader.specs.Next.{Next}
 use Rattle.frame_reader.specs.Runs.{recorded}
-use Rattle.frame_reader.proofs.Stepping.{ReadsAll, kept_more, leaves, read_more, read_none, read_some}
+use Rattle.frame_reader.proofs.Stepping.{ReadsAll, end_fails, kept_more, leaves, read_fails, read_lost, read_more, read_none, read_some}
 use Rattle.frame_reader.proofs.laws.lists.read_each.Goals as goal
 
 pub next_of_known-requires : goal.next_of_known-requires
@@ -43,3 +44,32 @@ unreachable-requires-in-Some-2 g c =
     (map (λ v. v.items) c.loop.kept.items) c.requires.fit c.loop.invariant (omega (arith, c.loop-test.false))
     c.in-Some-2.field-0.items t
     (subst (λ o. Next remaining c.loop.reader (recorded (Ok o)) t) c.in-Some-2.is c.in_ok-next_of_known.ensures.next)
+
+pub returns-in_err-payload-clause-stopped : goal.returns-in_err-payload-clause-stopped
+returns-in_err-payload-clause-stopped g c =
+    let p = err_from_is_err_and c.from_residual.result c.from_residual.ensures.1 in
+    rw (p.1, p.2)
+    (read_fails (λ v. v.items) c.args.payloads.now c.loop.index g.R.TellRead.remaining c.args.reader.now c.loop.reader
+    (map (λ v. v.items) c.loop.kept.items) c.requires.fit c.loop.invariant c.loop-item.result c.loop-test.true
+    c.loop-item.is c.next_of_known.new.reader _ c.in_err-payload.ensures.failed)
+
+pub returns-in_err-push-in-Some-clause-stopped : goal.returns-in_err-push-in-Some-clause-stopped
+returns-in_err-push-in-Some-clause-stopped g c =
+    let remaining = g.R.TellRead.remaining in
+    let t = c.next_of_known.new.reader in
+    let r = c.from_residual-in_err-push-in-Some in
+    let p = err_from_is_err_and r.result r.ensures.1 in
+    rw p.1
+    (read_lost (λ v. v.items) c.args.payloads.now c.loop.index remaining c.args.reader.now c.loop.reader
+    (map (λ v. v.items) c.loop.kept.items) c.requires.fit c.loop.invariant c.loop-item.result c.loop-test.true
+    c.loop-item.is t c.in-Some.payload.items p.0 p.2
+    (subst (λ o. Next remaining c.loop.reader (recorded (Ok o)) t) c.in-Some.is c.in_ok-payload.ensures.next))
+
+pub returns-in_err-next_of_known-clause-stopped : goal.returns-in_err-next_of_known-clause-stopped
+returns-in_err-next_of_known-clause-stopped g c =
+    let r = c.from_residual-in_err-next_of_known in
+    let p = err_from_is_err_and r.result r.ensures.1 in
+    rw (p.1, p.2)
+    (end_fails (λ v. v.items) c.args.payloads.now c.loop.index g.R.TellRead.remaining c.args.reader.now c.loop.reader
+    (map (λ v. v.items) c.loop.kept.items) c.requires.fit c.loop.invariant (omega (arith, c.loop-test.false)) _
+    c.next_of_known-2.new.reader c.in_err-next_of_known.ensures.failed)
