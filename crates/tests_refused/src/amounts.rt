@@ -1,15 +1,15 @@
 //! Amounts near 2^61, 2^62, 2^63 and 2^64 in each public call that takes one, of either kind: a growth is `TooLarge` exactly
 //! past the limit, nothing wraps, and what is refused changes nothing. No machine has as much as the limits allow.
-use crate::growths::placed;
-use crate::seen::digest;
-use crate::streams::{Sink, Source, empty_sink, has_taken, reading};
+use crate::growths::{Grower, LIMIT, Reader, Wraps, placed, placed_block};
+use crate::kinds::block;
+use crate::seen::{digest, same};
+use crate::streams::{Sink, empty_sink, has_taken, reading};
 use crate::trial::{Stop, granted, is};
 use buffer_redux::play::{
     ReaderAnswer, ReaderCall, ReaderRun, WriterAnswer, WriterCall, WriterRun, play_reader,
     play_writer,
 };
 use buffer_redux::policy::{FlushAtLeast, FlushExact, MinBuffered, WriterPolicy};
-use buffer_redux::tell::Told;
 use buffer_redux::{
     BufImpl, BufReader, BufWriter, Buffer, GrowError, LineWriter, MAX_CAPACITY, MAX_RING,
     MakeError, RawBuf, SeekPlan, SliceDequeBuf, StdBuf, seek_plan,
@@ -121,43 +121,21 @@ pub fn makers(alloc: Global) -> Result<(), Stop> {
     Ok(())
 }
 
-#[derive(Debug, Drop)]
-enum Grower {
-    Raw(RawBuf),
-    Plain(StdBuf),
-    Ring(SliceDequeBuf),
-    Either(BufImpl),
-    Whole(Buffer),
-    Reader(BufReader<Told<Source<'static>>>),
-    Writer(BufWriter<Sink>),
-    Lines(LineWriter<Sink>),
+fn refuses_near<G: Grower>(it: &mut G, power: usize, most: usize) -> Result<(), Stop> {
+    for below in 0..SPAN {
+        let n = near(power, below);
+        is_refused(it.grow(n), n, most)?;
+    }
+    Ok(())
 }
 
-impl Grower {
-    fn grow(&mut self, n: usize) -> Result<(), GrowError> {
-        match self {
-            Grower::Raw(raw) => raw.reserve(n),
-            Grower::Plain(plain) => plain.reserve(n),
-            Grower::Ring(ring) => ring.reserve(n),
-            Grower::Either(either) => either.reserve(n),
-            Grower::Whole(whole) => whole.reserve(n),
-            Grower::Reader(rdr) => rdr.reserve(n),
-            Grower::Writer(wrt) => wrt.reserve(n),
-            Grower::Lines(lines) => lines.reserve(n),
-        }
+// `used` is what is added to an amount for the capacity that it needs, up to the limit.
+fn refuses<G: Grower + Drop>(mut it: G, used: usize, limit: usize) -> Result<(), Stop> {
+    let before = digest(&it);
+    for power in POWERS {
+        refuses_near(&mut it, power, limit.saturating_sub(used))?;
     }
-
-    // `used` is what is added to an amount for the capacity that it needs, up to the limit.
-    fn refuses(mut self, used: usize, limit: usize) -> Result<(), Stop> {
-        let before = digest(&self);
-        for power in POWERS {
-            for below in 0..SPAN {
-                let n = near(power, below);
-                is_refused(self.grow(n), n, limit.saturating_sub(used))?;
-            }
-        }
-        is(digest(&self) == before, "a refusal changed something")
-    }
+    is(digest(&it) == before, "a refusal changed something")
 }
 
 // `placed` has a limit of its own, which is taken away.
@@ -167,71 +145,64 @@ fn unlimited(alloc: Global, is_ring: bool) -> Result<Buffer, Stop> {
     Ok(buf)
 }
 
+fn wrapped_refuses<W: Wraps>(buf: Buffer, used: usize, limit: usize) -> Result<(), Stop> {
+    refuses(W::over(buf), used, limit)
+}
+
+fn growths_of(alloc: Global, is_ring: bool, used: usize, limit: usize) -> Result<(), Stop> {
+    refuses(placed_block(alloc, is_ring)?, used, limit)?;
+    refuses(placed(alloc, is_ring)?, used, LIMIT)?;
+    refuses(unlimited(alloc, is_ring)?, used, limit)?;
+    wrapped_refuses::<Reader>(unlimited(alloc, is_ring)?, used, limit)?;
+    wrapped_refuses::<BufWriter<Sink>>(unlimited(alloc, is_ring)?, used, limit)?;
+    wrapped_refuses::<LineWriter<Sink>>(unlimited(alloc, is_ring)?, used, limit)
+}
+
 pub fn growths(alloc: Global) -> Result<(), Stop> {
-    Grower::Raw(RawBuf::with_capacity(alloc, 4)?).refuses(4, MAX_CAPACITY)?;
-    Grower::Plain(StdBuf::with_capacity(alloc, 8)?).refuses(8, MAX_CAPACITY)?;
-    Grower::Ring(SliceDequeBuf::with_capacity(alloc, 8)?).refuses(0, MAX_RING)?;
-    for (is_ring, used, limit) in [(false, 5, MAX_CAPACITY), (true, 3, MAX_RING)] {
-        let mut either = if is_ring {
-            BufImpl::with_capacity_ringbuf(alloc, 8)?
-        } else {
-            BufImpl::with_capacity(alloc, 8)?
-        };
-        either.bytes_written(5);
-        either.consume(2);
-        Grower::Either(either).refuses(used, limit)?;
-        Grower::Whole(placed(alloc, is_ring)?).refuses(used, 9000)?;
-        Grower::Whole(unlimited(alloc, is_ring)?).refuses(used, limit)?;
-        let rdr = BufReader::with_buffer(unlimited(alloc, is_ring)?, reading(b"x"));
-        Grower::Reader(rdr).refuses(used, limit)?;
-        let wrt = BufWriter::with_buffer(unlimited(alloc, is_ring)?, empty_sink());
-        Grower::Writer(wrt).refuses(used, limit)?;
-        let lines = LineWriter::with_buffer(unlimited(alloc, is_ring)?, empty_sink());
-        Grower::Lines(lines).refuses(used, limit)?;
-    }
-    Ok(())
+    refuses(RawBuf::with_capacity(alloc, 4)?, 4, MAX_CAPACITY)?;
+    refuses(StdBuf::with_capacity(alloc, 8)?, 8, MAX_CAPACITY)?;
+    refuses(SliceDequeBuf::with_capacity(alloc, 8)?, 0, MAX_RING)?;
+    growths_of(alloc, false, 5, MAX_CAPACITY)?;
+    growths_of(alloc, true, 3, MAX_RING)
 }
 
 // Counts of bytes are held against what is there.
-fn counts_of(alloc: Global, is_ring: bool, n: usize) -> Result<(), Stop> {
-    let mut either = if is_ring {
-        BufImpl::with_capacity_ringbuf(alloc, 8)?
-    } else {
-        BufImpl::with_capacity(alloc, 8)?
-    };
+fn counts_of_block(alloc: Global, is_ring: bool, n: usize) -> Result<(), Stop> {
+    let mut either = block(alloc, is_ring, 8)?;
     either.bytes_written(n);
     is(either.len() == either.capacity(), "as many as fit")?;
     either.consume(n);
-    is(
-        either.usable_space() == either.capacity(),
-        "as many as there are",
-    )?;
+    let usable = either.usable_space();
+    is(usable == either.capacity(), "as many as there are")
+}
 
+fn counts_of_buffer(alloc: Global, is_ring: bool, n: usize) -> Result<(), Stop> {
     let mut buf = placed(alloc, is_ring)?;
     granted(buf.set_limit(n))?;
-    is(
-        buf.limit() == n.min(if is_ring { MAX_RING } else { MAX_CAPACITY }),
-        "the limit",
-    )?;
+    let most = if is_ring { MAX_RING } else { MAX_CAPACITY };
+    is(buf.limit() == n.min(most), "the limit")?;
     let mut sink = empty_sink();
     buf.write_max(n, &mut sink)?;
-    is(
-        buf.is_empty() && has_taken(&sink, &[1, 2, 3]),
-        "what is sent",
-    )?;
+    let sent = buf.is_empty() && has_taken(&sink, &[1, 2, 3]);
+    is(sent, "what is sent")
+}
+
+fn counts_of_reader(alloc: Global, is_ring: bool, n: usize) -> Result<(), Stop> {
     let mut rdr = BufReader::with_buffer(placed(alloc, is_ring)?, reading(b"x"));
     rdr.consume(n);
-    let (_, mut buf) = rdr.into_inner_with_buffer();
-    is(
-        buf.usable_space() == buf.capacity(),
-        "as many as a reader has",
-    )?;
+    let mut buf = rdr.into_inner_with_buffer().1;
+    let usable = buf.usable_space();
+    is(usable == buf.capacity(), "as many as a reader has")?;
     is(buf.copy_from_slice(&[4]) == 1, "bytes that don't fit")?;
     buf.consume(n);
-    is(
-        buf.usable_space() == buf.capacity(),
-        "as many as a buffer has",
-    )
+    let usable = buf.usable_space();
+    is(usable == buf.capacity(), "as many as a buffer has")
+}
+
+fn counts_of(alloc: Global, is_ring: bool, n: usize) -> Result<(), Stop> {
+    counts_of_block(alloc, is_ring, n)?;
+    counts_of_buffer(alloc, is_ring, n)?;
+    counts_of_reader(alloc, is_ring, n)
 }
 
 pub fn counts(alloc: Global) -> Result<(), Stop> {
@@ -240,10 +211,8 @@ pub fn counts(alloc: Global) -> Result<(), Stop> {
             let n = near(power, below);
             counts_of(alloc, false, n)?;
             counts_of(alloc, true, n)?;
-            is(
-                !RawBuf::with_capacity(alloc, 1)?.reserve_in_place(n),
-                "room in place",
-            )?;
+            let mut raw = RawBuf::with_capacity(alloc, 1)?;
+            is(!raw.reserve_in_place(n), "room in place")?;
         }
     }
     Ok(())
@@ -269,10 +238,20 @@ fn write_fails<P: WriterPolicy + Drop>(
         Err(e) => is(e.kind() == wanted, "another error of a write")?,
     }
     let (inner, buf) = wrt.into_inner_with_buffer();
-    is(
-        has_taken(&inner, b"") && digest(&buf) == before,
-        "a refusal changed something",
-    )
+    let kept = has_taken(&inner, b"") && digest(&buf) == before;
+    is(kept, "a refusal changed something")
+}
+
+fn fill_fails(buf: Buffer, min: usize, wanted: ErrorKind) -> Result<(), Stop> {
+    let before = digest(&buf);
+    let mut rdr = BufReader::with_buffer(buf, reading(b"x")).set_policy(MinBuffered(min));
+    match rdr.fill_buf() {
+        Ok(_) => return Err(Stop::Wrong("a fill without room")),
+        Err(e) => is(e.kind() == wanted, "another error of a fill")?,
+    }
+    let (inner, buf) = rdr.into_inner_with_buffer();
+    let kept = inner.get_ref().asks == 0 && digest(&buf) == before;
+    is(kept, "a refusal changed something")
 }
 
 // A policy that needs a capacity asks for what is missing: it adds that to what is used.
@@ -282,18 +261,7 @@ fn minimum_of(alloc: Global, is_ring: bool, n: usize) -> Result<(), Stop> {
     } else {
         kind(refusal(n, MAX_CAPACITY - 5 + 8))
     };
-    let buf = unlimited(alloc, is_ring)?;
-    let before = digest(&buf);
-    let mut rdr = BufReader::with_buffer(buf, reading(b"x")).set_policy(MinBuffered(n));
-    match rdr.fill_buf() {
-        Ok(_) => return Err(Stop::Wrong("a fill without room")),
-        Err(e) => is(e.kind() == wanted, "another error of a fill")?,
-    }
-    let (inner, buf) = rdr.into_inner_with_buffer();
-    is(
-        inner.get_ref().asks == 0 && digest(&buf) == before,
-        "a refusal changed something",
-    )?;
+    fill_fails(unlimited(alloc, is_ring)?, n, wanted)?;
     write_fails(unlimited(alloc, is_ring)?, FlushAtLeast(n), wanted)?;
     write_fails(unlimited(alloc, is_ring)?, FlushExact(n), wanted)
 }
@@ -309,6 +277,29 @@ pub fn minimums(alloc: Global) -> Result<(), Stop> {
     Ok(())
 }
 
+fn plays_reads(alloc: Global, buf: Buffer, n: usize, refused: GrowError) -> Result<(), Stop> {
+    let mut rdr = BufReader::with_buffer(buf, reading(b"x"));
+    let mut run = ReaderRun::new(alloc);
+    let calls = [
+        ReaderCall::Reserve(n),
+        ReaderCall::Consume(n),
+        ReaderCall::Read(n),
+    ];
+    let outcome = play_reader(alloc, &mut rdr, &calls, &mut run);
+    is(outcome.is_err(), "a slice of so much")?;
+    let answers = [ReaderAnswer::Refused(refused), ReaderAnswer::Count(3)];
+    is(same(&run.answers, &answers), "the answers")?;
+    is(rdr.get_ref().get_ref().asks == 0, "the last call was begun")
+}
+
+fn plays_writes(alloc: Global, buf: Buffer, n: usize, refused: GrowError) -> Result<(), Stop> {
+    let mut wrt = BufWriter::with_buffer(buf, empty_sink());
+    let mut run = WriterRun::new(alloc);
+    granted(play_writer(&mut wrt, &[WriterCall::Reserve(n)], &mut run))?;
+    let answers = [WriterAnswer::Refused(refused)];
+    is(same(&run.answers, &answers), "the answer")
+}
+
 fn play_of(alloc: Global, is_ring: bool, n: usize) -> Result<(), Stop> {
     let most = if is_ring {
         MAX_RING - 3
@@ -316,32 +307,8 @@ fn play_of(alloc: Global, is_ring: bool, n: usize) -> Result<(), Stop> {
         MAX_CAPACITY - 5
     };
     let refused = refusal(n, most);
-    let mut rdr = BufReader::with_buffer(unlimited(alloc, is_ring)?, reading(b"x"));
-    let mut run = ReaderRun::new(alloc);
-    let calls = [
-        ReaderCall::Reserve(n),
-        ReaderCall::Consume(n),
-        ReaderCall::Read(n),
-    ];
-    is(
-        play_reader(alloc, &mut rdr, &calls, &mut run).is_err(),
-        "a slice of so much",
-    )?;
-    let answers = [ReaderAnswer::Refused(refused), ReaderAnswer::Count(3)];
-    is(
-        digest(&run.answers.as_slice()) == digest(&answers.as_slice()),
-        "the answers",
-    )?;
-    is(rdr.get_ref().get_ref().asks == 0, "the last call was begun")?;
-
-    let mut wrt = BufWriter::with_buffer(unlimited(alloc, is_ring)?, empty_sink());
-    let mut run = WriterRun::new(alloc);
-    granted(play_writer(&mut wrt, &[WriterCall::Reserve(n)], &mut run))?;
-    let answers = [WriterAnswer::Refused(refused)];
-    is(
-        digest(&run.answers.as_slice()) == digest(&answers.as_slice()),
-        "the answer",
-    )
+    plays_reads(alloc, unlimited(alloc, is_ring)?, n, refused)?;
+    plays_writes(alloc, unlimited(alloc, is_ring)?, n, refused)
 }
 
 pub fn plays(alloc: Global) -> Result<(), Stop> {

@@ -1,11 +1,14 @@
 //! Growths of either kind, with bytes that don't stand at the front: a refused one changes nothing, not even their place.
+use crate::kinds::{block, buffer};
 use crate::seen::digest;
-use crate::streams::{empty_sink, has_taken, reading};
+use crate::streams::{Sink, Source, empty_sink, has_taken, reading};
 use crate::trial::{Stop, Trial, granted, is};
+use buffer_redux::tell::Told;
 use buffer_redux::{
-    BufImpl, BufReader, BufWriter, Buffer, LineWriter, RawBuf, SliceDequeBuf, StdBuf,
+    BufImpl, BufReader, BufWriter, Buffer, GrowError, LineWriter, RawBuf, SliceDequeBuf, StdBuf,
 };
 use std::alloc::Global;
+use std::fmt::Debug;
 
 // A growth of so much doesn't fit into either kind. A plain one adds it to its capacity less usable, a ring rounds up.
 const MORE: usize = 5000;
@@ -18,40 +21,90 @@ const KINDS: [(bool, usize, usize); 2] = [(false, 5005, 5000), (true, 8192, 8189
 
 /// A buffer of capacity 8, or a ring of 4096, that holds [1,2,3] behind two bytes that were consumed.
 pub fn placed(alloc: Global, is_ring: bool) -> Result<Buffer, Stop> {
-    let mut buf = if is_ring {
-        Buffer::with_capacity_ringbuf(alloc, 8)?
-    } else {
-        Buffer::with_capacity(alloc, 8)?
-    };
+    let mut buf = buffer(alloc, is_ring, 8)?;
     buf.set_limit(LIMIT)?;
-    is(
-        buf.copy_from_slice(&[9, 9, 1, 2, 3]) == 5,
-        "bytes that don't fit",
-    )?;
+    let count = buf.copy_from_slice(&[9, 9, 1, 2, 3]);
+    is(count == 5, "bytes that don't fit")?;
     buf.consume(2);
     Ok(buf)
 }
 
 fn has_grown(buf: &Buffer, capacity: usize, usable: usize) -> Result<(), Stop> {
-    is(
-        buf.buf() == [1, 2, 3].as_slice(),
-        "the bytes after a growth",
-    )?;
-    is(
-        (buf.capacity(), buf.usable_space()) == (capacity, usable),
-        "the room after a growth",
-    )?;
+    let bytes = [1, 2, 3].as_slice();
+    is(buf.buf() == bytes, "the bytes after a growth")?;
+    let room = (buf.capacity(), buf.usable_space());
+    is(room == (capacity, usable), "the room after a growth")?;
     is(buf.limit() == LIMIT, "the limit after a growth")
+}
+
+/// What grows, and shows down to the places of its bytes what it is.
+pub trait Grower: Debug {
+    /// Its `reserve`.
+    fn grow(&mut self, more: usize) -> Result<(), GrowError>;
+}
+
+impl Grower for RawBuf {
+    fn grow(&mut self, more: usize) -> Result<(), GrowError> {
+        self.reserve(more)
+    }
+}
+
+impl Grower for StdBuf {
+    fn grow(&mut self, more: usize) -> Result<(), GrowError> {
+        self.reserve(more)
+    }
+}
+
+impl Grower for SliceDequeBuf {
+    fn grow(&mut self, more: usize) -> Result<(), GrowError> {
+        self.reserve(more)
+    }
+}
+
+impl Grower for BufImpl {
+    fn grow(&mut self, more: usize) -> Result<(), GrowError> {
+        self.reserve(more)
+    }
+}
+
+impl Grower for Buffer {
+    fn grow(&mut self, more: usize) -> Result<(), GrowError> {
+        self.reserve(more)
+    }
+}
+
+impl<P: Debug> Grower for BufReader<Told<Source<'_>>, P> {
+    fn grow(&mut self, more: usize) -> Result<(), GrowError> {
+        self.reserve(more)
+    }
+}
+
+impl<P: Debug> Grower for BufWriter<Sink, P> {
+    fn grow(&mut self, more: usize) -> Result<(), GrowError> {
+        self.reserve(more)
+    }
+}
+
+impl Grower for LineWriter<Sink> {
+    fn grow(&mut self, more: usize) -> Result<(), GrowError> {
+        self.reserve(more)
+    }
+}
+
+/// Grows it by so much. A refusal changes nothing, and the same growth is then granted.
+pub fn grows<G: Grower>(trial: &mut Trial, it: &mut G, more: usize) -> Result<(), Stop> {
+    let before = digest(it);
+    if let Err(e) = it.grow(more) {
+        trial.refused(e, digest(it) == before)?;
+        granted(it.grow(more))?;
+    }
+    Ok(())
 }
 
 pub fn storage(alloc: Global, trial: &mut Trial) -> Result<(), Stop> {
     let mut raw = RawBuf::with_capacity(alloc, 4)?;
     raw.as_mut_slice()[1] = 7;
-    let before = digest(&raw);
-    if let Err(e) = raw.reserve(MORE) {
-        trial.refused(e, digest(&raw) == before)?;
-        granted(raw.reserve(MORE))?;
-    }
+    grows(trial, &mut raw, MORE)?;
     is(raw.capacity() == 4 + MORE, "the length of the storage")?;
     is(raw.as_slice().starts_with(&[0, 7, 0, 0]), "the storage")
 }
@@ -61,15 +114,9 @@ pub fn plain_block(alloc: Global, trial: &mut Trial) -> Result<(), Stop> {
     plain.write_buf().fill(7);
     plain.bytes_written(5);
     plain.consume(2);
-    let before = digest(&plain);
-    if let Err(e) = plain.reserve(MORE) {
-        trial.refused(e, digest(&plain) == before)?;
-        granted(plain.reserve(MORE))?;
-    }
-    is(
-        (plain.capacity(), plain.usable_space()) == (5005, 5000),
-        "the room",
-    )?;
+    grows(trial, &mut plain, MORE)?;
+    let room = (plain.capacity(), plain.usable_space());
+    is(room == (5005, 5000), "the room")?;
     is(plain.buf() == [7; 3].as_slice(), "the bytes")
 }
 
@@ -78,36 +125,26 @@ pub fn ring_block(alloc: Global, trial: &mut Trial) -> Result<(), Stop> {
     ring.write_buf().fill(7);
     ring.bytes_written(5);
     ring.consume(2);
-    let before = digest(&ring);
-    if let Err(e) = ring.reserve(MORE) {
-        trial.refused(e, digest(&ring) == before)?;
-        granted(ring.reserve(MORE))?;
-    }
-    is(
-        (ring.capacity(), ring.usable_space()) == (8192, 8189),
-        "the room",
-    )?;
+    grows(trial, &mut ring, MORE)?;
+    let room = (ring.capacity(), ring.usable_space());
+    is(room == (8192, 8189), "the room")?;
     is(ring.buf() == [7; 3].as_slice(), "the bytes")
+}
+
+/// A block of capacity 8, or a ring of 4096, that holds three bytes behind two that were consumed.
+pub fn placed_block(alloc: Global, is_ring: bool) -> Result<BufImpl, Stop> {
+    let mut either = block(alloc, is_ring, 8)?;
+    either.bytes_written(5);
+    either.consume(2);
+    Ok(either)
 }
 
 pub fn either(alloc: Global, trial: &mut Trial) -> Result<(), Stop> {
     for (is_ring, capacity, usable) in KINDS {
-        let mut either = if is_ring {
-            BufImpl::with_capacity_ringbuf(alloc, 8)?
-        } else {
-            BufImpl::with_capacity(alloc, 8)?
-        };
-        either.bytes_written(5);
-        either.consume(2);
-        let before = digest(&either);
-        if let Err(e) = either.reserve(MORE) {
-            trial.refused(e, digest(&either) == before)?;
-            granted(either.reserve(MORE))?;
-        }
-        is(
-            (either.capacity(), either.usable_space()) == (capacity, usable),
-            "the room",
-        )?;
+        let mut either = placed_block(alloc, is_ring)?;
+        grows(trial, &mut either, MORE)?;
+        let room = (either.capacity(), either.usable_space());
+        is(room == (capacity, usable), "the room")?;
         is(either.buf() == [0; 3].as_slice(), "the bytes")?;
     }
     Ok(())
@@ -116,69 +153,97 @@ pub fn either(alloc: Global, trial: &mut Trial) -> Result<(), Stop> {
 pub fn buffers(alloc: Global, trial: &mut Trial) -> Result<(), Stop> {
     for (is_ring, capacity, usable) in KINDS {
         let mut buf = placed(alloc, is_ring)?;
-        let before = digest(&buf);
-        if let Err(e) = buf.reserve(MORE) {
-            trial.refused(e, digest(&buf) == before)?;
-            granted(buf.reserve(MORE))?;
-        }
+        grows(trial, &mut buf, MORE)?;
         has_grown(&buf, capacity, usable)?;
     }
     Ok(())
 }
 
-pub fn readers(alloc: Global, trial: &mut Trial) -> Result<(), Stop> {
-    for (is_ring, capacity, usable) in KINDS {
-        let buf = placed(alloc, is_ring)?;
-        let before = digest(&buf);
-        let mut rdr = BufReader::with_buffer(buf, reading(b"x"));
-        let outcome = rdr.reserve(MORE);
-        let (inner, mut buf) = rdr.into_inner_with_buffer();
+/// A reader over a buffer.
+pub type Reader = BufReader<Told<Source<'static>>>;
+
+/// A stream over a buffer.
+pub trait Wraps: Grower + Drop {
+    /// The stream over this buffer.
+    fn over(buf: Buffer) -> Self;
+
+    /// The buffer again, where the stream inside was left alone.
+    fn apart(self) -> Result<Buffer, Stop>;
+}
+
+impl Wraps for Reader {
+    fn over(buf: Buffer) -> Self {
+        BufReader::with_buffer(buf, reading(b"x"))
+    }
+
+    fn apart(self) -> Result<Buffer, Stop> {
+        let (inner, buf) = self.into_inner_with_buffer();
         is(inner.get_ref().asks == 0, "a growth asks the stream")?;
-        if let Err(e) = outcome {
-            trial.refused(e, digest(&buf) == before)?;
-            let mut rdr = BufReader::with_buffer(buf, inner);
-            granted(rdr.reserve(MORE))?;
-            buf = rdr.into_inner_with_buffer().1;
-        }
+        Ok(buf)
+    }
+}
+
+impl Wraps for BufWriter<Sink> {
+    fn over(buf: Buffer) -> Self {
+        BufWriter::with_buffer(buf, empty_sink())
+    }
+
+    fn apart(self) -> Result<Buffer, Stop> {
+        let (inner, buf) = self.into_inner_with_buffer();
+        is(has_taken(&inner, b""), "a growth sends")?;
+        Ok(buf)
+    }
+}
+
+impl Wraps for LineWriter<Sink> {
+    fn over(buf: Buffer) -> Self {
+        LineWriter::with_buffer(buf, empty_sink())
+    }
+
+    fn apart(self) -> Result<Buffer, Stop> {
+        let (inner, buf) = self.into_inner_with_buf();
+        is(has_taken(&inner, b""), "a growth sends")?;
+        Ok(buf)
+    }
+}
+
+// The buffer, grown inside such a stream.
+fn grown_in<W: Wraps>(trial: &mut Trial, buf: Buffer) -> Result<Buffer, Stop> {
+    let before = digest(&buf);
+    let mut stream = W::over(buf);
+    let outcome = stream.grow(MORE);
+    let buf = stream.apart()?;
+    if let Err(e) = outcome {
+        trial.refused(e, digest(&buf) == before)?;
+        let mut stream = W::over(buf);
+        granted(stream.grow(MORE))?;
+        return stream.apart();
+    }
+    Ok(buf)
+}
+
+/// Growths of the buffers of such streams.
+pub fn inside<W: Wraps>(alloc: Global, trial: &mut Trial) -> Result<(), Stop> {
+    for (is_ring, capacity, usable) in KINDS {
+        let buf = grown_in::<W>(trial, placed(alloc, is_ring)?)?;
         has_grown(&buf, capacity, usable)?;
     }
     Ok(())
 }
 
-pub fn writers(alloc: Global, trial: &mut Trial) -> Result<(), Stop> {
-    for (is_ring, capacity, usable) in KINDS {
-        let buf = placed(alloc, is_ring)?;
-        let before = digest(&buf);
-        let mut wrt = BufWriter::with_buffer(buf, empty_sink());
-        let outcome = wrt.reserve(MORE);
-        let (inner, mut buf) = wrt.into_inner_with_buffer();
-        is(has_taken(&inner, b""), "a growth sends")?;
-        if let Err(e) = outcome {
-            trial.refused(e, digest(&buf) == before)?;
-            let mut wrt = BufWriter::with_buffer(buf, inner);
-            granted(wrt.reserve(MORE))?;
-            buf = wrt.into_inner_with_buffer().1;
-        }
-        has_grown(&buf, capacity, usable)?;
-    }
-    Ok(())
+// A buffer of this kind of capacity 4, or a ring of 4096, that holds these bytes.
+fn full(alloc: Global, is_ring: bool, held: &[u8]) -> Result<Buffer, Stop> {
+    let mut buf = buffer(alloc, is_ring, 4)?;
+    let count = buf.copy_from_slice(held);
+    is(count == held.len(), "bytes that don't fit")?;
+    Ok(buf)
 }
 
-pub fn line_writers(alloc: Global, trial: &mut Trial) -> Result<(), Stop> {
-    for (is_ring, capacity, usable) in KINDS {
-        let buf = placed(alloc, is_ring)?;
-        let before = digest(&buf);
-        let mut lines = LineWriter::with_buffer(buf, empty_sink());
-        let outcome = lines.reserve(MORE);
-        let (inner, mut buf) = lines.into_inner_with_buf();
-        is(has_taken(&inner, b""), "a growth sends")?;
-        if let Err(e) = outcome {
-            trial.refused(e, digest(&buf) == before)?;
-            let mut lines = LineWriter::with_buffer(buf, inner);
-            granted(lines.reserve(MORE))?;
-            buf = lines.into_inner_with_buf().1;
-        }
-        has_grown(&buf, capacity, usable)?;
+fn pushes_into(trial: &mut Trial, buf: &mut Buffer) -> Result<(), Stop> {
+    let before = digest(buf);
+    if let Err(e) = buf.push_bytes(&[4, 5]) {
+        trial.refused(e, digest(buf) == before)?;
+        granted(buf.push_bytes(&[4, 5]))?;
     }
     Ok(())
 }
@@ -190,30 +255,27 @@ pub fn pushes(alloc: Global, trial: &mut Trial) -> Result<(), Stop> {
         (false, [1, 2, 3].as_slice(), 7, 2),
         (true, ring.as_slice(), 8192, 4095),
     ] {
-        let mut buf = if is_ring {
-            Buffer::with_capacity_ringbuf(alloc, 4)?
-        } else {
-            Buffer::with_capacity(alloc, 4)?
-        };
+        let mut buf = full(alloc, is_ring, held)?;
+        pushes_into(trial, &mut buf)?;
+        let bytes = buf.buf();
         is(
-            buf.copy_from_slice(held) == held.len(),
-            "bytes that don't fit",
-        )?;
-        let before = digest(&buf);
-        if let Err(e) = buf.push_bytes(&[4, 5]) {
-            trial.refused(e, digest(&buf) == before)?;
-            granted(buf.push_bytes(&[4, 5]))?;
-        }
-        is(
-            buf.buf().starts_with(held) && buf.buf().ends_with(&[4, 5]),
+            bytes.starts_with(held) && bytes.ends_with(&[4, 5]),
             "what was pushed",
         )?;
-        is(
-            (buf.capacity(), buf.usable_space()) == (capacity, usable),
-            "the room",
-        )?;
+        let room = (buf.capacity(), buf.usable_space());
+        is(room == (capacity, usable), "the room")?;
     }
     Ok(())
+}
+
+// A growth that finds its room.
+fn finds_room(buf: &mut Buffer, more: usize) -> Result<(), Stop> {
+    let before = digest(buf);
+    granted(buf.reserve(more))?;
+    is(
+        digest(buf) == before,
+        "a growth that finds its room changes something",
+    )
 }
 
 // The first growth of each pair finds its room, and the second takes memory.
@@ -223,25 +285,9 @@ pub fn twice(alloc: Global, trial: &mut Trial) -> Result<(), Stop> {
         (false, [].as_slice(), 4, 5, 9),
         (true, ten.as_slice(), 4086, 4087, 8192),
     ] {
-        let mut buf = if is_ring {
-            Buffer::with_capacity_ringbuf(alloc, 4)?
-        } else {
-            Buffer::with_capacity(alloc, 4)?
-        };
-        is(
-            buf.copy_from_slice(held) == held.len(),
-            "bytes that don't fit",
-        )?;
-        let before = digest(&buf);
-        granted(buf.reserve(first))?;
-        is(
-            digest(&buf) == before,
-            "a growth that finds its room changes something",
-        )?;
-        if let Err(e) = buf.reserve(second) {
-            trial.refused(e, digest(&buf) == before)?;
-            granted(buf.reserve(second))?;
-        }
+        let mut buf = full(alloc, is_ring, held)?;
+        finds_room(&mut buf, first)?;
+        grows(trial, &mut buf, second)?;
         is(
             buf.buf() == held && buf.capacity() == capacity,
             "the growth",

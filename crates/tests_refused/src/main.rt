@@ -7,6 +7,7 @@
 
 mod amounts;
 mod growths;
+mod kinds;
 mod makers;
 mod plays;
 mod policies;
@@ -14,7 +15,10 @@ mod seen;
 mod streams;
 mod trial;
 
+use crate::growths::Reader;
+use crate::streams::Sink;
 use crate::trial::{Stop, Trial};
+use buffer_redux::{BufWriter, LineWriter};
 use std::alloc::{AllocError, Global};
 use std::io;
 use std::io::Read;
@@ -28,8 +32,10 @@ enum Check {
     Readers,
     Writers,
     LineWriters,
-    Frames,
+    ReadsFrame,
+    WritesFrame,
     BlocksNeedNone,
+    StreamsNeedNone,
     BuffersNeedNone,
     Storage,
     PlainGrows,
@@ -58,15 +64,17 @@ enum Check {
     Seeks,
 }
 
-const REFUSED: [Check; 28] = [
+const REFUSED: [Check; 30] = [
     Check::Blocks,
     Check::Either,
     Check::Buffers,
     Check::Readers,
     Check::Writers,
     Check::LineWriters,
-    Check::Frames,
+    Check::ReadsFrame,
+    Check::WritesFrame,
     Check::BlocksNeedNone,
+    Check::StreamsNeedNone,
     Check::BuffersNeedNone,
     Check::Storage,
     Check::PlainGrows,
@@ -107,17 +115,19 @@ fn checked(check: Check, alloc: Global, trial: &mut Trial) -> Result<(), Stop> {
         Check::Readers => makers::readers(alloc, trial),
         Check::Writers => makers::writers(alloc, trial),
         Check::LineWriters => makers::line_writers(alloc, trial),
-        Check::Frames => makers::frames(alloc, trial),
+        Check::ReadsFrame => makers::reads_frame(alloc, trial),
+        Check::WritesFrame => makers::writes_frame(alloc, trial),
         Check::BlocksNeedNone => makers::blocks_need_none(alloc),
+        Check::StreamsNeedNone => makers::streams_need_none(alloc),
         Check::BuffersNeedNone => makers::buffers_need_none(alloc),
         Check::Storage => growths::storage(alloc, trial),
         Check::PlainGrows => growths::plain_block(alloc, trial),
         Check::RingGrows => growths::ring_block(alloc, trial),
         Check::EitherGrows => growths::either(alloc, trial),
         Check::BuffersGrow => growths::buffers(alloc, trial),
-        Check::ReadersGrow => growths::readers(alloc, trial),
-        Check::WritersGrow => growths::writers(alloc, trial),
-        Check::LineWritersGrow => growths::line_writers(alloc, trial),
+        Check::ReadersGrow => growths::inside::<Reader>(alloc, trial),
+        Check::WritersGrow => growths::inside::<BufWriter<Sink>>(alloc, trial),
+        Check::LineWritersGrow => growths::inside::<LineWriter<Sink>>(alloc, trial),
         Check::Pushes => growths::pushes(alloc, trial),
         Check::GrowsTwice => growths::twice(alloc, trial),
         Check::Fills => policies::fills(alloc, trial),

@@ -1,7 +1,8 @@
 //! Lists of calls whose record finds no memory: the calls before are recorded whole, and the next wasn't begun. The calls
 //! that have no answer yet, played on the same run, end it as if nothing had happened.
-use crate::seen::digest;
-use crate::streams::{empty_sink, has_taken, reading};
+use crate::growths::Reader;
+use crate::seen::same;
+use crate::streams::{Sink, empty_sink, has_taken, reading};
 use crate::trial::{Stop, Trial, granted, is};
 use buffer_redux::play::{
     ReaderAnswer, ReaderCall, ReaderRun, WriterAnswer, WriterCall, WriterRun, play_reader,
@@ -10,102 +11,120 @@ use buffer_redux::play::{
 use buffer_redux::{BufReader, BufWriter};
 use std::alloc::Global;
 
-pub fn reads(alloc: Global, trial: &mut Trial) -> Result<(), Stop> {
-    let calls = [
-        ReaderCall::Read(2),
-        ReaderCall::Fill,
-        ReaderCall::Consume(9),
-        ReaderCall::ReadIntoBuf,
-        ReaderCall::Read(4),
-    ];
-    let answers = [
-        ReaderAnswer::Count(2),
-        ReaderAnswer::Shown(2),
-        ReaderAnswer::Count(2),
-        ReaderAnswer::Count(1),
-        ReaderAnswer::Count(1),
-    ];
-    let bytes = [1, 2, 3, 4, 5];
-    let mut rdr = BufReader::with_capacity(alloc, 4, reading(&bytes))?;
-    let mut run = ReaderRun::new(alloc);
-    if play_reader(alloc, &mut rdr, &calls, &mut run).is_err() {
+const READER_CALLS: [ReaderCall; 5] = [
+    ReaderCall::Read(2),
+    ReaderCall::Fill,
+    ReaderCall::Consume(9),
+    ReaderCall::ReadIntoBuf,
+    ReaderCall::Read(4),
+];
+
+const READER_ANSWERS: [ReaderAnswer; 5] = [
+    ReaderAnswer::Count(2),
+    ReaderAnswer::Shown(2),
+    ReaderAnswer::Count(2),
+    ReaderAnswer::Count(1),
+    ReaderAnswer::Count(1),
+];
+
+const BYTES: [u8; 5] = [1, 2, 3, 4, 5];
+
+// What stands after the calls that have an answer.
+fn has_read(rdr: &Reader, run: &ReaderRun) -> Result<(), Stop> {
+    let done = run.answers.len();
+    // How many bytes are handed out, how many are buffered, and how often the stream was asked, after each call.
+    let [handed, held, asks] = match done {
+        0 => [0, 0, 0],
+        1 => [2, 2, 1],
+        2 => [2, 2, 1],
+        3 => [4, 0, 1],
+        4 => [4, 1, 2],
+        _ => return Err(Stop::Wrong("refused after the last call")),
+    };
+    let first = READER_ANSWERS.get(..done).unwrap_or(&[]);
+    is(same(&run.answers, first), "the first answers")?;
+    let bytes = BYTES.get(..handed);
+    is(bytes == Some(run.handed.as_slice()), "the first bytes")?;
+    is(rdr.buf_len() == held, "what is buffered")?;
+    let asked = rdr.get_ref().get_ref().asks;
+    is(asked == asks, "the next call was begun")
+}
+
+fn plays_reads(
+    alloc: Global,
+    trial: &mut Trial,
+    rdr: &mut Reader,
+    run: &mut ReaderRun,
+) -> Result<(), Stop> {
+    if play_reader(alloc, rdr, &READER_CALLS, run).is_err() {
         trial.meets()?;
-        let done = run.answers.len();
-        // How many bytes are handed out, how many are buffered, and how often the stream was asked, after each call.
-        let [handed, held, asks] = match done {
-            0 => [0, 0, 0],
-            1 => [2, 2, 1],
-            2 => [2, 2, 1],
-            3 => [4, 0, 1],
-            4 => [4, 1, 2],
-            _ => return Err(Stop::Wrong("refused after the last call")),
-        };
-        let first = answers.get(..done).unwrap_or(&[]);
-        is(
-            digest(&run.answers.as_slice()) == digest(&first),
-            "the first answers",
-        )?;
-        is(
-            bytes.get(..handed) == Some(run.handed.as_slice()),
-            "the first bytes",
-        )?;
-        is(rdr.buf_len() == held, "what is buffered")?;
-        is(
-            rdr.get_ref().get_ref().asks == asks,
-            "the next call was begun",
-        )?;
-        let left = calls.get(done..).unwrap_or(&[]);
-        granted(play_reader(alloc, &mut rdr, left, &mut run))?;
+        has_read(rdr, run)?;
+        let left = READER_CALLS.get(run.answers.len()..).unwrap_or(&[]);
+        granted(play_reader(alloc, rdr, left, run))?;
     }
-    let whole = answers.as_slice();
-    is(
-        digest(&run.answers.as_slice()) == digest(&whole),
-        "the answers",
-    )?;
-    is(run.handed.as_slice() == bytes.as_slice(), "the bytes")?;
+    Ok(())
+}
+
+pub fn reads(alloc: Global, trial: &mut Trial) -> Result<(), Stop> {
+    let mut rdr = BufReader::with_capacity(alloc, 4, reading(&BYTES))?;
+    let mut run = ReaderRun::new(alloc);
+    plays_reads(alloc, trial, &mut rdr, &mut run)?;
+    is(same(&run.answers, &READER_ANSWERS), "the answers")?;
+    is(run.handed.as_slice() == BYTES.as_slice(), "the bytes")?;
     is(rdr.buf_len() == 0, "bytes are left")
 }
 
+const WRITER_ANSWERS: [WriterAnswer; 3] = [
+    WriterAnswer::Count(1),
+    WriterAnswer::Count(2),
+    WriterAnswer::Done,
+];
+
+// The same of a writer.
+fn has_written(wrt: &BufWriter<Sink>, run: &WriterRun) -> Result<(), Stop> {
+    let done = run.answers.len();
+    // How many bytes were sent, and how many are buffered, after each call.
+    let [sent, held] = match done {
+        0 => [0, 0],
+        1 => [0, 1],
+        2 => [3, 0],
+        _ => return Err(Stop::Wrong("refused after the last call")),
+    };
+    let first = WRITER_ANSWERS.get(..done).unwrap_or(&[]);
+    is(same(&run.answers, first), "the first answers")?;
+    let sent = BYTES.get(..sent).unwrap_or(&[]);
+    is(has_taken(wrt.get_ref(), sent), "what was sent")?;
+    is(wrt.buf_len() == held, "what is buffered")
+}
+
+fn plays_writes(
+    trial: &mut Trial,
+    wrt: &mut BufWriter<Sink>,
+    calls: &[WriterCall<'_>],
+    run: &mut WriterRun,
+) -> Result<(), Stop> {
+    if play_writer(wrt, calls, run).is_err() {
+        trial.meets()?;
+        has_written(wrt, run)?;
+        let left = calls.get(run.answers.len()..).unwrap_or(&[]);
+        granted(play_writer(wrt, left, run))?;
+    }
+    Ok(())
+}
+
 pub fn writes(alloc: Global, trial: &mut Trial) -> Result<(), Stop> {
+    let mut wrt = BufWriter::with_capacity(alloc, 2, empty_sink())?;
+    let mut run = WriterRun::new(alloc);
     let calls = [
         WriterCall::Write(&[1]),
         WriterCall::Write(&[2, 3]),
         WriterCall::Flush,
     ];
-    let answers = [
-        WriterAnswer::Count(1),
-        WriterAnswer::Count(2),
-        WriterAnswer::Done,
-    ];
-    let bytes = [1, 2, 3];
-    let mut wrt = BufWriter::with_capacity(alloc, 2, empty_sink())?;
-    let mut run = WriterRun::new(alloc);
-    if play_writer(&mut wrt, &calls, &mut run).is_err() {
-        trial.meets()?;
-        let done = run.answers.len();
-        // How many bytes were sent, and how many are buffered, after each call.
-        let [sent, held] = match done {
-            0 => [0, 0],
-            1 => [0, 1],
-            2 => [3, 0],
-            _ => return Err(Stop::Wrong("refused after the last call")),
-        };
-        let first = answers.get(..done).unwrap_or(&[]);
-        is(
-            digest(&run.answers.as_slice()) == digest(&first),
-            "the first answers",
-        )?;
-        let sent = bytes.get(..sent).unwrap_or(&[]);
-        is(has_taken(wrt.get_ref(), sent), "what was sent")?;
-        is(wrt.buf_len() == held, "what is buffered")?;
-        let left = calls.get(done..).unwrap_or(&[]);
-        granted(play_writer(&mut wrt, left, &mut run))?;
-    }
-    let whole = answers.as_slice();
+    plays_writes(trial, &mut wrt, &calls, &mut run)?;
+    is(same(&run.answers, &WRITER_ANSWERS), "the answers")?;
     is(
-        digest(&run.answers.as_slice()) == digest(&whole),
-        "the answers",
+        has_taken(wrt.get_ref(), &[1, 2, 3]),
+        "what was sent at the end",
     )?;
-    is(has_taken(wrt.get_ref(), &bytes), "what was sent at the end")?;
     is(wrt.buf_len() == 0, "bytes are left")
 }

@@ -1,5 +1,6 @@
 //! Policies that grow the buffer: where that is refused, the call fails, nothing changed, and the same call then succeeds.
-use crate::growths::placed;
+use crate::growths::{grows, placed};
+use crate::kinds::buffer;
 use crate::seen::digest;
 use crate::streams::{Sink, Source, empty_sink, has_taken, reading};
 use crate::trial::{Stop, Trial, granted, is};
@@ -10,7 +11,7 @@ use buffer_redux::tell::Told;
 use buffer_redux::{BufReader, BufWriter, Buffer};
 use std::alloc::Global;
 use std::io;
-use std::io::{BufRead, ErrorKind, Write};
+use std::io::{BufRead, Write};
 
 const BYTES: [u8; 20] = [
     0, 1, 2, 3, 4, 5, 6, 7, 8, 9, 10, 11, 12, 13, 14, 15, 16, 17, 18, 19,
@@ -23,36 +24,40 @@ const KINDS: [(bool, usize); 2] = [(false, 8997), (true, 8192)];
 
 type Reader<'a> = BufReader<Told<Source<'a>>, MinBuffered>;
 
-// A refused fill keeps the place of the bytes, and doesn't ask the stream.
+fn ahead<'a>(buf: Buffer, stream: Told<Source<'a>>) -> Reader<'a> {
+    BufReader::with_buffer(buf, stream).set_policy(MinBuffered(MINIMUM))
+}
+
+// A reader whose fill was tried once. A refused one keeps the place of the bytes, and doesn't ask the stream.
+fn filled(trial: &mut Trial, buf: Buffer) -> Result<Reader<'static>, Stop> {
+    let before = digest(&buf);
+    let mut rdr = ahead(buf, reading(&[4, 5]));
+    if let Err(e) = rdr.fill_buf() {
+        let (inner, buf) = rdr.into_inner_with_buffer();
+        trial.failed(e, digest(&buf) == before && inner.get_ref().asks == 0)?;
+        return Ok(ahead(buf, inner));
+    }
+    Ok(rdr)
+}
+
 pub fn fills(alloc: Global, trial: &mut Trial) -> Result<(), Stop> {
     for (is_ring, capacity) in KINDS {
-        let buf = placed(alloc, is_ring)?;
-        let before = digest(&buf);
-        let mut rdr = BufReader::with_buffer(buf, reading(&[4, 5])).set_policy(MinBuffered(
-            MINIMUM,
-        ));
-        if let Err(e) = rdr.fill_buf() {
-            let (inner, buf) = rdr.into_inner_with_buffer();
-            trial.failed(e, digest(&buf) == before && inner.get_ref().asks == 0)?;
-            rdr = BufReader::with_buffer(buf, inner).set_policy(MinBuffered(MINIMUM));
-        }
-        is(
-            granted(rdr.fill_buf())? == [1, 2, 3, 4, 5].as_slice(),
-            "what is shown",
-        )?;
+        let mut rdr = filled(trial, placed(alloc, is_ring)?)?;
+        let shown = granted(rdr.fill_buf())? == [1, 2, 3, 4, 5].as_slice();
+        is(shown, "what is shown")?;
         is(rdr.capacity() == capacity, "the capacity")?;
     }
     Ok(())
 }
 
-// A refused write keeps the place of the bytes, and sends nothing. `again` is `policy` once more.
-fn writes_under<P: WriterPolicy + Drop>(
+// A writer after a write of two bytes. A refused one keeps the place of the bytes, and sends nothing. `again` is `policy`
+// once more.
+fn written<P: WriterPolicy + Drop>(
     trial: &mut Trial,
     buf: Buffer,
     policy: P,
     again: P,
-    capacity: usize,
-) -> Result<(), Stop> {
+) -> Result<BufWriter<Sink, P>, Stop> {
     let before = digest(&buf);
     let mut wrt = BufWriter::with_buffer(buf, empty_sink()).set_policy(policy);
     match wrt.write(&[4, 5]) {
@@ -64,6 +69,10 @@ fn writes_under<P: WriterPolicy + Drop>(
             is(granted(wrt.write(&[4, 5]))? == 2, "what a write takes")?;
         }
     }
+    Ok(wrt)
+}
+
+fn holds_all<P: WriterPolicy + Drop>(wrt: BufWriter<Sink, P>, capacity: usize) -> Result<(), Stop> {
     is(has_taken(wrt.get_ref(), b""), "sent too early")?;
     let (_, buf) = wrt.into_inner_with_buffer();
     is(buf.buf() == [1, 2, 3, 4, 5].as_slice(), "what is buffered")?;
@@ -72,20 +81,14 @@ fn writes_under<P: WriterPolicy + Drop>(
 
 pub fn writes(alloc: Global, trial: &mut Trial) -> Result<(), Stop> {
     for (is_ring, capacity) in KINDS {
-        let buf = placed(alloc, is_ring)?;
-        writes_under(
-            trial,
-            buf,
-            FlushAtLeast(MINIMUM),
-            FlushAtLeast(MINIMUM),
+        let [policy, again] = [FlushAtLeast(MINIMUM), FlushAtLeast(MINIMUM)];
+        holds_all(
+            written(trial, placed(alloc, is_ring)?, policy, again)?,
             capacity,
         )?;
-        let buf = placed(alloc, is_ring)?;
-        writes_under(
-            trial,
-            buf,
-            FlushExact(MINIMUM),
-            FlushExact(MINIMUM),
+        let [policy, again] = [FlushExact(MINIMUM), FlushExact(MINIMUM)];
+        holds_all(
+            written(trial, placed(alloc, is_ring)?, policy, again)?,
             capacity,
         )?;
     }
@@ -99,6 +102,20 @@ fn fill(trial: &mut Trial, rdr: &mut Reader<'_>) -> Result<(), Stop> {
         granted(rdr.fill_buf())?;
     }
     Ok(())
+}
+
+// Grows by `more` bytes and fills, which then shows `shown`.
+fn shows(
+    trial: &mut Trial,
+    rdr: &mut Reader<'_>,
+    more: usize,
+    shown: Option<&[u8]>,
+    capacity: usize,
+) -> Result<(), Stop> {
+    grows(trial, rdr, more)?;
+    fill(trial, rdr)?;
+    is(shown == Some(rdr.buffer()), "what is shown")?;
+    is(rdr.capacity() == capacity, "the capacity")
 }
 
 // The first fill takes memory, and so does the growth after it.
@@ -116,16 +133,17 @@ pub fn looks_ahead(alloc: Global, trial: &mut Trial) -> Result<(), Stop> {
         (8, 0, 20, 20, 8),
     ] {
         rdr.consume(consumed);
-        let before = digest(&rdr);
-        if let Err(e) = rdr.reserve(more) {
-            trial.refused(e, digest(&rdr) == before)?;
-            granted(rdr.reserve(more))?;
-        }
-        fill(trial, &mut rdr)?;
-        is(BYTES.get(from..to) == Some(rdr.buffer()), "what is shown")?;
-        is(rdr.capacity() == capacity, "the capacity")?;
+        shows(trial, &mut rdr, more, BYTES.get(from..to), capacity)?;
     }
     Ok(())
+}
+
+fn fills_ring(trial: &mut Trial, mut rdr: Reader<'_>) -> Result<(), Stop> {
+    fill(trial, &mut rdr)?;
+    let seen = (rdr.buf_len(), rdr.capacity());
+    is(seen == (8192, 8192), "what is shown")?;
+    let asks = rdr.get_ref().get_ref().asks;
+    is(asks == 2, "how often the stream is asked")
 }
 
 // The first 4096 bytes fit, and what is then missing doesn't.
@@ -133,16 +151,7 @@ pub fn looks_ahead_in_ring(alloc: Global, trial: &mut Trial) -> Result<(), Stop>
     let bytes = [7u8; 10000];
     let mut rdr = BufReader::with_capacity_ringbuf(alloc, 4096, reading(&bytes))?;
     is(rdr.read_into_buf()? == 4096, "the first read")?;
-    let mut rdr = rdr.set_policy(MinBuffered(5000));
-    fill(trial, &mut rdr)?;
-    is(
-        (rdr.buf_len(), rdr.capacity()) == (8192, 8192),
-        "what is shown",
-    )?;
-    is(
-        rdr.get_ref().get_ref().asks == 2,
-        "how often the stream is asked",
-    )
+    fills_ring(trial, rdr.set_policy(MinBuffered(5000)))
 }
 
 // Grows before each read, whether there is room or not.
@@ -159,32 +168,26 @@ impl ReaderPolicy for Greedy {
 }
 
 // A fill of several turns that is refused in one of them keeps the bytes of those before.
+fn fill_greedily(
+    trial: &mut Trial,
+    rdr: &mut BufReader<Told<Source<'_>>, Greedy>,
+) -> Result<(), Stop> {
+    if let Err(e) = rdr.fill_buf() {
+        let room = rdr.get_ref().get_ref().asks.saturating_mul(4096);
+        trial.failed(e, rdr.buf_len() == room.min(10000))?;
+        is(rdr.capacity() == room, "the capacity of the turns before")?;
+    }
+    Ok(())
+}
+
 pub fn grows_each_turn(alloc: Global, trial: &mut Trial) -> Result<(), Stop> {
     let bytes = [7u8; 10000];
     for (is_ring, capacity) in [(false, 14096), (true, 16384)] {
-        let buf = if is_ring {
-            Buffer::with_capacity_ringbuf(alloc, 0)?
-        } else {
-            Buffer::with_capacity(alloc, 0)?
-        };
+        let buf = buffer(alloc, is_ring, 0)?;
         let mut rdr = BufReader::with_buffer(buf, reading(&bytes)).set_policy(Greedy);
-        if let Err(e) = rdr.fill_buf() {
-            is(
-                e.kind() == ErrorKind::OutOfMemory,
-                "a stream or a policy fails",
-            )?;
-            trial.meets()?;
-            let room = rdr.get_ref().get_ref().asks.saturating_mul(4096);
-            is(rdr.capacity() == room, "the capacity of the turns before")?;
-            is(
-                rdr.buf_len() == room.min(10000),
-                "the bytes of the turns before",
-            )?;
-        }
-        is(
-            granted(rdr.fill_buf())? == bytes.as_slice(),
-            "what is shown",
-        )?;
+        fill_greedily(trial, &mut rdr)?;
+        let shown = granted(rdr.fill_buf())? == bytes.as_slice();
+        is(shown, "what is shown")?;
         is(rdr.capacity() == capacity, "the capacity")?;
     }
     Ok(())
@@ -211,12 +214,31 @@ pub fn flushes_at_least(alloc: Global, trial: &mut Trial) -> Result<(), Stop> {
     let wrt = BufWriter::with_capacity(alloc, 0, empty_sink())?;
     let mut wrt = wrt.set_policy(FlushAtLeast(4));
     write(trial, &mut wrt, &[1])?;
-    is(
-        (wrt.buf_len(), wrt.capacity()) == (1, 4),
-        "what a write leaves",
-    )?;
+    let left = (wrt.buf_len(), wrt.capacity());
+    is(left == (1, 4), "what a write leaves")?;
     wrt.flush()?;
     is(has_taken(wrt.get_ref(), &[1]), "what is sent")
+}
+
+// Grows by `more` and writes these bytes, and then these have been sent.
+fn sends(
+    trial: &mut Trial,
+    wrt: &mut BufWriter<Sink, FlushExact>,
+    more: usize,
+    bytes: &[u8],
+    sent: &[u8],
+) -> Result<(), Stop> {
+    grows(trial, wrt, more)?;
+    write(trial, wrt, bytes)?;
+    is(has_taken(wrt.get_ref(), sent), "what is sent")
+}
+
+// A writer's end sends what is left.
+fn ends(wrt: BufWriter<Sink, FlushExact>, sent: &[u8]) -> Result<(), Stop> {
+    match wrt.into_inner() {
+        Ok(inner) => is(has_taken(&inner, sent), "what is sent at the end"),
+        Err(_) => Err(Stop::Wrong("the end fails")),
+    }
 }
 
 pub fn flushes_exactly(alloc: Global, trial: &mut Trial) -> Result<(), Stop> {
@@ -229,19 +251,8 @@ pub fn flushes_exactly(alloc: Global, trial: &mut Trial) -> Result<(), Stop> {
         (0, &[4, 5, 6], &[1, 2, 3, 4], 8),
         (0, &[7, 8, 9, 10], &[1, 2, 3, 4, 5, 6, 7, 8], 8),
     ] {
-        if let Err(e) = wrt.reserve(more) {
-            trial.refused(e, wrt.capacity() == 4 && wrt.buf_len() == 1)?;
-            granted(wrt.reserve(more))?;
-        }
-        write(trial, &mut wrt, bytes)?;
-        is(has_taken(wrt.get_ref(), sent), "what is sent")?;
+        sends(trial, &mut wrt, more, bytes, sent)?;
         is(wrt.capacity() == capacity, "the capacity")?;
     }
-    match wrt.into_inner() {
-        Ok(inner) => is(
-            has_taken(&inner, &[1, 2, 3, 4, 5, 6, 7, 8, 9, 10]),
-            "what is sent at the end",
-        ),
-        Err(_) => Err(Stop::Wrong("the end fails")),
-    }
+    ends(wrt, &[1, 2, 3, 4, 5, 6, 7, 8, 9, 10])
 }

@@ -27,3 +27,8 @@ pub fn digest<T: fmt::Debug>(value: &T) -> u64 {
         Err(_) => 0,
     }
 }
+
+/// Whether both write the same text.
+pub fn same<T: fmt::Debug>(values: &[T], others: &[T]) -> bool {
+    digest(&values) == digest(&others)
+}
