@@ -222,8 +222,5 @@ module _ {R P W Q : Type 0} {remaining : R → Option (List ℕ)} {stretch : W �
             reader = only ended.reader;
             writer =
                 MetInterrupts-joins u.log.writes v.log.writes v'.log.writes
-                (out_met stretch u v t.block.bytes ended.last left went') (record {
-                  interrupts = flushed.interrupts;
-                  only = flushed.only;
-                });
+                (out_met stretch u v t.block.bytes ended.last left went') flushed.met;
           }

@@ -383,7 +383,7 @@ module _ {S P : Type 0} (s t : Buffered S P) where
       → IfErr answer (λ e. SendErrorCaused s.log.writes t.log.writes e)
       → MetInterrupts s.own_calls.writes (after_flush s.own_calls answer).writes
       → MetInterrupts s.log.writes t.log.writes
-  flush_met (Ok a) flushed caused own = record { interrupts = flushed.interrupts; only = flushed.only }
+  flush_met (Ok a) flushed caused own = flushed.met
   flush_met (Err e) flushed caused own = err_met s.own_calls.writes (after_flush s.own_calls (Err e)).writes
       s.log.writes t.log.writes e refl caused own
 

@@ -5,7 +5,7 @@ use Rattle.std.specs.IoError.{error_kind}
 use Rattle.std.specs.List.{All}
 use Rattle.std.specs.declared.io.Error.{Error}
 use Rattle.std.specs.declared.io.ErrorKind.TheVariants.{Interrupted}
-use Rattle.redux_tell.specs.Copy.{MovedBy, CopiesOn, CopyTurn, CopyRetried, FaultsRise, FaultsAtMost, consumed_since}
+use Rattle.redux_tell.specs.Copy.{MovedBy, FillsMade, CopiesOn, CopyTurn, CopyRetried, FaultsRise, FaultsAtMost, consumed_since}
 use Rattle.redux_tell.specs.CopyLaws.{TurnAnswers-after}
 use Rattle.redux_tell.specs.Faults.{IsInterrupt, MetInterrupts, OnlyInterrupts-none, OnlyInterrupted-none}
 use Rattle.redux_tell.specs.StreamLog.{StreamLog, FillLog, WriteLog, after_fill_fault, after_shown, after_write, with_end}
@@ -36,11 +36,14 @@ module _ {W : Type 0} (tells : W → StreamLog) (stretch call : W → W → Type
       let none : MetInterrupts (tells w).writes (tells w).writes =
       record { interrupts = []; only = OnlyInterrupted-none (tells w).writes } in
       let kept = still from.fills (after_fill_fault from shown e).fills (tells w).writes (tells w).writes refl refl refl refl in
+      let fills : FillsMade 0 from.fills (after_fill_fault from shown e).fills (tells w).writes (tells w).writes =
+      omega (arith, length-append from.fills.faults (e ∷ [])) in
       record {
         answers = record {
           copies = tt;
           ended = λ is. cc;
           nothing = λ is. cc;
+          last = λ is. cc;
           failed = inl (record {
             fault = record {
               interrupts = [];
@@ -50,20 +53,19 @@ module _ {W : Type 0} (tells : W → StreamLog) (stretch call : W → W → Type
             writer = none;
           });
           kept = kept;
+          spent = fills;
         };
         interrupted = λ is. record {
           moved = kept;
           ends = le_refl _;
-          fills = omega (arith, length-append from.fills.faults (e ∷ []));
+          fills = fills;
           reader = record { interrupts = e ∷ []; interrupted = one_interrupt e is; faults = refl };
           writer = none;
         };
         one_fill = refl;
-        one_consume = omega arith;
         none_ended = tt;
         ended_once = omega arith;
         one_fault = omega (arith, length-append from.fills.faults (e ∷ []));
-        few = omega (arith, length-append from.fills.faults (e ∷ []));
       }
 
   -- a turn whose write failed
@@ -75,11 +77,14 @@ module _ {W : Type 0} (tells : W → StreamLog) (stretch call : W → W → Type
       let kept = still from.fills (after_shown from bytes).fills (tells w).writes (tells w').writes refl refl
       (ap (λ l. l.writes.received) told ∙ append-nil (tells w).writes.received) (ap (λ l. l.writes.flushed) told) in
       let ends = end_counted from.fills.zero_fills bytes in
+      let fills : FillsMade 0 from.fills (after_shown from bytes).fills (tells w).writes (tells w').writes =
+      omega (arith, ap length faults, length-append (tells w).writes.faults (e ∷ [])) in
       record {
         answers = record {
           copies = tt;
           ended = λ is. cc;
           nothing = λ is. cc;
+          last = λ is. cc;
           failed = inr (record {
             reader = OnlyInterrupts-none from.fills.faults;
             last = record {
@@ -91,11 +96,12 @@ module _ {W : Type 0} (tells : W → StreamLog) (stretch call : W → W → Type
             };
           });
           kept = kept;
+          spent = fills;
         };
         interrupted = λ is. record {
           moved = kept;
           ends = ends.0;
-          fills = omega (arith, ap length faults, length-append (tells w).writes.faults (e ∷ []));
+          fills = fills;
           reader = OnlyInterrupts-none from.fills.faults;
           writer = record {
             interrupts = e ∷ [];
@@ -107,11 +113,9 @@ module _ {W : Type 0} (tells : W → StreamLog) (stretch call : W → W → Type
           };
         };
         one_fill = refl;
-        one_consume = omega arith;
         none_ended = tt;
         ended_once = ends.1;
         one_fault = omega (arith, ap length faults, length-append (tells w).writes.faults (e ∷ []));
-        few = omega (arith, ap length faults, length-append (tells w).writes.faults (e ∷ []));
       }
 
 -- the last turn of those that are begun again
@@ -124,14 +128,12 @@ module _ {W : Type 0} (tells : W → StreamLog) (stretch call : W → W → Type
   last_retried (Ok n) rise few turn = record {
     answers = TurnAnswers-after tells stretch call joins before went (Ok n) turn.answers;
     often = tt;
-    few = omega (arith, few, turn.few);
-    fills = omega (arith, before.fills, turn.one_fill, turn.one_fault);
+    few = omega (arith, few, turn.one_fault);
   }
   last_retried (Err e) rise few turn = record {
     answers = TurnAnswers-after tells stretch call joins before went (Err e) turn.answers;
     often = λ is. omega (arith, rise, turn.one_fault);
-    few = omega (arith, few, turn.few);
-    fills = omega (arith, before.fills, turn.one_fill, turn.one_fault);
+    few = omega (arith, few, turn.one_fault);
   }
 
 -- how many bytes were consumed, and that faults only come

@@ -7,7 +7,7 @@ use Rattle.std.specs.declared.io.ErrorKind.TheVariants.{Interrupted, Other}
 use Rattle.redux_tell.specs.StreamLog.{StreamLog, FillLog, WriteLog, after_write}
 use Rattle.redux_tell.specs.Faults.{OnlyInterrupts, FaultAfterInterrupts, MetInterrupts}
 
--- the writer received n bytes, and these are the ones that the reader was told are consumed. No consume was empty
+-- the writer received n bytes, and these are the ones that the reader was told are consumed, by as many consumes at most
 pub record MovedBy (n : ℕ) (from from' : FillLog) (to to' : WriteLog) : Type 0 where
   pub bytes : List ℕ
   pub count : length bytes ≡ n
@@ -16,16 +16,17 @@ pub record MovedBy (n : ℕ) (from from' : FillLog) (to to' : WriteLog) : Type 0
   pub received : to'.received ≡ to.received ++ bytes
   pub not_flushed : to'.flushed ≡ to.flushed
 
--- so many fills were made at the most, and one for each fault that the streams met
-abbrev pub FillsAtMost : ℕ → FillLog → FillLog → WriteLog → WriteLog → Type 0
-FillsAtMost n from from' to to' =
-    from'.asks + (length from.faults + length to.faults) ≤ from.asks + n + (length from'.faults + length to'.faults)
+-- a fill was made for each consume and each fault that the streams met, and so many more
+abbrev pub FillsMade : ℕ → FillLog → FillLog → WriteLog → WriteLog → Type 0
+FillsMade n from from' to to' =
+    from'.asks + from.consumes + (length from.faults + length to.faults)
+    ≡ from.asks + from'.consumes + (length from'.faults + length to'.faults) + n
 
--- turns that moved n bytes, in which the streams were at most interrupted; those were one for each byte at the most
+-- turns that moved n bytes, in which the streams were at most interrupted. Each moved a byte, or was interrupted
 pub record CopiesOn (n : ℕ) (from from' : FillLog) (to to' : WriteLog) : Type 0 where
   pub moved : MovedBy n from from' to to'
   pub ends : from.zero_fills ≤ from'.zero_fills
-  pub fills : FillsAtMost n from from' to to'
+  pub fills : FillsMade 0 from from' to to'
   pub reader : OnlyInterrupts from.faults from'.faults
   pub writer : MetInterrupts to to'
 
@@ -77,11 +78,15 @@ CopyFailed tells stretch call e from from' w w' =
     StreamFailed tells stretch call e from from' w w'
     ⊎ MovedTooMuch e from from' (tells w).writes (tells w').writes
 
--- the streams met so many faults, both together
+-- the streams met just so many faults, both together
+abbrev pub FaultsMet : ℕ → FillLog → FillLog → WriteLog → WriteLog → Type 0
+FaultsMet n from from' to to' = length from'.faults + length to'.faults ≡ length from.faults + length to.faults + n
+
+-- at least so many
 abbrev pub FaultsRise : ℕ → FillLog → FillLog → WriteLog → WriteLog → Type 0
 FaultsRise n from from' to to' = length from.faults + length to.faults + n ≤ length from'.faults + length to'.faults
 
--- and no more than so many
+-- at most so many
 abbrev pub FaultsAtMost : ℕ → FillLog → FillLog → WriteLog → WriteLog → Type 0
 FaultsAtMost n from from' to to' = length from'.faults + length to'.faults ≤ length from.faults + length to.faults + n
 
@@ -101,25 +106,23 @@ pub record TurnAnswers {W : Type 0} (tells : W → StreamLog) (stretch call : W 
   pub copies : IfOk result (λ n. 0 < n → CopiesOn n from from' (tells w).writes (tells w').writes)
   pub ended : result ≡ Ok 0 → CopyEnded tells stretch call from from' w w'
   pub nothing : result ≡ Ok 0 → MovedBy 0 from from' (tells w).writes (tells w').writes
+  pub last : result ≡ Ok 0 → FillsMade 1 from from' (tells w).writes (tells w').writes
   pub failed : IfErr result (λ e. StreamFailed tells stretch call e from from' w w')
   pub kept : OnErr result (MovedBy 0 from from' (tells w).writes (tells w').writes)
+  pub spent : OnErr result (FillsMade 0 from from' (tells w).writes (tells w').writes)
 
--- one turn of a copy: one fill, and one consume where bytes went over; a failure is one fault, which moved nothing
+-- one turn of a copy: one fill, and so one consume where bytes went over; a failure is one fault, which moved nothing
 pub record CopyTurn {W : Type 0} (tells : W → StreamLog) (stretch call : W → W → Type 0) (result : Result ℕ Error)
     (from from' : FillLog) (w w' : W) : Type 0 where
   pub answers : TurnAnswers tells stretch call result from from' w w'
   pub interrupted : IfErr result
       (λ e. error_kind e ≡ Interrupted → CopiesOn 0 from from' (tells w).writes (tells w').writes)
   pub one_fill : from'.asks ≡ from.asks + 1
-  pub one_consume : from'.consumes ≤ from.consumes + 1
   pub none_ended : IfOk result (λ n. 0 < n → from'.zero_fills ≡ from.zero_fills)
   pub ended_once : from'.zero_fills ≤ from.zero_fills + 1
   pub one_fault : MatchResult result
-      (λ _. FaultsRise 0 from from' (tells w).writes (tells w').writes)
-      (λ _. FaultsRise 1 from from' (tells w).writes (tells w').writes)
-  pub few : MatchResult result
-      (λ _. FaultsAtMost 0 from from' (tells w).writes (tells w').writes)
-      (λ _. FaultsAtMost 1 from from' (tells w).writes (tells w').writes)
+      (λ _. FaultsMet 0 from from' (tells w).writes (tells w').writes)
+      (λ _. FaultsMet 1 from from' (tells w).writes (tells w').writes)
 
 -- a turn that is begun again where it was interrupted, 64 times at the most
 pub record CopyRetried {W : Type 0} (tells : W → StreamLog) (stretch call : W → W → Type 0) (result : Result ℕ Error)
@@ -130,10 +133,9 @@ pub record CopyRetried {W : Type 0} (tells : W → StreamLog) (stretch call : W 
   pub few : MatchResult result
       (λ _. FaultsAtMost 64 from from' (tells w).writes (tells w').writes)
       (λ _. FaultsAtMost 65 from from' (tells w).writes (tells w').writes)
-  pub fills : FillsAtMost 1 from from' (tells w).writes (tells w').writes
 
 -- a whole copy: at Ok it ended, and the total is the number of bytes that went over; at an `Err` some went over, and
--- `Interrupted` comes only after 64 more such faults
+-- `Interrupted` comes only after 64 more such faults; and each fill was one of a turn
 pub record CopyBuf {W : Type 0} (tells : W → StreamLog) (stretch call : W → W → Type 0) (result : Result ℕ Error)
     (from from' : FillLog) (w w' : W) : Type 0 where
   pub moved : MatchResult result
@@ -144,7 +146,9 @@ pub record CopyBuf {W : Type 0} (tells : W → StreamLog) (stretch call : W → 
   pub often : IfErr result
       (λ e. error_kind e ≡ Interrupted → FaultsRise 65 from from' (tells w).writes (tells w').writes)
   pub few : MeetsFewFaults result from from' (tells w).writes (tells w').writes
-  pub fills : FillsAtMost (consumed_since from from' + 1) from from' (tells w).writes (tells w').writes
+  pub fills : MatchResult result
+      (λ _. FillsMade 1 from from' (tells w).writes (tells w').writes)
+      (λ _. FillsMade 0 from from' (tells w).writes (tells w').writes)
 
 -- the writer received just what the reader, of which all that is left is known, lost
 pub record MovesKnown (left left' : Option (List ℕ)) (to to' : WriteLog) : Type 0 where

@@ -103,15 +103,19 @@ module _ {W : Type 0} (tells : W → StreamLog) (stretch call : W → W → Type
     copies = λ some. CopiesOn-after before (turn.copies some);
     ended = λ is. CopyEnded-after tells stretch call joins before went (turn.ended is);
     nothing = λ is. MovedBy-still before.moved (turn.nothing is);
+    last = λ is. omega (arith, before.fills, turn.last is);
     failed = tt;
     kept = tt;
+    spent = tt;
   }
   TurnAnswers-after (Err e) turn = record {
     copies = tt;
     ended = λ is. CopyEnded-after tells stretch call joins before went (turn.ended is);
     nothing = λ is. MovedBy-still before.moved (turn.nothing is);
     failed = StreamFailed-after tells stretch call joins before went turn.failed;
+    last = λ is. omega (arith, before.fills, turn.last is);
     kept = MovedBy-still before.moved turn.kept;
+    spent = omega (arith, before.fills, turn.spent);
   }
 
 -- how much went over in a copy, whatever it answered

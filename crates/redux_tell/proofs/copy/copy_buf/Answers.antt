@@ -16,7 +16,7 @@ returns-in_err-taken-clause-copied g c =
       failed = inl (StreamFailed-after _ _ _ g.met.W.TellWrite.stretch_joins before.copies before.writer turn.answers.failed);
       often = λ is. omega (arith, turn.often is, faults_come before.copies);
       few = omega (arith, before.few, turn.few, moved_count moved);
-      fills = omega (arith, before.copies.fills, turn.fills, moved_count moved);
+      fills = omega (arith, before.copies.fills, turn.answers.spent);
     })
 
 pub returns-in_err-taken-clause-reader : goal.returns-in_err-taken-clause-reader
@@ -38,7 +38,7 @@ returns-then-taken-eq0-clause-copied g c =
       failed = tt;
       often = tt;
       few = omega (arith, before.few, turn.few, moved_count moved);
-      fills = omega (arith, before.copies.fills, turn.fills, moved_count moved);
+      fills = omega (arith, before.copies.fills, turn.answers.last (cc));
     }
 
 pub turns-preserved : goal.turns-preserved
@@ -70,5 +70,5 @@ returns-in-None-clause-copied g c =
       });
       often = search rules;
       few = omega (arith, before.few, turn.few, moved_count copies.moved);
-      fills = omega (arith, copies.fills, moved_count copies.moved);
+      fills = copies.fills;
     }

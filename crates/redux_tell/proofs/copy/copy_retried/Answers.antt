@@ -10,8 +10,7 @@ returns-in-Ok-clause-retried g c =
     record {
       answers = TurnAnswers-after _ _ _ g.met.W.TellWrite.stretch_joins before.copies before.writer (Ok c.in-Ok.n) turn.answers;
       often = tt;
-      few = omega (arith, before.few, turn.few);
-      fills = omega (arith, before.copies.fills, turn.one_fill, turn.one_fault);
+      few = omega (arith, before.few, turn.one_fault);
     }
 
 pub returns-then-ne-clause-retried : goal.returns-then-ne-clause-retried
@@ -21,8 +20,7 @@ returns-then-ne-clause-retried g c =
     record {
       answers = TurnAnswers-after _ _ _ g.met.W.TellWrite.stretch_joins before.copies before.writer (Err c.in-Err.e) turn.answers;
       often = search rules;
-      few = omega (arith, before.few, turn.few);
-      fills = omega (arith, before.copies.fills, turn.one_fill, turn.one_fault);
+      few = omega (arith, before.few, turn.one_fault);
     }
 
 pub loop-preserved : goal.loop-preserved
@@ -32,7 +30,7 @@ loop-preserved g c =
     record {
       copies = CopiesOn-after before.copies (turn.interrupted (search rules));
       faults = omega (arith, before.faults, turn.one_fault);
-      few = omega (arith, before.few, turn.few);
+      few = omega (arith, before.few, turn.one_fault);
       reader = g.met.B.TellBufRead.stretch_joins _ _ _ before.reader c.in-Err.ensures.reader;
       writer = g.met.W.TellWrite.stretch_joins _ _ _ before.writer c.in-Err.ensures.writer;
     }
