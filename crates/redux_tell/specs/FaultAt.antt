@@ -1,5 +1,5 @@
 -- What a stream that goes wrong at one call answers, and what contracts see of it.
-use Rattle.std.specs.Prelude.{◌≡◌, ℕ, ◌+◌, ◌-◌, ◌^◌, ◌≤◌, ⊤, min, if◌then◌else◌, nat_lt, ◌==◌, Result, IfOk, IsErrAnd}
+use Rattle.std.specs.Prelude.{◌≡◌, ℕ, ◌+◌, ◌-◌, ◌^◌, ◌<◌, ◌≤◌, ⊤, min, if◌then◌else◌, nat_lt, ◌==◌, Result, IfOk, IsErrAnd}
 use Rattle.std.specs.IoError.{error_kind}
 use Rattle.std.specs.declared.io.Error.{Error}
 use Rattle.std.specs.declared.io.ErrorKind.TheVariants.{Interrupted}
@@ -21,9 +21,9 @@ fault_progress s = record { before = s.before; answer = s.answer; calls = s.call
 abbrev pub fault_stream : {S : Type 0} → FaultAt S → S
 fault_stream s = s.stream
 
--- one call more
-abbrev pub counted : FaultProgress → FaultProgress
-counted p = record p { calls = min (p.calls + 1) (2 ^ 64 - 1) }
+-- after one call more
+abbrev pub with_call : FaultProgress → FaultProgress
+with_call p = record p { calls = min (p.calls + 1) (2 ^ 64 - 1) }
 
 -- a call that goes on as it is
 abbrev pub as_it_is : Reply
@@ -44,6 +44,11 @@ fault_reply p = if nat_lt p.calls p.before then as_it_is else reply_since p.answ
 abbrev pub ServesWithin : Reply → Result ℕ Error → Type 0
 ServesWithin (Serves most) answer = IfOk answer (λ n. n ≤ most)
 ServesWithin (Fails kind) answer = ⊤
+
+-- some bytes go on to the stream inside
+abbrev pub ServesSome : Reply → Type 0
+ServesSome (Serves most) = 0 < most
+ServesSome (Fails kind) = ⊥
 
 -- a fault is of the kind that was named, and leaves the stream inside as it was
 abbrev pub FailsBy : {S X : Type 0} → Reply → S → Result X Error → S → Type 0

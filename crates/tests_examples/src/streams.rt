@@ -1,5 +1,5 @@
 //! Streams of std that tell, and scripted ones.
-use buffer_redux::script::{Answer, ScriptReader, ScriptSeeker, ScriptWriter};
+use buffer_redux::script::{Answer, FaultAt, ScriptReader, ScriptSeeker, ScriptWriter};
 use buffer_redux::tell::{TellWrite, Told};
 use std::io::{ErrorKind, Read, Seek, SeekFrom, Write};
 use std::test::Fail;
@@ -22,6 +22,18 @@ fn script_reader(rt: HostRuntime) -> Result<(), Fail> {
     assert_eq!(rt; reader.read(&mut out)?, 2);
     assert!(rt; reader.read(&mut out).is_err());
     assert_eq!(rt; reader.read(&mut out)?, 1);
+    Ok(())
+}
+
+#[test]
+fn fault_at(rt: HostRuntime) -> Result<(), Fail> {
+    let once = Answer::Fail(ErrorKind::TimedOut);
+    let mut reader = FaultAt::new(b"abc".as_slice(), 1, once);
+    let mut out = [0; 1];
+    assert_eq!(rt; reader.read(&mut out)?, 1);
+    assert!(rt; reader.read(&mut out).is_err());
+    assert_eq!(rt; reader.read(&mut out)?, 1);
+    assert_eq!(rt; reader.calls(), 3);
     Ok(())
 }
 

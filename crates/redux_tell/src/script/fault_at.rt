@@ -1,7 +1,7 @@
 //! A stream that goes wrong at one call.
-ghost use Rattle.std.specs.Prelude.{◌≡◌, None, IfOk, OnErr, take};
+ghost use Rattle.std.specs.Prelude.{◌≡◌, ◌<◌, None, Ok, IfOk, OnErr, length, take};
 ghost use Rattle.std.specs.Io.{ReadsAtMost, WritesAtMost};
-ghost use Rattle.std.specs.Io.KnownBytes.{Consumes, Keeps, ReadConsumes, WriteAppends};
+ghost use Rattle.std.specs.Io.KnownBytes.{Consumes, IsAtEnd, Keeps, ReadConsumes, WriteAppends};
 ghost use Rattle.std.specs.Io.Seek.{SeekMoves};
 
 use crate::script::Answer;
@@ -14,6 +14,16 @@ use std::io::{ErrorKind, Read, Seek, SeekFrom, Write};
 /// A fault is returned without a call of the stream inside, and so is the `Ok(0)` of `Serve(0)`. `Interrupt` is this call
 /// and the next ones, as many as it says, and `ServeEach` limits all calls from this one on. To a flush or a seek, which
 /// serve no bytes, neither `Serve` nor `ServeEach` does anything.
+///
+/// ```
+/// let once = Answer::Fail(ErrorKind::TimedOut);
+/// let mut reader = FaultAt::new(b"abc".as_slice(), 1, once);
+/// let mut out = [0; 1];
+/// assert_eq!(rt; reader.read(&mut out)?, 1);
+/// assert!(rt; reader.read(&mut out).is_err());
+/// assert_eq!(rt; reader.read(&mut out)?, 1);
+/// assert_eq!(rt; reader.calls(), 3);
+/// ```
 #[derive(Debug, Drop)]
 pub struct FaultAt<S> {
     stream: S,
@@ -23,7 +33,7 @@ pub struct FaultAt<S> {
 }
 
 impl<S> FaultAt<S> {
-    ghost use Rattle.redux_tell.specs.FaultAt.{FaultProgress, fault_progress, fault_stream, fault_reply, counted};
+    ghost use Rattle.redux_tell.specs.FaultAt.{FaultProgress, fault_progress, fault_stream, fault_reply, with_call};
     ghost use Rattle.redux_tell.specs.Script.{Replies};
 
     /// `stream`, but for the call after the first `before`, which answers by `answer`.
@@ -55,7 +65,7 @@ impl<S> FaultAt<S> {
 
     // Counts a call that offers so many bytes, and answers how many of them go on to the stream inside.
     fn next(&mut self, offered: usize) -> io::Result<usize>
-        ensures counted { fault_progress self.new ≡ counted (fault_progress self.old) }
+        ensures counted { fault_progress self.new ≡ with_call (fault_progress self.old) }
         ensures stream { fault_stream self.new ≡ fault_stream self.old }
         ensures reply { Replies (fault_reply (fault_progress self.old)) offered result }
     {
@@ -79,17 +89,19 @@ impl<S> FaultAt<S> {
 
 // What is left is not told as `remaining`, since an answer `Ok(0)` need not be the end.
 impl<S: Read> Read for FaultAt<S> {
-    ghost use Rattle.redux_tell.specs.FaultAt.{fault_progress, fault_stream, fault_reply, counted, ServesWithin, FailsBy};
+    ghost use Rattle.redux_tell.specs.FaultAt.{fault_progress, fault_stream, fault_reply, with_call, ServesSome, ServesWithin, FailsBy};
 
     fn read(&mut self, buf: &mut [u8]) -> io::Result<usize>
         ensures bound { ReadsAtMost result buf.new }
         ensures bytes { ReadConsumes None None result buf.new }
-        ensures counted { fault_progress self.new ≡ counted (fault_progress self.old) }
+        ensures counted { fault_progress self.new ≡ with_call (fault_progress self.old) }
         ensures within { ServesWithin (fault_reply (fault_progress self.old)) result }
         ensures fails { FailsBy (fault_reply (fault_progress self.old)) (fault_stream self.old) result (fault_stream self.new) }
         ensures given { IfOk result (λ n. Consumes (S.remaining (fault_stream self.old))
             (S.remaining (fault_stream self.new)) (take n buf.new)) }
         ensures err { OnErr result (Keeps (S.remaining (fault_stream self.old)) (S.remaining (fault_stream self.new))) }
+        ensures end { result ≡ Ok 0 → 0 < length buf.old → ServesSome (fault_reply (fault_progress self.old))
+            → IsAtEnd (S.remaining (fault_stream self.new)) }
     {
         let most = self.next(buf.len())?;
         if most == 0 && !buf.is_empty() {
@@ -100,14 +112,14 @@ impl<S: Read> Read for FaultAt<S> {
 }
 
 impl<S: Write> Write for FaultAt<S> {
-    ghost use Rattle.redux_tell.specs.FaultAt.{fault_progress, fault_stream, fault_reply, counted, ServesWithin, FailsBy};
+    ghost use Rattle.redux_tell.specs.FaultAt.{fault_progress, fault_stream, fault_reply, with_call, ServesWithin, FailsBy};
 
     ghost contents = { λ w. S.contents w.stream };
 
     fn write(&mut self, buf: &[u8]) -> io::Result<usize>
         ensures bound { WritesAtMost result buf.now }
         ensures bytes { WriteAppends (S.contents (fault_stream self.old)) (S.contents (fault_stream self.new)) result buf.now }
-        ensures counted { fault_progress self.new ≡ counted (fault_progress self.old) }
+        ensures counted { fault_progress self.new ≡ with_call (fault_progress self.old) }
         ensures within { ServesWithin (fault_reply (fault_progress self.old)) result }
         ensures fails { FailsBy (fault_reply (fault_progress self.old)) (fault_stream self.old) result (fault_stream self.new) }
     {
@@ -120,7 +132,7 @@ impl<S: Write> Write for FaultAt<S> {
 
     fn flush(&mut self) -> io::Result<()>
         ensures bytes { Keeps (S.contents (fault_stream self.old)) (S.contents (fault_stream self.new)) }
-        ensures counted { fault_progress self.new ≡ counted (fault_progress self.old) }
+        ensures counted { fault_progress self.new ≡ with_call (fault_progress self.old) }
         ensures fails { FailsBy (fault_reply (fault_progress self.old)) (fault_stream self.old) result (fault_stream self.new) }
     {
         self.next(0)?;
@@ -129,7 +141,7 @@ impl<S: Write> Write for FaultAt<S> {
 }
 
 impl<S: Seek> Seek for FaultAt<S> {
-    ghost use Rattle.redux_tell.specs.FaultAt.{fault_progress, fault_stream, fault_reply, counted, FailsBy};
+    ghost use Rattle.redux_tell.specs.FaultAt.{fault_progress, fault_stream, fault_reply, with_call, FailsBy};
 
     ghost stream_position = { λ s. S.stream_position s.stream };
 
@@ -139,7 +151,7 @@ impl<S: Seek> Seek for FaultAt<S> {
         ensures moves { SeekMoves (S.stream_position (fault_stream self.old)) (S.stream_position (fault_stream self.new))
             (S.stream_bytes (fault_stream self.old)) to result }
         ensures bytes { Keeps (S.stream_bytes (fault_stream self.old)) (S.stream_bytes (fault_stream self.new)) }
-        ensures counted { fault_progress self.new ≡ counted (fault_progress self.old) }
+        ensures counted { fault_progress self.new ≡ with_call (fault_progress self.old) }
         ensures fails { FailsBy (fault_reply (fault_progress self.old)) (fault_stream self.old) result (fault_stream self.new) }
     {
         self.next(0)?;

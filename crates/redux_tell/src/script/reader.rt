@@ -9,7 +9,7 @@ use std::io;
 use std::io::Read;
 
 /// A reader that serves its bytes in order, each call as the script says. After the script it serves as much as is asked
-/// for, and after its bytes it returns `Ok(0)`.
+/// for, or as the last `ServeEach` allows, and after its bytes it returns `Ok(0)`.
 ///
 /// A call that finds no memory to note its offer returns `OutOfMemory`, and changes nothing.
 ///

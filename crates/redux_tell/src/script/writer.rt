@@ -8,7 +8,8 @@ use std::alloc::{AllocError, Global};
 use std::io;
 use std::io::Write;
 
-/// A writer that takes bytes, each call as the script says. After the script it takes all that it is offered.
+/// A writer that takes bytes, each call as the script says. After the script it takes all that it is offered, or as much
+/// as the last `ServeEach` allows.
 ///
 /// A call that finds no memory to note its offer, or for its bytes, returns `OutOfMemory`, and changes nothing.
 ///

@@ -41,7 +41,7 @@ impl CallLog {
         CallLog {}
     }
 
-    /// Adds one call. A stream notes each of its calls just after it has the answer.
+    /// Adds one call. A stream notes each of its calls just after it has the answer, and a consume just before it is made.
     #[inline(always)]
     pub fn note(&mut self, _call: &Call<'_>)
         ensures { self.new.log ≡ after_call self.old.log _call.now }
