@@ -1,5 +1,5 @@
 use Rattle.buffer_redux.proofs.FlushKnown.{flush_gained}
-use Rattle.buffer_redux.proofs.laws.flush_known.Goals as goal
+use Rattle.buffer_redux.proofs.laws.known.flush_known.Goals as goal
 
 pub returns-clause-held : goal.returns-clause-held
 returns-clause-held g c =

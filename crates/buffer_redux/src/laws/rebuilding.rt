@@ -1,4 +1,4 @@
-//! What holds between two runs of calls: a reader or a writer goes on where the first run left it.
+//! What is taken apart and built again goes on where it was: also under another policy, between two runs of calls.
 ghost use Rattle.std.specs.Prelude.{◌≡◌, ℕ, List};
 ghost use Rattle.redux_tell.specs.StreamLog.{no_calls};
 ghost use Rattle.buffer_redux.specs.Buffered.{Buffered, with_calls, with_policy};
@@ -9,6 +9,23 @@ use crate::buf_reader::BufReader;
 use crate::buf_writer::BufWriter;
 use redux_policy::{ReaderPolicy, WriterPolicy};
 use redux_tell::tell::{Tell, TellWrite};
+
+/// A reader that is taken apart and built again is the reader that it was, but that no call of its own is noted.
+pub fn rebuild_reader<R: Tell>(reader: BufReader<R>) -> BufReader<R>
+    ensures { result ≡ with_calls reader no_calls }
+{
+    let (inner, buf) = reader.into_inner_with_buffer();
+    BufReader::with_buffer(buf, inner)
+}
+
+/// A writer that is taken apart and built again is the writer that it was, but that no call of its own is noted. Nothing
+/// was sent.
+pub fn rebuild_writer<W: TellWrite>(writer: BufWriter<W>) -> BufWriter<W>
+    ensures { result ≡ with_calls writer no_calls }
+{
+    let (inner, buf) = writer.into_inner_with_buffer();
+    BufWriter::with_buffer(buf, inner)
+}
 
 /// A reader that is taken apart, built again and put under another policy. What was handed out up to here, and what is
 /// buffered, is in order as before, so a further run goes on with it.

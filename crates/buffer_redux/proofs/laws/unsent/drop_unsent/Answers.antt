@@ -1,6 +1,6 @@
 use Rattle.std.proofs.Common.{rules}
 use Rattle.buffer_redux.proofs.Unwrapped.{drops_unsent}
-use Rattle.buffer_redux.proofs.laws.drop_unsent.Goals as goal
+use Rattle.buffer_redux.proofs.laws.unsent.drop_unsent.Goals as goal
 
 pub returns-clause-dropped : goal.returns-clause-dropped
 returns-clause-dropped g c =

@@ -1,7 +1,7 @@
 use Rattle.std.proofs.Common.{refl}
 use Rattle.redux_tell.specs.CopyLaws.{CopyBuf-moved}
 use Rattle.buffer_redux.proofs.CopyKnown.{on_ok, moves_known, receives_all}
-use Rattle.buffer_redux.proofs.laws.copy_known.Goals as goal
+use Rattle.buffer_redux.proofs.laws.known.copy_known.Goals as goal
 
 pub returns-clause-moved : goal.returns-clause-moved
 returns-clause-moved g c =

@@ -1,6 +1,6 @@
 use Rattle.std.proofs.Common.{rules}
 use Rattle.buffer_redux.proofs.Unwrapped.{keeps_unsent}
-use Rattle.buffer_redux.proofs.laws.lines.keep_unsent_lines.Goals as goal
+use Rattle.buffer_redux.proofs.laws.unsent.keep_unsent.Goals as goal
 
 pub returns : goal.returns
 returns g c =

@@ -3,7 +3,7 @@ use Rattle.std.proofs.lemmas.Result.{err_from_is_err_and}
 use Rattle.redux_policy.specs.MinBuffered.{min_read_rules}
 use Rattle.buffer_redux.proofs.FillClaims.{Fills_err}
 use Rattle.buffer_redux.specs.ReaderLaws.{FillBuf-first, FillBuf-keeps}
-use Rattle.buffer_redux.proofs.laws.look_ahead.Goals as goal
+use Rattle.buffer_redux.proofs.laws.ahead.look_ahead.Goals as goal
 
 pub returns-in_err-fill_buf-clause-fills : goal.returns-in_err-fill_buf-clause-fills
 returns-in_err-fill_buf-clause-fills g c =
