@@ -1,10 +1,9 @@
 //! The writer of frames.
 ghost use Rattle.std.specs.Prelude.{◌≡◌, ◌+◌, ◌-◌, ◌<◌, ◌≤◌, [], length, Ok, Err, IfOk, IfErr, OnOk, MatchResult};
 ghost use Rattle.buffer_redux.specs.Block.{usable};
-ghost use Rattle.buffer_redux.specs.BufWriter.{IsSent, WasFlushed};
+ghost use Rattle.buffer_redux.specs.BufWriter.{WasFlushed, WasSent};
 ghost use Rattle.buffer_redux.specs.Unwrapping.{InnerOfFlushed};
 ghost use Rattle.buffer_redux.specs.Faults.{MetInterrupts, SendErrorCaused};
-ghost use Rattle.buffer_redux.specs.Transfer.{Sends};
 ghost use Rattle.frame_reader.specs.Frames.{frames};
 ghost use Rattle.frame_reader.specs.Outgoing.{IsOutgoing, IsUnused, room, unsent};
 ghost use Rattle.frame_reader.specs.WriteFrame.{FramesTaken, PutsIn, SendsAll, WritesFrame};
@@ -74,7 +73,8 @@ impl<W: TellWrite> FrameWriter<W> {
         self.writer.get_ref()
     }
 
-    /// Takes the payload's frame in. It is sent where a later frame finds no room, and by [`flush`](FrameWriter::flush).
+    /// Takes the payload's frame in. It is sent where a later frame finds no room, by [`send`](FrameWriter::send) and
+    /// [`flush`](FrameWriter::flush), and where the writer is unwrapped or dropped.
     ///
     /// At an `Err` nothing of the frame was taken in, so the call can be made again. A `TooLong` changes nothing at all; an
     /// `Io` comes only where the frame found no room, and then just what the inner writer took is gone from the buffer.
@@ -84,7 +84,7 @@ impl<W: TellWrite> FrameWriter<W> {
         if payload.len() > usize::from(self.max) {
             return Err(WriteFrameError::TooLong(payload.len()));
         }
-        self.make_room(HEADER + payload.len())?;
+        self.send_unless_fits(HEADER + payload.len())?;
         self.put(&(payload.len() as u16).to_be_bytes());
         self.put(payload);
         Ok(())
@@ -93,12 +93,8 @@ impl<W: TellWrite> FrameWriter<W> {
     /// Sends all frames, without a flush of the inner writer. Where that fails, just what the inner writer took is no longer
     /// buffered.
     pub fn send(&mut self) -> io::Result<()>
-        ensures sends { Sends (length (unsent self.old)) self.old.writer.block self.old.writer.log
-            result self.new.writer.block self.new.writer.log }
+        ensures sent { WasSent W.log W.stretch self.old.writer result self.new.writer }
         ensures went { FramesTaken W.stretch self.old [] self.new }
-        ensures ok { OnOk result (IsSent self.old.writer self.new.writer) }
-        ensures caused { IfErr result (λ e. SendErrorCaused self.old.writer.log.writes self.new.writer.log.writes e) }
-        ensures not_flushed { self.new.writer.log.writes.flushed ≡ self.old.writer.log.writes.flushed }
         ensures whole { IsOutgoing self.new }
     {
         self.writer.send()
@@ -139,7 +135,7 @@ impl<W: TellWrite> FrameWriter<W> {
     }
 
     // Sends all that is buffered where so many more bytes don't fit, and makes all free space usable.
-    fn make_room(&mut self, whole: usize) -> io::Result<()>
+    fn send_unless_fits(&mut self, whole: usize) -> io::Result<()>
         ensures went { FramesTaken W.stretch self.old [] self.new }
         ensures fits { whole ≤ room self.old → (result ≡ Ok tt) × (self.new.writer.log ≡ self.old.writer.log) }
         ensures full { room self.old < whole → OnOk result (unsent self.new ≡ []) }

@@ -31,8 +31,8 @@ pub fn play_next<R: TellRead>(
     Ok(())
 }
 
-/// One call of `next`, with the payload copied. An `Err` is refused memory: the call was made, and its payload is lost.
-pub fn next_copied<R: TellRead>(
+// One call of `next`, with the payload copied. An `Err` is refused memory: the call was made, and its payload is lost.
+pub(crate) fn next_copied<R: TellRead>(
     alloc: Global,
     reader: &mut FrameReader<R>,
 ) -> Result<Result<Option<Vec<u8>>, FrameError>, AllocError>

@@ -25,4 +25,4 @@ returns g c =
     c.pack_lines-answer.new.source c.args.target.now c.pack_lines-answer.new.target c.flush.new.self
     c.in_ok-flush.ensures.went c.pack_lines-answer.result (sym c.is_fault.ensures ∙ c.if-is_fault.false)
     c.pack_lines-answer.ensures (record { empty = ok.empty; flushed = ok.flushed })
-    (record { interrupts = ok.interrupts; only = ok.only })
+    ok.met

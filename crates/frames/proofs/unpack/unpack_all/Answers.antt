@@ -24,4 +24,4 @@ returns g c =
     flushed_after g.R.TellRead.remaining c.args.source.now c.unpack_frames-answer.new.source c.args.target.now
     c.unpack_frames-answer.new.target c.flush.new.self f.in_order f.kind f.capacity c.unpack_frames-answer.result
     (sym c.is_fault.ensures ∙ c.if-is_fault.false) c.unpack_frames-answer.ensures
-    (record { empty = f.ok.empty; flushed = f.ok.flushed }) (record { interrupts = f.ok.interrupts; only = f.ok.only })
+    (record { empty = f.ok.empty; flushed = f.ok.flushed }) f.ok.met

@@ -14,9 +14,9 @@ pub returns : goal.returns
 returns g c =
     let stretch = g.W.TellWrite.stretch in
     let max = ap (λ x. x.max) c.self.view_is in
-    let m = c.in_ok-make_room.ensures in
-    frame_taken stretch g.met.W.TellWrite.stretch_joins c.args.self.now c.make_room.new.self c.put.new.self
+    let m = c.in_ok-send_unless_fits.ensures in
+    frame_taken stretch g.met.W.TellWrite.stretch_joins c.args.self.now c.send_unless_fits.new.self c.put.new.self
     c.put-2.new.self c.args.payload.now m.went
-    (subst (λ l. PutsIn stretch c.make_room.new.self l c.put.new.self) c.to_be_bytes.ensures c.put.ensures.put)
+    (subst (λ l. PutsIn stretch c.send_unless_fits.new.self l c.put.new.self) c.to_be_bytes.ensures c.put.ensures.put)
     c.put-2.ensures.put (omega (arith, max, c.from.ensures, c.if-payload-from.false))
     (λ roomy. (m.fits roomy).1) m.full m.sends m.met m.not_flushed
