@@ -267,7 +267,8 @@ module _ {S P : Type 0} (remaining : S → Option (List ℕ)) (rules : ReadRules
     pub all_bytes : (answer : Result (Unit {0}) Error) → ReadsExactly remaining rules s answer out t
         → OnOk answer (Consumes (reader_remaining remaining rules s) (reader_remaining remaining rules t) out)
     all_bytes (Ok _) r =
-        remaining_gives remaining rules s t out (all_in_order (Ok tt) r) r.front.keeps.known r.front.keeps.claims r.front.keeps.capacity
+        let keeps = r.front.keeps in
+        remaining_gives remaining rules s t out (all_in_order (Ok tt) r) keeps.known keeps.claims keeps.capacity
     all_bytes (Err e) r = tt
 
     pub all_beginning : (answer : Result (Unit {0}) Error) → ReadsExactly remaining rules s answer out t

@@ -11,7 +11,7 @@ use Rattle.redux_policy.specs.declared.DoRead.{DoRead}
 use Rattle.redux_policy.specs.Policy.{ReadRules, read_now}
 use Rattle.buffer_redux.specs.Buffered.{Buffered, StaysInside}
 use Rattle.buffer_redux.specs.Fill.{Turn, Turns, Filled}
-use Rattle.buffer_redux.specs.BufReader.{ReadsInOrder, ReadErrorCaused, EmptyReadCaused, RanDry, InnerGives, ReaderConsumes, ReaderKeeps, Fills, Reads, ReadsBuffered, LeavesRest}
+use Rattle.buffer_redux.specs.BufReader.{ReadsInOrder, ReadErrorCaused, EmptyReadCaused, RanDry, InnerGives, ReaderConsumes, ReaderKeeps, Fills, Reads, ReadsBuffered, ReadsIntoBuf, LeavesRest}
 use Rattle.buffer_redux.specs.ReaderLaws.{ReadsInOrder-joins, InnerGives-same, InnerGives-joins, Fills-empty, WantsBytes, Keeps-of, remaining_gives}
 use Rattle.buffer_redux.specs.Remaining.{reader_remaining}
 use Rattle.buffer_redux.specs.ReadInside.{AskedRead, FillDone, ReadThrough, ReadsInside}
@@ -41,15 +41,6 @@ filled_after rules s m t answer turn f = record {
 pub asked_so : {S P : Type 0} (rules : ReadRules P) (s m : Buffered S P) (d : DoRead) (v : Bool) → d.0 ≡ v
     → AskedRead rules (Ok d) s m → AskedRead rules (Ok (record { 0 = v })) s m
 asked_so rules s m d v is a = subst (λ w. AskedRead rules (Ok (record { 0 = w })) s m) is a
-
--- one read into the buffer
-pub record ReadInto {S P : Type 0} (remaining : S → Option (List ℕ)) (m : Buffered S P) (answer : Result ℕ Error)
-    (t : Buffered S P) : Type 0 where
-  pub read : ReadsFrom m.block m.log answer t.block t.log
-  pub known : InnerGives remaining m t
-  pub policy : t.policy ≡ m.policy
-  pub noted : t.own_calls ≡ m.own_calls
-  pub whole : IsBlock t.block
 
 module _ {S P : Type 0} (remaining : S → Option (List ℕ)) (rules : ReadRules P) (s m : Buffered S P) where
   -- where the policy said no, or left no room, or returned an error, nothing was read
@@ -97,7 +88,7 @@ module _ {S P : Type 0} (remaining : S → Option (List ℕ)) (rules : ReadRules
         → ReadsFrom m.block s.log answer t.block t.log
     since answer read = subst (λ l. ReadsFrom m.block l answer t.block t.log) asked.told read
 
-    pub fault_did : {A : Type 0} (e : Error) → ReadInto remaining m (Err e) t → FillDone {A = A} remaining rules s (Err e) t
+    pub fault_did : {A : Type 0} (e : Error) → ReadsIntoBuf remaining m (Err e) t → FillDone {A = A} remaining rules s (Err e) t
     fault_did e r = record {
       filled = record {
         count = 0;
@@ -117,7 +108,7 @@ module _ {S P : Type 0} (remaining : S → Option (List ℕ)) (rules : ReadRules
       whole = r.whole;
     }
 
-    pub dry_did : {A : Type 0} (a : A) (n : ℕ) → n ≡ 0 → ReadInto remaining m (Ok n) t → IsAtEnd (remaining t.inner)
+    pub dry_did : {A : Type 0} (a : A) (n : ℕ) → n ≡ 0 → ReadsIntoBuf remaining m (Ok n) t → IsAtEnd (remaining t.inner)
         → FillDone remaining rules s (Ok a) t
     dry_did a n none r ended = record {
       filled = record {
@@ -133,7 +124,7 @@ module _ {S P : Type 0} (remaining : S → Option (List ℕ)) (rules : ReadRules
       whole = r.whole;
     }
 
-    pub more_did : {A : Type 0} (n : ℕ) → (n ≡ 0 → ⊥) → ReadInto remaining m (Ok n) t
+    pub more_did : {A : Type 0} (n : ℕ) → (n ≡ 0 → ⊥) → ReadsIntoBuf remaining m (Ok n) t
         → (answer : Result A Error) (u : Buffered S P) → FillDone remaining rules t answer u
         → FillDone remaining rules s answer u
     more_did n some r answer u f =

@@ -6,6 +6,7 @@ use Rattle.redux_buffer.specs.Block.{Block, IsBlock, ConsumesFirst, OnlyRingMove
 use Rattle.redux_tell.specs.LogGrows.{ReadLogGrows}
 use Rattle.redux_tell.specs.StreamLog.{after_read}
 use Rattle.redux_tell.specs.GivesRemaining.{GivesRemaining}
+use Rattle.redux_buffer.specs.Transfer.{ReadsFrom}
 use Rattle.redux_policy.specs.declared.DoRead.{DoRead}
 use Rattle.redux_policy.specs.Policy.{ReadRules, BeforeRead, AfterConsume, no_read, read_now}
 use Rattle.buffer_redux.specs.Buffered.{Buffered, GoesPast, StaysInside, GoesDirect}
@@ -145,6 +146,17 @@ pub record ReaderKeeps {S P : Type 0} (remaining : S → Option (List ℕ)) (rul
   pub sparing : SparesClaimed rules s t
   pub whole : IsBlock t.block
   pub noted : t.own_calls ≡ s.own_calls
+
+-- one read into the buffer, past the policy: of the bytes known inside just those given are gone, and no call of its own is
+-- noted
+pub record ReadsIntoBuf {S P : Type 0} (remaining : S → Option (List ℕ)) (s : Buffered S P) (answer : Result ℕ Error)
+    (t : Buffered S P) : Type 0 where
+  pub read : ReadsFrom s.block s.log answer t.block t.log
+  pub known : InnerGives remaining s t
+  pub grows : ReadLogGrows s.log.reads t.log.reads
+  pub policy : t.policy ≡ s.policy
+  pub noted : t.own_calls ≡ s.own_calls
+  pub whole : IsBlock t.block
 
 -- what any calls do, one after another, that hand out these bytes and make no seek
 pub record ReadsAlong {S P : Type 0} (remaining : S → Option (List ℕ)) (rules : ReadRules P)

@@ -5,7 +5,7 @@ use Rattle.std.specs.declared.io.traits.SeekFrom.{SeekFrom}
 use Rattle.redux_buffer.specs.Block.{Block, IsBlock, Extends, MakesRoom, usable}
 use Rattle.redux_tell.specs.LogGrows.{WriteLogGrows}
 use Rattle.redux_tell.specs.StreamLog.{StreamLog, WriteLog, SeekCall, Readies, SeekTells, portion, after_write, after_flush}
-use Rattle.redux_tell.specs.Faults.{OnlyInterrupted, MetInterrupts, SendErrorCaused}
+use Rattle.redux_tell.specs.Faults.{MetInterrupts, SendErrorCaused}
 use Rattle.redux_buffer.specs.Transfer.{DoesNothing, Sends}
 use Rattle.redux_policy.specs.declared.FlushAmt.{FlushAmt}
 use Rattle.redux_policy.specs.Policy.{WriteRules, BeforeWrite, AfterWrite}
@@ -200,8 +200,7 @@ pub record IsFlushed {S P : Type 0} (s t : Buffered S P) : Type 0 where
   pub empty : t.block.bytes ≡ []
   pub received : t.log.writes.received ≡ s.log.writes.received ++ s.block.bytes
   pub flushed : t.log.writes.flushed ≡ t.log.writes.received
-  pub interrupts : List Error
-  pub only : OnlyInterrupted interrupts s.log.writes t.log.writes
+  pub met : MetInterrupts s.log.writes t.log.writes
 
 -- all that is promised of a flush with this answer
 pub record WasFlushed {S P : Type 0} (tells : S → StreamLog) (stretch : S → S → Type 0)
@@ -252,3 +251,14 @@ pub record NotSought {S P : Type 0} (s : Buffered S P) (e : Error) (t : Buffered
 -- an error is that of the flush, or of the inner writer's seek
 abbrev pub SeekErrorCaused : {S P : Type 0} → Buffered S P → SeekFrom → Error → Buffered S P → Type 0
 SeekErrorCaused s to e t = NotSought s e t ⊎ IsSought s to (Err e) t
+
+-- all that `seek(to)` promises
+pub record WasSought {S P : Type 0} (tells : S → StreamLog) (stretch : S → S → Type 0) (readies : Readies)
+    (s : Buffered S P) (to : SeekFrom) (answer : Result ℕ Error) (t : Buffered S P) : Type 0 where
+  pub steps : SeeksFlushed tells stretch readies s to answer t
+  pub in_order : WritesInOrder s [] t
+  pub grows : WriteLogGrows s.log.writes t.log.writes
+  pub ok : OnOk answer (IsSought s to answer t)
+  pub caused : IfErr answer (λ e. SeekErrorCaused s to e t)
+  pub capacity : t.block.capacity ≡ s.block.capacity
+  pub whole : IsBlock t.block

@@ -17,7 +17,7 @@ pub record PotentialHeld {S P Q : Type 0} (keep : ℕ) (s : Buffered S P) (t : B
   pub held :
       potential keep t.block + length s.log.reads.given ≤ potential keep s.block + length t.log.reads.given
 
--- the calls spared a number: the potential of a plain buffer of three times the number was held. The kind stayed, and
+-- the calls spared a number: the potential of a plain buffer of at least three times it was held. The kind stayed, and
 -- the capacity wasn't lowered, so calls that follow spare it too
 pub record Spared {S P Q : Type 0} (keep : ℕ) (s : Buffered S P) (t : Buffered S Q) : Type 0 where
   pub kind : t.block.kind ≡ s.block.kind
@@ -32,7 +32,7 @@ SparesClaimed rules s t = (keep : ℕ) → ClaimsToSpare (rules.claims s.policy)
 abbrev pub MovedAtMostGiven : {S P Q : Type 0} → Buffered S P → Buffered S Q → Type 0
 MovedAtMostGiven s t = t.block.moved + length s.log.reads.given ≤ s.block.moved + length t.log.reads.given
 
--- an empty plain buffer of three times the number
+-- an empty plain buffer of at least three times the number
 pub record BeginsEmpty {S P : Type 0} (keep : ℕ) (s : Buffered S P) : Type 0 where
   pub whole : IsBlock s.block
   pub plain : s.block.kind ≡ Plain

@@ -1,5 +1,5 @@
 //! The buffered reader.
-ghost use Rattle.std.specs.Prelude.{◌≡◌, ◌≢◌, ℕ, ◌<◌, ◌≤◌, ◌^◌, [], ◌++◌, length, take, drop, min, Ok, Some, IfSome, IfOk, IfErr, OnOk, OnErr, IsOk};
+ghost use Rattle.std.specs.Prelude.{◌≡◌, ◌≢◌, ℕ, ◌<◌, ◌≤◌, ◌^◌, [], length, take, min, Ok, Some, IfSome, IfOk, IfErr, OnOk, OnErr, IsOk};
 ghost use Rattle.std.specs.Borrow.{sem, Lends};
 ghost use Rattle.std.specs.Io.{ReadsAtMost, StartsWith};
 ghost use Rattle.std.specs.Io.BufRead.{Rests, DropsConsumable};
@@ -7,12 +7,10 @@ ghost use Rattle.std.specs.Io.KnownBytes.{Consumes, IsAtEnd, ReadConsumes};
 ghost use Rattle.std.specs.IoError.{error_kind};
 ghost use Rattle.redux_buffer.specs.Block.{Plain, Ring, IsBlock, LeavesBytes, MakesRoom, MovesToFront, Reserves, capacity_for, round, usable};
 ghost use Rattle.redux_buffer.specs.GrowError.{FitsWithin};
-ghost use Rattle.redux_tell.specs.LogGrows.{ReadLogGrows};
 ghost use Rattle.redux_tell.specs.StreamLog.{portion};
-ghost use Rattle.redux_buffer.specs.Transfer.{ReadsFrom};
 ghost use Rattle.buffer_redux.specs.contracts.buf_reader.BufReader.{the_row};
 ghost use Rattle.buffer_redux.specs.Buffered.{over_buffer, with_block, with_inner, with_policy, Makes};
-ghost use Rattle.buffer_redux.specs.BufReader.{ReadsInOrder, ReadErrorCaused, EmptyReadCaused, RanDry, InnerGives, FillBuf, ReaderConsumes, ReaderKeeps, Reads};
+ghost use Rattle.buffer_redux.specs.BufReader.{ReadsInOrder, ReadErrorCaused, EmptyReadCaused, RanDry, FillBuf, ReaderConsumes, ReaderKeeps, Reads, ReadsIntoBuf};
 ghost use Rattle.buffer_redux.specs.ReadAll.{HandedBeginning, ReadsExactly};
 ghost use Rattle.buffer_redux.specs.ReaderLaws.{WantsBytes};
 ghost use Rattle.buffer_redux.specs.Remaining.{reader_remaining};
@@ -261,17 +259,12 @@ impl<R: TellRead, P> BufReader<R, P> {
     /// Reads once into the buffer, without the policy, and returns how many bytes came. Returns `Ok(0)` and doesn't ask
     /// the reader where nothing can be written behind the buffered bytes. A fault of the reader changes nothing.
     pub fn read_into_buf(&mut self) -> io::Result<usize>
-        ensures read { ReadsFrom self.old.block self.old.log result self.new.block self.new.log }
+        ensures reads { ReadsIntoBuf R.remaining self.old result self.new }
         ensures in_order { ReadsInOrder self.old [] self.new }
-        ensures grows { ReadLogGrows self.old.log.reads self.new.log.reads }
         ensures not_asked { usable self.old.block ≡ 0 → self.new.inner ≡ self.old.inner }
         ensures err { OnErr result (LeavesBytes self.old.block self.new.block) }
-        ensures known { InnerGives R.remaining self.old self.new }
         ensures end { result ≡ Ok 0 → 0 < usable self.old.block → IsAtEnd (R.remaining self.new.inner) }
-        ensures policy { self.new.policy ≡ self.old.policy }
-        ensures noted { self.new.own_calls ≡ self.old.own_calls }
         ensures spared { (keep : ℕ) → Spared keep self.old self.new }
-        ensures whole { IsBlock self.new.block }
     {
         self.buf.read_from(&mut self.inner)
     }
@@ -280,6 +273,11 @@ impl<R: TellRead, P> BufReader<R, P> {
 impl<R: TellRead, P: ReaderPolicy> Read for BufReader<R, P> {
     ghost remaining = { reader_remaining R.remaining P.rules };
 
+    /// Hands out buffered bytes, as many as fit, once the policy was asked and the reader read as it says. Where nothing is
+    /// buffered and the slice is at least as long as the capacity, it is one read of the reader past the buffer and the
+    /// policy.
+    ///
+    /// An `Err` is the reader's or the policy's, and hands out nothing; what came before it stays buffered.
     #[inline(always)]
     fn read(&mut self, out: &mut [u8]) -> io::Result<usize>
         ensures bound { ReadsAtMost result out.new }
@@ -302,8 +300,10 @@ impl<R: TellRead, P: ReaderPolicy> Read for BufReader<R, P> {
         Ok(self.hand_out(out))
     }
 
-    /// Reads until the slice is full: after a short read into what is left, and after one that was interrupted once more. A
-    /// read that hands out nothing is returned as `UnexpectedEof`, and `TimedOut` comes after 2^64 - 1 reads.
+    /// Reads until the slice is full: after a short read into what is left, and again after one that was interrupted. A read
+    /// that hands out nothing is returned as `UnexpectedEof`, and `TimedOut` comes after 2^64 - 1 reads.
+    ///
+    /// After an `Err` the bytes that were handed out stand at the front of the slice, and the reader no longer has them.
     #[inline(always)]
     fn read_exact(&mut self, out: &mut [u8]) -> io::Result<()>
         ensures bytes { OnOk result (Consumes (reader_remaining R.remaining P.rules self.old)

@@ -8,13 +8,12 @@ ghost use Rattle.std.specs.IoError.{error_kind};
 ghost use Rattle.redux_buffer.specs.Block.{Plain, Ring, IsBlock, Reserves, MakesRoom, MovesToFront};
 ghost use Rattle.redux_buffer.specs.Block.{capacity_for, round, usable};
 ghost use Rattle.redux_buffer.specs.GrowError.{FitsWithin};
-ghost use Rattle.redux_tell.specs.LogGrows.{WriteLogGrows};
 ghost use Rattle.redux_tell.specs.StreamLog.{portion};
 ghost use Rattle.buffer_redux.specs.contracts.buf_writer.BufWriter.{the_row};
 ghost use Rattle.buffer_redux.specs.Buffered.{over_buffer, with_block, with_inner, with_policy, InnerWent, Makes};
 ghost use Rattle.buffer_redux.specs.BufWriter.{writer_contents, FlushesAmount, TakesIn, Finished, Writes};
 ghost use Rattle.buffer_redux.specs.BufWriter.{WritesSteadily, WritesInOrder, WriterKeeps, WriteErrorCaused, EmptyWriteCaused};
-ghost use Rattle.buffer_redux.specs.BufWriter.{WasSent, WasFlushed, SeeksFlushed, IsSought, SeekErrorCaused};
+ghost use Rattle.buffer_redux.specs.BufWriter.{WasSent, WasFlushed, WasSought};
 ghost use Rattle.buffer_redux.specs.WriteAll.{TookBeginning, WritesAll};
 
 use crate::errors::MakeError;
@@ -254,6 +253,12 @@ impl<W: TellWrite, P: WriterPolicy> BufWriter<W, P> {
 impl<W: TellWrite, P: WriterPolicy> Write for BufWriter<W, P> {
     ghost contents = { writer_contents };
 
+    /// Asks the policy, flushes the amount that it says, and then takes bytes in: by one write of the inner writer where
+    /// nothing is buffered and they fill the capacity, and else as many as fit.
+    ///
+    /// An `Err` is the policy's, that flush's or the inner writer's, and no byte was taken in. After an `Ok` the amount that
+    /// the policy's `after_write` says was flushed too; a fault of that flush isn't returned, and what wasn't sent stays
+    /// buffered.
     #[inline(always)]
     fn write(&mut self, bytes: &[u8]) -> io::Result<usize>
         ensures bound { WritesAtMost result bytes.now }
@@ -281,6 +286,8 @@ impl<W: TellWrite, P: WriterPolicy> Write for BufWriter<W, P> {
 
     /// Writes until all is taken in: after a short write what is left, and after one that was interrupted the same again. A
     /// write that takes nothing is returned as `WriteZero`, and `TimedOut` comes after 2^64 - 1 writes.
+    ///
+    /// Any other error is returned at once. After an `Err` some of the first bytes may have been taken in.
     #[inline(always)]
     fn write_all(&mut self, bytes: &[u8]) -> io::Result<()>
         ensures bytes { OnOk result (Appends (writer_contents self.old) (writer_contents self.new) bytes.now) }
@@ -312,6 +319,8 @@ impl<W: TellWrite, P: WriterPolicy> Write for BufWriter<W, P> {
         }
     }
 
+    /// Sends what is buffered, and flushes the inner writer. Where sending fails, just what the inner writer took is no longer
+    /// buffered, and it isn't flushed.
     fn flush(&mut self) -> io::Result<()>
         ensures bytes { Keeps (writer_contents self.old) (writer_contents self.new) }
         ensures flushed { WasFlushed W.log W.stretch self.old result self.new }
@@ -327,13 +336,7 @@ impl<W: TellWrite + TellSeek, P: WriterPolicy> Seek for BufWriter<W, P> {
     fn seek(&mut self, to: SeekFrom) -> io::Result<u64>
         ensures moves { SeekMoves None None None to result }
         ensures bytes { Keeps None None }
-        ensures in_order { WritesInOrder self.old [] self.new }
-        ensures grows { WriteLogGrows self.old.log.writes self.new.log.writes }
-        ensures ok { OnOk result (IsSought self.old to result self.new) }
-        ensures caused { IfErr result (λ e. SeekErrorCaused self.old to e self.new) }
-        ensures capacity { self.new.block.capacity ≡ self.old.block.capacity }
-        ensures whole { IsBlock self.new.block }
-        ensures steps { SeeksFlushed W.log W.stretch W.readies self.old to result self.new }
+        ensures sought { WasSought W.log W.stretch W.readies self.old to result self.new }
     {
         self.flush()?;
         self.inner.seek_told(to)
@@ -355,7 +358,7 @@ impl<W: TellWrite + Drop, P: Drop> Drop for BufWriter<W, P> {
 
 impl<W: TellWrite + fmt::Debug, P: fmt::Debug> fmt::Debug for BufWriter<W, P> {
     fn fmt<F: fmt::Write>(&self, f: &mut fmt::Formatter<F>) -> fmt::Result {
-        f.debug_struct("BufWriter")
+        f.debug_struct("buffer_redux::BufWriter")
             .field("writer", &self.inner)
             .field("buf_len", &self.buf.len())
             .field("capacity", &self.buf.capacity())

@@ -27,7 +27,7 @@ use std::io::{ErrorKind, Write};
 use std::marker::Model;
 
 /// A [`BufWriter`] under [`FlushOnNewline`]: after each write it flushes through the last newline, the byte 10, that is
-/// buffered.
+/// buffered. A fault of that flush isn't returned, and what wasn't sent stays buffered.
 ///
 /// ```
 /// let mut writer = LineWriter::new(alloc, Told::new(Vec::new(alloc)))?;

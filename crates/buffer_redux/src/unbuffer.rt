@@ -122,7 +122,7 @@ impl<R: TellRead> Read for Unbuffer<R> {
 
 impl<R: Tell + fmt::Debug> fmt::Debug for Unbuffer<R> {
     fn fmt<W: fmt::Write>(&self, f: &mut fmt::Formatter<W>) -> fmt::Result {
-        f.debug_struct("Unbuffer")
+        f.debug_struct("buffer_redux::Unbuffer")
             .field("inner", &self.inner)
             .field("left", &self.buf_len())
             .finish()

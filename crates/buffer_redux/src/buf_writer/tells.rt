@@ -4,7 +4,7 @@ ghost use Rattle.std.specs.Io.{WritesAtMost};
 ghost use Rattle.std.specs.Io.KnownBytes.{Keeps};
 ghost use Rattle.std.specs.Io.Seek.{SeekMoves};
 ghost use Rattle.redux_tell.specs.StreamLog.{after_write, after_flush, SeekTells};
-ghost use Rattle.buffer_redux.specs.BufWriter.{Writes, Flushes, SeeksFlushed};
+ghost use Rattle.buffer_redux.specs.BufWriter.{Writes, Flushes, WasSought};
 ghost use Rattle.buffer_redux.specs.Buffered.{with_calls};
 ghost use Rattle.buffer_redux.specs.WriterTells.{writer_log, flushes_received, WriterCalled, WriterWent, WriterWent-none, WriterWent-joins, WriterWent-grows};
 
@@ -61,7 +61,7 @@ impl<W: TellWrite + TellSeek, P: WriterPolicy> TellSeek for BufWriter<W, P> {
         ensures told { SeekTells flushes_received (writer_log self.old) to result (writer_log self.new) }
         ensures moves { SeekMoves None None None to result }
         ensures bytes { Keeps None None }
-        ensures steps { SeeksFlushed W.log W.stretch W.readies self.old to result
+        ensures sought { WasSought W.log W.stretch W.readies self.old to result
             (with_calls self.new self.old.own_calls) }
     {
         let answer = self.seek(to);

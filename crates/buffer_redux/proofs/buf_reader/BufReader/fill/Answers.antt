@@ -17,14 +17,14 @@ loop-self-preserved g c =
         subst (Turns table c.loop-self.invariant.count c.args.self.now) (sym c.self.view_is)
             c.loop-self.invariant.turns,
         turn_made table _ _ c.in_ok-before_read.field-0 _ _ c.in_ok-before_read.ensures c.if-branch.true
-            (omega (arith, c.usable_space.ensures.value)) c.read_into_buf.ensures.policy
-            c.in_ok-read_into_buf.field-0 c.in_ok-read_into_buf.ensures.read c.if-branch-eq0.false,
+            (omega (arith, c.usable_space.ensures.value)) c.read_into_buf.ensures.reads.policy
+            c.in_ok-read_into_buf.field-0 c.in_ok-read_into_buf.ensures.reads.read c.if-branch-eq0.false,
       );
       noted = search rules;
       known = GivesRemaining-joins _ _ (g.R.TellRead.remaining c.self.inside.inner)
           (g.R.Tell.log c.self.inside.inner).reads _ _
           (subst (InnerGives g.R.TellRead.remaining c.args.self.now) (sym c.self.view_is) c.loop-self.invariant.known)
-          c.read_into_buf.ensures.known;
+          c.read_into_buf.ensures.reads.known;
     }
 
 pub returns-in_err-before_read-clause-filled : goal.returns-in_err-before_read-clause-filled
@@ -52,8 +52,8 @@ returns-in_err-read_into_buf-clause-filled g c =
       turns = subst (Turns rules c.loop-self.invariant.count c.args.self.now) (sym c.self.view_is)
           c.loop-self.invariant.turns;
       ends = inr (faulted_made rules _ _ c.in_ok-before_read.field-0 _ _ c.in_ok-before_read.ensures
-          c.if-branch.true (omega (arith, c.usable_space.ensures.value)) c.read_into_buf.ensures.policy _
-          c.in_err-read_into_buf.ensures.read);
+          c.if-branch.true (omega (arith, c.usable_space.ensures.value)) c.read_into_buf.ensures.reads.policy _
+          c.in_err-read_into_buf.ensures.reads.read);
     }
     )
 
@@ -90,8 +90,8 @@ returns-then-branch-eq0-clause-filled g c =
       turns = subst (Turns rules c.loop-self.invariant.count c.args.self.now) (sym c.self.view_is)
           c.loop-self.invariant.turns;
       ends = inr (inr (dry_made rules _ _ c.in_ok-before_read.field-0 _ _ c.in_ok-before_read.ensures
-          c.if-branch.true (omega (arith, c.usable_space.ensures.value)) c.read_into_buf.ensures.policy
-          c.in_ok-read_into_buf.field-0 c.in_ok-read_into_buf.ensures.read c.if-branch-eq0.true));
+          c.if-branch.true (omega (arith, c.usable_space.ensures.value)) c.read_into_buf.ensures.reads.policy
+          c.in_ok-read_into_buf.field-0 c.in_ok-read_into_buf.ensures.reads.read c.if-branch-eq0.true));
     }
 
 pub returns-in_err-before_read-clause-known : goal.returns-in_err-before_read-clause-known
@@ -129,18 +129,18 @@ returns-in_err-read_into_buf-clause-known g c =
     GivesRemaining-joins _ _ (g.R.TellRead.remaining c.self.inside.inner)
     (g.R.Tell.log c.self.inside.inner).reads _ _
     (subst (InnerGives g.R.TellRead.remaining c.args.self.now) (sym c.self.view_is) c.loop-self.invariant.known)
-    c.read_into_buf.ensures.known
+    c.read_into_buf.ensures.reads.known
 
 pub returns-then-branch-eq0-clause-known : goal.returns-then-branch-eq0-clause-known
 returns-then-branch-eq0-clause-known g c =
     GivesRemaining-joins _ _ (g.R.TellRead.remaining c.self.inside.inner)
     (g.R.Tell.log c.self.inside.inner).reads _ _
     (subst (InnerGives g.R.TellRead.remaining c.args.self.now) (sym c.self.view_is) c.loop-self.invariant.known)
-    c.read_into_buf.ensures.known
+    c.read_into_buf.ensures.reads.known
 
 pub returns-in_err-read_into_buf-clause-end : goal.returns-in_err-read_into_buf-clause-end
 returns-in_err-read_into_buf-clause-end g c rose =
-    let same = err_counts_none _ _ _ _ _ c.in_err-read_into_buf.ensures.read
+    let same = err_counts_none _ _ _ _ _ c.in_err-read_into_buf.ensures.reads.read
     (omega (arith, c.usable_space.ensures.value)) in
     absurd (dry_never g.P.ReaderPolicy.rules c.loop-self.invariant.count c.args.self.now _
     (subst (Turns g.P.ReaderPolicy.rules c.loop-self.invariant.count c.args.self.now) (sym c.self.view_is)

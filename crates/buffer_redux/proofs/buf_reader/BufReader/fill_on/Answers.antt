@@ -8,8 +8,7 @@ returns-in_err-read_into_buf g c =
     let p = err_from_is_err_and c.from_residual.result c.from_residual.ensures.1 in
     let r = c.in_err-read_into_buf.ensures in
     record {
-      fill = λ s asked. rw (p.1, p.2) (fault_did g.R.TellRead.remaining g.P.ReaderPolicy.rules s _ asked c.requires.room _ _
-          (record { read = r.read; known = r.known; policy = r.policy; noted = r.noted; whole = r.whole }));
+      fill = λ s asked. rw (p.1, p.2) (fault_did g.R.TellRead.remaining g.P.ReaderPolicy.rules s _ asked c.requires.room _ _ r.reads);
     }
 
 pub returns-then-branch-eq0 : goal.returns-then-branch-eq0
@@ -18,8 +17,7 @@ returns-then-branch-eq0 g c =
     record {
       fill = λ s asked. dry_did g.R.TellRead.remaining g.P.ReaderPolicy.rules s _ asked c.requires.room _ tt
           c.in_ok-read_into_buf.field-0 c.if-branch-eq0.true
-          (record { read = r.read; known = r.known; policy = r.policy; noted = r.noted; whole = r.whole })
-          (r.end (rw c.if-branch-eq0.true refl) c.requires.room);
+          r.reads (r.end (rw c.if-branch-eq0.true refl) c.requires.room);
     }
 
 pub returns : goal.returns
@@ -29,7 +27,6 @@ returns g c =
     record {
       fill = λ s asked. more_did g.R.TellRead.remaining g.P.ReaderPolicy.rules s _ asked c.requires.room _
           c.in_ok-read_into_buf.field-0 c.if-branch-eq0.false
-          (record { read = r.read; known = r.known; policy = r.policy; noted = r.noted; whole = r.whole })
-          c.fill.result c.fill.new.self
+          r.reads c.fill.result c.fill.new.self
           (record { filled = f.filled; known = f.known; ended = f.end; noted = f.noted; whole = f.whole });
     }

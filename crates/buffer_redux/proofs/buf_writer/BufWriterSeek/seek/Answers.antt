@@ -1,4 +1,4 @@
-use Rattle.std.proofs.Common.{◌≡◌, ℕ, Result, Ok, Err, OnOk, inl, inr, refl, sym, ap, ◌∙◌}
+use Rattle.std.proofs.Common.{◌≡◌, ℕ, Result, Ok, Err, OnOk, inl, inr, refl, sym, ap, ◌∙◌, rules}
 use Rattle.std.specs.Prelude.{MatchResult}
 use Rattle.std.proofs.lemmas.Result.{err_from_is_err_and}
 use Rattle.std.specs.declared.io.Error.{Error}
@@ -7,33 +7,6 @@ use Rattle.redux_tell.specs.StreamLog.{StreamLog, Readies, SeekTells, after_flus
 use Rattle.buffer_redux.specs.Buffered.{Buffered}
 use Rattle.buffer_redux.specs.BufWriter.{Flushes, IsFlushed, IsSought, with_seek}
 use Rattle.buffer_redux.proofs.buf_writer.BufWriterSeek.seek.Goals as goal
-
-pub returns-in_err-flush-clause-steps : goal.returns-in_err-flush-clause-steps
-returns-in_err-flush-clause-steps g c =
-    let p = err_from_is_err_and c.from_residual.result c.from_residual.ensures.1 in
-    let f = c.in_err-flush.ensures in
-    rw (p.1, p.2) (record {
-      flushing = Err c.in_err-flush.field-0.0;
-      left = c.flush.new.self;
-      flushed = f.flushed;
-      ended = (refl, refl);
-    })
-
-pub returns-clause-steps : goal.returns-clause-steps
-returns-clause-steps g c =
-    let f = c.in_ok-flush.ensures in
-    record {
-      flushing = Ok tt;
-      left = c.flush.new.self;
-      flushed = f.flushed;
-      ended = record {
-        policy = ap (λ b. b.policy) c.self.view_is;
-        block = ap (λ b. b.block) c.self.view_is;
-        log = rw (ap (λ b. b.log) c.self.view_is) at c.seek_told.ensures.told;
-        told = refl;
-        noted = ap (λ b. b.own_calls) c.self.view_is;
-      };
-    }
 
 -- a flush makes no seek
 flush_seeks : (sending answer : Result (Unit {0}) Error) (old sent new : StreamLog) → sent.seeks ≡ old.seeks
@@ -55,11 +28,13 @@ sought readies s m t to (Ok n) flushed steps block tells =
         empty = ap (λ b. b.bytes) block ∙ flushed.empty;
         received = ap (λ l. l.writes.received) tells.told ∙ flushed.received;
         flushed = ap (λ l. l.writes.flushed) tells.told ∙ all ∙ ap (λ l. l.writes.received) (sym tells.told);
-        interrupts = flushed.interrupts;
-        only = record {
-          interrupted = flushed.only.interrupted;
-          faults = ap (λ l. l.writes.faults) tells.told ∙ flushed.only.faults;
-          zero_writes = ap (λ l. l.writes.zero_writes) tells.told ∙ flushed.only.zero_writes;
+        met = record {
+          interrupts = flushed.met.interrupts;
+          only = record {
+            interrupted = flushed.met.only.interrupted;
+            faults = ap (λ l. l.writes.faults) tells.told ∙ flushed.met.only.faults;
+            zero_writes = ap (λ l. l.writes.zero_writes) tells.told ∙ flushed.met.only.zero_writes;
+          };
         };
       };
       asked = ap (λ l. l.seeks.calls) tells.told ∙ ap (λ l. with_seek l.calls to (Ok n))
@@ -67,8 +42,48 @@ sought readies s m t to (Ok n) flushed steps block tells =
     }
 sought readies s m t to (Err e) flushed steps block tells = tt
 
-pub returns-clause-ok : goal.returns-clause-ok
-returns-clause-ok g c =
+pub returns-in_err-flush-clause-sought : goal.returns-in_err-flush-clause-sought
+returns-in_err-flush-clause-sought g c =
+    let p = err_from_is_err_and c.from_residual.result c.from_residual.ensures.1 in
+    let f = c.in_err-flush.ensures in
+    rw (p.1, p.2) (record {
+      steps = record {
+        flushing = Err c.in_err-flush.field-0.0;
+        left = c.flush.new.self;
+        flushed = f.flushed;
+        ended = (refl, refl);
+      };
+      in_order = search rules;
+      grows = search rules;
+      ok = tt;
+      caused = search rules;
+      capacity = search rules;
+      whole = search rules;
+    })
+
+pub returns-clause-sought : goal.returns-clause-sought
+returns-clause-sought g c =
     let f = c.in_ok-flush.ensures in
-    sought g.W.TellSeek.readies c.args.self.now c.flush.new.self _ c.args.to c.seek_told.result f.flushed.ok
-    f.flushed.steps (ap (λ b. b.block) c.self.view_is) (rw (ap (λ b. b.log) c.self.view_is) at c.seek_told.ensures.told)
+    let block = ap (λ b. b.block) c.self.view_is in
+    let told = rw (ap (λ b. b.log) c.self.view_is) at c.seek_told.ensures.told in
+    record {
+      steps = record {
+        flushing = Ok tt;
+        left = c.flush.new.self;
+        flushed = f.flushed;
+        ended = record {
+          policy = ap (λ b. b.policy) c.self.view_is;
+          block = block;
+          log = told;
+          told = refl;
+          noted = ap (λ b. b.own_calls) c.self.view_is;
+        };
+      };
+      in_order = search rules;
+      grows = search rules;
+      ok = sought g.W.TellSeek.readies c.args.self.now c.flush.new.self _ c.args.to c.seek_told.result f.flushed.ok
+          f.flushed.steps block told;
+      caused = search rules;
+      capacity = search rules;
+      whole = search rules;
+    }

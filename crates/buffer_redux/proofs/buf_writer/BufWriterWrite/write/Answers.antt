@@ -86,7 +86,8 @@ returns-then-bytes-usable_space-clause-in_order g c =
 
 pub returns-then-bytes-usable_space-clause-keeps : goal.returns-then-bytes-usable_space-clause-keeps
 returns-then-bytes-usable_space-clause-keeps g c =
-    let went : InnerWent g.W.Tell.log g.W.TellWrite.stretch c.args.self.now c.write_aside-then-bytes-usable_space.new.self = search rules in
+    let went : InnerWent g.W.Tell.log g.W.TellWrite.stretch c.args.self.now
+    c.write_aside-then-bytes-usable_space.new.self = search rules in
     writer_keeps _ _ g.P.WriterPolicy.rules _ _ _ _ c.write_aside-then-bytes-usable_space.ensures.whole (crowded g c) went
 
 pub returns-then-bytes-usable_space-clause-empty : goal.returns-then-bytes-usable_space-clause-empty
