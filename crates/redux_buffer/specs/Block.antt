@@ -58,7 +58,7 @@ needed_capacity b a = by_kind b.kind
 abbrev pub capacity_for : Block → ℕ → ℕ
 capacity_for b a = if nat_le a (usable b) then b.capacity else needed_capacity b a
 
--- the capacity after `push_bytes(xs)`, which grows by twice their number where they don't fit
+-- the capacity after `push_bytes(xs)`, which reserves twice their number where they don't fit
 abbrev pub capacity_to_push : Block → List ℕ → ℕ
 capacity_to_push b xs = if nat_le (length xs) (usable b) then b.capacity else capacity_for b (2 * length xs)
 
@@ -180,7 +180,7 @@ CountsShift n old new = new.block.moved ≡ old.block.moved + shift_count n old 
 abbrev pub OnlyRingMoves : Block → Block → Type 0
 OnlyRingMoves old new = OnKind old.kind (new.moved ≡ old.moved) (old.moved ≤ new.moved)
 
--- all but the tail's bytes, and what a ring moved, is as before
+-- all is as before but what stands in the tail, and what a ring moved
 pub record LeavesBytes (old new : Block) : Type 0 where
   pub bytes : new.bytes ≡ old.bytes
   pub usable : usable new ≡ usable old
@@ -218,7 +218,7 @@ place_of b = b.capacity - usable b - length b.bytes
 abbrev pub MovesToFront : Block → Block → Type 0
 MovesToFront old new = new.moved ≡ old.moved + by_kind old.kind (if place_of old == 0 then 0 else length old.bytes) 0
 
--- all but the bytes of the tail is as before
+-- all is as before but what stands in the tail
 pub record SameButTail (old new : Block) : Type 0 where
   pub bytes : new.bytes ≡ old.bytes
   pub usable : usable new ≡ usable old

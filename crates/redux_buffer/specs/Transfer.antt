@@ -42,7 +42,7 @@ pub record WritesTo (old : Block) (log : StreamLog) (answer : Result ℕ Error) 
   pub empty : length old.bytes ≡ 0 → DoesNothing 0 old log answer new log'
   pub write : 0 < length old.bytes → WritesOnce old log answer new log'
 
--- all that is told but of writes and flushes
+-- all that is told but of writes and flushes is as before
 pub record OnlyWrites (old new : StreamLog) : Type 0 where
   pub reads : new.reads ≡ old.reads
   pub fills : new.fills ≡ old.fills

@@ -46,7 +46,7 @@ impl Model for Buffer {
 }
 
 impl Buffer {
-    /// An empty plain buffer of [`DEFAULT_BUF_SIZE`] bytes.
+    /// An empty plain buffer of [`DEFAULT_BUF_SIZE`] bytes, or `Memory` where that was refused.
     pub fn new(alloc: Global) -> Result<Self, GrowError>
         ensures made { IfOk result (λ b. IsNew Plain 8192 b × IsBlock b) }
         ensures refused { IsOkUnless result GrowError.Memory }
@@ -54,7 +54,7 @@ impl Buffer {
         Buffer::with_capacity(alloc, DEFAULT_BUF_SIZE)
     }
 
-    /// An empty ring of [`DEFAULT_BUF_SIZE`] bytes.
+    /// An empty ring of [`DEFAULT_BUF_SIZE`] bytes, or `Memory` where that was refused.
     pub fn new_ringbuf(alloc: Global) -> Result<Self, GrowError>
         ensures made { IfOk result (λ b. IsNew Ring 8192 b × IsBlock b) }
         ensures refused { IsOkUnless result GrowError.Memory }
@@ -62,7 +62,8 @@ impl Buffer {
         Buffer::with_capacity_ringbuf(alloc, DEFAULT_BUF_SIZE)
     }
 
-    /// An empty plain buffer of capacity `cap` in bytes, or `TooLarge` past [`MAX_CAPACITY`](crate::MAX_CAPACITY).
+    /// An empty plain buffer of capacity `cap` in bytes; `TooLarge` past [`MAX_CAPACITY`](crate::MAX_CAPACITY), and `Memory`
+    /// where that was refused.
     pub fn with_capacity(alloc: Global, cap: usize) -> Result<Self, GrowError>
         ensures made { IfOk result (λ b. IsNew Plain cap b × IsBlock b) }
         ensures limit { FitsWithin result cap (2 ^ 62) }
@@ -74,8 +75,8 @@ impl Buffer {
         })
     }
 
-    /// An empty ring whose capacity in bytes is the least multiple of [`RING_UNIT`](crate::RING_UNIT) that is at least `cap`,
-    /// or `TooLarge` past [`MAX_RING`](crate::MAX_RING).
+    /// An empty ring whose capacity in bytes is the least multiple of [`RING_UNIT`](crate::RING_UNIT) that is at least `cap`;
+    /// `TooLarge` where that passes [`MAX_RING`](crate::MAX_RING), and `Memory` where memory was refused.
     pub fn with_capacity_ringbuf(alloc: Global, cap: usize) -> Result<Self, GrowError>
         ensures made { IfOk result (λ b. IsNew Ring (round cap) b × IsBlock b) }
         ensures limit { FitsWithin result (round cap) (2 ^ 61) }
@@ -240,7 +241,11 @@ impl Buffer {
         a <= most.saturating_sub(kept)
     }
 
-    /// Makes sure that `a` more bytes can be written. A refusal changes nothing.
+    /// Makes sure that `a` more bytes can be written behind those that are buffered. Free space in front of a plain buffer's
+    /// bytes doesn't count: [`make_room`](Buffer::make_room) makes it usable.
+    ///
+    /// `TooLarge` is returned where the capacity that this needs passes [`limit`](Buffer::limit), and `Memory` where memory
+    /// was refused. Either changes nothing.
     pub fn reserve(&mut self, a: usize) -> Result<(), GrowError>
         ensures grown { OnOk result (Reserves a self.old self.new) }
         ensures unchanged { OnErr result (self.new ≡ self.old) }
@@ -274,8 +279,8 @@ impl Buffer {
         self.imp.take_out(out)
     }
 
-    /// Appends all of `b`, and grows by twice its length where that many bytes cannot be written now. A refusal changes
-    /// nothing.
+    /// Appends all of `b`. Where fewer than `b.len()` bytes can be written now, it reserves twice that number first. A refusal
+    /// is one of [`reserve`](Buffer::reserve), and changes nothing.
     pub fn push_bytes(&mut self, b: &[u8]) -> Result<(), GrowError>
         ensures pushed { OnOk result (PushesBytes b.now self.old self.new) }
         ensures unchanged { OnErr result (self.new ≡ self.old) }

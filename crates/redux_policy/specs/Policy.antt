@@ -84,7 +84,7 @@ abbrev pub ReadsSteadily : Bool → Block → Result DoRead Error → Type 0
 ReadsSteadily false b answer = ⊤
 ReadsSteadily true b answer = IsOkAnd answer (λ d. length b.bytes ≡ 0 → d.0 ≡ true)
 
--- a plain buffer of three times the number moves no more bytes than its potential falls
+-- in a plain buffer of at least three times the number no move is undone, and the potential doesn't rise
 pub record SparesPlain (n : ℕ) (old new : Block) : Type 0 where
   pub moved : old.moved ≤ new.moved
   pub held : (keep : ℕ) → n ≤ keep → 3 * keep ≤ old.capacity → potential keep new ≤ potential keep old

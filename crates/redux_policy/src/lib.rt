@@ -1,7 +1,8 @@
 //! Policies: when a `BufReader` reads into its buffer, and when a `BufWriter` flushes its own.
 //!
-//! A policy sees the buffer, may make room in it and grow it, and may change nothing else: that law is part of both
-//! traits, so a body that breaks it is refused. A policy of yours is a type with the calls of a trait:
+//! A policy sees the buffer, may make room in it, grow it and set its limit. It leaves the bytes, the kind and the consumed
+//! count, and lowers no capacity: that law is part of both traits, so a body that breaks it is refused. A policy of yours is
+//! a type with the calls of a trait:
 //!
 //! ```
 //! /// Reads whenever there is room, for a source whose calls are dear.
@@ -48,8 +49,9 @@ pub trait ReaderPolicy {
     // What the calls may return and change beside the law, and what the policy claims.
     ghost rules: { ReadRules Self } = { any_read_rules };
 
-    /// Asked before each read into the buffer. The buffer is read into only where this says so and leaves usable space;
-    /// after a read that gave bytes it is asked again. An `Err` ends the reader's call.
+    /// Asked by `fill_buf` and `read` before each read into the buffer, and again after one that gave bytes. They read only
+    /// where this says so and leaves usable space. `read_into_buf` doesn't ask, nor does a `read` that goes past an empty
+    /// buffer. An `Err` ends the reader's call.
     ///
     /// [`read_when_empty`] is the original's default.
     fn before_read(&mut self, buffer: &mut Buffer) -> io::Result<DoRead>
@@ -71,7 +73,8 @@ pub trait WriterPolicy {
     fn before_write(&mut self, buf: &mut Buffer, incoming: usize) -> io::Result<FlushAmt>
         ensures { BeforeWrite rules self.old buf.old incoming result self.new buf.new };
 
-    /// Asked after bytes were written, for the amount to flush then: `FlushAmt(0)` where that is nothing.
+    /// Asked after bytes were written, for the amount to flush then: `FlushAmt(0)` where that is nothing. A fault of that
+    /// flush isn't returned, and what wasn't sent stays buffered.
     fn after_write(&mut self, buf: &Buffer) -> FlushAmt
         ensures { AfterWrite rules self.old buf.now result self.new };
 }

@@ -1,5 +1,5 @@
 //! The words of a line.
-ghost use Rattle.std.specs.Prelude.{◌≡◌, IsNone, IfSome, SomeIff, drop};
+ghost use Rattle.std.specs.Prelude.{IfSome, SomeIff};
 ghost use Rattle.std.specs.Str.Parse.{digits_value};
 ghost use Rattle.replay.specs.Words.{IsNumber, IsSized, IsReaderWord, IsWriterWord};
 

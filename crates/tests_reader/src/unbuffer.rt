@@ -103,6 +103,6 @@ fn reads_after_faults(rt: HostRuntime) -> Result<(), Fail> {
 fn shows(rt: HostRuntime) -> Result<(), Fail> {
     let rdr = unbuffered(rt.alloc(), &[1], &[2], &[])?;
     let text = format!(in rt.alloc(); "{rdr:?}")?;
-    assert!(rt; text.starts_with("Unbuffer"));
+    assert!(rt; text.starts_with("buffer_redux::Unbuffer"));
     Ok(())
 }

@@ -1,5 +1,5 @@
 //! Tells a format by the first sixteen bytes of a stream, and hands the whole stream on.
-ghost use Rattle.std.specs.Prelude.{◌≡◌, ◌≤◌, ◌⊎◌, [], Some, IfSome, IfOk, OnOk, length, take};
+ghost use Rattle.std.specs.Prelude.{◌≡◌, ◌≤◌, ◌⊎◌, [], IfSome, IfOk, OnOk, length, take};
 ghost use Rattle.buffer_redux.specs.BufReader.{ReadsInOrder, RanDry};
 ghost use Rattle.buffer_redux.specs.MinBuffered.{min_read_rules};
 ghost use Rattle.buffer_redux.specs.Remaining.{reader_remaining};

@@ -1,8 +1,9 @@
 //! What each call does to the potential of a plain buffer: the bytes that it has moved, and how far its bytes reach beyond
 //! a number of places, whatever that number is.
 //!
-//! Only bytes that are appended raise it, and `make_room` where there was room enough. So who makes room only where it
-//! pays moves no more bytes than were appended.
+//! Only bytes that are appended raise it, and `make_room` where it doesn't pay. So who makes room only where it pays moves
+//! no more bytes than were appended.
+//!
 //! Each function is its call, and promises what that did beside.
 ghost use Rattle.std.specs.Prelude.{◌≡◌, ◌≤◌, ℕ, ◌++◌, length, min, take, drop, MatchResult, OnOk, OnErr, IsOk, IsOkUnless};
 ghost use Rattle.redux_buffer.specs.Block.{Plain, ConsumesFirst, Clears, Reserves, Extends, PushesBytes};
@@ -124,7 +125,7 @@ pub fn write_all<W: TellWrite>(buffer: &mut Buffer, wrt: &mut W) -> io::Result<(
     buffer.write_all(wrt)
 }
 
-/// Making room doesn't raise it where that pays: the capacity is three times the number, and no more than the number is
+/// Making room doesn't raise it where that pays: the capacity is at least three times the number, and no more than the number is
 /// buffered, nor fits behind what is.
 pub fn make_room(buffer: &mut Buffer)
     ensures bytes { MakesRoom buffer.old buffer.new }
