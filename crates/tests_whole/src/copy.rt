@@ -119,23 +119,32 @@ fn gives_up(rt: HostRuntime) -> Result<(), Fail> {
 // From a ring into a writer that looks at the bytes.
 #[test]
 fn lines(rt: HostRuntime) -> Result<(), Fail> {
-    let inner = Told::new(ScriptReader::new(
-        rt.alloc(),
-        b"one\ntwo\nthree",
-        &[Answer::ServeEach(2)],
-    )?);
-    let mut from = BufReader::with_capacity_ringbuf(rt.alloc(), 64, inner)?;
-    let mut to = LineWriter::with_buffer(holding(rt.alloc(), 8, &[])?, writer(rt.alloc(), &[])?);
+    let mut from = ring(rt.alloc(), b"one\ntwo\nthree")?;
+    let mut to = line_writer(rt.alloc())?;
     assert_eq!(rt; copied(&mut from, &mut to), Ok(13));
-    assert_eq!(rt; to.get_ref().get_ref().taken(), b"one\ntwo\n".as_slice());
     assert_eq!(rt; to.buf_len(), 5);
-    to.flush_told()?;
-    assert_eq!(rt;
-        to.get_ref().get_ref().taken(),
-        b"one\ntwo\nthree".as_slice()
-    );
-    assert_eq!(rt; to.get_ref().get_ref().flushes(), 1);
+    assert_eq!(rt; to.get_ref().get_ref().taken(), b"one\ntwo\n".as_slice());
     Ok(())
+}
+
+#[test]
+fn flushes_what_is_no_line(rt: HostRuntime) -> Result<(), Fail> {
+    let mut to = line_writer(rt.alloc())?;
+    to.write_all(b"three")?;
+    to.flush_told()?;
+    let device = to.get_ref().get_ref();
+    assert_eq!(rt; device.taken(), b"three".as_slice());
+    assert_eq!(rt; device.flushes(), 1);
+    Ok(())
+}
+
+fn ring(alloc: Global, bytes: &[u8]) -> Result<Reader, Fail> {
+    let inner = Told::new(ScriptReader::new(alloc, bytes, &[Answer::ServeEach(2)])?);
+    Ok(BufReader::with_capacity_ringbuf(alloc, 64, inner)?)
+}
+
+fn line_writer(alloc: Global) -> Result<LineWriter<Writer>, Fail> {
+    Ok(LineWriter::with_buffer(holding(alloc, 8, &[])?, writer(alloc, &[])?))
 }
 
 // Into a buffered writer of a buffered writer, of which a flush reaches the writer inside.
@@ -143,15 +152,19 @@ fn lines(rt: HostRuntime) -> Result<(), Fail> {
 fn through_two(rt: HostRuntime) -> Result<(), Fail> {
     let bytes = [1, 2, 3, 4, 5, 6, 7, 8, 9, 10];
     let mut from = reader(rt.alloc(), &bytes, &[])?;
-    let inner = buffered(rt.alloc(), 16, writer(rt.alloc(), &[Answer::ServeEach(3)])?)?;
-    let mut to = buffered(rt.alloc(), 8, inner)?;
+    let mut to = two_writers(rt.alloc())?;
     assert_eq!(rt; copied(&mut from, &mut to), Ok(10));
-    assert_eq!(rt; to.buf_len() + to.get_ref().buf_len(), 10);
-    assert_eq!(rt; to.get_ref().get_ref().get_ref().taken(), [].as_slice());
+    assert_eq!(rt; (to.buf_len(), to.get_ref().buf_len()), (2, 8));
     to.flush()?;
-    assert_eq!(rt; to.get_ref().get_ref().get_ref().taken(), bytes.as_slice());
-    assert_eq!(rt; to.get_ref().get_ref().get_ref().flushes(), 1);
+    let device = to.get_ref().get_ref().get_ref();
+    assert_eq!(rt; device.taken(), bytes.as_slice());
+    assert_eq!(rt; device.flushes(), 1);
     Ok(())
+}
+
+fn two_writers(alloc: Global) -> Result<BufWriter<BufWriter<Writer>>, Fail> {
+    let inner = buffered(alloc, 16, writer(alloc, &[Answer::ServeEach(3)])?)?;
+    buffered(alloc, 8, inner)
 }
 
 // Counts how often it is told that bytes were consumed.

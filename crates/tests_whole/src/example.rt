@@ -1,15 +1,16 @@
 //! The examples of README and CALLING, and the laws.
-ghost use Rattle.std.specs.Prelude.{◌≡◌, ◌++◌, ◌≤◌, IfOk, IsTrue, Ok, OnOk, Some, false, length, take};
-ghost use Rattle.buffer_redux.specs.BufReader.{RanDry};
+ghost use Rattle.std.specs.Prelude.{◌≡◌, ◌++◌, ◌<◌, ◌≤◌, ℕ, IfOk, IsTrue, List, Ok, OnOk, Some, false, length, take};
+ghost use Rattle.buffer_redux.specs.BufReader.{RanDry, ReadsToEnd};
 ghost use Rattle.buffer_redux.specs.BufWriter.{WritesInOrder};
 ghost use Rattle.buffer_redux.specs.Policy.{any_read_rules, no_read_claims};
+ghost use Rattle.buffer_redux.specs.ReaderLaws.{WantsBytes};
 
 use buffer_redux::policy::{DoRead, MinBuffered, ReaderPolicy, WriterPolicy};
 use buffer_redux::tell::{TellRead, TellWrite, Told};
 use buffer_redux::{BufReader, BufWriter, Buffer, laws};
 use std::alloc::Global;
 use std::io;
-use std::io::{BufRead, Read, Write};
+use std::io::{BufRead, ErrorKind, Read, Write};
 use std::test::Fail;
 use tests_common::holding;
 
@@ -45,6 +46,34 @@ fn hand_on<R: TellRead, P: ReaderPolicy, W: TellWrite>(
     let taken = to.write(from.buffer())?;
     from.consume(taken);
     Ok(taken)
+}
+
+/// Reads to the end, and drops what it reads.
+fn drain<R: TellRead, P: ReaderPolicy>(reader: &mut BufReader<R, P>) -> io::Result<()>
+    requires capacity { 0 < reader.old.block.capacity }
+    requires wants { WantsBytes (P.rules.claims reader.old.policy) }
+    ensures { OnOk result ((bytes : List ℕ)
+        × ReadsToEnd R.remaining P.rules reader.old bytes reader.new) }
+{
+    for _turn in 0..u64::MAX {
+        let shown = reader.fill_buf()?;
+        let len = shown.len();
+        if len == 0 {
+            return Ok(());
+        }
+        reader.consume(len);
+    }
+    Err(io::Error::from(ErrorKind::Other))
+}
+
+#[test]
+fn drains(rt: HostRuntime) -> Result<(), Fail> {
+    let inner = Told::new(b"abcdefg".as_slice());
+    let mut reader = BufReader::with_buffer(holding(rt.alloc(), 4, b"12")?, inner);
+    drain(&mut reader)?;
+    assert_eq!(rt; reader.buf_len(), 0);
+    assert_eq!(rt; reader.get_ref().get_ref().len(), 0);
+    Ok(())
 }
 
 /// A reader over a stream of std that looks ahead by so many bytes.
