@@ -1,6 +1,9 @@
 pub use Rattle.redux_buffer.specs.Block
+pub use Rattle.redux_buffer.specs.BufImpl
+pub use Rattle.redux_tell.specs.Calls
 pub use Rattle.redux_tell.specs.Copy
 pub use Rattle.redux_tell.specs.CopyLaws
+pub use Rattle.redux_tell.specs.FaultAt
 pub use Rattle.redux_tell.specs.Faults
 pub use Rattle.redux_tell.specs.GivesRemaining
 pub use Rattle.redux_tell.specs.GoesOn
@@ -9,6 +12,8 @@ pub use Rattle.redux_tell.specs.LogGrows
 pub use Rattle.redux_policy.specs.MinBuffered
 pub use Rattle.redux_policy.specs.Policy
 pub use Rattle.redux_buffer.specs.Potential
+pub use Rattle.redux_buffer.specs.RawLends
+pub use Rattle.redux_tell.specs.Script
 pub use Rattle.redux_tell.specs.StreamLog
 pub use Rattle.redux_tell.specs.Told
 pub use Rattle.redux_buffer.specs.Transfer

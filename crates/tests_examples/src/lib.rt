@@ -1,6 +1,6 @@
 //! The examples that the documentation of the public types shows.
 //!
-//! Each test is one example, line for line; `tests/contracts.py` sees that they are the same.
+//! Each test is one example, line for line; `tests/examples.py` sees that they are the same.
 #![tactic(auto)]
 
 #[cfg(test)]
