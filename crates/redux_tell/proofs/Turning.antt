@@ -63,6 +63,7 @@ module _ {W : Type 0} (tells : W → StreamLog) (stretch call : W → W → Type
           writer = none;
         };
         one_fill = refl;
+        one_write = inl refl;
         none_ended = tt;
         ended_once = omega arith;
         one_fault = omega (arith, length-append from.fills.faults (e ∷ []));
@@ -113,6 +114,7 @@ module _ {W : Type 0} (tells : W → StreamLog) (stretch call : W → W → Type
           };
         };
         one_fill = refl;
+        one_write = inr called;
         none_ended = tt;
         ended_once = ends.1;
         one_fault = omega (arith, ap length faults, length-append (tells w).writes.faults (e ∷ []));

@@ -1,5 +1,5 @@
 -- What a stream that goes wrong at one call answers, and what contracts see of it.
-use Rattle.std.specs.Prelude.{◌≡◌, ℕ, ◌+◌, ◌-◌, ◌^◌, ◌<◌, ◌≤◌, ⊤, min, if◌then◌else◌, nat_lt, ◌==◌, Result, IfOk, IsErrAnd}
+use Rattle.std.specs.Prelude.{◌≡◌, ℕ, ◌+◌, ◌-◌, ◌^◌, ◌<◌, ◌≤◌, ⊤, min, if◌then◌else◌, nat_lt, ◌==◌, Result, Ok, IfOk, IsErrAnd}
 use Rattle.std.specs.IoError.{error_kind}
 use Rattle.std.specs.declared.io.Error.{Error}
 use Rattle.std.specs.declared.io.ErrorKind.TheVariants.{Interrupted}
@@ -44,6 +44,11 @@ fault_reply p = if nat_lt p.calls p.before then as_it_is else reply_since p.answ
 abbrev pub ServesWithin : Reply → Result ℕ Error → Type 0
 ServesWithin (Serves most) answer = IfOk answer (λ n. n ≤ most)
 ServesWithin (Fails kind) answer = ⊤
+
+-- where nothing is served of something, that is answered, and the stream inside isn't called
+abbrev pub ServesNothing : {S : Type 0} → Reply → ℕ → S → Result ℕ Error → S → Type 0
+ServesNothing (Serves most) offered old answer new = most ≡ 0 → 0 < offered → (answer ≡ Ok 0) × (new ≡ old)
+ServesNothing (Fails kind) offered old answer new = ⊤
 
 -- some bytes go on to the stream inside
 abbrev pub ServesSome : Reply → Type 0

@@ -89,13 +89,15 @@ impl<S> FaultAt<S> {
 
 // What is left is not told as `remaining`, since an answer `Ok(0)` need not be the end.
 impl<S: Read> Read for FaultAt<S> {
-    ghost use Rattle.redux_tell.specs.FaultAt.{fault_progress, fault_stream, fault_reply, with_call, ServesSome, ServesWithin, FailsBy};
+    ghost use Rattle.redux_tell.specs.FaultAt.{fault_progress, fault_stream, fault_reply, with_call, ServesNothing, ServesSome, ServesWithin, FailsBy};
 
     fn read(&mut self, buf: &mut [u8]) -> io::Result<usize>
         ensures bound { ReadsAtMost result buf.new }
         ensures bytes { ReadConsumes None None result buf.new }
         ensures counted { fault_progress self.new ≡ with_call (fault_progress self.old) }
         ensures within { ServesWithin (fault_reply (fault_progress self.old)) result }
+        ensures nothing { ServesNothing (fault_reply (fault_progress self.old)) (length buf.old) (fault_stream self.old)
+            result (fault_stream self.new) }
         ensures fails { FailsBy (fault_reply (fault_progress self.old)) (fault_stream self.old) result (fault_stream self.new) }
         ensures given { IfOk result (λ n. Consumes (S.remaining (fault_stream self.old))
             (S.remaining (fault_stream self.new)) (take n buf.new)) }
@@ -112,7 +114,7 @@ impl<S: Read> Read for FaultAt<S> {
 }
 
 impl<S: Write> Write for FaultAt<S> {
-    ghost use Rattle.redux_tell.specs.FaultAt.{fault_progress, fault_stream, fault_reply, with_call, ServesWithin, FailsBy};
+    ghost use Rattle.redux_tell.specs.FaultAt.{fault_progress, fault_stream, fault_reply, with_call, ServesNothing, ServesWithin, FailsBy};
 
     ghost contents = { λ w. S.contents w.stream };
 
@@ -121,6 +123,8 @@ impl<S: Write> Write for FaultAt<S> {
         ensures bytes { WriteAppends (S.contents (fault_stream self.old)) (S.contents (fault_stream self.new)) result buf.now }
         ensures counted { fault_progress self.new ≡ with_call (fault_progress self.old) }
         ensures within { ServesWithin (fault_reply (fault_progress self.old)) result }
+        ensures nothing { ServesNothing (fault_reply (fault_progress self.old)) (length buf.now) (fault_stream self.old)
+            result (fault_stream self.new) }
         ensures fails { FailsBy (fault_reply (fault_progress self.old)) (fault_stream self.old) result (fault_stream self.new) }
     {
         let most = self.next(buf.len())?;
