@@ -61,7 +61,7 @@ module _ {S P : Type 0} where
   copy_counts s bs answer t f =
       let settled : f.settled.consumed ≡ s.block.consumed = elim (cases_lt 0 (usable s.block)) [
         | inl some ↦ ap (λ b. b.consumed) (f.roomy some)
-        | inr none ↦ (f.tight (omega (arith, none))).consumed
+        | inr none ↦ (f.tight (omega (arith, none))).bytes.consumed
       ] in
       omega (arith, settled, f.added.consumed, ap (λ l. length l.writes.received) f.told)
 

@@ -2,7 +2,7 @@
 use Rattle.std.specs.Prelude.{◌≡◌, ℕ, ◌+◌, ◌-◌, ◌<◌, ◌≤◌, ◌⊎◌, List, [], ◌∷◌, ◌++◌, length, min, Option, Some, Result, Ok, Err, MatchResult, true, IfErr, OnOk, OnErr}
 use Rattle.std.specs.declared.io.Error.{Error}
 use Rattle.std.specs.declared.io.traits.SeekFrom.{SeekFrom}
-use Rattle.redux_buffer.specs.Block.{Block, IsBlock, Extends, MakesRoom, usable}
+use Rattle.redux_buffer.specs.Block.{Block, IsBlock, Extends, MakesRoomInFront, usable}
 use Rattle.redux_tell.specs.LogGrows.{WriteLogGrows}
 use Rattle.redux_tell.specs.StreamLog.{StreamLog, WriteLog, SeekCall, Readies, SeekTells, portion, after_write, after_flush}
 use Rattle.redux_tell.specs.Faults.{MetInterrupts, SendErrorCaused}
@@ -34,7 +34,7 @@ pub record CopiesIn {S P : Type 0} (bs : List ℕ) (s : Buffered S P) (answer : 
   pub policy : t.policy ≡ s.policy
   pub settled : Block
   pub roomy : 0 < usable s.block → settled ≡ s.block
-  pub tight : usable s.block ≡ 0 → MakesRoom s.block settled
+  pub tight : usable s.block ≡ 0 → MakesRoomInFront s.block settled
   pub answered : answer ≡ Ok (min (usable settled) (length bs))
   pub added : Extends (portion bs answer) settled t.block
   pub told : t.log ≡ s.log

@@ -257,7 +257,7 @@ impl<R: Tell, P> BufReader<R, P> {
 
 impl<R: TellRead, P> BufReader<R, P> {
     /// Reads once into the buffer, without the policy, and returns how many bytes came. Returns `Ok(0)` and doesn't ask
-    /// the reader where nothing can be written behind the buffered bytes. A fault of the reader changes nothing.
+    /// the reader where nothing can be written behind the buffered bytes. A fault of the reader leaves the bytes.
     pub fn read_into_buf(&mut self) -> io::Result<usize>
         ensures reads { ReadsIntoBuf R.remaining self.old result self.new }
         ensures in_order { ReadsInOrder self.old [] self.new }

@@ -86,9 +86,9 @@ module _ (k : ℕ) (es : List Error) (len : ℕ) (a b : Block) (log log' log'' :
   }
 
   -- the next write failed
-  pub sends_failed : (amount : ℕ) (e : Error) → k < min amount (length a.bytes)
+  pub sends_failed : (amount : ℕ) (e : Error) → k < min amount (length a.bytes) → 0 < length (take len b.bytes)
       → WritesRetried (take len b.bytes) log' (Err e) log'' → Sends amount a log (Err e) b log''
-  sends_failed amount e fewer wrote = record {
+  sends_failed amount e fewer some wrote = record {
     count = k;
     interrupts = es ++ wrote.interrupts;
     sent = Sent-still (Err e) wrote refl;
@@ -104,6 +104,8 @@ module _ (k : ℕ) (es : List Error) (len : ℕ) (a b : Block) (log log' log'' :
       }));
       often = λ kind. let all = wrote.often kind in omega (arith, all, length-append es wrote.interrupts);
     };
+    idle = λ none. absurd (omega (arith, fewer, none));
+    offered = λ _. omega (arith, some, wrote.offered);
     few = omega (arith, few, wrote.most, length-append es wrote.interrupts);
   }
 
@@ -128,5 +130,7 @@ module _ (k : ℕ) (es : List Error) (len : ℕ) (a b : Block) (log log' log'' :
       }));
       often = λ interrupted. cc;
     };
+    idle = λ none. absurd (omega (arith, fewer, none));
+    offered = λ _. omega (arith, some, wrote.offered);
     few = omega (arith, few, wrote.most, length-append es wrote.interrupts);
   }

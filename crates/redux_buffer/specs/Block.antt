@@ -218,6 +218,11 @@ place_of b = b.capacity - usable b - length b.bytes
 abbrev pub MovesToFront : Block → Block → Type 0
 MovesToFront old new = new.moved ≡ old.moved + by_kind old.kind (if place_of old == 0 then 0 else length old.bytes) 0
 
+-- all free space was made usable, and a plain buffer's bytes moved to the front for that
+pub record MakesRoomInFront (old new : Block) : Type 0 where
+  pub bytes : MakesRoom old new
+  pub moved : MovesToFront old new
+
 -- all is as before but what stands in the tail
 pub record SameButTail (old new : Block) : Type 0 where
   pub bytes : new.bytes ≡ old.bytes

@@ -56,6 +56,7 @@ pub record WritesRetried (bs : List ℕ) (log : StreamLog) (answer : Result ℕ 
   pub often : IfErr answer (λ e. IsInterrupt e → length interrupts ≡ 64)
   pub received : log'.writes.received ≡ log.writes.received ++ portion bs answer
   pub flushed : log'.writes.flushed ≡ log.writes.flushed
+  pub offered : log'.writes.offer ≡ length bs
   pub zero_writes : log'.writes.zero_writes ≡ with_zero log.writes.zero_writes bs answer
   pub faults : log'.writes.faults ≡ with_fault (log.writes.faults ++ interrupts) answer
   pub others : OnlyWrites log log'
@@ -70,7 +71,8 @@ pub record Sent (count : ℕ) (old : Block) (log : StreamLog) (new : Block) (log
   pub others : OnlyWrites log log'
 
 -- the first amount bytes were sent, or all where there are fewer; where that failed, those that the writer took, and not
--- all of them. For each byte that went out there were at most 64 interrupted writes, and 64 more before a failure
+-- all of them. For each byte that went out there were at most 64 interrupted writes, and 64 more before a failure. The
+-- stream isn't called where there is nothing to send, and else its last write offered something
 pub record Sends (amount : ℕ) (old : Block) (log : StreamLog) (answer : Result (Unit {0}) Error) (new : Block)
     (log' : StreamLog) : Type 0 where
   pub count : ℕ
@@ -81,5 +83,7 @@ pub record Sends (amount : ℕ) (old : Block) (log : StreamLog) (answer : Result
   pub unsent : OnErr answer (count < min amount (length old.bytes))
   pub ok : OnOk answer (OnlyInterrupted interrupts log.writes log'.writes)
   pub failed : IfErr answer (λ e. SendFailed interrupts log.writes log'.writes e)
+  pub idle : min amount (length old.bytes) ≡ 0 → log' ≡ log
+  pub offered : 0 < min amount (length old.bytes) → 0 < log'.writes.offer
   pub few : MatchResult answer (λ _. length interrupts ≤ 64 * count)
       (λ _. length interrupts ≤ 64 * count + 64)

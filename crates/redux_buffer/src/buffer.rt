@@ -244,7 +244,8 @@ impl Buffer {
     /// Makes sure that `a` more bytes can be written behind those that are buffered. Free space in front of a plain buffer's
     /// bytes doesn't count: [`make_room`](Buffer::make_room) makes it usable.
     ///
-    /// `TooLarge` is returned where the capacity that this needs passes [`limit`](Buffer::limit), and `Memory` where memory
+    /// A plain buffer grows by `a`, less what can be written already where bytes are buffered; a ring to what it holds and
+    /// `a`, rounded up. `TooLarge` is returned where that capacity passes [`limit`](Buffer::limit), and `Memory` where memory
     /// was refused. Either changes nothing.
     pub fn reserve(&mut self, a: usize) -> Result<(), GrowError>
         ensures grown { OnOk result (Reserves a self.old self.new) }

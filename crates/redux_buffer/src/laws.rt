@@ -41,7 +41,10 @@ pub fn copy_through(buffer: &mut Buffer, src: &[u8], out: &mut [u8]) -> usize
     ensures left { buffer.new.bytes ≡ drop result (take (usable buffer.old) src.now) }
     ensures through { buffer.new.consumed ≡ buffer.old.consumed + result }
     ensures capacity { buffer.new.capacity ≡ buffer.old.capacity }
+    ensures limit { buffer.new.limit ≡ buffer.old.limit }
+    ensures kind { buffer.new.kind ≡ buffer.old.kind }
     ensures moved { OnlyRingMoves buffer.old buffer.new }
+    ensures whole { IsBlock buffer.new }
 {
     let _ = buffer.copy_from_slice(src);
     buffer.copy_to_slice(out)

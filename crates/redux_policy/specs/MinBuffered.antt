@@ -1,6 +1,6 @@
 -- What `MinBuffered` does before a read.
 use Rattle.std.specs.Prelude.{◌≡◌, ℕ, ◌-◌, ◌<◌, ◌≤◌, length, Ok, Err, MatchBool, Some, false}
-use Rattle.redux_buffer.specs.Block.{Block, MakesRoom, MovesToFront, Reserves, usable}
+use Rattle.redux_buffer.specs.Block.{Block, MakesRoomInFront, Reserves, usable}
 use Rattle.redux_buffer.specs.GrowError.{GrowthFailed}
 use Rattle.redux_policy.specs.declared.min_buffered.MinBuffered.{MinBuffered}
 use Rattle.redux_policy.specs.Policy.{BeforeReadTable, ReadRules}
@@ -8,11 +8,6 @@ use Rattle.redux_policy.specs.Policy.{BeforeReadTable, ReadRules}
 -- how many bytes can be written once all free space is usable
 abbrev pub free_space : Block → ℕ
 free_space b = b.capacity - length b.bytes
-
--- all free space was made usable, and a plain buffer's bytes moved to the front for that
-pub record MakesRoomInFront (old new : Block) : Type 0 where
-  pub bytes : MakesRoom old new
-  pub moved : MovesToFront old new
 
 -- what becomes of a buffer of fewer than n bytes before it is read into. Exactly one of these cases holds of it
 pub record ReadiesFor (n : ℕ) (old new : Block) : Type 0 where

@@ -1,7 +1,7 @@
 -- What the policies of writers do that flush by the bytes, or by how many are buffered.
 use Rattle.std.specs.Prelude.{◌≡◌, ℕ, List, ◌-◌, ◌<◌, ◌≤◌, ◌⊎◌, slice_index, length, max, true, Result, Ok, Err}
 use Rattle.std.specs.declared.io.Error.{Error}
-use Rattle.redux_buffer.specs.Block.{Block, Reserves, MakesRoom, usable}
+use Rattle.redux_buffer.specs.Block.{Block, Reserves, MakesRoomInFront, usable}
 use Rattle.redux_buffer.specs.GrowError.{GrowthFailed}
 use Rattle.redux_policy.specs.Policy.{WriteRules, BeforeWriteTable, amount_when_full, no_write_claims, std_before_write}
 
@@ -30,10 +30,10 @@ EnsuresCapacity n old (Err e) new = (new ≡ old) × GrowthFailed (n - old.capac
 
 -- all free space became usable where the incoming bytes don't fit behind fewer than n bytes
 pub record MakesRoomBelow (n incoming : ℕ) (old new : Block) : Type 0 where
-  pub tight : usable old < incoming → length old.bytes < n → MakesRoom old new
+  pub tight : usable old < incoming → length old.bytes < n → MakesRoomInFront old new
   pub roomy : (incoming ≤ usable old) ⊎ (n ≤ length old.bytes) → new ≡ old
 
--- `FlushAtLeast` ensures a capacity of its number, and flushes all where the incoming bytes don't fit then
+-- `FlushAtLeast` reserves what a capacity of its number lacks, and flushes all where the incoming bytes don't fit then
 abbrev pub at_least_before_write : {P : Type 0} → (P → ℕ) → BeforeWriteTable P
 at_least_before_write least p b incoming (Ok a) p' b' =
     (p' ≡ p) × Ensured (least p) b b' × (a.0 ≡ amount_when_full b' incoming)
@@ -47,8 +47,8 @@ at_least_rules least = record {
   claims = λ p. no_write_claims;
 }
 
--- `FlushExact` ensures a capacity of its number, makes room where fewer bytes are there and the incoming ones don't fit
--- behind them, and flushes its number
+-- `FlushExact` reserves what a capacity of its number lacks, makes room where fewer bytes are there and the incoming ones
+-- don't fit behind them, and flushes its number
 abbrev pub exact_before_write : {P : Type 0} → (P → ℕ) → BeforeWriteTable P
 exact_before_write exact p b incoming (Ok a) p' b' =
     (p' ≡ p) × (a.0 ≡ exact p) × ((m : Block) × Ensured (exact p) b m × MakesRoomBelow (exact p) incoming m b')

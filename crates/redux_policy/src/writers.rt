@@ -69,8 +69,9 @@ fn ensure_capacity(buf: &mut Buffer, capacity: usize) -> io::Result<()>
 
 /// Flushes as std does before a write, and after it all that is buffered, where that is at least so many bytes.
 ///
-/// Before a write it makes sure that the buffer has the capacity for so many bytes. A refusal is an `Err` of the kind of
-/// its [`GrowError`](crate::GrowError); the buffer is then as it was, and nothing was sent.
+/// Before a write it reserves what the buffer's capacity lacks of so many bytes. That does nothing where as much can be
+/// written already, so the capacity may stay below the number. A refusal is an `Err` of the kind of its
+/// [`GrowError`](crate::GrowError); the buffer is then as it was, and nothing was sent.
 ///
 /// ```
 /// let mut writer = BufWriter::new(alloc, Told::new(Vec::new(alloc)))?.set_policy(FlushAtLeast(3));
@@ -97,8 +98,8 @@ impl WriterPolicy for FlushAtLeast {
 
 /// Flushes exactly so many bytes, before a write and after it, where at least so many are buffered.
 ///
-/// Before a write it makes sure that the buffer has the capacity for so many bytes, and makes room where fewer are
-/// buffered and the incoming ones don't fit behind them. A refusal is an `Err` of the kind of its
+/// Before a write it reserves what the buffer's capacity lacks of so many bytes, as [`FlushAtLeast`] does, and makes room
+/// where fewer are buffered and the incoming ones don't fit behind them. A refusal is an `Err` of the kind of its
 /// [`GrowError`](crate::GrowError); the buffer is then as it was, and nothing was sent.
 ///
 /// ```

@@ -14,7 +14,7 @@ use std::io::ErrorKind;
 
 impl Buffer {
     /// Reads once, into all the space that can be written, and returns how many bytes came. Returns `Ok(0)` and doesn't
-    /// ask the reader where there is no such space. A fault of the reader changes nothing.
+    /// ask the reader where there is no such space. A fault of the reader leaves the bytes.
     pub fn read_from<R: TellRead>(&mut self, rdr: &mut R) -> io::Result<usize>
         ensures read { ReadsFrom self.old (R.log rdr.old) result self.new (R.log rdr.new) }
         ensures not_asked { usable self.old ≡ 0 → rdr.new ≡ rdr.old }

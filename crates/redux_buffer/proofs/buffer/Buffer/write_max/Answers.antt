@@ -9,8 +9,10 @@ returns-in_err-n-clause-sent g c =
     let inv = c.loop-left.invariant in
     let wrote = rw c.buf.ensures at c.in_err-n.ensures.wrote in
     let p = err_from_is_err_and c.from_residual.result c.from_residual.ensures.1 in
-    rw (p.1, p.2) (sends_failed inv.count inv.interrupts c.loop-left.left _ _ _ _ _ inv.sent inv.only inv.few
-    c.args.max c.in_err-n.field-0.0 (omega (arith, inv.rest)) wrote)
+    let left = c.loop-left.left in
+    let size = length-take-le left c.loop-left.self.bytes inv.room in
+    rw (p.1, p.2) (sends_failed inv.count inv.interrupts left _ _ _ _ _ inv.sent inv.only inv.few
+    c.args.max c.in_err-n.field-0.0 (omega (arith, inv.rest)) (omega (arith, size)) wrote)
 
 pub returns-then-n-eq0-clause-sent : goal.returns-then-n-eq0-clause-sent
 returns-then-n-eq0-clause-sent g c =
@@ -31,6 +33,7 @@ loop-left-init g c = record {
   only = OnlyInterrupted-none (g.W.Tell.log c.args.wrt.now).writes;
   few = omega arith;
   untouched = search rules;
+  offered = omega arith;
   stretch = search rules;
   whole = search rules;
 }
@@ -56,6 +59,7 @@ loop-left-preserved g c =
       room = omega (arith, inv.room, last);
       only = only_more inv.count inv.interrupts left _ _ _ _ _ inv.sent inv.only inv.few n some wrote;
       few = omega (arith, inv.few, wrote.most, some, length-append inv.interrupts wrote.interrupts);
+      offered = λ _. omega (arith, some, fits, size, wrote.offered);
       untouched = λ none. absurd (c.if-n-eq0.false (omega (arith, none)));
       stretch = g.met.W.TellWrite.stretch_joins _ _ _ inv.stretch c.in_ok-n.ensures.stretch;
       whole = c.consume.ensures.whole;

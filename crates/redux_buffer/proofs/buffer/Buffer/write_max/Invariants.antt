@@ -1,4 +1,4 @@
-use Rattle.std.proofs.Common.{◌≡◌, ◌≤◌, ◌+◌, ◌*◌, ℕ, List, length, min}
+use Rattle.std.proofs.Common.{◌≡◌, ◌<◌, ◌≤◌, ◌+◌, ◌*◌, ℕ, List, length, min}
 use Rattle.std.specs.declared.io.Error.{Error}
 use Rattle.redux_buffer.specs.Block.{IsBlock}
 use Rattle.redux_tell.specs.Faults.{OnlyInterrupted}
@@ -14,6 +14,7 @@ invariant-loop-left g l = record {
   room : l.left ≤ length l.self.bytes;
   only : OnlyInterrupted interrupts (g.W.Tell.log l.initial.wrt).writes (g.W.Tell.log l.wrt).writes;
   few : length interrupts ≤ 64 * count;
+  offered : 0 < count → 0 < (g.W.Tell.log l.wrt).writes.offer;
   untouched : count ≡ 0 → (l.wrt ≡ l.initial.wrt) × (l.self ≡ l.initial.self);
   stretch : g.W.TellWrite.stretch l.initial.wrt l.wrt;
   whole : IsBlock l.self;
