@@ -17,8 +17,8 @@ use Rattle.frame_reader.specs.KnownFrames.{HasLeft, LeavesFrames, ReadStopped}
 use Rattle.frame_reader.specs.KnownFramesLaws.{Next-known}
 use Rattle.frame_reader.specs.Next.{Next, NoFault}
 use Rattle.frame_reader.specs.Outgoing.{Outgoing}
-use Rattle.frame_reader.specs.Runs.{AllWritten, NextFails, WriteRuns, WriteStopped, WritesEach}
-use Rattle.frame_reader.specs.RunsLaws.{AllWritten-more, AllWritten-taken, WriteRuns-more}
+use Rattle.frame_reader.specs.Runs.{AllRead, AllWritten, NextFails, NextRuns, WriteRuns, WriteStopped, WritesEach}
+use Rattle.frame_reader.specs.RunsLaws.{AllWritten-more, AllWritten-taken, NextRuns-more, WriteRuns-more}
 use Rattle.frame_reader.specs.WriteFrame.{FramesTaken, IsFault, WriteAnswer, WritesFrame}
 use Rattle.frame_reader.specs.WriteFrameLaws.{FramesTaken-joins}
 
@@ -107,6 +107,7 @@ pub record ReadsAll {S : Type 0} (remaining : S → Option (List ℕ)) (s : Fram
   pub max : t.max ≡ s.max
   pub has : HasLeft remaining t left
   pub no_fault : NoFault s t
+  pub run : NextRuns remaining s (map (λ payload. Ok (Some payload)) kept) t
 
 module _ {V S : Type 0} (f : V → List ℕ) (vs : List V) (i : ℕ) (remaining : S → Option (List ℕ)) (s m : Framing S)
     (kept : List (List ℕ)) (fit : All (Fits s.max) (map f vs))
@@ -148,6 +149,9 @@ module _ {V S : Type 0} (f : V → List ℕ) (vs : List V) (i : ℕ) (remaining 
           max = next.went.max ∙ so_far.max;
           has = known.1;
           no_fault = next.answers.1 ∙ so_far.no_fault;
+          run = subst (λ answers. NextRuns remaining s answers t)
+              (sym (map-append (λ payload. Ok (Some payload)) kept (found ∷ [])))
+              (NextRuns-more remaining s (map (λ payload. Ok (Some payload)) kept) m (Ok (Some found)) t so_far.run next);
         }
 
     pub read_lost : (found : List ℕ) (e : Error) → error_kind e ≡ OutOfMemory → Next remaining m (Ok (Some found)) t
@@ -183,3 +187,7 @@ module _ {V S : Type 0} (f : V → List ℕ) (vs : List V) (i : ℕ) (remaining 
 
     pub all_kept : kept ≡ map f vs
     all_kept = sym (append-nil kept) ∙ ap (λ l. kept ++ l) (sym none_left) ∙ so_far.all_are
+
+    pub read_all : (t : Framing S) → Next remaining m (Ok None) t → AllRead remaining s (map f vs) t
+    read_all t next = subst (λ l. AllRead remaining s l t) all_kept
+        (NextRuns-more remaining s (map (λ payload. Ok (Some payload)) kept) m (Ok None) t so_far.run next)

@@ -1,5 +1,5 @@
 -- Runs of calls: what was recorded of them, and what they come to.
-use Rattle.std.specs.Prelude.{◌≡◌, ℕ, ◌<◌, ◌⊎◌, List, [], ◌∷◌, ◌++◌, length, map, take, Bool, MatchBool, Option, Some, Result, Ok, Err}
+use Rattle.std.specs.Prelude.{◌≡◌, ℕ, ◌<◌, ◌⊎◌, List, [], ◌∷◌, ◌++◌, length, map, take, Bool, MatchBool, Option, None, Some, Result, Ok, Err}
 use Rattle.std.specs.Global.{Vec}
 use Rattle.std.specs.List.{flat_map}
 use Rattle.std.specs.Option.{option_map}
@@ -24,6 +24,10 @@ abbrev pub NextRuns : {S : Type 0} → (S → Option (List ℕ)) → Framing S �
 NextRuns remaining s [] t = s ≡ t
 NextRuns {S} remaining s (answer ∷ answers) t =
     (m : Framing S) × Next remaining s answer m × NextRuns remaining m answers t
+
+-- each of these payloads was handed out by a call, and one more call told the end
+abbrev pub AllRead : {S : Type 0} → (S → Option (List ℕ)) → Framing S → List (List ℕ) → Framing S → Type 0
+AllRead remaining s payloads t = NextRuns remaining s (map (λ payload. Ok (Some payload)) payloads ++ Ok None ∷ []) t
 
 -- the payloads that they handed out
 abbrev pub all_handed : List NextAnswer → List (List ℕ)

@@ -4,7 +4,7 @@ ghost use Rattle.std.specs.List.{All};
 ghost use Rattle.frame_reader.specs.Frames.{Fits, frames};
 ghost use Rattle.frame_reader.specs.KnownFrames.{HasLeft, LeavesFrames, ReadStopped};
 ghost use Rattle.frame_reader.specs.Next.{Next};
-ghost use Rattle.frame_reader.specs.Runs.{NextFails, WritesEach, recorded};
+ghost use Rattle.frame_reader.specs.Runs.{AllRead, NextFails, WritesEach, recorded};
 ghost use Rattle.frame_reader.specs.WriteFrame.{IsFault};
 
 use crate::error::{FrameError, WriteFrameError};
@@ -40,6 +40,7 @@ pub fn read_each<R: TellRead>(
     requires fit { All (Fits reader.old.max) (map (λ v. v.items) payloads.now) }
     requires left { HasLeft R.remaining reader.old (map (λ v. v.items) payloads.now) }
     ensures same { IfOk result (λ kept. map (λ v. v.items) kept.items ≡ map (λ v. v.items) payloads.now) }
+    ensures read { OnOk result (AllRead R.remaining reader.old (map (λ v. v.items) payloads.now) reader.new) }
     ensures stopped { IfErr result (λ e.
         ReadStopped R.remaining reader.old (map (λ v. v.items) payloads.now) e reader.new) }
 {
@@ -80,6 +81,7 @@ pub fn round_trip(
     max: u16,
 ) -> Result<Vec<Vec<u8>>, WriteFrameError>
     ensures same { IfOk result (λ kept. map (λ v. v.items) kept.items ≡ map (λ v. v.items) payloads.now) }
+    ensures fit { OnOk result (All (Fits max) (map (λ v. v.items) payloads.now)) }
     ensures fault { IfErr result (λ e. All (Fits max) (map (λ v. v.items) payloads.now) → IsFault e) }
 {
     let bytes = written(alloc, payloads, max)?;

@@ -2,7 +2,7 @@ use Rattle.std.proofs.Common.{◌≡◌, ◌+◌, map, drop, ◌++◌, ◌∷◌
 use Rattle.std.proofs.lemmas.Result.{err_from_is_err_and}
 use Rattle.frame_reader.specs.Next.{Next}
 use Rattle.frame_reader.specs.Runs.{recorded}
-use Rattle.frame_reader.proofs.Stepping.{ReadsAll, end_fails, kept_more, leaves, read_fails, read_lost, read_more, read_none, read_some}
+use Rattle.frame_reader.proofs.Stepping.{ReadsAll, end_fails, kept_more, leaves, read_all, read_fails, read_lost, read_more, read_none, read_some}
 use Rattle.frame_reader.proofs.laws.lists.read_each.Goals as goal
 
 pub next_of_known-requires : goal.next_of_known-requires
@@ -73,3 +73,11 @@ returns-in_err-next_of_known-clause-stopped g c =
     (end_fails (λ v. v.items) c.args.payloads.now c.loop.index g.R.TellRead.remaining c.args.reader.now c.loop.reader
     (map (λ v. v.items) c.loop.kept.items) c.requires.fit c.loop.invariant (omega (arith, c.loop-test.false)) _
     c.next_of_known-2.new.reader c.in_err-next_of_known.ensures.failed)
+
+pub returns-clause-read : goal.returns-clause-read
+returns-clause-read g c =
+    let remaining = g.R.TellRead.remaining in
+    let t = c.next_of_known-2.new.reader in
+    read_all (λ v. v.items) c.args.payloads.now c.loop.index remaining c.args.reader.now c.loop.reader
+    (map (λ v. v.items) c.loop.kept.items) c.requires.fit c.loop.invariant (omega (arith, c.loop-test.false)) t
+    (subst (λ o. Next remaining c.loop.reader (recorded (Ok o)) t) c.in-None-2.is c.in_ok-next_of_known.ensures.next)
