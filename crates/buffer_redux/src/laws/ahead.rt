@@ -5,7 +5,7 @@ ghost use Rattle.redux_tell.specs.StreamLog.{portion, after_read};
 ghost use Rattle.redux_policy.specs.MinBuffered.{min_read_rules};
 ghost use Rattle.buffer_redux.specs.Buffered.{GoesPast, StaysInside, GoesDirect};
 ghost use Rattle.buffer_redux.specs.BufReader.{Fills, FillsToMinimum, RanDry, ReadErrorCaused, ReadsInOrder};
-ghost use Rattle.buffer_redux.specs.BufReader.{ReadsBuffered, LeavesRest};
+ghost use Rattle.buffer_redux.specs.BufReader.{ReadsBuffered, LeavesRest, ReaderKeeps};
 ghost use Rattle.buffer_redux.specs.Remaining.{reader_remaining};
 
 use crate::buf_reader::BufReader;
@@ -29,6 +29,7 @@ pub fn look_ahead<R: TellRead>(reader: &mut BufReader<R, MinBuffered>) -> io::Re
         (λ xs. take reader.old.policy.0 reader.new.block.bytes ≡ take reader.old.policy.0 xs)) }
     ensures left { Keeps (reader_remaining R.remaining min_read_rules reader.old)
         (reader_remaining R.remaining min_read_rules reader.new) }
+    ensures noted { reader.new.own_calls ≡ reader.old.own_calls }
 {
     Ok(reader.fill_buf()?.len())
 }
@@ -47,6 +48,7 @@ pub fn read_until_dry<R: TellRead>(
     ensures buffered { StaysInside reader.old.block (length out.old)
         → ReadsBuffered min_read_rules reader.old (length out.old) result reader.new }
     ensures rest { StaysInside reader.old.block (length out.old) → LeavesRest out.old result out.new }
+    ensures keeps { ReaderKeeps R.remaining min_read_rules reader.old reader.new }
 {
     reader.read(out)
 }

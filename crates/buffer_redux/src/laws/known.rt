@@ -1,5 +1,5 @@
 //! What goes over to a stream where std knows what the streams hold.
-ghost use Rattle.std.specs.Prelude.{IfErr, OnOk};
+ghost use Rattle.std.specs.Prelude.{◌≡◌, IfErr, OnOk};
 ghost use Rattle.std.specs.Io.KnownBytes.{Appends};
 ghost use Rattle.redux_tell.specs.Copy.{CopyBuf, MovesKnown, ReceivesAll};
 ghost use Rattle.redux_tell.specs.Faults.{SendErrorCaused};
@@ -42,6 +42,7 @@ pub fn flush_known<S: Write, P: WriterPolicy>(writer: &mut BufWriter<Told<S>, P>
     ensures caused { IfErr result (λ e.
         SendErrorCaused writer.old.log.writes writer.new.log.writes e) }
     ensures steps { Flushes writer.old result writer.new }
+    ensures noted { writer.new.own_calls ≡ writer.old.own_calls }
 {
     writer.flush()
 }

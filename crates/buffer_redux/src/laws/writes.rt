@@ -1,6 +1,6 @@
 //! What a write does under each policy.
 ghost use Rattle.std.specs.Prelude.{◌≡◌, ◌<◌, length, max, IfOk, OnOk};
-ghost use Rattle.buffer_redux.specs.BufWriter.{Writes};
+ghost use Rattle.buffer_redux.specs.BufWriter.{WriterKeeps, Writes};
 ghost use Rattle.buffer_redux.specs.LineWriter.{line_rules};
 ghost use Rattle.buffer_redux.specs.WroteExactly.{EachTook, WroteExactly};
 ghost use Rattle.redux_policy.specs.WriterPolicies.{at_least_rules, exact_rules, flush_on_rules};
@@ -23,6 +23,7 @@ pub fn write_law<W: TellWrite, P: WriterPolicy>(
 ) -> io::Result<usize>
     ensures exactly { IfOk result (λ n. WroteExactly P.rules writer.old bytes.now n writer.new) }
     ensures steps { Writes P.rules writer.old bytes.now result writer.new }
+    ensures keeps { WriterKeeps W.log W.stretch P.rules writer.old writer.new }
 {
     writer.write(bytes)
 }
@@ -36,6 +37,7 @@ pub fn flush_on_law<W: TellWrite>(
         → HasNo writer.old.policy.0 writer.new.block.bytes) }
     ensures policy { writer.new.policy ≡ writer.old.policy }
     ensures steps { Writes (flush_on_rules (λ p. p.0)) writer.old bytes.now result writer.new }
+    ensures keeps { WriterKeeps W.log W.stretch (flush_on_rules (λ p. p.0)) writer.old writer.new }
 {
     writer.write(bytes)
 }
@@ -49,6 +51,7 @@ pub fn flush_on_newline_law<W: TellWrite>(
         → HasNo 10 writer.new.block.bytes) }
     ensures policy { writer.new.policy ≡ writer.old.policy }
     ensures steps { Writes (flush_on_rules (λ p. 10)) writer.old bytes.now result writer.new }
+    ensures keeps { WriterKeeps W.log W.stretch (flush_on_rules (λ p. 10)) writer.old writer.new }
 {
     writer.write(bytes)
 }
@@ -58,6 +61,7 @@ pub fn line_law<W: TellWrite>(writer: &mut LineWriter<W>, bytes: &[u8]) -> io::R
     ensures none_left { OnOk result (EachTook writer.old.log.writes writer.new.log.writes
         → HasNo 10 writer.new.block.bytes) }
     ensures steps { Writes line_rules writer.old bytes.now result writer.new }
+    ensures keeps { WriterKeeps W.log W.stretch line_rules writer.old writer.new }
 {
     writer.write(bytes)
 }
@@ -72,6 +76,7 @@ pub fn flush_at_least_law<W: TellWrite>(
         → length writer.new.block.bytes < max writer.old.policy.0 1) }
     ensures policy { writer.new.policy ≡ writer.old.policy }
     ensures steps { Writes (at_least_rules (λ p. p.0)) writer.old bytes.now result writer.new }
+    ensures keeps { WriterKeeps W.log W.stretch (at_least_rules (λ p. p.0)) writer.old writer.new }
 {
     writer.write(bytes)
 }
@@ -86,6 +91,7 @@ pub fn flush_exact_law<W: TellWrite>(
         → SendsExactly (exact_rules (λ p. p.0)) writer.old.policy.0 writer.old bytes.now k writer.new) }
     ensures policy { writer.new.policy ≡ writer.old.policy }
     ensures steps { Writes (exact_rules (λ p. p.0)) writer.old bytes.now result writer.new }
+    ensures keeps { WriterKeeps W.log W.stretch (exact_rules (λ p. p.0)) writer.old writer.new }
 {
     writer.write(bytes)
 }
