@@ -19,6 +19,7 @@ use Rattle.buffer_redux.specs.BufWriter.{WriterFailed, SteadyWrite, Writes, Writ
 use Rattle.buffer_redux.specs.WriterLaws.{Wrote-met}
 use Rattle.buffer_redux.proofs.WriterFacts.{blamed, steady_caused, steady_met_nothing}
 use Rattle.buffer_redux.specs.ReaderLaws.{Fills-empty, WantsBytes}
+use Rattle.buffer_redux.specs.Sparing.{Spared}
 use Rattle.buffer_redux.specs.ReaderTells.{after_fill, FaultsAlike, ReaderWent}
 use Rattle.buffer_redux.specs.WriterTells.{writer_log, failures, TellsFailures, WriterWent}
 
@@ -143,6 +144,15 @@ module _ {S P : Type 0} (t : Buffered S P) (calls : StreamLog) where
     took_in = takes_noted bs f.before (Err e) f.took_in;
   }))
 
+-- what is noted moves nothing
+pub spared_noted : {S P : Type 0} (keep : ℕ) (s t : Buffered S P) (calls calls' : StreamLog) → Spared keep s t
+    → Spared keep (with_calls s calls) (with_calls t calls')
+spared_noted keep s t calls calls' p = record {
+  kind = p.kind;
+  capacity = p.capacity;
+  plain = λ plain three. let h = p.plain plain three in record { moved = h.moved; held = h.held };
+}
+
 -- a fill that was noted
 module _ {S P : Type 0} (remaining : S → Option (List ℕ)) (rules : ReadRules P) (s m t : Buffered S P)
     (is : t ≡ m) (calls : StreamLog) where
@@ -205,7 +215,10 @@ module _ {S P : Type 0} (remaining : S → Option (List ℕ)) (rules : ReadRules
     own_grows =
         subst (λ l. FillLogGrows s.own_calls.fills l.fills) (sym noted) (fill_grows s.own_calls answer t.block.bytes);
     capacity = omega (arith, ap (λ b. b.capacity) block, f.capacity);
+    kind = ap (λ b. b.kind) block ∙ f.kind;
     claims = ap (λ x. rules.claims x.policy) is ∙ f.claims;
+    sparing = λ keep claims.
+        spared_noted keep s t s.own_calls calls (subst (Spared keep s) (sym is) (f.sparing keep claims));
     faults = λ steady.
         subst (λ l. FaultsAlike s.own_calls.fills.faults l.fills.faults s.log.reads.faults t.log.reads.faults)
         (sym noted)
@@ -286,18 +299,19 @@ pub call_went : {S P : Type 0} (stretch : S → S → Type 0) (rules : WriteRule
     (calls noted : StreamLog) → t ≡ m → calls ≡ noted → stretch s.inner m.inner
     → WriteLogGrows s.log.writes m.log.writes
     → WriteLogGrows (writer_log s).writes (writer_log (with_calls t calls)).writes
-    → s.block.capacity ≤ m.block.capacity → rules.claims m.policy ≡ rules.claims s.policy
+    → s.block.capacity ≤ m.block.capacity → m.block.kind ≡ s.block.kind → rules.claims m.policy ≡ rules.claims s.policy
     → ((rules.claims s.policy).steady ≡ true
     → failures noted.writes + failures s.log.writes ≤ failures s.own_calls.writes + failures m.log.writes)
     → (TellsFailures rules s.policy → MetInterrupts s.own_calls.writes noted.writes
     → MetInterrupts s.log.writes m.log.writes)
     → WriterWent stretch rules s (with_calls t calls)
-call_went stretch rules s m t calls noted is told went grows own capacity claims fails met =
+call_went stretch rules s m t calls noted is told went grows own capacity kind claims fails met =
     let log : t.log ≡ m.log = ap (λ x. x.log) is in record {
       inner = subst (stretch s.inner) (sym (ap (λ x. x.inner) is)) went;
       grows = subst (λ l. WriteLogGrows s.log.writes l.writes) (sym log) grows;
       own_grows = own;
       capacity = omega (arith, ap (λ x. x.block.capacity) is, capacity);
+      kind = ap (λ x. x.block.kind) is ∙ kind;
       claims = ap (λ x. rules.claims x.policy) is ∙ claims;
       fails = λ steady. omega (
         arith,

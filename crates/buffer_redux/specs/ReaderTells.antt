@@ -7,9 +7,10 @@ use Rattle.std.proofs.lemmas.List.{append_cancel_left}
 use Rattle.redux_tell.specs.Faults.{OnlyInterrupts, FaultAfterInterrupts}
 use Rattle.redux_tell.specs.StreamLog.{StreamLog, FillTells, Readies, with_shown, after_shown, after_fill_fault}
 use Rattle.redux_tell.specs.LogGrows.{ReadLogGrows, ReadLogGrows-none, ReadLogGrows-joins, FillLogGrows, FillLogGrows-none, FillLogGrows-joins, FillsGoOn, FillsGoOn-of}
-use Rattle.redux_policy.specs.Policy.{ReadRules}
+use Rattle.redux_policy.specs.Policy.{ReadRules, ClaimsToSpare}
 use Rattle.buffer_redux.specs.Buffered.{Buffered}
 use Rattle.buffer_redux.specs.BufReader.{Fills, ReadsInOrder, InnerGives}
+use Rattle.buffer_redux.specs.Sparing.{SparesClaimed, Spared-none, Spared-joins}
 use Rattle.buffer_redux.specs.ReaderLaws.{ReadsInOrder-none, ReadsInOrder-joins, InnerGives-none, InnerGives-joins, WantsBytes}
 
 -- what it shows is what is buffered; the rest was noted call by call
@@ -33,8 +34,9 @@ pub record FaultsAlike (old new old' new' : List Error) : Type 0 where
   pub second : new' ≡ old' ++ more
 
 -- no byte is lost between the inner reader and what was consumed, and of what that is known to have left just what it
--- gave is gone. Under a steady policy its faults are the inner reader's. Where the policy is steady or claims a minimum
--- of at least 1, and there is capacity, it ended only where the inner reader gave nothing
+-- gave is gone; the kind and the claims stay, and what the policy claims to spare is spared. Under a steady policy its
+-- faults are the inner reader's. Where the policy is steady or claims a minimum of at least 1, and there is capacity, it
+-- ended only where the inner reader gave nothing
 pub record ReaderWent {S P : Type 0} (remaining : S → Option (List ℕ))
     (rules : ReadRules P) (s t : Buffered S P)
     : Type 0 where
@@ -45,7 +47,9 @@ pub record ReaderWent {S P : Type 0} (remaining : S → Option (List ℕ))
   pub grows : ReadLogGrows s.log.reads t.log.reads
   pub own_grows : FillLogGrows s.own_calls.fills t.own_calls.fills
   pub capacity : s.block.capacity ≤ t.block.capacity
+  pub kind : t.block.kind ≡ s.block.kind
   pub claims : rules.claims t.policy ≡ rules.claims s.policy
+  pub sparing : SparesClaimed rules s t
   pub faults : (rules.claims s.policy).steady ≡ true
       → FaultsAlike s.own_calls.fills.faults t.own_calls.fills.faults s.log.reads.faults t.log.reads.faults
   pub ends : WantsBytes (rules.claims s.policy) → 0 < s.block.capacity
@@ -100,7 +104,9 @@ module _ {S P : Type 0} (remaining : S → Option (List ℕ)) (rules : ReadRules
     grows = ReadLogGrows-none s.log.reads;
     own_grows = FillLogGrows-none s.own_calls.fills;
     capacity = le_refl _;
+    kind = refl;
     claims = refl;
+    sparing = λ keep claims. Spared-none keep s;
     faults = λ steady. FaultsAlike-none s.own_calls.fills.faults s.log.reads.faults;
     ends = λ wants room. le_refl _;
   }
@@ -119,7 +125,10 @@ module _ {S P : Type 0} (remaining : S → Option (List ℕ)) (rules : ReadRules
         grows = ReadLogGrows-joins a.log.reads b.log.reads c.log.reads p.grows q.grows;
         own_grows = FillLogGrows-joins a.own_calls.fills b.own_calls.fills c.own_calls.fills p.own_grows q.own_grows;
         capacity = le_trans p.capacity q.capacity;
+        kind = q.kind ∙ p.kind;
         claims = q.claims ∙ p.claims;
+        sparing = λ keep claims. Spared-joins keep a b c (p.sparing keep claims)
+            (q.sparing keep (subst (λ x. ClaimsToSpare x.spares keep) (sym p.claims) claims));
         faults = λ steady. FaultsAlike-joins a.own_calls.fills.faults b.own_calls.fills.faults c.own_calls.fills.faults
             a.log.reads.faults b.log.reads.faults c.log.reads.faults
             (p.faults steady) (q.faults (still steady));

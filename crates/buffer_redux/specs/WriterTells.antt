@@ -46,6 +46,7 @@ pub record WriterWent {S P : Type 0} (stretch : S → S → Type 0) (rules : Wri
   pub grows : WriteLogGrows s.log.writes t.log.writes
   pub own_grows : WriteLogGrows (writer_log s).writes (writer_log t).writes
   pub capacity : s.block.capacity ≤ t.block.capacity
+  pub kind : t.block.kind ≡ s.block.kind
   pub claims : rules.claims t.policy ≡ rules.claims s.policy
   pub fails : (rules.claims s.policy).steady ≡ true
       → failures t.own_calls.writes + failures s.log.writes ≤ failures s.own_calls.writes + failures t.log.writes
@@ -115,6 +116,7 @@ module _ {S P : Type 0} (stretch : S → S → Type 0) (rules : WriteRules P) wh
     grows = WriteLogGrows-none s.log.writes;
     own_grows = WriteLogGrows-none (writer_log s).writes;
     capacity = le_refl _;
+    kind = refl;
     claims = refl;
     fails = λ steady. le_refl _;
     met = λ tells only. record { interrupts = []; only = OnlyInterrupted-none s.log.writes };
@@ -134,6 +136,7 @@ module _ {S P : Type 0} (stretch : S → S → Type 0) (rules : WriteRules P) wh
         own_grows =
             WriteLogGrows-joins (writer_log a).writes (writer_log b).writes (writer_log c).writes p.own_grows q.own_grows;
         capacity = le_trans p.capacity q.capacity;
+        kind = q.kind ∙ p.kind;
         claims = q.claims ∙ p.claims;
         fails = λ steady. omega (
           arith,

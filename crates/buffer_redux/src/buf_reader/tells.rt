@@ -55,6 +55,7 @@ impl<R: TellRead, P: ReaderPolicy> TellBufRead for BufReader<R, P> {
         ensures told { reader_log self.new ≡ after_consume (reader_log self.old) amount }
         ensures stretch { ReaderWent R.remaining P.rules self.old self.new }
         ensures consumed { ReaderConsumes P.rules amount self.old self.new }
+        ensures whole { IsBlock self.new.block }
     {
         self.calls.note(&Call::Consume(self.buf.buf(), amount));
         self.consume(amount);

@@ -3,6 +3,7 @@ ghost use Rattle.std.specs.Prelude.{◌≡◌, None};
 ghost use Rattle.std.specs.Io.{WritesAtMost};
 ghost use Rattle.std.specs.Io.KnownBytes.{Keeps};
 ghost use Rattle.std.specs.Io.Seek.{SeekMoves};
+ghost use Rattle.redux_buffer.specs.Block.{IsBlock};
 ghost use Rattle.redux_tell.specs.StreamLog.{after_write, after_flush, SeekTells};
 ghost use Rattle.buffer_redux.specs.BufWriter.{Writes, Flushes, WasSought};
 ghost use Rattle.buffer_redux.specs.Buffered.{with_calls};
@@ -29,6 +30,7 @@ impl<W: TellWrite, P: WriterPolicy> TellWrite for BufWriter<W, P> {
         ensures stretch { WriterWent W.stretch P.rules self.old self.new }
         ensures call { WriterCalled P.rules self.old self.new }
         ensures steps { Writes P.rules self.old buf.now result self.new }
+        ensures whole { IsBlock self.new.block }
     {
         let answer = self.write(buf);
         self.calls.note(&Call::Write(buf, &answer));
@@ -40,6 +42,7 @@ impl<W: TellWrite, P: WriterPolicy> TellWrite for BufWriter<W, P> {
         ensures stretch { WriterWent W.stretch P.rules self.old self.new }
         ensures call { WriterCalled P.rules self.old self.new }
         ensures steps { Flushes self.old result self.new }
+        ensures whole { IsBlock self.new.block }
     {
         let answer = self.flush();
         self.calls.note(&Call::Flush(&answer));

@@ -1,6 +1,7 @@
 //! A line writer as a stream that tells of its own calls.
 ghost use Rattle.std.specs.Prelude.{◌≡◌};
 ghost use Rattle.std.specs.Io.{WritesAtMost};
+ghost use Rattle.redux_buffer.specs.Block.{IsBlock};
 ghost use Rattle.redux_tell.specs.StreamLog.{after_write, after_flush};
 ghost use Rattle.buffer_redux.specs.BufWriter.{Writes, Flushes};
 ghost use Rattle.buffer_redux.specs.LineWriter.{line_rules};
@@ -26,6 +27,7 @@ impl<W: TellWrite> TellWrite for LineWriter<W> {
         ensures stretch { WriterWent W.stretch line_rules self.old self.new }
         ensures call { WriterCalled line_rules self.old self.new }
         ensures steps { Writes line_rules self.old buf.now result self.new }
+        ensures whole { IsBlock self.new.block }
     {
         self.writer.write_told(buf)
     }
@@ -35,6 +37,7 @@ impl<W: TellWrite> TellWrite for LineWriter<W> {
         ensures stretch { WriterWent W.stretch line_rules self.old self.new }
         ensures call { WriterCalled line_rules self.old self.new }
         ensures steps { Flushes self.old result self.new }
+        ensures whole { IsBlock self.new.block }
     {
         self.writer.flush_told()
     }

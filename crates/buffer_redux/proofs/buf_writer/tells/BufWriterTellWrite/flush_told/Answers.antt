@@ -23,6 +23,7 @@ returns-clause-stretch g c =
     (subst (λ l. WriteLogGrows (writer_log s).writes l.writes) (sym (returns-clause-told g c))
     (WriteLogGrows-flush (writer_log s) answer))
     (omega (arith, flush.capacity))
+    flush.kind
     (ap table.claims flush.steps.policy)
     (λ steady. flush_fails s m answer flush.grows flush.caused)
     (λ tells. flush_met s m answer flush.ok flush.caused)
