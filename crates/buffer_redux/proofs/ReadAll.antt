@@ -174,7 +174,7 @@ module _ {S P : Type 0} (remaining : S → Option (List ℕ)) (rules : ReadRules
         ended = (omega (arith, enough, within), refl);
       }
 
-      pub ended_late : (e : Error) → GaveUp turns e → ReadsExactly remaining rules s (Err e) out m
+      pub ended_late : (e : Error) → GaveUp turns (length out - at) e → ReadsExactly remaining rules s (Err e) out m
       ended_late e late = record {
         turns = turns;
         count = at;

@@ -256,7 +256,7 @@ module _ {S P : Type 0} (tells : S → StreamLog) (stretch : S → S → Type 0)
       ended = (omega (arith, long, before.within), refl);
     }
 
-    pub ended_late : (e : Error) → GaveUp turns e → WritesAll tells stretch rules s bs (Err e) m
+    pub ended_late : (e : Error) → GaveUp turns (length bs - at) e → WritesAll tells stretch rules s bs (Err e) m
     ended_late e late = record {
       turns = turns;
       count = at;

@@ -17,7 +17,8 @@ abbrev pub EndsBy : ErrorKind → Result ℕ Error → Error → Type 0
 EndsBy nothing (Ok k) e = (k ≡ 0) × (error_kind e ≡ nothing)
 EndsBy nothing (Err x) e = (x ≡ e) × (error_kind e ≢ Interrupted)
 
--- as many turns were gone on from as std makes, and no more are made
-pub record GaveUp (turns : ℕ) (e : Error) : Type 0 where
+-- as many turns were gone on from as std makes, and no more are made, though so many bytes are left, which are some
+pub record GaveUp (turns rest : ℕ) (e : Error) : Type 0 where
+  pub some : 0 < rest
   pub all : turns ≡ 2 ^ 64 - 1
   pub timed_out : error_kind e ≡ TimedOut

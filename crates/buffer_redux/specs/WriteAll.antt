@@ -1,5 +1,5 @@
 -- What a write of all bytes promises: a write after another, of what is left, where one was short or interrupted.
-use Rattle.std.specs.Prelude.{◌≡◌, ℕ, ◌+◌, ◌<◌, ◌≤◌, ◌⊎◌, List, length, take, drop, Result, Ok, MatchResult, zero, suc}
+use Rattle.std.specs.Prelude.{◌≡◌, ℕ, ◌+◌, ◌-◌, ◌<◌, ◌≤◌, ◌⊎◌, List, length, take, drop, Result, Ok, MatchResult, zero, suc}
 use Rattle.std.specs.declared.io.Error.{Error}
 use Rattle.std.specs.declared.io.ErrorKind.TheVariants.{WriteZero}
 use Rattle.redux_buffer.specs.Block.{IsBlock}
@@ -61,7 +61,7 @@ pub record WritesAll {S P : Type 0} (tells : S → StreamLog) (stretch : S → S
   pub first : TookFront tells stretch rules s (take count bs) last
   pub front : TookFront tells stretch rules s (take count bs) t
   pub ended : MatchResult answer (λ _. (count ≡ length bs) × (t ≡ last))
-      (λ e. LastWriteFailed rules (drop count bs) e last t ⊎ (GaveUp turns e × (t ≡ last)))
+      (λ e. LastWriteFailed rules (drop count bs) e last t ⊎ (GaveUp turns (length bs - count) e × (t ≡ last)))
 
 -- one write, with this answer
 pub record OneWrite {S P : Type 0} (tells : S → StreamLog) (stretch : S → S → Type 0) (rules : WriteRules P)

@@ -100,6 +100,9 @@ impl<R: TellRead, P: ReaderPolicy> BufReader<R, P> {
             }
             at += further(self.read(&mut out[at..]), ErrorKind::UnexpectedEof)?;
         }
+        if at >= out.len() {
+            return Ok(());
+        }
         Err(io::Error::from(ErrorKind::TimedOut))
     }
 

@@ -59,6 +59,9 @@ impl<W: TellWrite, P: WriterPolicy> BufWriter<W, P> {
             }
             at += further(self.write(&bytes[at..]), ErrorKind::WriteZero)?;
         }
+        if at >= bytes.len() {
+            return Ok(());
+        }
         Err(io::Error::from(ErrorKind::TimedOut))
     }
 

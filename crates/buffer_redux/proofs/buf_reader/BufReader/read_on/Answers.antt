@@ -79,9 +79,19 @@ returns-in_err-at-2 g c =
           _ c.in_err-at-2.ensures);
     }
 
+pub returns-then-at-out-2 : goal.returns-then-at-out-2
+returns-then-at-out-2 g c = record {
+  exact = λ s first. ended_all _ _ s _ _ _ _ (c.loop.invariant.turned s first) c.loop.out c.loop.at refl
+      c.loop.invariant.within refl c.if-at-out-2.true;
+}
+
 pub returns : goal.returns
 returns g c = record {
   exact = λ s first. ended_late _ _ s _ _ _ _ (c.loop.invariant.turned s first) c.loop.out c.loop.at refl
       c.loop.invariant.within refl _
-      (record { all = omega (arith, c.loop-test.false, c.loop.auto.counter-end); timed_out = c.from.ensures });
+      (record {
+        some = omega (arith, c.if-at-out-2.false);
+        all = omega (arith, c.loop-test.false, c.loop.auto.counter-end);
+        timed_out = c.from.ensures;
+      });
 }

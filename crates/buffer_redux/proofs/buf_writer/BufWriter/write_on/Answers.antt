@@ -58,9 +58,19 @@ returns-in_err-at-2 g c = record {
       _ c.in_err-at-2.ensures);
 }
 
+pub returns-then-at-bytes-2 : goal.returns-then-at-bytes-2
+returns-then-at-bytes-2 g c = record {
+  all = λ s first. ended_all _ _ g.met.W.TellWrite.stretch_none g.met.W.TellWrite.stretch_joins _ s _ _ _ _
+      (c.loop.invariant.turned s first) c.if-at-bytes-2.true;
+}
+
 pub returns : goal.returns
 returns g c = record {
   all = λ s first. ended_late _ _ g.met.W.TellWrite.stretch_none g.met.W.TellWrite.stretch_joins _ s _ _ _ _
       (c.loop.invariant.turned s first) _
-      (record { all = omega (arith, c.loop-test.false, c.loop.auto.counter-end); timed_out = c.from.ensures });
+      (record {
+        some = omega (arith, c.if-at-bytes-2.false);
+        all = omega (arith, c.loop-test.false, c.loop.auto.counter-end);
+        timed_out = c.from.ensures;
+      });
 }
