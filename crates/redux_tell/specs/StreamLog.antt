@@ -4,6 +4,7 @@ use Rattle.std.proofs.Common.{arith}
 use Rattle.std.specs.Borrow.{Bor}
 use Rattle.std.specs.declared.io.Error.{Error}
 use Rattle.std.specs.declared.io.traits.SeekFrom.{SeekFrom}
+use Rattle.redux_tell.specs.GoesOn.{GoesOn}
 
 -- what a reader tells of its reads: the bytes that it gave, the reads that it answered, the length of the last slice
 -- that it was lent, its `Ok(0)` to slices that were not empty, and its faults
@@ -200,8 +201,8 @@ after_fill_fault log shown e = record log {
   };
 }
 
--- what `fill_buf()` makes of a log, once its slice is given back. What is shown after an `Err` is left open: bytes may
--- have come before the fault
+-- what `fill_buf()` makes of a log, once its slice is given back. What was shown is shown still, and more may have come,
+-- also before a fault
 abbrev pub FillTells : StreamLog → Result (Bor (List ℕ)) Error → StreamLog → Type 0
-FillTells old (Ok bytes) new = new ≡ after_shown old bytes.now
-FillTells old (Err e) new = (shown : List ℕ) × (new ≡ after_fill_fault old shown e)
+FillTells old (Ok bytes) new = (new ≡ after_shown old bytes.now) × GoesOn old.fills.shown bytes.now
+FillTells old (Err e) new = (shown : List ℕ) × (new ≡ after_fill_fault old shown e) × GoesOn old.fills.shown shown

@@ -60,7 +60,7 @@ pub trait TellWrite: Tell {
     ghost stretch_grows: { (s t : Self) → stretch s t → WritesGoOn (Self.log s) (Self.log t) };
 }
 
-/// An honest buffered reader: what a fill shows is what is consumed next.
+/// An honest buffered reader: what a fill shows is what is consumed next, and what isn't consumed is shown again.
 pub trait TellBufRead: Tell {
     // What any calls, one after another, may do to the reader.
     ghost stretch: { Self → Self → Type 0 };

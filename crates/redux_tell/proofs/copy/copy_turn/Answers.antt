@@ -5,7 +5,7 @@ use Rattle.redux_tell.proofs.copy.copy_turn.Goals as goal
 pub returns-in_err-taken-in-Ok-clause-turn : goal.returns-in_err-taken-in-Ok-clause-turn
 returns-in_err-taken-in-Ok-clause-turn g c =
     let p = err_from_is_err_and c.from_residual.result c.from_residual.ensures.1 in
-    let filled = (rw c.in-Ok.is at c.fill_told.follows.holds-at-none).0 in
+    let filled = (rw c.in-Ok.is at c.fill_told.follows.holds-at-none).0.0 in
     let wrote = c.in_err-taken-in-Ok.ensures in
     rw (p.1, p.2, filled)
     (not_written g.W.Tell.log g.W.TellWrite.stretch g.W.TellWrite.call (g.B.Tell.log c.args.b.now) c.args.w.now

@@ -1,5 +1,6 @@
 use Rattle.std.proofs.Common.{◌≡◌, Ok, refl, subst, sym, ap, ◌∙◌}
 use Rattle.std.proofs.lemmas.Result.{err_from_is_err_and}
+use Rattle.redux_tell.specs.GoesOn.{GoesOn}
 use Rattle.redux_tell.specs.StreamLog.{with_shown, after_shown}
 use Rattle.buffer_redux.specs.BufReader.{Fills}
 use Rattle.buffer_redux.specs.ReaderTells.{reader_log, ReaderWent}
@@ -12,14 +13,17 @@ returns-in_err-fill_noted g c =
     let p = err_from_is_err_and c.from_residual.result c.from_residual.ensures.1 in
     let f = c.in_err-fill_noted.ensures in
     let bytes = c.fill_noted.new.self.block.bytes in
+    let done = fills rules _ _ _ f.whole (filled_err rules _ _ _ f.filled) in
+    let shows : GoesOn c.args.self.now.block.bytes bytes =
+    record { more = done.in_order.got; equal = done.in_order.equal } in
     rw (p.1, p.2) (
       (
         refl,
         (λ _. tt),
         record {
-          tells = (bytes, ap (λ l. with_shown l bytes) f.noted);
+          tells = (bytes, ap (λ l. with_shown l bytes) f.noted, shows);
           went = f.went;
-          fills = fills rules _ _ _ f.whole (filled_err rules _ _ _ f.filled);
+          fills = done;
         },
       ),
       record { after_borrow = tt },
@@ -41,7 +45,10 @@ returns g c =
         refl,
         (λ _. tt),
         record {
-          tells = ap reader_log c.self.view_is ∙ tells;
+          tells = (
+            ap reader_log c.self.view_is ∙ tells,
+            subst (GoesOn s.block.bytes) shown (record { more = done.in_order.got; equal = done.in_order.equal }),
+          );
           went = subst (ReaderWent g.R.TellRead.remaining rules s) (sym c.self.view_is) f.went;
           fills = subst (Fills rules s (Ok c.buf.result)) (sym c.self.view_is) done;
         },
