@@ -19,7 +19,7 @@ use Rattle.buffer_redux.specs.BufWriter.{WriterFailed, SteadyWrite, Writes, Writ
 use Rattle.buffer_redux.specs.WriterLaws.{Wrote-met}
 use Rattle.buffer_redux.proofs.WriterFacts.{blamed, steady_caused, steady_met_nothing}
 use Rattle.buffer_redux.specs.ReaderLaws.{Fills-empty, WantsBytes}
-use Rattle.buffer_redux.specs.Sparing.{Spared}
+use Rattle.buffer_redux.specs.Sparing.{Spared, Spared-noted}
 use Rattle.buffer_redux.specs.ReaderTells.{after_fill, FaultsAlike, ReaderWent}
 use Rattle.buffer_redux.specs.WriterTells.{writer_log, failures, TellsFailures, WriterWent}
 
@@ -144,15 +144,6 @@ module _ {S P : Type 0} (t : Buffered S P) (calls : StreamLog) where
     took_in = takes_noted bs f.before (Err e) f.took_in;
   }))
 
--- what is noted moves nothing
-pub spared_noted : {S P : Type 0} (keep : ℕ) (s t : Buffered S P) (calls calls' : StreamLog) → Spared keep s t
-    → Spared keep (with_calls s calls) (with_calls t calls')
-spared_noted keep s t calls calls' p = record {
-  kind = p.kind;
-  capacity = p.capacity;
-  plain = λ plain three. let h = p.plain plain three in record { moved = h.moved; held = h.held };
-}
-
 -- a fill that was noted
 module _ {S P : Type 0} (remaining : S → Option (List ℕ)) (rules : ReadRules P) (s m t : Buffered S P)
     (is : t ≡ m) (calls : StreamLog) where
@@ -182,9 +173,8 @@ module _ {S P : Type 0} (remaining : S → Option (List ℕ)) (rules : ReadRules
     ];
   }
 
-  ends_bound : (answer : Result (Unit {0}) Error)
-      → Fills rules s answer m → WantsBytes (rules.claims s.policy) → 0 < s.block.capacity
-      → (after_fill s.own_calls answer t.block.bytes).fills.zero_fills + s.log.reads.zero_reads
+  ends_bound : (answer : Result (Unit {0}) Error) → Fills rules s answer m → WantsBytes (rules.claims s.policy)
+      → 0 < s.block.capacity → (after_fill s.own_calls answer t.block.bytes).fills.zero_fills + s.log.reads.zero_reads
       ≤ s.own_calls.fills.zero_fills + m.log.reads.zero_reads
   ends_bound (Ok a) f wants room = elim (cases_lt 0 (length t.block.bytes)) [
     | inl some ↦ omega (arith, end_same s.own_calls.fills.zero_fills t.block.bytes some, f.grows.zero_reads)
@@ -217,8 +207,7 @@ module _ {S P : Type 0} (remaining : S → Option (List ℕ)) (rules : ReadRules
     capacity = omega (arith, ap (λ b. b.capacity) block, f.capacity);
     kind = ap (λ b. b.kind) block ∙ f.kind;
     claims = ap (λ x. rules.claims x.policy) is ∙ f.claims;
-    sparing = λ keep claims.
-        spared_noted keep s t s.own_calls calls (subst (Spared keep s) (sym is) (f.sparing keep claims));
+    sparing = λ keep claims. Spared-noted keep s t calls (subst (Spared keep s) (sym is) (f.sparing keep claims));
     faults = λ steady.
         subst (λ l. FaultsAlike s.own_calls.fills.faults l.fills.faults s.log.reads.faults t.log.reads.faults)
         (sym noted)

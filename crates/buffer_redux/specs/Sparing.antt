@@ -7,8 +7,8 @@ use Rattle.redux_buffer.specs.Block.{Block, Plain, IsBlock, Reserves, usable}
 use Rattle.redux_buffer.specs.GrowError.{GrowthFailed}
 use Rattle.redux_buffer.specs.Potential.{potential, of_plain}
 use Rattle.redux_policy.specs.Policy.{ReadRules, ClaimsToSpare}
-use Rattle.redux_tell.specs.StreamLog.{Readies}
-use Rattle.buffer_redux.specs.Buffered.{Buffered, with_block, with_policy}
+use Rattle.redux_tell.specs.StreamLog.{Readies, StreamLog}
+use Rattle.buffer_redux.specs.Buffered.{Buffered, with_block, with_calls, with_policy}
 use Rattle.buffer_redux.specs.Seek.{plan_for, Seeks}
 
 -- no move was undone, and the potential rose by no more than was given
@@ -76,6 +76,15 @@ Spared-joins keep s m t p q = record {
 pub Spared-under : {S P Q T : Type 0} (keep : ℕ) (s : Buffered S P) (t : Buffered S Q) (policy : T) → Spared keep s t
     → Spared keep s (with_policy t policy)
 Spared-under keep s t policy p = record {
+  kind = p.kind;
+  capacity = p.capacity;
+  plain = λ plain three. let h = p.plain plain three in record { moved = h.moved; held = h.held };
+}
+
+-- what is noted of calls moves nothing
+pub Spared-noted : {S P Q : Type 0} (keep : ℕ) (s : Buffered S P) (t : Buffered S Q) (calls : StreamLog) → Spared keep s t
+    → Spared keep s (with_calls t calls)
+Spared-noted keep s t calls p = record {
   kind = p.kind;
   capacity = p.capacity;
   plain = λ plain three. let h = p.plain plain three in record { moved = h.moved; held = h.held };
