@@ -63,7 +63,8 @@ module _ {W : Type 0} (tells : W → StreamLog) (stretch call : W → W → Type
           writer = none;
         };
         one_fill = refl;
-        one_write = inl refl;
+        one_write = λ same. absurd (omega (arith, same, length-append from.fills.faults (e ∷ [])));
+        no_write = λ more. refl;
         none_ended = tt;
         ended_once = omega arith;
         one_fault = omega (arith, length-append from.fills.faults (e ∷ []));
@@ -114,7 +115,8 @@ module _ {W : Type 0} (tells : W → StreamLog) (stretch call : W → W → Type
           };
         };
         one_fill = refl;
-        one_write = inr called;
+        one_write = λ same. called;
+        no_write = λ more. absurd (omega (arith, more));
         none_ended = tt;
         ended_once = ends.1;
         one_fault = omega (arith, ap length faults, length-append (tells w).writes.faults (e ∷ []));

@@ -111,15 +111,16 @@ pub record TurnAnswers {W : Type 0} (tells : W → StreamLog) (stretch call : W 
   pub kept : OnErr result (MovedBy 0 from from' (tells w).writes (tells w').writes)
   pub spent : OnErr result (FillsMade 0 from from' (tells w).writes (tells w').writes)
 
--- one turn of a copy: one fill, one write, unless the fill failed, and so one consume where bytes went over; a failure is
--- one fault, which moved nothing
+-- one turn of a copy: one fill, then one write, none where the fill failed, and so one consume where bytes went over; a
+-- failure is one fault, which moved nothing
 pub record CopyTurn {W : Type 0} (tells : W → StreamLog) (stretch call : W → W → Type 0) (result : Result ℕ Error)
     (from from' : FillLog) (w w' : W) : Type 0 where
   pub answers : TurnAnswers tells stretch call result from from' w w'
   pub interrupted : IfErr result
       (λ e. error_kind e ≡ Interrupted → CopiesOn 0 from from' (tells w).writes (tells w').writes)
   pub one_fill : from'.asks ≡ from.asks + 1
-  pub one_write : MatchResult result (λ _. call w w') (λ _. (w' ≡ w) ⊎ call w w')
+  pub one_write : length from'.faults ≡ length from.faults → call w w'
+  pub no_write : length from.faults < length from'.faults → w' ≡ w
   pub none_ended : IfOk result (λ n. 0 < n → from'.zero_fills ≡ from.zero_fills)
   pub ended_once : from'.zero_fills ≤ from.zero_fills + 1
   pub one_fault : MatchResult result
