@@ -18,7 +18,8 @@ pub record RisesAtMost (keep most : ℕ) (old new : Block) : Type 0 where
 abbrev pub PlainRises : ℕ → Block → Block → Type 0
 PlainRises most old new = old.kind ≡ Plain → (keep : ℕ) → RisesAtMost keep most old new
 
--- where making room pays: the capacity is at least three times the number, and no more than it is there, or fits behind that
+-- where making room pays: the capacity is at least three times the number, and no more than it is there, or fits behind
+-- that
 pub record RoomPays (keep : ℕ) (b : Block) : Type 0 where
   pub capacity : 3 * keep ≤ b.capacity
   pub held : length b.bytes ≤ keep

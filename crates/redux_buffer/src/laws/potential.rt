@@ -125,8 +125,8 @@ pub fn write_all<W: TellWrite>(buffer: &mut Buffer, wrt: &mut W) -> io::Result<(
     buffer.write_all(wrt)
 }
 
-/// Making room doesn't raise it where that pays: the capacity is at least three times the number, and no more than the number is
-/// buffered, nor fits behind what is.
+/// Making room doesn't raise it where that pays: the capacity is at least three times the number, and no more than the
+/// number is buffered, nor fits behind what is.
 pub fn make_room(buffer: &mut Buffer)
     ensures bytes { MakesRoom buffer.old buffer.new }
     ensures moved { MovesToFront buffer.old buffer.new }

@@ -8,7 +8,8 @@ returns-in_err-read_into_buf g c =
     let p = err_from_is_err_and c.from_residual.result c.from_residual.ensures.1 in
     let r = c.in_err-read_into_buf.ensures in
     record {
-      fill = λ s asked. rw (p.1, p.2) (fault_did g.R.TellRead.remaining g.P.ReaderPolicy.rules s _ asked c.requires.room _ _ r.reads);
+      fill = λ s asked. rw (p.1, p.2)
+          (fault_did g.R.TellRead.remaining g.P.ReaderPolicy.rules s _ asked c.requires.room _ _ r.reads);
     }
 
 pub returns-then-branch-eq0 : goal.returns-then-branch-eq0

@@ -104,7 +104,8 @@ returns-clause-in_order g c =
 pub returns-clause-keeps : goal.returns-clause-keeps
 returns-clause-keeps g c =
     let went : InnerWent g.W.Tell.log g.W.TellWrite.stretch c.args.self.now c.flush_after.new.self = search rules in
-    writer_keeps _ _ g.P.WriterPolicy.rules _ _ (Ok c.copy_from_slice-copied.result) _ c.flush_after.ensures.whole (at_once g c) went
+    writer_keeps _ _ g.P.WriterPolicy.rules _ _ (Ok c.copy_from_slice-copied.result) _ c.flush_after.ensures.whole
+    (at_once g c) went
 
 pub returns-clause-steps : goal.returns-clause-steps
 returns-clause-steps g c = at_once g c
