@@ -7,9 +7,9 @@ use Rattle.std.specs.IoError.{error_kind}
 use Rattle.std.specs.declared.io.Error.{Error}
 use Rattle.std.specs.declared.io.ErrorKind.TheVariants.{WriteZero}
 use Rattle.redux_buffer.specs.Block.{Block, ConsumesFirst, OnlyRingMoves}
-use Rattle.redux_tell.specs.StreamLog.{StreamLog, portion, after_write, zero_of_some, zero_of_none}
+use Rattle.redux_tell.specs.StreamLog.{StreamLog, portion, after_write, zero_of_some, zero_of_none, short_of_less, short_of_all}
 use Rattle.redux_tell.specs.Faults.{IsInterrupt, OnlyInterrupted, OnlyInterrupted-joins, TookNothing-after, FaultedAfter-after}
-use Rattle.redux_buffer.specs.Transfer.{OnlyWrites, WritesRetried, Sent, Sends}
+use Rattle.redux_buffer.specs.Transfer.{OnlyWrites, WritesRetried, WholeWrites, Sent, Sends}
 use Rattle.redux_buffer.proofs.Steps.{OnlyRingMoves-joins, ConsumesFirst-joins}
 
 -- this many writes were interrupted, one after another
@@ -18,6 +18,8 @@ pub record Interrupts (count : ℕ) (old new : StreamLog) : Type 0 where
   pub flushed : new.writes.flushed ≡ old.writes.flushed
   pub errors : List Error
   pub number : length errors ≡ count
+  pub asks : new.writes.asks ≡ old.writes.asks + count
+  pub short_writes : new.writes.short_writes ≡ old.writes.short_writes + count
   pub only : OnlyInterrupted errors old.writes new.writes
   pub others : OnlyWrites old new
 
@@ -32,6 +34,8 @@ Interrupts-more count bs e a b c met is told = record {
   flushed = ap (λ l. l.writes.flushed) told ∙ met.flushed;
   errors = met.errors ++ e ∷ [];
   number = omega (arith, met.number, length-append met.errors (e ∷ []));
+  asks = omega (arith, met.asks, ap (λ l. l.writes.asks) told);
+  short_writes = omega (arith, met.short_writes, ap (λ l. l.writes.short_writes) told);
   only = record {
     interrupted = All-push IsInterrupt met.errors e met.only.interrupted is;
     faults = ap (λ l. l.writes.faults) told ∙ ap (λ l. l ++ e ∷ []) met.only.faults
@@ -73,6 +77,34 @@ module _ (k : ℕ) (es : List Error) (len : ℕ) (a b : Block) (log log' log'' :
     zero_writes = wrote.zero_writes ∙ zero_of_some n (take len b.bytes) log'.writes.zero_writes (inl some);
   })
 
+  -- a write that took less than it was offered, and one that took all
+  pub short_more : (n : ℕ) → WholeWrites 0 log.writes log'.writes → WritesRetried (take len b.bytes) log' (Ok n) log''
+      → n < length (take len b.bytes) → WholeWrites 0 log.writes log''.writes
+  short_more n before wrote less =
+      let counted = short_of_less n (take len b.bytes) (log'.writes.short_writes + length wrote.interrupts) less in record {
+        short = before.short + length wrote.interrupts + 1;
+        fell_short = omega (arith, before.fell_short, wrote.short_writes, counted);
+        asks = omega (arith, before.asks, wrote.asks);
+      }
+
+  pub whole_more : (n : ℕ) → WholeWrites 0 log.writes log'.writes → WritesRetried (take len b.bytes) log' (Ok n) log''
+      → length (take len b.bytes) ≤ n → WholeWrites 1 log.writes log''.writes
+  whole_more n before wrote all =
+      let counted = short_of_all n (take len b.bytes) (log'.writes.short_writes + length wrote.interrupts) all in record {
+        short = before.short + length wrote.interrupts;
+        fell_short = omega (arith, before.fell_short, wrote.short_writes, counted);
+        asks = omega (arith, before.asks, wrote.asks);
+      }
+
+  -- one that failed
+  failed_more : (e : Error) → WholeWrites 0 log.writes log'.writes → WritesRetried (take len b.bytes) log' (Err e) log''
+      → WholeWrites 0 log.writes log''.writes
+  failed_more e before wrote = record {
+    short = before.short + length wrote.interrupts + 1;
+    fell_short = omega (arith, before.fell_short, wrote.short_writes);
+    asks = omega (arith, before.asks, wrote.asks);
+  }
+
   -- the same where the last write failed, or took nothing
   Sent-still : (answer : Result ℕ Error) → WritesRetried (take len b.bytes) log' answer log''
       → portion (take len b.bytes) answer ≡ [] → Sent k a log b log''
@@ -86,9 +118,9 @@ module _ (k : ℕ) (es : List Error) (len : ℕ) (a b : Block) (log log' log'' :
   }
 
   -- the next write failed
-  pub sends_failed : (amount : ℕ) (e : Error) → k < min amount (length a.bytes) → 0 < length (take len b.bytes)
+  pub sends_failed : (amount : ℕ) (e : Error) → WholeWrites 0 log.writes log'.writes → k < min amount (length a.bytes) → 0 < length (take len b.bytes)
       → WritesRetried (take len b.bytes) log' (Err e) log'' → Sends amount a log (Err e) b log''
-  sends_failed amount e fewer some wrote = record {
+  sends_failed amount e before fewer some wrote = record {
     count = k;
     interrupts = es ++ wrote.interrupts;
     sent = Sent-still (Err e) wrote refl;
@@ -106,14 +138,15 @@ module _ (k : ℕ) (es : List Error) (len : ℕ) (a b : Block) (log log' log'' :
     };
     idle = λ none. absurd (omega (arith, fewer, none));
     offered = λ _. omega (arith, some, wrote.offered);
+    whole_writes = failed_more e before wrote;
     few = omega (arith, few, wrote.most, length-append es wrote.interrupts);
   }
 
   -- the next write took nothing of something
-  pub sends_nothing : (amount n : ℕ) (e : Error) → k < min amount (length a.bytes) → n ≡ 0
+  pub sends_nothing : (amount n : ℕ) (e : Error) → WholeWrites 0 log.writes log'.writes → k < min amount (length a.bytes) → n ≡ 0
       → 0 < length (take len b.bytes) → error_kind e ≡ WriteZero
       → WritesRetried (take len b.bytes) log' (Ok n) log'' → Sends amount a log (Err e) b log''
-  sends_nothing amount n e fewer none some kind wrote = record {
+  sends_nothing amount n e before fewer none some kind wrote = record {
     count = k;
     interrupts = es ++ wrote.interrupts;
     sent = Sent-still (Ok n) wrote (ap (λ m. take m (take len b.bytes)) none);
@@ -132,5 +165,6 @@ module _ (k : ℕ) (es : List Error) (len : ℕ) (a b : Block) (log log' log'' :
     };
     idle = λ none. absurd (omega (arith, fewer, none));
     offered = λ _. omega (arith, some, wrote.offered);
+    whole_writes = short_more n before wrote (omega (arith, none, some));
     few = omega (arith, few, wrote.most, length-append es wrote.interrupts);
   }

@@ -4,7 +4,7 @@ use Rattle.std.specs.Io.{ReadsAtMost, WritesAtMost}
 use Rattle.std.specs.List.{All}
 use Rattle.std.specs.declared.io.Error.{Error}
 use Rattle.redux_buffer.specs.Block.{Block, Extends, ConsumesFirst, OnlyRingMoves, usable}
-use Rattle.redux_tell.specs.StreamLog.{StreamLog, portion, with_zero, with_fault, after_read, after_write}
+use Rattle.redux_tell.specs.StreamLog.{StreamLog, WriteLog, portion, with_zero, with_short, with_fault, after_read, after_write}
 use Rattle.redux_tell.specs.Faults.{IsInterrupt, OnlyInterrupted, SendFailed}
 
 -- one read into the whole tail, which left it as out; what was given stands behind the bytes
@@ -56,6 +56,8 @@ pub record WritesRetried (bs : List ℕ) (log : StreamLog) (answer : Result ℕ 
   pub often : IfErr answer (λ e. IsInterrupt e → length interrupts ≡ 64)
   pub received : log'.writes.received ≡ log.writes.received ++ portion bs answer
   pub flushed : log'.writes.flushed ≡ log.writes.flushed
+  pub asks : log'.writes.asks ≡ log.writes.asks + length interrupts + 1
+  pub short_writes : log'.writes.short_writes ≡ with_short (log.writes.short_writes + length interrupts) bs answer
   pub offered : log'.writes.offer ≡ length bs
   pub zero_writes : log'.writes.zero_writes ≡ with_zero log.writes.zero_writes bs answer
   pub faults : log'.writes.faults ≡ with_fault (log.writes.faults ++ interrupts) answer
@@ -70,9 +72,16 @@ pub record Sent (count : ℕ) (old : Block) (log : StreamLog) (new : Block) (log
   pub flushed : log'.writes.flushed ≡ log.writes.flushed
   pub others : OnlyWrites log log'
 
+-- n writes took all that they were offered, and every other one fell short
+pub record WholeWrites (n : ℕ) (old new : WriteLog) : Type 0 where
+  pub short : ℕ
+  pub fell_short : new.short_writes ≡ old.short_writes + short
+  pub asks : new.asks ≡ old.asks + short + n
+
 -- the first amount bytes were sent, or all where there are fewer; where that failed, those that the writer took, and not
 -- all of them. For each byte that went out there were at most 64 interrupted writes, and 64 more before a failure. The
--- stream isn't called where there is nothing to send, and else its last write offered something
+-- stream isn't called where there is nothing to send, and else its last write offered something. Just that one took all
+-- that it was offered, and none before a failure: so each write offered all that was left
 pub record Sends (amount : ℕ) (old : Block) (log : StreamLog) (answer : Result (Unit {0}) Error) (new : Block)
     (log' : StreamLog) : Type 0 where
   pub count : ℕ
@@ -85,5 +94,8 @@ pub record Sends (amount : ℕ) (old : Block) (log : StreamLog) (answer : Result
   pub failed : IfErr answer (λ e. SendFailed interrupts log.writes log'.writes e)
   pub idle : min amount (length old.bytes) ≡ 0 → log' ≡ log
   pub offered : 0 < min amount (length old.bytes) → 0 < log'.writes.offer
+  pub whole_writes : MatchResult answer
+      (λ _. 0 < min amount (length old.bytes) → WholeWrites 1 log.writes log'.writes)
+      (λ _. WholeWrites 0 log.writes log'.writes)
   pub few : MatchResult answer (λ _. length interrupts ≤ 64 * count)
       (λ _. length interrupts ≤ 64 * count + 64)

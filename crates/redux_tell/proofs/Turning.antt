@@ -5,7 +5,7 @@ use Rattle.std.specs.IoError.{error_kind}
 use Rattle.std.specs.List.{All}
 use Rattle.std.specs.declared.io.Error.{Error}
 use Rattle.std.specs.declared.io.ErrorKind.TheVariants.{Interrupted}
-use Rattle.redux_tell.specs.Copy.{MovedBy, FillsMade, CopiesOn, CopyTurn, CopyRetried, FaultsRise, FaultsAtMost, consumed_since}
+use Rattle.redux_tell.specs.Copy.{MovedBy, FillsMade, WritesEachFill, CopiesOn, CopyTurn, CopyRetried, FaultsRise, FaultsAtMost, consumed_since}
 use Rattle.redux_tell.specs.CopyLaws.{TurnAnswers-after}
 use Rattle.redux_tell.specs.Faults.{IsInterrupt, MetInterrupts, OnlyInterrupts-none, OnlyInterrupted-none}
 use Rattle.redux_tell.specs.StreamLog.{StreamLog, FillLog, WriteLog, after_fill_fault, after_shown, after_write, with_end}
@@ -38,6 +38,8 @@ module _ {W : Type 0} (tells : W → StreamLog) (stretch call : W → W → Type
       let kept = still from.fills (after_fill_fault from shown e).fills (tells w).writes (tells w).writes refl refl refl refl in
       let fills : FillsMade 0 from.fills (after_fill_fault from shown e).fills (tells w).writes (tells w).writes =
       omega (arith, length-append from.fills.faults (e ∷ [])) in
+      let writes : WritesEachFill from.fills (after_fill_fault from shown e).fills (tells w).writes (tells w).writes =
+      omega (arith, length-append from.fills.faults (e ∷ [])) in
       record {
         answers = record {
           copies = tt;
@@ -54,16 +56,20 @@ module _ {W : Type 0} (tells : W → StreamLog) (stretch call : W → W → Type
           });
           kept = kept;
           spent = fills;
+          writes = writes;
         };
         interrupted = λ is. record {
           moved = kept;
           ends = le_refl _;
           fills = fills;
+          writes = writes;
           reader = record { interrupts = e ∷ []; interrupted = one_interrupt e is; faults = refl };
           writer = none;
         };
         one_fill = refl;
         one_write = λ same. absurd (omega (arith, same, length-append from.fills.faults (e ∷ [])));
+        offered = tt;
+        called = λ same. absurd (omega (arith, same, length-append from.fills.faults (e ∷ [])));
         no_write = λ more. refl;
         none_ended = tt;
         ended_once = omega arith;
@@ -81,6 +87,7 @@ module _ {W : Type 0} (tells : W → StreamLog) (stretch call : W → W → Type
       let ends = end_counted from.fills.zero_fills bytes in
       let fills : FillsMade 0 from.fills (after_shown from bytes).fills (tells w).writes (tells w').writes =
       omega (arith, ap length faults, length-append (tells w).writes.faults (e ∷ [])) in
+      let once = ap (λ l. l.writes.asks) told in
       record {
         answers = record {
           copies = tt;
@@ -99,11 +106,13 @@ module _ {W : Type 0} (tells : W → StreamLog) (stretch call : W → W → Type
           });
           kept = kept;
           spent = fills;
+          writes = omega (arith, once);
         };
         interrupted = λ is. record {
           moved = kept;
           ends = ends.0;
           fills = fills;
+          writes = omega (arith, once);
           reader = OnlyInterrupts-none from.fills.faults;
           writer = record {
             interrupts = e ∷ [];
@@ -115,7 +124,9 @@ module _ {W : Type 0} (tells : W → StreamLog) (stretch call : W → W → Type
           };
         };
         one_fill = refl;
-        one_write = λ same. called;
+        one_write = λ same. once;
+        offered = tt;
+        called = λ same. called;
         no_write = λ more. absurd (omega (arith, more));
         none_ended = tt;
         ended_once = ends.1;

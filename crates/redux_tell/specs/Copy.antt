@@ -22,11 +22,17 @@ FillsMade n from from' to to' =
     from'.asks + from.consumes + (length from.faults + length to.faults)
     ≡ from.asks + from'.consumes + (length from'.faults + length to'.faults) + n
 
+-- a write was made for each fill that didn't fail
+abbrev pub WritesEachFill : FillLog → FillLog → WriteLog → WriteLog → Type 0
+WritesEachFill from from' to to' =
+    to'.asks + from.asks + length from'.faults ≡ to.asks + from'.asks + length from.faults
+
 -- turns that moved n bytes, in which the streams were at most interrupted. Each moved a byte, or was interrupted
 pub record CopiesOn (n : ℕ) (from from' : FillLog) (to to' : WriteLog) : Type 0 where
   pub moved : MovedBy n from from' to to'
   pub ends : from.zero_fills ≤ from'.zero_fills
   pub fills : FillsMade 0 from from' to to'
+  pub writes : WritesEachFill from from' to to'
   pub reader : OnlyInterrupts from.faults from'.faults
   pub writer : MetInterrupts to to'
 
@@ -110,16 +116,19 @@ pub record TurnAnswers {W : Type 0} (tells : W → StreamLog) (stretch call : W 
   pub failed : IfErr result (λ e. StreamFailed tells stretch call e from from' w w')
   pub kept : OnErr result (MovedBy 0 from from' (tells w).writes (tells w').writes)
   pub spent : OnErr result (FillsMade 0 from from' (tells w).writes (tells w').writes)
+  pub writes : WritesEachFill from from' (tells w).writes (tells w').writes
 
--- one turn of a copy: one fill, then one write, none where the fill failed, and so one consume where bytes went over; a
--- failure is one fault, which moved nothing
+-- one turn of a copy: one fill, then one write of all that it shows, none where the fill failed, and so one consume where
+-- bytes went over; a failure is one fault, which moved nothing
 pub record CopyTurn {W : Type 0} (tells : W → StreamLog) (stretch call : W → W → Type 0) (result : Result ℕ Error)
     (from from' : FillLog) (w w' : W) : Type 0 where
   pub answers : TurnAnswers tells stretch call result from from' w w'
   pub interrupted : IfErr result
       (λ e. error_kind e ≡ Interrupted → CopiesOn 0 from from' (tells w).writes (tells w').writes)
   pub one_fill : from'.asks ≡ from.asks + 1
-  pub one_write : length from'.faults ≡ length from.faults → call w w'
+  pub one_write : length from'.faults ≡ length from.faults → (tells w').writes.asks ≡ (tells w).writes.asks + 1
+  pub offered : IfOk result (λ n. (tells w').writes.offer ≡ n + length from'.shown)
+  pub called : length from'.faults ≡ length from.faults → call w w'
   pub no_write : length from.faults < length from'.faults → w' ≡ w
   pub none_ended : IfOk result (λ n. 0 < n → from'.zero_fills ≡ from.zero_fills)
   pub ended_once : from'.zero_fills ≤ from.zero_fills + 1
@@ -138,7 +147,7 @@ pub record CopyRetried {W : Type 0} (tells : W → StreamLog) (stretch call : W 
       (λ _. FaultsAtMost 65 from from' (tells w).writes (tells w').writes)
 
 -- a whole copy: at Ok it ended, and the total is the number of bytes that went over; at an `Err` some went over, and
--- `Interrupted` comes only after 64 more such faults; and each fill was one of a turn
+-- `Interrupted` comes only after 64 more such faults; and each fill and each write was one of a turn
 pub record CopyBuf {W : Type 0} (tells : W → StreamLog) (stretch call : W → W → Type 0) (result : Result ℕ Error)
     (from from' : FillLog) (w w' : W) : Type 0 where
   pub moved : MatchResult result
@@ -152,6 +161,7 @@ pub record CopyBuf {W : Type 0} (tells : W → StreamLog) (stretch call : W → 
   pub fills : MatchResult result
       (λ _. FillsMade 1 from from' (tells w).writes (tells w').writes)
       (λ _. FillsMade 0 from from' (tells w).writes (tells w').writes)
+  pub writes : WritesEachFill from from' (tells w).writes (tells w').writes
 
 -- the writer received just what the reader, of which all that is left is known, lost
 pub record MovesKnown (left left' : Option (List ℕ)) (to to' : WriteLog) : Type 0 where

@@ -37,6 +37,7 @@ CopiesOn-none from to = record {
   moved = MovedBy-none from to;
   ends = le_refl _;
   fills = omega arith;
+  writes = omega arith;
   reader = OnlyInterrupts-none from.faults;
   writer = record { interrupts = []; only = OnlyInterrupted-none to };
 }
@@ -48,6 +49,7 @@ module _ {n : ℕ} {a b : FillLog} {x y : WriteLog} (before : CopiesOn n a b x y
     moved = MovedBy-joins n k a b c x y z before.moved last.moved;
     ends = le_trans before.ends last.ends;
     fills = omega (arith, before.fills, last.fills);
+    writes = omega (arith, before.writes, last.writes);
     reader = OnlyInterrupts-joins a.faults b.faults c.faults before.reader last.reader;
     writer = MetInterrupts-joins x y z before.writer last.writer;
   }
@@ -107,6 +109,7 @@ module _ {W : Type 0} (tells : W → StreamLog) (stretch call : W → W → Type
     failed = tt;
     kept = tt;
     spent = tt;
+    writes = omega (arith, before.writes, turn.writes);
   }
   TurnAnswers-after (Err e) turn = record {
     copies = tt;
@@ -116,6 +119,7 @@ module _ {W : Type 0} (tells : W → StreamLog) (stretch call : W → W → Type
     last = λ is. omega (arith, before.fills, turn.last is);
     kept = MovedBy-still before.moved turn.kept;
     spent = omega (arith, before.fills, turn.spent);
+    writes = omega (arith, before.writes, turn.writes);
   }
 
 -- how much went over in a copy, whatever it answered

@@ -3,7 +3,7 @@ use Rattle.std.specs.Prelude.{◌≡◌, ℕ, ◌≤◌, ◌⊎◌, List, [], �
 use Rattle.std.proofs.Common.{◌∙◌, inl, inr, refl, le_refl, le_trans, subst, sym, arith}
 use Rattle.std.specs.declared.io.Error.{Error}
 use Rattle.redux_tell.specs.GoesOn.{GoesOn, GoesOn-none, GoesOn-joins}
-use Rattle.redux_tell.specs.StreamLog.{ReadLog, WriteLog, FillLog, StreamLog, portion, with_zero, with_fault, with_flush, after_read, after_write, after_flush}
+use Rattle.redux_tell.specs.StreamLog.{ReadLog, WriteLog, FillLog, StreamLog, portion, with_zero, with_short, with_fault, with_flush, after_read, after_write, after_flush}
 
 pub record ReadLogGrows (old new : ReadLog) : Type 0 where
   pub given : GoesOn old.given new.given
@@ -19,6 +19,8 @@ pub record FlushedSince (old new : WriteLog) : Type 0 where
 pub record WriteLogGrows (old new : WriteLog) : Type 0 where
   pub received : GoesOn old.received new.received
   pub flushed : (new.flushed ≡ old.flushed) ⊎ FlushedSince old new
+  pub asks : old.asks ≤ new.asks
+  pub short_writes : old.short_writes ≤ new.short_writes
   pub zero_writes : old.zero_writes ≤ new.zero_writes
   pub faults : GoesOn old.faults new.faults
 
@@ -63,13 +65,21 @@ flushed-joins a b c first second before (inr since) = inr (record {
 })
 
 pub WriteLogGrows-none : (s : WriteLog) → WriteLogGrows s s
-WriteLogGrows-none s = record
-    { received = GoesOn-none s.received; flushed = inl refl; zero_writes = le_refl _; faults = GoesOn-none s.faults }
+WriteLogGrows-none s = record {
+  received = GoesOn-none s.received;
+  flushed = inl refl;
+  asks = le_refl _;
+  short_writes = le_refl _;
+  zero_writes = le_refl _;
+  faults = GoesOn-none s.faults;
+}
 
 pub WriteLogGrows-joins : (a b c : WriteLog) → WriteLogGrows a b → WriteLogGrows b c → WriteLogGrows a c
 WriteLogGrows-joins a b c p q = record {
   received = GoesOn-joins a.received b.received c.received p.received q.received;
   flushed = flushed-joins a b c p.received q.received p.flushed q.flushed;
+  asks = le_trans p.asks q.asks;
+  short_writes = le_trans p.short_writes q.short_writes;
   zero_writes = le_trans p.zero_writes q.zero_writes;
   faults = GoesOn-joins a.faults b.faults c.faults p.faults q.faults;
 }
@@ -97,6 +107,10 @@ zero_rises : (answer : Result ℕ Error) (buf : List ℕ) (z : ℕ) → z ≤ wi
 zero_rises (Ok n) buf z = grind arith
 zero_rises (Err e) buf z = le_refl z
 
+short_rises : (answer : Result ℕ Error) (buf : List ℕ) (n : ℕ) → n ≤ with_short n buf answer
+short_rises (Ok n) buf before = grind arith
+short_rises (Err e) buf before = omega arith
+
 fault_goes_on : {A : Type 0} (answer : Result A Error) (faults : List Error)
     → GoesOn faults (with_fault faults answer)
 fault_goes_on (Ok a) faults = GoesOn-none faults
@@ -122,6 +136,8 @@ pub WriteLogGrows-write : (log : StreamLog) (buf : List ℕ) (answer : Result �
 WriteLogGrows-write log buf answer = record {
   received = record { more = portion buf answer; equal = refl };
   flushed = inl refl;
+  asks = omega arith;
+  short_writes = short_rises answer buf log.writes.short_writes;
   zero_writes = zero_rises answer buf log.writes.zero_writes;
   faults = fault_goes_on answer log.writes.faults;
 }
@@ -134,6 +150,8 @@ WriteLogGrows-flush log answer = record {
     | inl same ↦ inl same
     | inr since ↦ inr (record { all = since.all; front = since.front })
   ];
+  asks = le_refl _;
+  short_writes = le_refl _;
   zero_writes = le_refl _;
   faults = fault_goes_on answer log.writes.faults;
 }

@@ -1,5 +1,5 @@
 -- What a stream tells of its own calls, and what each call adds to it.
-use Rattle.std.specs.Prelude.{◌≡◌, ℕ, ◌+◌, ◌<◌, ◌⊎◌, List, [], ◌∷◌, ◌++◌, length, take, drop, Result, Ok, Err, ◌&&◌, ◌==◌, nat_lt, if◌then◌else◌}
+use Rattle.std.specs.Prelude.{◌≡◌, ℕ, ◌+◌, ◌<◌, ◌≤◌, ◌⊎◌, List, [], ◌∷◌, ◌++◌, length, take, drop, Result, Ok, Err, ◌&&◌, ◌==◌, nat_lt, if◌then◌else◌}
 use Rattle.std.proofs.Common.{arith}
 use Rattle.std.specs.Borrow.{Bor}
 use Rattle.std.specs.declared.io.Error.{Error}
@@ -16,10 +16,13 @@ pub record ReadLog : Type 0 where
   pub faults : List Error
 
 -- what a writer tells of its writes and flushes: the bytes that it took, those that it had taken at its last Ok flush,
--- the length of the last slice, its `Ok(0)` to slices that were not empty, and its faults
+-- the writes that it answered, those that fell short, as they took less than they were offered or failed, the length of
+-- the last slice, its `Ok(0)` to slices that were not empty, and its faults
 pub record WriteLog : Type 0 where
   pub received : List ℕ
   pub flushed : List ℕ
+  pub asks : ℕ
+  pub short_writes : ℕ
   pub offer : ℕ
   pub zero_writes : ℕ
   pub faults : List Error
@@ -54,7 +57,7 @@ pub record StreamLog : Type 0 where
 abbrev pub no_calls : StreamLog
 no_calls = record {
   reads = record { given = []; asks = 0; offer = 0; zero_reads = 0; faults = [] };
-  writes = record { received = []; flushed = []; offer = 0; zero_writes = 0; faults = [] };
+  writes = record { received = []; flushed = []; asks = 0; short_writes = 0; offer = 0; zero_writes = 0; faults = [] };
   fills = record { shown = []; consumed = []; asks = 0; consumes = 0; zero_fills = 0; faults = [] };
   seeks = record { calls = []; faults = [] };
 }
@@ -77,6 +80,18 @@ zero_of_some n buf before some = grind arith
 pub zero_of_none : (n : ℕ) (buf : List ℕ) (before : ℕ) → n ≡ 0 → 0 < length buf
     → with_zero before buf (Ok n) ≡ before + 1
 zero_of_none n buf before none some = grind arith
+
+-- an answer that takes less than it was offered is counted, and so is an `Err`
+abbrev pub with_short : ℕ → List ℕ → Result ℕ Error → ℕ
+with_short before bs (Ok n) = if nat_lt n (length bs) then before + 1 else before
+with_short before bs (Err e) = before + 1
+
+-- what took less is counted, and what took all is not
+pub short_of_less : (n : ℕ) (bs : List ℕ) (before : ℕ) → n < length bs → with_short before bs (Ok n) ≡ before + 1
+short_of_less n bs before less = grind arith
+
+pub short_of_all : (n : ℕ) (bs : List ℕ) (before : ℕ) → length bs ≤ n → with_short before bs (Ok n) ≡ before
+short_of_all n bs before all = grind arith
 
 -- an `Err` adds its error, and an `Ok` nothing
 abbrev pub with_fault : {A : Type 0} → List Error → Result A Error → List Error
@@ -106,6 +121,8 @@ after_write log buf answer = record log {
   writes = record {
     received = log.writes.received ++ portion buf answer;
     flushed = log.writes.flushed;
+    asks = log.writes.asks + 1;
+    short_writes = with_short log.writes.short_writes buf answer;
     offer = length buf;
     zero_writes = with_zero log.writes.zero_writes buf answer;
     faults = with_fault log.writes.faults answer;
@@ -118,6 +135,8 @@ after_flush log answer = record log {
   writes = record {
     received = log.writes.received;
     flushed = with_flush log.writes.flushed log.writes.received answer;
+    asks = log.writes.asks;
+    short_writes = log.writes.short_writes;
     offer = log.writes.offer;
     zero_writes = log.writes.zero_writes;
     faults = with_fault log.writes.faults answer;

@@ -17,6 +17,7 @@ returns-in_err-taken-clause-copied g c =
       often = λ is. omega (arith, turn.often is, faults_come before.copies);
       few = omega (arith, before.few, turn.few, moved_count moved);
       fills = omega (arith, before.copies.fills, turn.answers.spent);
+      writes = omega (arith, before.copies.writes, turn.answers.writes);
     })
 
 pub returns-in_err-taken-clause-reader : goal.returns-in_err-taken-clause-reader
@@ -39,6 +40,7 @@ returns-then-taken-eq0-clause-copied g c =
       often = tt;
       few = omega (arith, before.few, turn.few, moved_count moved);
       fills = omega (arith, before.copies.fills, turn.answers.last (cc));
+      writes = omega (arith, before.copies.writes, turn.answers.writes);
     }
 
 pub turns-preserved : goal.turns-preserved
@@ -71,4 +73,5 @@ returns-in-None-clause-copied g c =
       often = search rules;
       few = omega (arith, before.few, turn.few, moved_count copies.moved);
       fills = copies.fills;
+      writes = copies.writes;
     }

@@ -1,3 +1,4 @@
+use Rattle.std.proofs.Common.{◌+◌, length, ap, arith, rules, length-drop}
 use Rattle.std.proofs.lemmas.Result.{err_from_is_err_and}
 use Rattle.redux_tell.proofs.Turning.{not_filled, not_written}
 use Rattle.redux_tell.proofs.copy.copy_turn.Goals as goal
@@ -17,3 +18,27 @@ returns-in-Err-clause-turn g c =
     rw filled.1
     (not_filled g.W.Tell.log g.W.TellWrite.stretch g.W.TellWrite.call (g.B.Tell.log c.args.b.now) c.args.w.now filled.0
     c.in-Err.e)
+
+pub returns-clause-turn : goal.returns-clause-turn
+returns-clause-turn g c =
+    let filled = (rw c.in-Ok.is at c.fill_told.follows.holds-at-none).0.0 in
+    let wrote = c.in_ok-taken-in-Ok.ensures in
+    record {
+      answers = search rules;
+      interrupted = tt;
+      one_fill = search rules;
+      one_write = search rules;
+      offered = omega (
+        arith,
+        wrote.bound,
+        ap (λ l. l.writes.offer) wrote.told,
+        ap (λ l. length l.fills.shown) filled,
+        ap (λ l. length l.fills.shown) c.consume_told.ensures.told,
+        length-drop c.in_ok-taken-in-Ok.taken (g.B.Tell.log c.fill_told.follows.lender-at-none).fills.shown,
+      );
+      called = search rules;
+      no_write = search rules;
+      none_ended = search rules;
+      ended_once = search rules;
+      one_fault = search rules;
+    }

@@ -1,7 +1,7 @@
 use Rattle.std.proofs.Common.{◌≡◌, ◌≤◌, ◌<◌, ◌+◌, ◌-◌, [], ◌++◌, length, arith, rules, ap, ◌∙◌, length-append, length-drop, length-take-le}
 use Rattle.std.proofs.lemmas.Result.{err_from_is_err_and}
 use Rattle.redux_tell.specs.Faults.{OnlyInterrupted-none}
-use Rattle.redux_buffer.proofs.Sending.{Sent-more, only_more, sends_failed, sends_nothing}
+use Rattle.redux_buffer.proofs.Sending.{Sent-more, only_more, short_more, whole_more, sends_failed, sends_nothing}
 use Rattle.redux_buffer.proofs.buffer.Buffer.write_max.Goals as goal
 
 pub returns-in_err-n-clause-sent : goal.returns-in_err-n-clause-sent
@@ -12,7 +12,7 @@ returns-in_err-n-clause-sent g c =
     let left = c.loop-left.left in
     let size = length-take-le left c.loop-left.self.bytes inv.room in
     rw (p.1, p.2) (sends_failed inv.count inv.interrupts left _ _ _ _ _ inv.sent inv.only inv.few
-    c.args.max c.in_err-n.field-0.0 (omega (arith, inv.rest)) (omega (arith, size)) wrote)
+    c.args.max c.in_err-n.field-0.0 (inv.short (omega arith)) (omega (arith, inv.rest)) (omega (arith, size)) wrote)
 
 pub returns-then-n-eq0-clause-sent : goal.returns-then-n-eq0-clause-sent
 returns-then-n-eq0-clause-sent g c =
@@ -21,7 +21,7 @@ returns-then-n-eq0-clause-sent g c =
     let wrote = rw c.buf.ensures at c.in_ok-n.ensures.wrote in
     let size = length-take-le left c.loop-left.self.bytes inv.room in
     sends_nothing inv.count inv.interrupts left _ _ _ _ _ inv.sent inv.only inv.few c.args.max c.in_ok-n.n c.from.result
-    (omega (arith, inv.rest)) c.if-n-eq0.true (omega (arith, size)) c.from.ensures wrote
+    (inv.short (omega arith)) (omega (arith, inv.rest)) c.if-n-eq0.true (omega (arith, size)) c.from.ensures wrote
 
 pub loop-left-init : goal.loop-left-init
 loop-left-init g c = record {
@@ -34,6 +34,8 @@ loop-left-init g c = record {
   few = omega arith;
   untouched = search rules;
   offered = omega arith;
+  short = λ _. record { short = 0; fell_short = omega arith; asks = omega arith };
+  last = λ _ some. absurd (omega (arith, some));
   stretch = search rules;
   whole = search rules;
 }
@@ -60,6 +62,10 @@ loop-left-preserved g c =
       only = only_more inv.count inv.interrupts left _ _ _ _ _ inv.sent inv.only inv.few n some wrote;
       few = omega (arith, inv.few, wrote.most, some, length-append inv.interrupts wrote.interrupts);
       offered = λ _. omega (arith, some, fits, size, wrote.offered);
+      short = λ more. short_more inv.count inv.interrupts left _ _ _ _ _ inv.sent inv.only inv.few n
+          (inv.short (omega (arith, some, fits))) wrote (omega (arith, more, size));
+      last = λ none _. whole_more inv.count inv.interrupts left _ _ _ _ _ inv.sent inv.only inv.few n
+          (inv.short (omega (arith, some, fits))) wrote (omega (arith, none, size));
       untouched = λ none. absurd (c.if-n-eq0.false (omega (arith, none)));
       stretch = g.met.W.TellWrite.stretch_joins _ _ _ inv.stretch c.in_ok-n.ensures.stretch;
       whole = c.consume.ensures.whole;

@@ -2,7 +2,7 @@ use Rattle.std.proofs.Common.{◌≡◌, ◌<◌, ◌≤◌, ◌+◌, ◌*◌, �
 use Rattle.std.specs.declared.io.Error.{Error}
 use Rattle.redux_buffer.specs.Block.{IsBlock}
 use Rattle.redux_tell.specs.Faults.{OnlyInterrupted}
-use Rattle.redux_buffer.specs.Transfer.{Sent}
+use Rattle.redux_buffer.specs.Transfer.{Sent, WholeWrites}
 use Rattle.redux_buffer.proofs.buffer.Buffer.write_max.Given as goal
 
 abbrev pub invariant-loop-left : goal.invariant-loop-left
@@ -15,6 +15,8 @@ invariant-loop-left g l = record {
   only : OnlyInterrupted interrupts (g.W.Tell.log l.initial.wrt).writes (g.W.Tell.log l.wrt).writes;
   few : length interrupts ≤ 64 * count;
   offered : 0 < count → 0 < (g.W.Tell.log l.wrt).writes.offer;
+  short : 0 < l.left → WholeWrites 0 (g.W.Tell.log l.initial.wrt).writes (g.W.Tell.log l.wrt).writes;
+  last : l.left ≡ 0 → 0 < count → WholeWrites 1 (g.W.Tell.log l.initial.wrt).writes (g.W.Tell.log l.wrt).writes;
   untouched : count ≡ 0 → (l.wrt ≡ l.initial.wrt) × (l.self ≡ l.initial.self);
   stretch : g.W.TellWrite.stretch l.initial.wrt l.wrt;
   whole : IsBlock l.self;
