@@ -1,6 +1,5 @@
 pub mod Lengths
 pub mod Ending
 pub mod Loading
-pub mod TakingIn
 pub mod Stepping
 pub mod Recording

@@ -1,5 +1,5 @@
 -- What the steps of `load` come to: the frame that was lent is dropped, and the buffer is filled once or twice.
-use Rattle.std.proofs.Common.{◌≡◌, ℕ, ◌+◌, ◌<◌, ◌≤◌, ◌⊎◌, ◌^◌, List, [], ◌∷◌, ◌++◌, length, length-take-le, length-drop, ◌-◌, drop, take, refl, sym, ap, ◌∙◌, arith, inl, inr, append-nil, append_assoc, length-append, Option, Ok, Err, Some, None}
+use Rattle.std.proofs.Common.{◌≡◌, ℕ, ◌+◌, ◌<◌, ◌≤◌, ◌⊎◌, ◌^◌, List, [], ◌∷◌, ◌++◌, length, length-take-le, length-drop, ◌-◌, drop, take, refl, sym, ap, subst, ◌∙◌, arith, inl, inr, append-nil, append_assoc, length-append, Option, Ok, Err, Some, None}
 use Rattle.std.proofs.lemmas.List.{append_cancel_left, nil_from_length, take-append-drop}
 use Rattle.std.specs.Prelude.{slice_range}
 use Rattle.std.proofs.Math.Seq.{drop-append-add}
@@ -11,7 +11,7 @@ use Rattle.frame_reader.specs.Frames.{Fits, header, frame, BeginsWith, IsCutShor
 use Rattle.frame_reader.specs.Framing.{Framing, IsFraming, rest}
 use Rattle.frame_reader.specs.Next.{FramesWent, IsSettled, Next, empties}
 use Rattle.frame_reader.specs.FramesLaws.{header-same}
-use Rattle.frame_reader.specs.NextLaws.{FramesWent-joins}
+use Rattle.frame_reader.specs.NextLaws.{FramesWent-joins, FramesWent-none}
 
 -- what is settled has a length
 settled_long : (max : ℕ) (bytes : List ℕ) → IsSettled max bytes → 2 ≤ length bytes
@@ -268,3 +268,14 @@ module _ {S : Type 0} (remaining : S → Option (List ℕ)) (s m u : Framing S)
                 ahead = whole2.ahead;
               };
             }
+
+-- a whole frame that stands behind the one that was lent is lent where that is dropped
+pub next_buffered : {S : Type 0} (remaining : S → Option (List ℕ)) (s m : Framing S) → FramesWent remaining s [] m
+    → rest m ≡ rest s → m.lent ≡ 0 → m.reader.log ≡ s.reader.log → IsFraming m
+    → (len : ℕ) → BeginsWith len (rest s) → len ≤ s.max → 2 + len ≤ length (rest s)
+    → Next remaining s (Ok (Some (slice_range m.reader.block.bytes 2 (2 + len)))) (record m { lent = 2 + len })
+next_buffered remaining s m went same none told whole len begins fits long =
+    let bytes : rest s ≡ m.reader.block.bytes = sym same ∙ rest_whole m none in
+    let still = FramesWent-none remaining m in
+    found remaining s m m went same none told still none (λ _. refl) whole len (subst (BeginsWith len) bytes begins) refl refl
+    fits m still none (λ _. refl) whole refl (omega (arith, long, ap length bytes)) refl

@@ -1,5 +1,5 @@
 -- One step of a loop over payloads.
-use Rattle.std.proofs.Common.{refl, ◌≡◌, ℕ, suc, ◌+◌, ◌<◌, ◌≤◌, List, [], ◌∷◌, ◌++◌, length, map, take, drop, sym, ap, subst, ◌∙◌, arith, append_assoc, append-nil, get_or, inl, inr}
+use Rattle.std.proofs.Common.{refl, ◌≡◌, ℕ, suc, ◌+◌, ◌<◌, ◌≤◌, List, [], ◌∷◌, ◌++◌, length, map, take, drop, sym, ap, subst, ◌∙◌, arith, append_assoc, append-nil, length-append, get_or, inl, inr}
 use Rattle.std.specs.Prelude.{Option, None, Some, Ok, Err}
 use Rattle.std.specs.IoError.{error_kind}
 use Rattle.std.specs.List.{All}
@@ -17,7 +17,7 @@ use Rattle.frame_reader.specs.KnownFrames.{HasLeft, LeavesFrames, ReadStopped}
 use Rattle.frame_reader.specs.KnownFramesLaws.{Next-known}
 use Rattle.frame_reader.specs.Next.{Next, NoFault}
 use Rattle.frame_reader.specs.Outgoing.{Outgoing}
-use Rattle.frame_reader.specs.Runs.{AllRead, AllWritten, NextFails, NextRuns, WriteRuns, WriteStopped, WritesEach}
+use Rattle.frame_reader.specs.Runs.{AllRead, AllWritten, NextFails, NextRuns, WriteRuns, WriteStopped, WritesEach, found_each}
 use Rattle.frame_reader.specs.RunsLaws.{AllWritten-more, AllWritten-taken, NextRuns-more, WriteRuns-more}
 use Rattle.frame_reader.specs.WriteFrame.{FramesTaken, IsFault, WriteAnswer, WritesFrame}
 use Rattle.frame_reader.specs.WriteFrameLaws.{FramesTaken-joins}
@@ -107,7 +107,7 @@ pub record ReadsAll {S : Type 0} (remaining : S → Option (List ℕ)) (s : Fram
   pub max : t.max ≡ s.max
   pub has : HasLeft remaining t left
   pub no_fault : NoFault s t
-  pub run : NextRuns remaining s (map (λ payload. Ok (Some payload)) kept) t
+  pub run : NextRuns remaining s (found_each kept) t
 
 module _ {V S : Type 0} (f : V → List ℕ) (vs : List V) (i : ℕ) (remaining : S → Option (List ℕ)) (s m : Framing S)
     (kept : List (List ℕ)) (fit : All (Fits s.max) (map f vs))
@@ -125,7 +125,10 @@ module _ {V S : Type 0} (f : V → List ℕ) (vs : List V) (i : ℕ) (remaining 
     later = map f (drop i vs);
     all = sym so_far.all_are;
     left = Next-known remaining m t (Err (why.Io e)) (map f (drop i vs)) next left_fit so_far.has;
-    failed = inr (next.answers.0 ∙ ap (λ l. l ++ e ∷ []) so_far.no_fault);
+    failed = inr (
+      NextRuns-more remaining s (found_each kept) m (Err (why.Io e)) t so_far.run next,
+      next.answers.0 ∙ ap (λ l. l ++ e ∷ []) so_far.no_fault,
+    );
   }
 
   module _ (x : V) (inside : i < length vs) (is : x ≡ get_or vs i x) (t : Framing S) where
@@ -151,7 +154,7 @@ module _ {V S : Type 0} (f : V → List ℕ) (vs : List V) (i : ℕ) (remaining 
           no_fault = next.answers.1 ∙ so_far.no_fault;
           run = subst (λ answers. NextRuns remaining s answers t)
               (sym (map-append (λ payload. Ok (Some payload)) kept (found ∷ [])))
-              (NextRuns-more remaining s (map (λ payload. Ok (Some payload)) kept) m (Ok (Some found)) t so_far.run next);
+              (NextRuns-more remaining s (found_each kept) m (Ok (Some found)) t so_far.run next);
         }
 
     pub read_lost : (found : List ℕ) (e : Error) → error_kind e ≡ OutOfMemory → Next remaining m (Ok (Some found)) t
@@ -163,7 +166,7 @@ module _ {V S : Type 0} (f : V → List ℕ) (vs : List V) (i : ℕ) (remaining 
           later = map f (drop (i + 1) vs);
           all = sym more.all_are;
           left = more.has;
-          failed = inl (memory, more.no_fault);
+          failed = inl (memory, omega (arith, length-append kept (found ∷ [])), more.run, more.no_fault);
         }
 
     pub read_fails : (e : Error) → NextFails remaining m e t → ReadStopped remaining s (map f vs) e t
@@ -190,4 +193,4 @@ module _ {V S : Type 0} (f : V → List ℕ) (vs : List V) (i : ℕ) (remaining 
 
     pub read_all : (t : Framing S) → Next remaining m (Ok None) t → AllRead remaining s (map f vs) t
     read_all t next = subst (λ l. AllRead remaining s l t) all_kept
-        (NextRuns-more remaining s (map (λ payload. Ok (Some payload)) kept) m (Ok None) t so_far.run next)
+        (NextRuns-more remaining s (found_each kept) m (Ok None) t so_far.run next)

@@ -11,7 +11,7 @@ use Rattle.frame_reader.specs.Frames.{Fits, header, frame, frames, IsCutShort, B
 use Rattle.frame_reader.specs.FramesLaws.{header-same, frame-same}
 use Rattle.frame_reader.specs.Framing.{Framing, IsFresh, rest}
 use Rattle.frame_reader.specs.KnownFrames.{HasLeft, NextKnown, ahead_of}
-use Rattle.frame_reader.specs.Next.{Next, NextAnswer, handed}
+use Rattle.frame_reader.specs.Next.{Next, NextAnswer, payloads_of}
 use Rattle.frame_reader.specs.NextLaws.{drop_none}
 
 -- of known bytes that lost some, just the others are left
@@ -76,11 +76,11 @@ begins_longer len bytes more all is begins = record {
 
 module _ {S : Type 0} (remaining : S → Option (List ℕ)) (s t : Framing S) where
   goes : (answer : NextAnswer) → Next remaining s answer t
-      → Consumes (ahead_of remaining s) (ahead_of remaining t) (frames (handed answer))
+      → Consumes (ahead_of remaining s) (ahead_of remaining t) (frames (payloads_of answer))
   goes answer next =
       let hands = next.went.hands in
       GivesRemaining-ahead (remaining s.reader.inner) (remaining t.reader.inner) s.reader.log.reads t.reader.log.reads
-      (rest s) (rest t) (frames (handed answer)) hands.got next.went.known hands.given hands.equal
+      (rest s) (rest t) (frames (payloads_of answer)) hands.got next.went.known hands.given hands.equal
 
   -- what is buffered is all that is left, where the inner reader ran dry
   all_buffered : (known more : List ℕ) → s.reader.log.reads.zero_reads < t.reader.log.reads.zero_reads
@@ -154,9 +154,9 @@ module _ {S : Type 0} (remaining : S → Option (List ℕ)) (s t : Framing S) wh
       left.1 ∙ ap (λ l. Some l) (sym left.2)
 
 -- a reader that was just made over known frames has these left
-pub IsFresh-has : {S : Type 0} (remaining : S → Option (List ℕ)) (tells : S → StreamLog) (max : ℕ) (stream : S)
-    (f : Framing S) (payloads : List (List ℕ)) → IsFresh tells max stream f → remaining stream ≡ Some (frames payloads)
+pub IsFresh-has : {S : Type 0} (remaining : S → Option (List ℕ)) (tells : S → StreamLog) (size max : ℕ) (stream : S)
+    (f : Framing S) (payloads : List (List ℕ)) → IsFresh tells size max stream f → remaining stream ≡ Some (frames payloads)
     → HasLeft remaining f payloads
-IsFresh-has remaining tells max stream f payloads fresh is =
+IsFresh-has remaining tells size max stream f payloads fresh is =
     ap (λ l. prepend_known l (remaining f.reader.inner)) (drop_none f.lent f.reader.block.bytes fresh.empty)
     ∙ ap (λ x. prepend_known [] (remaining x)) fresh.inner ∙ ap (λ o. prepend_known [] o) is

@@ -1,10 +1,8 @@
 -- What the calls of a reader of frames promise.
 use Rattle.std.specs.Prelude.{◌≡◌, ℕ, ◌+◌, ◌<◌, ◌⊎◌, List, [], ◌∷◌, ◌++◌, length, Option, None, Some, Result, Ok, Err, Bool, true, false, option_copied}
 use Rattle.std.specs.Borrow.{Bor}
-use Rattle.std.specs.IoError.{error_kind}
 use Rattle.std.specs.List.{All}
 use Rattle.std.specs.declared.io.Error.{Error}
-use Rattle.std.specs.declared.io.ErrorKind.TheVariants.{OutOfMemory}
 use Rattle.buffer_redux.specs.Buffered.{Buffered}
 use Rattle.buffer_redux.specs.LogGrows.{ReadLogGrows}
 use Rattle.buffer_redux.specs.BufReader.{InnerGives, RanDry}
@@ -39,15 +37,15 @@ abbrev pub NextAnswer : Type 0
 NextAnswer = Result (Option (List ℕ)) FrameError
 
 -- the answer, with the payload in place of the slice that is lent
-abbrev pub copied : Result (Option (Bor (List ℕ))) FrameError → NextAnswer
-copied (Ok found) = Ok (option_copied found)
-copied (Err e) = Err e
+abbrev pub answer_of : Result (Option (Bor (List ℕ))) FrameError → NextAnswer
+answer_of (Ok found) = Ok (option_copied found)
+answer_of (Err e) = Err e
 
 -- the payloads that an answer hands out: one, or none
-abbrev pub handed : NextAnswer → List (List ℕ)
-handed (Ok (Some payload)) = payload ∷ []
-handed (Ok None) = []
-handed (Err e) = []
+abbrev pub payloads_of : NextAnswer → List (List ℕ)
+payloads_of (Ok (Some payload)) = payload ∷ []
+payloads_of (Ok None) = []
+payloads_of (Err e) = []
 
 -- no fault was met
 abbrev pub NoFault : {S : Type 0} → Framing S → Framing S → Type 0
@@ -56,10 +54,6 @@ NoFault s t = t.reader.log.reads.faults ≡ s.reader.log.reads.faults
 -- this error is the one fault that the reader met
 abbrev pub Faulted : {S : Type 0} → Framing S → Error → Framing S → Type 0
 Faulted s e t = t.reader.log.reads.faults ≡ s.reader.log.reads.faults ++ e ∷ []
-
--- why reading failed with this error: memory was refused, and no fault was met, or it is the one fault that the reader met
-abbrev pub ReadFails : {S : Type 0} → Framing S → Error → Framing S → Type 0
-ReadFails s e t = ((error_kind e ≡ OutOfMemory) × NoFault s t) ⊎ Faulted s e t
 
 -- the reader gave nothing though it was asked for something, and met no fault
 abbrev pub Ended : {S : Type 0} → Framing S → Framing S → Type 0
@@ -92,14 +86,14 @@ ends_met (Err (Io e)) = 0
 -- what one call of `next` does. Once the reader gave nothing, it isn't asked again
 pub record Next {S : Type 0} (remaining : S → Option (List ℕ)) (s : Framing S)
     (answer : NextAnswer) (t : Framing S) : Type 0 where
-  pub went : FramesWent remaining s (handed answer) t
+  pub went : FramesWent remaining s (payloads_of answer) t
   pub answers : NextAnswers s answer t
   pub not_asked : IsSettled s.max (rest s) → t.reader.log ≡ s.reader.log
   pub once : empties t.reader ≡ empties s.reader + ends_met answer
   pub whole : IsFraming t
 
 -- what is lent once the next frame stands at the front
-abbrev pub loaded : {S : Type 0} → Result Bool FrameError → Framing S → NextAnswer
-loaded (Ok true) t = Ok (Some (lent_payload t))
-loaded (Ok false) t = Ok None
-loaded (Err e) t = Err e
+abbrev pub load_answer : {S : Type 0} → Result Bool FrameError → Framing S → NextAnswer
+load_answer (Ok true) t = Ok (Some (lent_payload t))
+load_answer (Ok false) t = Ok None
+load_answer (Err e) t = Err e

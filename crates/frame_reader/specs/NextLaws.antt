@@ -15,7 +15,7 @@ use Rattle.frame_reader.specs.declared.error.FrameError.TheVariants.{Truncated, 
 use Rattle.frame_reader.specs.Frames.{Fits, header, frame, frames, BeginsWith}
 use Rattle.frame_reader.specs.FramesLaws.{header-same, frame-same}
 use Rattle.frame_reader.specs.Framing.{Framing, IsFresh, rest}
-use Rattle.frame_reader.specs.Next.{HandsFrames, FramesWent, Next, NextAnswer, NextAnswers, handed}
+use Rattle.frame_reader.specs.Next.{HandsFrames, FramesWent, Next, NextAnswer, NextAnswers, payloads_of}
 
 -- no call hands out nothing, and calls join
 pub HandsFrames-none : {S : Type 0} (s : Framing S) → HandsFrames s [] s
@@ -72,27 +72,27 @@ drop_none n bytes none = nil_from_length (drop n bytes) (omega (arith, length-dr
 
 -- the same of a reader that was just made: what was given since is the frames that were handed out, then what is left,
 -- and no more bytes were moved than were given
-pub FramesWent-given : {S : Type 0} (remaining : S → Option (List ℕ)) (tells : S → StreamLog) (max : ℕ) (stream : S)
-    (s t : Framing S) (payloads : List (List ℕ)) → IsFresh tells max stream s → FramesWent remaining s payloads t
+pub FramesWent-given : {S : Type 0} (remaining : S → Option (List ℕ)) (tells : S → StreamLog) (size max : ℕ) (stream : S)
+    (s t : Framing S) (payloads : List (List ℕ)) → IsFresh tells size max stream s → FramesWent remaining s payloads t
     → t.reader.log.reads.given ≡ (tells stream).reads.given ++ (frames payloads ++ rest t)
-FramesWent-given remaining tells max stream s t payloads fresh went =
+FramesWent-given remaining tells size max stream s t payloads fresh went =
     went.hands.given
     ∙ ap (λ l. l.reads.given ++ went.hands.got) fresh.log
     ∙ ap (λ l. (tells stream).reads.given ++ l)
     (sym (went.hands.equal ∙ ap (λ l. l ++ went.hands.got) (drop_none s.lent s.reader.block.bytes fresh.empty)))
 
-pub FramesWent-moved : {S : Type 0} (remaining : S → Option (List ℕ)) (tells : S → StreamLog) (max : ℕ) (stream : S)
-    (s t : Framing S) (payloads : List (List ℕ)) → IsFresh tells max stream s → FramesWent remaining s payloads t
+pub FramesWent-moved : {S : Type 0} (remaining : S → Option (List ℕ)) (tells : S → StreamLog) (size max : ℕ) (stream : S)
+    (s t : Framing S) (payloads : List (List ℕ)) → IsFresh tells size max stream s → FramesWent remaining s payloads t
     → MovedAtMostGiven s.reader t.reader
-FramesWent-moved remaining tells max stream s t payloads fresh went =
+FramesWent-moved remaining tells size max stream s t payloads fresh went =
     omega (arith, went.held.held, went.held.moved, fresh.potential)
 
 -- a call that leaves the log as it is hands out what is there
 module _ {S : Type 0} (remaining : S → Option (List ℕ)) (s t : Framing S) where
   abbrev Still : NextAnswer → Type 0
-  Still answer = frames (handed answer) ++ rest t ≡ rest s
+  Still answer = frames (payloads_of answer) ++ rest t ≡ rest s
 
-  still : (answer : NextAnswer) → FramesWent remaining s (handed answer) t
+  still : (answer : NextAnswer) → FramesWent remaining s (payloads_of answer) t
       → t.reader.log ≡ s.reader.log → Still answer
   still answer went told =
       let none : went.hands.got ≡ [] = append_cancel_left s.reader.log.reads.given went.hands.got []

@@ -1,5 +1,5 @@
 -- What contracts see of a writer of frames.
-use Rattle.std.specs.Prelude.{◌≡◌, ℕ, ◌+◌, ◌-◌, ◌*◌, ◌<◌, ◌^◌, List, [], length}
+use Rattle.std.specs.Prelude.{◌≡◌, ℕ, ◌+◌, ◌-◌, ◌*◌, ◌<◌, ◌≤◌, ◌^◌, List, [], length}
 use Rattle.buffer_redux.specs.Block.{IsBlock, Plain}
 use Rattle.buffer_redux.specs.Buffered.{Buffered}
 use Rattle.buffer_redux.specs.StreamLog.{StreamLog}
@@ -23,14 +23,14 @@ pub record IsOutgoing {S : Type 0} (f : Outgoing S) : Type 0 where
   pub word : f.max < 2 ^ 16
   pub block : IsBlock f.writer.block
   pub plain : f.writer.block.kind ≡ Plain
-  pub capacity : f.writer.block.capacity ≡ 3 * (2 + f.max)
-  pub limit : f.writer.block.limit ≡ 3 * (2 + f.max)
+  pub capacity : 3 * (2 + f.max) ≤ f.writer.block.capacity
+  pub limit : f.writer.block.limit ≡ f.writer.block.capacity
 
--- just made over this stream: nothing is buffered
-pub record IsUnused {S : Type 0} (tells : S → StreamLog) (greatest : ℕ) (stream : S) (f : Outgoing S) : Type 0 where
+-- just made over this stream, with this capacity: nothing is buffered
+pub record IsUnused {S : Type 0} (tells : S → StreamLog) (size greatest : ℕ) (stream : S) (f : Outgoing S) : Type 0 where
   pub empty : unsent f ≡ []
   pub inner : f.writer.inner ≡ stream
   pub log : f.writer.log ≡ tells stream
   pub max : f.max ≡ greatest
-  pub capacity : f.writer.block.capacity ≡ 3 * (2 + greatest)
-  pub limit : f.writer.block.limit ≡ 3 * (2 + greatest)
+  pub capacity : f.writer.block.capacity ≡ size
+  pub limit : f.writer.block.limit ≡ size

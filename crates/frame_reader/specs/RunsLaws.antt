@@ -3,10 +3,10 @@ use Rattle.std.specs.Prelude.{◌≡◌, ℕ, List, [], ◌∷◌, ◌++◌, len
 use Rattle.std.proofs.Common.{sym, ap, subst, refl}
 use Rattle.std.proofs.lemmas.List.{map-append}
 use Rattle.frame_reader.specs.Framing.{Framing}
-use Rattle.frame_reader.specs.Next.{FramesWent, Next, NextAnswer, handed}
+use Rattle.frame_reader.specs.Next.{FramesWent, Next, NextAnswer, payloads_of}
 use Rattle.frame_reader.specs.NextLaws.{FramesWent-none, FramesWent-joins}
 use Rattle.frame_reader.specs.Outgoing.{Outgoing}
-use Rattle.frame_reader.specs.Runs.{NextRuns, WriteRuns, AllWritten, all_handed, all_accepted, all_ok}
+use Rattle.frame_reader.specs.Runs.{NextRuns, WriteRuns, AllWritten, all_payloads, all_accepted, all_ok}
 use Rattle.frame_reader.specs.WriteFrame.{FramesTaken, WriteAnswer, WritesFrame, accepted_frames}
 use Rattle.frame_reader.specs.WriteFrameLaws.{FramesTaken-none, FramesTaken-joins}
 
@@ -30,10 +30,10 @@ module _ {S : Type 0} (remaining : S → Option (List ℕ)) where
       (run.0, run.1, NextRuns-more run.0 answers m answer t run.2 next)
 
   pub NextRuns-went : (s : Framing S) (answers : List NextAnswer) (t : Framing S) → NextRuns remaining s answers t
-      → FramesWent remaining s (all_handed answers) t
+      → FramesWent remaining s (all_payloads answers) t
   NextRuns-went s [] t e = subst (FramesWent remaining s []) e (FramesWent-none remaining s)
   NextRuns-went s (answer ∷ answers) t run =
-      FramesWent-joins remaining s run.0 t (handed answer) (all_handed answers) run.1.went
+      FramesWent-joins remaining s run.0 t (payloads_of answer) (all_payloads answers) run.1.went
       (NextRuns-went run.0 answers t run.2)
 
 module _ {S : Type 0} (stretch : S → S → Type 0) where

@@ -1,15 +1,15 @@
 -- Laws of a writer of frames, for the proofs of those who call one.
-use Rattle.std.specs.Prelude.{◌≡◌, ℕ, List, [], ◌∷◌, ◌++◌, length}
-use Rattle.std.proofs.Common.{sym, ap, subst, ◌∙◌, refl, append-nil, append_assoc}
+use Rattle.std.specs.Prelude.{◌≡◌, ℕ, List, [], ◌++◌}
+use Rattle.std.proofs.Common.{sym, ap, subst, ◌∙◌, refl}
 use Rattle.std.proofs.lemmas.List.Concat.{flat_map-append}
-use Rattle.std.proofs.lemmas.List.Elements.{All-nil, All-append, All-cons}
+use Rattle.std.proofs.lemmas.List.Elements.{All-nil, All-append}
 use Rattle.std.specs.List.{All}
 use Rattle.buffer_redux.specs.BufWriter.{WritesInOrder}
 use Rattle.buffer_redux.specs.StreamLog.{StreamLog}
 use Rattle.buffer_redux.specs.WriterLaws.{WritesInOrder-none, WritesInOrder-joins, WritesInOrder-fresh}
-use Rattle.frame_reader.specs.Frames.{Fits, header, frame, frames}
+use Rattle.frame_reader.specs.Frames.{Fits, frame, frames}
 use Rattle.frame_reader.specs.Outgoing.{Outgoing, IsUnused, unsent}
-use Rattle.frame_reader.specs.WriteFrame.{FramesTaken, PutsIn}
+use Rattle.frame_reader.specs.WriteFrame.{FramesTaken}
 
 -- no call takes in nothing, and calls join
 pub FramesTaken-none : {S : Type 0} (stretch : S → S → Type 0) → ((x : S) → stretch x x) → (s : Outgoing S)
@@ -36,30 +36,10 @@ FramesTaken-joins stretch joins s m t ps qs p q = record {
   max = q.max ∙ p.max;
 }
 
--- a length and then a payload that are copied in are a frame
-pub FramesTaken-put : {S : Type 0} (stretch : S → S → Type 0)
-    → ((a b c : S) → stretch a b → stretch b c → stretch a c) → (s h t : Outgoing S) (payload : List ℕ)
-    → Fits s.max payload → PutsIn stretch s (header (length payload)) h → PutsIn stretch h payload t
-    → FramesTaken stretch s (payload ∷ []) t
-FramesTaken-put stretch joins s h t payload fits p q = record {
-  fit = All-cons (Fits s.max) payload [] fits (All-nil (Fits s.max));
-  in_order = record {
-    sent = [];
-    received = ap (λ l. l.writes.received) (q.told ∙ p.told) ∙ sym (append-nil s.writer.log.writes.received);
-    equal = q.added ∙ ap (λ l. l ++ payload) p.added
-        ∙ append_assoc (unsent s) (header (length payload)) payload
-        ∙ ap (λ l. unsent s ++ l) (sym (append-nil (frame payload)));
-  };
-  calls = joins s.writer.inner h.writer.inner t.writer.inner p.calls q.calls;
-  capacity = q.capacity ∙ p.capacity;
-  limit = q.limit ∙ p.limit;
-  max = q.max ∙ p.max;
-}
-
 -- since the writer was made, what the stream received, then what is buffered, is the frames that were taken in
-pub FramesTaken-since : {S : Type 0} (tells : S → StreamLog) (stretch : S → S → Type 0) (max : ℕ) (stream : S)
-    (s t : Outgoing S) (payloads : List (List ℕ)) → IsUnused tells max stream s → FramesTaken stretch s payloads t
+pub FramesTaken-since : {S : Type 0} (tells : S → StreamLog) (stretch : S → S → Type 0) (size max : ℕ) (stream : S)
+    (s t : Outgoing S) (payloads : List (List ℕ)) → IsUnused tells size max stream s → FramesTaken stretch s payloads t
     → t.writer.log.writes.received ++ unsent t ≡ (tells stream).writes.received ++ frames payloads
-FramesTaken-since tells stretch max stream s t payloads unused taken =
+FramesTaken-since tells stretch size max stream s t payloads unused taken =
     WritesInOrder-fresh s.writer t.writer (frames payloads) unused.empty taken.in_order
     ∙ ap (λ l. l.writes.received ++ frames payloads) unused.log

@@ -35,20 +35,20 @@ pub fn one_reading(max: u16)
 /// Since the reader was made, what was given is the frames that were handed out, then what is left; and no more bytes were
 /// moved than were given.
 pub fn since_new<R: TellRead>(reader: &FrameReader<R>)
-    ensures given { (max : ℕ) (stream : R) (first : Framing R) (payloads : List (List ℕ))
-        → IsFresh R.log max stream first → FramesWent R.remaining first payloads reader.now
+    ensures given { (size max : ℕ) (stream : R) (first : Framing R) (payloads : List (List ℕ))
+        → IsFresh R.log size max stream first → FramesWent R.remaining first payloads reader.now
         → reader.now.reader.log.reads.given
         ≡ (R.log stream).reads.given ++ (frames payloads ++ rest reader.now) }
-    ensures moved { (max : ℕ) (stream : R) (first : Framing R) (payloads : List (List ℕ))
-        → IsFresh R.log max stream first → FramesWent R.remaining first payloads reader.now
+    ensures moved { (size max : ℕ) (stream : R) (first : Framing R) (payloads : List (List ℕ))
+        → IsFresh R.log size max stream first → FramesWent R.remaining first payloads reader.now
         → MovedAtMostGiven first.reader reader.now.reader }
 {}
 
 /// Since the writer was made, what the stream received, then what is buffered, is the frames of the payloads that were
 /// taken in: so no frame was torn, whatever failed.
 pub fn written_since_new<W: TellWrite>(writer: &FrameWriter<W>)
-    ensures { (max : ℕ) (stream : W) (first : Outgoing W) (payloads : List (List ℕ))
-        → IsUnused W.log max stream first → FramesTaken W.stretch first payloads writer.now
+    ensures { (size max : ℕ) (stream : W) (first : Outgoing W) (payloads : List (List ℕ))
+        → IsUnused W.log size max stream first → FramesTaken W.stretch first payloads writer.now
         → writer.now.writer.log.writes.received ++ unsent writer.now
         ≡ (W.log stream).writes.received ++ frames payloads }
 {}

@@ -1,18 +1,20 @@
 //! The reader of frames.
-ghost use Rattle.std.specs.Prelude.{◌≡◌, ℕ, ◌+◌, ◌<◌, ◌≤◌, ◌⊎◌, List, [], ◌∷◌, ◌++◌, length, Ok, Err, Some, IfOk, IfErr, IfSome, OnOk, OnErr, true};
+ghost use Rattle.std.specs.Prelude.{◌≡◌, ℕ, ◌+◌, ◌^◌, ◌<◌, ◌≤◌, ◌⊎◌, List, [], ◌∷◌, ◌++◌, length, Ok, Err, Some, IfOk, IfErr, IfSome, OnOk, OnErr, true, false};
 ghost use Rattle.std.specs.Borrow.{sem};
 ghost use Rattle.std.specs.Io.BufRead.{Rests};
 ghost use Rattle.buffer_redux.specs.BufReader.{RanDry};
+ghost use Rattle.buffer_redux.specs.GrowError.{FitsWithin};
+ghost use Rattle.buffer_redux.specs.MakeError.{growth};
 ghost use Rattle.frame_reader.specs.contracts.reader.FrameReader.{the_row};
 ghost use Rattle.frame_reader.specs.Frames.{BeginsWith, frame};
-ghost use Rattle.frame_reader.specs.Framing.{IsFraming, IsFresh, rest, most};
-ghost use Rattle.frame_reader.specs.Next.{FramesWent, NoFault, Next, copied, empties, loaded};
+ghost use Rattle.frame_reader.specs.Framing.{IsFraming, IsFresh, frame_capacity, lent_payload, rest, most};
+ghost use Rattle.frame_reader.specs.Next.{FramesWent, NoFault, Next, answer_of, empties, load_answer};
 
 use crate::error::FrameError;
 use crate::frame::{HEADER, frame_buffer, length_of};
 use buffer_redux::policy::MinBuffered;
 use buffer_redux::tell::{Tell, TellRead};
-use buffer_redux::{BufReader, GrowError, MakeError};
+use buffer_redux::{BufReader, DEFAULT_BUF_SIZE, GrowError, MakeError};
 use std::alloc::Global;
 use std::io;
 use std::io::BufRead;
@@ -20,8 +22,8 @@ use std::marker::Model;
 
 /// A reader of frames whose payload has at most so many bytes.
 ///
-/// It lends each payload out of a plain buffer of `3 * (2 + max)` bytes. [`new`](FrameReader::new) makes it, and no other call
-/// takes memory. No more bytes are moved in it than are read.
+/// It lends each payload out of a plain buffer, which holds any three frames. The makers take it, and no other call takes
+/// memory. No more bytes are moved in it than are read.
 ///
 /// ```
 /// let stream = Told::new(b"\x00\x02hi\x00\x00".as_slice());
@@ -49,14 +51,32 @@ impl<R: Tell> Model for FrameReader<R> {
 }
 
 impl<R: Tell> FrameReader<R> {
-    /// A reader of frames whose payload has at most `max` bytes. A refusal hands `inner` back.
+    /// A reader of frames whose payload has at most `max` bytes, over a buffer of [`DEFAULT_BUF_SIZE`] bytes, or of
+    /// `3 * (2 + max)` where that is more. A refusal hands `inner` back.
     pub fn new(alloc: Global, inner: R, max: u16) -> Result<Self, MakeError<R>>
-        ensures made { IfOk result (IsFresh R.log max inner) }
+        ensures made { IfOk result (IsFresh R.log (frame_capacity 8192 max) max inner) }
         ensures whole { IfOk result IsFraming }
         ensures handed_back { IfErr result (λ e. e.0 ≡ inner) }
         ensures refused { IfErr result (λ e. e.1 ≡ GrowError.Memory) }
     {
-        match frame_buffer(alloc, max) {
+        FrameReader::with_capacity(alloc, DEFAULT_BUF_SIZE, inner, max)
+    }
+
+    /// A reader of frames whose payload has at most `max` bytes, over a buffer of `capacity` bytes, or of `3 * (2 + max)`
+    /// where that is more. A refusal hands `inner` back: `TooLarge` past [`MAX_CAPACITY`](buffer_redux::MAX_CAPACITY), and
+    /// else `Memory`.
+    pub fn with_capacity(
+        alloc: Global,
+        capacity: usize,
+        inner: R,
+        max: u16,
+    ) -> Result<Self, MakeError<R>>
+        ensures made { IfOk result (IsFresh R.log (frame_capacity capacity max) max inner) }
+        ensures whole { IfOk result IsFraming }
+        ensures handed_back { IfErr result (λ e. e.0 ≡ inner) }
+        ensures within { FitsWithin (growth result) (frame_capacity capacity max) (2 ^ 62) }
+    {
+        match frame_buffer(alloc, capacity, max) {
             Ok(buffer) => Ok(FrameReader {
                 reader: BufReader::with_buffer(buffer, inner).set_policy(MinBuffered(HEADER)),
                 max,
@@ -89,6 +109,7 @@ impl<R: Tell> FrameReader<R> {
     }
 
     /// The buffered bytes behind the frame that was lent last.
+    #[inline(always)]
     pub fn rest(&self) -> &[u8]
         ensures value { result.now ≡ rest self.now }
         ensures whole { IsFraming self.now }
@@ -103,25 +124,58 @@ impl<R: TellRead> FrameReader<R> {
     ///
     /// An `Err` says why there is no frame, and leaves what came of it: the next call looks at it again. So a `TooLong` is
     /// returned each time.
+    #[inline(always)]
     pub fn next(&mut self) -> Result<Option<&[u8]>, FrameError>
         ensures* after_borrow { sem 𝓛 (Rests (the_row R.row R.Tell) self.entry
-            (Next R.remaining self.entry.now (copied result))) }
+            (Next R.remaining self.entry.now (answer_of result))) }
         ensures fits { IfOk result (λ found. IfSome found (λ payload. length payload.now ≤ self.old.max)) }
         ensures ready { (payload more : List ℕ) → length payload ≤ self.old.max
-            → rest self.old ≡ frame payload ++ more → copied result ≡ Ok (Some payload) }
+            → rest self.old ≡ frame payload ++ more → answer_of result ≡ Ok (Some payload) }
         ensures too_long { (len : ℕ) → self.old.max < len → BeginsWith len (rest self.old)
-            → copied result ≡ Err (FrameError.TooLong len) }
+            → answer_of result ≡ Err (FrameError.TooLong len) }
     {
-        if self.load()? {
+        if self.step() || self.load_aside()? {
             Ok(Some(&self.reader.buffer()[HEADER..self.lent]))
         } else {
             Ok(None)
         }
     }
 
+    // Goes on to the next frame where that is buffered whole, and else does nothing.
+    #[inline(always)]
+    fn step(&mut self) -> bool
+        ensures next { result ≡ true → Next R.remaining self.old (Ok (Some (lent_payload self.new))) self.new }
+        ensures header { result ≡ true → HEADER ≤ self.new.lent }
+        ensures unchanged { result ≡ false → self.new ≡ self.old }
+    {
+        let left = self.rest();
+        if left.len() < HEADER {
+            return false;
+        }
+        let len = length_of(left);
+        let whole = HEADER + usize::from(len);
+        if len > self.max || left.len() < whole {
+            return false;
+        }
+        self.drop_lent();
+        self.lent = whole;
+        true
+    }
+
+    // Goes on in `load`. The kit's compiler clears the answer of a call where the function that makes the call begins; of a
+    // call made in here, which is inlined, that is behind the tests of `step`.
+    #[inline(always)]
+    fn load_aside(&mut self) -> Result<bool, FrameError>
+        ensures next { Next R.remaining self.old (load_answer result self.new) self.new }
+        ensures header { result ≡ Ok true → HEADER ≤ self.new.lent }
+    {
+        self.load()
+    }
+
     // Drops the frame that was lent last, and has the next one buffered whole, unless the stream ended behind the last.
+    #[inline(never)]
     fn load(&mut self) -> Result<bool, FrameError>
-        ensures next { Next R.remaining self.old (loaded result self.new) self.new }
+        ensures next { Next R.remaining self.old (load_answer result self.new) self.new }
         ensures header { result ≡ Ok true → HEADER ≤ self.new.lent }
     {
         self.drop_lent();
@@ -146,6 +200,7 @@ impl<R: TellRead> FrameReader<R> {
     }
 
     // Drops the frame that was lent last.
+    #[inline(always)]
     fn drop_lent(&mut self)
         ensures went { FramesWent R.remaining self.old [] self.new }
         ensures rest { rest self.new ≡ rest self.old }

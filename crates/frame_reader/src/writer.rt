@@ -1,17 +1,19 @@
 //! The writer of frames.
-ghost use Rattle.std.specs.Prelude.{◌≡◌, ◌+◌, ◌-◌, ◌<◌, ◌≤◌, [], length, Ok, Err, IfOk, IfErr, OnOk, MatchResult};
+ghost use Rattle.std.specs.Prelude.{◌≡◌, ◌+◌, ◌^◌, ◌<◌, ◌≤◌, [], length, Ok, Err, IfOk, IfErr, MatchResult};
 ghost use Rattle.buffer_redux.specs.Block.{usable};
 ghost use Rattle.buffer_redux.specs.BufWriter.{WasFlushed, WasSent};
 ghost use Rattle.buffer_redux.specs.Unwrapping.{InnerOfFlushed};
-ghost use Rattle.buffer_redux.specs.Faults.{MetInterrupts, SendErrorCaused};
-ghost use Rattle.frame_reader.specs.Frames.{frames};
-ghost use Rattle.frame_reader.specs.Outgoing.{IsOutgoing, IsUnused, room, unsent};
-ghost use Rattle.frame_reader.specs.WriteFrame.{FramesTaken, PutsIn, SendsAll, WritesFrame};
+ghost use Rattle.buffer_redux.specs.GrowError.{FitsWithin};
+ghost use Rattle.buffer_redux.specs.MakeError.{growth};
+ghost use Rattle.frame_reader.specs.Frames.{Fits, frame};
+ghost use Rattle.frame_reader.specs.Framing.{frame_capacity};
+ghost use Rattle.frame_reader.specs.Outgoing.{IsOutgoing, IsUnused, room};
+ghost use Rattle.frame_reader.specs.WriteFrame.{FramesTaken, PutsIn, WritesFrame};
 
 use crate::error::WriteFrameError;
 use crate::frame::{HEADER, frame_buffer};
 use buffer_redux::tell::TellWrite;
-use buffer_redux::{BufWriter, Buffer, GrowError, IntoInnerError, MakeError};
+use buffer_redux::{BufWriter, Buffer, DEFAULT_BUF_SIZE, GrowError, IntoInnerError, MakeError};
 use std::alloc::Global;
 use std::io;
 use std::io::Write;
@@ -19,8 +21,8 @@ use std::marker::Model;
 
 /// A writer of frames whose payload has at most so many bytes. A frame is taken in whole, or not at all.
 ///
-/// It keeps them in a plain buffer of `3 * (2 + max)` bytes. [`new`](FrameWriter::new) makes it, and no other call takes
-/// memory. A writer that is dropped sends what is buffered, without a flush of the inner writer, and forgets a fault.
+/// It keeps them in a plain buffer, which holds any three frames. The makers take it, and no other call takes memory. A writer
+/// that is dropped sends what is buffered, without a flush of the inner writer, and forgets a fault.
 ///
 /// ```
 /// let mut writer = FrameWriter::new(alloc, Told::new(Vec::new(alloc)), 4)?;
@@ -48,14 +50,32 @@ impl<W: TellWrite> Model for FrameWriter<W> {
 }
 
 impl<W: TellWrite> FrameWriter<W> {
-    /// A writer of frames whose payload has at most `max` bytes. A refusal hands `inner` back.
+    /// A writer of frames whose payload has at most `max` bytes, over a buffer of [`DEFAULT_BUF_SIZE`] bytes, or of
+    /// `3 * (2 + max)` where that is more. A refusal hands `inner` back.
     pub fn new(alloc: Global, inner: W, max: u16) -> Result<Self, MakeError<W>>
-        ensures made { IfOk result (IsUnused W.log max inner) }
+        ensures made { IfOk result (IsUnused W.log (frame_capacity 8192 max) max inner) }
         ensures whole { IfOk result IsOutgoing }
         ensures handed_back { IfErr result (λ e. e.0 ≡ inner) }
         ensures refused { IfErr result (λ e. e.1 ≡ GrowError.Memory) }
     {
-        match frame_buffer(alloc, max) {
+        FrameWriter::with_capacity(alloc, DEFAULT_BUF_SIZE, inner, max)
+    }
+
+    /// A writer of frames whose payload has at most `max` bytes, over a buffer of `capacity` bytes, or of `3 * (2 + max)`
+    /// where that is more. A refusal hands `inner` back: `TooLarge` past [`MAX_CAPACITY`](buffer_redux::MAX_CAPACITY), and
+    /// else `Memory`.
+    pub fn with_capacity(
+        alloc: Global,
+        capacity: usize,
+        inner: W,
+        max: u16,
+    ) -> Result<Self, MakeError<W>>
+        ensures made { IfOk result (IsUnused W.log (frame_capacity capacity max) max inner) }
+        ensures whole { IfOk result IsOutgoing }
+        ensures handed_back { IfErr result (λ e. e.0 ≡ inner) }
+        ensures within { FitsWithin (growth result) (frame_capacity capacity max) (2 ^ 62) }
+    {
+        match frame_buffer(alloc, capacity, max) {
             Ok(buffer) => Ok(FrameWriter {
                 writer: BufWriter::with_buffer(buffer, inner),
                 max,
@@ -78,15 +98,17 @@ impl<W: TellWrite> FrameWriter<W> {
     ///
     /// At an `Err` nothing of the frame was taken in, so the call can be made again. A `TooLong` changes nothing at all; an
     /// `Io` comes only where the frame found no room, and then just what the inner writer took is gone from the buffer.
+    #[inline(always)]
     pub fn write_frame(&mut self, payload: &[u8]) -> Result<(), WriteFrameError>
         ensures { WritesFrame W.stretch self.old payload.now result self.new }
     {
         if payload.len() > usize::from(self.max) {
             return Err(WriteFrameError::TooLong(payload.len()));
         }
-        self.send_unless_fits(HEADER + payload.len())?;
-        self.put(&(payload.len() as u16).to_be_bytes());
-        self.put(payload);
+        if self.writer.capacity() - self.writer.buf_len() < HEADER + payload.len() {
+            return self.write_aside(payload);
+        }
+        self.take_in(payload);
         Ok(())
     }
 
@@ -134,26 +156,45 @@ impl<W: TellWrite> FrameWriter<W> {
         writer.into_inner_with_buffer()
     }
 
-    // Sends all that is buffered where so many more bytes don't fit, and makes all free space usable.
-    fn send_unless_fits(&mut self, whole: usize) -> io::Result<()>
-        ensures went { FramesTaken W.stretch self.old [] self.new }
-        ensures fits { whole ≤ room self.old → (result ≡ Ok tt) × (self.new.writer.log ≡ self.old.writer.log) }
-        ensures full { room self.old < whole → OnOk result (unsent self.new ≡ []) }
-        ensures sends { room self.old < whole → SendsAll self.old result self.new }
-        ensures usable { OnOk result (usable self.new.writer.block ≡ room self.new) }
-        ensures met { OnOk result (MetInterrupts self.old.writer.log.writes self.new.writer.log.writes) }
-        ensures caused { IfErr result (λ e. SendErrorCaused self.old.writer.log.writes self.new.writer.log.writes e) }
-        ensures not_flushed { self.new.writer.log.writes.flushed ≡ self.old.writer.log.writes.flushed }
-        ensures whole { IsOutgoing self.new }
+    // Sends all that is buffered, and then takes the frame in. It stands apart, so that a frame for which there is room is short
+    // in its caller.
+    #[cold]
+    #[inline(never)]
+    fn write_slowly(&mut self, payload: &[u8]) -> Result<(), WriteFrameError>
+        requires fits { Fits self.old.max payload.now }
+        requires full { room self.old < HEADER + length payload.now }
+        ensures { WritesFrame W.stretch self.old payload.now result self.new }
     {
-        if self.writer.capacity() - self.writer.buf_len() < whole {
-            self.send()?;
-        }
-        self.writer.make_room();
+        self.send()?;
+        self.take_in(payload);
         Ok(())
     }
 
+    // Goes on in `write_slowly`. The kit's compiler clears the answer of a call where the function that makes the call begins; of
+    // a call made in here, which is inlined, that is behind the tests of `write_frame`.
+    #[inline(always)]
+    fn write_aside(&mut self, payload: &[u8]) -> Result<(), WriteFrameError>
+        requires fits { Fits self.old.max payload.now }
+        requires full { room self.old < HEADER + length payload.now }
+        ensures { WritesFrame W.stretch self.old payload.now result self.new }
+    {
+        self.write_slowly(payload)
+    }
+
+    // Copies the frame in, for which there is room.
+    #[inline(always)]
+    fn take_in(&mut self, payload: &[u8])
+        requires fits { Fits self.old.max payload.now }
+        requires room { HEADER + length payload.now ≤ room self.old }
+        ensures { PutsIn W.stretch self.old (frame payload.now) self.new }
+    {
+        self.writer.make_room();
+        self.put(&(payload.len() as u16).to_be_bytes());
+        self.put(payload);
+    }
+
     // Copies bytes in, for which there is room.
+    #[inline(always)]
     fn put(&mut self, bytes: &[u8])
         requires room { length bytes.now ≤ usable self.old.writer.block }
         requires inside { length bytes.now < self.old.writer.block.capacity }

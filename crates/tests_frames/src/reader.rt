@@ -4,6 +4,7 @@ use buffer_redux::script::{Answer, ScriptReader};
 use buffer_redux::tell::Told;
 use frame_reader::{FrameError, FrameReader};
 use std::alloc::Global;
+use std::io;
 use std::io::ErrorKind;
 use std::process::Abort;
 use std::test::Fail;
@@ -51,9 +52,10 @@ const ROWS: [Row<'static>; 8] = [
     (256, b"\x01\x00a", &[Want::Truncated(3)]),
 ];
 
+// A reader over the least buffer.
 fn frames(alloc: Global, max: u16, bytes: &[u8], script: &[Answer]) -> Result<Frames, Fail> {
     let inner = Told::new(ScriptReader::new(alloc, bytes, script)?);
-    match FrameReader::new(alloc, inner, max) {
+    match FrameReader::with_capacity(alloc, 0, inner, max) {
         Ok(frames) => Ok(frames),
         Err(MakeError(_, e)) => Err(e.into()),
     }
@@ -151,5 +153,37 @@ fn keeps_the_rest(rt: HostRuntime) -> Result<(), Fail> {
     assert_eq!(rt; two.rest(), b"\x00\x01b".as_slice());
     assert_eq!(rt; meets(&mut two, Want::Payload(b"b")), Some(true));
     assert_eq!(rt; two.get_ref().get_ref().offers().len(), 1);
+    Ok(())
+}
+
+// The capacity that is asked for, the greatest length of a payload, and how many bytes the first read is offered: all of the
+// buffer, which holds three frames at least.
+const CAPACITIES: [(usize, u16, usize); 7] = [
+    (0, 0, 6),
+    (0, 3, 15),
+    (14, 3, 15),
+    (15, 3, 15),
+    (16, 3, 16),
+    (8192, 2728, 8192),
+    (8192, 2729, 8193),
+];
+
+#[test]
+fn takes_the_capacity(rt: HostRuntime) -> Result<(), Fail> {
+    let alloc = rt.alloc();
+    for (capacity, max, offered) in CAPACITIES {
+        let inner = Told::new(ScriptReader::new(alloc, b"\x00\x00", &[])?);
+        let mut frames = FrameReader::with_capacity(alloc, capacity, inner, max).map_err(
+            io::Error::from,
+        )?;
+        assert_eq!(rt; meets(&mut frames, Want::Payload(b"")), Some(true));
+        assert_eq!(rt; frames.get_ref().get_ref().offers(), [offered].as_slice());
+    }
+    for (max, offered) in [(3, 8192), (65535, 196611)] {
+        let inner = Told::new(ScriptReader::new(alloc, b"\x00\x00", &[])?);
+        let mut frames = FrameReader::new(alloc, inner, max).map_err(io::Error::from)?;
+        assert_eq!(rt; meets(&mut frames, Want::Payload(b"")), Some(true));
+        assert_eq!(rt; frames.get_ref().get_ref().offers(), [offered].as_slice());
+    }
     Ok(())
 }

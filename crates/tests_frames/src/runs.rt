@@ -100,7 +100,7 @@ fn plays_what_is_written(rt: HostRuntime) -> Result<(), Fail> {
     }
     let script = [Answer::Serve(1), Answer::Fail(ErrorKind::Other)];
     let inner = Told::new(ScriptWriter::new(rt.alloc(), &script)?);
-    let mut writer = FrameWriter::new(rt.alloc(), inner, 1).map_err(io::Error::from)?;
+    let mut writer = FrameWriter::with_capacity(rt.alloc(), 0, inner, 1).map_err(io::Error::from)?;
     let mut answers = Vec::new(rt.alloc());
     laws::play_write_frame(&mut writer, &payloads, &mut answers)?;
     assert_eq!(rt; answers.len(), 6);

@@ -4,14 +4,16 @@ use buffer_redux::tell::Told;
 use buffer_redux::{IntoInnerError, MakeError};
 use frame_reader::{FrameWriter, WriteFrameError, laws};
 use std::alloc::Global;
+use std::io;
 use std::io::ErrorKind;
 use std::process::Abort;
 use std::test::Fail;
 
 type Frames = FrameWriter<Told<ScriptWriter>>;
 
+// A writer over the least buffer.
 fn frames(alloc: Global, max: u16, script: &[Answer]) -> Result<Frames, Fail> {
-    match FrameWriter::new(alloc, Told::new(ScriptWriter::new(alloc, script)?), max) {
+    match FrameWriter::with_capacity(alloc, 0, Told::new(ScriptWriter::new(alloc, script)?), max) {
         Ok(frames) => Ok(frames),
         Err(MakeError(_, e)) => Err(e.into()),
     }
@@ -133,6 +135,27 @@ fn hands_the_writer_back_at_a_fault(rt: HostRuntime) -> Result<(), Fail> {
             writer.flush()?;
             assert_eq!(rt; taken(&writer), b"\x00\x01a".as_slice());
         }
+    }
+    Ok(())
+}
+
+// The capacity that is asked for, the greatest length of a payload, and the capacity that was made: three frames at least.
+#[test]
+fn takes_the_capacity(rt: HostRuntime) -> Result<(), Fail> {
+    let alloc = rt.alloc();
+    for (capacity, max, made) in [(0, 0, 6), (14, 3, 15), (16, 3, 16), (8192, 2729, 8193)] {
+        let inner = Told::new(ScriptWriter::new(alloc, &[])?);
+        let frames = FrameWriter::with_capacity(alloc, capacity, inner, max).map_err(
+            io::Error::from,
+        )?;
+        let (_, buffer) = frames.into_inner_with_buffer();
+        assert_eq!(rt; buffer.capacity(), made);
+    }
+    for (max, made) in [(3, 8192), (65535, 196611)] {
+        let inner = Told::new(ScriptWriter::new(alloc, &[])?);
+        let frames = FrameWriter::new(alloc, inner, max).map_err(io::Error::from)?;
+        let (_, buffer) = frames.into_inner_with_buffer();
+        assert_eq!(rt; buffer.capacity(), made);
     }
     Ok(())
 }

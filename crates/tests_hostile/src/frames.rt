@@ -46,7 +46,12 @@ impl Case for Reads {
     fn run(&self, alloc: Global, fault: Fault) -> Result<Outcome, Fail> {
         let script = [Answer::ServeEach(self.most)];
         let source = ScriptReader::new(alloc, self.bytes, &script)?;
-        let mut frames = match FrameReader::new(alloc, hostile(alloc, source, fault), self.max) {
+        let mut frames = match FrameReader::with_capacity(
+            alloc,
+            0,
+            hostile(alloc, source, fault),
+            self.max,
+        ) {
             Ok(frames) => frames,
             Err(MakeError(_, e)) => return Err(e.into()),
         };
@@ -91,7 +96,7 @@ impl Case for Writes {
     fn run(&self, alloc: Global, fault: Fault) -> Result<Outcome, Fail> {
         let script = [Answer::ServeEach(self.most)];
         let target = hostile(alloc, ScriptWriter::new(alloc, &script)?, fault);
-        let mut frames = match FrameWriter::new(alloc, target, self.max) {
+        let mut frames = match FrameWriter::with_capacity(alloc, 0, target, self.max) {
             Ok(frames) => frames,
             Err(MakeError(_, e)) => return Err(e.into()),
         };

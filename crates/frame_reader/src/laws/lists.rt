@@ -4,7 +4,7 @@ ghost use Rattle.std.specs.List.{All};
 ghost use Rattle.frame_reader.specs.Frames.{Fits, frames};
 ghost use Rattle.frame_reader.specs.KnownFrames.{HasLeft, LeavesFrames, ReadStopped};
 ghost use Rattle.frame_reader.specs.Next.{Next};
-ghost use Rattle.frame_reader.specs.Runs.{AllRead, NextFails, WritesEach, recorded};
+ghost use Rattle.frame_reader.specs.Runs.{AllRead, NextFails, WritesEach, kept_answer};
 ghost use Rattle.frame_reader.specs.WriteFrame.{IsFault};
 
 use crate::error::{FrameError, WriteFrameError};
@@ -63,7 +63,7 @@ fn next_of_known<R: TellRead>(
     reader: &mut FrameReader<R>,
 ) -> io::Result<Option<Vec<u8>>>
     requires left { LeavesFrames R.remaining reader.old }
-    ensures next { IfOk result (λ found. Next R.remaining reader.old (recorded (Ok found)) reader.new) }
+    ensures next { IfOk result (λ found. Next R.remaining reader.old (kept_answer (Ok found)) reader.new) }
     ensures failed { IfErr result (λ e. NextFails R.remaining reader.old e reader.new) }
 {
     match next_copied(alloc, reader)? {

@@ -1,4 +1,4 @@
-use Rattle.std.proofs.Common.{◌+◌, ◌++◌, ◌∷◌, [], true, false, arith, length-append, ap, subst, ◌∙◌, append_assoc}
+use Rattle.std.proofs.Common.{vec_capacity, ◌+◌, ◌++◌, ◌∷◌, [], true, false, arith, length-append, ap, subst, ◌∙◌, append_assoc}
 use Rattle.std.proofs.lemmas.List.{length-map}
 use Rattle.std.proofs.lemmas.Result.{err_from_is_err_and}
 use Rattle.frame_reader.specs.WriteFrame.{WritesFrame}
@@ -14,8 +14,10 @@ returns-in_err-reserve g c =
     rw (p.1)
     (write_played (λ v. v.items) c.args.payloads.now c.loop-payload.payload-index stretch g.met.W.TellWrite.stretch_none
     g.met.W.TellWrite.stretch_joins c.args.writer.now c.loop-payload.writer c.args.answers.now.items c.reserve.new.self.items
-    inv.answers (c.reserve.ensures.items ∙ inv.gained) inv.count inv.run false
-    (omega (arith, inv.count, c.loop-payload-test.true, length-map c.args.payloads.now (λ v. v.items))))
+    inv.answers (c.reserve.ensures.items ∙ inv.gained) inv.count inv.run (vec_capacity c.args.answers.now) false (
+      omega (arith, inv.count, c.loop-payload-test.true, length-map c.args.payloads.now (λ v. v.items)),
+      omega (arith, inv.capacity, c.in_err-reserve.ensures.full, c.in_err-reserve.ensures.len),
+    ))
 
 pub loop-payload-preserved : goal.loop-payload-preserved
 loop-payload-preserved g c =
@@ -28,6 +30,7 @@ loop-payload-preserved g c =
           ∙ ap (λ l. l ++ answer ∷ []) (c.reserve.ensures.items ∙ inv.gained)
           ∙ append_assoc c.args.answers.now.items inv.answers (answer ∷ []);
       count = length-append inv.answers (answer ∷ []) ∙ ap (λ n. n + 1) inv.count;
+      capacity = omega (arith, inv.capacity, c.in_ok-reserve.ensures.capacity, c.push_reserved.ensures.capacity);
       run = run_more (λ v. v.items) c.args.payloads.now c.loop-payload.payload-index c.payload-item.result
           c.loop-payload-test.true c.payload-item.is stretch c.args.writer.now c.loop-payload.writer
           c.write_frame.new.self inv.answers answer inv.run
@@ -40,7 +43,8 @@ returns g c =
     let inv = c.loop-payload.invariant in
     write_played (λ v. v.items) c.args.payloads.now c.loop-payload.payload-index g.W.TellWrite.stretch
     g.met.W.TellWrite.stretch_none g.met.W.TellWrite.stretch_joins c.args.writer.now c.loop-payload.writer
-    c.args.answers.now.items c.loop-payload.answers.items inv.answers inv.gained inv.count inv.run true
+    c.args.answers.now.items c.loop-payload.answers.items inv.answers inv.gained inv.count inv.run
+    (vec_capacity c.args.answers.now) true
     (omega (
       arith,
       inv.count,

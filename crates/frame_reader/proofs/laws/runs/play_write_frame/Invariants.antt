@@ -1,4 +1,4 @@
-use Rattle.std.proofs.Common.{◌≡◌, List, ◌++◌, length, map, take}
+use Rattle.std.proofs.Common.{◌≡◌, ◌≤◌, List, ◌++◌, length, map, take, vec_capacity}
 use Rattle.frame_reader.specs.Runs.{WriteRuns}
 use Rattle.frame_reader.specs.WriteFrame.{WriteAnswer}
 use Rattle.frame_reader.proofs.laws.runs.play_write_frame.Given as goal
@@ -9,6 +9,7 @@ invariant-loop-payload g l = record {
   answers : List WriteAnswer;
   gained : l.answers.items ≡ l.fn.answers.items ++ answers;
   count : length answers ≡ l.payload-index;
+  capacity : vec_capacity l.fn.answers ≤ vec_capacity l.answers;
   run : WriteRuns g.W.TellWrite.stretch l.fn.writer (map (λ v. v.items) (take l.payload-index l.payloads)) answers
       l.writer;
 }

@@ -1,20 +1,28 @@
-use Rattle.std.proofs.Common.{Ok, Some, ◌-◌, drop, take, refl, subst, sym}
+use Rattle.std.proofs.Common.{Ok, Some, ◌-◌, drop, take, refl, subst, sym, ◌∙◌}
 use Rattle.frame_reader.specs.Framing.{Framing, lent_payload}
-use Rattle.frame_reader.specs.Next.{Next, loaded}
+use Rattle.frame_reader.specs.Next.{Next, load_answer}
 use Rattle.frame_reader.specs.NextLaws.{Next-ready, Next-too_long}
 use Rattle.frame_reader.proofs.reader.FrameReader.next.Goals as goal
+use Rattle.frame_reader.proofs.reader.FrameReader.next.Goals.{then-step, else-step+in_ok-load_aside}
 
 pub returns-then-branch : goal.returns-then-branch
 returns-then-branch g c =
     let remaining = g.R.TellRead.remaining in
     let s = c.args.self.now in
-    let t = c.load.new.self in
+    let t = c.if-step.self in
     let f = c.self.inside in
     let u : Framing g.row.R.Denot = record { reader = f.reader; max = f.max; lent = f.lent } in
     let bytes = c.buffer.result.now in
     let found = take (f.lent - 2) (drop 2 bytes) in
-    let loads : Next remaining s (Ok (Some (lent_payload t))) t =
-    subst (λ b. Next remaining s (loaded (Ok b) t) t) c.if-branch.true c.in_ok-load.ensures.next in
+    let loads : Next remaining s (Ok (Some (lent_payload t))) t = elim c.if-step.branch [
+      | then-step w ↦ subst (λ x. Next remaining s (Ok (Some (lent_payload x))) x) (sym w.self-is)
+          (c.step.ensures.next w.if-step.true)
+      | else-step+in_ok-load_aside w ↦ subst (λ x. Next remaining s (Ok (Some (lent_payload x))) x) (sym w.self-is)
+          (subst (λ x. Next remaining x (Ok (Some (lent_payload w.load_aside.new.self))) w.load_aside.new.self)
+          (c.step.ensures.unchanged w.if-step.false)
+          (subst (λ b. Next remaining c.step.new.self (load_answer (Ok b) w.load_aside.new.self) w.load_aside.new.self)
+          (sym w.value-is ∙ c.if-branch.true) w.in_ok-load_aside.ensures.next))
+    ] in
     let shows : Next remaining s (Ok (Some (lent_payload u))) u =
     subst (λ x. Next remaining s (Ok (Some (lent_payload x))) x) (sym c.self.view_is) loads in
     let lends : Next remaining s (Ok (Some found)) u =
