@@ -1,6 +1,5 @@
 -- What is known of the bytes ahead of a buffered reader, call after call.
-use Rattle.std.proofs.Common.{◌≡◌, ℕ, zero, suc, ◌<◌, ◌≤◌, ◌==◌, ◌||◌, ◌⊎◌, not, cond, List, [], Bool, true, false, length, Result, Ok, Err, Option, None, Some, IfSome, IfOk, le_of_eq, refl, sym, ap, subst, ◌∙◌, arith, inl, inr}
-use Rattle.std.proofs.lemmas.Bool.{not-false}
+use Rattle.std.proofs.Common.{◌≡◌, ℕ, ◌<◌, ◌≤◌, cond, List, [], Bool, true, false, length, Result, Ok, Err, Option, None, Some, IfSome, IfOk, le_of_eq, refl, sym, ap, subst, ◌∙◌, arith}
 use Rattle.std.proofs.lemmas.List.{nil_from_length}
 use Rattle.std.proofs.KnownBytes.{prepend_known-front, prepend_known-end}
 use Rattle.std.specs.Io.{StartsWith}
@@ -15,26 +14,10 @@ use Rattle.redux_tell.specs.StreamLog.{StreamLog}
 use Rattle.redux_buffer.specs.Transfer.{ReadsFrom}
 use Rattle.buffer_redux.specs.BufReader.{ReadsInOrder, InnerGives, FillBuf}
 use Rattle.buffer_redux.specs.Fill.{Turns}
-use Rattle.buffer_redux.specs.ReaderLaws.{ReadsInOrder-ahead, WantsSome, WantsBytes, Keeps-of, IfSome-unless, remaining_gives, at_nothing}
+use Rattle.buffer_redux.specs.ReaderLaws.{ReadsInOrder-ahead, WantsBytes, Keeps-of, IfSome-any, IfSome-unless, remaining_gives, at_nothing}
 use Rattle.buffer_redux.proofs.FillFacts.{turns_facts}
-use Rattle.buffer_redux.specs.Remaining.{ahead, may_stop, wants_some, reader_remaining}
-
--- a policy that wants bytes and some capacity, and only those, make known what is ahead
-or_is_false : (a b : Bool) → (a || b) ≡ false → (a ≡ false) × (b ≡ false)
-or_is_false true b e = cc
-or_is_false false b e = (refl, e)
-
-wants_some_if : (m : Option ℕ) → wants_some m ≡ true → WantsSome m
-wants_some_if None e = cc
-wants_some_if (Some n) e = grind (arith, e)
-
-wants_if : (st : Bool) (m : Option ℕ) → not (st || wants_some m) ≡ false → (st ≡ true) ⊎ WantsSome m
-wants_if true m e = inl refl
-wants_if false m e = inr (wants_some_if m (not-false (wants_some m) e))
-
-has_room : (c : ℕ) → (c == 0) ≡ false → 0 < c
-has_room zero e = cc
-has_room (suc c) e = omega arith
+use Rattle.buffer_redux.specs.Remaining.{ahead, may_stop, reader_remaining}
+use Rattle.buffer_redux.specs.RemainingLaws.{may_stop-false}
 
 -- in a turn the reader didn't run dry, nor in a read that failed
 pub dry_never : {S P : Type 0} (rules : ReadRules P) (k : ℕ) (s m : Buffered S P)
@@ -45,10 +28,6 @@ pub err_counts_none : (b b' : Block) (log log' : StreamLog) (e : Error)
     → ReadsFrom b log (Err e) b' log' → 0 < usable b → log'.reads.zero_reads ≡ log.reads.zero_reads
 err_counts_none b b' log log' e read room = ap (λ l. l.reads.zero_reads) (read.read room).told
 
-pub IfSome_any : (o : Option (List ℕ)) (P : List ℕ → Type 0) → ((xs : List ℕ) → P xs) → IfSome o P
-IfSome_any None P h = tt
-IfSome_any (Some xs) P h = h xs
-
 at_end : (o : Option (List ℕ)) (P : Type 0) → (P → IsAtEnd o) → IfSome o (λ xs. P → xs ≡ [])
 at_end None P h = tt
 at_end (Some xs) P h = h
@@ -58,20 +37,11 @@ IsAtEnd_if true a h = tt
 IsAtEnd_if false a h = h refl
 
 module _ {S P : Type 0} (remaining : S → Option (List ℕ)) (rules : ReadRules P) (s : Buffered S P) where
-  pub wants_so : may_stop rules s ≡ false → WantsBytes (rules.claims s.policy) × (0 < s.block.capacity)
-  wants_so is =
-      let both =
-      or_is_false (not ((rules.claims s.policy).steady || wants_some (rules.claims s.policy).minimum))
-      (s.block.capacity == 0) is in (
-        wants_if (rules.claims s.policy).steady (rules.claims s.policy).minimum both.0,
-        has_room s.block.capacity both.1,
-      )
-
   -- where nothing is buffered and the reader inside has nothing left, nothing is ahead
   pub remaining_ends : (WantsBytes (rules.claims s.policy) → 0 < s.block.capacity
       → IsAtEnd (remaining s.inner)) → s.block.bytes ≡ [] → IsAtEnd (reader_remaining remaining rules s)
   remaining_ends ended none = IsAtEnd_if (may_stop rules s) (ahead remaining s)
-      (λ is. at_nothing (remaining s.inner) s.block.bytes none (ended (wants_so is).0 (wants_so is).1))
+      (λ is. at_nothing (remaining s.inner) s.block.bytes none (ended (may_stop-false rules s is).0 (may_stop-false rules s is).1))
 
   module _ (t : Buffered S P) (order : ReadsInOrder s [] t)
       (known : InnerGives remaining s t) where
@@ -95,7 +65,7 @@ module _ {S P : Type 0} (remaining : S → Option (List ℕ)) (rules : ReadRules
           (λ is. at_end (ahead remaining s) (length shown ≡ 0)
           (λ none. prepend_known-end (ahead remaining s) (remaining t.inner) shown lent
           (nil_from_length shown none)
-          (ended (wants_so is).0 (wants_so is).1 (ap length (sym same) ∙ none))))
+          (ended (may_stop-false rules s is).0 (may_stop-false rules s is).1 (ap length (sym same) ∙ none))))
 
 shows_at_most : (answer : Result (Bor (List ℕ)) Error) (bytes : List ℕ)
     → IfOk answer (λ shown. shown.now ≡ bytes) → IfOk answer (λ shown. length shown.now ≤ length bytes)
@@ -111,5 +81,5 @@ pub fill_keeps : {S P : Type 0} (remaining : S → Option (List ℕ)) (rules : R
 fill_keeps remaining rules s answer t f = (
   Keeps-of (reader_remaining remaining rules s) (reader_remaining remaining rules t)
       (remaining_gives remaining rules s t [] f.fills.in_order f.known f.fills.claims f.fills.capacity),
-  IfSome_any (reader_remaining remaining rules s) _ (λ _. shows_at_most answer t.block.bytes f.shown),
+  IfSome-any (reader_remaining remaining rules s) _ (λ _. shows_at_most answer t.block.bytes f.shown),
 )

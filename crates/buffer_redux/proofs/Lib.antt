@@ -8,13 +8,7 @@ pub mod WriterFacts
 pub mod Telling
 pub mod SeekTelling
 pub mod Resting
-pub mod Unwrapped
 pub mod WriteOn
-pub mod PlayReading
-pub mod PlayWriting
-pub mod WriterCounts
-pub mod CopyKnown
-pub mod FlushKnown
 pub mod WriteAll
 pub mod ReadAll
 pub mod ReadSteps

@@ -1,7 +1,7 @@
 -- What each step of a write keeps.
-use Rattle.std.proofs.Common.{◌≡◌, ℕ, ◌≤◌, List, [], ◌∷◌, ◌++◌, length, take, drop, take_all, Result, Ok, Err, refl, sym, ap, ◌∙◌, arith, inl, inr, append-nil, append_assoc, length-drop, subst}
+use Rattle.std.proofs.Common.{◌≡◌, ℕ, ◌≤◌, List, [], ◌∷◌, ◌++◌, length, min, take, drop, take_all, Result, Ok, Err, refl, sym, ap, ◌∙◌, arith, inl, inr, append-nil, append_assoc, length-drop, subst}
 use Rattle.std.proofs.lemmas.Bool.{cases_lt}
-use Rattle.std.proofs.lemmas.List.{drop_all, nil_from_length, take-append-drop}
+use Rattle.std.proofs.lemmas.List.{drop_all, nil_from_length}
 use Rattle.std.specs.declared.io.Error.{Error}
 use Rattle.redux_buffer.specs.Block.{Block, IsBlock, usable}
 use Rattle.redux_tell.specs.GoesOn.{GoesOn}
@@ -11,7 +11,7 @@ use Rattle.redux_buffer.specs.Transfer.{Sends}
 use Rattle.redux_policy.specs.Policy.{WriteRules}
 use Rattle.buffer_redux.specs.Buffered.{Buffered, InnerWent, with_policy}
 use Rattle.buffer_redux.specs.BufWriter.{FlushesAmount, TakesIn, CopiesIn, Prepared, Finished, WritesInOrder, WasSent, WasFlushed}
-use Rattle.buffer_redux.specs.WriterLaws.{flush_ways, ways_in, WritesInOrder-joins}
+use Rattle.buffer_redux.specs.WriterLaws.{flush_ways, ways_in, WritesInOrder-joins, WritesInOrder-sends}
 
 -- sending lets the log go on
 sent_faults : (amount : ℕ) (b b' : Block) (log log' : StreamLog) (answer : Result (Unit {0}) Error)
@@ -31,12 +31,28 @@ sent_faults amount b b' log log' (Err e) f = elim f.failed.cause [
   )
 ]
 
+-- sending lets the counts of writes rise
+sent_writes : (amount : ℕ) (b b' : Block) (log log' : StreamLog) (answer : Result (Unit {0}) Error)
+    → Sends amount b log answer b' log'
+    → (log.writes.asks ≤ log'.writes.asks) × (log.writes.short_writes ≤ log'.writes.short_writes)
+sent_writes amount b b' log log' (Ok _) f = elim (cases_lt 0 (min amount (length b.bytes))) [
+  | inl some ↦ (let writes = f.whole_writes some in
+      (omega (arith, writes.asks), omega (arith, writes.fell_short)))
+  | inr none ↦ (let same = f.idle (omega (arith, none)) in
+      (omega (arith, ap (λ l. l.writes.asks) same), omega (arith, ap (λ l. l.writes.short_writes) same)))
+]
+sent_writes amount b b' log log' (Err e) f =
+    (omega (arith, f.whole_writes.asks), omega (arith, f.whole_writes.fell_short))
+
 pub sends_grow : (amount : ℕ) (b b' : Block) (log log' : StreamLog) (answer : Result (Unit {0}) Error)
     → Sends amount b log answer b' log' → WriteLogGrows log.writes log'.writes
 sends_grow amount b b' log log' answer f =
-    let faults = sent_faults amount b b' log log' answer f in record {
+    let faults = sent_faults amount b b' log log' answer f in
+    let writes = sent_writes amount b b' log log' answer f in record {
       received = record { more = take f.count b.bytes; equal = f.sent.received };
       flushed = inl f.sent.flushed;
+      asks = writes.0;
+      short_writes = writes.1;
       zero_writes = faults.1;
       faults = faults.0;
     }
@@ -56,16 +72,6 @@ module _ {S P : Type 0} where
       → WritesInOrder s [] t
   WritesInOrder-same s t told b =
       WritesInOrder-added s t [] (ap (λ l. l.writes.received) told) (b ∙ sym (append-nil s.block.bytes))
-
-  pub WritesInOrder-sends : (s t : Buffered S P) (amount : ℕ) (answer : Result (Unit {0}) Error)
-      → Sends amount s.block s.log answer t.block t.log → WritesInOrder s [] t
-  WritesInOrder-sends s t amount answer f = record {
-    sent = take f.count s.block.bytes;
-    received = f.sent.received;
-    equal =
-        ap (λ l. take f.count s.block.bytes ++ l) f.sent.dropped.bytes
-        ∙ take-append-drop f.count s.block.bytes ∙ sym (append-nil s.block.bytes);
-  }
 
   -- what a send and a failed flush promise, of their sending
   pub was_sent : (tells : S → StreamLog) (stretch : S → S → Type 0) (s t : Buffered S P)

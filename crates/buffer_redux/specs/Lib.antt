@@ -24,11 +24,11 @@ pub mod Buffered
 pub mod Sparing
 pub mod Fill
 pub mod BufReader
+pub mod FillLaws
 pub mod Seek
 pub mod ReaderLaws
 pub mod Remaining
-pub mod PlayReader
-pub mod PlayRoom
+pub mod RemainingLaws
 pub mod ReadAll
 pub mod ReadInside
 pub mod Unbuffer
@@ -39,6 +39,3 @@ pub mod LineWriter
 pub mod WriterLaws
 pub mod ReaderTells
 pub mod WriterTells
-pub mod PlayWriter
-pub mod WroteExactly
-pub mod WriterPolicyLaws

@@ -4,13 +4,18 @@ use Rattle.std.specs.Io.{ReadsAtMost}
 use Rattle.std.specs.declared.io.Error.{Error}
 use Rattle.std.specs.declared.io.ErrorKind.TheVariants.{UnexpectedEof}
 use Rattle.redux_buffer.specs.Block.{IsBlock}
-use Rattle.redux_tell.specs.StreamLog.{portion}
+use Rattle.redux_tell.specs.StreamLog.{portion, after_read}
 use Rattle.redux_policy.specs.Policy.{ReadRules}
 use Rattle.buffer_redux.specs.AllBytes.{GoesBy, EndsBy, GaveUp}
-use Rattle.buffer_redux.specs.Buffered.{Buffered}
-use Rattle.buffer_redux.specs.BufReader.{ReadsInOrder, ReaderKeeps, ReadErrorCaused, EmptyReadCaused, RanDry}
-use Rattle.buffer_redux.specs.PlayReader.{ReadSteps}
+use Rattle.buffer_redux.specs.Buffered.{Buffered, GoesPast, StaysInside, GoesDirect}
+use Rattle.buffer_redux.specs.BufReader.{ReadsInOrder, ReaderKeeps, ReadsBuffered, ReadErrorCaused, EmptyReadCaused, RanDry}
 use Rattle.buffer_redux.specs.ReaderLaws.{WantsBytes}
+
+-- `Read(n)` goes past the buffer, or through it
+pub record ReadSteps {S P : Type 0} (rules : ReadRules P) (s : Buffered S P) (n : ℕ) (answer : Result ℕ Error)
+    (t : Buffered S P) : Type 0 where
+  pub past : GoesPast s.block n → (bytes : List ℕ) × (length bytes ≡ n) × GoesDirect after_read s bytes answer t
+  pub inside : StaysInside s.block n → ReadsBuffered rules s n answer t
 
 -- just these bytes were handed out, and none was lost or changed place
 pub record HandedFront {S P : Type 0} (remaining : S → Option (List ℕ)) (rules : ReadRules P)

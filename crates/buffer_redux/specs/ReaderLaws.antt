@@ -147,6 +147,10 @@ Keeps-of None b p = tt
 Keeps-of (Some x) None p = absurd p
 Keeps-of (Some x) (Some y) p = sym p
 
+pub IfSome-any : (o : Option (List ℕ)) (P : List ℕ → Type 0) → ((xs : List ℕ) → P xs) → IfSome o P
+IfSome-any None P h = tt
+IfSome-any (Some xs) P h = h xs
+
 pub IfSome-unless : (b : Bool) (a : Option (List ℕ)) (P : List ℕ → Type 0)
     → (b ≡ false → IfSome a P) → IfSome (cond b None a) P
 IfSome-unless true a P h = tt

@@ -1,12 +1,14 @@
 -- Laws of a buffered writer, for the proofs of those who call one.
-use Rattle.std.specs.Prelude.{◌≡◌, ℕ, ◌+◌, ◌-◌, ◌<◌, ◌≤◌, ◌⊎◌, List, [], ◌++◌, length, take, drop, Ok}
+use Rattle.std.specs.Prelude.{◌≡◌, ℕ, ◌+◌, ◌-◌, ◌<◌, ◌≤◌, ◌⊎◌, List, [], ◌++◌, length, take, drop, Result, Ok}
 use Rattle.std.proofs.Common.{sym, ap, subst, refl, ◌∙◌, arith, inl, inr, append_assoc, append-nil}
 use Rattle.std.proofs.Math.Seq.{take-add}
 use Rattle.std.proofs.lemmas.Slice.{between_to_end}
 use Rattle.std.proofs.lemmas.Bool.{cases_lt}
+use Rattle.std.proofs.lemmas.List.{take-append-drop}
 use Rattle.std.specs.declared.io.Error.{Error}
 use Rattle.std.specs.declared.io.ErrorKind.TheVariants.{WriteZero}
 use Rattle.redux_buffer.specs.Block.{Block}
+use Rattle.redux_buffer.specs.Transfer.{Sends}
 use Rattle.redux_tell.specs.Faults.{OnlyInterrupted, OnlyInterrupted-none, MetInterrupts, TookNothing}
 use Rattle.redux_tell.specs.StreamLog.{StreamLog, WriteLog, with_zero, zero_of_some, zero_of_none}
 use Rattle.redux_policy.specs.declared.FlushAmt.{FlushAmt}
@@ -34,6 +36,17 @@ WritesInOrder-joins s m t a b p q = record {
 pub WritesInOrder-then : {S P : Type 0} (s m t : Buffered S P) (a : List ℕ)
     → WritesInOrder s a m → WritesInOrder m [] t → WritesInOrder s a t
 WritesInOrder-then s m t a p q = subst (λ l. WritesInOrder s l t) (append-nil a) (WritesInOrder-joins s m t a [] p q)
+
+-- sending accepts nothing, and loses nothing
+pub WritesInOrder-sends : {S P : Type 0} (s t : Buffered S P) (amount : ℕ) (answer : Result (Unit {0}) Error)
+    → Sends amount s.block s.log answer t.block t.log → WritesInOrder s [] t
+WritesInOrder-sends s t amount answer f = record {
+  sent = take f.count s.block.bytes;
+  received = f.sent.received;
+  equal =
+      ap (λ l. take f.count s.block.bytes ++ l) f.sent.dropped.bytes
+      ∙ take-append-drop f.count s.block.bytes ∙ sym (append-nil s.block.bytes);
+}
 
 -- the same as one equation: what the writer holds gained the accepted bytes
 pub WritesInOrder-contents : {S P : Type 0} (s t : Buffered S P) (accepted : List ℕ) → WritesInOrder s accepted t

@@ -9,9 +9,7 @@ mod all_bytes;
 mod buf_reader;
 mod buf_writer;
 mod errors;
-pub mod laws;
 mod line_writer;
-pub mod play;
 mod unbuffer;
 
 pub use buf_reader::{BufReader, SeekPlan, seek_plan};

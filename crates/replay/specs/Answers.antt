@@ -1,10 +1,10 @@
 -- What is printed of an answer, and what a writer is offered.
 use Rattle.std.specs.Prelude.{◌≡◌, ◌+◌, ◌<◌, ◌%◌, ℕ, List, ◌++◌, length, get_or, codes, decimal}
 use Rattle.std.specs.Io.{StartsWith}
-use Rattle.buffer_redux.specs.declared.play.ReaderAnswer.{ReaderAnswer}
-use Rattle.buffer_redux.specs.declared.play.ReaderAnswer.TheVariants.{Count, Shown, Done, Fault, Refused}
-use Rattle.buffer_redux.specs.declared.play.WriterAnswer.{WriterAnswer}
-use Rattle.buffer_redux.specs.declared.play.WriterAnswer.TheVariants as writer
+use Rattle.redux_play.specs.declared.play.ReaderAnswer.{ReaderAnswer}
+use Rattle.redux_play.specs.declared.play.ReaderAnswer.TheVariants.{Count, Shown, Done, Fault, Refused}
+use Rattle.redux_play.specs.declared.play.WriterAnswer.{WriterAnswer}
+use Rattle.redux_play.specs.declared.play.WriterAnswer.TheVariants as writer
 use Rattle.redux_buffer.specs.declared.grow_error.GrowError.{GrowError}
 use Rattle.redux_buffer.specs.declared.grow_error.GrowError.TheVariants.{TooLarge, Memory}
 

@@ -2,8 +2,8 @@
 use Rattle.std.specs.Prelude.{◌≡◌, ◌≤◌, ◌<◌, ◌^◌, ℕ, List, length, take, drop, All, codes}
 use Rattle.std.specs.Char.{IsAsciiDigit}
 use Rattle.std.specs.Str.Parse.{digits_value}
-use Rattle.buffer_redux.specs.declared.play.ReaderCall.{ReaderCall}
-use Rattle.buffer_redux.specs.declared.play.ReaderCall.TheVariants.{Read, Fill, Consume, ReadIntoBuf, MakeRoom, Reserve}
+use Rattle.redux_play.specs.declared.play.ReaderCall.{ReaderCall}
+use Rattle.redux_play.specs.declared.play.ReaderCall.TheVariants.{Read, Fill, Consume, ReadIntoBuf, MakeRoom, Reserve}
 use Rattle.replay.specs.declared.case.WriterWord.{WriterWord}
 use Rattle.replay.specs.declared.case.WriterWord.TheVariants as writer
 

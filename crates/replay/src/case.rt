@@ -1,6 +1,6 @@
 //! What a line asks for: a buffered reader or writer, what the stream inside answers, and the calls.
-use buffer_redux::play::ReaderCall;
 use buffer_redux::script::Answer;
+use redux_play::play::ReaderCall;
 
 /// What a line asks for.
 #[derive(Debug, Drop)]

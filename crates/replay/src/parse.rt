@@ -3,8 +3,8 @@ use crate::case::{
     Case, Kind, ReaderCase, ReaderRule, Storage, WriterCase, WriterRule, WriterWord,
 };
 use crate::words::{answer, number, reader_call, writer_call};
-use buffer_redux::play::ReaderCall;
 use buffer_redux::script::Answer;
+use redux_play::play::ReaderCall;
 use std::alloc::{AllocError, AllocFailed, Global};
 use std::fmt;
 

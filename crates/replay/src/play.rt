@@ -7,13 +7,13 @@ use crate::case::{
 };
 use crate::noting::NotingWriter;
 use crate::print;
-use buffer_redux::play::{ReaderCall, ReaderRun, WriterCall, WriterRun, play_reader, play_writer};
 use buffer_redux::policy::{
     FlushAtLeast, FlushExact, FlushOn, FlushOnNewline, MinBuffered, ReaderPolicy, WriterPolicy,
 };
 use buffer_redux::script::ScriptReader;
 use buffer_redux::tell::Told;
 use buffer_redux::{BufReader, BufWriter, Buffer, MakeError};
+use redux_play::play::{ReaderCall, ReaderRun, WriterCall, WriterRun, play_reader, play_writer};
 use std::alloc::{AllocError, Global};
 
 type Source = Told<ScriptReader>;

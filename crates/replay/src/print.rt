@@ -5,7 +5,7 @@ ghost use Rattle.replay.specs.Answers.{PrintsReaderAnswer, PrintsWriterAnswer, r
 
 use crate::noting::Noted;
 use buffer_redux::GrowError;
-use buffer_redux::play::{ReaderAnswer, WriterAnswer};
+use redux_play::play::{ReaderAnswer, WriterAnswer};
 use std::alloc::{AllocError, Global};
 use std::io::ErrorKind;
 

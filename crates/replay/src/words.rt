@@ -4,8 +4,8 @@ ghost use Rattle.std.specs.Str.Parse.{digits_value};
 ghost use Rattle.replay.specs.Words.{IsNumber, IsSized, IsReaderWord, IsWriterWord};
 
 use crate::case::WriterWord;
-use buffer_redux::play::ReaderCall;
 use buffer_redux::script::Answer;
+use redux_play::play::ReaderCall;
 use std::io::ErrorKind;
 
 /// The number that this word is.

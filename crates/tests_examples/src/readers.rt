@@ -1,7 +1,7 @@
 //! Readers, and what runs them.
-use buffer_redux::play::{ReaderAnswer, ReaderCall, ReaderRun, play_reader};
 use buffer_redux::tell::Told;
 use buffer_redux::{BufReader, GrowError, MakeError, SeekPlan, seek_plan};
+use redux_play::play::{ReaderAnswer, ReaderCall, ReaderRun, play_reader};
 use std::io::{BufRead, Read, SeekFrom};
 use std::test::Fail;
 

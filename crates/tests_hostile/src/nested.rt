@@ -5,10 +5,10 @@ use crate::streams::{Hostile, calls, faults, hostile, inside};
 use crate::sweep::{Case, Fault, Outcome, first, first_loss, holding, numbered, tells_of_one};
 use crate::writer_rows::{self, Row as Writes, Step};
 use crate::writers::Notes;
-use buffer_redux::play::{ReaderCall, ReaderRun, play_reader};
 use buffer_redux::script::{ScriptReader, ScriptWriter};
 use buffer_redux::tell::Told;
 use buffer_redux::{BufReader, BufWriter};
+use redux_play::play::{ReaderCall, ReaderRun, play_reader};
 use std::alloc::{AllocError, Global};
 use std::test::Fail;
 

@@ -1,6 +1,6 @@
 //! The lists of calls of readers.
-use buffer_redux::play::ReaderCall::{self, Consume, Fill, MakeRoom, Read, ReadIntoBuf, Reserve};
 use buffer_redux::script::Answer::{self, Fail, Interrupt, Serve, ServeEach};
+use redux_play::play::ReaderCall::{self, Consume, Fill, MakeRoom, Read, ReadIntoBuf, Reserve};
 use std::io::ErrorKind;
 
 /// A reader over a buffer of this capacity that holds some bytes, a stream that gives some more by a script, and calls.

@@ -3,15 +3,16 @@ ghost use Rattle.std.specs.Prelude.{◌≡◌, ◌<◌, ◌≤◌, false, length
 ghost use Rattle.std.specs.List.{All};
 ghost use Rattle.buffer_redux.specs.Buffered.{Buffered};
 ghost use Rattle.buffer_redux.specs.BufReader.{RanDry};
-ghost use Rattle.buffer_redux.specs.PlayReader.{MakesNoRoom};
+ghost use Rattle.redux_play.specs.PlayReader.{MakesNoRoom};
 ghost use Rattle.buffer_redux.specs.Sparing.{BeginsEmpty, MovedAtMostGiven, Spared};
 ghost use Rattle.tests_policies.specs.Halves.{halves_read_rules, halves_write_rules};
 ghost use Rattle.tests_policies.specs.Header.{header_rules};
 
-use buffer_redux::play::{ReaderCall, ReaderRun};
 use buffer_redux::policy::{DoRead, FlushAmt, ReaderPolicy, WriterPolicy, flush_when_full};
 use buffer_redux::tell::TellRead;
-use buffer_redux::{BufReader, Buffer, laws};
+use buffer_redux::{BufReader, Buffer};
+use redux_play::laws;
+use redux_play::play::{ReaderCall, ReaderRun};
 use std::alloc::{AllocError, Global};
 use std::io;
 use std::io::{BufRead, Read};

@@ -4,13 +4,13 @@ ghost use Rattle.std.specs.Prelude.{◌<◌};
 use crate::claims::{Halves, Header};
 use crate::constant::{Always, Never, TooMuch};
 use crate::policies::{Copying, FailsAt, Fickle, Greedy, Growing, Limiting, Tidy};
-use buffer_redux::play::{
-    ReaderCall, ReaderRun, WriterAnswer, WriterCall, WriterRun, play_reader, play_writer,
-};
 use buffer_redux::policy::{MinBuffered, ReaderPolicy, WriterPolicy};
 use buffer_redux::script::{Answer, ScriptReader, ScriptWriter};
 use buffer_redux::tell::Told;
 use buffer_redux::{BufReader, BufWriter, Buffer};
+use redux_play::play::{
+    ReaderCall, ReaderRun, WriterAnswer, WriterCall, WriterRun, play_reader, play_writer,
+};
 use std::alloc::{AllocError, Global};
 use std::io::ErrorKind;
 use std::process::Abort;

@@ -2,11 +2,11 @@
 use crate::claims::{Halves, Header, play_headers, read_some, sees_header};
 use crate::constant::{Always, Never, TooMuch};
 use crate::policies::{FailsAt, Greedy, Growing, Insatiable, Limiting, Tidy};
-use buffer_redux::play::{ReaderCall, ReaderRun};
 use buffer_redux::policy::{MinBuffered, ReaderPolicy, WriterPolicy};
 use buffer_redux::script::{ScriptReader, ScriptWriter};
 use buffer_redux::tell::Told;
 use buffer_redux::{BufReader, BufWriter, Buffer};
+use redux_play::play::{ReaderCall, ReaderRun};
 use std::alloc::Global;
 use std::io::{BufRead, ErrorKind, Read, Write};
 use std::process::Abort;

@@ -2,8 +2,9 @@
 use buffer_redux::policy::{MinBuffered, ReaderPolicy, StdPolicy};
 use buffer_redux::script::{Answer, ScriptReader};
 use buffer_redux::tell::Told;
-use buffer_redux::{BufReader, Buffer, laws};
+use buffer_redux::{BufReader, Buffer};
 use memchr::memchr;
+use redux_play::laws;
 use std::alloc::Global;
 use std::io;
 use std::io::{BufRead, ErrorKind, Read};

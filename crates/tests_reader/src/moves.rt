@@ -1,8 +1,9 @@
 //! What a plain buffer moves under a policy that looks ahead, told by where its bytes stand.
-use buffer_redux::play::{ReaderCall, ReaderRun};
 use buffer_redux::policy::{DoRead, MinBuffered, ReaderPolicy};
 use buffer_redux::tell::Told;
-use buffer_redux::{BufReader, Buffer, laws};
+use buffer_redux::{BufReader, Buffer};
+use redux_play::laws;
+use redux_play::play::{ReaderCall, ReaderRun};
 use std::alloc::Global;
 use std::io;
 use std::io::{BufRead, Cursor, SeekFrom};

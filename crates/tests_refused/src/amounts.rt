@@ -5,14 +5,14 @@ use crate::kinds::block;
 use crate::seen::{digest, same};
 use crate::streams::{Sink, empty_sink, has_taken, reading};
 use crate::trial::{Stop, granted, is};
-use buffer_redux::play::{
-    ReaderAnswer, ReaderCall, ReaderRun, WriterAnswer, WriterCall, WriterRun, play_reader,
-    play_writer,
-};
 use buffer_redux::policy::{FlushAtLeast, FlushExact, MinBuffered, WriterPolicy};
 use buffer_redux::{
     BufImpl, BufReader, BufWriter, Buffer, GrowError, LineWriter, MAX_CAPACITY, MAX_RING,
     MakeError, RawBuf, SeekPlan, SliceDequeBuf, StdBuf, seek_plan,
+};
+use redux_play::play::{
+    ReaderAnswer, ReaderCall, ReaderRun, WriterAnswer, WriterCall, WriterRun, play_reader,
+    play_writer,
 };
 use std::alloc::Global;
 use std::io;

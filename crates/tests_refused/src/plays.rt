@@ -4,11 +4,11 @@ use crate::growths::Reader;
 use crate::seen::same;
 use crate::streams::{Sink, empty_sink, has_taken, reading};
 use crate::trial::{Stop, Trial, granted, is};
-use buffer_redux::play::{
+use buffer_redux::{BufReader, BufWriter};
+use redux_play::play::{
     ReaderAnswer, ReaderCall, ReaderRun, WriterAnswer, WriterCall, WriterRun, play_reader,
     play_writer,
 };
-use buffer_redux::{BufReader, BufWriter};
 use std::alloc::Global;
 
 const READER_CALLS: [ReaderCall; 5] = [

@@ -7,7 +7,8 @@ ghost use Rattle.buffer_redux.specs.ReaderLaws.{WantsBytes};
 
 use buffer_redux::policy::{DoRead, MinBuffered, ReaderPolicy, WriterPolicy};
 use buffer_redux::tell::{TellRead, TellWrite, Told};
-use buffer_redux::{BufReader, BufWriter, Buffer, laws};
+use buffer_redux::{BufReader, BufWriter, Buffer};
+use redux_play::laws;
 use std::alloc::Global;
 use std::io;
 use std::io::{BufRead, ErrorKind, Read, Write};

@@ -7,7 +7,8 @@ ghost use Rattle.buffer_redux.specs.Copy.{ReceivesAll};
 ghost use Rattle.buffer_redux.specs.WriterTells.{writer_log};
 
 use buffer_redux::tell::Told;
-use buffer_redux::{BufReader, BufWriter, Buffer, Unbuffer, laws};
+use buffer_redux::{BufReader, BufWriter, Buffer, Unbuffer};
+use redux_play::laws;
 use std::alloc::Global;
 use std::io;
 use std::io::{BufRead, Cursor, Read, Seek, SeekFrom, Write};

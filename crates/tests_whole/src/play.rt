@@ -1,11 +1,11 @@
 //! Lists of calls, played on a reader and on a writer.
-use buffer_redux::play::{
-    ReaderAnswer, ReaderCall, ReaderRun, WriterAnswer, WriterCall, WriterRun, play_reader,
-    play_writer,
-};
 use buffer_redux::script::{Answer, ScriptReader, ScriptWriter};
 use buffer_redux::tell::Told;
 use buffer_redux::{BufReader, BufWriter, GrowError};
+use redux_play::play::{
+    ReaderAnswer, ReaderCall, ReaderRun, WriterAnswer, WriterCall, WriterRun, play_reader,
+    play_writer,
+};
 use std::alloc::{AllocError, Global};
 use std::io::ErrorKind;
 use std::process::Abort;

@@ -4,7 +4,8 @@ use buffer_redux::policy::{
 };
 use buffer_redux::script::ScriptWriter;
 use buffer_redux::tell::Told;
-use buffer_redux::{BufWriter, LineWriter, laws};
+use buffer_redux::{BufWriter, LineWriter};
+use redux_play::laws;
 use std::alloc::Global;
 use std::io::Write;
 use std::process::Abort;

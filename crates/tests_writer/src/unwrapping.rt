@@ -1,9 +1,9 @@
 //! What becomes of a writer's bytes where it is taken apart, dropped or moved to another place.
-use buffer_redux::laws::{drop_unsent, keep_unsent};
 use buffer_redux::policy::FlushOn;
 use buffer_redux::script::{Answer, ScriptSeeker, ScriptWriter};
 use buffer_redux::tell::Told;
 use buffer_redux::{BufWriter, Buffer, IntoInnerError};
+use redux_play::laws::{drop_unsent, keep_unsent};
 use std::alloc::Global;
 use std::cell::Cell;
 use std::io;

@@ -6,9 +6,9 @@ ghost use Rattle.buffer_redux.specs.Unwrapping.{KeepsUnsent};
 #[cfg(test)]
 mod tests;
 
-use buffer_redux::laws::keep_unsent_lines;
 use buffer_redux::tell::TellWrite;
 use buffer_redux::{Buffer, LineWriter};
+use redux_play::laws::keep_unsent_lines;
 use std::io;
 use std::io::{ErrorKind, Write};
 

@@ -1,6 +1,6 @@
 use Rattle.std.proofs.Common.{refl}
 use Rattle.std.proofs.lemmas.Result.{err_from_is_err_and}
-use Rattle.buffer_redux.proofs.FillClaims.{filled_ok, filled_err}
+use Rattle.buffer_redux.specs.FillLaws.{Filled-ok, Filled-err}
 use Rattle.buffer_redux.proofs.buf_reader.BufReader.read_slowly.Goals as goal
 
 pub returns-in_err-fill_on-clause-read : goal.returns-in_err-fill_on-clause-read
@@ -9,7 +9,7 @@ returns-in_err-fill_on-clause-read g c s asked =
     let f = c.in_err-fill_on.ensures.fill s asked in
     rw (p.1, p.2) (record {
       fill = record {
-        filled = filled_err g.P.ReaderPolicy.rules _ _ _ f.filled;
+        filled = Filled-err g.P.ReaderPolicy.rules _ _ _ f.filled;
         known = f.known;
         ended = f.ended;
         noted = f.noted;
@@ -25,7 +25,7 @@ returns-clause-read g c s asked =
     record {
       filled = c.fill_on.new.self;
       fill = record {
-        filled = filled_ok g.P.ReaderPolicy.rules _ _ c.hand_out.result _ f.filled;
+        filled = Filled-ok g.P.ReaderPolicy.rules _ _ c.hand_out.result _ f.filled;
         known = f.known;
         ended = f.ended;
         noted = f.noted;

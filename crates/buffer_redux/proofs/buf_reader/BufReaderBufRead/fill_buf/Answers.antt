@@ -1,10 +1,11 @@
 use Rattle.std.proofs.Common.{◌≡◌, Ok, refl, subst, sym, ap, ◌∙◌}
 use Rattle.std.proofs.lemmas.Result.{err_from_is_err_and}
 use Rattle.buffer_redux.specs.BufReader.{Fills, InnerGives}
-use Rattle.buffer_redux.specs.ReaderLaws.{Fills-empty}
+use Rattle.buffer_redux.specs.ReaderLaws.{Fills-empty, IfSome-any}
 use Rattle.buffer_redux.specs.Remaining.{reader_remaining}
-use Rattle.buffer_redux.proofs.FillClaims.{fills, filled_ok, filled_err}
-use Rattle.buffer_redux.proofs.KnownAhead.{IfSome_any, fill_front, fill_end}
+use Rattle.buffer_redux.specs.FillLaws.{Filled-ok, Filled-err}
+use Rattle.buffer_redux.proofs.FillClaims.{fills}
+use Rattle.buffer_redux.proofs.KnownAhead.{fill_front, fill_end}
 use Rattle.buffer_redux.proofs.buf_reader.BufReaderBufRead.fill_buf.Goals as goal
 
 pub returns-in_err-fill : goal.returns-in_err-fill
@@ -19,13 +20,13 @@ returns-in_err-fill g c =
         refl,
         (λ _. tt),
         record {
-          fills = fills rules _ _ _ f.whole (filled_err rules _ _ _ f.filled);
+          fills = fills rules _ _ _ f.whole (Filled-err rules _ _ _ f.filled);
           known = f.known;
           shown = tt;
           noted = f.noted;
         },
       ),
-      record { front = IfSome_any known _ (λ _. tt); end = IfSome_any known _ (λ _. tt); after_borrow = tt },
+      record { front = IfSome-any known _ (λ _. tt); end = IfSome-any known _ (λ _. tt); after_borrow = tt },
     )
 
 pub returns : goal.returns
@@ -35,7 +36,7 @@ returns g c =
     let s = c.args.self.now in
     let t = c.fill.new.self in
     let f = c.in_ok-fill.ensures in
-    let done = fills rules s _ t f.whole (filled_ok rules _ _ c.buf.result _ f.filled) in
+    let done = fills rules s _ t f.whole (Filled-ok rules _ _ c.buf.result _ f.filled) in
     let shown : c.buf.result.now ≡ t.block.bytes = c.buf.ensures ∙ ap (λ x. x.block.bytes) c.self.view_is in (
       (
         refl,

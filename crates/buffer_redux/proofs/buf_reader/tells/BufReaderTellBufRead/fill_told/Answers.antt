@@ -4,7 +4,8 @@ use Rattle.redux_tell.specs.GoesOn.{GoesOn}
 use Rattle.redux_tell.specs.StreamLog.{with_shown, after_shown}
 use Rattle.buffer_redux.specs.BufReader.{Fills}
 use Rattle.buffer_redux.specs.ReaderTells.{reader_log, ReaderWent}
-use Rattle.buffer_redux.proofs.FillClaims.{fills, filled_ok, filled_err}
+use Rattle.buffer_redux.specs.FillLaws.{Filled-ok, Filled-err}
+use Rattle.buffer_redux.proofs.FillClaims.{fills}
 use Rattle.buffer_redux.proofs.buf_reader.tells.BufReaderTellBufRead.fill_told.Goals as goal
 
 pub returns-in_err-fill_noted : goal.returns-in_err-fill_noted
@@ -13,7 +14,7 @@ returns-in_err-fill_noted g c =
     let p = err_from_is_err_and c.from_residual.result c.from_residual.ensures.1 in
     let f = c.in_err-fill_noted.ensures in
     let bytes = c.fill_noted.new.self.block.bytes in
-    let done = fills rules _ _ _ f.whole (filled_err rules _ _ _ f.filled) in
+    let done = fills rules _ _ _ f.whole (Filled-err rules _ _ _ f.filled) in
     let shows : GoesOn c.args.self.now.block.bytes bytes =
     record { more = done.in_order.got; equal = done.in_order.equal } in
     rw (p.1, p.2) (
@@ -35,7 +36,7 @@ returns g c =
     let s = c.args.self.now in
     let t = c.fill_noted.new.self in
     let f = c.in_ok-fill_noted.ensures in
-    let done = fills rules s _ t f.whole (filled_ok rules _ _ c.buf.result _ f.filled) in
+    let done = fills rules s _ t f.whole (Filled-ok rules _ _ c.buf.result _ f.filled) in
     let shown : t.block.bytes ≡ c.buf.result.now =
     sym (c.buf.ensures ∙ ap (λ x. x.block.bytes) c.self.view_is) in
     let tells : reader_log t ≡ after_shown (reader_log s) c.buf.result.now =

@@ -1,8 +1,0 @@
-use Rattle.std.proofs.Common.{rules}
-use Rattle.buffer_redux.proofs.Unwrapped.{drops_unsent}
-use Rattle.buffer_redux.proofs.laws.unsent.drop_unsent_lines.Goals as goal
-
-pub returns-clause-dropped : goal.returns-clause-dropped
-returns-clause-dropped g c =
-    drops_unsent g.W.Tell.log g.W.TellWrite.stretch _ c.args.lines (λ w w' b b' e called. search rules)
-    _ _ c.finish.ensures

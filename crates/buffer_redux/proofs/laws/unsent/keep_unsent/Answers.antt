@@ -1,8 +1,0 @@
-use Rattle.std.proofs.Common.{rules}
-use Rattle.buffer_redux.proofs.Unwrapped.{keeps_unsent}
-use Rattle.buffer_redux.proofs.laws.unsent.keep_unsent.Goals as goal
-
-pub returns : goal.returns
-returns g c =
-    keeps_unsent g.W.Tell.log g.W.TellWrite.stretch _ c.args.writer (λ w w' b b' e called. search rules)
-    _ _ c.finish.ensures

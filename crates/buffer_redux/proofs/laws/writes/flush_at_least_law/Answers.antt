@@ -1,7 +1,0 @@
-use Rattle.buffer_redux.specs.WriterPolicyLaws.{Writes-at_least}
-use Rattle.buffer_redux.proofs.laws.writes.flush_at_least_law.Goals as goal
-
-pub returns-clause-few_left : goal.returns-clause-few_left
-returns-clause-few_left g c =
-    Writes-at_least c.args.writer.now c.args.bytes.now (λ p. p.0)
-    c.write.result c.write.new.self c.write.ensures.steps

@@ -1,7 +1,0 @@
-use Rattle.buffer_redux.specs.WriterPolicyLaws.{Writes-exact}
-use Rattle.buffer_redux.proofs.laws.writes.flush_exact_law.Goals as goal
-
-pub returns-clause-sent : goal.returns-clause-sent
-returns-clause-sent g c =
-    Writes-exact c.args.writer.now c.args.bytes.now (λ p. p.0)
-    c.write.result c.write.new.self c.write.ensures.steps

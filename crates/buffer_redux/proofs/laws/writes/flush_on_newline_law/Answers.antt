@@ -1,7 +1,0 @@
-use Rattle.buffer_redux.specs.WriterPolicyLaws.{Writes-flush_on}
-use Rattle.buffer_redux.proofs.laws.writes.flush_on_newline_law.Goals as goal
-
-pub returns-clause-none_left : goal.returns-clause-none_left
-returns-clause-none_left g c =
-    Writes-flush_on c.args.writer.now c.args.bytes.now (λ p. 10)
-    c.write.result c.write.new.self c.write.ensures.steps

@@ -1,7 +1,0 @@
-use Rattle.buffer_redux.specs.WroteExactly.{Writes-exactly}
-use Rattle.buffer_redux.proofs.laws.writes.write_law.Goals as goal
-
-pub returns-clause-exactly : goal.returns-clause-exactly
-returns-clause-exactly g c =
-    Writes-exactly g.P.WriterPolicy.rules c.args.writer.now c.args.bytes.now
-    c.write.result c.write.new.self c.write.ensures.steps

@@ -1,0 +1,6 @@
+pub mod PlayReading
+pub mod PlayWriting
+pub mod WriterCounts
+pub mod CopyKnown
+pub mod FlushKnown
+pub mod Unwrapped

@@ -1,0 +1,72 @@
+-- Runs of a writer go on by one step, and accept what their steps do; and no call consumes more than it sends.
+use Rattle.std.proofs.Common.{◌≡◌, ℕ, ◌<◌, Bool, List, [], ◌∷◌, ◌++◌, length, take, refl, sym, subst, ◌∙◌, arith}
+use Rattle.std.specs.Prelude.{MatchBool}
+use Rattle.redux_tell.specs.LogGrows.{WriteLogGrows-none, WriteLogGrows-joins}
+use Rattle.redux_play.specs.declared.play.WriterCall.{WriterCall}
+use Rattle.redux_play.specs.declared.play.WriterAnswer.{WriterAnswer}
+use Rattle.redux_policy.specs.Policy.{WriteRules}
+use Rattle.buffer_redux.specs.Buffered.{Buffered}
+use Rattle.buffer_redux.specs.WriterLaws.{WritesInOrder-none, WritesInOrder-joins}
+use Rattle.redux_play.specs.PlayWriter.{Accepts, WriterStep, WriterRuns, WriterPlays, accepted_bytes, bytes_accepted_by}
+
+Accepts-none : {S P : Type 0} (s : Buffered S P) → Accepts s [] s
+Accepts-none s = record {
+  in_order = WritesInOrder-none s;
+  grows = WriteLogGrows-none s.log.writes;
+  consumed = omega arith;
+  capacity = omega arith;
+  kind = refl;
+  noted = refl;
+}
+
+Accepts-joins : {S P : Type 0} (s m t : Buffered S P) (a b : List ℕ) → Accepts s a m → Accepts m b t
+    → Accepts s (a ++ b) t
+Accepts-joins s m t a b p q = record {
+  in_order = WritesInOrder-joins s m t a b p.in_order q.in_order;
+  grows = WriteLogGrows-joins s.log.writes m.log.writes t.log.writes p.grows q.grows;
+  consumed = omega (arith, p.consumed, q.consumed);
+  capacity = omega (arith, p.capacity, q.capacity);
+  kind = q.kind ∙ p.kind;
+  noted = q.noted ∙ p.noted;
+}
+
+module _ {S P : Type 0} (rules : WriteRules P) where
+  pub WriterRuns-more : (s : Buffered S P) (calls : List WriterCall) (answers : List WriterAnswer)
+      (m : Buffered S P)
+      (call : WriterCall) (answer : WriterAnswer) (t : Buffered S P)
+      → WriterRuns rules s calls answers m → WriterStep rules m call answer t
+      → WriterRuns rules s (calls ++ call ∷ []) (answers ++ answer ∷ []) t
+  WriterRuns-more s [] [] m call answer t e step =
+      (t, subst (λ x. WriterStep rules x call answer t) (sym e) step, refl)
+  WriterRuns-more s [] (a ∷ answers) m call answer t e step = absurd e
+  WriterRuns-more s (c ∷ calls) [] m call answer t e step = absurd e
+  WriterRuns-more s (c ∷ calls) (a ∷ answers) m call answer t h step =
+      (h.0, h.1, WriterRuns-more h.0 calls answers m call answer t h.2 step)
+
+  -- what a run accepted
+  WriterRuns-accepts : (s : Buffered S P) (calls : List WriterCall) (answers : List WriterAnswer)
+      (t : Buffered S P)
+      → WriterRuns rules s calls answers t → Accepts s (accepted_bytes calls answers) t
+  WriterRuns-accepts s [] [] t e = subst (Accepts s []) e (Accepts-none s)
+  WriterRuns-accepts s [] (a ∷ answers) t e = absurd e
+  WriterRuns-accepts s (c ∷ calls) [] t e = absurd e
+  WriterRuns-accepts s (c ∷ calls) (a ∷ answers) t h =
+      Accepts-joins s h.0 t (bytes_accepted_by c a) (accepted_bytes calls answers) h.1.accepts
+      (WriterRuns-accepts h.0 calls answers t h.2)
+
+  -- where the player stops, at the end or at a call that it didn't begin
+  pub WriterPlays-stops : (s : Buffered S P) (calls : List WriterCall) (old answers : List WriterAnswer)
+      (t : Buffered S P)
+      (new : List WriterAnswer) → new ≡ old ++ answers → (ok : Bool) (index : ℕ) → length answers ≡ index
+      → WriterRuns rules s (take index calls) answers t
+      → MatchBool ok (index ≡ length calls) (index < length calls) → WriterPlays rules s calls old ok new t
+  WriterPlays-stops s calls old answers t new gained ok index count run ended =
+      let run' : WriterRuns rules s (take (length answers) calls) answers t =
+      subst (λ n. WriterRuns rules s (take n calls) answers t) (sym count) run in
+      record {
+        answers = answers;
+        gained = gained;
+        run = run';
+        ended = subst (λ n. MatchBool ok (n ≡ length calls) (n < length calls)) (sym count) ended;
+        accepts = WriterRuns-accepts s (take (length answers) calls) answers t run';
+      }

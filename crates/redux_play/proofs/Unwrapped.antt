@@ -1,0 +1,75 @@
+-- What follows where a writer was taken apart by a handler that leaves the inner writer, and leaves or clears the
+-- buffer.
+use Rattle.std.proofs.Common.{◌≡◌, [], length, Result, Ok, Err, sym, ap, ◌∙◌, arith, length-drop}
+use Rattle.std.proofs.lemmas.List.{nil_from_length}
+use Rattle.std.specs.Prelude.{MatchResult}
+use Rattle.std.specs.Borrow.{MutBor}
+use Rattle.std.specs.declared.io.Error.{Error}
+use Rattle.redux_buffer.specs.Block.{Block, Clears}
+use Rattle.redux_tell.specs.Faults.{SendErrorCaused}
+use Rattle.redux_tell.specs.StreamLog.{StreamLog}
+use Rattle.redux_buffer.specs.Transfer.{Sends}
+use Rattle.buffer_redux.specs.Buffered.{Buffered, with_block, with_inner}
+use Rattle.buffer_redux.specs.Unwrapping.{Handler, Handled, SendsOrHandles, KeepsUnsent, DropsUnsent}
+use Rattle.buffer_redux.specs.WriterLaws.{WritesInOrder-sends}
+
+-- a handler leaves the inner writer as it was, and the buffer in this relation to what it was
+abbrev pub Leaves : {S : Type 0} → Handler S → (Block → Block → Type 0) → Type 0
+Leaves {S} handler Left =
+    (w w' : MutBor S) (b b' : MutBor Block) (e : Error) → handler w b e w' b'
+    → (w'.now ≡ w.now) × Left b.now b'.now
+
+module _ {S P : Type 0} (tells : S → StreamLog) (stretch : S → S → Type 0) (handler : Handler S)
+    (s : Buffered S P) where
+  parts_left : (Left : Block → Block → Type 0) → Leaves handler Left
+      → (sending : Result (Unit {0}) Error) (sent : Buffered S P) (inner : S) (b : Block)
+      → MatchResult sending
+      (λ _. (inner ≡ sent.inner) × (b ≡ sent.block)) (λ e. Handled handler sent.inner sent.block e inner b)
+      → (inner ≡ sent.inner) × MatchResult sending (λ _. b ≡ sent.block) (λ _. Left sent.block b)
+  parts_left Left leaves (Ok _) sent inner b same = same
+  parts_left Left leaves (Err e) sent inner b h =
+      let left = leaves h.lent_inner h.left_inner h.lent_buffer h.left_buffer e h.called in
+      (sym h.leaves_inner ∙ left.0 ∙ h.shows_inner, rw (sym h.shows_buffer, sym h.leaves_buffer) left.1)
+
+  same_left : (sending : Result (Unit {0}) Error) (b b' : Block)
+      → MatchResult sending (λ _. b' ≡ b) (λ _. b' ≡ b) → b' ≡ b
+  same_left (Ok _) b b' same = same
+  same_left (Err _) b b' same = same
+
+  why_left : (sending : Result (Unit {0}) Error) (b : Block) (log : StreamLog)
+      → Sends (length s.block.bytes) s.block s.log sending b log
+      → MatchResult sending (λ _. b.bytes ≡ []) (λ e. SendErrorCaused s.log.writes log.writes e)
+  why_left (Ok _) b log f = nil_from_length b.bytes
+      (omega (arith, ap length f.sent.dropped.bytes, length-drop f.count s.block.bytes, f.whole))
+  why_left (Err e) b log f = record { interrupts = f.interrupts; cause = f.failed.cause }
+
+  -- what sending left, before the handler was called
+  sending_keeps : (inner : S) (b : Block) (f : SendsOrHandles tells stretch handler s inner b)
+      → KeepsUnsent tells s f.sent.inner f.sent.block
+  sending_keeps inner b f =
+      let left : Buffered S P = with_inner tells (with_block s f.sent.block) f.sent.inner in
+      let sends : Sends (length s.block.bytes) s.block s.log f.sending left.block left.log =
+      rw (sym f.went.told_after) f.sends in
+      record {
+        sending = f.sending;
+        sends = sends;
+        in_order = WritesInOrder-sends s left (length s.block.bytes) f.sending sends;
+        why = why_left f.sending left.block left.log sends;
+      }
+
+  pub keeps_unsent : Leaves handler (λ b b'. b' ≡ b)
+      → (inner : S) (b : Block) → SendsOrHandles tells stretch handler s inner b → KeepsUnsent tells s inner b
+  keeps_unsent leaves inner b f =
+      let left = parts_left (λ b b'. b' ≡ b) leaves f.sending f.sent inner b f.ended in
+      rw (left.0, same_left f.sending f.sent.block b left.1) (sending_keeps inner b f)
+
+  pub drops_unsent : Leaves handler Clears
+      → (inner : S) (b : Block) → SendsOrHandles tells stretch handler s inner b → DropsUnsent tells s inner b
+  unfolding sending_keeps
+  drops_unsent leaves inner b f =
+      let left = parts_left Clears leaves f.sending f.sent inner b f.ended in
+      rw (left.0) (record {
+        unsent = f.sent.block;
+        kept = sending_keeps inner b f;
+        dropped = left.1;
+      })

@@ -1,0 +1,41 @@
+use Rattle.std.proofs.Common.{true, false, [], ◌∷◌, ◌++◌, take, sym, ap, subst, ◌∙◌, arith, append_assoc, length-append}
+use Rattle.std.proofs.lemmas.List.{take_more}
+use Rattle.std.proofs.lemmas.Result.{err_from_is_err_and}
+use Rattle.redux_play.specs.PlayWriter.{WriterRuns}
+use Rattle.redux_play.proofs.PlayWriting.{WriterRuns-more, WriterPlays-stops}
+use Rattle.redux_play.proofs.play.play_writer.Goals as goal
+
+pub returns-in_err-reserve-clause-plays : goal.returns-in_err-reserve-clause-plays
+returns-in_err-reserve-clause-plays g c =
+    let inv = c.loop-call.invariant in
+    let p = err_from_is_err_and c.from_residual.result c.from_residual.ensures.1 in
+    rw (p.1)
+    (WriterPlays-stops g.P.WriterPolicy.rules c.args.writer.now c.args.calls.now c.args.run.now.answers.items inv.answers
+    c.loop-call.writer c.reserve.new.self.items (c.in_err-reserve.ensures.items ∙ inv.gained) false
+    c.loop-call.call-index inv.count inv.run c.loop-call-test.true)
+
+pub loop-call-preserved : goal.loop-call-preserved
+loop-call-preserved g c =
+    let rules = g.P.WriterPolicy.rules in
+    let inv = c.loop-call.invariant in
+    let s = c.args.writer.now in
+    let t = c.step.new.writer in
+    let answer = c.step.result in
+    record {
+      answers = inv.answers ++ answer ∷ [];
+      gained = c.record.ensures ∙ ap (λ l. l ++ answer ∷ []) (c.in_ok-reserve.ensures.items ∙ inv.gained)
+          ∙ append_assoc c.args.run.now.answers.items inv.answers (answer ∷ []);
+      count = length-append inv.answers (answer ∷ []) ∙ omega (arith, inv.count);
+      run = subst (λ l. WriterRuns rules s l (inv.answers ++ answer ∷ []) t)
+          (sym (take_more c.args.calls.now c.loop-call.call-index _ c.loop-call-test.true))
+          (WriterRuns-more rules s (take c.loop-call.call-index c.args.calls.now) inv.answers c.loop-call.writer _ answer t
+          inv.run c.step.ensures.step);
+      whole = c.step.ensures.whole;
+    }
+
+pub returns-clause-plays : goal.returns-clause-plays
+returns-clause-plays g c =
+    let inv = c.loop-call.invariant in
+    WriterPlays-stops g.P.WriterPolicy.rules c.args.writer.now c.args.calls.now c.args.run.now.answers.items inv.answers
+    c.loop-call.writer c.loop-call.run.answers.items inv.gained true c.loop-call.call-index inv.count inv.run
+    (omega (arith, c.loop-call-test.false, c.loop-call.auto.call-index-end))

@@ -1,0 +1,104 @@
+-- The calls of a buffered writer as steps, and whole runs of them.
+use Rattle.std.specs.Prelude.{◌≡◌, ℕ, ◌+◌, ◌<◌, ◌≤◌, List, [], ◌∷◌, ◌++◌, length, take, Ok, Err, Bool, MatchBool}
+use Rattle.std.specs.IoError.{error_kind}
+use Rattle.std.specs.declared.io.Error.{Error}
+use Rattle.std.specs.declared.io.ErrorKind.{ErrorKind}
+use Rattle.redux_buffer.specs.GrowError.{GrowthRefused}
+use Rattle.redux_tell.specs.Faults.{SendErrorCaused}
+use Rattle.redux_tell.specs.LogGrows.{WriteLogGrows}
+use Rattle.redux_play.specs.declared.play.WriterCall.{WriterCall}
+use Rattle.redux_play.specs.declared.play.WriterCall.TheVariants.{Write, Flush, MakeRoom, Reserve}
+use Rattle.redux_play.specs.declared.play.WriterAnswer.{WriterAnswer}
+use Rattle.redux_play.specs.declared.play.WriterAnswer.TheVariants.{Count, Done, Fault, Refused}
+use Rattle.redux_policy.specs.Policy.{WriteRules}
+use Rattle.buffer_redux.specs.Buffered.{Buffered}
+use Rattle.buffer_redux.specs.BufWriter.{WritesInOrder, WriteErrorCaused, EmptyWriteCaused, Writes, Flushes, IsFlushed}
+use Rattle.redux_play.specs.PlayRoom.{RoomMade, ReserveDone}
+
+-- the bytes that a call with this answer took in: the first k of a write that returned `Ok(k)`, and of all calls
+abbrev pub bytes_accepted_by : WriterCall → WriterAnswer → List ℕ
+bytes_accepted_by (Write bs) (Count k) = take k bs.now
+bytes_accepted_by call answer = []
+
+abbrev pub accepted_bytes : List WriterCall → List WriterAnswer → List ℕ
+accepted_bytes [] answers = []
+accepted_bytes (call ∷ calls) [] = []
+accepted_bytes (call ∷ calls) (answer ∷ answers) = bytes_accepted_by call answer ++ accepted_bytes calls answers
+
+-- `Write(bs)` with `Count(k)`: the first k bytes of bs were taken in
+pub record WriteCounted {S P : Type 0} (rules : WriteRules P) (s : Buffered S P) (bs : List ℕ) (k : ℕ)
+    (t : Buffered S P) : Type 0 where
+  pub most : k ≤ length bs
+  pub empty : k ≡ 0 → 0 < length bs → EmptyWriteCaused rules s bs t
+  pub steps : Writes rules s bs (Ok k) t
+
+-- `Write(bs)` with `Fault(kind)`: nothing was taken in
+pub record WriteFailed {S P : Type 0} (rules : WriteRules P) (s : Buffered S P) (bs : List ℕ) (kind : ErrorKind)
+    (t : Buffered S P) : Type 0 where
+  pub error : Error
+  pub is_kind : error_kind error ≡ kind
+  pub caused : WriteErrorCaused rules s bs (Err error) t
+  pub steps : Writes rules s bs (Err error) t
+
+-- `Flush` with `Done`
+pub record FlushDone {S P : Type 0} (s t : Buffered S P) : Type 0 where
+  pub done : IsFlushed s t
+  pub steps : Flushes s (Ok tt) t
+
+-- `Flush` with `Fault(kind)`: sending failed, or the flush of the writer inside
+pub record FlushFailed {S P : Type 0} (s : Buffered S P) (kind : ErrorKind) (t : Buffered S P) : Type 0 where
+  pub error : Error
+  pub is_kind : error_kind error ≡ kind
+  pub caused : SendErrorCaused s.log.writes t.log.writes error
+  pub steps : Flushes s (Err error) t
+
+-- what this answer to this call says of the writer before and after; other pairs are no steps
+abbrev pub WriterAnswers : {S P : Type 0} → WriteRules P → Buffered S P → WriterCall → WriterAnswer → Buffered S P
+    → Type 0
+WriterAnswers rules s (Write bs) (Count k) t = WriteCounted rules s bs.now k t
+WriterAnswers rules s (Write bs) (Fault kind) t = WriteFailed rules s bs.now kind t
+WriterAnswers rules s Flush Done t = FlushDone s t
+WriterAnswers rules s Flush (Fault kind) t = FlushFailed s kind t
+WriterAnswers rules s MakeRoom Done t = RoomMade s t
+WriterAnswers rules s (Reserve a) Done t = ReserveDone s a t
+WriterAnswers rules s (Reserve a) (Refused e) t = GrowthRefused a s.block e × (t ≡ s)
+WriterAnswers rules s call answer t = ⊥
+
+-- no more was consumed than the writer inside received
+abbrev pub ConsumesSent : {S P : Type 0} → Buffered S P → Buffered S P → Type 0
+ConsumesSent s t = t.block.consumed + length s.log.writes.received ≤ s.block.consumed + length t.log.writes.received
+
+-- bytes were taken in, and none was lost or changed place. The capacity didn't fall, the kind stayed, and the writer noted
+-- no call of its own
+pub record Accepts {S P : Type 0} (s : Buffered S P) (taken_in : List ℕ) (t : Buffered S P) : Type 0 where
+  pub in_order : WritesInOrder s taken_in t
+  pub grows : WriteLogGrows s.log.writes t.log.writes
+  pub consumed : ConsumesSent s t
+  pub capacity : s.block.capacity ≤ t.block.capacity
+  pub kind : t.block.kind ≡ s.block.kind
+  pub noted : t.own_calls ≡ s.own_calls
+
+-- one call with its answer
+pub record WriterStep {S P : Type 0} (rules : WriteRules P) (s : Buffered S P) (call : WriterCall)
+    (answer : WriterAnswer) (t : Buffered S P) : Type 0 where
+  pub accepts : Accepts s (bytes_accepted_by call answer) t
+  pub answers : WriterAnswers rules s call answer t
+
+-- calls with as many answers, one step after another
+abbrev pub WriterRuns : {S P : Type 0} → WriteRules P → Buffered S P → List WriterCall → List WriterAnswer
+    → Buffered S P → Type 0
+WriterRuns rules s [] [] t = s ≡ t
+WriterRuns {S} {P} rules s (call ∷ calls) (answer ∷ answers) t =
+    (m : Buffered S P) × WriterStep rules s call answer m × WriterRuns rules m calls answers t
+WriterRuns rules s [] (answer ∷ answers) t = ⊥
+WriterRuns rules s (call ∷ calls) [] t = ⊥
+
+-- what was played: the answers that were gained are a run of the first calls, as many as there are answers; at Ok these
+-- are all calls, and else some are left, of which none was begun
+pub record WriterPlays {S P : Type 0} (rules : WriteRules P) (s : Buffered S P) (calls : List WriterCall)
+    (old : List WriterAnswer) (ok : Bool) (new : List WriterAnswer) (t : Buffered S P) : Type 0 where
+  pub answers : List WriterAnswer
+  pub gained : new ≡ old ++ answers
+  pub run : WriterRuns rules s (take (length answers) calls) answers t
+  pub ended : MatchBool ok (length answers ≡ length calls) (length answers < length calls)
+  pub accepts : Accepts s (accepted_bytes (take (length answers) calls) answers) t

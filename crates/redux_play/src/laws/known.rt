@@ -1,0 +1,47 @@
+//! What goes over to a stream where std knows what the streams hold.
+ghost use Rattle.std.specs.Prelude.{◌≡◌, IfErr, OnOk};
+ghost use Rattle.std.specs.Io.KnownBytes.{Appends};
+ghost use Rattle.redux_tell.specs.Copy.{CopyBuf, MovesKnown, ReceivesAll};
+ghost use Rattle.redux_tell.specs.Faults.{SendErrorCaused};
+ghost use Rattle.redux_tell.specs.Told.{told_stream};
+ghost use Rattle.buffer_redux.specs.BufWriter.{Flushes, IsFlushed};
+ghost use Rattle.buffer_redux.specs.ReaderTells.{reader_log, ReaderWent};
+ghost use Rattle.buffer_redux.specs.Remaining.{reader_remaining};
+
+use buffer_redux::{BufReader, BufWriter};
+use redux_policy::{ReaderPolicy, WriterPolicy};
+use redux_tell::copy_buf;
+use redux_tell::tell::{TellRead, TellWrite, Told};
+use std::io;
+use std::io::Write;
+
+/// Of a reader of which std knows what is left, [`copy_buf`] moves just that to the writer. At `Ok` that was all, unless
+/// the writer took nothing of something.
+pub fn copy_known<R: TellRead, P: ReaderPolicy, W: TellWrite>(
+    from: &mut BufReader<R, P>,
+    to: &mut W,
+) -> io::Result<u64>
+    ensures moved { MovesKnown (reader_remaining R.remaining P.rules from.old)
+        (reader_remaining R.remaining P.rules from.new) (W.log to.old).writes (W.log to.new).writes }
+    ensures all { OnOk result (ReceivesAll (reader_remaining R.remaining P.rules from.old)
+        (W.log to.old).writes (W.log to.new).writes) }
+    ensures copied { CopyBuf W.log W.stretch W.call result
+        (reader_log from.old).fills (reader_log from.new).fills to.old to.new }
+    ensures reader { ReaderWent R.remaining P.rules from.old from.new }
+    ensures writer { W.stretch to.old to.new }
+{
+    copy_buf(from, to)
+}
+
+/// After an Ok flush, a stream of std of which std knows what it holds has gained what was buffered.
+pub fn flush_known<S: Write, P: WriterPolicy>(writer: &mut BufWriter<Told<S>, P>) -> io::Result<()>
+    ensures held { OnOk result (Appends (S.contents (told_stream writer.old.inner))
+        (S.contents (told_stream writer.new.inner)) writer.old.block.bytes) }
+    ensures flushed { OnOk result (IsFlushed writer.old writer.new) }
+    ensures caused { IfErr result (λ e.
+        SendErrorCaused writer.old.log.writes writer.new.log.writes e) }
+    ensures steps { Flushes writer.old result writer.new }
+    ensures noted { writer.new.own_calls ≡ writer.old.own_calls }
+{
+    writer.flush()
+}

@@ -1,0 +1,60 @@
+//! Runs that spare a plain buffer moves, one after another.
+ghost use Rattle.std.specs.Prelude.{◌≡◌, ℕ, ◌≤◌, is_ok};
+ghost use Rattle.std.specs.List.{All};
+ghost use Rattle.buffer_redux.specs.Buffered.{Buffered, with_policy};
+ghost use Rattle.redux_policy.specs.MinBuffered.{min_read_rules};
+ghost use Rattle.redux_play.specs.PlayReader.{MakesNoRoom, ReaderPlays, with_handed};
+ghost use Rattle.redux_policy.specs.Policy.{ClaimsToSpare};
+ghost use Rattle.buffer_redux.specs.Sparing.{BeginsEmpty, GrowsAndSeeks, MovedAtMostGiven, Spared};
+
+use crate::play::{ReaderCall, ReaderRun, play_reader};
+use buffer_redux::BufReader;
+use redux_policy::{MinBuffered, ReaderPolicy};
+use redux_tell::tell::{TellRead, TellSeek};
+use std::alloc::{AllocError, Global};
+use std::io;
+use std::io::{Seek, SeekFrom};
+
+/// Plays calls without a `MakeRoom` under a policy that spares a number. What was spared up to here is spared on.
+///
+/// So a plain buffer that was empty at some time, and then had three times that number as its capacity, has moved since
+/// that time no more bytes than the reader was given.
+pub fn play_sparing<R: TellRead, P: ReaderPolicy>(
+    alloc: Global,
+    reader: &mut BufReader<R, P>,
+    calls: &[ReaderCall],
+    run: &mut ReaderRun,
+) -> Result<(), AllocError>
+    ensures spared { (keep : ℕ) (first : Buffered R P) → ClaimsToSpare (P.rules.claims reader.old.policy).spares keep
+        → All MakesNoRoom calls.now → Spared keep first reader.old → Spared keep first reader.new }
+    ensures moved { (keep : ℕ) (first : Buffered R P) → ClaimsToSpare (P.rules.claims reader.old.policy).spares keep
+        → All MakesNoRoom calls.now → Spared keep first reader.old → BeginsEmpty keep first
+        → MovedAtMostGiven first reader.new }
+    ensures claims { P.rules.claims reader.new.policy ≡ P.rules.claims reader.old.policy }
+    ensures plays { ReaderPlays P.rules
+        (with_handed reader.old run.old.handed.items) calls.now run.old.answers.items (is_ok result)
+        run.new.answers.items (with_handed reader.new run.new.handed.items) }
+{
+    play_reader(alloc, reader, calls, run)
+}
+
+/// What may come between two runs: another minimum, a growth of the buffer, and a seek. What was spared up to here is
+/// spared on, and so is each number that is at least the new minimum; also where the growth or the seek fails. The new
+/// minimum stays then too, and nothing but it is new where the growth was refused.
+pub fn spare_between<R: TellSeek>(
+    reader: &mut BufReader<R, MinBuffered>,
+    min: usize,
+    more: usize,
+    to: SeekFrom,
+) -> io::Result<u64>
+    ensures spared { (keep : ℕ) (first : Buffered R MinBuffered) → Spared keep first reader.old
+        → Spared keep first reader.new }
+    ensures claims { (keep : ℕ) → min ≤ keep
+        → ClaimsToSpare (min_read_rules.claims reader.new.policy).spares keep }
+    ensures ended { GrowsAndSeeks R.readies more to (with_policy reader.old (record { 0 = min }))
+        result reader.new }
+{
+    reader.policy_mut().set_min(min);
+    reader.reserve(more)?;
+    reader.seek(to)
+}
