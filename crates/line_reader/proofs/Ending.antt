@@ -1,0 +1,61 @@
+-- How often a reader gave nothing in one fill: at its end alone.
+use Rattle.std.proofs.Common.{◌≡◌, ℕ, zero, suc, ◌+◌, ◌<◌, ◌≤◌, length, Option, None, Some, Ok, Err, inl, inr, refl, sym, ap, ◌∙◌, arith, append-nil}
+use Rattle.std.specs.declared.io.Error.{Error}
+use Rattle.buffer_redux.specs.BufReader.{Fills, RanDry}
+use Rattle.buffer_redux.specs.Buffered.{Buffered}
+use Rattle.buffer_redux.specs.Fill.{Turns}
+use Rattle.buffer_redux.specs.MinBuffered.{min_read_rules}
+use Rattle.buffer_redux.specs.StreamLog.{zero_of_some, zero_of_none}
+use Rattle.buffer_redux.specs.declared.policy.MinBuffered.{MinBuffered}
+use Rattle.line_reader.specs.NextLine.{empties}
+
+-- each turn gave some bytes
+turns_gave : {S : Type 0} (k : ℕ) (s t : Buffered S MinBuffered) → Turns min_read_rules k s t → empties t ≡ empties s
+turns_gave zero s t same = ap (λ x. x.log.reads.zero_reads) (sym same)
+turns_gave (suc k) s t (m, run, turn) =
+    ap (λ l. l.reads.zero_reads) turn.read.told
+    ∙ zero_of_some turn.count turn.read.out (empties m) (inl turn.some) ∙ turns_gave k s m run
+
+abbrev pub number_of : Option ℕ → ℕ
+number_of None = 0
+number_of (Some n) = n
+
+module _ {S A : Type 0} (s t : Buffered S MinBuffered) where
+  -- a fill that failed
+  pub none_before_fault : (e : Error) → Fills {A = A} min_read_rules s (Err e) t → empties t ≡ empties s
+  none_before_fault e fills =
+      let f = fills.filled in
+      elim f.ends [
+        | inl refused ↦ ap (λ l. l.reads.zero_reads) refused.told ∙ turns_gave f.count s f.last f.turns
+        | inr faulted ↦ ap (λ l. l.reads.zero_reads) faulted.read.told ∙ turns_gave f.count s f.last f.turns
+      ]
+
+  -- a fill that left too few, and one that found enough
+  module _ (a : A) (fills : Fills min_read_rules s (Ok a) t) where
+    pub once_at_end : length t.block.bytes < s.policy.0 → empties t ≡ empties s + 1
+    once_at_end few =
+        let f = fills.filled in
+        let gave = turns_gave f.count s f.last f.turns in
+        let dry : RanDry s t = elim (fills.ahead.enough refl) [ inl many ↦ absurd (omega (arith, many, few)) | inr is ↦ is ] in
+        elim f.ends [
+          | inl declined ↦ absurd (omega (arith, dry, gave, ap (λ l. l.reads.zero_reads) declined.told))
+          | inr (inl full) ↦ absurd (omega (arith, dry, gave, ap (λ l. l.reads.zero_reads) full.told))
+          | inr (inr end) ↦ ap (λ l. l.reads.zero_reads) end.read.told
+              ∙ zero_of_none 0 end.read.out (empties f.last) refl (omega (arith, end.read.offered, end.ordered.room))
+              ∙ ap (λ n. n + 1) gave
+        ]
+
+    pub none_where_enough : s.policy.0 ≤ length t.block.bytes → empties t ≡ empties s
+    none_where_enough many =
+        let f = fills.filled in
+        let gave = turns_gave f.count s f.last f.turns in
+        elim f.ends [
+          | inl declined ↦ ap (λ l. l.reads.zero_reads) declined.told ∙ gave
+          | inr (inl full) ↦ ap (λ l. l.reads.zero_reads) full.told ∙ gave
+          | inr (inr end) ↦ (
+              let asked = end.ordered.asked in
+              let claimed : t.policy.0 ≡ s.policy.0 = ap (λ c. number_of c.minimum) fills.claims in
+              let same = ap length (end.read.added.bytes ∙ append-nil end.seen.bytes ∙ asked.law.bytes) in
+              absurd (omega (arith, many, same, asked.allowed.1.0, ap (λ p. p.0) asked.allowed.0, claimed))
+              )
+        ]

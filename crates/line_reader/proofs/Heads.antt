@@ -1,0 +1,123 @@
+-- What a call of a reader of lines has done so far, turn by turn.
+use Rattle.std.proofs.Common.{◌≡◌, ℕ, ◌+◌, ◌<◌, ◌≤◌, List, [], ◌++◌, length, Bool, true, false, refl, sym, ap, subst, ◌∙◌, arith, inl, inr, append-nil, append_assoc, length-append, Option, Result, Ok}
+use Rattle.std.specs.Prelude.{MatchBool}
+use Rattle.std.specs.declared.io.Error.{Error}
+use Rattle.line_reader.specs.Lining.{Lining, IsLining, rest}
+use Rattle.line_reader.specs.LinesWentLaws.{LinesWent-none, LinesWent-joins}
+use Rattle.line_reader.specs.NextLine.{LinesWent, AskedWhere, NoFault, NoEnd, MetEnd, empties}
+use Rattle.line_reader.specs.Steps.{AsksOnce}
+
+-- so far these bytes went, without a fault and an end, and the stream was asked only over such bytes; each time it gave a
+-- byte
+pub record Head {S : Type 0} (remaining : S → Option (List ℕ)) (Such : List ℕ → Type 0) (s : Lining S)
+    (bytes : List ℕ) (m : Lining S) : Type 0 where
+  pub went : LinesWent remaining s bytes m
+  pub ended : m.ended ≡ s.ended
+  pub faults : NoFault s m
+  pub no_end : NoEnd s m
+  pub asks : m.reader.log.reads.asks + length s.reader.log.reads.given
+      ≤ s.reader.log.reads.asks + length m.reader.log.reads.given
+  pub asked : AskedWhere Such s m
+
+-- where the log stays as it is, so does what it was asked over
+pub AskedWhere-told : {S : Type 0} (Such : List ℕ → Type 0) (s m t : Lining S) → t.reader.log ≡ m.reader.log
+    → AskedWhere Such s m → AskedWhere Such s t
+AskedWhere-told Such s m t told (inl same) = inl (told ∙ same)
+AskedWhere-told Such s m t told (inr over) = inr (record {
+  not_ended = over.not_ended;
+  came = over.came;
+  last = over.last;
+  given = ap (λ l. l.reads.given) told ∙ over.given;
+  such = over.such;
+  asks = omega (arith, over.asks, ap (λ l. l.reads.asks) told);
+})
+
+-- nothing was done yet
+pub Head-none : {S : Type 0} (remaining : S → Option (List ℕ)) (Such : List ℕ → Type 0) (s : Lining S)
+    → Head remaining Such s [] s
+Head-none remaining Such s = record {
+  went = LinesWent-none remaining s;
+  ended = refl;
+  faults = refl;
+  no_end = refl;
+  asks = omega arith;
+  asked = inl refl;
+}
+
+module _ {S : Type 0} (remaining : S → Option (List ℕ)) (Such : List ℕ → Type 0) (s m : Lining S) (bytes : List ℕ)
+    (h : Head remaining Such s bytes m) where
+  -- then these bytes went, and nothing was read
+  pub Head-told : (t : Lining S) (more : List ℕ) → LinesWent remaining m more t → t.reader.log ≡ m.reader.log
+      → t.ended ≡ m.ended → Head remaining Such s (bytes ++ more) t
+  Head-told t more went told ended = record {
+    went = LinesWent-joins remaining s m t bytes more h.went went;
+    ended = ended ∙ h.ended;
+    faults = ap (λ l. l.reads.faults) told ∙ h.faults;
+    no_end = ap (λ l. l.reads.zero_reads) told ∙ h.no_end;
+    asks = omega (arith, h.asks, ap (λ l. l.reads.asks) told, ap (λ l. length l.reads.given) told);
+    asked = AskedWhere-told Such s m t told h.asked;
+  }
+
+  -- then the stream was asked once for more
+  module _ (answer : Result Bool Error) (t : Lining S) (a : AsksOnce remaining m answer t) where
+    pub went_on : LinesWent remaining s bytes t
+    went_on = subst (λ l. LinesWent remaining s l t) (append-nil bytes) (LinesWent-joins remaining s m t bytes [] h.went a.went)
+
+    pub asked_on : Such (rest s ++ h.went.hands.got) → AskedWhere Such s t
+    asked_on such = elim s.ended as (λ b. b ≡ s.ended → AskedWhere Such s t) [
+      | true ↦ λ is. AskedWhere-told Such s m t (a.still (h.ended ∙ sym is)) h.asked
+      | false ↦ λ is. inr (record {
+        not_ended = sym is;
+        came = h.went.hands.got;
+        last = a.went.hands.got;
+        given = a.went.hands.given ∙ ap (λ l. l ++ a.went.hands.got) h.went.hands.given
+            ∙ append_assoc s.reader.log.reads.given h.went.hands.got a.went.hands.got;
+        such = such;
+        asks = omega (
+          arith,
+          h.asks,
+          a.asks,
+          ap length h.went.hands.given,
+          length-append s.reader.log.reads.given h.went.hands.got,
+        );
+      })
+    ] refl
+
+  pub came_more : (t : Lining S) (a : AsksOnce remaining m (Ok true) t) → 0 < length a.went.hands.got
+  came_more t a =
+      omega (arith, (a.more refl).0, ap length a.went.hands.equal, length-append (rest m) a.went.hands.got)
+
+  pub Head-more : (t : Lining S) → AsksOnce remaining m (Ok true) t → Such (rest s ++ h.went.hands.got)
+      → Head remaining Such s bytes t
+  Head-more t a such = record {
+    went = went_on (Ok true) t a;
+    ended = a.ended ∙ h.ended;
+    faults = (a.more refl).2 ∙ h.faults;
+    no_end = (a.more refl).1 ∙ h.no_end;
+    asks = omega (
+      arith,
+      h.asks,
+      a.asks,
+      came_more t a,
+      ap length a.went.hands.given,
+      length-append m.reader.log.reads.given a.went.hands.got,
+    );
+    asked = asked_on (Ok true) t a such;
+  }
+
+  pub MetEnd-on : (t : Lining S) → MetEnd m t → MetEnd s t
+  MetEnd-on t met =
+      let P : Bool → Type 0 =
+      λ b. MatchBool b (empties t.reader ≡ empties s.reader) (empties t.reader ≡ empties s.reader + 1) in
+      elim m.ended as (λ b. b ≡ m.ended
+      → MatchBool b (empties t.reader ≡ empties m.reader) (empties t.reader ≡ empties m.reader + 1) → MetEnd s t) [
+        | true ↦ λ is none. subst P (is ∙ h.ended) (none ∙ h.no_end)
+        | false ↦ λ is once. subst P (is ∙ h.ended) (once ∙ ap (λ n. n + 1) h.no_end)
+      ] refl met
+
+-- where something is left the stream hasn't ended
+pub not_ended : {S : Type 0} (f : Lining S) → IsLining f → 0 < length (rest f) → f.ended ≡ false
+not_ended f whole some = elim f.ended as (λ b. b ≡ f.ended → b ≡ false) [
+  | true ↦ λ is. absurd (omega (arith, some, ap length (whole.ended (sym is))))
+  | false ↦ λ is. refl
+] refl

@@ -1,0 +1,10 @@
+pub mod Ending
+pub mod Heads
+pub mod Loading
+pub mod Reading
+pub mod Recording
+pub mod Searching
+pub mod Skipping
+pub mod Stepping
+pub mod Trimming
+pub mod WritingLines

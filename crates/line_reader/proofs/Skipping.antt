@@ -1,0 +1,201 @@
+-- What the turns of `skip_line` come to.
+use Rattle.std.proofs.Common.{◌≡◌, ℕ, ◌+◌, ◌<◌, ◌≤◌, ◌^◌, List, [], ◌∷◌, ◌++◌, length, length-take-le, drop, take, true, false, refl, sym, ap, subst, ◌∙◌, arith, inl, inr, append-nil, append_assoc, length-append, Option, Ok, Err, length-drop}
+use Rattle.std.proofs.lemmas.List.{drop-drop, nil_from_length}
+use Rattle.std.proofs.lemmas.List.Elements.{All-append, All-nil}
+use Rattle.std.specs.IoError.{error_kind}
+use Rattle.std.specs.declared.io.Error.{Error}
+use Rattle.std.specs.declared.io.ErrorKind.TheVariants.{Other}
+use Rattle.line_reader.specs.Lines.{newline, IsLine, with_end}
+use Rattle.line_reader.specs.Lining.{Lining, IsLining, rest}
+use Rattle.line_reader.specs.LinesWentLaws.{LinesWent-joins, LinesWent-inside}
+use Rattle.line_reader.specs.NextLine.{LinesWent}
+use Rattle.line_reader.specs.SkipLine.{SkipsLine}
+use Rattle.line_reader.specs.Steps.{AsksOnce, DropsLine}
+use Rattle.line_reader.proofs.Heads.{Head, AskedWhere-told, Head-none, Head-told, Head-more, MetEnd-on, asked_on, not_ended, went_on}
+
+abbrev isnt_end : ℕ → Type 0
+isnt_end byte = ¬ (byte ≡ newline)
+
+-- what holds before each turn of `skip_line`: so many bytes went, and none of them ends a line
+pub record SkipHead {S : Type 0} (remaining : S → Option (List ℕ)) (s m : Lining S) (dropped : ℕ) : Type 0 where
+  pub bytes : List ℕ
+  pub head : Head remaining IsLine s bytes m
+  pub count : dropped ≡ length bytes
+  pub plain : IsLine bytes
+
+-- the turns of `skip_line`
+module _ {S : Type 0} (remaining : S → Option (List ℕ)) (s m : Lining S) (dropped : ℕ)
+    (h : SkipHead remaining s m dropped) (count : ℕ) where
+  behind_dropped : rest (record m { handed = m.handed + count; seen = 0 }) ≡ drop count (rest m)
+  behind_dropped = sym (drop-drop count m.handed m.reader.block.bytes)
+
+  -- the end was buffered
+  pub skip_found : (t : Lining S) → DropsLine m count true t → SkipsLine remaining s (Ok (dropped + count)) t
+  skip_found t drops =
+      let w : Lining S = record m { handed = m.handed + count; seen = 0 } in
+      let found = drops.ends refl in
+      let front = take found.0 (rest m) in
+      let inside : found.0 < length (rest m) = omega (arith, drops.inside, found.1) in
+      let size = length-take-le found.0 (rest m) (omega (arith, inside)) in
+      let open_m = not_ended m drops.before (omega (arith, inside)) in
+      let left : rest w ≡ drop (1 + found.0) (rest m) = behind_dropped ∙ ap (λ n. drop n (rest m)) found.1 in
+      let split : with_end front ++ rest w ≡ rest m =
+      append_assoc front (newline ∷ []) (rest w) ∙ ap (λ l. front ++ newline ∷ l) left ∙ found.2.equal in
+      let went = LinesWent-inside remaining m w (with_end front) refl refl split in
+      let on = Head-told remaining IsLine s m h.bytes h.head w (with_end front) went refl refl in
+      subst (SkipsLine remaining s (Ok (dropped + count))) (sym drops.same) (record {
+        bytes = h.bytes ++ with_end front;
+        went = on.went;
+        answers = (
+          omega (
+            arith,
+            h.count,
+            size,
+            found.1,
+            length-append h.bytes (with_end front),
+            length-append front (newline ∷ []),
+          ),
+          on.faults,
+          inl (
+            record {
+              line = h.bytes ++ front;
+              plain = All-append isnt_end h.bytes front h.plain found.2.plain;
+              equal = sym (append_assoc h.bytes front (newline ∷ []));
+            },
+            open_m,
+            on.no_end,
+          ),
+        );
+        asked = on.asked;
+        whole = subst IsLining drops.same drops.whole;
+      })
+
+  -- no end was there, so all that was left is gone
+  module _ (t : Lining S) (drops : DropsLine m count false t) where
+    pub none_left : rest t ≡ []
+    none_left =
+        let all = drops.none refl in
+        ap rest drops.same ∙ behind_dropped
+        ∙ nil_from_length (drop count (rest m)) (omega (arith, length-drop count (rest m), all.0))
+
+    pub skipped : SkipHead remaining s t (dropped + count)
+    skipped =
+        let w : Lining S = record m { handed = m.handed + count; seen = 0 } in
+        let all = drops.none refl in
+        let none : rest w ≡ [] = ap rest (sym drops.same) ∙ none_left in
+        let split : rest m ++ rest w ≡ rest m = ap (λ l. rest m ++ l) none ∙ append-nil (rest m) in
+        let went = LinesWent-inside remaining m w (rest m) refl refl split in
+        subst (λ x. SkipHead remaining s x (dropped + count)) (sym drops.same) (record {
+          bytes = h.bytes ++ rest m;
+          head = Head-told remaining IsLine s m h.bytes h.head w (rest m) went refl refl;
+          count = omega (arith, h.count, all.0, length-append h.bytes (rest m));
+          plain = All-append isnt_end h.bytes (rest m) h.plain all.1;
+        })
+
+    -- more bytes are gone than one call drops
+    pub skip_too_long : (e : Error) → error_kind e ≡ Other → dropped ≤ 2 ^ 63 → 2 ^ 63 < dropped + count
+        → SkipsLine remaining s (Err e) t
+    skip_too_long e other before above =
+        let k = skipped in
+        let some : 0 < length (rest m) = omega (arith, (drops.none refl).0, before, above) in record {
+          bytes = k.bytes;
+          went = k.head.went;
+          answers = (
+            k.plain,
+            none_left,
+            ap (λ x. x.ended) drops.same ∙ not_ended m drops.before some,
+            k.head.no_end,
+            inr (k.head.faults, other, omega (arith, above, k.count)),
+          );
+          asked = k.head.asked;
+          whole = drops.whole;
+        }
+
+-- what was handed out is dropped, and nothing else is done
+pub skip_on : {S : Type 0} (remaining : S → Option (List ℕ)) (s m t : Lining S) (dropped : ℕ)
+    → SkipHead remaining s m dropped → LinesWent remaining m [] t → t.reader.log ≡ m.reader.log → t.ended ≡ m.ended
+    → SkipHead remaining s t dropped
+skip_on remaining s m t dropped h went told ended =
+    let same = append-nil h.bytes in
+    let on = Head-told remaining IsLine s m h.bytes h.head t [] went told ended in record {
+      bytes = h.bytes;
+      head = subst (λ l. Head remaining IsLine s l t) same on;
+      count = h.count;
+      plain = h.plain;
+    }
+
+-- then nothing is left, and more is asked for
+module _ {S : Type 0} (remaining : S → Option (List ℕ)) (s m : Lining S) (dropped : ℕ)
+    (h : SkipHead remaining s m dropped) (none : rest m ≡ []) where
+  all_plain : IsLine (rest s ++ h.head.went.hands.got)
+  all_plain = subst IsLine
+      (sym (append-nil h.bytes) ∙ ap (λ l. h.bytes ++ l) (sym none) ∙ h.head.went.hands.equal) h.plain
+
+  pub skip_more : (t : Lining S) → AsksOnce remaining m (Ok true) t → SkipHead remaining s t dropped
+  skip_more t a = record {
+    bytes = h.bytes;
+    head = Head-more remaining IsLine s m h.bytes h.head t a all_plain;
+    count = h.count;
+    plain = h.plain;
+  }
+
+  pub skip_fails : (e : Error) (t : Lining S) → AsksOnce remaining m (Err e) t → SkipsLine remaining s (Err e) t
+  skip_fails e t a =
+      let f = a.failed e refl in record {
+        bytes = h.bytes;
+        went = went_on remaining IsLine s m h.bytes h.head (Err e) t a;
+        answers = (
+          h.plain,
+          f.0 ∙ none,
+          a.ended ∙ f.1,
+          f.2 ∙ h.head.no_end,
+          inl (f.3 ∙ ap (λ l. l ++ e ∷ []) h.head.faults),
+        );
+        asked = asked_on remaining IsLine s m h.bytes h.head (Err e) t a all_plain;
+        whole = a.whole;
+      }
+
+  pub ended_whole : (t : Lining S) → AsksOnce remaining m (Ok false) t → IsLining (record t { ended = true })
+  ended_whole t a = record {
+    block = a.whole.block;
+    plain = a.whole.plain;
+    capacity = a.whole.capacity;
+    limit = a.whole.limit;
+    ahead = a.whole.ahead;
+    handed = a.whole.handed;
+    few = a.whole.few;
+    searched = a.whole.searched;
+    ended = λ _. (a.end refl).0 ∙ none;
+  }
+
+  pub skip_ends : (t : Lining S) → AsksOnce remaining m (Ok false) t
+      → SkipsLine remaining s (Ok dropped) (record t { ended = true })
+  skip_ends t a =
+      let w : Lining S = record t { ended = true } in
+      let inside = LinesWent-inside remaining t w [] refl refl refl in
+      let went = LinesWent-joins remaining s t w h.bytes [] (went_on remaining IsLine s m h.bytes h.head (Ok false) t a) inside in
+      record {
+        bytes = h.bytes;
+        went = subst (λ l. LinesWent remaining s l w) (append-nil h.bytes) went;
+        answers = (
+          h.count,
+          (a.end refl).2 ∙ h.head.faults,
+          inr (
+            h.plain,
+            (a.end refl).0 ∙ none,
+            refl,
+            MetEnd-on remaining IsLine s m h.bytes h.head t (a.end refl).1,
+          ),
+        );
+        asked = AskedWhere-told IsLine s t w refl (asked_on remaining IsLine s m h.bytes h.head (Ok false) t a all_plain);
+        whole = ended_whole t a;
+      }
+
+-- before the first turn
+pub SkipHead-none : {S : Type 0} (remaining : S → Option (List ℕ)) (s : Lining S) → SkipHead remaining s s 0
+SkipHead-none remaining s = record {
+  bytes = [];
+  head = Head-none remaining IsLine s;
+  count = refl;
+  plain = All-nil isnt_end;
+}

@@ -1,0 +1,5 @@
+use Rattle.line_reader.specs.RunsLaws.{Cuts-text}
+use Rattle.line_reader.proofs.laws.lines_of_text.Goals as goal
+
+pub returns : goal.returns
+returns c = Cuts-text

@@ -1,0 +1,6 @@
+use Rattle.std.proofs.Common.{map, take}
+use Rattle.line_reader.proofs.WritingLines.{WroteLines}
+use Rattle.line_reader.proofs.laws.lists.write_each.Given as goal
+
+abbrev pub invariant-loop-line : goal.invariant-loop-line
+invariant-loop-line g l = WroteLines g.W.TellWrite.stretch l.fn.writer (map (λ v. v.items) (take l.line-index l.lines)) l.writer

@@ -1,0 +1,13 @@
+use Rattle.std.proofs.Common.{◌-◌, ◌*◌, ◌^◌, ◌≤◌, length, min}
+use Rattle.line_reader.proofs.Skipping.{SkipHead}
+use Rattle.line_reader.specs.Lining.{rest}
+use Rattle.line_reader.proofs.reader.LineReader.skip_line.Given as goal
+
+abbrev pub invariant-turns : goal.invariant-turns
+invariant-turns g l = record {
+  head : SkipHead g.R.TellRead.remaining l.fn.self l.self l.dropped;
+  few : l.dropped ≤ 2 ^ 63;
+}
+
+abbrev pub decreases-turns : goal.decreases-turns
+decreases-turns g l = 2 * (2 ^ 64 - l.dropped) - min 1 (length (rest l.self))

@@ -1,0 +1,52 @@
+-- What a reader of lines hands out of a stream that is known.
+use Rattle.std.specs.Prelude.{◌≡◌, ℕ, ◌⊎◌, List, [], ◌∷◌, ◌++◌, true, Option, None, Some, Ok, Err}
+use Rattle.std.specs.Io.KnownBytes.{prepend_known}
+use Rattle.std.specs.IoError.{error_kind}
+use Rattle.std.specs.List.{All}
+use Rattle.std.specs.declared.io.Error.{Error}
+use Rattle.std.specs.declared.io.ErrorKind.TheVariants.{OutOfMemory}
+use Rattle.line_reader.specs.declared.error.LineError.TheVariants.{TooLong, Io}
+use Rattle.line_reader.specs.Lines.{FitsLine, HasLines}
+use Rattle.line_reader.specs.Lining.{Lining, rest}
+use Rattle.line_reader.specs.NextLine.{Faulted, NextAnswer, NoFault}
+
+-- the bytes that weren't handed out, where they are known: those that are buffered, and then those that the inner reader is
+-- known to have left
+abbrev pub ahead_of : {S : Type 0} → (S → Option (List ℕ)) → Lining S → Option (List ℕ)
+ahead_of remaining f = prepend_known (rest f) (remaining f.reader.inner)
+
+-- they are known, and a text of these lines; where the stream has ended there are none
+pub record HasLeft {S : Type 0} (remaining : S → Option (List ℕ)) (f : Lining S) (lines : List (List ℕ)) : Type 0 where
+  pub text : List ℕ
+  pub known : ahead_of remaining f ≡ Some text
+  pub has : HasLines text lines
+  pub none : f.ended ≡ true → lines ≡ []
+
+-- they are a text of some lines, each of which fits
+pub record LeavesLines {S : Type 0} (remaining : S → Option (List ℕ)) (f : Lining S) : Type 0 where
+  pub lines : List (List ℕ)
+  pub fit : All (FitsLine f.max) lines
+  pub has : HasLeft remaining f lines
+
+-- where just these lines are left, the first is handed out, and the others are left; `None` comes where there is none; and
+-- there is no other `Err` than the stream's, which leaves all
+abbrev pub NextKnown : {S : Type 0} → (S → Option (List ℕ)) → NextAnswer → List (List ℕ) → Lining S → Type 0
+NextKnown remaining (Ok (Some found)) (line ∷ later) t = (found ≡ line) × HasLeft remaining t later
+NextKnown remaining (Ok (Some found)) [] t = ⊥
+NextKnown remaining (Ok None) (line ∷ later) t = ⊥
+NextKnown remaining (Ok None) [] t = HasLeft remaining t []
+NextKnown remaining (Err (Io e)) lines t = HasLeft remaining t lines
+NextKnown remaining (Err (TooLong max)) lines t = ⊥
+
+-- why reading failed with this error: memory was refused, and no fault was met, or it is the one fault that the stream met
+abbrev pub ReadFails : {S : Type 0} → Lining S → Error → Lining S → Type 0
+ReadFails s e t = ((error_kind e ≡ OutOfMemory) × NoFault s t) ⊎ Faulted s e t
+
+-- the first of these lines were handed out, and then reading failed with this error: the others are left
+pub record ReadStopped {S : Type 0} (remaining : S → Option (List ℕ)) (s : Lining S) (lines : List (List ℕ))
+    (e : Error) (t : Lining S) : Type 0 where
+  pub done : List (List ℕ)
+  pub later : List (List ℕ)
+  pub all : lines ≡ done ++ later
+  pub left : HasLeft remaining t later
+  pub failed : ReadFails s e t

@@ -1,0 +1,169 @@
+-- Laws of a reader of lines over a stream that is known.
+use Rattle.std.specs.Prelude.{◌≡◌, ℕ, ◌+◌, ◌<◌, List, [], ◌∷◌, ◌++◌, length, Bool, true, false, MatchBool, Option, None, Some, IfSome, Ok, Err}
+use Rattle.std.proofs.Common.{sym, ap, subst, ◌∙◌, arith, inl, inr, refl, append-nil, append_assoc}
+use Rattle.std.proofs.lemmas.List.Elements.{All-nil, All-cons, All-head, All-tail}
+use Rattle.std.specs.Io.KnownBytes.{Consumes, IsAtEnd, prepend_known}
+use Rattle.std.specs.List.{All}
+use Rattle.buffer_redux.specs.GivesRemaining.{GivesRemaining-ahead}
+use Rattle.buffer_redux.specs.StreamLog.{StreamLog}
+use Rattle.line_reader.specs.declared.error.LineError.TheVariants.{TooLong, Io}
+use Rattle.line_reader.specs.Lines.{BeginsTooLong, FitsLine, HasLines, IsLine, newline, with_end}
+use Rattle.line_reader.specs.LinesLaws.{too_long-append}
+use Rattle.line_reader.specs.Lining.{Lining, IsFresh, rest}
+use Rattle.line_reader.specs.LinesWentLaws.{drop_none}
+use Rattle.line_reader.specs.KnownLines.{HasLeft, NextKnown, ahead_of}
+use Rattle.line_reader.specs.NextLine.{MetEnd, NextAnswer, NextLine, empties}
+use Rattle.line_reader.specs.TextLaws.{Lines-first, Lines-fit, Lines-same, lines-last, lines-none}
+
+-- of known bytes that lost some, just the others are left
+left_then : (left left' : Option (List ℕ)) (bytes lost : List ℕ) → left ≡ Some bytes → Consumes left left' lost
+    → (more : List ℕ) × (left' ≡ Some more) × (bytes ≡ lost ++ more)
+left_then None left' bytes lost is went = cc
+left_then (Some x) None bytes lost is went = absurd went
+left_then (Some x) (Some y) bytes lost is went = (y, refl, (let same : x ≡ bytes = cc in sym same ∙ went))
+
+-- known bytes are those that are buffered, and then the others
+front_of : (buffered : List ℕ) (left : Option (List ℕ)) (bytes : List ℕ) → prepend_known buffered left ≡ Some bytes
+    → (more : List ℕ) × (left ≡ Some more) × (bytes ≡ buffered ++ more)
+front_of buffered None bytes is = cc
+front_of buffered (Some y) bytes is = (y, refl, cc)
+
+-- the inner reader ran dry, so what was left is what is buffered
+dry_front : (left left' : Option (List ℕ)) (more : List ℕ) → IfSome left (λ _. IsAtEnd left') → left' ≡ Some more
+    → (known : List ℕ) → left ≡ Some known → more ≡ []
+dry_front None left' more ended is known was = cc
+dry_front (Some x) None more ended is known was = cc
+dry_front (Some x) (Some y) more ended is known was = (let same : y ≡ more = cc in sym same ∙ ended)
+
+module _ {S : Type 0} (remaining : S → Option (List ℕ)) (s t : Lining S) (answer : NextAnswer)
+    (next : NextLine remaining s answer t) (lines : List (List ℕ)) (has : HasLeft remaining s lines) where
+  -- what is left now
+  left : (more : List ℕ) × (ahead_of remaining t ≡ Some more) × (has.text ≡ next.bytes ++ more)
+  left =
+      let hands = next.went.hands in
+      left_then (ahead_of remaining s) (ahead_of remaining t) has.text next.bytes has.known
+      (GivesRemaining-ahead (remaining s.reader.inner) (remaining t.reader.inner) s.reader.log.reads t.reader.log.reads
+      (rest s) (rest t) next.bytes hands.got next.went.known hands.given hands.equal)
+
+  -- it is what is buffered, where the stream ended
+  all_buffered : s.ended ≡ false → MetEnd s t → left.0 ≡ rest t
+  all_buffered not_ended met =
+      let P : Bool → Type 0 =
+      λ b. MatchBool b (empties t.reader ≡ empties s.reader) (empties t.reader ≡ empties s.reader + 1) in
+      let once : empties t.reader ≡ empties s.reader + 1 = subst P not_ended met in
+      let before = front_of (rest s) (remaining s.reader.inner) has.text has.known in
+      let after = front_of (rest t) (remaining t.reader.inner) left.0 left.1 in
+      after.2 ∙ ap (λ l. rest t ++ l) (dry_front (remaining s.reader.inner) (remaining t.reader.inner) after.0
+      (next.went.known.dry (omega (arith, once))) after.1 before.0 before.1) ∙ append-nil (rest t)
+
+  -- nothing was handed out
+  same_left : next.bytes ≡ [] → t.ended ≡ false → HasLeft remaining t lines
+  same_left none open' = record {
+    text = has.text;
+    known = left.1 ∙ ap (λ l. Some l) (sym (left.2 ∙ ap (λ l. l ++ left.0) none));
+    has = has.has;
+    none = λ ended. (let odd : true ≡ false = sym ended ∙ open' in cc);
+  }
+
+  -- a line and its end were
+  first_of : (found : List ℕ) → IsLine found → next.bytes ≡ with_end found → t.ended ≡ false
+      → (later : List (List ℕ)) × (lines ≡ found ∷ later) × HasLeft remaining t later
+  first_of found plain is open' =
+      let front : has.text ≡ found ++ newline ∷ left.0 =
+      left.2 ∙ ap (λ l. l ++ left.0) is ∙ append_assoc found (newline ∷ []) left.0 in
+      let first = Lines-first found left.0 has.text lines plain front has.has in (
+        first.0,
+        first.1,
+        record {
+          text = left.0;
+          known = left.1;
+          has = first.2;
+          none = λ ended. (let odd : true ≡ false = sym ended ∙ open' in cc);
+        },
+      )
+
+  -- the last one was, which has none
+  last_of : (found : List ℕ) → IsLine found → next.bytes ≡ found → 0 < length found → rest t ≡ [] → s.ended ≡ false
+      → MetEnd s t → (lines ≡ found ∷ []) × HasLeft remaining t []
+  last_of found plain is some none not_ended met =
+      let nothing : left.0 ≡ [] = all_buffered not_ended met ∙ none in
+      let all : has.text ≡ found = left.2 ∙ ap (λ l. l ++ left.0) is ∙ ap (λ l. found ++ l) nothing ∙ append-nil found in (
+        Lines-same found lines (found ∷ []) (subst (λ l. HasLines l lines) all has.has) (lines-last found plain some),
+        record { text = []; known = left.1 ∙ ap (λ l. Some l) nothing; has = lines-none; none = λ _. refl },
+      )
+
+  -- none was, at the end
+  none_of : next.bytes ≡ [] → rest t ≡ [] → t.ended ≡ false → MetEnd s t → (lines ≡ []) × HasLeft remaining t []
+  none_of is none open' met = elim s.ended as (λ b. b ≡ s.ended → (lines ≡ []) × HasLeft remaining t []) [
+    | true ↦ λ ended. (
+      has.none (sym ended),
+      subst (HasLeft remaining t) (has.none (sym ended)) (same_left is open'),
+    )
+    | false ↦ λ not_ended.
+        let all : has.text ≡ [] = left.2 ∙ ap (λ l. l ++ left.0) is ∙ all_buffered (sym not_ended) met ∙ none in
+        let no_line = Lines-same [] lines [] (subst (λ l. HasLines l lines) all has.has) lines-none in
+        (no_line, subst (HasLeft remaining t) no_line (same_left is open'))
+  ] refl
+
+  -- no line that is too long was met
+  never_long : All (FitsLine s.max) lines → next.bytes ≡ [] → BeginsTooLong s.max (rest t) → ⊥
+  never_long fit is long =
+      let after = front_of (rest t) (remaining t.reader.inner) left.0 left.1 in
+      let front : has.text ≡ rest t ++ after.0 = left.2 ∙ ap (λ l. l ++ left.0) is ∙ after.2 in
+      Lines-fit s.max has.text lines has.has fit
+      (subst (BeginsTooLong s.max) (sym front) (too_long-append s.max (rest t) after.0 long))
+
+module _ {S : Type 0} (remaining : S → Option (List ℕ)) (s t : Lining S) where
+  open_of : (found : List ℕ) → NextLine remaining s (Ok (Some found)) t → s.ended ≡ false
+  open_of found next = elim s.ended as (λ b. b ≡ s.ended → b ≡ false) [
+    | true ↦ λ ended. (let odd : Ok (Some found) ≡ Ok None = next.told (sym ended) in cc)
+    | false ↦ λ not_ended. refl
+  ] refl
+
+  NextKnown-some : (found : List ℕ) (later : List (List ℕ)) (lines : List (List ℕ)) → lines ≡ found ∷ later
+      → HasLeft remaining t later → NextKnown remaining (Ok (Some found)) lines t
+  NextKnown-some found later lines is has = subst (λ l. NextKnown remaining (Ok (Some found)) l t) (sym is) (refl, has)
+
+  NextKnown-none : (lines : List (List ℕ)) → lines ≡ [] → HasLeft remaining t []
+      → NextKnown remaining (Ok None) lines t
+  NextKnown-none lines is has = subst (λ l. NextKnown remaining (Ok None) l t) (sym is) has
+
+  pub NextLine-known : (answer : NextAnswer) (lines : List (List ℕ)) → NextLine remaining s answer t
+      → All (FitsLine s.max) lines → HasLeft remaining s lines → NextKnown remaining answer lines t
+  NextLine-known (Ok (Some found)) lines next fit has = elim next.answers.3 [
+    | inl (is, open', none) ↦
+        (let first = first_of remaining s t (Ok (Some found)) next lines has found next.answers.0 is open' in
+        NextKnown-some found first.0 lines first.1 first.2)
+    | inr (is, some, none, ended, met) ↦
+        (let last = last_of remaining s t (Ok (Some found)) next lines has found next.answers.0 is some none
+        (open_of found next) met in
+        NextKnown-some found [] lines last.0 last.1)
+  ]
+  NextLine-known (Ok None) lines next fit has =
+      let a = next.answers in
+      let end = none_of remaining s t (Ok None) next lines has a.0 a.1 a.3 a.4 in
+      NextKnown-none lines end.0 end.1
+  NextLine-known (Err (TooLong max)) lines next fit has =
+      absurd (never_long remaining s t (Err (TooLong max)) next lines has fit next.answers.0 next.answers.2)
+  NextLine-known (Err (Io e)) lines next fit has =
+      same_left remaining s t (Err (Io e)) next lines has next.answers.0 next.answers.3
+
+-- what a fresh reader has left is what its stream has
+pub IsFresh-left : {S : Type 0} (remaining : S → Option (List ℕ)) (tells : S → StreamLog) (least greatest : ℕ) (stream : S)
+    (f : Lining S) (text : List ℕ) (lines : List (List ℕ)) → IsFresh tells least greatest stream f
+    → remaining stream ≡ Some text → HasLines text lines → HasLeft remaining f lines
+IsFresh-left remaining tells least greatest stream f text lines fresh known has =
+    let none : rest f ≡ [] = drop_none f.handed f.reader.block.bytes fresh.empty in
+    record {
+      text = text;
+      known = ap (λ l. prepend_known l (remaining f.reader.inner)) none
+          ∙ ap (λ s. prepend_known [] (remaining s)) fresh.inner ∙ ap (prepend_known []) known;
+      has = has;
+      none = λ ended. (let odd : true ≡ false = sym ended ∙ fresh.ended in cc);
+    }
+
+-- a line that fits is a line
+pub all_plain : (max : ℕ) (lines : List (List ℕ)) → All (FitsLine max) lines → All IsLine lines
+all_plain max [] fit = All-nil IsLine
+all_plain max (line ∷ lines) fit = All-cons IsLine line lines (All-head (FitsLine max) line lines fit).plain
+    (all_plain max lines (All-tail (FitsLine max) line lines fit))

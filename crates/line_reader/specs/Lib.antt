@@ -1,0 +1,14 @@
+pub mod KnownLines
+pub mod KnownLinesLaws
+pub mod LineError
+pub mod Lines
+pub mod LinesLaws
+pub mod LinesWentLaws
+pub mod Lining
+pub mod NextLine
+pub mod NextLineLaws
+pub mod Runs
+pub mod RunsLaws
+pub mod SkipLine
+pub mod Steps
+pub mod TextLaws

@@ -1,0 +1,69 @@
+-- Lines, where they end, and texts of them.
+use Rattle.std.specs.Prelude.{◌≡◌, ℕ, ◌+◌, ◌<◌, ◌≤◌, ◌⊎◌, List, [], ◌∷◌, ◌++◌, length, take, drop}
+use Rattle.std.specs.List.{All, flat_map}
+
+-- the byte that ends a line, and the one that may stand before it
+abbrev pub newline : ℕ
+newline = 10
+
+abbrev pub carriage_return : ℕ
+carriage_return = 13
+
+-- no byte of it ends a line
+abbrev pub IsLine : List ℕ → Type 0
+IsLine bytes = All (λ byte. ¬ (byte ≡ newline)) bytes
+
+-- the line and its end
+abbrev pub with_end : List ℕ → List ℕ
+with_end line = line ++ newline ∷ []
+
+-- these lines, each with its end
+abbrev pub with_ends : List (List ℕ) → List ℕ
+with_ends lines = flat_map with_end lines
+
+-- what stands behind the last end is a line too, where it is something
+abbrev pub last_line : List ℕ → List (List ℕ)
+last_line [] = []
+last_line (byte ∷ more) = (byte ∷ more) ∷ []
+
+-- these are the lines of the text
+pub record HasLines (text : List ℕ) (lines : List (List ℕ)) : Type 0 where
+  pub whole : List (List ℕ)
+  pub last : List ℕ
+  pub bytes : text ≡ with_ends whole ++ last
+  pub all : lines ≡ whole ++ last_line last
+  pub plain : All IsLine lines
+
+-- a line of at most so many bytes
+pub record FitsLine (max : ℕ) (line : List ℕ) : Type 0 where
+  pub plain : IsLine line
+  pub fits : length line ≤ max
+
+-- the first line ends at this place
+pub record EndsAt (end : ℕ) (bytes : List ℕ) : Type 0 where
+  pub plain : IsLine (take end bytes)
+  pub equal : take end bytes ++ newline ∷ drop (1 + end) bytes ≡ bytes
+
+-- the bytes begin with a line of at most max bytes, and its end
+pub record BeginsWhole (max : ℕ) (bytes : List ℕ) : Type 0 where
+  pub line : List ℕ
+  pub more : List ℕ
+  pub fits : length line ≤ max
+  pub plain : IsLine line
+  pub equal : bytes ≡ line ++ newline ∷ more
+
+-- they begin with more than max bytes of a line
+pub record BeginsTooLong (max : ℕ) (bytes : List ℕ) : Type 0 where
+  pub above : max < length bytes
+  pub plain : IsLine (take (1 + max) bytes)
+
+-- they are at most max bytes, and none of them ends a line
+pub record IsUnended (max : ℕ) (bytes : List ℕ) : Type 0 where
+  pub fits : length bytes ≤ max
+  pub plain : IsLine bytes
+
+-- the line without the carriage return that it may end with
+abbrev pub IsTrimmed : List ℕ → List ℕ → Type 0
+IsTrimmed line shown =
+    (line ≡ shown ++ carriage_return ∷ [])
+    ⊎ ((line ≡ shown) × ((front : List ℕ) → ¬ (line ≡ front ++ carriage_return ∷ [])))

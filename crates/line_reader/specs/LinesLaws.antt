@@ -1,0 +1,50 @@
+-- Laws of lines.
+use Rattle.std.specs.Prelude.{◌≡◌, ℕ, ◌+◌, ◌≤◌, List, [], ◌∷◌, ◌++◌, length, take}
+use Rattle.std.proofs.Common.{zero, suc, sym, ap, subst, ◌∙◌, arith, refl, length-append}
+use Rattle.std.proofs.lemmas.List.{take-append-le}
+use Rattle.std.proofs.lemmas.List.Elements.{All-head, All-tail}
+use Rattle.line_reader.specs.Lines.{newline, BeginsTooLong, IsLine}
+
+abbrev isnt_end : ℕ → Type 0
+isnt_end byte = ¬ (byte ≡ newline)
+
+-- bytes begin with a line and its end in one way
+pub line-same : (p q xs ys : List ℕ) → IsLine p → IsLine q → p ++ newline ∷ xs ≡ q ++ newline ∷ ys
+    → (p ≡ q) × (xs ≡ ys)
+line-same [] [] xs ys plain plain' same = (refl, cc)
+line-same [] (b ∷ q) xs ys plain plain' same =
+    let is : newline ≡ b = cc in
+    absurd (All-head isnt_end b q plain' (sym is))
+line-same (a ∷ p) [] xs ys plain plain' same =
+    let is : a ≡ newline = cc in
+    absurd (All-head isnt_end a p plain is)
+line-same (a ∷ p) (b ∷ q) xs ys plain plain' same =
+    let first : a ≡ b = cc in
+    let more : p ++ newline ∷ xs ≡ q ++ newline ∷ ys = cc in
+    let parts = line-same p q xs ys (All-tail isnt_end a p plain) (All-tail isnt_end b q plain') more in
+    (ap (λ x. x ∷ p) first ∙ ap (λ l. b ∷ l) parts.0, parts.1)
+
+-- the end of a line of at most max bytes is one of the first max + 1
+pub no-end-within : (line more : List ℕ) (max : ℕ) → length line ≤ max
+    → ¬ (IsLine (take (1 + max) (line ++ newline ∷ more)))
+no-end-within [] more max fits plain =
+    let count : 1 + max ≡ suc max = omega arith in
+    All-head isnt_end newline (take max more) (subst (λ n. IsLine (take n (newline ∷ more))) count plain) refl
+no-end-within (byte ∷ line) more zero fits plain = absurd (omega (arith, fits))
+no-end-within (byte ∷ line) more (suc max) fits plain =
+    let count : 1 + suc max ≡ suc (1 + max) = omega arith in
+    no-end-within line more max (omega (arith, fits))
+    (All-tail isnt_end byte (take (1 + max) (line ++ newline ∷ more))
+    (subst (λ n. IsLine (take n (byte ∷ line ++ newline ∷ more))) count plain))
+
+-- what has an end isn't a line
+pub no_end_in : (line more : List ℕ) → ¬ (IsLine (line ++ newline ∷ more))
+no_end_in [] more plain = All-head isnt_end newline more plain refl
+no_end_in (byte ∷ line) more plain = no_end_in line more (All-tail isnt_end byte (line ++ newline ∷ more) plain)
+
+-- more bytes behind leave a line too long
+pub too_long-append : (max : ℕ) (bytes more : List ℕ) → BeginsTooLong max bytes → BeginsTooLong max (bytes ++ more)
+too_long-append max bytes more long = record {
+  above = omega (arith, long.above, length-append bytes more);
+  plain = subst IsLine (sym (take-append-le (1 + max) bytes more (omega (arith, long.above)))) long.plain;
+}

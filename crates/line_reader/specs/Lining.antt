@@ -1,0 +1,67 @@
+-- What contracts see of a reader of lines.
+use Rattle.std.specs.Prelude.{◌≡◌, ℕ, ◌+◌, ◌*◌, ◌≤◌, List, [], drop, take, length, max, Bool, true, false}
+use Rattle.buffer_redux.specs.Block.{Block, IsBlock, Plain, usable}
+use Rattle.buffer_redux.specs.Buffered.{Buffered, with_inner}
+use Rattle.buffer_redux.specs.Potential.{potential}
+use Rattle.buffer_redux.specs.StreamLog.{StreamLog}
+use Rattle.buffer_redux.specs.declared.policy.MinBuffered.{MinBuffered}
+use Rattle.line_reader.specs.Lines.{IsLine}
+
+-- the buffered reader; the greatest length of a line; how many of the first bytes that are buffered were handed out; how
+-- many behind them were searched, and hold no end of a line; and whether the stream ended, which no call has told yet
+pub record Lining (S : Type 0) : Type 0 where
+  pub reader : Buffered S MinBuffered
+  pub max : ℕ
+  pub handed : ℕ
+  pub seen : ℕ
+  pub ended : Bool
+
+-- the buffered bytes that weren't handed out
+abbrev pub rest : {S : Type 0} → Lining S → List ℕ
+rest f = drop f.handed f.reader.block.bytes
+
+-- no line with its end has more bytes
+abbrev pub most : {S : Type 0} → Lining S → ℕ
+most f = 1 + f.max
+
+-- the capacity that is asked for lines of at most so many bytes: three of them fit with their ends, so that moving a
+-- beginning to the front is paid for by the bytes that were given since it was moved last
+abbrev pub room_for : ℕ → ℕ → ℕ
+room_for least greatest = max least (3 * (1 + greatest))
+
+-- what is true of every reader of lines
+pub record IsLining {S : Type 0} (f : Lining S) : Type 0 where
+  pub block : IsBlock f.reader.block
+  pub plain : f.reader.block.kind ≡ Plain
+  pub capacity : 3 * most f ≤ f.reader.block.capacity
+  pub limit : f.reader.block.limit ≡ f.reader.block.capacity
+  pub ahead : f.reader.policy.0 ≤ most f
+  pub handed : f.handed + f.seen ≤ length f.reader.block.bytes
+  pub few : f.seen ≤ most f
+  pub searched : IsLine (take f.seen (rest f))
+  pub ended : f.ended ≡ true → rest f ≡ []
+
+-- a plain block that was just made, and can't grow
+pub record IsFixed (size : ℕ) (b : Block) : Type 0 where
+  pub bytes : b.bytes ≡ []
+  pub usable : usable b ≡ size
+  pub kind : b.kind ≡ Plain
+  pub capacity : b.capacity ≡ size
+  pub limit : b.limit ≡ size
+  pub moved : b.moved ≡ 0
+
+-- just made over this stream: nothing is buffered, and no byte was moved
+pub record IsFresh {S : Type 0} (tells : S → StreamLog) (least greatest : ℕ) (stream : S) (f : Lining S)
+    : Type 0 where
+  pub empty : f.reader.block.bytes ≡ []
+  pub inner : f.reader.inner ≡ stream
+  pub log : f.reader.log ≡ tells stream
+  pub max : f.max ≡ greatest
+  pub ended : f.ended ≡ false
+  pub potential : potential (most f) f.reader.block ≡ 0
+  pub capacity : f.reader.block.capacity ≡ room_for least greatest
+  pub limit : f.reader.block.limit ≡ room_for least greatest
+
+-- with this stream inside
+abbrev pub with_stream : {S : Type 0} → (S → StreamLog) → Lining S → S → Lining S
+with_stream tells f stream = record f { reader = with_inner tells f.reader stream }

@@ -1,0 +1,122 @@
+-- What the calls of a reader of lines promise.
+use Rattle.std.specs.Prelude.{◌≡◌, ℕ, ◌+◌, ◌<◌, ◌≤◌, ◌⊎◌, List, [], ◌∷◌, ◌++◌, length, take, true, false, MatchBool, Option, None, Some, Result, Ok, Err, option_copied}
+use Rattle.std.specs.Borrow.{Bor}
+use Rattle.std.specs.declared.io.Error.{Error}
+use Rattle.buffer_redux.specs.Buffered.{Buffered}
+use Rattle.buffer_redux.specs.LogGrows.{ReadLogGrows}
+use Rattle.buffer_redux.specs.BufReader.{InnerGives}
+use Rattle.buffer_redux.specs.Sparing.{PotentialHeld}
+use Rattle.line_reader.specs.declared.error.LineError.{LineError}
+use Rattle.line_reader.specs.declared.error.LineError.TheVariants.{TooLong, Io}
+use Rattle.line_reader.specs.Lines.{IsLine, BeginsTooLong, IsTrimmed, IsUnended, with_end}
+use Rattle.line_reader.specs.Lining.{Lining, IsLining, rest, most}
+
+-- these bytes, then what is left, are what was left, then what was given since
+pub record HandsBytes {S : Type 0} (s : Lining S) (bytes : List ℕ) (t : Lining S) : Type 0 where
+  pub got : List ℕ
+  pub given : t.reader.log.reads.given ≡ s.reader.log.reads.given ++ got
+  pub equal : bytes ++ rest t ≡ rest s ++ got
+
+-- what any calls do, one after another, that handed out or skipped these bytes: lines, each with the end that it has. No
+-- byte is lost; of what the inner reader is known to have left, just what it gave is gone; no more bytes are moved than
+-- are given, over all calls since the reader was made; and no memory is taken
+pub record LinesWent {S : Type 0} (remaining : S → Option (List ℕ)) (s : Lining S) (bytes : List ℕ)
+    (t : Lining S) : Type 0 where
+  pub hands : HandsBytes s bytes t
+  pub known : InnerGives remaining s.reader t.reader
+  pub grows : ReadLogGrows s.reader.log.reads t.reader.log.reads
+  pub held : PotentialHeld (most s) s.reader t.reader
+  pub capacity : t.reader.block.capacity ≡ s.reader.block.capacity
+  pub limit : t.reader.block.limit ≡ s.reader.block.limit
+  pub max : t.max ≡ s.max
+
+-- the stream was asked, also for the last time, only where what was left, then what had come, was such; and each ask but
+-- the last gave a byte
+pub record AskedOver {S : Type 0} (Such : List ℕ → Type 0) (s t : Lining S) : Type 0 where
+  pub not_ended : s.ended ≡ false
+  pub came : List ℕ
+  pub last : List ℕ
+  pub given : t.reader.log.reads.given ≡ s.reader.log.reads.given ++ (came ++ last)
+  pub such : Such (rest s ++ came)
+  pub asks : t.reader.log.reads.asks ≤ s.reader.log.reads.asks + length came + 1
+
+-- so it was, or it wasn't asked
+abbrev pub AskedWhere : {S : Type 0} → (List ℕ → Type 0) → Lining S → Lining S → Type 0
+AskedWhere Such s t = (t.reader.log ≡ s.reader.log) ⊎ AskedOver Such s t
+
+-- no fault was met
+abbrev pub NoFault : {S : Type 0} → Lining S → Lining S → Type 0
+NoFault s t = t.reader.log.reads.faults ≡ s.reader.log.reads.faults
+
+-- this error is the one fault that the reader met
+abbrev pub Faulted : {S : Type 0} → Lining S → Error → Lining S → Type 0
+Faulted s e t = t.reader.log.reads.faults ≡ s.reader.log.reads.faults ++ e ∷ []
+
+-- how often the reader gave nothing so far though it was asked for something
+abbrev pub empties : {S P : Type 0} → Buffered S P → ℕ
+empties s = s.log.reads.zero_reads
+
+-- the reader never gave nothing
+abbrev pub NoEnd : {S : Type 0} → Lining S → Lining S → Type 0
+NoEnd s t = empties t.reader ≡ empties s.reader
+
+-- it did once, and wasn't asked again; or it had before, which no call had told yet, and wasn't asked
+abbrev pub MetEnd : {S : Type 0} → Lining S → Lining S → Type 0
+MetEnd s t = MatchBool s.ended (NoEnd s t) (empties t.reader ≡ empties s.reader + 1)
+
+-- what a call of `next` answers: a line, `None` at the end, or why there is no line
+abbrev pub NextAnswer : Type 0
+NextAnswer = Result (Option (List ℕ)) LineError
+
+-- the answer, with the line in place of the slice that is lent
+abbrev pub copied : Result (Option (Bor (List ℕ))) LineError → NextAnswer
+copied (Ok found) = Ok (option_copied found)
+copied (Err e) = Err e
+
+-- these bytes are the line and its end; or they are the last line, which has none, and nothing else is left
+abbrev pub IsHanded : {S : Type 0} → Lining S → List ℕ → List ℕ → Lining S → Type 0
+IsHanded s line bytes t =
+    ((bytes ≡ with_end line) × (t.ended ≡ false) × NoEnd s t)
+    ⊎ ((bytes ≡ line) × (0 < length line) × (rest t ≡ []) × (t.ended ≡ true) × MetEnd s t)
+
+-- what each answer means, by the bytes that it hands out and what is left
+abbrev pub NextAnswers : {S : Type 0} → Lining S → NextAnswer → List ℕ → Lining S → Type 0
+NextAnswers s (Ok (Some line)) bytes t =
+    IsLine line × (length line ≤ s.max) × NoFault s t × IsHanded s line bytes t
+NextAnswers s (Ok None) bytes t = (bytes ≡ []) × (rest t ≡ []) × NoFault s t × (t.ended ≡ false) × MetEnd s t
+NextAnswers s (Err (TooLong n)) bytes t =
+    (bytes ≡ []) × (n ≡ s.max) × BeginsTooLong s.max (rest t) × NoFault s t × (t.ended ≡ false) × NoEnd s t
+NextAnswers s (Err (Io e)) bytes t =
+    (bytes ≡ []) × IsUnended s.max (rest t) × Faulted s e t × (t.ended ≡ false) × NoEnd s t
+
+-- what one call of `next` does. The stream is asked only where no whole line is buffered, nor the beginning of one that
+-- is too long; and an end that no call has told yet is told
+pub record NextLine {S : Type 0} (remaining : S → Option (List ℕ)) (s : Lining S)
+    (answer : NextAnswer) (t : Lining S) : Type 0 where
+  pub bytes : List ℕ
+  pub went : LinesWent remaining s bytes t
+  pub answers : NextAnswers s answer bytes t
+  pub asked : AskedWhere (IsUnended s.max) s t
+  pub told : s.ended ≡ true → answer ≡ Ok None
+  pub whole : IsLining t
+
+-- a line is shown without the carriage return before its end, and the last one, which has none, as it is
+abbrev pub Trims : {S : Type 0} → NextAnswer → NextAnswer → Lining S → Type 0
+Trims (Ok (Some line)) (Ok (Some shown)) t = MatchBool t.ended (shown ≡ line) (IsTrimmed line shown)
+Trims (Ok (Some line)) (Ok None) t = ⊥
+Trims (Ok (Some line)) (Err e) t = ⊥
+Trims (Ok None) answer t = answer ≡ Ok None
+Trims (Err e) answer t = answer ≡ Err e
+
+-- what one call of `next_trimmed` does: what `next` does, and its line is trimmed
+pub record NextTrimmed {S : Type 0} (remaining : S → Option (List ℕ)) (s : Lining S)
+    (answer : NextAnswer) (t : Lining S) : Type 0 where
+  pub whole : NextAnswer
+  pub next : NextLine remaining s whole t
+  pub trims : Trims whole answer t
+
+-- what is lent once the next line stands at the front
+abbrev pub loaded : {S : Type 0} → Result (Option ℕ) LineError → Lining S → NextAnswer
+loaded (Ok (Some len)) t = Ok (Some (take len t.reader.block.bytes))
+loaded (Ok None) t = Ok None
+loaded (Err e) t = Err e

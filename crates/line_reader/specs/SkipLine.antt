@@ -1,0 +1,41 @@
+-- What `skip_line` promises, and what the steps of a reader of lines do.
+use Rattle.std.specs.Prelude.{◌≡◌, ℕ, ◌^◌, ◌<◌, ◌⊎◌, List, [], length, true, false, Option, Result, Ok, Err}
+use Rattle.std.specs.IoError.{error_kind}
+use Rattle.std.specs.declared.io.Error.{Error}
+use Rattle.std.specs.declared.io.ErrorKind.TheVariants.{Other}
+use Rattle.line_reader.specs.Lines.{IsLine, with_end}
+use Rattle.line_reader.specs.Lining.{Lining, IsLining, rest}
+use Rattle.line_reader.specs.NextLine.{LinesWent, AskedWhere, NoFault, Faulted, NoEnd, MetEnd}
+
+-- these bytes are a line and its end
+pub record IsWithEnd (bytes : List ℕ) : Type 0 where
+  pub line : List ℕ
+  pub plain : IsLine line
+  pub equal : bytes ≡ with_end line
+
+-- the bytes that were dropped are a line and its end; or they are all that came before the stream's, which the next call
+-- of `next` tells
+abbrev pub IsSkipped : {S : Type 0} → Lining S → List ℕ → Lining S → Type 0
+IsSkipped s bytes t =
+    (IsWithEnd bytes × (t.ended ≡ false) × NoEnd s t)
+    ⊎ (IsLine bytes × (rest t ≡ []) × (t.ended ≡ true) × MetEnd s t)
+
+-- why no end came: the stream failed, or more bytes were dropped than this
+abbrev pub SkipFails : {S : Type 0} → Lining S → List ℕ → Error → Lining S → Type 0
+SkipFails s bytes e t =
+    Faulted s e t ⊎ (NoFault s t × (error_kind e ≡ Other) × (2 ^ 63 < length bytes))
+
+-- what each answer means, by the bytes that were dropped and what is left
+abbrev pub SkipAnswers : {S : Type 0} → Lining S → Result ℕ Error → List ℕ → Lining S → Type 0
+SkipAnswers s (Ok n) bytes t = (n ≡ length bytes) × NoFault s t × IsSkipped s bytes t
+SkipAnswers s (Err e) bytes t =
+    IsLine bytes × (rest t ≡ []) × (t.ended ≡ false) × NoEnd s t × SkipFails s bytes e t
+
+-- what one call of `skip_line` does. The stream is asked only where no end of a line is buffered
+pub record SkipsLine {S : Type 0} (remaining : S → Option (List ℕ)) (s : Lining S) (answer : Result ℕ Error)
+    (t : Lining S) : Type 0 where
+  pub bytes : List ℕ
+  pub went : LinesWent remaining s bytes t
+  pub answers : SkipAnswers s answer bytes t
+  pub asked : AskedWhere IsLine s t
+  pub whole : IsLining t

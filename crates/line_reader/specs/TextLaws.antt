@@ -1,0 +1,134 @@
+-- Laws of texts: their lines are what they are cut into, in one way.
+use Rattle.std.specs.Prelude.{◌≡◌, ℕ, ◌+◌, ◌<◌, List, [], ◌∷◌, ◌++◌, length, take}
+use Rattle.std.proofs.Common.{sym, ap, subst, ◌∙◌, refl, arith, append_assoc, append-nil}
+use Rattle.std.proofs.lemmas.List.Elements.{All-nil, All-cons, All-head, All-tail}
+use Rattle.std.specs.List.{All}
+use Rattle.line_reader.specs.Lines.{BeginsTooLong, FitsLine, HasLines, IsLine, last_line, newline, with_end, with_ends}
+use Rattle.line_reader.specs.LinesLaws.{line-same, no-end-within, no_end_in}
+
+-- a text of no line, and of one that has no end
+pub lines-none : HasLines [] []
+lines-none = record { whole = []; last = []; bytes = refl; all = refl; plain = All-nil IsLine }
+
+pub lines-last : (line : List ℕ) → IsLine line → 0 < length line → HasLines line (line ∷ [])
+lines-last [] plain some = absurd (omega (arith, some))
+lines-last (byte ∷ line) plain some = record {
+  whole = [];
+  last = byte ∷ line;
+  bytes = refl;
+  all = refl;
+  plain = All-cons IsLine (byte ∷ line) [] plain (All-nil IsLine);
+}
+
+-- one line more in front
+pub lines-ended : (line text : List ℕ) (lines : List (List ℕ)) → IsLine line → HasLines text lines
+    → HasLines (with_end line ++ text) (line ∷ lines)
+lines-ended line text lines plain has = record {
+  whole = line ∷ has.whole;
+  last = has.last;
+  bytes = ap (λ l. with_end line ++ l) has.bytes ∙ sym (append_assoc (with_end line) (with_ends has.whole) has.last);
+  all = ap (λ l. line ∷ l) has.all;
+  plain = All-cons IsLine line lines plain has.plain;
+}
+
+-- what stands behind the last end is a line
+last_plain : (last : List ℕ) → All IsLine (last_line last) → IsLine last
+last_plain [] plain = All-nil (λ byte. ¬ (byte ≡ newline))
+last_plain (byte ∷ last) plain = All-head IsLine (byte ∷ last) [] plain
+
+-- a text with a line and its end in front: that is its first line, and the others are those of what is behind
+pub Lines-first : (line more text : List ℕ) (lines : List (List ℕ)) → IsLine line → text ≡ line ++ newline ∷ more
+    → HasLines text lines → (later : List (List ℕ)) × (lines ≡ line ∷ later) × HasLines more later
+Lines-first line more text lines plain front has =
+    first has.whole has.last lines (sym front ∙ has.bytes) has.all has.plain
+  where
+    first : (whole : List (List ℕ)) (last : List ℕ) (lines : List (List ℕ))
+        → line ++ newline ∷ more ≡ with_ends whole ++ last → lines ≡ whole ++ last_line last → All IsLine lines
+        → (later : List (List ℕ)) × (lines ≡ line ∷ later) × HasLines more later
+    first [] last lines same all plains =
+        absurd (no_end_in line more (subst IsLine (sym same) (last_plain last (subst (All IsLine) all plains))))
+    first (other ∷ whole) last lines same all plains =
+        let cut : with_ends (other ∷ whole) ++ last ≡ other ++ newline ∷ (with_ends whole ++ last) =
+        append_assoc (with_end other) (with_ends whole) last
+        ∙ append_assoc other (newline ∷ []) (with_ends whole ++ last) in
+        let plains' : All IsLine (other ∷ whole ++ last_line last) = subst (All IsLine) all plains in
+        let parts = line-same line other more (with_ends whole ++ last) plain
+        (All-head IsLine other (whole ++ last_line last) plains') (same ∙ cut) in (
+          whole ++ last_line last,
+          all ∙ ap (λ l. l ∷ whole ++ last_line last) (sym parts.0),
+          record {
+            whole = whole;
+            last = last;
+            bytes = parts.1;
+            all = refl;
+            plain = All-tail IsLine other (whole ++ last_line last) plains';
+          },
+        )
+
+-- a text without an end is its one line, or none
+pub Lines-last : (text : List ℕ) (lines : List (List ℕ)) → IsLine text → HasLines text lines → lines ≡ last_line text
+Lines-last text lines plain has = only has.whole has.last lines has.bytes has.all
+  where
+    only : (whole : List (List ℕ)) (last : List ℕ) (lines : List (List ℕ)) → text ≡ with_ends whole ++ last
+        → lines ≡ whole ++ last_line last → lines ≡ last_line text
+    only [] last lines same all = all ∙ ap last_line (sym same)
+    only (line ∷ whole) last lines same all =
+        let cut : with_ends (line ∷ whole) ++ last ≡ line ++ newline ∷ (with_ends whole ++ last) =
+        append_assoc (with_end line) (with_ends whole) last
+        ∙ append_assoc line (newline ∷ []) (with_ends whole ++ last) in
+        absurd (no_end_in line (with_ends whole ++ last) (subst IsLine (same ∙ cut) plain))
+
+-- the lines of a text are settled by it
+pub Lines-same : (text : List ℕ) (lines others : List (List ℕ)) → HasLines text lines → HasLines text others
+    → lines ≡ others
+Lines-same text lines others has has' = same has.whole text lines others has.bytes has.all has.plain has'
+  where
+    same : (whole : List (List ℕ)) (text : List ℕ) (lines others : List (List ℕ)) → text ≡ with_ends whole ++ has.last
+        → lines ≡ whole ++ last_line has.last → All IsLine lines → HasLines text others → lines ≡ others
+    same [] text lines others is all plain other =
+        let line : IsLine text = subst IsLine (sym is) (last_plain has.last (subst (All IsLine) all plain)) in
+        all ∙ ap last_line (sym is) ∙ sym (Lines-last text others line other)
+    same (line ∷ whole) text lines others is all plain other =
+        let plains : All IsLine (line ∷ whole ++ last_line has.last) = subst (All IsLine) all plain in
+        let cut : text ≡ line ++ newline ∷ (with_ends whole ++ has.last) =
+        is ∙ append_assoc (with_end line) (with_ends whole) has.last
+        ∙ append_assoc line (newline ∷ []) (with_ends whole ++ has.last) in
+        let first = Lines-first line (with_ends whole ++ has.last) text others
+        (All-head IsLine line (whole ++ last_line has.last) plains) cut other in
+        all
+        ∙ ap (λ l. line ∷ l) (same whole (with_ends whole ++ has.last) (whole ++ last_line has.last) first.0 refl refl
+        (All-tail IsLine line (whole ++ last_line has.last) plains) first.2)
+        ∙ sym first.1
+
+-- a text whose lines fit begins with no line that is too long
+pub Lines-fit : (max : ℕ) (text : List ℕ) (lines : List (List ℕ)) → HasLines text lines → All (FitsLine max) lines
+    → ¬ (BeginsTooLong max text)
+Lines-fit max text lines has fit long = fits has.whole has.last lines has.bytes has.all fit
+  where
+    fits : (whole : List (List ℕ)) (last : List ℕ) (lines : List (List ℕ)) → text ≡ with_ends whole ++ last
+        → lines ≡ whole ++ last_line last → All (FitsLine max) lines → ⊥
+    fits [] [] lines is all fit = omega (arith, long.above, ap length is)
+    fits [] (byte ∷ last) lines is all fit =
+        omega (
+          arith,
+          long.above,
+          ap length is,
+          (All-head (FitsLine max) (byte ∷ last) [] (subst (All (FitsLine max)) all fit)).fits,
+        )
+    fits (line ∷ whole) last lines is all fit =
+        let cut : text ≡ line ++ newline ∷ (with_ends whole ++ last) =
+        is ∙ append_assoc (with_end line) (with_ends whole) last
+        ∙ append_assoc line (newline ∷ []) (with_ends whole ++ last) in
+        no-end-within line (with_ends whole ++ last) max
+        (All-head (FitsLine max) line (whole ++ last_line last) (subst (All (FitsLine max)) all fit)).fits
+        (subst (λ l. IsLine (take (1 + max) l)) cut long.plain)
+
+-- lines, each with its end, are a text of these lines
+pub Lines-with_ends : (lines : List (List ℕ)) → All IsLine lines → HasLines (with_ends lines) lines
+Lines-with_ends lines plain = record {
+  whole = lines;
+  last = [];
+  bytes = sym (append-nil (with_ends lines));
+  all = sym (append-nil lines);
+  plain = plain;
+}

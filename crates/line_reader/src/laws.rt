@@ -1,0 +1,49 @@
+//! Laws, each as the contract of a function over the calls.
+ghost use Rattle.std.specs.Prelude.{◌≡◌, ℕ, List, [], ◌∷◌, ◌++◌, None, Ok};
+ghost use Rattle.std.specs.List.{All};
+ghost use Rattle.buffer_redux.specs.Sparing.{MovedAtMostGiven};
+ghost use Rattle.line_reader.specs.KnownLines.{HasLeft, NextKnown};
+ghost use Rattle.line_reader.specs.Lines.{FitsLine, HasLines};
+ghost use Rattle.line_reader.specs.Lining.{Lining, IsFresh, rest};
+ghost use Rattle.line_reader.specs.NextLine.{LinesWent, NextAnswer, NextLine};
+ghost use Rattle.line_reader.specs.Runs.{Cuts, NoneTold, all_handed};
+
+mod lists;
+mod runs;
+
+use crate::reader::LineReader;
+use buffer_redux::tell::TellRead;
+pub use lists::{read_each, round_trip, write_each};
+pub use runs::play_next;
+
+/// A text is cut into lines in one way.
+pub fn one_reading()
+    ensures { (text : List ℕ) (lines others : List (List ℕ)) → HasLines text lines → HasLines text others
+        → lines ≡ others }
+{}
+
+/// Since the reader was made, what was given is the bytes that were handed out or skipped, then what is left; and no more
+/// bytes were moved than were given.
+pub fn since_new<R: TellRead>(reader: &LineReader<R>)
+    ensures given { (least greatest : ℕ) (stream : R) (first : Lining R) (bytes : List ℕ)
+        → IsFresh R.log least greatest stream first → LinesWent R.remaining first bytes reader.now
+        → reader.now.reader.log.reads.given ≡ (R.log stream).reads.given ++ (bytes ++ rest reader.now) }
+    ensures moved { (least greatest : ℕ) (stream : R) (first : Lining R) (bytes : List ℕ)
+        → IsFresh R.log least greatest stream first → LinesWent R.remaining first bytes reader.now
+        → MovedAtMostGiven first.reader reader.now.reader }
+{}
+
+/// What a run of calls handed out, up to the one that told the end, is a text, and the lines that were handed out are its
+/// lines.
+pub fn lines_of_text()
+    ensures { (answers : List NextAnswer) (bytes : List ℕ) → NoneTold answers → Cuts (answers ++ Ok None ∷ []) bytes
+        → HasLines bytes (all_handed answers) }
+{}
+
+/// Where just some lines are left of a stream that is known, `next` hands out the first, or answers `None` where there is
+/// none; it has no other `Err` than the stream's own.
+pub fn next_known<R: TellRead>(reader: &LineReader<R>)
+    ensures { (s : Lining R) (lines : List (List ℕ)) (answer : NextAnswer)
+        → NextLine R.remaining s answer reader.now → All (FitsLine s.max) lines → HasLeft R.remaining s lines
+        → NextKnown R.remaining answer lines reader.now }
+{}

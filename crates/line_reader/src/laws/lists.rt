@@ -1,0 +1,103 @@
+//! Lists of lines, written and read again.
+ghost use Rattle.std.specs.Prelude.{◌≡◌, map, IfOk, IfErr, OnOk};
+ghost use Rattle.std.specs.List.{All};
+ghost use Rattle.buffer_redux.specs.BufWriter.{WritesInOrder};
+ghost use Rattle.buffer_redux.specs.WriteAll.{TookBeginning};
+ghost use Rattle.line_reader.specs.KnownLines.{HasLeft, LeavesLines, ReadStopped};
+ghost use Rattle.line_reader.specs.Lines.{FitsLine, with_ends};
+ghost use Rattle.line_reader.specs.NextLine.{NextLine};
+ghost use Rattle.line_reader.specs.Runs.{AllRead, NextFails, recorded};
+
+use crate::error::LineError;
+use crate::laws::runs::next_copied;
+use crate::reader::LineReader;
+use buffer_redux::LineWriter;
+use buffer_redux::tell::{TellRead, TellWrite, Told};
+use std::alloc::Global;
+use std::io;
+use std::io::Write;
+
+/// Writes each line, and its end, up to the first `Err`. What was taken in then is a beginning of all that was to be.
+pub fn write_each<W: TellWrite>(writer: &mut LineWriter<W>, lines: &[Vec<u8>]) -> io::Result<()>
+    ensures written { OnOk result (WritesInOrder writer.old (with_ends (map (λ v. v.items) lines.now)) writer.new) }
+    ensures beginning { TookBeginning (with_ends (map (λ v. v.items) lines.now)) writer.old writer.new }
+    ensures stretch { W.stretch writer.old.inner writer.new.inner }
+{
+    for line in lines {
+        writer.write_all(line)?;
+        writer.write_all(b"\n")?;
+    }
+    Ok(())
+}
+
+/// Reads lines of which it is known that they are these, and no others. An `Err` is refused memory, or the fault of the
+/// inner reader; what is left then is the last of them.
+pub fn read_each<R: TellRead>(
+    alloc: Global,
+    reader: &mut LineReader<R>,
+    lines: &[Vec<u8>],
+) -> io::Result<Vec<Vec<u8>>>
+    requires fit { All (FitsLine reader.old.max) (map (λ v. v.items) lines.now) }
+    requires left { HasLeft R.remaining reader.old (map (λ v. v.items) lines.now) }
+    ensures same { IfOk result (λ kept. map (λ v. v.items) kept.items ≡ map (λ v. v.items) lines.now) }
+    ensures read { OnOk result (AllRead R.remaining reader.old (map (λ v. v.items) lines.now) reader.new) }
+    ensures stopped { IfErr result (λ e.
+        ReadStopped R.remaining reader.old (map (λ v. v.items) lines.now) e reader.new) }
+{
+    let mut kept = Vec::new(alloc);
+    for _ in lines {
+        match next_of_known(alloc, reader)? {
+            Some(line) => kept.push(line)?,
+            None => unreachable!(),
+        }
+    }
+    match next_of_known(alloc, reader)? {
+        Some(_) => unreachable!(),
+        None => Ok(kept),
+    }
+}
+
+// One call of `next`, where it is known that just lines are left that fit: none is too long then.
+fn next_of_known<R: TellRead>(
+    alloc: Global,
+    reader: &mut LineReader<R>,
+) -> io::Result<Option<Vec<u8>>>
+    requires left { LeavesLines R.remaining reader.old }
+    ensures next { IfOk result (λ found. NextLine R.remaining reader.old (recorded (Ok found)) reader.new) }
+    ensures failed { IfErr result (λ e. NextFails R.remaining reader.old e reader.new) }
+{
+    match next_copied(alloc, reader)? {
+        Ok(found) => Ok(found),
+        Err(LineError::Io(e)) => Err(e),
+        Err(LineError::TooLong(_)) => unreachable!(),
+    }
+}
+
+/// Lines that are written, each with an end, and flushed are read again, each of them whole, in order, and no other.
+pub fn round_trip(alloc: Global, lines: &[Vec<u8>], max: usize) -> io::Result<Vec<Vec<u8>>>
+    requires { All (FitsLine max) (map (λ v. v.items) lines.now) }
+    ensures { IfOk result (λ kept. map (λ v. v.items) kept.items ≡ map (λ v. v.items) lines.now) }
+{
+    let bytes = written(alloc, lines)?;
+    read_back(alloc, bytes.as_slice(), lines, max)
+}
+
+// The lines, each with its end.
+fn written(alloc: Global, lines: &[Vec<u8>]) -> io::Result<Vec<u8>>
+    ensures { IfOk result (λ bytes. bytes.items ≡ with_ends (map (λ v. v.items) lines.now)) }
+{
+    let mut writer = LineWriter::new(alloc, Told::new(Vec::new(alloc)))?;
+    write_each(&mut writer, lines)?;
+    let inner = writer.into_inner().map_err(io::Error::from)?;
+    Ok(inner.into_inner())
+}
+
+// The lines of the text, which are known to be these.
+fn read_back(alloc: Global, text: &[u8], lines: &[Vec<u8>], max: usize) -> io::Result<Vec<Vec<u8>>>
+    requires fit { All (FitsLine max) (map (λ v. v.items) lines.now) }
+    requires text { text.now ≡ with_ends (map (λ v. v.items) lines.now) }
+    ensures same { IfOk result (λ kept. map (λ v. v.items) kept.items ≡ map (λ v. v.items) lines.now) }
+{
+    let mut reader = LineReader::new(alloc, Told::new(text), max)?;
+    read_each(alloc, &mut reader, lines)
+}

@@ -1,0 +1,15 @@
+//! Lines of a stream, lent out of the buffer that they were read into.
+//!
+//! A line ends at a line feed. What stands behind the last line feed is a line too, where it is something. A stream may come
+//! in whatever pieces: the lines that are handed out, each with the end that it has, then what is left, are the stream.
+//!
+//! The crate stands on what `buffer_redux` promises, and on nothing else of it.
+#![tactic(auto)]
+
+mod error;
+pub mod laws;
+mod line;
+mod reader;
+
+pub use error::LineError;
+pub use reader::LineReader;
