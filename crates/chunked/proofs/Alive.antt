@@ -1,0 +1,145 @@
+-- From each place a body can be completed.
+use Rattle.std.proofs.Common.{ℕ, zero, suc, ◌<◌, List, [], ◌∷◌, ◌++◌, replicate, arith, refl}
+use Rattle.std.proofs.lemmas.List.{length-replicate}
+use Rattle.chunked.specs.declared.limits.Limits.{Limits}
+use Rattle.chunked.specs.declared.place.Place.{Place}
+use Rattle.chunked.specs.declared.place.Place.TheVariants.{Line, Size, Blank, Extension, SizeFeed, Data, DataFeed, Fields, Field, FieldFeed, LastFeed, Done}
+use Rattle.chunked.specs.Body.{line_end, IsBody, IsTrailers}
+use Rattle.chunked.specs.Place.{BehindSize, Completes, CompletesData, IsPlace}
+
+module _ (limits : Limits) where
+  no_trailers : (room : ℕ) → IsTrailers room (line_end [])
+  no_trailers room = record { fields = []; equal = refl; lines = tt; few = omega arith }
+
+  least_body : 0 < limits.line → IsBody limits (48 ∷ line_end (line_end [])) []
+  least_body some = record {
+    payloads = [];
+    chunks = record {
+      text = 48 ∷ [];
+      size_line = record {
+        digits = 48 ∷ [];
+        extension = [];
+        equal = refl;
+        numeral = (omega arith, (omega arith, tt));
+        value = refl;
+        small = omega arith;
+        follows = tt;
+        fits = omega (arith, some);
+      };
+      behind = line_end [];
+      trailers = no_trailers limits.trailers;
+      equal = refl;
+    };
+    equal = refl;
+  }
+
+  -- any payload of this length, and then the least body
+  data_some : 0 < limits.line → (left : ℕ)
+      → CompletesData limits left (replicate left 0 ++ line_end (48 ∷ line_end (line_end []))) (replicate left 0 ++ [])
+  data_some some left = record {
+    front = replicate left 0;
+    later = [];
+    behind = 48 ∷ line_end (line_end []);
+    many = length-replicate left 0;
+    equal = refl;
+    both = refl;
+    body = least_body some;
+  }
+
+  -- bytes with a payload that complete the body from here
+  pub record Completed (p : Place) : Type 0 where
+    pub rest : List ℕ
+    pub payload : List ℕ
+    pub completes : Completes limits p rest payload
+
+  pub record CompletedSize (size : ℕ) : Type 0 where
+    pub rest : List ℕ
+    pub payload : List ℕ
+    pub goes_on : BehindSize limits size rest payload
+
+  size_some : 0 < limits.line → (size : ℕ) → CompletedSize size
+  size_some some zero = record { rest = line_end []; payload = []; goes_on = (refl, no_trailers limits.trailers) }
+  size_some some (suc n) = record {
+    rest = replicate (suc n) 0 ++ line_end (48 ∷ line_end (line_end []));
+    payload = replicate (suc n) 0 ++ [];
+    goes_on = data_some some (suc n);
+  }
+
+  pub Completes-some : 0 < limits.line → (p : Place) → IsPlace p → Completed p
+  Completes-some some Line is = record { rest = 48 ∷ line_end (line_end []); payload = []; completes = least_body some }
+  Completes-some some (Size number room) is = let goes = size_some some number in record {
+    rest = line_end goes.rest;
+    payload = goes.payload;
+    completes = record {
+      digits = [];
+      extension = [];
+      size = number;
+      behind = goes.rest;
+      equal = refl;
+      all = tt;
+      value = refl;
+      small = is;
+      follows = tt;
+      fits = omega arith;
+      goes_on = goes.goes_on;
+    };
+  }
+  Completes-some some (Blank size room) is = let goes = size_some some size in record {
+    rest = line_end goes.rest;
+    payload = goes.payload;
+    completes = record {
+      text = [];
+      behind = goes.rest;
+      equal = refl;
+      is_rest = tt;
+      fits = omega arith;
+      small = is;
+      goes_on = goes.goes_on;
+    };
+  }
+  Completes-some some (Extension size room) is = let goes = size_some some size in record {
+    rest = line_end goes.rest;
+    payload = goes.payload;
+    completes = record {
+      text = [];
+      behind = goes.rest;
+      equal = refl;
+      is_rest = tt;
+      fits = omega arith;
+      small = is;
+      goes_on = goes.goes_on;
+    };
+  }
+  Completes-some some (SizeFeed size) is = let goes = size_some some size in
+      record { rest = 10 ∷ goes.rest; payload = goes.payload; completes = ((goes.rest, refl, goes.goes_on), is) }
+  Completes-some some (Data left) is = record {
+    rest = replicate left 0 ++ line_end (48 ∷ line_end (line_end []));
+    payload = replicate left 0 ++ [];
+    completes = data_some some left;
+  }
+  Completes-some some DataFeed is = record {
+    rest = 10 ∷ (48 ∷ line_end (line_end []));
+    payload = [];
+    completes = (48 ∷ line_end (line_end []), refl, least_body some);
+  }
+  Completes-some some (Fields room) is = record { rest = line_end []; payload = []; completes = (refl, no_trailers room) }
+  Completes-some some (Field room) is = record {
+    rest = line_end (line_end []);
+    payload = [];
+    completes = (
+      refl,
+      record {
+        text = [];
+        behind = line_end [];
+        left = room;
+        equal = refl;
+        is_text = tt;
+        fits = omega arith;
+        trailers = no_trailers room;
+      },
+    );
+  }
+  Completes-some some (FieldFeed room) is =
+      record { rest = 10 ∷ line_end []; payload = []; completes = (refl, (line_end [], refl, no_trailers room)) }
+  Completes-some some LastFeed is = record { rest = 10 ∷ []; payload = []; completes = (refl, refl) }
+  Completes-some some Done is = record { rest = []; payload = []; completes = (refl, refl) }

@@ -1,0 +1,134 @@
+-- Payload is handed out, and how that ends.
+use Rattle.std.proofs.Common.{◌≡◌, ℕ, ◌-◌, ◌<◌, ◌≤◌, List, [], ◌∷◌, ◌++◌, length, take, Option, Result, Ok, Err, sym, ap, subst, ◌∙◌, arith, inl, inr, refl, length-append}
+use Rattle.std.proofs.lemmas.List.{length-take-le, take-append-le}
+use Rattle.std.specs.declared.io.Error.{Error}
+use Rattle.buffer_redux.specs.Buffered.{Buffered}
+use Rattle.buffer_redux.specs.BufReader.{EmptyReadCaused, RanDry, ReaderKeeps, ReadErrorCaused, ReadsAlong, ReadsInOrder}
+use Rattle.buffer_redux.specs.LogGrows.{ReadLogGrows, ReadLogGrows-joins, ReadLogGrows-none}
+use Rattle.buffer_redux.specs.Policy.{ReadRules}
+use Rattle.buffer_redux.specs.ReaderLaws.{WantsBytes}
+use Rattle.chunked.specs.declared.error.ChunkedError.{ChunkedError}
+use Rattle.chunked.specs.declared.error.ChunkedError.TheVariants.{NotChunked, Truncated, Io}
+use Rattle.chunked.specs.declared.place.Place.TheVariants.{Data, Done}
+use Rattle.chunked.specs.declared.progress.Progress.{Progress}
+use Rattle.chunked.specs.Between.{FailsSo, HandsOn, NoFault, Takes}
+use Rattle.chunked.specs.BetweenLaws.{Takes-joins, Takes-none, Takes-still}
+use Rattle.chunked.specs.Place.{IsPlace, Leads}
+use Rattle.chunked.proofs.PassingOn.{data_payload}
+use Rattle.chunked.proofs.Skipping.{Notes}
+
+module _ {S P : Type 0} (remaining : S → Option (List ℕ)) (rules : ReadRules P) where
+  -- what one read does as a stretch
+  read_along : (s t : Buffered S P) (h : List ℕ) → ReadsInOrder s h t → ReaderKeeps remaining rules s t
+      → ReadsAlong remaining rules s h t
+  read_along s t h order keeps = record {
+    in_order = order;
+    known = keeps.known;
+    grows = keeps.grows;
+    capacity = keeps.capacity;
+    claims = keeps.claims;
+  }
+
+  module _ (s : Buffered S P) (p : Progress) (left : ℕ) (there : p.place ≡ Data left) (out : List ℕ) (t : Buffered S P)
+      (keeps : ReaderKeeps remaining rules s t) where
+    is_place : IsPlace p.place
+    is_place = subst IsPlace (sym there) tt
+
+    stays : ReadsInOrder s [] t → Takes remaining rules s p [] [] t p
+    stays order = Takes-still remaining rules s p s p t [] [] (Takes-none remaining rules s p is_place)
+        (read_along s t [] order keeps)
+
+    pub data_fails : (e : Error) → ReadsInOrder s [] t → ReadErrorCaused {A = ℕ} rules s (Err e) t
+        → HandsOn remaining rules s p out (Err (Io e)) t p
+    data_fails e order caused = record {
+      wire = [];
+      takes = stays order;
+      ends = elim caused [
+        | inl fault ↦ inl fault
+        | inr gave ↦ inr (record { last = s; grows = ReadLogGrows-none s.log.reads; no_fault = refl; gave = gave })
+      ];
+    }
+
+    pub data_dry : ReadsInOrder s [] t → NoFault s t → EmptyReadCaused rules s t
+        → (WantsBytes (rules.claims s.policy) → RanDry s t) → HandsOn remaining rules s p out (Err (Truncated p.count)) t p
+    data_dry order no_fault caused dry = record {
+      wire = [];
+      takes = stays order;
+      ends = (
+        no_fault,
+        refl,
+        (λ is. let odd : Data left ≡ Done = sym there ∙ is in cc),
+        record {
+          last = s;
+          grows = ReadLogGrows-none s.log.reads;
+          caused = inr caused;
+          dry = λ wants _. dry wants;
+        },
+      );
+    }
+
+    pub data_given : (n : ℕ) (front more : List ℕ) (q : Progress) → out ≡ front ++ more → 0 < n → n ≤ length front → n ≤ left
+        → ReadsInOrder s (take n front) t → NoFault s t → Notes p (Data (left - n)) (take n out) q
+        → HandsOn remaining rules s p out (Ok n) t q
+    data_given n front more q is some within few order no_fault notes =
+        let same : take n out ≡ take n front = ap (take n) is ∙ take-append-le n front more within in
+        let long : length (take n out) ≡ n = ap length same ∙ length-take-le n front within in
+        record {
+          wire = take n out;
+          takes = record {
+            along = subst (λ l. ReadsAlong remaining rules s l t) (sym same) (read_along s t (take n front) order keeps);
+            leads = subst (λ x. Leads p.limits x (take n out) (take n out) q.place) (sym there)
+                (subst (λ x. Leads p.limits (Data left) (take n out) (take n out) x) (sym notes.place)
+                (subst (λ k. Leads p.limits (Data left) (take n out) (take n out) (Data (left - k))) long
+                (data_payload p.limits (take n out) left (omega (arith, long, few)))));
+            taken = notes.taken;
+            limits = notes.limits;
+            place = subst IsPlace (sym notes.place) tt;
+          };
+          ends = (
+            omega (arith, ap length is, length-append front more, within),
+            no_fault,
+            λ none _. absurd (omega (arith, none, some)),
+          );
+        }
+
+  -- a failure goes on where no read failed before
+  FailsSo-after : (s m : Buffered S P) → s.block.capacity ≤ m.block.capacity → rules.claims m.policy ≡ rules.claims s.policy
+      → ReadLogGrows s.log.reads m.log.reads → NoFault s m → (e : ChunkedError) (t : Buffered S P) (r : Progress)
+      → FailsSo rules m e t r → FailsSo rules s e t r
+  FailsSo-after s m room claims grows well (NotChunked why count) t r (no_fault, right, wrong) = (no_fault ∙ well, right, wrong)
+  FailsSo-after s m room claims grows well (Truncated count) t r (no_fault, right, within, none) = (
+    no_fault ∙ well,
+    right,
+    within,
+    record {
+      last = none.last;
+      grows = ReadLogGrows-joins s.log.reads m.log.reads none.last.log.reads grows none.grows;
+      caused = none.caused;
+      dry = λ wants some.
+          let dry = none.dry (subst WantsBytes (sym claims) wants) (omega (arith, some, room)) in
+          omega (arith, dry, grows.zero_reads);
+    },
+  )
+  FailsSo-after s m room claims grows well (Io e) t r (inl fault) = inl (fault ∙ ap (λ l. l ++ e ∷ []) well)
+  FailsSo-after s m room claims grows well (Io e) t r (inr failed) = inr (record {
+    last = failed.last;
+    grows = ReadLogGrows-joins s.log.reads m.log.reads failed.last.log.reads grows failed.grows;
+    no_fault = failed.no_fault ∙ well;
+    gave = failed.gave;
+  })
+
+  -- payload is handed out behind what is none
+  pub HandsOn-after : (s m : Buffered S P) (p q : Progress) (wire : List ℕ) → Takes remaining rules s p wire [] m q → NoFault s m
+      → (out : List ℕ) (answer : Result ℕ ChunkedError) (t : Buffered S P) (r : Progress)
+      → HandsOn remaining rules m q out answer t r → HandsOn remaining rules s p out answer t r
+  HandsOn-after s m p q wire before well out (Ok n) t r h = record {
+    wire = wire ++ h.wire;
+    takes = Takes-joins remaining rules s p m q t r wire [] h.wire (take n out) before h.takes;
+    ends = (h.ends.0, h.ends.1 ∙ well, h.ends.2);
+  }
+  HandsOn-after s m p q wire before well out (Err e) t r h = record {
+    wire = wire ++ h.wire;
+    takes = Takes-joins remaining rules s p m q t r wire [] h.wire [] before h.takes;
+    ends = FailsSo-after s m before.along.capacity before.along.claims before.along.grows well e t r h.ends;
+  }

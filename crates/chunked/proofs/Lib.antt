@@ -1,0 +1,9 @@
+pub mod Lines
+pub mod Passing
+pub mod PassingOn
+pub mod Wrong
+pub mod Texts
+pub mod Skipping
+pub mod Handing
+pub mod Payload
+pub mod Alive

@@ -1,0 +1,337 @@
+-- Which bytes lead from one place to another.
+use Rattle.std.proofs.Common.{◌≡◌, ◌≢◌, ℕ, zero, suc, ◌+◌, ◌*◌, ◌-◌, ◌<◌, ◌≤◌, ◌^◌, List, [], ◌∷◌, ◌++◌, length, sym, ap, subst, ◌∙◌, arith, inl, inr, refl, append_assoc, length-append, Result, Ok, Err}
+use Rattle.std.specs.Char.{digit_value}
+use Rattle.std.specs.Str.Parse.{AllDigits, digits_value_after}
+use Rattle.chunked.specs.declared.error.Malformed.{Malformed}
+use Rattle.chunked.specs.declared.error.Malformed.TheVariants.{LineTooLong, BareFeed, BadSize}
+use Rattle.chunked.specs.declared.limits.Limits.{Limits}
+use Rattle.chunked.specs.declared.place.Place.{Place}
+use Rattle.chunked.specs.declared.place.Place.TheVariants.{Line, Size, Blank, Extension, SizeFeed, Data, DataFeed, Fields, FieldFeed, LastFeed, Done}
+use Rattle.chunked.specs.Body.{line_end, IsText, IsBlank, IsExtension, IsTrailers}
+use Rattle.chunked.specs.BodyLaws.{blank_no_digit, semicolon_no_digit, blank_is_text}
+use Rattle.chunked.specs.Place.{BehindSize, Completes, CompletesSize, CompletesLine, Feeds, Leads, Passes, IsDigit, IsSettled, StepsOver}
+use Rattle.chunked.proofs.Lines.{text_front, text_behind, text_both, first_digit, digit_first}
+
+module _ (limits : Limits) where
+  -- bytes that are no payload
+  pub quiet : (p q : Place) (wire : List ℕ)
+      → ((rest payload : List ℕ) → Completes limits q rest payload → Completes limits p (wire ++ rest) payload)
+      → ((rest payload : List ℕ) → Completes limits p (wire ++ rest) payload → Completes limits q rest payload)
+      → Leads limits p wire [] q
+  quiet p q wire on off = record { onward = on; back = λ rest whole c. (whole, refl, off rest whole c) }
+
+  -- a digit begins a size, and goes on with it
+  pub line_digit : (b : ℕ) → IsDigit b → 0 < limits.line
+      → Passes limits Line (b ∷ []) (Size (digit_value b) (limits.line - 1))
+  line_digit b digit some = record {
+    leads = quiet Line (Size (digit_value b) (limits.line - 1)) (b ∷ [])
+        (λ rest payload c. first_digit limits b rest payload digit some c)
+        (λ rest payload c. digit_first limits b rest payload c);
+    few = omega (arith, some);
+  }
+
+  further_digit : (b number room : ℕ) (rest payload digits : List ℕ)
+      → (c : CompletesSize limits number room (b ∷ rest) payload) → c.digits ≡ digits → IsDigit b
+      → CompletesSize limits (number * 16 + digit_value b) (room - 1) rest payload
+  further_digit b number room rest payload [] c is digit =
+      let here : b ∷ rest ≡ c.extension ++ line_end c.behind =
+      c.equal ∙ ap (λ l. l ++ (c.extension ++ line_end c.behind)) is in
+      absurd (no_digit_there b rest c.extension c.behind c.follows here digit)
+    where
+      no_digit_there : (b : ℕ) (rest text behind : List ℕ) → IsExtension text → b ∷ rest ≡ text ++ line_end behind
+          → IsDigit b → ⊥
+      no_digit_there b rest [] behind h same digit =
+          let odd : b ≡ 13 = cc in omega (arith, subst (λ x. digit_value x < 16) odd digit)
+      no_digit_there b rest (x ∷ text) behind (inl (blank, h)) same digit =
+          let head : b ≡ x = cc in blank_no_digit x blank (subst IsDigit head digit)
+      no_digit_there b rest (x ∷ text) behind (inr (is, h)) same digit =
+          let head : b ≡ x = cc in semicolon_no_digit x is (subst IsDigit head digit)
+  further_digit b number room rest payload (d ∷ digits) c is digit = record {
+    digits = digits;
+    extension = c.extension;
+    size = c.size;
+    behind = c.behind;
+    equal = (let same : b ∷ rest ≡ d ∷ (digits ++ (c.extension ++ line_end c.behind)) =
+        c.equal ∙ ap (λ l. l ++ (c.extension ++ line_end c.behind)) is in cc);
+    all = (subst (λ ds. AllDigits 16 ds) is c.all).1;
+    value = (let same : b ∷ rest ≡ d ∷ (digits ++ (c.extension ++ line_end c.behind)) =
+        c.equal ∙ ap (λ l. l ++ (c.extension ++ line_end c.behind)) is in
+        let head : b ≡ d = cc in
+        ap (λ x. digits_value_after 16 (number * 16 + digit_value x) digits) head
+        ∙ ap (λ ds. digits_value_after 16 number ds) (sym is) ∙ c.value);
+    small = c.small;
+    follows = c.follows;
+    fits = omega (arith, c.fits, ap length is);
+    goes_on = c.goes_on;
+  }
+
+  pub size_digit : (b number room : ℕ) → IsDigit b → 0 < room
+      → Passes limits (Size number room) (b ∷ []) (Size (number * 16 + digit_value b) (room - 1))
+  size_digit b number room digit some = record {
+    leads = quiet (Size number room) (Size (number * 16 + digit_value b) (room - 1)) (b ∷ [])
+        (λ rest payload c. record {
+          digits = b ∷ c.digits;
+          extension = c.extension;
+          size = c.size;
+          behind = c.behind;
+          equal = ap (λ l. b ∷ l) c.equal;
+          all = (digit, c.all);
+          value = c.value;
+          small = c.small;
+          follows = c.follows;
+          fits = omega (arith, c.fits, some);
+          goes_on = c.goes_on;
+        })
+        (λ rest payload c. further_digit b number room rest payload c.digits c refl digit);
+    few = omega (arith, some);
+  }
+
+  -- where no digit comes, digits and blanks lead on alike
+  as_blank : (b number room : ℕ) (rest payload digits : List ℕ) → ¬ IsDigit b
+      → (c : CompletesSize limits number room (b ∷ rest) payload) → c.digits ≡ digits
+      → CompletesLine IsExtension limits number room (b ∷ rest) payload
+  as_blank b number room rest payload [] no_digit c is = record {
+    text = c.extension;
+    behind = c.behind;
+    equal = c.equal ∙ ap (λ l. l ++ (c.extension ++ line_end c.behind)) is;
+    is_rest = c.follows;
+    fits = omega (arith, c.fits);
+    small = subst (λ n. n < 2 ^ 62) (sym (ap (λ ds. digits_value_after 16 number ds) (sym is) ∙ c.value)) c.small;
+    goes_on = subst (λ n. BehindSize limits n c.behind payload)
+        (sym (ap (λ ds. digits_value_after 16 number ds) (sym is) ∙ c.value)) c.goes_on;
+  }
+  as_blank b number room rest payload (d ∷ digits) no_digit c is =
+      let same : b ∷ rest ≡ d ∷ (digits ++ (c.extension ++ line_end c.behind)) =
+      c.equal ∙ ap (λ l. l ++ (c.extension ++ line_end c.behind)) is in
+      let head : d ≡ b = cc in
+      absurd (no_digit (subst IsDigit head (subst (λ ds. AllDigits 16 ds) is c.all).0))
+
+  of_blank : (number room : ℕ) (bytes payload : List ℕ) → CompletesLine IsExtension limits number room bytes payload
+      → CompletesSize limits number room bytes payload
+  of_blank number room bytes payload c = record {
+    digits = [];
+    extension = c.text;
+    size = number;
+    behind = c.behind;
+    equal = c.equal;
+    all = tt;
+    value = refl;
+    small = c.small;
+    follows = c.is_rest;
+    fits = omega (arith, c.fits);
+    goes_on = c.goes_on;
+  }
+
+  pub size_as_blank : (b number room : ℕ) (q : Place) → ¬ IsDigit b → Passes limits (Blank number room) (b ∷ []) q
+      → Passes limits (Size number room) (b ∷ []) q
+  size_as_blank b number room q no_digit goes = record {
+    leads = record {
+      onward = λ rest payload c. of_blank number room (b ∷ rest) payload (goes.leads.onward rest payload c);
+      back = λ rest whole c. goes.leads.back rest whole (as_blank b number room rest whole c.digits no_digit c refl);
+    };
+    few = goes.few;
+  }
+
+  -- behind blanks
+  blank_back : (b size room : ℕ) (rest payload text behind : List ℕ) → IsBlank b
+      → b ∷ rest ≡ text ++ line_end behind → IsExtension text → length text ≤ room → size < 2 ^ 62
+      → BehindSize limits size behind payload → CompletesLine IsExtension limits size (room - 1) rest payload
+  blank_back b size room rest payload [] behind blank same h fits small goes_on =
+      let odd : b ≡ 13 = cc in absurd ((blank_is_text b blank).0 odd)
+  blank_back b size room rest payload (x ∷ text) behind blank same (inl (blank', h)) fits small goes_on = record {
+    text = text;
+    behind = behind;
+    equal = cc;
+    is_rest = h;
+    fits = omega (arith, fits);
+    small = small;
+    goes_on = goes_on;
+  }
+  blank_back b size room rest payload (x ∷ text) behind blank same (inr (is, h)) fits small goes_on =
+      let head : b ≡ x = cc in absurd (no_semicolon b blank (head ∙ is))
+    where
+      no_semicolon : (b : ℕ) → IsBlank b → b ≡ 59 → ⊥
+      no_semicolon b (inl is) odd = omega (arith, is, odd)
+      no_semicolon b (inr is) odd = omega (arith, is, odd)
+
+  pub blank_blank : (b size room : ℕ) → IsBlank b → 0 < room → Passes limits (Blank size room) (b ∷ []) (Blank size (room - 1))
+  blank_blank b size room blank some = record {
+    leads = quiet (Blank size room) (Blank size (room - 1)) (b ∷ [])
+        (λ rest payload c. record {
+          text = b ∷ c.text;
+          behind = c.behind;
+          equal = ap (λ l. b ∷ l) c.equal;
+          is_rest = inl (blank, c.is_rest);
+          fits = omega (arith, c.fits, some);
+          small = c.small;
+          goes_on = c.goes_on;
+        })
+        (λ rest payload c. blank_back b size room rest payload c.text c.behind blank c.equal c.is_rest c.fits c.small c.goes_on);
+    few = omega (arith, some);
+  }
+
+  semicolon_back : (b size room : ℕ) (rest payload text behind : List ℕ) → b ≡ 59
+      → b ∷ rest ≡ text ++ line_end behind → IsExtension text → length text ≤ room → size < 2 ^ 62
+      → BehindSize limits size behind payload → CompletesLine IsText limits size (room - 1) rest payload
+  semicolon_back b size room rest payload [] behind is same h fits small goes_on =
+      let odd : b ≡ 13 = cc in absurd (omega (arith, odd, is))
+  semicolon_back b size room rest payload (x ∷ text) behind is same (inl (inl blank, h)) fits small goes_on =
+      let head : b ≡ x = cc in absurd (omega (arith, head, blank, is))
+  semicolon_back b size room rest payload (x ∷ text) behind is same (inl (inr blank, h)) fits small goes_on =
+      let head : b ≡ x = cc in absurd (omega (arith, head, blank, is))
+  semicolon_back b size room rest payload (x ∷ text) behind is same (inr (is', h)) fits small goes_on = record {
+    text = text;
+    behind = behind;
+    equal = cc;
+    is_rest = h;
+    fits = omega (arith, fits);
+    small = small;
+    goes_on = goes_on;
+  }
+
+  pub blank_semicolon : (b size room : ℕ) → b ≡ 59 → 0 < room
+      → Passes limits (Blank size room) (b ∷ []) (Extension size (room - 1))
+  blank_semicolon b size room is some = record {
+    leads = quiet (Blank size room) (Extension size (room - 1)) (b ∷ [])
+        (λ rest payload c. record {
+          text = b ∷ c.text;
+          behind = c.behind;
+          equal = ap (λ l. b ∷ l) c.equal;
+          is_rest = inr (is, c.is_rest);
+          fits = omega (arith, c.fits, some);
+          small = c.small;
+          goes_on = c.goes_on;
+        })
+        (λ rest payload c. semicolon_back b size room rest payload c.text c.behind is c.equal c.is_rest c.fits c.small c.goes_on);
+    few = omega (arith, some);
+  }
+
+  -- a CR ends a line, of whatever kind its rest may be
+  return_back : (IsRest : List ℕ → Type 0) (size : ℕ) (b : ℕ) (rest payload text behind : List ℕ) → b ≡ 13
+      → b ∷ rest ≡ text ++ line_end behind → ((x : ℕ) (more : List ℕ) → IsRest (x ∷ more) → x ≢ 13) → IsRest text
+      → size < 2 ^ 62 → BehindSize limits size behind payload → Completes limits (SizeFeed size) rest payload
+  return_back IsRest size b rest payload [] behind is same differs h small goes_on = ((behind, cc, goes_on), small)
+  return_back IsRest size b rest payload (x ∷ text) behind is same differs h small goes_on =
+      let head : b ≡ x = cc in absurd (differs x text h (sym head ∙ is))
+
+  return_on : (IsRest : List ℕ → Type 0) (size room b : ℕ) (rest payload : List ℕ) → b ≡ 13 → IsRest []
+      → Completes limits (SizeFeed size) rest payload → CompletesLine IsRest limits size room (b ∷ rest) payload
+  return_on IsRest size room b rest payload is none ((behind, same, goes_on), small) = record {
+    text = [];
+    behind = behind;
+    equal = ap (λ x. x ∷ rest) is ∙ ap (λ l. 13 ∷ l) same;
+    is_rest = none;
+    fits = omega arith;
+    small = small;
+    goes_on = goes_on;
+  }
+
+  extension_no_return : (x : ℕ) (more : List ℕ) → IsExtension (x ∷ more) → x ≢ 13
+  extension_no_return x more (inl (blank, h)) = (blank_is_text x blank).0
+  extension_no_return x more (inr (is, h)) = λ odd. omega (arith, is, odd)
+
+  pub blank_return : (b size room : ℕ) → b ≡ 13 → Passes limits (Blank size room) (b ∷ []) (SizeFeed size)
+  blank_return b size room is = record {
+    leads = quiet (Blank size room) (SizeFeed size) (b ∷ [])
+        (λ rest payload c. return_on IsExtension size room b rest payload is tt c)
+        (λ rest payload c. return_back IsExtension size b rest payload c.text c.behind is c.equal extension_no_return c.is_rest
+        c.small c.goes_on);
+    few = omega arith;
+  }
+
+  pub extension_return : (b size room : ℕ) → b ≡ 13 → Passes limits (Extension size room) (b ∷ []) (SizeFeed size)
+  extension_return b size room is = record {
+    leads = quiet (Extension size room) (SizeFeed size) (b ∷ [])
+        (λ rest payload c. return_on IsText size room b rest payload is tt c)
+        (λ rest payload c. return_back IsText size b rest payload c.text c.behind is c.equal (λ x more h. h.0.0) c.is_rest
+        c.small c.goes_on);
+    few = omega arith;
+  }
+
+  pub extension_text : (xs : List ℕ) (size room : ℕ) → IsText xs → length xs ≤ room
+      → Passes limits (Extension size room) xs (Extension size (room - length xs))
+  extension_text xs size room text fits = record {
+    leads = quiet (Extension size room) (Extension size (room - length xs)) xs
+        (λ rest payload c. record {
+          text = xs ++ c.text;
+          behind = c.behind;
+          equal = ap (λ l. xs ++ l) c.equal ∙ sym (append_assoc xs c.text (line_end c.behind));
+          is_rest = text_both xs c.text text c.is_rest;
+          fits = omega (arith, c.fits, fits, length-append xs c.text);
+          small = c.small;
+          goes_on = c.goes_on;
+        })
+        (λ rest payload c.
+        let found = text_front c.text xs c.behind rest text c.equal in
+        record {
+          text = found.0;
+          behind = c.behind;
+          equal = found.2;
+          is_rest = text_behind xs found.0 (subst IsText found.1 c.is_rest);
+          fits = omega (arith, c.fits, ap length found.1, length-append xs found.0);
+          small = c.small;
+          goes_on = c.goes_on;
+        });
+    few = omega (arith, fits);
+  }
+
+  -- an LF behind a CR
+  feed_on : (P : List ℕ → Type 0) (b : ℕ) (rest : List ℕ) → b ≡ 10 → P rest → Feeds P (b ∷ rest)
+  feed_on P b rest is h = (rest, ap (λ x. x ∷ rest) is, h)
+
+  feed_back : (P : List ℕ → Type 0) (b : ℕ) (rest : List ℕ) → Feeds P (b ∷ rest) → P rest
+  feed_back P b rest (behind, same, h) = let tails : behind ≡ rest = cc in subst P tails h
+
+  pub size_feed_last : (b : ℕ) → b ≡ 10 → Passes limits (SizeFeed 0) (b ∷ []) (Fields limits.trailers)
+  size_feed_last b is = record {
+    leads = quiet (SizeFeed 0) (Fields limits.trailers) (b ∷ [])
+        (λ rest payload c. (feed_on (λ l. BehindSize limits 0 l payload) b rest is c, omega arith))
+        (λ rest payload c. feed_back (λ l. BehindSize limits 0 l payload) b rest c.0);
+    few = omega arith;
+  }
+
+  pub size_feed_some : (b n : ℕ) → b ≡ 10 → suc n < 2 ^ 62 → Passes limits (SizeFeed (suc n)) (b ∷ []) (Data (suc n))
+  size_feed_some b n is small = record {
+    leads = quiet (SizeFeed (suc n)) (Data (suc n)) (b ∷ [])
+        (λ rest payload c. (feed_on (λ l. BehindSize limits (suc n) l payload) b rest is c, small))
+        (λ rest payload c. feed_back (λ l. BehindSize limits (suc n) l payload) b rest c.0);
+    few = omega arith;
+  }
+
+  pub data_feed : (b : ℕ) → b ≡ 10 → Passes limits DataFeed (b ∷ []) Line
+  data_feed b is = record {
+    leads = quiet DataFeed Line (b ∷ [])
+        (λ rest payload c. feed_on (λ l. Completes limits Line l payload) b rest is c)
+        (λ rest payload c. feed_back (λ l. Completes limits Line l payload) b rest c);
+    few = omega arith;
+  }
+
+  pub field_feed : (b room : ℕ) → b ≡ 10 → Passes limits (FieldFeed room) (b ∷ []) (Fields room)
+  field_feed b room is = record {
+    leads = quiet (FieldFeed room) (Fields room) (b ∷ [])
+        (λ rest payload c. (c.0, feed_on (IsTrailers room) b rest is c.1))
+        (λ rest payload c. (c.0, feed_back (IsTrailers room) b rest c.1));
+    few = omega arith;
+  }
+
+  pub last_feed : (b : ℕ) → b ≡ 10 → Passes limits LastFeed (b ∷ []) Done
+  last_feed b is = record {
+    leads = quiet LastFeed Done (b ∷ [])
+        (λ rest payload c. (c.0, ap (λ x. x ∷ rest) is ∙ ap (λ l. 10 ∷ l) c.1))
+        (λ rest payload c. (c.0, (let same = c.1 in cc)));
+    few = omega arith;
+  }
+
+  -- what stands behind a size is told by what stands behind blanks
+  pub StepsOver-size : (b number room : ℕ) (answer : Result Place Malformed) → ¬ IsDigit b
+      → StepsOver limits (Blank number room) b answer → StepsOver limits (Size number room) b answer
+  StepsOver-size b number room (Ok q) no_digit (goes, small) = (size_as_blank b number room q no_digit goes, small)
+  StepsOver-size b number room (Err LineTooLong) no_digit wrong = (inr wrong.0, wrong.1)
+  StepsOver-size b number room (Err BareFeed) no_digit wrong = wrong
+  StepsOver-size b number room (Err BadSize) no_digit wrong = (no_digit, wrong)
+  StepsOver-size b number room (Err why) no_digit wrong = absurd wrong
+
+-- a chunk whose bytes are all there isn't settled
+pub open_data : (left : ℕ) → ¬ IsSettled (Data left) → left ≡ 0
+open_data zero h = refl
+open_data (suc left) h = absurd (h tt)

@@ -1,0 +1,117 @@
+-- A turn of taking what is no payload, and how that ends.
+use Rattle.std.proofs.Common.{◌≡◌, ℕ, ◌+◌, ◌<◌, ◌⊎◌, List, [], ◌∷◌, ◌++◌, length, take, drop, min, slice_index, Option, Ok, Err, Some, IfSome, sym, ap, subst, ◌∙◌, arith, inl, inr, refl, append_assoc}
+use Rattle.std.proofs.lemmas.List.{drop_more}
+use Rattle.std.specs.Borrow.{Bor}
+use Rattle.std.specs.declared.io.Error.{Error}
+use Rattle.buffer_redux.specs.Buffered.{Buffered}
+use Rattle.buffer_redux.specs.BufReader.{FillBuf, ReaderConsumes}
+use Rattle.buffer_redux.specs.Policy.{ReadRules}
+use Rattle.buffer_redux.specs.ReaderLaws.{FillBuf-along, Fills-empty, ReadsAlong-turn, WantsBytes}
+use Rattle.chunked.specs.declared.error.ChunkedError.TheVariants.{NotChunked, Truncated, Io}
+use Rattle.chunked.specs.declared.error.Malformed.{Malformed}
+use Rattle.chunked.specs.declared.place.Place.{Place}
+use Rattle.chunked.specs.declared.progress.Progress.{Progress}
+use Rattle.chunked.specs.declared.step.Reached.{Reached}
+use Rattle.chunked.specs.Between.{NoFault, Skips, Takes, taken_of}
+use Rattle.chunked.specs.BetweenLaws.{Takes-still}
+use Rattle.chunked.specs.Place.{Advances, IsPlace, IsSettled, IsWrong, Leads}
+use Rattle.chunked.specs.PlaceLaws.{Leads-joins}
+
+-- these bytes were noted, which lead there
+pub record Notes (p : Progress) (there : Place) (bytes : List ℕ) (q : Progress) : Type 0 where
+  pub limits : q.limits ≡ p.limits
+  pub place : q.place ≡ there
+  pub taken : taken_of q ≡ taken_of p ++ bytes
+
+module _ {S P : Type 0} (remaining : S → Option (List ℕ)) (rules : ReadRules P) where
+  module _ (s : Buffered S P) (p : Progress) (wire : List ℕ) (m : Buffered S P) (q : Progress)
+      (before : Takes remaining rules s p wire [] m q) (no_fault : NoFault s m) where
+    -- the fill failed
+    pub skip_fails : (e : Error) (f : Buffered S P) → FillBuf remaining rules m (Err e) f
+        → Skips remaining rules s p (Err (Io e)) f q
+    skip_fails e f filled = record {
+      wire = wire;
+      takes = Takes-still remaining rules s p m q f wire [] before (FillBuf-along remaining rules m (Err e) f filled);
+      ends = elim filled.fills.caused [
+        | inl fault ↦ inl (fault ∙ ap (λ l. l ++ e ∷ []) no_fault)
+        | inr gave ↦ inr (record { last = m; grows = before.along.grows; no_fault = no_fault; gave = gave })
+      ];
+    }
+
+    module _ (shown : Bor (List ℕ)) (f : Buffered S P) (filled : FillBuf remaining rules m (Ok shown) f) where
+      filled_well : NoFault s f
+      filled_well = filled.fills.caused ∙ no_fault
+
+      -- it showed nothing
+      pub skip_dry : length shown.now ≡ 0 → ¬ IsSettled q.place
+          → Skips remaining rules s p (Err (Truncated q.count)) f q
+      skip_dry none not_settled =
+          let empty : length f.block.bytes ≡ 0 = sym (ap length filled.shown) ∙ none in
+          record {
+            wire = wire;
+            takes = Takes-still remaining rules s p m q f wire [] before (FillBuf-along remaining rules m (Ok shown) f filled);
+            ends = (
+              filled_well,
+              refl,
+              (λ is. not_settled (subst IsSettled (sym is) tt)),
+              record {
+                last = m;
+                grows = before.along.grows;
+                caused = inl (filled.fills.empty refl empty);
+                dry = λ wants room.
+                    let dry = Fills-empty rules m shown f filled.fills (subst WantsBytes (sym before.along.claims) wants)
+                    (omega (arith, room, before.along.capacity)) empty in
+                    omega (arith, before.along.grows.zero_reads, dry);
+              },
+            );
+          }
+
+      module _ (r : Reached) (reached : Advances q.limits q.place shown.now r) (q' : Progress)
+          (notes : Notes q r.place (take r.taken shown.now) q') (t : Buffered S P) (inner : t.inner ≡ f.inner)
+          (gone : ReaderConsumes rules r.taken f t) where
+        -- a turn takes some
+        pub skip_turn : Takes remaining rules s p (wire ++ take r.taken shown.now) [] t q'
+        skip_turn = record {
+          along = ReadsAlong-turn remaining rules s m wire shown f before.along filled r.taken t inner gone;
+          leads = Leads-joins p.limits p.place q.place q'.place wire (take r.taken shown.now) [] [] before.leads
+              (subst (λ l. Leads l q.place (take r.taken shown.now) [] q'.place) before.limits
+              (subst (λ x. Leads q.limits q.place (take r.taken shown.now) [] x) (sym notes.place) reached.passes.leads));
+          taken = notes.taken ∙ ap (λ l. l ++ take r.taken shown.now) before.taken
+              ∙ append_assoc (taken_of p) wire (take r.taken shown.now);
+          limits = notes.limits ∙ before.limits;
+          place = subst IsPlace (sym notes.place) reached.place;
+        }
+
+        pub turn_well : NoFault s t
+        turn_well = ap (λ l. l.reads.faults) gone.told ∙ filled_well
+
+        -- something is wrong with the next byte
+        pub skip_wrong : (why : Malformed) → r.wrong ≡ Some why → Skips remaining rules s p (Err (NotChunked why q'.count)) t q'
+        skip_wrong why is =
+            let found : (r.taken < length shown.now) × IsWrong q.limits r.place (slice_index shown.now r.taken) why =
+            subst (λ o. IfSome o (λ w. (r.taken < length shown.now)
+            × IsWrong q.limits r.place (slice_index shown.now r.taken) w)) is reached.wrong in
+            let bytes : f.block.bytes ≡ shown.now = sym filled.shown in
+            let few : min r.taken (length f.block.bytes) ≡ r.taken = omega (arith, ap length bytes, found.0) in
+            record {
+              wire = wire ++ take r.taken shown.now;
+              takes = skip_turn;
+              ends = (
+                turn_well,
+                refl,
+                record {
+                  byte = slice_index shown.now r.taken;
+                  later = drop (r.taken + 1) shown.now;
+                  next = gone.told_policy.law.bytes ∙ gone.dropped.bytes ∙ ap (λ n. drop n f.block.bytes) few
+                      ∙ ap (drop r.taken) bytes ∙ drop_more shown.now r.taken 0 found.0;
+                  name = subst (λ l. IsWrong l q'.place (slice_index shown.now r.taken) why) (sym notes.limits)
+                      (subst (λ x. IsWrong q.limits x (slice_index shown.now r.taken) why) (sym notes.place) found.1);
+                },
+              );
+            }
+
+-- where a payload or nothing comes next, nothing is done
+pub never_settled : {S P : Type 0} (s m : Buffered S P) (p q : Progress) → ((m ≡ s) × (q ≡ p)) ⊎ (¬ IsSettled p.place)
+    → ¬ IsSettled q.place → ¬ IsSettled p.place
+never_settled s m p q (inl same) not_settled = subst (λ x. ¬ IsSettled x.place) same.1 not_settled
+never_settled s m p q (inr differs) not_settled = differs

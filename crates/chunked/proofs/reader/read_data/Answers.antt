@@ -1,0 +1,31 @@
+use Rattle.std.proofs.Common.{◌-◌, ◌<◌, ◌≤◌, ◌++◌, drop, take, length, refl, arith}
+use Rattle.std.proofs.lemmas.List.{length-take-le}
+use Rattle.std.proofs.lemmas.Result.{err_from_is_err_and}
+use Rattle.chunked.specs.declared.place.Place.TheVariants.{Data}
+use Rattle.chunked.proofs.Handing.{data_fails, data_dry, data_given}
+use Rattle.chunked.proofs.Skipping.{Notes}
+use Rattle.chunked.proofs.reader.read_data.Goals as goal
+
+pub returns-in_err-count : goal.returns-in_err-count
+returns-in_err-count g c =
+    let read = c.in_err-count.ensures in
+    let p = err_from_is_err_and c.from_residual.result c.from_residual.ensures.1 in
+    rw (p.1, p.2) (data_fails _ _ _ _ _ c.requires.place _ _ read.keeps _ read.in_order read.caused)
+
+pub returns-then-count-eq0 : goal.returns-then-count-eq0
+returns-then-count-eq0 g c =
+    let read = rw c.if-count-eq0.true at c.in_ok-count.ensures in
+    let room : 0 < length (take c.min-most.result c.args.out.now) =
+    omega (arith, length-take-le c.min-most.result c.args.out.now (omega arith)) in
+    data_dry _ _ _ _ _ c.requires.place _ _ read.keeps read.in_order read.caused (read.empty refl room) (read.ran_dry refl room)
+
+pub returns : goal.returns
+returns g c =
+    let read = c.in_ok-count.ensures in
+    let notes : Notes c.args.progress.now (Data (c.args.left - c.in_ok-count.count))
+    (take c.in_ok-count.count (c.read.new.out ++ drop c.min-most.result c.args.out.now)) c.take.new.self =
+    record { limits = c.take.ensures.limits; place = c.take.ensures.place; taken = c.take.ensures.taken } in
+    let few : c.in_ok-count.count ≤ c.args.left =
+    omega (arith, length-take-le c.min-most.result c.args.out.now (omega arith)) in
+    data_given _ _ _ _ _ c.requires.place _ _ read.keeps c.in_ok-count.count c.read.new.out _ _ refl (omega arith) read.bound.0
+    few read.in_order read.caused notes

@@ -1,0 +1,14 @@
+use Rattle.std.proofs.Common.{◌≤◌, ◌-◌, length, take}
+use Rattle.chunked.specs.Place.{IsPlace, Passes}
+use Rattle.chunked.proofs.step.advance.Given as goal
+
+-- the bytes that were taken lead here
+abbrev pub invariant-loop-taken : goal.invariant-loop-taken
+invariant-loop-taken l = record {
+  within : l.taken ≤ length l.shown;
+  passes : Passes l.limits l.fn.start (take l.taken l.shown) l.place;
+  place : IsPlace l.place;
+}
+
+abbrev pub decreases-loop-taken : goal.decreases-loop-taken
+decreases-loop-taken l = length l.shown - l.taken

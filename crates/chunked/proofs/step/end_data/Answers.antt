@@ -1,0 +1,5 @@
+use Rattle.chunked.proofs.PassingOn.{data_return}
+use Rattle.chunked.proofs.step.end_data.Goals as goal
+
+pub returns-then-byte-eq13 : goal.returns-then-byte-eq13
+returns-then-byte-eq13 c = λ l. (data_return l c.args.byte c.if-byte-eq13.true, tt)

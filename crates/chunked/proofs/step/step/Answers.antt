@@ -1,0 +1,26 @@
+use Rattle.std.proofs.Common.{subst, sym}
+use Rattle.chunked.specs.Place.{IsSettled, StepsOver}
+use Rattle.chunked.specs.declared.place.Place.TheVariants.{Data}
+use Rattle.chunked.proofs.Passing.{open_data}
+use Rattle.chunked.proofs.step.step.Goals as goal
+
+pub returns-in-Size : goal.returns-in-Size
+returns-in-Size c = rw c.in-Size.is (c.in_size.ensures c.args.limits.now)
+
+pub returns-in-Blank : goal.returns-in-Blank
+returns-in-Blank c = rw c.in-Blank.is (c.behind_size.ensures c.args.limits.now)
+
+pub returns-in-Extension : goal.returns-in-Extension
+returns-in-Extension c = rw c.in-Extension.is (c.behind_extension.ensures c.args.limits.now)
+
+pub returns-in-Data : goal.returns-in-Data
+returns-in-Data c =
+    let none = open_data c.in-Data.field-0 (subst (λ p. ¬ IsSettled p) c.in-Data.is c.requires.open) in
+    rw c.in-Data.is (subst (λ n. StepsOver c.args.limits.now (Data n) c.args.byte c.end_data.result) (sym none)
+    (c.end_data.ensures c.args.limits.now))
+
+pub returns-in-Fields : goal.returns-in-Fields
+returns-in-Fields c = rw c.in-Fields.is (c.begin_field.ensures c.args.limits.now)
+
+pub returns-in-Field : goal.returns-in-Field
+returns-in-Field c = rw c.in-Field.is (c.in_field.ensures c.args.limits.now)

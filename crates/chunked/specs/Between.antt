@@ -1,0 +1,103 @@
+-- What a reader of a body does between two payloads: it takes the bytes that are none.
+use Rattle.std.specs.Prelude.{◌≡◌, ◌≢◌, ℕ, ◌<◌, ◌≤◌, ◌⊎◌, List, [], ◌∷◌, ◌++◌, length, take, Option, Result, Ok, Err}
+use Rattle.std.specs.IoError.{error_kind}
+use Rattle.std.specs.declared.io.Error.{Error}
+use Rattle.std.specs.declared.io.ErrorKind.TheVariants.{InvalidData, UnexpectedEof}
+use Rattle.buffer_redux.specs.Buffered.{Buffered}
+use Rattle.buffer_redux.specs.BufReader.{EmptyFillCaused, EmptyReadCaused, PolicyGave, RanDry, ReadsAlong}
+use Rattle.buffer_redux.specs.LogGrows.{ReadLogGrows}
+use Rattle.buffer_redux.specs.Policy.{ReadRules}
+use Rattle.buffer_redux.specs.ReaderLaws.{WantsBytes}
+use Rattle.chunked.specs.declared.error.ChunkedError.{ChunkedError}
+use Rattle.chunked.specs.declared.error.ChunkedError.TheVariants.{NotChunked, Truncated, Io}
+use Rattle.chunked.specs.declared.error.Malformed.{Malformed}
+use Rattle.chunked.specs.declared.limits.Limits.{Limits}
+use Rattle.chunked.specs.declared.place.Place.{Place}
+use Rattle.chunked.specs.declared.place.Place.TheVariants.{Done}
+use Rattle.chunked.specs.declared.progress.Progress.{Progress}
+use Rattle.chunked.specs.Place.{IsPlace, IsSettled, IsWrong, Leads}
+
+-- the bytes of the body that were taken so far
+abbrev pub taken_of : Progress → List ℕ
+taken_of p = p.taken.log.fills.consumed
+
+-- what any calls do that take these bytes of a body, in which there is this payload
+pub record Takes {S P : Type 0} (remaining : S → Option (List ℕ)) (rules : ReadRules P)
+    (s : Buffered S P) (p : Progress) (wire handed : List ℕ) (t : Buffered S P) (q : Progress) : Type 0 where
+  pub along : ReadsAlong remaining rules s wire t
+  pub leads : Leads p.limits p.place wire handed q.place
+  pub taken : taken_of q ≡ taken_of p ++ wire
+  pub limits : q.limits ≡ p.limits
+  pub place : IsPlace q.place
+
+-- no read failed
+abbrev pub NoFault : {S P : Type 0} → Buffered S P → Buffered S P → Type 0
+NoFault s t = t.log.reads.faults ≡ s.log.reads.faults
+
+-- the policy returned this error, and until then no read failed
+pub record PolicyFailed {S P : Type 0} (rules : ReadRules P) (s : Buffered S P) (e : Error) (t : Buffered S P) : Type 0 where
+  pub last : Buffered S P
+  pub grows : ReadLogGrows s.log.reads last.log.reads
+  pub no_fault : NoFault s last
+  pub gave : PolicyGave rules (Err e) last t
+
+-- this error is the one fault that the stream met, or the policy's answer
+abbrev pub Faulted : {S P : Type 0} → ReadRules P → Buffered S P → Error → Buffered S P → Type 0
+Faulted rules s e t = (t.log.reads.faults ≡ s.log.reads.faults ++ e ∷ []) ⊎ PolicyFailed rules s e t
+
+-- no byte came where one was wanted, for one of the reasons of a fill or a read; under a policy that wants bytes, and with
+-- some capacity, that is the end of the stream
+pub record NothingCame {S P : Type 0} (rules : ReadRules P) (s t : Buffered S P) : Type 0 where
+  pub last : Buffered S P
+  pub grows : ReadLogGrows s.log.reads last.log.reads
+  pub caused : EmptyFillCaused rules last t ⊎ EmptyReadCaused rules last t
+  pub dry : WantsBytes (rules.claims s.policy) → 0 < s.block.capacity → RanDry s t
+
+-- the next of these bytes is wrong in this place
+pub record MeetsWrong (limits : Limits) (p : Place) (bytes : List ℕ) (why : Malformed) : Type 0 where
+  pub byte : ℕ
+  pub later : List ℕ
+  pub next : bytes ≡ byte ∷ later
+  pub name : IsWrong limits p byte why
+
+-- why there is no further payload
+abbrev pub FailsSo : {S P : Type 0} → ReadRules P → Buffered S P → ChunkedError → Buffered S P → Progress → Type 0
+FailsSo rules s (NotChunked why count) t q = NoFault s t × (count ≡ q.count) × MeetsWrong q.limits q.place t.block.bytes why
+FailsSo rules s (Truncated count) t q = NoFault s t × (count ≡ q.count) × (q.place ≢ Done) × NothingCame rules s t
+FailsSo rules s (Io e) t q = Faulted rules s e t
+
+-- how taking what is no payload ends
+abbrev pub SkipEnds : {S P : Type 0} → ReadRules P → Buffered S P → Result (Unit {0}) ChunkedError → Buffered S P → Progress
+    → Type 0
+SkipEnds rules s (Ok _) t q = NoFault s t × IsSettled q.place
+SkipEnds rules s (Err e) t q = FailsSo rules s e t q
+
+-- what taking all of that does
+pub record Skips {S P : Type 0} (remaining : S → Option (List ℕ)) (rules : ReadRules P) (s : Buffered S P) (p : Progress)
+    (answer : Result (Unit {0}) ChunkedError) (t : Buffered S P) (q : Progress) : Type 0 where
+  pub wire : List ℕ
+  pub takes : Takes remaining rules s p wire [] t q
+  pub ends : SkipEnds rules s answer t q
+
+-- the payload that an answer hands out of a slice: its first bytes, or none
+abbrev pub handed_out : List ℕ → Result ℕ ChunkedError → List ℕ
+handed_out out (Ok n) = take n out
+handed_out out (Err e) = []
+
+-- what an answer to a slice of so many bytes says: none of them comes only where the body ended
+abbrev pub ReadEnds : {S P : Type 0} → ReadRules P → Buffered S P → ℕ → Result ℕ ChunkedError → Buffered S P → Progress → Type 0
+ReadEnds rules s room (Ok n) t q = (n ≤ room) × NoFault s t × (n ≡ 0 → 0 < room → q.place ≡ Done)
+ReadEnds rules s room (Err e) t q = FailsSo rules s e t q
+
+-- what handing payload out into a slice, which is left so, does
+pub record HandsOn {S P : Type 0} (remaining : S → Option (List ℕ)) (rules : ReadRules P) (s : Buffered S P) (p : Progress)
+    (out : List ℕ) (answer : Result ℕ ChunkedError) (t : Buffered S P) (q : Progress) : Type 0 where
+  pub wire : List ℕ
+  pub takes : Takes remaining rules s p wire (handed_out out answer) t q
+  pub ends : ReadEnds rules s (length out) answer t q
+
+-- an error as one of std's streams
+abbrev pub BecomesIo : ChunkedError → Error → Type 0
+BecomesIo (NotChunked why count) e = error_kind e ≡ InvalidData
+BecomesIo (Truncated count) e = error_kind e ≡ UnexpectedEof
+BecomesIo (Io same) e = e ≡ same

@@ -1,0 +1,46 @@
+-- Laws of what is taken of a body: stretches of calls join.
+use Rattle.std.specs.Prelude.{ℕ, List, [], ◌++◌, Option}
+use Rattle.std.proofs.Common.{sym, ap, subst, ◌∙◌, refl, append_assoc, append-nil}
+use Rattle.buffer_redux.specs.Buffered.{Buffered}
+use Rattle.buffer_redux.specs.BufReader.{ReadsAlong}
+use Rattle.buffer_redux.specs.Policy.{ReadRules}
+use Rattle.buffer_redux.specs.ReaderLaws.{ReadsAlong-none, ReadsAlong-joins}
+use Rattle.chunked.specs.declared.progress.Progress.{Progress}
+use Rattle.chunked.specs.Between.{Takes, taken_of}
+use Rattle.chunked.specs.Place.{IsPlace, Leads}
+use Rattle.chunked.specs.PlaceLaws.{Leads-none, Leads-joins}
+
+module _ {S P : Type 0} (remaining : S → Option (List ℕ)) (rules : ReadRules P) where
+  -- no call takes nothing, and two stretches of calls join
+  pub Takes-none : (s : Buffered S P) (p : Progress) → IsPlace p.place → Takes remaining rules s p [] [] s p
+  Takes-none s p place = record {
+    along = ReadsAlong-none remaining rules s;
+    leads = Leads-none p.limits p.place;
+    taken = sym (append-nil (taken_of p));
+    limits = refl;
+    place = place;
+  }
+
+  pub Takes-joins : (s : Buffered S P) (p : Progress) (m : Buffered S P) (q : Progress) (t : Buffered S P) (r : Progress)
+      (a h b k : List ℕ) → Takes remaining rules s p a h m q → Takes remaining rules m q b k t r
+      → Takes remaining rules s p (a ++ b) (h ++ k) t r
+  Takes-joins s p m q t r a h b k x y = record {
+    along = ReadsAlong-joins remaining rules s m t a b x.along y.along;
+    leads = Leads-joins p.limits p.place q.place r.place a b h k x.leads
+        (subst (λ l. Leads l q.place b k r.place) x.limits y.leads);
+    taken = y.taken ∙ ap (λ l. l ++ b) x.taken ∙ append_assoc (taken_of p) a b;
+    limits = y.limits ∙ x.limits;
+    place = y.place;
+  }
+
+  -- calls of the buffered reader that hand out nothing take nothing
+  pub Takes-still : (s : Buffered S P) (p : Progress) (m : Buffered S P) (q : Progress) (t : Buffered S P) (a h : List ℕ)
+      → Takes remaining rules s p a h m q → ReadsAlong remaining rules m [] t → Takes remaining rules s p a h t q
+  Takes-still s p m q t a h x still = record {
+    along = subst (λ l. ReadsAlong remaining rules s l t) (append-nil a)
+        (ReadsAlong-joins remaining rules s m t a [] x.along still);
+    leads = x.leads;
+    taken = x.taken;
+    limits = x.limits;
+    place = x.place;
+  }

@@ -1,0 +1,78 @@
+-- Bodies in the chunked coding.
+use Rattle.std.specs.Prelude.{◌≡◌, ◌≢◌, ℕ, ◌^◌, ◌<◌, ◌≤◌, ◌⊎◌, List, [], ◌∷◌, ◌++◌, length, flat_map, ⊤}
+use Rattle.std.specs.List.{AllByRecursion}
+use Rattle.std.specs.Str.Parse.{IsNumeral, digits_value}
+use Rattle.chunked.specs.declared.limits.Limits.{Limits}
+
+-- the end of a line, CR LF, and what stands behind it
+abbrev pub line_end : List ℕ → List ℕ
+line_end behind = 13 ∷ 10 ∷ behind
+
+-- a text of a line: it holds neither CR nor LF
+abbrev pub IsTextByte : ℕ → Type 0
+IsTextByte b = (b ≢ 13) × (b ≢ 10)
+
+abbrev pub IsText : List ℕ → Type 0
+IsText text = AllByRecursion IsTextByte text
+
+-- a space or a tab
+abbrev pub IsBlank : ℕ → Type 0
+IsBlank b = (b ≡ 32) ⊎ (b ≡ 9)
+
+-- what may follow the digits of a size in their line: blanks, and then nothing, or a text that begins with `;`
+abbrev pub IsExtension : List ℕ → Type 0
+IsExtension [] = ⊤
+IsExtension (b ∷ text) = (IsBlank b × IsExtension text) ⊎ ((b ≡ 59) × IsText text)
+
+-- the line of a size: hexadecimal digits that write it, and then perhaps an extension
+pub record IsSizeLine (limit size : ℕ) (text : List ℕ) : Type 0 where
+  pub digits : List ℕ
+  pub extension : List ℕ
+  pub equal : text ≡ digits ++ extension
+  pub numeral : IsNumeral 16 digits
+  pub value : digits_value 16 digits ≡ size
+  pub small : size < 2 ^ 62
+  pub follows : IsExtension extension
+  pub fits : length text ≤ limit
+
+-- a line of the trailers: a text, and not an empty one
+abbrev pub IsField : List ℕ → Type 0
+IsField text = IsText text × (0 < length text)
+
+-- the lines of the trailers, and then an empty one
+abbrev pub fields_bytes : List (List ℕ) → List ℕ
+fields_bytes [] = line_end []
+fields_bytes (field ∷ later) = field ++ line_end (fields_bytes later)
+
+pub record IsTrailers (limit : ℕ) (bytes : List ℕ) : Type 0 where
+  pub fields : List (List ℕ)
+  pub equal : bytes ≡ fields_bytes fields
+  pub lines : AllByRecursion IsField fields
+  pub few : length (flat_map (λ field. field) fields) ≤ limit
+
+-- a chunk, and what stands behind it: the line of its size, which isn't 0, as many bytes, and the end of a line
+pub record BeginsChunk (limits : Limits) (payload bytes behind : List ℕ) : Type 0 where
+  pub text : List ℕ
+  pub size_line : IsSizeLine limits.line (length payload) text
+  pub some : 0 < length payload
+  pub equal : bytes ≡ text ++ line_end (payload ++ line_end behind)
+
+-- the last chunk, which is the line of the size 0, and then the trailers
+pub record EndsBody (limits : Limits) (bytes : List ℕ) : Type 0 where
+  pub text : List ℕ
+  pub size_line : IsSizeLine limits.line 0 text
+  pub behind : List ℕ
+  pub trailers : IsTrailers limits.trailers behind
+  pub equal : bytes ≡ text ++ line_end behind
+
+-- chunks of these payloads, one behind the other, and then the end
+abbrev pub HasChunks : Limits → List (List ℕ) → List ℕ → Type 0
+HasChunks limits [] bytes = EndsBody limits bytes
+HasChunks limits (payload ∷ later) bytes =
+    (behind : List ℕ) × BeginsChunk limits payload bytes behind × HasChunks limits later behind
+
+-- these bytes are a body with this payload, which is that of its chunks
+pub record IsBody (limits : Limits) (bytes payload : List ℕ) : Type 0 where
+  pub payloads : List (List ℕ)
+  pub chunks : HasChunks limits payloads bytes
+  pub equal : payload ≡ flat_map (λ p. p) payloads

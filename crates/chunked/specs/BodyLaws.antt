@@ -1,0 +1,155 @@
+-- Laws of bodies: what a text of a line ends at, and that a text is a body in one way.
+use Rattle.std.specs.Prelude.{◌≡◌, ℕ, ◌<◌, List, [], ◌∷◌, ◌++◌, length, take, drop, flat_map}
+use Rattle.std.proofs.Common.{sym, ap, subst, ◌∙◌, arith, inl, inr, refl, append_assoc}
+use Rattle.std.proofs.lemmas.List.{take_at, drop_at}
+use Rattle.std.specs.Char.{digit_value}
+use Rattle.std.specs.List.{AllByRecursion}
+use Rattle.std.specs.Str.Parse.{AllDigits, digits_value}
+use Rattle.chunked.specs.declared.limits.Limits.{Limits}
+use Rattle.chunked.specs.Body.{line_end, IsTextByte, IsText, IsBlank, IsExtension, IsSizeLine, IsField, fields_bytes, IsTrailers, HasChunks, IsBody}
+
+-- a digit is no byte of these
+pub digit_is_text : (b : ℕ) → digit_value b < 16 → IsTextByte b
+digit_is_text b small =
+    (λ is. omega (arith, subst (λ c. digit_value c < 16) is small), λ is. omega (arith, subst (λ c. digit_value c < 16) is small))
+
+pub blank_is_text : (b : ℕ) → IsBlank b → IsTextByte b
+blank_is_text b (inl is) = (λ odd. omega (arith, is, odd), λ odd. omega (arith, is, odd))
+blank_is_text b (inr is) = (λ odd. omega (arith, is, odd), λ odd. omega (arith, is, odd))
+
+pub blank_no_digit : (b : ℕ) → IsBlank b → digit_value b < 16 → ⊥
+blank_no_digit b (inl is) small = omega (arith, subst (λ c. digit_value c < 16) is small)
+blank_no_digit b (inr is) small = omega (arith, subst (λ c. digit_value c < 16) is small)
+
+pub semicolon_no_digit : (b : ℕ) → b ≡ 59 → digit_value b < 16 → ⊥
+semicolon_no_digit b is small = omega (arith, subst (λ c. digit_value c < 16) is small)
+
+-- what follows the digits, and so the whole line, is a text
+pub IsExtension-text : (text : List ℕ) → IsExtension text → IsText text
+IsExtension-text [] h = tt
+IsExtension-text (b ∷ text) (inl (blank, h)) = (blank_is_text b blank, IsExtension-text text h)
+IsExtension-text (b ∷ text) (inr (is, h)) = ((λ odd. omega (arith, is, odd), λ odd. omega (arith, is, odd)), h)
+
+pub digits_text : (digits text : List ℕ) → AllDigits 16 digits → IsText text → IsText (digits ++ text)
+digits_text [] text all h = h
+digits_text (d ∷ digits) text all h = (digit_is_text d all.0, digits_text digits text all.1 h)
+
+pub IsSizeLine-text : (limit size : ℕ) (text : List ℕ) → IsSizeLine limit size text → IsText text
+IsSizeLine-text limit size text h =
+    subst IsText (sym h.equal) (digits_text h.digits h.extension h.numeral.1 (IsExtension-text h.extension h.follows))
+
+-- two texts that end at a CR are one
+pub text_same : (a b xs ys : List ℕ) → IsText a → IsText b → a ++ 13 ∷ xs ≡ b ++ 13 ∷ ys → (a ≡ b) × (xs ≡ ys)
+text_same [] [] xs ys p q same = (refl, cc)
+text_same [] (b ∷ bs) xs ys p q same = absurd (q.0.0 cc)
+text_same (a ∷ as') [] xs ys p q same = absurd (p.0.0 cc)
+text_same (a ∷ as') (b ∷ bs) xs ys p q same =
+    let rest : as' ++ 13 ∷ xs ≡ bs ++ 13 ∷ ys = cc in
+    let head : a ≡ b = cc in
+    let found = text_same as' bs xs ys p.1 q.1 rest in
+    (ap (λ l. a ∷ l) found.0 ∙ ap (λ x. x ∷ bs) head, found.1)
+
+pub line_same : (a b xs ys : List ℕ) → IsText a → IsText b → a ++ line_end xs ≡ b ++ line_end ys → (a ≡ b) × (xs ≡ ys)
+line_same a b xs ys p q same =
+    let found = text_same a b (10 ∷ xs) (10 ∷ ys) p q same in
+    (found.0, (let tails = found.1 in cc))
+
+-- a line says one size
+no_digit_first : (d : ℕ) (digits xs : List ℕ) → digit_value d < 16 → IsExtension xs → xs ≡ d ∷ digits → ⊥
+no_digit_first d digits [] small h same = cc
+no_digit_first d digits (b ∷ xs) small (inl (blank, h)) same =
+    blank_no_digit b blank (subst (λ c. digit_value c < 16) (let is : d ≡ b = cc in is) small)
+no_digit_first d digits (b ∷ xs) small (inr (is, h)) same =
+    semicolon_no_digit b is (subst (λ c. digit_value c < 16) (let head : d ≡ b = cc in head) small)
+
+digits_same : (d e xs ys : List ℕ) → AllDigits 16 d → AllDigits 16 e → IsExtension xs → IsExtension ys
+    → d ++ xs ≡ e ++ ys → d ≡ e
+digits_same [] [] xs ys p q h k same = refl
+digits_same [] (b ∷ e) xs ys p q h k same = absurd (no_digit_first b (e ++ ys) xs q.0 h same)
+digits_same (a ∷ d) [] xs ys p q h k same = absurd (no_digit_first a (d ++ xs) ys p.0 k (sym same))
+digits_same (a ∷ d) (b ∷ e) xs ys p q h k same =
+    let head : a ≡ b = cc in
+    let rest : d ++ xs ≡ e ++ ys = cc in
+    ap (λ l. a ∷ l) (digits_same d e xs ys p.1 q.1 h k rest) ∙ ap (λ x. x ∷ e) head
+
+pub size_same : (limit limit' m n : ℕ) (a b : List ℕ) → IsSizeLine limit m a → IsSizeLine limit' n b → a ≡ b → m ≡ n
+size_same limit limit' m n a b p q same =
+    let digits = digits_same p.digits q.digits p.extension q.extension p.numeral.1 q.numeral.1 p.follows q.follows
+    (sym p.equal ∙ same ∙ q.equal) in
+    sym p.value ∙ ap (digits_value 16) digits ∙ q.value
+
+-- what is as long stands in front of the same
+pub front_same : (p q xs ys : List ℕ) → length p ≡ length q → p ++ xs ≡ q ++ ys → (p ≡ q) × (xs ≡ ys)
+front_same p q xs ys len same = (
+  sym (take_at p xs (length p) refl) ∙ ap (λ l. take (length p) l) same ∙ take_at q ys (length p) (sym len),
+  sym (drop_at p xs (length p) refl) ∙ ap (λ l. drop (length p) l) same ∙ drop_at q ys (length p) (sym len),
+)
+
+-- no trailers begin others
+fields_same : (fs gs : List (List ℕ)) (xs ys : List ℕ) → AllByRecursion IsField fs → AllByRecursion IsField gs
+    → fields_bytes fs ++ xs ≡ fields_bytes gs ++ ys → (fields_bytes fs ≡ fields_bytes gs) × (xs ≡ ys)
+fields_same [] [] xs ys p q same = (refl, cc)
+fields_same [] ([] ∷ gs) xs ys p q same = absurd (omega (arith, q.0.1))
+fields_same [] ((b ∷ g) ∷ gs) xs ys p q same = absurd (q.0.0.0.0 cc)
+fields_same ([] ∷ fs) [] xs ys p q same = absurd (omega (arith, p.0.1))
+fields_same ((b ∷ f) ∷ fs) [] xs ys p q same = absurd (p.0.0.0.0 cc)
+fields_same (f ∷ fs) (g ∷ gs) xs ys p q same =
+    let first = line_same f g (fields_bytes fs ++ xs) (fields_bytes gs ++ ys) p.0.0 q.0.0
+    (sym (append_assoc f (line_end (fields_bytes fs)) xs) ∙ same ∙ append_assoc g (line_end (fields_bytes gs)) ys) in
+    let others = fields_same fs gs xs ys p.1 q.1 first.1 in
+    (ap (λ l. l ++ line_end (fields_bytes fs)) first.0 ∙ ap (λ l. g ++ line_end l) others.0, others.1)
+
+trailers_same : (m n : ℕ) (a b xs ys : List ℕ) → IsTrailers m a → IsTrailers n b → a ++ xs ≡ b ++ ys → (a ≡ b) × (xs ≡ ys)
+trailers_same m n a b xs ys p q same =
+    let found = fields_same p.fields q.fields xs ys p.lines q.lines
+    (ap (λ l. l ++ xs) (sym p.equal) ∙ same ∙ ap (λ l. l ++ ys) q.equal) in
+    (p.equal ∙ found.0 ∙ sym q.equal, found.1)
+
+-- what a line of a size stands in front of, and the size
+sized_same : (limit limit' m n : ℕ) (a b xs ys u v more more' : List ℕ) → IsSizeLine limit m a → IsSizeLine limit' n b
+    → u ≡ a ++ line_end xs → v ≡ b ++ line_end ys → u ++ more ≡ v ++ more'
+    → (a ≡ b) × (m ≡ n) × (xs ++ more ≡ ys ++ more')
+sized_same limit limit' m n a b xs ys u v more more' p q is is' same =
+    let found = line_same a b (xs ++ more) (ys ++ more') (IsSizeLine-text limit m a p) (IsSizeLine-text limit' n b q)
+    (sym (append_assoc a (line_end xs) more) ∙ ap (λ l. l ++ more) (sym is) ∙ same ∙ ap (λ l. l ++ more') is'
+    ∙ append_assoc b (line_end ys) more') in
+    (found.0, size_same limit limit' m n a b p q found.0, found.1)
+
+-- no body begins another
+chunks_same : (l m : Limits) (ps qs : List (List ℕ)) (a b xs ys : List ℕ) → HasChunks l ps a → HasChunks m qs b
+    → a ++ xs ≡ b ++ ys → (a ≡ b) × (ps ≡ qs) × (xs ≡ ys)
+chunks_same l m [] [] a b xs ys p q same =
+    let first = sized_same l.line m.line 0 0 p.text q.text p.behind q.behind a b xs ys p.size_line q.size_line
+    p.equal q.equal same in
+    let others = trailers_same l.trailers m.trailers p.behind q.behind xs ys p.trailers q.trailers first.2 in (
+      p.equal ∙ ap (λ t. t ++ line_end p.behind) first.0 ∙ ap (λ t. q.text ++ line_end t) others.0 ∙ sym q.equal,
+      refl,
+      others.1,
+    )
+chunks_same l m [] (q ∷ qs) a b xs ys p (behind, c, k) same =
+    let first = sized_same l.line m.line 0 (length q) p.text c.text p.behind (q ++ line_end behind) a b xs ys
+    p.size_line c.size_line p.equal c.equal same in
+    absurd (omega (arith, first.1, c.some))
+chunks_same l m (p ∷ ps) [] a b xs ys (behind, c, h) q same =
+    let first = sized_same l.line m.line (length p) 0 c.text q.text (p ++ line_end behind) q.behind a b xs ys
+    c.size_line q.size_line c.equal q.equal same in
+    absurd (omega (arith, first.1, c.some))
+chunks_same l m (p ∷ ps) (q ∷ qs) a b xs ys (u, c, h) (v, d, k) same =
+    let first = sized_same l.line m.line (length p) (length q) c.text d.text (p ++ line_end u) (q ++ line_end v) a b xs ys
+    c.size_line d.size_line c.equal d.equal same in
+    let payload = front_same p q (line_end (u ++ xs)) (line_end (v ++ ys)) first.1
+    (sym (append_assoc p (line_end u) xs) ∙ first.2 ∙ append_assoc q (line_end v) ys) in
+    let tails : u ++ xs ≡ v ++ ys = (let t = payload.1 in cc) in
+    let others = chunks_same l m ps qs u v xs ys h k tails in (
+      c.equal ∙ ap (λ t. t ++ line_end (p ++ line_end u)) first.0
+          ∙ ap (λ t. d.text ++ line_end (t ++ line_end u)) payload.0
+          ∙ ap (λ t. d.text ++ line_end (q ++ line_end t)) others.0 ∙ sym d.equal,
+      ap (λ t. t ∷ ps) payload.0 ∙ ap (λ t. q ∷ t) others.1,
+      others.2,
+    )
+
+pub IsBody-same : (l m : Limits) (a b p q xs ys : List ℕ) → IsBody l a p → IsBody m b q → a ++ xs ≡ b ++ ys
+    → (a ≡ b) × (p ≡ q) × (xs ≡ ys)
+IsBody-same l m a b p q xs ys h k same =
+    let found = chunks_same l m h.payloads k.payloads a b xs ys h.chunks k.chunks same in
+    (found.0, h.equal ∙ ap (λ ps. flat_map (λ x. x) ps) found.1 ∙ sym k.equal, found.2)

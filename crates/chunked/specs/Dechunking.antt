@@ -1,0 +1,118 @@
+-- What contracts see of a reader of a body, and what its calls promise.
+use Rattle.std.specs.Prelude.{◌≡◌, ℕ, ◌-◌, ◌^◌, ◌<◌, ◌≤◌, List, [], ◌∷◌, ◌++◌, length, min, Option, Result, Ok, Err}
+use Rattle.std.specs.declared.io.Error.{Error}
+use Rattle.buffer_redux.specs.Buffered.{Buffered}
+use Rattle.buffer_redux.specs.BufReader.{ReadsAlong}
+use Rattle.buffer_redux.specs.Policy.{ReadRules}
+use Rattle.buffer_redux.specs.StreamLog.{StreamLog, after_read, no_calls}
+use Rattle.chunked.specs.declared.error.ChunkedError.{ChunkedError}
+use Rattle.chunked.specs.declared.error.ChunkedError.TheVariants.{NotChunked, Truncated, Io}
+use Rattle.chunked.specs.declared.error.Malformed.{Malformed}
+use Rattle.chunked.specs.declared.limits.Limits.{Limits}
+use Rattle.chunked.specs.declared.place.Place.{Place}
+use Rattle.chunked.specs.declared.place.Place.TheVariants.{Line}
+use Rattle.chunked.specs.Between.{BecomesIo, Faulted, NoFault, NothingCame, handed_out}
+use Rattle.chunked.specs.Body.{IsBody}
+use Rattle.chunked.specs.Place.{IsPlace, IsWrong, Leads}
+
+-- the buffered reader; how much of the body may be no payload; where in it the reader stands; the bytes of it that were
+-- taken so far; and its own calls, as a stream tells them
+pub record Dechunking (S P : Type 0) : Type 0 where
+  pub reader : Buffered S P
+  pub limits : Limits
+  pub place : Place
+  pub taken : List ℕ
+  pub calls : StreamLog
+
+-- the payload that was handed out so far
+abbrev pub handed_of : {S P : Type 0} → Dechunking S P → List ℕ
+handed_of d = d.calls.reads.given
+
+-- what is true of every reader of a body: the bytes that were taken lead to where it stands, and what was handed out is the
+-- payload in them
+pub record IsDechunking {S P : Type 0} (d : Dechunking S P) : Type 0 where
+  pub leads : Leads d.limits Line d.taken (handed_of d) d.place
+  pub place : IsPlace d.place
+
+-- no byte was taken yet
+abbrev pub begun : {S P : Type 0} → Buffered S P → Limits → Dechunking S P
+begun reader limits = record { reader = reader; limits = limits; place = Line; taken = []; calls = no_calls }
+
+-- what was taken is a body, and what was handed out its payload
+abbrev pub IsWhole : {S P : Type 0} → Dechunking S P → Type 0
+IsWhole d = IsBody d.limits d.taken (handed_of d)
+
+-- how many bytes were taken, as far as a `u64` counts
+abbrev pub taken_count : {S P : Type 0} → Dechunking S P → ℕ
+taken_count d = min (length d.taken) (2 ^ 64 - 1)
+
+-- what any calls do, one after another, that handed out this payload: some bytes were taken out of the buffered reader, in
+-- order, and none is lost
+pub record BodyWent {S P : Type 0} (remaining : S → Option (List ℕ)) (rules : ReadRules P) (s : Dechunking S P)
+    (payload : List ℕ) (t : Dechunking S P) : Type 0 where
+  pub wire : List ℕ
+  pub along : ReadsAlong remaining rules s.reader wire t.reader
+  pub taken : t.taken ≡ s.taken ++ wire
+  pub handed : handed_of t ≡ handed_of s ++ payload
+  pub limits : t.limits ≡ s.limits
+
+-- the next byte is still buffered, and no body begins with what was taken and then that byte
+pub record Breaks {S P : Type 0} (why : Malformed) (t : Dechunking S P) : Type 0 where
+  pub byte : ℕ
+  pub later : List ℕ
+  pub next : t.reader.block.bytes ≡ byte ∷ later
+  pub name : IsWrong t.limits t.place byte why
+  pub none : (rest payload : List ℕ) → ¬ IsBody t.limits (t.taken ++ byte ∷ rest) payload
+
+-- what was taken is no body, and no further byte came
+pub record EndsEarly {S P : Type 0} (rules : ReadRules P) (s t : Dechunking S P) : Type 0 where
+  pub none : (payload : List ℕ) → ¬ IsBody t.limits t.taken payload
+  pub dry : NothingCame rules s.reader t.reader
+
+-- what each answer to a slice of so many bytes means
+abbrev pub PayloadAnswers : {S P : Type 0} → ReadRules P → Dechunking S P → ℕ → Result ℕ ChunkedError → Dechunking S P → Type 0
+PayloadAnswers rules s room (Ok n) t = (n ≤ room) × NoFault s.reader t.reader × (n ≡ 0 → 0 < room → IsWhole t)
+PayloadAnswers rules s room (Err (NotChunked why right)) t =
+    (right ≡ taken_count t) × NoFault s.reader t.reader × Breaks why t
+PayloadAnswers rules s room (Err (Truncated right)) t =
+    (right ≡ taken_count t) × NoFault s.reader t.reader × EndsEarly rules s t
+PayloadAnswers rules s room (Err (Io e)) t = Faulted rules s.reader e t.reader
+
+-- an Ok read is noted
+abbrev pub after_payload : StreamLog → List ℕ → Result ℕ ChunkedError → StreamLog
+after_payload calls out (Ok n) = after_read calls out (Ok n)
+after_payload calls out (Err e) = calls
+
+-- what one call of `read_payload` does, which left the slice as out. Once the body ended, the buffered reader isn't called
+pub record ReadsPayload {S P : Type 0} (remaining : S → Option (List ℕ)) (rules : ReadRules P) (s : Dechunking S P)
+    (out : List ℕ) (answer : Result ℕ ChunkedError) (t : Dechunking S P) : Type 0 where
+  pub went : BodyWent remaining rules s (handed_out out answer) t
+  pub answers : PayloadAnswers rules s (length out) answer t
+  pub ended : IsWhole s → t.reader ≡ s.reader
+  pub noted : t.calls ≡ after_payload s.calls out answer
+  pub whole : IsDechunking t
+
+-- an answer of one of std's streams stands for an answer of a payload: the same number of bytes, the stream's own error, or
+-- an error whose kind tells which it was
+abbrev pub StandsFor : Result ℕ ChunkedError → Result ℕ Error → Type 0
+StandsFor (Ok n) (Ok m) = m ≡ n
+StandsFor (Err e) (Err f) = BecomesIo e f
+StandsFor (Ok n) (Err f) = ⊥
+StandsFor (Err e) (Ok m) = ⊥
+
+-- what a read as one of std's does: it hands payload out
+pub record ReadsAsIo {S P : Type 0} (remaining : S → Option (List ℕ)) (rules : ReadRules P) (s : Dechunking S P)
+    (out : List ℕ) (answer : Result ℕ Error) (t : Dechunking S P) : Type 0 where
+  pub payload : Result ℕ ChunkedError
+  pub reads : ReadsPayload remaining rules s out payload t
+  pub same : StandsFor payload answer
+
+-- a read that is told does the same, and then notes a failure
+abbrev pub with_calls : {S P : Type 0} → Dechunking S P → StreamLog → Dechunking S P
+with_calls d calls = record d { calls = calls }
+
+pub record ReadsTold {S P : Type 0} (remaining : S → Option (List ℕ)) (rules : ReadRules P) (s : Dechunking S P)
+    (out : List ℕ) (answer : Result ℕ Error) (t : Dechunking S P) : Type 0 where
+  pub untold : StreamLog
+  pub reads : ReadsAsIo remaining rules s out answer (with_calls t untold)
+  pub whole : IsDechunking t

@@ -1,0 +1,80 @@
+-- Laws of a reader of a body.
+use Rattle.std.specs.Prelude.{◌≡◌, ℕ, List, [], ◌∷◌, ◌++◌, Option}
+use Rattle.std.proofs.Common.{sym, ap, subst, ◌∙◌, refl, append_assoc, append-nil}
+use Rattle.buffer_redux.specs.Buffered.{Buffered}
+use Rattle.buffer_redux.specs.Policy.{ReadRules}
+use Rattle.buffer_redux.specs.ReaderLaws.{ReadsAlong-none, ReadsAlong-joins}
+use Rattle.chunked.specs.declared.limits.Limits.{Limits}
+use Rattle.chunked.specs.declared.place.Place.{Place}
+use Rattle.chunked.specs.declared.place.Place.TheVariants.{Line, Size, Blank, Extension, SizeFeed, Data, DataFeed, Fields, Field, FieldFeed, LastFeed, Done}
+use Rattle.chunked.specs.Body.{line_end, IsBody, fields_bytes, HasChunks}
+use Rattle.chunked.specs.Dechunking.{BodyWent, Dechunking, IsDechunking, IsWhole, begun, handed_of}
+use Rattle.chunked.specs.Place.{Completes, Leads}
+use Rattle.chunked.specs.PlaceLaws.{Leads-none, Leads-whole}
+
+-- no line ends in nothing
+no_line : (text behind : List ℕ) → [] ≡ text ++ line_end behind → ⊥
+no_line [] behind same = cc
+no_line (x ∷ text) behind same = cc
+
+no_fields : (fields : List (List ℕ)) → [] ≡ fields_bytes fields → ⊥
+no_fields [] same = cc
+no_fields (field ∷ fields) same = no_line field (fields_bytes fields) same
+
+no_chunks : (limits : Limits) (payloads : List (List ℕ)) → HasChunks limits payloads [] → ⊥
+no_chunks limits [] ends = no_line ends.text ends.behind ends.equal
+no_chunks limits (p ∷ payloads) (behind, chunk, more) = no_line chunk.text (p ++ line_end behind) chunk.equal
+
+-- nothing completes a body only behind it
+pub Completes-nothing : (limits : Limits) (p : Place) (payload : List ℕ) → Completes limits p [] payload → p ≡ Done
+Completes-nothing limits Line payload c = absurd (no_chunks limits c.payloads c.chunks)
+Completes-nothing limits (Size number room) payload c =
+    absurd (no_line (c.digits ++ c.extension) c.behind
+    (c.equal ∙ sym (append_assoc c.digits c.extension (line_end c.behind))))
+Completes-nothing limits (Blank size room) payload c = absurd (no_line c.text c.behind c.equal)
+Completes-nothing limits (Extension size room) payload c = absurd (no_line c.text c.behind c.equal)
+Completes-nothing limits (SizeFeed size) payload c = absurd (let odd = c.0.1 in cc)
+Completes-nothing limits (Data left) payload c = absurd (no_line c.front c.behind c.equal)
+Completes-nothing limits DataFeed payload c = absurd (let odd = c.1 in cc)
+Completes-nothing limits (Fields room) payload c = absurd (no_fields c.1.fields c.1.equal)
+Completes-nothing limits (Field room) payload c = absurd (no_line c.1.text c.1.behind c.1.equal)
+Completes-nothing limits (FieldFeed room) payload c = absurd (let odd = c.1.1 in cc)
+Completes-nothing limits LastFeed payload c = absurd (let odd = c.1 in cc)
+Completes-nothing limits Done payload c = refl
+
+module _ {S P : Type 0} where
+  -- what was taken is a body exactly where the reader stands behind it
+  pub IsWhole-done : (d : Dechunking S P) → IsDechunking d → d.place ≡ Done → IsWhole d
+  IsWhole-done d is done =
+      Leads-whole d.limits d.taken (handed_of d)
+      (subst (λ p. Leads d.limits Line d.taken (handed_of d) p) done is.leads)
+
+  pub body_done : (d : Dechunking S P) (payload : List ℕ) → IsDechunking d → IsBody d.limits d.taken payload → d.place ≡ Done
+  body_done d payload is body =
+      let goes = is.leads.back [] payload (subst (λ l. IsBody d.limits l payload) (sym (append-nil d.taken)) body) in
+      Completes-nothing d.limits d.place goes.0 goes.2
+
+  -- a reader that was just made stands before a body
+  pub begun-is : (reader : Buffered S P) (limits : Limits) → IsDechunking (begun reader limits)
+  begun-is reader limits = record { leads = Leads-none limits Line; place = tt }
+
+module _ {S P : Type 0} (remaining : S → Option (List ℕ)) (rules : ReadRules P) where
+  -- no call hands out nothing, and two stretches of calls join
+  pub BodyWent-none : (s : Dechunking S P) → BodyWent remaining rules s [] s
+  BodyWent-none s = record {
+    wire = [];
+    along = ReadsAlong-none remaining rules s.reader;
+    taken = sym (append-nil s.taken);
+    handed = sym (append-nil (handed_of s));
+    limits = refl;
+  }
+
+  pub BodyWent-joins : (s m t : Dechunking S P) (h k : List ℕ) → BodyWent remaining rules s h m → BodyWent remaining rules m k t
+      → BodyWent remaining rules s (h ++ k) t
+  BodyWent-joins s m t h k a b = record {
+    wire = a.wire ++ b.wire;
+    along = ReadsAlong-joins remaining rules s.reader m.reader t.reader a.wire b.wire a.along b.along;
+    taken = b.taken ∙ ap (λ l. l ++ b.wire) a.taken ∙ append_assoc s.taken a.wire b.wire;
+    handed = b.handed ∙ ap (λ l. l ++ k) a.handed ∙ append_assoc (handed_of s) h k;
+    limits = b.limits ∙ a.limits;
+  }

@@ -1,0 +1,172 @@
+-- Where in a body a reader stands: what completes the body from there, and what doesn't.
+use Rattle.std.specs.Prelude.{◌≡◌, ◌≢◌, ℕ, zero, suc, ◌+◌, ◌*◌, ◌^◌, ◌<◌, ◌≤◌, ◌⊎◌, List, [], ◌∷◌, ◌++◌, length, take, slice_index, ⊤, Result, Ok, Err, None, IfSome}
+use Rattle.std.specs.Char.{digit_value}
+use Rattle.std.specs.Str.Parse.{AllDigits, digits_value_after}
+use Rattle.chunked.specs.Body.{line_end, IsTextByte, IsText, IsBlank, IsExtension, IsTrailers, IsBody}
+use Rattle.chunked.specs.declared.error.Malformed.{Malformed}
+use Rattle.chunked.specs.declared.error.Malformed.TheVariants.{NoSize, BadSize, SizeTooLarge, LineTooLong, TrailersTooLong, BareReturn, BareFeed, ChunkTooLong}
+use Rattle.chunked.specs.declared.limits.Limits.{Limits}
+use Rattle.chunked.specs.declared.place.Place.{Place}
+use Rattle.chunked.specs.declared.place.Place.TheVariants.{Line, Size, Blank, Extension, SizeFeed, Data, DataFeed, Fields, Field, FieldFeed, LastFeed, Done}
+use Rattle.chunked.specs.declared.step.Reached.{Reached}
+
+-- an LF, and then bytes of which this is true
+abbrev pub Feeds : (List ℕ → Type 0) → List ℕ → Type 0
+Feeds P rest = (behind : List ℕ) × (rest ≡ 10 ∷ behind) × P behind
+
+-- so many bytes of payload, the end of a line, and then a body
+pub record CompletesData (limits : Limits) (left : ℕ) (rest payload : List ℕ) : Type 0 where
+  pub front : List ℕ
+  pub later : List ℕ
+  pub behind : List ℕ
+  pub many : length front ≡ left
+  pub equal : rest ≡ front ++ line_end behind
+  pub both : payload ≡ front ++ later
+  pub body : IsBody limits behind later
+
+-- what stands behind the line of this size
+abbrev pub BehindSize : Limits → ℕ → List ℕ → List ℕ → Type 0
+BehindSize limits zero rest payload = (payload ≡ []) × IsTrailers limits.trailers rest
+BehindSize limits (suc n) rest payload = CompletesData limits (suc n) rest payload
+
+-- further digits and an extension end the line of a size, whose digits so far write this number
+pub record CompletesSize (limits : Limits) (number room : ℕ) (rest payload : List ℕ) : Type 0 where
+  pub digits : List ℕ
+  pub extension : List ℕ
+  pub size : ℕ
+  pub behind : List ℕ
+  pub equal : rest ≡ digits ++ (extension ++ line_end behind)
+  pub all : AllDigits 16 digits
+  pub value : digits_value_after 16 number digits ≡ size
+  pub small : size < 2 ^ 62
+  pub follows : IsExtension extension
+  pub fits : length digits + length extension ≤ room
+  pub goes_on : BehindSize limits size behind payload
+
+-- a text such as this ends the line of this size
+pub record CompletesLine (IsRest : List ℕ → Type 0) (limits : Limits) (size room : ℕ) (rest payload : List ℕ)
+    : Type 0 where
+  pub text : List ℕ
+  pub behind : List ℕ
+  pub equal : rest ≡ text ++ line_end behind
+  pub is_rest : IsRest text
+  pub fits : length text ≤ room
+  pub small : size < 2 ^ 62
+  pub goes_on : BehindSize limits size behind payload
+
+-- a text ends the line of the trailers, and then further lines and an empty one
+pub record CompletesField (room : ℕ) (rest : List ℕ) : Type 0 where
+  pub text : List ℕ
+  pub behind : List ℕ
+  pub left : ℕ
+  pub equal : rest ≡ text ++ line_end behind
+  pub is_text : IsText text
+  pub fits : length text + left ≡ room
+  pub trailers : IsTrailers left behind
+
+-- these bytes complete the body from here, and this is the payload in them
+abbrev pub Completes : Limits → Place → List ℕ → List ℕ → Type 0
+Completes limits Line rest payload = IsBody limits rest payload
+Completes limits (Size number room) rest payload = CompletesSize limits number room rest payload
+Completes limits (Blank size room) rest payload = CompletesLine IsExtension limits size room rest payload
+Completes limits (Extension size room) rest payload = CompletesLine IsText limits size room rest payload
+Completes limits (SizeFeed size) rest payload =
+    Feeds (λ behind. BehindSize limits size behind payload) rest × (size < 2 ^ 62)
+Completes limits (Data left) rest payload = CompletesData limits left rest payload
+Completes limits DataFeed rest payload = Feeds (λ behind. IsBody limits behind payload) rest
+Completes limits (Fields room) rest payload = (payload ≡ []) × IsTrailers room rest
+Completes limits (Field room) rest payload = (payload ≡ []) × CompletesField room rest
+Completes limits (FieldFeed room) rest payload = (payload ≡ []) × Feeds (IsTrailers room) rest
+Completes limits LastFeed rest payload = (payload ≡ []) × (rest ≡ 10 ∷ [])
+Completes limits Done rest payload = (payload ≡ []) × (rest ≡ [])
+
+-- these bytes, in which there is this payload, lead from one place to the other: with them in front, just what completes the
+-- body there completes it here
+pub record Leads (limits : Limits) (p : Place) (wire handed : List ℕ) (q : Place) : Type 0 where
+  pub onward : (rest payload : List ℕ) → Completes limits q rest payload
+      → Completes limits p (wire ++ rest) (handed ++ payload)
+  pub back : (rest whole : List ℕ) → Completes limits p (wire ++ rest) whole
+      → (payload : List ℕ) × (whole ≡ handed ++ payload) × Completes limits q rest payload
+
+-- a hexadecimal digit
+abbrev pub IsDigit : ℕ → Type 0
+IsDigit b = digit_value b < 16
+
+-- none of the bytes that may stand behind the digits of a size, nor an LF
+pub record EndsNoSize (b : ℕ) : Type 0 where
+  pub no_blank : ¬ IsBlank b
+  pub no_semicolon : b ≢ 59
+  pub text : IsTextByte b
+
+-- what is wrong with the next byte in a place. There is nothing else that can be
+abbrev pub IsWrong : Limits → Place → ℕ → Malformed → Type 0
+IsWrong limits Line b NoSize = ¬ IsDigit b
+IsWrong limits Line b LineTooLong = IsDigit b × (limits.line ≡ 0)
+IsWrong limits (Size number room) b SizeTooLarge = IsDigit b × (2 ^ 62 ≤ number * 16 + digit_value b)
+IsWrong limits (Size number room) b LineTooLong = (IsDigit b ⊎ (IsBlank b ⊎ (b ≡ 59))) × (room ≡ 0)
+IsWrong limits (Size number room) b BareFeed = b ≡ 10
+IsWrong limits (Size number room) b BadSize = ¬ IsDigit b × EndsNoSize b
+IsWrong limits (Blank size room) b LineTooLong = (IsBlank b ⊎ (b ≡ 59)) × (room ≡ 0)
+IsWrong limits (Blank size room) b BareFeed = b ≡ 10
+IsWrong limits (Blank size room) b BadSize = EndsNoSize b
+IsWrong limits (Extension size room) b LineTooLong = IsTextByte b × (room ≡ 0)
+IsWrong limits (Extension size room) b BareFeed = b ≡ 10
+IsWrong limits (SizeFeed size) b BareReturn = b ≢ 10
+IsWrong limits (Data left) b ChunkTooLong = (left ≡ 0) × (b ≢ 13)
+IsWrong limits DataFeed b BareReturn = b ≢ 10
+IsWrong limits (Fields room) b TrailersTooLong = IsTextByte b × (room ≡ 0)
+IsWrong limits (Fields room) b BareFeed = b ≡ 10
+IsWrong limits (Field room) b TrailersTooLong = IsTextByte b × (room ≡ 0)
+IsWrong limits (Field room) b BareFeed = b ≡ 10
+IsWrong limits (FieldFeed room) b BareReturn = b ≢ 10
+IsWrong limits LastFeed b BareReturn = b ≢ 10
+IsWrong limits p b why = ⊥
+
+-- how many bytes there may be at most, from here to the next of payload or to the end of the body
+abbrev pub most_between : Limits → Place → ℕ
+most_between limits Line = limits.line + 3 * limits.trailers + 4
+most_between limits (Size number room) = room + 3 * limits.trailers + 4
+most_between limits (Blank size room) = room + 3 * limits.trailers + 4
+most_between limits (Extension size room) = room + 3 * limits.trailers + 4
+most_between limits (SizeFeed size) = 3 * limits.trailers + 3
+most_between limits (Data zero) = limits.line + 3 * limits.trailers + 6
+most_between limits (Data (suc left)) = 0
+most_between limits DataFeed = limits.line + 3 * limits.trailers + 5
+most_between limits (Fields room) = 3 * room + 2
+most_between limits (Field room) = 3 * room + 4
+most_between limits (FieldFeed room) = 3 * room + 3
+most_between limits LastFeed = 1
+most_between limits Done = 0
+
+-- a payload or nothing comes next
+abbrev pub IsSettled : Place → Type 0
+IsSettled (Data (suc left)) = ⊤
+IsSettled Done = ⊤
+IsSettled p = ⊥
+
+-- these bytes, which are no payload, lead from one place to the other
+pub record Passes (limits : Limits) (p : Place) (wire : List ℕ) (q : Place) : Type 0 where
+  pub leads : Leads limits p wire [] q
+  pub few : most_between limits q + length wire ≤ most_between limits p
+
+-- the size that is kept is one of a chunk
+abbrev pub IsPlace : Place → Type 0
+IsPlace (Size number room) = number < 2 ^ 62
+IsPlace (Blank size room) = size < 2 ^ 62
+IsPlace (Extension size room) = size < 2 ^ 62
+IsPlace (SizeFeed size) = size < 2 ^ 62
+IsPlace p = ⊤
+
+-- one byte leads on, or what is wrong with it has this name
+abbrev pub StepsOver : Limits → Place → ℕ → Result Place Malformed → Type 0
+StepsOver limits p b (Ok q) = Passes limits p (b ∷ []) q × IsPlace q
+StepsOver limits p b (Err why) = IsWrong limits p b why
+
+-- of these bytes the first are taken, which leads on; where it ends something is wrong, or payload or nothing comes next, or
+-- all were taken
+pub record Advances (limits : Limits) (p : Place) (shown : List ℕ) (r : Reached) : Type 0 where
+  pub within : r.taken ≤ length shown
+  pub passes : Passes limits p (take r.taken shown) r.place
+  pub place : IsPlace r.place
+  pub wrong : IfSome r.wrong (λ why. (r.taken < length shown) × IsWrong limits r.place (slice_index shown r.taken) why)
+  pub all : r.wrong ≡ None → IsSettled r.place ⊎ (r.taken ≡ length shown)

@@ -1,0 +1,41 @@
+-- Laws of places: stretches of bytes join, and what is wrong completes no body.
+use Rattle.std.specs.Prelude.{ℕ, List, [], ◌++◌}
+use Rattle.std.proofs.Common.{sym, ap, subst, ◌∙◌, arith, refl, append_assoc, append-nil, length-append}
+use Rattle.chunked.specs.declared.limits.Limits.{Limits}
+use Rattle.chunked.specs.declared.place.Place.{Place}
+use Rattle.chunked.specs.declared.place.Place.TheVariants.{Line, Done}
+use Rattle.chunked.specs.Body.{IsBody}
+use Rattle.chunked.specs.Place.{Completes, Leads, Passes}
+
+module _ (limits : Limits) where
+  -- no byte leads nowhere, and two stretches of bytes join
+  pub Leads-none : (p : Place) → Leads limits p [] [] p
+  Leads-none p = record { onward = λ rest payload c. c; back = λ rest whole c. (whole, refl, c) }
+
+  pub Leads-joins : (p q r : Place) (a b h k : List ℕ) → Leads limits p a h q → Leads limits q b k r
+      → Leads limits p (a ++ b) (h ++ k) r
+  Leads-joins p q r a b h k x y = record {
+    onward = λ rest payload c.
+        subst (λ l. Completes limits p l ((h ++ k) ++ payload)) (sym (append_assoc a b rest))
+        (subst (λ l. Completes limits p (a ++ (b ++ rest)) l) (sym (append_assoc h k payload))
+        (x.onward (b ++ rest) (k ++ payload) (y.onward rest payload c)));
+    back = λ rest whole c.
+        let first = x.back (b ++ rest) whole (subst (λ l. Completes limits p l whole) (append_assoc a b rest) c) in
+        let second = y.back rest first.0 first.2 in
+        (second.0, first.1 ∙ ap (λ l. h ++ l) second.1 ∙ sym (append_assoc h k second.0), second.2);
+  }
+
+  pub Passes-none : (p : Place) → Passes limits p [] p
+  Passes-none p = record { leads = Leads-none p; few = omega arith }
+
+  pub Passes-joins : (p q r : Place) (a b : List ℕ) → Passes limits p a q → Passes limits q b r → Passes limits p (a ++ b) r
+  Passes-joins p q r a b x y = record {
+    leads = Leads-joins p q r a b [] [] x.leads y.leads;
+    few = omega (arith, x.few, y.few, length-append a b);
+  }
+
+  -- what leads from the beginning of a body to its end is a body
+  pub Leads-whole : (bytes payload : List ℕ) → Leads limits Line bytes payload Done → IsBody limits bytes payload
+  Leads-whole bytes payload leads =
+      subst (λ l. IsBody limits bytes l) (append-nil payload)
+      (subst (λ l. IsBody limits l (payload ++ [])) (append-nil bytes) (leads.onward [] [] (refl, refl)))

@@ -1,0 +1,94 @@
+//! Why a body can't be read.
+use std::error::Error;
+use std::io::ErrorKind;
+use std::{fmt, io};
+
+/// What is wrong with the next byte.
+#[derive(Clone, Copy, Debug, PartialEq, Eq)]
+pub enum Malformed {
+    /// No digit stands where the line of a size begins.
+    NoSize,
+    /// Something else stands behind the digits of a size than blanks, `;` or the end of the line.
+    BadSize,
+    /// The size is 2^62 or more.
+    SizeTooLarge,
+    /// The line of a size has more bytes than it may.
+    LineTooLong,
+    /// The trailers have more bytes than they may.
+    TrailersTooLong,
+    /// No LF stands behind a CR.
+    BareReturn,
+    /// An LF stands in a line without a CR before it.
+    BareFeed,
+    /// A chunk goes on behind as many bytes as its size says.
+    ChunkTooLong,
+}
+
+impl fmt::Display for Malformed {
+    fn fmt<W: fmt::Write>(&self, f: &mut fmt::Formatter<W>) -> fmt::Result {
+        f.write_str(match self {
+            Malformed::NoSize => "a chunk without a size",
+            Malformed::BadSize => "a wrong byte in the line of a size",
+            Malformed::SizeTooLarge => "a size of 2^62 or more",
+            Malformed::LineTooLong => "the line of a size is too long",
+            Malformed::TrailersTooLong => "the trailers are too long",
+            Malformed::BareReturn => "a CR without an LF",
+            Malformed::BareFeed => "an LF without a CR",
+            Malformed::ChunkTooLong => "a chunk is longer than its size",
+        })
+    }
+}
+
+/// Why there is no further payload. Each has the number of bytes of the body that were right, as far as a `u64` counts, but
+/// where the stream failed.
+#[derive(Debug, Drop)]
+pub enum ChunkedError {
+    /// What comes next is wrong. It stays in the buffered reader, and each further call returns the same.
+    NotChunked(Malformed, u64),
+    /// The stream ended within the body.
+    Truncated(u64),
+    /// The stream failed. The call can be made again.
+    Io(io::Error),
+}
+
+impl fmt::Display for ChunkedError {
+    fn fmt<W: fmt::Write>(&self, f: &mut fmt::Formatter<W>) -> fmt::Result {
+        match self {
+            ChunkedError::NotChunked(why, right) => {
+                write!(f, "{why}, behind {right} bytes of a body")
+            }
+            ChunkedError::Truncated(right) => {
+                write!(f, "the stream ended after {right} bytes of a body")
+            }
+            ChunkedError::Io(e) => fmt::Display::fmt(e, f),
+        }
+    }
+}
+
+impl Error for ChunkedError {}
+
+impl From<io::Error> for ChunkedError {
+    ghost use Rattle.std.specs.Prelude.{◌≡◌};
+    ghost use Rattle.chunked.specs.declared.error.ChunkedError.TheVariants.{Io};
+
+    ghost from_gives = { λ e r. r ≡ Io e };
+
+    fn from(e: io::Error) -> ChunkedError {
+        ChunkedError::Io(e)
+    }
+}
+
+impl From<ChunkedError> for io::Error {
+    ghost use Rattle.chunked.specs.Between.{BecomesIo};
+
+    ghost from_gives = { BecomesIo };
+
+    /// The stream's own error; `InvalidData` where the next byte is wrong, and `UnexpectedEof` where the stream ended.
+    fn from(e: ChunkedError) -> io::Error {
+        match e {
+            ChunkedError::NotChunked(_, _) => io::Error::from(ErrorKind::InvalidData),
+            ChunkedError::Truncated(_) => io::Error::from(ErrorKind::UnexpectedEof),
+            ChunkedError::Io(e) => e,
+        }
+    }
+}

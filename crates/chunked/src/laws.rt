@@ -1,0 +1,39 @@
+//! Laws, each as the contract of a function.
+ghost use Rattle.std.specs.Prelude.{◌≡◌, ℕ, ◌<◌, List, ◌++◌};
+ghost use Rattle.buffer_redux.specs.Buffered.{Buffered};
+ghost use Rattle.buffer_redux.specs.BufReader.{ReadsAlong};
+ghost use Rattle.chunked.specs.Body.{IsBody};
+ghost use Rattle.chunked.specs.Dechunking.{BodyWent, begun, handed_of};
+
+use crate::limits::Limits;
+use crate::reader::ChunkedReader;
+use buffer_redux::policy::ReaderPolicy;
+use buffer_redux::tell::TellRead;
+
+/// No body begins another: what bytes begin with a body settles where it ends, and its payload, whatever the limits are.
+pub fn one_body()
+    ensures { (l m : Limits) (a b p q xs ys : List ℕ) → IsBody l a p → IsBody m b q → a ++ xs ≡ b ++ ys
+        → (a ≡ b) × (p ≡ q) × (xs ≡ ys) }
+{}
+
+/// Since the reader was made, the bytes that were taken came out of the buffered reader, in order, and what was handed out is
+/// all that its calls handed out.
+pub fn since_new<R: TellRead, P: ReaderPolicy>(reader: &ChunkedReader<R, P>)
+    ensures taken { (first : Buffered R P) (limits : Limits) (payload : List ℕ)
+        → BodyWent R.remaining P.rules (begun first limits) payload reader.now
+        → ReadsAlong R.remaining P.rules first reader.now.taken reader.now.reader }
+    ensures handed { (first : Buffered R P) (limits : Limits) (payload : List ℕ)
+        → BodyWent R.remaining P.rules (begun first limits) payload reader.now
+        → handed_of reader.now ≡ payload }
+{}
+
+/// The bytes that were taken are right: some body begins with them. And each body that does has a payload that begins with
+/// what was handed out.
+pub fn taken_begins<R: TellRead, P: ReaderPolicy>(reader: &ChunkedReader<R, P>)
+    ensures right { 0 < reader.now.limits.line → (rest payload : List ℕ)
+        × IsBody reader.now.limits (reader.now.taken ++ rest) (handed_of reader.now ++ payload) }
+    ensures payload { (rest whole : List ℕ) → IsBody reader.now.limits (reader.now.taken ++ rest) whole
+        → (payload : List ℕ) × (whole ≡ handed_of reader.now ++ payload) }
+{
+    let _ = reader.get_ref();
+}

@@ -1,0 +1,14 @@
+//! Bodies of HTTP/1.1 in the chunked coding (RFC 9112, section 7.1), read and written.
+#![tactic(auto)]
+
+mod error;
+pub mod laws;
+mod limits;
+mod place;
+mod progress;
+mod reader;
+mod step;
+
+pub use error::{ChunkedError, Malformed};
+pub use limits::Limits;
+pub use place::Place;

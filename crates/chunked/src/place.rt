@@ -1,0 +1,30 @@
+//! Where in a body a reader stands.
+
+/// Where in a body a reader stands: what the bytes that were taken of it lead to.
+#[derive(Clone, Copy, Debug)]
+pub enum Place {
+    /// Before the line of a size.
+    Line,
+    /// Behind digits of a size: the number that they write, and how many more bytes the line may have.
+    Size(u64, usize),
+    /// Behind blanks in the line of a size.
+    Blank(u64, usize),
+    /// Behind the `;` in the line of a size.
+    Extension(u64, usize),
+    /// Behind the CR of the line of a size.
+    SizeFeed(u64),
+    /// In a chunk, of whose payload so many bytes are left.
+    Data(u64),
+    /// Behind the CR that stands behind a payload.
+    DataFeed,
+    /// Before a line of the trailers, which may have so many more bytes.
+    Fields(usize),
+    /// In a line of the trailers.
+    Field(usize),
+    /// Behind the CR of a line of the trailers.
+    FieldFeed(usize),
+    /// Behind the CR of the empty line.
+    LastFeed,
+    /// Behind the body.
+    Done,
+}

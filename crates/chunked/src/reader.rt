@@ -1,0 +1,216 @@
+//! The reader of a body.
+ghost use Rattle.std.specs.Prelude.{None, ◌≡◌, ◌<◌, ◌↔◌, length, IsTrue};
+ghost use Rattle.std.specs.Io.{ReadsAtMost};
+ghost use Rattle.std.specs.Io.KnownBytes.{ReadConsumes};
+ghost use Rattle.buffer_redux.specs.StreamLog.{after_read};
+ghost use Rattle.chunked.specs.Between.{HandsOn, Skips};
+ghost use Rattle.chunked.specs.Dechunking.{IsDechunking, IsWhole, ReadsAsIo, ReadsPayload, ReadsTold, begun, taken_count};
+ghost use Rattle.chunked.specs.Place.{IsPlace, IsSettled};
+
+use crate::error::ChunkedError;
+use crate::limits::Limits;
+use crate::place::Place;
+use crate::progress::Progress;
+use crate::step::{advance, is_settled};
+use buffer_redux::BufReader;
+use buffer_redux::policy::{ReaderPolicy, StdPolicy};
+use buffer_redux::tell::{Call, CallLog, Tell, TellRead};
+use std::io;
+use std::io::{BufRead, Read};
+use std::marker::Model;
+
+/// A reader of one body, out of a buffered reader of yours. What follows the body stays in that:
+/// [`into_inner`](ChunkedReader::into_inner) hands it back.
+///
+/// It takes no memory, and asks the buffered reader for nothing once the body ended.
+#[derive(Drop)]
+pub struct ChunkedReader<R: Tell, P = StdPolicy> {
+    reader: BufReader<R, P>,
+    progress: Progress,
+    // What was handed out, as a stream tells it.
+    calls: CallLog,
+}
+
+impl<R: Tell, P> Model for ChunkedReader<R, P> {
+    ghost use Rattle.chunked.specs.Between.{taken_of};
+    ghost use Rattle.chunked.specs.Dechunking.{Dechunking, IsDechunking};
+
+    ghost Value = { Dechunking R P };
+
+    ghost view = { λ c. record {
+      reader = c.reader;
+      limits = c.progress.limits;
+      place = c.progress.place;
+      taken = taken_of c.progress;
+      calls = c.calls.log;
+    } };
+
+    ghost invariant = { λ c. IsDechunking (record {
+      reader = c.reader;
+      limits = c.progress.limits;
+      place = c.progress.place;
+      taken = taken_of c.progress;
+      calls = c.calls.log;
+    }) };
+}
+
+impl<R: Tell, P> ChunkedReader<R, P> {
+    /// A reader of the body that comes next of `reader`.
+    pub fn new(reader: BufReader<R, P>, limits: Limits) -> Self
+        ensures begun { result ≡ begun reader limits }
+        ensures whole { IsDechunking result }
+    {
+        ChunkedReader {
+            reader,
+            progress: Progress::new(limits),
+            calls: CallLog::new(),
+        }
+    }
+
+    /// The buffered reader.
+    pub fn get_ref(&self) -> &BufReader<R, P>
+        ensures reader { result.now ≡ self.now.reader }
+        ensures whole { IsDechunking self.now }
+    {
+        &self.reader
+    }
+
+    /// The buffered reader, with what follows the bytes that were taken.
+    pub fn into_inner(self) -> BufReader<R, P>
+        ensures { result ≡ self.reader }
+    {
+        let ChunkedReader {
+            reader,
+            progress: _,
+            calls: _,
+        } = self;
+        reader
+    }
+
+    /// How many bytes of the body were taken so far, as far as a `u64` counts.
+    pub fn taken(&self) -> u64
+        ensures { result ≡ taken_count self.now }
+    {
+        self.progress.count
+    }
+
+    /// Whether the body ended.
+    pub fn is_done(&self) -> bool
+        ensures { IsTrue result ↔ IsWhole self.now }
+    {
+        matches!(self.progress.place, Place::Done)
+    }
+}
+
+impl<R: TellRead, P: ReaderPolicy> ChunkedReader<R, P> {
+    /// Hands out payload, at least a byte unless the body ended or the slice is empty.
+    ///
+    /// What an `Err` says stays so: what is wrong, or missing, comes next at each further call. After an `Io` the call can be
+    /// made again, and goes on.
+    pub fn read_payload(&mut self, out: &mut [u8]) -> Result<usize, ChunkedError>
+        ensures { ReadsPayload R.remaining P.rules self.old out.new result self.new }
+    {
+        let answer = read_on(&mut self.reader, &mut self.progress, out);
+        if let Ok(count) = &answer {
+            self.calls.note(&Call::Read(out, &Ok(*count)));
+        }
+        answer
+    }
+}
+
+impl<R: Tell, P> Tell for ChunkedReader<R, P> {
+    ghost log = { λ c. c.calls };
+}
+
+/// Payload, as [`read_payload`](ChunkedReader::read_payload) hands it out. An error is the stream's own, or of the kind
+/// `InvalidData` or `UnexpectedEof`.
+impl<R: TellRead, P: ReaderPolicy> Read for ChunkedReader<R, P> {
+    fn read(&mut self, out: &mut [u8]) -> io::Result<usize>
+        ensures bound { ReadsAtMost result out.new }
+        ensures bytes { ReadConsumes None None result out.new }
+        ensures read { ReadsAsIo R.remaining P.rules self.old out.new result self.new }
+    {
+        Ok(self.read_payload(out)?)
+    }
+}
+
+/// The same, told.
+impl<R: TellRead, P: ReaderPolicy> TellRead for ChunkedReader<R, P> {
+    fn read_told(&mut self, out: &mut [u8]) -> io::Result<usize>
+        ensures bound { ReadsAtMost result out.new }
+        ensures told { self.new.calls ≡ after_read self.old.calls out.new result }
+        ensures bytes { ReadConsumes None None result out.new }
+        ensures read { ReadsTold R.remaining P.rules self.old out.new result self.new }
+    {
+        let answer = self.read(out);
+        if answer.is_err() {
+            self.calls.note(&Call::Read(out, &answer));
+        }
+        answer
+    }
+}
+
+// Takes what is no payload, up to the next payload or the end of the body.
+fn skip<R: TellRead, P: ReaderPolicy>(
+    reader: &mut BufReader<R, P>,
+    progress: &mut Progress,
+) -> Result<(), ChunkedError>
+    requires { IsPlace progress.old.place }
+    ensures skips { Skips R.remaining P.rules reader.old progress.old result reader.new progress.new }
+    ensures still { IsSettled progress.old.place → (reader.new ≡ reader.old) × (progress.new ≡ progress.old) }
+{
+    while !is_settled(progress.place) {
+        let shown = reader.fill_buf()?;
+        if shown.is_empty() {
+            return Err(ChunkedError::Truncated(progress.count));
+        }
+        let reached = advance(&progress.limits, progress.place, shown);
+        progress.take(reached.place, &shown[..reached.taken]);
+        reader.consume(reached.taken);
+        if let Some(why) = reached.wrong {
+            return Err(ChunkedError::NotChunked(why, progress.count));
+        }
+    }
+    Ok(())
+}
+
+// Reads of a payload of which so many bytes are left.
+fn read_data<R: TellRead, P: ReaderPolicy>(
+    reader: &mut BufReader<R, P>,
+    progress: &mut Progress,
+    left: u64,
+    out: &mut [u8],
+) -> Result<usize, ChunkedError>
+    requires place { progress.old.place ≡ Place.Data left }
+    requires some { 0 < left }
+    requires room { 0 < length out.old }
+    ensures { HandsOn R.remaining P.rules reader.old progress.old out.new result reader.new progress.new }
+{
+    let most = left.min(out.len() as u64) as usize;
+    let count = reader.read(&mut out[..most])?;
+    if count == 0 {
+        return Err(ChunkedError::Truncated(progress.count));
+    }
+    progress.take(Place::Data(left - count as u64), &out[..count]);
+    Ok(count)
+}
+
+// Hands out payload, at least a byte unless the body ended or the slice is empty.
+fn read_on<R: TellRead, P: ReaderPolicy>(
+    reader: &mut BufReader<R, P>,
+    progress: &mut Progress,
+    out: &mut [u8],
+) -> Result<usize, ChunkedError>
+    requires { IsPlace progress.old.place }
+    ensures hands { HandsOn R.remaining P.rules reader.old progress.old out.new result reader.new progress.new }
+    ensures ended { progress.old.place ≡ Place.Done → reader.new ≡ reader.old }
+{
+    if out.is_empty() {
+        return Ok(0);
+    }
+    skip(reader, progress)?;
+    match progress.place {
+        Place::Data(left) => read_data(reader, progress, left, out),
+        _ => Ok(0),
+    }
+}

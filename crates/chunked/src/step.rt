@@ -1,0 +1,245 @@
+//! How a reader goes on in a body, from byte to byte of what is no payload.
+ghost use Rattle.std.specs.Prelude.{◌≡◌, ◌≢◌, ◌^◌, ◌<◌, ◌≤◌, ◌↔◌, length, take, Ok, IfOk, IfErr, IsTrue};
+ghost use Rattle.std.specs.Char.{digit_value};
+ghost use Rattle.std.specs.Option.{SomeIff};
+ghost use Rattle.chunked.specs.Body.{IsText};
+ghost use Rattle.chunked.specs.Place.{Advances, IsPlace, IsSettled, Passes, StepsOver};
+
+use crate::error::Malformed;
+use crate::limits::Limits;
+use crate::place::Place;
+use memchr::memchr2;
+
+// The least number that isn't the size of a chunk.
+const TOO_LARGE: u64 = 1 << 62;
+
+/// How far a reader came in bytes that it was shown.
+#[derive(Clone, Copy, Debug)]
+pub struct Reached {
+    /// Where it stands now.
+    pub place: Place,
+    /// How many of the bytes it took.
+    pub taken: usize,
+    /// What is wrong with the next byte, where something is.
+    pub wrong: Option<Malformed>,
+}
+
+// The value of a hexadecimal digit.
+fn digit(byte: u8) -> Option<u8>
+    ensures { SomeIff result (digit_value byte < 16) (digit_value byte) }
+{
+    match byte {
+        b'0'..=b'9' => Some(byte - b'0'),
+        b'a'..=b'f' => Some(byte - b'a' + 10),
+        b'A'..=b'F' => Some(byte - b'A' + 10),
+        _ => None,
+    }
+}
+
+// The first digit of a size.
+fn begin_size(limits: &Limits, byte: u8) -> Result<Place, Malformed>
+    ensures { StepsOver limits.now Place.Line byte result }
+{
+    match digit(byte) {
+        None => Err(Malformed::NoSize),
+        Some(_) if limits.line == 0 => Err(Malformed::LineTooLong),
+        Some(digit) => Ok(Place::Size(u64::from(digit), limits.line - 1)),
+    }
+}
+
+// What stands behind a digit of a size.
+fn in_size(number: u64, room: usize, byte: u8) -> Result<Place, Malformed>
+    requires { number < 2 ^ 62 }
+    ensures { (l : Limits) → StepsOver l (Place.Size number room) byte result }
+{
+    match digit(byte) {
+        None => behind_size(number, room, byte),
+        // The number would be too large with any digit.
+        Some(_) if number >= TOO_LARGE / 16 => Err(Malformed::SizeTooLarge),
+        Some(_) if room == 0 => Err(Malformed::LineTooLong),
+        Some(digit) => Ok(Place::Size(number * 16 + u64::from(digit), room - 1)),
+    }
+}
+
+// What stands behind the digits of a size, and perhaps blanks.
+fn behind_size(size: u64, room: usize, byte: u8) -> Result<Place, Malformed>
+    requires { size < 2 ^ 62 }
+    ensures { (l : Limits) → StepsOver l (Place.Blank size room) byte result }
+{
+    match byte {
+        b'\r' => Ok(Place::SizeFeed(size)),
+        b'\n' => Err(Malformed::BareFeed),
+        b' ' | b'\t' | b';' if room == 0 => Err(Malformed::LineTooLong),
+        b' ' | b'\t' => Ok(Place::Blank(size, room - 1)),
+        b';' => Ok(Place::Extension(size, room - 1)),
+        _ => Err(Malformed::BadSize),
+    }
+}
+
+// The end of a text in the line of a size, or a byte for which there is no room.
+fn behind_extension(size: u64, room: usize, byte: u8) -> Result<Place, Malformed>
+    requires { size < 2 ^ 62 }
+    ensures { (l : Limits) → StepsOver l (Place.Extension size room) byte result }
+{
+    match byte {
+        b'\r' => Ok(Place::SizeFeed(size)),
+        b'\n' => Err(Malformed::BareFeed),
+        _ if room == 0 => Err(Malformed::LineTooLong),
+        _ => Ok(Place::Extension(size, room - 1)),
+    }
+}
+
+// The LF behind the line of a size.
+fn begin_data(limits: &Limits, size: u64) -> Place
+    requires { size < 2 ^ 62 }
+    ensures { StepsOver limits.now (Place.SizeFeed size) 10 (Ok result) }
+{
+    if size == 0 {
+        Place::Fields(limits.trailers)
+    } else {
+        Place::Data(size)
+    }
+}
+
+// A byte before a line of the trailers.
+fn begin_field(room: usize, byte: u8) -> Result<Place, Malformed>
+    ensures { (l : Limits) → StepsOver l (Place.Fields room) byte result }
+{
+    match byte {
+        b'\r' => Ok(Place::LastFeed),
+        b'\n' => Err(Malformed::BareFeed),
+        _ if room == 0 => Err(Malformed::TrailersTooLong),
+        _ => Ok(Place::Field(room - 1)),
+    }
+}
+
+// A byte in a line of the trailers.
+fn in_field(room: usize, byte: u8) -> Result<Place, Malformed>
+    ensures { (l : Limits) → StepsOver l (Place.Field room) byte result }
+{
+    match byte {
+        b'\r' => Ok(Place::FieldFeed(room)),
+        b'\n' => Err(Malformed::BareFeed),
+        _ if room == 0 => Err(Malformed::TrailersTooLong),
+        _ => Ok(Place::Field(room - 1)),
+    }
+}
+
+// The end of a chunk.
+fn end_data(byte: u8) -> Result<Place, Malformed>
+    ensures { (l : Limits) → StepsOver l (Place.Data 0) byte result }
+{
+    if byte == b'\r' {
+        Ok(Place::DataFeed)
+    } else {
+        Err(Malformed::ChunkTooLong)
+    }
+}
+
+// The LF that has to stand behind a CR, and leads there.
+fn feed(byte: u8, behind: Place) -> Result<Place, Malformed>
+    ensures found { IfOk result (λ place. (byte ≡ 10) × (place ≡ behind)) }
+    ensures wrong { IfErr result (λ why. (byte ≢ 10) × (why ≡ Malformed.BareReturn)) }
+{
+    if byte == b'\n' {
+        Ok(behind)
+    } else {
+        Err(Malformed::BareReturn)
+    }
+}
+
+// Goes on by one byte.
+fn step(limits: &Limits, place: Place, byte: u8) -> Result<Place, Malformed>
+    requires place { IsPlace place }
+    requires open { ¬ IsSettled place }
+    ensures { StepsOver limits.now place byte result }
+{
+    match place {
+        Place::Line => begin_size(limits, byte),
+        Place::Size(number, room) => in_size(number, room, byte),
+        Place::Blank(size, room) => behind_size(size, room, byte),
+        Place::Extension(size, room) => behind_extension(size, room, byte),
+        Place::SizeFeed(size) => feed(byte, begin_data(limits, size)),
+        Place::Data(_) => end_data(byte),
+        Place::DataFeed => feed(byte, Place::Line),
+        Place::Fields(room) => begin_field(room, byte),
+        Place::Field(room) => in_field(room, byte),
+        Place::FieldFeed(room) => feed(byte, Place::Fields(room)),
+        Place::LastFeed => feed(byte, Place::Done),
+        Place::Done => unreachable!(),
+    }
+}
+
+// How many bytes of a text `shown` begins with, at most so many.
+fn text_len(room: usize, shown: &[u8]) -> usize
+    ensures fits { result ≤ room }
+    ensures within { result ≤ length shown.now }
+    ensures text { IsText (take result shown.now) }
+{
+    let fitting = &shown[..shown.len().min(room)];
+    match memchr2(b'\r', b'\n', fitting) {
+        Some(end) => end,
+        None => fitting.len(),
+    }
+}
+
+// Goes on by the text that `shown` begins with, and returns how many bytes it has.
+fn skip_text(place: Place, shown: &[u8]) -> (Place, usize)
+    requires { IsPlace place }
+    ensures within { result.1 ≤ length shown.now }
+    ensures passes { (l : Limits) → Passes l place (take result.1 shown.now) result.0 }
+    ensures place { IsPlace result.0 }
+{
+    match place {
+        Place::Extension(size, room) => {
+            let len = text_len(room, shown);
+            (Place::Extension(size, room - len), len)
+        }
+        Place::Field(room) => {
+            let len = text_len(room, shown);
+            (Place::Field(room - len), len)
+        }
+        other => (other, 0),
+    }
+}
+
+// Whether a payload or nothing comes next.
+pub fn is_settled(place: Place) -> bool
+    ensures { IsTrue result ↔ IsSettled place }
+{
+    match place {
+        Place::Data(left) => left > 0,
+        Place::Done => true,
+        _ => false,
+    }
+}
+
+/// Takes what is no payload of the front of `shown`.
+pub fn advance(limits: &Limits, start: Place, shown: &[u8]) -> Reached
+    requires { IsPlace start }
+    ensures { Advances limits.now start shown.now result }
+{
+    let mut place = start;
+    let mut taken = 0;
+    while taken < shown.len() && !is_settled(place) {
+        match step(limits, place, shown[taken]) {
+            Ok(next) => {
+                let (behind, text) = skip_text(next, &shown[taken + 1..]);
+                place = behind;
+                taken += 1 + text;
+            }
+            Err(why) => {
+                return Reached {
+                    place,
+                    taken,
+                    wrong: Some(why),
+                };
+            }
+        }
+    }
+    Reached {
+        place,
+        taken,
+        wrong: None,
+    }
+}
