@@ -11,9 +11,9 @@ use Rattle.redux_buffer.specs.Block.{Kind}
 use Rattle.redux_tell.specs.GivesRemaining.{GivesRemaining, GivesRemaining-none, GivesRemaining-joins, GivesRemaining-ahead}
 use Rattle.redux_tell.specs.LogGrows.{ReadLogGrows, ReadLogGrows-none, ReadLogGrows-joins}
 use Rattle.redux_tell.specs.StreamLog.{StreamLog}
-use Rattle.redux_policy.specs.Policy.{ReadRules, ReadClaims}
+use Rattle.redux_policy.specs.Policy.{ReadRules, ReadClaims, std_read_rules}
 use Rattle.buffer_redux.specs.Buffered.{Buffered, IsMade}
-use Rattle.buffer_redux.specs.BufReader.{ReadsInOrder, InnerGives, RanDry, LooksAhead, FillsToMinimum, Fills, FillBuf, ReaderConsumes, ReadsAlong, ReadsToEnd}
+use Rattle.buffer_redux.specs.BufReader.{ReadsInOrder, InnerGives, RanDry, LooksAhead, FillsToMinimum, Fills, FillBuf, ReaderConsumes, ReaderKeeps, ReadsAlong, ReadsToEnd}
 use Rattle.buffer_redux.specs.Remaining.{ahead, wants_some, may_stop, reader_remaining}
 use Rattle.buffer_redux.specs.Unbuffer.{HandsOutInOrder, unbuffered, Unbuffered}
 use Rattle.buffer_redux.specs.Seek.{SeekLeaves}
@@ -82,6 +82,10 @@ WantsSome (Some n) = 0 < n
 
 abbrev pub WantsBytes : ReadClaims → Type 0
 WantsBytes claims = (claims.steady ≡ true) ⊎ WantsSome claims.minimum
+
+-- so does `StdPolicy`
+pub WantsBytes-std : {P : Type 0} (p : P) → WantsBytes ((std_read_rules {P = P}).claims p)
+WantsBytes-std p = inl refl
 
 ahead_dry : {S P : Type 0} (s t : Buffered S P) (o : Option ℕ) → WantsSome o → LooksAhead o s true t
     → length t.block.bytes ≡ 0 → RanDry s t
@@ -256,6 +260,23 @@ module _ {S P : Type 0} (remaining : S → Option (List ℕ)) (rules : ReadRules
     claims = q.claims ∙ p.claims;
   }
 
+  -- a stretch that hands out nothing more
+  pub ReadsAlong-then : (a b c : Buffered S P) (h : List ℕ) → ReadsAlong remaining rules a h b
+      → ReadsAlong remaining rules b [] c → ReadsAlong remaining rules a h c
+  ReadsAlong-then a b c h p q =
+      subst (λ l. ReadsAlong remaining rules a l c) (append-nil h) (ReadsAlong-joins a b c h [] p q)
+
+  -- a call that says what it handed out and what it keeps, as `read` does, whatever it answers
+  pub ReaderKeeps-along : (s : Buffered S P) (handed : List ℕ) (t : Buffered S P) → ReadsInOrder s handed t
+      → ReaderKeeps remaining rules s t → ReadsAlong remaining rules s handed t
+  ReaderKeeps-along s handed t order keeps = record {
+    in_order = order;
+    known = keeps.known;
+    grows = keeps.grows;
+    capacity = keeps.capacity;
+    claims = keeps.claims;
+  }
+
   -- a fill hands out nothing, whatever it answers
   pub FillBuf-along : (s : Buffered S P) (answer : Result (Bor (List ℕ)) Error) (t : Buffered S P)
       → FillBuf remaining rules s answer t → ReadsAlong remaining rules s [] t
@@ -313,8 +334,7 @@ module _ {S P : Type 0} (remaining : S → Option (List ℕ)) (rules : ReadRules
   module _ (s m : Buffered S P) (h : List ℕ) (shown : Bor (List ℕ)) (f : Buffered S P)
       (before : ReadsAlong remaining rules s h m) (filled : FillBuf remaining rules m (Ok shown) f) where
     filled_along : ReadsAlong remaining rules s h f
-    filled_along = subst (λ l. ReadsAlong remaining rules s l f) (append-nil h)
-        (ReadsAlong-joins s m f h [] before (FillBuf-along m (Ok shown) f filled))
+    filled_along = ReadsAlong-then s m f h before (FillBuf-along m (Ok shown) f filled)
 
     pub ReadsAlong-turn : (n : ℕ) (t : Buffered S P) → t.inner ≡ f.inner → ReaderConsumes rules n f t
         → ReadsAlong remaining rules s (h ++ take n shown.now) t
