@@ -4,3 +4,4 @@ pub mod WriterCounts
 pub mod CopyKnown
 pub mod FlushKnown
 pub mod Unwrapped
+pub mod NextByte

@@ -1,3 +1,4 @@
+pub mod NextByte
 pub mod PlayRoom
 pub mod PlayReader
 pub mod PlayWriter

@@ -6,7 +6,7 @@ mod sparing;
 mod unsent;
 mod writes;
 
-pub use ahead::{look_ahead, read_until_dry};
+pub use ahead::{look_ahead, next_byte, peek, read_until_dry};
 pub use known::{copy_known, flush_known};
 pub use rebuilding::{rebuild_reader, rebuild_reader_under, rebuild_writer, rebuild_writer_under};
 pub use redux_buffer::laws::{block_law, copy_through, make_room_again, potential, ring_law};

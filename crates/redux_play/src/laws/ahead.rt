@@ -1,15 +1,17 @@
 //! What a reader shows under a minimum, and when it answers that nothing is left.
-ghost use Rattle.std.specs.Prelude.{◌≡◌, ◌<◌, [], length, take, Ok, IfOk, IfSome, OnOk, is_ok};
+ghost use Rattle.std.specs.Prelude.{◌≡◌, ◌<◌, [], length, take, Ok, None, IfOk, IfSome, OnOk, is_ok, slice_get};
 ghost use Rattle.std.specs.Io.KnownBytes.{Keeps};
 ghost use Rattle.redux_tell.specs.StreamLog.{portion, after_read};
 ghost use Rattle.redux_policy.specs.MinBuffered.{min_read_rules};
 ghost use Rattle.buffer_redux.specs.Buffered.{GoesPast, StaysInside, GoesDirect};
 ghost use Rattle.buffer_redux.specs.BufReader.{Fills, FillsToMinimum, RanDry, ReadErrorCaused, ReadsInOrder};
-ghost use Rattle.buffer_redux.specs.BufReader.{ReadsBuffered, LeavesRest, ReaderKeeps};
+ghost use Rattle.buffer_redux.specs.BufReader.{ReadsAlong, ReadsBuffered, ReadsToEnd, LeavesRest, ReaderKeeps};
+ghost use Rattle.buffer_redux.specs.ReaderLaws.{WantsBytes};
 ghost use Rattle.buffer_redux.specs.Remaining.{reader_remaining};
+ghost use Rattle.redux_play.specs.NextByte.{TakesByte, taken_byte};
 
 use buffer_redux::BufReader;
-use redux_policy::MinBuffered;
+use redux_policy::{MinBuffered, ReaderPolicy};
 use redux_tell::tell::TellRead;
 use std::io;
 use std::io::{BufRead, Read};
@@ -50,4 +52,40 @@ pub fn read_until_dry<R: TellRead>(
     ensures keeps { ReaderKeeps R.remaining min_read_rules reader.old reader.new }
 {
     reader.read(out)
+}
+
+/// The byte that stands next, which stays buffered, or `None` where a fill shows nothing. Under a policy that wants bytes, as
+/// `StdPolicy` and a minimum of 1 or more do, and with some capacity, that is the end.
+pub fn peek<R: TellRead, P: ReaderPolicy>(reader: &mut BufReader<R, P>) -> io::Result<Option<u8>>
+    ensures fills { Fills P.rules reader.old result reader.new }
+    ensures shown { IfOk result (λ found. found ≡ slice_get reader.new.block.bytes 0) }
+    ensures along { ReadsAlong R.remaining P.rules reader.old [] reader.new }
+    ensures end { result ≡ Ok None → WantsBytes (P.rules.claims reader.old.policy) → 0 < reader.old.block.capacity
+        → ReadsToEnd R.remaining P.rules reader.old [] reader.new }
+    ensures noted { reader.new.own_calls ≡ reader.old.own_calls }
+{
+    Ok(reader.fill_buf()?.first().copied())
+}
+
+/// Takes the byte that stands next, or answers `None` as [`peek`] does. An `Err` is that of the fill, and takes nothing.
+///
+/// ```
+/// let mut reader = BufReader::new(alloc, Told::new(b"a".as_slice()))?;
+/// assert_eq!(rt; peek(&mut reader)?, Some(b'a'));
+/// assert_eq!(rt; next_byte(&mut reader)?, Some(b'a'));
+/// assert_eq!(rt; next_byte(&mut reader)?, None);
+/// ```
+pub fn next_byte<R: TellRead, P: ReaderPolicy>(
+    reader: &mut BufReader<R, P>,
+) -> io::Result<Option<u8>>
+    ensures takes { TakesByte P.rules reader.old result reader.new }
+    ensures along { ReadsAlong R.remaining P.rules reader.old (taken_byte result) reader.new }
+    ensures end { result ≡ Ok None → WantsBytes (P.rules.claims reader.old.policy) → 0 < reader.old.block.capacity
+        → ReadsToEnd R.remaining P.rules reader.old [] reader.new }
+{
+    let found = peek(reader)?;
+    if found.is_some() {
+        reader.consume(1);
+    }
+    Ok(found)
 }

@@ -1,0 +1,35 @@
+-- What is taken where a fill showed a byte, and where it showed none.
+use Rattle.std.proofs.Common.{◌≡◌, ℕ, List, [], ◌∷◌, Result, Ok, Err, Option, None, Some, true, false, take, refl, ap, subst, sym}
+use Rattle.std.specs.Prelude.{slice_get}
+use Rattle.std.specs.Option.{is_some}
+use Rattle.std.specs.declared.io.Error.{Error}
+use Rattle.redux_policy.specs.Policy.{ReadRules}
+use Rattle.buffer_redux.specs.Buffered.{Buffered}
+use Rattle.buffer_redux.specs.BufReader.{Fills, ReaderConsumes, ReadsAlong}
+use Rattle.buffer_redux.specs.ReaderLaws.{ReadsAlong-joins, ReaderConsumes-along}
+use Rattle.redux_play.specs.NextByte.{TakesByte, taken_byte}
+
+first_byte : (bytes : List ℕ) (byte : ℕ) → Some byte ≡ slice_get bytes 0 → take 1 bytes ≡ byte ∷ []
+first_byte [] byte is = cc
+first_byte (x ∷ xs) byte is = cc
+
+module _ {S P : Type 0} (rules : ReadRules P) (s filled t : Buffered S P) where
+  pub took_byte : (found : Option ℕ) → Fills rules s (Ok found) filled → found ≡ slice_get filled.block.bytes 0
+      → true ≡ is_some found → ReaderConsumes rules 1 filled t → TakesByte rules s (Ok found) t
+  took_byte None fills shown some gone = cc
+  took_byte (Some byte) fills shown some gone =
+      record { filled = filled; fills = fills; shown = shown; taken = gone; failed = tt }
+
+  pub took_none : (found : Option ℕ) → Fills rules s (Ok found) filled → found ≡ slice_get filled.block.bytes 0
+      → false ≡ is_some found → TakesByte rules s (Ok found) filled
+  took_none None fills shown none = record { filled = filled; fills = fills; shown = shown; taken = refl; failed = tt }
+  took_none (Some byte) fills shown none = cc
+
+  pub byte_along : (remaining : S → Option (List ℕ)) (found : Option ℕ) → ReadsAlong remaining rules s [] filled
+      → found ≡ slice_get filled.block.bytes 0 → true ≡ is_some found → t.inner ≡ filled.inner
+      → ReaderConsumes rules 1 filled t → ReadsAlong remaining rules s (taken_byte (Ok found)) t
+  byte_along remaining None along shown some inner gone = cc
+  byte_along remaining (Some byte) along shown some inner gone =
+      subst (λ l. ReadsAlong remaining rules s l t) (first_byte filled.block.bytes byte shown)
+      (ReadsAlong-joins remaining rules s filled t [] (take 1 filled.block.bytes) along
+      (ReaderConsumes-along remaining rules filled 1 t inner gone))
