@@ -8,6 +8,8 @@ mod blocks;
 #[cfg(test)]
 mod frames;
 #[cfg(test)]
+mod lines;
+#[cfg(test)]
 mod policies;
 #[cfg(test)]
 mod readers;
