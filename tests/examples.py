@@ -100,7 +100,11 @@ def main():
     rust = texts("crates/tests_*/src/**/*.rt", "crates/uses/src/**/*.rt")
     antt = texts(*(f"crates/{it}/{part}/**/*.antt" for it in ("tests_*", "uses") for part in ("proofs", "specs")))
     pieces = [(page, *it) for page in PAGES for it in pieces_of(top / page)]
-    wrong += [f"{page}:{at}: this stands in no test" for page, at, is_rust, piece in pieces if not stands(piece, rust if is_rust else antt)]
+    wrong += [
+        f"{page}:{at}: this stands in no test"
+        for page, at, is_rust, piece in pieces
+        if not stands(piece, rust if is_rust else antt)
+    ]
     print("\n".join(wrong) or f"each of {len(examples)} examples and {len(pieces)} pieces of pages stands in a test")
     return 1 if wrong else 0
 
