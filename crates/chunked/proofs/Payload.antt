@@ -82,9 +82,9 @@ pub noted_none : (calls : StreamLog) (out : List ℕ) (answer : Result ℕ Chunk
     → calls ≡ after_payload calls out answer
 noted_none calls out answer e is = ap (after_payload calls out) (sym is)
 
-pub noted_some : (calls after : StreamLog) (out : List ℕ) (answer : Result ℕ ChunkedError) (n : ℕ) → answer ≡ Ok n
-    → after ≡ after_payload calls out (Ok n) → after ≡ after_payload calls out answer
-noted_some calls after out answer n is noted = noted ∙ ap (after_payload calls out) (sym is)
+pub noted_some : (calls later : StreamLog) (out : List ℕ) (answer : Result ℕ ChunkedError) (n : ℕ) → answer ≡ Ok n
+    → later ≡ after_payload calls out (Ok n) → later ≡ after_payload calls out answer
+noted_some calls later out answer n is noted = noted ∙ ap (after_payload calls out) (sym is)
 
 -- the same with the calls as they were noted
 module _ {S P : Type 0} (remaining : S → Option (List ℕ)) (rules : ReadRules P) (d : Dechunking S P) (r : Buffered S P) (p : Progress)

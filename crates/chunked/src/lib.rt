@@ -1,4 +1,6 @@
-//! Bodies of HTTP/1.1 in the chunked coding (RFC 9112, section 7.1), read and written.
+//! Bodies of HTTP/1.1 in the chunked coding (RFC 9112, section 7.1), read out of a buffered reader.
+//!
+//! A [`ChunkedReader`] hands out the payload of one body, and leaves what follows the body in the buffered reader.
 #![tactic(auto)]
 
 mod error;
@@ -12,3 +14,4 @@ mod step;
 pub use error::{ChunkedError, Malformed};
 pub use limits::Limits;
 pub use place::Place;
+pub use reader::ChunkedReader;

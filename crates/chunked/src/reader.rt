@@ -15,9 +15,9 @@ use crate::step::{advance, is_settled};
 use buffer_redux::BufReader;
 use buffer_redux::policy::{ReaderPolicy, StdPolicy};
 use buffer_redux::tell::{Call, CallLog, Tell, TellRead};
-use std::io;
 use std::io::{BufRead, Read};
 use std::marker::Model;
+use std::{fmt, io};
 
 /// A reader of one body, out of a buffered reader of yours. What follows the body stays in that:
 /// [`into_inner`](ChunkedReader::into_inner) hands it back.
@@ -147,6 +147,17 @@ impl<R: TellRead, P: ReaderPolicy> TellRead for ChunkedReader<R, P> {
             self.calls.note(&Call::Read(out, &answer));
         }
         answer
+    }
+}
+
+/// The buffered reader, where in the body it stands, and how many bytes of the body were taken.
+impl<R: Tell + fmt::Debug, P: fmt::Debug> fmt::Debug for ChunkedReader<R, P> {
+    fn fmt<W: fmt::Write>(&self, f: &mut fmt::Formatter<W>) -> fmt::Result {
+        f.debug_struct("chunked::ChunkedReader")
+            .field("reader", &self.reader)
+            .field("place", &self.progress.place)
+            .field("taken", &self.progress.count)
+            .finish()
     }
 }
 
