@@ -1,17 +1,18 @@
 -- Payload is handed out, and how that ends.
-use Rattle.std.proofs.Common.{◌≡◌, ℕ, ◌-◌, ◌<◌, ◌≤◌, List, [], ◌∷◌, ◌++◌, length, take, Option, Result, Ok, Err, sym, ap, subst, ◌∙◌, arith, inl, inr, refl, length-append}
+use Rattle.std.proofs.Common.{◌≡◌, ℕ, zero, suc, ◌-◌, ◌<◌, ◌≤◌, List, [], ◌∷◌, ◌++◌, length, min, take, Option, Result, Ok, Err, sym, ap, subst, ◌∙◌, arith, inl, inr, refl, length-append}
 use Rattle.std.proofs.lemmas.List.{length-take-le, take-append-le}
 use Rattle.std.specs.declared.io.Error.{Error}
 use Rattle.buffer_redux.specs.Buffered.{Buffered}
-use Rattle.buffer_redux.specs.BufReader.{EmptyReadCaused, RanDry, ReaderKeeps, ReadErrorCaused, ReadsAlong, ReadsInOrder}
+use Rattle.buffer_redux.specs.BufReader.{EmptyReadCaused, RanDry, ReaderKeeps, ReadErrorCaused, Reads, ReadsAlong, ReadsInOrder}
 use Rattle.buffer_redux.specs.LogGrows.{ReadLogGrows, ReadLogGrows-joins, ReadLogGrows-none}
 use Rattle.buffer_redux.specs.Policy.{ReadRules}
 use Rattle.buffer_redux.specs.ReaderLaws.{WantsBytes}
 use Rattle.chunked.specs.declared.error.ChunkedError.{ChunkedError}
 use Rattle.chunked.specs.declared.error.ChunkedError.TheVariants.{NotChunked, Truncated, Io}
+use Rattle.chunked.specs.declared.place.Place.{Place}
 use Rattle.chunked.specs.declared.place.Place.TheVariants.{Data, Done}
 use Rattle.chunked.specs.declared.progress.Progress.{Progress}
-use Rattle.chunked.specs.Between.{FailsSo, HandsOn, NoFault, Takes}
+use Rattle.chunked.specs.Between.{EndsTaking, EndsWith, FailsSo, HandsOn, NoFault, Takes, TookLast}
 use Rattle.chunked.specs.BetweenLaws.{Takes-joins, Takes-none, Takes-still}
 use Rattle.chunked.specs.Place.{IsPlace, Leads}
 use Rattle.chunked.proofs.PassingOn.{data_payload}
@@ -67,10 +68,25 @@ module _ {S P : Type 0} (remaining : S → Option (List ℕ)) (rules : ReadRules
       );
     }
 
-    pub data_given : (n : ℕ) (front more : List ℕ) (q : Progress) → out ≡ front ++ more → 0 < n → n ≤ length front → n ≤ left
-        → ReadsInOrder s (take n front) t → NoFault s t → Notes p (Data (left - n)) (take n out) q
+    given_last : (n room : ℕ) (before after : List ℕ) (q : Progress) → 0 < n → Reads rules s before (Ok n) after t
+        → q.place ≡ Data (left - n) → n ≤ left → length before ≡ min left room → EndsWith rules s room n t q.place
+    given_last zero room before after q some reads there few offered = absurd (omega (arith, some))
+    given_last (suc n) room before after q some reads there few offered = record {
+      last = s;
+      grows = ReadLogGrows-none s.log.reads;
+      before = before;
+      after = after;
+      reads = reads;
+      left = left - suc n;
+      place = there;
+      offered = omega (arith, offered, few);
+    }
+
+    pub data_given : (n : ℕ) (before front more : List ℕ) (q : Progress) → out ≡ front ++ more → 0 < n → n ≤ length front
+        → n ≤ left → ReadsInOrder s (take n front) t → NoFault s t → Notes p (Data (left - n)) (take n out) q
+        → Reads rules s before (Ok n) front t → length before ≡ min left (length out)
         → HandsOn remaining rules s p out (Ok n) t q
-    data_given n front more q is some within few order no_fault notes =
+    data_given n before front more q is some within few order no_fault notes reads offered =
         let same : take n out ≡ take n front = ap (take n) is ∙ take-append-le n front more within in
         let long : length (take n out) ≡ n = ap length same ∙ length-take-le n front within in
         record {
@@ -88,7 +104,8 @@ module _ {S P : Type 0} (remaining : S → Option (List ℕ)) (rules : ReadRules
           ends = (
             omega (arith, ap length is, length-append front more, within),
             no_fault,
-            λ none _. absurd (omega (arith, none, some)),
+            (λ none _. absurd (omega (arith, none, some))),
+            given_last n (length out) before front q some reads notes.place few offered,
           );
         }
 
@@ -118,16 +135,47 @@ module _ {S P : Type 0} (remaining : S → Option (List ℕ)) (rules : ReadRules
     gave = failed.gave;
   })
 
+  -- the last call stays the last
+  EndsTaking-after : (s m t : Buffered S P) → ReadLogGrows s.log.reads m.log.reads → EndsTaking rules m t → EndsTaking rules s t
+  EndsTaking-after s m t grows taking = record {
+    last = taking.last;
+    grows = ReadLogGrows-joins s.log.reads m.log.reads taking.last.log.reads grows taking.grows;
+    count = taking.count;
+    some = taking.some;
+    held = taking.held;
+    took = taking.took;
+  }
+
+  EndsWith-after : (s m : Buffered S P) → ReadLogGrows s.log.reads m.log.reads → TookLast rules s m → (room n : ℕ)
+      (t : Buffered S P) (p : Place) → EndsWith rules m room n t p → EndsWith rules s room n t p
+  EndsWith-after s m grows took room zero t p (inl same) = subst (TookLast rules s) (sym same) took
+  EndsWith-after s m grows took room zero t p (inr taking) = inr (EndsTaking-after s m t grows taking)
+  EndsWith-after s m grows took room (suc n) t p reading = record {
+    last = reading.last;
+    grows = ReadLogGrows-joins s.log.reads m.log.reads reading.last.log.reads grows reading.grows;
+    before = reading.before;
+    after = reading.after;
+    reads = reading.reads;
+    left = reading.left;
+    place = reading.place;
+    offered = reading.offered;
+  }
+
   -- payload is handed out behind what is none
   pub HandsOn-after : (s m : Buffered S P) (p q : Progress) (wire : List ℕ) → Takes remaining rules s p wire [] m q → NoFault s m
-      → (out : List ℕ) (answer : Result ℕ ChunkedError) (t : Buffered S P) (r : Progress)
+      → TookLast rules s m → (out : List ℕ) (answer : Result ℕ ChunkedError) (t : Buffered S P) (r : Progress)
       → HandsOn remaining rules m q out answer t r → HandsOn remaining rules s p out answer t r
-  HandsOn-after s m p q wire before well out (Ok n) t r h = record {
+  HandsOn-after s m p q wire before well took out (Ok n) t r h = record {
     wire = wire ++ h.wire;
     takes = Takes-joins remaining rules s p m q t r wire [] h.wire (take n out) before h.takes;
-    ends = (h.ends.0, h.ends.1 ∙ well, h.ends.2);
+    ends = (
+      h.ends.0,
+      h.ends.1 ∙ well,
+      h.ends.2,
+      EndsWith-after s m before.along.grows took (length out) n t r.place h.ends.3,
+    );
   }
-  HandsOn-after s m p q wire before well out (Err e) t r h = record {
+  HandsOn-after s m p q wire before well took out (Err e) t r h = record {
     wire = wire ++ h.wire;
     takes = Takes-joins remaining rules s p m q t r wire [] h.wire [] before h.takes;
     ends = FailsSo-after s m before.along.capacity before.along.claims before.along.grows well e t r h.ends;

@@ -44,7 +44,7 @@ module _ {S P : Type 0} (remaining : S → Option (List ℕ)) (rules : ReadRules
 
   answered : (a : Result ℕ ChunkedError) → a ≡ answer → ReadEnds rules r (length out) a r' q
       → PayloadAnswers rules (seen r p calls) (length out) a after
-  answered (Ok n) same ends = (ends.0, ends.1, λ none some. IsWhole-done after still_is (ends.2 none some))
+  answered (Ok n) same ends = (ends.0, ends.1, (λ none some. IsWhole-done after still_is (ends.2 none some)), ends.3)
   answered (Err (NotChunked why count)) same (well, right, wrong) = (
     right ∙ q.counted,
     well,

@@ -1,10 +1,11 @@
 -- A turn of taking what is no payload, and how that ends.
-use Rattle.std.proofs.Common.{◌≡◌, ℕ, ◌+◌, ◌<◌, ◌⊎◌, List, [], ◌∷◌, ◌++◌, length, take, drop, min, slice_index, Option, Ok, Err, Some, IfSome, sym, ap, subst, ◌∙◌, arith, inl, inr, refl, append_assoc}
+use Rattle.std.proofs.Common.{◌≡◌, ℕ, ◌+◌, ◌<◌, ◌⊎◌, List, [], ◌∷◌, ◌++◌, length, take, drop, min, slice_index, Option, Ok, Err, None, Some, IfSome, sym, ap, subst, ◌∙◌, arith, inl, inr, refl, append_assoc}
 use Rattle.std.proofs.lemmas.List.{drop_more}
 use Rattle.std.specs.Borrow.{Bor}
 use Rattle.std.specs.declared.io.Error.{Error}
 use Rattle.buffer_redux.specs.Buffered.{Buffered}
 use Rattle.buffer_redux.specs.BufReader.{FillBuf, ReaderConsumes}
+use Rattle.buffer_redux.specs.LogGrows.{ReadLogGrows-joins}
 use Rattle.buffer_redux.specs.Policy.{ReadRules}
 use Rattle.buffer_redux.specs.ReaderLaws.{FillBuf-along, Fills-empty, ReadsAlong-turn, WantsBytes}
 use Rattle.chunked.specs.declared.error.ChunkedError.TheVariants.{NotChunked, Truncated, Io}
@@ -12,7 +13,7 @@ use Rattle.chunked.specs.declared.error.Malformed.{Malformed}
 use Rattle.chunked.specs.declared.place.Place.{Place}
 use Rattle.chunked.specs.declared.progress.Progress.{Progress}
 use Rattle.chunked.specs.declared.step.Reached.{Reached}
-use Rattle.chunked.specs.Between.{NoFault, Skips, Takes, taken_of}
+use Rattle.chunked.specs.Between.{EndsTaking, NoFault, Skips, Takes, TookLast, taken_of}
 use Rattle.chunked.specs.BetweenLaws.{Takes-still}
 use Rattle.chunked.specs.Place.{Advances, IsPlace, IsSettled, IsWrong, Leads}
 use Rattle.chunked.specs.PlaceLaws.{Leads-joins}
@@ -85,6 +86,16 @@ module _ {S P : Type 0} (remaining : S → Option (List ℕ)) (rules : ReadRules
         pub turn_well : NoFault s t
         turn_well = ap (λ l. l.reads.faults) gone.told ∙ filled_well
 
+        pub turn_took : r.wrong ≡ None → ¬ IsSettled q.place → 0 < length shown.now → EndsTaking rules s t
+        turn_took right goes_on some = record {
+          last = f;
+          grows = ReadLogGrows-joins s.log.reads m.log.reads f.log.reads before.along.grows filled.fills.grows;
+          count = r.taken;
+          some = reached.some goes_on some right;
+          held = omega (arith, reached.within, ap length filled.shown);
+          took = gone;
+        }
+
         -- something is wrong with the next byte
         pub skip_wrong : (why : Malformed) → r.wrong ≡ Some why → Skips remaining rules s p (Err (NotChunked why q'.count)) t q'
         skip_wrong why is =
@@ -110,8 +121,16 @@ module _ {S P : Type 0} (remaining : S → Option (List ℕ)) (rules : ReadRules
               );
             }
 
--- where a payload or nothing comes next, nothing is done
-pub never_settled : {S P : Type 0} (s m : Buffered S P) (p q : Progress) → ((m ≡ s) × (q ≡ p)) ⊎ (¬ IsSettled p.place)
+-- where a payload or nothing comes next, nothing is done; and else something is taken last
+abbrev pub GoesOn : {S P : Type 0} → ReadRules P → Buffered S P → Buffered S P → Progress → Progress → Type 0
+GoesOn rules s m p q = ((m ≡ s) × (q ≡ p)) ⊎ ((¬ IsSettled p.place) × EndsTaking rules s m)
+
+pub never_settled : {S P : Type 0} (rules : ReadRules P) (s m : Buffered S P) (p q : Progress) → GoesOn rules s m p q
     → ¬ IsSettled q.place → ¬ IsSettled p.place
-never_settled s m p q (inl same) not_settled = subst (λ x. ¬ IsSettled x.place) same.1 not_settled
-never_settled s m p q (inr differs) not_settled = differs
+never_settled rules s m p q (inl same) not_settled = subst (λ x. ¬ IsSettled x.place) same.1 not_settled
+never_settled rules s m p q (inr differs) not_settled = differs.0
+
+pub took_last : {S P : Type 0} (rules : ReadRules P) (s m : Buffered S P) (p q : Progress) → GoesOn rules s m p q
+    → TookLast rules s m
+took_last rules s m p q (inl same) = inl same.0
+took_last rules s m p q (inr differs) = inr differs.1

@@ -1,10 +1,10 @@
 -- What a reader of a body does between two payloads: it takes the bytes that are none.
-use Rattle.std.specs.Prelude.{◌≡◌, ◌≢◌, ℕ, ◌<◌, ◌≤◌, ◌⊎◌, List, [], ◌∷◌, ◌++◌, length, take, Option, Result, Ok, Err}
+use Rattle.std.specs.Prelude.{◌≡◌, ◌≢◌, ℕ, zero, suc, ◌+◌, ◌<◌, ◌≤◌, ◌⊎◌, List, [], ◌∷◌, ◌++◌, length, min, take, Option, Result, Ok, Err}
 use Rattle.std.specs.IoError.{error_kind}
 use Rattle.std.specs.declared.io.Error.{Error}
 use Rattle.std.specs.declared.io.ErrorKind.TheVariants.{InvalidData, UnexpectedEof}
 use Rattle.buffer_redux.specs.Buffered.{Buffered}
-use Rattle.buffer_redux.specs.BufReader.{EmptyFillCaused, EmptyReadCaused, PolicyGave, RanDry, ReadsAlong}
+use Rattle.buffer_redux.specs.BufReader.{EmptyFillCaused, EmptyReadCaused, PolicyGave, RanDry, ReaderConsumes, Reads, ReadsAlong}
 use Rattle.buffer_redux.specs.LogGrows.{ReadLogGrows}
 use Rattle.buffer_redux.specs.Policy.{ReadRules}
 use Rattle.buffer_redux.specs.ReaderLaws.{WantsBytes}
@@ -13,7 +13,7 @@ use Rattle.chunked.specs.declared.error.ChunkedError.TheVariants.{NotChunked, Tr
 use Rattle.chunked.specs.declared.error.Malformed.{Malformed}
 use Rattle.chunked.specs.declared.limits.Limits.{Limits}
 use Rattle.chunked.specs.declared.place.Place.{Place}
-use Rattle.chunked.specs.declared.place.Place.TheVariants.{Done}
+use Rattle.chunked.specs.declared.place.Place.TheVariants.{Data, Done}
 use Rattle.chunked.specs.declared.progress.Progress.{Progress}
 use Rattle.chunked.specs.Place.{IsPlace, IsSettled, IsWrong, Leads}
 
@@ -60,6 +60,37 @@ pub record MeetsWrong (limits : Limits) (p : Place) (bytes : List ℕ) (why : Ma
   pub next : bytes ≡ byte ∷ later
   pub name : IsWrong limits p byte why
 
+-- the last call of the buffered reader took some of the bytes that it held
+pub record EndsTaking {S P : Type 0} (rules : ReadRules P) (s t : Buffered S P) : Type 0 where
+  pub last : Buffered S P
+  pub grows : ReadLogGrows s.log.reads last.log.reads
+  pub count : ℕ
+  pub some : 0 < count
+  pub held : count ≤ length last.block.bytes
+  pub took : ReaderConsumes rules count last t
+
+-- none was called, or the last call was such a one: nothing was asked behind what is taken
+abbrev pub TookLast : {S P : Type 0} → ReadRules P → Buffered S P → Buffered S P → Type 0
+TookLast rules s t = (t ≡ s) ⊎ EndsTaking rules s t
+
+-- the last call was a read that handed n bytes out, and had for them all of so much room, or as much of it as the chunk still
+-- had bytes
+pub record EndsReading {S P : Type 0} (rules : ReadRules P) (s : Buffered S P) (room n : ℕ) (t : Buffered S P) (p : Place)
+    : Type 0 where
+  pub last : Buffered S P
+  pub grows : ReadLogGrows s.log.reads last.log.reads
+  pub before : List ℕ
+  pub after : List ℕ
+  pub reads : Reads rules last before (Ok n) after t
+  pub left : ℕ
+  pub place : p ≡ Data left
+  pub offered : length before ≡ min room (left + n)
+
+-- what the last call of the buffered reader was, where n bytes were handed out
+abbrev pub EndsWith : {S P : Type 0} → ReadRules P → Buffered S P → ℕ → ℕ → Buffered S P → Place → Type 0
+EndsWith rules s room zero t p = TookLast rules s t
+EndsWith rules s room (suc n) t p = EndsReading rules s room (suc n) t p
+
 -- why there is no further payload
 abbrev pub FailsSo : {S P : Type 0} → ReadRules P → Buffered S P → ChunkedError → Buffered S P → Progress → Type 0
 FailsSo rules s (NotChunked why count) t q = NoFault s t × (count ≡ q.count) × MeetsWrong q.limits q.place t.block.bytes why
@@ -69,7 +100,7 @@ FailsSo rules s (Io e) t q = Faulted rules s e t
 -- how taking what is no payload ends
 abbrev pub SkipEnds : {S P : Type 0} → ReadRules P → Buffered S P → Result (Unit {0}) ChunkedError → Buffered S P → Progress
     → Type 0
-SkipEnds rules s (Ok _) t q = NoFault s t × IsSettled q.place
+SkipEnds rules s (Ok _) t q = NoFault s t × IsSettled q.place × TookLast rules s t
 SkipEnds rules s (Err e) t q = FailsSo rules s e t q
 
 -- what taking all of that does
@@ -86,7 +117,8 @@ handed_out out (Err e) = []
 
 -- what an answer to a slice of so many bytes says: none of them comes only where the body ended
 abbrev pub ReadEnds : {S P : Type 0} → ReadRules P → Buffered S P → ℕ → Result ℕ ChunkedError → Buffered S P → Progress → Type 0
-ReadEnds rules s room (Ok n) t q = (n ≤ room) × NoFault s t × (n ≡ 0 → 0 < room → q.place ≡ Done)
+ReadEnds rules s room (Ok n) t q =
+    (n ≤ room) × NoFault s t × (n ≡ 0 → 0 < room → q.place ≡ Done) × EndsWith rules s room n t q.place
 ReadEnds rules s room (Err e) t q = FailsSo rules s e t q
 
 -- what handing payload out into a slice, which is left so, does

@@ -11,7 +11,7 @@ use Rattle.chunked.specs.declared.error.Malformed.{Malformed}
 use Rattle.chunked.specs.declared.limits.Limits.{Limits}
 use Rattle.chunked.specs.declared.place.Place.{Place}
 use Rattle.chunked.specs.declared.place.Place.TheVariants.{Line}
-use Rattle.chunked.specs.Between.{BecomesIo, Faulted, NoFault, NothingCame, handed_out}
+use Rattle.chunked.specs.Between.{BecomesIo, EndsWith, Faulted, NoFault, NothingCame, handed_out}
 use Rattle.chunked.specs.Body.{IsBody}
 use Rattle.chunked.specs.Place.{IsPlace, IsWrong, Leads}
 
@@ -71,7 +71,8 @@ pub record EndsEarly {S P : Type 0} (rules : ReadRules P) (s t : Dechunking S P)
 
 -- what each answer to a slice of so many bytes means
 abbrev pub PayloadAnswers : {S P : Type 0} → ReadRules P → Dechunking S P → ℕ → Result ℕ ChunkedError → Dechunking S P → Type 0
-PayloadAnswers rules s room (Ok n) t = (n ≤ room) × NoFault s.reader t.reader × (n ≡ 0 → 0 < room → IsWhole t)
+PayloadAnswers rules s room (Ok n) t =
+    (n ≤ room) × NoFault s.reader t.reader × (n ≡ 0 → 0 < room → IsWhole t) × EndsWith rules s.reader room n t.reader t.place
 PayloadAnswers rules s room (Err (NotChunked why right)) t =
     (right ≡ taken_count t) × NoFault s.reader t.reader × Breaks why t
 PayloadAnswers rules s room (Err (Truncated right)) t =

@@ -170,3 +170,4 @@ pub record Advances (limits : Limits) (p : Place) (shown : List ℕ) (r : Reache
   pub place : IsPlace r.place
   pub wrong : IfSome r.wrong (λ why. (r.taken < length shown) × IsWrong limits r.place (slice_index shown r.taken) why)
   pub all : r.wrong ≡ None → IsSettled r.place ⊎ (r.taken ≡ length shown)
+  pub some : ¬ IsSettled p → 0 < length shown → r.wrong ≡ None → 0 < r.taken

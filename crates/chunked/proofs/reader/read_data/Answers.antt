@@ -1,5 +1,5 @@
-use Rattle.std.proofs.Common.{◌-◌, ◌<◌, ◌≤◌, ◌++◌, drop, take, length, refl, arith}
-use Rattle.std.proofs.lemmas.List.{length-take-le}
+use Rattle.std.proofs.Common.{◌≡◌, ◌-◌, ◌<◌, ◌≤◌, ◌++◌, drop, take, length, length-append, refl, arith}
+use Rattle.std.proofs.lemmas.List.{length-drop, length-take-le}
 use Rattle.std.proofs.lemmas.Result.{err_from_is_err_and}
 use Rattle.chunked.specs.declared.place.Place.TheVariants.{Data}
 use Rattle.chunked.proofs.Handing.{data_fails, data_dry, data_given}
@@ -27,5 +27,10 @@ returns g c =
     record { limits = c.take.ensures.limits; place = c.take.ensures.place; taken = c.take.ensures.taken } in
     let few : c.in_ok-count.count ≤ c.args.left =
     omega (arith, length-take-le c.min-most.result c.args.out.now (omega arith)) in
-    data_given _ _ _ _ _ c.requires.place _ _ read.keeps c.in_ok-count.count c.read.new.out _ _ refl (omega arith) read.bound.0
-    few read.in_order read.caused notes
+    let out = c.args.out.now in
+    let most = c.min-most.result in
+    let fits : length (take most out) ≡ most = length-take-le most out (omega arith) in
+    let whole : length (c.read.new.out ++ drop most out) ≡ length out =
+    omega (arith, length-append c.read.new.out (drop most out), length-drop most out, fits) in
+    data_given _ _ _ _ _ c.requires.place _ _ read.keeps c.in_ok-count.count _ c.read.new.out _ _ refl (omega arith) read.bound.0
+    few read.in_order read.caused notes read.steps (omega (arith, fits, whole))

@@ -1,4 +1,4 @@
-use Rattle.std.proofs.Common.{◌≡◌, [], length, refl, sym, arith}
+use Rattle.std.proofs.Common.{◌≡◌, [], length, inl, refl, sym, arith}
 use Rattle.std.proofs.lemmas.Bool.{eqb-true}
 use Rattle.chunked.specs.BetweenLaws.{Takes-none}
 use Rattle.chunked.proofs.Handing.{HandsOn-after}
@@ -10,10 +10,10 @@ returns-then-is_empty-clause-hands g c =
     record {
       wire = [];
       takes = Takes-none _ _ _ _ c.requires;
-      ends = (omega arith, refl, λ _ room. absurd (omega (arith, room, none)));
+      ends = (omega arith, refl, (λ _ room. absurd (omega (arith, room, none))), inl refl);
     }
 
 pub returns-in-Data-clause-hands : goal.returns-in-Data-clause-hands
 returns-in-Data-clause-hands g c =
-    HandsOn-after _ _ _ _ _ _ c.in_ok-skip.ensures.skips.wire c.in_ok-skip.ensures.skips.takes c.in_ok-skip.ensures.skips.ends.0 _ _ _ _
+    HandsOn-after _ _ _ _ _ _ c.in_ok-skip.ensures.skips.wire c.in_ok-skip.ensures.skips.takes c.in_ok-skip.ensures.skips.ends.0 c.in_ok-skip.ensures.skips.ends.2 _ _ _ _
     c.read_data.ensures

@@ -1,9 +1,9 @@
-use Rattle.std.proofs.Common.{[], ◌++◌, take, inl, inr, refl, sym}
+use Rattle.std.proofs.Common.{[], ◌++◌, take, inl, inr, refl, rules, sym}
 use Rattle.std.proofs.lemmas.Bool.{eqb-true}
 use Rattle.std.proofs.lemmas.Result.{err_from_is_err_and}
 use Rattle.chunked.specs.Place.{IsSettled}
 use Rattle.chunked.specs.BetweenLaws.{Takes-none}
-use Rattle.chunked.proofs.Skipping.{Notes, never_settled, skip_fails, skip_dry, skip_wrong, skip_turn, turn_well}
+use Rattle.chunked.proofs.Skipping.{Notes, never_settled, skip_fails, skip_dry, skip_wrong, skip_turn, turn_took, turn_well}
 use Rattle.chunked.proofs.reader.skip.Goals as goal
 
 pub loop-reader-init : goal.loop-reader-init
@@ -17,7 +17,7 @@ returns-in_err-shown g c =
     let goes_on : ¬ IsSettled c.loop-reader.progress.place = λ settled. (let odd = c.loop-reader-test.ensures.1 settled in cc) in
     rw (p.1, p.2) (record {
       skips = skip_fails _ _ _ _ before.wire _ _ before.takes before.no_fault _ _ filled;
-      still = λ settled. absurd (never_settled _ _ _ _ before.still goes_on settled);
+      still = λ settled. absurd (never_settled _ _ _ _ _ before.still goes_on settled);
     })
 
 pub returns-then-is_empty : goal.returns-then-is_empty
@@ -28,7 +28,7 @@ returns-then-is_empty g c =
     record {
       skips = skip_dry _ _ _ _ before.wire _ _ before.takes before.no_fault _ _ filled
           (eqb-true _ _ (sym c.if-is_empty.ensures)) goes_on;
-      still = λ settled. absurd (never_settled _ _ _ _ before.still goes_on settled);
+      still = λ settled. absurd (never_settled _ _ _ _ _ before.still goes_on settled);
     }
 
 pub returns-in-Some : goal.returns-in-Some
@@ -42,7 +42,7 @@ returns-in-Some g c =
     record {
       skips = skip_wrong _ _ _ _ before.wire _ _ before.takes before.no_fault _ _ filled _ c.advance-reached.ensures _ notes _
           c.consume.ensures.inner c.consume.ensures.consumed _ c.in-Some.is;
-      still = λ settled. absurd (never_settled _ _ _ _ before.still goes_on settled);
+      still = λ settled. absurd (never_settled _ _ _ _ _ before.still goes_on settled);
     }
 
 pub loop-reader-preserved : goal.loop-reader-preserved
@@ -59,5 +59,7 @@ loop-reader-preserved g c =
           c.consume.ensures.inner c.consume.ensures.consumed;
       no_fault = turn_well _ _ _ _ before.wire _ _ before.takes before.no_fault _ _ filled _ c.advance-reached.ensures _ notes _
           c.consume.ensures.inner c.consume.ensures.consumed;
-      still = inr (never_settled _ _ _ _ before.still goes_on);
+      still = inr (never_settled _ _ _ _ _ before.still goes_on,
+          turn_took _ _ _ _ before.wire _ _ before.takes before.no_fault _ _ filled _ c.advance-reached.ensures _ notes _
+          c.consume.ensures.inner c.consume.ensures.consumed (search rules) goes_on (search rules));
     }

@@ -1,4 +1,4 @@
-use Rattle.std.proofs.Common.{◌≤◌, ◌-◌, length, take}
+use Rattle.std.proofs.Common.{◌≡◌, ◌<◌, ◌≤◌, ◌-◌, ◌⊎◌, length, take}
 use Rattle.chunked.specs.Place.{IsPlace, Passes}
 use Rattle.chunked.proofs.step.advance.Given as goal
 
@@ -8,6 +8,7 @@ invariant-loop-taken l = record {
   within : l.taken ≤ length l.shown;
   passes : Passes l.limits l.fn.start (take l.taken l.shown) l.place;
   place : IsPlace l.place;
+  begun : (0 < l.taken) ⊎ (l.place ≡ l.fn.start);
 }
 
 abbrev pub decreases-loop-taken : goal.decreases-loop-taken
