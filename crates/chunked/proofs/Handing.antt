@@ -1,8 +1,8 @@
 -- Payload is handed out, and how that ends.
-use Rattle.std.proofs.Common.{◌≡◌, ℕ, zero, suc, ◌-◌, ◌<◌, ◌≤◌, List, [], ◌∷◌, ◌++◌, length, min, take, Option, Result, Ok, Err, sym, ap, subst, ◌∙◌, arith, inl, inr, refl, length-append}
-use Rattle.std.proofs.lemmas.List.{length-take-le, take-append-le}
+use Rattle.std.proofs.Common.{◌≡◌, ℕ, zero, suc, ◌-◌, ◌<◌, ◌≤◌, ◌⊎◌, List, [], ◌∷◌, ◌++◌, length, min, take, Option, Result, Ok, Err, sym, ap, subst, ◌∙◌, arith, inl, inr, refl, length-append}
+use Rattle.std.proofs.lemmas.List.{length-drop, length-take-le, nil_from_length, take-append-le}
 use Rattle.std.specs.declared.io.Error.{Error}
-use Rattle.buffer_redux.specs.Buffered.{Buffered}
+use Rattle.buffer_redux.specs.Buffered.{Buffered, StaysInside}
 use Rattle.buffer_redux.specs.BufReader.{EmptyReadCaused, RanDry, ReaderKeeps, ReadErrorCaused, Reads, ReadsAlong, ReadsInOrder}
 use Rattle.buffer_redux.specs.LogGrows.{ReadLogGrows, ReadLogGrows-joins, ReadLogGrows-none}
 use Rattle.buffer_redux.specs.Policy.{ReadRules}
@@ -17,6 +17,39 @@ use Rattle.chunked.specs.BetweenLaws.{Takes-joins, Takes-none, Takes-still}
 use Rattle.chunked.specs.Place.{IsPlace, Leads}
 use Rattle.chunked.proofs.PassingOn.{data_payload}
 use Rattle.chunked.proofs.Skipping.{Notes}
+
+either : (a b : ℕ) → (a ≤ b) ⊎ (b < a)
+either zero b = inl (omega arith)
+either (suc a) zero = inr (omega arith)
+either (suc a) (suc b) = elim (either a b) [ inl few ↦ inl (omega (arith, few)) | inr more ↦ inr (omega (arith, more)) ]
+
+-- a read that hands out nothing, though it has room, leaves nothing buffered
+read_nothing : {S P : Type 0} (rules : ReadRules P) (s : Buffered S P) (before after : List ℕ) (t : Buffered S P)
+    → Reads rules s before (Ok 0) after t → 0 < length before → t.block.bytes ≡ []
+read_nothing rules s before after t reads some =
+    let inside : StaysInside s.block (length before) → t.block.bytes ≡ [] = λ stays.
+    let read = reads.buffered stays in
+    let gone = read.handed.1 in
+    nil_from_length t.block.bytes (omega (
+      arith,
+      read.handed.0,
+      some,
+      ap length gone.told_policy.law.bytes,
+      ap length gone.dropped.bytes,
+      length-drop (min 0 (length read.filled.block.bytes)) read.filled.block.bytes,
+    )) in
+    elim (either s.block.capacity (length before)) [
+      | inr short ↦ inside (inr short)
+      | inl long ↦ elim (either (length s.block.bytes) 0) [
+        | inr held ↦ inside (inl held)
+        | inl none ↦
+            nil_from_length t.block.bytes (omega (
+              arith,
+              none,
+              ap (λ b. length b.bytes) (reads.direct (omega (arith, none), long)).block,
+            ))
+      ]
+    ]
 
 module _ {S P : Type 0} (remaining : S → Option (List ℕ)) (rules : ReadRules P) where
   -- what one read does as a stretch
@@ -51,8 +84,9 @@ module _ {S P : Type 0} (remaining : S → Option (List ℕ)) (rules : ReadRules
     }
 
     pub data_dry : ReadsInOrder s [] t → NoFault s t → EmptyReadCaused rules s t
-        → (WantsBytes (rules.claims s.policy) → RanDry s t) → HandsOn remaining rules s p out (Err (Truncated p.count)) t p
-    data_dry order no_fault caused dry = record {
+        → (WantsBytes (rules.claims s.policy) → RanDry s t) → (before after : List ℕ) → Reads rules s before (Ok 0) after t
+        → 0 < length before → HandsOn remaining rules s p out (Err (Truncated p.count)) t p
+    data_dry order no_fault caused dry before after reads some = record {
       wire = [];
       takes = stays order;
       ends = (
@@ -63,6 +97,7 @@ module _ {S P : Type 0} (remaining : S → Option (List ℕ)) (rules : ReadRules
           last = s;
           grows = ReadLogGrows-none s.log.reads;
           caused = inr caused;
+          none = read_nothing rules s before after t reads some;
           dry = λ wants _. dry wants;
         },
       );
@@ -122,6 +157,7 @@ module _ {S P : Type 0} (remaining : S → Option (List ℕ)) (rules : ReadRules
       last = none.last;
       grows = ReadLogGrows-joins s.log.reads m.log.reads none.last.log.reads grows none.grows;
       caused = none.caused;
+      none = none.none;
       dry = λ wants some.
           let dry = none.dry (subst WantsBytes (sym claims) wants) (omega (arith, some, room)) in
           omega (arith, dry, grows.zero_reads);

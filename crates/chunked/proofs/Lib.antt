@@ -7,3 +7,4 @@ pub mod Skipping
 pub mod Handing
 pub mod Payload
 pub mod Alive
+mod Given

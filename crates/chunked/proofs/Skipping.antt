@@ -1,6 +1,6 @@
 -- A turn of taking what is no payload, and how that ends.
 use Rattle.std.proofs.Common.{◌≡◌, ℕ, ◌+◌, ◌<◌, ◌⊎◌, List, [], ◌∷◌, ◌++◌, length, take, drop, min, slice_index, Option, Ok, Err, None, Some, IfSome, sym, ap, subst, ◌∙◌, arith, inl, inr, refl, append_assoc}
-use Rattle.std.proofs.lemmas.List.{drop_more}
+use Rattle.std.proofs.lemmas.List.{drop_more, nil_from_length}
 use Rattle.std.specs.Borrow.{Bor}
 use Rattle.std.specs.declared.io.Error.{Error}
 use Rattle.buffer_redux.specs.Buffered.{Buffered}
@@ -59,6 +59,7 @@ module _ {S P : Type 0} (remaining : S → Option (List ℕ)) (rules : ReadRules
                 last = m;
                 grows = before.along.grows;
                 caused = inl (filled.fills.empty refl empty);
+                none = nil_from_length f.block.bytes empty;
                 dry = λ wants room.
                     let dry = Fills-empty rules m shown f filled.fills (subst WantsBytes (sym before.along.claims) wants)
                     (omega (arith, room, before.along.capacity)) empty in

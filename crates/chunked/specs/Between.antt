@@ -45,12 +45,13 @@ pub record PolicyFailed {S P : Type 0} (rules : ReadRules P) (s : Buffered S P) 
 abbrev pub Faulted : {S P : Type 0} → ReadRules P → Buffered S P → Error → Buffered S P → Type 0
 Faulted rules s e t = (t.log.reads.faults ≡ s.log.reads.faults ++ e ∷ []) ⊎ PolicyFailed rules s e t
 
--- no byte came where one was wanted, for one of the reasons of a fill or a read; under a policy that wants bytes, and with
--- some capacity, that is the end of the stream
+-- nothing is buffered, and no byte came where one was wanted, for one of the reasons of a fill or a read; under a policy that
+-- wants bytes, and with some capacity, that is the end of the stream
 pub record NothingCame {S P : Type 0} (rules : ReadRules P) (s t : Buffered S P) : Type 0 where
   pub last : Buffered S P
   pub grows : ReadLogGrows s.log.reads last.log.reads
   pub caused : EmptyFillCaused rules last t ⊎ EmptyReadCaused rules last t
+  pub none : t.block.bytes ≡ []
   pub dry : WantsBytes (rules.claims s.policy) → 0 < s.block.capacity → RanDry s t
 
 -- the next of these bytes is wrong in this place

@@ -6,3 +6,4 @@ pub mod Between
 pub mod BetweenLaws
 pub mod Dechunking
 pub mod DechunkingLaws
+pub mod Given

@@ -41,6 +41,24 @@ impl fmt::Display for Malformed {
 
 /// Why there is no further payload. Each has the number of bytes of the body that were right, as far as a `u64` counts, but
 /// where the stream failed.
+///
+/// ```
+/// let stream = Told::new(b"5\r\nhello!\r\n".as_slice());
+/// let limits = Limits {
+///     line: 64,
+///     trailers: 4096,
+/// };
+/// let mut body = ChunkedReader::new(BufReader::new(alloc, stream)?, limits);
+/// let mut out = [0; 8];
+/// assert!(rt; matches!(body.read_payload(&mut out), Ok(5)));
+/// let refused = body.read_payload(&mut out);
+/// assert!(rt;
+///     matches!(
+///         refused,
+///         Err(ChunkedError::NotChunked(Malformed::ChunkTooLong, 8))
+///     )
+/// );
+/// ```
 #[derive(Debug, Drop)]
 pub enum ChunkedError {
     /// What comes next is wrong. It stays in the buffered reader, and each further call returns the same.

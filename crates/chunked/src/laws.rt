@@ -3,8 +3,10 @@ ghost use Rattle.std.specs.Prelude.{◌≡◌, ℕ, ◌<◌, List, ◌++◌};
 ghost use Rattle.buffer_redux.specs.Buffered.{Buffered};
 ghost use Rattle.buffer_redux.specs.BufReader.{ReadsAlong};
 ghost use Rattle.chunked.specs.Body.{IsBody};
-ghost use Rattle.chunked.specs.Dechunking.{BodyWent, begun, handed_of};
+ghost use Rattle.chunked.specs.Dechunking.{BodyWent, Breaks, Dechunking, EndsEarly, IsWhole, begun, handed_of};
+ghost use Rattle.chunked.specs.Given.{GivenBody};
 
+use crate::error::Malformed;
 use crate::limits::Limits;
 use crate::reader::ChunkedReader;
 use buffer_redux::policy::ReaderPolicy;
@@ -34,6 +36,26 @@ pub fn taken_begins<R: TellRead, P: ReaderPolicy>(reader: &ChunkedReader<R, P>)
         × IsBody reader.now.limits (reader.now.taken ++ rest) (handed_of reader.now ++ payload) }
     ensures payload { (rest whole : List ℕ) → IsBody reader.now.limits (reader.now.taken ++ rest) whole
         → (payload : List ℕ) × (whole ≡ handed_of reader.now ++ payload) }
+{
+    let _ = reader.get_ref();
+}
+
+/// Where what was buffered at first, and was given since, begins with a body, what was handed out begins its payload. Nothing is
+/// answered as wrong then, nor as missing. And once the body ended all of its payload was handed out, and what is buffered is
+/// what follows the body.
+pub fn given_body<R: TellRead, P: ReaderPolicy>(reader: &ChunkedReader<R, P>)
+    ensures front { (first : Buffered R P) (limits : Limits) (body payload behind handed : List ℕ)
+        → GivenBody R.remaining P.rules first limits body payload behind handed reader.now
+        → (more : List ℕ) × (payload ≡ handed ++ more) }
+    ensures right { (first : Buffered R P) (limits : Limits) (body payload behind handed : List ℕ)
+        → GivenBody R.remaining P.rules first limits body payload behind handed reader.now
+        → (why : Malformed) → ¬ Breaks why reader.now }
+    ensures there { (first : Buffered R P) (limits : Limits) (body payload behind handed : List ℕ)
+        → GivenBody R.remaining P.rules first limits body payload behind handed reader.now
+        → (s : Dechunking R P) → ¬ EndsEarly P.rules s reader.now }
+    ensures all { (first : Buffered R P) (limits : Limits) (body payload behind handed : List ℕ)
+        → GivenBody R.remaining P.rules first limits body payload behind handed reader.now → IsWhole reader.now
+        → (handed ≡ payload) × (reader.now.reader.block.bytes ≡ behind) }
 {
     let _ = reader.get_ref();
 }

@@ -22,7 +22,22 @@ use std::{fmt, io};
 /// A reader of one body, out of a buffered reader of yours. What follows the body stays in that:
 /// [`into_inner`](ChunkedReader::into_inner) hands it back.
 ///
-/// It takes no memory, and asks the buffered reader for nothing once the body ended.
+/// It takes no memory, and asks the buffered reader for nothing behind the payload that a call hands out, nor once the body
+/// ended.
+///
+/// ```
+/// let stream = Told::new(b"5\r\nhello\r\n0\r\n\r\nGET".as_slice());
+/// let limits = Limits {
+///     line: 64,
+///     trailers: 4096,
+/// };
+/// let mut body = ChunkedReader::new(BufReader::new(alloc, stream)?, limits);
+/// let mut out = [0; 8];
+/// assert!(rt; matches!(body.read_payload(&mut out), Ok(5)));
+/// assert!(rt; matches!(body.read_payload(&mut out), Ok(0)));
+/// assert!(rt; body.is_done());
+/// assert_eq!(rt; body.into_inner().buffer(), b"GET".as_slice());
+/// ```
 #[derive(Drop)]
 pub struct ChunkedReader<R: Tell, P = StdPolicy> {
     reader: BufReader<R, P>,

@@ -18,6 +18,7 @@ returns-then-count-eq0 g c =
     let room : 0 < length (take c.min-most.result c.args.out.now) =
     omega (arith, length-take-le c.min-most.result c.args.out.now (omega arith)) in
     data_dry _ _ _ _ _ c.requires.place _ _ read.keeps read.in_order read.caused (read.empty refl room) (read.ran_dry refl room)
+    _ _ read.steps room
 
 pub returns : goal.returns
 returns g c =

@@ -59,7 +59,9 @@ loop-reader-preserved g c =
           c.consume.ensures.inner c.consume.ensures.consumed;
       no_fault = turn_well _ _ _ _ before.wire _ _ before.takes before.no_fault _ _ filled _ c.advance-reached.ensures _ notes _
           c.consume.ensures.inner c.consume.ensures.consumed;
-      still = inr (never_settled _ _ _ _ _ before.still goes_on,
-          turn_took _ _ _ _ before.wire _ _ before.takes before.no_fault _ _ filled _ c.advance-reached.ensures _ notes _
-          c.consume.ensures.inner c.consume.ensures.consumed (search rules) goes_on (search rules));
+      still = inr (
+        never_settled _ _ _ _ _ before.still goes_on,
+        turn_took _ _ _ _ before.wire _ _ before.takes before.no_fault _ _ filled _ c.advance-reached.ensures _ notes _
+            c.consume.ensures.inner c.consume.ensures.consumed (search rules) goes_on (search rules),
+      );
     }
