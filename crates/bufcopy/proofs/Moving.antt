@@ -1,20 +1,22 @@
 -- What a copy between two buffered streams says of the streams inside.
-use Rattle.std.proofs.Common.{◌≡◌, ◌∙◌, ℕ, ◌-◌, ◌^◌, ◌<◌, ◌≤◌, ◌⊎◌, inl, inr, List, Option, Ok, Err, [], ◌++◌, length, refl, sym, ap, subst, append_assoc, append-nil, length-append, arith}
+use Rattle.std.proofs.Common.{◌≡◌, ◌∙◌, ℕ, ◌+◌, ◌-◌, ◌^◌, ◌<◌, ◌≤◌, ◌⊎◌, inl, inr, List, Option, Result, Ok, Err, MatchResult, [], ◌∷◌, ◌++◌, length, length-drop, refl, sym, ap, subst, append_assoc, append-nil, length-append, arith}
 use Rattle.std.proofs.lemmas.List.{append_cancel_left, nil_from_length}
 use Rattle.std.specs.IoError.{error_kind}
 use Rattle.std.specs.declared.io.Error.{Error}
-use Rattle.std.specs.declared.io.ErrorKind.TheVariants.{WriteZero}
+use Rattle.std.specs.declared.io.ErrorKind.TheVariants.{Interrupted, WriteZero}
 use Rattle.buffer_redux.specs.Faults.{TookNothing, TookNothing-after, MetInterrupts, MetInterrupts-joins, OnlyInterrupts, SendErrorCaused, SendErrorCaused-after}
-use Rattle.buffer_redux.specs.StreamLog.{StreamLog, zero_of_some, zero_of_none}
+use Rattle.buffer_redux.specs.StreamLog.{StreamLog, after_flush, zero_of_some, zero_of_none}
+use Rattle.buffer_redux.specs.Transfer.{Sends}
 use Rattle.buffer_redux.specs.Policy.{std_read_rules, std_write_rules}
 use Rattle.buffer_redux.specs.Buffered.{Buffered}
 use Rattle.buffer_redux.specs.BufReader.{ReadsInOrder}
-use Rattle.buffer_redux.specs.BufWriter.{WritesInOrder, IsFlushed}
+use Rattle.buffer_redux.specs.BufWriter.{WritesInOrder, IsFlushed, Flushes}
 use Rattle.buffer_redux.specs.WriterLaws.{WritesInOrder-then}
 use Rattle.buffer_redux.specs.ReaderTells.{reader_log, ReaderWent, FaultsAlike-only, FaultsAlike-fault}
 use Rattle.buffer_redux.specs.WriterTells.{writer_log, TellsFailures, WriterWent, WriterCalled}
-use Rattle.buffer_redux.specs.Copy.{MovedBy, LastWrite, CopyEnded, CopyFailed}
-use Rattle.bufcopy.specs.Copy.{Copied, EitherFailed, IsBeginning, OverTotal}
+use Rattle.buffer_redux.specs.Copy.{MovedBy, LastWrite, CopyEnded, CopyFailed, FaultsRise}
+use Rattle.bufcopy.specs.Copy.{Copied, EitherFailed, IsBeginning, OnlyFlushLeft, InterruptedOften, OverTotal}
+use Rattle.bufcopy.specs.Copy as RunFaults
 
 -- nothing was given, and nothing received
 pub IsBeginning-none : (read written : StreamLog) → IsBeginning read read written written
@@ -180,6 +182,39 @@ module _ {R P W Q : Type 0} {remaining : R → Option (List ℕ)} {stretch : W �
     writer = went'.met (tells_all u.policy) (own_met u v much.copies.writer);
   })
 
+  -- what the copy met of faults, the streams inside met
+  rise_inside : FaultsRise 65 (reader_log s).fills (reader_log t).fills (writer_log u).writes (writer_log v).writes
+      → v.log.writes.zero_writes ≡ u.log.writes.zero_writes → RunFaults.FaultsRise 65 s.log t.log u.log v.log
+  rise_inside rise same =
+      let alike = went.faults refl in
+      omega (
+        arith,
+        rise,
+        same,
+        went'.fails refl,
+        went'.own_grows.zero_writes,
+        ap length alike.first,
+        length-append s.own_calls.fills.faults alike.more,
+        ap length alike.second,
+        length-append s.log.reads.faults alike.more,
+      )
+
+  zero_same : (e : Error) → error_kind e ≡ Interrupted → SendErrorCaused u.log.writes v.log.writes e
+      → v.log.writes.zero_writes ≡ u.log.writes.zero_writes
+  zero_same e is caused = elim caused.cause [ inl nothing ↦ cc | inr fault ↦ fault.zero_writes ]
+
+  pub copy_often : (e : Error)
+      → CopyFailed writer_log (WriterWent stretch std_write_rules) (WriterCalled std_write_rules) e
+      (reader_log s).fills (reader_log t).fills u v
+      → (error_kind e ≡ Interrupted
+      → FaultsRise 65 (reader_log s).fills (reader_log t).fills (writer_log u).writes (writer_log v).writes)
+      → InterruptedOften e s.log t.log u.log v.log
+  copy_often e (inl (inl source)) often is =
+      inl (rise_inside (often is) (went'.met (tells_all u.policy) (own_met u v source.writer)).only.zero_writes)
+  copy_often e (inl (inr target)) often is =
+      inl (rise_inside (often is) (zero_same e is (err_caused stretch u v t.block.bytes e target.last)))
+  copy_often e (inr much) often is = let kind = much.other in cc
+
   module _ (ended : CopyEnded writer_log (WriterWent stretch std_write_rules) (WriterCalled std_write_rules)
       (reader_log s).fills (reader_log t).fills u v) where
     -- bytes are left in the reader
@@ -203,6 +238,64 @@ module _ {R P W Q : Type 0} {remaining : R → Option (List ℕ)} {stretch : W �
         caused = SendErrorCaused-after u.log.writes v.log.writes v'.log.writes e
             (out_met stretch u v t.block.bytes ended.last left went') caused;
       })
+
+      pub flush_often : (total : ℕ)
+          → MovedBy total (reader_log s).fills (reader_log t).fills (writer_log u).writes (writer_log v).writes
+          → 0 < s.block.capacity → (e : Error) → Flushes v (Err e) v' → WritesInOrder v [] v'
+          → InterruptedOften e s.log t.log u.log v'.log
+      flush_often total moved room e flushes in_order is =
+          by_sending flushes.sending (Err e) refl flushes.sends flushes.ended
+        where
+          rise : (interrupts : List Error) → v'.log.writes.faults ≡ v.log.writes.faults ++ interrupts ++ e ∷ []
+              → 64 ≤ length interrupts → RunFaults.FaultsRise 65 s.log t.log u.log v'.log
+          rise interrupts faults many =
+              let before = went'.grows.faults in
+              let alike = went.faults refl in
+              let last : length v'.log.writes.faults ≡ length v.log.writes.faults + (length interrupts + 1) =
+              omega (
+                arith,
+                ap length faults,
+                length-append (v.log.writes.faults ++ interrupts) (e ∷ []),
+                length-append v.log.writes.faults interrupts,
+              ) in
+              let first : length v.log.writes.faults ≡ length (u.log.writes.faults ++ before.more) = ap length before.equal in
+              omega (
+                arith,
+                many,
+                last,
+                first,
+                length-append u.log.writes.faults before.more,
+                ap length alike.second,
+                length-append s.log.reads.faults alike.more,
+              )
+
+          by_sending : (sending answer : Result (Unit {0}) Error) → answer ≡ Err e
+              → Sends (length v.block.bytes) v.block v.log sending v'.block flushes.sent_log
+              → MatchResult sending (λ _. v'.log ≡ after_flush flushes.sent_log answer)
+              (λ d. (answer ≡ Err d) × (v'.log ≡ flushes.sent_log))
+              → RunFaults.FaultsRise 65 s.log t.log u.log v'.log ⊎ OnlyFlushLeft s.log t.log u.log v'.log
+          by_sending (Ok _) answer failed sends ended' =
+              let empty : v'.block.bytes ≡ [] = nil_from_length v'.block.bytes
+              (omega (arith, sends.whole, ap length sends.sent.dropped.bytes, length-drop sends.count v.block.bytes)) in
+              let all = whole s t u v' none none' moved.bytes (handed total moved)
+              (WritesInOrder-then u v v' moved.bytes (passed total moved) in_order)
+              (nil_from_length t.block.bytes left) empty in
+              inr (record {
+                bytes = moved.bytes;
+                given = all.0;
+                received = all.1;
+                ended = omega (arith, went.ends (inl refl) room, ended.ends left);
+              })
+          by_sending (Err d) answer failed sends ended' =
+              let failed' = ended'.0 in
+              let same : e ≡ d = cc in
+              elim sends.failed.cause [
+                | inl nothing ↦ let kind = nothing.is_write_zero in cc
+                | inr fault ↦ inl (rise sends.interrupts
+                    (ap (λ l. l.writes.faults) ended'.1 ∙ fault.faults
+                    ∙ ap (λ x. v.log.writes.faults ++ sends.interrupts ++ x ∷ []) (sym same))
+                    (sends.failed.often (ap error_kind (sym same) ∙ is)))
+              ]
 
       pub flush_copied : (total : ℕ)
           → MovedBy total (reader_log s).fills (reader_log t).fills (writer_log u).writes (writer_log v).writes

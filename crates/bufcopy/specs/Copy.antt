@@ -1,8 +1,8 @@
 -- What a run moves from a reader to a writer.
-use Rattle.std.specs.Prelude.{◌≡◌, ℕ, ◌-◌, ◌^◌, ◌<◌, ◌≤◌, ◌⊎◌, List, [], ◌++◌, length}
+use Rattle.std.specs.Prelude.{◌≡◌, ℕ, ◌+◌, ◌-◌, ◌^◌, ◌<◌, ◌≤◌, ◌⊎◌, List, [], ◌++◌, length}
 use Rattle.std.specs.IoError.{error_kind}
 use Rattle.std.specs.declared.io.Error.{Error}
-use Rattle.std.specs.declared.io.ErrorKind.TheVariants.{Other, OutOfMemory}
+use Rattle.std.specs.declared.io.ErrorKind.TheVariants.{Interrupted, Other, OutOfMemory}
 use Rattle.buffer_redux.specs.Block.{Block}
 use Rattle.buffer_redux.specs.StreamLog.{StreamLog}
 use Rattle.buffer_redux.specs.Faults.{OnlyInterrupts, MetInterrupts, SendErrorCaused}
@@ -48,6 +48,24 @@ pub record OverTotal (e : Error) (read read' written written' : StreamLog) : Typ
   pub large : 2 ^ 64 ≤ length read'.reads.given - length read.reads.given
   pub reader : OnlyInterrupts read.reads.faults read'.reads.faults
   pub writer : MetInterrupts written.writes written'.writes
+
+-- both streams met so many faults and more, both together
+abbrev pub FaultsRise : ℕ → StreamLog → StreamLog → StreamLog → StreamLog → Type 0
+FaultsRise n read read' written written' =
+    length read.reads.faults + length written.writes.faults + n
+    ≤ length read'.reads.faults + length written'.writes.faults
+
+-- all that was given was received, to the reader's end: the writer's own flush was left
+pub record OnlyFlushLeft (read read' written written' : StreamLog) : Type 0 where
+  pub bytes : List ℕ
+  pub given : read'.reads.given ≡ read.reads.given ++ bytes
+  pub received : written'.writes.received ≡ written.writes.received ++ bytes
+  pub ended : read.reads.zero_reads < read'.reads.zero_reads
+
+-- `Interrupted` is answered only where the streams met 65 faults, or by the writer's own flush
+abbrev pub InterruptedOften : Error → StreamLog → StreamLog → StreamLog → StreamLog → Type 0
+InterruptedOften e read read' written written' = error_kind e ≡ Interrupted
+    → FaultsRise 65 read read' written written' ⊎ OnlyFlushLeft read read' written written'
 
 -- a buffer was refused before either stream was called
 abbrev pub BufferRefused : Error → StreamLog → StreamLog → StreamLog → StreamLog → Type 0

@@ -2,7 +2,7 @@
 ghost use Rattle.std.specs.Prelude.{◌≡◌, ◌≢◌, ◌≤◌, ◌⊎◌, IfOk, IfErr, OnOk, OnErr, if◌then◌else◌};
 ghost use Rattle.std.specs.IoError.{error_kind};
 ghost use Rattle.buffer_redux.specs.Block.{Plain, Ring};
-ghost use Rattle.bufcopy.specs.Copy.{IsFresh, EitherFailed, OverTotal, Copied, IsBeginning, RunFailed};
+ghost use Rattle.bufcopy.specs.Copy.{IsFresh, EitherFailed, OverTotal, Copied, InterruptedOften, IsBeginning, RunFailed};
 
 use crate::ending::Ending;
 use crate::settings::GREATEST_CAPACITY;
@@ -27,6 +27,8 @@ pub fn run<R: TellRead, W: TellWrite>(
         Copied total (R.log reader) (R.log result.1) (W.log writer) (W.log result.2)) }
     ensures caused { IfErr result.0 (λ e.
         RunFailed e (R.log reader) (R.log result.1) (W.log writer) (W.log result.2)) }
+    ensures often { IfErr result.0 (λ e.
+        InterruptedOften e (R.log reader) (R.log result.1) (W.log writer) (W.log result.2)) }
     ensures a_beginning { IsBeginning (R.log reader) (R.log result.1) (W.log writer) (W.log result.2) }
     ensures not_flushed { OnErr result.0 ((W.log result.2).writes.flushed ≡ (W.log writer).writes.flushed) }
 {
@@ -101,6 +103,8 @@ fn copy_all<R: TellRead, W: TellWrite>(
     ensures caused { IfErr result (λ e.
         EitherFailed e source.old.log source.new.log target.old.log target.new.log
         ⊎ OverTotal e source.old.log source.new.log target.old.log target.new.log) }
+    ensures often { IfErr result (λ e.
+        InterruptedOften e source.old.log source.new.log target.old.log target.new.log) }
     ensures a_beginning { IsBeginning source.old.log source.new.log target.old.log target.new.log }
     ensures not_flushed { OnErr result (target.new.log.writes.flushed ≡ target.old.log.writes.flushed) }
 {

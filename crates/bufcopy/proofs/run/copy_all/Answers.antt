@@ -1,6 +1,6 @@
 use Rattle.std.proofs.Common.{inl, arith}
 use Rattle.std.proofs.lemmas.Result.{err_from_is_err_and}
-use Rattle.bufcopy.proofs.Moving.{copy_begins, flush_begins, copy_caused, left_caused, flush_caused, flush_copied}
+use Rattle.bufcopy.proofs.Moving.{copy_begins, flush_begins, copy_caused, copy_often, flush_often, left_caused, flush_caused, flush_copied}
 use Rattle.bufcopy.proofs.run.copy_all.Goals as goal
 
 pub returns-in_err-total-clause-caused : goal.returns-in_err-total-clause-caused
@@ -8,6 +8,14 @@ returns-in_err-total-clause-caused g c =
     let p = err_from_is_err_and c.from_residual.result c.from_residual.ensures.1 in
     let copy = c.in_err-total.ensures in
     rw (p.1, p.2) (copy_caused copy.reader copy.writer c.requires.source.bytes c.requires.target.bytes _ copy.copied.failed)
+
+pub returns-in_err-total-clause-often : goal.returns-in_err-total-clause-often
+returns-in_err-total-clause-often g c =
+    let p = err_from_is_err_and c.from_residual.result c.from_residual.ensures.1 in
+    let copy = c.in_err-total.ensures in
+    rw (p.1, p.2)
+    (copy_often copy.reader copy.writer c.requires.source.bytes c.requires.target.bytes _ copy.copied.failed
+    copy.copied.often)
 
 pub returns-in_err-total-clause-a_beginning : goal.returns-in_err-total-clause-a_beginning
 returns-in_err-total-clause-a_beginning g c =
@@ -35,6 +43,16 @@ returns-in_err-flush-clause-caused g c =
     (flush_caused copy.reader copy.writer c.requires.source.bytes c.requires.target.bytes copy.copied.ended
     (omega (arith, c.if-buf_len-gt0.false, c.buf_len.ensures.value)) c.flush.new.self _
     c.in_err-flush.ensures.flushed.caused))
+
+pub returns-in_err-flush-clause-often : goal.returns-in_err-flush-clause-often
+returns-in_err-flush-clause-often g c =
+    let p = err_from_is_err_and c.from_residual-in_err-flush.result c.from_residual-in_err-flush.ensures.1 in
+    let copy = c.in_ok-total.ensures in
+    let flushed = c.in_err-flush.ensures.flushed in
+    rw (p.1, p.2)
+    (flush_often copy.reader copy.writer c.requires.source.bytes c.requires.target.bytes copy.copied.ended
+    (omega (arith, c.if-buf_len-gt0.false, c.buf_len.ensures.value)) c.flush.new.self _ copy.copied.moved
+    (omega (arith, c.requires.source.capacity)) _ flushed.steps flushed.in_order)
 
 pub returns-in_err-flush-clause-a_beginning : goal.returns-in_err-flush-clause-a_beginning
 returns-in_err-flush-clause-a_beginning g c =
