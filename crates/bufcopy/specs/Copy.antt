@@ -1,5 +1,5 @@
 -- What a run moves from a reader to a writer.
-use Rattle.std.specs.Prelude.{◌≡◌, ℕ, ◌+◌, ◌-◌, ◌^◌, ◌<◌, ◌≤◌, ◌⊎◌, List, [], ◌++◌, length}
+use Rattle.std.specs.Prelude.{◌≡◌, ◌≢◌, ℕ, ◌+◌, ◌-◌, ◌^◌, ◌<◌, ◌≤◌, ◌⊎◌, List, [], ◌++◌, length}
 use Rattle.std.specs.IoError.{error_kind}
 use Rattle.std.specs.declared.io.Error.{Error}
 use Rattle.std.specs.declared.io.ErrorKind.TheVariants.{Interrupted, Other, OutOfMemory}
@@ -7,6 +7,8 @@ use Rattle.buffer_redux.specs.Block.{Block}
 use Rattle.buffer_redux.specs.StreamLog.{StreamLog}
 use Rattle.buffer_redux.specs.Faults.{OnlyInterrupts, MetInterrupts, SendErrorCaused}
 use Rattle.buffer_redux.specs.Copy.{SourceFailed}
+use Rattle.bufcopy.specs.declared.ending.Ending.{Ending}
+use Rattle.bufcopy.specs.declared.ending.Ending.TheVariants.{Done, Failed, Usage, Memory}
 
 -- a buffer that was just made, of this capacity at least
 pub record IsFresh (cap : ℕ) (b : Block) : Type 0 where
@@ -77,3 +79,18 @@ abbrev pub RunFailed : Error → StreamLog → StreamLog → StreamLog → Strea
 RunFailed e read read' written written' =
     EitherFailed e read read' written written'
     ⊎ (BufferRefused e read read' written written' ⊎ OverTotal e read read' written written')
+
+-- a run failed with this error, and flushed nothing
+pub record RunStopped (e : Error) (read read' written written' : StreamLog) : Type 0 where
+  pub caused : RunFailed e read read' written written'
+  pub often : InterruptedOften e read read' written written'
+  pub not_flushed : written'.writes.flushed ≡ written.writes.flushed
+
+-- what a run did that ended so
+abbrev pub RunEnded : Ending → StreamLog → StreamLog → StreamLog → StreamLog → Type 0
+RunEnded Done read read' written written' = (total : ℕ) × Copied total read read' written written'
+RunEnded Failed read read' written written' =
+    (e : Error) × (error_kind e ≢ OutOfMemory) × RunStopped e read read' written written'
+RunEnded Usage read read' written written' = (read' ≡ read) × (written' ≡ written)
+RunEnded Memory read read' written written' =
+    (e : Error) × (error_kind e ≡ OutOfMemory) × RunStopped e read read' written written'

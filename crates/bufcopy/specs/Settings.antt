@@ -32,3 +32,9 @@ pub record AskFor (words : List (List ℕ)) (ring : Bool) (capacity : ℕ) : Typ
   pub all : words ≡ first ++ last
   pub buffer : AskForBuffer first ring
   pub room : AskForCapacity last capacity
+
+-- the words ask for something that the program knows
+pub record Asks (words : List (List ℕ)) : Type 0 where
+  pub ring : Bool
+  pub capacity : ℕ
+  pub ask : AskFor words ring capacity

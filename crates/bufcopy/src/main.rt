@@ -22,17 +22,13 @@ fn outcome(rt: &HostRuntime) -> Ending {
         Ok(words) => words,
         Err(e) => return run::ending(&Err(e.into())),
     };
-    let Some((ring, cap)) = settings::settings(words.as_slice()) else {
-        return Ending::Usage;
-    };
-    let (answer, _, _) = run::run(
+    let (ended, _, _) = run::run_asked(
         rt.alloc(),
-        ring,
-        cap,
+        words.as_slice(),
         Told::new(rt.stdin()),
         Told::new(rt.stdout()),
     );
-    run::ending(&answer)
+    ended
 }
 
 fn main(rt: HostRuntime) -> ExitCode {

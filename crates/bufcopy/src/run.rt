@@ -1,11 +1,12 @@
 //! The copy itself, over any two streams that tell.
-ghost use Rattle.std.specs.Prelude.{◌≡◌, ◌≢◌, ◌≤◌, ◌⊎◌, IfOk, IfErr, OnOk, OnErr, if◌then◌else◌};
+ghost use Rattle.std.specs.Prelude.{◌≡◌, ◌≢◌, ◌≤◌, ◌⊎◌, ◌↔◌, map, string_bytes, IfOk, IfErr, OnOk, OnErr, if◌then◌else◌};
 ghost use Rattle.std.specs.IoError.{error_kind};
+ghost use Rattle.bufcopy.specs.Settings.{Asks};
 ghost use Rattle.buffer_redux.specs.Block.{Plain, Ring};
-ghost use Rattle.bufcopy.specs.Copy.{IsFresh, EitherFailed, OverTotal, Copied, InterruptedOften, IsBeginning, RunFailed};
+ghost use Rattle.bufcopy.specs.Copy.{IsFresh, EitherFailed, OverTotal, Copied, InterruptedOften, IsBeginning, RunEnded, RunFailed};
 
 use crate::ending::Ending;
-use crate::settings::GREATEST_CAPACITY;
+use crate::settings::{GREATEST_CAPACITY, settings};
 use buffer_redux::tell::{TellRead, TellWrite};
 use buffer_redux::{BufReader, BufWriter, GrowError, MakeError, copy_buf};
 use std::alloc::Global;
@@ -114,6 +115,25 @@ fn copy_all<R: TellRead, W: TellWrite>(
     }
     target.flush()?;
     Ok(total)
+}
+
+/// Copies as these words ask for, which stand behind the program's name. Where they ask for nothing that it knows, neither
+/// stream is called.
+pub fn run_asked<R: TellRead, W: TellWrite>(
+    alloc: Global,
+    words: &[String],
+    reader: R,
+    writer: W,
+) -> (Ending, R, W)
+    ensures usage { (result.0 ≡ Ending.Usage) ↔ ¬ Asks (map string_bytes words.now) }
+    ensures ended { RunEnded result.0 (R.log reader) (R.log result.1) (W.log writer) (W.log result.2) }
+    ensures a_beginning { IsBeginning (R.log reader) (R.log result.1) (W.log writer) (W.log result.2) }
+{
+    let Some((ring, cap)) = settings(words) else {
+        return (Ending::Usage, reader, writer);
+    };
+    let (answer, reader, writer) = run(alloc, ring, cap, reader, writer);
+    (ending(&answer), reader, writer)
 }
 
 /// How a run ends that returned this.
