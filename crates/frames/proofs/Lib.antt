@@ -1,5 +1,6 @@
 pub mod FirstLine
 pub mod Faring
+pub mod PackEnd
 pub mod Packing
 pub mod PackingAll
 pub mod PackRuns

@@ -1,11 +1,11 @@
 -- What the steps of `pack` come to.
-use Rattle.std.proofs.Common.{◌≡◌, ℕ, ◌+◌, ◌<◌, ◌≤◌, ◌⊎◌, inl, inr, true, false, List, [], ◌∷◌, ◌++◌, length, take, drop, ltb, min, Ok, Err, refl, sym, ap, subst, ◌∙◌, arith, append-nil, append_assoc, length-append, length-drop}
+use Rattle.std.proofs.Common.{◌≡◌, ℕ, ◌+◌, ◌<◌, ◌≤◌, inl, inr, Bool, true, false, List, [], ◌∷◌, ◌++◌, length, take, drop, ltb, min, Ok, Err, refl, sym, ap, subst, ◌∙◌, arith, append-nil, append_assoc, length-append, length-drop}
 use Rattle.std.proofs.Math.Seq.{take-append_seam, take-length}
-use Rattle.std.proofs.lemmas.Bool.{lt-ltb, le-ltb}
+use Rattle.std.proofs.lemmas.Bool.{lt-ltb, le-ltb, true≢false}
 use Rattle.std.proofs.lemmas.List.{nil_from_length}
 use Rattle.std.proofs.lemmas.List.Elements.{All-nil}
 use Rattle.std.specs.declared.io.Error.{Error}
-use Rattle.buffer_redux.specs.BufReader.{ReadsInOrder, RanDry}
+use Rattle.buffer_redux.specs.BufReader.{ReadsInOrder}
 use Rattle.buffer_redux.specs.Buffered.{Buffered}
 use Rattle.buffer_redux.specs.LogGrows.{ReadLogGrows, ReadLogGrows-none, ReadLogGrows-joins}
 use Rattle.buffer_redux.specs.ReaderLaws.{ReadsInOrder-none, ReadsInOrder-joins}
@@ -17,8 +17,9 @@ use Rattle.frame_reader.specs.declared.error.WriteFrameError.{WriteFrameError}
 use Rattle.frame_reader.specs.declared.error.WriteFrameError.TheVariants as Unwritten
 use Rattle.frames.specs.declared.error.RunError.TheVariants.{Io}
 use Rattle.frames.specs.Lines.{newline, IsFirstLine, last_line, BeginsLong}
-use Rattle.frames.specs.Pack.{IsLineSource, Packs, NoneFailed, PacksNext, of_write_error}
+use Rattle.frames.specs.Pack.{IsLineSource, IsReady, Packs, NoneFailed, PacksNext, of_write_error}
 use Rattle.frames.proofs.Faring.{MetInterrupts-none}
+use Rattle.frames.proofs.FirstLine.{shorter_ends}
 
 -- a line with its end at the front of bytes
 front_line : (line more bytes : List ℕ) → bytes ≡ line ++ newline ∷ more
@@ -91,18 +92,14 @@ module _ {R W : Type 0} (stretch : W → W → Type 0) (none : (x : W) → stret
         → PacksNext stretch s u (Err (Io e)) m u
     fill_failed e fault = (filled, inl (record { reader = fault; writer = MetInterrupts-none u.writer.log.writes }))
 
-    module _ (no_fault : m.log.reads.faults ≡ s.log.reads.faults)
-        (enough : (s.policy.0 ≤ length m.block.bytes) ⊎ RanDry s m) where
-      dry : length m.block.bytes ≤ u.max → RanDry s m
-      dry few = elim enough [ inl many ↦ absurd (omega (arith, many, source.ahead, few)) | inr is ↦ is ]
-
+    module _ (no_fault : m.log.reads.faults ≡ s.log.reads.faults) where
       pub no_line : length m.block.bytes ≡ 0 → PacksNext stretch s u (Ok false) m u
       no_line empty = record {
         last = [];
         plain = All-nil (λ byte. ¬ (byte ≡ newline));
         went = filled;
         met = record { reader = no_fault; writer = MetInterrupts-none u.writer.log.writes };
-        end = record { left = nil_from_length m.block.bytes empty; dry = dry (omega (arith, empty)) };
+        left = nil_from_length m.block.bytes empty;
       }
 
       module _ (line : List ℕ) (first : IsFirstLine m.block.bytes line) where
@@ -160,16 +157,23 @@ module _ {R W : Type 0} (stretch : W → W → Type 0) (none : (x : W) → stret
                 went = subst (λ l. Packs stretch s u l (last_line line) t v) all
                     (subst (λ ls. Packs stretch s u (take amount m.block.bytes) ls t v) (sym (last_line_some line some)) went);
                 met = met;
-                end = record {
-                  left = nil_from_length t.block.bytes
-                      (omega (arith, ap length left, length-drop amount m.block.bytes, ap length is, count));
-                  dry = omega (
-                    arith,
-                    dry (omega (arith, wrote.answers.0, ap length is)),
-                    ap (λ l. l.reads.zero_reads) told,
-                  );
-                };
+                left = nil_from_length t.block.bytes
+                    (omega (arith, ap length left, length-drop amount m.block.bytes, ap length is, count));
               }
+
+          -- where no end of a line is there, the reader had ended
+          pub end_known : (end : Bool) → IsReady s.policy.0 end m.block.bytes
+              → ltb (length line) (length m.block.bytes) ≡ false → end ≡ true
+          end_known end ready isnt = elim ready [
+            | inl shows ↦ absurd (true≢false (sym (lt-ltb (length line) (length m.block.bytes)
+                (shorter_ends m.block.bytes line first shows)) ∙ isnt))
+            | inr (inl many) ↦ elim first.1 [
+              | inl same ↦ absurd (omega (arith, many, source.ahead, wrote.answers.0, ap length same))
+              | inr (more, same) ↦ absurd (true≢false (sym (lt-ltb (length line) (length m.block.bytes)
+                  (omega (arith, ap length same, length-append line (newline ∷ more)))) ∙ isnt))
+            ]
+            | inr (inr is) ↦ is
+          ]
 
           pub line_done : 0 < length m.block.bytes → amount ≡ min (length m.block.bytes) (length line + 1)
               → PacksNext stretch s u (Ok (ltb (length line) (length m.block.bytes))) t v

@@ -6,6 +6,7 @@ use Rattle.std.specs.IoError.{error_kind}
 use Rattle.std.specs.List.{All}
 use Rattle.std.specs.declared.io.Error.{Error}
 use Rattle.std.specs.declared.io.ErrorKind.TheVariants.{Other}
+use Rattle.buffer_redux.specs.BufReader.{RanDry}
 use Rattle.buffer_redux.specs.Buffered.{Buffered}
 use Rattle.buffer_redux.specs.declared.policy.MinBuffered.{MinBuffered}
 use Rattle.frame_reader.specs.Outgoing.{Outgoing}
@@ -75,8 +76,8 @@ module _ {R W : Type 0} (stretch : W → W → Type 0) (none : (x : W) → stret
       met = met_too one.met;
     }
 
-    pub all_done : PacksLast stretch m w t v → PacksAll stretch s u (Ok tt) t v
-    all_done one = (
+    pub all_done : RanDry s t → PacksLast stretch m w t v → PacksAll stretch s u (Ok tt) t v
+    all_done dry one = (
       record {
         text = ended before.lines ++ one.last;
         lines = before.lines ++ last_line one.last;
@@ -90,7 +91,7 @@ module _ {R W : Type 0} (stretch : W → W → Type 0) (none : (x : W) → stret
         went = Packs-joins stretch none joins s m t u w v (ended before.lines) one.last before.lines (last_line one.last)
             before.went one.went;
       },
-      record { left = one.end.left; dry = omega (arith, before.went.grows.zero_reads, one.end.dry) },
+      record { left = one.left; dry = dry },
       met_too one.met,
     )
 

@@ -10,6 +10,10 @@ newline = 10
 abbrev pub IsLine : List ℕ → Type 0
 IsLine line = All (λ byte. ¬ (byte ≡ newline)) line
 
+-- one of the bytes ends a line
+abbrev pub ShowsEnd : List ℕ → Type 0
+ShowsEnd bytes = ¬ IsLine bytes
+
 -- the line that bytes begin with: all of them, or those before the first end
 abbrev pub IsFirstLine : List ℕ → List ℕ → Type 0
 IsFirstLine bytes line = IsLine line × ((bytes ≡ line) ⊎ ((more : List ℕ) × (bytes ≡ line ++ newline ∷ more)))

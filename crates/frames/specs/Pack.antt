@@ -5,7 +5,7 @@ use Rattle.std.specs.declared.io.Error.{Error}
 use Rattle.buffer_redux.specs.BufReader.{ReadsInOrder, RanDry}
 use Rattle.buffer_redux.specs.Buffered.{Buffered}
 use Rattle.buffer_redux.specs.LogGrows.{ReadLogGrows}
-use Rattle.buffer_redux.specs.StreamLog.{StreamLog}
+use Rattle.buffer_redux.specs.StreamLog.{StreamLog, ReadLog}
 use Rattle.buffer_redux.specs.declared.policy.MinBuffered.{MinBuffered}
 use Rattle.frame_reader.specs.Frames.{Fits, frames}
 use Rattle.frame_reader.specs.Outgoing.{Outgoing, unsent}
@@ -14,7 +14,7 @@ use Rattle.frame_reader.specs.declared.error.WriteFrameError.{WriteFrameError}
 use Rattle.frame_reader.specs.declared.error.WriteFrameError.TheVariants as Unwritten
 use Rattle.frames.specs.declared.error.RunError.{RunError}
 use Rattle.frames.specs.declared.error.RunError.TheVariants.{TooLong, Truncated, Io}
-use Rattle.frames.specs.Lines.{newline, IsLine, ended, last_line, HasLines, BeginsLong}
+use Rattle.frames.specs.Lines.{newline, IsLine, ShowsEnd, ended, last_line, HasLines, BeginsLong}
 use Rattle.frames.specs.Streams.{MetNoFault, EitherFailed, Stopped, BufferRefused, GaveNothing, AllFlushed}
 
 -- why a run failed in which a frame could not be written
@@ -53,6 +53,20 @@ pub record NothingLeft {R : Type 0} (s t : Buffered R MinBuffered) : Type 0 wher
   pub left : t.block.bytes ≡ []
   pub dry : RanDry s t
 
+-- what is known of the reader's end over some calls: once it has ended it isn't called, and it ends by one answer
+pub record KnowsEnd (ended : Bool) (old : ReadLog) (ended' : Bool) (new : ReadLog) : Type 0 where
+  pub quiet : ended ≡ true → (new ≡ old) × (ended' ≡ true)
+  pub more : ended' ≡ false → new.zero_reads ≡ old.zero_reads
+  pub ends : ended ≡ false → ended' ≡ true → new.zero_reads ≡ old.zero_reads + 1
+
+-- an end of a line is among the bytes, or there are so many, or no more come
+abbrev pub IsReady : ℕ → Bool → List ℕ → Type 0
+IsReady most ended bytes = ShowsEnd bytes ⊎ ((most ≤ length bytes) ⊎ (ended ≡ true))
+
+-- a reader gave nothing once at most
+abbrev pub EndsOnce : ReadLog → ReadLog → Type 0
+EndsOnce old new = new.zero_reads ≤ old.zero_reads + 1
+
 -- what was left was the last line, or nothing
 pub record PacksLast {R W : Type 0} (stretch : W → W → Type 0) (s : Buffered R MinBuffered) (u : Outgoing W)
     (t : Buffered R MinBuffered) (v : Outgoing W) : Type 0 where
@@ -60,7 +74,7 @@ pub record PacksLast {R W : Type 0} (stretch : W → W → Type 0) (s : Buffered
   pub plain : IsLine last
   pub went : Packs stretch s u last (last_line last) t v
   pub met : NoneFailed s u t v
-  pub end : NothingLeft s t
+  pub left : t.block.bytes ≡ []
 
 -- what one call did that makes the next line a frame, and answers whether its end was there
 abbrev pub PacksNext : {R W : Type 0} → (W → W → Type 0) → Buffered R MinBuffered → Outgoing W

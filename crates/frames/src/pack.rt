@@ -1,9 +1,9 @@
 //! Lines made frames, over any two streams that tell.
-ghost use Rattle.std.specs.Prelude.{◌≡◌, ◌≤◌, ◌⊎◌, [], ◌∷◌, ◌++◌, length, take, drop, IfOk, IfErr, OnOk};
-ghost use Rattle.buffer_redux.specs.BufReader.{ReadsInOrder, RanDry};
+ghost use Rattle.std.specs.Prelude.{◌≡◌, ◌≤◌, ◌↔◌, ◌+◌, [], ◌∷◌, ◌++◌, length, take, drop, true, false, Ok, IsTrue, IfOk, IfErr, OnOk, OnErr};
+ghost use Rattle.buffer_redux.specs.BufReader.{ReadsInOrder};
 ghost use Rattle.buffer_redux.specs.LogGrows.{ReadLogGrows};
-ghost use Rattle.frames.specs.Lines.{IsFirstLine};
-ghost use Rattle.frames.specs.Pack.{IsLineSource, PacksNext, PacksAll, PacksAndFlushes, PackRan};
+ghost use Rattle.frames.specs.Lines.{IsFirstLine, ShowsEnd};
+ghost use Rattle.frames.specs.Pack.{IsLineSource, IsReady, KnowsEnd, EndsOnce, PacksNext, PacksAll, PacksAndFlushes, PackRan};
 
 use crate::error::{RunError, is_fault};
 use buffer_redux::policy::MinBuffered;
@@ -18,14 +18,15 @@ use std::io::{BufRead, ErrorKind};
 /// Makes each line that `reader` gives a frame, and sends the frames to `writer`. What stands behind the last line's end is
 /// a line too. A line of more than `most` bytes ends the run; the frames of the lines before it are sent then.
 ///
-/// Both streams come back, also after a fault.
+/// Both streams come back, also after a fault. Once the reader has given nothing it isn't called again.
 pub fn pack<R: TellRead, W: TellWrite>(
     alloc: Global,
     most: u16,
     reader: R,
     writer: W,
 ) -> (Result<(), RunError>, R, W)
-    ensures { PackRan most (R.log reader) (R.log result.1) (W.log writer) (W.log result.2) result.0 }
+    ensures ran { PackRan most (R.log reader) (R.log result.1) (W.log writer) (W.log result.2) result.0 }
+    ensures once { EndsOnce (R.log reader).reads (R.log result.1).reads }
 {
     let mut source = match line_source(alloc, most, reader) {
         Ok(source) => source,
@@ -66,7 +67,8 @@ fn pack_all<R: TellRead, W: TellWrite>(
     target: &mut FrameWriter<W>,
 ) -> Result<(), RunError>
     requires { IsLineSource target.old.max source.old }
-    ensures { PacksAndFlushes W.stretch source.old target.old result source.new target.new }
+    ensures packs { PacksAndFlushes W.stretch source.old target.old result source.new target.new }
+    ensures once { EndsOnce source.old.log.reads source.new.log.reads }
 {
     let answer = pack_lines(source, target);
     if is_fault(&answer) {
@@ -82,25 +84,32 @@ fn pack_lines<R: TellRead, W: TellWrite>(
     target: &mut FrameWriter<W>,
 ) -> Result<(), RunError>
     requires { IsLineSource target.old.max source.old }
-    ensures { PacksAll W.stretch source.old target.old result source.new target.new }
+    ensures packs { PacksAll W.stretch source.old target.old result source.new target.new }
+    ensures once { EndsOnce source.old.log.reads source.new.log.reads }
 {
+    let mut ended = false;
     for _ in 0..u64::MAX {
-        if !pack_line(source, target)? {
+        if !pack_line(source, target, &mut ended)? {
             return Ok(());
         }
     }
     Err(io::Error::from(ErrorKind::Other).into())
 }
 
-// Makes the next line a frame, and returns whether its end was there.
+// Makes the next line a frame, and returns whether its end was there. The reader isn't called where a whole line is
+// buffered, nor once it has ended.
 fn pack_line<R: TellRead, W: TellWrite>(
     source: &mut BufReader<R, MinBuffered>,
     target: &mut FrameWriter<W>,
+    ended: &mut bool,
 ) -> Result<bool, RunError>
     requires { IsLineSource target.old.max source.old }
-    ensures { PacksNext W.stretch source.old target.old result source.new target.new }
+    ensures packs { PacksNext W.stretch source.old target.old result source.new target.new }
+    ensures knows { KnowsEnd ended.old source.old.log.reads ended.new source.new.log.reads }
+    ensures end { result ≡ Ok false → IsTrue ended.new }
+    ensures unasked { ShowsEnd source.old.block.bytes → source.new.log ≡ source.old.log }
 {
-    fill(source)?;
+    ready(source, ended)?;
     if source.buf_len() == 0 {
         return Ok(false);
     }
@@ -113,8 +122,9 @@ fn pack_line<R: TellRead, W: TellWrite>(
     Ok(ends)
 }
 
-// Reads until there are as many bytes as the policy wants.
-fn fill<R: TellRead>(source: &mut BufReader<R, MinBuffered>) -> io::Result<()>
+// Reads until there are as many bytes as the policy wants, but not where a whole line is buffered, nor once the reader has
+// ended.
+fn ready<R: TellRead>(source: &mut BufReader<R, MinBuffered>, ended: &mut bool) -> io::Result<()>
     requires ahead { source.old.policy.0 ≤ source.old.block.capacity }
     ensures in_order { ReadsInOrder source.old [] source.new }
     ensures grows { ReadLogGrows source.old.log.reads source.new.log.reads }
@@ -122,11 +132,34 @@ fn fill<R: TellRead>(source: &mut BufReader<R, MinBuffered>) -> io::Result<()>
     ensures capacity { source.old.block.capacity ≤ source.new.block.capacity }
     ensures no_fault { OnOk result (source.new.log.reads.faults ≡ source.old.log.reads.faults) }
     ensures fault { IfErr result (λ e. source.new.log.reads.faults ≡ source.old.log.reads.faults ++ e ∷ []) }
-    ensures enough { OnOk result ((source.old.policy.0 ≤ length source.new.block.bytes)
-        ⊎ RanDry source.old source.new) }
+    ensures knows { KnowsEnd ended.old source.old.log.reads ended.new source.new.log.reads }
+    ensures enough { OnOk result (IsReady source.old.policy.0 ended.new source.new.block.bytes) }
+    ensures unasked { ShowsEnd source.old.block.bytes → source.new.log ≡ source.old.log }
 {
-    let _ = source.fill_buf()?;
+    if *ended || shows_end(source.buffer()) {
+        return Ok(());
+    }
+    *ended = fill(source)?;
     Ok(())
+}
+
+// Reads until there are as many bytes as the policy wants, and returns whether the reader ended before.
+fn fill<R: TellRead>(source: &mut BufReader<R, MinBuffered>) -> io::Result<bool>
+    requires ahead { source.old.policy.0 ≤ source.old.block.capacity }
+    ensures in_order { ReadsInOrder source.old [] source.new }
+    ensures grows { ReadLogGrows source.old.log.reads source.new.log.reads }
+    ensures policy { source.new.policy ≡ source.old.policy }
+    ensures capacity { source.old.block.capacity ≤ source.new.block.capacity }
+    ensures no_fault { OnOk result (source.new.log.reads.faults ≡ source.old.log.reads.faults) }
+    ensures fault { IfErr result (λ e. source.new.log.reads.faults ≡ source.old.log.reads.faults ++ e ∷ []) }
+    ensures enough { result ≡ Ok false → source.old.policy.0 ≤ length source.new.block.bytes }
+    ensures more { result ≡ Ok false → source.new.log.reads.zero_reads ≡ source.old.log.reads.zero_reads }
+    ensures ended { result ≡ Ok true → source.new.log.reads.zero_reads ≡ source.old.log.reads.zero_reads + 1 }
+    ensures failed { OnErr result (source.new.log.reads.zero_reads ≡ source.old.log.reads.zero_reads) }
+{
+    let wanted = source.policy().0;
+    let shown = source.fill_buf()?.len();
+    Ok(shown < wanted)
 }
 
 // Drops the first bytes that are buffered.
@@ -139,6 +172,13 @@ fn drop_first<R: TellRead>(source: &mut BufReader<R, MinBuffered>, amount: usize
     ensures capacity { source.old.block.capacity ≤ source.new.block.capacity }
 {
     source.consume(amount);
+}
+
+// Whether an end of a line is among the bytes.
+fn shows_end(bytes: &[u8]) -> bool
+    ensures { IsTrue result ↔ ShowsEnd bytes.now }
+{
+    first_line(bytes).len() < bytes.len()
 }
 
 // The bytes before the first end of a line, or all where there is none.

@@ -219,6 +219,22 @@ fn takes_the_longest(rt: HostRuntime) -> Result<(), Fail> {
     Ok(())
 }
 
+// Lines that are buffered whole cost no read, and a reader that gave nothing isn't called again.
+#[test]
+fn asks_no_more_than_it_needs(rt: HostRuntime) -> Result<(), Fail> {
+    let alloc = rt.alloc();
+    let text = b"a\n\nbc\n\n".as_slice();
+    for (most, asks) in [(usize::MAX, 2), (2, 5)] {
+        let each = [Answer::ServeEach(most)];
+        let reader = Told::new(ScriptReader::new(alloc, text, &each)?);
+        let writer = Told::new(ScriptWriter::new(alloc, &[])?);
+        let (answer, reader, _) = pack(alloc, 3, reader, writer);
+        assert_eq!(rt; Ending::of(&answer).status(), 0);
+        assert_eq!(rt; reader.get_ref().offers().len(), asks);
+    }
+    Ok(())
+}
+
 #[test]
 fn tells_how_a_run_ended(rt: HostRuntime) {
     for (answer, status, line) in [

@@ -3,26 +3,26 @@ use Rattle.std.proofs.lemmas.Result.{err_from_is_err_and}
 use Rattle.frames.proofs.PackRuns.{kept, flushed_after, flush_failed_after}
 use Rattle.frames.proofs.pack.pack_all.Goals as goal
 
-pub returns-then-is_fault : goal.returns-then-is_fault
-returns-then-is_fault g c =
+pub returns-then-is_fault-clause-packs : goal.returns-then-is_fault-clause-packs
+returns-then-is_fault-clause-packs g c =
     kept g.W.TellWrite.stretch c.args.source.now c.pack_lines-answer.new.source c.args.target.now
     c.pack_lines-answer.new.target c.pack_lines-answer.result (sym c.is_fault.ensures ∙ c.if-is_fault.true)
-    c.pack_lines-answer.ensures
+    c.pack_lines-answer.ensures.packs
 
-pub returns-in_err-flush : goal.returns-in_err-flush
-returns-in_err-flush g c =
+pub returns-in_err-flush-clause-packs : goal.returns-in_err-flush-clause-packs
+returns-in_err-flush-clause-packs g c =
     let p = err_from_is_err_and c.from_residual.result c.from_residual.ensures.1 in
     rw (p.1, p.2)
     (flush_failed_after g.W.TellWrite.stretch g.met.W.TellWrite.stretch_joins c.args.source.now
     c.pack_lines-answer.new.source c.args.target.now c.pack_lines-answer.new.target c.flush.new.self
     c.in_err-flush.ensures.went c.pack_lines-answer.result (sym c.is_fault.ensures ∙ c.if-is_fault.false)
-    c.pack_lines-answer.ensures _ c.in_err-flush.ensures.flushed.caused)
+    c.pack_lines-answer.ensures.packs _ c.in_err-flush.ensures.flushed.caused)
 
-pub returns : goal.returns
-returns g c =
+pub returns-clause-packs : goal.returns-clause-packs
+returns-clause-packs g c =
     let ok = c.in_ok-flush.ensures.flushed.ok in
     flushed_after g.W.TellWrite.stretch g.met.W.TellWrite.stretch_joins c.args.source.now
     c.pack_lines-answer.new.source c.args.target.now c.pack_lines-answer.new.target c.flush.new.self
     c.in_ok-flush.ensures.went c.pack_lines-answer.result (sym c.is_fault.ensures ∙ c.if-is_fault.false)
-    c.pack_lines-answer.ensures (record { empty = ok.empty; flushed = ok.flushed })
+    c.pack_lines-answer.ensures.packs (record { empty = ok.empty; flushed = ok.flushed })
     ok.met
