@@ -4,6 +4,8 @@
 #[cfg(test)]
 mod errors;
 #[cfg(test)]
+mod lines;
+#[cfg(test)]
 mod reader;
 #[cfg(test)]
 mod runs;

@@ -1,0 +1,2 @@
+-- Lemmas of the tests.
+pub mod Fitting
