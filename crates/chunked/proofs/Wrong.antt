@@ -133,7 +133,10 @@ module _ (limits : Limits) where
   unfolding OfSize
   wrong_size number room b SizeTooLarge wrong (inl is) = (digit_is_text b wrong.0).0 is
   wrong_size number room b SizeTooLarge wrong (inr some) = omega (arith, wrong.1, some.2 wrong.0)
-  wrong_size number room b LineTooLong wrong (inl is) = no_return b wrong.0 is
+  wrong_size number room b LineTooLong wrong (inl is) = elim wrong.0 [
+    | inl digit ↦ no_return b (inl digit.0) is
+    | inr other ↦ no_return b (inr other) is
+  ]
   wrong_size number room b LineTooLong wrong (inr some) = omega (arith, wrong.1, some.1)
   wrong_size number room b BareFeed wrong (inl is) = omega (arith, wrong, is)
   wrong_size number room b BareFeed wrong (inr some) = no_feed b some.0 wrong

@@ -92,18 +92,27 @@ pub record Leads (limits : Limits) (p : Place) (wire handed : List ℕ) (q : Pla
 abbrev pub IsDigit : ℕ → Type 0
 IsDigit b = digit_value b < 16
 
+-- what this number and then a digit write
+abbrev pub sized : ℕ → ℕ → ℕ
+sized number b = number * 16 + digit_value b
+
+-- a digit with which the number stays the size of a chunk
+abbrev pub IsSmallDigit : ℕ → ℕ → Type 0
+IsSmallDigit number b = IsDigit b × (sized number b < 2 ^ 62)
+
 -- none of the bytes that may stand behind the digits of a size, nor an LF
 pub record EndsNoSize (b : ℕ) : Type 0 where
   pub no_blank : ¬ IsBlank b
   pub no_semicolon : b ≢ 59
   pub text : IsTextByte b
 
--- what is wrong with the next byte in a place. There is nothing else that can be
+-- what is wrong with the next byte in a place. There is nothing else that can be, and no byte is wrong in two ways
 abbrev pub IsWrong : Limits → Place → ℕ → Malformed → Type 0
 IsWrong limits Line b NoSize = ¬ IsDigit b
 IsWrong limits Line b LineTooLong = IsDigit b × (limits.line ≡ 0)
-IsWrong limits (Size number room) b SizeTooLarge = IsDigit b × (2 ^ 62 ≤ number * 16 + digit_value b)
-IsWrong limits (Size number room) b LineTooLong = (IsDigit b ⊎ (IsBlank b ⊎ (b ≡ 59))) × (room ≡ 0)
+IsWrong limits (Size number room) b SizeTooLarge = IsDigit b × (2 ^ 62 ≤ sized number b)
+IsWrong limits (Size number room) b LineTooLong =
+    (IsSmallDigit number b ⊎ (IsBlank b ⊎ (b ≡ 59))) × (room ≡ 0)
 IsWrong limits (Size number room) b BareFeed = b ≡ 10
 IsWrong limits (Size number room) b BadSize = ¬ IsDigit b × EndsNoSize b
 IsWrong limits (Blank size room) b LineTooLong = (IsBlank b ⊎ (b ≡ 59)) × (room ≡ 0)
