@@ -8,3 +8,4 @@ pub mod Handing
 pub mod Payload
 pub mod Alive
 mod Given
+mod Names

@@ -5,9 +5,11 @@ ghost use Rattle.buffer_redux.specs.BufReader.{ReadsAlong};
 ghost use Rattle.chunked.specs.Body.{IsBody};
 ghost use Rattle.chunked.specs.Dechunking.{BodyWent, Breaks, Dechunking, EndsEarly, IsWhole, begun, handed_of};
 ghost use Rattle.chunked.specs.Given.{GivenBody};
+ghost use Rattle.chunked.specs.Place.{IsWrong};
 
 use crate::error::Malformed;
 use crate::limits::Limits;
+use crate::place::Place;
 use crate::reader::ChunkedReader;
 use buffer_redux::policy::ReaderPolicy;
 use buffer_redux::tell::TellRead;
@@ -16,6 +18,12 @@ use buffer_redux::tell::TellRead;
 pub fn one_body()
     ensures { (l m : Limits) (a b p q xs ys : List ℕ) → IsBody l a p → IsBody m b q → a ++ xs ≡ b ++ ys
         → (a ≡ b) × (p ≡ q) × (xs ≡ ys) }
+{}
+
+/// A byte that is wrong in a place has one name.
+pub fn one_name()
+    ensures { (limits : Limits) (place : Place) (byte : ℕ) (first second : Malformed) → IsWrong limits place byte first
+        → IsWrong limits place byte second → first ≡ second }
 {}
 
 /// Since the reader was made, the bytes that were taken came out of the buffered reader, in order, and what was handed out is

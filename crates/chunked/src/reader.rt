@@ -1,5 +1,5 @@
 //! The reader of a body.
-ghost use Rattle.std.specs.Prelude.{None, ◌≡◌, ◌<◌, ◌↔◌, length, IsTrue};
+ghost use Rattle.std.specs.Prelude.{None, ◌≡◌, ◌<◌, ◌≤◌, ◌↔◌, length, IfOk, IsTrue};
 ghost use Rattle.std.specs.Io.{ReadsAtMost};
 ghost use Rattle.std.specs.Io.KnownBytes.{ReadConsumes};
 ghost use Rattle.buffer_redux.specs.StreamLog.{after_read};
@@ -123,7 +123,8 @@ impl<R: TellRead, P: ReaderPolicy> ChunkedReader<R, P> {
     /// What an `Err` says stays so: what is wrong, or missing, comes next at each further call. After an `Io` the call can be
     /// made again, and goes on.
     pub fn read_payload(&mut self, out: &mut [u8]) -> Result<usize, ChunkedError>
-        ensures { ReadsPayload R.remaining P.rules self.old out.new result self.new }
+        ensures bound { IfOk result (λ n. n ≤ length out.new) }
+        ensures reads { ReadsPayload R.remaining P.rules self.old out.new result self.new }
     {
         let answer = read_on(&mut self.reader, &mut self.progress, out);
         if let Ok(count) = &answer {
