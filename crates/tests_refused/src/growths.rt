@@ -1,102 +1,107 @@
 //! Growths of either kind, with bytes that don't stand at the front: a refused one changes nothing, not even their place.
-use crate::kinds::{block, buffer};
-use crate::seen::digest;
-use crate::streams::{Sink, Source, empty_sink, has_taken, reading};
-use crate::trial::{Stop, Trial, granted, is};
-use buffer_redux::tell::Told;
+use crate::holders::{Call, Holder, Policy, walks};
+use crate::streams::{empty_sink, reading};
+use crate::trial::{Stop, Trial, is};
 use buffer_redux::{
-    BufImpl, BufReader, BufWriter, Buffer, GrowError, LineWriter, RawBuf, SliceDequeBuf, StdBuf,
+    BufImpl, BufReader, BufWriter, Buffer, GrowError, LineWriter, MAX_CAPACITY, MAX_RING, RawBuf,
+    SliceDequeBuf, StdBuf,
 };
 use std::alloc::Global;
-use std::fmt::Debug;
 
-// A growth of so much doesn't fit into either kind. A plain one adds it to its capacity less usable, a ring rounds up.
-const MORE: usize = 5000;
-
-/// The limit of what [`placed`] makes.
-pub const LIMIT: usize = 9000;
-
-// Whether it is a ring, and the capacity and usable space once three bytes, after two that were consumed, have grown.
-const KINDS: [(bool, usize, usize); 2] = [(false, 5005, 5000), (true, 8192, 8189)];
+/// A buffer of this kind with no more capacity than it needs for so many bytes.
+pub fn buffer(alloc: Global, is_ring: bool, capacity: usize) -> Result<Buffer, GrowError> {
+    if is_ring {
+        Buffer::with_capacity_ringbuf(alloc, capacity)
+    } else {
+        Buffer::with_capacity(alloc, capacity)
+    }
+}
 
 /// A buffer of capacity 8, or a ring of 4096, that holds [1,2,3] behind two bytes that were consumed.
 pub fn placed(alloc: Global, is_ring: bool) -> Result<Buffer, Stop> {
     let mut buf = buffer(alloc, is_ring, 8)?;
-    buf.set_limit(LIMIT)?;
     let count = buf.copy_from_slice(&[9, 9, 1, 2, 3]);
     is(count == 5, "bytes that don't fit")?;
     buf.consume(2);
     Ok(buf)
 }
 
-fn has_grown(buf: &Buffer, capacity: usize, usable: usize) -> Result<(), Stop> {
-    let bytes = [1, 2, 3].as_slice();
-    is(buf.buf() == bytes, "the bytes after a growth")?;
-    let room = (buf.capacity(), buf.usable_space());
-    is(room == (capacity, usable), "the room after a growth")?;
-    is(buf.limit() == LIMIT, "the limit after a growth")
+// What grows.
+#[derive(Clone, Copy)]
+enum What {
+    Raw,
+    Std,
+    Deque,
+    Block,
+    BlockRing,
+    Buffer(bool),
+    Reader(bool),
+    Writer(bool),
+    Lines(bool),
 }
 
-/// What grows, and shows down to the places of its bytes what it is.
-pub trait Grower: Debug {
-    /// Its `reserve`.
-    fn grow(&mut self, more: usize) -> Result<(), GrowError>;
+// All but the storage hold three bytes behind two that were consumed: zeros in a block, else [1,2,3].
+fn made(alloc: Global, what: What) -> Result<Holder<'static>, Stop> {
+    Ok(match what {
+        What::Raw => Holder::Raw(RawBuf::with_capacity(alloc, 4)?),
+        What::Std => {
+            let mut it = StdBuf::with_capacity(alloc, 8)?;
+            it.bytes_written(5);
+            it.consume(2);
+            Holder::Std(it)
+        }
+        What::Deque => {
+            let mut it = SliceDequeBuf::with_capacity(alloc, 8)?;
+            it.bytes_written(5);
+            it.consume(2);
+            Holder::Deque(it)
+        }
+        What::Block => block(BufImpl::with_capacity(alloc, 8)?),
+        What::BlockRing => block(BufImpl::with_capacity_ringbuf(alloc, 8)?),
+        What::Buffer(is_ring) => Holder::Buffer(placed(alloc, is_ring)?),
+        What::Reader(is_ring) => {
+            let it = BufReader::with_buffer(placed(alloc, is_ring)?, reading(b"x"));
+            Holder::Reader(it.set_policy(Policy::Std))
+        }
+        What::Writer(is_ring) => {
+            let it = BufWriter::with_buffer(placed(alloc, is_ring)?, empty_sink());
+            Holder::Writer(it.set_policy(Policy::Std))
+        }
+        What::Lines(is_ring) => Holder::Lines(LineWriter::with_buffer(
+            placed(alloc, is_ring)?,
+            empty_sink(),
+        )),
+    })
 }
 
-impl Grower for RawBuf {
-    fn grow(&mut self, more: usize) -> Result<(), GrowError> {
-        self.reserve(more)
-    }
+fn block(mut it: BufImpl) -> Holder<'static> {
+    it.bytes_written(5);
+    it.consume(2);
+    Holder::Block(it)
 }
 
-impl Grower for StdBuf {
-    fn grow(&mut self, more: usize) -> Result<(), GrowError> {
-        self.reserve(more)
-    }
-}
+const ZEROS: [u8; 3] = [0; 3];
 
-impl Grower for SliceDequeBuf {
-    fn grow(&mut self, more: usize) -> Result<(), GrowError> {
-        self.reserve(more)
-    }
-}
+const HELD: [u8; 3] = [1, 2, 3];
 
-impl Grower for BufImpl {
-    fn grow(&mut self, more: usize) -> Result<(), GrowError> {
-        self.reserve(more)
-    }
-}
-
-impl Grower for Buffer {
-    fn grow(&mut self, more: usize) -> Result<(), GrowError> {
-        self.reserve(more)
-    }
-}
-
-impl<P: Debug> Grower for BufReader<Told<Source<'_>>, P> {
-    fn grow(&mut self, more: usize) -> Result<(), GrowError> {
-        self.reserve(more)
-    }
-}
-
-impl<P: Debug> Grower for BufWriter<Sink, P> {
-    fn grow(&mut self, more: usize) -> Result<(), GrowError> {
-        self.reserve(more)
-    }
-}
-
-impl Grower for LineWriter<Sink> {
-    fn grow(&mut self, more: usize) -> Result<(), GrowError> {
-        self.reserve(more)
-    }
-}
-
-/// Grows it by so much. A refusal changes nothing, and the same growth is then granted.
-pub fn grows<G: Grower>(trial: &mut Trial, it: &mut G, more: usize) -> Result<(), Stop> {
-    let before = digest(it);
-    if let Err(e) = it.grow(more) {
-        trial.refused(e, digest(it) == before)?;
-        granted(it.grow(more))?;
+// By so much, which fits into neither kind. A plain one adds it to its capacity less usable, and a ring rounds up.
+pub fn once(alloc: Global, trial: &mut Trial) -> Result<(), Stop> {
+    for (what, shown, capacity) in [
+        (What::Std, ZEROS.as_slice(), 5005),
+        (What::Deque, &ZEROS, 8192),
+        (What::Block, &ZEROS, 5005),
+        (What::BlockRing, &ZEROS, 8192),
+        (What::Buffer(false), &HELD, 5005),
+        (What::Buffer(true), &HELD, 8192),
+        (What::Reader(false), &HELD, 5005),
+        (What::Reader(true), &HELD, 8192),
+        (What::Writer(false), &[], 5005),
+        (What::Writer(true), &[], 8192),
+        (What::Lines(false), &[], 5005),
+        (What::Lines(true), &[], 8192),
+    ] {
+        let step = (Call::Reserve(5000), 0, shown, capacity);
+        let _ = walks(trial, made(alloc, what)?, &[step])?;
     }
     Ok(())
 }
@@ -104,194 +109,85 @@ pub fn grows<G: Grower>(trial: &mut Trial, it: &mut G, more: usize) -> Result<()
 pub fn storage(alloc: Global, trial: &mut Trial) -> Result<(), Stop> {
     let mut raw = RawBuf::with_capacity(alloc, 4)?;
     raw.as_mut_slice()[1] = 7;
-    grows(trial, &mut raw, MORE)?;
-    is(raw.capacity() == 4 + MORE, "the length of the storage")?;
-    is(raw.as_slice().starts_with(&[0, 7, 0, 0]), "the storage")
-}
-
-pub fn plain_block(alloc: Global, trial: &mut Trial) -> Result<(), Stop> {
-    let mut plain = StdBuf::with_capacity(alloc, 8)?;
-    plain.write_buf().fill(7);
-    plain.bytes_written(5);
-    plain.consume(2);
-    grows(trial, &mut plain, MORE)?;
-    let room = (plain.capacity(), plain.usable_space());
-    is(room == (5005, 5000), "the room")?;
-    is(plain.buf() == [7; 3].as_slice(), "the bytes")
-}
-
-pub fn ring_block(alloc: Global, trial: &mut Trial) -> Result<(), Stop> {
-    let mut ring = SliceDequeBuf::with_capacity(alloc, 8)?;
-    ring.write_buf().fill(7);
-    ring.bytes_written(5);
-    ring.consume(2);
-    grows(trial, &mut ring, MORE)?;
-    let room = (ring.capacity(), ring.usable_space());
-    is(room == (8192, 8189), "the room")?;
-    is(ring.buf() == [7; 3].as_slice(), "the bytes")
-}
-
-/// A block of capacity 8, or a ring of 4096, that holds three bytes behind two that were consumed.
-pub fn placed_block(alloc: Global, is_ring: bool) -> Result<BufImpl, Stop> {
-    let mut either = block(alloc, is_ring, 8)?;
-    either.bytes_written(5);
-    either.consume(2);
-    Ok(either)
-}
-
-pub fn either(alloc: Global, trial: &mut Trial) -> Result<(), Stop> {
-    for (is_ring, capacity, usable) in KINDS {
-        let mut either = placed_block(alloc, is_ring)?;
-        grows(trial, &mut either, MORE)?;
-        let room = (either.capacity(), either.usable_space());
-        is(room == (capacity, usable), "the room")?;
-        is(either.buf() == [0; 3].as_slice(), "the bytes")?;
-    }
-    Ok(())
-}
-
-pub fn buffers(alloc: Global, trial: &mut Trial) -> Result<(), Stop> {
-    for (is_ring, capacity, usable) in KINDS {
-        let mut buf = placed(alloc, is_ring)?;
-        grows(trial, &mut buf, MORE)?;
-        has_grown(&buf, capacity, usable)?;
-    }
-    Ok(())
-}
-
-/// A reader over a buffer.
-pub type Reader = BufReader<Told<Source<'static>>>;
-
-/// A stream over a buffer.
-pub trait Wraps: Grower + Drop {
-    /// The stream over this buffer.
-    fn over(buf: Buffer) -> Self;
-
-    /// The buffer again, where the stream inside was left alone.
-    fn apart(self) -> Result<Buffer, Stop>;
-}
-
-impl Wraps for Reader {
-    fn over(buf: Buffer) -> Self {
-        BufReader::with_buffer(buf, reading(b"x"))
-    }
-
-    fn apart(self) -> Result<Buffer, Stop> {
-        let (inner, buf) = self.into_inner_with_buffer();
-        is(inner.get_ref().asks == 0, "a growth asks the stream")?;
-        Ok(buf)
-    }
-}
-
-impl Wraps for BufWriter<Sink> {
-    fn over(buf: Buffer) -> Self {
-        BufWriter::with_buffer(buf, empty_sink())
-    }
-
-    fn apart(self) -> Result<Buffer, Stop> {
-        let (inner, buf) = self.into_inner_with_buffer();
-        is(has_taken(&inner, b""), "a growth sends")?;
-        Ok(buf)
-    }
-}
-
-impl Wraps for LineWriter<Sink> {
-    fn over(buf: Buffer) -> Self {
-        LineWriter::with_buffer(buf, empty_sink())
-    }
-
-    fn apart(self) -> Result<Buffer, Stop> {
-        let (inner, buf) = self.into_inner_with_buf();
-        is(has_taken(&inner, b""), "a growth sends")?;
-        Ok(buf)
-    }
-}
-
-// The buffer, grown inside such a stream.
-fn grown_in<W: Wraps>(trial: &mut Trial, buf: Buffer) -> Result<Buffer, Stop> {
-    let before = digest(&buf);
-    let mut stream = W::over(buf);
-    let outcome = stream.grow(MORE);
-    let buf = stream.apart()?;
-    if let Err(e) = outcome {
-        trial.refused(e, digest(&buf) == before)?;
-        let mut stream = W::over(buf);
-        granted(stream.grow(MORE))?;
-        return stream.apart();
-    }
-    Ok(buf)
-}
-
-/// Growths of the buffers of such streams.
-pub fn inside<W: Wraps>(alloc: Global, trial: &mut Trial) -> Result<(), Stop> {
-    for (is_ring, capacity, usable) in KINDS {
-        let buf = grown_in::<W>(trial, placed(alloc, is_ring)?)?;
-        has_grown(&buf, capacity, usable)?;
-    }
+    let mut grown = [0u8; 5004];
+    grown[1] = 7;
+    let step = (Call::Reserve(5000), 0, grown.as_slice(), 5004);
+    let _ = walks(trial, Holder::Raw(raw), &[step])?;
     Ok(())
 }
 
 // A buffer of this kind of capacity 4, or a ring of 4096, that holds these bytes.
-fn full(alloc: Global, is_ring: bool, held: &[u8]) -> Result<Buffer, Stop> {
+fn full(alloc: Global, is_ring: bool, held: &[u8]) -> Result<Holder<'static>, Stop> {
     let mut buf = buffer(alloc, is_ring, 4)?;
     let count = buf.copy_from_slice(held);
     is(count == held.len(), "bytes that don't fit")?;
-    Ok(buf)
-}
-
-fn pushes_into(trial: &mut Trial, buf: &mut Buffer) -> Result<(), Stop> {
-    let before = digest(buf);
-    if let Err(e) = buf.push_bytes(&[4, 5]) {
-        trial.refused(e, digest(buf) == before)?;
-        granted(buf.push_bytes(&[4, 5]))?;
-    }
-    Ok(())
+    Ok(Holder::Buffer(buf))
 }
 
 // What doesn't fit grows the buffer by twice its length.
 pub fn pushes(alloc: Global, trial: &mut Trial) -> Result<(), Stop> {
-    let ring = [7u8; 4095];
-    for (is_ring, held, capacity, usable) in [
-        (false, [1, 2, 3].as_slice(), 7, 2),
-        (true, ring.as_slice(), 8192, 4095),
-    ] {
-        let mut buf = full(alloc, is_ring, held)?;
-        pushes_into(trial, &mut buf)?;
-        let bytes = buf.buf();
-        is(
-            bytes.starts_with(held) && bytes.ends_with(&[4, 5]),
-            "what was pushed",
-        )?;
-        let room = (buf.capacity(), buf.usable_space());
-        is(room == (capacity, usable), "the room")?;
-    }
+    let step = (Call::Push(&[4, 5]), 0, [1, 2, 3, 4, 5].as_slice(), 7);
+    let _ = walks(trial, full(alloc, false, &HELD)?, &[step])?;
+    let mut pushed = [7u8; 4097];
+    pushed[4095] = 4;
+    pushed[4096] = 5;
+    let step = (Call::Push(&[4, 5]), 0, pushed.as_slice(), 8192);
+    let _ = walks(trial, full(alloc, true, &pushed[..4095])?, &[step])?;
     Ok(())
-}
-
-// A growth that finds its room.
-fn finds_room(buf: &mut Buffer, more: usize) -> Result<(), Stop> {
-    let before = digest(buf);
-    granted(buf.reserve(more))?;
-    is(
-        digest(buf) == before,
-        "a growth that finds its room changes something",
-    )
 }
 
 // The first growth of each pair finds its room, and the second takes memory.
 pub fn twice(alloc: Global, trial: &mut Trial) -> Result<(), Stop> {
     let ten = [7u8; 10];
-    for (is_ring, held, first, second, capacity) in [
-        (false, [].as_slice(), 4, 5, 9),
-        (true, ten.as_slice(), 4086, 4087, 8192),
+    for (is_ring, held, first, second, before, after) in [
+        (false, [].as_slice(), 4, 5, 4, 9),
+        (true, ten.as_slice(), 4086, 4087, 4096, 8192),
     ] {
-        let mut buf = full(alloc, is_ring, held)?;
-        finds_room(&mut buf, first)?;
-        grows(trial, &mut buf, second)?;
-        is(
-            buf.buf() == held && buf.capacity() == capacity,
-            "the growth",
-        )?;
+        let steps = [
+            (Call::Room(first), 0, held, before),
+            (Call::Reserve(second), 0, held, after),
+        ];
+        let _ = walks(trial, full(alloc, is_ring, held)?, &steps)?;
+    }
+    Ok(())
+}
+
+// A growth by an amount near these is refused, `TooLarge` exactly past the limit, and changes nothing. No machine has as much.
+fn refuses_near(it: &mut Holder<'_>, used: usize, most: usize) -> Result<(), Stop> {
+    for power in [1 << 61, 1 << 62, 1 << 63, usize::MAX] {
+        for below in 0usize..12 {
+            let more = usize::saturating_add(power, 2).saturating_sub(below);
+            let passes = more > most.saturating_sub(used);
+            match it.reserve(more) {
+                Ok(()) => return Err(Stop::Wrong("more than any machine has")),
+                Err(GrowError::TooLarge) => is(passes, "refused within the limit")?,
+                Err(GrowError::Memory) => is(!passes, "refused for want of memory")?,
+            }
+        }
+    }
+    Ok(())
+}
+
+pub fn huge(alloc: Global) -> Result<(), Stop> {
+    for (what, used, most) in [
+        (What::Raw, 4, MAX_CAPACITY),
+        (What::Std, 5, MAX_CAPACITY),
+        (What::Deque, 3, MAX_RING),
+        (What::Block, 5, MAX_CAPACITY),
+        (What::BlockRing, 3, MAX_RING),
+        (What::Buffer(false), 5, MAX_CAPACITY),
+        (What::Buffer(true), 3, MAX_RING),
+        (What::Reader(false), 5, MAX_CAPACITY),
+        (What::Reader(true), 3, MAX_RING),
+        (What::Writer(false), 5, MAX_CAPACITY),
+        (What::Writer(true), 3, MAX_RING),
+        (What::Lines(false), 5, MAX_CAPACITY),
+        (What::Lines(true), 3, MAX_RING),
+    ] {
+        let (before, mut it) = made(alloc, what)?.looked();
+        refuses_near(&mut it, used, most)?;
+        let (after, _) = it.looked();
+        is(after == before, "a refusal changed something")?;
     }
     Ok(())
 }

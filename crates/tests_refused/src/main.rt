@@ -5,9 +5,8 @@
 //! `tests/refuse.sh` runs it with one number after another. Without a number it meets no refusal.
 #![tactic(auto)]
 
-mod amounts;
 mod growths;
-mod kinds;
+mod holders;
 mod makers;
 mod plays;
 mod policies;
@@ -15,10 +14,7 @@ mod seen;
 mod streams;
 mod trial;
 
-use crate::growths::Reader;
-use crate::streams::Sink;
 use crate::trial::{Stop, Trial};
-use buffer_redux::{BufWriter, LineWriter};
 use std::alloc::{AllocError, Global};
 use std::io;
 use std::io::Read;
@@ -27,28 +23,12 @@ use std::io::Read;
 #[derive(Clone, Copy, Debug)]
 enum Check {
     Blocks,
-    Either,
-    Buffers,
-    Readers,
-    Writers,
-    LineWriters,
-    ReadsFrame,
-    WritesFrame,
-    BlocksNeedNone,
-    StreamsNeedNone,
-    BuffersNeedNone,
+    Buffered,
+    Grows,
     Storage,
-    PlainGrows,
-    RingGrows,
-    EitherGrows,
-    BuffersGrow,
-    ReadersGrow,
-    WritersGrow,
-    LineWritersGrow,
     Pushes,
     GrowsTwice,
-    Fills,
-    Writes,
+    GrowsFirst,
     LooksAhead,
     LooksAheadInRing,
     GrowsEachTurn,
@@ -58,36 +38,16 @@ enum Check {
     PlaysWrites,
     HugeMakers,
     HugeGrowths,
-    HugeCounts,
-    HugeMinimums,
-    HugePlays,
-    Seeks,
 }
 
-const REFUSED: [Check; 30] = [
+const REFUSED: [Check; 14] = [
     Check::Blocks,
-    Check::Either,
-    Check::Buffers,
-    Check::Readers,
-    Check::Writers,
-    Check::LineWriters,
-    Check::ReadsFrame,
-    Check::WritesFrame,
-    Check::BlocksNeedNone,
-    Check::StreamsNeedNone,
-    Check::BuffersNeedNone,
+    Check::Buffered,
+    Check::Grows,
     Check::Storage,
-    Check::PlainGrows,
-    Check::RingGrows,
-    Check::EitherGrows,
-    Check::BuffersGrow,
-    Check::ReadersGrow,
-    Check::WritersGrow,
-    Check::LineWritersGrow,
     Check::Pushes,
     Check::GrowsTwice,
-    Check::Fills,
-    Check::Writes,
+    Check::GrowsFirst,
     Check::LooksAhead,
     Check::LooksAheadInRing,
     Check::GrowsEachTurn,
@@ -98,40 +58,17 @@ const REFUSED: [Check; 30] = [
 ];
 
 // These meet refusals of their own, so they are left out where one is asked for.
-const HUGE: [Check; 6] = [
-    Check::HugeMakers,
-    Check::HugeGrowths,
-    Check::HugeCounts,
-    Check::HugeMinimums,
-    Check::HugePlays,
-    Check::Seeks,
-];
+const HUGE: [Check; 2] = [Check::HugeMakers, Check::HugeGrowths];
 
 fn checked(check: Check, alloc: Global, trial: &mut Trial) -> Result<(), Stop> {
     match check {
         Check::Blocks => makers::blocks(alloc, trial),
-        Check::Either => makers::either(alloc, trial),
-        Check::Buffers => makers::buffers(alloc, trial),
-        Check::Readers => makers::readers(alloc, trial),
-        Check::Writers => makers::writers(alloc, trial),
-        Check::LineWriters => makers::line_writers(alloc, trial),
-        Check::ReadsFrame => makers::reads_frame(alloc, trial),
-        Check::WritesFrame => makers::writes_frame(alloc, trial),
-        Check::BlocksNeedNone => makers::blocks_need_none(alloc),
-        Check::StreamsNeedNone => makers::streams_need_none(alloc),
-        Check::BuffersNeedNone => makers::buffers_need_none(alloc),
+        Check::Buffered => makers::buffered(alloc, trial),
+        Check::Grows => growths::once(alloc, trial),
         Check::Storage => growths::storage(alloc, trial),
-        Check::PlainGrows => growths::plain_block(alloc, trial),
-        Check::RingGrows => growths::ring_block(alloc, trial),
-        Check::EitherGrows => growths::either(alloc, trial),
-        Check::BuffersGrow => growths::buffers(alloc, trial),
-        Check::ReadersGrow => growths::inside::<Reader>(alloc, trial),
-        Check::WritersGrow => growths::inside::<BufWriter<Sink>>(alloc, trial),
-        Check::LineWritersGrow => growths::inside::<LineWriter<Sink>>(alloc, trial),
         Check::Pushes => growths::pushes(alloc, trial),
         Check::GrowsTwice => growths::twice(alloc, trial),
-        Check::Fills => policies::fills(alloc, trial),
-        Check::Writes => policies::writes(alloc, trial),
+        Check::GrowsFirst => policies::grows_first(alloc, trial),
         Check::LooksAhead => policies::looks_ahead(alloc, trial),
         Check::LooksAheadInRing => policies::looks_ahead_in_ring(alloc, trial),
         Check::GrowsEachTurn => policies::grows_each_turn(alloc, trial),
@@ -139,12 +76,8 @@ fn checked(check: Check, alloc: Global, trial: &mut Trial) -> Result<(), Stop> {
         Check::FlushesExactly => policies::flushes_exactly(alloc, trial),
         Check::PlaysReads => plays::reads(alloc, trial),
         Check::PlaysWrites => plays::writes(alloc, trial),
-        Check::HugeMakers => amounts::makers(alloc),
-        Check::HugeGrowths => amounts::growths(alloc),
-        Check::HugeCounts => amounts::counts(alloc),
-        Check::HugeMinimums => amounts::minimums(alloc),
-        Check::HugePlays => amounts::plays(alloc),
-        Check::Seeks => amounts::seeks(),
+        Check::HugeMakers => makers::huge(alloc),
+        Check::HugeGrowths => growths::huge(alloc),
     }
 }
 

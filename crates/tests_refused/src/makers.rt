@@ -1,310 +1,224 @@
 //! Makers of either kind: a refused one hands its stream back as it was, and the same one asked again answers.
-use crate::growths::Reader;
-use crate::kinds::{block, buffer};
-use crate::streams::{Sink, Source, empty_sink, has_taken, reading};
+use crate::seen::digest;
+use crate::streams::{Sink, Source, empty_sink, reading};
 use crate::trial::{Stop, Trial, granted, is};
 use buffer_redux::tell::Told;
 use buffer_redux::{
-    BufImpl, BufReader, BufWriter, Buffer, GrowError, LineWriter, MakeError, RawBuf, SliceDequeBuf,
-    StdBuf,
+    BufImpl, BufReader, BufWriter, Buffer, GrowError, LineWriter, MAX_CAPACITY, MAX_RING,
+    MakeError, RawBuf, SliceDequeBuf, StdBuf,
 };
 use frame_reader::{FrameReader, FrameWriter};
 use std::alloc::Global;
-use std::io::{BufRead, Read, Write};
 
-const TEXT: &[u8] = b"ab\ncd";
-
-// Which maker, and the capacity that it makes.
+// What is made.
 #[derive(Clone, Copy)]
-enum Maker {
+enum What {
+    Raw,
+    Std,
+    Deque,
+    Block,
+    Buffer,
+    Reader,
+    Frames,
+    Writer,
+    Lines,
+    FrameLines,
+}
+
+// By which of its makers.
+#[derive(Clone, Copy)]
+enum Form {
     Usual,
     UsualRing,
-    Plain,
-    Ring,
+    Plain(usize),
+    Ring(usize),
 }
 
-const MAKERS: [(Maker, usize); 4] = [
-    (Maker::Usual, 8192),
-    (Maker::UsualRing, 8192),
-    (Maker::Plain, 4),
-    (Maker::Ring, 4096),
-];
-
-// Whether a stream that was handed back was left alone.
-fn unread(stream: &Told<Source<'_>>) -> bool {
-    stream.get_ref().asks == 0
+// The stream that goes into it, if one does.
+#[derive(Debug, Drop)]
+enum Stream {
+    None,
+    Source(Told<Source<'static>>),
+    Sink(Sink),
 }
 
-fn storage(alloc: Global, trial: &mut Trial) -> Result<RawBuf, Stop> {
-    match RawBuf::with_capacity(alloc, 4) {
-        Ok(raw) => Ok(raw),
-        Err(e) => {
-            trial.refused(e, true)?;
-            granted(RawBuf::with_capacity(alloc, 4))
-        }
+#[derive(Drop)]
+struct Refused(Stream, GrowError);
+
+impl From<GrowError> for Refused {
+    fn from(error: GrowError) -> Self {
+        Refused(Stream::None, error)
     }
 }
 
-fn plain_block(alloc: Global, trial: &mut Trial) -> Result<StdBuf, Stop> {
-    match StdBuf::with_capacity(alloc, 4) {
-        Ok(plain) => Ok(plain),
-        Err(e) => {
-            trial.refused(e, true)?;
-            granted(StdBuf::with_capacity(alloc, 4))
-        }
+impl From<MakeError<Told<Source<'static>>>> for Refused {
+    fn from(error: MakeError<Told<Source<'static>>>) -> Self {
+        Refused(Stream::Source(error.0), error.1)
     }
 }
 
-fn ring_block(alloc: Global, trial: &mut Trial) -> Result<SliceDequeBuf, Stop> {
-    match SliceDequeBuf::with_capacity(alloc, 4) {
-        Ok(ring) => Ok(ring),
-        Err(e) => {
-            trial.refused(e, true)?;
-            granted(SliceDequeBuf::with_capacity(alloc, 4))
+impl From<MakeError<Sink>> for Refused {
+    fn from(error: MakeError<Sink>) -> Self {
+        Refused(Stream::Sink(error.0), error.1)
+    }
+}
+
+fn block_of(alloc: Global, what: What, form: Form) -> Result<usize, GrowError> {
+    let n = match form {
+        Form::Plain(n) | Form::Ring(n) => n,
+        _ => 8192,
+    };
+    Ok(match (what, form) {
+        (What::Raw, _) => RawBuf::with_capacity(alloc, n)?.capacity(),
+        (What::Std, _) => StdBuf::with_capacity(alloc, n)?.capacity(),
+        (What::Deque, _) => SliceDequeBuf::with_capacity(alloc, n)?.capacity(),
+        (What::Block, Form::Plain(n)) => BufImpl::with_capacity(alloc, n)?.capacity(),
+        (What::Block, _) => BufImpl::with_capacity_ringbuf(alloc, n)?.capacity(),
+        (_, Form::Usual) => Buffer::new(alloc)?.capacity(),
+        (_, Form::UsualRing) => Buffer::new_ringbuf(alloc)?.capacity(),
+        (_, Form::Plain(n)) => Buffer::with_capacity(alloc, n)?.capacity(),
+        (_, Form::Ring(n)) => Buffer::with_capacity_ringbuf(alloc, n)?.capacity(),
+    })
+}
+
+fn reader_of(
+    alloc: Global,
+    form: Form,
+    stream: Told<Source<'static>>,
+) -> Result<usize, MakeError<Told<Source<'static>>>> {
+    let rdr = match form {
+        Form::Usual => BufReader::new(alloc, stream),
+        Form::UsualRing => BufReader::new_ringbuf(alloc, stream),
+        Form::Plain(n) => BufReader::with_capacity(alloc, n, stream),
+        Form::Ring(n) => BufReader::with_capacity_ringbuf(alloc, n, stream),
+    };
+    Ok(rdr?.capacity())
+}
+
+fn writer_of(alloc: Global, form: Form, sink: Sink) -> Result<usize, MakeError<Sink>> {
+    let wrt = match form {
+        Form::Usual => BufWriter::new(alloc, sink),
+        Form::UsualRing => BufWriter::new_ringbuf(alloc, sink),
+        Form::Plain(n) => BufWriter::with_capacity(alloc, n, sink),
+        Form::Ring(n) => BufWriter::with_capacity_ringbuf(alloc, n, sink),
+    };
+    Ok(wrt?.capacity())
+}
+
+fn lines_of(alloc: Global, form: Form, sink: Sink) -> Result<usize, MakeError<Sink>> {
+    let lines = match form {
+        Form::Usual => LineWriter::new(alloc, sink),
+        Form::UsualRing => LineWriter::new_ringbuf(alloc, sink),
+        Form::Plain(n) => LineWriter::with_capacity(alloc, n, sink),
+        Form::Ring(n) => LineWriter::with_capacity_ringbuf(alloc, n, sink),
+    };
+    Ok(lines?.capacity())
+}
+
+// The capacity of what is made, which is dropped. Frames don't tell theirs.
+fn made(alloc: Global, what: What, form: Form, stream: Stream) -> Result<usize, Refused> {
+    match (what, stream) {
+        (What::Frames, Stream::Source(source)) => {
+            let _ = FrameReader::new(alloc, source, 3)?;
+            Ok(8192)
+        }
+        (What::FrameLines, Stream::Sink(sink)) => {
+            let _ = FrameWriter::new(alloc, sink, 3)?;
+            Ok(8192)
+        }
+        (What::Lines, Stream::Sink(sink)) => Ok(lines_of(alloc, form, sink)?),
+        (_, Stream::Source(source)) => Ok(reader_of(alloc, form, source)?),
+        (_, Stream::Sink(sink)) => Ok(writer_of(alloc, form, sink)?),
+        (_, Stream::None) => Ok(block_of(alloc, what, form)?),
+    }
+}
+
+fn stream_for(what: What) -> Stream {
+    match what {
+        What::Reader | What::Frames => Stream::Source(reading(b"ab\ncd")),
+        What::Writer | What::Lines | What::FrameLines => Stream::Sink(empty_sink()),
+        _ => Stream::None,
+    }
+}
+
+fn makes(alloc: Global, trial: &mut Trial, what: What, form: Form) -> Result<usize, Stop> {
+    let stream = stream_for(what);
+    let before = digest(&stream);
+    match made(alloc, what, form, stream) {
+        Ok(capacity) => Ok(capacity),
+        Err(Refused(stream, e)) => {
+            trial.refused(e, digest(&stream) == before)?;
+            granted(made(alloc, what, form, stream))
         }
     }
 }
 
 pub fn blocks(alloc: Global, trial: &mut Trial) -> Result<(), Stop> {
-    let raw = storage(alloc, trial)?;
-    is(raw.as_slice() == [0; 4].as_slice(), "the storage")?;
-    let plain = plain_block(alloc, trial)?;
-    let room = (plain.len(), plain.usable_space());
-    is(room == (0, 4), "the plain block")?;
-    let ring = ring_block(alloc, trial)?;
-    let room = (ring.len(), ring.usable_space());
-    is(room == (0, 4096), "the ring")
-}
-
-fn made_block(alloc: Global, trial: &mut Trial, is_ring: bool) -> Result<BufImpl, Stop> {
-    match block(alloc, is_ring, 4) {
-        Ok(either) => Ok(either),
-        Err(e) => {
-            trial.refused(e, true)?;
-            granted(block(alloc, is_ring, 4))
-        }
-    }
-}
-
-pub fn either(alloc: Global, trial: &mut Trial) -> Result<(), Stop> {
-    for (is_ring, capacity) in [(false, 4), (true, 4096)] {
-        let either = made_block(alloc, trial, is_ring)?;
-        let seen = (either.is_ringbuf(), either.len());
-        is(seen == (is_ring, 0), "the kind")?;
-        is(either.usable_space() == capacity, "the room")?;
+    for (what, form, capacity) in [
+        (What::Raw, Form::Plain(4), 4),
+        (What::Std, Form::Plain(4), 4),
+        (What::Deque, Form::Ring(4), 4096),
+        (What::Block, Form::Plain(4), 4),
+        (What::Block, Form::Ring(4), 4096),
+        (What::Frames, Form::Usual, 8192),
+        (What::FrameLines, Form::Usual, 8192),
+    ] {
+        is(makes(alloc, trial, what, form)? == capacity, "the capacity")?;
     }
     Ok(())
 }
 
-fn buffer_of(alloc: Global, maker: Maker) -> Result<Buffer, GrowError> {
-    match maker {
-        Maker::Usual => Buffer::new(alloc),
-        Maker::UsualRing => Buffer::new_ringbuf(alloc),
-        Maker::Plain => Buffer::with_capacity(alloc, 4),
-        Maker::Ring => Buffer::with_capacity_ringbuf(alloc, 4),
-    }
-}
-
-fn made_buffer(alloc: Global, trial: &mut Trial, maker: Maker) -> Result<Buffer, Stop> {
-    match buffer_of(alloc, maker) {
-        Ok(buf) => Ok(buf),
-        Err(e) => {
-            trial.refused(e, true)?;
-            granted(buffer_of(alloc, maker))
+pub fn buffered(alloc: Global, trial: &mut Trial) -> Result<(), Stop> {
+    for what in [What::Buffer, What::Reader, What::Writer, What::Lines] {
+        for (form, capacity) in [
+            (Form::Usual, 8192),
+            (Form::UsualRing, 8192),
+            (Form::Plain(4), 4),
+            (Form::Ring(4), 4096),
+        ] {
+            is(makes(alloc, trial, what, form)? == capacity, "the capacity")?;
         }
-    }
-}
-
-pub fn buffers(alloc: Global, trial: &mut Trial) -> Result<(), Stop> {
-    for (maker, capacity) in MAKERS {
-        let buf = made_buffer(alloc, trial, maker)?;
-        let is_ring = matches!(maker, Maker::UsualRing | Maker::Ring);
-        is((buf.is_ringbuf(), buf.len()) == (is_ring, 0), "the kind")?;
-        is(buf.usable_space() == capacity, "the room")?;
     }
     Ok(())
 }
 
-fn reader_of(
-    alloc: Global,
-    maker: Maker,
-    stream: Told<Source<'static>>,
-) -> Result<Reader, MakeError<Told<Source<'static>>>> {
-    match maker {
-        Maker::Usual => BufReader::new(alloc, stream),
-        Maker::UsualRing => BufReader::new_ringbuf(alloc, stream),
-        Maker::Plain => BufReader::with_capacity(alloc, 4, stream),
-        Maker::Ring => BufReader::with_capacity_ringbuf(alloc, 4, stream),
-    }
-}
-
-fn made_reader(alloc: Global, trial: &mut Trial, maker: Maker) -> Result<Reader, Stop> {
-    match reader_of(alloc, maker, reading(TEXT)) {
-        Ok(rdr) => Ok(rdr),
-        Err(MakeError(stream, e)) => {
-            trial.refused(e, unread(&stream))?;
-            granted(reader_of(alloc, maker, stream))
+// A maker near an amount is refused, `TooLarge` exactly past the limit of its kind. No machine has as much.
+fn refuses_near(alloc: Global, what: What, is_ring: bool, power: usize) -> Result<(), Stop> {
+    for below in 0..12 {
+        let n = power.saturating_add(2).saturating_sub(below);
+        let (form, most) = if is_ring {
+            (Form::Ring(n), MAX_RING)
+        } else {
+            (Form::Plain(n), MAX_CAPACITY)
+        };
+        match made(alloc, what, form, stream_for(what)) {
+            Ok(_) => return Err(Stop::Wrong("more than any machine has")),
+            Err(Refused(_, GrowError::TooLarge)) => is(n > most, "refused within the limit")?,
+            Err(Refused(_, GrowError::Memory)) => is(n <= most, "refused for want of memory")?,
         }
-    }
-}
-
-// What is buffered goes on into an `Unbuffer`, which takes no memory.
-fn unbuffers(rdr: Reader, shown: usize) -> Result<(), Stop> {
-    let mut left = rdr.unbuffer();
-    let mut out = [0u8; 2];
-    let count = left.read(&mut out)?;
-    is(count == 2 && out == [b'a', b'b'], "what is left")?;
-    is(TEXT.get(2..shown) == Some(left.buf()), "what is left then")
-}
-
-pub fn readers(alloc: Global, trial: &mut Trial) -> Result<(), Stop> {
-    for (maker, capacity) in MAKERS {
-        let mut rdr = made_reader(alloc, trial, maker)?;
-        is((rdr.buf_len(), rdr.capacity()) == (0, capacity), "the room")?;
-        let shown = capacity.min(TEXT.len());
-        is(TEXT.get(..shown) == Some(rdr.fill_buf()?), "the first fill")?;
-        unbuffers(rdr, shown)?;
     }
     Ok(())
 }
 
-fn writer_of(alloc: Global, maker: Maker, sink: Sink) -> Result<BufWriter<Sink>, MakeError<Sink>> {
-    match maker {
-        Maker::Usual => BufWriter::new(alloc, sink),
-        Maker::UsualRing => BufWriter::new_ringbuf(alloc, sink),
-        Maker::Plain => BufWriter::with_capacity(alloc, 4, sink),
-        Maker::Ring => BufWriter::with_capacity_ringbuf(alloc, 4, sink),
-    }
-}
-
-fn made_writer(alloc: Global, trial: &mut Trial, maker: Maker) -> Result<BufWriter<Sink>, Stop> {
-    match writer_of(alloc, maker, empty_sink()) {
-        Ok(wrt) => Ok(wrt),
-        Err(MakeError(sink, e)) => {
-            trial.refused(e, has_taken(&sink, b""))?;
-            granted(writer_of(alloc, maker, sink))
+pub fn huge(alloc: Global) -> Result<(), Stop> {
+    for (what, is_ring) in [
+        (What::Raw, false),
+        (What::Std, false),
+        (What::Deque, true),
+        (What::Block, false),
+        (What::Block, true),
+        (What::Buffer, false),
+        (What::Buffer, true),
+        (What::Reader, false),
+        (What::Reader, true),
+        (What::Writer, false),
+        (What::Writer, true),
+        (What::Lines, false),
+        (What::Lines, true),
+    ] {
+        for power in [1 << 61, 1 << 62, 1 << 63, usize::MAX] {
+            refuses_near(alloc, what, is_ring, power)?;
         }
-    }
-}
-
-pub fn writers(alloc: Global, trial: &mut Trial) -> Result<(), Stop> {
-    for (maker, capacity) in MAKERS {
-        let mut wrt = made_writer(alloc, trial, maker)?;
-        is((wrt.buf_len(), wrt.capacity()) == (0, capacity), "the room")?;
-        wrt.write_all(b"ab")?;
-        is(has_taken(wrt.get_ref(), b""), "sent too early")?;
-        wrt.flush()?;
-        is(has_taken(wrt.get_ref(), b"ab"), "what was sent")?;
-    }
-    Ok(())
-}
-
-fn lines_of(alloc: Global, maker: Maker, sink: Sink) -> Result<LineWriter<Sink>, MakeError<Sink>> {
-    match maker {
-        Maker::Usual => LineWriter::new(alloc, sink),
-        Maker::UsualRing => LineWriter::new_ringbuf(alloc, sink),
-        Maker::Plain => LineWriter::with_capacity(alloc, 4, sink),
-        Maker::Ring => LineWriter::with_capacity_ringbuf(alloc, 4, sink),
-    }
-}
-
-fn made_lines(alloc: Global, trial: &mut Trial, maker: Maker) -> Result<LineWriter<Sink>, Stop> {
-    match lines_of(alloc, maker, empty_sink()) {
-        Ok(lines) => Ok(lines),
-        Err(MakeError(sink, e)) => {
-            trial.refused(e, has_taken(&sink, b""))?;
-            granted(lines_of(alloc, maker, sink))
-        }
-    }
-}
-
-pub fn line_writers(alloc: Global, trial: &mut Trial) -> Result<(), Stop> {
-    for (maker, capacity) in MAKERS {
-        let mut lines = made_lines(alloc, trial, maker)?;
-        let room = (lines.buf_len(), lines.capacity());
-        is(room == (0, capacity), "the room")?;
-        lines.write_all(b"a\nb")?;
-        is(has_taken(lines.get_ref(), b"a\n"), "what was sent")?;
-    }
-    Ok(())
-}
-
-fn made_frame_reader(
-    alloc: Global,
-    trial: &mut Trial,
-) -> Result<FrameReader<Told<Source<'static>>>, Stop> {
-    match FrameReader::new(alloc, reading(b"\x00\x02ab"), 3) {
-        Ok(reader) => Ok(reader),
-        Err(MakeError(stream, e)) => {
-            trial.refused(e, unread(&stream))?;
-            granted(FrameReader::new(alloc, stream, 3))
-        }
-    }
-}
-
-fn made_frame_writer(alloc: Global, trial: &mut Trial) -> Result<FrameWriter<Sink>, Stop> {
-    match FrameWriter::new(alloc, empty_sink(), 3) {
-        Ok(writer) => Ok(writer),
-        Err(MakeError(sink, e)) => {
-            trial.refused(e, has_taken(&sink, b""))?;
-            granted(FrameWriter::new(alloc, sink, 3))
-        }
-    }
-}
-
-pub fn reads_frame(alloc: Global, trial: &mut Trial) -> Result<(), Stop> {
-    let mut reader = made_frame_reader(alloc, trial)?;
-    match reader.next() {
-        Ok(Some(payload)) => is(payload == b"ab".as_slice(), "another payload"),
-        _ => Err(Stop::Wrong("no frame")),
-    }
-}
-
-pub fn writes_frame(alloc: Global, trial: &mut Trial) -> Result<(), Stop> {
-    let mut writer = made_frame_writer(alloc, trial)?;
-    granted(writer.write_frame(b"ab"))?;
-    writer.flush()?;
-    is(has_taken(writer.get_ref(), b"\x00\x02ab"), "what was sent")
-}
-
-// Calls that ask for no memory are never refused.
-pub fn blocks_need_none(alloc: Global) -> Result<(), Stop> {
-    granted(RawBuf::with_capacity(alloc, 0))?.reserve_in_place(1);
-    granted(StdBuf::with_capacity(alloc, 0))?.make_room();
-    granted(SliceDequeBuf::with_capacity(alloc, 0))?.make_room();
-    granted(block(alloc, false, 0))?.make_room();
-    granted(block(alloc, true, 0))?.make_room();
-    Ok(())
-}
-
-pub fn streams_need_none(alloc: Global) -> Result<(), Stop> {
-    granted(BufReader::with_capacity(alloc, 0, reading(TEXT)))?.make_room();
-    granted(BufReader::with_capacity_ringbuf(alloc, 0, reading(TEXT)))?.make_room();
-    granted(BufWriter::with_capacity(alloc, 0, empty_sink()))?.make_room();
-    granted(BufWriter::with_capacity_ringbuf(alloc, 0, empty_sink()))?.make_room();
-    granted(LineWriter::with_capacity(alloc, 0, empty_sink()))?.flush()?;
-    granted(LineWriter::with_capacity_ringbuf(alloc, 0, empty_sink()))?.flush()?;
-    Ok(())
-}
-
-// A buffer that holds two bytes and has room for two more.
-fn grown(alloc: Global, is_ring: bool) -> Result<Buffer, Stop> {
-    let mut buf = granted(buffer(alloc, is_ring, 0))?;
-    granted(buf.reserve(0))?;
-    granted(buf.push_bytes(b""))?;
-    buf.reserve(4)?;
-    granted(buf.push_bytes(b"ab"))?;
-    granted(buf.reserve(2))?;
-    Ok(buf)
-}
-
-pub fn buffers_need_none(alloc: Global) -> Result<(), Stop> {
-    for is_ring in [false, true] {
-        let buf = grown(alloc, is_ring)?;
-        let mut rdr = BufReader::with_buffer(buf, reading(TEXT));
-        granted(rdr.reserve(2))?;
-        let mut left = rdr.unbuffer();
-        is(left.read(&mut [0u8; 8])? == 2, "what is left")?;
     }
     Ok(())
 }

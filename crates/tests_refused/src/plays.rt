@@ -1,15 +1,17 @@
 //! Lists of calls whose record finds no memory: the calls before are recorded whole, and the next wasn't begun. The calls
 //! that have no answer yet, played on the same run, end it as if nothing had happened.
-use crate::growths::Reader;
 use crate::seen::same;
-use crate::streams::{Sink, empty_sink, has_taken, reading};
+use crate::streams::{Sink, Source, empty_sink, reading, taken};
 use crate::trial::{Stop, Trial, granted, is};
+use buffer_redux::tell::Told;
 use buffer_redux::{BufReader, BufWriter};
 use redux_play::play::{
     ReaderAnswer, ReaderCall, ReaderRun, WriterAnswer, WriterCall, WriterRun, play_reader,
     play_writer,
 };
 use std::alloc::Global;
+
+type Reader = BufReader<Told<Source<'static>>>;
 
 const READER_CALLS: [ReaderCall; 5] = [
     ReaderCall::Read(2),
@@ -93,7 +95,7 @@ fn has_written(wrt: &BufWriter<Sink>, run: &WriterRun) -> Result<(), Stop> {
     let first = WRITER_ANSWERS.get(..done).unwrap_or(&[]);
     is(same(&run.answers, first), "the first answers")?;
     let sent = BYTES.get(..sent).unwrap_or(&[]);
-    is(has_taken(wrt.get_ref(), sent), "what was sent")?;
+    is(taken(wrt.get_ref()) == sent, "what was sent")?;
     is(wrt.buf_len() == held, "what is buffered")
 }
 
@@ -122,9 +124,7 @@ pub fn writes(alloc: Global, trial: &mut Trial) -> Result<(), Stop> {
     ];
     plays_writes(trial, &mut wrt, &calls, &mut run)?;
     is(same(&run.answers, &WRITER_ANSWERS), "the answers")?;
-    is(
-        has_taken(wrt.get_ref(), &[1, 2, 3]),
-        "what was sent at the end",
-    )?;
+    let sent = taken(wrt.get_ref()) == [1, 2, 3].as_slice();
+    is(sent, "what was sent at the end")?;
     is(wrt.buf_len() == 0, "bytes are left")
 }

@@ -33,8 +33,9 @@ pub fn empty_sink() -> Sink {
     Told::new(Cursor::new([0; 16]))
 }
 
-/// Whether it has taken just these bytes.
-pub fn has_taken(sink: &Sink, bytes: &[u8]) -> bool {
+/// What it has taken.
+pub fn taken(sink: &Sink) -> &[u8] {
     let cursor = sink.get_ref();
-    cursor.position() == bytes.len() as u64 && cursor.get_ref().starts_with(bytes)
+    let count = cursor.position().min(16) as usize;
+    &cursor.get_ref()[..count]
 }
