@@ -6,7 +6,7 @@ use Rattle.std.specs.IoError.{error_kind}
 use Rattle.std.specs.declared.io.Error.{Error}
 use Rattle.std.specs.declared.io.ErrorKind.TheVariants.{OutOfMemory}
 use Rattle.buffer_redux.specs.Buffered.{Buffered}
-use Rattle.buffer_redux.specs.Faults.{MetInterrupts, SendErrorCaused}
+use Rattle.buffer_redux.specs.Faults.{MetInterrupts, OnlyInterrupts-none, SendErrorCaused}
 use Rattle.buffer_redux.specs.ReaderLaws.{ReadsInOrder-fresh}
 use Rattle.buffer_redux.specs.StreamLog.{StreamLog}
 use Rattle.buffer_redux.specs.WriterLaws.{WritesInOrder-fresh}
@@ -44,7 +44,7 @@ module _ {R W : Type 0} (stretch : W → W → Type 0) (joins : (a b c : W) → 
 
   met_too : NoneFailed s u t w → MetInterrupts w.writer.log.writes v.writer.log.writes → NoneFailed s u t v
   met_too met more = MetNoFault-joins s.log t.log t.log u.writer.log w.writer.log v.writer.log met
-      (record { reader = refl; writer = more })
+      (record { reader = OnlyInterrupts-none t.log.reads.faults; writer = more })
 
   -- the flush after the lines succeeds
   pub flushed_after : (answer : Result (Unit {0}) RunError) → faulted answer ≡ false
@@ -58,7 +58,7 @@ module _ {R W : Type 0} (stretch : W → W → Type 0) (joins : (a b c : W) → 
   fails_after : NoneFailed s u t w → (e : Error) → SendErrorCaused w.writer.log.writes v.writer.log.writes e → (count : ℕ)
       → Stopped e count s.log t.log u.writer.log v.writer.log
   fails_after met e caused count = inl (EitherFailed-after e s.log t.log t.log u.writer.log w.writer.log v.writer.log met
-      (inr (record { reader = refl; writer = caused })))
+      (inr (record { reader = OnlyInterrupts-none t.log.reads.faults; writer = caused })))
 
   -- or fails
   pub flush_failed_after : (answer : Result (Unit {0}) RunError) → faulted answer ≡ false

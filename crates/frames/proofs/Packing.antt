@@ -7,6 +7,7 @@ use Rattle.std.proofs.lemmas.List.Elements.{All-nil}
 use Rattle.std.specs.declared.io.Error.{Error}
 use Rattle.buffer_redux.specs.BufReader.{ReadsInOrder}
 use Rattle.buffer_redux.specs.Buffered.{Buffered}
+use Rattle.buffer_redux.specs.Faults.{OnlyInterrupts}
 use Rattle.buffer_redux.specs.LogGrows.{ReadLogGrows, ReadLogGrows-none, ReadLogGrows-joins}
 use Rattle.buffer_redux.specs.ReaderLaws.{ReadsInOrder-none, ReadsInOrder-joins}
 use Rattle.buffer_redux.specs.declared.policy.MinBuffered.{MinBuffered}
@@ -18,6 +19,7 @@ use Rattle.frame_reader.specs.declared.error.WriteFrameError.TheVariants as Unwr
 use Rattle.frames.specs.declared.error.RunError.TheVariants.{Io}
 use Rattle.frames.specs.Lines.{newline, IsFirstLine, last_line, BeginsLong}
 use Rattle.frames.specs.Pack.{IsLineSource, IsReady, Packs, NoneFailed, PacksNext, of_write_error}
+use Rattle.frames.specs.Streams.{ReadGaveUp}
 use Rattle.frames.proofs.Faring.{MetInterrupts-none}
 use Rattle.frames.proofs.FirstLine.{shorter_ends}
 
@@ -88,11 +90,11 @@ module _ {R W : Type 0} (stretch : W → W → Type 0) (none : (x : W) → stret
       source = filled_source;
     }
 
-    pub fill_failed : (e : Error) → m.log.reads.faults ≡ s.log.reads.faults ++ e ∷ []
+    pub fill_failed : (e : Error) → ReadGaveUp e s.log.reads.faults m.log.reads.faults
         → PacksNext stretch s u (Err (Io e)) m u
     fill_failed e fault = (filled, inl (record { reader = fault; writer = MetInterrupts-none u.writer.log.writes }))
 
-    module _ (no_fault : m.log.reads.faults ≡ s.log.reads.faults) where
+    module _ (no_fault : OnlyInterrupts s.log.reads.faults m.log.reads.faults) where
       pub no_line : length m.block.bytes ≡ 0 → PacksNext stretch s u (Ok false) m u
       no_line empty = record {
         last = [];
@@ -134,7 +136,10 @@ module _ {R W : Type 0} (stretch : W → W → Type 0) (none : (x : W) → stret
           }
 
           met : NoneFailed s u t v
-          met = record { reader = ap (λ l. l.reads.faults) told ∙ no_fault; writer = wrote.answers.1 }
+          met = record {
+            reader = subst (λ l. OnlyInterrupts s.log.reads.faults l.reads.faults) (sym told) no_fault;
+            writer = wrote.answers.1;
+          }
 
           ended_done : (more : List ℕ) → m.block.bytes ≡ line ++ newline ∷ more → amount ≡ length line + 1
               → PacksNext stretch s u (Ok true) t v

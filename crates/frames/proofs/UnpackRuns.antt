@@ -7,7 +7,7 @@ use Rattle.std.specs.declared.io.Error.{Error}
 use Rattle.std.specs.declared.io.ErrorKind.TheVariants.{OutOfMemory}
 use Rattle.buffer_redux.specs.BufWriter.{WritesInOrder}
 use Rattle.buffer_redux.specs.Buffered.{Buffered}
-use Rattle.buffer_redux.specs.Faults.{MetInterrupts, SendErrorCaused}
+use Rattle.buffer_redux.specs.Faults.{MetInterrupts, OnlyInterrupts-none, SendErrorCaused}
 use Rattle.buffer_redux.specs.StreamLog.{StreamLog}
 use Rattle.buffer_redux.specs.WriterLaws.{WritesInOrder-then, WritesInOrder-fresh}
 use Rattle.buffer_redux.specs.declared.policy.StdPolicy.{StdPolicy}
@@ -39,7 +39,7 @@ module _ {R W : Type 0} (remaining : R → Option (List ℕ)) (s t : Framing R) 
     payloads = p.payloads;
     went = then_sent p.payloads p.payloads p.went;
     met = MetNoFault-joins s.reader.log t.reader.log t.reader.log u.log w.log v.log p.met
-        (record { reader = refl; writer = more });
+        (record { reader = OnlyInterrupts-none t.reader.log.reads.faults; writer = more });
   }
 
   -- the flush after the payloads succeeds
@@ -61,7 +61,7 @@ module _ {R W : Type 0} (remaining : R → Option (List ℕ)) (s t : Framing R) 
           (then_sent p.payloads p.payloads p.went);
     },
     inl (EitherFailed-after e s.reader.log t.reader.log t.reader.log u.log w.log v.log p.met
-        (inr (record { reader = refl; writer = caused }))),
+        (inr (record { reader = OnlyInterrupts-none t.reader.log.reads.faults; writer = caused }))),
   )
 
   -- or fails

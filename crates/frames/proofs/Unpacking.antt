@@ -1,5 +1,5 @@
 -- What the steps of `unpack` come to.
-use Rattle.std.proofs.Common.{◌≡◌, ℕ, ◌+◌, ◌≤◌, ◌^◌, inl, inr, true, false, List, [], ◌∷◌, ◌++◌, length, Option, None, Some, Ok, Err, refl, sym, subst, ◌∙◌, arith, append-nil, append_assoc, length-append}
+use Rattle.std.proofs.Common.{◌≡◌, ℕ, ◌+◌, ◌≤◌, ◌^◌, ◌<◌, ◌⊎◌, inl, inr, Bool, true, false, List, [], ◌∷◌, ◌++◌, length, Option, None, Some, Result, Ok, Err, refl, sym, ap, subst, ◌∙◌, arith, append-nil, append_assoc, length-append}
 use Rattle.std.proofs.lemmas.List.Concat.{flat_map-append}
 use Rattle.std.specs.IoError.{error_kind}
 use Rattle.std.specs.declared.io.Error.{Error}
@@ -7,54 +7,65 @@ use Rattle.std.specs.declared.io.ErrorKind.TheVariants.{Other}
 use Rattle.buffer_redux.specs.BufReader.{RanDry}
 use Rattle.buffer_redux.specs.BufWriter.{WritesInOrder}
 use Rattle.buffer_redux.specs.Buffered.{Buffered}
-use Rattle.buffer_redux.specs.Faults.{MetInterrupts, SendErrorCaused}
+use Rattle.buffer_redux.specs.Faults.{IsInterrupt, OnlyInterrupts, OnlyInterrupts-joins, MetInterrupts, SendErrorCaused}
 use Rattle.buffer_redux.specs.WriterLaws.{WritesInOrder-none, WritesInOrder-joins}
 use Rattle.buffer_redux.specs.declared.policy.StdPolicy.{StdPolicy}
 use Rattle.frame_reader.specs.Frames.{BeginsTooLong, IsCutShort}
 use Rattle.frame_reader.specs.Framing.{Framing, rest}
 use Rattle.frame_reader.specs.Next.{FramesWent, Next}
 use Rattle.frame_reader.specs.NextLaws.{FramesWent-none, FramesWent-joins}
-use Rattle.frame_reader.specs.declared.error.FrameError.{FrameError}
 use Rattle.frame_reader.specs.declared.error.FrameError.TheVariants as NoFrame
 use Rattle.frames.specs.declared.error.RunError.{RunError}
 use Rattle.frames.specs.declared.error.RunError.TheVariants.{TooLong, Truncated, Io}
 use Rattle.frames.specs.Lines.{newline, ended}
-use Rattle.frames.specs.Unpack.{IsLineTarget, Unpacks, NoneFailed, UnpacksEach, UnpacksNext, UnpacksAll, of_frame_error}
-use Rattle.frames.proofs.Faring.{MetInterrupts-none, MetNoFault-none, MetNoFault-joins, EitherFailed-after}
+use Rattle.frames.specs.Unpack.{IsLineTarget, Unpacks, UnpacksEach, UnpacksNext, UnpacksOnce, ReadStopped, UnpacksAll}
+use Rattle.frames.specs.declared.unpack.Step.TheVariants.{End, ReadFailed}
+use Rattle.frames.proofs.Faring.{only_same, gave_up, MetInterrupts-none, MetNoFault-none, MetNoFault-joins, EitherFailed-after}
+
+-- less than a frame is left where a read failed
+left_few : (max : ℕ) (bytes : List ℕ) → (bytes ≡ []) ⊎ IsCutShort max bytes → length bytes < 2 + max
+left_few max bytes (inl none) = omega (arith, ap length none)
+left_few max bytes (inr (inl one)) = omega (arith, one)
+left_few max bytes (inr (inr cut)) = omega (arith, cut.short, cut.fits)
 
 -- one call: the reader answered
 module _ {R W : Type 0} (remaining : R → Option (List ℕ)) (s t : Framing R) (u : Buffered W StdPolicy)
     (target : IsLineTarget s.max u) where
-  quiet : t.reader.log.reads.faults ≡ s.reader.log.reads.faults → NoneFailed s u t u
-  quiet no_fault = record { reader = no_fault; writer = MetInterrupts-none u.log.writes }
+  only : t.reader.log.reads.faults ≡ s.reader.log.reads.faults
+      → OnlyInterrupts s.reader.log.reads.faults t.reader.log.reads.faults
+  only no_fault = only_same s.reader.log.reads.faults t.reader.log.reads.faults no_fault
 
   nothing : t.reader.log.reads.faults ≡ s.reader.log.reads.faults → FramesWent remaining s [] t
       → UnpacksEach remaining s u t u
   nothing no_fault went = record {
     payloads = [];
     went = record { went = went; taken = WritesInOrder-none u; target = target };
-    met = quiet no_fault;
+    met = record { reader = only no_fault; writer = MetInterrupts-none u.log.writes };
   }
 
-  pub no_frame : (e : FrameError) → Next remaining s (Err e) t → UnpacksNext remaining s u (Err (of_frame_error e)) t u
-  no_frame (NoFrame.Truncated have) next = (
+  pub cut_short : (have : ℕ) → Next remaining s (Err (NoFrame.Truncated have)) t
+      → UnpacksOnce remaining s u (Err Truncated) t u
+  cut_short have next = (
     nothing next.answers.2.1 next.went,
     record { left = next.answers.1; dry = next.answers.2.0 },
   )
-  no_frame (NoFrame.TooLong len) next = (
+
+  pub begins_long : (len : ℕ) → Next remaining s (Err (NoFrame.TooLong len)) t
+      → UnpacksOnce remaining s u (Err TooLong) t u
+  begins_long len next = (
     nothing next.answers.2 next.went,
     record { len = len; above = next.answers.0; begins = next.answers.1 },
   )
-  no_frame (NoFrame.Io e) next = (
-    record {
-      lines = [];
-      lost = [];
-      went = record { went = next.went; taken = WritesInOrder-none u; target = target };
-    },
-    inl (record { reader = next.answers.0; writer = MetInterrupts-none u.log.writes }),
-  )
 
-  pub no_more : Next remaining s (Ok None) t → UnpacksNext remaining s u (Ok false) t u
+  pub read_stopped : (e : Error) → Next remaining s (Err (NoFrame.Io e)) t → UnpacksOnce remaining s u (Ok (ReadFailed e)) t u
+  read_stopped e next = record {
+    went = next.went;
+    fault = next.answers.0;
+    few = left_few s.max (rest t) next.answers.1;
+    same = refl;
+  }
+
+  pub no_more : Next remaining s (Ok None) t → UnpacksOnce remaining s u (Ok End) t u
   no_more next = (
     nothing next.answers.1.1 next.went,
     record { left = next.answers.0; dry = next.answers.1.0 },
@@ -76,7 +87,7 @@ module _ {R W : Type 0} (remaining : R → Option (List ℕ)) (s t : Framing R) 
         lost = payload ∷ [];
         went = record { went = next.went; taken = taken; target = target_kept };
       },
-      inr (record { reader = next.answers.1; writer = caused }),
+      inr (record { reader = only next.answers.1; writer = caused }),
     )
 
     pub printed : WritesInOrder u (payload ++ newline ∷ []) v → MetInterrupts u.log.writes v.log.writes
@@ -89,10 +100,78 @@ module _ {R W : Type 0} (remaining : R → Option (List ℕ)) (s t : Framing R) 
           taken = subst (λ l. WritesInOrder u l v) (sym (append-nil (payload ++ newline ∷ []))) taken;
           target = target_kept;
         };
-        met = record { reader = next.answers.1; writer = met };
+        met = record { reader = only next.answers.1; writer = met };
       },
       refl,
     )
+
+-- reads were tried again before
+module _ {R W : Type 0} (remaining : R → Option (List ℕ)) (s m t : Framing R) (u v : Buffered W StdPolicy)
+    (before : FramesWent remaining s [] m) (only : OnlyInterrupts s.reader.log.reads.faults m.reader.log.reads.faults) where
+  after : (payloads lines : List (List ℕ)) → Unpacks remaining m u payloads lines t v
+      → Unpacks remaining s u payloads lines t v
+  after payloads lines p = record {
+    went = FramesWent-joins remaining s m t [] payloads before p.went;
+    taken = p.taken;
+    target = subst (λ n. IsLineTarget n v) before.max p.target;
+  }
+
+  each_after : UnpacksEach remaining m u t v → UnpacksEach remaining s u t v
+  each_after p = record {
+    payloads = p.payloads;
+    went = after p.payloads p.payloads p.went;
+    met = record {
+      reader = OnlyInterrupts-joins s.reader.log.reads.faults m.reader.log.reads.faults t.reader.log.reads.faults only
+          p.met.reader;
+      writer = p.met.writer;
+    };
+  }
+
+  dry_after : RanDry m.reader t.reader → RanDry s.reader t.reader
+  dry_after dry = omega (arith, before.grows.zero_reads, dry)
+
+  next_after : (answer : Result Bool RunError) → UnpacksNext remaining m u answer t v → UnpacksNext remaining s u answer t v
+  unfolding each_after
+  next_after (Ok true) p = (each_after p.0, p.1)
+  next_after (Ok false) p = (each_after p.0, record { left = p.1.left; dry = dry_after p.1.dry })
+  next_after (Err TooLong) p = (each_after p.0, subst (λ n. BeginsTooLong n (rest t)) before.max p.1)
+  next_after (Err Truncated) p = (
+    each_after p.0,
+    record { left = subst (λ n. IsCutShort n (rest t)) before.max p.1.left; dry = dry_after p.1.dry },
+  )
+  next_after (Err (Io e)) p = (
+    record { lines = p.0.lines; lost = p.0.lost; went = after (p.0.lines ++ p.0.lost) p.0.lines p.0.went },
+    EitherFailed-after e s.reader.log m.reader.log t.reader.log u.log u.log v.log
+        (record { reader = only; writer = MetInterrupts-none u.log.writes }) p.1,
+  )
+
+  pub retried : (w : Buffered W StdPolicy) → w ≡ u → (answer : Result Bool RunError) → UnpacksNext remaining m w answer t v
+      → UnpacksNext remaining s u answer t v
+  retried w same answer p = next_after answer (subst (λ x. UnpacksNext remaining m x answer t v) same p)
+
+  -- the last try failed
+  pub gives_up : (w : Buffered W StdPolicy) → w ≡ u → (e : Error) → IsLineTarget s.max u
+      → ReadStopped remaining m w e t v
+      → (IsInterrupt e → length s.reader.log.reads.faults + 65 ≤ length t.reader.log.reads.faults)
+      → UnpacksNext remaining s u (Err (Io e)) t v
+  gives_up w same e target stopped often =
+      let kept : v ≡ u = stopped.same ∙ same in
+      rw kept (
+        record {
+          lines = [];
+          lost = [];
+          went = record {
+            went = FramesWent-joins remaining s m t [] [] before stopped.went;
+            taken = WritesInOrder-none u;
+            target = target;
+          };
+        },
+        inl (record {
+          reader = gave_up s.reader.log.reads.faults m.reader.log.reads.faults t.reader.log.reads.faults e only
+              stopped.fault often;
+          writer = MetInterrupts-none u.log.writes;
+        }),
+      )
 
 -- so many payloads went over
 pub record UnpacksSoFar {R W : Type 0} (remaining : R → Option (List ℕ)) (s : Framing R) (u : Buffered W StdPolicy)

@@ -1,5 +1,5 @@
 -- What a run of `unpack` moves from a reader to a writer.
-use Rattle.std.specs.Prelude.{◌≡◌, ℕ, ◌+◌, ◌<◌, ◌⊎◌, List, [], ◌++◌, length, Bool, true, false, Result, Ok, Err, Option}
+use Rattle.std.specs.Prelude.{◌≡◌, ℕ, ◌+◌, ◌<◌, ◌⊎◌, List, [], ◌∷◌, ◌++◌, length, Bool, true, false, Result, Ok, Err, Option}
 use Rattle.std.specs.List.{All}
 use Rattle.std.specs.declared.io.Error.{Error}
 use Rattle.buffer_redux.specs.Block.{Plain}
@@ -11,18 +11,12 @@ use Rattle.buffer_redux.specs.declared.policy.StdPolicy.{StdPolicy}
 use Rattle.frame_reader.specs.Frames.{Fits, frames, BeginsTooLong, IsCutShort}
 use Rattle.frame_reader.specs.Framing.{Framing, rest}
 use Rattle.frame_reader.specs.Next.{FramesWent}
-use Rattle.frame_reader.specs.declared.error.FrameError.{FrameError}
-use Rattle.frame_reader.specs.declared.error.FrameError.TheVariants as NoFrame
 use Rattle.frames.specs.declared.error.RunError.{RunError}
 use Rattle.frames.specs.declared.error.RunError.TheVariants.{TooLong, Truncated, Io}
+use Rattle.frames.specs.declared.unpack.Step.{Step}
+use Rattle.frames.specs.declared.unpack.Step.TheVariants.{Printed, End, ReadFailed}
 use Rattle.frames.specs.Lines.{ended}
 use Rattle.frames.specs.Streams.{MetNoFault, EitherFailed, Stopped, BufferRefused, GaveNothing, AllFlushed}
-
--- why a run failed in which there was no next frame
-abbrev pub of_frame_error : FrameError → RunError
-of_frame_error (NoFrame.TooLong len) = TooLong
-of_frame_error (NoFrame.Truncated have) = Truncated
-of_frame_error (NoFrame.Io e) = Io e
 
 -- a buffered writer of lines: the longest, with its end, is smaller than its buffer
 pub record IsLineTarget {W : Type 0} (most : ℕ) (u : Buffered W StdPolicy) : Type 0 where
@@ -77,6 +71,22 @@ UnpacksNext remaining s u (Ok false) t v = UnpacksEach remaining s u t v × Noth
 UnpacksNext remaining s u (Err TooLong) t v = UnpacksEach remaining s u t v × BeginsTooLong s.max (rest t)
 UnpacksNext remaining s u (Err Truncated) t v = UnpacksEach remaining s u t v × CutShort s t
 UnpacksNext remaining s u (Err (Io e)) t v = UnpacksFirst remaining s u t v × FailedWith e s u t v
+
+-- a read failed with this error: nothing was handed out or taken in, and less than a frame is left
+pub record ReadStopped {R W : Type 0} (remaining : R → Option (List ℕ)) (s : Framing R) (u : Buffered W StdPolicy) (e : Error)
+    (t : Framing R) (v : Buffered W StdPolicy) : Type 0 where
+  pub went : FramesWent remaining s [] t
+  pub fault : t.reader.log.reads.faults ≡ s.reader.log.reads.faults ++ e ∷ []
+  pub few : length (rest t) < 2 + s.max
+  pub same : v ≡ u
+
+-- what one try did, up to the first fault of a read
+abbrev pub UnpacksOnce : {R W : Type 0} → (R → Option (List ℕ)) → Framing R → Buffered W StdPolicy
+    → Result Step RunError → Framing R → Buffered W StdPolicy → Type 0
+UnpacksOnce remaining s u (Ok Printed) t v = UnpacksNext remaining s u (Ok true) t v
+UnpacksOnce remaining s u (Ok End) t v = UnpacksNext remaining s u (Ok false) t v
+UnpacksOnce remaining s u (Ok (ReadFailed e)) t v = ReadStopped remaining s u e t v
+UnpacksOnce remaining s u (Err e) t v = UnpacksNext remaining s u (Err e) t v
 
 -- what calls did that print payload after payload
 abbrev pub UnpacksAll : {R W : Type 0} → (R → Option (List ℕ)) → Framing R → Buffered W StdPolicy

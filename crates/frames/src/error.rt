@@ -2,7 +2,7 @@
 ghost use Rattle.std.specs.Prelude.{◌≡◌};
 ghost use Rattle.frames.specs.Ending.{faulted};
 
-use frame_reader::{FrameError, WriteFrameError};
+use frame_reader::WriteFrameError;
 use std::io;
 
 /// Why a run failed.
@@ -30,20 +30,6 @@ impl From<io::Error> for RunError {
 
     fn from(e: io::Error) -> RunError {
         RunError::Io(e)
-    }
-}
-
-impl From<FrameError> for RunError {
-    ghost use Rattle.frames.specs.Unpack.{of_frame_error};
-
-    ghost from_gives = { λ e r. r ≡ of_frame_error e };
-
-    fn from(e: FrameError) -> RunError {
-        match e {
-            FrameError::TooLong(_) => RunError::TooLong,
-            FrameError::Truncated(_) => RunError::Truncated,
-            FrameError::Io(e) => RunError::Io(e),
-        }
     }
 }
 

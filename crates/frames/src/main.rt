@@ -6,6 +6,7 @@ mod error;
 mod pack;
 #[cfg(test)]
 mod tests;
+mod tries;
 mod unpack;
 
 use crate::ending::Ending;

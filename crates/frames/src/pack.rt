@@ -1,11 +1,14 @@
 //! Lines made frames, over any two streams that tell.
-ghost use Rattle.std.specs.Prelude.{◌≡◌, ◌≤◌, ◌↔◌, ◌+◌, [], ◌∷◌, ◌++◌, length, take, drop, true, false, Ok, IsTrue, IfOk, IfErr, OnOk, OnErr};
+ghost use Rattle.std.specs.Prelude.{◌≡◌, ◌<◌, ◌≤◌, ◌↔◌, ◌+◌, [], ◌∷◌, ◌++◌, length, take, drop, true, false, Ok, IsTrue, IfOk, IfErr, OnOk, OnErr};
 ghost use Rattle.buffer_redux.specs.BufReader.{ReadsInOrder};
+ghost use Rattle.buffer_redux.specs.Faults.{OnlyInterrupts};
 ghost use Rattle.buffer_redux.specs.LogGrows.{ReadLogGrows};
 ghost use Rattle.frames.specs.Lines.{IsFirstLine, ShowsEnd};
 ghost use Rattle.frames.specs.Pack.{IsLineSource, IsReady, KnowsEnd, EndsOnce, PacksNext, PacksAll, PacksAndFlushes, PackRan};
+ghost use Rattle.frames.specs.Streams.{ReadGaveUp};
 
 use crate::error::{RunError, is_fault};
+use crate::tries::{is_answered, row_with};
 use buffer_redux::policy::MinBuffered;
 use buffer_redux::tell::{TellRead, TellWrite};
 use buffer_redux::{BufReader, GrowError, MakeError};
@@ -130,8 +133,8 @@ fn ready<R: TellRead>(source: &mut BufReader<R, MinBuffered>, ended: &mut bool) 
     ensures grows { ReadLogGrows source.old.log.reads source.new.log.reads }
     ensures policy { source.new.policy ≡ source.old.policy }
     ensures capacity { source.old.block.capacity ≤ source.new.block.capacity }
-    ensures no_fault { OnOk result (source.new.log.reads.faults ≡ source.old.log.reads.faults) }
-    ensures fault { IfErr result (λ e. source.new.log.reads.faults ≡ source.old.log.reads.faults ++ e ∷ []) }
+    ensures met { OnOk result (OnlyInterrupts source.old.log.reads.faults source.new.log.reads.faults) }
+    ensures fault { IfErr result (λ e. ReadGaveUp e source.old.log.reads.faults source.new.log.reads.faults) }
     ensures knows { KnowsEnd ended.old source.old.log.reads ended.new source.new.log.reads }
     ensures enough { OnOk result (IsReady source.old.policy.0 ended.new source.new.block.bytes) }
     ensures unasked { ShowsEnd source.old.block.bytes → source.new.log ≡ source.old.log }
@@ -143,8 +146,38 @@ fn ready<R: TellRead>(source: &mut BufReader<R, MinBuffered>, ended: &mut bool) 
     Ok(())
 }
 
-// Reads until there are as many bytes as the policy wants, and returns whether the reader ended before.
+// Reads until there are as many bytes as the policy wants, and returns whether the reader ended before. Of reads that are
+// interrupted in a row the 65th ends it.
 fn fill<R: TellRead>(source: &mut BufReader<R, MinBuffered>) -> io::Result<bool>
+    requires ahead { source.old.policy.0 ≤ source.old.block.capacity }
+    ensures in_order { ReadsInOrder source.old [] source.new }
+    ensures grows { ReadLogGrows source.old.log.reads source.new.log.reads }
+    ensures policy { source.new.policy ≡ source.old.policy }
+    ensures capacity { source.old.block.capacity ≤ source.new.block.capacity }
+    ensures met { OnOk result (OnlyInterrupts source.old.log.reads.faults source.new.log.reads.faults) }
+    ensures fault { IfErr result (λ e. ReadGaveUp e source.old.log.reads.faults source.new.log.reads.faults) }
+    ensures enough { result ≡ Ok false → source.old.policy.0 ≤ length source.new.block.bytes }
+    ensures more { result ≡ Ok false → source.new.log.reads.zero_reads ≡ source.old.log.reads.zero_reads }
+    ensures ended { result ≡ Ok true → source.new.log.reads.zero_reads ≡ source.old.log.reads.zero_reads + 1 }
+    ensures failed { OnErr result (source.new.log.reads.zero_reads ≡ source.old.log.reads.zero_reads) }
+{
+    let mut row = 0;
+    'tries: loop {
+        let have = source.buf_len();
+        match try_fill(source) {
+            Ok(ended) => return Ok(ended),
+            Err(e) => {
+                row = row_with(row, source.buf_len() > have);
+                if is_answered(&e, row) {
+                    return Err(e);
+                }
+            }
+        }
+    }
+}
+
+// The same up to the first fault.
+fn try_fill<R: TellRead>(source: &mut BufReader<R, MinBuffered>) -> io::Result<bool>
     requires ahead { source.old.policy.0 ≤ source.old.block.capacity }
     ensures in_order { ReadsInOrder source.old [] source.new }
     ensures grows { ReadLogGrows source.old.log.reads source.new.log.reads }
@@ -153,6 +186,7 @@ fn fill<R: TellRead>(source: &mut BufReader<R, MinBuffered>) -> io::Result<bool>
     ensures no_fault { OnOk result (source.new.log.reads.faults ≡ source.old.log.reads.faults) }
     ensures fault { IfErr result (λ e. source.new.log.reads.faults ≡ source.old.log.reads.faults ++ e ∷ []) }
     ensures enough { result ≡ Ok false → source.old.policy.0 ≤ length source.new.block.bytes }
+    ensures few { OnErr result (length source.new.block.bytes < source.old.policy.0) }
     ensures more { result ≡ Ok false → source.new.log.reads.zero_reads ≡ source.old.log.reads.zero_reads }
     ensures ended { result ≡ Ok true → source.new.log.reads.zero_reads ≡ source.old.log.reads.zero_reads + 1 }
     ensures failed { OnErr result (source.new.log.reads.zero_reads ≡ source.old.log.reads.zero_reads) }

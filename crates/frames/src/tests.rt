@@ -203,6 +203,31 @@ fn ends_at_the_first_fault(rt: HostRuntime) -> Result<(), Fail> {
     Ok(())
 }
 
+// 64 interrupted reads in a row are tried again, as often as a row comes, and the 65th ends the run.
+#[test]
+fn tries_interrupted_reads_again(rt: HostRuntime) -> Result<(), Fail> {
+    let rows = [
+        Answer::Interrupt(64),
+        Answer::Serve(2),
+        Answer::Interrupt(64),
+    ];
+    let many = [Answer::Serve(2), Answer::Interrupt(65)];
+    for (way, bytes, sent) in [
+        (Way::Pack, b"abc\n".as_slice(), b"\x00\x03abc".as_slice()),
+        (Way::Unpack, b"\x00\x03abc", b"abc\n"),
+    ] {
+        let ran = tried(rt.alloc(), way, bytes, &rows, &[])?;
+        assert_eq!(rt; Ending::of(&ran.answer).status(), 0);
+        assert_eq!(rt; ran.writer.taken(), sent);
+        let ran = tried(rt.alloc(), way, bytes, &many, &[])?;
+        assert!(rt;
+            matches!(&ran.answer, Err(RunError::Io(e)) if e.kind() == ErrorKind::Interrupted)
+        );
+        assert!(rt; ran.writer.taken().is_empty());
+    }
+    Ok(())
+}
+
 #[test]
 fn takes_the_longest(rt: HostRuntime) -> Result<(), Fail> {
     let alloc = rt.alloc();

@@ -4,12 +4,13 @@ ghost use Rattle.buffer_redux.specs.Block.{Plain, usable};
 ghost use Rattle.buffer_redux.specs.BufWriter.{WritesInOrder};
 ghost use Rattle.buffer_redux.specs.Faults.{MetInterrupts, SendErrorCaused};
 ghost use Rattle.frames.specs.Lines.{newline};
-ghost use Rattle.frames.specs.Unpack.{IsLineTarget, UnpacksNext, UnpacksAll, UnpacksAndFlushes, UnpackRan};
+ghost use Rattle.frames.specs.Unpack.{IsLineTarget, UnpacksOnce, UnpacksNext, UnpacksAll, UnpacksAndFlushes, UnpackRan};
 
 use crate::error::{RunError, is_fault};
+use crate::tries::{is_answered, row_with};
 use buffer_redux::tell::{TellRead, TellWrite};
 use buffer_redux::{BufWriter, GrowError, MakeError};
-use frame_reader::FrameReader;
+use frame_reader::{FrameError, FrameReader};
 use std::alloc::Global;
 use std::io;
 use std::io::{ErrorKind, Write};
@@ -73,6 +74,14 @@ fn unpack_all<R: TellRead, W: TellWrite>(
     answer
 }
 
+// What one try to print the next payload came to.
+#[derive(Drop)]
+enum Step {
+    Printed,
+    End,
+    ReadFailed(io::Error),
+}
+
 // Prints each payload.
 fn unpack_frames<R: TellRead, W: TellWrite>(
     source: &mut FrameReader<R>,
@@ -89,7 +98,7 @@ fn unpack_frames<R: TellRead, W: TellWrite>(
     Err(io::Error::from(ErrorKind::Other).into())
 }
 
-// Prints the next payload, and returns whether there was one.
+// Prints the next payload, and returns whether there was one. Of reads that are interrupted in a row the 65th ends it.
 fn unpack_frame<R: TellRead, W: TellWrite>(
     source: &mut FrameReader<R>,
     target: &mut BufWriter<W>,
@@ -97,12 +106,39 @@ fn unpack_frame<R: TellRead, W: TellWrite>(
     requires { IsLineTarget source.old.max target.old }
     ensures { UnpacksNext R.remaining source.old target.old result source.new target.new }
 {
-    match source.next()? {
-        Some(payload) => {
-            print_line(target, payload)?;
-            Ok(true)
+    let mut row = 0;
+    'tries: loop {
+        let have = source.rest().len();
+        match try_frame(source, target)? {
+            Step::Printed => return Ok(true),
+            Step::End => return Ok(false),
+            Step::ReadFailed(e) => {
+                row = row_with(row, source.rest().len() > have);
+                if is_answered(&e, row) {
+                    return Err(e.into());
+                }
+            }
         }
-        None => Ok(false),
+    }
+}
+
+// The same up to the first fault of a read.
+fn try_frame<R: TellRead, W: TellWrite>(
+    source: &mut FrameReader<R>,
+    target: &mut BufWriter<W>,
+) -> Result<Step, RunError>
+    requires { IsLineTarget source.old.max target.old }
+    ensures { UnpacksOnce R.remaining source.old target.old result source.new target.new }
+{
+    match source.next() {
+        Ok(Some(payload)) => {
+            print_line(target, payload)?;
+            Ok(Step::Printed)
+        }
+        Ok(None) => Ok(Step::End),
+        Err(FrameError::TooLong(_)) => Err(RunError::TooLong),
+        Err(FrameError::Truncated(_)) => Err(RunError::Truncated),
+        Err(FrameError::Io(e)) => Ok(Step::ReadFailed(e)),
     }
 }
 

@@ -1,34 +1,21 @@
-use Rattle.std.proofs.Common.{◌≡◌, ◌∙◌, inl, inr, true, false, ltb, length, refl, sym, ap, arith}
-use Rattle.std.proofs.lemmas.Bool.{lt-ltb, le-ltb, true≢false}
-use Rattle.std.proofs.lemmas.Result.{err_from_is_err_and}
-use Rattle.frames.proofs.PackEnd.{fill_ended, fill_failed}
+use Rattle.std.proofs.Common.{◌≡◌, ◌+◌, ◌≤◌, ◌∙◌, [], arith}
+use Rattle.buffer_redux.specs.LogGrows.{ReadLogGrows-joins}
+use Rattle.buffer_redux.specs.ReaderLaws.{ReadsInOrder-joins}
+use Rattle.frames.proofs.Faring.{only_more, one_more}
 use Rattle.frames.proofs.pack.fill.Goals as goal
 
-pub returns-in_err-shown-clause-failed : goal.returns-in_err-shown-clause-failed
-returns-in_err-shown-clause-failed g c =
-    let p = err_from_is_err_and c.from_residual.result c.from_residual.ensures.1 in
-    let filled = rw c.in_err-shown.was at c.fill_buf.follows.holds-at-none in
-    rw p.1 (fill_failed _ _ _ filled.fills.filled)
-
-pub returns-clause-more : goal.returns-clause-more
-returns-clause-more g c is =
-    let filled = rw c.in_ok-shown.was at c.fill_buf.follows.holds-at-none in
-    let isnt : ltb (length c.in_ok-shown.field-0.now) c.policy.result.now.0 ≡ false = cc in
-    elim (fill_ended _ _ _ filled.fills.filled) [
-      | inl same ↦ same
-      | inr dry ↦ absurd (true≢false (sym (lt-ltb (length c.in_ok-shown.field-0.now) c.policy.result.now.0
-          (omega (arith, dry.1, ap length filled.shown, ap (λ p. p.0) c.policy.ensures))) ∙ isnt))
-    ]
-
-pub returns-clause-ended : goal.returns-clause-ended
-returns-clause-ended g c is =
-    let filled = rw c.in_ok-shown.was at c.fill_buf.follows.holds-at-none in
-    let short : ltb (length c.in_ok-shown.field-0.now) c.policy.result.now.0 ≡ true = cc in
-    elim (fill_ended _ _ _ filled.fills.filled) [
-      | inl same ↦ elim (filled.fills.ahead.enough refl) [
-        | inl many ↦ absurd (true≢false (sym short ∙ le-ltb (length c.in_ok-shown.field-0.now) c.policy.result.now.0
-            (omega (arith, many, ap length filled.shown, ap (λ p. p.0) c.policy.ensures))))
-        | inr dry ↦ absurd (omega (arith, dry, same))
-      ]
-      | inr dry ↦ dry.0
-    ]
+pub tries-preserved : goal.tries-preserved
+tries-preserved g c =
+    let before = c.tries.invariant in
+    let tried = c.in-Err.ensures in
+    let again = c.is_answered.ensures.again c.if-is_answered.false in
+    record {
+      in_order = ReadsInOrder-joins _ _ _ [] [] before.in_order tried.in_order;
+      grows = ReadLogGrows-joins _ _ _ before.grows tried.grows;
+      policy = tried.policy ∙ before.policy;
+      capacity = omega (arith, before.capacity, tried.capacity);
+      met = only_more _ _ _ c.in-Err.e before.met tried.fault again.0;
+      row = omega (arith, before.row, c.row_with-row.ensures.most, one_more _ _ c.in-Err.e tried.fault);
+      few = again.1;
+      no_end = tried.failed ∙ before.no_end;
+    }

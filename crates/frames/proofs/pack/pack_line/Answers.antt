@@ -16,7 +16,7 @@ pub returns-then-buf_len-eq0-clause-packs : goal.returns-then-buf_len-eq0-clause
 returns-then-buf_len-eq0-clause-packs g c =
     let f = c.in_ok-ready.ensures in
     no_line g.W.TellWrite.stretch g.met.W.TellWrite.stretch_none g.met.W.TellWrite.stretch_joins c.args.source.now
-    c.ready.new.source c.args.target.now c.requires f.in_order f.grows f.policy f.capacity f.no_fault
+    c.ready.new.source c.args.target.now c.requires f.in_order f.grows f.policy f.capacity f.met
     (omega (arith, c.if-buf_len-eq0.true, c.buf_len.ensures.value))
 
 pub returns-in_err-write_frame-clause-packs : goal.returns-in_err-write_frame-clause-packs
@@ -27,7 +27,7 @@ returns-in_err-write_frame-clause-packs g c =
     subst (λ l. IsFirstLine l c.first_line-line.result.now) c.buffer-bytes.ensures.value c.first_line-line.ensures in
     rw (p.1, p.2)
     (write_failed g.W.TellWrite.stretch g.met.W.TellWrite.stretch_none g.met.W.TellWrite.stretch_joins c.args.source.now
-    c.ready.new.source c.args.target.now c.requires f.in_order f.grows f.policy f.capacity f.no_fault
+    c.ready.new.source c.args.target.now c.requires f.in_order f.grows f.policy f.capacity f.met
     c.first_line-line.result.now first c.write_frame.new.self _ c.in_err-write_frame.ensures)
 
 pub returns-clause-packs : goal.returns-clause-packs
@@ -40,7 +40,7 @@ returns-clause-packs g c =
     subst (λ l. IsFirstLine l line) shown c.first_line-line.ensures in
     rw shown
     (line_done g.W.TellWrite.stretch g.met.W.TellWrite.stretch_none g.met.W.TellWrite.stretch_joins c.args.source.now
-    c.ready.new.source c.args.target.now c.requires f.in_order f.grows f.policy f.capacity f.no_fault
+    c.ready.new.source c.args.target.now c.requires f.in_order f.grows f.policy f.capacity f.met
     line first c.write_frame.new.self c.in_ok-write_frame.ensures c.drop_first.new.source _ d.in_order d.left d.told d.policy
     d.capacity (omega (arith, c.if-buf_len-eq0.false, c.buf_len.ensures.value))
     (omega (arith, c.min-taken.ensures, ap length shown)))
@@ -55,7 +55,7 @@ returns-clause-end g c is =
     subst (λ l. IsFirstLine l line) shown c.first_line-line.ensures in
     let isnt : ltb (length line) (length c.buffer-bytes.result.now) ≡ false = cc in
     end_known g.W.TellWrite.stretch g.met.W.TellWrite.stretch_none g.met.W.TellWrite.stretch_joins c.args.source.now
-    c.ready.new.source c.args.target.now c.requires f.in_order f.grows f.policy f.capacity f.no_fault
+    c.ready.new.source c.args.target.now c.requires f.in_order f.grows f.policy f.capacity f.met
     line first c.write_frame.new.self c.in_ok-write_frame.ensures c.drop_first.new.source _ d.in_order d.left d.told d.policy
     d.capacity c.ready.new.ended f.enough
     (ap (λ l. ltb (length line) (length l)) (sym shown) ∙ isnt)

@@ -1,38 +1,76 @@
-use Rattle.std.proofs.Common.{subst, ap, ◌∙◌, Ok}
+use Rattle.std.proofs.Common.{◌≡◌, ◌+◌, ◌≤◌, subst, ap, ◌∙◌, Ok, Err, true, false, length, [], arith}
 use Rattle.std.proofs.lemmas.Result.{err_from_is_err_and}
-use Rattle.frame_reader.specs.Next.{Next, answer_of}
-use Rattle.frames.proofs.Unpacking.{no_frame, not_printed, printed}
+use Rattle.frame_reader.specs.NextLaws.{FramesWent-joins}
+use Rattle.frames.specs.Unpack.{ReadStopped, UnpacksOnce}
+use Rattle.frames.proofs.Faring.{only_more, one_more}
+use Rattle.frames.proofs.Unpacking.{retried, gives_up}
 use Rattle.frames.proofs.unpack.unpack_frame.Goals as goal
 
-pub returns-in_err-payload : goal.returns-in_err-payload
-returns-in_err-payload g c =
-    let remaining = g.R.TellRead.remaining in
-    let s = c.args.source.now in
-    let t = c.next.follows.lender-at-none in
+pub returns-in_err-try_frame : goal.returns-in_err-try_frame
+returns-in_err-try_frame g c =
+    let before = c.tries.invariant in
     let p = err_from_is_err_and c.from_residual.result c.from_residual.ensures.1 in
     rw (p.1, p.2)
-    (no_frame remaining s t c.args.target.now c.requires _
-    (subst (λ r. Next remaining s (answer_of r) t) c.in_err-payload.was c.next.follows.holds-at-none))
+    (retried g.R.TellRead.remaining c.args.source.now c.tries.source c.try_frame.new.source c.args.target.now
+    c.try_frame.new.target before.went before.met c.tries.target before.target
+    (Err c.in_err-try_frame.field-0.0) c.in_err-try_frame.ensures)
 
-pub returns-in_err-print_line-in-Some : goal.returns-in_err-print_line-in-Some
-returns-in_err-print_line-in-Some g c =
+pub returns-in-Printed : goal.returns-in-Printed
+returns-in-Printed g c =
     let remaining = g.R.TellRead.remaining in
-    let s = c.args.source.now in
-    let t = c.next.follows.lender-at-none in
-    let r = c.from_residual-in_err-print_line-in-Some in
-    let p = err_from_is_err_and r.result r.ensures.1 in
-    let e = c.in_err-print_line-in-Some.ensures in
-    rw (p.1, p.2)
-    (not_printed remaining s t c.args.target.now c.requires c.in-Some.payload.now
-    (subst (λ r. Next remaining s (answer_of r) t) (c.in_ok-payload.was ∙ ap (λ x. Ok x) c.in-Some.is)
-    c.next.follows.holds-at-none) c.print_line.new.target e.kind e.capacity _ e.none e.caused)
+    let before = c.tries.invariant in
+    let t = c.try_frame.new.source in
+    let v = c.try_frame.new.target in
+    retried remaining c.args.source.now c.tries.source t c.args.target.now v before.went before.met c.tries.target
+    before.target (Ok true)
+    (subst (λ x. UnpacksOnce remaining c.tries.source c.tries.target (Ok x) t v) c.in-Printed.is c.in_ok-try_frame.ensures)
 
-pub returns-in_ok-print_line-in-Some : goal.returns-in_ok-print_line-in-Some
-returns-in_ok-print_line-in-Some g c =
+pub returns-in-End : goal.returns-in-End
+returns-in-End g c =
     let remaining = g.R.TellRead.remaining in
-    let s = c.args.source.now in
-    let t = c.next.follows.lender-at-none in
-    let e = c.in_ok-print_line-in-Some.ensures in
-    printed remaining s t c.args.target.now c.requires c.in-Some.payload.now
-    (subst (λ r. Next remaining s (answer_of r) t) (c.in_ok-payload.was ∙ ap (λ x. Ok x) c.in-Some.is)
-    c.next.follows.holds-at-none) c.print_line.new.target e.kind e.capacity e.taken e.met
+    let before = c.tries.invariant in
+    let t = c.try_frame.new.source in
+    let v = c.try_frame.new.target in
+    retried remaining c.args.source.now c.tries.source t c.args.target.now v before.went before.met c.tries.target
+    before.target (Ok false)
+    (subst (λ x. UnpacksOnce remaining c.tries.source c.tries.target (Ok x) t v) c.in-End.is c.in_ok-try_frame.ensures)
+
+pub returns-then-is_answered : goal.returns-then-is_answered
+returns-then-is_answered g c =
+    let remaining = g.R.TellRead.remaining in
+    let before = c.tries.invariant in
+    let t = c.try_frame.new.source in
+    let v = c.try_frame.new.target in
+    let e = c.in-ReadFailed.e in
+    let stopped : ReadStopped remaining c.tries.source c.tries.target e t v =
+    subst (λ x. UnpacksOnce remaining c.tries.source c.tries.target (Ok x) t v) c.in-ReadFailed.is
+    c.in_ok-try_frame.ensures in
+    rw c.into.ensures
+    (gives_up remaining c.args.source.now c.tries.source t c.args.target.now v before.went before.met c.tries.target
+    before.target e c.requires stopped
+    (λ is. omega (
+      arith,
+      c.is_answered.ensures.often c.if-is_answered.true is,
+      c.row_with-row.ensures.most,
+      before.row,
+      one_more _ _ e stopped.fault,
+    )))
+
+pub tries-preserved : goal.tries-preserved
+tries-preserved g c =
+    let remaining = g.R.TellRead.remaining in
+    let before = c.tries.invariant in
+    let t = c.try_frame.new.source in
+    let v = c.try_frame.new.target in
+    let e = c.in-ReadFailed.e in
+    let stopped : ReadStopped remaining c.tries.source c.tries.target e t v =
+    subst (λ x. UnpacksOnce remaining c.tries.source c.tries.target (Ok x) t v) c.in-ReadFailed.is
+    c.in_ok-try_frame.ensures in
+    let again = c.is_answered.ensures.again c.if-is_answered.false in
+    record {
+      went = FramesWent-joins remaining c.args.source.now c.tries.source t [] [] before.went stopped.went;
+      target = stopped.same ∙ before.target;
+      met = only_more _ _ _ e before.met stopped.fault again.0;
+      row = omega (arith, before.row, c.row_with-row.ensures.most, one_more _ _ e stopped.fault);
+      few = again.1;
+    }
