@@ -6,3 +6,4 @@ pub mod PackingAll
 pub mod PackRuns
 pub mod Unpacking
 pub mod UnpackRuns
+pub mod Words

@@ -1,5 +1,7 @@
 -- What the program says of each ending.
-use Rattle.std.specs.Prelude.{ℕ, List, [], codes, Bool, true, false, Result, Ok, Err}
+use Rattle.std.specs.Prelude.{◌≡◌, ◌≢◌, ℕ, List, [], codes, Bool, true, false, Result, Ok, Err}
+use Rattle.std.specs.IoError.{error_kind}
+use Rattle.std.specs.declared.io.ErrorKind.TheVariants.{OutOfMemory}
 use Rattle.frames.specs.declared.ending.Ending.{Ending}
 use Rattle.frames.specs.declared.ending.Ending.TheVariants.{Done, Failed, Usage, Memory, TooLong, Truncated}
 use Rattle.frames.specs.declared.error.RunError.{RunError}
@@ -11,6 +13,14 @@ faulted (Ok _) = false
 faulted (Err Why.TooLong) = false
 faulted (Err Why.Truncated) = false
 faulted (Err (Why.Io e)) = true
+
+-- how a run ends that returned this
+abbrev pub EndsAs : Result (Unit {0}) RunError → Ending → Type 0
+EndsAs (Ok _) ending = ending ≡ Done
+EndsAs (Err Why.TooLong) ending = ending ≡ TooLong
+EndsAs (Err Why.Truncated) ending = ending ≡ Truncated
+EndsAs (Err (Why.Io e)) ending =
+    (error_kind e ≡ OutOfMemory → ending ≡ Memory) × (error_kind e ≢ OutOfMemory → ending ≡ Failed)
 
 -- the status that the process ends with
 abbrev pub status_of : Ending → ℕ

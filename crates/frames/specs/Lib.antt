@@ -1,3 +1,4 @@
+pub mod Asked
 pub mod Ending
 pub mod Lines
 pub mod Streams

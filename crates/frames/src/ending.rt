@@ -1,7 +1,5 @@
 //! How a run ends, and what the program says of it.
-ghost use Rattle.std.specs.Prelude.{◌≡◌, ◌≢◌, Err, OnOk};
-ghost use Rattle.std.specs.IoError.{error_kind};
-ghost use Rattle.std.specs.declared.io.Error.{Error};
+ghost use Rattle.std.specs.Prelude.{◌≡◌};
 
 use crate::error::RunError;
 use std::io::ErrorKind;
@@ -24,17 +22,11 @@ pub enum Ending {
 }
 
 impl Ending {
-    ghost use Rattle.frames.specs.Ending.{status_of, line_of};
+    ghost use Rattle.frames.specs.Ending.{EndsAs, status_of, line_of};
 
     /// How a run ends that returned this.
     pub fn of(answer: &Result<(), RunError>) -> Ending
-        ensures done { OnOk answer.now (result ≡ Ending.Done) }
-        ensures too_long { answer.now ≡ Err RunError.TooLong → result ≡ Ending.TooLong }
-        ensures truncated { answer.now ≡ Err RunError.Truncated → result ≡ Ending.Truncated }
-        ensures memory { (e : Error) → answer.now ≡ Err (RunError.Io e)
-            → error_kind e ≡ ErrorKind.OutOfMemory → result ≡ Ending.Memory }
-        ensures failed { (e : Error) → answer.now ≡ Err (RunError.Io e)
-            → error_kind e ≢ ErrorKind.OutOfMemory → result ≡ Ending.Failed }
+        ensures { EndsAs answer.now result }
     {
         match answer {
             Ok(()) => Ending::Done,

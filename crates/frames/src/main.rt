@@ -4,6 +4,7 @@
 mod ending;
 mod error;
 mod pack;
+mod run;
 #[cfg(test)]
 mod tests;
 mod tries;
@@ -12,9 +13,6 @@ mod unpack;
 use crate::ending::Ending;
 use buffer_redux::tell::Told;
 use std::process::ExitCode;
-
-// The greatest length of a line or a payload.
-const GREATEST: u16 = u16::MAX;
 
 // Does what the word that the program was given asks for.
 fn outcome(rt: &HostRuntime) -> Ending {
@@ -28,15 +26,7 @@ fn outcome(rt: &HostRuntime) -> Ending {
         Err(_) => return Ending::Memory,
     };
     let (reader, writer) = (Told::new(rt.stdin()), Told::new(rt.stdout()));
-    match words.as_slice() {
-        [word] if word.as_str() == "pack" => {
-            Ending::of(&pack::pack(rt.alloc(), GREATEST, reader, writer).0)
-        }
-        [word] if word.as_str() == "unpack" => {
-            Ending::of(&unpack::unpack(rt.alloc(), GREATEST, reader, writer).0)
-        }
-        _ => Ending::Usage,
-    }
+    run::run_asked(rt.alloc(), words.as_slice(), reader, writer).0
 }
 
 fn main(rt: HostRuntime) -> ExitCode {
