@@ -4,11 +4,11 @@
 usage, at the top of the repository: python3 tests/edits.py [--seconds N] [--after-ci] [--lanes N] [CRATE | EDIT ..]
 
 An edit stands in tests/edits/CRATE/, or in crates/CRATE/must-fail/, where `rt ci` tries it too. It is a file as that reads
-it, with a line `fn: PATH` in front, which names the function whose proof it breaks, as `rt check` does below the crate.
+it, with a line `# fn: PATH` in front, which names the function whose proof it breaks, as `rt check` does below the crate.
 
 A function is proved against the contracts of those that it calls. So edits of different functions stand in one check, and
 each has its verdict in the line of its own function: one that tells of goals of its own is a refusal. 'It calls X, which is
-not proved' says nothing, nor does 'proved' beside others: such an edit is tried alone, and so is one without a `fn:`.
+not proved' says nothing, nor does 'proved' beside others: such an edit is tried alone, and so is one that names no function.
 
 With --seconds it stops once checks took so many seconds of a processor, and leaves out what `rt ci` tries. It begins with
 the crates that the last commits touched, and goes on in an order that changes with each commit. With --after-ci it goes by
@@ -61,7 +61,7 @@ def read(path):
     fn, file, old, pairs = "", "", "", []
     for line in lines:
         key, _, value = line.partition(": " if not line.startswith("new:") else ":")
-        if key == "fn":
+        if key in ("fn", "# fn"):
             fn = value.strip()
         elif key == "file":
             file = value.strip()
