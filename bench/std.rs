@@ -18,6 +18,22 @@ impl Read for Source<'_> {
     }
 }
 
+struct Packets<'a> {
+    left: &'a [u8],
+    most: usize,
+}
+
+impl Read for Packets<'_> {
+    #[inline(never)]
+    fn read(&mut self, out: &mut [u8]) -> io::Result<usize> {
+        let n = out.len().min(self.most).min(self.left.len());
+        let (given, left) = self.left.split_at(n);
+        out[..n].copy_from_slice(given);
+        self.left = left;
+        Ok(n)
+    }
+}
+
 #[derive(Default)]
 struct Sink {
     firsts: u64,
@@ -143,6 +159,28 @@ fn copy_at_once(mut reader: impl BufRead, mut writer: impl Write) -> io::Result<
     Ok(total)
 }
 
+#[inline(never)]
+fn until_end(mut reader: impl BufRead) -> io::Result<u64> {
+    let (mut total, mut line) = (0, Vec::new());
+    loop {
+        line.clear();
+        let n = reader.read_until(b'\n', &mut line)?;
+        if n == 0 {
+            return Ok(total);
+        }
+        total += n as u64;
+    }
+}
+
+#[inline(never)]
+fn lines_to_end(reader: impl BufRead) -> io::Result<u64> {
+    let mut total = 0;
+    for line in reader.lines() {
+        total += line?.len() as u64 + 1;
+    }
+    Ok(total)
+}
+
 #[no_mangle]
 #[inline(never)]
 fn measured(shape: &str, capacity: usize, piece: usize, bytes: &[u8]) -> io::Result<u64> {
@@ -165,6 +203,8 @@ fn measured(shape: &str, capacity: usize, piece: usize, bytes: &[u8]) -> io::Res
         "write_all" => write_all_often(writer(capacity), &bytes[..piece], bytes.len() as u64),
         "format" => format_often(writer(capacity), bytes.len() as u64),
         "format_lines" => format_often(lines(capacity), bytes.len() as u64),
+        "next" => until_end(BufReader::new(Packets { left: bytes, most: piece })),
+        "next_trimmed" => lines_to_end(BufReader::new(Packets { left: bytes, most: piece })),
         _ => Ok(0),
     }
 }
@@ -179,6 +219,10 @@ fn noise(total: usize) -> Vec<u8> {
         .collect()
 }
 
+fn text(length: usize, total: usize) -> Vec<u8> {
+    (1..=total).map(|at| if at % length == 0 { b'\n' } else { b'x' }).collect()
+}
+
 fn main() -> io::Result<()> {
     let words: Vec<String> = std::env::args().skip(1).collect();
     let [shape, numbers @ ..] = words.as_slice() else {
@@ -188,7 +232,8 @@ fn main() -> io::Result<()> {
     let [capacity, piece, total] = numbers[..] else {
         return Err(io::ErrorKind::InvalidInput.into());
     };
-    let bytes = black_box(noise(total));
+    let bytes = if shape.starts_with("next") { text(capacity, total) } else { noise(total) };
+    let bytes = black_box(bytes);
     println!("{}", measured(shape, capacity, piece, &bytes)?);
     Ok(())
 }

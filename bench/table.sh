@@ -1,10 +1,10 @@
 # sh bench/table.sh
 #
-# Proves and builds crates/bench, builds bench/std.rs, and prints two tables in Markdown. The first says how many instructions
+# Proves and builds crates/bench, builds bench/std.rs, and prints three tables in Markdown. The first says how many instructions
 # each case takes for a byte that goes over, as callgrind counts them, whatever else the machine does; the second the same
-# where a policy looks ahead, for when a ring pays. It needs valgrind; the last column of the first needs rustc. A case is one
-# line of `cases` below; one of a new shape is a function in crates/bench/src/cases.rt and one in bench/std.rs too.
-# `sh bench/table.sh pays` prints the second table alone.
+# where a policy looks ahead, for when a ring pays; the third where lines are read. It needs valgrind; the columns of Rust's std
+# need rustc. A case is one line of `cases` below; one of a new shape is a function in crates/bench/src/cases.rt and one in
+# bench/std.rs too. `sh bench/table.sh pays` prints the second table alone, `sh bench/table.sh lines` the third.
 set -eu
 
 cases='read in pieces of 64|read 8192 64 8388608
@@ -33,6 +33,12 @@ pays='4096 4096
 12288 512
 16384 512
 65536 512'
+
+# How long the lines are with their ends, how many bytes a read gives at most, and how many go over.
+texts='80 8192 8388608
+80 512 8388608
+10 8192 8388608
+65536 100 8388608'
 
 here=$(cd "$(dirname "$0")" && pwd)
 if ! command -v valgrind > /dev/null; then
@@ -77,10 +83,33 @@ print_pays() {
     done
 }
 
-if [ "${1-}" = pays ]; then
-    print_pays
-    exit
-fi
+# Lines that are lent, and those that std copies.
+print_lines() {
+    echo "| Lines of, bytes a read | next | next_trimmed | the kit's read_until | the kit's lines" \
+        "| Rust's read_until | Rust's lines |"
+    echo '|---|---|---|---|---|---|---|'
+    echo "$texts" | while read -r length most total; do
+        row="| $length, $most |"
+        for kind in plain std; do
+            for shape in next next_trimmed; do
+                row="$row $(count "$bench" "$shape" "$kind" "$length" "$most" "$total") |"
+            done
+        done
+        for shape in next next_trimmed; do
+            if [ -n "$rust" ]; then
+                row="$row $(count "$rust" "$shape" "$length" "$most" "$total") |"
+            else
+                row="$row – |"
+            fi
+        done
+        echo "$row"
+    done
+}
+
+case "${1-}" in
+    pays) print_pays && exit ;;
+    lines) print_lines && exit ;;
+esac
 
 echo "| Instructions a byte | plain | ring | the kit's std | Rust's std |"
 echo '|---|---|---|---|---|'
@@ -103,3 +132,6 @@ done
 
 echo
 print_pays
+
+echo
+print_lines

@@ -1,5 +1,6 @@
 //! What is measured, and over which types.
 
+use crate::lines::{next, next_trimmed};
 use crate::streams::{Packets, Sink, Source};
 use crate::whole::{bytes_apart, exact, format, format_lines, unbuffer, write_all};
 use buffer_redux::policy::MinBuffered;
@@ -42,6 +43,10 @@ pub enum Shape {
     FormatLines,
     /// Fills the buffer once, and reads what is left in an `Unbuffer` in pieces.
     Unbuffer,
+    /// Reads lines.
+    Next,
+    /// Reads lines without the carriage returns before their ends.
+    NextTrimmed,
 }
 
 impl Shape {
@@ -62,6 +67,8 @@ impl Shape {
             "format" => Some(Shape::Format),
             "format_lines" => Some(Shape::FormatLines),
             "unbuffer" => Some(Shape::Unbuffer),
+            "next" => Some(Shape::Next),
+            "next_trimmed" => Some(Shape::NextTrimmed),
             _ => None,
         }
     }
@@ -117,6 +124,8 @@ pub fn measured(alloc: Global, case: &Case, bytes: &[u8]) -> io::Result<u64> {
         Shape::Format => format(alloc, case, bytes.len() as u64),
         Shape::FormatLines => format_lines(alloc, case, bytes.len() as u64),
         Shape::Unbuffer => unbuffer(alloc, case, bytes),
+        Shape::Next => next(alloc, case, bytes),
+        Shape::NextTrimmed => next_trimmed(alloc, case, bytes),
     }
 }
 

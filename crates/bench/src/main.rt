@@ -3,10 +3,12 @@
 #![tactic(auto)]
 
 mod cases;
+mod lines;
 mod streams;
 mod whole;
 
 use crate::cases::{Case, Kind, Shape, measured};
+use crate::lines::text;
 use std::alloc::{AllocError, Global};
 use std::io;
 use std::io::ErrorKind;
@@ -32,7 +34,10 @@ fn count(word: &String) -> io::Result<usize> {
 
 // One case on so many bytes.
 fn run(alloc: Global, case: &Case, total: usize) -> io::Result<u64> {
-    let bytes = noise(alloc, total)?;
+    let bytes = match case.shape {
+        Shape::Next | Shape::NextTrimmed => text(alloc, case.capacity, total)?,
+        _ => noise(alloc, total)?,
+    };
     measured(alloc, case, bytes.as_slice())
 }
 
@@ -72,6 +77,8 @@ fn run_all(rt: &HostRuntime) -> io::Result<()> {
         ("format", Shape::Format, 8192, 21),
         ("format_lines", Shape::FormatLines, 8192, 21),
         ("unbuffer", Shape::Unbuffer, 40000, 64),
+        ("next", Shape::Next, 80, 512),
+        ("next_trimmed", Shape::NextTrimmed, 80, 512),
     ] {
         let plain = Case {
             shape,
