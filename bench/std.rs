@@ -181,6 +181,74 @@ fn lines_to_end(reader: impl BufRead) -> io::Result<u64> {
     Ok(total)
 }
 
+/// Lends frames out of the buffer where they stand there whole, and else reads them into a block of its own.
+struct Frames<R> {
+    inner: R,
+    payload: Vec<u8>,
+    lent: usize,
+}
+
+impl<R: BufRead> Frames<R> {
+    #[inline(never)]
+    fn next(&mut self) -> io::Result<Option<&[u8]>> {
+        self.inner.consume(self.lent);
+        self.lent = 0;
+        let shown = self.inner.fill_buf()?;
+        if shown.is_empty() {
+            return Ok(None);
+        }
+        if let [high, low, ..] = *shown {
+            let whole = 2 + fitting([high, low], self.payload.len())?;
+            if shown.len() >= whole {
+                self.lent = whole;
+                return Ok(Some(&self.inner.fill_buf()?[2..whole]));
+            }
+        }
+        let mut header = [0; 2];
+        self.inner.read_exact(&mut header)?;
+        let length = fitting(header, self.payload.len())?;
+        self.inner.read_exact(&mut self.payload[..length])?;
+        Ok(Some(&self.payload[..length]))
+    }
+}
+
+fn fitting(header: [u8; 2], greatest: usize) -> io::Result<usize> {
+    let length = usize::from(u16::from_be_bytes(header));
+    if length > greatest {
+        return Err(io::ErrorKind::InvalidData.into());
+    }
+    Ok(length)
+}
+
+#[inline(never)]
+fn frames_to_end(mut reader: Frames<impl BufRead>) -> io::Result<u64> {
+    let mut total = 0;
+    while let Some(payload) = reader.next()? {
+        total += payload.len() as u64 + 2;
+    }
+    Ok(total)
+}
+
+#[inline(never)]
+fn write_frame(writer: &mut impl Write, payload: &[u8]) -> io::Result<()> {
+    if payload.len() > 1024 {
+        return Err(io::ErrorKind::InvalidInput.into());
+    }
+    writer.write_all(&(payload.len() as u16).to_be_bytes())?;
+    writer.write_all(payload)
+}
+
+#[inline(never)]
+fn write_frames(mut writer: impl Write, payload: &[u8], least: u64) -> io::Result<u64> {
+    let mut total = 0;
+    while total < least {
+        write_frame(&mut writer, payload)?;
+        total += payload.len() as u64 + 2;
+    }
+    writer.flush()?;
+    Ok(total)
+}
+
 #[no_mangle]
 #[inline(never)]
 fn measured(shape: &str, capacity: usize, piece: usize, bytes: &[u8]) -> io::Result<u64> {
@@ -205,8 +273,19 @@ fn measured(shape: &str, capacity: usize, piece: usize, bytes: &[u8]) -> io::Res
         "format_lines" => format_often(lines(capacity), bytes.len() as u64),
         "next" => until_end(BufReader::new(Packets { left: bytes, most: piece })),
         "next_trimmed" => lines_to_end(BufReader::new(Packets { left: bytes, most: piece })),
+        "frames" => frames_to_end(Frames { inner: reader(), payload: vec![0; 1024], lent: 0 }),
+        "write_frames" => write_frames(writer(capacity), &bytes[..piece], bytes.len() as u64),
         _ => Ok(0),
     }
+}
+
+fn framed(length: usize, total: usize) -> Vec<u8> {
+    let mut bytes = Vec::with_capacity(total);
+    for at in 0..total / (2 + length) {
+        bytes.extend_from_slice(&(length as u16).to_be_bytes());
+        bytes.resize(bytes.len() + length, at as u8);
+    }
+    bytes
 }
 
 fn noise(total: usize) -> Vec<u8> {
@@ -232,7 +311,11 @@ fn main() -> io::Result<()> {
     let [capacity, piece, total] = numbers[..] else {
         return Err(io::ErrorKind::InvalidInput.into());
     };
-    let bytes = if shape.starts_with("next") { text(capacity, total) } else { noise(total) };
+    let bytes = match shape.as_str() {
+        "next" | "next_trimmed" => text(capacity, total),
+        "frames" => framed(piece, total),
+        _ => noise(total),
+    };
     let bytes = black_box(bytes);
     println!("{}", measured(shape, capacity, piece, &bytes)?);
     Ok(())

@@ -1,10 +1,11 @@
 # sh bench/table.sh
 #
-# Proves and builds crates/bench, builds bench/std.rs, and prints three tables in Markdown. The first says how many instructions
+# Proves and builds crates/bench, builds bench/std.rs, and prints four tables in Markdown. The first says how many instructions
 # each case takes for a byte that goes over, as callgrind counts them, whatever else the machine does; the second the same
-# where a policy looks ahead, for when a ring pays; the third where lines are read. It needs valgrind; the columns of Rust's std
-# need rustc. A case is one line of `cases` below; one of a new shape is a function in crates/bench/src/cases.rt and one in
-# bench/std.rs too. `sh bench/table.sh pays` prints the second table alone, `sh bench/table.sh lines` the third.
+# where a policy looks ahead, for when a ring pays; the third where lines are read, the fourth frames. It needs valgrind; the
+# columns of Rust's std need rustc. A case is one line of `cases` below; one of a new shape is a function in
+# crates/bench/src/cases.rt and one in bench/std.rs too. `sh bench/table.sh pays` prints the second table alone, `lines` in its
+# place the third, `frames` the fourth.
 set -eu
 
 cases='read in pieces of 64|read 8192 64 8388608
@@ -39,6 +40,10 @@ texts='80 8192 8388608
 80 512 8388608
 10 8192 8388608
 65536 100 8388608'
+
+# How long the payloads of frames are, through 8192 bytes.
+payloads='64
+1000'
 
 here=$(cd "$(dirname "$0")" && pwd)
 if ! command -v valgrind > /dev/null; then
@@ -106,9 +111,28 @@ print_lines() {
     done
 }
 
+# Frames that are lent and taken in, and the same by hand over Rust's std.
+print_frames() {
+    echo "| Payloads of | next | by hand in Rust | write_frame | by hand in Rust |"
+    echo '|---|---|---|---|---|'
+    echo "$payloads" | while read -r length; do
+        row="| $length |"
+        for shape in frames write_frames; do
+            row="$row $(count "$bench" "$shape" plain 8192 "$length" 8388608) |"
+            if [ -n "$rust" ]; then
+                row="$row $(count "$rust" "$shape" 8192 "$length" 8388608) |"
+            else
+                row="$row – |"
+            fi
+        done
+        echo "$row"
+    done
+}
+
 case "${1-}" in
     pays) print_pays && exit ;;
     lines) print_lines && exit ;;
+    frames) print_frames && exit ;;
 esac
 
 echo "| Instructions a byte | plain | ring | the kit's std | Rust's std |"
@@ -135,3 +159,6 @@ print_pays
 
 echo
 print_lines
+
+echo
+print_frames

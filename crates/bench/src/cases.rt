@@ -1,5 +1,6 @@
 //! What is measured, and over which types.
 
+use crate::frames::{frames, write_frames};
 use crate::lines::{next, next_trimmed};
 use crate::streams::{Packets, Sink, Source};
 use crate::whole::{bytes_apart, exact, format, format_lines, unbuffer, write_all};
@@ -47,6 +48,10 @@ pub enum Shape {
     Next,
     /// Reads lines without the carriage returns before their ends.
     NextTrimmed,
+    /// Reads frames.
+    Frames,
+    /// Writes the same frame again and again, and flushes.
+    WriteFrames,
 }
 
 impl Shape {
@@ -69,6 +74,8 @@ impl Shape {
             "unbuffer" => Some(Shape::Unbuffer),
             "next" => Some(Shape::Next),
             "next_trimmed" => Some(Shape::NextTrimmed),
+            "frames" => Some(Shape::Frames),
+            "write_frames" => Some(Shape::WriteFrames),
             _ => None,
         }
     }
@@ -126,6 +133,8 @@ pub fn measured(alloc: Global, case: &Case, bytes: &[u8]) -> io::Result<u64> {
         Shape::Unbuffer => unbuffer(alloc, case, bytes),
         Shape::Next => next(alloc, case, bytes),
         Shape::NextTrimmed => next_trimmed(alloc, case, bytes),
+        Shape::Frames => frames(alloc, case, bytes),
+        Shape::WriteFrames => write_frames(alloc, case, bytes),
     }
 }
 

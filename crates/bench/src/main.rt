@@ -3,11 +3,13 @@
 #![tactic(auto)]
 
 mod cases;
+mod frames;
 mod lines;
 mod streams;
 mod whole;
 
 use crate::cases::{Case, Kind, Shape, measured};
+use crate::frames::framed;
 use crate::lines::text;
 use std::alloc::{AllocError, Global};
 use std::io;
@@ -36,6 +38,7 @@ fn count(word: &String) -> io::Result<usize> {
 fn run(alloc: Global, case: &Case, total: usize) -> io::Result<u64> {
     let bytes = match case.shape {
         Shape::Next | Shape::NextTrimmed => text(alloc, case.capacity, total)?,
+        Shape::Frames => framed(alloc, case.piece, total)?,
         _ => noise(alloc, total)?,
     };
     measured(alloc, case, bytes.as_slice())
@@ -79,6 +82,8 @@ fn run_all(rt: &HostRuntime) -> io::Result<()> {
         ("unbuffer", Shape::Unbuffer, 40000, 64),
         ("next", Shape::Next, 80, 512),
         ("next_trimmed", Shape::NextTrimmed, 80, 512),
+        ("frames", Shape::Frames, 8192, 64),
+        ("write_frames", Shape::WriteFrames, 8192, 64),
     ] {
         let plain = Case {
             shape,
