@@ -6,6 +6,8 @@
 #[cfg(test)]
 mod blocks;
 #[cfg(test)]
+mod bodies;
+#[cfg(test)]
 mod frames;
 #[cfg(test)]
 mod lines;

@@ -1,6 +1,8 @@
-//! Frames by worked examples, both ways, cut in pieces and with a fault at each call.
+//! Frames and bodies by worked examples, cut in pieces and with a fault at each call.
 #![tactic(auto)]
 
+#[cfg(test)]
+mod bodies;
 #[cfg(test)]
 mod errors;
 #[cfg(test)]
