@@ -58,19 +58,17 @@ fn takes(b: &mut Buffer, step: Step<'_>) -> bool {
     }
 }
 
-fn shows(rt: &impl Abort, b: &Buffer, bytes: &[u8], capacity: usize, usable: usize) {
-    assert_eq!(rt; b.buf(), bytes);
-    assert_eq!(rt; b.len(), bytes.len());
-    assert_eq!(rt; b.is_empty(), bytes.is_empty());
-    assert_eq!(rt; b.capacity(), capacity);
-    assert_eq!(rt; b.usable_space(), usable);
+// Whether it holds these bytes, and has this capacity and this usable space.
+fn shows(b: &Buffer, bytes: &[u8], capacity: usize, usable: usize) -> bool {
+    let told = (b.len(), b.is_empty()) == (bytes.len(), bytes.is_empty());
+    told && b.buf() == bytes && (b.capacity(), b.usable_space()) == (capacity, usable)
 }
 
 fn walks(rt: &impl Abort, made: Result<Buffer, GrowError>, rows: &[Row<'_>]) -> Result<(), Fail> {
     let mut b = made?;
     for &(step, bytes, capacity, usable) in rows {
         assert!(rt; takes(&mut b, step));
-        shows(rt, &b, bytes, capacity, usable);
+        assert!(rt; shows(&b, bytes, capacity, usable));
     }
     Ok(())
 }
@@ -79,7 +77,7 @@ fn walks(rt: &impl Abort, made: Result<Buffer, GrowError>, rows: &[Row<'_>]) -> 
 #[test]
 fn plain(rt: HostRuntime) -> Result<(), Fail> {
     let eight = [1, 2, 3, 4, 5, 6, 7, 8];
-    let rows: [&[Row<'_>]; 2] = [
+    let eights: [&[Row<'_>]; 2] = [
         &[
             (Step::Copy(&eight, 8), &eight, 8, 0),
             (Step::Consume(5), &[6, 7, 8], 8, 0),
@@ -93,15 +91,10 @@ fn plain(rt: HostRuntime) -> Result<(), Fail> {
             (Step::Reserve(2), &[6, 7, 8], 10, 2),
         ],
     ];
-    for rows in rows {
+    for rows in eights {
         walks(&rt, Buffer::with_capacity(rt.alloc(), 8), rows)?;
     }
-    Ok(())
-}
-
-#[test]
-fn grown(rt: HostRuntime) -> Result<(), Fail> {
-    let rows: [&[Row<'_>]; 3] = [
+    let fours: [&[Row<'_>]; 3] = [
         &[(Step::Reserve(4), &[], 4, 4), (Step::Reserve(5), &[], 9, 9)],
         &[
             (Step::Copy(&[1, 2, 3], 3), &[1, 2, 3], 4, 1),
@@ -115,7 +108,7 @@ fn grown(rt: HostRuntime) -> Result<(), Fail> {
             (Step::Consume(18446744073709551615), &[], 4, 4),
         ],
     ];
-    for rows in rows {
+    for rows in fours {
         walks(&rt, Buffer::with_capacity(rt.alloc(), 4), rows)?;
     }
     Ok(())
@@ -205,11 +198,14 @@ fn ring_limited(rt: HostRuntime) -> Result<(), Fail> {
         ),
     ];
     walks(&rt, Buffer::with_capacity_ringbuf(rt.alloc(), 4096), rows)?;
-    let plain = Buffer::with_capacity(rt.alloc(), 0)?;
-    assert_eq!(rt; plain.limit(), MAX);
-    let ring = Buffer::with_capacity_ringbuf(rt.alloc(), 0)?;
-    assert_eq!(rt; ring.limit(), 2305843009213693952);
-    Ok(())
+    let rows: &[Row<'_>] = &[
+        (Step::Copy(&ten, 10), &ten, 4096, 4086),
+        (Step::TooLarge(18446744073709551615), &ten, 4096, 4086),
+        (Step::NoMemory(NO_MACHINE), &ten, 4096, 4086),
+        (Step::Reserve(4086), &ten, 4096, 4086),
+        (Step::Reserve(4087), &ten, 8192, 8182),
+    ];
+    walks(&rt, Buffer::with_capacity_ringbuf(rt.alloc(), 4096), rows)
 }
 
 // All free space of a ring is one slice, across its end too.
@@ -227,30 +223,16 @@ fn ring(rt: HostRuntime) -> Result<(), Fail> {
 }
 
 #[test]
-fn ring_grown(rt: HostRuntime) -> Result<(), Fail> {
-    let ten = [7; 10];
-    let rows: &[Row<'_>] = &[
-        (Step::Copy(&ten, 10), &ten, 4096, 4086),
-        (Step::TooLarge(18446744073709551615), &ten, 4096, 4086),
-        (Step::NoMemory(NO_MACHINE), &ten, 4096, 4086),
-        (Step::Reserve(4086), &ten, 4096, 4086),
-        (Step::Reserve(4087), &ten, 8192, 8182),
-    ];
-    walks(&rt, Buffer::with_capacity_ringbuf(rt.alloc(), 4096), rows)
-}
-
-#[test]
 fn made(rt: HostRuntime) -> Result<(), Fail> {
     for (asked, capacity) in [(0, 0), (1, 4096), (64, 4096), (4096, 4096), (4097, 8192)] {
         let ring = Buffer::with_capacity_ringbuf(rt.alloc(), asked)?;
-        shows(&rt, &ring, &[], capacity, capacity);
-        assert!(rt; ring.is_ringbuf());
+        assert!(rt; shows(&ring, &[], capacity, capacity));
+        assert!(rt; (ring.is_ringbuf(), ring.limit()) == (true, 2305843009213693952));
         laws::ring_law(&ring);
     }
     let plain = Buffer::new(rt.alloc())?;
-    shows(&rt, &plain, &[], 8192, 8192);
-    assert!(rt; !plain.is_ringbuf());
-    assert_eq!(rt; plain.free_space(), 8192);
+    assert!(rt; shows(&plain, &[], 8192, 8192));
+    assert!(rt; (plain.is_ringbuf(), plain.free_space(), plain.limit()) == (false, 8192, MAX));
     Ok(())
 }
 
@@ -258,30 +240,33 @@ fn made(rt: HostRuntime) -> Result<(), Fail> {
 #[test]
 fn by_law(rt: HostRuntime) -> Result<(), Fail> {
     let mut b = Buffer::with_capacity(rt.alloc(), 6)?;
-    assert_eq!(rt; potential::copy_from_slice(&mut b, &[1, 2, 3, 4]), 4);
+    let count = potential::copy_from_slice(&mut b, &[1, 2, 3, 4]);
     potential::consume(&mut b, 2);
-    shows(&rt, &b, &[3, 4], 6, 2);
+    assert!(rt; count == 4 && shows(&b, &[3, 4], 6, 2));
     potential::make_room(&mut b);
-    shows(&rt, &b, &[3, 4], 6, 4);
+    assert!(rt; shows(&b, &[3, 4], 6, 4));
     potential::push_bytes(&mut b, &[5])?;
-    assert_eq!(rt;
-        potential::read_from(&mut b, &mut Told::new([6, 7].as_slice()))?,
-        2
-    );
+    let count = potential::read_from(&mut b, &mut Told::new([6, 7].as_slice()))?;
     potential::set_limit(&mut b, 9)?;
     potential::reserve(&mut b, 4)?;
-    shows(&rt, &b, &[3, 4, 5, 6, 7], 9, 4);
-    let mut out = [0u8; 1];
-    assert_eq!(rt; potential::copy_to_slice(&mut b, &mut out), 1);
+    assert!(rt; count == 2 && shows(&b, &[3, 4, 5, 6, 7], 9, 4));
+    let count = potential::copy_to_slice(&mut b, &mut [0u8; 1]);
+    potential::clear(&mut b);
+    assert!(rt; count == 1 && shows(&b, &[], 9, 9));
+    Ok(())
+}
+
+#[test]
+fn sent_by_law(rt: HostRuntime) -> Result<(), Fail> {
+    let mut b = Buffer::with_capacity(rt.alloc(), 9)?;
+    let _ = b.copy_from_slice(&[4, 5, 6, 7]);
     let mut wrt = Told::new(Vec::new(rt.alloc()));
     potential::write_max(&mut b, 1, &mut wrt)?;
-    shows(&rt, &b, &[5, 6, 7], 9, 4);
-    assert_eq!(rt; potential::write_to(&mut b, &mut wrt)?, 3);
-    assert_eq!(rt; potential::copy_from_slice(&mut b, &[8]), 1);
+    assert!(rt; shows(&b, &[5, 6, 7], 9, 5));
+    let count = potential::write_to(&mut b, &mut wrt)?;
+    let _ = b.copy_from_slice(&[8]);
     potential::write_all(&mut b, &mut wrt)?;
-    assert_eq!(rt; potential::copy_from_slice(&mut b, &[9]), 1);
-    potential::clear(&mut b);
-    shows(&rt, &b, &[], 9, 9);
+    assert!(rt; count == 3 && b.is_empty());
     assert_eq!(rt; wrt.get_ref().as_slice(), [4, 5, 6, 7, 8].as_slice());
     Ok(())
 }

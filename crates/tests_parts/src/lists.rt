@@ -1,10 +1,7 @@
 //! Lists of calls under policies that the library doesn't know: whatever they return, no byte is lost or changes place.
 ghost use Rattle.std.specs.Prelude.{◌<◌};
 
-use crate::claims::{Halves, Header};
-use crate::constant::{Always, Never, TooMuch};
-use crate::policies::{Copying, FailsAt, Fickle, Greedy, Growing, Limiting, Tidy};
-use buffer_redux::policy::{MinBuffered, ReaderPolicy, WriterPolicy};
+use crate::any::{Any, Kind};
 use buffer_redux::script::{Answer, ScriptReader, ScriptWriter};
 use buffer_redux::tell::Told;
 use buffer_redux::{BufReader, BufWriter, Buffer};
@@ -15,7 +12,6 @@ use std::alloc::{AllocError, Global};
 use std::io::ErrorKind;
 use std::process::Abort;
 use std::test::Fail;
-use tests_common::holding;
 
 // How many lists are made, and of how many calls each.
 const LISTS: u64 = 50;
@@ -105,16 +101,13 @@ const SCRIPT: [Answer; 6] = [
 ];
 
 // What was handed out, and then what is buffered, is what the source served.
-fn reads_in_order<P: ReaderPolicy>(
+fn reads_in_order(
     rt: &impl Abort,
     alloc: Global,
     ring: bool,
-    policy: P,
+    policy: Any,
     calls: &[ReaderCall],
-) -> Result<(), Fail>
-where
-    P: Drop,
-{
+) -> Result<(), Fail> {
     let inner = Told::new(ScriptReader::new(alloc, &BYTES, &SCRIPT)?);
     let mut rdr = BufReader::with_buffer(empty(alloc, ring)?, inner).set_policy(policy);
     let mut run = ReaderRun::new(alloc);
@@ -129,16 +122,13 @@ where
 }
 
 // What the stream took, and then what is buffered, is what the calls took in.
-fn writes_in_order<P: WriterPolicy>(
+fn writes_in_order(
     rt: &impl Abort,
     alloc: Global,
     ring: bool,
-    policy: P,
+    policy: Any,
     calls: &[WriterCall<'_>],
-) -> Result<(), Fail>
-where
-    P: Drop,
-{
+) -> Result<(), Fail> {
     let inner = Told::new(ScriptWriter::new(alloc, &SCRIPT)?);
     let mut wrt = BufWriter::with_buffer(empty(alloc, ring)?, inner).set_policy(policy);
     let mut run = WriterRun::new(alloc);
@@ -158,48 +148,47 @@ where
     Ok(())
 }
 
-// The list under each of the readers' policies.
-fn reads_under_each(
-    rt: &impl Abort,
-    alloc: Global,
-    ring: bool,
-    calls: &[ReaderCall],
-) -> Result<(), Fail> {
-    reads_in_order(rt, alloc, ring, Greedy, calls)?;
-    reads_in_order(rt, alloc, ring, Never, calls)?;
-    reads_in_order(rt, alloc, ring, Always, calls)?;
-    reads_in_order(rt, alloc, ring, Tidy(MinBuffered(4)), calls)?;
-    reads_in_order(rt, alloc, ring, Growing, calls)?;
-    reads_in_order(rt, alloc, ring, Limiting(12), calls)?;
-    reads_in_order(rt, alloc, ring, Fickle { asked: 0 }, calls)?;
-    reads_in_order(rt, alloc, ring, Header, calls)?;
-    reads_in_order(rt, alloc, ring, Halves, calls)?;
-    let seen = Vec::new(alloc);
-    reads_in_order(rt, alloc, ring, Copying { alloc, seen }, calls)?;
-    for question in 0..CALLS {
-        reads_in_order(rt, alloc, ring, FailsAt::new(question), calls)?;
+// The policies that the lists are played under, besides those that fail at one question.
+const KINDS: [Kind; 11] = [
+    Kind::Greedy,
+    Kind::Never,
+    Kind::Always,
+    Kind::TooMuch,
+    Kind::Tidy,
+    Kind::Growing,
+    Kind::Limiting(12),
+    Kind::Fickle,
+    Kind::Header,
+    Kind::Halves,
+    Kind::Copying,
+];
+
+// The policy of this number.
+fn numbered(alloc: Global, number: usize) -> Any {
+    let kind = match KINDS.get(number) {
+        Some(kind) => *kind,
+        None => Kind::FailsAt(number.saturating_sub(KINDS.len())),
+    };
+    Any::new(alloc, kind)
+}
+
+const POLICIES: usize = 11 + CALLS;
+
+// The list under each of the policies, over a buffer of either kind.
+fn reads_under_each(rt: &impl Abort, alloc: Global, calls: &[ReaderCall]) -> Result<(), Fail> {
+    for number in 0..POLICIES {
+        for ring in [false, true] {
+            reads_in_order(rt, alloc, ring, numbered(alloc, number), calls)?;
+        }
     }
     Ok(())
 }
 
-// The list under each of the writers' policies.
-fn writes_under_each(
-    rt: &impl Abort,
-    alloc: Global,
-    ring: bool,
-    calls: &[WriterCall<'_>],
-) -> Result<(), Fail> {
-    writes_in_order(rt, alloc, ring, Greedy, calls)?;
-    writes_in_order(rt, alloc, ring, Never, calls)?;
-    writes_in_order(rt, alloc, ring, Always, calls)?;
-    writes_in_order(rt, alloc, ring, TooMuch, calls)?;
-    writes_in_order(rt, alloc, ring, Tidy(MinBuffered(4)), calls)?;
-    writes_in_order(rt, alloc, ring, Growing, calls)?;
-    writes_in_order(rt, alloc, ring, Limiting(12), calls)?;
-    writes_in_order(rt, alloc, ring, Fickle { asked: 0 }, calls)?;
-    writes_in_order(rt, alloc, ring, Halves, calls)?;
-    for question in 0..CALLS {
-        writes_in_order(rt, alloc, ring, FailsAt::new(question), calls)?;
+fn writes_under_each(rt: &impl Abort, alloc: Global, calls: &[WriterCall<'_>]) -> Result<(), Fail> {
+    for number in 0..POLICIES {
+        for ring in [false, true] {
+            writes_in_order(rt, alloc, ring, numbered(alloc, number), calls)?;
+        }
     }
     Ok(())
 }
@@ -213,19 +202,10 @@ fn reads(rt: HostRuntime) -> Result<(), Fail> {
         ReaderCall::ReadIntoBuf,
         ReaderCall::Read(4),
     ];
-    for ring in [false, true] {
-        reads_under_each(&rt, rt.alloc(), ring, &calls)?;
-    }
-    Ok(())
-}
-
-#[test]
-fn reads_many_lists(rt: HostRuntime) -> Result<(), Fail> {
+    reads_under_each(&rt, rt.alloc(), &calls)?;
     for seed in 0..LISTS {
         let calls = reader_calls(rt.alloc(), seed)?;
-        for ring in [false, true] {
-            reads_under_each(&rt, rt.alloc(), ring, &calls)?;
-        }
+        reads_under_each(&rt, rt.alloc(), &calls)?;
     }
     Ok(())
 }
@@ -237,19 +217,10 @@ fn writes(rt: HostRuntime) -> Result<(), Fail> {
         WriterCall::Write(&[2, 3]),
         WriterCall::Flush,
     ];
-    for ring in [false, true] {
-        writes_under_each(&rt, rt.alloc(), ring, &calls)?;
-    }
-    Ok(())
-}
-
-#[test]
-fn writes_many_lists(rt: HostRuntime) -> Result<(), Fail> {
+    writes_under_each(&rt, rt.alloc(), &calls)?;
     for seed in 0..LISTS {
         let calls = writer_calls(rt.alloc(), seed)?;
-        for ring in [false, true] {
-            writes_under_each(&rt, rt.alloc(), ring, &calls)?;
-        }
+        writes_under_each(&rt, rt.alloc(), &calls)?;
     }
     Ok(())
 }

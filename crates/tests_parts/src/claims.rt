@@ -5,8 +5,8 @@ ghost use Rattle.buffer_redux.specs.Buffered.{Buffered};
 ghost use Rattle.buffer_redux.specs.BufReader.{RanDry};
 ghost use Rattle.redux_play.specs.PlayReader.{MakesNoRoom};
 ghost use Rattle.buffer_redux.specs.Sparing.{BeginsEmpty, MovedAtMostGiven, Spared};
-ghost use Rattle.tests_policies.specs.Halves.{halves_read_rules, halves_write_rules};
-ghost use Rattle.tests_policies.specs.Header.{header_rules};
+ghost use Rattle.tests_parts.specs.Halves.{halves_read_rules, halves_write_rules};
+ghost use Rattle.tests_parts.specs.Header.{header_rules};
 
 use buffer_redux::policy::{DoRead, FlushAmt, ReaderPolicy, WriterPolicy, flush_when_full};
 use buffer_redux::tell::TellRead;

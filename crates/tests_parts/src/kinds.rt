@@ -1,7 +1,8 @@
-//! The kinds of buffer by themselves.
+//! The kinds of buffer by themselves, and printed texts.
 use redux_buffer::{BufImpl, Buffer, GrowError, RawBuf, SliceDequeBuf, StdBuf, laws};
 use std::process::Abort;
 use std::test::Fail;
+use std::{fmt, io};
 
 #[test]
 fn plain(rt: HostRuntime) -> Result<(), Fail> {
@@ -9,14 +10,13 @@ fn plain(rt: HostRuntime) -> Result<(), Fail> {
     assert!(rt; plain.check_cursors());
     plain.write_buf().fill(7);
     plain.bytes_written(1);
-    assert_eq!(rt; (plain.len(), plain.usable_space()), (1, 3));
+    assert!(rt; (plain.len(), plain.usable_space()) == (1, 3));
     plain.bytes_written(18446744073709551615);
-    assert_eq!(rt; (plain.len(), plain.usable_space()), (4, 0));
+    assert!(rt; (plain.len(), plain.usable_space()) == (4, 0));
     plain.buf_mut()[..3].fill(8);
     plain.consume(2);
     plain.make_room();
-    assert_eq!(rt; plain.buf(), [8, 7].as_slice());
-    assert_eq!(rt; plain.usable_space(), 2);
+    assert!(rt; (plain.buf(), plain.usable_space()) == ([8, 7].as_slice(), 2));
     Ok(())
 }
 
@@ -28,8 +28,7 @@ fn ring(rt: HostRuntime) -> Result<(), Fail> {
     ring.buf_mut()[..2].fill(8);
     ring.consume(1);
     ring.make_room();
-    assert_eq!(rt; ring.buf(), [8, 7].as_slice());
-    assert_eq!(rt; ring.usable_space(), 4094);
+    assert!(rt; (ring.buf(), ring.usable_space()) == ([8, 7].as_slice(), 4094));
     Ok(())
 }
 
@@ -40,7 +39,6 @@ fn either_writes(
     usable: usize,
 ) -> Result<(), Fail> {
     let mut either = made?;
-    assert_eq!(rt; either.is_ringbuf(), is_ring);
     either.write_buf().fill(7);
     either.bytes_written(2);
     either.buf_mut().fill(8);
@@ -49,8 +47,7 @@ fn either_writes(
     either.make_room();
     either.reserve(2)?;
     assert_eq!(rt; either.buf(), [8, 7].as_slice());
-    assert_eq!(rt; either.len(), 2);
-    assert_eq!(rt; either.usable_space(), usable);
+    assert!(rt; (either.is_ringbuf(), either.len(), either.usable_space()) == (is_ring, 2, usable));
     Ok(())
 }
 
@@ -66,15 +63,6 @@ fn either(rt: HostRuntime) -> Result<(), Fail> {
 }
 
 #[test]
-fn raw(rt: HostRuntime) -> Result<(), Fail> {
-    let mut raw = RawBuf::with_capacity(rt.alloc(), 2)?;
-    raw.as_mut_slice().fill(7);
-    raw.reserve(1)?;
-    assert_eq!(rt; raw.as_slice(), [7, 7, 0].as_slice());
-    Ok(())
-}
-
-#[test]
 fn whole(rt: HostRuntime) -> Result<(), Fail> {
     let mut whole = Buffer::with_capacity(rt.alloc(), 4)?;
     assert_eq!(rt; whole.copy_from_slice(&[1, 2, 3]), 3);
@@ -82,8 +70,7 @@ fn whole(rt: HostRuntime) -> Result<(), Fail> {
     whole.consume(1);
     whole.make_room();
     laws::make_room_again(&mut whole);
-    assert_eq!(rt; whole.buf(), [8, 3].as_slice());
-    assert_eq!(rt; whole.usable_space(), 2);
+    assert!(rt; (whole.buf(), whole.usable_space()) == ([8, 3].as_slice(), 2));
     Ok(())
 }
 
@@ -97,4 +84,49 @@ fn through(rt: HostRuntime) -> Result<(), Fail> {
     );
     assert_eq!(rt; out, [1, 2, 3, 4, 0]);
     Ok(())
+}
+
+#[test]
+fn raw(rt: HostRuntime) -> Result<(), Fail> {
+    let mut raw = RawBuf::with_capacity(rt.alloc(), 2)?;
+    raw.as_mut_slice().fill(7);
+    raw.reserve(1)?;
+    assert!(rt; !raw.reserve_in_place(1));
+    assert_eq!(rt; raw.as_slice(), [7, 7, 0].as_slice());
+    Ok(())
+}
+
+fn prints<T: fmt::Debug>(
+    rt: &(impl Abort + AllocGlobal),
+    value: &T,
+    text: &str,
+) -> Result<(), Fail> {
+    assert_eq!(rt; format!(in rt.alloc(); "{value:?}")?.as_str(), text);
+    Ok(())
+}
+
+#[test]
+fn printed(rt: HostRuntime) -> Result<(), Fail> {
+    for (error, text, kind) in [
+        (
+            GrowError::TooLarge,
+            "the needed capacity passes the limit",
+            io::ErrorKind::InvalidInput,
+        ),
+        (
+            GrowError::Memory,
+            "out of memory",
+            io::ErrorKind::OutOfMemory,
+        ),
+    ] {
+        assert_eq!(rt; format!(in rt.alloc(); "{error}")?.as_str(), text);
+        assert_eq!(rt; io::Error::from(error).kind(), kind);
+    }
+    prints(&rt, &GrowError::TooLarge, "TooLarge")?;
+    let plain =
+        "Buffer { imp: Std(StdBuf { buf: RawBuf { buf: [0] }, pos: 0, end: 0, stop: 1, consumed: Count, moved: Count }), limit: 4611686018427387904 }";
+    prints(&rt, &Buffer::with_capacity(rt.alloc(), 1)?, plain)?;
+    let ring =
+        "SliceDequeBuf { buf: RawBuf { buf: [] }, head: 0, end: 0, stop: 0, consumed: Count, moved: Count }";
+    prints(&rt, &SliceDequeBuf::with_capacity(rt.alloc(), 0)?, ring)
 }

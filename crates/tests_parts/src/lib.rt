@@ -1,0 +1,21 @@
+//! Parts by worked examples, and each of their public calls once: buffers, the streams that tell, and policies that the library
+//! doesn't know.
+#![tactic(auto)]
+
+#[cfg(test)]
+mod any;
+pub mod claims;
+pub mod constant;
+#[cfg(test)]
+mod kinds;
+#[cfg(test)]
+mod lists;
+pub mod policies;
+#[cfg(test)]
+mod room;
+#[cfg(test)]
+mod rows;
+#[cfg(test)]
+mod streams;
+#[cfg(test)]
+mod transfers;
