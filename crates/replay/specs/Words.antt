@@ -30,6 +30,7 @@ IsReaderWord (Reserve n) word = IsSized (codes "V") n word
 
 -- the word of a call of a writer
 abbrev pub IsWriterWord : WriterWord → List ℕ → Type 0
+IsWriterWord (writer.CountFrom n) word = IsSized (codes "@") n word
 IsWriterWord (writer.Write n) word = IsSized (codes "W") n word
 IsWriterWord writer.Flush word = word ≡ codes "L"
 IsWriterWord writer.MakeRoom word = word ≡ codes "M"

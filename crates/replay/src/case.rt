@@ -16,11 +16,12 @@ pub enum Kind {
     Ring,
 }
 
-/// The buffer that is asked for.
+/// The buffer that is asked for, with how many bytes it holds at first, as far as they fit.
 #[derive(Clone, Copy, Debug)]
 pub struct Storage {
     pub kind: Kind,
     pub capacity: usize,
+    pub held: usize,
 }
 
 /// The policy of a reader.
@@ -43,6 +44,8 @@ pub enum WriterRule {
 /// A call of a writer, with how many bytes a write offers.
 #[derive(Clone, Copy, Debug)]
 pub enum WriterWord {
+    /// No call: what is written next counts up from this number, modulo 256.
+    CountFrom(usize),
     Write(usize),
     Flush,
     MakeRoom,
@@ -54,6 +57,8 @@ pub enum WriterWord {
 pub struct ReaderCase {
     pub storage: Storage,
     pub rule: ReaderRule,
+    /// Whether the bytes that it handed out are printed.
+    pub prints_handed: bool,
     pub source: usize,
     pub script: Vec<Answer>,
     pub calls: Vec<ReaderCall>,

@@ -1,21 +1,22 @@
 //! Plays lists of calls, one a line of standard input, and prints a line of answers for each.
 //!
-//! A line has four parts, with ` | ` between them:
+//! A line that begins with `#` is printed as it is. Any other has four parts, with ` | ` between them:
 //!
-//! 1. `reader` or `writer`, `plain` or `ring`, the capacity, and the policy: `std`, of a reader `min N`, of a writer `atleast N`,
-//!    `exact N`, `on BYTE` or `newline`.
-//! 2. How many bytes the source has, which count up from 0, modulo 256. For a writer it is 0.
+//! 1. `reader`, `handing` or `writer`, `plain` or `ring`, the capacity, and the policy: `std`, of a reader `min N`, of a writer
+//!    `atleast N`, `exact N`, `on BYTE` or `newline`. `holds N` in front of the policy puts the first N bytes into the buffer.
+//! 2. How many bytes the source has. All bytes count up, modulo 256: from 0 those that are held, and on from there those of a
+//!    source or of the first write. For a writer it is 0.
 //! 3. What the stream inside answers, `-` for nothing: `a` gives or takes all, a number at most so many bytes, `z` is `Ok(0)`,
 //!    `i` an `Interrupted`, `e:KIND` an error. Behind that each call gives or takes all.
 //! 4. The calls: `Rn` reads n bytes, `F` fills, `Cn` consumes n, `I` reads into the buffer, `Wn` writes n bytes, which count up
-//!    from one write to the next, `L` flushes, `M` makes room, `Vn` reserves n.
+//!    from one write to the next, `L` flushes, `M` makes room, `Vn` reserves n. `@N` is no call: the next write counts from N.
 //!
 //! The line of answers has:
 //!
 //! 1. A word for each call: `Cn` a count, `Sn` so many bytes shown, `D` done, `E:KIND` an error, `X:WHY` a refused growth.
 //! 2. How many bytes are buffered then, the usable space, the capacity, and the bytes.
 //! 3. How many bytes each read or write of the stream inside was offered, and `f` for a flush of it.
-//! 4. Of a writer, the bytes that the one inside took.
+//! 4. Of a writer, the bytes that the one inside took, and of `handing`, a reader too, those that it handed out.
 //!
 //! Bytes are in hex, more than 64 as `#COUNT:HASH` by the hash FNV-1a of 64 bits, and `-` stands for none. Where the buffer is
 //! refused, `X:WHY` is the line. For a line that can't be read or played a line says why, and the status at the end is 2. It is

@@ -52,7 +52,11 @@ impl fmt::Display for Unread<'_> {
 
 // What the first part names.
 enum Stream {
-    Reader(Storage, ReaderRule),
+    Reader {
+        storage: Storage,
+        rule: ReaderRule,
+        prints_handed: bool,
+    },
     Writer(Storage, WriterRule),
 }
 
@@ -64,9 +68,16 @@ pub fn case(alloc: Global, line: &str) -> Result<Case, Unread<'_>> {
     let count = number(source).ok_or(Unread::Source(source))?;
     let script = answers(alloc, script)?;
     match buffered_stream(alloc, stream)? {
-        Some(Stream::Reader(storage, rule)) => Ok(Case::Reader(ReaderCase {
+        Some(
+            Stream::Reader {
+                storage,
+                rule,
+                prints_handed,
+            },
+        ) => Ok(Case::Reader(ReaderCase {
             storage,
             rule,
+            prints_handed,
             source: count,
             script,
             calls: reader_calls(alloc, calls)?,
@@ -96,15 +107,24 @@ fn buffered_stream(alloc: Global, text: &str) -> Result<Option<Stream>, AllocErr
 }
 
 fn stream_of(words: &[&str]) -> Option<Stream> {
-    let [side, kind, capacity, rule @ ..] = words else {
+    let [side, kind, capacity, others @ ..] = words else {
         return None;
+    };
+    let (held, rule) = match others {
+        ["holds", count, rule @ ..] => (number(*count)?, rule),
+        _ => (0, others),
     };
     let storage = Storage {
         kind: kind_of(*kind)?,
         capacity: number(*capacity)?,
+        held,
     };
     match *side {
-        "reader" => Some(Stream::Reader(storage, reader_rule(rule)?)),
+        "reader" | "handing" => Some(Stream::Reader {
+            storage,
+            rule: reader_rule(rule)?,
+            prints_handed: *side == "handing",
+        }),
         "writer" => Some(Stream::Writer(storage, writer_rule(rule)?)),
         _ => None,
     }

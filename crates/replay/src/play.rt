@@ -12,8 +12,8 @@ use buffer_redux::policy::{
 };
 use buffer_redux::script::ScriptReader;
 use buffer_redux::tell::Told;
-use buffer_redux::{BufReader, BufWriter, Buffer, MakeError};
-use redux_play::play::{ReaderCall, ReaderRun, WriterCall, WriterRun, play_reader, play_writer};
+use buffer_redux::{BufReader, BufWriter, Buffer, GrowError};
+use redux_play::play::{ReaderRun, WriterCall, WriterRun, play_reader, play_writer};
 use std::alloc::{AllocError, Global};
 
 type Source = Told<ScriptReader>;
@@ -40,36 +40,42 @@ fn counting(alloc: Global, first: u8, count: usize) -> Result<Vec<u8>, AllocErro
 }
 
 fn reader_case(alloc: Global, case: &ReaderCase) -> Result<String, AllocError> {
-    let bytes = counting(alloc, 0, case.source)?;
+    let held = counting(alloc, 0, case.storage.held)?;
+    let buffer = match first_buffer(alloc, case.storage, held.as_slice()) {
+        Ok(buffer) => buffer,
+        Err(e) => return String::from_str(alloc, print::refusal_word(e)),
+    };
+    // What the source gives counts on from what is held.
+    let bytes = counting(alloc, low_byte(buffer.len()), case.source)?;
     let source = ScriptReader::new(alloc, bytes.as_slice(), case.script.as_slice())?;
-    let calls = case.calls.as_slice();
-    match buffered_reader(alloc, case.storage, Told::new(source)) {
-        Ok(reader) => match case.rule {
-            ReaderRule::Std => reader_answer(alloc, reader, calls),
-            ReaderRule::Min(n) => reader_answer(alloc, reader.set_policy(MinBuffered(n)), calls),
-        },
-        Err(MakeError(_, e)) => String::from_str(alloc, print::refusal_word(e)),
+    let reader = BufReader::with_buffer(buffer, Told::new(source));
+    match case.rule {
+        ReaderRule::Std => reader_answer(alloc, reader, case),
+        ReaderRule::Min(n) => reader_answer(alloc, reader.set_policy(MinBuffered(n)), case),
     }
 }
 
-fn buffered_reader(
-    alloc: Global,
-    storage: Storage,
-    source: Source,
-) -> Result<BufReader<Source>, MakeError<Source>> {
-    match storage.kind {
-        Kind::Plain => BufReader::with_capacity(alloc, storage.capacity, source),
-        Kind::Ring => BufReader::with_capacity_ringbuf(alloc, storage.capacity, source),
-    }
+// The buffer that is asked for, with the first of these bytes, as many as fit.
+fn first_buffer(alloc: Global, storage: Storage, held: &[u8]) -> Result<Buffer, GrowError> {
+    let mut buffer = match storage.kind {
+        Kind::Plain => Buffer::with_capacity(alloc, storage.capacity)?,
+        Kind::Ring => Buffer::with_capacity_ringbuf(alloc, storage.capacity)?,
+    };
+    let _ = buffer.copy_from_slice(held);
+    Ok(buffer)
+}
+
+fn low_byte(n: usize) -> u8 {
+    (n % 256) as u8
 }
 
 fn reader_answer<P: ReaderPolicy + Drop>(
     alloc: Global,
     mut reader: BufReader<Source, P>,
-    calls: &[ReaderCall],
+    case: &ReaderCase,
 ) -> Result<String, AllocError> {
     let mut run = ReaderRun::new(alloc);
-    play_reader(alloc, &mut reader, calls, &mut run)?;
+    play_reader(alloc, &mut reader, case.calls.as_slice(), &mut run)?;
     let mut text = String::new(alloc);
     if run.answers.is_empty() {
         text.push_str("- ")?;
@@ -81,6 +87,10 @@ fn reader_answer<P: ReaderPolicy + Drop>(
     let (source, buffer) = reader.into_inner_with_buffer();
     push_state(&mut text, &buffer)?;
     print::push_offers(&mut text, source.get_ref().offers())?;
+    if case.prints_handed {
+        text.push_str(" | ")?;
+        print::push_bytes(&mut text, run.handed.as_slice())?;
+    }
     Ok(text)
 }
 
@@ -94,30 +104,20 @@ fn push_state(text: &mut String, buffer: &Buffer) -> Result<(), AllocError> {
 }
 
 fn writer_case(alloc: Global, case: &WriterCase) -> Result<String, AllocError> {
+    let held = counting(alloc, 0, case.storage.held)?;
+    let buffer = match first_buffer(alloc, case.storage, held.as_slice()) {
+        Ok(buffer) => buffer,
+        Err(e) => return String::from_str(alloc, print::refusal_word(e)),
+    };
     let target = NotingWriter::new(alloc, case.script.as_slice())?;
     let calls = case.calls.as_slice();
-    match buffered_writer(alloc, case.storage, Told::new(target)) {
-        Ok(writer) => match case.rule {
-            WriterRule::Std => writer_answer(alloc, writer, calls),
-            WriterRule::AtLeast(n) => {
-                writer_answer(alloc, writer.set_policy(FlushAtLeast(n)), calls)
-            }
-            WriterRule::Exact(n) => writer_answer(alloc, writer.set_policy(FlushExact(n)), calls),
-            WriterRule::On(byte) => writer_answer(alloc, writer.set_policy(FlushOn(byte)), calls),
-            WriterRule::Newline => writer_answer(alloc, writer.set_policy(FlushOnNewline), calls),
-        },
-        Err(MakeError(_, e)) => String::from_str(alloc, print::refusal_word(e)),
-    }
-}
-
-fn buffered_writer(
-    alloc: Global,
-    storage: Storage,
-    target: Target,
-) -> Result<BufWriter<Target>, MakeError<Target>> {
-    match storage.kind {
-        Kind::Plain => BufWriter::with_capacity(alloc, storage.capacity, target),
-        Kind::Ring => BufWriter::with_capacity_ringbuf(alloc, storage.capacity, target),
+    let writer = BufWriter::with_buffer(buffer, Told::new(target));
+    match case.rule {
+        WriterRule::Std => writer_answer(alloc, writer, calls),
+        WriterRule::AtLeast(n) => writer_answer(alloc, writer.set_policy(FlushAtLeast(n)), calls),
+        WriterRule::Exact(n) => writer_answer(alloc, writer.set_policy(FlushExact(n)), calls),
+        WriterRule::On(byte) => writer_answer(alloc, writer.set_policy(FlushOn(byte)), calls),
+        WriterRule::Newline => writer_answer(alloc, writer.set_policy(FlushOnNewline), calls),
     }
 }
 
@@ -127,13 +127,14 @@ fn writer_answer<P: WriterPolicy + Drop>(
     calls: &[WriterWord],
 ) -> Result<String, AllocError> {
     let mut run = WriterRun::new(alloc);
-    // What is written counts up from one write to the next.
-    let mut first = 0u8;
+    // What is written counts up from one write to the next, and first from what is held.
+    let mut first = low_byte(writer.buf_len());
     for call in calls {
         match *call {
+            WriterWord::CountFrom(n) => first = low_byte(n),
             WriterWord::Write(n) => {
                 let bytes = counting(alloc, first, n)?;
-                first = first.wrapping_add((n % 256) as u8);
+                first = first.wrapping_add(low_byte(n));
                 let call = WriterCall::Write(bytes.as_slice());
                 play_writer(&mut writer, &[call], &mut run)?;
             }

@@ -29,7 +29,8 @@ impl Ending {
     }
 }
 
-/// Plays each line of `input`, and writes a line for each to `output`: its answers, or why it has none.
+/// Plays each line of `input`, and writes a line for each to `output`: its answers, or why it has none. A line that begins
+/// with `#` is written as it is.
 pub fn replay<R: BufRead + Drop, W: Write>(
     alloc: Global,
     input: R,
@@ -61,6 +62,9 @@ pub fn replay<R: BufRead + Drop, W: Write>(
 }
 
 fn played(alloc: Global, line: &str) -> Result<String, Unread<'_>> {
+    if line.starts_with('#') {
+        return Ok(String::from_str(alloc, line)?);
+    }
     let case = case(alloc, line)?;
     Ok(answer(alloc, &case)?)
 }

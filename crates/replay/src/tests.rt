@@ -1,4 +1,4 @@
-//! Lines in, answers out.
+//! What is no case, and faults. What is one has a line in the program's `stdin`.
 use crate::replay::replay;
 use buffer_redux::script::{Answer, ScriptReader, ScriptWriter};
 use buffer_redux::tell::Told;
@@ -9,40 +9,11 @@ use std::test::Fail;
 // Lines, what is printed of them, and the status.
 type Row<'a> = (&'a [u8], &'a [u8], u8);
 
-#[test]
-fn answers(rt: HostRuntime) -> Result<(), Fail> {
-    let rows: [Row<'_>; 5] = [
-        (b"", b"", 0),
-        (
-            b"reader ring 4096 min 3 | 6 | 2 i a | F C2 F\n",
-            b"E:Interrupted C2 S4 | 4 4092 4096 02030405 | 4096 4094 4096\n",
-            0,
-        ),
-        (
-            b"writer plain 4 newline | 0 | a | W1 W2 V18446744073709551615 M L\n",
-            b"C1 C2 X:TooLarge D D | 0 4 4 - | 3 f | 000102\n",
-            0,
-        ),
-        (b"reader plain 4 std | 3 | - | ", b"- | 0 4 4 - | -\n", 0),
-        (
-            b"reader plain 18446744073709551615 std | 3 | - | F",
-            b"X:TooLarge\n",
-            0,
-        ),
-    ];
-    for (lines, want, status) in rows {
-        let mut output = Vec::new(rt.alloc());
-        let ending = replay(rt.alloc(), lines, &mut output)?;
-        assert!(rt; output.as_slice() == want, "of {lines:?}");
-        assert_eq!(rt; ending.status(), status);
-    }
-    Ok(())
-}
-
 // A line that can't be read has a line that says so, and those behind it are played.
 #[test]
 fn says_why_not(rt: HostRuntime) -> Result<(), Fail> {
-    let rows: [Row<'_>; 10] = [
+    let rows: [Row<'_>; 11] = [
+        (b"", b"", 0),
         (b"\n", b"line 1: not four parts\n", 2),
         (b"a\xffb\n", b"line 1: not text\n", 2),
         (

@@ -53,6 +53,7 @@ pub fn writer_call(word: &str) -> Option<WriterWord>
         "L" => Some(WriterWord::Flush),
         "M" => Some(WriterWord::MakeRoom),
         _ => match sized(word)? {
+            ("@", n) => Some(WriterWord::CountFrom(n)),
             ("W", n) => Some(WriterWord::Write(n)),
             ("V", n) => Some(WriterWord::Reserve(n)),
             _ => None,
