@@ -32,45 +32,38 @@ fn handed<'a>(rdr: &mut Unbuffered, out: &'a mut [u8]) -> Result<&'a [u8], Error
     }
 }
 
-fn left(rt: &impl Abort, rdr: &Unbuffered, bytes: &[u8]) -> Result<(), Fail> {
+fn left(rt: &impl Abort, rdr: &Unbuffered, bytes: &[u8]) {
     assert_eq!(rt; rdr.buf(), bytes);
     assert_eq!(rt; rdr.buf_len(), bytes.len());
     assert_eq!(rt; rdr.is_buf_empty(), bytes.is_empty());
-    Ok(())
 }
 
 // Reads step by step, and compares the offers that the inner reader saw.
-fn walks(
-    rt: &impl Abort,
-    mut rdr: Unbuffered,
-    steps: &[Step<'_>],
-    offers: &[usize],
-) -> Result<(), Fail> {
+fn walks(rt: &impl Abort, mut rdr: Unbuffered, steps: &[Step<'_>], offers: &[usize]) {
     let mut out = [0u8; 3];
     for &(room, answer, rest) in steps {
         assert!(rt; room <= out.len());
         assert_eq!(rt; handed(&mut rdr, &mut out[..room]), answer);
-        left(rt, &rdr, rest)?;
+        left(rt, &rdr, rest);
     }
     assert_eq!(rt; rdr.into_inner().get_ref().offers(), offers);
-    Ok(())
 }
 
 #[test]
 fn reads(rt: HostRuntime) -> Result<(), Fail> {
     let alloc = rt.alloc();
     let rdr = unbuffered(alloc, &[1, 2], &[], &[])?;
-    left(&rt, &rdr, &[1, 2])?;
+    left(&rt, &rdr, &[1, 2]);
     walks(
         &rt,
         rdr,
         &[(0, Ok(&[]), &[1, 2]), (3, Ok(&[1, 2]), &[])],
         &[],
-    )?;
+    );
 
     let rdr = unbuffered(alloc, &[], &[7], &[])?;
-    left(&rt, &rdr, &[])?;
-    walks(&rt, rdr, &[(2, Ok(&[7]), &[])], &[2])?;
+    left(&rt, &rdr, &[]);
+    walks(&rt, rdr, &[(2, Ok(&[7]), &[])], &[2]);
 
     let steps: [Step<'_>; 5] = [
         (2, Ok(&[1, 2]), &[3]),
@@ -80,10 +73,11 @@ fn reads(rt: HostRuntime) -> Result<(), Fail> {
         (3, Ok(&[]), &[]),
     ];
     let rdr = unbuffered(alloc, &[1, 2, 3], &[4, 5, 6], &[])?;
-    walks(&rt, rdr, &steps, &[2, 3, 3])?;
+    walks(&rt, rdr, &steps, &[2, 3, 3]);
 
     let steps: [Step<'_>; 2] = [(0, Ok(&[]), &[]), (1, Ok(&[7]), &[])];
-    walks(&rt, unbuffered(alloc, &[], &[7], &[])?, &steps, &[0, 1])
+    walks(&rt, unbuffered(alloc, &[], &[7], &[])?, &steps, &[0, 1]);
+    Ok(())
 }
 
 #[test]
@@ -96,7 +90,8 @@ fn reads_after_faults(rt: HostRuntime) -> Result<(), Fail> {
         (3, Ok(&[7]), &[]),
     ];
     let rdr = unbuffered(rt.alloc(), &[1], &[7], &faults)?;
-    walks(&rt, rdr, &steps, &[3, 3, 3])
+    walks(&rt, rdr, &steps, &[3, 3, 3]);
+    Ok(())
 }
 
 #[test]

@@ -1,0 +1,156 @@
+//! What a plain buffer moves under a policy that looks ahead, told by where its bytes stand.
+use buffer_redux::policy::{DoRead, MinBuffered, ReaderPolicy};
+use buffer_redux::script::ScriptReader;
+use buffer_redux::tell::Told;
+use buffer_redux::{BufReader, Buffer};
+use redux_play::laws;
+use redux_play::play::{ReaderCall, ReaderRun};
+use std::io;
+use std::io::{BufRead, Cursor, SeekFrom};
+use std::process::Abort;
+use std::test::Fail;
+
+// The bytes 1 to 30.
+const BYTES: [u8; 30] = [
+    1, 2, 3, 4, 5, 6, 7, 8, 9, 10, 11, 12, 13, 14, 15, 16, 17, 18, 19, 20, 21, 22, 23, 24, 25, 26,
+    27, 28, 29, 30,
+];
+
+// Does as the policy inside, and counts the bytes that it moved.
+#[derive(Drop)]
+struct Weighing {
+    inner: MinBuffered,
+    moved: usize,
+}
+
+fn place(buffer: &Buffer) -> usize {
+    buffer.capacity() - buffer.usable_space() - buffer.len()
+}
+
+impl ReaderPolicy for Weighing {
+    fn before_read(&mut self, buffer: &mut Buffer) -> io::Result<DoRead> {
+        let from = place(buffer);
+        let answer = self.inner.before_read(buffer);
+        if place(buffer) != from {
+            self.moved = self.moved.saturating_add(buffer.len());
+        }
+        answer
+    }
+
+    fn after_consume(&mut self, buffer: &mut Buffer, amt: usize) {
+        self.inner.after_consume(buffer, amt);
+    }
+}
+
+type Weighed = BufReader<Told<ScriptReader>, Weighing>;
+
+// So many bytes are consumed, and a fill under this minimum then shows those from here to there; so many were moved by
+// then, the capacity is this, and the source was asked so often.
+type Step = [usize; 7];
+
+fn walks(rt: &impl Abort, rdr: &mut Weighed, steps: &[Step]) -> Result<(), Fail> {
+    for &[consumed, min, from, to, moved, capacity, asks] in steps {
+        rdr.consume(consumed);
+        rdr.policy_mut().inner.set_min(min);
+        assert!(rt; from <= to && to <= BYTES.len());
+        assert_eq!(rt; rdr.fill_buf()?, &BYTES[from..to]);
+        assert_eq!(rt; (rdr.policy().moved, rdr.capacity()), (moved, capacity));
+        assert_eq!(rt; rdr.get_ref().get_ref().offers().len(), asks);
+    }
+    Ok(())
+}
+
+// A capacity of three times the minimum: of 30 bytes that were given 9 are moved.
+const THREE_TIMES: [Step; 11] = [
+    [0, 4, 0, 12, 0, 12, 1],
+    [3, 4, 3, 12, 0, 12, 1],
+    [3, 4, 6, 12, 0, 12, 1],
+    [3, 4, 9, 21, 3, 12, 2],
+    [3, 4, 12, 21, 3, 12, 2],
+    [3, 4, 15, 21, 3, 12, 2],
+    [3, 4, 18, 30, 6, 12, 3],
+    [3, 4, 21, 30, 6, 12, 3],
+    [3, 4, 24, 30, 6, 12, 3],
+    [3, 4, 27, 30, 9, 12, 4],
+    [3, 4, 30, 30, 9, 12, 5],
+];
+
+// One byte less than that, and far less: nothing is promised of these, and what the policy does moves so many.
+const LESS: [Step; 11] = [
+    [0, 4, 0, 11, 0, 11, 1],
+    [3, 4, 3, 11, 0, 11, 1],
+    [3, 4, 6, 11, 0, 11, 1],
+    [3, 4, 9, 20, 2, 11, 2],
+    [3, 4, 12, 20, 2, 11, 2],
+    [3, 4, 15, 20, 2, 11, 2],
+    [3, 4, 18, 29, 4, 11, 3],
+    [3, 4, 21, 29, 4, 11, 3],
+    [3, 4, 24, 29, 4, 11, 3],
+    [3, 4, 27, 30, 6, 11, 5],
+    [3, 4, 30, 30, 6, 11, 6],
+];
+
+const FAR_LESS: [Step; 4] = [
+    [0, 4, 0, 8, 0, 8, 1],
+    [3, 4, 3, 8, 0, 8, 1],
+    [4, 4, 7, 15, 1, 8, 2],
+    [5, 4, 12, 15, 4, 8, 3],
+];
+
+// Where as many bytes as the new minimum are there, a fill doesn't ask, and the smaller minimum is spared moves too.
+const SMALLER: [Step; 3] = [
+    [0, 4, 0, 12, 0, 12, 1],
+    [9, 2, 9, 12, 0, 12, 1],
+    [2, 2, 11, 23, 1, 12, 2],
+];
+
+// The buffer grows to the new minimum.
+const GREATER: [Step; 2] = [[0, 4, 0, 4, 0, 4, 1], [0, 6, 0, 6, 0, 6, 2]];
+
+#[test]
+fn moves(rt: HostRuntime) -> Result<(), Fail> {
+    let rows: [(usize, usize, &[Step]); 5] = [
+        (12, 30, &THREE_TIMES),
+        (11, 30, &LESS),
+        (8, 15, &FAR_LESS),
+        (12, 30, &SMALLER),
+        (0, 20, &GREATER),
+    ];
+    for (capacity, count, steps) in rows {
+        assert!(rt; count <= BYTES.len());
+        let inner = Told::new(ScriptReader::new(rt.alloc(), &BYTES[..count], &[])?);
+        let policy = Weighing {
+            inner: MinBuffered(0),
+            moved: 0,
+        };
+        let rdr = BufReader::with_capacity(rt.alloc(), capacity, inner)?;
+        walks(&rt, &mut rdr.set_policy(policy), steps)?;
+    }
+    Ok(())
+}
+
+// Two runs with another minimum, a growth and a seek between them.
+#[test]
+fn two_runs(rt: HostRuntime) -> Result<(), Fail> {
+    let inner = Told::new(Cursor::new(BYTES.as_slice()));
+    let rdr = BufReader::with_capacity(rt.alloc(), 12, inner)?;
+    let mut rdr = rdr.set_policy(MinBuffered(4));
+    let mut run = ReaderRun::new(rt.alloc());
+    let calls = [
+        ReaderCall::Read(3),
+        ReaderCall::Fill,
+        ReaderCall::Consume(2),
+    ];
+    laws::play_sparing(rt.alloc(), &mut rdr, &calls, &mut run)?;
+    assert_eq!(rt; run.handed.as_slice(), &BYTES[..5]);
+    assert_eq!(rt;
+        laws::spare_between(&mut rdr, 2, 6, SeekFrom::Start(10))?,
+        10
+    );
+    assert_eq!(rt; (rdr.buf_len(), rdr.capacity()), (0, 18));
+    let mut run = ReaderRun::new(rt.alloc());
+    let calls = [ReaderCall::Fill, ReaderCall::Consume(20)];
+    laws::play_sparing(rt.alloc(), &mut rdr, &calls, &mut run)?;
+    assert_eq!(rt; run.handed.as_slice(), &BYTES[10..28]);
+    Ok(())
+}
