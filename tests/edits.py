@@ -61,7 +61,7 @@ def read(path):
     fn, file, old, pairs = "", "", "", []
     for line in lines:
         key, _, value = line.partition(": " if not line.startswith("new:") else ":")
-        if key in ("fn", "# fn"):
+        if key == "# fn":
             fn = value.strip()
         elif key == "file":
             file = value.strip()
