@@ -39,6 +39,11 @@ pub kept_more : {V : Type 0} (f : V → List ℕ) (old new : List V) (v : V) →
     → map f new ≡ map f old ++ f v ∷ []
 kept_more f old new v is = ap (λ l. map f l) is ∙ map-append f old (v ∷ [])
 
+-- with one more there is one
+some_more : (kept : List (List ℕ)) (found : List ℕ) → 0 < length (kept ++ found ∷ [])
+some_more [] found = omega arith
+some_more (line ∷ kept) found = omega arith
+
 -- some of all the lines were read and kept, and these are left to read
 pub record ReadsAll {S : Type 0} (remaining : S → Option (List ℕ)) (s : Lining S) (all kept left : List (List ℕ))
     (t : Lining S) : Type 0 where
@@ -64,7 +69,10 @@ module _ {V S : Type 0} (f : V → List ℕ) (vs : List V) (i : ℕ) (remaining 
     later = map f (drop i vs);
     all = sym so_far.all_are;
     left = NextLine-known remaining m t (Err (why.Io e)) (map f (drop i vs)) next left_fit so_far.has;
-    failed = inr (next.answers.2 ∙ ap (λ l. l ++ e ∷ []) so_far.no_fault);
+    failed = inr (
+      NextRuns-more remaining s (map (λ line. Ok (Some line)) kept) m (Err (why.Io e)) t so_far.run next,
+      next.answers.2 ∙ ap (λ l. l ++ e ∷ []) so_far.no_fault,
+    );
   }
 
   module _ (x : V) (inside : i < length vs) (is : x ≡ get_or vs i x) (t : Lining S) where
@@ -102,7 +110,7 @@ module _ {V S : Type 0} (f : V → List ℕ) (vs : List V) (i : ℕ) (remaining 
           later = map f (drop (i + 1) vs);
           all = sym more.all_are;
           left = more.has;
-          failed = inl (memory, more.no_fault);
+          failed = inl (memory, some_more kept found, more.run, more.no_fault);
         }
 
     pub read_fails : (e : Error) → NextFails remaining m e t → ReadStopped remaining s (map f vs) e t

@@ -1,5 +1,5 @@
 -- What a reader of lines hands out of a stream that is known.
-use Rattle.std.specs.Prelude.{◌≡◌, ℕ, ◌⊎◌, List, [], ◌∷◌, ◌++◌, true, Option, None, Some, Ok, Err}
+use Rattle.std.specs.Prelude.{◌≡◌, ℕ, ◌<◌, ◌⊎◌, List, [], ◌∷◌, ◌++◌, length, map, true, Option, None, Some, Ok, Err}
 use Rattle.std.specs.Io.KnownBytes.{prepend_known}
 use Rattle.std.specs.IoError.{error_kind}
 use Rattle.std.specs.List.{All}
@@ -9,6 +9,7 @@ use Rattle.line_reader.specs.declared.error.LineError.TheVariants.{TooLong, Io}
 use Rattle.line_reader.specs.Lines.{FitsLine, HasLines}
 use Rattle.line_reader.specs.Lining.{Lining, rest}
 use Rattle.line_reader.specs.NextLine.{Faulted, NextAnswer, NoFault}
+use Rattle.line_reader.specs.Runs.{NextRuns}
 
 -- the bytes that weren't handed out, where they are known: those that are buffered, and then those that the inner reader is
 -- known to have left
@@ -38,9 +39,12 @@ NextKnown remaining (Ok None) [] t = HasLeft remaining t []
 NextKnown remaining (Err (Io e)) lines t = HasLeft remaining t lines
 NextKnown remaining (Err (TooLong max)) lines t = ⊥
 
--- why reading failed with this error: memory was refused, and no fault was met, or it is the one fault that the stream met
-abbrev pub ReadFails : {S : Type 0} → Lining S → Error → Lining S → Type 0
-ReadFails s e t = ((error_kind e ≡ OutOfMemory) × NoFault s t) ⊎ Faulted s e t
+-- these lines were handed out, each by one call, and then reading failed with this error: memory to keep the last of them
+-- was refused, and no fault was met, or one more call met it, and no other
+abbrev pub ReadFails : {S : Type 0} → (S → Option (List ℕ)) → Lining S → List (List ℕ) → Error → Lining S → Type 0
+ReadFails remaining s done e t =
+    ((error_kind e ≡ OutOfMemory) × (0 < length done) × NextRuns remaining s (map (λ line. Ok (Some line)) done) t × NoFault s t)
+    ⊎ (NextRuns remaining s (map (λ line. Ok (Some line)) done ++ Err (Io e) ∷ []) t × Faulted s e t)
 
 -- the first of these lines were handed out, and then reading failed with this error: the others are left
 pub record ReadStopped {S : Type 0} (remaining : S → Option (List ℕ)) (s : Lining S) (lines : List (List ℕ))
@@ -49,4 +53,4 @@ pub record ReadStopped {S : Type 0} (remaining : S → Option (List ℕ)) (s : L
   pub later : List (List ℕ)
   pub all : lines ≡ done ++ later
   pub left : HasLeft remaining t later
-  pub failed : ReadFails s e t
+  pub failed : ReadFails remaining s done e t

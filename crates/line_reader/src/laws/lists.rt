@@ -30,8 +30,8 @@ pub fn write_each<W: TellWrite>(writer: &mut LineWriter<W>, lines: &[Vec<u8>]) -
     Ok(())
 }
 
-/// Reads lines of which it is known that they are these, and no others. An `Err` is refused memory, or the fault of the
-/// inner reader; what is left then is the last of them.
+/// Reads lines of which it is known that they are these, and no others. An `Err` is refused memory for the line that was
+/// handed out last, or the fault of the inner reader; what is left then is the last of them.
 pub fn read_each<R: TellRead>(
     alloc: Global,
     reader: &mut LineReader<R>,
