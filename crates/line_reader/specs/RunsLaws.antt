@@ -61,12 +61,15 @@ module _ {S : Type 0} (remaining : S → Option (List ℕ)) where
       (more, plain, inl (ap (λ l. l ++ more) is), cut)
   cut_off s m t (Ok (Some line)) answers bytes more (plain, fits, fault, inr (is, some, none, ended, met)) run cut =
       (more, plain, inr (ap (λ l. l ++ more) is, some, end_follows m answers t ended run), cut)
-  cut_off s m t (Ok None) answers bytes more (is, none, fault, ended, met) run cut = subst (Cuts answers) (ap (λ l. l ++ more) (sym is)) cut
-  cut_off s m t (Err e) answers bytes more given run cut = subst (Cuts answers) (ap (λ l. l ++ more) (sym (no_bytes s m e bytes given))) cut
+  cut_off s m t (Ok None) answers bytes more (is, none, fault, ended, met) run cut =
+      subst (Cuts answers) (ap (λ l. l ++ more) (sym is)) cut
+  cut_off s m t (Err e) answers bytes more given run cut =
+      subst (Cuts answers) (ap (λ l. l ++ more) (sym (no_bytes s m e bytes given))) cut
 
   pub NextRuns-went : (s : Lining S) (answers : List NextAnswer) (t : Lining S) → NextRuns remaining s answers t
       → RunWent remaining s answers t
-  NextRuns-went s [] t e = record { bytes = []; cut = refl; went = subst (LinesWent remaining s []) e (LinesWent-none remaining s) }
+  NextRuns-went s [] t e =
+      record { bytes = []; cut = refl; went = subst (LinesWent remaining s []) e (LinesWent-none remaining s) }
   NextRuns-went s (answer ∷ answers) t run =
       let more = NextRuns-went run.0 answers t run.2 in record {
         bytes = run.1.bytes ++ more.bytes;

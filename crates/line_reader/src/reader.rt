@@ -57,7 +57,13 @@ impl<R: Tell> Model for LineReader<R> {
 
     ghost view = { λ f. record { reader = f.reader; max = f.max; handed = f.handed; seen = f.seen; ended = f.ended } };
 
-    ghost invariant = { λ f. IsLining (record { reader = f.reader; max = f.max; handed = f.handed; seen = f.seen; ended = f.ended }) };
+    ghost invariant = { λ f. IsLining (record {
+      reader = f.reader;
+      max = f.max;
+      handed = f.handed;
+      seen = f.seen;
+      ended = f.ended;
+    }) };
 }
 
 impl<R: Tell> LineReader<R> {

@@ -16,7 +16,8 @@ returns-in_err-write_all-2-clause-beginning g c =
     end_stops (λ v. v.items) c.args.lines.now c.loop-line.line-index c.line-item.result c.loop-line-test.true c.line-item.is
     g.W.TellWrite.stretch g.met.W.TellWrite.stretch_joins c.args.writer.now c.loop-line.writer c.loop-line.invariant
     c.write_all.new.self
-    (subst (λ l. WritesInOrder c.loop-line.writer l c.write_all.new.self) c.deref.ensures.value c.in_ok-write_all.ensures.in_order)
+    (subst (λ l. WritesInOrder c.loop-line.writer l c.write_all.new.self) c.deref.ensures.value
+    c.in_ok-write_all.ensures.in_order)
     c.write_all-in-loop-line.new.self c.write_all-in-loop-line.ensures.beginning
 
 pub returns-in_err-write_all-2-clause-stretch : goal.returns-in_err-write_all-2-clause-stretch
@@ -33,7 +34,8 @@ loop-line-preserved g c =
     line_written (λ v. v.items) c.args.lines.now c.loop-line.line-index c.line-item.result c.loop-line-test.true c.line-item.is
     g.W.TellWrite.stretch g.met.W.TellWrite.stretch_joins c.args.writer.now c.loop-line.writer c.loop-line.invariant
     c.write_all.new.self
-    (subst (λ l. WritesInOrder c.loop-line.writer l c.write_all.new.self) c.deref.ensures.value c.in_ok-write_all.ensures.in_order)
+    (subst (λ l. WritesInOrder c.loop-line.writer l c.write_all.new.self) c.deref.ensures.value
+    c.in_ok-write_all.ensures.in_order)
     c.write_all-in-loop-line.new.self c.in_ok-write_all-2.ensures.in_order c.write_all.ensures.stretch.calls
     c.write_all-in-loop-line.ensures.stretch.calls
 

@@ -32,7 +32,10 @@ pub returns-in_err-len : goal.returns-in_err-len
 returns-in_err-len g c =
     let next = next_searched _ c.args.self.now _ _ _ c.in_default.ensures.none c.in_err-len.ensures.next in
     let p = err_from_is_err_and c.from_residual.result c.from_residual.ensures.1 in
-    rw (p.1, p.2) ((refl, (λ _. tt), record { whole = Err c.in_err-len.field-0.0; next = next; trims = refl }), record { after_borrow = tt })
+    rw (p.1, p.2) (
+      (refl, (λ _. tt), record { whole = Err c.in_err-len.field-0.0; next = next; trims = refl }),
+      record { after_borrow = tt },
+    )
 
 pub returns-in-Some-2 : goal.returns-in-Some-2
 returns-in-Some-2 g c =

@@ -21,7 +21,8 @@ invariant_of-self g c =
       ap (λ x. x.max) c.self.view_is,
       ap length (rest_whole m handed),
     ) in
-    filled_whole g.R.TellRead.remaining m c.self.invariant handed fits c.if-self.false _ number _ _ c.fill_buf.follows.holds-at-none
+    filled_whole g.R.TellRead.remaining m c.self.invariant handed fits c.if-self.false _ number _ _
+    c.fill_buf.follows.holds-at-none
 
 pub returns-in_err-fill_buf : goal.returns-in_err-fill_buf
 returns-in_err-fill_buf g c =
@@ -77,5 +78,15 @@ returns g c =
     } in
     subst (λ x. AsksOnce remaining x (Ok (nat_lt c.buf_len-have.result (length c.in_ok-fill_buf.field-0.now))) t) c.self.view_is
     (AsksOnce-ok remaining m c.self.invariant handed fits c.if-self.false _ number _ _ f
-    _ (λ more. omega (arith, ltb-true c.buf_len-have.result (length c.in_ok-fill_buf.field-0.now) more, c.buf_len-have.ensures.value, ap length f.shown))
-    (λ less. omega (arith, ltb-false c.buf_len-have.result (length c.in_ok-fill_buf.field-0.now) less, c.buf_len-have.ensures.value, ap length f.shown)))
+    _ (λ more. omega (
+      arith,
+      ltb-true c.buf_len-have.result (length c.in_ok-fill_buf.field-0.now) more,
+      c.buf_len-have.ensures.value,
+      ap length f.shown,
+    ))
+    (λ less. omega (
+      arith,
+      ltb-false c.buf_len-have.result (length c.in_ok-fill_buf.field-0.now) less,
+      c.buf_len-have.ensures.value,
+      ap length f.shown,
+    )))

@@ -45,7 +45,8 @@ returns-in_err-read_more g c =
     let drops : DropsLine m c.drop_line-count.result.0 false t =
     subst (λ b. DropsLine m c.drop_line-count.result.0 b t) c.if-found.false c.drop_line-count.ensures in
     let d = c.drop_handed.ensures in
-    let h = skip_on remaining s t v _ (skipped remaining s m c.turns.dropped c.turns.invariant.head _ t drops) d.went d.told d.ended in
+    let head = skipped remaining s m c.turns.dropped c.turns.invariant.head _ t drops in
+    let h = skip_on remaining s t v _ head d.went d.told d.ended in
     let none : rest v ≡ [] = d.rest ∙ none_left remaining s m c.turns.dropped c.turns.invariant.head _ t drops in
     let p = err_from_is_err_and c.from_residual.result c.from_residual.ensures.1 in
     rw (p.1, p.2) (skip_fails remaining s v _ h none _ c.read_more.new.self c.in_err-read_more.ensures)
@@ -60,7 +61,8 @@ invariant_of-self g c =
     let drops : DropsLine m c.drop_line-count.result.0 false t =
     subst (λ b. DropsLine m c.drop_line-count.result.0 b t) c.if-found.false c.drop_line-count.ensures in
     let d = c.drop_handed.ensures in
-    let h = skip_on remaining s t v _ (skipped remaining s m c.turns.dropped c.turns.invariant.head _ t drops) d.went d.told d.ended in
+    let head = skipped remaining s m c.turns.dropped c.turns.invariant.head _ t drops in
+    let h = skip_on remaining s t v _ head d.went d.told d.ended in
     let none : rest v ≡ [] = d.rest ∙ none_left remaining s m c.turns.dropped c.turns.invariant.head _ t drops in
     let asked : AsksOnce remaining v (Ok false) c.read_more.new.self =
     subst (λ b. AsksOnce remaining v (Ok b) c.read_more.new.self) c.if-not-branch.true c.in_ok-read_more.ensures in
@@ -77,7 +79,8 @@ returns-then-not-branch g c =
     let drops : DropsLine m c.drop_line-count.result.0 false t =
     subst (λ b. DropsLine m c.drop_line-count.result.0 b t) c.if-found.false c.drop_line-count.ensures in
     let d = c.drop_handed.ensures in
-    let h = skip_on remaining s t v _ (skipped remaining s m c.turns.dropped c.turns.invariant.head _ t drops) d.went d.told d.ended in
+    let head = skipped remaining s m c.turns.dropped c.turns.invariant.head _ t drops in
+    let h = skip_on remaining s t v _ head d.went d.told d.ended in
     let none : rest v ≡ [] = d.rest ∙ none_left remaining s m c.turns.dropped c.turns.invariant.head _ t drops in
     let asked : AsksOnce remaining v (Ok false) c.read_more.new.self =
     subst (λ b. AsksOnce remaining v (Ok b) c.read_more.new.self) c.if-not-branch.true c.in_ok-read_more.ensures in
@@ -94,7 +97,8 @@ turns-preserved g c =
     let drops : DropsLine m c.drop_line-count.result.0 false t =
     subst (λ b. DropsLine m c.drop_line-count.result.0 b t) c.if-found.false c.drop_line-count.ensures in
     let d = c.drop_handed.ensures in
-    let h = skip_on remaining s t v _ (skipped remaining s m c.turns.dropped c.turns.invariant.head _ t drops) d.went d.told d.ended in
+    let head = skipped remaining s m c.turns.dropped c.turns.invariant.head _ t drops in
+    let h = skip_on remaining s t v _ head d.went d.told d.ended in
     let none : rest v ≡ [] = d.rest ∙ none_left remaining s m c.turns.dropped c.turns.invariant.head _ t drops in
     let asked : AsksOnce remaining v (Ok true) c.read_more.new.self =
     subst (λ b. AsksOnce remaining v (Ok b) c.read_more.new.self) c.if-not-branch.false c.in_ok-read_more.ensures in
