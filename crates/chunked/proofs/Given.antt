@@ -9,7 +9,7 @@ use Rattle.chunked.specs.declared.limits.Limits.{Limits}
 use Rattle.chunked.specs.declared.place.Place.TheVariants.{Done}
 use Rattle.chunked.specs.Body.{IsBody, IsSizeLine, HasChunks}
 use Rattle.chunked.specs.BodyLaws.{IsBody-same}
-use Rattle.chunked.specs.Dechunking.{Breaks, Dechunking, EndsEarly, IsDechunking, IsWhole, begun, handed_of}
+use Rattle.chunked.specs.Dechunking.{Breaks, Dechunking, EndsEarly, IsDechunking, IsWhole, handed_of}
 use Rattle.chunked.specs.DechunkingLaws.{body_done}
 use Rattle.chunked.specs.Given.{GivenBody}
 use Rattle.chunked.specs.Place.{IsWrong}

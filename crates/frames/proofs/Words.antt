@@ -1,8 +1,7 @@
 -- What one word asks for.
-use Rattle.std.proofs.Common.{◌≡◌, ℕ, ◌<◌, ◌≤◌, List, [], ◌∷◌, map, length, get_or, Result, codes, sym, ap, ◌∙◌, arith}
+use Rattle.std.proofs.Common.{◌≡◌, ℕ, ◌<◌, ◌≤◌, List, [], ◌∷◌, map, length, get_or, sym, ap, ◌∙◌, arith}
 use Rattle.buffer_redux.specs.StreamLog.{StreamLog}
 use Rattle.frames.specs.declared.ending.Ending.{Ending}
-use Rattle.frames.specs.declared.error.RunError.{RunError}
 use Rattle.frames.specs.Asked.{AskToPack, AskToUnpack, PackedAs, UnpackedAs, RunDid}
 
 pub map_one : {X Y : Type 0} (f : X → Y) (xs : List X) (x : X)

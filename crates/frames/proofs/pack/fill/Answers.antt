@@ -1,4 +1,4 @@
-use Rattle.std.proofs.Common.{◌≡◌, ◌+◌, ◌≤◌, ◌∙◌, [], arith}
+use Rattle.std.proofs.Common.{◌∙◌, [], arith}
 use Rattle.buffer_redux.specs.LogGrows.{ReadLogGrows-joins}
 use Rattle.buffer_redux.specs.ReaderLaws.{ReadsInOrder-joins}
 use Rattle.frames.proofs.Faring.{only_more, one_more}

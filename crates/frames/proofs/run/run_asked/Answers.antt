@@ -1,4 +1,4 @@
-use Rattle.std.proofs.Common.{◌≡◌, ◌∷◌, [], codes, map, string_bytes, ap, sym, ◌∙◌, arith}
+use Rattle.std.proofs.Common.{◌≡◌, ◌∷◌, [], codes, string_bytes, ap, sym, ◌∙◌, arith}
 use Rattle.std.specs.Cmp.Lexicographic.{same_text}
 use Rattle.frames.proofs.Words.{map_one, did_pack, did_unpack}
 use Rattle.frames.proofs.run.run_asked.Goals as goal

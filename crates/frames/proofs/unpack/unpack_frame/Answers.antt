@@ -1,4 +1,4 @@
-use Rattle.std.proofs.Common.{◌≡◌, ◌+◌, ◌≤◌, subst, ap, ◌∙◌, Ok, Err, true, false, length, [], arith}
+use Rattle.std.proofs.Common.{subst, ◌∙◌, Ok, Err, true, false, [], arith}
 use Rattle.std.proofs.lemmas.Result.{err_from_is_err_and}
 use Rattle.frame_reader.specs.NextLaws.{FramesWent-joins}
 use Rattle.frames.specs.Unpack.{ReadStopped, UnpacksOnce}
