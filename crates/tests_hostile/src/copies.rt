@@ -1,18 +1,19 @@
 //! Copies from a reader to a writer, one of them over a stream that goes wrong, asked for again where they fail.
-use crate::policies::Restless;
+use crate::policies::{ReaderRule, WriterRule};
 use crate::streams::{Hostile, calls, faults, hostile, inside};
-use crate::sweep::{Case, Fault, Outcome, first, first_loss, holding, numbered, tells_of_one};
-use buffer_redux::policy::{FlushOn, MinBuffered, ReaderPolicy, WriterPolicy};
+use crate::sweep::{
+    Case, Fault, Outcome, first, holding, loses_nothing_by, numbered, tells_of_one,
+};
 use buffer_redux::script::{Answer, ScriptReader, ScriptWriter};
 use buffer_redux::{BufReader, BufWriter, copy_buf};
 use std::alloc::Global;
-use std::io;
 use std::io::ErrorKind;
+use std::process::Abort;
 use std::test::Fail;
 
-type Source = Hostile<ScriptReader>;
+type Reader = BufReader<Hostile<ScriptReader>, ReaderRule>;
 
-type Target = Hostile<ScriptWriter>;
+type Writer = BufWriter<Hostile<ScriptWriter>, WriterRule>;
 
 // How many bytes the source gives by which script, and the script of the target.
 type Row = (usize, &'static [Answer], &'static [Answer]);
@@ -49,70 +50,34 @@ const ROWS: [Row; 9] = [
 const COPIES: usize = 3;
 
 // The policies of the reader and the writer.
-#[derive(Clone, Copy, Debug)]
-enum Rules {
-    Std,
-    Ahead,
-    Restless,
-}
+const RULES: [(ReaderRule, WriterRule); 3] = [
+    (ReaderRule::Std, WriterRule::Std),
+    (ReaderRule::Min(4), WriterRule::On(1)),
+    (ReaderRule::Restless, WriterRule::Restless),
+];
 
 #[derive(Drop)]
 struct Copied<'a> {
     row: Row,
     bytes: &'a [u8],
     ring: bool,
-    rules: Rules,
+    rules: (ReaderRule, WriterRule),
     // Whether the target goes wrong, and not the source.
     at_target: bool,
 }
 
 impl Case for Copied<'_> {
     fn run(&self, alloc: Global, fault: Fault) -> Result<Outcome, Fail> {
-        let (source, target) = if self.at_target {
+        let (mut from, mut to) = if self.at_target {
             (self.source(alloc, Fault::NONE)?, self.target(alloc, fault)?)
         } else {
             (self.source(alloc, fault)?, self.target(alloc, Fault::NONE)?)
         };
-        match self.rules {
-            Rules::Std => self.copies(alloc, source, target),
-            Rules::Ahead => self.copies(
-                alloc,
-                source.set_policy(MinBuffered(4)),
-                target.set_policy(FlushOn(1)),
-            ),
-            Rules::Restless => self.copies(
-                alloc,
-                source.set_policy(Restless),
-                target.set_policy(Restless),
-            ),
-        }
-    }
-}
-
-impl Copied<'_> {
-    fn source(&self, alloc: Global, fault: Fault) -> Result<BufReader<Source>, Fail> {
-        let stream = ScriptReader::new(alloc, self.bytes, self.row.1)?;
-        let buf = holding(alloc, self.ring, 4, &[])?;
-        Ok(BufReader::with_buffer(buf, hostile(alloc, stream, fault)))
-    }
-
-    fn target(&self, alloc: Global, fault: Fault) -> Result<BufWriter<Target>, Fail> {
-        let stream = ScriptWriter::new(alloc, self.row.2)?;
-        let buf = holding(alloc, self.ring, 3, &[])?;
-        Ok(BufWriter::with_buffer(buf, hostile(alloc, stream, fault)))
-    }
-
-    fn copies<P: ReaderPolicy + Drop, Q: WriterPolicy + Drop>(
-        &self,
-        alloc: Global,
-        mut from: BufReader<Source, P>,
-        mut to: BufWriter<Target, Q>,
-    ) -> Result<Outcome, Fail> {
         let mut returned = Vec::new(alloc);
         let mut caused = Vec::new(alloc);
         for _ in 0..COPIES {
             let before = (faults(from.get_ref()).len(), faults(to.get_ref()).len());
-            if let Err(e) = copy_once(&mut from, &mut to) {
+            if let Err(e) = copy_buf(&mut from, &mut to) {
                 returned.push(e.kind())?;
                 let read = last(faults(from.get_ref()), before.0);
                 let written = last(faults(to.get_ref()), before.1);
@@ -139,11 +104,20 @@ impl Copied<'_> {
     }
 }
 
-fn copy_once<P: ReaderPolicy, Q: WriterPolicy>(
-    from: &mut BufReader<Source, P>,
-    to: &mut BufWriter<Target, Q>,
-) -> io::Result<u64> {
-    copy_buf(from, to)
+impl Copied<'_> {
+    fn source(&self, alloc: Global, fault: Fault) -> Result<Reader, Fail> {
+        let stream = ScriptReader::new(alloc, self.bytes, self.row.1)?;
+        let buf = holding(alloc, self.ring, 4, &[])?;
+        let rdr = BufReader::with_buffer(buf, hostile(alloc, stream, fault));
+        Ok(rdr.set_policy(self.rules.0))
+    }
+
+    fn target(&self, alloc: Global, fault: Fault) -> Result<Writer, Fail> {
+        let stream = ScriptWriter::new(alloc, self.row.2)?;
+        let buf = holding(alloc, self.ring, 3, &[])?;
+        let wrt = BufWriter::with_buffer(buf, hostile(alloc, stream, fault));
+        Ok(wrt.set_policy(self.rules.1))
+    }
 }
 
 // The last of the kinds, but of the first ones.
@@ -160,11 +134,10 @@ fn either(kind: ErrorKind, read: Option<ErrorKind>, written: Option<ErrorKind>) 
     }
 }
 
-#[test]
-fn lose_nothing(rt: HostRuntime) -> Result<(), Fail> {
+fn sweeps(rt: &(impl Abort + AllocGlobal), answer: Answer) -> Result<(), Fail> {
     for row in ROWS {
         let bytes = numbered(rt.alloc(), row.0)?;
-        for rules in [Rules::Std, Rules::Ahead, Rules::Restless] {
+        for rules in RULES {
             for (ring, at_target) in [(false, false), (false, true), (true, false), (true, true)] {
                 let case = Copied {
                     row,
@@ -173,12 +146,36 @@ fn lose_nothing(rt: HostRuntime) -> Result<(), Fail> {
                     rules,
                     at_target,
                 };
-                let loss = first_loss(&rt, rt.alloc(), &case, false)?;
-                assert!(rt; loss.is_none(), "{row:?}, {rules:?}, ring {ring}: {loss:?}");
+                loses_nothing_by(rt, rt.alloc(), &case, "a copy", answer)?;
             }
         }
     }
     Ok(())
+}
+
+#[test]
+fn lose_nothing_by_a_fault(rt: HostRuntime) -> Result<(), Fail> {
+    sweeps(&rt, Answer::Fail(ErrorKind::Other))
+}
+
+#[test]
+fn lose_nothing_by_an_interrupt(rt: HostRuntime) -> Result<(), Fail> {
+    sweeps(&rt, Answer::Interrupt(1))
+}
+
+#[test]
+fn lose_nothing_by_many_interrupts(rt: HostRuntime) -> Result<(), Fail> {
+    sweeps(&rt, Answer::Interrupt(65))
+}
+
+#[test]
+fn lose_nothing_by_a_call_for_nothing(rt: HostRuntime) -> Result<(), Fail> {
+    sweeps(&rt, Answer::Serve(0))
+}
+
+#[test]
+fn lose_nothing_by_a_single_byte(rt: HostRuntime) -> Result<(), Fail> {
+    sweeps(&rt, Answer::Serve(1))
 }
 
 #[test]
@@ -188,7 +185,7 @@ fn tell_what_is_lost(rt: HostRuntime) -> Result<(), Fail> {
             row: (3, &[], &[]),
             bytes: &[1, 2, 3],
             ring: false,
-            rules: Rules::Restless,
+            rules: (ReaderRule::Restless, WriterRule::Restless),
             at_target,
         };
         assert!(rt; tells_of_one(&rt, rt.alloc(), &case)?);

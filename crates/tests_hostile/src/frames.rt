@@ -1,6 +1,6 @@
 //! Frames, read from and written to a stream that goes wrong.
 use crate::streams::{Hostile, calls, faults, hostile, inside};
-use crate::sweep::{Case, Fault, Loss, Outcome, first, first_loss};
+use crate::sweep::{Case, Fault, Loss, Outcome, first, first_loss, loses_nothing};
 use crate::writers::Notes;
 use buffer_redux::MakeError;
 use buffer_redux::script::{Answer, ScriptReader, ScriptWriter};
@@ -137,8 +137,12 @@ fn write(frames: &mut FrameWriter<Target>, notes: &mut Notes, payload: &[u8]) ->
 fn lose_nothing(rt: HostRuntime) -> Result<(), Fail> {
     for most in PIECES {
         for (max, bytes) in READS {
-            let loss = first_loss(&rt, rt.alloc(), &Reads { max, bytes, most }, false)?;
-            assert!(rt; loss.is_none(), "{bytes:?}, {most} a read: {loss:?}");
+            loses_nothing(
+                &rt,
+                rt.alloc(),
+                &Reads { max, bytes, most },
+                "frames that are read",
+            )?;
         }
         for (max, payloads) in WRITES {
             let case = Writes {
@@ -146,8 +150,7 @@ fn lose_nothing(rt: HostRuntime) -> Result<(), Fail> {
                 payloads,
                 most,
             };
-            let loss = first_loss(&rt, rt.alloc(), &case, false)?;
-            assert!(rt; loss.is_none(), "{payloads:?}, {most} a write: {loss:?}");
+            loses_nothing(&rt, rt.alloc(), &case, "frames that are written")?;
         }
     }
     Ok(())

@@ -7,7 +7,11 @@
 #[cfg(test)]
 mod copies;
 #[cfg(test)]
+mod exact;
+#[cfg(test)]
 mod frames;
+#[cfg(test)]
+mod lines;
 #[cfg(test)]
 mod nested;
 #[cfg(test)]

@@ -2,7 +2,7 @@
 use crate::reader_rows::{self, Row as Reads};
 use crate::readers::kinds;
 use crate::streams::{Hostile, calls, faults, hostile, inside};
-use crate::sweep::{Case, Fault, Outcome, first, first_loss, holding, numbered, tells_of_one};
+use crate::sweep::{Case, Fault, Outcome, first, holding, loses_nothing, numbered, tells_of_one};
 use crate::writer_rows::{self, Row as Writes, Step};
 use crate::writers::Notes;
 use buffer_redux::script::{ScriptReader, ScriptWriter};
@@ -123,8 +123,7 @@ fn readers_lose_nothing(rt: HostRuntime) -> Result<(), Fail> {
                 ring,
                 bytes: bytes.as_slice(),
             };
-            let loss = first_loss(&rt, rt.alloc(), &case, false)?;
-            assert!(rt; loss.is_none(), "{row:?}, ring {ring}: {loss:?}");
+            loses_nothing(&rt, rt.alloc(), &case, row.name)?;
         }
     }
     Ok(())
@@ -135,8 +134,7 @@ fn writers_lose_nothing(rt: HostRuntime) -> Result<(), Fail> {
     for row in writer_rows::rows() {
         for ring in [false, true] {
             let case = WrittenTwice { row: *row, ring };
-            let loss = first_loss(&rt, rt.alloc(), &case, false)?;
-            assert!(rt; loss.is_none(), "{row:?}, ring {ring}: {loss:?}");
+            loses_nothing(&rt, rt.alloc(), &case, row.name)?;
         }
     }
     Ok(())

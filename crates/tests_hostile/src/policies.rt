@@ -1,18 +1,22 @@
-//! The policies of the sweeps.
+//! The policies of the sweeps, those of a reader by one type, and those of a writer by another.
 use buffer_redux::Buffer;
-use buffer_redux::policy::{DoRead, FlushAmt, ReaderPolicy, WriterPolicy};
+use buffer_redux::policy::{
+    DoRead, FlushAmt, FlushAtLeast, FlushExact, FlushOn, FlushOnNewline, MinBuffered, ReaderPolicy,
+    WriterPolicy, flush_when_full, read_when_empty,
+};
 use std::io;
 
-/// The policy of a reader.
-#[derive(Clone, Copy, Debug)]
+/// The policy of a reader. `Restless` makes room at each question, and reads up to three bytes.
+#[derive(Clone, Copy)]
 pub enum ReaderRule {
     Std,
     Min(usize),
     Restless,
 }
 
-/// The policy of a writer.
-#[derive(Clone, Copy, Debug)]
+/// The policy of a writer. `Restless` makes room at each question, and flushes half of what is buffered, and a byte after a
+/// write.
+#[derive(Clone, Copy)]
 pub enum WriterRule {
     Std,
     AtLeast(usize),
@@ -43,28 +47,48 @@ pub const WRITER_RULES: [WriterRule; 9] = [
     WriterRule::Restless,
 ];
 
-/// Makes room at each question, reads up to three bytes, and flushes half of what is buffered, and a byte after a write.
-#[derive(Drop)]
-pub struct Restless;
-
-impl ReaderPolicy for Restless {
+impl ReaderPolicy for ReaderRule {
     fn before_read(&mut self, buffer: &mut Buffer) -> io::Result<DoRead> {
-        buffer.make_room();
-        Ok(DoRead(buffer.len() < 3))
+        match *self {
+            ReaderRule::Std => Ok(read_when_empty(buffer)),
+            ReaderRule::Min(min) => MinBuffered(min).before_read(buffer),
+            ReaderRule::Restless => {
+                buffer.make_room();
+                Ok(DoRead(buffer.len() < 3))
+            }
+        }
     }
 
     fn after_consume(&mut self, buffer: &mut Buffer, _amt: usize) {
-        buffer.make_room();
+        if let ReaderRule::Restless = *self {
+            buffer.make_room();
+        }
     }
 }
 
-impl WriterPolicy for Restless {
-    fn before_write(&mut self, buf: &mut Buffer, _incoming: usize) -> io::Result<FlushAmt> {
-        buf.make_room();
-        Ok(FlushAmt(buf.len() / 2))
+impl WriterPolicy for WriterRule {
+    fn before_write(&mut self, buf: &mut Buffer, incoming: usize) -> io::Result<FlushAmt> {
+        match *self {
+            WriterRule::Std => Ok(flush_when_full(buf, incoming)),
+            WriterRule::AtLeast(min) => FlushAtLeast(min).before_write(buf, incoming),
+            WriterRule::Exact(size) => FlushExact(size).before_write(buf, incoming),
+            WriterRule::On(byte) => FlushOn(byte).before_write(buf, incoming),
+            WriterRule::OnNewline => FlushOnNewline.before_write(buf, incoming),
+            WriterRule::Restless => {
+                buf.make_room();
+                Ok(FlushAmt(buf.len() / 2))
+            }
+        }
     }
 
-    fn after_write(&mut self, _buf: &Buffer) -> FlushAmt {
-        FlushAmt(1)
+    fn after_write(&mut self, buf: &Buffer) -> FlushAmt {
+        match *self {
+            WriterRule::Std => FlushAmt(0),
+            WriterRule::AtLeast(min) => FlushAtLeast(min).after_write(buf),
+            WriterRule::Exact(size) => FlushExact(size).after_write(buf),
+            WriterRule::On(byte) => FlushOn(byte).after_write(buf),
+            WriterRule::OnNewline => FlushOnNewline.after_write(buf),
+            WriterRule::Restless => FlushAmt(1),
+        }
     }
 }

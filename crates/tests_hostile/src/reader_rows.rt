@@ -4,7 +4,7 @@ use redux_play::play::ReaderCall::{self, Consume, Fill, MakeRoom, Read, ReadInto
 use std::io::ErrorKind;
 
 /// A reader over a buffer of this capacity that holds some bytes, a stream that gives some more by a script, and calls.
-#[derive(Clone, Copy, Debug)]
+#[derive(Clone, Copy)]
 pub struct Row {
     pub name: &'static str,
     pub capacity: usize,

@@ -1,9 +1,9 @@
 //! Readers over a stream that goes wrong, played, and then read on without their buffer.
-use crate::policies::{READER_RULES, ReaderRule, Restless};
+use crate::policies::{READER_RULES, ReaderRule};
 use crate::reader_rows::{Row, rows};
 use crate::streams::{Hostile, calls, faults, hostile, inside};
-use crate::sweep::{Case, Fault, Outcome, first, first_loss, holding, numbered, tells_of_one};
-use buffer_redux::policy::{MinBuffered, ReaderPolicy};
+use crate::sweep::{Case, Fault, Outcome, first, holding, loses_nothing, numbered, tells_of_one};
+use buffer_redux::policy::ReaderPolicy;
 use buffer_redux::script::ScriptReader;
 use buffer_redux::{BufReader, Unbuffer};
 use redux_play::play::{ReaderAnswer, ReaderCall, ReaderRun, play_reader};
@@ -34,33 +34,20 @@ impl Case for Played<'_> {
         let source = ScriptReader::new(alloc, bytes.get(row.held..).unwrap_or(&[]), row.script)?;
         let buf = holding(alloc, self.ring, row.capacity, first(bytes, row.held))?;
         let rdr = BufReader::with_buffer(buf, hostile(alloc, source, fault));
-        match self.rule {
-            ReaderRule::Std => self.plays(alloc, rdr),
-            ReaderRule::Min(min) => self.plays(alloc, rdr.set_policy(MinBuffered(min))),
-            ReaderRule::Restless => self.plays(alloc, rdr.set_policy(Restless)),
-        }
-    }
-}
-
-impl Played<'_> {
-    fn plays<P: ReaderPolicy + Drop>(
-        &self,
-        alloc: Global,
-        mut rdr: BufReader<Stream, P>,
-    ) -> Result<Outcome, Fail> {
+        let mut rdr = rdr.set_policy(self.rule);
         let mut run = ReaderRun::new(alloc);
-        play_reader(alloc, &mut rdr, self.row.calls, &mut run)?;
+        play_reader(alloc, &mut rdr, row.calls, &mut run)?;
         let mut returned = kinds(alloc, run.answers.as_slice())?;
         let mut joined = run.handed;
         let mut rest = rdr.unbuffer();
         reads_on(&mut rest, &mut joined, &mut returned)?;
         joined.extend_from_slice(rest.buf())?;
         let inner = rest.into_inner();
-        let given = self.row.held.saturating_add(inside(&inner).served());
+        let given = row.held.saturating_add(inside(&inner).served());
         Ok(Outcome {
             calls: calls(&inner),
             joined,
-            whole: Vec::from_slice(alloc, first(self.bytes, given))?,
+            whole: Vec::from_slice(alloc, first(bytes, given))?,
             returned,
             caused: Vec::from_slice(alloc, faults(&inner))?,
         })
@@ -104,8 +91,7 @@ fn sweeps(rt: &impl Abort, alloc: Global, ring: bool) -> Result<(), Fail> {
                 rule,
                 bytes: bytes.as_slice(),
             };
-            let loss = first_loss(rt, alloc, &case, false)?;
-            assert!(rt; loss.is_none(), "{row:?}, {rule:?}, ring {ring}: {loss:?}");
+            loses_nothing(rt, alloc, &case, row.name)?;
         }
     }
     Ok(())

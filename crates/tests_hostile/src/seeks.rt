@@ -1,10 +1,10 @@
 //! Readers that seek, over a stream that goes wrong. Each byte of the stream is the low part of its place, so what is
 //! buffered says where it comes from.
-use crate::policies::{READER_RULES, ReaderRule, Restless};
+use crate::policies::{READER_RULES, ReaderRule};
 use crate::streams::{Hostile, calls, faults, hostile, inside};
-use crate::sweep::{Case, Fault, Loss, Outcome, first_loss, holding};
+use crate::sweep::{Case, Fault, Loss, Outcome, first_loss, holding, loses_nothing};
 use buffer_redux::BufReader;
-use buffer_redux::policy::{MinBuffered, ReaderPolicy};
+use buffer_redux::policy::ReaderPolicy;
 use std::alloc::Global;
 use std::io;
 use std::io::SeekFrom::{Current, End, Start};
@@ -42,9 +42,9 @@ fn byte_at(place: u64) -> u8 {
     (place % 256) as u8
 }
 
-type Stream = Hostile<Positions>;
+type Reader = BufReader<Hostile<Positions>, ReaderRule>;
 
-#[derive(Clone, Copy, Debug)]
+#[derive(Clone, Copy)]
 enum Step {
     Seek(SeekFrom),
     Fill,
@@ -53,7 +53,7 @@ enum Step {
     Read(usize),
 }
 
-#[derive(Clone, Copy, Debug)]
+#[derive(Clone, Copy)]
 struct Row {
     name: &'static str,
     capacity: usize,
@@ -127,19 +127,11 @@ impl Case for Played {
     fn run(&self, alloc: Global, fault: Fault) -> Result<Outcome, Fail> {
         let buf = holding(alloc, self.ring, self.row.capacity, &[])?;
         let rdr = BufReader::with_buffer(buf, hostile(alloc, Positions { at: 0 }, fault));
-        match self.rule {
-            ReaderRule::Std => plays(alloc, rdr, self.row.steps),
-            ReaderRule::Min(min) => plays(alloc, rdr.set_policy(MinBuffered(min)), self.row.steps),
-            ReaderRule::Restless => plays(alloc, rdr.set_policy(Restless), self.row.steps),
-        }
+        plays(alloc, rdr.set_policy(self.rule), self.row.steps)
     }
 }
 
-fn plays<P: ReaderPolicy + Drop>(
-    alloc: Global,
-    mut rdr: BufReader<Stream, P>,
-    steps: &[Step],
-) -> Result<Outcome, Fail> {
+fn plays(alloc: Global, mut rdr: Reader, steps: &[Step]) -> Result<Outcome, Fail> {
     let mut notes = Notes {
         seen: Vec::new(alloc),
         there: Vec::new(alloc),
@@ -162,7 +154,7 @@ fn plays<P: ReaderPolicy + Drop>(
 }
 
 // Where the next byte of a reader comes from: so far back of the stream as bytes are buffered.
-fn place<P>(rdr: &BufReader<Stream, P>) -> u64 {
+fn place(rdr: &Reader) -> u64 {
     inside(rdr.get_ref()).at.wrapping_sub(rdr.buf_len() as u64)
 }
 
@@ -176,11 +168,7 @@ struct Notes {
 
 impl Notes {
     // Makes a step, and returns the place that the reader stands at then: the same where it failed.
-    fn step<P: ReaderPolicy>(
-        &mut self,
-        rdr: &mut BufReader<Stream, P>,
-        step: Step,
-    ) -> Result<u64, Fail> {
+    fn step(&mut self, rdr: &mut Reader, step: Step) -> Result<u64, Fail> {
         let from = place(rdr);
         let fault = match step {
             Step::Fill => rdr.fill_buf().err(),
@@ -225,8 +213,7 @@ fn lose_no_place(rt: HostRuntime) -> Result<(), Fail> {
         for rule in READER_RULES {
             for ring in [false, true] {
                 let case = Played { row, ring, rule };
-                let loss = first_loss(&rt, rt.alloc(), &case, false)?;
-                assert!(rt; loss.is_none(), "{row:?}, {rule:?}, ring {ring}: {loss:?}");
+                loses_nothing(&rt, rt.alloc(), &case, row.name)?;
             }
         }
     }

@@ -7,7 +7,7 @@ use std::process::Abort;
 use std::test::Fail;
 
 /// Which call of the stream inside goes wrong, how, and whether the stream loses a byte.
-#[derive(Clone, Copy, Debug)]
+#[derive(Clone, Copy)]
 pub struct Fault {
     pub before: usize,
     pub answer: Answer,
@@ -24,7 +24,7 @@ impl Fault {
 }
 
 /// What came of a run.
-#[derive(Debug, Drop)]
+#[derive(Drop)]
 pub struct Outcome {
     /// How many calls the stream inside had.
     pub calls: usize,
@@ -45,7 +45,7 @@ impl Outcome {
 }
 
 /// What a sweep found: a run in which a byte or an error was lost.
-#[derive(Debug, Drop)]
+#[derive(Drop)]
 pub struct Loss {
     pub fault: Fault,
     pub outcome: Outcome,
@@ -82,6 +82,35 @@ pub fn first_loss<C: Case>(
         }
     }
     Ok(None)
+}
+
+/// Sweeps over a case, whatever the answer that goes wrong. Panics at the first run in which something was lost, and says which
+/// call of the stream inside went wrong, and how.
+pub fn loses_nothing<C: Case>(
+    rt: &impl Abort,
+    alloc: Global,
+    case: &C,
+    name: &str,
+) -> Result<(), Fail> {
+    for answer in ANSWERS {
+        loses_nothing_by(rt, alloc, case, name, answer)?;
+    }
+    Ok(())
+}
+
+/// The same with one answer alone.
+pub fn loses_nothing_by<C: Case>(
+    rt: &impl Abort,
+    alloc: Global,
+    case: &C,
+    name: &str,
+    answer: Answer,
+) -> Result<(), Fail> {
+    if let Some(loss) = loss_by(rt, alloc, case, answer, false)? {
+        let before = loss.fault.before;
+        panic!(rt; "{name}: something is lost where call {before} answers {answer:?}");
+    }
+    Ok(())
 }
 
 fn loss_by<C: Case>(

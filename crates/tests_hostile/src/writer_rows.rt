@@ -1,13 +1,14 @@
 //! The lists of calls of writers.
-use crate::writer_rows::Step::{Flush, MakeRoom, Reserve, Seek, Write};
+use crate::writer_rows::Step::{Flush, MakeRoom, Reserve, Seek, Write, WriteAll};
 use buffer_redux::script::Answer::{self, Fail, Interrupt, Serve, ServeEach};
 use std::io::SeekFrom::{Current, Start};
 use std::io::{ErrorKind, SeekFrom};
 
 /// A call of a writer.
-#[derive(Clone, Copy, Debug)]
+#[derive(Clone, Copy)]
 pub enum Step {
     Write(&'static [u8]),
+    WriteAll(&'static [u8]),
     Flush,
     MakeRoom,
     Reserve(usize),
@@ -15,7 +16,7 @@ pub enum Step {
 }
 
 /// A writer over a buffer of this capacity that holds some bytes, a stream that takes bytes and seeks by scripts, and calls.
-#[derive(Clone, Copy, Debug)]
+#[derive(Clone, Copy)]
 pub struct Row {
     pub name: &'static str,
     pub capacity: usize,
@@ -33,15 +34,15 @@ const ROWS: &[Row] = &[
         script: &[],
         seeks: &[],
         steps: &[
-            Write(&[0, 1]),
-            Write(&[2]),
-            Write(&[3]),
+            WriteAll(&[0, 1]),
+            WriteAll(&[2]),
+            WriteAll(&[3]),
             Flush,
-            Write(&[4]),
-            Write(&[5]),
-            Write(&[6]),
-            Write(&[7, 8]),
-            Write(&[9, 10, 11]),
+            WriteAll(&[4]),
+            WriteAll(&[5]),
+            WriteAll(&[6]),
+            WriteAll(&[7, 8]),
+            WriteAll(&[9, 10, 11]),
         ],
     },
     Row {
@@ -282,11 +283,11 @@ const ROWS: &[Row] = &[
         script: &[],
         seeks: &[Ok(8), Ok(2)],
         steps: &[
-            Write(&[0, 1, 2, 3, 4, 5]),
-            Write(&[6, 7]),
+            WriteAll(&[0, 1, 2, 3, 4, 5]),
+            WriteAll(&[6, 7]),
             Seek(Current(0)),
             Seek(Start(2)),
-            Write(&[8, 9]),
+            WriteAll(&[8, 9]),
         ],
     },
     Row {

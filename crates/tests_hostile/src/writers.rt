@@ -1,20 +1,22 @@
 //! Writers over a stream that goes wrong, played, and then taken apart.
-use crate::policies::{Restless, WRITER_RULES, WriterRule};
+use crate::policies::{WRITER_RULES, WriterRule};
 use crate::streams::{Hostile, calls, faults, hostile, inside};
-use crate::sweep::{Case, Fault, Outcome, first, first_loss, holding, tells_of_one};
+use crate::sweep::{Case, Fault, Outcome, first, holding, loses_nothing_by, tells_of_one};
 use crate::writer_rows::{Row, Step, rows};
-use buffer_redux::policy::{FlushAtLeast, FlushExact, FlushOn, FlushOnNewline, WriterPolicy};
-use buffer_redux::script::{ScriptSeeker, ScriptWriter};
+use buffer_redux::policy::WriterPolicy;
+use buffer_redux::script::{Answer, ScriptSeeker, ScriptWriter};
 use buffer_redux::tell::TellWrite;
 use buffer_redux::{BufWriter, Buffer, IntoInnerError};
 use redux_play::play::{WriterAnswer, WriterCall, WriterRun, play_writer};
 use std::alloc::{AllocError, Global};
 use std::io;
-use std::io::{ErrorKind, Seek};
+use std::io::{ErrorKind, Seek, Write};
 use std::process::Abort;
 use std::test::Fail;
 
 type Stream = Hostile<ScriptSeeker<ScriptWriter>>;
+
+type Writer = BufWriter<Stream, WriterRule>;
 
 #[derive(Drop)]
 struct Played {
@@ -32,25 +34,9 @@ impl Case for Played {
         let stream = ScriptSeeker::new(alloc, stream, row.seeks)?;
         let buf = holding(alloc, self.ring, row.capacity, row.held)?;
         let wrt = BufWriter::with_buffer(buf, hostile(alloc, stream, fault));
-        match self.rule {
-            WriterRule::Std => self.plays(alloc, wrt),
-            WriterRule::AtLeast(n) => self.plays(alloc, wrt.set_policy(FlushAtLeast(n))),
-            WriterRule::Exact(n) => self.plays(alloc, wrt.set_policy(FlushExact(n))),
-            WriterRule::On(byte) => self.plays(alloc, wrt.set_policy(FlushOn(byte))),
-            WriterRule::OnNewline => self.plays(alloc, wrt.set_policy(FlushOnNewline)),
-            WriterRule::Restless => self.plays(alloc, wrt.set_policy(Restless)),
-        }
-    }
-}
-
-impl Played {
-    fn plays<P: WriterPolicy + Drop>(
-        &self,
-        alloc: Global,
-        mut wrt: BufWriter<Stream, P>,
-    ) -> Result<Outcome, Fail> {
-        let mut notes = Notes::new(alloc, self.row.held)?;
-        for step in self.row.steps {
+        let mut wrt = wrt.set_policy(self.rule);
+        let mut notes = Notes::new(alloc, row.held)?;
+        for step in row.steps {
             notes.step(alloc, &mut wrt, *step)?;
         }
         let (inner, left) = if self.finishes {
@@ -88,21 +74,35 @@ impl Notes {
         })
     }
 
-    fn step<P: WriterPolicy>(
-        &mut self,
-        alloc: Global,
-        wrt: &mut BufWriter<Stream, P>,
-        step: Step,
-    ) -> Result<(), Fail> {
+    fn step(&mut self, alloc: Global, wrt: &mut Writer, step: Step) -> Result<(), Fail> {
         let before = faults(wrt.get_ref()).len();
         let kind = match step {
             Step::Seek(to) => wrt.seek(to).err().map(|e| e.kind()),
+            Step::WriteAll(bytes) => self.write_all(wrt, bytes)?,
             _ => self.play(alloc, wrt, step)?,
         };
         self.note(kind, faults(wrt.get_ref()), before)
     }
 
-    /// Plays a step, but for a seek, and returns the kind of its error.
+    // Writes all, and returns the kind of its error, unless the policy left the buffer full. What a call that fails has
+    // accepted is told by how much the stream and the buffer then have.
+    fn write_all(
+        &mut self,
+        wrt: &mut Writer,
+        bytes: &'static [u8],
+    ) -> Result<Option<ErrorKind>, Fail> {
+        let (had, before) = (kept(wrt), faults(wrt.get_ref()).len());
+        let Err(e) = wrt.write_all(bytes) else {
+            self.accepted.extend_from_slice(bytes)?;
+            return Ok(None);
+        };
+        self.accepted
+            .extend_from_slice(first(bytes, kept(wrt).saturating_sub(had)))?;
+        let left_full = e.kind() == ErrorKind::WriteZero && faults(wrt.get_ref()).len() == before;
+        Ok(if left_full { None } else { Some(e.kind()) })
+    }
+
+    /// Plays a step, but for a seek, and returns the kind of its error. A `WriteAll` is one write.
     pub fn play<W: TellWrite, P: WriterPolicy>(
         &mut self,
         alloc: Global,
@@ -111,6 +111,7 @@ impl Notes {
     ) -> Result<Option<ErrorKind>, Fail> {
         let (call, bytes) = match step {
             Step::Write(bytes) => (WriterCall::Write(bytes), bytes),
+            Step::WriteAll(bytes) => (WriterCall::Write(bytes), bytes),
             Step::MakeRoom => (WriterCall::MakeRoom, [].as_slice()),
             Step::Reserve(amount) => (WriterCall::Reserve(amount), [].as_slice()),
             Step::Flush | Step::Seek(_) => (WriterCall::Flush, [].as_slice()),
@@ -144,11 +145,7 @@ impl Notes {
         Ok(())
     }
 
-    fn unwrap<P: WriterPolicy + Drop>(
-        &mut self,
-        alloc: Global,
-        wrt: BufWriter<Stream, P>,
-    ) -> Result<(Stream, Buffer), Fail> {
+    fn unwrap(&mut self, alloc: Global, wrt: Writer) -> Result<(Stream, Buffer), Fail> {
         let before = faults(wrt.get_ref()).len();
         match wrt.into_inner() {
             Ok(inner) => Ok((inner, Buffer::with_capacity(alloc, 0)?)),
@@ -159,7 +156,7 @@ impl Notes {
         }
     }
 
-    fn finish<P: Drop>(&mut self, wrt: BufWriter<Stream, P>) -> Result<(Stream, Buffer), Fail> {
+    fn finish(&mut self, wrt: Writer) -> Result<(Stream, Buffer), Fail> {
         let before = faults(wrt.get_ref()).len();
         let mut kind = None;
         let (inner, left) = wrt.finish(|_, _: &mut Buffer, e: io::Error| kind = Some(e.kind()));
@@ -168,31 +165,53 @@ impl Notes {
     }
 }
 
-// The first loss in a row under any policy, in a buffer of this kind.
-fn sweeps(rt: &impl Abort, alloc: Global, ring: bool) -> Result<(), Fail> {
+// How much the stream took, and how much is buffered.
+fn kept(wrt: &Writer) -> usize {
+    let taken = inside(wrt.get_ref()).get_ref().taken().len();
+    taken.saturating_add(wrt.buf_len())
+}
+
+// No row loses a thing under any policy, in a buffer of either kind, where a call goes wrong by this answer.
+fn sweeps(rt: &impl Abort, alloc: Global, answer: Answer) -> Result<(), Fail> {
     for row in rows() {
         for rule in WRITER_RULES {
-            let case = Played {
-                row: *row,
-                ring,
-                rule,
-                finishes: ring,
-            };
-            let loss = first_loss(rt, alloc, &case, false)?;
-            assert!(rt; loss.is_none(), "{row:?}, {rule:?}, ring {ring}: {loss:?}");
+            for ring in [false, true] {
+                let case = Played {
+                    row: *row,
+                    ring,
+                    rule,
+                    finishes: ring,
+                };
+                loses_nothing_by(rt, alloc, &case, row.name, answer)?;
+            }
         }
     }
     Ok(())
 }
 
 #[test]
-fn lose_nothing(rt: HostRuntime) -> Result<(), Fail> {
-    sweeps(&rt, rt.alloc(), false)
+fn lose_nothing_by_a_fault(rt: HostRuntime) -> Result<(), Fail> {
+    sweeps(&rt, rt.alloc(), Answer::Fail(ErrorKind::Other))
 }
 
 #[test]
-fn lose_nothing_in_a_ring(rt: HostRuntime) -> Result<(), Fail> {
-    sweeps(&rt, rt.alloc(), true)
+fn lose_nothing_by_an_interrupt(rt: HostRuntime) -> Result<(), Fail> {
+    sweeps(&rt, rt.alloc(), Answer::Interrupt(1))
+}
+
+#[test]
+fn lose_nothing_by_many_interrupts(rt: HostRuntime) -> Result<(), Fail> {
+    sweeps(&rt, rt.alloc(), Answer::Interrupt(65))
+}
+
+#[test]
+fn lose_nothing_by_a_call_for_nothing(rt: HostRuntime) -> Result<(), Fail> {
+    sweeps(&rt, rt.alloc(), Answer::Serve(0))
+}
+
+#[test]
+fn lose_nothing_by_a_single_byte(rt: HostRuntime) -> Result<(), Fail> {
+    sweeps(&rt, rt.alloc(), Answer::Serve(1))
 }
 
 #[test]
