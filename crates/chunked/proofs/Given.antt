@@ -109,7 +109,8 @@ module _ {S P : Type 0} (t : Dechunking S P) (is : IsDechunking t) (body payload
 
   pub all : IsWhole t → (handed_of t ≡ payload) × (t.reader.block.bytes ≡ behind)
   all whole =
-      let found = IsBody-same t.limits t.limits t.taken body (handed_of t) payload t.reader.block.bytes behind whole is_body same in
+      let found = IsBody-same t.limits t.limits t.taken body (handed_of t) payload t.reader.block.bytes behind whole
+      is_body same in
       (found.1, found.2)
 
 module _ {S P : Type 0} (remaining : S → Option (List ℕ)) (rules : ReadRules P) (first : Buffered S P) (limits : Limits)

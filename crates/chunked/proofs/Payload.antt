@@ -87,7 +87,8 @@ pub noted_some : (calls later : StreamLog) (out : List ℕ) (answer : Result ℕ
 noted_some calls later out answer n is noted = noted ∙ ap (after_payload calls out) (sym is)
 
 -- the same with the calls as they were noted
-module _ {S P : Type 0} (remaining : S → Option (List ℕ)) (rules : ReadRules P) (d : Dechunking S P) (r : Buffered S P) (p : Progress)
+module _ {S P : Type 0} (remaining : S → Option (List ℕ)) (rules : ReadRules P)
+    (d : Dechunking S P) (r : Buffered S P) (p : Progress)
     (calls : StreamLog) (view : seen r p calls ≡ d) (is : IsDechunking (seen r p calls)) (out : List ℕ)
     (answer : Result ℕ ChunkedError) (r' : Buffered S P) (q : Progress) (hands : HandsOn remaining rules r p out answer r' q)
     (done : p.place ≡ Done → r' ≡ r) (calls' : StreamLog) (noted : calls' ≡ after_payload calls out answer) where

@@ -15,5 +15,6 @@ returns-then-is_empty-clause-hands g c =
 
 pub returns-in-Data-clause-hands : goal.returns-in-Data-clause-hands
 returns-in-Data-clause-hands g c =
-    HandsOn-after _ _ _ _ _ _ c.in_ok-skip.ensures.skips.wire c.in_ok-skip.ensures.skips.takes c.in_ok-skip.ensures.skips.ends.0 c.in_ok-skip.ensures.skips.ends.2 _ _ _ _
+    HandsOn-after _ _ _ _ _ _ c.in_ok-skip.ensures.skips.wire c.in_ok-skip.ensures.skips.takes
+    c.in_ok-skip.ensures.skips.ends.0 c.in_ok-skip.ensures.skips.ends.2 _ _ _ _
     c.read_data.ensures

@@ -6,7 +6,12 @@ use Rattle.chunked.proofs.Texts.{taken_on}
 use Rattle.chunked.proofs.step.advance.Goals as goal
 
 pub loop-taken-init : goal.loop-taken-init
-loop-taken-init c = record { within = omega arith; passes = Passes-none c.args.limits.now c.args.start; place = c.requires; begun = inr refl }
+loop-taken-init c = record {
+  within = omega arith;
+  passes = Passes-none c.args.limits.now c.args.start;
+  place = c.requires;
+  begun = inr refl;
+}
 
 pub loop-taken-preserved : goal.loop-taken-preserved
 loop-taken-preserved c =
