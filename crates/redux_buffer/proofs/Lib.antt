@@ -1,4 +1,5 @@
 pub mod Ranges
+pub mod Loans
 pub mod Cleared
 pub mod Written
 pub mod Steps

@@ -1,15 +1,13 @@
-use Rattle.std.proofs.Common.{true, ◌≡◌, ◌≤◌, ◌^◌, ◌-◌, length, take, drop, slice_range, refl, sym, ap, ◌∙◌, arith}
-use Rattle.std.proofs.lemmas.Bool.{le-ltb, le-leb}
+use Rattle.std.proofs.Common.{◌≡◌, ◌≤◌, ◌-◌, length, take, drop, slice_range, refl, sym, ap, ◌∙◌, arith}
+use Rattle.std.proofs.lemmas.Bool.{le-ltb}
 use Rattle.std.proofs.lemmas.List.{take-take}
-use Rattle.redux_buffer.specs.Block.{Ring}
-use Rattle.redux_buffer.specs.RawLends.{refilled_from}
 use Rattle.redux_buffer.specs.contracts.slice_deque_buf.SliceDequeBuf.{the_view}
-use Rattle.redux_buffer.proofs.Ranges.{range_refilled_below, range_refilled, length_refilled_from, range_front, ring_tail_length}
+use Rattle.redux_buffer.proofs.Loans.{ring_tail_written}
+use Rattle.redux_buffer.proofs.Ranges.{range_front, ring_tail_length}
 use Rattle.redux_buffer.proofs.slice_deque_buf.SliceDequeBuf.write_front.Goals as goal
 
 pub returns : goal.returns
 returns c =
-    let p = c.args.self.now in
     let b = c.self.inside in
     let n = c.args.n in
     let view = c.self.view_is in
@@ -21,36 +19,7 @@ returns c =
     let size = ring_tail_length b.buf b.head b.end b.stop (omega arith) (omega arith) (omega arith) (omega arith) in
     let fits : n ≤ b.stop - b.end = omega (arith, size, c.requires.fits, ap (λ q. length q.block.tail) view) in
     let shown : take n (slice_range b.buf b.end b.stop) ≡ take n (the_view b).block.tail = rw is_behind refl in (
-      (
-        refl,
-        λ w.
-            let storage = refilled_from b.buf b.end w in
-            let all = length_refilled_from b.buf b.end w (omega arith) in
-            let long : b.stop ≤ length storage = omega (arith, all, behind) in
-            let bytes = range_refilled_below b.buf b.head b.end b.end w (omega arith) (omega arith) in
-            let tail = range_refilled b.buf b.end b.stop w (omega arith) behind in
-            rw (
-              ← view,
-              in_front,
-              is_behind,
-              le-ltb (length storage) b.stop long,
-              le-leb b.stop (length storage) long,
-              le-leb b.stop (length b.buf) behind,
-            )
-            (λ i. record {
-              block = record {
-                bytes = bytes i;
-                tail = tail i;
-                capacity = b.stop - b.head;
-                limit = 2 ^ 61;
-                kind = Ring;
-                tail_behind = true;
-                consumed = b.consumed.total;
-                moved = b.moved.total;
-              };
-              place = b.head;
-            }),
-      ),
+      (refl, λ w. rw (← view, in_front) (ring_tail_written b (omega arith) (omega arith) behind w)),
       record {
         writes_back = tt;
         value = c.range_mut.ensures.value ∙ range_front b.buf b.end n

@@ -1,22 +1,8 @@
-use Rattle.std.proofs.Common.{◌≡◌, ◌+◌, ◌-◌, ◌++◌, min, take, slice_range, refl, ap, ◌∙◌, arith, length-drop}
-use Rattle.std.proofs.lemmas.Slice.{between_to_end}
-use Rattle.redux_buffer.proofs.Ranges.{range_takes}
+use Rattle.std.proofs.Common.{arith}
+use Rattle.redux_buffer.proofs.Loans.{std_took}
 use Rattle.redux_buffer.proofs.std_buf.StdBuf.bytes_written.Goals as goal
 
 pub returns-clause-bytes : goal.returns-clause-bytes
 returns-clause-bytes c =
-    let b = c.self.inside in
-    let n = c.args.n in
-    let written = c.min.result in
-    let there : b.end + written ≡ b.end + min n (b.stop - b.end) = omega arith in
-    let tail = between_to_end b.buf b.end b.stop (omega arith) in
-    rw (← c.self.view_is) (record {
-      bytes = ap (slice_range b.buf b.pos) there
-          ∙ range_takes b.buf b.pos b.end b.stop n (omega arith) (omega arith) (omega arith)
-          ∙ ap (λ l. slice_range b.buf b.pos b.end ++ take n l) tail;
-      usable = omega (arith, length-drop (b.end + written) b.buf, length-drop b.end b.buf);
-      capacity = refl;
-      limit = refl;
-      kind = refl;
-      consumed = refl;
-    })
+    rw (← c.self.view_is)
+    (std_took c.self.inside c.args.n c.min.result (omega arith) (omega arith) (omega arith) (omega arith))
