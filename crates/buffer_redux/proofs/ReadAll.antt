@@ -256,32 +256,40 @@ module _ {S P : Type 0} (remaining : S → Option (List ℕ)) (rules : ReadRules
     ran_dry = λ is some. ran_dry is (omega (arith, some, same));
   }
 
-  -- what a caller reads of the whole
+  -- all that `read_exact` promises, as its clauses say it
   module _ (s : Buffered S P) (out : List ℕ) (t : Buffered S P) where
-    pub all_in_order : (answer : Result (Unit {0}) Error) → ReadsExactly remaining rules s answer out t
-        → OnOk answer (ReadsInOrder s out t)
-    all_in_order (Ok _) r =
-        subst (λ l. ReadsInOrder s l t) (take_all r.count out (omega (arith, r.ended.0))) r.front.in_order
-    all_in_order (Err e) r = tt
-
-    pub all_bytes : (answer : Result (Unit {0}) Error) → ReadsExactly remaining rules s answer out t
-        → OnOk answer (Consumes (reader_remaining remaining rules s) (reader_remaining remaining rules t) out)
-    all_bytes (Ok _) r =
-        let keeps = r.front.keeps in
-        remaining_gives remaining rules s t out (all_in_order (Ok tt) r) keeps.known keeps.claims keeps.capacity
-    all_bytes (Err e) r = tt
-
-    pub all_beginning : (answer : Result (Unit {0}) Error) → ReadsExactly remaining rules s answer out t
+    beginning : {answer : Result (Unit {0}) Error} → ReadsExactly remaining rules s answer out t
         → HandedBeginning out s t
-    all_beginning answer r = record { count = r.count; within = r.within; in_order = r.front.in_order }
+    beginning r = record { count = r.count; within = r.within; in_order = r.front.in_order }
 
-    pub all_retried : (answer : Result (Unit {0}) Error) → ReadsExactly remaining rules s answer out t
-        → IfErr answer (λ e. error_kind e ≢ Interrupted)
-    all_retried (Ok _) r = tt
-    all_retried (Err e) r = elim r.ended [
-      | inl failed ↦ not_interrupted UnexpectedEof (λ odd. cc) failed.answer e failed.ends
-      | inr late ↦ λ odd. (let two = sym late.0.timed_out ∙ odd in cc)
-    ]
-
-    pub all_whole : (answer : Result (Unit {0}) Error) → ReadsExactly remaining rules s answer out t → IsBlock t.block
-    all_whole answer r = r.front.keeps.whole
+    pub exact_says : (answer : Result (Unit {0}) Error) → ReadsExactly remaining rules s answer out t → record {
+      bytes : OnOk answer (Consumes (reader_remaining remaining rules s) (reader_remaining remaining rules t) out);
+      in_order : OnOk answer (ReadsInOrder s out t);
+      beginning : HandedBeginning out s t;
+      retried : IfErr answer (λ e. error_kind e ≢ Interrupted);
+      whole : IsBlock t.block;
+      steps : ReadsExactly remaining rules s answer out t;
+    }
+    exact_says (Ok _) r =
+        let keeps = r.front.keeps in
+        let in_order : ReadsInOrder s out t =
+        subst (λ l. ReadsInOrder s l t) (take_all r.count out (omega (arith, r.ended.0))) r.front.in_order in
+        record {
+          bytes = remaining_gives remaining rules s t out in_order keeps.known keeps.claims keeps.capacity;
+          in_order = in_order;
+          beginning = beginning r;
+          retried = tt;
+          whole = keeps.whole;
+          steps = r;
+        }
+    exact_says (Err e) r = record {
+      bytes = tt;
+      in_order = tt;
+      beginning = beginning r;
+      retried = elim r.ended [
+        | inl failed ↦ not_interrupted UnexpectedEof (λ odd. cc) failed.answer e failed.ends
+        | inr late ↦ λ odd. (let two = sym late.0.timed_out ∙ odd in cc)
+      ];
+      whole = r.front.keeps.whole;
+      steps = r;
+    }

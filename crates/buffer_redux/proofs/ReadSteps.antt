@@ -154,18 +154,19 @@ filled_keeps remaining rules s answer t f done = record {
   noted = done.noted;
 }
 
--- all that a read through the buffer promises
-pub record ReadSays {S P : Type 0} (remaining : S → Option (List ℕ)) (rules : ReadRules P) (s : Buffered S P)
-    (out : List ℕ) (answer : Result ℕ Error) (out' : List ℕ) (t : Buffered S P) : Type 0 where
-  pub bound : ReadsAtMost answer out'
-  pub bytes : ReadConsumes (reader_remaining remaining rules s) (reader_remaining remaining rules t) answer out'
-  pub in_order : ReadsInOrder s (portion out' answer) t
-  pub caused : ReadErrorCaused rules s answer t
-  pub empty : answer ≡ Ok 0 → 0 < length out → EmptyReadCaused rules s t
-  pub ran_dry : answer ≡ Ok 0 → 0 < length out → WantsBytes (rules.claims s.policy) → RanDry s t
-  pub steps : Reads rules s out answer out' t
-  pub keeps : ReaderKeeps remaining rules s t
-  pub long : length out' ≡ length out
+-- all that a read through the buffer promises, as the clauses of `read` say it
+abbrev pub ReadSays : {S P : Type 0} → (S → Option (List ℕ)) → ReadRules P → Buffered S P → List ℕ
+    → Result ℕ Error → List ℕ → Buffered S P → Type 0
+ReadSays remaining rules s out answer out' t = record {
+  bound : ReadsAtMost answer out';
+  bytes : ReadConsumes (reader_remaining remaining rules s) (reader_remaining remaining rules t) answer out';
+  in_order : ReadsInOrder s (portion out' answer) t;
+  caused : ReadErrorCaused rules s answer t;
+  empty : answer ≡ Ok 0 → 0 < length out → EmptyReadCaused rules s t;
+  ran_dry : answer ≡ Ok 0 → 0 < length out → WantsBytes (rules.claims s.policy) → RanDry s t;
+  steps : Reads rules s out answer out' t;
+  keeps : ReaderKeeps remaining rules s t;
+}
 
 module _ {S P : Type 0} (remaining : S → Option (List ℕ)) (rules : ReadRules P) (s : Buffered S P) (out : List ℕ) where
   module _ (n : ℕ) (out' : List ℕ) (t : Buffered S P) (r : ReadThrough remaining rules s out n out' t)
@@ -242,8 +243,7 @@ module _ {S P : Type 0} (remaining : S → Option (List ℕ)) (rules : ReadRules
       → StaysInside s.block (length out) → ReadSays remaining rules s out answer out' t
   says (Ok n) out' t r inside =
       let f = filled n out' t r inside in
-      let long = same_length n out' t r inside in
-      let short : n ≤ length out' = omega (arith, r.hands.count, long) in
+      let short : n ≤ length out' = omega (arith, r.hands.count, same_length n out' t r inside) in
       record {
         bound = (short, sym (length-take-le n out' short));
         bytes = inside_bytes n out' t r inside;
@@ -265,7 +265,6 @@ module _ {S P : Type 0} (remaining : S → Option (List ℕ)) (rules : ReadRules
             (ap (drop n) r.hands.copied
             ∙ drop_at (take n r.filled.block.bytes) (drop n out) n (front_length n out' t r inside));
         keeps = inside_keeps n out' t r inside;
-        long = long;
       }
   says (Err e) out' t r inside =
       let f : Fills rules s (Err e) t = fills rules s (Err e) t r.fill.whole r.fill.filled in
@@ -279,12 +278,17 @@ module _ {S P : Type 0} (remaining : S → Option (List ℕ)) (rules : ReadRules
         ran_dry = λ is some wants. cc;
         steps = through_buffer inside (record { filled = t; fills = f; handed = refl }) r.same;
         keeps = filled_keeps remaining rules s (Err e) t f r.fill;
-        long = ap length r.same;
       }
+
+  -- and the slice keeps its length
+  pub keeps_length : (answer : Result ℕ Error) (out' : List ℕ) (t : Buffered S P)
+      → ReadsInside remaining rules s out answer out' t → StaysInside s.block (length out) → length out' ≡ length out
+  keeps_length (Ok n) out' t r inside = same_length n out' t r inside
+  keeps_length (Err e) out' t r inside = ap length r.same
 
   pub one_read_says : (answer : Result ℕ Error) (out' : List ℕ) (t : Buffered S P) → IsBlock s.block
       → ReadsInside remaining rules s out answer out' t → StaysInside s.block (length out)
       → OneRead remaining rules s out' answer t
   one_read_says answer out' t whole r inside =
       let a = says answer out' t r inside in
-      one_read remaining rules s out answer out' t a.long whole a.bound a.steps a.in_order a.keeps a.caused a.empty a.ran_dry
+      one_read remaining rules s out answer out' t (keeps_length answer out' t r inside) whole a.bound a.steps a.in_order a.keeps a.caused a.empty a.ran_dry

@@ -77,7 +77,7 @@ module _ {S P : Type 0} where
         takes_in_kind f.before t bs (Err e) f.took_in
         ∙ prepared_kind rules (length bs) s f.before (Ok tt) f.prepared
 
-    caused_of : (answer : Result ℕ Error) (t : Buffered S P) → Writes rules s bs answer t
+    pub caused_of : (answer : Result ℕ Error) (t : Buffered S P) → Writes rules s bs answer t
         → WriteErrorCaused rules s bs answer t
     caused_of (Ok n) t w = tt
     caused_of (Err e) t w = writes_caused rules s bs e t w
@@ -292,35 +292,42 @@ module _ {S P : Type 0} (tells : S → StreamLog) (stretch : S → S → Type 0)
       (first_more s bs (Ok n) t some w n (omega (arith, some, full), refl) (omega (arith, full)))
       (omega (arith, full))
 
--- what a caller reads of the whole
+-- all that `write_all` promises, as its clauses say it
 module _ {S P : Type 0} (tells : S → StreamLog) (stretch : S → S → Type 0) (rules : WriteRules P)
     (s : Buffered S P) (bs : List ℕ) (t : Buffered S P) where
-  pub all_in_order : (answer : Result (Unit {0}) Error) → WritesAll tells stretch rules s bs answer t
-      → OnOk answer (WritesInOrder s bs t)
-  all_in_order (Ok _) w =
-      subst (λ l. WritesInOrder s l t) (take_all w.count bs (omega (arith, w.ended.0))) w.front.in_order
-  all_in_order (Err e) w = tt
+  beginning : {answer : Result (Unit {0}) Error} → WritesAll tells stretch rules s bs answer t → TookBeginning bs s t
+  beginning w = record { count = w.count; within = w.within; in_order = w.front.in_order }
 
-  pub all_bytes : (answer : Result (Unit {0}) Error) → WritesAll tells stretch rules s bs answer t
-      → OnOk answer (Appends (writer_contents s) (writer_contents t) bs)
-  all_bytes (Ok _) w = WritesInOrder-contents s t bs (all_in_order (Ok tt) w)
-  all_bytes (Err e) w = tt
-
-  pub all_retried : (answer : Result (Unit {0}) Error) → WritesAll tells stretch rules s bs answer t
-      → IfErr answer (λ e. error_kind e ≢ Interrupted)
-  all_retried (Ok _) w = tt
-  all_retried (Err e) w = elim w.ended [
-    | inl failed ↦ not_interrupted WriteZero (λ odd. cc) failed.answer e failed.ends
-    | inr late ↦ λ odd. (let two = sym late.0.timed_out ∙ odd in cc)
-  ]
-
-  pub all_beginning : (answer : Result (Unit {0}) Error) → WritesAll tells stretch rules s bs answer t
-      → TookBeginning bs s t
-  all_beginning answer w = record { count = w.count; within = w.within; in_order = w.front.in_order }
-
-  pub all_whole : (answer : Result (Unit {0}) Error) → WritesAll tells stretch rules s bs answer t → IsBlock t.block
-  all_whole answer w = w.front.keeps.whole
-
-  pub all_went : (answer : Result (Unit {0}) Error) → WritesAll tells stretch rules s bs answer t
-      → InnerWent tells stretch s t
-  all_went answer w = w.front.keeps.went
+  pub all_says : (answer : Result (Unit {0}) Error) → WritesAll tells stretch rules s bs answer t → record {
+    bytes : OnOk answer (Appends (writer_contents s) (writer_contents t) bs);
+    in_order : OnOk answer (WritesInOrder s bs t);
+    beginning : TookBeginning bs s t;
+    retried : IfErr answer (λ e. error_kind e ≢ Interrupted);
+    whole : IsBlock t.block;
+    steps : WritesAll tells stretch rules s bs answer t;
+    stretch : InnerWent tells stretch s t;
+  }
+  all_says (Ok _) w =
+      let in_order : WritesInOrder s bs t =
+      subst (λ l. WritesInOrder s l t) (take_all w.count bs (omega (arith, w.ended.0))) w.front.in_order in
+      record {
+        bytes = WritesInOrder-contents s t bs in_order;
+        in_order = in_order;
+        beginning = beginning w;
+        retried = tt;
+        whole = w.front.keeps.whole;
+        steps = w;
+        stretch = w.front.keeps.went;
+      }
+  all_says (Err e) w = record {
+    bytes = tt;
+    in_order = tt;
+    beginning = beginning w;
+    retried = elim w.ended [
+      | inl failed ↦ not_interrupted WriteZero (λ odd. cc) failed.answer e failed.ends
+      | inr late ↦ λ odd. (let two = sym late.0.timed_out ∙ odd in cc)
+    ];
+    whole = w.front.keeps.whole;
+    steps = w;
+    stretch = w.front.keeps.went;
+  }

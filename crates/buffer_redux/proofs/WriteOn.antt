@@ -1,14 +1,17 @@
 -- What follows from the steps of a write, whatever it returned.
 use Rattle.std.proofs.Common.{◌≡◌, ℕ, ◌<◌, List, [], ◌++◌, length, min, take, Result, Ok, Err, refl, ap, ◌∙◌, arith, inl, inr, append-nil}
+use Rattle.std.specs.Io.{WritesAtMost}
 use Rattle.std.specs.Io.KnownBytes.{WriteAppends}
 use Rattle.std.specs.declared.io.Error.{Error}
 use Rattle.redux_buffer.specs.Block.{IsBlock, Extends, usable}
+use Rattle.redux_tell.specs.StreamLog.{StreamLog, portion}
 use Rattle.redux_policy.specs.Policy.{WriteRules, BeforeWrite}
 use Rattle.redux_policy.specs.declared.FlushAmt.{FlushAmt}
-use Rattle.buffer_redux.specs.Buffered.{Buffered}
-use Rattle.buffer_redux.specs.BufWriter.{writer_contents, FlushesAmount, TakesIn, Prepared, Writes, WritesOn}
+use Rattle.buffer_redux.specs.Buffered.{Buffered, InnerWent}
+use Rattle.buffer_redux.specs.BufWriter.{writer_contents, EmptyWriteCaused, FlushesAmount, TakesIn, Prepared, WriteErrorCaused, WriterKeeps, Writes, WritesInOrder, WritesOn, WritesSteadily}
 use Rattle.buffer_redux.specs.WriterLaws.{WritesInOrder-contents}
-use Rattle.buffer_redux.proofs.WriterFacts.{writes_keep}
+use Rattle.buffer_redux.proofs.WriteAll.{caused_of, writer_keeps}
+use Rattle.buffer_redux.proofs.WriterFacts.{writes_keep, writes_nothing, writes_steadily}
 
 -- the first question, and what is left of the write
 module _ {S P : Type 0} (rules : WriteRules P) (s m : Buffered S P) (bs : List ℕ) (amount : FlushAmt)
@@ -67,11 +70,35 @@ takes_in_roomy m t bs n whole room count added policy told = record {
   };
 }
 
-module _ {S P : Type 0} (rules : WriteRules P) (s : Buffered S P) (bs : List ℕ) where
-  pub writes_contents : (answer : Result ℕ Error) (t : Buffered S P) → Writes rules s bs answer t
+-- all that `write` promises, as its clauses say it
+module _ {S P : Type 0} (tells : S → StreamLog) (stretch : S → S → Type 0) (rules : WriteRules P)
+    (s : Buffered S P) (bs : List ℕ) where
+  contents : (answer : Result ℕ Error) (t : Buffered S P) → Writes rules s bs answer t
       → WriteAppends (writer_contents s) (writer_contents t) answer bs
-  writes_contents (Ok n) t w =
+  contents (Ok n) t w =
       WritesInOrder-contents s t (take n bs) (writes_keep rules s bs (Ok n) t w).in_order
-  writes_contents (Err e) t w =
+  contents (Err e) t w =
       WritesInOrder-contents s t [] (writes_keep rules s bs (Err e) t w).in_order
       ∙ append-nil (s.log.writes.received ++ s.block.bytes)
+
+  pub write_says : (answer : Result ℕ Error) (t : Buffered S P) → WritesAtMost answer bs → IsBlock t.block
+      → InnerWent tells stretch s t → Writes rules s bs answer t → record {
+        bound : WritesAtMost answer bs;
+        bytes : WriteAppends (writer_contents s) (writer_contents t) answer bs;
+        in_order : WritesInOrder s (portion bs answer) t;
+        caused : WriteErrorCaused rules s bs answer t;
+        empty : answer ≡ Ok 0 → 0 < length bs → EmptyWriteCaused rules s bs t;
+        steadily : WritesSteadily rules s (length bs) answer t;
+        steps : Writes rules s bs answer t;
+        keeps : WriterKeeps tells stretch rules s t;
+      }
+  write_says answer t bound whole went w = record {
+    bound = bound;
+    bytes = contents answer t w;
+    in_order = (writes_keep rules s bs answer t w).in_order;
+    caused = caused_of rules s bs answer t w;
+    empty = writes_nothing rules s bs answer t w;
+    steadily = writes_steadily rules s bs answer t w;
+    steps = w;
+    keeps = writer_keeps tells stretch rules s bs answer t whole w went;
+  }

@@ -73,22 +73,22 @@ Spared-joins keep s m t p q = record {
       };
 }
 
-pub Spared-under : {S P Q T : Type 0} (keep : ℕ) (s : Buffered S P) (t : Buffered S Q) (policy : T) → Spared keep s t
-    → Spared keep s (with_policy t policy)
-Spared-under keep s t policy p = record {
+-- another policy moves nothing, nor does what is noted of calls
+spared_beside : {S P Q T : Type 0} (keep : ℕ) (s : Buffered S P) (t : Buffered S Q) (policy : T) (calls : StreamLog)
+    → Spared keep s t → Spared keep s (with_calls (with_policy t policy) calls)
+spared_beside keep s t policy calls p = record {
   kind = p.kind;
   capacity = p.capacity;
   plain = λ plain three. let h = p.plain plain three in record { moved = h.moved; held = h.held };
 }
 
--- what is noted of calls moves nothing
+pub Spared-under : {S P Q T : Type 0} (keep : ℕ) (s : Buffered S P) (t : Buffered S Q) (policy : T) → Spared keep s t
+    → Spared keep s (with_policy t policy)
+Spared-under keep s t policy = spared_beside keep s t policy t.own_calls
+
 pub Spared-noted : {S P Q : Type 0} (keep : ℕ) (s : Buffered S P) (t : Buffered S Q) (calls : StreamLog) → Spared keep s t
     → Spared keep s (with_calls t calls)
-Spared-noted keep s t calls p = record {
-  kind = p.kind;
-  capacity = p.capacity;
-  plain = λ plain three. let h = p.plain plain three in record { moved = h.moved; held = h.held };
-}
+Spared-noted keep s t calls = spared_beside keep s t t.policy calls
 
 -- since the buffer was empty, no more bytes were moved than were given
 pub Spared-moved : {S P Q : Type 0} (keep : ℕ) (s : Buffered S P) (t : Buffered S Q) → BeginsEmpty keep s
