@@ -1,3 +1,5 @@
+mod Digits
+pub mod Writing
 pub mod Lines
 pub mod Passing
 pub mod PassingOn
@@ -8,4 +10,5 @@ pub mod Handing
 pub mod Payload
 pub mod Alive
 mod Given
+mod Written
 mod Names

@@ -7,3 +7,8 @@ pub mod BetweenLaws
 pub mod Dechunking
 pub mod DechunkingLaws
 pub mod Given
+pub mod Chunk
+pub mod ChunkLaws
+pub mod Chunking
+pub mod ChunkingLaws
+pub mod RoundTrip

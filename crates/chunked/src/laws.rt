@@ -1,18 +1,21 @@
 //! Laws, each as the contract of a function.
-ghost use Rattle.std.specs.Prelude.{◌≡◌, ℕ, ◌<◌, List, ◌++◌};
+ghost use Rattle.std.specs.Prelude.{◌≡◌, ℕ, ◌<◌, ◌≤◌, List, ◌++◌, flat_map};
 ghost use Rattle.buffer_redux.specs.Buffered.{Buffered};
 ghost use Rattle.buffer_redux.specs.BufReader.{ReadsAlong};
+ghost use Rattle.buffer_redux.specs.declared.policy.StdPolicy.{StdPolicy};
 ghost use Rattle.chunked.specs.Body.{IsBody};
 ghost use Rattle.chunked.specs.Dechunking.{BodyWent, Breaks, Dechunking, EndsEarly, IsWhole, begun, handed_of};
 ghost use Rattle.chunked.specs.Given.{GivenBody};
 ghost use Rattle.chunked.specs.Place.{IsWrong};
+ghost use Rattle.chunked.specs.RoundTrip.{ReadsWritten, WroteBody};
 
 use crate::error::Malformed;
 use crate::limits::Limits;
 use crate::place::Place;
 use crate::reader::ChunkedReader;
+use crate::writer::ChunkedWriter;
 use buffer_redux::policy::ReaderPolicy;
-use buffer_redux::tell::TellRead;
+use buffer_redux::tell::{TellRead, TellWrite};
 
 /// No body begins another: what bytes begin with a body settles where it ends, and its payload, whatever the limits are.
 pub fn one_body()
@@ -66,4 +69,43 @@ pub fn given_body<R: TellRead, P: ReaderPolicy>(reader: &ChunkedReader<R, P>)
         → (handed ≡ payload) × (reader.now.reader.block.bytes ≡ behind) }
 {
     let _ = reader.get_ref();
+}
+
+/// Where a writer of a body took payloads in, each in one write, and was finished, what the buffered writer gained is a body
+/// with these payloads, joined.
+pub fn written_body<W: TellWrite>(writer: &ChunkedWriter<W>)
+    ensures { (first last : Buffered W StdPolicy) (payloads : List (List ℕ)) (wrote : List ℕ) (limits : Limits)
+        → WroteBody W.log W.stretch first payloads writer.now last wrote → 16 ≤ limits.line
+        → IsBody limits wrote (flat_map (λ p. p) payloads) }
+{}
+
+/// What was written and finished so is what a reader hands out that it is given to, and then what follows, however both streams
+/// are cut, and whatever the capacities: up to the end of the body its beginning, and then all, and no answer that a byte is
+/// wrong or missing.
+pub fn round_trip<W: TellWrite, R: TellRead, P: ReaderPolicy>(
+    writer: &ChunkedWriter<W>,
+    reader: &ChunkedReader<R, P>,
+)
+    ensures front { (first last : Buffered W StdPolicy) (payloads : List (List ℕ)) (wrote : List ℕ)
+        → WroteBody W.log W.stretch first payloads writer.now last wrote
+        → (start : Buffered R P) (limits : Limits) (behind handed : List ℕ)
+        → ReadsWritten R.remaining P.rules start limits wrote behind handed reader.now
+        → (more : List ℕ) × (flat_map (λ p. p) payloads ≡ handed ++ more) }
+    ensures right { (first last : Buffered W StdPolicy) (payloads : List (List ℕ)) (wrote : List ℕ)
+        → WroteBody W.log W.stretch first payloads writer.now last wrote
+        → (start : Buffered R P) (limits : Limits) (behind handed : List ℕ)
+        → ReadsWritten R.remaining P.rules start limits wrote behind handed reader.now
+        → (why : Malformed) → ¬ Breaks why reader.now }
+    ensures there { (first last : Buffered W StdPolicy) (payloads : List (List ℕ)) (wrote : List ℕ)
+        → WroteBody W.log W.stretch first payloads writer.now last wrote
+        → (start : Buffered R P) (limits : Limits) (behind handed : List ℕ)
+        → ReadsWritten R.remaining P.rules start limits wrote behind handed reader.now
+        → (s : Dechunking R P) → ¬ EndsEarly P.rules s reader.now }
+    ensures all { (first last : Buffered W StdPolicy) (payloads : List (List ℕ)) (wrote : List ℕ)
+        → WroteBody W.log W.stretch first payloads writer.now last wrote
+        → (start : Buffered R P) (limits : Limits) (behind handed : List ℕ)
+        → ReadsWritten R.remaining P.rules start limits wrote behind handed reader.now → IsWhole reader.now
+        → (handed ≡ flat_map (λ p. p) payloads) × (reader.now.reader.block.bytes ≡ behind) }
+{
+    given_body(reader);
 }

@@ -1,8 +1,11 @@
-//! Bodies of HTTP/1.1 in the chunked coding (RFC 9112, section 7.1), read out of a buffered reader.
+//! Bodies of HTTP/1.1 in the chunked coding (RFC 9112, section 7.1), read out of a buffered reader and written into a buffered
+//! writer.
 //!
-//! A [`ChunkedReader`] hands out the payload of one body, and leaves what follows the body in the buffered reader.
+//! A [`ChunkedReader`] hands out the payload of one body, and leaves what follows the body in the buffered reader. A
+//! [`ChunkedWriter`] takes payload in, chunk by chunk, and hands the buffered writer back once the body is finished.
 #![tactic(auto)]
 
+mod chunk;
 mod error;
 pub mod laws;
 mod limits;
@@ -10,8 +13,10 @@ mod place;
 mod progress;
 mod reader;
 mod step;
+mod writer;
 
 pub use error::{ChunkedError, Malformed};
 pub use limits::Limits;
 pub use place::Place;
 pub use reader::ChunkedReader;
+pub use writer::ChunkedWriter;

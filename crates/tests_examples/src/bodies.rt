@@ -1,7 +1,9 @@
 //! Bodies in the chunked coding.
-use buffer_redux::BufReader;
 use buffer_redux::tell::Told;
-use chunked::{ChunkedError, ChunkedReader, Limits, Malformed};
+use buffer_redux::{BufReader, BufWriter};
+use chunked::{ChunkedError, ChunkedReader, ChunkedWriter, Limits, Malformed};
+use std::io;
+use std::io::Write;
 use std::test::Fail;
 
 #[test]
@@ -38,6 +40,21 @@ fn chunked_error(rt: HostRuntime) -> Result<(), Fail> {
             refused,
             Err(ChunkedError::NotChunked(Malformed::ChunkTooLong, 8))
         )
+    );
+    Ok(())
+}
+
+#[test]
+fn chunked_writer(rt: HostRuntime) -> Result<(), Fail> {
+    let alloc = rt.alloc();
+    let inner = BufWriter::new(alloc, Told::new(Vec::new(alloc)))?;
+    let mut body = ChunkedWriter::new(inner);
+    body.write_all(b"hello")?;
+    let mut inner = body.finish().map_err(io::Error::from)?;
+    inner.flush()?;
+    assert_eq!(rt;
+        inner.get_ref().get_ref().as_slice(),
+        b"5\r\nhello\r\n0\r\n\r\n".as_slice()
     );
     Ok(())
 }

@@ -1,0 +1,158 @@
+-- What a write does, and what finishing does, of what was sent first and what was copied in behind.
+use Rattle.std.proofs.Common.{◌≡◌, ℕ, zero, suc, ◌+◌, ◌-◌, ◌^◌, ◌<◌, ◌≤◌, ◌==◌, false, List, [], ◌∷◌, ◌++◌, length, take, min, Result, Ok, sym, ap, subst, ◌∙◌, arith, inl, inr, refl, append-nil}
+use Rattle.std.proofs.lemmas.Bool.{cases_lt}
+use Rattle.std.proofs.lemmas.List.{length-take-le, take_all}
+use Rattle.std.proofs.lemmas.List.Elements.{All-nil, All-cons}
+use Rattle.std.specs.List.{All, flat_map}
+use Rattle.std.specs.declared.io.Error.{Error}
+use Rattle.buffer_redux.specs.Block.{Block, IsBlock, Kind, Plain, Ring, limit_of}
+use Rattle.buffer_redux.specs.Buffered.{Buffered}
+use Rattle.buffer_redux.specs.BufWriter.{WasSent, WritesInOrder}
+use Rattle.buffer_redux.specs.StreamLog.{StreamLog, after_write}
+use Rattle.buffer_redux.specs.declared.policy.StdPolicy.{StdPolicy}
+use Rattle.chunked.specs.Chunk.{IsCarried, IsChunks, chunk, chunks, last_chunk}
+use Rattle.chunked.specs.ChunkLaws.{IsChunks-body, IsChunks-joins}
+use Rattle.chunked.specs.Chunking.{Chunking, ChunksWent, Finishes, IsChunking, PutsFirst, PutsIn, WritesChunk, accepted_of, around, room, taken_payloads}
+use Rattle.chunked.specs.ChunkingLaws.{PutsFirst-order, PutsIn-order}
+
+-- a slice that isn't empty has some byte
+pub some_of : (n : ℕ) → (n == 0) ≡ false → 0 < n
+some_of zero is = absurd (let odd = is in cc)
+some_of (suc n) is = omega arith
+
+-- no block is larger than a chunk may be
+limit_small : (k : Kind) → limit_of k ≤ 2 ^ 62
+limit_small Plain = omega arith
+limit_small Ring = omega arith
+
+pub block_small : (b : Block) → IsBlock b → b.capacity ≤ 2 ^ 62
+block_small b is = omega (arith, is.limit, is.most, limit_small b.kind)
+
+-- all was sent first, where there was no room
+abbrev pub Spaced : {S : Type 0} → (S → StreamLog) → (S → S → Type 0) → ℕ → Buffered S StdPolicy → Buffered S StdPolicy → Type 0
+Spaced tells stretch n s m = (n ≤ room s → m ≡ s) × (room s < n → WasSent tells stretch s (Ok tt) m)
+
+module _ {S : Type 0} (tells : S → StreamLog) (stretch : S → S → Type 0)
+    (joins : (a b c : S) → stretch a b → stretch b c → stretch a c) where
+  -- the bytes went in behind what was buffered, or sent
+  module _ (s m t : Buffered S StdPolicy) (n : ℕ) (spaced : Spaced tells stretch n s m) (bytes : List ℕ)
+      (puts : PutsIn stretch m bytes t) where
+    pub straight : n ≤ room s → PutsIn stretch s bytes t
+    straight there = subst (λ w. PutsIn stretch w bytes t) (spaced.0 there) puts
+
+    pub behind : room s < n → PutsFirst tells stretch s bytes t
+    behind none = record { sent = m; sends = spaced.1 none; puts = puts }
+
+    pub in_order : WritesInOrder s bytes t
+    in_order = elim (cases_lt (room s) n) [
+      | inl none ↦ PutsFirst-order tells stretch s t bytes (behind none)
+      | inr there ↦ PutsIn-order tells stretch s t bytes (straight there)
+    ]
+
+    pub went : stretch s.inner t.inner
+    went = elim (cases_lt (room s) n) [
+      | inl none ↦ joins s.inner m.inner t.inner (spaced.1 none).went.calls puts.calls
+      | inr there ↦ (straight there).calls
+    ]
+
+    pub same_capacity : t.block.capacity ≡ s.block.capacity
+    same_capacity = elim (cases_lt (room s) n) [
+      | inl none ↦ puts.capacity ∙ (spaced.1 none).capacity
+      | inr there ↦ (straight there).capacity
+    ]
+
+    pub same_limit : t.block.limit ≡ s.block.limit
+    same_limit = elim (cases_lt (room s) n) [
+      | inl none ↦ puts.limit ∙ (spaced.1 none).sends.sent.dropped.limit
+      | inr there ↦ (straight there).limit
+    ]
+
+  taken_some : (payload : List ℕ) (n : ℕ) → 0 < n → taken_payloads payload (Ok n) ≡ take n payload ∷ []
+  taken_some payload zero some = absurd (omega (arith, some))
+  taken_some payload (suc n) some = refl
+
+  module _ (s : Chunking S) (is : IsChunking s) (payload : List ℕ) (some : 0 < length payload) (m t : Buffered S StdPolicy)
+      (spaced : Spaced tells stretch (around + length payload) s.writer m) (n : ℕ)
+      (count : n ≡ min (length payload) (m.block.capacity - around)) (puts : PutsIn stretch m (chunk (take n payload)) t)
+      (wire : List ℕ) (wired : wire ≡ s.wire ++ chunk (take n payload)) (calls : StreamLog)
+      (noted : calls ≡ after_write s.calls payload (Ok n)) where
+    abbrev Left : Chunking S
+    Left = record { writer = t; wire = wire; calls = calls }
+
+    capacity : t.block.capacity ≡ s.writer.block.capacity
+    capacity = same_capacity s.writer m t (around + length payload) spaced (chunk (take n payload)) puts
+
+    counted : n ≡ min (length payload) (s.writer.block.capacity - around)
+    counted = count ∙ ap (λ c. min (length payload) (c - around)) (sym puts.capacity ∙ capacity)
+
+    within : n ≤ length payload
+    within = omega (arith, counted)
+
+    carried : IsCarried (take n payload)
+    carried = (
+      omega (arith, counted, some, is.capacity, length-take-le n payload within),
+      omega (arith, counted, is.capacity, block_small s.writer.block is.block, length-take-le n payload within),
+    )
+
+    one : All IsCarried (take n payload ∷ [])
+    one = All-cons IsCarried (take n payload) [] carried (All-nil IsCarried)
+
+    wire_more : wire ≡ s.wire ++ chunks (take n payload ∷ [])
+    wire_more = wired ∙ ap (λ l. s.wire ++ l) (sym (append-nil (chunk (take n payload))))
+
+    accepted_more : accepted_of Left ≡ accepted_of s ++ flat_map (λ p. p) (take n payload ∷ [])
+    accepted_more = ap (λ l. l.writes.received) noted ∙ ap (λ l. accepted_of s ++ l) (sym (append-nil (take n payload)))
+
+    pub whole : IsChunking Left
+    whole = record {
+      whole = subst (λ l. IsChunks wire l) (sym accepted_more)
+          (subst (λ l. IsChunks l (accepted_of s ++ flat_map (λ p. p) (take n payload ∷ []))) (sym wire_more)
+          (IsChunks-joins s.wire (accepted_of s) (take n payload ∷ []) is.whole one));
+      block = puts.whole;
+      capacity = omega (arith, capacity, is.capacity);
+    }
+
+    all : around + length payload ≤ room s.writer → n ≡ length payload
+    all there = omega (arith, there, counted)
+
+    pub wrote : WritesChunk tells stretch s payload (Ok n) Left
+    wrote = record {
+      went = subst (λ l. ChunksWent stretch s l Left) (sym (taken_some payload n (omega (arith, counted, some, is.capacity))))
+          (record {
+            carried = one;
+            in_order = subst (λ l. WritesInOrder s.writer l t) (sym (append-nil (chunk (take n payload))))
+                (in_order s.writer m t (around + length payload) spaced (chunk (take n payload)) puts);
+            wire = wire_more;
+            accepted = accepted_more;
+            calls = went s.writer m t (around + length payload) spaced (chunk (take n payload)) puts;
+            capacity = capacity;
+            limit = same_limit s.writer m t (around + length payload) spaced (chunk (take n payload)) puts;
+          });
+      nothing = λ none. absurd (omega (arith, none, some));
+      fits = λ _ there. record {
+        ok = ap (λ k. Ok k) (all there);
+        puts = subst (λ l. PutsIn stretch s.writer (chunk l) t) (take_all n payload (omega (arith, all there)))
+            (straight s.writer m t (around + length payload) spaced (chunk (take n payload)) puts there);
+      };
+      full = λ _ none. (
+        counted,
+        behind s.writer m t (around + length payload) spaced (chunk (take n payload)) puts none,
+      );
+      noted = noted;
+      whole = whole;
+    }
+
+  -- the same of a writer that is known by another name
+  pub same_writer : (v s t : Chunking S) (payload : List ℕ) (answer : Result ℕ Error) → v ≡ s
+      → WritesChunk tells stretch v payload answer t → WritesChunk tells stretch s payload answer t
+  same_writer v s t payload answer same h = subst (λ c. WritesChunk tells stretch c payload answer t) same h
+
+  -- the last chunk went in behind the others
+  pub finishes : (v s : Chunking S) → v ≡ s → (is : IsChunking v) → (m t : Buffered S StdPolicy)
+      → Spaced tells stretch 5 v.writer m → PutsIn stretch m last_chunk t → Finishes tells stretch s t
+  finishes v s same is m t spaced puts = subst (λ c. Finishes tells stretch c t) same (record {
+    in_order = in_order v.writer m t 5 spaced last_chunk puts;
+    body = λ limits line. IsChunks-body limits line v.wire (accepted_of v) is.whole;
+    fits = straight v.writer m t 5 spaced last_chunk puts;
+    full = behind v.writer m t 5 spaced last_chunk puts;
+  })

@@ -1,0 +1,33 @@
+-- What a writer of a body writes.
+use Rattle.std.specs.Prelude.{◌≡◌, ℕ, ◌^◌, ◌<◌, List, [], ◌∷◌, ◌++◌, length, map, flat_map}
+use Rattle.std.specs.Char.{digit_char}
+use Rattle.std.specs.Int.Digits.{digits_of}
+use Rattle.std.specs.List.{All}
+use Rattle.chunked.specs.Body.{line_end}
+
+-- a size in hexadecimal digits, which are lower-case and begin with no 0
+abbrev pub size_digits : ℕ → List ℕ
+size_digits size = map digit_char (digits_of 16 size)
+
+-- a payload's chunk: the line of its size, the payload, and the end of a line
+abbrev pub chunk : List ℕ → List ℕ
+chunk payload = size_digits (length payload) ++ line_end (payload ++ line_end [])
+
+-- the chunks of these payloads, one behind the other
+abbrev pub chunks : List (List ℕ) → List ℕ
+chunks payloads = flat_map chunk payloads
+
+-- the last chunk, and no trailers
+abbrev pub last_chunk : List ℕ
+last_chunk = 48 ∷ line_end (line_end [])
+
+-- a payload that a chunk can carry
+abbrev pub IsCarried : List ℕ → Type 0
+IsCarried payload = (0 < length payload) × (length payload < 2 ^ 62)
+
+-- these bytes are chunks, of which each carries some of this payload
+pub record IsChunks (bytes payload : List ℕ) : Type 0 where
+  pub payloads : List (List ℕ)
+  pub carried : All IsCarried payloads
+  pub equal : bytes ≡ chunks payloads
+  pub joined : payload ≡ flat_map (λ p. p) payloads

@@ -1,0 +1,109 @@
+-- Laws of what a writer of a body writes: chunks, and then the last one, are a body.
+use Rattle.std.specs.Prelude.{◌≡◌, ℕ, ◌^◌, ◌<◌, ◌≤◌, List, [], ◌∷◌, ◌++◌, length, map, flat_map}
+use Rattle.std.proofs.Common.{sym, ap, subst, ◌∙◌, arith, refl, append_assoc, append-nil}
+use Rattle.std.proofs.lemmas.Bool.Decides.{nat_tests}
+use Rattle.std.proofs.lemmas.Int.Digits.{length-digits_of_step, length-digits_of-le, all_below_base_digits_of, number_digits_of, digits_value_is}
+use Rattle.std.proofs.lemmas.List.{length-map}
+use Rattle.std.proofs.lemmas.List.Concat.{flat_map-append}
+use Rattle.std.proofs.lemmas.List.Elements.{All-nil, All-append, All-head, All-tail}
+use Rattle.std.specs.Char.{digit_char, digit_value}
+use Rattle.std.specs.Int.Digits.{digits_of, AllBelowBase, number_from_digits}
+use Rattle.std.specs.List.{All}
+use Rattle.std.specs.Str.Parse.{AllDigits}
+use Rattle.chunked.specs.declared.limits.Limits.{Limits}
+use Rattle.chunked.specs.Body.{line_end, IsSizeLine, HasChunks, IsBody}
+use Rattle.chunked.specs.Chunk.{IsCarried, IsChunks, chunk, chunks, last_chunk, size_digits}
+
+-- a digit that is written is read as what it was
+digit_back : (d : ℕ) → d < 16 → digit_value (digit_char d) ≡ d
+digit_back d small = grind (arith, nat_tests)
+
+digits_back : (ds : List ℕ) → AllBelowBase 16 ds
+    → (map digit_value (map digit_char ds) ≡ ds) × AllDigits 16 (map digit_char ds)
+digits_back [] below = (refl, tt)
+digits_back (d ∷ ds) below =
+    let here = digit_back d (omega (arith, below.0)) in
+    let later = digits_back ds below.1 in
+    (ap (λ x. x ∷ map digit_value (map digit_char ds)) here ∙ ap (λ l. d ∷ l) later.0, (omega (arith, here, below.0), later.1))
+
+-- the digits of a size have no more than 16 bytes
+pub size_digits-few : (size : ℕ) → size < 2 ^ 62 → length (size_digits size) ≤ 16
+size_digits-few size small =
+    let few = length-digits_of-le 16 16 size (omega arith) (omega (arith, small)) in
+    omega (arith, few, length-map (digits_of 16 size) digit_char)
+
+-- they are the line of the size
+pub size_digits-line : (limit size : ℕ) → 0 < size → size < 2 ^ 62 → 16 ≤ limit → IsSizeLine limit size (size_digits size)
+size_digits-line limit size some small room =
+    let back = digits_back (digits_of 16 size) (all_below_base_digits_of 16 size (omega arith)) in
+    record {
+      digits = size_digits size;
+      extension = [];
+      equal = sym (append-nil (size_digits size));
+      numeral = (
+        omega (arith, length-map (digits_of 16 size) digit_char, length-digits_of_step 16 size (omega arith) some),
+        back.1,
+      );
+      value = digits_value_is 16 (size_digits size) ∙ ap (number_from_digits 16) back.0
+          ∙ number_digits_of 16 size (omega arith);
+      small = small;
+      follows = tt;
+      fits = omega (arith, room, size_digits-few size small);
+    }
+
+-- no chunk is there at first, and one more stands behind the others
+pub IsChunks-none : IsChunks [] []
+IsChunks-none = record { payloads = []; carried = All-nil IsCarried; equal = refl; joined = refl }
+
+pub IsChunks-joins : (bytes payload : List ℕ) (more : List (List ℕ)) → IsChunks bytes payload → All IsCarried more
+    → IsChunks (bytes ++ chunks more) (payload ++ flat_map (λ p. p) more)
+IsChunks-joins bytes payload more h carried = record {
+  payloads = h.payloads ++ more;
+  carried = All-append IsCarried h.payloads more h.carried carried;
+  equal = ap (λ l. l ++ chunks more) h.equal ∙ sym (flat_map-append chunk h.payloads more);
+  joined = ap (λ l. l ++ flat_map (λ p. p) more) h.joined ∙ sym (flat_map-append (λ p. p) h.payloads more);
+}
+
+module _ (limits : Limits) (line : 16 ≤ limits.line) where
+  zero_line : IsSizeLine limits.line 0 (48 ∷ [])
+  zero_line = record {
+    digits = 48 ∷ [];
+    extension = [];
+    equal = refl;
+    numeral = (omega arith, (omega arith, tt));
+    value = refl;
+    small = omega arith;
+    follows = tt;
+    fits = omega (arith, line);
+  }
+
+  has_chunks : (payloads : List (List ℕ)) → All IsCarried payloads → HasChunks limits payloads (chunks payloads ++ last_chunk)
+  has_chunks [] carried = record {
+    text = 48 ∷ [];
+    size_line = zero_line;
+    behind = line_end [];
+    trailers = record { fields = []; equal = refl; lines = tt; few = omega arith };
+    equal = refl;
+  }
+  has_chunks (p ∷ payloads) carried =
+      let is = All-head IsCarried p payloads carried in
+      let later = chunks payloads ++ last_chunk in (
+        later,
+        record {
+          text = size_digits (length p);
+          size_line = size_digits-line limits.line (length p) is.0 is.1 line;
+          some = is.0;
+          equal = append_assoc (chunk p) (chunks payloads) last_chunk
+              ∙ append_assoc (size_digits (length p)) (line_end (p ++ line_end [])) later
+              ∙ ap (λ l. size_digits (length p) ++ line_end l) (append_assoc p (line_end []) later);
+        },
+        has_chunks payloads (All-tail IsCarried p payloads carried),
+      )
+
+  -- chunks, and then the last one, are a body, and the payload in it is theirs
+  pub IsChunks-body : (bytes payload : List ℕ) → IsChunks bytes payload → IsBody limits (bytes ++ last_chunk) payload
+  IsChunks-body bytes payload h = record {
+    payloads = h.payloads;
+    chunks = subst (λ l. HasChunks limits h.payloads (l ++ last_chunk)) (sym h.equal) (has_chunks h.payloads h.carried);
+    equal = h.joined;
+  }

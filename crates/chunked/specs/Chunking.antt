@@ -1,0 +1,131 @@
+-- What contracts see of a writer of a body, and what its calls promise.
+use Rattle.std.specs.Prelude.{◌≡◌, ℕ, zero, suc, ◌+◌, ◌-◌, ◌<◌, ◌≤◌, List, [], ◌∷◌, ◌++◌, length, min, take, flat_map, Option, Some, Result, Ok, Err}
+use Rattle.std.specs.List.{All}
+use Rattle.std.specs.declared.io.Error.{Error}
+use Rattle.buffer_redux.specs.Block.{IsBlock}
+use Rattle.buffer_redux.specs.Buffered.{Buffered}
+use Rattle.buffer_redux.specs.BufWriter.{WasSent, WritesInOrder}
+use Rattle.buffer_redux.specs.StreamLog.{StreamLog, after_write, no_calls}
+use Rattle.buffer_redux.specs.declared.policy.StdPolicy.{StdPolicy}
+use Rattle.chunked.specs.declared.limits.Limits.{Limits}
+use Rattle.chunked.specs.Body.{IsBody}
+use Rattle.chunked.specs.Chunk.{IsCarried, IsChunks, chunk, chunks, last_chunk}
+
+-- the buffered writer; the bytes of the body that it took in so far; and the writer's own calls, as a stream tells them
+pub record Chunking (S : Type 0) : Type 0 where
+  pub writer : Buffered S StdPolicy
+  pub wire : List ℕ
+  pub calls : StreamLog
+
+-- the payload that was taken in so far
+abbrev pub accepted_of : {S : Type 0} → Chunking S → List ℕ
+accepted_of c = c.calls.writes.received
+
+-- the same, as what a stream holds
+abbrev pub accepted : {S : Type 0} → Chunking S → Option (List ℕ)
+accepted c = Some (accepted_of c)
+
+-- the most bytes of a chunk that are no payload: a size of 16 digits, and the ends of two lines
+abbrev pub around : ℕ
+around = 20
+
+-- what is true of every writer of a body: what the buffered writer took in is whole chunks, and the payload in them is what
+-- was taken in; and some payload fits into the buffer with what stands around it
+pub record IsChunking {S : Type 0} (c : Chunking S) : Type 0 where
+  pub whole : IsChunks c.wire (accepted_of c)
+  pub block : IsBlock c.writer.block
+  pub capacity : around < c.writer.block.capacity
+
+-- no byte was taken in yet
+abbrev pub unbegun : {S : Type 0} → Buffered S StdPolicy → Chunking S
+unbegun writer = record { writer = writer; wire = []; calls = no_calls }
+
+-- how many more bytes fit behind those that are buffered
+abbrev pub room : {S : Type 0} → Buffered S StdPolicy → ℕ
+room w = w.block.capacity - length w.block.bytes
+
+-- what any calls do, one after another, that took in these payloads, each in a chunk of its own: the buffered writer took in
+-- these chunks, whole and in order, and no memory is taken
+pub record ChunksWent {S : Type 0} (stretch : S → S → Type 0) (s : Chunking S) (payloads : List (List ℕ)) (t : Chunking S)
+    : Type 0 where
+  pub carried : All IsCarried payloads
+  pub in_order : WritesInOrder s.writer (chunks payloads) t.writer
+  pub wire : t.wire ≡ s.wire ++ chunks payloads
+  pub accepted : accepted_of t ≡ accepted_of s ++ flat_map (λ p. p) payloads
+  pub calls : stretch s.writer.inner t.writer.inner
+  pub capacity : t.writer.block.capacity ≡ s.writer.block.capacity
+  pub limit : t.writer.block.limit ≡ s.writer.block.limit
+
+-- these bytes were copied behind those that are buffered, and the inner writer wasn't called
+pub record PutsIn {S : Type 0} (stretch : S → S → Type 0) (s : Buffered S StdPolicy) (bytes : List ℕ)
+    (t : Buffered S StdPolicy) : Type 0 where
+  pub added : t.block.bytes ≡ s.block.bytes ++ bytes
+  pub told : t.log ≡ s.log
+  pub calls : stretch s.inner t.inner
+  pub noted : t.own_calls ≡ s.own_calls
+  pub capacity : t.block.capacity ≡ s.block.capacity
+  pub limit : t.block.limit ≡ s.block.limit
+  pub kind : t.block.kind ≡ s.block.kind
+  pub whole : IsBlock t.block
+
+-- they were so where there was room for so many bytes; else all that was buffered was sent first, and the inner writer wasn't
+-- flushed
+pub record PutsFirst {S : Type 0} (tells : S → StreamLog) (stretch : S → S → Type 0) (s : Buffered S StdPolicy)
+    (bytes : List ℕ) (t : Buffered S StdPolicy) : Type 0 where
+  pub sent : Buffered S StdPolicy
+  pub sends : WasSent tells stretch s (Ok tt) sent
+  pub puts : PutsIn stretch sent bytes t
+
+-- the payloads of the chunks that an answer took in: of one, or of none
+abbrev pub taken_payloads : List ℕ → Result ℕ Error → List (List ℕ)
+taken_payloads payload (Ok zero) = []
+taken_payloads payload (Ok (suc n)) = take (suc n) payload ∷ []
+taken_payloads payload (Err e) = []
+
+-- where the payload fits behind what is buffered, its chunk stands there, and the inner writer isn't called
+pub record ChunkAdded {S : Type 0} (stretch : S → S → Type 0) (s : Chunking S) (payload : List ℕ) (answer : Result ℕ Error)
+    (t : Chunking S) : Type 0 where
+  pub ok : answer ≡ Ok (length payload)
+  pub puts : PutsIn stretch s.writer (chunk payload) t.writer
+
+-- where it doesn't, all that was buffered is sent first, and then the chunk has as much of it as fits; where sending fails,
+-- no byte is taken in
+abbrev pub SendsFirst : {S : Type 0} → (S → StreamLog) → (S → S → Type 0) → Chunking S → List ℕ → Result ℕ Error → Chunking S
+    → Type 0
+SendsFirst tells stretch s payload (Ok n) t =
+    (n ≡ min (length payload) (s.writer.block.capacity - around))
+    × PutsFirst tells stretch s.writer (chunk (take n payload)) t.writer
+SendsFirst tells stretch s payload (Err e) t = WasSent tells stretch s.writer (Err e) t.writer
+
+-- an Ok write is noted
+abbrev pub after_chunk : StreamLog → List ℕ → Result ℕ Error → StreamLog
+after_chunk calls payload (Ok n) = after_write calls payload (Ok n)
+after_chunk calls payload (Err e) = calls
+
+-- what one write does. No answer leaves a part of a chunk, and an empty payload makes none
+pub record WritesChunk {S : Type 0} (tells : S → StreamLog) (stretch : S → S → Type 0) (s : Chunking S) (payload : List ℕ)
+    (answer : Result ℕ Error) (t : Chunking S) : Type 0 where
+  pub went : ChunksWent stretch s (taken_payloads payload answer) t
+  pub nothing : length payload ≡ 0 → (answer ≡ Ok 0) × (t.writer ≡ s.writer)
+  pub fits : 0 < length payload → around + length payload ≤ room s.writer → ChunkAdded stretch s payload answer t
+  pub full : 0 < length payload → room s.writer < around + length payload → SendsFirst tells stretch s payload answer t
+  pub noted : t.calls ≡ after_chunk s.calls payload answer
+  pub whole : IsChunking t
+
+-- what finishing does: the last chunk went in whole behind the others, and what was taken in since the writer was made is a
+-- body, whose payload is what was accepted; a reader has to let the line of a size have 16 bytes
+pub record Finishes {S : Type 0} (tells : S → StreamLog) (stretch : S → S → Type 0) (s : Chunking S) (t : Buffered S StdPolicy)
+    : Type 0 where
+  pub in_order : WritesInOrder s.writer last_chunk t
+  pub body : (limits : Limits) → 16 ≤ limits.line → IsBody limits (s.wire ++ last_chunk) (accepted_of s)
+  pub fits : length last_chunk ≤ room s.writer → PutsIn stretch s.writer last_chunk t
+  pub full : room s.writer < length last_chunk → PutsFirst tells stretch s.writer last_chunk t
+
+-- what was buffered had to be sent first, and that failed: no byte was taken in, so the call can be made again
+pub record NotFinished {S : Type 0} (tells : S → StreamLog) (stretch : S → S → Type 0) (s : Chunking S) (e : Error)
+    (t : Chunking S) : Type 0 where
+  pub full : room s.writer < length last_chunk
+  pub sends : WasSent tells stretch s.writer (Err e) t.writer
+  pub wire : t.wire ≡ s.wire
+  pub calls : t.calls ≡ s.calls
+  pub whole : IsChunking t

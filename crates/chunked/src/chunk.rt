@@ -1,0 +1,109 @@
+//! What a chunk is made of, and how it goes into a buffered writer.
+ghost use Rattle.std.specs.Prelude.{◌≡◌, ◌^◌, ◌<◌, ◌≤◌, ◌+◌, ◌++◌, [], drop, length, Ok};
+ghost use Rattle.buffer_redux.specs.Block.{usable};
+ghost use Rattle.buffer_redux.specs.BufWriter.{WasSent};
+ghost use Rattle.chunked.specs.Body.{line_end};
+ghost use Rattle.chunked.specs.Chunk.{chunk, last_chunk, size_digits};
+ghost use Rattle.chunked.specs.Chunking.{PutsIn, around, room};
+
+use buffer_redux::BufWriter;
+use buffer_redux::tell::{Call, CallLog, TellWrite};
+use std::io;
+use std::io::Write;
+
+const DIGITS: &[u8; 16] = b"0123456789abcdef";
+
+// The most digits of a size.
+const MAX_DIGITS: usize = 16;
+
+const BLANK: [u8; 18] = *b"0000000000000000\r\n";
+
+/// How many bytes the last chunk has.
+pub const LAST_CHUNK: usize = 5;
+
+/// The most bytes of a chunk that are no payload: a size of 16 digits, and the ends of two lines.
+pub const AROUND: usize = 20;
+
+// The line of a size: its digits end at `MAX_DIGITS`, and the end of the line follows them.
+#[derive(Drop)]
+struct SizeLine {
+    bytes: [u8; 18],
+    start: usize,
+    ghost in_range: { start ≤ 16 },
+}
+
+impl SizeLine {
+    // The line of this size, which isn't 0.
+    fn new(size: u64) -> SizeLine
+        requires { size < 2 ^ 62 }
+        ensures { drop result.start result.bytes ≡ size_digits size ++ line_end [] }
+    {
+        let mut bytes = BLANK;
+        let mut start = MAX_DIGITS;
+        let mut left = size;
+        while left > 0 {
+            start -= 1;
+            bytes[start] = DIGITS[(left % 16) as usize];
+            left /= 16;
+        }
+        SizeLine { bytes, start }
+    }
+
+    fn as_bytes(&self) -> &[u8]
+        ensures { result.now ≡ drop self.now.start self.now.bytes }
+    {
+        &self.bytes[self.start..]
+    }
+}
+
+/// Sends all that is buffered, without a flush of the inner writer, where fewer bytes than these fit behind it.
+#[inline(always)]
+pub fn make_space<W: TellWrite>(writer: &mut BufWriter<W>, bytes: usize) -> io::Result<()>
+    ensures fits { bytes ≤ room writer.old → (result ≡ Ok tt) × (writer.new ≡ writer.old) }
+    ensures full { room writer.old < bytes → WasSent W.log W.stretch writer.old result writer.new }
+{
+    if writer.capacity() - writer.buf_len() < bytes {
+        return writer.send();
+    }
+    Ok(())
+}
+
+// Copies bytes in, for which there is room, and notes them.
+#[inline(always)]
+fn put<W: TellWrite>(writer: &mut BufWriter<W>, wire: &mut CallLog, bytes: &[u8])
+    requires room { length bytes.now ≤ usable writer.old.block }
+    requires inside { length bytes.now < writer.old.block.capacity }
+    ensures put { PutsIn W.stretch writer.old bytes.now writer.new }
+    ensures usable { usable writer.old.block ≤ usable writer.new.block + length bytes.now }
+    ensures wire { wire.new.log.writes.received ≡ wire.old.log.writes.received ++ bytes.now }
+{
+    let _ = writer.write(bytes);
+    wire.note(&Call::Write(bytes, &Ok(bytes.len())));
+}
+
+/// Copies the payload's chunk in, for which there is room, and notes it.
+#[inline(always)]
+pub fn put_chunk<W: TellWrite>(writer: &mut BufWriter<W>, wire: &mut CallLog, payload: &[u8])
+    requires some { 0 < length payload.now }
+    requires small { length payload.now < 2 ^ 62 }
+    requires room { around + length payload.now ≤ room writer.old }
+    ensures put { PutsIn W.stretch writer.old (chunk payload.now) writer.new }
+    ensures wire { wire.new.log.writes.received ≡ wire.old.log.writes.received ++ chunk payload.now }
+{
+    let line = SizeLine::new(payload.len() as u64);
+    writer.make_room();
+    put(writer, wire, line.as_bytes());
+    put(writer, wire, payload);
+    put(writer, wire, b"\r\n");
+}
+
+/// Copies the last chunk in, with no trailers, for which there is room, and notes it.
+pub fn put_last<W: TellWrite>(writer: &mut BufWriter<W>, wire: &mut CallLog)
+    requires room { length last_chunk ≤ room writer.old }
+    requires inside { length last_chunk < writer.old.block.capacity }
+    ensures put { PutsIn W.stretch writer.old last_chunk writer.new }
+    ensures wire { wire.new.log.writes.received ≡ wire.old.log.writes.received ++ last_chunk }
+{
+    writer.make_room();
+    put(writer, wire, b"0\r\n\r\n");
+}

@@ -1,0 +1,161 @@
+//! The writer of a body.
+ghost use Rattle.std.specs.Prelude.{◌≡◌, ◌<◌, [], MatchResult};
+ghost use Rattle.std.specs.Io.{WritesAtMost};
+ghost use Rattle.std.specs.Io.KnownBytes.{Keeps, WriteAppends};
+ghost use Rattle.buffer_redux.specs.BufWriter.{WasFlushed};
+ghost use Rattle.chunked.specs.Chunking.{ChunksWent, Finishes, IsChunking, NotFinished, WritesChunk, accepted, around, unbegun};
+
+use crate::chunk::{AROUND, LAST_CHUNK, make_space, put_chunk, put_last};
+use buffer_redux::tell::{Call, CallLog, TellWrite};
+use buffer_redux::{BufWriter, IntoInnerError};
+use std::io::Write;
+use std::marker::Model;
+use std::{fmt, io};
+
+/// A writer of one body, into a buffered writer of yours. [`finish`](ChunkedWriter::finish) ends the body, and hands that back.
+///
+/// Each write makes one chunk, which goes into the buffer whole or not at all; an empty slice makes none. The writer takes no
+/// memory. One that is dropped drops the buffered writer, which sends what it holds: the body has no end then, so a reader can
+/// tell that it is cut short.
+///
+/// ```
+/// let inner = BufWriter::new(alloc, Told::new(Vec::new(alloc)))?;
+/// let mut body = ChunkedWriter::new(inner);
+/// body.write_all(b"hello")?;
+/// let mut inner = body.finish().map_err(io::Error::from)?;
+/// inner.flush()?;
+/// assert_eq!(rt;
+///     inner.get_ref().get_ref().as_slice(),
+///     b"5\r\nhello\r\n0\r\n\r\n".as_slice()
+/// );
+/// ```
+#[derive(Drop)]
+pub struct ChunkedWriter<W: TellWrite> {
+    writer: BufWriter<W>,
+    // The bytes of the body that the buffered writer took in, as a log of what was received. It takes no byte.
+    wire: CallLog,
+    // The payload, as a stream tells it.
+    calls: CallLog,
+}
+
+impl<W: TellWrite> Model for ChunkedWriter<W> {
+    ghost use Rattle.chunked.specs.Chunking.{Chunking, IsChunking};
+
+    ghost Value = { Chunking W };
+
+    ghost view = { λ c. record {
+      writer = c.writer;
+      wire = c.wire.log.writes.received;
+      calls = c.calls.log;
+    } };
+
+    ghost invariant = { λ c. IsChunking (record {
+      writer = c.writer;
+      wire = c.wire.log.writes.received;
+      calls = c.calls.log;
+    }) };
+}
+
+impl<W: TellWrite> ChunkedWriter<W> {
+    /// A writer of a body that begins behind what `writer` holds. Its buffer needs a capacity of more than 20 bytes: that many
+    /// may stand around the payload of a chunk.
+    pub fn new(writer: BufWriter<W>) -> Self
+        requires room { around < writer.block.capacity }
+        ensures begun { result ≡ unbegun writer }
+        ensures whole { IsChunking result }
+    {
+        let _ = writer.capacity();
+        ChunkedWriter {
+            writer,
+            wire: CallLog::new(),
+            calls: CallLog::new(),
+        }
+    }
+
+    /// The buffered writer.
+    pub fn get_ref(&self) -> &BufWriter<W>
+        ensures writer { result.now ≡ self.now.writer }
+        ensures whole { IsChunking self.now }
+    {
+        &self.writer
+    }
+
+    /// The buffered writer, with the chunks that were not sent. The body isn't ended.
+    pub fn into_inner(self) -> BufWriter<W>
+        ensures { result ≡ self.writer }
+    {
+        let ChunkedWriter {
+            writer,
+            wire: _,
+            calls: _,
+        } = self;
+        writer
+    }
+
+    /// Ends the body: takes the last chunk in, with no trailers, and hands the buffered writer back, which neither sent nor flushed
+    /// it. Where it doesn't fit, all that is buffered is sent first. Where that fails, the writer comes back with the fault and as
+    /// it was, but for what the inner writer took: it can be finished again, or written to.
+    pub fn finish(mut self) -> Result<BufWriter<W>, IntoInnerError<Self>>
+        ensures { MatchResult result (Finishes W.log W.stretch self) (λ e. NotFinished W.log W.stretch self e.1 e.0) }
+    {
+        match make_space(&mut self.writer, LAST_CHUNK) {
+            Ok(()) => {
+                let ChunkedWriter {
+                    mut writer,
+                    mut wire,
+                    calls: _,
+                } = self;
+                put_last(&mut writer, &mut wire);
+                Ok(writer)
+            }
+            Err(e) => Err(IntoInnerError(self, e)),
+        }
+    }
+}
+
+/// Payload goes in, chunk by chunk.
+impl<W: TellWrite> Write for ChunkedWriter<W> {
+    ghost contents = { accepted };
+
+    /// Takes one chunk in, with all of `payload` where it fits behind what is buffered. Where it doesn't, all that is buffered is
+    /// sent first, and the chunk has as much of it as fits. A chunk is taken to need 20 bytes beside its payload, which are
+    /// those of the longest size. An empty `payload` makes no chunk.
+    ///
+    /// An `Err` is that of the sending: no byte of the chunk was taken in, and just what the inner writer took is gone from the
+    /// buffer, so the call can be made again.
+    fn write(&mut self, payload: &[u8]) -> io::Result<usize>
+        ensures bound { WritesAtMost result payload.now }
+        ensures bytes { WriteAppends (accepted self.old) (accepted self.new) result payload.now }
+        ensures writes { WritesChunk W.log W.stretch self.old payload.now result self.new }
+    {
+        if payload.is_empty() {
+            self.calls.note(&Call::Write(payload, &Ok(0)));
+            return Ok(0);
+        }
+        make_space(&mut self.writer, AROUND + payload.len())?;
+        let count = payload.len().min(self.writer.capacity() - AROUND);
+        put_chunk(&mut self.writer, &mut self.wire, &payload[..count]);
+        self.calls.note(&Call::Write(payload, &Ok(count)));
+        Ok(count)
+    }
+
+    /// Sends all chunks, and flushes the inner writer. It makes no chunk, and doesn't end the body.
+    fn flush(&mut self) -> io::Result<()>
+        ensures bytes { Keeps (accepted self.old) (accepted self.new) }
+        ensures flushed { WasFlushed W.log W.stretch self.old.writer result self.new.writer }
+        ensures went { ChunksWent W.stretch self.old [] self.new }
+        ensures calls { self.new.calls ≡ self.old.calls }
+        ensures whole { IsChunking self.new }
+    {
+        self.writer.flush()
+    }
+}
+
+/// The buffered writer.
+impl<W: TellWrite + fmt::Debug> fmt::Debug for ChunkedWriter<W> {
+    fn fmt<F: fmt::Write>(&self, f: &mut fmt::Formatter<F>) -> fmt::Result {
+        f.debug_struct("chunked::ChunkedWriter")
+            .field("writer", &self.writer)
+            .finish()
+    }
+}
