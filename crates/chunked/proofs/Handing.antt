@@ -12,7 +12,7 @@ use Rattle.chunked.specs.declared.error.ChunkedError.TheVariants.{NotChunked, Tr
 use Rattle.chunked.specs.declared.place.Place.{Place}
 use Rattle.chunked.specs.declared.place.Place.TheVariants.{Data, Done}
 use Rattle.chunked.specs.declared.progress.Progress.{Progress}
-use Rattle.chunked.specs.Between.{EndsTaking, EndsWith, FailsSo, HandsOn, NoFault, Takes, TookLast}
+use Rattle.chunked.specs.Between.{Calls, FailsSo, HandsOn, LastCall, NoFault, ReadEnds, Takes, TakesTurns, handed_out}
 use Rattle.chunked.specs.BetweenLaws.{Takes-joins, Takes-none, Takes-still}
 use Rattle.chunked.specs.Place.{IsPlace, Leads}
 use Rattle.chunked.proofs.PassingOn.{data_payload}
@@ -51,6 +51,29 @@ read_nothing rules s before after t reads some =
       ]
     ]
 
+module _ {S P : Type 0} (rules : ReadRules P) where
+  -- turns go on
+  TakesTurns-joins : (a b : ℕ) (s m t : Buffered S P) → TakesTurns rules a s m → TakesTurns rules b m t
+      → (k : ℕ) × TakesTurns rules k s t
+  TakesTurns-joins a zero s m t first same = (a, subst (TakesTurns rules a s) same first)
+  TakesTurns-joins a (suc b) s m t first (x, then, turn) =
+      let joined = TakesTurns-joins a b s m x first then in
+      (suc joined.0, (x, joined.1, turn))
+
+  Calls-after : (a : ℕ) (s m : Buffered S P) → TakesTurns rules a s m → {room : ℕ} {answer : Result ℕ ChunkedError}
+      {t : Buffered S P} {p : Place} → Calls rules m room answer t p → Calls rules s room answer t p
+  Calls-after a s m first calls =
+      let joined = TakesTurns-joins a calls.count s m calls.last first calls.turns in
+      record { count = joined.0; last = calls.last; turns = joined.1; call = calls.call }
+
+  -- and no call that hands out none depends on the room
+  pub Calls-fail : (s : Buffered S P) (e : ChunkedError) (t : Buffered S P) (p : Place) → Calls rules s 0 (Err e) t p → (room : ℕ)
+      → Calls rules s room (Err e) t p
+  Calls-fail s e t p calls room = record { count = calls.count; last = calls.last; turns = calls.turns; call = calls.call }
+
+  pub Calls-none : (s t : Buffered S P) (p : Place) → Calls rules s 0 (Ok 0) t p → (room : ℕ) → Calls rules s room (Ok 0) t p
+  Calls-none s t p calls room = record { count = calls.count; last = calls.last; turns = calls.turns; call = calls.call }
+
 module _ {S P : Type 0} (remaining : S → Option (List ℕ)) (rules : ReadRules P) where
   -- what one read does as a stretch
   read_along : (s t : Buffered S P) (h : List ℕ) → ReadsInOrder s h t → ReaderKeeps remaining rules s t
@@ -72,15 +95,20 @@ module _ {S P : Type 0} (remaining : S → Option (List ℕ)) (rules : ReadRules
     stays order = Takes-still remaining rules s p s p t [] [] (Takes-none remaining rules s p is_place)
         (read_along s t [] order keeps)
 
-    pub data_fails : (e : Error) → ReadsInOrder s [] t → ReadErrorCaused {A = ℕ} rules s (Err e) t
-        → HandsOn remaining rules s p out (Err (Io e)) t p
-    data_fails e order caused = record {
+    at_once : {room : ℕ} {answer : Result ℕ ChunkedError} {at : Place} → LastCall rules s room answer t at
+        → Calls rules s room answer t at
+    at_once call = record { count = 0; last = s; turns = refl; call = call }
+
+    pub data_fails : (e : Error) → ReadsInOrder s [] t → ReadErrorCaused {A = ℕ} rules s (Err e) t → (before after : List ℕ)
+        → Reads rules s before (Err e) after t → 0 < length before → HandsOn remaining rules s p out (Err (Io e)) t p
+    data_fails e order caused before after reads some = record {
       wire = [];
       takes = stays order;
       ends = elim caused [
         | inl fault ↦ inl fault
         | inr gave ↦ inr (record { last = s; grows = ReadLogGrows-none s.log.reads; no_fault = refl; gave = gave })
       ];
+      calls = at_once (inr (record { before = before; after = after; some = some; reads = reads }));
     }
 
     pub data_dry : ReadsInOrder s [] t → NoFault s t → EmptyReadCaused rules s t
@@ -101,21 +129,20 @@ module _ {S P : Type 0} (remaining : S → Option (List ℕ)) (rules : ReadRules
           dry = λ wants _. dry wants;
         },
       );
+      calls = at_once (inr (record { before = before; after = after; some = some; reads = reads }));
     }
 
     given_last : (n room : ℕ) (before after : List ℕ) (q : Progress) → 0 < n → Reads rules s before (Ok n) after t
-        → q.place ≡ Data (left - n) → n ≤ left → length before ≡ min left room → EndsWith rules s room n t q.place
+        → q.place ≡ Data (left - n) → n ≤ left → length before ≡ min left room → Calls rules s room (Ok n) t q.place
     given_last zero room before after q some reads there few offered = absurd (omega (arith, some))
-    given_last (suc n) room before after q some reads there few offered = record {
-      last = s;
-      grows = ReadLogGrows-none s.log.reads;
+    given_last (suc n) room before after q some reads there few offered = at_once (record {
       before = before;
       after = after;
       reads = reads;
       left = left - suc n;
       place = there;
       offered = omega (arith, offered, few);
-    }
+    })
 
     pub data_given : (n : ℕ) (before front more : List ℕ) (q : Progress) → out ≡ front ++ more → 0 < n → n ≤ length front
         → n ≤ left → ReadsInOrder s (take n front) t → NoFault s t → Notes p (Data (left - n)) (take n out) q
@@ -140,8 +167,8 @@ module _ {S P : Type 0} (remaining : S → Option (List ℕ)) (rules : ReadRules
             omega (arith, ap length is, length-append front more, within),
             no_fault,
             (λ none _. absurd (omega (arith, none, some))),
-            given_last n (length out) before front q some reads notes.place few offered,
           );
+          calls = given_last n (length out) before front q some reads notes.place few offered;
         }
 
   -- a failure goes on where no read failed before
@@ -171,48 +198,22 @@ module _ {S P : Type 0} (remaining : S → Option (List ℕ)) (rules : ReadRules
     gave = failed.gave;
   })
 
-  -- the last call stays the last
-  EndsTaking-after : (s m t : Buffered S P) → ReadLogGrows s.log.reads m.log.reads → EndsTaking rules m t → EndsTaking rules s t
-  EndsTaking-after s m t grows taking = record {
-    last = taking.last;
-    grows = ReadLogGrows-joins s.log.reads m.log.reads taking.last.log.reads grows taking.grows;
-    count = taking.count;
-    some = taking.some;
-    held = taking.held;
-    took = taking.took;
-  }
-
-  EndsWith-after : (s m : Buffered S P) → ReadLogGrows s.log.reads m.log.reads → TookLast rules s m → (room n : ℕ)
-      (t : Buffered S P) (p : Place) → EndsWith rules m room n t p → EndsWith rules s room n t p
-  EndsWith-after s m grows took room zero t p (inl same) = subst (TookLast rules s) (sym same) took
-  EndsWith-after s m grows took room zero t p (inr taking) = inr (EndsTaking-after s m t grows taking)
-  EndsWith-after s m grows took room (suc n) t p reading = record {
-    last = reading.last;
-    grows = ReadLogGrows-joins s.log.reads m.log.reads reading.last.log.reads grows reading.grows;
-    before = reading.before;
-    after = reading.after;
-    reads = reading.reads;
-    left = reading.left;
-    place = reading.place;
-    offered = reading.offered;
-  }
+  ReadEnds-after : (s m : Buffered S P) (p q : Progress) (wire : List ℕ) → Takes remaining rules s p wire [] m q → NoFault s m
+      → (room : ℕ) (answer : Result ℕ ChunkedError) (t : Buffered S P) (r : Progress) → ReadEnds rules m room answer t r
+      → ReadEnds rules s room answer t r
+  ReadEnds-after s m p q wire before well room (Ok n) t r ends = (ends.0, ends.1 ∙ well, ends.2)
+  ReadEnds-after s m p q wire before well room (Err e) t r ends =
+      FailsSo-after s m before.along.capacity before.along.claims before.along.grows well e t r ends
 
   -- payload is handed out behind what is none
   pub HandsOn-after : (s m : Buffered S P) (p q : Progress) (wire : List ℕ) → Takes remaining rules s p wire [] m q → NoFault s m
-      → TookLast rules s m → (out : List ℕ) (answer : Result ℕ ChunkedError) (t : Buffered S P) (r : Progress)
+      → Calls rules s 0 (Ok 0) m q.place → (out : List ℕ) (answer : Result ℕ ChunkedError) (t : Buffered S P) (r : Progress)
       → HandsOn remaining rules m q out answer t r → HandsOn remaining rules s p out answer t r
-  HandsOn-after s m p q wire before well took out (Ok n) t r h = record {
-    wire = wire ++ h.wire;
-    takes = Takes-joins remaining rules s p m q t r wire [] h.wire (take n out) before h.takes;
-    ends = (
-      h.ends.0,
-      h.ends.1 ∙ well,
-      h.ends.2,
-      EndsWith-after s m before.along.grows took (length out) n t r.place h.ends.3,
-    );
-  }
-  HandsOn-after s m p q wire before well took out (Err e) t r h = record {
-    wire = wire ++ h.wire;
-    takes = Takes-joins remaining rules s p m q t r wire [] h.wire [] before h.takes;
-    ends = FailsSo-after s m before.along.capacity before.along.claims before.along.grows well e t r h.ends;
-  }
+  HandsOn-after s m p q wire before well calls out answer t r h =
+      let turns = subst (TakesTurns rules calls.count s) calls.call calls.turns in
+      record {
+        wire = wire ++ h.wire;
+        takes = Takes-joins remaining rules s p m q t r wire [] h.wire (handed_out out answer) before h.takes;
+        ends = ReadEnds-after s m p q wire before well (length out) answer t r h.ends;
+        calls = Calls-after rules calls.count s m turns h.calls;
+      }

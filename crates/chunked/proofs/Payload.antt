@@ -44,7 +44,7 @@ module _ {S P : Type 0} (remaining : S → Option (List ℕ)) (rules : ReadRules
 
   answered : (a : Result ℕ ChunkedError) → a ≡ answer → ReadEnds rules r (length out) a r' q
       → PayloadAnswers rules (seen r p calls) (length out) a after
-  answered (Ok n) same ends = (ends.0, ends.1, (λ none some. IsWhole-done after still_is (ends.2 none some)), ends.3)
+  answered (Ok n) same ends = (ends.0, ends.1, (λ none some. IsWhole-done after still_is (ends.2 none some)))
   answered (Err (NotChunked why count)) same (well, right, wrong) = (
     right ∙ q.counted,
     well,
@@ -62,8 +62,9 @@ module _ {S P : Type 0} (remaining : S → Option (List ℕ)) (rules : ReadRules
       (right ∙ q.counted, well, record { none = λ payload body. open' (body_done after payload still_is body); dry = dry })
   answered (Err (Io e)) same ends = ends
 
-  pub payload_read : (p.place ≡ Done → r' ≡ r) → ReadsPayload remaining rules (seen r p calls) out answer after
-  payload_read done = record {
+  pub payload_read : (p.place ≡ Done → r' ≡ r) → (length out ≡ 0 → (answer ≡ Ok 0) × (r' ≡ r))
+      → ReadsPayload remaining rules (seen r p calls) out answer after
+  payload_read done idle = record {
     went = record {
       wire = hands.wire;
       along = hands.takes.along;
@@ -72,7 +73,9 @@ module _ {S P : Type 0} (remaining : S → Option (List ℕ)) (rules : ReadRules
       limits = hands.takes.limits;
     };
     answers = answered answer refl hands.ends;
+    calls = hands.calls;
     ended = λ whole. done (body_done (seen r p calls) calls.reads.given is whole);
+    idle = idle;
     noted = refl;
     whole = still_is;
   }
@@ -91,8 +94,8 @@ module _ {S P : Type 0} (remaining : S → Option (List ℕ)) (rules : ReadRules
     (d : Dechunking S P) (r : Buffered S P) (p : Progress)
     (calls : StreamLog) (view : seen r p calls ≡ d) (is : IsDechunking (seen r p calls)) (out : List ℕ)
     (answer : Result ℕ ChunkedError) (r' : Buffered S P) (q : Progress) (hands : HandsOn remaining rules r p out answer r' q)
-    (done : p.place ≡ Done → r' ≡ r) (calls' : StreamLog) (noted : calls' ≡ after_payload calls out answer) where
+    (done : p.place ≡ Done → r' ≡ r) (idle : length out ≡ 0 → (answer ≡ Ok 0) × (r' ≡ r)) (calls' : StreamLog) (noted : calls' ≡ after_payload calls out answer) where
   pub reads_payload : ReadsPayload remaining rules d out answer (seen r' q calls')
   reads_payload = subst (λ x. ReadsPayload remaining rules x out answer (seen r' q calls')) view
       (subst (λ k. ReadsPayload remaining rules (seen r p calls) out answer (seen r' q k)) (sym noted)
-      (payload_read remaining rules r p calls is out answer r' q hands done))
+      (payload_read remaining rules r p calls is out answer r' q hands done idle))

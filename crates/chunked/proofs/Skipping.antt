@@ -1,11 +1,11 @@
 -- A turn of taking what is no payload, and how that ends.
-use Rattle.std.proofs.Common.{◌≡◌, ℕ, ◌+◌, ◌<◌, ◌⊎◌, List, [], ◌∷◌, ◌++◌, length, take, drop, min, slice_index, Option, Ok, Err, None, Some, IfSome, sym, ap, subst, ◌∙◌, arith, inl, inr, refl, append_assoc}
+use Rattle.std.proofs.Common.{◌≡◌, ℕ, suc, ◌+◌, ◌<◌, ◌≤◌, ◌⊎◌, List, [], ◌∷◌, ◌++◌, length, take, drop, min, slice_index, Option, Ok, Err, None, Some, IfSome, sym, ap, subst, ◌∙◌, arith, inl, inr, refl, append_assoc}
 use Rattle.std.proofs.lemmas.List.{drop_more, nil_from_length}
 use Rattle.std.specs.Borrow.{Bor}
 use Rattle.std.specs.declared.io.Error.{Error}
 use Rattle.buffer_redux.specs.Buffered.{Buffered}
 use Rattle.buffer_redux.specs.BufReader.{FillBuf, ReaderConsumes}
-use Rattle.buffer_redux.specs.LogGrows.{ReadLogGrows-joins}
+use Rattle.buffer_redux.specs.FillLaws.{Fills-err, Fills-ok}
 use Rattle.buffer_redux.specs.Policy.{ReadRules}
 use Rattle.buffer_redux.specs.ReaderLaws.{FillBuf-along, Fills-empty, ReadsAlong-turn, WantsBytes}
 use Rattle.chunked.specs.declared.error.ChunkedError.TheVariants.{NotChunked, Truncated, Io}
@@ -13,7 +13,7 @@ use Rattle.chunked.specs.declared.error.Malformed.{Malformed}
 use Rattle.chunked.specs.declared.place.Place.{Place}
 use Rattle.chunked.specs.declared.progress.Progress.{Progress}
 use Rattle.chunked.specs.declared.step.Reached.{Reached}
-use Rattle.chunked.specs.Between.{EndsTaking, NoFault, Skips, Takes, TookLast, taken_of}
+use Rattle.chunked.specs.Between.{FillsAndTakes, NoFault, Skips, Takes, TakesTurns, taken_of}
 use Rattle.chunked.specs.BetweenLaws.{Takes-still}
 use Rattle.chunked.specs.Place.{Advances, IsPlace, IsSettled, IsWrong, Leads}
 use Rattle.chunked.specs.PlaceLaws.{Leads-joins}
@@ -26,7 +26,8 @@ pub record Notes (p : Progress) (there : Place) (bytes : List ℕ) (q : Progress
 
 module _ {S P : Type 0} (remaining : S → Option (List ℕ)) (rules : ReadRules P) where
   module _ (s : Buffered S P) (p : Progress) (wire : List ℕ) (m : Buffered S P) (q : Progress)
-      (before : Takes remaining rules s p wire [] m q) (no_fault : NoFault s m) where
+      (before : Takes remaining rules s p wire [] m q) (no_fault : NoFault s m)
+      (count : ℕ) (turns : TakesTurns rules count s m) where
     -- the fill failed
     pub skip_fails : (e : Error) (f : Buffered S P) → FillBuf remaining rules m (Err e) f
         → Skips remaining rules s p (Err (Io e)) f q
@@ -37,6 +38,7 @@ module _ {S P : Type 0} (remaining : S → Option (List ℕ)) (rules : ReadRules
         | inl fault ↦ inl (fault ∙ ap (λ l. l ++ e ∷ []) no_fault)
         | inr gave ↦ inr (record { last = m; grows = before.along.grows; no_fault = no_fault; gave = gave })
       ];
+      calls = record { count = count; last = m; turns = turns; call = inl (Fills-err rules m e f filled.fills) };
     }
 
     module _ (shown : Bor (List ℕ)) (f : Buffered S P) (filled : FillBuf remaining rules m (Ok shown) f) where
@@ -66,6 +68,7 @@ module _ {S P : Type 0} (remaining : S → Option (List ℕ)) (rules : ReadRules
                     omega (arith, before.along.grows.zero_reads, dry);
               },
             );
+            calls = record { count = count; last = m; turns = turns; call = inl (Fills-ok rules m shown 0 f filled.fills) };
           }
 
       module _ (r : Reached) (reached : Advances q.limits q.place shown.now r) (q' : Progress)
@@ -87,15 +90,17 @@ module _ {S P : Type 0} (remaining : S → Option (List ℕ)) (rules : ReadRules
         pub turn_well : NoFault s t
         turn_well = ap (λ l. l.reads.faults) gone.told ∙ filled_well
 
-        pub turn_took : r.wrong ≡ None → ¬ IsSettled q.place → 0 < length shown.now → EndsTaking rules s t
-        turn_took right goes_on some = record {
-          last = f;
-          grows = ReadLogGrows-joins s.log.reads m.log.reads f.log.reads before.along.grows filled.fills.grows;
-          count = r.taken;
-          some = reached.some goes_on some right;
-          held = omega (arith, reached.within, ap length filled.shown);
+        fills_and_takes : r.taken ≤ length shown.now → FillsAndTakes rules r.taken m t
+        fills_and_takes within = record {
+          filled = f;
+          fills = Fills-ok rules m shown f.block.bytes f filled.fills;
+          held = omega (arith, within, ap length filled.shown);
           took = gone;
         }
+
+        pub turn_took : r.wrong ≡ None → ¬ IsSettled q.place → 0 < length shown.now → TakesTurns rules (suc count) s t
+        turn_took right goes_on some =
+            (m, turns, (r.taken, reached.some goes_on some right, fills_and_takes reached.within))
 
         -- something is wrong with the next byte
         pub skip_wrong : (why : Malformed) → r.wrong ≡ Some why → Skips remaining rules s p (Err (NotChunked why q'.count)) t q'
@@ -120,18 +125,14 @@ module _ {S P : Type 0} (remaining : S → Option (List ℕ)) (rules : ReadRules
                       (subst (λ x. IsWrong q.limits x (slice_index shown.now r.taken) why) (sym notes.place) found.1);
                 },
               );
+              calls = record { count = count; last = m; turns = turns; call = (r.taken, fills_and_takes (omega (arith, found.0))) };
             }
 
--- where a payload or nothing comes next, nothing is done; and else something is taken last
-abbrev pub GoesOn : {S P : Type 0} → ReadRules P → Buffered S P → Buffered S P → Progress → Progress → Type 0
-GoesOn rules s m p q = ((m ≡ s) × (q ≡ p)) ⊎ ((¬ IsSettled p.place) × EndsTaking rules s m)
+-- where a payload or nothing comes next, nothing is done
+abbrev pub GoesOn : {S P : Type 0} → Buffered S P → Buffered S P → Progress → Progress → Type 0
+GoesOn s m p q = ((m ≡ s) × (q ≡ p)) ⊎ (¬ IsSettled p.place)
 
-pub never_settled : {S P : Type 0} (rules : ReadRules P) (s m : Buffered S P) (p q : Progress) → GoesOn rules s m p q
-    → ¬ IsSettled q.place → ¬ IsSettled p.place
-never_settled rules s m p q (inl same) not_settled = subst (λ x. ¬ IsSettled x.place) same.1 not_settled
-never_settled rules s m p q (inr differs) not_settled = differs.0
-
-pub took_last : {S P : Type 0} (rules : ReadRules P) (s m : Buffered S P) (p q : Progress) → GoesOn rules s m p q
-    → TookLast rules s m
-took_last rules s m p q (inl same) = inl same.0
-took_last rules s m p q (inr differs) = inr differs.1
+pub never_settled : {S P : Type 0} (s m : Buffered S P) (p q : Progress) → GoesOn s m p q → ¬ IsSettled q.place
+    → ¬ IsSettled p.place
+never_settled s m p q (inl same) not_settled = subst (λ x. ¬ IsSettled x.place) same.1 not_settled
+never_settled s m p q (inr differs) not_settled = differs

@@ -4,7 +4,7 @@ use Rattle.std.specs.IoError.{error_kind}
 use Rattle.std.specs.declared.io.Error.{Error}
 use Rattle.std.specs.declared.io.ErrorKind.TheVariants.{InvalidData, UnexpectedEof}
 use Rattle.buffer_redux.specs.Buffered.{Buffered}
-use Rattle.buffer_redux.specs.BufReader.{EmptyFillCaused, EmptyReadCaused, PolicyGave, RanDry, ReaderConsumes, Reads, ReadsAlong}
+use Rattle.buffer_redux.specs.BufReader.{EmptyFillCaused, EmptyReadCaused, Fills, PolicyGave, RanDry, ReaderConsumes, Reads, ReadsAlong}
 use Rattle.buffer_redux.specs.LogGrows.{ReadLogGrows}
 use Rattle.buffer_redux.specs.Policy.{ReadRules}
 use Rattle.buffer_redux.specs.ReaderLaws.{WantsBytes}
@@ -61,36 +61,61 @@ pub record MeetsWrong (limits : Limits) (p : Place) (bytes : List ℕ) (why : Ma
   pub next : bytes ≡ byte ∷ later
   pub name : IsWrong limits p byte why
 
--- the last call of the buffered reader took some of the bytes that it held
-pub record EndsTaking {S P : Type 0} (rules : ReadRules P) (s t : Buffered S P) : Type 0 where
-  pub last : Buffered S P
-  pub grows : ReadLogGrows s.log.reads last.log.reads
-  pub count : ℕ
-  pub some : 0 < count
-  pub held : count ≤ length last.block.bytes
-  pub took : ReaderConsumes rules count last t
+-- one fill, and then the first n bytes that it shows were taken
+pub record FillsAndTakes {S P : Type 0} (rules : ReadRules P) (n : ℕ) (s t : Buffered S P) : Type 0 where
+  pub filled : Buffered S P
+  pub fills : Fills rules s (Ok filled.block.bytes) filled
+  pub held : n ≤ length filled.block.bytes
+  pub took : ReaderConsumes rules n filled t
 
--- none was called, or the last call was such a one: nothing was asked behind what is taken
-abbrev pub TookLast : {S P : Type 0} → ReadRules P → Buffered S P → Buffered S P → Type 0
-TookLast rules s t = (t ≡ s) ⊎ EndsTaking rules s t
+-- so many turns, each of which took some bytes so
+abbrev pub TakesTurns : {S P : Type 0} → ReadRules P → ℕ → Buffered S P → Buffered S P → Type 0
+TakesTurns rules zero s t = s ≡ t
+TakesTurns {S} {P} rules (suc count) s t =
+    (m : Buffered S P) × TakesTurns rules count s m × ((n : ℕ) × (0 < n) × FillsAndTakes rules n m t)
 
--- the last call was a read that handed n bytes out, and had for them all of so much room, or as much of it as the chunk still
--- had bytes
-pub record EndsReading {S P : Type 0} (rules : ReadRules P) (s : Buffered S P) (room n : ℕ) (t : Buffered S P) (p : Place)
+-- one read into some room
+pub record ReadsSome {S P : Type 0} (rules : ReadRules P) (s : Buffered S P) (answer : Result ℕ Error) (t : Buffered S P)
     : Type 0 where
-  pub last : Buffered S P
-  pub grows : ReadLogGrows s.log.reads last.log.reads
   pub before : List ℕ
   pub after : List ℕ
-  pub reads : Reads rules last before (Ok n) after t
+  pub some : 0 < length before
+  pub reads : Reads rules s before answer after t
+
+-- one fill, or one such read, with this answer
+abbrev pub AsksOnce : {S P : Type 0} → ReadRules P → Buffered S P → Result ℕ Error → Buffered S P → Type 0
+AsksOnce rules s answer t = Fills rules s answer t ⊎ ReadsSome rules s answer t
+
+-- one read that handed n bytes out, and had for them all of so much room, or as much of it as the chunk still had bytes
+pub record ReadsChunk {S P : Type 0} (rules : ReadRules P) (s : Buffered S P) (room n : ℕ) (t : Buffered S P) (p : Place)
+    : Type 0 where
+  pub before : List ℕ
+  pub after : List ℕ
+  pub reads : Reads rules s before (Ok n) after t
   pub left : ℕ
   pub place : p ≡ Data left
   pub offered : length before ≡ min room (left + n)
 
--- what the last call of the buffered reader was, where n bytes were handed out
-abbrev pub EndsWith : {S P : Type 0} → ReadRules P → Buffered S P → ℕ → ℕ → Buffered S P → Place → Type 0
-EndsWith rules s room zero t p = TookLast rules s t
-EndsWith rules s room (suc n) t p = EndsReading rules s room (suc n) t p
+-- the call that showed why there is no further payload: a fill that shows the wrong byte, or the one ask that brought none or
+-- failed
+abbrev pub CallFails : {S P : Type 0} → ReadRules P → Buffered S P → ChunkedError → Buffered S P → Type 0
+CallFails rules s (NotChunked why count) t = (n : ℕ) × FillsAndTakes rules n s t
+CallFails rules s (Truncated count) t = AsksOnce rules s (Ok 0) t
+CallFails rules s (Io e) t = AsksOnce rules s (Err e) t
+
+-- the last call of the buffered reader, by the answer. Where none is handed out, and nothing is wrong, there is none
+abbrev pub LastCall : {S P : Type 0} → ReadRules P → Buffered S P → ℕ → Result ℕ ChunkedError → Buffered S P → Place → Type 0
+LastCall rules s room (Ok zero) t p = s ≡ t
+LastCall rules s room (Ok (suc n)) t p = ReadsChunk rules s room (suc n) t p
+LastCall rules s room (Err e) t p = CallFails rules s e t
+
+-- how the buffered reader was called: by turns that took what is no payload, and then by the last call
+pub record Calls {S P : Type 0} (rules : ReadRules P) (s : Buffered S P) (room : ℕ) (answer : Result ℕ ChunkedError)
+    (t : Buffered S P) (p : Place) : Type 0 where
+  pub count : ℕ
+  pub last : Buffered S P
+  pub turns : TakesTurns rules count s last
+  pub call : LastCall rules last room answer t p
 
 -- why there is no further payload
 abbrev pub FailsSo : {S P : Type 0} → ReadRules P → Buffered S P → ChunkedError → Buffered S P → Progress → Type 0
@@ -101,8 +126,13 @@ FailsSo rules s (Io e) t q = Faulted rules s e t
 -- how taking what is no payload ends
 abbrev pub SkipEnds : {S P : Type 0} → ReadRules P → Buffered S P → Result (Unit {0}) ChunkedError → Buffered S P → Progress
     → Type 0
-SkipEnds rules s (Ok _) t q = NoFault s t × IsSettled q.place × TookLast rules s t
+SkipEnds rules s (Ok _) t q = NoFault s t × IsSettled q.place
 SkipEnds rules s (Err e) t q = FailsSo rules s e t q
+
+-- the same answer of a call that hands nothing out
+abbrev pub none_handed : Result (Unit {0}) ChunkedError → Result ℕ ChunkedError
+none_handed (Ok _) = Ok 0
+none_handed (Err e) = Err e
 
 -- what taking all of that does
 pub record Skips {S P : Type 0} (remaining : S → Option (List ℕ)) (rules : ReadRules P) (s : Buffered S P) (p : Progress)
@@ -110,6 +140,7 @@ pub record Skips {S P : Type 0} (remaining : S → Option (List ℕ)) (rules : R
   pub wire : List ℕ
   pub takes : Takes remaining rules s p wire [] t q
   pub ends : SkipEnds rules s answer t q
+  pub calls : Calls rules s 0 (none_handed answer) t q.place
 
 -- the payload that an answer hands out of a slice: its first bytes, or none
 abbrev pub handed_out : List ℕ → Result ℕ ChunkedError → List ℕ
@@ -119,7 +150,7 @@ handed_out out (Err e) = []
 -- what an answer to a slice of so many bytes says: none of them comes only where the body ended
 abbrev pub ReadEnds : {S P : Type 0} → ReadRules P → Buffered S P → ℕ → Result ℕ ChunkedError → Buffered S P → Progress → Type 0
 ReadEnds rules s room (Ok n) t q =
-    (n ≤ room) × NoFault s t × (n ≡ 0 → 0 < room → q.place ≡ Done) × EndsWith rules s room n t q.place
+    (n ≤ room) × NoFault s t × (n ≡ 0 → 0 < room → q.place ≡ Done)
 ReadEnds rules s room (Err e) t q = FailsSo rules s e t q
 
 -- what handing payload out into a slice, which is left so, does
@@ -128,6 +159,7 @@ pub record HandsOn {S P : Type 0} (remaining : S → Option (List ℕ)) (rules :
   pub wire : List ℕ
   pub takes : Takes remaining rules s p wire (handed_out out answer) t q
   pub ends : ReadEnds rules s (length out) answer t q
+  pub calls : Calls rules s (length out) answer t q.place
 
 -- an error as one of std's streams
 abbrev pub BecomesIo : ChunkedError → Error → Type 0

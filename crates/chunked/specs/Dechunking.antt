@@ -11,7 +11,7 @@ use Rattle.chunked.specs.declared.error.Malformed.{Malformed}
 use Rattle.chunked.specs.declared.limits.Limits.{Limits}
 use Rattle.chunked.specs.declared.place.Place.{Place}
 use Rattle.chunked.specs.declared.place.Place.TheVariants.{Line}
-use Rattle.chunked.specs.Between.{BecomesIo, EndsWith, Faulted, NoFault, NothingCame, handed_out}
+use Rattle.chunked.specs.Between.{BecomesIo, Calls, Faulted, NoFault, NothingCame, handed_out}
 use Rattle.chunked.specs.Body.{IsBody}
 use Rattle.chunked.specs.Place.{IsPlace, IsWrong, Leads}
 
@@ -72,7 +72,7 @@ pub record EndsEarly {S P : Type 0} (rules : ReadRules P) (s t : Dechunking S P)
 -- what each answer to a slice of so many bytes means
 abbrev pub PayloadAnswers : {S P : Type 0} → ReadRules P → Dechunking S P → ℕ → Result ℕ ChunkedError → Dechunking S P → Type 0
 PayloadAnswers rules s room (Ok n) t =
-    (n ≤ room) × NoFault s.reader t.reader × (n ≡ 0 → 0 < room → IsWhole t) × EndsWith rules s.reader room n t.reader t.place
+    (n ≤ room) × NoFault s.reader t.reader × (n ≡ 0 → 0 < room → IsWhole t)
 PayloadAnswers rules s room (Err (NotChunked why right)) t =
     (right ≡ taken_count t) × NoFault s.reader t.reader × Breaks why t
 PayloadAnswers rules s room (Err (Truncated right)) t =
@@ -84,12 +84,15 @@ abbrev pub after_payload : StreamLog → List ℕ → Result ℕ ChunkedError �
 after_payload calls out (Ok n) = after_read calls out (Ok n)
 after_payload calls out (Err e) = calls
 
--- what one call of `read_payload` does, which left the slice as out. Once the body ended, the buffered reader isn't called
+-- what one call of `read_payload` does, which left the slice as out. Once the body ended, or where the slice is empty, the
+-- buffered reader isn't called
 pub record ReadsPayload {S P : Type 0} (remaining : S → Option (List ℕ)) (rules : ReadRules P) (s : Dechunking S P)
     (out : List ℕ) (answer : Result ℕ ChunkedError) (t : Dechunking S P) : Type 0 where
   pub went : BodyWent remaining rules s (handed_out out answer) t
   pub answers : PayloadAnswers rules s (length out) answer t
+  pub calls : Calls rules s.reader (length out) answer t.reader t.place
   pub ended : IsWhole s → t.reader ≡ s.reader
+  pub idle : length out ≡ 0 → (answer ≡ Ok 0) × (t.reader ≡ s.reader)
   pub noted : t.calls ≡ after_payload s.calls out answer
   pub whole : IsDechunking t
 

@@ -1,5 +1,5 @@
 //! The reader of a body.
-ghost use Rattle.std.specs.Prelude.{None, ◌≡◌, ◌<◌, ◌≤◌, ◌↔◌, length, IfOk, IsTrue};
+ghost use Rattle.std.specs.Prelude.{None, ◌≡◌, ◌<◌, ◌≤◌, ◌↔◌, length, IfOk, IsTrue, Ok};
 ghost use Rattle.std.specs.Io.{ReadsAtMost};
 ghost use Rattle.std.specs.Io.KnownBytes.{ReadConsumes};
 ghost use Rattle.buffer_redux.specs.StreamLog.{after_read};
@@ -231,6 +231,7 @@ fn read_on<R: TellRead, P: ReaderPolicy>(
     requires { IsPlace progress.old.place }
     ensures hands { HandsOn R.remaining P.rules reader.old progress.old out.new result reader.new progress.new }
     ensures ended { progress.old.place ≡ Place.Done → reader.new ≡ reader.old }
+    ensures idle { length out.new ≡ 0 → (result ≡ Ok 0) × (reader.new ≡ reader.old) }
 {
     if out.is_empty() {
         return Ok(0);

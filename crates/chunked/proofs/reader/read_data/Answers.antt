@@ -10,7 +10,9 @@ pub returns-in_err-count : goal.returns-in_err-count
 returns-in_err-count g c =
     let read = c.in_err-count.ensures in
     let p = err_from_is_err_and c.from_residual.result c.from_residual.ensures.1 in
-    rw (p.1, p.2) (data_fails _ _ _ _ _ c.requires.place _ _ read.keeps _ read.in_order read.caused)
+    let room : 0 < length (take c.min-most.result c.args.out.now) =
+    omega (arith, length-take-le c.min-most.result c.args.out.now (omega arith)) in
+    rw (p.1, p.2) (data_fails _ _ _ _ _ c.requires.place _ _ read.keeps _ read.in_order read.caused _ _ read.steps room)
 
 pub returns-then-count-eq0 : goal.returns-then-count-eq0
 returns-then-count-eq0 g c =

@@ -1,4 +1,4 @@
-use Rattle.std.proofs.Common.{[], ◌++◌, take, inl, inr, refl, rules, sym}
+use Rattle.std.proofs.Common.{suc, [], ◌++◌, take, inl, inr, refl, rules, sym}
 use Rattle.std.proofs.lemmas.Bool.{eqb-true}
 use Rattle.std.proofs.lemmas.Result.{err_from_is_err_and}
 use Rattle.chunked.specs.Place.{IsSettled}
@@ -7,7 +7,7 @@ use Rattle.chunked.proofs.Skipping.{Notes, never_settled, skip_fails, skip_dry, 
 use Rattle.chunked.proofs.reader.skip.Goals as goal
 
 pub loop-reader-init : goal.loop-reader-init
-loop-reader-init g c = record { wire = []; takes = Takes-none _ _ _ _ c.requires; no_fault = refl; still = inl (refl, refl) }
+loop-reader-init g c = record { wire = []; takes = Takes-none _ _ _ _ c.requires; no_fault = refl; still = inl (refl, refl); count = 0; turns = refl }
 
 pub returns-in_err-shown : goal.returns-in_err-shown
 returns-in_err-shown g c =
@@ -16,8 +16,8 @@ returns-in_err-shown g c =
     let p = err_from_is_err_and c.from_residual.result c.from_residual.ensures.1 in
     let goes_on : ¬ IsSettled c.loop-reader.progress.place = λ settled. (let odd = c.loop-reader-test.ensures.1 settled in cc) in
     rw (p.1, p.2) (record {
-      skips = skip_fails _ _ _ _ before.wire _ _ before.takes before.no_fault _ _ filled;
-      still = λ settled. absurd (never_settled _ _ _ _ _ before.still goes_on settled);
+      skips = skip_fails _ _ _ _ before.wire _ _ before.takes before.no_fault _ before.turns _ _ filled;
+      still = λ settled. absurd (never_settled _ _ _ _ before.still goes_on settled);
     })
 
 pub returns-then-is_empty : goal.returns-then-is_empty
@@ -26,9 +26,9 @@ returns-then-is_empty g c =
     let filled = rw c.in_ok-shown.was at c.fill_buf.follows.holds-at-none in
     let goes_on : ¬ IsSettled c.loop-reader.progress.place = λ settled. (let odd = c.loop-reader-test.ensures.1 settled in cc) in
     record {
-      skips = skip_dry _ _ _ _ before.wire _ _ before.takes before.no_fault _ _ filled
+      skips = skip_dry _ _ _ _ before.wire _ _ before.takes before.no_fault _ before.turns _ _ filled
           (eqb-true _ _ (sym c.if-is_empty.ensures)) goes_on;
-      still = λ settled. absurd (never_settled _ _ _ _ _ before.still goes_on settled);
+      still = λ settled. absurd (never_settled _ _ _ _ before.still goes_on settled);
     }
 
 pub returns-in-Some : goal.returns-in-Some
@@ -40,9 +40,9 @@ returns-in-Some g c =
     (take c.advance-reached.result.taken c.in_ok-shown.shown.now) c.take.new.self =
     record { limits = c.take.ensures.limits; place = c.take.ensures.place; taken = c.take.ensures.taken } in
     record {
-      skips = skip_wrong _ _ _ _ before.wire _ _ before.takes before.no_fault _ _ filled _ c.advance-reached.ensures _ notes _
+      skips = skip_wrong _ _ _ _ before.wire _ _ before.takes before.no_fault _ before.turns _ _ filled _ c.advance-reached.ensures _ notes _
           c.consume.ensures.inner c.consume.ensures.consumed _ c.in-Some.is;
-      still = λ settled. absurd (never_settled _ _ _ _ _ before.still goes_on settled);
+      still = λ settled. absurd (never_settled _ _ _ _ before.still goes_on settled);
     }
 
 pub loop-reader-preserved : goal.loop-reader-preserved
@@ -55,13 +55,22 @@ loop-reader-preserved g c =
     record { limits = c.take.ensures.limits; place = c.take.ensures.place; taken = c.take.ensures.taken } in
     record {
       wire = before.wire ++ take c.advance-reached.result.taken c.in_ok-shown.shown.now;
-      takes = skip_turn _ _ _ _ before.wire _ _ before.takes before.no_fault _ _ filled _ c.advance-reached.ensures _ notes _
+      takes = skip_turn _ _ _ _ before.wire _ _ before.takes before.no_fault _ before.turns _ _ filled _ c.advance-reached.ensures _ notes _
           c.consume.ensures.inner c.consume.ensures.consumed;
-      no_fault = turn_well _ _ _ _ before.wire _ _ before.takes before.no_fault _ _ filled _ c.advance-reached.ensures _ notes _
+      no_fault = turn_well _ _ _ _ before.wire _ _ before.takes before.no_fault _ before.turns _ _ filled _ c.advance-reached.ensures _ notes _
           c.consume.ensures.inner c.consume.ensures.consumed;
-      still = inr (
-        never_settled _ _ _ _ _ before.still goes_on,
-        turn_took _ _ _ _ before.wire _ _ before.takes before.no_fault _ _ filled _ c.advance-reached.ensures _ notes _
-            c.consume.ensures.inner c.consume.ensures.consumed (search rules) goes_on (search rules),
-      );
+      still = inr (never_settled _ _ _ _ before.still goes_on);
+      count = suc before.count;
+      turns = turn_took _ _ _ _ before.wire _ _ before.takes before.no_fault _ before.turns _ _ filled _ c.advance-reached.ensures
+          _ notes _ c.consume.ensures.inner c.consume.ensures.consumed (search rules) goes_on (search rules);
+    }
+
+pub returns-clause-skips : goal.returns-clause-skips
+returns-clause-skips g c =
+    let before = c.loop-reader.invariant in
+    record {
+      wire = before.wire;
+      takes = before.takes;
+      ends = (before.no_fault, c.loop-reader-test.ensures.0 (search rules));
+      calls = record { count = before.count; last = c.loop-reader.reader; turns = before.turns; call = refl };
     }

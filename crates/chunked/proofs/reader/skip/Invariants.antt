@@ -1,5 +1,5 @@
 use Rattle.std.proofs.Common.{◌≡◌, ◌⊎◌, ℕ, List, []}
-use Rattle.chunked.specs.Between.{EndsTaking, NoFault, Takes}
+use Rattle.chunked.specs.Between.{NoFault, Takes, TakesTurns}
 use Rattle.chunked.specs.Place.{IsSettled, most_between}
 use Rattle.chunked.proofs.reader.skip.Given as goal
 
@@ -9,7 +9,9 @@ invariant-loop-reader g l = record {
   wire : List ℕ;
   takes : Takes g.R.TellRead.remaining g.P.ReaderPolicy.rules l.initial.reader l.initial.progress wire [] l.reader l.progress;
   no_fault : NoFault l.initial.reader l.reader;
-  still : ((l.reader ≡ l.initial.reader) × (l.progress ≡ l.initial.progress)) ⊎ ((¬ IsSettled l.initial.progress.place) × EndsTaking g.P.ReaderPolicy.rules l.initial.reader l.reader);
+  still : ((l.reader ≡ l.initial.reader) × (l.progress ≡ l.initial.progress)) ⊎ (¬ IsSettled l.initial.progress.place);
+  count : ℕ;
+  turns : TakesTurns g.P.ReaderPolicy.rules count l.initial.reader l.reader;
 }
 
 abbrev pub decreases-loop-reader : goal.decreases-loop-reader
