@@ -1,5 +1,6 @@
 -- A read of a whole slice, read after read.
 use Rattle.std.proofs.Common.{◌≡◌, ◌≢◌, ℕ, ◌+◌, ◌-◌, ◌<◌, ◌≤◌, List, [], ◌++◌, length, take, drop, Result, Ok, Err, IfErr, OnOk, Option, refl, sym, ap, subst, ◌∙◌, arith, le_refl, le_trans, inl, inr, append-nil, take_all, take-add, take-append-drop, drop_at, length-append, length-drop, length-take-le}
+use Rattle.std.specs.Prelude.{MatchResult, ◌⊎◌}
 use Rattle.std.proofs.lemmas.List.{drop_all}
 use Rattle.std.proofs.lemmas.Slice.{take-put_mid_below}
 use borrow.Rule.Slice.PartMut.{put_mid, post_of}
@@ -18,7 +19,7 @@ use Rattle.buffer_redux.specs.BufReader.{ReadsInOrder, ReaderKeeps, ReadErrorCau
 use Rattle.buffer_redux.specs.ReaderLaws.{ReadsInOrder-none, ReadsInOrder-joins, InnerGives-none, InnerGives-joins, WantsBytes, remaining_gives}
 use Rattle.buffer_redux.specs.Remaining.{reader_remaining}
 use Rattle.buffer_redux.specs.Sparing.{Spared-none, Spared-joins}
-use Rattle.buffer_redux.specs.ReadAll.{ReadTurns, HandedFront, HandedBeginning, ReadsExactly, OneRead}
+use Rattle.buffer_redux.specs.ReadAll.{ReadTurns, HandedFront, HandedBeginning, LastReadFailed, ReadsExactly, OneRead}
 use Rattle.buffer_redux.proofs.WriteAll.{one_more, none_taken, not_interrupted}
 
 -- how many bytes a turn took that was gone on from
@@ -162,8 +163,11 @@ module _ {S P : Type 0} (remaining : S → Option (List ℕ)) (rules : ReadRules
 
     module _ (out : List ℕ) (at : ℕ) (long : length out ≡ room) (within : at ≤ length out)
         (same : take at out ≡ handed) where
-      pub ended_all : length out ≤ at → ReadsExactly remaining rules s (Ok tt) out m
-      ended_all enough = record {
+      ended : (answer : Result (Unit {0}) Error)
+          → MatchResult answer (λ _. (at ≡ length out) × (m ≡ m))
+          (λ e. LastReadFailed remaining rules (length out - at) e m m ⊎ (GaveUp turns (length out - at) e × (m ≡ m)))
+          → ReadsExactly remaining rules s answer out m
+      ended answer is = record {
         turns = turns;
         count = at;
         within = within;
@@ -171,20 +175,14 @@ module _ {S P : Type 0} (remaining : S → Option (List ℕ)) (rules : ReadRules
         run = rw (long, same) before.run;
         first = rw same before.front;
         front = rw same before.front;
-        ended = (omega (arith, enough, within), refl);
+        ended = is;
       }
 
+      pub ended_all : length out ≤ at → ReadsExactly remaining rules s (Ok tt) out m
+      ended_all enough = ended (Ok tt) (omega (arith, enough, within), refl)
+
       pub ended_late : (e : Error) → GaveUp turns (length out - at) e → ReadsExactly remaining rules s (Err e) out m
-      ended_late e late = record {
-        turns = turns;
-        count = at;
-        within = within;
-        last = m;
-        run = rw (long, same) before.run;
-        first = rw same before.front;
-        front = rw same before.front;
-        ended = inr (late, refl);
-      }
+      ended_late e late = ended (Err e) (inr (late, refl))
 
   -- no byte, and the first read into a slice that has some
   pub all_none : (s : Buffered S P) → IsBlock s.block → ReadsExactly remaining rules s (Ok tt) [] s

@@ -1,5 +1,6 @@
 -- A write of all bytes, write after write.
 use Rattle.std.proofs.Common.{◌≡◌, ◌≢◌, ℕ, suc, ◌+◌, ◌-◌, ◌<◌, ◌≤◌, List, [], ◌++◌, length, take, drop, Result, Ok, Err, IfErr, OnOk, refl, sym, ap, subst, ◌∙◌, arith, le_refl, le_trans, inl, inr, append-nil, take_all, take-add, length-drop}
+use Rattle.std.specs.Prelude.{MatchResult, ◌⊎◌}
 use Rattle.std.proofs.lemmas.Bool.{cases_lt}
 use Rattle.std.proofs.lemmas.Slice.{between_to_end}
 use Rattle.std.specs.IoError.{error_kind}
@@ -16,7 +17,7 @@ use Rattle.buffer_redux.specs.AllBytes.{GoesBy, EndsBy, GaveUp}
 use Rattle.buffer_redux.specs.Buffered.{Buffered, InnerWent}
 use Rattle.buffer_redux.specs.BufWriter.{writer_contents, WritesInOrder, FlushesAmount, TakesIn, Prepared, Finished, Writes, WriterKeeps, WriteErrorCaused}
 use Rattle.buffer_redux.specs.WriterLaws.{WritesInOrder-none, WritesInOrder-joins, WritesInOrder-contents, flush_ways, ways_in}
-use Rattle.buffer_redux.specs.WriteAll.{WriteTurns, TookFront, TookBeginning, WritesAll, OneWrite}
+use Rattle.buffer_redux.specs.WriteAll.{LastWriteFailed, WriteTurns, TookFront, TookBeginning, WritesAll, OneWrite}
 use Rattle.buffer_redux.proofs.WriterFacts.{writes_keep, writes_caused, writes_steadily, writes_nothing}
 
 -- what stays in a write: the policy's claims, and the kind of the buffer
@@ -244,8 +245,11 @@ module _ {S P : Type 0} (tells : S → StreamLog) (stretch : S → S → Type 0)
             });
           }
 
-    pub ended_all : length bs ≤ at → WritesAll tells stretch rules s bs (Ok tt) m
-    ended_all long = record {
+    ended : (answer : Result (Unit {0}) Error)
+        → MatchResult answer (λ _. (at ≡ length bs) × (m ≡ m))
+        (λ e. LastWriteFailed rules (drop at bs) e m m ⊎ (GaveUp turns (length bs - at) e × (m ≡ m)))
+        → WritesAll tells stretch rules s bs answer m
+    ended answer is = record {
       turns = turns;
       count = at;
       within = before.within;
@@ -253,20 +257,14 @@ module _ {S P : Type 0} (tells : S → StreamLog) (stretch : S → S → Type 0)
       run = before.run;
       first = before.front;
       front = before.front;
-      ended = (omega (arith, long, before.within), refl);
+      ended = is;
     }
 
+    pub ended_all : length bs ≤ at → WritesAll tells stretch rules s bs (Ok tt) m
+    ended_all long = ended (Ok tt) (omega (arith, long, before.within), refl)
+
     pub ended_late : (e : Error) → GaveUp turns (length bs - at) e → WritesAll tells stretch rules s bs (Err e) m
-    ended_late e late = record {
-      turns = turns;
-      count = at;
-      within = before.within;
-      last = m;
-      run = before.run;
-      first = before.front;
-      front = before.front;
-      ended = inr (late, refl);
-    }
+    ended_late e late = ended (Err e) (inr (late, refl))
 
   -- the first write of some bytes
   module _ (s : Buffered S P) (bs : List ℕ) (answer : Result ℕ Error) (t : Buffered S P) (some : 0 < length bs)

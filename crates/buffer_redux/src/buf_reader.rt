@@ -26,8 +26,8 @@ use std::io::{BufRead, ErrorKind, Read};
 use std::marker::Model;
 use std::{fmt, io};
 
-mod filling;
 mod seek;
+mod steps;
 mod tells;
 
 pub use seek::{SeekPlan, seek_plan};

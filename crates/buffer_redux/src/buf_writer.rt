@@ -26,7 +26,7 @@ use std::io::{ErrorKind, Seek, SeekFrom, Write};
 use std::marker::Model;
 use std::{fmt, io};
 
-mod slowly;
+mod steps;
 mod tells;
 mod unwrapping;
 

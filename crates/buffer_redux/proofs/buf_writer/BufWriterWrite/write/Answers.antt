@@ -45,8 +45,8 @@ returns g c =
     let after : Buffered g.row.W.Denot g.row.P.Denot = record before { block = c.copy_from_slice-copied.new.self } in
     let went : InnerWent g.W.Tell.log g.W.TellWrite.stretch c.args.self.now c.flush_after.new.self = search rules in
     write_says _ _ g.P.WriterPolicy.rules _ _ (Ok n) _ (omega (arith, c.copy_from_slice-copied.ensures.count))
-    c.flush_after.ensures.whole went (rw (← c.self.view_is) (writes_on g.P.WriterPolicy.rules _ before c.args.bytes.now c.in_ok-first.field-0
-    c.in_ok-first.ensures whole refl (Ok n) c.flush_after.new.self (record {
+    c.flush_after.ensures.whole went (rw (← c.self.view_is) (writes_on g.P.WriterPolicy.rules _ before
+    c.args.bytes.now c.in_ok-first.field-0 c.in_ok-first.ensures whole refl (Ok n) c.flush_after.new.self (record {
       before = before;
       after = after;
       flush = flushes_none _ _ (omega (arith, c.if-first-gt0.false, c.in_ok-first.first-is));

@@ -75,8 +75,8 @@ returns-else-usable_space-bytes g c =
       own_calls = c.self.inside.calls.log;
     } in
     let after : Buffered g.row.W.Denot g.row.P.Denot = record before { block = c.copy_from_slice-copied.new.self } in
-    all_says _ _ _ _ _ _ (Ok tt) (all_at_once _ _ g.met.W.TellWrite.stretch_none g.met.W.TellWrite.stretch_joins rules c.args.self.now
-    c.args.bytes.now n c.flush_after.new.self some (omega (arith, c.copy_from_slice-copied.ensures.count, roomy))
+    all_says _ _ _ _ _ _ (Ok tt) (all_at_once _ _ g.met.W.TellWrite.stretch_none g.met.W.TellWrite.stretch_joins rules
+    c.args.self.now c.args.bytes.now n c.flush_after.new.self some (omega (arith, c.copy_from_slice-copied.ensures.count, roomy))
     (rw (← c.self.view_is) (record {
       steps = writes_on rules _ before c.args.bytes.now c.in-Ok.field-0 c.in-Ok.ensures whole refl (Ok n)
           c.flush_after.new.self (record {

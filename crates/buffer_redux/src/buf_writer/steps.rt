@@ -1,4 +1,4 @@
-//! What few writes come to: the steps after the first question of the policy, and further writes of what is left.
+//! The parts of a write behind the first question of the policy, and further writes of what is left.
 ghost use Rattle.std.specs.Prelude.{◌<◌, Err, length};
 ghost use Rattle.std.specs.Io.{WritesAtMost};
 ghost use Rattle.redux_buffer.specs.Block.{IsBlock};
