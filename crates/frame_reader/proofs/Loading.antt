@@ -9,7 +9,7 @@ use Rattle.buffer_redux.specs.BufReader.{RanDry}
 use Rattle.frame_reader.specs.declared.error.FrameError.TheVariants.{Truncated, TooLong, Io}
 use Rattle.frame_reader.specs.Frames.{Fits, header, frame, BeginsWith, IsCutShort}
 use Rattle.frame_reader.specs.Framing.{Framing, IsFraming, rest}
-use Rattle.frame_reader.specs.Next.{FramesWent, IsSettled, Next, empties}
+use Rattle.frame_reader.specs.Next.{AsksGive, FramesWent, IsSettled, Next, empties}
 use Rattle.frame_reader.specs.FramesLaws.{header-same}
 use Rattle.frame_reader.specs.NextLaws.{FramesWent-joins, FramesWent-none}
 
@@ -101,9 +101,19 @@ module _ {S : Type 0} (remaining : S → Option (List ℕ)) (s m u : Framing S)
   empties_m : empties m.reader ≡ empties s.reader
   empties_m = ap (λ l. l.reads.zero_reads) told0
 
+  -- the asks so far, behind those of the frame that was lent
+  asked_u : (n : ℕ) → AsksGive n m.reader u.reader → AsksGive n s.reader u.reader
+  asked_u n asked = omega (
+    arith,
+    asked,
+    ap (λ l. l.reads.asks) told0,
+    ap (λ l. length l.reads.given) told0,
+  )
+
   pub first_fault : (e : Error) → u.reader.log.reads.faults ≡ m.reader.log.reads.faults ++ e ∷ []
-      → length u.reader.block.bytes < 2 → empties u.reader ≡ empties m.reader → Next remaining s (Err (Io e)) u
-  first_fault e fault few none = record {
+      → length u.reader.block.bytes < 2 → empties u.reader ≡ empties m.reader → AsksGive 1 m.reader u.reader
+      → Next remaining s (Err (Io e)) u
+  first_fault e fault few none asked = record {
     went = went_u;
     answers = (
       fault ∙ ap (λ l. l ++ e ∷ []) faults_m,
@@ -111,13 +121,14 @@ module _ {S : Type 0} (remaining : S → Option (List ℕ)) (s m u : Framing S)
     );
     not_asked = settled_u;
     once = omega (arith, none, empties_m);
+    asks = asked_u 1 asked;
     whole = whole1;
   }
 
   pub first_end : u.reader.log.reads.faults ≡ m.reader.log.reads.faults → length u.reader.block.bytes ≡ 0
       → (2 ≤ length u.reader.block.bytes) ⊎ RanDry m.reader u.reader → empties u.reader ≡ empties m.reader + 1
-      → Next remaining s (Ok None) u
-  first_end fault none enough once = record {
+      → AsksGive 1 m.reader u.reader → Next remaining s (Ok None) u
+  first_end fault none enough once asked = record {
     went = went_u;
     answers = (
       rest_whole u lent1 ∙ nil_from_length u.reader.block.bytes none,
@@ -125,14 +136,15 @@ module _ {S : Type 0} (remaining : S → Option (List ℕ)) (s m u : Framing S)
     );
     not_asked = settled_u;
     once = omega (arith, once, empties_m);
+    asks = asked_u 1 asked;
     whole = whole1;
   }
 
   pub first_short : (have : ℕ) → have ≡ length u.reader.block.bytes → 0 < have → have < 2
       → u.reader.log.reads.faults ≡ m.reader.log.reads.faults
       → (2 ≤ length u.reader.block.bytes) ⊎ RanDry m.reader u.reader → empties u.reader ≡ empties m.reader + 1
-      → Next remaining s (Err (Truncated have)) u
-  first_short have is some few fault enough once = record {
+      → AsksGive 1 m.reader u.reader → Next remaining s (Err (Truncated have)) u
+  first_short have is some few fault enough once asked = record {
     went = went_u;
     answers = (
       is ∙ sym (ap length (rest_whole u lent1)),
@@ -141,11 +153,13 @@ module _ {S : Type 0} (remaining : S → Option (List ℕ)) (s m u : Framing S)
     );
     not_asked = settled_u;
     once = omega (arith, once, empties_m);
+    asks = asked_u 1 asked;
     whole = whole1;
   }
 
   module _ (len : ℕ) (begins : BeginsWith len u.reader.block.bytes)
-      (fault1 : u.reader.log.reads.faults ≡ m.reader.log.reads.faults) (none1 : empties u.reader ≡ empties m.reader) where
+      (fault1 : u.reader.log.reads.faults ≡ m.reader.log.reads.faults) (none1 : empties u.reader ≡ empties m.reader)
+      (each1 : AsksGive 0 m.reader u.reader) where
     pub too_long : s.max < len → Next remaining s (Err (TooLong len)) u
     too_long above = record {
       went = went_u;
@@ -156,6 +170,7 @@ module _ {S : Type 0} (remaining : S → Option (List ℕ)) (s m u : Framing S)
       );
       not_asked = settled_u;
       once = omega (arith, none1, empties_m);
+      asks = asked_u 0 each1;
       whole = whole1;
     }
 
@@ -185,6 +200,9 @@ module _ {S : Type 0} (remaining : S → Option (List ℕ)) (s m u : Framing S)
           (record { word = begins.word; more = begins.more; equal = sym same ∙ begins.equal }) settled in
           untouched2 (omega (arith, long, ap length same)) ∙ told
 
+      asked_v : (n : ℕ) → AsksGive n u.reader v.reader → AsksGive n s.reader v.reader
+      asked_v n asked = omega (arith, asked_u 0 each1, asked)
+
       dry_v : RanDry u.reader v.reader → RanDry s.reader v.reader
       dry_v dry = omega (arith, dry, went1.grows.zero_reads, ap (λ l. l.reads.zero_reads) told0)
 
@@ -202,20 +220,22 @@ module _ {S : Type 0} (remaining : S → Option (List ℕ)) (s m u : Framing S)
       pub second_fault : (e : Error)
           → v.reader.log.reads.faults ≡ u.reader.log.reads.faults ++ e ∷ []
           → length v.reader.block.bytes < 2 + len → empties v.reader ≡ empties u.reader
-          → Next remaining s (Err (Io e)) v
-      second_fault e fault few none = record {
+          → AsksGive 1 u.reader v.reader → Next remaining s (Err (Io e)) v
+      second_fault e fault few none asked = record {
         went = went_v;
         answers = (fault ∙ ap (λ l. l ++ e ∷ []) faults_u, inr (stops few));
         not_asked = settled_v;
         once = omega (arith, none, none1, empties_m);
+        asks = asked_v 1 asked;
         whole = whole2;
       }
 
       module _ (fault2 : v.reader.log.reads.faults ≡ u.reader.log.reads.faults) where
         pub second_short : (have : ℕ) → have ≡ length v.reader.block.bytes → have < 2 + len
             → (2 + len ≤ length v.reader.block.bytes) ⊎ RanDry u.reader v.reader
-            → empties v.reader ≡ empties u.reader + 1 → Next remaining s (Err (Truncated have)) v
-        second_short have is few enough once = record {
+            → empties v.reader ≡ empties u.reader + 1 → AsksGive 1 u.reader v.reader
+            → Next remaining s (Err (Truncated have)) v
+        second_short have is few enough once asked = record {
           went = went_v;
           answers = (
             is ∙ sym (ap length (rest_whole v lent2)),
@@ -227,13 +247,14 @@ module _ {S : Type 0} (remaining : S → Option (List ℕ)) (s m u : Framing S)
           );
           not_asked = settled_v;
           once = omega (arith, once, none1, empties_m);
+          asks = asked_v 1 asked;
           whole = whole2;
         }
 
         -- the frame is whole, and is lent
         pub found : 2 + len ≤ length v.reader.block.bytes → empties v.reader ≡ empties u.reader
-            → Next remaining s (Ok (Some (slice_range v.reader.block.bytes 2 (2 + len)))) (record v { lent = 2 + len })
-        found long none =
+            → AsksGive 0 u.reader v.reader → Next remaining s (Ok (Some (slice_range v.reader.block.bytes 2 (2 + len)))) (record v { lent = 2 + len })
+        found long none asked =
             let bytes = v.reader.block.bytes in
             let payload = slice_range bytes 2 (2 + len) in
             let fits_payload : Fits s.max payload = omega (arith, slice_length len bytes long, fits) in
@@ -258,6 +279,7 @@ module _ {S : Type 0} (remaining : S → Option (List ℕ)) (s m u : Framing S)
               answers = (fits_payload, fault2 ∙ faults_u);
               not_asked = settled_v;
               once = omega (arith, none, none1, empties_m);
+              asks = asked_v 0 asked;
               whole = record {
                 word = whole2.word;
                 block = whole2.block;
@@ -278,4 +300,4 @@ next_buffered remaining s m went same none told whole len begins fits long =
     let bytes : rest s ≡ m.reader.block.bytes = sym same ∙ rest_whole m none in
     let still = FramesWent-none remaining m in
     found remaining s m m went same none told still none (λ _. refl) whole len (subst (BeginsWith len) bytes begins) refl refl
-    fits m still none (λ _. refl) whole refl (omega (arith, long, ap length bytes)) refl
+    (omega arith) fits m still none (λ _. refl) whole refl (omega (arith, long, ap length bytes)) refl (omega arith)

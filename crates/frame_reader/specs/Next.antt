@@ -1,5 +1,5 @@
 -- What the calls of a reader of frames promise.
-use Rattle.std.specs.Prelude.{◌≡◌, ℕ, ◌+◌, ◌<◌, ◌⊎◌, List, [], ◌∷◌, ◌++◌, length, Option, None, Some, Result, Ok, Err, Bool, true, false, option_copied}
+use Rattle.std.specs.Prelude.{◌≡◌, ℕ, ◌+◌, ◌<◌, ◌≤◌, ◌⊎◌, List, [], ◌∷◌, ◌++◌, length, Option, None, Some, Result, Ok, Err, Bool, true, false, option_copied}
 use Rattle.std.specs.Borrow.{Bor}
 use Rattle.std.specs.List.{All}
 use Rattle.std.specs.declared.io.Error.{Error}
@@ -83,6 +83,18 @@ ends_met (Err (Truncated have)) = 1
 ends_met (Err (TooLong len)) = 0
 ends_met (Err (Io e)) = 0
 
+-- each ask of the reader since gave a byte, but for so many
+abbrev pub AsksGive : {S P : Type 0} → ℕ → Buffered S P → Buffered S P → Type 0
+AsksGive n s t = t.log.reads.asks + length s.log.reads.given ≤ s.log.reads.asks + length t.log.reads.given + n
+
+-- how many gave none in one call: the last, where the stream ended or failed
+abbrev pub asks_in_vain : NextAnswer → ℕ
+asks_in_vain (Ok (Some payload)) = 0
+asks_in_vain (Ok None) = 1
+asks_in_vain (Err (Truncated have)) = 1
+asks_in_vain (Err (TooLong len)) = 0
+asks_in_vain (Err (Io e)) = 1
+
 -- what one call of `next` does. Once the reader gave nothing, it isn't asked again
 pub record Next {S : Type 0} (remaining : S → Option (List ℕ)) (s : Framing S)
     (answer : NextAnswer) (t : Framing S) : Type 0 where
@@ -90,6 +102,7 @@ pub record Next {S : Type 0} (remaining : S → Option (List ℕ)) (s : Framing 
   pub answers : NextAnswers s answer t
   pub not_asked : IsSettled s.max (rest s) → t.reader.log ≡ s.reader.log
   pub once : empties t.reader ≡ empties s.reader + ends_met answer
+  pub asks : AsksGive (asks_in_vain answer) s.reader t.reader
   pub whole : IsFraming t
 
 -- what is lent once the next frame stands at the front

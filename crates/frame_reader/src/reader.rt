@@ -8,7 +8,7 @@ ghost use Rattle.buffer_redux.specs.MakeError.{growth};
 ghost use Rattle.frame_reader.specs.contracts.reader.FrameReader.{the_row};
 ghost use Rattle.frame_reader.specs.Frames.{BeginsWith, frame};
 ghost use Rattle.frame_reader.specs.Framing.{IsFraming, IsFresh, frame_capacity, lent_payload, rest, most};
-ghost use Rattle.frame_reader.specs.Next.{FramesWent, NoFault, Next, answer_of, empties, load_answer};
+ghost use Rattle.frame_reader.specs.Next.{AsksGive, FramesWent, NoFault, Next, answer_of, empties, load_answer};
 
 use crate::error::FrameError;
 use crate::frame::{HEADER, frame_buffer, length_of};
@@ -232,6 +232,9 @@ impl<R: TellRead> FrameReader<R> {
         ensures once { OnOk result (length self.new.reader.block.bytes < min
             → empties self.new.reader ≡ empties self.old.reader + 1) }
         ensures no_end { OnErr result (empties self.new.reader ≡ empties self.old.reader) }
+        ensures asks { AsksGive 1 self.old.reader self.new.reader }
+        ensures each { OnOk result (min ≤ length self.new.reader.block.bytes
+            → AsksGive 0 self.old.reader self.new.reader) }
         ensures whole { IsFraming self.new }
     {
         self.reader.policy_mut().set_min(min);

@@ -1,7 +1,7 @@
-use Rattle.std.proofs.Common.{◌≡◌, ◌+◌, ap, ◌∙◌, arith}
+use Rattle.std.proofs.Common.{◌≡◌, ◌+◌, length, ap, ◌∙◌, arith}
 use Rattle.std.proofs.lemmas.Result.{err_from_is_err_and}
 use Rattle.frame_reader.specs.Next.{empties}
-use Rattle.frame_reader.proofs.Ending.{none_before_fault, none_where_enough, once_at_end}
+use Rattle.frame_reader.proofs.Ending.{asked_at_most, asked_before_fault, each_gave, none_before_fault, none_where_enough, once_at_end}
 use Rattle.frame_reader.proofs.reader.FrameReader.fill_to.Goals as goal
 
 pub returns-in_err-fill_buf-clause-no_end : goal.returns-in_err-fill_buf-clause-no_end
@@ -21,3 +21,22 @@ returns-clause-once g c few =
     let f = rw c.in_ok-fill_buf.was at c.fill_buf.follows.holds-at-none in
     let number : c.set_min.new.self.0 ≡ c.args.min = ap (λ p. p.0) c.set_min.ensures.number in
     once_at_end _ _ _ f.fills (omega (arith, few, number)) ∙ ap (λ x. empties x.reader + 1) c.self.view_is
+
+pub returns-in_err-fill_buf-clause-asks : goal.returns-in_err-fill_buf-clause-asks
+returns-in_err-fill_buf-clause-asks g c =
+    let f = rw c.in_err-fill_buf.was at c.fill_buf.follows.holds-at-none in
+    let asked = asked_before_fault _ _ _ f.fills in
+    omega (arith, asked, ap (λ x. x.reader.log.reads.asks) c.self.view_is, ap (λ x. length x.reader.log.reads.given) c.self.view_is)
+
+pub returns-clause-asks : goal.returns-clause-asks
+returns-clause-asks g c =
+    let f = rw c.in_ok-fill_buf.was at c.fill_buf.follows.holds-at-none in
+    let asked = asked_at_most _ _ _ f.fills in
+    omega (arith, asked, ap (λ x. x.reader.log.reads.asks) c.self.view_is, ap (λ x. length x.reader.log.reads.given) c.self.view_is)
+
+pub returns-clause-each : goal.returns-clause-each
+returns-clause-each g c many =
+    let f = rw c.in_ok-fill_buf.was at c.fill_buf.follows.holds-at-none in
+    let number : c.set_min.new.self.0 ≡ c.args.min = ap (λ p. p.0) c.set_min.ensures.number in
+    let asked = each_gave _ _ _ f.fills (omega (arith, many, number)) in
+    omega (arith, asked, ap (λ x. x.reader.log.reads.asks) c.self.view_is, ap (λ x. length x.reader.log.reads.given) c.self.view_is)
