@@ -1,6 +1,4 @@
-pub mod FirstLine
 pub mod Faring
-pub mod PackEnd
 pub mod Packing
 pub mod PackingAll
 pub mod PackRuns

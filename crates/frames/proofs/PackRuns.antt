@@ -1,154 +1,199 @@
 -- What a whole run of `pack` comes to.
-use Rattle.std.proofs.Common.{◌≡◌, ℕ, inl, inr, List, [], ◌++◌, true, false, Result, Ok, Err, refl, sym, ap, subst, ◌∙◌, append-nil}
+use Rattle.std.proofs.Common.{◌≡◌, ℕ, ◌^◌, ◌<◌, inl, inr, List, [], ◌++◌, true, false, Option, Result, Ok, Err, refl, sym, ap, subst, ◌∙◌, arith, append-nil, append_assoc}
 use Rattle.std.proofs.lemmas.Bool.{true≢false, false≢true}
 use Rattle.std.proofs.lemmas.List.Elements.{All-nil}
 use Rattle.std.specs.IoError.{error_kind}
 use Rattle.std.specs.declared.io.Error.{Error}
 use Rattle.std.specs.declared.io.ErrorKind.TheVariants.{OutOfMemory}
-use Rattle.buffer_redux.specs.Buffered.{Buffered}
 use Rattle.buffer_redux.specs.Faults.{MetInterrupts, OnlyInterrupts-none, SendErrorCaused}
-use Rattle.buffer_redux.specs.ReaderLaws.{ReadsInOrder-fresh}
+use Rattle.buffer_redux.specs.GrowError.{FitsWithin, kind_of}
 use Rattle.buffer_redux.specs.StreamLog.{StreamLog}
 use Rattle.buffer_redux.specs.WriterLaws.{WritesInOrder-fresh}
-use Rattle.buffer_redux.specs.declared.policy.MinBuffered.{MinBuffered}
+use Rattle.redux_buffer.specs.declared.grow_error.GrowError.{GrowError}
+use Rattle.redux_buffer.specs.declared.grow_error.GrowError.TheVariants.{TooLarge, Memory}
 use Rattle.frame_reader.specs.Frames.{Fits, frames}
 use Rattle.frame_reader.specs.Outgoing.{Outgoing, unsent}
 use Rattle.frame_reader.specs.WriteFrame.{FramesTaken}
 use Rattle.frame_reader.specs.WriteFrameLaws.{FramesTaken-joins}
+use Rattle.line_reader.specs.Lines.{IsLine, with_ends}
+use Rattle.line_reader.specs.Lining.{Lining, rest, room_for}
+use Rattle.line_reader.specs.LinesWentLaws.{drop_none}
 use Rattle.frames.specs.declared.error.RunError.{RunError}
 use Rattle.frames.specs.declared.error.RunError.TheVariants.{TooLong, Truncated, Io}
 use Rattle.frames.specs.Ending.{faulted}
-use Rattle.frames.specs.Lines.{IsLine, ended}
-use Rattle.frames.specs.Pack.{Packs, NoneFailed, PacksSome, PacksToLong, PacksAll, PacksAndFlushes, AllSent, PackRan}
+use Rattle.frames.specs.Pack.{NoneFailed, Packs, PacksAll, PacksAndFlushes, AllSent, PackRan}
 use Rattle.frames.specs.Streams.{Stopped}
 use Rattle.frames.proofs.Faring.{MetNoFault-joins, EitherFailed-after}
 use Rattle.frames.proofs.PackingAll.{all_ended}
 
-module _ {R W : Type 0} (stretch : W → W → Type 0) (joins : (a b c : W) → stretch a b → stretch b c → stretch a c)
-    (s t : Buffered R MinBuffered) (u w v : Outgoing W) (sent : FramesTaken stretch w [] v) where
-  then_sent : (text : List ℕ) (lines : List (List ℕ)) → Packs stretch s u text lines t w
-      → Packs stretch s u text lines t v
-  then_sent text lines p = record {
-    handed = p.handed;
-    grows = p.grows;
+module _ {R W : Type 0} (remaining : R → Option (List ℕ)) (stretch : W → W → Type 0)
+    (joins : (a b c : W) → stretch a b → stretch b c → stretch a c)
+    (s t : Lining R) (u w v : Outgoing W) (sent : FramesTaken stretch w [] v) where
+  then_sent : (bytes : List ℕ) (lines : List (List ℕ)) → Packs remaining stretch s u bytes lines t w
+      → Packs remaining stretch s u bytes lines t v
+  then_sent bytes lines p = record {
+    went = p.went;
     taken = subst (λ ls. FramesTaken stretch u ls v) (append-nil lines)
         (FramesTaken-joins stretch joins u w v lines [] p.taken sent);
-    source = p.source;
   }
 
-  some_sent : PacksSome stretch s u t w → PacksSome stretch s u t v
-  some_sent p = record { text = p.text; lines = p.lines; has = p.has; went = then_sent p.text p.lines p.went }
-
-  long_sent : PacksToLong stretch s u t w → PacksToLong stretch s u t v
-  long_sent p = record { lines = p.lines; plain = p.plain; went = then_sent (ended p.lines) p.lines p.went; long = p.long }
-
   met_too : NoneFailed s u t w → MetInterrupts w.writer.log.writes v.writer.log.writes → NoneFailed s u t v
-  met_too met more = MetNoFault-joins s.log t.log t.log u.writer.log w.writer.log v.writer.log met
-      (record { reader = OnlyInterrupts-none t.log.reads.faults; writer = more })
+  met_too met more = MetNoFault-joins s.reader.log t.reader.log t.reader.log u.writer.log w.writer.log v.writer.log met
+      (record { reader = OnlyInterrupts-none t.reader.log.reads.faults; writer = more })
 
   -- the flush after the lines succeeds
   pub flushed_after : (answer : Result (Unit {0}) RunError) → faulted answer ≡ false
-      → PacksAll stretch s u answer t w → AllSent v → MetInterrupts w.writer.log.writes v.writer.log.writes
-      → PacksAndFlushes stretch s u answer t v
-  flushed_after (Ok _) other p all more = (some_sent p.0, p.1, met_too p.2 more, all)
-  flushed_after (Err TooLong) other p all more = (long_sent p.0, met_too p.1 more, all)
-  flushed_after (Err Truncated) other p all more = p
+      → PacksAll remaining stretch s u answer t w → AllSent remaining stretch s u v
+      → MetInterrupts w.writer.log.writes v.writer.log.writes → PacksAndFlushes remaining stretch s u answer t v
+  flushed_after (Ok _) other p all more = (
+    record {
+      text = p.text;
+      lines = p.lines;
+      has = p.has;
+      went = then_sent p.text p.lines p.went;
+      left = p.left;
+      end = p.end;
+      met = met_too p.met more;
+    },
+    all,
+  )
+  flushed_after (Err TooLong) other p all more = (
+    record {
+      lines = p.lines;
+      plain = p.plain;
+      went = then_sent (with_ends p.lines) p.lines p.went;
+      long = p.long;
+      met = met_too p.met more;
+    },
+    all,
+  )
+  flushed_after (Err Truncated) other p all more = absurd p
   flushed_after (Err (Io e)) other p all more = absurd (true≢false other)
 
   fails_after : NoneFailed s u t w → (e : Error) → SendErrorCaused w.writer.log.writes v.writer.log.writes e → (count : ℕ)
-      → Stopped e count s.log t.log u.writer.log v.writer.log
-  fails_after met e caused count = inl (EitherFailed-after e s.log t.log t.log u.writer.log w.writer.log v.writer.log met
-      (inr (record { reader = OnlyInterrupts-none t.log.reads.faults; writer = caused })))
+      → Stopped e count s.reader.log t.reader.log u.writer.log v.writer.log
+  fails_after met e caused count = inl (EitherFailed-after e s.reader.log t.reader.log t.reader.log u.writer.log
+      w.writer.log v.writer.log met
+      (inr (record { reader = OnlyInterrupts-none t.reader.log.reads.faults; writer = caused })))
 
   -- or fails
   pub flush_failed_after : (answer : Result (Unit {0}) RunError) → faulted answer ≡ false
-      → PacksAll stretch s u answer t w → (e : Error)
-      → SendErrorCaused w.writer.log.writes v.writer.log.writes e → PacksAndFlushes stretch s u (Err (Io e)) t v
-  flush_failed_after (Ok _) other p e caused = (some_sent p.0, inr p.1, fails_after p.2 e caused _)
-  flush_failed_after (Err TooLong) other p e caused =
-      let long = long_sent p.0 in (
-        record { text = ended long.lines; lines = long.lines; has = all_ended long.lines long.plain; went = long.went },
-        inl refl,
-        fails_after p.1 e caused _,
-      )
+      → PacksAll remaining stretch s u answer t w → (e : Error)
+      → SendErrorCaused w.writer.log.writes v.writer.log.writes e
+      → PacksAndFlushes remaining stretch s u (Err (Io e)) t v
+  flush_failed_after (Ok _) other p e caused = (
+    record {
+      bytes = p.text;
+      lines = p.lines;
+      lost = [];
+      has = p.has;
+      went = subst (λ l. Packs remaining stretch s u l p.lines t v) (sym (append-nil p.text))
+          (then_sent p.text p.lines p.went);
+    },
+    inr (p.left, p.end),
+    fails_after p.met e caused _,
+  )
+  flush_failed_after (Err TooLong) other p e caused = (
+    record {
+      bytes = with_ends p.lines;
+      lines = p.lines;
+      lost = [];
+      has = all_ended p.lines p.plain;
+      went = subst (λ l. Packs remaining stretch s u l p.lines t v) (sym (append-nil (with_ends p.lines)))
+          (then_sent (with_ends p.lines) p.lines p.went);
+    },
+    inl refl,
+    fails_after p.met e caused _,
+  )
   flush_failed_after (Err Truncated) other p e caused = absurd p
   flush_failed_after (Err (Io e')) other p e caused = absurd (true≢false other)
 
 -- after a fault no flush is made
-pub kept : {R W : Type 0} (stretch : W → W → Type 0) (s t : Buffered R MinBuffered) (u v : Outgoing W)
-    → (answer : Result (Unit {0}) RunError) → faulted answer ≡ true → PacksAll stretch s u answer t v
-    → PacksAndFlushes stretch s u answer t v
-kept stretch s t u v (Ok _) other p = absurd (false≢true other)
-kept stretch s t u v (Err TooLong) other p = absurd (false≢true other)
-kept stretch s t u v (Err Truncated) other p = absurd (false≢true other)
-kept stretch s t u v (Err (Io e)) other p = (p.0, inl p.1, p.2)
+pub kept : {R W : Type 0} (remaining : R → Option (List ℕ)) (stretch : W → W → Type 0) (s t : Lining R) (u v : Outgoing W)
+    → (answer : Result (Unit {0}) RunError) → faulted answer ≡ true → PacksAll remaining stretch s u answer t v
+    → PacksAndFlushes remaining stretch s u answer t v
+kept remaining stretch s t u v (Ok _) other p = absurd (false≢true other)
+kept remaining stretch s t u v (Err TooLong) other p = absurd (false≢true other)
+kept remaining stretch s t u v (Err Truncated) other p = absurd p
+kept remaining stretch s t u v (Err (Io e)) other p = p
 
 -- from empty buffers on
-module _ {R W : Type 0} (stretch : W → W → Type 0) (s t : Buffered R MinBuffered) (u v : Outgoing W)
-    (none : s.block.bytes ≡ []) (none' : unsent u ≡ []) where
-  given : (text : List ℕ) (lines : List (List ℕ)) → Packs stretch s u text lines t v
-      → t.log.reads.given ≡ s.log.reads.given ++ (text ++ t.block.bytes)
-  given text lines p = ReadsInOrder-fresh s t text none p.handed
+module _ {R W : Type 0} (remaining : R → Option (List ℕ)) (stretch : W → W → Type 0) (s t : Lining R) (u v : Outgoing W)
+    (none : s.reader.block.bytes ≡ []) (none' : unsent u ≡ []) where
+  given : (bytes : List ℕ) (lines : List (List ℕ)) → Packs remaining stretch s u bytes lines t v
+      → t.reader.log.reads.given ≡ s.reader.log.reads.given ++ (bytes ++ rest t)
+  given bytes lines p =
+      let hands = p.went.hands in
+      hands.given
+      ∙ ap (λ l. s.reader.log.reads.given ++ l)
+      (sym (hands.equal ∙ ap (λ l. l ++ hands.got) (drop_none s.handed s.reader.block.bytes none)))
 
-  received : (text : List ℕ) (lines : List (List ℕ)) → Packs stretch s u text lines t v
+  received : (bytes : List ℕ) (lines : List (List ℕ)) → Packs remaining stretch s u bytes lines t v
       → v.writer.log.writes.received ++ unsent v ≡ u.writer.log.writes.received ++ frames lines
-  received text lines p = WritesInOrder-fresh u.writer v.writer (frames lines) none' p.taken.in_order
+  received bytes lines p = WritesInOrder-fresh u.writer v.writer (frames lines) none' p.taken.in_order
 
-  all_received : (text : List ℕ) (lines : List (List ℕ)) → Packs stretch s u text lines t v → unsent v ≡ []
+  all_received : (bytes : List ℕ) (lines : List (List ℕ)) → Packs remaining stretch s u bytes lines t v → unsent v ≡ []
       → v.writer.log.writes.received ≡ u.writer.log.writes.received ++ frames lines
-  all_received text lines p empty =
+  all_received bytes lines p empty =
       sym (append-nil v.writer.log.writes.received) ∙ ap (λ l. v.writer.log.writes.received ++ l) (sym empty)
-      ∙ received text lines p
+      ∙ received bytes lines p
 
-  pub pack_ran : (answer : Result (Unit {0}) RunError) → PacksAndFlushes stretch s u answer t v
-      → PackRan u.max s.log t.log u.writer.log v.writer.log answer
-  pack_ran (Ok _) p =
-      let some = p.0 in (
+  pub pack_ran : s.max ≡ u.max → (answer : Result (Unit {0}) RunError) → PacksAndFlushes remaining stretch s u answer t v
+      → PackRan u.max s.reader.log t.reader.log u.writer.log v.writer.log answer
+  pack_ran most (Ok _) p =
+      let text = p.0 in (
         record {
-          text = some.text;
-          lines = some.lines;
-          has = some.has;
-          fit = some.went.taken.fit;
-          given = given some.text some.lines some.went
-              ∙ ap (λ l. s.log.reads.given ++ (some.text ++ l)) p.1.left
-              ∙ ap (λ l. s.log.reads.given ++ l) (append-nil some.text);
-          ended = p.1.dry;
-          received = all_received some.text some.lines some.went p.3.empty;
-          flushed = p.3.flushed;
+          text = text.text;
+          lines = text.lines;
+          has = text.has;
+          fit = text.went.taken.fit;
+          given = given text.text text.lines text.went
+              ∙ ap (λ l. s.reader.log.reads.given ++ (text.text ++ l)) text.left
+              ∙ ap (λ l. s.reader.log.reads.given ++ l) (append-nil text.text);
+          ended = omega (arith, text.end);
+          received = all_received text.text text.lines text.went p.1.0;
+          flushed = p.1.1;
         },
-        p.2,
+        text.met,
       )
-  pack_ran (Err TooLong) p =
+  pack_ran most (Err TooLong) p =
       let long = p.0 in (
         record {
           lines = long.lines;
-          more = t.block.bytes;
+          more = rest t;
           plain = long.plain;
           fit = long.went.taken.fit;
-          long = long.long;
-          given = given (ended long.lines) long.lines long.went;
-          received = all_received (ended long.lines) long.lines long.went p.2.empty;
-          flushed = p.2.flushed;
+          long = subst (λ n. Rattle.line_reader.specs.Lines.BeginsTooLong n (rest t)) most long.long;
+          given = given (with_ends long.lines) long.lines long.went;
+          received = all_received (with_ends long.lines) long.lines long.went p.1.0;
+          flushed = p.1.1;
         },
-        p.1,
+        long.met,
       )
-  pack_ran (Err Truncated) p = p
-  pack_ran (Err (Io e)) p =
-      let some = p.0 in
+  pack_ran most (Err Truncated) p = absurd p.0
+  pack_ran most (Err (Io e)) p =
+      let first = p.0 in
       record {
-        lines = some.lines;
+        lines = first.lines;
         beginning = record {
-          text = some.text;
-          more = t.block.bytes;
+          text = first.bytes;
+          more = first.lost ++ rest t;
           unsent = unsent v;
-          has = some.has;
-          fit = some.went.taken.fit;
-          whole = elim p.1 [ inl none_cut ↦ inl none_cut | inr end ↦ inr (end.left, end.dry) ];
-          given = given some.text some.lines some.went;
-          received = received some.text some.lines some.went;
+          has = first.has;
+          fit = first.went.taken.fit;
+          whole = elim p.1 [ inl none_cut ↦ inl none_cut | inr end ↦ inr (end.0, omega (arith, end.1)) ];
+          given = given (first.bytes ++ first.lost) first.lines first.went
+              ∙ ap (λ l. s.reader.log.reads.given ++ l) (append_assoc first.bytes first.lost (rest t));
+          received = received (first.bytes ++ first.lost) first.lines first.went;
         };
         caused = inl p.2;
       }
+
+-- a buffer for lines this short is refused for want of memory alone
+pub only_memory : (most : ℕ) (refusal : GrowError) → most < 2 ^ 16
+    → FitsWithin {T = Unit {0}} (Err refusal) (room_for 8192 most) (2 ^ 62) → kind_of refusal ≡ OutOfMemory
+only_memory most Memory small within = refl
+only_memory most TooLarge small within = absurd (omega (arith, small, within))
 
 -- a buffer was refused
 pub pack_refused : (most : ℕ) (read written : StreamLog) (e : Error) → error_kind e ≡ OutOfMemory

@@ -1,194 +1,276 @@
 -- What the steps of `pack` come to.
-use Rattle.std.proofs.Common.{◌≡◌, ℕ, ◌+◌, ◌<◌, ◌≤◌, inl, inr, Bool, true, false, List, [], ◌∷◌, ◌++◌, length, take, drop, ltb, min, Ok, Err, refl, sym, ap, subst, ◌∙◌, arith, append-nil, append_assoc, length-append, length-drop}
-use Rattle.std.proofs.Math.Seq.{take-append_seam, take-length}
-use Rattle.std.proofs.lemmas.Bool.{lt-ltb, le-ltb, true≢false}
-use Rattle.std.proofs.lemmas.List.{nil_from_length}
-use Rattle.std.proofs.lemmas.List.Elements.{All-nil}
+use Rattle.std.proofs.Common.{◌≡◌, ℕ, ◌+◌, ◌<◌, ◌≤◌, inl, inr, Bool, true, false, List, [], ◌∷◌, ◌++◌, length, MatchBool, Option, None, Some, Result, Ok, Err, refl, sym, ap, subst, ◌∙◌, arith, append-nil, length-append}
+use Rattle.std.proofs.Math.Seq.{take-append_seam}
+use Rattle.std.proofs.lemmas.Bool.{true≢false, false≢true}
+use Rattle.std.proofs.lemmas.List.Elements.{All-nil, All-cons, All-take}
 use Rattle.std.specs.declared.io.Error.{Error}
-use Rattle.buffer_redux.specs.BufReader.{ReadsInOrder}
-use Rattle.buffer_redux.specs.Buffered.{Buffered}
-use Rattle.buffer_redux.specs.Faults.{OnlyInterrupts}
-use Rattle.buffer_redux.specs.LogGrows.{ReadLogGrows, ReadLogGrows-none, ReadLogGrows-joins}
-use Rattle.buffer_redux.specs.ReaderLaws.{ReadsInOrder-none, ReadsInOrder-joins}
-use Rattle.buffer_redux.specs.declared.policy.MinBuffered.{MinBuffered}
+use Rattle.buffer_redux.specs.Faults.{IsInterrupt, OnlyInterrupts, OnlyInterrupts-joins}
 use Rattle.frame_reader.specs.Outgoing.{Outgoing}
 use Rattle.frame_reader.specs.WriteFrame.{WritesFrame}
-use Rattle.frame_reader.specs.WriteFrameLaws.{FramesTaken-none, FramesTaken-joins}
+use Rattle.frame_reader.specs.WriteFrameLaws.{FramesTaken-none}
 use Rattle.frame_reader.specs.declared.error.WriteFrameError.{WriteFrameError}
 use Rattle.frame_reader.specs.declared.error.WriteFrameError.TheVariants as Unwritten
-use Rattle.frames.specs.declared.error.RunError.TheVariants.{Io}
-use Rattle.frames.specs.Lines.{newline, IsFirstLine, last_line, BeginsLong}
-use Rattle.frames.specs.Pack.{IsLineSource, IsReady, Packs, NoneFailed, PacksNext, of_write_error}
-use Rattle.frames.specs.Streams.{ReadGaveUp}
-use Rattle.frames.proofs.Faring.{MetInterrupts-none}
-use Rattle.frames.proofs.FirstLine.{shorter_ends}
+use Rattle.line_reader.specs.Lines.{newline, IsLine, HasLines, last_line, with_end}
+use Rattle.line_reader.specs.Lining.{Lining, rest}
+use Rattle.line_reader.specs.LinesWentLaws.{LinesWent-joins}
+use Rattle.line_reader.specs.NextLine.{LinesWent, NextLine, NextAnswer, NoEnd, NoFault, Faulted}
+use Rattle.line_reader.specs.declared.error.LineError.{LineError}
+use Rattle.line_reader.specs.declared.error.LineError.TheVariants as NoLine
+use Rattle.frames.specs.declared.error.RunError.{RunError}
+use Rattle.frames.specs.declared.error.RunError.TheVariants.{TooLong, Truncated, Io}
+use Rattle.frames.specs.declared.tries.Step.TheVariants.{End, ReadFailed}
+use Rattle.frames.specs.Pack.{MayAsk, NoneFailed, EndedOnce, EndsOnce, KnowsEnd, Packs, PacksNext, PacksOnce, ReadStopped, of_write_error}
+use Rattle.frames.proofs.Faring.{only_same, one_more, gave_up, MetInterrupts-none, EitherFailed-after}
 
--- a line with its end at the front of bytes
-front_line : (line more bytes : List ℕ) → bytes ≡ line ++ newline ∷ more
-    → take (length line + 1) bytes ≡ line ++ newline ∷ []
-front_line line more bytes is =
-    let split : bytes ≡ (line ++ newline ∷ []) ++ more = is ∙ sym (append_assoc line (newline ∷ []) more) in
-    let size : length line + 1 ≡ length (line ++ newline ∷ []) = sym (length-append line (newline ∷ [])) in
-    ap (λ n. take n bytes) size ∙ ap (λ l. take (length (line ++ newline ∷ [])) l) split
-    ∙ take-append_seam (line ++ newline ∷ []) more
+-- an end that no call has told is told next
+abbrev told_end : NextAnswer
+told_end = Ok None
 
-last_line_some : (last : List ℕ) → 0 < length last → last_line last ≡ last ∷ []
+abbrev failed : LineError → NextAnswer
+failed e = Err e
+
+abbrev found : List ℕ → NextAnswer
+found line = Ok (Some line)
+
+open_err : (ended : Bool) (e : LineError) → (ended ≡ true → failed e ≡ told_end) → ended ≡ false
+open_err true e told = (let odd : failed e ≡ told_end = told refl in cc)
+open_err false e told = refl
+
+open_line : (ended : Bool) (line : List ℕ) → (ended ≡ true → found line ≡ told_end) → ended ≡ false
+open_line true line told = (let odd : found line ≡ told_end = told refl in cc)
+open_line false line told = refl
+
+-- how the end was met, by whether the stream had ended
+pub met_open : (A B : Type 0) (ended : Bool) → ended ≡ false → MatchBool ended A B → B
+met_open A B true is met = absurd (true≢false is)
+met_open A B false is met = met
+
+pub met_ended : (A B : Type 0) (ended : Bool) → ended ≡ true → MatchBool ended A B → A
+met_ended A B true is met = met
+met_ended A B false is met = absurd (false≢true is)
+
+match_after : (A B C D : Type 0) (b c : Bool) → b ≡ c → (A → C) → (B → D) → MatchBool b A B → MatchBool c C D
+match_after A B C D true true is f g met = f met
+match_after A B C D true false is f g met = absurd (true≢false is)
+match_after A B C D false true is f g met = absurd (false≢true is)
+match_after A B C D false false is f g met = g met
+
+last_line_some : (last : List ℕ) → 0 < length last → last ∷ [] ≡ last_line last
 last_line_some [] some = absurd (omega (arith, some))
 last_line_some (byte ∷ more) some = refl
 
--- a line that is at the front of bytes and too long
-begins_long : (most : ℕ) (bytes line : List ℕ) → IsFirstLine bytes line → most < length line → BeginsLong most bytes
-begins_long most bytes line (plain, inl same) long = record {
-  front = line;
-  more = [];
-  equal = same ∙ sym (append-nil line);
-  line = plain;
-  long = long;
-}
-begins_long most bytes line (plain, inr (more, same)) long = record {
-  front = line;
-  more = newline ∷ more;
-  equal = same;
-  line = plain;
-  long = long;
-}
+-- one call: the reader answered
+module _ {R W : Type 0} (remaining : R → Option (List ℕ)) (stretch : W → W → Type 0) (none : (x : W) → stretch x x)
+    (s t : Lining R) (u : Outgoing W) where
+  only : NoFault s t → OnlyInterrupts s.reader.log.reads.faults t.reader.log.reads.faults
+  only no_fault = only_same s.reader.log.reads.faults t.reader.log.reads.faults no_fault
 
-module _ {R W : Type 0} (stretch : W → W → Type 0) (none : (x : W) → stretch x x)
-    (joins : (a b c : W) → stretch a b → stretch b c → stretch a c) where
-  pub Packs-none : (s : Buffered R MinBuffered) (u : Outgoing W) → IsLineSource u.max s → Packs stretch s u [] [] s u
-  Packs-none s u source = record {
-    handed = ReadsInOrder-none s;
-    grows = ReadLogGrows-none s.log.reads;
-    taken = FramesTaken-none stretch none u;
-    source = source;
+  silent : NoFault s t → NoneFailed s u t u
+  silent no_fault = record { reader = only no_fault; writer = MetInterrupts-none u.writer.log.writes }
+
+  nothing : (bytes : List ℕ) → bytes ≡ [] → LinesWent remaining s bytes t → Packs remaining stretch s u [] [] t u
+  nothing bytes is went =
+      record { went = subst (λ b. LinesWent remaining s b t) is went; taken = FramesTaken-none stretch none u }
+
+  -- the stream is asked only where it may be
+  pub not_asked : (answer : NextAnswer) → NextLine remaining s answer t → ¬ (MayAsk s) → t.reader.log ≡ s.reader.log
+  not_asked answer next isnt = elim next.asked [
+    | inl same ↦ same
+    | inr over ↦ absurd (isnt (record {
+      part = record {
+        fits = omega (arith, over.such.fits, length-append (rest s) over.came);
+        plain = subst IsLine (take-append_seam (rest s) over.came)
+            (All-take (λ byte. ¬ (byte ≡ newline)) (length (rest s)) (rest s ++ over.came) over.such.plain);
+      };
+      going = over.not_ended;
+    }))
+  ]
+
+  pub no_more : NextLine remaining s (Ok None) t → PacksOnce remaining stretch s u (Ok End) t u
+  no_more next =
+      (nothing next.bytes next.answers.0 next.went, silent next.answers.2, next.answers.1, next.answers.4)
+
+  pub begins_long : (n : ℕ) → NextLine remaining s (Err (NoLine.TooLong n)) t
+      → PacksOnce remaining stretch s u (Err TooLong) t u
+  begins_long n next = (
+    nothing next.bytes next.answers.0 next.went,
+    silent next.answers.3,
+    next.answers.2,
+    open_err s.ended (NoLine.TooLong n) next.told,
+    next.answers.5,
+  )
+
+  pub read_stopped : (e : Error) → NextLine remaining s (Err (NoLine.Io e)) t
+      → PacksOnce remaining stretch s u (Ok (ReadFailed e)) t u
+  read_stopped e next = record {
+    went = subst (λ b. LinesWent remaining s b t) next.answers.0 next.went;
+    fault = next.answers.2;
+    few = next.answers.1.fits;
+    going = open_err s.ended (NoLine.Io e) next.told;
+    still = next.answers.3;
+    none = next.answers.4;
+    same = refl;
   }
 
-  pub Packs-joins : (s m t : Buffered R MinBuffered) (u w v : Outgoing W) (a b : List ℕ) (ps qs : List (List ℕ))
-      → Packs stretch s u a ps m w → Packs stretch m w b qs t v → Packs stretch s u (a ++ b) (ps ++ qs) t v
-  Packs-joins s m t u w v a b ps qs p q = record {
-    handed = ReadsInOrder-joins s m t a b p.handed q.handed;
-    grows = ReadLogGrows-joins s.log.reads m.log.reads t.log.reads p.grows q.grows;
-    taken = FramesTaken-joins stretch joins u w v ps qs p.taken q.taken;
-    source = subst (λ n. IsLineSource n t) p.taken.max q.source;
-  }
+  module _ (line : List ℕ) (next : NextLine remaining s (Ok (Some line)) t) (v : Outgoing W) where
+    going : s.ended ≡ false
+    going = open_line s.ended line next.told
 
-  -- one call: the buffer is filled
-  module _ (s m : Buffered R MinBuffered) (u : Outgoing W) (source : IsLineSource u.max s)
-      (handed : ReadsInOrder s [] m) (grows : ReadLogGrows s.log.reads m.log.reads)
-      (policy : m.policy ≡ s.policy) (capacity : s.block.capacity ≤ m.block.capacity) where
-    filled_source : IsLineSource u.max m
-    filled_source = record {
-      ahead = ap (λ p. p.0) policy ∙ source.ahead;
-      capacity = omega (arith, source.capacity, capacity);
-    }
+    once : EndsOnce s.reader.log.reads t.reader.log.reads
+    once = elim next.answers.3 [
+      | inl ended ↦ omega (arith, ended.2)
+      | inr last ↦ omega (arith, met_open (NoEnd s t) (EndedOnce s t) s.ended going last.4)
+    ]
 
-    pub filled : Packs stretch s u [] [] m u
-    filled = record {
-      handed = handed;
-      grows = grows;
-      taken = FramesTaken-none stretch none u;
-      source = filled_source;
-    }
+    pub not_written : s.max ≡ u.max → (e : WriteFrameError) → WritesFrame stretch u line (Err e) v
+        → PacksNext remaining stretch s u (Err (of_write_error e)) t v
+    not_written most (Unwritten.TooLong len) wrote =
+        absurd (omega (arith, next.answers.1, wrote.answers.0, wrote.answers.1, most))
+    not_written most (Unwritten.Io e) wrote = (
+      next.bytes,
+      record { went = next.went; taken = wrote.went },
+      inr (record { reader = only next.answers.2; writer = wrote.answers.1 }),
+      going,
+      once,
+    )
 
-    pub fill_failed : (e : Error) → ReadGaveUp e s.log.reads.faults m.log.reads.faults
-        → PacksNext stretch s u (Err (Io e)) m u
-    fill_failed e fault = (filled, inl (record { reader = fault; writer = MetInterrupts-none u.writer.log.writes }))
-
-    module _ (no_fault : OnlyInterrupts s.log.reads.faults m.log.reads.faults) where
-      pub no_line : length m.block.bytes ≡ 0 → PacksNext stretch s u (Ok false) m u
-      no_line empty = record {
-        last = [];
-        plain = All-nil (λ byte. ¬ (byte ≡ newline));
-        went = filled;
-        met = record { reader = no_fault; writer = MetInterrupts-none u.writer.log.writes };
-        left = nil_from_length m.block.bytes empty;
-      }
-
-      module _ (line : List ℕ) (first : IsFirstLine m.block.bytes line) where
-        pub write_failed : (v : Outgoing W) (e : WriteFrameError) → WritesFrame stretch u line (Err e) v
-            → PacksNext stretch s u (Err (of_write_error e)) m v
-        write_failed v (Unwritten.TooLong len) wrote =
-            let same = wrote.answers.2 in
-            rw same (
-              filled,
-              record { reader = no_fault; writer = MetInterrupts-none u.writer.log.writes },
-              begins_long u.max m.block.bytes line first (omega (arith, wrote.answers.0, wrote.answers.1)),
-            )
-        write_failed v (Unwritten.Io e) wrote = (
-          record { handed = handed; grows = grows; taken = wrote.went; source = filled_source },
-          inr (record { reader = no_fault; writer = wrote.answers.1 }),
-        )
-
-        -- the line is taken in and dropped
-        module _ (v : Outgoing W) (wrote : WritesFrame stretch u line (Ok tt) v) (t : Buffered R MinBuffered)
-            (amount : ℕ) (dropped : ReadsInOrder m (take amount m.block.bytes) t)
-            (left : t.block.bytes ≡ drop amount m.block.bytes) (told : t.log ≡ m.log)
-            (policy' : t.policy ≡ m.policy) (capacity' : m.block.capacity ≤ t.block.capacity) where
-          went : Packs stretch s u (take amount m.block.bytes) (line ∷ []) t v
-          went = record {
-            handed = ReadsInOrder-joins s m t [] (take amount m.block.bytes) handed dropped;
-            grows = subst (λ l. ReadLogGrows s.log.reads l.reads) (sym told) grows;
-            taken = wrote.went;
-            source = record {
-              ahead = ap (λ p. p.0) policy' ∙ filled_source.ahead;
-              capacity = omega (arith, filled_source.capacity, capacity');
-            };
-          }
-
-          met : NoneFailed s u t v
-          met = record {
-            reader = subst (λ l. OnlyInterrupts s.log.reads.faults l.reads.faults) (sym told) no_fault;
-            writer = wrote.answers.1;
-          }
-
-          ended_done : (more : List ℕ) → m.block.bytes ≡ line ++ newline ∷ more → amount ≡ length line + 1
-              → PacksNext stretch s u (Ok true) t v
-          ended_done more is count = record {
-            line = line;
-            plain = first.0;
-            went = subst (λ l. Packs stretch s u l (line ∷ []) t v)
-                (ap (λ n. take n m.block.bytes) count ∙ front_line line more m.block.bytes is) went;
-            met = met;
-          }
-
-          last_done : m.block.bytes ≡ line → 0 < length line → amount ≡ length line
-              → PacksNext stretch s u (Ok false) t v
-          last_done is some count =
-              let all : take amount m.block.bytes ≡ line =
-              ap (λ l. take amount l) is ∙ ap (λ n. take n line) count ∙ take-length line in
-              record {
+    pub written : WritesFrame stretch u line (Ok tt) v → PacksNext remaining stretch s u (Ok true) t v
+    written wrote =
+        let went : Packs remaining stretch s u next.bytes (line ∷ []) t v =
+        record { went = next.went; taken = wrote.went } in
+        let met : NoneFailed s u t v = record { reader = only next.answers.2; writer = wrote.answers.1 } in
+        elim next.answers.3 [
+          | inl ended ↦ (
+            record {
+              bytes = next.bytes;
+              lines = line ∷ [];
+              has = record {
+                whole = line ∷ [];
+                last = [];
+                bytes = ended.0 ∙ sym (append-nil (with_end line)) ∙ sym (append-nil (with_end line ++ []));
+                all = refl;
+                plain = All-cons IsLine line [] next.answers.0 (All-nil IsLine);
+              };
+              went = went;
+              all = refl;
+              end = inl (refl, ended.1, ended.2);
+              met = met;
+            },
+            going,
+          )
+          | inr last ↦ (
+            record {
+              bytes = next.bytes;
+              lines = line ∷ [];
+              has = record {
+                whole = [];
                 last = line;
-                plain = first.0;
-                went = subst (λ l. Packs stretch s u l (last_line line) t v) all
-                    (subst (λ ls. Packs stretch s u (take amount m.block.bytes) ls t v) (sym (last_line_some line some)) went);
-                met = met;
-                left = nil_from_length t.block.bytes
-                    (omega (arith, ap length left, length-drop amount m.block.bytes, ap length is, count));
-              }
+                bytes = last.0;
+                all = last_line_some line last.1;
+                plain = All-cons IsLine line [] next.answers.0 (All-nil IsLine);
+              };
+              went = went;
+              all = refl;
+              end = inr (last.2, last.3, met_open (NoEnd s t) (EndedOnce s t) s.ended going last.4);
+              met = met;
+            },
+            going,
+          )
+        ]
 
-          -- where no end of a line is there, the reader had ended
-          pub end_known : (end : Bool) → IsReady s.policy.0 end m.block.bytes
-              → ltb (length line) (length m.block.bytes) ≡ false → end ≡ true
-          end_known end ready isnt = elim ready [
-            | inl shows ↦ absurd (true≢false (sym (lt-ltb (length line) (length m.block.bytes)
-                (shorter_ends m.block.bytes line first shows)) ∙ isnt))
-            | inr (inl many) ↦ elim first.1 [
-              | inl same ↦ absurd (omega (arith, many, source.ahead, wrote.answers.0, ap length same))
-              | inr (more, same) ↦ absurd (true≢false (sym (lt-ltb (length line) (length m.block.bytes)
-                  (omega (arith, ap length same, length-append line (newline ∷ more)))) ∙ isnt))
-            ]
-            | inr (inr is) ↦ is
-          ]
+-- reads were tried again before
+module _ {R W : Type 0} (remaining : R → Option (List ℕ)) (stretch : W → W → Type 0) (none : (x : W) → stretch x x)
+    (s m t : Lining R) (u v : Outgoing W) (before : LinesWent remaining s [] m)
+    (only : OnlyInterrupts s.reader.log.reads.faults m.reader.log.reads.faults) (still : m.ended ≡ s.ended)
+    (quiet : NoEnd s m) where
+  after : (bytes : List ℕ) (lines : List (List ℕ)) → Packs remaining stretch m u bytes lines t v
+      → Packs remaining stretch s u bytes lines t v
+  after bytes lines p =
+      record { went = LinesWent-joins remaining s m t [] bytes before p.went; taken = p.taken }
 
-          pub line_done : 0 < length m.block.bytes → amount ≡ min (length m.block.bytes) (length line + 1)
-              → PacksNext stretch s u (Ok (ltb (length line) (length m.block.bytes))) t v
-          line_done some count = elim first.1 [
-            | inl same ↦ subst (λ b. PacksNext stretch s u (Ok b) t v)
-                (sym (le-ltb (length line) (length m.block.bytes) (omega (arith, ap length same))))
-                (last_done same (omega (arith, some, ap length same)) (omega (arith, count, ap length same)))
-            | inr (more, same) ↦ subst (λ b. PacksNext stretch s u (Ok b) t v)
-                (sym (lt-ltb (length line) (length m.block.bytes)
-                (omega (arith, ap length same, length-append line (newline ∷ more)))))
-                (ended_done more same
-                (omega (arith, count, ap length same, length-append line (newline ∷ more))))
-          ]
+  met_after : NoneFailed m u t v → NoneFailed s u t v
+  met_after met = record {
+    reader = OnlyInterrupts-joins s.reader.log.reads.faults m.reader.log.reads.faults t.reader.log.reads.faults only
+        met.reader;
+    writer = met.writer;
+  }
+
+  end_after : (last : List ℕ) → KnowsEnd m last t → KnowsEnd s last t
+  end_after last end = elim end [
+    | inl going ↦ inl (going.0, going.1, going.2 ∙ quiet)
+    | inr ended ↦ inr (ended.0, ended.1, ended.2 ∙ ap (λ n. n + 1) quiet)
+  ]
+
+  next_after : (answer : Result Bool RunError) → PacksNext remaining stretch m u answer t v
+      → PacksNext remaining stretch s u answer t v
+  next_after (Ok true) p = (
+    record {
+      bytes = p.0.bytes;
+      lines = p.0.lines;
+      has = p.0.has;
+      went = after p.0.bytes p.0.lines p.0.went;
+      all = p.0.all;
+      end = end_after p.0.has.last p.0.end;
+      met = met_after p.0.met;
+    },
+    sym still ∙ p.1,
+  )
+  next_after (Ok false) p = (
+    after [] [] p.0,
+    met_after p.1,
+    p.2,
+    match_after (NoEnd m t) (EndedOnce m t) (NoEnd s t) (EndedOnce s t) m.ended s.ended still
+        (λ none. none ∙ quiet) (λ end. end ∙ ap (λ n. n + 1) quiet) p.3,
+  )
+  next_after (Err TooLong) p = (
+    after [] [] p.0,
+    met_after p.1,
+    subst (λ n. Rattle.line_reader.specs.Lines.BeginsTooLong n (rest t)) before.max p.2,
+    sym still ∙ p.3,
+    p.4 ∙ quiet,
+  )
+  next_after (Err Truncated) p = p
+  next_after (Err (Io e)) p = (
+    p.0,
+    after p.0 [] p.1,
+    EitherFailed-after e s.reader.log m.reader.log t.reader.log u.writer.log u.writer.log v.writer.log
+        (record { reader = only; writer = MetInterrupts-none u.writer.log.writes }) p.2,
+    sym still ∙ p.3,
+    omega (arith, p.4, quiet),
+  )
+
+  pub retried : (w : Outgoing W) → w ≡ u → (answer : Result Bool RunError)
+      → PacksNext remaining stretch m w answer t v → PacksNext remaining stretch s u answer t v
+  retried w same answer p = next_after answer (subst (λ x. PacksNext remaining stretch m x answer t v) same p)
+
+  -- the last try failed
+  pub gives_up : (w : Outgoing W) → w ≡ u → (e : Error) → ReadStopped remaining stretch m w e t v
+      → (IsInterrupt e → length s.reader.log.reads.faults + 65 ≤ length t.reader.log.reads.faults)
+      → PacksNext remaining stretch s u (Err (Io e)) t v
+  gives_up w same e stopped often =
+      let kept : v ≡ u = stopped.same ∙ same in
+      rw kept (
+        [],
+        record {
+          went = LinesWent-joins remaining s m t [] [] before stopped.went;
+          taken = FramesTaken-none stretch none u;
+        },
+        inl (record {
+          reader = gave_up s.reader.log.reads.faults m.reader.log.reads.faults t.reader.log.reads.faults e only
+              stopped.fault often;
+          writer = MetInterrupts-none u.writer.log.writes;
+        }),
+        sym still ∙ stopped.going,
+        omega (arith, stopped.none, quiet),
+      )
+
+-- a read that failed was one
+pub not_asked_again : {R : Type 0} (s m t : Lining R) (e : Error) → m ≡ s → ¬ (MayAsk s)
+    → (¬ (MayAsk m) → t.reader.log ≡ m.reader.log) → ¬ (Faulted m e t)
+not_asked_again s m t e same isnt unasked fault =
+    let told = unasked (subst (λ x. ¬ (MayAsk x)) (sym same) isnt) in
+    absurd (omega (
+      arith,
+      one_more m.reader.log.reads.faults t.reader.log.reads.faults e fault,
+      ap (λ l. length l.reads.faults) told,
+    ))

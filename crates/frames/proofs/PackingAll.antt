@@ -1,137 +1,182 @@
 -- What calls that make line after line a frame come to.
-use Rattle.std.proofs.Common.{◌≡◌, ℕ, ◌+◌, ◌≤◌, ◌^◌, inl, inr, List, [], ◌∷◌, ◌++◌, length, Ok, Err, refl, sym, ap, subst, ◌∙◌, arith, append-nil, length-append}
+use Rattle.std.proofs.Common.{◌≡◌, ℕ, ◌+◌, ◌≤◌, ◌^◌, inl, inr, true, false, List, [], ◌++◌, Option, Ok, Err, refl, sym, ap, subst, ◌∙◌, arith, append-nil, append_assoc, length-append}
+use Rattle.std.proofs.lemmas.Bool.{true≢false}
 use Rattle.std.proofs.lemmas.List.Concat.{flat_map-append}
-use Rattle.std.proofs.lemmas.List.Elements.{All-nil, All-cons, All-append}
+use Rattle.std.proofs.lemmas.List.Elements.{All-nil, All-append}
 use Rattle.std.specs.IoError.{error_kind}
 use Rattle.std.specs.List.{All}
 use Rattle.std.specs.declared.io.Error.{Error}
 use Rattle.std.specs.declared.io.ErrorKind.TheVariants.{Other}
-use Rattle.buffer_redux.specs.BufReader.{RanDry}
-use Rattle.buffer_redux.specs.Buffered.{Buffered}
-use Rattle.buffer_redux.specs.declared.policy.MinBuffered.{MinBuffered}
 use Rattle.frame_reader.specs.Outgoing.{Outgoing}
+use Rattle.frame_reader.specs.WriteFrameLaws.{FramesTaken-none, FramesTaken-joins}
+use Rattle.line_reader.specs.Lines.{IsLine, BeginsTooLong, HasLines, last_line, with_end, with_ends}
+use Rattle.line_reader.specs.Lining.{Lining}
+use Rattle.line_reader.specs.LinesWentLaws.{LinesWent-none, LinesWent-joins}
+use Rattle.line_reader.specs.NextLine.{NoEnd}
 use Rattle.frames.specs.declared.error.RunError.{RunError}
 use Rattle.frames.specs.declared.error.RunError.TheVariants.{TooLong, Truncated, Io}
-use Rattle.frames.specs.Lines.{newline, IsLine, ended, last_line, HasLines, BeginsLong}
-use Rattle.frames.specs.Pack.{IsLineSource, Packs, NoneFailed, PacksLine, PacksLast, PacksNext, PacksAll}
+use Rattle.frames.specs.Pack.{NoneFailed, EndedOnce, EndsOnce, KnowsEnd, Packs, PacksLines, PacksNext, PacksAll}
 use Rattle.frames.proofs.Faring.{MetNoFault-none, MetNoFault-joins, EitherFailed-after}
-use Rattle.frames.proofs.Packing.{Packs-none, Packs-joins}
-
--- so many lines with their ends went over
-pub record PacksSoFar {R W : Type 0} (stretch : W → W → Type 0) (s : Buffered R MinBuffered) (u : Outgoing W) (count : ℕ)
-    (t : Buffered R MinBuffered) (v : Outgoing W) : Type 0 where
-  pub lines : List (List ℕ)
-  pub all : length lines ≡ count
-  pub plain : All IsLine lines
-  pub went : Packs stretch s u (ended lines) lines t v
-  pub met : NoneFailed s u t v
-
-ended_line : (line : List ℕ) → line ++ newline ∷ [] ≡ ended (line ∷ [])
-ended_line line = sym (append-nil (line ++ newline ∷ []))
-
-ended_more : (lines : List (List ℕ)) (line : List ℕ) → ended lines ++ (line ++ newline ∷ []) ≡ ended (lines ++ line ∷ [])
-ended_more lines line =
-    ap (λ l. ended lines ++ l) (ended_line line)
-    ∙ sym (flat_map-append (λ l. l ++ newline ∷ []) lines (line ∷ []))
-
-plain_last : (last : List ℕ) → IsLine last → All IsLine (last_line last)
-plain_last [] plain = All-nil IsLine
-plain_last (byte ∷ more) plain = All-cons IsLine (byte ∷ more) [] plain (All-nil IsLine)
+use Rattle.frames.proofs.Packing.{met_open, met_ended}
 
 -- lines with their ends are a text
-abbrev pub all_ended : (lines : List (List ℕ)) → All IsLine lines → HasLines (ended lines) lines
+abbrev pub all_ended : (lines : List (List ℕ)) → All IsLine lines → HasLines (with_ends lines) lines
 all_ended lines plain = record {
   whole = lines;
   last = [];
-  bytes = sym (append-nil (ended lines));
+  bytes = sym (append-nil (with_ends lines));
   all = sym (append-nil lines);
   plain = plain;
 }
 
-module _ {R W : Type 0} (stretch : W → W → Type 0) (none : (x : W) → stretch x x)
-    (joins : (a b c : W) → stretch a b → stretch b c → stretch a c) (s : Buffered R MinBuffered) (u : Outgoing W) where
-  pub so_far_none : IsLineSource u.max s → PacksSoFar stretch s u 0 s u
-  so_far_none source = record {
-    lines = [];
-    all = refl;
-    plain = All-nil IsLine;
-    went = Packs-none stretch none joins s u source;
-    met = MetNoFault-none s.log u.writer.log;
-  }
-
-  module _ (count : ℕ) (m : Buffered R MinBuffered) (w : Outgoing W) (before : PacksSoFar stretch s u count m w)
-      (t : Buffered R MinBuffered) (v : Outgoing W) where
-    met_too : NoneFailed m w t v → NoneFailed s u t v
-    met_too met = MetNoFault-joins s.log m.log t.log u.writer.log w.writer.log v.writer.log before.met met
-
-    pub so_far_more : PacksLine stretch m w t v → PacksSoFar stretch s u (count + 1) t v
-    so_far_more one = record {
-      lines = before.lines ++ one.line ∷ [];
-      all = length-append before.lines (one.line ∷ []) ∙ ap (λ n. n + 1) before.all;
-      plain = All-append IsLine before.lines (one.line ∷ []) before.plain
-          (All-cons IsLine one.line [] one.plain (All-nil IsLine));
-      went = subst (λ l. Packs stretch s u l (before.lines ++ one.line ∷ []) t v) (ended_more before.lines one.line)
-          (Packs-joins stretch none joins s m t u w v (ended before.lines) (one.line ++ newline ∷ []) before.lines
-          (one.line ∷ []) before.went one.went);
-      met = met_too one.met;
+-- one text behind another whose last line has its end
+abbrev joined : (a b : List ℕ) (ls ks : List (List ℕ)) (p : HasLines a ls) → p.last ≡ [] → HasLines b ks
+    → HasLines (a ++ b) (ls ++ ks)
+joined a b ls ks p ended q =
+    let whole : a ≡ with_ends p.whole =
+    p.bytes ∙ ap (λ l. with_ends p.whole ++ l) ended ∙ append-nil (with_ends p.whole) in
+    let lines : ls ≡ p.whole = p.all ∙ ap (λ l. p.whole ++ last_line l) ended ∙ append-nil p.whole in
+    record {
+      whole = p.whole ++ q.whole;
+      last = q.last;
+      bytes =
+          ap (λ l. l ++ b) whole ∙ ap (λ l. with_ends p.whole ++ l) q.bytes
+          ∙ sym (append_assoc (with_ends p.whole) (with_ends q.whole) q.last)
+          ∙ ap (λ l. l ++ q.last) (sym (flat_map-append with_end p.whole q.whole));
+      all =
+          ap (λ l. l ++ ks) lines ∙ ap (λ l. p.whole ++ l) q.all
+          ∙ sym (append_assoc p.whole q.whole (last_line q.last));
+      plain = All-append IsLine ls ks p.plain q.plain;
     }
 
-    pub all_done : RanDry s t → PacksLast stretch m w t v → PacksAll stretch s u (Ok tt) t v
-    all_done dry one = (
-      record {
-        text = ended before.lines ++ one.last;
-        lines = before.lines ++ last_line one.last;
-        has = record {
-          whole = before.lines;
-          last = one.last;
-          bytes = refl;
-          all = refl;
-          plain = All-append IsLine before.lines (last_line one.last) before.plain (plain_last one.last one.plain);
-        };
-        went = Packs-joins stretch none joins s m t u w v (ended before.lines) one.last before.lines (last_line one.last)
-            before.went one.went;
-      },
-      record { left = one.left; dry = dry },
-      met_too one.met,
-    )
+module _ {R W : Type 0} (remaining : R → Option (List ℕ)) (stretch : W → W → Type 0) (none : (x : W) → stretch x x)
+    (joins : (a b c : W) → stretch a b → stretch b c → stretch a c) (s : Lining R) (u : Outgoing W) where
+  pub so_far_none : s.ended ≡ false → PacksLines remaining stretch s u 0 s u
+  so_far_none going = record {
+    bytes = [];
+    lines = [];
+    has = all_ended [] (All-nil IsLine);
+    went = record { went = LinesWent-none remaining s; taken = FramesTaken-none stretch none u };
+    all = refl;
+    end = inl (refl, going, refl);
+    met = MetNoFault-none s.reader.log u.writer.log;
+  }
 
-    then_none : Packs stretch m w [] [] t v → Packs stretch s u (ended before.lines) before.lines t v
-    then_none none_more =
-        subst (λ l. Packs stretch s u (ended before.lines) l t v) (append-nil before.lines)
-        (subst (λ l. Packs stretch s u l (before.lines ++ []) t v) (append-nil (ended before.lines))
-        (Packs-joins stretch none joins s m t u w v (ended before.lines) [] before.lines [] before.went none_more))
+  module _ (count : ℕ) (m : Lining R) (w : Outgoing W) (before : PacksLines remaining stretch s u count m w) where
+    -- where the stream has not ended, each line had its end
+    still_open : m.ended ≡ false → (before.has.last ≡ []) × NoEnd s m
+    still_open is = elim before.end [
+      | inl going ↦ (going.0, going.2)
+      | inr ended ↦ absurd (true≢false (sym ended.1 ∙ is))
+    ]
 
-    pub stops : (e : RunError) → PacksNext stretch m w (Err e) t v → PacksAll stretch s u (Err e) t v
-    stops TooLong next = (
+    pub over : (e : Error) → error_kind e ≡ Other → 2 ^ 64 ≤ count + 1 → PacksAll remaining stretch s u (Err (Io e)) m w
+    over e other large = (
       record {
+        bytes = before.bytes;
         lines = before.lines;
-        plain = before.plain;
-        went = then_none next.0;
-        long = subst (λ n. BeginsLong n t.block.bytes) before.went.taken.max next.2;
+        lost = [];
+        has = before.has;
+        went = subst (λ l. Packs remaining stretch s u l before.lines m w) (sym (append-nil before.bytes)) before.went;
       },
-      met_too next.1,
-    )
-    stops Truncated next = next
-    stops (Io e) next = (
-      record {
-        text = ended before.lines;
-        lines = before.lines;
-        has = all_ended before.lines before.plain;
-        went = then_none next.0;
-      },
-      refl,
-      inl (EitherFailed-after e s.log m.log t.log u.writer.log w.writer.log v.writer.log before.met next.1),
+      elim before.end [ inl going ↦ inl going.0 | inr ended ↦ inr (ended.0, ended.2) ],
+      inr (record { other = other; large = omega (arith, large, before.all); met = before.met }),
     )
 
-  pub over : (count : ℕ) (t : Buffered R MinBuffered) (v : Outgoing W) → PacksSoFar stretch s u count t v
-      → 2 ^ 64 ≤ count + 1 → (e : Error) → error_kind e ≡ Other → PacksAll stretch s u (Err (Io e)) t v
-  over count t v before large e is = (
-    record {
-      text = ended before.lines;
-      lines = before.lines;
-      has = all_ended before.lines before.plain;
-      went = before.went;
-    },
-    refl,
-    inr (record { other = is; large = omega (arith, large, before.all); met = before.met }),
-  )
+    pub over_once : EndsOnce s.reader.log.reads m.reader.log.reads
+    over_once = elim before.end [ inl going ↦ omega (arith, going.2) | inr ended ↦ omega (arith, ended.2) ]
+
+    module _ (t : Lining R) (v : Outgoing W) where
+      then_went : (bytes : List ℕ) (lines : List (List ℕ)) → Packs remaining stretch m w bytes lines t v
+          → Packs remaining stretch s u (before.bytes ++ bytes) (before.lines ++ lines) t v
+      then_went bytes lines p = record {
+        went = LinesWent-joins remaining s m t before.bytes bytes before.went.went p.went;
+        taken = FramesTaken-joins stretch joins u w v before.lines lines before.went.taken p.taken;
+      }
+
+      then_none : (bytes : List ℕ) → Packs remaining stretch m w bytes [] t v
+          → Packs remaining stretch s u (before.bytes ++ bytes) before.lines t v
+      then_none bytes p = subst (λ l. Packs remaining stretch s u (before.bytes ++ bytes) l t v) (append-nil before.lines)
+          (then_went bytes [] p)
+
+      met_too : NoneFailed m w t v → NoneFailed s u t v
+      met_too met = MetNoFault-joins s.reader.log m.reader.log t.reader.log u.writer.log w.writer.log v.writer.log before.met
+          met
+
+      end_too : NoEnd s m → (last : List ℕ) → KnowsEnd m last t → KnowsEnd s last t
+      end_too quiet last end = elim end [
+        | inl going ↦ inl (going.0, going.1, going.2 ∙ quiet)
+        | inr ended ↦ inr (ended.0, ended.1, ended.2 ∙ ap (λ n. n + 1) quiet)
+      ]
+
+      pub so_far_more : PacksNext remaining stretch m w (Ok true) t v → PacksLines remaining stretch s u (count + 1) t v
+      so_far_more next =
+          let one = next.0 in
+          let going = still_open next.1 in
+          record {
+            bytes = before.bytes ++ one.bytes;
+            lines = before.lines ++ one.lines;
+            has = joined before.bytes one.bytes before.lines one.lines before.has going.0 one.has;
+            went = then_went one.bytes one.lines one.went;
+            all = omega (arith, length-append before.lines one.lines, before.all, one.all);
+            end = end_too going.1 one.has.last one.end;
+            met = met_too one.met;
+          }
+
+      ended_too : Rattle.line_reader.specs.NextLine.MetEnd m t → EndedOnce s t
+      ended_too met = elim before.end [
+        | inl going ↦
+            met_open (NoEnd m t) (EndedOnce m t) m.ended going.1 met ∙ ap (λ n. n + 1) going.2
+        | inr ended ↦ met_ended (NoEnd m t) (EndedOnce m t) m.ended ended.1 met ∙ ended.2
+      ]
+
+      pub all_done : PacksNext remaining stretch m w (Ok false) t v → PacksAll remaining stretch s u (Ok tt) t v
+      all_done next = record {
+        text = before.bytes;
+        lines = before.lines;
+        has = before.has;
+        went = subst (λ l. Packs remaining stretch s u l before.lines t v) (append-nil before.bytes) (then_none [] next.0);
+        left = next.2;
+        end = ended_too next.3;
+        met = met_too next.1;
+      }
+
+      pub stops : (e : RunError) → PacksNext remaining stretch m w (Err e) t v → PacksAll remaining stretch s u (Err e) t v
+      stops TooLong next =
+          let has = before.has in
+          let ended = (still_open next.3).0 in
+          let bytes : before.bytes ++ [] ≡ with_ends has.whole =
+          append-nil before.bytes ∙ has.bytes ∙ ap (λ l. with_ends has.whole ++ l) ended
+          ∙ append-nil (with_ends has.whole) in
+          let lines : before.lines ≡ has.whole =
+          has.all ∙ ap (λ l. has.whole ++ last_line l) ended ∙ append-nil has.whole in
+          record {
+            lines = before.lines;
+            plain = has.plain;
+            went = subst (λ l. Packs remaining stretch s u l before.lines t v) (bytes ∙ ap with_ends (sym lines))
+                (then_none [] next.0);
+            long = subst (λ n. BeginsTooLong n (Rattle.line_reader.specs.Lining.rest t)) before.went.went.max next.2;
+            met = met_too next.1;
+          }
+      stops Truncated next = next
+      stops (Io e) next = (
+        record {
+          bytes = before.bytes;
+          lines = before.lines;
+          lost = next.0;
+          has = before.has;
+          went = then_none next.0 next.1;
+        },
+        inl (still_open next.3).0,
+        inl (EitherFailed-after e s.reader.log m.reader.log t.reader.log u.writer.log w.writer.log v.writer.log before.met
+            next.2),
+      )
+
+      pub stops_once : (e : RunError) → PacksNext remaining stretch m w (Err e) t v
+          → EndsOnce s.reader.log.reads t.reader.log.reads
+      stops_once TooLong next = omega (arith, (still_open next.3).1, next.4)
+      stops_once Truncated next = absurd next
+      stops_once (Io e) next = omega (arith, (still_open next.3).1, next.4)
+
+      pub done_once : PacksNext remaining stretch m w (Ok false) t v → EndsOnce s.reader.log.reads t.reader.log.reads
+      done_once next = omega (arith, ended_too next.3)

@@ -17,7 +17,7 @@ use Rattle.frame_reader.specs.NextLaws.{drop_none}
 use Rattle.frames.specs.declared.error.RunError.{RunError}
 use Rattle.frames.specs.declared.error.RunError.TheVariants.{TooLong, Truncated, Io}
 use Rattle.frames.specs.Ending.{faulted}
-use Rattle.frames.specs.Lines.{ended}
+use Rattle.line_reader.specs.Lines.{with_ends}
 use Rattle.frames.specs.Unpack.{Unpacks, UnpacksEach, UnpacksAll, UnpacksAndFlushes, AllSent, Unpacked, UnpackRan}
 use Rattle.frames.proofs.Faring.{MetNoFault-joins, EitherFailed-after}
 
@@ -27,7 +27,7 @@ module _ {R W : Type 0} (remaining : R → Option (List ℕ)) (s t : Framing R) 
       → Unpacks remaining s u payloads lines t v
   then_sent payloads lines p = record {
     went = p.went;
-    taken = WritesInOrder-then u w v (ended lines) p.taken sent;
+    taken = WritesInOrder-then u w v (with_ends lines) p.taken sent;
     target = record {
       plain = kind ∙ p.target.plain;
       capacity = omega (arith, p.target.capacity, capacity);
@@ -94,8 +94,8 @@ module _ {R W : Type 0} (remaining : R → Option (List ℕ)) (s t : Framing R) 
       (sym (hands.equal ∙ ap (λ l. l ++ hands.got) (drop_none s.lent s.reader.block.bytes none)))
 
   received : (payloads lines : List (List ℕ)) → Unpacks remaining s u payloads lines t v
-      → v.log.writes.received ++ v.block.bytes ≡ u.log.writes.received ++ ended lines
-  received payloads lines p = WritesInOrder-fresh u v (ended lines) none' p.taken
+      → v.log.writes.received ++ v.block.bytes ≡ u.log.writes.received ++ with_ends lines
+  received payloads lines p = WritesInOrder-fresh u v (with_ends lines) none' p.taken
 
   unpacked : UnpacksEach remaining s u t v → AllSent v
       → Unpacked s.max s.reader.log t.reader.log u.log v.log (rest t)

@@ -17,9 +17,9 @@ use Rattle.frame_reader.specs.NextLaws.{FramesWent-none, FramesWent-joins}
 use Rattle.frame_reader.specs.declared.error.FrameError.TheVariants as NoFrame
 use Rattle.frames.specs.declared.error.RunError.{RunError}
 use Rattle.frames.specs.declared.error.RunError.TheVariants.{TooLong, Truncated, Io}
-use Rattle.frames.specs.Lines.{newline, ended}
+use Rattle.line_reader.specs.Lines.{newline, with_ends}
 use Rattle.frames.specs.Unpack.{IsLineTarget, Unpacks, UnpacksEach, UnpacksNext, UnpacksOnce, ReadStopped, UnpacksAll}
-use Rattle.frames.specs.declared.unpack.Step.TheVariants.{End, ReadFailed}
+use Rattle.frames.specs.declared.tries.Step.TheVariants.{End, ReadFailed}
 use Rattle.frames.proofs.Faring.{only_same, gave_up, MetInterrupts-none, MetNoFault-none, MetNoFault-joins, EitherFailed-after}
 
 -- less than a frame is left where a read failed
@@ -196,7 +196,7 @@ module _ {R W : Type 0} (remaining : R → Option (List ℕ)) (s : Framing R) (u
     then_lines ps qs ls q = record {
       went = FramesWent-joins remaining s m t before.payloads qs before.went.went q.went;
       taken = subst (λ l. WritesInOrder u l v) (sym (flat_map-append (λ l. l ++ newline ∷ []) before.payloads ls))
-          (WritesInOrder-joins u w v (ended before.payloads) (ended ls) before.went.taken q.taken);
+          (WritesInOrder-joins u w v (with_ends before.payloads) (with_ends ls) before.went.taken q.taken);
       target = subst (λ n. IsLineTarget n v) before.went.went.max q.target;
     }
 

@@ -1,6 +1,5 @@
 pub mod Asked
 pub mod Ending
-pub mod Lines
 pub mod Streams
 pub mod Pack
 pub mod Unpack

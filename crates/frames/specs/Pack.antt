@@ -1,20 +1,20 @@
 -- What a run of `pack` moves from a reader to a writer.
-use Rattle.std.specs.Prelude.{◌≡◌, ℕ, ◌+◌, ◌≤◌, ◌⊎◌, List, [], ◌∷◌, ◌++◌, length, Bool, true, false, Result, Ok, Err}
+use Rattle.std.specs.Prelude.{◌≡◌, ℕ, ◌+◌, ◌≤◌, ◌⊎◌, List, [], ◌++◌, length, Bool, true, false, Option, Result, Ok, Err}
 use Rattle.std.specs.List.{All}
 use Rattle.std.specs.declared.io.Error.{Error}
-use Rattle.buffer_redux.specs.BufReader.{ReadsInOrder, RanDry}
-use Rattle.buffer_redux.specs.Buffered.{Buffered}
-use Rattle.buffer_redux.specs.LogGrows.{ReadLogGrows}
 use Rattle.buffer_redux.specs.StreamLog.{StreamLog, ReadLog}
-use Rattle.buffer_redux.specs.declared.policy.MinBuffered.{MinBuffered}
 use Rattle.frame_reader.specs.Frames.{Fits, frames}
 use Rattle.frame_reader.specs.Outgoing.{Outgoing, unsent}
 use Rattle.frame_reader.specs.WriteFrame.{FramesTaken}
 use Rattle.frame_reader.specs.declared.error.WriteFrameError.{WriteFrameError}
 use Rattle.frame_reader.specs.declared.error.WriteFrameError.TheVariants as Unwritten
+use Rattle.line_reader.specs.Lines.{IsLine, IsUnended, BeginsTooLong, HasLines, with_ends}
+use Rattle.line_reader.specs.Lining.{Lining, rest}
+use Rattle.line_reader.specs.NextLine.{LinesWent, NoEnd, MetEnd, Faulted, empties}
 use Rattle.frames.specs.declared.error.RunError.{RunError}
 use Rattle.frames.specs.declared.error.RunError.TheVariants.{TooLong, Truncated, Io}
-use Rattle.frames.specs.Lines.{newline, IsLine, ShowsEnd, ended, last_line, HasLines, BeginsLong}
+use Rattle.frames.specs.declared.tries.Step.{Step}
+use Rattle.frames.specs.declared.tries.Step.TheVariants.{Went, End, ReadFailed}
 use Rattle.frames.specs.Streams.{MetNoFault, EitherFailed, Stopped, BufferRefused, GaveNothing, AllFlushed}
 
 -- why a run failed in which a frame could not be written
@@ -22,112 +22,115 @@ abbrev pub of_write_error : WriteFrameError → RunError
 of_write_error (Unwritten.TooLong len) = TooLong
 of_write_error (Unwritten.Io e) = Io e
 
--- a buffered reader of lines: it sees one more byte than the longest line has, where there are so many
-pub record IsLineSource {R : Type 0} (most : ℕ) (s : Buffered R MinBuffered) : Type 0 where
-  pub ahead : s.policy.0 ≡ most + 1
-  pub capacity : most + 1 ≤ s.block.capacity
-
--- the reader handed out this text, and the writer took in the frames of these lines
-pub record Packs {R W : Type 0} (stretch : W → W → Type 0) (s : Buffered R MinBuffered) (u : Outgoing W)
-    (text : List ℕ) (lines : List (List ℕ)) (t : Buffered R MinBuffered) (v : Outgoing W) : Type 0 where
-  pub handed : ReadsInOrder s text t
-  pub grows : ReadLogGrows s.log.reads t.log.reads
-  pub taken : FramesTaken stretch u lines v
-  pub source : IsLineSource u.max t
-
--- neither stream failed
-abbrev pub NoneFailed : {R W : Type 0} → Buffered R MinBuffered → Outgoing W → Buffered R MinBuffered → Outgoing W
-    → Type 0
-NoneFailed s u t v = MetNoFault s.log t.log u.writer.log v.writer.log
-
--- the next line, with its end, was made a frame
-pub record PacksLine {R W : Type 0} (stretch : W → W → Type 0) (s : Buffered R MinBuffered) (u : Outgoing W)
-    (t : Buffered R MinBuffered) (v : Outgoing W) : Type 0 where
-  pub line : List ℕ
-  pub plain : IsLine line
-  pub went : Packs stretch s u (line ++ newline ∷ []) (line ∷ []) t v
-  pub met : NoneFailed s u t v
-
--- the reader gave no more, and nothing of what it gave is left
-pub record NothingLeft {R : Type 0} (s t : Buffered R MinBuffered) : Type 0 where
-  pub left : t.block.bytes ≡ []
-  pub dry : RanDry s t
-
--- what is known of the reader's end over some calls: once it has ended it isn't called, and it ends by one answer
-pub record KnowsEnd (ended : Bool) (old : ReadLog) (ended' : Bool) (new : ReadLog) : Type 0 where
-  pub quiet : ended ≡ true → (new ≡ old) × (ended' ≡ true)
-  pub more : ended' ≡ false → new.zero_reads ≡ old.zero_reads
-  pub ends : ended ≡ false → ended' ≡ true → new.zero_reads ≡ old.zero_reads + 1
-
--- an end of a line is among the bytes, or there are so many, or no more come
-abbrev pub IsReady : ℕ → Bool → List ℕ → Type 0
-IsReady most ended bytes = ShowsEnd bytes ⊎ ((most ≤ length bytes) ⊎ (ended ≡ true))
-
 -- a reader gave nothing once at most
 abbrev pub EndsOnce : ReadLog → ReadLog → Type 0
 EndsOnce old new = new.zero_reads ≤ old.zero_reads + 1
 
--- what was left was the last line, or nothing
-pub record PacksLast {R W : Type 0} (stretch : W → W → Type 0) (s : Buffered R MinBuffered) (u : Outgoing W)
-    (t : Buffered R MinBuffered) (v : Outgoing W) : Type 0 where
-  pub last : List ℕ
-  pub plain : IsLine last
-  pub went : Packs stretch s u last (last_line last) t v
-  pub met : NoneFailed s u t v
-  pub left : t.block.bytes ≡ []
+-- the stream may be asked: no whole line is left, no beginning of one that is too long, and it hasn't ended
+pub record MayAsk {R : Type 0} (s : Lining R) : Type 0 where
+  pub part : IsUnended s.max (rest s)
+  pub going : s.ended ≡ false
 
--- what one call did that makes the next line a frame, and answers whether its end was there
-abbrev pub PacksNext : {R W : Type 0} → (W → W → Type 0) → Buffered R MinBuffered → Outgoing W
-    → Result Bool RunError → Buffered R MinBuffered → Outgoing W → Type 0
-PacksNext stretch s u (Ok true) t v = PacksLine stretch s u t v
-PacksNext stretch s u (Ok false) t v = PacksLast stretch s u t v
-PacksNext stretch s u (Err TooLong) t v =
-    Packs stretch s u [] [] t v × NoneFailed s u t v × BeginsLong u.max t.block.bytes
-PacksNext stretch s u (Err Truncated) t v = ⊥
-PacksNext stretch s u (Err (Io e)) t v =
-    Packs stretch s u [] [] t v × EitherFailed e s.log t.log u.writer.log v.writer.log
+-- neither stream failed
+abbrev pub NoneFailed : {R W : Type 0} → Lining R → Outgoing W → Lining R → Outgoing W → Type 0
+NoneFailed s u t v = MetNoFault s.reader.log t.reader.log u.writer.log v.writer.log
 
--- some text went over as the frames of its lines
-pub record PacksSome {R W : Type 0} (stretch : W → W → Type 0) (s : Buffered R MinBuffered) (u : Outgoing W)
-    (t : Buffered R MinBuffered) (v : Outgoing W) : Type 0 where
-  pub text : List ℕ
-  pub lines : List (List ℕ)
-  pub has : HasLines text lines
-  pub went : Packs stretch s u text lines t v
+-- the stream gave nothing once
+abbrev pub EndedOnce : {R : Type 0} → Lining R → Lining R → Type 0
+EndedOnce s t = empties t.reader ≡ empties s.reader + 1
 
--- some lines with their ends did, and then comes one that is too long
-pub record PacksToLong {R W : Type 0} (stretch : W → W → Type 0) (s : Buffered R MinBuffered) (u : Outgoing W)
-    (t : Buffered R MinBuffered) (v : Outgoing W) : Type 0 where
-  pub lines : List (List ℕ)
-  pub plain : All IsLine lines
-  pub went : Packs stretch s u (ended lines) lines t v
-  pub long : BeginsLong u.max t.block.bytes
+-- it never did, and the last line had its end; or it did behind the last line, which no call has told yet
+abbrev pub KnowsEnd : {R : Type 0} → Lining R → List ℕ → Lining R → Type 0
+KnowsEnd s last t =
+    ((last ≡ []) × (t.ended ≡ false) × NoEnd s t) ⊎ ((rest t ≡ []) × (t.ended ≡ true) × EndedOnce s t)
 
--- what calls did that make line after line a frame
-abbrev pub PacksAll : {R W : Type 0} → (W → W → Type 0) → Buffered R MinBuffered → Outgoing W
-    → Result (Unit {0}) RunError → Buffered R MinBuffered → Outgoing W → Type 0
-PacksAll stretch s u (Ok _) t v = PacksSome stretch s u t v × NothingLeft s t × NoneFailed s u t v
-PacksAll stretch s u (Err TooLong) t v = PacksToLong stretch s u t v × NoneFailed s u t v
-PacksAll stretch s u (Err Truncated) t v = ⊥
-PacksAll stretch s u (Err (Io e)) t v =
-    (some : PacksSome stretch s u t v) × (some.has.last ≡ [])
-    × Stopped e (length some.lines) s.log t.log u.writer.log v.writer.log
+module _ {R W : Type 0} (remaining : R → Option (List ℕ)) (stretch : W → W → Type 0) (s : Lining R) (u : Outgoing W) where
+  -- the reader handed out these bytes, and the writer took in the frames of these lines
+  pub record Packs (bytes : List ℕ) (lines : List (List ℕ)) (t : Lining R) (v : Outgoing W) : Type 0 where
+    pub went : LinesWent remaining s bytes t
+    pub taken : FramesTaken stretch u lines v
 
--- all that was taken in was received and flushed
-pub record AllSent {W : Type 0} (v : Outgoing W) : Type 0 where
-  pub empty : unsent v ≡ []
-  pub flushed : AllFlushed v.writer.log
+  -- some bytes went over as the frames of their lines, and then those of a line that was lost, or none
+  pub record PacksFirst (t : Lining R) (v : Outgoing W) : Type 0 where
+    pub bytes : List ℕ
+    pub lines : List (List ℕ)
+    pub lost : List ℕ
+    pub has : HasLines bytes lines
+    pub went : Packs (bytes ++ lost) lines t v
 
--- what they did, and then a flush where no stream failed
-abbrev pub PacksAndFlushes : {R W : Type 0} → (W → W → Type 0) → Buffered R MinBuffered → Outgoing W
-    → Result (Unit {0}) RunError → Buffered R MinBuffered → Outgoing W → Type 0
-PacksAndFlushes stretch s u (Ok _) t v =
-    PacksSome stretch s u t v × NothingLeft s t × NoneFailed s u t v × AllSent v
-PacksAndFlushes stretch s u (Err TooLong) t v = PacksToLong stretch s u t v × NoneFailed s u t v × AllSent v
-PacksAndFlushes stretch s u (Err Truncated) t v = ⊥
-PacksAndFlushes stretch s u (Err (Io e)) t v =
-    (some : PacksSome stretch s u t v) × ((some.has.last ≡ []) ⊎ NothingLeft s t)
-    × Stopped e (length some.lines) s.log t.log u.writer.log v.writer.log
+  -- so many lines went over
+  pub record PacksLines (count : ℕ) (t : Lining R) (v : Outgoing W) : Type 0 where
+    pub bytes : List ℕ
+    pub lines : List (List ℕ)
+    pub has : HasLines bytes lines
+    pub went : Packs bytes lines t v
+    pub all : length lines ≡ count
+    pub end : KnowsEnd s has.last t
+    pub met : NoneFailed s u t v
+
+  -- what one call did that makes the next line a frame, and answers whether there was one
+  abbrev pub PacksNext : Result Bool RunError → Lining R → Outgoing W → Type 0
+  PacksNext (Ok true) t v = PacksLines 1 t v × (s.ended ≡ false)
+  PacksNext (Ok false) t v = Packs [] [] t v × NoneFailed s u t v × (rest t ≡ []) × MetEnd s t
+  PacksNext (Err TooLong) t v =
+      Packs [] [] t v × NoneFailed s u t v × BeginsTooLong s.max (rest t) × (s.ended ≡ false) × NoEnd s t
+  PacksNext (Err Truncated) t v = ⊥
+  PacksNext (Err (Io e)) t v =
+      (lost : List ℕ) × Packs lost [] t v × EitherFailed e s.reader.log t.reader.log u.writer.log v.writer.log
+      × (s.ended ≡ false) × EndsOnce s.reader.log.reads t.reader.log.reads
+
+  -- a read failed with this error: nothing was handed out or taken in, and less than a line is left
+  pub record ReadStopped (e : Error) (t : Lining R) (v : Outgoing W) : Type 0 where
+    pub went : LinesWent remaining s [] t
+    pub fault : Faulted s e t
+    pub few : length (rest t) ≤ s.max
+    pub going : s.ended ≡ false
+    pub still : t.ended ≡ false
+    pub none : NoEnd s t
+    pub same : v ≡ u
+
+  -- what one try did, up to the first fault of a read
+  abbrev pub PacksOnce : Result Step RunError → Lining R → Outgoing W → Type 0
+  PacksOnce (Ok Went) t v = PacksNext (Ok true) t v
+  PacksOnce (Ok End) t v = PacksNext (Ok false) t v
+  PacksOnce (Ok (ReadFailed e)) t v = ReadStopped e t v
+  PacksOnce (Err e) t v = PacksNext (Err e) t v
+
+  -- all that the reader gave went over as the frames of its lines
+  pub record PacksText (t : Lining R) (v : Outgoing W) : Type 0 where
+    pub text : List ℕ
+    pub lines : List (List ℕ)
+    pub has : HasLines text lines
+    pub went : Packs text lines t v
+    pub left : rest t ≡ []
+    pub end : EndedOnce s t
+    pub met : NoneFailed s u t v
+
+  -- some lines with their ends did, and then comes one that is too long
+  pub record PacksToLong (t : Lining R) (v : Outgoing W) : Type 0 where
+    pub lines : List (List ℕ)
+    pub plain : All IsLine lines
+    pub went : Packs (with_ends lines) lines t v
+    pub long : BeginsTooLong s.max (rest t)
+    pub met : NoneFailed s u t v
+
+  -- what calls did that make line after line a frame
+  abbrev pub PacksAll : Result (Unit {0}) RunError → Lining R → Outgoing W → Type 0
+  PacksAll (Ok _) t v = PacksText t v
+  PacksAll (Err TooLong) t v = PacksToLong t v
+  PacksAll (Err Truncated) t v = ⊥
+  PacksAll (Err (Io e)) t v =
+      (first : PacksFirst t v) × ((first.has.last ≡ []) ⊎ ((first.lost ++ rest t ≡ []) × EndedOnce s t))
+      × Stopped e (length first.lines) s.reader.log t.reader.log u.writer.log v.writer.log
+
+  -- all that was taken in was received and flushed
+  abbrev pub AllSent : Outgoing W → Type 0
+  AllSent v = (unsent v ≡ []) × AllFlushed v.writer.log
+
+  -- what they did, and then a flush where no stream failed
+  abbrev pub PacksAndFlushes : Result (Unit {0}) RunError → Lining R → Outgoing W → Type 0
+  PacksAndFlushes (Err (Io e)) t v = PacksAll (Err (Io e)) t v
+  PacksAndFlushes answer t v = PacksAll answer t v × AllSent v
 
 -- all that was given is a text of lines that fit, what was received is their frames, and the writer has flushed them
 pub record Packed (most : ℕ) (read read' written written' : StreamLog) : Type 0 where
@@ -146,8 +149,8 @@ pub record PackedToLong (most : ℕ) (read read' written written' : StreamLog) :
   pub more : List ℕ
   pub plain : All IsLine lines
   pub fit : All (Fits most) lines
-  pub long : BeginsLong most more
-  pub given : read'.reads.given ≡ read.reads.given ++ (ended lines ++ more)
+  pub long : BeginsTooLong most more
+  pub given : read'.reads.given ≡ read.reads.given ++ (with_ends lines ++ more)
   pub received : written'.writes.received ≡ written.writes.received ++ frames lines
   pub flushed : AllFlushed written'
 

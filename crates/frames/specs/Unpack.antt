@@ -13,9 +13,9 @@ use Rattle.frame_reader.specs.Framing.{Framing, rest}
 use Rattle.frame_reader.specs.Next.{FramesWent}
 use Rattle.frames.specs.declared.error.RunError.{RunError}
 use Rattle.frames.specs.declared.error.RunError.TheVariants.{TooLong, Truncated, Io}
-use Rattle.frames.specs.declared.unpack.Step.{Step}
-use Rattle.frames.specs.declared.unpack.Step.TheVariants.{Printed, End, ReadFailed}
-use Rattle.frames.specs.Lines.{ended}
+use Rattle.frames.specs.declared.tries.Step.{Step}
+use Rattle.frames.specs.declared.tries.Step.TheVariants.{Went, End, ReadFailed}
+use Rattle.line_reader.specs.Lines.{with_ends}
 use Rattle.frames.specs.Streams.{MetNoFault, EitherFailed, Stopped, BufferRefused, GaveNothing, AllFlushed}
 
 -- a buffered writer of lines: the longest, with its end, is smaller than its buffer
@@ -27,7 +27,7 @@ pub record IsLineTarget {W : Type 0} (most : ℕ) (u : Buffered W StdPolicy) : T
 pub record Unpacks {R W : Type 0} (remaining : R → Option (List ℕ)) (s : Framing R) (u : Buffered W StdPolicy)
     (payloads lines : List (List ℕ)) (t : Framing R) (v : Buffered W StdPolicy) : Type 0 where
   pub went : FramesWent remaining s payloads t
-  pub taken : WritesInOrder u (ended lines) v
+  pub taken : WritesInOrder u (with_ends lines) v
   pub target : IsLineTarget s.max v
 
 -- neither stream failed
@@ -83,7 +83,7 @@ pub record ReadStopped {R W : Type 0} (remaining : R → Option (List ℕ)) (s :
 -- what one try did, up to the first fault of a read
 abbrev pub UnpacksOnce : {R W : Type 0} → (R → Option (List ℕ)) → Framing R → Buffered W StdPolicy
     → Result Step RunError → Framing R → Buffered W StdPolicy → Type 0
-UnpacksOnce remaining s u (Ok Printed) t v = UnpacksNext remaining s u (Ok true) t v
+UnpacksOnce remaining s u (Ok Went) t v = UnpacksNext remaining s u (Ok true) t v
 UnpacksOnce remaining s u (Ok End) t v = UnpacksNext remaining s u (Ok false) t v
 UnpacksOnce remaining s u (Ok (ReadFailed e)) t v = ReadStopped remaining s u e t v
 UnpacksOnce remaining s u (Err e) t v = UnpacksNext remaining s u (Err e) t v
@@ -114,7 +114,7 @@ pub record Unpacked (most : ℕ) (read read' written written' : StreamLog) (more
   pub payloads : List (List ℕ)
   pub fit : All (Fits most) payloads
   pub given : read'.reads.given ≡ read.reads.given ++ (frames payloads ++ more)
-  pub received : written'.writes.received ≡ written.writes.received ++ ended payloads
+  pub received : written'.writes.received ≡ written.writes.received ++ with_ends payloads
   pub flushed : AllFlushed written'
   pub met : MetNoFault read read' written written'
 
@@ -125,7 +125,7 @@ pub record UnpackedBeginning (most : ℕ) (read read' written written' : StreamL
   pub unsent : List ℕ
   pub fit : All (Fits most) (lines ++ lost)
   pub given : read'.reads.given ≡ read.reads.given ++ (frames (lines ++ lost) ++ more)
-  pub received : written'.writes.received ++ unsent ≡ written.writes.received ++ ended lines
+  pub received : written'.writes.received ++ unsent ≡ written.writes.received ++ with_ends lines
 
 -- a fault ended the run, or a buffer was refused before it began
 pub record UnpackFailed (most : ℕ) (e : Error) (read read' written written' : StreamLog) : Type 0 where

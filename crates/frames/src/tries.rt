@@ -6,6 +6,17 @@ use buffer_redux::INTERRUPT_LIMIT;
 use std::io;
 use std::io::ErrorKind;
 
+/// What one try to hand the next line or frame on came to.
+#[derive(Drop)]
+pub enum Step {
+    /// It went over.
+    Went,
+    /// There is none.
+    End,
+    /// A read failed.
+    ReadFailed(io::Error),
+}
+
 /// How many reads in a row failed with the last one, where it was so many before. Where bytes came in between, it is the
 /// first of a new row.
 pub fn row_with(row: u32, came: bool) -> u32

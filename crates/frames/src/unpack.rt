@@ -3,11 +3,11 @@ ghost use Rattle.std.specs.Prelude.{◌≡◌, ◌+◌, ◌<◌, ◌≤◌, [], 
 ghost use Rattle.buffer_redux.specs.Block.{Plain, usable};
 ghost use Rattle.buffer_redux.specs.BufWriter.{WritesInOrder};
 ghost use Rattle.buffer_redux.specs.Faults.{MetInterrupts, SendErrorCaused};
-ghost use Rattle.frames.specs.Lines.{newline};
+ghost use Rattle.line_reader.specs.Lines.{newline};
 ghost use Rattle.frames.specs.Unpack.{IsLineTarget, UnpacksOnce, UnpacksNext, UnpacksAll, UnpacksAndFlushes, UnpackRan};
 
 use crate::error::{RunError, is_fault};
-use crate::tries::{is_answered, row_with};
+use crate::tries::{Step, is_answered, row_with};
 use buffer_redux::tell::{TellRead, TellWrite};
 use buffer_redux::{BufWriter, GrowError, MakeError};
 use frame_reader::{FrameError, FrameReader};
@@ -74,14 +74,6 @@ fn unpack_all<R: TellRead, W: TellWrite>(
     answer
 }
 
-// What one try to print the next payload came to.
-#[derive(Drop)]
-enum Step {
-    Printed,
-    End,
-    ReadFailed(io::Error),
-}
-
 // Prints each payload.
 fn unpack_frames<R: TellRead, W: TellWrite>(
     source: &mut FrameReader<R>,
@@ -110,7 +102,7 @@ fn unpack_frame<R: TellRead, W: TellWrite>(
     'tries: loop {
         let have = source.rest().len();
         match try_frame(source, target)? {
-            Step::Printed => return Ok(true),
+            Step::Went => return Ok(true),
             Step::End => return Ok(false),
             Step::ReadFailed(e) => {
                 row = row_with(row, source.rest().len() > have);
@@ -133,7 +125,7 @@ fn try_frame<R: TellRead, W: TellWrite>(
     match source.next() {
         Ok(Some(payload)) => {
             print_line(target, payload)?;
-            Ok(Step::Printed)
+            Ok(Step::Went)
         }
         Ok(None) => Ok(Step::End),
         Err(FrameError::TooLong(_)) => Err(RunError::TooLong),

@@ -5,7 +5,7 @@ use Rattle.frames.proofs.pack.pack_all.Goals as goal
 
 pub returns-then-is_fault-clause-packs : goal.returns-then-is_fault-clause-packs
 returns-then-is_fault-clause-packs g c =
-    kept g.W.TellWrite.stretch c.args.source.now c.pack_lines-answer.new.source c.args.target.now
+    kept g.R.TellRead.remaining g.W.TellWrite.stretch c.args.source.now c.pack_lines-answer.new.source c.args.target.now
     c.pack_lines-answer.new.target c.pack_lines-answer.result (sym c.is_fault.ensures ∙ c.if-is_fault.true)
     c.pack_lines-answer.ensures.packs
 
@@ -13,7 +13,7 @@ pub returns-in_err-flush-clause-packs : goal.returns-in_err-flush-clause-packs
 returns-in_err-flush-clause-packs g c =
     let p = err_from_is_err_and c.from_residual.result c.from_residual.ensures.1 in
     rw (p.1, p.2)
-    (flush_failed_after g.W.TellWrite.stretch g.met.W.TellWrite.stretch_joins c.args.source.now
+    (flush_failed_after g.R.TellRead.remaining g.W.TellWrite.stretch g.met.W.TellWrite.stretch_joins c.args.source.now
     c.pack_lines-answer.new.source c.args.target.now c.pack_lines-answer.new.target c.flush.new.self
     c.in_err-flush.ensures.went c.pack_lines-answer.result (sym c.is_fault.ensures ∙ c.if-is_fault.false)
     c.pack_lines-answer.ensures.packs _ c.in_err-flush.ensures.flushed.caused)
@@ -21,8 +21,8 @@ returns-in_err-flush-clause-packs g c =
 pub returns-clause-packs : goal.returns-clause-packs
 returns-clause-packs g c =
     let ok = c.in_ok-flush.ensures.flushed.ok in
-    flushed_after g.W.TellWrite.stretch g.met.W.TellWrite.stretch_joins c.args.source.now
+    flushed_after g.R.TellRead.remaining g.W.TellWrite.stretch g.met.W.TellWrite.stretch_joins c.args.source.now
     c.pack_lines-answer.new.source c.args.target.now c.pack_lines-answer.new.target c.flush.new.self
     c.in_ok-flush.ensures.went c.pack_lines-answer.result (sym c.is_fault.ensures ∙ c.if-is_fault.false)
-    c.pack_lines-answer.ensures.packs (record { empty = ok.empty; flushed = ok.flushed })
+    c.pack_lines-answer.ensures.packs (ok.empty, ok.flushed)
     ok.met

@@ -1,64 +1,86 @@
-use Rattle.std.proofs.Common.{◌≡◌, ap, subst, sym, ◌∙◌, arith, length, ltb, false}
+use Rattle.std.proofs.Common.{subst, sym, ◌∙◌, Ok, Err, true, false, [], arith}
 use Rattle.std.proofs.lemmas.Result.{err_from_is_err_and}
-use Rattle.frames.specs.Lines.{IsFirstLine}
-use Rattle.frames.proofs.Packing.{fill_failed, no_line, write_failed, line_done, end_known}
+use Rattle.line_reader.specs.LinesWentLaws.{LinesWent-joins}
+use Rattle.frames.specs.Pack.{ReadStopped, PacksOnce}
+use Rattle.frames.proofs.Faring.{only_more, one_more}
+use Rattle.frames.proofs.Packing.{retried, gives_up, not_asked_again}
 use Rattle.frames.proofs.pack.pack_line.Goals as goal
 
-pub returns-in_err-ready-clause-packs : goal.returns-in_err-ready-clause-packs
-returns-in_err-ready-clause-packs g c =
+pub returns-in_err-try_line-clause-packs : goal.returns-in_err-try_line-clause-packs
+returns-in_err-try_line-clause-packs g c =
+    let before = c.tries.invariant in
     let p = err_from_is_err_and c.from_residual.result c.from_residual.ensures.1 in
-    let f = c.in_err-ready.ensures in
     rw (p.1, p.2)
-    (fill_failed g.W.TellWrite.stretch g.met.W.TellWrite.stretch_none g.met.W.TellWrite.stretch_joins c.args.source.now
-    c.ready.new.source c.args.target.now c.requires f.in_order f.grows f.policy f.capacity _ f.fault)
+    (retried g.R.TellRead.remaining g.W.TellWrite.stretch g.met.W.TellWrite.stretch_none c.args.source.now c.tries.source
+    c.try_line.new.source c.args.target.now c.try_line.new.target before.went before.met before.still before.quiet
+    c.tries.target before.target (Err c.in_err-try_line.field-0.0) c.in_err-try_line.ensures.packs)
 
-pub returns-then-buf_len-eq0-clause-packs : goal.returns-then-buf_len-eq0-clause-packs
-returns-then-buf_len-eq0-clause-packs g c =
-    let f = c.in_ok-ready.ensures in
-    no_line g.W.TellWrite.stretch g.met.W.TellWrite.stretch_none g.met.W.TellWrite.stretch_joins c.args.source.now
-    c.ready.new.source c.args.target.now c.requires f.in_order f.grows f.policy f.capacity f.met
-    (omega (arith, c.if-buf_len-eq0.true, c.buf_len.ensures.value))
+pub returns-in-Went-clause-packs : goal.returns-in-Went-clause-packs
+returns-in-Went-clause-packs g c =
+    let remaining = g.R.TellRead.remaining in
+    let stretch = g.W.TellWrite.stretch in
+    let before = c.tries.invariant in
+    let t = c.try_line.new.source in
+    let v = c.try_line.new.target in
+    retried remaining stretch g.met.W.TellWrite.stretch_none c.args.source.now c.tries.source t c.args.target.now v
+    before.went before.met before.still before.quiet c.tries.target before.target (Ok true)
+    (subst (λ x. PacksOnce remaining stretch c.tries.source c.tries.target (Ok x) t v) c.in-Went.is
+    c.in_ok-try_line.ensures.packs)
 
-pub returns-in_err-write_frame-clause-packs : goal.returns-in_err-write_frame-clause-packs
-returns-in_err-write_frame-clause-packs g c =
-    let p = err_from_is_err_and c.from_residual-in_err-write_frame.result c.from_residual-in_err-write_frame.ensures.1 in
-    let f = c.in_ok-ready.ensures in
-    let first : IsFirstLine c.ready.new.source.block.bytes c.first_line-line.result.now =
-    subst (λ l. IsFirstLine l c.first_line-line.result.now) c.buffer-bytes.ensures.value c.first_line-line.ensures in
-    rw (p.1, p.2)
-    (write_failed g.W.TellWrite.stretch g.met.W.TellWrite.stretch_none g.met.W.TellWrite.stretch_joins c.args.source.now
-    c.ready.new.source c.args.target.now c.requires f.in_order f.grows f.policy f.capacity f.met
-    c.first_line-line.result.now first c.write_frame.new.self _ c.in_err-write_frame.ensures)
+pub returns-in-End-clause-packs : goal.returns-in-End-clause-packs
+returns-in-End-clause-packs g c =
+    let remaining = g.R.TellRead.remaining in
+    let stretch = g.W.TellWrite.stretch in
+    let before = c.tries.invariant in
+    let t = c.try_line.new.source in
+    let v = c.try_line.new.target in
+    retried remaining stretch g.met.W.TellWrite.stretch_none c.args.source.now c.tries.source t c.args.target.now v
+    before.went before.met before.still before.quiet c.tries.target before.target (Ok false)
+    (subst (λ x. PacksOnce remaining stretch c.tries.source c.tries.target (Ok x) t v) c.in-End.is
+    c.in_ok-try_line.ensures.packs)
 
-pub returns-clause-packs : goal.returns-clause-packs
-returns-clause-packs g c =
-    let f = c.in_ok-ready.ensures in
-    let d = c.drop_first.ensures in
-    let shown = c.buffer-bytes.ensures.value in
-    let line = c.first_line-line.result.now in
-    let first : IsFirstLine c.ready.new.source.block.bytes line =
-    subst (λ l. IsFirstLine l line) shown c.first_line-line.ensures in
-    rw shown
-    (line_done g.W.TellWrite.stretch g.met.W.TellWrite.stretch_none g.met.W.TellWrite.stretch_joins c.args.source.now
-    c.ready.new.source c.args.target.now c.requires f.in_order f.grows f.policy f.capacity f.met
-    line first c.write_frame.new.self c.in_ok-write_frame.ensures c.drop_first.new.source _ d.in_order d.left d.told d.policy
-    d.capacity (omega (arith, c.if-buf_len-eq0.false, c.buf_len.ensures.value))
-    (omega (arith, c.min-taken.ensures, ap length shown)))
+pub returns-then-is_answered-clause-packs : goal.returns-then-is_answered-clause-packs
+returns-then-is_answered-clause-packs g c =
+    let remaining = g.R.TellRead.remaining in
+    let stretch = g.W.TellWrite.stretch in
+    let before = c.tries.invariant in
+    let t = c.try_line.new.source in
+    let v = c.try_line.new.target in
+    let e = c.in-ReadFailed.e in
+    let stopped : ReadStopped remaining stretch c.tries.source c.tries.target e t v =
+    subst (λ x. PacksOnce remaining stretch c.tries.source c.tries.target (Ok x) t v) c.in-ReadFailed.is
+    c.in_ok-try_line.ensures.packs in
+    rw c.into.ensures
+    (gives_up remaining stretch g.met.W.TellWrite.stretch_none c.args.source.now c.tries.source t c.args.target.now v
+    before.went before.met before.still before.quiet c.tries.target before.target e stopped
+    (λ is. omega (
+      arith,
+      c.is_answered.ensures.often c.if-is_answered.true is,
+      c.row_with-row.ensures.most,
+      before.row,
+      one_more _ _ e stopped.fault,
+    )))
 
-pub returns-clause-end : goal.returns-clause-end
-returns-clause-end g c is =
-    let f = c.in_ok-ready.ensures in
-    let d = c.drop_first.ensures in
-    let shown = c.buffer-bytes.ensures.value in
-    let line = c.first_line-line.result.now in
-    let first : IsFirstLine c.ready.new.source.block.bytes line =
-    subst (λ l. IsFirstLine l line) shown c.first_line-line.ensures in
-    let isnt : ltb (length line) (length c.buffer-bytes.result.now) ≡ false = cc in
-    end_known g.W.TellWrite.stretch g.met.W.TellWrite.stretch_none g.met.W.TellWrite.stretch_joins c.args.source.now
-    c.ready.new.source c.args.target.now c.requires f.in_order f.grows f.policy f.capacity f.met
-    line first c.write_frame.new.self c.in_ok-write_frame.ensures c.drop_first.new.source _ d.in_order d.left d.told d.policy
-    d.capacity c.ready.new.ended f.enough
-    (ap (λ l. ltb (length line) (length l)) (sym shown) ∙ isnt)
-
-pub returns-clause-unasked : goal.returns-clause-unasked
-returns-clause-unasked g c shows = c.drop_first.ensures.told ∙ c.in_ok-ready.ensures.unasked shows
+pub tries-preserved : goal.tries-preserved
+tries-preserved g c =
+    let remaining = g.R.TellRead.remaining in
+    let stretch = g.W.TellWrite.stretch in
+    let before = c.tries.invariant in
+    let t = c.try_line.new.source in
+    let v = c.try_line.new.target in
+    let e = c.in-ReadFailed.e in
+    let stopped : ReadStopped remaining stretch c.tries.source c.tries.target e t v =
+    subst (λ x. PacksOnce remaining stretch c.tries.source c.tries.target (Ok x) t v) c.in-ReadFailed.is
+    c.in_ok-try_line.ensures.packs in
+    let again = c.is_answered.ensures.again c.if-is_answered.false in
+    record {
+      went = LinesWent-joins remaining c.args.source.now c.tries.source t [] [] before.went stopped.went;
+      target = stopped.same ∙ before.target;
+      met = only_more _ _ _ e before.met stopped.fault again.0;
+      row = omega (arith, before.row, c.row_with-row.ensures.most, one_more _ _ e stopped.fault);
+      few = again.1;
+      still = stopped.still ∙ sym stopped.going ∙ before.still;
+      quiet = stopped.none ∙ before.quiet;
+      asked = λ isnt. absurd (not_asked_again c.args.source.now c.tries.source t e (before.asked isnt) isnt
+          c.in_ok-try_line.ensures.unasked stopped.fault);
+    }

@@ -1,6 +1,6 @@
 use Rattle.std.proofs.Common.{◌∷◌, []}
 use Rattle.buffer_redux.specs.WriterLaws.{WritesInOrder-joins}
-use Rattle.frames.specs.Lines.{newline}
+use Rattle.line_reader.specs.Lines.{newline}
 use Rattle.frames.proofs.unpack.print_line.Goals as goal
 
 pub returns-clause-taken : goal.returns-clause-taken

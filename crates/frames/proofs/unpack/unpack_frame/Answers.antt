@@ -15,15 +15,15 @@ returns-in_err-try_frame g c =
     c.try_frame.new.target before.went before.met c.tries.target before.target
     (Err c.in_err-try_frame.field-0.0) c.in_err-try_frame.ensures)
 
-pub returns-in-Printed : goal.returns-in-Printed
-returns-in-Printed g c =
+pub returns-in-Went : goal.returns-in-Went
+returns-in-Went g c =
     let remaining = g.R.TellRead.remaining in
     let before = c.tries.invariant in
     let t = c.try_frame.new.source in
     let v = c.try_frame.new.target in
     retried remaining c.args.source.now c.tries.source t c.args.target.now v before.went before.met c.tries.target
     before.target (Ok true)
-    (subst (λ x. UnpacksOnce remaining c.tries.source c.tries.target (Ok x) t v) c.in-Printed.is c.in_ok-try_frame.ensures)
+    (subst (λ x. UnpacksOnce remaining c.tries.source c.tries.target (Ok x) t v) c.in-Went.is c.in_ok-try_frame.ensures)
 
 pub returns-in-End : goal.returns-in-End
 returns-in-End g c =
