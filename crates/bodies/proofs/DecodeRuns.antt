@@ -1,0 +1,184 @@
+-- What a whole run of `decode` comes to.
+use Rattle.std.proofs.Common.{◌≡◌, ℕ, inl, inr, List, [], ◌∷◌, ◌++◌, length, length-append, Option, Result, Ok, Err, refl, sym, ap, subst, ◌∙◌, arith, append_assoc, append-nil}
+use Rattle.std.specs.IoError.{error_kind}
+use Rattle.std.specs.declared.io.Error.{Error}
+use Rattle.std.specs.declared.io.ErrorKind.TheVariants.{OutOfMemory}
+use Rattle.buffer_redux.specs.BufReader.{ReadsAlong}
+use Rattle.buffer_redux.specs.Buffered.{Buffered}
+use Rattle.buffer_redux.specs.Policy.{std_read_rules}
+use Rattle.buffer_redux.specs.ReaderLaws.{ReadsAlong-none, ReadsAlong-then, ReadsInOrder-fresh}
+use Rattle.buffer_redux.specs.StreamLog.{StreamLog}
+use Rattle.buffer_redux.specs.WriterLaws.{WritesInOrder-fresh}
+use Rattle.buffer_redux.specs.declared.policy.StdPolicy.{StdPolicy}
+use Rattle.chunked.specs.Body.{IsBody}
+use Rattle.chunked.specs.Dechunking.{BodyWent, Dechunking, IsDechunking, IsWhole, begun, taken_count}
+use Rattle.chunked.specs.Place.{IsWrong, Leads}
+use Rattle.chunked.specs.PlaceLaws.{Leads-none}
+use Rattle.chunked.specs.declared.limits.Limits.{Limits}
+use Rattle.chunked.specs.declared.place.Place.TheVariants.{Line}
+use Rattle.bodies.specs.declared.error.RunError.{RunError}
+use Rattle.bodies.specs.declared.error.RunError.TheVariants.{NotChunked, Truncated, Behind, Io}
+use Rattle.bodies.specs.Decode.{AllSent, DecodeRan, Decoded, ExpectsEnd, IsPart, MovesAndFlushes, MovesEach, Sent}
+use Rattle.bodies.specs.Streams.{MetNoFault, Stopped}
+use Rattle.bodies.proofs.Faring.{EitherFailed-after, MetInterrupts-none, MetNoFault-joins}
+
+-- from empty buffers on
+module _ {R W : Type 0} (remaining : R → Option (List ℕ)) (limits : Limits) (first : Buffered R StdPolicy)
+    (t : Dechunking R StdPolicy) (u v : Buffered W StdPolicy) (none : first.block.bytes ≡ [])
+    (none' : u.block.bytes ≡ []) where
+  part : (payload : List ℕ) → BodyWent remaining std_read_rules (begun first limits) payload t → IsDechunking t
+      → IsPart limits t.taken payload t.place
+  part payload went is = record {
+    leads = subst (λ l. Leads l Line t.taken payload t.place) went.limits
+        (subst (λ l. Leads t.limits Line t.taken l t.place) went.handed is.leads);
+    is_place = is.place;
+  }
+
+  -- what follows what was taken is buffered, also after calls that hand out nothing
+  given : (payload : List ℕ) → BodyWent remaining std_read_rules (begun first limits) payload t
+      → (r : Buffered R StdPolicy) → ReadsAlong remaining std_read_rules t.reader [] r
+      → r.log.reads.given ≡ first.log.reads.given ++ (t.taken ++ r.block.bytes)
+  given payload went r still =
+      ReadsInOrder-fresh first r went.wire none
+      (ReadsAlong-then remaining std_read_rules first t.reader r went.wire went.along still).in_order
+      ∙ ap (λ l. first.log.reads.given ++ (l ++ r.block.bytes)) (sym went.taken)
+
+  module _ (p : MovesEach remaining (begun first limits) u t v) (all : AllSent v) where
+    received : v.log.writes.received ≡ u.log.writes.received ++ p.payload
+    received =
+        sym (append-nil v.log.writes.received) ∙ ap (λ l. v.log.writes.received ++ l) (sym all.empty)
+        ∙ WritesInOrder-fresh u v p.payload none' p.went.taken
+
+    sent : (r : Buffered R StdPolicy) → ReadsAlong remaining std_read_rules t.reader [] r
+        → MetNoFault first.log r.log u.log v.log → Sent first.log r.log u.log v.log t.taken p.payload r.block.bytes
+    sent r still met = record {
+      given = given p.payload p.went.went r still;
+      received = received;
+      flushed = all.flushed;
+      met = met;
+    }
+
+    sent_now : Sent first.log t.reader.log u.log v.log t.taken p.payload t.reader.block.bytes
+    sent_now = sent t.reader (ReadsAlong-none remaining std_read_rules t.reader) p.met
+
+    body : IsWhole t → IsBody limits t.taken p.payload
+    body whole =
+        subst (λ l. IsBody l t.taken p.payload) p.went.went.limits
+        (subst (λ l. IsBody t.limits t.taken l) p.went.went.handed whole)
+
+    -- it was asked whether something follows
+    module _ (whole : IsWhole t) (r : Buffered R StdPolicy) where
+      decoded : ReadsAlong remaining std_read_rules t.reader [] r → MetNoFault first.log r.log u.log v.log
+          → Decoded limits first.log r.log u.log v.log r.block.bytes
+      decoded still met =
+          record { body = t.taken; payload = p.payload; is_body = body whole; sent = sent r still met }
+
+      pub asked : (answer : Result (Unit {0}) RunError) → ExpectsEnd remaining t.reader (taken_count t) answer r
+          → DecodeRan limits first.log r.log u.log v.log answer
+      unfolding decoded
+      asked (Ok _) end =
+          let met = MetNoFault-joins first.log t.reader.log r.log u.log v.log v.log p.met
+          (record { reader = end.answers.0; writer = MetInterrupts-none v.log.writes }) in (
+            subst (Decoded limits first.log r.log u.log v.log) end.answers.1 (decoded end.along met),
+            omega (arith, p.went.went.along.grows.zero_reads, end.answers.2),
+          )
+      asked (Err (NotChunked why right)) end = absurd end.answers
+      asked (Err (Truncated right)) end = absurd end.answers
+      asked (Err (Behind right)) end =
+          let met = MetNoFault-joins first.log t.reader.log r.log u.log v.log v.log p.met
+          (record { reader = end.answers.0; writer = MetInterrupts-none v.log.writes }) in
+          (r.block.bytes, end.answers.1, (decoded end.along met, end.answers.2))
+      asked (Err (Io e)) end = record {
+        wire = t.taken;
+        payload = p.payload;
+        place = t.place;
+        part = part p.payload p.went.went p.went.source.whole;
+        rest = r.block.bytes;
+        given = given p.payload p.went.went r end.along;
+        unsent = [];
+        received = append-nil v.log.writes.received ∙ received;
+        caused = inl (inl (EitherFailed-after e first.log t.reader.log r.log u.log v.log v.log p.met
+            (inl (record { reader = end.answers; writer = MetInterrupts-none v.log.writes }))));
+      }
+
+  pub ended : MovesAndFlushes remaining (begun first limits) u (Ok tt) t v → (answer : Result (Unit {0}) RunError)
+      → (r : Buffered R StdPolicy) → ExpectsEnd remaining t.reader (taken_count t) answer r
+      → DecodeRan limits first.log r.log u.log v.log answer
+  ended p answer r end = asked p.0.0 p.1 p.0.1 r answer end
+
+  -- the more bytes, the more
+  stopped_longer : (e : Error) (payload lost : List ℕ)
+      → Stopped e (length payload) first.log t.reader.log u.log v.log
+      → Stopped e (length (payload ++ lost)) first.log t.reader.log u.log v.log
+  stopped_longer e payload lost (inl failed) = inl failed
+  stopped_longer e payload lost (inr over) = inr (record {
+    other = over.other;
+    large = omega (arith, over.large, length-append payload lost);
+    met = over.met;
+  })
+
+  -- the body has no end
+  pub stopped : (why : RunError) → MovesAndFlushes remaining (begun first limits) u (Err why) t v
+      → DecodeRan limits first.log t.reader.log u.log v.log (Err why)
+  stopped (NotChunked why right) p =
+      let each = p.0.0 in
+      let breaks = p.0.1 in
+      record {
+        wire = t.taken;
+        payload = each.payload;
+        place = t.place;
+        part = part each.payload each.went.went each.went.source.whole;
+        byte = breaks.byte;
+        later = breaks.later;
+        sent = subst (λ l. Sent first.log t.reader.log u.log v.log t.taken each.payload l) breaks.next (sent_now each p.1);
+        name = subst (λ l. IsWrong l t.place breaks.byte why) each.went.went.limits breaks.name;
+        none = subst (λ l. (rest whole : List ℕ) → ¬ IsBody l (t.taken ++ breaks.byte ∷ rest) whole)
+            each.went.went.limits breaks.none;
+        count = p.0.2;
+      }
+  stopped (Truncated right) p =
+      let each = p.0.0 in
+      let cut = p.0.1 in
+      record {
+        wire = t.taken;
+        payload = each.payload;
+        place = t.place;
+        part = part each.payload each.went.went each.went.source.whole;
+        sent = subst (λ l. Sent first.log t.reader.log u.log v.log t.taken each.payload l) cut.left (sent_now each p.1);
+        none = subst (λ l. (whole : List ℕ) → ¬ IsBody l t.taken whole) each.went.went.limits cut.none;
+        ended = cut.dry;
+        count = p.0.2;
+      }
+  stopped (Behind right) p = absurd p.0
+  stopped (Io e) p =
+      let first' = p.0 in
+      record {
+        wire = t.taken;
+        payload = first'.payload ++ first'.lost;
+        place = t.place;
+        part = part (first'.payload ++ first'.lost) first'.went.went first'.went.source.whole;
+        rest = t.reader.block.bytes;
+        given = given (first'.payload ++ first'.lost) first'.went.went t.reader
+            (ReadsAlong-none remaining std_read_rules t.reader);
+        unsent = v.block.bytes ++ first'.lost;
+        received =
+            sym (append_assoc v.log.writes.received v.block.bytes first'.lost)
+            ∙ ap (λ l. l ++ first'.lost) (WritesInOrder-fresh u v first'.payload none' first'.went.taken)
+            ∙ append_assoc u.log.writes.received first'.payload first'.lost;
+        caused = inl (stopped_longer e first'.payload first'.lost p.1);
+      }
+
+-- a buffer was refused
+pub refused : (limits : Limits) (read written : StreamLog) (e : Error) → error_kind e ≡ OutOfMemory
+    → DecodeRan limits read read written written (Err (Io e))
+refused limits read written e memory = record {
+  wire = [];
+  payload = [];
+  place = Line;
+  part = record { leads = Leads-none limits Line; is_place = tt };
+  rest = [];
+  given = sym (append-nil read.reads.given);
+  unsent = [];
+  received = refl;
+  caused = inr (record { memory = memory; read_same = refl; written_same = refl });
+}

@@ -1,0 +1,24 @@
+use Rattle.std.proofs.Common.{[], arith}
+use Rattle.buffer_redux.specs.ReaderLaws.{ReadsAlong-joins}
+use Rattle.bodies.proofs.Faring.{only_more, one_more}
+use Rattle.bodies.proofs.at_end.is_at_end.Goals as goal
+
+pub returns-in-Ok-clause-along : goal.returns-in-Ok-clause-along
+returns-in-Ok-clause-along g c =
+    ReadsAlong-joins _ _ _ _ _ [] [] c.tries.invariant.along c.try_at_end.ensures.along
+
+pub returns-then-is_answered-clause-along : goal.returns-then-is_answered-clause-along
+returns-then-is_answered-clause-along g c =
+    ReadsAlong-joins _ _ _ _ _ [] [] c.tries.invariant.along c.try_at_end.ensures.along
+
+pub tries-preserved : goal.tries-preserved
+tries-preserved g c =
+    let before = c.tries.invariant in
+    let tried = c.in-Err.ensures in
+    let again = c.is_answered.ensures.again c.if-is_answered.false in
+    record {
+      along = ReadsAlong-joins _ _ _ _ _ [] [] before.along c.try_at_end.ensures.along;
+      met = only_more _ _ _ c.in-Err.e before.met tried.fault again.0;
+      row = omega (arith, before.row, one_more _ _ c.in-Err.e tried.fault);
+      few = again.1;
+    }

@@ -1,0 +1,16 @@
+use Rattle.std.proofs.Common.{◌+◌, ◌-◌, ◌≤◌, [], length}
+use Rattle.buffer_redux.specs.BufReader.{ReadsAlong}
+use Rattle.buffer_redux.specs.Faults.{OnlyInterrupts}
+use Rattle.buffer_redux.specs.Policy.{std_read_rules}
+use Rattle.bodies.proofs.at_end.is_at_end.Given as goal
+
+abbrev pub invariant-tries : goal.invariant-tries
+invariant-tries g l = record {
+  along : ReadsAlong g.R.TellRead.remaining std_read_rules l.fn.source [] l.source;
+  met : OnlyInterrupts l.fn.source.log.reads.faults l.source.log.reads.faults;
+  row : length l.fn.source.log.reads.faults + l.row ≤ length l.source.log.reads.faults;
+  few : l.row ≤ 64;
+}
+
+abbrev pub decreases-tries : goal.decreases-tries
+decreases-tries g l = 64 - l.row

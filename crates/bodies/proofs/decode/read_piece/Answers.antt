@@ -1,0 +1,36 @@
+use Rattle.std.proofs.Common.{arith}
+use Rattle.buffer_redux.specs.Faults.{OnlyInterrupts-none}
+use Rattle.chunked.specs.DechunkingLaws.{BodyWent-none}
+use Rattle.bodies.proofs.Reading.{again, answered, source_kept}
+use Rattle.bodies.proofs.decode.read_piece.Goals as goal
+
+pub tries-init : goal.tries-init
+tries-init g c = record {
+  went = BodyWent-none _ _ _;
+  source = c.requires.source;
+  met = OnlyInterrupts-none _;
+  room = c.requires.room;
+  row = omega arith;
+  few = omega arith;
+}
+
+pub returns-then-is_final-clause-reads : goal.returns-then-is_final-clause-reads
+returns-then-is_final-clause-reads g c =
+    let before = c.tries.invariant in
+    answered _ _ _ _ before.went before.source before.met _ _ before.row _ (c.is_final.ensures.often c.if-is_final.true)
+    (omega (arith, before.room, c.read_payload-answer.auto.out)) c.read_payload-answer.ensures.reads
+
+pub tries-preserved : goal.tries-preserved
+tries-preserved g c =
+    let before = c.tries.invariant in
+    let interrupted = c.is_final.ensures.again c.if-is_final.false in
+    let reads = c.read_payload-answer.ensures.reads in
+    let tried = again _ _ _ _ before.went before.source before.met _ _ before.row _ interrupted.0 reads in
+    record {
+      went = tried.0;
+      source = source_kept _ _ _ _ before.went before.source before.met _ _ reads;
+      met = tried.1;
+      room = omega (arith, before.room, c.read_payload-answer.auto.out);
+      row = tried.2;
+      few = interrupted.1;
+    }

@@ -1,0 +1,28 @@
+-- What a run does that words ask for.
+use Rattle.std.specs.Prelude.{◌≡◌, ℕ, List, [], ◌∷◌, codes, Result}
+use Rattle.buffer_redux.specs.StreamLog.{StreamLog}
+use Rattle.chunked.specs.declared.limits.Limits.{Limits}
+use Rattle.bodies.specs.declared.ending.Ending.{Ending}
+use Rattle.bodies.specs.declared.ending.Ending.TheVariants.{Usage}
+use Rattle.bodies.specs.declared.error.RunError.{RunError}
+use Rattle.bodies.specs.Decode.{DecodeRan}
+use Rattle.bodies.specs.Ending.{EndsAs}
+
+-- there is one word, which is `decode`
+abbrev pub AskToDecode : List (List ℕ) → Type 0
+AskToDecode words = words ≡ codes "decode" ∷ []
+
+-- 8192 bytes for the line of a size, and 65536 for the trailers
+abbrev pub usual_limits : Limits
+usual_limits = record { line = 8192; trailers = 65536 }
+
+-- the payload of a body was copied, and the run ended so
+pub record DecodedAs (ending : Ending) (read read' written written' : StreamLog) : Type 0 where
+  pub answer : Result (Unit {0}) RunError
+  pub ran : DecodeRan usual_limits read read' written written' answer
+  pub ends : EndsAs answer ending
+
+-- what a run did that these words asked for, and that ended so; other words call no stream
+pub record RunDid (words : List (List ℕ)) (ending : Ending) (read read' written written' : StreamLog) : Type 0 where
+  pub decode : AskToDecode words → DecodedAs ending read read' written written'
+  pub usage : ¬ AskToDecode words → (ending ≡ Usage) × (read' ≡ read) × (written' ≡ written)

@@ -1,0 +1,212 @@
+-- What a run of `decode` moves from a reader to a writer.
+use Rattle.std.specs.Prelude.{◌≡◌, ℕ, ◌-◌, ◌^◌, ◌<◌, ◌⊎◌, List, [], ◌∷◌, ◌++◌, length, min, Result, Ok, Err, Option}
+use Rattle.std.specs.declared.io.Error.{Error}
+use Rattle.buffer_redux.specs.Block.{Plain}
+use Rattle.buffer_redux.specs.BufReader.{RanDry, ReadsAlong}
+use Rattle.buffer_redux.specs.BufWriter.{WritesInOrder}
+use Rattle.buffer_redux.specs.Buffered.{Buffered}
+use Rattle.buffer_redux.specs.Faults.{IsInterrupt, OnlyInterrupts}
+use Rattle.buffer_redux.specs.Policy.{std_read_rules}
+use Rattle.buffer_redux.specs.StreamLog.{StreamLog}
+use Rattle.buffer_redux.specs.declared.policy.StdPolicy.{StdPolicy}
+use Rattle.chunked.specs.Between.{handed_out}
+use Rattle.chunked.specs.Body.{IsBody}
+use Rattle.chunked.specs.Dechunking.{BodyWent, Breaks, Dechunking, IsDechunking, IsWhole, taken_count}
+use Rattle.chunked.specs.Place.{IsPlace, IsWrong, Leads}
+use Rattle.chunked.specs.declared.error.ChunkedError.{ChunkedError}
+use Rattle.chunked.specs.declared.error.ChunkedError.TheVariants as NoPayload
+use Rattle.chunked.specs.declared.error.Malformed.{Malformed}
+use Rattle.chunked.specs.declared.limits.Limits.{Limits}
+use Rattle.chunked.specs.declared.place.Place.{Place}
+use Rattle.chunked.specs.declared.place.Place.TheVariants.{Line}
+use Rattle.bodies.specs.declared.error.RunError.{RunError}
+use Rattle.bodies.specs.declared.error.RunError.TheVariants.{NotChunked, Truncated, Behind, Io}
+use Rattle.bodies.specs.Streams.{MetNoFault, ReadGaveUp, Stopped, BufferRefused, GaveNothing, AllFlushed}
+
+-- why a run failed in which there was no further payload
+abbrev pub of_chunked : ChunkedError → RunError
+of_chunked (NoPayload.NotChunked why right) = NotChunked why right
+of_chunked (NoPayload.Truncated right) = Truncated right
+of_chunked (NoPayload.Io e) = Io e
+
+-- a reader of a body whose buffered reader has some capacity
+pub record IsBodySource {R : Type 0} (s : Dechunking R StdPolicy) : Type 0 where
+  pub capacity : 0 < s.reader.block.capacity
+  pub whole : IsDechunking s
+
+-- a buffered writer whose buffer is larger than a piece of payload
+pub record IsPieceTarget {W : Type 0} (u : Buffered W StdPolicy) : Type 0 where
+  pub plain : u.block.kind ≡ Plain
+  pub capacity : 8192 < u.block.capacity
+
+-- reads were at most interrupted
+abbrev pub ReadsMet : {R : Type 0} → Dechunking R StdPolicy → Dechunking R StdPolicy → Type 0
+ReadsMet s t = OnlyInterrupts s.reader.log.reads.faults t.reader.log.reads.faults
+
+-- what was taken is no body, nothing is left, and the reader gave no more
+pub record CutShort {R : Type 0} (s t : Dechunking R StdPolicy) : Type 0 where
+  pub none : (payload : List ℕ) → ¬ IsBody t.limits t.taken payload
+  pub left : t.reader.block.bytes ≡ []
+  pub dry : RanDry s.reader t.reader
+
+-- a read of payload answered that a read was interrupted
+abbrev pub WasInterrupted : Result ℕ ChunkedError → Type 0
+WasInterrupted (Ok n) = ⊥
+WasInterrupted (Err (NoPayload.NotChunked why right)) = ⊥
+WasInterrupted (Err (NoPayload.Truncated right)) = ⊥
+WasInterrupted (Err (NoPayload.Io e)) = IsInterrupt e
+
+-- what an answer to a read of payload says, in which interrupted reads were tried again
+abbrev pub PieceAnswers : {R : Type 0} → Dechunking R StdPolicy → Result ℕ ChunkedError → Dechunking R StdPolicy → Type 0
+PieceAnswers s (Ok n) t = ReadsMet s t × (n ≡ 0 → IsWhole t)
+PieceAnswers s (Err (NoPayload.NotChunked why right)) t = ReadsMet s t × Breaks why t × (right ≡ taken_count t)
+PieceAnswers s (Err (NoPayload.Truncated right)) t = ReadsMet s t × CutShort s t × (right ≡ taken_count t)
+PieceAnswers s (Err (NoPayload.Io e)) t = ReadGaveUp e s.reader.log.reads.faults t.reader.log.reads.faults
+
+-- what such a read does, which left the slice as out
+pub record ReadsPiece {R : Type 0} (remaining : R → Option (List ℕ)) (s : Dechunking R StdPolicy) (out : List ℕ)
+    (answer : Result ℕ ChunkedError) (t : Dechunking R StdPolicy) : Type 0 where
+  pub went : BodyWent remaining std_read_rules s (handed_out out answer) t
+  pub source : IsBodySource t
+  pub answers : PieceAnswers s answer t
+
+-- the reader handed out this payload, and the writer took in that
+pub record Moves {R W : Type 0} (remaining : R → Option (List ℕ)) (s : Dechunking R StdPolicy) (u : Buffered W StdPolicy)
+    (handed accepted : List ℕ) (t : Dechunking R StdPolicy) (v : Buffered W StdPolicy) : Type 0 where
+  pub went : BodyWent remaining std_read_rules s handed t
+  pub source : IsBodySource t
+  pub taken : WritesInOrder u accepted v
+  pub target : IsPieceTarget v
+
+-- neither stream failed
+abbrev pub NoneFailed : {R W : Type 0} → Dechunking R StdPolicy → Buffered W StdPolicy → Dechunking R StdPolicy
+    → Buffered W StdPolicy → Type 0
+NoneFailed s u t v = MetNoFault s.reader.log t.reader.log u.log v.log
+
+-- all payload that was handed out was taken in
+pub record MovesEach {R W : Type 0} (remaining : R → Option (List ℕ)) (s : Dechunking R StdPolicy)
+    (u : Buffered W StdPolicy) (t : Dechunking R StdPolicy) (v : Buffered W StdPolicy) : Type 0 where
+  pub payload : List ℕ
+  pub went : Moves remaining s u payload payload t v
+  pub met : NoneFailed s u t v
+
+-- the first of it was
+pub record MovesFirst {R W : Type 0} (remaining : R → Option (List ℕ)) (s : Dechunking R StdPolicy)
+    (u : Buffered W StdPolicy) (t : Dechunking R StdPolicy) (v : Buffered W StdPolicy) : Type 0 where
+  pub payload : List ℕ
+  pub lost : List ℕ
+  pub went : Moves remaining s u (payload ++ lost) payload t v
+
+-- what calls did that move piece after piece
+abbrev pub MovesAll : {R W : Type 0} → (R → Option (List ℕ)) → Dechunking R StdPolicy → Buffered W StdPolicy
+    → Result (Unit {0}) RunError → Dechunking R StdPolicy → Buffered W StdPolicy → Type 0
+MovesAll remaining s u (Ok _) t v = MovesEach remaining s u t v × IsWhole t
+MovesAll remaining s u (Err (NotChunked why right)) t v =
+    MovesEach remaining s u t v × Breaks why t × (right ≡ taken_count t)
+MovesAll remaining s u (Err (Truncated right)) t v =
+    MovesEach remaining s u t v × CutShort s t × (right ≡ taken_count t)
+MovesAll remaining s u (Err (Behind right)) t v = ⊥
+MovesAll remaining s u (Err (Io e)) t v =
+    (first : MovesFirst remaining s u t v) × Stopped e (length first.payload) s.reader.log t.reader.log u.log v.log
+
+-- all that was taken in was received and flushed
+pub record AllSent {W : Type 0} (v : Buffered W StdPolicy) : Type 0 where
+  pub empty : v.block.bytes ≡ []
+  pub flushed : AllFlushed v.log
+
+-- what they did, and then a flush where no stream failed
+abbrev pub MovesAndFlushes : {R W : Type 0} → (R → Option (List ℕ)) → Dechunking R StdPolicy → Buffered W StdPolicy
+    → Result (Unit {0}) RunError → Dechunking R StdPolicy → Buffered W StdPolicy → Type 0
+MovesAndFlushes remaining s u (Err (Io e)) t v = MovesAll remaining s u (Err (Io e)) t v
+MovesAndFlushes remaining s u answer t v = MovesAll remaining s u answer t v × AllSent v
+
+-- what an answer says to the question whether nothing follows a body of so many bytes
+abbrev pub EndAnswers : {R : Type 0} → Buffered R StdPolicy → ℕ → Result (Unit {0}) RunError → Buffered R StdPolicy → Type 0
+EndAnswers s right (Ok _) t =
+    OnlyInterrupts s.log.reads.faults t.log.reads.faults × (t.block.bytes ≡ []) × RanDry s t
+EndAnswers s right (Err (NotChunked why count)) t = ⊥
+EndAnswers s right (Err (Truncated count)) t = ⊥
+EndAnswers s right (Err (Behind count)) t =
+    OnlyInterrupts s.log.reads.faults t.log.reads.faults × (0 < length t.block.bytes) × (count ≡ right)
+EndAnswers s right (Err (Io e)) t = ReadGaveUp e s.log.reads.faults t.log.reads.faults
+
+-- what asking that does: nothing is handed out
+pub record ExpectsEnd {R : Type 0} (remaining : R → Option (List ℕ)) (s : Buffered R StdPolicy) (right : ℕ)
+    (answer : Result (Unit {0}) RunError) (t : Buffered R StdPolicy) : Type 0 where
+  pub along : ReadsAlong remaining std_read_rules s [] t
+  pub answers : EndAnswers s right answer t
+
+-- how many bytes these are, as far as a `u64` counts
+abbrev pub counted : List ℕ → ℕ
+counted bytes = min (length bytes) (2 ^ 64 - 1)
+
+-- what was given is these bytes and then the rest; what was received is this payload, which the writer has flushed; and
+-- neither stream failed
+pub record Sent (read read' written written' : StreamLog) (wire payload rest : List ℕ) : Type 0 where
+  pub given : read'.reads.given ≡ read.reads.given ++ (wire ++ rest)
+  pub received : written'.writes.received ≡ written.writes.received ++ payload
+  pub flushed : AllFlushed written'
+  pub met : MetNoFault read read' written written'
+
+-- what was given is a body, and then the rest; what was received is its payload
+pub record Decoded (limits : Limits) (read read' written written' : StreamLog) (rest : List ℕ) : Type 0 where
+  pub body : List ℕ
+  pub payload : List ℕ
+  pub is_body : IsBody limits body payload
+  pub sent : Sent read read' written written' body payload rest
+
+-- these bytes lead from before a body to this place in it, and this is the payload in them
+pub record IsPart (limits : Limits) (wire payload : List ℕ) (place : Place) : Type 0 where
+  pub leads : Leads limits Line wire payload place
+  pub is_place : IsPlace place
+
+-- what was given is such bytes and then one that is wrong there; what was received is the payload in those before it
+pub record DecodedToWrong (limits : Limits) (read read' written written' : StreamLog) (why : Malformed) (right : ℕ)
+    : Type 0 where
+  pub wire : List ℕ
+  pub payload : List ℕ
+  pub place : Place
+  pub part : IsPart limits wire payload place
+  pub byte : ℕ
+  pub later : List ℕ
+  pub sent : Sent read read' written written' wire payload (byte ∷ later)
+  pub name : IsWrong limits place byte why
+  pub none : (rest whole : List ℕ) → ¬ IsBody limits (wire ++ byte ∷ rest) whole
+  pub count : right ≡ counted wire
+
+-- what was given is such bytes and no body, and the reader gave no more; what was received is the payload in them
+pub record DecodedToEnd (limits : Limits) (read read' written written' : StreamLog) (right : ℕ) : Type 0 where
+  pub wire : List ℕ
+  pub payload : List ℕ
+  pub place : Place
+  pub part : IsPart limits wire payload place
+  pub sent : Sent read read' written written' wire payload []
+  pub none : (whole : List ℕ) → ¬ IsBody limits wire whole
+  pub ended : GaveNothing read read'
+  pub count : right ≡ counted wire
+
+-- a fault ended the run, or a buffer was refused before it began; what was received is a beginning of the payload in such
+-- bytes
+pub record DecodeFailed (limits : Limits) (e : Error) (read read' written written' : StreamLog) : Type 0 where
+  pub wire : List ℕ
+  pub payload : List ℕ
+  pub place : Place
+  pub part : IsPart limits wire payload place
+  pub rest : List ℕ
+  pub given : read'.reads.given ≡ read.reads.given ++ (wire ++ rest)
+  pub unsent : List ℕ
+  pub received : written'.writes.received ++ unsent ≡ written.writes.received ++ payload
+  pub caused : Stopped e (length payload) read read' written written' ⊎ BufferRefused e read read' written written'
+
+-- what a run of `decode` did: at Ok all that was given is a body
+abbrev pub DecodeRan : Limits → StreamLog → StreamLog → StreamLog → StreamLog → Result (Unit {0}) RunError → Type 0
+DecodeRan limits read read' written written' (Ok _) =
+    Decoded limits read read' written written' [] × GaveNothing read read'
+DecodeRan limits read read' written written' (Err (NotChunked why right)) =
+    DecodedToWrong limits read read' written written' why right
+DecodeRan limits read read' written written' (Err (Truncated right)) =
+    DecodedToEnd limits read read' written written' right
+DecodeRan limits read read' written written' (Err (Behind right)) =
+    (rest : List ℕ) × (0 < length rest)
+    × ((done : Decoded limits read read' written written' rest) × (right ≡ counted done.body))
+DecodeRan limits read read' written written' (Err (Io e)) = DecodeFailed limits e read read' written written'

@@ -1,0 +1,4 @@
+pub mod Streams
+pub mod Ending
+pub mod Decode
+pub mod Asked

@@ -1,0 +1,57 @@
+-- How the two streams of a run fared.
+use Rattle.std.specs.Prelude.{◌≡◌, ℕ, ◌+◌, ◌^◌, ◌<◌, ◌≤◌, ◌⊎◌, List, length}
+use Rattle.std.specs.IoError.{error_kind}
+use Rattle.std.specs.declared.io.Error.{Error}
+use Rattle.std.specs.declared.io.ErrorKind.TheVariants.{Other, OutOfMemory}
+use Rattle.buffer_redux.specs.Faults.{IsInterrupt, OnlyInterrupts, FaultAfterInterrupts, MetInterrupts, SendErrorCaused}
+use Rattle.buffer_redux.specs.StreamLog.{StreamLog}
+
+-- reads and writes were at most interrupted
+pub record MetNoFault (read read' written written' : StreamLog) : Type 0 where
+  pub reader : OnlyInterrupts read.reads.faults read'.reads.faults
+  pub writer : MetInterrupts written.writes written'.writes
+
+-- after reads that were interrupted, one failed with this error: an interrupted one after 64 of them at least
+pub record ReadGaveUp (e : Error) (old new : List Error) : Type 0 where
+  pub fault : FaultAfterInterrupts old new e
+  pub often : IsInterrupt e → length old + 65 ≤ length new
+
+-- a read failed with this error, and writes were at most interrupted
+pub record ReadFailed (e : Error) (read read' written written' : StreamLog) : Type 0 where
+  pub reader : ReadGaveUp e read.reads.faults read'.reads.faults
+  pub writer : MetInterrupts written.writes written'.writes
+
+-- sending to the writer failed with this error, and reads were at most interrupted
+pub record SendFailed (e : Error) (read read' written written' : StreamLog) : Type 0 where
+  pub reader : OnlyInterrupts read.reads.faults read'.reads.faults
+  pub writer : SendErrorCaused written.writes written'.writes e
+
+-- one of the streams failed with this error
+abbrev pub EitherFailed : Error → StreamLog → StreamLog → StreamLog → StreamLog → Type 0
+EitherFailed e read read' written written' =
+    ReadFailed e read read' written written' ⊎ SendFailed e read read' written written'
+
+-- as many bytes went over as the run counts
+pub record OverCount (e : Error) (count : ℕ) (read read' written written' : StreamLog) : Type 0 where
+  pub other : error_kind e ≡ Other
+  pub large : 2 ^ 64 ≤ count + 1
+  pub met : MetNoFault read read' written written'
+
+-- a run of so many bytes failed with this error: a stream did, or the count ended
+abbrev pub Stopped : Error → ℕ → StreamLog → StreamLog → StreamLog → StreamLog → Type 0
+Stopped e count read read' written written' =
+    EitherFailed e read read' written written' ⊎ OverCount e count read read' written written'
+
+-- a buffer was refused before either stream was called
+pub record BufferRefused (e : Error) (read read' written written' : StreamLog) : Type 0 where
+  pub memory : error_kind e ≡ OutOfMemory
+  pub read_same : read' ≡ read
+  pub written_same : written' ≡ written
+
+-- the reader gave nothing though it was asked for something
+abbrev pub GaveNothing : StreamLog → StreamLog → Type 0
+GaveNothing read read' = read.reads.zero_reads < read'.reads.zero_reads
+
+-- what was received has been flushed
+abbrev pub AllFlushed : StreamLog → Type 0
+AllFlushed written = written.writes.flushed ≡ written.writes.received

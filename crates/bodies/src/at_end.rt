@@ -1,0 +1,50 @@
+//! Whether more follows in a stream.
+ghost use Rattle.std.specs.Prelude.{◌≡◌, ◌<◌, [], ◌∷◌, ◌++◌, length, true, false, Ok, IfErr, OnOk};
+ghost use Rattle.buffer_redux.specs.BufReader.{RanDry, ReadsAlong};
+ghost use Rattle.buffer_redux.specs.Faults.{OnlyInterrupts};
+ghost use Rattle.buffer_redux.specs.Policy.{std_read_rules};
+ghost use Rattle.bodies.specs.Streams.{ReadGaveUp};
+
+use crate::tries::is_answered;
+use buffer_redux::BufReader;
+use buffer_redux::tell::TellRead;
+use std::io;
+use std::io::BufRead;
+
+/// Whether nothing more comes. It asks for a byte where none is buffered, and leaves what comes. Of reads that are
+/// interrupted the 65th ends it.
+pub fn is_at_end<R: TellRead>(source: &mut BufReader<R>) -> io::Result<bool>
+    requires capacity { 0 < source.old.block.capacity }
+    ensures along { ReadsAlong R.remaining std_read_rules source.old [] source.new }
+    ensures met { OnOk result (OnlyInterrupts source.old.log.reads.faults source.new.log.reads.faults) }
+    ensures fault { IfErr result (λ e. ReadGaveUp e source.old.log.reads.faults source.new.log.reads.faults) }
+    ensures none { result ≡ Ok true → source.new.block.bytes ≡ [] }
+    ensures dry { result ≡ Ok true → RanDry source.old source.new }
+    ensures more { result ≡ Ok false → 0 < length source.new.block.bytes }
+{
+    let mut row = 0;
+    'tries: loop {
+        match try_at_end(source) {
+            Ok(at_end) => return Ok(at_end),
+            Err(e) => {
+                row += 1;
+                if is_answered(&e, row) {
+                    return Err(e);
+                }
+            }
+        }
+    }
+}
+
+// The same up to the first fault.
+fn try_at_end<R: TellRead>(source: &mut BufReader<R>) -> io::Result<bool>
+    requires capacity { 0 < source.old.block.capacity }
+    ensures along { ReadsAlong R.remaining std_read_rules source.old [] source.new }
+    ensures no_fault { OnOk result (source.new.log.reads.faults ≡ source.old.log.reads.faults) }
+    ensures fault { IfErr result (λ e. source.new.log.reads.faults ≡ source.old.log.reads.faults ++ e ∷ []) }
+    ensures none { result ≡ Ok true → source.new.block.bytes ≡ [] }
+    ensures dry { result ≡ Ok true → RanDry source.old source.new }
+    ensures more { result ≡ Ok false → 0 < length source.new.block.bytes }
+{
+    Ok(source.fill_buf()?.is_empty())
+}

@@ -1,0 +1,218 @@
+//! The payload of a body copied, over any two streams that tell.
+ghost use Rattle.std.specs.Prelude.{◌≡◌, ◌<◌, ◌≤◌, [], length, true, false, IfOk, IfErr, OnOk, OnErr};
+ghost use Rattle.buffer_redux.specs.Block.{usable};
+ghost use Rattle.buffer_redux.specs.BufWriter.{WritesInOrder};
+ghost use Rattle.buffer_redux.specs.Faults.{MetInterrupts, SendErrorCaused};
+ghost use Rattle.bodies.specs.Decode.{DecodeRan, ExpectsEnd, IsBodySource, IsPieceTarget, MovesAll, MovesAndFlushes, ReadsPiece, WasInterrupted};
+
+use crate::at_end::is_at_end;
+use crate::error::{RunError, is_fault};
+use crate::tries::is_answered;
+use buffer_redux::tell::{TellRead, TellWrite};
+use buffer_redux::{BufReader, BufWriter, GrowError, MakeError};
+use chunked::{ChunkedError, ChunkedReader, Limits};
+use std::alloc::Global;
+use std::io;
+use std::io::{ErrorKind, Write};
+
+// How many bytes of payload go over at a time at most.
+const PIECE: usize = 8192;
+
+/// Copies the payload of the body that `reader` gives to `writer`. A body that is wrong, or ends too early, ends the run; the
+/// payload in what is right of it is sent then. What follows the body is left, and the run says so.
+///
+/// Both streams come back, also after a fault. The payload is sent and flushed before it is asked whether something follows.
+pub fn decode<R: TellRead, W: TellWrite>(
+    alloc: Global,
+    limits: Limits,
+    reader: R,
+    writer: W,
+) -> (Result<(), RunError>, R, W)
+    ensures { DecodeRan limits (R.log reader) (R.log result.1) (W.log writer) (W.log result.2) result.0 }
+{
+    let source = match source_of(alloc, reader) {
+        Ok(source) => source,
+        Err(MakeError(reader, e)) => return (Err(io::Error::from(e).into()), reader, writer),
+    };
+    let mut target = match target_of(alloc, writer) {
+        Ok(target) => target,
+        Err(MakeError(writer, e)) => {
+            return (Err(io::Error::from(e).into()), source.into_inner(), writer);
+        }
+    };
+    let (answer, rest) = decode_all(source, limits, &mut target);
+    let (writer, _) = target.into_inner_with_buffer();
+    (answer, rest.into_inner(), writer)
+}
+
+fn source_of<R: TellRead>(alloc: Global, reader: R) -> Result<BufReader<R>, MakeError<R>>
+    ensures made { IfOk result (λ r. 0 < r.block.capacity) }
+    ensures empty { IfOk result (λ r. r.block.bytes ≡ []) }
+    ensures inner { IfOk result (λ r. r.inner ≡ reader) }
+    ensures log { IfOk result (λ r. r.log ≡ R.log reader) }
+    ensures handed_back { IfErr result (λ e. e.0 ≡ reader) }
+    ensures refused { IfErr result (λ e. e.1 ≡ GrowError.Memory) }
+{
+    BufReader::new(alloc, reader)
+}
+
+// A writer that takes a piece in whole.
+fn target_of<W: TellWrite>(alloc: Global, writer: W) -> Result<BufWriter<W>, MakeError<W>>
+    ensures made { IfOk result IsPieceTarget }
+    ensures empty { IfOk result (λ w. w.block.bytes ≡ []) }
+    ensures inner { IfOk result (λ w. w.inner ≡ writer) }
+    ensures log { IfOk result (λ w. w.log ≡ W.log writer) }
+    ensures handed_back { IfErr result (λ e. e.0 ≡ writer) }
+    ensures refused { IfErr result (λ e. e.1 ≡ GrowError.Memory) }
+{
+    BufWriter::with_capacity(alloc, 2 * PIECE, writer)
+}
+
+// Copies all payload, and then asks whether something follows the body. The reader comes back.
+fn decode_all<R: TellRead, W: TellWrite>(
+    source: BufReader<R>,
+    limits: Limits,
+    target: &mut BufWriter<W>,
+) -> (Result<(), RunError>, BufReader<R>)
+    requires capacity { 0 < source.block.capacity }
+    requires source { source.block.bytes ≡ [] }
+    requires target { IsPieceTarget target.old }
+    requires empty { target.old.block.bytes ≡ [] }
+    ensures { DecodeRan limits source.log result.1.log target.old.log target.new.log result.0 }
+{
+    let mut body = ChunkedReader::new(source, limits);
+    let answer = move_and_flush(&mut body, target);
+    let right = body.taken();
+    let mut rest = body.into_inner();
+    match answer {
+        Ok(()) => {
+            let answer = expect_end(&mut rest, right);
+            (answer, rest)
+        }
+        Err(e) => (Err(e), rest),
+    }
+}
+
+// Copies all payload, and flushes it, also that in front of what is wrong.
+fn move_and_flush<R: TellRead, W: TellWrite>(
+    source: &mut ChunkedReader<R>,
+    target: &mut BufWriter<W>,
+) -> Result<(), RunError>
+    requires source { IsBodySource source.old }
+    requires target { IsPieceTarget target.old }
+    ensures { MovesAndFlushes R.remaining source.old target.old result source.new target.new }
+{
+    let answer = move_pieces(source, target);
+    if is_fault(&answer) {
+        return answer;
+    }
+    target.flush()?;
+    answer
+}
+
+// Copies all payload, piece by piece.
+fn move_pieces<R: TellRead, W: TellWrite>(
+    source: &mut ChunkedReader<R>,
+    target: &mut BufWriter<W>,
+) -> Result<(), RunError>
+    requires source { IsBodySource source.old }
+    requires target { IsPieceTarget target.old }
+    ensures { MovesAll R.remaining source.old target.old result source.new target.new }
+{
+    let mut piece = [0; PIECE];
+    for _ in 0..u64::MAX {
+        let count = read_piece(source, &mut piece)?;
+        if count == 0 {
+            return Ok(());
+        }
+        write_piece(target, &piece[..count])?;
+    }
+    Err(io::Error::from(ErrorKind::Other).into())
+}
+
+// Hands out payload, at least a byte unless the body ended. Of reads that are interrupted the 65th ends it.
+fn read_piece<R: TellRead>(
+    source: &mut ChunkedReader<R>,
+    out: &mut [u8],
+) -> Result<usize, ChunkedError>
+    requires source { IsBodySource source.old }
+    requires room { 0 < length out.old }
+    ensures bound { IfOk result (λ n. n ≤ length out.new) }
+    ensures reads { ReadsPiece R.remaining source.old out.new result source.new }
+{
+    let mut row = 0;
+    'tries: loop {
+        let answer = source.read_payload(out);
+        row += 1;
+        if is_final(&answer, row) {
+            return answer;
+        }
+    }
+}
+
+// Whether this answer ends the reads of a row, of which it is that one.
+fn is_final(answer: &Result<usize, ChunkedError>, row: u32) -> bool
+    ensures again { result ≡ false → WasInterrupted answer.now × (row ≤ 64) }
+    ensures often { result ≡ true → WasInterrupted answer.now → 65 ≤ row }
+{
+    match answer {
+        Err(ChunkedError::Io(e)) => is_answered(e, row),
+        _ => true,
+    }
+}
+
+// Takes the piece in, or nothing of it where room can't be had.
+fn write_piece<W: TellWrite>(target: &mut BufWriter<W>, piece: &[u8]) -> io::Result<()>
+    requires target { IsPieceTarget target.old }
+    requires fits { length piece.now ≤ PIECE }
+    ensures taken { OnOk result (WritesInOrder target.old piece.now target.new) }
+    ensures none { OnErr result (WritesInOrder target.old [] target.new) }
+    ensures met { OnOk result (MetInterrupts target.old.log.writes target.new.log.writes) }
+    ensures caused { IfErr result (λ e. SendErrorCaused target.old.log.writes target.new.log.writes e) }
+    ensures target { IsPieceTarget target.new }
+{
+    make_room(target, piece.len())?;
+    put(target, piece);
+    Ok(())
+}
+
+// Sends all that is buffered where so many more bytes don't fit, and makes all free space usable.
+fn make_room<W: TellWrite>(target: &mut BufWriter<W>, whole: usize) -> io::Result<()>
+    requires target { IsPieceTarget target.old }
+    requires fits { whole ≤ PIECE }
+    ensures none { WritesInOrder target.old [] target.new }
+    ensures room { OnOk result (whole ≤ usable target.new.block) }
+    ensures met { OnOk result (MetInterrupts target.old.log.writes target.new.log.writes) }
+    ensures caused { IfErr result (λ e. SendErrorCaused target.old.log.writes target.new.log.writes e) }
+    ensures target { IsPieceTarget target.new }
+{
+    if target.capacity() - target.buf_len() < whole {
+        target.send()?;
+    }
+    target.make_room();
+    Ok(())
+}
+
+// Copies bytes in, for which there is room.
+fn put<W: TellWrite>(target: &mut BufWriter<W>, bytes: &[u8])
+    requires target { IsPieceTarget target.old }
+    requires fits { length bytes.now ≤ PIECE }
+    requires room { length bytes.now ≤ usable target.old.block }
+    ensures taken { WritesInOrder target.old bytes.now target.new }
+    ensures told { target.new.log ≡ target.old.log }
+    ensures target { IsPieceTarget target.new }
+{
+    let _ = target.write(bytes);
+}
+
+// That nothing follows the body, which has so many bytes.
+fn expect_end<R: TellRead>(rest: &mut BufReader<R>, right: u64) -> Result<(), RunError>
+    requires { 0 < rest.old.block.capacity }
+    ensures { ExpectsEnd R.remaining rest.old right result rest.new }
+{
+    if is_at_end(rest)? {
+        Ok(())
+    } else {
+        Err(RunError::Behind(right))
+    }
+}

@@ -1,0 +1,51 @@
+//! Why a run failed.
+ghost use Rattle.std.specs.Prelude.{◌≡◌};
+ghost use Rattle.bodies.specs.Ending.{faulted};
+
+use chunked::{ChunkedError, Malformed};
+use std::io;
+
+/// Why a run failed. Each that isn't a stream's fault has the number of bytes of the body that were right, as far as a `u64`
+/// counts.
+#[derive(Debug, Drop)]
+pub enum RunError {
+    /// What comes next in the body is wrong.
+    NotChunked(Malformed, u64),
+    /// The input ended within the body.
+    Truncated(u64),
+    /// The input goes on behind the body.
+    Behind(u64),
+    /// A stream failed, or memory ran out.
+    Io(io::Error),
+}
+
+/// Whether a stream failed, or memory ran out.
+pub fn is_fault(answer: &Result<(), RunError>) -> bool
+    ensures { result ≡ faulted answer.now }
+{
+    matches!(answer, Err(RunError::Io(_)))
+}
+
+impl From<io::Error> for RunError {
+    ghost use Rattle.bodies.specs.declared.error.RunError.TheVariants.{Io};
+
+    ghost from_gives = { λ e r. r ≡ Io e };
+
+    fn from(e: io::Error) -> RunError {
+        RunError::Io(e)
+    }
+}
+
+impl From<ChunkedError> for RunError {
+    ghost use Rattle.bodies.specs.Decode.{of_chunked};
+
+    ghost from_gives = { λ e r. r ≡ of_chunked e };
+
+    fn from(e: ChunkedError) -> RunError {
+        match e {
+            ChunkedError::NotChunked(why, right) => RunError::NotChunked(why, right),
+            ChunkedError::Truncated(right) => RunError::Truncated(right),
+            ChunkedError::Io(e) => RunError::Io(e),
+        }
+    }
+}
