@@ -1,3 +1,4 @@
+pub mod Error
 pub mod Body
 pub mod BodyLaws
 pub mod Place

@@ -25,6 +25,11 @@ pub enum Malformed {
 }
 
 impl fmt::Display for Malformed {
+    ghost use Rattle.std.specs.Prelude.{Some};
+    ghost use Rattle.chunked.specs.Error.{malformed_text};
+
+    ghost output = { λ why. Some (malformed_text why) };
+
     fn fmt<W: fmt::Write>(&self, f: &mut fmt::Formatter<W>) -> fmt::Result {
         f.write_str(match self {
             Malformed::NoSize => "a chunk without a size",
