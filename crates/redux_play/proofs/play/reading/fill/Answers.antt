@@ -1,30 +1,40 @@
-use Rattle.std.proofs.Common.{[], length, refl, sym, ap, arith, append-nil}
+use Rattle.std.proofs.Common.{◌≡◌, ℕ, List, [], Result, length, refl, sym, ap, arith, append-nil}
+use Rattle.std.specs.declared.io.Error.{Error}
+use Rattle.redux_policy.specs.Policy.{ReadRules}
+use Rattle.buffer_redux.specs.Buffered.{Buffered}
+use Rattle.buffer_redux.specs.BufReader.{Fills}
 use Rattle.buffer_redux.specs.FillLaws.{Filled-ok, Filled-err}
+use Rattle.redux_play.specs.PlayReader.{HandsOut, with_handed}
 use Rattle.redux_play.proofs.play.reading.fill.Goals as goal
+
+-- a fill hands nothing out, whatever it answers
+hands_none : {S P A : Type 0} (rules : ReadRules P) (s : Buffered S P) (answer : Result A Error) (t : Buffered S P)
+    (handed : List ℕ) → Fills rules s answer t → t.own_calls ≡ s.own_calls
+    → HandsOut (with_handed s handed) [] (with_handed t handed)
+hands_none rules s answer t handed f noted = record {
+  handed = sym (append-nil handed);
+  in_order = f.in_order;
+  grows = f.grows;
+  consumed = omega (arith, f.consumed);
+  capacity = f.capacity;
+  kind = f.kind;
+  noted = noted;
+}
 
 pub returns-in-Ok-clause-step : goal.returns-in-Ok-clause-step
 returns-in-Ok-clause-step g c handed =
     let rules = g.P.ReaderPolicy.rules in
-    let s = c.args.reader.now in
     let t = c.fill_buf.follows.lender-at-none in
-    let f = (rw c.in-Ok.is at c.fill_buf.follows.holds-at-none) in
+    let f = rw c.in-Ok.is at c.fill_buf.follows.holds-at-none in
     record {
       out = [];
-      hands_out = record {
-        handed = sym (append-nil handed);
-        in_order = f.fills.in_order;
-        grows = f.fills.grows;
-        consumed = omega (arith, f.fills.consumed);
-        capacity = f.fills.capacity;
-        kind = f.fills.kind;
-        noted = f.noted;
-      };
+      hands_out = hands_none rules _ _ t handed f.fills f.noted;
       answers = record {
         none = refl;
         count = ap length f.shown;
         caused = f.fills.caused;
         empty = λ zero. f.fills.empty refl (omega (arith, zero, ap length f.shown));
-        fills = Filled-ok rules s c.in-Ok.bytes (length c.in-Ok.bytes.now) t f.fills.filled;
+        fills = Filled-ok rules c.args.reader.now c.in-Ok.bytes (length c.in-Ok.bytes.now) t f.fills.filled;
       };
       claims = f.fills.claims;
       sparing = λ _. f.fills.sparing;
@@ -33,26 +43,17 @@ returns-in-Ok-clause-step g c handed =
 pub returns-in-Err-clause-step : goal.returns-in-Err-clause-step
 returns-in-Err-clause-step g c handed =
     let rules = g.P.ReaderPolicy.rules in
-    let s = c.args.reader.now in
     let t = c.fill_buf.follows.lender-at-none in
-    let f = (rw c.in-Err.is at c.fill_buf.follows.holds-at-none) in
+    let f = rw c.in-Err.is at c.fill_buf.follows.holds-at-none in
     record {
       out = [];
-      hands_out = record {
-        handed = sym (append-nil handed);
-        in_order = f.fills.in_order;
-        grows = f.fills.grows;
-        consumed = omega (arith, f.fills.consumed);
-        capacity = f.fills.capacity;
-        kind = f.fills.kind;
-        noted = f.noted;
-      };
+      hands_out = hands_none rules _ _ t handed f.fills f.noted;
       answers = record {
         none = refl;
         error = c.in-Err.e;
         is_kind = sym c.kind.ensures;
         caused = f.fills.caused;
-        fills = Filled-err rules s c.in-Err.e t f.fills.filled;
+        fills = Filled-err rules c.args.reader.now c.in-Err.e t f.fills.filled;
       };
       claims = f.fills.claims;
       sparing = λ _. f.fills.sparing;
