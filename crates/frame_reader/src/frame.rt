@@ -1,5 +1,5 @@
 //! What a frame takes, and the buffer that it goes through.
-ghost use Rattle.std.specs.Prelude.{◌≡◌, ◌^◌, ◌≤◌, length, IfOk};
+ghost use Rattle.std.specs.Prelude.{◌^◌, ◌≤◌, length, IfOk};
 ghost use Rattle.buffer_redux.specs.Block.{IsBlock};
 ghost use Rattle.buffer_redux.specs.GrowError.{FitsWithin};
 ghost use Rattle.frame_reader.specs.Frames.{BeginsWith};
