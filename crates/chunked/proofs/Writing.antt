@@ -8,11 +8,12 @@ use Rattle.std.specs.declared.io.Error.{Error}
 use Rattle.buffer_redux.specs.Block.{Block, IsBlock, Kind, Plain, Ring, limit_of}
 use Rattle.buffer_redux.specs.Buffered.{Buffered}
 use Rattle.buffer_redux.specs.BufWriter.{WasSent, WritesInOrder}
-use Rattle.buffer_redux.specs.StreamLog.{StreamLog, after_write}
+use Rattle.buffer_redux.specs.LogGrows.{WriteLogGrows, WriteLogGrows-flush}
+use Rattle.buffer_redux.specs.StreamLog.{StreamLog, after_flush, after_write}
 use Rattle.buffer_redux.specs.declared.policy.StdPolicy.{StdPolicy}
 use Rattle.chunked.specs.Chunk.{IsCarried, IsChunks, chunk, chunks, last_chunk}
 use Rattle.chunked.specs.ChunkLaws.{IsChunks-body, IsChunks-joins}
-use Rattle.chunked.specs.Chunking.{Chunking, ChunksWent, Finishes, IsChunking, PutsFirst, PutsIn, WritesChunk, accepted_of, around, room, taken_payloads}
+use Rattle.chunked.specs.Chunking.{Chunking, ChunkingWent, ChunksWent, Finishes, IsChunking, PutsFirst, PutsIn, WritesChunk, accepted_of, around, room, taken_payloads, with_own_calls}
 use Rattle.chunked.specs.ChunkingLaws.{PutsFirst-order, PutsIn-order}
 
 -- a slice that isn't empty has some byte
@@ -156,3 +157,25 @@ module _ {S : Type 0} (tells : S → StreamLog) (stretch : S → S → Type 0)
     fits = straight v.writer m t 5 spaced last_chunk puts;
     full = behind v.writer m t 5 spaced last_chunk puts;
   })
+
+  -- a flush that is told took no chunk in
+  pub flush_went : (s m v : Chunking S) (answer : Result (Unit {0}) Error) (calls : StreamLog) → v ≡ m
+      → ChunksWent stretch s [] m → m.calls ≡ s.calls → calls ≡ after_flush v.calls answer
+      → ChunkingWent stretch s (with_own_calls v calls)
+  flush_went s m v answer calls same went still noted =
+      let before : v.calls ≡ s.calls = ap (λ c. c.calls) same ∙ still in
+      let told : calls ≡ after_flush s.calls answer = noted ∙ ap (λ l. after_flush l answer) before in
+      let went : ChunksWent stretch s [] v = subst (λ c. ChunksWent stretch s [] c) (sym same) went in
+      record {
+        payloads = [];
+        went = record {
+          carried = went.carried;
+          in_order = went.in_order;
+          wire = went.wire;
+          accepted = ap (λ l. l.writes.received) told ∙ sym (append-nil (accepted_of s));
+          calls = went.calls;
+          capacity = went.capacity;
+          limit = went.limit;
+        };
+        grows = subst (λ l. WriteLogGrows s.calls.writes l.writes) (sym told) (WriteLogGrows-flush s.calls answer);
+      }

@@ -5,6 +5,7 @@ use Rattle.std.specs.declared.io.Error.{Error}
 use Rattle.buffer_redux.specs.Block.{IsBlock}
 use Rattle.buffer_redux.specs.Buffered.{Buffered}
 use Rattle.buffer_redux.specs.BufWriter.{WasSent, WritesInOrder}
+use Rattle.buffer_redux.specs.LogGrows.{WriteLogGrows}
 use Rattle.buffer_redux.specs.StreamLog.{StreamLog, after_write, no_calls}
 use Rattle.buffer_redux.specs.declared.policy.StdPolicy.{StdPolicy}
 use Rattle.chunked.specs.declared.limits.Limits.{Limits}
@@ -129,3 +130,19 @@ pub record NotFinished {S : Type 0} (tells : S → StreamLog) (stretch : S → S
   pub wire : t.wire ≡ s.wire
   pub calls : t.calls ≡ s.calls
   pub whole : IsChunking t
+
+-- a write that is told does the same, and then notes a failure
+abbrev pub with_own_calls : {S : Type 0} → Chunking S → StreamLog → Chunking S
+with_own_calls c calls = record c { calls = calls }
+
+pub record WritesTold {S : Type 0} (tells : S → StreamLog) (stretch : S → S → Type 0) (s : Chunking S) (payload : List ℕ)
+    (answer : Result ℕ Error) (t : Chunking S) : Type 0 where
+  pub untold : StreamLog
+  pub writes : WritesChunk tells stretch s payload answer (with_own_calls t untold)
+  pub whole : IsChunking t
+
+-- what any calls that are told do, one after another: some chunks went in, and the log of the writer's own calls only goes on
+pub record ChunkingWent {S : Type 0} (stretch : S → S → Type 0) (s t : Chunking S) : Type 0 where
+  pub payloads : List (List ℕ)
+  pub went : ChunksWent stretch s payloads t
+  pub grows : WriteLogGrows s.calls.writes t.calls.writes

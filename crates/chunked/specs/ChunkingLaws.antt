@@ -5,11 +5,12 @@ use Rattle.std.proofs.lemmas.List.Concat.{flat_map-append}
 use Rattle.std.proofs.lemmas.List.Elements.{All-nil, All-append}
 use Rattle.buffer_redux.specs.Buffered.{Buffered}
 use Rattle.buffer_redux.specs.BufWriter.{WritesInOrder}
+use Rattle.buffer_redux.specs.LogGrows.{WriteLogGrows-none, WriteLogGrows-joins, WritesGoOn, WritesGoOn-of}
 use Rattle.buffer_redux.specs.StreamLog.{StreamLog}
 use Rattle.buffer_redux.specs.WriterLaws.{WritesInOrder-none, WritesInOrder-joins}
 use Rattle.buffer_redux.specs.declared.policy.StdPolicy.{StdPolicy}
 use Rattle.chunked.specs.Chunk.{IsCarried, chunk, chunks}
-use Rattle.chunked.specs.Chunking.{Chunking, ChunksWent, PutsFirst, PutsIn, accepted_of}
+use Rattle.chunked.specs.Chunking.{Chunking, ChunkingWent, ChunksWent, PutsFirst, PutsIn, accepted_of}
 
 module _ {S : Type 0} (stretch : S → S → Type 0) (none : (x : S) → stretch x x)
     (joins : (a b c : S) → stretch a b → stretch b c → stretch a c) where
@@ -41,6 +42,19 @@ module _ {S : Type 0} (stretch : S → S → Type 0) (none : (x : S) → stretch
     limit = q.limit ∙ p.limit;
   }
 
+  -- so it is of calls that are told
+  pub ChunkingWent-none : (s : Chunking S) → ChunkingWent stretch s s
+  ChunkingWent-none s =
+      record { payloads = []; went = ChunksWent-none s; grows = WriteLogGrows-none s.calls.writes }
+
+  pub ChunkingWent-joins : (s m t : Chunking S) → ChunkingWent stretch s m → ChunkingWent stretch m t
+      → ChunkingWent stretch s t
+  ChunkingWent-joins s m t p q = record {
+    payloads = p.payloads ++ q.payloads;
+    went = ChunksWent-joins s m t p.payloads q.payloads p.went q.went;
+    grows = WriteLogGrows-joins s.calls.writes m.calls.writes t.calls.writes p.grows q.grows;
+  }
+
   pub PutsIn-joins : (s m t : Buffered S StdPolicy) (a b : List ℕ) → PutsIn stretch s a m → PutsIn stretch m b t
       → PutsIn stretch s (a ++ b) t
   PutsIn-joins s m t a b p q = record {
@@ -53,6 +67,11 @@ module _ {S : Type 0} (stretch : S → S → Type 0) (none : (x : S) → stretch
     kind = q.kind ∙ p.kind;
     whole = q.whole;
   }
+
+-- in such calls the log only goes on
+pub ChunkingWent-grows : {S : Type 0} (stretch : S → S → Type 0) (s t : Chunking S) → ChunkingWent stretch s t
+    → WritesGoOn s.calls t.calls
+ChunkingWent-grows stretch s t went = WritesGoOn-of s.calls t.calls went.grows
 
 module _ {S : Type 0} (tells : S → StreamLog) (stretch : S → S → Type 0) where
   -- what is copied in is taken in, and so where all was sent first

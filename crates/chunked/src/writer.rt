@@ -3,10 +3,13 @@ ghost use Rattle.std.specs.Prelude.{◌≡◌, ◌<◌, [], MatchResult};
 ghost use Rattle.std.specs.Io.{WritesAtMost};
 ghost use Rattle.std.specs.Io.KnownBytes.{Keeps, WriteAppends};
 ghost use Rattle.buffer_redux.specs.BufWriter.{WasFlushed};
-ghost use Rattle.chunked.specs.Chunking.{ChunksWent, Finishes, IsChunking, NotFinished, WritesChunk, accepted, around, unbegun};
+ghost use Rattle.buffer_redux.specs.StreamLog.{after_flush, after_write};
+ghost use Rattle.chunked.specs.Chunking.{ChunkingWent, ChunksWent, Finishes, IsChunking, NotFinished, WritesChunk, WritesTold};
+ghost use Rattle.chunked.specs.Chunking.{accepted, around, unbegun};
+ghost use Rattle.chunked.specs.ChunkingLaws.{ChunkingWent-none, ChunkingWent-joins, ChunkingWent-grows};
 
 use crate::chunk::{AROUND, LAST_CHUNK, make_space, put_chunk, put_last};
-use buffer_redux::tell::{Call, CallLog, TellWrite};
+use buffer_redux::tell::{Call, CallLog, Tell, TellWrite};
 use buffer_redux::{BufWriter, IntoInnerError};
 use std::io::Write;
 use std::marker::Model;
@@ -149,6 +152,46 @@ impl<W: TellWrite> Write for ChunkedWriter<W> {
     {
         self.writer.flush()
     }
+}
+
+impl<W: TellWrite> Tell for ChunkedWriter<W> {
+    ghost log = { λ c. c.calls };
+}
+
+/// The same, told. So a `BufWriter` goes over this, which gathers small writes into chunks.
+impl<W: TellWrite> TellWrite for ChunkedWriter<W> {
+    ghost stretch = { ChunkingWent W.stretch };
+
+    fn write_told(&mut self, payload: &[u8]) -> io::Result<usize>
+        ensures bound { WritesAtMost result payload.now }
+        ensures told { self.new.calls ≡ after_write self.old.calls payload.now result }
+        ensures stretch { ChunkingWent W.stretch self.old self.new }
+        ensures writes { WritesTold W.log W.stretch self.old payload.now result self.new }
+    {
+        let answer = self.write(payload);
+        if answer.is_err() {
+            self.calls.note(&Call::Write(payload, &answer));
+        }
+        answer
+    }
+
+    fn flush_told(&mut self) -> io::Result<()>
+        ensures told { self.new.calls ≡ after_flush self.old.calls result }
+        ensures stretch { ChunkingWent W.stretch self.old self.new }
+        ensures flushed { WasFlushed W.log W.stretch self.old.writer result self.new.writer }
+        ensures went { ChunksWent W.stretch self.old [] self.new }
+        ensures whole { IsChunking self.new }
+    {
+        let answer = self.flush();
+        self.calls.note(&Call::Flush(&answer));
+        answer
+    }
+
+    ghost stretch_none = { ChunkingWent-none W.stretch W.stretch_none W.stretch_joins };
+
+    ghost stretch_joins = { ChunkingWent-joins W.stretch W.stretch_none W.stretch_joins };
+
+    ghost stretch_grows = { ChunkingWent-grows W.stretch };
 }
 
 /// The buffered writer.
