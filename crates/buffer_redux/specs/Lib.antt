@@ -39,3 +39,4 @@ pub mod LineWriter
 pub mod WriterLaws
 pub mod ReaderTells
 pub mod WriterTells
+pub mod MinBufferedLaws

@@ -1,4 +1,3 @@
-pub mod Ending
 pub mod Heads
 pub mod Loading
 pub mod Reading

@@ -12,7 +12,7 @@ use Rattle.line_reader.specs.Lines.{IsLine}
 use Rattle.line_reader.specs.Lining.{Lining, IsLining, rest}
 use Rattle.line_reader.specs.NextLine.{LinesWent, Faulted, MetEnd, empties}
 use Rattle.line_reader.specs.Steps.{AsksOnce}
-use Rattle.line_reader.proofs.Ending.{number_of, none_before_fault, none_where_enough, once_at_end}
+use Rattle.buffer_redux.specs.MinBufferedLaws.{number_of, none_before_fault, none_where_enough, once_at_end}
 
 -- where no byte was handed out, all that is buffered is left
 pub rest_whole : {S : Type 0} (f : Lining S) → f.handed ≡ 0 → rest f ≡ f.reader.block.bytes

@@ -1,7 +1,8 @@
 use Rattle.std.proofs.Common.{◌≡◌, ◌+◌, length, ap, ◌∙◌, arith}
 use Rattle.std.proofs.lemmas.Result.{err_from_is_err_and}
 use Rattle.frame_reader.specs.Next.{empties}
-use Rattle.frame_reader.proofs.Ending.{asked_at_most, asked_before_fault, each_gave, none_before_fault, none_where_enough, once_at_end}
+use Rattle.frame_reader.proofs.Ending.{asked_at_most, asked_before_fault, each_gave}
+use Rattle.buffer_redux.specs.MinBufferedLaws.{none_before_fault, none_where_enough, once_at_end}
 use Rattle.frame_reader.proofs.reader.FrameReader.fill_to.Goals as goal
 
 pub returns-in_err-fill_buf-clause-no_end : goal.returns-in_err-fill_buf-clause-no_end

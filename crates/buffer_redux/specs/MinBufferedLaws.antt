@@ -1,13 +1,16 @@
--- How often a reader gave nothing in one fill: at its end alone.
+-- How often the reader inside gives nothing in one fill under a minimum: at its end alone.
 use Rattle.std.proofs.Common.{◌≡◌, ℕ, zero, suc, ◌+◌, ◌<◌, ◌≤◌, length, Option, None, Some, Ok, Err, inl, inr, refl, sym, ap, ◌∙◌, arith, append-nil}
 use Rattle.std.specs.declared.io.Error.{Error}
 use Rattle.buffer_redux.specs.BufReader.{Fills, RanDry}
 use Rattle.buffer_redux.specs.Buffered.{Buffered}
-use Rattle.buffer_redux.specs.Fill.{Turns}
-use Rattle.buffer_redux.specs.MinBuffered.{min_read_rules}
-use Rattle.buffer_redux.specs.StreamLog.{zero_of_some, zero_of_none}
-use Rattle.buffer_redux.specs.declared.policy.MinBuffered.{MinBuffered}
-use Rattle.line_reader.specs.NextLine.{empties}
+use Rattle.buffer_redux.specs.Fill.{Dry, Turns}
+use Rattle.redux_policy.specs.MinBuffered.{min_read_rules}
+use Rattle.redux_policy.specs.declared.min_buffered.MinBuffered.{MinBuffered}
+use Rattle.redux_tell.specs.StreamLog.{zero_of_some, zero_of_none}
+
+-- how often it gave nothing so far
+abbrev empties : {S P : Type 0} → Buffered S P → ℕ
+empties t = t.log.reads.zero_reads
 
 -- each turn gave some bytes
 turns_gave : {S : Type 0} (k : ℕ) (s t : Buffered S MinBuffered) → Turns min_read_rules k s t → empties t ≡ empties s
@@ -32,6 +35,14 @@ module _ {S A : Type 0} (s t : Buffered S MinBuffered) where
 
   -- a fill that left too few, and one that found enough
   module _ (a : A) (fills : Fills min_read_rules s (Ok a) t) where
+    -- a read that is ordered wants more than enough
+    pub enough_never_dry : Dry min_read_rules fills.filled.last t → s.policy.0 ≤ length t.block.bytes → ⊥
+    enough_never_dry end many =
+        let asked = end.ordered.asked in
+        let claimed : t.policy.0 ≡ s.policy.0 = ap (λ c. number_of c.minimum) fills.claims in
+        let same = ap length (end.read.added.bytes ∙ append-nil end.seen.bytes ∙ asked.law.bytes) in
+        omega (arith, many, same, asked.allowed.1.0, ap (λ p. p.0) asked.allowed.0, claimed)
+
     pub once_at_end : length t.block.bytes < s.policy.0 → empties t ≡ empties s + 1
     once_at_end few =
         let f = fills.filled in
@@ -52,10 +63,5 @@ module _ {S A : Type 0} (s t : Buffered S MinBuffered) where
         elim f.ends [
           | inl declined ↦ ap (λ l. l.reads.zero_reads) declined.told ∙ gave
           | inr (inl full) ↦ ap (λ l. l.reads.zero_reads) full.told ∙ gave
-          | inr (inr end) ↦ (
-              let asked = end.ordered.asked in
-              let claimed : t.policy.0 ≡ s.policy.0 = ap (λ c. number_of c.minimum) fills.claims in
-              let same = ap length (end.read.added.bytes ∙ append-nil end.seen.bytes ∙ asked.law.bytes) in
-              absurd (omega (arith, many, same, asked.allowed.1.0, ap (λ p. p.0) asked.allowed.0, claimed))
-              )
+          | inr (inr end) ↦ absurd (enough_never_dry end many)
         ]
