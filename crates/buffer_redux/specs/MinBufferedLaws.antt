@@ -19,6 +19,7 @@ turns_gave (suc k) s t (m, run, turn) =
     ap (λ l. l.reads.zero_reads) turn.read.told
     ∙ zero_of_some turn.count turn.read.out (empties m) (inl turn.some) ∙ turns_gave k s m run
 
+-- the number that is claimed, or 0
 abbrev pub number_of : Option ℕ → ℕ
 number_of None = 0
 number_of (Some n) = n
