@@ -249,6 +249,62 @@ fn write_frames(mut writer: impl Write, payload: &[u8], least: u64) -> io::Resul
     Ok(total)
 }
 
+/// Reads the payload of a body in the chunked coding, without extensions or trailers.
+struct Chunks<R> {
+    inner: R,
+    line: Vec<u8>,
+    left: usize,
+    first: bool,
+}
+
+impl<R: BufRead> Chunks<R> {
+    #[inline(never)]
+    fn read(&mut self, out: &mut [u8]) -> io::Result<usize> {
+        if self.left == 0 {
+            self.left = self.next_size()?;
+            if self.left == 0 {
+                return Ok(0);
+            }
+        }
+        let most = out.len().min(self.left);
+        let n = self.inner.read(&mut out[..most])?;
+        if n == 0 {
+            return Err(io::ErrorKind::UnexpectedEof.into());
+        }
+        self.left -= n;
+        Ok(n)
+    }
+
+    fn next_size(&mut self) -> io::Result<usize> {
+        if !self.first {
+            self.next_line()?;
+        }
+        self.first = false;
+        let line = self.next_line()?;
+        let size = std::str::from_utf8(line).ok().and_then(|text| usize::from_str_radix(text, 16).ok());
+        size.ok_or_else(|| io::ErrorKind::InvalidData.into())
+    }
+
+    fn next_line(&mut self) -> io::Result<&[u8]> {
+        self.line.clear();
+        self.inner.by_ref().take(64).read_until(b'\n', &mut self.line)?;
+        self.line.strip_suffix(b"\r\n").ok_or_else(|| io::ErrorKind::InvalidData.into())
+    }
+}
+
+#[inline(never)]
+fn body_to_end(mut body: Chunks<impl BufRead>) -> io::Result<u64> {
+    let mut out = [0; 4096];
+    let mut total = 0;
+    loop {
+        let n = body.read(&mut out)?;
+        if n == 0 {
+            return Ok(total);
+        }
+        total += n as u64;
+    }
+}
+
 #[no_mangle]
 #[inline(never)]
 fn measured(shape: &str, capacity: usize, piece: usize, bytes: &[u8]) -> io::Result<u64> {
@@ -274,6 +330,7 @@ fn measured(shape: &str, capacity: usize, piece: usize, bytes: &[u8]) -> io::Res
         "next" => until_end(BufReader::new(Packets { left: bytes, most: piece })),
         "next_trimmed" => lines_to_end(BufReader::new(Packets { left: bytes, most: piece })),
         "frames" => frames_to_end(Frames { inner: reader(), payload: vec![0; 1024], lent: 0 }),
+        "bodies" => body_to_end(Chunks { inner: reader(), line: Vec::new(), left: 0, first: true }),
         "write_frames" => write_frames(writer(capacity), &bytes[..piece], bytes.len() as u64),
         _ => Ok(0),
     }
@@ -285,6 +342,17 @@ fn framed(length: usize, total: usize) -> Vec<u8> {
         bytes.extend_from_slice(&(length as u16).to_be_bytes());
         bytes.resize(bytes.len() + length, at as u8);
     }
+    bytes
+}
+
+fn chunked_body(length: usize, total: usize) -> Vec<u8> {
+    let mut bytes = Vec::with_capacity(total);
+    for at in 0..total / length {
+        bytes.extend_from_slice(format!("{length:x}\r\n").as_bytes());
+        bytes.resize(bytes.len() + length, at as u8);
+        bytes.extend_from_slice(b"\r\n");
+    }
+    bytes.extend_from_slice(b"0\r\n\r\n");
     bytes
 }
 
@@ -314,6 +382,7 @@ fn main() -> io::Result<()> {
     let bytes = match shape.as_str() {
         "next" | "next_trimmed" => text(capacity, total),
         "frames" => framed(piece, total),
+        "bodies" => chunked_body(piece, total),
         _ => noise(total),
     };
     let bytes = black_box(bytes);

@@ -1,11 +1,11 @@
 # sh bench/table.sh
 #
-# Proves and builds crates/bench, builds bench/std.rs, and prints four tables in Markdown. The first says how many instructions
+# Proves and builds crates/bench, builds bench/std.rs, and prints five tables in Markdown. The first says how many instructions
 # each case takes for a byte that goes over, as callgrind counts them, whatever else the machine does; the second the same
-# where a policy looks ahead, for when a ring pays; the third where lines are read, the fourth frames. It needs valgrind; the
+# where a policy looks ahead, for when a ring pays; the third where lines are read, the fourth frames, the fifth chunked bodies. It needs valgrind; the
 # columns of Rust's std need rustc. A case is one line of `cases` below; one of a new shape is a function in
 # crates/bench/src/cases.rt and one in bench/std.rs too. `sh bench/table.sh pays` prints the second table alone, `lines` in its
-# place the third, `frames` the fourth.
+# place the third, `frames` the fourth, `bodies` the fifth.
 set -eu
 
 cases='read in pieces of 64|read 8192 64 8388608
@@ -44,6 +44,11 @@ texts='80 8192 8388608
 # How long the payloads of frames are, through 8192 bytes.
 payloads='64
 1000'
+
+# How long the chunks of bodies are, through 8192 bytes and into 4096.
+chunks='64
+1000
+65536'
 
 here=$(cd "$(dirname "$0")" && pwd)
 if ! command -v valgrind > /dev/null; then
@@ -129,10 +134,31 @@ print_frames() {
     done
 }
 
+# Payload of bodies, the same by hand over Rust's std, and reads of as much that is in no chunks.
+print_bodies() {
+    echo "| Chunks of | read_payload | by hand in Rust | read, without chunks | Rust's read |"
+    echo '|---|---|---|---|---|'
+    echo "$chunks" | while read -r length; do
+        row="| $length |"
+        for words in "bodies 8192 $length" 'read 8192 4096'; do
+            # The words are split on purpose.
+            set -- $words
+            row="$row $(count "$bench" "$1" plain "$2" "$3" 8388608) |"
+            if [ -n "$rust" ]; then
+                row="$row $(count "$rust" "$@" 8388608) |"
+            else
+                row="$row – |"
+            fi
+        done
+        echo "$row"
+    done
+}
+
 case "${1-}" in
     pays) print_pays && exit ;;
     lines) print_lines && exit ;;
     frames) print_frames && exit ;;
+    bodies) print_bodies && exit ;;
 esac
 
 echo "| Instructions a byte | plain | ring | the kit's std | Rust's std |"
@@ -162,3 +188,6 @@ print_lines
 
 echo
 print_frames
+
+echo
+print_bodies

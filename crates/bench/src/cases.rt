@@ -1,5 +1,6 @@
 //! What is measured, and over which types.
 
+use crate::bodies::bodies;
 use crate::frames::{frames, write_frames};
 use crate::lines::{next, next_trimmed};
 use crate::streams::{Packets, Sink, Source};
@@ -52,6 +53,8 @@ pub enum Shape {
     Frames,
     /// Writes the same frame again and again, and flushes.
     WriteFrames,
+    /// Reads a body in the chunked coding.
+    Bodies,
 }
 
 impl Shape {
@@ -76,6 +79,7 @@ impl Shape {
             "next_trimmed" => Some(Shape::NextTrimmed),
             "frames" => Some(Shape::Frames),
             "write_frames" => Some(Shape::WriteFrames),
+            "bodies" => Some(Shape::Bodies),
             _ => None,
         }
     }
@@ -135,6 +139,7 @@ pub fn measured(alloc: Global, case: &Case, bytes: &[u8]) -> io::Result<u64> {
         Shape::NextTrimmed => next_trimmed(alloc, case, bytes),
         Shape::Frames => frames(alloc, case, bytes),
         Shape::WriteFrames => write_frames(alloc, case, bytes),
+        Shape::Bodies => bodies(alloc, case, bytes),
     }
 }
 

@@ -2,12 +2,14 @@
 //! how many bytes went over. Without words it runs each case on a few bytes and prints what went over in each.
 #![tactic(auto)]
 
+mod bodies;
 mod cases;
 mod frames;
 mod lines;
 mod streams;
 mod whole;
 
+use crate::bodies::chunked_body;
 use crate::cases::{Case, Kind, Shape, measured};
 use crate::frames::framed;
 use crate::lines::text;
@@ -39,6 +41,7 @@ fn run(alloc: Global, case: &Case, total: usize) -> io::Result<u64> {
     let bytes = match case.shape {
         Shape::Next | Shape::NextTrimmed => text(alloc, case.capacity, total)?,
         Shape::Frames => framed(alloc, case.piece, total)?,
+        Shape::Bodies => chunked_body(alloc, case.piece, total)?,
         _ => noise(alloc, total)?,
     };
     measured(alloc, case, bytes.as_slice())
@@ -84,6 +87,7 @@ fn run_all(rt: &HostRuntime) -> io::Result<()> {
         ("next_trimmed", Shape::NextTrimmed, 80, 512),
         ("frames", Shape::Frames, 8192, 64),
         ("write_frames", Shape::WriteFrames, 8192, 64),
+        ("bodies", Shape::Bodies, 8192, 1000),
     ] {
         let plain = Case {
             shape,

@@ -1,0 +1,55 @@
+//! Cases of bodies in the chunked coding. The piece of such a case is the length of a chunk.
+
+use crate::cases::{Case, Kind, told};
+use crate::streams::Source;
+use buffer_redux::BufReader;
+use buffer_redux::tell::Told;
+use chunked::{ChunkedReader, Limits};
+use std::alloc::{AllocError, Global};
+use std::io;
+use std::io::ErrorKind;
+
+// How many bytes a read asks for.
+const ASKED: usize = 4096;
+
+/// A body of chunks of so many bytes, as many as are less than `total` bytes.
+pub fn chunked_body(alloc: Global, length: usize, total: usize) -> Result<Vec<u8>, AllocError> {
+    let length = length.max(1);
+    let mut bytes = Vec::with_capacity(alloc, total)?;
+    let line = format!(in alloc; "{length:x}\r\n")?;
+    for at in 0..total / length {
+        bytes.extend_from_slice(line.as_bytes())?;
+        bytes.resize(bytes.len() + length, (at & 255) as u8)?;
+        bytes.extend_from_slice(b"\r\n")?;
+    }
+    bytes.extend_from_slice(b"0\r\n\r\n")?;
+    Ok(bytes)
+}
+
+// No body is read through a ring here, and std has no such reader: these answer 0.
+pub fn bodies(alloc: Global, case: &Case, bytes: &[u8]) -> io::Result<u64> {
+    if !matches!(case.kind, Kind::Plain) {
+        return Ok(0);
+    }
+    let limits = Limits {
+        line: 64,
+        trailers: 4096,
+    };
+    let reader = BufReader::with_capacity(alloc, case.capacity, told(bytes))?;
+    body_to_end(ChunkedReader::new(reader, limits))
+}
+
+#[inline(never)]
+fn body_to_end(body: ChunkedReader<Told<Source<'_>>>) -> io::Result<u64> {
+    let mut body = body;
+    let mut out = [0; ASKED];
+    let mut total = 0u64;
+    for _ in 0..u64::MAX {
+        match body.read_payload(&mut out) {
+            Ok(0) => break,
+            Ok(n) => total = total.wrapping_add(n as u64),
+            Err(_) => return Err(io::Error::from(ErrorKind::Other)),
+        }
+    }
+    Ok(total)
+}
