@@ -4,6 +4,8 @@
 #[cfg(test)]
 mod bodies;
 #[cfg(test)]
+mod chunks;
+#[cfg(test)]
 mod errors;
 #[cfg(test)]
 mod lines;

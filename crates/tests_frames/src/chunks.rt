@@ -1,0 +1,253 @@
+//! The writer of bodies in the chunked coding.
+use buffer_redux::script::{Answer, ScriptReader, ScriptWriter};
+use buffer_redux::tell::Told;
+use buffer_redux::{BufReader, BufWriter, IntoInnerError, MakeError};
+use chunked::{ChunkedReader, ChunkedWriter, Limits};
+use std::alloc::Global;
+use std::io;
+use std::io::{ErrorKind, Read, Write};
+use std::process::Abort;
+use std::test::Fail;
+
+type Inner = BufWriter<Told<ScriptWriter>>;
+
+type Body = ChunkedWriter<Told<ScriptWriter>>;
+
+// What is written, each piece by one write, and the body that it makes.
+type Row<'a> = (&'a [&'a [u8]], &'a [u8]);
+
+// Bodies from the documentation of protocols and from the tests of another writer, the letters of sizes in lower case.
+const BODIES: [Row<'static>; 5] = [
+    (
+        &[b"Wiki", b"pedia", b" in\r\n\r\nchunks."],
+        b"4\r\nWiki\r\n5\r\npedia\r\ne\r\n in\r\n\r\nchunks.\r\n0\r\n\r\n",
+    ),
+    (
+        &[b"Mozilla", b"Developer Network"],
+        b"7\r\nMozilla\r\n11\r\nDeveloper Network\r\n0\r\n\r\n",
+    ),
+    (
+        &[b"hello, ", b"", b"world! 0123456789abcdef"],
+        b"7\r\nhello, \r\n17\r\nworld! 0123456789abcdef\r\n0\r\n\r\n",
+    ),
+    (&[b"", b""], b"0\r\n\r\n"),
+    (&[], b"0\r\n\r\n"),
+];
+
+// A writer over a buffer of so many bytes, which are more than 20.
+fn body(alloc: Global, capacity: usize, script: &[Answer]) -> Result<Body, Fail> {
+    let stream = Told::new(ScriptWriter::new(alloc, script)?);
+    match BufWriter::with_capacity(alloc, capacity.max(21), stream) {
+        Ok(writer) => Ok(ChunkedWriter::new(writer)),
+        Err(MakeError(_, e)) => Err(e.into()),
+    }
+}
+
+// The bytes that the stream took.
+fn taken(writer: &Inner) -> &[u8] {
+    writer.get_ref().get_ref().taken()
+}
+
+// Writes a piece, once more after a fault. Returns whether it failed.
+fn writes(rt: &impl Abort, body: &mut Body, piece: &[u8]) -> Result<bool, Fail> {
+    match body.write(piece) {
+        Ok(count) => {
+            assert_eq!(rt; count, piece.len());
+            Ok(false)
+        }
+        Err(_) => {
+            assert_eq!(rt; body.write(piece)?, piece.len());
+            Ok(true)
+        }
+    }
+}
+
+// Finishes, once more after a fault.
+fn finishes(body: Body) -> Result<(Inner, bool), Fail> {
+    match body.finish() {
+        Ok(inner) => Ok((inner, false)),
+        Err(IntoInnerError(body, _)) => {
+            let inner = body.finish().map_err(io::Error::from)?;
+            Ok((inner, true))
+        }
+    }
+}
+
+// Writes a body over a stream that answers by the script, and flushes until that succeeds. Returns whether a call failed.
+fn writes_always(
+    rt: &impl Abort,
+    alloc: Global,
+    row: Row<'_>,
+    script: &[Answer],
+) -> Result<bool, Fail> {
+    let (pieces, want) = row;
+    let mut body = body(alloc, 43, script)?;
+    let mut failed = false;
+    for piece in pieces {
+        failed |= writes(rt, &mut body, piece)?;
+    }
+    let (mut inner, again) = finishes(body)?;
+    failed |= again;
+    if inner.flush().is_err() {
+        failed = true;
+        inner.flush()?;
+    }
+    assert!(rt; taken(&inner) == want, "{want:?} by {script:?}");
+    Ok(failed)
+}
+
+// So many bytes at most a write: with a fault at each write, until a run meets none. No chunk is torn.
+#[test]
+fn goes_on_after_a_fault(rt: HostRuntime) -> Result<(), Fail> {
+    for row in BODIES {
+        for most in [usize::MAX, 3, 1] {
+            let mut script = Vec::from_slice(rt.alloc(), &[Answer::ServeEach(most)])?;
+            assert!(rt; !writes_always(&rt, rt.alloc(), row, script.as_slice())?);
+            let mut met = true;
+            for _ in 0..64 {
+                script.push(Answer::Fail(ErrorKind::Other))?;
+                met = writes_always(&rt, rt.alloc(), row, script.as_slice())?;
+                if !met {
+                    break;
+                }
+                let _ = script.pop();
+                script.push(Answer::Serve(most))?;
+            }
+            assert!(rt; !met, "of {most} bytes a write");
+        }
+    }
+    Ok(())
+}
+
+// The line of a size at each number of digits and one below.
+#[test]
+fn writes_sizes(rt: HostRuntime) -> Result<(), Fail> {
+    let bytes = [b'x'; 4097];
+    for (size, line) in [
+        (1, b"1\r\nx".as_slice()),
+        (9, b"9\r\nx"),
+        (10, b"a\r\nx"),
+        (15, b"f\r\nx"),
+        (16, b"10\r\nx"),
+        (255, b"ff\r\nx"),
+        (256, b"100\r\nx"),
+        (4095, b"fff\r\nx"),
+        (4096, b"1000\r\nx"),
+        (4097, b"1001\r\nx"),
+    ] {
+        let mut body = body(rt.alloc(), 8192, &[])?;
+        assert_eq!(rt; body.write(&bytes[..size.min(4097)])?, size);
+        body.flush()?;
+        let sent = taken(body.get_ref());
+        assert!(rt; sent.starts_with(line), "of {size}");
+        assert_eq!(rt; sent.len(), line.len() + size + 1);
+    }
+    Ok(())
+}
+
+// Where 20 bytes more than the payload fit nothing is sent, and where one fewer fits all is; and the inner writer isn't flushed.
+#[test]
+fn sends_where_there_is_no_room(rt: HostRuntime) -> Result<(), Fail> {
+    let long = [b'x'; 16];
+    for (size, sent) in [(15, 0), (16, 10)] {
+        let mut body = body(rt.alloc(), 45, &[])?;
+        assert_eq!(rt; body.write(b"hello")?, 5);
+        assert_eq!(rt; body.write(&long[..size])?, size);
+        assert_eq!(rt; taken(body.get_ref()).len(), sent);
+        assert_eq!(rt; body.get_ref().get_ref().get_ref().flushes(), 0);
+    }
+    // The last chunk needs five bytes.
+    for (size, sent) in [(11, 0), (12, 28)] {
+        let mut body = body(rt.alloc(), 32, &[])?;
+        assert_eq!(rt; body.write(b"hello world")?, 11);
+        assert_eq!(rt; taken(body.get_ref()).len(), 0);
+        let mut inner = body.into_inner();
+        assert_eq!(rt; inner.write(&long[..size])?, size);
+        let body = ChunkedWriter::new(inner);
+        let (inner, _) = finishes(body)?;
+        assert_eq!(rt; taken(&inner).len(), sent);
+    }
+    Ok(())
+}
+
+// A payload that doesn't fit goes in by chunks of as many bytes as do.
+#[test]
+fn cuts_what_is_long(rt: HostRuntime) -> Result<(), Fail> {
+    for (capacity, first, want) in [
+        (
+            24,
+            4,
+            b"4\r\nhell\r\n4\r\no wo\r\n3\r\nrld\r\n0\r\n\r\n".as_slice(),
+        ),
+        (30, 10, b"a\r\nhello worl\r\n1\r\nd\r\n0\r\n\r\n"),
+        (31, 11, b"b\r\nhello world\r\n0\r\n\r\n"),
+    ] {
+        let mut body = body(rt.alloc(), capacity, &[])?;
+        let text = b"hello world".as_slice();
+        assert_eq!(rt; body.write(text)?, first);
+        body.write_all(&text[first..])?;
+        let (mut inner, _) = finishes(body)?;
+        inner.flush()?;
+        assert_eq!(rt; taken(&inner), want);
+    }
+    Ok(())
+}
+
+// Small writes through a buffered writer over the body are one chunk.
+#[test]
+fn goes_under_a_buffered_writer(rt: HostRuntime) -> Result<(), Fail> {
+    let mut outer = BufWriter::new(rt.alloc(), body(rt.alloc(), 64, &[])?).map_err(
+        io::Error::from,
+    )?;
+    for byte in b"hello world" {
+        outer.write_all(&[*byte])?;
+    }
+    let body = outer.into_inner().map_err(io::Error::from)?;
+    let (mut inner, _) = finishes(body)?;
+    inner.flush()?;
+    assert_eq!(rt; taken(&inner), b"b\r\nhello world\r\n0\r\n\r\n".as_slice());
+    Ok(())
+}
+
+// What is written in a buffer of so many bytes is read again, so many bytes at most a read.
+fn comes_back(rt: &impl Abort, alloc: Global, capacity: usize, most: usize) -> Result<(), Fail> {
+    let payload =
+        b"No byte is lost, errors come only from the stream, and an empty answer only with its reason.";
+    let mut body = body(alloc, capacity, &[])?;
+    body.write_all(payload)?;
+    let (mut inner, _) = finishes(body)?;
+    inner.write_all(b"GET")?;
+    inner.flush()?;
+    let stream = ScriptReader::new(alloc, taken(&inner), &[Answer::ServeEach(most)])?;
+    let limits = Limits {
+        line: 16,
+        trailers: 0,
+    };
+    let mut back = ChunkedReader::new(BufReader::new(alloc, Told::new(stream))?, limits);
+    let mut read = Vec::new(alloc);
+    back.read_to_end(&mut read)?;
+    assert_eq!(rt; read.as_slice(), payload.as_slice());
+    let mut rest = Vec::new(alloc);
+    back.into_inner().read_to_end(&mut rest)?;
+    assert_eq!(rt; rest.as_slice(), b"GET".as_slice());
+    Ok(())
+}
+
+#[test]
+fn is_read_again(rt: HostRuntime) -> Result<(), Fail> {
+    for capacity in [21, 22, 37, 64, 8192] {
+        for most in [1, 2, 7, usize::MAX] {
+            comes_back(&rt, rt.alloc(), capacity, most)?;
+        }
+    }
+    Ok(())
+}
+
+#[test]
+fn shows_the_writer(rt: HostRuntime) -> Result<(), Fail> {
+    let alloc = rt.alloc();
+    let body = body(alloc, 64, &[])?;
+    let said = format!(in alloc; "{body:?}")?;
+    assert!(rt; said.starts_with("chunked::ChunkedWriter { writer: buffer_redux::BufWriter {"));
+    Ok(())
+}
