@@ -224,6 +224,7 @@ impl<R: TellRead> LineReader<R> {
 
     /// The same, without the carriage return that may stand before the end, as std's `lines` has it. It is a byte of the line
     /// where the length counts. That of a last line without an end stays.
+    #[inline(always)]
     pub fn next_trimmed(&mut self) -> Result<Option<&[u8]>, LineError>
         ensures* after_borrow { sem 𝓛 (Rests (the_row R.row R.Tell) self.entry
             (NextTrimmed R.remaining self.entry.now (copied result))) }
