@@ -1,12 +1,30 @@
-//! What no line of the program `replay` can ask: a policy of the test's own, laws, seeks, what is printed, and what becomes
-//! of a reader or a writer that is taken apart, moved or dropped.
+//! What no line of the program `replay` can ask of readers and writers: laws, seeks, limits, copies, what is printed,
+//! what is known of a stream of std, and what becomes of one that is taken apart, changed or dropped.
 #![tactic(auto)]
 
 #[cfg(test)]
 mod ahead;
+#[cfg(test)]
+mod changed;
+#[cfg(test)]
+mod copy;
+#[cfg(test)]
+mod example;
+#[cfg(test)]
+mod known;
+#[cfg(test)]
+mod laws;
+#[cfg(test)]
+mod limits;
+#[cfg(test)]
+mod lines;
+#[cfg(test)]
+mod play;
 #[cfg(test)]
 mod reader;
 #[cfg(test)]
 mod seeks;
 #[cfg(test)]
 mod unbuffer;
+#[cfg(test)]
+mod unwrapping;

@@ -15,24 +15,6 @@ fn told(alloc: Global, bytes: &[u8], script: &[Answer]) -> Result<Told<ScriptRea
     Ok(Told::new(ScriptReader::new(alloc, bytes, script)?))
 }
 
-#[test]
-fn parts(rt: HostRuntime) -> Result<(), Fail> {
-    let buf = holding(rt.alloc(), 4, &[1, 2, 3])?;
-    let mut rdr = BufReader::with_buffer(buf, told(rt.alloc(), &[4], &[])?);
-    rdr.consume(1);
-    let (inner, buf) = rdr.into_inner_with_buffer();
-    let mut rdr = BufReader::with_buffer(buf, inner);
-    assert_eq!(rt; rdr.buffer(), [2, 3].as_slice());
-    assert_eq!(rt; (rdr.buf_len(), rdr.capacity()), (2, 4));
-    let mut out = [0u8; 3];
-    for bytes in [[2, 3].as_slice(), &[4], &[]] {
-        let count = rdr.read(&mut out)?;
-        assert_eq!(rt; &out[..count], bytes);
-    }
-    assert_eq!(rt; rdr.get_ref().get_ref().served(), 1);
-    Ok(())
-}
-
 // The source comes out as it is, and what is buffered is gone.
 #[test]
 fn source(rt: HostRuntime) -> Result<(), Fail> {

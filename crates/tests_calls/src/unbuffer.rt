@@ -51,46 +51,35 @@ fn walks(rt: &impl Abort, mut rdr: Unbuffered, steps: &[Step<'_>], offers: &[usi
 
 #[test]
 fn reads(rt: HostRuntime) -> Result<(), Fail> {
-    let alloc = rt.alloc();
-    let rdr = unbuffered(alloc, &[1, 2], &[], &[])?;
-    left(&rt, &rdr, &[1, 2]);
-    walks(
-        &rt,
-        rdr,
-        &[(0, Ok(&[]), &[1, 2]), (3, Ok(&[1, 2]), &[])],
-        &[],
-    );
-
-    let rdr = unbuffered(alloc, &[], &[7], &[])?;
-    left(&rt, &rdr, &[]);
-    walks(&rt, rdr, &[(2, Ok(&[7]), &[])], &[2]);
-
-    let steps: [Step<'_>; 5] = [
-        (2, Ok(&[1, 2]), &[3]),
-        (1, Ok(&[3]), &[]),
-        (2, Ok(&[4, 5]), &[]),
-        (3, Ok(&[6]), &[]),
-        (3, Ok(&[]), &[]),
-    ];
-    let rdr = unbuffered(alloc, &[1, 2, 3], &[4, 5, 6], &[])?;
-    walks(&rt, rdr, &steps, &[2, 3, 3]);
-
-    let steps: [Step<'_>; 2] = [(0, Ok(&[]), &[]), (1, Ok(&[7]), &[])];
-    walks(&rt, unbuffered(alloc, &[], &[7], &[])?, &steps, &[0, 1]);
-    Ok(())
-}
-
-#[test]
-fn reads_after_faults(rt: HostRuntime) -> Result<(), Fail> {
     let faults = [Answer::Interrupt(1), Answer::Fail(ErrorKind::TimedOut)];
-    let steps: [Step<'_>; 4] = [
-        (3, Ok(&[1]), &[]),
-        (3, Err(ErrorKind::Interrupted), &[]),
-        (3, Err(ErrorKind::TimedOut), &[]),
-        (3, Ok(&[7]), &[]),
+    // What is held, what the stream gives by which script, the reads, and the offers that it saw.
+    let rows: [(&[u8], &[u8], &[Answer], &[Step<'_>], &[usize]); 3] = [
+        (
+            &[1, 2],
+            &[],
+            &[],
+            &[(0, Ok(&[]), &[1, 2]), (3, Ok(&[1, 2]), &[])],
+            &[],
+        ),
+        (&[], &[7], &[], &[(2, Ok(&[7]), &[])], &[2]),
+        (
+            &[1],
+            &[7],
+            &faults,
+            &[
+                (3, Ok(&[1]), &[]),
+                (3, Err(ErrorKind::Interrupted), &[]),
+                (3, Err(ErrorKind::TimedOut), &[]),
+                (3, Ok(&[7]), &[]),
+            ],
+            &[3, 3, 3],
+        ),
     ];
-    let rdr = unbuffered(rt.alloc(), &[1], &[7], &faults)?;
-    walks(&rt, rdr, &steps, &[3, 3, 3]);
+    for (held, bytes, script, steps, offers) in rows {
+        let rdr = unbuffered(rt.alloc(), held, bytes, script)?;
+        left(&rt, &rdr, held);
+        walks(&rt, rdr, steps, offers);
+    }
     Ok(())
 }
 

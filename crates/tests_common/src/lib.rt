@@ -3,6 +3,9 @@
 
 ghost use Rattle.std.specs.Prelude.{◌≡◌, take, IfOk};
 
+mod positions;
+
+pub use crate::positions::{Positions, byte_at};
 use redux_buffer::{Buffer, GrowError};
 use std::alloc::Global;
 

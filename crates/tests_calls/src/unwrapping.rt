@@ -2,14 +2,14 @@
 use buffer_redux::policy::FlushOn;
 use buffer_redux::script::{Answer, ScriptSeeker, ScriptWriter};
 use buffer_redux::tell::Told;
-use buffer_redux::{BufWriter, Buffer, IntoInnerError};
+use buffer_redux::{BufWriter, Buffer, GrowError, IntoInnerError, MakeError};
 use redux_play::laws::{drop_unsent, keep_unsent};
 use std::alloc::Global;
 use std::cell::Cell;
 use std::io;
 use std::io::{Cursor, ErrorKind, Seek, SeekFrom, Write};
 use std::test::Fail;
-use tests_common::{NO_MACHINE, holding};
+use tests_common::holding;
 
 type Stream = Told<ScriptWriter>;
 
@@ -106,6 +106,31 @@ fn unwraps(rt: HostRuntime) -> Result<(), Fail> {
     Ok(())
 }
 
+// A fault leaves what was not taken, and a further `send` goes on with it. The inner writer is never flushed, and not
+// called where nothing is buffered.
+#[test]
+fn sends_without_a_flush(rt: HostRuntime) -> Result<(), Fail> {
+    let mut wrt = writer(rt.alloc(), &FAULTS)?;
+    for (answer, left) in [(Err(ErrorKind::Other), 1), (Ok(()), 0), (Ok(()), 0)] {
+        assert_eq!(rt; wrt.send().map_err(|e| e.kind()), answer);
+        assert_eq!(rt; wrt.buf_len(), left);
+    }
+    let inner = wrt.get_ref().get_ref();
+    assert_eq!(rt; inner.taken(), [1, 2, 3].as_slice());
+    assert_eq!(rt; inner.offers(), [3, 1, 1].as_slice());
+    assert_eq!(rt; inner.flushes(), 0);
+    Ok(())
+}
+
+// What the wrapper of a refusal shows.
+#[test]
+fn refusals(rt: HostRuntime) -> Result<(), Fail> {
+    let refusal = MakeError(7u8, GrowError::Memory);
+    let text = format!(in rt.alloc(); "{refusal}")?;
+    assert_eq!(rt; text.as_str(), "out of memory");
+    Ok(())
+}
+
 // What the wrapper of a fault shows, and turns into.
 #[test]
 fn hands_back(rt: HostRuntime) -> Result<(), Fail> {
@@ -123,29 +148,6 @@ fn hands_back(rt: HostRuntime) -> Result<(), Fail> {
         io::Error::from(IntoInnerError(7u8, fault())).kind(),
         ErrorKind::Other
     );
-    Ok(())
-}
-
-fn reserved(wrt: &mut BufWriter<Stream>, amount: usize) -> Result<(), ErrorKind> {
-    wrt.reserve(amount).map_err(|e| io::Error::from(e).kind())
-}
-
-// Room that was made, reserved or refused leaves the bytes, and sends nothing.
-#[test]
-fn makes_room(rt: HostRuntime) -> Result<(), Fail> {
-    let mut wrt = writer(rt.alloc(), &[])?;
-    wrt.reserve(5)?;
-    assert_eq!(rt; (wrt.buf_len(), wrt.capacity()), (3, 8));
-    for (amount, kind) in [
-        (usize::MAX, ErrorKind::InvalidInput),
-        (NO_MACHINE, ErrorKind::OutOfMemory),
-    ] {
-        assert_eq!(rt; reserved(&mut wrt, amount), Err(kind));
-    }
-    wrt.make_room();
-    assert_eq!(rt; (wrt.buf_len(), wrt.capacity()), (3, 8));
-    assert!(rt; wrt.get_ref().get_ref().taken().is_empty());
-    assert!(rt; !format!(in rt.alloc(); "{wrt:?}")?.is_empty());
     Ok(())
 }
 
@@ -322,21 +324,6 @@ fn seeks(rt: HostRuntime) -> Result<(), Fail> {
     let inner = wrt.into_inner()?;
     let content = inner.get_ref().get_ref().as_slice();
     assert_eq!(rt; content, [0, 1, 8, 9, 4, 5, 6, 7].as_slice());
-    Ok(())
-}
-
-// A writer inside a writer is flushed by the seek of the outer one, and so is its stream.
-#[test]
-fn seeks_two_writers(rt: HostRuntime) -> Result<(), Fail> {
-    let stream = ScriptWriter::new(rt.alloc(), &[])?;
-    let seeker = Told::new(ScriptSeeker::new(rt.alloc(), stream, &[Ok(7)])?);
-    let inner = BufWriter::with_buffer(holding(rt.alloc(), 8, &[1])?, seeker);
-    let mut outer = BufWriter::with_buffer(holding(rt.alloc(), 8, &[2, 3])?, inner);
-    assert_eq!(rt; outer.seek(SeekFrom::Start(7))?, 7);
-    assert_eq!(rt; (outer.buf_len(), outer.get_ref().buf_len()), (0, 0));
-    let seeker = outer.get_ref().get_ref().get_ref();
-    assert_eq!(rt; seeker.get_ref().taken(), [1, 2, 3].as_slice());
-    assert_eq!(rt; seeker.targets(), [SeekFrom::Start(7)].as_slice());
     Ok(())
 }
 

@@ -1,6 +1,6 @@
 use Rattle.std.proofs.Common.{ℕ, List}
 use Rattle.buffer_redux.specs.BufReader.{ReadsAlong}
-use Rattle.tests_whole.proofs.example.drain.Given as goal
+use Rattle.tests_calls.proofs.example.drain.Given as goal
 
 -- the bytes that were handed out up to here
 abbrev pub invariant-loop-turn : goal.invariant-loop-turn

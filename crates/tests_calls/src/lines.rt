@@ -1,12 +1,12 @@
 //! The line writer.
 use buffer_redux::script::{Answer, ScriptWriter};
 use buffer_redux::tell::Told;
-use buffer_redux::{Buffer, GrowError, IntoInnerError, LineWriter, MakeError};
+use buffer_redux::{Buffer, IntoInnerError, LineWriter};
 use std::alloc::Global;
 use std::io;
 use std::io::{ErrorKind, Write};
 use std::test::Fail;
-use tests_common::{NO_MACHINE, holding};
+use tests_common::holding;
 
 type Lines = LineWriter<Told<ScriptWriter>>;
 
@@ -69,31 +69,6 @@ fn writes_before_a_fault(rt: HostRuntime) -> Result<(), Fail> {
     assert_eq!(rt; taken(&lines), b"ab".as_slice());
     let (_, buf) = lines.into_inner_with_buf();
     assert_eq!(rt; buf.buf(), b"\ncd".as_slice());
-    Ok(())
-}
-
-#[test]
-fn makers(rt: HostRuntime) -> Result<(), Fail> {
-    let alloc = rt.alloc();
-    let lines = LineWriter::new_ringbuf(alloc, told(alloc, &[])?)?;
-    assert_eq!(rt; lines.capacity(), 8192);
-    let mut lines = LineWriter::with_capacity_ringbuf(alloc, 1, told(alloc, &[])?)?;
-    assert_eq!(rt; lines.capacity(), 4096);
-    lines.reserve(4097)?;
-    assert_eq!(rt; lines.capacity(), 8192);
-    assert!(rt; matches!(lines.reserve(NO_MACHINE), Err(GrowError::Memory)));
-    assert_eq!(rt; lines.capacity(), 8192);
-    match LineWriter::with_capacity(alloc, NO_MACHINE, told(alloc, &[])?) {
-        Ok(_) => panic!(rt; "a buffer of this capacity was made"),
-        Err(MakeError(inner, error)) => {
-            assert!(rt; matches!(error, GrowError::Memory));
-            assert!(rt; inner.get_ref().taken().is_empty());
-        }
-    }
-    match LineWriter::with_capacity_ringbuf(alloc, NO_MACHINE, told(alloc, &[])?) {
-        Ok(_) => panic!(rt; "a ring of this capacity was made"),
-        Err(MakeError(_, error)) => assert!(rt; matches!(error, GrowError::Memory)),
-    }
     Ok(())
 }
 

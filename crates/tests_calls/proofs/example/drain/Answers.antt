@@ -1,6 +1,6 @@
 use Rattle.std.proofs.Common.{[], ◌++◌}
 use Rattle.buffer_redux.specs.ReaderLaws.{ReadsAlong-none, ReadsAlong-shown, ReadsToEnd-of}
-use Rattle.tests_whole.proofs.example.drain.Goals as goal
+use Rattle.tests_calls.proofs.example.drain.Goals as goal
 
 pub loop-turn-init : goal.loop-turn-init
 loop-turn-init g c = record { handed = []; along = ReadsAlong-none _ _ _ }

@@ -1,11 +1,9 @@
 //! Copying, by worked examples.
-use buffer_redux::policy::{DoRead, ReaderPolicy, read_when_empty};
 use buffer_redux::script::{Answer, ScriptReader, ScriptWriter};
 use buffer_redux::tell::{TellWrite, Told};
-use buffer_redux::{BufReader, BufWriter, Buffer, LineWriter, copy_buf};
+use buffer_redux::{BufReader, LineWriter, copy_buf};
 use std::alloc::{AllocError, Global};
-use std::io;
-use std::io::{ErrorKind, Write};
+use std::io::ErrorKind;
 use std::test::Fail;
 use tests_common::holding;
 
@@ -32,14 +30,6 @@ fn reader(alloc: Global, bytes: &[u8], script: &[Answer]) -> Result<Reader, Fail
 
 fn writer(alloc: Global, script: &[Answer]) -> Result<Writer, AllocError> {
     Ok(Told::new(ScriptWriter::new(alloc, script)?))
-}
-
-fn buffered<W: TellWrite + Drop>(
-    alloc: Global,
-    capacity: usize,
-    inner: W,
-) -> Result<BufWriter<W>, Fail> {
-    Ok(BufWriter::with_buffer(holding(alloc, capacity, &[])?, inner))
 }
 
 fn copied<W: TellWrite>(from: &mut Reader, to: &mut W) -> Result<u64, ErrorKind> {
@@ -103,20 +93,7 @@ fn copies(rt: HostRuntime) -> Result<(), Fail> {
     Ok(())
 }
 
-// A writer that is interrupted 65 times in a row leaves all bytes in the reader.
-#[test]
-fn gives_up(rt: HostRuntime) -> Result<(), Fail> {
-    let mut from = reader(rt.alloc(), &[1, 2, 3], &[])?;
-    let mut to = writer(rt.alloc(), &[Answer::Interrupt(65)])?;
-    assert_eq!(rt; copied(&mut from, &mut to), Err(ErrorKind::Interrupted));
-    assert_eq!(rt; to.get_ref().offers().len(), 65);
-    assert_eq!(rt; from.get_ref().get_ref().offers().len(), 1);
-    assert_eq!(rt; from.buffer(), [1, 2, 3].as_slice());
-    assert_eq!(rt; copied(&mut from, &mut to), Ok(3));
-    Ok(())
-}
-
-// From a ring into a writer that looks at the bytes.
+// From a ring into a writer that looks at the bytes, and keeps what is no line until it is flushed.
 #[test]
 fn lines(rt: HostRuntime) -> Result<(), Fail> {
     let mut from = ring(rt.alloc(), b"one\ntwo\nthree")?;
@@ -124,16 +101,9 @@ fn lines(rt: HostRuntime) -> Result<(), Fail> {
     assert_eq!(rt; copied(&mut from, &mut to), Ok(13));
     assert_eq!(rt; to.buf_len(), 5);
     assert_eq!(rt; to.get_ref().get_ref().taken(), b"one\ntwo\n".as_slice());
-    Ok(())
-}
-
-#[test]
-fn flushes_what_is_no_line(rt: HostRuntime) -> Result<(), Fail> {
-    let mut to = line_writer(rt.alloc())?;
-    to.write_all(b"three")?;
     to.flush_told()?;
     let device = to.get_ref().get_ref();
-    assert_eq!(rt; device.taken(), b"three".as_slice());
+    assert_eq!(rt; device.taken(), b"one\ntwo\nthree".as_slice());
     assert_eq!(rt; device.flushes(), 1);
     Ok(())
 }
@@ -145,56 +115,4 @@ fn ring(alloc: Global, bytes: &[u8]) -> Result<Reader, Fail> {
 
 fn line_writer(alloc: Global) -> Result<LineWriter<Writer>, Fail> {
     Ok(LineWriter::with_buffer(holding(alloc, 8, &[])?, writer(alloc, &[])?))
-}
-
-// Into a buffered writer of a buffered writer, of which a flush reaches the writer inside.
-#[test]
-fn through_two(rt: HostRuntime) -> Result<(), Fail> {
-    let bytes = [1, 2, 3, 4, 5, 6, 7, 8, 9, 10];
-    let mut from = reader(rt.alloc(), &bytes, &[])?;
-    let mut to = two_writers(rt.alloc())?;
-    assert_eq!(rt; copied(&mut from, &mut to), Ok(10));
-    assert_eq!(rt; (to.buf_len(), to.get_ref().buf_len()), (2, 8));
-    to.flush()?;
-    let device = to.get_ref().get_ref().get_ref();
-    assert_eq!(rt; device.taken(), bytes.as_slice());
-    assert_eq!(rt; device.flushes(), 1);
-    Ok(())
-}
-
-fn two_writers(alloc: Global) -> Result<BufWriter<BufWriter<Writer>>, Fail> {
-    let inner = buffered(alloc, 16, writer(alloc, &[Answer::ServeEach(3)])?)?;
-    buffered(alloc, 8, inner)
-}
-
-// Counts how often it is told that bytes were consumed.
-#[derive(Drop)]
-struct CountsConsumes(usize);
-
-impl ReaderPolicy for CountsConsumes {
-    fn before_read(&mut self, buffer: &mut Buffer) -> io::Result<DoRead> {
-        Ok(read_when_empty(buffer))
-    }
-
-    fn after_consume(&mut self, _buffer: &mut Buffer, _amt: usize) {
-        self.0 = self.0.saturating_add(1);
-    }
-}
-
-// The turn in which the writer took nothing consumes nothing, and the reader's policy isn't told of it.
-#[test]
-fn consumes_only_what_was_taken(rt: HostRuntime) -> Result<(), Fail> {
-    let rows: [(&[u8], &[Answer], u64, usize); 4] = [
-        (&[], &[], 0, 0),
-        (&[1, 2, 3], &[Answer::Serve(0)], 0, 0),
-        (&[1, 2, 3], &[], 3, 1),
-        (&[1, 2, 3], &[Answer::Serve(2), Answer::Serve(0)], 2, 1),
-    ];
-    for &(bytes, answers, total, consumes) in &rows {
-        let mut from = reader(rt.alloc(), bytes, &[])?.set_policy(CountsConsumes(0));
-        let mut to = writer(rt.alloc(), answers)?;
-        assert_eq!(rt; copy_buf(&mut from, &mut to)?, total);
-        assert_eq!(rt; from.policy().0, consumes);
-    }
-    Ok(())
 }
