@@ -21,7 +21,8 @@ digit_table (suc (suc (suc (suc (suc (suc (suc (suc (suc (suc (suc (suc zero))))
 digit_table (suc (suc (suc (suc (suc (suc (suc (suc (suc (suc (suc (suc (suc zero))))))))))))) small = refl
 digit_table (suc (suc (suc (suc (suc (suc (suc (suc (suc (suc (suc (suc (suc (suc zero)))))))))))))) small = refl
 digit_table (suc (suc (suc (suc (suc (suc (suc (suc (suc (suc (suc (suc (suc (suc (suc zero))))))))))))))) small = refl
-digit_table (suc (suc (suc (suc (suc (suc (suc (suc (suc (suc (suc (suc (suc (suc (suc (suc d)))))))))))))))) small = absurd (omega arith)
+digit_table (suc (suc (suc (suc (suc (suc (suc (suc (suc (suc (suc (suc (suc (suc (suc (suc d)))))))))))))))) small =
+    absurd (omega arith)
 
 -- a byte that is written just before others stands before them
 pub set_before : (xs : List ℕ) (start y z : ℕ) → 1 ≤ start → start ≤ length xs → y ≡ z

@@ -95,9 +95,9 @@ impl<W: TellWrite> ChunkedWriter<W> {
         writer
     }
 
-    /// Ends the body: takes the last chunk in, with no trailers, and hands the buffered writer back, which neither sent nor flushed
-    /// it. Where it doesn't fit, all that is buffered is sent first. Where that fails, the writer comes back with the fault and as
-    /// it was, but for what the inner writer took: it can be finished again, or written to.
+    /// Ends the body: takes the last chunk in, with no trailers, and hands the buffered writer back, which neither sent nor
+    /// flushed it. Where it doesn't fit, all that is buffered is sent first. Where that fails, the writer comes back with the
+    /// fault and as it was, but for what the inner writer took: it can be finished again, or written to.
     pub fn finish(mut self) -> Result<BufWriter<W>, IntoInnerError<Self>>
         ensures { MatchResult result (Finishes W.log W.stretch self) (λ e. NotFinished W.log W.stretch self e.1 e.0) }
     {
