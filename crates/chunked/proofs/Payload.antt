@@ -94,7 +94,8 @@ module _ {S P : Type 0} (remaining : S → Option (List ℕ)) (rules : ReadRules
     (d : Dechunking S P) (r : Buffered S P) (p : Progress)
     (calls : StreamLog) (view : seen r p calls ≡ d) (is : IsDechunking (seen r p calls)) (out : List ℕ)
     (answer : Result ℕ ChunkedError) (r' : Buffered S P) (q : Progress) (hands : HandsOn remaining rules r p out answer r' q)
-    (done : p.place ≡ Done → r' ≡ r) (idle : length out ≡ 0 → (answer ≡ Ok 0) × (r' ≡ r)) (calls' : StreamLog) (noted : calls' ≡ after_payload calls out answer) where
+    (done : p.place ≡ Done → r' ≡ r) (idle : length out ≡ 0 → (answer ≡ Ok 0) × (r' ≡ r)) (calls' : StreamLog)
+    (noted : calls' ≡ after_payload calls out answer) where
   pub reads_payload : ReadsPayload remaining rules d out answer (seen r' q calls')
   reads_payload = subst (λ x. ReadsPayload remaining rules x out answer (seen r' q calls')) view
       (subst (λ k. ReadsPayload remaining rules (seen r p calls) out answer (seen r' q k)) (sym noted)

@@ -125,7 +125,12 @@ module _ {S P : Type 0} (remaining : S → Option (List ℕ)) (rules : ReadRules
                       (subst (λ x. IsWrong q.limits x (slice_index shown.now r.taken) why) (sym notes.place) found.1);
                 },
               );
-              calls = record { count = count; last = m; turns = turns; call = (r.taken, fills_and_takes (omega (arith, found.0))) };
+              calls = record {
+                count = count;
+                last = m;
+                turns = turns;
+                call = (r.taken, fills_and_takes (omega (arith, found.0)));
+              };
             }
 
 -- where a payload or nothing comes next, nothing is done

@@ -253,7 +253,8 @@ module _ {S : Type 0} (remaining : S → Option (List ℕ)) (s m u : Framing S)
 
         -- the frame is whole, and is lent
         pub found : 2 + len ≤ length v.reader.block.bytes → empties v.reader ≡ empties u.reader
-            → AsksGive 0 u.reader v.reader → Next remaining s (Ok (Some (slice_range v.reader.block.bytes 2 (2 + len)))) (record v { lent = 2 + len })
+            → AsksGive 0 u.reader v.reader
+            → Next remaining s (Ok (Some (slice_range v.reader.block.bytes 2 (2 + len)))) (record v { lent = 2 + len })
         found long none asked =
             let bytes = v.reader.block.bytes in
             let payload = slice_range bytes 2 (2 + len) in

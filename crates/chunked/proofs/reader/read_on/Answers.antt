@@ -24,7 +24,8 @@ pub returns-in_err-skip-clause-hands : goal.returns-in_err-skip-clause-hands
 returns-in_err-skip-clause-hands g c =
     let skips = c.in_err-skip.ensures.skips in
     let p = err_from_is_err_and c.from_residual.result c.from_residual.ensures.1 in
-    rw (p.1, p.2) (record { wire = skips.wire; takes = skips.takes; ends = skips.ends; calls = Calls-fail _ _ _ _ _ skips.calls _ })
+    rw (p.1, p.2)
+    (record { wire = skips.wire; takes = skips.takes; ends = skips.ends; calls = Calls-fail _ _ _ _ _ skips.calls _ })
 
 pub returns-in_default : goal.returns-in_default
 returns-in_default g c =

@@ -7,7 +7,14 @@ use Rattle.chunked.proofs.Skipping.{Notes, never_settled, skip_fails, skip_dry, 
 use Rattle.chunked.proofs.reader.skip.Goals as goal
 
 pub loop-reader-init : goal.loop-reader-init
-loop-reader-init g c = record { wire = []; takes = Takes-none _ _ _ _ c.requires; no_fault = refl; still = inl (refl, refl); count = 0; turns = refl }
+loop-reader-init g c = record {
+  wire = [];
+  takes = Takes-none _ _ _ _ c.requires;
+  no_fault = refl;
+  still = inl (refl, refl);
+  count = 0;
+  turns = refl;
+}
 
 pub returns-in_err-shown : goal.returns-in_err-shown
 returns-in_err-shown g c =
@@ -40,7 +47,8 @@ returns-in-Some g c =
     (take c.advance-reached.result.taken c.in_ok-shown.shown.now) c.take.new.self =
     record { limits = c.take.ensures.limits; place = c.take.ensures.place; taken = c.take.ensures.taken } in
     record {
-      skips = skip_wrong _ _ _ _ before.wire _ _ before.takes before.no_fault _ before.turns _ _ filled _ c.advance-reached.ensures _ notes _
+      skips = skip_wrong _ _ _ _ before.wire _ _ before.takes before.no_fault _ before.turns _ _ filled _
+        c.advance-reached.ensures _ notes _
           c.consume.ensures.inner c.consume.ensures.consumed _ c.in-Some.is;
       still = λ settled. absurd (never_settled _ _ _ _ before.still goes_on settled);
     }
@@ -55,9 +63,11 @@ loop-reader-preserved g c =
     record { limits = c.take.ensures.limits; place = c.take.ensures.place; taken = c.take.ensures.taken } in
     record {
       wire = before.wire ++ take c.advance-reached.result.taken c.in_ok-shown.shown.now;
-      takes = skip_turn _ _ _ _ before.wire _ _ before.takes before.no_fault _ before.turns _ _ filled _ c.advance-reached.ensures _ notes _
+      takes = skip_turn _ _ _ _ before.wire _ _ before.takes before.no_fault _ before.turns _ _ filled _
+        c.advance-reached.ensures _ notes _
           c.consume.ensures.inner c.consume.ensures.consumed;
-      no_fault = turn_well _ _ _ _ before.wire _ _ before.takes before.no_fault _ before.turns _ _ filled _ c.advance-reached.ensures _ notes _
+      no_fault = turn_well _ _ _ _ before.wire _ _ before.takes before.no_fault _ before.turns _ _ filled _
+        c.advance-reached.ensures _ notes _
           c.consume.ensures.inner c.consume.ensures.consumed;
       still = inr (never_settled _ _ _ _ before.still goes_on);
       count = suc before.count;
