@@ -48,7 +48,7 @@ returns-in-Some g c =
     record { limits = c.take.ensures.limits; place = c.take.ensures.place; taken = c.take.ensures.taken } in
     record {
       skips = skip_wrong _ _ _ _ before.wire _ _ before.takes before.no_fault _ before.turns _ _ filled _
-        c.advance-reached.ensures _ notes _
+          c.advance-reached.ensures _ notes _
           c.consume.ensures.inner c.consume.ensures.consumed _ c.in-Some.is;
       still = λ settled. absurd (never_settled _ _ _ _ before.still goes_on settled);
     }
@@ -64,10 +64,10 @@ loop-reader-preserved g c =
     record {
       wire = before.wire ++ take c.advance-reached.result.taken c.in_ok-shown.shown.now;
       takes = skip_turn _ _ _ _ before.wire _ _ before.takes before.no_fault _ before.turns _ _ filled _
-        c.advance-reached.ensures _ notes _
+          c.advance-reached.ensures _ notes _
           c.consume.ensures.inner c.consume.ensures.consumed;
       no_fault = turn_well _ _ _ _ before.wire _ _ before.takes before.no_fault _ before.turns _ _ filled _
-        c.advance-reached.ensures _ notes _
+          c.advance-reached.ensures _ notes _
           c.consume.ensures.inner c.consume.ensures.consumed;
       still = inr (never_settled _ _ _ _ before.still goes_on);
       count = suc before.count;

@@ -27,20 +27,32 @@ pub returns-in_err-fill_buf-clause-asks : goal.returns-in_err-fill_buf-clause-as
 returns-in_err-fill_buf-clause-asks g c =
     let f = rw c.in_err-fill_buf.was at c.fill_buf.follows.holds-at-none in
     let asked = asked_before_fault _ _ _ f.fills in
-    omega (arith, asked, ap (λ x. x.reader.log.reads.asks) c.self.view_is,
-    ap (λ x. length x.reader.log.reads.given) c.self.view_is)
+    omega (
+      arith,
+      asked,
+      ap (λ x. x.reader.log.reads.asks) c.self.view_is,
+      ap (λ x. length x.reader.log.reads.given) c.self.view_is,
+    )
 
 pub returns-clause-asks : goal.returns-clause-asks
 returns-clause-asks g c =
     let f = rw c.in_ok-fill_buf.was at c.fill_buf.follows.holds-at-none in
     let asked = asked_at_most _ _ _ f.fills in
-    omega (arith, asked, ap (λ x. x.reader.log.reads.asks) c.self.view_is,
-    ap (λ x. length x.reader.log.reads.given) c.self.view_is)
+    omega (
+      arith,
+      asked,
+      ap (λ x. x.reader.log.reads.asks) c.self.view_is,
+      ap (λ x. length x.reader.log.reads.given) c.self.view_is,
+    )
 
 pub returns-clause-each : goal.returns-clause-each
 returns-clause-each g c many =
     let f = rw c.in_ok-fill_buf.was at c.fill_buf.follows.holds-at-none in
     let number : c.set_min.new.self.0 ≡ c.args.min = ap (λ p. p.0) c.set_min.ensures.number in
     let asked = each_gave _ _ _ f.fills (omega (arith, many, number)) in
-    omega (arith, asked, ap (λ x. x.reader.log.reads.asks) c.self.view_is,
-    ap (λ x. length x.reader.log.reads.given) c.self.view_is)
+    omega (
+      arith,
+      asked,
+      ap (λ x. x.reader.log.reads.asks) c.self.view_is,
+      ap (λ x. length x.reader.log.reads.given) c.self.view_is,
+    )
