@@ -8,7 +8,7 @@ use Rattle.line_reader.specs.declared.error.LineError.TheVariants.{Io}
 use Rattle.line_reader.specs.Lines.{newline, IsLine, IsUnended, with_end}
 use Rattle.line_reader.specs.Lining.{Lining, IsLining, rest}
 use Rattle.line_reader.specs.LinesWentLaws.{LinesWent-joins, LinesWent-inside}
-use Rattle.line_reader.specs.NextLine.{loaded, NextLine, MetEnd}
+use Rattle.line_reader.specs.NextLine.{load_answer, NextLine, MetEnd}
 use Rattle.line_reader.specs.Steps.{AsksOnce, SearchesAll, TakesLine}
 use Rattle.line_reader.proofs.Reading.{rest_whole}
 use Rattle.line_reader.proofs.Heads.{Head, AskedWhere-told, Head-told, Head-more, MetEnd-on, asked_on, not_ended, went_on}
@@ -124,7 +124,7 @@ pub load_finished : {S : Type 0} (remaining : S → Option (List ℕ)) (s m : Li
     → m.seen ≤ m.max → (t : Lining S) → AsksOnce remaining m (Ok false) t → (found : Option ℕ) (v : Lining S)
     → IfNone found ((rest t ≡ []) × (v ≡ record t { ended = false }))
     → IfSome found (λ len. (0 < len) × (len ≡ length (rest t)) × (v ≡ record t { handed = len; seen = 0; ended = true }))
-    → IsLining v → NextLine remaining s (loaded (Ok found) v) v
+    → IsLining v → NextLine remaining s (load_answer (Ok found) v) v
 load_finished remaining s m h searched t a None v none last whole =
     load_ends remaining s m h searched t a v none.0 none.1 whole
 load_finished remaining s m h searched t a (Some len) v none last whole =

@@ -69,9 +69,9 @@ abbrev pub NextAnswer : Type 0
 NextAnswer = Result (Option (List ℕ)) LineError
 
 -- the answer, with the line in place of the slice that is lent
-abbrev pub copied : Result (Option (Bor (List ℕ))) LineError → NextAnswer
-copied (Ok found) = Ok (option_copied found)
-copied (Err e) = Err e
+abbrev pub answer_of : Result (Option (Bor (List ℕ))) LineError → NextAnswer
+answer_of (Ok found) = Ok (option_copied found)
+answer_of (Err e) = Err e
 
 -- these bytes are the line and its end; or they are the last line, which has none, and nothing else is left
 abbrev pub IsHanded : {S : Type 0} → Lining S → List ℕ → List ℕ → Lining S → Type 0
@@ -116,7 +116,7 @@ pub record NextTrimmed {S : Type 0} (remaining : S → Option (List ℕ)) (s : L
   pub trims : Trims whole answer t
 
 -- what is lent once the next line stands at the front
-abbrev pub loaded : {S : Type 0} → Result (Option ℕ) LineError → Lining S → NextAnswer
-loaded (Ok (Some len)) t = Ok (Some (take len t.reader.block.bytes))
-loaded (Ok None) t = Ok None
-loaded (Err e) t = Err e
+abbrev pub load_answer : {S : Type 0} → Result (Option ℕ) LineError → Lining S → NextAnswer
+load_answer (Ok (Some len)) t = Ok (Some (take len t.reader.block.bytes))
+load_answer (Ok None) t = Ok None
+load_answer (Err e) t = Err e

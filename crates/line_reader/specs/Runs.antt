@@ -13,9 +13,9 @@ use Rattle.line_reader.specs.Lining.{Lining}
 use Rattle.line_reader.specs.NextLine.{LinesWent, NextAnswer, NextLine}
 
 -- an answer of `next` that was recorded, by the bytes of its line
-abbrev pub recorded : Result (Option (Vec ℕ)) LineError → NextAnswer
-recorded (Ok found) = Ok (option_map (λ line. line.items) found)
-recorded (Err e) = Err e
+abbrev pub kept_answer : Result (Option (Vec ℕ)) LineError → NextAnswer
+kept_answer (Ok found) = Ok (option_map (λ line. line.items) found)
+kept_answer (Err e) = Err e
 
 -- the line that an answer hands out, or none
 abbrev pub handed_line : NextAnswer → List (List ℕ)

@@ -1,5 +1,5 @@
 //! Where a line ends, and the buffer that it goes through.
-ghost use Rattle.std.specs.Prelude.{◌≡◌, ◌+◌, ◌<◌, ◌≤◌, ◌^◌, length, take, IfOk, IfSome, IfNone};
+ghost use Rattle.std.specs.Prelude.{◌+◌, ◌<◌, ◌≤◌, ◌^◌, length, take, IfOk, IfSome, IfNone};
 ghost use Rattle.buffer_redux.specs.Block.{IsBlock};
 ghost use Rattle.buffer_redux.specs.GrowError.{FitsWithin};
 ghost use Rattle.line_reader.specs.Lines.{EndsAt, IsLine, IsTrimmed};

@@ -1,15 +1,14 @@
 //! The reader of lines.
-ghost use Rattle.std.specs.Prelude.{◌≡◌, ℕ, ◌+◌, ◌<◌, ◌≤◌, ◌^◌, ◌↔◌, List, [], ◌∷◌, ◌++◌, length, min, take, drop, Ok, Err, Some, None, IfOk, IfErr, IfSome, IfNone, OnOk, OnErr, IsTrue, true, false};
+ghost use Rattle.std.specs.Prelude.{◌≡◌, ℕ, ◌+◌, ◌<◌, ◌≤◌, ◌^◌, ◌↔◌, List, [], ◌∷◌, ◌++◌, length, min, take, drop, Ok, Err, Some, None, IfOk, IfErr, IfSome, IfNone, IsTrue, true, false};
 ghost use Rattle.std.specs.Bool.{OnFalse, OnTrue};
 ghost use Rattle.std.specs.Borrow.{Lends, sem};
 ghost use Rattle.std.specs.Io.BufRead.{Rests};
-ghost use Rattle.buffer_redux.specs.BufReader.{RanDry};
 ghost use Rattle.buffer_redux.specs.GrowError.{FitsWithin};
 ghost use Rattle.buffer_redux.specs.MakeError.{growth};
 ghost use Rattle.line_reader.specs.contracts.reader.LineReader.{the_row};
 ghost use Rattle.line_reader.specs.Lines.{BeginsTooLong, IsLine, IsTrimmed, newline};
 ghost use Rattle.line_reader.specs.Lining.{IsLining, IsFresh, rest, most, room_for, with_stream};
-ghost use Rattle.line_reader.specs.NextLine.{LinesWent, NoFault, NextLine, NextTrimmed, copied, empties, loaded};
+ghost use Rattle.line_reader.specs.NextLine.{LinesWent, NextLine, NextTrimmed, answer_of, load_answer};
 ghost use Rattle.line_reader.specs.SkipLine.{SkipsLine};
 ghost use Rattle.line_reader.specs.Steps.{AsksOnce, DropsLine, SearchesAll, TakesLine};
 
@@ -204,13 +203,13 @@ impl<R: TellRead> LineReader<R> {
     /// returned each time, until [`skip_line`](LineReader::skip_line) drops the line.
     pub fn next(&mut self) -> Result<Option<&[u8]>, LineError>
         ensures* after_borrow { sem 𝓛 (Rests (the_row R.row R.Tell) self.entry
-            (NextLine R.remaining self.entry.now (copied result))) }
+            (NextLine R.remaining self.entry.now (answer_of result))) }
         ensures fits { IfOk result (λ found. IfSome found (λ line. length line.now ≤ self.old.max)) }
         ensures ready { (line more : List ℕ) → IsLine line → length line ≤ self.old.max
-            → rest self.old ≡ line ++ newline ∷ more → copied result ≡ Ok (Some line) }
+            → rest self.old ≡ line ++ newline ∷ more → answer_of result ≡ Ok (Some line) }
         ensures too_long { BeginsTooLong self.old.max (rest self.old)
-            → copied result ≡ Err (LineError.TooLong self.old.max) }
-        ensures ended { self.old.ended ≡ true → copied result ≡ Ok None }
+            → answer_of result ≡ Err (LineError.TooLong self.old.max) }
+        ensures ended { self.old.ended ≡ true → answer_of result ≡ Ok None }
     {
         let from = self.handed;
         if let Some(len) = self.take_buffered() {
@@ -227,7 +226,7 @@ impl<R: TellRead> LineReader<R> {
     #[inline(always)]
     pub fn next_trimmed(&mut self) -> Result<Option<&[u8]>, LineError>
         ensures* after_borrow { sem 𝓛 (Rests (the_row R.row R.Tell) self.entry
-            (NextTrimmed R.remaining self.entry.now (copied result))) }
+            (NextTrimmed R.remaining self.entry.now (answer_of result))) }
     {
         let from = self.handed;
         if let Some(len) = self.take_buffered() {
@@ -269,7 +268,7 @@ impl<R: TellRead> LineReader<R> {
     #[inline(never)]
     fn load(&mut self) -> Result<Option<usize>, LineError>
         requires searched { self.old.seen ≡ min (length (rest self.old)) (1 + self.old.max) }
-        ensures next { NextLine R.remaining self.old (loaded result self.new) self.new }
+        ensures next { NextLine R.remaining self.old (load_answer result self.new) self.new }
         ensures within { IfOk result (λ found. IfSome found (λ len. len ≤ length self.new.reader.block.bytes)) }
     {
         self.drop_handed();

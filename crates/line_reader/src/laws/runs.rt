@@ -1,7 +1,7 @@
 //! Any number of calls, one after another, each with its answer.
 ghost use Rattle.std.specs.Prelude.{map, IfOk, OnOk, OnErr};
 ghost use Rattle.line_reader.specs.NextLine.{NextLine};
-ghost use Rattle.line_reader.specs.Runs.{NextLost, NextPlayed, NextStopped, recorded};
+ghost use Rattle.line_reader.specs.Runs.{NextLost, NextPlayed, NextStopped, kept_answer};
 
 use crate::error::LineError;
 use crate::reader::LineReader;
@@ -19,9 +19,9 @@ pub fn play_next<R: TellRead>(
     answers: &mut Vec<Result<Option<Vec<u8>>, LineError>>,
 ) -> Result<(), AllocError>
     ensures played { OnOk result (NextPlayed R.remaining reader.old calls
-        (map recorded answers.old.items) (map recorded answers.new.items) reader.new) }
+        (map kept_answer answers.old.items) (map kept_answer answers.new.items) reader.new) }
     ensures stopped { OnErr result (NextStopped R.remaining reader.old calls
-        (map recorded answers.old.items) (map recorded answers.new.items) reader.new) }
+        (map kept_answer answers.old.items) (map kept_answer answers.new.items) reader.new) }
 {
     for _ in 0..calls {
         let answer = next_copied(alloc, reader)?;
@@ -35,7 +35,7 @@ pub(crate) fn next_copied<R: TellRead>(
     alloc: Global,
     reader: &mut LineReader<R>,
 ) -> Result<Result<Option<Vec<u8>>, LineError>, AllocError>
-    ensures next { IfOk result (λ answer. NextLine R.remaining reader.old (recorded answer) reader.new) }
+    ensures next { IfOk result (λ answer. NextLine R.remaining reader.old (kept_answer answer) reader.new) }
     ensures lost { OnErr result (NextLost R.remaining reader.old reader.new) }
 {
     match reader.next() {

@@ -1,6 +1,6 @@
 use Rattle.std.proofs.Common.{subst, ap, ◌∙◌, Ok, Err}
 use Rattle.std.proofs.lemmas.Result.{err_from_is_err_and}
-use Rattle.line_reader.specs.NextLine.{NextLine, copied}
+use Rattle.line_reader.specs.NextLine.{NextLine, answer_of}
 use Rattle.frames.proofs.Packing.{not_asked, begins_long, no_more, not_written, written}
 use Rattle.frames.proofs.pack.try_line.Goals as goal
 
@@ -12,7 +12,7 @@ returns-in_err-write_frame-in-Ok-Some-clause-packs g c =
     let p = err_from_is_err_and c.from_residual.result c.from_residual.ensures.1 in
     rw (p.1, p.2)
     (not_written remaining g.W.TellWrite.stretch g.met.W.TellWrite.stretch_none s t c.args.target.now c.in-Ok-Some.line.now
-    (subst (λ r. NextLine remaining s (copied r) t) (c.in-Ok-Some.is ∙ ap (λ x. Ok x) c.in-Ok-Some.field-0-is)
+    (subst (λ r. NextLine remaining s (answer_of r) t) (c.in-Ok-Some.is ∙ ap (λ x. Ok x) c.in-Ok-Some.field-0-is)
     c.next.follows.holds-at-none) c.write_frame.new.self c.requires.most _ c.in_err-write_frame-in-Ok-Some.ensures)
 
 pub returns-in_ok-write_frame-in-Ok-Some-clause-packs : goal.returns-in_ok-write_frame-in-Ok-Some-clause-packs
@@ -21,7 +21,7 @@ returns-in_ok-write_frame-in-Ok-Some-clause-packs g c =
     let s = c.args.source.now in
     let t = c.next.follows.lender-at-none in
     written remaining g.W.TellWrite.stretch g.met.W.TellWrite.stretch_none s t c.args.target.now c.in-Ok-Some.line.now
-    (subst (λ r. NextLine remaining s (copied r) t) (c.in-Ok-Some.is ∙ ap (λ x. Ok x) c.in-Ok-Some.field-0-is)
+    (subst (λ r. NextLine remaining s (answer_of r) t) (c.in-Ok-Some.is ∙ ap (λ x. Ok x) c.in-Ok-Some.field-0-is)
     c.next.follows.holds-at-none) c.write_frame.new.self c.in_ok-write_frame-in-Ok-Some.ensures
 
 pub returns-in-Ok-None-clause-packs : goal.returns-in-Ok-None-clause-packs
@@ -30,7 +30,7 @@ returns-in-Ok-None-clause-packs g c =
     let s = c.args.source.now in
     let t = c.next.follows.lender-at-none in
     no_more remaining g.W.TellWrite.stretch g.met.W.TellWrite.stretch_none s t c.args.target.now
-    (subst (λ r. NextLine remaining s (copied r) t) (c.in-Ok-None.is ∙ ap (λ x. Ok x) c.in-Ok-None.field-0-is)
+    (subst (λ r. NextLine remaining s (answer_of r) t) (c.in-Ok-None.is ∙ ap (λ x. Ok x) c.in-Ok-None.field-0-is)
     c.next.follows.holds-at-none)
 
 pub returns-in-Err-TooLong-clause-packs : goal.returns-in-Err-TooLong-clause-packs
@@ -40,7 +40,7 @@ returns-in-Err-TooLong-clause-packs g c =
     let t = c.next.follows.lender-at-none in
     begins_long remaining g.W.TellWrite.stretch g.met.W.TellWrite.stretch_none s t c.args.target.now
     c.in-Err-TooLong.field-0-0
-    (subst (λ r. NextLine remaining s (copied r) t) (c.in-Err-TooLong.is ∙ ap (λ x. Err x) c.in-Err-TooLong.field-0-is)
+    (subst (λ r. NextLine remaining s (answer_of r) t) (c.in-Err-TooLong.is ∙ ap (λ x. Err x) c.in-Err-TooLong.field-0-is)
     c.next.follows.holds-at-none)
 
 pub returns-in_err-write_frame-in-Ok-Some-clause-unasked : goal.returns-in_err-write_frame-in-Ok-Some-clause-unasked
@@ -48,32 +48,32 @@ returns-in_err-write_frame-in-Ok-Some-clause-unasked g c =
     let s = c.args.source.now in
     let t = c.next.follows.lender-at-none in
     not_asked g.R.TellRead.remaining g.W.TellWrite.stretch g.met.W.TellWrite.stretch_none s t c.args.target.now
-    (copied c.next.result) c.next.follows.holds-at-none
+    (answer_of c.next.result) c.next.follows.holds-at-none
 
 pub returns-in_ok-write_frame-in-Ok-Some-clause-unasked : goal.returns-in_ok-write_frame-in-Ok-Some-clause-unasked
 returns-in_ok-write_frame-in-Ok-Some-clause-unasked g c =
     let s = c.args.source.now in
     let t = c.next.follows.lender-at-none in
     not_asked g.R.TellRead.remaining g.W.TellWrite.stretch g.met.W.TellWrite.stretch_none s t c.args.target.now
-    (copied c.next.result) c.next.follows.holds-at-none
+    (answer_of c.next.result) c.next.follows.holds-at-none
 
 pub returns-in-Ok-None-clause-unasked : goal.returns-in-Ok-None-clause-unasked
 returns-in-Ok-None-clause-unasked g c =
     let s = c.args.source.now in
     let t = c.next.follows.lender-at-none in
     not_asked g.R.TellRead.remaining g.W.TellWrite.stretch g.met.W.TellWrite.stretch_none s t c.args.target.now
-    (copied c.next.result) c.next.follows.holds-at-none
+    (answer_of c.next.result) c.next.follows.holds-at-none
 
 pub returns-in-Err-TooLong-clause-unasked : goal.returns-in-Err-TooLong-clause-unasked
 returns-in-Err-TooLong-clause-unasked g c =
     let s = c.args.source.now in
     let t = c.next.follows.lender-at-none in
     not_asked g.R.TellRead.remaining g.W.TellWrite.stretch g.met.W.TellWrite.stretch_none s t c.args.target.now
-    (copied c.next.result) c.next.follows.holds-at-none
+    (answer_of c.next.result) c.next.follows.holds-at-none
 
 pub returns-in-Err-Io-clause-unasked : goal.returns-in-Err-Io-clause-unasked
 returns-in-Err-Io-clause-unasked g c =
     let s = c.args.source.now in
     let t = c.next.follows.lender-at-none in
     not_asked g.R.TellRead.remaining g.W.TellWrite.stretch g.met.W.TellWrite.stretch_none s t c.args.target.now
-    (copied c.next.result) c.next.follows.holds-at-none
+    (answer_of c.next.result) c.next.follows.holds-at-none

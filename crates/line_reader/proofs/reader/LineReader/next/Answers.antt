@@ -2,7 +2,7 @@ use Rattle.std.proofs.Common.{◌≡◌, ◌+◌, ◌-◌, Ok, Err, Some, None, 
 use Rattle.std.proofs.lemmas.Result.{err_from_is_err_and}
 use Rattle.line_reader.specs.Lines.{IsUnended}
 use Rattle.line_reader.specs.Lining.{Lining, rest}
-use Rattle.line_reader.specs.NextLine.{NextLine, loaded}
+use Rattle.line_reader.specs.NextLine.{NextLine, load_answer}
 use Rattle.line_reader.specs.NextLineLaws.{NextLine-ready, NextLine-too_long}
 use Rattle.line_reader.proofs.Heads.{Head-none}
 use Rattle.line_reader.proofs.Loading.{takes_next}
@@ -74,10 +74,11 @@ returns-in-Some-2 g c =
     let t : Lining g.row.R.Denot =
     record { reader = i.reader; max = i.max; handed = i.handed; seen = i.seen; ended = i.ended } in
     let found = take len c.buffer-in-Some-2.result.now in
-    let loads : NextLine remaining m (loaded (Ok (Some len)) c.load.new.self) c.load.new.self =
-    subst (λ f. NextLine remaining m (loaded (Ok f) c.load.new.self) c.load.new.self) c.in-Some-2.is c.in_ok-len.ensures.next in
+    let loads : NextLine remaining m (load_answer (Ok (Some len)) c.load.new.self) c.load.new.self =
+    subst (λ f. NextLine remaining m (load_answer (Ok f) c.load.new.self) c.load.new.self) c.in-Some-2.is
+    c.in_ok-len.ensures.next in
     let shows : NextLine remaining m (Ok (Some (take len t.reader.block.bytes))) t =
-    subst (λ x. NextLine remaining m (loaded (Ok (Some len)) x) x) (sym c.self-in-Some-2.view_is) loads in
+    subst (λ x. NextLine remaining m (load_answer (Ok (Some len)) x) x) (sym c.self-in-Some-2.view_is) loads in
     let lends : NextLine remaining m (Ok (Some found)) t =
     subst (λ l. NextLine remaining m (Ok (Some (take len l))) t) (sym c.buffer-in-Some-2.ensures.value) shows in
     let next : NextLine remaining s (Ok (Some found)) t =
@@ -100,7 +101,7 @@ returns-in-None g c =
     let t = c.load.new.self in
     let next : NextLine remaining s (Ok None) t =
     next_searched remaining s c.take_buffered.new.self t (Ok None) c.in_default.ensures.none
-    (subst (λ f. NextLine remaining c.take_buffered.new.self (loaded (Ok f) t) t) c.in-None.is c.in_ok-len.ensures.next) in (
+    (subst (λ f. NextLine remaining c.take_buffered.new.self (load_answer (Ok f) t) t) c.in-None.is c.in_ok-len.ensures.next) in (
       (refl, (λ _. tt), next),
       record {
         after_borrow = tt;

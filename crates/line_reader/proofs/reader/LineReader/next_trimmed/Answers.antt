@@ -2,7 +2,7 @@ use Rattle.std.proofs.Common.{◌≡◌, Ok, Err, Some, None, ap, subst, sym, �
 use Rattle.std.proofs.lemmas.Result.{err_from_is_err_and}
 use Rattle.line_reader.specs.Lines.{IsUnended}
 use Rattle.line_reader.specs.Lining.{rest}
-use Rattle.line_reader.specs.NextLine.{NextLine, loaded}
+use Rattle.line_reader.specs.NextLine.{NextLine, load_answer}
 use Rattle.line_reader.proofs.Heads.{Head-none}
 use Rattle.line_reader.proofs.Loading.{takes_next}
 use Rattle.line_reader.proofs.Trimming.{next_searched, trims_line}
@@ -44,7 +44,8 @@ returns-in-Some-2 g c =
     let t = c.load.new.self in
     let next : NextLine remaining s (Ok (Some (take c.in-Some-2.len t.reader.block.bytes))) t =
     next_searched remaining s c.take_buffered.new.self t _ c.in_default.ensures.none
-    (subst (λ f. NextLine remaining c.take_buffered.new.self (loaded (Ok f) t) t) c.in-Some-2.is c.in_ok-len.ensures.next) in (
+    (subst (λ f. NextLine remaining c.take_buffered.new.self (load_answer (Ok f) t) t) c.in-Some-2.is
+    c.in_ok-len.ensures.next) in (
       (
         refl,
         (λ _. tt),
@@ -61,5 +62,5 @@ returns-in-None g c =
     let t = c.load.new.self in
     let next : NextLine remaining s (Ok None) t =
     next_searched remaining s c.take_buffered.new.self t _ c.in_default.ensures.none
-    (subst (λ f. NextLine remaining c.take_buffered.new.self (loaded (Ok f) t) t) c.in-None.is c.in_ok-len.ensures.next) in
+    (subst (λ f. NextLine remaining c.take_buffered.new.self (load_answer (Ok f) t) t) c.in-None.is c.in_ok-len.ensures.next) in
     ((refl, (λ _. tt), record { whole = Ok None; next = next; trims = refl }), record { after_borrow = tt })
