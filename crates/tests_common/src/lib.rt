@@ -3,8 +3,10 @@
 
 ghost use Rattle.std.specs.Prelude.{◌≡◌, take, IfOk};
 
+mod calls;
 mod positions;
 
+pub use crate::calls::{consume, fill_buf, flush, read, read_exact, seek, write, write_all};
 pub use crate::positions::{Positions, byte_at};
 use redux_buffer::{Buffer, GrowError};
 use std::alloc::Global;

@@ -1,0 +1,43 @@
+//! The calls of std on any stream. They promise nothing, since a test looks at each answer itself, and its proof is the shorter.
+use std::io;
+use std::io::{BufRead, Read, Seek, SeekFrom, Write};
+
+/// One read into these bytes.
+pub fn read<R: Read>(reader: &mut R, out: &mut [u8]) -> io::Result<usize> {
+    reader.read(out)
+}
+
+/// A read of all of these bytes.
+pub fn read_exact<R: Read>(reader: &mut R, out: &mut [u8]) -> io::Result<()> {
+    reader.read_exact(out)
+}
+
+/// What a fill shows.
+pub fn fill_buf<R: BufRead>(reader: &mut R) -> io::Result<&[u8]> {
+    reader.fill_buf()
+}
+
+/// Drops so many bytes of what is buffered.
+pub fn consume<R: BufRead>(reader: &mut R, amount: usize) {
+    reader.consume(amount);
+}
+
+/// One write of these bytes.
+pub fn write<W: Write>(writer: &mut W, bytes: &[u8]) -> io::Result<usize> {
+    writer.write(bytes)
+}
+
+/// A write of all of these bytes.
+pub fn write_all<W: Write>(writer: &mut W, bytes: &[u8]) -> io::Result<()> {
+    writer.write_all(bytes)
+}
+
+/// A flush.
+pub fn flush<W: Write>(writer: &mut W) -> io::Result<()> {
+    writer.flush()
+}
+
+/// A seek to this place.
+pub fn seek<S: Seek>(stream: &mut S, to: SeekFrom) -> io::Result<u64> {
+    stream.seek(to)
+}
