@@ -4,9 +4,15 @@
 ghost use Rattle.std.specs.Prelude.{◌≡◌, take, IfOk};
 
 mod calls;
+mod looks;
+mod makers;
 mod positions;
 
 pub use crate::calls::{consume, fill_buf, flush, read, read_exact, seek, write, write_all};
+pub use crate::looks::{asked, flushes, offered, taken, taken_lines};
+pub use crate::makers::{
+    Source, Target, line_writer, reader, reader_under, source, target, writer, writer_under,
+};
 pub use crate::positions::{Positions, byte_at};
 use redux_buffer::{Buffer, GrowError};
 use std::alloc::Global;
