@@ -4,8 +4,11 @@
 ghost use Rattle.std.specs.Prelude.{◌≡◌, take, IfOk};
 
 mod calls;
+pub mod claims;
+pub mod constant;
 mod looks;
 mod makers;
+pub mod policies;
 mod positions;
 
 pub use crate::calls::{consume, fill_buf, flush, read, read_exact, seek, write, write_all};

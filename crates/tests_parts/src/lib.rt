@@ -2,15 +2,11 @@
 //! doesn't know.
 #![tactic(auto)]
 
-#[cfg(test)]
-mod any;
 pub mod claims;
-pub mod constant;
 #[cfg(test)]
 mod kinds;
 #[cfg(test)]
 mod lists;
-pub mod policies;
 #[cfg(test)]
 mod room;
 #[cfg(test)]

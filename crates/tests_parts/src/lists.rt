@@ -1,10 +1,9 @@
 //! Lists of calls under policies that the library doesn't know: whatever they return, no byte is lost or changes place.
 ghost use Rattle.std.specs.Prelude.{◌<◌};
 
-use crate::any::{Any, Kind};
-use buffer_redux::script::{Answer, ScriptReader, ScriptWriter};
-use buffer_redux::tell::Told;
-use buffer_redux::{BufReader, BufWriter, Buffer};
+use buffer_redux::policy::{MinBuffered, ReaderPolicy, StdPolicy, WriterPolicy};
+use buffer_redux::script::Answer;
+use buffer_redux::{BufReader, BufWriter, Buffer, GrowError};
 use redux_play::play::{
     ReaderCall, ReaderRun, WriterAnswer, WriterCall, WriterRun, play_reader, play_writer,
 };
@@ -12,6 +11,10 @@ use std::alloc::{AllocError, Global};
 use std::io::ErrorKind;
 use std::process::Abort;
 use std::test::Fail;
+use tests_common::claims::{Halves, Header};
+use tests_common::constant::{Always, Never, TooMuch};
+use tests_common::policies::{Copying, FailsAt, Fickle, Greedy, Growing, Limiting, Tidy};
+use tests_common::{Source, Target, reader_under, source, target, writer_under};
 
 // How many lists are made, and of how many calls each.
 const LISTS: u64 = 50;
@@ -82,12 +85,12 @@ fn writer_calls(alloc: Global, seed: u64) -> Result<Vec<WriterCall<'static>>, Al
 }
 
 // An empty buffer of the kind.
-fn empty(alloc: Global, ring: bool) -> Result<Buffer, Fail> {
-    Ok(if ring {
-        Buffer::with_capacity_ringbuf(alloc, 8)?
+fn empty(alloc: Global, ring: bool) -> Result<Buffer, GrowError> {
+    if ring {
+        Buffer::with_capacity_ringbuf(alloc, 8)
     } else {
-        Buffer::with_capacity(alloc, 8)?
-    })
+        Buffer::with_capacity(alloc, 8)
+    }
 }
 
 // Three bytes at a time, with two faults among them.
@@ -100,94 +103,141 @@ const SCRIPT: [Answer; 6] = [
     Answer::Fail(ErrorKind::TimedOut),
 ];
 
+fn reader<P: ReaderPolicy + Drop>(
+    alloc: Global,
+    ring: bool,
+    policy: P,
+) -> Result<BufReader<Source, P>, Fail> {
+    let rdr = BufReader::with_buffer(empty(alloc, ring)?, source(alloc, &BYTES, &SCRIPT)?);
+    Ok(reader_under(rdr, policy))
+}
+
+fn writer<P: WriterPolicy + Drop>(
+    alloc: Global,
+    ring: bool,
+    policy: P,
+) -> Result<BufWriter<Target, P>, Fail> {
+    let wrt = BufWriter::with_buffer(empty(alloc, ring)?, target(alloc, &SCRIPT)?);
+    Ok(writer_under(wrt, policy))
+}
+
+fn play_reads<P: ReaderPolicy>(
+    alloc: Global,
+    rdr: &mut BufReader<Source, P>,
+    calls: &[ReaderCall],
+) -> Result<ReaderRun, AllocError> {
+    let mut run = ReaderRun::new(alloc);
+    play_reader(alloc, rdr, calls, &mut run)?;
+    Ok(run)
+}
+
+fn play_writes<P: WriterPolicy>(
+    alloc: Global,
+    wrt: &mut BufWriter<Target, P>,
+    calls: &[WriterCall<'_>],
+) -> Result<WriterRun, AllocError> {
+    let mut run = WriterRun::new(alloc);
+    play_writer(wrt, calls, &mut run)?;
+    Ok(run)
+}
+
 // What was handed out, and then what is buffered, is what the source served.
-fn reads_in_order(
+fn reads_in_order<P: ReaderPolicy + Drop>(
     rt: &impl Abort,
     alloc: Global,
     ring: bool,
-    policy: Any,
+    policy: P,
     calls: &[ReaderCall],
 ) -> Result<(), Fail> {
-    let inner = Told::new(ScriptReader::new(alloc, &BYTES, &SCRIPT)?);
-    let mut rdr = BufReader::with_buffer(empty(alloc, ring)?, inner).set_policy(policy);
-    let mut run = ReaderRun::new(alloc);
-    play_reader(alloc, &mut rdr, calls, &mut run)?;
+    let mut rdr = reader(alloc, ring, policy)?;
+    let run = play_reads(alloc, &mut rdr, calls)?;
     assert_eq!(rt; run.answers.len(), calls.len());
     let mut joined = run.handed;
     joined.extend_from_slice(rdr.buffer())?;
     let served = rdr.get_ref().get_ref().served();
-    assert!(rt; served <= BYTES.len());
-    assert_eq!(rt; joined.as_slice(), &BYTES[..served]);
+    assert_eq!(rt; Some(joined.as_slice()), BYTES.get(..served));
     Ok(())
 }
 
-// What the stream took, and then what is buffered, is what the calls took in.
-fn writes_in_order(
+// What the calls took in.
+fn accepted(
     rt: &impl Abort,
     alloc: Global,
-    ring: bool,
-    policy: Any,
     calls: &[WriterCall<'_>],
-) -> Result<(), Fail> {
-    let inner = Told::new(ScriptWriter::new(alloc, &SCRIPT)?);
-    let mut wrt = BufWriter::with_buffer(empty(alloc, ring)?, inner).set_policy(policy);
-    let mut run = WriterRun::new(alloc);
-    play_writer(&mut wrt, calls, &mut run)?;
-    assert_eq!(rt; run.answers.len(), calls.len());
+    answers: &[WriterAnswer],
+) -> Result<Vec<u8>, AllocError> {
     let mut accepted = Vec::new(alloc);
-    for (call, answer) in calls.iter().zip(run.answers.as_slice().iter()) {
+    for (call, answer) in calls.iter().zip(answers.iter()) {
         if let (WriterCall::Write(bytes), WriterAnswer::Count(count)) = (*call, *answer) {
             assert!(rt; count <= bytes.len());
             accepted.extend_from_slice(&bytes[..count])?;
         }
     }
+    Ok(accepted)
+}
+
+// What the stream took, and then what is buffered.
+fn received<P: WriterPolicy + Drop>(
+    alloc: Global,
+    wrt: BufWriter<Target, P>,
+) -> Result<Vec<u8>, AllocError> {
     let (inner, buf) = wrt.into_inner_with_buffer();
     let mut joined = Vec::from_slice(alloc, inner.get_ref().taken())?;
     joined.extend_from_slice(buf.buf())?;
-    assert_eq!(rt; joined.as_slice(), accepted.as_slice());
+    Ok(joined)
+}
+
+// What was received is what the calls took in.
+fn writes_in_order<P: WriterPolicy + Drop>(
+    rt: &impl Abort,
+    alloc: Global,
+    ring: bool,
+    policy: P,
+    calls: &[WriterCall<'_>],
+) -> Result<(), Fail> {
+    let mut wrt = writer(alloc, ring, policy)?;
+    let run = play_writes(alloc, &mut wrt, calls)?;
+    assert_eq!(rt; run.answers.len(), calls.len());
+    let accepted = accepted(rt, alloc, calls, run.answers.as_slice())?;
+    assert_eq!(rt; received(alloc, wrt)?.as_slice(), accepted.as_slice());
     Ok(())
 }
 
-// The policies that the lists are played under, besides those that fail at one question.
-const KINDS: [Kind; 11] = [
-    Kind::Greedy,
-    Kind::Never,
-    Kind::Always,
-    Kind::TooMuch,
-    Kind::Tidy,
-    Kind::Growing,
-    Kind::Limiting(12),
-    Kind::Fickle,
-    Kind::Header,
-    Kind::Halves,
-    Kind::Copying,
-];
-
-// The policy of this number.
-fn numbered(alloc: Global, number: usize) -> Any {
-    let kind = match KINDS.get(number) {
-        Some(kind) => *kind,
-        None => Kind::FailsAt(number.saturating_sub(KINDS.len())),
-    };
-    Any::new(alloc, kind)
-}
-
-const POLICIES: usize = 11 + CALLS;
-
-// The list under each of the policies, over a buffer of either kind.
+// The list under each policy, over a buffer of either kind; under one that fails, at each of its questions.
 fn reads_under_each(rt: &impl Abort, alloc: Global, calls: &[ReaderCall]) -> Result<(), Fail> {
-    for number in 0..POLICIES {
-        for ring in [false, true] {
-            reads_in_order(rt, alloc, ring, numbered(alloc, number), calls)?;
+    for ring in [false, true] {
+        reads_in_order(rt, alloc, ring, StdPolicy, calls)?;
+        reads_in_order(rt, alloc, ring, Greedy, calls)?;
+        reads_in_order(rt, alloc, ring, Never, calls)?;
+        reads_in_order(rt, alloc, ring, Always, calls)?;
+        reads_in_order(rt, alloc, ring, Tidy(MinBuffered(4)), calls)?;
+        reads_in_order(rt, alloc, ring, Growing, calls)?;
+        reads_in_order(rt, alloc, ring, Limiting(12), calls)?;
+        reads_in_order(rt, alloc, ring, Fickle { asked: 0 }, calls)?;
+        reads_in_order(rt, alloc, ring, Header, calls)?;
+        reads_in_order(rt, alloc, ring, Halves, calls)?;
+        reads_in_order(rt, alloc, ring, Copying::new(alloc), calls)?;
+        for question in 0..CALLS {
+            reads_in_order(rt, alloc, ring, FailsAt::new(question), calls)?;
         }
     }
     Ok(())
 }
 
 fn writes_under_each(rt: &impl Abort, alloc: Global, calls: &[WriterCall<'_>]) -> Result<(), Fail> {
-    for number in 0..POLICIES {
-        for ring in [false, true] {
-            writes_in_order(rt, alloc, ring, numbered(alloc, number), calls)?;
+    for ring in [false, true] {
+        writes_in_order(rt, alloc, ring, StdPolicy, calls)?;
+        writes_in_order(rt, alloc, ring, Greedy, calls)?;
+        writes_in_order(rt, alloc, ring, Never, calls)?;
+        writes_in_order(rt, alloc, ring, Always, calls)?;
+        writes_in_order(rt, alloc, ring, TooMuch, calls)?;
+        writes_in_order(rt, alloc, ring, Tidy(MinBuffered(4)), calls)?;
+        writes_in_order(rt, alloc, ring, Growing, calls)?;
+        writes_in_order(rt, alloc, ring, Limiting(12), calls)?;
+        writes_in_order(rt, alloc, ring, Fickle { asked: 0 }, calls)?;
+        writes_in_order(rt, alloc, ring, Halves, calls)?;
+        for question in 0..CALLS {
+            writes_in_order(rt, alloc, ring, FailsAt::new(question), calls)?;
         }
     }
     Ok(())

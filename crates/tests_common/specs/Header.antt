@@ -3,7 +3,7 @@ use Rattle.std.specs.Prelude.{◌≡◌, ◌<◌, ◌≤◌, length, Ok, Err, Ma
 use Rattle.buffer_redux.specs.Block.{Block, MakesRoomInFront, Reserves, usable}
 use Rattle.buffer_redux.specs.GrowError.{GrowthFailed}
 use Rattle.buffer_redux.specs.Policy.{BeforeReadTable, ReadRules}
-use Rattle.tests_parts.specs.declared.claims.Header.{Header}
+use Rattle.tests_common.specs.declared.claims.Header.{Header}
 
 -- a buffer that can't hold sixteen bytes grows; one in which they don't fit behind its bytes makes room; another stays
 pub record ReadiesHeader (old new : Block) : Type 0 where

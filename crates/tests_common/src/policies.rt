@@ -2,6 +2,7 @@
 ghost use Rattle.std.specs.Prelude.{Some};
 ghost use Rattle.buffer_redux.specs.Policy.{Lawful, any_read_rules, no_read_claims};
 
+use crate::NO_MACHINE;
 use buffer_redux::Buffer;
 use buffer_redux::policy::{
     DoRead, FlushAmt, MinBuffered, ReaderPolicy, WriterPolicy, flush_when_full, read_when_empty,
@@ -9,7 +10,6 @@ use buffer_redux::policy::{
 use std::alloc::Global;
 use std::io;
 use std::io::ErrorKind;
-use tests_common::NO_MACHINE;
 
 /// Has room for 4096 more bytes at each question, and always reads.
 #[derive(Drop)]
@@ -248,6 +248,16 @@ pub struct Copying {
     pub alloc: Global,
     /// What was buffered at the last question.
     pub seen: Vec<u8>,
+}
+
+impl Copying {
+    /// Has seen nothing yet.
+    pub fn new(alloc: Global) -> Copying {
+        Copying {
+            alloc,
+            seen: Vec::new(alloc),
+        }
+    }
 }
 
 impl ReaderPolicy for Copying {

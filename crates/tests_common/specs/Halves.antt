@@ -1,7 +1,7 @@
 -- What `Halves` does before a read and around a write.
 use Rattle.std.specs.Prelude.{◌≡◌, ◌*◌, length, nat_le, if◌then◌else◌, Ok, Err, Some, None, true}
 use Rattle.buffer_redux.specs.Policy.{BeforeReadTable, BeforeWriteTable, ReadRules, WriteRules, amount_when_full}
-use Rattle.tests_parts.specs.declared.claims.Halves.{Halves}
+use Rattle.tests_common.specs.declared.claims.Halves.{Halves}
 
 -- it reads until more than half of the capacity is buffered
 abbrev pub halves_before_read : BeforeReadTable Halves
