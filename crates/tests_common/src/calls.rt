@@ -1,6 +1,6 @@
 //! The calls of std on any stream. They promise nothing, since a test looks at each answer itself, and its proof is the shorter.
 use std::io;
-use std::io::{BufRead, Read, Seek, SeekFrom, Write};
+use std::io::{BufRead, ErrorKind, Read, Seek, SeekFrom, Write};
 
 /// One read into these bytes.
 pub fn read<R: Read>(reader: &mut R, out: &mut [u8]) -> io::Result<usize> {
@@ -40,4 +40,12 @@ pub fn flush<W: Write>(writer: &mut W) -> io::Result<()> {
 /// A seek to this place.
 pub fn seek<S: Seek>(stream: &mut S, to: SeekFrom) -> io::Result<u64> {
     stream.seek(to)
+}
+
+/// An answer, of whose error only the kind is looked at.
+pub fn kind<T>(answer: io::Result<T>) -> Result<T, ErrorKind> {
+    match answer {
+        Ok(value) => Ok(value),
+        Err(e) => Err(e.kind()),
+    }
 }

@@ -10,13 +10,15 @@ mod looks;
 mod makers;
 pub mod policies;
 mod positions;
+mod texts;
 
-pub use crate::calls::{consume, fill_buf, flush, read, read_exact, seek, write, write_all};
+pub use crate::calls::{consume, fill_buf, flush, kind, read, read_exact, seek, write, write_all};
 pub use crate::looks::{asked, flushes, offered, taken, taken_lines};
 pub use crate::makers::{
     Source, Target, line_writer, reader, reader_under, source, target, writer, writer_under,
 };
 pub use crate::positions::{Positions, byte_at};
+pub use crate::texts::{debug, display};
 use redux_buffer::{Buffer, GrowError};
 use std::alloc::Global;
 
@@ -30,4 +32,13 @@ pub fn holding(alloc: Global, capacity: usize, bytes: &[u8]) -> Result<Buffer, G
     let mut buf = Buffer::with_capacity(alloc, capacity)?;
     let _ = buf.copy_from_slice(bytes);
     Ok(buf)
+}
+
+/// An empty buffer of either kind, which promises nothing.
+pub fn empty(alloc: Global, ring: bool, capacity: usize) -> Result<Buffer, GrowError> {
+    if ring {
+        Buffer::with_capacity_ringbuf(alloc, capacity)
+    } else {
+        Buffer::with_capacity(alloc, capacity)
+    }
 }

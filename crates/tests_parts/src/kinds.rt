@@ -1,8 +1,11 @@
 //! The kinds of buffer by themselves, and printed texts.
 use redux_buffer::{BufImpl, Buffer, GrowError, RawBuf, SliceDequeBuf, StdBuf, laws};
+use std::alloc::Global;
+use std::io;
+use std::io::ErrorKind;
 use std::process::Abort;
 use std::test::Fail;
-use std::{fmt, io};
+use tests_common::{debug, display, empty};
 
 #[test]
 fn plain(rt: HostRuntime) -> Result<(), Fail> {
@@ -74,14 +77,15 @@ fn whole(rt: HostRuntime) -> Result<(), Fail> {
     Ok(())
 }
 
+fn copies_through(alloc: Global, bytes: &[u8], out: &mut [u8]) -> Result<usize, GrowError> {
+    let mut empty = Buffer::with_capacity(alloc, 4)?;
+    Ok(laws::copy_through(&mut empty, bytes, out))
+}
+
 #[test]
 fn through(rt: HostRuntime) -> Result<(), Fail> {
-    let mut empty = Buffer::with_capacity(rt.alloc(), 4)?;
     let mut out = [0u8; 5];
-    assert_eq!(rt;
-        laws::copy_through(&mut empty, &[1, 2, 3, 4, 5], &mut out),
-        4
-    );
+    assert_eq!(rt; copies_through(rt.alloc(), &[1, 2, 3, 4, 5], &mut out)?, 4);
     assert_eq!(rt; out, [1, 2, 3, 4, 0]);
     Ok(())
 }
@@ -96,37 +100,41 @@ fn raw(rt: HostRuntime) -> Result<(), Fail> {
     Ok(())
 }
 
-fn prints<T: fmt::Debug>(
-    rt: &(impl Abort + AllocGlobal),
-    value: &T,
-    text: &str,
-) -> Result<(), Fail> {
-    assert_eq!(rt; format!(in rt.alloc(); "{value:?}")?.as_str(), text);
+fn error_kind(error: GrowError) -> ErrorKind {
+    io::Error::from(error).kind()
+}
+
+#[test]
+fn refusals(rt: HostRuntime) -> Result<(), Fail> {
+    for (error, text, kind) in [
+        (
+            GrowError::TooLarge,
+            "the needed capacity passes the limit",
+            ErrorKind::InvalidInput,
+        ),
+        (GrowError::Memory, "out of memory", ErrorKind::OutOfMemory),
+    ] {
+        assert_eq!(rt; display(rt.alloc(), &error)?.as_str(), text);
+        assert_eq!(rt; error_kind(error), kind);
+    }
+    assert_eq!(rt;
+        debug(rt.alloc(), &GrowError::TooLarge)?.as_str(),
+        "TooLarge"
+    );
     Ok(())
 }
 
 #[test]
 fn printed(rt: HostRuntime) -> Result<(), Fail> {
-    for (error, text, kind) in [
-        (
-            GrowError::TooLarge,
-            "the needed capacity passes the limit",
-            io::ErrorKind::InvalidInput,
-        ),
-        (
-            GrowError::Memory,
-            "out of memory",
-            io::ErrorKind::OutOfMemory,
-        ),
-    ] {
-        assert_eq!(rt; format!(in rt.alloc(); "{error}")?.as_str(), text);
-        assert_eq!(rt; io::Error::from(error).kind(), kind);
-    }
-    prints(&rt, &GrowError::TooLarge, "TooLarge")?;
-    let plain =
-        "Buffer { imp: Std(StdBuf { buf: RawBuf { buf: [0] }, pos: 0, end: 0, stop: 1, consumed: Count, moved: Count }), limit: 4611686018427387904 }";
-    prints(&rt, &Buffer::with_capacity(rt.alloc(), 1)?, plain)?;
-    let ring =
-        "SliceDequeBuf { buf: RawBuf { buf: [] }, head: 0, end: 0, stop: 0, consumed: Count, moved: Count }";
-    prints(&rt, &SliceDequeBuf::with_capacity(rt.alloc(), 0)?, ring)
+    let plain = empty(rt.alloc(), false, 1)?;
+    assert_eq!(rt;
+        debug(rt.alloc(), &plain)?.as_str(),
+        "Buffer { imp: Std(StdBuf { buf: RawBuf { buf: [0] }, pos: 0, end: 0, stop: 1, consumed: Count, moved: Count }), limit: 4611686018427387904 }"
+    );
+    let ring = SliceDequeBuf::with_capacity(rt.alloc(), 0)?;
+    assert_eq!(rt;
+        debug(rt.alloc(), &ring)?.as_str(),
+        "SliceDequeBuf { buf: RawBuf { buf: [] }, head: 0, end: 0, stop: 0, consumed: Count, moved: Count }"
+    );
+    Ok(())
 }

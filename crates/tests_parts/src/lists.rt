@@ -3,7 +3,7 @@ ghost use Rattle.std.specs.Prelude.{◌<◌};
 
 use buffer_redux::policy::{MinBuffered, ReaderPolicy, StdPolicy, WriterPolicy};
 use buffer_redux::script::Answer;
-use buffer_redux::{BufReader, BufWriter, Buffer, GrowError};
+use buffer_redux::{BufReader, BufWriter};
 use redux_play::play::{
     ReaderCall, ReaderRun, WriterAnswer, WriterCall, WriterRun, play_reader, play_writer,
 };
@@ -14,7 +14,7 @@ use std::test::Fail;
 use tests_common::claims::{Halves, Header};
 use tests_common::constant::{Always, Never, TooMuch};
 use tests_common::policies::{Copying, FailsAt, Fickle, Greedy, Growing, Limiting, Tidy};
-use tests_common::{Source, Target, reader_under, source, target, writer_under};
+use tests_common::{Source, Target, empty, reader_under, source, target, writer_under};
 
 // How many lists are made, and of how many calls each.
 const LISTS: u64 = 50;
@@ -84,15 +84,6 @@ fn writer_calls(alloc: Global, seed: u64) -> Result<Vec<WriterCall<'static>>, Al
     Ok(calls)
 }
 
-// An empty buffer of the kind.
-fn empty(alloc: Global, ring: bool) -> Result<Buffer, GrowError> {
-    if ring {
-        Buffer::with_capacity_ringbuf(alloc, 8)
-    } else {
-        Buffer::with_capacity(alloc, 8)
-    }
-}
-
 // Three bytes at a time, with two faults among them.
 const SCRIPT: [Answer; 6] = [
     Answer::ServeEach(3),
@@ -108,7 +99,7 @@ fn reader<P: ReaderPolicy + Drop>(
     ring: bool,
     policy: P,
 ) -> Result<BufReader<Source, P>, Fail> {
-    let rdr = BufReader::with_buffer(empty(alloc, ring)?, source(alloc, &BYTES, &SCRIPT)?);
+    let rdr = BufReader::with_buffer(empty(alloc, ring, 8)?, source(alloc, &BYTES, &SCRIPT)?);
     Ok(reader_under(rdr, policy))
 }
 
@@ -117,7 +108,7 @@ fn writer<P: WriterPolicy + Drop>(
     ring: bool,
     policy: P,
 ) -> Result<BufWriter<Target, P>, Fail> {
-    let wrt = BufWriter::with_buffer(empty(alloc, ring)?, target(alloc, &SCRIPT)?);
+    let wrt = BufWriter::with_buffer(empty(alloc, ring, 8)?, target(alloc, &SCRIPT)?);
     Ok(writer_under(wrt, policy))
 }
 

@@ -1,13 +1,12 @@
 //! What goes between a buffer and a stream.
-use redux_buffer::script::{Answer, ScriptReader, ScriptWriter};
-use redux_buffer::tell::Told;
+use buffer_redux::script::Answer;
+use buffer_redux::tell::{TellRead, TellWrite, Told};
 use redux_buffer::{Buffer, GrowError};
 use std::alloc::Global;
 use std::io::ErrorKind;
 use std::process::Abort;
 use std::test::Fail;
-
-type Reader = Told<ScriptReader>;
+use tests_common::{Source, empty, kind, source, target};
 
 // A plain buffer that is full of these bytes.
 fn full(alloc: Global, bytes: &[u8]) -> Result<Buffer, GrowError> {
@@ -16,15 +15,35 @@ fn full(alloc: Global, bytes: &[u8]) -> Result<Buffer, GrowError> {
     Ok(b)
 }
 
+fn read_once<R: TellRead>(b: &mut Buffer, rdr: &mut R) -> Result<usize, ErrorKind> {
+    kind(b.read_from(rdr))
+}
+
+fn write_once<W: TellWrite>(b: &mut Buffer, wrt: &mut W) -> Result<usize, ErrorKind> {
+    kind(b.write_to(wrt))
+}
+
+// All that is buffered, or so much at most.
+fn send<W: TellWrite>(b: &mut Buffer, wrt: &mut W, most: Option<usize>) -> Result<(), ErrorKind> {
+    kind(match most {
+        None => b.write_all(wrt),
+        Some(most) => b.write_max(most, wrt),
+    })
+}
+
+fn copy_out(b: &mut Buffer, out: &mut [u8]) -> usize {
+    b.copy_to_slice(out)
+}
+
 // Reads, each of which gives so many bytes or this fault, and after which so many bytes are consumed.
 fn reads(
     rt: &impl Abort,
     b: &mut Buffer,
-    rdr: &mut Reader,
+    rdr: &mut Source,
     rows: &[(Result<usize, ErrorKind>, usize)],
 ) {
     for &(answer, consumed) in rows {
-        assert_eq!(rt; b.read_from(rdr).map_err(|e| e.kind()), answer);
+        assert_eq!(rt; read_once(b, rdr), answer);
         b.consume(consumed);
     }
 }
@@ -32,9 +51,10 @@ fn reads(
 #[test]
 fn reads_once(rt: HostRuntime) -> Result<(), Fail> {
     let mut rdr = Told::new([1, 2].as_slice());
-    let mut b = Buffer::with_capacity(rt.alloc(), 1)?;
-    assert_eq!(rt; b.read_from(&mut rdr)?, 1);
-    assert_eq!(rt; b.read_from(&mut rdr)?, 0);
+    let mut b = empty(rt.alloc(), false, 1)?;
+    for count in [1, 0] {
+        assert_eq!(rt; read_once(&mut b, &mut rdr), Ok(count));
+    }
     assert_eq!(rt; b.buf(), [1].as_slice());
     Ok(())
 }
@@ -47,8 +67,8 @@ fn reads_short(rt: HostRuntime) -> Result<(), Fail> {
         Answer::Fail(ErrorKind::Other),
         Answer::Serve(0),
     ];
-    let mut rdr = Told::new(ScriptReader::new(rt.alloc(), &[1, 2, 3, 4], &script)?);
-    let mut b = Buffer::with_capacity(rt.alloc(), 8)?;
+    let mut rdr = source(rt.alloc(), &[1, 2, 3, 4], &script)?;
+    let mut b = empty(rt.alloc(), false, 8)?;
     let rows = [
         (Ok(3), 0),
         (Err(ErrorKind::Other), 0),
@@ -64,17 +84,24 @@ fn reads_short(rt: HostRuntime) -> Result<(), Fail> {
 #[test]
 fn ring_reads(rt: HostRuntime) -> Result<(), Fail> {
     let bytes = vec![in rt.alloc(); 9u8; 16384]?;
-    let mut rdr = Told::new(ScriptReader::new(rt.alloc(), &bytes, &[])?);
-    let mut b = Buffer::with_capacity_ringbuf(rt.alloc(), 4096)?;
-    let rows = [4096, 4000, 4000, 4000, 288, 0].map(|n| (Ok(n), 4000));
+    let mut rdr = source(rt.alloc(), &bytes, &[])?;
+    let mut b = empty(rt.alloc(), true, 4096)?;
+    let rows = [
+        (Ok(4096), 4000),
+        (Ok(4000), 4000),
+        (Ok(4000), 4000),
+        (Ok(4000), 4000),
+        (Ok(288), 4000),
+        (Ok(0), 4000),
+    ];
     reads(&rt, &mut b, &mut rdr, &rows);
     Ok(())
 }
 
 #[test]
 fn ring_without_room(rt: HostRuntime) -> Result<(), Fail> {
-    let mut rdr = Told::new(ScriptReader::new(rt.alloc(), &[1], &[])?);
-    let mut b = Buffer::with_capacity_ringbuf(rt.alloc(), 0)?;
+    let mut rdr = source(rt.alloc(), &[1], &[])?;
+    let mut b = empty(rt.alloc(), true, 0)?;
     reads(&rt, &mut b, &mut rdr, &[(Ok(0), 0)]);
     assert!(rt; rdr.get_ref().offers().is_empty());
     b.reserve(1)?;
@@ -86,8 +113,9 @@ fn ring_without_room(rt: HostRuntime) -> Result<(), Fail> {
 fn copies_out(rt: HostRuntime) -> Result<(), Fail> {
     let mut b = full(rt.alloc(), &[1, 2])?;
     let mut out = [9u8; 5];
-    assert_eq!(rt; b.copy_to_slice(&mut out[..0]), 0);
-    assert_eq!(rt; b.copy_to_slice(&mut out), 2);
+    for (room, count) in [(0, 0), (5, 2)] {
+        assert_eq!(rt; copy_out(&mut b, &mut out[..room.min(5)]), count);
+    }
     assert_eq!(rt; out, [1, 2, 9, 9, 9]);
     assert!(rt; b.is_empty());
     Ok(())
@@ -106,13 +134,9 @@ type Row<'a> = (
 fn sends(rt: &impl Abort, alloc: Global, row: Row<'_>, all: bool) -> Result<(), Fail> {
     let (held, max, script, result, taken, left) = row;
     let mut b = full(alloc, held)?;
-    let mut wrt = Told::new(ScriptWriter::new(alloc, script)?);
-    let sent = if all {
-        b.write_all(&mut wrt)
-    } else {
-        b.write_max(max, &mut wrt)
-    };
-    assert_eq!(rt; sent.map_err(|e| e.kind()), result);
+    let mut wrt = target(alloc, script)?;
+    let most = if all { None } else { Some(max) };
+    assert_eq!(rt; send(&mut b, &mut wrt, most), result);
     assert_eq!(rt; wrt.get_ref().taken(), taken);
     assert_eq!(rt; b.buf(), left);
     Ok(())
@@ -173,11 +197,12 @@ fn sends_all(rt: HostRuntime) -> Result<(), Fail> {
 
 #[test]
 fn writes_once(rt: HostRuntime) -> Result<(), Fail> {
-    let mut wrt = Told::new(ScriptWriter::new(rt.alloc(), &[Answer::Serve(2)])?);
-    assert_eq!(rt; full(rt.alloc(), &[])?.write_to(&mut wrt)?, 0);
+    let mut wrt = target(rt.alloc(), &[Answer::Serve(2)])?;
+    let mut b = full(rt.alloc(), &[])?;
+    assert_eq!(rt; write_once(&mut b, &mut wrt), Ok(0));
     assert!(rt; wrt.get_ref().offers().is_empty());
     let mut b = full(rt.alloc(), &[1, 2, 3])?;
-    assert_eq!(rt; b.write_to(&mut wrt)?, 2);
+    assert_eq!(rt; write_once(&mut b, &mut wrt), Ok(2));
     assert_eq!(rt; b.buf(), [3].as_slice());
     assert_eq!(rt; wrt.get_ref().offers(), [3].as_slice());
     Ok(())
