@@ -12,6 +12,11 @@ pub fn read_exact<R: Read>(reader: &mut R, out: &mut [u8]) -> io::Result<()> {
     reader.read_exact(out)
 }
 
+/// What is read to the end, behind what is there.
+pub fn read_to_end<R: Read>(reader: &mut R, out: &mut Vec<u8>) -> io::Result<usize> {
+    reader.read_to_end(out)
+}
+
 /// What a fill shows.
 pub fn fill_buf<R: BufRead>(reader: &mut R) -> io::Result<&[u8]> {
     reader.fill_buf()

@@ -12,7 +12,9 @@ pub mod policies;
 mod positions;
 mod texts;
 
-pub use crate::calls::{consume, fill_buf, flush, kind, read, read_exact, seek, write, write_all};
+pub use crate::calls::{
+    consume, fill_buf, flush, kind, read, read_exact, read_to_end, seek, write, write_all,
+};
 pub use crate::looks::{asked, flushes, offered, taken, taken_lines};
 pub use crate::makers::{
     Source, Target, line_writer, reader, reader_under, source, target, writer, writer_under,

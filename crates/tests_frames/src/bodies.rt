@@ -1,17 +1,18 @@
 //! The reader of bodies in the chunked coding.
 use End::{Truncated, Whole, Wrong};
-use buffer_redux::BufReader;
 use buffer_redux::script::{Answer, FaultAt, ScriptReader};
 use buffer_redux::tell::Told;
+use buffer_redux::{BufReader, MakeError};
 use chunked::Malformed::{
     BadSize, BareFeed, BareReturn, ChunkTooLong, LineTooLong, NoSize, SizeTooLarge, TrailersTooLong,
 };
 use chunked::{ChunkedError, ChunkedReader, Limits, Malformed};
 use std::alloc::Global;
 use std::io;
-use std::io::{ErrorKind, Read};
+use std::io::ErrorKind;
 use std::process::Abort;
 use std::test::Fail;
+use tests_common::{debug, display, kind, read_to_end};
 
 type Body = ChunkedReader<Told<FaultAt<ScriptReader>>>;
 
@@ -121,6 +122,34 @@ const WRONG: [Row<'static>; 34] = [
     ),
 ];
 
+// A body over a stream that answers by the script, and fails once after so many calls. Neither it nor any call below promises
+// anything.
+fn body(alloc: Global, row: Row<'_>, script: &[Answer], before: usize) -> Result<Body, Fail> {
+    let (line, trailers, bytes, _, _) = row;
+    let fault = Answer::Fail(ErrorKind::Other);
+    let stream = FaultAt::new(ScriptReader::new(alloc, bytes, script)?, before, fault);
+    match BufReader::with_capacity(alloc, 8, Told::new(stream)) {
+        Ok(reader) => Ok(ChunkedReader::new(reader, Limits { line, trailers })),
+        Err(MakeError(_, e)) => Err(e.into()),
+    }
+}
+
+fn read_payload(body: &mut Body, out: &mut [u8]) -> Result<usize, ChunkedError> {
+    body.read_payload(out)
+}
+
+fn is_done(body: &Body) -> bool {
+    body.is_done()
+}
+
+fn took(body: &Body) -> u64 {
+    body.taken()
+}
+
+fn into_inner(body: Body) -> BufReader<Told<FaultAt<ScriptReader>>> {
+    body.into_inner()
+}
+
 // Hands payload out until it ends, once more after a fault, in pieces of so much room at most.
 fn payload_of(
     rt: &impl Abort,
@@ -131,9 +160,12 @@ fn payload_of(
     let mut payload = Vec::new(alloc);
     let mut out = [0; 64];
     for _ in 0..1000 {
-        match body.read_payload(&mut out[..room.min(64)]) {
+        match read_payload(body, &mut out[..room.min(64)]) {
             Ok(0) => return Ok((payload, None)),
-            Ok(n) => payload.extend_from_slice(&out[..n])?,
+            Ok(n) => {
+                assert!(rt; n <= 64);
+                payload.extend_from_slice(&out[..n])?;
+            }
             Err(ChunkedError::Io(e)) if e.kind() == ErrorKind::Other => {}
             Err(e) => return Ok((payload, Some(e))),
         }
@@ -142,14 +174,14 @@ fn payload_of(
 }
 
 // Whether a body ended so.
-fn ends(body: &Body, failed: Option<ChunkedError>, end: End<'_>) -> bool {
+fn ends(body: &Body, failed: &Option<ChunkedError>, end: End<'_>) -> bool {
     match (failed, end) {
-        (None, Whole(_)) => body.is_done(),
+        (None, Whole(_)) => is_done(body),
         (Some(ChunkedError::NotChunked(why, right)), Wrong(name, count)) => {
-            why == name && right == count && body.taken() == count && !body.is_done()
+            *why == name && *right == count && took(body) == count && !is_done(body)
         }
         (Some(ChunkedError::Truncated(right)), Truncated(count)) => {
-            right == count && body.taken() == count && !body.is_done()
+            *right == count && took(body) == count && !is_done(body)
         }
         _ => false,
     }
@@ -157,10 +189,10 @@ fn ends(body: &Body, failed: Option<ChunkedError>, end: End<'_>) -> bool {
 
 // What is left in the reader, once more after a fault, and how often its stream was called.
 fn rest_of(alloc: Global, body: Body) -> Result<(Vec<u8>, usize), Fail> {
-    let mut reader = body.into_inner();
+    let mut reader = into_inner(body);
     let mut rest = Vec::new(alloc);
-    if reader.read_to_end(&mut rest).is_err() {
-        reader.read_to_end(&mut rest)?;
+    if read_to_end(&mut reader, &mut rest).is_err() {
+        read_to_end(&mut reader, &mut rest)?;
     }
     Ok((rest, reader.get_ref().get_ref().calls()))
 }
@@ -175,17 +207,14 @@ fn reads(
     room: usize,
     before: usize,
 ) -> Result<bool, Fail> {
-    let (line, trailers, bytes, want, end) = row;
-    let fault = Answer::Fail(ErrorKind::Other);
-    let stream = FaultAt::new(ScriptReader::new(alloc, bytes, script)?, before, fault);
-    let reader = BufReader::with_capacity(alloc, 8, Told::new(stream))?;
-    let mut body = ChunkedReader::new(reader, Limits { line, trailers });
+    let (_, _, bytes, want, end) = row;
+    let mut body = body(alloc, row, script, before)?;
     let (payload, failed) = payload_of(rt, alloc, &mut body, room)?;
     assert_eq!(rt; payload.as_slice(), want, "of {bytes:?} by {script:?}");
-    assert!(rt; ends(&body, failed, end), "{bytes:?} by {script:?}");
+    assert!(rt; ends(&body, &failed, end), "{bytes:?} by {script:?}");
     let (more, failed) = payload_of(rt, alloc, &mut body, room)?;
     assert!(rt;
-        more.is_empty() && ends(&body, failed, end),
+        more.is_empty() && ends(&body, &failed, end),
         "{bytes:?} again"
     );
     let (rest, calls) = rest_of(alloc, body)?;
@@ -271,17 +300,24 @@ fn misses_what_is_cut_off(rt: HostRuntime) -> Result<(), Fail> {
     Ok(())
 }
 
-// The payload as a buffered reader over the body shows it, up to an error.
-fn through(alloc: Global, bytes: &[u8]) -> Result<(Vec<u8>, Option<ErrorKind>), Fail> {
-    let reader = BufReader::new(alloc, Told::new(bytes))?;
+// A buffered reader over a body of these bytes.
+fn over_a_body(alloc: Global, bytes: &[u8]) -> Result<BufReader<ChunkedReader<Told<&[u8]>>>, Fail> {
     let limits = Limits {
         line: 9,
         trailers: 9,
     };
-    let mut outer = BufReader::new(alloc, ChunkedReader::new(reader, limits))?;
+    let reader = BufReader::new(alloc, Told::new(bytes))?;
+    Ok(BufReader::new(alloc, ChunkedReader::new(reader, limits))?)
+}
+
+// The payload as such a reader shows it, up to an error.
+fn through(alloc: Global, bytes: &[u8]) -> Result<(Vec<u8>, Option<ErrorKind>), Fail> {
+    let mut outer = over_a_body(alloc, bytes)?;
     let mut payload = Vec::new(alloc);
-    let failed = outer.read_to_end(&mut payload).err().map(|e| e.kind());
-    Ok((payload, failed))
+    match kind(read_to_end(&mut outer, &mut payload)) {
+        Ok(_) => Ok((payload, None)),
+        Err(kind) => Ok((payload, Some(kind))),
+    }
 }
 
 #[test]
@@ -338,29 +374,30 @@ fn says_why(rt: HostRuntime) -> Result<(), Fail> {
             "a chunk is longer than its size, behind 7 bytes of a body",
         ),
     ] {
-        let said = format!(in alloc; "{}", ChunkedError::NotChunked(why, 7))?;
+        let said = display(alloc, &ChunkedError::NotChunked(why, 7))?;
         assert_eq!(rt; said.as_str(), want);
     }
-    let stream = io::Error::from(ErrorKind::Other);
-    let of_stream = format!(in alloc; "{stream}")?;
-    let said = format!(in alloc; "{}", ChunkedError::from(stream))?;
-    assert_eq!(rt; said.as_str(), of_stream.as_str());
-    let said = format!(in alloc; "{}", ChunkedError::Truncated(7))?;
-    assert_eq!(rt; said.as_str(), "the stream ended after 7 bytes of a body");
+    let of_stream = display(alloc, &io::Error::from(ErrorKind::Other))?;
+    for (error, want) in [
+        (
+            ChunkedError::from(io::Error::from(ErrorKind::Other)),
+            of_stream.as_str(),
+        ),
+        (
+            ChunkedError::Truncated(7),
+            "the stream ended after 7 bytes of a body",
+        ),
+    ] {
+        assert_eq!(rt; display(alloc, &error)?.as_str(), want);
+    }
     Ok(())
 }
 
 #[test]
 fn shows_where_it_stands(rt: HostRuntime) -> Result<(), Fail> {
-    let alloc = rt.alloc();
-    let stream = ScriptReader::new(alloc, b"12;x\r\n", &[Answer::Serve(3)])?;
-    let reader = BufReader::with_capacity(alloc, 8, Told::new(stream))?;
-    let limits = Limits {
-        line: 9,
-        trailers: 9,
-    };
-    let body = ChunkedReader::new(reader, limits);
-    let said = format!(in alloc; "{body:?}")?;
+    let row = (9, 9, b"12;x\r\n".as_slice(), b"".as_slice(), Truncated(0));
+    let body = body(rt.alloc(), row, &[Answer::Serve(3)], usize::MAX)?;
+    let said = debug(rt.alloc(), &body)?;
     assert!(rt; said.starts_with("chunked::ChunkedReader { reader: buffer_redux::BufReader {"));
     assert!(rt; said.ends_with(", place: Line, taken: 0 }"));
     assert_eq!(rt; body.get_ref().buf_len(), 0);

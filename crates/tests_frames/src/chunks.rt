@@ -1,17 +1,18 @@
 //! The writer of bodies in the chunked coding.
-use buffer_redux::script::{Answer, ScriptReader, ScriptWriter};
-use buffer_redux::tell::Told;
+use buffer_redux::script::Answer;
 use buffer_redux::{BufReader, BufWriter, IntoInnerError, MakeError};
 use chunked::{ChunkedReader, ChunkedWriter, Limits};
 use std::alloc::Global;
-use std::io;
-use std::io::{ErrorKind, Read, Write};
+use std::io::ErrorKind;
 use std::process::Abort;
 use std::test::Fail;
+use tests_common::{
+    Source, Target, debug, flush, flushes, read_to_end, source, taken, target, write, write_all,
+};
 
-type Inner = BufWriter<Told<ScriptWriter>>;
+type Inner = BufWriter<Target>;
 
-type Body = ChunkedWriter<Told<ScriptWriter>>;
+type Body = ChunkedWriter<Target>;
 
 // What is written, each piece by one write, and the body that it makes.
 type Row<'a> = (&'a [&'a [u8]], &'a [u8]);
@@ -34,29 +35,35 @@ const BODIES: [Row<'static>; 5] = [
     (&[], b"0\r\n\r\n"),
 ];
 
-// A writer over a buffer of so many bytes, which are more than 20.
+// A writer over a buffer of so many bytes, which are more than 20. Neither it nor any call below promises anything.
 fn body(alloc: Global, capacity: usize, script: &[Answer]) -> Result<Body, Fail> {
-    let stream = Told::new(ScriptWriter::new(alloc, script)?);
-    match BufWriter::with_capacity(alloc, capacity.max(21), stream) {
+    match BufWriter::with_capacity(alloc, capacity.max(21), target(alloc, script)?) {
         Ok(writer) => Ok(ChunkedWriter::new(writer)),
         Err(MakeError(_, e)) => Err(e.into()),
     }
 }
 
-// The bytes that the stream took.
-fn taken(writer: &Inner) -> &[u8] {
-    writer.get_ref().get_ref().taken()
+fn inner(body: &Body) -> &Inner {
+    body.get_ref()
+}
+
+fn into_inner(body: Body) -> Inner {
+    body.into_inner()
+}
+
+fn finish(body: Body) -> Result<Inner, IntoInnerError<Body>> {
+    body.finish()
 }
 
 // Writes a piece, once more after a fault. Returns whether it failed.
 fn writes(rt: &impl Abort, body: &mut Body, piece: &[u8]) -> Result<bool, Fail> {
-    match body.write(piece) {
+    match write(body, piece) {
         Ok(count) => {
             assert_eq!(rt; count, piece.len());
             Ok(false)
         }
         Err(_) => {
-            assert_eq!(rt; body.write(piece)?, piece.len());
+            assert_eq!(rt; write(body, piece)?, piece.len());
             Ok(true)
         }
     }
@@ -64,13 +71,20 @@ fn writes(rt: &impl Abort, body: &mut Body, piece: &[u8]) -> Result<bool, Fail> 
 
 // Finishes, once more after a fault.
 fn finishes(body: Body) -> Result<(Inner, bool), Fail> {
-    match body.finish() {
+    match finish(body) {
         Ok(inner) => Ok((inner, false)),
-        Err(IntoInnerError(body, _)) => {
-            let inner = body.finish().map_err(io::Error::from)?;
-            Ok((inner, true))
-        }
+        Err(IntoInnerError(body, _)) => match finish(body) {
+            Ok(inner) => Ok((inner, true)),
+            Err(IntoInnerError(_, e)) => Err(e.into()),
+        },
     }
+}
+
+// The body that ends here without a fault, and is flushed.
+fn flushed(body: Body) -> Result<Inner, Fail> {
+    let (mut inner, _) = finishes(body)?;
+    flush(&mut inner)?;
+    Ok(inner)
 }
 
 // Writes a body over a stream that answers by the script, and flushes until that succeeds. Returns whether a call failed.
@@ -88,9 +102,9 @@ fn writes_always(
     }
     let (mut inner, again) = finishes(body)?;
     failed |= again;
-    if inner.flush().is_err() {
+    if flush(&mut inner).is_err() {
         failed = true;
-        inner.flush()?;
+        flush(&mut inner)?;
     }
     assert!(rt; taken(&inner) == want, "{want:?} by {script:?}");
     Ok(failed)
@@ -136,9 +150,9 @@ fn writes_sizes(rt: HostRuntime) -> Result<(), Fail> {
         (4097, b"1001\r\nx"),
     ] {
         let mut body = body(rt.alloc(), 8192, &[])?;
-        assert_eq!(rt; body.write(&bytes[..size.min(4097)])?, size);
-        body.flush()?;
-        let sent = taken(body.get_ref());
+        assert_eq!(rt; write(&mut body, &bytes[..size.min(4097)])?, size);
+        flush(&mut body)?;
+        let sent = taken(inner(&body));
         assert!(rt; sent.starts_with(line), "of {size}");
         assert_eq!(rt; sent.len(), line.len() + size + 1);
     }
@@ -151,18 +165,18 @@ fn sends_where_there_is_no_room(rt: HostRuntime) -> Result<(), Fail> {
     let long = [b'x'; 16];
     for (size, sent) in [(15, 0), (16, 10)] {
         let mut body = body(rt.alloc(), 45, &[])?;
-        assert_eq!(rt; body.write(b"hello")?, 5);
-        assert_eq!(rt; body.write(&long[..size])?, size);
-        assert_eq!(rt; taken(body.get_ref()).len(), sent);
-        assert_eq!(rt; body.get_ref().get_ref().get_ref().flushes(), 0);
+        assert_eq!(rt; write(&mut body, b"hello")?, 5);
+        assert_eq!(rt; write(&mut body, &long[..size.min(16)])?, size);
+        assert_eq!(rt; taken(inner(&body)).len(), sent);
+        assert_eq!(rt; flushes(inner(&body)), 0);
     }
     // The last chunk needs five bytes.
     for (size, sent) in [(11, 0), (12, 28)] {
         let mut body = body(rt.alloc(), 32, &[])?;
-        assert_eq!(rt; body.write(b"hello world")?, 11);
-        assert_eq!(rt; taken(body.get_ref()).len(), 0);
-        let mut inner = body.into_inner();
-        assert_eq!(rt; inner.write(&long[..size])?, size);
+        assert_eq!(rt; write(&mut body, b"hello world")?, 11);
+        assert_eq!(rt; taken(inner(&body)).len(), 0);
+        let mut inner = into_inner(body);
+        assert_eq!(rt; write(&mut inner, &long[..size.min(16)])?, size);
         let body = ChunkedWriter::new(inner);
         let (inner, _) = finishes(body)?;
         assert_eq!(rt; taken(&inner).len(), sent);
@@ -184,51 +198,77 @@ fn cuts_what_is_long(rt: HostRuntime) -> Result<(), Fail> {
     ] {
         let mut body = body(rt.alloc(), capacity, &[])?;
         let text = b"hello world".as_slice();
-        assert_eq!(rt; body.write(text)?, first);
-        body.write_all(&text[first..])?;
-        let (mut inner, _) = finishes(body)?;
-        inner.flush()?;
-        assert_eq!(rt; taken(&inner), want);
+        assert_eq!(rt; write(&mut body, text)?, first);
+        write_all(&mut body, &text[first.min(11)..])?;
+        assert_eq!(rt; taken(&flushed(body)?), want);
     }
     Ok(())
+}
+
+// The body behind a buffered writer over it, which these bytes went into one by one.
+fn bytewise(alloc: Global, bytes: &[u8]) -> Result<Body, Fail> {
+    let mut outer = match BufWriter::new(alloc, body(alloc, 64, &[])?) {
+        Ok(outer) => outer,
+        Err(MakeError(_, e)) => return Err(e.into()),
+    };
+    for byte in bytes {
+        write_all(&mut outer, &[*byte])?;
+    }
+    unwrapped(outer)
+}
+
+fn unwrapped(outer: BufWriter<Body>) -> Result<Body, Fail> {
+    match outer.into_inner() {
+        Ok(body) => Ok(body),
+        Err(IntoInnerError(_, e)) => Err(e.into()),
+    }
 }
 
 // Small writes through a buffered writer over the body are one chunk.
 #[test]
 fn goes_under_a_buffered_writer(rt: HostRuntime) -> Result<(), Fail> {
-    let mut outer = BufWriter::new(rt.alloc(), body(rt.alloc(), 64, &[])?).map_err(
-        io::Error::from,
-    )?;
-    for byte in b"hello world" {
-        outer.write_all(&[*byte])?;
-    }
-    let body = outer.into_inner().map_err(io::Error::from)?;
-    let (mut inner, _) = finishes(body)?;
-    inner.flush()?;
+    let inner = flushed(bytewise(rt.alloc(), b"hello world")?)?;
     assert_eq!(rt; taken(&inner), b"b\r\nhello world\r\n0\r\n\r\n".as_slice());
     Ok(())
+}
+
+// What is written in a buffer of so many bytes, with a request behind it.
+fn written(alloc: Global, capacity: usize, payload: &[u8]) -> Result<Inner, Fail> {
+    let mut body = body(alloc, capacity, &[])?;
+    write_all(&mut body, payload)?;
+    let (mut inner, _) = finishes(body)?;
+    write_all(&mut inner, b"GET")?;
+    flush(&mut inner)?;
+    Ok(inner)
+}
+
+// A reader of what is given so many bytes at most a read.
+fn reading(alloc: Global, bytes: &[u8], most: usize) -> Result<ChunkedReader<Source>, Fail> {
+    let limits = Limits {
+        line: 16,
+        trailers: 0,
+    };
+    match BufReader::new(alloc, source(alloc, bytes, &[Answer::ServeEach(most)])?) {
+        Ok(reader) => Ok(ChunkedReader::new(reader, limits)),
+        Err(MakeError(_, e)) => Err(e.into()),
+    }
+}
+
+fn inner_of(body: ChunkedReader<Source>) -> BufReader<Source> {
+    body.into_inner()
 }
 
 // What is written in a buffer of so many bytes is read again, so many bytes at most a read.
 fn comes_back(rt: &impl Abort, alloc: Global, capacity: usize, most: usize) -> Result<(), Fail> {
     let payload =
         b"No byte is lost, errors come only from the stream, and an empty answer only with its reason.";
-    let mut body = body(alloc, capacity, &[])?;
-    body.write_all(payload)?;
-    let (mut inner, _) = finishes(body)?;
-    inner.write_all(b"GET")?;
-    inner.flush()?;
-    let stream = ScriptReader::new(alloc, taken(&inner), &[Answer::ServeEach(most)])?;
-    let limits = Limits {
-        line: 16,
-        trailers: 0,
-    };
-    let mut back = ChunkedReader::new(BufReader::new(alloc, Told::new(stream))?, limits);
+    let inner = written(alloc, capacity, payload)?;
+    let mut back = reading(alloc, taken(&inner), most)?;
     let mut read = Vec::new(alloc);
-    back.read_to_end(&mut read)?;
+    read_to_end(&mut back, &mut read)?;
     assert_eq!(rt; read.as_slice(), payload.as_slice());
     let mut rest = Vec::new(alloc);
-    back.into_inner().read_to_end(&mut rest)?;
+    read_to_end(&mut inner_of(back), &mut rest)?;
     assert_eq!(rt; rest.as_slice(), b"GET".as_slice());
     Ok(())
 }
@@ -245,9 +285,8 @@ fn is_read_again(rt: HostRuntime) -> Result<(), Fail> {
 
 #[test]
 fn shows_the_writer(rt: HostRuntime) -> Result<(), Fail> {
-    let alloc = rt.alloc();
-    let body = body(alloc, 64, &[])?;
-    let said = format!(in alloc; "{body:?}")?;
+    let body = body(rt.alloc(), 64, &[])?;
+    let said = debug(rt.alloc(), &body)?;
     assert!(rt; said.starts_with("chunked::ChunkedWriter { writer: buffer_redux::BufWriter {"));
     Ok(())
 }

@@ -3,31 +3,36 @@ use frame_reader::{FrameError, WriteFrameError};
 use std::io;
 use std::io::ErrorKind;
 use std::test::Fail;
+use tests_common::display;
 
 #[test]
 fn says_why(rt: HostRuntime) -> Result<(), Fail> {
     let alloc = rt.alloc();
-    let stream = io::Error::from(ErrorKind::Other);
-    let of_stream = format!(in alloc; "{stream}")?;
-    let read = FrameError::from(stream);
-    let written = WriteFrameError::from(io::Error::from(ErrorKind::Other));
-    for (said, want) in [
+    let of_stream = display(alloc, &io::Error::from(ErrorKind::Other))?;
+    for (error, want) in [
         (
-            format!(in alloc; "{}", FrameError::Truncated(3))?,
+            FrameError::Truncated(3),
             "the stream ended after 3 bytes of a frame",
         ),
+        (FrameError::TooLong(4), "a frame of 4 bytes is too long"),
         (
-            format!(in alloc; "{}", FrameError::TooLong(4))?,
-            "a frame of 4 bytes is too long",
+            FrameError::from(io::Error::from(ErrorKind::Other)),
+            of_stream.as_str(),
         ),
-        (format!(in alloc; "{read}")?, of_stream.as_str()),
+    ] {
+        assert_eq!(rt; display(alloc, &error)?.as_str(), want);
+    }
+    for (error, want) in [
         (
-            format!(in alloc; "{}", WriteFrameError::TooLong(4))?,
+            WriteFrameError::TooLong(4),
             "a payload of 4 bytes is too long",
         ),
-        (format!(in alloc; "{written}")?, of_stream.as_str()),
+        (
+            WriteFrameError::from(io::Error::from(ErrorKind::Other)),
+            of_stream.as_str(),
+        ),
     ] {
-        assert_eq!(rt; said.as_str(), want);
+        assert_eq!(rt; display(alloc, &error)?.as_str(), want);
     }
     Ok(())
 }

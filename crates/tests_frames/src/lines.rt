@@ -3,15 +3,15 @@ mod makers;
 mod runs;
 
 use buffer_redux::MakeError;
-use buffer_redux::script::{Answer, ScriptReader};
-use buffer_redux::tell::Told;
+use buffer_redux::script::Answer;
 use line_reader::{LineError, LineReader};
 use std::alloc::Global;
 use std::io::ErrorKind;
 use std::process::Abort;
 use std::test::Fail;
+use tests_common::{Source, kind, source};
 
-type Lines = LineReader<Told<ScriptReader>>;
+type Lines = LineReader<Source>;
 
 // A call, and what it is to answer: of `next`, of `next_trimmed`, of both, or of `skip_line`.
 #[derive(Clone, Copy, Debug)]
@@ -157,13 +157,48 @@ const SKIPPED: [Row<'static>; 6] = [
     ),
 ];
 
-// A reader over the least buffer.
-fn lines(alloc: Global, max: usize, bytes: &[u8], script: &[Answer]) -> Result<Lines, Fail> {
-    let inner = Told::new(ScriptReader::new(alloc, bytes, script)?);
-    match LineReader::with_capacity(alloc, 0, inner, max) {
+// A reader over the usual buffer, or one of at least this capacity. Neither it nor any call below promises anything.
+fn lines_over(
+    alloc: Global,
+    capacity: Option<usize>,
+    max: usize,
+    bytes: &[u8],
+    script: &[Answer],
+) -> Result<Lines, Fail> {
+    let inner = source(alloc, bytes, script)?;
+    let made = match capacity {
+        Some(capacity) => LineReader::with_capacity(alloc, capacity, inner, max),
+        None => LineReader::new(alloc, inner, max),
+    };
+    match made {
         Ok(lines) => Ok(lines),
         Err(MakeError(_, e)) => Err(e.into()),
     }
+}
+
+// A reader over the least buffer.
+fn lines(alloc: Global, max: usize, bytes: &[u8], script: &[Answer]) -> Result<Lines, Fail> {
+    lines_over(alloc, Some(0), max, bytes, script)
+}
+
+fn next(lines: &mut Lines) -> Result<Option<&[u8]>, LineError> {
+    lines.next()
+}
+
+fn next_trimmed(lines: &mut Lines) -> Result<Option<&[u8]>, LineError> {
+    lines.next_trimmed()
+}
+
+fn skip_line(lines: &mut Lines) -> Result<u64, ErrorKind> {
+    kind(lines.skip_line())
+}
+
+fn rest(lines: &Lines) -> &[u8] {
+    lines.rest()
+}
+
+fn asked(lines: &Lines) -> &[usize] {
+    lines.get_ref().get_ref().offers()
 }
 
 // Whether this answer is such, and nothing where the stream failed.
@@ -179,7 +214,7 @@ fn is_such(answer: Result<Option<&[u8]>, LineError>, want: Want<'_>) -> Option<b
 
 // The same of a call of `skip_line`.
 fn skips(lines: &mut Lines, want: u64) -> Option<bool> {
-    match lines.skip_line() {
+    match skip_line(lines) {
         Ok(count) => Some(count == want),
         Err(_) => None,
     }
@@ -188,9 +223,9 @@ fn skips(lines: &mut Lines, want: u64) -> Option<bool> {
 // Whether the next call answers so, and nothing where the stream failed.
 fn meets(lines: &mut Lines, want: Want<'_>) -> Option<bool> {
     match want {
-        Want::Trimmed(_) => is_such(lines.next_trimmed(), want),
+        Want::Trimmed(_) => is_such(next_trimmed(lines), want),
         Want::Skipped(count) => skips(lines, count),
-        _ => is_such(lines.next(), want),
+        _ => is_such(next(lines), want),
     }
 }
 
@@ -276,14 +311,9 @@ fn skips_within_the_buffer(rt: HostRuntime) -> Result<(), Fail> {
     ] {
         assert_eq!(rt; meets(&mut lines, want), Some(true));
     }
-    assert!(rt;
-        lines
-            .get_ref()
-            .get_ref()
-            .offers()
-            .iter()
-            .all(|&offered| offered <= 12)
-    );
+    for offered in asked(&lines) {
+        assert!(rt; *offered <= 12);
+    }
     Ok(())
 }
 
@@ -292,9 +322,8 @@ fn skips_within_the_buffer(rt: HostRuntime) -> Result<(), Fail> {
 fn skips_on_after_a_fault(rt: HostRuntime) -> Result<(), Fail> {
     let script = [Answer::Serve(3), Answer::Fail(ErrorKind::TimedOut)];
     let mut lines = lines(rt.alloc(), 3, b"abcdef\nok", &script)?;
-    let failed = lines.skip_line();
-    assert!(rt; matches!(failed, Err(e) if e.kind() == ErrorKind::TimedOut));
-    assert!(rt; lines.rest().is_empty());
+    assert_eq!(rt; skip_line(&mut lines), Err(ErrorKind::TimedOut));
+    assert!(rt; rest(&lines).is_empty());
     for want in [Want::Skipped(4), Want::Line(b"ok"), Want::End] {
         assert_eq!(rt; meets(&mut lines, want), Some(true));
     }
@@ -333,11 +362,7 @@ fn asks_for_an_end_once(rt: HostRuntime) -> Result<(), Fail> {
         let mut lines = lines(rt.alloc(), 3, b"a\nb\ncdef\ng\n", &script)?;
         for (want, reads) in calls {
             assert_eq!(rt; meets(&mut lines, want), Some(true), "{want:?}");
-            assert_eq!(rt;
-                lines.get_ref().get_ref().offers().len(),
-                reads,
-                "at {want:?}"
-            );
+            assert_eq!(rt; asked(&lines).len(), reads, "at {want:?}");
         }
     }
     Ok(())

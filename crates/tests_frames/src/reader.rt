@@ -1,15 +1,14 @@
 //! The reader of frames.
 use buffer_redux::MakeError;
-use buffer_redux::script::{Answer, ScriptReader};
-use buffer_redux::tell::Told;
+use buffer_redux::script::Answer;
 use frame_reader::{FrameError, FrameReader};
 use std::alloc::Global;
-use std::io;
 use std::io::ErrorKind;
 use std::process::Abort;
 use std::test::Fail;
+use tests_common::{Source, source};
 
-type Frames = FrameReader<Told<ScriptReader>>;
+pub type Frames = FrameReader<Source>;
 
 // What a call of `next` is to answer.
 #[derive(Clone, Copy, Debug)]
@@ -52,18 +51,45 @@ const ROWS: [Row<'static>; 8] = [
     (256, b"\x01\x00a", &[Want::Truncated(3)]),
 ];
 
-// A reader over the least buffer.
-fn frames(alloc: Global, max: u16, bytes: &[u8], script: &[Answer]) -> Result<Frames, Fail> {
-    let inner = Told::new(ScriptReader::new(alloc, bytes, script)?);
-    match FrameReader::with_capacity(alloc, 0, inner, max) {
+// A reader over the usual buffer, or one of at least this capacity. Neither it nor any call below promises anything.
+pub fn frames_over(
+    alloc: Global,
+    capacity: Option<usize>,
+    max: u16,
+    bytes: &[u8],
+    script: &[Answer],
+) -> Result<Frames, Fail> {
+    let inner = source(alloc, bytes, script)?;
+    let made = match capacity {
+        Some(capacity) => FrameReader::with_capacity(alloc, capacity, inner, max),
+        None => FrameReader::new(alloc, inner, max),
+    };
+    match made {
         Ok(frames) => Ok(frames),
         Err(MakeError(_, e)) => Err(e.into()),
     }
 }
 
+// A reader over the least buffer.
+fn frames(alloc: Global, max: u16, bytes: &[u8], script: &[Answer]) -> Result<Frames, Fail> {
+    frames_over(alloc, Some(0), max, bytes, script)
+}
+
+pub fn next(frames: &mut Frames) -> Result<Option<&[u8]>, FrameError> {
+    frames.next()
+}
+
+fn rest(frames: &Frames) -> &[u8] {
+    frames.rest()
+}
+
+fn asked(frames: &Frames) -> &[usize] {
+    frames.get_ref().get_ref().offers()
+}
+
 // Whether the next call answers so, and nothing where the stream failed.
 fn meets(frames: &mut Frames, want: Want<'_>) -> Option<bool> {
-    match (frames.next(), want) {
+    match (next(frames), want) {
         (Ok(Some(payload)), Want::Payload(bytes)) => Some(payload == bytes),
         (Ok(None), Want::End) => Some(true),
         (Err(FrameError::Truncated(have)), Want::Truncated(count)) => Some(have == count),
@@ -136,7 +162,7 @@ fn goes_on_after_a_fault(rt: HostRuntime) -> Result<(), Fail> {
     let script = [Answer::Serve(1), Answer::Fail(ErrorKind::Other)];
     let mut frames = frames(rt.alloc(), 3, b"\x00\x01a", &script)?;
     assert_eq!(rt; meets(&mut frames, Want::End), None);
-    assert_eq!(rt; frames.rest(), b"\x00".as_slice());
+    assert_eq!(rt; rest(&frames), b"\x00".as_slice());
     assert_eq!(rt; meets(&mut frames, Want::Payload(b"a")), Some(true));
     assert_eq!(rt; meets(&mut frames, Want::End), Some(true));
     Ok(())
@@ -146,44 +172,36 @@ fn goes_on_after_a_fault(rt: HostRuntime) -> Result<(), Fail> {
 fn keeps_the_rest(rt: HostRuntime) -> Result<(), Fail> {
     let mut short = frames(rt.alloc(), 3, b"\x05", &[])?;
     assert_eq!(rt; meets(&mut short, Want::Truncated(1)), Some(true));
-    assert_eq!(rt; short.rest(), b"\x05".as_slice());
+    assert_eq!(rt; rest(&short), b"\x05".as_slice());
 
     let mut two = frames(rt.alloc(), 3, b"\x00\x01a\x00\x01b", &[])?;
     assert_eq!(rt; meets(&mut two, Want::Payload(b"a")), Some(true));
-    assert_eq!(rt; two.rest(), b"\x00\x01b".as_slice());
+    assert_eq!(rt; rest(&two), b"\x00\x01b".as_slice());
     assert_eq!(rt; meets(&mut two, Want::Payload(b"b")), Some(true));
-    assert_eq!(rt; two.get_ref().get_ref().offers().len(), 1);
+    assert_eq!(rt; asked(&two).len(), 1);
     Ok(())
 }
 
 // The capacity that is asked for, the greatest length of a payload, and how many bytes the first read is offered: all of the
 // buffer, which holds three frames at least.
-const CAPACITIES: [(usize, u16, usize); 7] = [
-    (0, 0, 6),
-    (0, 3, 15),
-    (14, 3, 15),
-    (15, 3, 15),
-    (16, 3, 16),
-    (8192, 2728, 8192),
-    (8192, 2729, 8193),
+const CAPACITIES: [(Option<usize>, u16, usize); 9] = [
+    (Some(0), 0, 6),
+    (Some(0), 3, 15),
+    (Some(14), 3, 15),
+    (Some(15), 3, 15),
+    (Some(16), 3, 16),
+    (Some(8192), 2728, 8192),
+    (Some(8192), 2729, 8193),
+    (None, 3, 8192),
+    (None, 65535, 196611),
 ];
 
 #[test]
 fn takes_the_capacity(rt: HostRuntime) -> Result<(), Fail> {
-    let alloc = rt.alloc();
     for (capacity, max, offered) in CAPACITIES {
-        let inner = Told::new(ScriptReader::new(alloc, b"\x00\x00", &[])?);
-        let mut frames = FrameReader::with_capacity(alloc, capacity, inner, max).map_err(
-            io::Error::from,
-        )?;
+        let mut frames = frames_over(rt.alloc(), capacity, max, b"\x00\x00", &[])?;
         assert_eq!(rt; meets(&mut frames, Want::Payload(b"")), Some(true));
-        assert_eq!(rt; frames.get_ref().get_ref().offers(), [offered].as_slice());
-    }
-    for (max, offered) in [(3, 8192), (65535, 196611)] {
-        let inner = Told::new(ScriptReader::new(alloc, b"\x00\x00", &[])?);
-        let mut frames = FrameReader::new(alloc, inner, max).map_err(io::Error::from)?;
-        assert_eq!(rt; meets(&mut frames, Want::Payload(b"")), Some(true));
-        assert_eq!(rt; frames.get_ref().get_ref().offers(), [offered].as_slice());
+        assert_eq!(rt; asked(&frames), [offered].as_slice());
     }
     Ok(())
 }

@@ -3,7 +3,7 @@ ghost use Rattle.std.specs.Prelude.{map, IsTrue};
 ghost use Rattle.std.specs.List.{All};
 ghost use Rattle.line_reader.specs.Lines.{FitsLine};
 
-use crate::lines::lines;
+use crate::lines::{Lines, lines, rest};
 use buffer_redux::script::Answer;
 use line_reader::{LineError, laws};
 use std::alloc::{AllocError, Global};
@@ -42,36 +42,58 @@ fn some_lines(alloc: Global, count: usize) -> Result<Vec<Vec<u8>>, AllocError> {
     Ok(lines)
 }
 
+// The laws are the calls. These promise nothing.
+fn there_and_back(alloc: Global, lines: &[Vec<u8>]) -> io::Result<Option<Vec<Vec<u8>>>> {
+    if !are_fitting(lines) {
+        return Ok(None);
+    }
+    Ok(Some(laws::round_trip(alloc, lines, 700)?))
+}
+
+fn play_reads(
+    alloc: Global,
+    reader: &mut Lines,
+    count: usize,
+) -> Result<Vec<Result<Option<Vec<u8>>, LineError>>, AllocError> {
+    let mut answers = Vec::new(alloc);
+    laws::play_next(alloc, reader, count, &mut answers)?;
+    Ok(answers)
+}
+
+fn since_new(reader: &Lines) {
+    laws::one_reading();
+    laws::lines_of_text();
+    laws::since_new(reader);
+    laws::next_known(reader);
+}
+
 #[test]
 fn goes_there_and_back(rt: HostRuntime) -> Result<(), Fail> {
     let lines = some_lines(rt.alloc(), 1000)?;
-    assert!(rt; are_fitting(&lines));
-    let back = laws::round_trip(rt.alloc(), &lines, 700)?;
-    assert!(rt; back == lines);
+    match there_and_back(rt.alloc(), &lines)? {
+        Some(back) => assert!(rt; back == lines),
+        None => panic!(rt; "lines that don't fit"),
+    }
     Ok(())
 }
 
 #[test]
 fn plays_what_is_read(rt: HostRuntime) -> Result<(), Fail> {
-    laws::one_reading();
-    laws::lines_of_text();
     let script = [
         Answer::ServeEach(2),
         Answer::Serve(2),
         Answer::Fail(ErrorKind::Other),
     ];
     let mut reader = lines(rt.alloc(), 3, b"a\n\nabc\nabcd\n", &script)?;
-    let mut answers = Vec::new(rt.alloc());
-    laws::play_next(rt.alloc(), &mut reader, 5, &mut answers)?;
-    laws::since_new(&reader);
-    laws::next_known(&reader);
+    let answers = play_reads(rt.alloc(), &mut reader, 5)?;
+    since_new(&reader);
     assert_eq!(rt; answers.len(), 5);
     assert!(rt; matches!(&answers[0], Ok(Some(line)) if line.as_slice() == b"a".as_slice()));
     assert!(rt; matches!(&answers[1], Err(LineError::Io(e)) if e.kind() == ErrorKind::Other));
     assert!(rt; matches!(&answers[2], Ok(Some(line)) if line.is_empty()));
     assert!(rt; matches!(&answers[3], Ok(Some(line)) if line.as_slice() == b"abc".as_slice()));
     assert!(rt; matches!(&answers[4], Err(LineError::TooLong(3))));
-    assert_eq!(rt; reader.rest(), b"abcd\n".as_slice());
+    assert_eq!(rt; rest(&reader), b"abcd\n".as_slice());
     Ok(())
 }
 
