@@ -44,18 +44,18 @@ module _ {W : Type 0} (tells : W → StreamLog) (stretch call : W → W → Type
         answers = record {
           copies = tt;
           ended = λ is. cc;
-          nothing = λ is. cc;
-          last = λ is. cc;
-          failed = inl (record {
-            fault = record {
-              interrupts = [];
-              interrupted = All-nil IsInterrupt;
-              faults = ap (λ l. l ++ e ∷ []) (sym (append-nil from.fills.faults));
-            };
-            writer = none;
-          });
-          kept = kept;
-          spent = fills;
+          failed = record {
+            failed = inl (record {
+              fault = record {
+                interrupts = [];
+                interrupted = All-nil IsInterrupt;
+                faults = ap (λ l. l ++ e ∷ []) (sym (append-nil from.fills.faults));
+              };
+              writer = none;
+            });
+            nothing = kept;
+            fills = fills;
+          };
           writes = writes;
         };
         interrupted = λ is. record {
@@ -92,20 +92,20 @@ module _ {W : Type 0} (tells : W → StreamLog) (stretch call : W → W → Type
         answers = record {
           copies = tt;
           ended = λ is. cc;
-          nothing = λ is. cc;
-          last = λ is. cc;
-          failed = inr (record {
-            reader = OnlyInterrupts-none from.fills.faults;
-            last = record {
-              before = w;
-              went = none w;
-              met = record { interrupts = []; only = OnlyInterrupted-none (tells w).writes };
-              called = called;
-              told = told;
-            };
-          });
-          kept = kept;
-          spent = fills;
+          failed = record {
+            failed = inr (record {
+              reader = OnlyInterrupts-none from.fills.faults;
+              last = record {
+                before = w;
+                went = none w;
+                met = record { interrupts = []; only = OnlyInterrupted-none (tells w).writes };
+                called = called;
+                told = told;
+              };
+            });
+            nothing = kept;
+            fills = fills;
+          };
           writes = omega (arith, once);
         };
         interrupted = λ is. record {

@@ -1,5 +1,5 @@
 -- What copying from a buffered reader to a writer does.
-use Rattle.std.specs.Prelude.{◌≡◌, ℕ, ◌+◌, ◌-◌, ◌*◌, ◌^◌, ◌<◌, ◌≤◌, ◌⊎◌, List, ◌++◌, length, Option, IfSome, Result, Ok, Err, IfOk, IfErr, OnOk, OnErr, MatchResult}
+use Rattle.std.specs.Prelude.{◌≡◌, ℕ, ◌+◌, ◌-◌, ◌*◌, ◌^◌, ◌<◌, ◌≤◌, ◌⊎◌, List, ◌++◌, length, Option, IfSome, Result, Ok, Err, IfOk, IfErr, OnOk, MatchResult}
 use Rattle.std.specs.Io.KnownBytes.{Consumes}
 use Rattle.std.specs.IoError.{error_kind}
 use Rattle.std.specs.declared.io.Error.{Error}
@@ -105,17 +105,27 @@ abbrev pub MeetsFewFaults : {A : Type 0} → Result A Error → FillLog → Fill
 MeetsFewFaults (Ok a) from from' to to' = FaultsAtMost (64 * (consumed_since from from' + 1)) from from' to to'
 MeetsFewFaults (Err e) from from' to to' = FaultsAtMost (64 * (consumed_since from from' + 1) + 1) from from' to to'
 
+-- the last turn of a copy: it moved nothing, and its fill had no consume
+pub record TurnEnded {W : Type 0} (tells : W → StreamLog) (stretch call : W → W → Type 0)
+    (from from' : FillLog) (w w' : W) : Type 0 where
+  pub ended : CopyEnded tells stretch call from from' w w'
+  pub nothing : MovedBy 0 from from' (tells w).writes (tells w').writes
+  pub fills : FillsMade 1 from from' (tells w).writes (tells w').writes
+
+-- a turn in which a stream failed: it moved nothing
+pub record TurnFailed {W : Type 0} (tells : W → StreamLog) (stretch call : W → W → Type 0) (e : Error)
+    (from from' : FillLog) (w w' : W) : Type 0 where
+  pub failed : StreamFailed tells stretch call e from from' w w'
+  pub nothing : MovedBy 0 from from' (tells w).writes (tells w').writes
+  pub fills : FillsMade 0 from from' (tells w).writes (tells w').writes
+
 -- what one turn of a copy answered, also one that was begun again where it was interrupted: how many bytes went over, none
--- at the end, or why a stream failed, and then none went over
+-- at the end, or why a stream failed
 pub record TurnAnswers {W : Type 0} (tells : W → StreamLog) (stretch call : W → W → Type 0) (result : Result ℕ Error)
     (from from' : FillLog) (w w' : W) : Type 0 where
   pub copies : IfOk result (λ n. 0 < n → CopiesOn n from from' (tells w).writes (tells w').writes)
-  pub ended : result ≡ Ok 0 → CopyEnded tells stretch call from from' w w'
-  pub nothing : result ≡ Ok 0 → MovedBy 0 from from' (tells w).writes (tells w').writes
-  pub last : result ≡ Ok 0 → FillsMade 1 from from' (tells w).writes (tells w').writes
-  pub failed : IfErr result (λ e. StreamFailed tells stretch call e from from' w w')
-  pub kept : OnErr result (MovedBy 0 from from' (tells w).writes (tells w').writes)
-  pub spent : OnErr result (FillsMade 0 from from' (tells w).writes (tells w').writes)
+  pub ended : result ≡ Ok 0 → TurnEnded tells stretch call from from' w w'
+  pub failed : IfErr result (λ e. TurnFailed tells stretch call e from from' w w')
   pub writes : WritesEachFill from from' (tells w).writes (tells w').writes
 
 -- one turn of a copy: one fill, then one write of all that it shows, none where the fill failed, and so one consume where

@@ -3,7 +3,7 @@ use Rattle.std.proofs.Common.{ℕ, ◌+◌, List, Result, Ok, Err, inl, inr, sub
 use Rattle.std.specs.declared.io.Error.{Error}
 use Rattle.redux_tell.specs.StreamLog.{StreamLog, FillLog, WriteLog}
 use Rattle.redux_tell.specs.Faults.{OnlyInterrupts-none, OnlyInterrupted-none, OnlyInterrupts-joins, FaultAfterInterrupts-after, MetInterrupts-joins}
-use Rattle.redux_tell.specs.Copy.{MovedBy, CopiesOn, LastWrite, CopyEnded, StreamFailed, TurnAnswers, CopyBuf}
+use Rattle.redux_tell.specs.Copy.{MovedBy, CopiesOn, LastWrite, CopyEnded, StreamFailed, TurnEnded, TurnFailed, TurnAnswers, CopyBuf}
 
 -- no turn moves nothing, and two turns one after the other move what both do
 pub MovedBy-none : (from : FillLog) (to : WriteLog) → MovedBy 0 from from to to
@@ -99,26 +99,33 @@ module _ {a b : FillLog} {x y : WriteLog} (before : CopiesOn 0 a b x y) where
 module _ {W : Type 0} (tells : W → StreamLog) (stretch call : W → W → Type 0)
     (joins : (u v w : W) → stretch u v → stretch v w → stretch u w) {a b : FillLog} {x y : W}
     (before : CopiesOn 0 a b (tells x).writes (tells y).writes) (went : stretch x y) where
+  TurnEnded-after : {c : FillLog} {z : W} → TurnEnded tells stretch call b c y z → TurnEnded tells stretch call a c x z
+  TurnEnded-after turn = record {
+    ended = CopyEnded-after tells stretch call joins before went turn.ended;
+    nothing = MovedBy-still before.moved turn.nothing;
+    fills = omega (arith, before.fills, turn.fills);
+  }
+
+  TurnFailed-after : {e : Error} {c : FillLog} {z : W}
+      → TurnFailed tells stretch call e b c y z → TurnFailed tells stretch call e a c x z
+  TurnFailed-after turn = record {
+    failed = StreamFailed-after tells stretch call joins before went turn.failed;
+    nothing = MovedBy-still before.moved turn.nothing;
+    fills = omega (arith, before.fills, turn.fills);
+  }
+
   pub TurnAnswers-after : {c : FillLog} {z : W} (answer : Result ℕ Error)
       → TurnAnswers tells stretch call answer b c y z → TurnAnswers tells stretch call answer a c x z
   TurnAnswers-after (Ok n) turn = record {
     copies = λ some. CopiesOn-after before (turn.copies some);
-    ended = λ is. CopyEnded-after tells stretch call joins before went (turn.ended is);
-    nothing = λ is. MovedBy-still before.moved (turn.nothing is);
-    last = λ is. omega (arith, before.fills, turn.last is);
+    ended = λ is. TurnEnded-after (turn.ended is);
     failed = tt;
-    kept = tt;
-    spent = tt;
     writes = omega (arith, before.writes, turn.writes);
   }
   TurnAnswers-after (Err e) turn = record {
     copies = tt;
-    ended = λ is. CopyEnded-after tells stretch call joins before went (turn.ended is);
-    nothing = λ is. MovedBy-still before.moved (turn.nothing is);
-    failed = StreamFailed-after tells stretch call joins before went turn.failed;
-    last = λ is. omega (arith, before.fills, turn.last is);
-    kept = MovedBy-still before.moved turn.kept;
-    spent = omega (arith, before.fills, turn.spent);
+    ended = λ is. cc;
+    failed = TurnFailed-after turn.failed;
     writes = omega (arith, before.writes, turn.writes);
   }
 

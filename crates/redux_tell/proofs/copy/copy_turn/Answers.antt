@@ -1,4 +1,4 @@
-use Rattle.std.proofs.Common.{◌+◌, length, ap, arith, rules, length-drop}
+use Rattle.std.proofs.Common.{length, ap, arith, rules, length-drop}
 use Rattle.std.proofs.lemmas.Result.{err_from_is_err_and}
 use Rattle.redux_tell.proofs.Turning.{not_filled, not_written}
 use Rattle.redux_tell.proofs.copy.copy_turn.Goals as goal

@@ -21,7 +21,7 @@ loop-turn-preserved g c =
 pub returns-in_err-taken-clause-moved : goal.returns-in_err-taken-clause-moved
 returns-in_err-taken-clause-moved g c =
     let before = c.loop-turn.invariant in
-    let moved = MovedBy-still before.copies.moved c.in_err-taken.ensures.turn.answers.kept in
+    let moved = MovedBy-still before.copies.moved c.in_err-taken.ensures.turn.answers.failed.nothing in
     (before.count, moved, record { calls = before.calls; last = _; told = before.told }, search rules)
 
 pub returns-in_err-taken-clause-reader : goal.returns-in_err-taken-clause-reader
@@ -35,13 +35,13 @@ returns-in_err-taken-clause-writer g c =
 pub returns-then-taken-eq0-clause-moved : goal.returns-then-taken-eq0-clause-moved
 returns-then-taken-eq0-clause-moved g c =
     let before = c.loop-turn.invariant in
-    let moved = MovedBy-still before.copies.moved (c.in_ok-taken.ensures.turn.answers.nothing (cc)) in
+    let moved = MovedBy-still before.copies.moved (c.in_ok-taken.ensures.turn.answers.ended (cc)).nothing in
     (before.count, moved, record { calls = before.calls; last = _; told = before.told }, before.total)
 
 pub returns-then-taken-eq0-clause-ended : goal.returns-then-taken-eq0-clause-ended
 returns-then-taken-eq0-clause-ended g c =
     CopyEnded-after _ _ _ g.met.W.TellWrite.stretch_joins c.loop-turn.invariant.copies c.loop-turn.invariant.writer
-    (c.in_ok-taken.ensures.turn.answers.ended (cc))
+    (c.in_ok-taken.ensures.turn.answers.ended (cc)).ended
 
 pub returns-clause-moved : goal.returns-clause-moved
 returns-clause-moved g c =
