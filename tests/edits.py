@@ -1,7 +1,7 @@
 #!/usr/bin/env python3
 """Tries wrong edits, many in one check: the prover must refuse each.
 
-usage, at the top of the repository: python3 tests/edits.py [--seconds N] [--after-ci] [--lanes N] [CRATE | EDIT ..]
+usage, at the top of the repository: python3 tests/edits.py [--after-ci SECONDS] [--lanes N] [CRATE | EDIT ..]
 
 An edit stands in tests/edits/CRATE/, or in crates/CRATE/must-fail/, where `rt ci` tries it too. It is a file as that reads
 it, with a line `# fn: PATH` in front, which names the function whose proof it breaks, as `rt check` does below the crate.
@@ -10,10 +10,13 @@ A function is proved against the contracts of those that it calls. So edits of d
 each has its verdict in the line of its own function: one that tells of goals of its own is a refusal. 'It calls X, which is
 not proved' says nothing, nor does 'proved' beside others: such an edit is tried alone, and so is one that names no function.
 
-With --seconds it stops once checks took so many seconds of a processor, and leaves out what `rt ci` tries. It begins with
-the crates that the last commits touched, and goes on in an order that changes with each commit. With --after-ci it goes by
-the libraries that `rt ci` left in out/. Each crate is proved once at first, over a copy of what its out/ keeps; no crate of
-the repository is written to, but that libraries below are built where they aren't.
+Each crate is proved once at first, over a copy of what its out/ keeps, and each edit is tried over a copy of that. No crate
+of the repository is written to, but that libraries below are built where they aren't.
+
+With --after-ci it stops once checks took so many seconds of a processor, leaves out what `rt ci` tries, and takes from
+`rt ci` that the crates are proved and the libraries below them built: a check then asks for the edited functions alone, and
+proves what they call. It begins with the edits that have a line `# each time`, then come the crates that the last commits
+touched, and then the others in an order that changes with each commit.
 
 The last line is 'N passed, M failed'; the status is 0 only if each edit that was tried was refused. A BAD EDIT, which can't be
 applied or read, or breaks another function than it names, fails by hand; with --after-ci it is told and counts for nothing, as
@@ -21,18 +24,17 @@ in `rt ci`.
 """
 import argparse
 import collections
-import concurrent.futures
 import importlib.machinery
 import importlib.util
 import os
 import pathlib
-import queue
 import random
 import re
 import shutil
 import subprocess
 import sys
 import tempfile
+import threading
 
 TOP = pathlib.Path(__file__).resolve().parent.parent
 # What a proof file says where an edit took away what it names.
@@ -40,7 +42,7 @@ NAMES = re.compile(r"(\./)?proofs/.*(has no field|is not in scope|has no `|was n
 # The parts of a function's line that tell of other functions.
 OTHERS = re.compile(r"(no proof: )?it (calls|passes|waits|uses) ")
 
-Edit = collections.namedtuple("Edit", "crate path fn pairs")
+Edit = collections.namedtuple("Edit", "crate path fn pairs each_time")
 
 
 def kit_library():
@@ -72,7 +74,7 @@ def read(path):
         elif key == "new":
             pairs.append((file, old, value.removeprefix(" ")))
     crate = path.parent.name if path.parent.name != "must-fail" else path.parent.parent.name
-    return Edit(crate, path, fn, tuple(pairs))
+    return Edit(crate, path, fn, tuple(pairs), "# each time" in lines)
 
 
 def applied(edits):
@@ -115,7 +117,21 @@ def groups_of(edits):
 # ---- checks
 
 
-class Lane:
+def linked(folder, to):
+    """Copies what checks kept, by links where these can be made: a check replaces such a file, and changes none."""
+
+    def copy(one, other):
+        try:
+            if one.endswith(".oantt"):
+                return os.link(one, other)
+        except OSError:
+            pass
+        return shutil.copy2(one, other)
+
+    shutil.copytree(folder, to, symlinks=True, copy_function=copy)
+
+
+class Copy:
     """A copy of a crate's texts, and of what is proved of it."""
 
     def __init__(self, crate, room, kept):
@@ -124,14 +140,16 @@ class Lane:
             if (pathlib.Path(crate.folder) / part).is_dir():
                 shutil.copytree(pathlib.Path(crate.folder) / part, self.room / part)
         if kept and kept.is_dir():
-            shutil.copytree(kept, self.kept, symlinks=True)
+            linked(kept, self.kept)
         else:
             self.kept.mkdir(parents=True)
 
-    def check(self, texts, jobs=1):
+    def check(self, texts, only=()):
         """What a check with these texts says, and how many seconds of a processor it took."""
         was = {it: (self.room / it).read_text(encoding="utf-8") for it in texts}
-        words = [LIBRARY.RATTLE, "check", *self.crate.words(["--jobs", str(jobs)], keeps=False), "--incremental", str(self.kept)]
+        words = [LIBRARY.RATTLE, "check", *self.crate.words(["--jobs", "1"], keeps=False), "--incremental", str(self.kept)]
+        for fn in only:
+            words += ["--only", fn]
         try:
             for file, text in texts.items():
                 (self.room / file).write_text(text, encoding="utf-8")
@@ -152,6 +170,9 @@ def lines_of(said):
 def ended(said):
     """How the check ended: 'proved', 'not-proved', or '' where it didn't reach the prover."""
     found = re.findall(r"(?m)^logic=([\w-]+)", said)
+    asked = re.findall(r"(?m)^only=(\d+) proved=(\d+)", said)
+    if asked:
+        return "proved" if asked[-1][0] == asked[-1][1] else "not-proved"
     return found[-1] if found else ""
 
 
@@ -177,71 +198,138 @@ def unread(said, texts):
     return wrong[0] if wrong else "" if ended(said) else said.strip()[:300]
 
 
-def together(lane, group, spend):
-    """The verdicts of a group, by edit: whether it is refused, and what is said. Those that it doesn't settle are lacking."""
-    if len(group) == 1 or not group[0].fn:
-        return {group[0]: alone(lane, group[0], spend)}
-    texts, left = applied(group)
-    said, used = lane.check(texts)
-    spend(used)
-    if ended(said) != "not-proved" or unread(said, texts):
-        return {}
-    found = {it: refusal(it, said) for it in group if it not in left}
-    return {it: (True, why) for it, why in found.items() if why}
+class Crate:
+    """A crate whose edits are tried: what is left to do, and the copies that no lane uses."""
 
+    def __init__(self, crate, edits, room, after_ci, spend):
+        self.crate, self.room, self.after_ci, self.spend = crate, f"{room}/{crate.name}", after_ci, spend
+        self.edits, self.found = edits, {}
+        self.groups = groups_of([it for it in edits if it.each_time]) + groups_of([it for it in edits if not it.each_time])
+        self.kept = None if after_ci else pathlib.Path(crate.folder) / "out/incremental"
+        self.begun = self.ready = after_ci
+        self.idle, self.made, self.busy = [], 0, 0
 
-def alone(lane, edit, spend):
-    texts, left = applied([edit])
-    if left:
-        return False, "BAD EDIT: an 'old:' text stands not just once in its file"
-    said, used = lane.check(texts)
-    spend(used)
-    if unread(said, texts):
-        return False, f"BAD EDIT: it did not reach the prover: {unread(said, texts)}"
-    if ended(said) == "proved":
-        return False, "NOT REFUSED: the crate is still proved with this edit"
-    if edit.fn and not refusal(edit, said):
+    def check(self, copy, texts, only=()):
+        said, used = copy.check(texts, only)
+        self.spend(used)
+        return said
+
+    def copy(self):
+        """A copy that no lane uses, or another one."""
+        if self.idle:
+            return self.idle.pop()
+        self.made += 1
+        return Copy(self.crate, f"{self.room}-{self.made}", self.kept)
+
+    def begin(self, copy):
+        """Proves the crate as it stands, over which its edits are tried."""
+        with BUILDING:
+            lacks = any(it.build_rlib(["--jobs", "1"], anew=False) for it in self.crate.below())
+        if lacks or ended(self.check(copy, {})) != "proved":
+            self.found = {it: (False, "the crate itself, or a library below it, is not proved") for it in self.edits}
+            self.groups = []
+        self.kept, self.ready = copy.kept, True
+
+    def together(self, copy, group):
+        """The verdicts of a group, by edit: whether it is refused, and what is said. Those that it doesn't settle are lacking."""
+        texts, left = applied(group)
+        asked = [it for it in group if it.fn and it not in left]
+        if len(asked) < 2:
+            return {}
+        said = self.check(copy, texts, [it.fn for it in asked] if self.after_ci else ())
+        if ended(said) != "not-proved" or unread(said, texts):
+            return {}
+        found = {it: refusal(it, said) for it in asked}
+        return {it: (True, why) for it, why in found.items() if why}
+
+    def alone(self, copy, edit):
+        """The verdict of one edit. Behind `rt ci` its function alone is asked for first, and the whole crate where that is proved."""
+        texts, left = applied([edit])
+        if left:
+            return False, "BAD EDIT: an 'old:' text stands not just once in its file"
+        for only in [[edit.fn], []] if self.after_ci and edit.fn else [[]]:
+            said = self.check(copy, texts, only)
+            if unread(said, texts):
+                return False, f"BAD EDIT: it did not reach the prover: {unread(said, texts)}"
+            why = refusal(edit, said) if edit.fn else next((it for it in said.split("\n") if ": error" in it), "")
+            if why and ended(said) != "proved":
+                return True, why
+        if ended(said) == "proved":
+            return False, "NOT REFUSED: the crate is still proved with this edit"
         return False, f"BAD EDIT: another function than {edit.fn} is refused"
-    return True, edit.fn and refusal(edit, said) or next((it for it in said.split("\n") if ": error" in it), "")
+
+    def try_group(self, copy, group, has_time):
+        settled = self.together(copy, group)
+        for it in group:
+            if it not in settled and has_time():
+                settled[it] = self.alone(copy, it)
+        self.found.update(settled)
+
+    def takes_a_lane(self):
+        """Whether a group can be tried now. Behind `rt ci` a crate has one lane, since each copy proves for itself what is called."""
+        return self.ready and self.groups and not (self.after_ci and self.busy)
+
+    def is_done(self):
+        return self.ready and not self.groups and not self.busy
 
 
-def tried(crate, edits, lanes, room, after_ci, has_time, spend):
-    """The verdicts of a crate's edits, by edit; those for which there is no time left are lacking."""
-    if not after_ci and any(it.build_rlib(["--jobs", str(lanes)], anew=False) for it in crate.below()):
-        return {it: (False, "a library below the crate is not proved") for it in edits}
-    first = Lane(crate, f"{room}/{crate.name}-0", pathlib.Path(crate.folder) / "out/incremental")
-    said, used = first.check({}, lanes)
-    spend(used)
-    if ended(said) != "proved":
-        return {it: (False, "the crate itself is not proved") for it in edits}
-    groups, found, ready = groups_of(edits), {}, queue.Queue()
-    ready.put(first)
-    for at in range(1, min(lanes, len(groups))):
-        ready.put(Lane(crate, f"{room}/{crate.name}-{at}", first.kept))
+class Lanes:
+    """Tries the edits of the crates, those of the first first, and tells of each crate once it is done."""
 
-    def on_a_lane(group):
-        lane = ready.get()
-        try:
-            if not has_time():
-                return {}
-            settled = together(lane, group, spend)
-            for it in group:
-                if it not in settled and has_time():
-                    settled[it] = alone(lane, it, spend)
-            return settled
-        finally:
-            ready.put(lane)
+    def __init__(self, crates, has_time, tell):
+        self.left, self.has_time, self.tell = crates, has_time, tell
+        self.turn, self.errors = threading.Condition(), []
 
-    with concurrent.futures.ThreadPoolExecutor(lanes) as pool:
-        for it in pool.map(on_a_lane, groups):
-            found.update(it)
-    for it in [*ready.queue]:
-        shutil.rmtree(it.room, ignore_errors=True)
-    return found
+    def run(self, lanes):
+        threads = [threading.Thread(target=self.lane) for _ in range(lanes)]
+        for it in threads:
+            it.start()
+        for it in threads:
+            it.join()
+        for it in self.errors:
+            raise it
+        for it in self.left:
+            self.tell(it)
+
+    def task(self):
+        """A crate, and a group of its edits or None where it is to be begun; or no crate where nothing is left to do."""
+        while self.left and self.has_time() and not self.errors:
+            for it in self.left:
+                if not it.begun:
+                    it.begun = True
+                    return it, None
+                if it.takes_a_lane():
+                    return it, it.groups.pop(0)
+            self.turn.wait()
+        return None, None
+
+    def lane(self):
+        while True:
+            with self.turn:
+                crate, group = self.task()
+                if not crate:
+                    self.turn.notify_all()
+                    return
+                crate.busy += 1
+                copy = crate.copy()
+            try:
+                crate.try_group(copy, group, self.has_time) if group else crate.begin(copy)
+            except BaseException as error:
+                self.errors.append(error)
+            with self.turn:
+                crate.busy -= 1
+                crate.idle.append(copy)
+                if crate.is_done():
+                    self.left.remove(crate)
+                    self.tell(crate)
+                    for it in crate.idle:
+                        shutil.rmtree(it.room, ignore_errors=True)
+                self.turn.notify_all()
 
 
-def crates_in_turn(names):
-    """The crates that the last commits touched, then the others, in an order that changes with each commit."""
+def in_turn(edits):
+    """The names of the crates, and the edits of each: those of each time first, then the crates that the last commits touched,
+    then the others, in an order that changes with each commit."""
     def git(*words):
         return subprocess.run(["git", *words], cwd=TOP, capture_output=True, text=True).stdout.strip()
 
@@ -249,43 +337,42 @@ def crates_in_turn(names):
     before = git("rev-list", "-1", f"--before={at - 8 * 3600}", "HEAD")
     touched = set(re.findall(r"(?m)^crates/(\w+)/", git("diff", "--name-only", before, "HEAD"))) if before else set()
     chance = random.Random(head)
-    names = chance.sample(sorted(names), len(names))
-    return sorted(names, key=lambda it: it not in touched), chance
+    mixed = {it: chance.sample(edits[it], len(edits[it])) for it in chance.sample(sorted(edits), len(edits))}
+    for name in mixed:
+        mixed[name].sort(key=lambda it: not it.each_time)
+    return sorted(mixed, key=lambda it: (not mixed[it][0].each_time, it not in touched)), mixed
 
 
 def main():
     parser = argparse.ArgumentParser(description=__doc__, formatter_class=argparse.RawDescriptionHelpFormatter)
-    parser.add_argument("--seconds", type=int)
-    parser.add_argument("--after-ci", action="store_true")
+    parser.add_argument("--after-ci", type=int, metavar="SECONDS")
     parser.add_argument("--lanes", type=int, default=len(os.sched_getaffinity(0)))
     parser.add_argument("wanted", nargs="*")
     given = parser.parse_args()
-    folders = [*TOP.glob("tests/edits/*/*.edit")] + ([] if given.seconds else [*TOP.glob("crates/*/must-fail/*.edit")])
+    folders = [*TOP.glob("tests/edits/*/*.edit")] + ([] if given.after_ci else [*TOP.glob("crates/*/must-fail/*.edit")])
     edits = collections.defaultdict(list)
     for it in sorted(folders):
         edit = read(it)
         if not given.wanted or {edit.crate, str(it), str(it.relative_to(TOP))} & {*given.wanted}:
             edits[edit.crate].append(edit)
+    every, spent, counts = sum(map(len, edits.values())), [], collections.Counter()
     crates = {it.name: it for it in LIBRARY.crates_below(str(TOP))}
-    names, chance = crates_in_turn(edits) if given.seconds else ([it for it in crates if it in edits], None)
-    spent, passed, failed, every = [], 0, 0, sum(map(len, edits.values()))
-    has_time = lambda: not given.seconds or sum(spent) < given.seconds
+    names, edits = in_turn(edits) if given.after_ci else ([it for it in crates if it in edits], edits)
+
+    def tell(crate):
+        for edit, (well, why) in sorted(crate.found.items(), key=lambda it: it[0].path):
+            counts["passed" if well else "told" if given.after_ci and why.startswith("BAD EDIT") else "failed"] += 1
+            print(f"{edit.crate}/{edit.path.name}: {'refused, as it must be' if well else 'FAILED'}: {why[:200]}", flush=True)
+
     with tempfile.TemporaryDirectory(prefix="edits-") as room:
-        for name in names:
-            if not has_time():
-                break
-            if chance:
-                chance.shuffle(edits[name])
-            found = tried(crates[name], edits[name], given.lanes, room, given.after_ci, has_time, spent.append)
-            for edit, (well, why) in sorted(found.items(), key=lambda it: it[0].path):
-                counts = not (given.after_ci and why.startswith("BAD EDIT"))
-                passed, failed = passed + well, failed + (counts and not well)
-                print(f"{edit.crate}/{edit.path.name}: {'refused, as it must be' if well else 'FAILED'}: {why[:200]}", flush=True)
-    print(f"tried {passed + failed} of {every} edits in {len(spent)} checks, {sum(spent):.0f} seconds of a processor")
-    print(f"{passed} passed, {failed} failed")
-    return 1 if failed else 0
+        work = [Crate(crates[it], edits[it], room, bool(given.after_ci), spent.append) for it in names]
+        Lanes(work, lambda: not given.after_ci or sum(spent) < given.after_ci, tell).run(given.lanes)
+    print(f"tried {sum(counts.values())} of {every} edits in {len(spent)} checks, {sum(spent):.0f} seconds of a processor")
+    print(f"{counts['passed']} passed, {counts['failed']} failed")
+    return 1 if counts["failed"] else 0
 
 
+BUILDING = threading.Lock()
 LIBRARY = kit_library()
 if __name__ == "__main__":
     sys.exit(main())
