@@ -12,9 +12,6 @@ use crate::{MAX_RING, RING_UNIT};
 use std::alloc::Global;
 use std::marker::Model;
 
-#[cfg(test)]
-mod tests;
-
 /// The ring: all its free space can be written at any time, and both that space and the bytes are one slice.
 ///
 /// The bytes stand at `head..end` of storage that is twice the capacity, and `stop` is one capacity behind `head`. The tail

@@ -2,9 +2,6 @@
 ghost use Rattle.std.specs.Prelude.{◌≡◌, ◌+◌, ◌^◌, ◌≤◌, IfSome, IfNone};
 ghost use Rattle.redux_tell.specs.Copy.{CopyBuf, CopyRetried, CopyTurn};
 
-#[cfg(test)]
-mod tests;
-
 use crate::INTERRUPT_LIMIT;
 use crate::tell::{TellBufRead, TellWrite};
 use std::io;

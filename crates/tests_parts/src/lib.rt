@@ -8,6 +8,8 @@ mod kinds;
 #[cfg(test)]
 mod lists;
 #[cfg(test)]
+mod ring;
+#[cfg(test)]
 mod room;
 #[cfg(test)]
 mod rows;
