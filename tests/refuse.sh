@@ -7,8 +7,9 @@
 #   refused, then with its second and so on, until runs meet none.
 # - So is bufcopy, copying its stored input: a refusal is told by the status and a line, and nothing is written.
 # - bufcopy runs with words, into a full device, a closed pipe and a closed output, from a folder and a closed input.
+# - replay runs on lines that are no list of calls, into a full device and from a folder.
 #
-# `built` says that `rt ci` has just built bufcopy; else it is proved and built first. It says how many runs there were,
+# `built` says that `rt ci` has just built both; else they are proved and built first. It says how many runs there were,
 # writes nothing into the repository but what rt builds in the folders out/, and ends with status 0 only where each run
 # ended well.
 set -u
@@ -108,16 +109,21 @@ refuse() {
 
 # What a run as a shell makes it wrote, and how it ended.
 ended() { # what was run, its status, the status wanted, the line wanted on standard error
-    if [ "$2" -ne "$3" ]; then wrong "bufcopy $1: status $2, not $3" "$scratch/err"; fi
-    if [ "$(cat "$scratch/err")" != "$4" ]; then wrong "bufcopy $1: another line" "$scratch/err"; fi
+    if [ "$2" -ne "$3" ]; then wrong "$1: status $2, not $3" "$scratch/err"; fi
+    if [ "$(cat "$scratch/err")" != "$4" ]; then wrong "$1: another line" "$scratch/err"; fi
     shells=$((shells + 1))
 }
 
 holds() { # what was run, the file that standard output should equal
-    cmp -s "$scratch/out" "$2" || wrong "bufcopy $1: other bytes" "$scratch/err"
+    cmp -s "$scratch/out" "$2" || wrong "$1: other bytes" "$scratch/err"
 }
 
-as_a_shell() {
+# Whether there is a device here that is always full.
+has_full_device() {
+    [ -c /dev/full ] && (: > /dev/full) 2> /dev/null
+}
+
+bufcopy_as_a_shell() {
     shells=0
     bufcopy=$PWD/crates/bufcopy/out/bufcopy
     lines=$scratch/lines
@@ -127,43 +133,77 @@ as_a_shell() {
     for words in '' ring std 64 'ring 64' 'std 7' 'ring 1048576'; do
         # Unquoted, since these are words.
         "$bufcopy" $words < "$lines" > "$scratch/out" 2> "$scratch/err"
-        ended "$words" $? 0 ''
-        holds "$words" "$lines"
+        ended "bufcopy $words" $? 0 ''
+        holds "bufcopy $words" "$lines"
     done
     for words in other 'std 0' 'ring 1048577' 'std +5' '64 std' 'ring 64 64'; do
         "$bufcopy" $words < "$lines" > "$scratch/out" 2> "$scratch/err"
-        ended "$words" $? 2 'usage: bufcopy [std|ring] [CAPACITY]'
-        holds "$words" "$nothing"
+        ended "bufcopy $words" $? 2 'usage: bufcopy [std|ring] [CAPACITY]'
+        holds "bufcopy $words" "$nothing"
     done
     fault='bufcopy: read or write failed'
-    if [ -c /dev/full ] && (: > /dev/full) 2> "$nothing"; then
+    if has_full_device; then
         "$bufcopy" < "$lines" > /dev/full 2> "$scratch/err"
-        ended 'into a full device' $? 1 "$fault"
+        ended 'bufcopy into a full device' $? 1 "$fault"
     else
         echo 'bufcopy: here is no full device to copy into'
-        : > "$nothing"
     fi
     { "$bufcopy" < "$lines" 2> "$scratch/err"; echo $? > "$scratch/status"; } | :
-    ended 'into a closed pipe' "$(cat "$scratch/status")" 1 "$fault"
+    ended 'bufcopy into a closed pipe' "$(cat "$scratch/status")" 1 "$fault"
     "$bufcopy" < "$lines" >&- 2> "$scratch/err"
-    ended 'into a closed output' $? 1 "$fault"
+    ended 'bufcopy into a closed output' $? 1 "$fault"
     "$bufcopy" < "$scratch" > "$scratch/out" 2> "$scratch/err"
-    ended 'from a folder' $? 1 "$fault"
-    holds 'from a folder' "$nothing"
+    ended 'bufcopy from a folder' $? 1 "$fault"
+    holds 'bufcopy from a folder' "$nothing"
     "$bufcopy" > "$scratch/out" 2> "$scratch/err" <&-
-    ended 'from a closed input' $? 1 "$fault"
-    holds 'from a closed input' "$nothing"
+    ended 'bufcopy from a closed input' $? 1 "$fault"
+    holds 'bufcopy from a closed input' "$nothing"
     echo "bufcopy: $shells runs as a shell makes them"
 }
 
+# What replay prints of these lines, and its status.
+replayed() { # the lines, what is printed of them, the status
+    printf '%b' "$1" | "$replay" > "$scratch/out" 2> "$scratch/err"
+    ended "replay of $1" $? "$3" ''
+    printf '%b' "$2" > "$scratch/lines"
+    holds "replay of $1" "$scratch/lines"
+}
+
+replay_as_a_shell() {
+    shells=0
+    replay=$PWD/crates/replay/out/replay
+    replayed '' '' 0
+    replayed '\n' 'line 1: not four parts\n' 2
+    replayed 'a\0377b\n' 'line 1: not text\n' 2
+    replayed 'reader bag 4 std | 3 | - | F\n' 'line 1: `reader bag 4 std` is no buffered stream\n' 2
+    replayed 'writer plain 4 min 3 | 0 | - | L\n' 'line 1: `writer plain 4 min 3` is no buffered stream\n' 2
+    replayed 'reader plain 4 std | +3 | - | F\n' 'line 1: `+3` is no number of bytes for a source\n' 2
+    replayed 'writer ring 4 std | 3 | - | L\n' 'line 1: `3` is no number of bytes for a source\n' 2
+    replayed 'reader plain 4 std | 3 | a e:Rust | F\n' 'line 1: `e:Rust` is no answer of a stream\n' 2
+    replayed 'reader plain 4 std | 3 | - | F W3\n' 'line 1: `W3` is no call\n' 2
+    replayed 'reader plain 4 std | 3 | - | R18446744073709551615\n' 'line 1: not enough memory\n' 2
+    replayed '?\nreader plain 4 std | 3 | - | F\n' 'line 1: not four parts\nS3 | 3 1 4 000102 | 4\n' 2
+    fault='replay: read or write failed'
+    if has_full_device; then
+        echo 'reader plain 4 std | 3 | - | F' | "$replay" > /dev/full 2> "$scratch/err"
+        ended 'replay into a full device' $? 1 "$fault"
+    fi
+    "$replay" < "$scratch" > "$scratch/out" 2> "$scratch/err"
+    ended 'replay from a folder' $? 1 "$fault"
+    echo "replay: $shells runs as a shell makes them"
+}
+
+# Whether a program is built, or can be.
+is_built() { # its name, whether rt ci has just built it
+    if [ "$2" = built ] && [ -x "crates/$1/out/$1" ]; then return 0; fi
+    (cd "crates/$1" && rt run < stdin) > "$scratch/built" 2>&1 && return 0
+    wrong "$1 is not built" "$scratch/built"
+    return 1
+}
+
 (try_calls) &
-if [ "${1-}" = built ] && [ -x crates/bufcopy/out/bufcopy ]; then
-    as_a_shell
-elif (cd crates/bufcopy && rt run < stdin) > "$scratch/built" 2>&1; then
-    as_a_shell
-else
-    wrong 'bufcopy is not built' "$scratch/built"
-fi
+if is_built bufcopy "${1-}"; then bufcopy_as_a_shell; fi
+if is_built replay "${1-}"; then replay_as_a_shell; fi
 wait
 judge_calls
 refuse

@@ -29,8 +29,6 @@ mod parse;
 mod play;
 mod print;
 mod replay;
-#[cfg(test)]
-mod tests;
 mod words;
 
 use crate::replay::{Ending, replay};
