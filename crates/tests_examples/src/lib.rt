@@ -1,12 +1,14 @@
-//! The examples that the documentation of the public types shows.
+//! The examples that the documentation of the public types shows, and the callers of `uses`, each run once.
 //!
-//! Each test is one example, line for line; `tests/examples.py` sees that they are the same.
+//! A test of an example is that, line for line; `tests/examples.py` sees that they are the same.
 #![tactic(auto)]
 
 #[cfg(test)]
 mod blocks;
 #[cfg(test)]
 mod bodies;
+#[cfg(test)]
+mod callers;
 #[cfg(test)]
 mod frames;
 #[cfg(test)]

@@ -4,9 +4,6 @@ ghost use Rattle.csv.specs.Reading.{AreRecords, default_config, strip_bom};
 ghost use Rattle.csv.specs.Records.{fields_of};
 ghost use Rattle.csv.specs.declared.parser.State.TheVariants.{StartRecord};
 
-#[cfg(test)]
-mod tests;
-
 use buffer_redux::BufReader;
 use buffer_redux::tell::Told;
 use csv::{ByteRecord, Error, ReaderBuilder};

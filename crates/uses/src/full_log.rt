@@ -3,9 +3,6 @@ ghost use Rattle.std.specs.Prelude.{◌≡◌, ◌++◌, OnOk, length, take};
 ghost use Rattle.buffer_redux.specs.BufWriter.{WritesInOrder};
 ghost use Rattle.buffer_redux.specs.Unwrapping.{KeepsUnsent};
 
-#[cfg(test)]
-mod tests;
-
 use buffer_redux::tell::TellWrite;
 use buffer_redux::{Buffer, LineWriter};
 use redux_play::laws::keep_unsent_lines;

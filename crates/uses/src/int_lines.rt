@@ -2,9 +2,6 @@
 ghost use Rattle.std.specs.Prelude.{IfOk, vec_items};
 ghost use Rattle.uses.specs.IntLines.{IsNumber, AreNumbers, AreKnownNumbers};
 
-#[cfg(test)]
-mod tests;
-
 use buffer_redux::BufReader;
 use buffer_redux::tell::Told;
 use std::alloc::Global;

@@ -4,9 +4,6 @@ ghost use Rattle.buffer_redux.specs.ReaderLaws.{WantsBytes};
 ghost use Rattle.buffer_redux.specs.Remaining.{reader_remaining};
 ghost use Rattle.uses.specs.LineCount.{CountsLines, line_feeds};
 
-#[cfg(test)]
-mod tests;
-
 use buffer_redux::BufReader;
 use buffer_redux::policy::ReaderPolicy;
 use buffer_redux::tell::TellRead;

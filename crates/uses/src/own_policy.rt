@@ -2,9 +2,6 @@
 ghost use Rattle.std.specs.Prelude.{◌≡◌, ◌≤◌, Some, Ok, false, IfOk, IsTrue, length};
 ghost use Rattle.buffer_redux.specs.BufReader.{RanDry};
 
-#[cfg(test)]
-mod tests;
-
 use buffer_redux::policy::{DoRead, ReaderPolicy};
 use buffer_redux::tell::TellRead;
 use buffer_redux::{BufReader, Buffer};

@@ -4,9 +4,6 @@ ghost use Rattle.buffer_redux.specs.Buffered.{InnerWent};
 ghost use Rattle.buffer_redux.specs.BufWriter.{WritesInOrder};
 ghost use Rattle.uses.specs.Records.{frame, frames, IsShort, AreShort};
 
-#[cfg(test)]
-mod tests;
-
 use buffer_redux::BufWriter;
 use buffer_redux::policy::WriterPolicy;
 use buffer_redux::tell::{TellWrite, Told};

@@ -4,9 +4,6 @@ ghost use Rattle.std.specs.Io.Iter.{u64_saturate};
 ghost use Rattle.buffer_redux.specs.Copy.{MovedBy, CopyEnded};
 ghost use Rattle.uses.specs.Progress.{Tells};
 
-#[cfg(test)]
-mod tests;
-
 use buffer_redux::copy_turn;
 use buffer_redux::tell::{TellBufRead, TellWrite};
 use std::io;

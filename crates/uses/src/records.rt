@@ -4,9 +4,6 @@ ghost use Rattle.std.specs.Io.KnownBytes.{Appends, Consumes, IsAtEnd};
 ghost use Rattle.std.specs.Int.{w16, to_be_bytes};
 ghost use Rattle.uses.specs.Records.{frame, frames, IsShort, AreShort};
 
-#[cfg(test)]
-mod tests;
-
 use buffer_redux::BufReader;
 use buffer_redux::tell::Told;
 use std::alloc::Global;

@@ -7,9 +7,6 @@ ghost use Rattle.buffer_redux.specs.Told.{told_stream};
 ghost use Rattle.std.specs.Io.KnownBytes.{Keeps};
 ghost use Rattle.uses.specs.Sniff.{format_of};
 
-#[cfg(test)]
-mod tests;
-
 use buffer_redux::BufReader;
 use buffer_redux::policy::MinBuffered;
 use buffer_redux::tell::{TellRead, Told};

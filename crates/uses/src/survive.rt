@@ -4,9 +4,6 @@ ghost use Rattle.buffer_redux.specs.BufReader.{RanDry};
 ghost use Rattle.buffer_redux.specs.ReaderLaws.{WantsBytes};
 ghost use Rattle.uses.specs.Survive.{Gains};
 
-#[cfg(test)]
-mod tests;
-
 use buffer_redux::BufReader;
 use buffer_redux::policy::ReaderPolicy;
 use buffer_redux::tell::TellRead;

@@ -1,9 +1,9 @@
-use super::{close, close_patiently, put, reopen};
 use buffer_redux::LineWriter;
 use buffer_redux::script::{Answer, ScriptWriter};
 use buffer_redux::tell::Told;
 use std::io::ErrorKind;
 use std::test::Fail;
+use uses::full_log::{close, close_patiently, put, reopen};
 
 #[test]
 fn a_full_device_loses_nothing(rt: HostRuntime) -> Result<(), Fail> {

@@ -1,8 +1,8 @@
-use super::count_lines;
 use buffer_redux::BufReader;
 use buffer_redux::policy::MinBuffered;
 use buffer_redux::tell::Told;
 use std::test::Fail;
+use uses::line_count::count_lines;
 
 #[test]
 fn counts_lines(rt: HostRuntime) -> Result<(), Fail> {

@@ -1,6 +1,6 @@
-use super::{Format, open};
 use std::io::Read;
 use std::test::Fail;
+use uses::sniff::{Format, open};
 
 #[test]
 fn tells_formats(rt: HostRuntime) -> Result<(), Fail> {

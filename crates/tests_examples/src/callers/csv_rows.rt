@@ -1,4 +1,3 @@
-use super::{read_rows, rows_in};
 use buffer_redux::BufReader;
 use buffer_redux::policy::MinBuffered;
 use buffer_redux::tell::Told;
@@ -7,6 +6,7 @@ use std::alloc::{AllocError, Global};
 use std::fs;
 use std::fs::File;
 use std::test::Fail;
+use uses::csv_rows::{read_rows, rows_in};
 
 const TEXT: &[u8] = b"\xef\xbb\xbfport,depth\r\n\"Skagen, south\",\"7 \"\"m\"\"\"\r\nBlokhus,";
 

@@ -1,6 +1,6 @@
-use super::numbers_in;
 use std::io::ErrorKind;
 use std::test::Fail;
+use uses::int_lines::numbers_in;
 
 #[test]
 fn reads_numbers(rt: HostRuntime) -> Result<(), Fail> {

@@ -1,7 +1,7 @@
-use super::{read_records, write_record};
 use buffer_redux::BufReader;
 use buffer_redux::tell::Told;
 use std::test::Fail;
+use uses::records::{read_records, write_record};
 
 #[test]
 fn records_come_back(rt: HostRuntime) -> Result<(), Fail> {

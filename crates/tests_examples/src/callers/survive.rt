@@ -1,9 +1,9 @@
-use super::read_patiently;
 use buffer_redux::BufReader;
 use buffer_redux::script::{Answer, ScriptReader};
 use buffer_redux::tell::Told;
 use std::io::ErrorKind;
 use std::test::Fail;
+use uses::survive::read_patiently;
 
 #[test]
 fn faults_lose_no_byte(rt: HostRuntime) -> Result<(), Fail> {

@@ -1,7 +1,7 @@
-use super::{HeaderFirst, sees_header};
 use buffer_redux::BufReader;
 use buffer_redux::tell::Told;
 use std::test::Fail;
+use uses::own_policy::{HeaderFirst, sees_header};
 
 #[test]
 fn sees_headers(rt: HostRuntime) -> Result<(), Fail> {

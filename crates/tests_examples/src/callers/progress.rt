@@ -1,7 +1,7 @@
-use super::copy_with_progress;
 use buffer_redux::tell::Told;
 use buffer_redux::{BufReader, BufWriter};
 use std::test::Fail;
+use uses::progress::copy_with_progress;
 
 #[test]
 fn tells_its_progress(rt: HostRuntime) -> Result<(), Fail> {

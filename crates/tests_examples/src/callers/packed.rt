@@ -1,5 +1,5 @@
-use super::packed;
 use std::test::Fail;
+use uses::packed::packed;
 
 #[test]
 fn packs_records(rt: HostRuntime) -> Result<(), Fail> {

@@ -1,0 +1,11 @@
+//! The callers of `uses`, a module each.
+mod csv_rows;
+mod full_log;
+mod int_lines;
+mod line_count;
+mod own_policy;
+mod packed;
+mod progress;
+mod records;
+mod sniff;
+mod survive;
