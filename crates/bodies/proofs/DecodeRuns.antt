@@ -1,8 +1,6 @@
 -- What a whole run of `decode` comes to.
 use Rattle.std.proofs.Common.{◌≡◌, ℕ, inl, inr, List, [], ◌∷◌, ◌++◌, length, length-append, Option, Result, Ok, Err, refl, sym, ap, subst, ◌∙◌, arith, append_assoc, append-nil}
-use Rattle.std.specs.IoError.{error_kind}
 use Rattle.std.specs.declared.io.Error.{Error}
-use Rattle.std.specs.declared.io.ErrorKind.TheVariants.{OutOfMemory}
 use Rattle.buffer_redux.specs.BufReader.{ReadsAlong}
 use Rattle.buffer_redux.specs.Buffered.{Buffered}
 use Rattle.buffer_redux.specs.Policy.{std_read_rules}
@@ -19,8 +17,8 @@ use Rattle.chunked.specs.declared.place.Place.TheVariants.{Line}
 use Rattle.bodies.specs.declared.error.RunError.{RunError}
 use Rattle.bodies.specs.declared.error.RunError.TheVariants.{NotChunked, Truncated, Behind, Io}
 use Rattle.bodies.specs.Decode.{AllSent, DecodeRan, Decoded, ExpectsEnd, IsPart, MovesAndFlushes, MovesEach, Sent}
-use Rattle.bodies.specs.Streams.{MetNoFault, Stopped}
-use Rattle.bodies.proofs.Faring.{EitherFailed-after, MetInterrupts-none, MetNoFault-joins}
+use Rattle.programs.specs.Streams.{BufferRefused, MetNoFault, Stopped}
+use Rattle.programs.specs.StreamsLaws.{EitherFailed-after, MetInterrupts-none, MetNoFault-joins}
 
 -- from empty buffers on
 module _ {R W : Type 0} (remaining : R → Option (List ℕ)) (limits : Limits) (first : Buffered R StdPolicy)
@@ -169,16 +167,16 @@ module _ {R W : Type 0} (remaining : R → Option (List ℕ)) (limits : Limits) 
       }
 
 -- a buffer was refused
-pub refused : (limits : Limits) (read written : StreamLog) (e : Error) → error_kind e ≡ OutOfMemory
-    → DecodeRan limits read read written written (Err (Io e))
-refused limits read written e memory = record {
+pub refused : (limits : Limits) (read read' written written' : StreamLog) (e : Error)
+    → BufferRefused e read read' written written' → DecodeRan limits read read' written written' (Err (Io e))
+refused limits read read' written written' e p = record {
   wire = [];
   payload = [];
   place = Line;
   part = record { leads = Leads-none limits Line; is_place = tt };
   rest = [];
-  given = sym (append-nil read.reads.given);
+  given = ap (λ l. l.reads.given) p.read_same ∙ sym (append-nil read.reads.given);
   unsent = [];
-  received = refl;
-  caused = inr (record { memory = memory; read_same = refl; written_same = refl });
+  received = ap (λ l. l.writes.received ++ []) p.written_same;
+  caused = inr p;
 }

@@ -1,5 +1,3 @@
-pub mod Faring
 pub mod Reading
 pub mod Moving
 pub mod DecodeRuns
-pub mod Words

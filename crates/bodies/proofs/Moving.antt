@@ -19,7 +19,7 @@ use Rattle.bodies.specs.declared.error.RunError.{RunError}
 use Rattle.bodies.specs.declared.error.RunError.TheVariants.{NotChunked, Truncated, Behind, Io}
 use Rattle.bodies.specs.Decode.{AllSent, IsBodySource, IsPieceTarget, Moves, MovesAll, MovesAndFlushes, MovesEach, ReadsMet, ReadsPiece, of_chunked}
 use Rattle.bodies.specs.Ending.{faulted}
-use Rattle.bodies.proofs.Faring.{EitherFailed-after, MetInterrupts-none, MetNoFault-joins, MetNoFault-none}
+use Rattle.programs.specs.StreamsLaws.{EitherFailed-after, MetInterrupts-none, MetNoFault-joins, MetNoFault-none}
 
 -- so many bytes went over
 pub record MovesSoFar {R W : Type 0} (remaining : R → Option (List ℕ)) (s : Dechunking R StdPolicy)

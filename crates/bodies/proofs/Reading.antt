@@ -12,7 +12,7 @@ use Rattle.chunked.specs.DechunkingLaws.{BodyWent-joins}
 use Rattle.chunked.specs.declared.error.ChunkedError.{ChunkedError}
 use Rattle.chunked.specs.declared.error.ChunkedError.TheVariants.{NotChunked, Truncated, Io}
 use Rattle.bodies.specs.Decode.{IsBodySource, PieceAnswers, ReadsMet, ReadsPiece, WasInterrupted}
-use Rattle.bodies.proofs.Faring.{gave_up, one_more, only_more, only_same}
+use Rattle.programs.specs.StreamsLaws.{gave_up, one_more, only_more, only_same}
 
 -- under `StdPolicy` an error is the stream's own
 std_fault : {R : Type 0} (s : Buffered R StdPolicy) (e : Error) (t : Buffered R StdPolicy) → Faulted std_read_rules s e t

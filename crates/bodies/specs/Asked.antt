@@ -2,8 +2,9 @@
 use Rattle.std.specs.Prelude.{◌≡◌, ℕ, List, [], ◌∷◌, codes, Result}
 use Rattle.buffer_redux.specs.StreamLog.{StreamLog}
 use Rattle.chunked.specs.declared.limits.Limits.{Limits}
+use Rattle.programs.specs.declared.ending.Ending.TheVariants.{Usage}
 use Rattle.bodies.specs.declared.ending.Ending.{Ending}
-use Rattle.bodies.specs.declared.ending.Ending.TheVariants.{Usage}
+use Rattle.bodies.specs.declared.ending.Ending.TheVariants.{Usual}
 use Rattle.bodies.specs.declared.error.RunError.{RunError}
 use Rattle.bodies.specs.Decode.{DecodeRan}
 use Rattle.bodies.specs.Ending.{EndsAs}
@@ -25,4 +26,4 @@ pub record DecodedAs (ending : Ending) (read read' written written' : StreamLog)
 -- what a run did that these words asked for, and that ended so; other words call no stream
 pub record RunDid (words : List (List ℕ)) (ending : Ending) (read read' written written' : StreamLog) : Type 0 where
   pub decode : AskToDecode words → DecodedAs ending read read' written written'
-  pub usage : ¬ AskToDecode words → (ending ≡ Usage) × (read' ≡ read) × (written' ≡ written)
+  pub usage : ¬ AskToDecode words → (ending ≡ Usual Usage) × (read' ≡ read) × (written' ≡ written)

@@ -21,7 +21,7 @@ use Rattle.chunked.specs.declared.place.Place.{Place}
 use Rattle.chunked.specs.declared.place.Place.TheVariants.{Line}
 use Rattle.bodies.specs.declared.error.RunError.{RunError}
 use Rattle.bodies.specs.declared.error.RunError.TheVariants.{NotChunked, Truncated, Behind, Io}
-use Rattle.bodies.specs.Streams.{MetNoFault, ReadGaveUp, Stopped, BufferRefused, GaveNothing, AllFlushed}
+use Rattle.programs.specs.Streams.{MetNoFault, ReadGaveUp, Stopped, BufferRefused, GaveNothing, AllFlushed}
 
 -- why a run failed in which there was no further payload
 abbrev pub of_chunked : ChunkedError → RunError
@@ -140,11 +140,11 @@ pub record ExpectsEnd {R : Type 0} (remaining : R → Option (List ℕ)) (s : Bu
 abbrev pub counted : List ℕ → ℕ
 counted bytes = min (length bytes) (2 ^ 64 - 1)
 
--- what was given is these bytes and then the rest; what was received is this payload, which the writer has flushed; and
--- neither stream failed
-pub record Sent (read read' written written' : StreamLog) (wire payload rest : List ℕ) : Type 0 where
-  pub given : read'.reads.given ≡ read.reads.given ++ (wire ++ rest)
-  pub received : written'.writes.received ≡ written.writes.received ++ payload
+-- what was given is what was taken of it and then the rest; what was received is what was sent, which the writer has flushed;
+-- and neither stream failed
+pub record Sent (read read' written written' : StreamLog) (taken sent rest : List ℕ) : Type 0 where
+  pub given : read'.reads.given ≡ read.reads.given ++ (taken ++ rest)
+  pub received : written'.writes.received ≡ written.writes.received ++ sent
   pub flushed : AllFlushed written'
   pub met : MetNoFault read read' written written'
 

@@ -1,4 +1,3 @@
-pub mod Streams
 pub mod Ending
 pub mod Decode
 pub mod Asked

@@ -3,11 +3,11 @@ ghost use Rattle.std.specs.Prelude.{◌≡◌, ◌<◌, [], ◌∷◌, ◌++◌,
 ghost use Rattle.buffer_redux.specs.BufReader.{RanDry, ReadsAlong};
 ghost use Rattle.buffer_redux.specs.Faults.{OnlyInterrupts};
 ghost use Rattle.buffer_redux.specs.Policy.{std_read_rules};
-ghost use Rattle.bodies.specs.Streams.{ReadGaveUp};
+ghost use Rattle.programs.specs.Streams.{ReadGaveUp};
 
-use crate::tries::is_answered;
 use buffer_redux::BufReader;
 use buffer_redux::tell::TellRead;
+use programs::is_answered;
 use std::io;
 use std::io::BufRead;
 

@@ -1,16 +1,15 @@
 //! The payload of a body copied, over any two streams that tell.
 ghost use Rattle.std.specs.Prelude.{◌≡◌, ◌<◌, ◌≤◌, [], length, true, false, IfOk, IfErr, OnOk, OnErr};
-ghost use Rattle.buffer_redux.specs.Block.{usable};
 ghost use Rattle.buffer_redux.specs.BufWriter.{WritesInOrder};
 ghost use Rattle.buffer_redux.specs.Faults.{MetInterrupts, SendErrorCaused};
 ghost use Rattle.bodies.specs.Decode.{DecodeRan, ExpectsEnd, IsBodySource, IsPieceTarget, MovesAll, MovesAndFlushes, ReadsPiece, WasInterrupted};
 
 use crate::at_end::is_at_end;
 use crate::error::{RunError, is_fault};
-use crate::tries::is_answered;
 use buffer_redux::tell::{TellRead, TellWrite};
-use buffer_redux::{BufReader, BufWriter, GrowError, MakeError};
+use buffer_redux::{BufReader, BufWriter};
 use chunked::{ChunkedError, ChunkedReader, Limits};
+use programs::{buffered, is_answered, make_room, put};
 use std::alloc::Global;
 use std::io;
 use std::io::{ErrorKind, Write};
@@ -30,42 +29,13 @@ pub fn decode<R: TellRead, W: TellWrite>(
 ) -> (Result<(), RunError>, R, W)
     ensures { DecodeRan limits (R.log reader) (R.log result.1) (W.log writer) (W.log result.2) result.0 }
 {
-    let source = match source_of(alloc, reader) {
-        Ok(source) => source,
-        Err(MakeError(reader, e)) => return (Err(io::Error::from(e).into()), reader, writer),
-    };
-    let mut target = match target_of(alloc, writer) {
-        Ok(target) => target,
-        Err(MakeError(writer, e)) => {
-            return (Err(io::Error::from(e).into()), source.into_inner(), writer);
-        }
+    let (source, mut target) = match buffered(alloc, false, (PIECE, 2 * PIECE), reader, writer) {
+        Ok(buffers) => buffers,
+        Err((e, reader, writer)) => return (Err(e.into()), reader, writer),
     };
     let (answer, rest) = decode_all(source, limits, &mut target);
     let (writer, _) = target.into_inner_with_buffer();
     (answer, rest.into_inner(), writer)
-}
-
-fn source_of<R: TellRead>(alloc: Global, reader: R) -> Result<BufReader<R>, MakeError<R>>
-    ensures made { IfOk result (λ r. 0 < r.block.capacity) }
-    ensures empty { IfOk result (λ r. r.block.bytes ≡ []) }
-    ensures inner { IfOk result (λ r. r.inner ≡ reader) }
-    ensures log { IfOk result (λ r. r.log ≡ R.log reader) }
-    ensures handed_back { IfErr result (λ e. e.0 ≡ reader) }
-    ensures refused { IfErr result (λ e. e.1 ≡ GrowError.Memory) }
-{
-    BufReader::new(alloc, reader)
-}
-
-// A writer that takes a piece in whole.
-fn target_of<W: TellWrite>(alloc: Global, writer: W) -> Result<BufWriter<W>, MakeError<W>>
-    ensures made { IfOk result IsPieceTarget }
-    ensures empty { IfOk result (λ w. w.block.bytes ≡ []) }
-    ensures inner { IfOk result (λ w. w.inner ≡ writer) }
-    ensures log { IfOk result (λ w. w.log ≡ W.log writer) }
-    ensures handed_back { IfErr result (λ e. e.0 ≡ writer) }
-    ensures refused { IfErr result (λ e. e.1 ≡ GrowError.Memory) }
-{
-    BufWriter::with_capacity(alloc, 2 * PIECE, writer)
 }
 
 // Copies all payload, and then asks whether something follows the body. The reader comes back.
@@ -174,35 +144,6 @@ fn write_piece<W: TellWrite>(target: &mut BufWriter<W>, piece: &[u8]) -> io::Res
     make_room(target, piece.len())?;
     put(target, piece);
     Ok(())
-}
-
-// Sends all that is buffered where so many more bytes don't fit, and makes all free space usable.
-fn make_room<W: TellWrite>(target: &mut BufWriter<W>, whole: usize) -> io::Result<()>
-    requires target { IsPieceTarget target.old }
-    requires fits { whole ≤ PIECE }
-    ensures none { WritesInOrder target.old [] target.new }
-    ensures room { OnOk result (whole ≤ usable target.new.block) }
-    ensures met { OnOk result (MetInterrupts target.old.log.writes target.new.log.writes) }
-    ensures caused { IfErr result (λ e. SendErrorCaused target.old.log.writes target.new.log.writes e) }
-    ensures target { IsPieceTarget target.new }
-{
-    if target.capacity() - target.buf_len() < whole {
-        target.send()?;
-    }
-    target.make_room();
-    Ok(())
-}
-
-// Copies bytes in, for which there is room.
-fn put<W: TellWrite>(target: &mut BufWriter<W>, bytes: &[u8])
-    requires target { IsPieceTarget target.old }
-    requires fits { length bytes.now ≤ PIECE }
-    requires room { length bytes.now ≤ usable target.old.block }
-    ensures taken { WritesInOrder target.old bytes.now target.new }
-    ensures told { target.new.log ≡ target.old.log }
-    ensures target { IsPieceTarget target.new }
-{
-    let _ = target.write(bytes);
 }
 
 // That nothing follows the body, which has so many bytes.

@@ -3,20 +3,14 @@ ghost use Rattle.std.specs.Prelude.{◌≡◌};
 
 use crate::error::RunError;
 use chunked::Malformed;
+use programs::Said;
 use std::fmt;
-use std::io::ErrorKind;
 
 /// How a run ends.
 #[derive(Clone, Copy, Debug)]
 pub enum Ending {
-    /// All of the payload went over, and nothing follows the body.
-    Done,
-    /// A read or a write failed.
-    Failed,
-    /// The words after the program's name ask for nothing that it knows.
-    Usage,
-    /// Memory ran out.
-    Memory,
+    /// As that of any program may.
+    Usual(programs::Ending),
     /// The body is wrong behind so many bytes.
     NotChunked(Malformed, u64),
     /// The input ended within the body, after so many bytes.
@@ -33,12 +27,11 @@ impl Ending {
         ensures { EndsAs answer.now result }
     {
         match answer {
-            Ok(()) => Ending::Done,
+            Ok(()) => Ending::Usual(programs::Ending::Done),
             Err(RunError::NotChunked(why, right)) => Ending::NotChunked(*why, *right),
             Err(RunError::Truncated(right)) => Ending::Truncated(*right),
             Err(RunError::Behind(right)) => Ending::Behind(*right),
-            Err(RunError::Io(e)) if e.kind() == ErrorKind::OutOfMemory => Ending::Memory,
-            Err(RunError::Io(_)) => Ending::Failed,
+            Err(RunError::Io(e)) => Ending::Usual(programs::Ending::of_fault(e)),
         }
     }
 
@@ -47,10 +40,7 @@ impl Ending {
         ensures { result ≡ status_of self.now }
     {
         match self {
-            Ending::Done => 0,
-            Ending::Failed => 1,
-            Ending::Usage => 2,
-            Ending::Memory => 3,
+            Ending::Usual(ending) => ending.status(),
             Ending::NotChunked(_, _) => 4,
             Ending::Truncated(_) => 5,
             Ending::Behind(_) => 6,
@@ -67,10 +57,14 @@ impl fmt::Display for Ending {
 
     fn fmt<W: fmt::Write>(&self, f: &mut fmt::Formatter<W>) -> fmt::Result {
         match self {
-            Ending::Done => Ok(()),
-            Ending::Failed => f.write_str("bodies: read or write failed"),
-            Ending::Usage => f.write_str("usage: bodies decode"),
-            Ending::Memory => f.write_str("bodies: out of memory"),
+            Ending::Usual(ending) => {
+                let said = Said {
+                    program: "bodies",
+                    usage: "decode",
+                    ending: *ending,
+                };
+                write!(f, "{said}")
+            }
             Ending::NotChunked(why, right) => {
                 write!(f, "bodies: {why}, behind {right} bytes of a body")
             }

@@ -8,7 +8,6 @@ mod error;
 mod run;
 #[cfg(test)]
 mod tests;
-mod tries;
 
 use crate::ending::Ending;
 use buffer_redux::tell::Told;
@@ -16,14 +15,9 @@ use std::process::ExitCode;
 
 // Does what the word that the program was given asks for.
 fn outcome(rt: &HostRuntime) -> Ending {
-    let words = match std::env::args(rt) {
+    let words = match programs::args(rt) {
         Ok(words) => words,
         Err(e) => return Ending::of(&Err(e.into())),
-    };
-    // The first is the program's own name.
-    let words: Vec<String> = match words.skip(1).collect(rt.alloc()) {
-        Ok(words) => words,
-        Err(_) => return Ending::Memory,
     };
     let (reader, writer) = (Told::new(rt.stdin()), Told::new(rt.stdout()));
     run::run_asked(rt.alloc(), words.as_slice(), reader, writer).0
@@ -31,9 +25,5 @@ fn outcome(rt: &HostRuntime) -> Ending {
 
 fn main(rt: HostRuntime) -> ExitCode {
     let ending = outcome(&rt);
-    if !matches!(ending, Ending::Done) {
-        // There is nowhere left to tell of a fault here.
-        let _ = rt.eprintln(ending);
-    }
-    ExitCode::from(ending.status())
+    programs::end(&rt, ending.status(), ending)
 }

@@ -6,6 +6,7 @@ use crate::decode::decode;
 use crate::ending::Ending;
 use buffer_redux::tell::{TellRead, TellWrite};
 use chunked::Limits;
+use programs::only_word;
 use std::alloc::Global;
 
 // How much of a body may be no payload.
@@ -24,11 +25,11 @@ pub fn run_asked<R: TellRead, W: TellWrite>(
 ) -> (Ending, R, W)
     ensures { RunDid (map string_bytes words.now) result.0 (R.log reader) (R.log result.1) (W.log writer) (W.log result.2) }
 {
-    match words {
-        [word] if word.as_str() == "decode" => {
+    match only_word(words) {
+        Some("decode") => {
             let (answer, reader, writer) = decode(alloc, LIMITS, reader, writer);
             (Ending::of(&answer), reader, writer)
         }
-        _ => (Ending::Usage, reader, writer),
+        _ => (Ending::Usual(programs::Ending::Usage), reader, writer),
     }
 }

@@ -233,13 +233,17 @@ fn copies_a_long_chunk(rt: HostRuntime) -> Result<(), Fail> {
 fn tells_of_the_other_ends(rt: HostRuntime) -> Result<(), Fail> {
     let failed = |kind| Ending::of(&Err(RunError::Io(io::Error::from(kind))));
     for (ending, status, line) in [
-        (Ending::Done, 0, ""),
+        (Ending::of(&Ok(())), 0, ""),
         (
             failed(ErrorKind::WriteZero),
             1,
             "bodies: read or write failed",
         ),
-        (Ending::Usage, 2, "usage: bodies decode"),
+        (
+            Ending::Usual(programs::Ending::Usage),
+            2,
+            "usage: bodies decode",
+        ),
         (failed(ErrorKind::OutOfMemory), 3, "bodies: out of memory"),
     ] {
         assert_eq!(rt; ending.status(), status, "of {ending:?}");

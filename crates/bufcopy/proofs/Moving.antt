@@ -173,13 +173,15 @@ module _ {R P W Q : Type 0} {remaining : R → Option (List ℕ)} {stretch : W �
   }))
   copy_caused e (inl (inr target)) = inl (inr (record {
     reader = only target.reader;
-    caused = err_caused stretch u v t.block.bytes e target.last;
+    writer = err_caused stretch u v t.block.bytes e target.last;
   }))
   copy_caused e (inr much) = inr (record {
     other = much.other;
     large = over much.count much.copies.moved much.large;
-    reader = only much.copies.reader;
-    writer = went'.met (tells_all u.policy) (own_met u v much.copies.writer);
+    met = record {
+      reader = only much.copies.reader;
+      writer = went'.met (tells_all u.policy) (own_met u v much.copies.writer);
+    };
   })
 
   -- what the copy met of faults, the streams inside met
@@ -224,7 +226,7 @@ module _ {R P W Q : Type 0} {remaining : R → Option (List ℕ)} {stretch : W �
         let stuck = stuck_caused stretch u v t.block.bytes ended.last some room in
         inr (record {
           reader = only ended.reader;
-          caused = record {
+          writer = record {
             interrupts = stuck.0;
             cause = inl (subst (TookNothing stuck.0 u.log.writes v.log.writes) (sym is) stuck.1);
           };
@@ -235,7 +237,7 @@ module _ {R P W Q : Type 0} {remaining : R → Option (List ℕ)} {stretch : W �
           → SendErrorCaused v.log.writes v'.log.writes e → EitherFailed e s.log t.log u.log v'.log
       flush_caused e caused = inr (record {
         reader = only ended.reader;
-        caused = SendErrorCaused-after u.log.writes v.log.writes v'.log.writes e
+        writer = SendErrorCaused-after u.log.writes v.log.writes v'.log.writes e
             (out_met stretch u v t.block.bytes ended.last left went') caused;
       })
 
@@ -312,8 +314,10 @@ module _ {R P W Q : Type 0} {remaining : R → Option (List ℕ)} {stretch : W �
             received = all.1;
             flushed = flushed.flushed;
             ended = omega (arith, went.ends (inl refl) room, ended.ends left);
-            reader = only ended.reader;
-            writer =
-                MetInterrupts-joins u.log.writes v.log.writes v'.log.writes
-                (out_met stretch u v t.block.bytes ended.last left went') flushed.met;
+            met = record {
+              reader = only ended.reader;
+              writer =
+                  MetInterrupts-joins u.log.writes v.log.writes v'.log.writes
+                  (out_met stretch u v t.block.bytes ended.last left went') flushed.met;
+            };
           }

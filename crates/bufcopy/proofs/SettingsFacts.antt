@@ -26,7 +26,7 @@ form_of words ring capacity ask = form_at words ask.first ask.last ring capacity
 
 no_digit_first : (word : List ℕ) (c : ℕ) (cs : List ℕ) → word ≡ c ∷ cs → 57 < c → ¬ IsCapacity word
 no_digit_first word c cs e high is =
-    let h = is.digits 0 0 (omega (arith, is.not_empty)) in
+    let h = is.number.digits 0 0 (omega (arith, is.number.not_empty)) in
     let h' = rw e at h in
     omega (arith, h', high)
 

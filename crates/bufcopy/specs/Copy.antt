@@ -1,19 +1,13 @@
 -- What a run moves from a reader to a writer.
-use Rattle.std.specs.Prelude.{◌≡◌, ◌≢◌, ℕ, ◌+◌, ◌-◌, ◌^◌, ◌<◌, ◌≤◌, ◌⊎◌, List, [], ◌++◌, length}
+use Rattle.std.specs.Prelude.{◌≡◌, ◌≢◌, ℕ, ◌+◌, ◌-◌, ◌^◌, ◌≤◌, ◌⊎◌, List, ◌++◌, length}
 use Rattle.std.specs.IoError.{error_kind}
 use Rattle.std.specs.declared.io.Error.{Error}
 use Rattle.std.specs.declared.io.ErrorKind.TheVariants.{Interrupted, Other, OutOfMemory}
-use Rattle.buffer_redux.specs.Block.{Block}
-use Rattle.buffer_redux.specs.StreamLog.{StreamLog}
-use Rattle.buffer_redux.specs.Faults.{OnlyInterrupts, MetInterrupts, SendErrorCaused}
 use Rattle.buffer_redux.specs.Copy.{SourceFailed}
-use Rattle.bufcopy.specs.declared.ending.Ending.{Ending}
-use Rattle.bufcopy.specs.declared.ending.Ending.TheVariants.{Done, Failed, Usage, Memory}
-
--- a buffer that was just made, of this capacity at least
-pub record IsFresh (cap : ℕ) (b : Block) : Type 0 where
-  pub bytes : b.bytes ≡ []
-  pub capacity : cap ≤ b.capacity
+use Rattle.buffer_redux.specs.StreamLog.{StreamLog}
+use Rattle.programs.specs.Streams.{AllFlushed, BufferRefused, GaveNothing, MetNoFault, SendFailed}
+use Rattle.programs.specs.declared.ending.Ending.{Ending}
+use Rattle.programs.specs.declared.ending.Ending.TheVariants.{Done, Failed, Usage, Memory}
 
 -- what was received is a beginning of what was given
 pub record IsBeginning (read read' written written' : StreamLog) : Type 0 where
@@ -28,28 +22,21 @@ pub record Copied (total : ℕ) (read read' written written' : StreamLog) : Type
   pub count : length bytes ≡ total
   pub given : read'.reads.given ≡ read.reads.given ++ bytes
   pub received : written'.writes.received ≡ written.writes.received ++ bytes
-  pub flushed : written'.writes.flushed ≡ written'.writes.received
-  pub ended : read.reads.zero_reads < read'.reads.zero_reads
-  pub reader : OnlyInterrupts read.reads.faults read'.reads.faults
-  pub writer : MetInterrupts written.writes written'.writes
-
--- sending to the writer failed with this error, and the reader was at most interrupted
-pub record SendingFailed (e : Error) (read read' written written' : StreamLog) : Type 0 where
-  pub reader : OnlyInterrupts read.reads.faults read'.reads.faults
-  pub caused : SendErrorCaused written.writes written'.writes e
+  pub flushed : AllFlushed written'
+  pub ended : GaveNothing read read'
+  pub met : MetNoFault read read' written written'
 
 -- one of the streams failed with this error
 abbrev pub EitherFailed : Error → StreamLog → StreamLog → StreamLog → StreamLog → Type 0
 EitherFailed e read read' written written' =
     SourceFailed e read.reads.faults read'.reads.faults written.writes written'.writes
-    ⊎ SendingFailed e read read' written written'
+    ⊎ SendFailed e read read' written written'
 
 -- more bytes were given than a `u64` counts, and both streams were at most interrupted
 pub record OverTotal (e : Error) (read read' written written' : StreamLog) : Type 0 where
   pub other : error_kind e ≡ Other
   pub large : 2 ^ 64 ≤ length read'.reads.given - length read.reads.given
-  pub reader : OnlyInterrupts read.reads.faults read'.reads.faults
-  pub writer : MetInterrupts written.writes written'.writes
+  pub met : MetNoFault read read' written written'
 
 -- both streams met so many faults and more, both together
 abbrev pub FaultsRise : ℕ → StreamLog → StreamLog → StreamLog → StreamLog → Type 0
@@ -62,17 +49,12 @@ pub record OnlyFlushLeft (read read' written written' : StreamLog) : Type 0 wher
   pub bytes : List ℕ
   pub given : read'.reads.given ≡ read.reads.given ++ bytes
   pub received : written'.writes.received ≡ written.writes.received ++ bytes
-  pub ended : read.reads.zero_reads < read'.reads.zero_reads
+  pub ended : GaveNothing read read'
 
 -- `Interrupted` is answered only where the streams met 65 faults, or by the writer's own flush
 abbrev pub InterruptedOften : Error → StreamLog → StreamLog → StreamLog → StreamLog → Type 0
 InterruptedOften e read read' written written' = error_kind e ≡ Interrupted
     → FaultsRise 65 read read' written written' ⊎ OnlyFlushLeft read read' written written'
-
--- a buffer was refused before either stream was called
-abbrev pub BufferRefused : Error → StreamLog → StreamLog → StreamLog → StreamLog → Type 0
-BufferRefused e read read' written written' =
-    (error_kind e ≡ OutOfMemory) × (read' ≡ read) × (written' ≡ written)
 
 -- why a run failed with this error: a stream failed with it, a buffer was refused, or the total passed what a `u64` counts
 abbrev pub RunFailed : Error → StreamLog → StreamLog → StreamLog → StreamLog → Type 0

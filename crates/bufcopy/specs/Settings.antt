@@ -1,13 +1,12 @@
 -- What the words after the program's name ask for.
-use Rattle.std.specs.Prelude.{◌≡◌, ◌≤◌, ◌⊎◌, ℕ, Bool, true, false, List, [], ◌∷◌, ◌++◌, length, All, codes}
-use Rattle.std.specs.Char.{IsAsciiDigit}
+use Rattle.std.specs.Prelude.{◌≡◌, ◌≤◌, ◌⊎◌, ℕ, Bool, true, false, List, [], ◌∷◌, ◌++◌, length, codes}
 use Rattle.std.specs.Str.Parse.{digits_value}
+use Rattle.programs.specs.Words.{IsNumber}
 
--- one to seven decimal digits and nothing else, of a value from 1 to 1048576
+-- a number of at most seven digits, from 1 to 1048576
 pub record IsCapacity (word : List ℕ) : Type 0 where
-  pub not_empty : 1 ≤ length word
+  pub number : IsNumber word
   pub not_long : length word ≤ 7
-  pub digits : All IsAsciiDigit word
   pub not_zero : 1 ≤ digits_value 10 word
   pub not_large : digits_value 10 word ≤ 1048576
 

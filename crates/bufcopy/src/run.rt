@@ -1,14 +1,13 @@
 //! The copy itself, over any two streams that tell.
-ghost use Rattle.std.specs.Prelude.{◌≡◌, ◌≢◌, ◌≤◌, ◌⊎◌, ◌↔◌, map, string_bytes, IfOk, IfErr, OnOk, OnErr, if◌then◌else◌};
-ghost use Rattle.std.specs.IoError.{error_kind};
+ghost use Rattle.std.specs.Prelude.{◌≡◌, ◌≤◌, ◌⊎◌, ◌↔◌, codes, map, string_bytes, IfOk, IfErr, OnErr};
+ghost use Rattle.programs.specs.Streams.{IsFresh};
 ghost use Rattle.bufcopy.specs.Settings.{Asks};
-ghost use Rattle.buffer_redux.specs.Block.{Plain, Ring};
-ghost use Rattle.bufcopy.specs.Copy.{IsFresh, EitherFailed, OverTotal, Copied, InterruptedOften, IsBeginning, RunEnded, RunFailed};
+ghost use Rattle.bufcopy.specs.Copy.{EitherFailed, OverTotal, Copied, InterruptedOften, IsBeginning, RunEnded, RunFailed};
 
-use crate::ending::Ending;
-use crate::settings::{GREATEST_CAPACITY, settings};
+use crate::settings::settings;
 use buffer_redux::tell::{TellRead, TellWrite};
-use buffer_redux::{BufReader, BufWriter, GrowError, MakeError, copy_buf};
+use buffer_redux::{BufReader, BufWriter, copy_buf};
+use programs::{Ending, GREATEST_CAPACITY, Said, buffered};
 use std::alloc::Global;
 use std::io;
 use std::io::{ErrorKind, Write};
@@ -33,63 +32,14 @@ pub fn run<R: TellRead, W: TellWrite>(
     ensures a_beginning { IsBeginning (R.log reader) (R.log result.1) (W.log writer) (W.log result.2) }
     ensures not_flushed { OnErr result.0 ((W.log result.2).writes.flushed ≡ (W.log writer).writes.flushed) }
 {
-    let mut source = match buffered_reader(alloc, ring, cap, reader) {
-        Ok(source) => source,
-        Err(MakeError(reader, e)) => return (Err(io::Error::from(e)), reader, writer),
-    };
-    let mut target = match buffered_writer(alloc, ring, cap, writer) {
-        Ok(target) => target,
-        Err(MakeError(writer, e)) => {
-            let (reader, _) = source.into_inner_with_buffer();
-            return (Err(io::Error::from(e)), reader, writer);
-        }
+    let (mut source, mut target) = match buffered(alloc, ring, (cap, cap), reader, writer) {
+        Ok(buffers) => buffers,
+        Err((e, reader, writer)) => return (Err(e), reader, writer),
     };
     let answer = copy_all(&mut source, &mut target);
     let (reader, _) = source.into_inner_with_buffer();
     let (writer, _) = target.into_inner_with_buffer();
     (answer, reader, writer)
-}
-
-fn buffered_reader<R: TellRead>(
-    alloc: Global,
-    ring: bool,
-    cap: usize,
-    reader: R,
-) -> Result<BufReader<R>, MakeError<R>>
-    requires { cap ≤ GREATEST_CAPACITY }
-    ensures made { IfOk result (λ r. IsFresh cap r.block) }
-    ensures kind { IfOk result (λ r. r.block.kind ≡ (if ring then Ring else Plain)) }
-    ensures inner { IfOk result (λ r. r.inner ≡ reader) }
-    ensures log { IfOk result (λ r. r.log ≡ R.log reader) }
-    ensures handed_back { IfErr result (λ e. e.0 ≡ reader) }
-    ensures refused { IfErr result (λ e. e.1 ≡ GrowError.Memory) }
-{
-    if ring {
-        BufReader::with_capacity_ringbuf(alloc, cap, reader)
-    } else {
-        BufReader::with_capacity(alloc, cap, reader)
-    }
-}
-
-fn buffered_writer<W: TellWrite>(
-    alloc: Global,
-    ring: bool,
-    cap: usize,
-    writer: W,
-) -> Result<BufWriter<W>, MakeError<W>>
-    requires { cap ≤ GREATEST_CAPACITY }
-    ensures made { IfOk result (λ w. IsFresh cap w.block) }
-    ensures kind { IfOk result (λ w. w.block.kind ≡ (if ring then Ring else Plain)) }
-    ensures inner { IfOk result (λ w. w.inner ≡ writer) }
-    ensures log { IfOk result (λ w. w.log ≡ W.log writer) }
-    ensures handed_back { IfErr result (λ e. e.0 ≡ writer) }
-    ensures refused { IfErr result (λ e. e.1 ≡ GrowError.Memory) }
-{
-    if ring {
-        BufWriter::with_capacity_ringbuf(alloc, cap, writer)
-    } else {
-        BufWriter::with_capacity(alloc, cap, writer)
-    }
 }
 
 // Copies all, and flushes.
@@ -133,18 +83,18 @@ pub fn run_asked<R: TellRead, W: TellWrite>(
         return (Ending::Usage, reader, writer);
     };
     let (answer, reader, writer) = run(alloc, ring, cap, reader, writer);
-    (ending(&answer), reader, writer)
+    (Ending::of(&answer), reader, writer)
 }
 
-/// How a run ends that returned this.
-pub fn ending(answer: &io::Result<u64>) -> Ending
-    ensures done { OnOk answer.now (result ≡ Ending.Done) }
-    ensures memory { IfErr answer.now (λ e. error_kind e ≡ ErrorKind.OutOfMemory → result ≡ Ending.Memory) }
-    ensures failed { IfErr answer.now (λ e. error_kind e ≢ ErrorKind.OutOfMemory → result ≡ Ending.Failed) }
+/// What the program says of an ending.
+pub fn said(ending: Ending) -> Said<'static>
+    ensures program { result.program.now ≡ codes "bufcopy" }
+    ensures usage { result.usage.now ≡ codes "[std|ring] [CAPACITY]" }
+    ensures ending { result.ending ≡ ending }
 {
-    match answer {
-        Ok(_) => Ending::Done,
-        Err(e) if e.kind() == ErrorKind::OutOfMemory => Ending::Memory,
-        Err(_) => Ending::Failed,
+    Said {
+        program: "bufcopy",
+        usage: "[std|ring] [CAPACITY]",
+        ending,
     }
 }

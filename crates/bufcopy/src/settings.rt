@@ -4,12 +4,10 @@ ghost use Rattle.std.specs.Str.Parse.{digits_value};
 ghost use Rattle.bufcopy.specs.Settings.{AskFor, IsCapacity, NamesBuffer};
 
 use buffer_redux::DEFAULT_BUF_SIZE;
+use programs::{GREATEST_CAPACITY, number};
 
 // The capacity where no word says one.
 const DEFAULT_CAPACITY: usize = DEFAULT_BUF_SIZE;
-
-/// The greatest capacity that may be asked for, in bytes.
-pub const GREATEST_CAPACITY: usize = 1048576;
 
 // The most digits that a capacity may have.
 const GREATEST_LENGTH: usize = 7;
@@ -46,11 +44,10 @@ fn buffer(word: &str) -> Option<bool>
 fn capacity(word: &str) -> Option<usize>
     ensures { SomeIff result (IsCapacity word.now) (digits_value 10 word.now) }
 {
-    // `parse` alone would take a sign.
-    if word.len() > GREATEST_LENGTH || !word.bytes().all(|byte| byte.is_ascii_digit()) {
+    if word.len() > GREATEST_LENGTH {
         return None;
     }
-    let capacity = word.parse::<usize>().ok()?;
+    let capacity = number(word)?;
     if capacity == 0 || capacity > GREATEST_CAPACITY {
         return None;
     }

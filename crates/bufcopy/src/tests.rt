@@ -3,10 +3,10 @@ ghost use Rattle.std.specs.Prelude.{◌≤◌};
 
 mod hostile;
 
-use crate::ending::Ending;
-use crate::run::{ending, run};
+use crate::run::{run, said};
 use buffer_redux::script::{Answer, ScriptReader, ScriptWriter};
 use buffer_redux::tell::Told;
+use programs::Ending;
 use std::alloc::{AllocError, Global};
 use std::io;
 use std::io::ErrorKind;
@@ -75,29 +75,23 @@ fn copies_around_the_capacity(rt: HostRuntime) -> Result<(), Fail> {
 }
 
 #[test]
-fn tells_how_a_run_ended(rt: HostRuntime) {
-    for (answer, status, line) in [
-        (Ok(7), 0, ""),
+fn tells_how_a_run_ended(rt: HostRuntime) -> Result<(), Fail> {
+    let failed = |kind| Ending::of_fault(&io::Error::from(kind));
+    for (ending, status, line) in [
+        (Ending::of(&Ok(7)), 0, ""),
         (
-            Err(io::Error::from(ErrorKind::WriteZero)),
+            failed(ErrorKind::WriteZero),
             1,
             "bufcopy: read or write failed",
         ),
-        (
-            Err(io::Error::from(ErrorKind::OutOfMemory)),
-            3,
-            "bufcopy: out of memory",
-        ),
+        (Ending::Usage, 2, "usage: bufcopy [std|ring] [CAPACITY]"),
+        (failed(ErrorKind::OutOfMemory), 3, "bufcopy: out of memory"),
     ] {
-        let ending = ending(&answer);
         assert_eq!(rt; ending.status(), status, "of {ending:?}");
-        assert_eq!(rt; ending.line(), line, "of {ending:?}");
+        let text = format!(in rt.alloc(); "{}", said(ending))?;
+        assert_eq!(rt; text.as_str(), line, "of {ending:?}");
     }
-    assert_eq!(rt; Ending::Usage.status(), 2);
-    assert_eq!(rt;
-        Ending::Usage.line(),
-        "usage: bufcopy [std|ring] [CAPACITY]"
-    );
+    Ok(())
 }
 
 #[test]
@@ -149,7 +143,7 @@ fn ends_at_the_first_fault(rt: HostRuntime) -> Result<(), Fail> {
         let ran = tried(rt.alloc(), false, 2, bytes, reads, writes)?;
         assert_eq!(rt; ran.answer.as_ref().err().map(io::Error::kind), Some(kind));
         assert_eq!(rt; ran.writer.taken(), taken, "after {kind:?}");
-        assert!(rt; matches!(ending(&ran.answer), Ending::Failed));
+        assert!(rt; matches!(Ending::of(&ran.answer), Ending::Failed));
     }
     Ok(())
 }

@@ -1,7 +1,5 @@
-pub mod Faring
 pub mod Packing
 pub mod PackingAll
 pub mod PackRuns
 pub mod Unpacking
 pub mod UnpackRuns
-pub mod Words

@@ -22,8 +22,8 @@ use Rattle.frames.specs.declared.error.RunError.{RunError}
 use Rattle.frames.specs.declared.error.RunError.TheVariants.{TooLong, Truncated, Io}
 use Rattle.frames.specs.Ending.{faulted}
 use Rattle.frames.specs.Pack.{NoneFailed, Packs, PacksAll, PacksAndFlushes, AllSent, PackRan}
-use Rattle.frames.specs.Streams.{Stopped}
-use Rattle.frames.proofs.Faring.{MetNoFault-joins, EitherFailed-after}
+use Rattle.programs.specs.Streams.{Stopped}
+use Rattle.programs.specs.StreamsLaws.{MetNoFault-joins, EitherFailed-after}
 use Rattle.frames.proofs.PackingAll.{all_ended}
 
 module _ {R W : Type 0} (remaining : R → Option (List ℕ)) (stretch : W → W → Type 0)

@@ -19,7 +19,7 @@ use Rattle.frames.specs.declared.error.RunError.TheVariants.{TooLong, Truncated,
 use Rattle.frames.specs.Ending.{faulted}
 use Rattle.line_reader.specs.Lines.{with_ends}
 use Rattle.frames.specs.Unpack.{Unpacks, UnpacksEach, UnpacksAll, UnpacksAndFlushes, AllSent, Unpacked, UnpackRan}
-use Rattle.frames.proofs.Faring.{MetNoFault-joins, EitherFailed-after}
+use Rattle.programs.specs.StreamsLaws.{MetNoFault-joins, EitherFailed-after}
 
 module _ {R W : Type 0} (remaining : R → Option (List ℕ)) (s t : Framing R) (u w v : Buffered W StdPolicy)
     (sent : WritesInOrder w [] v) (kind : v.block.kind ≡ w.block.kind) (capacity : v.block.capacity ≡ w.block.capacity) where

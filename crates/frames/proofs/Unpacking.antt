@@ -20,7 +20,7 @@ use Rattle.frames.specs.declared.error.RunError.TheVariants.{TooLong, Truncated,
 use Rattle.line_reader.specs.Lines.{newline, with_ends}
 use Rattle.frames.specs.Unpack.{IsLineTarget, Unpacks, UnpacksEach, UnpacksNext, UnpacksOnce, ReadStopped, UnpacksAll}
 use Rattle.frames.specs.declared.tries.Step.TheVariants.{End, ReadFailed}
-use Rattle.frames.proofs.Faring.{only_same, gave_up, MetInterrupts-none, MetNoFault-none, MetNoFault-joins, EitherFailed-after}
+use Rattle.programs.specs.StreamsLaws.{only_same, gave_up, MetInterrupts-none, MetNoFault-none, MetNoFault-joins, EitherFailed-after}
 
 -- less than a frame is left where a read failed
 left_few : (max : ℕ) (bytes : List ℕ) → (bytes ≡ []) ⊎ IsCutShort max bytes → length bytes < 2 + max

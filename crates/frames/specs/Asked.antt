@@ -2,7 +2,8 @@
 use Rattle.std.specs.Prelude.{◌≡◌, ℕ, List, [], ◌∷◌, codes, Result}
 use Rattle.buffer_redux.specs.StreamLog.{StreamLog}
 use Rattle.frames.specs.declared.ending.Ending.{Ending}
-use Rattle.frames.specs.declared.ending.Ending.TheVariants.{Usage}
+use Rattle.frames.specs.declared.ending.Ending.TheVariants.{Usual}
+use Rattle.programs.specs.declared.ending.Ending.TheVariants.{Usage}
 use Rattle.frames.specs.declared.error.RunError.{RunError}
 use Rattle.frames.specs.Ending.{EndsAs}
 use Rattle.frames.specs.Pack.{PackRan, EndsOnce}
@@ -32,4 +33,4 @@ pub record UnpackedAs (ending : Ending) (read read' written written' : StreamLog
 pub record RunDid (words : List (List ℕ)) (ending : Ending) (read read' written written' : StreamLog) : Type 0 where
   pub pack : AskToPack words → PackedAs ending read read' written written'
   pub unpack : AskToUnpack words → UnpackedAs ending read read' written written'
-  pub usage : ¬ AskToPack words → ¬ AskToUnpack words → (ending ≡ Usage) × (read' ≡ read) × (written' ≡ written)
+  pub usage : ¬ AskToPack words → ¬ AskToUnpack words → (ending ≡ Usual Usage) × (read' ≡ read) × (written' ≡ written)

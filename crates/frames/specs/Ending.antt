@@ -1,9 +1,11 @@
 -- What the program says of each ending.
-use Rattle.std.specs.Prelude.{◌≡◌, ◌≢◌, ℕ, List, [], codes, Bool, true, false, Result, Ok, Err}
-use Rattle.std.specs.IoError.{error_kind}
-use Rattle.std.specs.declared.io.ErrorKind.TheVariants.{OutOfMemory}
+use Rattle.std.specs.Prelude.{◌≡◌, ℕ, List, codes, Bool, true, false, Result, Ok, Err}
+use Rattle.programs.specs.Ending.{FailsAs}
+use Rattle.programs.specs.Ending as usual
+use Rattle.programs.specs.declared.ending.Ending.{Ending as Usually}
+use Rattle.programs.specs.declared.ending.Ending.TheVariants.{Done}
 use Rattle.frames.specs.declared.ending.Ending.{Ending}
-use Rattle.frames.specs.declared.ending.Ending.TheVariants.{Done, Failed, Usage, Memory, TooLong, Truncated}
+use Rattle.frames.specs.declared.ending.Ending.TheVariants.{Usual, TooLong, Truncated}
 use Rattle.frames.specs.declared.error.RunError.{RunError}
 use Rattle.frames.specs.declared.error.RunError.TheVariants as Why
 
@@ -16,26 +18,19 @@ faulted (Err (Why.Io e)) = true
 
 -- how a run ends that returned this
 abbrev pub EndsAs : Result (Unit {0}) RunError → Ending → Type 0
-EndsAs (Ok _) ending = ending ≡ Done
+EndsAs (Ok _) ending = ending ≡ Usual Done
 EndsAs (Err Why.TooLong) ending = ending ≡ TooLong
 EndsAs (Err Why.Truncated) ending = ending ≡ Truncated
-EndsAs (Err (Why.Io e)) ending =
-    (error_kind e ≡ OutOfMemory → ending ≡ Memory) × (error_kind e ≢ OutOfMemory → ending ≡ Failed)
+EndsAs (Err (Why.Io e)) ending = (why : Usually) × FailsAs e why × (ending ≡ Usual why)
 
 -- the status that the process ends with
 abbrev pub status_of : Ending → ℕ
-status_of Done = 0
-status_of Failed = 1
-status_of Usage = 2
-status_of Memory = 3
+status_of (Usual ending) = usual.status_of ending
 status_of TooLong = 4
 status_of Truncated = 5
 
--- the line on standard error; the empty one is not printed
+-- the line on standard error; of a run that is done none is printed
 abbrev pub line_of : Ending → List ℕ
-line_of Done = []
-line_of Failed = codes "frames: read or write failed"
-line_of Usage = codes "usage: frames pack|unpack"
-line_of Memory = codes "frames: out of memory"
+line_of (Usual ending) = usual.line_of (codes "frames") (codes "pack|unpack") ending
 line_of TooLong = codes "frames: a line or a frame has more than 65535 bytes"
 line_of Truncated = codes "frames: the input ends within a frame"

@@ -1,5 +1,4 @@
 pub mod Asked
 pub mod Ending
-pub mod Streams
 pub mod Pack
 pub mod Unpack

@@ -15,7 +15,7 @@ use Rattle.frames.specs.declared.error.RunError.{RunError}
 use Rattle.frames.specs.declared.error.RunError.TheVariants.{TooLong, Truncated, Io}
 use Rattle.frames.specs.declared.tries.Step.{Step}
 use Rattle.frames.specs.declared.tries.Step.TheVariants.{Went, End, ReadFailed}
-use Rattle.frames.specs.Streams.{MetNoFault, EitherFailed, Stopped, BufferRefused, GaveNothing, AllFlushed}
+use Rattle.programs.specs.Streams.{MetNoFault, EitherFailed, Stopped, BufferRefused, GaveNothing, AllFlushed}
 
 -- why a run failed in which a frame could not be written
 abbrev pub of_write_error : WriteFrameError → RunError

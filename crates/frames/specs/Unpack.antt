@@ -16,7 +16,7 @@ use Rattle.frames.specs.declared.error.RunError.TheVariants.{TooLong, Truncated,
 use Rattle.frames.specs.declared.tries.Step.{Step}
 use Rattle.frames.specs.declared.tries.Step.TheVariants.{Went, End, ReadFailed}
 use Rattle.line_reader.specs.Lines.{with_ends}
-use Rattle.frames.specs.Streams.{MetNoFault, EitherFailed, Stopped, BufferRefused, GaveNothing, AllFlushed}
+use Rattle.programs.specs.Streams.{MetNoFault, EitherFailed, Stopped, BufferRefused, GaveNothing, AllFlushed}
 
 -- a buffered writer of lines: the longest, with its end, is smaller than its buffer
 pub record IsLineTarget {W : Type 0} (most : ℕ) (u : Buffered W StdPolicy) : Type 0 where

@@ -2,19 +2,14 @@
 ghost use Rattle.std.specs.Prelude.{◌≡◌};
 
 use crate::error::RunError;
-use std::io::ErrorKind;
+use programs::Said;
+use std::fmt;
 
 /// How a run ends.
 #[derive(Clone, Copy, Debug)]
 pub enum Ending {
-    /// Every line or frame went over.
-    Done,
-    /// A read or a write failed.
-    Failed,
-    /// The words after the program's name ask for nothing that it knows.
-    Usage,
-    /// Memory ran out.
-    Memory,
+    /// As that of any program may.
+    Usual(programs::Ending),
     /// A line or a frame was too long.
     TooLong,
     /// The input ended within a frame.
@@ -22,18 +17,17 @@ pub enum Ending {
 }
 
 impl Ending {
-    ghost use Rattle.frames.specs.Ending.{EndsAs, status_of, line_of};
+    ghost use Rattle.frames.specs.Ending.{EndsAs, status_of};
 
     /// How a run ends that returned this.
     pub fn of(answer: &Result<(), RunError>) -> Ending
         ensures { EndsAs answer.now result }
     {
         match answer {
-            Ok(()) => Ending::Done,
+            Ok(()) => Ending::Usual(programs::Ending::Done),
             Err(RunError::TooLong) => Ending::TooLong,
             Err(RunError::Truncated) => Ending::Truncated,
-            Err(RunError::Io(e)) if e.kind() == ErrorKind::OutOfMemory => Ending::Memory,
-            Err(RunError::Io(_)) => Ending::Failed,
+            Err(RunError::Io(e)) => Ending::Usual(programs::Ending::of_fault(e)),
         }
     }
 
@@ -42,26 +36,32 @@ impl Ending {
         ensures { result ≡ status_of self.now }
     {
         match self {
-            Ending::Done => 0,
-            Ending::Failed => 1,
-            Ending::Usage => 2,
-            Ending::Memory => 3,
+            Ending::Usual(ending) => ending.status(),
             Ending::TooLong => 4,
             Ending::Truncated => 5,
         }
     }
+}
 
-    /// The line for standard error; of a run that is done there is none.
-    pub fn line(&self) -> &'static str
-        ensures { result.now ≡ line_of self.now }
-    {
+/// The line for standard error; of a run that is done there is none.
+impl fmt::Display for Ending {
+    ghost use Rattle.std.specs.Prelude.{Some};
+    ghost use Rattle.frames.specs.Ending.{line_of};
+
+    ghost output = { λ ending. Some (line_of ending) };
+
+    fn fmt<W: fmt::Write>(&self, f: &mut fmt::Formatter<W>) -> fmt::Result {
         match self {
-            Ending::Done => "",
-            Ending::Failed => "frames: read or write failed",
-            Ending::Usage => "usage: frames pack|unpack",
-            Ending::Memory => "frames: out of memory",
-            Ending::TooLong => "frames: a line or a frame has more than 65535 bytes",
-            Ending::Truncated => "frames: the input ends within a frame",
+            Ending::Usual(ending) => {
+                let said = Said {
+                    program: "frames",
+                    usage: "pack|unpack",
+                    ending: *ending,
+                };
+                write!(f, "{said}")
+            }
+            Ending::TooLong => f.write_str("frames: a line or a frame has more than 65535 bytes"),
+            Ending::Truncated => f.write_str("frames: the input ends within a frame"),
         }
     }
 }

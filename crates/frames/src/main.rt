@@ -16,14 +16,9 @@ use std::process::ExitCode;
 
 // Does what the word that the program was given asks for.
 fn outcome(rt: &HostRuntime) -> Ending {
-    let words = match std::env::args(rt) {
+    let words = match programs::args(rt) {
         Ok(words) => words,
         Err(e) => return Ending::of(&Err(e.into())),
-    };
-    // The first is the program's own name.
-    let words: Vec<String> = match words.skip(1).collect(rt.alloc()) {
-        Ok(words) => words,
-        Err(_) => return Ending::Memory,
     };
     let (reader, writer) = (Told::new(rt.stdin()), Told::new(rt.stdout()));
     run::run_asked(rt.alloc(), words.as_slice(), reader, writer).0
@@ -31,10 +26,5 @@ fn outcome(rt: &HostRuntime) -> Ending {
 
 fn main(rt: HostRuntime) -> ExitCode {
     let ending = outcome(&rt);
-    let line = ending.line();
-    if !line.is_empty() {
-        // There is nowhere left to tell of a fault here.
-        let _ = rt.eprintln(line);
-    }
-    ExitCode::from(ending.status())
+    programs::end(&rt, ending.status(), ending)
 }

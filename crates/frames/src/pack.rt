@@ -3,11 +3,12 @@ ghost use Rattle.std.specs.Prelude.{◌≡◌, false};
 ghost use Rattle.frames.specs.Pack.{MayAsk, EndsOnce, PacksOnce, PacksNext, PacksAll, PacksAndFlushes, PackRan};
 
 use crate::error::{RunError, is_fault};
-use crate::tries::{Step, is_answered, row_with};
+use crate::tries::{Step, row_with};
 use buffer_redux::MakeError;
 use buffer_redux::tell::{TellRead, TellWrite};
 use frame_reader::FrameWriter;
 use line_reader::{LineError, LineReader};
+use programs::is_answered;
 use std::alloc::Global;
 use std::io;
 use std::io::ErrorKind;

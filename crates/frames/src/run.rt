@@ -6,6 +6,7 @@ use crate::ending::Ending;
 use crate::pack::pack;
 use crate::unpack::unpack;
 use buffer_redux::tell::{TellRead, TellWrite};
+use programs::only_word;
 use std::alloc::Global;
 
 // The greatest length of a line or a payload.
@@ -21,15 +22,15 @@ pub fn run_asked<R: TellRead, W: TellWrite>(
 ) -> (Ending, R, W)
     ensures { RunDid (map string_bytes words.now) result.0 (R.log reader) (R.log result.1) (W.log writer) (W.log result.2) }
 {
-    match words {
-        [word] if word.as_str() == "pack" => {
+    match only_word(words) {
+        Some("pack") => {
             let (answer, reader, writer) = pack(alloc, GREATEST, reader, writer);
             (Ending::of(&answer), reader, writer)
         }
-        [word] if word.as_str() == "unpack" => {
+        Some("unpack") => {
             let (answer, reader, writer) = unpack(alloc, GREATEST, reader, writer);
             (Ending::of(&answer), reader, writer)
         }
-        _ => (Ending::Usage, reader, writer),
+        _ => (Ending::Usual(programs::Ending::Usage), reader, writer),
     }
 }

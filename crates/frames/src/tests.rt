@@ -261,34 +261,34 @@ fn asks_no_more_than_it_needs(rt: HostRuntime) -> Result<(), Fail> {
 }
 
 #[test]
-fn tells_how_a_run_ended(rt: HostRuntime) {
-    for (answer, status, line) in [
-        (Ok(()), 0, ""),
+fn tells_how_a_run_ended(rt: HostRuntime) -> Result<(), Fail> {
+    let failed = |kind| Ending::of(&Err(RunError::Io(io::Error::from(kind))));
+    for (ending, status, line) in [
+        (Ending::of(&Ok(())), 0, ""),
         (
-            Err(RunError::Io(io::Error::from(ErrorKind::WriteZero))),
+            failed(ErrorKind::WriteZero),
             1,
             "frames: read or write failed",
         ),
         (
-            Err(RunError::Io(io::Error::from(ErrorKind::OutOfMemory))),
-            3,
-            "frames: out of memory",
+            Ending::Usual(programs::Ending::Usage),
+            2,
+            "usage: frames pack|unpack",
         ),
+        (failed(ErrorKind::OutOfMemory), 3, "frames: out of memory"),
         (
-            Err(RunError::TooLong),
+            Ending::TooLong,
             4,
             "frames: a line or a frame has more than 65535 bytes",
         ),
         (
-            Err(RunError::Truncated),
+            Ending::Truncated,
             5,
             "frames: the input ends within a frame",
         ),
     ] {
-        let ending = Ending::of(&answer);
         assert_eq!(rt; ending.status(), status, "of {ending:?}");
-        assert_eq!(rt; ending.line(), line, "of {ending:?}");
+        assert_eq!(rt; format!(in rt.alloc(); "{ending}")?.as_str(), line);
     }
-    assert_eq!(rt; Ending::Usage.status(), 2);
-    assert_eq!(rt; Ending::Usage.line(), "usage: frames pack|unpack");
+    Ok(())
 }

@@ -1,16 +1,16 @@
 //! Payloads printed as lines, over any two streams that tell.
-ghost use Rattle.std.specs.Prelude.{◌≡◌, ◌+◌, ◌<◌, ◌≤◌, [], ◌∷◌, ◌++◌, length, IfOk, IfErr, OnOk, OnErr};
-ghost use Rattle.buffer_redux.specs.Block.{Plain, usable};
+ghost use Rattle.std.specs.Prelude.{◌≡◌, [], ◌∷◌, ◌++◌, length, IfErr, OnOk, OnErr};
 ghost use Rattle.buffer_redux.specs.BufWriter.{WritesInOrder};
 ghost use Rattle.buffer_redux.specs.Faults.{MetInterrupts, SendErrorCaused};
 ghost use Rattle.line_reader.specs.Lines.{newline};
 ghost use Rattle.frames.specs.Unpack.{IsLineTarget, UnpacksOnce, UnpacksNext, UnpacksAll, UnpacksAndFlushes, UnpackRan};
 
 use crate::error::{RunError, is_fault};
-use crate::tries::{Step, is_answered, row_with};
+use crate::tries::{Step, row_with};
 use buffer_redux::tell::{TellRead, TellWrite};
-use buffer_redux::{BufWriter, GrowError, MakeError};
+use buffer_redux::{BufWriter, MakeError};
 use frame_reader::{FrameError, FrameReader};
+use programs::{buffered_writer, is_answered, make_room, put};
 use std::alloc::Global;
 use std::io;
 use std::io::{ErrorKind, Write};
@@ -31,7 +31,9 @@ pub fn unpack<R: TellRead, W: TellWrite>(
         Ok(source) => source,
         Err(MakeError(reader, e)) => return (Err(io::Error::from(e).into()), reader, writer),
     };
-    let mut target = match line_target(alloc, most, writer) {
+    // It takes a line in whole.
+    let room = 2 * (usize::from(most) + 1);
+    let mut target = match buffered_writer(alloc, false, room, writer) {
         Ok(target) => target,
         Err(MakeError(writer, e)) => {
             return (Err(io::Error::from(e).into()), source.into_inner(), writer);
@@ -40,22 +42,6 @@ pub fn unpack<R: TellRead, W: TellWrite>(
     let answer = unpack_all(&mut source, &mut target);
     let (writer, _) = target.into_inner_with_buffer();
     (answer, source.into_inner(), writer)
-}
-
-// A writer that takes a line in whole.
-fn line_target<W: TellWrite>(
-    alloc: Global,
-    most: u16,
-    writer: W,
-) -> Result<BufWriter<W>, MakeError<W>>
-    ensures made { IfOk result (IsLineTarget most) }
-    ensures empty { IfOk result (λ w. w.block.bytes ≡ []) }
-    ensures inner { IfOk result (λ w. w.inner ≡ writer) }
-    ensures log { IfOk result (λ w. w.log ≡ W.log writer) }
-    ensures handed_back { IfErr result (λ e. e.0 ≡ writer) }
-    ensures refused { IfErr result (λ e. e.1 ≡ GrowError.Memory) }
-{
-    BufWriter::with_capacity(alloc, 2 * (usize::from(most) + 1), writer)
 }
 
 // Prints all payloads, and flushes them, also those before bytes that are no frame.
@@ -148,36 +134,4 @@ fn print_line<W: TellWrite>(target: &mut BufWriter<W>, line: &[u8]) -> io::Resul
     put(target, line);
     put(target, b"\n");
     Ok(())
-}
-
-// Sends all that is buffered where so many more bytes don't fit, and makes all free space usable.
-fn make_room<W: TellWrite>(target: &mut BufWriter<W>, whole: usize) -> io::Result<()>
-    requires plain { target.old.block.kind ≡ Plain }
-    requires inside { whole ≤ target.old.block.capacity }
-    ensures none { WritesInOrder target.old [] target.new }
-    ensures room { OnOk result (whole ≤ usable target.new.block) }
-    ensures met { OnOk result (MetInterrupts target.old.log.writes target.new.log.writes) }
-    ensures caused { IfErr result (λ e. SendErrorCaused target.old.log.writes target.new.log.writes e) }
-    ensures kind { target.new.block.kind ≡ target.old.block.kind }
-    ensures capacity { target.new.block.capacity ≡ target.old.block.capacity }
-{
-    if target.capacity() - target.buf_len() < whole {
-        target.send()?;
-    }
-    target.make_room();
-    Ok(())
-}
-
-// Copies bytes in, for which there is room.
-fn put<W: TellWrite>(target: &mut BufWriter<W>, bytes: &[u8])
-    requires room { length bytes.now ≤ usable target.old.block }
-    requires inside { length bytes.now < target.old.block.capacity }
-    ensures taken { WritesInOrder target.old bytes.now target.new }
-    ensures added { target.new.block.bytes ≡ target.old.block.bytes ++ bytes.now }
-    ensures told { target.new.log ≡ target.old.log }
-    ensures usable { usable target.old.block ≤ usable target.new.block + length bytes.now }
-    ensures kind { target.new.block.kind ≡ target.old.block.kind }
-    ensures capacity { target.new.block.capacity ≡ target.old.block.capacity }
-{
-    let _ = target.write(bytes);
 }

@@ -1,17 +1,11 @@
 -- What the words of a line stand for.
-use Rattle.std.specs.Prelude.{◌≡◌, ◌≤◌, ◌<◌, ◌^◌, ℕ, List, length, take, drop, All, codes}
-use Rattle.std.specs.Char.{IsAsciiDigit}
+use Rattle.std.specs.Prelude.{◌≡◌, ℕ, List, take, drop, codes}
 use Rattle.std.specs.Str.Parse.{digits_value}
+use Rattle.programs.specs.Words.{IsNumber}
 use Rattle.redux_play.specs.declared.play.ReaderCall.{ReaderCall}
 use Rattle.redux_play.specs.declared.play.ReaderCall.TheVariants.{Read, Fill, Consume, ReadIntoBuf, MakeRoom, Reserve}
 use Rattle.replay.specs.declared.case.WriterWord.{WriterWord}
 use Rattle.replay.specs.declared.case.WriterWord.TheVariants as writer
-
--- decimal digits and nothing else, of a value below 2^64
-pub record IsNumber (word : List ℕ) : Type 0 where
-  pub not_empty : 1 ≤ length word
-  pub digits : All IsAsciiDigit word
-  pub not_large : digits_value 10 word < 2 ^ 64
 
 -- this letter, and then this number
 pub record IsSized (letter : List ℕ) (n : ℕ) (word : List ℕ) : Type 0 where

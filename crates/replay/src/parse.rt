@@ -2,8 +2,9 @@
 use crate::case::{
     Case, Kind, ReaderCase, ReaderRule, Storage, WriterCase, WriterRule, WriterWord,
 };
-use crate::words::{answer, number, reader_call, writer_call};
+use crate::words::{answer, reader_call, writer_call};
 use buffer_redux::script::Answer;
+use programs::number;
 use redux_play::play::ReaderCall;
 use std::alloc::{AllocError, AllocFailed, Global};
 use std::fmt;

@@ -1,24 +1,12 @@
 //! The words of a line.
-ghost use Rattle.std.specs.Prelude.{IfSome, SomeIff};
-ghost use Rattle.std.specs.Str.Parse.{digits_value};
-ghost use Rattle.replay.specs.Words.{IsNumber, IsSized, IsReaderWord, IsWriterWord};
+ghost use Rattle.std.specs.Prelude.{IfSome};
+ghost use Rattle.replay.specs.Words.{IsSized, IsReaderWord, IsWriterWord};
 
 use crate::case::WriterWord;
 use buffer_redux::script::Answer;
+use programs::number;
 use redux_play::play::ReaderCall;
 use std::io::ErrorKind;
-
-/// The number that this word is.
-pub fn number(word: &str) -> Option<usize>
-    ensures { SomeIff result (IsNumber word.now) (digits_value 10 word.now) }
-{
-    // `parse` alone would take a sign.
-    if !word.bytes().all(|byte| byte.is_ascii_digit()) {
-        return None;
-    }
-    let number = word.parse::<usize>().ok()?;
-    Some(number)
-}
 
 // The letter that this word begins with, and the number behind it.
 fn sized(word: &str) -> Option<(&str, usize)>

@@ -1,6 +1,6 @@
 use Rattle.std.proofs.Common.{[], arith}
 use Rattle.buffer_redux.specs.ReaderLaws.{ReadsAlong-joins}
-use Rattle.bodies.proofs.Faring.{only_more, one_more}
+use Rattle.programs.specs.StreamsLaws.{only_more, one_more}
 use Rattle.bodies.proofs.at_end.is_at_end.Goals as goal
 
 pub returns-in-Ok-clause-along : goal.returns-in-Ok-clause-along

@@ -2,7 +2,7 @@ use Rattle.std.proofs.Common.{subst, sym, ◌∙◌, Ok, Err, true, false, [], a
 use Rattle.std.proofs.lemmas.Result.{err_from_is_err_and}
 use Rattle.line_reader.specs.LinesWentLaws.{LinesWent-joins}
 use Rattle.frames.specs.Pack.{ReadStopped, PacksOnce}
-use Rattle.frames.proofs.Faring.{only_more, one_more}
+use Rattle.programs.specs.StreamsLaws.{only_more, one_more}
 use Rattle.frames.proofs.Packing.{retried, gives_up, not_asked_again}
 use Rattle.frames.proofs.pack.pack_line.Goals as goal
 

@@ -2,7 +2,7 @@ use Rattle.std.proofs.Common.{subst, ◌∙◌, Ok, Err, true, false, [], arith}
 use Rattle.std.proofs.lemmas.Result.{err_from_is_err_and}
 use Rattle.frame_reader.specs.NextLaws.{FramesWent-joins}
 use Rattle.frames.specs.Unpack.{ReadStopped, UnpacksOnce}
-use Rattle.frames.proofs.Faring.{only_more, one_more}
+use Rattle.programs.specs.StreamsLaws.{only_more, one_more}
 use Rattle.frames.proofs.Unpacking.{retried, gives_up}
 use Rattle.frames.proofs.unpack.unpack_frame.Goals as goal
 

@@ -4,7 +4,7 @@ use Rattle.std.proofs.lemmas.List.Elements.{All-push}
 use Rattle.std.specs.declared.io.Error.{Error}
 use Rattle.buffer_redux.specs.Faults.{IsInterrupt, OnlyInterrupts, OnlyInterrupts-none, OnlyInterrupts-joins, FaultAfterInterrupts-after, MetInterrupts, MetInterrupts-joins, OnlyInterrupted-none, SendErrorCaused-after}
 use Rattle.buffer_redux.specs.StreamLog.{StreamLog, WriteLog}
-use Rattle.bodies.specs.Streams.{MetNoFault, EitherFailed, ReadGaveUp}
+use Rattle.programs.specs.Streams.{MetNoFault, EitherFailed, ReadGaveUp}
 
 pub MetInterrupts-none : (l : WriteLog) → MetInterrupts l l
 MetInterrupts-none l = record { interrupts = []; only = OnlyInterrupted-none l }

@@ -3,8 +3,8 @@ use Rattle.std.proofs.lemmas.Str.Parse.{IsDigitsTest, IsNumeralModel, numerals_b
 use Rattle.std.specs.Char.{IsAsciiDigit}
 use Rattle.std.specs.Result.{result_ok}
 use Rattle.std.specs.Str.Parse.{digits_value, ParsesUnsigned}
-use Rattle.replay.specs.Words.{IsNumber}
-use Rattle.replay.proofs.words.number.Goals as goal
+use Rattle.programs.specs.Words.{IsNumber}
+use Rattle.programs.proofs.words.number.Goals as goal
 
 one_more : (c : ℕ) (cs : List ℕ) → IsAsciiDigit c → All IsAsciiDigit cs → All IsAsciiDigit (c ∷ cs)
 one_more c cs first rest zero d below = first

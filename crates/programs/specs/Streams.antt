@@ -1,8 +1,9 @@
 -- How the two streams of a run fared.
-use Rattle.std.specs.Prelude.{◌≡◌, ℕ, ◌+◌, ◌^◌, ◌<◌, ◌≤◌, ◌⊎◌, List, length}
+use Rattle.std.specs.Prelude.{◌≡◌, ℕ, ◌+◌, ◌^◌, ◌<◌, ◌≤◌, ◌⊎◌, List, [], length}
 use Rattle.std.specs.IoError.{error_kind}
 use Rattle.std.specs.declared.io.Error.{Error}
 use Rattle.std.specs.declared.io.ErrorKind.TheVariants.{Other, OutOfMemory}
+use Rattle.buffer_redux.specs.Block.{Block}
 use Rattle.buffer_redux.specs.Faults.{IsInterrupt, OnlyInterrupts, FaultAfterInterrupts, MetInterrupts, SendErrorCaused}
 use Rattle.buffer_redux.specs.StreamLog.{StreamLog}
 
@@ -31,16 +32,21 @@ abbrev pub EitherFailed : Error → StreamLog → StreamLog → StreamLog → St
 EitherFailed e read read' written written' =
     ReadFailed e read read' written written' ⊎ SendFailed e read read' written written'
 
--- as many frames went over as the run counts
+-- as many pieces went over as the run counts
 pub record OverCount (e : Error) (count : ℕ) (read read' written written' : StreamLog) : Type 0 where
   pub other : error_kind e ≡ Other
   pub large : 2 ^ 64 ≤ count + 1
   pub met : MetNoFault read read' written written'
 
--- a run of so many frames failed with this error: a stream did, or the count ended
+-- a run of so many pieces failed with this error: a stream did, or the count ended
 abbrev pub Stopped : Error → ℕ → StreamLog → StreamLog → StreamLog → StreamLog → Type 0
 Stopped e count read read' written written' =
     EitherFailed e read read' written written' ⊎ OverCount e count read read' written written'
+
+-- a buffer that was just made, of this capacity at least
+pub record IsFresh (cap : ℕ) (b : Block) : Type 0 where
+  pub bytes : b.bytes ≡ []
+  pub capacity : cap ≤ b.capacity
 
 -- a buffer was refused before either stream was called
 pub record BufferRefused (e : Error) (read read' written written' : StreamLog) : Type 0 where

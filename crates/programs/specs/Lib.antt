@@ -1,0 +1,4 @@
+pub mod Ending
+pub mod Streams
+pub mod StreamsLaws
+pub mod Words

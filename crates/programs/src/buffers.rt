@@ -1,0 +1,117 @@
+//! The buffers of a run.
+ghost use Rattle.std.specs.Prelude.{◌≡◌, ◌+◌, ◌<◌, ◌≤◌, [], ◌++◌, length, IfOk, IfErr, OnOk, if◌then◌else◌};
+ghost use Rattle.buffer_redux.specs.Block.{Plain, Ring, usable};
+ghost use Rattle.buffer_redux.specs.BufWriter.{WritesInOrder};
+ghost use Rattle.buffer_redux.specs.Faults.{MetInterrupts, SendErrorCaused};
+ghost use Rattle.programs.specs.Streams.{BufferRefused, IsFresh};
+
+use buffer_redux::tell::{TellRead, TellWrite};
+use buffer_redux::{BufReader, BufWriter, GrowError, MakeError};
+use std::alloc::Global;
+use std::io;
+use std::io::Write;
+
+/// The greatest capacity of a buffer, in bytes.
+pub const GREATEST_CAPACITY: usize = 1048576;
+
+/// A buffered reader and a buffered writer of these capacities over the two streams. Where one is refused, both streams come
+/// back, and none was called.
+pub fn buffered<R: TellRead, W: TellWrite>(
+    alloc: Global,
+    ring: bool,
+    capacities: (usize, usize),
+    reader: R,
+    writer: W,
+) -> Result<(BufReader<R>, BufWriter<W>), (io::Error, R, W)>
+    requires source { capacities.0 ≤ GREATEST_CAPACITY }
+    requires target { capacities.1 ≤ GREATEST_CAPACITY }
+    ensures source { IfOk result (λ b. IsFresh capacities.0 b.0.block) }
+    ensures target { IfOk result (λ b. IsFresh capacities.1 b.1.block) }
+    ensures source_kind { IfOk result (λ b. b.0.block.kind ≡ (if ring then Ring else Plain)) }
+    ensures target_kind { IfOk result (λ b. b.1.block.kind ≡ (if ring then Ring else Plain)) }
+    ensures read { IfOk result (λ b. b.0.log ≡ R.log reader) }
+    ensures written { IfOk result (λ b. b.1.log ≡ W.log writer) }
+    ensures refused { IfErr result (λ e. BufferRefused e.0 (R.log reader) (R.log e.1) (W.log writer) (W.log e.2)) }
+{
+    let source = match buffered_reader(alloc, ring, capacities.0, reader) {
+        Ok(source) => source,
+        Err(MakeError(reader, e)) => return Err((io::Error::from(e), reader, writer)),
+    };
+    match buffered_writer(alloc, ring, capacities.1, writer) {
+        Ok(target) => Ok((source, target)),
+        Err(MakeError(writer, e)) => Err((io::Error::from(e), source.into_inner(), writer)),
+    }
+}
+
+fn buffered_reader<R: TellRead>(
+    alloc: Global,
+    ring: bool,
+    cap: usize,
+    reader: R,
+) -> Result<BufReader<R>, MakeError<R>>
+    requires { cap ≤ GREATEST_CAPACITY }
+    ensures made { IfOk result (λ r. IsFresh cap r.block) }
+    ensures kind { IfOk result (λ r. r.block.kind ≡ (if ring then Ring else Plain)) }
+    ensures log { IfOk result (λ r. r.log ≡ R.log reader) }
+    ensures handed_back { IfErr result (λ e. e.0 ≡ reader) }
+    ensures refused { IfErr result (λ e. e.1 ≡ GrowError.Memory) }
+{
+    if ring {
+        BufReader::with_capacity_ringbuf(alloc, cap, reader)
+    } else {
+        BufReader::with_capacity(alloc, cap, reader)
+    }
+}
+
+/// A buffered writer of this capacity.
+pub fn buffered_writer<W: TellWrite>(
+    alloc: Global,
+    ring: bool,
+    cap: usize,
+    writer: W,
+) -> Result<BufWriter<W>, MakeError<W>>
+    requires { cap ≤ GREATEST_CAPACITY }
+    ensures made { IfOk result (λ w. IsFresh cap w.block) }
+    ensures kind { IfOk result (λ w. w.block.kind ≡ (if ring then Ring else Plain)) }
+    ensures log { IfOk result (λ w. w.log ≡ W.log writer) }
+    ensures handed_back { IfErr result (λ e. e.0 ≡ writer) }
+    ensures refused { IfErr result (λ e. e.1 ≡ GrowError.Memory) }
+{
+    if ring {
+        BufWriter::with_capacity_ringbuf(alloc, cap, writer)
+    } else {
+        BufWriter::with_capacity(alloc, cap, writer)
+    }
+}
+
+/// Sends all that is buffered where so many more bytes don't fit, and makes all free space usable.
+pub fn make_room<W: TellWrite>(target: &mut BufWriter<W>, whole: usize) -> io::Result<()>
+    requires plain { target.old.block.kind ≡ Plain }
+    requires inside { whole ≤ target.old.block.capacity }
+    ensures none { WritesInOrder target.old [] target.new }
+    ensures room { OnOk result (whole ≤ usable target.new.block) }
+    ensures met { OnOk result (MetInterrupts target.old.log.writes target.new.log.writes) }
+    ensures caused { IfErr result (λ e. SendErrorCaused target.old.log.writes target.new.log.writes e) }
+    ensures kind { target.new.block.kind ≡ target.old.block.kind }
+    ensures capacity { target.new.block.capacity ≡ target.old.block.capacity }
+{
+    if target.capacity() - target.buf_len() < whole {
+        target.send()?;
+    }
+    target.make_room();
+    Ok(())
+}
+
+/// Copies bytes in, for which there is room.
+pub fn put<W: TellWrite>(target: &mut BufWriter<W>, bytes: &[u8])
+    requires room { length bytes.now ≤ usable target.old.block }
+    requires inside { length bytes.now < target.old.block.capacity }
+    ensures taken { WritesInOrder target.old bytes.now target.new }
+    ensures added { target.new.block.bytes ≡ target.old.block.bytes ++ bytes.now }
+    ensures told { target.new.log ≡ target.old.log }
+    ensures usable { usable target.old.block ≤ usable target.new.block + length bytes.now }
+    ensures kind { target.new.block.kind ≡ target.old.block.kind }
+    ensures capacity { target.new.block.capacity ≡ target.old.block.capacity }
+{
+    let _ = target.write(bytes);
+}
