@@ -189,6 +189,11 @@ def refusal(edit, said):
     return next((it for it in told if not NAMES.match(it)), line)
 
 
+def unproved(said):
+    """What is said of the first function that isn't proved."""
+    return next((f"{fn}: {line}" for fn, line in lines_of(said).items() if not line.startswith("proved")), "")
+
+
 def unread(said, texts):
     """Whether the edited text didn't reach the prover."""
     at = [re.match(r"(?:\./)?(\S+?):\d+:\d+: error: (?:(`[^`]*`): )?(.*)", it) for it in said.split("\n")]
@@ -251,7 +256,7 @@ class Crate:
             said = self.check(copy, texts, only)
             if unread(said, texts):
                 return False, f"BAD EDIT: it did not reach the prover: {unread(said, texts)}"
-            why = refusal(edit, said) if edit.fn else next((it for it in said.split("\n") if ": error" in it), "")
+            why = refusal(edit, said) if edit.fn else unproved(said)
             if why and ended(said) != "proved":
                 return True, why
         if ended(said) == "proved":
