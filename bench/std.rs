@@ -305,6 +305,26 @@ fn body_to_end(mut body: Chunks<impl BufRead>) -> io::Result<u64> {
     }
 }
 
+/// Writes a chunk by hand.
+#[inline(never)]
+fn write_chunk(writer: &mut impl Write, payload: &[u8]) -> io::Result<()> {
+    write!(writer, "{:x}\r\n", payload.len())?;
+    writer.write_all(payload)?;
+    writer.write_all(b"\r\n")
+}
+
+#[inline(never)]
+fn write_body(mut writer: impl Write, payload: &[u8], least: u64) -> io::Result<u64> {
+    let mut total = 0;
+    while total < least {
+        write_chunk(&mut writer, payload)?;
+        total += payload.len() as u64;
+    }
+    writer.write_all(b"0\r\n\r\n")?;
+    writer.flush()?;
+    Ok(total)
+}
+
 #[no_mangle]
 #[inline(never)]
 fn measured(shape: &str, capacity: usize, piece: usize, bytes: &[u8]) -> io::Result<u64> {
@@ -331,6 +351,7 @@ fn measured(shape: &str, capacity: usize, piece: usize, bytes: &[u8]) -> io::Res
         "next_trimmed" => lines_to_end(BufReader::new(Packets { left: bytes, most: piece })),
         "frames" => frames_to_end(Frames { inner: reader(), payload: vec![0; 1024], lent: 0 }),
         "bodies" => body_to_end(Chunks { inner: reader(), line: Vec::new(), left: 0, first: true }),
+        "write_bodies" => write_body(writer(capacity), &bytes[..piece], bytes.len() as u64),
         "write_frames" => write_frames(writer(capacity), &bytes[..piece], bytes.len() as u64),
         _ => Ok(0),
     }

@@ -45,7 +45,7 @@ texts='80 8192 8388608
 payloads='64
 1000'
 
-# How long the chunks of bodies are, through 8192 bytes and into 4096.
+# How long the chunks of bodies are, through 8192 bytes, and into 4096 or out of as many as a chunk has.
 chunks='64
 1000
 65536'
@@ -134,13 +134,14 @@ print_frames() {
     done
 }
 
-# Payload of bodies, the same by hand over Rust's std, and reads of as much that is in no chunks.
+# Payload of bodies, the same by hand over Rust's std, and reads of as much that is in no chunks; then the same of writes.
 print_bodies() {
-    echo "| Chunks of | read_payload | by hand in Rust | read, without chunks | Rust's read |"
-    echo '|---|---|---|---|---|'
+    echo "| Chunks of | read_payload | by hand in Rust | read, without chunks | Rust's read" \
+        "| write_all | by hand in Rust | write_all, without chunks | Rust's write_all |"
+    echo '|---|---|---|---|---|---|---|---|---|'
     echo "$chunks" | while read -r length; do
         row="| $length |"
-        for words in "bodies 8192 $length" 'read 8192 4096'; do
+        for words in "bodies 8192 $length" 'read 8192 4096' "write_bodies 8192 $length" "write_all 8192 $length"; do
             # The words are split on purpose.
             set -- $words
             row="$row $(count "$bench" "$1" plain "$2" "$3" 8388608) |"

@@ -1,13 +1,13 @@
 //! Cases of bodies in the chunked coding. The piece of such a case is the length of a chunk.
 
-use crate::cases::{Case, Kind, told};
-use crate::streams::Source;
-use buffer_redux::BufReader;
+use crate::cases::{Case, Kind, told, told_sink};
+use crate::streams::{Sink, Source};
 use buffer_redux::tell::Told;
-use chunked::{ChunkedReader, Limits};
+use buffer_redux::{BufReader, BufWriter};
+use chunked::{ChunkedReader, ChunkedWriter, Limits};
 use std::alloc::{AllocError, Global};
 use std::io;
-use std::io::ErrorKind;
+use std::io::{ErrorKind, Write};
 
 // How many bytes a read asks for.
 const ASKED: usize = 4096;
@@ -51,5 +51,31 @@ fn body_to_end(body: ChunkedReader<Told<Source<'_>>>) -> io::Result<u64> {
             Err(_) => return Err(io::Error::from(ErrorKind::Other)),
         }
     }
+    Ok(total)
+}
+
+// Nor is one written so.
+pub fn write_bodies(alloc: Global, case: &Case, bytes: &[u8]) -> io::Result<u64> {
+    if !matches!(case.kind, Kind::Plain) {
+        return Ok(0);
+    }
+    let writer = BufWriter::with_capacity(alloc, case.capacity.max(21), told_sink())?;
+    let payload = &bytes[..case.piece.min(bytes.len())];
+    write_chunks(ChunkedWriter::new(writer), payload, bytes.len() as u64)
+}
+
+#[inline(never)]
+fn write_chunks(body: ChunkedWriter<Told<Sink>>, payload: &[u8], least: u64) -> io::Result<u64> {
+    let mut body = body;
+    let mut total = 0u64;
+    for _ in 0..u64::MAX {
+        if total >= least {
+            break;
+        }
+        body.write_all(payload)?;
+        total = total.wrapping_add(payload.len() as u64);
+    }
+    let mut writer = body.finish()?;
+    writer.flush()?;
     Ok(total)
 }

@@ -1,6 +1,6 @@
 //! What is measured, and over which types.
 
-use crate::bodies::bodies;
+use crate::bodies::{bodies, write_bodies};
 use crate::frames::{frames, write_frames};
 use crate::lines::{next, next_trimmed};
 use crate::streams::{Packets, Sink, Source};
@@ -55,6 +55,8 @@ pub enum Shape {
     WriteFrames,
     /// Reads a body in the chunked coding.
     Bodies,
+    /// Writes chunks of the same payload again and again, ends the body, and flushes.
+    WriteBodies,
 }
 
 impl Shape {
@@ -80,6 +82,7 @@ impl Shape {
             "frames" => Some(Shape::Frames),
             "write_frames" => Some(Shape::WriteFrames),
             "bodies" => Some(Shape::Bodies),
+            "write_bodies" => Some(Shape::WriteBodies),
             _ => None,
         }
     }
@@ -140,6 +143,7 @@ pub fn measured(alloc: Global, case: &Case, bytes: &[u8]) -> io::Result<u64> {
         Shape::Frames => frames(alloc, case, bytes),
         Shape::WriteFrames => write_frames(alloc, case, bytes),
         Shape::Bodies => bodies(alloc, case, bytes),
+        Shape::WriteBodies => write_bodies(alloc, case, bytes),
     }
 }
 

@@ -88,6 +88,7 @@ fn run_all(rt: &HostRuntime) -> io::Result<()> {
         ("frames", Shape::Frames, 8192, 64),
         ("write_frames", Shape::WriteFrames, 8192, 64),
         ("bodies", Shape::Bodies, 8192, 1000),
+        ("write_bodies", Shape::WriteBodies, 8192, 1000),
     ] {
         let plain = Case {
             shape,

@@ -11,4 +11,5 @@ pub mod Payload
 pub mod Alive
 mod Given
 mod Written
+mod Fields
 mod Names

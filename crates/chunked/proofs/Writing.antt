@@ -3,7 +3,7 @@ use Rattle.std.proofs.Common.{◌≡◌, ℕ, zero, suc, ◌+◌, ◌-◌, ◌^�
 use Rattle.std.proofs.lemmas.Bool.{cases_lt}
 use Rattle.std.proofs.lemmas.List.{length-take-le, take_all}
 use Rattle.std.proofs.lemmas.List.Elements.{All-nil, All-cons}
-use Rattle.std.specs.List.{All, flat_map}
+use Rattle.std.specs.List.{All, AllByRecursion, flat_map}
 use Rattle.std.specs.declared.io.Error.{Error}
 use Rattle.buffer_redux.specs.Block.{Block, IsBlock, Kind, Plain, Ring, limit_of}
 use Rattle.buffer_redux.specs.Buffered.{Buffered}
@@ -11,7 +11,8 @@ use Rattle.buffer_redux.specs.BufWriter.{WasSent, WritesInOrder}
 use Rattle.buffer_redux.specs.LogGrows.{WriteLogGrows, WriteLogGrows-flush}
 use Rattle.buffer_redux.specs.StreamLog.{StreamLog, after_flush, after_write}
 use Rattle.buffer_redux.specs.declared.policy.StdPolicy.{StdPolicy}
-use Rattle.chunked.specs.Chunk.{IsCarried, IsChunks, chunk, chunks, last_chunk}
+use Rattle.chunked.specs.Body.{IsField}
+use Rattle.chunked.specs.Chunk.{IsCarried, IsChunks, body_end, chunk, chunks}
 use Rattle.chunked.specs.ChunkLaws.{IsChunks-body, IsChunks-joins}
 use Rattle.chunked.specs.Chunking.{Chunking, ChunkingWent, ChunksWent, Finishes, IsChunking, PutsFirst, PutsIn, WritesChunk, accepted_of, around, room, taken_payloads, with_own_calls}
 use Rattle.chunked.specs.ChunkingLaws.{PutsFirst-order, PutsIn-order}
@@ -148,15 +149,19 @@ module _ {S : Type 0} (tells : S → StreamLog) (stretch : S → S → Type 0)
       → WritesChunk tells stretch v payload answer t → WritesChunk tells stretch s payload answer t
   same_writer v s t payload answer same h = subst (λ c. WritesChunk tells stretch c payload answer t) same h
 
-  -- the last chunk went in behind the others
+  -- the end of the body went in behind the chunks
   pub finishes : (v s : Chunking S) → v ≡ s → (is : IsChunking v) → (m t : Buffered S StdPolicy)
-      → Spaced tells stretch 5 v.writer m → PutsIn stretch m last_chunk t → Finishes tells stretch s t
-  finishes v s same is m t spaced puts = subst (λ c. Finishes tells stretch c t) same (record {
-    in_order = in_order v.writer m t 5 spaced last_chunk puts;
-    body = λ limits line. IsChunks-body limits line v.wire (accepted_of v) is.whole;
-    fits = straight v.writer m t 5 spaced last_chunk puts;
-    full = behind v.writer m t 5 spaced last_chunk puts;
-  })
+      → (fields : List (List ℕ)) → AllByRecursion IsField fields → (n : ℕ) → n ≡ length (body_end fields)
+      → Spaced tells stretch n v.writer m → PutsIn stretch m (body_end fields) t → Finishes tells stretch s fields t
+  finishes v s same is m t fields lines n len spaced puts =
+      let there = subst (λ k. Spaced tells stretch k v.writer m) len spaced in
+      subst (λ c. Finishes tells stretch c fields t) same (record {
+        lines = lines;
+        in_order = in_order v.writer m t (length (body_end fields)) there (body_end fields) puts;
+        body = λ limits lets. IsChunks-body limits lets.0 fields lines lets.1 v.wire (accepted_of v) is.whole;
+        fits = straight v.writer m t (length (body_end fields)) there (body_end fields) puts;
+        full = behind v.writer m t (length (body_end fields)) there (body_end fields) puts;
+      })
 
   -- a flush that is told took no chunk in
   pub flush_went : (s m v : Chunking S) (answer : Result (Unit {0}) Error) (calls : StreamLog) → v ≡ m

@@ -1,5 +1,5 @@
 -- What was written is a body, and so what a reader of it hands out is what was written.
-use Rattle.std.proofs.Common.{◌≡◌, ℕ, ◌≤◌, List, ◌++◌, Option, sym, subst, ◌∙◌}
+use Rattle.std.proofs.Common.{◌≡◌, ℕ, List, ◌++◌, Option, sym, subst, ◌∙◌}
 use Rattle.std.proofs.lemmas.List.{append_cancel_left}
 use Rattle.std.specs.List.{flat_map}
 use Rattle.buffer_redux.specs.Buffered.{Buffered}
@@ -9,35 +9,36 @@ use Rattle.buffer_redux.specs.WriterLaws.{WritesInOrder-contents, WritesInOrder-
 use Rattle.buffer_redux.specs.declared.policy.StdPolicy.{StdPolicy}
 use Rattle.chunked.specs.declared.limits.Limits.{Limits}
 use Rattle.chunked.specs.Body.{IsBody}
-use Rattle.chunked.specs.Chunk.{chunks, last_chunk}
-use Rattle.chunked.specs.Chunking.{Chunking, accepted_of}
+use Rattle.chunked.specs.Chunk.{body_end, chunks}
+use Rattle.chunked.specs.Chunking.{Chunking, LetsThrough, accepted_of}
 use Rattle.chunked.specs.Dechunking.{Dechunking}
 use Rattle.chunked.specs.Given.{GivenBody}
 use Rattle.chunked.specs.RoundTrip.{ReadsWritten, WroteBody, holds}
 
 module _ {S : Type 0} (tells : S → StreamLog) (stretch : S → S → Type 0) (first : Buffered S StdPolicy)
-    (payloads : List (List ℕ)) (w : Chunking S) (last : Buffered S StdPolicy) (wrote : List ℕ)
-    (h : WroteBody tells stretch first payloads w last wrote) where
-  the_bytes : wrote ≡ w.wire ++ last_chunk
+    (payloads fields : List (List ℕ)) (w : Chunking S) (last : Buffered S StdPolicy) (wrote : List ℕ)
+    (h : WroteBody tells stretch first payloads fields w last wrote) where
+  the_bytes : wrote ≡ w.wire ++ body_end fields
   the_bytes =
-      let whole = WritesInOrder-joins first w.writer last (chunks payloads) last_chunk h.went.in_order h.finishes.in_order in
-      append_cancel_left (holds first) wrote (w.wire ++ last_chunk)
-      (sym h.gained ∙ WritesInOrder-contents first last (chunks payloads ++ last_chunk) whole
-      ∙ (λ i. holds first ++ (sym h.went.wire i ++ last_chunk)))
+      let whole = WritesInOrder-joins first w.writer last (chunks payloads) (body_end fields) h.went.in_order
+      h.finishes.in_order in
+      append_cancel_left (holds first) wrote (w.wire ++ body_end fields)
+      (sym h.gained ∙ WritesInOrder-contents first last (chunks payloads ++ body_end fields) whole
+      ∙ (λ i. holds first ++ (sym h.went.wire i ++ body_end fields)))
 
-  pub written_body : (limits : Limits) → 16 ≤ limits.line → IsBody limits wrote (flat_map (λ p. p) payloads)
-  written_body limits line =
+  pub written_body : (limits : Limits) → LetsThrough fields limits → IsBody limits wrote (flat_map (λ p. p) payloads)
+  written_body limits lets =
       subst (λ p. IsBody limits wrote p) h.went.accepted
-      (subst (λ l. IsBody limits l (accepted_of w)) (sym the_bytes) (h.finishes.body limits line))
+      (subst (λ l. IsBody limits l (accepted_of w)) (sym the_bytes) (h.finishes.body limits lets))
 
   pub given_written : {R P : Type 0} (remaining : R → Option (List ℕ)) (rules : ReadRules P) (start : Buffered R P)
       (limits : Limits) (behind handed : List ℕ) (t : Dechunking R P)
-      → ReadsWritten remaining rules start limits wrote behind handed t
+      → LetsThrough fields limits → ReadsWritten remaining rules start limits wrote behind handed t
       → GivenBody remaining rules start limits wrote (flat_map (λ p. p) payloads) behind handed t
-  given_written remaining rules start limits behind handed t g = record {
+  given_written remaining rules start limits behind handed t lets g = record {
     went = g.went;
     got = g.got;
     given = g.given;
     equal = g.equal;
-    is_body = written_body limits g.line;
+    is_body = written_body limits lets;
   }

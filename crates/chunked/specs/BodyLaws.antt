@@ -85,9 +85,9 @@ front_same p q xs ys len same = (
   sym (drop_at p xs (length p) refl) ∙ ap (λ l. drop (length p) l) same ∙ drop_at q ys (length p) (sym len),
 )
 
--- no trailers begin others
-fields_same : (fs gs : List (List ℕ)) (xs ys : List ℕ) → AllByRecursion IsField fs → AllByRecursion IsField gs
-    → fields_bytes fs ++ xs ≡ fields_bytes gs ++ ys → (fields_bytes fs ≡ fields_bytes gs) × (xs ≡ ys)
+-- no trailers begin others, nor are they other lines
+pub fields_same : (fs gs : List (List ℕ)) (xs ys : List ℕ) → AllByRecursion IsField fs → AllByRecursion IsField gs
+    → fields_bytes fs ++ xs ≡ fields_bytes gs ++ ys → (fs ≡ gs) × (xs ≡ ys)
 fields_same [] [] xs ys p q same = (refl, cc)
 fields_same [] ([] ∷ gs) xs ys p q same = absurd (omega (arith, q.0.1))
 fields_same [] ((b ∷ g) ∷ gs) xs ys p q same = absurd (q.0.0.0.0 cc)
@@ -97,13 +97,13 @@ fields_same (f ∷ fs) (g ∷ gs) xs ys p q same =
     let first = line_same f g (fields_bytes fs ++ xs) (fields_bytes gs ++ ys) p.0.0 q.0.0
     (sym (append_assoc f (line_end (fields_bytes fs)) xs) ∙ same ∙ append_assoc g (line_end (fields_bytes gs)) ys) in
     let others = fields_same fs gs xs ys p.1 q.1 first.1 in
-    (ap (λ l. l ++ line_end (fields_bytes fs)) first.0 ∙ ap (λ l. g ++ line_end l) others.0, others.1)
+    (ap (λ l. l ∷ fs) first.0 ∙ ap (λ l. g ∷ l) others.0, others.1)
 
 trailers_same : (m n : ℕ) (a b xs ys : List ℕ) → IsTrailers m a → IsTrailers n b → a ++ xs ≡ b ++ ys → (a ≡ b) × (xs ≡ ys)
 trailers_same m n a b xs ys p q same =
     let found = fields_same p.fields q.fields xs ys p.lines q.lines
     (ap (λ l. l ++ xs) (sym p.equal) ∙ same ∙ ap (λ l. l ++ ys) q.equal) in
-    (p.equal ∙ found.0 ∙ sym q.equal, found.1)
+    (p.equal ∙ ap fields_bytes found.0 ∙ sym q.equal, found.1)
 
 -- what a line of a size stands in front of, and the size
 sized_same : (limit limit' m n : ℕ) (a b xs ys u v more more' : List ℕ) → IsSizeLine limit m a → IsSizeLine limit' n b

@@ -3,7 +3,7 @@ use Rattle.std.specs.Prelude.{◌≡◌, ℕ, ◌^◌, ◌<◌, List, [], ◌∷
 use Rattle.std.specs.Char.{digit_char}
 use Rattle.std.specs.Int.Digits.{digits_of}
 use Rattle.std.specs.List.{All}
-use Rattle.chunked.specs.Body.{line_end}
+use Rattle.chunked.specs.Body.{fields_bytes, line_end}
 
 -- a size in hexadecimal digits, which are lower-case and begin with no 0
 abbrev pub size_digits : ℕ → List ℕ
@@ -17,9 +17,9 @@ chunk payload = size_digits (length payload) ++ line_end (payload ++ line_end []
 abbrev pub chunks : List (List ℕ) → List ℕ
 chunks payloads = flat_map chunk payloads
 
--- the last chunk, and no trailers
-abbrev pub last_chunk : List ℕ
-last_chunk = 48 ∷ line_end (line_end [])
+-- the end of a body: the last chunk, the lines of its trailers, and an empty line
+abbrev pub body_end : List (List ℕ) → List ℕ
+body_end fields = 48 ∷ line_end (fields_bytes fields)
 
 -- a payload that a chunk can carry
 abbrev pub IsCarried : List ℕ → Type 0

@@ -1,4 +1,4 @@
--- Laws of what a writer of a body writes: chunks, and then the last one, are a body.
+-- Laws of what a writer of a body writes: chunks, and then its end, are a body.
 use Rattle.std.specs.Prelude.{◌≡◌, ℕ, ◌^◌, ◌<◌, ◌≤◌, List, [], ◌∷◌, ◌++◌, length, map, flat_map}
 use Rattle.std.proofs.Common.{sym, ap, subst, ◌∙◌, arith, refl, append_assoc, append-nil}
 use Rattle.std.proofs.lemmas.Bool.Decides.{nat_tests}
@@ -8,11 +8,11 @@ use Rattle.std.proofs.lemmas.List.Concat.{flat_map-append}
 use Rattle.std.proofs.lemmas.List.Elements.{All-nil, All-append, All-head, All-tail}
 use Rattle.std.specs.Char.{digit_char, digit_value}
 use Rattle.std.specs.Int.Digits.{digits_of, AllBelowBase, number_from_digits}
-use Rattle.std.specs.List.{All}
+use Rattle.std.specs.List.{All, AllByRecursion}
 use Rattle.std.specs.Str.Parse.{AllDigits}
 use Rattle.chunked.specs.declared.limits.Limits.{Limits}
-use Rattle.chunked.specs.Body.{line_end, IsSizeLine, HasChunks, IsBody}
-use Rattle.chunked.specs.Chunk.{IsCarried, IsChunks, chunk, chunks, last_chunk, size_digits}
+use Rattle.chunked.specs.Body.{line_end, IsField, IsSizeLine, HasChunks, IsBody, fields_bytes}
+use Rattle.chunked.specs.Chunk.{IsCarried, IsChunks, body_end, chunk, chunks, size_digits}
 
 -- a digit that is written is read as what it was
 digit_back : (d : ℕ) → d < 16 → digit_value (digit_char d) ≡ d
@@ -64,7 +64,8 @@ IsChunks-joins bytes payload more h carried = record {
   joined = ap (λ l. l ++ flat_map (λ p. p) more) h.joined ∙ sym (flat_map-append (λ p. p) h.payloads more);
 }
 
-module _ (limits : Limits) (line : 16 ≤ limits.line) where
+module _ (limits : Limits) (line : 16 ≤ limits.line) (fields : List (List ℕ)) (lines : AllByRecursion IsField fields)
+    (few : length (flat_map (λ f. f) fields) ≤ limits.trailers) where
   zero_line : IsSizeLine limits.line 0 (48 ∷ [])
   zero_line = record {
     digits = 48 ∷ [];
@@ -77,33 +78,34 @@ module _ (limits : Limits) (line : 16 ≤ limits.line) where
     fits = omega (arith, line);
   }
 
-  has_chunks : (payloads : List (List ℕ)) → All IsCarried payloads → HasChunks limits payloads (chunks payloads ++ last_chunk)
+  has_chunks : (payloads : List (List ℕ)) → All IsCarried payloads
+      → HasChunks limits payloads (chunks payloads ++ body_end fields)
   has_chunks [] carried = record {
     text = 48 ∷ [];
     size_line = zero_line;
-    behind = line_end [];
-    trailers = record { fields = []; equal = refl; lines = tt; few = omega arith };
+    behind = fields_bytes fields;
+    trailers = record { fields = fields; equal = refl; lines = lines; few = few };
     equal = refl;
   }
   has_chunks (p ∷ payloads) carried =
       let is = All-head IsCarried p payloads carried in
-      let later = chunks payloads ++ last_chunk in (
+      let later = chunks payloads ++ body_end fields in (
         later,
         record {
           text = size_digits (length p);
           size_line = size_digits-line limits.line (length p) is.0 is.1 line;
           some = is.0;
-          equal = append_assoc (chunk p) (chunks payloads) last_chunk
+          equal = append_assoc (chunk p) (chunks payloads) (body_end fields)
               ∙ append_assoc (size_digits (length p)) (line_end (p ++ line_end [])) later
               ∙ ap (λ l. size_digits (length p) ++ line_end l) (append_assoc p (line_end []) later);
         },
         has_chunks payloads (All-tail IsCarried p payloads carried),
       )
 
-  -- chunks, and then the last one, are a body, and the payload in it is theirs
-  pub IsChunks-body : (bytes payload : List ℕ) → IsChunks bytes payload → IsBody limits (bytes ++ last_chunk) payload
+  -- chunks, and then the end of a body, are a body, and the payload in it is theirs
+  pub IsChunks-body : (bytes payload : List ℕ) → IsChunks bytes payload → IsBody limits (bytes ++ body_end fields) payload
   IsChunks-body bytes payload h = record {
     payloads = h.payloads;
-    chunks = subst (λ l. HasChunks limits h.payloads (l ++ last_chunk)) (sym h.equal) (has_chunks h.payloads h.carried);
+    chunks = subst (λ l. HasChunks limits h.payloads (l ++ body_end fields)) (sym h.equal) (has_chunks h.payloads h.carried);
     equal = h.joined;
   }

@@ -1,6 +1,6 @@
 -- What contracts see of a writer of a body, and what its calls promise.
 use Rattle.std.specs.Prelude.{◌≡◌, ℕ, zero, suc, ◌+◌, ◌-◌, ◌<◌, ◌≤◌, List, [], ◌∷◌, ◌++◌, length, min, take, flat_map, Option, Some, Result, Ok, Err}
-use Rattle.std.specs.List.{All}
+use Rattle.std.specs.List.{All, AllByRecursion}
 use Rattle.std.specs.declared.io.Error.{Error}
 use Rattle.buffer_redux.specs.Block.{IsBlock}
 use Rattle.buffer_redux.specs.Buffered.{Buffered}
@@ -9,8 +9,8 @@ use Rattle.buffer_redux.specs.LogGrows.{WriteLogGrows}
 use Rattle.buffer_redux.specs.StreamLog.{StreamLog, after_write, no_calls}
 use Rattle.buffer_redux.specs.declared.policy.StdPolicy.{StdPolicy}
 use Rattle.chunked.specs.declared.limits.Limits.{Limits}
-use Rattle.chunked.specs.Body.{IsBody}
-use Rattle.chunked.specs.Chunk.{IsCarried, IsChunks, chunk, chunks, last_chunk}
+use Rattle.chunked.specs.Body.{IsBody, IsField}
+use Rattle.chunked.specs.Chunk.{IsCarried, IsChunks, body_end, chunk, chunks}
 
 -- the buffered writer; the bytes of the body that it took in so far; and the writer's own calls, as a stream tells them
 pub record Chunking (S : Type 0) : Type 0 where
@@ -113,19 +113,24 @@ pub record WritesChunk {S : Type 0} (tells : S → StreamLog) (stretch : S → S
   pub noted : t.calls ≡ after_chunk s.calls payload answer
   pub whole : IsChunking t
 
--- what finishing does: the last chunk went in whole behind the others, and what was taken in since the writer was made is a
--- body, whose payload is what was accepted; a reader has to let the line of a size have 16 bytes
-pub record Finishes {S : Type 0} (tells : S → StreamLog) (stretch : S → S → Type 0) (s : Chunking S) (t : Buffered S StdPolicy)
-    : Type 0 where
-  pub in_order : WritesInOrder s.writer last_chunk t
-  pub body : (limits : Limits) → 16 ≤ limits.line → IsBody limits (s.wire ++ last_chunk) (accepted_of s)
-  pub fits : length last_chunk ≤ room s.writer → PutsIn stretch s.writer last_chunk t
-  pub full : room s.writer < length last_chunk → PutsFirst tells stretch s.writer last_chunk t
+-- what limits let through that was written with these trailers: the line of a size with 16 digits, and the lines
+abbrev pub LetsThrough : List (List ℕ) → Limits → Type 0
+LetsThrough fields limits = (16 ≤ limits.line) × (length (flat_map (λ f. f) fields) ≤ limits.trailers)
+
+-- what finishing with these trailers does: each is a line, the end of the body went in whole behind the chunks, and what was
+-- taken in since the writer was made is a body, whose payload is what was accepted
+pub record Finishes {S : Type 0} (tells : S → StreamLog) (stretch : S → S → Type 0) (s : Chunking S) (fields : List (List ℕ))
+    (t : Buffered S StdPolicy) : Type 0 where
+  pub lines : AllByRecursion IsField fields
+  pub in_order : WritesInOrder s.writer (body_end fields) t
+  pub body : (limits : Limits) → LetsThrough fields limits → IsBody limits (s.wire ++ body_end fields) (accepted_of s)
+  pub fits : length (body_end fields) ≤ room s.writer → PutsIn stretch s.writer (body_end fields) t
+  pub full : room s.writer < length (body_end fields) → PutsFirst tells stretch s.writer (body_end fields) t
 
 -- what was buffered had to be sent first, and that failed: no byte was taken in, so the call can be made again
-pub record NotFinished {S : Type 0} (tells : S → StreamLog) (stretch : S → S → Type 0) (s : Chunking S) (e : Error)
-    (t : Chunking S) : Type 0 where
-  pub full : room s.writer < length last_chunk
+pub record NotFinished {S : Type 0} (tells : S → StreamLog) (stretch : S → S → Type 0) (s : Chunking S)
+    (fields : List (List ℕ)) (e : Error) (t : Chunking S) : Type 0 where
+  pub full : room s.writer < length (body_end fields)
   pub sends : WasSent tells stretch s.writer (Err e) t.writer
   pub wire : t.wire ≡ s.wire
   pub calls : t.calls ≡ s.calls

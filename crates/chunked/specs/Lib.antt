@@ -12,4 +12,5 @@ pub mod Chunk
 pub mod ChunkLaws
 pub mod Chunking
 pub mod ChunkingLaws
+pub mod Trailers
 pub mod RoundTrip

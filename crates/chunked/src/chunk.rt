@@ -3,7 +3,7 @@ ghost use Rattle.std.specs.Prelude.{◌≡◌, ◌^◌, ◌<◌, ◌≤◌, ◌+
 ghost use Rattle.buffer_redux.specs.Block.{usable};
 ghost use Rattle.buffer_redux.specs.BufWriter.{WasSent};
 ghost use Rattle.chunked.specs.Body.{line_end};
-ghost use Rattle.chunked.specs.Chunk.{chunk, last_chunk, size_digits};
+ghost use Rattle.chunked.specs.Chunk.{chunk, size_digits};
 ghost use Rattle.chunked.specs.Chunking.{PutsIn, around, room};
 
 use buffer_redux::BufWriter;
@@ -17,9 +17,6 @@ const DIGITS: &[u8; 16] = b"0123456789abcdef";
 const MAX_DIGITS: usize = 16;
 
 const BLANK: [u8; 18] = *b"0000000000000000\r\n";
-
-/// How many bytes the last chunk has.
-pub const LAST_CHUNK: usize = 5;
 
 /// The most bytes of a chunk that are no payload: a size of 16 digits, and the ends of two lines.
 pub const AROUND: usize = 20;
@@ -68,9 +65,9 @@ pub fn make_space<W: TellWrite>(writer: &mut BufWriter<W>, bytes: usize) -> io::
     Ok(())
 }
 
-// Copies bytes in, for which there is room, and notes them.
+/// Copies bytes in, for which there is room, and notes them.
 #[inline(always)]
-fn put<W: TellWrite>(writer: &mut BufWriter<W>, wire: &mut CallLog, bytes: &[u8])
+pub fn put<W: TellWrite>(writer: &mut BufWriter<W>, wire: &mut CallLog, bytes: &[u8])
     requires room { length bytes.now ≤ usable writer.old.block }
     requires inside { length bytes.now < writer.old.block.capacity }
     ensures put { PutsIn W.stretch writer.old bytes.now writer.new }
@@ -95,15 +92,4 @@ pub fn put_chunk<W: TellWrite>(writer: &mut BufWriter<W>, wire: &mut CallLog, pa
     put(writer, wire, line.as_bytes());
     put(writer, wire, payload);
     put(writer, wire, b"\r\n");
-}
-
-/// Copies the last chunk in, with no trailers, for which there is room, and notes it.
-pub fn put_last<W: TellWrite>(writer: &mut BufWriter<W>, wire: &mut CallLog)
-    requires room { length last_chunk ≤ room writer.old }
-    requires inside { length last_chunk < writer.old.block.capacity }
-    ensures put { PutsIn W.stretch writer.old last_chunk writer.new }
-    ensures wire { wire.new.log.writes.received ≡ wire.old.log.writes.received ++ last_chunk }
-{
-    writer.make_room();
-    put(writer, wire, b"0\r\n\r\n");
 }

@@ -1,4 +1,4 @@
-//! Why a body can't be read.
+//! Why a body can't be read, or ended.
 use std::error::Error;
 use std::io::ErrorKind;
 use std::{fmt, io};
@@ -112,6 +112,69 @@ impl From<ChunkedError> for io::Error {
             ChunkedError::NotChunked(_, _) => io::Error::from(ErrorKind::InvalidData),
             ChunkedError::Truncated(_) => io::Error::from(ErrorKind::UnexpectedEof),
             ChunkedError::Io(e) => e,
+        }
+    }
+}
+
+/// Why a body can't be ended with its trailers.
+#[derive(Debug, Drop)]
+pub enum TrailersError {
+    /// The line of this index is none of trailers: it is empty, or holds CR or LF.
+    NoField(usize),
+    /// The last chunk and the trailers have more bytes than the buffer.
+    TooLong,
+    /// What was buffered had to be sent first, and that failed. The call can be made again.
+    Io(io::Error),
+}
+
+impl fmt::Display for TrailersError {
+    fn fmt<W: fmt::Write>(&self, f: &mut fmt::Formatter<W>) -> fmt::Result {
+        match self {
+            TrailersError::NoField(index) => {
+                write!(
+                    f,
+                    "line {index} of the trailers is empty, or holds CR or LF"
+                )
+            }
+            TrailersError::TooLong => f.write_str("the trailers don't fit into the buffer"),
+            TrailersError::Io(e) => fmt::Display::fmt(e, f),
+        }
+    }
+}
+
+impl Error for TrailersError {}
+
+/// Why a body wasn't ended with its trailers, with its writer.
+///
+/// ```
+/// let inner = BufWriter::new(alloc, Told::new(Vec::new(alloc)))?;
+/// let body = ChunkedWriter::new(inner);
+/// let refused = body.finish_with_trailers(&[b"Expires: never\n"]);
+/// assert!(rt; matches!(refused, Err(FinishError(_, TrailersError::NoField(0)))));
+/// ```
+#[derive(Debug, Drop)]
+pub struct FinishError<B>(pub B, pub TrailersError);
+
+impl<B> fmt::Display for FinishError<B> {
+    fn fmt<W: fmt::Write>(&self, f: &mut fmt::Formatter<W>) -> fmt::Result {
+        fmt::Display::fmt(&self.1, f)
+    }
+}
+
+impl<B: fmt::Debug + Drop> Error for FinishError<B> {}
+
+/// The fault, or `InvalidInput` where trailers were refused. The writer is dropped.
+impl<B: Drop> From<FinishError<B>> for io::Error {
+    ghost use Rattle.chunked.specs.Trailers.{EndsAsIo};
+
+    ghost from_gives = { λ e r. EndsAsIo e.1 r };
+
+    fn from(e: FinishError<B>) -> io::Error {
+        match e.1 {
+            TrailersError::NoField(_) | TrailersError::TooLong => {
+                io::Error::from(ErrorKind::InvalidInput)
+            }
+            TrailersError::Io(fault) => fault,
         }
     }
 }

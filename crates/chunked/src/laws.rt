@@ -1,9 +1,11 @@
 //! Laws, each as the contract of a function.
-ghost use Rattle.std.specs.Prelude.{◌≡◌, ℕ, ◌<◌, ◌≤◌, List, ◌++◌, flat_map};
+ghost use Rattle.std.specs.Prelude.{◌≡◌, ℕ, ◌<◌, List, ◌++◌, flat_map};
+ghost use Rattle.std.specs.List.{AllByRecursion};
 ghost use Rattle.buffer_redux.specs.Buffered.{Buffered};
 ghost use Rattle.buffer_redux.specs.BufReader.{ReadsAlong};
 ghost use Rattle.buffer_redux.specs.declared.policy.StdPolicy.{StdPolicy};
-ghost use Rattle.chunked.specs.Body.{IsBody};
+ghost use Rattle.chunked.specs.Body.{IsBody, IsField, fields_bytes};
+ghost use Rattle.chunked.specs.Chunking.{LetsThrough};
 ghost use Rattle.chunked.specs.Dechunking.{BodyWent, Breaks, Dechunking, EndsEarly, IsWhole, begun, handed_of};
 ghost use Rattle.chunked.specs.Given.{GivenBody};
 ghost use Rattle.chunked.specs.Place.{IsWrong};
@@ -21,6 +23,12 @@ use buffer_redux::tell::{TellRead, TellWrite};
 pub fn one_body()
     ensures { (l m : Limits) (a b p q xs ys : List ℕ) → IsBody l a p → IsBody m b q → a ++ xs ≡ b ++ ys
         → (a ≡ b) × (p ≡ q) × (xs ≡ ys) }
+{}
+
+/// Nor do trailers begin others: what bytes begin with them settles where they end, and each of their lines.
+pub fn one_list_of_fields()
+    ensures { (f g : List (List ℕ)) (xs ys : List ℕ) → AllByRecursion IsField f → AllByRecursion IsField g
+        → fields_bytes f ++ xs ≡ fields_bytes g ++ ys → (f ≡ g) × (xs ≡ ys) }
 {}
 
 /// A byte that is wrong in a place has one name.
@@ -71,11 +79,11 @@ pub fn given_body<R: TellRead, P: ReaderPolicy>(reader: &ChunkedReader<R, P>)
     let _ = reader.get_ref();
 }
 
-/// Where a writer of a body took payloads in, each in one write, and was finished, what the buffered writer gained is a body
-/// with these payloads, joined.
+/// Where a writer of a body took payloads in, each in one write, and was finished with these trailers, or with none, what the
+/// buffered writer gained is a body with these payloads, joined.
 pub fn written_body<W: TellWrite>(writer: &ChunkedWriter<W>)
-    ensures { (first last : Buffered W StdPolicy) (payloads : List (List ℕ)) (wrote : List ℕ) (limits : Limits)
-        → WroteBody W.log W.stretch first payloads writer.now last wrote → 16 ≤ limits.line
+    ensures { (first last : Buffered W StdPolicy) (payloads fields : List (List ℕ)) (wrote : List ℕ) (limits : Limits)
+        → WroteBody W.log W.stretch first payloads fields writer.now last wrote → LetsThrough fields limits
         → IsBody limits wrote (flat_map (λ p. p) payloads) }
 {}
 
@@ -86,24 +94,24 @@ pub fn round_trip<W: TellWrite, R: TellRead, P: ReaderPolicy>(
     writer: &ChunkedWriter<W>,
     reader: &ChunkedReader<R, P>,
 )
-    ensures front { (first last : Buffered W StdPolicy) (payloads : List (List ℕ)) (wrote : List ℕ)
-        → WroteBody W.log W.stretch first payloads writer.now last wrote
-        → (start : Buffered R P) (limits : Limits) (behind handed : List ℕ)
+    ensures front { (first last : Buffered W StdPolicy) (payloads fields : List (List ℕ)) (wrote : List ℕ)
+        → WroteBody W.log W.stretch first payloads fields writer.now last wrote
+        → (start : Buffered R P) (limits : Limits) (behind handed : List ℕ) → LetsThrough fields limits
         → ReadsWritten R.remaining P.rules start limits wrote behind handed reader.now
         → (more : List ℕ) × (flat_map (λ p. p) payloads ≡ handed ++ more) }
-    ensures right { (first last : Buffered W StdPolicy) (payloads : List (List ℕ)) (wrote : List ℕ)
-        → WroteBody W.log W.stretch first payloads writer.now last wrote
-        → (start : Buffered R P) (limits : Limits) (behind handed : List ℕ)
+    ensures right { (first last : Buffered W StdPolicy) (payloads fields : List (List ℕ)) (wrote : List ℕ)
+        → WroteBody W.log W.stretch first payloads fields writer.now last wrote
+        → (start : Buffered R P) (limits : Limits) (behind handed : List ℕ) → LetsThrough fields limits
         → ReadsWritten R.remaining P.rules start limits wrote behind handed reader.now
         → (why : Malformed) → ¬ Breaks why reader.now }
-    ensures there { (first last : Buffered W StdPolicy) (payloads : List (List ℕ)) (wrote : List ℕ)
-        → WroteBody W.log W.stretch first payloads writer.now last wrote
-        → (start : Buffered R P) (limits : Limits) (behind handed : List ℕ)
+    ensures there { (first last : Buffered W StdPolicy) (payloads fields : List (List ℕ)) (wrote : List ℕ)
+        → WroteBody W.log W.stretch first payloads fields writer.now last wrote
+        → (start : Buffered R P) (limits : Limits) (behind handed : List ℕ) → LetsThrough fields limits
         → ReadsWritten R.remaining P.rules start limits wrote behind handed reader.now
         → (s : Dechunking R P) → ¬ EndsEarly P.rules s reader.now }
-    ensures all { (first last : Buffered W StdPolicy) (payloads : List (List ℕ)) (wrote : List ℕ)
-        → WroteBody W.log W.stretch first payloads writer.now last wrote
-        → (start : Buffered R P) (limits : Limits) (behind handed : List ℕ)
+    ensures all { (first last : Buffered W StdPolicy) (payloads fields : List (List ℕ)) (wrote : List ℕ)
+        → WroteBody W.log W.stretch first payloads fields writer.now last wrote
+        → (start : Buffered R P) (limits : Limits) (behind handed : List ℕ) → LetsThrough fields limits
         → ReadsWritten R.remaining P.rules start limits wrote behind handed reader.now → IsWhole reader.now
         → (handed ≡ flat_map (λ p. p) payloads) × (reader.now.reader.block.bytes ≡ behind) }
 {

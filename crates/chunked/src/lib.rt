@@ -13,9 +13,10 @@ mod place;
 mod progress;
 mod reader;
 mod step;
+mod trailers;
 mod writer;
 
-pub use error::{ChunkedError, Malformed};
+pub use error::{ChunkedError, FinishError, Malformed, TrailersError};
 pub use limits::Limits;
 pub use place::Place;
 pub use reader::ChunkedReader;

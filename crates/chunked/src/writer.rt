@@ -1,14 +1,18 @@
 //! The writer of a body.
-ghost use Rattle.std.specs.Prelude.{◌≡◌, ◌<◌, [], MatchResult};
+ghost use Rattle.std.specs.Prelude.{◌≡◌, ◌<◌, [], length, MatchResult};
 ghost use Rattle.std.specs.Io.{WritesAtMost};
 ghost use Rattle.std.specs.Io.KnownBytes.{Keeps, WriteAppends};
 ghost use Rattle.buffer_redux.specs.BufWriter.{WasFlushed};
 ghost use Rattle.buffer_redux.specs.StreamLog.{after_flush, after_write};
+ghost use Rattle.chunked.specs.Chunk.{body_end};
 ghost use Rattle.chunked.specs.Chunking.{ChunkingWent, ChunksWent, Finishes, IsChunking, NotFinished, WritesChunk, WritesTold};
 ghost use Rattle.chunked.specs.Chunking.{accepted, around, unbegun};
 ghost use Rattle.chunked.specs.ChunkingLaws.{ChunkingWent-none, ChunkingWent-joins, ChunkingWent-grows};
+ghost use Rattle.chunked.specs.Trailers.{CanEnd, NotEnded, lines_of};
 
-use crate::chunk::{AROUND, LAST_CHUNK, make_space, put_chunk, put_last};
+use crate::chunk::{AROUND, make_space, put_chunk};
+use crate::error::{FinishError, TrailersError};
+use crate::trailers::{BARE_END, end_len, put_end};
 use buffer_redux::tell::{Call, CallLog, Tell, TellWrite};
 use buffer_redux::{BufWriter, IntoInnerError};
 use std::io::Write;
@@ -98,17 +102,57 @@ impl<W: TellWrite> ChunkedWriter<W> {
     /// Ends the body: takes the last chunk in, with no trailers, and hands the buffered writer back, which neither sent nor
     /// flushed it. Where it doesn't fit, all that is buffered is sent first. Where that fails, the writer comes back with the
     /// fault and as it was, but for what the inner writer took: it can be finished again, or written to.
-    pub fn finish(mut self) -> Result<BufWriter<W>, IntoInnerError<Self>>
-        ensures { MatchResult result (Finishes W.log W.stretch self) (λ e. NotFinished W.log W.stretch self e.1 e.0) }
+    pub fn finish(self) -> Result<BufWriter<W>, IntoInnerError<Self>>
+        ensures { MatchResult result (Finishes W.log W.stretch self [])
+            (λ e. NotFinished W.log W.stretch self [] e.1 e.0) }
     {
-        match make_space(&mut self.writer, LAST_CHUNK) {
+        self.end(BARE_END, &[])
+    }
+
+    /// The same with trailers, whose lines these are, without their ends. The last chunk and all trailers go into the buffer
+    /// whole or not at all. A line that is empty or holds CR or LF is refused, and so are trailers that the buffer has no
+    /// capacity for with the last chunk; the writer comes back as it was then.
+    ///
+    /// ```
+    /// let inner = BufWriter::new(alloc, Told::new(Vec::new(alloc)))?;
+    /// let mut body = ChunkedWriter::new(inner);
+    /// body.write_all(b"hello")?;
+    /// let trailers: [&[u8]; 2] = [b"Expires: never", b"Digest: 0"];
+    /// let mut inner = body.finish_with_trailers(&trailers).map_err(io::Error::from)?;
+    /// inner.flush()?;
+    /// assert_eq!(rt;
+    ///     inner.get_ref().get_ref().as_slice(),
+    ///     b"5\r\nhello\r\n0\r\nExpires: never\r\nDigest: 0\r\n\r\n".as_slice()
+    /// );
+    /// ```
+    pub fn finish_with_trailers(self, fields: &[&[u8]]) -> Result<BufWriter<W>, FinishError<Self>>
+        ensures { MatchResult result (Finishes W.log W.stretch self (lines_of fields.now))
+            (λ e. NotEnded W.log W.stretch self (lines_of fields.now) e.1 e.0) }
+    {
+        match end_len(fields, self.writer.capacity()) {
+            Ok(len) => match self.end(len, fields) {
+                Ok(writer) => Ok(writer),
+                Err(IntoInnerError(body, e)) => Err(FinishError(body, TrailersError::Io(e))),
+            },
+            Err(why) => Err(FinishError(self, why)),
+        }
+    }
+
+    // Ends the body with these trailers, with which its end has so many bytes.
+    fn end(mut self, len: usize, fields: &[&[u8]]) -> Result<BufWriter<W>, IntoInnerError<Self>>
+        requires can { CanEnd (lines_of fields.now) self.writer.block.capacity }
+        requires len { len ≡ length (body_end (lines_of fields.now)) }
+        ensures { MatchResult result (Finishes W.log W.stretch self (lines_of fields.now))
+            (λ e. NotFinished W.log W.stretch self (lines_of fields.now) e.1 e.0) }
+    {
+        match make_space(&mut self.writer, len) {
             Ok(()) => {
                 let ChunkedWriter {
                     mut writer,
                     mut wire,
                     calls: _,
                 } = self;
-                put_last(&mut writer, &mut wire);
+                put_end(&mut writer, &mut wire, fields);
                 Ok(writer)
             }
             Err(e) => Err(IntoInnerError(self, e)),

@@ -1,7 +1,9 @@
 //! Bodies in the chunked coding.
 use buffer_redux::tell::Told;
 use buffer_redux::{BufReader, BufWriter};
-use chunked::{ChunkedError, ChunkedReader, ChunkedWriter, Limits, Malformed};
+use chunked::{
+    ChunkedError, ChunkedReader, ChunkedWriter, FinishError, Limits, Malformed, TrailersError,
+};
 use std::io;
 use std::io::Write;
 use std::test::Fail;
@@ -56,5 +58,31 @@ fn chunked_writer(rt: HostRuntime) -> Result<(), Fail> {
         inner.get_ref().get_ref().as_slice(),
         b"5\r\nhello\r\n0\r\n\r\n".as_slice()
     );
+    Ok(())
+}
+
+#[test]
+fn trailers(rt: HostRuntime) -> Result<(), Fail> {
+    let alloc = rt.alloc();
+    let inner = BufWriter::new(alloc, Told::new(Vec::new(alloc)))?;
+    let mut body = ChunkedWriter::new(inner);
+    body.write_all(b"hello")?;
+    let trailers: [&[u8]; 2] = [b"Expires: never", b"Digest: 0"];
+    let mut inner = body.finish_with_trailers(&trailers).map_err(io::Error::from)?;
+    inner.flush()?;
+    assert_eq!(rt;
+        inner.get_ref().get_ref().as_slice(),
+        b"5\r\nhello\r\n0\r\nExpires: never\r\nDigest: 0\r\n\r\n".as_slice()
+    );
+    Ok(())
+}
+
+#[test]
+fn finish_error(rt: HostRuntime) -> Result<(), Fail> {
+    let alloc = rt.alloc();
+    let inner = BufWriter::new(alloc, Told::new(Vec::new(alloc)))?;
+    let body = ChunkedWriter::new(inner);
+    let refused = body.finish_with_trailers(&[b"Expires: never\n"]);
+    assert!(rt; matches!(refused, Err(FinishError(_, TrailersError::NoField(0)))));
     Ok(())
 }

@@ -1,8 +1,9 @@
 //! The writer of bodies in the chunked coding.
 use buffer_redux::script::Answer;
 use buffer_redux::{BufReader, BufWriter, IntoInnerError, MakeError};
-use chunked::{ChunkedReader, ChunkedWriter, Limits};
+use chunked::{ChunkedReader, ChunkedWriter, FinishError, Limits, TrailersError};
 use std::alloc::Global;
+use std::io;
 use std::io::ErrorKind;
 use std::process::Abort;
 use std::test::Fail;
@@ -14,25 +15,41 @@ type Inner = BufWriter<Target>;
 
 type Body = ChunkedWriter<Target>;
 
-// What is written, each piece by one write, and the body that it makes.
-type Row<'a> = (&'a [&'a [u8]], &'a [u8]);
+// What is written, each piece by one write, the lines of the trailers, and the body that this makes.
+type Row<'a> = (&'a [&'a [u8]], &'a [&'a [u8]], &'a [u8]);
 
-// Bodies from the documentation of protocols and from the tests of another writer, the letters of sizes in lower case.
-const BODIES: [Row<'static>; 5] = [
+// Bodies from the documentation of protocols and from the tests of another writer and of a parser, the letters of sizes in lower
+// case.
+const BODIES: [Row<'static>; 8] = [
     (
         &[b"Wiki", b"pedia", b" in\r\n\r\nchunks."],
+        &[],
         b"4\r\nWiki\r\n5\r\npedia\r\ne\r\n in\r\n\r\nchunks.\r\n0\r\n\r\n",
     ),
     (
         &[b"Mozilla", b"Developer Network"],
+        &[],
         b"7\r\nMozilla\r\n11\r\nDeveloper Network\r\n0\r\n\r\n",
     ),
     (
         &[b"hello, ", b"", b"world! 0123456789abcdef"],
+        &[],
         b"7\r\nhello, \r\n17\r\nworld! 0123456789abcdef\r\n0\r\n\r\n",
     ),
-    (&[b"", b""], b"0\r\n\r\n"),
-    (&[], b"0\r\n\r\n"),
+    (&[b"", b""], &[], b"0\r\n\r\n"),
+    (&[], &[], b"0\r\n\r\n"),
+    (
+        &[b"Mozilla", b"Developer", b"Network"],
+        &[b"Expires: Wed, 21 Oct 2015 07:28:00 GMT"],
+        b"7\r\nMozilla\r\n9\r\nDeveloper\r\n7\r\nNetwork\r\n0\r\n\
+Expires: Wed, 21 Oct 2015 07:28:00 GMT\r\n\r\n",
+    ),
+    (
+        &[b"hello", b" world"],
+        &[b"Vary: *", b"Content-Type: text/plain"],
+        b"5\r\nhello\r\n6\r\n world\r\n0\r\nVary: *\r\nContent-Type: text/plain\r\n\r\n",
+    ),
+    (&[], &[b"X", b"X"], b"0\r\nX\r\nX\r\n\r\n"),
 ];
 
 // A writer over a buffer of so many bytes, which are more than 20. Neither it nor any call below promises anything.
@@ -87,20 +104,40 @@ fn flushed(body: Body) -> Result<Inner, Fail> {
     Ok(inner)
 }
 
-// Writes a body over a stream that answers by the script, and flushes until that succeeds. Returns whether a call failed.
+fn finish_with(body: Body, fields: &[&[u8]]) -> Result<Inner, FinishError<Body>> {
+    body.finish_with_trailers(fields)
+}
+
+// Ends the body with trailers, again after a fault. Returns whether it failed.
+fn finishes_with(rt: &impl Abort, body: Body, fields: &[&[u8]]) -> Result<(Inner, bool), Fail> {
+    match finish_with(body, fields) {
+        Ok(inner) => Ok((inner, false)),
+        Err(FinishError(body, why)) => {
+            assert!(rt; matches!(why, TrailersError::Io(_)), "{why}");
+            Ok((finish_with(body, fields).map_err(io::Error::from)?, true))
+        }
+    }
+}
+
+// Writes a body over a stream that answers by the script, and flushes until that succeeds. Returns whether a call failed. The
+// longest trailers just fit into the buffer.
 fn writes_always(
     rt: &impl Abort,
     alloc: Global,
     row: Row<'_>,
     script: &[Answer],
 ) -> Result<bool, Fail> {
-    let (pieces, want) = row;
-    let mut body = body(alloc, 43, script)?;
+    let (pieces, fields, want) = row;
+    let mut body = body(alloc, 45, script)?;
     let mut failed = false;
     for piece in pieces {
         failed |= writes(rt, &mut body, piece)?;
     }
-    let (mut inner, again) = finishes(body)?;
+    let (mut inner, again) = if fields.is_empty() {
+        finishes(body)?
+    } else {
+        finishes_with(rt, body, fields)?
+    };
     failed |= again;
     if flush(&mut inner).is_err() {
         failed = true;
@@ -118,7 +155,7 @@ fn goes_on_after_a_fault(rt: HostRuntime) -> Result<(), Fail> {
             let mut script = Vec::from_slice(rt.alloc(), &[Answer::ServeEach(most)])?;
             assert!(rt; !writes_always(&rt, rt.alloc(), row, script.as_slice())?);
             let mut met = true;
-            for _ in 0..64 {
+            for _ in 0..128 {
                 script.push(Answer::Fail(ErrorKind::Other))?;
                 met = writes_always(&rt, rt.alloc(), row, script.as_slice())?;
                 if !met {
@@ -184,6 +221,75 @@ fn sends_where_there_is_no_room(rt: HostRuntime) -> Result<(), Fail> {
     Ok(())
 }
 
+// Which trailers are refused behind a chunk of five bytes in a buffer of 26, and at which line where that is why.
+#[test]
+fn refuses_trailers(rt: HostRuntime) -> Result<(), Fail> {
+    let longest: [&[u8]; 1] = [b"0123456789abcdef012"];
+    let rows: [(&[&[u8]], Option<usize>); 10] = [
+        (&[b""], Some(0)),
+        (&[b"A: b", b""], Some(1)),
+        (&[b"A: b\r\nC: d"], Some(0)),
+        (&[b"A: b\n"], Some(0)),
+        (&[b"\rA: b"], Some(0)),
+        (&[b"A: b", b"\n", b"\r"], Some(1)),
+        (&[b"A: b", b"C: d", b"E\rf"], Some(2)),
+        (&[b"0123456789abcdef0123"], None),
+        (&[b"0123456789abcdef0", b"A"], None),
+        (&[b"0123456789abcdef0123", b""], Some(1)),
+    ];
+    for (fields, index) in rows {
+        let mut body = body(rt.alloc(), 26, &[])?;
+        assert_eq!(rt; write(&mut body, b"hello")?, 5);
+        let Err(FinishError(mut body, why)) = finish_with(body, fields) else {
+            panic!(rt; "{fields:?} isn't refused");
+        };
+        match (&why, index) {
+            (TrailersError::NoField(at), Some(index)) => assert_eq!(rt; *at, index),
+            (TrailersError::TooLong, None) => (),
+            _ => panic!(rt; "{fields:?} is refused: {why}"),
+        }
+        assert_eq!(rt; taken(inner(&body)).len(), 0);
+        assert_eq!(rt; write(&mut body, b"!")?, 1);
+        let (mut inner, _) = finishes_with(&rt, body, &longest)?;
+        flush(&mut inner)?;
+        assert_eq!(rt;
+            taken(&inner),
+            b"5\r\nhello\r\n1\r\n!\r\n0\r\n0123456789abcdef012\r\n\r\n".as_slice()
+        );
+    }
+    Ok(())
+}
+
+#[test]
+fn says_why_not(rt: HostRuntime) -> Result<(), Fail> {
+    let alloc = rt.alloc();
+    let stream = io::Error::from(ErrorKind::Other);
+    let of_stream = format!(in alloc; "{stream}")?;
+    for (why, want, kind) in [
+        (
+            TrailersError::NoField(7),
+            "line 7 of the trailers is empty, or holds CR or LF",
+            ErrorKind::InvalidInput,
+        ),
+        (
+            TrailersError::TooLong,
+            "the trailers don't fit into the buffer",
+            ErrorKind::InvalidInput,
+        ),
+        (
+            TrailersError::Io(stream),
+            of_stream.as_str(),
+            ErrorKind::Other,
+        ),
+    ] {
+        let failed = FinishError(7, why);
+        let said = format!(in alloc; "{failed}")?;
+        assert_eq!(rt; said.as_str(), want);
+        assert!(rt; io::Error::from(failed).kind() == kind);
+    }
+    Ok(())
+}
+
 // A payload that doesn't fit goes in by chunks of as many bytes as do.
 #[test]
 fn cuts_what_is_long(rt: HostRuntime) -> Result<(), Fail> {
@@ -232,23 +338,31 @@ fn goes_under_a_buffered_writer(rt: HostRuntime) -> Result<(), Fail> {
     Ok(())
 }
 
-// What is written in a buffer of so many bytes, with a request behind it.
-fn written(alloc: Global, capacity: usize, payload: &[u8]) -> Result<Inner, Fail> {
+// What is written in a buffer of so many bytes, and then these trailers, with a request behind the body.
+fn written(
+    rt: &impl Abort,
+    alloc: Global,
+    capacity: usize,
+    payload: &[u8],
+    fields: &[&[u8]],
+) -> Result<Inner, Fail> {
     let mut body = body(alloc, capacity, &[])?;
     write_all(&mut body, payload)?;
-    let (mut inner, _) = finishes(body)?;
+    let (mut inner, _) = finishes_with(rt, body, fields)?;
     write_all(&mut inner, b"GET")?;
     flush(&mut inner)?;
     Ok(inner)
 }
 
-// A reader of what is given so many bytes at most a read.
-fn reading(alloc: Global, bytes: &[u8], most: usize) -> Result<ChunkedReader<Source>, Fail> {
-    let limits = Limits {
-        line: 16,
-        trailers: 0,
-    };
-    match BufReader::new(alloc, source(alloc, bytes, &[Answer::ServeEach(most)])?) {
+// A reader of what is given as the script cuts it, whose trailers have so many bytes at most.
+fn reading(
+    alloc: Global,
+    bytes: &[u8],
+    trailers: usize,
+    script: &[Answer],
+) -> Result<ChunkedReader<Source>, Fail> {
+    let limits = Limits { line: 16, trailers };
+    match BufReader::new(alloc, source(alloc, bytes, script)?) {
         Ok(reader) => Ok(ChunkedReader::new(reader, limits)),
         Err(MakeError(_, e)) => Err(e.into()),
     }
@@ -258,26 +372,58 @@ fn inner_of(body: ChunkedReader<Source>) -> BufReader<Source> {
     body.into_inner()
 }
 
-// What is written in a buffer of so many bytes is read again, so many bytes at most a read.
-fn comes_back(rt: &impl Abort, alloc: Global, capacity: usize, most: usize) -> Result<(), Fail> {
+// What is written in a buffer of so many bytes, and then these trailers, is read again as the script cuts it. Returns how many
+// bytes the body has.
+fn comes_back(
+    rt: &impl Abort,
+    alloc: Global,
+    capacity: usize,
+    fields: &[&[u8]],
+    script: &[Answer],
+) -> Result<usize, Fail> {
     let payload =
         b"No byte is lost, errors come only from the stream, and an empty answer only with its reason.";
-    let inner = written(alloc, capacity, payload)?;
-    let mut back = reading(alloc, taken(&inner), most)?;
+    let inner = written(rt, alloc, capacity, payload, fields)?;
+    let most = fields.iter().map(|field| field.len()).sum();
+    let mut back = reading(alloc, taken(&inner), most, script)?;
     let mut read = Vec::new(alloc);
     read_to_end(&mut back, &mut read)?;
     assert_eq!(rt; read.as_slice(), payload.as_slice());
+    let count = back.taken() as usize;
     let mut rest = Vec::new(alloc);
     read_to_end(&mut inner_of(back), &mut rest)?;
     assert_eq!(rt; rest.as_slice(), b"GET".as_slice());
-    Ok(())
+    Ok(count)
 }
+
+// Trailers, each longer than that before.
+const TRAILERS: [&[&[u8]]; 3] = [&[], &[b"A: b"], &[b"A", b"B: c", b"d"]];
 
 #[test]
 fn is_read_again(rt: HostRuntime) -> Result<(), Fail> {
-    for capacity in [21, 22, 37, 64, 8192] {
+    for (fields, capacity) in [
+        (TRAILERS[0], 21),
+        (TRAILERS[1], 21),
+        (TRAILERS[2], 22),
+        (TRAILERS[0], 37),
+        (TRAILERS[1], 64),
+        (TRAILERS[2], 8192),
+    ] {
         for most in [1, 2, 7, usize::MAX] {
-            comes_back(&rt, rt.alloc(), capacity, most)?;
+            let script = [Answer::ServeEach(most)];
+            comes_back(&rt, rt.alloc(), capacity, fields, &script)?;
+        }
+    }
+    Ok(())
+}
+
+// The first read gives so many bytes, up to each place in the body.
+#[test]
+fn is_read_again_wherever_it_is_cut(rt: HostRuntime) -> Result<(), Fail> {
+    for fields in TRAILERS {
+        let count = comes_back(&rt, rt.alloc(), 64, fields, &[])?;
+        for cut in 1..count {
+            comes_back(&rt, rt.alloc(), 64, fields, &[Answer::Serve(cut)])?;
         }
     }
     Ok(())

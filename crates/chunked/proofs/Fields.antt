@@ -1,0 +1,117 @@
+-- The lines of trailers, as far as they were looked at or copied in.
+use Rattle.std.proofs.Common.{◌≡◌, ℕ, ◌+◌, ◌<◌, ◌≤◌, List, [], ◌∷◌, ◌++◌, length, take, get_or, slice_index_or, Bor, sym, ap, subst, ◌∙◌, arith, refl, append_assoc, append-nil, length-append, take_all}
+use Rattle.std.proofs.lemmas.List.{get_or-map, length-map, take_more}
+use Rattle.std.proofs.lemmas.List.Concat.{flat_map-append}
+use Rattle.std.proofs.lemmas.List.Folds.{length-flat_map-take}
+use Rattle.std.specs.List.{AllByRecursion, flat_map}
+use Rattle.buffer_redux.specs.Buffered.{Buffered}
+use Rattle.buffer_redux.specs.declared.policy.StdPolicy.{StdPolicy}
+use Rattle.chunked.specs.Body.{IsField, fields_bytes, line_end}
+use Rattle.chunked.specs.Chunk.{body_end}
+use Rattle.chunked.specs.Chunking.{PutsIn}
+use Rattle.chunked.specs.ChunkingLaws.{PutsIn-joins}
+use Rattle.chunked.specs.Trailers.{lines_of}
+
+-- a line with its end
+abbrev pub ended : List ℕ → List ℕ
+ended field = field ++ line_end []
+
+-- the last chunk, and then these lines
+abbrev pub front : List (List ℕ) → List ℕ
+front fields = 48 ∷ line_end (flat_map ended fields)
+
+ended_lines : (fields : List (List ℕ)) → fields_bytes fields ≡ flat_map ended fields ++ line_end []
+ended_lines [] = refl
+ended_lines (f ∷ fields) =
+    ap (λ l. f ++ line_end l) (ended_lines fields)
+    ∙ sym (append_assoc f (line_end []) (flat_map ended fields ++ line_end []))
+    ∙ sym (append_assoc (ended f) (flat_map ended fields) (line_end []))
+
+-- an empty line ends them
+pub front_ended : (fields : List (List ℕ)) → front fields ++ line_end [] ≡ body_end fields
+front_ended fields = ap (λ l. 48 ∷ line_end l) (sym (ended_lines fields))
+
+pub front_len : (fields : List (List ℕ)) → length (body_end fields) ≡ length (front fields) + 2
+front_len fields = ap length (sym (front_ended fields)) ∙ length-append (front fields) (line_end [])
+
+-- one line more
+pub front_more : (fields : List (List ℕ)) (i : ℕ) → i < length fields
+    → front (take (i + 1) fields) ≡ (front (take i fields) ++ get_or fields i []) ++ line_end []
+front_more fields i within =
+    ap front (take_more fields i [] within)
+    ∙ ap (λ l. 48 ∷ line_end l) (flat_map-append ended (take i fields) (get_or fields i [] ∷ [])
+    ∙ ap (λ l. flat_map ended (take i fields) ++ l) (append-nil (ended (get_or fields i []))))
+    ∙ sym (append_assoc (front (take i fields)) (get_or fields i []) (line_end []))
+
+pub front_more_len : (fields : List (List ℕ)) (i : ℕ) → i < length fields
+    → length (front (take (i + 1) fields)) ≡ length (front (take i fields)) + length (get_or fields i []) + 2
+front_more_len fields i within =
+    ap length (front_more fields i within)
+    ∙ length-append (front (take i fields) ++ get_or fields i []) (line_end [])
+    ∙ ap (λ n. n + 2) (length-append (front (take i fields)) (get_or fields i []))
+
+-- for which there is room behind the lines in front, and then for the empty line
+pub front_fits : (fields : List (List ℕ)) (i : ℕ) → i < length fields
+    → length (front (take i fields)) + length (get_or fields i []) + 4 ≤ length (body_end fields)
+front_fits fields i within =
+    omega (arith, front_len fields, length-flat_map-take ended fields i [] within,
+    length-append (get_or fields i []) (line_end []))
+
+-- each of them is a line
+one_more : (fields : List (List ℕ)) (field : List ℕ) → AllByRecursion IsField fields → IsField field
+    → AllByRecursion IsField (fields ++ field ∷ [])
+one_more [] field all is = (is, tt)
+one_more (f ∷ fields) field all is = (all.0, one_more fields field all.1 is)
+
+pub lines_more : (fields : List (List ℕ)) (i : ℕ) → i < length fields → AllByRecursion IsField (take i fields)
+    → IsField (get_or fields i []) → AllByRecursion IsField (take (i + 1) fields)
+lines_more fields i within all is =
+    subst (AllByRecursion IsField) (sym (take_more fields i [] within)) (one_more (take i fields) (get_or fields i []) all is)
+
+-- the line of an index, in a slice of slices
+pub line_at : (fields : List (Bor (List ℕ))) (i : ℕ) → i < length fields
+    → (slice_index_or fields i (record { ref_ptr = (0, 0); now = [] })).now ≡ get_or (lines_of fields) i []
+line_at fields i within = sym (get_or-map (λ f. f.now) fields i (record { ref_ptr = (0, 0); now = [] }) [] within)
+
+pub inside : (fields : List (Bor (List ℕ))) (i : ℕ) → i < length fields → i < length (lines_of fields)
+inside fields i within = omega (arith, within, length-map fields (λ f. f.now))
+
+pub all_lines : (fields : List (Bor (List ℕ))) (i : ℕ) → length fields ≤ i → take i (lines_of fields) ≡ lines_of fields
+all_lines fields i past = take_all i (lines_of fields) (omega (arith, past, length-map fields (λ f. f.now)))
+
+-- a line and its end stand behind the lines in front
+line_behind : (fields : List (List ℕ)) (i : ℕ) (line : List ℕ) → i < length fields → line ≡ get_or fields i []
+    → (front (take i fields) ++ line) ++ line_end [] ≡ front (take (i + 1) fields)
+line_behind fields i line within is =
+    ap (λ l. (front (take i fields) ++ l) ++ line_end []) is ∙ sym (front_more fields i within)
+
+pub noted : (start w t behind : List ℕ) (so_far all : List ℕ) → w ≡ start ++ so_far → t ≡ w ++ behind
+    → so_far ++ behind ≡ all → t ≡ start ++ all
+noted start w t behind so_far all was is same =
+    is ∙ ap (λ l. l ++ behind) was ∙ append_assoc start so_far behind ∙ ap (λ l. start ++ l) same
+
+pub line_noted : (start w m t : List ℕ) (fields : List (List ℕ)) (i : ℕ) (line : List ℕ) → i < length fields
+    → line ≡ get_or fields i [] → w ≡ start ++ front (take i fields) → m ≡ w ++ line → t ≡ m ++ line_end []
+    → t ≡ start ++ front (take (i + 1) fields)
+line_noted start w m t fields i line within is was put ends =
+    noted start m t (line_end []) (front (take i fields) ++ line) (front (take (i + 1) fields))
+    (noted start w m line (front (take i fields)) (front (take i fields) ++ line) was put refl) ends
+    (line_behind fields i line within is)
+
+module _ {S : Type 0} (stretch : S → S → Type 0) (none : (x : S) → stretch x x)
+    (joins : (a b c : S) → stretch a b → stretch b c → stretch a c) where
+  -- they were copied in
+  pub line_in : (s m n t : Buffered S StdPolicy) (fields : List (List ℕ)) (i : ℕ) (line : List ℕ) → i < length fields
+      → line ≡ get_or fields i [] → PutsIn stretch s (front (take i fields)) m → PutsIn stretch m line n
+      → PutsIn stretch n (line_end []) t → PutsIn stretch s (front (take (i + 1) fields)) t
+  line_in s m n t fields i line within is so_far puts ends =
+      subst (λ l. PutsIn stretch s l t) (line_behind fields i line within is)
+      (PutsIn-joins stretch none joins s n t (front (take i fields) ++ line) (line_end [])
+      (PutsIn-joins stretch none joins s m n (front (take i fields)) line so_far puts) ends)
+
+  -- and the empty line behind all of them
+  pub end_in : (s m t : Buffered S StdPolicy) (fields so_far : List (List ℕ)) → so_far ≡ fields
+      → PutsIn stretch s (front so_far) m → PutsIn stretch m (line_end []) t → PutsIn stretch s (body_end fields) t
+  end_in s m t fields so_far all puts ends =
+      subst (λ l. PutsIn stretch s l t) (ap (λ l. front l ++ line_end []) all ∙ front_ended fields)
+      (PutsIn-joins stretch none joins s m t (front so_far) (line_end []) puts ends)

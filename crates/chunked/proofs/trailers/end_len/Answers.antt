@@ -1,0 +1,46 @@
+use Rattle.std.proofs.Common.{length, ap, subst, arith, rules}
+use Rattle.std.specs.List.{AllByRecursion}
+use Rattle.chunked.specs.Body.{IsField}
+use Rattle.chunked.specs.Trailers.{lines_of}
+use Rattle.chunked.proofs.Fields.{all_lines, front, front_len, front_more_len, inside, line_at, lines_more}
+use Rattle.chunked.proofs.trailers.end_len.Goals as goal
+
+pub loop-i-preserved : goal.loop-i-preserved
+loop-i-preserved c =
+    let before = c.loop-i.invariant in
+    let fields = c.args.fields.now in
+    let i = c.loop-i.i in
+    let within = c.loop-i-test.true in
+    let there = inside fields i within in
+    let is = line_at fields i within in
+    record {
+      lines = lines_more (lines_of fields) i there before.lines (subst IsField is (search rules));
+      counted = omega (arith, before.counted, c.saturating_add.ensures, c.saturating_add-len.ensures,
+          front_more_len (lines_of fields) i there, ap length is);
+    }
+
+pub returns-then-len-capacity-clause-cannot : goal.returns-then-len-capacity-clause-cannot
+returns-then-len-capacity-clause-cannot c =
+    let fields = c.args.fields.now in
+    let all = all_lines fields c.loop-i.i c.loop-i-test.false in (
+      subst (AllByRecursion IsField) all c.loop-i.invariant.lines,
+      omega (arith, c.if-len-capacity.true, c.loop-i.invariant.counted, front_len (lines_of fields),
+      ap (λ l. length (front l)) all),
+    )
+
+pub returns-clause-can : goal.returns-clause-can
+returns-clause-can c =
+    let fields = c.args.fields.now in
+    let all = all_lines fields c.loop-i.i c.loop-i-test.false in
+    record {
+      lines = subst (AllByRecursion IsField) all c.loop-i.invariant.lines;
+      fits = omega (arith, c.requires, c.if-len-capacity.false, c.loop-i.invariant.counted, front_len (lines_of fields),
+          ap (λ l. length (front l)) all);
+    }
+
+pub returns-clause-len : goal.returns-clause-len
+returns-clause-len c =
+    let fields = c.args.fields.now in
+    let all = all_lines fields c.loop-i.i c.loop-i-test.false in
+    omega (arith, c.requires, c.if-len-capacity.false, c.loop-i.invariant.counted, front_len (lines_of fields),
+    ap (λ l. length (front l)) all)

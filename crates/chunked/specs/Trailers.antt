@@ -1,0 +1,53 @@
+-- What a writer of a body is given as trailers, and what it does with them.
+use Rattle.std.specs.Prelude.{◌≡◌, ℕ, ◌<◌, ◌≤◌, List, [], length, map, take, get_or}
+use Rattle.std.specs.Borrow.{Bor}
+use Rattle.std.specs.IoError.{error_kind}
+use Rattle.std.specs.List.{AllByRecursion}
+use Rattle.std.specs.declared.io.Error.{Error}
+use Rattle.std.specs.declared.io.ErrorKind.TheVariants.{InvalidInput}
+use Rattle.buffer_redux.specs.StreamLog.{StreamLog}
+use Rattle.chunked.specs.declared.error.TrailersError.{TrailersError}
+use Rattle.chunked.specs.declared.error.TrailersError.TheVariants.{NoField, TooLong, Io}
+use Rattle.chunked.specs.Body.{IsField}
+use Rattle.chunked.specs.Chunk.{body_end}
+use Rattle.chunked.specs.Chunking.{Chunking, IsChunking, NotFinished}
+
+-- the lines in a slice of slices
+abbrev pub lines_of : List (Bor (List ℕ)) → List (List ℕ)
+lines_of fields = map (λ f. f.now) fields
+
+-- the line of this index is the first that is none of trailers
+pub record IsFirstWrong (fields : List (List ℕ)) (index : ℕ) : Type 0 where
+  pub within : index < length fields
+  pub before : AllByRecursion IsField (take index fields)
+  pub wrong : ¬ IsField (get_or fields index [])
+
+-- the end of a body with these trailers goes into a buffer of this capacity
+pub record CanEnd (fields : List (List ℕ)) (capacity : ℕ) : Type 0 where
+  pub lines : AllByRecursion IsField fields
+  pub fits : length (body_end fields) ≤ capacity
+
+-- why it can't
+abbrev pub CannotEnd : List (List ℕ) → ℕ → TrailersError → Type 0
+CannotEnd fields capacity (NoField index) = IsFirstWrong fields index
+CannotEnd fields capacity TooLong = AllByRecursion IsField fields × (capacity < length (body_end fields))
+CannotEnd fields capacity (Io e) = ⊥
+
+-- the writer is as it was, and trailers that can't go into its buffer are why
+pub record Refuses {S : Type 0} (s : Chunking S) (fields : List (List ℕ)) (why : TrailersError) (t : Chunking S) : Type 0 where
+  pub cannot : CannotEnd fields s.writer.block.capacity why
+  pub same : t ≡ s
+  pub whole : IsChunking t
+
+-- what stands after an `Err` of finishing with trailers, one line for each
+abbrev pub NotEnded : {S : Type 0} → (S → StreamLog) → (S → S → Type 0) → Chunking S → List (List ℕ) → TrailersError
+    → Chunking S → Type 0
+NotEnded tells stretch s fields (NoField index) t = Refuses s fields (NoField index) t
+NotEnded tells stretch s fields TooLong t = Refuses s fields TooLong t
+NotEnded tells stretch s fields (Io e) t = CanEnd fields s.writer.block.capacity × NotFinished tells stretch s fields e t
+
+-- the same as an error of std's streams
+abbrev pub EndsAsIo : TrailersError → Error → Type 0
+EndsAsIo (NoField index) e = error_kind e ≡ InvalidInput
+EndsAsIo TooLong e = error_kind e ≡ InvalidInput
+EndsAsIo (Io same) e = e ≡ same

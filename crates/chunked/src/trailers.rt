@@ -1,0 +1,60 @@
+//! The end of a body: the last chunk and the trailers, and how it goes into a buffered writer.
+ghost use Rattle.std.specs.Prelude.{◌≡◌, ◌↔◌, ◌^◌, ◌<◌, ◌≤◌, ◌++◌, length, IsTrue, IfOk, IfErr};
+ghost use Rattle.chunked.specs.Body.{IsField};
+ghost use Rattle.chunked.specs.Chunk.{body_end};
+ghost use Rattle.chunked.specs.Chunking.{PutsIn, room};
+ghost use Rattle.chunked.specs.Trailers.{CanEnd, CannotEnd, lines_of};
+
+use crate::chunk::put;
+use crate::error::TrailersError;
+use buffer_redux::BufWriter;
+use buffer_redux::tell::{CallLog, TellWrite};
+use memchr::memchr2;
+
+/// How many bytes the end of a body has where there are no trailers.
+pub const BARE_END: usize = 5;
+
+// Whether this is a line of trailers.
+fn is_field(line: &[u8]) -> bool
+    ensures { IsTrue result ↔ IsField line.now }
+{
+    match memchr2(b'\r', b'\n', line) {
+        Some(_) => false,
+        None => !line.is_empty(),
+    }
+}
+
+/// How many bytes the end of a body with these trailers has, if it goes into a buffer of so many.
+pub fn end_len(fields: &[&[u8]], capacity: usize) -> Result<usize, TrailersError>
+    requires { capacity < 2 ^ 63 }
+    ensures can { IfOk result (λ n. CanEnd (lines_of fields.now) capacity) }
+    ensures len { IfOk result (λ n. n ≡ length (body_end (lines_of fields.now))) }
+    ensures cannot { IfErr result (CannotEnd (lines_of fields.now) capacity) }
+{
+    let mut len = BARE_END;
+    for (i, field) in fields.iter().enumerate() {
+        if !is_field(field) {
+            return Err(TrailersError::NoField(i));
+        }
+        len = len.saturating_add(field.len()).saturating_add(2);
+    }
+    if len > capacity {
+        return Err(TrailersError::TooLong);
+    }
+    Ok(len)
+}
+
+/// Copies the end of a body with these trailers in, for which there is room, and notes it.
+pub fn put_end<W: TellWrite>(writer: &mut BufWriter<W>, wire: &mut CallLog, fields: &[&[u8]])
+    requires room { length (body_end (lines_of fields.now)) ≤ room writer.old }
+    ensures put { PutsIn W.stretch writer.old (body_end (lines_of fields.now)) writer.new }
+    ensures wire { wire.new.log.writes.received ≡ wire.old.log.writes.received ++ body_end (lines_of fields.now) }
+{
+    writer.make_room();
+    put(writer, wire, b"0\r\n");
+    for field in fields {
+        put(writer, wire, field);
+        put(writer, wire, b"\r\n");
+    }
+    put(writer, wire, b"\r\n");
+}
