@@ -6,6 +6,7 @@ ghost use Rattle.std.specs.Prelude.{◌≡◌, take, IfOk};
 mod calls;
 pub mod claims;
 pub mod constant;
+mod fixtures;
 mod looks;
 mod makers;
 pub mod policies;
@@ -15,6 +16,7 @@ mod texts;
 pub use crate::calls::{
     consume, fill_buf, flush, kind, read, read_exact, read_to_end, seek, write, write_all,
 };
+pub use crate::fixtures::{first, holding_in, numbered};
 pub use crate::looks::{asked, flushes, offered, taken, taken_lines};
 pub use crate::makers::{
     Source, Target, line_writer, reader, reader_under, source, target, writer, writer_under,

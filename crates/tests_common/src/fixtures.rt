@@ -1,0 +1,30 @@
+//! Buffers and bytes to begin with.
+use crate::empty;
+use redux_buffer::{Buffer, GrowError};
+use std::alloc::{AllocError, Global};
+
+/// A buffer of this kind that holds the first of these bytes, as many as fit.
+pub fn holding_in(
+    alloc: Global,
+    is_ring: bool,
+    capacity: usize,
+    bytes: &[u8],
+) -> Result<Buffer, GrowError> {
+    let mut buf = empty(alloc, is_ring, capacity)?;
+    let _ = buf.copy_from_slice(bytes);
+    Ok(buf)
+}
+
+/// So many different bytes, again and again from the first.
+pub fn numbered(alloc: Global, count: usize) -> Result<Vec<u8>, AllocError> {
+    let mut bytes = Vec::new(alloc);
+    for i in 0..count {
+        bytes.push((i % 251) as u8)?;
+    }
+    Ok(bytes)
+}
+
+/// So many of the bytes, or all.
+pub fn first(bytes: &[u8], count: usize) -> &[u8] {
+    bytes.get(..count).unwrap_or(bytes)
+}
