@@ -1,19 +1,21 @@
 //! Copies from a reader to a writer, one of them over a stream that goes wrong, asked for again where they fail.
+use crate::calls::copy;
+use crate::notes::{Source, Target, taken};
 use crate::policies::{ReaderRule, WriterRule};
-use crate::streams::{Hostile, calls, faults, hostile, inside};
-use crate::sweep::{
-    Case, Fault, Outcome, first, holding, loses_nothing_by, numbered, tells_of_one,
-};
-use buffer_redux::script::{Answer, ScriptReader, ScriptWriter};
-use buffer_redux::{BufReader, BufWriter, copy_buf};
-use std::alloc::Global;
+use crate::streams::{calls, faults, hostile, inside};
+use crate::sweep::{Case, Fault, Outcome, loses_nothing, loss};
+use crate::writers::target;
+use buffer_redux::script::{Answer, ScriptReader};
+use buffer_redux::{BufReader, BufWriter};
+use std::alloc::{AllocError, Global};
 use std::io::ErrorKind;
 use std::process::Abort;
 use std::test::Fail;
+use tests_common::{first, holding_in, numbered};
 
-type Reader = BufReader<Hostile<ScriptReader>, ReaderRule>;
+type Reader = BufReader<Source, ReaderRule>;
 
-type Writer = BufWriter<Hostile<ScriptWriter>, WriterRule>;
+type Writer = BufWriter<Target, WriterRule>;
 
 // How many bytes the source gives by which script, and the script of the target.
 type Row = (usize, &'static [Answer], &'static [Answer]);
@@ -68,34 +70,56 @@ struct Copied<'a> {
 
 impl Case for Copied<'_> {
     fn run(&self, alloc: Global, fault: Fault) -> Result<Outcome, Fail> {
-        let (mut from, mut to) = if self.at_target {
-            (self.source(alloc, Fault::NONE)?, self.target(alloc, fault)?)
+        let (read, written) = if self.at_target {
+            (Fault::NONE, fault)
         } else {
-            (self.source(alloc, fault)?, self.target(alloc, Fault::NONE)?)
+            (fault, Fault::NONE)
         };
+        let from = self.source(alloc, read)?;
+        let to = self.target(alloc, written)?;
+        Ok(self.copied(alloc, from, to)?)
+    }
+}
+
+impl Copied<'_> {
+    fn source(&self, alloc: Global, fault: Fault) -> Result<Reader, Fail> {
+        let stream = ScriptReader::new(alloc, self.bytes, self.row.1)?;
+        let buf = holding_in(alloc, self.ring, 4, &[])?;
+        let rdr = BufReader::with_buffer(buf, hostile(alloc, stream, fault));
+        Ok(rdr.set_policy(self.rules.0))
+    }
+
+    fn target(&self, alloc: Global, fault: Fault) -> Result<Writer, Fail> {
+        let stream = target(alloc, self.row.2, &[], fault)?;
+        let buf = holding_in(alloc, self.ring, 3, &[])?;
+        Ok(BufWriter::with_buffer(buf, stream).set_policy(self.rules.1))
+    }
+
+    fn copied(
+        &self,
+        alloc: Global,
+        mut from: Reader,
+        mut to: Writer,
+    ) -> Result<Outcome, AllocError> {
         let mut returned = Vec::new(alloc);
         let mut caused = Vec::new(alloc);
         for _ in 0..COPIES {
-            let before = (faults(from.get_ref()).len(), faults(to.get_ref()).len());
-            if let Err(e) = copy_buf(&mut from, &mut to) {
-                returned.push(e.kind())?;
-                let read = last(faults(from.get_ref()), before.0);
-                let written = last(faults(to.get_ref()), before.1);
-                caused.push(either(e.kind(), read, written))?;
+            if let Some((kind, cause)) = fault_of_copy(&mut from, &mut to) {
+                returned.push(kind)?;
+                caused.push(cause)?;
             }
         }
         let (target, unsent) = to.into_inner_with_buffer();
         let (source, unread) = from.into_inner_with_buffer();
-        let mut joined = Vec::from_slice(alloc, inside(&target).taken())?;
+        let mut joined = Vec::from_slice(alloc, taken(&target))?;
         joined.extend_from_slice(unsent.buf())?;
         joined.extend_from_slice(unread.buf())?;
-        let calls = if self.at_target {
-            calls(&target)
-        } else {
-            calls(&source)
-        };
         Ok(Outcome {
-            calls,
+            calls: if self.at_target {
+                calls(&target)
+            } else {
+                calls(&source)
+            },
             joined,
             whole: Vec::from_slice(alloc, first(self.bytes, inside(&source).served()))?,
             returned,
@@ -104,20 +128,16 @@ impl Case for Copied<'_> {
     }
 }
 
-impl Copied<'_> {
-    fn source(&self, alloc: Global, fault: Fault) -> Result<Reader, Fail> {
-        let stream = ScriptReader::new(alloc, self.bytes, self.row.1)?;
-        let buf = holding(alloc, self.ring, 4, &[])?;
-        let rdr = BufReader::with_buffer(buf, hostile(alloc, stream, fault));
-        Ok(rdr.set_policy(self.rules.0))
-    }
-
-    fn target(&self, alloc: Global, fault: Fault) -> Result<Writer, Fail> {
-        let stream = ScriptWriter::new(alloc, self.row.2)?;
-        let buf = holding(alloc, self.ring, 3, &[])?;
-        let wrt = BufWriter::with_buffer(buf, hostile(alloc, stream, fault));
-        Ok(wrt.set_policy(self.rules.1))
-    }
+// The kind of the error of a copy, and where the source or the target returned it last, the same kind. Else another.
+fn fault_of_copy(from: &mut Reader, to: &mut Writer) -> Option<(ErrorKind, ErrorKind)> {
+    let before = (faults(from.get_ref()).len(), faults(to.get_ref()).len());
+    let Err(e) = copy(from, to) else {
+        return None;
+    };
+    let kind = e.kind();
+    let read = last(faults(from.get_ref()), before.0);
+    let written = last(faults(to.get_ref()), before.1);
+    Some((kind, either(kind, read, written)))
 }
 
 // The last of the kinds, but of the first ones.
@@ -146,7 +166,7 @@ fn sweeps(rt: &(impl Abort + AllocGlobal), answer: Answer) -> Result<(), Fail> {
                     rules,
                     at_target,
                 };
-                loses_nothing_by(rt, rt.alloc(), &case, "a copy", answer)?;
+                loses_nothing(rt, rt.alloc(), &case, "a copy", &[answer])?;
             }
         }
     }
@@ -188,7 +208,7 @@ fn tell_what_is_lost(rt: HostRuntime) -> Result<(), Fail> {
             rules: (ReaderRule::Restless, WriterRule::Restless),
             at_target,
         };
-        assert!(rt; tells_of_one(&rt, rt.alloc(), &case)?);
+        assert!(rt; loss(&rt, rt.alloc(), &case)?.lacks_one());
     }
     Ok(())
 }

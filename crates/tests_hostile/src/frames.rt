@@ -1,12 +1,13 @@
 //! Frames, read from and written to a stream that goes wrong.
-use crate::streams::{Hostile, calls, faults, hostile, inside};
-use crate::sweep::{Case, Fault, Loss, Outcome, first, first_loss, loses_nothing};
-use crate::writers::Notes;
+use crate::notes::{Notes, Source, Target, kind_of};
+use crate::streams::{faults, hostile};
+use crate::sweep::{ANSWERS, Case, Fault, Outcome, loses_nothing, loss};
+use crate::writers::target;
 use buffer_redux::MakeError;
-use buffer_redux::script::{Answer, ScriptReader, ScriptWriter};
+use buffer_redux::script::{Answer, ScriptReader};
 use frame_reader::{FrameError, FrameReader, FrameWriter, WriteFrameError};
 use std::alloc::{AllocError, Global};
-use std::io::ErrorKind;
+use std::io;
 use std::test::Fail;
 
 // The greatest length of a payload, and the bytes of a stream.
@@ -46,34 +47,36 @@ impl Case for Reads {
     fn run(&self, alloc: Global, fault: Fault) -> Result<Outcome, Fail> {
         let script = [Answer::ServeEach(self.most)];
         let source = ScriptReader::new(alloc, self.bytes, &script)?;
-        let mut frames = match FrameReader::with_capacity(
-            alloc,
-            0,
-            hostile(alloc, source, fault),
-            self.max,
-        ) {
-            Ok(frames) => frames,
-            Err(MakeError(_, e)) => return Err(e.into()),
-        };
-        let mut joined = Vec::new(alloc);
-        let mut returned = Vec::new(alloc);
-        for _ in 0..FRAMES {
-            match frames.next() {
-                Ok(Some(payload)) => put(&mut joined, payload)?,
-                Err(FrameError::Io(e)) => returned.push(e.kind())?,
-                _ => {}
-            }
+        let frames = FrameReader::with_capacity(alloc, 0, hostile(alloc, source, fault), self.max);
+        match frames {
+            Ok(frames) => Ok(frames_read(alloc, frames, self.bytes)?),
+            Err(MakeError(_, e)) => Err(e.into()),
         }
-        joined.extend_from_slice(frames.rest())?;
-        let source = frames.get_ref();
-        Ok(Outcome {
-            calls: calls(source),
-            joined,
-            whole: Vec::from_slice(alloc, first(self.bytes, inside(source).served()))?,
-            returned,
-            caused: Vec::from_slice(alloc, faults(source))?,
-        })
     }
+}
+
+fn frames_read(
+    alloc: Global,
+    mut frames: FrameReader<Source>,
+    bytes: &[u8],
+) -> Result<Outcome, AllocError> {
+    let mut notes = Notes::new(alloc, &[])?;
+    for _ in 0..FRAMES {
+        match next(&mut frames) {
+            Ok(Some(payload)) => put(&mut notes.bytes, payload)?,
+            Err(FrameError::Io(e)) => notes.returned.push(e.kind())?,
+            _ => {}
+        }
+    }
+    notes.bytes.extend_from_slice(frames.rest())?;
+    let source = frames.get_ref();
+    notes.caused.extend_from_slice(faults(source))?;
+    notes.of_reads(alloc, source, bytes, 0)
+}
+
+// The next frame, with no promise, as the calls in the module `calls`.
+fn next(frames: &mut FrameReader<Source>) -> Result<Option<&[u8]>, FrameError> {
+    frames.next()
 }
 
 // The greatest length of a payload, and the payloads, of which too long ones are refused.
@@ -90,59 +93,54 @@ struct Writes {
     most: usize,
 }
 
-type Target = Hostile<ScriptWriter>;
-
 impl Case for Writes {
     fn run(&self, alloc: Global, fault: Fault) -> Result<Outcome, Fail> {
         let script = [Answer::ServeEach(self.most)];
-        let target = hostile(alloc, ScriptWriter::new(alloc, &script)?, fault);
-        let mut frames = match FrameWriter::with_capacity(alloc, 0, target, self.max) {
-            Ok(frames) => frames,
-            Err(MakeError(_, e)) => return Err(e.into()),
-        };
-        let mut notes = Notes::new(alloc, &[])?;
-        for payload in self.payloads {
-            write(&mut frames, &mut notes, payload)?;
+        let target = target(alloc, &script, &[], fault)?;
+        match FrameWriter::with_capacity(alloc, 0, target, self.max) {
+            Ok(frames) => Ok(frames_written(alloc, frames, self.payloads)?),
+            Err(MakeError(_, e)) => Err(e.into()),
         }
-        let before = faults(frames.get_ref()).len();
-        let kind = frames.flush().err().map(|e| e.kind());
-        notes.note(kind, faults(frames.get_ref()), before)?;
-        let (target, left) = frames.into_inner_with_buffer();
-        let mut joined = Vec::from_slice(alloc, inside(&target).taken())?;
-        joined.extend_from_slice(left.buf())?;
-        Ok(Outcome {
-            calls: calls(&target),
-            joined,
-            whole: notes.accepted,
-            returned: notes.returned,
-            caused: notes.caused,
-        })
     }
 }
 
-fn write(frames: &mut FrameWriter<Target>, notes: &mut Notes, payload: &[u8]) -> Result<(), Fail> {
-    let before = faults(frames.get_ref()).len();
-    let kind = match frames.write_frame(payload) {
-        Ok(()) => {
-            put(&mut notes.accepted, payload)?;
-            None
-        }
-        Err(WriteFrameError::Io(e)) => Some(e.kind()),
-        Err(WriteFrameError::TooLong(_)) => None,
-    };
-    notes.note(kind, faults(frames.get_ref()), before)
+fn frames_written(
+    alloc: Global,
+    mut frames: FrameWriter<Target>,
+    payloads: &[&[u8]],
+) -> Result<Outcome, AllocError> {
+    let mut notes = Notes::new(alloc, &[])?;
+    for payload in payloads {
+        let kind = match write(&mut frames, payload) {
+            Ok(()) => {
+                put(&mut notes.bytes, payload)?;
+                None
+            }
+            Err(WriteFrameError::Io(e)) => Some(e.kind()),
+            Err(WriteFrameError::TooLong(_)) => None,
+        };
+        notes.note(kind, faults(frames.get_ref()))?;
+    }
+    let kind = kind_of(flush(&mut frames));
+    notes.note(kind, faults(frames.get_ref()))?;
+    let (target, left) = frames.into_inner_with_buffer();
+    notes.of_writes(alloc, &target, left.buf())
+}
+
+fn write(frames: &mut FrameWriter<Target>, payload: &[u8]) -> Result<(), WriteFrameError> {
+    frames.write_frame(payload)
+}
+
+fn flush(frames: &mut FrameWriter<Target>) -> io::Result<()> {
+    frames.flush()
 }
 
 #[test]
 fn lose_nothing(rt: HostRuntime) -> Result<(), Fail> {
     for most in PIECES {
         for (max, bytes) in READS {
-            loses_nothing(
-                &rt,
-                rt.alloc(),
-                &Reads { max, bytes, most },
-                "frames that are read",
-            )?;
+            let case = Reads { max, bytes, most };
+            loses_nothing(&rt, rt.alloc(), &case, "frames that are read", &ANSWERS)?;
         }
         for (max, payloads) in WRITES {
             let case = Writes {
@@ -150,7 +148,7 @@ fn lose_nothing(rt: HostRuntime) -> Result<(), Fail> {
                 payloads,
                 most,
             };
-            loses_nothing(&rt, rt.alloc(), &case, "frames that are written")?;
+            loses_nothing(&rt, rt.alloc(), &case, "frames that are written", &ANSWERS)?;
         }
     }
     Ok(())
@@ -168,16 +166,11 @@ fn tell_what_is_lost(rt: HostRuntime) -> Result<(), Fail> {
         payloads: WRITES[0].1,
         most: 2,
     };
-    for loss in [
-        first_loss(&rt, rt.alloc(), &reads, true)?,
-        first_loss(&rt, rt.alloc(), &writes, true)?,
+    for outcome in [
+        loss(&rt, rt.alloc(), &reads)?,
+        loss(&rt, rt.alloc(), &writes)?,
     ] {
-        match loss {
-            None => panic!(rt; "a byte was lost, and nothing was said"),
-            Some(Loss { fault: _, outcome }) => {
-                assert!(rt; outcome.joined != outcome.whole);
-            }
-        }
+        assert!(rt; outcome.joined != outcome.whole);
     }
     Ok(())
 }

@@ -5,23 +5,19 @@
 #![tactic(auto)]
 
 #[cfg(test)]
-mod copies;
+mod calls;
 #[cfg(test)]
-mod exact;
+mod copies;
 #[cfg(test)]
 mod frames;
 #[cfg(test)]
-mod lines;
-#[cfg(test)]
-mod nested;
+mod notes;
 #[cfg(test)]
 mod policies;
 #[cfg(test)]
 mod reader_rows;
 #[cfg(test)]
 mod readers;
-#[cfg(test)]
-mod rows;
 #[cfg(test)]
 mod seeks;
 #[cfg(test)]

@@ -2,45 +2,15 @@
 //! buffered says where it comes from.
 use crate::policies::{READER_RULES, ReaderRule};
 use crate::streams::{Hostile, calls, faults, hostile, inside};
-use crate::sweep::{Case, Fault, Loss, Outcome, first_loss, holding, loses_nothing};
+use crate::sweep::{ANSWERS, Case, Fault, Outcome, loses_nothing, loss};
 use buffer_redux::BufReader;
 use buffer_redux::policy::ReaderPolicy;
-use std::alloc::Global;
+use std::alloc::{AllocError, Global};
 use std::io;
 use std::io::SeekFrom::{Current, End, Start};
-use std::io::{BufRead, ErrorKind, Read, Seek, SeekFrom};
+use std::io::{ErrorKind, SeekFrom};
 use std::test::Fail;
-
-// Places go round.
-#[derive(Drop)]
-struct Positions {
-    at: u64,
-}
-
-impl Read for Positions {
-    fn read(&mut self, buf: &mut [u8]) -> io::Result<usize> {
-        for byte in buf.iter_mut() {
-            *byte = byte_at(self.at);
-            self.at = self.at.wrapping_add(1);
-        }
-        Ok(buf.len())
-    }
-}
-
-impl Seek for Positions {
-    fn seek(&mut self, to: SeekFrom) -> io::Result<u64> {
-        self.at = match to {
-            Start(at) => at,
-            End(offset) => u64::MAX.wrapping_add_signed(offset),
-            Current(offset) => self.at.wrapping_add_signed(offset),
-        };
-        Ok(self.at)
-    }
-}
-
-fn byte_at(place: u64) -> u8 {
-    (place % 256) as u8
-}
+use tests_common::{Positions, byte_at, consume, fill_buf, first, holding_in, read, seek};
 
 type Reader = BufReader<Hostile<Positions>, ReaderRule>;
 
@@ -125,23 +95,21 @@ struct Played {
 
 impl Case for Played {
     fn run(&self, alloc: Global, fault: Fault) -> Result<Outcome, Fail> {
-        let buf = holding(alloc, self.ring, self.row.capacity, &[])?;
-        let rdr = BufReader::with_buffer(buf, hostile(alloc, Positions { at: 0 }, fault));
-        plays(alloc, rdr.set_policy(self.rule), self.row.steps)
+        let buf = holding_in(alloc, self.ring, self.row.capacity, &[])?;
+        let stream = hostile(alloc, Positions { at: 0, seeks: 0 }, fault);
+        let rdr = BufReader::with_buffer(buf, stream).set_policy(self.rule);
+        Ok(plays(alloc, rdr, self.row.steps)?)
     }
 }
 
-fn plays(alloc: Global, mut rdr: Reader, steps: &[Step]) -> Result<Outcome, Fail> {
+fn plays(alloc: Global, mut rdr: Reader, steps: &[Step]) -> Result<Outcome, AllocError> {
     let mut notes = Notes {
         seen: Vec::new(alloc),
         there: Vec::new(alloc),
         returned: Vec::new(alloc),
     };
     for step in steps {
-        let next = notes.step(&mut rdr, *step)?;
-        let from = place(&rdr);
-        notes.sees(&[byte_at(next)], from)?;
-        notes.sees(rdr.buffer(), from)?;
+        notes.step(&mut rdr, *step)?;
     }
     let (inner, _) = rdr.into_inner_with_buffer();
     Ok(Outcome {
@@ -167,38 +135,48 @@ struct Notes {
 }
 
 impl Notes {
-    // Makes a step, and returns the place that the reader stands at then: the same where it failed.
-    fn step(&mut self, rdr: &mut Reader, step: Step) -> Result<u64, Fail> {
+    // Makes a step, and looks at where the reader stands then and at what is buffered.
+    fn step(&mut self, rdr: &mut Reader, step: Step) -> Result<(), AllocError> {
         let from = place(rdr);
-        let fault = match step {
-            Step::Fill => rdr.fill_buf().err(),
+        let next = match step {
+            Step::Fill => self.fails(fill_buf(rdr).err(), from)?,
             Step::Consume(amount) => {
                 let count = amount.min(rdr.buf_len());
-                rdr.consume(amount);
-                return Ok(from.wrapping_add(count as u64));
+                consume(rdr, amount);
+                from.wrapping_add(count as u64)
             }
-            Step::Seek(to) => match rdr.seek(to) {
-                Ok(position) => return Ok(position),
-                Err(e) => Some(e),
+            Step::Seek(to) => match seek(rdr, to) {
+                Ok(position) => position,
+                Err(e) => self.fails(Some(e), from)?,
             },
-            Step::Read(room) => {
-                let mut out = [0u8; 3];
-                match rdr.read(&mut out[..room.min(3)]) {
-                    Ok(count) => {
-                        self.sees(&out[..count], from)?;
-                        return Ok(from.wrapping_add(count as u64));
-                    }
-                    Err(e) => Some(e),
-                }
-            }
+            Step::Read(room) => self.reads(rdr, room, from)?,
         };
+        let at = place(rdr);
+        self.sees(&[byte_at(next)], at)?;
+        self.sees(rdr.buffer(), at)
+    }
+
+    // Notes a read of at most three bytes, and returns the place behind them.
+    fn reads(&mut self, rdr: &mut Reader, room: usize, from: u64) -> Result<u64, AllocError> {
+        let mut out = [0u8; 3];
+        match read(rdr, &mut out[..room.min(3)]) {
+            Ok(count) => {
+                self.sees(first(&out, count), from)?;
+                Ok(from.wrapping_add(count as u64))
+            }
+            Err(e) => self.fails(Some(e), from),
+        }
+    }
+
+    // Notes an error, and returns the place that the reader still stands at.
+    fn fails(&mut self, fault: Option<io::Error>, from: u64) -> Result<u64, AllocError> {
         if let Some(e) = fault {
             self.returned.push(e.kind())?;
         }
         Ok(from)
     }
 
-    fn sees(&mut self, bytes: &[u8], from: u64) -> Result<(), Fail> {
+    fn sees(&mut self, bytes: &[u8], from: u64) -> Result<(), AllocError> {
         self.seen.extend_from_slice(bytes)?;
         for i in 0..bytes.len() {
             self.there.push(byte_at(from.wrapping_add(i as u64)))?;
@@ -213,7 +191,7 @@ fn lose_no_place(rt: HostRuntime) -> Result<(), Fail> {
         for rule in READER_RULES {
             for ring in [false, true] {
                 let case = Played { row, ring, rule };
-                loses_nothing(&rt, rt.alloc(), &case, row.name)?;
+                loses_nothing(&rt, rt.alloc(), &case, row.name, &ANSWERS)?;
             }
         }
     }
@@ -232,9 +210,7 @@ fn tell_what_is_lost(rt: HostRuntime) -> Result<(), Fail> {
         ring: false,
         rule: ReaderRule::Std,
     };
-    match first_loss(&rt, rt.alloc(), &case, true)? {
-        None => panic!(rt; "a byte was lost, and nothing was said"),
-        Some(Loss { fault: _, outcome }) => assert!(rt; outcome.joined != outcome.whole),
-    }
+    let outcome = loss(&rt, rt.alloc(), &case)?;
+    assert!(rt; outcome.joined != outcome.whole);
     Ok(())
 }

@@ -1,7 +1,6 @@
 //! A run, again and again, with each call of the stream inside going wrong in turn.
-use buffer_redux::Buffer;
 use buffer_redux::script::Answer;
-use std::alloc::{AllocError, Global};
+use std::alloc::Global;
 use std::io::ErrorKind;
 use std::process::Abort;
 use std::test::Fail;
@@ -42,13 +41,11 @@ impl Outcome {
     fn holds(&self) -> bool {
         self.joined == self.whole && self.returned == self.caused
     }
-}
 
-/// What a sweep found: a run in which a byte or an error was lost.
-#[derive(Drop)]
-pub struct Loss {
-    pub fault: Fault,
-    pub outcome: Outcome,
+    /// Whether one byte is missing.
+    pub fn lacks_one(&self) -> bool {
+        self.joined.len() + 1 == self.whole.len()
+    }
 }
 
 /// A list of calls that can be run anew.
@@ -56,8 +53,8 @@ pub trait Case {
     fn run(&self, alloc: Global, fault: Fault) -> Result<Outcome, Fail>;
 }
 
-// A call goes wrong by each of these.
-const ANSWERS: [Answer; 5] = [
+/// A call goes wrong by each of these.
+pub const ANSWERS: [Answer; 5] = [
     Answer::Fail(ErrorKind::Other),
     Answer::Interrupt(1),
     Answer::Interrupt(65),
@@ -68,58 +65,41 @@ const ANSWERS: [Answer; 5] = [
 // No run makes so many calls.
 const MOST_CALLS: usize = 1000;
 
-/// The first run in which something was lost. Of a run that is never done without a fault it fails.
-pub fn first_loss<C: Case>(
-    rt: &impl Abort,
-    alloc: Global,
-    case: &C,
-    loses: bool,
-) -> Result<Option<Loss>, Fail> {
-    for answer in ANSWERS {
-        let loss = loss_by(rt, alloc, case, answer, loses)?;
-        if loss.is_some() {
-            return Ok(loss);
-        }
-    }
-    Ok(None)
-}
-
-/// Sweeps over a case, whatever the answer that goes wrong. Panics at the first run in which something was lost, and says which
-/// call of the stream inside went wrong, and how.
+/// Sweeps over a case, by each of these answers. Panics at the first run in which something was lost, and says which call of
+/// the stream inside went wrong, and how.
 pub fn loses_nothing<C: Case>(
     rt: &impl Abort,
     alloc: Global,
     case: &C,
     name: &str,
+    answers: &[Answer],
 ) -> Result<(), Fail> {
+    for answer in answers {
+        if let Some((before, _)) = loss_by(rt, alloc, case, *answer, false)? {
+            panic!(rt; "{name}: something is lost where call {before} answers {answer:?}");
+        }
+    }
+    Ok(())
+}
+
+/// Sweeps over a case whose stream loses one byte. What came of the first run in which that shows. Panics where it never does.
+pub fn loss<C: Case>(rt: &impl Abort, alloc: Global, case: &C) -> Result<Outcome, Fail> {
     for answer in ANSWERS {
-        loses_nothing_by(rt, alloc, case, name, answer)?;
+        if let Some((_, outcome)) = loss_by(rt, alloc, case, answer, true)? {
+            return Ok(outcome);
+        }
     }
-    Ok(())
+    panic!(rt; "a byte was lost, and nothing was said")
 }
 
-/// The same with one answer alone.
-pub fn loses_nothing_by<C: Case>(
-    rt: &impl Abort,
-    alloc: Global,
-    case: &C,
-    name: &str,
-    answer: Answer,
-) -> Result<(), Fail> {
-    if let Some(loss) = loss_by(rt, alloc, case, answer, false)? {
-        let before = loss.fault.before;
-        panic!(rt; "{name}: something is lost where call {before} answers {answer:?}");
-    }
-    Ok(())
-}
-
+// The first run in which something was lost, and before which call. Of a run that is never done without a fault it panics.
 fn loss_by<C: Case>(
     rt: &impl Abort,
     alloc: Global,
     case: &C,
     answer: Answer,
     loses: bool,
-) -> Result<Option<Loss>, Fail> {
+) -> Result<Option<(usize, Outcome)>, Fail> {
     for before in 0..MOST_CALLS {
         let fault = Fault {
             before,
@@ -128,44 +108,11 @@ fn loss_by<C: Case>(
         };
         let outcome = case.run(alloc, fault)?;
         if !outcome.holds() {
-            return Ok(Some(Loss { fault, outcome }));
+            return Ok(Some((before, outcome)));
         }
         if outcome.calls <= before {
             return Ok(None);
         }
     }
     panic!(rt; "a run meets a fault at every call")
-}
-
-/// Whether a stream that loses one byte is found out, with just that byte missing.
-pub fn tells_of_one<C: Case>(rt: &impl Abort, alloc: Global, case: &C) -> Result<bool, Fail> {
-    Ok(match first_loss(rt, alloc, case, true)? {
-        None => false,
-        Some(Loss { fault: _, outcome }) => outcome.joined.len() + 1 == outcome.whole.len(),
-    })
-}
-
-/// A buffer of this kind and capacity that holds these bytes, as far as they fit.
-pub fn holding(alloc: Global, ring: bool, capacity: usize, bytes: &[u8]) -> Result<Buffer, Fail> {
-    let mut buf = if ring {
-        Buffer::with_capacity_ringbuf(alloc, capacity)?
-    } else {
-        Buffer::with_capacity(alloc, capacity)?
-    };
-    let _ = buf.copy_from_slice(bytes);
-    Ok(buf)
-}
-
-/// So many different bytes, again and again from the first.
-pub fn numbered(alloc: Global, count: usize) -> Result<Vec<u8>, AllocError> {
-    let mut bytes = Vec::new(alloc);
-    for i in 0..count {
-        bytes.push((i % 251) as u8)?;
-    }
-    Ok(bytes)
-}
-
-/// So many of the bytes, or all.
-pub fn first(bytes: &[u8], count: usize) -> &[u8] {
-    bytes.get(..count).unwrap_or(bytes)
 }

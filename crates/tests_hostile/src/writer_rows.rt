@@ -26,7 +26,7 @@ pub struct Row {
     pub steps: &'static [Step],
 }
 
-const ROWS: &[Row] = &[
+const FLUSHES: &[Row] = &[
     Row {
         name: "all in turn",
         capacity: 2,
@@ -109,6 +109,9 @@ const ROWS: &[Row] = &[
         seeks: &[],
         steps: &[Write(&[3]), Flush],
     },
+];
+
+const WRITES: &[Row] = &[
     Row {
         name: "one write",
         capacity: 8,
@@ -171,6 +174,9 @@ const ROWS: &[Row] = &[
         seeks: &[],
         steps: &[Write(&[3, 4])],
     },
+];
+
+const PARTS: &[Row] = &[
     Row {
         name: "up to a byte",
         capacity: 8,
@@ -229,6 +235,9 @@ const ROWS: &[Row] = &[
         seeks: &[],
         steps: &[Write(&[1]), Write(&[2, 3]), Flush],
     },
+];
+
+const OTHERS: &[Row] = &[
     Row {
         name: "a fault among all calls",
         capacity: 2,
@@ -324,7 +333,24 @@ const ROWS: &[Row] = &[
     },
 ];
 
-/// All rows.
-pub fn rows() -> &'static [Row] {
-    ROWS
+// A table is proved by the square of its length, so there are several, and each is shown by a function of its own.
+
+/// Flushes, with answers that end them or don't.
+pub fn flushes() -> &'static [Row] {
+    FLUSHES
+}
+
+/// Writes of a few bytes and of many.
+pub fn writes() -> &'static [Row] {
+    WRITES
+}
+
+/// Writes of which some policies send a part.
+pub fn parts() -> &'static [Row] {
+    PARTS
+}
+
+/// All other calls.
+pub fn others() -> &'static [Row] {
+    OTHERS
 }

@@ -1,237 +1,353 @@
-//! Writers over a stream that goes wrong, played, and then taken apart.
+//! Writers over a stream that goes wrong, and then taken apart.
+use crate::calls::play_call;
+use crate::notes::{Notes, Target, kind_of, taken};
 use crate::policies::{WRITER_RULES, WriterRule};
-use crate::streams::{Hostile, calls, faults, hostile, inside};
-use crate::sweep::{Case, Fault, Outcome, first, holding, loses_nothing_by, tells_of_one};
-use crate::writer_rows::{Row, Step, rows};
+use crate::streams::{faults, hostile};
+use crate::sweep::{ANSWERS, Case, Fault, Outcome, loses_nothing, loss};
+use crate::writer_rows::{Row, Step, flushes, others, parts, writes};
 use buffer_redux::policy::WriterPolicy;
 use buffer_redux::script::{Answer, ScriptSeeker, ScriptWriter};
 use buffer_redux::tell::TellWrite;
-use buffer_redux::{BufWriter, Buffer, IntoInnerError};
-use redux_play::play::{WriterAnswer, WriterCall, WriterRun, play_writer};
+use buffer_redux::{BufWriter, Buffer, IntoInnerError, LineWriter};
+use redux_play::play::{WriterAnswer, WriterCall};
 use std::alloc::{AllocError, Global};
 use std::io;
-use std::io::{ErrorKind, Seek, Write};
+use std::io::{ErrorKind, Write};
 use std::process::Abort;
 use std::test::Fail;
+use tests_common::{first, flush, holding_in, seek, write, write_all};
 
-type Stream = Hostile<ScriptSeeker<ScriptWriter>>;
+type Writer = BufWriter<Target, WriterRule>;
 
-type Writer = BufWriter<Stream, WriterRule>;
+type Lines = LineWriter<Target>;
+
+type WriterOverWriter = BufWriter<BufWriter<Target>>;
+
+// What takes the steps of a row.
+#[derive(Clone, Copy)]
+enum How {
+    // a writer under a policy, which ends by `finish`, if it is over a ring, and else by `into_inner`
+    Under(WriterRule),
+    Lines,
+    // a writer over another, which holds nothing; a `WriteAll` is one write, and a seek a flush
+    Inside,
+}
+
+// The capacity of a writer inside another.
+const INSIDE: usize = 4;
 
 #[derive(Drop)]
-struct Played {
+struct Writes {
     row: Row,
     ring: bool,
-    rule: WriterRule,
-    // Whether it ends by `finish` in place of `into_inner`.
-    finishes: bool,
+    how: How,
 }
 
-impl Case for Played {
+/// A stream that answers and seeks by scripts, and goes wrong at one call.
+pub fn target(
+    alloc: Global,
+    script: &[Answer],
+    seeks: &[Result<u64, ErrorKind>],
+    fault: Fault,
+) -> Result<Target, AllocError> {
+    let stream = ScriptWriter::new(alloc, script)?;
+    let stream = ScriptSeeker::new(alloc, stream, seeks)?;
+    Ok(hostile(alloc, stream, fault))
+}
+
+impl Case for Writes {
     fn run(&self, alloc: Global, fault: Fault) -> Result<Outcome, Fail> {
         let row = &self.row;
-        let stream = ScriptWriter::new(alloc, row.script)?;
-        let stream = ScriptSeeker::new(alloc, stream, row.seeks)?;
-        let buf = holding(alloc, self.ring, row.capacity, row.held)?;
-        let wrt = BufWriter::with_buffer(buf, hostile(alloc, stream, fault));
-        let mut wrt = wrt.set_policy(self.rule);
-        let mut notes = Notes::new(alloc, row.held)?;
-        for step in row.steps {
-            notes.step(alloc, &mut wrt, *step)?;
-        }
-        let (inner, left) = if self.finishes {
-            notes.finish(wrt)?
-        } else {
-            notes.unwrap(alloc, wrt)?
-        };
-        let mut joined = Vec::from_slice(alloc, inside(&inner).get_ref().taken())?;
-        joined.extend_from_slice(left.buf())?;
-        Ok(Outcome {
-            calls: calls(&inner),
-            joined,
-            whole: notes.accepted,
-            returned: notes.returned,
-            caused: notes.caused,
-        })
-    }
-}
-
-/// What was held, and then accepted; the kinds of the errors that were returned, and those that the stream had returned
-/// last when they were.
-#[derive(Drop)]
-pub struct Notes {
-    pub accepted: Vec<u8>,
-    pub returned: Vec<ErrorKind>,
-    pub caused: Vec<ErrorKind>,
-}
-
-impl Notes {
-    pub fn new(alloc: Global, held: &[u8]) -> Result<Notes, AllocError> {
-        Ok(Notes {
-            accepted: Vec::from_slice(alloc, held)?,
-            returned: Vec::new(alloc),
-            caused: Vec::new(alloc),
-        })
-    }
-
-    fn step(&mut self, alloc: Global, wrt: &mut Writer, step: Step) -> Result<(), Fail> {
-        let before = faults(wrt.get_ref()).len();
-        let kind = match step {
-            Step::Seek(to) => wrt.seek(to).err().map(|e| e.kind()),
-            Step::WriteAll(bytes) => self.write_all(wrt, bytes)?,
-            _ => self.play(alloc, wrt, step)?,
-        };
-        self.note(kind, faults(wrt.get_ref()), before)
-    }
-
-    // Writes all, and returns the kind of its error, unless the policy left the buffer full. What a call that fails has
-    // accepted is told by how much the stream and the buffer then have.
-    fn write_all(
-        &mut self,
-        wrt: &mut Writer,
-        bytes: &'static [u8],
-    ) -> Result<Option<ErrorKind>, Fail> {
-        let (had, before) = (kept(wrt), faults(wrt.get_ref()).len());
-        let Err(e) = wrt.write_all(bytes) else {
-            self.accepted.extend_from_slice(bytes)?;
-            return Ok(None);
-        };
-        self.accepted
-            .extend_from_slice(first(bytes, kept(wrt).saturating_sub(had)))?;
-        let left_full = e.kind() == ErrorKind::WriteZero && faults(wrt.get_ref()).len() == before;
-        Ok(if left_full { None } else { Some(e.kind()) })
-    }
-
-    /// Plays a step, but for a seek, and returns the kind of its error. A `WriteAll` is one write.
-    pub fn play<W: TellWrite, P: WriterPolicy>(
-        &mut self,
-        alloc: Global,
-        wrt: &mut BufWriter<W, P>,
-        step: Step,
-    ) -> Result<Option<ErrorKind>, Fail> {
-        let (call, bytes) = match step {
-            Step::Write(bytes) => (WriterCall::Write(bytes), bytes),
-            Step::WriteAll(bytes) => (WriterCall::Write(bytes), bytes),
-            Step::MakeRoom => (WriterCall::MakeRoom, [].as_slice()),
-            Step::Reserve(amount) => (WriterCall::Reserve(amount), [].as_slice()),
-            Step::Flush | Step::Seek(_) => (WriterCall::Flush, [].as_slice()),
-        };
-        let mut run = WriterRun::new(alloc);
-        play_writer(wrt, &[call], &mut run)?;
-        Ok(match run.answers.as_slice().first() {
-            Some(WriterAnswer::Fault(kind)) => Some(*kind),
-            Some(WriterAnswer::Count(count)) => {
-                self.accepted.extend_from_slice(first(bytes, *count))?;
-                None
+        let stream = target(alloc, row.script, row.seeks, fault)?;
+        let notes = Notes::new(alloc, row.held)?;
+        match self.how {
+            How::Under(rule) => {
+                let buf = holding_in(alloc, self.ring, row.capacity, row.held)?;
+                let wrt = BufWriter::with_buffer(buf, stream).set_policy(rule);
+                under(alloc, wrt, row.steps, notes, self.ring)
             }
-            _ => None,
-        })
-    }
-
-    /// Notes the kind that a call returned, and the last of the stream's, if that is of this call.
-    pub fn note(
-        &mut self,
-        kind: Option<ErrorKind>,
-        faults: &[ErrorKind],
-        before: usize,
-    ) -> Result<(), Fail> {
-        let Some(kind) = kind else {
-            return Ok(());
-        };
-        self.returned.push(kind)?;
-        if let Some(last) = faults.iter().skip(before).last() {
-            self.caused.push(*last)?;
-        }
-        Ok(())
-    }
-
-    fn unwrap(&mut self, alloc: Global, wrt: Writer) -> Result<(Stream, Buffer), Fail> {
-        let before = faults(wrt.get_ref()).len();
-        match wrt.into_inner() {
-            Ok(inner) => Ok((inner, Buffer::with_capacity(alloc, 0)?)),
-            Err(IntoInnerError(wrt, e)) => {
-                self.note(Some(e.kind()), faults(wrt.get_ref()), before)?;
-                Ok(wrt.into_inner_with_buffer())
+            How::Lines => {
+                let buf = holding_in(alloc, self.ring, row.capacity, row.held)?;
+                Ok(lines(
+                    alloc,
+                    LineWriter::with_buffer(buf, stream),
+                    row.steps,
+                    notes,
+                )?)
+            }
+            How::Inside => {
+                let buf = holding_in(alloc, self.ring, INSIDE, &[])?;
+                let outer = holding_in(alloc, false, row.capacity, row.held)?;
+                let wrt = BufWriter::with_buffer(outer, BufWriter::with_buffer(buf, stream));
+                Ok(inside_another(alloc, wrt, row.steps, notes)?)
             }
         }
     }
+}
 
-    fn finish(&mut self, wrt: Writer) -> Result<(Stream, Buffer), Fail> {
-        let before = faults(wrt.get_ref()).len();
-        let mut kind = None;
-        let (inner, left) = wrt.finish(|_, _: &mut Buffer, e: io::Error| kind = Some(e.kind()));
-        self.note(kind, faults(&inner), before)?;
-        Ok((inner, left))
+fn under(
+    alloc: Global,
+    mut wrt: Writer,
+    steps: &[Step],
+    mut notes: Notes,
+    finishes: bool,
+) -> Result<Outcome, Fail> {
+    for step in steps {
+        takes(alloc, &mut wrt, *step, &mut notes)?;
+    }
+    let (stream, left) = if finishes {
+        finish(wrt, &mut notes)?
+    } else {
+        unwrap(alloc, wrt, &mut notes)?
+    };
+    Ok(notes.of_writes(alloc, &stream, left.buf())?)
+}
+
+fn lines(
+    alloc: Global,
+    mut lines: Lines,
+    steps: &[Step],
+    mut notes: Notes,
+) -> Result<Outcome, AllocError> {
+    for step in steps {
+        let kind = takes_by_lines(&mut lines, *step, &mut notes)?;
+        notes.note(kind, faults(lines.get_ref()))?;
+    }
+    let (stream, left) = lines.into_inner_with_buf();
+    notes.of_writes(alloc, &stream, left.buf())
+}
+
+fn inside_another(
+    alloc: Global,
+    mut wrt: WriterOverWriter,
+    steps: &[Step],
+    mut notes: Notes,
+) -> Result<Outcome, AllocError> {
+    for step in steps {
+        let kind = plays(alloc, &mut wrt, *step, &mut notes)?;
+        notes.note(kind, faults(wrt.get_ref().get_ref()))?;
+    }
+    let (inner, last) = wrt.into_inner_with_buffer();
+    let (stream, left) = inner.into_inner_with_buffer();
+    let mut outcome = notes.of_writes(alloc, &stream, left.buf())?;
+    outcome.joined.extend_from_slice(last.buf())?;
+    Ok(outcome)
+}
+
+// Takes a step, and notes its error, unless the policy left the buffer full.
+fn takes(alloc: Global, wrt: &mut Writer, step: Step, notes: &mut Notes) -> Result<(), AllocError> {
+    let kind = match step {
+        Step::Seek(to) => kind_of(seek(wrt, to)),
+        Step::WriteAll(bytes) => {
+            match writes_all(wrt, bytes, notes)? {
+                Some(ErrorKind::WriteZero) if notes.last(faults(wrt.get_ref())).is_none() => None,
+                kind => kind,
+            }
+        }
+        _ => plays(alloc, wrt, step, notes)?,
+    };
+    notes.note(kind, faults(wrt.get_ref()))
+}
+
+// Takes a step, but for a seek, and returns the kind of its error.
+fn takes_by_lines(
+    lines: &mut Lines,
+    step: Step,
+    notes: &mut Notes,
+) -> Result<Option<ErrorKind>, AllocError> {
+    match step {
+        Step::Write(bytes) => match write(lines, bytes) {
+            Ok(count) => {
+                notes.bytes.extend_from_slice(first(bytes, count))?;
+                Ok(None)
+            }
+            Err(e) => Ok(Some(e.kind())),
+        },
+        Step::WriteAll(bytes) => writes_all(lines, bytes, notes),
+        Step::Reserve(more) => {
+            let _ = lines.reserve(more);
+            Ok(None)
+        }
+        Step::Flush | Step::MakeRoom | Step::Seek(_) => Ok(kind_of(flush(lines))),
     }
 }
 
-// How much the stream took, and how much is buffered.
-fn kept(wrt: &Writer) -> usize {
-    let taken = inside(wrt.get_ref()).get_ref().taken().len();
-    taken.saturating_add(wrt.buf_len())
+// Plays a step, but for a seek, and returns the kind of its error. A `WriteAll` is one write.
+fn plays<W: TellWrite, P: WriterPolicy>(
+    alloc: Global,
+    wrt: &mut BufWriter<W, P>,
+    step: Step,
+    notes: &mut Notes,
+) -> Result<Option<ErrorKind>, AllocError> {
+    let (call, bytes) = match step {
+        Step::Write(bytes) => (WriterCall::Write(bytes), bytes),
+        Step::WriteAll(bytes) => (WriterCall::Write(bytes), bytes),
+        Step::MakeRoom => (WriterCall::MakeRoom, [].as_slice()),
+        Step::Reserve(amount) => (WriterCall::Reserve(amount), [].as_slice()),
+        Step::Flush | Step::Seek(_) => (WriterCall::Flush, [].as_slice()),
+    };
+    match play_call(alloc, wrt, call)? {
+        Some(WriterAnswer::Fault(kind)) => Ok(Some(kind)),
+        Some(WriterAnswer::Count(count)) => {
+            notes.bytes.extend_from_slice(first(bytes, count))?;
+            Ok(None)
+        }
+        _ => Ok(None),
+    }
 }
 
-// No row loses a thing under any policy, in a buffer of either kind, where a call goes wrong by this answer.
-fn sweeps(rt: &impl Abort, alloc: Global, answer: Answer) -> Result<(), Fail> {
-    for row in rows() {
-        for rule in WRITER_RULES {
-            for ring in [false, true] {
-                let case = Played {
-                    row: *row,
-                    ring,
-                    rule,
-                    finishes: ring,
-                };
-                loses_nothing_by(rt, alloc, &case, row.name, answer)?;
-            }
+// A writer of which is known how many bytes its stream took and how many are buffered, both together.
+trait Keeps: Write {
+    fn kept(&self) -> usize;
+}
+
+impl Keeps for Writer {
+    fn kept(&self) -> usize {
+        taken(self.get_ref()).len().saturating_add(self.buf_len())
+    }
+}
+
+impl Keeps for Lines {
+    fn kept(&self) -> usize {
+        taken(self.get_ref()).len().saturating_add(self.buf_len())
+    }
+}
+
+// Writes all, and returns the kind of its error. What a call that fails has accepted is told by how much is kept then.
+fn writes_all<W: Keeps>(
+    wrt: &mut W,
+    bytes: &[u8],
+    notes: &mut Notes,
+) -> Result<Option<ErrorKind>, AllocError> {
+    let had = wrt.kept();
+    let kind = kind_of(write_all(wrt, bytes));
+    let count = if kind.is_none() {
+        bytes.len()
+    } else {
+        wrt.kept().saturating_sub(had)
+    };
+    notes.bytes.extend_from_slice(first(bytes, count))?;
+    Ok(kind)
+}
+
+fn unwrap(alloc: Global, wrt: Writer, notes: &mut Notes) -> Result<(Target, Buffer), Fail> {
+    match wrt.into_inner() {
+        Ok(stream) => Ok((stream, Buffer::with_capacity(alloc, 0)?)),
+        Err(IntoInnerError(wrt, e)) => {
+            notes.note(Some(e.kind()), faults(wrt.get_ref()))?;
+            Ok(wrt.into_inner_with_buffer())
         }
+    }
+}
+
+fn finish(wrt: Writer, notes: &mut Notes) -> Result<(Target, Buffer), AllocError> {
+    let mut kind = None;
+    let (stream, left) = wrt.finish(|_, _: &mut Buffer, e: io::Error| kind = Some(e.kind()));
+    notes.note(kind, faults(&stream))?;
+    Ok((stream, left))
+}
+
+// No row of any table loses a thing, where a call goes wrong by one of these answers.
+fn sweeps(rt: &impl Abort, alloc: Global, how: How, answers: &[Answer]) -> Result<(), Fail> {
+    sweeps_table(rt, alloc, flushes(), how, answers)?;
+    sweeps_table(rt, alloc, writes(), how, answers)?;
+    sweeps_table(rt, alloc, parts(), how, answers)?;
+    sweeps_table(rt, alloc, others(), how, answers)
+}
+
+// The same of one table, in a buffer of either kind.
+fn sweeps_table(
+    rt: &impl Abort,
+    alloc: Global,
+    rows: &[Row],
+    how: How,
+    answers: &[Answer],
+) -> Result<(), Fail> {
+    for row in rows {
+        for ring in [false, true] {
+            let case = Writes {
+                row: *row,
+                ring,
+                how,
+            };
+            loses_nothing(rt, alloc, &case, row.name, answers)?;
+        }
+    }
+    Ok(())
+}
+
+// The same under any policy, by one answer.
+fn sweeps_policies(rt: &impl Abort, alloc: Global, answer: Answer) -> Result<(), Fail> {
+    for rule in WRITER_RULES {
+        sweeps(rt, alloc, How::Under(rule), &[answer])?;
     }
     Ok(())
 }
 
 #[test]
 fn lose_nothing_by_a_fault(rt: HostRuntime) -> Result<(), Fail> {
-    sweeps(&rt, rt.alloc(), Answer::Fail(ErrorKind::Other))
+    sweeps_policies(&rt, rt.alloc(), Answer::Fail(ErrorKind::Other))
 }
 
 #[test]
 fn lose_nothing_by_an_interrupt(rt: HostRuntime) -> Result<(), Fail> {
-    sweeps(&rt, rt.alloc(), Answer::Interrupt(1))
+    sweeps_policies(&rt, rt.alloc(), Answer::Interrupt(1))
 }
 
 #[test]
 fn lose_nothing_by_many_interrupts(rt: HostRuntime) -> Result<(), Fail> {
-    sweeps(&rt, rt.alloc(), Answer::Interrupt(65))
+    sweeps_policies(&rt, rt.alloc(), Answer::Interrupt(65))
 }
 
 #[test]
 fn lose_nothing_by_a_call_for_nothing(rt: HostRuntime) -> Result<(), Fail> {
-    sweeps(&rt, rt.alloc(), Answer::Serve(0))
+    sweeps_policies(&rt, rt.alloc(), Answer::Serve(0))
 }
 
 #[test]
 fn lose_nothing_by_a_single_byte(rt: HostRuntime) -> Result<(), Fail> {
-    sweeps(&rt, rt.alloc(), Answer::Serve(1))
+    sweeps_policies(&rt, rt.alloc(), Answer::Serve(1))
 }
 
 #[test]
+fn lose_nothing_by_lines(rt: HostRuntime) -> Result<(), Fail> {
+    sweeps(&rt, rt.alloc(), How::Lines, &ANSWERS)
+}
+
+#[test]
+fn lose_nothing_inside_another(rt: HostRuntime) -> Result<(), Fail> {
+    sweeps(&rt, rt.alloc(), How::Inside, &ANSWERS)
+}
+
+// A capacity, what takes the bytes, and one write.
+const LOSSES: [(usize, How, &[Step]); 4] = [
+    (1, How::Under(WriterRule::Std), &[Step::Write(&[1, 2])]),
+    (
+        1,
+        How::Under(WriterRule::OnNewline),
+        &[Step::Write(&[1, 2])],
+    ),
+    (1, How::Lines, &[Step::Write(&[1, 10])]),
+    (2, How::Inside, &[Step::Write(&[1, 2, 3, 4, 5])]),
+];
+
+#[test]
 fn tell_what_is_lost(rt: HostRuntime) -> Result<(), Fail> {
-    let row = Row {
-        name: "one write past the buffer",
-        capacity: 1,
-        held: &[],
-        script: &[],
-        seeks: &[],
-        steps: &[Step::Write(&[1, 2])],
-    };
-    for rule in [WriterRule::Std, WriterRule::OnNewline] {
-        let case = Played {
+    for (capacity, how, steps) in LOSSES {
+        let row = Row {
+            name: "a byte is lost",
+            capacity,
+            held: &[],
+            script: &[],
+            seeks: &[],
+            steps,
+        };
+        let case = Writes {
             row,
             ring: false,
-            rule,
-            finishes: false,
+            how,
         };
-        assert!(rt; tells_of_one(&rt, rt.alloc(), &case)?);
+        assert!(rt; loss(&rt, rt.alloc(), &case)?.lacks_one());
     }
     Ok(())
 }
