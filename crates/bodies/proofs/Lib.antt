@@ -1,3 +1,5 @@
 pub mod Reading
 pub mod Moving
 pub mod DecodeRuns
+pub mod Encoding
+pub mod EncodeRuns

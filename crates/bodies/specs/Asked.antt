@@ -1,17 +1,24 @@
 -- What a run does that words ask for.
 use Rattle.std.specs.Prelude.{◌≡◌, ℕ, List, [], ◌∷◌, codes, Result}
+use Rattle.std.specs.declared.io.Error.{Error}
 use Rattle.buffer_redux.specs.StreamLog.{StreamLog}
 use Rattle.chunked.specs.declared.limits.Limits.{Limits}
+use Rattle.programs.specs.Ending as usual
+use Rattle.programs.specs.declared.ending.Ending.{Ending as Usually}
 use Rattle.programs.specs.declared.ending.Ending.TheVariants.{Usage}
 use Rattle.bodies.specs.declared.ending.Ending.{Ending}
 use Rattle.bodies.specs.declared.ending.Ending.TheVariants.{Usual}
 use Rattle.bodies.specs.declared.error.RunError.{RunError}
 use Rattle.bodies.specs.Decode.{DecodeRan}
+use Rattle.bodies.specs.Encode.{EncodeRan}
 use Rattle.bodies.specs.Ending.{EndsAs}
 
--- there is one word, which is `decode`
+-- there is one word, which is `decode`, or `encode`
 abbrev pub AskToDecode : List (List ℕ) → Type 0
 AskToDecode words = words ≡ codes "decode" ∷ []
+
+abbrev pub AskToEncode : List (List ℕ) → Type 0
+AskToEncode words = words ≡ codes "encode" ∷ []
 
 -- 8192 bytes for the line of a size, and 65536 for the trailers
 abbrev pub usual_limits : Limits
@@ -23,7 +30,17 @@ pub record DecodedAs (ending : Ending) (read read' written written' : StreamLog)
   pub ran : DecodeRan usual_limits read read' written written' answer
   pub ends : EndsAs answer ending
 
+-- a payload was made a body, and the run ended so
+pub record EncodedAs (ending : Ending) (read read' written written' : StreamLog) : Type 0 where
+  pub answer : Result (Unit {0}) Error
+  pub ran : EncodeRan read read' written written' answer
+  pub why : Usually
+  pub ends : usual.EndsAs answer why
+  pub ending_is : ending ≡ Usual why
+
 -- what a run did that these words asked for, and that ended so; other words call no stream
 pub record RunDid (words : List (List ℕ)) (ending : Ending) (read read' written written' : StreamLog) : Type 0 where
   pub decode : AskToDecode words → DecodedAs ending read read' written written'
-  pub usage : ¬ AskToDecode words → (ending ≡ Usual Usage) × (read' ≡ read) × (written' ≡ written)
+  pub encode : AskToEncode words → EncodedAs ending read read' written written'
+  pub usage : ¬ AskToDecode words → ¬ AskToEncode words
+      → (ending ≡ Usual Usage) × (read' ≡ read) × (written' ≡ written)

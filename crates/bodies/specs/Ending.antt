@@ -36,7 +36,7 @@ status_of (Behind right) = 6
 
 -- the line on standard error; of a run that is done none is printed
 abbrev pub line_of : Ending → List ℕ
-line_of (Usual ending) = usual.line_of (codes "bodies") (codes "decode") ending
+line_of (Usual ending) = usual.line_of (codes "bodies") (codes "decode|encode") ending
 line_of (NotChunked why right) =
     codes "bodies: " ++ malformed_text why ++ codes ", behind " ++ decimal right ++ codes " bytes of a body"
 line_of (Truncated right) = codes "bodies: the input ends after " ++ decimal right ++ codes " bytes of a body"

@@ -1,3 +1,4 @@
 pub mod Ending
 pub mod Decode
+pub mod Encode
 pub mod Asked

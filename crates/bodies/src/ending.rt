@@ -60,7 +60,7 @@ impl fmt::Display for Ending {
             Ending::Usual(ending) => {
                 let said = Said {
                     program: "bodies",
-                    usage: "decode",
+                    usage: "decode|encode",
                     ending: *ending,
                 };
                 write!(f, "{said}")

@@ -1,8 +1,9 @@
-//! Copies the payload of the chunked body that standard input is to standard output.
+//! Copies the payload of the chunked body that standard input is to standard output, or makes standard input the payload of one.
 #![tactic(auto)]
 
 mod at_end;
 mod decode;
+mod encode;
 mod ending;
 mod error;
 mod run;

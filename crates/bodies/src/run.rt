@@ -3,6 +3,7 @@ ghost use Rattle.std.specs.Prelude.{map, string_bytes};
 ghost use Rattle.bodies.specs.Asked.{RunDid};
 
 use crate::decode::decode;
+use crate::encode::encode;
 use crate::ending::Ending;
 use buffer_redux::tell::{TellRead, TellWrite};
 use chunked::Limits;
@@ -29,6 +30,11 @@ pub fn run_asked<R: TellRead, W: TellWrite>(
         Some("decode") => {
             let (answer, reader, writer) = decode(alloc, LIMITS, reader, writer);
             (Ending::of(&answer), reader, writer)
+        }
+        Some("encode") => {
+            let (answer, reader, writer) = encode(alloc, reader, writer);
+            let ending = programs::Ending::of(&answer);
+            (Ending::Usual(ending), reader, writer)
         }
         _ => (Ending::Usual(programs::Ending::Usage), reader, writer),
     }

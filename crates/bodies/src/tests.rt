@@ -1,4 +1,6 @@
 //! Whole runs.
+mod encode;
+
 use crate::decode::decode;
 use crate::ending::Ending;
 use crate::error::RunError;
@@ -242,7 +244,7 @@ fn tells_of_the_other_ends(rt: HostRuntime) -> Result<(), Fail> {
         (
             Ending::Usual(programs::Ending::Usage),
             2,
-            "usage: bodies decode",
+            "usage: bodies decode|encode",
         ),
         (failed(ErrorKind::OutOfMemory), 3, "bodies: out of memory"),
     ] {

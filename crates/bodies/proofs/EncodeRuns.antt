@@ -1,0 +1,170 @@
+-- What a whole run of `encode` comes to.
+use Rattle.std.proofs.Common.{◌≡◌, ℕ, ◌<◌, ◌≤◌, inl, inr, List, [], ◌++◌, length, length-append, Option, Result, Ok, Err, refl, sym, ap, subst, ◌∙◌, arith, append_assoc, append-nil}
+use Rattle.std.specs.declared.io.Error.{Error}
+use Rattle.buffer_redux.specs.BufReader.{RanDry}
+use Rattle.buffer_redux.specs.BufWriter.{WasFlushed, WasSent, WritesInOrder}
+use Rattle.buffer_redux.specs.Buffered.{Buffered}
+use Rattle.buffer_redux.specs.Faults.{OnlyInterrupts-none, SendErrorCaused}
+use Rattle.buffer_redux.specs.ReaderLaws.{ReadsInOrder-fresh}
+use Rattle.buffer_redux.specs.StreamLog.{StreamLog}
+use Rattle.buffer_redux.specs.WriterLaws.{WritesInOrder-fresh, WritesInOrder-joins, WritesInOrder-none, WritesInOrder-then}
+use Rattle.buffer_redux.specs.declared.policy.StdPolicy.{StdPolicy}
+use Rattle.chunked.specs.Body.{IsBody}
+use Rattle.chunked.specs.BodyLaws.{IsBody-same}
+use Rattle.chunked.specs.Chunk.{IsChunks, chunks, last_chunk}
+use Rattle.chunked.specs.ChunkLaws.{IsChunks-body, IsChunks-none}
+use Rattle.chunked.specs.Chunking.{Chunking, accepted_of, unbegun}
+use Rattle.chunked.specs.declared.limits.Limits.{Limits}
+use Rattle.programs.specs.Streams.{BufferRefused, MetNoFault, Stopped}
+use Rattle.programs.specs.StreamsLaws.{EitherFailed-after, MetNoFault-joins}
+use Rattle.bodies.specs.Encode.{EncodeRan, Encodes, EncodesAll, EncodesEach, IsCut, IsWritten, NothingLeft}
+use Rattle.bodies.proofs.Encoding.{Quiet}
+
+abbrev least : Limits
+least = record { line = 16; trailers = 0 }
+
+-- what begins a body and is not all of it begins with none
+cut_short : (sent behind payload : List ℕ) → IsBody least (sent ++ behind) payload → 0 < length behind → IsCut sent
+cut_short sent behind payload whole some limits body payload' more is begins =
+    let same = IsBody-same limits least body (sent ++ behind) payload' payload (more ++ behind) [] is whole
+    (sym (append_assoc body more behind) ∙ ap (λ l. l ++ behind) (sym begins) ∙ sym (append-nil (sent ++ behind))) in
+    absurd (omega (
+      arith,
+      some,
+      ap length same.0,
+      ap length begins,
+      length-append sent behind,
+      length-append body more,
+    ))
+
+-- so it is of chunks alone
+chunks_cut : (sent unsent payload : List ℕ) → IsChunks (sent ++ unsent) payload → IsCut sent
+chunks_cut sent unsent payload is = cut_short sent (unsent ++ last_chunk) payload
+    (subst (λ l. IsBody least l payload) (append_assoc sent unsent last_chunk)
+    (IsChunks-body least (omega arith) (sent ++ unsent) payload is))
+    (omega (arith, length-append unsent last_chunk))
+
+-- from empty buffers on
+module _ {R W : Type 0} (remaining : R → Option (List ℕ)) (tells : W → StreamLog) (stretch : W → W → Type 0)
+    (first : Buffered R StdPolicy) (u : Buffered W StdPolicy) (none : first.block.bytes ≡ []) (none' : u.block.bytes ≡ [])
+    (t : Buffered R StdPolicy) (c : Chunking W) where
+  module _ (payload : List ℕ) (went : Encodes remaining stretch first (unbegun u) payload t c) where
+    given : t.log.reads.given ≡ first.log.reads.given ++ (payload ++ t.block.bytes)
+    given = ReadsInOrder-fresh first t payload none went.read.in_order
+
+    -- the body was not ended
+    unended : (e : Error) (v : Buffered W StdPolicy) → WritesInOrder c.writer [] v
+        → v.log.writes.flushed ≡ c.writer.log.writes.flushed → Stopped e (length payload) first.log t.log u.log v.log
+        → EncodeRan first.log t.log u.log v.log (Err e)
+    unended e v order quiet why =
+        let all = WritesInOrder-then u c.writer v (chunks went.payloads) went.taken.in_order order in
+        let is : IsChunks (all.sent ++ v.block.bytes) payload = record {
+          payloads = went.payloads;
+          carried = went.taken.carried;
+          equal = all.equal ∙ ap (λ l. l ++ chunks went.payloads) none';
+          joined = went.joined;
+        } in
+        record {
+          payload = payload;
+          rest = t.block.bytes;
+          given = given;
+          sent = all.sent;
+          unsent = v.block.bytes;
+          received = all.received;
+          not_flushed = quiet ∙ went.not_flushed;
+          beginning = inl (record { chunks = is; cut = chunks_cut all.sent v.block.bytes payload is });
+          caused = inl why;
+        }
+
+  -- some chunk was not made
+  pub stopped : (e : Error) → EncodesAll remaining stretch first (unbegun u) (Err e) t c
+      → EncodeRan first.log t.log u.log c.writer.log (Err e)
+  stopped e p = unended p.0 p.1 e c.writer (WritesInOrder-none c.writer) refl p.2
+
+  module _ (each : EncodesEach remaining stretch first (unbegun u) t c) (left : NothingLeft first t) where
+    sending_failed : (m v : Buffered W StdPolicy) (e : Error) → MetNoFault first.log t.log u.log m.log
+        → SendErrorCaused m.log.writes v.log.writes e → Stopped e (length each.payload) first.log t.log u.log v.log
+    sending_failed m v e met caused = inl (EitherFailed-after e first.log t.log t.log u.log m.log v.log met
+        (inr (record { reader = OnlyInterrupts-none t.log.reads.faults; writer = caused })))
+
+    -- there was no room for the end of the body
+    pub not_finished : (e : Error) (v : Buffered W StdPolicy) → WasSent tells stretch c.writer (Err e) v
+        → EncodeRan first.log t.log u.log v.log (Err e)
+    not_finished e v sends = unended each.payload each.went e v sends.in_order sends.not_flushed
+        (sending_failed c.writer v e each.met sends.caused)
+
+    -- or it was taken in
+    module _ (end : List ℕ) (m : Buffered W StdPolicy) (order : WritesInOrder c.writer end m)
+        (body : (limits : Limits) → 16 ≤ limits.line → IsBody limits (c.wire ++ end) (accepted_of c))
+        (quiet : Quiet c.writer m) where
+      written : IsWritten (chunks each.went.payloads ++ end) each.payload
+      written limits line =
+          subst (λ p. IsBody limits (chunks each.went.payloads ++ end) p)
+          (each.went.taken.accepted ∙ sym each.went.joined)
+          (subst (λ l. IsBody limits (l ++ end) (accepted_of c)) each.went.taken.wire (body limits line))
+
+      met : MetNoFault first.log t.log u.log m.log
+      met = MetNoFault-joins first.log t.log t.log u.log c.writer.log m.log each.met
+          (record { reader = OnlyInterrupts-none t.log.reads.faults; writer = quiet.met })
+
+      module _ (v : Buffered W StdPolicy) (flush : WritesInOrder m [] v) where
+        order_all : WritesInOrder u (chunks each.went.payloads ++ end) v
+        order_all = WritesInOrder-then u m v (chunks each.went.payloads ++ end)
+            (WritesInOrder-joins u c.writer m (chunks each.went.payloads) end each.went.taken.in_order order) flush
+
+        part : order_all.sent ++ v.block.bytes ≡ chunks each.went.payloads ++ end
+        part = order_all.equal ∙ ap (λ l. l ++ (chunks each.went.payloads ++ end)) none'
+
+        part_written : IsWritten (order_all.sent ++ v.block.bytes) each.payload
+        part_written limits line = subst (λ l. IsBody limits l each.payload) (sym part) (written limits line)
+
+      -- and then the flush
+      pub flushed : (answer : Result (Unit {0}) Error) (v : Buffered W StdPolicy) → WasFlushed tells stretch m answer v
+          → EncodeRan first.log t.log u.log v.log answer
+      flushed (Ok _) v f = record {
+        payload = each.payload;
+        body = chunks each.went.payloads ++ end;
+        is_body = written;
+        sent = record {
+          given = given each.payload each.went ∙ ap (λ l. first.log.reads.given ++ (each.payload ++ l)) left.none;
+          received =
+              sym (append-nil v.log.writes.received) ∙ ap (λ l. v.log.writes.received ++ l) (sym f.ok.empty)
+              ∙ WritesInOrder-fresh u v (chunks each.went.payloads ++ end) none' (order_all v f.in_order);
+          flushed = f.ok.flushed;
+          met = MetNoFault-joins first.log t.log t.log u.log m.log v.log met
+              (record { reader = OnlyInterrupts-none t.log.reads.faults; writer = f.ok.met });
+        };
+        ended = left.dry;
+      }
+      flushed (Err e) v f = record {
+        payload = each.payload;
+        rest = t.block.bytes;
+        given = given each.payload each.went;
+        sent = (order_all v f.in_order).sent;
+        unsent = v.block.bytes;
+        received = (order_all v f.in_order).received;
+        not_flushed = f.not_flushed ∙ quiet.not_flushed ∙ each.went.not_flushed;
+        beginning = inr (record {
+          is_body = part_written v f.in_order;
+          cut = cut_short (order_all v f.in_order).sent v.block.bytes each.payload
+              (part_written v f.in_order least (omega arith));
+          all = left.none;
+          ended = left.dry;
+        });
+        caused = inl (sending_failed m v e met f.caused);
+      }
+
+-- a buffer was refused
+pub refused : (read read' written written' : StreamLog) (e : Error) → BufferRefused e read read' written written'
+    → EncodeRan read read' written written' (Err e)
+refused read read' written written' e p = record {
+  payload = [];
+  rest = [];
+  given = ap (λ l. l.reads.given) p.read_same ∙ sym (append-nil read.reads.given);
+  sent = [];
+  unsent = [];
+  received = ap (λ l. l.writes.received) p.written_same ∙ sym (append-nil written.writes.received);
+  not_flushed = ap (λ l. l.writes.flushed) p.written_same;
+  beginning = inl (record { chunks = IsChunks-none; cut = chunks_cut [] [] [] IsChunks-none });
+  caused = inr p;
+}
