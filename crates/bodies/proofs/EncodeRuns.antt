@@ -11,7 +11,7 @@ use Rattle.buffer_redux.specs.WriterLaws.{WritesInOrder-fresh, WritesInOrder-joi
 use Rattle.buffer_redux.specs.declared.policy.StdPolicy.{StdPolicy}
 use Rattle.chunked.specs.Body.{IsBody}
 use Rattle.chunked.specs.BodyLaws.{IsBody-same}
-use Rattle.chunked.specs.Chunk.{IsChunks, chunks, last_chunk}
+use Rattle.chunked.specs.Chunk.{IsChunks, body_end, chunks}
 use Rattle.chunked.specs.ChunkLaws.{IsChunks-body, IsChunks-none}
 use Rattle.chunked.specs.Chunking.{Chunking, accepted_of, unbegun}
 use Rattle.chunked.specs.declared.limits.Limits.{Limits}
@@ -39,10 +39,10 @@ cut_short sent behind payload whole some limits body payload' more is begins =
 
 -- so it is of chunks alone
 chunks_cut : (sent unsent payload : List ℕ) → IsChunks (sent ++ unsent) payload → IsCut sent
-chunks_cut sent unsent payload is = cut_short sent (unsent ++ last_chunk) payload
-    (subst (λ l. IsBody least l payload) (append_assoc sent unsent last_chunk)
-    (IsChunks-body least (omega arith) (sent ++ unsent) payload is))
-    (omega (arith, length-append unsent last_chunk))
+chunks_cut sent unsent payload is = cut_short sent (unsent ++ body_end []) payload
+    (subst (λ l. IsBody least l payload) (append_assoc sent unsent (body_end []))
+    (IsChunks-body least (omega arith) [] tt (omega arith) (sent ++ unsent) payload is))
+    (omega (arith, length-append unsent (body_end [])))
 
 -- from empty buffers on
 module _ {R W : Type 0} (remaining : R → Option (List ℕ)) (tells : W → StreamLog) (stretch : W → W → Type 0)

@@ -1,14 +1,15 @@
 //! What a plain buffer moves under a policy that looks ahead, told by where its bytes stand.
 use buffer_redux::policy::{DoRead, MinBuffered, ReaderPolicy};
-use buffer_redux::script::ScriptReader;
-use buffer_redux::tell::Told;
+use buffer_redux::tell::{TellRead, TellSeek, Told};
 use buffer_redux::{BufReader, Buffer};
 use redux_play::laws;
 use redux_play::play::{ReaderCall, ReaderRun};
+use std::alloc::{AllocError, Global};
 use std::io;
-use std::io::{BufRead, Cursor, SeekFrom};
+use std::io::{Cursor, SeekFrom};
 use std::process::Abort;
 use std::test::Fail;
+use tests_common::{Source, asked, consume, fill_buf, reader, reader_under, source};
 
 // The bytes 1 to 30.
 const BYTES: [u8; 30] = [
@@ -42,7 +43,26 @@ impl ReaderPolicy for Weighing {
     }
 }
 
-type Weighed = BufReader<Told<ScriptReader>, Weighing>;
+type Weighed = BufReader<Source, Weighing>;
+
+// A reader of these bytes over an empty buffer of this capacity.
+fn weighed(alloc: Global, capacity: usize, bytes: &[u8]) -> Result<Weighed, Fail> {
+    let policy = Weighing {
+        inner: MinBuffered(0),
+        moved: 0,
+    };
+    let rdr = reader(alloc, capacity, &[], source(alloc, bytes, &[])?)?;
+    Ok(reader_under(rdr, policy))
+}
+
+fn set_min(rdr: &mut Weighed, min: usize) {
+    rdr.policy_mut().inner.set_min(min);
+}
+
+// How many bytes were moved by now, the capacity, and how often the source was asked.
+fn seen(rdr: &Weighed) -> (usize, usize, usize) {
+    (rdr.policy().moved, rdr.capacity(), asked(rdr).len())
+}
 
 // So many bytes are consumed, and a fill under this minimum then shows those from here to there; so many were moved by
 // then, the capacity is this, and the source was asked so often.
@@ -50,12 +70,11 @@ type Step = [usize; 7];
 
 fn walks(rt: &impl Abort, rdr: &mut Weighed, steps: &[Step]) -> Result<(), Fail> {
     for &[consumed, min, from, to, moved, capacity, asks] in steps {
-        rdr.consume(consumed);
-        rdr.policy_mut().inner.set_min(min);
+        consume(rdr, consumed);
+        set_min(rdr, min);
         assert!(rt; from <= to && to <= BYTES.len());
-        assert_eq!(rt; rdr.fill_buf()?, &BYTES[from..to]);
-        assert_eq!(rt; (rdr.policy().moved, rdr.capacity()), (moved, capacity));
-        assert_eq!(rt; rdr.get_ref().get_ref().offers().len(), asks);
+        assert_eq!(rt; fill_buf(rdr)?, &BYTES[from..to]);
+        assert_eq!(rt; seen(rdr), (moved, capacity, asks));
     }
     Ok(())
 }
@@ -118,39 +137,49 @@ fn moves(rt: HostRuntime) -> Result<(), Fail> {
     ];
     for (capacity, count, steps) in rows {
         assert!(rt; count <= BYTES.len());
-        let inner = Told::new(ScriptReader::new(rt.alloc(), &BYTES[..count], &[])?);
-        let policy = Weighing {
-            inner: MinBuffered(0),
-            moved: 0,
-        };
-        let rdr = BufReader::with_capacity(rt.alloc(), capacity, inner)?;
-        walks(&rt, &mut rdr.set_policy(policy), steps)?;
+        let mut rdr = weighed(rt.alloc(), capacity, &BYTES[..count])?;
+        walks(&rt, &mut rdr, steps)?;
     }
     Ok(())
 }
 
-// Two runs with another minimum, a growth and a seek between them.
+type Ahead = BufReader<Told<Cursor<&'static [u8]>>, MinBuffered>;
+
+// A reader of all the bytes that looks ahead by four.
+fn ahead(alloc: Global) -> Result<Ahead, Fail> {
+    let rdr = reader(alloc, 12, &[], Told::new(Cursor::new(BYTES.as_slice())))?;
+    Ok(reader_under(rdr, MinBuffered(4)))
+}
+
+// What a list of calls hands out.
+fn played<R: TellRead>(
+    alloc: Global,
+    rdr: &mut BufReader<R, MinBuffered>,
+    calls: &[ReaderCall],
+) -> Result<Vec<u8>, AllocError> {
+    let mut run = ReaderRun::new(alloc);
+    laws::play_sparing(alloc, rdr, calls, &mut run)?;
+    Ok(run.handed)
+}
+
+// Another minimum, a growth and a seek.
+fn between<R: TellSeek>(rdr: &mut BufReader<R, MinBuffered>) -> io::Result<u64> {
+    laws::spare_between(rdr, 2, 6, SeekFrom::Start(10))
+}
+
+// Two runs with these between them.
 #[test]
 fn two_runs(rt: HostRuntime) -> Result<(), Fail> {
-    let inner = Told::new(Cursor::new(BYTES.as_slice()));
-    let rdr = BufReader::with_capacity(rt.alloc(), 12, inner)?;
-    let mut rdr = rdr.set_policy(MinBuffered(4));
-    let mut run = ReaderRun::new(rt.alloc());
+    let mut rdr = ahead(rt.alloc())?;
     let calls = [
         ReaderCall::Read(3),
         ReaderCall::Fill,
         ReaderCall::Consume(2),
     ];
-    laws::play_sparing(rt.alloc(), &mut rdr, &calls, &mut run)?;
-    assert_eq!(rt; run.handed.as_slice(), &BYTES[..5]);
-    assert_eq!(rt;
-        laws::spare_between(&mut rdr, 2, 6, SeekFrom::Start(10))?,
-        10
-    );
+    assert_eq!(rt; played(rt.alloc(), &mut rdr, &calls)?.as_slice(), &BYTES[..5]);
+    assert_eq!(rt; between(&mut rdr)?, 10);
     assert_eq!(rt; (rdr.buf_len(), rdr.capacity()), (0, 18));
-    let mut run = ReaderRun::new(rt.alloc());
     let calls = [ReaderCall::Fill, ReaderCall::Consume(20)];
-    laws::play_sparing(rt.alloc(), &mut rdr, &calls, &mut run)?;
-    assert_eq!(rt; run.handed.as_slice(), &BYTES[10..28]);
+    assert_eq!(rt; played(rt.alloc(), &mut rdr, &calls)?.as_slice(), &BYTES[10..28]);
     Ok(())
 }

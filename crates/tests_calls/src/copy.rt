@@ -1,15 +1,12 @@
 //! Copying, by worked examples.
-use buffer_redux::script::{Answer, ScriptReader, ScriptWriter};
-use buffer_redux::tell::{TellWrite, Told};
-use buffer_redux::{BufReader, LineWriter, copy_buf};
-use std::alloc::{AllocError, Global};
+use buffer_redux::script::Answer;
+use buffer_redux::tell::{TellBufRead, TellWrite};
+use buffer_redux::{BufReader, MakeError, copy_buf};
+use std::alloc::Global;
+use std::io;
 use std::io::ErrorKind;
 use std::test::Fail;
-use tests_common::holding;
-
-type Reader = BufReader<Told<ScriptReader>>;
-
-type Writer = Told<ScriptWriter>;
+use tests_common::{Source, line_writer, reader, source, taken_lines, target};
 
 // What the reader gives by which script, the script of the writer, what copying returns, what the writer received, what
 // is left in the reader, and the offers that the writer saw last.
@@ -23,16 +20,7 @@ type Row<'a> = (
     &'a [usize],
 );
 
-fn reader(alloc: Global, bytes: &[u8], script: &[Answer]) -> Result<Reader, Fail> {
-    let inner = Told::new(ScriptReader::new(alloc, bytes, script)?);
-    Ok(BufReader::with_buffer(holding(alloc, 4, &[])?, inner))
-}
-
-fn writer(alloc: Global, script: &[Answer]) -> Result<Writer, AllocError> {
-    Ok(Told::new(ScriptWriter::new(alloc, script)?))
-}
-
-fn copied<W: TellWrite>(from: &mut Reader, to: &mut W) -> Result<u64, ErrorKind> {
+fn copied<R: TellBufRead, W: TellWrite>(from: &mut R, to: &mut W) -> Result<u64, ErrorKind> {
     copy_buf(from, to).map_err(|e| e.kind())
 }
 
@@ -82,8 +70,8 @@ fn copies(rt: HostRuntime) -> Result<(), Fail> {
         (&[1, 2, 3], &[], &in_rows, Ok(3), &[1, 2, 3], &[], &[]),
     ];
     for &(bytes, script, answers, answer, received, left, offers) in &rows {
-        let mut from = reader(rt.alloc(), bytes, script)?;
-        let mut to = writer(rt.alloc(), answers)?;
+        let mut from = reader(rt.alloc(), 4, &[], source(rt.alloc(), bytes, script)?)?;
+        let mut to = target(rt.alloc(), answers)?;
         assert_eq!(rt; copied(&mut from, &mut to), answer);
         assert_eq!(rt; to.get_ref().taken(), received);
         assert_eq!(rt; from.buffer(), left);
@@ -93,26 +81,25 @@ fn copies(rt: HostRuntime) -> Result<(), Fail> {
     Ok(())
 }
 
+fn flush_told<W: TellWrite>(to: &mut W) -> io::Result<()> {
+    to.flush_told()
+}
+
+fn ring(alloc: Global, inner: Source) -> Result<BufReader<Source>, MakeError<Source>> {
+    BufReader::with_capacity_ringbuf(alloc, 64, inner)
+}
+
 // From a ring into a writer that looks at the bytes, and keeps what is no line until it is flushed.
 #[test]
 fn lines(rt: HostRuntime) -> Result<(), Fail> {
-    let mut from = ring(rt.alloc(), b"one\ntwo\nthree")?;
-    let mut to = line_writer(rt.alloc())?;
+    let inner = source(rt.alloc(), b"one\ntwo\nthree", &[Answer::ServeEach(2)])?;
+    let mut from = ring(rt.alloc(), inner)?;
+    let mut to = line_writer(rt.alloc(), 8, &[], target(rt.alloc(), &[])?)?;
     assert_eq!(rt; copied(&mut from, &mut to), Ok(13));
     assert_eq!(rt; to.buf_len(), 5);
-    assert_eq!(rt; to.get_ref().get_ref().taken(), b"one\ntwo\n".as_slice());
-    to.flush_told()?;
-    let device = to.get_ref().get_ref();
-    assert_eq!(rt; device.taken(), b"one\ntwo\nthree".as_slice());
-    assert_eq!(rt; device.flushes(), 1);
+    assert_eq!(rt; taken_lines(&to), b"one\ntwo\n".as_slice());
+    flush_told(&mut to)?;
+    assert_eq!(rt; taken_lines(&to), b"one\ntwo\nthree".as_slice());
+    assert_eq!(rt; to.get_ref().get_ref().flushes(), 1);
     Ok(())
-}
-
-fn ring(alloc: Global, bytes: &[u8]) -> Result<Reader, Fail> {
-    let inner = Told::new(ScriptReader::new(alloc, bytes, &[Answer::ServeEach(2)])?);
-    Ok(BufReader::with_capacity_ringbuf(alloc, 64, inner)?)
-}
-
-fn line_writer(alloc: Global) -> Result<LineWriter<Writer>, Fail> {
-    Ok(LineWriter::with_buffer(holding(alloc, 8, &[])?, writer(alloc, &[])?))
 }

@@ -1,19 +1,24 @@
 //! A list of calls that isn't played to its end. Others are lines of the program `replay`.
 use buffer_redux::BufReader;
-use buffer_redux::script::ScriptReader;
-use buffer_redux::tell::Told;
+use buffer_redux::tell::TellRead;
 use redux_play::play::{ReaderCall, ReaderRun, play_reader};
+use std::alloc::Global;
 use std::test::Fail;
+use tests_common::{asked, reader, source};
+
+// Whether the run of one call ends, and whether nothing is noted of it.
+fn ends<R: TellRead>(alloc: Global, rdr: &mut BufReader<R>, call: ReaderCall) -> (bool, bool) {
+    let mut run = ReaderRun::new(alloc);
+    let ended = play_reader(alloc, rdr, &[call], &mut run).is_ok();
+    (ended, run.answers.is_empty() && run.handed.is_empty())
+}
 
 // A call whose slice can't be had isn't begun.
 #[test]
 fn plays_no_further(rt: HostRuntime) -> Result<(), Fail> {
-    let inner = Told::new(ScriptReader::new(rt.alloc(), &[1, 2], &[])?);
-    let mut rdr = BufReader::with_capacity(rt.alloc(), 4, inner)?;
-    let mut run = ReaderRun::new(rt.alloc());
-    let too_long = [ReaderCall::Read(usize::MAX)];
-    assert!(rt; play_reader(rt.alloc(), &mut rdr, &too_long, &mut run).is_err());
-    assert!(rt; run.answers.is_empty() && run.handed.is_empty());
-    assert!(rt; rdr.get_ref().get_ref().offers().is_empty());
+    let mut rdr = reader(rt.alloc(), 4, &[], source(rt.alloc(), &[1, 2], &[])?)?;
+    let too_long = ReaderCall::Read(usize::MAX);
+    assert_eq!(rt; ends(rt.alloc(), &mut rdr, too_long), (false, true));
+    assert!(rt; asked(&rdr).is_empty());
     Ok(())
 }

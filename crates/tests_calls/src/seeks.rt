@@ -1,14 +1,14 @@
 use buffer_redux::SeekPlan::{One, Two};
-use buffer_redux::policy::ReaderPolicy;
 use buffer_redux::script::{ScriptReader, ScriptSeeker};
-use buffer_redux::tell::{TellBufRead, TellRead, TellSeek, Told};
-use buffer_redux::{BufReader, SeekPlan, seek_plan};
-use std::alloc::Global;
+use buffer_redux::tell::{Tell, TellBufRead, TellSeek, Told};
+use buffer_redux::{BufReader, MakeError, SeekPlan, seek_plan};
+use std::alloc::{AllocError, Global};
+use std::io;
 use std::io::SeekFrom::{Current, End, Start};
 use std::io::{BufRead, Cursor, ErrorKind, Seek, SeekFrom};
 use std::process::Abort;
 use std::test::Fail;
-use tests_common::{Positions, holding};
+use tests_common::{Positions, consume, fill_buf, reader, seek};
 
 const SOURCE: [u8; 8] = [5, 6, 7, 0, 1, 2, 3, 4];
 
@@ -23,18 +23,14 @@ enum Step<'a> {
     Consume(usize),
 }
 
-fn walks<R: TellRead + TellSeek, P: ReaderPolicy>(
-    rt: &impl Abort,
-    rdr: &mut BufReader<R, P>,
-    steps: &[Step<'_>],
-) -> Result<(), Fail> {
+fn walks<R: BufRead + Seek>(rt: &impl Abort, rdr: &mut R, steps: &[Step<'_>]) -> Result<(), Fail> {
     for &step in steps {
         match step {
             Step::Seek(to, want) => {
-                assert_eq!(rt; rdr.seek(to).map_err(|e| e.kind()), want);
+                assert_eq!(rt; seek(rdr, to).map_err(|e| e.kind()), want);
             }
-            Step::Fill(shown) => assert_eq!(rt; rdr.fill_buf()?, shown),
-            Step::Consume(amount) => rdr.consume(amount),
+            Step::Fill(shown) => assert_eq!(rt; fill_buf(rdr)?, shown),
+            Step::Consume(amount) => consume(rdr, amount),
         }
     }
     Ok(())
@@ -66,10 +62,19 @@ fn plans(rt: HostRuntime) -> Result<(), Fail> {
     Ok(())
 }
 
+type Text = Told<Cursor<&'static [u8]>>;
+
+fn text() -> Text {
+    Told::new(Cursor::new(SOURCE.as_slice()))
+}
+
+fn ring<R: Tell>(alloc: Global, inner: R) -> Result<BufReader<R>, MakeError<R>> {
+    BufReader::new_ringbuf(alloc, inner)
+}
+
 #[test]
 fn in_a_cursor(rt: HostRuntime) -> Result<(), Fail> {
-    let inner = Told::new(Cursor::new(SOURCE.as_slice()));
-    let mut rdr = BufReader::with_capacity(rt.alloc(), 2, inner)?;
+    let mut rdr = reader(rt.alloc(), 2, &[], text())?;
     let steps = [
         Step::Seek(Start(3), Ok(3)),
         Step::Fill(&[0, 1]),
@@ -82,8 +87,7 @@ fn in_a_cursor(rt: HostRuntime) -> Result<(), Fail> {
     ];
     walks(&rt, &mut rdr, &steps)?;
 
-    let inner = Told::new(Cursor::new(SOURCE.as_slice()));
-    let mut rdr = BufReader::new_ringbuf(rt.alloc(), inner)?;
+    let mut rdr = ring(rt.alloc(), text())?;
     let steps = [
         Step::Seek(Start(3), Ok(3)),
         Step::Fill(&[0, 1, 2, 3, 4]),
@@ -98,12 +102,30 @@ fn in_a_cursor(rt: HostRuntime) -> Result<(), Fail> {
     walks(&rt, &mut rdr, &steps)
 }
 
+type Nested = BufReader<Told<BufReader<Text>>>;
+
+// A reader over a reader of the cursor.
+fn nested(alloc: Global) -> Result<Nested, Fail> {
+    let inner = reader(alloc, 5, &[], text())?;
+    Ok(reader(alloc, 2, &[], Told::new(inner))?)
+}
+
+fn into_source(rdr: Nested) -> BufReader<Text> {
+    rdr.into_inner().into_inner()
+}
+
+fn seek_told<S: TellSeek>(stream: &mut S, to: SeekFrom) -> io::Result<u64> {
+    stream.seek_told(to)
+}
+
+fn fill_told<R: TellBufRead>(rdr: &mut R) -> io::Result<&[u8]> {
+    rdr.fill_told()
+}
+
 // A reader inside a reader drops what it holds, by the calls of std and by those that tell.
 #[test]
 fn in_a_reader(rt: HostRuntime) -> Result<(), Fail> {
-    let source = Told::new(Cursor::new(SOURCE.as_slice()));
-    let inner = Told::new(BufReader::with_capacity(rt.alloc(), 5, source)?);
-    let mut rdr = BufReader::with_capacity(rt.alloc(), 2, inner)?;
+    let mut rdr = nested(rt.alloc())?;
     let steps = [
         Step::Fill(&[5, 6]),
         Step::Consume(1),
@@ -114,48 +136,59 @@ fn in_a_reader(rt: HostRuntime) -> Result<(), Fail> {
     ];
     walks(&rt, &mut rdr, &steps)?;
 
-    let mut inner = rdr.into_inner().into_inner();
+    let mut inner = into_source(rdr);
     assert_eq!(rt; inner.buffer(), [1, 2, 3].as_slice());
-    assert_eq!(rt; inner.seek_told(Start(6))?, 6);
-    assert_eq!(rt; inner.fill_told()?, [3, 4].as_slice());
+    assert_eq!(rt; seek_told(&mut inner, Start(6))?, 6);
+    assert_eq!(rt; fill_told(&mut inner)?, [3, 4].as_slice());
     Ok(())
 }
+
+// Walks through these steps, and then the source was asked to seek so often.
+type Walk<'a> = (&'a [Step<'a>], usize);
 
 #[test]
 fn far_back(rt: HostRuntime) -> Result<(), Fail> {
     let inner = Told::new(Positions { at: 0, seeks: 0 });
-    let mut rdr = BufReader::with_capacity(rt.alloc(), 5, inner)?;
-    let steps = [
-        Step::Fill(&[0, 1, 2, 3, 4]),
-        Step::Seek(End(-5), Ok(18446744073709551610)),
-        Step::Fill(&[250, 251, 252, 253, 254]),
+    let mut rdr = reader(rt.alloc(), 5, &[], inner)?;
+    let rows: [Walk<'_>; 3] = [
+        (
+            &[
+                Step::Fill(&[0, 1, 2, 3, 4]),
+                Step::Seek(End(-5), Ok(18446744073709551610)),
+                Step::Fill(&[250, 251, 252, 253, 254]),
+            ],
+            1,
+        ),
+        // This one is two of the source's.
+        (
+            &[Step::Seek(Current(i64::MIN), Ok(9223372036854775802))],
+            3,
+        ),
+        (
+            &[
+                Step::Fill(&[250, 251, 252, 253, 254]),
+                Step::Seek(Current(0), Ok(9223372036854775802)),
+            ],
+            4,
+        ),
     ];
-    walks(&rt, &mut rdr, &steps)?;
-    assert_eq!(rt; rdr.get_ref().get_ref().seeks, 1);
-
-    // This one is two of the source's.
-    let least = Step::Seek(Current(i64::MIN), Ok(9223372036854775802));
-    walks(&rt, &mut rdr, &[least])?;
-    assert_eq!(rt; rdr.get_ref().get_ref().seeks, 3);
-    let steps = [
-        Step::Fill(&[250, 251, 252, 253, 254]),
-        Step::Seek(Current(0), Ok(9223372036854775802)),
-    ];
-    walks(&rt, &mut rdr, &steps)?;
-    assert_eq!(rt; rdr.get_ref().get_ref().seeks, 4);
+    for (steps, seeks) in rows {
+        walks(&rt, &mut rdr, steps)?;
+        assert_eq!(rt; rdr.get_ref().get_ref().seeks, seeks);
+    }
     Ok(())
 }
 
-// A reader of `bytes` that holds `held`, whose seeks answer by this script.
-fn scripted(
-    alloc: Global,
-    held: &[u8],
-    bytes: &[u8],
-    answers: &[Result<u64, ErrorKind>],
-) -> Result<BufReader<Told<ScriptSeeker<ScriptReader>>>, Fail> {
-    let stream = ScriptReader::new(alloc, bytes, &[])?;
-    let inner = Told::new(ScriptSeeker::new(alloc, stream, answers)?);
-    Ok(BufReader::with_buffer(holding(alloc, 5, held)?, inner))
+type Scripted = Told<ScriptSeeker<ScriptReader>>;
+
+// A source of nothing whose seeks answer by this script.
+fn scripted(alloc: Global, answers: &[Result<u64, ErrorKind>]) -> Result<Scripted, AllocError> {
+    let stream = ScriptReader::new(alloc, &[], &[])?;
+    Ok(Told::new(ScriptSeeker::new(alloc, stream, answers)?))
+}
+
+fn targets(rdr: &BufReader<Scripted>) -> &[SeekFrom] {
+    rdr.get_ref().get_ref().targets()
 }
 
 // What is held, a seek, its script, what it returns, where it asked to go, and how many bytes are left.
@@ -186,11 +219,11 @@ fn asks_as_planned(rt: HostRuntime) -> Result<(), Fail> {
         ),
         (&[1, 2, 3, 4, 5], least, &[Ok(8), fault], fault, &twice, 0),
     ];
-    for (held, to, answers, want, targets, left) in rows {
-        let mut rdr = scripted(rt.alloc(), held, &[], answers)?;
+    for (held, to, answers, want, asked, left) in rows {
+        let mut rdr = reader(rt.alloc(), 5, held, scripted(rt.alloc(), answers)?)?;
         walks(&rt, &mut rdr, &[Step::Seek(to, want)])?;
         assert_eq!(rt; rdr.buf_len(), left);
-        assert_eq!(rt; rdr.get_ref().get_ref().targets(), targets);
+        assert_eq!(rt; targets(&rdr), asked);
     }
     Ok(())
 }

@@ -1,41 +1,36 @@
 //! A reader that gives its buffer up, by worked examples.
-use buffer_redux::policy::StdPolicy;
-use buffer_redux::script::{Answer, ScriptReader};
-use buffer_redux::tell::Told;
+use buffer_redux::script::Answer;
+use buffer_redux::tell::{Tell, TellRead};
 use buffer_redux::{BufReader, Unbuffer};
-use std::alloc::Global;
 use std::io::{ErrorKind, Read};
 use std::process::Abort;
 use std::test::Fail;
-use tests_common::holding;
+use tests_common::{Source, reader, source};
 
-type Unbuffered = Unbuffer<Told<ScriptReader>>;
+type Unbuffered = Unbuffer<Source>;
 
 // The room of a read, what it hands out, and what is left afterwards.
 type Step<'a> = (usize, Result<&'a [u8], ErrorKind>, &'a [u8]);
 
-fn unbuffered(
-    alloc: Global,
-    held: &[u8],
-    bytes: &[u8],
-    script: &[Answer],
-) -> Result<Unbuffered, Fail> {
-    let inner = Told::new(ScriptReader::new(alloc, bytes, script)?);
-    let reader: BufReader<_, StdPolicy> = BufReader::with_buffer(holding(alloc, 4, held)?, inner);
-    Ok(reader.unbuffer())
+fn unbuffered<R: Tell>(rdr: BufReader<R>) -> Unbuffer<R> {
+    rdr.unbuffer()
 }
 
-fn handed<'a>(rdr: &mut Unbuffered, out: &'a mut [u8]) -> Result<&'a [u8], ErrorKind> {
+fn handed<'a, R: TellRead>(rdr: &mut Unbuffer<R>, out: &'a mut [u8]) -> Result<&'a [u8], ErrorKind> {
     match rdr.read(out) {
         Ok(n) => Ok(&out[..n]),
         Err(e) => Err(e.kind()),
     }
 }
 
-fn left(rt: &impl Abort, rdr: &Unbuffered, bytes: &[u8]) {
+fn left<R: Tell>(rt: &impl Abort, rdr: &Unbuffer<R>, bytes: &[u8]) {
     assert_eq!(rt; rdr.buf(), bytes);
     assert_eq!(rt; rdr.buf_len(), bytes.len());
     assert_eq!(rt; rdr.is_buf_empty(), bytes.is_empty());
+}
+
+fn into_inner<R: Tell>(rdr: Unbuffer<R>) -> R {
+    rdr.into_inner()
 }
 
 // Reads step by step, and compares the offers that the inner reader saw.
@@ -46,7 +41,7 @@ fn walks(rt: &impl Abort, mut rdr: Unbuffered, steps: &[Step<'_>], offers: &[usi
         assert_eq!(rt; handed(&mut rdr, &mut out[..room]), answer);
         left(rt, &rdr, rest);
     }
-    assert_eq!(rt; rdr.into_inner().get_ref().offers(), offers);
+    assert_eq!(rt; into_inner(rdr).get_ref().offers(), offers);
 }
 
 #[test]
@@ -76,7 +71,7 @@ fn reads(rt: HostRuntime) -> Result<(), Fail> {
         ),
     ];
     for (held, bytes, script, steps, offers) in rows {
-        let rdr = unbuffered(rt.alloc(), held, bytes, script)?;
+        let rdr = unbuffered(reader(rt.alloc(), 4, held, source(rt.alloc(), bytes, script)?)?);
         left(&rt, &rdr, held);
         walks(&rt, rdr, steps, offers);
     }
@@ -85,7 +80,7 @@ fn reads(rt: HostRuntime) -> Result<(), Fail> {
 
 #[test]
 fn shows(rt: HostRuntime) -> Result<(), Fail> {
-    let rdr = unbuffered(rt.alloc(), &[1], &[2], &[])?;
+    let rdr = unbuffered(reader(rt.alloc(), 4, &[1], source(rt.alloc(), &[2], &[])?)?);
     let text = format!(in rt.alloc(); "{rdr:?}")?;
     assert!(rt; text.starts_with("buffer_redux::Unbuffer"));
     Ok(())

@@ -1,37 +1,35 @@
 //! What becomes of a writer's bytes where it is taken apart, dropped or moved to another place.
+use crate::lines::has;
 use buffer_redux::policy::FlushOn;
 use buffer_redux::script::{Answer, ScriptSeeker, ScriptWriter};
-use buffer_redux::tell::Told;
+use buffer_redux::tell::{TellWrite, Told};
 use buffer_redux::{BufWriter, Buffer, GrowError, IntoInnerError, MakeError};
-use redux_play::laws::{drop_unsent, keep_unsent};
-use std::alloc::Global;
+use redux_play::laws;
+use std::alloc::{AllocError, Global};
 use std::cell::Cell;
 use std::io;
 use std::io::{Cursor, ErrorKind, Seek, SeekFrom, Write};
 use std::test::Fail;
-use tests_common::holding;
-
-type Stream = Told<ScriptWriter>;
+use tests_common::{Target, flushes, offered, seek, taken, target, write_all, writer};
 
 const FAULTS: [Answer; 2] = [Answer::Serve(2), Answer::Fail(ErrorKind::Other)];
 
 // A writer over a buffer of capacity 4 that holds [1, 2, 3].
-fn writer(alloc: Global, script: &[Answer]) -> Result<BufWriter<Stream>, Fail> {
-    let inner = Told::new(ScriptWriter::new(alloc, script)?);
-    Ok(BufWriter::with_buffer(holding(alloc, 4, &[1, 2, 3])?, inner))
+fn begun(alloc: Global, script: &[Answer]) -> Result<BufWriter<Target>, Fail> {
+    Ok(writer(alloc, 4, &[1, 2, 3], target(alloc, script)?)?)
 }
 
 // Both parts, how often the handler was called, the last buffer that it was lent, and the last fault.
 #[derive(Drop)]
-struct Finished {
-    inner: Stream,
+struct Finished<W> {
+    inner: W,
     buf: Buffer,
     calls: usize,
     unsent: usize,
     fault: Option<ErrorKind>,
 }
 
-fn finish(wrt: BufWriter<Stream>) -> Finished {
+fn finish<W: TellWrite>(wrt: BufWriter<W>) -> Finished<W> {
     let mut calls: usize = 0;
     let mut unsent = 0;
     let mut fault = None;
@@ -49,6 +47,26 @@ fn finish(wrt: BufWriter<Stream>) -> Finished {
     }
 }
 
+fn keep_unsent<W: TellWrite>(wrt: BufWriter<W>) -> (W, Buffer) {
+    laws::keep_unsent(wrt)
+}
+
+fn drop_unsent<W: TellWrite>(wrt: BufWriter<W>) -> (W, Buffer) {
+    laws::drop_unsent(wrt)
+}
+
+fn unwrapped<W: TellWrite>(wrt: BufWriter<W>) -> Result<W, IntoInnerError<BufWriter<W>>> {
+    wrt.into_inner()
+}
+
+fn unwrapped_with_err<W: TellWrite>(wrt: BufWriter<W>) -> (W, Option<io::Error>) {
+    wrt.into_inner_with_err()
+}
+
+fn send<W: TellWrite>(wrt: &mut BufWriter<W>) -> Result<(), ErrorKind> {
+    wrt.send().map_err(|e| e.kind())
+}
+
 #[test]
 fn finishes(rt: HostRuntime) -> Result<(), Fail> {
     // The script, how often the handler is called, with which fault, what then was taken, and what is left.
@@ -57,19 +75,16 @@ fn finishes(rt: HostRuntime) -> Result<(), Fail> {
         (&FAULTS, 1, Some(ErrorKind::Other), &[1, 2], &[3]),
     ];
     for (script, calls, fault, taken, left) in rows {
-        let done = finish(writer(rt.alloc(), script)?);
-        assert_eq!(rt; done.calls, calls);
-        assert_eq!(rt; done.fault, fault);
-        assert_eq!(rt; done.unsent, left.len());
-        assert_eq!(rt; done.inner.get_ref().taken(), taken);
-        assert_eq!(rt; done.inner.get_ref().flushes(), 0);
+        let done = finish(begun(rt.alloc(), script)?);
+        assert_eq!(rt; (done.calls, done.fault, done.unsent), (calls, fault, left.len()));
+        has(&rt, &done.inner, taken, 0);
         assert_eq!(rt; done.buf.buf(), left);
         assert_eq!(rt; done.buf.capacity(), 4);
 
-        let (inner, buf) = keep_unsent(writer(rt.alloc(), script)?);
+        let (inner, buf) = keep_unsent(begun(rt.alloc(), script)?);
         assert_eq!(rt; inner.get_ref().taken(), taken);
         assert_eq!(rt; buf.buf(), left);
-        let (inner, buf) = drop_unsent(writer(rt.alloc(), script)?);
+        let (inner, buf) = drop_unsent(begun(rt.alloc(), script)?);
         assert_eq!(rt; inner.get_ref().taken(), taken);
         assert!(rt; buf.is_empty());
     }
@@ -84,22 +99,20 @@ fn unwraps(rt: HostRuntime) -> Result<(), Fail> {
         (&[], None, &[1, 2, 3], 1),
         (&again, Some(ErrorKind::Other), &[1, 2], 0),
     ];
-    for (script, kind, taken, flushes) in rows {
-        let (inner, fault) = writer(rt.alloc(), script)?.into_inner_with_err();
+    for (script, kind, bytes, flushes) in rows {
+        let (inner, fault) = unwrapped_with_err(begun(rt.alloc(), script)?);
         assert_eq!(rt; fault.map(|e| e.kind()), kind);
-        assert_eq!(rt; inner.get_ref().taken(), taken);
-        assert_eq!(rt; inner.get_ref().flushes(), flushes);
+        has(&rt, &inner, bytes, flushes);
 
-        match writer(rt.alloc(), script)?.into_inner() {
+        match unwrapped(begun(rt.alloc(), script)?) {
             Ok(inner) => {
                 assert_eq!(rt; kind, None);
-                assert_eq!(rt; inner.get_ref().taken(), taken);
-                assert_eq!(rt; inner.get_ref().flushes(), flushes);
+                has(&rt, &inner, bytes, flushes);
             }
             Err(IntoInnerError(wrt, fault)) => {
                 assert_eq!(rt; Some(fault.kind()), kind);
                 assert_eq!(rt; wrt.buf_len(), 1);
-                assert_eq!(rt; wrt.get_ref().get_ref().taken(), taken);
+                assert_eq!(rt; taken(&wrt), bytes);
             }
         }
     }
@@ -110,15 +123,14 @@ fn unwraps(rt: HostRuntime) -> Result<(), Fail> {
 // called where nothing is buffered.
 #[test]
 fn sends_without_a_flush(rt: HostRuntime) -> Result<(), Fail> {
-    let mut wrt = writer(rt.alloc(), &FAULTS)?;
+    let mut wrt = begun(rt.alloc(), &FAULTS)?;
     for (answer, left) in [(Err(ErrorKind::Other), 1), (Ok(()), 0), (Ok(()), 0)] {
-        assert_eq!(rt; wrt.send().map_err(|e| e.kind()), answer);
+        assert_eq!(rt; send(&mut wrt), answer);
         assert_eq!(rt; wrt.buf_len(), left);
     }
-    let inner = wrt.get_ref().get_ref();
-    assert_eq!(rt; inner.taken(), [1, 2, 3].as_slice());
-    assert_eq!(rt; inner.offers(), [3, 1, 1].as_slice());
-    assert_eq!(rt; inner.flushes(), 0);
+    assert_eq!(rt; taken(&wrt), [1, 2, 3].as_slice());
+    assert_eq!(rt; offered(&wrt), [3, 1, 1].as_slice());
+    assert_eq!(rt; flushes(&wrt), 0);
     Ok(())
 }
 
@@ -213,15 +225,11 @@ fn over_counts(
         most,
         before_fault,
     });
-    Ok(BufWriter::with_buffer(holding(alloc, 4, &[1, 2, 3])?, inner))
+    Ok(writer(alloc, 4, &[1, 2, 3], inner)?)
 }
 
 // Takes a writer apart in one of six ways, and drops the parts. Returns how often the stream was dropped before that.
-fn taken_apart<'a>(
-    wrt: BufWriter<Told<Counting<'a>>>,
-    drops: &'a Cell<usize>,
-    way: usize,
-) -> usize {
+fn taken_apart<W: TellWrite + Drop>(wrt: BufWriter<W>, drops: &Cell<usize>, way: usize) -> usize {
     match way {
         0 => {
             drop(wrt);
@@ -273,7 +281,7 @@ fn drops_after_a_fault(rt: HostRuntime) -> Result<(), Fail> {
     assert_eq!(rt; (counts.taken.get(), counts.drops.get()), (2, 1));
 
     let counts = Counts::default();
-    let answer = over_counts(rt.alloc(), &counts, 2, 1)?.into_inner();
+    let answer = unwrapped(over_counts(rt.alloc(), &counts, 2, 1)?);
     assert!(rt; answer.is_err());
     assert_eq!(rt; (counts.taken.get(), counts.drops.get()), (2, 0));
     drop(answer);
@@ -291,8 +299,7 @@ fn drops_before_its_stream(rt: HostRuntime) -> Result<(), Fail> {
     ];
     for (script, taken) in rows {
         let mut stream = ScriptWriter::new(rt.alloc(), script)?;
-        let buf = holding(rt.alloc(), 4, &[1, 2, 3])?;
-        drop(BufWriter::with_buffer(buf, Told::new(&mut stream)));
+        drop(writer(rt.alloc(), 4, &[1, 2, 3], Told::new(&mut stream))?);
         assert_eq!(rt; stream.taken(), taken);
         assert_eq!(rt; stream.flushes(), 0);
     }
@@ -301,34 +308,55 @@ fn drops_before_its_stream(rt: HostRuntime) -> Result<(), Fail> {
 
 #[test]
 fn flushes_as_it_unwraps(rt: HostRuntime) -> Result<(), Fail> {
-    let inner = Told::new(ScriptWriter::new(rt.alloc(), &[])?);
-    let mut wrt = BufWriter::with_capacity(rt.alloc(), 3, inner)?;
-    wrt.write_all(&[0, 1])?;
-    assert!(rt; wrt.get_ref().get_ref().taken().is_empty());
-    let inner = wrt.into_inner()?;
+    let mut wrt = writer(rt.alloc(), 3, &[], target(rt.alloc(), &[])?)?;
+    write_all(&mut wrt, &[0, 1])?;
+    assert!(rt; taken(&wrt).is_empty());
+    let inner = unwrapped(wrt)?;
     assert_eq!(rt; inner.get_ref().taken(), [0, 1].as_slice());
     Ok(())
+}
+
+type Placed = Told<Cursor<Vec<u8>>>;
+
+fn content(inner: &Placed) -> &[u8] {
+    inner.get_ref().get_ref().as_slice()
 }
 
 #[test]
 fn seeks(rt: HostRuntime) -> Result<(), Fail> {
     let inner = Told::new(Cursor::new(Vec::new(rt.alloc())));
-    let mut wrt = BufWriter::with_capacity(rt.alloc(), 3, inner)?;
-    wrt.write_all(&[0, 1, 2, 3, 4, 5])?;
-    wrt.write_all(&[6, 7])?;
-    assert_eq!(rt; wrt.seek(SeekFrom::Current(0))?, 8);
-    let content = wrt.get_ref().get_ref().get_ref().as_slice();
-    assert_eq!(rt; content, [0, 1, 2, 3, 4, 5, 6, 7].as_slice());
-    assert_eq!(rt; wrt.seek(SeekFrom::Start(2))?, 2);
-    wrt.write_all(&[8, 9])?;
-    let inner = wrt.into_inner()?;
-    let content = inner.get_ref().get_ref().as_slice();
-    assert_eq!(rt; content, [0, 1, 8, 9, 4, 5, 6, 7].as_slice());
+    let mut wrt = writer(rt.alloc(), 3, &[], inner)?;
+    write_all(&mut wrt, &[0, 1, 2, 3, 4, 5])?;
+    write_all(&mut wrt, &[6, 7])?;
+    assert_eq!(rt; seek(&mut wrt, SeekFrom::Current(0))?, 8);
+    assert_eq!(rt; content(wrt.get_ref()), [0, 1, 2, 3, 4, 5, 6, 7].as_slice());
+    assert_eq!(rt; seek(&mut wrt, SeekFrom::Start(2))?, 2);
+    write_all(&mut wrt, &[8, 9])?;
+    let inner = unwrapped(wrt)?;
+    assert_eq!(rt; content(&inner), [0, 1, 8, 9, 4, 5, 6, 7].as_slice());
     Ok(())
 }
 
 fn sought<W: Seek>(wrt: &mut W, to: SeekFrom) -> Result<u64, ErrorKind> {
     wrt.seek(to).map_err(|e| e.kind())
+}
+
+type Seeker = ScriptSeeker<ScriptWriter>;
+
+// A target whose first seek answers this.
+fn seeker(
+    alloc: Global,
+    script: &[Answer],
+    answer: Result<u64, ErrorKind>,
+) -> Result<Told<Seeker>, AllocError> {
+    let stream = ScriptWriter::new(alloc, script)?;
+    Ok(Told::new(ScriptSeeker::new(alloc, stream, &[answer])?))
+}
+
+// What the target took, how often it was flushed, and where it was asked to go.
+fn asked(wrt: &BufWriter<Told<Seeker>>) -> (&[u8], usize, &[SeekFrom]) {
+    let inner = wrt.get_ref().get_ref();
+    (inner.get_ref().taken(), inner.get_ref().flushes(), inner.targets())
 }
 
 // A seek comes after a flush, and none where that fails.
@@ -348,16 +376,13 @@ fn seeks_in_vain(rt: HostRuntime) -> Result<(), Fail> {
         (&FAULTS, Ok(5), Err(ErrorKind::Other), &[1, 2], 0),
     ];
     for (script, answer, result, taken, seeks) in rows {
-        let stream = ScriptWriter::new(rt.alloc(), script)?;
-        let inner = Told::new(ScriptSeeker::new(rt.alloc(), stream, &[answer])?);
-        let mut wrt = BufWriter::with_buffer(holding(rt.alloc(), 4, &[1, 2, 3])?, inner);
+        let inner = seeker(rt.alloc(), script, answer)?;
+        let mut wrt = writer(rt.alloc(), 4, &[1, 2, 3], inner)?;
         assert_eq!(rt; sought(&mut wrt, SeekFrom::Start(5)), result);
         assert_eq!(rt; wrt.buf_len(), 3 - taken.len());
-        let seeker = wrt.get_ref().get_ref();
-        assert_eq!(rt; seeker.get_ref().taken(), taken);
-        assert_eq!(rt; seeker.get_ref().flushes(), seeks);
-        assert_eq!(rt; seeker.targets().len(), seeks);
-        if let Some(SeekFrom::Start(at)) = seeker.targets().first() {
+        let (received, flushes, targets) = asked(&wrt);
+        assert_eq!(rt; (received, flushes, targets.len()), (taken, seeks, seeks));
+        if let Some(SeekFrom::Start(at)) = targets.first() {
             assert_eq!(rt; *at, 5);
         }
     }

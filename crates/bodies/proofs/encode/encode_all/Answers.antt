@@ -1,5 +1,5 @@
-use Rattle.std.proofs.Common.{Err, Ok, subst}
-use Rattle.chunked.specs.Chunk.{last_chunk}
+use Rattle.std.proofs.Common.{[], Err, Ok, arith, subst}
+use Rattle.chunked.specs.Chunk.{body_end}
 use Rattle.chunked.specs.Chunking.{unbegun}
 use Rattle.bodies.specs.Encode.{EncodesAll}
 use Rattle.bodies.proofs.EncodeRuns.{flushed, not_finished, stopped}
@@ -26,8 +26,9 @@ returns-in-Ok g c =
     c.in_default.ensures in
     let end = c.in-Ok.ensures in
     flushed g.R.TellRead.remaining g.W.Tell.log g.W.TellWrite.stretch s c.args.target c.requires.source.bytes
-    c.requires.target.bytes t body all.0 all.1 last_chunk c.in-Ok.target end.in_order end.body
-    (put_quietly g.W.Tell.log g.W.TellWrite.stretch body.writer c.in-Ok.target last_chunk _ end.fits end.full)
+    c.requires.target.bytes t body all.0 all.1 (body_end []) c.in-Ok.target end.in_order
+    (λ limits line. end.body limits (line, omega arith))
+    (put_quietly g.W.Tell.log g.W.TellWrite.stretch body.writer c.in-Ok.target (body_end []) _ end.fits end.full)
     c.flush.result c.flush.new.self c.flush.ensures.flushed
 
 pub returns-in-Err-finish : goal.returns-in-Err-finish
