@@ -176,10 +176,16 @@ fn two_runs(rt: HostRuntime) -> Result<(), Fail> {
         ReaderCall::Fill,
         ReaderCall::Consume(2),
     ];
-    assert_eq!(rt; played(rt.alloc(), &mut rdr, &calls)?.as_slice(), &BYTES[..5]);
+    assert_eq!(rt;
+        played(rt.alloc(), &mut rdr, &calls)?.as_slice(),
+        &BYTES[..5]
+    );
     assert_eq!(rt; between(&mut rdr)?, 10);
     assert_eq!(rt; (rdr.buf_len(), rdr.capacity()), (0, 18));
     let calls = [ReaderCall::Fill, ReaderCall::Consume(20)];
-    assert_eq!(rt; played(rt.alloc(), &mut rdr, &calls)?.as_slice(), &BYTES[10..28]);
+    assert_eq!(rt;
+        played(rt.alloc(), &mut rdr, &calls)?.as_slice(),
+        &BYTES[10..28]
+    );
     Ok(())
 }

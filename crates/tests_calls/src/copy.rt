@@ -5,6 +5,7 @@ use buffer_redux::{BufReader, MakeError, copy_buf};
 use std::alloc::Global;
 use std::io;
 use std::io::ErrorKind;
+use std::process::Abort;
 use std::test::Fail;
 use tests_common::{Source, line_writer, reader, source, taken_lines, target};
 
@@ -24,59 +25,55 @@ fn copied<R: TellBufRead, W: TellWrite>(from: &mut R, to: &mut W) -> Result<u64,
     copy_buf(from, to).map_err(|e| e.kind())
 }
 
+// Copies by a row.
+fn copies(rt: &impl Abort, alloc: Global, row: &Row<'_>) -> Result<(), Fail> {
+    let &(bytes, script, answers, answer, received, left, offers) = row;
+    let mut from = reader(alloc, 4, &[], source(alloc, bytes, script)?)?;
+    let mut to = target(alloc, answers)?;
+    assert_eq!(rt; copied(&mut from, &mut to), answer);
+    assert_eq!(rt; to.get_ref().taken(), received);
+    assert_eq!(rt; from.buffer(), left);
+    assert!(rt; offers.is_empty() || to.get_ref().offers() == offers);
+    assert_eq!(rt; to.get_ref().flushes(), 0);
+    Ok(())
+}
+
+const IN_ROWS: [Answer; 4] = [
+    Answer::Interrupt(64),
+    Answer::Serve(1),
+    Answer::Interrupt(64),
+    Answer::Serve(1),
+];
+
 #[test]
-fn copies(rt: HostRuntime) -> Result<(), Fail> {
-    let nothing = [Answer::Serve(0)];
-    let in_rows = [
-        Answer::Interrupt(64),
-        Answer::Serve(1),
-        Answer::Interrupt(64),
-        Answer::Serve(1),
-    ];
-    let too_often = [Answer::Interrupt(65)];
-    let fault = [Answer::Serve(2), Answer::Fail(ErrorKind::Other)];
-    let rows: [Row<'_>; 8] = [
+fn copies_all(rt: HostRuntime) -> Result<(), Fail> {
+    let rows: [Row<'_>; 4] = [
         (&[], &[], &[], Ok(0), &[], &[], &[0]),
         (&[1, 2, 3], &[], &[], Ok(3), &[1, 2, 3], &[], &[3, 0]),
-        (&[1, 2, 3], &[], &nothing, Ok(0), &[], &[1, 2, 3], &[3]),
-        (&[1, 2], &in_rows, &[], Ok(2), &[1, 2], &[], &[1, 1, 0]),
-        (
-            &[1, 2],
-            &too_often,
-            &[],
-            Err(ErrorKind::Interrupted),
-            &[],
-            &[],
-            &[],
-        ),
-        (
-            &[1, 2, 3],
-            &fault,
-            &[],
-            Err(ErrorKind::Other),
-            &[1, 2],
-            &[],
-            &[2],
-        ),
-        (
-            &[1, 2, 3],
-            &[],
-            &fault,
-            Err(ErrorKind::Other),
-            &[1, 2],
-            &[3],
-            &[3, 1],
-        ),
-        (&[1, 2, 3], &[], &in_rows, Ok(3), &[1, 2, 3], &[], &[]),
+        (&[1, 2], &IN_ROWS, &[], Ok(2), &[1, 2], &[], &[1, 1, 0]),
+        (&[1, 2, 3], &[], &IN_ROWS, Ok(3), &[1, 2, 3], &[], &[]),
     ];
-    for &(bytes, script, answers, answer, received, left, offers) in &rows {
-        let mut from = reader(rt.alloc(), 4, &[], source(rt.alloc(), bytes, script)?)?;
-        let mut to = target(rt.alloc(), answers)?;
-        assert_eq!(rt; copied(&mut from, &mut to), answer);
-        assert_eq!(rt; to.get_ref().taken(), received);
-        assert_eq!(rt; from.buffer(), left);
-        assert!(rt; offers.is_empty() || to.get_ref().offers() == offers);
-        assert_eq!(rt; to.get_ref().flushes(), 0);
+    for row in &rows {
+        copies(&rt, rt.alloc(), row)?;
+    }
+    Ok(())
+}
+
+#[test]
+fn copies_less(rt: HostRuntime) -> Result<(), Fail> {
+    let nothing = [Answer::Serve(0)];
+    let too_often = [Answer::Interrupt(65)];
+    let fault = [Answer::Serve(2), Answer::Fail(ErrorKind::Other)];
+    let interrupted = Err(ErrorKind::Interrupted);
+    let other = Err(ErrorKind::Other);
+    let rows: [Row<'_>; 4] = [
+        (&[1, 2, 3], &[], &nothing, Ok(0), &[], &[1, 2, 3], &[3]),
+        (&[1, 2], &too_often, &[], interrupted, &[], &[], &[]),
+        (&[1, 2, 3], &fault, &[], other, &[1, 2], &[], &[2]),
+        (&[1, 2, 3], &[], &fault, other, &[1, 2], &[3], &[3, 1]),
+    ];
+    for row in &rows {
+        copies(&rt, rt.alloc(), row)?;
     }
     Ok(())
 }

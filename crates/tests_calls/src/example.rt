@@ -13,7 +13,7 @@ use std::alloc::Global;
 use std::io;
 use std::io::{BufRead, ErrorKind, Read, Write};
 use std::test::Fail;
-use tests_common::holding;
+use tests_common::{holding, write};
 
 /// Writes one entry of a log, and flushes it.
 fn log<W: TellWrite, P: WriterPolicy>(writer: &mut BufWriter<W, P>, entry: &[u8]) -> io::Result<()>
@@ -29,7 +29,7 @@ fn log<W: TellWrite, P: WriterPolicy>(writer: &mut BufWriter<W, P>, entry: &[u8]
 fn logs(rt: HostRuntime) -> Result<(), Fail> {
     let mut device = Vec::new(rt.alloc());
     let mut writer = BufWriter::with_capacity(rt.alloc(), 4, Told::new(&mut device))?;
-    assert_eq!(rt; writer.write(b"ab")?, 2);
+    assert_eq!(rt; write(&mut writer, b"ab")?, 2);
     log(&mut writer, b"cdefg\n")?;
     assert_eq!(rt; writer.buf_len(), 0);
     drop(writer);

@@ -13,7 +13,7 @@ use std::alloc::Global;
 use std::io;
 use std::io::{BufRead, Cursor, Read, Seek, SeekFrom, Write};
 use std::test::Fail;
-use tests_common::holding;
+use tests_common::{consume, fill_buf, flush, holding, seek, write};
 
 type Bytes<'a> = BufReader<Told<&'a [u8]>>;
 
@@ -148,7 +148,7 @@ fn records_there_and_back(rt: HostRuntime) -> Result<(), Fail> {
 
     let buf = holding(rt.alloc(), 4, &[1])?;
     let mut writer = BufWriter::with_buffer(buf, Told::new(Vec::new(rt.alloc())));
-    assert_eq!(rt; writer.write(&[2, 3])?, 2);
+    assert_eq!(rt; write(&mut writer, &[2, 3])?, 2);
     settle(&mut writer)?;
     assert_eq!(rt; writer.get_ref().get_ref().as_slice(), [1, 2, 3].as_slice());
     put(&mut writer, &[4, 5, 6, 7, 8], &[9])?;
@@ -196,7 +196,7 @@ fn a_copy_of_all_that_is_left(rt: HostRuntime) -> Result<(), Fail> {
     let mut reader = begun(rt.alloc())?;
     let mut writer = BufWriter::new(rt.alloc(), Told::new(Vec::new(rt.alloc())))?;
     assert_eq!(rt; copy_rest(&mut reader, &mut writer)?, 11);
-    writer.flush()?;
+    flush(&mut writer)?;
     assert_eq!(rt;
         writer.get_ref().get_ref().as_slice(),
         b"ab\nthe rest".as_slice()
@@ -209,10 +209,10 @@ fn places_of_a_cursor(rt: HostRuntime) -> Result<(), Fail> {
     let source = Cursor::new([0, 1, 2, 3, 4, 5].as_slice());
     let buf = Buffer::with_capacity(rt.alloc(), 4)?;
     let mut reader = BufReader::with_buffer(buf, Told::new(source));
-    assert_eq!(rt; reader.fill_buf()?, [0, 1, 2, 3].as_slice());
-    reader.consume(1);
+    assert_eq!(rt; fill_buf(&mut reader)?, [0, 1, 2, 3].as_slice());
+    consume(&mut reader, 1);
     assert_eq!(rt; place(&mut reader)?, 1);
-    assert_eq!(rt; reader.seek(SeekFrom::Current(2))?, 3);
-    assert_eq!(rt; reader.fill_buf()?, [3, 4, 5].as_slice());
+    assert_eq!(rt; seek(&mut reader, SeekFrom::Current(2))?, 3);
+    assert_eq!(rt; fill_buf(&mut reader)?, [3, 4, 5].as_slice());
     Ok(())
 }

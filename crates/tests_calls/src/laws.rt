@@ -27,7 +27,10 @@ fn stands<P>(rt: &impl Abort, wrt: &BufWriter<Target, P>, sent: &[u8], left: usi
     assert_eq!(rt; wrt.buf_len(), left);
 }
 
-fn any<W: TellWrite, P: WriterPolicy>(wrt: &mut BufWriter<W, P>, bytes: &[u8]) -> io::Result<usize> {
+fn any<W: TellWrite, P: WriterPolicy>(
+    wrt: &mut BufWriter<W, P>,
+    bytes: &[u8],
+) -> io::Result<usize> {
     laws::write_law(wrt, bytes)
 }
 
@@ -35,7 +38,10 @@ fn on<W: TellWrite>(wrt: &mut BufWriter<W, FlushOn>, bytes: &[u8]) -> io::Result
     laws::flush_on_law(wrt, bytes)
 }
 
-fn newline<W: TellWrite>(wrt: &mut BufWriter<W, FlushOnNewline>, bytes: &[u8]) -> io::Result<usize> {
+fn newline<W: TellWrite>(
+    wrt: &mut BufWriter<W, FlushOnNewline>,
+    bytes: &[u8],
+) -> io::Result<usize> {
     laws::flush_on_newline_law(wrt, bytes)
 }
 

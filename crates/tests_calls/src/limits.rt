@@ -54,7 +54,10 @@ fn bounds_a_connection(rt: HostRuntime) -> Result<(), Fail> {
         (18446744073709551615, false, 4096),
     ] {
         let mut reader = connected(rt.alloc())?;
-        assert_eq!(rt; (grants(&mut reader, length), reader.capacity()), (granted, capacity));
+        assert_eq!(rt;
+            (grants(&mut reader, length), reader.capacity()),
+            (granted, capacity)
+        );
         assert_eq!(rt; fill_buf(&mut reader)?, b"abc".as_slice());
     }
     Ok(())

@@ -89,7 +89,9 @@ fn change<W: TellWrite + Drop>(lines: &mut LineWriter<W>, inner: W) {
     *lines.get_mut() = inner;
 }
 
-fn unwrapped<W: TellWrite + Drop>(lines: LineWriter<W>) -> Result<W, IntoInnerError<LineWriter<W>>> {
+fn unwrapped<W: TellWrite + Drop>(
+    lines: LineWriter<W>,
+) -> Result<W, IntoInnerError<LineWriter<W>>> {
     lines.into_inner()
 }
 

@@ -13,7 +13,11 @@ use std::test::Fail;
 use tests_common::{Source, asked, fill_buf, reader, reader_under, source};
 
 // A reader that looks ahead by two, over a buffer of capacity 4 that holds one byte.
-fn ahead(alloc: Global, bytes: &[u8], script: &[Answer]) -> Result<BufReader<Source, MinBuffered>, Fail> {
+fn ahead(
+    alloc: Global,
+    bytes: &[u8],
+    script: &[Answer],
+) -> Result<BufReader<Source, MinBuffered>, Fail> {
     let rdr = reader(alloc, 4, &[1], source(alloc, bytes, script)?)?;
     Ok(reader_under(rdr, MinBuffered(2)))
 }
@@ -82,7 +86,10 @@ fn look_ahead<R: TellRead>(rdr: &mut BufReader<R, MinBuffered>) -> io::Result<us
     laws::look_ahead(rdr)
 }
 
-fn until_dry<R: TellRead>(rdr: &mut BufReader<R, MinBuffered>, out: &mut [u8]) -> io::Result<usize> {
+fn until_dry<R: TellRead>(
+    rdr: &mut BufReader<R, MinBuffered>,
+    out: &mut [u8],
+) -> io::Result<usize> {
     laws::read_until_dry(rdr, out)
 }
 
@@ -97,7 +104,10 @@ fn by_law(rt: HostRuntime) -> Result<(), Fail> {
     Ok(())
 }
 
-fn rebuilt_under<R: Tell, P: Drop, Q: ReaderPolicy>(rdr: BufReader<R, P>, policy: Q) -> BufReader<R, Q> {
+fn rebuilt_under<R: Tell, P: Drop, Q: ReaderPolicy>(
+    rdr: BufReader<R, P>,
+    policy: Q,
+) -> BufReader<R, Q> {
     laws::rebuild_reader_under(rdr, policy)
 }
 

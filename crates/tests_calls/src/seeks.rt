@@ -160,10 +160,7 @@ fn far_back(rt: HostRuntime) -> Result<(), Fail> {
             1,
         ),
         // This one is two of the source's.
-        (
-            &[Step::Seek(Current(i64::MIN), Ok(9223372036854775802))],
-            3,
-        ),
+        (&[Step::Seek(Current(i64::MIN), Ok(9223372036854775802))], 3),
         (
             &[
                 Step::Fill(&[250, 251, 252, 253, 254]),

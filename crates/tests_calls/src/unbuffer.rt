@@ -16,7 +16,10 @@ fn unbuffered<R: Tell>(rdr: BufReader<R>) -> Unbuffer<R> {
     rdr.unbuffer()
 }
 
-fn handed<'a, R: TellRead>(rdr: &mut Unbuffer<R>, out: &'a mut [u8]) -> Result<&'a [u8], ErrorKind> {
+fn handed<'a, R: TellRead>(
+    rdr: &mut Unbuffer<R>,
+    out: &'a mut [u8],
+) -> Result<&'a [u8], ErrorKind> {
     match rdr.read(out) {
         Ok(n) => Ok(&out[..n]),
         Err(e) => Err(e.kind()),

@@ -76,7 +76,10 @@ fn finishes(rt: HostRuntime) -> Result<(), Fail> {
     ];
     for (script, calls, fault, taken, left) in rows {
         let done = finish(begun(rt.alloc(), script)?);
-        assert_eq!(rt; (done.calls, done.fault, done.unsent), (calls, fault, left.len()));
+        assert_eq!(rt;
+            (done.calls, done.fault, done.unsent),
+            (calls, fault, left.len())
+        );
         has(&rt, &done.inner, taken, 0);
         assert_eq!(rt; done.buf.buf(), left);
         assert_eq!(rt; done.buf.capacity(), 4);
@@ -356,7 +359,11 @@ fn seeker(
 // What the target took, how often it was flushed, and where it was asked to go.
 fn asked(wrt: &BufWriter<Told<Seeker>>) -> (&[u8], usize, &[SeekFrom]) {
     let inner = wrt.get_ref().get_ref();
-    (inner.get_ref().taken(), inner.get_ref().flushes(), inner.targets())
+    (
+        inner.get_ref().taken(),
+        inner.get_ref().flushes(),
+        inner.targets(),
+    )
 }
 
 // A seek comes after a flush, and none where that fails.
