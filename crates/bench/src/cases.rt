@@ -1,5 +1,4 @@
 //! What is measured, and over which types.
-
 use crate::bodies::{bodies, write_bodies};
 use crate::frames::{frames, write_frames};
 use crate::lines::{next, next_trimmed};

@@ -54,8 +54,12 @@ front_more_len fields i within =
 pub front_fits : (fields : List (List ℕ)) (i : ℕ) → i < length fields
     → length (front (take i fields)) + length (get_or fields i []) + 4 ≤ length (body_end fields)
 front_fits fields i within =
-    omega (arith, front_len fields, length-flat_map-take ended fields i [] within,
-    length-append (get_or fields i []) (line_end []))
+    omega (
+      arith,
+      front_len fields,
+      length-flat_map-take ended fields i [] within,
+      length-append (get_or fields i []) (line_end []),
+    )
 
 -- each of them is a line
 one_more : (fields : List (List ℕ)) (field : List ℕ) → AllByRecursion IsField fields → IsField field

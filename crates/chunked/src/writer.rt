@@ -118,7 +118,9 @@ impl<W: TellWrite> ChunkedWriter<W> {
     /// let mut body = ChunkedWriter::new(inner);
     /// body.write_all(b"hello")?;
     /// let trailers: [&[u8]; 2] = [b"Expires: never", b"Digest: 0"];
-    /// let mut inner = body.finish_with_trailers(&trailers).map_err(io::Error::from)?;
+    /// let mut inner = body
+    ///     .finish_with_trailers(&trailers)
+    ///     .map_err(io::Error::from)?;
     /// inner.flush()?;
     /// assert_eq!(rt;
     ///     inner.get_ref().get_ref().as_slice(),

@@ -8,11 +8,10 @@ use chunked::Malformed::{
 };
 use chunked::{ChunkedError, ChunkedReader, Limits, Malformed};
 use std::alloc::Global;
-use std::io;
 use std::io::ErrorKind;
 use std::process::Abort;
 use std::test::Fail;
-use tests_common::{debug, display, kind, read_to_end};
+use tests_common::{debug, kind, read_to_end};
 
 type Body = ChunkedReader<Told<FaultAt<ScriptReader>>>;
 
@@ -342,53 +341,6 @@ fn goes_under_a_buffered_reader(rt: HostRuntime) -> Result<(), Fail> {
         let (payload, failed) = through(rt.alloc(), bytes)?;
         assert_eq!(rt; payload.as_slice(), want);
         assert!(rt; failed == kind, "{bytes:?}");
-    }
-    Ok(())
-}
-
-#[test]
-fn says_why(rt: HostRuntime) -> Result<(), Fail> {
-    let alloc = rt.alloc();
-    for (why, want) in [
-        (NoSize, "a chunk without a size, behind 7 bytes of a body"),
-        (
-            BadSize,
-            "a wrong byte in the line of a size, behind 7 bytes of a body",
-        ),
-        (
-            SizeTooLarge,
-            "a size of 2^62 or more, behind 7 bytes of a body",
-        ),
-        (
-            LineTooLong,
-            "the line of a size is too long, behind 7 bytes of a body",
-        ),
-        (
-            TrailersTooLong,
-            "the trailers are too long, behind 7 bytes of a body",
-        ),
-        (BareReturn, "a CR without an LF, behind 7 bytes of a body"),
-        (BareFeed, "an LF without a CR, behind 7 bytes of a body"),
-        (
-            ChunkTooLong,
-            "a chunk is longer than its size, behind 7 bytes of a body",
-        ),
-    ] {
-        let said = display(alloc, &ChunkedError::NotChunked(why, 7))?;
-        assert_eq!(rt; said.as_str(), want);
-    }
-    let of_stream = display(alloc, &io::Error::from(ErrorKind::Other))?;
-    for (error, want) in [
-        (
-            ChunkedError::from(io::Error::from(ErrorKind::Other)),
-            of_stream.as_str(),
-        ),
-        (
-            ChunkedError::Truncated(7),
-            "the stream ended after 7 bytes of a body",
-        ),
-    ] {
-        assert_eq!(rt; display(alloc, &error)?.as_str(), want);
     }
     Ok(())
 }

@@ -1,25 +1,16 @@
 //! Growths of either kind, with bytes that don't stand at the front: a refused one changes nothing, not even their place.
-use crate::holders::{Call, Holder, Policy, walks};
+use crate::holders::{Call, Holder, Policy, reader_of, walks, writer_of};
 use crate::streams::{empty_sink, reading};
 use crate::trial::{Stop, Trial, is};
 use buffer_redux::{
-    BufImpl, BufReader, BufWriter, Buffer, GrowError, LineWriter, MAX_CAPACITY, MAX_RING, RawBuf,
-    SliceDequeBuf, StdBuf,
+    BufImpl, Buffer, GrowError, LineWriter, MAX_CAPACITY, MAX_RING, RawBuf, SliceDequeBuf, StdBuf,
 };
 use std::alloc::Global;
-
-/// A buffer of this kind with no more capacity than it needs for so many bytes.
-pub fn buffer(alloc: Global, is_ring: bool, capacity: usize) -> Result<Buffer, GrowError> {
-    if is_ring {
-        Buffer::with_capacity_ringbuf(alloc, capacity)
-    } else {
-        Buffer::with_capacity(alloc, capacity)
-    }
-}
+use tests_common::empty;
 
 /// A buffer of capacity 8, or a ring of 4096, that holds [1,2,3] behind two bytes that were consumed.
 pub fn placed(alloc: Global, is_ring: bool) -> Result<Buffer, Stop> {
-    let mut buf = buffer(alloc, is_ring, 8)?;
+    let mut buf = empty(alloc, is_ring, 8)?;
     let count = buf.copy_from_slice(&[9, 9, 1, 2, 3]);
     is(count == 5, "bytes that don't fit")?;
     buf.consume(2);
@@ -60,12 +51,10 @@ fn made(alloc: Global, what: What) -> Result<Holder<'static>, Stop> {
         What::BlockRing => block(BufImpl::with_capacity_ringbuf(alloc, 8)?),
         What::Buffer(is_ring) => Holder::Buffer(placed(alloc, is_ring)?),
         What::Reader(is_ring) => {
-            let it = BufReader::with_buffer(placed(alloc, is_ring)?, reading(b"x"));
-            Holder::Reader(it.set_policy(Policy::Std))
+            Holder::Reader(reader_of(placed(alloc, is_ring)?, reading(b"x"), Policy::Std))
         }
         What::Writer(is_ring) => {
-            let it = BufWriter::with_buffer(placed(alloc, is_ring)?, empty_sink());
-            Holder::Writer(it.set_policy(Policy::Std))
+            Holder::Writer(writer_of(placed(alloc, is_ring)?, empty_sink(), Policy::Std))
         }
         What::Lines(is_ring) => Holder::Lines(LineWriter::with_buffer(
             placed(alloc, is_ring)?,
@@ -118,7 +107,7 @@ pub fn storage(alloc: Global, trial: &mut Trial) -> Result<(), Stop> {
 
 // A buffer of this kind of capacity 4, or a ring of 4096, that holds these bytes.
 fn full(alloc: Global, is_ring: bool, held: &[u8]) -> Result<Holder<'static>, Stop> {
-    let mut buf = buffer(alloc, is_ring, 4)?;
+    let mut buf = empty(alloc, is_ring, 4)?;
     let count = buf.copy_from_slice(held);
     is(count == held.len(), "bytes that don't fit")?;
     Ok(Holder::Buffer(buf))

@@ -11,7 +11,9 @@ use buffer_redux::{
     BufImpl, BufReader, BufWriter, Buffer, GrowError, LineWriter, RawBuf, SliceDequeBuf, StdBuf,
 };
 use std::io;
-use std::io::{BufRead, ErrorKind, Write};
+use std::io::ErrorKind;
+use tests_common::policies::Greedy;
+use tests_common::{consume, fill_buf, flush, reader_under, write, writer_under};
 
 /// A policy out of several.
 #[derive(Clone, Copy, Debug)]
@@ -20,7 +22,7 @@ pub enum Policy {
     Std,
     /// That of `MinBuffered`.
     Ahead(usize),
-    /// Has room for 4096 more bytes at each question, and always reads.
+    /// That of `Greedy`.
     Greedy,
     /// That of `FlushAtLeast`.
     AtLeast(usize),
@@ -32,10 +34,7 @@ impl ReaderPolicy for Policy {
     fn before_read(&mut self, buffer: &mut Buffer) -> io::Result<DoRead> {
         match *self {
             Policy::Ahead(min) => MinBuffered(min).before_read(buffer),
-            Policy::Greedy => {
-                buffer.reserve(4096)?;
-                Ok(DoRead(true))
-            }
+            Policy::Greedy => Greedy.before_read(buffer),
             _ => Ok(read_when_empty(buffer)),
         }
     }
@@ -66,6 +65,16 @@ pub type Reader<'a> = BufReader<Told<Source<'a>>, Policy>;
 
 /// A writer under one of the policies.
 pub type Writer = BufWriter<Sink, Policy>;
+
+/// A reader over this buffer and stream. It promises nothing.
+pub fn reader_of(buf: Buffer, inner: Told<Source<'_>>, policy: Policy) -> Reader<'_> {
+    reader_under(BufReader::with_buffer(buf, inner), policy)
+}
+
+/// A writer over these.
+pub fn writer_of(buf: Buffer, inner: Sink, policy: Policy) -> Writer {
+    writer_under(BufWriter::with_buffer(buf, inner), policy)
+}
 
 /// What holds bytes and can grow.
 #[derive(Debug, Drop)]
@@ -111,10 +120,10 @@ impl<'a> Holder<'a> {
 
     fn read(&mut self, call: Call<'_>) -> io::Result<usize> {
         match (self, call) {
-            (Holder::Reader(it), Call::Fill) => Ok(it.fill_buf()?.len()),
+            (Holder::Reader(it), Call::Fill) => Ok(fill_buf(it)?.len()),
             (Holder::Reader(it), Call::ReadIntoBuf) => it.read_into_buf(),
             (Holder::Reader(it), Call::Consume(amount)) => {
-                it.consume(amount);
+                consume(it, amount);
                 Ok(0)
             }
             _ => Err(io::Error::from(ErrorKind::Unsupported)),
@@ -123,9 +132,15 @@ impl<'a> Holder<'a> {
 
     fn write(&mut self, call: Call<'_>) -> io::Result<usize> {
         match (self, call) {
-            (Holder::Writer(it), Call::Write(bytes)) => it.write(bytes),
-            (Holder::Writer(it), Call::Flush) => it.flush().map(|()| 0),
-            (Holder::Buffer(it), Call::Push(bytes)) => Ok(it.push_bytes(bytes).map(|()| 0)?),
+            (Holder::Writer(it), Call::Write(bytes)) => write(it, bytes),
+            (Holder::Writer(it), Call::Flush) => {
+                flush(it)?;
+                Ok(0)
+            }
+            (Holder::Buffer(it), Call::Push(bytes)) => {
+                it.push_bytes(bytes)?;
+                Ok(0)
+            }
             _ => Err(io::Error::from(ErrorKind::Unsupported)),
         }
     }
@@ -133,7 +148,10 @@ impl<'a> Holder<'a> {
     /// Makes a call, and returns its count.
     pub fn call(&mut self, call: Call<'_>) -> io::Result<usize> {
         match call {
-            Call::Reserve(more) => Ok(self.reserve(more).map(|()| 0)?),
+            Call::Reserve(more) => {
+                self.reserve(more)?;
+                Ok(0)
+            }
             Call::Room(more) => match self.reserve(more) {
                 Ok(()) => Ok(0),
                 Err(_) => Err(io::Error::from(ErrorKind::Other)),
@@ -174,27 +192,40 @@ impl<'a> Holder<'a> {
     pub fn looked(self) -> ((u64, u64), Self) {
         match self {
             Holder::Reader(it) => {
-                let policy = *it.policy();
-                let (inner, buf) = it.into_inner_with_buffer();
-                let seen = (digest(&inner), digest(&buf));
-                let it = BufReader::with_buffer(buf, inner).set_policy(policy);
+                let (seen, it) = looked_reader(it);
                 (seen, Holder::Reader(it))
             }
             Holder::Writer(it) => {
-                let policy = *it.policy();
-                let (inner, buf) = it.into_inner_with_buffer();
-                let seen = (digest(&inner), digest(&buf));
-                let it = BufWriter::with_buffer(buf, inner).set_policy(policy);
+                let (seen, it) = looked_writer(it);
                 (seen, Holder::Writer(it))
             }
             Holder::Lines(it) => {
-                let (inner, buf) = it.into_inner_with_buf();
-                let seen = (digest(&inner), digest(&buf));
-                (seen, Holder::Lines(LineWriter::with_buffer(buf, inner)))
+                let (seen, it) = looked_lines(it);
+                (seen, Holder::Lines(it))
             }
             it => ((0, digest(&it)), it),
         }
     }
+}
+
+fn looked_reader(it: Reader<'_>) -> ((u64, u64), Reader<'_>) {
+    let policy = *it.policy();
+    let (inner, buf) = it.into_inner_with_buffer();
+    let seen = (digest(&inner), digest(&buf));
+    (seen, reader_of(buf, inner, policy))
+}
+
+fn looked_writer(it: Writer) -> ((u64, u64), Writer) {
+    let policy = *it.policy();
+    let (inner, buf) = it.into_inner_with_buffer();
+    let seen = (digest(&inner), digest(&buf));
+    (seen, writer_of(buf, inner, policy))
+}
+
+fn looked_lines(it: LineWriter<Sink>) -> ((u64, u64), LineWriter<Sink>) {
+    let (inner, buf) = it.into_inner_with_buf();
+    let seen = (digest(&inner), digest(&buf));
+    (seen, LineWriter::with_buffer(buf, inner))
 }
 
 /// A call, its count, and what is then shown and the capacity.

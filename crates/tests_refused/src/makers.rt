@@ -85,34 +85,31 @@ fn reader_of(
     alloc: Global,
     form: Form,
     stream: Told<Source<'static>>,
-) -> Result<usize, MakeError<Told<Source<'static>>>> {
-    let rdr = match form {
+) -> Result<BufReader<Told<Source<'static>>>, MakeError<Told<Source<'static>>>> {
+    match form {
         Form::Usual => BufReader::new(alloc, stream),
         Form::UsualRing => BufReader::new_ringbuf(alloc, stream),
         Form::Plain(n) => BufReader::with_capacity(alloc, n, stream),
         Form::Ring(n) => BufReader::with_capacity_ringbuf(alloc, n, stream),
-    };
-    Ok(rdr?.capacity())
+    }
 }
 
-fn writer_of(alloc: Global, form: Form, sink: Sink) -> Result<usize, MakeError<Sink>> {
-    let wrt = match form {
+fn writer_of(alloc: Global, form: Form, sink: Sink) -> Result<BufWriter<Sink>, MakeError<Sink>> {
+    match form {
         Form::Usual => BufWriter::new(alloc, sink),
         Form::UsualRing => BufWriter::new_ringbuf(alloc, sink),
         Form::Plain(n) => BufWriter::with_capacity(alloc, n, sink),
         Form::Ring(n) => BufWriter::with_capacity_ringbuf(alloc, n, sink),
-    };
-    Ok(wrt?.capacity())
+    }
 }
 
-fn lines_of(alloc: Global, form: Form, sink: Sink) -> Result<usize, MakeError<Sink>> {
-    let lines = match form {
+fn lines_of(alloc: Global, form: Form, sink: Sink) -> Result<LineWriter<Sink>, MakeError<Sink>> {
+    match form {
         Form::Usual => LineWriter::new(alloc, sink),
         Form::UsualRing => LineWriter::new_ringbuf(alloc, sink),
         Form::Plain(n) => LineWriter::with_capacity(alloc, n, sink),
         Form::Ring(n) => LineWriter::with_capacity_ringbuf(alloc, n, sink),
-    };
-    Ok(lines?.capacity())
+    }
 }
 
 // The capacity of what is made, which is dropped. Frames don't tell theirs.
@@ -126,9 +123,9 @@ fn made(alloc: Global, what: What, form: Form, stream: Stream) -> Result<usize, 
             let _ = FrameWriter::new(alloc, sink, 3)?;
             Ok(8192)
         }
-        (What::Lines, Stream::Sink(sink)) => Ok(lines_of(alloc, form, sink)?),
-        (_, Stream::Source(source)) => Ok(reader_of(alloc, form, source)?),
-        (_, Stream::Sink(sink)) => Ok(writer_of(alloc, form, sink)?),
+        (What::Lines, Stream::Sink(sink)) => Ok(lines_of(alloc, form, sink)?.capacity()),
+        (_, Stream::Source(source)) => Ok(reader_of(alloc, form, source)?.capacity()),
+        (_, Stream::Sink(sink)) => Ok(writer_of(alloc, form, sink)?.capacity()),
         (_, Stream::None) => Ok(block_of(alloc, what, form)?),
     }
 }

@@ -9,7 +9,8 @@ use redux_play::play::{
     ReaderAnswer, ReaderCall, ReaderRun, WriterAnswer, WriterCall, WriterRun, play_reader,
     play_writer,
 };
-use std::alloc::Global;
+use std::alloc::{AllocError, Global};
+use tests_common::{reader, writer};
 
 type Reader = BufReader<Told<Source<'static>>>;
 
@@ -52,23 +53,41 @@ fn has_read(rdr: &Reader, run: &ReaderRun) -> Result<(), Stop> {
     is(asked == asks, "the next call was begun")
 }
 
+// These play without a promise.
+fn play_reads(
+    alloc: Global,
+    rdr: &mut Reader,
+    calls: &[ReaderCall],
+    run: &mut ReaderRun,
+) -> Result<(), AllocError> {
+    play_reader(alloc, rdr, calls, run)
+}
+
+fn play_writes(
+    wrt: &mut BufWriter<Sink>,
+    calls: &[WriterCall<'_>],
+    run: &mut WriterRun,
+) -> Result<(), AllocError> {
+    play_writer(wrt, calls, run)
+}
+
 fn plays_reads(
     alloc: Global,
     trial: &mut Trial,
     rdr: &mut Reader,
     run: &mut ReaderRun,
 ) -> Result<(), Stop> {
-    if play_reader(alloc, rdr, &READER_CALLS, run).is_err() {
+    if play_reads(alloc, rdr, &READER_CALLS, run).is_err() {
         trial.meets()?;
         has_read(rdr, run)?;
         let left = READER_CALLS.get(run.answers.len()..).unwrap_or(&[]);
-        granted(play_reader(alloc, rdr, left, run))?;
+        granted(play_reads(alloc, rdr, left, run))?;
     }
     Ok(())
 }
 
 pub fn reads(alloc: Global, trial: &mut Trial) -> Result<(), Stop> {
-    let mut rdr = BufReader::with_capacity(alloc, 4, reading(&BYTES))?;
+    let mut rdr = reader(alloc, 4, &[], reading(&BYTES))?;
     let mut run = ReaderRun::new(alloc);
     plays_reads(alloc, trial, &mut rdr, &mut run)?;
     is(same(&run.answers, &READER_ANSWERS), "the answers")?;
@@ -105,17 +124,17 @@ fn plays_writes(
     calls: &[WriterCall<'_>],
     run: &mut WriterRun,
 ) -> Result<(), Stop> {
-    if play_writer(wrt, calls, run).is_err() {
+    if play_writes(wrt, calls, run).is_err() {
         trial.meets()?;
         has_written(wrt, run)?;
         let left = calls.get(run.answers.len()..).unwrap_or(&[]);
-        granted(play_writer(wrt, left, run))?;
+        granted(play_writes(wrt, left, run))?;
     }
     Ok(())
 }
 
 pub fn writes(alloc: Global, trial: &mut Trial) -> Result<(), Stop> {
-    let mut wrt = BufWriter::with_capacity(alloc, 2, empty_sink())?;
+    let mut wrt = writer(alloc, 2, &[], empty_sink())?;
     let mut run = WriterRun::new(alloc);
     let calls = [
         WriterCall::Write(&[1]),

@@ -1,22 +1,22 @@
 //! Policies that grow the buffer: where that is refused, the call fails, nothing changed, and the same call then succeeds.
-use crate::growths::{buffer, placed};
-use crate::holders::{Call, Holder, Policy, Reader, Step, walks};
-use crate::streams::{empty_sink, reading, taken};
+use crate::growths::placed;
+use crate::holders::{Call, Holder, Policy, Reader, Step, Writer, reader_of, walks, writer_of};
+use crate::streams::{Sink, empty_sink, reading, taken};
 use crate::trial::{Stop, Trial, granted, is};
-use buffer_redux::{BufReader, BufWriter, Buffer};
+use buffer_redux::Buffer;
 use std::alloc::Global;
-use std::io::BufRead;
+use tests_common::{empty, fill_buf};
 
 const BYTES: [u8; 20] = [
     0, 1, 2, 3, 4, 5, 6, 7, 8, 9, 10, 11, 12, 13, 14, 15, 16, 17, 18, 19,
 ];
 
 fn reader(buf: Buffer, bytes: &[u8], policy: Policy) -> Reader<'_> {
-    BufReader::with_buffer(buf, reading(bytes)).set_policy(policy)
+    reader_of(buf, reading(bytes), policy)
 }
 
 fn writer(buf: Buffer, policy: Policy) -> Holder<'static> {
-    Holder::Writer(BufWriter::with_buffer(buf, empty_sink()).set_policy(policy))
+    Holder::Writer(writer_of(buf, empty_sink(), policy))
 }
 
 // More than either kind of `placed` has.
@@ -36,7 +36,7 @@ pub fn grows_first(alloc: Global, trial: &mut Trial) -> Result<(), Stop> {
 
 // The first fill takes memory, and so does the growth after it.
 pub fn looks_ahead(alloc: Global, trial: &mut Trial) -> Result<(), Stop> {
-    let buf = Buffer::with_capacity(alloc, 0)?;
+    let buf = empty(alloc, false, 0)?;
     let rdr = Holder::Reader(reader(buf, &BYTES, Policy::Ahead(4)));
     let steps: [Step<'_>; 13] = [
         (Call::Fill, 4, &BYTES[..4], 4),
@@ -60,7 +60,7 @@ pub fn looks_ahead(alloc: Global, trial: &mut Trial) -> Result<(), Stop> {
 // The first 4096 bytes fit, and what is then missing doesn't.
 pub fn looks_ahead_in_ring(alloc: Global, trial: &mut Trial) -> Result<(), Stop> {
     let bytes = [7u8; 10000];
-    let buf = Buffer::with_capacity_ringbuf(alloc, 4096)?;
+    let buf = empty(alloc, true, 4096)?;
     let rdr = Holder::Reader(reader(buf, &bytes, Policy::Ahead(5000)));
     let steps: [Step<'_>; 2] = [
         (Call::ReadIntoBuf, 4096, &bytes[..4096], 4096),
@@ -74,7 +74,7 @@ pub fn looks_ahead_in_ring(alloc: Global, trial: &mut Trial) -> Result<(), Stop>
 
 // A fill of several turns that is refused in one of them keeps the bytes of those before.
 fn fill_greedily(trial: &mut Trial, rdr: &mut Reader<'_>) -> Result<(), Stop> {
-    if let Err(e) = rdr.fill_buf() {
+    if let Err(e) = fill_buf(rdr) {
         let room = rdr.get_ref().get_ref().asks.saturating_mul(4096);
         trial.failed(e, rdr.buf_len() == room.min(10000))?;
         is(rdr.capacity() == room, "the capacity of the turns before")?;
@@ -85,9 +85,9 @@ fn fill_greedily(trial: &mut Trial, rdr: &mut Reader<'_>) -> Result<(), Stop> {
 pub fn grows_each_turn(alloc: Global, trial: &mut Trial) -> Result<(), Stop> {
     let bytes = [7u8; 10000];
     for (is_ring, capacity) in [(false, 14096), (true, 16384)] {
-        let mut rdr = reader(buffer(alloc, is_ring, 0)?, &bytes, Policy::Greedy);
+        let mut rdr = reader(empty(alloc, is_ring, 0)?, &bytes, Policy::Greedy);
         fill_greedily(trial, &mut rdr)?;
-        let shown = granted(rdr.fill_buf())? == bytes.as_slice();
+        let shown = granted(fill_buf(&mut rdr))? == bytes.as_slice();
         is(shown, "what is shown")?;
         is(rdr.capacity() == capacity, "the capacity")?;
     }
@@ -95,14 +95,14 @@ pub fn grows_each_turn(alloc: Global, trial: &mut Trial) -> Result<(), Stop> {
 }
 
 pub fn flushes_at_least(alloc: Global, trial: &mut Trial) -> Result<(), Stop> {
-    let wrt = writer(Buffer::with_capacity(alloc, 0)?, Policy::AtLeast(4));
+    let wrt = writer(empty(alloc, false, 0)?, Policy::AtLeast(4));
     let steps: [Step<'_>; 2] = [(Call::Write(&[1]), 1, &[], 4), (Call::Flush, 0, &[1], 4)];
     let _ = walks(trial, wrt, &steps)?;
     Ok(())
 }
 
 pub fn flushes_exactly(alloc: Global, trial: &mut Trial) -> Result<(), Stop> {
-    let wrt = writer(Buffer::with_capacity(alloc, 0)?, Policy::Exact(4));
+    let wrt = writer(empty(alloc, false, 0)?, Policy::Exact(4));
     let steps: [Step<'_>; 5] = [
         (Call::Write(&[1]), 1, &[], 4),
         (Call::Reserve(7), 0, &[], 8),
@@ -113,13 +113,19 @@ pub fn flushes_exactly(alloc: Global, trial: &mut Trial) -> Result<(), Stop> {
     ends(walks(trial, wrt, &steps)?)
 }
 
+// The stream of a writer that is taken apart.
+fn unwrapped(wrt: Writer) -> Result<Sink, Stop> {
+    granted(wrt.into_inner())
+}
+
 // A writer's end sends what is left.
 fn ends(wrt: Holder<'_>) -> Result<(), Stop> {
-    if let Holder::Writer(wrt) = wrt {
-        if let Ok(inner) = wrt.into_inner() {
+    match wrt {
+        Holder::Writer(wrt) => {
+            let inner = unwrapped(wrt)?;
             let sent = taken(&inner) == [1, 2, 3, 4, 5, 6, 7, 8, 9, 10].as_slice();
-            return is(sent, "what is sent at the end");
+            is(sent, "what is sent at the end")
         }
+        _ => Err(Stop::Wrong("no writer")),
     }
-    Err(Stop::Wrong("the end fails"))
 }

@@ -15,8 +15,14 @@ loop-i-preserved c =
     let is = line_at fields i within in
     record {
       lines = lines_more (lines_of fields) i there before.lines (subst IsField is (search rules));
-      counted = omega (arith, before.counted, c.saturating_add.ensures, c.saturating_add-len.ensures,
-          front_more_len (lines_of fields) i there, ap length is);
+      counted = omega (
+        arith,
+        before.counted,
+        c.saturating_add.ensures,
+        c.saturating_add-len.ensures,
+        front_more_len (lines_of fields) i there,
+        ap length is,
+      );
     }
 
 pub returns-then-len-capacity-clause-cannot : goal.returns-then-len-capacity-clause-cannot
@@ -24,8 +30,13 @@ returns-then-len-capacity-clause-cannot c =
     let fields = c.args.fields.now in
     let all = all_lines fields c.loop-i.i c.loop-i-test.false in (
       subst (AllByRecursion IsField) all c.loop-i.invariant.lines,
-      omega (arith, c.if-len-capacity.true, c.loop-i.invariant.counted, front_len (lines_of fields),
-      ap (λ l. length (front l)) all),
+      omega (
+        arith,
+        c.if-len-capacity.true,
+        c.loop-i.invariant.counted,
+        front_len (lines_of fields),
+        ap (λ l. length (front l)) all,
+      ),
     )
 
 pub returns-clause-can : goal.returns-clause-can
@@ -34,13 +45,25 @@ returns-clause-can c =
     let all = all_lines fields c.loop-i.i c.loop-i-test.false in
     record {
       lines = subst (AllByRecursion IsField) all c.loop-i.invariant.lines;
-      fits = omega (arith, c.requires, c.if-len-capacity.false, c.loop-i.invariant.counted, front_len (lines_of fields),
-          ap (λ l. length (front l)) all);
+      fits = omega (
+        arith,
+        c.requires,
+        c.if-len-capacity.false,
+        c.loop-i.invariant.counted,
+        front_len (lines_of fields),
+        ap (λ l. length (front l)) all,
+      );
     }
 
 pub returns-clause-len : goal.returns-clause-len
 returns-clause-len c =
     let fields = c.args.fields.now in
     let all = all_lines fields c.loop-i.i c.loop-i-test.false in
-    omega (arith, c.requires, c.if-len-capacity.false, c.loop-i.invariant.counted, front_len (lines_of fields),
-    ap (λ l. length (front l)) all)
+    omega (
+      arith,
+      c.requires,
+      c.if-len-capacity.false,
+      c.loop-i.invariant.counted,
+      front_len (lines_of fields),
+      ap (λ l. length (front l)) all,
+    )

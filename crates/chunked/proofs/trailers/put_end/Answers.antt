@@ -13,24 +13,40 @@ put-requires-in-loop-field-clause-room g c =
     let fields = c.args.fields.now in
     let i = c.loop-field.field-index in
     let within = c.loop-field-test.true in
-    omega (arith, c.requires.room, c.loop-field.invariant.space, front_fits (lines_of fields) i (inside fields i within),
-    ap length (line_at fields i within))
+    omega (
+      arith,
+      c.requires.room,
+      c.loop-field.invariant.space,
+      front_fits (lines_of fields) i (inside fields i within),
+      ap length (line_at fields i within),
+    )
 
 pub put-requires-in-loop-field-clause-inside : goal.put-requires-in-loop-field-clause-inside
 put-requires-in-loop-field-clause-inside g c =
     let fields = c.args.fields.now in
     let i = c.loop-field.field-index in
     let within = c.loop-field-test.true in
-    omega (arith, c.requires.room, c.loop-field.invariant.put.capacity,
-    front_fits (lines_of fields) i (inside fields i within), ap length (line_at fields i within))
+    omega (
+      arith,
+      c.requires.room,
+      c.loop-field.invariant.put.capacity,
+      front_fits (lines_of fields) i (inside fields i within),
+      ap length (line_at fields i within),
+    )
 
 pub put-requires-in-loop-field-2-clause-room : goal.put-requires-in-loop-field-2-clause-room
 put-requires-in-loop-field-2-clause-room g c =
     let fields = c.args.fields.now in
     let i = c.loop-field.field-index in
     let within = c.loop-field-test.true in
-    omega (arith, c.requires.room, c.loop-field.invariant.space, c.put-in-loop-field.ensures.usable,
-    front_fits (lines_of fields) i (inside fields i within), ap length (line_at fields i within))
+    omega (
+      arith,
+      c.requires.room,
+      c.loop-field.invariant.space,
+      c.put-in-loop-field.ensures.usable,
+      front_fits (lines_of fields) i (inside fields i within),
+      ap length (line_at fields i within),
+    )
 
 pub loop-field-preserved : goal.loop-field-preserved
 loop-field-preserved g c =
@@ -53,8 +69,13 @@ pub put-requires-2-clause-room : goal.put-requires-2-clause-room
 put-requires-2-clause-room g c =
     let fields = c.args.fields.now in
     let all = all_lines fields c.loop-field.field-index c.loop-field-test.false in
-    omega (arith, c.requires.room, c.loop-field.invariant.space, front_len (lines_of fields),
-    ap (λ l. length (front l)) all)
+    omega (
+      arith,
+      c.requires.room,
+      c.loop-field.invariant.space,
+      front_len (lines_of fields),
+      ap (λ l. length (front l)) all,
+    )
 
 pub returns-clause-put : goal.returns-clause-put
 returns-clause-put g c =
