@@ -1,7 +1,6 @@
 -- What a whole run of `encode` comes to.
-use Rattle.std.proofs.Common.{◌≡◌, ℕ, ◌<◌, ◌≤◌, inl, inr, List, [], ◌++◌, length, length-append, Option, Result, Ok, Err, refl, sym, ap, subst, ◌∙◌, arith, append_assoc, append-nil}
+use Rattle.std.proofs.Common.{◌≡◌, ℕ, ◌+◌, ◌<◌, ◌≤◌, inl, inr, List, [], ◌++◌, length, length-append, Option, Result, Ok, Err, refl, sym, ap, subst, ◌∙◌, arith, append_assoc, append-nil}
 use Rattle.std.specs.declared.io.Error.{Error}
-use Rattle.buffer_redux.specs.BufReader.{RanDry}
 use Rattle.buffer_redux.specs.BufWriter.{WasFlushed, WasSent, WritesInOrder}
 use Rattle.buffer_redux.specs.Buffered.{Buffered}
 use Rattle.buffer_redux.specs.Faults.{OnlyInterrupts-none, SendErrorCaused}
@@ -55,8 +54,8 @@ module _ {R W : Type 0} (remaining : R → Option (List ℕ)) (tells : W → Str
     -- the body was not ended
     unended : (e : Error) (v : Buffered W StdPolicy) → WritesInOrder c.writer [] v
         → v.log.writes.flushed ≡ c.writer.log.writes.flushed → Stopped e (length payload) first.log t.log u.log v.log
-        → EncodeRan first.log t.log u.log v.log (Err e)
-    unended e v order quiet why =
+        → t.log.reads.zero_reads ≤ first.log.reads.zero_reads + 1 → EncodeRan first.log t.log u.log v.log (Err e)
+    unended e v order quiet why once =
         let all = WritesInOrder-then u c.writer v (chunks went.payloads) went.taken.in_order order in
         let is : IsChunks (all.sent ++ v.block.bytes) payload = record {
           payloads = went.payloads;
@@ -72,6 +71,7 @@ module _ {R W : Type 0} (remaining : R → Option (List ℕ)) (tells : W → Str
           unsent = v.block.bytes;
           received = all.received;
           not_flushed = quiet ∙ went.not_flushed;
+          once = once;
           beginning = inl (record { chunks = is; cut = chunks_cut all.sent v.block.bytes payload is });
           caused = inl why;
         }
@@ -79,7 +79,7 @@ module _ {R W : Type 0} (remaining : R → Option (List ℕ)) (tells : W → Str
   -- some chunk was not made
   pub stopped : (e : Error) → EncodesAll remaining stretch first (unbegun u) (Err e) t c
       → EncodeRan first.log t.log u.log c.writer.log (Err e)
-  stopped e p = unended p.0 p.1 e c.writer (WritesInOrder-none c.writer) refl p.2
+  stopped e p = unended p.0 p.1 e c.writer (WritesInOrder-none c.writer) refl p.2 (omega (arith, p.3))
 
   module _ (each : EncodesEach remaining stretch first (unbegun u) t c) (left : NothingLeft first t) where
     sending_failed : (m v : Buffered W StdPolicy) (e : Error) → MetNoFault first.log t.log u.log m.log
@@ -91,7 +91,7 @@ module _ {R W : Type 0} (remaining : R → Option (List ℕ)) (tells : W → Str
     pub not_finished : (e : Error) (v : Buffered W StdPolicy) → WasSent tells stretch c.writer (Err e) v
         → EncodeRan first.log t.log u.log v.log (Err e)
     not_finished e v sends = unended each.payload each.went e v sends.in_order sends.not_flushed
-        (sending_failed c.writer v e each.met sends.caused)
+        (sending_failed c.writer v e each.met sends.caused) (omega (arith, left.once))
 
     -- or it was taken in
     module _ (end : List ℕ) (m : Buffered W StdPolicy) (order : WritesInOrder c.writer end m)
@@ -134,7 +134,7 @@ module _ {R W : Type 0} (remaining : R → Option (List ℕ)) (tells : W → Str
           met = MetNoFault-joins first.log t.log t.log u.log m.log v.log met
               (record { reader = OnlyInterrupts-none t.log.reads.faults; writer = f.ok.met });
         };
-        ended = left.dry;
+        ended = left.once;
       }
       flushed (Err e) v f = record {
         payload = each.payload;
@@ -144,12 +144,12 @@ module _ {R W : Type 0} (remaining : R → Option (List ℕ)) (tells : W → Str
         unsent = v.block.bytes;
         received = (order_all v f.in_order).received;
         not_flushed = f.not_flushed ∙ quiet.not_flushed ∙ each.went.not_flushed;
+        once = omega (arith, left.once);
         beginning = inr (record {
           is_body = part_written v f.in_order;
           cut = cut_short (order_all v f.in_order).sent v.block.bytes each.payload
               (part_written v f.in_order least (omega arith));
           all = left.none;
-          ended = left.dry;
         });
         caused = inl (sending_failed m v e met f.caused);
       }
@@ -165,6 +165,7 @@ refused read read' written written' e p = record {
   unsent = [];
   received = ap (λ l. l.writes.received) p.written_same ∙ sym (append-nil written.writes.received);
   not_flushed = ap (λ l. l.writes.flushed) p.written_same;
+  once = omega (arith, ap (λ l. l.reads.zero_reads) p.read_same);
   beginning = inl (record { chunks = IsChunks-none; cut = chunks_cut [] [] [] IsChunks-none });
   caused = inr p;
 }

@@ -7,7 +7,7 @@ use Rattle.std.specs.IoError.{error_kind}
 use Rattle.std.specs.List.{flat_map}
 use Rattle.std.specs.declared.io.Error.{Error}
 use Rattle.std.specs.declared.io.ErrorKind.TheVariants.{Other}
-use Rattle.buffer_redux.specs.BufReader.{RanDry, ReadsAlong}
+use Rattle.buffer_redux.specs.BufReader.{ReadsAlong}
 use Rattle.buffer_redux.specs.Buffered.{Buffered}
 use Rattle.buffer_redux.specs.Faults.{MetInterrupts, OnlyInterrupts, SendErrorCaused}
 use Rattle.buffer_redux.specs.Policy.{std_read_rules}
@@ -18,7 +18,8 @@ use Rattle.chunked.specs.Chunking.{Chunking, IsChunking, PutsFirst, PutsIn, Writ
 use Rattle.chunked.specs.ChunkingLaws.{ChunksWent-joins, ChunksWent-none}
 use Rattle.programs.specs.Streams.{EitherFailed, MetNoFault, ReadGaveUp}
 use Rattle.programs.specs.StreamsLaws.{EitherFailed-after, MetInterrupts-none, MetNoFault-joins, MetNoFault-none}
-use Rattle.bodies.specs.Encode.{Encodes, EncodesAll, EncodesEach, EncodesNext, NothingLeft}
+use Rattle.bodies.specs.AtEnd.{EndsOnce}
+use Rattle.bodies.specs.Encode.{Encodes, EncodesAll, EncodesEach, EncodesNext, NeverEnded, NothingLeft}
 
 -- the writer was at most interrupted, and flushed nothing
 pub record Quiet {W : Type 0} (u v : Buffered W StdPolicy) : Type 0 where
@@ -71,6 +72,7 @@ pub record EncodesSoFar {R W : Type 0} (remaining : R → Option (List ℕ)) (st
     (s : Buffered R StdPolicy) (b : Chunking W) (count : ℕ) (t : Buffered R StdPolicy) (c : Chunking W) : Type 0 where
   pub each : EncodesEach remaining stretch s b t c
   pub all : count ≤ length each.payload
+  pub never : NeverEnded s t
 
 module _ {R W : Type 0} (remaining : R → Option (List ℕ)) (stretch : W → W → Type 0) (none : (x : W) → stretch x x)
     (joins : (a b c : W) → stretch a b → stretch b c → stretch a c) (s : Buffered R StdPolicy) (b : Chunking W) where
@@ -108,27 +110,28 @@ module _ {R W : Type 0} (remaining : R → Option (List ℕ)) (stretch : W → W
       whole = whole;
     }
 
-    pub not_read : (e : Error) → ReadGaveUp e s.log.reads.faults m.log.reads.faults
+    pub not_read : (e : Error) → ReadGaveUp e s.log.reads.faults m.log.reads.faults → NeverEnded s m
         → EncodesNext remaining stretch s b (Err e) m b
-    not_read e fault = (looked, inl (record { reader = fault; writer = MetInterrupts-none b.writer.log.writes }))
+    not_read e fault never =
+        (looked, inl (record { reader = fault; writer = MetInterrupts-none b.writer.log.writes }), never)
 
     module _ (met : OnlyInterrupts s.log.reads.faults m.log.reads.faults) where
-      pub at_end : m.block.bytes ≡ [] → RanDry s m → EncodesNext remaining stretch s b (Ok false) m b
-      at_end empty dry = (
+      pub at_end : m.block.bytes ≡ [] → EndsOnce s (Ok true) m → EncodesNext remaining stretch s b (Ok false) m b
+      at_end empty once = (
         record {
           payload = [];
           went = looked;
           met = record { reader = met; writer = MetInterrupts-none b.writer.log.writes };
         },
-        record { none = empty; dry = dry },
+        record { none = empty; once = once },
       )
 
       -- and it does
       module _ (tells : W → StreamLog) (more : 0 < length m.block.bytes) (c : Chunking W) where
         pub written : (n : ℕ) → n ≤ length m.block.bytes → WritesChunk tells stretch b m.block.bytes (Ok n) c
             → (t : Buffered R StdPolicy) → ReadsAlong remaining std_read_rules m (take n m.block.bytes) t
-            → t.log ≡ m.log → EncodesNext remaining stretch s b (Ok true) t c
-        written n within p t gone told =
+            → t.log ≡ m.log → NeverEnded s m → EncodesNext remaining stretch s b (Ok true) t c
+        written n within p t gone told never =
             let quiet = chunk_quietly tells stretch b c m.block.bytes more n p in (
               record {
                 payload = take n m.block.bytes;
@@ -146,15 +149,18 @@ module _ {R W : Type 0} (remaining : R → Option (List ℕ)) (stretch : W → W
                 };
               },
               chunk_some tells stretch b c m.block.bytes more n p whole within,
+              ap (λ l. l.reads.zero_reads) told ∙ never,
             )
 
   pub so_far_none : IsChunking b → EncodesSoFar remaining stretch s b 0 s b
   so_far_none whole = record {
     each = record { payload = []; went = Encodes-none whole; met = MetNoFault-none s.log b.writer.log };
     all = omega arith;
+    never = refl;
   }
 
-  module _ (m t : Buffered R StdPolicy) (d c : Chunking W) (before : EncodesEach remaining stretch s b m d) where
+  module _ (m t : Buffered R StdPolicy) (d c : Chunking W) (before : EncodesEach remaining stretch s b m d)
+      (never : NeverEnded s m) where
     then_each : EncodesEach remaining stretch m d t c → EncodesEach remaining stretch s b t c
     then_each next = record {
       payload = before.payload ++ next.payload;
@@ -168,6 +174,7 @@ module _ {R W : Type 0} (remaining : R → Option (List ℕ)) (stretch : W → W
     so_far_more count all next = record {
       each = then_each next.0;
       all = omega (arith, all, next.1, length-append before.payload next.0.payload);
+      never = next.2 ∙ never;
     }
 
     pub all_done : EncodesNext remaining stretch m d (Ok false) t c → EncodesAll remaining stretch s b (Ok tt) t c
@@ -175,7 +182,7 @@ module _ {R W : Type 0} (remaining : R → Option (List ℕ)) (stretch : W → W
       then_each next.0,
       record {
         none = next.1.none;
-        dry = omega (arith, before.went.read.grows.zero_reads, next.1.dry);
+        once = next.1.once ∙ ap (λ n. n + 1) never;
       },
     )
 
@@ -184,9 +191,10 @@ module _ {R W : Type 0} (remaining : R → Option (List ℕ)) (stretch : W → W
       before.payload ++ [],
       Encodes-joins m t d c before.payload [] before.went next.0,
       inl (EitherFailed-after e s.log m.log t.log b.writer.log d.writer.log c.writer.log before.met next.1),
+      next.2 ∙ never,
     )
 
-  pub over : (m : Buffered R StdPolicy) (d : Chunking W) (before : EncodesEach remaining stretch s b m d) (e : Error)
-      → error_kind e ≡ Other → 2 ^ 64 ≤ length before.payload + 1 → EncodesAll remaining stretch s b (Err e) m d
-  over m d before e other large =
-      (before.payload, before.went, inr (record { other = other; large = large; met = before.met }))
+  pub over : (m : Buffered R StdPolicy) (d : Chunking W) (before : EncodesEach remaining stretch s b m d)
+      → NeverEnded s m → (e : Error) → error_kind e ≡ Other → 2 ^ 64 ≤ length before.payload + 1 → EncodesAll remaining stretch s b (Err e) m d
+  over m d before never e other large =
+      (before.payload, before.went, inr (record { other = other; large = large; met = before.met }), never)

@@ -1,3 +1,4 @@
+pub mod Asking
 pub mod Reading
 pub mod Moving
 pub mod DecodeRuns

@@ -1,7 +1,7 @@
 -- What a run of `encode` moves from a reader to a writer.
-use Rattle.std.specs.Prelude.{◌≡◌, ℕ, ◌<◌, ◌≤◌, ◌⊎◌, List, [], ◌++◌, length, flat_map, Bool, true, false, Result, Ok, Err, Option}
+use Rattle.std.specs.Prelude.{◌≡◌, ℕ, ◌+◌, ◌<◌, ◌≤◌, ◌⊎◌, List, [], ◌++◌, length, flat_map, Bool, true, false, Result, Ok, Err, Option}
 use Rattle.std.specs.declared.io.Error.{Error}
-use Rattle.buffer_redux.specs.BufReader.{RanDry, ReadsAlong}
+use Rattle.buffer_redux.specs.BufReader.{ReadsAlong}
 use Rattle.buffer_redux.specs.Buffered.{Buffered}
 use Rattle.buffer_redux.specs.Policy.{std_read_rules}
 use Rattle.buffer_redux.specs.StreamLog.{StreamLog}
@@ -10,13 +10,17 @@ use Rattle.chunked.specs.Body.{IsBody}
 use Rattle.chunked.specs.Chunk.{IsChunks}
 use Rattle.chunked.specs.Chunking.{Chunking, ChunksWent, IsChunking}
 use Rattle.chunked.specs.declared.limits.Limits.{Limits}
-use Rattle.programs.specs.Streams.{MetNoFault, EitherFailed, Stopped, BufferRefused, GaveNothing}
+use Rattle.programs.specs.Streams.{MetNoFault, EitherFailed, Stopped, BufferRefused}
 use Rattle.bodies.specs.Decode.{Sent}
 
--- nothing is left, and the reader gave no more
+-- nothing is left, and the reader gave nothing, once
 pub record NothingLeft {R : Type 0} (s t : Buffered R StdPolicy) : Type 0 where
   pub none : t.block.bytes ≡ []
-  pub dry : RanDry s t
+  pub once : t.log.reads.zero_reads ≡ s.log.reads.zero_reads + 1
+
+-- the reader always gave something
+abbrev pub NeverEnded : {R : Type 0} → Buffered R StdPolicy → Buffered R StdPolicy → Type 0
+NeverEnded s t = t.log.reads.zero_reads ≡ s.log.reads.zero_reads
 
 module _ {R W : Type 0} (remaining : R → Option (List ℕ)) (stretch : W → W → Type 0) (s : Buffered R StdPolicy)
     (b : Chunking W) where
@@ -37,15 +41,16 @@ module _ {R W : Type 0} (remaining : R → Option (List ℕ)) (stretch : W → W
 
   -- what one call did that makes what is shown a chunk, and answers whether there was something
   abbrev pub EncodesNext : Result Bool Error → Buffered R StdPolicy → Chunking W → Type 0
-  EncodesNext (Ok true) t c = (each : EncodesEach t c) × (0 < length each.payload)
+  EncodesNext (Ok true) t c = (each : EncodesEach t c) × (0 < length each.payload) × NeverEnded s t
   EncodesNext (Ok false) t c = EncodesEach t c × NothingLeft s t
-  EncodesNext (Err e) t c = Encodes [] t c × EitherFailed e s.log t.log b.writer.log c.writer.log
+  EncodesNext (Err e) t c = Encodes [] t c × EitherFailed e s.log t.log b.writer.log c.writer.log × NeverEnded s t
 
   -- what calls did that make chunk after chunk
   abbrev pub EncodesAll : Result (Unit {0}) Error → Buffered R StdPolicy → Chunking W → Type 0
   EncodesAll (Ok _) t c = EncodesEach t c × NothingLeft s t
   EncodesAll (Err e) t c =
       (payload : List ℕ) × Encodes payload t c × Stopped e (length payload) s.log t.log b.writer.log c.writer.log
+      × NeverEnded s t
 
 -- these bytes are a body with this payload, for each reader that lets the line of a size have 16 bytes
 abbrev pub IsWritten : List ℕ → List ℕ → Type 0
@@ -55,25 +60,24 @@ IsWritten body payload = (limits : Limits) → 16 ≤ limits.line → IsBody lim
 abbrev pub IsCut : List ℕ → Type 0
 IsCut bytes = (limits : Limits) (body payload more : List ℕ) → IsBody limits body payload → ¬ (bytes ≡ body ++ more)
 
--- what was given is this payload, and the reader gave no more; what was received is a body with it
+-- what was given is this payload, and then the reader gave nothing, once; what was received is a body with it
 pub record Encoded (read read' written written' : StreamLog) : Type 0 where
   pub payload : List ℕ
   pub body : List ℕ
   pub is_body : IsWritten body payload
   pub sent : Sent read read' written written' payload body []
-  pub ended : GaveNothing read read'
+  pub ended : read'.reads.zero_reads ≡ read.reads.zero_reads + 1
 
 -- what was received, and was left unsent, is chunks of this payload, which no last one follows
 pub record IsUnended (payload sent unsent : List ℕ) : Type 0 where
   pub chunks : IsChunks (sent ++ unsent) payload
   pub cut : IsCut sent
 
--- or a body with it, all of which was received, or the beginning; the reader gave no more
-pub record IsUnflushed (read read' : StreamLog) (payload rest sent unsent : List ℕ) : Type 0 where
+-- or a body with it, all of which was received, or the beginning, and nothing else was given
+pub record IsUnflushed (payload rest sent unsent : List ℕ) : Type 0 where
   pub is_body : IsWritten (sent ++ unsent) payload
   pub cut : 0 < length unsent → IsCut sent
   pub all : rest ≡ []
-  pub ended : GaveNothing read read'
 
 -- a fault ended the run, or a buffer was refused before it began: what was received is a beginning of a body with a payload
 -- that was given, and nothing was flushed
@@ -85,7 +89,8 @@ pub record EncodeFailed (e : Error) (read read' written written' : StreamLog) : 
   pub unsent : List ℕ
   pub received : written'.writes.received ≡ written.writes.received ++ sent
   pub not_flushed : written'.writes.flushed ≡ written.writes.flushed
-  pub beginning : IsUnended payload sent unsent ⊎ IsUnflushed read read' payload rest sent unsent
+  pub once : read'.reads.zero_reads ≤ read.reads.zero_reads + 1
+  pub beginning : IsUnended payload sent unsent ⊎ IsUnflushed payload rest sent unsent
   pub caused : Stopped e (length payload) read read' written written' ⊎ BufferRefused e read read' written written'
 
 -- what a run of `encode` did

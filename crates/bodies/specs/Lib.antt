@@ -1,4 +1,5 @@
 pub mod Ending
+pub mod AtEnd
 pub mod Decode
 pub mod Encode
 pub mod Asked

@@ -1,4 +1,4 @@
-use Rattle.std.proofs.Common.{[], arith}
+use Rattle.std.proofs.Common.{[], ◌∙◌, arith}
 use Rattle.buffer_redux.specs.ReaderLaws.{ReadsAlong-joins}
 use Rattle.programs.specs.StreamsLaws.{only_more, one_more}
 use Rattle.bodies.proofs.at_end.is_at_end.Goals as goal
@@ -21,4 +21,5 @@ tries-preserved g c =
       met = only_more _ _ _ c.in-Err.e before.met tried.fault again.0;
       row = omega (arith, before.row, one_more _ _ c.in-Err.e tried.fault);
       few = again.1;
+      gave = tried.once ∙ before.gave;
     }
