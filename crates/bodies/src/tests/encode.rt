@@ -66,7 +66,8 @@ fn cuts_a_long_payload(rt: HostRuntime) -> Result<(), Fail> {
         (b"e20\r\n", 16384, 20000),
     ] {
         body.extend_from_slice(size)?;
-        body.extend_from_slice(&payload.as_slice()[from..to])?;
+        let part = payload.as_slice().get(from..to);
+        body.extend_from_slice(part.expect(&rt, "no part"))?;
         body.extend_from_slice(b"\r\n")?;
     }
     body.extend_from_slice(b"0\r\n\r\n")?;
