@@ -1,5 +1,5 @@
 -- What a whole run of `decode` comes to.
-use Rattle.std.proofs.Common.{◌≡◌, ℕ, inl, inr, List, [], ◌∷◌, ◌++◌, length, length-append, Option, Result, Ok, Err, refl, sym, ap, subst, ◌∙◌, arith, append_assoc, append-nil}
+use Rattle.std.proofs.Common.{◌≡◌, ℕ, inl, inr, List, [], ◌∷◌, ◌++◌, length, length-append, Option, Result, Ok, Err, sym, ap, subst, ◌∙◌, arith, append_assoc, append-nil}
 use Rattle.std.specs.declared.io.Error.{Error}
 use Rattle.buffer_redux.specs.BufReader.{ReadsAlong}
 use Rattle.buffer_redux.specs.Buffered.{Buffered}

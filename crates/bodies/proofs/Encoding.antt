@@ -1,5 +1,5 @@
 -- What chunks come to that are made one behind the other.
-use Rattle.std.proofs.Common.{◌≡◌, ℕ, zero, suc, ◌+◌, ◌-◌, ◌<◌, ◌≤◌, ◌^◌, inl, inr, List, [], ◌∷◌, ◌++◌, length, take, min, true, false, Option, Result, Ok, Err, refl, sym, ap, subst, ◌∙◌, arith, append-nil, length-append}
+use Rattle.std.proofs.Common.{◌≡◌, ℕ, zero, suc, ◌+◌, ◌<◌, ◌≤◌, ◌^◌, inl, inr, List, [], ◌++◌, length, take, true, false, Option, Result, Ok, Err, refl, sym, ap, subst, ◌∙◌, arith, append-nil, length-append}
 use Rattle.std.proofs.lemmas.Bool.{cases_lt}
 use Rattle.std.proofs.lemmas.List.{length-take-le}
 use Rattle.std.proofs.lemmas.List.Concat.{flat_map-append}
@@ -9,17 +9,17 @@ use Rattle.std.specs.declared.io.Error.{Error}
 use Rattle.std.specs.declared.io.ErrorKind.TheVariants.{Other}
 use Rattle.buffer_redux.specs.BufReader.{ReadsAlong}
 use Rattle.buffer_redux.specs.Buffered.{Buffered}
-use Rattle.buffer_redux.specs.Faults.{MetInterrupts, OnlyInterrupts, SendErrorCaused}
+use Rattle.buffer_redux.specs.Faults.{MetInterrupts, OnlyInterrupts}
 use Rattle.buffer_redux.specs.Policy.{std_read_rules}
 use Rattle.buffer_redux.specs.ReaderLaws.{ReadsAlong-joins, ReadsAlong-none}
 use Rattle.buffer_redux.specs.StreamLog.{StreamLog}
 use Rattle.buffer_redux.specs.declared.policy.StdPolicy.{StdPolicy}
 use Rattle.chunked.specs.Chunking.{Chunking, IsChunking, PutsFirst, PutsIn, WritesChunk, around, room, taken_payloads}
 use Rattle.chunked.specs.ChunkingLaws.{ChunksWent-joins, ChunksWent-none}
-use Rattle.programs.specs.Streams.{EitherFailed, MetNoFault, ReadGaveUp}
+use Rattle.programs.specs.Streams.{ReadGaveUp}
 use Rattle.programs.specs.StreamsLaws.{EitherFailed-after, MetInterrupts-none, MetNoFault-joins, MetNoFault-none}
 use Rattle.bodies.specs.AtEnd.{EndsOnce}
-use Rattle.bodies.specs.Encode.{Encodes, EncodesAll, EncodesEach, EncodesNext, NeverEnded, NothingLeft}
+use Rattle.bodies.specs.Encode.{Encodes, EncodesAll, EncodesEach, EncodesNext, NeverEnded}
 
 -- the writer was at most interrupted, and flushed nothing
 pub record Quiet {W : Type 0} (u v : Buffered W StdPolicy) : Type 0 where
