@@ -66,6 +66,12 @@ fn inner(body: &Body) -> &Inner {
     body.get_ref()
 }
 
+// A body that begins behind what is buffered.
+fn behind(rt: &impl Abort, inner: Inner) -> Body {
+    assert!(rt; inner.capacity() > 20);
+    ChunkedWriter::new(inner)
+}
+
 fn into_inner(body: Body) -> Inner {
     body.into_inner()
 }
@@ -216,8 +222,7 @@ fn sends_where_there_is_no_room(rt: HostRuntime) -> Result<(), Fail> {
         assert_eq!(rt; taken(inner(&body)).len(), 0);
         let mut inner = into_inner(body);
         assert_eq!(rt; write(&mut inner, &long[..size.min(16)])?, size);
-        let body = ChunkedWriter::new(inner);
-        let (inner, _) = finishes(body)?;
+        let (inner, _) = finishes(behind(&rt, inner))?;
         assert_eq!(rt; taken(&inner).len(), sent);
     }
     Ok(())
@@ -317,7 +322,9 @@ fn comes_back(
     let payload =
         b"No byte is lost, errors come only from the stream, and an empty answer only with its reason.";
     let inner = written(rt, alloc, capacity, payload, fields)?;
-    let most = fields.iter().map(|field| field.len()).sum();
+    let most = fields
+        .iter()
+        .fold(0, |sum: usize, field| sum.saturating_add(field.len()));
     let mut back = reading(alloc, taken(&inner), most, script)?;
     let mut read = Vec::new(alloc);
     read_to_end(&mut back, &mut read)?;

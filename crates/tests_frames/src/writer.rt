@@ -174,8 +174,9 @@ fn hands_the_writer_back_at_a_fault(rt: HostRuntime) -> Result<(), Fail> {
     let mut writer = frames(rt.alloc(), 1, &[Answer::Fail(ErrorKind::Other)])?;
     assert!(rt; put(&mut writer, b"a").is_ok());
     match ended(writer) {
-        Ok(_) => assert!(rt; false),
-        Err((mut writer, kind)) => {
+        Ok(_inner) => assert!(rt; false),
+        Err(back) => {
+            let (mut writer, kind) = back;
             assert_eq!(rt; kind, ErrorKind::Other);
             assert!(rt; taken(&writer).is_empty());
             flush(&mut writer)?;
