@@ -179,6 +179,8 @@ replay_as_a_shell() {
     replayed 'writer plain 4 min 3 | 0 | - | L\n' 'line 1: `writer plain 4 min 3` is no buffered stream\n' 2
     replayed 'reader plain 4 std | +3 | - | F\n' 'line 1: `+3` is no number of bytes for a source\n' 2
     replayed 'writer ring 4 std | 3 | - | L\n' 'line 1: `3` is no number of bytes for a source\n' 2
+    replayed 'sweep\n' 'line 1: not four parts\n' 2
+    replayed 'sweep lossy reader plain 4 std | 3 | - | F\n' 'line 1: `lossy reader plain 4 std` is no buffered stream\n' 2
     replayed 'reader plain 4 std | 3 | a e:Rust | F\n' 'line 1: `e:Rust` is no answer of a stream\n' 2
     replayed 'reader plain 4 std | 3 | - | F W3\n' 'line 1: `W3` is no call\n' 2
     replayed 'reader plain 4 std | 3 | - | R18446744073709551615\n' 'line 1: not enough memory\n' 2

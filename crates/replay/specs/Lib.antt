@@ -1,3 +1,3 @@
 pub mod Answers
-pub mod Noting
+pub mod Watched
 pub mod Words

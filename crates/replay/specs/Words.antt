@@ -1,11 +1,19 @@
 -- What the words of a line stand for.
-use Rattle.std.specs.Prelude.{◌≡◌, ℕ, List, take, drop, codes}
+use Rattle.std.specs.Prelude.{◌≡◌, ℕ, List, [], take, drop, codes}
 use Rattle.std.specs.Str.Parse.{digits_value}
 use Rattle.programs.specs.Words.{IsNumber}
 use Rattle.redux_play.specs.declared.play.ReaderCall.{ReaderCall}
 use Rattle.redux_play.specs.declared.play.ReaderCall.TheVariants.{Read, Fill, Consume, ReadIntoBuf, MakeRoom, Reserve}
+use Rattle.replay.specs.declared.case.Mode.{Mode}
+use Rattle.replay.specs.declared.case.Mode.TheVariants.{Once, Sweep, LossySweep}
 use Rattle.replay.specs.declared.case.WriterWord.{WriterWord}
 use Rattle.replay.specs.declared.case.WriterWord.TheVariants as writer
+
+-- the word in front of a case for how it is played
+abbrev pub mode_word : Mode → List ℕ
+mode_word Once = []
+mode_word Sweep = codes "sweep "
+mode_word LossySweep = codes "lossy "
 
 -- this letter, and then this number
 pub record IsSized (letter : List ℕ) (n : ℕ) (word : List ℕ) : Type 0 where

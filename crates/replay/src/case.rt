@@ -3,21 +3,32 @@ use buffer_redux::script::Answer;
 use redux_play::play::ReaderCall;
 
 /// What a line asks for.
-#[derive(Debug, Drop)]
+#[derive(Drop)]
 pub enum Case {
     Reader(ReaderCase),
     Writer(WriterCase),
 }
 
+/// How a case is played.
+#[derive(Clone, Copy)]
+pub enum Mode {
+    /// Once, and its answers are printed.
+    Once,
+    /// Again and again, with each call of the stream inside going wrong in turn.
+    Sweep,
+    /// So too, and the call behind that one loses a byte.
+    LossySweep,
+}
+
 /// The kind of a buffer.
-#[derive(Clone, Copy, Debug)]
+#[derive(Clone, Copy)]
 pub enum Kind {
     Plain,
     Ring,
 }
 
 /// The buffer that is asked for, with how many bytes it holds at first, as far as they fit.
-#[derive(Clone, Copy, Debug)]
+#[derive(Clone, Copy)]
 pub struct Storage {
     pub kind: Kind,
     pub capacity: usize,
@@ -25,14 +36,14 @@ pub struct Storage {
 }
 
 /// The policy of a reader.
-#[derive(Clone, Copy, Debug)]
+#[derive(Clone, Copy)]
 pub enum ReaderRule {
     Std,
     Min(usize),
 }
 
 /// The policy of a writer.
-#[derive(Clone, Copy, Debug)]
+#[derive(Clone, Copy)]
 pub enum WriterRule {
     Std,
     AtLeast(usize),
@@ -42,7 +53,7 @@ pub enum WriterRule {
 }
 
 /// A call of a writer, with how many bytes a write offers.
-#[derive(Clone, Copy, Debug)]
+#[derive(Clone, Copy)]
 pub enum WriterWord {
     /// No call: what is written next counts up from this number, modulo 256.
     CountFrom(usize),
@@ -53,7 +64,7 @@ pub enum WriterWord {
 }
 
 /// A buffered reader over a source of so many bytes, and the calls.
-#[derive(Debug, Drop)]
+#[derive(Drop)]
 pub struct ReaderCase {
     pub storage: Storage,
     pub rule: ReaderRule,
@@ -65,7 +76,7 @@ pub struct ReaderCase {
 }
 
 /// A buffered writer, and the calls.
-#[derive(Debug, Drop)]
+#[derive(Drop)]
 pub struct WriterCase {
     pub storage: Storage,
     pub rule: WriterRule,

@@ -11,7 +11,14 @@
 //! 4. The calls: `Rn` reads n bytes, `F` fills, `Cn` consumes n, `I` reads into the buffer, `Wn` writes n bytes, which count up
 //!    from one write to the next, `L` flushes, `M` makes room, `Vn` reserves n. `@N` is no call: the next write counts from N.
 //!
-//! The line of answers has:
+//! `sweep` in front of a line plays it again and again: with no call of the stream inside going wrong, and with each of them in
+//! turn, by `e:Other`, `i`, `i65` (65 times `i`), `z` and `1`. After each run what was handed out, and then what is buffered, is
+//! compared with what was held, and then given; of a writer what was received, and then what is buffered, with what was held,
+//! and then accepted; and the kind of each error, but for a refused growth, with the stream's own. The line of answers is `kept`,
+//! or what is wrong first, as `lost at call 0 by i`: `lost` of bytes, `untold` of errors, `no end` past 1000 calls. `lossy` does
+//! the same, and the call behind the one that goes wrong loses a byte, so that `lost` can be seen.
+//!
+//! The line of answers has else:
 //!
 //! 1. A word for each call: `Cn` a count, `Sn` so many bytes shown, `D` done, `E:KIND` an error, `X:WHY` a refused growth.
 //! 2. How many bytes are buffered then, the usable space, the capacity, and the bytes.
@@ -24,12 +31,15 @@
 #![tactic(auto)]
 
 mod case;
-mod noting;
 mod parse;
 mod play;
 mod print;
+mod reading;
 mod replay;
+mod sweep;
+mod watched;
 mod words;
+mod writing;
 
 use crate::replay::{Ending, replay};
 use buffer_redux::tell::Told;

@@ -10,7 +10,7 @@ use std::alloc::{AllocError, AllocFailed, Global};
 use std::fmt;
 
 /// Why a line has no answer.
-#[derive(Debug, Drop)]
+#[derive(Drop)]
 pub enum Unread<'a> {
     /// It is not four parts with ` | ` between them.
     Parts,
@@ -63,7 +63,8 @@ enum Stream {
 
 /// What this line asks for.
 pub fn case(alloc: Global, line: &str) -> Result<Case, Unread<'_>> {
-    let Some((stream, source, script, calls)) = parts(line) else {
+    let parts: Vec<&str> = line.split(" | ").collect(alloc)?;
+    let [stream, source, script, calls] = *parts.as_slice() else {
         return Err(Unread::Parts);
     };
     let count = number(source).ok_or(Unread::Source(source))?;
@@ -93,13 +94,6 @@ pub fn case(alloc: Global, line: &str) -> Result<Case, Unread<'_>> {
         })),
         None => Err(Unread::Stream(stream)),
     }
-}
-
-fn parts(line: &str) -> Option<(&str, &str, &str, &str)> {
-    let (stream, others) = line.split_once(" | ")?;
-    let (source, others) = others.split_once(" | ")?;
-    let (script, calls) = others.split_once(" | ")?;
-    Some((stream, source, script, calls))
 }
 
 fn buffered_stream(alloc: Global, text: &str) -> Result<Option<Stream>, AllocError> {

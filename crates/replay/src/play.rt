@@ -1,35 +1,69 @@
-//! Playing a case, and what it answers.
+//! Playing a case once, and what came of it.
 ghost use Rattle.std.specs.Prelude.{IfOk};
 ghost use Rattle.replay.specs.Answers.{CountsUp};
 
-use crate::case::{
-    Case, Kind, ReaderCase, ReaderRule, Storage, WriterCase, WriterRule, WriterWord,
-};
-use crate::noting::NotingWriter;
-use crate::print;
-use buffer_redux::policy::{
-    FlushAtLeast, FlushExact, FlushOn, FlushOnNewline, MinBuffered, ReaderPolicy, WriterPolicy,
-};
-use buffer_redux::script::ScriptReader;
-use buffer_redux::tell::Told;
-use buffer_redux::{BufReader, BufWriter, Buffer, GrowError};
-use redux_play::play::{ReaderRun, WriterCall, WriterRun, play_reader, play_writer};
-use std::alloc::{AllocError, Global};
+use crate::case::{Case, Kind, Storage};
+use crate::reading::reads;
+use crate::watched::Fault;
+use crate::writing::writes;
+use buffer_redux::{Buffer, GrowError};
+use std::alloc::{AllocError, AllocFailed, Global};
+use std::io::ErrorKind;
 
-type Source = Told<ScriptReader>;
+/// What came of a case.
+#[derive(Drop)]
+pub struct Outcome {
+    /// The line that answers it.
+    pub line: String,
+    /// How many calls the stream inside had.
+    pub calls: usize,
+    /// What was handed out, or what the stream inside took, and then what is buffered.
+    pub joined: Vec<u8>,
+    /// What was held, and then what the stream inside gave, or what was accepted.
+    pub whole: Vec<u8>,
+    /// The kinds of the errors that the calls returned.
+    pub returned: Vec<ErrorKind>,
+    /// The kinds that the stream inside returned for these.
+    pub caused: Vec<ErrorKind>,
+}
 
-type Target = Told<NotingWriter>;
+/// Why a case was not played.
+#[derive(Clone, Copy)]
+pub enum Unplayed {
+    /// Its buffer could not be made.
+    Refused(GrowError),
+    /// There is not enough memory for what came of it.
+    Memory,
+}
 
-/// The line that answers a case.
-pub fn answer(alloc: Global, case: &Case) -> Result<String, AllocError> {
-    match case {
-        Case::Reader(case) => reader_case(alloc, case),
-        Case::Writer(case) => writer_case(alloc, case),
+impl From<GrowError> for Unplayed {
+    fn from(e: GrowError) -> Self {
+        Unplayed::Refused(e)
     }
 }
 
-// So many bytes, which count up from `first`, modulo 256.
-fn counting(alloc: Global, first: u8, count: usize) -> Result<Vec<u8>, AllocError>
+impl From<AllocError> for Unplayed {
+    fn from(_e: AllocError) -> Self {
+        Unplayed::Memory
+    }
+}
+
+impl<T: Drop> From<AllocFailed<T>> for Unplayed {
+    fn from(_e: AllocFailed<T>) -> Self {
+        Unplayed::Memory
+    }
+}
+
+/// Plays a case over a stream of which one call may go wrong.
+pub fn play_case(alloc: Global, case: &Case, fault: Fault) -> Result<Outcome, Unplayed> {
+    match case {
+        Case::Reader(case) => reads(alloc, case, fault),
+        Case::Writer(case) => writes(alloc, case, fault),
+    }
+}
+
+/// So many bytes, which count up from `first`, modulo 256.
+pub fn counting(alloc: Global, first: u8, count: usize) -> Result<Vec<u8>, AllocError>
     ensures { IfOk result (λ bytes. CountsUp first count bytes.items) }
 {
     let mut bytes = Vec::with_capacity(alloc, count)?;
@@ -39,126 +73,23 @@ fn counting(alloc: Global, first: u8, count: usize) -> Result<Vec<u8>, AllocErro
     Ok(bytes)
 }
 
-fn reader_case(alloc: Global, case: &ReaderCase) -> Result<String, AllocError> {
-    let held = counting(alloc, 0, case.storage.held)?;
-    let buffer = match first_buffer(alloc, case.storage, held.as_slice()) {
-        Ok(buffer) => buffer,
-        Err(e) => return String::from_str(alloc, print::refusal_word(e)),
-    };
-    // What the source gives counts on from what is held.
-    let bytes = counting(alloc, low_byte(buffer.len()), case.source)?;
-    let source = ScriptReader::new(alloc, bytes.as_slice(), case.script.as_slice())?;
-    let reader = BufReader::with_buffer(buffer, Told::new(source));
-    match case.rule {
-        ReaderRule::Std => reader_answer(alloc, reader, case),
-        ReaderRule::Min(n) => reader_answer(alloc, reader.set_policy(MinBuffered(n)), case),
-    }
-}
-
-// The buffer that is asked for, with the first of these bytes, as many as fit.
-fn first_buffer(alloc: Global, storage: Storage, held: &[u8]) -> Result<Buffer, GrowError> {
+/// The buffer that is asked for, with what it holds at first.
+pub fn first_buffer(alloc: Global, storage: Storage) -> Result<Buffer, Unplayed> {
+    let held = counting(alloc, 0, storage.held)?;
     let mut buffer = match storage.kind {
         Kind::Plain => Buffer::with_capacity(alloc, storage.capacity)?,
         Kind::Ring => Buffer::with_capacity_ringbuf(alloc, storage.capacity)?,
     };
-    let _ = buffer.copy_from_slice(held);
+    let _ = buffer.copy_from_slice(held.as_slice());
     Ok(buffer)
 }
 
-fn low_byte(n: usize) -> u8 {
+/// This number, modulo 256.
+pub fn low_byte(n: usize) -> u8 {
     (n % 256) as u8
 }
 
-fn reader_answer<P: ReaderPolicy + Drop>(
-    alloc: Global,
-    mut reader: BufReader<Source, P>,
-    case: &ReaderCase,
-) -> Result<String, AllocError> {
-    let mut run = ReaderRun::new(alloc);
-    play_reader(alloc, &mut reader, case.calls.as_slice(), &mut run)?;
-    let mut text = String::new(alloc);
-    if run.answers.is_empty() {
-        text.push_str("- ")?;
-    }
-    for answer in run.answers.as_slice() {
-        text.push_str(print::reader_word(alloc, *answer)?.as_str())?;
-        text.push_str(" ")?;
-    }
-    let (source, buffer) = reader.into_inner_with_buffer();
-    push_state(&mut text, &buffer)?;
-    print::push_offers(&mut text, source.get_ref().offers())?;
-    if case.prints_handed {
-        text.push_str(" | ")?;
-        print::push_bytes(&mut text, run.handed.as_slice())?;
-    }
-    Ok(text)
-}
-
-fn push_state(text: &mut String, buffer: &Buffer) -> Result<(), AllocError> {
-    let len = buffer.len();
-    let usable = buffer.usable_space();
-    let capacity = buffer.capacity();
-    write!(text, "| {len} {usable} {capacity} ")?;
-    print::push_bytes(text, buffer.buf())?;
-    text.push_str(" |")
-}
-
-fn writer_case(alloc: Global, case: &WriterCase) -> Result<String, AllocError> {
-    let held = counting(alloc, 0, case.storage.held)?;
-    let buffer = match first_buffer(alloc, case.storage, held.as_slice()) {
-        Ok(buffer) => buffer,
-        Err(e) => return String::from_str(alloc, print::refusal_word(e)),
-    };
-    let target = NotingWriter::new(alloc, case.script.as_slice())?;
-    let calls = case.calls.as_slice();
-    let writer = BufWriter::with_buffer(buffer, Told::new(target));
-    match case.rule {
-        WriterRule::Std => writer_answer(alloc, writer, calls),
-        WriterRule::AtLeast(n) => writer_answer(alloc, writer.set_policy(FlushAtLeast(n)), calls),
-        WriterRule::Exact(n) => writer_answer(alloc, writer.set_policy(FlushExact(n)), calls),
-        WriterRule::On(byte) => writer_answer(alloc, writer.set_policy(FlushOn(byte)), calls),
-        WriterRule::Newline => writer_answer(alloc, writer.set_policy(FlushOnNewline), calls),
-    }
-}
-
-fn writer_answer<P: WriterPolicy + Drop>(
-    alloc: Global,
-    mut writer: BufWriter<Target, P>,
-    calls: &[WriterWord],
-) -> Result<String, AllocError> {
-    let mut run = WriterRun::new(alloc);
-    // What is written counts up from one write to the next, and first from what is held.
-    let mut first = low_byte(writer.buf_len());
-    for call in calls {
-        match *call {
-            WriterWord::CountFrom(n) => first = low_byte(n),
-            WriterWord::Write(n) => {
-                let bytes = counting(alloc, first, n)?;
-                first = first.wrapping_add(low_byte(n));
-                let call = WriterCall::Write(bytes.as_slice());
-                play_writer(&mut writer, &[call], &mut run)?;
-            }
-            WriterWord::Flush => play_writer(&mut writer, &[WriterCall::Flush], &mut run)?,
-            WriterWord::MakeRoom => play_writer(&mut writer, &[WriterCall::MakeRoom], &mut run)?,
-            WriterWord::Reserve(n) => play_writer(
-                &mut writer,
-                &[WriterCall::Reserve(n)],
-                &mut run,
-            )?,
-        }
-    }
-    let mut text = String::new(alloc);
-    if run.answers.is_empty() {
-        text.push_str("- ")?;
-    }
-    for answer in run.answers.as_slice() {
-        text.push_str(print::writer_word(alloc, *answer)?.as_str())?;
-        text.push_str(" ")?;
-    }
-    let (target, buffer) = writer.into_inner_with_buffer();
-    push_state(&mut text, &buffer)?;
-    print::push_notes(&mut text, target.get_ref().notes())?;
-    text.push_str(" | ")?;
-    print::push_bytes(&mut text, target.get_ref().taken())?;
-    Ok(text)
+/// Whether a refused growth has an error of this kind. It is none of the stream inside.
+pub fn is_refusal(kind: ErrorKind) -> bool {
+    kind == ErrorKind::InvalidInput || kind == ErrorKind::OutOfMemory
 }

@@ -3,8 +3,9 @@ ghost use Rattle.std.specs.Prelude.{◌≡◌, IfOk, string_bytes, codes};
 ghost use Rattle.std.specs.Io.{StartsWith};
 ghost use Rattle.replay.specs.Answers.{PrintsReaderAnswer, PrintsWriterAnswer, refusal_text};
 
-use crate::noting::Noted;
-use buffer_redux::GrowError;
+use crate::watched::Noted;
+use crate::words::kind_name;
+use buffer_redux::{Buffer, GrowError};
 use redux_play::play::{ReaderAnswer, WriterAnswer};
 use std::alloc::{AllocError, Global};
 use std::io::ErrorKind;
@@ -40,9 +41,8 @@ pub fn writer_word(alloc: Global, answer: WriterAnswer) -> Result<String, AllocE
 fn fault_word(alloc: Global, kind: ErrorKind) -> Result<String, AllocError>
     ensures { IfOk result (λ text. StartsWith (string_bytes text) (codes "E:")) }
 {
-    let name = format!(in alloc; "{kind:?}")?;
     let mut text = String::from_str(alloc, "E:")?;
-    text.push_str(name.as_str())?;
+    text.push_str(kind_name(kind))?;
     Ok(text)
 }
 
@@ -81,25 +81,28 @@ fn hash(bytes: &[u8]) -> u64 {
     hash
 }
 
-/// Adds how long a slice each read was given, or `-` for none.
-pub fn push_offers(text: &mut String, offers: &[usize]) -> Result<(), AllocError> {
-    if offers.is_empty() {
-        return text.push_str(" -");
+/// Adds, behind the words of all calls, what is buffered, and what the stream inside was asked.
+pub fn push_state(text: &mut String, buffer: &Buffer, notes: &[Noted]) -> Result<(), AllocError> {
+    if text.is_empty() {
+        text.push_str("- ")?;
     }
-    for n in offers {
-        write!(text, " {n}")?;
-    }
-    Ok(())
+    let len = buffer.len();
+    let usable = buffer.usable_space();
+    let capacity = buffer.capacity();
+    write!(text, "| {len} {usable} {capacity} ")?;
+    push_bytes(text, buffer.buf())?;
+    text.push_str(" |")?;
+    push_notes(text, notes)
 }
 
-/// Adds how many bytes each write was offered and `f` for each flush, or `-` for none.
-pub fn push_notes(text: &mut String, notes: &[Noted]) -> Result<(), AllocError> {
+// Adds how many bytes each read or write was offered and `f` for each flush, or `-` for none.
+fn push_notes(text: &mut String, notes: &[Noted]) -> Result<(), AllocError> {
     if notes.is_empty() {
         return text.push_str(" -");
     }
     for note in notes {
         match *note {
-            Noted::Write(n) => write!(text, " {n}")?,
+            Noted::Bytes(n) => write!(text, " {n}")?,
             Noted::Flush => text.push_str(" f")?,
         }
     }

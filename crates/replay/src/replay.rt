@@ -1,14 +1,19 @@
 //! Lines in, answers out.
 ghost use Rattle.std.specs.Prelude.{◌≡◌};
 
+use crate::case::Mode;
 use crate::parse::{Unread, case};
-use crate::play::answer;
+use crate::play::{Unplayed, play_case};
+use crate::print::refusal_word;
+use crate::sweep::sweep;
+use crate::watched::Fault;
+use crate::words::mode;
 use std::alloc::Global;
 use std::io;
 use std::io::{BufRead, ErrorKind, Write};
 
 /// How a replay ends that read and wrote all.
-#[derive(Clone, Copy, Debug)]
+#[derive(Clone, Copy)]
 pub enum Ending {
     /// Each line was played.
     AllPlayed,
@@ -65,6 +70,16 @@ fn played(alloc: Global, line: &str) -> Result<String, Unread<'_>> {
     if line.starts_with('#') {
         return Ok(String::from_str(alloc, line)?);
     }
+    let (mode, line) = mode(line);
     let case = case(alloc, line)?;
-    Ok(answer(alloc, &case)?)
+    let answer = match mode {
+        Mode::Once => play_case(alloc, &case, Fault::NONE).map(|played| played.line),
+        Mode::Sweep => sweep(alloc, &case, false),
+        Mode::LossySweep => sweep(alloc, &case, true),
+    };
+    match answer {
+        Ok(text) => Ok(text),
+        Err(Unplayed::Refused(e)) => Ok(String::from_str(alloc, refusal_word(e))?),
+        Err(Unplayed::Memory) => Err(Unread::Memory),
+    }
 }

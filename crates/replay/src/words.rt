@@ -1,12 +1,25 @@
 //! The words of a line.
-ghost use Rattle.std.specs.Prelude.{IfSome};
-ghost use Rattle.replay.specs.Words.{IsSized, IsReaderWord, IsWriterWord};
+ghost use Rattle.std.specs.Prelude.{◌≡◌, ◌++◌, IfSome};
+ghost use Rattle.replay.specs.Words.{IsSized, IsReaderWord, IsWriterWord, mode_word};
 
-use crate::case::WriterWord;
+use crate::case::{Mode, WriterWord};
 use buffer_redux::script::Answer;
 use programs::number;
 use redux_play::play::ReaderCall;
 use std::io::ErrorKind;
+
+/// How the case of a line is to be played, and the line without the word for that.
+pub fn mode(line: &str) -> (Mode, &str)
+    ensures { line.now ≡ mode_word result.0 ++ result.1.now }
+{
+    if let Some(case) = line.strip_prefix("sweep ") {
+        return (Mode::Sweep, case);
+    }
+    match line.strip_prefix("lossy ") {
+        Some(case) => (Mode::LossySweep, case),
+        None => (Mode::Once, line),
+    }
+}
 
 // The letter that this word begins with, and the number behind it.
 fn sized(word: &str) -> Option<(&str, usize)>
@@ -56,33 +69,49 @@ pub fn answer(word: &str) -> Option<Answer> {
         "z" => Some(Answer::Serve(0)),
         "i" => Some(Answer::Interrupt(1)),
         _ => match word.strip_prefix("e:") {
-            Some(name) => Some(Answer::Fail(error_kind(name)?)),
+            Some(name) => Some(Answer::Fail(kind_named(name)?)),
             None => Some(Answer::Serve(number(word)?)),
         },
     }
 }
 
-// The kind of error that has this name.
-fn error_kind(name: &str) -> Option<ErrorKind> {
-    match name {
-        "AlreadyExists" => Some(ErrorKind::AlreadyExists),
-        "BrokenPipe" => Some(ErrorKind::BrokenPipe),
-        "ConnectionAborted" => Some(ErrorKind::ConnectionAborted),
-        "ConnectionRefused" => Some(ErrorKind::ConnectionRefused),
-        "ConnectionReset" => Some(ErrorKind::ConnectionReset),
-        "Interrupted" => Some(ErrorKind::Interrupted),
-        "InvalidData" => Some(ErrorKind::InvalidData),
-        "InvalidInput" => Some(ErrorKind::InvalidInput),
-        "NotConnected" => Some(ErrorKind::NotConnected),
-        "NotFound" => Some(ErrorKind::NotFound),
-        "Other" => Some(ErrorKind::Other),
-        "OutOfMemory" => Some(ErrorKind::OutOfMemory),
-        "PermissionDenied" => Some(ErrorKind::PermissionDenied),
-        "TimedOut" => Some(ErrorKind::TimedOut),
-        "UnexpectedEof" => Some(ErrorKind::UnexpectedEof),
-        "Unsupported" => Some(ErrorKind::Unsupported),
-        "WouldBlock" => Some(ErrorKind::WouldBlock),
-        "WriteZero" => Some(ErrorKind::WriteZero),
-        _ => None,
+// The kinds of errors that have a name here.
+const KINDS: [(&str, ErrorKind); 18] = [
+    ("AlreadyExists", ErrorKind::AlreadyExists),
+    ("BrokenPipe", ErrorKind::BrokenPipe),
+    ("ConnectionAborted", ErrorKind::ConnectionAborted),
+    ("ConnectionRefused", ErrorKind::ConnectionRefused),
+    ("ConnectionReset", ErrorKind::ConnectionReset),
+    ("Interrupted", ErrorKind::Interrupted),
+    ("InvalidData", ErrorKind::InvalidData),
+    ("InvalidInput", ErrorKind::InvalidInput),
+    ("NotConnected", ErrorKind::NotConnected),
+    ("NotFound", ErrorKind::NotFound),
+    ("Other", ErrorKind::Other),
+    ("OutOfMemory", ErrorKind::OutOfMemory),
+    ("PermissionDenied", ErrorKind::PermissionDenied),
+    ("TimedOut", ErrorKind::TimedOut),
+    ("UnexpectedEof", ErrorKind::UnexpectedEof),
+    ("Unsupported", ErrorKind::Unsupported),
+    ("WouldBlock", ErrorKind::WouldBlock),
+    ("WriteZero", ErrorKind::WriteZero),
+];
+
+fn kind_named(name: &str) -> Option<ErrorKind> {
+    for (word, kind) in KINDS {
+        if word == name {
+            return Some(kind);
+        }
     }
+    None
+}
+
+/// The name of a kind of error.
+pub fn kind_name(kind: ErrorKind) -> &'static str {
+    for (word, named) in KINDS {
+        if named == kind {
+            return word;
+        }
+    }
+    "another"
 }
