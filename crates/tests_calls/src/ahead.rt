@@ -1,15 +1,17 @@
 //! What a plain buffer moves under a policy that looks ahead, told by where its bytes stand.
 use buffer_redux::policy::{DoRead, MinBuffered, ReaderPolicy};
-use buffer_redux::tell::{TellRead, TellSeek, Told};
+use buffer_redux::tell::{Tell, TellRead, TellSeek, Told};
 use buffer_redux::{BufReader, Buffer};
 use redux_play::laws;
 use redux_play::play::{ReaderCall, ReaderRun};
-use std::alloc::{AllocError, Global};
+use std::alloc::Global;
 use std::io;
-use std::io::{Cursor, SeekFrom};
+use std::io::SeekFrom;
 use std::process::Abort;
 use std::test::Fail;
-use tests_common::{Source, asked, consume, fill_buf, reader, reader_under, source};
+use tests_common::{
+    Positions, Source, asked, consume, fill_buf, first, reader, reader_under, source,
+};
 
 // The bytes 1 to 30.
 const BYTES: [u8; 30] = [
@@ -55,8 +57,13 @@ fn weighed(alloc: Global, capacity: usize, bytes: &[u8]) -> Result<Weighed, Fail
     Ok(reader_under(rdr, policy))
 }
 
-fn set_min(rdr: &mut Weighed, min: usize) {
+fn set_min<R: Tell>(rdr: &mut BufReader<R, Weighing>, min: usize) {
     rdr.policy_mut().inner.set_min(min);
+}
+
+// The bytes from one place to another.
+fn between(from: usize, to: usize) -> &'static [u8] {
+    BYTES.get(from..to).unwrap_or(&BYTES)
 }
 
 // How many bytes were moved by now, the capacity, and how often the source was asked.
@@ -72,9 +79,8 @@ fn walks(rt: &impl Abort, rdr: &mut Weighed, steps: &[Step]) -> Result<(), Fail>
     for &[consumed, min, from, to, moved, capacity, asks] in steps {
         consume(rdr, consumed);
         set_min(rdr, min);
-        assert!(rt; from <= to && to <= BYTES.len());
-        assert_eq!(rt; fill_buf(rdr)?, &BYTES[from..to]);
-        assert_eq!(rt; seen(rdr), (moved, capacity, asks));
+        assert!(rt; fill_buf(rdr)? == between(from, to));
+        assert!(rt; seen(rdr) == (moved, capacity, asks));
     }
     Ok(())
 }
@@ -136,56 +142,42 @@ fn moves(rt: HostRuntime) -> Result<(), Fail> {
         (0, 20, &GREATER),
     ];
     for (capacity, count, steps) in rows {
-        assert!(rt; count <= BYTES.len());
-        let mut rdr = weighed(rt.alloc(), capacity, &BYTES[..count])?;
+        let mut rdr = weighed(rt.alloc(), capacity, first(&BYTES, count))?;
         walks(&rt, &mut rdr, steps)?;
     }
     Ok(())
 }
 
-type Ahead = BufReader<Told<Cursor<&'static [u8]>>, MinBuffered>;
+const BEFORE: [ReaderCall; 3] = [
+    ReaderCall::Read(3),
+    ReaderCall::Fill,
+    ReaderCall::Consume(2),
+];
 
-// A reader of all the bytes that looks ahead by four.
-fn ahead(alloc: Global) -> Result<Ahead, Fail> {
-    let rdr = reader(alloc, 12, &[], Told::new(Cursor::new(BYTES.as_slice())))?;
-    Ok(reader_under(rdr, MinBuffered(4)))
-}
+const AFTER: [ReaderCall; 2] = [ReaderCall::Fill, ReaderCall::Consume(20)];
 
-// What a list of calls hands out.
-fn played<R: TellRead>(
+// Five bytes, and then those that fill a capacity of 18.
+const HANDED: [u8; 23] = [
+    0, 1, 2, 3, 4, 10, 11, 12, 13, 14, 15, 16, 17, 18, 19, 20, 21, 22, 23, 24, 25, 26, 27,
+];
+
+// What two runs hand out, with another minimum, a growth and a seek between them.
+fn two_runs<R: TellRead + TellSeek>(
     alloc: Global,
     rdr: &mut BufReader<R, MinBuffered>,
-    calls: &[ReaderCall],
-) -> Result<Vec<u8>, AllocError> {
+) -> io::Result<Vec<u8>> {
     let mut run = ReaderRun::new(alloc);
-    laws::play_sparing(alloc, rdr, calls, &mut run)?;
+    laws::play_sparing(alloc, rdr, &BEFORE, &mut run)?;
+    laws::spare_between(rdr, 2, 6, SeekFrom::Start(10))?;
+    laws::play_sparing(alloc, rdr, &AFTER, &mut run)?;
     Ok(run.handed)
 }
 
-// Another minimum, a growth and a seek.
-fn between<R: TellSeek>(rdr: &mut BufReader<R, MinBuffered>) -> io::Result<u64> {
-    laws::spare_between(rdr, 2, 6, SeekFrom::Start(10))
-}
-
-// Two runs with these between them.
 #[test]
-fn two_runs(rt: HostRuntime) -> Result<(), Fail> {
-    let mut rdr = ahead(rt.alloc())?;
-    let calls = [
-        ReaderCall::Read(3),
-        ReaderCall::Fill,
-        ReaderCall::Consume(2),
-    ];
-    assert_eq!(rt;
-        played(rt.alloc(), &mut rdr, &calls)?.as_slice(),
-        &BYTES[..5]
-    );
-    assert_eq!(rt; between(&mut rdr)?, 10);
-    assert_eq!(rt; (rdr.buf_len(), rdr.capacity()), (0, 18));
-    let calls = [ReaderCall::Fill, ReaderCall::Consume(20)];
-    assert_eq!(rt;
-        played(rt.alloc(), &mut rdr, &calls)?.as_slice(),
-        &BYTES[10..28]
-    );
+fn by_law(rt: HostRuntime) -> Result<(), Fail> {
+    let inner = Told::new(Positions { at: 0, seeks: 0 });
+    let mut rdr = reader_under(reader(rt.alloc(), 12, &[], inner)?, MinBuffered(4));
+    let handed = two_runs(rt.alloc(), &mut rdr)?;
+    assert!(rt; handed.as_slice() == HANDED.as_slice());
     Ok(())
 }

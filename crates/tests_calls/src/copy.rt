@@ -1,42 +1,25 @@
 //! Copying, by worked examples.
 use buffer_redux::script::Answer;
-use buffer_redux::tell::{TellBufRead, TellWrite};
+use buffer_redux::tell::{Tell, TellBufRead, TellWrite};
 use buffer_redux::{BufReader, MakeError, copy_buf};
 use std::alloc::Global;
 use std::io;
 use std::io::ErrorKind;
 use std::process::Abort;
 use std::test::Fail;
-use tests_common::{Source, line_writer, reader, source, taken_lines, target};
+use tests_common::{Target, kind, line_writer, reader, source, taken_lines, target};
 
 // What the reader gives by which script, the script of the writer, what copying returns, what the writer received, what
 // is left in the reader, and the offers that the writer saw last.
-type Row<'a> = (
-    &'a [u8],
-    &'a [Answer],
-    &'a [Answer],
+type Row = (
+    &'static [u8],
+    &'static [Answer],
+    &'static [Answer],
     Result<u64, ErrorKind>,
-    &'a [u8],
-    &'a [u8],
-    &'a [usize],
+    &'static [u8],
+    &'static [u8],
+    &'static [usize],
 );
-
-fn copied<R: TellBufRead, W: TellWrite>(from: &mut R, to: &mut W) -> Result<u64, ErrorKind> {
-    copy_buf(from, to).map_err(|e| e.kind())
-}
-
-// Copies by a row.
-fn copies(rt: &impl Abort, alloc: Global, row: &Row<'_>) -> Result<(), Fail> {
-    let &(bytes, script, answers, answer, received, left, offers) = row;
-    let mut from = reader(alloc, 4, &[], source(alloc, bytes, script)?)?;
-    let mut to = target(alloc, answers)?;
-    assert_eq!(rt; copied(&mut from, &mut to), answer);
-    assert_eq!(rt; to.get_ref().taken(), received);
-    assert_eq!(rt; from.buffer(), left);
-    assert!(rt; offers.is_empty() || to.get_ref().offers() == offers);
-    assert_eq!(rt; to.get_ref().flushes(), 0);
-    Ok(())
-}
 
 const IN_ROWS: [Answer; 4] = [
     Answer::Interrupt(64),
@@ -45,35 +28,75 @@ const IN_ROWS: [Answer; 4] = [
     Answer::Serve(1),
 ];
 
-#[test]
-fn copies_all(rt: HostRuntime) -> Result<(), Fail> {
-    let rows: [Row<'_>; 4] = [
-        (&[], &[], &[], Ok(0), &[], &[], &[0]),
-        (&[1, 2, 3], &[], &[], Ok(3), &[1, 2, 3], &[], &[3, 0]),
-        (&[1, 2], &IN_ROWS, &[], Ok(2), &[1, 2], &[], &[1, 1, 0]),
-        (&[1, 2, 3], &[], &IN_ROWS, Ok(3), &[1, 2, 3], &[], &[]),
-    ];
-    for row in &rows {
-        copies(&rt, rt.alloc(), row)?;
-    }
+const ALL: [Row; 4] = [
+    (&[], &[], &[], Ok(0), &[], &[], &[0]),
+    (&[1, 2, 3], &[], &[], Ok(3), &[1, 2, 3], &[], &[3, 0]),
+    (&[1, 2], &IN_ROWS, &[], Ok(2), &[1, 2], &[], &[1, 1, 0]),
+    (&[1, 2, 3], &[], &IN_ROWS, Ok(3), &[1, 2, 3], &[], &[]),
+];
+
+const FAULT: [Answer; 2] = [Answer::Serve(2), Answer::Fail(ErrorKind::Other)];
+
+const OTHER: Result<u64, ErrorKind> = Err(ErrorKind::Other);
+
+const TOO_OFTEN: [Answer; 1] = [Answer::Interrupt(65)];
+
+const LESS: [Row; 4] = [
+    (
+        &[1, 2, 3],
+        &[],
+        &[Answer::Serve(0)],
+        Ok(0),
+        &[],
+        &[1, 2, 3],
+        &[3],
+    ),
+    (
+        &[1, 2],
+        &TOO_OFTEN,
+        &[],
+        Err(ErrorKind::Interrupted),
+        &[],
+        &[],
+        &[],
+    ),
+    (&[1, 2, 3], &FAULT, &[], OTHER, &[1, 2], &[], &[2]),
+    (&[1, 2, 3], &[], &FAULT, OTHER, &[1, 2], &[3], &[3, 1]),
+];
+
+fn copied<R: TellBufRead, W: TellWrite>(from: &mut R, to: &mut W) -> Result<u64, ErrorKind> {
+    kind(copy_buf(from, to))
+}
+
+fn left<R: Tell>(rdr: &BufReader<R>) -> &[u8] {
+    rdr.buffer()
+}
+
+// What the target took, by which offers, and how often it was flushed.
+fn took(to: &Target) -> (&[u8], &[usize], usize) {
+    let to = to.get_ref();
+    (to.taken(), to.offers(), to.flushes())
+}
+
+// Copies by a row.
+fn copies(rt: &impl Abort, alloc: Global, row: Row) -> Result<(), Fail> {
+    let (bytes, script, answers, answer, received, rest, offers) = row;
+    let mut to = target(alloc, answers)?;
+    let mut from = reader(alloc, 4, &[], source(alloc, bytes, script)?)?;
+    assert!(rt; copied(&mut from, &mut to) == answer);
+    assert!(rt; left(&from) == rest);
+    let (taken, offered, flushes) = took(&to);
+    assert!(rt; (taken, flushes) == (received, 0));
+    assert!(rt; offers.is_empty() || offered == offers);
     Ok(())
 }
 
 #[test]
-fn copies_less(rt: HostRuntime) -> Result<(), Fail> {
-    let nothing = [Answer::Serve(0)];
-    let too_often = [Answer::Interrupt(65)];
-    let fault = [Answer::Serve(2), Answer::Fail(ErrorKind::Other)];
-    let interrupted = Err(ErrorKind::Interrupted);
-    let other = Err(ErrorKind::Other);
-    let rows: [Row<'_>; 4] = [
-        (&[1, 2, 3], &[], &nothing, Ok(0), &[], &[1, 2, 3], &[3]),
-        (&[1, 2], &too_often, &[], interrupted, &[], &[], &[]),
-        (&[1, 2, 3], &fault, &[], other, &[1, 2], &[], &[2]),
-        (&[1, 2, 3], &[], &fault, other, &[1, 2], &[3], &[3, 1]),
-    ];
-    for row in &rows {
-        copies(&rt, rt.alloc(), row)?;
+fn copies_by_rows(rt: HostRuntime) -> Result<(), Fail> {
+    for rows in [ALL, LESS] {
+        for row in rows {
+            copies(&rt, rt.alloc(), row)?;
+        }
     }
     Ok(())
 }
@@ -82,7 +105,7 @@ fn flush_told<W: TellWrite>(to: &mut W) -> io::Result<()> {
     to.flush_told()
 }
 
-fn ring(alloc: Global, inner: Source) -> Result<BufReader<Source>, MakeError<Source>> {
+fn ring<R: Tell>(alloc: Global, inner: R) -> Result<BufReader<R>, MakeError<R>> {
     BufReader::with_capacity_ringbuf(alloc, 64, inner)
 }
 
@@ -92,11 +115,10 @@ fn lines(rt: HostRuntime) -> Result<(), Fail> {
     let inner = source(rt.alloc(), b"one\ntwo\nthree", &[Answer::ServeEach(2)])?;
     let mut from = ring(rt.alloc(), inner)?;
     let mut to = line_writer(rt.alloc(), 8, &[], target(rt.alloc(), &[])?)?;
-    assert_eq!(rt; copied(&mut from, &mut to), Ok(13));
-    assert_eq!(rt; to.buf_len(), 5);
-    assert_eq!(rt; taken_lines(&to), b"one\ntwo\n".as_slice());
+    assert!(rt; copied(&mut from, &mut to) == Ok(13));
+    assert!(rt; taken_lines(&to) == b"one\ntwo\n".as_slice());
     flush_told(&mut to)?;
-    assert_eq!(rt; taken_lines(&to), b"one\ntwo\nthree".as_slice());
-    assert_eq!(rt; to.get_ref().get_ref().flushes(), 1);
+    assert!(rt; taken_lines(&to) == b"one\ntwo\nthree".as_slice());
+    assert!(rt; to.get_ref().get_ref().flushes() == 1);
     Ok(())
 }

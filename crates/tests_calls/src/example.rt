@@ -1,4 +1,4 @@
-//! The examples of README and CALLING, and the laws.
+//! The examples of README, CALLING, PROOFS and POLICIES.
 ghost use Rattle.std.specs.Prelude.{◌≡◌, ◌++◌, ◌<◌, ◌≤◌, ℕ, IfOk, IsTrue, List, Ok, OnOk, Some, false, length, take};
 ghost use Rattle.buffer_redux.specs.BufReader.{RanDry, ReadsToEnd};
 ghost use Rattle.buffer_redux.specs.BufWriter.{WritesInOrder};
@@ -8,12 +8,11 @@ ghost use Rattle.buffer_redux.specs.ReaderLaws.{WantsBytes};
 use buffer_redux::policy::{DoRead, MinBuffered, ReaderPolicy, WriterPolicy};
 use buffer_redux::tell::{TellRead, TellWrite, Told};
 use buffer_redux::{BufReader, BufWriter, Buffer};
-use redux_play::laws;
 use std::alloc::Global;
 use std::io;
 use std::io::{BufRead, ErrorKind, Read, Write};
 use std::test::Fail;
-use tests_common::{holding, write};
+use tests_common::{consume, fill_buf, reader, reader_under, writer};
 
 /// Writes one entry of a log, and flushes it.
 fn log<W: TellWrite, P: WriterPolicy>(writer: &mut BufWriter<W, P>, entry: &[u8]) -> io::Result<()>
@@ -25,15 +24,18 @@ fn log<W: TellWrite, P: WriterPolicy>(writer: &mut BufWriter<W, P>, entry: &[u8]
     writer.flush()
 }
 
+fn logs<W: TellWrite>(writer: &mut BufWriter<W>, entry: &[u8]) -> io::Result<usize> {
+    log(writer, entry)?;
+    Ok(writer.buf_len())
+}
+
 #[test]
-fn logs(rt: HostRuntime) -> Result<(), Fail> {
+fn logs_an_entry(rt: HostRuntime) -> Result<(), Fail> {
     let mut device = Vec::new(rt.alloc());
-    let mut writer = BufWriter::with_capacity(rt.alloc(), 4, Told::new(&mut device))?;
-    assert_eq!(rt; write(&mut writer, b"ab")?, 2);
-    log(&mut writer, b"cdefg\n")?;
-    assert_eq!(rt; writer.buf_len(), 0);
+    let mut writer = writer(rt.alloc(), 4, b"ab", Told::new(&mut device))?;
+    assert!(rt; logs(&mut writer, b"cdefg\n")? == 0);
     drop(writer);
-    assert_eq!(rt; device.as_slice(), b"abcdefg\n".as_slice());
+    assert!(rt; device.as_slice() == b"abcdefg\n".as_slice());
     Ok(())
 }
 
@@ -67,13 +69,21 @@ fn drain<R: TellRead, P: ReaderPolicy>(reader: &mut BufReader<R, P>) -> io::Resu
     Err(io::Error::from(ErrorKind::Other))
 }
 
+// How many bytes are left.
+fn drains<R: TellRead>(reader: &mut BufReader<R>) -> io::Result<usize> {
+    if reader.capacity() > 0 {
+        drain(reader)?;
+    }
+    Ok(reader.buf_len())
+}
+
 #[test]
-fn drains(rt: HostRuntime) -> Result<(), Fail> {
-    let inner = Told::new(b"abcdefg".as_slice());
-    let mut reader = BufReader::with_buffer(holding(rt.alloc(), 4, b"12")?, inner);
-    drain(&mut reader)?;
-    assert_eq!(rt; reader.buf_len(), 0);
-    assert_eq!(rt; reader.get_ref().get_ref().len(), 0);
+fn drains_a_reader(rt: HostRuntime) -> Result<(), Fail> {
+    let mut source = b"abcdefg".as_slice();
+    let mut reader = reader(rt.alloc(), 4, b"12", Told::new(&mut source))?;
+    assert!(rt; drains(&mut reader)? == 0);
+    drop(reader);
+    assert!(rt; source.is_empty());
     Ok(())
 }
 
@@ -128,39 +138,44 @@ fn sees_header<R: TellRead>(reader: &mut BufReader<R, LookAhead>) -> io::Result<
     Ok(reader.fill_buf()?.len() >= 16)
 }
 
+fn sees<R: TellRead>(reader: &mut BufReader<R, LookAhead>) -> io::Result<bool> {
+    sees_header(reader)
+}
+
 #[test]
 fn sees_what_a_policy_keeps_in_sight(rt: HostRuntime) -> Result<(), Fail> {
-    let text = b"sixteen bytes or more".as_slice();
-    let reader = BufReader::with_capacity(rt.alloc(), 4, Told::new(text))?;
-    let mut reader = reader.set_policy(LookAhead);
-    assert!(rt; sees_header(&mut reader)?);
-    reader.consume(10);
-    assert!(rt; !sees_header(&mut reader)?);
-    assert_eq!(rt; reader.buffer(), b"tes or more".as_slice());
-    let mut reader = BufReader::new(rt.alloc(), Told::new(text))?.set_policy(Sparse);
-    assert_eq!(rt; reader.fill_buf()?, text);
+    let text = Told::new(b"sixteen bytes or more".as_slice());
+    let mut reader = reader_under(reader(rt.alloc(), 4, &[], text)?, LookAhead);
+    assert!(rt; sees(&mut reader)?);
+    consume(&mut reader, 10);
+    assert!(rt; !sees(&mut reader)?);
+    assert!(rt; fill_buf(&mut reader)? == b"tes or more".as_slice());
     Ok(())
+}
+
+#[test]
+fn reads_sparsely(rt: HostRuntime) -> Result<(), Fail> {
+    let text = b"sixteen bytes or more".as_slice();
+    let mut reader = reader_under(reader(rt.alloc(), 64, &[], Told::new(text))?, Sparse);
+    assert!(rt; fill_buf(&mut reader)? == text);
+    Ok(())
+}
+
+fn hands_on<R: TellRead, P: ReaderPolicy, W: TellWrite>(
+    from: &mut BufReader<R, P>,
+    to: &mut BufWriter<W>,
+) -> io::Result<usize> {
+    hand_on(from, to)
 }
 
 #[test]
 fn hands_on_what_is_buffered(rt: HostRuntime) -> Result<(), Fail> {
+    let mut sink = Vec::new(rt.alloc());
+    let mut writer = writer(rt.alloc(), 3, &[], Told::new(&mut sink))?;
     let mut reader = look_ahead(rt.alloc(), b"hello".as_slice(), 5)?;
-    assert_eq!(rt; reader.fill_buf()?.len(), 5);
-    let mut writer = BufWriter::with_capacity(rt.alloc(), 3, Told::new(Vec::new(rt.alloc())))?;
-    assert_eq!(rt; hand_on(&mut reader, &mut writer)?, 5);
-    assert_eq!(rt; writer.get_ref().get_ref().as_slice(), b"hello".as_slice());
-    Ok(())
-}
-
-#[test]
-fn rebuilt(rt: HostRuntime) -> Result<(), Fail> {
-    let buf = holding(rt.alloc(), 4, &[1, 2])?;
-    let reader = laws::rebuild_reader(BufReader::with_buffer(buf, Told::new([3].as_slice())));
-    assert_eq!(rt; reader.buffer(), [1, 2].as_slice());
-    let (_, buf) = reader.into_inner_with_buffer();
-    let to = Told::new(Vec::new(rt.alloc()));
-    let writer = laws::rebuild_writer(BufWriter::with_buffer(buf, to));
-    assert_eq!(rt; writer.buf_len(), 2);
-    assert!(rt; writer.get_ref().get_ref().is_empty());
+    assert!(rt; fill_buf(&mut reader)?.len() == 5);
+    assert!(rt; hands_on(&mut reader, &mut writer)? == 5);
+    drop(writer);
+    assert!(rt; sink.as_slice() == b"hello".as_slice());
     Ok(())
 }

@@ -1,125 +1,117 @@
-//! The laws of writers, each called once.
+//! The laws, each called once.
 use buffer_redux::policy::{
-    FlushAtLeast, FlushExact, FlushOn, FlushOnNewline, StdPolicy, WriterPolicy,
+    FlushAtLeast, FlushExact, FlushOn, FlushOnNewline, MinBuffered, StdPolicy, WriterPolicy,
 };
-use buffer_redux::tell::TellWrite;
-use buffer_redux::{BufWriter, LineWriter};
+use buffer_redux::tell::{Tell, TellRead, TellWrite, Told};
+use buffer_redux::{BufReader, BufWriter, GrowError};
 use redux_play::laws;
 use std::alloc::Global;
 use std::io;
-use std::process::Abort;
 use std::test::Fail;
-use tests_common::{Target, line_writer, taken, taken_lines, target, write, writer, writer_under};
+use tests_common::{fill_buf, line_writer, reader, reader_under, write, writer, writer_under};
 
-// A writer under this policy, over a buffer of capacity 4 that holds `held`.
-fn holding<P: WriterPolicy + Drop>(
+// A writer under this policy, over a buffer of capacity 4.
+fn under<W: TellWrite + Drop, P: WriterPolicy + Drop>(
     alloc: Global,
-    held: &[u8],
+    inner: W,
     policy: P,
-) -> Result<BufWriter<Target, P>, Fail> {
-    let wrt = writer(alloc, 4, held, target(alloc, &[])?)?;
-    Ok(writer_under(wrt, policy))
+) -> Result<BufWriter<W, P>, GrowError> {
+    Ok(writer_under(writer(alloc, 4, &[], inner)?, policy))
 }
 
-// The stream has these bytes, and so many are buffered.
-fn stands<P>(rt: &impl Abort, wrt: &BufWriter<Target, P>, sent: &[u8], left: usize) {
-    assert_eq!(rt; taken(wrt), sent);
-    assert_eq!(rt; wrt.buf_len(), left);
+// What an Ok write returns, and how many bytes it leaves.
+type Left = (usize, usize);
+
+fn any<W: TellWrite + Drop>(alloc: Global, inner: W) -> io::Result<Left> {
+    let mut wrt = under(alloc, inner, StdPolicy)?;
+    Ok((laws::write_law(&mut wrt, &[1, 2, 3])?, wrt.buf_len()))
 }
 
-fn any<W: TellWrite, P: WriterPolicy>(
-    wrt: &mut BufWriter<W, P>,
-    bytes: &[u8],
-) -> io::Result<usize> {
-    laws::write_law(wrt, bytes)
+fn on<W: TellWrite + Drop>(alloc: Global, inner: W) -> io::Result<Left> {
+    let mut wrt = under(alloc, inner, FlushOn(2))?;
+    Ok((laws::flush_on_law(&mut wrt, &[1, 2, 3])?, wrt.buf_len()))
 }
 
-fn on<W: TellWrite>(wrt: &mut BufWriter<W, FlushOn>, bytes: &[u8]) -> io::Result<usize> {
-    laws::flush_on_law(wrt, bytes)
+fn newline<W: TellWrite + Drop>(alloc: Global, inner: W) -> io::Result<Left> {
+    let mut wrt = under(alloc, inner, FlushOnNewline)?;
+    Ok((
+        laws::flush_on_newline_law(&mut wrt, b"a\nb")?,
+        wrt.buf_len(),
+    ))
 }
 
-fn newline<W: TellWrite>(
-    wrt: &mut BufWriter<W, FlushOnNewline>,
-    bytes: &[u8],
-) -> io::Result<usize> {
-    laws::flush_on_newline_law(wrt, bytes)
+fn line<W: TellWrite + Drop>(alloc: Global, inner: W) -> io::Result<Left> {
+    let mut lines = line_writer(alloc, 4, &[], inner)?;
+    Ok((laws::line_law(&mut lines, b"a\nb")?, lines.buf_len()))
 }
 
-fn line<W: TellWrite>(lines: &mut LineWriter<W>, bytes: &[u8]) -> io::Result<usize> {
-    laws::line_law(lines, bytes)
+fn at_least<W: TellWrite + Drop>(alloc: Global, inner: W) -> io::Result<Left> {
+    let mut wrt = under(alloc, inner, FlushAtLeast(2))?;
+    Ok((
+        laws::flush_at_least_law(&mut wrt, &[1, 2, 3])?,
+        wrt.buf_len(),
+    ))
 }
 
-fn at_least<W: TellWrite>(wrt: &mut BufWriter<W, FlushAtLeast>, bytes: &[u8]) -> io::Result<usize> {
-    laws::flush_at_least_law(wrt, bytes)
+fn exact<W: TellWrite + Drop>(alloc: Global, inner: W) -> io::Result<Left> {
+    let mut wrt = under(alloc, inner, FlushExact(2))?;
+    Ok((laws::flush_exact_law(&mut wrt, &[1, 2, 3])?, wrt.buf_len()))
 }
 
-fn exact<W: TellWrite>(wrt: &mut BufWriter<W, FlushExact>, bytes: &[u8]) -> io::Result<usize> {
-    laws::flush_exact_law(wrt, bytes)
+// How many bytes a fill under a minimum of 2 shows, of which one is buffered, and three reads by two bytes hand out.
+fn ahead<R: TellRead + Drop>(alloc: Global, inner: R) -> io::Result<(usize, [usize; 3])> {
+    let mut rdr = reader_under(reader(alloc, 4, &[1], inner)?, MinBuffered(2));
+    let shown = laws::look_ahead(&mut rdr)?;
+    let mut handed = [0; 3];
+    for count in handed.iter_mut() {
+        *count = laws::read_until_dry(&mut rdr, &mut [0; 2])?;
+    }
+    Ok((shown, handed))
 }
 
-fn rebuilt_under<W: TellWrite, P: Drop, Q: WriterPolicy>(
-    wrt: BufWriter<W, P>,
-    policy: Q,
-) -> BufWriter<W, Q> {
-    laws::rebuild_writer_under(wrt, policy)
+// Another policy, which speaks from the next fill on.
+fn reads_under_another<R: TellRead + Drop>(alloc: Global, inner: R) -> io::Result<usize> {
+    let rdr = reader(alloc, 4, &[1], inner)?;
+    let mut rdr = laws::rebuild_reader_under(rdr, MinBuffered(2));
+    Ok(fill_buf(&mut rdr)?.len())
 }
 
 #[test]
-fn of_any_write(rt: HostRuntime) -> Result<(), Fail> {
-    let mut wrt = holding(rt.alloc(), &[1, 2, 3], StdPolicy)?;
-    assert_eq!(rt; any(&mut wrt, &[4, 5])?, 2);
-    stands(&rt, &wrt, &[1, 2, 3], 2);
+fn of_readers(rt: HostRuntime) -> Result<(), Fail> {
+    let inner = || Told::new([2, 3].as_slice());
+    assert!(rt; ahead(rt.alloc(), inner())? == (3, [2, 1, 0]));
+    assert!(rt; reads_under_another(rt.alloc(), inner())? == 3);
+    let rdr = reader(rt.alloc(), 4, &[1, 2], inner())?;
+    assert!(rt; rebuilt(rdr, sink(rt.alloc())) == 2);
     Ok(())
 }
 
-#[test]
-fn of_flush_on(rt: HostRuntime) -> Result<(), Fail> {
-    let mut wrt = holding(rt.alloc(), &[], FlushOn(0))?;
-    assert_eq!(rt; on(&mut wrt, &[1, 0, 2])?, 3);
-    stands(&rt, &wrt, &[1, 0], 1);
-    Ok(())
+// What was buffered in a reader goes into a writer, each taken apart and built again.
+fn rebuilt<R: Tell + Drop, W: TellWrite + Drop>(rdr: BufReader<R>, inner: W) -> usize {
+    let (_, buf) = laws::rebuild_reader(rdr).into_inner_with_buffer();
+    laws::rebuild_writer(BufWriter::with_buffer(buf, inner)).buf_len()
+}
+
+// Another policy, which speaks from the next write on.
+fn writes_under_another<W: TellWrite + Drop>(alloc: Global, inner: W) -> io::Result<Left> {
+    let wrt = writer(alloc, 4, &[1, 2], inner)?;
+    let mut wrt = laws::rebuild_writer_under(wrt, FlushOn(2));
+    Ok((write(&mut wrt, &[3])?, wrt.buf_len()))
+}
+
+fn sink(alloc: Global) -> Told<Vec<u8>> {
+    Told::new(Vec::new(alloc))
 }
 
 #[test]
-fn of_flush_on_newline(rt: HostRuntime) -> Result<(), Fail> {
-    let mut wrt = holding(rt.alloc(), &[], FlushOnNewline)?;
-    assert_eq!(rt; newline(&mut wrt, b"a\nb")?, 3);
-    stands(&rt, &wrt, b"a\n", 1);
-    Ok(())
-}
-
-#[test]
-fn of_lines(rt: HostRuntime) -> Result<(), Fail> {
-    let mut lines = line_writer(rt.alloc(), 4, &[], target(rt.alloc(), &[])?)?;
-    assert_eq!(rt; line(&mut lines, b"a\nb")?, 3);
-    assert_eq!(rt; taken_lines(&lines), b"a\n".as_slice());
-    assert_eq!(rt; lines.buf_len(), 1);
-    Ok(())
-}
-
-#[test]
-fn of_flush_at_least(rt: HostRuntime) -> Result<(), Fail> {
-    let mut wrt = holding(rt.alloc(), &[], FlushAtLeast(2))?;
-    assert_eq!(rt; at_least(&mut wrt, &[1, 2, 3])?, 3);
-    stands(&rt, &wrt, &[1, 2, 3], 0);
-    Ok(())
-}
-
-#[test]
-fn of_flush_exact(rt: HostRuntime) -> Result<(), Fail> {
-    let mut wrt = holding(rt.alloc(), &[], FlushExact(2))?;
-    assert_eq!(rt; exact(&mut wrt, &[1, 2, 3])?, 3);
-    stands(&rt, &wrt, &[1, 2], 1);
-    Ok(())
-}
-
-// What is buffered stays, and the other policy speaks from the next write on.
-#[test]
-fn of_another_policy(rt: HostRuntime) -> Result<(), Fail> {
-    let wrt = holding(rt.alloc(), &[1, 2], StdPolicy)?;
-    let mut wrt = rebuilt_under(wrt, FlushOn(2));
-    stands(&rt, &wrt, &[], 2);
-    assert_eq!(rt; write(&mut wrt, &[3])?, 1);
-    stands(&rt, &wrt, &[1, 2], 1);
+fn of_writes(rt: HostRuntime) -> Result<(), Fail> {
+    let alloc = rt.alloc();
+    assert!(rt; any(alloc, sink(alloc))? == (3, 3));
+    assert!(rt; on(alloc, sink(alloc))? == (3, 1));
+    assert!(rt; newline(alloc, sink(alloc))? == (3, 1));
+    assert!(rt; line(alloc, sink(alloc))? == (3, 1));
+    assert!(rt; at_least(alloc, sink(alloc))? == (3, 0));
+    assert!(rt; exact(alloc, sink(alloc))? == (3, 1));
+    assert!(rt; writes_under_another(alloc, sink(alloc))? == (1, 1));
     Ok(())
 }

@@ -2,81 +2,86 @@
 use buffer_redux::script::Answer;
 use buffer_redux::tell::{Tell, TellRead};
 use buffer_redux::{BufReader, Unbuffer};
+use std::alloc::Global;
 use std::io::{ErrorKind, Read};
 use std::process::Abort;
 use std::test::Fail;
-use tests_common::{Source, reader, source};
+use tests_common::{debug, first, kind, read, reader, source};
 
-type Unbuffered = Unbuffer<Source>;
-
-// The room of a read, what it hands out, and what is left afterwards.
-type Step<'a> = (usize, Result<&'a [u8], ErrorKind>, &'a [u8]);
+// The room of a read, what it returns, what it hands out, and what is left afterwards.
+type Step = (
+    usize,
+    Result<usize, ErrorKind>,
+    &'static [u8],
+    &'static [u8],
+);
 
 fn unbuffered<R: Tell>(rdr: BufReader<R>) -> Unbuffer<R> {
     rdr.unbuffer()
 }
 
-fn handed<'a, R: TellRead>(
-    rdr: &mut Unbuffer<R>,
-    out: &'a mut [u8],
-) -> Result<&'a [u8], ErrorKind> {
-    match rdr.read(out) {
-        Ok(n) => Ok(&out[..n]),
-        Err(e) => Err(e.kind()),
-    }
-}
-
-fn left<R: Tell>(rt: &impl Abort, rdr: &Unbuffer<R>, bytes: &[u8]) {
-    assert_eq!(rt; rdr.buf(), bytes);
-    assert_eq!(rt; rdr.buf_len(), bytes.len());
-    assert_eq!(rt; rdr.is_buf_empty(), bytes.is_empty());
+fn has<R: Tell>(rdr: &Unbuffer<R>, bytes: &[u8]) -> bool {
+    rdr.buf() == bytes && rdr.buf_len() == bytes.len() && rdr.is_buf_empty() == bytes.is_empty()
 }
 
 fn into_inner<R: Tell>(rdr: Unbuffer<R>) -> R {
     rdr.into_inner()
 }
 
-// Reads step by step, and compares the offers that the inner reader saw.
-fn walks(rt: &impl Abort, mut rdr: Unbuffered, steps: &[Step<'_>], offers: &[usize]) {
-    let mut out = [0u8; 3];
-    for &(room, answer, rest) in steps {
-        assert!(rt; room <= out.len());
-        assert_eq!(rt; handed(&mut rdr, &mut out[..room]), answer);
-        left(rt, &rdr, rest);
+fn walks<R: TellRead>(rt: &impl Abort, rdr: &mut Unbuffer<R>, steps: &[Step]) {
+    for &(room, answer, handed, left) in steps {
+        let mut out = [0u8; 3];
+        let answered = kind(read(rdr, &mut out[..room.min(3)]));
+        assert!(rt; answered == answer && first(&out, handed.len()) == handed);
+        assert!(rt; has(rdr, left));
     }
-    assert_eq!(rt; into_inner(rdr).get_ref().offers(), offers);
+}
+
+// What is held, what the stream gives by which script, the reads, and the offers that it saw.
+type Row = (
+    &'static [u8],
+    &'static [u8],
+    &'static [Answer],
+    &'static [Step],
+    &'static [usize],
+);
+
+const ROWS: [Row; 3] = [
+    (
+        &[1, 2],
+        &[],
+        &[],
+        &[(0, Ok(0), &[], &[1, 2]), (3, Ok(2), &[1, 2], &[])],
+        &[],
+    ),
+    (&[], &[7], &[], &[(2, Ok(1), &[7], &[])], &[2]),
+    (
+        &[1],
+        &[7],
+        &[Answer::Interrupt(1), Answer::Fail(ErrorKind::TimedOut)],
+        &[
+            (3, Ok(1), &[1], &[]),
+            (3, Err(ErrorKind::Interrupted), &[], &[]),
+            (3, Err(ErrorKind::TimedOut), &[], &[]),
+            (3, Ok(1), &[7], &[]),
+        ],
+        &[3, 3, 3],
+    ),
+];
+
+fn reads(rt: &impl Abort, alloc: Global, row: Row) -> Result<(), Fail> {
+    let (held, bytes, script, steps, offers) = row;
+    let mut rdr = unbuffered(reader(alloc, 4, held, source(alloc, bytes, script)?)?);
+    assert!(rt; has(&rdr, held));
+    walks(rt, &mut rdr, steps);
+    assert!(rt; into_inner(rdr).get_ref().offers() == offers);
+    Ok(())
 }
 
 #[test]
-fn reads(rt: HostRuntime) -> Result<(), Fail> {
-    let faults = [Answer::Interrupt(1), Answer::Fail(ErrorKind::TimedOut)];
-    // What is held, what the stream gives by which script, the reads, and the offers that it saw.
-    let rows: [(&[u8], &[u8], &[Answer], &[Step<'_>], &[usize]); 3] = [
-        (
-            &[1, 2],
-            &[],
-            &[],
-            &[(0, Ok(&[]), &[1, 2]), (3, Ok(&[1, 2]), &[])],
-            &[],
-        ),
-        (&[], &[7], &[], &[(2, Ok(&[7]), &[])], &[2]),
-        (
-            &[1],
-            &[7],
-            &faults,
-            &[
-                (3, Ok(&[1]), &[]),
-                (3, Err(ErrorKind::Interrupted), &[]),
-                (3, Err(ErrorKind::TimedOut), &[]),
-                (3, Ok(&[7]), &[]),
-            ],
-            &[3, 3, 3],
-        ),
-    ];
-    for (held, bytes, script, steps, offers) in rows {
-        let rdr = unbuffered(reader(rt.alloc(), 4, held, source(rt.alloc(), bytes, script)?)?);
-        left(&rt, &rdr, held);
-        walks(&rt, rdr, steps, offers);
+fn reads_by_rows(rt: HostRuntime) -> Result<(), Fail> {
+    for row in ROWS {
+        reads(&rt, rt.alloc(), row)?;
     }
     Ok(())
 }
@@ -84,7 +89,10 @@ fn reads(rt: HostRuntime) -> Result<(), Fail> {
 #[test]
 fn shows(rt: HostRuntime) -> Result<(), Fail> {
     let rdr = unbuffered(reader(rt.alloc(), 4, &[1], source(rt.alloc(), &[2], &[])?)?);
-    let text = format!(in rt.alloc(); "{rdr:?}")?;
-    assert!(rt; text.starts_with("buffer_redux::Unbuffer"));
+    assert!(rt;
+        debug(rt.alloc(), &rdr)?
+            .as_str()
+            .starts_with("buffer_redux::Unbuffer")
+    );
     Ok(())
 }
