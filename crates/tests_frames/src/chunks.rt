@@ -1,260 +1,170 @@
 //! The writer of bodies in the chunked coding.
-mod trailers;
-
+use crate::sweep::{Run, sweep_all};
+use buffer_redux::BufWriter;
+use buffer_redux::IntoInnerError;
 use buffer_redux::script::Answer;
-use buffer_redux::{BufReader, BufWriter, IntoInnerError, MakeError};
-use chunked::{ChunkedReader, ChunkedWriter, FinishError, Limits, TrailersError};
+use buffer_redux::tell::TellWrite;
+use chunked::{ChunkedWriter, FinishError, TrailersError};
 use std::alloc::Global;
-use std::io;
 use std::io::ErrorKind;
 use std::process::Abort;
 use std::test::Fail;
-use tests_common::{
-    Source, Target, debug, flush, flushes, read_to_end, source, taken, target, write, write_all,
-};
+use tests_common::{Target, debug, flush, taken, target, write, write_all, writer};
 
-type Inner = BufWriter<Target>;
-
-type Body = ChunkedWriter<Target>;
-
-// What is written, each piece by one write, the lines of the trailers, and the body that this makes.
-type Row<'a> = (&'a [&'a [u8]], &'a [&'a [u8]], &'a [u8]);
+// The capacity of the buffer, what is written, the lines of the trailers, and the body that this makes.
+struct Row<'a>(usize, &'a [&'a [u8]], &'a [&'a [u8]], &'a [u8]);
 
 // Bodies from the documentation of protocols and from the tests of another writer and of a parser, the letters of sizes in lower
-// case.
+// case. The longest trailers just fit into the buffer.
 const BODIES: [Row<'static>; 8] = [
-    (
+    Row(
+        45,
         &[b"Wiki", b"pedia", b" in\r\n\r\nchunks."],
         &[],
         b"4\r\nWiki\r\n5\r\npedia\r\ne\r\n in\r\n\r\nchunks.\r\n0\r\n\r\n",
     ),
-    (
+    Row(
+        45,
         &[b"Mozilla", b"Developer Network"],
         &[],
         b"7\r\nMozilla\r\n11\r\nDeveloper Network\r\n0\r\n\r\n",
     ),
-    (
+    Row(
+        45,
         &[b"hello, ", b"", b"world! 0123456789abcdef"],
         &[],
         b"7\r\nhello, \r\n17\r\nworld! 0123456789abcdef\r\n0\r\n\r\n",
     ),
-    (&[b"", b""], &[], b"0\r\n\r\n"),
-    (&[], &[], b"0\r\n\r\n"),
-    (
+    Row(45, &[], &[], b"0\r\n\r\n"),
+    Row(
+        45,
         &[b"Mozilla", b"Developer", b"Network"],
         &[b"Expires: Wed, 21 Oct 2015 07:28:00 GMT"],
         b"7\r\nMozilla\r\n9\r\nDeveloper\r\n7\r\nNetwork\r\n0\r\n\
 Expires: Wed, 21 Oct 2015 07:28:00 GMT\r\n\r\n",
     ),
-    (
+    Row(
+        45,
         &[b"hello", b" world"],
         &[b"Vary: *", b"Content-Type: text/plain"],
         b"5\r\nhello\r\n6\r\n world\r\n0\r\nVary: *\r\nContent-Type: text/plain\r\n\r\n",
     ),
-    (&[], &[b"X", b"X"], b"0\r\nX\r\nX\r\n\r\n"),
+    // What doesn't fit goes in by chunks of as many bytes as do.
+    Row(
+        24,
+        &[b"hello world"],
+        &[],
+        b"4\r\nhell\r\n4\r\no wo\r\n3\r\nrld\r\n0\r\n\r\n",
+    ),
+    Row(31, &[b"hello world"], &[], b"b\r\nhello world\r\n0\r\n\r\n"),
 ];
 
-// A writer over a buffer of so many bytes, which are more than 20. Neither it nor any call below promises anything.
-fn body(alloc: Global, capacity: usize, script: &[Answer]) -> Result<Body, Fail> {
-    match BufWriter::with_capacity(alloc, capacity.max(21), target(alloc, script)?) {
-        Ok(writer) => Ok(ChunkedWriter::new(writer)),
-        Err(MakeError(_, e)) => Err(e.into()),
+type Body = ChunkedWriter<Target>;
+
+// A writer of a body behind what is buffered. Neither it nor any call below promises anything.
+fn over<W: TellWrite + Drop>(inner: BufWriter<W>) -> Result<ChunkedWriter<W>, &'static str> {
+    if inner.capacity() <= 20 {
+        return Err("a buffer that is too small");
     }
+    Ok(ChunkedWriter::new(inner))
 }
 
-fn inner(body: &Body) -> &Inner {
+fn body(alloc: Global, capacity: usize, script: &[Answer]) -> Result<Body, Fail> {
+    Ok(over(writer(alloc, capacity, b"", target(alloc, script)?)?)?)
+}
+
+fn inner<W: TellWrite>(body: &ChunkedWriter<W>) -> &BufWriter<W> {
     body.get_ref()
 }
 
-// A body that begins behind what is buffered.
-fn behind(rt: &impl Abort, inner: Inner) -> Body {
-    assert!(rt; inner.capacity() > 20);
-    ChunkedWriter::new(inner)
-}
-
-fn into_inner(body: Body) -> Inner {
+fn into_inner<W: TellWrite>(body: ChunkedWriter<W>) -> BufWriter<W> {
     body.into_inner()
 }
 
-fn finish(body: Body) -> Result<Inner, IntoInnerError<Body>> {
+fn finish<W: TellWrite>(
+    body: ChunkedWriter<W>,
+) -> Result<BufWriter<W>, IntoInnerError<ChunkedWriter<W>>> {
     body.finish()
 }
 
-// Writes a piece, once more after a fault. Returns whether it failed.
-fn writes(rt: &impl Abort, body: &mut Body, piece: &[u8]) -> Result<bool, Fail> {
-    match write(body, piece) {
-        Ok(count) => {
-            assert_eq!(rt; count, piece.len());
-            Ok(false)
-        }
-        Err(_) => {
-            assert_eq!(rt; write(body, piece)?, piece.len());
-            Ok(true)
-        }
-    }
-}
-
-// Finishes, once more after a fault.
-fn finishes(body: Body) -> Result<(Inner, bool), Fail> {
-    match finish(body) {
-        Ok(inner) => Ok((inner, false)),
-        Err(IntoInnerError(body, _)) => match finish(body) {
-            Ok(inner) => Ok((inner, true)),
-            Err(IntoInnerError(_, e)) => Err(e.into()),
-        },
-    }
-}
-
-// The body that ends here without a fault, and is flushed.
-fn flushed(body: Body) -> Result<Inner, Fail> {
-    let (mut inner, _) = finishes(body)?;
-    flush(&mut inner)?;
-    Ok(inner)
-}
-
-fn finish_with(body: Body, fields: &[&[u8]]) -> Result<Inner, FinishError<Body>> {
+fn finish_with<W: TellWrite>(
+    body: ChunkedWriter<W>,
+    fields: &[&[u8]],
+) -> Result<BufWriter<W>, FinishError<ChunkedWriter<W>>> {
     body.finish_with_trailers(fields)
 }
 
-// Ends the body with trailers, again after a fault. Returns whether it failed.
-fn finishes_with(rt: &impl Abort, body: Body, fields: &[&[u8]]) -> Result<(Inner, bool), Fail> {
+// Ends a body by the call for such trailers. Where the stream fails the body is back.
+fn ends<W: TellWrite + Drop>(
+    body: ChunkedWriter<W>,
+    fields: &[&[u8]],
+) -> Result<BufWriter<W>, Option<ChunkedWriter<W>>> {
+    if fields.is_empty() {
+        return match finish(body) {
+            Ok(inner) => Ok(inner),
+            Err(IntoInnerError(body, _)) => Err(Some(body)),
+        };
+    }
     match finish_with(body, fields) {
-        Ok(inner) => Ok((inner, false)),
-        Err(FinishError(body, why)) => {
-            assert!(rt; matches!(why, TrailersError::Io(_)), "{why}");
-            Ok((finish_with(body, fields).map_err(io::Error::from)?, true))
+        Ok(inner) => Ok(inner),
+        Err(FinishError(body, TrailersError::Io(_))) => Err(Some(body)),
+        Err(_) => Err(None),
+    }
+}
+
+// The same, again where the stream failed, and how often it failed.
+fn ends_again<W: TellWrite + Drop>(
+    body: ChunkedWriter<W>,
+    fields: &[&[u8]],
+) -> Option<(BufWriter<W>, usize)> {
+    match ends(body, fields) {
+        Ok(inner) => Some((inner, 0)),
+        Err(body) => Some((ends(body?, fields).ok()?, 1)),
+    }
+}
+
+// Writes all of these bytes, again where the stream failed, and returns how often it failed.
+fn writes<W: TellWrite>(body: &mut ChunkedWriter<W>, bytes: &[u8]) -> usize {
+    let mut failed = 0usize;
+    let mut left = bytes;
+    for _ in 0..10 {
+        match write(body, left) {
+            Ok(count) => left = left.get(count..).unwrap_or(b""),
+            Err(_) => failed = failed.saturating_add(1),
         }
     }
+    failed
 }
 
-// Writes a body over a stream that answers by the script, and flushes until that succeeds. Returns whether a call failed. The
-// longest trailers just fit into the buffer.
-fn writes_always(
-    rt: &impl Abort,
-    alloc: Global,
-    row: Row<'_>,
-    script: &[Answer],
-) -> Result<bool, Fail> {
-    let (pieces, fields, want) = row;
-    let mut body = body(alloc, 45, script)?;
-    let mut failed = false;
-    for piece in pieces {
-        failed |= writes(rt, &mut body, piece)?;
-    }
-    let (mut inner, again) = if fields.is_empty() {
-        finishes(body)?
-    } else {
-        finishes_with(rt, body, fields)?
-    };
-    failed |= again;
-    if flush(&mut inner).is_err() {
-        failed = true;
-        flush(&mut inner)?;
-    }
-    assert!(rt; taken(&inner) == want, "{want:?} by {script:?}");
-    Ok(failed)
-}
-
-// So many bytes at most a write: with a fault at each write, until a run meets none. No chunk is torn.
-#[test]
-fn goes_on_after_a_fault(rt: HostRuntime) -> Result<(), Fail> {
-    for row in BODIES {
-        for most in [usize::MAX, 3, 1] {
-            let mut script = Vec::from_slice(rt.alloc(), &[Answer::ServeEach(most)])?;
-            assert!(rt; !writes_always(&rt, rt.alloc(), row, script.as_slice())?);
-            let mut met = true;
-            for _ in 0..128 {
-                script.push(Answer::Fail(ErrorKind::Other))?;
-                met = writes_always(&rt, rt.alloc(), row, script.as_slice())?;
-                if !met {
-                    break;
-                }
-                let _ = script.pop();
-                script.push(Answer::Serve(most))?;
-            }
-            assert!(rt; !met, "of {most} bytes a write");
+// Flushes at the end, until that succeeds. No chunk is torn.
+impl Run for Row<'_> {
+    fn run(&self, alloc: Global, script: &[Answer]) -> Result<Option<usize>, Fail> {
+        let mut body = body(alloc, self.0, script)?;
+        let mut failed = 0usize;
+        for bytes in self.1 {
+            failed = failed.saturating_add(writes(&mut body, bytes));
         }
+        let Some((mut inner, again)) = ends_again(body, self.2) else {
+            return Ok(None);
+        };
+        failed = failed.saturating_add(again);
+        if flush(&mut inner).is_err() {
+            failed = failed.saturating_add(1);
+            flush(&mut inner)?;
+        }
+        Ok((taken(&inner) == self.3).then_some(failed))
     }
-    Ok(())
 }
 
-// The line of a size at each number of digits and one below.
 #[test]
-fn writes_sizes(rt: HostRuntime) -> Result<(), Fail> {
-    let bytes = [b'x'; 4097];
-    for (size, line) in [
-        (1, b"1\r\nx".as_slice()),
-        (9, b"9\r\nx"),
-        (10, b"a\r\nx"),
-        (15, b"f\r\nx"),
-        (16, b"10\r\nx"),
-        (255, b"ff\r\nx"),
-        (256, b"100\r\nx"),
-        (4095, b"fff\r\nx"),
-        (4096, b"1000\r\nx"),
-        (4097, b"1001\r\nx"),
-    ] {
-        let mut body = body(rt.alloc(), 8192, &[])?;
-        assert_eq!(rt; write(&mut body, &bytes[..size.min(4097)])?, size);
-        flush(&mut body)?;
-        let sent = taken(inner(&body));
-        assert!(rt; sent.starts_with(line), "of {size}");
-        assert_eq!(rt; sent.len(), line.len() + size + 1);
-    }
-    Ok(())
-}
-
-// Where 20 bytes more than the payload fit nothing is sent, and where one fewer fits all is; and the inner writer isn't flushed.
-#[test]
-fn sends_where_there_is_no_room(rt: HostRuntime) -> Result<(), Fail> {
-    let long = [b'x'; 16];
-    for (size, sent) in [(15, 0), (16, 10)] {
-        let mut body = body(rt.alloc(), 45, &[])?;
-        assert_eq!(rt; write(&mut body, b"hello")?, 5);
-        assert_eq!(rt; write(&mut body, &long[..size.min(16)])?, size);
-        assert_eq!(rt; taken(inner(&body)).len(), sent);
-        assert_eq!(rt; flushes(inner(&body)), 0);
-    }
-    // The last chunk needs five bytes.
-    for (size, sent) in [(11, 0), (12, 28)] {
-        let mut body = body(rt.alloc(), 32, &[])?;
-        assert_eq!(rt; write(&mut body, b"hello world")?, 11);
-        assert_eq!(rt; taken(inner(&body)).len(), 0);
-        let mut inner = into_inner(body);
-        assert_eq!(rt; write(&mut inner, &long[..size.min(16)])?, size);
-        let (inner, _) = finishes(behind(&rt, inner))?;
-        assert_eq!(rt; taken(&inner).len(), sent);
-    }
-    Ok(())
-}
-
-// A payload that doesn't fit goes in by chunks of as many bytes as do.
-#[test]
-fn cuts_what_is_long(rt: HostRuntime) -> Result<(), Fail> {
-    for (capacity, first, want) in [
-        (
-            24,
-            4,
-            b"4\r\nhell\r\n4\r\no wo\r\n3\r\nrld\r\n0\r\n\r\n".as_slice(),
-        ),
-        (30, 10, b"a\r\nhello worl\r\n1\r\nd\r\n0\r\n\r\n"),
-        (31, 11, b"b\r\nhello world\r\n0\r\n\r\n"),
-    ] {
-        let mut body = body(rt.alloc(), capacity, &[])?;
-        let text = b"hello world".as_slice();
-        assert_eq!(rt; write(&mut body, text)?, first);
-        write_all(&mut body, &text[first.min(11)..])?;
-        assert_eq!(rt; taken(&flushed(body)?), want);
-    }
-    Ok(())
+fn writes_bodies(rt: HostRuntime) -> Result<(), Fail> {
+    let pieces = [usize::MAX, 3, 1];
+    sweep_all(&rt, rt.alloc(), &BODIES, &pieces, Answer::Fail(ErrorKind::Other))
 }
 
 // The body behind a buffered writer over it, which these bytes went into one by one.
 fn bytewise(alloc: Global, bytes: &[u8]) -> Result<Body, Fail> {
-    let mut outer = match BufWriter::new(alloc, body(alloc, 64, &[])?) {
-        Ok(outer) => outer,
-        Err(MakeError(_, e)) => return Err(e.into()),
-    };
+    let mut outer = writer(alloc, 64, b"", body(alloc, 64, &[])?)?;
     for byte in bytes {
         write_all(&mut outer, &[*byte])?;
     }
@@ -271,108 +181,49 @@ fn unwrapped(outer: BufWriter<Body>) -> Result<Body, Fail> {
 // Small writes through a buffered writer over the body are one chunk.
 #[test]
 fn goes_under_a_buffered_writer(rt: HostRuntime) -> Result<(), Fail> {
-    let inner = flushed(bytewise(rt.alloc(), b"hello world")?)?;
-    assert_eq!(rt; taken(&inner), b"b\r\nhello world\r\n0\r\n\r\n".as_slice());
-    Ok(())
-}
-
-// What is written in a buffer of so many bytes, and then these trailers, with a request behind the body.
-fn written(
-    rt: &impl Abort,
-    alloc: Global,
-    capacity: usize,
-    payload: &[u8],
-    fields: &[&[u8]],
-) -> Result<Inner, Fail> {
-    let mut body = body(alloc, capacity, &[])?;
-    write_all(&mut body, payload)?;
-    let (mut inner, _) = finishes_with(rt, body, fields)?;
-    write_all(&mut inner, b"GET")?;
-    flush(&mut inner)?;
-    Ok(inner)
-}
-
-// A reader of what is given as the script cuts it, whose trailers have so many bytes at most.
-fn reading(
-    alloc: Global,
-    bytes: &[u8],
-    trailers: usize,
-    script: &[Answer],
-) -> Result<ChunkedReader<Source>, Fail> {
-    let limits = Limits { line: 16, trailers };
-    match BufReader::new(alloc, source(alloc, bytes, script)?) {
-        Ok(reader) => Ok(ChunkedReader::new(reader, limits)),
-        Err(MakeError(_, e)) => Err(e.into()),
-    }
-}
-
-fn inner_of(body: ChunkedReader<Source>) -> BufReader<Source> {
-    body.into_inner()
-}
-
-// What is written in a buffer of so many bytes, and then these trailers, is read again as the script cuts it. Returns how many
-// bytes the body has.
-fn comes_back(
-    rt: &impl Abort,
-    alloc: Global,
-    capacity: usize,
-    fields: &[&[u8]],
-    script: &[Answer],
-) -> Result<usize, Fail> {
-    let payload =
-        b"No byte is lost, errors come only from the stream, and an empty answer only with its reason.";
-    let inner = written(rt, alloc, capacity, payload, fields)?;
-    let most = fields
-        .iter()
-        .fold(0, |sum: usize, field| sum.saturating_add(field.len()));
-    let mut back = reading(alloc, taken(&inner), most, script)?;
-    let mut read = Vec::new(alloc);
-    read_to_end(&mut back, &mut read)?;
-    assert_eq!(rt; read.as_slice(), payload.as_slice());
-    let count = back.taken() as usize;
-    let mut rest = Vec::new(alloc);
-    read_to_end(&mut inner_of(back), &mut rest)?;
-    assert_eq!(rt; rest.as_slice(), b"GET".as_slice());
-    Ok(count)
-}
-
-// Trailers, each longer than that before.
-const TRAILERS: [&[&[u8]]; 3] = [&[], &[b"A: b"], &[b"A", b"B: c", b"d"]];
-
-#[test]
-fn is_read_again(rt: HostRuntime) -> Result<(), Fail> {
-    for (fields, capacity) in [
-        (TRAILERS[0], 21),
-        (TRAILERS[1], 21),
-        (TRAILERS[2], 22),
-        (TRAILERS[0], 37),
-        (TRAILERS[1], 64),
-        (TRAILERS[2], 8192),
-    ] {
-        for most in [1, 2, 7, usize::MAX] {
-            let script = [Answer::ServeEach(most)];
-            comes_back(&rt, rt.alloc(), capacity, fields, &script)?;
-        }
-    }
-    Ok(())
-}
-
-// The first read gives so many bytes, up to each place in the body.
-#[test]
-fn is_read_again_wherever_it_is_cut(rt: HostRuntime) -> Result<(), Fail> {
-    for fields in TRAILERS {
-        let count = comes_back(&rt, rt.alloc(), 64, fields, &[])?;
-        for cut in 1..count {
-            comes_back(&rt, rt.alloc(), 64, fields, &[Answer::Serve(cut)])?;
-        }
-    }
-    Ok(())
-}
-
-#[test]
-fn shows_the_writer(rt: HostRuntime) -> Result<(), Fail> {
-    let body = body(rt.alloc(), 64, &[])?;
+    let body = bytewise(rt.alloc(), b"hello world")?;
     let said = debug(rt.alloc(), &body)?;
     assert!(rt; said.starts_with("chunked::ChunkedWriter { writer: buffer_redux::BufWriter {"));
+    let mut inner = into_inner(body);
+    flush(&mut inner)?;
+    assert!(rt; taken(&inner) == b"b\r\nhello world\r\n".as_slice());
+    Ok(())
+}
+
+// Trailers that are refused behind a chunk of five bytes in a buffer of 26, and at which line where that is why.
+const REFUSED: [(&[&[u8]], Option<usize>); 6] = [
+    (&[b"A: b", b""], Some(1)),
+    (&[b"A: b\r\nC: d"], Some(0)),
+    (&[b"A: b", b"C: d", b"E\rf"], Some(2)),
+    (&[b"0123456789abcdef0123"], None),
+    (&[b"0123456789abcdef0", b"A"], None),
+    (&[b"0123456789abcdef0123", b"\n"], Some(1)),
+];
+
+// The body is back as it was: it is written on, and ends with trailers that just fit.
+#[test]
+fn refuses_trailers(rt: HostRuntime) -> Result<(), Fail> {
+    for (fields, index) in REFUSED {
+        let mut body = body(rt.alloc(), 26, &[])?;
+        assert!(rt; write(&mut body, b"hello")? == 5);
+        let Err(FinishError(mut body, why)) = finish_with(body, fields) else {
+            panic!(rt; "{fields:?} isn't refused");
+        };
+        match why {
+            TrailersError::NoField(at) => assert!(rt; Some(at) == index),
+            TrailersError::TooLong => assert!(rt; index.is_none()),
+            TrailersError::Io(_) => panic!(rt; "a fault"),
+        }
+        assert!(rt; taken(inner(&body)).is_empty());
+        assert!(rt; write(&mut body, b"!")? == 1);
+        let Ok(mut inner) = ends(body, &[b"0123456789abcdef012"]) else {
+            panic!(rt; "not ended");
+        };
+        flush(&mut inner)?;
+        assert!(rt;
+            taken(&inner)
+                == b"5\r\nhello\r\n1\r\n!\r\n0\r\n0123456789abcdef012\r\n\r\n".as_slice()
+        );
+    }
     Ok(())
 }

@@ -1,4 +1,4 @@
-//! Frames and bodies by worked examples, cut in pieces and with a fault at each call.
+//! Frames, lines and bodies by worked examples, cut in pieces and with a fault at each call.
 #![tactic(auto)]
 
 #[cfg(test)]
@@ -6,12 +6,12 @@ mod bodies;
 #[cfg(test)]
 mod chunks;
 #[cfg(test)]
-mod errors;
+mod frames;
+#[cfg(test)]
+mod laws;
 #[cfg(test)]
 mod lines;
 #[cfg(test)]
-mod reader;
+mod sweep;
 #[cfg(test)]
-mod runs;
-#[cfg(test)]
-mod writer;
+mod texts;
