@@ -2,20 +2,16 @@
 //! doesn't know.
 #![tactic(auto)]
 
+#[cfg(test)]
+mod buffers;
+#[cfg(test)]
+mod callers;
 pub mod claims;
 #[cfg(test)]
-mod kinds;
+mod named;
 #[cfg(test)]
-mod lists;
+mod policies;
 #[cfg(test)]
 mod ring;
 #[cfg(test)]
-mod room;
-#[cfg(test)]
-mod rows;
-#[cfg(test)]
-mod scripts;
-#[cfg(test)]
 mod streams;
-#[cfg(test)]
-mod transfers;

@@ -1,99 +1,100 @@
 //! When the bytes of a ring move, as its head shows, which is printed.
 use redux_buffer::SliceDequeBuf;
-use std::io::Read;
-use std::process::Abort;
 use std::test::Fail;
+use tests_common::debug;
 
-// Where the first byte stands in the storage.
-fn head(rt: &(impl Abort + AllocGlobal), ring: &SliceDequeBuf) -> Result<usize, Fail> {
-    let text = format!(in rt.alloc(); "{ring:?}")?;
-    let behind = text.split_once(", head: ").unwrap_or_default().1;
-    let digits = behind.split_once(", ").unwrap_or_default().0;
-    Ok(digits.parse().expect(rt, "a head is printed"))
+#[derive(Clone, Copy)]
+enum Step {
+    // writes this byte to the whole tail, and takes so many of them in, as `Buffer::read_from` does with what a reader gives
+    Take(u8, usize),
+    // the same without writing to the tail
+    Written(usize),
+    Lend,
+    Consume(usize),
 }
 
-// Writes this byte to the whole tail, and takes the first of them in.
-fn take_in(ring: &mut SliceDequeBuf, byte: u8, count: usize) {
-    ring.write_buf().fill(byte);
-    ring.bytes_written(count);
-}
-
-// Each row is a read into the whole tail, as `Buffer::read_from` does it, and a consume: how many bytes came, the head then
-// and how many bytes the loan of the tail moved, and the head after the consume, which moves none.
-#[test]
-fn reads(rt: HostRuntime) -> Result<(), Fail> {
-    let bytes = vec![in rt.alloc(); 9u8; 16384]?;
-    let mut rdr = bytes.as_slice();
-    let mut ring = SliceDequeBuf::with_capacity(rt.alloc(), 4096)?;
-    let mut stood = 0;
-    for (count, lent, moved, consumed) in [
-        (4096, 0, 0, 4000),
-        (4000, 4000, 0, 8000),
-        (4000, 0, 96, 4000),
-        (4000, 4000, 0, 8000),
-        (288, 0, 96, 0),
-        (0, 0, 0, 0),
-    ] {
-        let n = rdr.read(ring.write_buf())?;
-        assert_eq!(rt; (n, head(&rt, &ring)?), (count, lent));
-        let drawn_back = if lent == stood { 0 } else { ring.len() };
-        assert_eq!(rt; drawn_back, moved);
-        ring.bytes_written(n);
-        assert_eq!(rt; head(&rt, &ring)?, lent);
-        ring.consume(4000);
-        assert_eq!(rt; head(&rt, &ring)?, consumed);
-        stood = consumed;
+fn take_step(ring: &mut SliceDequeBuf, step: Step) {
+    match step {
+        Step::Take(byte, count) => {
+            ring.write_buf().fill(byte);
+            ring.bytes_written(count);
+        }
+        Step::Written(count) => ring.bytes_written(count),
+        Step::Lend => {
+            let _ = ring.write_buf();
+        }
+        Step::Consume(amount) => ring.consume(amount),
     }
-    Ok(())
 }
 
-// A ring whose head has passed the capacity, with 96 bytes left.
-fn passed(rt: &(impl Abort + AllocGlobal)) -> Result<SliceDequeBuf, Fail> {
-    let mut ring = SliceDequeBuf::with_capacity(rt.alloc(), 4096)?;
-    take_in(&mut ring, 7, 4096);
-    ring.consume(4000);
-    assert_eq!(rt; head(rt, &ring)?, 4000);
-    take_in(&mut ring, 8, 4000);
-    assert_eq!(rt; head(rt, &ring)?, 4000);
-    ring.consume(4000);
-    assert_eq!(rt; (ring.usable_space(), head(rt, &ring)?), (4000, 8000));
-    Ok(ring)
-}
+// A step, where the first byte then stands, how many there are, and how many can be written.
+type Row = (Step, &'static str, usize, usize);
 
-#[test]
-fn emptied(rt: HostRuntime) -> Result<(), Fail> {
-    let mut ring = passed(&rt)?;
-    ring.consume(96);
-    assert_eq!(rt; (ring.len(), head(&rt, &ring)?), (0, 0));
-    Ok(())
-}
+// What a reader of 16384 bytes gives, in reads into the whole tail. The third and the fifth move 96 bytes each.
+const READS: &'static [Row] = &[
+    (Step::Take(9, 4096), "head: 0,", 4096, 0),
+    (Step::Consume(4000), "head: 4000,", 96, 4000),
+    (Step::Take(9, 4000), "head: 4000,", 4096, 0),
+    (Step::Consume(4000), "head: 8000,", 96, 4000),
+    (Step::Take(9, 4000), "head: 0,", 4096, 0),
+    (Step::Consume(4000), "head: 4000,", 96, 4000),
+    (Step::Take(9, 4000), "head: 4000,", 4096, 0),
+    (Step::Consume(4000), "head: 8000,", 96, 4000),
+    (Step::Take(9, 288), "head: 0,", 384, 3712),
+    (Step::Consume(4000), "head: 0,", 0, 4096),
+    (Step::Take(9, 0), "head: 0,", 0, 4096),
+];
 
-#[test]
-fn written_without_a_loan(rt: HostRuntime) -> Result<(), Fail> {
-    let mut ring = passed(&rt)?;
-    ring.bytes_written(1);
-    assert_eq!(rt;
-        (ring.len(), head(&rt, &ring)?, ring.usable_space()),
-        (97, 0, 3999)
-    );
-    assert!(rt; ring.buf().starts_with(&[8; 96]));
-    Ok(())
-}
+const EMPTIED: &'static [Row] = &[
+    (Step::Take(7, 4096), "head: 0,", 4096, 0),
+    (Step::Consume(4000), "head: 4000,", 96, 4000),
+    (Step::Take(8, 4000), "head: 4000,", 4096, 0),
+    (Step::Consume(4000), "head: 8000,", 96, 4000),
+    (Step::Consume(96), "head: 0,", 0, 4096),
+];
+
+const WRITTEN_WITHOUT_A_LOAN: &'static [Row] = &[
+    (Step::Take(7, 4096), "head: 0,", 4096, 0),
+    (Step::Consume(4000), "head: 4000,", 96, 4000),
+    (Step::Take(8, 4000), "head: 4000,", 4096, 0),
+    (Step::Consume(4000), "head: 8000,", 96, 4000),
+    (Step::Written(1), "head: 0,", 97, 3999),
+];
 
 // A head exactly at the capacity is not past it: the next loan moves nothing. One byte further it does.
+const AT_THE_CAPACITY: &'static [Row] = &[
+    (Step::Take(8, 4096), "head: 0,", 4096, 0),
+    (Step::Consume(4000), "head: 4000,", 96, 4000),
+    (Step::Take(8, 4000), "head: 4000,", 4096, 0),
+    (Step::Consume(96), "head: 4096,", 4000, 96),
+    (Step::Lend, "head: 4096,", 4000, 96),
+    (Step::Consume(1), "head: 4097,", 3999, 97),
+    (Step::Lend, "head: 0,", 3999, 97),
+    (Step::Consume(3999), "head: 0,", 0, 4096),
+];
+
+// A walk, and the bytes in front at its end.
+const WALKS: [(&'static [Row], &'static [u8]); 4] = [
+    (READS, &[]),
+    (EMPTIED, &[]),
+    (WRITTEN_WITHOUT_A_LOAN, &[8; 96]),
+    (AT_THE_CAPACITY, &[]),
+];
+
 #[test]
-fn at_the_capacity(rt: HostRuntime) -> Result<(), Fail> {
-    let mut ring = SliceDequeBuf::with_capacity(rt.alloc(), 4096)?;
-    for (written, dropped, to, len) in [(4096, 4000, 4000, 96), (4000, 96, 4096, 4000)] {
-        take_in(&mut ring, 7, written);
-        ring.consume(dropped);
-        assert_eq!(rt; (ring.len(), head(&rt, &ring)?), (len, to));
+fn heads(rt: HostRuntime) -> Result<(), Fail> {
+    for (rows, front) in WALKS {
+        let mut ring = SliceDequeBuf::with_capacity(rt.alloc(), 4096)?;
+        for &(call, head, len, usable) in rows {
+            take_step(&mut ring, call);
+            let text = debug(rt.alloc(), &ring)?;
+            assert!(rt; text.contains(head), "{head}");
+            assert!(rt;
+                (ring.len(), ring.usable_space()) == (len, usable),
+                "{head}"
+            );
+        }
+        assert!(rt; ring.buf().starts_with(front));
     }
-    assert_eq!(rt; (ring.write_buf().len(), head(&rt, &ring)?), (96, 4096));
-    ring.consume(1);
-    assert_eq!(rt; head(&rt, &ring)?, 4097);
-    assert_eq!(rt; (ring.write_buf().len(), head(&rt, &ring)?), (97, 0));
-    ring.consume(3999);
-    assert_eq!(rt; (ring.len(), head(&rt, &ring)?), (0, 0));
     Ok(())
 }

@@ -1,159 +1,88 @@
-//! The streams that tell, and scripted ones.
+//! The streams that tell, and one that goes wrong at one call.
 ghost use Rattle.std.specs.Prelude.{◌≡◌, ◌++◌, IfOk, take, vec_items};
 ghost use Rattle.redux_buffer.specs.Told.{told_log, told_stream};
 ghost use Rattle.redux_buffer.specs.LogGrows.{FillLogGrows, FillLogGrows-none, FillLogGrows-joins, FillsGoOn-of};
 
-use buffer_redux::script::Answer;
+use buffer_redux::script::{Answer, FaultAt};
 use buffer_redux::tell::{Call, CallLog, Tell, TellBufRead, TellRead, TellSeek, TellWrite, Told};
+use std::alloc::{AllocError, Global};
 use std::io;
 use std::io::{Cursor, ErrorKind, Read, Seek, SeekFrom, Write};
 use std::test::Fail;
-use tests_common::{Source, Target, debug, kind, source, target};
+use tests_common::{debug, flush, kind, write};
 
-// The calls that tell, of whose errors only the kinds are looked at. They promise nothing, as those of `tests_common` don't.
-pub fn reads<R: TellRead>(reader: &mut R, out: &mut [u8]) -> Result<usize, ErrorKind> {
-    kind(reader.read_told(out))
+// The calls that tell. They promise nothing, as those of `tests_common` don't.
+fn reads<R: TellRead>(reader: &mut R, out: &mut [u8]) -> io::Result<usize> {
+    reader.read_told(out)
 }
 
-pub fn writes<W: TellWrite>(writer: &mut W, bytes: &[u8]) -> Result<usize, ErrorKind> {
-    kind(writer.write_told(bytes))
+fn writes<W: TellWrite>(writer: &mut W, bytes: &[u8]) -> io::Result<usize> {
+    writer.write_told(bytes)
 }
 
-pub fn flushes<W: TellWrite>(writer: &mut W) -> Result<(), ErrorKind> {
-    kind(writer.flush_told())
+fn flushes<W: TellWrite>(writer: &mut W) -> io::Result<()> {
+    writer.flush_told()
 }
 
-pub fn seeks<S: TellSeek>(stream: &mut S, to: SeekFrom) -> Result<u64, ErrorKind> {
-    kind(stream.seek_told(to))
+fn seeks<S: TellSeek>(stream: &mut S, to: SeekFrom) -> io::Result<u64> {
+    stream.seek_told(to)
 }
 
-// How many bytes the reads of a source, or the writes of a target, were offered.
-fn asked(source: &Source) -> &[usize] {
-    source.get_ref().offers()
-}
-
-fn offered(target: &Target) -> &[usize] {
-    target.get_ref().offers()
-}
-
-const SCRIPT: [Answer; 5] = [
-    Answer::ServeEach(2),
-    Answer::Interrupt(2),
-    Answer::Serve(1),
-    Answer::Fail(ErrorKind::TimedOut),
-    Answer::Interrupt(0),
-];
-
-const ANSWERS: [Result<usize, ErrorKind>; 5] = [
-    Err(ErrorKind::Interrupted),
-    Err(ErrorKind::Interrupted),
-    Ok(1),
-    Err(ErrorKind::TimedOut),
-    Ok(2),
-];
-
-#[test]
-fn reader(rt: HostRuntime) -> Result<(), Fail> {
-    let mut rdr = source(rt.alloc(), &[1, 2, 3, 4], &SCRIPT)?;
-    let mut out = [0u8; 3];
-    for want in ANSWERS {
-        assert_eq!(rt; reads(&mut rdr, &mut out), want);
-    }
-    assert_eq!(rt; out, [2, 3, 0]);
-    for want in [1, 0] {
-        assert_eq!(rt; reads(&mut rdr, &mut out), Ok(want));
-    }
-    assert_eq!(rt; out, [4, 3, 0]);
-    assert_eq!(rt; asked(&rdr), [3; 7].as_slice());
-    assert_eq!(rt; rdr.into_inner().served(), 4);
-    Ok(())
-}
-
-#[test]
-fn writer(rt: HostRuntime) -> Result<(), Fail> {
-    let mut wrt = target(rt.alloc(), &SCRIPT)?;
-    for want in ANSWERS {
-        assert_eq!(rt; writes(&mut wrt, &[1, 2, 3]), want);
-    }
-    assert_eq!(rt; flushes(&mut wrt), Ok(()));
-    assert_eq!(rt; wrt.get_ref().taken(), [1, 1, 2].as_slice());
-    assert_eq!(rt; offered(&wrt), [3; 5].as_slice());
-    assert_eq!(rt; wrt.into_inner().flushes(), 1);
-    Ok(())
-}
-
-// An empty slice is passed on too, and a call that fails asks its stream once.
-#[test]
-fn passed_on(rt: HostRuntime) -> Result<(), Fail> {
-    let fails = [Answer::Fail(ErrorKind::Other)];
-    let mut rdr = source(rt.alloc(), &[1], &fails)?;
-    for (room, want) in [(2, Err(ErrorKind::Other)), (0, Ok(0)), (2, Ok(1))] {
-        let mut out = [0u8; 2];
-        assert_eq!(rt; reads(&mut rdr, &mut out[..room.min(2)]), want);
-    }
-    assert_eq!(rt; asked(&rdr), [2, 0, 2].as_slice());
-
-    let mut wrt = target(rt.alloc(), &fails)?;
-    for (bytes, want) in [
-        ([1].as_slice(), Err(ErrorKind::Other)),
-        ([].as_slice(), Ok(0)),
-    ] {
-        assert_eq!(rt; writes(&mut wrt, bytes), want);
-    }
-    assert_eq!(rt; flushes(&mut wrt), Ok(()));
-    assert_eq!(rt; offered(&wrt), [1, 0].as_slice());
-    assert_eq!(rt; wrt.get_ref().flushes(), 1);
-    Ok(())
-}
-
-// Fails at each call, with a text of its own.
+// Fails at each call, with a text of its own, and counts its calls.
 #[derive(Drop)]
-struct Failing;
+struct Failing {
+    calls: usize,
+}
 
 impl Failing {
-    fn error() -> io::Error {
+    fn error(&mut self) -> io::Error {
+        self.calls = self.calls.wrapping_add(1);
         io::Error::new(ErrorKind::Other, "its own text")
     }
 }
 
 impl Read for Failing {
     fn read(&mut self, _buf: &mut [u8]) -> io::Result<usize> {
-        Err(Failing::error())
+        Err(self.error())
     }
 }
 
 impl Write for Failing {
     fn write(&mut self, _buf: &[u8]) -> io::Result<usize> {
-        Err(Failing::error())
+        Err(self.error())
     }
 
     fn flush(&mut self) -> io::Result<()> {
-        Err(Failing::error())
+        Err(self.error())
     }
 }
 
 impl Seek for Failing {
     fn seek(&mut self, _to: SeekFrom) -> io::Result<u64> {
-        Err(Failing::error())
+        Err(self.error())
     }
 }
 
-// An error of the stream comes as it is.
+fn errors(told: &mut Told<Failing>) -> [Option<io::Error>; 4] {
+    [
+        reads(told, &mut []).err(),
+        writes(told, &[]).err(),
+        flushes(told).err(),
+        seeks(told, SeekFrom::Start(0)).err(),
+    ]
+}
+
+// Each call is passed on once, one of an empty slice too, and an error of the stream comes as it is.
 #[test]
-fn errors(rt: HostRuntime) -> Result<(), Fail> {
-    let mut told = Told::new(Failing);
-    let errors = [
-        told.read_told(&mut [0]).err(),
-        told.write_told(&[1]).err(),
-        told.flush_told().err(),
-        told.seek_told(SeekFrom::Start(0)).err(),
-    ];
-    for error in errors {
-        assert_eq!(rt;
-            debug(rt.alloc(), &error)?.as_str(),
-            "Some(Custom { kind: Other, error: \"its own text\" })"
+fn passed_on(rt: HostRuntime) -> Result<(), Fail> {
+    let mut told = Told::new(Failing { calls: 0 });
+    for error in errors(&mut told) {
+        assert!(rt;
+            debug(rt.alloc(), &error)?.as_str()
+                == "Some(Custom { kind: Other, error: \"its own text\" })"
         );
     }
+    assert!(rt; told.into_inner().calls == 4);
     Ok(())
 }
 
@@ -177,29 +106,25 @@ fn goes_past(told: &mut Told<Vec<u8>>, first: &[u8], second: &[u8]) -> io::Resul
 #[test]
 fn past_what_is_told(rt: HostRuntime) -> Result<(), Fail> {
     let mut told = Told::new(Vec::new(rt.alloc()));
-    assert_eq!(rt; goes_past(&mut told, &[1, 2], &[3])?, 2);
-    assert_eq!(rt; writes(&mut told, &[4]), Ok(1));
-    assert_eq!(rt; told.into_inner().as_slice(), [1, 2, 3, 4].as_slice());
+    assert!(rt; goes_past(&mut told, &[1, 2], &[3])? == 2);
+    assert!(rt; writes(&mut told, &[4])? == 1);
+    assert!(rt; told.into_inner().as_slice() == [1, 2, 3, 4].as_slice());
     Ok(())
 }
 
 #[test]
 fn seeker(rt: HostRuntime) -> Result<(), Fail> {
     let mut skr = Told::new(Cursor::new([1u8, 2, 3].as_slice()));
-    assert_eq!(rt; seeks(&mut skr, SeekFrom::End(-1)), Ok(2));
+    assert!(rt; seeks(&mut skr, SeekFrom::End(-1))? == 2);
     let mut last = [0u8; 2];
-    assert_eq!(rt; reads(&mut skr, &mut last), Ok(1));
-    assert_eq!(rt; last, [3, 0]);
+    assert!(rt; reads(&mut skr, &mut last)? == 1 && last == [3, 0]);
     Ok(())
 }
 
 #[test]
 fn printed(rt: HostRuntime) -> Result<(), Fail> {
     let told = Told::new(Answer::Serve(1));
-    assert_eq!(rt;
-        debug(rt.alloc(), &told)?.as_str(),
-        "Told { stream: Serve(1) }"
-    );
+    assert!(rt; debug(rt.alloc(), &told)?.as_str() == "Told { stream: Serve(1) }");
     Ok(())
 }
 
@@ -253,10 +178,75 @@ fn buffered(rt: HostRuntime) -> Result<(), Fail> {
         left: &[1, 2, 3],
         calls: CallLog::new(),
     };
-    assert_eq!(rt; shows(&mut page)?, [1, 2, 3].as_slice());
-    drops(&mut page, 2);
-    assert_eq!(rt; shows(&mut page)?, [3].as_slice());
-    drops(&mut page, usize::MAX);
-    assert_eq!(rt; shows(&mut page)?.len(), 0);
+    for (shown, dropped) in [([1, 2, 3].as_slice(), 2), (&[3], usize::MAX), (&[], 0)] {
+        assert!(rt; shows(&mut page)? == shown);
+        drops(&mut page, dropped);
+    }
+    Ok(())
+}
+
+type Faulty = FaultAt<Vec<u8>>;
+
+// What a write of three bytes and a flush return.
+fn two_calls(stream: &mut Faulty) -> (Result<usize, ErrorKind>, Result<(), ErrorKind>) {
+    (kind(write(stream, &[1, 2, 3])), kind(flush(stream)))
+}
+
+// What three pairs return, how many bytes the stream inside has, and how many calls there were.
+fn six_calls(alloc: Global, mut stream: Faulty) -> Result<String, AllocError> {
+    let pairs = [
+        two_calls(&mut stream),
+        two_calls(&mut stream),
+        two_calls(&mut stream),
+    ];
+    debug(alloc, &(pairs, stream.get_ref().len(), stream.calls()))
+}
+
+// How many calls come before the one that goes wrong, its answer, and what comes of six.
+const FAULTS: [(usize, Answer, &'static str); 7] = [
+    (
+        2,
+        Answer::Fail(ErrorKind::TimedOut),
+        "([(Ok(3), Ok(())), (Err(TimedOut), Ok(())), (Ok(3), Ok(()))], 6, 6)",
+    ),
+    (
+        3,
+        Answer::Fail(ErrorKind::TimedOut),
+        "([(Ok(3), Ok(())), (Ok(3), Err(TimedOut)), (Ok(3), Ok(()))], 9, 6)",
+    ),
+    (
+        1,
+        Answer::Interrupt(3),
+        "([(Ok(3), Err(Interrupted)), (Err(Interrupted), Err(Interrupted)), (Ok(3), Ok(()))], 6, 6)",
+    ),
+    (
+        2,
+        Answer::Serve(0),
+        "([(Ok(3), Ok(())), (Ok(0), Ok(())), (Ok(3), Ok(()))], 6, 6)",
+    ),
+    (
+        2,
+        Answer::Serve(1),
+        "([(Ok(3), Ok(())), (Ok(1), Ok(())), (Ok(3), Ok(()))], 7, 6)",
+    ),
+    (
+        3,
+        Answer::Serve(1),
+        "([(Ok(3), Ok(())), (Ok(3), Ok(())), (Ok(3), Ok(()))], 9, 6)",
+    ),
+    (
+        2,
+        Answer::ServeEach(2),
+        "([(Ok(3), Ok(())), (Ok(2), Ok(())), (Ok(2), Ok(()))], 7, 6)",
+    ),
+];
+
+#[test]
+fn faults(rt: HostRuntime) -> Result<(), Fail> {
+    for (before, answer, text) in FAULTS {
+        let stream = FaultAt::new(Vec::new(rt.alloc()), before, answer);
+        let came = six_calls(rt.alloc(), stream)?;
+        assert!(rt; came.as_str() == text, "{came}");
+    }
     Ok(())
 }
