@@ -21,13 +21,10 @@ pub use crate::looks::{asked, flushes, offered, taken, taken_lines};
 pub use crate::makers::{
     Source, Target, line_writer, reader, reader_under, source, target, writer, writer_under,
 };
-pub use crate::positions::{Positions, byte_at};
+pub use crate::positions::Positions;
 pub use crate::texts::{debug, display};
 use redux_buffer::{Buffer, GrowError};
 use std::alloc::Global;
-
-/// No machine has so many bytes, and each kind of buffer may be so large.
-pub const NO_MACHINE: usize = 1 << 60;
 
 /// A plain buffer of this capacity that holds the first of these bytes, as many as fit.
 pub fn holding(alloc: Global, capacity: usize, bytes: &[u8]) -> Result<Buffer, GrowError>

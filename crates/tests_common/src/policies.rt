@@ -2,7 +2,6 @@
 ghost use Rattle.std.specs.Prelude.{Some};
 ghost use Rattle.buffer_redux.specs.Policy.{Lawful, any_read_rules, no_read_claims};
 
-use crate::NO_MACHINE;
 use buffer_redux::Buffer;
 use buffer_redux::policy::{
     DoRead, FlushAmt, MinBuffered, ReaderPolicy, WriterPolicy, flush_when_full, read_when_empty,
@@ -33,23 +32,6 @@ impl WriterPolicy for Greedy {
     fn after_write(&mut self, _buf: &Buffer) -> FlushAmt {
         FlushAmt(0)
     }
-}
-
-/// Has room for 4096 more bytes at its first question, wants more than any machine has at the next, and always reads.
-#[derive(Drop)]
-pub struct Insatiable {
-    /// Whether it had its first question.
-    pub asked: bool,
-}
-
-impl ReaderPolicy for Insatiable {
-    fn before_read(&mut self, buffer: &mut Buffer) -> io::Result<DoRead> {
-        buffer.reserve(if self.asked { NO_MACHINE } else { 4096 })?;
-        self.asked = true;
-        Ok(DoRead(true))
-    }
-
-    fn after_consume(&mut self, _buffer: &mut Buffer, _amt: usize) {}
 }
 
 /// Does what std does, but for one question, which it answers by an error of the kind `Other`.

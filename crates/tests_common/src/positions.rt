@@ -11,8 +11,8 @@ pub struct Positions {
     pub seeks: usize,
 }
 
-/// The byte at this position.
-pub fn byte_at(position: u64) -> u8 {
+// The byte at this position.
+fn byte_at(position: u64) -> u8 {
     (position % 256) as u8
 }
 
