@@ -1,6 +1,7 @@
 //! Cases of bodies in the chunked coding. The piece of such a case is the length of a chunk.
 
-use crate::cases::{Case, Kind, told, told_sink};
+use crate::cases::Case;
+use crate::makers::{told, told_sink};
 use crate::streams::{Sink, Source};
 use buffer_redux::tell::Told;
 use buffer_redux::{BufReader, BufWriter};
@@ -26,11 +27,7 @@ pub fn chunked_body(alloc: Global, length: usize, total: usize) -> Result<Vec<u8
     Ok(bytes)
 }
 
-// No body is read through a ring here, and std has no such reader: these answer 0.
 pub fn bodies(alloc: Global, case: &Case, bytes: &[u8]) -> io::Result<u64> {
-    if !matches!(case.kind, Kind::Plain) {
-        return Ok(0);
-    }
     let limits = Limits {
         line: 64,
         trailers: 4096,
@@ -54,11 +51,7 @@ fn body_to_end(body: ChunkedReader<Told<Source<'_>>>) -> io::Result<u64> {
     Ok(total)
 }
 
-// Nor is one written so.
 pub fn write_bodies(alloc: Global, case: &Case, bytes: &[u8]) -> io::Result<u64> {
-    if !matches!(case.kind, Kind::Plain) {
-        return Ok(0);
-    }
     let writer = BufWriter::with_capacity(alloc, case.capacity.max(21), told_sink())?;
     let payload = &bytes[..case.piece.min(bytes.len())];
     write_chunks(ChunkedWriter::new(writer), payload, bytes.len() as u64)

@@ -1,12 +1,15 @@
 //! What is measured, and over which types.
 use crate::bodies::{bodies, write_bodies};
 use crate::frames::{frames, write_frames};
-use crate::lines::{next, next_trimmed};
-use crate::streams::{Packets, Sink, Source};
-use crate::whole::{bytes_apart, exact, format, format_lines, unbuffer, write_all};
-use buffer_redux::policy::MinBuffered;
+use crate::lines::{lines_to_end, next_to_end, trimmed_to_end, until_end};
+use crate::makers::{
+    block, line_reader, line_writer, looking, reader, std_line_writer, std_reader, std_writer,
+    told, writer,
+};
+use crate::streams::Packets;
+use crate::whole::{each_byte, exact_to_end, format_often, write_all_often};
 use buffer_redux::tell::{TellBufRead, TellWrite, Told};
-use buffer_redux::{BufImpl, BufReader, BufWriter, LineWriter, copy_buf};
+use buffer_redux::{BufImpl, copy_buf};
 use std::alloc::Global;
 use std::io;
 use std::io::{BufRead, Read, Write};
@@ -58,32 +61,39 @@ pub enum Shape {
     WriteBodies,
 }
 
+/// Each shape by its name, with the capacity and the piece of a case of it on few bytes.
+pub const SHAPES: [(&str, Shape, usize, usize); 21] = [
+    ("read", Shape::Read, 8192, 64),
+    ("fill", Shape::Fill, 8192, 100),
+    ("look", Shape::Look, 16384, 100),
+    ("packets", Shape::Packets, 8192, 512),
+    ("write", Shape::Write, 8192, 100),
+    ("lines", Shape::Lines, 8192, 80),
+    ("copy", Shape::Copy, 4096, 8192),
+    ("copy_buf", Shape::CopyBuf, 4096, 8192),
+    ("grow", Shape::Grow, 4096, 4096),
+    ("byte", Shape::Byte, 8192, 1),
+    ("exact", Shape::Exact, 8192, 8),
+    ("write_all", Shape::WriteAll, 8192, 100),
+    ("format", Shape::Format, 8192, 21),
+    ("format_lines", Shape::FormatLines, 8192, 21),
+    ("unbuffer", Shape::Unbuffer, 40000, 64),
+    ("next", Shape::Next, 80, 512),
+    ("next_trimmed", Shape::NextTrimmed, 80, 512),
+    ("frames", Shape::Frames, 8192, 64),
+    ("write_frames", Shape::WriteFrames, 8192, 64),
+    ("bodies", Shape::Bodies, 8192, 1000),
+    ("write_bodies", Shape::WriteBodies, 8192, 1000),
+];
+
 impl Shape {
     pub fn named(word: &str) -> Option<Shape> {
-        match word {
-            "read" => Some(Shape::Read),
-            "fill" => Some(Shape::Fill),
-            "look" => Some(Shape::Look),
-            "packets" => Some(Shape::Packets),
-            "write" => Some(Shape::Write),
-            "lines" => Some(Shape::Lines),
-            "copy" => Some(Shape::Copy),
-            "copy_buf" => Some(Shape::CopyBuf),
-            "grow" => Some(Shape::Grow),
-            "byte" => Some(Shape::Byte),
-            "exact" => Some(Shape::Exact),
-            "write_all" => Some(Shape::WriteAll),
-            "format" => Some(Shape::Format),
-            "format_lines" => Some(Shape::FormatLines),
-            "unbuffer" => Some(Shape::Unbuffer),
-            "next" => Some(Shape::Next),
-            "next_trimmed" => Some(Shape::NextTrimmed),
-            "frames" => Some(Shape::Frames),
-            "write_frames" => Some(Shape::WriteFrames),
-            "bodies" => Some(Shape::Bodies),
-            "write_bodies" => Some(Shape::WriteBodies),
-            _ => None,
+        for (name, shape, _capacity, _piece) in SHAPES {
+            if name == word {
+                return Some(shape);
+            }
         }
+        None
     }
 }
 
@@ -115,64 +125,107 @@ pub struct Case {
     pub piece: usize,
 }
 
-/// How many bytes a lookahead asks for.
-const LEAST: usize = 4096;
+impl Case {
+    /// The stream of packets of such a case.
+    pub fn packets<'a>(&self, bytes: &'a [u8]) -> Packets<'a> {
+        Packets {
+            left: bytes,
+            most: self.piece,
+        }
+    }
+}
 
-/// Runs a case over these bytes, and returns how many went over. What is counted is what goes on in here.
+/// How many bytes a case of packets consumes at a time.
+const CONSUMED: usize = 100;
+
+/// Runs a case over these bytes, and returns how many went over: 0 where there is no such reader or writer. What is counted
+/// is what goes on in here.
 #[inline(never)]
 pub fn measured(alloc: Global, case: &Case, bytes: &[u8]) -> io::Result<u64> {
+    match case.kind {
+        Kind::Plain => over_plain(alloc, case, bytes),
+        Kind::Ring => over_either(alloc, case, bytes),
+        Kind::Std => over_std(alloc, case, bytes),
+    }
+}
+
+// Lines, frames and bodies have no ring.
+fn over_plain(alloc: Global, case: &Case, bytes: &[u8]) -> io::Result<u64> {
     match case.shape {
-        Shape::Read => read(alloc, case, bytes),
-        Shape::Fill => fill(alloc, case, bytes),
-        Shape::Look => look(alloc, case, bytes),
-        Shape::Packets => packets(alloc, case, bytes),
-        Shape::Write => write(alloc, case, bytes),
-        Shape::Lines => lines(alloc, case, bytes.len() as u64),
-        Shape::Copy => copy(alloc, case, bytes),
-        Shape::CopyBuf => copy_at_once(alloc, case, bytes),
-        Shape::Grow => grow(alloc, case, bytes.len()),
-        Shape::Byte => bytes_apart(alloc, case, bytes),
-        Shape::Exact => exact(alloc, case, bytes),
-        Shape::WriteAll => write_all(alloc, case, bytes),
-        Shape::Format => format(alloc, case, bytes.len() as u64),
-        Shape::FormatLines => format_lines(alloc, case, bytes.len() as u64),
-        Shape::Unbuffer => unbuffer(alloc, case, bytes),
-        Shape::Next => next(alloc, case, bytes),
-        Shape::NextTrimmed => next_trimmed(alloc, case, bytes),
+        Shape::Next => next_to_end(line_reader(alloc, case, bytes)?),
+        Shape::NextTrimmed => trimmed_to_end(line_reader(alloc, case, bytes)?),
         Shape::Frames => frames(alloc, case, bytes),
         Shape::WriteFrames => write_frames(alloc, case, bytes),
         Shape::Bodies => bodies(alloc, case, bytes),
         Shape::WriteBodies => write_bodies(alloc, case, bytes),
+        _ => over_either(alloc, case, bytes),
     }
 }
 
-pub fn told(bytes: &[u8]) -> Told<Source<'_>> {
-    Told::new(Source { left: bytes })
+fn over_either(alloc: Global, case: &Case, bytes: &[u8]) -> io::Result<u64> {
+    let (cap, by) = (case.capacity, case.piece);
+    let total = bytes.len() as u64;
+    let piece = &bytes[..by.min(bytes.len())];
+    match case.shape {
+        Shape::Read => {
+            let mut out = vec![in alloc; 0u8; by]?;
+            read_to_end(reader(alloc, case, told(bytes))?, out.as_mut_slice())
+        }
+        Shape::Byte => each_byte(reader(alloc, case, told(bytes))?),
+        Shape::Exact => exact_to_end(reader(alloc, case, told(bytes))?, total),
+        Shape::Fill => fill_to_end(reader(alloc, case, told(bytes))?, by),
+        Shape::Look => fill_to_end(looking(alloc, case, told(bytes))?, by),
+        Shape::Packets => {
+            fill_to_end(
+                looking(alloc, case, Told::new(case.packets(bytes)))?,
+                CONSUMED,
+            )
+        }
+        Shape::Unbuffer => {
+            let mut out = vec![in alloc; 0u8; by]?;
+            let mut reader = reader(alloc, case, told(bytes))?;
+            let _shown = reader.fill_buf()?.len();
+            read_to_end(reader.unbuffer(), out.as_mut_slice())
+        }
+        Shape::Write => write_often(writer(alloc, case, cap)?, piece, total),
+        Shape::WriteAll => write_all_often(writer(alloc, case, cap)?, piece, total),
+        Shape::Format => format_often(writer(alloc, case, cap)?, total),
+        Shape::Lines => write_often(line_writer(alloc, case)?, piece, total),
+        Shape::FormatLines => format_often(line_writer(alloc, case)?, total),
+        Shape::Copy => copy_to_end(reader(alloc, case, told(bytes))?, writer(alloc, case, by)?),
+        Shape::CopyBuf => copy_bufs(reader(alloc, case, told(bytes))?, writer(alloc, case, by)?),
+        Shape::Grow => grow_often(block(alloc, case)?, by, bytes.len()),
+        _ => Ok(0),
+    }
 }
 
-pub fn told_sink() -> Told<Sink> {
-    Told::new(Sink::default())
-}
-
-fn read(alloc: Global, case: &Case, bytes: &[u8]) -> io::Result<u64> {
-    let mut piece = vec![in alloc; 0u8; case.piece]?;
-    let out = piece.as_mut_slice();
-    let cap = case.capacity;
-    match case.kind {
-        Kind::Plain => read_to_end(BufReader::with_capacity(alloc, cap, told(bytes))?, out),
-        Kind::Ring => read_to_end(
-            BufReader::with_capacity_ringbuf(alloc, cap, told(bytes))?,
-            out,
-        ),
-        Kind::Std => read_to_end(
-            io::BufReader::with_capacity(alloc, cap, Source { left: bytes })?,
-            out,
-        ),
+// No policy of std's looks ahead, its `copy` goes through a block of its own, and no buffer of its grows.
+fn over_std(alloc: Global, case: &Case, bytes: &[u8]) -> io::Result<u64> {
+    let (cap, by) = (case.capacity, case.piece);
+    let total = bytes.len() as u64;
+    let piece = &bytes[..by.min(bytes.len())];
+    match case.shape {
+        Shape::Read => {
+            let mut out = vec![in alloc; 0u8; by]?;
+            read_to_end(std_reader(alloc, cap, bytes)?, out.as_mut_slice())
+        }
+        Shape::Byte => each_byte(std_reader(alloc, cap, bytes)?),
+        Shape::Exact => exact_to_end(std_reader(alloc, cap, bytes)?, total),
+        Shape::Fill => fill_to_end(std_reader(alloc, cap, bytes)?, by),
+        Shape::Write => write_often(std_writer(alloc, cap)?, piece, total),
+        Shape::WriteAll => write_all_often(std_writer(alloc, cap)?, piece, total),
+        Shape::Format => format_often(std_writer(alloc, cap)?, total),
+        Shape::Lines => write_often(std_line_writer(alloc, cap)?, piece, total),
+        Shape::FormatLines => format_often(std_line_writer(alloc, cap)?, total),
+        Shape::Copy => copy_to_end(std_reader(alloc, cap, bytes)?, std_writer(alloc, by)?),
+        Shape::Next => until_end(alloc, io::BufReader::new(alloc, case.packets(bytes))?),
+        Shape::NextTrimmed => lines_to_end(alloc, io::BufReader::new(alloc, case.packets(bytes))?),
+        _ => Ok(0),
     }
 }
 
 #[inline(never)]
-pub fn read_to_end<R: Read + Drop>(reader: R, out: &mut [u8]) -> io::Result<u64> {
+fn read_to_end<R: Read + Drop>(reader: R, out: &mut [u8]) -> io::Result<u64> {
     let mut reader = reader;
     let mut total = 0u64;
     for _ in 0..u64::MAX {
@@ -183,59 +236,6 @@ pub fn read_to_end<R: Read + Drop>(reader: R, out: &mut [u8]) -> io::Result<u64>
         total = total.wrapping_add(n as u64);
     }
     Ok(total)
-}
-
-fn fill(alloc: Global, case: &Case, bytes: &[u8]) -> io::Result<u64> {
-    let (cap, piece) = (case.capacity, case.piece);
-    match case.kind {
-        Kind::Plain => fill_to_end(BufReader::with_capacity(alloc, cap, told(bytes))?, piece),
-        Kind::Ring => fill_to_end(
-            BufReader::with_capacity_ringbuf(alloc, cap, told(bytes))?,
-            piece,
-        ),
-        Kind::Std => fill_to_end(
-            io::BufReader::with_capacity(alloc, cap, Source { left: bytes })?,
-            piece,
-        ),
-    }
-}
-
-// No policy of std's looks ahead: it answers 0.
-fn look(alloc: Global, case: &Case, bytes: &[u8]) -> io::Result<u64> {
-    let (cap, piece) = (case.capacity, case.piece);
-    match case.kind {
-        Kind::Plain => fill_to_end(
-            BufReader::with_capacity(alloc, cap, told(bytes))?.set_policy(MinBuffered(LEAST)),
-            piece,
-        ),
-        Kind::Ring => fill_to_end(
-            BufReader::with_capacity_ringbuf(alloc, cap, told(bytes))?.set_policy(MinBuffered(
-                LEAST,
-            )),
-            piece,
-        ),
-        Kind::Std => Ok(0),
-    }
-}
-
-// No policy of std's looks ahead: it answers 0.
-fn packets(alloc: Global, case: &Case, bytes: &[u8]) -> io::Result<u64> {
-    let cap = case.capacity;
-    let stream = Told::new(Packets {
-        left: bytes,
-        most: case.piece,
-    });
-    match case.kind {
-        Kind::Plain => fill_to_end(
-            BufReader::with_capacity(alloc, cap, stream)?.set_policy(MinBuffered(LEAST)),
-            100,
-        ),
-        Kind::Ring => fill_to_end(
-            BufReader::with_capacity_ringbuf(alloc, cap, stream)?.set_policy(MinBuffered(LEAST)),
-            100,
-        ),
-        Kind::Std => Ok(0),
-    }
 }
 
 #[inline(never)]
@@ -253,54 +253,6 @@ fn fill_to_end<R: BufRead + Drop>(reader: R, piece: usize) -> io::Result<u64> {
     Ok(total)
 }
 
-fn write(alloc: Global, case: &Case, bytes: &[u8]) -> io::Result<u64> {
-    let cap = case.capacity;
-    let total = bytes.len() as u64;
-    let piece = &bytes[..case.piece.min(bytes.len())];
-    match case.kind {
-        Kind::Plain => write_often(
-            BufWriter::with_capacity(alloc, cap, told_sink())?,
-            piece,
-            total,
-        ),
-        Kind::Ring => write_often(
-            BufWriter::with_capacity_ringbuf(alloc, cap, told_sink())?,
-            piece,
-            total,
-        ),
-        Kind::Std => write_often(
-            io::BufWriter::with_capacity(alloc, cap, Sink::default())?,
-            piece,
-            total,
-        ),
-    }
-}
-
-fn lines(alloc: Global, case: &Case, total: u64) -> io::Result<u64> {
-    let cap = case.capacity;
-    let mut line = vec![in alloc; b'x'; case.piece]?;
-    if let Some(last) = line.last_mut() {
-        *last = b'\n';
-    }
-    match case.kind {
-        Kind::Plain => write_often(
-            LineWriter::with_capacity(alloc, cap, told_sink())?,
-            line.as_slice(),
-            total,
-        ),
-        Kind::Ring => write_often(
-            LineWriter::with_capacity_ringbuf(alloc, cap, told_sink())?,
-            line.as_slice(),
-            total,
-        ),
-        Kind::Std => write_often(
-            io::LineWriter::with_capacity(alloc, cap, Sink::default())?,
-            line.as_slice(),
-            total,
-        ),
-    }
-}
-
 #[inline(never)]
 fn write_often<W: Write + Drop>(writer: W, piece: &[u8], least: u64) -> io::Result<u64> {
     let mut writer = writer;
@@ -313,24 +265,6 @@ fn write_often<W: Write + Drop>(writer: W, piece: &[u8], least: u64) -> io::Resu
     }
     writer.flush()?;
     Ok(total)
-}
-
-fn copy(alloc: Global, case: &Case, bytes: &[u8]) -> io::Result<u64> {
-    let (from, to) = (case.capacity, case.piece);
-    match case.kind {
-        Kind::Plain => copy_to_end(
-            BufReader::with_capacity(alloc, from, told(bytes))?,
-            BufWriter::with_capacity(alloc, to, told_sink())?,
-        ),
-        Kind::Ring => copy_to_end(
-            BufReader::with_capacity_ringbuf(alloc, from, told(bytes))?,
-            BufWriter::with_capacity_ringbuf(alloc, to, told_sink())?,
-        ),
-        Kind::Std => copy_to_end(
-            io::BufReader::with_capacity(alloc, from, Source { left: bytes })?,
-            io::BufWriter::with_capacity(alloc, to, Sink::default())?,
-        ),
-    }
 }
 
 #[inline(never)]
@@ -350,22 +284,6 @@ fn copy_to_end<R: BufRead + Drop, W: Write + Drop>(reader: R, writer: W) -> io::
     Ok(total)
 }
 
-// The kit's `copy` goes through a block of its own: it answers 0.
-fn copy_at_once(alloc: Global, case: &Case, bytes: &[u8]) -> io::Result<u64> {
-    let (from, to) = (case.capacity, case.piece);
-    match case.kind {
-        Kind::Plain => copy_bufs(
-            BufReader::with_capacity(alloc, from, told(bytes))?,
-            BufWriter::with_capacity(alloc, to, told_sink())?,
-        ),
-        Kind::Ring => copy_bufs(
-            BufReader::with_capacity_ringbuf(alloc, from, told(bytes))?,
-            BufWriter::with_capacity_ringbuf(alloc, to, told_sink())?,
-        ),
-        Kind::Std => Ok(0),
-    }
-}
-
 #[inline(never)]
 fn copy_bufs<B: TellBufRead + Drop, W: TellWrite + Drop>(reader: B, writer: W) -> io::Result<u64> {
     let mut reader = reader;
@@ -373,16 +291,6 @@ fn copy_bufs<B: TellBufRead + Drop, W: TellWrite + Drop>(reader: B, writer: W) -
     let total = copy_buf(&mut reader, &mut writer)?;
     writer.flush_told()?;
     Ok(total)
-}
-
-// There is no such buffer in std: it answers 0.
-fn grow(alloc: Global, case: &Case, to: usize) -> io::Result<u64> {
-    let (from, by) = (case.capacity, case.piece);
-    match case.kind {
-        Kind::Plain => grow_often(BufImpl::with_capacity(alloc, from)?, by, to),
-        Kind::Ring => grow_often(BufImpl::with_capacity_ringbuf(alloc, from)?, by, to),
-        Kind::Std => Ok(0),
-    }
 }
 
 #[inline(never)]

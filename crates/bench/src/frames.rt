@@ -1,6 +1,7 @@
 //! Cases of frames. The piece of such a case is the length of a payload.
 
-use crate::cases::{Case, Kind, told, told_sink};
+use crate::cases::Case;
+use crate::makers::{told, told_sink};
 use crate::streams::{Sink, Source};
 use buffer_redux::tell::Told;
 use frame_reader::{FrameReader, FrameWriter};
@@ -25,11 +26,7 @@ pub fn framed(alloc: Global, length: usize, total: usize) -> Result<Vec<u8>, All
     Ok(bytes)
 }
 
-// No frames have a ring, and std has none: these answer 0.
 pub fn frames(alloc: Global, case: &Case, bytes: &[u8]) -> io::Result<u64> {
-    if !matches!(case.kind, Kind::Plain) {
-        return Ok(0);
-    }
     match FrameReader::with_capacity(alloc, case.capacity, told(bytes), GREATEST) {
         Ok(reader) => frames_to_end(reader),
         Err(_) => Err(failed()),
@@ -50,11 +47,7 @@ fn frames_to_end(reader: FrameReader<Told<Source<'_>>>) -> io::Result<u64> {
     Ok(total)
 }
 
-// Nor has a writer of frames.
 pub fn write_frames(alloc: Global, case: &Case, bytes: &[u8]) -> io::Result<u64> {
-    if !matches!(case.kind, Kind::Plain) {
-        return Ok(0);
-    }
     match FrameWriter::with_capacity(alloc, case.capacity, told_sink(), GREATEST) {
         Ok(writer) => {
             let payload = &bytes[..case.piece.min(bytes.len())];

@@ -1,7 +1,6 @@
 //! Cases of lines that are read. The capacity of such a case is the length of a line with its end, and the piece is the most
 //! that the stream gives a read.
 
-use crate::cases::{Case, Kind};
 use crate::streams::Packets;
 use buffer_redux::tell::Told;
 use line_reader::{LineError, LineReader};
@@ -23,40 +22,6 @@ pub fn text(alloc: Global, length: usize, total: usize) -> Result<Vec<u8>, Alloc
     Ok(bytes)
 }
 
-fn stream<'a>(case: &Case, bytes: &'a [u8]) -> Packets<'a> {
-    Packets {
-        left: bytes,
-        most: case.piece,
-    }
-}
-
-fn reader<'a>(
-    alloc: Global,
-    case: &Case,
-    bytes: &'a [u8],
-) -> io::Result<LineReader<Told<Packets<'a>>>> {
-    let stream = Told::new(stream(case, bytes));
-    LineReader::new(alloc, stream, case.capacity).map_err(io::Error::from)
-}
-
-// No reader of lines has a ring: it answers 0.
-pub fn next(alloc: Global, case: &Case, bytes: &[u8]) -> io::Result<u64> {
-    match case.kind {
-        Kind::Plain => next_to_end(reader(alloc, case, bytes)?),
-        Kind::Ring => Ok(0),
-        Kind::Std => until_end(alloc, io::BufReader::new(alloc, stream(case, bytes))?),
-    }
-}
-
-// No reader of lines has a ring: it answers 0.
-pub fn next_trimmed(alloc: Global, case: &Case, bytes: &[u8]) -> io::Result<u64> {
-    match case.kind {
-        Kind::Plain => trimmed_to_end(reader(alloc, case, bytes)?),
-        Kind::Ring => Ok(0),
-        Kind::Std => lines_to_end(alloc, io::BufReader::new(alloc, stream(case, bytes))?),
-    }
-}
-
 // How long a line is with its end, and 0 at the end of the stream.
 fn length(found: Result<Option<&[u8]>, LineError>) -> io::Result<u64> {
     Ok(found?.map_or(0, |line| (line.len() as u64).wrapping_add(1)))
@@ -64,7 +29,7 @@ fn length(found: Result<Option<&[u8]>, LineError>) -> io::Result<u64> {
 
 // The first line is read apart, as a head would be.
 #[inline(never)]
-fn next_to_end(reader: LineReader<Told<Packets<'_>>>) -> io::Result<u64> {
+pub fn next_to_end(reader: LineReader<Told<Packets<'_>>>) -> io::Result<u64> {
     let mut reader = reader;
     let mut total = length(reader.next())?;
     for _ in 0..u64::MAX {
@@ -78,7 +43,7 @@ fn next_to_end(reader: LineReader<Told<Packets<'_>>>) -> io::Result<u64> {
 
 // The first line is read apart, as a head would be.
 #[inline(never)]
-fn trimmed_to_end(reader: LineReader<Told<Packets<'_>>>) -> io::Result<u64> {
+pub fn trimmed_to_end(reader: LineReader<Told<Packets<'_>>>) -> io::Result<u64> {
     let mut reader = reader;
     let mut total = length(reader.next_trimmed())?;
     for _ in 0..u64::MAX {
@@ -91,7 +56,7 @@ fn trimmed_to_end(reader: LineReader<Told<Packets<'_>>>) -> io::Result<u64> {
 }
 
 #[inline(never)]
-fn until_end<R: BufRead + Drop>(alloc: Global, reader: R) -> io::Result<u64> {
+pub fn until_end<R: BufRead + Drop>(alloc: Global, reader: R) -> io::Result<u64> {
     let mut reader = reader;
     let mut line = Vec::new(alloc);
     let mut total = 0u64;
@@ -107,7 +72,7 @@ fn until_end<R: BufRead + Drop>(alloc: Global, reader: R) -> io::Result<u64> {
 }
 
 #[inline(never)]
-fn lines_to_end<R: BufRead + Drop>(alloc: Global, reader: R) -> io::Result<u64> {
+pub fn lines_to_end<R: BufRead + Drop>(alloc: Global, reader: R) -> io::Result<u64> {
     let mut total = 0u64;
     for line in reader.lines(alloc) {
         total = total.wrapping_add(line?.len() as u64).wrapping_add(1);

@@ -39,9 +39,9 @@ pub use seek::{SeekPlan, seek_plan};
 ///
 /// ```
 /// let mut reader = BufReader::with_capacity(alloc, 4, Told::new(b"abcdef".as_slice()))?;
-/// assert_eq!(rt; reader.fill_buf()?, b"abcd".as_slice());
+/// assert!(rt; reader.fill_buf()? == b"abcd".as_slice());
 /// reader.consume(3);
-/// assert_eq!(rt; reader.buffer(), b"d".as_slice());
+/// assert!(rt; reader.buffer() == b"d".as_slice());
 /// ```
 #[derive(Drop)]
 pub struct BufReader<R: Tell, P = StdPolicy> {

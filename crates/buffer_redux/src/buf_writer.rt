@@ -40,10 +40,10 @@ mod unwrapping;
 ///
 /// ```
 /// let mut writer = BufWriter::with_capacity(alloc, 4, Told::new(Vec::new(alloc)))?;
-/// assert_eq!(rt; writer.write(b"abc")?, 3);
-/// assert_eq!(rt; writer.buf_len(), 3);
+/// assert!(rt; writer.write(b"abc")? == 3);
+/// assert!(rt; writer.buf_len() == 3);
 /// writer.flush()?;
-/// assert_eq!(rt; writer.get_ref().get_ref().as_slice(), b"abc".as_slice());
+/// assert!(rt; writer.get_ref().get_ref().as_slice() == b"abc".as_slice());
 /// ```
 pub struct BufWriter<W: TellWrite, P = StdPolicy> {
     buf: Buffer,

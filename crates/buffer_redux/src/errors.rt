@@ -11,7 +11,7 @@ use std::{fmt, io};
 ///     Ok(reader) => drop(reader),
 ///     Err(MakeError(stream, why)) => {
 ///         assert!(rt; matches!(why, GrowError::TooLarge));
-///         assert_eq!(rt; stream.into_inner(), b"abc".as_slice());
+///         assert!(rt; stream.into_inner() == b"abc".as_slice());
 ///     }
 /// }
 /// ```
@@ -48,8 +48,8 @@ impl<T: Drop> From<MakeError<T>> for io::Error {
 /// let mut writer = BufWriter::new(alloc, Told::new(full))?;
 /// writer.write_all(b"abc")?;
 /// if let Err(failed) = writer.into_inner() {
-///     assert_eq!(rt; failed.error().kind(), ErrorKind::StorageFull);
-///     assert_eq!(rt; failed.into_inner().buf_len(), 3);
+///     assert!(rt; failed.error().kind() == ErrorKind::StorageFull);
+///     assert!(rt; failed.into_inner().buf_len() == 3);
 /// }
 /// ```
 #[derive(Debug, Drop)]

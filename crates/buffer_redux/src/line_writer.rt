@@ -32,8 +32,8 @@ use std::marker::Model;
 /// ```
 /// let mut writer = LineWriter::new(alloc, Told::new(Vec::new(alloc)))?;
 /// writer.write_all(b"one\ntwo")?;
-/// assert_eq!(rt; writer.get_ref().get_ref().as_slice(), b"one\n".as_slice());
-/// assert_eq!(rt; writer.buf_len(), 3);
+/// assert!(rt; writer.get_ref().get_ref().as_slice() == b"one\n".as_slice());
+/// assert!(rt; writer.buf_len() == 3);
 /// ```
 #[derive(Debug, Drop)]
 pub struct LineWriter<W: TellWrite> {

@@ -20,12 +20,12 @@ use std::{fmt, io};
 ///
 /// ```
 /// let mut reader = BufReader::with_capacity(alloc, 2, Told::new(b"abc".as_slice()))?;
-/// assert_eq!(rt; reader.fill_buf()?, b"ab".as_slice());
+/// assert!(rt; reader.fill_buf()? == b"ab".as_slice());
 /// let mut rest = reader.unbuffer();
 /// let mut out = [0; 4];
-/// assert_eq!(rt; rest.read(&mut out)?, 2);
+/// assert!(rt; rest.read(&mut out)? == 2);
 /// assert!(rt; rest.is_buf_empty());
-/// assert_eq!(rt; rest.read(&mut out)?, 1);
+/// assert!(rt; rest.read(&mut out)? == 1);
 /// ```
 #[derive(Drop)]
 pub struct Unbuffer<R: Tell> {

@@ -36,7 +36,7 @@ use std::{fmt, io};
 /// assert!(rt; matches!(body.read_payload(&mut out), Ok(5)));
 /// assert!(rt; matches!(body.read_payload(&mut out), Ok(0)));
 /// assert!(rt; body.is_done());
-/// assert_eq!(rt; body.into_inner().buffer(), b"GET".as_slice());
+/// assert!(rt; body.into_inner().buffer() == b"GET".as_slice());
 /// ```
 #[derive(Drop)]
 pub struct ChunkedReader<R: Tell, P = StdPolicy> {

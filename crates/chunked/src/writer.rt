@@ -31,10 +31,7 @@ use std::{fmt, io};
 /// body.write_all(b"hello")?;
 /// let mut inner = body.finish().map_err(io::Error::from)?;
 /// inner.flush()?;
-/// assert_eq!(rt;
-///     inner.get_ref().get_ref().as_slice(),
-///     b"5\r\nhello\r\n0\r\n\r\n".as_slice()
-/// );
+/// assert!(rt; inner.get_ref().get_ref().as_slice() == b"5\r\nhello\r\n0\r\n\r\n".as_slice());
 /// ```
 #[derive(Drop)]
 pub struct ChunkedWriter<W: TellWrite> {
@@ -122,9 +119,9 @@ impl<W: TellWrite> ChunkedWriter<W> {
     ///     .finish_with_trailers(&trailers)
     ///     .map_err(io::Error::from)?;
     /// inner.flush()?;
-    /// assert_eq!(rt;
-    ///     inner.get_ref().get_ref().as_slice(),
-    ///     b"5\r\nhello\r\n0\r\nExpires: never\r\nDigest: 0\r\n\r\n".as_slice()
+    /// assert!(rt;
+    ///     inner.get_ref().get_ref().as_slice()
+    ///         == b"5\r\nhello\r\n0\r\nExpires: never\r\nDigest: 0\r\n\r\n".as_slice()
     /// );
     /// ```
     pub fn finish_with_trailers(self, fields: &[&[u8]]) -> Result<BufWriter<W>, FinishError<Self>>

@@ -28,10 +28,7 @@ use std::marker::Model;
 /// let mut writer = FrameWriter::new(alloc, Told::new(Vec::new(alloc)), 4)?;
 /// assert!(rt; writer.write_frame(b"hi").is_ok());
 /// writer.flush()?;
-/// assert_eq!(rt;
-///     writer.get_ref().get_ref().as_slice(),
-///     b"\x00\x02hi".as_slice()
-/// );
+/// assert!(rt; writer.get_ref().get_ref().as_slice() == b"\x00\x02hi".as_slice());
 /// ```
 #[derive(Drop)]
 pub struct FrameWriter<W: TellWrite> {

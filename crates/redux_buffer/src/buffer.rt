@@ -20,12 +20,12 @@ mod transfer;
 ///
 /// ```
 /// let mut buffer = Buffer::with_capacity(alloc, 4)?;
-/// assert_eq!(rt; buffer.copy_from_slice(b"abcdef"), 4);
+/// assert!(rt; buffer.copy_from_slice(b"abcdef") == 4);
 /// buffer.consume(1);
-/// assert_eq!(rt; buffer.buf(), b"bcd".as_slice());
-/// assert_eq!(rt; buffer.usable_space(), 0);
+/// assert!(rt; buffer.buf() == b"bcd".as_slice());
+/// assert!(rt; buffer.usable_space() == 0);
 /// buffer.make_room();
-/// assert_eq!(rt; buffer.usable_space(), 1);
+/// assert!(rt; buffer.usable_space() == 1);
 /// ```
 #[derive(Debug, Drop)]
 pub struct Buffer {

@@ -8,7 +8,7 @@ use std::{fmt, io};
 /// let mut buffer = Buffer::with_capacity(alloc, 4)?;
 /// buffer.set_limit(6)?;
 /// assert!(rt; matches!(buffer.reserve(7), Err(GrowError::TooLarge)));
-/// assert_eq!(rt; buffer.capacity(), 4);
+/// assert!(rt; buffer.capacity() == 4);
 /// ```
 #[derive(Clone, Copy, Debug)]
 pub enum GrowError {

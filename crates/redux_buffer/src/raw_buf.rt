@@ -14,7 +14,7 @@ use std::marker::Model;
 /// ```
 /// let mut block = RawBuf::with_capacity(alloc, 2)?;
 /// block.as_mut_slice().copy_from_slice(b"ab");
-/// assert_eq!(rt; block.as_slice(), b"ab".as_slice());
+/// assert!(rt; block.as_slice() == b"ab".as_slice());
 /// ```
 #[derive(Debug, Drop)]
 pub struct RawBuf {

@@ -64,7 +64,7 @@ pub enum ReaderAnswer {
 /// )?;
 /// let answers = run.answers.as_slice();
 /// assert!(rt; matches!(answers, [ReaderAnswer::Count(2), ReaderAnswer::Shown(2)]));
-/// assert_eq!(rt; run.handed.as_slice(), b"ab".as_slice());
+/// assert!(rt; run.handed.as_slice() == b"ab".as_slice());
 /// ```
 #[derive(Debug, Drop)]
 pub struct ReaderRun {

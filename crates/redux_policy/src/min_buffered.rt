@@ -19,7 +19,7 @@ use std::io;
 /// ```
 /// let slow = ScriptReader::new(alloc, b"abcdefgh", &[Answer::ServeEach(2)])?;
 /// let mut reader = BufReader::new(alloc, Told::new(slow))?.set_policy(MinBuffered(5));
-/// assert_eq!(rt; reader.fill_buf()?, b"abcdef".as_slice());
+/// assert!(rt; reader.fill_buf()? == b"abcdef".as_slice());
 /// ```
 #[derive(Debug, Drop)]
 pub struct MinBuffered(pub usize);

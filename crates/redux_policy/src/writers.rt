@@ -12,7 +12,7 @@ use std::io;
 /// ```
 /// let mut writer = BufWriter::new(alloc, Told::new(Vec::new(alloc)))?.set_policy(FlushOn(b';'));
 /// writer.write_all(b"a;b;c")?;
-/// assert_eq!(rt; writer.get_ref().get_ref().as_slice(), b"a;b;".as_slice());
+/// assert!(rt; writer.get_ref().get_ref().as_slice() == b"a;b;".as_slice());
 /// ```
 #[derive(Debug, Default, Drop)]
 pub struct FlushOn(pub u8);
@@ -38,7 +38,7 @@ impl WriterPolicy for FlushOn {
 /// ```
 /// let mut writer = BufWriter::new(alloc, Told::new(Vec::new(alloc)))?.set_policy(FlushOnNewline);
 /// writer.write_all(b"a\nb")?;
-/// assert_eq!(rt; writer.get_ref().get_ref().as_slice(), b"a\n".as_slice());
+/// assert!(rt; writer.get_ref().get_ref().as_slice() == b"a\n".as_slice());
 /// ```
 #[derive(Debug, Default, Drop)]
 pub struct FlushOnNewline;
@@ -76,9 +76,9 @@ fn ensure_capacity(buf: &mut Buffer, capacity: usize) -> io::Result<()>
 /// ```
 /// let mut writer = BufWriter::new(alloc, Told::new(Vec::new(alloc)))?.set_policy(FlushAtLeast(3));
 /// writer.write_all(b"ab")?;
-/// assert_eq!(rt; writer.buf_len(), 2);
+/// assert!(rt; writer.buf_len() == 2);
 /// writer.write_all(b"cd")?;
-/// assert_eq!(rt; writer.buf_len(), 0);
+/// assert!(rt; writer.buf_len() == 0);
 /// ```
 #[derive(Debug, Default, Drop)]
 pub struct FlushAtLeast(pub usize);
@@ -105,8 +105,8 @@ impl WriterPolicy for FlushAtLeast {
 /// ```
 /// let mut writer = BufWriter::new(alloc, Told::new(Vec::new(alloc)))?.set_policy(FlushExact(3));
 /// writer.write_all(b"abcd")?;
-/// assert_eq!(rt; writer.get_ref().get_ref().as_slice(), b"abc".as_slice());
-/// assert_eq!(rt; writer.buf_len(), 1);
+/// assert!(rt; writer.get_ref().get_ref().as_slice() == b"abc".as_slice());
+/// assert!(rt; writer.buf_len() == 1);
 /// ```
 #[derive(Debug, Default, Drop)]
 pub struct FlushExact(pub usize);

@@ -21,7 +21,7 @@ fn chunked_reader(rt: HostRuntime) -> Result<(), Fail> {
     assert!(rt; matches!(body.read_payload(&mut out), Ok(5)));
     assert!(rt; matches!(body.read_payload(&mut out), Ok(0)));
     assert!(rt; body.is_done());
-    assert_eq!(rt; body.into_inner().buffer(), b"GET".as_slice());
+    assert!(rt; body.into_inner().buffer() == b"GET".as_slice());
     Ok(())
 }
 
@@ -54,10 +54,7 @@ fn chunked_writer(rt: HostRuntime) -> Result<(), Fail> {
     body.write_all(b"hello")?;
     let mut inner = body.finish().map_err(io::Error::from)?;
     inner.flush()?;
-    assert_eq!(rt;
-        inner.get_ref().get_ref().as_slice(),
-        b"5\r\nhello\r\n0\r\n\r\n".as_slice()
-    );
+    assert!(rt; inner.get_ref().get_ref().as_slice() == b"5\r\nhello\r\n0\r\n\r\n".as_slice());
     Ok(())
 }
 
@@ -72,9 +69,9 @@ fn trailers(rt: HostRuntime) -> Result<(), Fail> {
         .finish_with_trailers(&trailers)
         .map_err(io::Error::from)?;
     inner.flush()?;
-    assert_eq!(rt;
-        inner.get_ref().get_ref().as_slice(),
-        b"5\r\nhello\r\n0\r\nExpires: never\r\nDigest: 0\r\n\r\n".as_slice()
+    assert!(rt;
+        inner.get_ref().get_ref().as_slice()
+            == b"5\r\nhello\r\n0\r\nExpires: never\r\nDigest: 0\r\n\r\n".as_slice()
     );
     Ok(())
 }

@@ -27,9 +27,9 @@ fn under_eager(rt: HostRuntime) -> Result<(), Fail> {
     let alloc = rt.alloc();
     let source = Told::new(b"abcdef".as_slice());
     let mut reader = BufReader::with_capacity(alloc, 4, source)?.set_policy(Eager);
-    assert_eq!(rt; reader.fill_buf()?, b"abcd".as_slice());
+    assert!(rt; reader.fill_buf()? == b"abcd".as_slice());
     reader.consume(1);
-    assert_eq!(rt; reader.fill_buf()?, b"bcde".as_slice());
+    assert!(rt; reader.fill_buf()? == b"bcde".as_slice());
     Ok(())
 }
 
@@ -38,7 +38,7 @@ fn min_buffered(rt: HostRuntime) -> Result<(), Fail> {
     let alloc = rt.alloc();
     let slow = ScriptReader::new(alloc, b"abcdefgh", &[Answer::ServeEach(2)])?;
     let mut reader = BufReader::new(alloc, Told::new(slow))?.set_policy(MinBuffered(5));
-    assert_eq!(rt; reader.fill_buf()?, b"abcdef".as_slice());
+    assert!(rt; reader.fill_buf()? == b"abcdef".as_slice());
     Ok(())
 }
 
@@ -47,7 +47,7 @@ fn flush_on(rt: HostRuntime) -> Result<(), Fail> {
     let alloc = rt.alloc();
     let mut writer = BufWriter::new(alloc, Told::new(Vec::new(alloc)))?.set_policy(FlushOn(b';'));
     writer.write_all(b"a;b;c")?;
-    assert_eq!(rt; writer.get_ref().get_ref().as_slice(), b"a;b;".as_slice());
+    assert!(rt; writer.get_ref().get_ref().as_slice() == b"a;b;".as_slice());
     Ok(())
 }
 
@@ -56,7 +56,7 @@ fn flush_on_newline(rt: HostRuntime) -> Result<(), Fail> {
     let alloc = rt.alloc();
     let mut writer = BufWriter::new(alloc, Told::new(Vec::new(alloc)))?.set_policy(FlushOnNewline);
     writer.write_all(b"a\nb")?;
-    assert_eq!(rt; writer.get_ref().get_ref().as_slice(), b"a\n".as_slice());
+    assert!(rt; writer.get_ref().get_ref().as_slice() == b"a\n".as_slice());
     Ok(())
 }
 
@@ -65,9 +65,9 @@ fn flush_at_least(rt: HostRuntime) -> Result<(), Fail> {
     let alloc = rt.alloc();
     let mut writer = BufWriter::new(alloc, Told::new(Vec::new(alloc)))?.set_policy(FlushAtLeast(3));
     writer.write_all(b"ab")?;
-    assert_eq!(rt; writer.buf_len(), 2);
+    assert!(rt; writer.buf_len() == 2);
     writer.write_all(b"cd")?;
-    assert_eq!(rt; writer.buf_len(), 0);
+    assert!(rt; writer.buf_len() == 0);
     Ok(())
 }
 
@@ -76,7 +76,7 @@ fn flush_exact(rt: HostRuntime) -> Result<(), Fail> {
     let alloc = rt.alloc();
     let mut writer = BufWriter::new(alloc, Told::new(Vec::new(alloc)))?.set_policy(FlushExact(3));
     writer.write_all(b"abcd")?;
-    assert_eq!(rt; writer.get_ref().get_ref().as_slice(), b"abc".as_slice());
-    assert_eq!(rt; writer.buf_len(), 1);
+    assert!(rt; writer.get_ref().get_ref().as_slice() == b"abc".as_slice());
+    assert!(rt; writer.buf_len() == 1);
     Ok(())
 }

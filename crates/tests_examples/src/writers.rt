@@ -10,10 +10,10 @@ use std::test::Fail;
 fn buf_writer(rt: HostRuntime) -> Result<(), Fail> {
     let alloc = rt.alloc();
     let mut writer = BufWriter::with_capacity(alloc, 4, Told::new(Vec::new(alloc)))?;
-    assert_eq!(rt; writer.write(b"abc")?, 3);
-    assert_eq!(rt; writer.buf_len(), 3);
+    assert!(rt; writer.write(b"abc")? == 3);
+    assert!(rt; writer.buf_len() == 3);
     writer.flush()?;
-    assert_eq!(rt; writer.get_ref().get_ref().as_slice(), b"abc".as_slice());
+    assert!(rt; writer.get_ref().get_ref().as_slice() == b"abc".as_slice());
     Ok(())
 }
 
@@ -22,8 +22,8 @@ fn line_writer(rt: HostRuntime) -> Result<(), Fail> {
     let alloc = rt.alloc();
     let mut writer = LineWriter::new(alloc, Told::new(Vec::new(alloc)))?;
     writer.write_all(b"one\ntwo")?;
-    assert_eq!(rt; writer.get_ref().get_ref().as_slice(), b"one\n".as_slice());
-    assert_eq!(rt; writer.buf_len(), 3);
+    assert!(rt; writer.get_ref().get_ref().as_slice() == b"one\n".as_slice());
+    assert!(rt; writer.buf_len() == 3);
     Ok(())
 }
 
@@ -34,8 +34,8 @@ fn into_inner_error(rt: HostRuntime) -> Result<(), Fail> {
     let mut writer = BufWriter::new(alloc, Told::new(full))?;
     writer.write_all(b"abc")?;
     if let Err(failed) = writer.into_inner() {
-        assert_eq!(rt; failed.error().kind(), ErrorKind::StorageFull);
-        assert_eq!(rt; failed.into_inner().buf_len(), 3);
+        assert!(rt; failed.error().kind() == ErrorKind::StorageFull);
+        assert!(rt; failed.into_inner().buf_len() == 3);
     }
     Ok(())
 }

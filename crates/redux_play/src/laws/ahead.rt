@@ -71,9 +71,9 @@ pub fn peek<R: TellRead, P: ReaderPolicy>(reader: &mut BufReader<R, P>) -> io::R
 ///
 /// ```
 /// let mut reader = BufReader::new(alloc, Told::new(b"a".as_slice()))?;
-/// assert_eq!(rt; peek(&mut reader)?, Some(b'a'));
-/// assert_eq!(rt; next_byte(&mut reader)?, Some(b'a'));
-/// assert_eq!(rt; next_byte(&mut reader)?, None);
+/// assert!(rt; matches!(peek(&mut reader)?, Some(b'a')));
+/// assert!(rt; matches!(next_byte(&mut reader)?, Some(b'a')));
+/// assert!(rt; matches!(next_byte(&mut reader)?, None));
 /// ```
 pub fn next_byte<R: TellRead, P: ReaderPolicy>(
     reader: &mut BufReader<R, P>,

@@ -17,9 +17,9 @@ use std::io::Read;
 /// let script = [Answer::Serve(2), Answer::Fail(ErrorKind::TimedOut)];
 /// let mut reader = ScriptReader::new(alloc, b"abc", &script)?;
 /// let mut out = [0; 4];
-/// assert_eq!(rt; reader.read(&mut out)?, 2);
+/// assert!(rt; reader.read(&mut out)? == 2);
 /// assert!(rt; reader.read(&mut out).is_err());
-/// assert_eq!(rt; reader.read(&mut out)?, 1);
+/// assert!(rt; reader.read(&mut out)? == 1);
 /// ```
 #[derive(Debug, Drop)]
 pub struct ScriptReader {

@@ -17,8 +17,8 @@ use std::{fmt, io};
 ///
 /// ```
 /// let mut file = Told::new(Vec::<u8>::new(alloc));
-/// assert_eq!(rt; file.write_told(b"abc")?, 3);
-/// assert_eq!(rt; file.into_inner().as_slice(), b"abc".as_slice());
+/// assert!(rt; file.write_told(b"abc")? == 3);
+/// assert!(rt; file.into_inner().as_slice() == b"abc".as_slice());
 /// ```
 pub struct Told<S> {
     stream: S,

@@ -1,12 +1,9 @@
-use buffer_redux::BufReader;
-use buffer_redux::policy::MinBuffered;
-use buffer_redux::tell::Told;
 use csv::ByteRecord;
 use std::alloc::{AllocError, Global};
 use std::fs;
 use std::fs::File;
 use std::test::Fail;
-use uses::csv_rows::{read_rows, rows_in};
+use uses::csv_rows::rows_in;
 
 const TEXT: &[u8] = b"\xef\xbb\xbfport,depth\r\n\"Skagen, south\",\"7 \"\"m\"\"\"\r\nBlokhus,";
 
@@ -31,17 +28,6 @@ fn reads_rows_of_a_file(rt: HostRuntime) -> Result<(), Fail> {
     fs::write(&rt, path, TEXT)?;
     let rows = rows_in(rt.alloc(), File::open(&rt, path)?);
     fs::remove_file(&rt, path)?;
-    assert_eq!(rt; fields_of(rt.alloc(), rows?.as_slice())?.as_slice(), ROWS);
-    Ok(())
-}
-
-#[test]
-fn reads_rows_behind_a_small_buffer(rt: HostRuntime) -> Result<(), Fail> {
-    let plain = BufReader::with_capacity(rt.alloc(), 4, Told::new(TEXT))?;
-    let rows = read_rows(rt.alloc(), plain)?;
-    assert_eq!(rt; fields_of(rt.alloc(), rows.as_slice())?.as_slice(), ROWS);
-    let ring = BufReader::new_ringbuf(rt.alloc(), Told::new(TEXT))?.set_policy(MinBuffered(9));
-    let rows = read_rows(rt.alloc(), ring)?;
-    assert_eq!(rt; fields_of(rt.alloc(), rows.as_slice())?.as_slice(), ROWS);
+    assert!(rt; fields_of(rt.alloc(), rows?.as_slice())?.as_slice() == ROWS);
     Ok(())
 }

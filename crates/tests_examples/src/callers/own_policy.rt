@@ -1,6 +1,6 @@
-use buffer_redux::BufReader;
 use buffer_redux::tell::Told;
 use std::test::Fail;
+use tests_common::{reader, reader_under};
 use uses::own_policy::{HeaderFirst, sees_header};
 
 #[test]
@@ -10,8 +10,8 @@ fn sees_headers(rt: HostRuntime) -> Result<(), Fail> {
         (b"fifteen bytes..".as_slice(), false),
     ];
     for (bytes, seen) in rows {
-        let reader = BufReader::with_capacity(rt.alloc(), 4, Told::new(bytes))?;
-        assert_eq!(rt; sees_header(&mut reader.set_policy(HeaderFirst))?, seen);
+        let plain = reader(rt.alloc(), 4, b"", Told::new(bytes))?;
+        assert!(rt; sees_header(&mut reader_under(plain, HeaderFirst))? == seen);
     }
     Ok(())
 }
