@@ -1,202 +1,173 @@
-//! Whole runs.
-ghost use Rattle.std.specs.Prelude.{◌≤◌};
-
-mod hostile;
-
-use crate::run::{run, said};
-use buffer_redux::script::{Answer, ScriptReader, ScriptWriter};
-use buffer_redux::tell::Told;
-use programs::Ending;
+//! Runs over scripted streams. What a shell shows of the program stands in `tests/shell.sh`.
+use crate::run::run;
+use crate::settings::settings;
+use buffer_redux::script::{Answer, FaultAt, ScriptReader, ScriptWriter};
+use buffer_redux::tell::{TellRead, TellWrite, Told};
+use programs::{Ending, GREATEST_CAPACITY};
 use std::alloc::{AllocError, Global};
-use std::io;
 use std::io::ErrorKind;
 use std::test::Fail;
 
-// What a run answered, and what its streams gave, took and were asked.
-#[derive(Drop)]
-struct Ran {
-    answer: io::Result<u64>,
-    reader: ScriptReader,
-    writer: ScriptWriter,
-}
+const TWO: Answer = Answer::Serve(2);
 
-fn tried(
+const ONES: Answer = Answer::ServeEach(1);
+
+const OTHER: Answer = Answer::Fail(ErrorKind::Other);
+
+const OFTEN: Answer = Answer::Interrupt(64);
+
+const TOO_OFTEN: Answer = Answer::Interrupt(65);
+
+const ALWAYS: Answer = Answer::Interrupt(usize::MAX);
+
+const NEVER: (usize, Answer) = (usize::MAX, OTHER);
+
+const PLAIN: (bool, usize) = (false, 2);
+
+// Through which buffers what is copied, how the reads answer, and which call of the writer goes wrong.
+type Asked = (
+    (bool, usize),
+    &'static [u8],
+    &'static [Answer],
+    (usize, Answer),
+);
+
+// What the run returns, what was received, and how many reads and calls of the writer there were.
+type Came = (Result<u64, ErrorKind>, &'static [u8], [usize; 2]);
+
+const FAILED: Result<u64, ErrorKind> = Err(ErrorKind::Other);
+
+const INTERRUPTED: Result<u64, ErrorKind> = Err(ErrorKind::Interrupted);
+
+// Each read goes wrong in turn, and so does each write and the flush. Nothing is sent or flushed then.
+const FAULTS: [(Asked, Came); 9] = [
+    ((PLAIN, b"abcdef", &[OTHER], NEVER), (FAILED, b"", [1, 0])),
+    (
+        (PLAIN, b"abcdef", &[TWO, OTHER], NEVER),
+        (FAILED, b"ab", [2, 1]),
+    ),
+    (
+        (PLAIN, b"abcdef", &[TWO, TWO, OTHER], NEVER),
+        (FAILED, b"abcd", [3, 2]),
+    ),
+    (
+        (PLAIN, b"abcdef", &[TWO, TWO, TWO, OTHER], NEVER),
+        (FAILED, b"abcdef", [4, 3]),
+    ),
+    ((PLAIN, b"abcdef", &[], (0, OTHER)), (FAILED, b"", [1, 1])),
+    ((PLAIN, b"abcdef", &[], (1, OTHER)), (FAILED, b"ab", [2, 2])),
+    (
+        (PLAIN, b"abcdef", &[], (2, OTHER)),
+        (FAILED, b"abcd", [3, 3]),
+    ),
+    (
+        (PLAIN, b"abcdef", &[], (3, OTHER)),
+        (FAILED, b"abcdef", [4, 4]),
+    ),
+    (
+        ((false, 1), b"abc", &[], (0, Answer::Serve(0))),
+        (Err(ErrorKind::WriteZero), b"", [1, 1]),
+    ),
+];
+
+// 64 interrupted turns in a row are begun again, as often as a row comes, and the 65th ends the run.
+const INTERRUPTS: [(Asked, Came); 5] = [
+    ((PLAIN, b"abc", &[OFTEN], NEVER), (Ok(3), b"abc", [67, 3])),
+    (
+        (PLAIN, b"abc", &[OFTEN, TWO, OFTEN], NEVER),
+        (Ok(3), b"abc", [131, 3]),
+    ),
+    (
+        (PLAIN, b"abc", &[TOO_OFTEN], NEVER),
+        (INTERRUPTED, b"", [65, 0]),
+    ),
+    (
+        (PLAIN, b"abc", &[TWO, TOO_OFTEN], NEVER),
+        (INTERRUPTED, b"ab", [66, 1]),
+    ),
+    (
+        (PLAIN, b"abc", &[], (0, ALWAYS)),
+        (INTERRUPTED, b"", [1, 65]),
+    ),
+];
+
+// A plain buffer is sent when it is full, and a ring of 1 has room for all.
+const BUFFERS: [(Asked, Came); 2] = [
+    (
+        ((false, 3), b"abcde", &[ONES], NEVER),
+        (Ok(5), b"abcde", [6, 3]),
+    ),
+    (
+        ((true, 1), b"abcde", &[ONES], NEVER),
+        (Ok(5), b"abcde", [6, 2]),
+    ),
+];
+
+// One run, which promises nothing.
+fn ran<R: TellRead, W: TellWrite>(
     alloc: Global,
-    ring: bool,
-    cap: usize,
-    bytes: &[u8],
-    reads: &[Answer],
-    writes: &[Answer],
-) -> Result<Ran, AllocError>
-    requires some { 1 ≤ cap }
-    requires most { cap ≤ 1048576 }
-{
-    let reader = Told::new(ScriptReader::new(alloc, bytes, reads)?);
-    let writer = Told::new(ScriptWriter::new(alloc, writes)?);
+    (ring, cap): (bool, usize),
+    reader: R,
+    writer: W,
+) -> (Result<u64, ErrorKind>, R, W) {
+    let cap = cap.clamp(1, GREATEST_CAPACITY);
     let (answer, reader, writer) = run(alloc, ring, cap, reader, writer);
-    Ok(Ran {
-        answer,
-        reader: reader.into_inner(),
-        writer: writer.into_inner(),
-    })
+    let failed = matches!(Ending::of(&answer), Ending::Failed);
+    match answer {
+        Ok(total) => (Ok(total), reader, writer),
+        Err(e) if failed => (Err(e.kind()), reader, writer),
+        Err(_) => (Err(ErrorKind::OutOfMemory), reader, writer),
+    }
+}
+
+fn is_as(alloc: Global, (asked, came): (Asked, Came)) -> Result<bool, AllocError> {
+    let ((ring, cap), bytes, reads, (before, fault)) = asked;
+    let reader = Told::new(ScriptReader::new(alloc, bytes, reads)?);
+    let writer = ScriptWriter::new(alloc, &[])?;
+    let writer = Told::new(FaultAt::new(writer, before, fault));
+    let (answer, reader, writer) = ran(alloc, (ring, cap), reader, writer);
+    let (offers, writer) = (reader.get_ref().offers(), writer.get_ref());
+    let calls = [offers.len(), writer.calls()];
+    // What the first read is offered is all of an empty buffer.
+    let room = if ring { 4096 } else { cap };
+    let fits = offers.first() == Some(&room);
+    Ok((answer, writer.get_ref().taken(), calls) == came && fits)
 }
 
 #[test]
-fn copies_two_lines(rt: HostRuntime) -> Result<(), Fail> {
-    for ring in [false, true] {
-        let text = b"one\ntwo\n".as_slice();
-        let ran = tried(rt.alloc(), ring, 8192, text, &[], &[])?;
-        assert_eq!(rt; ran.answer?, 8);
-        assert_eq!(rt; ran.writer.taken(), text);
-        assert_eq!(rt; ran.writer.flushes(), 1);
+fn ends_as_its_streams_do(rt: HostRuntime) -> Result<(), Fail> {
+    for (at, row) in FAULTS.into_iter().enumerate() {
+        assert!(rt; is_as(rt.alloc(), row)?, "fault {at}");
+    }
+    for (at, row) in INTERRUPTS.into_iter().enumerate() {
+        assert!(rt; is_as(rt.alloc(), row)?, "interrupts {at}");
+    }
+    for (at, row) in BUFFERS.into_iter().enumerate() {
+        assert!(rt; is_as(rt.alloc(), row)?, "buffers {at}");
     }
     Ok(())
 }
 
-#[test]
-fn copies_around_the_capacity(rt: HostRuntime) -> Result<(), Fail> {
-    for cap in [1, 2, 3, 4095, 4096, 4097, 8192] {
-        for len in [cap - 1, cap, cap + 1, 2 * cap, 10000] {
-            let mut bytes = Vec::new(rt.alloc());
-            for i in 0..len {
-                bytes.push((i % 251) as u8)?;
-            }
-            for ring in [false, true] {
-                let ran = tried(rt.alloc(), ring, cap, bytes.as_slice(), &[], &[])?;
-                assert_eq!(rt; ran.answer?, len as u64);
-                assert!(rt;
-                    ran.writer.taken() == bytes.as_slice(),
-                    "{len} bytes through {cap}"
-                );
-            }
-        }
+// What these words ask for.
+fn asked(alloc: Global, words: &[&str]) -> Result<Option<(bool, usize)>, AllocError> {
+    let mut owned = Vec::new(alloc);
+    for word in words {
+        owned.push(String::from_str(alloc, *word)?)?;
     }
-    Ok(())
+    Ok(settings(owned.as_slice()))
 }
 
+// Which words it refuses, the program shows.
 #[test]
-fn tells_how_a_run_ended(rt: HostRuntime) -> Result<(), Fail> {
-    let failed = |kind| Ending::of_fault(&io::Error::from(kind));
-    for (ending, status, line) in [
-        (Ending::of(&Ok(7)), 0, ""),
-        (
-            failed(ErrorKind::WriteZero),
-            1,
-            "bufcopy: read or write failed",
-        ),
-        (Ending::Usage, 2, "usage: bufcopy [std|ring] [CAPACITY]"),
-        (failed(ErrorKind::OutOfMemory), 3, "bufcopy: out of memory"),
-    ] {
-        assert_eq!(rt; ending.status(), status, "of {ending:?}");
-        let text = format!(in rt.alloc(); "{}", said(ending))?;
-        assert_eq!(rt; text.as_str(), line, "of {ending:?}");
-    }
-    Ok(())
-}
-
-#[test]
-fn ends_at_the_first_fault(rt: HostRuntime) -> Result<(), Fail> {
-    let other = Answer::Fail(ErrorKind::Other);
-    let many = Answer::Interrupt(65);
-    let two = Answer::Serve(2);
-    let none: &[Answer] = &[];
-    for (bytes, reads, writes, kind, taken) in [
-        // A write takes nothing of something.
-        (
-            b"abc".as_slice(),
-            none,
-            [Answer::ServeEach(0)].as_slice(),
-            ErrorKind::WriteZero,
-            b"".as_slice(),
-        ),
-        // A read fails: the first, the second, the third, and the one at the end.
-        (b"abcdef", &[other], none, ErrorKind::Other, b""),
-        (b"abcdef", &[two, other], none, ErrorKind::Other, b"ab"),
-        (
-            b"abcdef",
-            &[two, two, other],
-            none,
-            ErrorKind::Other,
-            b"abcd",
-        ),
-        (
-            b"abcdef",
-            &[two, two, two, other],
-            none,
-            ErrorKind::Other,
-            b"abcdef",
-        ),
-        // A write fails.
-        (b"abcdef", none, &[other], ErrorKind::Other, b""),
-        (b"abcdef", none, &[two, other], ErrorKind::Other, b"ab"),
-        (
-            b"abcdef",
-            none,
-            &[two, two, other],
-            ErrorKind::Other,
-            b"abcd",
-        ),
-        // The reader is interrupted too often in a row.
-        (b"abcdef", &[many], none, ErrorKind::Interrupted, b""),
-        (b"abcdef", &[two, many], none, ErrorKind::Interrupted, b"ab"),
-    ] {
-        let ran = tried(rt.alloc(), false, 2, bytes, reads, writes)?;
-        assert_eq!(rt; ran.answer.as_ref().err().map(io::Error::kind), Some(kind));
-        assert_eq!(rt; ran.writer.taken(), taken, "after {kind:?}");
-        assert!(rt; matches!(Ending::of(&ran.answer), Ending::Failed));
-    }
-    Ok(())
-}
-
-// 64 interrupted turns in a row are begun again, as often as a row comes.
-#[test]
-fn goes_on_after_interrupts(rt: HostRuntime) -> Result<(), Fail> {
-    let rows = [
-        Answer::Interrupt(64),
-        Answer::Serve(2),
-        Answer::Interrupt(64),
+fn reads_the_words(rt: HostRuntime) -> Result<(), Fail> {
+    let rows: [(&[&str], (bool, usize)); 4] = [
+        (&[], (false, 8192)),
+        (&["ring"], (true, 8192)),
+        (&["64"], (false, 64)),
+        (&["ring", "64"], (true, 64)),
     ];
-    let none: &[Answer] = &[];
-    for (reads, writes) in [(rows.as_slice(), none), (none, rows.as_slice())] {
-        let ran = tried(rt.alloc(), false, 2, b"abc", reads, writes)?;
-        assert_eq!(rt; ran.answer?, 3);
-        assert_eq!(rt; ran.writer.taken(), b"abc".as_slice());
-        assert_eq!(rt; ran.writer.flushes(), 1);
-    }
-    Ok(())
-}
-
-// The offers show the kind and the capacity of both buffers: a ring of 1 has room for 4096 bytes.
-#[test]
-fn makes_the_buffers_asked_for(rt: HostRuntime) -> Result<(), Fail> {
-    let each = [Answer::ServeEach(1)];
-    let (plain, whole): (&[usize], &[usize]) = (&[3, 2], &[5]);
-    for (ring, cap, room, offers) in [(false, 3, 3, plain), (true, 1, 4096, whole)] {
-        let ran = tried(rt.alloc(), ring, cap, b"abcde", &each, &[])?;
-        assert_eq!(rt; ran.answer?, 5);
-        assert_eq!(rt; ran.reader.offers(), [room; 6].as_slice());
-        assert_eq!(rt; ran.writer.offers(), offers);
-    }
-    Ok(())
-}
-
-// After a fault nothing more is sent or flushed, also where the writer would take it.
-#[test]
-fn sends_nothing_after_a_fault(rt: HostRuntime) -> Result<(), Fail> {
-    let read_fails = [Answer::Serve(1), Answer::Fail(ErrorKind::Other)];
-    let ran = tried(rt.alloc(), false, 4, b"ab", &read_fails, &[])?;
-    assert_eq!(rt; ran.answer.err().map(|e| e.kind()), Some(ErrorKind::Other));
-    assert!(rt; ran.writer.offers().is_empty());
-    assert_eq!(rt; ran.writer.flushes(), 0);
-
-    for (cap, offer) in [(1, 1), (2, 2)] {
-        let ran = tried(rt.alloc(), false, cap, b"abc", &[], &[Answer::Serve(0)])?;
-        assert_eq!(rt;
-            ran.answer.err().map(|e| e.kind()),
-            Some(ErrorKind::WriteZero)
-        );
-        assert_eq!(rt; ran.writer.offers(), [offer].as_slice());
-        assert_eq!(rt; ran.writer.flushes(), 0);
+    for (words, want) in rows {
+        assert!(rt; asked(rt.alloc(), words)? == Some(want), "of {words:?}");
     }
     Ok(())
 }

@@ -1,294 +1,158 @@
-//! Whole runs.
+//! Runs over scripted streams. What a shell shows of the program stands in `tests/shell.sh`.
 use crate::ending::Ending;
 use crate::error::RunError;
 use crate::pack::pack;
 use crate::unpack::unpack;
-use buffer_redux::script::{Answer, ScriptReader, ScriptWriter};
-use buffer_redux::tell::Told;
+use buffer_redux::script::{Answer, FaultAt, ScriptReader, ScriptWriter};
+use buffer_redux::tell::{TellRead, TellWrite, Told};
 use std::alloc::{AllocError, Global};
-use std::io;
 use std::io::ErrorKind;
 use std::test::Fail;
 
-// What a run answered, and its writer.
-#[derive(Drop)]
-struct Ran {
-    answer: Result<(), RunError>,
-    writer: ScriptWriter,
-}
+const TWO: Answer = Answer::Serve(2);
 
-#[derive(Clone, Copy, Debug)]
-enum Way {
-    Pack,
-    Unpack,
-}
+const ONES: Answer = Answer::ServeEach(1);
 
-// A run whose lines and payloads may have three bytes.
-fn tried(
-    alloc: Global,
-    way: Way,
-    bytes: &[u8],
-    reads: &[Answer],
-    writes: &[Answer],
-) -> Result<Ran, AllocError> {
-    let reader = Told::new(ScriptReader::new(alloc, bytes, reads)?);
-    let writer = Told::new(ScriptWriter::new(alloc, writes)?);
-    let (answer, _, writer) = match way {
-        Way::Pack => pack(alloc, 3, reader, writer),
-        Way::Unpack => unpack(alloc, 3, reader, writer),
-    };
-    Ok(Ran {
-        answer,
-        writer: writer.into_inner(),
-    })
-}
+const OTHER: Answer = Answer::Fail(ErrorKind::Other);
 
-// Each text, the frames of its lines, and whether their payloads are the text again.
-const TEXTS: [(&[u8], &[u8], bool); 7] = [
-    (b"", b"", true),
-    (b"\n", b"\x00\x00", true),
-    (b"abc\n", b"\x00\x03abc", true),
-    (b"a\n\nbcd\n", b"\x00\x01a\x00\x00\x00\x03bcd", true),
-    (b"a\r\n\x00\n", b"\x00\x02a\r\x00\x01\x00", true),
-    (b"abc", b"\x00\x03abc", false),
-    (b"a\nbc", b"\x00\x01a\x00\x02bc", false),
+const OFTEN: Answer = Answer::Interrupt(64);
+
+const TOO_OFTEN: Answer = Answer::Interrupt(65);
+
+const NEVER: (usize, Answer) = (usize::MAX, OTHER);
+
+// What is given, how the reads answer, and which call of the writer goes wrong.
+type Asked = (&'static [u8], &'static [Answer], (usize, Answer));
+
+// The status, the kind of a fault, what was sent, and how many reads and calls of the writer there were.
+type Came = (u8, Option<ErrorKind>, &'static [u8], [usize; 2]);
+
+const FAILED: Option<ErrorKind> = Some(ErrorKind::Other);
+
+const INTERRUPTED: Option<ErrorKind> = Some(ErrorKind::Interrupted);
+
+// Lines and payloads may have three bytes. Of a reader that gave nothing no more is asked, and after a fault nothing is sent.
+const PACKED: [(Asked, Came); 12] = [
+    (
+        (b"a\n\nbc\n", &[], NEVER),
+        (0, None, b"\x00\x01a\x00\x00\x00\x02bc", [2, 2]),
+    ),
+    (
+        (b"a\nbc", &[ONES], (0, ONES)),
+        (0, None, b"\x00\x01a\x00\x02bc", [5, 8]),
+    ),
+    (
+        (b"ab\nabcd\nc\n", &[ONES], NEVER),
+        (4, None, b"\x00\x02ab", [7, 2]),
+    ),
+    ((b"ab\n", &[OTHER], NEVER), (1, FAILED, b"", [1, 0])),
+    ((b"ab\n", &[TWO, OTHER], NEVER), (1, FAILED, b"", [2, 0])),
+    (
+        (b"ab\n", &[TWO, TWO, OTHER], NEVER),
+        (1, FAILED, b"", [3, 0]),
+    ),
+    ((b"ab\n", &[], (0, OTHER)), (1, FAILED, b"", [2, 1])),
+    (
+        (b"ab\n", &[], (0, Answer::Serve(0))),
+        (1, Some(ErrorKind::WriteZero), b"", [2, 1]),
+    ),
+    (
+        (b"ab\n", &[], (1, OTHER)),
+        (1, FAILED, b"\x00\x02ab", [2, 2]),
+    ),
+    (
+        (b"ab\n", &[OFTEN, TWO, OFTEN], NEVER),
+        (0, None, b"\x00\x02ab", [131, 2]),
+    ),
+    (
+        (b"ab\n", &[TWO, TOO_OFTEN], NEVER),
+        (1, INTERRUPTED, b"", [66, 0]),
+    ),
+    (
+        (b"ab\n", &[], (0, TOO_OFTEN)),
+        (1, INTERRUPTED, b"", [2, 65]),
+    ),
 ];
 
-#[test]
-fn goes_there_and_back(rt: HostRuntime) -> Result<(), Fail> {
-    for (text, frames, same) in TEXTS {
-        for most in [usize::MAX, 2, 1] {
-            let each = [Answer::ServeEach(most)];
-            let packed = tried(rt.alloc(), Way::Pack, text, &each, &each)?;
-            assert_eq!(rt; Ending::of(&packed.answer).status(), 0, "of {text:?}");
-            assert_eq!(rt; packed.writer.taken(), frames);
-            assert_eq!(rt; packed.writer.flushes(), 1);
-            let back = tried(rt.alloc(), Way::Unpack, frames, &each, &each)?;
-            assert_eq!(rt; Ending::of(&back.answer).status(), 0, "of {text:?}");
-            assert_eq!(rt; back.writer.taken() == text, same, "of {text:?}");
-            assert_eq!(rt; back.writer.flushes(), 1);
-        }
+const UNPACKED: [(Asked, Came); 11] = [
+    (
+        (b"\x00\x01a\x00\x00", &[], NEVER),
+        (0, None, b"a\n\n", [2, 2]),
+    ),
+    (
+        (b"\x00\x01a\x00\x00", &[ONES], (0, ONES)),
+        (0, None, b"a\n\n", [6, 4]),
+    ),
+    (
+        (b"\x00\x02ab\x00\x04abcd", &[ONES], NEVER),
+        (4, None, b"ab\n", [6, 2]),
+    ),
+    (
+        (b"\x00\x02ab\x00", &[ONES], NEVER),
+        (5, None, b"ab\n", [6, 2]),
+    ),
+    ((b"\x00\x02ab", &[OTHER], NEVER), (1, FAILED, b"", [1, 0])),
+    (
+        (b"\x00\x02ab", &[TWO, TWO, OTHER], NEVER),
+        (1, FAILED, b"", [3, 0]),
+    ),
+    ((b"\x00\x02ab", &[], (0, OTHER)), (1, FAILED, b"", [2, 1])),
+    (
+        (b"\x00\x02ab", &[], (1, OTHER)),
+        (1, FAILED, b"ab\n", [2, 2]),
+    ),
+    // The buffer is full before the last frame.
+    (
+        (b"\x00\x03abc\x00\x03def\x00\x03ghi", &[], (0, OTHER)),
+        (1, FAILED, b"", [1, 1]),
+    ),
+    (
+        (b"\x00\x02ab", &[OFTEN, TWO, OFTEN], NEVER),
+        (0, None, b"ab\n", [131, 2]),
+    ),
+    (
+        (b"\x00\x02ab", &[TWO, TOO_OFTEN], NEVER),
+        (1, INTERRUPTED, b"", [66, 0]),
+    ),
+];
+
+// One run, which promises nothing.
+fn ran<R: TellRead, W: TellWrite>(
+    alloc: Global,
+    packs: bool,
+    reader: R,
+    writer: W,
+) -> (u8, Option<ErrorKind>, R, W) {
+    let (answer, reader, writer) = if packs {
+        pack(alloc, 3, reader, writer)
+    } else {
+        unpack(alloc, 3, reader, writer)
+    };
+    let status = Ending::of(&answer).status();
+    match answer {
+        Err(RunError::Io(e)) => (status, Some(e.kind()), reader, writer),
+        _ => (status, None, reader, writer),
     }
-    Ok(())
 }
 
-// What stands before the bytes that end a run was sent, whole.
-#[test]
-fn ends_at_what_does_not_fit(rt: HostRuntime) -> Result<(), Fail> {
-    for (way, bytes, status, sent) in [
-        (
-            Way::Pack,
-            b"ab\nabcd\nc\n".as_slice(),
-            4,
-            b"\x00\x02ab".as_slice(),
-        ),
-        (Way::Pack, b"abcd", 4, b""),
-        (Way::Unpack, b"\x00\x02ab\x00\x04abcd\x00\x01c", 4, b"ab\n"),
-        (Way::Unpack, b"\x01\x00", 4, b""),
-        (Way::Unpack, b"\x00\x02ab\x00\x02c", 5, b"ab\n"),
-        (Way::Unpack, b"\x00", 5, b""),
-    ] {
-        for most in [usize::MAX, 1] {
-            let each = [Answer::ServeEach(most)];
-            let ran = tried(rt.alloc(), way, bytes, &each, &each)?;
-            assert_eq!(rt;
-                Ending::of(&ran.answer).status(),
-                status,
-                "{way:?} of {bytes:?}"
-            );
-            assert_eq!(rt; ran.writer.taken(), sent);
-            assert_eq!(rt; ran.writer.flushes(), 1);
-        }
-    }
-    Ok(())
-}
-
-#[test]
-fn ends_at_the_first_fault(rt: HostRuntime) -> Result<(), Fail> {
-    let other = Answer::Fail(ErrorKind::Other);
-    let two = Answer::Serve(2);
-    let none: &[Answer] = &[];
-    for (way, bytes, reads, writes, kind, sent) in [
-        // A read fails: the first, a later one, and the one at the end.
-        (
-            Way::Pack,
-            b"ab\n".as_slice(),
-            [other].as_slice(),
-            none,
-            ErrorKind::Other,
-            b"".as_slice(),
-        ),
-        (
-            Way::Pack,
-            b"ab\n",
-            &[two, other],
-            none,
-            ErrorKind::Other,
-            b"",
-        ),
-        (
-            Way::Pack,
-            b"ab\n",
-            &[two, two, other],
-            none,
-            ErrorKind::Other,
-            b"",
-        ),
-        (
-            Way::Unpack,
-            b"\x00\x02ab",
-            &[other],
-            none,
-            ErrorKind::Other,
-            b"",
-        ),
-        (
-            Way::Unpack,
-            b"\x00\x02ab",
-            &[two, two, other],
-            none,
-            ErrorKind::Other,
-            b"",
-        ),
-        // A write fails, or takes nothing.
-        (Way::Pack, b"ab\n", none, &[other], ErrorKind::Other, b""),
-        (
-            Way::Pack,
-            b"ab\n",
-            none,
-            &[two, other],
-            ErrorKind::Other,
-            b"\x00\x02",
-        ),
-        (
-            Way::Pack,
-            b"ab\n",
-            none,
-            &[Answer::Serve(0)],
-            ErrorKind::WriteZero,
-            b"",
-        ),
-        (
-            Way::Unpack,
-            b"\x00\x02ab",
-            none,
-            &[other],
-            ErrorKind::Other,
-            b"",
-        ),
-        (
-            Way::Unpack,
-            b"\x00\x02ab",
-            none,
-            &[two, other],
-            ErrorKind::Other,
-            b"ab",
-        ),
-        // The buffer is full before the last frame.
-        (
-            Way::Unpack,
-            b"\x00\x03abc\x00\x03def\x00\x03ghi",
-            none,
-            &[other],
-            ErrorKind::Other,
-            b"",
-        ),
-    ] {
-        let ran = tried(rt.alloc(), way, bytes, reads, writes)?;
-        assert!(rt; matches!(&ran.answer, Err(RunError::Io(e)) if e.kind() == kind));
-        assert_eq!(rt; Ending::of(&ran.answer).status(), 1);
-        assert_eq!(rt; ran.writer.taken(), sent);
-        assert_eq!(rt; ran.writer.flushes(), 0);
-    }
-    Ok(())
-}
-
-// 64 interrupted reads in a row are tried again, as often as a row comes, and the 65th ends the run.
-#[test]
-fn tries_interrupted_reads_again(rt: HostRuntime) -> Result<(), Fail> {
-    let rows = [
-        Answer::Interrupt(64),
-        Answer::Serve(2),
-        Answer::Interrupt(64),
-    ];
-    let many = [Answer::Serve(2), Answer::Interrupt(65)];
-    for (way, bytes, sent) in [
-        (Way::Pack, b"abc\n".as_slice(), b"\x00\x03abc".as_slice()),
-        (Way::Unpack, b"\x00\x03abc", b"abc\n"),
-    ] {
-        let ran = tried(rt.alloc(), way, bytes, &rows, &[])?;
-        assert_eq!(rt; Ending::of(&ran.answer).status(), 0);
-        assert_eq!(rt; ran.writer.taken(), sent);
-        let ran = tried(rt.alloc(), way, bytes, &many, &[])?;
-        assert!(rt;
-            matches!(&ran.answer, Err(RunError::Io(e)) if e.kind() == ErrorKind::Interrupted)
-        );
-        assert!(rt; ran.writer.taken().is_empty());
-    }
-    Ok(())
+fn is_as(alloc: Global, packs: bool, (asked, came): (Asked, Came)) -> Result<bool, AllocError> {
+    let (bytes, reads, (before, fault)) = asked;
+    let reader = Told::new(ScriptReader::new(alloc, bytes, reads)?);
+    let writer = ScriptWriter::new(alloc, &[])?;
+    let writer = Told::new(FaultAt::new(writer, before, fault));
+    let (status, kind, reader, writer) = ran(alloc, packs, reader, writer);
+    let writer = writer.get_ref();
+    let calls = [reader.get_ref().offers().len(), writer.calls()];
+    Ok((status, kind, writer.get_ref().taken(), calls) == came)
 }
 
 #[test]
-fn takes_the_longest(rt: HostRuntime) -> Result<(), Fail> {
-    let alloc = rt.alloc();
-    for (len, status, sent) in [(65535, 0, 65537), (65536, 4, 0)] {
-        let mut line = Vec::new(alloc);
-        line.resize(len, 0x41)?;
-        line.push(b'\n')?;
-        let reader = Told::new(ScriptReader::new(alloc, line.as_slice(), &[])?);
-        let writer = Told::new(ScriptWriter::new(alloc, &[])?);
-        let (answer, _, writer) = pack(alloc, u16::MAX, reader, writer);
-        assert_eq!(rt; Ending::of(&answer).status(), status);
-        assert_eq!(rt; writer.get_ref().taken().len(), sent);
+fn ends_as_its_streams_do(rt: HostRuntime) -> Result<(), Fail> {
+    for (at, row) in PACKED.into_iter().enumerate() {
+        assert!(rt; is_as(rt.alloc(), true, row)?, "pack {at}");
     }
-    Ok(())
-}
-
-// Lines that are buffered whole cost no read, and a reader that gave nothing isn't called again.
-#[test]
-fn asks_no_more_than_it_needs(rt: HostRuntime) -> Result<(), Fail> {
-    let alloc = rt.alloc();
-    let text = b"a\n\nbc\n\n".as_slice();
-    for (most, asks) in [(usize::MAX, 2), (2, 5)] {
-        let each = [Answer::ServeEach(most)];
-        let reader = Told::new(ScriptReader::new(alloc, text, &each)?);
-        let writer = Told::new(ScriptWriter::new(alloc, &[])?);
-        let (answer, reader, _) = pack(alloc, 3, reader, writer);
-        assert_eq!(rt; Ending::of(&answer).status(), 0);
-        assert_eq!(rt; reader.get_ref().offers().len(), asks);
-    }
-    Ok(())
-}
-
-#[test]
-fn tells_how_a_run_ended(rt: HostRuntime) -> Result<(), Fail> {
-    let failed = |kind| Ending::of(&Err(RunError::Io(io::Error::from(kind))));
-    for (ending, status, line) in [
-        (Ending::of(&Ok(())), 0, ""),
-        (
-            failed(ErrorKind::WriteZero),
-            1,
-            "frames: read or write failed",
-        ),
-        (
-            Ending::Usual(programs::Ending::Usage),
-            2,
-            "usage: frames pack|unpack",
-        ),
-        (failed(ErrorKind::OutOfMemory), 3, "frames: out of memory"),
-        (
-            Ending::TooLong,
-            4,
-            "frames: a line or a frame has more than 65535 bytes",
-        ),
-        (
-            Ending::Truncated,
-            5,
-            "frames: the input ends within a frame",
-        ),
-    ] {
-        assert_eq!(rt; ending.status(), status, "of {ending:?}");
-        assert_eq!(rt; format!(in rt.alloc(); "{ending}")?.as_str(), line);
+    for (at, row) in UNPACKED.into_iter().enumerate() {
+        assert!(rt; is_as(rt.alloc(), false, row)?, "unpack {at}");
     }
     Ok(())
 }

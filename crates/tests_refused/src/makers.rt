@@ -1,221 +1,188 @@
 //! Makers of either kind: a refused one hands its stream back as it was, and the same one asked again answers.
-use crate::seen::digest;
 use crate::streams::{Sink, Source, empty_sink, reading};
-use crate::trial::{Stop, Trial, granted, is};
-use buffer_redux::tell::Told;
+use crate::trial::{Trial, Wrong, digest, granted, is};
+use buffer_redux::tell::{Tell, TellRead, TellWrite, Told};
 use buffer_redux::{
     BufImpl, BufReader, BufWriter, Buffer, GrowError, LineWriter, MAX_CAPACITY, MAX_RING,
     MakeError, RawBuf, SliceDequeBuf, StdBuf,
 };
 use frame_reader::{FrameReader, FrameWriter};
 use std::alloc::Global;
+use std::fmt::Debug;
+use tests_common::empty;
 
-// What is made.
-#[derive(Clone, Copy)]
-enum What {
-    Raw,
-    Std,
-    Deque,
-    Block,
-    Buffer,
-    Reader,
-    Frames,
-    Writer,
-    Lines,
-    FrameLines,
-}
-
-// By which of its makers.
+// By which of its makers something is made.
 #[derive(Clone, Copy)]
 enum Form {
     Usual,
     UsualRing,
-    Plain(usize),
-    Ring(usize),
+    Plain,
+    Ring,
 }
 
-// The stream that goes into it, if one does.
-#[derive(Debug, Drop)]
-enum Stream {
-    None,
-    Source(Told<Source<'static>>),
-    Sink(Sink),
-}
+// Each, and the capacity that it gives: the last two are asked for 4 bytes.
+const FORMS: [(Form, usize); 4] = [
+    (Form::Usual, 8192),
+    (Form::UsualRing, 8192),
+    (Form::Plain, 4),
+    (Form::Ring, 4096),
+];
 
-#[derive(Drop)]
-struct Refused(Stream, GrowError);
-
-impl From<GrowError> for Refused {
-    fn from(error: GrowError) -> Self {
-        Refused(Stream::None, error)
-    }
-}
-
-impl From<MakeError<Told<Source<'static>>>> for Refused {
-    fn from(error: MakeError<Told<Source<'static>>>) -> Self {
-        Refused(Stream::Source(error.0), error.1)
-    }
-}
-
-impl From<MakeError<Sink>> for Refused {
-    fn from(error: MakeError<Sink>) -> Self {
-        Refused(Stream::Sink(error.0), error.1)
-    }
-}
-
-fn block_of(alloc: Global, what: What, form: Form) -> Result<usize, GrowError> {
-    let n = match form {
-        Form::Plain(n) | Form::Ring(n) => n,
-        _ => 8192,
-    };
-    Ok(match (what, form) {
-        (What::Raw, _) => RawBuf::with_capacity(alloc, n)?.capacity(),
-        (What::Std, _) => StdBuf::with_capacity(alloc, n)?.capacity(),
-        (What::Deque, _) => SliceDequeBuf::with_capacity(alloc, n)?.capacity(),
-        (What::Block, Form::Plain(n)) => BufImpl::with_capacity(alloc, n)?.capacity(),
-        (What::Block, _) => BufImpl::with_capacity_ringbuf(alloc, n)?.capacity(),
-        (_, Form::Usual) => Buffer::new(alloc)?.capacity(),
-        (_, Form::UsualRing) => Buffer::new_ringbuf(alloc)?.capacity(),
-        (_, Form::Plain(n)) => Buffer::with_capacity(alloc, n)?.capacity(),
-        (_, Form::Ring(n)) => Buffer::with_capacity_ringbuf(alloc, n)?.capacity(),
+// The capacity of what is made, a block for 4 bytes or a buffer.
+fn block(alloc: Global, which: usize) -> Result<usize, GrowError> {
+    Ok(match which {
+        0 => RawBuf::with_capacity(alloc, 4)?.capacity(),
+        1 => StdBuf::with_capacity(alloc, 4)?.capacity(),
+        2 => BufImpl::with_capacity(alloc, 4)?.capacity(),
+        3 => SliceDequeBuf::with_capacity(alloc, 4)?.capacity(),
+        4 => BufImpl::with_capacity_ringbuf(alloc, 4)?.capacity(),
+        5 => Buffer::with_capacity(alloc, 4)?.capacity(),
+        6 => Buffer::with_capacity_ringbuf(alloc, 4)?.capacity(),
+        7 => Buffer::new(alloc)?.capacity(),
+        _ => Buffer::new_ringbuf(alloc)?.capacity(),
     })
 }
 
-fn reader_of(
+const BLOCKS: [usize; 9] = [4, 4, 4, 4096, 4096, 4, 4096, 8192, 8192];
+
+// What is made over a stream.
+trait Made<S>: Drop + Sized {
+    fn made(alloc: Global, form: Form, inner: S) -> Result<Self, MakeError<S>>;
+
+    fn room(&self) -> usize;
+}
+
+impl<R: Tell + Drop> Made<R> for BufReader<R> {
+    fn made(alloc: Global, form: Form, inner: R) -> Result<Self, MakeError<R>> {
+        match form {
+            Form::Usual => BufReader::new(alloc, inner),
+            Form::UsualRing => BufReader::new_ringbuf(alloc, inner),
+            Form::Plain => BufReader::with_capacity(alloc, 4, inner),
+            Form::Ring => BufReader::with_capacity_ringbuf(alloc, 4, inner),
+        }
+    }
+
+    fn room(&self) -> usize {
+        self.capacity()
+    }
+}
+
+impl<W: TellWrite + Drop> Made<W> for BufWriter<W> {
+    fn made(alloc: Global, form: Form, inner: W) -> Result<Self, MakeError<W>> {
+        match form {
+            Form::Usual => BufWriter::new(alloc, inner),
+            Form::UsualRing => BufWriter::new_ringbuf(alloc, inner),
+            Form::Plain => BufWriter::with_capacity(alloc, 4, inner),
+            Form::Ring => BufWriter::with_capacity_ringbuf(alloc, 4, inner),
+        }
+    }
+
+    fn room(&self) -> usize {
+        self.capacity()
+    }
+}
+
+impl<W: TellWrite + Drop> Made<W> for LineWriter<W> {
+    fn made(alloc: Global, form: Form, inner: W) -> Result<Self, MakeError<W>> {
+        match form {
+            Form::Usual => LineWriter::new(alloc, inner),
+            Form::UsualRing => LineWriter::new_ringbuf(alloc, inner),
+            Form::Plain => LineWriter::with_capacity(alloc, 4, inner),
+            Form::Ring => LineWriter::with_capacity_ringbuf(alloc, 4, inner),
+        }
+    }
+
+    fn room(&self) -> usize {
+        self.capacity()
+    }
+}
+
+// Frames have one maker, and don't tell their capacity.
+impl<R: TellRead + Drop> Made<R> for FrameReader<R> {
+    fn made(alloc: Global, _form: Form, inner: R) -> Result<Self, MakeError<R>> {
+        FrameReader::new(alloc, inner, 3)
+    }
+
+    fn room(&self) -> usize {
+        0
+    }
+}
+
+impl<W: TellWrite + Drop> Made<W> for FrameWriter<W> {
+    fn made(alloc: Global, _form: Form, inner: W) -> Result<Self, MakeError<W>> {
+        FrameWriter::new(alloc, inner, 3)
+    }
+
+    fn room(&self) -> usize {
+        0
+    }
+}
+
+// The capacity of what is made.
+fn makes<T: Made<S>, S: Debug + Drop>(
     alloc: Global,
+    trial: &mut Trial,
     form: Form,
-    stream: Told<Source<'static>>,
-) -> Result<BufReader<Told<Source<'static>>>, MakeError<Told<Source<'static>>>> {
-    match form {
-        Form::Usual => BufReader::new(alloc, stream),
-        Form::UsualRing => BufReader::new_ringbuf(alloc, stream),
-        Form::Plain(n) => BufReader::with_capacity(alloc, n, stream),
-        Form::Ring(n) => BufReader::with_capacity_ringbuf(alloc, n, stream),
-    }
-}
-
-fn writer_of(alloc: Global, form: Form, sink: Sink) -> Result<BufWriter<Sink>, MakeError<Sink>> {
-    match form {
-        Form::Usual => BufWriter::new(alloc, sink),
-        Form::UsualRing => BufWriter::new_ringbuf(alloc, sink),
-        Form::Plain(n) => BufWriter::with_capacity(alloc, n, sink),
-        Form::Ring(n) => BufWriter::with_capacity_ringbuf(alloc, n, sink),
-    }
-}
-
-fn lines_of(alloc: Global, form: Form, sink: Sink) -> Result<LineWriter<Sink>, MakeError<Sink>> {
-    match form {
-        Form::Usual => LineWriter::new(alloc, sink),
-        Form::UsualRing => LineWriter::new_ringbuf(alloc, sink),
-        Form::Plain(n) => LineWriter::with_capacity(alloc, n, sink),
-        Form::Ring(n) => LineWriter::with_capacity_ringbuf(alloc, n, sink),
-    }
-}
-
-// The capacity of what is made, which is dropped. Frames don't tell theirs.
-fn made(alloc: Global, what: What, form: Form, stream: Stream) -> Result<usize, Refused> {
-    match (what, stream) {
-        (What::Frames, Stream::Source(source)) => {
-            let _ = FrameReader::new(alloc, source, 3)?;
-            Ok(8192)
-        }
-        (What::FrameLines, Stream::Sink(sink)) => {
-            let _ = FrameWriter::new(alloc, sink, 3)?;
-            Ok(8192)
-        }
-        (What::Lines, Stream::Sink(sink)) => Ok(lines_of(alloc, form, sink)?.capacity()),
-        (_, Stream::Source(source)) => Ok(reader_of(alloc, form, source)?.capacity()),
-        (_, Stream::Sink(sink)) => Ok(writer_of(alloc, form, sink)?.capacity()),
-        (_, Stream::None) => Ok(block_of(alloc, what, form)?),
-    }
-}
-
-fn stream_for(what: What) -> Stream {
-    match what {
-        What::Reader | What::Frames => Stream::Source(reading(b"ab\ncd")),
-        What::Writer | What::Lines | What::FrameLines => Stream::Sink(empty_sink()),
-        _ => Stream::None,
-    }
-}
-
-fn makes(alloc: Global, trial: &mut Trial, what: What, form: Form) -> Result<usize, Stop> {
-    let stream = stream_for(what);
-    let before = digest(&stream);
-    match made(alloc, what, form, stream) {
-        Ok(capacity) => Ok(capacity),
-        Err(Refused(stream, e)) => {
-            trial.refused(e, digest(&stream) == before)?;
-            granted(made(alloc, what, form, stream))
+    inner: S,
+) -> Result<usize, Wrong> {
+    let before = digest(&inner);
+    match T::made(alloc, form, inner) {
+        Ok(it) => Ok(it.room()),
+        Err(MakeError(inner, e)) => {
+            trial.refused(e, digest(&inner) == before)?;
+            Ok(granted(T::made(alloc, form, inner))?.room())
         }
     }
 }
 
-pub fn blocks(alloc: Global, trial: &mut Trial) -> Result<(), Stop> {
-    for (what, form, capacity) in [
-        (What::Raw, Form::Plain(4), 4),
-        (What::Std, Form::Plain(4), 4),
-        (What::Deque, Form::Ring(4), 4096),
-        (What::Block, Form::Plain(4), 4),
-        (What::Block, Form::Ring(4), 4096),
-        (What::Frames, Form::Usual, 8192),
-        (What::FrameLines, Form::Usual, 8192),
-    ] {
-        is(makes(alloc, trial, what, form)? == capacity, "the capacity")?;
-    }
-    Ok(())
-}
-
-pub fn buffered(alloc: Global, trial: &mut Trial) -> Result<(), Stop> {
-    for what in [What::Buffer, What::Reader, What::Writer, What::Lines] {
-        for (form, capacity) in [
-            (Form::Usual, 8192),
-            (Form::UsualRing, 8192),
-            (Form::Plain(4), 4),
-            (Form::Ring(4), 4096),
-        ] {
-            is(makes(alloc, trial, what, form)? == capacity, "the capacity")?;
-        }
-    }
-    Ok(())
-}
-
-// A maker near an amount is refused, `TooLarge` exactly past the limit of its kind. No machine has as much.
-fn refuses_near(alloc: Global, what: What, is_ring: bool, power: usize) -> Result<(), Stop> {
-    for below in 0..12 {
-        let n = power.saturating_add(2).saturating_sub(below);
-        let (form, most) = if is_ring {
-            (Form::Ring(n), MAX_RING)
-        } else {
-            (Form::Plain(n), MAX_CAPACITY)
+pub fn blocks(alloc: Global, trial: &mut Trial) -> Result<(), Wrong> {
+    for (which, capacity) in BLOCKS.into_iter().enumerate() {
+        let made = match block(alloc, which) {
+            Ok(made) => made,
+            Err(e) => {
+                trial.refused(e, true)?;
+                granted(block(alloc, which))?
+            }
         };
-        match made(alloc, what, form, stream_for(what)) {
-            Ok(_) => return Err(Stop::Wrong("more than any machine has")),
-            Err(Refused(_, GrowError::TooLarge)) => is(n > most, "refused within the limit")?,
-            Err(Refused(_, GrowError::Memory)) => is(n <= most, "refused for want of memory")?,
-        }
+        is(made == capacity, "the capacity of a block")?;
     }
     Ok(())
 }
 
-pub fn huge(alloc: Global) -> Result<(), Stop> {
-    for (what, is_ring) in [
-        (What::Raw, false),
-        (What::Std, false),
-        (What::Deque, true),
-        (What::Block, false),
-        (What::Block, true),
-        (What::Buffer, false),
-        (What::Buffer, true),
-        (What::Reader, false),
-        (What::Reader, true),
-        (What::Writer, false),
-        (What::Writer, true),
-        (What::Lines, false),
-        (What::Lines, true),
+pub fn over_streams(alloc: Global, trial: &mut Trial) -> Result<(), Wrong> {
+    for (form, capacity) in FORMS {
+        let rooms = [
+            makes::<BufReader<Told<Source<'static>>>, _>(alloc, trial, form, reading(b"ab"))?,
+            makes::<BufWriter<Sink>, _>(alloc, trial, form, empty_sink())?,
+            makes::<LineWriter<Sink>, _>(alloc, trial, form, empty_sink())?,
+        ];
+        is(rooms == [capacity; 3], "the capacity over a stream")?;
+    }
+    let _ = makes::<FrameReader<Told<Source<'static>>>, _>(
+        alloc,
+        trial,
+        Form::Usual,
+        reading(b"ab"),
+    )?;
+    let _ = makes::<FrameWriter<Sink>, _>(alloc, trial, Form::Usual, empty_sink())?;
+    Ok(())
+}
+
+// No machine has as much, and what passes the limit of its kind isn't asked for.
+pub fn huge(alloc: Global) -> Result<(), Wrong> {
+    for (ring, capacity, passes) in [
+        (false, MAX_CAPACITY, false),
+        (false, MAX_CAPACITY + 1, true),
+        (true, MAX_RING, false),
+        (true, MAX_RING + 1, true),
     ] {
-        for power in [1 << 61, 1 << 62, 1 << 63, usize::MAX] {
-            refuses_near(alloc, what, is_ring, power)?;
-        }
+        let refused = empty(alloc, ring, capacity).err();
+        let so = match refused {
+            Some(GrowError::TooLarge) => passes,
+            Some(GrowError::Memory) => !passes,
+            None => false,
+        };
+        is(so, "a huge buffer")?;
     }
     Ok(())
 }

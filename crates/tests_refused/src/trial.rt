@@ -1,101 +1,80 @@
-//! What a run has met so far, and why a check ends before its end.
-use buffer_redux::{GrowError, MakeError};
-use std::alloc::AllocError;
-use std::io;
+//! What a run has met so far, and what can be seen of a value. Nothing here takes memory.
+use buffer_redux::GrowError;
+use std::fmt::Write;
 use std::io::ErrorKind;
+use std::{fmt, io};
 
-/// Why a check ends before its end.
-#[derive(Debug, Drop)]
-pub enum Stop {
-    /// Memory was refused.
-    Memory,
-    /// Something isn't as it should be.
-    Wrong(&'static str),
-}
+/// What isn't as it should be.
+pub type Wrong = &'static str;
 
-impl From<AllocError> for Stop {
-    fn from(_: AllocError) -> Self {
-        Stop::Memory
-    }
-}
-
-impl From<GrowError> for Stop {
-    fn from(error: GrowError) -> Self {
-        match error {
-            GrowError::Memory => Stop::Memory,
-            GrowError::TooLarge => Stop::Wrong("a growth passes its limit"),
-        }
-    }
-}
-
-impl<S: Drop> From<MakeError<S>> for Stop {
-    fn from(error: MakeError<S>) -> Self {
-        Stop::from(error.1)
-    }
-}
-
-impl From<io::Error> for Stop {
-    fn from(error: io::Error) -> Self {
-        if error.kind() == ErrorKind::OutOfMemory {
-            Stop::Memory
-        } else {
-            Stop::Wrong("a stream or a policy fails")
-        }
-    }
-}
-
-/// `Wrong` of `what`, unless it is so.
-pub fn is(so: bool, what: &'static str) -> Result<(), Stop> {
-    if so { Ok(()) } else { Err(Stop::Wrong(what)) }
+/// `what`, unless it is so.
+pub fn is(so: bool, what: Wrong) -> Result<(), Wrong> {
+    if so { Ok(()) } else { Err(what) }
 }
 
 /// The answer of a call that can't be refused: it takes no memory, or the run met its refusal.
-pub fn granted<T, E: Drop>(outcome: Result<T, E>) -> Result<T, Stop> {
+pub fn granted<T, E: Drop>(outcome: Result<T, E>) -> Result<T, Wrong> {
     match outcome {
         Ok(answer) => Ok(answer),
-        Err(_) => Err(Stop::Wrong("refused without need")),
+        Err(_) => Err("refused without need"),
     }
 }
 
 /// Whether a run met its refusal.
 #[derive(Drop)]
 pub struct Trial {
-    met: bool,
+    pub met: bool,
 }
 
 impl Trial {
-    pub fn new() -> Self {
-        Trial { met: false }
-    }
-
-    pub fn met(&self) -> bool {
-        self.met
-    }
-
-    /// Notes the refusal. A run meets one at the most.
-    pub fn meets(&mut self) -> Result<(), Stop> {
+    /// Notes the refusal, and whether all is as it was before the call. A run meets one at the most.
+    pub fn meets(&mut self, kept: bool) -> Result<(), Wrong> {
         is(!self.met, "refused twice")?;
         self.met = true;
-        Ok(())
+        is(kept, "a refusal changed something")
     }
 
-    /// Notes the refusal of a call by this error, and whether all is as it was before the call.
-    pub fn refused(&mut self, error: GrowError, kept: bool) -> Result<(), Stop> {
+    /// The same of a call that returns this error.
+    pub fn refused(&mut self, error: GrowError, kept: bool) -> Result<(), Wrong> {
         is(
             matches!(error, GrowError::Memory),
             "a growth passes its limit",
         )?;
-        is(kept, "a refusal changed something")?;
-        self.meets()
+        self.meets(kept)
     }
 
     /// The same of a call that returns an error of io.
-    pub fn failed(&mut self, error: io::Error, kept: bool) -> Result<(), Stop> {
+    pub fn failed(&mut self, error: io::Error, kept: bool) -> Result<(), Wrong> {
         is(
             error.kind() == ErrorKind::OutOfMemory,
             "a stream or a policy fails",
         )?;
-        is(kept, "a refusal changed something")?;
-        self.meets()
+        self.meets(kept)
+    }
+}
+
+// FNV-1a, of 64 bits.
+#[derive(Drop)]
+struct TextSum {
+    value: u64,
+}
+
+impl fmt::Write for TextSum {
+    fn write_str(&mut self, text: &str) -> fmt::Result {
+        for byte in text.as_bytes().iter() {
+            self.value = (self.value ^ u64::from(*byte)).wrapping_mul(1099511628211);
+        }
+        Ok(())
+    }
+}
+
+/// A number over the text that the value's `Debug` writes, which tells of a buffer where its bytes stand.
+pub fn digest<T: fmt::Debug>(value: &T) -> u64 {
+    let mut sum = TextSum {
+        value: 14695981039346656037,
+    };
+    match write!(sum, "{value:?}") {
+        Ok(()) => sum.value,
+        Err(_) => 0,
     }
 }

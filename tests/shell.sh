@@ -1,0 +1,275 @@
+# sh tests/shell.sh [built]
+#
+# What no proof and no test of a crate shows: what the built programs do as a shell runs them, with the words, the input, the
+# output, the status and the line on standard error of each run; into a full device, a closed pipe and a closed output, from a
+# folder and from a closed input; and with one allocation after another refused, which the status and a line tell, and nothing
+# is written. tests_refused runs for its refusals alone: it makes each call that takes memory, and looks at what one leaves.
+#
+# `built` says that `rt ci` has just built them; else they are proved and built first. It wants a C compiler, for
+# tests/refuse.c. It says how many runs there were, writes nothing into the repository but what rt builds in the folders out/,
+# and ends with status 0 only where each run ended well.
+set -u
+unset RT_BACKEND RT_SECONDS
+built=${1-}
+
+cd "$(dirname "$0")/.." || exit 1
+scratch=$(mktemp -d) || exit 1
+trap 'rm -rf "$scratch"' EXIT
+failed=0
+
+wrong() { # what is said of it, a file to show
+    echo "shell: $1" >&2
+    tail -n 40 "$2" >&2
+    failed=1
+}
+
+# Of these the runs are: a program by its name, the file of what is built, and how often it ran.
+begins() { # its name
+    name=$1
+    program=$PWD/crates/$name/out/$name
+    runs=0
+    if [ "$built" = built ] && [ -x "$program" ]; then return 0; fi
+    # Unquoted, since these are words.
+    (cd "crates/$name" && rt run -- $(cat args 2> "$scratch/none") < stdin) > "$scratch/built" 2>&1 && return 0
+    wrong "$name is not built" "$scratch/built"
+    return 1
+}
+
+ends() {
+    echo "$name: $runs runs as a shell makes them"
+}
+
+# How a run ended.
+ended() { # what was run, its status, the status wanted, the line wanted on standard error
+    if [ "$2" -ne "$3" ]; then wrong "$1: status $2, not $3" "$scratch/err"; fi
+    if [ "$(cat "$scratch/err")" != "$4" ]; then wrong "$1: another line" "$scratch/err"; fi
+    runs=$((runs + 1))
+}
+
+holds() { # what was run, the file that standard output should equal
+    cmp -s "$scratch/out" "$2" || wrong "$1: other bytes" "$scratch/err"
+}
+
+# A run from file to file.
+turns() { # words, the input, the output wanted, the status wanted, the line wanted
+    # Unquoted, since these are words.
+    "$program" $1 < "$2" > "$scratch/out" 2> "$scratch/err"
+    ended "$name $1" $? "${4-0}" "${5-}"
+    holds "$name $1" "$3"
+}
+
+# The same of texts, as `printf %b` writes them.
+gives() { # words, the input, the output wanted, the status wanted, the line wanted
+    printf '%b' "$2" > "$scratch/in"
+    printf '%b' "$3" > "$scratch/want"
+    before=$failed
+    failed=0
+    turns "$1" "$scratch/in" "$scratch/want" "${4-0}" "${5-}"
+    if [ "$failed" -ne 0 ]; then printf '    of %.60s\n' "$2" >&2; fi
+    failed=$((before | failed))
+}
+
+# Words that ask for nothing that it knows.
+refuses() { # its usage, words each
+    usage=$1
+    shift
+    for words in "$@"; do
+        turns "$words" "$lines" "$nothing" 2 "usage: $name $usage"
+    done
+}
+
+# Streams that fail at once, or once more than a pipe holds was written.
+faults() { # words, an input of which it writes more than a pipe holds
+    fault="$name: read or write failed"
+    # A device that is always full isn't everywhere.
+    if [ -c /dev/full ] && (: > /dev/full) 2> "$scratch/none"; then
+        "$program" $1 < "$2" > /dev/full 2> "$scratch/err"
+        ended "$name $1 into a full device" $? 1 "$fault"
+    fi
+    { "$program" $1 < "$2" 2> "$scratch/err"; echo $? > "$scratch/status"; } | :
+    ended "$name $1 into a closed pipe" "$(cat "$scratch/status")" 1 "$fault"
+    "$program" $1 < "$2" >&- 2> "$scratch/err"
+    ended "$name $1 into a closed output" $? 1 "$fault"
+    turns "$1" "$scratch" "$nothing" 1 "$fault"
+    "$program" $1 > "$scratch/out" 2> "$scratch/err" <&-
+    ended "$name $1 from a closed input" $? 1 "$fault"
+    holds "$name $1 from a closed input" "$nothing"
+}
+
+# A run with one allocation refused. Whether the program came so far.
+meets() { # which, words, the input
+    rm -f "$scratch/met"
+    REFUSE=$1 REFUSED=$scratch/met LD_PRELOAD=$refuse "$program" $2 < "$3" > "$scratch/out" 2> "$scratch/err"
+    status=$?
+    [ -e "$scratch/met" ]
+}
+
+# One allocation after another refused, until a run meets no refusal. What is refused ends the run, or it makes do without.
+refused() { # words, the input, the output wanted
+    at=1
+    while meets "$at" "$1" "$2"; do
+        if [ "$status" -eq 0 ]; then
+            ended "$name $1 without allocation $at" 0 0 ''
+            holds "$name $1 without allocation $at" "$3"
+        else
+            ended "$name $1 without allocation $at" "$status" 3 "$name: out of memory"
+            holds "$name $1 without allocation $at" "$nothing"
+        fi
+        at=$((at + 1))
+    done
+    ended "$name $1" "$status" 0 ''
+    holds "$name $1" "$3"
+    if [ "$at" -eq 1 ]; then wrong "$name $1: no allocation is refused" "$scratch/err"; fi
+}
+
+run_bufcopy() {
+    for words in '' ring std 1 64 0000064 'ring 1' 'ring 64' 'std 7' 'ring 1048576'; do
+        turns "$words" "$lines" "$lines"
+    done
+    gives '' 'one\ntwo\n' 'one\ntwo\n'
+    gives '' '' ''
+    refuses '[std|ring] [CAPACITY]' other Ring 00000064 'std 0' 'ring 1048577' 'std +5' 'ring std' '64 std' '64 64' \
+        'ring 64 64'
+    faults '' "$lines"
+    for words in '' ring; do
+        refused "$words" "$lines" "$lines"
+    done
+}
+
+run_replay() {
+    gives '' '' ''
+    gives '' '\n' 'line 1: not four parts\n' 2
+    gives '' 'a\0377b\n' 'line 1: not text\n' 2
+    gives '' 'reader bag 4 std | 3 | - | F\n' 'line 1: `reader bag 4 std` is no buffered stream\n' 2
+    gives '' 'writer plain 4 min 3 | 0 | - | L\n' 'line 1: `writer plain 4 min 3` is no buffered stream\n' 2
+    gives '' 'reader plain 4 std | +3 | - | F\n' 'line 1: `+3` is no number of bytes for a source\n' 2
+    gives '' 'writer ring 4 std | 3 | - | L\n' 'line 1: `3` is no number of bytes for a source\n' 2
+    gives '' 'reader plain 4 std | 3 | a e:Rust | F\n' 'line 1: `e:Rust` is no answer of a stream\n' 2
+    gives '' 'reader plain 4 std | 3 | - | F W3\n' 'line 1: `W3` is no call\n' 2
+    gives '' 'reader plain 4 std | 3 | - | R18446744073709551615\n' 'line 1: not enough memory\n' 2
+    gives '' 'sweep\n' 'line 1: not four parts\n' 2
+    gives '' 'sweep lossy reader plain 4 std | 3 | - | F\n' 'line 1: `lossy reader plain 4 std` is no buffered stream\n' 2
+    gives '' '?\nreader plain 4 std | 3 | - | F\n' 'line 1: not four parts\nS3 | 3 1 4 000102 | 4\n' 2
+    # What it says of a hundred thousand lines is more than a pipe holds.
+    seq 100000 > "$scratch/many"
+    faults '' "$scratch/many"
+}
+
+run_frames() {
+    # A text, its frames, and the text of these.
+    for row in '||' '\n|\0000\0000|\n' 'abc\n|\0000\0003abc|abc\n' 'abc|\0000\0003abc|abc\n' \
+        'a\n\nbcd\n|\0000\0001a\0000\0000\0000\0003bcd|a\n\nbcd\n' 'a\r\n\0000\n|\0000\0002a\r\0000\0001\0000|a\r\n\0000\n' \
+        "$most\\n|\\0377\\0377$most|$most\\n"; do
+        text=${row%%|*}
+        row=${row#*|}
+        gives pack "$text" "${row%%|*}"
+        gives unpack "${row%%|*}" "${row#*|}"
+    done
+    long='frames: a line or a frame has more than 65535 bytes'
+    gives pack "ab\\n${most}A\\nc\\n" '\0000\0002ab' 4 "$long"
+    gives pack "${most}A" '' 4 "$long"
+    cut='frames: the input ends within a frame'
+    gives unpack '\0000\0002ab\0000\0002c' 'ab\n' 5 "$cut"
+    gives unpack '\0000\0002ab\0000' 'ab\n' 5 "$cut"
+    gives unpack '\0000' '' 5 "$cut"
+    refuses 'pack|unpack' '' Pack packs 'pack unpack'
+    faults pack "$lines"
+    "$program" pack < "$lines" > "$scratch/frames"
+    turns unpack "$scratch/frames" "$lines"
+    faults unpack "$scratch/frames"
+    printf '\000\002ab' > "$scratch/frame"
+    printf 'ab\n' > "$scratch/line"
+    refused pack "$scratch/line" "$scratch/frame"
+    refused unpack "$scratch/frame" "$scratch/line"
+}
+
+run_bodies() {
+    # What was decoded of what is wrong, and behind how many bytes of a body.
+    gives decode '4\r\nWiki\r\n7\r\npedia i\r\nB\r\nn \r\nchunks.\r\n0\r\n\r\n' 'Wikipedia in \r\nchunks.'
+    gives decode '0A ;x="y"\r\n0123456789\r\n00\r\nA: b\r\nC:\r\n\r\n' 0123456789
+    gives decode '1\r\n\n\r\n1\r\n\r\r\n0\r\n\r\n' '\n\r'
+    while IFS='|' read -r input output status line; do
+        gives decode "$input" "$output" "$status" "bodies: $line"
+    done <<'END'
+||5|the input ends after 0 bytes of a body
+5\r\nhel|hel|5|the input ends after 6 bytes of a body
+2\r\nab\r\n0\r\n\r|ab|5|the input ends after 11 bytes of a body
+2\r\nab\r\n0\r\n\r\nGET|ab|6|the input goes on behind a body of 12 bytes
+\r\n||4|a chunk without a size, behind 0 bytes of a body
+hello||4|a chunk without a size, behind 0 bytes of a body
+2\r\nab\r\n2 x\r\n|ab|4|a wrong byte in the line of a size, behind 9 bytes of a body
+4000000000000000\r\n||4|a size of 2^62 or more, behind 15 bytes of a body
+1\r\nab\r\n|a|4|a chunk is longer than its size, behind 4 bytes of a body
+1\r\na\r\r\n|a|4|a CR without an LF, behind 5 bytes of a body
+1\na||4|an LF without a CR, behind 1 bytes of a body
+END
+    gives decode "5;$most" '' 4 'bodies: the line of a size is too long, behind 8192 bytes of a body'
+    gives decode "0\\r\\nA: $most" '' 4 'bodies: the trailers are too long, behind 65539 bytes of a body'
+    # A payload, and its body.
+    while IFS='|' read -r payload body; do
+        gives encode "$payload" "$body"
+        gives decode "$body" "$payload"
+    done <<'END'
+|0\r\n\r\n
+hello|5\r\nhello\r\n0\r\n\r\n
+0\r\n\r\n|5\r\n0\r\n\r\n\r\n0\r\n\r\n
+0123456789abcdef|10\r\n0123456789abcdef\r\n0\r\n\r\n
+END
+    # A read gives at most 8192 bytes, so what is longer is cut. Chunks may be longer than any buffer.
+    payload=$scratch/payload
+    head -c 20000 "$lines" > "$payload"
+    {
+        printf '2000\r\n' && head -c 8192 "$payload" && printf '\r\n2000\r\n'
+        tail -c +8193 "$payload" | head -c 8192 && printf '\r\ne20\r\n'
+        tail -c +16385 "$payload" && printf '\r\n0\r\n\r\n'
+    } > "$scratch/body"
+    turns encode "$payload" "$scratch/body"
+    turns decode "$scratch/body" "$payload"
+    head -c 100000 "$lines" > "$payload"
+    { printf '186A0\r\n' && cat "$payload" && printf '\r\n0\r\n\r\n'; } > "$scratch/body"
+    turns decode "$scratch/body" "$payload"
+    refuses 'decode|encode' '' encoder 'encode decode'
+    faults encode "$lines"
+    faults decode "$scratch/body"
+    printf hello > "$payload"
+    printf '5\r\nhello\r\n0\r\n\r\n' > "$scratch/body"
+    refused encode "$payload" "$scratch/body"
+    refused decode "$scratch/body" "$payload"
+}
+
+# It says itself whether all is as it should be, also of more than any machine has, which is refused anyway.
+run_tests_refused() {
+    at=1
+    met=0
+    while meets "$at" '' "$nothing"; do
+        case $(cat "$scratch/out") in
+            refused) met=$((met + 1)) ;;
+            'no refusal') ;;
+            *) wrong "$name without allocation $at" "$scratch/out" ;;
+        esac
+        ended "$name without allocation $at" "$status" 0 ''
+        at=$((at + 1))
+    done
+    ended "$name" "$status" 0 ''
+    holds "$name" crates/tests_refused/stdout
+    if [ "$met" -eq 0 ]; then wrong "$name: it meets no refusal" "$scratch/out"; fi
+}
+
+nothing=$scratch/nothing
+: > "$nothing"
+lines=$scratch/lines
+seq 30000 > "$lines"
+# As many bytes as a frame may have.
+most=$(head -c 65535 /dev/zero | tr '\0' A)
+refuse=$scratch/refuse.so
+if ! "${CC:-cc}" -O2 -shared -fPIC -o "$refuse" tests/refuse.c -ldl 2> "$scratch/compiled"; then
+    wrong 'tests/refuse.c is not compiled' "$scratch/compiled"
+    exit 1
+fi
+for it in bufcopy replay frames bodies tests_refused; do
+    if begins "$it"; then
+        "run_$it"
+        ends
+    fi
+done
+exit "$failed"
