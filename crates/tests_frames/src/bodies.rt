@@ -1,10 +1,10 @@
 //! The reader of bodies in the chunked coding.
 use crate::sweep::{Run, sweep_all};
 use End::{Truncated, Whole, Wrong};
+use buffer_redux::BufReader;
 use buffer_redux::policy::ReaderPolicy;
 use buffer_redux::script::Answer;
 use buffer_redux::tell::{Tell, TellRead, Told};
-use buffer_redux::BufReader;
 use chunked::Malformed::{
     BadSize, BareFeed, BareReturn, ChunkTooLong, LineTooLong, NoSize, SizeTooLarge, TrailersTooLong,
 };
@@ -103,7 +103,13 @@ const LIMITS: [Row<'static>; 9] = [
     Row(4, 0, b"4   ;\r\n", b"", Wrong(LineTooLong, 4)),
     Row(4, 0, b"4;abc\r\n", b"", Wrong(LineTooLong, 4)),
     Row(1, 4, b"0\r\na:\r\nb:\r\n\r\n", b"", Whole(b"")),
-    Row(1, 4, b"0\r\na:\r\nb:\r\nc\r\n\r\n", b"", Wrong(TrailersTooLong, 11)),
+    Row(
+        1,
+        4,
+        b"0\r\na:\r\nb:\r\nc\r\n\r\n",
+        b"",
+        Wrong(TrailersTooLong, 11),
+    ),
 ];
 
 // Cut off in each part.

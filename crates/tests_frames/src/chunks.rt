@@ -1,9 +1,8 @@
 //! The writer of bodies in the chunked coding.
 use crate::sweep::{Run, sweep_all};
-use buffer_redux::BufWriter;
-use buffer_redux::IntoInnerError;
 use buffer_redux::script::Answer;
 use buffer_redux::tell::TellWrite;
+use buffer_redux::{BufWriter, IntoInnerError};
 use chunked::{ChunkedWriter, FinishError, TrailersError};
 use std::alloc::Global;
 use std::io::ErrorKind;
@@ -159,7 +158,13 @@ impl Run for Row<'_> {
 #[test]
 fn writes_bodies(rt: HostRuntime) -> Result<(), Fail> {
     let pieces = [usize::MAX, 3, 1];
-    sweep_all(&rt, rt.alloc(), &BODIES, &pieces, Answer::Fail(ErrorKind::Other))
+    sweep_all(
+        &rt,
+        rt.alloc(),
+        &BODIES,
+        &pieces,
+        Answer::Fail(ErrorKind::Other),
+    )
 }
 
 // The body behind a buffered writer over it, which these bytes went into one by one.
@@ -221,8 +226,7 @@ fn refuses_trailers(rt: HostRuntime) -> Result<(), Fail> {
         };
         flush(&mut inner)?;
         assert!(rt;
-            taken(&inner)
-                == b"5\r\nhello\r\n1\r\n!\r\n0\r\n0123456789abcdef012\r\n\r\n".as_slice()
+            taken(&inner) == b"5\r\nhello\r\n1\r\n!\r\n0\r\n0123456789abcdef012\r\n\r\n".as_slice()
         );
     }
     Ok(())

@@ -108,7 +108,13 @@ impl Run for Reads<'_> {
 #[test]
 fn reads_frames(rt: HostRuntime) -> Result<(), Fail> {
     let pieces = [usize::MAX, 2, 1];
-    sweep_all(&rt, rt.alloc(), &READS, &pieces, Answer::Fail(ErrorKind::Other))
+    sweep_all(
+        &rt,
+        rt.alloc(),
+        &READS,
+        &pieces,
+        Answer::Fail(ErrorKind::Other),
+    )
 }
 
 #[test]
@@ -226,7 +232,13 @@ impl Run for Writes<'_> {
 #[test]
 fn writes_frames(rt: HostRuntime) -> Result<(), Fail> {
     let pieces = [usize::MAX, 2, 1];
-    sweep_all(&rt, rt.alloc(), &WRITES, &pieces, Answer::Fail(ErrorKind::Other))
+    sweep_all(
+        &rt,
+        rt.alloc(),
+        &WRITES,
+        &pieces,
+        Answer::Fail(ErrorKind::Other),
+    )
 }
 
 // The stream inside took so many bytes, or failed so, and the writer is back.

@@ -78,7 +78,12 @@ const SKIPPED: [Row<'static>; 3] = [
     Row(
         3,
         b"ab\n\ncd",
-        &[Want::Next(b"ab"), Want::Skipped(1), Want::Skipped(2), Want::End],
+        &[
+            Want::Next(b"ab"),
+            Want::Skipped(1),
+            Want::Skipped(2),
+            Want::End,
+        ],
     ),
     Row(
         3,

@@ -31,10 +31,28 @@ fn says_fault<E: Display>(alloc: Global, error: &E) -> Result<bool, AllocError> 
 fn of_frames(rt: HostRuntime) -> Result<(), Fail> {
     let alloc = rt.alloc();
     let truncated = FrameError::Truncated(3);
-    assert!(rt; says(alloc, &truncated, "the stream ended after 3 bytes of a frame")?);
-    assert!(rt; says(alloc, &FrameError::TooLong(4), "a frame of 4 bytes is too long")?);
+    assert!(rt;
+        says(
+            alloc,
+            &truncated,
+            "the stream ended after 3 bytes of a frame"
+        )?
+    );
+    assert!(rt;
+        says(
+            alloc,
+            &FrameError::TooLong(4),
+            "a frame of 4 bytes is too long"
+        )?
+    );
     assert!(rt; says_fault(alloc, &FrameError::from(fault()))?);
-    assert!(rt; says(alloc, &WriteFrameError::TooLong(4), "a payload of 4 bytes is too long")?);
+    assert!(rt;
+        says(
+            alloc,
+            &WriteFrameError::TooLong(4),
+            "a payload of 4 bytes is too long"
+        )?
+    );
     assert!(rt; says_fault(alloc, &WriteFrameError::from(fault()))?);
     Ok(())
 }
@@ -83,10 +101,19 @@ const WRONG: [(chunked::Malformed, &str); 8] = [
 fn of_bodies(rt: HostRuntime) -> Result<(), Fail> {
     let alloc = rt.alloc();
     for (why, text) in WRONG {
-        assert!(rt; says(alloc, &ChunkedError::NotChunked(why, 7), text)?, "{text}");
+        assert!(rt;
+            says(alloc, &ChunkedError::NotChunked(why, 7), text)?,
+            "{text}"
+        );
     }
     let truncated = ChunkedError::Truncated(7);
-    assert!(rt; says(alloc, &truncated, "the stream ended after 7 bytes of a body")?);
+    assert!(rt;
+        says(
+            alloc,
+            &truncated,
+            "the stream ended after 7 bytes of a body"
+        )?
+    );
     assert!(rt; says_fault(alloc, &ChunkedError::from(fault()))?);
     Ok(())
 }
