@@ -324,8 +324,17 @@ fn plain_block(rt: HostRuntime) -> Result<(), Fail> {
         plain.bytes_written(n);
         assert!(rt; (plain.len(), plain.usable_space()) == (len, usable));
     }
-    let mut raw = RawBuf::with_capacity(rt.alloc(), 1)?;
+    Ok(())
+}
+
+// What passes every limit is refused, and changes nothing.
+#[test]
+fn raw_block(rt: HostRuntime) -> Result<(), Fail> {
+    let mut raw = RawBuf::with_capacity(rt.alloc(), 4)?;
+    raw.as_mut_slice().fill(7);
     assert!(rt; !raw.reserve_in_place(1));
+    assert!(rt; matches!(raw.reserve(4611686018427387901), Err(GrowError::TooLarge)));
+    assert!(rt; raw.as_slice() == [7; 4].as_slice());
     Ok(())
 }
 
