@@ -7,11 +7,6 @@ pub fn read<R: Read>(reader: &mut R, out: &mut [u8]) -> io::Result<usize> {
     reader.read(out)
 }
 
-/// A read of all of these bytes.
-pub fn read_exact<R: Read>(reader: &mut R, out: &mut [u8]) -> io::Result<()> {
-    reader.read_exact(out)
-}
-
 /// What is read to the end, behind what is there.
 pub fn read_to_end<R: Read>(reader: &mut R, out: &mut Vec<u8>) -> io::Result<usize> {
     reader.read_to_end(out)

@@ -13,9 +13,7 @@ pub mod policies;
 mod positions;
 mod texts;
 
-pub use crate::calls::{
-    consume, fill_buf, flush, kind, read, read_exact, read_to_end, seek, write, write_all,
-};
+pub use crate::calls::{consume, fill_buf, flush, kind, read, read_to_end, seek, write, write_all};
 pub use crate::fixtures::{first, holding_in, numbered};
 pub use crate::looks::{asked, flushes, offered, taken, taken_lines};
 pub use crate::makers::{
