@@ -2,7 +2,7 @@
 //! or changes place.
 use crate::named::{Name, Named, policy_of};
 use buffer_redux::script::{Answer, FaultAt};
-use buffer_redux::tell::Told;
+use buffer_redux::tell::{Tell, TellRead, TellWrite, Told};
 use buffer_redux::{BufReader, BufWriter, Buffer};
 use redux_play::play::{
     ReaderCall, ReaderRun, WriterAnswer, WriterCall, WriterRun, play_reader, play_writer,
@@ -18,9 +18,43 @@ type Fault = (usize, Answer);
 
 const NO_FAULT: Fault = (18446744073709551615, Answer::Serve(0));
 
-// Plays the calls over a buffer and a source that gives so many bytes, and sees that what was handed out, and then what is
-// buffered, is what was held and then given. Returns what the calls answered, how many bytes are left, the capacity, and how
-// often the source was asked.
+fn faulty<S>(stream: S, fault: Fault) -> Told<FaultAt<S>> {
+    let (before, wrong) = fault;
+    Told::new(FaultAt::new(stream, before, wrong))
+}
+
+fn reader<R: Tell + Drop>(buffer: Buffer, inner: R, policy: Named) -> BufReader<R, Named> {
+    reader_under(BufReader::with_buffer(buffer, inner), policy)
+}
+
+fn play_reads<R: TellRead>(
+    alloc: Global,
+    rdr: &mut BufReader<R, Named>,
+    calls: &[ReaderCall],
+) -> Result<ReaderRun, AllocError> {
+    let mut run = ReaderRun::new(alloc);
+    play_reader(alloc, rdr, calls, &mut run)?;
+    Ok(run)
+}
+
+type Source<'a> = Told<FaultAt<&'a [u8]>>;
+
+// How many bytes the source has left.
+fn left(rdr: &BufReader<Source<'_>, Named>) -> usize {
+    rdr.get_ref().get_ref().get_ref().len()
+}
+
+// How many bytes are buffered, the capacity, and how often the source was asked.
+fn space(rdr: &BufReader<Source<'_>, Named>) -> (usize, usize, usize) {
+    (
+        rdr.buf_len(),
+        rdr.capacity(),
+        rdr.get_ref().get_ref().calls(),
+    )
+}
+
+// Plays the calls over a buffer and a source that gives so many bytes, and sees that what was handed out, and then what is buffered,
+// is what was held and then given. Returns what the calls answered, and the space at the end.
 fn reads(
     rt: &impl Abort,
     alloc: Global,
@@ -32,20 +66,14 @@ fn reads(
 ) -> Result<String, Fail> {
     let held = buffer.len();
     let bytes = numbered(alloc, held.saturating_add(given))?;
-    let (before, wrong) = fault;
-    let inner = FaultAt::new(bytes.get(held..).unwrap_or_default(), before, wrong);
-    let rdr = BufReader::with_buffer(buffer, Told::new(inner));
-    let mut rdr = reader_under(rdr, policy);
-    let mut run = ReaderRun::new(alloc);
-    play_reader(alloc, &mut rdr, calls, &mut run)?;
-    let inner = rdr.get_ref().get_ref();
-    let given = bytes.len().saturating_sub(inner.get_ref().len());
-    let answers = run.answers.as_slice();
-    let space = (rdr.buf_len(), rdr.capacity(), inner.calls());
-    let text = debug(alloc, &(answers, space))?;
+    let inner = faulty(bytes.get(held..).unwrap_or_default(), fault);
+    let mut rdr = reader(buffer, inner, policy);
+    let run = play_reads(alloc, &mut rdr, calls)?;
+    let text = debug(alloc, &(run.answers.as_slice(), space(&rdr)))?;
     let mut joined = run.handed;
     joined.extend_from_slice(rdr.buffer())?;
-    assert!(rt; joined.as_slice() == first(bytes.as_slice(), given));
+    let served = bytes.len().saturating_sub(left(&rdr));
+    assert!(rt; joined.as_slice() == first(bytes.as_slice(), served));
     Ok(text)
 }
 
@@ -64,6 +92,25 @@ fn accepted(
     Ok(accepted)
 }
 
+fn writer<W: TellWrite + Drop>(buffer: Buffer, inner: W, policy: Named) -> BufWriter<W, Named> {
+    writer_under(BufWriter::with_buffer(buffer, inner), policy)
+}
+
+fn play_writes<W: TellWrite>(
+    alloc: Global,
+    wrt: &mut BufWriter<W, Named>,
+    calls: &[WriterCall<'_>],
+) -> Result<WriterRun, AllocError> {
+    let mut run = WriterRun::new(alloc);
+    play_writer(wrt, calls, &mut run)?;
+    Ok(run)
+}
+
+// The stream inside, and what is left in the buffer.
+fn taken_apart<W: TellWrite>(wrt: BufWriter<W, Named>) -> (W, Buffer) {
+    wrt.into_inner_with_buffer()
+}
+
 // Plays the calls over an empty buffer, and sees that what the target took, and then what is buffered, is what the calls took in.
 // Returns what they answered, what was taken, and how many calls the target had.
 fn writes(
@@ -74,21 +121,16 @@ fn writes(
     fault: Fault,
     calls: &[WriterCall<'_>],
 ) -> Result<String, Fail> {
-    let (before, wrong) = fault;
-    let inner = FaultAt::new(Vec::new(alloc), before, wrong);
-    let wrt = BufWriter::with_buffer(buffer, Told::new(inner));
-    let mut wrt = writer_under(wrt, policy);
-    let mut run = WriterRun::new(alloc);
-    play_writer(&mut wrt, calls, &mut run)?;
+    let mut wrt = writer(buffer, faulty(Vec::new(alloc), fault), policy);
+    let run = play_writes(alloc, &mut wrt, calls)?;
     let answers = run.answers.as_slice();
-    let accepted = accepted(alloc, calls, answers)?;
-    let (inner, buf) = wrt.into_inner_with_buffer();
-    let inner = inner.into_inner();
-    let text = debug(alloc, &(answers, inner.get_ref().as_slice(), inner.calls()))?;
-    let mut joined = Vec::from_slice(alloc, inner.get_ref().as_slice())?;
-    joined.extend_from_slice(buf.buf())?;
-    assert!(rt; joined.as_slice() == accepted.as_slice());
-    Ok(text)
+    let (told, buffer) = taken_apart(wrt);
+    let inner = told.get_ref();
+    let taken = inner.get_ref().as_slice();
+    let mut joined = Vec::from_slice(alloc, taken)?;
+    joined.extend_from_slice(buffer.buf())?;
+    assert!(rt; joined.as_slice() == accepted(alloc, calls, answers)?.as_slice());
+    Ok(debug(alloc, &(answers, taken, inner.calls()))?)
 }
 
 const FILL: ReaderCall = ReaderCall::Fill;

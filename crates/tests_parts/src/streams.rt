@@ -3,13 +3,13 @@ ghost use Rattle.std.specs.Prelude.{◌≡◌, ◌++◌, IfOk, take, vec_items};
 ghost use Rattle.redux_buffer.specs.Told.{told_log, told_stream};
 ghost use Rattle.redux_buffer.specs.LogGrows.{FillLogGrows, FillLogGrows-none, FillLogGrows-joins, FillsGoOn-of};
 
-use buffer_redux::script::{Answer, FaultAt};
+use buffer_redux::script::{Answer, FaultAt, ScriptSeeker};
 use buffer_redux::tell::{Call, CallLog, Tell, TellBufRead, TellRead, TellSeek, TellWrite, Told};
 use std::alloc::{AllocError, Global};
 use std::io;
 use std::io::{Cursor, ErrorKind, Read, Seek, SeekFrom, Write};
 use std::test::Fail;
-use tests_common::{debug, flush, kind, write};
+use tests_common::{debug, flush, kind, read, write};
 
 // The calls that tell. They promise nothing, as those of `tests_common` don't.
 fn reads<R: TellRead>(reader: &mut R, out: &mut [u8]) -> io::Result<usize> {
@@ -248,5 +248,19 @@ fn faults(rt: HostRuntime) -> Result<(), Fail> {
         let came = six_calls(rt.alloc(), stream)?;
         assert!(rt; came.as_str() == text, "{came}");
     }
+    Ok(())
+}
+
+// The reads and writes of a scripted seeker go on to the stream inside.
+#[test]
+fn scripted_seeker(rt: HostRuntime) -> Result<(), Fail> {
+    let mut rdr = ScriptSeeker::new(rt.alloc(), [1, 2].as_slice(), &[])?;
+    let mut out = [0u8; 3];
+    assert!(rt; read(&mut rdr, &mut out)? == 2);
+    assert!(rt; out == [1, 2, 0]);
+    let mut wrt = ScriptSeeker::new(rt.alloc(), Vec::new(rt.alloc()), &[])?;
+    assert!(rt; write(&mut wrt, &[3, 4])? == 2);
+    flush(&mut wrt)?;
+    assert!(rt; wrt.get_ref().as_slice() == [3, 4].as_slice());
     Ok(())
 }
