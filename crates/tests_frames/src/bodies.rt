@@ -1,5 +1,5 @@
 //! The reader of bodies in the chunked coding.
-use crate::sweep::{Run, sweep_all};
+use crate::sweep::{Run, sweep};
 use End::{Truncated, Whole, Wrong};
 use buffer_redux::BufReader;
 use buffer_redux::policy::ReaderPolicy;
@@ -9,7 +9,8 @@ use chunked::Malformed::{
     BadSize, BareFeed, BareReturn, ChunkTooLong, LineTooLong, NoSize, SizeTooLarge, TrailersTooLong,
 };
 use chunked::{ChunkedError, ChunkedReader, Limits, Malformed};
-use std::alloc::Global;
+use std::alloc::{AllocError, Global};
+use std::fmt::Debug;
 use std::io::ErrorKind;
 use std::test::Fail;
 use tests_common::{Source, debug, first, kind, read_to_end, reader, source};
@@ -132,7 +133,11 @@ fn body(alloc: Global, row: &Row<'_>, script: &[Answer]) -> Result<Body, Fail> {
     Ok(over(reader, row.0, row.1))
 }
 
-fn over<R: Tell, P>(reader: BufReader<R, P>, line: usize, trailers: usize) -> ChunkedReader<R, P> {
+pub fn over<R: Tell, P>(
+    reader: BufReader<R, P>,
+    line: usize,
+    trailers: usize,
+) -> ChunkedReader<R, P> {
     ChunkedReader::new(reader, Limits { line, trailers })
 }
 
@@ -222,9 +227,9 @@ impl Run for Row<'_> {
 #[test]
 fn reads_bodies(rt: HostRuntime) -> Result<(), Fail> {
     let fault = Answer::Fail(ErrorKind::Other);
-    sweep_all(&rt, rt.alloc(), &BODIES, &[usize::MAX, 3, 1], fault)?;
+    sweep(&rt, rt.alloc(), &BODIES, &[usize::MAX, 3, 1], fault)?;
     for rows in [WRONG.as_slice(), &WRONG_RETURNS, &LIMITS, &CUT] {
-        sweep_all(&rt, rt.alloc(), rows, &[usize::MAX, 1], fault)?;
+        sweep(&rt, rt.alloc(), rows, &[usize::MAX, 1], fault)?;
     }
     Ok(())
 }
@@ -250,12 +255,26 @@ fn goes_under_a_buffered_reader(rt: HostRuntime) -> Result<(), Fail> {
     Ok(())
 }
 
+// Whether a value is shown by a text that begins and ends so.
+pub fn is_shown<T: Debug>(
+    alloc: Global,
+    value: &T,
+    front: &str,
+    back: &str,
+) -> Result<bool, AllocError> {
+    let said = debug(alloc, value)?;
+    Ok(said.starts_with(front) && said.ends_with(back))
+}
+
+fn buffered<R: Tell, P>(body: &ChunkedReader<R, P>) -> usize {
+    body.get_ref().buf_len()
+}
+
 #[test]
 fn shows_where_it_stands(rt: HostRuntime) -> Result<(), Fail> {
     let body = body(rt.alloc(), &CUT[0], &[])?;
-    let said = debug(rt.alloc(), &body)?;
-    assert!(rt; said.starts_with("chunked::ChunkedReader { reader: buffer_redux::BufReader {"));
-    assert!(rt; said.ends_with(", place: Line, taken: 0 }"));
-    assert!(rt; body.get_ref().buf_len() == 0);
+    let front = "chunked::ChunkedReader { reader: buffer_redux::BufReader {";
+    assert!(rt; is_shown(rt.alloc(), &body, front, ", place: Line, taken: 0 }")?);
+    assert!(rt; buffered(&body) == 0);
     Ok(())
 }

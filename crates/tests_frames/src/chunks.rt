@@ -1,14 +1,14 @@
 //! The writer of bodies in the chunked coding.
-use crate::sweep::{Run, sweep_all};
+use crate::bodies::is_shown;
+use crate::sweep::{Run, sweep};
 use buffer_redux::script::Answer;
 use buffer_redux::tell::TellWrite;
 use buffer_redux::{BufWriter, IntoInnerError};
 use chunked::{ChunkedWriter, FinishError, TrailersError};
 use std::alloc::Global;
 use std::io::ErrorKind;
-use std::process::Abort;
 use std::test::Fail;
-use tests_common::{Target, debug, flush, taken, target, write, write_all, writer};
+use tests_common::{Target, flush, taken, target, write, write_all, writer};
 
 // The capacity of the buffer, what is written, the lines of the trailers, and the body that this makes.
 struct Row<'a>(usize, &'a [&'a [u8]], &'a [&'a [u8]], &'a [u8]);
@@ -61,7 +61,7 @@ Expires: Wed, 21 Oct 2015 07:28:00 GMT\r\n\r\n",
 type Body = ChunkedWriter<Target>;
 
 // A writer of a body behind what is buffered. Neither it nor any call below promises anything.
-fn over<W: TellWrite + Drop>(inner: BufWriter<W>) -> Result<ChunkedWriter<W>, &'static str> {
+pub fn over<W: TellWrite + Drop>(inner: BufWriter<W>) -> Result<ChunkedWriter<W>, &'static str> {
     if inner.capacity() <= 20 {
         return Err("a buffer that is too small");
     }
@@ -158,7 +158,7 @@ impl Run for Row<'_> {
 #[test]
 fn writes_bodies(rt: HostRuntime) -> Result<(), Fail> {
     let pieces = [usize::MAX, 3, 1];
-    sweep_all(
+    sweep(
         &rt,
         rt.alloc(),
         &BODIES,
@@ -187,8 +187,8 @@ fn unwrapped(outer: BufWriter<Body>) -> Result<Body, Fail> {
 #[test]
 fn goes_under_a_buffered_writer(rt: HostRuntime) -> Result<(), Fail> {
     let body = bytewise(rt.alloc(), b"hello world")?;
-    let said = debug(rt.alloc(), &body)?;
-    assert!(rt; said.starts_with("chunked::ChunkedWriter { writer: buffer_redux::BufWriter {"));
+    let front = "chunked::ChunkedWriter { writer: buffer_redux::BufWriter {";
+    assert!(rt; is_shown(rt.alloc(), &body, front, " }")?);
     let mut inner = into_inner(body);
     flush(&mut inner)?;
     assert!(rt; taken(&inner) == b"b\r\nhello world\r\n".as_slice());
@@ -205,29 +205,43 @@ const REFUSED: [(&[&[u8]], Option<usize>); 6] = [
     (&[b"0123456789abcdef0123", b"\n"], Some(1)),
 ];
 
-// The body is back as it was: it is written on, and ends with trailers that just fit.
+// Whether that is why.
+fn says(why: &TrailersError, index: Option<usize>) -> bool {
+    match (why, index) {
+        (TrailersError::NoField(at), Some(index)) => *at == index,
+        (TrailersError::TooLong, None) => true,
+        _ => false,
+    }
+}
+
+// Whether such a body is written on, and ends with trailers that just fit.
+fn goes_on(mut body: Body) -> Result<bool, Fail> {
+    write_all(&mut body, b"!")?;
+    let Ok(mut inner) = ends(body, &[b"0123456789abcdef012"]) else {
+        return Ok(false);
+    };
+    flush(&mut inner)?;
+    let want = b"5\r\nhello\r\n1\r\n!\r\n0\r\n0123456789abcdef012\r\n\r\n";
+    Ok(taken(&inner) == want.as_slice())
+}
+
+// Whether these are refused so, nothing is sent, and the body comes back as it was.
+fn refuses(alloc: Global, fields: &[&[u8]], index: Option<usize>) -> Result<bool, Fail> {
+    let mut body = body(alloc, 26, &[])?;
+    write_all(&mut body, b"hello")?;
+    match finish_with(body, fields) {
+        Ok(_) => Ok(false),
+        Err(FinishError(body, why)) => {
+            let unsent = taken(inner(&body)).is_empty();
+            Ok(says(&why, index) && unsent && goes_on(body)?)
+        }
+    }
+}
+
 #[test]
 fn refuses_trailers(rt: HostRuntime) -> Result<(), Fail> {
-    for (fields, index) in REFUSED {
-        let mut body = body(rt.alloc(), 26, &[])?;
-        assert!(rt; write(&mut body, b"hello")? == 5);
-        let Err(FinishError(mut body, why)) = finish_with(body, fields) else {
-            panic!(rt; "{fields:?} isn't refused");
-        };
-        match why {
-            TrailersError::NoField(at) => assert!(rt; Some(at) == index),
-            TrailersError::TooLong => assert!(rt; index.is_none()),
-            TrailersError::Io(_) => panic!(rt; "a fault"),
-        }
-        assert!(rt; taken(inner(&body)).is_empty());
-        assert!(rt; write(&mut body, b"!")? == 1);
-        let Ok(mut inner) = ends(body, &[b"0123456789abcdef012"]) else {
-            panic!(rt; "not ended");
-        };
-        flush(&mut inner)?;
-        assert!(rt;
-            taken(&inner) == b"5\r\nhello\r\n1\r\n!\r\n0\r\n0123456789abcdef012\r\n\r\n".as_slice()
-        );
+    for (row, (fields, index)) in REFUSED.iter().enumerate() {
+        assert!(rt; refuses(rt.alloc(), fields, *index)?, "row {row}");
     }
     Ok(())
 }

@@ -5,6 +5,7 @@ ghost use Rattle.line_reader.specs.Lines.{FitsLine};
 
 use crate::frames::{frames_into, frames_over};
 use crate::lines::lines_over;
+use crate::{bodies, chunks};
 use buffer_redux::policy::ReaderPolicy;
 use buffer_redux::script::Answer;
 use buffer_redux::tell::{TellRead, TellWrite};
@@ -15,13 +16,13 @@ use std::alloc::{AllocError, Global};
 use std::io;
 use std::io::ErrorKind;
 use std::test::Fail;
+use tests_common::{reader, source, target, writer};
 
-fn list(alloc: Global, items: &[&[u8]]) -> Result<Vec<Vec<u8>>, AllocError> {
-    let mut list = Vec::new(alloc);
-    for item in items {
-        list.push(Vec::from_slice(alloc, item)?)?;
-    }
-    Ok(list)
+// Payloads, or lines.
+fn some(alloc: Global) -> Result<[Vec<u8>; 3], AllocError> {
+    let first = Vec::from_slice(alloc, b"ab")?;
+    let last = Vec::from_slice(alloc, b"abc")?;
+    Ok([first, Vec::new(alloc), last])
 }
 
 // Those that are no call say what stands, and none of these promises anything.
@@ -40,7 +41,7 @@ fn of_lines<R: TellRead>(reader: &LineReader<R>) {
     line_reader::laws::next_known(reader);
 }
 
-pub fn of_bodies<R: TellRead, P: ReaderPolicy, W: TellWrite>(
+fn of_bodies<R: TellRead, P: ReaderPolicy, W: TellWrite>(
     reader: &ChunkedReader<R, P>,
     writer: &ChunkedWriter<W>,
 ) {
@@ -83,8 +84,11 @@ fn play_writes<W: TellWrite>(
 
 #[test]
 fn frames_go_there_and_back(rt: HostRuntime) -> Result<(), Fail> {
-    let payloads = list(rt.alloc(), &[b"ab", b"", b"abc"])?;
-    assert!(rt; matches!(frames_back(rt.alloc(), &payloads, 3), Ok(back) if back == payloads));
+    let payloads = some(rt.alloc())?;
+    match frames_back(rt.alloc(), &payloads, 3) {
+        Ok(back) => assert!(rt; back.as_slice() == payloads.as_slice()),
+        Err(_) => assert!(rt; false),
+    }
     let refused = frames_back(rt.alloc(), &payloads, 2);
     assert!(rt; matches!(refused, Err(WriteFrameError::TooLong(3))));
     Ok(())
@@ -92,27 +96,22 @@ fn frames_go_there_and_back(rt: HostRuntime) -> Result<(), Fail> {
 
 #[test]
 fn frames_are_played(rt: HostRuntime) -> Result<(), Fail> {
-    let fault = [Answer::Serve(1), Answer::Fail(ErrorKind::Other)];
-    let payloads = list(rt.alloc(), &[b"a", b"b", b"c", b"", b"long", b"d"])?;
-    let mut writer = frames_into(rt.alloc(), Some(0), 1, &fault)?;
-    let answers = play_writes(rt.alloc(), &mut writer, &payloads)?;
-    let mut said = Vec::new(rt.alloc());
-    for answer in &answers {
-        said.push(match answer {
-            Ok(()) => 0,
-            Err(WriteFrameError::TooLong(len)) => *len,
-            Err(WriteFrameError::Io(_)) => 1,
-        })?;
-    }
-    assert!(rt; said.as_slice() == [0, 0, 0, 1, 4, 0].as_slice());
-    let bytes = b"\x00\x01a\x00\x00\x00\x02b";
-    let mut reader = frames_over(rt.alloc(), Some(0), 3, bytes, &fault)?;
-    let answers = play_reads(rt.alloc(), &mut reader, 4)?;
+    let mut writer = frames_into(rt.alloc(), None, 2, &[])?;
+    let answers = play_writes(rt.alloc(), &mut writer, &some(rt.alloc())?)?;
     assert!(rt;
         matches!(
             answers.as_slice(),
-            [Err(FrameError::Io(_)), Ok(Some(first)), Ok(Some(second)), Err(FrameError::Truncated(3))]
-                if first.as_slice() == b"a".as_slice() && second.is_empty()
+            [Ok(()), Ok(()), Err(WriteFrameError::TooLong(3))]
+        )
+    );
+    let fault = [Answer::Serve(1), Answer::Fail(ErrorKind::Other)];
+    let mut reader = frames_over(rt.alloc(), None, 3, b"\x00\x01a\x00", &fault)?;
+    let answers = play_reads(rt.alloc(), &mut reader, 3)?;
+    assert!(rt;
+        matches!(
+            answers.as_slice(),
+            [Err(FrameError::Io(_)), Ok(Some(payload)), Err(FrameError::Truncated(1))]
+                if payload.as_slice() == b"a".as_slice()
         )
     );
     of_frames(&reader, &writer);
@@ -153,23 +152,38 @@ fn play_lines<R: TellRead>(
 
 #[test]
 fn lines_go_there_and_back(rt: HostRuntime) -> Result<(), Fail> {
-    let lines = list(rt.alloc(), &[b"ab", b"", b"\r"])?;
-    assert!(rt; lines_back(rt.alloc(), &lines)? == Some(lines));
+    let lines = some(rt.alloc())?;
+    match lines_back(rt.alloc(), &lines)? {
+        Some(back) => assert!(rt; back.as_slice() == lines.as_slice()),
+        None => assert!(rt; false),
+    }
     Ok(())
 }
 
 #[test]
 fn lines_are_played(rt: HostRuntime) -> Result<(), Fail> {
-    let fault = [Answer::Serve(2), Answer::Fail(ErrorKind::Other)];
-    let mut reader = lines_over(rt.alloc(), Some(0), 3, b"a\n\nabcd\n", &fault)?;
-    let answers = play_lines(rt.alloc(), &mut reader, 4)?;
+    let fault = [Answer::Serve(1), Answer::Fail(ErrorKind::Other)];
+    let mut reader = lines_over(rt.alloc(), None, 3, b"a\nabcd", &fault)?;
+    let answers = play_lines(rt.alloc(), &mut reader, 3)?;
     assert!(rt;
         matches!(
             answers.as_slice(),
-            [Ok(Some(first)), Err(LineError::Io(_)), Ok(Some(second)), Err(LineError::TooLong(3))]
-                if first.as_slice() == b"a".as_slice() && second.is_empty()
+            [Err(LineError::Io(_)), Ok(Some(line)), Err(LineError::TooLong(3))]
+                if line.as_slice() == b"a".as_slice()
         )
     );
     of_lines(&reader);
+    Ok(())
+}
+
+#[test]
+fn bodies_have_laws(rt: HostRuntime) -> Result<(), Fail> {
+    let reader = bodies::over(
+        reader(rt.alloc(), 8, b"", source(rt.alloc(), b"", &[])?)?,
+        9,
+        9,
+    );
+    let writer = chunks::over(writer(rt.alloc(), 21, b"", target(rt.alloc(), &[])?)?)?;
+    of_bodies(&reader, &writer);
     Ok(())
 }

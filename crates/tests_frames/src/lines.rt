@@ -1,5 +1,5 @@
 //! Lines.
-use crate::sweep::{Asks, Run, Want, sweep_all, walk};
+use crate::sweep::{Asks, Run, Want, sweep, walk};
 use buffer_redux::script::Answer;
 use buffer_redux::{GrowError, MakeError};
 use line_reader::{LineError, LineReader};
@@ -174,10 +174,10 @@ impl Run for Row<'_> {
 fn reads_lines(rt: HostRuntime) -> Result<(), Fail> {
     let pieces = [usize::MAX, 3, 2, 1];
     for fault in [Answer::Fail(ErrorKind::TimedOut), Answer::Interrupt(1)] {
-        sweep_all(&rt, rt.alloc(), &ROWS, &pieces, fault)?;
+        sweep(&rt, rt.alloc(), &ROWS, &pieces, fault)?;
     }
     // What came before a fault is gone where a line is dropped: so without one.
-    sweep_all(&rt, rt.alloc(), &SKIPPED, &pieces, Answer::ServeEach(1))
+    sweep(&rt, rt.alloc(), &SKIPPED, &pieces, Answer::Interrupt(0))
 }
 
 // A fault in a line that is dropped; and a terminal that ends after three bytes of a line, and goes on.

@@ -1,6 +1,6 @@
 //! Lists of calls over a stream that comes in pieces, and that goes wrong at each call in turn.
 use buffer_redux::script::Answer;
-use std::alloc::Global;
+use std::alloc::{AllocError, Global};
 use std::process::Abort;
 use std::test::Fail;
 
@@ -57,33 +57,39 @@ pub fn walk<A: Asks>(reader: &mut A, wants: &[Want<'_>]) -> Option<usize> {
 // No run calls its stream so often.
 const CALLS: usize = 500;
 
-// So many bytes at most a call: once without a fault, and then with this one at each call, until a run meets none.
-fn sweep<R: Run>(
-    rt: &impl Abort,
+// So many bytes at most a call, and this fault behind the first calls.
+fn script(
+    alloc: Global,
+    most: usize,
+    before: usize,
+    fault: Answer,
+) -> Result<Vec<Answer>, AllocError> {
+    let mut script = Vec::from_slice(alloc, &[Answer::ServeEach(most)])?;
+    script.resize(before.saturating_add(1), Answer::Serve(most))?;
+    script.extend_from_slice(&[fault])?;
+    Ok(script)
+}
+
+// Behind how many calls a fault makes a run go wrong. The last run meets none.
+fn wrong_behind<R: Run>(
     alloc: Global,
     run: &R,
     most: usize,
     fault: Answer,
-) -> Result<bool, Fail> {
-    let mut script = Vec::from_slice(alloc, &[Answer::ServeEach(most)])?;
-    if run.run(alloc, script.as_slice())? != Some(0) {
-        return Ok(false);
-    }
-    for _ in 0..CALLS {
-        script.push(fault)?;
+) -> Result<Option<usize>, Fail> {
+    for before in 0..CALLS {
+        let script = script(alloc, most, before, fault)?;
         match run.run(alloc, script.as_slice())? {
-            Some(0) => return Ok(true),
+            Some(0) => return Ok(None),
             Some(_) => {}
-            None => panic!(rt; "by {script:?}"),
+            None => return Ok(Some(before)),
         }
-        let _ = script.pop();
-        script.push(Answer::Serve(most))?;
     }
-    Ok(false)
+    Ok(Some(CALLS))
 }
 
-/// Each run in pieces of at most so many bytes, and with this fault at each call.
-pub fn sweep_all<R: Run>(
+/// Each run in pieces of at most so many bytes, with this fault at each call of the stream in turn, and without.
+pub fn sweep<R: Run>(
     rt: &impl Abort,
     alloc: Global,
     runs: &[R],
@@ -92,8 +98,11 @@ pub fn sweep_all<R: Run>(
 ) -> Result<(), Fail> {
     for (row, run) in runs.iter().enumerate() {
         for most in pieces {
-            let swept = sweep(rt, alloc, run, *most, fault)?;
-            assert!(rt; swept, "of row {row} with {most} bytes a call");
+            let wrong = wrong_behind(alloc, run, *most, fault)?;
+            assert!(rt;
+                wrong.is_none(),
+                "row {row} by {most} bytes goes wrong at {wrong:?}"
+            );
         }
     }
     Ok(())
