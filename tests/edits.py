@@ -361,6 +361,8 @@ def main():
         if not given.wanted or {edit.crate, str(it), str(it.relative_to(TOP))} & {*given.wanted}:
             edits[edit.crate].append(edit)
     every, spent, counts = sum(map(len, edits.values())), [], collections.Counter()
+    # Its first call sets a signal's handler, which only the main thread may, and lanes build libraries.
+    LIBRARY.guarded()
     crates = {it.name: it for it in LIBRARY.crates_below(str(TOP))}
     names, edits = in_turn(edits) if given.after_ci else ([it for it in crates if it in edits], edits)
 
