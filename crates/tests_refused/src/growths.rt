@@ -1,12 +1,9 @@
 //! Growths of either kind, with bytes that don't stand at the front: a refused one changes nothing, not even their place.
 use crate::trial::{Trial, Wrong, digest, granted, is};
-use buffer_redux::tell::{Tell, TellWrite};
-use buffer_redux::{
-    BufImpl, BufReader, BufWriter, Buffer, GrowError, LineWriter, RawBuf, SliceDequeBuf, StdBuf,
-};
+use buffer_redux::{BufImpl, Buffer, GrowError, RawBuf, SliceDequeBuf, StdBuf};
 use std::alloc::Global;
 use std::fmt::Debug;
-use tests_common::{empty, holding_in};
+use tests_common::holding_in;
 
 // What grows by itself.
 trait Grows: Debug + Drop {

@@ -1,7 +1,7 @@
 //! Lists of calls whose record finds no memory: the calls before are recorded whole, and the next wasn't begun. The calls
 //! that have no answer yet, played on the same run, end it as if nothing had happened.
 use crate::streams::{empty_sink, reading, taken};
-use crate::trial::{Trial, Wrong, digest, granted, is};
+use crate::trial::{Trial, Wrong, digest, is};
 use buffer_redux::policy::{ReaderPolicy, WriterPolicy};
 use buffer_redux::tell::{TellRead, TellWrite};
 use buffer_redux::{BufReader, BufWriter};
