@@ -1,13 +1,14 @@
 //! Copying, by worked examples.
+use crate::seeks::reader_over;
 use buffer_redux::script::Answer;
 use buffer_redux::tell::{Tell, TellBufRead, TellWrite};
-use buffer_redux::{BufReader, MakeError, copy_buf};
+use buffer_redux::{BufReader, copy_buf};
 use std::alloc::Global;
 use std::io;
 use std::io::ErrorKind;
 use std::process::Abort;
 use std::test::Fail;
-use tests_common::{Target, kind, line_writer, reader, source, taken_lines, target};
+use tests_common::{Target, empty, kind, line_writer, reader, source, taken_lines, target};
 
 // What the reader gives by which script, the script of the writer, what copying returns, what the writer received, what
 // is left in the reader, and the offers that the writer saw last.
@@ -79,8 +80,8 @@ fn took(to: &Target) -> (&[u8], &[usize], usize) {
 }
 
 // Copies by a row.
-fn copies(rt: &impl Abort, alloc: Global, row: Row) -> Result<(), Fail> {
-    let (bytes, script, answers, answer, received, rest, offers) = row;
+fn copies(rt: &impl Abort, alloc: Global, row: &Row) -> Result<(), Fail> {
+    let &(bytes, script, answers, answer, received, rest, offers) = row;
     let mut to = target(alloc, answers)?;
     let mut from = reader(alloc, 4, &[], source(alloc, bytes, script)?)?;
     assert!(rt; copied(&mut from, &mut to) == answer);
@@ -93,10 +94,11 @@ fn copies(rt: &impl Abort, alloc: Global, row: Row) -> Result<(), Fail> {
 
 #[test]
 fn copies_by_rows(rt: HostRuntime) -> Result<(), Fail> {
-    for rows in [ALL, LESS] {
-        for row in rows {
-            copies(&rt, rt.alloc(), row)?;
-        }
+    for row in &ALL {
+        copies(&rt, rt.alloc(), row)?;
+    }
+    for row in &LESS {
+        copies(&rt, rt.alloc(), row)?;
     }
     Ok(())
 }
@@ -105,15 +107,11 @@ fn flush_told<W: TellWrite>(to: &mut W) -> io::Result<()> {
     to.flush_told()
 }
 
-fn ring<R: Tell>(alloc: Global, inner: R) -> Result<BufReader<R>, MakeError<R>> {
-    BufReader::with_capacity_ringbuf(alloc, 64, inner)
-}
-
 // From a ring into a writer that looks at the bytes, and keeps what is no line until it is flushed.
 #[test]
 fn lines(rt: HostRuntime) -> Result<(), Fail> {
     let inner = source(rt.alloc(), b"one\ntwo\nthree", &[Answer::ServeEach(2)])?;
-    let mut from = ring(rt.alloc(), inner)?;
+    let mut from = reader_over(empty(rt.alloc(), true, 64)?, inner);
     let mut to = line_writer(rt.alloc(), 8, &[], target(rt.alloc(), &[])?)?;
     assert!(rt; copied(&mut from, &mut to) == Ok(13));
     assert!(rt; taken_lines(&to) == b"one\ntwo\n".as_slice());

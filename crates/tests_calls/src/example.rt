@@ -12,7 +12,7 @@ use std::alloc::Global;
 use std::io;
 use std::io::{BufRead, ErrorKind, Read, Write};
 use std::test::Fail;
-use tests_common::{consume, fill_buf, reader, reader_under, writer};
+use tests_common::{fill_buf, reader, reader_under, writer};
 
 /// Writes one entry of a log, and flushes it.
 fn log<W: TellWrite, P: WriterPolicy>(writer: &mut BufWriter<W, P>, entry: &[u8]) -> io::Result<()>
@@ -138,17 +138,18 @@ fn sees_header<R: TellRead>(reader: &mut BufReader<R, LookAhead>) -> io::Result<
     Ok(reader.fill_buf()?.len() >= 16)
 }
 
-fn sees<R: TellRead>(reader: &mut BufReader<R, LookAhead>) -> io::Result<bool> {
-    sees_header(reader)
+// Whether sixteen bytes are in sight, and whether they are once ten were consumed.
+fn sees<R: TellRead>(reader: &mut BufReader<R, LookAhead>) -> io::Result<(bool, bool)> {
+    let seen = sees_header(reader)?;
+    reader.consume(10);
+    Ok((seen, sees_header(reader)?))
 }
 
 #[test]
 fn sees_what_a_policy_keeps_in_sight(rt: HostRuntime) -> Result<(), Fail> {
     let text = Told::new(b"sixteen bytes or more".as_slice());
     let mut reader = reader_under(reader(rt.alloc(), 4, &[], text)?, LookAhead);
-    assert!(rt; sees(&mut reader)?);
-    consume(&mut reader, 10);
-    assert!(rt; !sees(&mut reader)?);
+    assert!(rt; sees(&mut reader)? == (true, false));
     assert!(rt; fill_buf(&mut reader)? == b"tes or more".as_slice());
     Ok(())
 }

@@ -35,7 +35,7 @@ fn put<W: Write>(wrt: &mut W, bytes: &[u8]) -> io::Result<()> {
 #[test]
 fn writes_lines(rt: HostRuntime) -> Result<(), Fail> {
     let mut lines = made(rt.alloc(), target(rt.alloc(), &[])?)?;
-    for (bytes, count) in STEPS {
+    for &(bytes, count) in &STEPS {
         put(&mut lines, bytes)?;
         assert!(rt; taken_lines(&lines) == first(&ALL, count));
     }

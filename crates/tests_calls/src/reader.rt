@@ -2,7 +2,6 @@
 use buffer_redux::BufReader;
 use buffer_redux::policy::MinBuffered;
 use buffer_redux::tell::{Tell, Told};
-use memchr::memchr;
 use std::alloc::Global;
 use std::io::BufRead;
 use std::process::Abort;
@@ -29,15 +28,12 @@ fn into_inner<R: Tell, P: Drop>(rdr: BufReader<R, P>) -> R {
 fn read_until<R: BufRead>(alloc: Global, rdr: &mut R, end: u8) -> Result<Vec<u8>, Fail> {
     let mut all = Vec::new(alloc);
     for _ in 0..u64::MAX {
-        let bytes = rdr.fill_buf()?;
-        let found = memchr(end, bytes);
-        let count = match found {
-            Some(at) => at + 1,
-            None => bytes.len(),
+        let Some(&byte) = rdr.fill_buf()?.first() else {
+            break;
         };
-        all.extend_from_slice(&bytes[..count])?;
-        rdr.consume(count);
-        if found.is_some() || count == 0 {
+        all.push(byte)?;
+        rdr.consume(1);
+        if byte == end {
             break;
         }
     }
@@ -61,8 +57,8 @@ const ROWS: [Row; 3] = [
     (5, b"to be read, whole", &[(10, b"to be read, whole")]),
 ];
 
-fn cuts(rt: &impl Abort, alloc: Global, row: Row) -> Result<(), Fail> {
-    let (capacity, bytes, parts) = row;
+fn cuts(rt: &impl Abort, alloc: Global, row: &Row) -> Result<(), Fail> {
+    let &(capacity, bytes, parts) = row;
     let mut rdr = reader(alloc, capacity, &[], Told::new(bytes))?;
     for &(end, part) in parts {
         assert!(rt; read_until(alloc, &mut rdr, end)?.as_slice() == part);
@@ -72,7 +68,7 @@ fn cuts(rt: &impl Abort, alloc: Global, row: Row) -> Result<(), Fail> {
 
 #[test]
 fn up_to_a_byte(rt: HostRuntime) -> Result<(), Fail> {
-    for row in ROWS {
+    for row in &ROWS {
         cuts(&rt, rt.alloc(), row)?;
     }
     Ok(())

@@ -69,8 +69,8 @@ const ROWS: [Row; 3] = [
     ),
 ];
 
-fn reads(rt: &impl Abort, alloc: Global, row: Row) -> Result<(), Fail> {
-    let (held, bytes, script, steps, offers) = row;
+fn reads(rt: &impl Abort, alloc: Global, row: &Row) -> Result<(), Fail> {
+    let &(held, bytes, script, steps, offers) = row;
     let mut rdr = unbuffered(reader(alloc, 4, held, source(alloc, bytes, script)?)?);
     assert!(rt; has(&rdr, held));
     walks(rt, &mut rdr, steps);
@@ -80,7 +80,7 @@ fn reads(rt: &impl Abort, alloc: Global, row: Row) -> Result<(), Fail> {
 
 #[test]
 fn reads_by_rows(rt: HostRuntime) -> Result<(), Fail> {
-    for row in ROWS {
+    for row in &ROWS {
         reads(&rt, rt.alloc(), row)?;
     }
     Ok(())

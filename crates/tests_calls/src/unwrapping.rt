@@ -232,9 +232,9 @@ fn comes_apart(
     alloc: Global,
     lines: bool,
     script: &[Answer],
-    row: Row,
+    row: &Row,
 ) -> Result<(), Fail> {
-    let (way, fault, left, taken, calls) = row;
+    let &(way, fault, left, taken, calls) = row;
     let mut stream = ScriptWriter::new(alloc, script)?;
     let drops = Cell::new(0);
     let (seen, buf, before) = taken_apart(alloc, lines, way, &mut stream, &drops)?;
@@ -245,21 +245,19 @@ fn comes_apart(
     Ok(())
 }
 
-#[test]
-fn comes_apart_in_each_way(rt: HostRuntime) -> Result<(), Fail> {
-    let tables: [(&[Answer], &[Row]); 3] = [
-        (&[], &WHOLE),
-        (&FAULTS, &FAULTY),
-        (&[Answer::ServeEach(1)], &SLOW),
-    ];
-    for (script, rows) in tables {
-        for row in rows {
-            for lines in [false, true] {
-                comes_apart(&rt, rt.alloc(), lines, script, *row)?;
-            }
-        }
+fn each(rt: &impl Abort, alloc: Global, script: &[Answer], rows: &[Row]) -> Result<(), Fail> {
+    for row in rows {
+        comes_apart(rt, alloc, false, script, row)?;
+        comes_apart(rt, alloc, true, script, row)?;
     }
     Ok(())
+}
+
+#[test]
+fn comes_apart_in_each_way(rt: HostRuntime) -> Result<(), Fail> {
+    each(&rt, rt.alloc(), &[], &WHOLE)?;
+    each(&rt, rt.alloc(), &FAULTS, &FAULTY)?;
+    each(&rt, rt.alloc(), &[Answer::ServeEach(1)], &SLOW)
 }
 
 pub(crate) fn unwrapped<W: TellWrite + Drop>(wrt: BufWriter<W>) -> io::Result<W> {
