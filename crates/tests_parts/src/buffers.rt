@@ -350,7 +350,8 @@ fn printed(rt: HostRuntime) -> Result<(), Fail> {
     let plain = debug(alloc, &empty(alloc, false, 1)?)?;
     assert!(rt;
         plain.as_str()
-            == "Buffer { imp: Std(StdBuf { buf: RawBuf { buf: [0] }, pos: 0, end: 0, stop: 1, consumed: Count, moved: Count }), limit: 4611686018427387904 }"
+            == "Buffer { imp: Std(StdBuf { buf: RawBuf { buf: [0] }, pos: 0, end: 0, stop: 1, consumed: Count, moved: Count }), \
+limit: 4611686018427387904 }"
     );
     Ok(())
 }

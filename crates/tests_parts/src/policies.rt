@@ -53,8 +53,8 @@ fn space(rdr: &BufReader<Source<'_>, Named>) -> (usize, usize, usize) {
     )
 }
 
-// Plays the calls over a buffer and a source that gives so many bytes, and sees that what was handed out, and then what is buffered,
-// is what was held and then given. Returns what the calls answered, and the space at the end.
+// Plays the calls over a buffer and a source that gives so many bytes, and sees that what was handed out, and then what is
+// buffered, is what was held and then given. Returns what the calls answered, and the space at the end.
 fn reads(
     rt: &impl Abort,
     alloc: Global,
