@@ -237,7 +237,8 @@ END
     refused decode "$scratch/body" "$payload"
 }
 
-# It says itself whether all is as it should be, also of more than any machine has, which is refused anyway.
+# It says itself whether all is as it should be. It meets each of the first refusals; the two behind are of more than any machine
+# has, which is refused anyway.
 run_tests_refused() {
     at=1
     met=0
@@ -247,12 +248,16 @@ run_tests_refused() {
             'no refusal') ;;
             *) wrong "$name without allocation $at" "$scratch/out" ;;
         esac
+        if [ "$(cat "$scratch/out")" = refused ] && [ "$met" -ne "$at" ]; then
+            wrong "$name: a refusal before allocation $at was lost" "$scratch/out"
+        fi
         ended "$name without allocation $at" "$status" 0 ''
         at=$((at + 1))
     done
     ended "$name" "$status" 0 ''
     holds "$name" crates/tests_refused/stdout
-    if [ "$met" -eq 0 ]; then wrong "$name: it meets no refusal" "$scratch/out"; fi
+    if [ "$met" -eq 0 ] || [ $((at - 1 - met)) -ne 2 ]; then wrong "$name: it met $met of $((at - 1)) refusals" "$scratch/out"; fi
+    echo "$name: $met runs met a refusal"
 }
 
 nothing=$scratch/nothing
