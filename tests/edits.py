@@ -13,10 +13,11 @@ not proved' says nothing, nor does 'proved' beside others: such an edit is tried
 Each crate is proved once at first, over a copy of what its out/ keeps, and each edit is tried over a copy of that. No crate
 of the repository is written to, but that libraries below are built where they aren't.
 
-With --after-ci it stops once checks took so many seconds of a processor, leaves out what `rt ci` tries, and takes from
-`rt ci` that the crates are proved and the libraries below them built: a check then asks for the edited functions alone, and
-proves what they call. It begins with the edits that have a line `# each time`, then come the crates that the last commits
-touched, and then the others in an order that changes with each commit.
+With --after-ci it begins no check once checks took so many seconds of a processor, where each that goes on counts for a minute,
+leaves out what `rt ci` tries, and takes from `rt ci` that the crates are proved and the libraries below them built: a check
+then asks for the edited functions alone, and proves what they call. It begins with the edits that have a line `# each time`,
+however long these take, then come the crates that the last commits touched, and then the others in an order that changes with
+each commit.
 
 The last line is 'N passed, M failed'; the status is 0 only if each edit that was tried was refused. A BAD EDIT, which can't be
 applied or read, or breaks another function than it names, fails by hand; with --after-ci it is told and counts for nothing, as
@@ -203,21 +204,38 @@ def unread(said, texts):
     return wrong[0] if wrong else "" if ended(said) else said.strip()[:300]
 
 
+class Budget:
+    """The seconds of a processor that checks took, and whether there are some left for another one, if there is a limit."""
+
+    def __init__(self, limit):
+        self.limit, self.spent, self.going = limit, [], []
+
+    def spend(self, check):
+        self.going.append(check)
+        try:
+            said, used = check()
+        finally:
+            self.going.remove(check)
+        self.spent.append(used)
+        return said
+
+    def is_left(self):
+        return not self.limit or sum(self.spent) + 60 * len(self.going) < self.limit
+
+
 class Crate:
     """A crate whose edits are tried: what is left to do, and the copies that no lane uses."""
 
-    def __init__(self, crate, edits, room, after_ci, spend):
-        self.crate, self.room, self.after_ci, self.spend = crate, f"{room}/{crate.name}", after_ci, spend
+    def __init__(self, crate, edits, room, budget):
+        self.crate, self.room, self.budget, self.after_ci = crate, f"{room}/{crate.name}", budget, bool(budget.limit)
         self.edits, self.found = edits, {}
         self.groups = groups_of([it for it in edits if it.each_time]) + groups_of([it for it in edits if not it.each_time])
-        self.kept = None if after_ci else pathlib.Path(crate.folder) / "out/incremental"
-        self.begun = self.ready = after_ci
+        self.kept = None if self.after_ci else pathlib.Path(crate.folder) / "out/incremental"
+        self.begun = self.ready = self.after_ci
         self.idle, self.made, self.busy = [], 0, 0
 
     def check(self, copy, texts, only=()):
-        said, used = copy.check(texts, only)
-        self.spend(used)
-        return said
+        return self.budget.spend(lambda: copy.check(texts, only))
 
     def copy(self):
         """A copy that no lane uses, or another one."""
@@ -263,12 +281,16 @@ class Crate:
             return False, "NOT REFUSED: the crate is still proved with this edit"
         return False, f"BAD EDIT: another function than {edit.fn} is refused"
 
-    def try_group(self, copy, group, has_time):
+    def try_group(self, copy, group):
         settled = self.together(copy, group)
         for it in group:
-            if it not in settled and has_time():
+            if it not in settled and (it.each_time or self.budget.is_left()):
                 settled[it] = self.alone(copy, it)
         self.found.update(settled)
+
+    def may_begin(self):
+        """Whether there is time for a group. For those of each time there is."""
+        return self.budget.is_left() or (self.groups and self.groups[0][0].each_time)
 
     def takes_a_lane(self):
         """Whether a group can be tried now. Behind `rt ci` a crate has one lane, since each copy proves for itself what is called."""
@@ -281,8 +303,8 @@ class Crate:
 class Lanes:
     """Tries the edits of the crates, those of the first first, and tells of each crate once it is done."""
 
-    def __init__(self, crates, has_time, tell):
-        self.left, self.has_time, self.tell = crates, has_time, tell
+    def __init__(self, crates, tell):
+        self.left, self.tell = crates, tell
         self.turn, self.errors = threading.Condition(), []
 
     def run(self, lanes):
@@ -298,8 +320,8 @@ class Lanes:
 
     def task(self):
         """A crate, and a group of its edits or None where it is to be begun; or no crate where nothing is left to do."""
-        while self.left and self.has_time() and not self.errors:
-            for it in self.left:
+        while (wanted := [it for it in self.left if it.may_begin()]) and not self.errors:
+            for it in wanted:
                 if not it.begun:
                     it.begun = True
                     return it, None
@@ -318,7 +340,7 @@ class Lanes:
                 crate.busy += 1
                 copy = crate.copy()
             try:
-                crate.try_group(copy, group, self.has_time) if group else crate.begin(copy)
+                crate.try_group(copy, group) if group else crate.begin(copy)
             except BaseException as error:
                 self.errors.append(error)
             with self.turn:
@@ -360,7 +382,7 @@ def main():
         edit = read(it)
         if not given.wanted or {edit.crate, str(it), str(it.relative_to(TOP))} & {*given.wanted}:
             edits[edit.crate].append(edit)
-    every, spent, counts = sum(map(len, edits.values())), [], collections.Counter()
+    every, budget, counts = sum(map(len, edits.values())), Budget(given.after_ci), collections.Counter()
     # Its first call sets a signal's handler, which only the main thread may, and lanes build libraries.
     LIBRARY.guarded()
     crates = {it.name: it for it in LIBRARY.crates_below(str(TOP))}
@@ -372,8 +394,8 @@ def main():
             print(f"{edit.crate}/{edit.path.name}: {'refused, as it must be' if well else 'FAILED'}: {why[:200]}", flush=True)
 
     with tempfile.TemporaryDirectory(prefix="edits-") as room:
-        work = [Crate(crates[it], edits[it], room, bool(given.after_ci), spent.append) for it in names]
-        Lanes(work, lambda: not given.after_ci or sum(spent) < given.after_ci, tell).run(given.lanes)
+        Lanes([Crate(crates[it], edits[it], room, budget) for it in names], tell).run(given.lanes)
+    spent = budget.spent
     print(f"tried {sum(counts.values())} of {every} edits in {len(spent)} checks, {sum(spent):.0f} seconds of a processor")
     print(f"{counts['passed']} passed, {counts['failed']} failed")
     return 1 if counts["failed"] else 0

@@ -175,7 +175,7 @@ fn two_runs<R: TellRead + TellSeek>(
 
 #[test]
 fn by_law(rt: HostRuntime) -> Result<(), Fail> {
-    let inner = Told::new(Positions { at: 0, seeks: 0 });
+    let inner = Told::new(Positions { at: 0 });
     let mut rdr = reader_under(reader(rt.alloc(), 12, &[], inner)?, MinBuffered(4));
     let handed = two_runs(rt.alloc(), &mut rdr)?;
     assert!(rt; handed.as_slice() == HANDED.as_slice());

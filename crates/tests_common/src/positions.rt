@@ -2,13 +2,11 @@
 use std::io;
 use std::io::{Read, Seek, SeekFrom};
 
-/// Each byte is the low part of its position, and positions go round. Counts its seeks.
+/// Each byte is the low part of its position, and positions go round.
 #[derive(Debug, Drop)]
 pub struct Positions {
     /// The position of the next byte.
     pub at: u64,
-    /// How many seeks there were.
-    pub seeks: usize,
 }
 
 // The byte at this position.
@@ -33,7 +31,6 @@ impl Seek for Positions {
             SeekFrom::End(offset) => u64::MAX.wrapping_add_signed(offset),
             SeekFrom::Current(offset) => self.at.wrapping_add_signed(offset),
         };
-        self.seeks = self.seeks.saturating_add(1);
         Ok(self.at)
     }
 }

@@ -28,22 +28,47 @@ const FORMS: [(Form, usize); 4] = [
     (Form::Ring, 4096),
 ];
 
-// The capacity of what is made, a block for 4 bytes or a buffer.
-fn block(alloc: Global, which: usize) -> Result<usize, GrowError> {
-    Ok(match which {
-        0 => RawBuf::with_capacity(alloc, 4)?.capacity(),
-        1 => StdBuf::with_capacity(alloc, 4)?.capacity(),
-        2 => BufImpl::with_capacity(alloc, 4)?.capacity(),
-        3 => SliceDequeBuf::with_capacity(alloc, 4)?.capacity(),
-        4 => BufImpl::with_capacity_ringbuf(alloc, 4)?.capacity(),
-        5 => Buffer::with_capacity(alloc, 4)?.capacity(),
-        6 => Buffer::with_capacity_ringbuf(alloc, 4)?.capacity(),
-        7 => Buffer::new(alloc)?.capacity(),
-        _ => Buffer::new_ringbuf(alloc)?.capacity(),
-    })
+// A block of each kind, or a buffer.
+#[derive(Clone, Copy)]
+enum Block {
+    Raw,
+    Std,
+    Plain,
+    Deque,
+    Ring,
+    Buffer,
+    RingBuffer,
+    UsualBuffer,
+    UsualRingBuffer,
 }
 
-const BLOCKS: [usize; 9] = [4, 4, 4, 4096, 4096, 4, 4096, 8192, 8192];
+// Each, and the capacity that it gives: the usual ones name none, the others are asked for 4 bytes.
+const BLOCKS: [(Block, usize); 9] = [
+    (Block::Raw, 4),
+    (Block::Std, 4),
+    (Block::Plain, 4),
+    (Block::Deque, 4096),
+    (Block::Ring, 4096),
+    (Block::Buffer, 4),
+    (Block::RingBuffer, 4096),
+    (Block::UsualBuffer, 8192),
+    (Block::UsualRingBuffer, 8192),
+];
+
+// The capacity of what is made.
+fn block(alloc: Global, which: Block) -> Result<usize, GrowError> {
+    Ok(match which {
+        Block::Raw => RawBuf::with_capacity(alloc, 4)?.capacity(),
+        Block::Std => StdBuf::with_capacity(alloc, 4)?.capacity(),
+        Block::Plain => BufImpl::with_capacity(alloc, 4)?.capacity(),
+        Block::Deque => SliceDequeBuf::with_capacity(alloc, 4)?.capacity(),
+        Block::Ring => BufImpl::with_capacity_ringbuf(alloc, 4)?.capacity(),
+        Block::Buffer => Buffer::with_capacity(alloc, 4)?.capacity(),
+        Block::RingBuffer => Buffer::with_capacity_ringbuf(alloc, 4)?.capacity(),
+        Block::UsualBuffer => Buffer::new(alloc)?.capacity(),
+        Block::UsualRingBuffer => Buffer::new_ringbuf(alloc)?.capacity(),
+    })
+}
 
 // What is made over a stream.
 trait Made<S>: Drop + Sized {
@@ -136,7 +161,7 @@ fn makes<T: Made<S>, S: Debug + Drop>(
 }
 
 pub fn blocks(alloc: Global, trial: &mut Trial) -> Result<(), Wrong> {
-    for (which, capacity) in BLOCKS.into_iter().enumerate() {
+    for (which, capacity) in BLOCKS {
         let made = match block(alloc, which) {
             Ok(made) => made,
             Err(e) => {
