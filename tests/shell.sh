@@ -2,11 +2,12 @@
 #
 # What no proof and no test of a crate shows: what the built programs do as a shell runs them, with the words, the input, the
 # output, the status and the line on standard error of each run; into a full device, a closed pipe and a closed output, from a
-# folder and from a closed input; and with one allocation after another refused, which the status and a line tell, and nothing
-# is written. tests_refused runs for its refusals alone: it makes each call that takes memory, and looks at what one leaves.
+# folder and from a closed input; with reads and writes that move little, fail or are interrupted; and with one allocation after
+# another refused, which the status and a line tell, and nothing is written. tests_refused runs for its refusals alone: it makes
+# each call that takes memory, and looks at what one leaves.
 #
 # `built` says that `rt ci` has just built them; else they are proved and built first. It wants a C compiler, for
-# tests/refuse.c. It says how many runs there were, writes nothing into the repository but what rt builds in the folders out/,
+# tests/system.c. It says how many runs there were, writes nothing into the repository but what rt builds in the folders out/,
 # and ends with status 0 only where each run ended well.
 set -u
 unset RT_BACKEND RT_SECONDS
@@ -96,10 +97,31 @@ faults() { # words, an input of which it writes more than a pipe holds
     holds "$name $1 from a closed input" "$nothing"
 }
 
+# A run whose reads and writes answer as scripts say, in the words of tests/system.c.
+answers() { # words, the input, how reads answer, how writes, the output wanted, the status, how often it reads and writes, the line
+    printf '%b' "$2" > "$scratch/in"
+    printf '%b' "$5" > "$scratch/want"
+    : > "$scratch/calls"
+    READS=$3 WRITES=$4 CALLS=$scratch/calls LD_PRELOAD=$system \
+        "$program" $1 < "$scratch/in" > "$scratch/out" 2> "$scratch/err"
+    ended "$name $1 as reads $3, writes $4" $? "$6" "${8:+$name: $8}"
+    holds "$name $1 as reads $3, writes $4" "$scratch/want"
+    calls="$(grep -c r "$scratch/calls") $(grep -c w "$scratch/calls")"
+    if [ "$calls" != "$7" ]; then wrong "$name $1 as reads $3, writes $4: $calls calls, not $7" "$scratch/calls"; fi
+}
+
+# The same of rows.
+answer() {
+    while IFS='|' read -r words input reads writes output status calls line; do
+        if [ "$status" -eq 1 ]; then line='read or write failed'; fi
+        answers "$words" "$input" "$reads" "$writes" "$output" "$status" "$calls" "$line"
+    done
+}
+
 # A run with one allocation refused. Whether the program came so far.
 meets() { # which, words, the input
     rm -f "$scratch/met"
-    REFUSE=$1 REFUSED=$scratch/met LD_PRELOAD=$refuse "$program" $2 < "$3" > "$scratch/out" 2> "$scratch/err"
+    REFUSE=$1 REFUSED=$scratch/met LD_PRELOAD=$system "$program" $2 < "$3" > "$scratch/out" 2> "$scratch/err"
     status=$?
     [ -e "$scratch/met" ]
 }
@@ -130,6 +152,30 @@ run_bufcopy() {
     gives '' '' ''
     refuses '[std|ring] [CAPACITY]' other Ring 00000064 'std 0' 'ring 1048577' 'std +5' 'ring std' '64 std' '64 64' \
         'ring 64 64'
+    # How many bytes it asks for first tells the capacity: of a ring, whole pages.
+    for row in '|8192' 'ring|8192' 'std|8192' '64|64' 'std 0000007|7' 'ring 64|4096' '1048576|1048576'; do
+        answers "${row%|*}" '' '' '' '' 0 '1 0'
+        if [ "$(cat "$scratch/calls")" != "r${row#*|}" ]; then wrong "$name ${row%|*}: another capacity" "$scratch/calls"; fi
+    done
+    # A plain buffer is sent when it is full, and a ring of 1 has room for all. After a fault nothing is sent. 64 interrupted turns in
+    # a row are begun again, as often as a row comes, and the 65th ends the run.
+    answer <<'END'
+3|abcde|1*||abcde|0|6 2
+ring 1|abcde|1*||abcde|0|6 1
+2|abcdef|e|||1|1 0
+2|abcdef|2 e||ab|1|2 1
+2|abcdef|2 2 e||abcd|1|3 2
+2|abcdef|2 2 2 e||abcdef|1|4 3
+2|abcdef||e||1|1 1
+2|abcdef||a e|ab|1|2 2
+2|abcdef||a a e|abcd|1|3 3
+1|abc||0||1|1 1
+2|abc|i64||abc|0|67 2
+2|abc|i64 2 i64||abc|0|131 2
+2|abc|i65|||1|65 0
+2|abc|2 i65||ab|1|66 1
+2|abc||i99||1|1 65
+END
     faults '' "$lines"
     for words in '' ring; do
         refused "$words" "$lines" "$lines"
@@ -172,6 +218,31 @@ run_frames() {
     gives unpack '\0000\0002ab\0000\0002c' 'ab\n' 5 "$cut"
     gives unpack '\0000\0002ab\0000' 'ab\n' 5 "$cut"
     gives unpack '\0000' '' 5 "$cut"
+    # Of an input that ended no more is asked, and after a fault nothing is sent.
+    answer <<'END'
+pack|a\n\nbc\n|||\0000\0001a\0000\0000\0000\0002bc|0|2 1
+pack|a\nbc|1*|1*|\0000\0001a\0000\0002bc|0|5 7
+pack|ab\n|e|||1|1 0
+pack|ab\n|2 e|||1|2 0
+pack|ab\n|2 2 e|||1|3 0
+pack|ab\n||e||1|2 1
+pack|ab\n||0||1|2 1
+pack|ab\n|i64 2 i64||\0000\0002ab|0|131 1
+pack|ab\n|2 i65|||1|66 0
+pack|ab\n||i65||1|2 65
+unpack|\0000\0001a\0000\0000|||a\n\n|0|2 1
+unpack|\0000\0001a\0000\0000|1*|1*|a\n\n|0|6 3
+unpack|\0000\0002ab\0000|1*||ab\n|5|6 1|the input ends within a frame
+unpack|\0000\0002ab|e|||1|1 0
+unpack|\0000\0002ab|2 2 e|||1|3 0
+unpack|\0000\0002ab||e||1|2 1
+unpack|\0000\0002ab||0||1|2 1
+unpack|\0000\0002ab|i64 2 i64||ab\n|0|131 1
+unpack|\0000\0002ab|2 i65|||1|66 0
+unpack|\0000\0002ab||i65||1|2 65
+END
+    # The byte that makes the line too long is the last that is asked for.
+    answers pack "ab\\n${most}A\\nc\\n" '1*' '' '\0000\0002ab' 4 '65539 1' "${long#frames: }"
     refuses 'pack|unpack' '' Pack packs 'pack unpack'
     faults pack "$lines"
     "$program" pack < "$lines" > "$scratch/frames"
@@ -228,6 +299,33 @@ END
     head -c 100000 "$lines" > "$payload"
     { printf '186A0\r\n' && cat "$payload" && printf '\r\n0\r\n\r\n'; } > "$scratch/body"
     turns decode "$scratch/body" "$payload"
+    # What one read gave is one chunk. A payload is sent before it is asked whether something follows it. After a fault nothing is
+    # sent.
+    answer <<'END'
+decode|3\r\nabc\r\n0\r\n\r\n|||abc|0|2 1
+decode|3\r\nabc\r\n0\r\n\r\n|1*|1*|abc|0|14 3
+decode|3\r\nab|1*||ab|5|6 1|the input ends after 5 bytes of a body
+decode|3\r\nabc\r\n0\r\n\r\n|e|||1|1 0
+decode|3\r\nabc\r\n0\r\n\r\n|2 2 e|||1|3 0
+decode|3\r\nabc\r\n0\r\n\r\n|a e||abc|1|2 1
+decode|3\r\nabc\r\n0\r\n\r\n||e||1|1 1
+decode|3\r\nabc\r\n0\r\n\r\n||0||1|1 1
+decode|3\r\nabc\r\n0\r\n\r\n||i65||1|1 65
+decode|3\r\nabc\r\n0\r\n\r\n|i64 a i64||abc|0|130 1
+decode|3\r\nabc\r\n0\r\n\r\n|i65|||1|65 0
+decode|3\r\nabc\r\n0\r\n\r\n|a i65||abc|1|66 1
+encode|abc|||3\r\nabc\r\n0\r\n\r\n|0|2 1
+encode|abc|2||2\r\nab\r\n1\r\nc\r\n0\r\n\r\n|0|3 1
+encode|\r\n|1*|2|1\r\n\r\r\n1\r\n\n\r\n0\r\n\r\n|0|3 2
+encode|abc|e|||1|1 0
+encode|abc|a e|||1|2 0
+encode|abc|i64 a i64||3\r\nabc\r\n0\r\n\r\n|0|130 1
+encode|abc|i65|||1|65 0
+encode|abc|a i65|||1|66 0
+encode|abc||e||1|2 1
+encode|abc||0||1|2 1
+encode|abc||i65||1|2 65
+END
     refuses 'decode|encode' '' encoder 'encode decode'
     faults encode "$lines"
     faults decode "$scratch/body"
@@ -266,9 +364,9 @@ lines=$scratch/lines
 seq 30000 > "$lines"
 # As many bytes as a frame may have.
 most=$(head -c 65535 /dev/zero | tr '\0' A)
-refuse=$scratch/refuse.so
-if ! "${CC:-cc}" -O2 -shared -fPIC -o "$refuse" tests/refuse.c -ldl 2> "$scratch/compiled"; then
-    wrong 'tests/refuse.c is not compiled' "$scratch/compiled"
+system=$scratch/system.so
+if ! "${CC:-cc}" -O2 -shared -fPIC -o "$system" tests/system.c -ldl 2> "$scratch/compiled"; then
+    wrong 'tests/system.c is not compiled' "$scratch/compiled"
     exit 1
 fi
 for it in bufcopy replay frames bodies tests_refused; do

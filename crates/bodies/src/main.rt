@@ -7,8 +7,6 @@ mod encode;
 mod ending;
 mod error;
 mod run;
-#[cfg(test)]
-mod tests;
 
 use crate::ending::Ending;
 use buffer_redux::tell::Told;

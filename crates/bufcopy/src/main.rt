@@ -3,8 +3,6 @@
 
 mod run;
 mod settings;
-#[cfg(test)]
-mod tests;
 
 use buffer_redux::tell::Told;
 use programs::{Ending, end};

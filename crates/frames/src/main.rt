@@ -5,8 +5,6 @@ mod ending;
 mod error;
 mod pack;
 mod run;
-#[cfg(test)]
-mod tests;
 mod tries;
 mod unpack;
 
