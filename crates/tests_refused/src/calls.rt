@@ -1,13 +1,11 @@
-//! Calls of readers and writers that grow their buffer: where that is refused, the call fails, nothing changed, and the same
-//! call then succeeds.
+//! Calls of readers and writers that grow their buffer: where that is refused, the call fails, and the same call then succeeds.
 use crate::growths::placed;
 use crate::streams::{Sink, Source, empty_sink, reading, taken};
-use crate::trial::{Trial, Wrong, digest, granted, is};
+use crate::trial::{Trial, Wrong, granted, is};
 use buffer_redux::policy::{FlushAtLeast, FlushExact, MinBuffered, WriterPolicy};
 use buffer_redux::tell::{TellRead, TellWrite, Told};
 use buffer_redux::{BufReader, BufWriter, Buffer, GrowError, LineWriter};
 use std::alloc::Global;
-use std::fmt::Debug;
 use std::io;
 use std::io::BufRead;
 use tests_common::policies::Greedy;
@@ -24,7 +22,7 @@ enum Call {
 }
 
 // Makes a call over a stream and a buffer, and takes apart what it was made of. Returns how many bytes were shown or taken.
-trait Attempts: Debug + Drop + Sized {
+trait Attempts: Drop + Sized {
     fn attempts(self, buf: Buffer, call: Call) -> (io::Result<usize>, Self, Buffer);
 }
 
@@ -112,10 +110,9 @@ fn takes<S: Attempts>(
     call: Call,
     (count, capacity): (usize, usize),
 ) -> Result<(S, Buffer), Wrong> {
-    let before = (digest(&inner), digest(&buf));
     let (mut answer, mut inner, mut buf) = inner.attempts(buf, call);
     if let Err(e) = answer {
-        trial.failed(e, (digest(&inner), digest(&buf)) == before)?;
+        trial.failed(e)?;
         (answer, inner, buf) = inner.attempts(buf, call);
     }
     is(granted(answer)? == count, "the count of a call")?;
@@ -135,7 +132,7 @@ pub fn over_placed(alloc: Global, trial: &mut Trial) -> Result<(), Wrong> {
             (Call::Fill(9000), (5, filled)),
         ] {
             let Ok(buf) = placed(alloc, is_ring) else {
-                return trial.meets(true);
+                return trial.meets();
             };
             let _ = takes(trial, (reading(&[4, 5]), buf), call, after)?;
         }
@@ -146,7 +143,7 @@ pub fn over_placed(alloc: Global, trial: &mut Trial) -> Result<(), Wrong> {
             (Call::WriteExact(9000, &[4, 5]), (2, filled)),
         ] {
             let Ok(buf) = placed(alloc, is_ring) else {
-                return trial.meets(true);
+                return trial.meets();
             };
             let _ = takes(trial, (empty_sink(), buf), call, after)?;
         }
@@ -157,7 +154,7 @@ pub fn over_placed(alloc: Global, trial: &mut Trial) -> Result<(), Wrong> {
 // Without a capacity at first. What then comes without memory is a row of `replay`.
 pub fn from_nothing(alloc: Global, trial: &mut Trial) -> Result<(), Wrong> {
     let Ok(buf) = empty(alloc, false, 0) else {
-        return trial.meets(true);
+        return trial.meets();
     };
     let parts = takes(trial, (reading(&BYTES), buf), Call::Fill(4), (4, 4))?;
     is(parts.1.buf() == &BYTES[..4], "the first fill")?;
@@ -166,7 +163,7 @@ pub fn from_nothing(alloc: Global, trial: &mut Trial) -> Result<(), Wrong> {
     is(parts.0.get_ref().asks == 1, "how often it is asked")?;
 
     let Ok(buf) = empty(alloc, false, 0) else {
-        return trial.meets(true);
+        return trial.meets();
     };
     let parts = takes(
         trial,
@@ -177,7 +174,7 @@ pub fn from_nothing(alloc: Global, trial: &mut Trial) -> Result<(), Wrong> {
     sends(parts, &[1])?;
 
     let Ok(buf) = empty(alloc, false, 0) else {
-        return trial.meets(true);
+        return trial.meets();
     };
     let parts = takes(
         trial,
@@ -206,7 +203,11 @@ fn fills_greedily<R: TellRead>(
     capacity: usize,
 ) -> Result<(), Wrong> {
     if let Err(e) = fill_buf(it) {
-        trial.failed(e, it.buf_len() == it.capacity().min(10000))?;
+        is(
+            it.buf_len() == it.capacity().min(10000),
+            "the bytes of the turns before",
+        )?;
+        trial.failed(e)?;
         let _ = granted(fill_buf(it))?;
     }
     is(it.buf_len() == 10000, "what is shown")?;
@@ -217,7 +218,7 @@ pub fn each_turn(alloc: Global, trial: &mut Trial) -> Result<(), Wrong> {
     let bytes = [7u8; 10000];
     for (is_ring, capacity) in [(false, 14096), (true, 16384)] {
         let Ok(buf) = empty(alloc, is_ring, 0) else {
-            return trial.meets(true);
+            return trial.meets();
         };
         let mut it = reader_under(BufReader::with_buffer(buf, reading(&bytes)), Greedy);
         fills_greedily(trial, &mut it, capacity)?;

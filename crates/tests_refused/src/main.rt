@@ -1,5 +1,5 @@
-//! Calls that take memory. `tests/shell.sh` runs them with a refusal at each place in turn: what is refused changes nothing,
-//! and the same call then succeeds. By itself it meets no refusal but of more than any machine has.
+//! Calls that take memory. `tests/shell.sh` runs them with a refusal at each place in turn: it is told as what it is, and the
+//! same call then succeeds over what the refusal left. By itself it meets no refusal but of more than any machine has.
 #![tactic(auto)]
 
 mod calls;

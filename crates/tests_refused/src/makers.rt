@@ -1,6 +1,6 @@
-//! Makers of either kind: a refused one hands its stream back as it was, and the same one asked again answers.
+//! Makers of either kind: a refused one hands its stream back, over which the same one answers.
 use crate::streams::{Sink, Source, empty_sink, reading};
-use crate::trial::{Trial, Wrong, digest, granted, is};
+use crate::trial::{Trial, Wrong, granted, is};
 use buffer_redux::tell::{Tell, TellRead, TellWrite, Told};
 use buffer_redux::{
     BufImpl, BufReader, BufWriter, Buffer, GrowError, LineWriter, MAX_CAPACITY, MAX_RING,
@@ -8,7 +8,6 @@ use buffer_redux::{
 };
 use frame_reader::{FrameReader, FrameWriter};
 use std::alloc::Global;
-use std::fmt::Debug;
 use tests_common::empty;
 
 // By which of its makers something is made.
@@ -56,7 +55,7 @@ const BLOCKS: [(Block, usize); 9] = [
 ];
 
 // The capacity of what is made.
-fn block(alloc: Global, which: Block) -> Result<usize, GrowError> {
+fn capacity_of(alloc: Global, which: Block) -> Result<usize, GrowError> {
     Ok(match which {
         Block::Raw => RawBuf::with_capacity(alloc, 4)?.capacity(),
         Block::Std => StdBuf::with_capacity(alloc, 4)?.capacity(),
@@ -144,17 +143,16 @@ impl<W: TellWrite + Drop> Made<W> for FrameWriter<W> {
 }
 
 // The capacity of what is made.
-fn makes<T: Made<S>, S: Debug + Drop>(
+fn makes<T: Made<S>, S: Drop>(
     alloc: Global,
     trial: &mut Trial,
     form: Form,
     inner: S,
 ) -> Result<usize, Wrong> {
-    let before = digest(&inner);
     match T::made(alloc, form, inner) {
         Ok(it) => Ok(it.room()),
         Err(MakeError(inner, e)) => {
-            trial.refused(e, digest(&inner) == before)?;
+            trial.refused(e)?;
             Ok(granted(T::made(alloc, form, inner))?.room())
         }
     }
@@ -162,11 +160,11 @@ fn makes<T: Made<S>, S: Debug + Drop>(
 
 pub fn blocks(alloc: Global, trial: &mut Trial) -> Result<(), Wrong> {
     for (which, capacity) in BLOCKS {
-        let made = match block(alloc, which) {
+        let made = match capacity_of(alloc, which) {
             Ok(made) => made,
             Err(e) => {
-                trial.refused(e, true)?;
-                granted(block(alloc, which))?
+                trial.refused(e)?;
+                granted(capacity_of(alloc, which))?
             }
         };
         is(made == capacity, "the capacity of a block")?;
