@@ -288,9 +288,9 @@ class Crate:
                 settled[it] = self.alone(copy, it)
         self.found.update(settled)
 
-    def may_begin(self):
-        """Whether there is time for a group. For those of each time there is."""
-        return self.budget.is_left() or (self.groups and self.groups[0][0].each_time)
+    def is_of_each_time(self):
+        """Whether the next group is one of each time."""
+        return bool(self.groups) and self.groups[0][0].each_time
 
     def takes_a_lane(self):
         """Whether a group can be tried now. Behind `rt ci` a crate has one lane, since each copy proves for itself what is called."""
@@ -301,10 +301,10 @@ class Crate:
 
 
 class Lanes:
-    """Tries the edits of the crates, those of the first first, and tells of each crate once it is done."""
+    """Tries the edits of the crates, those of each time and of the first first, and tells of each crate once it is done."""
 
-    def __init__(self, crates, tell):
-        self.left, self.tell = crates, tell
+    def __init__(self, crates, budget, tell):
+        self.left, self.budget, self.tell = crates, budget, tell
         self.turn, self.errors = threading.Condition(), []
 
     def run(self, lanes):
@@ -318,9 +318,14 @@ class Lanes:
         for it in self.left:
             self.tell(it)
 
+    def wanted(self):
+        """The crates whose next group there is time for, which there is for those of each time."""
+        pressing = [it for it in self.left if it.is_of_each_time()]
+        return pressing + [it for it in self.left if it not in pressing] if self.budget.is_left() else pressing
+
     def task(self):
         """A crate, and a group of its edits or None where it is to be begun; or no crate where nothing is left to do."""
-        while (wanted := [it for it in self.left if it.may_begin()]) and not self.errors:
+        while (wanted := self.wanted()) and not self.errors:
             for it in wanted:
                 if not it.begun:
                     it.begun = True
@@ -355,8 +360,8 @@ class Lanes:
 
 
 def in_turn(edits):
-    """The names of the crates, and the edits of each: those of each time first, then the crates that the last commits touched,
-    then the others, in an order that changes with each commit."""
+    """The names of the crates, those first that the last commits touched, and the edits of each, in an order that changes with each
+    commit."""
     def git(*words):
         return subprocess.run(["git", *words], cwd=TOP, capture_output=True, text=True).stdout.strip()
 
@@ -365,9 +370,7 @@ def in_turn(edits):
     touched = set(re.findall(r"(?m)^crates/(\w+)/", git("diff", "--name-only", before, "HEAD"))) if before else set()
     chance = random.Random(head)
     mixed = {it: chance.sample(edits[it], len(edits[it])) for it in chance.sample(sorted(edits), len(edits))}
-    for name in mixed:
-        mixed[name].sort(key=lambda it: not it.each_time)
-    return sorted(mixed, key=lambda it: (not mixed[it][0].each_time, it not in touched)), mixed
+    return sorted(mixed, key=lambda it: it not in touched), mixed
 
 
 def main():
@@ -394,7 +397,7 @@ def main():
             print(f"{edit.crate}/{edit.path.name}: {'refused, as it must be' if well else 'FAILED'}: {why[:200]}", flush=True)
 
     with tempfile.TemporaryDirectory(prefix="edits-") as room:
-        Lanes([Crate(crates[it], edits[it], room, budget) for it in names], tell).run(given.lanes)
+        Lanes([Crate(crates[it], edits[it], room, budget) for it in names], budget, tell).run(given.lanes)
     spent = budget.spent
     print(f"tried {sum(counts.values())} of {every} edits in {len(spent)} checks, {sum(spent):.0f} seconds of a processor")
     print(f"{counts['passed']} passed, {counts['failed']} failed")
