@@ -3,7 +3,7 @@ use buffer_redux::script::{Answer, FaultAt};
 use redux_buffer::laws::potential;
 use redux_buffer::tell::Told;
 use redux_buffer::{BufImpl, Buffer, GrowError, RawBuf, StdBuf, laws};
-use std::alloc::Global;
+use std::alloc::{AllocError, Global};
 use std::io;
 use std::process::Abort;
 use std::test::Fail;
@@ -39,6 +39,13 @@ fn answer(b: &mut Buffer, call: Call<'_>) -> Result<usize, GrowError> {
 // A call, its count or its refusal, and then the first ten bytes, the capacity, the usable space and the limit.
 type Row = (Call<'static>, &'static str);
 
+// What a call comes to.
+fn seen(alloc: Global, b: &mut Buffer, call: Call<'_>) -> Result<String, AllocError> {
+    let count = answer(b, call);
+    let space = (b.capacity(), b.usable_space(), b.limit());
+    debug(alloc, &(count, first(b.buf(), 10), space))
+}
+
 // A buffer of this kind and capacity, through these calls.
 fn walks(
     rt: &(impl Abort + AllocGlobal),
@@ -48,9 +55,7 @@ fn walks(
 ) -> Result<(), Fail> {
     let mut b = empty(rt.alloc(), ring, capacity)?;
     for &(call, text) in rows {
-        let count = answer(&mut b, call);
-        let space = (b.capacity(), b.usable_space(), b.limit());
-        let came = debug(rt.alloc(), &(count, first(b.buf(), 10), space))?;
+        let came = seen(rt.alloc(), &mut b, call)?;
         assert!(rt; came.as_str() == text, "{came}");
     }
     Ok(())
@@ -228,15 +233,20 @@ const SENT: [(&'static [u8], Send, Answer, &'static str); 5] = [
     ),
 ];
 
+// What a send returns, and what comes of it.
+fn sends(alloc: Global, b: &mut Buffer, how: Send, wrt: &mut Target) -> Result<String, AllocError> {
+    let answer = kind(send_by(b, how, wrt));
+    let inner = wrt.get_ref();
+    let taken = inner.get_ref().as_slice();
+    debug(alloc, &(answer, taken, b.buf(), inner.calls()))
+}
+
 #[test]
 fn sent(rt: HostRuntime) -> Result<(), Fail> {
     for (held, how, first, text) in SENT {
-        let mut b = holding_in(rt.alloc(), false, 4, held)?;
         let mut wrt = Told::new(FaultAt::new(Vec::new(rt.alloc()), 0, first));
-        let answer = kind(send_by(&mut b, how, &mut wrt));
-        let inner = wrt.get_ref();
-        let taken = inner.get_ref().as_slice();
-        let came = debug(rt.alloc(), &(answer, taken, b.buf(), inner.calls()))?;
+        let mut b = holding_in(rt.alloc(), false, 4, held)?;
+        let came = sends(rt.alloc(), &mut b, how, &mut wrt)?;
         assert!(rt; came.as_str() == text, "{came}");
     }
     Ok(())

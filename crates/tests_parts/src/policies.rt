@@ -2,14 +2,13 @@
 //! or changes place.
 use crate::named::{Name, Named, policy_of};
 use buffer_redux::script::{Answer, FaultAt};
-use buffer_redux::tell::{Tell, TellRead, TellWrite, Told};
-use buffer_redux::{BufReader, BufWriter, Buffer};
+use buffer_redux::tell::{TellRead, TellWrite, Told};
+use buffer_redux::{BufReader, BufWriter, Buffer, GrowError};
 use redux_play::play::{
     ReaderCall, ReaderRun, WriterAnswer, WriterCall, WriterRun, play_reader, play_writer,
 };
 use std::alloc::{AllocError, Global};
 use std::io::ErrorKind;
-use std::process::Abort;
 use std::test::Fail;
 use tests_common::{debug, empty, first, holding_in, numbered, reader_under, writer_under};
 
@@ -18,15 +17,39 @@ type Fault = (usize, Answer);
 
 const NO_FAULT: Fault = (18446744073709551615, Answer::Serve(0));
 
+// A policy, the kind and the capacity of its buffer, and what goes wrong inside.
+#[derive(Clone, Copy)]
+struct Setting {
+    name: Name,
+    ring: bool,
+    capacity: usize,
+    fault: Fault,
+}
+
+// What a list of calls answered and left, and whether no byte was lost.
+type Played = (String, bool);
+
 fn faulty<S>(stream: S, fault: Fault) -> Told<FaultAt<S>> {
     let (before, wrong) = fault;
     Told::new(FaultAt::new(stream, before, wrong))
 }
 
-fn reader<R: Tell + Drop>(buffer: Buffer, inner: R, policy: Named) -> BufReader<R, Named> {
-    reader_under(BufReader::with_buffer(buffer, inner), policy)
+type Reader<'a> = BufReader<Told<FaultAt<&'a [u8]>>, Named>;
+
+// A reader of these bytes, of which so many are buffered at first.
+fn reader(
+    alloc: Global,
+    setting: Setting,
+    bytes: &[u8],
+    held: usize,
+) -> Result<Reader<'_>, GrowError> {
+    let buffer = holding_in(alloc, setting.ring, setting.capacity, first(bytes, held))?;
+    let inner = faulty(bytes.get(held..).unwrap_or_default(), setting.fault);
+    let policy = policy_of(alloc, setting.name);
+    Ok(reader_under(BufReader::with_buffer(buffer, inner), policy))
 }
 
+// Plays the calls, and adds to what they handed out what is then buffered.
 fn play_reads<R: TellRead>(
     alloc: Global,
     rdr: &mut BufReader<R, Named>,
@@ -34,18 +57,17 @@ fn play_reads<R: TellRead>(
 ) -> Result<ReaderRun, AllocError> {
     let mut run = ReaderRun::new(alloc);
     play_reader(alloc, rdr, calls, &mut run)?;
+    run.handed.extend_from_slice(rdr.buffer())?;
     Ok(run)
 }
 
-type Source<'a> = Told<FaultAt<&'a [u8]>>;
-
 // How many bytes the source has left.
-fn left(rdr: &BufReader<Source<'_>, Named>) -> usize {
+fn left(rdr: &Reader<'_>) -> usize {
     rdr.get_ref().get_ref().get_ref().len()
 }
 
 // How many bytes are buffered, the capacity, and how often the source was asked.
-fn space(rdr: &BufReader<Source<'_>, Named>) -> (usize, usize, usize) {
+fn space(rdr: &Reader<'_>) -> (usize, usize, usize) {
     (
         rdr.buf_len(),
         rdr.capacity(),
@@ -53,28 +75,49 @@ fn space(rdr: &BufReader<Source<'_>, Named>) -> (usize, usize, usize) {
     )
 }
 
-// Plays the calls over a buffer and a source that gives so many bytes, and sees that what was handed out, and then what is
-// buffered, is what was held and then given. Returns what the calls answered, and the space at the end.
-fn reads(
-    rt: &impl Abort,
+// What the calls answer, and the space at the end. What is handed out, and then what is buffered, has to be what was held and then
+// given.
+fn looks(
     alloc: Global,
-    policy: Named,
-    buffer: Buffer,
-    given: usize,
-    fault: Fault,
+    rdr: &mut Reader<'_>,
+    bytes: &[u8],
     calls: &[ReaderCall],
-) -> Result<String, Fail> {
-    let held = buffer.len();
-    let bytes = numbered(alloc, held.saturating_add(given))?;
-    let inner = faulty(bytes.get(held..).unwrap_or_default(), fault);
-    let mut rdr = reader(buffer, inner, policy);
-    let run = play_reads(alloc, &mut rdr, calls)?;
-    let text = debug(alloc, &(run.answers.as_slice(), space(&rdr)))?;
-    let mut joined = run.handed;
-    joined.extend_from_slice(rdr.buffer())?;
-    let served = bytes.len().saturating_sub(left(&rdr));
-    assert!(rt; joined.as_slice() == first(bytes.as_slice(), served));
-    Ok(text)
+) -> Result<Played, Fail> {
+    let run = play_reads(alloc, rdr, calls)?;
+    let served = bytes.len().saturating_sub(left(rdr));
+    let text = debug(alloc, &(run.answers.as_slice(), space(rdr)))?;
+    Ok((text, run.handed.as_slice() == first(bytes, served)))
+}
+
+fn reads(
+    alloc: Global,
+    setting: Setting,
+    bytes: &[u8],
+    held: usize,
+    calls: &[ReaderCall],
+) -> Result<Played, Fail> {
+    let mut rdr = reader(alloc, setting, bytes, held)?;
+    looks(alloc, &mut rdr, bytes, calls)
+}
+
+type Writer = BufWriter<Told<FaultAt<Vec<u8>>>, Named>;
+
+// A writer over an empty buffer.
+fn writer(alloc: Global, setting: Setting) -> Result<Writer, GrowError> {
+    let buffer = empty(alloc, setting.ring, setting.capacity)?;
+    let inner = faulty(Vec::new(alloc), setting.fault);
+    let policy = policy_of(alloc, setting.name);
+    Ok(writer_under(BufWriter::with_buffer(buffer, inner), policy))
+}
+
+fn play_writes<W: TellWrite>(
+    alloc: Global,
+    wrt: &mut BufWriter<W, Named>,
+    calls: &[WriterCall<'_>],
+) -> Result<WriterRun, AllocError> {
+    let mut run = WriterRun::new(alloc);
+    play_writer(wrt, calls, &mut run)?;
+    Ok(run)
 }
 
 // What the calls took in.
@@ -92,45 +135,52 @@ fn accepted(
     Ok(accepted)
 }
 
-fn writer<W: TellWrite + Drop>(buffer: Buffer, inner: W, policy: Named) -> BufWriter<W, Named> {
-    writer_under(BufWriter::with_buffer(buffer, inner), policy)
-}
-
-fn play_writes<W: TellWrite>(
-    alloc: Global,
-    wrt: &mut BufWriter<W, Named>,
-    calls: &[WriterCall<'_>],
-) -> Result<WriterRun, AllocError> {
-    let mut run = WriterRun::new(alloc);
-    play_writer(wrt, calls, &mut run)?;
-    Ok(run)
-}
-
 // The stream inside, and what is left in the buffer.
 fn taken_apart<W: TellWrite>(wrt: BufWriter<W, Named>) -> (W, Buffer) {
     wrt.into_inner_with_buffer()
 }
 
-// Plays the calls over an empty buffer, and sees that what the target took, and then what is buffered, is what the calls took in.
-// Returns what they answered, what was taken, and how many calls the target had.
-fn writes(
-    rt: &impl Abort,
-    alloc: Global,
-    policy: Named,
-    buffer: Buffer,
-    fault: Fault,
-    calls: &[WriterCall<'_>],
-) -> Result<String, Fail> {
-    let mut wrt = writer(buffer, faulty(Vec::new(alloc), fault), policy);
+// Whether these bytes are the first ones and then the others, and no more.
+fn is_joined(bytes: &[u8], front: &[u8], behind: &[u8]) -> bool {
+    bytes.starts_with(front) && bytes.get(front.len()..) == Some(behind)
+}
+
+// What the calls answered, what the target took, and how many calls it had. That, and then what is buffered, has to be what the
+// calls took in.
+fn writes(alloc: Global, setting: Setting, calls: &[WriterCall<'_>]) -> Result<Played, Fail> {
+    let mut wrt = writer(alloc, setting)?;
     let run = play_writes(alloc, &mut wrt, calls)?;
-    let answers = run.answers.as_slice();
-    let (told, buffer) = taken_apart(wrt);
-    let inner = told.get_ref();
+    let (inner, buffer) = taken_apart(wrt);
+    let accepted = accepted(alloc, calls, run.answers.as_slice())?;
+    written(
+        alloc,
+        inner.get_ref(),
+        &run,
+        accepted.as_slice(),
+        buffer.buf(),
+    )
+}
+
+fn written(
+    alloc: Global,
+    inner: &FaultAt<Vec<u8>>,
+    run: &WriterRun,
+    accepted: &[u8],
+    left: &[u8],
+) -> Result<Played, Fail> {
     let taken = inner.get_ref().as_slice();
-    let mut joined = Vec::from_slice(alloc, taken)?;
-    joined.extend_from_slice(buffer.buf())?;
-    assert!(rt; joined.as_slice() == accepted(alloc, calls, answers)?.as_slice());
-    Ok(debug(alloc, &(answers, taken, inner.calls()))?)
+    let text = debug(alloc, &(run.answers.as_slice(), taken, inner.calls()))?;
+    Ok((text, is_joined(accepted, taken, left)))
+}
+
+// A plain buffer, and no fault.
+fn plain(name: Name, capacity: usize) -> Setting {
+    Setting {
+        name,
+        ring: false,
+        capacity,
+        fault: NO_FAULT,
+    }
 }
 
 const FILL: ReaderCall = ReaderCall::Fill;
@@ -243,22 +293,18 @@ const GROWING_READS: [Reads; 5] = [
     ),
 ];
 
+fn reads_so(alloc: Global, row: &Reads) -> Result<bool, Fail> {
+    let &(name, capacity, held, given, calls, text) = row;
+    let bytes = numbered(alloc, held.saturating_add(given))?;
+    let (came, kept) = reads(alloc, plain(name, capacity), bytes.as_slice(), held, calls)?;
+    Ok(kept && came.as_str() == text)
+}
+
 #[test]
 fn readers(rt: HostRuntime) -> Result<(), Fail> {
-    let alloc = rt.alloc();
-    for rows in [READS, GROWING_READS] {
-        for (name, capacity, held, given, calls, text) in rows {
-            let buffer = holding_in(alloc, false, capacity, numbered(alloc, held)?.as_slice())?;
-            let came = reads(
-                &rt,
-                alloc,
-                policy_of(alloc, name),
-                buffer,
-                given,
-                NO_FAULT,
-                calls,
-            )?;
-            assert!(rt; came.as_str() == text, "{came}");
+    for rows in [&READS, &GROWING_READS] {
+        for row in rows {
+            assert!(rt; reads_so(rt.alloc(), row)?, "{}", row.5);
         }
     }
     Ok(())
@@ -304,13 +350,16 @@ const WRITES: [Writes; 3] = [
     ),
 ];
 
+fn writes_so(alloc: Global, row: &Writes) -> Result<bool, Fail> {
+    let &(name, capacity, calls, text) = row;
+    let (came, kept) = writes(alloc, plain(name, capacity), calls)?;
+    Ok(kept && came.as_str() == text)
+}
+
 #[test]
 fn writers(rt: HostRuntime) -> Result<(), Fail> {
-    let alloc = rt.alloc();
-    for (name, capacity, calls, text) in WRITES {
-        let buffer = empty(alloc, false, capacity)?;
-        let came = writes(&rt, alloc, policy_of(alloc, name), buffer, NO_FAULT, calls)?;
-        assert!(rt; came.as_str() == text, "{came}");
+    for row in &WRITES {
+        assert!(rt; writes_so(rt.alloc(), row)?, "{}", row.3);
     }
     Ok(())
 }
@@ -369,20 +418,32 @@ const WRITER_CALLS: [WriterCall<'static>; 9] = [
     WriterCall::Flush,
 ];
 
-// The lists of calls under each policy, over a buffer of either kind and a stream that goes wrong; under a policy that fails,
-// at each of its first questions.
-#[test]
-fn in_order(rt: HostRuntime) -> Result<(), Fail> {
-    let alloc = rt.alloc();
+// The lists of calls under a policy, over a buffer of either kind and each stream that goes wrong.
+fn keeps(alloc: Global, name: Name, bytes: &[u8]) -> Result<bool, Fail> {
     for ring in [false, true] {
-        for name in NAMES {
-            for fault in FAULTS {
-                let (policy, buffer) = (policy_of(alloc, name), empty(alloc, ring, 4)?);
-                let _ = reads(&rt, alloc, policy, buffer, 40, fault, &READER_CALLS)?;
-                let (policy, buffer) = (policy_of(alloc, name), empty(alloc, ring, 2)?);
-                let _ = writes(&rt, alloc, policy, buffer, fault, &WRITER_CALLS)?;
+        for fault in FAULTS {
+            let of = |capacity| Setting {
+                name,
+                ring,
+                capacity,
+                fault,
+            };
+            if !reads(alloc, of(4), bytes, 0, &READER_CALLS)?.1
+                || !writes(alloc, of(2), &WRITER_CALLS)?.1
+            {
+                return Ok(false);
             }
         }
+    }
+    Ok(true)
+}
+
+// Under each policy, and under one that fails at each of its first questions.
+#[test]
+fn in_order(rt: HostRuntime) -> Result<(), Fail> {
+    let bytes = numbered(rt.alloc(), 40)?;
+    for name in NAMES {
+        assert!(rt; keeps(rt.alloc(), name, bytes.as_slice())?, "{name:?}");
     }
     Ok(())
 }

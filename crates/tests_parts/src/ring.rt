@@ -1,5 +1,6 @@
 //! When the bytes of a ring move, as its head shows, which is printed.
 use redux_buffer::SliceDequeBuf;
+use std::alloc::{AllocError, Global};
 use std::test::Fail;
 use tests_common::debug;
 
@@ -73,28 +74,41 @@ const AT_THE_CAPACITY: &'static [Row] = &[
     (Step::Consume(3999), "head: 0,", 0, 4096),
 ];
 
-// A walk, and the bytes in front at its end.
-const WALKS: [(&'static [Row], &'static [u8]); 4] = [
+// Steps, and the bytes in front at their end.
+type Walk = (&'static [Row], &'static [u8]);
+
+const WALKS: [Walk; 4] = [
     (READS, &[]),
     (EMPTIED, &[]),
     (WRITTEN_WITHOUT_A_LOAN, &[8; 96]),
     (AT_THE_CAPACITY, &[]),
 ];
 
+// Whether the ring is so behind this step.
+fn is_so(alloc: Global, ring: &mut SliceDequeBuf, row: &Row) -> Result<bool, AllocError> {
+    let &(step, head, len, usable) = row;
+    take_step(ring, step);
+    let text = debug(alloc, ring)?;
+    Ok(text.contains(head) && (ring.len(), ring.usable_space()) == (len, usable))
+}
+
+// Behind how many steps of a walk the ring is another, if it is, or the bytes in front at its end.
+fn wrong_behind(alloc: Global, walk: &Walk) -> Result<Option<usize>, Fail> {
+    let &(rows, front) = walk;
+    let mut ring = SliceDequeBuf::with_capacity(alloc, 4096)?;
+    for (at, row) in rows.iter().enumerate() {
+        if !is_so(alloc, &mut ring, row)? {
+            return Ok(Some(at));
+        }
+    }
+    Ok((!ring.buf().starts_with(front)).then_some(rows.len()))
+}
+
 #[test]
 fn heads(rt: HostRuntime) -> Result<(), Fail> {
-    for (rows, front) in WALKS {
-        let mut ring = SliceDequeBuf::with_capacity(rt.alloc(), 4096)?;
-        for &(call, head, len, usable) in rows {
-            take_step(&mut ring, call);
-            let text = debug(rt.alloc(), &ring)?;
-            assert!(rt; text.contains(head), "{head}");
-            assert!(rt;
-                (ring.len(), ring.usable_space()) == (len, usable),
-                "{head}"
-            );
-        }
-        assert!(rt; ring.buf().starts_with(front));
+    for walk in &WALKS {
+        let wrong = wrong_behind(rt.alloc(), walk)?;
+        assert!(rt; wrong.is_none(), "at {wrong:?}");
     }
     Ok(())
 }

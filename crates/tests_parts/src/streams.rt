@@ -251,16 +251,23 @@ fn faults(rt: HostRuntime) -> Result<(), Fail> {
     Ok(())
 }
 
+fn reads_through(alloc: Global, bytes: &[u8], out: &mut [u8]) -> io::Result<usize> {
+    read(&mut ScriptSeeker::new(alloc, bytes, &[])?, out)
+}
+
+fn writes_through(stream: &mut ScriptSeeker<Vec<u8>>, bytes: &[u8]) -> io::Result<usize> {
+    let count = write(stream, bytes)?;
+    flush(stream)?;
+    Ok(count)
+}
+
 // The reads and writes of a scripted seeker go on to the stream inside.
 #[test]
 fn scripted_seeker(rt: HostRuntime) -> Result<(), Fail> {
-    let mut rdr = ScriptSeeker::new(rt.alloc(), [1, 2].as_slice(), &[])?;
     let mut out = [0u8; 3];
-    assert!(rt; read(&mut rdr, &mut out)? == 2);
-    assert!(rt; out == [1, 2, 0]);
+    assert!(rt; reads_through(rt.alloc(), &[1, 2], &mut out)? == 2 && out == [1, 2, 0]);
     let mut wrt = ScriptSeeker::new(rt.alloc(), Vec::new(rt.alloc()), &[])?;
-    assert!(rt; write(&mut wrt, &[3, 4])? == 2);
-    flush(&mut wrt)?;
+    assert!(rt; writes_through(&mut wrt, &[3, 4])? == 2);
     assert!(rt; wrt.get_ref().as_slice() == [3, 4].as_slice());
     Ok(())
 }
