@@ -1,7 +1,7 @@
 #!/usr/bin/env python3
 """Tries wrong edits, many in one check: the prover must refuse each.
 
-usage, at the top of the repository: python3 tests/edits.py [--after-ci SECONDS] [--lanes N] [CRATE | EDIT ..]
+usage, at the top of the repository: python3 tests/edits.py [--after-ci SECONDS] [--anew] [--lanes N] [CRATE | EDIT ..]
 
 An edit stands in tests/edits/CRATE/, or in crates/CRATE/must-fail/, where `rt ci` tries it too. It is a file as that reads
 it, with a line `# fn: PATH` in front, which names the function whose proof it breaks, as `rt check` does below the crate.
@@ -11,7 +11,8 @@ each has its verdict in the line of its own function: one that tells of goals of
 not proved' says nothing, nor does 'proved' beside others: such an edit is tried alone, and so is one that names no function.
 
 Each crate is proved once at first, over a copy of what its out/ keeps, and each edit is tried over a copy of that. No crate
-of the repository is written to, but that libraries below are built where they aren't.
+of the repository is written to, but that libraries below are built where they aren't. What was refused is kept in the crate's
+out/, and is not tried again while the edit, the crate, the libraries below it and the kit are the same; --anew tries all.
 
 With --after-ci it begins no check once checks took so many seconds of a processor, where each that goes on counts for a minute,
 leaves out what `rt ci` tries, and takes from `rt ci` that the crates are proved and the libraries below them built: a check
@@ -25,8 +26,10 @@ in `rt ci`.
 """
 import argparse
 import collections
+import hashlib
 import importlib.machinery
 import importlib.util
+import json
 import os
 import pathlib
 import random
@@ -40,6 +43,8 @@ import threading
 TOP = pathlib.Path(__file__).resolve().parent.parent
 # What a proof file says where an edit took away what it names.
 NAMES = re.compile(r"(\./)?proofs/.*(has no field|is not in scope|has no `|was not admitted)")
+# What stands before a reason that an earlier run found.
+KEPT = "kept: "
 # The parts of a function's line that tell of other functions.
 OTHERS = re.compile(r"(no proof: )?it (calls|passes|waits|uses) ")
 
@@ -223,15 +228,43 @@ class Budget:
         return not self.limit or sum(self.spent) + 60 * len(self.going) < self.limit
 
 
+class Refusals:
+    """Why edits of a crate were refused by earlier runs, by a sum of all that such a verdict stands on."""
+
+    def __init__(self, crate):
+        self.path = pathlib.Path(crate.folder) / "out/refused-edits.json"
+        self.stamp = f"{crate.stamp()} {(pathlib.Path(LIBRARY.KIT) / 'KIT-ID').read_text(encoding='utf-8')}"
+        try:
+            self.found = json.loads(self.path.read_text(encoding="utf-8"))
+        except (OSError, ValueError):
+            self.found = {}
+
+    def sum(self, edit):
+        return hashlib.sha256(repr((self.stamp, edit.fn, edit.pairs)).encode()).hexdigest()
+
+    def of(self, edits):
+        return {it: (True, f"{KEPT}{self.found[self.sum(it)]}") for it in edits if self.sum(it) in self.found}
+
+    def keep(self, settled):
+        self.found.update({self.sum(it): why for it, (well, why) in settled.items() if well})
+        self.path.parent.mkdir(exist_ok=True)
+        written = self.path.with_suffix(".new")
+        written.write_text(json.dumps(self.found), encoding="utf-8")
+        written.replace(self.path)
+
+
 class Crate:
     """A crate whose edits are tried: what is left to do, and the copies that no lane uses."""
 
-    def __init__(self, crate, edits, room, budget):
+    def __init__(self, crate, edits, room, budget, anew):
         self.crate, self.room, self.budget, self.after_ci = crate, f"{room}/{crate.name}", budget, bool(budget.limit)
-        self.edits, self.found = edits, {}
-        self.groups = groups_of([it for it in edits if it.each_time]) + groups_of([it for it in edits if not it.each_time])
+        self.refusals, self.keeping = Refusals(crate), threading.Lock()
+        self.found = {} if self.after_ci or anew else self.refusals.of(edits)
+        self.edits = [it for it in edits if it not in self.found]
+        self.groups = groups_of([it for it in self.edits if it.each_time])
+        self.groups += groups_of([it for it in self.edits if not it.each_time])
         self.kept = None if self.after_ci else pathlib.Path(crate.folder) / "out/incremental"
-        self.begun = self.ready = self.after_ci
+        self.begun = self.ready = self.after_ci or not self.edits
         self.idle, self.made, self.busy = [], 0, 0
 
     def check(self, copy, texts, only=()):
@@ -249,7 +282,7 @@ class Crate:
         with BUILDING:
             lacks = any(it.build_rlib(["--jobs", "1"], anew=False) for it in self.crate.below())
         if lacks or ended(self.check(copy, {})) != "proved":
-            self.found = {it: (False, "the crate itself, or a library below it, is not proved") for it in self.edits}
+            self.found.update({it: (False, "the crate itself, or a library below it, is not proved") for it in self.edits})
             self.groups = []
         self.kept, self.ready = copy.kept, True
 
@@ -286,7 +319,10 @@ class Crate:
         for it in group:
             if it not in settled and (it.each_time or self.budget.is_left()):
                 settled[it] = self.alone(copy, it)
-        self.found.update(settled)
+        with self.keeping:
+            self.found.update(settled)
+            if not self.after_ci:
+                self.refusals.keep(settled)
 
     def is_of_each_time(self):
         """Whether the next group is one of each time."""
@@ -308,6 +344,9 @@ class Lanes:
         self.turn, self.errors = threading.Condition(), []
 
     def run(self, lanes):
+        for it in [it for it in self.left if it.is_done()]:
+            self.left.remove(it)
+            self.tell(it)
         threads = [threading.Thread(target=self.lane) for _ in range(lanes)]
         for it in threads:
             it.start()
@@ -376,6 +415,7 @@ def in_turn(edits):
 def main():
     parser = argparse.ArgumentParser(description=__doc__, formatter_class=argparse.RawDescriptionHelpFormatter)
     parser.add_argument("--after-ci", type=int, metavar="SECONDS")
+    parser.add_argument("--anew", action="store_true")
     parser.add_argument("--lanes", type=int, default=len(os.sched_getaffinity(0)))
     parser.add_argument("wanted", nargs="*")
     given = parser.parse_args()
@@ -394,12 +434,16 @@ def main():
     def tell(crate):
         for edit, (well, why) in sorted(crate.found.items(), key=lambda it: it[0].path):
             counts["passed" if well else "told" if given.after_ci and why.startswith("BAD EDIT") else "failed"] += 1
+            counts["kept"] += why.startswith(KEPT)
             print(f"{edit.crate}/{edit.path.name}: {'refused, as it must be' if well else 'FAILED'}: {why[:200]}", flush=True)
 
     with tempfile.TemporaryDirectory(prefix="edits-") as room:
-        Lanes([Crate(crates[it], edits[it], room, budget) for it in names], budget, tell).run(given.lanes)
+        Lanes([Crate(crates[it], edits[it], room, budget, given.anew) for it in names], budget, tell).run(given.lanes)
     spent = budget.spent
-    print(f"tried {sum(counts.values())} of {every} edits in {len(spent)} checks, {sum(spent):.0f} seconds of a processor")
+    if counts["kept"]:
+        print(f"{counts['kept']} of these were refused by an earlier run, and nothing that they stand on has changed")
+    tried = counts["passed"] + counts["failed"] + counts["told"] - counts["kept"]
+    print(f"tried {tried} of {every} edits in {len(spent)} checks, {sum(spent):.0f} seconds of a processor")
     print(f"{counts['passed']} passed, {counts['failed']} failed")
     return 1 if counts["failed"] else 0
 
