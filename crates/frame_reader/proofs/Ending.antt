@@ -1,5 +1,5 @@
 -- How often a reader is asked in one fill: each ask gives some bytes, but the last where it ends or fails.
-use Rattle.std.proofs.Common.{◌≡◌, ℕ, zero, suc, ◌+◌, ◌≤◌, List, length, length-append, length-take-le, take, Ok, Err, inl, inr, ap, arith, append-nil}
+use Rattle.std.proofs.Common.{◌≡◌, ℕ, zero, suc, ◌≤◌, List, length, length-append, length-take-le, take, Ok, Err, inl, inr, ap, arith, append-nil}
 use Rattle.std.specs.declared.io.Error.{Error}
 use Rattle.buffer_redux.specs.BufReader.{Fills}
 use Rattle.buffer_redux.specs.Buffered.{Buffered}
