@@ -1,17 +1,18 @@
 //! The reader of bodies in the chunked coding.
 use crate::sweep::{Run, sweep};
 use End::{Truncated, Whole, Wrong};
-use buffer_redux::BufReader;
 use buffer_redux::policy::ReaderPolicy;
 use buffer_redux::script::Answer;
 use buffer_redux::tell::{Tell, TellRead, Told};
+use buffer_redux::{BufReader, GrowError};
 use chunked::Malformed::{
     BadSize, BareFeed, BareReturn, ChunkTooLong, LineTooLong, NoSize, SizeTooLarge, TrailersTooLong,
 };
 use chunked::{ChunkedError, ChunkedReader, Limits, Malformed};
 use std::alloc::{AllocError, Global};
 use std::fmt::Debug;
-use std::io::ErrorKind;
+use std::io;
+use std::io::{ErrorKind, Read};
 use std::test::Fail;
 use tests_common::{Source, debug, first, kind, read_to_end, reader, source};
 
@@ -31,7 +32,7 @@ const NEXT: &[u8] = b"GET / HTTP/1.1\r\n\r\n";
 
 // Bodies from the documentation of protocols and from the tests of other parsers, each with a request behind it, under the least
 // limits that take it.
-const BODIES: [Row<'static>; 5] = [
+static BODIES: [Row<'static>; 5] = [
     Row(
         1,
         0,
@@ -72,7 +73,7 @@ GET / HTTP/1.1\r\n\r\n",
 ];
 
 // What isn't a body: the name of what is wrong, behind how many bytes that are right.
-const WRONG: [Row<'static>; 9] = [
+static WRONG: [Row<'static>; 9] = [
     Row(9, 9, b"\r\n", b"", Wrong(NoSize, 0)),
     Row(9, 9, b"1\r\na\r\n;x\r\n", b"a", Wrong(NoSize, 6)),
     Row(9, 9, b"4x\r\nWiki", b"", Wrong(BadSize, 1)),
@@ -84,7 +85,7 @@ const WRONG: [Row<'static>; 9] = [
     Row(9, 9, b"0\r\nX\n", b"", Wrong(BareFeed, 4)),
 ];
 
-const WRONG_RETURNS: [Row<'static>; 7] = [
+static WRONG_RETURNS: [Row<'static>; 7] = [
     Row(9, 9, b"4\rWiki", b"", Wrong(BareReturn, 2)),
     Row(9, 9, b"4;\"\r\r\n", b"", Wrong(BareReturn, 4)),
     Row(9, 9, b"1\r\na\rb", b"a", Wrong(BareReturn, 5)),
@@ -95,7 +96,7 @@ const WRONG_RETURNS: [Row<'static>; 7] = [
 ];
 
 // At each limit and one past it.
-const LIMITS: [Row<'static>; 9] = [
+static LIMITS: [Row<'static>; 9] = [
     Row(20, 0, b"3fffffffffffffff\r\n", b"", Truncated(18)),
     Row(20, 0, b"4000000000000000\r\n", b"", Wrong(SizeTooLarge, 15)),
     Row(20, 0, b"03FFFFFFFFFFFFFFF\r\n", b"", Truncated(19)),
@@ -114,7 +115,7 @@ const LIMITS: [Row<'static>; 9] = [
 ];
 
 // Cut off in each part.
-const CUT: [Row<'static>; 8] = [
+static CUT: [Row<'static>; 8] = [
     Row(9, 9, b"", b"", Truncated(0)),
     Row(9, 9, b"4", b"", Truncated(1)),
     Row(9, 9, b"4;a\r", b"", Truncated(4)),
@@ -128,17 +129,18 @@ const CUT: [Row<'static>; 8] = [
 type Body = ChunkedReader<Source>;
 
 // Neither it nor any call below promises anything.
-fn body(alloc: Global, row: &Row<'_>, script: &[Answer]) -> Result<Body, Fail> {
+fn over<R: Tell, P>(reader: BufReader<R, P>, line: usize, trailers: usize) -> ChunkedReader<R, P> {
+    ChunkedReader::new(reader, Limits { line, trailers })
+}
+
+fn body(alloc: Global, row: &Row<'_>, script: &[Answer]) -> io::Result<Body> {
     let reader = reader(alloc, 8, b"", source(alloc, row.2, script)?)?;
     Ok(over(reader, row.0, row.1))
 }
 
-pub fn over<R: Tell, P>(
-    reader: BufReader<R, P>,
-    line: usize,
-    trailers: usize,
-) -> ChunkedReader<R, P> {
-    ChunkedReader::new(reader, Limits { line, trailers })
+/// One that was not begun, of no byte.
+pub fn unbegun(alloc: Global) -> io::Result<Body> {
+    body(alloc, &Row(9, 9, b"", b"", Truncated(0)), &[])
 }
 
 fn read_payload<R: TellRead, P: ReaderPolicy>(
@@ -164,7 +166,7 @@ fn into_inner<R: Tell, P>(body: ChunkedReader<R, P>) -> BufReader<R, P> {
 fn payload_of<R: TellRead, P: ReaderPolicy>(
     body: &mut ChunkedReader<R, P>,
     payload: &mut Vec<u8>,
-) -> Result<(Option<ChunkedError>, usize), Fail> {
+) -> Result<(Option<ChunkedError>, usize), AllocError> {
     let mut out = [0; 64];
     let mut failed = 0usize;
     for _ in 0..1000 {
@@ -179,7 +181,7 @@ fn payload_of<R: TellRead, P: ReaderPolicy>(
 }
 
 // Whether a body ended so.
-fn ends(body: &Body, why: &Option<ChunkedError>, end: End<'_>) -> bool {
+fn ends<R: Tell, P>(body: &ChunkedReader<R, P>, why: &Option<ChunkedError>, end: End<'_>) -> bool {
     match (why, end) {
         (None, Whole(_)) => is_done(body),
         (Some(ChunkedError::NotChunked(why, right)), Wrong(name, count)) => {
@@ -192,65 +194,108 @@ fn ends(body: &Body, why: &Option<ChunkedError>, end: End<'_>) -> bool {
     }
 }
 
-// Whether these bytes are left in the reader of a whole body, which is read again where the stream failed.
-fn leaves(alloc: Global, body: Body, end: End<'_>) -> Result<Option<usize>, Fail> {
-    let Whole(behind) = end else {
-        return Ok(Some(0));
-    };
-    let mut reader = into_inner(body);
+// Whether this payload comes, and then such an end; how often the stream failed.
+fn comes<R: TellRead, P: ReaderPolicy>(
+    alloc: Global,
+    body: &mut ChunkedReader<R, P>,
+    want: &[u8],
+    end: End<'_>,
+) -> Result<Option<usize>, AllocError> {
+    let mut payload = Vec::new(alloc);
+    let (why, failed) = payload_of(body, &mut payload)?;
+    let right = payload.as_slice() == want && ends(body, &why, end);
+    Ok(right.then_some(failed))
+}
+
+// Whether these bytes are left in a reader, which is read again where the stream failed.
+fn leaves<R: Read>(alloc: Global, reader: &mut R, behind: &[u8]) -> io::Result<Option<usize>> {
     let mut rest = Vec::new(alloc);
     let mut failed = 0;
-    if read_to_end(&mut reader, &mut rest).is_err() {
-        read_to_end(&mut reader, &mut rest)?;
+    if read_to_end(reader, &mut rest).is_err() {
+        read_to_end(reader, &mut rest)?;
         failed = 1;
     }
     Ok((rest.as_slice() == behind).then_some(failed))
 }
 
-// Whatever ends a body stays so.
-impl Run for Row<'_> {
-    fn run(&self, alloc: Global, script: &[Answer]) -> Result<Option<usize>, Fail> {
-        let mut body = body(alloc, self, script)?;
-        let mut payload = Vec::new(alloc);
-        let (why, failed) = payload_of(&mut body, &mut payload)?;
-        let mut right = payload.as_slice() == self.3 && ends(&body, &why, self.4);
-        let (why, more) = payload_of(&mut body, &mut payload)?;
-        right = right && payload.as_slice() == self.3 && ends(&body, &why, self.4);
-        let failed = failed.saturating_add(more);
-        match leaves(alloc, body, self.4)? {
-            Some(more) if right => Ok(Some(failed.saturating_add(more))),
-            _ => Ok(None),
-        }
+// Whether they are left behind a body that is whole.
+fn goes_before<R: TellRead + Drop, P: ReaderPolicy + Drop>(
+    alloc: Global,
+    body: ChunkedReader<R, P>,
+    end: End<'_>,
+) -> io::Result<Option<usize>> {
+    match end {
+        Whole(behind) => leaves(alloc, &mut into_inner(body), behind),
+        _ => Ok(Some(0)),
     }
 }
 
+fn sum(one: Option<usize>, other: Option<usize>) -> Option<usize> {
+    Some(one?.saturating_add(other?))
+}
+
+// Whatever ends a body stays so.
+fn plays<R: TellRead + Drop, P: ReaderPolicy + Drop>(
+    alloc: Global,
+    mut body: ChunkedReader<R, P>,
+    row: &Row<'_>,
+) -> io::Result<Option<usize>> {
+    let once = comes(alloc, &mut body, row.3, row.4)?;
+    let again = comes(alloc, &mut body, b"", row.4)?;
+    let behind = goes_before(alloc, body, row.4)?;
+    Ok(sum(sum(once, again), behind))
+}
+
+impl Run for Row<'_> {
+    fn run(&self, alloc: Global, script: &[Answer]) -> io::Result<Option<usize>> {
+        plays(alloc, body(alloc, self, script)?, self)
+    }
+}
+
+const FAULT: Answer = Answer::Fail(ErrorKind::Other);
+
 #[test]
 fn reads_bodies(rt: HostRuntime) -> Result<(), Fail> {
-    let fault = Answer::Fail(ErrorKind::Other);
-    sweep(&rt, rt.alloc(), &BODIES, &[usize::MAX, 3, 1], fault)?;
+    sweep(&rt, rt.alloc(), &BODIES, &[usize::MAX, 3, 1], FAULT)
+}
+
+#[test]
+fn tells_how_bodies_end(rt: HostRuntime) -> Result<(), Fail> {
     for rows in [WRONG.as_slice(), &WRONG_RETURNS, &LIMITS, &CUT] {
-        sweep(&rt, rt.alloc(), rows, &[usize::MAX, 1], fault)?;
+        sweep(&rt, rt.alloc(), rows, &[usize::MAX, 1], FAULT)?;
     }
     Ok(())
 }
 
-// The payload as a buffered reader over a body shows it, up to an error.
-fn through(alloc: Global, bytes: &[u8], payload: &mut Vec<u8>) -> Result<Option<ErrorKind>, Fail> {
+type Outer<'a> = BufReader<ChunkedReader<Told<&'a [u8]>>>;
+
+// A buffered reader over the body in these bytes.
+fn outer(alloc: Global, bytes: &[u8]) -> Result<Outer<'_>, GrowError> {
     let body = over(reader(alloc, 8, b"", Told::new(bytes))?, 9, 9);
-    let mut outer = reader(alloc, 8, b"", body)?;
-    Ok(kind(read_to_end(&mut outer, payload)).err())
+    reader(alloc, 8, b"", body)
+}
+
+// Whether a reader shows this payload, and why it ends.
+fn shows<R: Read>(alloc: Global, reader: &mut R, want: &[u8]) -> (bool, Option<ErrorKind>) {
+    let mut payload = Vec::new(alloc);
+    let failed = kind(read_to_end(reader, &mut payload)).err();
+    (payload.as_slice() == want, failed)
+}
+
+static UNDER: [(&[u8], Option<ErrorKind>); 3] = [
+    (b"1\r\na\r\n1\r\nb\r\n0\r\n\r\nc", None),
+    (b"1\r\na\r\n1\r\nb\r\n", Some(ErrorKind::UnexpectedEof)),
+    (b"1\r\na\r\n1\r\nbc\r\n", Some(ErrorKind::InvalidData)),
+];
+
+fn through(alloc: Global, bytes: &[u8]) -> Result<(bool, Option<ErrorKind>), GrowError> {
+    Ok(shows(alloc, &mut outer(alloc, bytes)?, b"ab"))
 }
 
 #[test]
 fn goes_under_a_buffered_reader(rt: HostRuntime) -> Result<(), Fail> {
-    for (bytes, failed) in [
-        (b"1\r\na\r\n1\r\nb\r\n0\r\n\r\nc".as_slice(), None),
-        (b"1\r\na\r\n1\r\nb\r\n", Some(ErrorKind::UnexpectedEof)),
-        (b"1\r\na\r\n1\r\nbc\r\n", Some(ErrorKind::InvalidData)),
-    ] {
-        let mut payload = Vec::new(rt.alloc());
-        assert!(rt; through(rt.alloc(), bytes, &mut payload)? == failed);
-        assert!(rt; payload.as_slice() == b"ab".as_slice());
+    for &(bytes, failed) in &UNDER {
+        assert!(rt; through(rt.alloc(), bytes)? == (true, failed));
     }
     Ok(())
 }
@@ -270,11 +315,17 @@ fn buffered<R: Tell, P>(body: &ChunkedReader<R, P>) -> usize {
     body.get_ref().buf_len()
 }
 
+fn is_unbegun<R: Tell + Debug, P: Debug>(
+    alloc: Global,
+    body: &ChunkedReader<R, P>,
+) -> Result<bool, AllocError> {
+    let front = "chunked::ChunkedReader { reader: buffer_redux::BufReader {";
+    Ok(is_shown(alloc, body, front, ", place: Line, taken: 0 }")? && buffered(body) == 0)
+}
+
 #[test]
 fn shows_where_it_stands(rt: HostRuntime) -> Result<(), Fail> {
-    let body = body(rt.alloc(), &CUT[0], &[])?;
-    let front = "chunked::ChunkedReader { reader: buffer_redux::BufReader {";
-    assert!(rt; is_shown(rt.alloc(), &body, front, ", place: Line, taken: 0 }")?);
-    assert!(rt; buffered(&body) == 0);
+    let body = unbegun(rt.alloc())?;
+    assert!(rt; is_unbegun(rt.alloc(), &body)?);
     Ok(())
 }

@@ -6,7 +6,8 @@ use buffer_redux::tell::TellWrite;
 use buffer_redux::{BufWriter, IntoInnerError};
 use chunked::{ChunkedWriter, FinishError, TrailersError};
 use std::alloc::Global;
-use std::io::ErrorKind;
+use std::io;
+use std::io::{ErrorKind, Write};
 use std::test::Fail;
 use tests_common::{Target, flush, taken, target, write, write_all, writer};
 
@@ -15,7 +16,7 @@ struct Row<'a>(usize, &'a [&'a [u8]], &'a [&'a [u8]], &'a [u8]);
 
 // Bodies from the documentation of protocols and from the tests of another writer and of a parser, the letters of sizes in lower
 // case. The longest trailers just fit into the buffer.
-const BODIES: [Row<'static>; 8] = [
+static BODIES: [Row<'static>; 8] = [
     Row(
         45,
         &[b"Wiki", b"pedia", b" in\r\n\r\nchunks."],
@@ -61,15 +62,16 @@ Expires: Wed, 21 Oct 2015 07:28:00 GMT\r\n\r\n",
 type Body = ChunkedWriter<Target>;
 
 // A writer of a body behind what is buffered. Neither it nor any call below promises anything.
-pub fn over<W: TellWrite + Drop>(inner: BufWriter<W>) -> Result<ChunkedWriter<W>, &'static str> {
+fn over<W: TellWrite + Drop>(inner: BufWriter<W>) -> io::Result<ChunkedWriter<W>> {
     if inner.capacity() <= 20 {
-        return Err("a buffer that is too small");
+        return Err(io::Error::from(ErrorKind::InvalidInput));
     }
     Ok(ChunkedWriter::new(inner))
 }
 
-fn body(alloc: Global, capacity: usize, script: &[Answer]) -> Result<Body, Fail> {
-    Ok(over(writer(alloc, capacity, b"", target(alloc, script)?)?)?)
+/// A body in a buffer of this capacity.
+pub fn body(alloc: Global, capacity: usize, script: &[Answer]) -> io::Result<Body> {
+    over(writer(alloc, capacity, b"", target(alloc, script)?)?)
 }
 
 fn inner<W: TellWrite>(body: &ChunkedWriter<W>) -> &BufWriter<W> {
@@ -135,22 +137,34 @@ fn writes<W: TellWrite>(body: &mut ChunkedWriter<W>, bytes: &[u8]) -> usize {
     failed
 }
 
-// Flushes at the end, until that succeeds. No chunk is torn.
+fn writes_each<W: TellWrite>(body: &mut ChunkedWriter<W>, pieces: &[&[u8]]) -> usize {
+    let mut failed = 0usize;
+    for bytes in pieces {
+        failed = failed.saturating_add(writes(body, bytes));
+    }
+    failed
+}
+
+// Flushes, again where the stream failed.
+fn flushes_again<W: Write>(inner: &mut W) -> io::Result<usize> {
+    if flush(inner).is_ok() {
+        return Ok(0);
+    }
+    flush(inner)?;
+    Ok(1)
+}
+
+// Flushes at the end. No chunk is torn.
 impl Run for Row<'_> {
-    fn run(&self, alloc: Global, script: &[Answer]) -> Result<Option<usize>, Fail> {
+    fn run(&self, alloc: Global, script: &[Answer]) -> io::Result<Option<usize>> {
         let mut body = body(alloc, self.0, script)?;
-        let mut failed = 0usize;
-        for bytes in self.1 {
-            failed = failed.saturating_add(writes(&mut body, bytes));
-        }
+        let failed = writes_each(&mut body, self.1);
         let Some((mut inner, again)) = ends_again(body, self.2) else {
             return Ok(None);
         };
-        failed = failed.saturating_add(again);
-        if flush(&mut inner).is_err() {
-            failed = failed.saturating_add(1);
-            flush(&mut inner)?;
-        }
+        let failed = failed
+            .saturating_add(again)
+            .saturating_add(flushes_again(&mut inner)?);
         Ok((taken(&inner) == self.3).then_some(failed))
     }
 }
@@ -167,36 +181,44 @@ fn writes_bodies(rt: HostRuntime) -> Result<(), Fail> {
     )
 }
 
-// The body behind a buffered writer over it, which these bytes went into one by one.
-fn bytewise(alloc: Global, bytes: &[u8]) -> Result<Body, Fail> {
-    let mut outer = writer(alloc, 64, b"", body(alloc, 64, &[])?)?;
+fn write_each<W: Write>(outer: &mut W, bytes: &[u8]) -> io::Result<()> {
     for byte in bytes {
-        write_all(&mut outer, &[*byte])?;
+        write_all(outer, &[*byte])?;
     }
+    Ok(())
+}
+
+fn unwrapped<W: TellWrite + Drop>(outer: BufWriter<W>) -> io::Result<W> {
+    match outer.into_inner() {
+        Ok(inner) => Ok(inner),
+        Err(IntoInnerError(_, e)) => Err(e),
+    }
+}
+
+// A writer behind a buffered one over it, which these bytes went into one by one.
+fn bytewise<W: TellWrite + Drop>(alloc: Global, inner: W, bytes: &[u8]) -> io::Result<W> {
+    let mut outer = writer(alloc, 64, b"", inner)?;
+    write_each(&mut outer, bytes)?;
     unwrapped(outer)
 }
 
-fn unwrapped(outer: BufWriter<Body>) -> Result<Body, Fail> {
-    match outer.into_inner() {
-        Ok(body) => Ok(body),
-        Err(IntoInnerError(_, e)) => Err(e.into()),
-    }
+// Whether it is shown, and sends these bytes.
+fn shows(alloc: Global, body: Body, want: &[u8]) -> io::Result<bool> {
+    let front = "chunked::ChunkedWriter { writer: buffer_redux::BufWriter {";
+    let shown = is_shown(alloc, &body, front, " }")?;
+    Ok(shown && sends(into_inner(body), want)?)
 }
 
 // Small writes through a buffered writer over the body are one chunk.
 #[test]
 fn goes_under_a_buffered_writer(rt: HostRuntime) -> Result<(), Fail> {
-    let body = bytewise(rt.alloc(), b"hello world")?;
-    let front = "chunked::ChunkedWriter { writer: buffer_redux::BufWriter {";
-    assert!(rt; is_shown(rt.alloc(), &body, front, " }")?);
-    let mut inner = into_inner(body);
-    flush(&mut inner)?;
-    assert!(rt; taken(&inner) == b"b\r\nhello world\r\n".as_slice());
+    let body = bytewise(rt.alloc(), body(rt.alloc(), 64, &[])?, b"hello world")?;
+    assert!(rt; shows(rt.alloc(), body, b"b\r\nhello world\r\n")?);
     Ok(())
 }
 
 // Trailers that are refused behind a chunk of five bytes in a buffer of 26, and at which line where that is why.
-const REFUSED: [(&[&[u8]], Option<usize>); 6] = [
+static REFUSED: [(&[&[u8]], Option<usize>); 6] = [
     (&[b"A: b", b""], Some(1)),
     (&[b"A: b\r\nC: d"], Some(0)),
     (&[b"A: b", b"C: d", b"E\rf"], Some(2)),
@@ -214,26 +236,38 @@ fn says(why: &TrailersError, index: Option<usize>) -> bool {
     }
 }
 
-// Whether such a body is written on, and ends with trailers that just fit.
-fn goes_on(mut body: Body) -> Result<bool, Fail> {
-    write_all(&mut body, b"!")?;
-    let Ok(mut inner) = ends(body, &[b"0123456789abcdef012"]) else {
-        return Ok(false);
-    };
+// Whether a flush sends these bytes.
+fn sends(mut inner: BufWriter<Target>, want: &[u8]) -> io::Result<bool> {
     flush(&mut inner)?;
-    let want = b"5\r\nhello\r\n1\r\n!\r\n0\r\n0123456789abcdef012\r\n\r\n";
-    Ok(taken(&inner) == want.as_slice())
+    Ok(taken(&inner) == want)
+}
+
+// A body with a chunk of five bytes in a buffer of 26.
+fn hello(alloc: Global) -> io::Result<Body> {
+    let mut body = body(alloc, 26, &[])?;
+    write_all(&mut body, b"hello")?;
+    Ok(body)
+}
+
+// Whether such a body is written on, and ends with trailers that just fit.
+fn goes_on(mut body: Body) -> io::Result<bool> {
+    write_all(&mut body, b"!")?;
+    match ends(body, &[b"0123456789abcdef012"]) {
+        Ok(inner) => sends(
+            inner,
+            b"5\r\nhello\r\n1\r\n!\r\n0\r\n0123456789abcdef012\r\n\r\n",
+        ),
+        Err(_) => Ok(false),
+    }
 }
 
 // Whether these are refused so, nothing is sent, and the body comes back as it was.
-fn refuses(alloc: Global, fields: &[&[u8]], index: Option<usize>) -> Result<bool, Fail> {
-    let mut body = body(alloc, 26, &[])?;
-    write_all(&mut body, b"hello")?;
-    match finish_with(body, fields) {
+fn refuses(alloc: Global, fields: &[&[u8]], index: Option<usize>) -> io::Result<bool> {
+    match finish_with(hello(alloc)?, fields) {
         Ok(_) => Ok(false),
         Err(FinishError(body, why)) => {
-            let unsent = taken(inner(&body)).is_empty();
-            Ok(says(&why, index) && unsent && goes_on(body)?)
+            let right = says(&why, index) && taken(inner(&body)).is_empty();
+            Ok(right && goes_on(body)?)
         }
     }
 }

@@ -1,9 +1,11 @@
 //! Frames, read and written.
-use crate::sweep::{Asks, Run, Want, sweep, walk};
+use crate::sweep::Want::{Asked, End, Next, Rest, TooLong, Truncated};
+use crate::sweep::{Asks, Run, Scripted, Want, are_so, sweep, walk};
 use buffer_redux::MakeError;
 use buffer_redux::script::Answer;
+use buffer_redux::tell::{TellRead, TellWrite};
 use frame_reader::{FrameError, FrameReader, FrameWriter, WriteFrameError};
-use std::alloc::Global;
+use std::alloc::{AllocError, Global};
 use std::io;
 use std::io::ErrorKind;
 use std::test::Fail;
@@ -13,62 +15,58 @@ use tests_common::{Source, Target, source, target};
 #[derive(Drop)]
 struct Reads<'a>(u16, &'a [u8], &'a [Want<'a>]);
 
-const READS: [Reads<'static>; 9] = [
+static READS: [Reads<'static>; 9] = [
     Reads(
         3,
         b"\x00\x03abc\x00\x00\x00\x02d",
-        &[
-            Want::Next(b"abc"),
-            Want::Next(b""),
-            Want::Truncated(3),
-            Want::Truncated(3),
-        ],
+        &[Next(b"abc"), Next(b""), Truncated(3), Truncated(3)],
     ),
-    Reads(3, b"\x00\x04", &[Want::TooLong(4), Want::TooLong(4)]),
-    Reads(3, b"", &[Want::End, Want::End]),
-    Reads(3, b"\x05", &[Want::Truncated(1), Want::Rest(b"\x05")]),
+    Reads(3, b"\x00\x04", &[TooLong(4), TooLong(4)]),
+    Reads(3, b"", &[End, End]),
+    Reads(3, b"\x05", &[Truncated(1), Rest(b"\x05")]),
     Reads(
         0,
         b"\x00\x00\x00\x00\x00\x01",
-        &[Want::Next(b""), Want::Next(b""), Want::TooLong(1)],
+        &[Next(b""), Next(b""), TooLong(1)],
     ),
-    Reads(3, b"\x00\x01a", &[Want::Next(b"a"), Want::End]),
-    Reads(
-        3,
-        b"\x00\x01a\x00\x01b",
-        &[Want::Next(b"a"), Want::Next(b"b"), Want::End],
-    ),
+    Reads(3, b"\x00\x01a", &[Next(b"a"), End]),
+    Reads(3, b"\x00\x01a\x00\x01b", &[Next(b"a"), Next(b"b"), End]),
     // The higher byte of a length comes first: these are 256 bytes, and more than 255.
-    Reads(255, b"\x01\x00", &[Want::TooLong(256)]),
-    Reads(256, b"\x01\x00a", &[Want::Truncated(3)]),
+    Reads(255, b"\x01\x00", &[TooLong(256)]),
+    Reads(256, b"\x01\x00a", &[Truncated(3)]),
 ];
 
 type Frames = FrameReader<Source>;
 
-/// A reader over the usual buffer, or one of at least this capacity. Neither it nor any call below promises anything.
+// A reader over the usual buffer, or one of at least this capacity. Neither it nor any call below promises anything.
+fn reader<R: TellRead + Drop>(
+    alloc: Global,
+    capacity: Option<usize>,
+    max: u16,
+    inner: R,
+) -> Result<FrameReader<R>, MakeError<R>> {
+    match capacity {
+        Some(capacity) => FrameReader::with_capacity(alloc, capacity, inner, max),
+        None => FrameReader::new(alloc, inner, max),
+    }
+}
+
+/// Such a reader of these bytes.
 pub fn frames_over(
     alloc: Global,
     capacity: Option<usize>,
     max: u16,
     bytes: &[u8],
     script: &[Answer],
-) -> Result<Frames, Fail> {
-    let inner = source(alloc, bytes, script)?;
-    let made = match capacity {
-        Some(capacity) => FrameReader::with_capacity(alloc, capacity, inner, max),
-        None => FrameReader::new(alloc, inner, max),
-    };
-    match made {
-        Ok(frames) => Ok(frames),
-        Err(MakeError(_, e)) => Err(e.into()),
-    }
+) -> io::Result<Frames> {
+    Ok(reader(alloc, capacity, max, source(alloc, bytes, script)?)?)
 }
 
-fn next(frames: &mut Frames) -> Result<Option<&[u8]>, FrameError> {
+fn next<R: TellRead>(frames: &mut FrameReader<R>) -> Result<Option<&[u8]>, FrameError> {
     frames.next()
 }
 
-fn rest(frames: &Frames) -> &[u8] {
+fn rest<R: TellRead>(frames: &FrameReader<R>) -> &[u8] {
     frames.rest()
 }
 
@@ -79,8 +77,8 @@ fn asked(frames: &Frames) -> &[usize] {
 impl Asks for Frames {
     fn meets(&mut self, want: Want<'_>) -> Option<bool> {
         match want {
-            Want::Rest(bytes) => Some(rest(self) == bytes),
-            Want::Reads(count) => Some(asked(self).len() == count),
+            Rest(bytes) => Some(rest(self) == bytes),
+            Asked(count) => Some(asked(self).len() == count),
             _ => is_such(next(self), want),
         }
     }
@@ -89,17 +87,17 @@ impl Asks for Frames {
 // Whether this answer is such, and nothing where the stream failed.
 fn is_such(answer: Result<Option<&[u8]>, FrameError>, want: Want<'_>) -> Option<bool> {
     match (answer, want) {
-        (Ok(Some(payload)), Want::Next(bytes)) => Some(payload == bytes),
-        (Ok(None), Want::End) => Some(true),
-        (Err(FrameError::Truncated(have)), Want::Truncated(count)) => Some(have == count),
-        (Err(FrameError::TooLong(len)), Want::TooLong(count)) => Some(usize::from(len) == count),
-        (Err(FrameError::Io(e)), _) if e.kind() == ErrorKind::Other => None,
+        (Ok(Some(payload)), Next(bytes)) => Some(payload == bytes),
+        (Ok(None), End) => Some(true),
+        (Err(FrameError::Truncated(have)), Truncated(count)) => Some(have == count),
+        (Err(FrameError::TooLong(len)), TooLong(count)) => Some(usize::from(len) == count),
+        (Err(FrameError::Io(e)), _) => (e.kind() != ErrorKind::Other).then_some(false),
         _ => Some(false),
     }
 }
 
 impl Run for Reads<'_> {
-    fn run(&self, alloc: Global, script: &[Answer]) -> Result<Option<usize>, Fail> {
+    fn run(&self, alloc: Global, script: &[Answer]) -> io::Result<Option<usize>> {
         let mut frames = frames_over(alloc, Some(0), self.0, self.1, script)?;
         Ok(walk(&mut frames, self.2))
     }
@@ -117,42 +115,53 @@ fn reads_frames(rt: HostRuntime) -> Result<(), Fail> {
     )
 }
 
+// The longest frame.
+fn longest(alloc: Global) -> Result<Vec<u8>, AllocError> {
+    let mut bytes = Vec::from_slice(alloc, b"\xff\xff")?;
+    bytes.resize(65537, b'A')?;
+    Ok(bytes)
+}
+
 #[test]
 fn takes_the_longest(rt: HostRuntime) -> Result<(), Fail> {
-    let mut bytes = Vec::from_slice(rt.alloc(), b"\xff\xff")?;
-    bytes.resize(65537, b'A')?;
-    let mut payload = Vec::new(rt.alloc());
-    payload.resize(65535, b'A')?;
-    let wants = [Want::Next(payload.as_slice()), Want::End];
-    let frames = Reads(65535, bytes.as_slice(), &wants);
+    let bytes = longest(rt.alloc())?;
+    let payload = bytes.get(2..).unwrap_or_default();
+    let wants = [Next(payload), End];
+    let frame = Reads(65535, bytes.as_slice(), &wants);
     for most in [usize::MAX, 1] {
-        let failed = frames.run(rt.alloc(), &[Answer::ServeEach(most)])?;
-        assert!(rt; failed == Some(0));
+        assert!(rt; frame.run(rt.alloc(), &[Answer::ServeEach(most)])? == Some(0));
     }
     Ok(())
 }
 
 // The stream fails behind the first byte of a frame; and two frames come in one read.
+static SCRIPTED: [Scripted<Reads<'static>>; 2] = [
+    (
+        Reads(3, b"\x00\x01a", &[Next(b"a"), End]),
+        &[Answer::Serve(1), Answer::Fail(ErrorKind::Other)],
+        1,
+    ),
+    (
+        Reads(
+            3,
+            b"\x00\x01a\x00\x01b",
+            &[Next(b"a"), Rest(b"\x00\x01b"), Next(b"b"), Asked(1)],
+        ),
+        &[],
+        0,
+    ),
+];
+
 #[test]
 fn reads_as_the_stream_gives(rt: HostRuntime) -> Result<(), Fail> {
-    let fault = [Answer::Serve(1), Answer::Fail(ErrorKind::Other)];
-    let wants = [Want::Next(b"a"), Want::End];
-    assert!(rt; Reads(3, b"\x00\x01a", &wants).run(rt.alloc(), &fault)? == Some(1));
-    let wants = [
-        Want::Next(b"a"),
-        Want::Rest(b"\x00\x01b"),
-        Want::Next(b"b"),
-        Want::Reads(1),
-    ];
-    let two = Reads(3, b"\x00\x01a\x00\x01b", &wants);
-    assert!(rt; two.run(rt.alloc(), &[])? == Some(0));
+    assert!(rt; are_so(rt.alloc(), &SCRIPTED)?);
     Ok(())
 }
 
 // The greatest length of a payload, the payloads, of which those that are longer are refused, and the frames.
 struct Writes<'a>(u16, &'a [&'a [u8]], &'a [u8]);
 
-const WRITES: [Writes<'static>; 2] = [
+static WRITES: [Writes<'static>; 2] = [
     Writes(
         1,
         &[b"a", b"b", b"", b"c", b"d", b"", b"e"],
@@ -167,26 +176,30 @@ const WRITES: [Writes<'static>; 2] = [
 
 type Sends = FrameWriter<Target>;
 
+fn writer<W: TellWrite + Drop>(
+    alloc: Global,
+    capacity: Option<usize>,
+    max: u16,
+    inner: W,
+) -> Result<FrameWriter<W>, MakeError<W>> {
+    match capacity {
+        Some(capacity) => FrameWriter::with_capacity(alloc, capacity, inner, max),
+        None => FrameWriter::new(alloc, inner, max),
+    }
+}
+
 /// A writer over the usual buffer, or one of at least this capacity. Neither it nor any call below promises anything.
 pub fn frames_into(
     alloc: Global,
     capacity: Option<usize>,
     max: u16,
     script: &[Answer],
-) -> Result<Sends, Fail> {
-    let inner = target(alloc, script)?;
-    let made = match capacity {
-        Some(capacity) => FrameWriter::with_capacity(alloc, capacity, inner, max),
-        None => FrameWriter::new(alloc, inner, max),
-    };
-    match made {
-        Ok(frames) => Ok(frames),
-        Err(MakeError(_, e)) => Err(e.into()),
-    }
+) -> io::Result<Sends> {
+    Ok(writer(alloc, capacity, max, target(alloc, script)?)?)
 }
 
 // Whether a frame was taken in, or refused as it should be, and nothing where the stream failed.
-fn puts(frames: &mut Sends, payload: &[u8], max: u16) -> Option<bool> {
+fn puts<W: TellWrite>(frames: &mut FrameWriter<W>, payload: &[u8], max: u16) -> Option<bool> {
     match frames.write_frame(payload) {
         Ok(()) => Some(payload.len() <= usize::from(max)),
         Err(WriteFrameError::TooLong(len)) => Some(len == payload.len() && len > usize::from(max)),
@@ -194,7 +207,7 @@ fn puts(frames: &mut Sends, payload: &[u8], max: u16) -> Option<bool> {
     }
 }
 
-fn flush(frames: &mut Sends) -> io::Result<()> {
+fn flush<W: TellWrite>(frames: &mut FrameWriter<W>) -> io::Result<()> {
     frames.flush()
 }
 
@@ -203,29 +216,48 @@ fn taken(frames: &Sends) -> &[u8] {
 }
 
 // Writes a frame, again where the stream failed, as `run` of [`Run`].
-fn puts_again(frames: &mut Sends, payload: &[u8], max: u16) -> Option<usize> {
+fn puts_again<W: TellWrite>(
+    frames: &mut FrameWriter<W>,
+    payload: &[u8],
+    max: u16,
+) -> Option<usize> {
     match puts(frames, payload, max) {
         Some(met) => met.then_some(0),
         None => puts(frames, payload, max)?.then_some(1),
     }
 }
 
-// Flushes at the end, until that succeeds. No frame is torn.
+// Flushes, again where the stream failed.
+fn flushes_again<W: TellWrite>(frames: &mut FrameWriter<W>) -> Option<usize> {
+    match flush(frames) {
+        Ok(()) => Some(0),
+        Err(_) => flush(frames).is_ok().then_some(1),
+    }
+}
+
+// Writes the frames and flushes at the end.
+fn puts_each<W: TellWrite>(
+    frames: &mut FrameWriter<W>,
+    payloads: &[&[u8]],
+    max: u16,
+) -> Option<usize> {
+    let mut failed = 0usize;
+    for payload in payloads {
+        failed = failed.saturating_add(puts_again(frames, payload, max)?);
+    }
+    Some(failed.saturating_add(flushes_again(frames)?))
+}
+
+// No frame is torn.
 impl Run for Writes<'_> {
-    fn run(&self, alloc: Global, script: &[Answer]) -> Result<Option<usize>, Fail> {
+    fn run(&self, alloc: Global, script: &[Answer]) -> io::Result<Option<usize>> {
         let mut frames = frames_into(alloc, Some(0), self.0, script)?;
-        let mut failed = 0usize;
-        for payload in self.1 {
-            match puts_again(&mut frames, payload, self.0) {
-                Some(times) => failed = failed.saturating_add(times),
-                None => return Ok(None),
-            }
-        }
-        if flush(&mut frames).is_err() {
-            failed = failed.saturating_add(1);
-            flush(&mut frames)?;
-        }
-        Ok((taken(&frames) == self.2).then_some(failed))
+        let failed = puts_each(&mut frames, self.1, self.0);
+        Ok(if taken(&frames) == self.2 {
+            failed
+        } else {
+            None
+        })
     }
 }
 
@@ -252,45 +284,47 @@ fn ended(frames: Sends) -> Result<usize, (Sends, ErrorKind)> {
     }
 }
 
-fn capacity_of(frames: Sends) -> usize {
-    let (_, buffer) = frames.into_inner_with_buffer();
-    buffer.capacity()
+// How the first unwrapping fails, how many bytes the stream took by then, and how many by the second.
+fn unwraps_twice(frames: Sends) -> Option<(ErrorKind, usize, usize)> {
+    let (frames, kind) = ended(frames).err()?;
+    let before = taken(&frames).len();
+    Some((kind, before, ended(frames).ok()?))
 }
 
 #[test]
 fn hands_the_writer_back_at_a_fault(rt: HostRuntime) -> Result<(), Fail> {
     let mut frames = frames_into(rt.alloc(), None, 1, &[Answer::Fail(ErrorKind::Other)])?;
-    assert!(rt; puts(&mut frames, b"a", 1) == Some(true));
-    match ended(frames) {
-        Ok(_) => panic!(rt; "no fault"),
-        Err((frames, kind)) => {
-            assert!(rt; kind == ErrorKind::Other && taken(&frames).is_empty());
-            assert!(rt; matches!(ended(frames), Ok(3)));
-        }
-    }
+    let put = puts(&mut frames, b"a", 1);
+    assert!(rt; (put, unwraps_twice(frames)) == (Some(true), Some((ErrorKind::Other, 0, 3))));
     Ok(())
 }
 
 // The capacity that is asked for, the greatest length of a payload, and the capacity that is made: three frames at least.
-const CAPACITIES: [(Option<usize>, u16, usize); 4] = [
+static CAPACITIES: [(Option<usize>, u16, usize); 4] = [
     (Some(0), 3, 15),
     (Some(16), 3, 16),
     (None, 3, 8192),
     (None, 65535, 196611),
 ];
 
-// What is offered to the first read, and the capacity of a writer.
-fn made(alloc: Global, capacity: Option<usize>, max: u16) -> Result<(Option<usize>, usize), Fail> {
+// What is offered to the first read.
+fn offered(alloc: Global, capacity: Option<usize>, max: u16) -> io::Result<Option<usize>> {
     let mut reader = frames_over(alloc, capacity, max, b"", &[])?;
-    let _ = reader.meets(Want::End);
-    let writer = frames_into(alloc, capacity, max, &[])?;
-    Ok((asked(&reader).first().copied(), capacity_of(writer)))
+    let _ = reader.meets(End);
+    Ok(asked(&reader).first().copied())
+}
+
+// The capacity of a writer.
+fn capacity_of(alloc: Global, capacity: Option<usize>, max: u16) -> io::Result<usize> {
+    let (_, buffer) = frames_into(alloc, capacity, max, &[])?.into_inner_with_buffer();
+    Ok(buffer.capacity())
 }
 
 #[test]
 fn takes_the_capacity(rt: HostRuntime) -> Result<(), Fail> {
-    for (capacity, max, count) in CAPACITIES {
-        assert!(rt; made(rt.alloc(), capacity, max)? == (Some(count), count));
+    for &(capacity, max, count) in &CAPACITIES {
+        assert!(rt; offered(rt.alloc(), capacity, max)? == Some(count));
+        assert!(rt; capacity_of(rt.alloc(), capacity, max)? == count);
     }
     Ok(())
 }

@@ -16,7 +16,7 @@ use std::alloc::{AllocError, Global};
 use std::io;
 use std::io::ErrorKind;
 use std::test::Fail;
-use tests_common::{reader, source, target, writer};
+use tests_common::debug;
 
 // Payloads, or lines.
 fn some(alloc: Global) -> Result<[Vec<u8>; 3], AllocError> {
@@ -26,11 +26,14 @@ fn some(alloc: Global) -> Result<[Vec<u8>; 3], AllocError> {
 }
 
 // Those that are no call say what stands, and none of these promises anything.
-fn of_frames<R: TellRead, W: TellWrite>(reader: &FrameReader<R>, writer: &FrameWriter<W>) {
+fn of_frames<R: TellRead>(reader: &FrameReader<R>) {
     frame_reader::laws::one_frame();
     frame_reader::laws::one_reading(3);
     frame_reader::laws::since_new(reader);
     frame_reader::laws::next_known(reader);
+}
+
+fn of_written_frames<W: TellWrite>(writer: &FrameWriter<W>) {
     frame_reader::laws::written_since_new(writer);
 }
 
@@ -65,56 +68,66 @@ fn frames_back(
 fn play_reads<R: TellRead>(
     alloc: Global,
     reader: &mut FrameReader<R>,
-    count: usize,
-) -> Result<Vec<Result<Option<Vec<u8>>, FrameError>>, AllocError> {
+) -> Result<String, AllocError> {
     let mut answers = Vec::new(alloc);
-    frame_reader::laws::play_next(alloc, reader, count, &mut answers)?;
-    Ok(answers)
+    frame_reader::laws::play_next(alloc, reader, 3, &mut answers)?;
+    debug(alloc, &answers)
 }
 
 fn play_writes<W: TellWrite>(
     alloc: Global,
     writer: &mut FrameWriter<W>,
-    payloads: &[Vec<u8>],
-) -> Result<Vec<Result<(), WriteFrameError>>, AllocError> {
+) -> Result<String, AllocError> {
     let mut answers = Vec::new(alloc);
-    frame_reader::laws::play_write_frame(writer, payloads, &mut answers)?;
-    Ok(answers)
+    frame_reader::laws::play_write_frame(writer, &some(alloc)?, &mut answers)?;
+    debug(alloc, &answers)
+}
+
+// Whether the payloads come back, and are refused where the last is too long.
+fn come_back(alloc: Global, payloads: &[Vec<u8>]) -> bool {
+    let same = match frames_back(alloc, payloads, 3) {
+        Ok(back) => back.as_slice() == payloads,
+        Err(_) => false,
+    };
+    same && matches!(
+        frames_back(alloc, payloads, 2),
+        Err(WriteFrameError::TooLong(3))
+    )
 }
 
 #[test]
 fn frames_go_there_and_back(rt: HostRuntime) -> Result<(), Fail> {
-    let payloads = some(rt.alloc())?;
-    match frames_back(rt.alloc(), &payloads, 3) {
-        Ok(back) => assert!(rt; back.as_slice() == payloads.as_slice()),
-        Err(_) => assert!(rt; false),
-    }
-    let refused = frames_back(rt.alloc(), &payloads, 2);
-    assert!(rt; matches!(refused, Err(WriteFrameError::TooLong(3))));
+    assert!(rt; come_back(rt.alloc(), &some(rt.alloc())?));
     Ok(())
+}
+
+// A fault behind the first byte.
+static FAULT: [Answer; 2] = [Answer::Serve(1), Answer::Fail(ErrorKind::Other)];
+
+fn frames_read(alloc: Global) -> io::Result<String> {
+    let mut reader = frames_over(alloc, None, 3, b"\x00\x01a\x00", &FAULT)?;
+    of_frames(&reader);
+    Ok(play_reads(alloc, &mut reader)?)
+}
+
+fn frames_written(alloc: Global) -> io::Result<String> {
+    let mut writer = frames_into(alloc, None, 2, &[])?;
+    of_written_frames(&writer);
+    Ok(play_writes(alloc, &mut writer)?)
 }
 
 #[test]
 fn frames_are_played(rt: HostRuntime) -> Result<(), Fail> {
-    let mut writer = frames_into(rt.alloc(), None, 2, &[])?;
-    let answers = play_writes(rt.alloc(), &mut writer, &some(rt.alloc())?)?;
+    let came = frames_read(rt.alloc())?;
     assert!(rt;
-        matches!(
-            answers.as_slice(),
-            [Ok(()), Ok(()), Err(WriteFrameError::TooLong(3))]
-        )
+        came.as_str() == "[Err(Io(Kind(Other))), Ok(Some([97])), Err(Truncated(1))]",
+        "{came}"
     );
-    let fault = [Answer::Serve(1), Answer::Fail(ErrorKind::Other)];
-    let mut reader = frames_over(rt.alloc(), None, 3, b"\x00\x01a\x00", &fault)?;
-    let answers = play_reads(rt.alloc(), &mut reader, 3)?;
+    let came = frames_written(rt.alloc())?;
     assert!(rt;
-        matches!(
-            answers.as_slice(),
-            [Err(FrameError::Io(_)), Ok(Some(payload)), Err(FrameError::Truncated(1))]
-                if payload.as_slice() == b"a".as_slice()
-        )
+        came.as_str() == "[Ok(()), Ok(()), Err(TooLong(3))]",
+        "{came}"
     );
-    of_frames(&reader, &writer);
     Ok(())
 }
 
@@ -143,47 +156,52 @@ fn lines_back(alloc: Global, lines: &[Vec<u8>]) -> io::Result<Option<Vec<Vec<u8>
 fn play_lines<R: TellRead>(
     alloc: Global,
     reader: &mut LineReader<R>,
-    count: usize,
-) -> Result<Vec<Result<Option<Vec<u8>>, LineError>>, AllocError> {
+) -> Result<String, AllocError> {
     let mut answers = Vec::new(alloc);
-    line_reader::laws::play_next(alloc, reader, count, &mut answers)?;
-    Ok(answers)
+    line_reader::laws::play_next(alloc, reader, 3, &mut answers)?;
+    debug(alloc, &answers)
+}
+
+// Whether the lines come back.
+fn lines_come_back(alloc: Global, lines: &[Vec<u8>]) -> io::Result<bool> {
+    Ok(match lines_back(alloc, lines)? {
+        Some(back) => back.as_slice() == lines,
+        None => false,
+    })
 }
 
 #[test]
 fn lines_go_there_and_back(rt: HostRuntime) -> Result<(), Fail> {
-    let lines = some(rt.alloc())?;
-    match lines_back(rt.alloc(), &lines)? {
-        Some(back) => assert!(rt; back.as_slice() == lines.as_slice()),
-        None => assert!(rt; false),
-    }
+    assert!(rt; lines_come_back(rt.alloc(), &some(rt.alloc())?)?);
     Ok(())
+}
+
+fn lines_read(alloc: Global) -> io::Result<String> {
+    let mut reader = lines_over(alloc, None, 3, b"a\nabcd", &FAULT)?;
+    of_lines(&reader);
+    Ok(play_lines(alloc, &mut reader)?)
 }
 
 #[test]
 fn lines_are_played(rt: HostRuntime) -> Result<(), Fail> {
-    let fault = [Answer::Serve(1), Answer::Fail(ErrorKind::Other)];
-    let mut reader = lines_over(rt.alloc(), None, 3, b"a\nabcd", &fault)?;
-    let answers = play_lines(rt.alloc(), &mut reader, 3)?;
+    let came = lines_read(rt.alloc())?;
     assert!(rt;
-        matches!(
-            answers.as_slice(),
-            [Err(LineError::Io(_)), Ok(Some(line)), Err(LineError::TooLong(3))]
-                if line.as_slice() == b"a".as_slice()
-        )
+        came.as_str() == "[Err(Io(Kind(Other))), Ok(Some([97])), Err(TooLong(3))]",
+        "{came}"
     );
-    of_lines(&reader);
+    Ok(())
+}
+
+fn of_some_bodies<R: TellRead, P: ReaderPolicy>(
+    alloc: Global,
+    reader: &ChunkedReader<R, P>,
+) -> io::Result<()> {
+    of_bodies(reader, &chunks::body(alloc, 21, &[])?);
     Ok(())
 }
 
 #[test]
 fn bodies_have_laws(rt: HostRuntime) -> Result<(), Fail> {
-    let reader = bodies::over(
-        reader(rt.alloc(), 8, b"", source(rt.alloc(), b"", &[])?)?,
-        9,
-        9,
-    );
-    let writer = chunks::over(writer(rt.alloc(), 21, b"", target(rt.alloc(), &[])?)?)?;
-    of_bodies(&reader, &writer);
-    Ok(())
+    let reader = bodies::unbegun(rt.alloc())?;
+    Ok(of_some_bodies(rt.alloc(), &reader)?)
 }

@@ -1,9 +1,12 @@
 //! Lines.
-use crate::sweep::{Asks, Run, Want, sweep, walk};
+use crate::sweep::Want::{Asked, End, Next, Rest, Skipped, TooLong, Trimmed};
+use crate::sweep::{Asks, Run, Scripted, Want, are_so, sweep, walk};
 use buffer_redux::script::Answer;
+use buffer_redux::tell::TellRead;
 use buffer_redux::{GrowError, MakeError};
 use line_reader::{LineError, LineReader};
-use std::alloc::Global;
+use std::alloc::{AllocError, Global};
+use std::io;
 use std::io::ErrorKind;
 use std::test::Fail;
 use tests_common::{Source, kind, source};
@@ -13,126 +16,98 @@ use tests_common::{Source, kind, source};
 struct Row<'a>(usize, &'a [u8], &'a [Want<'a>]);
 
 // The lines are those of std's `read_until` without their ends, and those that are trimmed are those of its `lines`.
-const ROWS: [Row<'static>; 8] = [
-    Row(3, b"", &[Want::End, Want::End]),
+static ROWS: [Row<'static>; 8] = [
+    Row(3, b"", &[End, End]),
     Row(
         3,
         b"a\n\n\nbc",
-        &[
-            Want::Next(b"a"),
-            Want::Next(b""),
-            Want::Next(b""),
-            Want::Next(b"bc"),
-            Want::End,
-            Want::End,
-        ],
+        &[Next(b"a"), Next(b""), Next(b""), Next(b"bc"), End, End],
     ),
-    Row(
-        3,
-        b"abc\nabcd",
-        &[Want::Next(b"abc"), Want::TooLong(3), Want::TooLong(3)],
-    ),
-    Row(
-        0,
-        b"\n\na",
-        &[Want::Next(b""), Want::Next(b""), Want::TooLong(0)],
-    ),
+    Row(3, b"abc\nabcd", &[Next(b"abc"), TooLong(3), TooLong(3)]),
+    Row(0, b"\n\na", &[Next(b""), Next(b""), TooLong(0)]),
     // Nothing is decoded.
-    Row(
-        3,
-        b"\xff\0\n\xc3",
-        &[Want::Next(b"\xff\0"), Want::Next(b"\xc3"), Want::End],
-    ),
+    Row(3, b"\xff\0\n\xc3", &[Next(b"\xff\0"), Next(b"\xc3"), End]),
     // A carriage return is a byte of the line, also where the length counts.
     Row(
         3,
         b"\r\nab\r\nabc\r\n",
-        &[Want::Next(b"\r"), Want::Next(b"ab\r"), Want::TooLong(3)],
+        &[Next(b"\r"), Next(b"ab\r"), TooLong(3)],
     ),
     Row(
         3,
         b"a\r\n\r\r\nb\na\rb\n",
         &[
-            Want::Trimmed(b"a"),
-            Want::Trimmed(b"\r"),
-            Want::Trimmed(b"b"),
-            Want::Trimmed(b"a\rb"),
-            Want::End,
+            Trimmed(b"a"),
+            Trimmed(b"\r"),
+            Trimmed(b"b"),
+            Trimmed(b"a\rb"),
+            End,
         ],
     ),
     Row(
         3,
         b"ab\r\n\nab\r",
-        &[
-            Want::Trimmed(b"ab"),
-            Want::Next(b""),
-            Want::Trimmed(b"ab\r"),
-            Want::End,
-        ],
+        &[Trimmed(b"ab"), Next(b""), Trimmed(b"ab\r"), End],
     ),
 ];
 
 // What is dropped, with what is lent before it and behind.
-const SKIPPED: [Row<'static>; 3] = [
-    Row(3, b"", &[Want::Skipped(0), Want::End, Want::Skipped(0)]),
-    Row(
-        3,
-        b"ab\n\ncd",
-        &[
-            Want::Next(b"ab"),
-            Want::Skipped(1),
-            Want::Skipped(2),
-            Want::End,
-        ],
-    ),
+static SKIPPED: [Row<'static>; 3] = [
+    Row(3, b"", &[Skipped(0), End, Skipped(0)]),
+    Row(3, b"ab\n\ncd", &[Next(b"ab"), Skipped(1), Skipped(2), End]),
     Row(
         3,
         b"abcd\nabcdefghijklmnopqrst\nab",
         &[
-            Want::TooLong(3),
-            Want::Skipped(5),
-            Want::TooLong(3),
-            Want::Skipped(21),
-            Want::Next(b"ab"),
-            Want::End,
+            TooLong(3),
+            Skipped(5),
+            TooLong(3),
+            Skipped(21),
+            Next(b"ab"),
+            End,
         ],
     ),
 ];
 
 type Lines = LineReader<Source>;
 
-/// A reader over the usual buffer, or one of at least this capacity. Neither it nor any call below promises anything.
+// A reader over the usual buffer, or one of at least this capacity. Neither it nor any call below promises anything.
+fn reader<R: TellRead + Drop>(
+    alloc: Global,
+    capacity: Option<usize>,
+    max: usize,
+    inner: R,
+) -> Result<LineReader<R>, MakeError<R>> {
+    match capacity {
+        Some(capacity) => LineReader::with_capacity(alloc, capacity, inner, max),
+        None => LineReader::new(alloc, inner, max),
+    }
+}
+
+/// Such a reader of these bytes.
 pub fn lines_over(
     alloc: Global,
     capacity: Option<usize>,
     max: usize,
     bytes: &[u8],
     script: &[Answer],
-) -> Result<Lines, Fail> {
-    let inner = source(alloc, bytes, script)?;
-    let made = match capacity {
-        Some(capacity) => LineReader::with_capacity(alloc, capacity, inner, max),
-        None => LineReader::new(alloc, inner, max),
-    };
-    match made {
-        Ok(lines) => Ok(lines),
-        Err(MakeError(_, e)) => Err(e.into()),
-    }
+) -> io::Result<Lines> {
+    Ok(reader(alloc, capacity, max, source(alloc, bytes, script)?)?)
 }
 
-fn next(lines: &mut Lines) -> Result<Option<&[u8]>, LineError> {
+fn next<R: TellRead>(lines: &mut LineReader<R>) -> Result<Option<&[u8]>, LineError> {
     lines.next()
 }
 
-fn next_trimmed(lines: &mut Lines) -> Result<Option<&[u8]>, LineError> {
+fn next_trimmed<R: TellRead>(lines: &mut LineReader<R>) -> Result<Option<&[u8]>, LineError> {
     lines.next_trimmed()
 }
 
-fn skip_line(lines: &mut Lines) -> Result<u64, ErrorKind> {
+fn skip_line<R: TellRead>(lines: &mut LineReader<R>) -> Result<u64, ErrorKind> {
     kind(lines.skip_line())
 }
 
-fn rest(lines: &Lines) -> &[u8] {
+fn rest<R: TellRead>(lines: &LineReader<R>) -> &[u8] {
     lines.rest()
 }
 
@@ -143,10 +118,10 @@ fn asked(lines: &Lines) -> &[usize] {
 impl Asks for Lines {
     fn meets(&mut self, want: Want<'_>) -> Option<bool> {
         match want {
-            Want::Rest(bytes) => Some(rest(self) == bytes),
-            Want::Reads(count) => Some(asked(self).len() == count),
-            Want::Skipped(count) => Some(skip_line(self).ok()? == count),
-            Want::Trimmed(_) => is_such(next_trimmed(self), want),
+            Rest(bytes) => Some(rest(self) == bytes),
+            Asked(count) => Some(asked(self).len() == count),
+            Skipped(count) => Some(skip_line(self).ok()? == count),
+            Trimmed(_) => is_such(next_trimmed(self), want),
             _ => is_such(next(self), want),
         }
     }
@@ -155,43 +130,44 @@ impl Asks for Lines {
 // Whether this answer is such, and nothing where the stream failed.
 fn is_such(answer: Result<Option<&[u8]>, LineError>, want: Want<'_>) -> Option<bool> {
     match (answer, want) {
-        (Ok(Some(line)), Want::Next(bytes) | Want::Trimmed(bytes)) => Some(line == bytes),
-        (Ok(None), Want::End) => Some(true),
-        (Err(LineError::TooLong(max)), Want::TooLong(most)) => Some(max == most),
+        (Ok(Some(line)), Next(bytes) | Trimmed(bytes)) => Some(line == bytes),
+        (Ok(None), End) => Some(true),
+        (Err(LineError::TooLong(max)), TooLong(most)) => Some(max == most),
         (Err(LineError::Io(_)), _) => None,
         _ => Some(false),
     }
 }
 
 impl Run for Row<'_> {
-    fn run(&self, alloc: Global, script: &[Answer]) -> Result<Option<usize>, Fail> {
+    fn run(&self, alloc: Global, script: &[Answer]) -> io::Result<Option<usize>> {
         let mut lines = lines_over(alloc, Some(0), self.0, self.1, script)?;
         Ok(walk(&mut lines, self.2))
     }
 }
 
+static PIECES: [usize; 4] = [usize::MAX, 3, 2, 1];
+
 #[test]
 fn reads_lines(rt: HostRuntime) -> Result<(), Fail> {
-    let pieces = [usize::MAX, 3, 2, 1];
     for fault in [Answer::Fail(ErrorKind::TimedOut), Answer::Interrupt(1)] {
-        sweep(&rt, rt.alloc(), &ROWS, &pieces, fault)?;
+        sweep(&rt, rt.alloc(), &ROWS, &PIECES, fault)?;
     }
-    // What came before a fault is gone where a line is dropped: so without one.
-    sweep(&rt, rt.alloc(), &SKIPPED, &pieces, Answer::Interrupt(0))
+    Ok(())
+}
+
+// What came before a fault is gone where a line is dropped: so without one.
+#[test]
+fn skips_lines(rt: HostRuntime) -> Result<(), Fail> {
+    sweep(&rt, rt.alloc(), &SKIPPED, &PIECES, Answer::Interrupt(0))
 }
 
 // A fault in a line that is dropped; and a terminal that ends after three bytes of a line, and goes on.
-const SCRIPTED: [(Row<'static>, &[Answer], usize); 3] = [
+static SCRIPTED: [Scripted<Row<'static>>; 3] = [
     (
         Row(
             3,
             b"abcdef\nok",
-            &[
-                Want::Skipped(4),
-                Want::Rest(b"ok"),
-                Want::Next(b"ok"),
-                Want::End,
-            ],
+            &[Skipped(4), Rest(b"ok"), Next(b"ok"), End],
         ),
         &[Answer::Serve(3), Answer::Fail(ErrorKind::TimedOut)],
         1,
@@ -201,17 +177,17 @@ const SCRIPTED: [(Row<'static>, &[Answer], usize); 3] = [
             3,
             b"a\nb\ncdef\ng\n",
             &[
-                Want::Next(b"a"),
-                Want::Next(b"b"),
-                Want::Reads(1),
-                Want::Next(b"cde"),
-                Want::End,
-                Want::Reads(2),
-                Want::Next(b"f"),
-                Want::Reads(3),
-                Want::End,
-                Want::Reads(4),
-                Want::Next(b"g"),
+                Next(b"a"),
+                Next(b"b"),
+                Asked(1),
+                Next(b"cde"),
+                End,
+                Asked(2),
+                Next(b"f"),
+                Asked(3),
+                End,
+                Asked(4),
+                Next(b"g"),
             ],
         ),
         &TERMINAL,
@@ -222,17 +198,17 @@ const SCRIPTED: [(Row<'static>, &[Answer], usize); 3] = [
             3,
             b"a\nb\ncdef\ng\n",
             &[
-                Want::Trimmed(b"a"),
-                Want::Skipped(2),
-                Want::Reads(1),
-                Want::Skipped(3),
-                Want::End,
-                Want::Reads(2),
-                Want::Skipped(2),
-                Want::Reads(3),
-                Want::Skipped(0),
-                Want::End,
-                Want::Reads(4),
+                Trimmed(b"a"),
+                Skipped(2),
+                Asked(1),
+                Skipped(3),
+                End,
+                Asked(2),
+                Skipped(2),
+                Asked(3),
+                Skipped(0),
+                End,
+                Asked(4),
             ],
         ),
         &TERMINAL,
@@ -249,37 +225,51 @@ const TERMINAL: [Answer; 4] = [
 
 #[test]
 fn reads_as_the_stream_gives(rt: HostRuntime) -> Result<(), Fail> {
-    for (row, script, failed) in &SCRIPTED {
-        assert!(rt; row.run(rt.alloc(), script)? == Some(*failed));
-    }
+    assert!(rt; are_so(rt.alloc(), &SCRIPTED)?);
     Ok(())
 }
 
 // The capacity that is asked for, the greatest length of a line, and how many bytes the first read is offered: all of the
 // buffer, which holds three lines at least.
-const CAPACITIES: [(Option<usize>, usize, usize); 4] = [
+static CAPACITIES: [(Option<usize>, usize, usize); 4] = [
     (Some(0), 3, 12),
     (Some(13), 3, 13),
     (None, 3, 8192),
     (None, 65535, 196608),
 ];
 
+fn is_offered(lines: &mut Lines, count: usize) -> bool {
+    lines.meets(End) == Some(true) && asked(lines) == [count].as_slice()
+}
+
+fn offers(alloc: Global, capacity: Option<usize>, max: usize, count: usize) -> io::Result<bool> {
+    Ok(is_offered(&mut lines_over(alloc, capacity, max, b"", &[])?, count))
+}
+
 #[test]
 fn takes_the_capacity(rt: HostRuntime) -> Result<(), Fail> {
-    for (capacity, max, offered) in CAPACITIES {
-        let mut lines = lines_over(rt.alloc(), capacity, max, b"", &[])?;
-        assert!(rt; lines.meets(Want::End) == Some(true));
-        assert!(rt; asked(&lines) == [offered].as_slice());
+    for &(capacity, max, offered) in &CAPACITIES {
+        assert!(rt; offers(rt.alloc(), capacity, max, offered)?);
     }
     Ok(())
 }
 
-// How many bytes of the stream come back where a reader is refused as too large.
-fn refused(alloc: Global, capacity: usize, max: usize) -> Result<Option<usize>, Fail> {
-    match LineReader::with_capacity(alloc, capacity, source(alloc, b"abc", &[])?, max) {
-        Err(MakeError(inner, GrowError::TooLarge)) => Ok(Some(inner.get_ref().served())),
-        _ => Ok(None),
+// The stream of a reader that is refused as too large.
+fn too_large<R: TellRead + Drop>(made: Result<LineReader<R>, MakeError<R>>) -> Option<R> {
+    match made {
+        Err(MakeError(inner, GrowError::TooLarge)) => Some(inner),
+        _ => None,
     }
+}
+
+// How many bytes of it were read, where it comes back.
+fn refused(alloc: Global, capacity: usize, max: usize) -> Result<Option<usize>, AllocError> {
+    Ok(
+        match too_large(reader(alloc, Some(capacity), max, source(alloc, b"abc", &[])?)) {
+            Some(inner) => Some(served(&inner)),
+            None => None,
+        },
+    )
 }
 
 // No memory is asked for then, and the stream comes back unread.
@@ -291,28 +281,42 @@ fn refuses_what_is_too_large(rt: HostRuntime) -> Result<(), Fail> {
     Ok(())
 }
 
-// How many bytes the stream served that a reader is over, and whether these are in the buffer that is taken out of it.
-fn apart(lines: Lines, held: &[u8]) -> (usize, bool) {
-    let (inner, buffer) = lines.into_inner_with_buffer();
-    (inner.get_ref().served(), buffer.buf() == held)
+// Whether this line comes first, and nothing failed.
+fn begins<A: Asks>(lines: &mut A, first: &[u8]) -> bool {
+    walk(lines, &[Next(first)]) == Some(0)
 }
 
-// That of the reader inside, lent and handed back.
-fn served(mut lines: Lines) -> (usize, usize) {
-    let lent = lines.get_mut().get_ref().served();
-    (lent, lines.into_inner().get_ref().served())
+// The stream that a reader is over, and whether these bytes are in the buffer that is taken out of it.
+fn apart<R: TellRead>(lines: LineReader<R>, held: &[u8]) -> (R, bool) {
+    let (inner, buffer) = lines.into_inner_with_buffer();
+    (inner, buffer.buf() == held)
+}
+
+fn served(inner: &Source) -> usize {
+    inner.get_ref().served()
+}
+
+// How many bytes it served by then.
+fn served_apart(mut lines: Lines) -> (bool, usize, bool) {
+    let begun = begins(&mut lines, b"a");
+    let (inner, held) = apart(lines, b"bc");
+    (begun, served(&inner), held)
+}
+
+// The same of the stream, lent and handed back.
+fn served_lent(mut lines: Lines) -> (bool, usize, usize) {
+    let begun = begins(&mut lines, b"a");
+    let lent = served(lines.get_mut());
+    (begun, lent, served(&lines.into_inner()))
+}
+
+fn half_read(alloc: Global) -> io::Result<Lines> {
+    lines_over(alloc, None, 3, b"a\nbcd\n", &[Answer::Serve(4)])
 }
 
 #[test]
 fn hands_the_stream_back(rt: HostRuntime) -> Result<(), Fail> {
-    for whole in [false, true] {
-        let mut lines = lines_over(rt.alloc(), None, 3, b"a\nbcd\n", &[Answer::Serve(4)])?;
-        assert!(rt; lines.meets(Want::Next(b"a")) == Some(true));
-        if whole {
-            assert!(rt; apart(lines, b"bc") == (4, true));
-        } else {
-            assert!(rt; served(lines) == (4, 4));
-        }
-    }
+    assert!(rt; served_apart(half_read(rt.alloc())?) == (true, 4, true));
+    assert!(rt; served_lent(half_read(rt.alloc())?) == (true, 4, 4));
     Ok(())
 }

@@ -1,6 +1,7 @@
 //! Lists of calls over a stream that comes in pieces, and that goes wrong at each call in turn.
 use buffer_redux::script::Answer;
 use std::alloc::{AllocError, Global};
+use std::io;
 use std::process::Abort;
 use std::test::Fail;
 
@@ -8,7 +9,7 @@ use std::test::Fail;
 pub trait Run {
     /// Makes the calls over a stream that answers by the script, those again that the stream failed in. Returns how many these
     /// are, and nothing where an answer is another.
-    fn run(&self, alloc: Global, script: &[Answer]) -> Result<Option<usize>, Fail>;
+    fn run(&self, alloc: Global, script: &[Answer]) -> io::Result<Option<usize>>;
 }
 
 /// A call, and what it is to answer, or what is seen between two calls.
@@ -29,7 +30,7 @@ pub enum Want<'a> {
     /// What is buffered and was not handed out.
     Rest(&'a [u8]),
     /// The stream was read so often.
-    Reads(usize),
+    Asked(usize),
 }
 
 /// A reader that is asked for one thing after another.
@@ -38,18 +39,19 @@ pub trait Asks {
     fn meets(&mut self, want: Want<'_>) -> Option<bool>;
 }
 
+// Makes a call, again where the stream failed, as `run` of [`Run`].
+fn step<A: Asks>(reader: &mut A, want: Want<'_>) -> Option<usize> {
+    match reader.meets(want) {
+        Some(met) => met.then_some(0),
+        None => reader.meets(want)?.then_some(1),
+    }
+}
+
 /// Makes the calls, those again that the stream failed in, as `run` of [`Run`].
 pub fn walk<A: Asks>(reader: &mut A, wants: &[Want<'_>]) -> Option<usize> {
     let mut failed = 0usize;
     for want in wants {
-        let mut met = reader.meets(*want);
-        if met.is_none() {
-            failed = failed.saturating_add(1);
-            met = reader.meets(*want);
-        }
-        if met != Some(true) {
-            return None;
-        }
+        failed = failed.saturating_add(step(reader, *want)?);
     }
     Some(failed)
 }
@@ -70,16 +72,26 @@ fn script(
     Ok(script)
 }
 
+// The run with this fault behind so many calls.
+fn run_behind<R: Run>(
+    alloc: Global,
+    run: &R,
+    most: usize,
+    before: usize,
+    fault: Answer,
+) -> io::Result<Option<usize>> {
+    run.run(alloc, script(alloc, most, before, fault)?.as_slice())
+}
+
 // Behind how many calls a fault makes a run go wrong. The last run meets none.
 fn wrong_behind<R: Run>(
     alloc: Global,
     run: &R,
     most: usize,
     fault: Answer,
-) -> Result<Option<usize>, Fail> {
+) -> io::Result<Option<usize>> {
     for before in 0..CALLS {
-        let script = script(alloc, most, before, fault)?;
-        match run.run(alloc, script.as_slice())? {
+        match run_behind(alloc, run, most, before, fault)? {
             Some(0) => return Ok(None),
             Some(_) => {}
             None => return Ok(Some(before)),
@@ -106,4 +118,17 @@ pub fn sweep<R: Run>(
         }
     }
     Ok(())
+}
+
+/// A run over a stream that answers so, and how often that fails.
+pub type Scripted<R> = (R, &'static [Answer], usize);
+
+/// Whether each of them goes so.
+pub fn are_so<R: Run>(alloc: Global, runs: &[Scripted<R>]) -> io::Result<bool> {
+    for (run, script, failed) in runs {
+        if run.run(alloc, script)? != Some(*failed) {
+            return Ok(false);
+        }
+    }
+    Ok(true)
 }

@@ -2,7 +2,7 @@
 use chunked::Malformed::{
     BadSize, BareFeed, BareReturn, ChunkTooLong, LineTooLong, NoSize, SizeTooLarge, TrailersTooLong,
 };
-use chunked::{ChunkedError, FinishError, TrailersError};
+use chunked::{ChunkedError, FinishError, Malformed, TrailersError};
 use frame_reader::{FrameError, WriteFrameError};
 use line_reader::LineError;
 use std::alloc::{AllocError, Global};
@@ -12,66 +12,59 @@ use std::io::ErrorKind;
 use std::test::Fail;
 use tests_common::{debug, display};
 
-// The fault of a stream, and what it says.
+// The fault of a stream, whose text is "timed out".
 fn fault() -> io::Error {
     io::Error::from(ErrorKind::TimedOut)
 }
 
-// Whether this is the text for readers.
-fn says<E: Display>(alloc: Global, error: &E, text: &str) -> Result<bool, AllocError> {
-    Ok(display(alloc, error)?.as_str() == text)
-}
-
-// Whether it is that of the fault of a stream.
-fn says_fault<E: Display>(alloc: Global, error: &E) -> Result<bool, AllocError> {
-    says(alloc, error, display(alloc, &fault())?.as_str())
+// The texts for readers, a line each.
+fn lines<E: Display>(alloc: Global, errors: &[E]) -> Result<String, AllocError> {
+    let mut all = String::new(alloc);
+    for error in errors {
+        all.push_str(display(alloc, error)?.as_str())?;
+        all.push_str("\n")?;
+    }
+    Ok(all)
 }
 
 #[test]
 fn of_frames(rt: HostRuntime) -> Result<(), Fail> {
-    let alloc = rt.alloc();
-    let truncated = FrameError::Truncated(3);
-    assert!(rt;
-        says(
-            alloc,
-            &truncated,
-            "the stream ended after 3 bytes of a frame"
-        )?
-    );
-    assert!(rt;
-        says(
-            alloc,
-            &FrameError::TooLong(4),
-            "a frame of 4 bytes is too long"
-        )?
-    );
-    assert!(rt; says_fault(alloc, &FrameError::from(fault()))?);
-    assert!(rt;
-        says(
-            alloc,
-            &WriteFrameError::TooLong(4),
-            "a payload of 4 bytes is too long"
-        )?
-    );
-    assert!(rt; says_fault(alloc, &WriteFrameError::from(fault()))?);
+    let errors = [
+        FrameError::Truncated(3),
+        FrameError::TooLong(4),
+        FrameError::from(fault()),
+    ];
+    let came = lines(rt.alloc(), &errors)?;
+    let text =
+        "the stream ended after 3 bytes of a frame\na frame of 4 bytes is too long\ntimed out\n";
+    assert!(rt; came.as_str() == text, "{came}");
     Ok(())
 }
 
-// As an I/O error it is the stream's own, or `InvalidData`.
+#[test]
+fn of_written_frames(rt: HostRuntime) -> Result<(), Fail> {
+    let errors = [WriteFrameError::TooLong(4), WriteFrameError::from(fault())];
+    let came = lines(rt.alloc(), &errors)?;
+    assert!(rt;
+        came.as_str() == "a payload of 4 bytes is too long\ntimed out\n",
+        "{came}"
+    );
+    Ok(())
+}
+
 #[test]
 fn of_lines(rt: HostRuntime) -> Result<(), Fail> {
-    let alloc = rt.alloc();
-    let long = LineError::TooLong(4);
-    assert!(rt; says(alloc, &long, "a line of more than 4 bytes is too long")?);
-    assert!(rt; debug(alloc, &long)?.as_str() == "TooLong(4)");
-    assert!(rt; io::Error::from(long).kind() == ErrorKind::InvalidData);
-    let of_stream = LineError::from(fault());
-    assert!(rt; says_fault(alloc, &of_stream)?);
-    assert!(rt; io::Error::from(of_stream).kind() == ErrorKind::TimedOut);
+    let errors = [LineError::TooLong(4), LineError::from(fault())];
+    let came = lines(rt.alloc(), &errors)?;
+    assert!(rt;
+        came.as_str() == "a line of more than 4 bytes is too long\ntimed out\n",
+        "{came}"
+    );
+    assert!(rt; debug(rt.alloc(), &errors[0])?.as_str() == "TooLong(4)");
     Ok(())
 }
 
-const WRONG: [(chunked::Malformed, &str); 8] = [
+static WRONG: [(Malformed, &str); 8] = [
     (NoSize, "a chunk without a size, behind 7 bytes of a body"),
     (
         BadSize,
@@ -98,39 +91,50 @@ const WRONG: [(chunked::Malformed, &str); 8] = [
 ];
 
 #[test]
-fn of_bodies(rt: HostRuntime) -> Result<(), Fail> {
-    let alloc = rt.alloc();
-    for (why, text) in WRONG {
-        assert!(rt;
-            says(alloc, &ChunkedError::NotChunked(why, 7), text)?,
-            "{text}"
-        );
+fn of_wrong_bodies(rt: HostRuntime) -> Result<(), Fail> {
+    for &(why, text) in &WRONG {
+        let came = display(rt.alloc(), &ChunkedError::NotChunked(why, 7))?;
+        assert!(rt; came.as_str() == text, "{came}");
     }
-    let truncated = ChunkedError::Truncated(7);
-    assert!(rt;
-        says(
-            alloc,
-            &truncated,
-            "the stream ended after 7 bytes of a body"
-        )?
-    );
-    assert!(rt; says_fault(alloc, &ChunkedError::from(fault()))?);
     Ok(())
 }
 
-// As an I/O error it is the stream's own, or `InvalidInput`.
+#[test]
+fn of_cut_bodies(rt: HostRuntime) -> Result<(), Fail> {
+    let errors = [ChunkedError::Truncated(7), ChunkedError::from(fault())];
+    let came = lines(rt.alloc(), &errors)?;
+    assert!(rt;
+        came.as_str() == "the stream ended after 7 bytes of a body\ntimed out\n",
+        "{came}"
+    );
+    Ok(())
+}
+
 #[test]
 fn of_trailers(rt: HostRuntime) -> Result<(), Fail> {
-    let alloc = rt.alloc();
-    let wrong = FinishError(7, TrailersError::NoField(7));
-    let text = "line 7 of the trailers is empty, or holds CR or LF";
-    assert!(rt; says(alloc, &wrong, text)?);
-    assert!(rt; io::Error::from(wrong).kind() == ErrorKind::InvalidInput);
-    let long = FinishError(7, TrailersError::TooLong);
-    assert!(rt; says(alloc, &long, "the trailers don't fit into the buffer")?);
-    assert!(rt; io::Error::from(long).kind() == ErrorKind::InvalidInput);
-    let of_stream = FinishError(7, TrailersError::Io(fault()));
-    assert!(rt; says_fault(alloc, &of_stream)?);
-    assert!(rt; io::Error::from(of_stream).kind() == ErrorKind::TimedOut);
+    let errors = [
+        FinishError(7, TrailersError::NoField(7)),
+        FinishError(7, TrailersError::TooLong),
+        FinishError(7, TrailersError::Io(fault())),
+    ];
+    let came = lines(rt.alloc(), &errors)?;
+    let text = "line 7 of the trailers is empty, or holds CR or LF\n\
+the trailers don't fit into the buffer\ntimed out\n";
+    assert!(rt; came.as_str() == text, "{came}");
     Ok(())
+}
+
+// The kind that it has as an I/O error: the stream's own, or that of what was given.
+fn kind_of<E: Into<io::Error>>(error: E) -> ErrorKind {
+    error.into().kind()
+}
+
+#[test]
+fn as_io_errors(rt: HostRuntime) {
+    assert!(rt; kind_of(LineError::TooLong(4)) == ErrorKind::InvalidData);
+    assert!(rt; kind_of(LineError::from(fault())) == ErrorKind::TimedOut);
+    let refused = |why| kind_of(FinishError(7, why));
+    assert!(rt; refused(TrailersError::NoField(7)) == ErrorKind::InvalidInput);
+    assert!(rt; refused(TrailersError::TooLong) == ErrorKind::InvalidInput);
+    assert!(rt; refused(TrailersError::Io(fault())) == ErrorKind::TimedOut);
 }
