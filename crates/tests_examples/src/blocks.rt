@@ -12,7 +12,7 @@ fn buffer(rt: HostRuntime) -> Result<(), Fail> {
     assert!(rt; buffer.usable_space() == 0);
     buffer.make_room();
     assert!(rt; buffer.usable_space() == 1);
-    Ok(())
+    Ok(drop(buffer))
 }
 
 #[test]
@@ -22,7 +22,7 @@ fn grow_error(rt: HostRuntime) -> Result<(), Fail> {
     buffer.set_limit(6)?;
     assert!(rt; matches!(buffer.reserve(7), Err(GrowError::TooLarge)));
     assert!(rt; buffer.capacity() == 4);
-    Ok(())
+    Ok(drop(buffer))
 }
 
 #[test]
@@ -31,5 +31,5 @@ fn raw_buf(rt: HostRuntime) -> Result<(), Fail> {
     let mut block = RawBuf::with_capacity(alloc, 2)?;
     block.as_mut_slice().copy_from_slice(b"ab");
     assert!(rt; block.as_slice() == b"ab".as_slice());
-    Ok(())
+    Ok(drop(block))
 }

@@ -43,7 +43,7 @@ fn chunked_error(rt: HostRuntime) -> Result<(), Fail> {
             Err(ChunkedError::NotChunked(Malformed::ChunkTooLong, 8))
         )
     );
-    Ok(())
+    Ok(drop(body))
 }
 
 #[test]

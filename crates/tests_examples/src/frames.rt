@@ -11,7 +11,7 @@ fn frame_reader(rt: HostRuntime) -> Result<(), Fail> {
     assert!(rt; matches!(reader.next(), Ok(Some(b"hi"))));
     assert!(rt; matches!(reader.next(), Ok(Some(b""))));
     assert!(rt; matches!(reader.next(), Ok(None)));
-    Ok(())
+    Ok(drop(reader))
 }
 
 #[test]
@@ -20,7 +20,7 @@ fn frame_error(rt: HostRuntime) -> Result<(), Fail> {
     let mut reader = FrameReader::new(alloc, Told::new(b"\x00\x02h".as_slice()), 100)?;
     assert!(rt; matches!(reader.next(), Err(FrameError::Truncated(3))));
     assert!(rt; reader.rest() == b"\x00\x02h".as_slice());
-    Ok(())
+    Ok(drop(reader))
 }
 
 #[test]
@@ -30,7 +30,7 @@ fn frame_writer(rt: HostRuntime) -> Result<(), Fail> {
     assert!(rt; writer.write_frame(b"hi").is_ok());
     writer.flush()?;
     assert!(rt; writer.get_ref().get_ref().as_slice() == b"\x00\x02hi".as_slice());
-    Ok(())
+    Ok(drop(writer))
 }
 
 #[test]
@@ -39,5 +39,5 @@ fn write_frame_error(rt: HostRuntime) -> Result<(), Fail> {
     let mut writer = FrameWriter::new(alloc, Told::new(Vec::new(alloc)), 4)?;
     let refused = writer.write_frame(b"hello");
     assert!(rt; matches!(refused, Err(WriteFrameError::TooLong(5))));
-    Ok(())
+    Ok(drop(writer))
 }

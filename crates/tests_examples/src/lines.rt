@@ -11,7 +11,7 @@ fn line_reader(rt: HostRuntime) -> Result<(), Fail> {
     assert!(rt; matches!(reader.next(), Ok(Some(b""))));
     assert!(rt; matches!(reader.next(), Ok(Some(b"last"))));
     assert!(rt; matches!(reader.next(), Ok(None)));
-    Ok(())
+    Ok(drop(reader))
 }
 
 #[test]
@@ -21,5 +21,5 @@ fn line_error(rt: HostRuntime) -> Result<(), Fail> {
     assert!(rt; matches!(reader.next(), Err(LineError::TooLong(4))));
     assert!(rt; matches!(reader.skip_line(), Ok(9)));
     assert!(rt; matches!(reader.next(), Ok(Some(b"ok"))));
-    Ok(())
+    Ok(drop(reader))
 }

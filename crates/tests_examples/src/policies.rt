@@ -30,7 +30,7 @@ fn under_eager(rt: HostRuntime) -> Result<(), Fail> {
     assert!(rt; reader.fill_buf()? == b"abcd".as_slice());
     reader.consume(1);
     assert!(rt; reader.fill_buf()? == b"bcde".as_slice());
-    Ok(())
+    Ok(drop(reader))
 }
 
 #[test]
@@ -39,7 +39,7 @@ fn min_buffered(rt: HostRuntime) -> Result<(), Fail> {
     let slow = ScriptReader::new(alloc, b"abcdefgh", &[Answer::ServeEach(2)])?;
     let mut reader = BufReader::new(alloc, Told::new(slow))?.set_policy(MinBuffered(5));
     assert!(rt; reader.fill_buf()? == b"abcdef".as_slice());
-    Ok(())
+    Ok(drop(reader))
 }
 
 #[test]

@@ -13,7 +13,7 @@ fn buf_reader(rt: HostRuntime) -> Result<(), Fail> {
     assert!(rt; reader.fill_buf()? == b"abcd".as_slice());
     reader.consume(3);
     assert!(rt; reader.buffer() == b"d".as_slice());
-    Ok(())
+    Ok(drop(reader))
 }
 
 #[test]
@@ -40,7 +40,7 @@ fn unbuffer(rt: HostRuntime) -> Result<(), Fail> {
     assert!(rt; rest.read(&mut out)? == 2);
     assert!(rt; rest.is_buf_empty());
     assert!(rt; rest.read(&mut out)? == 1);
-    Ok(())
+    Ok(drop(rest))
 }
 
 #[test]
@@ -57,7 +57,7 @@ fn bytes(rt: HostRuntime) -> Result<(), Fail> {
     assert!(rt; matches!(peek(&mut reader)?, Some(b'a')));
     assert!(rt; matches!(next_byte(&mut reader)?, Some(b'a')));
     assert!(rt; matches!(next_byte(&mut reader)?, None));
-    Ok(())
+    Ok(drop(reader))
 }
 
 #[test]
@@ -74,5 +74,5 @@ fn reader_run(rt: HostRuntime) -> Result<(), Fail> {
     let answers = run.answers.as_slice();
     assert!(rt; matches!(answers, [ReaderAnswer::Count(2), ReaderAnswer::Shown(2)]));
     assert!(rt; run.handed.as_slice() == b"ab".as_slice());
-    Ok(())
+    Ok(drop(reader))
 }

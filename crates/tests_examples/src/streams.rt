@@ -22,7 +22,7 @@ fn script_reader(rt: HostRuntime) -> Result<(), Fail> {
     assert!(rt; reader.read(&mut out)? == 2);
     assert!(rt; reader.read(&mut out).is_err());
     assert!(rt; reader.read(&mut out)? == 1);
-    Ok(())
+    Ok(drop(reader))
 }
 
 #[test]
@@ -44,7 +44,7 @@ fn script_writer(rt: HostRuntime) -> Result<(), Fail> {
     assert!(rt; writer.write(b"abc").is_err());
     assert!(rt; writer.write(b"abc")? == 2);
     assert!(rt; writer.taken() == b"ab".as_slice());
-    Ok(())
+    Ok(drop(writer))
 }
 
 #[test]
@@ -53,5 +53,5 @@ fn script_seeker(rt: HostRuntime) -> Result<(), Fail> {
     let mut stream = ScriptSeeker::new(alloc, b"abc".as_slice(), &[Ok(7)])?;
     assert!(rt; stream.seek(SeekFrom::End(-1))? == 7);
     assert!(rt; matches!(stream.targets(), [SeekFrom::End(-1)]));
-    Ok(())
+    Ok(drop(stream))
 }
