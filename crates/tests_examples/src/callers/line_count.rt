@@ -7,6 +7,8 @@ use uses::line_count::count_lines;
 fn counts_lines(rt: HostRuntime) -> Result<(), Fail> {
     let text = b"one\ntwo\n\nand no end".as_slice();
     let mut reader = BufReader::with_capacity(rt.alloc(), 4, Told::new(text))?;
-    assert!(rt; count_lines(&mut reader)? == 3);
+    let count = count_lines(&mut reader);
+    drop(reader);
+    assert!(rt; count? == 3);
     Ok(())
 }

@@ -6,8 +6,10 @@ use uses::own_policy::{HeaderFirst, sees_header};
 
 // Whether sixteen bytes of these are in sight.
 fn sees(alloc: Global, bytes: &[u8]) -> Result<bool, Fail> {
-    let plain = reader(alloc, 4, b"", Told::new(bytes))?;
-    Ok(sees_header(&mut reader_under(plain, HeaderFirst))?)
+    let mut reader = reader_under(reader(alloc, 4, b"", Told::new(bytes))?, HeaderFirst);
+    let seen = sees_header(&mut reader);
+    drop(reader);
+    Ok(seen?)
 }
 
 #[test]

@@ -18,7 +18,9 @@ fn copies<B: TellBufRead, W: TellWrite>(from: &mut B, to: &mut W) -> io::Result<
 
 fn copies_to<W: TellWrite>(alloc: Global, to: &mut W) -> Result<(u64, u32, u64), Fail> {
     let mut from = reader(alloc, 4, b"", Told::new(b"ten bytes.".as_slice()))?;
-    Ok(copies(&mut from, to)?)
+    let told = copies(&mut from, to);
+    drop(from);
+    Ok(told?)
 }
 
 #[test]

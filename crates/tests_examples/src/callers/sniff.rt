@@ -16,7 +16,9 @@ const ROWS: [(&'static [u8], Format); 4] = [
 fn opens<R: Read + Drop>(alloc: Global, from: R) -> io::Result<(Format, Vec<u8>)> {
     let mut all = Vec::new(alloc);
     let (format, mut rest) = open(alloc, from)?;
-    read_to_end(&mut rest, &mut all)?;
+    let read = read_to_end(&mut rest, &mut all);
+    drop(rest);
+    read?;
     Ok((format, all))
 }
 

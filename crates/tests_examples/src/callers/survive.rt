@@ -38,5 +38,5 @@ fn faults_lose_no_byte(rt: HostRuntime) -> Result<(), Fail> {
     assert!(rt; all.as_slice() == b"all".as_slice());
     assert!(rt; reads(&mut reader, &mut all, 0).is_ok());
     assert!(rt; all.as_slice() == b"all of it".as_slice());
-    Ok(())
+    Ok(drop(reader))
 }
