@@ -15,32 +15,46 @@ type Source = Watched<ScriptReader>;
 
 /// Plays a case of a reader over a source of which one call may go wrong.
 pub fn reads(alloc: Global, case: &ReaderCase, fault: Fault) -> Result<Outcome, Unplayed> {
+    let reader = reader(alloc, case, fault)?;
+    let held = reader.buf_len();
+    let mut run = ReaderRun::new(alloc);
+    let (source, buffer) = under_rule(alloc, reader, case, &mut run)?;
+    Ok(outcome(alloc, case, held, run, source.get_ref(), &buffer)?)
+}
+
+fn reader(
+    alloc: Global,
+    case: &ReaderCase,
+    fault: Fault,
+) -> Result<BufReader<Told<Source>>, Unplayed> {
     let buffer = first_buffer(alloc, case.storage)?;
-    let held = buffer.len();
-    // What the source gives counts on from what is held.
+    let source = source(alloc, case, buffer.len(), fault)?;
+    Ok(BufReader::with_buffer(buffer, Told::new(source)))
+}
+
+// What the source gives counts on from what is held.
+fn source(
+    alloc: Global,
+    case: &ReaderCase,
+    held: usize,
+    fault: Fault,
+) -> Result<Source, AllocError> {
     let bytes = counting(alloc, low_byte(held), case.source)?;
     let source = ScriptReader::new(alloc, bytes.as_slice(), case.script.as_slice())?;
-    let source = Told::new(Watched::new(alloc, source, fault));
-    let reader = BufReader::with_buffer(buffer, source);
+    Ok(Watched::new(alloc, source, fault))
+}
+
+fn under_rule<R: TellRead + Drop>(
+    alloc: Global,
+    reader: BufReader<R>,
+    case: &ReaderCase,
+    run: &mut ReaderRun,
+) -> Result<(R, Buffer), AllocError> {
     let calls = case.calls.as_slice();
-    let mut run = ReaderRun::new(alloc);
-    let (source, buffer) = match case.rule {
-        ReaderRule::Std => played(alloc, reader, calls, &mut run)?,
-        ReaderRule::Min(n) => played(alloc, reader.set_policy(MinBuffered(n)), calls, &mut run)?,
-    };
-    let source = source.get_ref();
-    let line = line(alloc, case, &run, &buffer, source)?;
-    let returned = errors_of(alloc, run.answers.as_slice())?;
-    let mut joined = run.handed;
-    joined.extend_from_slice(buffer.buf())?;
-    Ok(Outcome {
-        line,
-        calls: source.notes().len(),
-        joined,
-        whole: counting(alloc, 0, held.saturating_add(source.inside().served()))?,
-        returned,
-        caused: Vec::from_slice(alloc, source.errors())?,
-    })
+    match case.rule {
+        ReaderRule::Std => played(alloc, reader, calls, run),
+        ReaderRule::Min(n) => played(alloc, reader.set_policy(MinBuffered(n)), calls, run),
+    }
 }
 
 // Plays the calls, and takes the reader apart.
@@ -54,12 +68,35 @@ fn played<R: TellRead + Drop, P: ReaderPolicy + Drop>(
     Ok(reader.into_inner_with_buffer())
 }
 
+// What came of the calls, where so many bytes were held at first.
+fn outcome(
+    alloc: Global,
+    case: &ReaderCase,
+    held: usize,
+    run: ReaderRun,
+    source: &Source,
+    buffer: &Buffer,
+) -> Result<Outcome, AllocError> {
+    let line = line(alloc, case, &run, source, buffer)?;
+    let returned = errors_of(alloc, run.answers.as_slice())?;
+    let mut joined = run.handed;
+    joined.extend_from_slice(buffer.buf())?;
+    Ok(Outcome {
+        line,
+        calls: source.notes().len(),
+        joined,
+        whole: counting(alloc, 0, held.saturating_add(source.inside().served()))?,
+        returned,
+        caused: Vec::from_slice(alloc, source.errors())?,
+    })
+}
+
 fn line(
     alloc: Global,
     case: &ReaderCase,
     run: &ReaderRun,
-    buffer: &Buffer,
     source: &Source,
+    buffer: &Buffer,
 ) -> Result<String, AllocError> {
     let mut text = String::new(alloc);
     for answer in run.answers.as_slice() {

@@ -20,7 +20,7 @@ const MOST_CALLS: usize = 1000;
 
 /// `kept`, or what goes wrong first, at which call of the stream inside, and how that went wrong.
 pub fn sweep(alloc: Global, case: &Case, loses: bool) -> Result<String, Unplayed> {
-    for (word, answer) in ANSWERS {
+    for &(word, answer) in &ANSWERS {
         if let Some((wrong, before)) = wrong_by(alloc, case, answer, loses)? {
             return Ok(format!(in alloc; "{wrong} at call {before} by {word}")?);
         }

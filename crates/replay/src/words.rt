@@ -98,9 +98,9 @@ const KINDS: [(&str, ErrorKind); 18] = [
 ];
 
 fn kind_named(name: &str) -> Option<ErrorKind> {
-    for (word, kind) in KINDS {
-        if word == name {
-            return Some(kind);
+    for (word, kind) in &KINDS {
+        if *word == name {
+            return Some(*kind);
         }
     }
     None
@@ -108,8 +108,8 @@ fn kind_named(name: &str) -> Option<ErrorKind> {
 
 /// The name of a kind of error.
 pub fn kind_name(kind: ErrorKind) -> &'static str {
-    for (word, named) in KINDS {
-        if named == kind {
+    for (word, named) in &KINDS {
+        if *named == kind {
             return word;
         }
     }

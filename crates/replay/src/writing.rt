@@ -3,7 +3,9 @@ use crate::case::{WriterCase, WriterRule, WriterWord};
 use crate::play::{Outcome, Unplayed, counting, first_buffer, is_refusal, low_byte};
 use crate::print;
 use crate::watched::{Fault, Watched};
-use buffer_redux::policy::{FlushAtLeast, FlushExact, FlushOn, FlushOnNewline, WriterPolicy};
+use buffer_redux::policy::{
+    FlushAtLeast, FlushExact, FlushOn, FlushOnNewline, StdPolicy, WriterPolicy,
+};
 use buffer_redux::script::ScriptWriter;
 use buffer_redux::tell::{TellWrite, Told};
 use buffer_redux::{BufWriter, Buffer};
@@ -11,7 +13,7 @@ use redux_play::play::{WriterAnswer, WriterCall, WriterRun, play_writer};
 use std::alloc::{AllocError, Global};
 use std::io::ErrorKind;
 
-type Target = Told<Watched<ScriptWriter>>;
+type Target = Watched<ScriptWriter>;
 
 // What the calls of a writer did so far.
 #[derive(Drop)]
@@ -31,24 +33,36 @@ struct Record {
 /// Plays a case of a writer over a target of which one call may go wrong.
 pub fn writes(alloc: Global, case: &WriterCase, fault: Fault) -> Result<Outcome, Unplayed> {
     let buffer = first_buffer(alloc, case.storage)?;
-    let mut record = Record {
-        run: WriterRun::new(alloc),
-        accepted: Vec::from_slice(alloc, buffer.buf())?,
-        returned: Vec::new(alloc),
-        caused: Vec::new(alloc),
-        seen: 0,
-        next: low_byte(buffer.len()),
-    };
+    let mut record = Record::new(alloc, buffer.buf())?;
+    let (target, buffer) = under_rule(
+        alloc,
+        writer(alloc, case, fault, buffer)?,
+        case,
+        &mut record,
+    )?;
+    Ok(outcome(alloc, record, target.get_ref(), &buffer)?)
+}
+
+fn writer(
+    alloc: Global,
+    case: &WriterCase,
+    fault: Fault,
+    buffer: Buffer,
+) -> Result<BufWriter<Told<Target>>, AllocError> {
     let target = ScriptWriter::new(alloc, case.script.as_slice())?;
     let target = Told::new(Watched::new(alloc, target, fault));
-    let writer = BufWriter::with_buffer(buffer, target);
-    let (target, buffer) = under_rule(alloc, writer, case, &mut record)?;
-    let target = target.get_ref();
+    Ok(BufWriter::with_buffer(buffer, target))
+}
+
+// What came of the calls.
+fn outcome(
+    alloc: Global,
+    record: Record,
+    target: &Target,
+    buffer: &Buffer,
+) -> Result<Outcome, AllocError> {
     let taken = target.inside().taken();
-    let mut line = words(alloc, record.run.answers.as_slice())?;
-    print::push_state(&mut line, &buffer, target.notes())?;
-    line.push_str(" | ")?;
-    print::push_bytes(&mut line, taken)?;
+    let line = line(alloc, record.run.answers.as_slice(), target, buffer)?;
     let mut joined = Vec::from_slice(alloc, taken)?;
     joined.extend_from_slice(buffer.buf())?;
     Ok(Outcome {
@@ -63,35 +77,47 @@ pub fn writes(alloc: Global, case: &WriterCase, fault: Fault) -> Result<Outcome,
 
 fn under_rule(
     alloc: Global,
-    writer: BufWriter<Target>,
+    writer: BufWriter<Told<Target>>,
     case: &WriterCase,
     record: &mut Record,
-) -> Result<(Target, Buffer), AllocError> {
+) -> Result<(Told<Target>, Buffer), AllocError> {
     let words = case.calls.as_slice();
     match case.rule {
-        WriterRule::Std => played(alloc, writer, words, record),
-        WriterRule::AtLeast(n) => played(alloc, writer.set_policy(FlushAtLeast(n)), words, record),
-        WriterRule::Exact(n) => played(alloc, writer.set_policy(FlushExact(n)), words, record),
-        WriterRule::On(byte) => played(alloc, writer.set_policy(FlushOn(byte)), words, record),
-        WriterRule::Newline => played(alloc, writer.set_policy(FlushOnNewline), words, record),
+        WriterRule::Std => played(alloc, writer, StdPolicy, words, record),
+        WriterRule::AtLeast(n) => played(alloc, writer, FlushAtLeast(n), words, record),
+        WriterRule::Exact(n) => played(alloc, writer, FlushExact(n), words, record),
+        WriterRule::On(byte) => played(alloc, writer, FlushOn(byte), words, record),
+        WriterRule::Newline => played(alloc, writer, FlushOnNewline, words, record),
     }
 }
 
-// Plays the calls, and takes the writer apart.
+// Plays the calls under a policy, and takes the writer apart.
 fn played<P: WriterPolicy + Drop>(
     alloc: Global,
-    mut writer: BufWriter<Target, P>,
+    writer: BufWriter<Told<Target>>,
+    policy: P,
     words: &[WriterWord],
     record: &mut Record,
-) -> Result<(Target, Buffer), AllocError> {
+) -> Result<(Told<Target>, Buffer), AllocError> {
+    let mut writer = writer.set_policy(policy);
     for word in words {
-        let bytes = record.offered(alloc, *word)?;
-        if let Some(call) = call_of(*word, bytes.as_slice()) {
-            plays(&mut writer, call, &mut record.run)?;
-            record.note(bytes.as_slice(), writer.get_ref().get_ref().errors())?;
-        }
+        plays_word(alloc, &mut writer, *word, record)?;
     }
     Ok(writer.into_inner_with_buffer())
+}
+
+fn plays_word<P: WriterPolicy>(
+    alloc: Global,
+    writer: &mut BufWriter<Told<Target>, P>,
+    word: WriterWord,
+    record: &mut Record,
+) -> Result<(), AllocError> {
+    let bytes = record.offered(alloc, word)?;
+    if let Some(call) = call_of(word, bytes.as_slice()) {
+        plays(writer, call, &mut record.run)?;
+        record.note(bytes.as_slice(), writer.get_ref().get_ref().errors())?;
+    }
+    Ok(())
 }
 
 fn plays<W: TellWrite, P: WriterPolicy>(
@@ -114,6 +140,18 @@ fn call_of(word: WriterWord, bytes: &[u8]) -> Option<WriterCall<'_>> {
 }
 
 impl Record {
+    // Before any call, over a buffer that holds these bytes.
+    fn new(alloc: Global, held: &[u8]) -> Result<Record, AllocError> {
+        Ok(Record {
+            run: WriterRun::new(alloc),
+            accepted: Vec::from_slice(alloc, held)?,
+            returned: Vec::new(alloc),
+            caused: Vec::new(alloc),
+            seen: 0,
+            next: low_byte(held.len()),
+        })
+    }
+
     // The bytes that a word offers, which count up from one write to the next.
     fn offered(&mut self, alloc: Global, word: WriterWord) -> Result<Vec<u8>, AllocError> {
         let first = self.next;
@@ -152,11 +190,19 @@ impl Record {
     }
 }
 
-fn words(alloc: Global, answers: &[WriterAnswer]) -> Result<String, AllocError> {
+fn line(
+    alloc: Global,
+    answers: &[WriterAnswer],
+    target: &Target,
+    buffer: &Buffer,
+) -> Result<String, AllocError> {
     let mut text = String::new(alloc);
     for answer in answers {
         text.push_str(print::writer_word(alloc, *answer)?.as_str())?;
         text.push_str(" ")?;
     }
+    print::push_state(&mut text, buffer, target.notes())?;
+    text.push_str(" | ")?;
+    print::push_bytes(&mut text, target.inside().taken())?;
     Ok(text)
 }
