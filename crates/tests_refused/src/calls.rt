@@ -103,12 +103,15 @@ fn writes<W: TellWrite, P: WriterPolicy + Drop>(
     (answer, inner, buf)
 }
 
-// Makes a call that counts so many, and leaves this capacity.
+// How many bytes a call counts, and the capacity that it leaves.
+type After = (usize, usize);
+
+// Makes a call that comes to this.
 fn takes<S: Attempts>(
     trial: &mut Trial,
     (inner, buf): (S, Buffer),
     call: Call,
-    (count, capacity): (usize, usize),
+    (count, capacity): After,
 ) -> Result<(S, Buffer), Wrong> {
     let (mut answer, mut inner, mut buf) = inner.attempts(buf, call);
     if let Err(e) = answer {
@@ -120,73 +123,112 @@ fn takes<S: Attempts>(
     Ok((inner, buf))
 }
 
+// The same of several calls, one behind the other.
+fn takes_each<S: Attempts>(
+    trial: &mut Trial,
+    parts: (S, Buffer),
+    rows: &[(Call, After)],
+) -> Result<(S, Buffer), Wrong> {
+    let mut parts = parts;
+    for &(call, after) in rows {
+        parts = takes(trial, parts, call, after)?;
+    }
+    Ok(parts)
+}
+
 const BYTES: [u8; 20] = [
     0, 1, 2, 3, 4, 5, 6, 7, 8, 9, 10, 11, 12, 13, 14, 15, 16, 17, 18, 19,
 ];
 
 // Over bytes that don't stand at the front, by or up to more than either kind has.
+fn takes_placed<S: Attempts>(
+    alloc: Global,
+    trial: &mut Trial,
+    is_ring: bool,
+    inner: S,
+    call: Call,
+    after: After,
+) -> Result<(), Wrong> {
+    match placed(alloc, is_ring) {
+        Ok(buf) => {
+            let _ = takes(trial, (inner, buf), call, after)?;
+            Ok(())
+        }
+        Err(e) => trial.refused(e),
+    }
+}
+
 pub fn over_placed(alloc: Global, trial: &mut Trial) -> Result<(), Wrong> {
-    for (is_ring, grown, filled) in [(false, 5005, 8997), (true, 8192, 8192)] {
-        for (call, after) in [
+    for &(is_ring, grown, filled) in &[(false, 5005, 8997), (true, 8192, 8192)] {
+        for &(call, after) in &[
             (Call::Reserve(5000), (0, grown)),
             (Call::Fill(9000), (5, filled)),
         ] {
-            let Ok(buf) = placed(alloc, is_ring) else {
-                return trial.meets();
-            };
-            let _ = takes(trial, (reading(&[4, 5]), buf), call, after)?;
+            takes_placed(alloc, trial, is_ring, reading(&[4, 5]), call, after)?;
         }
-        for (call, after) in [
+        for &(call, after) in &[
             (Call::Reserve(5000), (0, grown)),
             (Call::ReserveLines(5000), (0, grown)),
             (Call::WriteAtLeast(9000, &[4, 5]), (2, filled)),
             (Call::WriteExact(9000, &[4, 5]), (2, filled)),
         ] {
-            let Ok(buf) = placed(alloc, is_ring) else {
-                return trial.meets();
-            };
-            let _ = takes(trial, (empty_sink(), buf), call, after)?;
+            takes_placed(alloc, trial, is_ring, empty_sink(), call, after)?;
         }
     }
     Ok(())
 }
 
 // Without a capacity at first. What then comes without memory is a row of `replay`.
-pub fn from_nothing(alloc: Global, trial: &mut Trial) -> Result<(), Wrong> {
-    let Ok(buf) = empty(alloc, false, 0) else {
-        return trial.meets();
+fn takes_from_nothing<S: Attempts>(
+    alloc: Global,
+    trial: &mut Trial,
+    inner: S,
+    rows: &[(Call, After)],
+) -> Result<Option<(S, Buffer)>, Wrong> {
+    match empty(alloc, false, 0) {
+        Ok(buf) => Ok(Some(takes_each(trial, (inner, buf), rows)?)),
+        Err(e) => {
+            trial.refused(e)?;
+            Ok(None)
+        }
+    }
+}
+
+fn reads_from_nothing(alloc: Global, trial: &mut Trial) -> Result<(), Wrong> {
+    let first = [(Call::Fill(4), (4, 4))];
+    let Some(parts) = takes_from_nothing(alloc, trial, reading(&BYTES), &first)? else {
+        return Ok(());
     };
-    let parts = takes(trial, (reading(&BYTES), buf), Call::Fill(4), (4, 4))?;
     is(parts.1.buf() == &BYTES[..4], "the first fill")?;
-    let parts = takes(trial, parts, Call::Reserve(4), (0, 8))?;
-    let parts = takes(trial, parts, Call::Fill(4), (4, 8))?;
-    is(parts.0.get_ref().asks == 1, "how often it is asked")?;
+    let others = [(Call::Reserve(4), (0, 8)), (Call::Fill(4), (4, 8))];
+    let parts = takes_each(trial, parts, &others)?;
+    is(parts.0.get_ref().asks == 1, "how often it is asked")
+}
 
-    let Ok(buf) = empty(alloc, false, 0) else {
-        return trial.meets();
-    };
-    let parts = takes(
-        trial,
-        (empty_sink(), buf),
-        Call::WriteAtLeast(4, &[1]),
-        (1, 4),
-    )?;
-    sends(parts, &[1])?;
+// What is written is then sent.
+fn writes_from_nothing(
+    alloc: Global,
+    trial: &mut Trial,
+    rows: &[(Call, After)],
+    bytes: &[u8],
+) -> Result<(), Wrong> {
+    match takes_from_nothing(alloc, trial, empty_sink(), rows)? {
+        Some(parts) => sends(parts, bytes),
+        None => Ok(()),
+    }
+}
 
-    let Ok(buf) = empty(alloc, false, 0) else {
-        return trial.meets();
-    };
-    let parts = takes(
-        trial,
-        (empty_sink(), buf),
-        Call::WriteExact(4, &[1]),
-        (1, 4),
-    )?;
-    let parts = takes(trial, parts, Call::Reserve(7), (0, 8))?;
-    let parts = takes(trial, parts, Call::WriteExact(4, &[2, 3]), (2, 8))?;
-    let parts = takes(trial, parts, Call::WriteExact(4, &[4, 5, 6]), (3, 8))?;
-    let parts = takes(trial, parts, Call::WriteExact(4, &[7, 8, 9, 10]), (4, 8))?;
-    sends(parts, &[1, 2, 3, 4, 5, 6, 7, 8, 9, 10])
+pub fn from_nothing(alloc: Global, trial: &mut Trial) -> Result<(), Wrong> {
+    reads_from_nothing(alloc, trial)?;
+    writes_from_nothing(alloc, trial, &[(Call::WriteAtLeast(4, &[1]), (1, 4))], &[1])?;
+    let rows = [
+        (Call::WriteExact(4, &[1]), (1, 4)),
+        (Call::Reserve(7), (0, 8)),
+        (Call::WriteExact(4, &[2, 3]), (2, 8)),
+        (Call::WriteExact(4, &[4, 5, 6]), (3, 8)),
+        (Call::WriteExact(4, &[7, 8, 9, 10]), (4, 8)),
+    ];
+    writes_from_nothing(alloc, trial, &rows, &[1, 2, 3, 4, 5, 6, 7, 8, 9, 10])
 }
 
 // A flush sends these.
@@ -214,14 +256,22 @@ fn fills_greedily<R: TellRead>(
     is(it.capacity() == capacity, "the capacity of all turns")
 }
 
+fn greedy<R: TellRead + Drop>(
+    alloc: Global,
+    is_ring: bool,
+    inner: R,
+) -> Result<BufReader<R, Greedy>, GrowError> {
+    let buf = empty(alloc, is_ring, 0)?;
+    Ok(reader_under(BufReader::with_buffer(buf, inner), Greedy))
+}
+
 pub fn each_turn(alloc: Global, trial: &mut Trial) -> Result<(), Wrong> {
     let bytes = [7u8; 10000];
-    for (is_ring, capacity) in [(false, 14096), (true, 16384)] {
-        let Ok(buf) = empty(alloc, is_ring, 0) else {
-            return trial.meets();
-        };
-        let mut it = reader_under(BufReader::with_buffer(buf, reading(&bytes)), Greedy);
-        fills_greedily(trial, &mut it, capacity)?;
+    for &(is_ring, capacity) in &[(false, 14096), (true, 16384)] {
+        match greedy(alloc, is_ring, reading(&bytes)) {
+            Ok(mut it) => fills_greedily(trial, &mut it, capacity)?,
+            Err(e) => trial.refused(e)?,
+        }
     }
     Ok(())
 }

@@ -4,8 +4,8 @@ use buffer_redux::{BufImpl, Buffer, GrowError, RawBuf, SliceDequeBuf, StdBuf};
 use std::alloc::Global;
 use tests_common::holding_in;
 
-// What grows by itself.
-trait Grows: Drop {
+/// What grows by itself.
+pub trait Grows: Drop {
     fn grow(&mut self, more: usize) -> Result<(), GrowError>;
 
     fn room(&self) -> usize;
@@ -75,50 +75,59 @@ fn grown<T: Grows>(
     is(it.room() == capacity, "the capacity of what grew")
 }
 
-// The storage, and a block of each type that holds three bytes behind two that were consumed.
-pub fn blocks(alloc: Global, trial: &mut Trial) -> Result<(), Wrong> {
-    let Ok(mut raw) = RawBuf::with_capacity(alloc, 4) else {
-        return trial.meets();
-    };
-    raw.as_mut_slice().fill(7);
-    grown(trial, &mut raw, 5000, 5004)?;
-    let Ok(mut plain) = StdBuf::with_capacity(alloc, 8) else {
-        return trial.meets();
-    };
-    plain.bytes_written(5);
-    plain.consume(2);
-    grown(trial, &mut plain, 5000, 5005)?;
-    let Ok(mut ring) = SliceDequeBuf::with_capacity(alloc, 8) else {
-        return trial.meets();
-    };
-    ring.bytes_written(5);
-    ring.consume(2);
-    grown(trial, &mut ring, 5000, 8192)
+// The same of what was made.
+fn made_grows<T: Grows>(
+    trial: &mut Trial,
+    made: Result<T, GrowError>,
+    capacity: usize,
+) -> Result<(), Wrong> {
+    match made {
+        Ok(mut it) => grown(trial, &mut it, 5000, capacity),
+        Err(e) => trial.refused(e),
+    }
 }
 
-// The same of either kind at once, and of a buffer.
-pub fn kinds(alloc: Global, trial: &mut Trial) -> Result<(), Wrong> {
-    for (is_ring, capacity) in [(false, 5005), (true, 8192)] {
-        let Ok(mut block) = block(alloc, is_ring) else {
-            return trial.meets();
-        };
-        block.bytes_written(5);
-        block.consume(2);
-        grown(trial, &mut block, 5000, capacity)?;
-        let Ok(mut buf) = placed(alloc, is_ring) else {
-            return trial.meets();
-        };
-        grown(trial, &mut buf, 5000, capacity)?;
+// The storage, and then a block of each type, either kind at once, and a buffer that hold three bytes behind two that were consumed.
+pub fn blocks(alloc: Global, trial: &mut Trial) -> Result<(), Wrong> {
+    made_grows(trial, raw(alloc), 5004)?;
+    made_grows(trial, plain(alloc), 5005)?;
+    made_grows(trial, deque(alloc), 8192)?;
+    for &(is_ring, capacity) in &[(false, 5005), (true, 8192)] {
+        made_grows(trial, block(alloc, is_ring), capacity)?;
+        made_grows(trial, placed(alloc, is_ring), capacity)?;
     }
     Ok(())
 }
 
+fn raw(alloc: Global) -> Result<RawBuf, GrowError> {
+    let mut raw = RawBuf::with_capacity(alloc, 4)?;
+    raw.as_mut_slice().fill(7);
+    Ok(raw)
+}
+
+fn plain(alloc: Global) -> Result<StdBuf, GrowError> {
+    let mut plain = StdBuf::with_capacity(alloc, 8)?;
+    plain.bytes_written(5);
+    plain.consume(2);
+    Ok(plain)
+}
+
+fn deque(alloc: Global) -> Result<SliceDequeBuf, GrowError> {
+    let mut ring = SliceDequeBuf::with_capacity(alloc, 8)?;
+    ring.bytes_written(5);
+    ring.consume(2);
+    Ok(ring)
+}
+
 fn block(alloc: Global, is_ring: bool) -> Result<BufImpl, GrowError> {
-    if is_ring {
-        BufImpl::with_capacity_ringbuf(alloc, 8)
+    let mut block = if is_ring {
+        BufImpl::with_capacity_ringbuf(alloc, 8)?
     } else {
-        BufImpl::with_capacity(alloc, 8)
-    }
+        BufImpl::with_capacity(alloc, 8)?
+    };
+    block.bytes_written(5);
+    block.consume(2);
+    Ok(block)
 }
 
 /// A buffer of capacity 8, or a ring of 4096, that holds [1,2,3] behind two bytes that were consumed.
@@ -128,37 +137,53 @@ pub fn placed(alloc: Global, is_ring: bool) -> Result<Buffer, GrowError> {
     Ok(buf)
 }
 
-// The first growth of each pair finds its room, and the second takes memory.
+// The first growth finds its room, and the second takes memory.
+fn grows_second(
+    trial: &mut Trial,
+    buf: &mut Buffer,
+    (first, before): (usize, usize),
+    (second, after): (usize, usize),
+) -> Result<(), Wrong> {
+    granted(buf.reserve(first))?;
+    is(buf.capacity() == before, "a growth that wasn't needed")?;
+    grown(trial, buf, second, after)
+}
+
 pub fn twice(alloc: Global, trial: &mut Trial) -> Result<(), Wrong> {
-    for (is_ring, held, first, before, second, after) in [
-        (false, [].as_slice(), 4, 4, 5, 9),
-        (true, [7; 10].as_slice(), 4086, 4096, 4087, 8192),
+    for &(is_ring, held, first, second) in &[
+        (false, [].as_slice(), (4, 4), (5, 9)),
+        (true, [7; 10].as_slice(), (4086, 4096), (4087, 8192)),
     ] {
-        let Ok(mut buf) = holding_in(alloc, is_ring, 4, held) else {
-            return trial.meets();
-        };
-        granted(buf.reserve(first))?;
-        is(buf.capacity() == before, "a growth that wasn't needed")?;
-        grown(trial, &mut buf, second, after)?;
+        match holding_in(alloc, is_ring, 4, held) {
+            Ok(mut buf) => grows_second(trial, &mut buf, first, second)?,
+            Err(e) => trial.refused(e)?,
+        }
     }
     Ok(())
 }
 
 // What doesn't fit grows the buffer by twice its length.
+fn push(trial: &mut Trial, buf: &mut Buffer, held: &[u8], capacity: usize) -> Result<(), Wrong> {
+    if let Err(e) = buf.push_bytes(&[4, 5]) {
+        trial.refused(e)?;
+        granted(buf.push_bytes(&[4, 5]))?;
+    }
+    is(buf.capacity() == capacity, "the capacity behind a push")?;
+    is(
+        buf.buf().strip_prefix(held) == Some(&[4, 5]),
+        "what was pushed",
+    )
+}
+
 pub fn pushes(alloc: Global, trial: &mut Trial) -> Result<(), Wrong> {
-    for (is_ring, held, capacity) in [(false, [1, 2, 3].as_slice(), 7), (true, &[7; 4095], 8192)] {
-        let Ok(mut buf) = holding_in(alloc, is_ring, 4, held) else {
-            return trial.meets();
-        };
-        if let Err(e) = buf.push_bytes(&[4, 5]) {
-            trial.refused(e)?;
-            granted(buf.push_bytes(&[4, 5]))?;
+    for &(is_ring, held, capacity) in &[
+        (false, [1, 2, 3].as_slice(), 7),
+        (true, &[7; 4095], 8192),
+    ] {
+        match holding_in(alloc, is_ring, 4, held) {
+            Ok(mut buf) => push(trial, &mut buf, held, capacity)?,
+            Err(e) => trial.refused(e)?,
         }
-        is(buf.capacity() == capacity, "the capacity behind a push")?;
-        is(
-            buf.buf().strip_prefix(held) == Some(&[4, 5]),
-            "what was pushed",
-        )?;
     }
     Ok(())
 }

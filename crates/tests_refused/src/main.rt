@@ -18,7 +18,6 @@ fn checks(alloc: Global, trial: &mut Trial) -> Result<(), Wrong> {
     makers::blocks(alloc, trial)?;
     makers::over_streams(alloc, trial)?;
     growths::blocks(alloc, trial)?;
-    growths::kinds(alloc, trial)?;
     growths::twice(alloc, trial)?;
     growths::pushes(alloc, trial)?;
     calls::over_placed(alloc, trial)?;

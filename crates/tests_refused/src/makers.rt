@@ -1,4 +1,5 @@
 //! Makers of either kind: a refused one hands its stream back, over which the same one answers.
+use crate::growths::Grows;
 use crate::streams::{Sink, Source, empty_sink, reading};
 use crate::trial::{Trial, Wrong, granted, is};
 use buffer_redux::tell::{Tell, TellRead, TellWrite, Told};
@@ -56,17 +57,21 @@ const BLOCKS: [(Block, usize); 9] = [
 
 // The capacity of what is made.
 fn capacity_of(alloc: Global, which: Block) -> Result<usize, GrowError> {
-    Ok(match which {
-        Block::Raw => RawBuf::with_capacity(alloc, 4)?.capacity(),
-        Block::Std => StdBuf::with_capacity(alloc, 4)?.capacity(),
-        Block::Plain => BufImpl::with_capacity(alloc, 4)?.capacity(),
-        Block::Deque => SliceDequeBuf::with_capacity(alloc, 4)?.capacity(),
-        Block::Ring => BufImpl::with_capacity_ringbuf(alloc, 4)?.capacity(),
-        Block::Buffer => Buffer::with_capacity(alloc, 4)?.capacity(),
-        Block::RingBuffer => Buffer::with_capacity_ringbuf(alloc, 4)?.capacity(),
-        Block::UsualBuffer => Buffer::new(alloc)?.capacity(),
-        Block::UsualRingBuffer => Buffer::new_ringbuf(alloc)?.capacity(),
-    })
+    match which {
+        Block::Raw => room_of(RawBuf::with_capacity(alloc, 4)),
+        Block::Std => room_of(StdBuf::with_capacity(alloc, 4)),
+        Block::Plain => room_of(BufImpl::with_capacity(alloc, 4)),
+        Block::Deque => room_of(SliceDequeBuf::with_capacity(alloc, 4)),
+        Block::Ring => room_of(BufImpl::with_capacity_ringbuf(alloc, 4)),
+        Block::Buffer => room_of(Buffer::with_capacity(alloc, 4)),
+        Block::RingBuffer => room_of(Buffer::with_capacity_ringbuf(alloc, 4)),
+        Block::UsualBuffer => room_of(Buffer::new(alloc)),
+        Block::UsualRingBuffer => room_of(Buffer::new_ringbuf(alloc)),
+    }
+}
+
+fn room_of<T: Grows>(made: Result<T, GrowError>) -> Result<usize, GrowError> {
+    Ok(made?.room())
 }
 
 // What is made over a stream.
@@ -159,7 +164,7 @@ fn makes<T: Made<S>, S: Drop>(
 }
 
 pub fn blocks(alloc: Global, trial: &mut Trial) -> Result<(), Wrong> {
-    for (which, capacity) in BLOCKS {
+    for &(which, capacity) in &BLOCKS {
         let made = match capacity_of(alloc, which) {
             Ok(made) => made,
             Err(e) => {
@@ -173,7 +178,7 @@ pub fn blocks(alloc: Global, trial: &mut Trial) -> Result<(), Wrong> {
 }
 
 pub fn over_streams(alloc: Global, trial: &mut Trial) -> Result<(), Wrong> {
-    for (form, capacity) in FORMS {
+    for &(form, capacity) in &FORMS {
         let rooms = [
             makes::<BufReader<Told<Source<'static>>>, _>(alloc, trial, form, reading(b"ab"))?,
             makes::<BufWriter<Sink>, _>(alloc, trial, form, empty_sink())?,
@@ -193,7 +198,7 @@ pub fn over_streams(alloc: Global, trial: &mut Trial) -> Result<(), Wrong> {
 
 // No machine has as much, and what passes the limit of its kind isn't asked for.
 pub fn huge(alloc: Global) -> Result<(), Wrong> {
-    for (ring, capacity, passes) in [
+    for &(ring, capacity, passes) in &[
         (false, MAX_CAPACITY, false),
         (false, MAX_CAPACITY + 1, true),
         (true, MAX_RING, false),

@@ -1,9 +1,9 @@
 //! Lists of calls whose record finds no memory: the calls before are recorded whole, and the next wasn't begun. The calls
 //! that have no answer yet, played on the same run, end it as if nothing had happened.
-use crate::streams::{empty_sink, reading, taken};
+use crate::streams::{Sink, Source, empty_sink, reading, taken};
 use crate::trial::{Trial, Wrong, is};
 use buffer_redux::policy::{ReaderPolicy, WriterPolicy};
-use buffer_redux::tell::{TellRead, TellWrite};
+use buffer_redux::tell::{TellRead, TellWrite, Told};
 use buffer_redux::{BufReader, BufWriter};
 use redux_play::play::{ReaderCall, ReaderRun, WriterCall, WriterRun, play_reader, play_writer};
 use std::alloc::{AllocError, Global};
@@ -61,48 +61,72 @@ fn behind<T>(all: &[T], count: usize) -> &[T] {
     all.get(count..).unwrap_or(&[])
 }
 
-pub fn reads(alloc: Global, trial: &mut Trial) -> Result<(), Wrong> {
-    let Ok(mut rdr) = reader(alloc, 4, &[], reading(&BYTES)) else {
-        return trial.meets();
-    };
+// Plays the calls that have no answer yet, and says whether that was refused.
+fn reads_on(
+    alloc: Global,
+    rdr: &mut BufReader<Told<Source<'_>>>,
+    run: &mut ReaderRun,
+) -> Result<bool, Wrong> {
+    let left = behind(&READER_CALLS, run.answers.len());
+    let refused = play_reads(alloc, rdr, left, run).is_err();
+    let (done, handed) = (run.answers.len(), run.handed.as_slice());
+    let state = [handed.len(), rdr.buf_len(), rdr.get_ref().get_ref().asks];
+    is(READER_STATES.get(done) == Some(&state), "what was read")?;
+    is(BYTES.starts_with(handed), "the bytes")?;
+    is(
+        refused == (done < 5),
+        "calls are left out, or nothing is refused",
+    )?;
+    Ok(refused)
+}
+
+fn reads_all(
+    alloc: Global,
+    trial: &mut Trial,
+    rdr: &mut BufReader<Told<Source<'_>>>,
+) -> Result<(), Wrong> {
     let mut run = ReaderRun::new(alloc);
-    let mut done = 0;
-    for _ in 0..2 {
-        let left = behind(&READER_CALLS, done);
-        let played = play_reads(alloc, &mut rdr, left, &mut run);
-        done = run.answers.len();
-        let handed = run.handed.as_slice();
-        let state = [handed.len(), rdr.buf_len(), rdr.get_ref().get_ref().asks];
-        is(READER_STATES.get(done) == Some(&state), "what was read")?;
-        is(BYTES.starts_with(handed), "the bytes")?;
-        if played.is_ok() {
-            return is(done == 5, "calls are left out");
-        }
-        is(done < 5, "a refusal of nothing")?;
+    if reads_on(alloc, rdr, &mut run)? {
         trial.meets()?;
+        is(!reads_on(alloc, rdr, &mut run)?, "refused without need")?;
     }
-    Err("refused without need")
+    Ok(())
+}
+
+pub fn reads(alloc: Global, trial: &mut Trial) -> Result<(), Wrong> {
+    match reader(alloc, 4, &[], reading(&BYTES)) {
+        Ok(mut rdr) => reads_all(alloc, trial, &mut rdr),
+        Err(e) => trial.refused(e),
+    }
+}
+
+// Plays the calls that have no answer yet, and says whether that was refused.
+fn writes_on(wrt: &mut BufWriter<Sink>, run: &mut WriterRun) -> Result<bool, Wrong> {
+    let left = behind(&WRITER_CALLS, run.answers.len());
+    let refused = play_writes(wrt, left, run).is_err();
+    let (done, sent) = (run.answers.len(), taken(wrt.get_ref()));
+    let state = [sent.len(), wrt.buf_len()];
+    is(WRITER_STATES.get(done) == Some(&state), "what was sent")?;
+    is(BYTES.starts_with(sent), "the bytes that were sent")?;
+    is(
+        refused == (done < 3),
+        "calls are left out, or nothing is refused",
+    )?;
+    Ok(refused)
+}
+
+fn writes_all(alloc: Global, trial: &mut Trial, wrt: &mut BufWriter<Sink>) -> Result<(), Wrong> {
+    let mut run = WriterRun::new(alloc);
+    if writes_on(wrt, &mut run)? {
+        trial.meets()?;
+        is(!writes_on(wrt, &mut run)?, "refused without need")?;
+    }
+    Ok(())
 }
 
 pub fn writes(alloc: Global, trial: &mut Trial) -> Result<(), Wrong> {
-    let Ok(mut wrt) = writer(alloc, 2, &[], empty_sink()) else {
-        return trial.meets();
-    };
-    let mut run = WriterRun::new(alloc);
-    let mut done = 0;
-    for _ in 0..2 {
-        let left = behind(&WRITER_CALLS, done);
-        let played = play_writes(&mut wrt, left, &mut run);
-        done = run.answers.len();
-        let sent = taken(wrt.get_ref());
-        let state = [sent.len(), wrt.buf_len()];
-        is(WRITER_STATES.get(done) == Some(&state), "what was sent")?;
-        is(BYTES.starts_with(sent), "the bytes that were sent")?;
-        if played.is_ok() {
-            return is(done == 3, "calls are left out");
-        }
-        is(done < 3, "a refusal of nothing")?;
-        trial.meets()?;
+    match writer(alloc, 2, &[], empty_sink()) {
+        Ok(mut wrt) => writes_all(alloc, trial, &mut wrt),
+        Err(e) => trial.refused(e),
     }
-    Err("refused without need")
 }
