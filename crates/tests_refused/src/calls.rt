@@ -7,9 +7,9 @@ use buffer_redux::tell::{TellRead, TellWrite, Told};
 use buffer_redux::{BufReader, BufWriter, Buffer, GrowError, LineWriter};
 use std::alloc::Global;
 use std::io;
-use std::io::BufRead;
+use std::io::{BufRead, ErrorKind};
 use tests_common::policies::Greedy;
-use tests_common::{empty, fill_buf, flush, reader_under, write, writer_under};
+use tests_common::{empty, fill_buf, flush, kind, reader_under, write, writer_under};
 
 // A call that grows the buffer by so much, or up to so much.
 #[derive(Clone, Copy)]
@@ -21,13 +21,16 @@ enum Call {
     WriteExact(usize, &'static [u8]),
 }
 
-// Makes a call over a stream and a buffer, and takes apart what it was made of. Returns how many bytes were shown or taken.
+// How many bytes were shown or taken, or the kind of the error.
+type Answer = Result<usize, ErrorKind>;
+
+// Makes a call over a stream and a buffer, and takes apart what it was made of.
 trait Attempts: Drop + Sized {
-    fn attempts(self, buf: Buffer, call: Call) -> (io::Result<usize>, Self, Buffer);
+    fn attempts(self, buf: Buffer, call: Call) -> (Answer, Self, Buffer);
 }
 
 impl Attempts for Told<Source<'_>> {
-    fn attempts(self, buf: Buffer, call: Call) -> (io::Result<usize>, Self, Buffer) {
+    fn attempts(self, buf: Buffer, call: Call) -> (Answer, Self, Buffer) {
         match call {
             Call::Fill(min) => fills(self, buf, min),
             Call::Reserve(more) => reader_grows(self, buf, more),
@@ -37,7 +40,7 @@ impl Attempts for Told<Source<'_>> {
 }
 
 impl Attempts for Sink {
-    fn attempts(self, buf: Buffer, call: Call) -> (io::Result<usize>, Self, Buffer) {
+    fn attempts(self, buf: Buffer, call: Call) -> (Answer, Self, Buffer) {
         match call {
             Call::Reserve(more) => writer_grows(self, buf, more),
             Call::ReserveLines(more) => lines_grow(self, buf, more),
@@ -48,41 +51,37 @@ impl Attempts for Sink {
     }
 }
 
-fn reader_grows<R: TellRead>(inner: R, buf: Buffer, more: usize) -> (io::Result<usize>, R, Buffer) {
+fn reader_grows<R: TellRead>(inner: R, buf: Buffer, more: usize) -> (Answer, R, Buffer) {
     let mut it = BufReader::with_buffer(buf, inner);
     let answer = it.reserve(more);
     let (inner, buf) = it.into_inner_with_buffer();
     (of_growth(answer), inner, buf)
 }
 
-fn writer_grows<W: TellWrite>(
-    inner: W,
-    buf: Buffer,
-    more: usize,
-) -> (io::Result<usize>, W, Buffer) {
+fn writer_grows<W: TellWrite>(inner: W, buf: Buffer, more: usize) -> (Answer, W, Buffer) {
     let mut it = BufWriter::with_buffer(buf, inner);
     let answer = it.reserve(more);
     let (inner, buf) = it.into_inner_with_buffer();
     (of_growth(answer), inner, buf)
 }
 
-fn lines_grow<W: TellWrite>(inner: W, buf: Buffer, more: usize) -> (io::Result<usize>, W, Buffer) {
+fn lines_grow<W: TellWrite>(inner: W, buf: Buffer, more: usize) -> (Answer, W, Buffer) {
     let mut it = LineWriter::with_buffer(buf, inner);
     let answer = it.reserve(more);
     let (inner, buf) = it.into_inner_with_buf();
     (of_growth(answer), inner, buf)
 }
 
-fn of_growth(answer: Result<(), GrowError>) -> io::Result<usize> {
+fn of_growth(answer: Result<(), GrowError>) -> Answer {
     match answer {
         Ok(()) => Ok(0),
-        Err(e) => Err(io::Error::from(e)),
+        Err(e) => Err(io::Error::from(e).kind()),
     }
 }
 
-fn fills<R: TellRead>(inner: R, buf: Buffer, min: usize) -> (io::Result<usize>, R, Buffer) {
+fn fills<R: TellRead>(inner: R, buf: Buffer, min: usize) -> (Answer, R, Buffer) {
     let mut it = reader_under(BufReader::with_buffer(buf, inner), MinBuffered(min));
-    let answer = shown(&mut it);
+    let answer = kind(shown(&mut it));
     let (inner, buf) = it.into_inner_with_buffer();
     (answer, inner, buf)
 }
@@ -96,9 +95,9 @@ fn writes<W: TellWrite, P: WriterPolicy + Drop>(
     buf: Buffer,
     policy: P,
     bytes: &[u8],
-) -> (io::Result<usize>, W, Buffer) {
+) -> (Answer, W, Buffer) {
     let mut it = writer_under(BufWriter::with_buffer(buf, inner), policy);
-    let answer = write(&mut it, bytes);
+    let answer = kind(write(&mut it, bytes));
     let (inner, buf) = it.into_inner_with_buffer();
     (answer, inner, buf)
 }
@@ -114,12 +113,14 @@ fn takes<S: Attempts>(
     (count, capacity): After,
 ) -> Result<(S, Buffer), Wrong> {
     let (mut answer, mut inner, mut buf) = inner.attempts(buf, call);
-    if let Err(e) = answer {
-        trial.failed(e)?;
+    if let Err(kind) = answer {
+        trial.failed(kind)?;
         (answer, inner, buf) = inner.attempts(buf, call);
     }
-    is(granted(answer)? == count, "the count of a call")?;
-    is(buf.capacity() == capacity, "the capacity behind a call")?;
+    is(
+        answer.ok() == Some(count) && buf.capacity() == capacity,
+        "the count of a call, or the capacity behind it",
+    )?;
     Ok((inner, buf))
 }
 
@@ -194,15 +195,22 @@ fn takes_from_nothing<S: Attempts>(
     }
 }
 
-fn reads_from_nothing(alloc: Global, trial: &mut Trial) -> Result<(), Wrong> {
-    let first = [(Call::Fill(4), (4, 4))];
-    let Some(parts) = takes_from_nothing(alloc, trial, reading(&BYTES), &first)? else {
-        return Ok(());
-    };
+// What a first fill shows stays where the buffer grows, and another one asks for nothing.
+fn fills_again<S: Attempts>(trial: &mut Trial, parts: (S, Buffer)) -> Result<S, Wrong> {
     is(parts.1.buf() == &BYTES[..4], "the first fill")?;
-    let others = [(Call::Reserve(4), (0, 8)), (Call::Fill(4), (4, 8))];
-    let parts = takes_each(trial, parts, &others)?;
-    is(parts.0.get_ref().asks == 1, "how often it is asked")
+    let rows = [(Call::Reserve(4), (0, 8)), (Call::Fill(4), (4, 8))];
+    Ok(takes_each(trial, parts, &rows)?.0)
+}
+
+fn reads_from_nothing(alloc: Global, trial: &mut Trial) -> Result<(), Wrong> {
+    let rows = [(Call::Fill(4), (4, 4))];
+    match takes_from_nothing(alloc, trial, reading(&BYTES), &rows)? {
+        Some(parts) => {
+            let asks = fills_again(trial, parts)?.get_ref().asks;
+            is(asks == 1, "how often it is asked")
+        }
+        None => Ok(()),
+    }
 }
 
 // What is written is then sent.
@@ -244,32 +252,34 @@ fn fills_greedily<R: TellRead>(
     it: &mut BufReader<R, Greedy>,
     capacity: usize,
 ) -> Result<(), Wrong> {
-    if let Err(e) = fill_buf(it) {
+    if let Err(kind) = kind(shown(it)) {
         is(
             it.buf_len() == it.capacity().min(10000),
             "the bytes of the turns before",
         )?;
-        trial.failed(e)?;
-        let _ = granted(fill_buf(it))?;
+        trial.failed(kind)?;
+        granted(shown(it))?;
     }
-    is(it.buf_len() == 10000, "what is shown")?;
-    is(it.capacity() == capacity, "the capacity of all turns")
+    is(
+        (it.buf_len(), it.capacity()) == (10000, capacity),
+        "what is shown, and the capacity of all turns",
+    )
 }
 
-fn greedy<R: TellRead + Drop>(
-    alloc: Global,
-    is_ring: bool,
+fn in_turns<R: TellRead + Drop>(
+    trial: &mut Trial,
+    buf: Buffer,
     inner: R,
-) -> Result<BufReader<R, Greedy>, GrowError> {
-    let buf = empty(alloc, is_ring, 0)?;
-    Ok(reader_under(BufReader::with_buffer(buf, inner), Greedy))
+    capacity: usize,
+) -> Result<(), Wrong> {
+    let mut it = reader_under(BufReader::with_buffer(buf, inner), Greedy);
+    fills_greedily(trial, &mut it, capacity)
 }
 
 pub fn each_turn(alloc: Global, trial: &mut Trial) -> Result<(), Wrong> {
-    let bytes = [7u8; 10000];
     for &(is_ring, capacity) in &[(false, 14096), (true, 16384)] {
-        match greedy(alloc, is_ring, reading(&bytes)) {
-            Ok(mut it) => fills_greedily(trial, &mut it, capacity)?,
+        match empty(alloc, is_ring, 0) {
+            Ok(buf) => in_turns(trial, buf, reading(&[7; 10000]), capacity)?,
             Err(e) => trial.refused(e)?,
         }
     }

@@ -17,6 +17,7 @@ use std::io;
 fn checks(alloc: Global, trial: &mut Trial) -> Result<(), Wrong> {
     makers::blocks(alloc, trial)?;
     makers::over_streams(alloc, trial)?;
+    makers::of_frames(alloc, trial)?;
     growths::blocks(alloc, trial)?;
     growths::twice(alloc, trial)?;
     growths::pushes(alloc, trial)?;

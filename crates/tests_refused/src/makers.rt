@@ -177,21 +177,26 @@ pub fn blocks(alloc: Global, trial: &mut Trial) -> Result<(), Wrong> {
     Ok(())
 }
 
+// The capacities of a reader, a writer and a writer of lines.
+fn rooms(alloc: Global, trial: &mut Trial, form: Form) -> Result<[usize; 3], Wrong> {
+    Ok([
+        makes::<BufReader<Told<Source<'static>>>, _>(alloc, trial, form, reading(b"ab"))?,
+        makes::<BufWriter<Sink>, _>(alloc, trial, form, empty_sink())?,
+        makes::<LineWriter<Sink>, _>(alloc, trial, form, empty_sink())?,
+    ])
+}
+
 pub fn over_streams(alloc: Global, trial: &mut Trial) -> Result<(), Wrong> {
     for &(form, capacity) in &FORMS {
-        let rooms = [
-            makes::<BufReader<Told<Source<'static>>>, _>(alloc, trial, form, reading(b"ab"))?,
-            makes::<BufWriter<Sink>, _>(alloc, trial, form, empty_sink())?,
-            makes::<LineWriter<Sink>, _>(alloc, trial, form, empty_sink())?,
-        ];
+        let rooms = rooms(alloc, trial, form)?;
         is(rooms == [capacity; 3], "the capacity over a stream")?;
     }
-    let _ = makes::<FrameReader<Told<Source<'static>>>, _>(
-        alloc,
-        trial,
-        Form::Usual,
-        reading(b"ab"),
-    )?;
+    Ok(())
+}
+
+pub fn of_frames(alloc: Global, trial: &mut Trial) -> Result<(), Wrong> {
+    let source = reading(b"ab");
+    let _ = makes::<FrameReader<Told<Source<'static>>>, _>(alloc, trial, Form::Usual, source)?;
     let _ = makes::<FrameWriter<Sink>, _>(alloc, trial, Form::Usual, empty_sink())?;
     Ok(())
 }

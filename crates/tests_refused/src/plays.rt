@@ -84,18 +84,19 @@ fn reads_all(
     alloc: Global,
     trial: &mut Trial,
     rdr: &mut BufReader<Told<Source<'_>>>,
+    run: &mut ReaderRun,
 ) -> Result<(), Wrong> {
-    let mut run = ReaderRun::new(alloc);
-    if reads_on(alloc, rdr, &mut run)? {
+    if reads_on(alloc, rdr, run)? {
         trial.meets()?;
-        is(!reads_on(alloc, rdr, &mut run)?, "refused without need")?;
+        is(!reads_on(alloc, rdr, run)?, "refused without need")?;
     }
     Ok(())
 }
 
 pub fn reads(alloc: Global, trial: &mut Trial) -> Result<(), Wrong> {
+    let mut run = ReaderRun::new(alloc);
     match reader(alloc, 4, &[], reading(&BYTES)) {
-        Ok(mut rdr) => reads_all(alloc, trial, &mut rdr),
+        Ok(mut rdr) => reads_all(alloc, trial, &mut rdr, &mut run),
         Err(e) => trial.refused(e),
     }
 }
@@ -115,18 +116,22 @@ fn writes_on(wrt: &mut BufWriter<Sink>, run: &mut WriterRun) -> Result<bool, Wro
     Ok(refused)
 }
 
-fn writes_all(alloc: Global, trial: &mut Trial, wrt: &mut BufWriter<Sink>) -> Result<(), Wrong> {
-    let mut run = WriterRun::new(alloc);
-    if writes_on(wrt, &mut run)? {
+fn writes_all(
+    trial: &mut Trial,
+    wrt: &mut BufWriter<Sink>,
+    run: &mut WriterRun,
+) -> Result<(), Wrong> {
+    if writes_on(wrt, run)? {
         trial.meets()?;
-        is(!writes_on(wrt, &mut run)?, "refused without need")?;
+        is(!writes_on(wrt, run)?, "refused without need")?;
     }
     Ok(())
 }
 
 pub fn writes(alloc: Global, trial: &mut Trial) -> Result<(), Wrong> {
+    let mut run = WriterRun::new(alloc);
     match writer(alloc, 2, &[], empty_sink()) {
-        Ok(mut wrt) => writes_all(alloc, trial, &mut wrt),
+        Ok(mut wrt) => writes_all(trial, &mut wrt, &mut run),
         Err(e) => trial.refused(e),
     }
 }

@@ -1,6 +1,5 @@
 //! What a run has met so far. Nothing here takes memory.
 use buffer_redux::GrowError;
-use std::io;
 use std::io::ErrorKind;
 
 /// What isn't as it should be.
@@ -42,12 +41,9 @@ impl Trial {
         self.meets()
     }
 
-    /// The same of a call that returns an error of io.
-    pub fn failed(&mut self, error: io::Error) -> Result<(), Wrong> {
-        is(
-            error.kind() == ErrorKind::OutOfMemory,
-            "a stream or a policy fails",
-        )?;
+    /// The same of a call that returns an error of io of this kind.
+    pub fn failed(&mut self, kind: ErrorKind) -> Result<(), Wrong> {
+        is(kind == ErrorKind::OutOfMemory, "a stream or a policy fails")?;
         self.meets()
     }
 }
