@@ -2,8 +2,7 @@
 
 use crate::cases::Case;
 use crate::makers::{told, told_sink};
-use crate::streams::{Sink, Source};
-use buffer_redux::tell::Told;
+use buffer_redux::tell::{TellRead, TellWrite};
 use buffer_redux::{BufReader, BufWriter};
 use chunked::{ChunkedReader, ChunkedWriter, Limits};
 use std::alloc::{AllocError, Global};
@@ -37,7 +36,7 @@ pub fn bodies(alloc: Global, case: &Case, bytes: &[u8]) -> io::Result<u64> {
 }
 
 #[inline(never)]
-fn body_to_end(body: ChunkedReader<Told<Source<'_>>>) -> io::Result<u64> {
+fn body_to_end<R: TellRead + Drop>(body: ChunkedReader<R>) -> io::Result<u64> {
     let mut body = body;
     let mut out = [0; ASKED];
     let mut total = 0u64;
@@ -58,7 +57,11 @@ pub fn write_bodies(alloc: Global, case: &Case, bytes: &[u8]) -> io::Result<u64>
 }
 
 #[inline(never)]
-fn write_chunks(body: ChunkedWriter<Told<Sink>>, payload: &[u8], least: u64) -> io::Result<u64> {
+fn write_chunks<W: TellWrite + Drop>(
+    body: ChunkedWriter<W>,
+    payload: &[u8],
+    least: u64,
+) -> io::Result<u64> {
     let mut body = body;
     let mut total = 0u64;
     for _ in 0..u64::MAX {

@@ -3,12 +3,12 @@ use crate::bodies::{bodies, write_bodies};
 use crate::frames::{frames, write_frames};
 use crate::lines::{lines_to_end, next_to_end, trimmed_to_end, until_end};
 use crate::makers::{
-    block, line_reader, line_writer, looking, reader, std_line_writer, std_reader, std_writer,
-    told, writer,
+    block, line_reader, line_writer, looking, reader, std_line_writer, std_packets, std_reader,
+    std_writer, told, writer,
 };
 use crate::streams::Packets;
 use crate::whole::{each_byte, exact_to_end, format_often, write_all_often};
-use buffer_redux::tell::{TellBufRead, TellWrite, Told};
+use buffer_redux::tell::{TellBufRead, TellRead, TellWrite, Told};
 use buffer_redux::{BufImpl, copy_buf};
 use std::alloc::Global;
 use std::io;
@@ -88,9 +88,9 @@ pub const SHAPES: [(&str, Shape, usize, usize); 21] = [
 
 impl Shape {
     pub fn named(word: &str) -> Option<Shape> {
-        for (name, shape, _capacity, _piece) in SHAPES {
-            if name == word {
-                return Some(shape);
+        for (name, shape, _capacity, _piece) in &SHAPES {
+            if *name == word {
+                return Some(*shape);
             }
         }
         None
@@ -163,65 +163,112 @@ fn over_plain(alloc: Global, case: &Case, bytes: &[u8]) -> io::Result<u64> {
 }
 
 fn over_either(alloc: Global, case: &Case, bytes: &[u8]) -> io::Result<u64> {
-    let (cap, by) = (case.capacity, case.piece);
-    let total = bytes.len() as u64;
-    let piece = &bytes[..by.min(bytes.len())];
     match case.shape {
-        Shape::Read => {
-            let mut out = vec![in alloc; 0u8; by]?;
-            read_to_end(reader(alloc, case, told(bytes))?, out.as_mut_slice())
+        Shape::Read | Shape::Byte | Shape::Exact | Shape::Fill => {
+            reads(alloc, case, bytes.len(), reader(alloc, case, told(bytes))?)
         }
-        Shape::Byte => each_byte(reader(alloc, case, told(bytes))?),
-        Shape::Exact => exact_to_end(reader(alloc, case, told(bytes))?, total),
-        Shape::Fill => fill_to_end(reader(alloc, case, told(bytes))?, by),
-        Shape::Look => fill_to_end(looking(alloc, case, told(bytes))?, by),
-        Shape::Packets => {
-            fill_to_end(
-                looking(alloc, case, Told::new(case.packets(bytes)))?,
-                CONSUMED,
-            )
+        Shape::Write | Shape::WriteAll | Shape::Format => {
+            writes(case, bytes, writer(alloc, case, case.capacity)?)
         }
-        Shape::Unbuffer => {
-            let mut out = vec![in alloc; 0u8; by]?;
-            let mut reader = reader(alloc, case, told(bytes))?;
-            let _shown = reader.fill_buf()?.len();
-            read_to_end(reader.unbuffer(), out.as_mut_slice())
-        }
-        Shape::Write => write_often(writer(alloc, case, cap)?, piece, total),
-        Shape::WriteAll => write_all_often(writer(alloc, case, cap)?, piece, total),
-        Shape::Format => format_often(writer(alloc, case, cap)?, total),
-        Shape::Lines => write_often(line_writer(alloc, case)?, piece, total),
-        Shape::FormatLines => format_often(line_writer(alloc, case)?, total),
-        Shape::Copy => copy_to_end(reader(alloc, case, told(bytes))?, writer(alloc, case, by)?),
-        Shape::CopyBuf => copy_bufs(reader(alloc, case, told(bytes))?, writer(alloc, case, by)?),
-        Shape::Grow => grow_often(block(alloc, case)?, by, bytes.len()),
+        Shape::Lines | Shape::FormatLines => writes(case, bytes, line_writer(alloc, case)?),
+        _ => over_either_alone(alloc, case, bytes),
+    }
+}
+
+// What no buffer of std's does so.
+fn over_either_alone(alloc: Global, case: &Case, bytes: &[u8]) -> io::Result<u64> {
+    match case.shape {
+        Shape::Look => looks(alloc, case, told(bytes), case.piece),
+        Shape::Packets => looks(alloc, case, Told::new(case.packets(bytes)), CONSUMED),
+        Shape::Unbuffer => unbuffers(alloc, case, told(bytes)),
+        Shape::Copy | Shape::CopyBuf => copies(alloc, case, reader(alloc, case, told(bytes))?),
+        Shape::Grow => grow_often(block(alloc, case)?, case.piece, bytes.len()),
         _ => Ok(0),
     }
 }
 
 // No policy of std's looks ahead, its `copy` goes through a block of its own, and no buffer of its grows.
 fn over_std(alloc: Global, case: &Case, bytes: &[u8]) -> io::Result<u64> {
-    let (cap, by) = (case.capacity, case.piece);
-    let total = bytes.len() as u64;
-    let piece = &bytes[..by.min(bytes.len())];
     match case.shape {
-        Shape::Read => {
-            let mut out = vec![in alloc; 0u8; by]?;
-            read_to_end(std_reader(alloc, cap, bytes)?, out.as_mut_slice())
+        Shape::Read | Shape::Byte | Shape::Exact | Shape::Fill => {
+            reads(
+                alloc,
+                case,
+                bytes.len(),
+                std_reader(alloc, case.capacity, bytes)?,
+            )
         }
-        Shape::Byte => each_byte(std_reader(alloc, cap, bytes)?),
-        Shape::Exact => exact_to_end(std_reader(alloc, cap, bytes)?, total),
-        Shape::Fill => fill_to_end(std_reader(alloc, cap, bytes)?, by),
-        Shape::Write => write_often(std_writer(alloc, cap)?, piece, total),
-        Shape::WriteAll => write_all_often(std_writer(alloc, cap)?, piece, total),
-        Shape::Format => format_often(std_writer(alloc, cap)?, total),
-        Shape::Lines => write_often(std_line_writer(alloc, cap)?, piece, total),
-        Shape::FormatLines => format_often(std_line_writer(alloc, cap)?, total),
-        Shape::Copy => copy_to_end(std_reader(alloc, cap, bytes)?, std_writer(alloc, by)?),
-        Shape::Next => until_end(alloc, io::BufReader::new(alloc, case.packets(bytes))?),
-        Shape::NextTrimmed => lines_to_end(alloc, io::BufReader::new(alloc, case.packets(bytes))?),
+        Shape::Write | Shape::WriteAll | Shape::Format => {
+            writes(case, bytes, std_writer(alloc, case.capacity)?)
+        }
+        Shape::Lines | Shape::FormatLines => {
+            writes(case, bytes, std_line_writer(alloc, case.capacity)?)
+        }
+        Shape::Copy => std_copies(alloc, case, std_reader(alloc, case.capacity, bytes)?),
+        Shape::Next => until_end(alloc, std_packets(alloc, case, bytes)?),
+        Shape::NextTrimmed => lines_to_end(alloc, std_packets(alloc, case, bytes)?),
         _ => Ok(0),
     }
+}
+
+fn reads<R: BufRead + Drop>(
+    alloc: Global,
+    case: &Case,
+    total: usize,
+    reader: R,
+) -> io::Result<u64> {
+    match case.shape {
+        Shape::Byte => each_byte(reader),
+        Shape::Exact => exact_to_end(reader, total as u64),
+        Shape::Fill => fill_to_end(reader, case.piece),
+        _ => read_pieces(alloc, case, reader),
+    }
+}
+
+fn read_pieces<R: Read + Drop>(alloc: Global, case: &Case, reader: R) -> io::Result<u64> {
+    let mut out = vec![in alloc; 0u8; case.piece]?;
+    read_to_end(reader, out.as_mut_slice())
+}
+
+fn writes<W: Write + Drop>(case: &Case, bytes: &[u8], writer: W) -> io::Result<u64> {
+    let total = bytes.len() as u64;
+    let piece = &bytes[..case.piece.min(bytes.len())];
+    match case.shape {
+        Shape::Format | Shape::FormatLines => format_often(writer, total),
+        Shape::WriteAll => write_all_often(writer, piece, total),
+        _ => write_often(writer, piece, total),
+    }
+}
+
+fn looks<R: TellRead + Drop>(
+    alloc: Global,
+    case: &Case,
+    inner: R,
+    piece: usize,
+) -> io::Result<u64> {
+    fill_to_end(looking(alloc, case, inner)?, piece)
+}
+
+fn unbuffers<R: TellRead + Drop>(alloc: Global, case: &Case, inner: R) -> io::Result<u64> {
+    let mut reader = reader(alloc, case, inner)?;
+    let _shown = reader.fill_buf()?.len();
+    read_pieces(alloc, case, reader.unbuffer())
+}
+
+fn copies<R: TellBufRead + BufRead + Drop>(
+    alloc: Global,
+    case: &Case,
+    reader: R,
+) -> io::Result<u64> {
+    let writer = writer(alloc, case, case.piece)?;
+    match case.shape {
+        Shape::CopyBuf => copy_bufs(reader, writer),
+        _ => copy_to_end(reader, writer),
+    }
+}
+
+fn std_copies<R: BufRead + Drop>(alloc: Global, case: &Case, reader: R) -> io::Result<u64> {
+    copy_to_end(reader, std_writer(alloc, case.piece)?)
 }
 
 #[inline(never)]

@@ -2,8 +2,7 @@
 
 use crate::cases::Case;
 use crate::makers::{told, told_sink};
-use crate::streams::{Sink, Source};
-use buffer_redux::tell::Told;
+use buffer_redux::tell::{TellRead, TellWrite};
 use frame_reader::{FrameReader, FrameWriter};
 use std::alloc::{AllocError, Global};
 use std::io;
@@ -34,7 +33,7 @@ pub fn frames(alloc: Global, case: &Case, bytes: &[u8]) -> io::Result<u64> {
 }
 
 #[inline(never)]
-fn frames_to_end(reader: FrameReader<Told<Source<'_>>>) -> io::Result<u64> {
+fn frames_to_end<R: TellRead + Drop>(reader: FrameReader<R>) -> io::Result<u64> {
     let mut reader = reader;
     let mut total = 0u64;
     for _ in 0..u64::MAX {
@@ -58,7 +57,11 @@ pub fn write_frames(alloc: Global, case: &Case, bytes: &[u8]) -> io::Result<u64>
 }
 
 #[inline(never)]
-fn write_often(writer: FrameWriter<Told<Sink>>, payload: &[u8], least: u64) -> io::Result<u64> {
+fn write_often<W: TellWrite + Drop>(
+    writer: FrameWriter<W>,
+    payload: &[u8],
+    least: u64,
+) -> io::Result<u64> {
     let mut writer = writer;
     let mut total = 0u64;
     for _ in 0..u64::MAX {

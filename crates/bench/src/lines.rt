@@ -1,8 +1,7 @@
 //! Cases of lines that are read. The capacity of such a case is the length of a line with its end, and the piece is the most
 //! that the stream gives a read.
 
-use crate::streams::Packets;
-use buffer_redux::tell::Told;
+use buffer_redux::tell::TellRead;
 use line_reader::{LineError, LineReader};
 use std::alloc::{AllocError, Global};
 use std::io;
@@ -29,7 +28,7 @@ fn length(found: Result<Option<&[u8]>, LineError>) -> io::Result<u64> {
 
 // The first line is read apart, as a head would be.
 #[inline(never)]
-pub fn next_to_end(reader: LineReader<Told<Packets<'_>>>) -> io::Result<u64> {
+pub fn next_to_end<R: TellRead + Drop>(reader: LineReader<R>) -> io::Result<u64> {
     let mut reader = reader;
     let mut total = length(reader.next())?;
     for _ in 0..u64::MAX {
@@ -43,7 +42,7 @@ pub fn next_to_end(reader: LineReader<Told<Packets<'_>>>) -> io::Result<u64> {
 
 // The first line is read apart, as a head would be.
 #[inline(never)]
-pub fn trimmed_to_end(reader: LineReader<Told<Packets<'_>>>) -> io::Result<u64> {
+pub fn trimmed_to_end<R: TellRead + Drop>(reader: LineReader<R>) -> io::Result<u64> {
     let mut reader = reader;
     let mut total = length(reader.next_trimmed())?;
     for _ in 0..u64::MAX {

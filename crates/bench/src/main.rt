@@ -57,9 +57,9 @@ fn asked(words: &[String]) -> Option<(Case, usize)> {
 
 // Each case once, on few bytes.
 fn run_all(rt: &HostRuntime) -> io::Result<()> {
-    for (name, shape, capacity, piece) in SHAPES {
+    for &(name, shape, capacity, piece) in &SHAPES {
         print!(rt; "{name}")?;
-        for kind in [Kind::Plain, Kind::Ring, Kind::Std] {
+        for &kind in &[Kind::Plain, Kind::Ring, Kind::Std] {
             let case = Case {
                 shape,
                 kind,
@@ -74,15 +74,20 @@ fn run_all(rt: &HostRuntime) -> io::Result<()> {
     Ok(())
 }
 
-fn main(rt: HostRuntime) -> io::Result<()> {
-    let words: Vec<String> = std::env::args(&rt)?.skip(1).collect(rt.alloc())?;
-    if words.is_empty() {
-        return run_all(&rt);
-    }
-    let Some((case, total)) = asked(words.as_slice()) else {
+// The case that these words ask for.
+fn run_asked(rt: &HostRuntime, words: &[String]) -> io::Result<()> {
+    let Some((case, total)) = asked(words) else {
         return Err(io::Error::from(ErrorKind::InvalidInput));
     };
     let over = run(rt.alloc(), &case, total)?;
-    println!(rt; "{over}")?;
-    Ok(())
+    println!(rt; "{over}")
+}
+
+fn main(rt: HostRuntime) -> io::Result<()> {
+    let words: Vec<String> = std::env::args(&rt)?.skip(1).collect(rt.alloc())?;
+    if words.is_empty() {
+        run_all(&rt)
+    } else {
+        run_asked(&rt, words.as_slice())
+    }
 }

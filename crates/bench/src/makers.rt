@@ -67,6 +67,15 @@ pub fn std_reader(
     io::BufReader::with_capacity(alloc, capacity, Source { left: bytes })
 }
 
+/// The same over packets.
+pub fn std_packets<'a>(
+    alloc: Global,
+    case: &Case,
+    bytes: &'a [u8],
+) -> io::Result<io::BufReader<Packets<'a>>> {
+    io::BufReader::new(alloc, case.packets(bytes))
+}
+
 pub fn std_writer(alloc: Global, capacity: usize) -> io::Result<io::BufWriter<Sink>> {
     io::BufWriter::with_capacity(alloc, capacity, Sink::default())
 }
