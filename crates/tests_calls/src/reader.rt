@@ -1,27 +1,46 @@
 //! Readers that are taken apart, or read by a trait alone.
 use buffer_redux::BufReader;
 use buffer_redux::policy::MinBuffered;
+use buffer_redux::script::Answer;
 use buffer_redux::tell::{Tell, Told};
 use std::alloc::Global;
 use std::io::BufRead;
-use std::process::Abort;
 use std::test::Fail;
-use tests_common::{debug, reader, reader_under, source};
+use tests_common::{Source, debug, reader, reader_under, source};
 
-// The source comes out as it is, and what is buffered is gone.
-#[test]
-fn shows(rt: HostRuntime) -> Result<(), Fail> {
-    let rdr = reader(rt.alloc(), 4, &[1], source(rt.alloc(), &[2], &[])?)?;
-    let rdr = reader_under(rdr, MinBuffered(2));
-    let text = debug(rt.alloc(), &rdr)?;
-    let end = "buf_len: 1, capacity: 4, policy: MinBuffered(2) }";
-    assert!(rt; text.as_str().ends_with(end));
-    assert!(rt; into_inner(rdr).get_ref().served() == 0);
-    Ok(())
+// A reader over a buffer of capacity 4 that holds the first bytes, and a source that gives the others by a script.
+pub(crate) fn of_four(
+    alloc: Global,
+    held: &[u8],
+    bytes: &[u8],
+    script: &[Answer],
+) -> Result<BufReader<Source>, Fail> {
+    let source = source(alloc, bytes, script)?;
+    Ok(reader(alloc, 4, held, source)?)
+}
+
+fn of_two(alloc: Global) -> Result<BufReader<Source, MinBuffered>, Fail> {
+    Ok(reader_under(of_four(alloc, &[1], &[2], &[])?, MinBuffered(2)))
 }
 
 fn into_inner<R: Tell, P: Drop>(rdr: BufReader<R, P>) -> R {
     rdr.into_inner()
+}
+
+// What a reader shows, and how many bytes the source then gave.
+fn shown(alloc: Global) -> Result<(String, usize), Fail> {
+    let rdr = of_two(alloc)?;
+    let text = debug(alloc, &rdr)?;
+    Ok((text, into_inner(rdr).get_ref().served()))
+}
+
+// The source comes out as it is, and what is buffered is gone.
+#[test]
+fn shows(rt: HostRuntime) -> Result<(), Fail> {
+    let (text, served) = shown(rt.alloc())?;
+    let end = "buf_len: 1, capacity: 4, policy: MinBuffered(2) }";
+    assert!(rt; text.as_str().ends_with(end) && served == 0);
+    Ok(())
 }
 
 // All bytes up to and with the first `end`, or all that are left, by the trait alone.
@@ -43,7 +62,7 @@ fn read_until<R: BufRead>(alloc: Global, rdr: &mut R, end: u8) -> Result<Vec<u8>
 // The bytes that a buffer of this capacity reads, and what comes up to each of these.
 type Row = (usize, &'static [u8], &'static [(u8, &'static [u8])]);
 
-const ROWS: [Row; 3] = [
+static ROWS: [Row; 3] = [
     (
         2,
         &[0, 1, 2, 1, 0],
@@ -57,19 +76,26 @@ const ROWS: [Row; 3] = [
     (5, b"to be read, whole", &[(10, b"to be read, whole")]),
 ];
 
-fn cuts(rt: &impl Abort, alloc: Global, row: &Row) -> Result<(), Fail> {
+// Whether a reader hands out these parts.
+fn cuts<R: BufRead>(alloc: Global, rdr: &mut R, parts: &[(u8, &[u8])]) -> Result<bool, Fail> {
+    for &(end, part) in parts {
+        if read_until(alloc, rdr, end)?.as_slice() != part {
+            return Ok(false);
+        }
+    }
+    Ok(true)
+}
+
+fn cuts_by_row(alloc: Global, row: &Row) -> Result<bool, Fail> {
     let &(capacity, bytes, parts) = row;
     let mut rdr = reader(alloc, capacity, &[], Told::new(bytes))?;
-    for &(end, part) in parts {
-        assert!(rt; read_until(alloc, &mut rdr, end)?.as_slice() == part);
-    }
-    Ok(())
+    cuts(alloc, &mut rdr, parts)
 }
 
 #[test]
 fn up_to_a_byte(rt: HostRuntime) -> Result<(), Fail> {
     for row in &ROWS {
-        cuts(&rt, rt.alloc(), row)?;
+        assert!(rt; cuts_by_row(rt.alloc(), row)?);
     }
     Ok(())
 }

@@ -2,12 +2,11 @@
 use crate::unwrapping::unwrapped;
 use buffer_redux::script::{Answer, FaultAt};
 use buffer_redux::tell::{Tell, TellBufRead, TellRead, TellSeek, Told};
-use buffer_redux::{BufReader, Buffer, GrowError, seek_plan};
-use std::alloc::Global;
+use buffer_redux::{BufReader, BufWriter, Buffer, GrowError, seek_plan};
+use std::alloc::{AllocError, Global};
 use std::io;
 use std::io::SeekFrom::{Current, End, Start};
 use std::io::{BufRead, Cursor, ErrorKind, Read, Seek, SeekFrom, Write};
-use std::process::Abort;
 use std::test::Fail;
 use tests_common::{
     Positions, consume, debug, empty, fill_buf, kind, reader, seek, write_all, writer,
@@ -16,7 +15,7 @@ use tests_common::{
 const HALF: i64 = 4611686018427387904;
 
 // Where to, how many bytes are buffered, and the plan.
-const PLANS: [(SeekFrom, usize, &str); 6] = [
+static PLANS: [(SeekFrom, usize, &str); 6] = [
     (Start(3), 2, "One(Start(3))"),
     (Current(1), 2, "One(Current(-1))"),
     (Current(3), 2, "One(Current(1))"),
@@ -33,11 +32,15 @@ const PLANS: [(SeekFrom, usize, &str); 6] = [
     ),
 ];
 
+fn plan(alloc: Global, to: SeekFrom, len: usize) -> Result<String, AllocError> {
+    debug(alloc, &seek_plan(to, len.min(1 << 62)))
+}
+
 #[test]
 fn plans(rt: HostRuntime) -> Result<(), Fail> {
-    for &(to, len, plan) in &PLANS {
-        let planned = seek_plan(to, len.min(1 << 62));
-        assert!(rt; debug(rt.alloc(), &planned)?.as_str() == plan, "{plan}");
+    for &(to, len, text) in &PLANS {
+        let came = plan(rt.alloc(), to, len)?;
+        assert!(rt; came.as_str() == text, "{came}");
     }
     Ok(())
 }
@@ -51,15 +54,26 @@ enum Step {
     Consume(usize),
 }
 
-fn walks<R: BufRead + Seek>(rt: &impl Abort, rdr: &mut R, steps: &[Step]) -> io::Result<()> {
-    for step in steps {
-        match *step {
-            Step::Seek(to, answer) => assert!(rt; kind(seek(rdr, to)) == answer),
-            Step::Fill(shown) => assert!(rt; fill_buf(rdr)? == shown),
-            Step::Consume(amount) => consume(rdr, amount),
+// Whether a step comes to what it says.
+fn is_so<R: BufRead + Seek>(rdr: &mut R, step: &Step) -> bool {
+    match *step {
+        Step::Seek(to, answer) => kind(seek(rdr, to)) == answer,
+        Step::Fill(shown) => kind(fill_buf(rdr)) == Ok(shown),
+        Step::Consume(amount) => {
+            consume(rdr, amount);
+            true
         }
     }
-    Ok(())
+}
+
+// Whether all steps do.
+fn walks<R: BufRead + Seek>(rdr: &mut R, steps: &[Step]) -> bool {
+    for step in steps {
+        if !is_so(rdr, step) {
+            return false;
+        }
+    }
+    true
 }
 
 type Text = Told<Cursor<&'static [u8]>>;
@@ -68,7 +82,7 @@ fn text() -> Text {
     Told::new(Cursor::new([5, 6, 7, 0, 1, 2, 3, 4].as_slice()))
 }
 
-const PLAIN: [Step; 8] = [
+static PLAIN: [Step; 8] = [
     Step::Seek(Start(3), Ok(3)),
     Step::Fill(&[0, 1]),
     Step::Seek(Current(0), Ok(3)),
@@ -79,7 +93,7 @@ const PLAIN: [Step; 8] = [
     Step::Seek(Current(-2), Ok(3)),
 ];
 
-const RING: [Step; 9] = [
+static RING: [Step; 9] = [
     Step::Seek(Start(3), Ok(3)),
     Step::Fill(&[0, 1, 2, 3, 4]),
     Step::Seek(Current(0), Ok(3)),
@@ -91,42 +105,59 @@ const RING: [Step; 9] = [
     Step::Fill(&[0, 1, 2, 3, 4]),
 ];
 
-#[test]
-fn in_a_cursor(rt: HostRuntime) -> Result<(), Fail> {
-    let rows: [(bool, usize, &[Step]); 2] = [(false, 2, &PLAIN), (true, 8192, &RING)];
-    for (ring, capacity, steps) in rows {
-        let mut rdr = reader_over(empty(rt.alloc(), ring, capacity)?, text());
-        walks(&rt, &mut rdr, steps)?;
-    }
-    Ok(())
-}
-
 // A reader over this buffer, which promises nothing.
 pub(crate) fn reader_over<R: Tell + Drop>(buf: Buffer, inner: R) -> BufReader<R> {
     BufReader::with_buffer(buf, inner)
 }
 
+fn over_text(alloc: Global, ring: bool, capacity: usize) -> Result<BufReader<Text>, GrowError> {
+    Ok(reader_over(empty(alloc, ring, capacity)?, text()))
+}
+
+fn walks_in_text(
+    alloc: Global,
+    ring: bool,
+    capacity: usize,
+    steps: &[Step],
+) -> Result<bool, GrowError> {
+    let mut rdr = over_text(alloc, ring, capacity)?;
+    Ok(walks(&mut rdr, steps))
+}
+
+#[test]
+fn in_a_cursor(rt: HostRuntime) -> Result<(), Fail> {
+    assert!(rt; walks_in_text(rt.alloc(), false, 2, &PLAIN)?);
+    assert!(rt; walks_in_text(rt.alloc(), true, 8192, &RING)?);
+    Ok(())
+}
+
 // A reader over a reader.
-fn over<R: TellRead + Drop>(alloc: Global, inner: BufReader<R>) -> Result<Nested<R>, GrowError> {
-    reader(alloc, 2, &[], Told::new(inner))
+type Nested = BufReader<Told<BufReader<Text>>>;
+
+fn nested(alloc: Global) -> Result<Nested, GrowError> {
+    reader(alloc, 2, &[], Told::new(over_text(alloc, false, 5)?))
 }
 
-type Nested<R> = BufReader<Told<BufReader<R>>>;
-
-fn inside<R: TellRead>(rdr: Nested<R>) -> BufReader<R> {
-    rdr.into_inner().into_inner()
+// A seek and a fill by the calls that tell.
+fn goes_and_tells<R: TellBufRead + TellSeek>(
+    rdr: &mut R,
+    to: SeekFrom,
+) -> io::Result<(u64, &[u8])> {
+    let at = rdr.seek_told(to)?;
+    Ok((at, rdr.fill_told()?))
 }
 
-// The calls that tell.
-fn seek_told<S: TellSeek>(stream: &mut S, to: SeekFrom) -> io::Result<u64> {
-    stream.seek_told(to)
+// Whether the reader inside holds what it read, and goes on.
+fn goes_on_inside<R: TellRead + TellSeek + Drop>(
+    rdr: BufReader<Told<BufReader<R>>>,
+) -> io::Result<bool> {
+    let mut inner = rdr.into_inner().into_inner();
+    let holds = inner.buffer() == [1, 2, 3].as_slice();
+    let came = goes_and_tells(&mut inner, Start(6))?;
+    Ok(holds && came == (6, [3, 4].as_slice()))
 }
 
-fn fill_told<R: TellBufRead>(rdr: &mut R) -> io::Result<&[u8]> {
-    rdr.fill_told()
-}
-
-const OUTSIDE: [Step; 6] = [
+static OUTSIDE: [Step; 6] = [
     Step::Fill(&[5, 6]),
     Step::Consume(1),
     Step::Seek(Current(2), Ok(3)),
@@ -138,13 +169,9 @@ const OUTSIDE: [Step; 6] = [
 // A reader inside a reader drops what it holds, by the calls of std and by those that tell.
 #[test]
 fn in_a_reader(rt: HostRuntime) -> Result<(), Fail> {
-    let inner = reader(rt.alloc(), 5, &[], text())?;
-    let mut rdr = over(rt.alloc(), inner)?;
-    walks(&rt, &mut rdr, &OUTSIDE)?;
-    let mut inner = inside(rdr);
-    assert!(rt; inner.buffer() == [1, 2, 3].as_slice());
-    assert!(rt; seek_told(&mut inner, Start(6))? == 6);
-    assert!(rt; fill_told(&mut inner)? == [3, 4].as_slice());
+    let mut rdr = nested(rt.alloc())?;
+    assert!(rt; walks(&mut rdr, &OUTSIDE));
+    assert!(rt; goes_on_inside(rdr)?);
     Ok(())
 }
 
@@ -173,33 +200,39 @@ impl Seek for Noting {
     }
 }
 
-fn positions(alloc: Global, before_fault: usize) -> Told<Noting> {
-    Told::new(Noting {
+type Noted = BufReader<Told<Noting>>;
+
+fn over_positions(alloc: Global, before_fault: usize) -> Result<Noted, GrowError> {
+    let inner = Noting {
         stream: Positions { at: 0 },
         targets: Vec::new(alloc),
         before_fault,
-    })
+    };
+    reader(alloc, 5, &[], Told::new(inner))
 }
 
 // How many seeks come before the one that fails, the steps over a buffer of capacity 5, where the stream was asked to go, and
 // how many bytes are left.
 type Row = (usize, &'static [Step], &'static [SeekFrom], usize);
 
-const FAR_BACK: Row = (
-    usize::MAX,
-    &[
-        Step::Fill(&[0, 1, 2, 3, 4]),
-        Step::Seek(End(-5), Ok(18446744073709551610)),
-        Step::Fill(&[250, 251, 252, 253, 254]),
-        Step::Seek(Current(i64::MIN), Ok(9223372036854775802)),
-        Step::Fill(&[250, 251, 252, 253, 254]),
-        Step::Seek(Current(0), Ok(9223372036854775802)),
-    ],
-    &[End(-5), Current(-5), Current(i64::MIN), Current(-5)],
-    0,
-);
+const SHOWN: Step = Step::Fill(&[0, 1, 2, 3, 4]);
 
-const FROM_FIVE: [Row; 4] = [
+const FAILS: Step = Step::Seek(Current(i64::MIN), Err(ErrorKind::TimedOut));
+
+static ROWS: [Row; 5] = [
+    (
+        usize::MAX,
+        &[
+            Step::Fill(&[0, 1, 2, 3, 4]),
+            Step::Seek(End(-5), Ok(18446744073709551610)),
+            Step::Fill(&[250, 251, 252, 253, 254]),
+            Step::Seek(Current(i64::MIN), Ok(9223372036854775802)),
+            Step::Fill(&[250, 251, 252, 253, 254]),
+            Step::Seek(Current(0), Ok(9223372036854775802)),
+        ],
+        &[End(-5), Current(-5), Current(i64::MIN), Current(-5)],
+        0,
+    ),
     (9, &[SHOWN, Step::Seek(Start(3), Ok(3))], &[Start(3)], 0),
     (
         9,
@@ -211,40 +244,49 @@ const FROM_FIVE: [Row; 4] = [
     (1, &[SHOWN, FAILS], &[Current(-5), Current(i64::MIN)], 0),
 ];
 
-const SHOWN: Step = Step::Fill(&[0, 1, 2, 3, 4]);
+// Whether a reader goes as its row says.
+fn goes(rdr: &mut Noted, row: &Row) -> bool {
+    let &(_, steps, targets, left) = row;
+    walks(rdr, steps)
+        && rdr.get_ref().get_ref().targets.as_slice() == targets
+        && rdr.buf_len() == left
+}
 
-const FAILS: Step = Step::Seek(Current(i64::MIN), Err(ErrorKind::TimedOut));
-
-fn goes(rt: &impl Abort, alloc: Global, row: &Row) -> Result<(), Fail> {
-    let &(before_fault, steps, targets, left) = row;
-    let mut rdr = reader(alloc, 5, &[], positions(alloc, before_fault))?;
-    walks(rt, &mut rdr, steps)?;
-    let asked = rdr.get_ref().get_ref().targets.as_slice();
-    assert!(rt; asked == targets && rdr.buf_len() == left);
-    Ok(())
+fn goes_in_positions(alloc: Global, row: &Row) -> Result<bool, GrowError> {
+    let mut rdr = over_positions(alloc, row.0)?;
+    Ok(goes(&mut rdr, row))
 }
 
 #[test]
 fn as_planned(rt: HostRuntime) -> Result<(), Fail> {
-    goes(&rt, rt.alloc(), &FAR_BACK)?;
-    for row in &FROM_FIVE {
-        goes(&rt, rt.alloc(), row)?;
+    for row in &ROWS {
+        assert!(rt; goes_in_positions(rt.alloc(), row)?, "{:?}", row.2);
     }
     Ok(())
 }
 
-type Placed = Told<FaultAt<Cursor<Vec<u8>>>>;
+type Place = Told<FaultAt<Cursor<Vec<u8>>>>;
 
-// A vector whose call after so many others fails.
-fn placed(alloc: Global, before: usize) -> Placed {
+// A writer over a vector, whose call after so many others fails.
+fn placed(
+    alloc: Global,
+    capacity: usize,
+    held: &[u8],
+    before: usize,
+) -> Result<BufWriter<Place>, GrowError> {
     let fault = Answer::Fail(ErrorKind::BrokenPipe);
-    Told::new(FaultAt::new(Cursor::new(Vec::new(alloc)), before, fault))
+    let inner = FaultAt::new(Cursor::new(Vec::new(alloc)), before, fault);
+    writer(alloc, capacity, held, Told::new(inner))
 }
 
-// What is there, and how many calls there were.
-fn content(inner: &Placed) -> (&[u8], usize) {
-    let inner = inner.get_ref();
-    (inner.get_ref().get_ref().as_slice(), inner.calls())
+fn in_place(inner: &Place) -> &[u8] {
+    inner.get_ref().get_ref().get_ref().as_slice()
+}
+
+// What is there, how many calls there were, and how many bytes are buffered.
+fn content(wrt: &BufWriter<Place>) -> (&[u8], usize, usize) {
+    let inner = wrt.get_ref();
+    (in_place(inner), inner.get_ref().calls(), wrt.buf_len())
 }
 
 fn writes<W: Write + Seek>(wrt: &mut W) -> io::Result<u64> {
@@ -259,13 +301,22 @@ fn writes_between<W: Write + Seek>(wrt: &mut W) -> io::Result<u64> {
     Ok(at)
 }
 
+// Whether the seeks say where they go, and the first one flushes.
+fn writes_in_place(wrt: &mut BufWriter<Place>) -> io::Result<bool> {
+    let at = writes(wrt)?;
+    let is_whole = content(wrt).0 == [0, 1, 2, 3, 4, 5, 6, 7].as_slice();
+    Ok((at, writes_between(wrt)?) == (8, 2) && is_whole)
+}
+
+fn leaves(wrt: BufWriter<Place>, bytes: &[u8]) -> io::Result<bool> {
+    Ok(in_place(&unwrapped(wrt)?) == bytes)
+}
+
 #[test]
 fn of_a_writer(rt: HostRuntime) -> Result<(), Fail> {
-    let mut wrt = writer(rt.alloc(), 3, &[], placed(rt.alloc(), usize::MAX))?;
-    assert!(rt; writes(&mut wrt)? == 8);
-    assert!(rt; content(wrt.get_ref()).0 == [0, 1, 2, 3, 4, 5, 6, 7].as_slice());
-    assert!(rt; writes_between(&mut wrt)? == 2);
-    assert!(rt; content(&unwrapped(wrt)?).0 == [0, 1, 8, 9, 4, 5, 6, 7].as_slice());
+    let mut wrt = placed(rt.alloc(), 3, &[], usize::MAX)?;
+    assert!(rt; writes_in_place(&mut wrt)?);
+    assert!(rt; leaves(wrt, &[0, 1, 8, 9, 4, 5, 6, 7])?);
     Ok(())
 }
 
@@ -273,26 +324,28 @@ fn of_a_writer(rt: HostRuntime) -> Result<(), Fail> {
 // and how many calls it had.
 type Vain = (usize, Result<u64, ErrorKind>, &'static [u8], usize);
 
-const IN_VAIN: [Vain; 4] = [
+static IN_VAIN: [Vain; 4] = [
     (9, Ok(5), &[1, 2, 3], 3),
     (2, Err(ErrorKind::BrokenPipe), &[1, 2, 3], 3),
     (1, Err(ErrorKind::BrokenPipe), &[1, 2, 3], 2),
     (0, Err(ErrorKind::BrokenPipe), &[], 1),
 ];
 
-fn seeks_in_vain(rt: &impl Abort, alloc: Global, row: &Vain) -> Result<(), Fail> {
-    let &(before, answer, held, calls) = row;
-    let mut wrt = writer(alloc, 4, &[1, 2, 3], placed(alloc, before))?;
-    assert!(rt; kind(seek(&mut wrt, Start(5))) == answer);
-    assert!(rt; content(wrt.get_ref()) == (held, calls));
-    assert!(rt; wrt.buf_len() == 3usize.saturating_sub(held.len()));
-    Ok(())
+fn is_vain(wrt: &mut BufWriter<Place>, row: &Vain) -> bool {
+    let &(_, answer, held, calls) = row;
+    let left = 3usize.saturating_sub(held.len());
+    kind(seek(wrt, Start(5))) == answer && content(wrt) == (held, calls, left)
+}
+
+fn seeks_in_vain(alloc: Global, row: &Vain) -> Result<bool, GrowError> {
+    let mut wrt = placed(alloc, 4, &[1, 2, 3], row.0)?;
+    Ok(is_vain(&mut wrt, row))
 }
 
 #[test]
 fn of_a_writer_in_vain(rt: HostRuntime) -> Result<(), Fail> {
     for row in &IN_VAIN {
-        seeks_in_vain(&rt, rt.alloc(), row)?;
+        assert!(rt; seeks_in_vain(rt.alloc(), row)?, "{:?}", row.1);
     }
     Ok(())
 }

@@ -1,12 +1,12 @@
 //! A reader that gives its buffer up, by worked examples.
+use crate::reader::of_four;
 use buffer_redux::script::Answer;
 use buffer_redux::tell::{Tell, TellRead};
 use buffer_redux::{BufReader, Unbuffer};
 use std::alloc::Global;
-use std::io::{ErrorKind, Read};
-use std::process::Abort;
+use std::io::ErrorKind;
 use std::test::Fail;
-use tests_common::{debug, first, kind, read, reader, source};
+use tests_common::{Source, debug, first, kind, read};
 
 // The room of a read, what it returns, what it hands out, and what is left afterwards.
 type Step = (
@@ -28,13 +28,21 @@ fn into_inner<R: Tell>(rdr: Unbuffer<R>) -> R {
     rdr.into_inner()
 }
 
-fn walks<R: TellRead>(rt: &impl Abort, rdr: &mut Unbuffer<R>, steps: &[Step]) {
-    for &(room, answer, handed, left) in steps {
-        let mut out = [0u8; 3];
-        let answered = kind(read(rdr, &mut out[..room.min(3)]));
-        assert!(rt; answered == answer && first(&out, handed.len()) == handed);
-        assert!(rt; has(rdr, left));
+// Whether a read comes to what its step says.
+fn is_so<R: TellRead>(rdr: &mut Unbuffer<R>, step: &Step) -> bool {
+    let &(room, answer, handed, left) = step;
+    let mut out = [0; 3];
+    let answered = kind(read(rdr, &mut out[..room.min(3)]));
+    answered == answer && first(&out, handed.len()) == handed && has(rdr, left)
+}
+
+// Whether these bytes are left at first, and all steps come to what they say.
+fn walks<R: TellRead>(rdr: &mut Unbuffer<R>, held: &[u8], steps: &[Step]) -> bool {
+    let mut is_so_far = has(rdr, held);
+    for step in steps {
+        is_so_far = is_so_far && is_so(rdr, step);
     }
+    is_so_far
 }
 
 // What is held, what the stream gives by which script, the reads, and the offers that it saw.
@@ -46,7 +54,7 @@ type Row = (
     &'static [usize],
 );
 
-const ROWS: [Row; 3] = [
+static ROWS: [Row; 3] = [
     (
         &[1, 2],
         &[],
@@ -69,30 +77,35 @@ const ROWS: [Row; 3] = [
     ),
 ];
 
-fn reads(rt: &impl Abort, alloc: Global, row: &Row) -> Result<(), Fail> {
-    let &(held, bytes, script, steps, offers) = row;
-    let mut rdr = unbuffered(reader(alloc, 4, held, source(alloc, bytes, script)?)?);
-    assert!(rt; has(&rdr, held));
-    walks(rt, &mut rdr, steps);
-    assert!(rt; into_inner(rdr).get_ref().offers() == offers);
-    Ok(())
+// Whether a reader hands out, and asks for, what its row says.
+fn is_read(mut rdr: Unbuffer<Source>, row: &Row) -> bool {
+    let &(held, _, _, steps, offers) = row;
+    let is_walked = walks(&mut rdr, held, steps);
+    into_inner(rdr).get_ref().offers() == offers && is_walked
+}
+
+fn reads(alloc: Global, row: &Row) -> Result<bool, Fail> {
+    let &(held, bytes, script, _, _) = row;
+    let rdr = of_four(alloc, held, bytes, script)?;
+    Ok(is_read(unbuffered(rdr), row))
 }
 
 #[test]
 fn reads_by_rows(rt: HostRuntime) -> Result<(), Fail> {
     for row in &ROWS {
-        reads(&rt, rt.alloc(), row)?;
+        assert!(rt; reads(rt.alloc(), row)?, "{:?}", row.0);
     }
     Ok(())
 }
 
+fn shown(alloc: Global) -> Result<String, Fail> {
+    let rdr = unbuffered(of_four(alloc, &[1], &[2], &[])?);
+    Ok(debug(alloc, &rdr)?)
+}
+
 #[test]
 fn shows(rt: HostRuntime) -> Result<(), Fail> {
-    let rdr = unbuffered(reader(rt.alloc(), 4, &[1], source(rt.alloc(), &[2], &[])?)?);
-    assert!(rt;
-        debug(rt.alloc(), &rdr)?
-            .as_str()
-            .starts_with("buffer_redux::Unbuffer")
-    );
+    let text = shown(rt.alloc())?;
+    assert!(rt; text.as_str().starts_with("buffer_redux::Unbuffer"));
     Ok(())
 }

@@ -4,11 +4,10 @@ use buffer_redux::script::{Answer, ScriptWriter};
 use buffer_redux::tell::{TellWrite, Told};
 use buffer_redux::{BufWriter, Buffer, GrowError, IntoInnerError, LineWriter, MakeError};
 use redux_play::laws;
-use std::alloc::Global;
+use std::alloc::{AllocError, Global};
 use std::cell::Cell;
 use std::io;
 use std::io::{ErrorKind, Write};
-use std::process::Abort;
 use std::test::Fail;
 use tests_common::{debug, display, line_writer, taken, target, write_all, writer};
 
@@ -185,7 +184,7 @@ type Held<'a> = (&'a [u8], usize);
 // The fault, what is in the buffer that comes back, and what the stream took by how many writes and flushes.
 type Row = (Way, Fault, Held<'static>, &'static [u8], (usize, usize));
 
-const WHOLE: [Row; 9] = [
+static WHOLE: [Row; 9] = [
     (Way::Drop, None, (&[], 0), &[1, 2, 3], (1, 0)),
     (Way::Inner, None, (&[], 0), &[1, 2, 3], (1, 1)),
     (Way::InnerWithErr, None, (&[], 0), &[1, 2, 3], (1, 1)),
@@ -199,13 +198,13 @@ const WHOLE: [Row; 9] = [
 
 // The stream takes two bytes, fails, and then takes all. A drop forgets the fault, and the wrapper of one sends once more when
 // it is dropped.
-const FAULTS: [Answer; 2] = [Answer::Serve(2), Answer::Fail(ErrorKind::Other)];
+static FAULTS: [Answer; 2] = [Answer::Serve(2), Answer::Fail(ErrorKind::Other)];
 
 const ONE_LEFT: Fault = Some((ErrorKind::Other, 1));
 
 const NONE_LEFT: Fault = Some((ErrorKind::Other, 0));
 
-const FAULTY: [Row; 9] = [
+static FAULTY: [Row; 9] = [
     (Way::Drop, None, (&[], 0), &[1, 2], (2, 0)),
     (Way::Inner, ONE_LEFT, (&[], 0), &[1, 2, 3], (3, 0)),
     (Way::InnerWithErr, NONE_LEFT, (&[], 0), &[1, 2], (2, 0)),
@@ -218,7 +217,7 @@ const FAULTY: [Row; 9] = [
 ];
 
 // A stream that takes a byte at a time takes as many writes as it needs.
-const SLOW: [Row; 1] = [(Way::Drop, None, (&[], 0), &[1, 2, 3], (3, 0))];
+static SLOW: [Row; 1] = [(Way::Drop, None, (&[], 0), &[1, 2, 3], (3, 0))];
 
 fn held(buf: &Option<Buffer>) -> Held<'_> {
     match buf {
@@ -227,50 +226,67 @@ fn held(buf: &Option<Buffer>) -> Held<'_> {
     }
 }
 
-fn comes_apart(
-    rt: &impl Abort,
-    alloc: Global,
-    lines: bool,
-    script: &[Answer],
-    row: &Row,
-) -> Result<(), Fail> {
+// Whether a writer over this stream, or one of lines, comes apart as its row says.
+fn is_so(alloc: Global, lines: bool, stream: &mut ScriptWriter, row: &Row) -> Result<bool, Fail> {
     let &(way, fault, left, taken, calls) = row;
-    let mut stream = ScriptWriter::new(alloc, script)?;
     let drops = Cell::new(0);
-    let (seen, buf, before) = taken_apart(alloc, lines, way, &mut stream, &drops)?;
-    assert!(rt; seen == fault && held(&buf) == left);
-    assert!(rt; (before, drops.get()) == (0, 1));
-    assert!(rt; stream.taken() == taken);
-    assert!(rt; (stream.offers().len(), stream.flushes()) == calls);
-    Ok(())
+    let (seen, buf, before) = taken_apart(alloc, lines, way, stream, &drops)?;
+    let asked = (stream.offers().len(), stream.flushes());
+    Ok(
+        (seen, held(&buf), before, drops.get()) == (fault, left, 0, 1)
+            && (stream.taken(), asked) == (taken, calls),
+    )
 }
 
-fn each(rt: &impl Abort, alloc: Global, script: &[Answer], rows: &[Row]) -> Result<(), Fail> {
+fn comes_apart(alloc: Global, lines: bool, script: &[Answer], row: &Row) -> Result<bool, Fail> {
+    let mut stream = ScriptWriter::new(alloc, script)?;
+    is_so(alloc, lines, &mut stream, row)
+}
+
+// Whether each row does, for either kind of writer.
+fn each(alloc: Global, script: &[Answer], rows: &[Row]) -> Result<bool, Fail> {
     for row in rows {
-        comes_apart(rt, alloc, false, script, row)?;
-        comes_apart(rt, alloc, true, script, row)?;
+        if !(comes_apart(alloc, false, script, row)? && comes_apart(alloc, true, script, row)?) {
+            return Ok(false);
+        }
     }
-    Ok(())
+    Ok(true)
 }
 
 #[test]
 fn comes_apart_in_each_way(rt: HostRuntime) -> Result<(), Fail> {
-    each(&rt, rt.alloc(), &[], &WHOLE)?;
-    each(&rt, rt.alloc(), &FAULTS, &FAULTY)?;
-    each(&rt, rt.alloc(), &[Answer::ServeEach(1)], &SLOW)
+    assert!(rt; each(rt.alloc(), &[], &WHOLE)?);
+    assert!(rt; each(rt.alloc(), &FAULTS, &FAULTY)?);
+    assert!(rt; each(rt.alloc(), &[Answer::ServeEach(1)], &SLOW)?);
+    Ok(())
 }
 
 pub(crate) fn unwrapped<W: TellWrite + Drop>(wrt: BufWriter<W>) -> io::Result<W> {
     Ok(wrt.into_inner()?)
 }
 
+// What the stream took by then, and what it has at the end.
+fn flushes(alloc: Global) -> Result<bool, Fail> {
+    let mut wrt = writer(alloc, 3, &[], target(alloc, &[])?)?;
+    write_all(&mut wrt, &[0, 1])?;
+    Ok(taken(&wrt).is_empty() && unwrapped(wrt)?.get_ref().taken() == [0, 1].as_slice())
+}
+
 #[test]
 fn flushes_as_it_unwraps(rt: HostRuntime) -> Result<(), Fail> {
-    let mut wrt = writer(rt.alloc(), 3, &[], target(rt.alloc(), &[])?)?;
-    write_all(&mut wrt, &[0, 1])?;
-    assert!(rt; taken(&wrt).is_empty());
-    assert!(rt; unwrapped(wrt)?.get_ref().taken() == [0, 1].as_slice());
+    assert!(rt; flushes(rt.alloc())?);
     Ok(())
+}
+
+fn other() -> io::Error {
+    io::Error::from(ErrorKind::Other)
+}
+
+// Whether an error shows the fault inside.
+fn shows_other(alloc: Global, error: &IntoInnerError<u8>) -> Result<bool, AllocError> {
+    let text = display(alloc, error)?;
+    let is_same = text.as_str() == display(alloc, &other())?.as_str();
+    Ok(is_same && !debug(alloc, error)?.is_empty())
 }
 
 // What the wrappers of a refusal and of a fault show, and turn into.
@@ -278,14 +294,11 @@ fn flushes_as_it_unwraps(rt: HostRuntime) -> Result<(), Fail> {
 fn wrappers(rt: HostRuntime) -> Result<(), Fail> {
     let refusal = MakeError(7u8, GrowError::Memory);
     assert!(rt; display(rt.alloc(), &refusal)?.as_str() == "out of memory");
-    let fault = || io::Error::from(ErrorKind::Other);
-    let error = IntoInnerError(7u8, fault());
+    let error = IntoInnerError(7u8, other());
     assert!(rt; error.error().kind() == ErrorKind::Other);
-    let text = display(rt.alloc(), &error)?;
-    assert!(rt; text.as_str() == display(rt.alloc(), &fault())?.as_str());
-    assert!(rt; !debug(rt.alloc(), &error)?.is_empty());
+    assert!(rt; shows_other(rt.alloc(), &error)?);
     assert!(rt; error.into_inner() == 7);
-    let turned = io::Error::from(IntoInnerError(7u8, fault()));
+    let turned = io::Error::from(IntoInnerError(7u8, other()));
     assert!(rt; turned.kind() == ErrorKind::Other);
     Ok(())
 }
