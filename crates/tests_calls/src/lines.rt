@@ -7,7 +7,7 @@ use std::io;
 use std::io::{ErrorKind, Write};
 use std::test::Fail;
 use tests_common::{
-    Target, debug, first, flush, kind, line_writer, taken_lines, target, write, write_all,
+    Target, debug, first, flush, line_writer, taken_lines, target, write, write_all,
 };
 
 const ALL: [u8; 9] = [0, 1, 0, 10, 1, 10, 2, 3, 10];
@@ -26,21 +26,6 @@ fn made<W: TellWrite>(alloc: Global, inner: W) -> Result<LineWriter<W>, MakeErro
     LineWriter::new(alloc, inner)
 }
 
-// A writer of lines as it is made by default.
-fn default(alloc: Global) -> Result<LineWriter<Target>, Fail> {
-    Ok(made(alloc, target(alloc, &[])?)?)
-}
-
-// One over a buffer of this capacity that holds these bytes, whose target answers so.
-fn made_of(
-    alloc: Global,
-    capacity: usize,
-    held: &[u8],
-    script: &[Answer],
-) -> Result<LineWriter<Target>, Fail> {
-    Ok(line_writer(alloc, capacity, held, target(alloc, script)?)?)
-}
-
 fn put<W: Write>(wrt: &mut W, bytes: &[u8]) -> io::Result<()> {
     if bytes.is_empty() {
         flush(wrt)
@@ -57,7 +42,7 @@ fn is_so(lines: &mut LineWriter<Target>, bytes: &[u8], count: usize) -> io::Resu
 
 #[test]
 fn writes_lines(rt: HostRuntime) -> Result<(), Fail> {
-    let mut lines = default(rt.alloc())?;
+    let mut lines = made(rt.alloc(), target(rt.alloc(), &[])?)?;
     for &(bytes, count) in &STEPS {
         assert!(rt; is_so(&mut lines, bytes, count)?, "{count}");
     }
@@ -69,24 +54,23 @@ fn left<W: TellWrite + Drop>(lines: LineWriter<W>) -> Buffer {
     buf
 }
 
-// What the write of a line and more returns, and what the target then has.
-fn writes_a_line(lines: &mut LineWriter<Target>) -> (Result<usize, ErrorKind>, &[u8]) {
-    let count = kind(write(lines, b"ab\ncd"));
-    (count, taken_lines(lines))
+static FAULTS: [Answer; 2] = [Answer::Serve(2), Answer::Fail(ErrorKind::Other)];
+
+fn breaks_off(lines: &mut LineWriter<Target>) -> io::Result<bool> {
+    Ok(write(lines, b"ab\ncd")? == 5 && taken_lines(lines) == b"ab".as_slice())
 }
 
 // The fault of the last flush is forgotten.
 #[test]
 fn writes_before_a_fault(rt: HostRuntime) -> Result<(), Fail> {
-    let faults = [Answer::Serve(2), Answer::Fail(ErrorKind::Other)];
-    let mut lines = made_of(rt.alloc(), 8, &[], &faults)?;
-    assert!(rt; writes_a_line(&mut lines) == (Ok(5), b"ab".as_slice()));
+    let mut lines = line_writer(rt.alloc(), 8, &[], target(rt.alloc(), &FAULTS)?)?;
+    assert!(rt; breaks_off(&mut lines)?);
     assert!(rt; left(lines).buf() == b"\ncd".as_slice());
     Ok(())
 }
 
 fn shown(alloc: Global) -> Result<String, Fail> {
-    let lines = made_of(alloc, 4, b"a\nb", &[])?;
+    let lines = line_writer(alloc, 4, b"a\nb", target(alloc, &[])?)?;
     Ok(debug(alloc, &lines)?)
 }
 

@@ -1,12 +1,12 @@
 //! Readers and writers that seek.
 use crate::unwrapping::unwrapped;
 use buffer_redux::script::{Answer, FaultAt};
-use buffer_redux::tell::{Tell, TellBufRead, TellRead, TellSeek, Told};
+use buffer_redux::tell::{Tell, TellBufRead, TellRead, TellSeek, TellWrite, Told};
 use buffer_redux::{BufReader, BufWriter, Buffer, GrowError, seek_plan};
 use std::alloc::{AllocError, Global};
 use std::io;
 use std::io::SeekFrom::{Current, End, Start};
-use std::io::{BufRead, Cursor, ErrorKind, Read, Seek, SeekFrom, Write};
+use std::io::{Cursor, ErrorKind, Read, Seek, SeekFrom};
 use std::test::Fail;
 use tests_common::{
     Positions, consume, debug, empty, fill_buf, kind, reader, seek, write_all, writer,
@@ -55,7 +55,7 @@ enum Step {
 }
 
 // Whether a step comes to what it says.
-fn is_so<R: BufRead + Seek>(rdr: &mut R, step: &Step) -> bool {
+fn is_so<R: TellRead + TellSeek>(rdr: &mut BufReader<R>, step: &Step) -> bool {
     match *step {
         Step::Seek(to, answer) => kind(seek(rdr, to)) == answer,
         Step::Fill(shown) => kind(fill_buf(rdr)) == Ok(shown),
@@ -67,7 +67,7 @@ fn is_so<R: BufRead + Seek>(rdr: &mut R, step: &Step) -> bool {
 }
 
 // Whether all steps do.
-fn walks<R: BufRead + Seek>(rdr: &mut R, steps: &[Step]) -> bool {
+fn walks<R: TellRead + TellSeek>(rdr: &mut BufReader<R>, steps: &[Step]) -> bool {
     for step in steps {
         if !is_so(rdr, step) {
             return false;
@@ -110,24 +110,14 @@ pub(crate) fn reader_over<R: Tell + Drop>(buf: Buffer, inner: R) -> BufReader<R>
     BufReader::with_buffer(buf, inner)
 }
 
-fn over_text(alloc: Global, ring: bool, capacity: usize) -> Result<BufReader<Text>, GrowError> {
-    Ok(reader_over(empty(alloc, ring, capacity)?, text()))
-}
-
-fn walks_in_text(
-    alloc: Global,
-    ring: bool,
-    capacity: usize,
-    steps: &[Step],
-) -> Result<bool, GrowError> {
-    let mut rdr = over_text(alloc, ring, capacity)?;
-    Ok(walks(&mut rdr, steps))
+fn walks_in_text(buf: Buffer, steps: &[Step]) -> bool {
+    walks(&mut reader_over(buf, text()), steps)
 }
 
 #[test]
 fn in_a_cursor(rt: HostRuntime) -> Result<(), Fail> {
-    assert!(rt; walks_in_text(rt.alloc(), false, 2, &PLAIN)?);
-    assert!(rt; walks_in_text(rt.alloc(), true, 8192, &RING)?);
+    assert!(rt; walks_in_text(empty(rt.alloc(), false, 2)?, &PLAIN));
+    assert!(rt; walks_in_text(empty(rt.alloc(), true, 8192)?, &RING));
     Ok(())
 }
 
@@ -135,26 +125,21 @@ fn in_a_cursor(rt: HostRuntime) -> Result<(), Fail> {
 type Nested = BufReader<Told<BufReader<Text>>>;
 
 fn nested(alloc: Global) -> Result<Nested, GrowError> {
-    reader(alloc, 2, &[], Told::new(over_text(alloc, false, 5)?))
+    reader(alloc, 2, &[], Told::new(reader(alloc, 5, &[], text())?))
 }
 
-// A seek and a fill by the calls that tell.
-fn goes_and_tells<R: TellBufRead + TellSeek>(
-    rdr: &mut R,
-    to: SeekFrom,
-) -> io::Result<(u64, &[u8])> {
-    let at = rdr.seek_told(to)?;
-    Ok((at, rdr.fill_told()?))
+fn inside<R: TellRead>(rdr: BufReader<Told<BufReader<R>>>) -> BufReader<R> {
+    rdr.into_inner().into_inner()
+}
+
+// A seek and a fill by the calls that tell, behind which a reader shows these bytes.
+fn goes_on<R: TellBufRead + TellSeek>(rdr: &mut R, to: u64, shown: &[u8]) -> io::Result<bool> {
+    Ok(rdr.seek_told(Start(to))? == to && rdr.fill_told()? == shown)
 }
 
 // Whether the reader inside holds what it read, and goes on.
-fn goes_on_inside<R: TellRead + TellSeek + Drop>(
-    rdr: BufReader<Told<BufReader<R>>>,
-) -> io::Result<bool> {
-    let mut inner = rdr.into_inner().into_inner();
-    let holds = inner.buffer() == [1, 2, 3].as_slice();
-    let came = goes_and_tells(&mut inner, Start(6))?;
-    Ok(holds && came == (6, [3, 4].as_slice()))
+fn goes_on_inside<R: TellRead + TellSeek>(rdr: &mut BufReader<R>) -> io::Result<bool> {
+    Ok(rdr.buffer() == [1, 2, 3].as_slice() && goes_on(rdr, 6, &[3, 4])?)
 }
 
 static OUTSIDE: [Step; 6] = [
@@ -171,7 +156,7 @@ static OUTSIDE: [Step; 6] = [
 fn in_a_reader(rt: HostRuntime) -> Result<(), Fail> {
     let mut rdr = nested(rt.alloc())?;
     assert!(rt; walks(&mut rdr, &OUTSIDE));
-    assert!(rt; goes_on_inside(rdr)?);
+    assert!(rt; goes_on_inside(&mut inside(rdr))?);
     Ok(())
 }
 
@@ -289,13 +274,13 @@ fn content(wrt: &BufWriter<Place>) -> (&[u8], usize, usize) {
     (in_place(inner), inner.get_ref().calls(), wrt.buf_len())
 }
 
-fn writes<W: Write + Seek>(wrt: &mut W) -> io::Result<u64> {
+fn writes<W: TellWrite + TellSeek>(wrt: &mut BufWriter<W>) -> io::Result<u64> {
     write_all(wrt, &[0, 1, 2, 3, 4, 5])?;
     write_all(wrt, &[6, 7].as_slice())?;
     seek(wrt, Current(0))
 }
 
-fn writes_between<W: Write + Seek>(wrt: &mut W) -> io::Result<u64> {
+fn writes_between<W: TellWrite + TellSeek>(wrt: &mut BufWriter<W>) -> io::Result<u64> {
     let at = seek(wrt, Start(2))?;
     write_all(wrt, &[8, 9])?;
     Ok(at)
@@ -331,10 +316,14 @@ static IN_VAIN: [Vain; 4] = [
     (0, Err(ErrorKind::BrokenPipe), &[], 1),
 ];
 
+fn seeks_to_five<W: TellWrite + TellSeek>(wrt: &mut BufWriter<W>) -> Result<u64, ErrorKind> {
+    kind(seek(wrt, Start(5)))
+}
+
 fn is_vain(wrt: &mut BufWriter<Place>, row: &Vain) -> bool {
     let &(_, answer, held, calls) = row;
     let left = 3usize.saturating_sub(held.len());
-    kind(seek(wrt, Start(5))) == answer && content(wrt) == (held, calls, left)
+    seeks_to_five(wrt) == answer && content(wrt) == (held, calls, left)
 }
 
 fn seeks_in_vain(alloc: Global, row: &Vain) -> Result<bool, GrowError> {
