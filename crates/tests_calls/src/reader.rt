@@ -19,17 +19,13 @@ pub(crate) fn of_four(
     Ok(reader(alloc, 4, held, source)?)
 }
 
-fn of_two(alloc: Global) -> Result<BufReader<Source, MinBuffered>, Fail> {
-    Ok(reader_under(of_four(alloc, &[1], &[2], &[])?, MinBuffered(2)))
-}
-
 fn into_inner<R: Tell, P: Drop>(rdr: BufReader<R, P>) -> R {
     rdr.into_inner()
 }
 
 // What a reader shows, and how many bytes the source then gave.
 fn shown(alloc: Global) -> Result<(String, usize), Fail> {
-    let rdr = of_two(alloc)?;
+    let rdr = reader_under(of_four(alloc, &[1], &[2], &[])?, MinBuffered(2));
     let text = debug(alloc, &rdr)?;
     Ok((text, into_inner(rdr).get_ref().served()))
 }

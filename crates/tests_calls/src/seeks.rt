@@ -122,13 +122,13 @@ fn in_a_cursor(rt: HostRuntime) -> Result<(), Fail> {
 }
 
 // A reader over a reader.
-type Nested = BufReader<Told<BufReader<Text>>>;
+type Nested<R> = BufReader<Told<BufReader<R>>>;
 
-fn nested(alloc: Global) -> Result<Nested, GrowError> {
+fn nested(alloc: Global) -> Result<Nested<Text>, GrowError> {
     reader(alloc, 2, &[], Told::new(reader(alloc, 5, &[], text())?))
 }
 
-fn inside<R: TellRead>(rdr: BufReader<Told<BufReader<R>>>) -> BufReader<R> {
+fn inside<R: TellRead>(rdr: Nested<R>) -> BufReader<R> {
     rdr.into_inner().into_inner()
 }
 
@@ -137,9 +137,13 @@ fn goes_on<R: TellBufRead + TellSeek>(rdr: &mut R, to: u64, shown: &[u8]) -> io:
     Ok(rdr.seek_told(Start(to))? == to && rdr.fill_told()? == shown)
 }
 
-// Whether the reader inside holds what it read, and goes on.
-fn goes_on_inside<R: TellRead + TellSeek>(rdr: &mut BufReader<R>) -> io::Result<bool> {
+fn is_left<R: TellRead + TellSeek>(rdr: &mut BufReader<R>) -> io::Result<bool> {
     Ok(rdr.buffer() == [1, 2, 3].as_slice() && goes_on(rdr, 6, &[3, 4])?)
+}
+
+// Whether the reader inside holds what it read, and goes on.
+fn goes_on_inside<R: TellRead + TellSeek + Drop>(rdr: Nested<R>) -> io::Result<bool> {
+    is_left(&mut inside(rdr))
 }
 
 static OUTSIDE: [Step; 6] = [
@@ -156,7 +160,7 @@ static OUTSIDE: [Step; 6] = [
 fn in_a_reader(rt: HostRuntime) -> Result<(), Fail> {
     let mut rdr = nested(rt.alloc())?;
     assert!(rt; walks(&mut rdr, &OUTSIDE));
-    assert!(rt; goes_on_inside(&mut inside(rdr))?);
+    assert!(rt; goes_on_inside(rdr)?);
     Ok(())
 }
 
@@ -183,17 +187,6 @@ impl Seek for Noting {
         }
         self.stream.seek(to)
     }
-}
-
-type Noted = BufReader<Told<Noting>>;
-
-fn over_positions(alloc: Global, before_fault: usize) -> Result<Noted, GrowError> {
-    let inner = Noting {
-        stream: Positions { at: 0 },
-        targets: Vec::new(alloc),
-        before_fault,
-    };
-    reader(alloc, 5, &[], Told::new(inner))
 }
 
 // How many seeks come before the one that fails, the steps over a buffer of capacity 5, where the stream was asked to go, and
@@ -230,7 +223,7 @@ static ROWS: [Row; 5] = [
 ];
 
 // Whether a reader goes as its row says.
-fn goes(rdr: &mut Noted, row: &Row) -> bool {
+fn goes(rdr: &mut BufReader<Told<Noting>>, row: &Row) -> bool {
     let &(_, steps, targets, left) = row;
     walks(rdr, steps)
         && rdr.get_ref().get_ref().targets.as_slice() == targets
@@ -238,7 +231,12 @@ fn goes(rdr: &mut Noted, row: &Row) -> bool {
 }
 
 fn goes_in_positions(alloc: Global, row: &Row) -> Result<bool, GrowError> {
-    let mut rdr = over_positions(alloc, row.0)?;
+    let inner = Noting {
+        stream: Positions { at: 0 },
+        targets: Vec::new(alloc),
+        before_fault: row.0,
+    };
+    let mut rdr = reader(alloc, 5, &[], Told::new(inner))?;
     Ok(goes(&mut rdr, row))
 }
 

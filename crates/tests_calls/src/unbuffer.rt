@@ -86,8 +86,7 @@ fn is_read(mut rdr: Unbuffer<Source>, row: &Row) -> bool {
 
 fn reads(alloc: Global, row: &Row) -> Result<bool, Fail> {
     let &(held, bytes, script, _, _) = row;
-    let rdr = of_four(alloc, held, bytes, script)?;
-    Ok(is_read(unbuffered(rdr), row))
+    Ok(is_read(unbuffered(of_four(alloc, held, bytes, script)?), row))
 }
 
 #[test]

@@ -226,21 +226,21 @@ fn held(buf: &Option<Buffer>) -> Held<'_> {
     }
 }
 
-// Whether a writer over this stream, or one of lines, comes apart as its row says.
-fn is_so(alloc: Global, lines: bool, stream: &mut ScriptWriter, row: &Row) -> Result<bool, Fail> {
-    let &(way, fault, left, taken, calls) = row;
-    let drops = Cell::new(0);
-    let (seen, buf, before) = taken_apart(alloc, lines, way, stream, &drops)?;
-    let asked = (stream.offers().len(), stream.flushes());
-    Ok(
-        (seen, held(&buf), before, drops.get()) == (fault, left, 0, 1)
-            && (stream.taken(), asked) == (taken, calls),
-    )
+// Whether what comes back, and what the stream took, is what a row says.
+fn is_so(row: &Row, seen: &Seen, stream: &ScriptWriter) -> bool {
+    let &(_, fault, left, taken, calls) = row;
+    let (came, buf, before) = seen;
+    (*came, held(buf), *before) == (fault, left, 0)
+        && stream.taken() == taken
+        && (stream.offers().len(), stream.flushes()) == calls
 }
 
+// Whether a writer, or one of lines, over a stream that answers so comes apart as its row says.
 fn comes_apart(alloc: Global, lines: bool, script: &[Answer], row: &Row) -> Result<bool, Fail> {
     let mut stream = ScriptWriter::new(alloc, script)?;
-    is_so(alloc, lines, &mut stream, row)
+    let drops = Cell::new(0);
+    let seen = taken_apart(alloc, lines, row.0, &mut stream, &drops)?;
+    Ok(is_so(row, &seen, &stream) && drops.get() == 1)
 }
 
 // Whether each row does, for either kind of writer.
