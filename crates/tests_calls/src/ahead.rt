@@ -1,13 +1,12 @@
 //! What a plain buffer moves under a policy that looks ahead, told by where its bytes stand.
 use buffer_redux::policy::{DoRead, MinBuffered, ReaderPolicy};
 use buffer_redux::tell::{Tell, TellRead, TellSeek, Told};
-use buffer_redux::{BufReader, Buffer};
+use buffer_redux::{BufReader, Buffer, GrowError};
 use redux_play::laws;
 use redux_play::play::{ReaderCall, ReaderRun};
-use std::alloc::Global;
+use std::alloc::{AllocError, Global};
 use std::io;
-use std::io::SeekFrom;
-use std::process::Abort;
+use std::io::{BufRead, SeekFrom};
 use std::test::Fail;
 use tests_common::{
     Positions, Source, asked, consume, fill_buf, first, reader, reader_under, source,
@@ -49,11 +48,11 @@ type Weighed = BufReader<Source, Weighing>;
 
 // A reader of these bytes over an empty buffer of this capacity.
 fn weighed(alloc: Global, capacity: usize, bytes: &[u8]) -> Result<Weighed, Fail> {
+    let rdr = reader(alloc, capacity, &[], source(alloc, bytes, &[])?)?;
     let policy = Weighing {
         inner: MinBuffered(0),
         moved: 0,
     };
-    let rdr = reader(alloc, capacity, &[], source(alloc, bytes, &[])?)?;
     Ok(reader_under(rdr, policy))
 }
 
@@ -75,14 +74,36 @@ fn seen(rdr: &Weighed) -> (usize, usize, usize) {
 // then, the capacity is this, and the source was asked so often.
 type Step = [usize; 7];
 
-fn walks(rt: &impl Abort, rdr: &mut Weighed, steps: &[Step]) -> Result<(), Fail> {
-    for &[consumed, min, from, to, moved, capacity, asks] in steps {
-        consume(rdr, consumed);
-        set_min(rdr, min);
-        assert!(rt; fill_buf(rdr)? == between(from, to));
-        assert!(rt; seen(rdr) == (moved, capacity, asks));
+// Whether a fill shows these bytes.
+pub(crate) fn shows<R: BufRead>(rdr: &mut R, bytes: &[u8]) -> io::Result<bool> {
+    Ok(fill_buf(rdr)? == bytes)
+}
+
+// The same of a reader that is dropped then.
+pub(crate) fn shows_at_once<R: BufRead + Drop>(mut rdr: R, bytes: &[u8]) -> io::Result<bool> {
+    shows(&mut rdr, bytes)
+}
+
+fn takes_step<R: TellRead>(rdr: &mut BufReader<R, Weighing>, step: &Step) -> io::Result<bool> {
+    let &[consumed, min, from, to, ..] = step;
+    consume(rdr, consumed);
+    set_min(rdr, min);
+    shows(rdr, between(from, to))
+}
+
+// Whether each step comes to what it says.
+fn takes_steps(rdr: &mut Weighed, steps: &[Step]) -> io::Result<bool> {
+    for step in steps {
+        let &[.., moved, capacity, asks] = step;
+        if !takes_step(rdr, step)? || seen(rdr) != (moved, capacity, asks) {
+            return Ok(false);
+        }
     }
-    Ok(())
+    Ok(true)
+}
+
+fn walks(mut rdr: Weighed, steps: &[Step]) -> io::Result<bool> {
+    takes_steps(&mut rdr, steps)
 }
 
 // A capacity of three times the minimum: of 30 bytes that were given 9 are moved.
@@ -142,8 +163,8 @@ fn moves(rt: HostRuntime) -> Result<(), Fail> {
         (0, 20, &GREATER),
     ];
     for (capacity, count, steps) in rows {
-        let mut rdr = weighed(rt.alloc(), capacity, first(&BYTES, count))?;
-        walks(&rt, &mut rdr, steps)?;
+        let rdr = weighed(rt.alloc(), capacity, first(&BYTES, count))?;
+        assert!(rt; walks(rdr, steps)?, "{capacity}");
     }
     Ok(())
 }
@@ -161,23 +182,41 @@ const HANDED: [u8; 23] = [
     0, 1, 2, 3, 4, 10, 11, 12, 13, 14, 15, 16, 17, 18, 19, 20, 21, 22, 23, 24, 25, 26, 27,
 ];
 
-// What two runs hand out, with another minimum, a growth and a seek between them.
-fn two_runs<R: TellRead + TellSeek>(
+fn plays<R: TellRead>(
     alloc: Global,
     rdr: &mut BufReader<R, MinBuffered>,
-) -> io::Result<Vec<u8>> {
+    calls: &[ReaderCall],
+    run: &mut ReaderRun,
+) -> Result<(), AllocError> {
+    laws::play_sparing(alloc, rdr, calls, run)
+}
+
+// Whether two runs hand out these bytes, with another minimum, a growth and a seek between them.
+fn plays_twice<R: TellRead + TellSeek>(
+    alloc: Global,
+    rdr: &mut BufReader<R, MinBuffered>,
+) -> io::Result<bool> {
     let mut run = ReaderRun::new(alloc);
-    laws::play_sparing(alloc, rdr, &BEFORE, &mut run)?;
+    plays(alloc, rdr, &BEFORE, &mut run)?;
     laws::spare_between(rdr, 2, 6, SeekFrom::Start(10))?;
-    laws::play_sparing(alloc, rdr, &AFTER, &mut run)?;
-    Ok(run.handed)
+    plays(alloc, rdr, &AFTER, &mut run)?;
+    Ok(run.handed.as_slice() == HANDED.as_slice())
+}
+
+fn two_runs<R: TellRead + TellSeek + Drop>(
+    alloc: Global,
+    mut rdr: BufReader<R, MinBuffered>,
+) -> io::Result<bool> {
+    plays_twice(alloc, &mut rdr)
+}
+
+fn positions(alloc: Global) -> Result<BufReader<Told<Positions>, MinBuffered>, GrowError> {
+    let rdr = reader(alloc, 12, &[], Told::new(Positions { at: 0 }))?;
+    Ok(reader_under(rdr, MinBuffered(4)))
 }
 
 #[test]
 fn by_law(rt: HostRuntime) -> Result<(), Fail> {
-    let inner = Told::new(Positions { at: 0 });
-    let mut rdr = reader_under(reader(rt.alloc(), 12, &[], inner)?, MinBuffered(4));
-    let handed = two_runs(rt.alloc(), &mut rdr)?;
-    assert!(rt; handed.as_slice() == HANDED.as_slice());
+    assert!(rt; two_runs(rt.alloc(), positions(rt.alloc())?)?);
     Ok(())
 }

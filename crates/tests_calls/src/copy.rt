@@ -1,14 +1,12 @@
 //! Copying, by worked examples.
-use crate::seeks::reader_over;
 use buffer_redux::script::Answer;
 use buffer_redux::tell::{Tell, TellBufRead, TellWrite};
-use buffer_redux::{BufReader, copy_buf};
+use buffer_redux::{BufReader, LineWriter, copy_buf};
 use std::alloc::Global;
 use std::io;
 use std::io::ErrorKind;
-use std::process::Abort;
 use std::test::Fail;
-use tests_common::{Target, empty, kind, line_writer, reader, source, taken_lines, target};
+use tests_common::{Source, Target, empty, kind, line_writer, reader, source, taken_lines, target};
 
 // What the reader gives by which script, the script of the writer, what copying returns, what the writer received, what
 // is left in the reader, and the offers that the writer saw last.
@@ -73,32 +71,32 @@ fn left<R: Tell>(rdr: &BufReader<R>) -> &[u8] {
     rdr.buffer()
 }
 
-// What the target took, by which offers, and how often it was flushed.
-fn took(to: &Target) -> (&[u8], &[usize], usize) {
+type Reader = BufReader<Source>;
+
+// Whether a copy comes to what the row says.
+fn is_so(from: &mut Reader, to: &mut Target, row: &Row) -> bool {
+    let &(_, _, _, answer, received, rest, offers) = row;
+    let copied = copied(from, to);
     let to = to.get_ref();
-    (to.taken(), to.offers(), to.flushes())
+    let is_offered = offers.is_empty() || to.offers() == offers;
+    is_offered && (copied, left(from), to.taken(), to.flushes()) == (answer, rest, received, 0)
 }
 
-// Copies by a row.
-fn copies(rt: &impl Abort, alloc: Global, row: &Row) -> Result<(), Fail> {
-    let &(bytes, script, answers, answer, received, rest, offers) = row;
-    let mut to = target(alloc, answers)?;
-    let mut from = reader(alloc, 4, &[], source(alloc, bytes, script)?)?;
-    assert!(rt; copied(&mut from, &mut to) == answer);
-    assert!(rt; left(&from) == rest);
-    let (taken, offered, flushes) = took(&to);
-    assert!(rt; (taken, flushes) == (received, 0));
-    assert!(rt; offers.is_empty() || offered == offers);
-    Ok(())
+fn copies(mut from: Reader, mut to: Target, row: &Row) -> bool {
+    is_so(&mut from, &mut to, row)
+}
+
+fn of_row(alloc: Global, row: &Row) -> Result<Reader, Fail> {
+    Ok(reader(alloc, 4, &[], source(alloc, row.0, row.1)?)?)
 }
 
 #[test]
 fn copies_by_rows(rt: HostRuntime) -> Result<(), Fail> {
-    for row in &ALL {
-        copies(&rt, rt.alloc(), row)?;
-    }
-    for row in &LESS {
-        copies(&rt, rt.alloc(), row)?;
+    for rows in [&ALL, &LESS] {
+        for row in rows {
+            let to = target(rt.alloc(), row.2)?;
+            assert!(rt; copies(of_row(rt.alloc(), row)?, to, row));
+        }
     }
     Ok(())
 }
@@ -107,16 +105,29 @@ fn flush_told<W: TellWrite>(to: &mut W) -> io::Result<()> {
     to.flush_told()
 }
 
+// Whether lines go over at once, and what is no line by a flush.
+fn sends_lines<R: TellBufRead>(from: &mut R, to: &mut LineWriter<Target>) -> bool {
+    let copied = copied(from, to);
+    let are_sent = (copied, taken_lines(to)) == (Ok(13), b"one\ntwo\n".as_slice());
+    let is_flushed = flush_told(to).is_ok();
+    let inner = to.get_ref().get_ref();
+    let sent = (inner.taken(), inner.flushes());
+    are_sent && is_flushed && sent == (b"one\ntwo\nthree".as_slice(), 1)
+}
+
+fn copies_lines(mut from: Reader, mut to: LineWriter<Target>) -> bool {
+    sends_lines(&mut from, &mut to)
+}
+
+fn of_ring(alloc: Global) -> Result<Reader, Fail> {
+    let inner = source(alloc, b"one\ntwo\nthree", &[Answer::ServeEach(2)])?;
+    Ok(BufReader::with_buffer(empty(alloc, true, 64)?, inner))
+}
+
 // From a ring into a writer that looks at the bytes, and keeps what is no line until it is flushed.
 #[test]
 fn lines(rt: HostRuntime) -> Result<(), Fail> {
-    let inner = source(rt.alloc(), b"one\ntwo\nthree", &[Answer::ServeEach(2)])?;
-    let mut from = reader_over(empty(rt.alloc(), true, 64)?, inner);
-    let mut to = line_writer(rt.alloc(), 8, &[], target(rt.alloc(), &[])?)?;
-    assert!(rt; copied(&mut from, &mut to) == Ok(13));
-    assert!(rt; taken_lines(&to) == b"one\ntwo\n".as_slice());
-    flush_told(&mut to)?;
-    assert!(rt; taken_lines(&to) == b"one\ntwo\nthree".as_slice());
-    assert!(rt; to.get_ref().get_ref().flushes() == 1);
+    let to = line_writer(rt.alloc(), 8, &[], target(rt.alloc(), &[])?)?;
+    assert!(rt; copies_lines(of_ring(rt.alloc())?, to));
     Ok(())
 }

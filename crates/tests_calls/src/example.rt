@@ -5,9 +5,10 @@ ghost use Rattle.buffer_redux.specs.BufWriter.{WritesInOrder};
 ghost use Rattle.buffer_redux.specs.Policy.{any_read_rules, no_read_claims};
 ghost use Rattle.buffer_redux.specs.ReaderLaws.{WantsBytes};
 
+use crate::ahead::{shows, shows_at_once};
 use buffer_redux::policy::{DoRead, MinBuffered, ReaderPolicy, WriterPolicy};
 use buffer_redux::tell::{TellRead, TellWrite, Told};
-use buffer_redux::{BufReader, BufWriter, Buffer};
+use buffer_redux::{BufReader, BufWriter, Buffer, GrowError};
 use std::alloc::Global;
 use std::io;
 use std::io::{BufRead, ErrorKind, Read, Write};
@@ -24,17 +25,17 @@ fn log<W: TellWrite, P: WriterPolicy>(writer: &mut BufWriter<W, P>, entry: &[u8]
     writer.flush()
 }
 
-fn logs<W: TellWrite>(writer: &mut BufWriter<W>, entry: &[u8]) -> io::Result<usize> {
-    log(writer, entry)?;
+// How many bytes stay buffered.
+fn logs<W: TellWrite + Drop>(alloc: Global, to: W) -> io::Result<usize> {
+    let mut writer = writer(alloc, 4, b"ab", to)?;
+    log(&mut writer, b"cdefg\n")?;
     Ok(writer.buf_len())
 }
 
 #[test]
 fn logs_an_entry(rt: HostRuntime) -> Result<(), Fail> {
     let mut device = Vec::new(rt.alloc());
-    let mut writer = writer(rt.alloc(), 4, b"ab", Told::new(&mut device))?;
-    assert!(rt; logs(&mut writer, b"cdefg\n")? == 0);
-    drop(writer);
+    assert!(rt; logs(rt.alloc(), Told::new(&mut device))? == 0);
     assert!(rt; device.as_slice() == b"abcdefg\n".as_slice());
     Ok(())
 }
@@ -77,12 +78,14 @@ fn drains<R: TellRead>(reader: &mut BufReader<R>) -> io::Result<usize> {
     Ok(reader.buf_len())
 }
 
+fn drained<R: TellRead + Drop>(alloc: Global, from: R) -> io::Result<usize> {
+    drains(&mut reader(alloc, 4, b"12", from)?)
+}
+
 #[test]
 fn drains_a_reader(rt: HostRuntime) -> Result<(), Fail> {
     let mut source = b"abcdefg".as_slice();
-    let mut reader = reader(rt.alloc(), 4, b"12", Told::new(&mut source))?;
-    assert!(rt; drains(&mut reader)? == 0);
-    drop(reader);
+    assert!(rt; drained(rt.alloc(), Told::new(&mut source))? == 0);
     assert!(rt; source.is_empty());
     Ok(())
 }
@@ -138,45 +141,67 @@ fn sees_header<R: TellRead>(reader: &mut BufReader<R, LookAhead>) -> io::Result<
     Ok(reader.fill_buf()?.len() >= 16)
 }
 
-// Whether sixteen bytes are in sight, and whether they are once ten were consumed.
-fn sees<R: TellRead>(reader: &mut BufReader<R, LookAhead>) -> io::Result<(bool, bool)> {
+// Whether sixteen bytes are in sight, whether they are once ten were consumed, and whether a fill then shows the others.
+fn sees<R: TellRead>(reader: &mut BufReader<R, LookAhead>) -> io::Result<(bool, bool, bool)> {
     let seen = sees_header(reader)?;
     reader.consume(10);
-    Ok((seen, sees_header(reader)?))
+    let is_seen = sees_header(reader)?;
+    Ok((seen, is_seen, shows(reader, b"tes or more")?))
+}
+
+fn sees_ahead<R: TellRead + Drop>(
+    mut reader: BufReader<R, LookAhead>,
+) -> io::Result<(bool, bool, bool)> {
+    sees(&mut reader)
+}
+
+const TEXT: &'static [u8] = b"sixteen bytes or more";
+
+fn reader_of<P: ReaderPolicy + Drop>(
+    alloc: Global,
+    capacity: usize,
+    policy: P,
+) -> Result<BufReader<Told<&'static [u8]>, P>, GrowError> {
+    Ok(reader_under(reader(alloc, capacity, &[], Told::new(TEXT))?, policy))
 }
 
 #[test]
 fn sees_what_a_policy_keeps_in_sight(rt: HostRuntime) -> Result<(), Fail> {
-    let text = Told::new(b"sixteen bytes or more".as_slice());
-    let mut reader = reader_under(reader(rt.alloc(), 4, &[], text)?, LookAhead);
-    assert!(rt; sees(&mut reader)? == (true, false));
-    assert!(rt; fill_buf(&mut reader)? == b"tes or more".as_slice());
+    let reader = reader_of(rt.alloc(), 4, LookAhead)?;
+    assert!(rt; sees_ahead(reader)? == (true, false, true));
     Ok(())
 }
 
 #[test]
 fn reads_sparsely(rt: HostRuntime) -> Result<(), Fail> {
-    let text = b"sixteen bytes or more".as_slice();
-    let mut reader = reader_under(reader(rt.alloc(), 64, &[], Told::new(text))?, Sparse);
-    assert!(rt; fill_buf(&mut reader)? == text);
+    let reader = reader_of(rt.alloc(), 64, Sparse)?;
+    assert!(rt; shows_at_once(reader, TEXT)?);
     Ok(())
 }
 
-fn hands_on<R: TellRead, P: ReaderPolicy, W: TellWrite>(
+// How many bytes a fill shows, and how many are handed on.
+fn fills_and_hands_on<R: TellRead, P: ReaderPolicy, W: TellWrite>(
     from: &mut BufReader<R, P>,
     to: &mut BufWriter<W>,
-) -> io::Result<usize> {
-    hand_on(from, to)
+) -> io::Result<(usize, usize)> {
+    let shown = fill_buf(from)?.len();
+    Ok((shown, hand_on(from, to)?))
+}
+
+fn hands_on<R: TellRead + Drop, P: ReaderPolicy + Drop, W: TellWrite + Drop>(
+    alloc: Global,
+    mut from: BufReader<R, P>,
+    to: W,
+) -> io::Result<(usize, usize)> {
+    let mut to = writer(alloc, 3, &[], to)?;
+    fills_and_hands_on(&mut from, &mut to)
 }
 
 #[test]
 fn hands_on_what_is_buffered(rt: HostRuntime) -> Result<(), Fail> {
     let mut sink = Vec::new(rt.alloc());
-    let mut writer = writer(rt.alloc(), 3, &[], Told::new(&mut sink))?;
-    let mut reader = look_ahead(rt.alloc(), b"hello".as_slice(), 5)?;
-    assert!(rt; fill_buf(&mut reader)?.len() == 5);
-    assert!(rt; hands_on(&mut reader, &mut writer)? == 5);
-    drop(writer);
+    let reader = look_ahead(rt.alloc(), b"hello".as_slice(), 5)?;
+    assert!(rt; hands_on(rt.alloc(), reader, Told::new(&mut sink))? == (5, 5));
     assert!(rt; sink.as_slice() == b"hello".as_slice());
     Ok(())
 }

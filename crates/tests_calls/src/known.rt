@@ -6,33 +6,19 @@ ghost use Rattle.buffer_redux.specs.Told.{told_stream};
 ghost use Rattle.buffer_redux.specs.Copy.{ReceivesAll};
 ghost use Rattle.buffer_redux.specs.WriterTells.{writer_log};
 
+use crate::ahead::shows;
 use buffer_redux::tell::Told;
 use buffer_redux::{BufReader, BufWriter, GrowError, Unbuffer};
 use redux_play::laws;
 use std::alloc::Global;
 use std::io;
 use std::io::{BufRead, Cursor, Read, Seek, Write};
-use std::process::Abort;
 use std::test::Fail;
-use tests_common::{consume, fill_buf, flush, reader, writer};
+use tests_common::{consume, flush, reader, writer};
 
 type Bytes<'a> = BufReader<Told<&'a [u8]>>;
 
 type Text<'a> = BufReader<Told<Cursor<&'a [u8]>>>;
-
-// All of a source, through a buffer of either kind.
-fn read_whole(alloc: Global, ring: bool, source: &[u8]) -> Result<Vec<u8>, Fail>
-    ensures { IfOk result (λ all. vec_items all ≡ source.now) }
-{
-    let mut reader = if ring {
-        BufReader::new_ringbuf(alloc, Told::new(source))?
-    } else {
-        BufReader::new(alloc, Told::new(source))?
-    };
-    let mut all = Vec::new(alloc);
-    reader.read_to_end(&mut all)?;
-    Ok(all)
-}
 
 // All that is left: what is buffered, and then the slice.
 fn read_rest(reader: &mut Bytes<'_>, into: &mut Vec<u8>) -> io::Result<usize>
@@ -48,6 +34,28 @@ fn read_unbuffered(reader: &mut Unbuffer<Told<&[u8]>>, into: &mut Vec<u8>) -> io
         ≡ vec_items into.old ++ (reader.old.left ++ (told_stream reader.old.inner).now)) }
 {
     reader.read_to_end(into)
+}
+
+// All that is left of a reader, in a `Vec` of its own.
+fn rest_of(alloc: Global, mut reader: Bytes<'_>) -> io::Result<Vec<u8>>
+    ensures { 0 < reader.entry.block.capacity → IfOk result (λ all. vec_items all
+        ≡ reader.entry.block.bytes ++ (told_stream reader.entry.inner).now) }
+{
+    let mut all = Vec::new(alloc);
+    read_rest(&mut reader, &mut all)?;
+    Ok(all)
+}
+
+// All of a source, through a buffer of either kind.
+fn read_whole(alloc: Global, ring: bool, source: &[u8]) -> io::Result<Vec<u8>>
+    ensures { IfOk result (λ all. vec_items all ≡ source.now) }
+{
+    let reader = if ring {
+        BufReader::new_ringbuf(alloc, Told::new(source))?
+    } else {
+        BufReader::new(alloc, Told::new(source))?
+    };
+    rest_of(alloc, reader)
 }
 
 // The next line of a text with its line feed, and what is left behind it.
@@ -68,6 +76,13 @@ fn read_records(reader: &mut Bytes<'_>, first: &mut [u8], second: &mut [u8]) -> 
     reader.read_exact(second)
 }
 
+fn records_of(mut reader: Bytes<'_>, first: &mut [u8], second: &mut [u8]) -> io::Result<()>
+    ensures { 0 < reader.entry.block.capacity → OnOk result ((first.new ++ second.new)
+        ≡ take (length (first.new ++ second.new)) (reader.entry.block.bytes ++ (told_stream reader.entry.inner).now)) }
+{
+    read_records(&mut reader, first, second)
+}
+
 // Records that std wrote into a `Vec` come back as they were, as far as the slices go.
 fn round_trip(
     alloc: Global,
@@ -75,15 +90,13 @@ fn round_trip(
     second: &[u8],
     one: &mut [u8],
     two: &mut [u8],
-) -> Result<(), Fail>
+) -> io::Result<()>
     ensures { OnOk result ((one.new ++ two.new) ≡ take (length (one.new ++ two.new)) (first.now ++ second.now)) }
 {
     let mut held = Vec::new(alloc);
     held.write_all(first)?;
     held.write_all(second)?;
-    let mut reader = BufReader::new(alloc, Told::new(held.as_slice()))?;
-    read_records(&mut reader, one, two)?;
-    Ok(())
+    records_of(BufReader::new(alloc, Told::new(held.as_slice()))?, one, two)
 }
 
 // After the flush the inner writer received what was buffered, and then both records.
@@ -121,22 +134,37 @@ fn place(reader: &mut Text<'_>) -> io::Result<u64>
     reader.stream_position()
 }
 
+fn cursor(alloc: Global, text: &[u8]) -> Result<Text<'_>, GrowError> {
+    reader(alloc, 4, &[], Told::new(Cursor::new(text)))
+}
+
 const LINES: [&str; 5] = ["first\n", "\n", "a line that is longer\n", "last", ""];
 
-fn read_lines(rt: &impl Abort, alloc: Global, reader: &mut Text<'_>) -> Result<(), Fail> {
+// Whether the next line is this one.
+fn reads_line(alloc: Global, reader: &mut Text<'_>, want: &str) -> io::Result<bool> {
+    let mut line = String::new(alloc);
+    let count = next_line(reader, &mut line)?;
+    Ok(count == want.len() && line.as_str() == want)
+}
+
+fn reads_lines(alloc: Global, reader: &mut Text<'_>) -> io::Result<bool> {
     for want in LINES {
-        let mut line = String::new(alloc);
-        assert!(rt; next_line(reader, &mut line)? == want.len());
-        assert!(rt; line.as_str() == want);
+        if !reads_line(alloc, reader, want)? {
+            return Ok(false);
+        }
     }
-    Ok(())
+    Ok(true)
+}
+
+fn has_lines(alloc: Global, mut reader: Text<'_>) -> io::Result<bool> {
+    reads_lines(alloc, &mut reader)
 }
 
 #[test]
 fn lines_of_a_cursor(rt: HostRuntime) -> Result<(), Fail> {
-    let source = Cursor::new(b"first\n\na line that is longer\nlast".as_slice());
-    let mut reader = reader(rt.alloc(), 4, &[], Told::new(source))?;
-    read_lines(&rt, rt.alloc(), &mut reader)
+    let reader = cursor(rt.alloc(), b"first\n\na line that is longer\nlast")?;
+    assert!(rt; has_lines(rt.alloc(), reader)?);
+    Ok(())
 }
 
 #[test]
@@ -147,14 +175,31 @@ fn records_there_and_back(rt: HostRuntime) -> Result<(), Fail> {
     Ok(())
 }
 
+type Collector = BufWriter<Told<Vec<u8>>>;
+
+// A writer into a vector.
+fn collector(alloc: Global, held: &[u8]) -> Result<Collector, GrowError> {
+    writer(alloc, 4, held, Told::new(Vec::new(alloc)))
+}
+
+fn collected(writer: &Collector) -> &[u8] {
+    writer.get_ref().get_ref().as_slice()
+}
+
+fn writes_records(writer: &mut Collector) -> io::Result<bool> {
+    settle(writer)?;
+    put(writer, &[4, 5, 6, 7, 8], &[9])?;
+    Ok(collected(writer) == [1, 2, 3, 4, 5, 6, 7, 8, 9].as_slice())
+}
+
+fn collects_records(mut writer: Collector) -> io::Result<bool> {
+    writes_records(&mut writer)
+}
+
 #[test]
 fn records_into_a_vector(rt: HostRuntime) -> Result<(), Fail> {
-    let to = Told::new(Vec::new(rt.alloc()));
-    let mut writer = writer(rt.alloc(), 4, &[1, 2, 3], to)?;
-    settle(&mut writer)?;
-    put(&mut writer, &[4, 5, 6, 7, 8], &[9])?;
-    let held = writer.get_ref().get_ref().as_slice();
-    assert!(rt; held == [1, 2, 3, 4, 5, 6, 7, 8, 9].as_slice());
+    let writer = collector(rt.alloc(), &[1, 2, 3])?;
+    assert!(rt; collects_records(writer)?);
     Ok(())
 }
 
@@ -167,6 +212,8 @@ fn all_of_a_source(rt: HostRuntime) -> Result<(), Fail> {
     Ok(())
 }
 
+const ALL: &'static [u8] = b"ab\nthe rest";
+
 // One byte that is buffered, and a source behind it.
 fn begun(alloc: Global) -> Result<Bytes<'static>, GrowError> {
     reader(alloc, 4, b"a", Told::new(b"b\nthe rest".as_slice()))
@@ -174,35 +221,55 @@ fn begun(alloc: Global) -> Result<Bytes<'static>, GrowError> {
 
 #[test]
 fn all_that_is_left(rt: HostRuntime) -> Result<(), Fail> {
-    let mut all = Vec::new(rt.alloc());
-    read_rest(&mut begun(rt.alloc())?, &mut all)?;
-    assert!(rt; all.as_slice() == b"ab\nthe rest".as_slice());
+    let reader = begun(rt.alloc())?;
+    assert!(rt; rest_of(rt.alloc(), reader)?.as_slice() == ALL);
     Ok(())
+}
+
+fn rest_of_unbuffered(mut reader: Unbuffer<Told<&[u8]>>, into: &mut Vec<u8>) -> io::Result<usize> {
+    read_unbuffered(&mut reader, into)
 }
 
 #[test]
 fn all_that_is_left_of_an_unbuffered_one(rt: HostRuntime) -> Result<(), Fail> {
     let mut all = Vec::new(rt.alloc());
-    read_unbuffered(&mut begun(rt.alloc())?.unbuffer(), &mut all)?;
-    assert!(rt; all.as_slice() == b"ab\nthe rest".as_slice());
+    rest_of_unbuffered(begun(rt.alloc())?.unbuffer(), &mut all)?;
+    assert!(rt; all.as_slice() == ALL);
     Ok(())
+}
+
+// How many bytes were copied, and whether the writer has all of them once it is flushed.
+fn copies(reader: &mut Bytes<'_>, writer: &mut Collector) -> io::Result<(u64, bool)> {
+    let count = copy_rest(reader, writer)?;
+    flush(writer)?;
+    Ok((count, collected(writer) == ALL))
+}
+
+fn copies_rest(mut reader: Bytes<'_>, mut writer: Collector) -> io::Result<(u64, bool)> {
+    copies(&mut reader, &mut writer)
 }
 
 #[test]
 fn a_copy_of_all_that_is_left(rt: HostRuntime) -> Result<(), Fail> {
-    let mut writer = writer(rt.alloc(), 4, &[], Told::new(Vec::new(rt.alloc())))?;
-    assert!(rt; copy_rest(&mut begun(rt.alloc())?, &mut writer)? == 11);
-    flush(&mut writer)?;
-    assert!(rt; writer.get_ref().get_ref().as_slice() == b"ab\nthe rest".as_slice());
+    let writer = collector(rt.alloc(), &[])?;
+    assert!(rt; copies_rest(begun(rt.alloc())?, writer)? == (11, true));
     Ok(())
+}
+
+// Whether a fill shows these bytes, and where the reader stands once one is consumed.
+fn places(reader: &mut Text<'_>, shown: &[u8]) -> io::Result<(bool, u64)> {
+    let is_shown = shows(reader, shown)?;
+    consume(reader, 1);
+    Ok((is_shown, place(reader)?))
+}
+
+fn places_of(mut reader: Text<'_>, shown: &[u8]) -> io::Result<(bool, u64)> {
+    places(&mut reader, shown)
 }
 
 #[test]
 fn places_of_a_cursor(rt: HostRuntime) -> Result<(), Fail> {
-    let source = Told::new(Cursor::new([0, 1, 2, 3, 4, 5].as_slice()));
-    let mut reader = reader(rt.alloc(), 4, &[], source)?;
-    assert!(rt; fill_buf(&mut reader)? == [0, 1, 2, 3].as_slice());
-    consume(&mut reader, 1);
-    assert!(rt; place(&mut reader)? == 1);
+    let reader = cursor(rt.alloc(), &[0, 1, 2, 3, 4, 5])?;
+    assert!(rt; places_of(reader, &[0, 1, 2, 3])? == (true, 1));
     Ok(())
 }

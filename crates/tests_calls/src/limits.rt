@@ -1,11 +1,13 @@
 //! A buffer's own limit under readers and writers.
 ghost use Rattle.std.specs.Prelude.{◌≡◌, IfOk};
 
+use crate::ahead::shows;
 use buffer_redux::policy::{MinBuffered, StdPolicy};
 use buffer_redux::tell::{Tell, TellRead, TellWrite, Told};
 use buffer_redux::{BufReader, BufWriter, Buffer, GrowError, LineWriter};
 use redux_play::laws;
 use std::alloc::Global;
+use std::io;
 use std::io::{ErrorKind, Read};
 use std::test::Fail;
 use tests_common::{fill_buf, holding, kind, reader_under};
@@ -38,38 +40,56 @@ fn grants<R: TellRead>(rdr: &mut BufReader<R>, length: usize) -> bool {
 }
 
 // A message of this length, whether it gets room, and the capacity then. An empty buffer grows by all of it.
-const MESSAGES: [(usize, bool, usize); 4] = [
+type Message = (usize, bool, usize);
+
+const MESSAGES: [Message; 4] = [
     (4096, true, 4096),
     (61440, true, 65536),
     (61441, false, 4096),
     (18446744073709551615, false, 4096),
 ];
 
+// Whether it gets room as its row says, and a fill then shows these bytes.
+fn is_so<R: TellRead>(rdr: &mut BufReader<R>, row: Message, bytes: &[u8]) -> io::Result<bool> {
+    let (length, granted, capacity) = row;
+    let is_granted = grants(rdr, length) == granted && rdr.capacity() == capacity;
+    Ok(shows(rdr, bytes)? && is_granted)
+}
+
+fn takes_in<R: TellRead + Drop>(
+    mut rdr: BufReader<R>,
+    row: Message,
+    bytes: &[u8],
+) -> io::Result<bool> {
+    is_so(&mut rdr, row, bytes)
+}
+
 // The example of `Buffer::set_limit`: a message of an announced length gets room, or is refused.
 #[test]
 fn bounds_a_connection(rt: HostRuntime) -> Result<(), Fail> {
-    for (length, granted, capacity) in MESSAGES {
-        let mut reader = connection(rt.alloc(), b"abc".as_slice())?;
-        assert!(rt; grants(&mut reader, length) == granted);
-        assert!(rt; reader.capacity() == capacity);
-        assert!(rt; fill_buf(&mut reader)? == b"abc".as_slice());
+    let bytes = b"abc".as_slice();
+    for row in MESSAGES {
+        let reader = connection(rt.alloc(), bytes)?;
+        assert!(rt; takes_in(reader, row, bytes)?, "{}", row.0);
     }
     Ok(())
+}
+
+// The error of a fill, how many bytes are there then, and the capacity.
+fn fills<R: TellRead + Drop>(
+    mut rdr: BufReader<R, MinBuffered>,
+) -> (Option<ErrorKind>, usize, usize) {
+    let fault = kind(fill_buf(&mut rdr)).err();
+    (fault, rdr.buf_len(), rdr.capacity())
 }
 
 // A fill ends at the limit.
 #[test]
 fn fills_below(rt: HostRuntime) -> Result<(), Fail> {
-    let rdr = limited(
-        rt.alloc(),
-        4,
-        6,
-        &[],
-        Told::new(b"01234567890123456789".as_slice()),
-    )?;
-    let mut rdr = reader_under(rdr, MinBuffered(8));
-    assert!(rt; kind(fill_buf(&mut rdr)).err() == Some(ErrorKind::InvalidInput));
-    assert!(rt; (rdr.buf_len(), rdr.capacity()) == (4, 4));
+    let source = Told::new(b"01234567890123456789".as_slice());
+    let rdr = limited(rt.alloc(), 4, 6, &[], source)?;
+    let filled = fills(reader_under(rdr, MinBuffered(8)));
+    assert!(rt; filled == (Some(ErrorKind::InvalidInput), 4, 4));
     Ok(())
 }
 
