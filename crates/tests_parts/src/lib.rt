@@ -10,6 +10,8 @@ pub mod claims;
 #[cfg(test)]
 mod named;
 #[cfg(test)]
+mod played;
+#[cfg(test)]
 mod policies;
 #[cfg(test)]
 mod ring;
