@@ -79,9 +79,11 @@ pub(crate) fn shows<R: BufRead>(rdr: &mut R, bytes: &[u8]) -> io::Result<bool> {
     Ok(fill_buf(rdr)? == bytes)
 }
 
-// The same of a reader that is dropped then.
-pub(crate) fn shows_at_once<R: BufRead + Drop>(mut rdr: R, bytes: &[u8]) -> io::Result<bool> {
-    shows(&mut rdr, bytes)
+// What comes of these calls of a stream, which is dropped then.
+pub(crate) fn over<S: Drop, T, F: FnOnce(&mut S) -> T>(mut stream: S, calls: F) -> T
+    requires { F.IsAlwaysCallable calls }
+{
+    calls(&mut stream)
 }
 
 fn takes_step<R: TellRead>(rdr: &mut BufReader<R, Weighing>, step: &Step) -> io::Result<bool> {
@@ -100,10 +102,6 @@ fn takes_steps(rdr: &mut Weighed, steps: &[Step]) -> io::Result<bool> {
         }
     }
     Ok(true)
-}
-
-fn walks(mut rdr: Weighed, steps: &[Step]) -> io::Result<bool> {
-    takes_steps(&mut rdr, steps)
 }
 
 // A capacity of three times the minimum: of 30 bytes that were given 9 are moved.
@@ -164,7 +162,7 @@ fn moves(rt: HostRuntime) -> Result<(), Fail> {
     ];
     for (capacity, count, steps) in rows {
         let rdr = weighed(rt.alloc(), capacity, first(&BYTES, count))?;
-        assert!(rt; walks(rdr, steps)?, "{capacity}");
+        assert!(rt; over(rdr, |it| takes_steps(it, steps))?, "{capacity}");
     }
     Ok(())
 }
@@ -203,13 +201,6 @@ fn plays_twice<R: TellRead + TellSeek>(
     Ok(run.handed.as_slice() == HANDED.as_slice())
 }
 
-fn two_runs<R: TellRead + TellSeek + Drop>(
-    alloc: Global,
-    mut rdr: BufReader<R, MinBuffered>,
-) -> io::Result<bool> {
-    plays_twice(alloc, &mut rdr)
-}
-
 fn positions(alloc: Global) -> Result<BufReader<Told<Positions>, MinBuffered>, GrowError> {
     let rdr = reader(alloc, 12, &[], Told::new(Positions { at: 0 }))?;
     Ok(reader_under(rdr, MinBuffered(4)))
@@ -217,6 +208,7 @@ fn positions(alloc: Global) -> Result<BufReader<Told<Positions>, MinBuffered>, G
 
 #[test]
 fn by_law(rt: HostRuntime) -> Result<(), Fail> {
-    assert!(rt; two_runs(rt.alloc(), positions(rt.alloc())?)?);
+    let rdr = positions(rt.alloc())?;
+    assert!(rt; over(rdr, |it| plays_twice(rt.alloc(), it))?);
     Ok(())
 }

@@ -51,24 +51,16 @@ fn sources(rt: HostRuntime) -> Result<(), Fail> {
     Ok(())
 }
 
-fn flushes_into<W: TellWrite + Drop>(wrt: &mut BufWriter<W>, other: W) -> io::Result<()> {
-    *wrt.get_mut() = other;
-    flush(wrt)
-}
-
-fn flushes_lines_into<W: TellWrite + Drop>(lines: &mut LineWriter<W>, other: W) -> io::Result<()> {
-    *lines.get_mut() = other;
-    flush(lines)
-}
-
 // Whether the byte that is held goes into the other one.
 fn sends(mut wrt: BufWriter<Sink>, other: Sink) -> bool {
-    let is_flushed = flushes_into(&mut wrt, other).is_ok();
+    *wrt.get_mut() = other;
+    let is_flushed = flush(&mut wrt).is_ok();
     is_flushed && wrt.get_ref().get_ref().as_slice() == [1].as_slice()
 }
 
 fn sends_lines(mut lines: LineWriter<Sink>, other: Sink) -> bool {
-    let is_flushed = flushes_lines_into(&mut lines, other).is_ok();
+    *lines.get_mut() = other;
+    let is_flushed = flush(&mut lines).is_ok();
     is_flushed && lines.get_ref().get_ref().as_slice() == [1].as_slice()
 }
 

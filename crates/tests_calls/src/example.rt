@@ -5,7 +5,7 @@ ghost use Rattle.buffer_redux.specs.BufWriter.{WritesInOrder};
 ghost use Rattle.buffer_redux.specs.Policy.{any_read_rules, no_read_claims};
 ghost use Rattle.buffer_redux.specs.ReaderLaws.{WantsBytes};
 
-use crate::ahead::{shows, shows_at_once};
+use crate::ahead::{over, shows};
 use buffer_redux::policy::{DoRead, MinBuffered, ReaderPolicy, WriterPolicy};
 use buffer_redux::tell::{TellRead, TellWrite, Told};
 use buffer_redux::{BufReader, BufWriter, Buffer, GrowError};
@@ -175,7 +175,7 @@ fn sees_what_a_policy_keeps_in_sight(rt: HostRuntime) -> Result<(), Fail> {
 #[test]
 fn reads_sparsely(rt: HostRuntime) -> Result<(), Fail> {
     let reader = reader_of(rt.alloc(), 64, Sparse)?;
-    assert!(rt; shows_at_once(reader, TEXT)?);
+    assert!(rt; over(reader, |it| shows(it, TEXT))?);
     Ok(())
 }
 

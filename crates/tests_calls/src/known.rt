@@ -6,7 +6,7 @@ ghost use Rattle.buffer_redux.specs.Told.{told_stream};
 ghost use Rattle.buffer_redux.specs.Copy.{ReceivesAll};
 ghost use Rattle.buffer_redux.specs.WriterTells.{writer_log};
 
-use crate::ahead::shows;
+use crate::ahead::{over, shows};
 use buffer_redux::tell::Told;
 use buffer_redux::{BufReader, BufWriter, GrowError, Unbuffer};
 use redux_play::laws;
@@ -226,14 +226,11 @@ fn all_that_is_left(rt: HostRuntime) -> Result<(), Fail> {
     Ok(())
 }
 
-fn rest_of_unbuffered(mut reader: Unbuffer<Told<&[u8]>>, into: &mut Vec<u8>) -> io::Result<usize> {
-    read_unbuffered(&mut reader, into)
-}
-
 #[test]
 fn all_that_is_left_of_an_unbuffered_one(rt: HostRuntime) -> Result<(), Fail> {
     let mut all = Vec::new(rt.alloc());
-    rest_of_unbuffered(begun(rt.alloc())?.unbuffer(), &mut all)?;
+    let reader = begun(rt.alloc())?.unbuffer();
+    over(reader, |it| read_unbuffered(it, &mut all))?;
     assert!(rt; all.as_slice() == ALL);
     Ok(())
 }

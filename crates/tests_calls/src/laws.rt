@@ -1,4 +1,5 @@
 //! The laws, each called once.
+use crate::ahead::{over, shows};
 use buffer_redux::policy::{
     FlushAtLeast, FlushExact, FlushOn, FlushOnNewline, MinBuffered, StdPolicy, WriterPolicy,
 };
@@ -7,11 +8,9 @@ use buffer_redux::{BufReader, BufWriter, GrowError, LineWriter};
 use redux_play::laws;
 use std::alloc::Global;
 use std::io;
-use std::io::{BufRead, ErrorKind};
+use std::io::ErrorKind;
 use std::test::Fail;
-use tests_common::{
-    fill_buf, kind, line_writer, reader, reader_under, write, writer, writer_under,
-};
+use tests_common::{kind, line_writer, reader, reader_under, write, writer, writer_under};
 
 type Sink = Told<Vec<u8>>;
 
@@ -70,19 +69,12 @@ fn reads_ahead<R: TellRead>(
     Ok((shown, handed))
 }
 
-fn ahead<R: TellRead + Drop>(
-    mut rdr: BufReader<R, MinBuffered>,
-) -> io::Result<(usize, [usize; 3])> {
-    reads_ahead(&mut rdr)
-}
-
-fn shown<R: BufRead>(rdr: &mut R) -> io::Result<usize> {
-    Ok(fill_buf(rdr)?.len())
-}
-
 // Another policy, which speaks from the next fill on.
-fn reads_under_another<R: TellRead + Drop>(rdr: BufReader<R>) -> io::Result<usize> {
-    shown(&mut laws::rebuild_reader_under(rdr, MinBuffered(2)))
+fn reads_under_another<R: TellRead + Drop>(rdr: BufReader<R>) -> io::Result<bool> {
+    shows(
+        &mut laws::rebuild_reader_under(rdr, MinBuffered(2)),
+        &[1, 2, 3],
+    )
 }
 
 // What was buffered in a reader goes into a writer, each taken apart and built again.
@@ -99,8 +91,8 @@ fn reader_of(alloc: Global, held: &[u8]) -> Result<BufReader<Told<&'static [u8]>
 #[test]
 fn of_readers(rt: HostRuntime) -> Result<(), Fail> {
     let rdr = reader_under(reader_of(rt.alloc(), &[1])?, MinBuffered(2));
-    assert!(rt; ahead(rdr)? == (3, [2, 1, 0]));
-    assert!(rt; reads_under_another(reader_of(rt.alloc(), &[1])?)? == 3);
+    assert!(rt; over(rdr, reads_ahead)? == (3, [2, 1, 0]));
+    assert!(rt; reads_under_another(reader_of(rt.alloc(), &[1])?)?);
     assert!(rt; rebuilt(reader_of(rt.alloc(), &[1, 2])?, sink(rt.alloc())) == 2);
     Ok(())
 }

@@ -1,7 +1,7 @@
 //! A buffer's own limit under readers and writers.
 ghost use Rattle.std.specs.Prelude.{◌≡◌, IfOk};
 
-use crate::ahead::shows;
+use crate::ahead::{over, shows};
 use buffer_redux::policy::{MinBuffered, StdPolicy};
 use buffer_redux::tell::{Tell, TellRead, TellWrite, Told};
 use buffer_redux::{BufReader, BufWriter, Buffer, GrowError, LineWriter};
@@ -56,21 +56,13 @@ fn is_so<R: TellRead>(rdr: &mut BufReader<R>, row: Message, bytes: &[u8]) -> io:
     Ok(shows(rdr, bytes)? && is_granted)
 }
 
-fn takes_in<R: TellRead + Drop>(
-    mut rdr: BufReader<R>,
-    row: Message,
-    bytes: &[u8],
-) -> io::Result<bool> {
-    is_so(&mut rdr, row, bytes)
-}
-
 // The example of `Buffer::set_limit`: a message of an announced length gets room, or is refused.
 #[test]
 fn bounds_a_connection(rt: HostRuntime) -> Result<(), Fail> {
     let bytes = b"abc".as_slice();
     for row in MESSAGES {
         let reader = connection(rt.alloc(), bytes)?;
-        assert!(rt; takes_in(reader, row, bytes)?, "{}", row.0);
+        assert!(rt; over(reader, |it| is_so(it, row, bytes))?, "{}", row.0);
     }
     Ok(())
 }
