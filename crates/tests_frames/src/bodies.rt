@@ -1,5 +1,5 @@
 //! The reader of bodies in the chunked coding.
-use crate::sweep::{Run, sweep};
+use crate::sweep::{FAULT, Run, sweep};
 use End::{Truncated, Whole, Wrong};
 use buffer_redux::policy::ReaderPolicy;
 use buffer_redux::script::Answer;
@@ -235,15 +235,23 @@ fn sum(one: Option<usize>, other: Option<usize>) -> Option<usize> {
 }
 
 // Whatever ends a body stays so.
+fn stays<R: TellRead, P: ReaderPolicy>(
+    alloc: Global,
+    body: &mut ChunkedReader<R, P>,
+    row: &Row<'_>,
+) -> Result<Option<usize>, AllocError> {
+    let once = comes(alloc, body, row.3, row.4)?;
+    let again = comes(alloc, body, b"", row.4)?;
+    Ok(sum(once, again))
+}
+
 fn plays<R: TellRead + Drop, P: ReaderPolicy + Drop>(
     alloc: Global,
     mut body: ChunkedReader<R, P>,
     row: &Row<'_>,
 ) -> io::Result<Option<usize>> {
-    let once = comes(alloc, &mut body, row.3, row.4)?;
-    let again = comes(alloc, &mut body, b"", row.4)?;
-    let behind = goes_before(alloc, body, row.4)?;
-    Ok(sum(sum(once, again), behind))
+    let failed = stays(alloc, &mut body, row)?;
+    Ok(sum(failed, goes_before(alloc, body, row.4)?))
 }
 
 impl Run for Row<'_> {
@@ -251,8 +259,6 @@ impl Run for Row<'_> {
         plays(alloc, body(alloc, self, script)?, self)
     }
 }
-
-const FAULT: Answer = Answer::Fail(ErrorKind::Other);
 
 #[test]
 fn reads_bodies(rt: HostRuntime) -> Result<(), Fail> {
@@ -325,7 +331,6 @@ fn is_unbegun<R: Tell + Debug, P: Debug>(
 
 #[test]
 fn shows_where_it_stands(rt: HostRuntime) -> Result<(), Fail> {
-    let body = unbegun(rt.alloc())?;
-    assert!(rt; is_unbegun(rt.alloc(), &body)?);
+    assert!(rt; is_unbegun(rt.alloc(), &unbegun(rt.alloc())?)?);
     Ok(())
 }

@@ -1,6 +1,6 @@
 //! The writer of bodies in the chunked coding.
 use crate::bodies::is_shown;
-use crate::sweep::{Run, sweep};
+use crate::sweep::{FAULT, Run, sweep};
 use buffer_redux::script::Answer;
 use buffer_redux::tell::TellWrite;
 use buffer_redux::{BufWriter, IntoInnerError};
@@ -154,31 +154,32 @@ fn flushes_again<W: Write>(inner: &mut W) -> io::Result<usize> {
     Ok(1)
 }
 
-// Flushes at the end. No chunk is torn.
+// Writes the pieces, ends the body, and flushes at the end.
+fn makes<W: TellWrite + Drop>(
+    mut body: ChunkedWriter<W>,
+    row: &Row<'_>,
+) -> io::Result<Option<(BufWriter<W>, usize)>> {
+    let failed = writes_each(&mut body, row.1);
+    let Some((mut inner, again)) = ends_again(body, row.2) else {
+        return Ok(None);
+    };
+    let flushed = flushes_again(&mut inner)?;
+    Ok(Some((inner, failed.saturating_add(again).saturating_add(flushed))))
+}
+
+// No chunk is torn.
 impl Run for Row<'_> {
     fn run(&self, alloc: Global, script: &[Answer]) -> io::Result<Option<usize>> {
-        let mut body = body(alloc, self.0, script)?;
-        let failed = writes_each(&mut body, self.1);
-        let Some((mut inner, again)) = ends_again(body, self.2) else {
-            return Ok(None);
-        };
-        let failed = failed
-            .saturating_add(again)
-            .saturating_add(flushes_again(&mut inner)?);
-        Ok((taken(&inner) == self.3).then_some(failed))
+        match makes(body(alloc, self.0, script)?, self)? {
+            Some((inner, failed)) => Ok((taken(&inner) == self.3).then_some(failed)),
+            None => Ok(None),
+        }
     }
 }
 
 #[test]
 fn writes_bodies(rt: HostRuntime) -> Result<(), Fail> {
-    let pieces = [usize::MAX, 3, 1];
-    sweep(
-        &rt,
-        rt.alloc(),
-        &BODIES,
-        &pieces,
-        Answer::Fail(ErrorKind::Other),
-    )
+    sweep(&rt, rt.alloc(), &BODIES, &[usize::MAX, 3, 1], FAULT)
 }
 
 fn write_each<W: Write>(outer: &mut W, bytes: &[u8]) -> io::Result<()> {
@@ -249,26 +250,34 @@ fn hello(alloc: Global) -> io::Result<Body> {
     Ok(body)
 }
 
-// Whether such a body is written on, and ends with trailers that just fit.
+// Whether nothing of such a body was sent, and it is written on, and ends with trailers that just fit.
 fn goes_on(mut body: Body) -> io::Result<bool> {
+    let unsent = taken(inner(&body)).is_empty();
     write_all(&mut body, b"!")?;
+    let want = b"5\r\nhello\r\n1\r\n!\r\n0\r\n0123456789abcdef012\r\n\r\n";
     match ends(body, &[b"0123456789abcdef012"]) {
-        Ok(inner) => sends(
-            inner,
-            b"5\r\nhello\r\n1\r\n!\r\n0\r\n0123456789abcdef012\r\n\r\n",
-        ),
+        Ok(inner) => Ok(unsent && sends(inner, want)?),
         Err(_) => Ok(false),
     }
 }
 
-// Whether these are refused so, nothing is sent, and the body comes back as it was.
+// The body that comes back where these are refused so.
+fn refused<W: TellWrite + Drop>(
+    body: ChunkedWriter<W>,
+    fields: &[&[u8]],
+    index: Option<usize>,
+) -> Option<ChunkedWriter<W>> {
+    match finish_with(body, fields) {
+        Ok(_) => None,
+        Err(FinishError(body, why)) => says(&why, index).then_some(body),
+    }
+}
+
+// Whether it is as it was.
 fn refuses(alloc: Global, fields: &[&[u8]], index: Option<usize>) -> io::Result<bool> {
-    match finish_with(hello(alloc)?, fields) {
-        Ok(_) => Ok(false),
-        Err(FinishError(body, why)) => {
-            let right = says(&why, index) && taken(inner(&body)).is_empty();
-            Ok(right && goes_on(body)?)
-        }
+    match refused(hello(alloc)?, fields, index) {
+        Some(body) => goes_on(body),
+        None => Ok(false),
     }
 }
 

@@ -1,6 +1,6 @@
 //! Frames, read and written.
-use crate::sweep::Want::{Asked, End, Next, Rest, TooLong, Truncated};
-use crate::sweep::{Asks, Run, Scripted, Want, are_so, sweep, walk};
+use crate::sweep::Want::{Asked, End, Next, Offered, Rest, TooLong, Truncated};
+use crate::sweep::{Asks, FAULT, Run, Scripted, Want, are_so, sweep, walk};
 use buffer_redux::MakeError;
 use buffer_redux::script::Answer;
 use buffer_redux::tell::{TellRead, TellWrite};
@@ -79,6 +79,7 @@ impl Asks for Frames {
         match want {
             Rest(bytes) => Some(rest(self) == bytes),
             Asked(count) => Some(asked(self).len() == count),
+            Offered(count) => Some(asked(self).first() == Some(&count)),
             _ => is_such(next(self), want),
         }
     }
@@ -98,21 +99,14 @@ fn is_such(answer: Result<Option<&[u8]>, FrameError>, want: Want<'_>) -> Option<
 
 impl Run for Reads<'_> {
     fn run(&self, alloc: Global, script: &[Answer]) -> io::Result<Option<usize>> {
-        let mut frames = frames_over(alloc, Some(0), self.0, self.1, script)?;
-        Ok(walk(&mut frames, self.2))
+        let frames = frames_over(alloc, Some(0), self.0, self.1, script)?;
+        Ok(walk(frames, self.2))
     }
 }
 
 #[test]
 fn reads_frames(rt: HostRuntime) -> Result<(), Fail> {
-    let pieces = [usize::MAX, 2, 1];
-    sweep(
-        &rt,
-        rt.alloc(),
-        &READS,
-        &pieces,
-        Answer::Fail(ErrorKind::Other),
-    )
+    sweep(&rt, rt.alloc(), &READS, &[usize::MAX, 2, 1], FAULT)
 }
 
 // The longest frame.
@@ -122,14 +116,17 @@ fn longest(alloc: Global) -> Result<Vec<u8>, AllocError> {
     Ok(bytes)
 }
 
+fn takes_longest(alloc: Global, most: usize) -> io::Result<Option<usize>> {
+    let bytes = longest(alloc)?;
+    let payload = bytes.get(2..).unwrap_or_default();
+    let frame = Reads(65535, bytes.as_slice(), &[Next(payload), End]);
+    frame.run(alloc, &[Answer::ServeEach(most)])
+}
+
 #[test]
 fn takes_the_longest(rt: HostRuntime) -> Result<(), Fail> {
-    let bytes = longest(rt.alloc())?;
-    let payload = bytes.get(2..).unwrap_or_default();
-    let wants = [Next(payload), End];
-    let frame = Reads(65535, bytes.as_slice(), &wants);
     for most in [usize::MAX, 1] {
-        assert!(rt; frame.run(rt.alloc(), &[Answer::ServeEach(most)])? == Some(0));
+        assert!(rt; takes_longest(rt.alloc(), most)? == Some(0));
     }
     Ok(())
 }
@@ -263,14 +260,7 @@ impl Run for Writes<'_> {
 
 #[test]
 fn writes_frames(rt: HostRuntime) -> Result<(), Fail> {
-    let pieces = [usize::MAX, 2, 1];
-    sweep(
-        &rt,
-        rt.alloc(),
-        &WRITES,
-        &pieces,
-        Answer::Fail(ErrorKind::Other),
-    )
+    sweep(&rt, rt.alloc(), &WRITES, &[usize::MAX, 2, 1], FAULT)
 }
 
 // The stream inside took so many bytes, or failed so, and the writer is back.
@@ -293,7 +283,7 @@ fn unwraps_twice(frames: Sends) -> Option<(ErrorKind, usize, usize)> {
 
 #[test]
 fn hands_the_writer_back_at_a_fault(rt: HostRuntime) -> Result<(), Fail> {
-    let mut frames = frames_into(rt.alloc(), None, 1, &[Answer::Fail(ErrorKind::Other)])?;
+    let mut frames = frames_into(rt.alloc(), None, 1, &[FAULT])?;
     let put = puts(&mut frames, b"a", 1);
     assert!(rt; (put, unwraps_twice(frames)) == (Some(true), Some((ErrorKind::Other, 0, 3))));
     Ok(())
@@ -307,13 +297,6 @@ static CAPACITIES: [(Option<usize>, u16, usize); 4] = [
     (None, 65535, 196611),
 ];
 
-// What is offered to the first read.
-fn offered(alloc: Global, capacity: Option<usize>, max: u16) -> io::Result<Option<usize>> {
-    let mut reader = frames_over(alloc, capacity, max, b"", &[])?;
-    let _ = reader.meets(End);
-    Ok(asked(&reader).first().copied())
-}
-
 // The capacity of a writer.
 fn capacity_of(alloc: Global, capacity: Option<usize>, max: u16) -> io::Result<usize> {
     let (_, buffer) = frames_into(alloc, capacity, max, &[])?.into_inner_with_buffer();
@@ -323,7 +306,8 @@ fn capacity_of(alloc: Global, capacity: Option<usize>, max: u16) -> io::Result<u
 #[test]
 fn takes_the_capacity(rt: HostRuntime) -> Result<(), Fail> {
     for &(capacity, max, count) in &CAPACITIES {
-        assert!(rt; offered(rt.alloc(), capacity, max)? == Some(count));
+        let frames = frames_over(rt.alloc(), capacity, max, b"", &[])?;
+        assert!(rt; walk(frames, &[End, Offered(count)]) == Some(0));
         assert!(rt; capacity_of(rt.alloc(), capacity, max)? == count);
     }
     Ok(())

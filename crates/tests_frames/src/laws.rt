@@ -65,22 +65,22 @@ fn frames_back(
     frame_reader::laws::round_trip(alloc, payloads, max)
 }
 
-fn play_reads<R: TellRead>(
-    alloc: Global,
-    reader: &mut FrameReader<R>,
-) -> Result<String, AllocError> {
+fn play_reads<R: TellRead>(alloc: Global, reader: &mut FrameReader<R>) -> io::Result<String> {
     let mut answers = Vec::new(alloc);
     frame_reader::laws::play_next(alloc, reader, 3, &mut answers)?;
-    debug(alloc, &answers)
+    of_frames(reader);
+    Ok(debug(alloc, &answers)?)
 }
 
 fn play_writes<W: TellWrite>(
     alloc: Global,
     writer: &mut FrameWriter<W>,
-) -> Result<String, AllocError> {
+    payloads: &[Vec<u8>],
+) -> io::Result<String> {
     let mut answers = Vec::new(alloc);
-    frame_reader::laws::play_write_frame(writer, &some(alloc)?, &mut answers)?;
-    debug(alloc, &answers)
+    frame_reader::laws::play_write_frame(writer, payloads, &mut answers)?;
+    of_written_frames(writer);
+    Ok(debug(alloc, &answers)?)
 }
 
 // Whether the payloads come back, and are refused where the last is too long.
@@ -105,25 +105,27 @@ fn frames_go_there_and_back(rt: HostRuntime) -> Result<(), Fail> {
 static FAULT: [Answer; 2] = [Answer::Serve(1), Answer::Fail(ErrorKind::Other)];
 
 fn frames_read(alloc: Global) -> io::Result<String> {
-    let mut reader = frames_over(alloc, None, 3, b"\x00\x01a\x00", &FAULT)?;
-    of_frames(&reader);
-    Ok(play_reads(alloc, &mut reader)?)
+    play_reads(
+        alloc,
+        &mut frames_over(alloc, None, 3, b"\x00\x01a\x00", &FAULT)?,
+    )
 }
 
-fn frames_written(alloc: Global) -> io::Result<String> {
-    let mut writer = frames_into(alloc, None, 2, &[])?;
-    of_written_frames(&writer);
-    Ok(play_writes(alloc, &mut writer)?)
+fn frames_written(alloc: Global, payloads: &[Vec<u8>]) -> io::Result<String> {
+    play_writes(alloc, &mut frames_into(alloc, None, 2, &[])?, payloads)
 }
 
 #[test]
 fn frames_are_played(rt: HostRuntime) -> Result<(), Fail> {
     let came = frames_read(rt.alloc())?;
-    assert!(rt;
-        came.as_str() == "[Err(Io(Kind(Other))), Ok(Some([97])), Err(Truncated(1))]",
-        "{came}"
-    );
-    let came = frames_written(rt.alloc())?;
+    let text = "[Err(Io(Kind(Other))), Ok(Some([97])), Err(Truncated(1))]";
+    assert!(rt; came.as_str() == text, "{came}");
+    Ok(())
+}
+
+#[test]
+fn written_frames_are_played(rt: HostRuntime) -> Result<(), Fail> {
+    let came = frames_written(rt.alloc(), &some(rt.alloc())?)?;
     assert!(rt;
         came.as_str() == "[Ok(()), Ok(()), Err(TooLong(3))]",
         "{came}"
@@ -153,13 +155,11 @@ fn lines_back(alloc: Global, lines: &[Vec<u8>]) -> io::Result<Option<Vec<Vec<u8>
     Ok(Some(line_reader::laws::round_trip(alloc, lines, 700)?))
 }
 
-fn play_lines<R: TellRead>(
-    alloc: Global,
-    reader: &mut LineReader<R>,
-) -> Result<String, AllocError> {
+fn play_lines<R: TellRead>(alloc: Global, reader: &mut LineReader<R>) -> io::Result<String> {
     let mut answers = Vec::new(alloc);
     line_reader::laws::play_next(alloc, reader, 3, &mut answers)?;
-    debug(alloc, &answers)
+    of_lines(reader);
+    Ok(debug(alloc, &answers)?)
 }
 
 // Whether the lines come back.
@@ -177,18 +177,14 @@ fn lines_go_there_and_back(rt: HostRuntime) -> Result<(), Fail> {
 }
 
 fn lines_read(alloc: Global) -> io::Result<String> {
-    let mut reader = lines_over(alloc, None, 3, b"a\nabcd", &FAULT)?;
-    of_lines(&reader);
-    Ok(play_lines(alloc, &mut reader)?)
+    play_lines(alloc, &mut lines_over(alloc, None, 3, b"a\nabcd", &FAULT)?)
 }
 
 #[test]
 fn lines_are_played(rt: HostRuntime) -> Result<(), Fail> {
     let came = lines_read(rt.alloc())?;
-    assert!(rt;
-        came.as_str() == "[Err(Io(Kind(Other))), Ok(Some([97])), Err(TooLong(3))]",
-        "{came}"
-    );
+    let text = "[Err(Io(Kind(Other))), Ok(Some([97])), Err(TooLong(3))]";
+    assert!(rt; came.as_str() == text, "{came}");
     Ok(())
 }
 

@@ -1,5 +1,5 @@
 //! Lines.
-use crate::sweep::Want::{Asked, End, Next, Rest, Skipped, TooLong, Trimmed};
+use crate::sweep::Want::{Asked, End, Next, Offered, Rest, Skipped, TooLong, Trimmed};
 use crate::sweep::{Asks, Run, Scripted, Want, are_so, sweep, walk};
 use buffer_redux::script::Answer;
 use buffer_redux::tell::TellRead;
@@ -120,6 +120,7 @@ impl Asks for Lines {
         match want {
             Rest(bytes) => Some(rest(self) == bytes),
             Asked(count) => Some(asked(self).len() == count),
+            Offered(count) => Some(asked(self).first() == Some(&count)),
             Skipped(count) => Some(skip_line(self).ok()? == count),
             Trimmed(_) => is_such(next_trimmed(self), want),
             _ => is_such(next(self), want),
@@ -140,8 +141,8 @@ fn is_such(answer: Result<Option<&[u8]>, LineError>, want: Want<'_>) -> Option<b
 
 impl Run for Row<'_> {
     fn run(&self, alloc: Global, script: &[Answer]) -> io::Result<Option<usize>> {
-        let mut lines = lines_over(alloc, Some(0), self.0, self.1, script)?;
-        Ok(walk(&mut lines, self.2))
+        let lines = lines_over(alloc, Some(0), self.0, self.1, script)?;
+        Ok(walk(lines, self.2))
     }
 }
 
@@ -238,18 +239,11 @@ static CAPACITIES: [(Option<usize>, usize, usize); 4] = [
     (None, 65535, 196608),
 ];
 
-fn is_offered(lines: &mut Lines, count: usize) -> bool {
-    lines.meets(End) == Some(true) && asked(lines) == [count].as_slice()
-}
-
-fn offers(alloc: Global, capacity: Option<usize>, max: usize, count: usize) -> io::Result<bool> {
-    Ok(is_offered(&mut lines_over(alloc, capacity, max, b"", &[])?, count))
-}
-
 #[test]
 fn takes_the_capacity(rt: HostRuntime) -> Result<(), Fail> {
-    for &(capacity, max, offered) in &CAPACITIES {
-        assert!(rt; offers(rt.alloc(), capacity, max, offered)?);
+    for &(capacity, max, count) in &CAPACITIES {
+        let lines = lines_over(rt.alloc(), capacity, max, b"", &[])?;
+        assert!(rt; walk(lines, &[End, Asked(1), Offered(count)]) == Some(0));
     }
     Ok(())
 }
@@ -281,9 +275,9 @@ fn refuses_what_is_too_large(rt: HostRuntime) -> Result<(), Fail> {
     Ok(())
 }
 
-// Whether this line comes first, and nothing failed.
+// Whether this line comes first.
 fn begins<A: Asks>(lines: &mut A, first: &[u8]) -> bool {
-    walk(lines, &[Next(first)]) == Some(0)
+    lines.meets(Next(first)) == Some(true)
 }
 
 // The stream that a reader is over, and whether these bytes are in the buffer that is taken out of it.

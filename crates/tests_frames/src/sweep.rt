@@ -2,6 +2,7 @@
 use buffer_redux::script::Answer;
 use std::alloc::{AllocError, Global};
 use std::io;
+use std::io::ErrorKind;
 use std::process::Abort;
 use std::test::Fail;
 
@@ -31,6 +32,8 @@ pub enum Want<'a> {
     Rest(&'a [u8]),
     /// The stream was read so often.
     Asked(usize),
+    /// The first read of it was offered so many bytes.
+    Offered(usize),
 }
 
 /// A reader that is asked for one thing after another.
@@ -48,13 +51,16 @@ fn step<A: Asks>(reader: &mut A, want: Want<'_>) -> Option<usize> {
 }
 
 /// Makes the calls, those again that the stream failed in, as `run` of [`Run`].
-pub fn walk<A: Asks>(reader: &mut A, wants: &[Want<'_>]) -> Option<usize> {
+pub fn walk<A: Asks + Drop>(mut reader: A, wants: &[Want<'_>]) -> Option<usize> {
     let mut failed = 0usize;
     for want in wants {
-        failed = failed.saturating_add(step(reader, *want)?);
+        failed = failed.saturating_add(step(&mut reader, *want)?);
     }
     Some(failed)
 }
+
+/// A fault of the stream.
+pub const FAULT: Answer = Answer::Fail(ErrorKind::Other);
 
 // No run calls its stream so often.
 const CALLS: usize = 500;
