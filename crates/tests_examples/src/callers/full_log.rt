@@ -7,6 +7,9 @@ use std::test::Fail;
 use tests_common::{Target, line_writer, target};
 use uses::full_log::{close, close_patiently, put, reopen};
 
+// A device, and what it has not taken.
+type Parts = (Target, Buffer);
+
 const FULL: Answer = Answer::Fail(ErrorKind::StorageFull);
 
 // A log whose device is full again and again.
@@ -20,23 +23,26 @@ fn puts<W: TellWrite>(log: &mut LineWriter<W>, text: &[u8]) -> (usize, bool) {
     (taken, answer.is_ok())
 }
 
-fn closes<W: TellWrite>(log: LineWriter<W>) -> (W, Buffer) {
+fn closes(log: LineWriter<Target>) -> Parts {
     close(log)
 }
 
-fn closes_later<W: TellWrite>(device: W, unsent: Buffer) -> (W, Buffer) {
+fn closes_later((device, unsent): Parts) -> Parts {
     close_patiently(reopen(device, unsent), 3)
+}
+
+// What the device took, and what is left.
+fn told((device, unsent): &Parts) -> (&[u8], &[u8]) {
+    (device.get_ref().taken(), unsent.buf())
 }
 
 #[test]
 fn a_full_device_loses_nothing(rt: HostRuntime) -> Result<(), Fail> {
     let mut log = log_over(rt.alloc())?;
     assert!(rt; puts(&mut log, b"a line\nhalf") == (11, true));
-    let (device, unsent) = closes(log);
-    assert!(rt; device.get_ref().taken() == b"a l".as_slice());
-    assert!(rt; unsent.buf() == b"ine\nhalf".as_slice());
-    let (device, unsent) = closes_later(device, unsent);
-    assert!(rt; device.get_ref().taken() == b"a line\nhalf".as_slice());
-    assert!(rt; unsent.is_empty());
-    Ok(())
+    let parts = closes(log);
+    assert!(rt; told(&parts) == (b"a l".as_slice(), b"ine\nhalf".as_slice()));
+    let parts = closes_later(parts);
+    assert!(rt; told(&parts) == (b"a line\nhalf".as_slice(), b"".as_slice()));
+    Ok(drop(parts))
 }
