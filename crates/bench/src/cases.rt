@@ -205,9 +205,19 @@ fn over_std(alloc: Global, case: &Case, bytes: &[u8]) -> io::Result<u64> {
             writes(case, bytes, std_line_writer(alloc, case.capacity)?)
         }
         Shape::Copy => std_copies(alloc, case, std_reader(alloc, case.capacity, bytes)?),
-        Shape::Next => until_end(alloc, std_packets(alloc, case, bytes)?),
-        Shape::NextTrimmed => lines_to_end(alloc, std_packets(alloc, case, bytes)?),
+        Shape::Next | Shape::NextTrimmed => std_lines(
+            alloc,
+            case,
+            std_packets(alloc, case, bytes)?,
+        ),
         _ => Ok(0),
+    }
+}
+
+fn std_lines<R: BufRead + Drop>(alloc: Global, case: &Case, reader: R) -> io::Result<u64> {
+    match case.shape {
+        Shape::NextTrimmed => lines_to_end(alloc, reader),
+        _ => until_end(alloc, reader),
     }
 }
 

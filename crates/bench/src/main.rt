@@ -55,21 +55,26 @@ fn asked(words: &[String]) -> Option<(Case, usize)> {
     Some((case, total.parse().ok()?))
 }
 
-// Each case once, on few bytes.
+// A shape over each kind, on few bytes.
+fn run_kinds(rt: &HostRuntime, shape: Shape, capacity: usize, piece: usize) -> io::Result<()> {
+    for &kind in &[Kind::Plain, Kind::Ring, Kind::Std] {
+        let case = Case {
+            shape,
+            kind,
+            capacity,
+            piece,
+        };
+        let over = run(rt.alloc(), &case, 40000)?;
+        print!(rt; " {over}")?;
+    }
+    println!(rt; "")
+}
+
+// Each case once.
 fn run_all(rt: &HostRuntime) -> io::Result<()> {
     for &(name, shape, capacity, piece) in &SHAPES {
         print!(rt; "{name}")?;
-        for &kind in &[Kind::Plain, Kind::Ring, Kind::Std] {
-            let case = Case {
-                shape,
-                kind,
-                capacity,
-                piece,
-            };
-            let over = run(rt.alloc(), &case, 40000)?;
-            print!(rt; " {over}")?;
-        }
-        println!(rt; "")?;
+        run_kinds(rt, shape, capacity, piece)?;
     }
     Ok(())
 }

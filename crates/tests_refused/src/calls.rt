@@ -141,58 +141,41 @@ const BYTES: [u8; 20] = [
     0, 1, 2, 3, 4, 5, 6, 7, 8, 9, 10, 11, 12, 13, 14, 15, 16, 17, 18, 19,
 ];
 
-// Over bytes that don't stand at the front, by or up to more than either kind has.
-fn takes_placed<S: Attempts>(
-    alloc: Global,
+// The same over a buffer, where it could be made.
+fn takes_over<S: Attempts>(
     trial: &mut Trial,
-    is_ring: bool,
-    inner: S,
-    call: Call,
-    after: After,
-) -> Result<(), Wrong> {
-    match placed(alloc, is_ring) {
-        Ok(buf) => {
-            let _ = takes(trial, (inner, buf), call, after)?;
-            Ok(())
-        }
-        Err(e) => trial.refused(e),
-    }
-}
-
-pub fn over_placed(alloc: Global, trial: &mut Trial) -> Result<(), Wrong> {
-    for &(is_ring, grown, filled) in &[(false, 5005, 8997), (true, 8192, 8192)] {
-        for &(call, after) in &[
-            (Call::Reserve(5000), (0, grown)),
-            (Call::Fill(9000), (5, filled)),
-        ] {
-            takes_placed(alloc, trial, is_ring, reading(&[4, 5]), call, after)?;
-        }
-        for &(call, after) in &[
-            (Call::Reserve(5000), (0, grown)),
-            (Call::ReserveLines(5000), (0, grown)),
-            (Call::WriteAtLeast(9000, &[4, 5]), (2, filled)),
-            (Call::WriteExact(9000, &[4, 5]), (2, filled)),
-        ] {
-            takes_placed(alloc, trial, is_ring, empty_sink(), call, after)?;
-        }
-    }
-    Ok(())
-}
-
-// Without a capacity at first. What then comes without memory is a row of `replay`.
-fn takes_from_nothing<S: Attempts>(
-    alloc: Global,
-    trial: &mut Trial,
+    made: Result<Buffer, GrowError>,
     inner: S,
     rows: &[(Call, After)],
 ) -> Result<Option<(S, Buffer)>, Wrong> {
-    match empty(alloc, false, 0) {
+    match made {
         Ok(buf) => Ok(Some(takes_each(trial, (inner, buf), rows)?)),
         Err(e) => {
             trial.refused(e)?;
             Ok(None)
         }
     }
+}
+
+// Over bytes that don't stand at the front, by or up to more than either kind has.
+pub fn over_placed(alloc: Global, trial: &mut Trial) -> Result<(), Wrong> {
+    for &(is_ring, grown, filled) in &[(false, 5005, 8997), (true, 8192, 8192)] {
+        for &row in &[
+            (Call::Reserve(5000), (0, grown)),
+            (Call::Fill(9000), (5, filled)),
+        ] {
+            let _ = takes_over(trial, placed(alloc, is_ring), reading(&[4, 5]), &[row])?;
+        }
+        for &row in &[
+            (Call::Reserve(5000), (0, grown)),
+            (Call::ReserveLines(5000), (0, grown)),
+            (Call::WriteAtLeast(9000, &[4, 5]), (2, filled)),
+            (Call::WriteExact(9000, &[4, 5]), (2, filled)),
+        ] {
+            let _ = takes_over(trial, placed(alloc, is_ring), empty_sink(), &[row])?;
+        }
+    }
+    Ok(())
 }
 
 // What a first fill shows stays where the buffer grows, and another one asks for nothing.
@@ -202,9 +185,10 @@ fn fills_again<S: Attempts>(trial: &mut Trial, parts: (S, Buffer)) -> Result<S, 
     Ok(takes_each(trial, parts, &rows)?.0)
 }
 
+// Without a capacity at first. What then comes without memory is a row of `replay`.
 fn reads_from_nothing(alloc: Global, trial: &mut Trial) -> Result<(), Wrong> {
     let rows = [(Call::Fill(4), (4, 4))];
-    match takes_from_nothing(alloc, trial, reading(&BYTES), &rows)? {
+    match takes_over(trial, empty(alloc, false, 0), reading(&BYTES), &rows)? {
         Some(parts) => {
             let asks = fills_again(trial, parts)?.get_ref().asks;
             is(asks == 1, "how often it is asked")
@@ -220,7 +204,7 @@ fn writes_from_nothing(
     rows: &[(Call, After)],
     bytes: &[u8],
 ) -> Result<(), Wrong> {
-    match takes_from_nothing(alloc, trial, empty_sink(), rows)? {
+    match takes_over(trial, empty(alloc, false, 0), empty_sink(), rows)? {
         Some(parts) => sends(parts, bytes),
         None => Ok(()),
     }
