@@ -62,7 +62,7 @@ pub enum Shape {
 }
 
 /// Each shape by its name, with the capacity and the piece of a case of it on few bytes.
-pub const SHAPES: [(&str, Shape, usize, usize); 21] = [
+pub static SHAPES: [(&str, Shape, usize, usize); 21] = [
     ("read", Shape::Read, 8192, 64),
     ("fill", Shape::Fill, 8192, 100),
     ("look", Shape::Look, 16384, 100),

@@ -7,7 +7,7 @@ use std::alloc::Global;
 use std::io::ErrorKind;
 
 // A call goes wrong by each of these, which have these words.
-const ANSWERS: [(&str, Answer); 5] = [
+static ANSWERS: [(&str, Answer); 5] = [
     ("e:Other", Answer::Fail(ErrorKind::Other)),
     ("i", Answer::Interrupt(1)),
     ("i65", Answer::Interrupt(65)),

@@ -76,7 +76,7 @@ pub fn answer(word: &str) -> Option<Answer> {
 }
 
 // The kinds of errors that have a name here.
-const KINDS: [(&str, ErrorKind); 18] = [
+static KINDS: [(&str, ErrorKind); 18] = [
     ("AlreadyExists", ErrorKind::AlreadyExists),
     ("BrokenPipe", ErrorKind::BrokenPipe),
     ("ConnectionAborted", ErrorKind::ConnectionAborted),

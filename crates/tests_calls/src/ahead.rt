@@ -13,7 +13,7 @@ use tests_common::{
 };
 
 // The bytes 1 to 30.
-const BYTES: [u8; 30] = [
+static BYTES: [u8; 30] = [
     1, 2, 3, 4, 5, 6, 7, 8, 9, 10, 11, 12, 13, 14, 15, 16, 17, 18, 19, 20, 21, 22, 23, 24, 25, 26,
     27, 28, 29, 30,
 ];
@@ -105,7 +105,7 @@ fn takes_steps(rdr: &mut Weighed, steps: &[Step]) -> io::Result<bool> {
 }
 
 // A capacity of three times the minimum: of 30 bytes that were given 9 are moved.
-const THREE_TIMES: [Step; 11] = [
+static THREE_TIMES: [Step; 11] = [
     [0, 4, 0, 12, 0, 12, 1],
     [3, 4, 3, 12, 0, 12, 1],
     [3, 4, 6, 12, 0, 12, 1],
@@ -120,7 +120,7 @@ const THREE_TIMES: [Step; 11] = [
 ];
 
 // One byte less than that, and far less: nothing is promised of these, and what the policy does moves so many.
-const LESS: [Step; 11] = [
+static LESS: [Step; 11] = [
     [0, 4, 0, 11, 0, 11, 1],
     [3, 4, 3, 11, 0, 11, 1],
     [3, 4, 6, 11, 0, 11, 1],
@@ -134,7 +134,7 @@ const LESS: [Step; 11] = [
     [3, 4, 30, 30, 6, 11, 6],
 ];
 
-const FAR_LESS: [Step; 4] = [
+static FAR_LESS: [Step; 4] = [
     [0, 4, 0, 8, 0, 8, 1],
     [3, 4, 3, 8, 0, 8, 1],
     [4, 4, 7, 15, 1, 8, 2],
@@ -142,14 +142,14 @@ const FAR_LESS: [Step; 4] = [
 ];
 
 // Where as many bytes as the new minimum are there, a fill doesn't ask, and the smaller minimum is spared moves too.
-const SMALLER: [Step; 3] = [
+static SMALLER: [Step; 3] = [
     [0, 4, 0, 12, 0, 12, 1],
     [9, 2, 9, 12, 0, 12, 1],
     [2, 2, 11, 23, 1, 12, 2],
 ];
 
 // The buffer grows to the new minimum.
-const GREATER: [Step; 2] = [[0, 4, 0, 4, 0, 4, 1], [0, 6, 0, 6, 0, 6, 2]];
+static GREATER: [Step; 2] = [[0, 4, 0, 4, 0, 4, 1], [0, 6, 0, 6, 0, 6, 2]];
 
 #[test]
 fn moves(rt: HostRuntime) -> Result<(), Fail> {
@@ -167,16 +167,16 @@ fn moves(rt: HostRuntime) -> Result<(), Fail> {
     Ok(())
 }
 
-const BEFORE: [ReaderCall; 3] = [
+static BEFORE: [ReaderCall; 3] = [
     ReaderCall::Read(3),
     ReaderCall::Fill,
     ReaderCall::Consume(2),
 ];
 
-const AFTER: [ReaderCall; 2] = [ReaderCall::Fill, ReaderCall::Consume(20)];
+static AFTER: [ReaderCall; 2] = [ReaderCall::Fill, ReaderCall::Consume(20)];
 
 // Five bytes, and then those that fill a capacity of 18.
-const HANDED: [u8; 23] = [
+static HANDED: [u8; 23] = [
     0, 1, 2, 3, 4, 10, 11, 12, 13, 14, 15, 16, 17, 18, 19, 20, 21, 22, 23, 24, 25, 26, 27,
 ];
 

@@ -27,7 +27,7 @@ const IN_ROWS: [Answer; 4] = [
     Answer::Serve(1),
 ];
 
-const ALL: [Row; 4] = [
+static ALL: [Row; 4] = [
     (&[], &[], &[], Ok(0), &[], &[], &[0]),
     (&[1, 2, 3], &[], &[], Ok(3), &[1, 2, 3], &[], &[3, 0]),
     (&[1, 2], &IN_ROWS, &[], Ok(2), &[1, 2], &[], &[1, 1, 0]),
@@ -40,7 +40,7 @@ const OTHER: Result<u64, ErrorKind> = Err(ErrorKind::Other);
 
 const TOO_OFTEN: [Answer; 1] = [Answer::Interrupt(65)];
 
-const LESS: [Row; 4] = [
+static LESS: [Row; 4] = [
     (
         &[1, 2, 3],
         &[],

@@ -10,7 +10,7 @@ use tests_common::{
     Target, debug, first, flush, line_writer, taken_lines, target, write, write_all,
 };
 
-const ALL: [u8; 9] = [0, 1, 0, 10, 1, 10, 2, 3, 10];
+static ALL: [u8; 9] = [0, 1, 0, 10, 1, 10, 2, 3, 10];
 
 // What is written, nothing for a flush, and how many bytes the inner writer then has.
 static STEPS: [(&[u8], usize); 6] = [

@@ -106,7 +106,7 @@ static RING: [Step; 9] = [
 ];
 
 // A reader over this buffer, which promises nothing.
-pub(crate) fn reader_over<R: Tell + Drop>(buf: Buffer, inner: R) -> BufReader<R> {
+fn reader_over<R: Tell + Drop>(buf: Buffer, inner: R) -> BufReader<R> {
     BufReader::with_buffer(buf, inner)
 }
 

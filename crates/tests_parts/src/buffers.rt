@@ -150,7 +150,7 @@ const ROUND: &'static [Row] = &[
     ),
 ];
 
-const WALKS: [(bool, usize, &'static [Row]); 6] = [
+static WALKS: [(bool, usize, &'static [Row]); 6] = [
     (false, 4, PUSHED),
     (false, 4, LIMITED),
     (false, 4, LIMITED_PUSH),
@@ -205,7 +205,7 @@ fn send_by(b: &mut Buffer, how: Send, wrt: &mut Target) -> io::Result<usize> {
 
 // What is held, how it is sent, how the first write goes, and the answer, what was taken, what is left, and how many writes there
 // were.
-const SENT: [(&'static [u8], Send, Answer, &'static str); 5] = [
+static SENT: [(&'static [u8], Send, Answer, &'static str); 5] = [
     (
         &[1, 2],
         Send::Most(18446744073709551615),

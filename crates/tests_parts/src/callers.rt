@@ -46,7 +46,7 @@ const TWENTY: [u8; 20] = [
     1, 2, 3, 4, 5, 6, 7, 8, 9, 10, 11, 12, 13, 14, 15, 16, 17, 18, 19, 20,
 ];
 
-const CALLS: [ReaderCall; 3] = [
+static CALLS: [ReaderCall; 3] = [
     ReaderCall::Read(3),
     ReaderCall::Fill,
     ReaderCall::Consume(9),

@@ -21,7 +21,7 @@ type Reads = (
     &'static str,
 );
 
-const READS: [Reads; 5] = [
+static READS: [Reads; 5] = [
     // a buffer without a limit
     (
         Name::Greedy,
@@ -80,7 +80,7 @@ const READS: [Reads; 5] = [
     ),
 ];
 
-const GROWING_READS: [Reads; 5] = [
+static GROWING_READS: [Reads; 5] = [
     // from one byte more at each question to all that the source has, and one byte
     (Name::Growing, 0, 0, 3, &[FILL], "([Shown(3)], (3, 4, 4))"),
     // a limit that the policy set stays
@@ -139,7 +139,7 @@ fn readers(rt: HostRuntime) -> Result<(), Fail> {
 // The policy, the capacity, the calls, and what comes of them.
 type Writes = (Name, usize, &'static [WriterCall<'static>], &'static str);
 
-const WRITES: [Writes; 3] = [
+static WRITES: [Writes; 3] = [
     // an amount of more than is buffered flushes nothing
     (
         Name::TooMuch,
@@ -217,7 +217,7 @@ const NAMES: [Name; 17] = [
     Name::FailsAt(4),
 ];
 
-const READER_CALLS: [ReaderCall; 12] = [
+static READER_CALLS: [ReaderCall; 12] = [
     ReaderCall::Read(2),
     ReaderCall::Fill,
     ReaderCall::Consume(9),
@@ -232,7 +232,7 @@ const READER_CALLS: [ReaderCall; 12] = [
     ReaderCall::Read(9),
 ];
 
-const WRITER_CALLS: [WriterCall<'static>; 9] = [
+static WRITER_CALLS: [WriterCall<'static>; 9] = [
     WriterCall::Write(&[1]),
     WriterCall::Write(&[2, 3]),
     WriterCall::Flush,

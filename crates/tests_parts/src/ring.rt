@@ -77,7 +77,7 @@ const AT_THE_CAPACITY: &'static [Row] = &[
 // Steps, and the bytes in front at their end.
 type Walk = (&'static [Row], &'static [u8]);
 
-const WALKS: [Walk; 4] = [
+static WALKS: [Walk; 4] = [
     (READS, &[]),
     (EMPTIED, &[]),
     (WRITTEN_WITHOUT_A_LOAN, &[8; 96]),

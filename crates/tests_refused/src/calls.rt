@@ -137,7 +137,7 @@ fn takes_each<S: Attempts>(
     Ok(parts)
 }
 
-const BYTES: [u8; 20] = [
+static BYTES: [u8; 20] = [
     0, 1, 2, 3, 4, 5, 6, 7, 8, 9, 10, 11, 12, 13, 14, 15, 16, 17, 18, 19,
 ];
 

@@ -21,7 +21,7 @@ enum Form {
 }
 
 // Each, and the capacity that it gives: the last two are asked for 4 bytes.
-const FORMS: [(Form, usize); 4] = [
+static FORMS: [(Form, usize); 4] = [
     (Form::Usual, 8192),
     (Form::UsualRing, 8192),
     (Form::Plain, 4),
@@ -43,7 +43,7 @@ enum Block {
 }
 
 // Each, and the capacity that it gives: the usual ones name none, the others are asked for 4 bytes.
-const BLOCKS: [(Block, usize); 9] = [
+static BLOCKS: [(Block, usize); 9] = [
     (Block::Raw, 4),
     (Block::Std, 4),
     (Block::Plain, 4),

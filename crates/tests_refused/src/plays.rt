@@ -9,7 +9,7 @@ use redux_play::play::{ReaderCall, ReaderRun, WriterCall, WriterRun, play_reader
 use std::alloc::{AllocError, Global};
 use tests_common::{reader, writer};
 
-const READER_CALLS: [ReaderCall; 5] = [
+static READER_CALLS: [ReaderCall; 5] = [
     ReaderCall::Read(2),
     ReaderCall::Fill,
     ReaderCall::Consume(9),
@@ -18,7 +18,7 @@ const READER_CALLS: [ReaderCall; 5] = [
 ];
 
 // How many bytes are handed out, how many are buffered, and how often the stream was asked, by the number of calls made.
-const READER_STATES: [[usize; 3]; 6] = [
+static READER_STATES: [[usize; 3]; 6] = [
     [0, 0, 0],
     [2, 2, 1],
     [2, 2, 1],
@@ -27,16 +27,16 @@ const READER_STATES: [[usize; 3]; 6] = [
     [5, 0, 2],
 ];
 
-const WRITER_CALLS: [WriterCall<'static>; 3] = [
+static WRITER_CALLS: [WriterCall<'static>; 3] = [
     WriterCall::Write(&[1]),
     WriterCall::Write(&[2, 3]),
     WriterCall::Flush,
 ];
 
 // How many bytes were sent, and how many are buffered.
-const WRITER_STATES: [[usize; 2]; 4] = [[0, 0], [0, 1], [3, 0], [3, 0]];
+static WRITER_STATES: [[usize; 2]; 4] = [[0, 0], [0, 1], [3, 0], [3, 0]];
 
-const BYTES: [u8; 5] = [1, 2, 3, 4, 5];
+static BYTES: [u8; 5] = [1, 2, 3, 4, 5];
 
 // These play without a promise.
 fn play_reads<R: TellRead, P: ReaderPolicy>(
