@@ -73,8 +73,8 @@ fn space(rdr: &Reader<'_>) -> (usize, usize, usize) {
     )
 }
 
-// What the calls answer, and the space at the end. What is handed out, and then what is buffered, has to be what was held and then
-// given.
+// What the calls answer, and the space at the end. What is handed out, and then what is buffered, has to be what was held and
+// then given.
 fn looks(
     alloc: Global,
     rdr: &mut Reader<'_>,

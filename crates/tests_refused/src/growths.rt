@@ -87,7 +87,8 @@ fn made_grows<T: Grows>(
     }
 }
 
-// The storage, and then a block of each type, either kind at once, and a buffer that hold three bytes behind two that were consumed.
+// The storage, and then a block of each type, either kind at once, and a buffer that hold three bytes behind two that were
+// consumed.
 pub fn blocks(alloc: Global, trial: &mut Trial) -> Result<(), Wrong> {
     made_grows(trial, raw(alloc), 5004)?;
     made_grows(trial, plain(alloc), 5005)?;
