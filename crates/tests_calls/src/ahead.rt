@@ -1,4 +1,5 @@
 //! What a plain buffer moves under a policy that looks ahead, told by where its bytes stand.
+use crate::fixtures::{over, shows};
 use buffer_redux::policy::{DoRead, MinBuffered, ReaderPolicy};
 use buffer_redux::tell::{Tell, TellRead, TellSeek, Told};
 use buffer_redux::{BufReader, Buffer, GrowError};
@@ -6,11 +7,9 @@ use redux_play::laws;
 use redux_play::play::{ReaderCall, ReaderRun};
 use std::alloc::{AllocError, Global};
 use std::io;
-use std::io::{BufRead, SeekFrom};
+use std::io::SeekFrom;
 use std::test::Fail;
-use tests_common::{
-    Positions, Source, asked, consume, fill_buf, first, reader, reader_under, source,
-};
+use tests_common::{Positions, Source, asked, consume, first, reader, reader_under, source};
 
 // The bytes 1 to 30.
 static BYTES: [u8; 30] = [
@@ -73,18 +72,6 @@ fn seen(rdr: &Weighed) -> (usize, usize, usize) {
 // So many bytes are consumed, and a fill under this minimum then shows those from here to there; so many were moved by
 // then, the capacity is this, and the source was asked so often.
 type Step = [usize; 7];
-
-// Whether a fill shows these bytes.
-pub(crate) fn shows<R: BufRead>(rdr: &mut R, bytes: &[u8]) -> io::Result<bool> {
-    Ok(fill_buf(rdr)? == bytes)
-}
-
-// What comes of these calls of a stream, which is dropped then.
-pub(crate) fn over<S: Drop, T, F: FnOnce(&mut S) -> T>(mut stream: S, calls: F) -> T
-    requires { F.IsAlwaysCallable calls }
-{
-    calls(&mut stream)
-}
 
 fn takes_step<R: TellRead>(rdr: &mut BufReader<R, Weighing>, step: &Step) -> io::Result<bool> {
     let &[consumed, min, from, to, ..] = step;

@@ -1,4 +1,5 @@
 //! A policy and a stream that are changed, or put in the place of others.
+use crate::fixtures::{Sink, sink};
 use buffer_redux::policy::FlushOn;
 use buffer_redux::tell::{TellRead, TellWrite, Told};
 use buffer_redux::{BufReader, BufWriter, LineWriter};
@@ -6,12 +7,6 @@ use std::alloc::Global;
 use std::io;
 use std::test::Fail;
 use tests_common::{flush, line_writer, read_to_end, reader, writer, writer_under};
-
-type Sink = Told<Vec<u8>>;
-
-fn sink(alloc: Global) -> Sink {
-    Told::new(Vec::new(alloc))
-}
 
 fn change_byte<W: TellWrite>(wrt: &mut BufWriter<W, FlushOn>, byte: u8) -> u8 {
     wrt.policy_mut().0 = byte;

@@ -5,7 +5,7 @@ ghost use Rattle.buffer_redux.specs.BufWriter.{WritesInOrder};
 ghost use Rattle.buffer_redux.specs.Policy.{any_read_rules, no_read_claims};
 ghost use Rattle.buffer_redux.specs.ReaderLaws.{WantsBytes};
 
-use crate::ahead::{over, shows};
+use crate::fixtures::{over, shows};
 use buffer_redux::policy::{DoRead, MinBuffered, ReaderPolicy, WriterPolicy};
 use buffer_redux::tell::{TellRead, TellWrite, Told};
 use buffer_redux::{BufReader, BufWriter, Buffer, GrowError};

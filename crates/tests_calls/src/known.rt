@@ -6,7 +6,7 @@ ghost use Rattle.buffer_redux.specs.Told.{told_stream};
 ghost use Rattle.buffer_redux.specs.Copy.{ReceivesAll};
 ghost use Rattle.buffer_redux.specs.WriterTells.{writer_log};
 
-use crate::ahead::{over, shows};
+use crate::fixtures::{over, shows};
 use buffer_redux::tell::Told;
 use buffer_redux::{BufReader, BufWriter, GrowError, Unbuffer};
 use redux_play::laws;

@@ -1,5 +1,5 @@
 //! The laws, each called once.
-use crate::ahead::{over, shows};
+use crate::fixtures::{Sink, over, shows, sink};
 use buffer_redux::policy::{
     FlushAtLeast, FlushExact, FlushOn, FlushOnNewline, MinBuffered, StdPolicy, WriterPolicy,
 };
@@ -11,12 +11,6 @@ use std::io;
 use std::io::ErrorKind;
 use std::test::Fail;
 use tests_common::{kind, line_writer, reader, reader_under, write, writer, writer_under};
-
-type Sink = Told<Vec<u8>>;
-
-fn sink(alloc: Global) -> Sink {
-    Told::new(Vec::new(alloc))
-}
 
 // A writer under this policy, over a buffer of capacity 4.
 fn under<P: WriterPolicy + Drop>(

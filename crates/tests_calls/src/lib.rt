@@ -11,6 +11,8 @@ mod copy;
 #[cfg(test)]
 mod example;
 #[cfg(test)]
+mod fixtures;
+#[cfg(test)]
 mod known;
 #[cfg(test)]
 mod laws;

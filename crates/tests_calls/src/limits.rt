@@ -1,7 +1,7 @@
 //! A buffer's own limit under readers and writers.
 ghost use Rattle.std.specs.Prelude.{◌≡◌, IfOk};
 
-use crate::ahead::{over, shows};
+use crate::fixtures::{over, shows};
 use buffer_redux::policy::{MinBuffered, StdPolicy};
 use buffer_redux::tell::{Tell, TellRead, TellWrite, Told};
 use buffer_redux::{BufReader, BufWriter, Buffer, GrowError, LineWriter};

@@ -1,5 +1,5 @@
 //! A list of calls that isn't played to its end. Others are lines of the program `replay`.
-use crate::reader::of_four;
+use crate::fixtures::of_four;
 use buffer_redux::BufReader;
 use buffer_redux::tell::TellRead;
 use redux_play::play::{ReaderCall, ReaderRun, play_reader};

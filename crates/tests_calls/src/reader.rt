@@ -1,23 +1,12 @@
 //! Readers that are taken apart, or read by a trait alone.
+use crate::fixtures::of_four;
 use buffer_redux::BufReader;
 use buffer_redux::policy::MinBuffered;
-use buffer_redux::script::Answer;
 use buffer_redux::tell::{Tell, Told};
 use std::alloc::Global;
 use std::io::BufRead;
 use std::test::Fail;
 use tests_common::{Source, debug, reader, reader_under, source};
-
-// A reader over a buffer of capacity 4 that holds the first bytes, and a source that gives the others by a script.
-pub(crate) fn of_four(
-    alloc: Global,
-    held: &[u8],
-    bytes: &[u8],
-    script: &[Answer],
-) -> Result<BufReader<Source>, Fail> {
-    let source = source(alloc, bytes, script)?;
-    Ok(reader(alloc, 4, held, source)?)
-}
 
 fn into_inner<R: Tell, P: Drop>(rdr: BufReader<R, P>) -> R {
     rdr.into_inner()

@@ -1,5 +1,5 @@
 //! A reader that gives its buffer up, by worked examples.
-use crate::reader::of_four;
+use crate::fixtures::of_four;
 use buffer_redux::script::Answer;
 use buffer_redux::tell::{Tell, TellRead};
 use buffer_redux::{BufReader, Unbuffer};
