@@ -1,13 +1,13 @@
 -- Which seeks a seek of a buffered reader makes, and what it does to the reader.
-use Rattle.std.specs.Prelude.{◌≡◌, ℕ, ℤ, pos, ◌-◌, ◌^◌, ◌-ℤ◌, neg_ℤ, nat_le, int_le, ◌⊎◌, length, Option, None, Some, Result, Err, MatchResult, OnOk, OnErr, if◌then◌else◌}
+use Rattle.std.specs.Prelude.{◌≡◌, ℕ, ℤ, pos, ◌-◌, ◌^◌, ◌≤◌, ◌-ℤ◌, neg_ℤ, nat_le, int_le, ◌⊎◌, length, Option, None, Some, Result, Ok, Err, MatchResult, OnOk, OnErr, if◌then◌else◌}
 use Rattle.std.specs.declared.io.Error.{Error}
 use Rattle.std.specs.declared.io.traits.SeekFrom.{SeekFrom}
 use Rattle.std.specs.declared.io.traits.SeekFrom.TheVariants.{Start, End, Current}
-use Rattle.redux_buffer.specs.Block.{Clears}
+use Rattle.redux_buffer.specs.Block.{Clears, ConsumesFirst}
 use Rattle.redux_tell.specs.StreamLog.{Readies, SeekTells}
 use Rattle.buffer_redux.specs.declared.buf_reader.seek.SeekPlan.{SeekPlan}
 use Rattle.buffer_redux.specs.declared.buf_reader.seek.SeekPlan.TheVariants.{One, Two}
-use Rattle.buffer_redux.specs.Buffered.{Buffered}
+use Rattle.buffer_redux.specs.Buffered.{Buffered, with_block}
 
 -- the least i64
 abbrev pub least_offset : ℤ
@@ -58,3 +58,14 @@ place_before len (Some place) = if nat_le len place then Some (place - len) else
 -- where a reader is known to stand: before the stream inside by the bytes that are buffered
 abbrev pub reader_position : {S P : Type 0} → (S → Option ℕ) → Buffered S P → Option ℕ
 reader_position position r = place_before (length r.block.bytes) (position r.inner)
+
+-- forward within what is buffered, just so many bytes are dropped, and nothing else changes
+pub record DropsWithin {S P : Type 0} (n : ℕ) (s : Buffered S P) (answer : Result (Unit {0}) Error) (t : Buffered S P)
+    : Type 0 where
+  pub ok : answer ≡ Ok tt
+  pub dropped : ConsumesFirst n s.block t.block
+  pub others : t ≡ with_block s t.block
+
+abbrev pub GoesOnWithin : {S P : Type 0} → ℤ → Buffered S P → Result (Unit {0}) Error → Buffered S P → Type 0
+GoesOnWithin offset s answer t =
+    (n : ℕ) → offset ≡ pos n → n ≤ length s.block.bytes → DropsWithin n s answer t

@@ -1,16 +1,16 @@
 //! Seeks of the buffered reader.
-ghost use Rattle.std.specs.Prelude.{◌≡◌, ℕ, ◌^◌, ◌≤◌, length};
+ghost use Rattle.std.specs.Prelude.{◌≡◌, ℕ, ◌^◌, ◌≤◌, length, IfSome, IfOk};
 ghost use Rattle.std.specs.Io.KnownBytes.{Keeps};
-ghost use Rattle.std.specs.Io.Seek.{SeekMoves};
+ghost use Rattle.std.specs.Io.Seek.{MovesBy, SeekMoves, StaysAt};
 ghost use Rattle.redux_buffer.specs.Block.{IsBlock};
 ghost use Rattle.redux_tell.specs.StreamLog.{with_fault};
-ghost use Rattle.buffer_redux.specs.Seek.{plan_for, reader_position, Seeks, SeeksOnce, SeekLeaves};
+ghost use Rattle.buffer_redux.specs.Seek.{plan_for, reader_position, GoesOnWithin, Seeks, SeeksOnce, SeekLeaves};
 ghost use Rattle.buffer_redux.specs.Sparing.{Spared};
 
 use crate::buf_reader::BufReader;
 use redux_tell::tell::TellSeek;
 use std::io;
-use std::io::{Seek, SeekFrom};
+use std::io::{ErrorKind, Seek, SeekFrom};
 
 /// Which seeks of the inner reader one seek of a [`BufReader`] is.
 ///
@@ -59,6 +59,31 @@ impl<R: TellSeek, P> BufReader<R, P> {
     }
 }
 
+impl<R: TellSeek, P> BufReader<R, P> {
+    // A relative seek that leaves the buffer.
+    #[cold]
+    #[inline(never)]
+    fn seek_far(&mut self, offset: i64) -> io::Result<()>
+        ensures moves { MovesBy (reader_position R.stream_position self.old)
+            (reader_position R.stream_position self.new) offset result }
+        ensures bytes { Keeps (R.stream_bytes self.old.inner) (R.stream_bytes self.new.inner) }
+        ensures whole { IsBlock self.new.block }
+    {
+        self.seek(SeekFrom::Current(offset))?;
+        Ok(())
+    }
+
+    #[inline(always)]
+    fn seek_far_aside(&mut self, offset: i64) -> io::Result<()>
+        ensures moves { MovesBy (reader_position R.stream_position self.old)
+            (reader_position R.stream_position self.new) offset result }
+        ensures bytes { Keeps (R.stream_bytes self.old.inner) (R.stream_bytes self.new.inner) }
+        ensures whole { IsBlock self.new.block }
+    {
+        self.seek_far(offset)
+    }
+}
+
 impl<R: TellSeek, P> Seek for BufReader<R, P> {
     ghost stream_position = { reader_position R.stream_position };
 
@@ -84,6 +109,40 @@ impl<R: TellSeek, P> Seek for BufReader<R, P> {
                 self.seek_once(SeekFrom::Current(back))?;
                 self.seek_once(SeekFrom::Current(offset))
             }
+        }
+    }
+
+    /// Goes on by `offset` bytes, or back by as many. Forward within what is buffered it drops just those bytes and asks
+    /// nobody; else it is a [`seek`](Seek::seek). The policy is not asked.
+    #[inline(always)]
+    fn seek_relative(&mut self, offset: i64) -> io::Result<()>
+        ensures moves { MovesBy (reader_position R.stream_position self.old)
+            (reader_position R.stream_position self.new) offset result }
+        ensures bytes { Keeps (R.stream_bytes self.old.inner) (R.stream_bytes self.new.inner) }
+        ensures near { GoesOnWithin offset self.old result self.new }
+        ensures whole { IsBlock self.new.block }
+    {
+        if offset >= 0 && offset as usize <= self.buf.len() {
+            self.buf.consume(offset as usize);
+            return Ok(());
+        }
+        self.seek_far_aside(offset)
+    }
+
+    /// Where it stands: as the inner reader says, less what is buffered, which stays. `InvalidData` where the inner reader
+    /// says less than that.
+    fn stream_position(&mut self) -> io::Result<u64>
+        ensures value { IfSome (reader_position R.stream_position self.old) (λ at. IfOk result (λ n. n ≡ at)) }
+        ensures stays { StaysAt (reader_position R.stream_position self.old)
+            (reader_position R.stream_position self.new) }
+        ensures bytes { Keeps (R.stream_bytes self.old.inner) (R.stream_bytes self.new.inner) }
+        ensures block { self.new.block ≡ self.old.block }
+        ensures whole { IsBlock self.new.block }
+    {
+        let at = self.inner.seek_told(SeekFrom::Current(0))?;
+        match at.checked_sub(self.buf.len() as u64) {
+            Some(n) => Ok(n),
+            None => Err(io::Error::from(ErrorKind::InvalidData)),
         }
     }
 }
