@@ -1,5 +1,6 @@
 -- What follows from the steps of a write, whatever it returned.
-use Rattle.std.proofs.Common.{◌≡◌, ℕ, ◌<◌, List, [], ◌++◌, length, min, take, Result, Ok, Err, refl, ap, ◌∙◌, arith, inl, inr, append-nil}
+use Rattle.std.proofs.Common.{◌≡◌, ℕ, ◌<◌, List, [], ◌++◌, length, min, take, Result, Ok, Err, refl, sym, ap, subst, ◌∙◌, arith, inl, inr, append-nil}
+use Rattle.std.proofs.Math.Seq.{take-length}
 use Rattle.std.specs.Io.{WritesAtMost}
 use Rattle.std.specs.Io.KnownBytes.{WriteAppends}
 use Rattle.std.specs.declared.io.Error.{Error}
@@ -69,6 +70,12 @@ takes_in_roomy m t bs n whole room count added policy told = record {
     told = told;
   };
 }
+
+-- and all of them, where they were appended as they are
+pub takes_in_all : {S P : Type 0} (m t : Buffered S P) (bs : List ℕ) → IsBlock m.block → length bs < usable m.block
+    → Extends bs m.block t.block → t.policy ≡ m.policy → t.log ≡ m.log → TakesIn bs m (Ok (length bs)) t
+takes_in_all m t bs whole room added policy told = takes_in_roomy m t bs (length bs) whole room (omega (arith, room))
+    (subst (λ l. Extends l m.block t.block) (sym (take-length bs)) added) policy told
 
 -- all that `write` promises, as its clauses say it
 module _ {S P : Type 0} (tells : S → StreamLog) (stretch : S → S → Type 0) (rules : WriteRules P)

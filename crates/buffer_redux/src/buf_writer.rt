@@ -271,6 +271,10 @@ impl<W: TellWrite, P: WriterPolicy> Write for BufWriter<W, P> {
         ensures steps { Writes P.rules self.old bytes.now result self.new }
         ensures keeps { WriterKeeps W.log W.stretch P.rules self.old self.new }
     {
+        // Asked before the policy is, so that a policy that asks the same isn't compiled into the caller.
+        if self.buf.usable_space() <= bytes.len() {
+            return self.write_asking_aside(bytes);
+        }
         let FlushAmt(first) = self.policy.before_write(&mut self.buf, bytes.len())?;
         if first > 0 {
             return self.write_aside(first, bytes);
@@ -279,9 +283,9 @@ impl<W: TellWrite, P: WriterPolicy> Write for BufWriter<W, P> {
             return self.write_aside(0, bytes);
         }
         // Nothing is sent first, and the bytes fit with room to spare.
-        let copied = self.buf.copy_from_slice(bytes);
+        self.buf.append(bytes);
         self.flush_after();
-        Ok(copied)
+        Ok(bytes.len())
     }
 
     /// Writes until all is taken in: after a short write what is left, and after one that was interrupted the same again. A
@@ -302,6 +306,10 @@ impl<W: TellWrite, P: WriterPolicy> Write for BufWriter<W, P> {
             let _ = &self.buf;
             return Ok(());
         }
+        // Asked before the policy is, so that a policy that asks the same isn't compiled into the caller.
+        if self.buf.usable_space() <= bytes.len() {
+            return self.write_large_aside(bytes);
+        }
         match self.policy.before_write(&mut self.buf, bytes.len()) {
             Ok(FlushAmt(first)) => {
                 if first > 0 {
@@ -311,7 +319,7 @@ impl<W: TellWrite, P: WriterPolicy> Write for BufWriter<W, P> {
                     return self.write_rest_aside(0, bytes);
                 }
                 // Nothing is sent first, and the bytes fit with room to spare.
-                let _copied = self.buf.copy_from_slice(bytes);
+                self.buf.append(bytes);
                 self.flush_after();
                 Ok(())
             }

@@ -237,6 +237,23 @@ impl BufImpl {
         n
     }
 
+    // Copies all of `src` behind the bytes, where it fits there. A length that the caller's compiler knows stays known, so it
+    // makes no call of a short copy.
+    pub(crate) fn append_all(&mut self, src: &[u8])
+        requires fits { length src.now ≤ usable (as_placed self.old).block }
+        ensures bytes { Extends src.now (as_placed self.old).block (as_placed self.new).block }
+        ensures place { (as_placed self.new).place ≡ (draw_back (as_placed self.old)).place }
+        ensures moved { (as_placed self.new).block.moved ≡ (draw_back (as_placed self.old)).block.moved }
+        ensures whole { IsPlaced (as_placed self.new) }
+    {
+        if self.is_past() {
+            self.draw_back();
+        }
+        let n = src.len();
+        self.write_front(n).copy_from_slice(src);
+        self.take_front(n);
+    }
+
     // Copies the first bytes to the front of `out`, as many as fit, drops them, and returns how many those are.
     pub(crate) fn take_out(&mut self, out: &mut [u8]) -> usize
         ensures count { result ≡ min (length (as_placed self.old).block.bytes) (length out.old) }

@@ -269,6 +269,15 @@ impl Buffer {
         self.imp.append(src)
     }
 
+    /// Appends all of `src`, which fits behind the bytes.
+    pub fn append(&mut self, src: &[u8])
+        requires fits { length src.now ≤ usable self.old }
+        ensures bytes { Extends src.now self.old self.new }
+        ensures whole { IsBlock self.new }
+    {
+        self.imp.append_all(src);
+    }
+
     /// Copies the first bytes to the front of `out`, as many as fit, drops them, and returns how many those are.
     pub fn copy_to_slice(&mut self, out: &mut [u8]) -> usize
         ensures count { result ≡ min (length self.old.bytes) (length out.old) }

@@ -3,12 +3,12 @@ ghost use Rattle.std.specs.Prelude.{◌<◌, Err, length};
 ghost use Rattle.std.specs.Io.{WritesAtMost};
 ghost use Rattle.redux_buffer.specs.Block.{IsBlock};
 ghost use Rattle.buffer_redux.specs.Buffered.{Buffered, InnerWent};
-ghost use Rattle.buffer_redux.specs.BufWriter.{WritesOn};
+ghost use Rattle.buffer_redux.specs.BufWriter.{Writes, WritesOn};
 ghost use Rattle.buffer_redux.specs.WriteAll.{AskedFirst, OneWrite, WritesAll};
 
 use crate::all_bytes::further;
 use crate::buf_writer::BufWriter;
-use redux_policy::WriterPolicy;
+use redux_policy::{FlushAmt, WriterPolicy};
 use redux_tell::tell::TellWrite;
 use std::io;
 use std::io::{ErrorKind, Write};
@@ -28,6 +28,29 @@ impl<W: TellWrite, P: WriterPolicy> BufWriter<W, P> {
         let written = self.take_in(bytes)?;
         self.flush_after();
         Ok(written)
+    }
+
+    // All of a write that may not fit behind what is buffered.
+    #[cold]
+    #[inline(never)]
+    fn write_asking(&mut self, bytes: &[u8]) -> io::Result<usize>
+        ensures bound { WritesAtMost result bytes.now }
+        ensures steps { Writes P.rules self.old bytes.now result self.new }
+        ensures whole { IsBlock self.new.block }
+        ensures stretch { InnerWent W.log W.stretch self.old self.new }
+    {
+        let FlushAmt(first) = self.policy.before_write(&mut self.buf, bytes.len())?;
+        self.write_slowly(first, bytes)
+    }
+
+    #[inline(always)]
+    pub(super) fn write_asking_aside(&mut self, bytes: &[u8]) -> io::Result<usize>
+        ensures bound { WritesAtMost result bytes.now }
+        ensures steps { Writes P.rules self.old bytes.now result self.new }
+        ensures whole { IsBlock self.new.block }
+        ensures stretch { InnerWent W.log W.stretch self.old self.new }
+    {
+        self.write_asking(bytes)
     }
 
     // Goes on in `write_slowly`. The kit's compiler clears the answer of a call, here 96 bytes, where the function that makes
@@ -85,6 +108,26 @@ impl<W: TellWrite, P: WriterPolicy> BufWriter<W, P> {
             → WritesAll W.log W.stretch P.rules s bytes.now result self.new }
     {
         self.write_rest(first, bytes)
+    }
+
+    // A write of all bytes that may not fit behind those that are buffered.
+    #[cold]
+    #[inline(never)]
+    fn write_large(&mut self, bytes: &[u8]) -> io::Result<()>
+        requires some { 0 < length bytes.now }
+        ensures all { WritesAll W.log W.stretch P.rules self.old bytes.now result self.new }
+    {
+        let _ = &self.buf;
+        let answer = self.write(bytes);
+        self.write_on(answer, bytes)
+    }
+
+    #[inline(always)]
+    pub(super) fn write_large_aside(&mut self, bytes: &[u8]) -> io::Result<()>
+        requires some { 0 < length bytes.now }
+        ensures all { WritesAll W.log W.stretch P.rules self.old bytes.now result self.new }
+    {
+        self.write_large(bytes)
     }
 
     #[inline(always)]

@@ -1,6 +1,6 @@
-use Rattle.std.proofs.Common.{◌≡◌, Ok, refl, arith, rules}
+use Rattle.std.proofs.Common.{◌≡◌, Ok, length, refl, arith, rules}
 use Rattle.buffer_redux.specs.Buffered.{Buffered, InnerWent}
-use Rattle.buffer_redux.proofs.WriteOn.{writes_on, write_says, flushes_none, takes_in_roomy}
+use Rattle.buffer_redux.proofs.WriteOn.{writes_on, write_says, flushes_none, takes_in_all}
 use Rattle.buffer_redux.proofs.buf_writer.BufWriterWrite.write.Goals as goal
 use Rattle.buffer_redux.proofs.buf_writer.BufWriterWrite.write.Goals.{After-before_write}
 
@@ -13,6 +13,12 @@ asked_writer g c = record {
   log = g.W.Tell.log c.self.inside.inner;
   own_calls = c.self.inside.calls.log;
 }
+
+-- the bytes may not fit, before the policy was asked
+pub returns-then-usable_space-bytes : goal.returns-then-usable_space-bytes
+returns-then-usable_space-bytes g c =
+    let wrote = c.write_asking_aside.ensures in
+    write_says _ _ g.P.WriterPolicy.rules _ _ _ _ wrote.bound wrote.whole wrote.stretch wrote.steps
 
 -- something is sent first
 pub returns-then-first-gt0 : goal.returns-then-first-gt0
@@ -39,19 +45,19 @@ returns-then-bytes-usable_space g c =
 -- neither is so
 pub returns : goal.returns
 returns g c =
-    let n = c.copy_from_slice-copied.result in
+    let bytes = c.args.bytes.now in
     let whole = c.in_ok-first.ensures.law.whole c.self.invariant in
     let before = asked_writer g (goal.at.returns g c).After-before_write in
-    let after : Buffered g.row.W.Denot g.row.P.Denot = record before { block = c.copy_from_slice-copied.new.self } in
+    let after : Buffered g.row.W.Denot g.row.P.Denot = record before { block = c.append.new.self } in
     let went : InnerWent g.W.Tell.log g.W.TellWrite.stretch c.args.self.now c.flush_after.new.self = search rules in
-    write_says _ _ g.P.WriterPolicy.rules _ _ (Ok n) _ (omega (arith, c.copy_from_slice-copied.ensures.count))
+    write_says _ _ g.P.WriterPolicy.rules _ _ (Ok (length bytes)) _ (omega arith)
     c.flush_after.ensures.whole went (rw (← c.self.view_is) (writes_on g.P.WriterPolicy.rules _ before
-    c.args.bytes.now c.in_ok-first.field-0 c.in_ok-first.ensures whole refl (Ok n) c.flush_after.new.self (record {
+    bytes c.in_ok-first.field-0 c.in_ok-first.ensures whole refl (Ok (length bytes)) c.flush_after.new.self (record {
       before = before;
       after = after;
       flush = flushes_none _ _ (omega (arith, c.if-first-gt0.false, c.in_ok-first.first-is));
-      took_in = takes_in_roomy _ _ c.args.bytes.now n whole
+      took_in = takes_in_all _ _ bytes whole
           (omega (arith, c.if-bytes-usable_space.false, c.usable_space.ensures.value))
-          c.copy_from_slice-copied.ensures.count c.copy_from_slice-copied.ensures.bytes refl refl;
+          c.append.ensures.bytes refl refl;
       finished = c.flush_after.ensures.finished;
     })))

@@ -3,7 +3,7 @@ use Rattle.std.proofs.lemmas.List.{nil_from_length}
 use Rattle.redux_buffer.specs.Block.{usable}
 use Rattle.buffer_redux.specs.Buffered.{Buffered}
 use Rattle.buffer_redux.specs.WriteAll.{AskedFirst}
-use Rattle.buffer_redux.proofs.WriteOn.{writes_on, flushes_none, takes_in_roomy}
+use Rattle.buffer_redux.proofs.WriteOn.{writes_on, flushes_none, takes_in_all}
 use Rattle.buffer_redux.proofs.WriteAll.{all_none, all_at_once, all_says}
 use Rattle.buffer_redux.proofs.buf_writer.BufWriterWrite.write_all.Goals as goal
 use Rattle.buffer_redux.proofs.buf_writer.BufWriterWrite.write_all.Goals.{In-Ok}
@@ -50,23 +50,27 @@ returns-then-first-gt0 g c =
     all_says _ _ _ _ _ _ _ (c.write_rest_aside.ensures.all c.args.self.now
     (asked_first g (goal.at.returns-then-first-gt0 g c).In-Ok _ refl))
 
--- the bytes may not fit
+-- the bytes may not fit, before the policy was asked
 pub returns-then-usable_space-bytes : goal.returns-then-usable_space-bytes
-returns-then-usable_space-bytes g c =
-    all_says _ _ _ _ _ _ _ (c.write_rest_aside-then-usable_space-bytes.ensures.all c.args.self.now
-    (asked_first g (goal.at.returns-then-usable_space-bytes g c).In-Ok 0
+returns-then-usable_space-bytes g c = all_says _ _ _ _ _ _ _ c.write_large_aside.ensures.all
+
+-- or once it was
+pub returns-then-usable_space-bytes-2 : goal.returns-then-usable_space-bytes-2
+returns-then-usable_space-bytes-2 g c =
+    all_says _ _ _ _ _ _ _ (c.write_rest_aside-then-usable_space-bytes-2.ensures.all c.args.self.now
+    (asked_first g (goal.at.returns-then-usable_space-bytes-2 g c).In-Ok 0
     (omega (arith, c.if-first-gt0.false, c.in-Ok.first-is))))
 
 -- neither is so
-pub returns-else-usable_space-bytes : goal.returns-else-usable_space-bytes
-returns-else-usable_space-bytes g c =
+pub returns-else-usable_space-bytes-2 : goal.returns-else-usable_space-bytes-2
+returns-else-usable_space-bytes-2 g c =
     let rules = g.P.WriterPolicy.rules in
-    let n = c.copy_from_slice-copied.result in
+    let bytes = c.args.bytes.now in
     let whole = c.in-Ok.ensures.law.whole c.self.invariant in
-    let roomy : length c.args.bytes.now < usable c.before_write.new.buf =
-    omega (arith, c.if-usable_space-bytes.false, c.usable_space.ensures.value) in
-    let some : 0 < length c.args.bytes.now =
-    omega (arith, some_of (length c.args.bytes.now) (sym c.is_empty.ensures ∙ c.if-is_empty.false)) in
+    let roomy : length bytes < usable c.before_write.new.buf =
+    omega (arith, c.if-usable_space-bytes-2.false, c.usable_space-in-Ok.ensures.value) in
+    let some : 0 < length bytes =
+    omega (arith, some_of (length bytes) (sym c.is_empty.ensures ∙ c.if-is_empty.false)) in
     let before : Buffered g.row.W.Denot g.row.P.Denot = record {
       policy = c.before_write.new.self;
       block = c.before_write.new.buf;
@@ -74,17 +78,16 @@ returns-else-usable_space-bytes g c =
       log = g.W.Tell.log c.self.inside.inner;
       own_calls = c.self.inside.calls.log;
     } in
-    let after : Buffered g.row.W.Denot g.row.P.Denot = record before { block = c.copy_from_slice-copied.new.self } in
+    let after : Buffered g.row.W.Denot g.row.P.Denot = record before { block = c.append.new.self } in
     all_says _ _ _ _ _ _ (Ok tt) (all_at_once _ _ g.met.W.TellWrite.stretch_none g.met.W.TellWrite.stretch_joins rules
-    c.args.self.now c.args.bytes.now n c.flush_after.new.self some (omega (arith, c.copy_from_slice-copied.ensures.count, roomy))
+    c.args.self.now bytes (length bytes) c.flush_after.new.self some refl
     (rw (← c.self.view_is) (record {
-      steps = writes_on rules _ before c.args.bytes.now c.in-Ok.field-0 c.in-Ok.ensures whole refl (Ok n)
+      steps = writes_on rules _ before bytes c.in-Ok.field-0 c.in-Ok.ensures whole refl (Ok (length bytes))
           c.flush_after.new.self (record {
             before = before;
             after = after;
             flush = flushes_none _ _ (omega (arith, c.if-first-gt0.false, c.in-Ok.first-is));
-            took_in = takes_in_roomy _ _ c.args.bytes.now n whole roomy
-                c.copy_from_slice-copied.ensures.count c.copy_from_slice-copied.ensures.bytes refl refl;
+            took_in = takes_in_all _ _ bytes whole roomy c.append.ensures.bytes refl refl;
             finished = c.flush_after.ensures.finished;
           });
       whole = (c.self.invariant, c.flush_after.ensures.whole);
