@@ -1,4 +1,6 @@
+use Rattle.std.proofs.Common.{arith}
 use Rattle.std.proofs.Common.{rules}
+use Rattle.std.proofs.lemmas.Grind.{common_steps}
 use Rattle.buffer_redux.proofs.FillFacts.{ReadsInOrder-read_from, read_from_grows}
 use Rattle.buffer_redux.proofs.buf_reader.BufReader.read_into_buf.Goals as goal
 
@@ -14,3 +16,15 @@ returns-clause-reads g c = record {
   noted = search rules;
   whole = search rules;
 }
+
+pub returns-clause-err : goal.returns-clause-err
+returns-clause-err g c = grind (arith, common_steps)
+
+pub returns-clause-end : goal.returns-clause-end
+returns-clause-end g c = grind (arith, common_steps)
+
+pub returns-clause-spared : goal.returns-clause-spared
+returns-clause-spared g c = grind (arith, common_steps)
+
+pub returns-clause-not_asked : goal.returns-clause-not_asked
+returns-clause-not_asked g c = grind (arith, common_steps)

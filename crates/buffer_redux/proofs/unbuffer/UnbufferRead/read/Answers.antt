@@ -1,20 +1,51 @@
-use Rattle.std.proofs.Common.{◌≡◌, ℕ, List, [], ◌++◌, length, take, drop, min, sym, ap, ◌∙◌, arith, rules, append-nil, length-take-le, take_at}
-use Rattle.std.proofs.lemmas.List.{take-append-drop, nil_from_length}
+use Rattle.std.proofs.Common.{◌≡◌, ℕ, List, [], ◌++◌, length, take, drop, min, Option, Ok, subst, sym, ap, ◌∙◌, arith, rules, append-nil, length-append, length-drop, length-take-le, take_at}
+use Rattle.std.specs.Io.KnownBytes.{Consumes, prepend_known}
+use Rattle.std.proofs.lemmas.Grind.{common_steps}
+use Rattle.std.proofs.lemmas.List.{take-append-drop, nil_from_length, drop_min}
+use Rattle.redux_tell.specs.GivesRemaining.{GivesRemaining, GivesRemaining-none, GivesRemaining-ahead}
+use Rattle.redux_tell.specs.LogGrows.{ReadLogGrows, ReadLogGrows-none, ReadLogGrows-read}
 use Rattle.redux_tell.specs.StreamLog.{portion}
-use Rattle.buffer_redux.specs.Unbuffer.{Unbuffered, HandsOutInOrder, bytes_in}
+use Rattle.buffer_redux.specs.Unbuffer.{Unbuffered, HandsOutInOrder, HandsOutLeft, bytes_in}
 use Rattle.buffer_redux.proofs.unbuffer.UnbufferRead.read.Goals as goal
 
 -- the front of what was left was handed out
-handed : {R : Type 0} (s t : Unbuffered R) (n m : ℕ) (out rest : List ℕ) → n ≡ min (length s.left) m
-    → out ≡ take n s.left ++ rest → t.left ≡ drop n s.left → t.log ≡ s.log → HandsOutInOrder s (take n out) t
-handed s t n m out rest count copied left told = record {
-  got = [];
-  given = ap (λ l. l.reads.given) told ∙ sym (append-nil s.log.reads.given);
-  equal =
-      ap (λ l. take n l ++ t.left) copied
-      ∙ ap (λ l. l ++ t.left) (take_at (take n s.left) rest n (length-take-le n s.left (omega (arith, count))))
-      ∙ ap (λ l. take n s.left ++ l) left ∙ take-append-drop n s.left ∙ sym (append-nil s.left);
-}
+record Handed {R : Type 0} (remaining : R → Option (List ℕ)) (s t : Unbuffered R) (n : ℕ) (old out : List ℕ) : Type 0 where
+  in_order : HandsOutInOrder s (take n out) t
+  left : HandsOutLeft s old (Ok n) out t
+  known : Consumes (prepend_known s.left (remaining s.inner)) (prepend_known t.left (remaining t.inner)) (take n out)
+  size : length out ≡ length old
+  grows : ReadLogGrows s.log.reads t.log.reads
+
+handed : {R : Type 0} (remaining : R → Option (List ℕ)) (s t : Unbuffered R) (n : ℕ) (old out : List ℕ)
+    → n ≡ min (length s.left) (length old) → out ≡ take n s.left ++ drop n old → t.left ≡ drop n s.left
+    → t.inner ≡ s.inner → t.log ≡ s.log → Handed remaining s t n old out
+handed remaining s t n old out count copied left inner told =
+    let taken = length-take-le n s.left (omega (arith, count)) in
+    let swapped : n ≡ min (length old) (length s.left) = omega (arith, count) in
+    let equal : take n out ++ t.left ≡ s.left ++ [] =
+    ap (λ l. take n l ++ t.left) copied
+    ∙ ap (λ l. l ++ t.left) (take_at (take n s.left) (drop n old) n taken)
+    ∙ ap (λ l. take n s.left ++ l) left ∙ take-append-drop n s.left ∙ sym (append-nil s.left) in
+    record {
+      in_order = record {
+        got = [];
+        given = ap (λ l. l.reads.given) told ∙ sym (append-nil s.log.reads.given);
+        equal = equal;
+      };
+      left = record {
+        count = ap Ok count;
+        left = left ∙ ap (λ k. drop k s.left) swapped ∙ drop_min (length old) s.left;
+        rest = grind (arith, common_steps);
+        inner = inner;
+        told = told;
+      };
+      known = GivesRemaining-ahead (remaining s.inner) (remaining t.inner) s.log.reads s.log.reads s.left t.left (take n out) []
+          (subst (λ i. GivesRemaining (remaining s.inner) s.log.reads (remaining i) s.log.reads) (sym inner)
+          (GivesRemaining-none (remaining s.inner) s.log.reads))
+          (sym (append-nil s.log.reads.given)) equal;
+      size = omega (arith, count, taken, ap length copied, length-append (take n s.left) (drop n old), length-drop n old);
+      grows = subst (λ l. ReadLogGrows s.log.reads l.reads) (sym told) (ReadLogGrows-none s.log.reads);
+    }
 
 pub returns-in_default-clause-in_order : goal.returns-in_default-clause-in_order
 returns-in_default-clause-in_order g c =
@@ -26,8 +57,13 @@ returns-in_default-clause-in_order g c =
       equal = ap (λ l. given ++ l) left ∙ append-nil given ∙ sym (ap (λ l. l ++ given) left);
     })
 
-pub returns-then-is_empty-clause-in_order : goal.returns-then-is_empty-clause-in_order
-returns-then-is_empty-clause-in_order g c =
+pub returns-in_default-clause-grows : goal.returns-in_default-clause-grows
+returns-in_default-clause-grows g c =
+    rw (← c.self.view_is, c.read_told.ensures.told) (ReadLogGrows-read (g.R.Tell.log c.self.inside.inner) c.read_told.new.buf c.read_told.result)
+
+then_handed : (g : _) (c : goal.Joined-self-2 g) → Handed g.R.TellRead.remaining c.args.self.now c.match-self-2.self
+    c.copy_to_slice-n.result c.args.out.now c.copy_to_slice-n.new.out
+then_handed g c =
     let s = c.args.self.now in
     let t = c.match-self-2.self in
     let copy = c.copy_to_slice-n in
@@ -35,8 +71,95 @@ returns-then-is_empty-clause-in_order g c =
     sym (ap (λ u. u.left) c.self.view_is) ∙ ap bytes_in c.in-Some.is in
     let none : copy.new.self.bytes ≡ [] = nil_from_length _ (c.is_empty.ensures.value.0 c.if-is_empty.true) in
     let freed : t.left ≡ [] = search rules in
+    let inner : t.inner ≡ s.inner = search rules in
     let told : t.log ≡ s.log = search rules in
-    handed s t copy.result (length c.args.out.now) copy.new.out (drop copy.result c.args.out.now)
+    handed _ s t copy.result c.args.out.now copy.new.out
     (copy.ensures.count ∙ ap (λ l. min (length l) (length c.args.out.now)) (sym had))
     (copy.ensures.copied ∙ ap (λ l. take copy.result l ++ drop copy.result c.args.out.now) (sym had))
-    (freed ∙ sym none ∙ copy.ensures.bytes.bytes ∙ ap (drop copy.result) (sym had)) told
+    (freed ∙ sym none ∙ copy.ensures.bytes.bytes ∙ ap (drop copy.result) (sym had)) inner told
+
+else_handed : (g : _) (c : goal.Else-is_empty g) → Handed g.R.TellRead.remaining c.args.self.now
+    (record { left = c.copy_to_slice-n.new.self.bytes; inner = c.self.inside.inner; log = g.R.Tell.log c.self.inside.inner })
+    c.copy_to_slice-n.result c.args.out.now c.copy_to_slice-n.new.out
+else_handed g c =
+    let s = c.args.self.now in
+    let copy = c.copy_to_slice-n in
+    let had : s.left ≡ c.in-Some.buf.bytes =
+    sym (ap (λ u. u.left) c.self.view_is) ∙ ap bytes_in c.in-Some.is in
+    handed _ s _ copy.result c.args.out.now copy.new.out
+    (copy.ensures.count ∙ ap (λ l. min (length l) (length c.args.out.now)) (sym had))
+    (copy.ensures.copied ∙ ap (λ l. take copy.result l ++ drop copy.result c.args.out.now) (sym had))
+    (copy.ensures.bytes.bytes ∙ ap (drop copy.result) (sym had))
+    (ap (λ u. u.inner) c.self.view_is) (ap (λ u. u.log) c.self.view_is)
+
+pub returns-then-is_empty-clause-in_order : goal.returns-then-is_empty-clause-in_order
+returns-then-is_empty-clause-in_order g c =
+    (then_handed g c).in_order
+
+pub returns-then-is_empty-clause-left : goal.returns-then-is_empty-clause-left
+returns-then-is_empty-clause-left g c =
+    λ _. (then_handed g c).left
+
+pub returns-then-is_empty-clause-grows : goal.returns-then-is_empty-clause-grows
+returns-then-is_empty-clause-grows g c =
+    (then_handed g c).grows
+
+pub returns-then-is_empty-clause-asked : goal.returns-then-is_empty-clause-asked
+returns-then-is_empty-clause-asked g c =
+    λ none. absurd (omega (
+      arith,
+      rw c.in-Some.is at c.self.invariant,
+      ap length (sym (ap (λ u. u.left) c.self.view_is) ∙ ap bytes_in c.in-Some.is),
+      none,
+    ))
+
+pub returns-then-is_empty-clause-bytes : goal.returns-then-is_empty-clause-bytes
+returns-then-is_empty-clause-bytes g c =
+    let h = (then_handed g c) in (
+      h.known,
+      λ none room. absurd (omega (
+        arith,
+        rw c.in-Some.is at c.self.invariant,
+        ap length (sym (ap (λ u. u.left) c.self.view_is) ∙ ap bytes_in c.in-Some.is),
+        none,
+        room,
+        h.size,
+        c.copy_to_slice-n.ensures.count,
+      )),
+    )
+
+pub returns-else-is_empty-clause-in_order : goal.returns-else-is_empty-clause-in_order
+returns-else-is_empty-clause-in_order g c =
+    (else_handed g c).in_order
+
+pub returns-else-is_empty-clause-left : goal.returns-else-is_empty-clause-left
+returns-else-is_empty-clause-left g c =
+    λ _. (else_handed g c).left
+
+pub returns-else-is_empty-clause-grows : goal.returns-else-is_empty-clause-grows
+returns-else-is_empty-clause-grows g c =
+    (else_handed g c).grows
+
+pub returns-else-is_empty-clause-asked : goal.returns-else-is_empty-clause-asked
+returns-else-is_empty-clause-asked g c =
+    λ none. absurd (omega (
+      arith,
+      rw c.in-Some.is at c.self.invariant,
+      ap length (sym (ap (λ u. u.left) c.self.view_is) ∙ ap bytes_in c.in-Some.is),
+      none,
+    ))
+
+pub returns-else-is_empty-clause-bytes : goal.returns-else-is_empty-clause-bytes
+returns-else-is_empty-clause-bytes g c =
+    let h = (else_handed g c) in (
+      h.known,
+      λ none room. absurd (omega (
+        arith,
+        rw c.in-Some.is at c.self.invariant,
+        ap length (sym (ap (λ u. u.left) c.self.view_is) ∙ ap bytes_in c.in-Some.is),
+        none,
+        room,
+        h.size,
+        c.copy_to_slice-n.ensures.count,
+      )),
+    )

@@ -1,7 +1,9 @@
-use Rattle.std.proofs.Common.{◌≡◌, ◌≤◌, length, arith, rules, ◌∙◌, ap, sym}
+use Rattle.std.proofs.Common.{◌≡◌, ◌≤◌, length, Ok, Err, arith, rules, ◌∙◌, ap, sym}
+use Rattle.std.proofs.lemmas.Result.{err_from_is_err_and}
+use Rattle.redux_tell.specs.GivesRemaining.{GivesRemaining-none, GivesRemaining-read}
 use Rattle.redux_buffer.specs.Block.{usable}
 use Rattle.redux_buffer.specs.BufImpl.{as_placed}
-use Rattle.redux_buffer.proofs.Written.{written_adds}
+use Rattle.redux_buffer.proofs.Written.{written_adds, written_leaves, leaves_extends}
 use Rattle.redux_buffer.proofs.buffer.Buffer.read_from.Goals as goal
 
 pub returns-clause-read : goal.returns-clause-read
@@ -24,3 +26,36 @@ returns-clause-read g c =
             c.self.inside.limit;
       };
     })
+
+pub returns-in_err-n-clause-read : goal.returns-in_err-n-clause-read
+returns-in_err-n-clause-read g c =
+    let w = c.read_told.new.buf in
+    let p = err_from_is_err_and c.from_residual.result c.from_residual.ensures.1 in
+    let whole : length w ≡ usable (as_placed c.self.inside.imp).block = search rules in
+    rw (p.1, p.2, ← c.self.view_is) (record {
+      no_room = λ none. absurd
+          (c.if-usable_space-eq0.false (c.usable_space.ensures.value ∙ ap usable (sym c.self.view_is) ∙ none));
+      read = λ some. record {
+        out = w;
+        offered = whole;
+        bound = tt;
+        told = c.in_err-n.ensures.told;
+        added = leaves_extends _ _ (written_leaves c.self.inside.imp w c.self.inside.limit);
+      };
+    })
+
+pub returns-in_err-n-clause-err : goal.returns-in_err-n-clause-err
+returns-in_err-n-clause-err g c =
+    let p = err_from_is_err_and c.from_residual.result c.from_residual.ensures.1 in
+    rw (p.1, ← c.self.view_is) (written_leaves c.self.inside.imp c.read_told.new.buf c.self.inside.limit)
+
+pub returns-in_err-n-clause-known : goal.returns-in_err-n-clause-known
+returns-in_err-n-clause-known g c = GivesRemaining-read _ _ _ _ c.read_told.new.buf (Err c.in_err-n.field-0.0)
+    c.in_err-n.ensures.bytes c.in_err-n.ensures.told
+
+pub returns-clause-known : goal.returns-clause-known
+returns-clause-known g c = GivesRemaining-read _ _ _ _ c.read_told.new.buf (Ok c.in_ok-n.n)
+    c.in_ok-n.ensures.bytes c.in_ok-n.ensures.told
+
+pub returns-then-usable_space-eq0-clause-known : goal.returns-then-usable_space-eq0-clause-known
+returns-then-usable_space-eq0-clause-known g c = GivesRemaining-none _ _

@@ -1,6 +1,7 @@
 use Rattle.std.proofs.Common.{◌≡◌, ◌≤◌, ◌<◌, ◌+◌, ◌-◌, [], ◌++◌, length, arith, rules, ap, ◌∙◌, length-append, length-drop, length-take-le}
 use Rattle.std.proofs.lemmas.Result.{err_from_is_err_and}
 use Rattle.redux_tell.specs.Faults.{OnlyInterrupted-none}
+use Rattle.std.proofs.lemmas.Grind.{common_steps}
 use Rattle.redux_buffer.proofs.Sending.{Sent-more, only_more, short_more, whole_more, sends_failed, sends_nothing}
 use Rattle.redux_buffer.proofs.buffer.Buffer.write_max.Goals as goal
 
@@ -70,3 +71,24 @@ loop-left-preserved g c =
       stretch = g.met.W.TellWrite.stretch_joins _ _ _ inv.stretch c.in_ok-n.ensures.stretch;
       whole = c.consume.ensures.whole;
     }
+
+pub returns-clause-sent : goal.returns-clause-sent
+returns-clause-sent g c = grind (arith, common_steps)
+
+pub returns-clause-idle : goal.returns-clause-idle
+returns-clause-idle g c = grind (arith, common_steps)
+
+pub returns-clause-whole : goal.returns-clause-whole
+returns-clause-whole g c = grind (arith, common_steps)
+
+pub returns-in_err-n-clause-idle : goal.returns-in_err-n-clause-idle
+returns-in_err-n-clause-idle g c = grind (arith, common_steps)
+
+pub returns-in_err-n-clause-whole : goal.returns-in_err-n-clause-whole
+returns-in_err-n-clause-whole g c = grind (arith, common_steps)
+
+pub returns-then-n-eq0-clause-idle : goal.returns-then-n-eq0-clause-idle
+returns-then-n-eq0-clause-idle g c = grind (arith, common_steps)
+
+pub returns-then-n-eq0-clause-whole : goal.returns-then-n-eq0-clause-whole
+returns-then-n-eq0-clause-whole g c = grind (arith, common_steps)
