@@ -6,8 +6,8 @@ use Rattle.std.specs.declared.io.ErrorKind.TheVariants.{Interrupted, Other, OutO
 use Rattle.buffer_redux.specs.Copy.{SourceFailed}
 use Rattle.buffer_redux.specs.StreamLog.{StreamLog}
 use Rattle.programs.specs.Streams.{AllFlushed, BufferRefused, GaveNothing, MetNoFault, SendFailed}
-use Rattle.programs.specs.declared.ending.Ending.{Ending}
-use Rattle.programs.specs.declared.ending.Ending.TheVariants.{Done, Failed, Usage, Memory}
+use Rattle.copier.specs.declared.ending.Ending.{Ending}
+use Rattle.copier.specs.declared.ending.Ending.TheVariants.{Done, Failed, Usage, Memory}
 
 -- what was received is a beginning of what was given
 pub record IsBeginning (read read' written written' : StreamLog) : Type 0 where

@@ -1,7 +1,7 @@
 -- What the words after the program's name can be.
 use Rattle.std.proofs.Common.{◌≡◌, ◌↔◌, ℕ, ◌<◌, ◌≤◌, Bool, false, List, [], ◌∷◌, ◌++◌, map, length, get_or, Option, Some, None, unwrap_or, refl, sym, ap, ◌∙◌, arith, inl, inr}
 use Rattle.std.specs.Str.Parse.{digits_value}
-use Rattle.bufcopy.specs.Settings.{IsCapacity, NamesBuffer, AskForBuffer, AskForCapacity, AskFor}
+use Rattle.copier.specs.Settings.{IsCapacity, NamesBuffer, AskForBuffer, AskForCapacity, AskFor}
 
 -- the four forms that words which ask for something have
 data Form (words : List (List ℕ)) (ring : Bool) (capacity : ℕ) : Type 0 where

@@ -1,13 +1,15 @@
 //! The copy itself, over any two streams that tell.
-ghost use Rattle.std.specs.Prelude.{◌≡◌, ◌≤◌, ◌⊎◌, ◌↔◌, codes, map, string_bytes, IfOk, IfErr, OnErr};
+ghost use Rattle.std.specs.Prelude.{◌≡◌, ◌≢◌, ◌≤◌, ◌⊎◌, ◌↔◌, map, string_bytes, IfOk, IfErr, OnOk, OnErr};
+ghost use Rattle.std.specs.IoError.{error_kind};
 ghost use Rattle.programs.specs.Streams.{IsFresh};
-ghost use Rattle.bufcopy.specs.Settings.{Asks};
-ghost use Rattle.bufcopy.specs.Copy.{EitherFailed, OverTotal, Copied, InterruptedOften, IsBeginning, RunEnded, RunFailed};
+ghost use Rattle.copier.specs.Settings.{Asks};
+ghost use Rattle.copier.specs.Copy.{EitherFailed, OverTotal, Copied, InterruptedOften, IsBeginning, RunEnded, RunFailed};
 
+use crate::ending::Ending;
 use crate::settings::settings;
 use buffer_redux::tell::{TellRead, TellWrite};
 use buffer_redux::{BufReader, BufWriter, copy_buf};
-use programs::{Ending, GREATEST_CAPACITY, Said, buffered};
+use programs::{GREATEST_CAPACITY, buffered};
 use std::alloc::Global;
 use std::io;
 use std::io::{ErrorKind, Write};
@@ -83,18 +85,18 @@ pub fn run_asked<R: TellRead, W: TellWrite>(
         return (Ending::Usage, reader, writer);
     };
     let (answer, reader, writer) = run(alloc, ring, cap, reader, writer);
-    (Ending::of(&answer), reader, writer)
+    (ending(&answer), reader, writer)
 }
 
-/// What the program says of an ending.
-pub fn said(ending: Ending) -> Said<'static>
-    ensures program { result.program.now ≡ codes "bufcopy" }
-    ensures usage { result.usage.now ≡ codes "[std|ring] [CAPACITY]" }
-    ensures ending { result.ending ≡ ending }
+/// How a run ends that returned this.
+pub fn ending(answer: &io::Result<u64>) -> Ending
+    ensures done { OnOk answer.now (result ≡ Ending.Done) }
+    ensures memory { IfErr answer.now (λ e. error_kind e ≡ ErrorKind.OutOfMemory → result ≡ Ending.Memory) }
+    ensures failed { IfErr answer.now (λ e. error_kind e ≢ ErrorKind.OutOfMemory → result ≡ Ending.Failed) }
 {
-    Said {
-        program: "bufcopy",
-        usage: "[std|ring] [CAPACITY]",
-        ending,
+    match answer {
+        Ok(_) => Ending::Done,
+        Err(e) if e.kind() == ErrorKind::OutOfMemory => Ending::Memory,
+        Err(_) => Ending::Failed,
     }
 }

@@ -1,7 +1,7 @@
 use Rattle.std.proofs.Common.{inl, arith}
 use Rattle.std.proofs.lemmas.Result.{err_from_is_err_and}
-use Rattle.bufcopy.proofs.Moving.{copy_begins, flush_begins, copy_caused, copy_often, flush_often, left_caused, flush_caused, flush_copied}
-use Rattle.bufcopy.proofs.run.copy_all.Goals as goal
+use Rattle.copier.proofs.Moving.{copy_begins, flush_begins, copy_caused, copy_often, flush_often, left_caused, flush_caused, flush_copied}
+use Rattle.copier.proofs.run.copy_all.Goals as goal
 
 pub returns-in_err-total-clause-caused : goal.returns-in_err-total-clause-caused
 returns-in_err-total-clause-caused g c =

@@ -1,5 +1,5 @@
-use Rattle.bufcopy.proofs.Moving.{IsBeginning-none}
-use Rattle.bufcopy.proofs.run.run.Goals as goal
+use Rattle.copier.proofs.Moving.{IsBeginning-none}
+use Rattle.copier.proofs.run.run.Goals as goal
 
 pub returns-in-Err-clause-a_beginning : goal.returns-in-Err-clause-a_beginning
 returns-in-Err-clause-a_beginning g c =

@@ -1,7 +1,7 @@
 //! What the words after the program's name ask for.
 ghost use Rattle.std.specs.Prelude.{◌≡◌, ◌↔◌, ℕ, Bool, Some, map, SomeIff, string_bytes};
 ghost use Rattle.std.specs.Str.Parse.{digits_value};
-ghost use Rattle.bufcopy.specs.Settings.{AskFor, IsCapacity, NamesBuffer};
+ghost use Rattle.copier.specs.Settings.{AskFor, IsCapacity, NamesBuffer};
 
 use buffer_redux::DEFAULT_BUF_SIZE;
 use programs::{GREATEST_CAPACITY, number};

@@ -15,8 +15,8 @@ use Rattle.buffer_redux.specs.WriterLaws.{WritesInOrder-then}
 use Rattle.buffer_redux.specs.ReaderTells.{reader_log, ReaderWent, FaultsAlike-only, FaultsAlike-fault}
 use Rattle.buffer_redux.specs.WriterTells.{writer_log, TellsFailures, WriterWent, WriterCalled}
 use Rattle.buffer_redux.specs.Copy.{MovedBy, LastWrite, CopyEnded, CopyFailed, FaultsRise}
-use Rattle.bufcopy.specs.Copy.{Copied, EitherFailed, IsBeginning, OnlyFlushLeft, InterruptedOften, OverTotal}
-use Rattle.bufcopy.specs.Copy as RunFaults
+use Rattle.copier.specs.Copy.{Copied, EitherFailed, IsBeginning, OnlyFlushLeft, InterruptedOften, OverTotal}
+use Rattle.copier.specs.Copy as RunFaults
 
 -- nothing was given, and nothing received
 pub IsBeginning-none : (read written : StreamLog) → IsBeginning read read written written

@@ -1,7 +1,7 @@
 use Rattle.std.proofs.Common.{refl}
-use Rattle.bufcopy.proofs.Moving.{IsBeginning-none}
-use Rattle.bufcopy.proofs.SettingsFacts.{asked_in_range}
-use Rattle.bufcopy.proofs.run.run_asked.Goals as goal
+use Rattle.copier.proofs.Moving.{IsBeginning-none}
+use Rattle.copier.proofs.SettingsFacts.{asked_in_range}
+use Rattle.copier.proofs.run.run_asked.Goals as goal
 
 pub run-answer-requires-clause-some : goal.run-answer-requires-clause-some
 run-answer-requires-clause-some g c = (asked_in_range _ _ _ ((c.in-Some.ensures c.in-Some.ring c.in-Some.cap).0 refl)).0

@@ -1,6 +1,6 @@
 use Rattle.std.proofs.Common.{◌≡◌, arith, sym, string_bytes, None}
-use Rattle.bufcopy.proofs.SettingsFacts.{unnamed, tells_named, tells_none_alone, tells_none_named, tells_both, map_one, map_two}
-use Rattle.bufcopy.proofs.settings.settings.Goals as goal
+use Rattle.copier.proofs.SettingsFacts.{unnamed, tells_named, tells_none_alone, tells_none_named, tells_both, map_one, map_two}
+use Rattle.copier.proofs.settings.settings.Goals as goal
 
 pub returns-in_err-capacity-in-None : goal.returns-in_err-capacity-in-None
 returns-in_err-capacity-in-None c =
