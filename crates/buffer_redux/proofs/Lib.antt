@@ -9,6 +9,7 @@ pub mod Telling
 pub mod SeekTelling
 pub mod Resting
 pub mod WriteOn
+pub mod WriteAllCauses
 pub mod WriteAll
 pub mod ReadAll
 pub mod ReadSteps

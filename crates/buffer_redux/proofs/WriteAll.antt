@@ -17,7 +17,8 @@ use Rattle.buffer_redux.specs.AllBytes.{GoesBy, EndsBy, GaveUp}
 use Rattle.buffer_redux.specs.Buffered.{Buffered, InnerWent}
 use Rattle.buffer_redux.specs.BufWriter.{writer_contents, WritesInOrder, FlushesAmount, TakesIn, Prepared, Finished, Writes, WriterKeeps, WriteErrorCaused}
 use Rattle.buffer_redux.specs.WriterLaws.{WritesInOrder-none, WritesInOrder-joins, WritesInOrder-contents, flush_ways, ways_in}
-use Rattle.buffer_redux.specs.WriteAll.{LastWriteFailed, WriteTurns, TookFront, TookBeginning, WritesAll, OneWrite}
+use Rattle.buffer_redux.specs.WriteAll.{LastWriteFailed, WriteTurns, TookFront, TookBeginning, WriteAllErrorCaused, WritesAll, WritesAllSteadily, OneWrite}
+use Rattle.buffer_redux.proofs.WriteAllCauses.{all_caused, all_steadily}
 use Rattle.buffer_redux.proofs.WriterFacts.{writes_keep, writes_caused, writes_steadily, writes_nothing}
 
 -- what stays in a write: the policy's claims, and the kind of the buffer
@@ -300,6 +301,8 @@ module _ {S P : Type 0} (tells : S → StreamLog) (stretch : S → S → Type 0)
     bytes : OnOk answer (Appends (writer_contents s) (writer_contents t) bs);
     in_order : OnOk answer (WritesInOrder s bs t);
     beginning : TookBeginning bs s t;
+    caused : WriteAllErrorCaused tells stretch rules s bs answer t;
+    steadily : WritesAllSteadily rules s answer t;
     retried : IfErr answer (λ e. error_kind e ≢ Interrupted);
     whole : IsBlock t.block;
     steps : WritesAll tells stretch rules s bs answer t;
@@ -312,6 +315,8 @@ module _ {S P : Type 0} (tells : S → StreamLog) (stretch : S → S → Type 0)
         bytes = WritesInOrder-contents s t bs in_order;
         in_order = in_order;
         beginning = beginning w;
+        caused = tt;
+        steadily = λ steady. tt;
         retried = tt;
         whole = w.front.keeps.whole;
         steps = w;
@@ -321,6 +326,8 @@ module _ {S P : Type 0} (tells : S → StreamLog) (stretch : S → S → Type 0)
     bytes = tt;
     in_order = tt;
     beginning = beginning w;
+    caused = all_caused tells stretch rules s bs e t w;
+    steadily = all_steadily tells stretch rules s bs e t w;
     retried = elim w.ended [
       | inl failed ↦ not_interrupted WriteZero (λ odd. cc) failed.answer e failed.ends
       | inr late ↦ λ odd. (let two = sym late.0.timed_out ∙ odd in cc)

@@ -1,6 +1,8 @@
 -- What the calls of a buffered writer do and promise.
 use Rattle.std.specs.Prelude.{◌≡◌, ℕ, ◌+◌, ◌-◌, ◌<◌, ◌≤◌, ◌⊎◌, List, [], ◌∷◌, ◌++◌, length, min, Option, Some, Result, Ok, Err, MatchResult, true, IfErr, OnOk, OnErr}
+use Rattle.std.specs.IoError.{error_kind}
 use Rattle.std.specs.declared.io.Error.{Error}
+use Rattle.std.specs.declared.io.ErrorKind.TheVariants.{WriteZero, TimedOut}
 use Rattle.std.specs.declared.io.traits.SeekFrom.{SeekFrom}
 use Rattle.redux_buffer.specs.Block.{Block, IsBlock, Extends, MakesRoomInFront, usable}
 use Rattle.redux_tell.specs.LogGrows.{WriteLogGrows}
@@ -215,6 +217,61 @@ pub record WasFlushed {S P : Type 0} (tells : S → StreamLog) (stretch : S → 
   pub kind : t.block.kind ≡ s.block.kind
   pub whole : IsBlock t.block
   pub went : InnerWent tells stretch s t
+
+-- what any calls do, one after another, that accept these bytes and make no seek
+pub record WritesAlong {S P : Type 0} (tells : S → StreamLog) (stretch : S → S → Type 0) (rules : WriteRules P)
+    (s : Buffered S P) (accepted : List ℕ) (t : Buffered S P) : Type 0 where
+  pub in_order : WritesInOrder s accepted t
+  pub calls : stretch s.inner t.inner
+  pub told : s.log ≡ tells s.inner → t.log ≡ tells t.inner
+  pub noted : t.own_calls ≡ s.own_calls
+  pub grows : WriteLogGrows s.log.writes t.log.writes
+  pub capacity : s.block.capacity ≤ t.block.capacity
+  pub kind : t.block.kind ≡ s.block.kind
+  pub claims : rules.claims t.policy ≡ rules.claims s.policy
+
+-- and the last was an Ok flush: nothing is buffered, and the inner writer received what was, then what was accepted, and
+-- has flushed all that it received
+pub record FlushedAlong {S P : Type 0} (tells : S → StreamLog) (stretch : S → S → Type 0) (rules : WriteRules P)
+    (s : Buffered S P) (accepted : List ℕ) (t : Buffered S P) : Type 0 where
+  pub along : WritesAlong tells stretch rules s accepted t
+  pub empty : t.block.bytes ≡ []
+  pub received : t.log.writes.received ≡ s.log.writes.received ++ (s.block.bytes ++ accepted)
+  pub flushed : t.log.writes.flushed ≡ t.log.writes.received
+
+-- the inner writer returned this very error since, and no other after it
+pub record LastFault (old new : WriteLog) (e : Error) : Type 0 where
+  pub before : List Error
+  pub faults : new.faults ≡ (old.faults ++ before) ++ e ∷ []
+
+-- a write took nothing of something since, which is answered by an error of this kind
+pub record ZeroWritten (old new : WriteLog) (e : Error) : Type 0 where
+  pub is_write_zero : error_kind e ≡ WriteZero
+  pub zero_writes : old.zero_writes < new.zero_writes
+
+-- the inner writer ended them with this error: by a fault, by a write that took nothing, or by 2^64 - 1 writes that took
+-- too little
+abbrev pub WriterStopped : WriteLog → WriteLog → Error → Type 0
+WriterStopped old new e = LastFault old new e ⊎ (ZeroWritten old new e ⊎ (error_kind e ≡ TimedOut))
+
+-- they ended with this error of the inner writer, and no byte that was accepted is lost
+pub record StoppedAlong {S P : Type 0} (tells : S → StreamLog) (stretch : S → S → Type 0) (rules : WriteRules P)
+    (s : Buffered S P) (e : Error) (t : Buffered S P) : Type 0 where
+  pub accepted : List ℕ
+  pub along : WritesAlong tells stretch rules s accepted t
+  pub why : WriterStopped s.log.writes t.log.writes e
+
+-- at Ok they accepted these bytes, and an Err is one of the inner writer
+abbrev pub AllAlong : {S P A : Type 0} → (S → StreamLog) → (S → S → Type 0) → WriteRules P → Buffered S P → List ℕ
+    → Result A Error → Buffered S P → Type 0
+AllAlong tells stretch rules s bytes answer t = MatchResult answer
+    (λ _. WritesAlong tells stretch rules s bytes t) (λ e. StoppedAlong tells stretch rules s e t)
+
+-- at Ok the last was an Ok flush too
+abbrev pub AllFlushed : {S P A : Type 0} → (S → StreamLog) → (S → S → Type 0) → WriteRules P → Buffered S P → List ℕ
+    → Result A Error → Buffered S P → Type 0
+AllFlushed tells stretch rules s bytes answer t = MatchResult answer
+    (λ _. FlushedAlong tells stretch rules s bytes t) (λ e. StoppedAlong tells stretch rules s e t)
 
 -- one seek of the inner writer; neither the policy nor the buffer was touched
 pub record SeeksInner {S P : Type 0} (tells : S → StreamLog) (readies : Readies) (s : Buffered S P) (to : SeekFrom)

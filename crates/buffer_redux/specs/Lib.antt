@@ -37,6 +37,7 @@ pub mod WriteAll
 pub mod Unwrapping
 pub mod LineWriter
 pub mod WriterLaws
+pub mod WritesAlongLaws
 pub mod ReaderTells
 pub mod WriterTells
 pub mod MinBufferedLaws

@@ -1,5 +1,6 @@
 -- What a write of all bytes promises: a write after another, of what is left, where one was short or interrupted.
-use Rattle.std.specs.Prelude.{◌≡◌, ℕ, ◌+◌, ◌-◌, ◌<◌, ◌≤◌, ◌⊎◌, List, length, take, drop, Result, Ok, MatchResult, zero, suc}
+use Rattle.std.specs.Prelude.{◌≡◌, ℕ, ◌+◌, ◌-◌, ◌<◌, ◌≤◌, ◌⊎◌, List, length, take, drop, Result, Ok, MatchResult, IfErr, true, zero, suc}
+use Rattle.std.specs.IoError.{error_kind}
 use Rattle.std.specs.declared.io.Error.{Error}
 use Rattle.std.specs.declared.io.ErrorKind.TheVariants.{WriteZero}
 use Rattle.redux_buffer.specs.Block.{IsBlock}
@@ -8,7 +9,7 @@ use Rattle.redux_policy.specs.declared.FlushAmt.{FlushAmt}
 use Rattle.redux_policy.specs.Policy.{WriteRules, BeforeWrite}
 use Rattle.buffer_redux.specs.AllBytes.{GoesBy, EndsBy, GaveUp}
 use Rattle.buffer_redux.specs.Buffered.{Buffered, InnerWent}
-use Rattle.buffer_redux.specs.BufWriter.{WritesInOrder, Writes, WriterKeeps, WriteErrorCaused, EmptyWriteCaused, WritesSteadily}
+use Rattle.buffer_redux.specs.BufWriter.{WritesInOrder, Writes, Wrote, WriterKeeps, WriteErrorCaused, WriteRefused, NoSpace, EmptyWriteCaused, WritesSteadily, WriterStopped}
 
 -- a write of the bytes behind the first `before` was gone on from; the first `count` are taken in now
 pub record WriteTurn {S P : Type 0} (rules : WriteRules P) (bs : List ℕ) (before count : ℕ) (s t : Buffered S P)
@@ -62,6 +63,33 @@ pub record WritesAll {S P : Type 0} (tells : S → StreamLog) (stretch : S → S
   pub front : TookFront tells stretch rules s (take count bs) t
   pub ended : MatchResult answer (λ _. (count ≡ length bs) × (t ≡ last))
       (λ e. LastWriteFailed rules (drop count bs) e last t ⊎ (GaveUp turns (length bs - count) e × (t ≡ last)))
+
+-- there was no space, and the policy's answer made none, so that a write of these bytes took nothing
+pub record LeftNoSpace {S P : Type 0} (rules : WriteRules P) (m : Buffered S P) (rest : List ℕ) (e : Error)
+    (t : Buffered S P) : Type 0 where
+  pub is_write_zero : error_kind e ≡ WriteZero
+  pub steps : Wrote rules m rest 0 t
+  pub full : NoSpace m (length rest) steps.before
+
+-- some first bytes were taken in, and the policy's answer to the write of the others ended it
+pub record PolicyStopped {S P : Type 0} (tells : S → StreamLog) (stretch : S → S → Type 0) (rules : WriteRules P)
+    (s : Buffered S P) (bs : List ℕ) (e : Error) (t : Buffered S P) : Type 0 where
+  pub count : ℕ
+  pub last : Buffered S P
+  pub first : TookFront tells stretch rules s (take count bs) last
+  pub why : WriteRefused rules last (drop count bs) e t ⊎ LeftNoSpace rules last (drop count bs) e t
+
+-- an error is the inner writer's or the policy's
+abbrev pub WriteAllErrorCaused : {S P : Type 0} → (S → StreamLog) → (S → S → Type 0) → WriteRules P → Buffered S P
+    → List ℕ → Result (Unit {0}) Error → Buffered S P → Type 0
+WriteAllErrorCaused tells stretch rules s bs answer t = IfErr answer
+    (λ e. WriterStopped s.log.writes t.log.writes e ⊎ PolicyStopped tells stretch rules s bs e t)
+
+-- and under a steady policy the inner writer's
+abbrev pub WritesAllSteadily : {S P : Type 0} → WriteRules P → Buffered S P → Result (Unit {0}) Error → Buffered S P
+    → Type 0
+WritesAllSteadily rules s answer t =
+    (rules.claims s.policy).steady ≡ true → IfErr answer (WriterStopped s.log.writes t.log.writes)
 
 -- one write, with this answer
 pub record OneWrite {S P : Type 0} (tells : S → StreamLog) (stretch : S → S → Type 0) (rules : WriteRules P)

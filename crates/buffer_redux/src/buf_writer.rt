@@ -14,7 +14,7 @@ ghost use Rattle.buffer_redux.specs.Buffered.{over_buffer, with_block, with_inne
 ghost use Rattle.buffer_redux.specs.BufWriter.{writer_contents, FlushesAmount, TakesIn, Finished, Writes};
 ghost use Rattle.buffer_redux.specs.BufWriter.{WritesSteadily, WritesInOrder, WriterKeeps, WriteErrorCaused, EmptyWriteCaused};
 ghost use Rattle.buffer_redux.specs.BufWriter.{WasSent, WasFlushed, WasSought};
-ghost use Rattle.buffer_redux.specs.WriteAll.{TookBeginning, WritesAll};
+ghost use Rattle.buffer_redux.specs.WriteAll.{TookBeginning, WriteAllErrorCaused, WritesAll, WritesAllSteadily};
 
 use crate::errors::MakeError;
 use redux_buffer::laws::block_law;
@@ -297,6 +297,8 @@ impl<W: TellWrite, P: WriterPolicy> Write for BufWriter<W, P> {
         ensures bytes { OnOk result (Appends (writer_contents self.old) (writer_contents self.new) bytes.now) }
         ensures in_order { OnOk result (WritesInOrder self.old bytes.now self.new) }
         ensures beginning { TookBeginning bytes.now self.old self.new }
+        ensures caused { WriteAllErrorCaused W.log W.stretch P.rules self.old bytes.now result self.new }
+        ensures steadily { WritesAllSteadily P.rules self.old result self.new }
         ensures retried { IfErr result (λ e. error_kind e ≢ ErrorKind.Interrupted) }
         ensures whole { IsBlock self.new.block }
         ensures steps { WritesAll W.log W.stretch P.rules self.old bytes.now result self.new }

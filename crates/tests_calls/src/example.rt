@@ -1,7 +1,7 @@
 //! The examples of README, CALLING, PROOFS and POLICIES.
-ghost use Rattle.std.specs.Prelude.{◌≡◌, ◌++◌, ◌<◌, ◌≤◌, ℕ, IfOk, IsTrue, List, Ok, OnOk, Some, false, length, take};
+ghost use Rattle.std.specs.Prelude.{◌≡◌, ◌++◌, ◌∷◌, ◌<◌, ◌≤◌, ℕ, IfOk, IsTrue, List, Ok, OnOk, Some, [], false, length, take, true};
 ghost use Rattle.buffer_redux.specs.BufReader.{RanDry, ReadsToEnd};
-ghost use Rattle.buffer_redux.specs.BufWriter.{WritesInOrder};
+ghost use Rattle.buffer_redux.specs.BufWriter.{AllFlushed, WritesInOrder};
 ghost use Rattle.buffer_redux.specs.Policy.{any_read_rules, no_read_claims};
 ghost use Rattle.buffer_redux.specs.ReaderLaws.{WantsBytes};
 
@@ -36,8 +36,29 @@ fn logs<W: TellWrite + Drop>(alloc: Global, to: W) -> io::Result<usize> {
 fn logs_an_entry(rt: HostRuntime) -> Result<(), Fail> {
     let mut device = Vec::new(rt.alloc());
     assert!(rt; logs(rt.alloc(), Told::new(&mut device))? == 0);
-    assert!(rt; device.as_slice() == b"abcdefg\n".as_slice());
+    assert!(rt; logs_line(rt.alloc(), Told::new(&mut device))? == 0);
+    assert!(rt; device.as_slice() == b"abcdefg\nabcdefg\n".as_slice());
     Ok(())
+}
+
+/// Writes a line, and flushes.
+fn log_line<W: TellWrite, P: WriterPolicy>(
+    writer: &mut BufWriter<W, P>,
+    line: &[u8],
+) -> io::Result<()>
+    requires steady { (P.rules.claims writer.old.policy).steady ≡ true }
+    ensures { AllFlushed W.log W.stretch P.rules writer.old (line.now ++ 10 ∷ []) result writer.new }
+{
+    writer.write_all(line)?;
+    writer.write_all(b"\n")?;
+    writer.flush()
+}
+
+// How many bytes stay buffered.
+fn logs_line<W: TellWrite + Drop>(alloc: Global, to: W) -> io::Result<usize> {
+    let mut writer = writer(alloc, 4, b"ab", to)?;
+    log_line(&mut writer, b"cdefg")?;
+    Ok(writer.buf_len())
 }
 
 /// Hands on what is buffered of `from`, as far as `to` takes it.

@@ -1,0 +1,245 @@
+-- Laws of stretches of a writer's calls, for the proofs of those who make them.
+use Rattle.std.specs.Prelude.{◌≡◌, ℕ, ◌⊎◌, List, [], ◌∷◌, ◌++◌, length, take, Result, Ok, Err, Option, true}
+use Rattle.std.proofs.Common.{sym, ap, subst, refl, ◌∙◌, arith, inl, inr, le_refl, le_trans, append_assoc, append-nil}
+use Rattle.std.proofs.Math.Seq.{take-length}
+use Rattle.std.proofs.lemmas.List.{append_cancel_left}
+use Rattle.std.specs.Io.KnownBytes.{Appends}
+use Rattle.std.specs.IoError.{error_kind}
+use Rattle.std.specs.declared.io.Error.{Error}
+use Rattle.redux_tell.specs.Faults.{FaultedAfter, SendErrorCaused, TookNothing}
+use Rattle.redux_tell.specs.LogGrows.{WriteLogGrows, WriteLogGrows-none, WriteLogGrows-joins, WritesGoOn}
+use Rattle.redux_tell.specs.StreamLog.{StreamLog, WriteLog, portion}
+use Rattle.redux_tell.specs.Told.{ToldWrites, told_log, told_stream}
+use Rattle.redux_tell.specs.declared.tell.told.Told.{Told}
+use Rattle.redux_policy.specs.Policy.{WriteRules}
+use Rattle.buffer_redux.specs.Buffered.{Buffered, InnerWent}
+use Rattle.buffer_redux.specs.BufWriter.{WritesInOrder, WriterKeeps, WriterFailed, WasSent, WasFlushed, WriteErrorCaused, WriteRefused, WritesSteadily, WritesAlong, FlushedAlong, WriterStopped, StoppedAlong, AllAlong, AllFlushed}
+use Rattle.buffer_redux.specs.WriteAll.{WritesAll, WritesAllSteadily}
+use Rattle.buffer_redux.specs.WriterLaws.{WritesInOrder-none, WritesInOrder-joins, WritesInOrder-contents}
+
+-- the log as a word that goes on
+goes_on : (s t : StreamLog) → WritesGoOn s t → WriteLogGrows s.writes t.writes
+unfolding WritesGoOn
+goes_on s t grows = grows
+
+-- what ended a later stretch ended the whole
+pub WriterStopped-after : (a b c : WriteLog) (e : Error) → WriteLogGrows a b → WriterStopped b c e → WriterStopped a c e
+WriterStopped-after a b c e grows (inl fault) = inl (record {
+  before = grows.faults.more ++ fault.before;
+  faults = fault.faults ∙ ap (λ l. (l ++ fault.before) ++ e ∷ []) grows.faults.equal
+      ∙ ap (λ l. l ++ e ∷ []) (append_assoc a.faults grows.faults.more fault.before);
+})
+WriterStopped-after a b c e grows (inr (inl zero)) = inr (inl (record
+    { is_write_zero = zero.is_write_zero; zero_writes = omega (arith, zero.zero_writes, grows.zero_writes) }))
+WriterStopped-after a b c e grows (inr (inr late)) = inr (inr late)
+
+-- what a send met ended it
+pub WriterStopped-send : (old new : WriteLog) (e : Error) → SendErrorCaused old new e → WriterStopped old new e
+WriterStopped-send old new e s = of s.cause
+  where
+    of : TookNothing s.interrupts old new (error_kind e) ⊎ FaultedAfter s.interrupts old new e → WriterStopped old new e
+    of (inl nothing) = inr (inl (record
+        { is_write_zero = nothing.is_write_zero; zero_writes = omega (arith, nothing.zero_writes) }))
+    of (inr fault) = inl (record { before = s.interrupts; faults = fault.faults })
+
+-- the same list is no longer, and the same count no larger
+nothing_failed : (old new : WriteLog) → new ≡ old → WriterFailed old new → ⊥
+nothing_failed old new same (inl fault) = omega (arith, fault, ap (λ l. length l.faults) same)
+nothing_failed old new same (inr zero) = omega (arith, zero, ap (λ l. l.zero_writes) same)
+
+-- so an error that came with a failure of the inner writer is the inner writer's
+pub WriteErrorCaused-failed : {S P : Type 0} (rules : WriteRules P) (s : Buffered S P) (bs : List ℕ) (e : Error)
+    (t : Buffered S P) → WriteErrorCaused rules s bs (Err e) t → WriterFailed s.log.writes t.log.writes
+    → WriterStopped s.log.writes t.log.writes e
+WriteErrorCaused-failed rules s bs e t caused failed = of caused
+  where
+    of : WriteRefused rules s bs e t ⊎ SendErrorCaused s.log.writes t.log.writes e
+        → WriterStopped s.log.writes t.log.writes e
+    of (inl refused) =
+        absurd (nothing_failed s.log.writes t.log.writes (ap (λ l. l.writes) refused.told) failed)
+    of (inr sent) = WriterStopped-send s.log.writes t.log.writes e sent
+
+module _ {S P : Type 0} (tells : S → StreamLog) (stretch : S → S → Type 0) (rules : WriteRules P) where
+  -- no call accepts nothing
+  pub WritesAlong-none : ((u : S) → stretch u u) → (s : Buffered S P) → WritesAlong tells stretch rules s [] s
+  WritesAlong-none none s = record {
+    in_order = WritesInOrder-none s;
+    calls = none s.inner;
+    told = λ is. is;
+    noted = refl;
+    grows = WriteLogGrows-none s.log.writes;
+    capacity = le_refl _;
+    kind = refl;
+    claims = refl;
+  }
+
+  pub WritesAlong-went : (s t : Buffered S P) (a : List ℕ) → s.log ≡ tells s.inner
+      → WritesAlong tells stretch rules s a t → InnerWent tells stretch s t
+  WritesAlong-went s t a is p =
+      record { calls = p.calls; told_before = is; told_after = p.told is; noted = p.noted }
+
+  -- a steady policy stays one
+  pub WritesAlong-steady : (s t : Buffered S P) (a : List ℕ) → WritesAlong tells stretch rules s a t
+      → (rules.claims s.policy).steady ≡ true → (rules.claims t.policy).steady ≡ true
+  WritesAlong-steady s t a p steady = ap (λ c. c.steady) p.claims ∙ steady
+
+  -- a call that says what it accepted and what it keeps, as `write` does, whatever it answers
+  pub WriterKeeps-along : (s : Buffered S P) (accepted : List ℕ) (t : Buffered S P) → WritesInOrder s accepted t
+      → WriterKeeps tells stretch rules s t → WritesAlong tells stretch rules s accepted t
+  WriterKeeps-along s accepted t order keeps = record {
+    in_order = order;
+    calls = keeps.went.calls;
+    told = λ _. keeps.went.told_after;
+    noted = keeps.went.noted;
+    grows = keeps.grows;
+    capacity = keeps.capacity;
+    kind = keeps.kind;
+    claims = keeps.claims;
+  }
+
+  -- the same with why it failed, under a steady policy
+  pub Writes-all : (s : Buffered S P) (bs : List ℕ) (answer : Result ℕ Error) (t : Buffered S P)
+      → WritesInOrder s (portion bs answer) t → WriteErrorCaused rules s bs answer t
+      → WritesSteadily rules s (length bs) answer t → WriterKeeps tells stretch rules s t
+      → (rules.claims s.policy).steady ≡ true → AllAlong tells stretch rules s (portion bs answer) answer t
+  Writes-all s bs (Ok n) t order caused steadily keeps steady = WriterKeeps-along s (take n bs) t order keeps
+  Writes-all s bs (Err e) t order caused steadily keeps steady = record {
+    accepted = [];
+    along = WriterKeeps-along s [] t order keeps;
+    why = WriteErrorCaused-failed rules s bs e t caused (steadily steady).err;
+  }
+
+  -- a write of all bytes, which at Err accepted some of the first
+  pub WritesAll-along : (s : Buffered S P) (bs : List ℕ) (answer : Result (Unit {0}) Error) (t : Buffered S P)
+      → (all : WritesAll tells stretch rules s bs answer t) → WritesAlong tells stretch rules s (take all.count bs) t
+  WritesAll-along s bs answer t all = WriterKeeps-along s (take all.count bs) t all.front.in_order all.front.keeps
+
+  pub WritesAll-took : (s : Buffered S P) (bs : List ℕ) (x : Unit {0}) (t : Buffered S P)
+      → WritesAll tells stretch rules s bs (Ok x) t → WritesAlong tells stretch rules s bs t
+  WritesAll-took s bs x t all = subst (λ l. WritesAlong tells stretch rules s l t)
+      (ap (λ n. take n bs) all.ended.0 ∙ take-length bs) (WritesAll-along s bs (Ok x) t all)
+
+  -- the same with why it failed, under a steady policy
+  pub WritesAll-all : (s : Buffered S P) (bs : List ℕ) (answer : Result (Unit {0}) Error) (t : Buffered S P)
+      → WritesAll tells stretch rules s bs answer t → WritesAllSteadily rules s answer t
+      → (rules.claims s.policy).steady ≡ true → AllAlong tells stretch rules s bs answer t
+  WritesAll-all s bs (Ok x) t all steadily steady = WritesAll-took s bs x t all
+  WritesAll-all s bs (Err e) t all steadily steady = record {
+    accepted = take all.count bs;
+    along = WritesAll-along s bs (Err e) t all;
+    why = steadily steady;
+  }
+
+  -- a flush accepts nothing, whatever it answers
+  pub WasFlushed-along : (s : Buffered S P) (answer : Result (Unit {0}) Error) (t : Buffered S P)
+      → WasFlushed tells stretch s answer t → WritesAlong tells stretch rules s [] t
+  WasFlushed-along s answer t f = record {
+    in_order = f.in_order;
+    calls = f.went.calls;
+    told = λ _. f.went.told_after;
+    noted = f.went.noted;
+    grows = f.grows;
+    capacity = omega (arith, f.capacity);
+    kind = f.kind;
+    claims = ap (λ p. rules.claims p) f.steps.policy;
+  }
+
+  pub WasFlushed-all : (s : Buffered S P) (answer : Result (Unit {0}) Error) (t : Buffered S P)
+      → WasFlushed tells stretch s answer t → AllAlong tells stretch rules s [] answer t
+  WasFlushed-all s (Ok x) t f = WasFlushed-along s (Ok x) t f
+  WasFlushed-all s (Err e) t f = record {
+    accepted = [];
+    along = WasFlushed-along s (Err e) t f;
+    why = WriterStopped-send s.log.writes t.log.writes e f.caused;
+  }
+
+  -- so does a send
+  module _ (goes : (u v : S) → stretch u v → WritesGoOn (tells u) (tells v)) where
+    pub WasSent-along : (s : Buffered S P) (answer : Result (Unit {0}) Error) (t : Buffered S P)
+        → WasSent tells stretch s answer t → WritesAlong tells stretch rules s [] t
+    WasSent-along s answer t f = record {
+      in_order = f.in_order;
+      calls = f.went.calls;
+      told = λ _. f.went.told_after;
+      noted = f.went.noted;
+      grows = goes_on s.log t.log (rw (f.went.told_before, f.went.told_after) (goes s.inner t.inner f.went.calls));
+      capacity = omega (arith, f.capacity);
+      kind = f.sends.sent.dropped.kind;
+      claims = ap (λ p. rules.claims p) f.policy;
+    }
+
+    pub WasSent-all : (s : Buffered S P) (answer : Result (Unit {0}) Error) (t : Buffered S P)
+        → WasSent tells stretch s answer t → AllAlong tells stretch rules s [] answer t
+    WasSent-all s (Ok x) t f = WasSent-along s (Ok x) t f
+    WasSent-all s (Err e) t f = record {
+      accepted = [];
+      along = WasSent-along s (Err e) t f;
+      why = WriterStopped-send s.log.writes t.log.writes e f.caused;
+    }
+
+  -- stretches join
+  module _ (joins : (u v w : S) → stretch u v → stretch v w → stretch u w) where
+    pub WritesAlong-joins : (s m t : Buffered S P) (a b : List ℕ) → WritesAlong tells stretch rules s a m
+        → WritesAlong tells stretch rules m b t → WritesAlong tells stretch rules s (a ++ b) t
+    WritesAlong-joins s m t a b p q = record {
+      in_order = WritesInOrder-joins s m t a b p.in_order q.in_order;
+      calls = joins s.inner m.inner t.inner p.calls q.calls;
+      told = λ is. q.told (p.told is);
+      noted = q.noted ∙ p.noted;
+      grows = WriteLogGrows-joins s.log.writes m.log.writes t.log.writes p.grows q.grows;
+      capacity = le_trans p.capacity q.capacity;
+      kind = q.kind ∙ p.kind;
+      claims = q.claims ∙ p.claims;
+    }
+
+    -- a stretch that accepts nothing more
+    pub WritesAlong-then : (s m t : Buffered S P) (a : List ℕ) → WritesAlong tells stretch rules s a m
+        → WritesAlong tells stretch rules m [] t → WritesAlong tells stretch rules s a t
+    WritesAlong-then s m t a p q =
+        subst (λ l. WritesAlong tells stretch rules s l t) (append-nil a) (WritesAlong-joins s m t a [] p q)
+
+    -- where a later stretch stopped, the whole did
+    pub StoppedAlong-after : (s m t : Buffered S P) (a : List ℕ) (e : Error) → WritesAlong tells stretch rules s a m
+        → StoppedAlong tells stretch rules m e t → StoppedAlong tells stretch rules s e t
+    StoppedAlong-after s m t a e p q = record {
+      accepted = a ++ q.accepted;
+      along = WritesAlong-joins s m t a q.accepted p q.along;
+      why = WriterStopped-after s.log.writes m.log.writes t.log.writes e p.grows q.why;
+    }
+
+    pub AllAlong-after : {A : Type 0} (s m t : Buffered S P) (a b : List ℕ) (answer : Result A Error)
+        → WritesAlong tells stretch rules s a m → AllAlong tells stretch rules m b answer t
+        → AllAlong tells stretch rules s (a ++ b) answer t
+    AllAlong-after s m t a b (Ok x) p q = WritesAlong-joins s m t a b p q
+    AllAlong-after s m t a b (Err e) p q = StoppedAlong-after s m t a e p q
+
+    -- behind an Ok flush all is received and flushed
+    pub FlushedAlong-of : (s m t : Buffered S P) (a : List ℕ) (x : Unit {0}) → WritesAlong tells stretch rules s a m
+        → WasFlushed tells stretch m (Ok x) t → FlushedAlong tells stretch rules s a t
+    FlushedAlong-of s m t a x p f =
+        let whole = WritesAlong-then s m t a p (WasFlushed-along m (Ok x) t f) in record {
+          along = whole;
+          empty = f.ok.empty;
+          received = sym (append-nil t.log.writes.received) ∙ ap (λ l. t.log.writes.received ++ l) (sym f.ok.empty)
+              ∙ WritesInOrder-contents s t a whole.in_order ∙ append_assoc s.log.writes.received s.block.bytes a;
+          flushed = f.ok.flushed;
+        }
+
+    pub AllFlushed-of : (s m t : Buffered S P) (a : List ℕ) (answer : Result (Unit {0}) Error)
+        → WritesAlong tells stretch rules s a m → WasFlushed tells stretch m answer t
+        → AllFlushed tells stretch rules s a answer t
+    AllFlushed-of s m t a (Ok x) p f = FlushedAlong-of s m t a x p f
+    AllFlushed-of s m t a (Err e) p f = StoppedAlong-after s m t a e p (WasFlushed-all m (Err e) t f)
+
+-- what a stream in a `Told` is known to hold gained just the bytes that were buffered and accepted
+pub FlushedAlong-held : {S P : Type 0} (contents : S → Option (List ℕ)) (rules : WriteRules P)
+    (s : Buffered (Told S) P) (a : List ℕ) (t : Buffered (Told S) P) → s.log ≡ told_log s.inner
+    → FlushedAlong told_log (ToldWrites contents) rules s a t
+    → Appends (contents (told_stream s.inner)) (contents (told_stream t.inner)) (s.block.bytes ++ a)
+FlushedAlong-held contents rules s a t is p =
+    let went = p.along.calls in
+    let after = p.along.told is in
+    let same : went.more ≡ s.block.bytes ++ a =
+    append_cancel_left s.log.writes.received went.more (s.block.bytes ++ a)
+    (ap (λ l. l.writes.received ++ went.more) is ∙ sym went.received ∙ ap (λ l. l.writes.received) (sym after) ∙ p.received) in
+    subst (λ l. Appends (contents (told_stream s.inner)) (contents (told_stream t.inner)) l) same went.held
