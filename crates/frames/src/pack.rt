@@ -48,6 +48,7 @@ fn pack_all<R: TellRead, W: TellWrite>(
 ) -> Result<(), RunError>
     requires most { source.old.max ≡ target.old.max }
     requires going { source.old.ended ≡ false }
+    requires open { source.old.skipping ≡ false }
     ensures packs { PacksAndFlushes R.remaining W.stretch source.old target.old result source.new target.new }
     ensures once { EndsOnce source.old.reader.log.reads source.new.reader.log.reads }
 {
@@ -66,6 +67,7 @@ fn pack_lines<R: TellRead, W: TellWrite>(
 ) -> Result<(), RunError>
     requires most { source.old.max ≡ target.old.max }
     requires going { source.old.ended ≡ false }
+    requires open { source.old.skipping ≡ false }
     ensures packs { PacksAll R.remaining W.stretch source.old target.old result source.new target.new }
     ensures once { EndsOnce source.old.reader.log.reads source.new.reader.log.reads }
 {
@@ -83,8 +85,10 @@ fn pack_line<R: TellRead, W: TellWrite>(
     target: &mut FrameWriter<W>,
 ) -> Result<bool, RunError>
     requires most { source.old.max ≡ target.old.max }
+    requires open { source.old.skipping ≡ false }
     ensures packs { PacksNext R.remaining W.stretch source.old target.old result source.new target.new }
     ensures unasked { ¬ (MayAsk source.old) → source.new.reader.log ≡ source.old.reader.log }
+    ensures open { source.new.skipping ≡ false }
 {
     let mut row = 0;
     'tries: loop {
@@ -108,8 +112,10 @@ fn try_line<R: TellRead, W: TellWrite>(
     target: &mut FrameWriter<W>,
 ) -> Result<Step, RunError>
     requires most { source.old.max ≡ target.old.max }
+    requires open { source.old.skipping ≡ false }
     ensures packs { PacksOnce R.remaining W.stretch source.old target.old result source.new target.new }
     ensures unasked { ¬ (MayAsk source.old) → source.new.reader.log ≡ source.old.reader.log }
+    ensures open { source.new.skipping ≡ false }
 {
     match source.next() {
         Ok(Some(line)) => {

@@ -13,6 +13,7 @@ pub record Head {S : Type 0} (remaining : S → Option (List ℕ)) (Such : List 
     (bytes : List ℕ) (m : Lining S) : Type 0 where
   pub went : LinesWent remaining s bytes m
   pub ended : m.ended ≡ s.ended
+  pub skipping : m.skipping ≡ s.skipping
   pub faults : NoFault s m
   pub no_end : NoEnd s m
   pub asks : m.reader.log.reads.asks + length s.reader.log.reads.given
@@ -38,6 +39,7 @@ pub Head-none : {S : Type 0} (remaining : S → Option (List ℕ)) (Such : List 
 Head-none remaining Such s = record {
   went = LinesWent-none remaining s;
   ended = refl;
+  skipping = refl;
   faults = refl;
   no_end = refl;
   asks = omega arith;
@@ -48,10 +50,11 @@ module _ {S : Type 0} (remaining : S → Option (List ℕ)) (Such : List ℕ →
     (h : Head remaining Such s bytes m) where
   -- then these bytes went, and nothing was read
   pub Head-told : (t : Lining S) (more : List ℕ) → LinesWent remaining m more t → t.reader.log ≡ m.reader.log
-      → t.ended ≡ m.ended → Head remaining Such s (bytes ++ more) t
-  Head-told t more went told ended = record {
+      → t.ended ≡ m.ended → t.skipping ≡ m.skipping → Head remaining Such s (bytes ++ more) t
+  Head-told t more went told ended skipping = record {
     went = LinesWent-joins remaining s m t bytes more h.went went;
     ended = ended ∙ h.ended;
+    skipping = skipping ∙ h.skipping;
     faults = ap (λ l. l.reads.faults) told ∙ h.faults;
     no_end = ap (λ l. l.reads.zero_reads) told ∙ h.no_end;
     asks = omega (arith, h.asks, ap (λ l. l.reads.asks) told, ap (λ l. length l.reads.given) told);
@@ -92,6 +95,7 @@ module _ {S : Type 0} (remaining : S → Option (List ℕ)) (Such : List ℕ →
   Head-more t a such = record {
     went = went_on (Ok true) t a;
     ended = a.ended ∙ h.ended;
+    skipping = a.skipping ∙ h.skipping;
     faults = (a.more refl).2 ∙ h.faults;
     no_end = (a.more refl).1 ∙ h.no_end;
     asks = omega (

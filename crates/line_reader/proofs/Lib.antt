@@ -1,3 +1,4 @@
+pub mod Going
 pub mod Heads
 pub mod Loading
 pub mod Reading

@@ -24,7 +24,8 @@ pub record LoadHead {S : Type 0} (remaining : S → Option (List ℕ)) (s m : Li
   pub whole : IsLining m
 
 -- what was searched whole is a part of a line
-module _ {S : Type 0} (remaining : S → Option (List ℕ)) (s m : Lining S) (h : LoadHead remaining s m) where
+module _ {S : Type 0} (remaining : S → Option (List ℕ)) (s m : Lining S) (h : LoadHead remaining s m)
+    (open' : s.skipping ≡ false) where
   bytes_of : rest m ≡ m.reader.block.bytes
   bytes_of = rest_whole m h.handed
 
@@ -62,6 +63,7 @@ module _ {S : Type 0} (remaining : S → Option (List ℕ)) (s m : Lining S) (h 
           );
           asked = asked_on remaining (IsUnended s.max) s m [] h.head (Err e) t a over;
           told = λ ended. (let odd : true ≡ false = sym ended ∙ sym h.head.ended ∙ f.1 in cc);
+          open' = a.skipping ∙ h.head.skipping ∙ open';
           whole = a.whole;
         }
 
@@ -81,6 +83,7 @@ module _ {S : Type 0} (remaining : S → Option (List ℕ)) (s m : Lining S) (h 
             answers = (refl, none, (a.end refl).2 ∙ h.head.faults, refl, ends);
             asked = AskedWhere-told Such s t w refl (asked_on remaining Such s m [] h.head (Ok false) t a over);
             told = λ _. refl;
+            open' = a.skipping ∙ h.head.skipping ∙ open';
             whole = subst IsLining is whole;
           })
 
@@ -116,23 +119,24 @@ module _ {S : Type 0} (remaining : S → Option (List ℕ)) (s m : Lining S) (h 
             told = λ ended.
                 let none = h.whole.ended (h.head.ended ∙ ended) in
                 absurd (omega (arith, some, all, ap length left, ap length same, ap length none));
+            open' = a.skipping ∙ h.head.skipping ∙ open';
             whole = subst IsLining is whole;
           })
 
 -- what `take_last` hands out, or not
 pub load_finished : {S : Type 0} (remaining : S → Option (List ℕ)) (s m : Lining S) (h : LoadHead remaining s m)
-    → m.seen ≤ m.max → (t : Lining S) → AsksOnce remaining m (Ok false) t → (found : Option ℕ) (v : Lining S)
+    → s.skipping ≡ false → m.seen ≤ m.max → (t : Lining S) → AsksOnce remaining m (Ok false) t → (found : Option ℕ) (v : Lining S)
     → IfNone found ((rest t ≡ []) × (v ≡ record t { ended = false }))
     → IfSome found (λ len. (0 < len) × (len ≡ length (rest t)) × (v ≡ record t { handed = len; seen = 0; ended = true }))
     → IsLining v → NextLine remaining s (load_answer (Ok found) v) v
-load_finished remaining s m h searched t a None v none last whole =
-    load_ends remaining s m h searched t a v none.0 none.1 whole
-load_finished remaining s m h searched t a (Some len) v none last whole =
-    load_last remaining s m h searched t a v len last.0 last.1 last.2 whole
+load_finished remaining s m h open' searched t a None v none last whole =
+    load_ends remaining s m h open' searched t a v none.0 none.1 whole
+load_finished remaining s m h open' searched t a (Some len) v none last whole =
+    load_last remaining s m h open' searched t a v len last.0 last.1 last.2 whole
 
 -- the next line is buffered whole, and is handed out
 module _ {S : Type 0} (remaining : S → Option (List ℕ)) (s m t : Lining S) (len : ℕ)
-    (h : Head remaining (IsUnended s.max) s [] m) (takes : TakesLine m t len) where
+    (h : Head remaining (IsUnended s.max) s [] m) (open' : s.skipping ≡ false) (takes : TakesLine m t len) where
   behind : drop (m.handed + 1 + len) m.reader.block.bytes ≡ drop (1 + len) (rest m)
   behind =
       let count : m.handed + 1 + len ≡ m.handed + (1 + len) = omega arith in
@@ -157,17 +161,18 @@ module _ {S : Type 0} (remaining : S → Option (List ℕ)) (s m t : Lining S) (
         );
         asked = AskedWhere-told (IsUnended s.max) s m w refl h.asked;
         told = λ ended. (let odd : true ≡ false = sym ended ∙ sym h.ended ∙ open_m in cc);
+        open' = h.skipping ∙ open';
         whole = subst IsLining takes.same takes.whole;
       })
 
 -- the same, once it stands at the front
 pub takes_loaded : {S : Type 0} (remaining : S → Option (List ℕ)) (s m t : Lining S) (len : ℕ)
-    → Head remaining (IsUnended s.max) s [] m → m.handed ≡ 0 → TakesLine m t len
+    → Head remaining (IsUnended s.max) s [] m → s.skipping ≡ false → m.handed ≡ 0 → TakesLine m t len
     → NextLine remaining s (Ok (Some (take len t.reader.block.bytes))) t
-takes_loaded remaining s m t len h handed takes =
+takes_loaded remaining s m t len h open' handed takes =
     let same : rest m ≡ t.reader.block.bytes =
     rest_whole m handed ∙ ap (λ x. x.reader.block.bytes) (sym takes.same) in
-    subst (λ l. NextLine remaining s (Ok (Some (take len l))) t) same (takes_next remaining s m t len h takes)
+    subst (λ l. NextLine remaining s (Ok (Some (take len l))) t) same (takes_next remaining s m t len h open' takes)
 
 -- the next line wasn't there yet
 pub searched_on : {S : Type 0} (remaining : S → Option (List ℕ)) (s m t : Lining S)
@@ -175,7 +180,7 @@ pub searched_on : {S : Type 0} (remaining : S → Option (List ℕ)) (s m t : Li
 searched_on {S} remaining s m t h handed all =
     let w : Lining S = record m { seen = min (length (rest m)) (1 + m.max) } in
     subst (LoadHead remaining s) (sym all.same) (record {
-      head = Head-told remaining (IsUnended s.max) s m [] h w [] (LinesWent-inside remaining m w [] refl refl refl) refl refl;
+      head = Head-told remaining (IsUnended s.max) s m [] h w [] (LinesWent-inside remaining m w [] refl refl refl) refl refl refl;
       handed = handed;
       seen = refl;
       whole = subst IsLining all.same all.whole;

@@ -39,6 +39,7 @@ AsksOnce-ended remaining s whole handed ended none = record {
   handed = handed;
   seen = refl;
   ended = refl;
+  skipping = refl;
   asks = omega arith;
   still = λ _. refl;
   more = λ other. cc;
@@ -48,7 +49,7 @@ AsksOnce-ended remaining s whole handed ended none = record {
 }
 
 module _ {S : Type 0} (remaining : S → Option (List ℕ)) (s : Lining S) (whole : IsLining s) (handed : s.handed ≡ 0)
-    (fits : length s.reader.block.bytes ≤ s.max) (not_ended : s.ended ≡ false) (p : MinBuffered)
+    (fits : length s.reader.block.bytes ≤ s.max) (not_ended : s.ended ≡ false) (open' : s.skipping ≡ false) (p : MinBuffered)
     (number : p.0 ≡ 1 + length s.reader.block.bytes) (answer : Result (Bor (List ℕ)) Error) (t : Buffered S MinBuffered)
     (f : FillBuf remaining min_read_rules (with_policy s.reader p) answer t) where
   abbrev pub filled : Lining S
@@ -89,6 +90,8 @@ module _ {S : Type 0} (remaining : S → Option (List ℕ)) (s : Lining S) (whol
         searched = subst (λ l. IsLine (take s.seen l)) (sym rest_grown)
             (subst IsLine (sym (take-append-le s.seen (rest s) f.fills.in_order.got within)) whole.searched);
         ended = λ is. (let odd : true ≡ false = sym is ∙ not_ended in cc);
+        skipped = λ is. (let odd : true ≡ false = sym is ∙ open' in cc);
+        goes_on = λ is. not_ended;
       }
 
   went : LinesWent remaining s [] filled
@@ -118,19 +121,20 @@ module _ {S : Type 0} (remaining : S → Option (List ℕ)) (s : Lining S) (whol
 
 -- more came, or the stream ended
 pub AsksOnce-ok : {S : Type 0} (remaining : S → Option (List ℕ)) (s : Lining S) → IsLining s → s.handed ≡ 0
-    → length s.reader.block.bytes ≤ s.max → s.ended ≡ false → (p : MinBuffered)
+    → length s.reader.block.bytes ≤ s.max → s.ended ≡ false → s.skipping ≡ false → (p : MinBuffered)
     → p.0 ≡ 1 + length s.reader.block.bytes → (bytes : Bor (List ℕ)) (t : Buffered S MinBuffered)
     → FillBuf remaining min_read_rules (with_policy s.reader p) (Ok bytes) t → (some : Bool)
     → (some ≡ true → length s.reader.block.bytes < length t.block.bytes)
     → (some ≡ false → length t.block.bytes ≤ length s.reader.block.bytes)
     → AsksOnce remaining s (Ok some) (record s { reader = t })
-AsksOnce-ok remaining s whole handed fits not_ended p number bytes t f some more less = record {
-  went = went remaining s whole handed fits not_ended p number (Ok bytes) t f;
+AsksOnce-ok remaining s whole handed fits not_ended open' p number bytes t f some more less = record {
+  went = went remaining s whole handed fits not_ended open' p number (Ok bytes) t f;
   handed = handed;
   seen = refl;
   ended = refl;
-  asks = asks remaining s whole handed fits not_ended p number (Ok bytes) t f;
-  still = still remaining s whole handed fits not_ended p number (Ok bytes) t f;
+  skipping = refl;
+  asks = asks remaining s whole handed fits not_ended open' p number (Ok bytes) t f;
+  still = still remaining s whole handed fits not_ended open' p number (Ok bytes) t f;
   more = λ is.
       let came : some ≡ true = cc in (
         (let long = more came in omega (
@@ -144,13 +148,13 @@ AsksOnce-ok remaining s whole handed fits not_ended p number bytes t f some more
       );
   end = λ is.
       let none : some ≡ false = cc in (
-        same_left remaining s whole handed fits not_ended p number (Ok bytes) t f (less none),
+        same_left remaining s whole handed fits not_ended open' p number (Ok bytes) t f (less none),
         MetEnd-now s (record s { reader = t }) not_ended
             (once_at_end (with_policy s.reader p) t bytes f.fills (omega (arith, number, less none))),
         f.fills.caused,
       );
   failed = λ e other. cc;
-  whole = filled_whole remaining s whole handed fits not_ended p number (Ok bytes) t f;
+  whole = filled_whole remaining s whole handed fits not_ended open' p number (Ok bytes) t f;
 }
 
 -- the policy didn't fail, since the buffer has the capacity
@@ -162,17 +166,18 @@ no_policy_error e s t holds gave =
 
 -- it failed
 pub AsksOnce-err : {S : Type 0} (remaining : S → Option (List ℕ)) (s : Lining S) → IsLining s → s.handed ≡ 0
-    → length s.reader.block.bytes ≤ s.max → s.ended ≡ false → (p : MinBuffered)
+    → length s.reader.block.bytes ≤ s.max → s.ended ≡ false → s.skipping ≡ false → (p : MinBuffered)
     → p.0 ≡ 1 + length s.reader.block.bytes → (e : Error) (t : Buffered S MinBuffered)
     → FillBuf remaining min_read_rules (with_policy s.reader p) (Err e) t
     → AsksOnce remaining s (Err e) (record s { reader = t })
-AsksOnce-err remaining s whole handed fits not_ended p number e t f = record {
-  went = went remaining s whole handed fits not_ended p number (Err e) t f;
+AsksOnce-err remaining s whole handed fits not_ended open' p number e t f = record {
+  went = went remaining s whole handed fits not_ended open' p number (Err e) t f;
   handed = handed;
   seen = refl;
   ended = refl;
-  asks = asks remaining s whole handed fits not_ended p number (Err e) t f;
-  still = still remaining s whole handed fits not_ended p number (Err e) t f;
+  skipping = refl;
+  asks = asks remaining s whole handed fits not_ended open' p number (Err e) t f;
+  still = still remaining s whole handed fits not_ended open' p number (Err e) t f;
   more = λ other. cc;
   end = λ other. cc;
   failed = λ e' is.
@@ -183,15 +188,15 @@ AsksOnce-err remaining s whole handed fits not_ended p number e t f = record {
         | inr gave ↦ absurd (no_policy_error e (with_policy s.reader p) t
             (omega (
               arith,
-              claimed remaining s whole handed fits not_ended p number (Err e) t f,
-              capacity remaining s whole handed fits not_ended p number (Err e) t f,
-              holds remaining s whole handed fits not_ended p number (Err e) t f,
+              claimed remaining s whole handed fits not_ended open' p number (Err e) t f,
+              capacity remaining s whole handed fits not_ended open' p number (Err e) t f,
+              holds remaining s whole handed fits not_ended open' p number (Err e) t f,
             )) gave)
       ] in (
-        same_left remaining s whole handed fits not_ended p number (Err e) t f (omega (arith, few, number)),
+        same_left remaining s whole handed fits not_ended open' p number (Err e) t f (omega (arith, few, number)),
         not_ended,
         none_before_fault (with_policy s.reader p) t e f.fills,
         subst (λ x. Faulted s x (record s { reader = t })) same fault,
       );
-  whole = filled_whole remaining s whole handed fits not_ended p number (Err e) t f;
+  whole = filled_whole remaining s whole handed fits not_ended open' p number (Err e) t f;
 }

@@ -2,7 +2,8 @@
 use Rattle.std.proofs.Common.{◌≡◌, ℕ, ◌<◌, List, [], ◌∷◌, ◌++◌, length, map, Option, Result, Ok, Err, OnErr, ap, ◌∙◌, append_assoc}
 use Rattle.std.proofs.lemmas.List.{map-append}
 use Rattle.line_reader.specs.Lining.{Lining}
-use Rattle.line_reader.specs.NextLine.{NextAnswer, NextLine}
+use Rattle.line_reader.specs.NextLine.{NextAnswer}
+use Rattle.line_reader.specs.SkipLine.{NextGoes}
 use Rattle.line_reader.specs.Runs.{NextPlayed, NextRuns, NextStopped}
 use Rattle.line_reader.specs.RunsLaws.{NextRuns-more, NextRuns-went}
 
@@ -26,10 +27,10 @@ module _ {S : Type 0} (remaining : S → Option (List ℕ)) (s m : Lining S) (ol
     gained = gained;
     all = all;
     run = run;
-    went = NextRuns-went remaining s answers m run;
+    went = λ open'. NextRuns-went remaining s answers m open' run;
   }
 
-  pub next_stopped : length answers < calls → (lost : NextAnswer) (t : Lining S) → NextLine remaining m lost t
+  pub next_stopped : length answers < calls → (lost : NextAnswer) (t : Lining S) → NextGoes remaining m lost t
       → NextStopped remaining s calls old new t
   next_stopped fewer lost t next =
       let more = NextRuns-more remaining s answers m lost t run next in
@@ -39,5 +40,5 @@ module _ {S : Type 0} (remaining : S → Option (List ℕ)) (s m : Lining S) (ol
         fewer = fewer;
         lost = lost;
         run = more;
-        went = NextRuns-went remaining s (answers ++ lost ∷ []) t more;
+        went = λ open'. NextRuns-went remaining s (answers ++ lost ∷ []) t open' more;
       }

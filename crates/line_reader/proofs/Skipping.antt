@@ -1,4 +1,4 @@
--- What the turns of `skip_line` come to.
+-- What the turns of `drop_through` come to.
 use Rattle.std.proofs.Common.{◌≡◌, ℕ, ◌+◌, ◌<◌, ◌≤◌, ◌^◌, List, [], ◌∷◌, ◌++◌, length, length-take-le, drop, take, true, false, refl, sym, ap, subst, ◌∙◌, arith, inl, inr, append-nil, append_assoc, length-append, Option, Ok, Err, length-drop}
 use Rattle.std.proofs.lemmas.List.{drop-drop, nil_from_length}
 use Rattle.std.proofs.lemmas.List.Elements.{All-append, All-nil}
@@ -9,28 +9,28 @@ use Rattle.line_reader.specs.Lines.{newline, IsLine, with_end}
 use Rattle.line_reader.specs.Lining.{Lining, IsLining, rest}
 use Rattle.line_reader.specs.LinesWentLaws.{LinesWent-joins, LinesWent-inside}
 use Rattle.line_reader.specs.NextLine.{LinesWent}
-use Rattle.line_reader.specs.SkipLine.{SkipsLine}
+use Rattle.line_reader.specs.SkipLine.{DropsThrough}
 use Rattle.line_reader.specs.Steps.{AsksOnce, DropsLine}
 use Rattle.line_reader.proofs.Heads.{Head, AskedWhere-told, Head-none, Head-told, Head-more, MetEnd-on, asked_on, not_ended, went_on}
 
 abbrev isnt_end : ℕ → Type 0
 isnt_end byte = ¬ (byte ≡ newline)
 
--- what holds before each turn of `skip_line`: so many bytes went, and none of them ends a line
+-- what holds before each turn of `drop_through`: so many bytes went, and none of them ends a line
 pub record SkipHead {S : Type 0} (remaining : S → Option (List ℕ)) (s m : Lining S) (dropped : ℕ) : Type 0 where
   pub bytes : List ℕ
   pub head : Head remaining IsLine s bytes m
   pub count : dropped ≡ length bytes
   pub plain : IsLine bytes
 
--- the turns of `skip_line`
+-- the turns of `drop_through`
 module _ {S : Type 0} (remaining : S → Option (List ℕ)) (s m : Lining S) (dropped : ℕ)
     (h : SkipHead remaining s m dropped) (count : ℕ) where
   behind_dropped : rest (record m { handed = m.handed + count; seen = 0 }) ≡ drop count (rest m)
   behind_dropped = sym (drop-drop count m.handed m.reader.block.bytes)
 
   -- the end was buffered
-  pub skip_found : (t : Lining S) → DropsLine m count true t → SkipsLine remaining s (Ok (dropped + count)) t
+  pub skip_found : (t : Lining S) → DropsLine m count true t → DropsThrough remaining s (Ok (dropped + count)) t
   skip_found t drops =
       let w : Lining S = record m { handed = m.handed + count; seen = 0 } in
       let found = drops.ends refl in
@@ -42,8 +42,8 @@ module _ {S : Type 0} (remaining : S → Option (List ℕ)) (s m : Lining S) (dr
       let split : with_end front ++ rest w ≡ rest m =
       append_assoc front (newline ∷ []) (rest w) ∙ ap (λ l. front ++ newline ∷ l) left ∙ found.2.equal in
       let went = LinesWent-inside remaining m w (with_end front) refl refl split in
-      let on = Head-told remaining IsLine s m h.bytes h.head w (with_end front) went refl refl in
-      subst (SkipsLine remaining s (Ok (dropped + count))) (sym drops.same) (record {
+      let on = Head-told remaining IsLine s m h.bytes h.head w (with_end front) went refl refl refl in
+      subst (DropsThrough remaining s (Ok (dropped + count))) (sym drops.same) (record {
         bytes = h.bytes ++ with_end front;
         went = on.went;
         answers = (
@@ -87,14 +87,14 @@ module _ {S : Type 0} (remaining : S → Option (List ℕ)) (s m : Lining S) (dr
         let went = LinesWent-inside remaining m w (rest m) refl refl split in
         subst (λ x. SkipHead remaining s x (dropped + count)) (sym drops.same) (record {
           bytes = h.bytes ++ rest m;
-          head = Head-told remaining IsLine s m h.bytes h.head w (rest m) went refl refl;
+          head = Head-told remaining IsLine s m h.bytes h.head w (rest m) went refl refl refl;
           count = omega (arith, h.count, all.0, length-append h.bytes (rest m));
           plain = All-append isnt_end h.bytes (rest m) h.plain all.1;
         })
 
     -- more bytes are gone than one call drops
     pub skip_too_long : (e : Error) → error_kind e ≡ Other → dropped ≤ 2 ^ 63 → 2 ^ 63 < dropped + count
-        → SkipsLine remaining s (Err e) t
+        → DropsThrough remaining s (Err e) t
     skip_too_long e other before above =
         let k = skipped in
         let some : 0 < length (rest m) = omega (arith, (drops.none refl).0, before, above) in record {
@@ -114,10 +114,10 @@ module _ {S : Type 0} (remaining : S → Option (List ℕ)) (s m : Lining S) (dr
 -- what was handed out is dropped, and nothing else is done
 pub skip_on : {S : Type 0} (remaining : S → Option (List ℕ)) (s m t : Lining S) (dropped : ℕ)
     → SkipHead remaining s m dropped → LinesWent remaining m [] t → t.reader.log ≡ m.reader.log → t.ended ≡ m.ended
-    → SkipHead remaining s t dropped
-skip_on remaining s m t dropped h went told ended =
+    → t.skipping ≡ m.skipping → SkipHead remaining s t dropped
+skip_on remaining s m t dropped h went told ended skipping =
     let same = append-nil h.bytes in
-    let on = Head-told remaining IsLine s m h.bytes h.head t [] went told ended in record {
+    let on = Head-told remaining IsLine s m h.bytes h.head t [] went told ended skipping in record {
       bytes = h.bytes;
       head = subst (λ l. Head remaining IsLine s l t) same on;
       count = h.count;
@@ -139,7 +139,7 @@ module _ {S : Type 0} (remaining : S → Option (List ℕ)) (s m : Lining S) (dr
     plain = h.plain;
   }
 
-  pub skip_fails : (e : Error) (t : Lining S) → AsksOnce remaining m (Err e) t → SkipsLine remaining s (Err e) t
+  pub skip_fails : (e : Error) (t : Lining S) → AsksOnce remaining m (Err e) t → DropsThrough remaining s (Err e) t
   skip_fails e t a =
       let f = a.failed e refl in record {
         bytes = h.bytes;
@@ -155,8 +155,9 @@ module _ {S : Type 0} (remaining : S → Option (List ℕ)) (s m : Lining S) (dr
         whole = a.whole;
       }
 
-  pub ended_whole : (t : Lining S) → AsksOnce remaining m (Ok false) t → IsLining (record t { ended = true })
-  ended_whole t a = record {
+  pub ended_whole : s.skipping ≡ false → (t : Lining S) → AsksOnce remaining m (Ok false) t
+      → IsLining (record t { ended = true })
+  ended_whole open' t a = record {
     block = a.whole.block;
     plain = a.whole.plain;
     capacity = a.whole.capacity;
@@ -166,11 +167,13 @@ module _ {S : Type 0} (remaining : S → Option (List ℕ)) (s m : Lining S) (dr
     few = a.whole.few;
     searched = a.whole.searched;
     ended = λ _. (a.end refl).0 ∙ none;
+    skipped = λ _. (a.end refl).0 ∙ none;
+    goes_on = λ is. (let odd : true ≡ false = sym is ∙ a.skipping ∙ h.head.skipping ∙ open' in cc);
   }
 
-  pub skip_ends : (t : Lining S) → AsksOnce remaining m (Ok false) t
-      → SkipsLine remaining s (Ok dropped) (record t { ended = true })
-  skip_ends t a =
+  pub skip_ends : s.skipping ≡ false → (t : Lining S) → AsksOnce remaining m (Ok false) t
+      → DropsThrough remaining s (Ok dropped) (record t { ended = true })
+  skip_ends open' t a =
       let w : Lining S = record t { ended = true } in
       let inside = LinesWent-inside remaining t w [] refl refl refl in
       let went = LinesWent-joins remaining s t w h.bytes [] (went_on remaining IsLine s m h.bytes h.head (Ok false) t a) inside in
@@ -188,7 +191,7 @@ module _ {S : Type 0} (remaining : S → Option (List ℕ)) (s m : Lining S) (dr
           ),
         );
         asked = AskedWhere-told IsLine s t w refl (asked_on remaining IsLine s m h.bytes h.head (Ok false) t a all_plain);
-        whole = ended_whole t a;
+        whole = ended_whole open' t a;
       }
 
 -- before the first turn

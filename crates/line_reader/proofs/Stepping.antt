@@ -12,8 +12,10 @@ use Rattle.line_reader.specs.declared.error.LineError.TheVariants as why
 use Rattle.line_reader.specs.Lines.{FitsLine}
 use Rattle.line_reader.specs.Lining.{Lining}
 use Rattle.line_reader.specs.KnownLines.{HasLeft, LeavesLines, ReadStopped}
-use Rattle.line_reader.specs.KnownLinesLaws.{NextLine-known}
-use Rattle.line_reader.specs.NextLine.{NextLine, NoFault}
+use Rattle.line_reader.specs.KnownLinesLaws.{NextGoes-known}
+use Rattle.line_reader.specs.NextLine.{NoFault}
+use Rattle.line_reader.specs.NextLineLaws.{NextGoes-plain}
+use Rattle.line_reader.specs.SkipLine.{NextGoes}
 use Rattle.line_reader.specs.Runs.{AllRead, NextFails, NextRuns}
 use Rattle.line_reader.specs.RunsLaws.{NextRuns-more}
 
@@ -63,15 +65,15 @@ module _ {V S : Type 0} (f : V → List ℕ) (vs : List V) (i : ℕ) (remaining 
   pub leaves : LeavesLines remaining m
   leaves = record { lines = map f (drop i vs); fit = left_fit; has = so_far.has }
 
-  read_faulted : (e : Error) (t : Lining S) → NextLine remaining m (Err (why.Io e)) t → ReadStopped remaining s (map f vs) e t
+  read_faulted : (e : Error) (t : Lining S) → NextGoes remaining m (Err (why.Io e)) t → ReadStopped remaining s (map f vs) e t
   read_faulted e t next = record {
     done = kept;
     later = map f (drop i vs);
     all = sym so_far.all_are;
-    left = NextLine-known remaining m t (Err (why.Io e)) (map f (drop i vs)) next left_fit so_far.has;
+    left = NextGoes-known remaining m t (Err (why.Io e)) (map f (drop i vs)) next left_fit so_far.has;
     failed = inr (
       NextRuns-more remaining s (map (λ line. Ok (Some line)) kept) m (Err (why.Io e)) t so_far.run next,
-      next.answers.2 ∙ ap (λ l. l ++ e ∷ []) so_far.no_fault,
+      (NextGoes-plain remaining m t (Err (why.Io e)) so_far.has.open' next).answers.2 ∙ ap (λ l. l ++ e ∷ []) so_far.no_fault,
     );
   }
 
@@ -85,23 +87,24 @@ module _ {V S : Type 0} (f : V → List ℕ) (vs : List V) (i : ℕ) (remaining 
     first_has : HasLeft remaining m (f x ∷ map f (drop (i + 1) vs))
     first_has = subst (λ l. HasLeft remaining m l) step so_far.has
 
-    pub read_some : (found : List ℕ) → NextLine remaining m (Ok (Some found)) t
+    pub read_some : (found : List ℕ) → NextGoes remaining m (Ok (Some found)) t
         → ReadsAll remaining s (map f vs) (kept ++ found ∷ []) (map f (drop (i + 1) vs)) t
     read_some found next =
-        let known = NextLine-known remaining m t (Ok (Some found)) (f x ∷ map f (drop (i + 1) vs)) next first_fit first_has in
+        let known = NextGoes-known remaining m t (Ok (Some found)) (f x ∷ map f (drop (i + 1) vs)) next first_fit first_has in
+        let plain = NextGoes-plain remaining m t (Ok (Some found)) so_far.has.open' next in
         record {
           all_are = append_assoc kept (found ∷ []) (map f (drop (i + 1) vs))
               ∙ ap (λ p. kept ++ p ∷ map f (drop (i + 1) vs)) known.0
               ∙ ap (λ l. kept ++ l) (sym step) ∙ so_far.all_are;
-          max = next.went.max ∙ so_far.max;
+          max = plain.went.max ∙ so_far.max;
           has = known.1;
-          no_fault = next.answers.2 ∙ so_far.no_fault;
+          no_fault = plain.answers.2 ∙ so_far.no_fault;
           run = subst (λ answers. NextRuns remaining s answers t)
               (sym (map-append (λ line. Ok (Some line)) kept (found ∷ [])))
               (NextRuns-more remaining s (map (λ line. Ok (Some line)) kept) m (Ok (Some found)) t so_far.run next);
         }
 
-    pub read_lost : (found : List ℕ) (e : Error) → error_kind e ≡ OutOfMemory → NextLine remaining m (Ok (Some found)) t
+    pub read_lost : (found : List ℕ) (e : Error) → error_kind e ≡ OutOfMemory → NextGoes remaining m (Ok (Some found)) t
         → ReadStopped remaining s (map f vs) e t
     read_lost found e memory next =
         let more = read_some found next in
@@ -117,15 +120,15 @@ module _ {V S : Type 0} (f : V → List ℕ) (vs : List V) (i : ℕ) (remaining 
     read_fails e (inl lost) = read_lost lost.1.line e lost.0 lost.1.next
     read_fails e (inr faulted) = read_faulted e t faulted
 
-    pub read_none : NextLine remaining m (Ok None) t → ⊥
-    read_none next = NextLine-known remaining m t (Ok None) (f x ∷ map f (drop (i + 1) vs)) next first_fit first_has
+    pub read_none : NextGoes remaining m (Ok None) t → ⊥
+    read_none next = NextGoes-known remaining m t (Ok None) (f x ∷ map f (drop (i + 1) vs)) next first_fit first_has
 
   module _ (end : length vs ≤ i) where
     none_left : map f (drop i vs) ≡ []
     none_left = ap (λ l. map f l) (drop_all i vs end)
 
-    pub read_more : (found : List ℕ) (t : Lining S) → NextLine remaining m (Ok (Some found)) t → ⊥
-    read_more found t next = NextLine-known remaining m t (Ok (Some found)) [] next
+    pub read_more : (found : List ℕ) (t : Lining S) → NextGoes remaining m (Ok (Some found)) t → ⊥
+    read_more found t next = NextGoes-known remaining m t (Ok (Some found)) [] next
         (subst (λ l. All (FitsLine m.max) l) none_left left_fit) (subst (λ l. HasLeft remaining m l) none_left so_far.has)
 
     pub end_fails : (e : Error) (t : Lining S) → NextFails remaining m e t → ReadStopped remaining s (map f vs) e t
@@ -135,6 +138,6 @@ module _ {V S : Type 0} (f : V → List ℕ) (vs : List V) (i : ℕ) (remaining 
     pub all_kept : kept ≡ map f vs
     all_kept = sym (append-nil kept) ∙ ap (λ l. kept ++ l) (sym none_left) ∙ so_far.all_are
 
-    pub read_all : (t : Lining S) → NextLine remaining m (Ok None) t → AllRead remaining s (map f vs) t
+    pub read_all : (t : Lining S) → NextGoes remaining m (Ok None) t → AllRead remaining s (map f vs) t
     read_all t next = subst (λ l. AllRead remaining s l t) all_kept
         (NextRuns-more remaining s (map (λ line. Ok (Some line)) kept) m (Ok None) t so_far.run next)

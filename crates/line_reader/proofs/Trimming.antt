@@ -6,7 +6,8 @@ use Rattle.line_reader.specs.declared.error.LineError.TheVariants.{TooLong, Io}
 use Rattle.line_reader.specs.Lines.{IsTrimmed, IsUnended}
 use Rattle.line_reader.specs.Lining.{Lining, rest}
 use Rattle.line_reader.specs.LinesWentLaws.{LinesWent-inside, LinesWent-joins}
-use Rattle.line_reader.specs.NextLine.{AskedWhere, NextAnswer, NextAnswers, NextLine, NextTrimmed}
+use Rattle.line_reader.specs.NextLine.{AskedWhere, NextAnswer, NextAnswers, NextLine}
+use Rattle.line_reader.specs.SkipLine.{NextGoes, NextTrimmed}
 use Rattle.line_reader.specs.Steps.{SearchesAll}
 
 either : (ended : Bool) (line shown : List ℕ) → OnTrue ended (shown ≡ line) → OnFalse ended (IsTrimmed line shown)
@@ -15,7 +16,7 @@ either true line shown last trims = last
 either false line shown last trims = trims
 
 pub trims_line : {S : Type 0} (remaining : S → Option (List ℕ)) (s t : Lining S) (line shown : List ℕ)
-    → NextLine remaining s (Ok (Some line)) t → OnTrue t.ended (shown ≡ line) → OnFalse t.ended (IsTrimmed line shown)
+    → NextGoes remaining s (Ok (Some line)) t → OnTrue t.ended (shown ≡ line) → OnFalse t.ended (IsTrimmed line shown)
     → NextTrimmed remaining s (Ok (Some shown)) t
 trims_line remaining s t line shown next last trims =
     record { whole = Ok (Some line); next = next; trims = either t.ended line shown last trims }
@@ -53,5 +54,6 @@ next_searched {S} remaining s m t answer all next =
       answers = answers_searched s t seen answer n.bytes n.answers;
       asked = asked_searched s t seen n.asked;
       told = n.told;
+      open' = n.open';
       whole = n.whole;
     }

@@ -1,5 +1,5 @@
 -- What a reader of lines hands out of a stream that is known.
-use Rattle.std.specs.Prelude.{◌≡◌, ℕ, ◌<◌, ◌⊎◌, List, [], ◌∷◌, ◌++◌, length, map, true, Option, None, Some, Ok, Err}
+use Rattle.std.specs.Prelude.{◌≡◌, ℕ, ◌<◌, ◌⊎◌, List, [], ◌∷◌, ◌++◌, length, map, true, false, Option, None, Some, Ok, Err}
 use Rattle.std.specs.Io.KnownBytes.{prepend_known}
 use Rattle.std.specs.IoError.{error_kind}
 use Rattle.std.specs.List.{All}
@@ -16,12 +16,13 @@ use Rattle.line_reader.specs.Runs.{NextRuns}
 abbrev pub ahead_of : {S : Type 0} → (S → Option (List ℕ)) → Lining S → Option (List ℕ)
 ahead_of remaining f = prepend_known (rest f) (remaining f.reader.inner)
 
--- they are known, and a text of these lines; where the stream has ended there are none
+-- they are known, and a text of these lines; where the stream has ended there are none; and no line is being skipped
 pub record HasLeft {S : Type 0} (remaining : S → Option (List ℕ)) (f : Lining S) (lines : List (List ℕ)) : Type 0 where
   pub text : List ℕ
   pub known : ahead_of remaining f ≡ Some text
   pub has : HasLines text lines
   pub none : f.ended ≡ true → lines ≡ []
+  pub open' : f.skipping ≡ false
 
 -- they are a text of some lines, each of which fits
 pub record LeavesLines {S : Type 0} (remaining : S → Option (List ℕ)) (f : Lining S) : Type 0 where

@@ -13,6 +13,8 @@ use Rattle.line_reader.specs.Lining.{Lining, IsFresh, rest}
 use Rattle.line_reader.specs.LinesWentLaws.{drop_none}
 use Rattle.line_reader.specs.KnownLines.{HasLeft, NextKnown, ahead_of}
 use Rattle.line_reader.specs.NextLine.{MetEnd, NextAnswer, NextLine, empties}
+use Rattle.line_reader.specs.NextLineLaws.{NextGoes-plain}
+use Rattle.line_reader.specs.SkipLine.{NextGoes}
 use Rattle.line_reader.specs.TextLaws.{Lines-first, Lines-fit, Lines-same, lines-last, lines-none}
 
 -- of known bytes that lost some, just the others are left
@@ -63,6 +65,7 @@ module _ {S : Type 0} (remaining : S → Option (List ℕ)) (s t : Lining S) (an
     known = left.1 ∙ ap (λ l. Some l) (sym (left.2 ∙ ap (λ l. l ++ left.0) none));
     has = has.has;
     none = λ ended. (let odd : true ≡ false = sym ended ∙ open' in cc);
+    open' = next.open';
   }
 
   -- a line and its end were
@@ -79,6 +82,7 @@ module _ {S : Type 0} (remaining : S → Option (List ℕ)) (s t : Lining S) (an
           known = left.1;
           has = first.2;
           none = λ ended. (let odd : true ≡ false = sym ended ∙ open' in cc);
+          open' = next.open';
         },
       )
 
@@ -89,7 +93,7 @@ module _ {S : Type 0} (remaining : S → Option (List ℕ)) (s t : Lining S) (an
       let nothing : left.0 ≡ [] = all_buffered not_ended met ∙ none in
       let all : has.text ≡ found = left.2 ∙ ap (λ l. l ++ left.0) is ∙ ap (λ l. found ++ l) nothing ∙ append-nil found in (
         Lines-same found lines (found ∷ []) (subst (λ l. HasLines l lines) all has.has) (lines-last found plain some),
-        record { text = []; known = left.1 ∙ ap (λ l. Some l) nothing; has = lines-none; none = λ _. refl },
+        record { text = []; known = left.1 ∙ ap (λ l. Some l) nothing; has = lines-none; none = λ _. refl; open' = next.open' },
       )
 
   -- none was, at the end
@@ -148,6 +152,12 @@ module _ {S : Type 0} (remaining : S → Option (List ℕ)) (s t : Lining S) whe
   NextLine-known (Err (Io e)) lines next fit has =
       same_left remaining s t (Err (Io e)) next lines has next.answers.0 next.answers.3
 
+pub NextGoes-known : {S : Type 0} (remaining : S → Option (List ℕ)) (s t : Lining S) (answer : NextAnswer)
+    (lines : List (List ℕ)) → NextGoes remaining s answer t → All (FitsLine s.max) lines → HasLeft remaining s lines
+    → NextKnown remaining answer lines t
+NextGoes-known remaining s t answer lines goes fit has =
+    NextLine-known remaining s t answer lines (NextGoes-plain remaining s t answer has.open' goes) fit has
+
 -- what a fresh reader has left is what its stream has
 pub IsFresh-left : {S : Type 0} (remaining : S → Option (List ℕ)) (tells : S → StreamLog) (least greatest : ℕ) (stream : S)
     (f : Lining S) (text : List ℕ) (lines : List (List ℕ)) → IsFresh tells least greatest stream f
@@ -160,6 +170,7 @@ IsFresh-left remaining tells least greatest stream f text lines fresh known has 
           ∙ ap (λ s. prepend_known [] (remaining s)) fresh.inner ∙ ap (prepend_known []) known;
       has = has;
       none = λ ended. (let odd : true ≡ false = sym ended ∙ fresh.ended in cc);
+      open' = fresh.open';
     }
 
 -- a line that fits is a line

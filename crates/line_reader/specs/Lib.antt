@@ -1,3 +1,5 @@
+pub mod Calls
+pub mod CallsLaws
 pub mod KnownLines
 pub mod KnownLinesLaws
 pub mod LineError

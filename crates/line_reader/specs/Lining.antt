@@ -8,13 +8,15 @@ use Rattle.buffer_redux.specs.declared.policy.MinBuffered.{MinBuffered}
 use Rattle.line_reader.specs.Lines.{IsLine}
 
 -- the buffered reader; the greatest length of a line; how many of the first bytes that are buffered were handed out; how
--- many behind them were searched, and hold no end of a line; and whether the stream ended, which no call has told yet
+-- many behind them were searched, and hold no end of a line; whether the stream ended, which no call has told yet; and
+-- whether a line is being skipped, of which the end hasn't come
 pub record Lining (S : Type 0) : Type 0 where
   pub reader : Buffered S MinBuffered
   pub max : ℕ
   pub handed : ℕ
   pub seen : ℕ
   pub ended : Bool
+  pub skipping : Bool
 
 -- the buffered bytes that weren't handed out
 abbrev pub rest : {S : Type 0} → Lining S → List ℕ
@@ -40,6 +42,8 @@ pub record IsLining {S : Type 0} (f : Lining S) : Type 0 where
   pub few : f.seen ≤ most f
   pub searched : IsLine (take f.seen (rest f))
   pub ended : f.ended ≡ true → rest f ≡ []
+  pub skipped : f.skipping ≡ true → rest f ≡ []
+  pub goes_on : f.skipping ≡ true → f.ended ≡ false
 
 -- a plain block that was just made, and can't grow
 pub record IsFixed (size : ℕ) (b : Block) : Type 0 where
@@ -58,6 +62,7 @@ pub record IsFresh {S : Type 0} (tells : S → StreamLog) (least greatest : ℕ)
   pub log : f.reader.log ≡ tells stream
   pub max : f.max ≡ greatest
   pub ended : f.ended ≡ false
+  pub open' : f.skipping ≡ false
   pub potential : potential (most f) f.reader.block ≡ 0
   pub capacity : f.reader.block.capacity ≡ room_for least greatest
   pub limit : f.reader.block.limit ≡ room_for least greatest

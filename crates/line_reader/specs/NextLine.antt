@@ -89,7 +89,7 @@ NextAnswers s (Err (TooLong n)) bytes t =
 NextAnswers s (Err (Io e)) bytes t =
     (bytes ≡ []) × IsUnended s.max (rest t) × Faulted s e t × (t.ended ≡ false) × NoEnd s t
 
--- what one call of `next` does. The stream is asked only where no whole line is buffered, nor the beginning of one that
+-- what one call of `next` does where no line is being skipped. The stream is asked only where no whole line is buffered, nor the beginning of one that
 -- is too long; and an end that no call has told yet is told
 pub record NextLine {S : Type 0} (remaining : S → Option (List ℕ)) (s : Lining S)
     (answer : NextAnswer) (t : Lining S) : Type 0 where
@@ -98,6 +98,7 @@ pub record NextLine {S : Type 0} (remaining : S → Option (List ℕ)) (s : Lini
   pub answers : NextAnswers s answer bytes t
   pub asked : AskedWhere (IsUnended s.max) s t
   pub told : s.ended ≡ true → answer ≡ Ok None
+  pub open' : t.skipping ≡ false
   pub whole : IsLining t
 
 -- a line is shown without the carriage return before its end, and the last one, which has none, as it is
@@ -107,13 +108,6 @@ Trims (Ok (Some line)) (Ok None) t = ⊥
 Trims (Ok (Some line)) (Err e) t = ⊥
 Trims (Ok None) answer t = answer ≡ Ok None
 Trims (Err e) answer t = answer ≡ Err e
-
--- what one call of `next_trimmed` does: what `next` does, and its line is trimmed
-pub record NextTrimmed {S : Type 0} (remaining : S → Option (List ℕ)) (s : Lining S)
-    (answer : NextAnswer) (t : Lining S) : Type 0 where
-  pub whole : NextAnswer
-  pub next : NextLine remaining s whole t
-  pub trims : Trims whole answer t
 
 -- what is lent once the next line stands at the front
 abbrev pub load_answer : {S : Type 0} → Result (Option ℕ) LineError → Lining S → NextAnswer

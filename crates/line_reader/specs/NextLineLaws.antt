@@ -1,5 +1,5 @@
 -- Laws of one call of `next`, for the proofs of those who call it.
-use Rattle.std.specs.Prelude.{◌≡◌, ℕ, ◌+◌, ◌≤◌, List, [], ◌∷◌, ◌++◌, length, take, true, false, Option, None, Some, Ok, Err}
+use Rattle.std.specs.Prelude.{◌≡◌, ℕ, ◌+◌, ◌≤◌, List, [], ◌∷◌, ◌++◌, length, take, true, false, Bool, MatchBool, ◌⊎◌, Option, None, Some, Ok, Err}
 use Rattle.std.proofs.Common.{sym, ap, subst, ◌∙◌, arith, inl, inr, length-append, append_assoc, append-nil}
 use Rattle.line_reader.specs.declared.error.LineError.TheVariants.{TooLong, Io}
 use Rattle.line_reader.specs.Lines.{newline, IsLine, BeginsTooLong, with_end}
@@ -7,6 +7,7 @@ use Rattle.line_reader.specs.LinesLaws.{line-same, no-end-within, no_end_in}
 use Rattle.line_reader.specs.Lining.{Lining, rest}
 use Rattle.line_reader.specs.LinesWentLaws.{LinesWent-unasked}
 use Rattle.line_reader.specs.NextLine.{NextAnswer, NextAnswers, NextLine}
+use Rattle.line_reader.specs.SkipLine.{NextGoes, SkipsFirst, SkipsStill}
 
 module _ {S : Type 0} (remaining : S → Option (List ℕ)) (s : Lining S) (answer : NextAnswer) (t : Lining S)
     (next : NextLine remaining s answer t) where
@@ -94,3 +95,11 @@ NextLine-too_long remaining s answer t next long =
     let same = LinesWent-unasked remaining s t next.bytes next.went told in
     let is = refused remaining s t next.bytes same long answer next.answers in
     (is.0, is.1, told)
+
+-- where no line is being skipped none is skipped first
+pub NextGoes-plain : {S : Type 0} (remaining : S → Option (List ℕ)) (s t : Lining S) (answer : NextAnswer)
+    → s.skipping ≡ false → NextGoes remaining s answer t → NextLine remaining s answer t
+NextGoes-plain remaining s t answer open' goes =
+    let Either : Bool → Type 0 =
+    λ b. MatchBool b (SkipsFirst remaining s answer t ⊎ SkipsStill remaining s answer t) (NextLine remaining s answer t) in
+    subst Either open' goes

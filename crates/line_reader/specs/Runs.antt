@@ -1,5 +1,5 @@
 -- Runs of calls: what was recorded of them, and what they come to.
-use Rattle.std.specs.Prelude.{◌≡◌, ℕ, ◌<◌, ◌⊎◌, List, [], ◌∷◌, ◌++◌, length, map, Option, None, Some, Result, Ok, Err}
+use Rattle.std.specs.Prelude.{◌≡◌, ℕ, ◌<◌, ◌⊎◌, List, [], ◌∷◌, ◌++◌, length, map, false, Option, None, Some, Result, Ok, Err}
 use Rattle.std.specs.Global.{Vec}
 use Rattle.std.specs.IoError.{error_kind}
 use Rattle.std.specs.List.{flat_map}
@@ -10,7 +10,8 @@ use Rattle.line_reader.specs.declared.error.LineError.{LineError}
 use Rattle.line_reader.specs.declared.error.LineError.TheVariants.{Io}
 use Rattle.line_reader.specs.Lines.{IsLine, with_end}
 use Rattle.line_reader.specs.Lining.{Lining}
-use Rattle.line_reader.specs.NextLine.{LinesWent, NextAnswer, NextLine}
+use Rattle.line_reader.specs.NextLine.{LinesWent, NextAnswer}
+use Rattle.line_reader.specs.SkipLine.{NextGoes}
 
 -- an answer of `next` that was recorded, by the bytes of its line
 abbrev pub kept_answer : Result (Option (Vec ℕ)) LineError → NextAnswer
@@ -58,7 +59,7 @@ Cuts (Err e ∷ answers) bytes = Cuts answers bytes
 abbrev pub NextRuns : {S : Type 0} → (S → Option (List ℕ)) → Lining S → List NextAnswer → Lining S → Type 0
 NextRuns remaining s [] t = s ≡ t
 NextRuns {S} remaining s (answer ∷ answers) t =
-    (m : Lining S) × NextLine remaining s answer m × NextRuns remaining m answers t
+    (m : Lining S) × NextGoes remaining s answer m × NextRuns remaining m answers t
 
 -- what they come to: the bytes that they handed out, which are their lines
 pub record RunWent {S : Type 0} (remaining : S → Option (List ℕ)) (s : Lining S) (answers : List NextAnswer)
@@ -78,7 +79,7 @@ pub record NextPlayed {S : Type 0} (remaining : S → Option (List ℕ)) (s : Li
   pub gained : new ≡ old ++ answers
   pub all : length answers ≡ calls
   pub run : NextRuns remaining s answers t
-  pub went : RunWent remaining s answers t
+  pub went : s.skipping ≡ false → RunWent remaining s answers t
 
 -- fewer calls were recorded, and one more was made, of which the answer is lost
 pub record NextStopped {S : Type 0} (remaining : S → Option (List ℕ)) (s : Lining S) (calls : ℕ)
@@ -88,14 +89,14 @@ pub record NextStopped {S : Type 0} (remaining : S → Option (List ℕ)) (s : L
   pub fewer : length answers < calls
   pub lost : NextAnswer
   pub run : NextRuns remaining s (answers ++ lost ∷ []) t
-  pub went : RunWent remaining s (answers ++ lost ∷ []) t
+  pub went : s.skipping ≡ false → RunWent remaining s (answers ++ lost ∷ []) t
 
 -- one call was made, and the line that it handed out is lost
 pub record NextLost {S : Type 0} (remaining : S → Option (List ℕ)) (s t : Lining S) : Type 0 where
   pub line : List ℕ
-  pub next : NextLine remaining s (Ok (Some line)) t
+  pub next : NextGoes remaining s (Ok (Some line)) t
 
 -- one call failed with this error: want of memory for what it handed out, or the stream's own
 abbrev pub NextFails : {S : Type 0} → (S → Option (List ℕ)) → Lining S → Error → Lining S → Type 0
 NextFails remaining s e t =
-    ((error_kind e ≡ OutOfMemory) × NextLost remaining s t) ⊎ NextLine remaining s (Err (Io e)) t
+    ((error_kind e ≡ OutOfMemory) × NextLost remaining s t) ⊎ NextGoes remaining s (Err (Io e)) t

@@ -1,12 +1,14 @@
 -- Laws of runs: they go on by one call, what their calls do joins, and their lines are those of the text.
-use Rattle.std.specs.Prelude.{◌≡◌, ℕ, ◌<◌, List, [], ◌∷◌, ◌++◌, length, true, Option, None, Some, Ok, Err}
+use Rattle.std.specs.Prelude.{◌≡◌, ℕ, ◌<◌, List, [], ◌∷◌, ◌++◌, length, true, false, Option, None, Some, Ok, Err}
 use Rattle.std.proofs.Common.{sym, ap, subst, ◌∙◌, refl, inl, inr, append-nil}
 use Rattle.line_reader.specs.declared.error.LineError.{LineError}
 use Rattle.line_reader.specs.declared.error.LineError.TheVariants.{TooLong, Io}
 use Rattle.line_reader.specs.Lines.{HasLines, IsLine}
 use Rattle.line_reader.specs.Lining.{Lining}
 use Rattle.line_reader.specs.LinesWentLaws.{LinesWent-none, LinesWent-joins}
-use Rattle.line_reader.specs.NextLine.{LinesWent, NextAnswer, NextAnswers, NextLine}
+use Rattle.line_reader.specs.NextLine.{LinesWent, NextAnswer, NextAnswers}
+use Rattle.line_reader.specs.NextLineLaws.{NextGoes-plain}
+use Rattle.line_reader.specs.SkipLine.{NextGoes}
 use Rattle.line_reader.specs.TextLaws.{lines-none, lines-last, lines-ended}
 use Rattle.line_reader.specs.Runs.{Cuts, EndFollows, NextRuns, NoneTold, RunWent, all_handed}
 
@@ -35,19 +37,19 @@ Cuts-text (Err e ∷ answers) bytes none cut = Cuts-text answers bytes none cut
 
 module _ {S : Type 0} (remaining : S → Option (List ℕ)) where
   pub NextRuns-more : (s : Lining S) (answers : List NextAnswer) (m : Lining S) (answer : NextAnswer) (t : Lining S)
-      → NextRuns remaining s answers m → NextLine remaining m answer t → NextRuns remaining s (answers ++ answer ∷ []) t
-  NextRuns-more s [] m answer t e next = (t, subst (λ x. NextLine remaining x answer t) (sym e) next, refl)
+      → NextRuns remaining s answers m → NextGoes remaining m answer t → NextRuns remaining s (answers ++ answer ∷ []) t
+  NextRuns-more s [] m answer t e next = (t, subst (λ x. NextGoes remaining x answer t) (sym e) next, refl)
   NextRuns-more s (a ∷ answers) m answer t run next =
       (run.0, run.1, NextRuns-more run.0 answers m answer t run.2 next)
 
   -- after a line without an end comes the end of the stream
-  end_follows : (m : Lining S) (answers : List NextAnswer) (t : Lining S) → m.ended ≡ true
+  end_follows : (m : Lining S) (answers : List NextAnswer) (t : Lining S) → m.ended ≡ true → m.skipping ≡ false
       → NextRuns remaining m answers t → EndFollows answers
-  end_follows m [] t ended run = tt
-  end_follows m (Ok None ∷ answers) t ended run = tt
-  end_follows m (Ok (Some line) ∷ answers) t ended run =
-      let odd : Ok (Some line) ≡ Ok None = run.1.told ended in cc
-  end_follows m (Err e ∷ answers) t ended run = (let odd : Err e ≡ Ok None = run.1.told ended in cc)
+  end_follows m [] t ended open' run = tt
+  end_follows m (Ok None ∷ answers) t ended open' run = tt
+  end_follows m (Ok (Some line) ∷ answers) t ended open' run =
+      let odd : Ok (Some line) ≡ Ok None = (NextGoes-plain remaining m run.0 (Ok (Some line)) open' run.1).told ended in cc
+  end_follows m (Err e ∷ answers) t ended open' run = (let odd : Err e ≡ Ok None = (NextGoes-plain remaining m run.0 (Err e) open' run.1).told ended in cc)
 
   no_bytes : (s m : Lining S) (e : LineError) (bytes : List ℕ) → NextAnswers s (Err e) bytes m → bytes ≡ []
   no_bytes s m (TooLong n) bytes (is, max, long, fault, ended, met) = is
@@ -55,24 +57,25 @@ module _ {S : Type 0} (remaining : S → Option (List ℕ)) where
 
   -- what one call hands out, in front of what the others do
   cut_off : (s m t : Lining S) (answer : NextAnswer) (answers : List NextAnswer) (bytes more : List ℕ)
-      → NextAnswers s answer bytes m → NextRuns remaining m answers t → Cuts answers more
+      → NextAnswers s answer bytes m → m.skipping ≡ false → NextRuns remaining m answers t → Cuts answers more
       → Cuts (answer ∷ answers) (bytes ++ more)
-  cut_off s m t (Ok (Some line)) answers bytes more (plain, fits, fault, inl (is, ended, none)) run cut =
+  cut_off s m t (Ok (Some line)) answers bytes more (plain, fits, fault, inl (is, ended, none)) open' run cut =
       (more, plain, inl (ap (λ l. l ++ more) is), cut)
-  cut_off s m t (Ok (Some line)) answers bytes more (plain, fits, fault, inr (is, some, none, ended, met)) run cut =
-      (more, plain, inr (ap (λ l. l ++ more) is, some, end_follows m answers t ended run), cut)
-  cut_off s m t (Ok None) answers bytes more (is, none, fault, ended, met) run cut =
+  cut_off s m t (Ok (Some line)) answers bytes more (plain, fits, fault, inr (is, some, none, ended, met)) open' run cut =
+      (more, plain, inr (ap (λ l. l ++ more) is, some, end_follows m answers t ended open' run), cut)
+  cut_off s m t (Ok None) answers bytes more (is, none, fault, ended, met) open' run cut =
       subst (Cuts answers) (ap (λ l. l ++ more) (sym is)) cut
-  cut_off s m t (Err e) answers bytes more given run cut =
+  cut_off s m t (Err e) answers bytes more given open' run cut =
       subst (Cuts answers) (ap (λ l. l ++ more) (sym (no_bytes s m e bytes given))) cut
 
-  pub NextRuns-went : (s : Lining S) (answers : List NextAnswer) (t : Lining S) → NextRuns remaining s answers t
+  pub NextRuns-went : (s : Lining S) (answers : List NextAnswer) (t : Lining S) → s.skipping ≡ false → NextRuns remaining s answers t
       → RunWent remaining s answers t
-  NextRuns-went s [] t e =
+  NextRuns-went s [] t open' e =
       record { bytes = []; cut = refl; went = subst (LinesWent remaining s []) e (LinesWent-none remaining s) }
-  NextRuns-went s (answer ∷ answers) t run =
-      let more = NextRuns-went run.0 answers t run.2 in record {
-        bytes = run.1.bytes ++ more.bytes;
-        cut = cut_off s run.0 t answer answers run.1.bytes more.bytes run.1.answers run.2 more.cut;
-        went = LinesWent-joins remaining s run.0 t run.1.bytes more.bytes run.1.went more.went;
+  NextRuns-went s (answer ∷ answers) t open' run =
+      let next = NextGoes-plain remaining s run.0 answer open' run.1 in
+      let more = NextRuns-went run.0 answers t next.open' run.2 in record {
+        bytes = next.bytes ++ more.bytes;
+        cut = cut_off s run.0 t answer answers next.bytes more.bytes next.answers next.open' run.2 more.cut;
+        went = LinesWent-joins remaining s run.0 t next.bytes more.bytes next.went more.went;
       }

@@ -16,6 +16,7 @@ pub record TakesLine {S : Type 0} (s t : Lining S) (len : ℕ) : Type 0 where
 
 -- no end of a line stands where that of the next may be
 pub record SearchesAll {S : Type 0} (s t : Lining S) : Type 0 where
+  pub before : IsLining s
   pub same : t ≡ record s { seen = min (length (rest s)) (1 + s.max) }
   pub whole : IsLining t
 
@@ -35,6 +36,7 @@ pub record AsksOnce {S : Type 0} (remaining : S → Option (List ℕ)) (s : Lini
   pub handed : t.handed ≡ 0
   pub seen : t.seen ≡ s.seen
   pub ended : t.ended ≡ s.ended
+  pub skipping : t.skipping ≡ s.skipping
   pub asks : t.reader.log.reads.asks ≤ s.reader.log.reads.asks + 1
   pub still : s.ended ≡ true → t.reader.log ≡ s.reader.log
   pub more : answer ≡ Ok true → (length (rest s) < length (rest t)) × NoEnd s t × NoFault s t

@@ -2,10 +2,12 @@
 ghost use Rattle.std.specs.Prelude.{◌≡◌, ℕ, List, [], ◌∷◌, ◌++◌, None, Ok};
 ghost use Rattle.std.specs.List.{All};
 ghost use Rattle.buffer_redux.specs.Sparing.{MovedAtMostGiven};
+ghost use Rattle.line_reader.specs.Calls.{Call, CallsGo, CallsWent, lines_of_calls, skip_calls};
 ghost use Rattle.line_reader.specs.KnownLines.{HasLeft, NextKnown};
 ghost use Rattle.line_reader.specs.Lines.{FitsLine, HasLines};
-ghost use Rattle.line_reader.specs.Lining.{Lining, IsFresh, rest};
-ghost use Rattle.line_reader.specs.NextLine.{LinesWent, NextAnswer, NextLine};
+ghost use Rattle.line_reader.specs.Lining.{Lining, IsFresh, IsLining, rest};
+ghost use Rattle.line_reader.specs.NextLine.{LinesWent, NextAnswer};
+ghost use Rattle.line_reader.specs.SkipLine.{NextGoes};
 ghost use Rattle.line_reader.specs.Runs.{Cuts, NoneTold, all_handed};
 
 mod lists;
@@ -33,6 +35,15 @@ pub fn since_new<R: TellRead>(reader: &LineReader<R>)
         → MovedAtMostGiven first.reader reader.now.reader }
 {}
 
+/// Any calls of `next`, `next_trimmed` and `skip_line` since the reader was made, whatever they answered: what was given, cut
+/// at the ends of its lines, is the lines that were handed out and those that were skipped, in order, then what went of a
+/// line that is being skipped, and what is left. No more lines are skipped than it was asked for.
+pub fn whole_lines<R: TellRead>(reader: &LineReader<R>)
+    ensures went { (least greatest : ℕ) (stream : R) (first : Lining R) (calls : List Call)
+        → IsFresh R.log least greatest stream first → IsLining first → CallsGo R.remaining first calls reader.now
+        → CallsWent R.remaining [] first (lines_of_calls calls) (skip_calls calls) reader.now }
+{}
+
 /// What a run of calls handed out, up to the one that told the end, is a text, and the lines that were handed out are its
 /// lines.
 pub fn lines_of_text()
@@ -44,6 +55,6 @@ pub fn lines_of_text()
 /// none; it has no other `Err` than the stream's own.
 pub fn next_known<R: TellRead>(reader: &LineReader<R>)
     ensures { (s : Lining R) (lines : List (List ℕ)) (answer : NextAnswer)
-        → NextLine R.remaining s answer reader.now → All (FitsLine s.max) lines → HasLeft R.remaining s lines
+        → NextGoes R.remaining s answer reader.now → All (FitsLine s.max) lines → HasLeft R.remaining s lines
         → NextKnown R.remaining answer lines reader.now }
 {}

@@ -8,8 +8,8 @@ ghost use Rattle.buffer_redux.specs.MakeError.{growth};
 ghost use Rattle.line_reader.specs.contracts.reader.LineReader.{the_row};
 ghost use Rattle.line_reader.specs.Lines.{BeginsTooLong, IsLine, IsTrimmed, newline};
 ghost use Rattle.line_reader.specs.Lining.{IsLining, IsFresh, rest, most, room_for, with_stream};
-ghost use Rattle.line_reader.specs.NextLine.{LinesWent, NextLine, NextTrimmed, answer_of, load_answer};
-ghost use Rattle.line_reader.specs.SkipLine.{SkipsLine};
+ghost use Rattle.line_reader.specs.NextLine.{LinesWent, NextLine, answer_of, load_answer};
+ghost use Rattle.line_reader.specs.SkipLine.{DropsThrough, NextGoes, NextTrimmed, SkipsLine};
 ghost use Rattle.line_reader.specs.Steps.{AsksOnce, DropsLine, SearchesAll, TakesLine};
 
 use crate::error::LineError;
@@ -47,6 +47,8 @@ pub struct LineReader<R: Tell> {
     seen: usize,
     // Whether the stream ended, which no call of `next` has told yet.
     ended: bool,
+    // Whether a line is being skipped, of which the end hasn't come. Then nothing is left, so only `load` looks at this.
+    skipping: bool,
 }
 
 impl<R: Tell> Model for LineReader<R> {
@@ -54,7 +56,7 @@ impl<R: Tell> Model for LineReader<R> {
 
     ghost Value = { Lining R };
 
-    ghost view = { λ f. record { reader = f.reader; max = f.max; handed = f.handed; seen = f.seen; ended = f.ended } };
+    ghost view = { λ f. record { reader = f.reader; max = f.max; handed = f.handed; seen = f.seen; ended = f.ended; skipping = f.skipping } };
 
     ghost invariant = { λ f. IsLining (record {
       reader = f.reader;
@@ -62,6 +64,7 @@ impl<R: Tell> Model for LineReader<R> {
       handed = f.handed;
       seen = f.seen;
       ended = f.ended;
+      skipping = f.skipping;
     }) };
 }
 
@@ -96,6 +99,7 @@ impl<R: Tell> LineReader<R> {
                 handed: 0,
                 seen: 0,
                 ended: false,
+                skipping: false,
             }),
             Err(e) => Err(MakeError(inner, e)),
         }
@@ -143,6 +147,7 @@ impl<R: Tell> LineReader<R> {
             handed,
             seen: _,
             ended: _,
+            skipping: _,
         } = self;
         let (inner, mut buffer) = reader.into_inner_with_buffer();
         buffer.consume(handed);
@@ -201,9 +206,12 @@ impl<R: TellRead> LineReader<R> {
     ///
     /// An `Err` says why there is no line, and leaves what came of it: the next call looks at it again. So a `TooLong` is
     /// returned each time, until [`skip_line`](LineReader::skip_line) drops the line.
+    ///
+    /// A line that `skip_line` failed in is dropped first, through its end, however often the stream fails in it: so what is
+    /// lent begins where a line begins.
     pub fn next(&mut self) -> Result<Option<&[u8]>, LineError>
         ensures* after_borrow { sem 𝓛 (Rests (the_row R.row R.Tell) self.entry
-            (NextLine R.remaining self.entry.now (answer_of result))) }
+            (NextGoes R.remaining self.entry.now (answer_of result))) }
         ensures fits { IfOk result (λ found. IfSome found (λ line. length line.now ≤ self.old.max)) }
         ensures ready { (line more : List ℕ) → IsLine line → length line ≤ self.old.max
             → rest self.old ≡ line ++ newline ∷ more → answer_of result ≡ Ok (Some line) }
@@ -239,12 +247,64 @@ impl<R: TellRead> LineReader<R> {
     }
 
     /// Drops the bytes through the next end of a line, or all of them where the stream ends without one, and returns how
-    /// many they are; so `Ok(0)` says that the stream ended. The line may have any length, and takes no memory.
+    /// many this call dropped; so `Ok(0)` says that the stream ended. The line may have any length, and takes no memory.
     ///
-    /// A fault leaves nothing of what came; a further call drops what comes then. A line of more than `2^63` bytes ends the
-    /// call too, by `Other`.
+    /// A fault leaves the line half skipped, and the reader goes on with that line, however often the stream fails: the next
+    /// call of this drops what comes of it, through its end, and so does one of `next` before it looks for its line. A line
+    /// of more than `2^63` bytes ends the call too, by `Other`.
     pub fn skip_line(&mut self) -> io::Result<u64>
         ensures { SkipsLine R.remaining self.old result self.new }
+    {
+        self.skipping = false;
+        let dropped = self.drop_through();
+        self.skipping = dropped.is_err();
+        dropped
+    }
+
+    // Has the next line stand whole at the front of the buffer, hands it out, and returns its length. A line that is being
+    // skipped is skipped first.
+    #[inline(never)]
+    fn load(&mut self) -> Result<Option<usize>, LineError>
+        requires searched { self.old.seen ≡ min (length (rest self.old)) (1 + self.old.max) }
+        ensures next { NextGoes R.remaining self.old (load_answer result self.new) self.new }
+        ensures within { IfOk result (λ found. IfSome found (λ len. len ≤ length self.new.reader.block.bytes)) }
+    {
+        if !self.skipping {
+            return self.load_line();
+        }
+        self.skip_line()?;
+        self.drop_handed();
+        match self.take_buffered() {
+            Some(len) => Ok(Some(len)),
+            None => self.load_line(),
+        }
+    }
+
+    // The same, where no line is being skipped.
+    fn load_line(&mut self) -> Result<Option<usize>, LineError>
+        requires open { self.old.skipping ≡ false }
+        requires searched { self.old.seen ≡ min (length (rest self.old)) (1 + self.old.max) }
+        ensures next { NextLine R.remaining self.old (load_answer result self.new) self.new }
+        ensures within { IfOk result (λ found. IfSome found (λ len. len ≤ length self.new.reader.block.bytes)) }
+    {
+        self.drop_handed();
+        'turns: loop {
+            if self.is_too_long() {
+                return Err(LineError::TooLong(self.max));
+            }
+            if !self.read_more()? {
+                return Ok(self.take_last());
+            }
+            if let Some(len) = self.take_buffered() {
+                return Ok(Some(len));
+            }
+        }
+    }
+
+    // Drops the bytes through the next end of a line, or all before that of the stream, and returns how many they are.
+    fn drop_through(&mut self) -> io::Result<u64>
+        requires open { self.old.skipping ≡ false }
+        ensures { DropsThrough R.remaining self.old result self.new }
     {
         let mut dropped = 0u64;
         'turns: loop {
@@ -264,27 +324,6 @@ impl<R: TellRead> LineReader<R> {
         }
     }
 
-    // Has the next line stand whole at the front of the buffer, hands it out, and returns its length.
-    #[inline(never)]
-    fn load(&mut self) -> Result<Option<usize>, LineError>
-        requires searched { self.old.seen ≡ min (length (rest self.old)) (1 + self.old.max) }
-        ensures next { NextLine R.remaining self.old (load_answer result self.new) self.new }
-        ensures within { IfOk result (λ found. IfSome found (λ len. len ≤ length self.new.reader.block.bytes)) }
-    {
-        self.drop_handed();
-        'turns: loop {
-            if self.is_too_long() {
-                return Err(LineError::TooLong(self.max));
-            }
-            if !self.read_more()? {
-                return Ok(self.take_last());
-            }
-            if let Some(len) = self.take_buffered() {
-                return Ok(Some(len));
-            }
-        }
-    }
-
     // Whether more bytes were searched than a line may have.
     fn is_too_long(&self) -> bool
         ensures long { IsTrue result ↔ (self.now.max < self.now.seen) }
@@ -295,6 +334,7 @@ impl<R: TellRead> LineReader<R> {
 
     // Reads once, so that one byte more is buffered, and returns whether it is: it isn't where the stream ended.
     fn read_more(&mut self) -> io::Result<bool>
+        requires open { self.old.skipping ≡ false }
         requires handed { self.old.handed ≡ 0 }
         requires fits { length (rest self.old) < most self.old }
         ensures { AsksOnce R.remaining self.old result self.new }
@@ -309,6 +349,7 @@ impl<R: TellRead> LineReader<R> {
 
     // Hands out what is left as the last line, where it is something, and returns how long it is.
     fn take_last(&mut self) -> Option<usize>
+        requires open { self.old.skipping ≡ false }
         requires handed { self.old.handed ≡ 0 }
         ensures none { IfNone result ((rest self.old ≡ []) × (self.new ≡ record self.old { ended = false })) }
         ensures last { IfSome result (λ len. (0 < len) × (len ≡ length (rest self.old))
@@ -348,6 +389,7 @@ impl<R: TellRead> LineReader<R> {
         ensures handed { self.new.handed ≡ 0 }
         ensures seen { self.new.seen ≡ self.old.seen }
         ensures ended { self.new.ended ≡ self.old.ended }
+        ensures skipping { self.new.skipping ≡ self.old.skipping }
         ensures told { self.new.reader.log ≡ self.old.reader.log }
         ensures whole { IsLining self.new }
     {

@@ -5,7 +5,7 @@ ghost use Rattle.buffer_redux.specs.BufWriter.{WritesInOrder};
 ghost use Rattle.buffer_redux.specs.WriteAll.{TookBeginning};
 ghost use Rattle.line_reader.specs.KnownLines.{HasLeft, LeavesLines, ReadStopped};
 ghost use Rattle.line_reader.specs.Lines.{FitsLine, with_ends};
-ghost use Rattle.line_reader.specs.NextLine.{NextLine};
+ghost use Rattle.line_reader.specs.SkipLine.{NextGoes};
 ghost use Rattle.line_reader.specs.Runs.{AllRead, NextFails, kept_answer};
 
 use crate::error::LineError;
@@ -63,7 +63,7 @@ fn next_of_known<R: TellRead>(
     reader: &mut LineReader<R>,
 ) -> io::Result<Option<Vec<u8>>>
     requires left { LeavesLines R.remaining reader.old }
-    ensures next { IfOk result (λ found. NextLine R.remaining reader.old (kept_answer (Ok found)) reader.new) }
+    ensures next { IfOk result (λ found. NextGoes R.remaining reader.old (kept_answer (Ok found)) reader.new) }
     ensures failed { IfErr result (λ e. NextFails R.remaining reader.old e reader.new) }
 {
     match next_copied(alloc, reader)? {

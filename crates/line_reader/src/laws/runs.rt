@@ -1,6 +1,6 @@
 //! Any number of calls, one after another, each with its answer.
 ghost use Rattle.std.specs.Prelude.{map, IfOk, OnOk, OnErr};
-ghost use Rattle.line_reader.specs.NextLine.{NextLine};
+ghost use Rattle.line_reader.specs.SkipLine.{NextGoes};
 ghost use Rattle.line_reader.specs.Runs.{NextLost, NextPlayed, NextStopped, kept_answer};
 
 use crate::error::LineError;
@@ -35,7 +35,7 @@ pub(crate) fn next_copied<R: TellRead>(
     alloc: Global,
     reader: &mut LineReader<R>,
 ) -> Result<Result<Option<Vec<u8>>, LineError>, AllocError>
-    ensures next { IfOk result (λ answer. NextLine R.remaining reader.old (kept_answer answer) reader.new) }
+    ensures next { IfOk result (λ answer. NextGoes R.remaining reader.old (kept_answer answer) reader.new) }
     ensures lost { OnErr result (NextLost R.remaining reader.old reader.new) }
 {
     match reader.next() {

@@ -80,6 +80,7 @@ tries-preserved g c =
       row = omega (arith, before.row, c.row_with-row.ensures.most, one_more _ _ e stopped.fault);
       few = again.1;
       still = stopped.still ∙ sym stopped.going ∙ before.still;
+      open' = c.in_ok-try_line.ensures.open;
       quiet = stopped.none ∙ before.quiet;
       asked = λ isnt. absurd (not_asked_again c.args.source.now c.tries.source t e (before.asked isnt) isnt
           c.in_ok-try_line.ensures.unasked stopped.fault);

@@ -1,4 +1,4 @@
-use Rattle.std.proofs.Common.{◌≡◌, ◌+◌, ◌-◌, ◌*◌, ◌≤◌, [], length}
+use Rattle.std.proofs.Common.{◌≡◌, ◌+◌, ◌-◌, ◌*◌, ◌≤◌, [], length, false}
 use Rattle.buffer_redux.specs.Faults.{OnlyInterrupts}
 use Rattle.line_reader.specs.Lining.{rest}
 use Rattle.line_reader.specs.NextLine.{LinesWent, NoEnd}
@@ -13,6 +13,7 @@ invariant-tries g l = record {
   row : length l.fn.source.reader.log.reads.faults + l.row ≤ length l.source.reader.log.reads.faults;
   few : l.row ≤ 64;
   still : l.source.ended ≡ l.fn.source.ended;
+  open' : l.source.skipping ≡ false;
   quiet : NoEnd l.fn.source l.source;
   asked : ¬ (MayAsk l.fn.source) → l.source ≡ l.fn.source;
 }

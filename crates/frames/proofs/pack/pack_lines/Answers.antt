@@ -5,15 +5,17 @@ use Rattle.frames.proofs.PackingAll.{so_far_none, so_far_more, all_done, done_on
 use Rattle.frames.proofs.pack.pack_lines.Goals as goal
 
 pub loop-init : goal.loop-init
-loop-init g c =
-    so_far_none g.R.TellRead.remaining g.W.TellWrite.stretch g.met.W.TellWrite.stretch_none g.met.W.TellWrite.stretch_joins
-    c.args.source.now c.args.target.now c.requires.going
+loop-init g c = record {
+  lines = so_far_none g.R.TellRead.remaining g.W.TellWrite.stretch g.met.W.TellWrite.stretch_none
+      g.met.W.TellWrite.stretch_joins c.args.source.now c.args.target.now c.requires.going;
+  open' = c.requires.open;
+}
 
 pub returns-in_err-pack_line-clause-once : goal.returns-in_err-pack_line-clause-once
 returns-in_err-pack_line-clause-once g c =
     stops_once g.R.TellRead.remaining g.W.TellWrite.stretch g.met.W.TellWrite.stretch_none g.met.W.TellWrite.stretch_joins
     c.args.source.now c.args.target.now
-    c.loop.counter c.loop.source c.loop.target c.loop.invariant c.pack_line.new.source c.pack_line.new.target _
+    c.loop.counter c.loop.source c.loop.target c.loop.invariant.lines c.pack_line.new.source c.pack_line.new.target _
     c.in_err-pack_line.ensures.packs
 
 pub returns-in_err-pack_line-clause-packs : goal.returns-in_err-pack_line-clause-packs
@@ -22,14 +24,14 @@ returns-in_err-pack_line-clause-packs g c =
     rw (p.1, p.2)
     (stops g.R.TellRead.remaining g.W.TellWrite.stretch g.met.W.TellWrite.stretch_none g.met.W.TellWrite.stretch_joins
     c.args.source.now c.args.target.now
-    c.loop.counter c.loop.source c.loop.target c.loop.invariant c.pack_line.new.source c.pack_line.new.target _
+    c.loop.counter c.loop.source c.loop.target c.loop.invariant.lines c.pack_line.new.source c.pack_line.new.target _
     c.in_err-pack_line.ensures.packs)
 
 pub returns-then-not-branch-clause-packs : goal.returns-then-not-branch-clause-packs
 returns-then-not-branch-clause-packs g c =
     all_done g.R.TellRead.remaining g.W.TellWrite.stretch g.met.W.TellWrite.stretch_none g.met.W.TellWrite.stretch_joins
     c.args.source.now c.args.target.now
-    c.loop.counter c.loop.source c.loop.target c.loop.invariant c.pack_line.new.source c.pack_line.new.target
+    c.loop.counter c.loop.source c.loop.target c.loop.invariant.lines c.pack_line.new.source c.pack_line.new.target
     (subst (λ b. PacksNext g.R.TellRead.remaining g.W.TellWrite.stretch c.loop.source c.loop.target (Ok b)
     c.pack_line.new.source c.pack_line.new.target) c.if-not-branch.true c.in_ok-pack_line.ensures.packs)
 
@@ -37,27 +39,30 @@ pub returns-then-not-branch-clause-once : goal.returns-then-not-branch-clause-on
 returns-then-not-branch-clause-once g c =
     done_once g.R.TellRead.remaining g.W.TellWrite.stretch g.met.W.TellWrite.stretch_none g.met.W.TellWrite.stretch_joins
     c.args.source.now c.args.target.now
-    c.loop.counter c.loop.source c.loop.target c.loop.invariant c.pack_line.new.source c.pack_line.new.target
+    c.loop.counter c.loop.source c.loop.target c.loop.invariant.lines c.pack_line.new.source c.pack_line.new.target
     (subst (λ b. PacksNext g.R.TellRead.remaining g.W.TellWrite.stretch c.loop.source c.loop.target (Ok b)
     c.pack_line.new.source c.pack_line.new.target) c.if-not-branch.true c.in_ok-pack_line.ensures.packs)
 
 pub loop-preserved : goal.loop-preserved
-loop-preserved g c =
-    so_far_more g.R.TellRead.remaining g.W.TellWrite.stretch g.met.W.TellWrite.stretch_none g.met.W.TellWrite.stretch_joins
-    c.args.source.now c.args.target.now
-    c.loop.counter c.loop.source c.loop.target c.loop.invariant c.pack_line.new.source c.pack_line.new.target
-    (subst (λ b. PacksNext g.R.TellRead.remaining g.W.TellWrite.stretch c.loop.source c.loop.target (Ok b)
-    c.pack_line.new.source c.pack_line.new.target) c.if-not-branch.false c.in_ok-pack_line.ensures.packs)
+loop-preserved g c = record {
+  lines =
+      so_far_more g.R.TellRead.remaining g.W.TellWrite.stretch g.met.W.TellWrite.stretch_none g.met.W.TellWrite.stretch_joins
+      c.args.source.now c.args.target.now
+      c.loop.counter c.loop.source c.loop.target c.loop.invariant.lines c.pack_line.new.source c.pack_line.new.target
+      (subst (λ b. PacksNext g.R.TellRead.remaining g.W.TellWrite.stretch c.loop.source c.loop.target (Ok b)
+      c.pack_line.new.source c.pack_line.new.target) c.if-not-branch.false c.in_ok-pack_line.ensures.packs);
+  open' = c.in_ok-pack_line.ensures.open;
+}
 
 pub returns-clause-once : goal.returns-clause-once
 returns-clause-once g c =
     over_once g.R.TellRead.remaining g.W.TellWrite.stretch g.met.W.TellWrite.stretch_none g.met.W.TellWrite.stretch_joins
     c.args.source.now c.args.target.now
-    c.loop.counter c.loop.source c.loop.target c.loop.invariant
+    c.loop.counter c.loop.source c.loop.target c.loop.invariant.lines
 
 pub returns-clause-packs : goal.returns-clause-packs
 returns-clause-packs g c =
     rw c.into.ensures
     (over g.R.TellRead.remaining g.W.TellWrite.stretch g.met.W.TellWrite.stretch_none g.met.W.TellWrite.stretch_joins
     c.args.source.now c.args.target.now
-    c.loop.counter c.loop.source c.loop.target c.loop.invariant _ c.from.ensures (omega (arith, c.loop-test.false)))
+    c.loop.counter c.loop.source c.loop.target c.loop.invariant.lines _ c.from.ensures (omega (arith, c.loop-test.false)))

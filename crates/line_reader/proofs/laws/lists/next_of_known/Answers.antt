@@ -1,7 +1,7 @@
 use Rattle.std.proofs.Common.{Err, ap, subst, ◌∙◌}
 use Rattle.line_reader.specs.declared.error.LineError.TheVariants.{TooLong}
-use Rattle.line_reader.specs.KnownLinesLaws.{NextLine-known}
-use Rattle.line_reader.specs.NextLine.{NextLine}
+use Rattle.line_reader.specs.KnownLinesLaws.{NextGoes-known}
+use Rattle.line_reader.specs.SkipLine.{NextGoes}
 use Rattle.line_reader.specs.Runs.{kept_answer}
 use Rattle.line_reader.proofs.laws.lists.next_of_known.Goals as goal
 
@@ -12,6 +12,6 @@ unreachable-requires g c =
     let t = c.next_copied.new.reader in
     let e = c.in-Err-TooLong in
     let left = c.requires.left in
-    NextLine-known remaining s t (Err (TooLong e.field-0-0)) left.lines
-    (subst (λ r. NextLine remaining s (kept_answer r) t) (e.is ∙ ap (λ x. Err x) e.field-0-is) c.in_ok-found.ensures.next)
+    NextGoes-known remaining s t (Err (TooLong e.field-0-0)) left.lines
+    (subst (λ r. NextGoes remaining s (kept_answer r) t) (e.is ∙ ap (λ x. Err x) e.field-0-is) c.in_ok-found.ensures.next)
     left.fit left.has

@@ -1,6 +1,6 @@
 use Rattle.std.proofs.Common.{◌≡◌, ◌+◌, map, drop, ◌++◌, ◌∷◌, [], Ok, sym, subst, arith}
 use Rattle.std.proofs.lemmas.Result.{err_from_is_err_and}
-use Rattle.line_reader.specs.NextLine.{NextLine}
+use Rattle.line_reader.specs.SkipLine.{NextGoes}
 use Rattle.line_reader.specs.Runs.{kept_answer}
 use Rattle.line_reader.proofs.Stepping.{ReadsAll, end_fails, kept_more, leaves, read_all, read_fails, read_lost, read_more, read_none, read_some}
 use Rattle.line_reader.proofs.laws.lists.read_each.Goals as goal
@@ -17,7 +17,7 @@ unreachable-requires g c =
     read_none (λ v. v.items) c.args.lines.now c.loop.index remaining c.args.reader.now c.loop.reader
     (map (λ v. v.items) c.loop.kept.items) c.requires.fit c.loop.invariant c.loop-item.result c.loop-test.true
     c.loop-item.is c.next_of_known.new.reader
-    (subst (λ o. NextLine remaining c.loop.reader (kept_answer (Ok o)) c.next_of_known.new.reader) c.in-None.is
+    (subst (λ o. NextGoes remaining c.loop.reader (kept_answer (Ok o)) c.next_of_known.new.reader) c.in-None.is
     c.in_ok-line.ensures.next)
 
 pub loop-preserved : goal.loop-preserved
@@ -34,7 +34,7 @@ loop-preserved g c =
     t) (sym added)
     (read_some (λ v. v.items) c.args.lines.now c.loop.index remaining c.args.reader.now c.loop.reader
     kept c.requires.fit c.loop.invariant c.loop-item.result c.loop-test.true c.loop-item.is t line
-    (subst (λ o. NextLine remaining c.loop.reader (kept_answer (Ok o)) t) c.in-Some.is c.in_ok-line.ensures.next))
+    (subst (λ o. NextGoes remaining c.loop.reader (kept_answer (Ok o)) t) c.in-Some.is c.in_ok-line.ensures.next))
 
 pub unreachable-requires-in-Some-2 : goal.unreachable-requires-in-Some-2
 unreachable-requires-in-Some-2 g c =
@@ -43,7 +43,7 @@ unreachable-requires-in-Some-2 g c =
     read_more (λ v. v.items) c.args.lines.now c.loop.index remaining c.args.reader.now c.loop.reader
     (map (λ v. v.items) c.loop.kept.items) c.requires.fit c.loop.invariant (omega (arith, c.loop-test.false))
     c.in-Some-2.field-0.items t
-    (subst (λ o. NextLine remaining c.loop.reader (kept_answer (Ok o)) t) c.in-Some-2.is c.in_ok-next_of_known.ensures.next)
+    (subst (λ o. NextGoes remaining c.loop.reader (kept_answer (Ok o)) t) c.in-Some-2.is c.in_ok-next_of_known.ensures.next)
 
 pub returns-in_err-line-clause-stopped : goal.returns-in_err-line-clause-stopped
 returns-in_err-line-clause-stopped g c =
@@ -63,7 +63,7 @@ returns-in_err-push-in-Some-clause-stopped g c =
     (read_lost (λ v. v.items) c.args.lines.now c.loop.index remaining c.args.reader.now c.loop.reader
     (map (λ v. v.items) c.loop.kept.items) c.requires.fit c.loop.invariant c.loop-item.result c.loop-test.true
     c.loop-item.is t c.in-Some.line.items p.0 p.2
-    (subst (λ o. NextLine remaining c.loop.reader (kept_answer (Ok o)) t) c.in-Some.is c.in_ok-line.ensures.next))
+    (subst (λ o. NextGoes remaining c.loop.reader (kept_answer (Ok o)) t) c.in-Some.is c.in_ok-line.ensures.next))
 
 pub returns-in_err-next_of_known-clause-stopped : goal.returns-in_err-next_of_known-clause-stopped
 returns-in_err-next_of_known-clause-stopped g c =
@@ -80,4 +80,4 @@ returns-clause-read g c =
     let t = c.next_of_known-2.new.reader in
     read_all (λ v. v.items) c.args.lines.now c.loop.index remaining c.args.reader.now c.loop.reader
     (map (λ v. v.items) c.loop.kept.items) c.requires.fit c.loop.invariant (omega (arith, c.loop-test.false)) t
-    (subst (λ o. NextLine remaining c.loop.reader (kept_answer (Ok o)) t) c.in-None-2.is c.in_ok-next_of_known.ensures.next)
+    (subst (λ o. NextGoes remaining c.loop.reader (kept_answer (Ok o)) t) c.in-None-2.is c.in_ok-next_of_known.ensures.next)

@@ -1,7 +1,7 @@
 use Rattle.std.proofs.Common.{◌-◌, ◌*◌, ◌^◌, ◌≤◌, length, min}
 use Rattle.line_reader.proofs.Skipping.{SkipHead}
 use Rattle.line_reader.specs.Lining.{rest}
-use Rattle.line_reader.proofs.reader.LineReader.skip_line.Given as goal
+use Rattle.line_reader.proofs.reader.LineReader.drop_through.Given as goal
 
 abbrev pub invariant-turns : goal.invariant-turns
 invariant-turns g l = record {
