@@ -19,7 +19,8 @@ use Rattle.line_reader.specs.declared.error.LineError.TheVariants as NoLine
 use Rattle.frames.specs.declared.error.RunError.{RunError}
 use Rattle.frames.specs.declared.error.RunError.TheVariants.{TooLong, Truncated, Io}
 use Rattle.frames.specs.declared.tries.Step.TheVariants.{End, ReadFailed}
-use Rattle.frames.specs.Pack.{MayAsk, NoneFailed, EndedOnce, EndsOnce, KnowsEnd, Packs, PacksNext, PacksOnce, ReadStopped, of_write_error}
+use Rattle.frames.specs.Pack.{MayAsk, NoneFailed, EndedOnce, KnowsEnd, Packs, PacksNext, PacksOnce, ReadStopped, of_write_error}
+use Rattle.programs.specs.Streams.{EndsOnce}
 use Rattle.programs.specs.StreamsLaws.{only_same, one_more, gave_up, MetInterrupts-none, EitherFailed-after}
 
 -- an end that no call has told is told next

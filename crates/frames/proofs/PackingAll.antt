@@ -15,7 +15,8 @@ use Rattle.line_reader.specs.LinesWentLaws.{LinesWent-none, LinesWent-joins}
 use Rattle.line_reader.specs.NextLine.{NoEnd}
 use Rattle.frames.specs.declared.error.RunError.{RunError}
 use Rattle.frames.specs.declared.error.RunError.TheVariants.{TooLong, Truncated, Io}
-use Rattle.frames.specs.Pack.{NoneFailed, EndedOnce, EndsOnce, KnowsEnd, Packs, PacksLines, PacksNext, PacksAll}
+use Rattle.frames.specs.Pack.{NoneFailed, EndedOnce, KnowsEnd, Packs, PacksLines, PacksNext, PacksAll}
+use Rattle.programs.specs.Streams.{EndsOnce}
 use Rattle.programs.specs.StreamsLaws.{MetNoFault-none, MetNoFault-joins, EitherFailed-after}
 use Rattle.frames.proofs.Packing.{met_open, met_ended}
 

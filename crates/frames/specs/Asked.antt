@@ -6,8 +6,9 @@ use Rattle.frames.specs.declared.ending.Ending.TheVariants.{Usual}
 use Rattle.programs.specs.declared.ending.Ending.TheVariants.{Usage}
 use Rattle.frames.specs.declared.error.RunError.{RunError}
 use Rattle.frames.specs.Ending.{EndsAs}
-use Rattle.frames.specs.Pack.{PackRan, EndsOnce}
+use Rattle.frames.specs.Pack.{PackRan}
 use Rattle.frames.specs.Unpack.{UnpackRan}
+use Rattle.programs.specs.Streams.{EndsOnce}
 
 -- there is one word, which is `pack`, or `unpack`
 abbrev pub AskToPack : List (List ℕ) → Type 0

@@ -2,7 +2,7 @@
 use Rattle.std.specs.Prelude.{◌≡◌, ℕ, ◌+◌, ◌≤◌, ◌⊎◌, List, [], ◌++◌, length, Bool, true, false, Option, Result, Ok, Err}
 use Rattle.std.specs.List.{All}
 use Rattle.std.specs.declared.io.Error.{Error}
-use Rattle.buffer_redux.specs.StreamLog.{StreamLog, ReadLog}
+use Rattle.buffer_redux.specs.StreamLog.{StreamLog}
 use Rattle.frame_reader.specs.Frames.{Fits, frames}
 use Rattle.frame_reader.specs.Outgoing.{Outgoing, unsent}
 use Rattle.frame_reader.specs.WriteFrame.{FramesTaken}
@@ -15,16 +15,12 @@ use Rattle.frames.specs.declared.error.RunError.{RunError}
 use Rattle.frames.specs.declared.error.RunError.TheVariants.{TooLong, Truncated, Io}
 use Rattle.frames.specs.declared.tries.Step.{Step}
 use Rattle.frames.specs.declared.tries.Step.TheVariants.{Went, End, ReadFailed}
-use Rattle.programs.specs.Streams.{MetNoFault, EitherFailed, Stopped, BufferRefused, GaveNothing, AllFlushed}
+use Rattle.programs.specs.Streams.{MetNoFault, EitherFailed, Stopped, BufferRefused, EndsOnce, GaveNothing, AllFlushed}
 
 -- why a run failed in which a frame could not be written
 abbrev pub of_write_error : WriteFrameError → RunError
 of_write_error (Unwritten.TooLong len) = TooLong
 of_write_error (Unwritten.Io e) = Io e
-
--- a reader gave nothing once at most
-abbrev pub EndsOnce : ReadLog → ReadLog → Type 0
-EndsOnce old new = new.zero_reads ≤ old.zero_reads + 1
 
 -- the stream may be asked: no whole line is left, no beginning of one that is too long, and it hasn't ended
 pub record MayAsk {R : Type 0} (s : Lining R) : Type 0 where

@@ -1,6 +1,7 @@
 //! Lines made frames, over any two streams that tell.
 ghost use Rattle.std.specs.Prelude.{◌≡◌, false};
-ghost use Rattle.frames.specs.Pack.{MayAsk, EndsOnce, PacksOnce, PacksNext, PacksAll, PacksAndFlushes, PackRan};
+ghost use Rattle.frames.specs.Pack.{MayAsk, PacksOnce, PacksNext, PacksAll, PacksAndFlushes, PackRan};
+ghost use Rattle.programs.specs.Streams.{EndsOnce};
 
 use crate::error::{RunError, is_fault};
 use crate::tries::{Step, row_with};

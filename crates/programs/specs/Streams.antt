@@ -5,7 +5,7 @@ use Rattle.std.specs.declared.io.Error.{Error}
 use Rattle.std.specs.declared.io.ErrorKind.TheVariants.{Other, OutOfMemory}
 use Rattle.buffer_redux.specs.Block.{Block}
 use Rattle.buffer_redux.specs.Faults.{IsInterrupt, OnlyInterrupts, FaultAfterInterrupts, MetInterrupts, SendErrorCaused}
-use Rattle.buffer_redux.specs.StreamLog.{StreamLog}
+use Rattle.buffer_redux.specs.StreamLog.{StreamLog, ReadLog}
 
 -- reads and writes were at most interrupted
 pub record MetNoFault (read read' written written' : StreamLog) : Type 0 where
@@ -57,6 +57,10 @@ pub record BufferRefused (e : Error) (read read' written written' : StreamLog) :
 -- the reader gave nothing though it was asked for something
 abbrev pub GaveNothing : StreamLog → StreamLog → Type 0
 GaveNothing read read' = read.reads.zero_reads < read'.reads.zero_reads
+
+-- the reader gave nothing once at most: behind its end it isn't asked again
+abbrev pub EndsOnce : ReadLog → ReadLog → Type 0
+EndsOnce old new = new.zero_reads ≤ old.zero_reads + 1
 
 -- what was received has been flushed
 abbrev pub AllFlushed : StreamLog → Type 0
