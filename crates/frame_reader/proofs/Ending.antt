@@ -1,14 +1,15 @@
 -- How often a reader is asked in one fill: each ask gives some bytes, but the last where it ends or fails.
-use Rattle.std.proofs.Common.{◌≡◌, ℕ, zero, suc, ◌≤◌, List, length, length-append, length-take-le, take, Ok, Err, inl, inr, ap, arith, append-nil}
+use Rattle.std.proofs.Common.{◌≡◌, ℕ, zero, suc, ◌+◌, ◌<◌, ◌≤◌, ◌⊎◌, List, [], ◌++◌, length, length-append, length-take-le, drop, take, Ok, Err, Result, inl, inr, refl, sym, ap, ◌∙◌, arith, append-nil, append_assoc}
 use Rattle.std.specs.declared.io.Error.{Error}
-use Rattle.buffer_redux.specs.BufReader.{Fills}
+use Rattle.buffer_redux.specs.BufReader.{Fills, ReadsInOrder}
 use Rattle.buffer_redux.specs.Buffered.{Buffered}
-use Rattle.buffer_redux.specs.Fill.{Turns}
+use Rattle.buffer_redux.specs.Fill.{Ordered, Turns}
 use Rattle.buffer_redux.specs.MinBuffered.{min_read_rules}
 use Rattle.buffer_redux.specs.MinBufferedLaws.{enough_never_dry}
 use Rattle.buffer_redux.specs.StreamLog.{after_read}
 use Rattle.buffer_redux.specs.declared.policy.MinBuffered.{MinBuffered}
-use Rattle.frame_reader.specs.Next.{AsksGive}
+use Rattle.frame_reader.specs.Framing.{Framing}
+use Rattle.frame_reader.specs.Next.{AskedWhere, AsksGive}
 
 -- each ask of a turn gave some
 turns_asked : {S : Type 0} (k : ℕ) (s t : Buffered S MinBuffered) → Turns min_read_rules k s t → AsksGive 0 s t
@@ -84,3 +85,100 @@ module _ {S A : Type 0} (s t : Buffered S MinBuffered) where
           | inr (inl full) ↦ omega (arith, asked, same_asks f.last t full.told, same_given f.last t full.told)
           | inr (inr end) ↦ absurd (enough_never_dry s t a fills end many)
         ]
+
+-- the number that a fill reads up to stays
+turns_number : {S : Type 0} (k : ℕ) (s t : Buffered S MinBuffered) → Turns min_read_rules k s t → t.policy.0 ≡ s.policy.0
+turns_number zero s t same = ap (λ x. x.policy.0) (sym same)
+turns_number (suc k) s t (m, run, turn) = ap (λ p. p.0) turn.ordered.asked.allowed.0 ∙ turns_number k s m run
+
+-- what came in the turns stands behind the bytes
+turns_came : {S : Type 0} (k : ℕ) (s t : Buffered S MinBuffered) → Turns min_read_rules k s t → ReadsInOrder s [] t
+turns_came zero s t same = record {
+  got = [];
+  given = ap (λ x. x.log.reads.given) (sym same) ∙ sym (append-nil s.log.reads.given);
+  equal = ap (λ x. x.block.bytes) (sym same) ∙ sym (append-nil s.block.bytes);
+}
+turns_came (suc k) s t (m, run, turn) =
+    let before = turns_came k s m run in
+    let more = take turn.count turn.read.out in
+    record {
+      got = before.got ++ more;
+      given = ap (λ l. l.reads.given) turn.read.told ∙ ap (λ l. l ++ more) before.given
+          ∙ append_assoc s.log.reads.given before.got more;
+      equal = turn.read.added.bytes ∙ ap (λ l. l ++ more) (turn.ordered.asked.law.bytes ∙ before.equal)
+          ∙ append_assoc s.block.bytes before.got more;
+    }
+
+-- the reader was asked for the last time over these bytes, and then gave those; each ask before gave a byte
+record AskedLast {S : Type 0} (s t : Buffered S MinBuffered) : Type 0 where
+  pub came : List ℕ
+  pub last : List ℕ
+  pub given : t.log.reads.given ≡ s.log.reads.given ++ (came ++ last)
+  pub few : length (s.block.bytes ++ came) < s.policy.0
+  pub asks : t.log.reads.asks ≤ s.log.reads.asks + length came + 1
+
+module _ {S : Type 0} (s m t : Buffered S MinBuffered) (k : ℕ) (turns : Turns min_read_rules k s m) where
+  asked_last : (last : List ℕ) (policy : MinBuffered) (seen : _) → Ordered min_read_rules m policy seen
+      → t.log.reads.given ≡ m.log.reads.given ++ last → t.log.reads.asks ≡ m.log.reads.asks + 1 → AskedLast s t
+  asked_last last policy seen ordered given asks =
+      let before = turns_came k s m turns in
+      record {
+        came = before.got;
+        last = last;
+        given = given ∙ ap (λ l. l ++ last) before.given ∙ append_assoc s.log.reads.given before.got last;
+        few = omega (arith, ap length before.equal, ordered.asked.allowed.1.0, turns_number k s m turns);
+        asks = omega (
+          arith,
+          asks,
+          turns_asked k s m turns,
+          ap length before.given,
+          length-append s.log.reads.given before.got,
+        );
+      }
+
+-- so it was where nothing was read behind the turns, or it wasn't asked
+asked_in_turns : {S : Type 0} (k : ℕ) (s m t : Buffered S MinBuffered) → Turns min_read_rules k s m → t.log ≡ m.log
+    → (t.log ≡ s.log) ⊎ AskedLast s t
+asked_in_turns zero s m t same told = inl (told ∙ ap (λ x. x.log) (sym same))
+asked_in_turns (suc k) s m t (l, run, turn) told = inr (asked_last s l t k run (take turn.count turn.read.out) m.policy
+    turn.seen turn.ordered (ap (λ x. x.reads.given) (told ∙ turn.read.told)) (ap (λ x. x.reads.asks) (told ∙ turn.read.told)))
+
+-- how a fill asked
+fill_asked : {S A : Type 0} (s t : Buffered S MinBuffered) (answer : Result A Error)
+    → Fills min_read_rules s answer t → (t.log ≡ s.log) ⊎ AskedLast s t
+fill_asked s t (Err e) fills =
+    let f = fills.filled in
+    elim f.ends [
+      | inl refused ↦ asked_in_turns f.count s f.last t f.turns refused.told
+      | inr faulted ↦ inr (asked_last s f.last t f.count f.turns [] t.policy faulted.seen faulted.ordered
+          (ap (λ x. x.reads.given) faulted.read.told) (ap (λ x. x.reads.asks) faulted.read.told))
+    ]
+fill_asked s t (Ok a) fills =
+    let f = fills.filled in
+    elim f.ends [
+      | inl declined ↦ asked_in_turns f.count s f.last t f.turns declined.told
+      | inr (inl full) ↦ asked_in_turns f.count s f.last t f.turns full.told
+      | inr (inr end) ↦ inr (asked_last s f.last t f.count f.turns [] t.policy end.seen end.ordered
+          (ap (λ x. x.reads.given) end.read.told) (ap (λ x. x.reads.asks) end.read.told))
+    ]
+
+-- the same of a reader of frames that has lent none
+pub fill_asks : {S A : Type 0} (n : ℕ) (s t : Framing S) (m : Buffered S MinBuffered) (answer : Result A Error)
+    → s.lent ≡ 0 → m.policy.0 ≡ n → m.log ≡ s.reader.log → m.block.bytes ≡ s.reader.block.bytes
+    → Fills min_read_rules m answer t.reader → AskedWhere (λ bytes. length bytes < n) s t
+fill_asks n s t m answer none number told same fills = elim (fill_asked m t.reader answer fills) [
+  | inl still ↦ inl (still ∙ told)
+  | inr asked ↦ inr (record {
+    came = asked.came;
+    last = asked.last;
+    given = asked.given ∙ ap (λ l. l.reads.given ++ (asked.came ++ asked.last)) told;
+    such = omega (
+      arith,
+      asked.few,
+      number,
+      ap (λ l. length (l ++ asked.came)) same,
+      ap (λ k. length (drop k s.reader.block.bytes ++ asked.came)) none,
+    );
+    asks = omega (arith, asked.asks, ap (λ l. l.reads.asks) told);
+  })
+]

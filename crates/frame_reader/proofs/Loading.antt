@@ -1,5 +1,5 @@
 -- What the steps of `load` come to: the frame that was lent is dropped, and the buffer is filled once or twice.
-use Rattle.std.proofs.Common.{◌≡◌, ℕ, ◌+◌, ◌<◌, ◌≤◌, ◌⊎◌, ◌^◌, List, [], ◌∷◌, ◌++◌, length, length-take-le, length-drop, ◌-◌, drop, take, refl, sym, ap, subst, ◌∙◌, arith, inl, inr, append-nil, append_assoc, length-append, Option, Ok, Err, Some, None}
+use Rattle.std.proofs.Common.{◌≡◌, ℕ, ◌+◌, ◌<◌, ◌≤◌, ◌↔◌, ◌⊎◌, ◌^◌, List, [], ◌∷◌, ◌++◌, length, length-take-le, length-drop, ◌-◌, drop, take, refl, sym, ap, subst, ◌∙◌, arith, inl, inr, append-nil, append_assoc, length-append, Option, Ok, Err, Some, None}
 use Rattle.std.proofs.lemmas.List.{append_cancel_left, nil_from_length, take-append-drop}
 use Rattle.std.specs.Prelude.{slice_range}
 use Rattle.std.proofs.Math.Seq.{drop-append-add}
@@ -9,7 +9,7 @@ use Rattle.buffer_redux.specs.BufReader.{RanDry}
 use Rattle.frame_reader.specs.declared.error.FrameError.TheVariants.{Truncated, TooLong, Io}
 use Rattle.frame_reader.specs.Frames.{Fits, header, frame, BeginsWith, IsCutShort}
 use Rattle.frame_reader.specs.Framing.{Framing, IsFraming, rest}
-use Rattle.frame_reader.specs.Next.{AsksGive, FramesWent, IsSettled, Next, empties}
+use Rattle.frame_reader.specs.Next.{AskedOver, AskedWhere, AsksGive, FramesWent, IsSettled, IsUnsettled, Next, empties}
 use Rattle.frame_reader.specs.FramesLaws.{header-same}
 use Rattle.frame_reader.specs.NextLaws.{FramesWent-joins, FramesWent-none}
 
@@ -78,12 +78,26 @@ few_bytes max (x ∷ y ∷ bytes) few = absurd (omega arith)
 rest_whole : {S : Type 0} (f : Framing S) → f.lent ≡ 0 → rest f ≡ f.reader.block.bytes
 rest_whole f none = ap (λ n. drop n f.reader.block.bytes) none
 
+-- what begins with a length of at most max is settled just where the whole frame is there
+pub settled_where : (max len : ℕ) (bytes : List ℕ) → max < 2 ^ 16 → len ≤ max → BeginsWith len bytes
+    → (2 + len ≤ length bytes) ↔ IsSettled max bytes
+settled_where max len bytes word fits begins = (
+  λ long. inl (record {
+    payload = slice_range bytes 2 (2 + len);
+    more = drop (2 + len) bytes;
+    fits = omega (arith, slice_length len bytes long, fits);
+    equal = sym (frame_split len bytes begins.more begins.equal long);
+  }),
+  settled_whole max len bytes word fits begins,
+)
+
 -- the frame that was lent is dropped, and the buffer is filled up to a length
 module _ {S : Type 0} (remaining : S → Option (List ℕ)) (s m u : Framing S)
     (went0 : FramesWent remaining s [] m) (rest0 : rest m ≡ rest s) (lent0 : m.lent ≡ 0)
     (told0 : m.reader.log ≡ s.reader.log)
     (went1 : FramesWent remaining m [] u) (lent1 : u.lent ≡ 0)
-    (untouched1 : 2 ≤ length m.reader.block.bytes → u.reader.log ≡ m.reader.log) (whole1 : IsFraming u) where
+    (untouched1 : 2 ≤ length m.reader.block.bytes → u.reader.log ≡ m.reader.log) (whole1 : IsFraming u)
+    (over1 : AskedWhere (λ bytes. length bytes < 2) m u) where
   went_u : FramesWent remaining s [] u
   went_u = FramesWent-joins remaining s m u [] [] went0 went1
 
@@ -110,6 +124,23 @@ module _ {S : Type 0} (remaining : S → Option (List ℕ)) (s m u : Framing S)
     ap (λ l. length l.reads.given) told0,
   )
 
+  over_u : AskedWhere (IsUnsettled s.max) s u
+  over_u = elim over1 [
+    | inl told ↦ inl (told ∙ told0)
+    | inr over ↦ inr (record {
+      came = over.came;
+      last = over.last;
+      given = over.given ∙ ap (λ l. l.reads.given ++ (over.came ++ over.last)) told0;
+      such = λ settled. absurd (omega (
+        arith,
+        settled_long s.max (rest s ++ over.came) settled,
+        over.such,
+        ap (λ l. length (l ++ over.came)) rest0,
+      ));
+      asks = omega (arith, over.asks, ap (λ l. l.reads.asks) told0);
+    })
+  ]
+
   pub first_fault : (e : Error) → u.reader.log.reads.faults ≡ m.reader.log.reads.faults ++ e ∷ []
       → length u.reader.block.bytes < 2 → empties u.reader ≡ empties m.reader → AsksGive 1 m.reader u.reader
       → Next remaining s (Err (Io e)) u
@@ -122,6 +153,7 @@ module _ {S : Type 0} (remaining : S → Option (List ℕ)) (s m u : Framing S)
     not_asked = settled_u;
     once = omega (arith, none, empties_m);
     asks = asked_u 1 asked;
+    asked = over_u;
     whole = whole1;
   }
 
@@ -137,6 +169,7 @@ module _ {S : Type 0} (remaining : S → Option (List ℕ)) (s m u : Framing S)
     not_asked = settled_u;
     once = omega (arith, once, empties_m);
     asks = asked_u 1 asked;
+    asked = over_u;
     whole = whole1;
   }
 
@@ -154,6 +187,7 @@ module _ {S : Type 0} (remaining : S → Option (List ℕ)) (s m u : Framing S)
     not_asked = settled_u;
     once = omega (arith, once, empties_m);
     asks = asked_u 1 asked;
+    asked = over_u;
     whole = whole1;
   }
 
@@ -171,6 +205,7 @@ module _ {S : Type 0} (remaining : S → Option (List ℕ)) (s m u : Framing S)
       not_asked = settled_u;
       once = omega (arith, none1, empties_m);
       asks = asked_u 0 each1;
+      asked = over_u;
       whole = whole1;
     }
 
@@ -178,7 +213,7 @@ module _ {S : Type 0} (remaining : S → Option (List ℕ)) (s m u : Framing S)
     module _ (fits : len ≤ s.max) (v : Framing S)
         (went2 : FramesWent remaining u [] v) (lent2 : v.lent ≡ 0)
         (untouched2 : 2 + len ≤ length u.reader.block.bytes → v.reader.log ≡ u.reader.log)
-        (whole2 : IsFraming v) where
+        (whole2 : IsFraming v) (over2 : AskedWhere (λ bytes. length bytes < 2 + len) u v) where
       went_v : FramesWent remaining s [] v
       went_v = FramesWent-joins remaining s u v [] [] went_u went2
 
@@ -202,6 +237,52 @@ module _ {S : Type 0} (remaining : S → Option (List ℕ)) (s m u : Framing S)
 
       asked_v : (n : ℕ) → AsksGive n u.reader v.reader → AsksGive n s.reader v.reader
       asked_v n asked = omega (arith, asked_u 0 each1, asked)
+
+      over_second : AskedOver (λ bytes. length bytes < 2 + len) u v → AskedOver (IsUnsettled s.max) s v
+      over_second over =
+          let got = went_u.hands.got in
+          let left : rest u ≡ rest s ++ got = went_u.hands.equal in
+          let all : rest u ++ over.came ≡ rest s ++ (got ++ over.came) =
+          ap (λ l. l ++ over.came) left ∙ append_assoc (rest s) got over.came in
+          let begins_all : BeginsWith len (rest s ++ (got ++ over.came)) = begins_more len u.reader.block.bytes over.came
+          (rest s ++ (got ++ over.came)) (sym all ∙ ap (λ l. l ++ over.came) (rest_whole u lent1)) begins in
+          record {
+            came = got ++ over.came;
+            last = over.last;
+            given = over.given ∙ ap (λ l. l ++ (over.came ++ over.last)) went_u.hands.given
+                ∙ append_assoc s.reader.log.reads.given got (over.came ++ over.last)
+                ∙ ap (λ l. s.reader.log.reads.given ++ l) (sym (append_assoc got over.came over.last));
+            such = λ settled. absurd (omega (
+              arith,
+              settled_whole s.max len (rest s ++ (got ++ over.came)) (omega (arith, whole1.word, went_u.max)) fits
+                  begins_all settled,
+              over.such,
+              ap length all,
+            ));
+            asks = omega (
+              arith,
+              over.asks,
+              asked_u 0 each1,
+              ap length went_u.hands.given,
+              length-append s.reader.log.reads.given got,
+              length-append got over.came,
+            );
+          }
+
+      over_v : AskedWhere (IsUnsettled s.max) s v
+      over_v = elim over2 [
+        | inr over ↦ inr (over_second over)
+        | inl told ↦ elim over_u [
+          | inl same ↦ inl (told ∙ same)
+          | inr over ↦ inr (record {
+            came = over.came;
+            last = over.last;
+            given = ap (λ l. l.reads.given) told ∙ over.given;
+            such = over.such;
+            asks = omega (arith, over.asks, ap (λ l. l.reads.asks) told);
+          })
+        ]
+      ]
 
       dry_v : RanDry u.reader v.reader → RanDry s.reader v.reader
       dry_v dry = omega (arith, dry, went1.grows.zero_reads, ap (λ l. l.reads.zero_reads) told0)
@@ -227,6 +308,7 @@ module _ {S : Type 0} (remaining : S → Option (List ℕ)) (s m u : Framing S)
         not_asked = settled_v;
         once = omega (arith, none, none1, empties_m);
         asks = asked_v 1 asked;
+        asked = over_v;
         whole = whole2;
       }
 
@@ -248,6 +330,7 @@ module _ {S : Type 0} (remaining : S → Option (List ℕ)) (s m u : Framing S)
           not_asked = settled_v;
           once = omega (arith, once, none1, empties_m);
           asks = asked_v 1 asked;
+          asked = over_v;
           whole = whole2;
         }
 
@@ -281,6 +364,11 @@ module _ {S : Type 0} (remaining : S → Option (List ℕ)) (s m u : Framing S)
               not_asked = settled_v;
               once = omega (arith, none, none1, empties_m);
               asks = asked_v 0 asked;
+              asked = elim over_v [
+                | inl told ↦ inl told
+                | inr over ↦ inr (record
+                    { came = over.came; last = over.last; given = over.given; such = over.such; asks = over.asks })
+              ];
               whole = record {
                 word = whole2.word;
                 block = whole2.block;
@@ -300,5 +388,5 @@ pub next_buffered : {S : Type 0} (remaining : S → Option (List ℕ)) (s m : Fr
 next_buffered remaining s m went same none told whole len begins fits long =
     let bytes : rest s ≡ m.reader.block.bytes = sym same ∙ rest_whole m none in
     let still = FramesWent-none remaining m in
-    found remaining s m m went same none told still none (λ _. refl) whole len (subst (BeginsWith len) bytes begins) refl refl
-    (omega arith) fits m still none (λ _. refl) whole refl (omega (arith, long, ap length bytes)) refl (omega arith)
+    found remaining s m m went same none told still none (λ _. refl) whole (inl refl) len (subst (BeginsWith len) bytes begins)
+    refl refl (omega arith) fits m still none (λ _. refl) whole (inl refl) refl (omega (arith, long, ap length bytes)) refl (omega arith)

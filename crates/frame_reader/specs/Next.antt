@@ -95,7 +95,25 @@ asks_in_vain (Err (Truncated have)) = 1
 asks_in_vain (Err (TooLong len)) = 0
 asks_in_vain (Err (Io e)) = 1
 
--- what one call of `next` does. Once the reader gave nothing, it isn't asked again
+-- the stream was asked, also for the last time, only where what was left, then what had come, was such; and each ask but
+-- the last gave a byte
+pub record AskedOver {S : Type 0} (Such : List ℕ → Type 0) (s t : Framing S) : Type 0 where
+  pub came : List ℕ
+  pub last : List ℕ
+  pub given : t.reader.log.reads.given ≡ s.reader.log.reads.given ++ (came ++ last)
+  pub such : Such (rest s ++ came)
+  pub asks : t.reader.log.reads.asks ≤ s.reader.log.reads.asks + length came + 1
+
+-- so it was, or it wasn't asked
+abbrev pub AskedWhere : {S : Type 0} → (List ℕ → Type 0) → Framing S → Framing S → Type 0
+AskedWhere Such s t = (t.reader.log ≡ s.reader.log) ⊎ AskedOver Such s t
+
+-- these bytes don't settle the answer
+abbrev pub IsUnsettled : ℕ → List ℕ → Type 0
+IsUnsettled max bytes = ¬ IsSettled max bytes
+
+-- what one call of `next` does. The stream is asked only until what is left settles the answer; once it gave nothing, it
+-- isn't asked again
 pub record Next {S : Type 0} (remaining : S → Option (List ℕ)) (s : Framing S)
     (answer : NextAnswer) (t : Framing S) : Type 0 where
   pub went : FramesWent remaining s (payloads_of answer) t
@@ -103,6 +121,7 @@ pub record Next {S : Type 0} (remaining : S → Option (List ℕ)) (s : Framing 
   pub not_asked : IsSettled s.max (rest s) → t.reader.log ≡ s.reader.log
   pub once : empties t.reader ≡ empties s.reader + ends_met answer
   pub asks : AsksGive (asks_in_vain answer) s.reader t.reader
+  pub asked : AskedWhere (IsUnsettled s.max) s t
   pub whole : IsFraming t
 
 -- what is lent once the next frame stands at the front

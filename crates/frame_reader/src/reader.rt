@@ -1,5 +1,5 @@
 //! The reader of frames.
-ghost use Rattle.std.specs.Prelude.{◌≡◌, ℕ, ◌+◌, ◌^◌, ◌<◌, ◌≤◌, ◌⊎◌, List, [], ◌∷◌, ◌++◌, length, Ok, Err, Some, IfOk, IfErr, IfSome, OnOk, OnErr, true, false};
+ghost use Rattle.std.specs.Prelude.{◌≡◌, ℕ, ◌+◌, ◌^◌, ◌<◌, ◌≤◌, ◌↔◌, ◌⊎◌, List, [], ◌∷◌, ◌++◌, length, Ok, Err, Some, IfOk, IfErr, IfSome, IsTrue, OnOk, OnErr, true, false};
 ghost use Rattle.std.specs.Borrow.{sem};
 ghost use Rattle.std.specs.Io.BufRead.{Rests};
 ghost use Rattle.buffer_redux.specs.BufReader.{RanDry};
@@ -8,7 +8,7 @@ ghost use Rattle.buffer_redux.specs.MakeError.{growth};
 ghost use Rattle.frame_reader.specs.contracts.reader.FrameReader.{the_row};
 ghost use Rattle.frame_reader.specs.Frames.{BeginsWith, frame};
 ghost use Rattle.frame_reader.specs.Framing.{IsFraming, IsFresh, frame_capacity, lent_payload, rest, most};
-ghost use Rattle.frame_reader.specs.Next.{AsksGive, FramesWent, NoFault, Next, answer_of, empties, load_answer};
+ghost use Rattle.frame_reader.specs.Next.{AskedWhere, AsksGive, FramesWent, IsSettled, NoFault, Next, answer_of, empties, load_answer};
 
 use crate::error::FrameError;
 use crate::frame::{HEADER, frame_buffer, length_of};
@@ -115,6 +115,24 @@ impl<R: Tell> FrameReader<R> {
         ensures whole { IsFraming self.now }
     {
         &self.reader.buffer()[self.lent..]
+    }
+
+    /// Whether a whole frame is buffered behind the one that was lent last, or the length of one that is too long: then
+    /// [`next`](FrameReader::next) doesn't read the stream.
+    #[inline(always)]
+    pub fn has_frame(&self) -> bool
+        ensures settled { IsTrue result ↔ IsSettled self.now.max (rest self.now) }
+        ensures whole { IsFraming self.now }
+    {
+        let left = self.rest();
+        if left.len() < HEADER {
+            return false;
+        }
+        let len = length_of(left);
+        if len > self.max {
+            return true;
+        }
+        HEADER + usize::from(len) <= left.len()
     }
 }
 
@@ -235,6 +253,7 @@ impl<R: TellRead> FrameReader<R> {
         ensures asks { AsksGive 1 self.old.reader self.new.reader }
         ensures each { OnOk result (min ≤ length self.new.reader.block.bytes
             → AsksGive 0 self.old.reader self.new.reader) }
+        ensures asked { AskedWhere (λ bytes. length bytes < min) self.old self.new }
         ensures whole { IsFraming self.new }
     {
         self.reader.policy_mut().set_min(min);

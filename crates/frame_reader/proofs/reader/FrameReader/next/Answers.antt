@@ -1,4 +1,5 @@
-use Rattle.std.proofs.Common.{Ok, Some, ◌-◌, drop, take, refl, subst, sym, ◌∙◌}
+use Rattle.std.proofs.Common.{Ok, Err, Some, ◌-◌, drop, take, refl, subst, sym, ◌∙◌}
+use Rattle.std.proofs.lemmas.Result.{err_from_is_err_and}
 use Rattle.frame_reader.specs.Framing.{Framing, lent_payload}
 use Rattle.frame_reader.specs.Next.{Next, load_answer}
 use Rattle.frame_reader.specs.NextLaws.{Next-ready, Next-too_long}
@@ -33,5 +34,24 @@ returns-then-branch g c =
         fits = lends.answers.0;
         ready = λ payload more fits front. (Next-ready remaining s (Ok (Some found)) u payload more lends fits front).0;
         too_long = λ len above front. (Next-too_long remaining s (Ok (Some found)) u len lends above front).0;
+      },
+    )
+
+pub returns-in_err-load_aside : goal.returns-in_err-load_aside
+returns-in_err-load_aside g c =
+    let remaining = g.R.TellRead.remaining in
+    let s = c.args.self.now in
+    let t = c.load_aside.new.self in
+    let e = c.in_err-load_aside.field-0.0 in
+    let p = err_from_is_err_and c.from_residual.result c.from_residual.ensures.1 in
+    let lends : Next remaining s (Err e) t = subst (λ x. Next remaining x (Err e) t) (c.step.ensures.unchanged c.if-step.false)
+    c.in_err-load_aside.ensures.next in
+    rw (p.1, p.2) (
+      (refl, (λ _. tt), lends),
+      record {
+        after_borrow = tt;
+        fits = tt;
+        ready = λ payload more fits front. (Next-ready remaining s (Err e) t payload more lends fits front).0;
+        too_long = λ len above front. (Next-too_long remaining s (Err e) t len lends above front).0;
       },
     )
