@@ -1,11 +1,13 @@
 -- What the turns of a copy come to.
-use Rattle.std.proofs.Common.{◌≡◌, ℕ, ◌+◌, ◌≤◌, List, [], ◌∷◌, ◌++◌, length, Result, Ok, Err, refl, sym, ap, ◌∙◌, arith, inl, inr, le_refl, append-nil, length-append}
+use Rattle.std.proofs.Common.{◌≡◌, ℕ, ◌+◌, ◌<◌, ◌≤◌, List, [], ◌∷◌, ◌++◌, length, Result, Ok, Err, refl, sym, ap, subst, ◌∙◌, arith, inl, inr, le_refl, append-nil, length-append}
+use Rattle.std.proofs.lemmas.Bool.{cases_lt}
+use Rattle.std.proofs.lemmas.List.{nil_from_length}
 use Rattle.std.proofs.lemmas.List.Elements.{All-nil, All-cons}
 use Rattle.std.specs.IoError.{error_kind}
 use Rattle.std.specs.List.{All}
 use Rattle.std.specs.declared.io.Error.{Error}
 use Rattle.std.specs.declared.io.ErrorKind.TheVariants.{Interrupted}
-use Rattle.redux_tell.specs.Copy.{MovedBy, FillsMade, WritesEachFill, CopiesOn, CopyTurn, CopyRetried, FaultsRise, FaultsAtMost, consumed_since}
+use Rattle.redux_tell.specs.Copy.{MovedBy, EndsShown, FillsMade, TakesNothing, WritesEachFill, CopiesOn, CopyTurn, CopyRetried, FaultsRise, FaultsAtMost, consumed_since}
 use Rattle.redux_tell.specs.CopyLaws.{TurnAnswers-after}
 use Rattle.redux_tell.specs.Faults.{IsInterrupt, MetInterrupts, OnlyInterrupts-none, OnlyInterrupted-none}
 use Rattle.redux_tell.specs.StreamLog.{StreamLog, FillLog, WriteLog, after_fill_fault, after_shown, after_write, with_end}
@@ -27,6 +29,9 @@ one_interrupt e is = All-cons IsInterrupt e [] is (All-nil IsInterrupt)
 
 end_counted : (before : ℕ) (shown : List ℕ) → (before ≤ with_end before shown) × (with_end before shown ≤ before + 1)
 end_counted before shown = (grind arith, grind arith)
+
+no_end : (before : ℕ) (shown : List ℕ) → 0 < length shown → with_end before shown ≡ before
+no_end before shown some = grind arith
 
 module _ {W : Type 0} (tells : W → StreamLog) (stretch call : W → W → Type 0) (from : StreamLog) (w : W) where
   -- a turn whose fill failed
@@ -57,10 +62,14 @@ module _ {W : Type 0} (tells : W → StreamLog) (stretch call : W → W → Type
             fills = fills;
           };
           writes = writes;
+          ends_shown = omega arith;
+          one_end = λ takes. refl;
+          none_ended = λ takes. tt;
         };
         interrupted = λ is. record {
           moved = kept;
           ends = le_refl _;
+          ends_shown = omega arith;
           fills = fills;
           writes = writes;
           reader = record { interrupts = e ∷ []; interrupted = one_interrupt e is; faults = refl };
@@ -87,6 +96,8 @@ module _ {W : Type 0} (tells : W → StreamLog) (stretch call : W → W → Type
       let ends = end_counted from.fills.zero_fills bytes in
       let fills : FillsMade 0 from.fills (after_shown from bytes).fills (tells w).writes (tells w').writes =
       omega (arith, ap length faults, length-append (tells w).writes.faults (e ∷ [])) in
+      let shown : EndsShown 0 from.fills (after_shown from bytes).fills (tells w).writes (tells w').writes =
+      omega (arith, ends.1, ap length faults, length-append (tells w).writes.faults (e ∷ [])) in
       let once = ap (λ l. l.writes.asks) told in
       record {
         answers = record {
@@ -107,10 +118,19 @@ module _ {W : Type 0} (tells : W → StreamLog) (stretch call : W → W → Type
             fills = fills;
           };
           writes = omega (arith, once);
+          ends_shown = shown;
+          one_end = λ takes. elim (cases_lt 0 (length bytes)) [
+            | inl some ↦ no_end from.fills.zero_fills bytes some
+            | inr few ↦
+                absurd (takes w w' e (none w) called
+                (subst (λ l. tells w' ≡ after_write (tells w) l (Err e)) (nil_from_length bytes (omega (arith, few))) told))
+          ];
+          none_ended = λ takes. tt;
         };
         interrupted = λ is. record {
           moved = kept;
           ends = ends.0;
+          ends_shown = shown;
           fills = fills;
           writes = omega (arith, once);
           reader = OnlyInterrupts-none from.fills.faults;
@@ -136,17 +156,18 @@ module _ {W : Type 0} (tells : W → StreamLog) (stretch call : W → W → Type
 -- the last turn of those that are begun again
 module _ {W : Type 0} (tells : W → StreamLog) (stretch call : W → W → Type 0)
     (joins : (u v w : W) → stretch u v → stretch v w → stretch u w) {a b : FillLog} {x y : W}
-    (before : CopiesOn 0 a b (tells x).writes (tells y).writes) (went : stretch x y) where
+    (before : CopiesOn 0 a b (tells x).writes (tells y).writes) (went : stretch x y)
+    (still : TakesNothing tells stretch call x → b.zero_fills ≡ a.zero_fills) where
   pub last_retried : {c : FillLog} {z : W} (answer : Result ℕ Error)
       → FaultsRise 64 a b (tells x).writes (tells y).writes → FaultsAtMost 64 a b (tells x).writes (tells y).writes
       → CopyTurn tells stretch call answer b c y z → CopyRetried tells stretch call answer a c x z
   last_retried (Ok n) rise few turn = record {
-    answers = TurnAnswers-after tells stretch call joins before went (Ok n) turn.answers;
+    answers = TurnAnswers-after tells stretch call joins before went still (Ok n) turn.answers;
     often = tt;
     few = omega (arith, few, turn.one_fault);
   }
   last_retried (Err e) rise few turn = record {
-    answers = TurnAnswers-after tells stretch call joins before went (Err e) turn.answers;
+    answers = TurnAnswers-after tells stretch call joins before went still (Err e) turn.answers;
     often = λ is. omega (arith, rise, turn.one_fault);
     few = omega (arith, few, turn.one_fault);
   }

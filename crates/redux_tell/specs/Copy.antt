@@ -1,5 +1,5 @@
 -- What copying from a buffered reader to a writer does.
-use Rattle.std.specs.Prelude.{◌≡◌, ℕ, ◌+◌, ◌-◌, ◌*◌, ◌^◌, ◌<◌, ◌≤◌, ◌⊎◌, List, ◌++◌, length, Option, IfSome, Result, Ok, Err, IfOk, IfErr, OnOk, MatchResult}
+use Rattle.std.specs.Prelude.{◌≡◌, ◌≢◌, ℕ, ◌+◌, ◌-◌, ◌*◌, ◌^◌, ◌<◌, ◌≤◌, ◌⊎◌, List, [], ◌++◌, length, Option, IfSome, Result, Ok, Err, IfOk, IfErr, OnOk, MatchResult}
 use Rattle.std.specs.Io.KnownBytes.{Consumes}
 use Rattle.std.specs.IoError.{error_kind}
 use Rattle.std.specs.declared.io.Error.{Error}
@@ -27,10 +27,15 @@ abbrev pub WritesEachFill : FillLog → FillLog → WriteLog → WriteLog → Ty
 WritesEachFill from from' to to' =
     to'.asks + from.asks + length from'.faults ≡ to.asks + from'.asks + length from.faults
 
+-- a fill that showed nothing had no consume: there was one for each write that failed, and so many more at most
+abbrev pub EndsShown : ℕ → FillLog → FillLog → WriteLog → WriteLog → Type 0
+EndsShown n from from' to to' = from'.zero_fills + length to.faults ≤ from.zero_fills + length to'.faults + n
+
 -- turns that moved n bytes, in which the streams were at most interrupted. Each moved a byte, or was interrupted
 pub record CopiesOn (n : ℕ) (from from' : FillLog) (to to' : WriteLog) : Type 0 where
   pub moved : MovedBy n from from' to to'
   pub ends : from.zero_fills ≤ from'.zero_fills
+  pub ends_shown : EndsShown 0 from from' to to'
   pub fills : FillsMade 0 from from' to to'
   pub writes : WritesEachFill from from' to to'
   pub reader : OnlyInterrupts from.faults from'.faults
@@ -105,6 +110,16 @@ abbrev pub MeetsFewFaults : {A : Type 0} → Result A Error → FillLog → Fill
 MeetsFewFaults (Ok a) from from' to to' = FaultsAtMost (64 * (consumed_since from from' + 1)) from from' to to'
 MeetsFewFaults (Err e) from from' to to' = FaultsAtMost (64 * (consumed_since from from' + 1) + 1) from from' to to'
 
+-- whatever calls the writer went through, no write of nothing fails
+abbrev pub TakesNothing : {W : Type 0} → (W → StreamLog) → (W → W → Type 0) → (W → W → Type 0) → W → Type 0
+TakesNothing {W} tells stretch call w =
+    (before after : W) (e : Error) → stretch w before → call before after → tells after ≢ after_write (tells before) [] (Err e)
+
+-- at Ok the reader showed nothing once at most, and at an `Err` never
+abbrev pub ShowsOneEnd : {A : Type 0} → Result A Error → FillLog → FillLog → Type 0
+ShowsOneEnd (Ok a) from from' = from'.zero_fills ≤ from.zero_fills + 1
+ShowsOneEnd (Err e) from from' = from'.zero_fills ≡ from.zero_fills
+
 -- the last turn of a copy: it moved nothing, and its fill had no consume
 pub record TurnEnded {W : Type 0} (tells : W → StreamLog) (stretch call : W → W → Type 0)
     (from from' : FillLog) (w w' : W) : Type 0 where
@@ -127,6 +142,11 @@ pub record TurnAnswers {W : Type 0} (tells : W → StreamLog) (stretch call : W 
   pub ended : result ≡ Ok 0 → TurnEnded tells stretch call from from' w w'
   pub failed : IfErr result (λ e. TurnFailed tells stretch call e from from' w w')
   pub writes : WritesEachFill from from' (tells w).writes (tells w').writes
+  pub ends_shown : MatchResult result
+      (λ _. EndsShown 1 from from' (tells w).writes (tells w').writes)
+      (λ _. EndsShown 0 from from' (tells w).writes (tells w').writes)
+  pub one_end : TakesNothing tells stretch call w → ShowsOneEnd result from from'
+  pub none_ended : TakesNothing tells stretch call w → IfOk result (λ n. 0 < n → from'.zero_fills ≡ from.zero_fills)
 
 -- one turn of a copy: one fill, then one write of all that it shows, none where the fill failed, and so one consume where
 -- bytes went over; a failure is one fault, which moved nothing
@@ -172,6 +192,10 @@ pub record CopyBuf {W : Type 0} (tells : W → StreamLog) (stretch call : W → 
       (λ _. FillsMade 1 from from' (tells w).writes (tells w').writes)
       (λ _. FillsMade 0 from from' (tells w).writes (tells w').writes)
   pub writes : WritesEachFill from from' (tells w).writes (tells w').writes
+  pub ends_shown : MatchResult result
+      (λ _. EndsShown 1 from from' (tells w).writes (tells w').writes)
+      (λ _. EndsShown 0 from from' (tells w).writes (tells w').writes)
+  pub one_end : TakesNothing tells stretch call w → ShowsOneEnd result from from'
 
 -- the writer received just what the reader, of which all that is left is known, lost
 pub record MovesKnown (left left' : Option (List ℕ)) (to to' : WriteLog) : Type 0 where

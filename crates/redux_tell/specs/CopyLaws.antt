@@ -1,9 +1,9 @@
 -- Laws of copying turn by turn, for the proofs of those who make the turns.
-use Rattle.std.proofs.Common.{ℕ, ◌+◌, List, Result, Ok, Err, inl, inr, subst, le_trans, arith, refl, sym, [], append-nil, ◌∙◌, ◌++◌, ap, append_assoc, length-append, le_refl}
+use Rattle.std.proofs.Common.{◌≡◌, ℕ, ◌+◌, List, Result, Ok, Err, inl, inr, subst, le_trans, arith, refl, sym, [], append-nil, ◌∙◌, ◌++◌, ap, append_assoc, length-append, le_refl}
 use Rattle.std.specs.declared.io.Error.{Error}
 use Rattle.redux_tell.specs.StreamLog.{StreamLog, FillLog, WriteLog}
 use Rattle.redux_tell.specs.Faults.{OnlyInterrupts-none, OnlyInterrupted-none, OnlyInterrupts-joins, FaultAfterInterrupts-after, MetInterrupts-joins}
-use Rattle.redux_tell.specs.Copy.{MovedBy, CopiesOn, LastWrite, CopyEnded, StreamFailed, TurnEnded, TurnFailed, TurnAnswers, CopyBuf}
+use Rattle.redux_tell.specs.Copy.{MovedBy, CopiesOn, LastWrite, CopyEnded, StreamFailed, TakesNothing, TurnEnded, TurnFailed, TurnAnswers, CopyBuf}
 
 -- no turn moves nothing, and two turns one after the other move what both do
 pub MovedBy-none : (from : FillLog) (to : WriteLog) → MovedBy 0 from from to to
@@ -36,6 +36,7 @@ pub CopiesOn-none : (from : FillLog) (to : WriteLog) → CopiesOn 0 from from to
 CopiesOn-none from to = record {
   moved = MovedBy-none from to;
   ends = le_refl _;
+  ends_shown = omega arith;
   fills = omega arith;
   writes = omega arith;
   reader = OnlyInterrupts-none from.faults;
@@ -48,6 +49,7 @@ module _ {n : ℕ} {a b : FillLog} {x y : WriteLog} (before : CopiesOn n a b x y
   CopiesOn-joins {k} {c} {z} last = record {
     moved = MovedBy-joins n k a b c x y z before.moved last.moved;
     ends = le_trans before.ends last.ends;
+    ends_shown = omega (arith, before.ends_shown, last.ends_shown);
     fills = omega (arith, before.fills, last.fills);
     writes = omega (arith, before.writes, last.writes);
     reader = OnlyInterrupts-joins a.faults b.faults c.faults before.reader last.reader;
@@ -95,10 +97,18 @@ module _ {a b : FillLog} {x y : WriteLog} (before : CopiesOn 0 a b x y) where
   CopiesOn-after {c = c} {z = z} last =
       subst (λ k. CopiesOn k a c x z) (omega arith) (CopiesOn-joins before last)
 
+-- what takes nothing from here on does so later too
+pub TakesNothing-after : {W : Type 0} (tells : W → StreamLog) (stretch call : W → W → Type 0)
+    → ((u v w : W) → stretch u v → stretch v w → stretch u w) → {x y : W} → stretch x y
+    → TakesNothing tells stretch call x → TakesNothing tells stretch call y
+TakesNothing-after tells stretch call joins {x} {y} went takes =
+    λ before after e on. takes before after e (joins x y before went on)
+
 -- what a turn answers that was begun again
 module _ {W : Type 0} (tells : W → StreamLog) (stretch call : W → W → Type 0)
     (joins : (u v w : W) → stretch u v → stretch v w → stretch u w) {a b : FillLog} {x y : W}
-    (before : CopiesOn 0 a b (tells x).writes (tells y).writes) (went : stretch x y) where
+    (before : CopiesOn 0 a b (tells x).writes (tells y).writes) (went : stretch x y)
+    (still : TakesNothing tells stretch call x → b.zero_fills ≡ a.zero_fills) where
   TurnEnded-after : {c : FillLog} {z : W} → TurnEnded tells stretch call b c y z → TurnEnded tells stretch call a c x z
   TurnEnded-after turn = record {
     ended = CopyEnded-after tells stretch call joins before went turn.ended;
@@ -114,6 +124,9 @@ module _ {W : Type 0} (tells : W → StreamLog) (stretch call : W → W → Type
     fills = omega (arith, before.fills, turn.fills);
   }
 
+  takes_on : TakesNothing tells stretch call x → TakesNothing tells stretch call y
+  takes_on = TakesNothing-after tells stretch call joins went
+
   pub TurnAnswers-after : {c : FillLog} {z : W} (answer : Result ℕ Error)
       → TurnAnswers tells stretch call answer b c y z → TurnAnswers tells stretch call answer a c x z
   TurnAnswers-after (Ok n) turn = record {
@@ -121,12 +134,18 @@ module _ {W : Type 0} (tells : W → StreamLog) (stretch call : W → W → Type
     ended = λ is. TurnEnded-after (turn.ended is);
     failed = tt;
     writes = omega (arith, before.writes, turn.writes);
+    ends_shown = omega (arith, before.ends_shown, turn.ends_shown);
+    one_end = λ takes. omega (arith, still takes, turn.one_end (takes_on takes));
+    none_ended = λ takes some. turn.none_ended (takes_on takes) some ∙ still takes;
   }
   TurnAnswers-after (Err e) turn = record {
     copies = tt;
     ended = λ is. cc;
     failed = TurnFailed-after turn.failed;
     writes = omega (arith, before.writes, turn.writes);
+    ends_shown = omega (arith, before.ends_shown, turn.ends_shown);
+    one_end = λ takes. turn.one_end (takes_on takes) ∙ still takes;
+    none_ended = λ takes. tt;
   }
 
 -- how much went over in a copy, whatever it answered

@@ -1,6 +1,6 @@
-use Rattle.std.proofs.Common.{◌+◌, arith, rules, inl, inr}
+use Rattle.std.proofs.Common.{◌+◌, ◌∙◌, arith, rules, inl, inr}
 use Rattle.std.proofs.lemmas.Result.{err_from_is_err_and}
-use Rattle.redux_tell.specs.CopyLaws.{MovedBy-still, CopiesOn-joins, CopyEnded-after, StreamFailed-after}
+use Rattle.redux_tell.specs.CopyLaws.{MovedBy-still, CopiesOn-joins, CopyEnded-after, StreamFailed-after, TakesNothing-after}
 use Rattle.redux_tell.proofs.Turning.{moved_count, faults_come}
 use Rattle.redux_tell.proofs.copy.copy_buf.Goals as goal
 
@@ -18,6 +18,9 @@ returns-in_err-taken-clause-copied g c =
       few = omega (arith, before.few, turn.few, moved_count moved);
       fills = omega (arith, before.copies.fills, turn.answers.failed.fills);
       writes = omega (arith, before.copies.writes, turn.answers.writes);
+      ends_shown = omega (arith, before.copies.ends_shown, turn.answers.ends_shown);
+      one_end = λ takes.
+          turn.answers.one_end (TakesNothing-after _ _ _ g.met.W.TellWrite.stretch_joins before.writer takes) ∙ before.still takes;
     })
 
 pub returns-in_err-taken-clause-reader : goal.returns-in_err-taken-clause-reader
@@ -42,6 +45,12 @@ returns-then-taken-eq0-clause-copied g c =
       few = omega (arith, before.few, turn.few, moved_count moved);
       fills = omega (arith, before.copies.fills, last.fills);
       writes = omega (arith, before.copies.writes, turn.answers.writes);
+      ends_shown = omega (arith, before.copies.ends_shown, turn.answers.ends_shown);
+      one_end = λ takes. omega (
+        arith,
+        before.still takes,
+        turn.answers.one_end (TakesNothing-after _ _ _ g.met.W.TellWrite.stretch_joins before.writer takes),
+      );
     }
 
 pub turns-preserved : goal.turns-preserved
@@ -55,6 +64,10 @@ turns-preserved g c =
       few = omega (arith, c.in-Some.ensures.some, before.few, turn.few, some);
       reader = g.met.B.TellBufRead.stretch_joins _ _ _ before.reader c.in_ok-taken.ensures.reader;
       writer = g.met.W.TellWrite.stretch_joins _ _ _ before.writer c.in_ok-taken.ensures.writer;
+      still = λ takes.
+          turn.answers.none_ended (TakesNothing-after _ _ _ g.met.W.TellWrite.stretch_joins before.writer takes)
+          (omega (arith, some))
+          ∙ before.still takes;
     }
 
 pub returns-in-None-clause-copied : goal.returns-in-None-clause-copied
@@ -75,4 +88,9 @@ returns-in-None-clause-copied g c =
       few = omega (arith, before.few, turn.few, moved_count copies.moved);
       fills = copies.fills;
       writes = copies.writes;
+      ends_shown = copies.ends_shown;
+      one_end = λ takes.
+          turn.answers.none_ended (TakesNothing-after _ _ _ g.met.W.TellWrite.stretch_joins before.writer takes)
+          (omega (arith, c.if-taken-eq0.false))
+          ∙ before.still takes;
     }

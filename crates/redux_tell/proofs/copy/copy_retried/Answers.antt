@@ -1,5 +1,5 @@
-use Rattle.std.proofs.Common.{rules, arith, Ok, Err}
-use Rattle.redux_tell.specs.CopyLaws.{CopiesOn-after, TurnAnswers-after}
+use Rattle.std.proofs.Common.{rules, arith, Ok, Err, ◌∙◌}
+use Rattle.redux_tell.specs.CopyLaws.{CopiesOn-after, TakesNothing-after, TurnAnswers-after}
 use Rattle.redux_tell.proofs.Turning.{last_retried}
 use Rattle.redux_tell.proofs.copy.copy_retried.Goals as goal
 
@@ -8,7 +8,7 @@ returns-in-Ok-clause-retried g c =
     let before = c.loop.invariant in
     let turn = c.in-Ok.ensures.turn in
     record {
-      answers = TurnAnswers-after _ _ _ g.met.W.TellWrite.stretch_joins before.copies before.writer (Ok c.in-Ok.n) turn.answers;
+      answers = TurnAnswers-after _ _ _ g.met.W.TellWrite.stretch_joins before.copies before.writer before.still (Ok c.in-Ok.n) turn.answers;
       often = tt;
       few = omega (arith, before.few, turn.one_fault);
     }
@@ -18,7 +18,7 @@ returns-then-ne-clause-retried g c =
     let before = c.loop.invariant in
     let turn = c.in-Err.ensures.turn in
     record {
-      answers = TurnAnswers-after _ _ _ g.met.W.TellWrite.stretch_joins before.copies before.writer (Err c.in-Err.e) turn.answers;
+      answers = TurnAnswers-after _ _ _ g.met.W.TellWrite.stretch_joins before.copies before.writer before.still (Err c.in-Err.e) turn.answers;
       often = search rules;
       few = omega (arith, before.few, turn.one_fault);
     }
@@ -33,10 +33,12 @@ loop-preserved g c =
       few = omega (arith, before.few, turn.one_fault);
       reader = g.met.B.TellBufRead.stretch_joins _ _ _ before.reader c.in-Err.ensures.reader;
       writer = g.met.W.TellWrite.stretch_joins _ _ _ before.writer c.in-Err.ensures.writer;
+      still = λ takes.
+          turn.answers.one_end (TakesNothing-after _ _ _ g.met.W.TellWrite.stretch_joins before.writer takes) ∙ before.still takes;
     }
 
 pub returns-clause-retried : goal.returns-clause-retried
 returns-clause-retried g c =
     let before = c.loop.invariant in
-    last_retried _ _ _ g.met.W.TellWrite.stretch_joins before.copies before.writer c.copy_turn-2.result
+    last_retried _ _ _ g.met.W.TellWrite.stretch_joins before.copies before.writer before.still c.copy_turn-2.result
     (search rules) (search rules) c.copy_turn-2.ensures.turn

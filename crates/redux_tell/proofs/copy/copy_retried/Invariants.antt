@@ -1,4 +1,5 @@
-use Rattle.redux_tell.specs.Copy.{CopiesOn, FaultsRise, FaultsAtMost}
+use Rattle.std.proofs.Common.{◌≡◌}
+use Rattle.redux_tell.specs.Copy.{CopiesOn, FaultsRise, FaultsAtMost, TakesNothing}
 use Rattle.redux_tell.proofs.copy.copy_retried.Given as goal
 
 abbrev pub invariant-loop : goal.invariant-loop
@@ -11,4 +12,6 @@ invariant-loop g l = record {
       (g.W.Tell.log l.initial.w).writes (g.W.Tell.log l.w).writes;
   reader : g.B.TellBufRead.stretch l.initial.b l.b;
   writer : g.W.TellWrite.stretch l.initial.w l.w;
+  still : TakesNothing g.W.Tell.log g.W.TellWrite.stretch g.W.TellWrite.call l.initial.w
+      → (g.B.Tell.log l.b).fills.zero_fills ≡ (g.B.Tell.log l.initial.b).fills.zero_fills;
 }

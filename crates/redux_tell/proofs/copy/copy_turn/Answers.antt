@@ -24,7 +24,15 @@ returns-clause-turn g c =
     let filled = (rw c.in-Ok.is at c.fill_told.follows.holds-at-none).0.0 in
     let wrote = c.in_ok-taken-in-Ok.ensures in
     record {
-      answers = search rules;
+      answers = record {
+        copies = search rules;
+        ended = search rules;
+        failed = tt;
+        writes = search rules;
+        ends_shown = search rules;
+        one_end = λ takes. search rules;
+        none_ended = λ takes. search rules;
+      };
       interrupted = tt;
       one_fill = search rules;
       one_write = search rules;
