@@ -18,6 +18,7 @@ use Rattle.buffer_redux.specs.BufReader.{Fills, InnerGives}
 use Rattle.buffer_redux.specs.BufWriter.{WriterFailed, SteadyWrite, Writes, WriteErrorCaused, IsFlushed, Flushes, FlushesAmount, TakesIn}
 use Rattle.buffer_redux.specs.WriterLaws.{Wrote-met}
 use Rattle.buffer_redux.proofs.WriterFacts.{blamed, steady_caused, steady_met_nothing}
+use Rattle.buffer_redux.specs.EmptyReads.{ReadsWhenEmpty, none_before_fault, none_where_shown, once_at_most}
 use Rattle.buffer_redux.specs.ReaderLaws.{Fills-empty, WantsBytes}
 use Rattle.buffer_redux.specs.Sparing.{Spared, Spared-noted}
 use Rattle.buffer_redux.specs.ReaderTells.{after_fill, FaultsAlike, ReaderWent}
@@ -186,6 +187,23 @@ module _ {S P : Type 0} (remaining : S → Option (List ℕ)) (rules : ReadRules
   ]
   ends_bound (Err e) f wants room = omega (arith, f.grows.zero_reads)
 
+  once_bound : (answer : Result (Unit {0}) Error) → Fills rules s answer m → ReadsWhenEmpty rules
+      → s.own_calls.fills.zero_fills + m.log.reads.zero_reads
+      ≤ (after_fill s.own_calls answer t.block.bytes).fills.zero_fills + s.log.reads.zero_reads
+  once_bound (Ok a) f orders = elim (cases_lt 0 (length t.block.bytes)) [
+    | inl some ↦ omega (
+      arith,
+      end_same s.own_calls.fills.zero_fills t.block.bytes some,
+      none_where_shown rules orders s m a f.filled (omega (arith, some, ap (λ b. length b.bytes) block)),
+    )
+    | inr few ↦ omega (
+      arith,
+      end_noted s.own_calls.fills.zero_fills t.block.bytes (omega (arith, few)),
+      once_at_most rules orders s m a f.filled,
+    )
+  ]
+  once_bound (Err e) f orders = omega (arith, none_before_fault rules orders s m e f.filled)
+
   pub filled_went : (answer : Result (Unit {0}) Error) → Fills rules s answer m → InnerGives remaining s m
       → calls ≡ after_fill s.own_calls answer t.block.bytes → ReaderWent remaining rules s (with_calls t calls)
   filled_went answer f gives noted = record {
@@ -221,6 +239,12 @@ module _ {S P : Type 0} (remaining : S → Option (List ℕ)) (rules : ReadRules
           ap (λ l. l.fills.zero_fills) noted,
           ap (λ l. l.reads.zero_reads) log,
         );
+    once = λ orders. omega (
+      arith,
+      once_bound answer f orders,
+      ap (λ l. l.fills.zero_fills) noted,
+      ap (λ l. l.reads.zero_reads) log,
+    );
   }
 
 -- a writer fails no less often as its log goes on, and more often where it failed

@@ -1,10 +1,19 @@
--- What a fill did doesn't hang on what the call that made it carries in its Ok.
-use Rattle.std.specs.Prelude.{Ok, Err}
+-- What a fill did doesn't hang on what the call that made it carries in its Ok; and what its turns gave.
+use Rattle.std.proofs.Common.{◌≡◌, ℕ, zero, suc, Ok, Err, inl, sym, ap, ◌∙◌}
 use Rattle.std.specs.declared.io.Error.{Error}
 use Rattle.redux_policy.specs.Policy.{ReadRules}
 use Rattle.buffer_redux.specs.Buffered.{Buffered}
-use Rattle.buffer_redux.specs.Fill.{Filled}
+use Rattle.redux_tell.specs.StreamLog.{zero_of_some}
+use Rattle.buffer_redux.specs.Fill.{Filled, Turns}
 use Rattle.buffer_redux.specs.BufReader.{Fills}
+
+-- each turn gave some bytes
+pub Turns-gave : {S P : Type 0} (rules : ReadRules P) (k : ℕ) (s t : Buffered S P) → Turns rules k s t
+    → t.log.reads.zero_reads ≡ s.log.reads.zero_reads
+Turns-gave rules zero s t same = ap (λ x. x.log.reads.zero_reads) (sym same)
+Turns-gave rules (suc k) s t (m, run, turn) =
+    ap (λ l. l.reads.zero_reads) turn.read.told
+    ∙ zero_of_some turn.count turn.read.out m.log.reads.zero_reads (inl turn.some) ∙ Turns-gave rules k s m run
 
 pub Filled-ok : {S P A B : Type 0} (rules : ReadRules P) (s : Buffered S P) (a : A) (b : B) (t : Buffered S P)
     → Filled rules s (Ok a) t → Filled rules s (Ok b) t

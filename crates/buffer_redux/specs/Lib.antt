@@ -25,6 +25,7 @@ pub mod Sparing
 pub mod Fill
 pub mod BufReader
 pub mod FillLaws
+pub mod EmptyReads
 pub mod Seek
 pub mod ReaderLaws
 pub mod Remaining
@@ -40,4 +41,5 @@ pub mod WriterLaws
 pub mod WritesAlongLaws
 pub mod ReaderTells
 pub mod WriterTells
+pub mod EmptyWrites
 pub mod MinBufferedLaws

@@ -1,23 +1,17 @@
 -- How often the reader inside gives nothing in one fill under a minimum: at its end alone.
-use Rattle.std.proofs.Common.{◌≡◌, ℕ, zero, suc, ◌+◌, ◌<◌, ◌≤◌, length, Option, None, Some, Ok, Err, inl, inr, refl, sym, ap, ◌∙◌, arith, append-nil}
+use Rattle.std.proofs.Common.{◌≡◌, ℕ, ◌+◌, ◌<◌, ◌≤◌, length, Option, None, Some, Ok, Err, inl, inr, refl, ap, ◌∙◌, arith, append-nil}
 use Rattle.std.specs.declared.io.Error.{Error}
 use Rattle.buffer_redux.specs.BufReader.{Fills, RanDry}
 use Rattle.buffer_redux.specs.Buffered.{Buffered}
-use Rattle.buffer_redux.specs.Fill.{Dry, Turns}
+use Rattle.buffer_redux.specs.Fill.{Dry}
+use Rattle.buffer_redux.specs.FillLaws.{Turns-gave}
 use Rattle.redux_policy.specs.MinBuffered.{min_read_rules}
 use Rattle.redux_policy.specs.declared.min_buffered.MinBuffered.{MinBuffered}
-use Rattle.redux_tell.specs.StreamLog.{zero_of_some, zero_of_none}
+use Rattle.redux_tell.specs.StreamLog.{zero_of_none}
 
 -- how often it gave nothing so far
 abbrev empties : {S P : Type 0} → Buffered S P → ℕ
 empties t = t.log.reads.zero_reads
-
--- each turn gave some bytes
-turns_gave : {S : Type 0} (k : ℕ) (s t : Buffered S MinBuffered) → Turns min_read_rules k s t → empties t ≡ empties s
-turns_gave zero s t same = ap (λ x. x.log.reads.zero_reads) (sym same)
-turns_gave (suc k) s t (m, run, turn) =
-    ap (λ l. l.reads.zero_reads) turn.read.told
-    ∙ zero_of_some turn.count turn.read.out (empties m) (inl turn.some) ∙ turns_gave k s m run
 
 -- the number that is claimed, or 0
 abbrev pub number_of : Option ℕ → ℕ
@@ -30,8 +24,8 @@ module _ {S A : Type 0} (s t : Buffered S MinBuffered) where
   none_before_fault e fills =
       let f = fills.filled in
       elim f.ends [
-        | inl refused ↦ ap (λ l. l.reads.zero_reads) refused.told ∙ turns_gave f.count s f.last f.turns
-        | inr faulted ↦ ap (λ l. l.reads.zero_reads) faulted.read.told ∙ turns_gave f.count s f.last f.turns
+        | inl refused ↦ ap (λ l. l.reads.zero_reads) refused.told ∙ Turns-gave min_read_rules f.count s f.last f.turns
+        | inr faulted ↦ ap (λ l. l.reads.zero_reads) faulted.read.told ∙ Turns-gave min_read_rules f.count s f.last f.turns
       ]
 
   -- a fill that left too few, and one that found enough
@@ -47,7 +41,7 @@ module _ {S A : Type 0} (s t : Buffered S MinBuffered) where
     pub once_at_end : length t.block.bytes < s.policy.0 → empties t ≡ empties s + 1
     once_at_end few =
         let f = fills.filled in
-        let gave = turns_gave f.count s f.last f.turns in
+        let gave = Turns-gave min_read_rules f.count s f.last f.turns in
         let dry : RanDry s t = elim (fills.ahead.enough refl) [ inl many ↦ absurd (omega (arith, many, few)) | inr is ↦ is ] in
         elim f.ends [
           | inl declined ↦ absurd (omega (arith, dry, gave, ap (λ l. l.reads.zero_reads) declined.told))
@@ -60,7 +54,7 @@ module _ {S A : Type 0} (s t : Buffered S MinBuffered) where
     pub none_where_enough : s.policy.0 ≤ length t.block.bytes → empties t ≡ empties s
     none_where_enough many =
         let f = fills.filled in
-        let gave = turns_gave f.count s f.last f.turns in
+        let gave = Turns-gave min_read_rules f.count s f.last f.turns in
         elim f.ends [
           | inl declined ↦ ap (λ l. l.reads.zero_reads) declined.told ∙ gave
           | inr (inl full) ↦ ap (λ l. l.reads.zero_reads) full.told ∙ gave

@@ -11,6 +11,7 @@ use Rattle.redux_policy.specs.Policy.{ReadRules, ClaimsToSpare}
 use Rattle.buffer_redux.specs.Buffered.{Buffered}
 use Rattle.buffer_redux.specs.BufReader.{Fills, ReadsInOrder, InnerGives}
 use Rattle.buffer_redux.specs.Sparing.{SparesClaimed, Spared-none, Spared-joins}
+use Rattle.buffer_redux.specs.EmptyReads.{ReadsWhenEmpty}
 use Rattle.buffer_redux.specs.ReaderLaws.{ReadsInOrder-none, ReadsInOrder-joins, InnerGives-none, InnerGives-joins, WantsBytes}
 
 -- what it shows is what is buffered; the rest was noted call by call
@@ -36,7 +37,8 @@ pub record FaultsAlike (old new old' new' : List Error) : Type 0 where
 -- no byte is lost between the inner reader and what was consumed, and of what that is known to have left just what it
 -- gave is gone; the kind and the claims stay, and what the policy claims to spare is spared. Under a steady policy its
 -- faults are the inner reader's. Where the policy is steady or claims a minimum of at least 1, and there is capacity, it
--- ended only where the inner reader gave nothing
+-- ended only where the inner reader gave nothing; and where a read is ordered over an empty buffer alone, that gave nothing
+-- only where it ended
 pub record ReaderWent {S P : Type 0} (remaining : S → Option (List ℕ))
     (rules : ReadRules P) (s t : Buffered S P)
     : Type 0 where
@@ -54,6 +56,8 @@ pub record ReaderWent {S P : Type 0} (remaining : S → Option (List ℕ))
       → FaultsAlike s.own_calls.fills.faults t.own_calls.fills.faults s.log.reads.faults t.log.reads.faults
   pub ends : WantsBytes (rules.claims s.policy) → 0 < s.block.capacity
       → t.own_calls.fills.zero_fills + s.log.reads.zero_reads ≤ s.own_calls.fills.zero_fills + t.log.reads.zero_reads
+  pub once : ReadsWhenEmpty rules
+      → s.own_calls.fills.zero_fills + t.log.reads.zero_reads ≤ t.own_calls.fills.zero_fills + s.log.reads.zero_reads
 
 -- what `fill_told()` does, once its slice is given back: it fills, and tells what it shows
 pub record FillTold {S P : Type 0} (remaining : S → Option (List ℕ)) (rules : ReadRules P)
@@ -109,6 +113,7 @@ module _ {S P : Type 0} (remaining : S → Option (List ℕ)) (rules : ReadRules
     sparing = λ keep claims. Spared-none keep s;
     faults = λ steady. FaultsAlike-none s.own_calls.fills.faults s.log.reads.faults;
     ends = λ wants room. le_refl _;
+    once = λ orders. le_refl _;
   }
 
   pub ReaderWent-joins : (a b c : Buffered S P)
@@ -137,6 +142,7 @@ module _ {S P : Type 0} (remaining : S → Option (List ℕ)) (rules : ReadRules
           p.ends wants room,
           q.ends (subst WantsBytes (sym p.claims) wants) (omega (arith, room, p.capacity)),
         );
+        once = λ orders. omega (arith, p.once orders, q.once orders);
       }
 
   pub ReaderWent-grows : (s t : Buffered S P)

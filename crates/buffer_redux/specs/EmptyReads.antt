@@ -1,0 +1,61 @@
+-- How often the reader inside gives nothing in one fill, where a read is ordered over an empty buffer alone: at its end.
+use Rattle.std.proofs.Common.{◌≡◌, ℕ, ◌+◌, ◌<◌, ◌≤◌, ◌==◌, true, length, Ok, Err, inl, inr, refl, ap, ◌∙◌, arith, append-nil}
+use Rattle.std.proofs.lemmas.Bool.Decides.{nat_tests}
+use Rattle.std.specs.declared.io.Error.{Error}
+use Rattle.redux_buffer.specs.Block.{Block}
+use Rattle.redux_policy.specs.Policy.{ReadRules, read_now, std_read_rules}
+use Rattle.redux_tell.specs.StreamLog.{zero_of_none}
+use Rattle.buffer_redux.specs.Buffered.{Buffered}
+use Rattle.buffer_redux.specs.Fill.{Dry, Filled}
+use Rattle.buffer_redux.specs.FillLaws.{Turns-gave}
+
+-- the rules order a read over an empty buffer alone, as those of `StdPolicy` do
+abbrev pub ReadsWhenEmpty : {P : Type 0} → ReadRules P → Type 0
+ReadsWhenEmpty {P} rules = (p : P) (b : Block) (p' : P) (b' : Block) → rules.before_read p b read_now p' b' → length b.bytes ≡ 0
+
+none_of : (n : ℕ) → true ≡ (n == 0) → n ≡ 0
+none_of n is = grind (arith, nat_tests)
+
+pub ReadsWhenEmpty-std : {P : Type 0} → ReadsWhenEmpty (std_read_rules {P = P})
+ReadsWhenEmpty-std p b p' b' allowed = none_of (length b.bytes) allowed.2
+
+module _ {S P A : Type 0} (rules : ReadRules P) (orders : ReadsWhenEmpty rules) (s t : Buffered S P) where
+  -- a fill that failed
+  pub none_before_fault : (e : Error) → Filled {A = A} rules s (Err e) t → t.log.reads.zero_reads ≡ s.log.reads.zero_reads
+  none_before_fault e f =
+      let gave = Turns-gave rules f.count s f.last f.turns in
+      elim f.ends [
+        | inl refused ↦ ap (λ l. l.reads.zero_reads) refused.told ∙ gave
+        | inr faulted ↦ ap (λ l. l.reads.zero_reads) faulted.read.told ∙ gave
+      ]
+
+  module _ (a : A) (f : Filled rules s (Ok a) t) where
+    dry_shows_none : Dry rules f.last t → length t.block.bytes ≡ 0
+    dry_shows_none end =
+        let asked = end.ordered.asked in
+        ap length (end.read.added.bytes ∙ append-nil end.seen.bytes ∙ asked.law.bytes)
+        ∙ orders f.last.policy f.last.block t.policy end.seen asked.allowed
+
+    -- one that shows bytes, and any
+    pub none_where_shown : 0 < length t.block.bytes → t.log.reads.zero_reads ≡ s.log.reads.zero_reads
+    none_where_shown some =
+        let gave = Turns-gave rules f.count s f.last f.turns in
+        elim f.ends [
+          | inl declined ↦ ap (λ l. l.reads.zero_reads) declined.told ∙ gave
+          | inr (inl full) ↦ ap (λ l. l.reads.zero_reads) full.told ∙ gave
+          | inr (inr end) ↦ absurd (omega (arith, dry_shows_none end, some))
+        ]
+
+    pub once_at_most : t.log.reads.zero_reads ≤ s.log.reads.zero_reads + 1
+    once_at_most =
+        let gave = Turns-gave rules f.count s f.last f.turns in
+        elim f.ends [
+          | inl declined ↦ omega (arith, gave, ap (λ l. l.reads.zero_reads) declined.told)
+          | inr (inl full) ↦ omega (arith, gave, ap (λ l. l.reads.zero_reads) full.told)
+          | inr (inr end) ↦ omega (
+            arith,
+            gave,
+            ap (λ l. l.reads.zero_reads) end.read.told,
+            zero_of_none 0 end.read.out f.last.log.reads.zero_reads refl (omega (arith, end.read.offered, end.ordered.room)),
+          )
+        ]
