@@ -11,10 +11,13 @@ use Rattle.buffer_redux.specs.Policy.{std_read_rules, std_write_rules}
 use Rattle.buffer_redux.specs.Buffered.{Buffered}
 use Rattle.buffer_redux.specs.BufReader.{ReadsInOrder}
 use Rattle.buffer_redux.specs.BufWriter.{WritesInOrder, IsFlushed, Flushes}
+use Rattle.buffer_redux.specs.EmptyReads.{ReadsWhenEmpty-std}
+use Rattle.buffer_redux.specs.EmptyWrites.{TakesNothing-std}
 use Rattle.buffer_redux.specs.WriterLaws.{WritesInOrder-then}
 use Rattle.buffer_redux.specs.ReaderTells.{reader_log, ReaderWent, FaultsAlike-only, FaultsAlike-fault}
 use Rattle.buffer_redux.specs.WriterTells.{writer_log, TellsFailures, WriterWent, WriterCalled}
-use Rattle.buffer_redux.specs.Copy.{MovedBy, LastWrite, CopyEnded, CopyFailed, FaultsRise}
+use Rattle.buffer_redux.specs.Copy.{MovedBy, LastWrite, CopyEnded, CopyFailed, FaultsRise, TakesNothing}
+use Rattle.programs.specs.Streams.{EndsOnce}
 use Rattle.copier.specs.Copy.{Copied, EitherFailed, IsBeginning, OnlyFlushLeft, InterruptedOften, OverTotal}
 use Rattle.copier.specs.Copy as RunFaults
 
@@ -161,6 +164,12 @@ module _ {R P W Q : Type 0} {remaining : R → Option (List ℕ)} {stretch : W �
       → OnlyInterrupts s.log.reads.faults t.log.reads.faults
   only = FaultsAlike-only s.own_calls.fills.faults t.own_calls.fills.faults
       s.log.reads.faults t.log.reads.faults (went.faults refl)
+
+  -- the reader inside gave nothing only where that one showed nothing
+  pub copy_once : 0 < u.block.capacity
+      → (TakesNothing writer_log (WriterWent stretch std_write_rules) (WriterCalled std_write_rules) u
+      → (reader_log t).fills.zero_fills ≤ (reader_log s).fills.zero_fills + 1) → EndsOnce s.log.reads t.log.reads
+  copy_once room shows = omega (arith, went.once ReadsWhenEmpty-std, shows (TakesNothing-std stretch u room))
 
   pub copy_caused : (e : Error)
       → CopyFailed writer_log (WriterWent stretch std_write_rules) (WriterCalled std_write_rules) e

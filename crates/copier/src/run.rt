@@ -1,7 +1,7 @@
 //! The copy itself, over any two streams that tell.
 ghost use Rattle.std.specs.Prelude.{◌≡◌, ◌≢◌, ◌≤◌, ◌⊎◌, ◌↔◌, map, string_bytes, IfOk, IfErr, OnOk, OnErr};
 ghost use Rattle.std.specs.IoError.{error_kind};
-ghost use Rattle.programs.specs.Streams.{IsFresh};
+ghost use Rattle.programs.specs.Streams.{EndsOnce, IsFresh};
 ghost use Rattle.copier.specs.Settings.{Asks};
 ghost use Rattle.copier.specs.Copy.{EitherFailed, OverTotal, Copied, InterruptedOften, IsBeginning, RunEnded, RunFailed};
 
@@ -15,7 +15,8 @@ use std::io;
 use std::io::{ErrorKind, Write};
 
 /// Copies from `reader` to `writer` until the reader ends, through buffers of `cap` bytes, and returns how many bytes went
-/// over. Both streams come back, also after a fault; nothing more is sent then.
+/// over. Both streams come back, also after a fault; nothing more is sent then. Once the reader has given nothing it isn't
+/// called again.
 pub fn run<R: TellRead, W: TellWrite>(
     alloc: Global,
     ring: bool,
@@ -32,6 +33,7 @@ pub fn run<R: TellRead, W: TellWrite>(
     ensures often { IfErr result.0 (λ e.
         InterruptedOften e (R.log reader) (R.log result.1) (W.log writer) (W.log result.2)) }
     ensures a_beginning { IsBeginning (R.log reader) (R.log result.1) (W.log writer) (W.log result.2) }
+    ensures once { EndsOnce (R.log reader).reads (R.log result.1).reads }
     ensures not_flushed { OnErr result.0 ((W.log result.2).writes.flushed ≡ (W.log writer).writes.flushed) }
 {
     let (mut source, mut target) = match buffered(alloc, ring, (cap, cap), reader, writer) {
@@ -59,6 +61,7 @@ fn copy_all<R: TellRead, W: TellWrite>(
     ensures often { IfErr result (λ e.
         InterruptedOften e source.old.log source.new.log target.old.log target.new.log) }
     ensures a_beginning { IsBeginning source.old.log source.new.log target.old.log target.new.log }
+    ensures once { EndsOnce source.old.log.reads source.new.log.reads }
     ensures not_flushed { OnErr result (target.new.log.writes.flushed ≡ target.old.log.writes.flushed) }
 {
     let total = copy_buf(source, target)?;
@@ -80,6 +83,7 @@ pub fn run_asked<R: TellRead, W: TellWrite>(
     ensures usage { (result.0 ≡ Ending.Usage) ↔ ¬ Asks (map string_bytes words.now) }
     ensures ended { RunEnded result.0 (R.log reader) (R.log result.1) (W.log writer) (W.log result.2) }
     ensures a_beginning { IsBeginning (R.log reader) (R.log result.1) (W.log writer) (W.log result.2) }
+    ensures once { EndsOnce (R.log reader).reads (R.log result.1).reads }
 {
     let Some((ring, cap)) = settings(words) else {
         return (Ending::Usage, reader, writer);

@@ -1,6 +1,6 @@
 use Rattle.std.proofs.Common.{inl, arith}
 use Rattle.std.proofs.lemmas.Result.{err_from_is_err_and}
-use Rattle.copier.proofs.Moving.{copy_begins, flush_begins, copy_caused, copy_often, flush_often, left_caused, flush_caused, flush_copied}
+use Rattle.copier.proofs.Moving.{copy_begins, copy_once, flush_begins, copy_caused, copy_often, flush_often, left_caused, flush_caused, flush_copied}
 use Rattle.copier.proofs.run.copy_all.Goals as goal
 
 pub returns-in_err-total-clause-caused : goal.returns-in_err-total-clause-caused
@@ -72,3 +72,27 @@ returns-clause-a_beginning g c =
     let copy = c.in_ok-total.ensures in
     flush_begins copy.reader copy.writer c.requires.source.bytes c.requires.target.bytes _ copy.copied.moved _
     c.in_ok-flush.ensures.flushed.in_order
+
+pub returns-in_err-total-clause-once : goal.returns-in_err-total-clause-once
+returns-in_err-total-clause-once g c =
+    let copy = c.in_err-total.ensures in
+    copy_once copy.reader copy.writer c.requires.source.bytes c.requires.target.bytes
+    (omega (arith, c.requires.target.capacity)) (λ takes. omega (arith, copy.copied.one_end takes))
+
+pub returns-then-buf_len-gt0-clause-once : goal.returns-then-buf_len-gt0-clause-once
+returns-then-buf_len-gt0-clause-once g c =
+    let copy = c.in_ok-total.ensures in
+    copy_once copy.reader copy.writer c.requires.source.bytes c.requires.target.bytes
+    (omega (arith, c.requires.target.capacity)) copy.copied.one_end
+
+pub returns-in_err-flush-clause-once : goal.returns-in_err-flush-clause-once
+returns-in_err-flush-clause-once g c =
+    let copy = c.in_ok-total.ensures in
+    copy_once copy.reader copy.writer c.requires.source.bytes c.requires.target.bytes
+    (omega (arith, c.requires.target.capacity)) copy.copied.one_end
+
+pub returns-clause-once : goal.returns-clause-once
+returns-clause-once g c =
+    let copy = c.in_ok-total.ensures in
+    copy_once copy.reader copy.writer c.requires.source.bytes c.requires.target.bytes
+    (omega (arith, c.requires.target.capacity)) copy.copied.one_end
