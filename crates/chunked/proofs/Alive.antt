@@ -1,10 +1,11 @@
 -- From each place a body can be completed.
-use Rattle.std.proofs.Common.{ℕ, zero, suc, ◌<◌, List, [], ◌∷◌, ◌++◌, replicate, arith, refl}
+use Rattle.std.proofs.Common.{ℕ, zero, suc, ◌-◌, ◌<◌, List, [], ◌∷◌, ◌++◌, replicate, arith, inl, refl}
 use Rattle.std.proofs.lemmas.List.{length-replicate}
 use Rattle.chunked.specs.declared.limits.Limits.{Limits}
 use Rattle.chunked.specs.declared.place.Place.{Place}
-use Rattle.chunked.specs.declared.place.Place.TheVariants.{Line, Size, Blank, Extension, SizeFeed, Data, DataFeed, Fields, Field, FieldFeed, LastFeed, Done}
+use Rattle.chunked.specs.declared.place.Place.TheVariants.{Line, Size, Blank, Extension, SizeFeed, Data, DataFeed, Fields, FieldName, FieldValue, FieldFeed, LastFeed, Done}
 use Rattle.chunked.specs.Body.{line_end, IsBody, IsTrailers}
+use Rattle.chunked.specs.FieldLaws.{IsField-valued}
 use Rattle.chunked.specs.Place.{BehindSize, Completes, CompletesData, IsPlace}
 
 module _ (limits : Limits) where
@@ -123,7 +124,23 @@ module _ (limits : Limits) where
     completes = (48 ∷ line_end (line_end []), refl, least_body some);
   }
   Completes-some some (Fields room) is = record { rest = line_end []; payload = []; completes = (refl, no_trailers room) }
-  Completes-some some (Field room) is = record {
+  Completes-some some (FieldName room) is = record {
+    rest = 58 ∷ line_end (line_end []);
+    payload = [];
+    completes = (
+      refl,
+      record {
+        text = 58 ∷ [];
+        behind = line_end [];
+        left = room - 1;
+        equal = refl;
+        is_field = IsField-valued 97 [] (inl refl) tt;
+        fits = omega (arith, is);
+        trailers = no_trailers (room - 1);
+      },
+    );
+  }
+  Completes-some some (FieldValue room) is = record {
     rest = line_end (line_end []);
     payload = [];
     completes = (
@@ -133,7 +150,7 @@ module _ (limits : Limits) where
         behind = line_end [];
         left = room;
         equal = refl;
-        is_text = tt;
+        is_field = IsField-valued 97 [] (inl refl) tt;
         fits = omega arith;
         trailers = no_trailers room;
       },

@@ -4,7 +4,7 @@ use Rattle.std.proofs.lemmas.List.{append_cancel_left}
 use Rattle.buffer_redux.specs.Buffered.{Buffered}
 use Rattle.buffer_redux.specs.Policy.{ReadRules}
 use Rattle.chunked.specs.declared.error.Malformed.{Malformed}
-use Rattle.chunked.specs.declared.error.Malformed.TheVariants.{NoSize, BadSize, SizeTooLarge, LineTooLong, TrailersTooLong, BareReturn, BareFeed, ChunkTooLong}
+use Rattle.chunked.specs.declared.error.Malformed.TheVariants.{NoSize, BadSize, BadField, SizeTooLarge, LineTooLong, TrailersTooLong, BareReturn, BareFeed, ChunkTooLong}
 use Rattle.chunked.specs.declared.limits.Limits.{Limits}
 use Rattle.chunked.specs.declared.place.Place.TheVariants.{Done}
 use Rattle.chunked.specs.Body.{IsBody, IsSizeLine, HasChunks}
@@ -40,6 +40,7 @@ chunks_some limits (p ∷ payloads) bytes h = line_some limits.line (length p) h
 done_right : (limits : Limits) (b : ℕ) (why : Malformed) → IsWrong limits Done b why → ⊥
 done_right limits b NoSize h = h
 done_right limits b BadSize h = h
+done_right limits b BadField h = h
 done_right limits b SizeTooLarge h = h
 done_right limits b LineTooLong h = h
 done_right limits b TrailersTooLong h = h

@@ -12,4 +12,5 @@ pub mod Alive
 mod Given
 mod Written
 mod Fields
+pub mod Colons
 mod Names

@@ -33,10 +33,6 @@ pub text_behind : (xs more : List ℕ) → IsText (xs ++ more) → IsText more
 text_behind [] more h = h
 text_behind (x ∷ xs) more h = text_behind xs more h.1
 
-pub text_both : (xs more : List ℕ) → IsText xs → IsText more → IsText (xs ++ more)
-text_both [] more h k = k
-text_both (x ∷ xs) more h k = (h.0, text_both xs more h.1 k)
-
 -- the first digit is the number so far
 value_first : (d : ℕ) (digits : List ℕ) → digits_value_after 16 0 (d ∷ digits) ≡ digits_value_after 16 (digit_value d) digits
 value_first d digits = ap (λ n. digits_value_after 16 n digits) (zero-add (digit_value d))

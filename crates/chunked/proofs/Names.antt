@@ -1,12 +1,14 @@
 -- A byte that is wrong has one name.
 use Rattle.std.proofs.Common.{◌≡◌, ℕ, ◌⊎◌, inl, inr, refl, arith}
 use Rattle.chunked.specs.declared.error.Malformed.{Malformed}
-use Rattle.chunked.specs.declared.error.Malformed.TheVariants.{NoSize, BadSize, SizeTooLarge, LineTooLong, TrailersTooLong, BareReturn, BareFeed, ChunkTooLong}
+use Rattle.chunked.specs.declared.error.Malformed.TheVariants.{NoSize, BadSize, BadField, SizeTooLarge, LineTooLong, TrailersTooLong, BareReturn, BareFeed, ChunkTooLong}
 use Rattle.chunked.specs.declared.limits.Limits.{Limits}
 use Rattle.chunked.specs.declared.place.Place.{Place}
-use Rattle.chunked.specs.declared.place.Place.TheVariants.{Line, Size, Blank, Extension, SizeFeed, Data, DataFeed, Fields, Field, FieldFeed, LastFeed}
-use Rattle.chunked.specs.Body.{IsBlank, IsTextByte}
+use Rattle.chunked.specs.declared.place.Place.TheVariants.{Line, Size, Blank, Extension, SizeFeed, Data, DataFeed, Fields, FieldName, FieldValue, FieldFeed, LastFeed}
+use Rattle.chunked.specs.Token.{IsBlank, IsTokenByte, IsValueByte}
+use Rattle.chunked.specs.Body.{IsTextByte}
 use Rattle.chunked.specs.BodyLaws.{blank_no_digit, semicolon_no_digit, digit_is_text, blank_is_text}
+use Rattle.chunked.specs.FieldLaws.{token_is_text, value_is_text}
 use Rattle.chunked.specs.Place.{EndsNoSize, IsDigit, IsSmallDigit, IsWrong}
 
 module _ (l : Limits) (b : ℕ) where
@@ -120,25 +122,51 @@ module _ (l : Limits) (b : ℕ) where
   extension_feed size room LineTooLong h k = absurd (k.0.1 h)
   extension_feed size room v h k = absurd k
 
-  fields_long : (room : ℕ) (v : Malformed) → IsTextByte b → IsWrong l (Fields room) b v → TrailersTooLong ≡ v
-  fields_long room TrailersTooLong h k = refl
-  fields_long room BareFeed h k = absurd (h.1 k)
-  fields_long room v h k = absurd k
+  -- in the trailers
+  in_fields : (room : ℕ) (w v : Malformed) → IsWrong l (Fields room) b w → IsWrong l (Fields room) b v → w ≡ v
+  in_fields room TrailersTooLong TrailersTooLong h k = refl
+  in_fields room TrailersTooLong BareFeed h k = absurd ((token_is_text b h.0).1 k)
+  in_fields room TrailersTooLong BadField h k = absurd (k.0 h.0)
+  in_fields room BareFeed TrailersTooLong h k = absurd ((token_is_text b k.0).1 h)
+  in_fields room BareFeed BareFeed h k = refl
+  in_fields room BareFeed BadField h k = absurd (k.1.1 h)
+  in_fields room BadField TrailersTooLong h k = absurd (h.0 k.0)
+  in_fields room BadField BareFeed h k = absurd (h.1.1 k)
+  in_fields room BadField BadField h k = refl
+  in_fields room TrailersTooLong v h k = absurd k
+  in_fields room BareFeed v h k = absurd k
+  in_fields room BadField v h k = absurd k
+  in_fields room w v h k = absurd h
 
-  fields_feed : (room : ℕ) (v : Malformed) → b ≡ 10 → IsWrong l (Fields room) b v → BareFeed ≡ v
-  fields_feed room BareFeed h k = refl
-  fields_feed room TrailersTooLong h k = absurd (k.0.1 h)
-  fields_feed room v h k = absurd k
+  in_name : (room : ℕ) (w v : Malformed) → IsWrong l (FieldName room) b w → IsWrong l (FieldName room) b v → w ≡ v
+  in_name room TrailersTooLong TrailersTooLong h k = refl
+  in_name room TrailersTooLong BareFeed h k = absurd ((token_is_text b h.0).1 k)
+  in_name room TrailersTooLong BadField h k = absurd (k.0 h.0)
+  in_name room BareFeed TrailersTooLong h k = absurd ((token_is_text b k.0).1 h)
+  in_name room BareFeed BareFeed h k = refl
+  in_name room BareFeed BadField h k = absurd (k.2 h)
+  in_name room BadField TrailersTooLong h k = absurd (h.0 k.0)
+  in_name room BadField BareFeed h k = absurd (h.2 k)
+  in_name room BadField BadField h k = refl
+  in_name room TrailersTooLong v h k = absurd k
+  in_name room BareFeed v h k = absurd k
+  in_name room BadField v h k = absurd k
+  in_name room w v h k = absurd h
 
-  field_long : (room : ℕ) (v : Malformed) → IsTextByte b → IsWrong l (Field room) b v → TrailersTooLong ≡ v
-  field_long room TrailersTooLong h k = refl
-  field_long room BareFeed h k = absurd (h.1 k)
-  field_long room v h k = absurd k
-
-  field_feed : (room : ℕ) (v : Malformed) → b ≡ 10 → IsWrong l (Field room) b v → BareFeed ≡ v
-  field_feed room BareFeed h k = refl
-  field_feed room TrailersTooLong h k = absurd (k.0.1 h)
-  field_feed room v h k = absurd k
+  in_value : (room : ℕ) (w v : Malformed) → IsWrong l (FieldValue room) b w → IsWrong l (FieldValue room) b v → w ≡ v
+  in_value room TrailersTooLong TrailersTooLong h k = refl
+  in_value room TrailersTooLong BareFeed h k = absurd ((value_is_text b h.0).1 k)
+  in_value room TrailersTooLong BadField h k = absurd (k.0 h.0)
+  in_value room BareFeed TrailersTooLong h k = absurd ((value_is_text b k.0).1 h)
+  in_value room BareFeed BareFeed h k = refl
+  in_value room BareFeed BadField h k = absurd (k.1.1 h)
+  in_value room BadField TrailersTooLong h k = absurd (h.0 k.0)
+  in_value room BadField BareFeed h k = absurd (h.1.1 k)
+  in_value room BadField BadField h k = refl
+  in_value room TrailersTooLong v h k = absurd k
+  in_value room BareFeed v h k = absurd k
+  in_value room BadField v h k = absurd k
+  in_value room w v h k = absurd h
 
   -- where one name alone may stand
   size_feed_only : (size : ℕ) (v : Malformed) → IsWrong l (SizeFeed size) b v → BareReturn ≡ v
@@ -171,10 +199,9 @@ module _ (l : Limits) (b : ℕ) where
   one_name (SizeFeed size) BareReturn v h k = size_feed_only size v k
   one_name (Data left) ChunkTooLong v h k = data_only left v k
   one_name DataFeed BareReturn v h k = data_feed_only v k
-  one_name (Fields room) TrailersTooLong v h k = fields_long room v h.0 k
-  one_name (Fields room) BareFeed v h k = fields_feed room v h k
-  one_name (Field room) TrailersTooLong v h k = field_long room v h.0 k
-  one_name (Field room) BareFeed v h k = field_feed room v h k
+  one_name (Fields room) w v h k = in_fields room w v h k
+  one_name (FieldName room) w v h k = in_name room w v h k
+  one_name (FieldValue room) w v h k = in_value room w v h k
   one_name (FieldFeed room) BareReturn v h k = field_feed_only room v k
   one_name LastFeed BareReturn v h k = last_feed_only v k
   one_name p w v h k = absurd h

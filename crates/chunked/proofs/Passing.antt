@@ -7,10 +7,12 @@ use Rattle.chunked.specs.declared.error.Malformed.TheVariants.{LineTooLong, Bare
 use Rattle.chunked.specs.declared.limits.Limits.{Limits}
 use Rattle.chunked.specs.declared.place.Place.{Place}
 use Rattle.chunked.specs.declared.place.Place.TheVariants.{Line, Size, Blank, Extension, SizeFeed, Data, DataFeed, Fields, FieldFeed, LastFeed, Done}
-use Rattle.chunked.specs.Body.{line_end, IsText, IsBlank, IsExtension, IsTrailers}
+use Rattle.chunked.specs.Token.{IsBlank}
+use Rattle.chunked.specs.Body.{line_end, IsText, IsExtension, IsTrailers}
+use Rattle.chunked.specs.FieldLaws.{text_both}
 use Rattle.chunked.specs.BodyLaws.{blank_no_digit, semicolon_no_digit, blank_is_text}
 use Rattle.chunked.specs.Place.{BehindSize, Completes, CompletesSize, CompletesLine, Feeds, Leads, Passes, IsDigit, IsSettled, StepsOver}
-use Rattle.chunked.proofs.Lines.{text_front, text_behind, text_both, first_digit, digit_first}
+use Rattle.chunked.proofs.Lines.{text_front, text_behind, first_digit, digit_first}
 
 module _ (limits : Limits) where
   -- bytes that are no payload

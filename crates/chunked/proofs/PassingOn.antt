@@ -1,11 +1,13 @@
 -- Which bytes lead on in a chunk and in the trailers.
-use Rattle.std.proofs.Common.{◌≡◌, ℕ, ◌+◌, ◌-◌, ◌≤◌, List, [], ◌∷◌, ◌++◌, length, sym, ap, subst, ◌∙◌, arith, refl, append_assoc, length-append}
+use Rattle.std.proofs.Common.{◌≡◌, ◌≢◌, ℕ, ◌+◌, ◌-◌, ◌<◌, ◌≤◌, List, [], ◌∷◌, ◌++◌, codes, length, sym, ap, subst, ◌∙◌, arith, inl, refl, append_assoc, length-append}
 use Rattle.std.specs.List.{AllByRecursion, flat_map}
 use Rattle.chunked.specs.declared.limits.Limits.{Limits}
-use Rattle.chunked.specs.declared.place.Place.TheVariants.{Data, DataFeed, Fields, Field, FieldFeed, LastFeed}
-use Rattle.chunked.specs.Body.{line_end, IsText, IsTrailers, IsField, fields_bytes}
+use Rattle.chunked.specs.declared.place.Place.TheVariants.{Data, DataFeed, Fields, FieldName, FieldValue, FieldFeed, LastFeed}
+use Rattle.chunked.specs.Token.{IsTokenByte, IsValueByte}
+use Rattle.chunked.specs.Body.{line_end, IsTrailers, IsField, fields_bytes}
+use Rattle.chunked.specs.FieldLaws.{IsField-longer, IsField-none, IsField-shorter, IsField-text, IsField-value, IsField-valued, other_first, token_is_text, value_is_text}
 use Rattle.chunked.specs.Place.{Completes, CompletesData, CompletesField, Feeds, Leads, Passes}
-use Rattle.chunked.proofs.Lines.{text_front, longer_front, text_behind, text_both}
+use Rattle.chunked.proofs.Lines.{longer_front}
 use Rattle.chunked.proofs.Passing.{quiet}
 
 module _ (limits : Limits) where
@@ -73,11 +75,11 @@ module _ (limits : Limits) where
   fields_return_back b room rest [] is t same =
       let all : b ∷ rest ≡ line_end [] = t.equal ∙ ap fields_bytes same in cc
   fields_return_back b room rest ([] ∷ fields) is t same =
-      absurd (omega (arith, (subst (λ fs. AllByRecursion IsField fs) same t.lines).0.1))
+      absurd (IsField-none (subst (λ fs. AllByRecursion IsField fs) same t.lines).0)
   fields_return_back b room rest ((x ∷ f) ∷ fields) is t same =
       let all : b ∷ rest ≡ x ∷ (f ++ line_end (fields_bytes fields)) = t.equal ∙ ap fields_bytes same in
       let head : x ≡ b = cc in
-      absurd ((subst (λ fs. AllByRecursion IsField fs) same t.lines).0.0.0.0 (head ∙ is))
+      absurd ((IsField-text (x ∷ f) (subst (λ fs. AllByRecursion IsField fs) same t.lines).0).0.0 (head ∙ is))
 
   pub fields_return : (b room : ℕ) → b ≡ 13 → Passes limits (Fields room) (b ∷ []) LastFeed
   fields_return b room is = record {
@@ -95,101 +97,151 @@ module _ (limits : Limits) where
     few = omega arith;
   }
 
-  -- a line of the trailers
-  fields_text_back : (x : ℕ) (xs : List ℕ) (room : ℕ) (rest : List ℕ) (fields : List (List ℕ)) → IsText (x ∷ xs)
-      → (t : IsTrailers room ((x ∷ xs) ++ rest)) → t.fields ≡ fields → CompletesField (room - length (x ∷ xs)) rest
-  fields_text_back x xs room rest [] text t same =
-      let all : x ∷ (xs ++ rest) ≡ line_end [] = t.equal ∙ ap fields_bytes same in
-      let head : x ≡ 13 = cc in
-      absurd (text.0.0 head)
-  fields_text_back x xs room rest (f ∷ fields) text t same =
-      let all : (x ∷ xs) ++ rest ≡ f ++ line_end (fields_bytes fields) = t.equal ∙ ap fields_bytes same in
-      let lines : AllByRecursion IsField (f ∷ fields) = subst (λ fs. AllByRecursion IsField fs) same t.lines in
-      let found = text_front f (x ∷ xs) (fields_bytes fields) rest text all in
-      let few : length (f ++ flat_map (λ g. g) fields) ≤ room = subst (λ fs. length (flat_map (λ g. g) fs) ≤ room) same t.few in
-      let long : length f ≡ length (x ∷ xs) + length found.0 = ap length found.1 ∙ length-append (x ∷ xs) found.0 in
-      let sum = length-append f (flat_map (λ g. g) fields) in
+  -- the first byte of a line of the trailers
+  fields_first_back : (b room : ℕ) (rest : List ℕ) (fields : List (List ℕ)) → IsTokenByte b
+      → (t : IsTrailers room (b ∷ rest)) → t.fields ≡ fields → CompletesField (codes "a") (room - 1) rest
+  fields_first_back b room rest [] byte t same =
+      let all : b ∷ rest ≡ line_end [] = t.equal ∙ ap fields_bytes same in
+      let head : b ≡ 13 = cc in
+      absurd ((token_is_text b byte).0 head)
+  fields_first_back b room rest ([] ∷ fields) byte t same =
+      absurd (IsField-none (subst (λ fs. AllByRecursion IsField fs) same t.lines).0)
+  fields_first_back b room rest ((x ∷ f) ∷ fields) byte t same =
+      let all : b ∷ rest ≡ x ∷ (f ++ line_end (fields_bytes fields)) = t.equal ∙ ap fields_bytes same in
+      let lines : AllByRecursion IsField ((x ∷ f) ∷ fields) = subst (λ fs. AllByRecursion IsField fs) same t.lines in
+      let few : length ((x ∷ f) ++ flat_map (λ g. g) fields) ≤ room =
+      subst (λ fs. length (flat_map (λ g. g) fs) ≤ room) same t.few in
+      let sum = length-append (x ∷ f) (flat_map (λ g. g) fields) in
       record {
-        text = found.0;
+        text = f;
         behind = fields_bytes fields;
-        left = room - length f;
-        equal = found.2;
-        is_text = text_behind (x ∷ xs) found.0 (subst IsText found.1 lines.0.0);
-        fits = omega (arith, few, long, sum);
+        left = room - length (x ∷ f);
+        equal = cc;
+        is_field = other_first x 97 f (inl refl) lines.0;
+        fits = omega (arith, few, sum);
         trailers = record { fields = fields; equal = refl; lines = lines.1; few = omega (arith, few, sum) };
       }
 
-  pub fields_text : (x : ℕ) (xs : List ℕ) (room : ℕ) → IsText (x ∷ xs) → length (x ∷ xs) ≤ room
-      → Passes limits (Fields room) (x ∷ xs) (Field (room - length (x ∷ xs)))
-  fields_text x xs room text fits = record {
-    leads = quiet limits (Fields room) (Field (room - length (x ∷ xs))) (x ∷ xs)
+  pub fields_first : (b room : ℕ) → IsTokenByte b → 2 ≤ room → Passes limits (Fields room) (b ∷ []) (FieldName (room - 1))
+  fields_first b room byte fits = record {
+    leads = quiet limits (Fields room) (FieldName (room - 1)) (b ∷ [])
         (λ rest payload c. let f = c.1 in (
           c.0,
           record {
-            fields = ((x ∷ xs) ++ f.text) ∷ f.trailers.fields;
-            equal = ap (λ l. (x ∷ xs) ++ l) (f.equal ∙ ap (λ l. f.text ++ line_end l) f.trailers.equal)
-                ∙ sym (append_assoc (x ∷ xs) f.text (line_end (fields_bytes f.trailers.fields)));
-            lines = ((text_both (x ∷ xs) f.text text f.is_text, omega arith), f.trailers.lines);
+            fields = (b ∷ f.text) ∷ f.trailers.fields;
+            equal = ap (λ l. b ∷ l) (f.equal ∙ ap (λ l. f.text ++ line_end l) f.trailers.equal);
+            lines = (other_first 97 b f.text byte f.is_field, f.trailers.lines);
             few = omega (
               arith,
               f.fits,
               fits,
               f.trailers.few,
-              length-append (x ∷ xs) f.text,
-              length-append ((x ∷ xs) ++ f.text) (flat_map (λ g. g) f.trailers.fields),
+              length-append (b ∷ f.text) (flat_map (λ g. g) f.trailers.fields),
             );
           },
         ))
-        (λ rest payload c. (c.0, fields_text_back x xs room rest c.1.fields text c.1 refl));
+        (λ rest payload c. (c.0, fields_first_back b room rest c.1.fields byte c.1 refl));
     few = omega (arith, fits);
   }
 
-  pub field_text : (xs : List ℕ) (room : ℕ) → IsText xs → length xs ≤ room
-      → Passes limits (Field room) xs (Field (room - length xs))
-  field_text xs room text fits = record {
-    leads = quiet limits (Field room) (Field (room - length xs)) xs
-        (λ rest payload c. let f = c.1 in (
+  -- one more byte of such a line
+  field_on : (begun further : List ℕ) (b room : ℕ) (rest : List ℕ) → 0 < room
+      → ((text : List ℕ) → IsField (further ++ text) → IsField (begun ++ (b ∷ text)))
+      → CompletesField further (room - 1) rest → CompletesField begun room (b ∷ rest)
+  field_on begun further b room rest some on f = record {
+    text = b ∷ f.text;
+    behind = f.behind;
+    left = f.left;
+    equal = ap (λ l. b ∷ l) f.equal;
+    is_field = on f.text f.is_field;
+    fits = omega (arith, f.fits, some);
+    trailers = f.trailers;
+  }
+
+  field_back : (begun further : List ℕ) (b room : ℕ) (rest text : List ℕ) → b ≢ 13
+      → ((text : List ℕ) → IsField (begun ++ (b ∷ text)) → IsField (further ++ text))
+      → (f : CompletesField begun room (b ∷ rest)) → f.text ≡ text → CompletesField further (room - 1) rest
+  field_back begun further b room rest [] differs back f is =
+      let same : b ∷ rest ≡ line_end f.behind = f.equal ∙ ap (λ l. l ++ line_end f.behind) is in
+      let odd : b ≡ 13 = cc in
+      absurd (differs odd)
+  field_back begun further b room rest (x ∷ text) differs back f is =
+      let same : b ∷ rest ≡ x ∷ (text ++ line_end f.behind) = f.equal ∙ ap (λ l. l ++ line_end f.behind) is in
+      let head : x ≡ b = cc in
+      let field : IsField (begun ++ (x ∷ text)) = subst (λ t. IsField (begun ++ t)) is f.is_field in
+      record {
+        text = text;
+        behind = f.behind;
+        left = f.left;
+        equal = cc;
+        is_field = back text (subst (λ y. IsField (begun ++ (y ∷ text))) head field);
+        fits = omega (arith, f.fits, ap length is);
+        trailers = f.trailers;
+      }
+
+  pub name_on : (b room : ℕ) → IsTokenByte b → 2 ≤ room → Passes limits (FieldName room) (b ∷ []) (FieldName (room - 1))
+  name_on b room byte fits = record {
+    leads = quiet limits (FieldName room) (FieldName (room - 1)) (b ∷ [])
+        (λ rest payload c. (
           c.0,
-          record {
-            text = xs ++ f.text;
-            behind = f.behind;
-            left = f.left;
-            equal = ap (λ l. xs ++ l) f.equal ∙ sym (append_assoc xs f.text (line_end f.behind));
-            is_text = text_both xs f.text text f.is_text;
-            fits = omega (arith, f.fits, fits, length-append xs f.text);
-            trailers = f.trailers;
-          },
+          field_on (codes "a") (codes "a") b room rest (omega (arith, fits)) (λ text f. IsField-longer 97 b text byte f) c.1,
         ))
-        (λ rest payload c. let f = c.1 in
-        let found = text_front f.text xs f.behind rest text f.equal in (
+        (λ rest payload c. (
           c.0,
-          record {
-            text = found.0;
-            behind = f.behind;
-            left = f.left;
-            equal = found.2;
-            is_text = text_behind xs found.0 (subst IsText found.1 f.is_text);
-            fits = omega (arith, f.fits, ap length found.1, length-append xs found.0);
-            trailers = f.trailers;
-          },
+          field_back (codes "a") (codes "a") b room rest c.1.text (token_is_text b byte).0
+              (λ text f. IsField-shorter 97 b text byte f) c.1 refl,
         ));
     few = omega (arith, fits);
   }
 
-  field_return_back : (b room : ℕ) (rest text : List ℕ) → b ≡ 13 → (f : CompletesField room (b ∷ rest)) → f.text ≡ text
-      → Feeds (IsTrailers room) rest
-  field_return_back b room rest [] is f same =
+  pub name_colon : (b room : ℕ) → b ≡ 58 → 0 < room → Passes limits (FieldName room) (b ∷ []) (FieldValue (room - 1))
+  name_colon b room is some = record {
+    leads = quiet limits (FieldName room) (FieldValue (room - 1)) (b ∷ [])
+        (λ rest payload c. (
+          c.0,
+          field_on (codes "a") (codes "a:") b room rest some
+              (λ text f. subst (λ x. IsField (97 ∷ (x ∷ text))) (sym is) f) c.1,
+        ))
+        (λ rest payload c. (
+          c.0,
+          field_back (codes "a") (codes "a:") b room rest c.1.text (λ odd. omega (arith, is, odd))
+              (λ text f. subst (λ x. IsField (97 ∷ (x ∷ text))) is f) c.1 refl,
+        ));
+    few = omega (arith, some);
+  }
+
+  pub value_on : (b room : ℕ) → IsValueByte b → 0 < room → Passes limits (FieldValue room) (b ∷ []) (FieldValue (room - 1))
+  value_on b room byte some = record {
+    leads = quiet limits (FieldValue room) (FieldValue (room - 1)) (b ∷ [])
+        (λ rest payload c. (
+          c.0,
+          field_on (codes "a:") (codes "a:") b room rest some
+              (λ text f. IsField-valued 97 (b ∷ text) (inl refl) (byte, IsField-value 97 text f)) c.1,
+        ))
+        (λ rest payload c. (
+          c.0,
+          field_back (codes "a:") (codes "a:") b room rest c.1.text (value_is_text b byte).0
+              (λ text f. IsField-valued 97 text (inl refl) (IsField-value 97 (b ∷ text) f).1) c.1 refl,
+        ));
+    few = omega (arith, some);
+  }
+
+  -- and its end
+  value_return_back : (b room : ℕ) (rest text : List ℕ) → b ≡ 13 → (f : CompletesField (codes "a:") room (b ∷ rest))
+      → f.text ≡ text → Feeds (IsTrailers room) rest
+  value_return_back b room rest [] is f same =
       let all : b ∷ rest ≡ line_end f.behind = f.equal ∙ ap (λ l. l ++ line_end f.behind) same in
       let left : f.left ≡ room = omega (arith, f.fits, ap length same) in
       (f.behind, cc, subst (λ n. IsTrailers n f.behind) left f.trailers)
-  field_return_back b room rest (x ∷ text) is f same =
+  value_return_back b room rest (x ∷ text) is f same =
       let all : b ∷ rest ≡ x ∷ (text ++ line_end f.behind) = f.equal ∙ ap (λ l. l ++ line_end f.behind) same in
       let head : x ≡ b = cc in
-      absurd ((subst IsText same f.is_text).0.0 (head ∙ is))
+      let field : IsField (97 ∷ (58 ∷ (x ∷ text))) = subst (λ t. IsField (97 ∷ (58 ∷ t))) same f.is_field in
+      absurd ((value_is_text x (IsField-value 97 (x ∷ text) field).0).0 (head ∙ is))
 
-  pub field_return : (b room : ℕ) → b ≡ 13 → Passes limits (Field room) (b ∷ []) (FieldFeed room)
-  field_return b room is = record {
-    leads = quiet limits (Field room) (FieldFeed room) (b ∷ [])
+  pub value_return : (b room : ℕ) → b ≡ 13 → Passes limits (FieldValue room) (b ∷ []) (FieldFeed room)
+  value_return b room is = record {
+    leads = quiet limits (FieldValue room) (FieldFeed room) (b ∷ [])
         (λ rest payload c. (
           c.0,
           record {
@@ -197,11 +249,11 @@ module _ (limits : Limits) where
             behind = c.1.0;
             left = room;
             equal = ap (λ x. x ∷ rest) is ∙ ap (λ l. 13 ∷ l) c.1.1;
-            is_text = tt;
+            is_field = IsField-valued 97 [] (inl refl) tt;
             fits = omega arith;
             trailers = c.1.2;
           },
         ))
-        (λ rest payload c. (c.0, field_return_back b room rest c.1.text is c.1 refl));
+        (λ rest payload c. (c.0, value_return_back b room rest c.1.text is c.1 refl));
     few = omega arith;
   }

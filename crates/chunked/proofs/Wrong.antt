@@ -1,16 +1,18 @@
 -- What is wrong with a byte in a place completes no body.
-use Rattle.std.proofs.Common.{◌≡◌, ℕ, ◌+◌, ◌*◌, ◌<◌, ◌≤◌, ◌⊎◌, ◌^◌, List, [], ◌∷◌, ◌++◌, length, sym, ap, subst, ◌∙◌, arith, inl, inr, refl, length-append}
+use Rattle.std.proofs.Common.{◌≡◌, ℕ, ◌+◌, ◌*◌, ◌<◌, ◌≤◌, ◌⊎◌, ◌^◌, List, [], ◌∷◌, ◌++◌, codes, length, sym, ap, subst, ◌∙◌, arith, inl, inr, refl, length-append}
 use Rattle.std.specs.Char.{digit_value}
 use Rattle.std.specs.List.{AllByRecursion, flat_map}
 use Rattle.std.specs.Str.Parse.{AllDigits, digits_value_after}
 use Rattle.chunked.specs.declared.error.Malformed.{Malformed}
-use Rattle.chunked.specs.declared.error.Malformed.TheVariants.{NoSize, BadSize, SizeTooLarge, LineTooLong, TrailersTooLong, BareReturn, BareFeed, ChunkTooLong}
+use Rattle.chunked.specs.declared.error.Malformed.TheVariants.{NoSize, BadSize, BadField, SizeTooLarge, LineTooLong, TrailersTooLong, BareReturn, BareFeed, ChunkTooLong}
 use Rattle.chunked.specs.declared.limits.Limits.{Limits}
 use Rattle.chunked.specs.declared.place.Place.{Place}
-use Rattle.chunked.specs.declared.place.Place.TheVariants.{Line, Size, Blank, Extension, SizeFeed, Data, DataFeed, Fields, Field, FieldFeed, LastFeed}
-use Rattle.chunked.specs.Body.{line_end, IsTextByte, IsText, IsBlank, IsExtension, IsSizeLine, IsTrailers, IsField, IsBody, fields_bytes}
+use Rattle.chunked.specs.declared.place.Place.TheVariants.{Line, Size, Blank, Extension, SizeFeed, Data, DataFeed, Fields, FieldName, FieldValue, FieldFeed, LastFeed}
+use Rattle.chunked.specs.Token.{IsBlank, IsTokenByte, IsValueByte}
+use Rattle.chunked.specs.Body.{line_end, IsTextByte, IsText, IsExtension, IsSizeLine, IsTrailers, IsField, IsBody, fields_bytes}
 use Rattle.chunked.specs.BodyLaws.{digit_is_text, blank_is_text}
-use Rattle.chunked.specs.Place.{Completes, CompletesData, CompletesSize, Feeds, IsDigit, IsWrong, EndsNoSize}
+use Rattle.chunked.specs.FieldLaws.{IsField-first, IsField-next, IsField-none, IsField-value, token_is_text, token_plain, value_is_text}
+use Rattle.chunked.specs.Place.{Completes, CompletesData, CompletesField, CompletesSize, Feeds, IsDigit, IsWrong, EndsNoSize}
 use Rattle.chunked.proofs.Lines.{line_of}
 
 value_grows : (n : ℕ) (digits : List ℕ) → n ≤ digits_value_after 16 n digits
@@ -82,15 +84,49 @@ module _ (limits : Limits) where
       )
 
   trailers_first : (b room : ℕ) (rest : List ℕ) (fields : List (List ℕ)) → (t : IsTrailers room (b ∷ rest)) → t.fields ≡ fields
-      → (b ≡ 13) ⊎ (IsTextByte b × (0 < room))
+      → (b ≡ 13) ⊎ (IsTokenByte b × (2 ≤ room))
   trailers_first b room rest [] t is =
       let all : b ∷ rest ≡ line_end [] = t.equal ∙ ap fields_bytes is in inl cc
-  trailers_first b room rest (f ∷ fields) t is =
-      let all : b ∷ rest ≡ f ++ line_end (fields_bytes fields) = t.equal ∙ ap fields_bytes is in
-      let lines : AllByRecursion IsField (f ∷ fields) = subst (λ fs. AllByRecursion IsField fs) is t.lines in
-      let few : length (f ++ flat_map (λ g. g) fields) ≤ room = subst (λ fs. length (flat_map (λ g. g) fs) ≤ room) is t.few in
-      text_first b room rest f (fields_bytes fields) all lines.0.0
-      (omega (arith, few, length-append f (flat_map (λ g. g) fields)))
+  trailers_first b room rest ([] ∷ fields) t is =
+      absurd (IsField-none (subst (λ fs. AllByRecursion IsField fs) is t.lines).0)
+  trailers_first b room rest ((x ∷ f) ∷ fields) t is =
+      let all : b ∷ rest ≡ x ∷ (f ++ line_end (fields_bytes fields)) = t.equal ∙ ap fields_bytes is in
+      let head : x ≡ b = cc in
+      let few : length ((x ∷ f) ++ flat_map (λ g. g) fields) ≤ room =
+      subst (λ fs. length (flat_map (λ g. g) fs) ≤ room) is t.few in
+      let begins = IsField-first x f (subst (λ fs. AllByRecursion IsField fs) is t.lines).0 in
+      let long = ap length begins.equal ∙ length-append begins.more (58 ∷ begins.value) in
+      inr (
+        subst IsTokenByte head begins.byte,
+        omega (arith, few, long, length-append (x ∷ f) (flat_map (λ g. g) fields)),
+      )
+
+  -- in a name, and in a value
+  name_first : (b room : ℕ) (rest text : List ℕ) → (f : CompletesField (codes "a") room (b ∷ rest)) → f.text ≡ text
+      → (b ≡ 58) ⊎ (IsTokenByte b × (2 ≤ room))
+  name_first b room rest [] f is =
+      let begins = IsField-first 97 [] (subst (λ t. IsField (97 ∷ t)) is f.is_field) in
+      absurd (omega (arith, ap length begins.equal, length-append begins.more (58 ∷ begins.value)))
+  name_first b room rest (x ∷ text) f is =
+      let same : b ∷ rest ≡ x ∷ (text ++ line_end f.behind) = f.equal ∙ ap (λ l. l ++ line_end f.behind) is in
+      let head : x ≡ b = cc in
+      elim (IsField-next 97 x text (subst (λ t. IsField (97 ∷ t)) is f.is_field)) [
+        | inl token ↦
+            let begins = IsField-first 97 text token.1 in
+            let long = ap length begins.equal ∙ length-append begins.more (58 ∷ begins.value) in
+            inr (subst IsTokenByte head token.0, omega (arith, long, f.fits, ap length is))
+        | inr colon ↦ inl (sym head ∙ colon.0)
+      ]
+
+  value_first : (b room : ℕ) (rest text : List ℕ) → (f : CompletesField (codes "a:") room (b ∷ rest)) → f.text ≡ text
+      → (b ≡ 13) ⊎ (IsValueByte b × (0 < room))
+  value_first b room rest [] f is =
+      let same : b ∷ rest ≡ line_end f.behind = f.equal ∙ ap (λ l. l ++ line_end f.behind) is in inl cc
+  value_first b room rest (x ∷ text) f is =
+      let same : b ∷ rest ≡ x ∷ (text ++ line_end f.behind) = f.equal ∙ ap (λ l. l ++ line_end f.behind) is in
+      let head : x ≡ b = cc in
+      let all = IsField-value 97 (x ∷ text) (subst (λ t. IsField (97 ∷ (58 ∷ t))) is f.is_field) in
+      inr (subst IsValueByte head all.0, omega (arith, f.fits, ap length is))
 
   data_first : (b : ℕ) (rest payload front : List ℕ) → (c : CompletesData limits 0 (b ∷ rest) payload) → c.front ≡ front
       → b ≡ 13
@@ -156,6 +192,36 @@ module _ (limits : Limits) where
   wrong_blank size room b BadSize wrong (inr (inr semicolon, room')) = wrong.no_semicolon semicolon
   wrong_blank size room b why wrong some = absurd wrong
 
+  wrong_fields : (room b : ℕ) (why : Malformed) → IsWrong limits (Fields room) b why
+      → (b ≡ 13) ⊎ (IsTokenByte b × (2 ≤ room)) → ⊥
+  wrong_fields room b TrailersTooLong wrong (inl is) = (token_is_text b wrong.0).0 is
+  wrong_fields room b TrailersTooLong wrong (inr some) = omega (arith, wrong.1, some.1)
+  wrong_fields room b BareFeed wrong (inl is) = omega (arith, wrong, is)
+  wrong_fields room b BareFeed wrong (inr some) = (token_is_text b some.0).1 wrong
+  wrong_fields room b BadField wrong (inl is) = wrong.1.0 is
+  wrong_fields room b BadField wrong (inr some) = wrong.0 some.0
+  wrong_fields room b why wrong some = absurd wrong
+
+  wrong_name : (room b : ℕ) (why : Malformed) → IsWrong limits (FieldName room) b why
+      → (b ≡ 58) ⊎ (IsTokenByte b × (2 ≤ room)) → ⊥
+  wrong_name room b TrailersTooLong wrong (inl is) = (token_plain b wrong.0).1 is
+  wrong_name room b TrailersTooLong wrong (inr some) = omega (arith, wrong.1, some.1)
+  wrong_name room b BareFeed wrong (inl is) = omega (arith, wrong, is)
+  wrong_name room b BareFeed wrong (inr some) = (token_is_text b some.0).1 wrong
+  wrong_name room b BadField wrong (inl is) = wrong.1 is
+  wrong_name room b BadField wrong (inr some) = wrong.0 some.0
+  wrong_name room b why wrong some = absurd wrong
+
+  wrong_value : (room b : ℕ) (why : Malformed) → IsWrong limits (FieldValue room) b why
+      → (b ≡ 13) ⊎ (IsValueByte b × (0 < room)) → ⊥
+  wrong_value room b TrailersTooLong wrong (inl is) = (value_is_text b wrong.0).0 is
+  wrong_value room b TrailersTooLong wrong (inr some) = omega (arith, wrong.1, some.1)
+  wrong_value room b BareFeed wrong (inl is) = omega (arith, wrong, is)
+  wrong_value room b BareFeed wrong (inr some) = (value_is_text b some.0).1 wrong
+  wrong_value room b BadField wrong (inl is) = wrong.1.0 is
+  wrong_value room b BadField wrong (inr some) = wrong.0 some.0
+  wrong_value room b why wrong some = absurd wrong
+
   -- by each name
   pub IsWrong-none : (p : Place) (b : ℕ) (why : Malformed) (rest payload : List ℕ) → IsWrong limits p b why
       → Completes limits p (b ∷ rest) payload → ⊥
@@ -173,14 +239,12 @@ module _ (limits : Limits) where
   IsWrong-none (Data left) b ChunkTooLong rest payload wrong c =
       wrong.1 (data_first b rest payload _ (subst (λ n. CompletesData limits n (b ∷ rest) payload) wrong.0 c) refl)
   IsWrong-none DataFeed b BareReturn rest payload wrong c = wrong (feed_first _ b rest c)
-  IsWrong-none (Fields room) b TrailersTooLong rest payload wrong c =
-      no_text_room b room wrong (trailers_first b room rest c.1.fields c.1 refl)
-  IsWrong-none (Fields room) b BareFeed rest payload wrong c =
-      no_text_feed b room wrong (trailers_first b room rest c.1.fields c.1 refl)
-  IsWrong-none (Field room) b TrailersTooLong rest payload wrong c =
-      let f = c.1 in no_text_room b room wrong (text_first b room rest f.text f.behind f.equal f.is_text (omega (arith, f.fits)))
-  IsWrong-none (Field room) b BareFeed rest payload wrong c =
-      let f = c.1 in no_text_feed b room wrong (text_first b room rest f.text f.behind f.equal f.is_text (omega (arith, f.fits)))
+  IsWrong-none (Fields room) b why rest payload wrong c =
+      wrong_fields room b why wrong (trailers_first b room rest c.1.fields c.1 refl)
+  IsWrong-none (FieldName room) b why rest payload wrong c =
+      wrong_name room b why wrong (name_first b room rest c.1.text c.1 refl)
+  IsWrong-none (FieldValue room) b why rest payload wrong c =
+      wrong_value room b why wrong (value_first b room rest c.1.text c.1 refl)
   IsWrong-none (FieldFeed room) b BareReturn rest payload wrong c = wrong (feed_first _ b rest c.1)
   IsWrong-none LastFeed b BareReturn rest payload wrong c = wrong (let same = c.1 in cc)
   IsWrong-none p b why rest payload wrong c = absurd wrong

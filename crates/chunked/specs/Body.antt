@@ -3,6 +3,7 @@ use Rattle.std.specs.Prelude.{◌≡◌, ◌≢◌, ℕ, ◌^◌, ◌<◌, ◌�
 use Rattle.std.specs.List.{AllByRecursion}
 use Rattle.std.specs.Str.Parse.{IsNumeral, digits_value}
 use Rattle.chunked.specs.declared.limits.Limits.{Limits}
+use Rattle.chunked.specs.Token.{IsBlank, IsToken, IsValueByte}
 
 -- the end of a line, CR LF, and what stands behind it
 abbrev pub line_end : List ℕ → List ℕ
@@ -14,10 +15,6 @@ IsTextByte b = (b ≢ 13) × (b ≢ 10)
 
 abbrev pub IsText : List ℕ → Type 0
 IsText text = AllByRecursion IsTextByte text
-
--- a space or a tab
-abbrev pub IsBlank : ℕ → Type 0
-IsBlank b = (b ≡ 32) ⊎ (b ≡ 9)
 
 -- what may follow the digits of a size in their line: blanks, and then nothing, or a text that begins with `;`
 abbrev pub IsExtension : List ℕ → Type 0
@@ -35,9 +32,13 @@ pub record IsSizeLine (limit size : ℕ) (text : List ℕ) : Type 0 where
   pub follows : IsExtension extension
   pub fits : length text ≤ limit
 
--- a line of the trailers: a text, and not an empty one
-abbrev pub IsField : List ℕ → Type 0
-IsField text = IsText text × (0 < length text)
+-- a line of the trailers: a name, which is a token, a colon, and a value
+pub record IsField (text : List ℕ) : Type 0 where
+  pub name : List ℕ
+  pub value : List ℕ
+  pub equal : text ≡ name ++ 58 ∷ value
+  pub token : IsToken name
+  pub all : AllByRecursion IsValueByte value
 
 -- the lines of the trailers, and then an empty one
 abbrev pub fields_bytes : List (List ℕ) → List ℕ

@@ -6,7 +6,9 @@ use Rattle.std.specs.Char.{digit_value}
 use Rattle.std.specs.List.{AllByRecursion}
 use Rattle.std.specs.Str.Parse.{AllDigits, digits_value}
 use Rattle.chunked.specs.declared.limits.Limits.{Limits}
-use Rattle.chunked.specs.Body.{line_end, IsTextByte, IsText, IsBlank, IsExtension, IsSizeLine, IsField, fields_bytes, IsTrailers, HasChunks, IsBody}
+use Rattle.chunked.specs.Token.{IsBlank}
+use Rattle.chunked.specs.Body.{line_end, IsTextByte, IsText, IsExtension, IsSizeLine, IsField, fields_bytes, IsTrailers, HasChunks, IsBody}
+use Rattle.chunked.specs.FieldLaws.{IsField-none, IsField-text}
 
 -- a digit is no byte of these
 pub digit_is_text : (b : ℕ) → digit_value b < 16 → IsTextByte b
@@ -89,12 +91,12 @@ front_same p q xs ys len same = (
 pub fields_same : (fs gs : List (List ℕ)) (xs ys : List ℕ) → AllByRecursion IsField fs → AllByRecursion IsField gs
     → fields_bytes fs ++ xs ≡ fields_bytes gs ++ ys → (fs ≡ gs) × (xs ≡ ys)
 fields_same [] [] xs ys p q same = (refl, cc)
-fields_same [] ([] ∷ gs) xs ys p q same = absurd (omega (arith, q.0.1))
-fields_same [] ((b ∷ g) ∷ gs) xs ys p q same = absurd (q.0.0.0.0 cc)
-fields_same ([] ∷ fs) [] xs ys p q same = absurd (omega (arith, p.0.1))
-fields_same ((b ∷ f) ∷ fs) [] xs ys p q same = absurd (p.0.0.0.0 cc)
+fields_same [] ([] ∷ gs) xs ys p q same = absurd (IsField-none q.0)
+fields_same [] ((b ∷ g) ∷ gs) xs ys p q same = absurd ((IsField-text (b ∷ g) q.0).0.0 cc)
+fields_same ([] ∷ fs) [] xs ys p q same = absurd (IsField-none p.0)
+fields_same ((b ∷ f) ∷ fs) [] xs ys p q same = absurd ((IsField-text (b ∷ f) p.0).0.0 cc)
 fields_same (f ∷ fs) (g ∷ gs) xs ys p q same =
-    let first = line_same f g (fields_bytes fs ++ xs) (fields_bytes gs ++ ys) p.0.0 q.0.0
+    let first = line_same f g (fields_bytes fs ++ xs) (fields_bytes gs ++ ys) (IsField-text f p.0) (IsField-text g q.0)
     (sym (append_assoc f (line_end (fields_bytes fs)) xs) ∙ same ∙ append_assoc g (line_end (fields_bytes gs)) ys) in
     let others = fields_same fs gs xs ys p.1 q.1 first.1 in
     (ap (λ l. l ∷ fs) first.0 ∙ ap (λ l. g ∷ l) others.0, others.1)

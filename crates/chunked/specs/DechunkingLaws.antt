@@ -6,7 +6,7 @@ use Rattle.buffer_redux.specs.Policy.{ReadRules}
 use Rattle.buffer_redux.specs.ReaderLaws.{ReadsAlong-none, ReadsAlong-joins}
 use Rattle.chunked.specs.declared.limits.Limits.{Limits}
 use Rattle.chunked.specs.declared.place.Place.{Place}
-use Rattle.chunked.specs.declared.place.Place.TheVariants.{Line, Size, Blank, Extension, SizeFeed, Data, DataFeed, Fields, Field, FieldFeed, LastFeed, Done}
+use Rattle.chunked.specs.declared.place.Place.TheVariants.{Line, Size, Blank, Extension, SizeFeed, Data, DataFeed, Fields, FieldName, FieldValue, FieldFeed, LastFeed, Done}
 use Rattle.chunked.specs.Body.{line_end, IsBody, fields_bytes, HasChunks}
 use Rattle.chunked.specs.Dechunking.{BodyWent, Dechunking, IsDechunking, IsWhole, begun, handed_of}
 use Rattle.chunked.specs.Place.{Completes, Leads}
@@ -37,7 +37,8 @@ Completes-nothing limits (SizeFeed size) payload c = absurd (let odd = c.0.1 in 
 Completes-nothing limits (Data left) payload c = absurd (no_line c.front c.behind c.equal)
 Completes-nothing limits DataFeed payload c = absurd (let odd = c.1 in cc)
 Completes-nothing limits (Fields room) payload c = absurd (no_fields c.1.fields c.1.equal)
-Completes-nothing limits (Field room) payload c = absurd (no_line c.1.text c.1.behind c.1.equal)
+Completes-nothing limits (FieldName room) payload c = absurd (no_line c.1.text c.1.behind c.1.equal)
+Completes-nothing limits (FieldValue room) payload c = absurd (no_line c.1.text c.1.behind c.1.equal)
 Completes-nothing limits (FieldFeed room) payload c = absurd (let odd = c.1.1 in cc)
 Completes-nothing limits LastFeed payload c = absurd (let odd = c.1 in cc)
 Completes-nothing limits Done payload c = refl

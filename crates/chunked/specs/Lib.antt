@@ -1,5 +1,7 @@
 pub mod Error
+pub mod Token
 pub mod Body
+pub mod FieldLaws
 pub mod BodyLaws
 pub mod Place
 pub mod PlaceLaws

@@ -1,13 +1,14 @@
 -- Where in a body a reader stands: what completes the body from there, and what doesn't.
-use Rattle.std.specs.Prelude.{◌≡◌, ◌≢◌, ℕ, zero, suc, ◌+◌, ◌*◌, ◌^◌, ◌<◌, ◌≤◌, ◌⊎◌, List, [], ◌∷◌, ◌++◌, length, take, slice_index, ⊤, Result, Ok, Err, None, IfSome}
+use Rattle.std.specs.Prelude.{◌≡◌, ◌≢◌, ℕ, zero, suc, ◌+◌, ◌*◌, ◌^◌, ◌<◌, ◌≤◌, ◌⊎◌, List, [], ◌∷◌, ◌++◌, codes, length, take, slice_index, ⊤, Result, Ok, Err, None, IfSome}
 use Rattle.std.specs.Char.{digit_value}
 use Rattle.std.specs.Str.Parse.{AllDigits, digits_value_after}
-use Rattle.chunked.specs.Body.{line_end, IsTextByte, IsText, IsBlank, IsExtension, IsTrailers, IsBody}
+use Rattle.chunked.specs.Token.{IsBlank, IsTokenByte, IsValueByte}
+use Rattle.chunked.specs.Body.{line_end, IsTextByte, IsText, IsExtension, IsField, IsTrailers, IsBody}
 use Rattle.chunked.specs.declared.error.Malformed.{Malformed}
-use Rattle.chunked.specs.declared.error.Malformed.TheVariants.{NoSize, BadSize, SizeTooLarge, LineTooLong, TrailersTooLong, BareReturn, BareFeed, ChunkTooLong}
+use Rattle.chunked.specs.declared.error.Malformed.TheVariants.{NoSize, BadSize, BadField, SizeTooLarge, LineTooLong, TrailersTooLong, BareReturn, BareFeed, ChunkTooLong}
 use Rattle.chunked.specs.declared.limits.Limits.{Limits}
 use Rattle.chunked.specs.declared.place.Place.{Place}
-use Rattle.chunked.specs.declared.place.Place.TheVariants.{Line, Size, Blank, Extension, SizeFeed, Data, DataFeed, Fields, Field, FieldFeed, LastFeed, Done}
+use Rattle.chunked.specs.declared.place.Place.TheVariants.{Line, Size, Blank, Extension, SizeFeed, Data, DataFeed, Fields, FieldName, FieldValue, FieldFeed, LastFeed, Done}
 use Rattle.chunked.specs.declared.step.Reached.{Reached}
 
 -- an LF, and then bytes of which this is true
@@ -54,13 +55,13 @@ pub record CompletesLine (IsRest : List ℕ → Type 0) (limits : Limits) (size 
   pub small : size < 2 ^ 62
   pub goes_on : BehindSize limits size behind payload
 
--- a text ends the line of the trailers, and then further lines and an empty one
-pub record CompletesField (room : ℕ) (rest : List ℕ) : Type 0 where
+-- a text ends the line of the trailers as it would end one that begins so, and then further lines and an empty one
+pub record CompletesField (begun : List ℕ) (room : ℕ) (rest : List ℕ) : Type 0 where
   pub text : List ℕ
   pub behind : List ℕ
   pub left : ℕ
   pub equal : rest ≡ text ++ line_end behind
-  pub is_text : IsText text
+  pub is_field : IsField (begun ++ text)
   pub fits : length text + left ≡ room
   pub trailers : IsTrailers left behind
 
@@ -75,7 +76,8 @@ Completes limits (SizeFeed size) rest payload =
 Completes limits (Data left) rest payload = CompletesData limits left rest payload
 Completes limits DataFeed rest payload = Feeds (λ behind. IsBody limits behind payload) rest
 Completes limits (Fields room) rest payload = (payload ≡ []) × IsTrailers room rest
-Completes limits (Field room) rest payload = (payload ≡ []) × CompletesField room rest
+Completes limits (FieldName room) rest payload = (payload ≡ []) × CompletesField (codes "a") room rest
+Completes limits (FieldValue room) rest payload = (payload ≡ []) × CompletesField (codes "a:") room rest
 Completes limits (FieldFeed room) rest payload = (payload ≡ []) × Feeds (IsTrailers room) rest
 Completes limits LastFeed rest payload = (payload ≡ []) × (rest ≡ 10 ∷ [])
 Completes limits Done rest payload = (payload ≡ []) × (rest ≡ [])
@@ -123,10 +125,15 @@ IsWrong limits (Extension size room) b BareFeed = b ≡ 10
 IsWrong limits (SizeFeed size) b BareReturn = b ≢ 10
 IsWrong limits (Data left) b ChunkTooLong = (left ≡ 0) × (b ≢ 13)
 IsWrong limits DataFeed b BareReturn = b ≢ 10
-IsWrong limits (Fields room) b TrailersTooLong = IsTextByte b × (room ≡ 0)
+IsWrong limits (Fields room) b TrailersTooLong = IsTokenByte b × (room < 2)
 IsWrong limits (Fields room) b BareFeed = b ≡ 10
-IsWrong limits (Field room) b TrailersTooLong = IsTextByte b × (room ≡ 0)
-IsWrong limits (Field room) b BareFeed = b ≡ 10
+IsWrong limits (Fields room) b BadField = ¬ IsTokenByte b × IsTextByte b
+IsWrong limits (FieldName room) b TrailersTooLong = IsTokenByte b × (room < 2)
+IsWrong limits (FieldName room) b BareFeed = b ≡ 10
+IsWrong limits (FieldName room) b BadField = ¬ IsTokenByte b × (b ≢ 58) × (b ≢ 10)
+IsWrong limits (FieldValue room) b TrailersTooLong = IsValueByte b × (room ≡ 0)
+IsWrong limits (FieldValue room) b BareFeed = b ≡ 10
+IsWrong limits (FieldValue room) b BadField = ¬ IsValueByte b × IsTextByte b
 IsWrong limits (FieldFeed room) b BareReturn = b ≢ 10
 IsWrong limits LastFeed b BareReturn = b ≢ 10
 IsWrong limits p b why = ⊥
@@ -142,7 +149,8 @@ most_between limits (Data zero) = limits.line + 3 * limits.trailers + 6
 most_between limits (Data (suc left)) = 0
 most_between limits DataFeed = limits.line + 3 * limits.trailers + 5
 most_between limits (Fields room) = 3 * room + 2
-most_between limits (Field room) = 3 * room + 4
+most_between limits (FieldName room) = 3 * room + 4
+most_between limits (FieldValue room) = 3 * room + 4
 most_between limits (FieldFeed room) = 3 * room + 3
 most_between limits LastFeed = 1
 most_between limits Done = 0
@@ -158,12 +166,13 @@ pub record Passes (limits : Limits) (p : Place) (wire : List ℕ) (q : Place) : 
   pub leads : Leads limits p wire [] q
   pub few : most_between limits q + length wire ≤ most_between limits p
 
--- the size that is kept is one of a chunk
+-- the size that is kept is one of a chunk, and there is room for the colon behind a name
 abbrev pub IsPlace : Place → Type 0
 IsPlace (Size number room) = number < 2 ^ 62
 IsPlace (Blank size room) = size < 2 ^ 62
 IsPlace (Extension size room) = size < 2 ^ 62
 IsPlace (SizeFeed size) = size < 2 ^ 62
+IsPlace (FieldName room) = 0 < room
 IsPlace p = ⊤
 
 -- one byte leads on, or what is wrong with it has this name

@@ -10,6 +10,8 @@ pub enum Malformed {
     NoSize,
     /// Something else stands behind the digits of a size than blanks, `;` or the end of the line.
     BadSize,
+    /// A byte stands in a line of the trailers that can't stand there: such a line is a token, a colon, and a value.
+    BadField,
     /// The size is 2^62 or more.
     SizeTooLarge,
     /// The line of a size has more bytes than it may.
@@ -34,6 +36,7 @@ impl fmt::Display for Malformed {
         f.write_str(match self {
             Malformed::NoSize => "a chunk without a size",
             Malformed::BadSize => "a wrong byte in the line of a size",
+            Malformed::BadField => "a wrong byte in a line of the trailers",
             Malformed::SizeTooLarge => "a size of 2^62 or more",
             Malformed::LineTooLong => "the line of a size is too long",
             Malformed::TrailersTooLong => "the trailers are too long",
@@ -119,7 +122,7 @@ impl From<ChunkedError> for io::Error {
 /// Why a body can't be ended with its trailers.
 #[derive(Debug, Drop)]
 pub enum TrailersError {
-    /// The line of this index is none of trailers: it is empty, or holds CR or LF.
+    /// The line of this index is none of trailers: it isn't a token, a colon and a value.
     NoField(usize),
     /// The last chunk and the trailers have more bytes than the buffer.
     TooLong,
@@ -133,7 +136,7 @@ impl fmt::Display for TrailersError {
             TrailersError::NoField(index) => {
                 write!(
                     f,
-                    "line {index} of the trailers is empty, or holds CR or LF"
+                    "line {index} of the trailers isn't a name, a colon and a value"
                 )
             }
             TrailersError::TooLong => f.write_str("the trailers don't fit into the buffer"),

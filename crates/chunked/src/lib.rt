@@ -13,6 +13,7 @@ mod place;
 mod progress;
 mod reader;
 mod step;
+mod token;
 mod trailers;
 mod writer;
 

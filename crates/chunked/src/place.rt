@@ -19,8 +19,10 @@ pub enum Place {
     DataFeed,
     /// Before a line of the trailers, which may have so many more bytes.
     Fields(usize),
-    /// In a line of the trailers.
-    Field(usize),
+    /// In the name of a line of the trailers.
+    FieldName(usize),
+    /// In a line of the trailers, behind its colon.
+    FieldValue(usize),
     /// Behind the CR of a line of the trailers.
     FieldFeed(usize),
     /// Behind the CR of the empty line.

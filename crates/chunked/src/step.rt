@@ -8,6 +8,7 @@ ghost use Rattle.chunked.specs.Place.{Advances, IsPlace, IsSettled, Passes, Step
 use crate::error::Malformed;
 use crate::limits::Limits;
 use crate::place::Place;
+use crate::token::{is_token_byte, is_value_byte};
 use memchr::memchr2;
 
 // The least number that isn't the size of a chunk.
@@ -108,20 +109,37 @@ fn begin_field(room: usize, byte: u8) -> Result<Place, Malformed>
     match byte {
         b'\r' => Ok(Place::LastFeed),
         b'\n' => Err(Malformed::BareFeed),
-        _ if room == 0 => Err(Malformed::TrailersTooLong),
-        _ => Ok(Place::Field(room - 1)),
+        _ if !is_token_byte(byte) => Err(Malformed::BadField),
+        // It has a colon too.
+        _ if room < 2 => Err(Malformed::TrailersTooLong),
+        _ => Ok(Place::FieldName(room - 1)),
     }
 }
 
-// A byte in a line of the trailers.
-fn in_field(room: usize, byte: u8) -> Result<Place, Malformed>
-    ensures { (l : Limits) → StepsOver l (Place.Field room) byte result }
+// A byte in the name of a line of the trailers, or the colon behind it.
+fn in_name(room: usize, byte: u8) -> Result<Place, Malformed>
+    requires { 0 < room }
+    ensures { (l : Limits) → StepsOver l (Place.FieldName room) byte result }
+{
+    match byte {
+        b':' => Ok(Place::FieldValue(room - 1)),
+        b'\n' => Err(Malformed::BareFeed),
+        _ if !is_token_byte(byte) => Err(Malformed::BadField),
+        _ if room < 2 => Err(Malformed::TrailersTooLong),
+        _ => Ok(Place::FieldName(room - 1)),
+    }
+}
+
+// A byte behind that colon, or the end of the line.
+fn in_value(room: usize, byte: u8) -> Result<Place, Malformed>
+    ensures { (l : Limits) → StepsOver l (Place.FieldValue room) byte result }
 {
     match byte {
         b'\r' => Ok(Place::FieldFeed(room)),
         b'\n' => Err(Malformed::BareFeed),
+        _ if !is_value_byte(byte) => Err(Malformed::BadField),
         _ if room == 0 => Err(Malformed::TrailersTooLong),
-        _ => Ok(Place::Field(room - 1)),
+        _ => Ok(Place::FieldValue(room - 1)),
     }
 }
 
@@ -163,7 +181,8 @@ fn step(limits: &Limits, place: Place, byte: u8) -> Result<Place, Malformed>
         Place::Data(_) => end_data(byte),
         Place::DataFeed => feed(byte, Place::Line),
         Place::Fields(room) => begin_field(room, byte),
-        Place::Field(room) => in_field(room, byte),
+        Place::FieldName(room) => in_name(room, byte),
+        Place::FieldValue(room) => in_value(room, byte),
         Place::FieldFeed(room) => feed(byte, Place::Fields(room)),
         Place::LastFeed => feed(byte, Place::Done),
         Place::Done => unreachable!(),
@@ -194,10 +213,6 @@ fn skip_text(place: Place, shown: &[u8]) -> (Place, usize)
         Place::Extension(size, room) => {
             let len = text_len(room, shown);
             (Place::Extension(size, room - len), len)
-        }
-        Place::Field(room) => {
-            let len = text_len(room, shown);
-            (Place::Field(room - len), len)
         }
         other => (other, 0),
     }

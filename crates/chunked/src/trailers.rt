@@ -7,9 +7,10 @@ ghost use Rattle.chunked.specs.Trailers.{CanEnd, CannotEnd, lines_of};
 
 use crate::chunk::put;
 use crate::error::TrailersError;
+use crate::token::{is_token, is_value};
 use buffer_redux::BufWriter;
 use buffer_redux::tell::{CallLog, TellWrite};
-use memchr::memchr2;
+use memchr::memchr;
 
 /// How many bytes the end of a body has where there are no trailers.
 pub const BARE_END: usize = 5;
@@ -18,9 +19,9 @@ pub const BARE_END: usize = 5;
 fn is_field(line: &[u8]) -> bool
     ensures { IsTrue result ↔ IsField line.now }
 {
-    match memchr2(b'\r', b'\n', line) {
-        Some(_) => false,
-        None => !line.is_empty(),
+    match memchr(b':', line) {
+        Some(colon) => is_token(&line[..colon]) && is_value(&line[colon + 1..]),
+        None => false,
     }
 }
 

@@ -107,8 +107,9 @@ impl<W: TellWrite> ChunkedWriter<W> {
     }
 
     /// The same with trailers, whose lines these are, without their ends. The last chunk and all trailers go into the buffer
-    /// whole or not at all. A line that is empty or holds CR or LF is refused, and so are trailers that the buffer has no
-    /// capacity for with the last chunk; the writer comes back as it was then.
+    /// whole or not at all. A line is a token, a colon and a value: of visible bytes, blanks, tabs and bytes from 128. Any
+    /// other is refused, and so are trailers that the buffer has no capacity for with the last chunk; the writer comes back
+    /// as it was then.
     ///
     /// ```
     /// let inner = BufWriter::new(alloc, Told::new(Vec::new(alloc)))?;

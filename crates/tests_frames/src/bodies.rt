@@ -89,7 +89,7 @@ static WRONG_RETURNS: [Row<'static>; 7] = [
     Row(9, 9, b"4\rWiki", b"", Wrong(BareReturn, 2)),
     Row(9, 9, b"4;\"\r\r\n", b"", Wrong(BareReturn, 4)),
     Row(9, 9, b"1\r\na\rb", b"a", Wrong(BareReturn, 5)),
-    Row(9, 9, b"0\r\nX\rY", b"", Wrong(BareReturn, 5)),
+    Row(9, 9, b"0\r\nX:\rY", b"", Wrong(BareReturn, 6)),
     Row(9, 9, b"0\r\n\rX", b"", Wrong(BareReturn, 4)),
     Row(9, 9, b"3\r\nWiki\r\n", b"Wik", Wrong(ChunkTooLong, 6)),
     Row(9, 9, b"3\r\nWik\n", b"Wik", Wrong(ChunkTooLong, 6)),
@@ -123,7 +123,7 @@ static CUT: [Row<'static>; 8] = [
     Row(9, 9, b"4\r\nWiki", b"Wiki", Truncated(7)),
     Row(9, 9, b"4\r\nWiki\r\n", b"Wiki", Truncated(9)),
     Row(9, 9, b"0\r\nX", b"", Truncated(4)),
-    Row(9, 9, b"0\r\nX\r\n\r", b"", Truncated(7)),
+    Row(9, 9, b"0\r\nX:\r\n\r", b"", Truncated(8)),
 ];
 
 type Body = ChunkedReader<Source>;

@@ -219,13 +219,16 @@ fn goes_under_a_buffered_writer(rt: HostRuntime) -> Result<(), Fail> {
 }
 
 // Trailers that are refused behind a chunk of five bytes in a buffer of 26, and at which line where that is why.
-static REFUSED: [(&[&[u8]], Option<usize>); 6] = [
+static REFUSED: [(&[&[u8]], Option<usize>); 9] = [
     (&[b"A: b", b""], Some(1)),
     (&[b"A: b\r\nC: d"], Some(0)),
-    (&[b"A: b", b"C: d", b"E\rf"], Some(2)),
-    (&[b"0123456789abcdef0123"], None),
-    (&[b"0123456789abcdef0", b"A"], None),
-    (&[b"0123456789abcdef0123", b"\n"], Some(1)),
+    (&[b"A: b", b"C: d", b"E: \rf"], Some(2)),
+    (&[b"A"], Some(0)),
+    (&[b"A:", b": b"], Some(1)),
+    (&[b"A : b"], Some(0)),
+    (&[b"0123456789abcdef:123"], None),
+    (&[b"0123456789abcde:", b"A:"], None),
+    (&[b"0123456789abcdef:123", b"\n"], Some(1)),
 ];
 
 // Whether that is why.
@@ -254,8 +257,8 @@ fn hello(alloc: Global) -> io::Result<Body> {
 fn goes_on(mut body: Body) -> io::Result<bool> {
     let unsent = taken(inner(&body)).is_empty();
     write_all(&mut body, b"!")?;
-    let want = b"5\r\nhello\r\n1\r\n!\r\n0\r\n0123456789abcdef012\r\n\r\n";
-    match ends(body, &[b"0123456789abcdef012"]) {
+    let want = b"5\r\nhello\r\n1\r\n!\r\n0\r\n0123456789abcdef:\t\xff\r\n\r\n";
+    match ends(body, &[b"0123456789abcdef:\t\xff"]) {
         Ok(inner) => Ok(unsent && sends(inner, want)?),
         Err(_) => Ok(false),
     }

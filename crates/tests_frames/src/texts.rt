@@ -1,6 +1,7 @@
 //! What the errors say.
 use chunked::Malformed::{
-    BadSize, BareFeed, BareReturn, ChunkTooLong, LineTooLong, NoSize, SizeTooLarge, TrailersTooLong,
+    BadField, BadSize, BareFeed, BareReturn, ChunkTooLong, LineTooLong, NoSize, SizeTooLarge,
+    TrailersTooLong,
 };
 use chunked::{ChunkedError, FinishError, Malformed, TrailersError};
 use frame_reader::{FrameError, WriteFrameError};
@@ -64,11 +65,15 @@ fn of_lines(rt: HostRuntime) -> Result<(), Fail> {
     Ok(())
 }
 
-static WRONG: [(Malformed, &str); 8] = [
+static WRONG: [(Malformed, &str); 9] = [
     (NoSize, "a chunk without a size, behind 7 bytes of a body"),
     (
         BadSize,
         "a wrong byte in the line of a size, behind 7 bytes of a body",
+    ),
+    (
+        BadField,
+        "a wrong byte in a line of the trailers, behind 7 bytes of a body",
     ),
     (
         SizeTooLarge,
@@ -118,7 +123,7 @@ fn of_trailers(rt: HostRuntime) -> Result<(), Fail> {
         FinishError(7, TrailersError::Io(fault())),
     ];
     let came = lines(rt.alloc(), &errors)?;
-    let text = "line 7 of the trailers is empty, or holds CR or LF\n\
+    let text = "line 7 of the trailers isn't a name, a colon and a value\n\
 the trailers don't fit into the buffer\ntimed out\n";
     assert!(rt; came.as_str() == text, "{came}");
     Ok(())

@@ -1,5 +1,5 @@
 use Rattle.std.proofs.Common.{inl, inr, arith}
-use Rattle.chunked.specs.Body.{IsBlank}
+use Rattle.chunked.specs.Token.{IsBlank}
 use Rattle.chunked.proofs.Passing.{blank_blank, blank_semicolon, blank_return}
 use Rattle.chunked.proofs.step.behind_size.Goals as goal
 

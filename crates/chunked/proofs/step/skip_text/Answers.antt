@@ -1,9 +1,8 @@
 use Rattle.std.proofs.Common.{◌-◌, take, subst, arith}
 use Rattle.std.proofs.lemmas.List.{length-take-le}
 use Rattle.chunked.specs.Place.{Passes}
-use Rattle.chunked.specs.declared.place.Place.TheVariants.{Extension, Field}
+use Rattle.chunked.specs.declared.place.Place.TheVariants.{Extension}
 use Rattle.chunked.proofs.Passing.{extension_text}
-use Rattle.chunked.proofs.PassingOn.{field_text}
 use Rattle.chunked.proofs.step.skip_text.Goals as goal
 
 pub returns-in-Extension-clause-passes : goal.returns-in-Extension-clause-passes
@@ -15,12 +14,3 @@ returns-in-Extension-clause-passes c =
     let len = length-take-le n c.args.shown.now c.text_len-len.ensures.within in
     λ l. rw c.in-Extension.is (subst (λ m. Passes l (Extension size room) text (Extension size (room - m))) len
     (extension_text l text size room c.text_len-len.ensures.text (omega (arith, len))))
-
-pub returns-in-Field-clause-passes : goal.returns-in-Field-clause-passes
-returns-in-Field-clause-passes c =
-    let f = c.text_len-len-in-Field in
-    let text = take f.result c.args.shown.now in
-    let room = c.in-Field.room in
-    let len = length-take-le f.result c.args.shown.now f.ensures.within in
-    λ l. rw c.in-Field.is (subst (λ m. Passes l (Field room) text (Field (room - m))) len
-    (field_text l text room f.ensures.text (omega (arith, len))))

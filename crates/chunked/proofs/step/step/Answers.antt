@@ -22,5 +22,8 @@ returns-in-Data c =
 pub returns-in-Fields : goal.returns-in-Fields
 returns-in-Fields c = rw c.in-Fields.is (c.begin_field.ensures c.args.limits.now)
 
-pub returns-in-Field : goal.returns-in-Field
-returns-in-Field c = rw c.in-Field.is (c.in_field.ensures c.args.limits.now)
+pub returns-in-FieldName : goal.returns-in-FieldName
+returns-in-FieldName c = rw c.in-FieldName.is (c.in_name.ensures c.args.limits.now)
+
+pub returns-in-FieldValue : goal.returns-in-FieldValue
+returns-in-FieldValue c = rw c.in-FieldValue.is (c.in_value.ensures c.args.limits.now)
