@@ -11,7 +11,7 @@ use Rattle.buffer_redux.specs.Buffered.{Buffered, with_policy}
 use Rattle.buffer_redux.specs.BufWriter.{FlushesAmount, TakesIn, Prepared, Wrote, Writes}
 use Rattle.redux_policy.specs.WriterPolicies.{at_least_before_write, at_least_rules, exact_before_write, exact_rules, flush_on_rules}
 use Rattle.buffer_redux.specs.WriterLaws.{flush_ways, ways_in}
-use Rattle.redux_play.specs.WroteExactly.{EachTook, Wrote-left, Wrote-flushed}
+use Rattle.redux_play.specs.WroteExactly.{EachTook, Wrote-left, Wrote-took}
 
 -- no place holds the byte
 abbrev pub HasNo : ℕ → List ℕ → Type 0
@@ -152,7 +152,7 @@ module _ {S P : Type 0} (least : P → ℕ) (s : Buffered S P) (bs : List ℕ) (
       ]
 
 -- what the steps of a write under `FlushExact` sent: the flush before, the bytes that went past the buffer, and the flush
--- after
+-- after, where that didn't fail, as it doesn't where each write of the inner writer took something
 pub record SendsExactly {S P : Type 0} (rules : WriteRules P) (n : ℕ) (s : Buffered S P) (bs : List ℕ) (k : ℕ)
     (t : Buffered S P) : Type 0 where
   pub steps : Wrote rules s bs k t
@@ -160,10 +160,10 @@ pub record SendsExactly {S P : Type 0} (rules : WriteRules P) (n : ℕ) (s : Buf
   pub past : List ℕ
   pub went_past : steps.after.log.writes.received ≡ steps.before.log.writes.received ++ past
   pub past_input : (past ≡ []) ⊎ (past ≡ take k bs)
-  pub last : SentAllOrNone n steps.after t
+  pub last : OnOk steps.finished.flushed (SentAllOrNone n steps.after t)
+  pub all_took : EachTook s.log.writes t.log.writes → steps.finished.flushed ≡ Ok tt
 
--- a write under `FlushExact` flushes its number of bytes or none, where each write of the inner writer took
--- something
+-- a flush that a write under `FlushExact` orders sends its number of bytes or none, where it doesn't fail
 module _ {S P : Type 0} (exact : P → ℕ) (s : Buffered S P) (bs : List ℕ) (n : ℕ) (t : Buffered S P)
     (wrote : Wrote (exact_rules exact) s bs n t) where
   pub Wrote-exact-first : SentAllOrNone (exact s.policy) s wrote.before
@@ -177,28 +177,33 @@ module _ {S P : Type 0} (exact : P → ℕ) (s : Buffered S P) (bs : List ℕ) (
         exact = subst (λ a. AllOrNone a sent.sent) p.asked.allowed.1 sent.exact;
       }
 
-  pub Wrote-exact-last : EachTook s.log.writes t.log.writes → SentAllOrNone (exact s.policy) wrote.after t
-  Wrote-exact-last took =
+  exact_last : (answer : Result (Unit {0}) Error)
+      → FlushesAmount (wrote.finished.amount.0) (with_policy wrote.after t.policy) answer t
+      → OnOk answer (SentAllOrNone (exact s.policy) wrote.after t)
+  exact_last (Ok u) flush =
       let same = asked_policy (exact_rules exact) (PolicyStays-exact exact) s t bs n wrote in
-      let sent = FlushesAmount-exact (wrote.finished.amount.0) (with_policy wrote.after t.policy) t
-      (Wrote-flushed (exact_rules exact) s bs n t wrote took) in
+      let sent = FlushesAmount-exact (wrote.finished.amount.0) (with_policy wrote.after t.policy) t flush in
       record {
         sent = sent.sent;
         front = sent.front;
         received = sent.received;
         exact = subst (λ a. AllOrNone a sent.sent) (wrote.finished.asked.allowed.1 ∙ ap exact same) sent.exact;
       }
+  exact_last (Err e) flush = tt
 
-  pub Wrote-exact : EachTook s.log.writes t.log.writes
-      → SendsExactly (exact_rules exact) (exact s.policy) s bs n t
-  Wrote-exact took = elim (ways_in wrote.before.block (length bs)) [
+  pub Wrote-exact-last : OnOk wrote.finished.flushed (SentAllOrNone (exact s.policy) wrote.after t)
+  Wrote-exact-last = exact_last wrote.finished.flushed wrote.finished.flush
+
+  pub Wrote-exact : SendsExactly (exact_rules exact) (exact s.policy) s bs n t
+  Wrote-exact = elim (ways_in wrote.before.block (length bs)) [
     | inl past ↦ record {
       steps = wrote;
       first = Wrote-exact-first;
       past = take n bs;
       went_past = ap (λ l. l.writes.received) (wrote.took_in.past past).told;
       past_input = inr refl;
-      last = Wrote-exact-last took;
+      last = Wrote-exact-last;
+      all_took = Wrote-took (exact_rules exact) s bs n t wrote;
     }
     | inr inside ↦ record {
       steps = wrote;
@@ -207,7 +212,8 @@ module _ {S P : Type 0} (exact : P → ℕ) (s : Buffered S P) (bs : List ℕ) (
       went_past = ap (λ l. l.writes.received) (wrote.took_in.inside inside).told
           ∙ sym (append-nil wrote.before.log.writes.received);
       past_input = inl refl;
-      last = Wrote-exact-last took;
+      last = Wrote-exact-last;
+      all_took = Wrote-took (exact_rules exact) s bs n t wrote;
     }
   ]
 
@@ -227,7 +233,6 @@ module _ {S P : Type 0} (s : Buffered S P) (bs : List ℕ) where
 
   pub Writes-exact : (exact : P → ℕ) (answer : Result ℕ Error) (t : Buffered S P)
       → Writes (exact_rules exact) s bs answer t
-      → IfOk answer (λ k. EachTook s.log.writes t.log.writes
-      → SendsExactly (exact_rules exact) (exact s.policy) s bs k t)
+      → IfOk answer (λ k. SendsExactly (exact_rules exact) (exact s.policy) s bs k t)
   Writes-exact exact (Ok n) t wrote = Wrote-exact exact s bs n t wrote
   Writes-exact exact (Err e) t failed = tt

@@ -1,6 +1,6 @@
 -- What every Ok write returned and left, for the proofs of those who call one.
 use Rattle.std.specs.Prelude.{◌≡◌, ℕ, ◌-◌, ◌<◌, ◌≤◌, List, [], ◌∷◌, ◌++◌, length, take, drop, min, nat_lt, if◌then◌else◌, Result, Ok, Err, OnOk, IfOk, IfErr}
-use Rattle.std.proofs.Common.{sym, ap, ◌∙◌, arith, rules, inl, inr, length-append}
+use Rattle.std.proofs.Common.{refl, sym, ap, subst, ◌∙◌, arith, rules, inl, inr, length-append}
 use Rattle.std.proofs.lemmas.Bool.{cases_lt, lt-ltb, le-ltb}
 use Rattle.std.specs.declared.io.Error.{Error}
 use Rattle.redux_buffer.specs.Block.{Block, usable}
@@ -110,8 +110,8 @@ module _ {S P : Type 0} (amount : ℕ) where
   -- where no fault came and no write took nothing, it didn't fail
   met_nothing : (s t : Buffered S P) (answer : Result (Unit {0}) Error)
       → t.log.writes.zero_writes ≤ s.log.writes.zero_writes → length t.log.writes.faults ≤ length s.log.writes.faults
-      → FlushesAmount amount s answer t → FlushesAmount amount s (Ok tt) t
-  met_nothing s t (Ok u) zero faults f = f
+      → FlushesAmount amount s answer t → answer ≡ Ok tt
+  met_nothing s t (Ok u) zero faults f = refl
   met_nothing s t (Err e) zero faults f =
       let stopped = (FlushesAmount-leaves s t (Err e) f).failed in
       elim stopped.caused.cause [
@@ -205,8 +205,8 @@ module _ {S P : Type 0} (rules : WriteRules P) (s : Buffered S P) (bs : List ℕ
         ]
 
     -- the last flush didn't fail
-    pub Wrote-flushed : FlushesAmount (wrote.finished.amount.0) (with_policy wrote.after t.policy) (Ok tt) t
-    Wrote-flushed =
+    pub Wrote-took : wrote.finished.flushed ≡ Ok tt
+    Wrote-took =
         met_nothing (wrote.finished.amount.0) (with_policy wrote.after t.policy) t wrote.finished.flushed
         (omega (arith, first_zero_writes, took.zero_writes)) (omega (arith, first_faults, ap length took.faults))
         wrote.finished.flush
@@ -214,7 +214,9 @@ module _ {S P : Type 0} (rules : WriteRules P) (s : Buffered S P) (bs : List ℕ
     pub Wrote-left : FlushLeaves (wrote.finished.amount.0) wrote.after (Ok tt) t
     Wrote-left =
         of_any_policy (wrote.finished.amount.0) wrote.after t t.policy (Ok tt)
-        (FlushesAmount-leaves (wrote.finished.amount.0) (with_policy wrote.after t.policy) t (Ok tt) Wrote-flushed)
+        (FlushesAmount-leaves (wrote.finished.amount.0) (with_policy wrote.after t.policy) t (Ok tt)
+        (subst (λ a. FlushesAmount (wrote.finished.amount.0) (with_policy wrote.after t.policy) a t) Wrote-took
+        wrote.finished.flush))
 
 -- what a write did, where it returned Ok
 pub Writes-exactly : {S P : Type 0} (rules : WriteRules P) (s : Buffered S P) (bs : List ℕ) (answer : Result ℕ Error)

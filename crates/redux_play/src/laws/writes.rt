@@ -80,14 +80,14 @@ pub fn flush_at_least_law<W: TellWrite>(
     writer.write(bytes)
 }
 
-/// An Ok write under [`FlushExact`] sends its number of bytes or none before it takes bytes in, and so after it, where
-/// each write of the inner writer took something.
+/// An Ok write under [`FlushExact`] sends its number of bytes or none before it takes bytes in, and so after it, where that
+/// flush doesn't fail: it doesn't where each write of the inner writer took something.
 pub fn flush_exact_law<W: TellWrite>(
     writer: &mut BufWriter<W, FlushExact>,
     bytes: &[u8],
 ) -> io::Result<usize>
-    ensures sent { IfOk result (λ k. EachTook writer.old.log.writes writer.new.log.writes
-        → SendsExactly (exact_rules (λ p. p.0)) writer.old.policy.0 writer.old bytes.now k writer.new) }
+    ensures sent { IfOk result (λ k.
+        SendsExactly (exact_rules (λ p. p.0)) writer.old.policy.0 writer.old bytes.now k writer.new) }
     ensures policy { writer.new.policy ≡ writer.old.policy }
     ensures steps { Writes (exact_rules (λ p. p.0)) writer.old bytes.now result writer.new }
     ensures keeps { WriterKeeps W.log W.stretch (exact_rules (λ p. p.0)) writer.old writer.new }
