@@ -1,4 +1,5 @@
 pub mod Going
+pub mod Having
 pub mod Heads
 pub mod Loading
 pub mod Reading

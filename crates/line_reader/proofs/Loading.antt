@@ -180,7 +180,8 @@ pub searched_on : {S : Type 0} (remaining : S → Option (List ℕ)) (s m t : Li
 searched_on {S} remaining s m t h handed all =
     let w : Lining S = record m { seen = min (length (rest m)) (1 + m.max) } in
     subst (LoadHead remaining s) (sym all.same) (record {
-      head = Head-told remaining (IsUnended s.max) s m [] h w [] (LinesWent-inside remaining m w [] refl refl refl) refl refl refl;
+      head = Head-told remaining (IsUnended s.max) s m [] h w [] (LinesWent-inside remaining m w [] refl refl refl)
+          refl refl refl;
       handed = handed;
       seen = refl;
       whole = subst IsLining all.same all.whole;

@@ -1,29 +1,85 @@
 -- Calls of `next`, `next_trimmed` and `skip_line` in any order, with any answers, and the lines that they hand out and skip.
-use Rattle.std.specs.Prelude.{◌≡◌, ℕ, ◌+◌, ◌<◌, ◌≤◌, ◌⊎◌, List, [], ◌∷◌, ◌++◌, length, Bool, true, false, Option, Result}
+use Rattle.std.specs.Prelude.{◌≡◌, ℕ, ◌+◌, ◌<◌, ◌≤◌, ◌⊎◌, List, [], ◌∷◌, ◌++◌, length, Bool, true, false, Option, None, Some, Result, Ok, Err}
 use Rattle.std.specs.List.{flat_map}
 use Rattle.std.specs.declared.io.Error.{Error}
-use Rattle.line_reader.specs.Lines.{IsLine, with_end}
+use Rattle.line_reader.specs.Lines.{IsLine, IsTrimmed, with_end}
 use Rattle.line_reader.specs.Lining.{Lining}
-use Rattle.line_reader.specs.NextLine.{LinesWent, NextAnswer, Trims}
+use Rattle.line_reader.specs.NextLine.{LinesWent, NextAnswer}
 use Rattle.line_reader.specs.Runs.{handed_line}
-use Rattle.line_reader.specs.SkipLine.{NextGoes, SkipsLine}
+use Rattle.line_reader.specs.SkipLine.{NextGoes, NextTrimmed, SkipsLine}
 
--- a call: `next` with its answer; `next_trimmed` with the answer before it is trimmed, and its own; `skip_line` with its own
-pub data Call : Type 0 where
-  Nexts : NextAnswer → Call
-  Trimmeds : NextAnswer → NextAnswer → Call
-  Skips : Result ℕ Error → Call
-
--- what calls come to: a line was handed out, a line was skipped, or the end of the stream was told
+-- what calls come to: `next` handed a line out; `next_trimmed` did, and showed this of it; a line was skipped; or the end of
+-- the stream was told
 pub data Event : Type 0 where
   Handed : List ℕ → Event
+  Trimmed : List ℕ → Event
   Skipped : List ℕ → Event
   Ended : Event
+
+-- the next event, if there is one, is the end of the stream; else the stream has ended, which no call has told yet
+abbrev pub EndNext : Bool → List Event → Type 0
+EndNext ended [] = ended ≡ true
+EndNext ended (Handed line ∷ events) = ⊥
+EndNext ended (Trimmed shown ∷ events) = ⊥
+EndNext ended (Skipped line ∷ events) = ⊥
+EndNext ended (Ended ∷ events) = Unit {0}
+
+-- these bytes begin with a line and its end, and then comes more
+abbrev pub WithEnd : List ℕ → List ℕ → List ℕ → Type 0
+WithEnd line bytes more = bytes ≡ with_end line ++ more
+
+-- they begin with a line without one, before an end of the stream
+abbrev pub WithoutEnd : Bool → List Event → List ℕ → List ℕ → List ℕ → Type 0
+WithoutEnd ended events line bytes more = (bytes ≡ line ++ more) × (0 < length line) × EndNext ended events
+
+-- these bytes, cut at the ends of lines, are the lines of the events, in order, and then the beginning of a line, of which
+-- the end hasn't come
+abbrev pub CutsInto : Bool → List Event → List ℕ → List ℕ → Type 0
+CutsInto ended [] after bytes = IsLine bytes × (bytes ≡ after)
+CutsInto ended (Handed line ∷ events) after bytes =
+    (more : List ℕ) × IsLine line × (WithEnd line bytes more ⊎ WithoutEnd ended events line bytes more)
+    × CutsInto ended events after more
+CutsInto ended (Trimmed shown ∷ events) after bytes =
+    (line : List ℕ) × (more : List ℕ) × IsLine line
+    × ((WithEnd line bytes more × IsTrimmed line shown) ⊎ (WithoutEnd ended events line bytes more × (shown ≡ line)))
+    × CutsInto ended events after more
+CutsInto ended (Skipped line ∷ events) after bytes =
+    (more : List ℕ) × IsLine line × (WithEnd line bytes more ⊎ WithoutEnd ended events line bytes more)
+    × CutsInto ended events after more
+CutsInto ended (Ended ∷ events) after bytes = CutsInto ended events after bytes
+
+-- what any calls do, one after another: what went of a line that was being skipped before them, and the bytes that they took,
+-- are the lines of these events, in order, and then what went of a line that is being skipped. An end of the stream that no
+-- call has told comes first
+pub record LinesAlong {S : Type 0} (remaining : S → Option (List ℕ)) (before : List ℕ) (s : Lining S)
+    (events : List Event) (after : List ℕ) (t : Lining S) : Type 0 where
+  pub bytes : List ℕ
+  pub went : LinesWent remaining s bytes t
+  pub cut : CutsInto t.ended events after (before ++ bytes)
+  pub closed : t.skipping ≡ false → after ≡ []
+  pub told : s.ended ≡ true → EndNext t.ended events
+
+-- what an answer of `next`, or of `next_trimmed`, comes to where no line is being skipped
+abbrev pub next_events : NextAnswer → List Event
+next_events (Ok (Some line)) = Handed line ∷ []
+next_events (Ok None) = Ended ∷ []
+next_events (Err e) = []
+
+abbrev pub trimmed_events : NextAnswer → List Event
+trimmed_events (Ok (Some shown)) = Trimmed shown ∷ []
+trimmed_events (Ok None) = Ended ∷ []
+trimmed_events (Err e) = []
+
+-- a call, with its answer
+pub data Call : Type 0 where
+  Nexts : NextAnswer → Call
+  NextsTrimmed : NextAnswer → Call
+  Skips : Result ℕ Error → Call
 
 -- calls, one after another
 abbrev pub CallGoes : {S : Type 0} → (S → Option (List ℕ)) → Lining S → Call → Lining S → Type 0
 CallGoes remaining s (Nexts answer) t = NextGoes remaining s answer t
-CallGoes remaining s (Trimmeds whole answer) t = NextGoes remaining s whole t × Trims whole answer t
+CallGoes remaining s (NextsTrimmed answer) t = NextTrimmed remaining s answer t
 CallGoes remaining s (Skips answer) t = SkipsLine remaining s answer t
 
 abbrev pub CallsGo : {S : Type 0} → (S → Option (List ℕ)) → Lining S → List Call → Lining S → Type 0
@@ -34,7 +90,7 @@ CallsGo {S} remaining s (call ∷ calls) t =
 -- the lines that they hand out
 abbrev pub call_lines : Call → List (List ℕ)
 call_lines (Nexts answer) = handed_line answer
-call_lines (Trimmeds whole answer) = handed_line whole
+call_lines (NextsTrimmed answer) = handed_line answer
 call_lines (Skips answer) = []
 
 abbrev pub lines_of_calls : List Call → List (List ℕ)
@@ -42,6 +98,7 @@ lines_of_calls calls = flat_map call_lines calls
 
 abbrev pub event_lines : Event → List (List ℕ)
 event_lines (Handed line) = line ∷ []
+event_lines (Trimmed shown) = shown ∷ []
 event_lines (Skipped line) = []
 event_lines Ended = []
 
@@ -52,36 +109,18 @@ lines_of_events events = flat_map event_lines events
 abbrev pub skipped_count : List Event → ℕ
 skipped_count [] = 0
 skipped_count (Handed line ∷ events) = skipped_count events
+skipped_count (Trimmed shown ∷ events) = skipped_count events
 skipped_count (Skipped line ∷ events) = 1 + skipped_count events
 skipped_count (Ended ∷ events) = skipped_count events
 
+abbrev pub call_asks : Call → ℕ
+call_asks (Nexts answer) = 0
+call_asks (NextsTrimmed answer) = 0
+call_asks (Skips answer) = 1
+
 abbrev pub skip_calls : List Call → ℕ
 skip_calls [] = 0
-skip_calls (Nexts answer ∷ calls) = skip_calls calls
-skip_calls (Trimmeds whole answer ∷ calls) = skip_calls calls
-skip_calls (Skips answer ∷ calls) = 1 + skip_calls calls
-
--- the next event, if there is one, is the end of the stream
-abbrev pub EndNext : List Event → Type 0
-EndNext [] = Unit {0}
-EndNext (Handed line ∷ events) = ⊥
-EndNext (Skipped line ∷ events) = ⊥
-EndNext (Ended ∷ events) = Unit {0}
-
--- these bytes begin with a line, and its end, or, before an end of the stream, without one; and then comes more
-abbrev pub BeginsWith : List ℕ → List Event → List ℕ → List ℕ → Type 0
-BeginsWith line events bytes more =
-    (bytes ≡ with_end line ++ more) ⊎ ((bytes ≡ line ++ more) × (0 < length line) × EndNext events)
-
--- these bytes, cut at the ends of lines, are the lines of the events, in order, and then the beginning of a line, of which
--- the end hasn't come
-abbrev pub CutsInto : List Event → List ℕ → List ℕ → Type 0
-CutsInto [] open' bytes = IsLine bytes × (bytes ≡ open')
-CutsInto (Handed line ∷ events) open' bytes =
-    (more : List ℕ) × IsLine line × BeginsWith line events bytes more × CutsInto events open' more
-CutsInto (Skipped line ∷ events) open' bytes =
-    (more : List ℕ) × IsLine line × BeginsWith line events bytes more × CutsInto events open' more
-CutsInto (Ended ∷ events) open' bytes = CutsInto events open' bytes
+skip_calls (call ∷ calls) = call_asks call + skip_calls calls
 
 -- a line that is being skipped counts for one
 abbrev pub pending : Bool → ℕ
@@ -89,17 +128,11 @@ pending true = 1
 pending false = 0
 
 -- what calls come to that hand out these lines and ask so often for a skip, behind so many bytes of a line that was being
--- skipped: those and the bytes that went are the lines that were handed out and those that were skipped, in order, and then
--- what went of a line that is being skipped. No more lines are skipped than it was asked for; and an end of the stream that
--- no call has told comes first
+-- skipped. No more lines are skipped than it was asked for
 pub record CallsWent {S : Type 0} (remaining : S → Option (List ℕ)) (before : List ℕ) (s : Lining S)
     (lines : List (List ℕ)) (asks : ℕ) (t : Lining S) : Type 0 where
   pub events : List Event
-  pub open' : List ℕ
-  pub bytes : List ℕ
-  pub went : LinesWent remaining s bytes t
-  pub cut : CutsInto events open' (before ++ bytes)
+  pub after : List ℕ
+  pub along : LinesAlong remaining before s events after t
   pub handed : lines_of_events events ≡ lines
-  pub closed : t.skipping ≡ false → open' ≡ []
   pub few : skipped_count events + pending t.skipping ≤ asks + pending s.skipping
-  pub told : s.ended ≡ true → EndNext events

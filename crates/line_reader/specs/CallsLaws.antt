@@ -1,275 +1,259 @@
--- Any calls hand out and skip whole lines of the stream.
-use Rattle.std.specs.Prelude.{◌≡◌, ℕ, ◌+◌, ◌<◌, ◌≤◌, ◌⊎◌, List, [], ◌∷◌, ◌++◌, length, true, false, MatchBool, Option, None, Some, Result, Ok, Err}
+-- Any calls hand out and skip whole lines of the stream: what they do joins, and what each of them does.
+use Rattle.std.specs.Prelude.{◌≡◌, ℕ, ◌<◌, List, [], ◌∷◌, ◌++◌, length, true, false, Bool, MatchBool, Option, None, Some, Result, Ok, Err}
 use Rattle.std.proofs.Common.{sym, ap, subst, ◌∙◌, arith, refl, inl, inr, append-nil, append_assoc, length-append}
 use Rattle.std.proofs.lemmas.List.Elements.{All-nil, All-append}
 use Rattle.std.specs.declared.io.Error.{Error}
 use Rattle.line_reader.specs.declared.error.LineError.TheVariants.{TooLong, Io}
-use Rattle.line_reader.specs.Calls.{Handed, Skipped, Ended, Nexts, Trimmeds, Skips, Call, CallsGo, CallsWent, CutsInto, EndNext, lines_of_calls, pending, skip_calls, skipped_count}
-use Rattle.line_reader.specs.Lines.{IsLine, newline, with_end}
-use Rattle.line_reader.specs.Lining.{Lining, IsLining, rest}
+use Rattle.line_reader.specs.Calls.{Handed, Trimmed, Skipped, Ended, Event, LinesAlong, CutsInto, EndNext, next_events, trimmed_events}
+use Rattle.line_reader.specs.Lines.{IsLine, IsTrimmed, newline, with_end}
+use Rattle.line_reader.specs.Lining.{Lining, rest}
 use Rattle.line_reader.specs.LinesWentLaws.{LinesWent-joins, LinesWent-none, LinesWent-unasked}
-use Rattle.line_reader.specs.NextLine.{LinesWent, NextAnswer, NextLine}
-use Rattle.line_reader.specs.Runs.{handed_line}
-use Rattle.line_reader.specs.SkipLine.{IsWithEnd, NextGoes, SkipsFirst, SkipsLine, SkipsStill}
+use Rattle.line_reader.specs.NextLine.{NextAnswer, NextLine, Trims}
+use Rattle.line_reader.specs.SkipLine.{IsWithEnd, SkipsLine}
 
 abbrev isnt_end : ℕ → Type 0
 isnt_end byte = ¬ (byte ≡ newline)
+
+pub no_line : IsLine []
+no_line = All-nil isnt_end
 
 nil_front : (a b : List ℕ) → a ++ b ≡ [] → a ≡ []
 nil_front [] b is = refl
 nil_front (x ∷ a) b is = cc
 
-module _ {S : Type 0} (remaining : S → Option (List ℕ)) (s m t : Lining S) (lines : List (List ℕ)) (asks : ℕ) where
-  -- a call of `next` where no line is being skipped, and what comes then
-  module _ (open_s : s.skipping ≡ false) (c : CallsWent remaining [] m lines asks t) where
-    few_on : m.skipping ≡ false → skipped_count c.events + pending t.skipping ≤ asks + pending s.skipping
-    few_on open_m = omega (arith, c.few, ap pending open_m, ap pending open_s)
+-- what is left of a line that is being skipped is the beginning of one
+pub CutsInto-after : (ended : Bool) (events : List Event) (after bytes : List ℕ) → CutsInto ended events after bytes
+    → IsLine after
+CutsInto-after ended [] after bytes (plain, same) = subst IsLine same plain
+CutsInto-after ended (Handed line ∷ events) after bytes (more, plain, begins, cut) =
+    CutsInto-after ended events after more cut
+CutsInto-after ended (Trimmed shown ∷ events) after bytes (line, more, plain, begins, cut) =
+    CutsInto-after ended events after more cut
+CutsInto-after ended (Skipped line ∷ events) after bytes (more, plain, begins, cut) =
+    CutsInto-after ended events after more cut
+CutsInto-after ended (Ended ∷ events) after bytes cut = CutsInto-after ended events after bytes cut
 
-    went_on : (answer : NextAnswer) (n : NextLine remaining s answer m) → LinesWent remaining s (n.bytes ++ c.bytes) t
-    went_on answer n = LinesWent-joins remaining s m t n.bytes c.bytes n.went c.went
+-- what is cut joins: an end of the stream that no event has told is told by the next
+module _ (was is : Bool) (later : List Event) (told : was ≡ true → EndNext is later) where
+  end_joins : (events : List Event) → EndNext was events → EndNext is (events ++ later)
+  end_joins [] ended = told ended
+  end_joins (Handed line ∷ events) ended = absurd ended
+  end_joins (Trimmed shown ∷ events) ended = absurd ended
+  end_joins (Skipped line ∷ events) ended = absurd ended
+  end_joins (Ended ∷ events) ended = tt
 
-    goes_on : (answer : NextAnswer) (n : NextLine remaining s answer m) → n.bytes ≡ [] → (s.ended ≡ true → EndNext c.events)
-        → handed_line answer ≡ [] → CallsWent remaining [] s lines asks t
-    goes_on answer n none told nothing = record {
-      events = c.events;
-      open' = c.open';
-      bytes = n.bytes ++ c.bytes;
-      went = went_on answer n;
-      cut = subst (λ l. CutsInto c.events c.open' (l ++ c.bytes)) (sym none) c.cut;
-      handed = c.handed;
-      closed = c.closed;
-      few = few_on n.open';
-      told = told;
-    }
+  module _ (mid after more : List ℕ) (then : CutsInto is later after (mid ++ more)) where
+    with_joins : (line bytes rest : List ℕ) → bytes ≡ with_end line ++ rest
+        → bytes ++ more ≡ with_end line ++ (rest ++ more)
+    with_joins line bytes rest is = ap (λ l. l ++ more) is ∙ append_assoc (with_end line) rest more
 
-    pub next_then : (answer : NextAnswer) → NextLine remaining s answer m
-        → CallsWent remaining [] s (handed_line answer ++ lines) asks t
-    next_then (Ok (Some line)) n = record {
-      events = Handed line ∷ c.events;
-      open' = c.open';
-      bytes = n.bytes ++ c.bytes;
-      went = went_on (Ok (Some line)) n;
-      cut = (
-        c.bytes,
-        n.answers.0,
-        elim n.answers.3 [
-          | inl (is, open_end, none) ↦ inl (ap (λ l. l ++ c.bytes) is)
-          | inr (is, some, none, ended, met) ↦ inr (ap (λ l. l ++ c.bytes) is, some, c.told ended)
-        ],
-        c.cut,
-      );
-      handed = ap (λ l. line ∷ l) c.handed;
-      closed = c.closed;
-      few = few_on n.open';
-      told = λ ended. (let odd : Ok (Some line) ≡ Ok None = n.told ended in cc);
-    }
-    next_then (Ok None) n = record {
-      events = Ended ∷ c.events;
-      open' = c.open';
-      bytes = n.bytes ++ c.bytes;
-      went = went_on (Ok None) n;
-      cut = subst (λ l. CutsInto c.events c.open' (l ++ c.bytes)) (sym n.answers.0) c.cut;
-      handed = c.handed;
-      closed = c.closed;
-      few = few_on n.open';
-      told = λ ended. tt;
-    }
-    next_then (Err (TooLong most)) n = goes_on (Err (TooLong most)) n n.answers.0
-        (λ ended. (let odd : Err (TooLong most) ≡ Ok None = n.told ended in cc)) refl
-    next_then (Err (Io e)) n = goes_on (Err (Io e)) n n.answers.0
-        (λ ended. (let odd : Err (Io e) ≡ Ok None = n.told ended in cc)) refl
+    without_joins : (events : List Event) (line bytes rest : List ℕ)
+        → (bytes ≡ line ++ rest) × (0 < length line) × EndNext was events
+        → (bytes ++ more ≡ line ++ (rest ++ more)) × (0 < length line) × EndNext is (events ++ later)
+    without_joins events line bytes rest (is, some, ended) =
+        (ap (λ l. l ++ more) is ∙ append_assoc line rest more, some, end_joins events ended)
 
-  -- a call of `skip_line`, or of `next` that goes on skipping, and what comes then
-  module _ (before : List ℕ) (plain : IsLine before) (closed : s.skipping ≡ false → before ≡ []) (whole : IsLining s) where
-    -- behind the end of the stream nothing is dropped
-    unasked : (answer : Result ℕ Error) (k : SkipsLine remaining s answer m) → s.ended ≡ true
-        → (k.drops.bytes ≡ []) × (m.reader.log ≡ s.reader.log)
-    unasked answer k ended =
-        let told : m.reader.log ≡ s.reader.log = elim k.drops.asked [
-          | inl same ↦ same
-          | inr over ↦ (let odd : true ≡ false = sym ended ∙ over.not_ended in cc)
-        ] in
-        let same = LinesWent-unasked remaining s m k.drops.bytes k.drops.went told ∙ whole.ended ended in
-        (nil_front k.drops.bytes (rest m) same, told)
+    cuts_join : (events : List Event) (bytes : List ℕ) → CutsInto was events mid bytes
+        → CutsInto is (events ++ later) after (bytes ++ more)
+    cuts_join [] bytes (plain, same) = subst (λ l. CutsInto is later after (l ++ more)) (sym same) then
+    cuts_join (Handed line ∷ events) bytes (rest, plain, inl whole, cut) =
+        (rest ++ more, plain, inl (with_joins line bytes rest whole), cuts_join events rest cut)
+    cuts_join (Handed line ∷ events) bytes (rest, plain, inr last, cut) =
+        (rest ++ more, plain, inr (without_joins events line bytes rest last), cuts_join events rest cut)
+    cuts_join (Trimmed shown ∷ events) bytes (line, rest, plain, inl (whole, trims), cut) =
+        (line, rest ++ more, plain, inl (with_joins line bytes rest whole, trims), cuts_join events rest cut)
+    cuts_join (Trimmed shown ∷ events) bytes (line, rest, plain, inr (last, same), cut) =
+        (line, rest ++ more, plain, inr (without_joins events line bytes rest last, same), cuts_join events rest cut)
+    cuts_join (Skipped line ∷ events) bytes (rest, plain, inl whole, cut) =
+        (rest ++ more, plain, inl (with_joins line bytes rest whole), cuts_join events rest cut)
+    cuts_join (Skipped line ∷ events) bytes (rest, plain, inr last, cut) =
+        (rest ++ more, plain, inr (without_joins events line bytes rest last), cuts_join events rest cut)
+    cuts_join (Ended ∷ events) bytes cut = cuts_join events bytes cut
 
-    -- the stream has ended before, so nothing was skipped
-    told_skip : (answer : Result ℕ Error) (k : SkipsLine remaining s answer m) (P : Type 0) → s.ended ≡ true
-        → 0 < length (before ++ k.drops.bytes) → P
-    told_skip answer k P ended some =
-        let open_s : s.skipping ≡ false = elim s.skipping as (λ b. b ≡ s.skipping → b ≡ false) [
-          | true ↦ λ is. (let odd : true ≡ false = sym ended ∙ whole.goes_on (sym is) in cc)
-          | false ↦ λ is. refl
-        ] refl in
-        absurd (omega (
-          arith,
-          some,
-          length-append before k.drops.bytes,
-          ap length (closed open_s),
-          ap length (unasked answer k ended).0,
-        ))
-
-    -- the skip came to the end of the line, or of the stream
-    module _ (count : ℕ) (k : SkipsLine remaining s (Ok count) m) (c : CallsWent remaining [] m lines asks t)
-        (asks' : ℕ) (more : 1 + asks ≤ asks' + pending s.skipping) where
-      went_skip : LinesWent remaining s (k.drops.bytes ++ c.bytes) t
-      went_skip = LinesWent-joins remaining s m t k.drops.bytes c.bytes k.drops.went c.went
-
-      few_skip : 1 + skipped_count c.events + pending t.skipping ≤ asks' + pending s.skipping
-      few_skip = omega (arith, c.few, more, ap pending k.skipping)
-
-      skip_whole : IsWithEnd k.drops.bytes → CallsWent remaining before s lines asks' t
-      skip_whole w =
-          let all : before ++ (k.drops.bytes ++ c.bytes) ≡ with_end (before ++ w.line) ++ c.bytes =
-          ap (λ l. before ++ (l ++ c.bytes)) w.equal
-          ∙ sym (append_assoc before (with_end w.line) c.bytes)
-          ∙ ap (λ l. l ++ c.bytes) (sym (append_assoc before w.line (newline ∷ []))) in
-          record {
-            events = Skipped (before ++ w.line) ∷ c.events;
-            open' = c.open';
-            bytes = k.drops.bytes ++ c.bytes;
-            went = went_skip;
-            cut = (c.bytes, All-append isnt_end before w.line plain w.plain, inl all, c.cut);
-            handed = c.handed;
-            closed = c.closed;
-            few = few_skip;
-            told = λ ended. told_skip (Ok count) k ⊥ ended (omega (
-              arith,
-              length-append before k.drops.bytes,
-              ap length w.equal,
-              length-append w.line (newline ∷ []),
-            ));
-          }
-
-      skip_last : IsLine k.drops.bytes → m.ended ≡ true → (all : List ℕ) → all ≡ before ++ k.drops.bytes
-          → CallsWent remaining before s lines asks' t
-      skip_last line ended [] is =
-          record {
-            events = c.events;
-            open' = c.open';
-            bytes = k.drops.bytes ++ c.bytes;
-            went = went_skip;
-            cut = subst (CutsInto c.events c.open')
-                (ap (λ l. l ++ c.bytes) is ∙ append_assoc before k.drops.bytes c.bytes) c.cut;
-            handed = c.handed;
-            closed = c.closed;
-            few = omega (arith, few_skip);
-            told = λ _. c.told ended;
-          }
-      skip_last line ended (byte ∷ all) is =
-          let some : 0 < length (before ++ k.drops.bytes) = omega (arith, ap length is) in
-          record {
-            events = Skipped (before ++ k.drops.bytes) ∷ c.events;
-            open' = c.open';
-            bytes = k.drops.bytes ++ c.bytes;
-            went = went_skip;
-            cut = (
-              c.bytes,
-              All-append isnt_end before k.drops.bytes plain line,
-              inr (sym (append_assoc before k.drops.bytes c.bytes), some, c.told ended),
-              c.cut,
-            );
-            handed = c.handed;
-            closed = c.closed;
-            few = few_skip;
-            told = λ over. told_skip (Ok count) k ⊥ over some;
-          }
-
-      pub skip_then : CallsWent remaining before s lines asks' t
-      skip_then = elim k.drops.answers.2 [
-        | inl (with_its, open_end, none) ↦ skip_whole with_its
-        | inr (line, none, ended, met) ↦ skip_last line ended (before ++ k.drops.bytes) refl
-      ]
-
-    -- the stream failed in the line
-    pub skip_fails : (e : Error) (k : SkipsLine remaining s (Err e) m)
-        → CallsWent remaining (before ++ k.drops.bytes) m lines asks t
-        → (asks' : ℕ) → 1 + asks ≤ asks' + pending s.skipping → CallsWent remaining before s lines asks' t
-    skip_fails e k c asks' more = record {
-      events = c.events;
-      open' = c.open';
-      bytes = k.drops.bytes ++ c.bytes;
-      went = LinesWent-joins remaining s m t k.drops.bytes c.bytes k.drops.went c.went;
-      cut = subst (CutsInto c.events c.open') (append_assoc before k.drops.bytes c.bytes) c.cut;
-      handed = c.handed;
-      closed = c.closed;
-      few = omega (arith, c.few, more, ap pending k.skipping);
-      told = λ ended.
-          let u = unasked (Err e) k ended in
-          elim k.drops.answers.4 [
-            | inl met ↦ absurd (omega (
-              arith,
-              ap length met,
-              ap (λ l. length l.reads.faults) u.1,
-              length-append s.reader.log.reads.faults (e ∷ []),
-            ))
-            | inr (fault, other, above) ↦ absurd (omega (arith, above, ap length u.0))
-          ];
-    }
-
--- what any calls come to
 module _ {S : Type 0} (remaining : S → Option (List ℕ)) where
-  abbrev Behind : Lining S → List Call → Lining S → Type 0
-  Behind s calls t = (before : List ℕ) → IsLine before → (s.skipping ≡ false → before ≡ []) → IsLining s
-      → CallsWent remaining before s (lines_of_calls calls) (skip_calls calls) t
-
-  -- one call of `next`, and what comes then
-  next_step : (s m t : Lining S) (calls : List Call) (answer : NextAnswer) → NextGoes remaining s answer m
-      → Behind m calls t → (before : List ℕ) → IsLine before → (s.skipping ≡ false → before ≡ []) → IsLining s
-      → CallsWent remaining before s (handed_line answer ++ lines_of_calls calls) (skip_calls calls) t
-  next_step s m t calls answer goes more before plain closed whole =
-      let lines = lines_of_calls calls in
-      let asks = skip_calls calls in
-      let Goal = CallsWent remaining before s (handed_line answer ++ lines) asks t in
-      elim s.skipping as (λ b. b ≡ s.skipping
-      → MatchBool b (SkipsFirst remaining s answer m ⊎ SkipsStill remaining s answer m) (NextLine remaining s answer m)
-      → Goal) [
-        | true ↦ λ is n.
-            let enough : 1 + asks ≤ asks + pending s.skipping = omega (arith, ap pending is) in
-            elim n [
-              | inl f ↦
-                  (let then = next_then remaining f.between m t lines asks f.skips.skipping
-                  (more [] (All-nil isnt_end) (λ _. refl) f.next.whole) answer f.next in
-                  skip_then remaining s f.between t (handed_line answer ++ lines) asks before plain closed whole
-                  f.count f.skips then asks enough)
-              | inr f ↦
-                  (let front = before ++ f.skips.drops.bytes in
-                  let c = more front (All-append isnt_end before f.skips.drops.bytes plain f.skips.drops.answers.0)
-                  (λ open_m. (let odd : true ≡ false = sym f.skips.skipping ∙ open_m in cc)) f.skips.drops.whole in
-                  subst (λ a. CallsWent remaining before s (handed_line a ++ lines) asks t) (sym f.answers)
-                  (skip_fails remaining s m t lines asks before plain closed whole f.error f.skips c asks enough))
-            ]
-        | false ↦ λ is n.
-            subst (λ l. CallsWent remaining l s (handed_line answer ++ lines) asks t) (sym (closed (sym is)))
-            (next_then remaining s m t lines asks (sym is) (more [] (All-nil isnt_end) (λ _. refl) n.whole) answer n)
-      ] refl goes
-
-  skip_step : (s m t : Lining S) (calls : List Call) (answer : Result ℕ Error) → SkipsLine remaining s answer m
-      → Behind m calls t → (before : List ℕ) → IsLine before → (s.skipping ≡ false → before ≡ []) → IsLining s
-      → CallsWent remaining before s (lines_of_calls calls) (1 + skip_calls calls) t
-  skip_step s m t calls (Ok count) k more before plain closed whole =
-      skip_then remaining s m t (lines_of_calls calls) (skip_calls calls) before plain closed whole count k
-      (more [] (All-nil isnt_end) (λ _. refl) k.drops.whole) (1 + skip_calls calls) (omega arith)
-  skip_step s m t calls (Err e) k more before plain closed whole =
-      let c = more (before ++ k.drops.bytes) (All-append isnt_end before k.drops.bytes plain k.drops.answers.0)
-      (λ open_m. (let odd : true ≡ false = sym k.skipping ∙ open_m in cc)) k.drops.whole in
-      skip_fails remaining s m t (lines_of_calls calls) (skip_calls calls) before plain closed whole e k c
-      (1 + skip_calls calls) (omega arith)
-
-  pub CallsGo-went : (s : Lining S) (calls : List Call) (t : Lining S) → CallsGo remaining s calls t → Behind s calls t
-  CallsGo-went s [] t same before plain closed whole = record {
-    events = [];
-    open' = before;
+  -- no call does nothing
+  pub LinesAlong-none : (s : Lining S) → LinesAlong remaining [] s [] [] s
+  LinesAlong-none s = record {
     bytes = [];
-    went = subst (LinesWent remaining s []) same (LinesWent-none remaining s);
-    cut = (subst IsLine (sym (append-nil before)) plain, append-nil before);
-    handed = refl;
-    closed = λ open_t. closed (ap (λ x. x.skipping) same ∙ open_t);
-    few = omega (arith, ap (λ x. pending x.skipping) same);
-    told = λ _. tt;
+    went = LinesWent-none remaining s;
+    cut = (no_line, refl);
+    closed = λ open'. refl;
+    told = λ ended. ended;
   }
-  CallsGo-went s (Nexts answer ∷ calls) t run before plain closed whole =
-      next_step s run.0 t calls answer run.1 (CallsGo-went run.0 calls t run.2) before plain closed whole
-  CallsGo-went s (Trimmeds answer shown ∷ calls) t run before plain closed whole =
-      next_step s run.0 t calls answer run.1.0 (CallsGo-went run.0 calls t run.2) before plain closed whole
-  CallsGo-went s (Skips answer ∷ calls) t run before plain closed whole =
-      skip_step s run.0 t calls answer run.1 (CallsGo-went run.0 calls t run.2) before plain closed whole
+
+  -- and calls join
+  pub LinesAlong-joins : (s m t : Lining S) (before mid after : List ℕ) (first later : List Event)
+      → LinesAlong remaining before s first mid m → LinesAlong remaining mid m later after t
+      → LinesAlong remaining before s (first ++ later) after t
+  LinesAlong-joins s m t before mid after first later p q = record {
+    bytes = p.bytes ++ q.bytes;
+    went = LinesWent-joins remaining s m t p.bytes q.bytes p.went q.went;
+    cut = subst (CutsInto t.ended (first ++ later) after) (append_assoc before p.bytes q.bytes)
+        (cuts_join m.ended t.ended later q.told mid after q.bytes q.cut first (before ++ p.bytes) p.cut);
+    closed = q.closed;
+    told = λ ended. end_joins m.ended t.ended later q.told first (p.told ended);
+  }
+
+-- a call of `next` where no line is being skipped
+module _ {S : Type 0} (remaining : S → Option (List ℕ)) (s t : Lining S) where
+  nothing : (answer : NextAnswer) (n : NextLine remaining s answer t) → n.bytes ≡ [] → ¬ (answer ≡ Ok None)
+      → LinesAlong remaining [] s [] [] t
+  nothing answer n none isnt = record {
+    bytes = n.bytes;
+    went = n.went;
+    cut = (subst IsLine (sym none) no_line, none);
+    closed = λ open'. refl;
+    told = λ ended. absurd (isnt (n.told ended));
+  }
+
+  pub NextLine-along : (answer : NextAnswer) → NextLine remaining s answer t
+      → LinesAlong remaining [] s (next_events answer) [] t
+  NextLine-along (Ok (Some line)) n = record {
+    bytes = n.bytes;
+    went = n.went;
+    cut = (
+      [],
+      n.answers.0,
+      elim n.answers.3 [
+        | inl (is, open', none) ↦ inl (is ∙ sym (append-nil (with_end line)))
+        | inr (is, some, none, ended, met) ↦ inr (is ∙ sym (append-nil line), some, ended)
+      ],
+      (no_line, refl),
+    );
+    closed = λ open'. refl;
+    told = λ ended. (let odd : Ok (Some line) ≡ Ok None = n.told ended in cc);
+  }
+  NextLine-along (Ok None) n = record {
+    bytes = n.bytes;
+    went = n.went;
+    cut = (subst IsLine (sym n.answers.0) no_line, n.answers.0);
+    closed = λ open'. refl;
+    told = λ ended. tt;
+  }
+  NextLine-along (Err (TooLong most)) n =
+      nothing (Err (TooLong most)) n n.answers.0 (λ is. (let odd : Err (TooLong most) ≡ Ok None = is in cc))
+  NextLine-along (Err (Io e)) n =
+      nothing (Err (Io e)) n n.answers.0 (λ is. (let odd : Err (Io e) ≡ Ok None = is in cc))
+
+  -- and of `next_trimmed`
+  pub Trims-along : (whole answer : NextAnswer) → NextLine remaining s whole t → Trims whole answer t
+      → LinesAlong remaining [] s (trimmed_events answer) [] t
+  Trims-along (Ok (Some line)) (Ok (Some shown)) n trims =
+      let Shows : Bool → Type 0 = λ b. MatchBool b (shown ≡ line) (IsTrimmed line shown) in
+      record {
+        bytes = n.bytes;
+        went = n.went;
+        cut = (
+          line,
+          [],
+          n.answers.0,
+          elim n.answers.3 [
+            | inl (is, open', none) ↦ inl (is ∙ sym (append-nil (with_end line)), subst Shows open' trims)
+            | inr (is, some, none, ended, met) ↦
+                inr ((is ∙ sym (append-nil line), some, ended), subst Shows ended trims)
+          ],
+          (no_line, refl),
+        );
+        closed = λ open'. refl;
+        told = λ ended. (let odd : Ok (Some line) ≡ Ok None = n.told ended in cc);
+      }
+  Trims-along (Ok (Some line)) (Ok None) n trims = absurd trims
+  Trims-along (Ok (Some line)) (Err e) n trims = absurd trims
+  Trims-along (Ok None) answer n trims =
+      subst (λ a. LinesAlong remaining [] s (trimmed_events a) [] t) (sym trims) (NextLine-along (Ok None) n)
+  Trims-along (Err e) answer n trims =
+      subst (λ a. LinesAlong remaining [] s (trimmed_events a) [] t) (sym trims) (NextLine-along (Err e) n)
+
+-- a call of `skip_line`, or the part of another call that goes on skipping, behind so many bytes of the line
+module _ {S : Type 0} (remaining : S → Option (List ℕ)) (s t : Lining S) (before : List ℕ) (plain : IsLine before)
+    (closed : s.skipping ≡ false → before ≡ []) (empty : s.ended ≡ true → (rest s ≡ []) × (s.skipping ≡ false)) where
+  -- behind the end of the stream nothing is dropped
+  unasked : (answer : Result ℕ Error) (k : SkipsLine remaining s answer t) → s.ended ≡ true
+      → (k.drops.bytes ≡ []) × (t.reader.log ≡ s.reader.log)
+  unasked answer k ended =
+      let told : t.reader.log ≡ s.reader.log = elim k.drops.asked [
+        | inl same ↦ same
+        | inr over ↦ (let odd : true ≡ false = sym ended ∙ over.not_ended in cc)
+      ] in
+      let same = LinesWent-unasked remaining s t k.drops.bytes k.drops.went told ∙ (empty ended).0 in
+      (nil_front k.drops.bytes (rest t) same, told)
+
+  -- the stream has ended before, so nothing was skipped
+  told_skip : (answer : Result ℕ Error) (k : SkipsLine remaining s answer t) → s.ended ≡ true
+      → ¬ (0 < length (before ++ k.drops.bytes))
+  told_skip answer k ended some = omega (
+    arith,
+    some,
+    length-append before k.drops.bytes,
+    ap length (closed (empty ended).1),
+    ap length (unasked answer k ended).0,
+  )
+
+  -- through the end of the line
+  pub skip_whole : (count : ℕ) (k : SkipsLine remaining s (Ok count) t) (w : IsWithEnd k.drops.bytes)
+      → LinesAlong remaining before s (Skipped (before ++ w.line) ∷ []) [] t
+  skip_whole count k w =
+      let all : before ++ k.drops.bytes ≡ with_end (before ++ w.line) ++ [] =
+      ap (λ l. before ++ l) w.equal ∙ sym (append_assoc before w.line (newline ∷ []))
+      ∙ sym (append-nil (with_end (before ++ w.line))) in
+      record {
+        bytes = k.drops.bytes;
+        went = k.drops.went;
+        cut = ([], All-append isnt_end before w.line plain w.plain, inl all, (no_line, refl));
+        closed = λ open'. refl;
+        told = λ ended. told_skip (Ok count) k ended (omega (
+          arith,
+          length-append before k.drops.bytes,
+          ap length w.equal,
+          length-append w.line (newline ∷ []),
+        ));
+      }
+
+  -- the last line, which has none
+  pub skip_last : (count : ℕ) (k : SkipsLine remaining s (Ok count) t) → IsLine k.drops.bytes → t.ended ≡ true
+      → 0 < length (before ++ k.drops.bytes)
+      → LinesAlong remaining before s (Skipped (before ++ k.drops.bytes) ∷ []) [] t
+  skip_last count k line ended some = record {
+    bytes = k.drops.bytes;
+    went = k.drops.went;
+    cut = (
+      [],
+      All-append isnt_end before k.drops.bytes plain line,
+      inr (sym (append-nil (before ++ k.drops.bytes)), some, ended),
+      (no_line, refl),
+    );
+    closed = λ open'. refl;
+    told = λ over. told_skip (Ok count) k over some;
+  }
+
+  -- nothing, at the end of the stream
+  pub skip_none : (count : ℕ) (k : SkipsLine remaining s (Ok count) t) → t.ended ≡ true → before ++ k.drops.bytes ≡ []
+      → LinesAlong remaining before s [] [] t
+  skip_none count k ended none = record {
+    bytes = k.drops.bytes;
+    went = k.drops.went;
+    cut = (subst IsLine (sym none) no_line, none);
+    closed = λ open'. refl;
+    told = λ over. ended;
+  }
+
+  -- the stream failed in the line
+  pub skip_fails : (e : Error) (k : SkipsLine remaining s (Err e) t)
+      → LinesAlong remaining before s [] (before ++ k.drops.bytes) t
+  skip_fails e k = record {
+    bytes = k.drops.bytes;
+    went = k.drops.went;
+    cut = (All-append isnt_end before k.drops.bytes plain k.drops.answers.0, refl);
+    closed = λ open'. (let odd : true ≡ false = sym k.skipping ∙ open' in cc);
+    told = λ ended.
+        let u = unasked (Err e) k ended in
+        elim k.drops.answers.4 [
+          | inl met ↦ absurd (omega (
+            arith,
+            ap length met,
+            ap (λ l. length l.reads.faults) u.1,
+            length-append s.reader.log.reads.faults (e ∷ []),
+          ))
+          | inr (fault, other, above) ↦ absurd (omega (arith, above, ap length u.0))
+        ];
+  }

@@ -12,7 +12,7 @@ use Rattle.line_reader.specs.LinesLaws.{too_long-append}
 use Rattle.line_reader.specs.Lining.{Lining, IsFresh, rest}
 use Rattle.line_reader.specs.LinesWentLaws.{drop_none}
 use Rattle.line_reader.specs.KnownLines.{HasLeft, NextKnown, ahead_of}
-use Rattle.line_reader.specs.NextLine.{MetEnd, NextAnswer, NextLine, empties}
+use Rattle.line_reader.specs.NextLine.{LinesWent, MetEnd, NextAnswer, NextLine, empties}
 use Rattle.line_reader.specs.NextLineLaws.{NextGoes-plain}
 use Rattle.line_reader.specs.SkipLine.{NextGoes}
 use Rattle.line_reader.specs.TextLaws.{Lines-first, Lines-fit, Lines-same, lines-last, lines-none}
@@ -37,15 +37,20 @@ dry_front None left' more ended is known was = cc
 dry_front (Some x) None more ended is known was = cc
 dry_front (Some x) (Some y) more ended is known was = (let same : y ≡ more = cc in sym same ∙ ended)
 
+-- where the bytes that weren't handed out are known, what went is a front of them, and the others are left
+pub LinesWent-front : {S : Type 0} (remaining : S → Option (List ℕ)) (s t : Lining S) (text bytes : List ℕ)
+    → ahead_of remaining s ≡ Some text → LinesWent remaining s bytes t
+    → (more : List ℕ) × (ahead_of remaining t ≡ Some more) × (text ≡ bytes ++ more)
+LinesWent-front remaining s t text bytes known went =
+    left_then (ahead_of remaining s) (ahead_of remaining t) text bytes known
+    (GivesRemaining-ahead (remaining s.reader.inner) (remaining t.reader.inner) s.reader.log.reads t.reader.log.reads
+    (rest s) (rest t) bytes went.hands.got went.known went.hands.given went.hands.equal)
+
 module _ {S : Type 0} (remaining : S → Option (List ℕ)) (s t : Lining S) (answer : NextAnswer)
     (next : NextLine remaining s answer t) (lines : List (List ℕ)) (has : HasLeft remaining s lines) where
   -- what is left now
   left : (more : List ℕ) × (ahead_of remaining t ≡ Some more) × (has.text ≡ next.bytes ++ more)
-  left =
-      let hands = next.went.hands in
-      left_then (ahead_of remaining s) (ahead_of remaining t) has.text next.bytes has.known
-      (GivesRemaining-ahead (remaining s.reader.inner) (remaining t.reader.inner) s.reader.log.reads t.reader.log.reads
-      (rest s) (rest t) next.bytes hands.got next.went.known hands.given hands.equal)
+  left = LinesWent-front remaining s t has.text next.bytes has.known next.went
 
   -- it is what is buffered, where the stream ended
   all_buffered : s.ended ≡ false → MetEnd s t → left.0 ≡ rest t
@@ -159,19 +164,23 @@ NextGoes-known remaining s t answer lines goes fit has =
     NextLine-known remaining s t answer lines (NextGoes-plain remaining s t answer has.open' goes) fit has
 
 -- what a fresh reader has left is what its stream has
+pub IsFresh-ahead : {S : Type 0} (remaining : S → Option (List ℕ)) (tells : S → StreamLog) (least greatest : ℕ)
+    (stream : S) (f : Lining S) (text : List ℕ) → IsFresh tells least greatest stream f → remaining stream ≡ Some text
+    → ahead_of remaining f ≡ Some text
+IsFresh-ahead remaining tells least greatest stream f text fresh known =
+    ap (λ l. prepend_known l (remaining f.reader.inner)) (drop_none f.handed f.reader.block.bytes fresh.empty)
+    ∙ ap (λ s. prepend_known [] (remaining s)) fresh.inner ∙ ap (prepend_known []) known
+
 pub IsFresh-left : {S : Type 0} (remaining : S → Option (List ℕ)) (tells : S → StreamLog) (least greatest : ℕ) (stream : S)
     (f : Lining S) (text : List ℕ) (lines : List (List ℕ)) → IsFresh tells least greatest stream f
     → remaining stream ≡ Some text → HasLines text lines → HasLeft remaining f lines
-IsFresh-left remaining tells least greatest stream f text lines fresh known has =
-    let none : rest f ≡ [] = drop_none f.handed f.reader.block.bytes fresh.empty in
-    record {
-      text = text;
-      known = ap (λ l. prepend_known l (remaining f.reader.inner)) none
-          ∙ ap (λ s. prepend_known [] (remaining s)) fresh.inner ∙ ap (prepend_known []) known;
-      has = has;
-      none = λ ended. (let odd : true ≡ false = sym ended ∙ fresh.ended in cc);
-      open' = fresh.open';
-    }
+IsFresh-left remaining tells least greatest stream f text lines fresh known has = record {
+  text = text;
+  known = IsFresh-ahead remaining tells least greatest stream f text fresh known;
+  has = has;
+  none = λ ended. (let odd : true ≡ false = sym ended ∙ fresh.ended in cc);
+  open' = fresh.open';
+}
 
 -- a line that fits is a line
 pub all_plain : (max : ℕ) (lines : List (List ℕ)) → All (FitsLine max) lines → All IsLine lines

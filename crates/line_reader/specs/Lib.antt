@@ -1,9 +1,11 @@
 pub mod Calls
 pub mod CallsLaws
+pub mod CallsWentLaws
 pub mod KnownLines
 pub mod KnownLinesLaws
 pub mod LineError
 pub mod Lines
+pub mod LinesAlongLaws
 pub mod LinesLaws
 pub mod LinesWentLaws
 pub mod Lining

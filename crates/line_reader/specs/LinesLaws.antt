@@ -1,8 +1,9 @@
 -- Laws of lines.
-use Rattle.std.specs.Prelude.{◌≡◌, ℕ, ◌+◌, ◌≤◌, List, [], ◌∷◌, ◌++◌, length, take}
-use Rattle.std.proofs.Common.{zero, suc, sym, ap, subst, ◌∙◌, arith, refl, length-append}
-use Rattle.std.proofs.lemmas.List.{take-append-le}
-use Rattle.std.proofs.lemmas.List.Elements.{All-head, All-tail}
+use Rattle.std.specs.Prelude.{◌≡◌, ℕ, ◌+◌, ◌≤◌, ◌==◌, ◌⊎◌, true, false, List, [], ◌∷◌, ◌++◌, length, take, drop}
+use Rattle.std.proofs.Common.{zero, suc, sym, ap, subst, ◌∙◌, arith, refl, inl, inr, length-append}
+use Rattle.std.proofs.lemmas.Bool.{eqb-true}
+use Rattle.std.proofs.lemmas.List.{take-append-drop, take-append-le}
+use Rattle.std.proofs.lemmas.List.Elements.{All-nil, All-cons, All-head, All-tail}
 use Rattle.line_reader.specs.Lines.{newline, BeginsTooLong, IsLine}
 
 abbrev isnt_end : ℕ → Type 0
@@ -48,3 +49,32 @@ too_long-append max bytes more long = record {
   above = omega (arith, long.above, length-append bytes more);
   plain = subst IsLine (sym (take-append-le (1 + max) bytes more (omega (arith, long.above)))) long.plain;
 }
+
+-- the front of what has no end has none
+pub front_plain : (front more : List ℕ) → IsLine (front ++ more) → IsLine front
+front_plain [] more plain = All-nil isnt_end
+front_plain (byte ∷ front) more plain =
+    All-cons isnt_end byte front (All-head isnt_end byte (front ++ more) plain)
+    (front_plain front more (All-tail isnt_end byte (front ++ more) plain))
+
+pub take_plain : (count : ℕ) (line : List ℕ) → IsLine line → IsLine (take count line)
+take_plain count line plain =
+    front_plain (take count line) (drop count line) (subst IsLine (sym (take-append-drop count line)) plain)
+
+-- there is an end among bytes, or none
+pub line_or_end : (bytes : List ℕ)
+    → IsLine bytes ⊎ ((line : List ℕ) × (more : List ℕ) × IsLine line × (bytes ≡ line ++ newline ∷ more))
+line_or_end [] = inl (All-nil isnt_end)
+line_or_end (byte ∷ bytes) =
+    elim (byte == newline) as (λ b. b ≡ (byte == newline) → IsLine (byte ∷ bytes)
+    ⊎ ((line : List ℕ) × (more : List ℕ) × IsLine line × (byte ∷ bytes ≡ line ++ newline ∷ more))) [
+      | true ↦ λ is. inr ([], bytes, All-nil isnt_end, ap (λ x. x ∷ bytes) (eqb-true byte newline (sym is)))
+      | false ↦ λ is.
+          let other : isnt_end byte =
+          λ same. (let odd : false ≡ true = is ∙ ap (λ x. x == newline) same in cc) in
+          elim (line_or_end bytes) [
+            | inl plain ↦ inl (All-cons isnt_end byte bytes other plain)
+            | inr (line, more, plain, equal) ↦
+                inr (byte ∷ line, more, All-cons isnt_end byte line other plain, ap (λ l. byte ∷ l) equal)
+          ]
+    ] refl

@@ -1,11 +1,11 @@
 -- What contracts see of a reader of lines.
-use Rattle.std.specs.Prelude.{◌≡◌, ℕ, ◌+◌, ◌*◌, ◌≤◌, List, [], drop, take, length, max, Bool, true, false}
+use Rattle.std.specs.Prelude.{◌≡◌, ℕ, ◌+◌, ◌*◌, ◌≤◌, ◌⊎◌, List, [], drop, take, length, max, Bool, true, false}
 use Rattle.buffer_redux.specs.Block.{Block, IsBlock, Plain, usable}
 use Rattle.buffer_redux.specs.Buffered.{Buffered, with_inner}
 use Rattle.buffer_redux.specs.Potential.{potential}
 use Rattle.buffer_redux.specs.StreamLog.{StreamLog}
 use Rattle.buffer_redux.specs.declared.policy.MinBuffered.{MinBuffered}
-use Rattle.line_reader.specs.Lines.{IsLine}
+use Rattle.line_reader.specs.Lines.{BeginsTooLong, BeginsWhole, IsLine}
 
 -- the buffered reader; the greatest length of a line; how many of the first bytes that are buffered were handed out; how
 -- many behind them were searched, and hold no end of a line; whether the stream ended, which no call has told yet; and
@@ -70,3 +70,9 @@ pub record IsFresh {S : Type 0} (tells : S → StreamLog) (least greatest : ℕ)
 -- with this stream inside
 abbrev pub with_stream : {S : Type 0} → (S → StreamLog) → Lining S → S → Lining S
 with_stream tells f stream = record f { reader = with_inner tells f.reader stream }
+
+-- the next call answers without the stream: a whole line stands there, or one that is too long, or the stream has ended, which
+-- no call has told yet
+pub record HasLine {S : Type 0} (f : Lining S) : Type 0 where
+  pub open' : f.skipping ≡ false
+  pub has : (f.ended ≡ true) ⊎ BeginsWhole f.max (rest f) ⊎ BeginsTooLong f.max (rest f)

@@ -89,8 +89,8 @@ NextAnswers s (Err (TooLong n)) bytes t =
 NextAnswers s (Err (Io e)) bytes t =
     (bytes ≡ []) × IsUnended s.max (rest t) × Faulted s e t × (t.ended ≡ false) × NoEnd s t
 
--- what one call of `next` does where no line is being skipped. The stream is asked only where no whole line is buffered, nor the beginning of one that
--- is too long; and an end that no call has told yet is told
+-- what one call of `next` does where no line is being skipped. The stream is asked only where no whole line is buffered, nor
+-- the beginning of one that is too long; and an end that no call has told yet is told
 pub record NextLine {S : Type 0} (remaining : S → Option (List ℕ)) (s : Lining S)
     (answer : NextAnswer) (t : Lining S) : Type 0 where
   pub bytes : List ℕ

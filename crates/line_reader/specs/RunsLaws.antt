@@ -49,7 +49,8 @@ module _ {S : Type 0} (remaining : S → Option (List ℕ)) where
   end_follows m (Ok None ∷ answers) t ended open' run = tt
   end_follows m (Ok (Some line) ∷ answers) t ended open' run =
       let odd : Ok (Some line) ≡ Ok None = (NextGoes-plain remaining m run.0 (Ok (Some line)) open' run.1).told ended in cc
-  end_follows m (Err e ∷ answers) t ended open' run = (let odd : Err e ≡ Ok None = (NextGoes-plain remaining m run.0 (Err e) open' run.1).told ended in cc)
+  end_follows m (Err e ∷ answers) t ended open' run =
+      let odd : Err e ≡ Ok None = (NextGoes-plain remaining m run.0 (Err e) open' run.1).told ended in cc
 
   no_bytes : (s m : Lining S) (e : LineError) (bytes : List ℕ) → NextAnswers s (Err e) bytes m → bytes ≡ []
   no_bytes s m (TooLong n) bytes (is, max, long, fault, ended, met) = is
@@ -68,8 +69,8 @@ module _ {S : Type 0} (remaining : S → Option (List ℕ)) where
   cut_off s m t (Err e) answers bytes more given open' run cut =
       subst (Cuts answers) (ap (λ l. l ++ more) (sym (no_bytes s m e bytes given))) cut
 
-  pub NextRuns-went : (s : Lining S) (answers : List NextAnswer) (t : Lining S) → s.skipping ≡ false → NextRuns remaining s answers t
-      → RunWent remaining s answers t
+  pub NextRuns-went : (s : Lining S) (answers : List NextAnswer) (t : Lining S) → s.skipping ≡ false
+      → NextRuns remaining s answers t → RunWent remaining s answers t
   NextRuns-went s [] t open' e =
       record { bytes = []; cut = refl; went = subst (LinesWent remaining s []) e (LinesWent-none remaining s) }
   NextRuns-went s (answer ∷ answers) t open' run =

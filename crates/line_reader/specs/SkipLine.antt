@@ -26,6 +26,10 @@ abbrev pub SkipFails : {S : Type 0} → Lining S → List ℕ → Error → Lini
 SkipFails s bytes e t =
     Faulted s e t ⊎ (NoFault s t × (error_kind e ≡ Other) × (2 ^ 63 < length bytes))
 
+-- why a call failed: this error is the one fault that the stream met; or more than 2^63 bytes of a line were dropped
+abbrev pub LineFails : {S : Type 0} → Lining S → Error → Lining S → Type 0
+LineFails s e t = Faulted s e t ⊎ (NoFault s t × (error_kind e ≡ Other))
+
 -- what each answer means, by the bytes that were dropped and what is left
 abbrev pub SkipAnswers : {S : Type 0} → Lining S → Result ℕ Error → List ℕ → Lining S → Type 0
 SkipAnswers s (Ok n) bytes t = (n ≡ length bytes) × NoFault s t × IsSkipped s bytes t

@@ -1,13 +1,14 @@
 //! Laws, each as the contract of a function over the calls.
-ghost use Rattle.std.specs.Prelude.{◌≡◌, ℕ, List, [], ◌∷◌, ◌++◌, None, Ok};
+ghost use Rattle.std.specs.Prelude.{◌≡◌, ℕ, List, [], ◌∷◌, ◌++◌, ◌⊎◌, true, None, Ok, Result};
 ghost use Rattle.std.specs.List.{All};
+ghost use Rattle.std.specs.declared.io.Error.{Error};
 ghost use Rattle.buffer_redux.specs.Sparing.{MovedAtMostGiven};
 ghost use Rattle.line_reader.specs.Calls.{Call, CallsGo, CallsWent, lines_of_calls, skip_calls};
 ghost use Rattle.line_reader.specs.KnownLines.{HasLeft, NextKnown};
-ghost use Rattle.line_reader.specs.Lines.{FitsLine, HasLines};
-ghost use Rattle.line_reader.specs.Lining.{Lining, IsFresh, IsLining, rest};
+ghost use Rattle.line_reader.specs.Lines.{FitsLine, HasLines, IsLine};
+ghost use Rattle.line_reader.specs.Lining.{HasLine, Lining, IsFresh, IsLining, rest};
 ghost use Rattle.line_reader.specs.NextLine.{LinesWent, NextAnswer};
-ghost use Rattle.line_reader.specs.SkipLine.{NextGoes};
+ghost use Rattle.line_reader.specs.SkipLine.{NextGoes, NextTrimmed, SkipsLine};
 ghost use Rattle.line_reader.specs.Runs.{Cuts, NoneTold, all_handed};
 
 mod lists;
@@ -16,7 +17,7 @@ mod runs;
 use crate::reader::LineReader;
 use buffer_redux::tell::TellRead;
 pub use lists::{read_each, round_trip, write_each};
-pub use runs::play_next;
+pub use runs::{next_copied, play_next};
 
 /// A text is cut into lines in one way.
 pub fn one_reading()
@@ -42,6 +43,17 @@ pub fn whole_lines<R: TellRead>(reader: &LineReader<R>)
     ensures went { (least greatest : ℕ) (stream : R) (first : Lining R) (calls : List Call)
         → IsFresh R.log least greatest stream first → IsLining first → CallsGo R.remaining first calls reader.now
         → CallsWent R.remaining [] first (lines_of_calls calls) (skip_calls calls) reader.now }
+{}
+
+/// Where `has_line` is true a call of `next` or `next_trimmed` asks nobody, and so does one of `skip_line` where an end of a
+/// line is buffered, or the stream ended, which no call has told.
+pub fn asks_nobody<R: TellRead>(reader: &LineReader<R>)
+    ensures next { (s : Lining R) (answer : NextAnswer) → HasLine s → NextGoes R.remaining s answer reader.now
+        → reader.now.reader.log ≡ s.reader.log }
+    ensures trimmed { (s : Lining R) (answer : NextAnswer) → HasLine s → NextTrimmed R.remaining s answer reader.now
+        → reader.now.reader.log ≡ s.reader.log }
+    ensures skips { (s : Lining R) (answer : Result ℕ Error) → (s.ended ≡ true) ⊎ (¬ (IsLine (rest s)))
+        → SkipsLine R.remaining s answer reader.now → reader.now.reader.log ≡ s.reader.log }
 {}
 
 /// What a run of calls handed out, up to the one that told the end, is a text, and the lines that were handed out are its

@@ -12,6 +12,8 @@ mod laws;
 #[cfg(test)]
 mod lines;
 #[cfg(test)]
+mod skipping;
+#[cfg(test)]
 mod sweep;
 #[cfg(test)]
 mod texts;

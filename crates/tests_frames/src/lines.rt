@@ -69,7 +69,8 @@ static SKIPPED: [Row<'static>; 3] = [
     ),
 ];
 
-type Lines = LineReader<Source>;
+/// A reader of lines over a stream that answers as it is told.
+pub type Lines = LineReader<Source>;
 
 // A reader over the usual buffer, or one of at least this capacity. Neither it nor any call below promises anything.
 fn reader<R: TellRead + Drop>(
@@ -95,15 +96,15 @@ pub fn lines_over(
     Ok(reader(alloc, capacity, max, source(alloc, bytes, script)?)?)
 }
 
-fn next<R: TellRead>(lines: &mut LineReader<R>) -> Result<Option<&[u8]>, LineError> {
+pub fn next<R: TellRead>(lines: &mut LineReader<R>) -> Result<Option<&[u8]>, LineError> {
     lines.next()
 }
 
-fn next_trimmed<R: TellRead>(lines: &mut LineReader<R>) -> Result<Option<&[u8]>, LineError> {
+pub fn next_trimmed<R: TellRead>(lines: &mut LineReader<R>) -> Result<Option<&[u8]>, LineError> {
     lines.next_trimmed()
 }
 
-fn skip_line<R: TellRead>(lines: &mut LineReader<R>) -> Result<u64, ErrorKind> {
+pub fn skip_line<R: TellRead>(lines: &mut LineReader<R>) -> Result<u64, ErrorKind> {
     kind(lines.skip_line())
 }
 
@@ -111,7 +112,7 @@ fn rest<R: TellRead>(lines: &LineReader<R>) -> &[u8] {
     lines.rest()
 }
 
-fn asked(lines: &Lines) -> &[usize] {
+pub fn asked(lines: &Lines) -> &[usize] {
     lines.get_ref().get_ref().offers()
 }
 
@@ -232,67 +233,6 @@ const TERMINAL: [Answer; 4] = [
 #[test]
 fn reads_as_the_stream_gives(rt: HostRuntime) -> Result<(), Fail> {
     assert!(rt; are_so(rt.alloc(), &SCRIPTED)?);
-    Ok(())
-}
-
-// What is to be handed out of it where no line may have more than three bytes, and those that have are skipped.
-const LONG: &[u8] = b"ab\nabcdefghijklmnop\ncd\nabcd\n\nabcdefghij";
-
-// This fault so many times, behind so many calls that give so many bytes at most.
-fn late(
-    alloc: Global,
-    most: usize,
-    before: usize,
-    times: usize,
-) -> Result<Vec<Answer>, AllocError> {
-    let mut script = Vec::from_slice(alloc, &[Answer::ServeEach(most)])?;
-    script.resize(before.saturating_add(1), Answer::Serve(most))?;
-    script.resize(
-        before.saturating_add(1).saturating_add(times),
-        Answer::Fail(ErrorKind::Interrupted),
-    )?;
-    Ok(script)
-}
-
-// Whether just the other lines are handed out, where each that is too long is skipped by one call, whatever comes of that,
-// and a fault is left to the next call.
-fn goes_on(alloc: Global, script: &[Answer], trims: bool) -> io::Result<bool> {
-    let mut lines = lines_over(alloc, Some(0), 3, LONG, script)?;
-    let mut left: &[&[u8]] = &[b"ab", b"cd", b""];
-    for _ in 0..100 {
-        let answer = if trims {
-            next_trimmed(&mut lines)
-        } else {
-            next(&mut lines)
-        };
-        match answer {
-            Ok(Some(line)) => match left {
-                [first, more @ ..] if *first == line => left = more,
-                _ => return Ok(false),
-            },
-            Ok(None) => return Ok(left.is_empty()),
-            Err(LineError::TooLong(_)) => {
-                let _ = skip_line(&mut lines);
-            }
-            Err(LineError::Io(_)) => {}
-        }
-    }
-    Ok(false)
-}
-
-// A line that is being skipped when the stream fails is skipped to its end.
-#[test]
-fn goes_on_skipping(rt: HostRuntime) -> Result<(), Fail> {
-    for most in PIECES {
-        for before in 0..60 {
-            for times in 0..4 {
-                let script = late(rt.alloc(), most, before, times)?;
-                let plain = goes_on(rt.alloc(), script.as_slice(), false)?;
-                let trimmed = goes_on(rt.alloc(), script.as_slice(), true)?;
-                assert!(rt; plain && trimmed, "by {most} bytes behind {before} calls");
-            }
-        }
-    }
     Ok(())
 }
 

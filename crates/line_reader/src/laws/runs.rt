@@ -30,8 +30,8 @@ pub fn play_next<R: TellRead>(
     Ok(())
 }
 
-// One call of `next`, with the line copied. An `Err` is refused memory: the call was made, and its line is lost.
-pub(crate) fn next_copied<R: TellRead>(
+/// One call of `next`, with the line copied. An `Err` is refused memory: the call was made, and its line is lost.
+pub fn next_copied<R: TellRead>(
     alloc: Global,
     reader: &mut LineReader<R>,
 ) -> Result<Result<Option<Vec<u8>>, LineError>, AllocError>

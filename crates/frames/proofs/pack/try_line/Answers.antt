@@ -14,7 +14,8 @@ returns-in_err-write_frame-in-Ok-Some-clause-packs g c =
     rw (p.1, p.2)
     (not_written remaining g.W.TellWrite.stretch g.met.W.TellWrite.stretch_none s t c.args.target.now c.in-Ok-Some.line.now
     (subst (λ r. NextLine remaining s (answer_of r) t) (c.in-Ok-Some.is ∙ ap (λ x. Ok x) c.in-Ok-Some.field-0-is)
-    (NextGoes-plain remaining s t (answer_of c.next.result) c.requires.open c.next.follows.holds-at-none)) c.write_frame.new.self c.requires.most _ c.in_err-write_frame-in-Ok-Some.ensures)
+    (NextGoes-plain remaining s t (answer_of c.next.result) c.requires.open c.next.follows.holds-at-none))
+    c.write_frame.new.self c.requires.most _ c.in_err-write_frame-in-Ok-Some.ensures)
 
 pub returns-in_ok-write_frame-in-Ok-Some-clause-packs : goal.returns-in_ok-write_frame-in-Ok-Some-clause-packs
 returns-in_ok-write_frame-in-Ok-Some-clause-packs g c =
@@ -23,7 +24,8 @@ returns-in_ok-write_frame-in-Ok-Some-clause-packs g c =
     let t = c.next.follows.lender-at-none in
     written remaining g.W.TellWrite.stretch g.met.W.TellWrite.stretch_none s t c.args.target.now c.in-Ok-Some.line.now
     (subst (λ r. NextLine remaining s (answer_of r) t) (c.in-Ok-Some.is ∙ ap (λ x. Ok x) c.in-Ok-Some.field-0-is)
-    (NextGoes-plain remaining s t (answer_of c.next.result) c.requires.open c.next.follows.holds-at-none)) c.write_frame.new.self c.in_ok-write_frame-in-Ok-Some.ensures
+    (NextGoes-plain remaining s t (answer_of c.next.result) c.requires.open c.next.follows.holds-at-none))
+    c.write_frame.new.self c.in_ok-write_frame-in-Ok-Some.ensures
 
 pub returns-in-Ok-None-clause-packs : goal.returns-in-Ok-None-clause-packs
 returns-in-Ok-None-clause-packs g c =

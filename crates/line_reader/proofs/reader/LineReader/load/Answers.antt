@@ -18,7 +18,8 @@ returns-in-Some-clause-next g c =
     let head = Head-told remaining (IsUnended m.max) m m [] (Head-none remaining (IsUnended m.max) m) v []
     d.went d.told d.ended d.skipping in
     let next = takes_loaded remaining m v t c.in-Some.len head k.skipping d.handed c.in-Some.ensures.found in
-    goes_first remaining s t _ (sym (ap (λ x. x.skipping) c.self.view_is) ∙ c.if-not-self.false) (record { count = c.in_ok-skip_line.field-0; between = m; skips = k; next = next })
+    goes_first remaining s t _ (sym (ap (λ x. x.skipping) c.self.view_is) ∙ c.if-not-self.false)
+    (record { count = c.in_ok-skip_line.field-0; between = m; skips = k; next = next })
 
 pub returns-in-None-clause-next : goal.returns-in-None-clause-next
 returns-in-None-clause-next g c =
@@ -32,4 +33,5 @@ returns-in-None-clause-next g c =
     let k = c.in_ok-skip_line.ensures in
     let next = next_dropped remaining m v t d.went d.rest d.told d.ended _
     (next_searched remaining v u t _ c.in-None.ensures.none c.load_line-in-None.ensures.next) in
-    goes_first remaining s t _ (sym (ap (λ x. x.skipping) c.self.view_is) ∙ c.if-not-self.false) (record { count = c.in_ok-skip_line.field-0; between = m; skips = k; next = next })
+    goes_first remaining s t _ (sym (ap (λ x. x.skipping) c.self.view_is) ∙ c.if-not-self.false)
+    (record { count = c.in_ok-skip_line.field-0; between = m; skips = k; next = next })

@@ -35,7 +35,8 @@ returns-in-Some-clause-next g c =
     let asked : AsksOnce remaining m (Ok true) t =
     subst (λ b. AsksOnce remaining m (Ok b) t) c.if-not-branch.false c.in_ok-read_more.ensures in
     takes_loaded remaining c.args.self.now t c.take_buffered.new.self c.in-Some.len
-    (loads_more remaining c.args.self.now m c.turns.invariant c.requires.open (omega (arith, few)) t asked) c.requires.open asked.handed c.in-Some.ensures.found
+    (loads_more remaining c.args.self.now m c.turns.invariant c.requires.open (omega (arith, few)) t asked)
+    c.requires.open asked.handed c.in-Some.ensures.found
 
 pub turns-preserved : goal.turns-preserved
 turns-preserved g c =
@@ -46,4 +47,5 @@ turns-preserved g c =
     let asked : AsksOnce remaining m (Ok true) t =
     subst (λ b. AsksOnce remaining m (Ok b) t) c.if-not-branch.false c.in_ok-read_more.ensures in
     searched_on remaining c.args.self.now t c.take_buffered.new.self
-    (loads_more remaining c.args.self.now m c.turns.invariant c.requires.open (omega (arith, few)) t asked) asked.handed c.in_default.ensures.none
+    (loads_more remaining c.args.self.now m c.turns.invariant c.requires.open (omega (arith, few)) t asked)
+    asked.handed c.in_default.ensures.none

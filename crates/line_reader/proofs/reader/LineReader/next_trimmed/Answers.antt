@@ -26,7 +26,8 @@ returns-in-Some g c =
         refl,
         (λ _. tt),
         trims_line remaining s t _ c.shown.result.now
-            (goes_plain remaining s t _ open' (subst (λ l. NextLine remaining s (Ok (Some l)) t) (sym line) next)) c.shown.ensures.last c.shown.ensures.trimmed,
+            (goes_plain remaining s t _ open' (subst (λ l. NextLine remaining s (Ok (Some l)) t) (sym line) next))
+            c.shown.ensures.last c.shown.ensures.trimmed,
       ),
       record { after_borrow = tt },
     )

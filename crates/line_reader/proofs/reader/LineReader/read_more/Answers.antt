@@ -21,8 +21,8 @@ invariant_of-self g c =
       ap (λ x. x.max) c.self.view_is,
       ap length (rest_whole m handed),
     ) in
-    filled_whole g.R.TellRead.remaining m c.self.invariant handed fits c.if-self.false (ap (λ x. x.skipping) c.self.view_is ∙ c.requires.open) _ number _ _
-    c.fill_buf.follows.holds-at-none
+    filled_whole g.R.TellRead.remaining m c.self.invariant handed fits c.if-self.false
+    (ap (λ x. x.skipping) c.self.view_is ∙ c.requires.open) _ number _ _ c.fill_buf.follows.holds-at-none
 
 pub returns-in_err-fill_buf : goal.returns-in_err-fill_buf
 returns-in_err-fill_buf g c =
@@ -51,7 +51,8 @@ returns-in_err-fill_buf g c =
     } in
     let p = err_from_is_err_and c.from_residual.result c.from_residual.ensures.1 in
     rw (p.1, p.2) (subst (λ x. AsksOnce remaining x (Err c.in_err-fill_buf.field-0.0) t) c.self.view_is
-    (AsksOnce-err remaining m c.self.invariant handed fits c.if-self.false (ap (λ x. x.skipping) c.self.view_is ∙ c.requires.open) _ number _ _ f))
+    (AsksOnce-err remaining m c.self.invariant handed fits c.if-self.false
+    (ap (λ x. x.skipping) c.self.view_is ∙ c.requires.open) _ number _ _ f))
 
 pub returns : goal.returns
 returns g c =
@@ -79,8 +80,8 @@ returns g c =
       skipping = i.skipping;
     } in
     subst (λ x. AsksOnce remaining x (Ok (nat_lt c.buf_len-have.result (length c.in_ok-fill_buf.field-0.now))) t) c.self.view_is
-    (AsksOnce-ok remaining m c.self.invariant handed fits c.if-self.false (ap (λ x. x.skipping) c.self.view_is ∙ c.requires.open) _ number _ _ f
-    _ (λ more. omega (
+    (AsksOnce-ok remaining m c.self.invariant handed fits c.if-self.false
+    (ap (λ x. x.skipping) c.self.view_is ∙ c.requires.open) _ number _ _ f _ (λ more. omega (
       arith,
       ltb-true c.buf_len-have.result (length c.in_ok-fill_buf.field-0.now) more,
       c.buf_len-have.ensures.value,

@@ -1,0 +1,209 @@
+-- What any calls come to, whatever they answer.
+use Rattle.std.specs.Prelude.{◌≡◌, ℕ, ◌+◌, ◌≤◌, ◌⊎◌, List, [], ◌∷◌, ◌++◌, length, true, false, MatchBool, Option, None, Some, Ok, Err}
+use Rattle.std.proofs.Common.{sym, ap, subst, ◌∙◌, arith, refl, inl, inr, append-nil}
+use Rattle.std.proofs.lemmas.List.Concat.{flat_map-append}
+use Rattle.std.specs.declared.io.Error.{Error}
+use Rattle.line_reader.specs.declared.error.LineError.TheVariants.{Io}
+use Rattle.line_reader.specs.Calls.{Handed, Trimmed, Skipped, Ended, Nexts, NextsTrimmed, Skips, Call, CallGoes, CallsGo, CallsWent, Event, call_asks, call_lines, event_lines, lines_of_calls, lines_of_events, next_events, pending, skip_calls, skipped_count, trimmed_events}
+use Rattle.line_reader.specs.CallsLaws.{CutsInto-after, LinesAlong-joins, NextLine-along, Trims-along, skip_fails, skip_last, skip_none, skip_whole}
+use Rattle.line_reader.specs.Lines.{IsLine}
+use Rattle.line_reader.specs.Lining.{Lining, IsLining, rest}
+use Rattle.line_reader.specs.LinesWentLaws.{LinesWent-none}
+use Rattle.line_reader.specs.NextLine.{NextAnswer, NextLine, Trims}
+use Rattle.line_reader.specs.Runs.{handed_line}
+use Rattle.line_reader.specs.SkipLine.{NextGoes, SkipsFirst, SkipsLine, SkipsStill}
+
+-- lines that were skipped are counted in any part
+skipped_append : (first later : List Event) → skipped_count (first ++ later) ≡ skipped_count first + skipped_count later
+skipped_append [] later = omega arith
+skipped_append (Handed line ∷ first) later = skipped_append first later
+skipped_append (Trimmed shown ∷ first) later = skipped_append first later
+skipped_append (Skipped line ∷ first) later = omega (arith, skipped_append first later)
+skipped_append (Ended ∷ first) later = skipped_append first later
+
+next_lines : (answer : NextAnswer) → (lines_of_events (next_events answer) ≡ handed_line answer)
+    × (skipped_count (next_events answer) ≡ 0)
+next_lines (Ok (Some line)) = (refl, refl)
+next_lines (Ok None) = (refl, refl)
+next_lines (Err e) = (refl, refl)
+
+trimmed_lines : (answer : NextAnswer) → (lines_of_events (trimmed_events answer) ≡ handed_line answer)
+    × (skipped_count (trimmed_events answer) ≡ 0)
+trimmed_lines (Ok (Some shown)) = (refl, refl)
+trimmed_lines (Ok None) = (refl, refl)
+trimmed_lines (Err e) = (refl, refl)
+
+-- where the stream has ended nothing is left, and no line is being skipped
+pub ended_empty : {S : Type 0} (s : Lining S) → IsLining s → s.ended ≡ true → (rest s ≡ []) × (s.skipping ≡ false)
+ended_empty s whole ended = (
+  whole.ended ended,
+  elim s.skipping as (λ b. b ≡ s.skipping → b ≡ false) [
+    | true ↦ λ is. (let odd : true ≡ false = sym ended ∙ whole.goes_on (sym is) in cc)
+    | false ↦ λ is. refl
+  ] refl,
+)
+
+module _ {S : Type 0} (remaining : S → Option (List ℕ)) where
+  CallsWent-none : (s : Lining S) (before : List ℕ) → IsLine before → (s.skipping ≡ false → before ≡ [])
+      → CallsWent remaining before s [] 0 s
+  CallsWent-none s before plain closed = record {
+    events = [];
+    after = before;
+    along = record {
+      bytes = [];
+      went = LinesWent-none remaining s;
+      cut = (subst IsLine (sym (append-nil before)) plain, append-nil before);
+      closed = closed;
+      told = λ ended. ended;
+    };
+    handed = refl;
+    few = omega arith;
+  }
+
+  CallsWent-joins : (s m t : Lining S) (before : List ℕ) (lines later : List (List ℕ)) (asks more : ℕ)
+      (c : CallsWent remaining before s lines asks m) → CallsWent remaining c.after m later more t
+      → CallsWent remaining before s (lines ++ later) (asks + more) t
+  CallsWent-joins s m t before lines later asks more c d = record {
+    events = c.events ++ d.events;
+    after = d.after;
+    along = LinesAlong-joins remaining s m t before c.after d.after c.events d.events c.along d.along;
+    handed =
+        flat_map-append event_lines c.events d.events ∙ ap (λ l. l ++ lines_of_events d.events) c.handed
+        ∙ ap (λ l. lines ++ l) d.handed;
+    few = omega (arith, c.few, d.few, skipped_append c.events d.events);
+  }
+
+  -- one call of `next`, or of `next_trimmed`, where no line is being skipped
+  next_plain : (s t : Lining S) (answer : NextAnswer) → NextLine remaining s answer t
+      → CallsWent remaining [] s (handed_line answer) 0 t
+  next_plain s t answer n = record {
+    events = next_events answer;
+    after = [];
+    along = NextLine-along remaining s t answer n;
+    handed = (next_lines answer).0;
+    few = omega (arith, (next_lines answer).1, ap pending n.open');
+  }
+
+  trimmed_plain : (s t : Lining S) (whole answer : NextAnswer) → NextLine remaining s whole t → Trims whole answer t
+      → CallsWent remaining [] s (handed_line answer) 0 t
+  trimmed_plain s t whole answer n trims = record {
+    events = trimmed_events answer;
+    after = [];
+    along = Trims-along remaining s t whole answer n trims;
+    handed = (trimmed_lines answer).0;
+    few = omega (arith, (trimmed_lines answer).1, ap pending n.open');
+  }
+
+  module _ (s t : Lining S) (before : List ℕ) (plain : IsLine before) (closed : s.skipping ≡ false → before ≡ [])
+      (whole : IsLining s) where
+    -- a skip that ends, and one that fails
+    skip_ends : (count : ℕ) (k : SkipsLine remaining s (Ok count) t) (asks : ℕ) → 1 ≤ asks + pending s.skipping
+        → CallsWent remaining before s [] asks t
+    skip_ends count k asks enough = elim k.drops.answers.2 [
+      | inl (w, going, met) ↦ record {
+        events = Skipped (before ++ w.line) ∷ [];
+        after = [];
+        along = skip_whole remaining s t before plain closed (ended_empty s whole) count k w;
+        handed = refl;
+        few = omega (arith, enough, ap pending k.skipping);
+      }
+      | inr (line, none, ended, met) ↦ last line ended (before ++ k.drops.bytes) refl
+    ]
+      where
+        last : IsLine k.drops.bytes → t.ended ≡ true → (all : List ℕ) → all ≡ before ++ k.drops.bytes
+            → CallsWent remaining before s [] asks t
+        last line ended [] is = record {
+          events = [];
+          after = [];
+          along = skip_none remaining s t before plain closed (ended_empty s whole) count k ended (sym is);
+          handed = refl;
+          few = omega (arith, ap pending k.skipping);
+        }
+        last line ended (byte ∷ all) is = record {
+          events = Skipped (before ++ k.drops.bytes) ∷ [];
+          after = [];
+          along = skip_last remaining s t before plain closed (ended_empty s whole) count k line ended
+              (omega (arith, ap length is));
+          handed = refl;
+          few = omega (arith, enough, ap pending k.skipping);
+        }
+
+    skip_failed : (e : Error) (k : SkipsLine remaining s (Err e) t) (asks : ℕ) → 1 ≤ asks + pending s.skipping
+        → CallsWent remaining before s [] asks t
+    skip_failed e k asks enough = record {
+      events = [];
+      after = before ++ k.drops.bytes;
+      along = skip_fails remaining s t before plain closed (ended_empty s whole) e k;
+      handed = refl;
+      few = omega (arith, enough, ap pending k.skipping);
+    }
+
+  -- a call that goes on skipping first
+  skips_first : (s t : Lining S) (before : List ℕ) → IsLine before → (s.skipping ≡ false → before ≡ []) → IsLining s
+      → (answer : NextAnswer) (lines : List (List ℕ))
+      → ((m : Lining S) → NextLine remaining m answer t → CallsWent remaining [] m lines 0 t)
+      → ((e : Error) → answer ≡ Err (Io e) → lines ≡ []) → NextGoes remaining s answer t
+      → CallsWent remaining before s lines 0 t
+  skips_first s t before plain closed whole answer lines then still goes =
+      let Goal = CallsWent remaining before s lines 0 t in
+      elim s.skipping as (λ b. b ≡ s.skipping
+      → MatchBool b (SkipsFirst remaining s answer t ⊎ SkipsStill remaining s answer t) (NextLine remaining s answer t)
+      → Goal) [
+        | true ↦ λ is n.
+            let enough : 1 ≤ 0 + pending s.skipping = omega (arith, ap pending is) in
+            elim n [
+              | inl f ↦
+                  (let first = skip_ends s f.between before plain closed whole f.count f.skips 0 enough in
+                  CallsWent-joins s f.between t before [] lines 0 0 first
+                  (subst (λ l. CallsWent remaining l f.between lines 0 t) (sym (first.along.closed f.skips.skipping))
+                  (then f.between f.next)))
+              | inr f ↦
+                  subst (λ l. CallsWent remaining before s l 0 t) (sym (still f.error f.answers))
+                  (skip_failed s t before plain closed whole f.error f.skips 0 enough)
+            ]
+        | false ↦ λ is n.
+            subst (λ l. CallsWent remaining l s lines 0 t) (sym (closed (sym is))) (then s n)
+      ] refl goes
+
+  -- one call
+  pub CallGoes-went : (s : Lining S) (call : Call) (t : Lining S) → CallGoes remaining s call t → (before : List ℕ)
+      → IsLine before → (s.skipping ≡ false → before ≡ []) → IsLining s
+      → CallsWent remaining before s (call_lines call) (call_asks call) t
+  CallGoes-went s (Nexts answer) t goes before plain closed whole =
+      skips_first s t before plain closed whole answer (handed_line answer) (λ m n. next_plain m t answer n)
+      (λ e is. ap handed_line is) goes
+  CallGoes-went s (NextsTrimmed answer) t n before plain closed whole =
+      skips_first s t before plain closed whole n.whole (handed_line answer)
+      (λ m line. trimmed_plain m t n.whole answer line n.trims)
+      (λ e is. ap handed_line (subst (λ w. Trims w answer t) is n.trims)) n.next
+  CallGoes-went s (Skips (Ok count)) t k before plain closed whole =
+      skip_ends s t before plain closed whole count k 1 (omega arith)
+  CallGoes-went s (Skips (Err e)) t k before plain closed whole =
+      skip_failed s t before plain closed whole e k 1 (omega arith)
+
+  goes_whole : (s t : Lining S) (answer : NextAnswer) → NextGoes remaining s answer t → IsLining t
+  goes_whole s t answer goes =
+      elim s.skipping as (λ b.
+      MatchBool b (SkipsFirst remaining s answer t ⊎ SkipsStill remaining s answer t) (NextLine remaining s answer t)
+      → IsLining t) [
+        | true ↦ λ n. elim n [ inl f ↦ f.next.whole | inr f ↦ f.skips.drops.whole ]
+        | false ↦ λ n. n.whole
+      ] goes
+
+  call_whole : (s : Lining S) (call : Call) (t : Lining S) → CallGoes remaining s call t → IsLining t
+  call_whole s (Nexts answer) t goes = goes_whole s t answer goes
+  call_whole s (NextsTrimmed answer) t n = goes_whole s t n.whole n.next
+  call_whole s (Skips answer) t k = k.drops.whole
+
+  -- and any
+  pub CallsGo-went : (s : Lining S) (calls : List Call) (t : Lining S) → CallsGo remaining s calls t → (before : List ℕ)
+      → IsLine before → (s.skipping ≡ false → before ≡ []) → IsLining s
+      → CallsWent remaining before s (lines_of_calls calls) (skip_calls calls) t
+  CallsGo-went s [] t same before plain closed whole =
+      subst (CallsWent remaining before s [] 0) same (CallsWent-none s before plain closed)
+  CallsGo-went s (call ∷ calls) t (m, goes, run) before plain closed whole =
+      let first = CallGoes-went s call m goes before plain closed whole in
+      CallsWent-joins s m t before (call_lines call) (lines_of_calls calls) (call_asks call) (skip_calls calls) first
+      (CallsGo-went m calls t run first.after
+      (CutsInto-after m.ended first.events first.after (before ++ first.along.bytes) first.along.cut) first.along.closed
+      (call_whole s call m goes))
