@@ -46,25 +46,31 @@ LinesWent-front remaining s t text bytes known went =
     (GivesRemaining-ahead (remaining s.reader.inner) (remaining t.reader.inner) s.reader.log.reads t.reader.log.reads
     (rest s) (rest t) bytes went.hands.got went.known went.hands.given went.hands.equal)
 
+-- those are just what is buffered, where the stream ended
+pub all_buffered : {S : Type 0} (remaining : S → Option (List ℕ)) (s t : Lining S) (text bytes : List ℕ)
+    (known : ahead_of remaining s ≡ Some text) (went : LinesWent remaining s bytes t) → s.ended ≡ false → MetEnd s t
+    → (LinesWent-front remaining s t text bytes known went).0 ≡ rest t
+all_buffered remaining s t text bytes known went not_ended met =
+    let P : Bool → Type 0 =
+    λ b. MatchBool b (empties t.reader ≡ empties s.reader) (empties t.reader ≡ empties s.reader + 1) in
+    let once : empties t.reader ≡ empties s.reader + 1 = subst P not_ended met in
+    let left = LinesWent-front remaining s t text bytes known went in
+    let before = front_of (rest s) (remaining s.reader.inner) text known in
+    let after = front_of (rest t) (remaining t.reader.inner) left.0 left.1 in
+    after.2 ∙ ap (λ l. rest t ++ l) (dry_front (remaining s.reader.inner) (remaining t.reader.inner) after.0
+    (went.known.dry (omega (arith, once))) after.1 before.0 before.1) ∙ append-nil (rest t)
+
 module _ {S : Type 0} (remaining : S → Option (List ℕ)) (s t : Lining S) (answer : NextAnswer)
     (next : NextLine remaining s answer t) (lines : List (List ℕ)) (has : HasLeft remaining s lines) where
   -- what is left now
-  left : (more : List ℕ) × (ahead_of remaining t ≡ Some more) × (has.text ≡ next.bytes ++ more)
+  abbrev left : (more : List ℕ) × (ahead_of remaining t ≡ Some more) × (has.text ≡ next.bytes ++ more)
   left = LinesWent-front remaining s t has.text next.bytes has.known next.went
 
-  -- it is what is buffered, where the stream ended
-  all_buffered : s.ended ≡ false → MetEnd s t → left.0 ≡ rest t
-  all_buffered not_ended met =
-      let P : Bool → Type 0 =
-      λ b. MatchBool b (empties t.reader ≡ empties s.reader) (empties t.reader ≡ empties s.reader + 1) in
-      let once : empties t.reader ≡ empties s.reader + 1 = subst P not_ended met in
-      let before = front_of (rest s) (remaining s.reader.inner) has.text has.known in
-      let after = front_of (rest t) (remaining t.reader.inner) left.0 left.1 in
-      after.2 ∙ ap (λ l. rest t ++ l) (dry_front (remaining s.reader.inner) (remaining t.reader.inner) after.0
-      (next.went.known.dry (omega (arith, once))) after.1 before.0 before.1) ∙ append-nil (rest t)
+  buffered_left : s.ended ≡ false → MetEnd s t → left.0 ≡ rest t
+  buffered_left = all_buffered remaining s t has.text next.bytes has.known next.went
 
   -- nothing was handed out
-  same_left : next.bytes ≡ [] → t.ended ≡ false → HasLeft remaining t lines
+  pub same_left : next.bytes ≡ [] → t.ended ≡ false → HasLeft remaining t lines
   same_left none open' = record {
     text = has.text;
     known = left.1 ∙ ap (λ l. Some l) (sym (left.2 ∙ ap (λ l. l ++ left.0) none));
@@ -74,7 +80,7 @@ module _ {S : Type 0} (remaining : S → Option (List ℕ)) (s t : Lining S) (an
   }
 
   -- a line and its end were
-  first_of : (found : List ℕ) → IsLine found → next.bytes ≡ with_end found → t.ended ≡ false
+  pub first_of : (found : List ℕ) → IsLine found → next.bytes ≡ with_end found → t.ended ≡ false
       → (later : List (List ℕ)) × (lines ≡ found ∷ later) × HasLeft remaining t later
   first_of found plain is open' =
       let front : has.text ≡ found ++ newline ∷ left.0 =
@@ -92,24 +98,24 @@ module _ {S : Type 0} (remaining : S → Option (List ℕ)) (s t : Lining S) (an
       )
 
   -- the last one was, which has none
-  last_of : (found : List ℕ) → IsLine found → next.bytes ≡ found → 0 < length found → rest t ≡ [] → s.ended ≡ false
+  pub last_of : (found : List ℕ) → IsLine found → next.bytes ≡ found → 0 < length found → rest t ≡ [] → s.ended ≡ false
       → MetEnd s t → (lines ≡ found ∷ []) × HasLeft remaining t []
   last_of found plain is some none not_ended met =
-      let nothing : left.0 ≡ [] = all_buffered not_ended met ∙ none in
+      let nothing : left.0 ≡ [] = buffered_left not_ended met ∙ none in
       let all : has.text ≡ found = left.2 ∙ ap (λ l. l ++ left.0) is ∙ ap (λ l. found ++ l) nothing ∙ append-nil found in (
         Lines-same found lines (found ∷ []) (subst (λ l. HasLines l lines) all has.has) (lines-last found plain some),
         record { text = []; known = left.1 ∙ ap (λ l. Some l) nothing; has = lines-none; none = λ _. refl; open' = next.open' },
       )
 
   -- none was, at the end
-  none_of : next.bytes ≡ [] → rest t ≡ [] → t.ended ≡ false → MetEnd s t → (lines ≡ []) × HasLeft remaining t []
+  pub none_of : next.bytes ≡ [] → rest t ≡ [] → t.ended ≡ false → MetEnd s t → (lines ≡ []) × HasLeft remaining t []
   none_of is none open' met = elim s.ended as (λ b. b ≡ s.ended → (lines ≡ []) × HasLeft remaining t []) [
     | true ↦ λ ended. (
       has.none (sym ended),
       subst (HasLeft remaining t) (has.none (sym ended)) (same_left is open'),
     )
     | false ↦ λ not_ended.
-        let all : has.text ≡ [] = left.2 ∙ ap (λ l. l ++ left.0) is ∙ all_buffered (sym not_ended) met ∙ none in
+        let all : has.text ≡ [] = left.2 ∙ ap (λ l. l ++ left.0) is ∙ buffered_left (sym not_ended) met ∙ none in
         let no_line = Lines-same [] lines [] (subst (λ l. HasLines l lines) all has.has) lines-none in
         (no_line, subst (HasLeft remaining t) no_line (same_left is open'))
   ] refl
@@ -123,7 +129,7 @@ module _ {S : Type 0} (remaining : S → Option (List ℕ)) (s t : Lining S) (an
       (subst (BeginsTooLong s.max) (sym front) (too_long-append s.max (rest t) after.0 long))
 
 module _ {S : Type 0} (remaining : S → Option (List ℕ)) (s t : Lining S) where
-  open_of : (found : List ℕ) → NextLine remaining s (Ok (Some found)) t → s.ended ≡ false
+  pub open_of : (found : List ℕ) → NextLine remaining s (Ok (Some found)) t → s.ended ≡ false
   open_of found next = elim s.ended as (λ b. b ≡ s.ended → b ≡ false) [
     | true ↦ λ ended. (let odd : Ok (Some found) ≡ Ok None = next.told (sym ended) in cc)
     | false ↦ λ not_ended. refl

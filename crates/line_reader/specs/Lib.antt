@@ -1,6 +1,8 @@
 pub mod Calls
 pub mod CallsLaws
 pub mod CallsWentLaws
+pub mod KnownCalls
+pub mod KnownCallsLaws
 pub mod KnownLines
 pub mod KnownLinesLaws
 pub mod LineError

@@ -20,6 +20,16 @@ lines-last (byte ∷ line) plain some = record {
   plain = All-cons IsLine (byte ∷ line) [] plain (All-nil IsLine);
 }
 
+-- a text of no line is nothing
+pub Lines-none : (text : List ℕ) → HasLines text [] → text ≡ []
+Lines-none text has = none has.whole has.last has.bytes has.all
+  where
+    none : (whole : List (List ℕ)) (last : List ℕ) → text ≡ with_ends whole ++ last → [] ≡ whole ++ last_line last
+        → text ≡ []
+    none [] [] is all = is
+    none [] (byte ∷ last) is all = cc
+    none (line ∷ whole) last is all = cc
+
 -- one line more in front
 pub lines-ended : (line text : List ℕ) (lines : List (List ℕ)) → IsLine line → HasLines text lines
     → HasLines (with_end line ++ text) (line ∷ lines)

@@ -1,9 +1,10 @@
 //! Laws, each as the contract of a function over the calls.
-ghost use Rattle.std.specs.Prelude.{◌≡◌, ℕ, List, [], ◌∷◌, ◌++◌, ◌⊎◌, true, None, Ok, Result};
+ghost use Rattle.std.specs.Prelude.{◌≡◌, ℕ, List, [], ◌∷◌, ◌++◌, ◌⊎◌, true, None, Some, Ok, Result};
 ghost use Rattle.std.specs.List.{All};
 ghost use Rattle.std.specs.declared.io.Error.{Error};
 ghost use Rattle.buffer_redux.specs.Sparing.{MovedAtMostGiven};
 ghost use Rattle.line_reader.specs.Calls.{Call, CallsGo, CallsWent, lines_of_calls, skip_calls};
+ghost use Rattle.line_reader.specs.KnownCalls.{LeavesBehind, TookFront};
 ghost use Rattle.line_reader.specs.KnownLines.{HasLeft, NextKnown};
 ghost use Rattle.line_reader.specs.Lines.{FitsLine, HasLines, IsLine};
 ghost use Rattle.line_reader.specs.Lining.{HasLine, Lining, IsFresh, IsLining, rest};
@@ -43,6 +44,17 @@ pub fn whole_lines<R: TellRead>(reader: &LineReader<R>)
     ensures went { (least greatest : ℕ) (stream : R) (first : Lining R) (calls : List Call)
         → IsFresh R.log least greatest stream first → IsLining first → CallsGo R.remaining first calls reader.now
         → CallsWent R.remaining [] first (lines_of_calls calls) (skip_calls calls) reader.now }
+{}
+
+/// Any calls of the three over a stream of which the lines are known, whatever they answered: what they handed out and skipped
+/// are the first of these lines, whole and in order, and the others are left; an end is told behind the last alone.
+pub fn known_lines<R: TellRead>(reader: &LineReader<R>)
+    ensures took { (s : Lining R) (before : List ℕ) (lines : List (List ℕ)) (calls : List Call)
+        → LeavesBehind R.remaining before s lines → CallsGo R.remaining s calls reader.now
+        → TookFront R.remaining lines (lines_of_calls calls) reader.now }
+    ensures fresh { (least greatest : ℕ) (stream : R) (first : Lining R) (text : List ℕ) (lines : List (List ℕ))
+        → IsFresh R.log least greatest stream first → R.remaining stream ≡ Some text → HasLines text lines
+        → LeavesBehind R.remaining [] first lines }
 {}
 
 /// Where `has_line` is true a call of `next` or `next_trimmed` asks nobody, and so does one of `skip_line` where an end of a
