@@ -1,0 +1,129 @@
+-- What a call of a reader of pieces has done so far, turn by turn.
+use Rattle.std.proofs.Common.{◌≡◌, ℕ, ◌+◌, ◌<◌, List, [], ◌++◌, length, Bool, true, false, refl, sym, ap, subst, ◌∙◌, arith, inl, inr, append_assoc, length-append, Option, Result, Ok}
+use Rattle.std.specs.Prelude.{MatchBool}
+use Rattle.std.specs.declared.io.Error.{Error}
+use Rattle.codec.specs.Grammar.{Grammar, IsOpen, Lacks}
+use Rattle.codec.specs.GrammarLaws.{open_with}
+use Rattle.codec.specs.NextPiece.{AsksGive, PiecesWent, AskedWhere, NoFault, NoEnd, MetEnd, empties}
+use Rattle.codec.specs.PiecesWentLaws.{PiecesWent-none, PiecesWent-joins}
+use Rattle.codec.specs.Piecing.{Piecing, IsPiecing, rest}
+use Rattle.codec.specs.Steps.{AsksFor}
+
+-- so far nothing was handed out, and no fault and no end was met; the stream was asked only where what was there settled
+-- nothing, and each time it gave a byte
+pub record Head {S D W : Type 0} (remaining : S → Option (List ℕ)) (g : Grammar W) (s m : Piecing S D) : Type 0 where
+  pub went : PiecesWent remaining g.most s [] m
+  pub ended : m.ended ≡ s.ended
+  pub faults : NoFault s m
+  pub no_end : NoEnd s m
+  pub asks : AsksGive s m
+  pub asked : AskedWhere (IsOpen g) s m
+
+-- where the log stays as it is, so does what it was asked over
+pub AskedWhere-told : {S D : Type 0} (Such : List ℕ → Type 0) (s m t : Piecing S D) → t.reader.log ≡ m.reader.log
+    → AskedWhere Such s m → AskedWhere Such s t
+AskedWhere-told Such s m t told (inl same) = inl (told ∙ same)
+AskedWhere-told Such s m t told (inr over) = inr (record {
+  not_ended = over.not_ended;
+  came = over.came;
+  last = over.last;
+  given = ap (λ l. l.reads.given) told ∙ over.given;
+  such = over.such;
+  asks = omega (arith, over.asks, ap (λ l. l.reads.asks) told);
+})
+
+-- where something is left the stream hasn't ended
+pub open_ended : {S D W : Type 0} (g : Grammar W) (f : Piecing S D) → IsPiecing g f → 0 < length (rest f) → f.ended ≡ false
+open_ended g f whole some = elim f.ended as (λ b. b ≡ f.ended → b ≡ false) [
+  | true ↦ λ is. absurd (omega (arith, some, ap length (whole.ended (sym is))))
+  | false ↦ λ is. refl
+] refl
+
+module _ {S D W : Type 0} (remaining : S → Option (List ℕ)) (g : Grammar W) (s : Piecing S D) where
+  -- nothing was done yet
+  pub Head-none : Head remaining g s s
+  Head-none = record {
+    went = PiecesWent-none remaining g.most s;
+    ended = refl;
+    faults = refl;
+    no_end = refl;
+    asks = omega arith;
+    asked = inl refl;
+  }
+
+  module _ (m : Piecing S D) (h : Head remaining g s m) where
+    -- what was left, then what came, is what is left
+    pub came : rest m ≡ rest s ++ h.went.hands.got
+    came = h.went.hands.equal
+
+    -- then nothing was read, and nothing was handed out
+    pub Head-told : (t : Piecing S D) → PiecesWent remaining g.most m [] t → t.reader.log ≡ m.reader.log
+        → t.ended ≡ m.ended → Head remaining g s t
+    Head-told t went told ended = record {
+      went = PiecesWent-joins remaining g.most s m t [] [] h.went went;
+      ended = ended ∙ h.ended;
+      faults = ap (λ l. l.reads.faults) told ∙ h.faults;
+      no_end = ap (λ l. l.reads.zero_reads) told ∙ h.no_end;
+      asks = omega (arith, h.asks, ap (λ l. l.reads.asks) told, ap (λ l. length l.reads.given) told);
+      asked = AskedWhere-told (IsOpen g) s m t told h.asked;
+    }
+
+    -- then the stream was asked until so many bytes are there
+    module _ (n : ℕ) (lacks : Lacks g n (rest m)) (answer : Result Bool Error) (t : Piecing S D)
+        (a : AsksFor remaining g n m answer t) where
+      pub went_on : PiecesWent remaining g.most s [] t
+      went_on = PiecesWent-joins remaining g.most s m t [] [] h.went a.went
+
+      pub asked_on : AskedWhere (IsOpen g) s t
+      asked_on = elim a.asked [
+        | inl same ↦ AskedWhere-told (IsOpen g) s m t same h.asked
+        | inr over ↦ inr (record {
+          not_ended = sym h.ended ∙ over.not_ended;
+          came = h.went.hands.got ++ over.came;
+          last = over.last;
+          given = over.given ∙ ap (λ l. l ++ (over.came ++ over.last)) h.went.hands.given
+              ∙ append_assoc s.reader.log.reads.given h.went.hands.got (over.came ++ over.last)
+              ∙ ap (λ l. s.reader.log.reads.given ++ l) (sym (append_assoc h.went.hands.got over.came over.last));
+          such = open_with g n (rest m) over.came (rest s ++ (h.went.hands.got ++ over.came))
+              (sym (append_assoc (rest s) h.went.hands.got over.came) ∙ ap (λ l. l ++ over.came) (sym came))
+              (omega (
+                arith,
+                over.such,
+                ap (λ l. length (l ++ over.came)) came,
+                ap length (append_assoc (rest s) h.went.hands.got over.came),
+              )) lacks;
+          asks = omega (
+            arith,
+            h.asks,
+            over.asks,
+            ap length h.went.hands.given,
+            length-append s.reader.log.reads.given h.went.hands.got,
+            length-append h.went.hands.got over.came,
+          );
+        })
+      ]
+
+      -- what is there still settles nothing
+      pub still_open : length (rest t) < n → IsOpen g (rest t)
+      still_open few = open_with g n (rest m) a.went.hands.got (rest t) a.went.hands.equal few lacks
+
+    pub Head-more : (n : ℕ) → Lacks g n (rest m) → (t : Piecing S D) → AsksFor remaining g n m (Ok true) t
+        → Head remaining g s t
+    Head-more n lacks t a = record {
+      went = went_on n lacks (Ok true) t a;
+      ended = a.ended ∙ h.ended;
+      faults = (a.more refl).2 ∙ h.faults;
+      no_end = (a.more refl).1 ∙ h.no_end;
+      asks = omega (arith, h.asks, (a.more refl).3);
+      asked = asked_on n lacks (Ok true) t a;
+    }
+
+    pub MetEnd-on : (t : Piecing S D) → MetEnd m t → MetEnd s t
+    MetEnd-on t met =
+        let P : Bool → Type 0 =
+        λ b. MatchBool b (empties t.reader ≡ empties s.reader) (empties t.reader ≡ empties s.reader + 1) in
+        elim m.ended as (λ b. b ≡ m.ended
+        → MatchBool b (empties t.reader ≡ empties m.reader) (empties t.reader ≡ empties m.reader + 1) → MetEnd s t) [
+          | true ↦ λ is none. subst P (is ∙ h.ended) (none ∙ h.no_end)
+          | false ↦ λ is once. subst P (is ∙ h.ended) (once ∙ ap (λ n. n + 1) h.no_end)
+        ] refl met

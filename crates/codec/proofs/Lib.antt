@@ -1,0 +1,9 @@
+pub mod Delimiting
+pub mod Heads
+pub mod Loading
+pub mod Reading
+pub mod Recording
+pub mod Searching
+pub mod Stepping
+pub mod Taking
+pub mod Writing

@@ -1,0 +1,250 @@
+-- What the turns of `load` come to.
+use Rattle.std.proofs.Common.{◌≡◌, ℕ, ◌+◌, ◌<◌, ◌≤◌, List, [], ◌∷◌, ◌++◌, length, length-take-le, drop, take, true, false, refl, sym, ap, subst, ◌∙◌, arith, inl, inr, append-nil, Bool, Option, Result, Ok, Err, Some, None, length-append, length-drop}
+use Rattle.std.specs.Prelude.{MatchBool}
+use Rattle.std.proofs.lemmas.List.{drop-drop, nil_from_length, take-append-drop}
+use Rattle.std.specs.declared.io.Error.{Error}
+use Rattle.codec.specs.declared.decoder.Span.{Span}
+use Rattle.codec.specs.declared.error.NextError.{NextError}
+use Rattle.codec.specs.declared.error.NextError.TheVariants.{Wrong, Io}
+use Rattle.codec.specs.Decoding.{bytes_at}
+use Rattle.codec.specs.Grammar.{Grammar, IsLawful, IsOpen, Lacks}
+use Rattle.codec.specs.NextPiece.{load_answer, AsksGive, AskedWhere, NextAnswer, NextAnswers, NextPiece, MetEnd, NoEnd, PiecesWent, empties}
+use Rattle.codec.specs.PiecesWentLaws.{PiecesWent-joins, PiecesWent-inside}
+use Rattle.codec.specs.Piecing.{Piecing, IsPiecing, rest}
+use Rattle.codec.specs.Steps.{AsksFor, TakesEnd, TakesPiece, WantsMore}
+use Rattle.codec.proofs.Reading.{rest_whole}
+use Rattle.codec.proofs.Heads.{Head, AskedWhere-told, Head-told, Head-more, MetEnd-on, asked_on, open_ended, still_open, went_on}
+
+-- where an end was met nothing was asked that gave none
+gave_end : {S D : Type 0} {Such : List ℕ → Type 0} (s t : Piecing S D) → AskedWhere Such s t → MetEnd s t → NoEnd s t
+    → AsksGive s t
+gave_end s t (inl same) met none =
+    omega (arith, ap (λ l. l.reads.asks) same, ap (λ l. length l.reads.given) same)
+gave_end s t (inr over) met none =
+    let P : Bool → Type 0 =
+    λ b. MatchBool b (empties t.reader ≡ empties s.reader) (empties t.reader ≡ empties s.reader + 1) in
+    let once : empties t.reader ≡ empties s.reader + 1 = subst P over.not_ended met in
+    absurd (omega (arith, once, none))
+
+-- what holds before each turn of `load`: nothing was handed out, and the next piece isn't buffered whole
+pub record LoadHead {S D W : Type 0} (remaining : S → Option (List ℕ)) (g : Grammar W) (s m : Piecing S D) (need : ℕ)
+    : Type 0 where
+  pub head : Head remaining g s m
+  pub handed : m.handed ≡ 0
+  pub few : length (rest m) < need
+  pub most : need ≤ g.most
+  pub lacks : Lacks g need (rest m)
+  pub whole : IsPiecing g m
+
+module _ {S D W : Type 0} (remaining : S → Option (List ℕ)) (g : Grammar W) (law : IsLawful g) (s : Piecing S D) where
+  -- the next piece is buffered whole, and is handed out
+  module _ (m t : Piecing S D) (h : Head remaining g s m) (whole : IsPiecing g m) (whole' : IsPiecing g t) (span : Span)
+      (used : ℕ) (takes : TakesPiece g m t span used) where
+    some : 0 < length (rest m)
+    some = omega (
+      arith,
+      law.some (take used (rest m)) (bytes_at span (rest m)) takes.piece.is,
+      length-take-le used (rest m) takes.piece.inside,
+      takes.piece.inside,
+    )
+
+    open_m : m.ended ≡ false
+    open_m = open_ended g m whole some
+
+    pub takes_next : NextPiece remaining g s (Ok (Some (bytes_at span (rest m)))) t
+    takes_next =
+        let w : Piecing S D = record m { handed = m.handed + used; seen = 0 } in
+        let behind : rest w ≡ drop used (rest m) = sym (drop-drop used m.handed m.reader.block.bytes) in
+        let bytes = take used (rest m) in
+        let split : bytes ++ rest w ≡ rest m = ap (λ l. bytes ++ l) behind ∙ take-append-drop used (rest m) in
+        let inside = PiecesWent-inside remaining g.most m w bytes refl refl split in
+        subst (NextPiece remaining g s (Ok (Some (bytes_at span (rest m))))) (sym takes.same) (record {
+          bytes = bytes;
+          went = PiecesWent-joins remaining g.most s m w [] bytes h.went inside;
+          answers = (h.faults, inl (takes.piece.is, open_m, h.no_end));
+          asked = AskedWhere-told (IsOpen g) s m w refl h.asked;
+          gave = λ _ _. h.asks;
+          told = λ ended. (let odd : true ≡ false = sym ended ∙ sym h.ended ∙ open_m in cc);
+          whole = subst (IsPiecing g) takes.same whole';
+        })
+
+  -- the same, once it stands at the front
+  pub takes_loaded : (m t : Piecing S D) → Head remaining g s m → IsPiecing g m → IsPiecing g t → m.handed ≡ 0
+      → (span : Span) (used : ℕ) → TakesPiece g m t span used
+      → NextPiece remaining g s (Ok (Some (bytes_at span t.reader.block.bytes))) t
+  takes_loaded m t h whole whole' handed span used takes =
+      let same : rest m ≡ t.reader.block.bytes =
+      rest_whole m handed ∙ ap (λ x. x.reader.block.bytes) (sym takes.same) in
+      subst (λ l. NextPiece remaining g s (Ok (Some (bytes_at span l))) t) same
+      (takes_next m t h whole whole' span used takes)
+
+  -- what is left begins with no piece
+  pub wrong_next : (m t : Piecing S D) → Head remaining g s m → IsPiecing g m → (e : W) → g.wrong (rest m) e → t ≡ m
+      → NextPiece remaining g s (Err (Wrong e)) t
+  wrong_next m t h whole e wrong same =
+      let none : ¬ (rest m ≡ []) = λ none. law.nothing e (subst (λ l. g.wrong l e) none wrong) in
+      let open_m : m.ended ≡ false = elim m.ended as (λ b. b ≡ m.ended → b ≡ false) [
+        | true ↦ λ is. absurd (none (whole.ended (sym is)))
+        | false ↦ λ is. refl
+      ] refl in
+      subst (NextPiece remaining g s (Err (Wrong e))) (sym same) (record {
+        bytes = [];
+        went = h.went;
+        answers = (refl, h.faults, open_m, inl (wrong, h.no_end));
+        asked = h.asked;
+        gave = λ _ _. h.asks;
+        told = λ ended. (let odd : true ≡ false = sym ended ∙ sym h.ended ∙ open_m in cc);
+        whole = whole;
+      })
+
+  -- the next piece wasn't there yet
+  pub loads_on : (m t : Piecing S D) (need : ℕ) → Head remaining g s m → m.handed ≡ 0 → WantsMore g m t need
+      → IsPiecing g t → LoadHead remaining g s t need
+  loads_on m t need h handed wants whole =
+      let w : Piecing S D = record m { seen = length (rest m) } in
+      subst (λ x. LoadHead remaining g s x need) (sym wants.same) (record {
+        head = Head-told remaining g s m h w (PiecesWent-inside remaining g.most m w [] refl refl refl) refl refl;
+        handed = handed;
+        few = wants.few;
+        most = wants.most;
+        lacks = wants.lacks;
+        whole = subst (IsPiecing g) wants.same whole;
+      })
+
+  module _ (m : Piecing S D) (need : ℕ) (h : LoadHead remaining g s m need) where
+    pub load_fails : (e : Error) (t : Piecing S D) → AsksFor remaining g need m (Err e) t
+        → NextPiece remaining g s (Err (Io e)) t
+    load_fails e t a =
+        let f = a.failed e refl in record {
+          bytes = [];
+          went = went_on remaining g s m h.head need h.lacks (Err e) t a;
+          answers = (
+            refl,
+            still_open remaining g s m h.head need h.lacks (Err e) t a f.0,
+            f.3 ∙ ap (λ l. l ++ e ∷ []) h.head.faults,
+            a.ended ∙ f.1,
+            f.2 ∙ h.head.no_end,
+          );
+          asked = asked_on remaining g s m h.head need h.lacks (Err e) t a;
+          gave = λ _ none. absurd (omega (
+            arith,
+            ap length none,
+            ap length f.3,
+            ap length h.head.faults,
+            length-append m.reader.log.reads.faults (e ∷ []),
+          ));
+          told = λ ended. (let odd : true ≡ false = sym ended ∙ sym h.head.ended ∙ f.1 in cc);
+          whole = a.whole;
+        }
+
+    pub loaded : (t : Piecing S D) → AsksFor remaining g need m (Ok true) t → Head remaining g s t
+    loaded t a = Head-more remaining g s m h.head need h.lacks t a
+
+    module _ (t : Piecing S D) (a : AsksFor remaining g need m (Ok false) t) where
+      ends : MetEnd s t
+      ends = MetEnd-on remaining g s m h.head t (a.end refl).1
+
+      pub end_open : IsOpen g (rest t)
+      end_open = still_open remaining g s m h.head need h.lacks (Ok false) t a (a.end refl).0
+
+      went : PiecesWent remaining g.most s [] t
+      went = went_on remaining g s m h.head need h.lacks (Ok false) t a
+
+      asked : AskedWhere (IsOpen g) s t
+      asked = asked_on remaining g s m h.head need h.lacks (Ok false) t a
+
+      still_ended : 0 < length (rest t) → s.ended ≡ true → t.ended ≡ true
+      still_ended some ended = a.ended ∙ h.head.ended ∙ ended
+
+      -- what `take_end` answers
+      pub load_finished : (r : Result (Option Span) (NextError W)) (v : Piecing S D) → TakesEnd g t r v → IsPiecing g v
+          → NextPiece remaining g s (load_answer r v) v
+      load_finished (Ok None) v (none, is) whole =
+          let w : Piecing S D = record t { ended = false } in
+          let inside = PiecesWent-inside remaining g.most t w [] refl refl refl in
+          subst (NextPiece remaining g s (Ok None)) (sym is) (record {
+            bytes = [];
+            went = PiecesWent-joins remaining g.most s t w [] [] went inside;
+            answers = (refl, none, (a.end refl).2 ∙ h.head.faults, refl, ends);
+            asked = AskedWhere-told (IsOpen g) s t w refl asked;
+            gave = λ none _. gave_end s t asked ends none;
+            told = λ _. refl;
+            whole = subst (IsPiecing g) is whole;
+          })
+      load_finished (Ok (Some span)) v (some, within, last, is) whole =
+          let len = length (rest t) in
+          let w : Piecing S D = record t { handed = len; seen = 0; ended = true } in
+          let bytes = t.reader.block.bytes in
+          let left : rest t ≡ bytes = rest_whole t a.handed in
+          let none : rest w ≡ [] =
+          nil_from_length (drop len bytes) (omega (arith, length-drop len bytes, ap length left)) in
+          let split : rest t ++ rest w ≡ rest t = ap (λ l. rest t ++ l) none ∙ append-nil (rest t) in
+          let inside = PiecesWent-inside remaining g.most t w (rest t) refl refl split in
+          let lent : bytes_at span (rest t) ≡ bytes_at span v.reader.block.bytes =
+          ap (bytes_at span) (left ∙ ap (λ x. x.reader.block.bytes) (sym is)) in
+          subst (λ l. NextPiece remaining g s (Ok (Some l)) v) lent
+          (subst (NextPiece remaining g s (Ok (Some (bytes_at span (rest t))))) (sym is) (record {
+            bytes = rest t;
+            went = PiecesWent-joins remaining g.most s t w [] (rest t) went inside;
+            answers = ((a.end refl).2 ∙ h.head.faults, inr (last, end_open, some, none, refl, ends));
+            asked = AskedWhere-told (IsOpen g) s t w refl asked;
+            gave = λ none _. gave_end s t asked ends none;
+            told = λ ended. absurd (omega (arith, some, ap length (a.whole.ended (still_ended some ended))));
+            whole = subst (IsPiecing g) is whole;
+          }))
+      load_finished (Err (Wrong e)) v (some, cut, is) whole = subst (NextPiece remaining g s (Err (Wrong e))) (sym is) (record {
+        bytes = [];
+        went = went;
+        answers = (refl, (a.end refl).2 ∙ h.head.faults, open_ended g t a.whole some, inr (cut, end_open, some, ends));
+        asked = asked;
+        gave = λ none _. gave_end s t asked ends none;
+        told = λ ended. absurd (omega (arith, some, ap length (a.whole.ended (still_ended some ended))));
+        whole = a.whole;
+      })
+      load_finished (Err (Io e)) v ends' whole = absurd ends'
+
+  -- a look alone settles nothing
+  answers_looked : (t : Piecing S D) (seen : ℕ) (answer : NextAnswer W) (bytes : List ℕ)
+      → NextAnswers g (record s { seen = seen }) answer bytes t → NextAnswers g s answer bytes t
+  answers_looked t seen (Ok (Some payload)) bytes a = a
+  answers_looked t seen (Ok None) bytes a = a
+  answers_looked t seen (Err (Wrong e)) bytes a = a
+  answers_looked t seen (Err (Io e)) bytes a = a
+
+  asked_looked : (t : Piecing S D) (seen : ℕ) → AskedWhere (IsOpen g) (record s { seen = seen }) t
+      → AskedWhere (IsOpen g) s t
+  asked_looked t seen (inl same) = inl same
+  asked_looked t seen (inr over) = inr (record {
+    not_ended = over.not_ended;
+    came = over.came;
+    last = over.last;
+    given = over.given;
+    such = over.such;
+    asks = over.asks;
+  })
+
+  pub next_looked : (m t : Piecing S D) (need : ℕ) (answer : NextAnswer W) → WantsMore g s m need
+      → NextPiece remaining g m answer t → NextPiece remaining g s answer t
+  next_looked m t need answer wants next =
+      let seen = length (rest s) in
+      let w : Piecing S D = record s { seen = seen } in
+      let n : NextPiece remaining g w answer t = subst (λ x. NextPiece remaining g x answer t) wants.same next in
+      let inside = PiecesWent-inside remaining g.most s w [] refl refl refl in
+      record {
+        bytes = n.bytes;
+        went = PiecesWent-joins remaining g.most s w t [] n.bytes inside n.went;
+        answers = answers_looked t seen answer n.bytes n.answers;
+        asked = asked_looked t seen n.asked;
+        gave = n.gave;
+        told = n.told;
+        whole = n.whole;
+      }
+
+-- where the payload of a piece is, that was handed out
+pub shown_at : {S D : Type 0} (s t : Piecing S D) (at : ℕ) → at ≡ s.handed → t.reader.block.bytes ≡ s.reader.block.bytes
+    → (span : Span)
+    → bytes_at span (rest s) ≡ bytes_at (record { from = at + span.from; len = span.len }) t.reader.block.bytes
+shown_at s t at is same span =
+    ap (take span.len) (drop-drop span.from s.handed s.reader.block.bytes)
+    ∙ ap (λ n. take span.len (drop (n + span.from) s.reader.block.bytes)) (sym is)
+    ∙ ap (λ l. take span.len (drop (at + span.from) l)) (sym same)

@@ -1,0 +1,7 @@
+use Rattle.codec.specs.WritePieceLaws.{PiecesTaken-since}
+use Rattle.codec.proofs.laws.written_since_new.Goals as goal
+
+pub returns : goal.returns
+returns g c least stream maker first payloads =
+    PiecesTaken-since g.W.TellWrite.stretch (g.E.Encoder.encoding maker) g.W.Tell.log least
+    (g.E.Encoder.encoding maker).most stream maker first c.args.writer.now payloads

@@ -1,0 +1,45 @@
+use Rattle.std.proofs.Common.{Ok, Some, ap, subst}
+use Rattle.codec.specs.NextPiece.{NextPiece, load_answer}
+use Rattle.codec.specs.NextPieceLaws.{NextPiece-ready, NextPiece-wrong}
+use Rattle.codec.proofs.Heads.{Head-none}
+use Rattle.codec.proofs.Loading.{next_looked, shown_at, takes_next}
+use Rattle.codec.proofs.reader.PieceReader.step.Goals as goal
+
+pub returns-in-Piece-clause-next : goal.returns-in-Piece-clause-next
+returns-in-Piece-clause-next g c =
+    let remaining = g.R.TellRead.remaining in
+    let s = c.args.self.now in
+    let t = c.take.new.self in
+    let gram = g.D.Decoder.grammar s.decoder in
+    let takes = c.in-Piece.ensures.takes in
+    let span = c.in-Piece.span in
+    let shown = shown_at s t c.self.inside.handed (ap (λ x. x.handed) c.self.view_is)
+    (ap (λ x. x.reader.block.bytes) takes.same) span in
+    subst (λ l. NextPiece remaining gram s (Ok (Some l)) t) shown
+    (takes_next remaining gram (g.met.D.Decoder.lawful s.decoder) s s t (Head-none remaining gram s) c.take.ensures.before
+    c.take.ensures.whole span c.in-Piece.field-1 takes)
+
+pub returns-in-Piece-clause-ready : goal.returns-in-Piece-clause-ready
+returns-in-Piece-clause-ready g c piece payload more is front =
+    let s = c.args.self.now in
+    (NextPiece-ready g.R.TellRead.remaining (g.D.Decoder.grammar s.decoder) (g.met.D.Decoder.lawful s.decoder) s
+    _ c.take.new.self (returns-in-Piece-clause-next g c) piece payload more is front).0
+
+pub returns-in-Piece-clause-wrong : goal.returns-in-Piece-clause-wrong
+returns-in-Piece-clause-wrong g c e wrong =
+    let s = c.args.self.now in
+    (NextPiece-wrong g.R.TellRead.remaining (g.D.Decoder.grammar s.decoder) (g.met.D.Decoder.lawful s.decoder) s
+    _ c.take.new.self (returns-in-Piece-clause-next g c) e wrong).0
+
+pub returns-in-More-clause-next : goal.returns-in-More-clause-next
+returns-in-More-clause-next g c =
+    let remaining = g.R.TellRead.remaining in
+    let s = c.args.self.now in
+    let m = c.take.new.self in
+    let t = c.load_aside.new.self in
+    let gram = g.D.Decoder.grammar s.decoder in
+    let answer = load_answer c.load_aside.result t in
+    let wants = c.in-More.ensures.takes in
+    let same = ap (λ x. x.decoder) wants.same in
+    next_looked remaining gram (g.met.D.Decoder.lawful s.decoder) s m t c.in-More.need answer wants
+    (subst (λ d. NextPiece remaining (g.D.Decoder.grammar d) m answer t) same c.load_aside.ensures.next)

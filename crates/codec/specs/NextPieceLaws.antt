@@ -1,0 +1,91 @@
+-- Laws of one call of `next`, for the proofs of those who call it.
+use Rattle.std.specs.Prelude.{◌≡◌, ℕ, List, [], ◌++◌, length, Option, None, Some, Ok, Err}
+use Rattle.std.proofs.Common.{sym, ap, subst, ◌∙◌, arith, inl, inr, length-append, append_assoc, append-nil}
+use Rattle.std.proofs.lemmas.List.{append_cancel_left}
+use Rattle.codec.specs.declared.error.NextError.TheVariants.{Wrong, Io}
+use Rattle.codec.specs.Grammar.{Begins, Grammar, IsLawful, IsOpen}
+use Rattle.codec.specs.GrammarLaws.{open_not}
+use Rattle.codec.specs.NextPiece.{AsksNone, NextAnswer, NextAnswers, NextPiece}
+use Rattle.codec.specs.PiecesWentLaws.{PiecesWent-unasked}
+use Rattle.codec.specs.Piecing.{Piecing, rest}
+
+-- the answer, by what was left, where the stream wasn't asked
+module _ {S D W : Type 0} (g : Grammar W) (law : IsLawful g) (s t : Piecing S D) (bytes : List ℕ)
+    (same : bytes ++ rest t ≡ rest s) where
+  none_of : bytes ≡ [] → rest t ≡ rest s
+  none_of is = ap (λ l. l ++ rest t) (sym is) ∙ same
+
+  all_of : rest t ≡ [] → bytes ≡ rest s
+  all_of none = sym (append-nil bytes) ∙ ap (λ l. bytes ++ l) (sym none) ∙ same
+
+  ready : (piece payload more : List ℕ) → g.piece piece payload → rest s ≡ piece ++ more
+      → (answer : NextAnswer W) → NextAnswers g s answer bytes t → (answer ≡ Ok (Some payload)) × (rest t ≡ more)
+  ready piece payload more is front (Ok (Some found)) (fault, inl (other, open', none)) =
+      let parts = law.one bytes piece (rest t) more found payload other is (same ∙ front) in
+      (ap (λ l. Ok (Some l)) parts.1, append_cancel_left bytes (rest t) more (same ∙ front ∙ ap (λ l. l ++ more) (sym parts.0)))
+  ready piece payload more is front (Ok (Some found)) (fault, inr (last, open', some, none, ended, met)) =
+      absurd (open_not g piece payload more is (subst (IsOpen g) (all_of none ∙ front) open'))
+  ready piece payload more is front (Ok None) (nothing, none, fault, ended, met) =
+      absurd (omega (
+        arith,
+        ap length (sym (none_of nothing) ∙ none),
+        ap length front,
+        length-append piece more,
+        law.some piece payload is,
+      ))
+  ready piece payload more is front (Err (Wrong e)) (nothing, fault, ended, inl (wrong, none)) =
+      absurd (law.apart piece payload more e is (subst (λ l. g.wrong l e) (none_of nothing ∙ front) wrong))
+  ready piece payload more is front (Err (Wrong e)) (nothing, fault, ended, inr (cut, open', some, met)) =
+      absurd (open_not g piece payload more is (subst (IsOpen g) (none_of nothing ∙ front) open'))
+  ready piece payload more is front (Err (Io e)) (nothing, open', fault, ended, met) =
+      absurd (open_not g piece payload more is (subst (IsOpen g) (none_of nothing ∙ front) open'))
+
+  refused : (e : W) → g.wrong (rest s) e → (answer : NextAnswer W) → NextAnswers g s answer bytes t
+      → (answer ≡ Err (Wrong e)) × (rest t ≡ rest s)
+  refused e wrong (Ok (Some found)) (fault, inl (other, open', none)) =
+      absurd (law.apart bytes found (rest t) e other (subst (λ l. g.wrong l e) (sym same) wrong))
+  refused e wrong (Ok (Some found)) (fault, inr (last, open', some, none, ended, met)) =
+      absurd (open'.not_wrong e (subst (λ l. g.wrong l e) (sym (all_of none)) wrong))
+  refused e wrong (Ok None) (nothing, none, fault, ended, met) =
+      absurd (law.nothing e (subst (λ l. g.wrong l e) (sym (none_of nothing) ∙ none) wrong))
+  refused e wrong (Err (Wrong e')) (nothing, fault, ended, inl (other, none)) = (
+    ap (λ x. Err (Wrong x)) (law.reason (rest s) e' e (subst (λ l. g.wrong l e') (none_of nothing) other) wrong),
+    none_of nothing,
+  )
+  refused e wrong (Err (Wrong e')) (nothing, fault, ended, inr (cut, open', some, met)) =
+      absurd (open'.not_wrong e (subst (λ l. g.wrong l e) (sym (none_of nothing)) wrong))
+  refused e wrong (Err (Io e')) (nothing, open', fault, ended, met) =
+      absurd (open'.not_wrong e (subst (λ l. g.wrong l e) (sym (none_of nothing)) wrong))
+
+module _ {S D W : Type 0} (remaining : S → Option (List ℕ)) (g : Grammar W) (law : IsLawful g) (s : Piecing S D)
+    (answer : NextAnswer W) (t : Piecing S D) (next : NextPiece remaining g s answer t) where
+  -- a whole piece that is left is handed out, and the stream isn't asked
+  pub NextPiece-ready : (piece payload more : List ℕ) → g.piece piece payload → rest s ≡ piece ++ more
+      → (answer ≡ Ok (Some payload)) × (rest t ≡ more) × (t.reader.log ≡ s.reader.log)
+  NextPiece-ready piece payload more is front =
+      let told : t.reader.log ≡ s.reader.log = elim next.asked [
+        | inl same ↦ same
+        | inr over ↦ absurd (open_not g piece payload (more ++ over.came) is
+            (subst (IsOpen g) (ap (λ l. l ++ over.came) front ∙ append_assoc piece more over.came) over.such))
+      ] in
+      let same = PiecesWent-unasked remaining g.most s t next.bytes next.went told in
+      let is' = ready g law s t next.bytes same piece payload more is front answer next.answers in
+      (is'.0, is'.1, told)
+
+  -- the beginning of no piece is refused each time, and the stream isn't asked
+  pub NextPiece-wrong : (e : W) → g.wrong (rest s) e
+      → (answer ≡ Err (Wrong e)) × (rest t ≡ rest s) × (t.reader.log ≡ s.reader.log)
+  NextPiece-wrong e wrong =
+      let told : t.reader.log ≡ s.reader.log = elim next.asked [
+        | inl same ↦ same
+        | inr over ↦ absurd (over.such.not_wrong e (law.stays (rest s) over.came e wrong))
+      ] in
+      let same = PiecesWent-unasked remaining g.most s t next.bytes next.went told in
+      let is = refused g law s t next.bytes same e wrong answer next.answers in
+      (is.0, is.1, told)
+
+-- where a whole piece is left, the next call doesn't ask the stream
+pub AsksNone-begins : {S D W : Type 0} (remaining : S → Option (List ℕ)) (g : Grammar W) → IsLawful g → (s : Piecing S D)
+    → Begins g (rest s) → AsksNone remaining g s
+AsksNone-begins remaining g law s b answer t next =
+    (NextPiece-ready remaining g law s answer t next b.piece b.payload b.more b.is b.equal).2

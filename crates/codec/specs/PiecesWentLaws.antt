@@ -1,0 +1,105 @@
+-- How calls of a reader of pieces join, and what follows since it was made.
+use Rattle.std.specs.Prelude.{◌≡◌, ℕ, List, [], ◌++◌, length, drop, Option}
+use Rattle.std.proofs.Common.{sym, ap, subst, ◌∙◌, arith, refl, length-drop, le_refl, append_assoc, append-nil}
+use Rattle.std.proofs.lemmas.List.{append_cancel_left, nil_from_length}
+use Rattle.buffer_redux.specs.BufReader.{InnerGives}
+use Rattle.buffer_redux.specs.LogGrows.{ReadLogGrows, ReadLogGrows-none, ReadLogGrows-joins}
+use Rattle.buffer_redux.specs.ReaderLaws.{InnerGives-none, InnerGives-joins}
+use Rattle.buffer_redux.specs.Sparing.{PotentialHeld, MovedAtMostGiven}
+use Rattle.buffer_redux.specs.StreamLog.{StreamLog}
+use Rattle.codec.specs.NextPiece.{HandsBytes, PiecesWent}
+use Rattle.codec.specs.Piecing.{Piecing, IsFresh, rest}
+
+-- no call hands out nothing, and calls join
+pub HandsBytes-none : {S D : Type 0} (s : Piecing S D) → HandsBytes s [] s
+HandsBytes-none s = record {
+  got = [];
+  given = sym (append-nil s.reader.log.reads.given);
+  equal = sym (append-nil (rest s));
+}
+
+pub HandsBytes-joins : {S D : Type 0} (s m t : Piecing S D) (h k : List ℕ)
+    → HandsBytes s h m → HandsBytes m k t → HandsBytes s (h ++ k) t
+HandsBytes-joins s m t h k a b = record {
+  got = a.got ++ b.got;
+  given = b.given ∙ ap (λ l. l ++ b.got) a.given ∙ append_assoc s.reader.log.reads.given a.got b.got;
+  equal =
+      append_assoc h k (rest t) ∙ ap (λ l. h ++ l) b.equal ∙ sym (append_assoc h (rest m) b.got)
+      ∙ ap (λ l. l ++ b.got) a.equal ∙ append_assoc (rest s) a.got b.got;
+}
+
+module _ {S D : Type 0} (remaining : S → Option (List ℕ)) (most : ℕ) where
+  pub PiecesWent-none : (s : Piecing S D) → PiecesWent remaining most s [] s
+  PiecesWent-none s = record {
+    hands = HandsBytes-none s;
+    known = InnerGives-none remaining s.reader;
+    grows = ReadLogGrows-none s.reader.log.reads;
+    held = record { moved = le_refl _; held = le_refl _ };
+    capacity = refl;
+    limit = refl;
+    decoder = refl;
+  }
+
+  pub PiecesWent-joins : (s m t : Piecing S D) (h k : List ℕ)
+      → PiecesWent remaining most s h m → PiecesWent remaining most m k t → PiecesWent remaining most s (h ++ k) t
+  PiecesWent-joins s m t h k p q = record {
+    hands = HandsBytes-joins s m t h k p.hands q.hands;
+    known = InnerGives-joins remaining s.reader m.reader t.reader p.known q.known;
+    grows = ReadLogGrows-joins s.reader.log.reads m.reader.log.reads t.reader.log.reads p.grows q.grows;
+    held = record {
+      moved = omega (arith, p.held.moved, q.held.moved);
+      held = omega (arith, p.held.held, q.held.held);
+    };
+    capacity = q.capacity ∙ p.capacity;
+    limit = q.limit ∙ p.limit;
+    decoder = q.decoder ∙ p.decoder;
+  }
+
+  -- where the buffered reader stays as it is, these bytes were handed out of what was left
+  pub PiecesWent-inside : (s t : Piecing S D) (bytes : List ℕ) → t.reader ≡ s.reader → t.decoder ≡ s.decoder
+      → bytes ++ rest t ≡ rest s → PiecesWent remaining most s bytes t
+  PiecesWent-inside s t bytes same decoder split =
+      let none = PiecesWent-none s in
+      record {
+        hands = record {
+          got = [];
+          given = ap (λ r. r.log.reads.given) same ∙ sym (append-nil s.reader.log.reads.given);
+          equal = split ∙ sym (append-nil (rest s));
+        };
+        known = subst (λ r. InnerGives remaining s.reader r) (sym same) none.known;
+        grows = subst (λ r. ReadLogGrows s.reader.log.reads r.log.reads) (sym same) none.grows;
+        held = subst (λ r. PotentialHeld most s.reader r) (sym same) (record { moved = le_refl _; held = le_refl _ });
+        capacity = ap (λ r. r.block.capacity) same;
+        limit = ap (λ r. r.block.limit) same;
+        decoder = decoder;
+      }
+
+  -- calls that leave the log as it is hand out what is there
+  pub PiecesWent-unasked : (s t : Piecing S D) (bytes : List ℕ) → PiecesWent remaining most s bytes t
+      → t.reader.log ≡ s.reader.log → bytes ++ rest t ≡ rest s
+  PiecesWent-unasked s t bytes went told =
+      let none : went.hands.got ≡ [] = append_cancel_left s.reader.log.reads.given went.hands.got []
+      (sym went.hands.given ∙ ap (λ l. l.reads.given) told ∙ sym (append-nil s.reader.log.reads.given)) in
+      went.hands.equal ∙ ap (λ l. rest s ++ l) none ∙ append-nil (rest s)
+
+-- nothing is left of nothing
+pub drop_none : (n : ℕ) (bytes : List ℕ) → bytes ≡ [] → drop n bytes ≡ []
+drop_none n bytes none = nil_from_length (drop n bytes) (omega (arith, length-drop n bytes, ap length none))
+
+-- of a reader that was just made: what was given since is the bytes that were handed out, then what is left, and no more
+-- bytes were moved than were given
+pub PiecesWent-given : {S D : Type 0} (remaining : S → Option (List ℕ)) (tells : S → StreamLog) (least most : ℕ)
+    (stream : S) (decoder : D) (s t : Piecing S D) (bytes : List ℕ) → IsFresh tells least most stream decoder s
+    → PiecesWent remaining most s bytes t
+    → t.reader.log.reads.given ≡ (tells stream).reads.given ++ (bytes ++ rest t)
+PiecesWent-given remaining tells least most stream decoder s t bytes fresh went =
+    went.hands.given
+    ∙ ap (λ l. l.reads.given ++ went.hands.got) fresh.log
+    ∙ ap (λ l. (tells stream).reads.given ++ l)
+    (sym (went.hands.equal ∙ ap (λ l. l ++ went.hands.got) (drop_none s.handed s.reader.block.bytes fresh.empty)))
+
+pub PiecesWent-moved : {S D : Type 0} (remaining : S → Option (List ℕ)) (tells : S → StreamLog) (least most : ℕ)
+    (stream : S) (decoder : D) (s t : Piecing S D) (bytes : List ℕ) → IsFresh tells least most stream decoder s
+    → PiecesWent remaining most s bytes t → MovedAtMostGiven s.reader t.reader
+PiecesWent-moved remaining tells least most stream decoder s t bytes fresh went =
+    omega (arith, went.held.held, went.held.moved, fresh.potential)

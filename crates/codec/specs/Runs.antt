@@ -1,0 +1,106 @@
+-- Runs of calls: what they come to.
+use Rattle.std.specs.Prelude.{◌≡◌, ℕ, ◌<◌, ◌≤◌, ◌⊎◌, List, [], ◌∷◌, ◌++◌, length, map, Option, None, Some, Result, Ok, Err}
+use Rattle.std.specs.Global.{Vec}
+use Rattle.std.specs.IoError.{error_kind}
+use Rattle.std.specs.List.{flat_map}
+use Rattle.std.specs.Option.{option_map}
+use Rattle.std.specs.declared.io.Error.{Error}
+use Rattle.std.specs.declared.io.ErrorKind.TheVariants.{OutOfMemory}
+use Rattle.codec.specs.declared.error.NextError.{NextError}
+use Rattle.codec.specs.declared.error.NextError.TheVariants.{Io}
+use Rattle.codec.specs.Grammar.{Grammar}
+use Rattle.codec.specs.NextPiece.{NextAnswer, NextPiece, PiecesWent}
+use Rattle.codec.specs.Piecing.{Piecing}
+use Rattle.codec.specs.Texts.{IsLast, StartsWith}
+
+-- the payload that an answer hands out, or none
+abbrev pub handed_payload : {W : Type 0} → NextAnswer W → List (List ℕ)
+handed_payload (Ok (Some payload)) = payload ∷ []
+handed_payload (Ok None) = []
+handed_payload (Err e) = []
+
+-- the payloads that answers hand out
+abbrev pub all_handed : {W : Type 0} → List (NextAnswer W) → List (List ℕ)
+all_handed answers = flat_map handed_payload answers
+
+-- no answer tells that the stream ended
+abbrev pub NoneTold : {W : Type 0} → List (NextAnswer W) → Type 0
+NoneTold [] = Unit {0}
+NoneTold (Ok (Some payload) ∷ answers) = NoneTold answers
+NoneTold (Ok None ∷ answers) = ⊥
+NoneTold (Err e ∷ answers) = NoneTold answers
+
+-- the next answer, if there is one, tells that the stream ended
+abbrev pub EndFollows : {W : Type 0} → List (NextAnswer W) → Type 0
+EndFollows [] = Unit {0}
+EndFollows (Ok (Some payload) ∷ answers) = ⊥
+EndFollows (Ok None ∷ answers) = Unit {0}
+EndFollows (Err e ∷ answers) = ⊥
+
+-- what was handed out begins with a piece with this payload; or, before an end of the stream, with a last one; and then
+-- comes more
+abbrev pub CutsOff : {W : Type 0} → Grammar W → List ℕ → List (NextAnswer W) → List ℕ → List ℕ → Type 0
+CutsOff g payload answers bytes more =
+    StartsWith g bytes payload more
+    ⊎ ((piece : List ℕ) × IsLast g piece payload × (bytes ≡ piece ++ more) × EndFollows answers)
+
+-- these bytes are what the answers hand out, one after another
+abbrev pub Cuts : {W : Type 0} → Grammar W → List (NextAnswer W) → List ℕ → Type 0
+Cuts g [] bytes = bytes ≡ []
+Cuts g (Ok (Some payload) ∷ answers) bytes = (more : List ℕ) × CutsOff g payload answers bytes more × Cuts g answers more
+Cuts g (Ok None ∷ answers) bytes = Cuts g answers bytes
+Cuts g (Err e ∷ answers) bytes = Cuts g answers bytes
+
+-- calls of `next`, one after another, with these answers
+abbrev pub NextRuns : {S D W : Type 0} → (S → Option (List ℕ)) → Grammar W → Piecing S D → List (NextAnswer W) → Piecing S D
+    → Type 0
+NextRuns remaining g s [] t = s ≡ t
+NextRuns {S} {D} remaining g s (answer ∷ answers) t =
+    (m : Piecing S D) × NextPiece remaining g s answer m × NextRuns remaining g m answers t
+
+-- what they come to: the bytes that they handed out, which are their pieces
+pub record RunWent {S D W : Type 0} (remaining : S → Option (List ℕ)) (g : Grammar W) (s : Piecing S D)
+    (answers : List (NextAnswer W)) (t : Piecing S D) : Type 0 where
+  pub bytes : List ℕ
+  pub cut : Cuts g answers bytes
+  pub went : PiecesWent remaining g.most s bytes t
+
+-- an answer of `step` that was recorded, by the bytes of its payload
+abbrev pub kept_answer : {W : Type 0} → Result (Option (Vec ℕ)) (NextError W) → NextAnswer W
+kept_answer (Ok found) = Ok (option_map (λ payload. payload.items) found)
+kept_answer (Err e) = Err e
+
+-- each of these payloads was handed out by a call, and one more call told the end
+abbrev pub AllRead : {S D W : Type 0} → (S → Option (List ℕ)) → Grammar W → Piecing S D → List (List ℕ) → Piecing S D → Type 0
+AllRead remaining g s payloads t = NextRuns remaining g s (map (λ payload. Ok (Some payload)) payloads ++ Ok None ∷ []) t
+
+-- just so many calls were made, and their answers are those that the record gained
+pub record NextPlayed {S D W : Type 0} (remaining : S → Option (List ℕ)) (g : Grammar W) (s : Piecing S D) (calls : ℕ)
+    (old new : List (NextAnswer W)) (t : Piecing S D) : Type 0 where
+  pub answers : List (NextAnswer W)
+  pub gained : new ≡ old ++ answers
+  pub all : length answers ≡ calls
+  pub run : NextRuns remaining g s answers t
+  pub went : RunWent remaining g s answers t
+
+-- fewer calls were recorded, and one more was made, of which the answer is lost. Memory was wanted for the payload of that
+-- answer, or for the record, which had room for so many
+pub record NextStopped {S D W : Type 0} (remaining : S → Option (List ℕ)) (g : Grammar W) (s : Piecing S D) (calls room : ℕ)
+    (old new : List (NextAnswer W)) (t : Piecing S D) : Type 0 where
+  pub answers : List (NextAnswer W)
+  pub gained : new ≡ old ++ answers
+  pub fewer : length answers < calls
+  pub lost : NextAnswer W
+  pub wanted : (0 < length (handed_payload lost)) ⊎ (room ≤ length new)
+  pub run : NextRuns remaining g s (answers ++ lost ∷ []) t
+  pub went : RunWent remaining g s (answers ++ lost ∷ []) t
+
+-- one call was made, and the payload that it handed out is lost
+pub record NextLost {S D W : Type 0} (remaining : S → Option (List ℕ)) (g : Grammar W) (s t : Piecing S D) : Type 0 where
+  pub payload : List ℕ
+  pub next : NextPiece remaining g s (Ok (Some payload)) t
+
+-- one call failed with this error: want of memory for what it handed out, or the stream's own
+abbrev pub NextFails : {S D W : Type 0} → (S → Option (List ℕ)) → Grammar W → Piecing S D → Error → Piecing S D → Type 0
+NextFails remaining g s e t =
+    ((error_kind e ≡ OutOfMemory) × NextLost remaining g s t) ⊎ NextPiece remaining g s (Err (Io e)) t

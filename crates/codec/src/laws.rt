@@ -1,0 +1,71 @@
+//! Laws, each as the contract of a function over the calls.
+ghost use Rattle.std.specs.Prelude.{◌≡◌, ℕ, List, [], ◌∷◌, ◌++◌, None, Ok};
+ghost use Rattle.buffer_redux.specs.Sparing.{MovedAtMostGiven};
+ghost use Rattle.codec.specs.Encoding.{all_coded};
+ghost use Rattle.codec.specs.KnownPieces.{HasLeft, NextKnown};
+ghost use Rattle.codec.specs.NextPiece.{NextAnswer, NextPiece, PiecesWent};
+ghost use Rattle.codec.specs.Outgoing.{Outgoing, IsUnused, unsent};
+ghost use Rattle.codec.specs.Piecing.{Piecing, IsFresh, rest};
+ghost use Rattle.codec.specs.Runs.{Cuts, NextRuns, NoneTold, RunWent, all_handed};
+ghost use Rattle.codec.specs.Texts.{HasPieces, Splits};
+ghost use Rattle.codec.specs.WritePiece.{PiecesTaken};
+
+mod lists;
+mod runs;
+
+use crate::decoder::Decoder;
+use crate::encoder::Encoder;
+use crate::reader::PieceReader;
+use crate::writer::PieceWriter;
+use buffer_redux::tell::{TellRead, TellWrite};
+pub use lists::{read_each, write_each};
+pub use runs::{play_step, play_write_piece};
+
+/// A text is pieces in one way, and so is a stream of pieces before what is left.
+pub fn one_reading<D: Decoder>(decoder: &D)
+    ensures text { (text : List ℕ) (payloads others : List (List ℕ)) → HasPieces (D.grammar decoder.now) text payloads
+        → HasPieces (D.grammar decoder.now) text others → payloads ≡ others }
+    ensures stream { (stream left left' : List ℕ) (payloads others : List (List ℕ))
+        → Splits (D.grammar decoder.now) stream payloads left → Splits (D.grammar decoder.now) stream others left'
+        → (payloads ≡ others) × (left ≡ left') }
+{}
+
+/// Since the reader was made, what was given is the bytes that were handed out, then what is left; and no more bytes were
+/// moved than were given.
+pub fn since_new<R: TellRead, D: Decoder>(reader: &PieceReader<R, D>)
+    ensures given { (least most : ℕ) (stream : R) (finder : D) (first : Piecing R D) (bytes : List ℕ)
+        → IsFresh R.log least most stream finder first → PiecesWent R.remaining most first bytes reader.now
+        → reader.now.reader.log.reads.given ≡ (R.log stream).reads.given ++ (bytes ++ rest reader.now) }
+    ensures moved { (least most : ℕ) (stream : R) (finder : D) (first : Piecing R D) (bytes : List ℕ)
+        → IsFresh R.log least most stream finder first → PiecesWent R.remaining most first bytes reader.now
+        → MovedAtMostGiven first.reader reader.now.reader }
+{}
+
+/// Since the writer was made, what the stream received, then what is buffered, is the pieces of the payloads that were taken
+/// in: so no piece was torn, whatever failed.
+pub fn written_since_new<W: TellWrite, E: Encoder>(writer: &PieceWriter<W, E>)
+    ensures { (least : ℕ) (stream : W) (maker : E) (first : Outgoing W E) (payloads : List (List ℕ))
+        → IsUnused W.log least (E.encoding maker).most stream maker first
+        → PiecesTaken W.stretch (E.encoding maker) first payloads writer.now
+        → writer.now.writer.log.writes.received ++ unsent writer.now
+        ≡ (W.log stream).writes.received ++ all_coded (E.encoding maker) payloads }
+{}
+
+/// A run of calls handed out just the bytes of its pieces, and what one did up to the end that it told is a text of them.
+pub fn went<R: TellRead, D: Decoder>(reader: &PieceReader<R, D>)
+    ensures went { (first : Piecing R D) (answers : List (NextAnswer D.Wrong))
+        → NextRuns R.remaining (D.grammar first.decoder) first answers reader.now
+        → RunWent R.remaining (D.grammar first.decoder) first answers reader.now }
+    ensures text { (decoder : D) (answers : List (NextAnswer D.Wrong)) (bytes : List ℕ) → NoneTold answers
+        → Cuts (D.grammar decoder) (answers ++ Ok None ∷ []) bytes
+        → HasPieces (D.grammar decoder) bytes (all_handed answers) }
+{}
+
+/// Where just some pieces are left of a stream that is known, a call hands out the first, or answers `None` where there is
+/// none; it has no other `Err` than the stream's own.
+pub fn next_known<R: TellRead, D: Decoder>(reader: &PieceReader<R, D>)
+    ensures { (s : Piecing R D) (payloads : List (List ℕ)) (answer : NextAnswer D.Wrong)
+        → NextPiece R.remaining (D.grammar s.decoder) s answer reader.now
+        → HasLeft R.remaining (D.grammar s.decoder) s payloads
+        → NextKnown R.remaining (D.grammar s.decoder) answer payloads reader.now }
+{}

@@ -1,0 +1,77 @@
+//! Lists of payloads, written and read.
+ghost use Rattle.std.specs.Prelude.{◌≡◌, map, Ok, IfOk, IfErr, OnOk};
+ghost use Rattle.std.specs.List.{All};
+ghost use Rattle.codec.specs.KnownPieces.{HasLeft, LeavesPieces, ReadStopped};
+ghost use Rattle.codec.specs.NextPiece.{NextPiece};
+ghost use Rattle.codec.specs.Runs.{AllRead, NextFails, kept_answer};
+ghost use Rattle.codec.specs.WriteRuns.{IsFault, WritesEach};
+
+use crate::decoder::Decoder;
+use crate::encoder::Encoder;
+use crate::error::{NextError, WritePieceError};
+use crate::laws::runs::step_copied;
+use crate::reader::PieceReader;
+use crate::writer::PieceWriter;
+use buffer_redux::tell::{TellRead, TellWrite};
+use std::alloc::Global;
+use std::io;
+
+/// Writes the piece of each payload, up to the first `Err`. The payloads before that one were taken in then.
+pub fn write_each<W: TellWrite, E: Encoder>(
+    writer: &mut PieceWriter<W, E>,
+    payloads: &[Vec<u8>],
+) -> Result<(), WritePieceError<E::Refusal>>
+    ensures each { WritesEach W.stretch (E.encoding writer.old.encoder) writer.old (map (λ v. v.items) payloads.now)
+        result writer.new }
+    ensures fault { IfErr result (λ e.
+        All (E.encoding writer.old.encoder).takes (map (λ v. v.items) payloads.now) → IsFault e) }
+{
+    for payload in payloads {
+        writer.write_piece(payload)?;
+    }
+    Ok(())
+}
+
+/// Reads pieces of which it is known that they have these payloads, and no others. An `Err` is refused memory for the payload
+/// that was handed out last, or the fault of the inner reader; what is left then is the last of them.
+pub fn read_each<R: TellRead, D: Decoder>(
+    alloc: Global,
+    reader: &mut PieceReader<R, D>,
+    payloads: &[Vec<u8>],
+) -> io::Result<Vec<Vec<u8>>>
+    requires left { HasLeft R.remaining (D.grammar reader.old.decoder) reader.old (map (λ v. v.items) payloads.now) }
+    ensures same { IfOk result (λ kept. map (λ v. v.items) kept.items ≡ map (λ v. v.items) payloads.now) }
+    ensures read { OnOk result (AllRead R.remaining (D.grammar reader.old.decoder) reader.old
+        (map (λ v. v.items) payloads.now) reader.new) }
+    ensures stopped { IfErr result (λ e. ReadStopped R.remaining (D.grammar reader.old.decoder) reader.old
+        (map (λ v. v.items) payloads.now) e reader.new) }
+{
+    let mut kept = Vec::new(alloc);
+    for _ in payloads {
+        match next_of_known(alloc, reader)? {
+            Some(payload) => kept.push(payload)?,
+            None => unreachable!(),
+        }
+    }
+    match next_of_known(alloc, reader)? {
+        Some(_) => unreachable!(),
+        None => Ok(kept),
+    }
+}
+
+// One call of `step`, where it is known that just pieces are left: nothing is wrong then.
+fn next_of_known<R: TellRead, D: Decoder>(
+    alloc: Global,
+    reader: &mut PieceReader<R, D>,
+) -> io::Result<Option<Vec<u8>>>
+    requires left { LeavesPieces R.remaining (D.grammar reader.old.decoder) reader.old }
+    ensures next { IfOk result (λ found.
+        NextPiece R.remaining (D.grammar reader.old.decoder) reader.old (kept_answer (Ok found)) reader.new) }
+    ensures failed { IfErr result (λ e. NextFails R.remaining (D.grammar reader.old.decoder) reader.old e reader.new) }
+{
+    match step_copied(alloc, reader)? {
+        Ok(found) => Ok(found),
+        Err(NextError::Io(e)) => Err(e),
+        Err(NextError::Wrong(_)) => unreachable!(),
+    }
+}

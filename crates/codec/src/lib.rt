@@ -1,0 +1,41 @@
+//! Pieces of a stream, lent out of the buffer that they were read into. A protocol is a decoder.
+//!
+//! A stream may come in whatever pieces: those that are handed out, each with all that it takes, then what is left, are the
+//! stream.
+#![tactic(auto)]
+
+mod both;
+mod buffer;
+mod by_head;
+mod decoder;
+mod delimited;
+mod delimited_reader;
+mod delimited_writer;
+mod encoder;
+mod error;
+mod head;
+mod head_error;
+mod headed;
+mod headed_reader;
+mod heading;
+pub mod laws;
+mod number;
+mod reader;
+mod scan;
+mod writer;
+
+pub use both::{Codec, written_text};
+pub use by_head::ByHead;
+pub use decoder::{Decoder, End, Found, Span};
+pub use delimited::{Delimited, TooLong};
+pub use delimited_writer::NotPlain;
+pub use encoder::Encoder;
+pub use error::{NextError, WritePieceError};
+pub use head::Head;
+pub use head_error::HeadError;
+pub use headed::Headed;
+pub use heading::Heading;
+pub use number::Number;
+pub use reader::PieceReader;
+pub use scan::{ByScan, Scan, Turn};
+pub use writer::PieceWriter;

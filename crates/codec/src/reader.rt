@@ -1,0 +1,339 @@
+//! The reader of pieces.
+ghost use Rattle.std.specs.Prelude.{◌≡◌, ℕ, ◌+◌, ◌*◌, ◌<◌, ◌≤◌, ◌^◌, List, [], ◌∷◌, ◌++◌, length, take, drop, Ok, Err, Some, None, ◌↔◌, IfOk, IfErr, IfSome, IsTrue, true, false};
+ghost use Rattle.std.specs.Bool.{OnTrue};
+ghost use Rattle.std.specs.Borrow.{Lends, sem};
+ghost use Rattle.buffer_redux.specs.GrowError.{FitsWithin};
+ghost use Rattle.buffer_redux.specs.MakeError.{growth};
+ghost use Rattle.codec.specs.contracts.reader.PieceReader.{the_row};
+ghost use Rattle.codec.specs.declared.error.NextError.TheVariants.{Wrong};
+ghost use Rattle.codec.specs.Decoding.{bytes_at};
+ghost use Rattle.codec.specs.Grammar.{Begins, Lacks, IsOpen};
+ghost use Rattle.codec.specs.Piecing.{IsPiecing, IsFresh, rest, room_for, with_stream};
+ghost use Rattle.codec.specs.NextPiece.{AsksNone, PiecesWent, NextPiece, load_answer};
+ghost use Rattle.codec.specs.Steps.{AsksFor, Takes, TakesEnd};
+
+use crate::buffer::piece_buffer;
+use crate::decoder::{Decoder, End, Found, Span};
+use crate::error::NextError;
+use buffer_redux::policy::MinBuffered;
+use buffer_redux::tell::{Tell, TellRead};
+use buffer_redux::{BufReader, Buffer, DEFAULT_BUF_SIZE, MakeError};
+use std::alloc::Global;
+use std::io;
+use std::io::BufRead;
+use std::marker::Model;
+
+/// A reader of the pieces that a decoder finds.
+///
+/// It lends each payload out of a plain buffer, in which three pieces fit. The makers take its memory, and no other call
+/// takes any. No more bytes are moved in it than are read.
+///
+/// ```
+/// let lines = Delimited { end: b'\n', max: 9 };
+/// let mut reader = PieceReader::new(alloc, Told::new(b"hi\n".as_slice()), lines)?;
+/// if let Some(span) = reader.step()? {
+///     assert!(rt; reader.lent(span) == b"hi".as_slice());
+/// }
+/// ```
+#[derive(Drop)]
+pub struct PieceReader<R: Tell, D: Decoder> {
+    reader: BufReader<R, MinBuffered>,
+    decoder: D,
+    // How many of the first bytes that are buffered were handed out, the piece that was lent last among them.
+    handed: usize,
+    // How many behind them were looked at, and settle nothing.
+    seen: usize,
+    // Whether the stream ended, which no call of `next` has told yet.
+    ended: bool,
+}
+
+impl<R: Tell, D: Decoder> Model for PieceReader<R, D> {
+    ghost use Rattle.codec.specs.Piecing.{Piecing, IsPiecing};
+
+    ghost Value = { Piecing R D };
+
+    ghost view = { λ f. record {
+      reader = f.reader;
+      decoder = f.decoder;
+      handed = f.handed;
+      seen = f.seen;
+      ended = f.ended;
+    } };
+
+    ghost invariant = { λ f. IsPiecing (D.grammar f.decoder) (record {
+      reader = f.reader;
+      decoder = f.decoder;
+      handed = f.handed;
+      seen = f.seen;
+      ended = f.ended;
+    }) };
+}
+
+impl<R: Tell, D: Decoder> PieceReader<R, D> {
+    /// A reader of the pieces that `decoder` finds, over a buffer of [`DEFAULT_BUF_SIZE`] bytes, or of what three pieces take
+    /// where that is more. A refusal hands `inner` and `decoder` back.
+    pub fn new(alloc: Global, inner: R, decoder: D) -> Result<Self, MakeError<(R, D)>>
+        ensures made { IfOk result (IsFresh R.log 8192 (D.grammar decoder).most inner decoder) }
+        ensures whole { IfOk result (IsPiecing (D.grammar decoder)) }
+        ensures handed_back { IfErr result (λ e. (e.0.0 ≡ inner) × (e.0.1 ≡ decoder)) }
+        ensures within { FitsWithin (growth result) (room_for 8192 (D.grammar decoder).most) (2 ^ 62) }
+    {
+        PieceReader::with_capacity(alloc, DEFAULT_BUF_SIZE, inner, decoder)
+    }
+
+    /// The same over a buffer of `capacity` bytes, or of what three pieces take where that is more. A refusal is `TooLarge`
+    /// past [`MAX_CAPACITY`](buffer_redux::MAX_CAPACITY), and else `Memory`.
+    pub fn with_capacity(
+        alloc: Global,
+        capacity: usize,
+        inner: R,
+        decoder: D,
+    ) -> Result<Self, MakeError<(R, D)>>
+        ensures made { IfOk result (IsFresh R.log capacity (D.grammar decoder).most inner decoder) }
+        ensures whole { IfOk result (IsPiecing (D.grammar decoder)) }
+        ensures handed_back { IfErr result (λ e. (e.0.0 ≡ inner) × (e.0.1 ≡ decoder)) }
+        ensures within { FitsWithin (growth result) (room_for capacity (D.grammar decoder).most) (2 ^ 62) }
+    {
+        match piece_buffer(alloc, capacity, decoder.most()) {
+            Ok(buffer) => Ok(PieceReader {
+                reader: BufReader::with_buffer(buffer, inner).set_policy(MinBuffered(0)),
+                decoder,
+                handed: 0,
+                seen: 0,
+                ended: false,
+            }),
+            Err(e) => Err(MakeError((inner, decoder), e)),
+        }
+    }
+
+    /// The inner reader.
+    pub fn get_ref(&self) -> &R
+        ensures inner { result.now ≡ self.now.reader.inner }
+        ensures log { R.log result.now ≡ self.now.reader.log }
+    {
+        self.reader.get_ref()
+    }
+
+    /// The inner reader, for changes. What is read through this is in no piece.
+    pub fn get_mut(&mut self) -> &mut R
+        ensures* writes_back { sem 𝓛 (Lends (the_row R.row D.row D.Wrong.row R.Tell D.Decoder) R.row
+            self.entry result (with_stream R.log self.old)) }
+        ensures inner { result.now ≡ self.old.reader.inner }
+        ensures log { R.log result.now ≡ self.old.reader.log }
+    {
+        self.reader.get_mut()
+    }
+
+    /// The inner reader. What is buffered is gone; [`rest`](PieceReader::rest) shows it before.
+    pub fn into_inner(self) -> R
+        ensures inner { result ≡ self.reader.inner }
+        ensures log { R.log result ≡ self.reader.log }
+    {
+        self.into_inner_with_buffer().0
+    }
+
+    /// The inner reader, and the buffer with the bytes that weren't handed out. It may not grow, but by its
+    /// [`set_limit`](Buffer::set_limit).
+    pub fn into_inner_with_buffer(self) -> (R, Buffer)
+        ensures inner { result.0 ≡ self.reader.inner }
+        ensures log { R.log result.0 ≡ self.reader.log }
+        ensures bytes { result.1.bytes ≡ rest self }
+        ensures limit { result.1.limit ≡ self.reader.block.limit }
+        ensures capacity { result.1.capacity ≡ self.reader.block.capacity }
+    {
+        let PieceReader {
+            reader,
+            decoder: _,
+            handed,
+            seen: _,
+            ended: _,
+        } = self;
+        let (inner, mut buffer) = reader.into_inner_with_buffer();
+        buffer.consume(handed);
+        (inner, buffer)
+    }
+
+    /// The decoder.
+    pub fn decoder(&self) -> &D
+        ensures { result.now ≡ self.now.decoder }
+    {
+        &self.decoder
+    }
+
+    /// The buffered bytes that weren't handed out.
+    #[inline(always)]
+    pub fn rest(&self) -> &[u8]
+        ensures value { result.now ≡ rest self.now }
+        ensures whole { IsPiecing (D.grammar self.now.decoder) self.now }
+    {
+        &self.reader.buffer()[self.handed..]
+    }
+
+    /// The payload that the last [`step`](PieceReader::step) went on to, which said where it is.
+    #[inline(always)]
+    pub fn lent(&self, span: Span) -> &[u8]
+        requires { span.from + span.len ≤ length self.now.reader.block.bytes }
+        ensures { result.now ≡ bytes_at span self.now.reader.block.bytes }
+    {
+        &self.reader.buffer()[span.from..span.from + span.len]
+    }
+
+    // Hands the next piece out where it is buffered whole. What was looked at before isn't looked at again.
+    #[inline(always)]
+    fn take(&mut self) -> Found<D::Wrong>
+        ensures takes { Takes (D.grammar self.old.decoder) self.old result self.new }
+        ensures before { IsPiecing (D.grammar self.old.decoder) self.old }
+        ensures whole { IsPiecing (D.grammar self.old.decoder) self.new }
+    {
+        let left = self.rest();
+        let have = left.len();
+        let found = self.decoder.decode(left, self.seen);
+        match &found {
+            Found::Piece(_, used) => {
+                self.handed += *used;
+                self.seen = 0;
+            }
+            Found::More(_) => {
+                self.seen = have;
+            }
+            Found::Wrong(_) => {}
+        }
+        found
+    }
+
+    // Hands out what is left as the last piece, or says why it is none, where it is something.
+    fn take_end(&mut self) -> Result<Option<Span>, NextError<D::Wrong>>
+        requires handed { self.old.handed ≡ 0 }
+        requires open { IsOpen (D.grammar self.old.decoder) (rest self.old) }
+        ensures takes { TakesEnd (D.grammar self.old.decoder) self.old result self.new }
+        ensures whole { IsPiecing (D.grammar self.old.decoder) self.new }
+    {
+        let len = self.reader.buf_len();
+        if len == 0 {
+            self.ended = false;
+            return Ok(None);
+        }
+        match self.decoder.at_end(self.reader.buffer()) {
+            End::Last(span) => {
+                self.handed = len;
+                self.seen = 0;
+                self.ended = true;
+                Ok(Some(span))
+            }
+            End::Wrong(e) => Err(NextError::Wrong(e)),
+        }
+    }
+}
+
+impl<R: TellRead, D: Decoder> PieceReader<R, D> {
+    /// Goes on to the next piece, and returns where its payload is: [`lent`](PieceReader::lent) shows it until the next call.
+    /// `None` where the stream ended behind the last piece.
+    ///
+    /// The stream is read only where what is buffered settles nothing, and each end of it is told once: by the call after the
+    /// one that handed out a last piece, which reads nothing then. A call after a `None` asks the stream again.
+    ///
+    /// An `Err` says why there is no piece, and leaves what came of it: the next call looks at it again.
+    #[inline(always)]
+    pub fn step(&mut self) -> Result<Option<Span>, NextError<D::Wrong>>
+        ensures next { NextPiece R.remaining (D.grammar self.old.decoder) self.old
+            (load_answer result self.new) self.new }
+        ensures within { IfOk result (λ found. IfSome found (λ span.
+            span.from + span.len ≤ length self.new.reader.block.bytes)) }
+        ensures ready { (piece payload more : List ℕ) → (D.grammar self.old.decoder).piece piece payload
+            → rest self.old ≡ piece ++ more → load_answer result self.new ≡ Ok (Some payload) }
+        ensures wrong { (e : D.Wrong) → (D.grammar self.old.decoder).wrong (rest self.old) e
+            → load_answer result self.new ≡ Err (NextError.Wrong e) }
+        ensures ended { self.old.ended ≡ true → load_answer result self.new ≡ Ok None }
+    {
+        let at = self.handed;
+        match self.take() {
+            Found::Piece(span, _) => Ok(Some(Span {
+                from: at + span.from,
+                len: span.len,
+            })),
+            Found::More(need) => self.load_aside(need),
+            Found::Wrong(e) => Err(NextError::Wrong(e)),
+        }
+    }
+
+    /// Whether a whole piece is buffered: then the next [`step`](PieceReader::step) hands it out, and reads nothing.
+    pub fn has_piece(&self) -> bool
+        ensures buffered { IsTrue result ↔ Begins (D.grammar self.now.decoder) (rest self.now) }
+        ensures unasked { OnTrue result (AsksNone R.remaining (D.grammar self.now.decoder) self.now) }
+    {
+        matches!(
+            self.decoder.decode(self.rest(), self.seen),
+            Found::Piece(_, _)
+        )
+    }
+
+    // Goes on in `load`. The kit's compiler clears the answer of a call where the function that makes the call begins; of a
+    // call made in here, which is inlined, that is behind the look at what is buffered.
+    #[inline(always)]
+    fn load_aside(&mut self, need: usize) -> Result<Option<Span>, NextError<D::Wrong>>
+        requires few { length (rest self.old) < need }
+        requires most { need ≤ (D.grammar self.old.decoder).most }
+        requires lacks { Lacks (D.grammar self.old.decoder) need (rest self.old) }
+        ensures next { NextPiece R.remaining (D.grammar self.old.decoder) self.old
+            (load_answer result self.new) self.new }
+        ensures within { IfOk result (λ found. IfSome found (λ span.
+            span.from + span.len ≤ length self.new.reader.block.bytes)) }
+    {
+        self.load(need)
+    }
+
+    // Has the next piece stand whole at the front of the buffer, hands it out, and returns where its payload is.
+    #[inline(never)]
+    fn load(&mut self, need: usize) -> Result<Option<Span>, NextError<D::Wrong>>
+        requires few { length (rest self.old) < need }
+        requires most { need ≤ (D.grammar self.old.decoder).most }
+        requires lacks { Lacks (D.grammar self.old.decoder) need (rest self.old) }
+        ensures next { NextPiece R.remaining (D.grammar self.old.decoder) self.old
+            (load_answer result self.new) self.new }
+        ensures within { IfOk result (λ found. IfSome found (λ span.
+            span.from + span.len ≤ length self.new.reader.block.bytes)) }
+    {
+        self.drop_handed();
+        let mut need = need;
+        'turns: loop {
+            if !self.read_to(need)? {
+                return self.take_end();
+            }
+            match self.take() {
+                Found::Piece(span, _) => return Ok(Some(span)),
+                Found::More(more) => {
+                    need = more;
+                }
+                Found::Wrong(e) => return Err(NextError::Wrong(e)),
+            }
+        }
+    }
+
+    // Reads until so many bytes are buffered, and returns whether they are: they aren't where the stream ended.
+    fn read_to(&mut self, need: usize) -> io::Result<bool>
+        requires handed { self.old.handed ≡ 0 }
+        requires few { length (rest self.old) < need }
+        requires most { need ≤ (D.grammar self.old.decoder).most }
+        ensures { AsksFor R.remaining (D.grammar self.old.decoder) need self.old result self.new }
+    {
+        if self.ended {
+            return Ok(false);
+        }
+        self.reader.policy_mut().set_min(need);
+        Ok(self.reader.fill_buf()?.len() >= need)
+    }
+
+    // Drops what was handed out.
+    fn drop_handed(&mut self)
+        ensures went { PiecesWent R.remaining (D.grammar self.old.decoder).most self.old [] self.new }
+        ensures rest { rest self.new ≡ rest self.old }
+        ensures handed { self.new.handed ≡ 0 }
+        ensures seen { self.new.seen ≡ self.old.seen }
+        ensures ended { self.new.ended ≡ self.old.ended }
+        ensures told { self.new.reader.log ≡ self.old.reader.log }
+        ensures whole { IsPiecing (D.grammar self.old.decoder) self.new }
+    {
+        self.reader.consume(self.handed);
+        self.handed = 0;
+    }
+}

@@ -1,0 +1,243 @@
+//! The writer of pieces.
+ghost use Rattle.std.specs.Prelude.{◌≡◌, ◌↔◌, IsTrue, ◌+◌, ◌<◌, ◌≤◌, ◌^◌, ◌++◌, [], length, take, Ok, Err, IfOk, IfErr, MatchResult};
+ghost use Rattle.std.specs.Borrow.{Lends, sem};
+ghost use Rattle.buffer_redux.specs.Block.{usable};
+ghost use Rattle.buffer_redux.specs.BufWriter.{WasFlushed, WasSent};
+ghost use Rattle.buffer_redux.specs.Unwrapping.{InnerOfFlushed};
+ghost use Rattle.buffer_redux.specs.GrowError.{FitsWithin};
+ghost use Rattle.buffer_redux.specs.MakeError.{growth};
+ghost use Rattle.codec.specs.contracts.writer.PieceWriter.{the_row};
+ghost use Rattle.codec.specs.Encoding.{IsHead, coded};
+ghost use Rattle.codec.specs.Outgoing.{IsOutgoing, IsUnused, room, with_stream};
+ghost use Rattle.codec.specs.Piecing.{room_for};
+ghost use Rattle.codec.specs.WritePiece.{PiecesTaken, PutsIn, WritesPiece};
+
+use crate::buffer::piece_buffer;
+use crate::encoder::Encoder;
+use crate::error::WritePieceError;
+use crate::head::Head;
+use buffer_redux::tell::TellWrite;
+use buffer_redux::{BufWriter, Buffer, DEFAULT_BUF_SIZE, IntoInnerError, MakeError};
+use std::alloc::Global;
+use std::io;
+use std::io::Write;
+use std::marker::Model;
+
+/// A writer of the pieces that an encoder says. A piece is taken in whole, or not at all.
+///
+/// It keeps them in a plain buffer, in which three pieces fit. The makers take its memory, and no other call takes any. A
+/// writer that is dropped sends what is buffered, without a flush of the inner writer, and forgets a fault.
+///
+/// ```
+/// let lines = Delimited { end: b'\n', max: 9 };
+/// let mut writer = PieceWriter::new(alloc, Told::new(Vec::new(alloc)), lines)?;
+/// assert!(rt; writer.write_piece(b"hi").is_ok());
+/// writer.flush()?;
+/// assert!(rt; writer.get_ref().get_ref().as_slice() == b"hi\n".as_slice());
+/// ```
+#[derive(Drop)]
+pub struct PieceWriter<W: TellWrite, E: Encoder> {
+    writer: BufWriter<W>,
+    encoder: E,
+}
+
+impl<W: TellWrite, E: Encoder> Model for PieceWriter<W, E> {
+    ghost use Rattle.codec.specs.Outgoing.{Outgoing, IsOutgoing};
+
+    ghost Value = { Outgoing W E };
+
+    ghost view = { λ f. record { writer = f.writer; encoder = f.encoder } };
+
+    ghost invariant = { λ f. IsOutgoing (E.encoding f.encoder).most (record { writer = f.writer; encoder = f.encoder }) };
+}
+
+impl<W: TellWrite, E: Encoder> PieceWriter<W, E> {
+    /// A writer of the pieces that `encoder` says, over a buffer of [`DEFAULT_BUF_SIZE`] bytes, or of what three pieces take
+    /// where that is more. A refusal hands `inner` and `encoder` back.
+    pub fn new(alloc: Global, inner: W, encoder: E) -> Result<Self, MakeError<(W, E)>>
+        ensures made { IfOk result (IsUnused W.log 8192 (E.encoding encoder).most inner encoder) }
+        ensures whole { IfOk result (IsOutgoing (E.encoding encoder).most) }
+        ensures handed_back { IfErr result (λ e. (e.0.0 ≡ inner) × (e.0.1 ≡ encoder)) }
+        ensures within { FitsWithin (growth result) (room_for 8192 (E.encoding encoder).most) (2 ^ 62) }
+    {
+        PieceWriter::with_capacity(alloc, DEFAULT_BUF_SIZE, inner, encoder)
+    }
+
+    /// The same over a buffer of `capacity` bytes, or of what three pieces take where that is more. A refusal is `TooLarge`
+    /// past [`MAX_CAPACITY`](buffer_redux::MAX_CAPACITY), and else `Memory`.
+    pub fn with_capacity(
+        alloc: Global,
+        capacity: usize,
+        inner: W,
+        encoder: E,
+    ) -> Result<Self, MakeError<(W, E)>>
+        ensures made { IfOk result (IsUnused W.log capacity (E.encoding encoder).most inner encoder) }
+        ensures whole { IfOk result (IsOutgoing (E.encoding encoder).most) }
+        ensures handed_back { IfErr result (λ e. (e.0.0 ≡ inner) × (e.0.1 ≡ encoder)) }
+        ensures within { FitsWithin (growth result) (room_for capacity (E.encoding encoder).most) (2 ^ 62) }
+    {
+        match piece_buffer(alloc, capacity, encoder.most_written()) {
+            Ok(buffer) => Ok(PieceWriter {
+                writer: BufWriter::with_buffer(buffer, inner),
+                encoder,
+            }),
+            Err(e) => Err(MakeError((inner, encoder), e)),
+        }
+    }
+
+    /// The inner writer.
+    pub fn get_ref(&self) -> &W
+        ensures inner { result.now ≡ self.now.writer.inner }
+        ensures log { W.log result.now ≡ self.now.writer.log }
+    {
+        self.writer.get_ref()
+    }
+
+    /// The inner writer, for changes. What is written through this goes out before the buffered pieces.
+    pub fn get_mut(&mut self) -> &mut W
+        ensures* writes_back { sem 𝓛 (Lends (the_row W.row E.row E.Refusal.row W.TellWrite.own W.Tell.own E.Encoder) W.row
+            self.entry result (with_stream W.log self.old)) }
+        ensures inner { result.now ≡ self.old.writer.inner }
+        ensures log { W.log result.now ≡ self.old.writer.log }
+    {
+        self.writer.get_mut()
+    }
+
+    /// Takes the payload's piece in. It is sent where a later piece finds no room, by [`send`](PieceWriter::send) and
+    /// [`flush`](PieceWriter::flush), and where the writer is unwrapped or dropped.
+    ///
+    /// At an `Err` nothing of the piece was taken in, so the call can be made again. A `Refused` changes nothing at all; an `Io`
+    /// comes only where the piece found no room, and then just what the inner writer took is gone from the buffer.
+    #[inline(always)]
+    pub fn write_piece(&mut self, payload: &[u8]) -> Result<(), WritePieceError<E::Refusal>>
+        ensures { WritesPiece W.stretch (E.encoding self.old.encoder) self.old payload.now result self.new }
+    {
+        match self.encoder.head(payload) {
+            Ok(head) => self.write_behind(&head, payload),
+            Err(e) => Err(WritePieceError::Refused(e)),
+        }
+    }
+
+    #[inline(always)]
+    fn write_behind(
+        &mut self,
+        head: &Head,
+        payload: &[u8],
+    ) -> Result<(), WritePieceError<E::Refusal>>
+        requires head { IsHead (E.encoding self.old.encoder) payload.now head.now }
+        ensures { WritesPiece W.stretch (E.encoding self.old.encoder) self.old payload.now result self.new }
+    {
+        if !self.has_room(head, payload) {
+            return self.write_slowly(head, payload);
+        }
+        self.take_in(head, payload);
+        Ok(())
+    }
+
+    // Sends all that is buffered, and then takes the piece in.
+    #[cold]
+    #[inline(never)]
+    fn write_slowly(
+        &mut self,
+        head: &Head,
+        payload: &[u8],
+    ) -> Result<(), WritePieceError<E::Refusal>>
+        requires head { IsHead (E.encoding self.old.encoder) payload.now head.now }
+        requires full { room self.old < length (coded (E.encoding self.old.encoder) payload.now) }
+        ensures { WritesPiece W.stretch (E.encoding self.old.encoder) self.old payload.now result self.new }
+    {
+        self.send()?;
+        self.take_in(head, payload);
+        Ok(())
+    }
+
+    // Whether the piece fits behind what is buffered.
+    #[inline(always)]
+    fn has_room(&self, head: &Head, payload: &[u8]) -> bool
+        requires head { IsHead (E.encoding self.now.encoder) payload.now head.now }
+        ensures room { IsTrue result ↔ (length (coded (E.encoding self.now.encoder) payload.now) ≤ room self.now) }
+        ensures whole { IsOutgoing (E.encoding self.now.encoder).most self.now }
+    {
+        let left = self.writer.capacity() - self.writer.buf_len();
+        if left < head.len {
+            return false;
+        }
+        let left = left - head.len;
+        if left < payload.len() {
+            return false;
+        }
+        left - payload.len() >= self.encoder.tail().len()
+    }
+
+    /// Sends all pieces, without a flush of the inner writer. Where that fails, just what the inner writer took is no longer
+    /// buffered.
+    pub fn send(&mut self) -> io::Result<()>
+        ensures sent { WasSent W.log W.stretch self.old.writer result self.new.writer }
+        ensures went { PiecesTaken W.stretch (E.encoding self.old.encoder) self.old [] self.new }
+        ensures whole { IsOutgoing (E.encoding self.old.encoder).most self.new }
+    {
+        self.writer.send()
+    }
+
+    /// Sends all pieces, and flushes the inner writer.
+    pub fn flush(&mut self) -> io::Result<()>
+        ensures flushed { WasFlushed W.log W.stretch self.old.writer result self.new.writer }
+        ensures went { PiecesTaken W.stretch (E.encoding self.old.encoder) self.old [] self.new }
+        ensures whole { IsOutgoing (E.encoding self.old.encoder).most self.new }
+    {
+        self.writer.flush()
+    }
+
+    /// Flushes, and hands the inner writer back; where that fails, the writer with the bytes that were not sent, and the
+    /// fault.
+    pub fn into_inner(mut self) -> Result<W, IntoInnerError<Self>>
+        ensures { MatchResult result (InnerOfFlushed W.log W.stretch self.writer (Ok tt))
+            (λ e. WasFlushed W.log W.stretch self.writer (Err e.1) e.0.writer
+            × PiecesTaken W.stretch (E.encoding self.encoder) self [] e.0) }
+    {
+        match self.flush() {
+            Ok(()) => {
+                let (inner, _) = self.into_inner_with_buffer();
+                Ok(inner)
+            }
+            Err(e) => Err(IntoInnerError(self, e)),
+        }
+    }
+
+    /// The inner writer, and the buffer with the bytes of pieces that were not sent. Nothing is sent.
+    pub fn into_inner_with_buffer(self) -> (W, Buffer)
+        ensures inner { result.0 ≡ self.writer.inner }
+        ensures log { W.log result.0 ≡ self.writer.log }
+        ensures block { result.1 ≡ self.writer.block }
+    {
+        let PieceWriter { writer, encoder: _ } = self;
+        writer.into_inner_with_buffer()
+    }
+
+    // Copies the piece in, for which there is room.
+    #[inline(always)]
+    fn take_in(&mut self, head: &Head, payload: &[u8])
+        requires head { IsHead (E.encoding self.old.encoder) payload.now head.now }
+        requires room { length (coded (E.encoding self.old.encoder) payload.now) ≤ room self.old }
+        ensures { PutsIn W.stretch (E.encoding self.old.encoder).most self.old
+            (coded (E.encoding self.old.encoder) payload.now) self.new }
+    {
+        self.writer.make_room();
+        self.put(&head.bytes[..head.len]);
+        self.put(payload);
+        if !self.encoder.tail().is_empty() {
+            let _ = self.writer.write(self.encoder.tail());
+        }
+    }
+
+    // Copies bytes in, for which there is room.
+    #[inline(always)]
+    fn put(&mut self, bytes: &[u8])
+        requires room { length bytes.now ≤ usable self.old.writer.block }
+        requires inside { length bytes.now < self.old.writer.block.capacity }
+        ensures put { PutsIn W.stretch (E.encoding self.old.encoder).most self.old bytes.now self.new }
+        ensures usable { usable self.old.writer.block ≤ usable self.new.writer.block + length bytes.now }
+    {
+        let _ = self.writer.write(bytes);
+    }
+}

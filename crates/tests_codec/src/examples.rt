@@ -1,0 +1,60 @@
+//! The examples of the documentation.
+use buffer_redux::tell::Told;
+use codec::{Delimited, NextError, NotPlain, PieceReader, PieceWriter, TooLong, WritePieceError};
+use std::test::Fail;
+
+#[test]
+fn next_error(rt: HostRuntime) -> Result<(), Fail> {
+    let alloc = rt.alloc();
+    let lines = Delimited { end: b'\n', max: 4 };
+    let mut reader = PieceReader::new(alloc, Told::new(b"too long\n".as_slice()), lines)?;
+    assert!(rt; matches!(reader.next(), Err(NextError::Wrong(TooLong(4)))));
+    assert!(rt; reader.rest() == b"too long\n".as_slice());
+    Ok(drop(reader))
+}
+
+#[test]
+fn write_piece_error(rt: HostRuntime) -> Result<(), Fail> {
+    let alloc = rt.alloc();
+    let lines = Delimited { end: b'\n', max: 4 };
+    let mut writer = PieceWriter::new(alloc, Told::new(Vec::new(alloc)), lines)?;
+    let refused = writer.write_piece(b"a\nb");
+    assert!(rt; matches!(refused, Err(WritePieceError::Refused(NotPlain::HasEnd))));
+    Ok(drop(writer))
+}
+
+#[test]
+fn delimited(rt: HostRuntime) -> Result<(), Fail> {
+    let alloc = rt.alloc();
+    let lines = Delimited { end: b'\n', max: 9 };
+    let mut reader = PieceReader::new(alloc, Told::new(b"one\n\nlast".as_slice()), lines)?;
+    assert!(rt; matches!(reader.next(), Ok(Some(b"one"))));
+    assert!(rt; reader.has_piece());
+    assert!(rt; matches!(reader.next(), Ok(Some(b""))));
+    assert!(rt; !reader.has_piece());
+    assert!(rt; matches!(reader.next(), Ok(Some(b"last"))));
+    assert!(rt; matches!(reader.next(), Ok(None)));
+    Ok(drop(reader))
+}
+
+#[test]
+fn piece_reader(rt: HostRuntime) -> Result<(), Fail> {
+    let alloc = rt.alloc();
+    let lines = Delimited { end: b'\n', max: 9 };
+    let mut reader = PieceReader::new(alloc, Told::new(b"hi\n".as_slice()), lines)?;
+    if let Some(span) = reader.step()? {
+        assert!(rt; reader.lent(span) == b"hi".as_slice());
+    }
+    Ok(drop(reader))
+}
+
+#[test]
+fn piece_writer(rt: HostRuntime) -> Result<(), Fail> {
+    let alloc = rt.alloc();
+    let lines = Delimited { end: b'\n', max: 9 };
+    let mut writer = PieceWriter::new(alloc, Told::new(Vec::new(alloc)), lines)?;
+    assert!(rt; writer.write_piece(b"hi").is_ok());
+    writer.flush()?;
+    assert!(rt; writer.get_ref().get_ref().as_slice() == b"hi\n".as_slice());
+    Ok(drop(writer))
+}

@@ -1,0 +1,11 @@
+//! Pieces by worked examples, cut in every way and with a fault at each call; and the examples of their documentation.
+#![tactic(auto)]
+
+#[cfg(test)]
+mod examples;
+#[cfg(test)]
+mod pieces;
+#[cfg(test)]
+mod sweep;
+#[cfg(test)]
+mod written;
