@@ -157,6 +157,14 @@ impl<W: TellWrite, P> BufWriter<W, P> {
         &mut self.inner
     }
 
+    /// The buffered bytes, which weren't sent yet.
+    pub fn buffer(&self) -> &[u8]
+        ensures value { result.now ≡ self.now.block.bytes }
+        ensures whole { IsBlock self.now.block }
+    {
+        self.buf.buf()
+    }
+
     /// How many bytes are buffered.
     pub fn buf_len(&self) -> usize
         ensures value { result ≡ length self.now.block.bytes }

@@ -72,6 +72,25 @@ impl<W> IntoInnerError<W> {
         let IntoInnerError(writer, _) = self;
         writer
     }
+
+    /// The fault. The writer is dropped, which sends once more.
+    pub fn into_error(self) -> io::Error
+    where
+        W: Drop,
+        ensures { result ≡ self.1 }
+    {
+        let IntoInnerError(_, fault) = self;
+        fault
+    }
+
+    /// The fault, and the writer with the bytes that were not sent.
+    pub fn into_parts(self) -> (io::Error, W)
+        ensures fault { result.0 ≡ self.1 }
+        ensures writer { result.1 ≡ self.0 }
+    {
+        let IntoInnerError(writer, fault) = self;
+        (fault, writer)
+    }
 }
 
 impl<T> fmt::Display for IntoInnerError<T> {

@@ -115,6 +115,14 @@ impl<W: TellWrite> LineWriter<W> {
         self.writer.get_mut()
     }
 
+    /// The buffered bytes, which weren't sent yet.
+    pub fn buffer(&self) -> &[u8]
+        ensures value { result.now ≡ self.now.block.bytes }
+        ensures whole { IsBlock self.now.block }
+    {
+        self.writer.buffer()
+    }
+
     /// How many bytes are buffered.
     pub fn buf_len(&self) -> usize
         ensures value { result ≡ length self.now.block.bytes }
@@ -153,15 +161,22 @@ impl<W: TellWrite> LineWriter<W> {
     }
 
     /// The inner writer and the buffer with the bytes that were not written out. Nothing is sent.
-    ///
-    /// [`BufWriter::into_inner_with_buffer`] is the same call; the original names the two so.
-    pub fn into_inner_with_buf(self) -> (W, Buffer)
+    pub fn into_inner_with_buffer(self) -> (W, Buffer)
         ensures inner { result.0 ≡ self.inner }
         ensures log { W.log result.0 ≡ self.log }
         ensures block { result.1 ≡ self.block }
     {
         let LineWriter { writer } = self;
         writer.into_inner_with_buffer()
+    }
+
+    /// The original's name for [`into_inner_with_buffer`](LineWriter::into_inner_with_buffer).
+    pub fn into_inner_with_buf(self) -> (W, Buffer)
+        ensures inner { result.0 ≡ self.inner }
+        ensures log { W.log result.0 ≡ self.log }
+        ensures block { result.1 ≡ self.block }
+    {
+        self.into_inner_with_buffer()
     }
 
     /// Flushes, and hands the inner writer back; where that fails, the line writer with the bytes that were not sent, and

@@ -60,7 +60,8 @@ fn left<W: TellWrite + Drop>(lines: LineWriter<W>) -> Buffer {
 static FAULTS: [Answer; 2] = [Answer::Serve(2), Answer::Fail(ErrorKind::Other)];
 
 fn breaks_off(lines: &mut LineWriter<Target>) -> io::Result<bool> {
-    Ok(write(lines, b"ab\ncd")? == 5 && taken_lines(lines) == b"ab".as_slice())
+    let is_taken = write(lines, b"ab\ncd")? == 5 && taken_lines(lines) == b"ab".as_slice();
+    Ok(is_taken && lines.buffer() == b"\ncd".as_slice())
 }
 
 // Whether the bytes behind the fault are left.

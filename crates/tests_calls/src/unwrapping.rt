@@ -102,7 +102,7 @@ fn line_parts<W: TellWrite>(mut lines: LineWriter<W>, way: Way) -> (W, Buffer, F
             for _ in 0..2 {
                 let _ = lines.send();
             }
-            lines.into_inner_with_buf()
+            lines.into_inner_with_buffer()
         }
         Way::Finish => lines.finish(|_, unsent: &mut Buffer, e: io::Error| {
             seen = Some((e.kind(), unsent.len()));
@@ -301,5 +301,8 @@ fn wrappers(rt: HostRuntime) -> Result<(), Fail> {
     let error = IntoInnerError(7u8, other());
     assert!(rt; shows_other(rt.alloc(), &error)?);
     assert!(rt; (error.into_inner(), turned()) == (7, ErrorKind::Other));
+    let (fault, inside) = IntoInnerError(8u8, other()).into_parts();
+    assert!(rt; (inside, fault.kind()) == (8, ErrorKind::Other));
+    assert!(rt; IntoInnerError(7u8, fault).into_error().kind() == ErrorKind::Other);
     Ok(())
 }
