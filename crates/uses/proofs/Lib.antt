@@ -1,2 +1,5 @@
 pub mod Framing
 pub mod Gaining
+pub mod Enduring
+pub mod Failing
+pub mod Reporting

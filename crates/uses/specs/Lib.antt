@@ -3,4 +3,5 @@ pub mod LineCount
 pub mod Progress
 pub mod Records
 pub mod Sniff
+pub mod Stops
 pub mod Survive

@@ -1,5 +1,10 @@
 -- What a copy that tells its progress says.
-use Rattle.std.specs.Prelude.{◌≡◌, ℕ, ◌≤◌, zero, suc}
+use Rattle.std.specs.Prelude.{◌≡◌, ℕ, ◌+◌, ◌^◌, ◌≤◌, zero, suc}
+use Rattle.std.specs.IoError.{error_kind}
+use Rattle.std.specs.declared.io.Error.{Error}
+use Rattle.std.specs.declared.io.ErrorKind.TheVariants.{Other}
+use Rattle.buffer_redux.specs.Copy.{consumed_since}
+use Rattle.buffer_redux.specs.StreamLog.{FillLog}
 use Rattle.std.specs.Io.Iter.{u64_saturate}
 
 -- k calls of a callback with numbers that don't fall, the last of them n
@@ -7,8 +12,12 @@ abbrev pub Reports : {F : Type 0} → (F → ℕ → F → Type 0) → F → ℕ
 Reports step f zero n g = (n ≡ 0) × (g ≡ f)
 Reports {F} step f (suc k) n g = (m : ℕ) × (before : F) × Reports step f k m before × (m ≤ n) × step before n g
 
--- the callback was last told of so many bytes
-pub record Tells {F : Type 0} (step : F → ℕ → F → Type 0) (report : F) (count : ℕ) : Type 0 where
-  pub calls : ℕ
+-- in so many calls the callback was last told of so many bytes
+pub record Tells {F : Type 0} (step : F → ℕ → F → Type 0) (report : F) (calls count : ℕ) : Type 0 where
   pub last : F
   pub told : Reports step report calls (u64_saturate count) last
+
+-- it was `Other`, since more bytes went over than a `u64` counts
+pub record TooManyTurns (e : Error) (from from' : FillLog) : Type 0 where
+  pub other : error_kind e ≡ Other
+  pub large : 2 ^ 64 ≤ consumed_since from from' + 1

@@ -1,7 +1,8 @@
 //! A log that keeps the bytes which its device doesn't take, and sends them later.
-ghost use Rattle.std.specs.Prelude.{◌≡◌, ◌++◌, OnOk, length, take};
+ghost use Rattle.std.specs.Prelude.{◌≡◌, ◌+◌, ◌⊎◌, [], ◌++◌, IfErr, OnOk, length, take};
 ghost use Rattle.buffer_redux.specs.BufWriter.{WritesInOrder};
 ghost use Rattle.buffer_redux.specs.Unwrapping.{KeepsUnsent};
+ghost use Rattle.uses.specs.Stops.{DeviceFailed, FailedTimes};
 
 use buffer_redux::tell::TellWrite;
 use buffer_redux::{Buffer, LineWriter};
@@ -13,6 +14,7 @@ use std::io::{ErrorKind, Write};
 pub fn put<W: TellWrite>(log: &mut LineWriter<W>, text: &[u8]) -> (usize, io::Result<()>)
     ensures taken { WritesInOrder log.old (take result.0 text.now) log.new }
     ensures all { OnOk result.1 (result.0 ≡ length text.now) }
+    ensures caused { IfErr result.1 (DeviceFailed log.old.log.writes log.new.log.writes) }
 {
     let mut at = 0;
     while at < text.len() {
@@ -42,10 +44,11 @@ pub fn reopen<W: TellWrite>(device: W, unsent: Buffer) -> LineWriter<W>
 
 /// Closes the log, and tries so many times again to send what is left.
 pub fn close_patiently<W: TellWrite>(log: LineWriter<W>, tries: u32) -> (W, Buffer)
-    ensures { (W.log result.0).writes.received ++ result.1.bytes ≡ log.log.writes.received ++ log.block.bytes }
+    ensures tried { (result.1.bytes ≡ []) ⊎ FailedTimes (tries + 1) log.log.writes (W.log result.0).writes }
+    ensures none_lost { (W.log result.0).writes.received ++ result.1.bytes ≡ log.log.writes.received ++ log.block.bytes }
 {
     let (mut device, mut unsent) = close(log);
-    for _try in 0..tries {
+    for _ in 0..tries {
         if unsent.is_empty() {
             break;
         }

@@ -1,8 +1,9 @@
 //! Counts the line feeds that a stream has.
-ghost use Rattle.std.specs.Prelude.{◌≡◌, ◌<◌, IfOk, IfSome};
+ghost use Rattle.std.specs.Prelude.{◌≡◌, ◌<◌, true, IfOk, IfErr, IfSome};
 ghost use Rattle.buffer_redux.specs.ReaderLaws.{WantsBytes};
 ghost use Rattle.buffer_redux.specs.Remaining.{reader_remaining};
 ghost use Rattle.uses.specs.LineCount.{CountsLines, line_feeds};
+ghost use Rattle.uses.specs.Stops.{StopsAtOnce};
 
 use buffer_redux::BufReader;
 use buffer_redux::policy::ReaderPolicy;
@@ -15,11 +16,13 @@ pub fn count_lines<R: TellRead, P: ReaderPolicy>(reader: &mut BufReader<R, P>) -
     requires capacity { 0 < reader.old.block.capacity }
     requires wants { WantsBytes (P.rules.claims reader.old.policy) }
     ensures lines { IfOk result (λ n. CountsLines R.remaining P.rules n reader.old reader.new) }
+    ensures caused { (P.rules.claims reader.old.policy).steady ≡ true
+        → IfErr result (λ e. StopsAtOnce e reader.old reader.new) }
     ensures known { IfOk result (λ n. IfSome (reader_remaining R.remaining P.rules reader.old)
         (λ bytes. n ≡ line_feeds bytes)) }
 {
     let mut lines = 0u64;
-    for _turn in 0..u64::MAX {
+    for _ in 0..u64::MAX {
         let shown = reader.fill_buf()?;
         let len = shown.len();
         if len == 0 {

@@ -1,8 +1,8 @@
 //! Copies a reader to a writer, and tells after each write how many bytes went over so far.
-ghost use Rattle.std.specs.Prelude.{◌≡◌, ℕ, OnOk, IfOk};
+ghost use Rattle.std.specs.Prelude.{◌≡◌, ◌-◌, ◌⊎◌, ℕ, OnOk, IfOk, IfErr, MatchResult};
 ghost use Rattle.std.specs.Io.Iter.{u64_saturate};
-ghost use Rattle.buffer_redux.specs.Copy.{MovedBy, CopyEnded};
-ghost use Rattle.uses.specs.Progress.{Tells};
+ghost use Rattle.buffer_redux.specs.Copy.{MovedBy, CopyEnded, FaultsAtMost, FaultsMet, StreamFailed};
+ghost use Rattle.uses.specs.Progress.{Tells, TooManyTurns};
 
 use buffer_redux::copy_turn;
 use buffer_redux::tell::{TellBufRead, TellWrite};
@@ -19,14 +19,21 @@ pub fn copy_with_progress<B: TellBufRead, W: TellWrite, F: FnMut(u64) + Drop>(
     requires callable { (state : F) (n : _) → F.pre state n }
     ensures moved { (n : ℕ)
         × MovedBy n (B.log from.old).fills (B.log from.new).fills (W.log to.old).writes (W.log to.new).writes
-        × Tells (λ p n q. F.step p n tt q) report n × IfOk result (λ total. total ≡ u64_saturate n) }
+        × Tells (λ p n q. F.step p n tt q) report ((B.log from.new).fills.consumes - (B.log from.old).fills.consumes) n
+        × IfOk result (λ total. total ≡ u64_saturate n) }
     ensures ended { OnOk result (CopyEnded W.log W.stretch W.call
         (B.log from.old).fills (B.log from.new).fills to.old to.new) }
+    ensures caused { IfErr result (λ e.
+        StreamFailed W.log W.stretch W.call e (B.log from.old).fills (B.log from.new).fills to.old to.new
+        ⊎ TooManyTurns e (B.log from.old).fills (B.log from.new).fills) }
+    ensures at_once { MatchResult result
+        (λ _. FaultsMet 0 (B.log from.old).fills (B.log from.new).fills (W.log to.old).writes (W.log to.new).writes)
+        (λ _. FaultsAtMost 1 (B.log from.old).fills (B.log from.new).fills (W.log to.old).writes (W.log to.new).writes) }
     ensures reader { B.stretch from.old from.new }
     ensures writer { W.stretch to.old to.new }
 {
     let mut total = 0u64;
-    for _turn in 0..u64::MAX {
+    for _ in 0..u64::MAX {
         let taken = copy_turn(from, to)?;
         if taken == 0 {
             return Ok(total);

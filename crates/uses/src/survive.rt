@@ -1,8 +1,9 @@
 //! Reads a stream to its end over faults that pass, without losing a byte.
-ghost use Rattle.std.specs.Prelude.{◌≡◌, ◌<◌, Ok, OnOk, vec_items};
+ghost use Rattle.std.specs.Prelude.{◌≡◌, ◌<◌, ◌↔◌, true, IsTrue, Ok, IfOk, IfErr, OnOk, vec_items};
 ghost use Rattle.buffer_redux.specs.BufReader.{RanDry};
 ghost use Rattle.buffer_redux.specs.ReaderLaws.{WantsBytes};
-ghost use Rattle.uses.specs.Survive.{Gains};
+ghost use Rattle.uses.specs.Stops.{Endures, Passes};
+ghost use Rattle.uses.specs.Survive.{Gains, TurnFailed, TurnMoved};
 
 use buffer_redux::BufReader;
 use buffer_redux::policy::ReaderPolicy;
@@ -21,14 +22,15 @@ pub fn read_patiently<R: TellRead, P: ReaderPolicy>(
     requires wants { WantsBytes (P.rules.claims reader.old.policy) }
     ensures gained { Gains R.remaining P.rules reader.old (vec_items into.old) reader.new (vec_items into.new) }
     ensures end { OnOk result (RanDry reader.old reader.new) }
+    ensures endures { (P.rules.claims reader.old.policy).steady ≡ true → Endures faults result reader.old reader.new }
 {
     let mut left = faults;
-    for _turn in 0..u64::MAX {
+    for _ in 0..u64::MAX {
         match read_turn(reader, into) {
             Ok(0) => return Ok(()),
             Ok(_) => {}
             Err(e) => {
-                if left == 0 || !passes(e.kind()) {
+                if left == 0 || !passes(&e) {
                     return Err(e);
                 }
                 left -= 1;
@@ -39,9 +41,11 @@ pub fn read_patiently<R: TellRead, P: ReaderPolicy>(
 }
 
 // Whether a fault is one after which reading may go on.
-fn passes(kind: ErrorKind) -> bool {
+fn passes(e: &io::Error) -> bool
+    ensures { IsTrue result ↔ Passes e.now }
+{
     matches!(
-        kind,
+        e.kind(),
         ErrorKind::Interrupted | ErrorKind::WouldBlock | ErrorKind::TimedOut
     )
 }
@@ -55,6 +59,9 @@ fn read_turn<R: TellRead, P: ReaderPolicy>(
     requires wants { WantsBytes (P.rules.claims reader.old.policy) }
     ensures gained { Gains R.remaining P.rules reader.old (vec_items into.old) reader.new (vec_items into.new) }
     ensures dry { result ≡ Ok 0 → RanDry reader.old reader.new }
+    ensures moved { IfOk result (λ n. TurnMoved n reader.old reader.new) }
+    ensures caused { (P.rules.claims reader.old.policy).steady ≡ true
+        → IfErr result (λ e. TurnFailed e reader.old reader.new) }
 {
     let shown = reader.fill_buf()?;
     let len = shown.len();

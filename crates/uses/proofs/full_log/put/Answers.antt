@@ -1,6 +1,8 @@
-use Rattle.std.proofs.Common.{length, ap, arith, length-drop}
+use Rattle.std.proofs.Common.{length, ap, arith, length-drop, refl, inl, inr}
 use Rattle.std.proofs.lemmas.Slice.{between_to_end}
 use Rattle.buffer_redux.specs.WriterLaws.{WritesInOrder-piece, WritesInOrder-then}
+use Rattle.buffer_redux.specs.LogGrows.{WriteLogGrows-joins}
+use Rattle.uses.proofs.Failing.{DeviceFailed-sent}
 use Rattle.uses.proofs.full_log.put.Goals as goal
 
 pub loop-at-preserved : goal.loop-at-preserved
@@ -10,6 +12,7 @@ loop-at-preserved g c =
     let before = c.loop-at.invariant in
     let rest = ap length (between_to_end text at (length text) (omega arith)) in record {
       within = omega (arith, c.in-Ok.ensures.bound, rest, length-drop at text);
+      grows = WriteLogGrows-joins _ _ _ before.grows c.in-Ok.ensures.keeps.grows;
       taken = WritesInOrder-piece _ _ _ text at _ before.within before.taken c.in-Ok.ensures.in_order;
     }
 
@@ -19,3 +22,25 @@ returns-in-Ok-eq0-clause-taken g c = WritesInOrder-then _ c.loop-at.log _ _ c.lo
 
 pub returns-in-Err-clause-taken : goal.returns-in-Err-clause-taken
 returns-in-Err-clause-taken g c = WritesInOrder-then _ c.loop-at.log _ _ c.loop-at.invariant.taken c.in-Err.ensures.in_order
+
+pub returns-in-Err-clause-caused : goal.returns-in-Err-clause-caused
+returns-in-Err-clause-caused g c = elim c.in-Err.ensures.caused [
+  | inl refused ↦ absurd refused.asked.allowed
+  | inr sent ↦ DeviceFailed-sent c.loop-at.invariant.grows sent
+]
+
+pub returns-in-Ok-eq0-clause-caused : goal.returns-in-Ok-eq0-clause-caused
+returns-in-Ok-eq0-clause-caused g c =
+    let at = c.loop-at.at in
+    let text = c.args.text.now in
+    let before = c.loop-at.invariant in
+    let rest = ap length (between_to_end text at (length text) (omega arith)) in
+    let steady = (rw c.in-Ok-eq0.field-0-test at c.in-Ok-eq0.ensures.steadily) refl in
+    inr (record {
+      is_write_zero = c.from.ensures;
+      zero_writes = omega (
+        arith,
+        before.grows.zero_writes,
+        steady.empty refl (omega (arith, rest, length-drop at text, c.loop-at-test.true)),
+      );
+    })

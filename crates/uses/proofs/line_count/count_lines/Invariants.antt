@@ -1,12 +1,14 @@
-use Rattle.std.proofs.Common.{◌≡◌, ℕ, List}
+use Rattle.std.proofs.Common.{◌≡◌, ℕ, ◌≤◌, List, length}
 use Rattle.buffer_redux.specs.BufReader.{ReadsAlong}
 use Rattle.uses.specs.LineCount.{line_feeds}
 use Rattle.uses.proofs.line_count.count_lines.Given as goal
 
 -- the bytes that were handed out have this many line feeds
-abbrev pub invariant-loop-turn : goal.invariant-loop-turn
-invariant-loop-turn g l = record {
+abbrev pub invariant-loop : goal.invariant-loop
+invariant-loop g l = record {
   handed : List ℕ;
   along : ReadsAlong g.R.TellRead.remaining g.P.ReaderPolicy.rules l.initial.reader handed l.reader;
   count : l.lines ≡ line_feeds handed;
+  none : l.reader.log.reads.faults ≡ l.initial.reader.log.reads.faults;
+  turns : l.counter ≤ length handed;
 }

@@ -1,20 +1,91 @@
-use Rattle.std.proofs.Common.{[], sym, append-nil, vec_items}
+use Rattle.std.proofs.Common.{[], sym, append-nil, vec_items, ◌-◌, ◌∙◌, ap, arith, inl, inr, subst, rules}
 use Rattle.buffer_redux.specs.ReaderLaws.{ReadsAlong-none}
+use Rattle.uses.specs.Stops.{MetPassing, Passes}
+use Rattle.uses.proofs.Enduring.{MetPassing-none, MetPassing-same, MetPassing-more, memory_stays, seen}
 use Rattle.uses.proofs.Gaining.{Gains-joins}
+use Rattle.uses.proofs.survive.read_patiently.Goals.{in-Ok, in-Err+else-left-eq0+else-not-passes, then-left-eq0-via-then-left-eq0, then-left-eq0-via-else-left-eq0+then-not-passes}
 use Rattle.uses.proofs.survive.read_patiently.Goals as goal
 
-pub loop-turn-init : goal.loop-turn-init
-loop-turn-init g c = record {
-  handed = [];
-  along = ReadsAlong-none _ _ _;
-  gained = sym (append-nil (vec_items c.args.into.now));
+pub loop-init : goal.loop-init
+loop-init g c = record {
+  gains = record {
+    handed = [];
+    along = ReadsAlong-none _ _ _;
+    gained = sym (append-nil (vec_items c.args.into.now));
+  };
+  some_left = omega arith;
+  met = λ steady.
+      let faults = c.args.reader.now.log.reads.faults in
+      subst (λ n. MetPassing n faults faults) (omega arith) (MetPassing-none faults);
+  turns = omega arith;
 }
 
-pub loop-turn-preserved : goal.loop-turn-preserved
-loop-turn-preserved g c = Gains-joins c.loop-turn.invariant c.read_turn.ensures.gained
+pub loop-preserved : goal.loop-preserved
+loop-preserved g c =
+    let before = c.loop.invariant in
+    let turn = c.read_turn.ensures in
+    let went = Gains-joins before.gains turn.gained in
+    let first = c.args.reader.now.log.reads.faults in
+    let last = c.read_turn.new.reader.log.reads.faults in
+    elim c.match-read_turn.branch [
+      | in-Ok w ↦
+          (let moved = w.in-Ok.ensures.moved in
+          let some = w.in-Ok.field-0-test.1 in
+          record {
+            gains = went;
+            some_left = omega (arith, before.some_left, w.left-is);
+            met = λ steady. subst (λ n. MetPassing (c.args.faults - n) first last) (sym w.left-is)
+                (MetPassing-same (before.met steady) moved.none);
+            turns = omega (arith, before.turns, moved.count, w.left-is, some);
+          })
+      | in-Err+else-left-eq0+else-not-passes w ↦
+          (let passes : Passes w.in-Err.e = w.passes.ensures.0 (search rules) in
+          let some = w.if-left-eq0.false in
+          record {
+            gains = went;
+            some_left = omega (arith, before.some_left, w.left-is);
+            met = λ steady.
+                elim (w.in-Err.ensures.caused (ap (λ x. x.steady) before.gains.along.claims ∙ steady)) [
+                  | inl fault ↦ subst (λ n. MetPassing n first last) (omega (arith, before.some_left, w.left-is, some))
+                      (MetPassing-more w.in-Err.e (before.met steady) passes fault)
+                  | inr memory ↦ absurd (memory_stays w.in-Err.e memory.0 passes)
+                ];
+            turns = omega (
+              arith,
+              before.turns,
+              before.some_left,
+              seen turn.gained.along.in_order,
+              w.left-is,
+              some,
+            );
+          })
+    ]
 
 pub returns-in-Ok-eq0-clause-gained : goal.returns-in-Ok-eq0-clause-gained
-returns-in-Ok-eq0-clause-gained g c = Gains-joins c.loop-turn.invariant c.read_turn.ensures.gained
+returns-in-Ok-eq0-clause-gained g c = Gains-joins c.loop.invariant.gains c.read_turn.ensures.gained
 
 pub returns-then-left-eq0-clause-gained : goal.returns-then-left-eq0-clause-gained
-returns-then-left-eq0-clause-gained g c = Gains-joins c.loop-turn.invariant c.read_turn.ensures.gained
+returns-then-left-eq0-clause-gained g c = Gains-joins c.loop.invariant.gains c.read_turn.ensures.gained
+
+pub returns-then-left-eq0-clause-endures : goal.returns-then-left-eq0-clause-endures
+returns-then-left-eq0-clause-endures g c steady =
+    let before = c.loop.invariant in
+    elim (c.in-Err.ensures.caused (ap (λ x. x.steady) before.gains.along.claims ∙ steady)) [
+      | inl fault ↦ inl (record {
+        count = c.args.faults - c.loop.left;
+        few = omega arith;
+        before = c.loop.reader.log.reads.faults;
+        passed = before.met steady;
+        last = fault;
+        often = λ passes. elim c.then-left-eq0.branch [
+          | then-left-eq0-via-then-left-eq0 w ↦ omega (arith, w.if-left-eq0.true)
+          | then-left-eq0-via-else-left-eq0+then-not-passes w ↦ (let odd = w.passes.ensures.1 passes in cc)
+        ];
+      })
+      | inr memory ↦ inr (record {
+        count = c.args.faults - c.loop.left;
+        few = omega arith;
+        passed = MetPassing-same (before.met steady) memory.1;
+        why = inl memory.0;
+      })
+    ]
