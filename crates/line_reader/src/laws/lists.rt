@@ -1,7 +1,7 @@
 //! Lists of lines, written and read again.
 ghost use Rattle.std.specs.Prelude.{◌≡◌, map, IfOk, IfErr, OnOk};
 ghost use Rattle.std.specs.List.{All};
-ghost use Rattle.buffer_redux.specs.BufWriter.{WritesInOrder};
+ghost use Rattle.buffer_redux.specs.BufWriter.{WritesInOrder, WriterStopped};
 ghost use Rattle.buffer_redux.specs.WriteAll.{TookBeginning};
 ghost use Rattle.line_reader.specs.KnownLines.{HasLeft, LeavesLines, ReadStopped};
 ghost use Rattle.line_reader.specs.Lines.{FitsLine, with_ends};
@@ -17,10 +17,13 @@ use std::alloc::Global;
 use std::io;
 use std::io::Write;
 
-/// Writes each line, and its end, up to the first `Err`. What was taken in then is a beginning of all that was to be.
+/// Writes each line, and its end, up to the first `Err`, which is one of the inner writer. What was taken in then is a beginning
+/// of all that was to be. Nothing is flushed.
 pub fn write_each<W: TellWrite>(writer: &mut LineWriter<W>, lines: &[Vec<u8>]) -> io::Result<()>
     ensures written { OnOk result (WritesInOrder writer.old (with_ends (map (λ v. v.items) lines.now)) writer.new) }
     ensures beginning { TookBeginning (with_ends (map (λ v. v.items) lines.now)) writer.old writer.new }
+    ensures caused { IfErr result (WriterStopped writer.old.log.writes writer.new.log.writes) }
+    ensures not_flushed { writer.new.log.writes.flushed ≡ writer.old.log.writes.flushed }
     ensures stretch { W.stretch writer.old.inner writer.new.inner }
 {
     for line in lines {
