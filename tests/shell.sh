@@ -79,9 +79,17 @@ refuses() { # its usage, words each
     done
 }
 
+# What it says of a stream that failed.
+said_of() { # `read` or `write`
+    case $name in
+        frames) echo "$1 failed" ;;
+        *) echo 'read or write failed' ;;
+    esac
+}
+
 # Streams that fail at once, or once more than a pipe holds was written.
 faults() { # words, an input of which it writes more than a pipe holds
-    fault="$name: read or write failed"
+    fault="$name: $(said_of write)"
     # A device that is always full isn't everywhere.
     if [ -c /dev/full ] && (: > /dev/full) 2> "$scratch/none"; then
         "$program" $1 < "$2" > /dev/full 2> "$scratch/err"
@@ -91,6 +99,7 @@ faults() { # words, an input of which it writes more than a pipe holds
     ended "$name $1 into a closed pipe" "$(cat "$scratch/status")" 1 "$fault"
     "$program" $1 < "$2" >&- 2> "$scratch/err"
     ended "$name $1 into a closed output" $? 1 "$fault"
+    fault="$name: $(said_of read)"
     turns "$1" "$scratch" "$nothing" 1 "$fault"
     "$program" $1 > "$scratch/out" 2> "$scratch/err" <&-
     ended "$name $1 from a closed input" $? 1 "$fault"
@@ -113,7 +122,9 @@ answers() { # words, the input, how reads answer, how writes, the output wanted,
 # The same of rows.
 answer() {
     while IFS='|' read -r words input reads writes output status calls line; do
-        if [ "$status" -eq 1 ]; then line='read or write failed'; fi
+        if [ "$status" -eq 1 ]; then
+            if [ -n "$writes" ]; then line=$(said_of write); else line=$(said_of read); fi
+        fi
         answers "$words" "$input" "$reads" "$writes" "$output" "$status" "$calls" "$line"
     done
 }
@@ -151,7 +162,7 @@ run_bufcopy() {
     gives '' 'one\ntwo\n' 'one\ntwo\n'
     gives '' '' ''
     refuses '[std|ring] [CAPACITY]' other Ring 00000064 'std 0' 'ring 1048577' 'std +5' 'ring std' '64 std' '64 64' \
-        'ring 64 64'
+        'ring 64 64' "$no_text"
     # How many bytes it asks for first tells the capacity: of a ring, whole pages.
     for row in '|8192' 'ring|8192' 'std|8192' '64|64' 'std 0000007|7' 'ring 64|4096' '1048576|1048576'; do
         answers "${row%|*}" '' '' '' '' 0 '1 0'
@@ -183,6 +194,7 @@ END
 }
 
 run_replay() {
+    refuses '< LINES' lines "$no_text"
     gives '' '' ''
     gives '' '\n' 'line 1: not four parts\n' 2
     gives '' 'a\0377b\n' 'line 1: not text\n' 2
@@ -218,32 +230,34 @@ run_frames() {
     gives unpack '\0000\0002ab\0000\0002c' 'ab\n' 5 "$cut"
     gives unpack '\0000\0002ab\0000' 'ab\n' 5 "$cut"
     gives unpack '\0000' '' 5 "$cut"
-    # Of an input that ended no more is asked, and after a fault nothing is sent.
+    # Of an input that ended no more is asked. What came whole is sent before more is asked for, and after a fault nothing is.
     answer <<'END'
 pack|a\n\nbc\n|||\0000\0001a\0000\0000\0000\0002bc|0|2 1
 pack|a\nbc|1*|1*|\0000\0001a\0000\0002bc|0|5 7
 pack|ab\n|e|||1|1 0
 pack|ab\n|2 e|||1|2 0
-pack|ab\n|2 2 e|||1|3 0
-pack|ab\n||e||1|2 1
-pack|ab\n||0||1|2 1
+pack|ab\n|2 2 e||\0000\0002ab|1|3 1
+pack|a\nbc\nd|2 3 1 e||\0000\0001a\0000\0002bc|1|4 2
+pack|ab\n||e||1|1 1
+pack|ab\n||0||1|1 1
 pack|ab\n|i64 2 i64||\0000\0002ab|0|131 1
 pack|ab\n|2 i65|||1|66 0
-pack|ab\n||i65||1|2 65
+pack|ab\n||i65||1|1 65
 unpack|\0000\0001a\0000\0000|||a\n\n|0|2 1
 unpack|\0000\0001a\0000\0000|1*|1*|a\n\n|0|6 3
 unpack|\0000\0002ab\0000|1*||ab\n|5|6 1|the input ends within a frame
 unpack|\0000\0002ab|e|||1|1 0
-unpack|\0000\0002ab|2 2 e|||1|3 0
-unpack|\0000\0002ab||e||1|2 1
-unpack|\0000\0002ab||0||1|2 1
+unpack|\0000\0002ab|2 2 e||ab\n|1|3 1
+unpack|\0000\0001a\0000\0002bc\0000|3 4 1 e||a\nbc\n|1|4 2
+unpack|\0000\0002ab||e||1|1 1
+unpack|\0000\0002ab||0||1|1 1
 unpack|\0000\0002ab|i64 2 i64||ab\n|0|131 1
 unpack|\0000\0002ab|2 i65|||1|66 0
-unpack|\0000\0002ab||i65||1|2 65
+unpack|\0000\0002ab||i65||1|1 65
 END
     # The byte that makes the line too long is the last that is asked for.
     answers pack "ab\\n${most}A\\nc\\n" '1*' '' '\0000\0002ab' 4 '65539 1' "${long#frames: }"
-    refuses 'pack|unpack' '' Pack packs 'pack unpack'
+    refuses 'pack|unpack' '' Pack packs 'pack unpack' "$no_text"
     faults pack "$lines"
     "$program" pack < "$lines" > "$scratch/frames"
     turns unpack "$scratch/frames" "$lines"
@@ -326,7 +340,7 @@ encode|abc||e||1|2 1
 encode|abc||0||1|2 1
 encode|abc||i65||1|2 65
 END
-    refuses 'decode|encode' '' encoder 'encode decode'
+    refuses 'decode|encode' '' encoder 'encode decode' "$no_text"
     faults encode "$lines"
     faults decode "$scratch/body"
     printf hello > "$payload"
@@ -362,6 +376,8 @@ nothing=$scratch/nothing
 : > "$nothing"
 lines=$scratch/lines
 seq 30000 > "$lines"
+# No UTF-8.
+no_text=$(printf '\377')
 # As many bytes as a frame may have.
 most=$(head -c 65535 /dev/zero | tr '\0' A)
 system=$scratch/system.so

@@ -1,4 +1,7 @@
 //! Copies standard input to standard output through buffers.
+//!
+//! What is buffered is sent where the buffer is full, and at the end. So in a live pipe, as behind `tail -f`, take `bufcopy 1`,
+//! which sends byte by byte, or `cat`.
 #![tactic(auto)]
 
 use buffer_redux::tell::Told;
@@ -9,7 +12,8 @@ use std::process::ExitCode;
 // Copies as the words that the program was given ask for.
 fn outcome(rt: &HostRuntime) -> Ending {
     let words = match programs::args(rt) {
-        Ok(words) => words,
+        Ok(Some(words)) => words,
+        Ok(None) => return Ending::Usage,
         Err(e) => return ending(&Err(e)),
     };
     let (reader, writer) = (Told::new(rt.stdin()), Told::new(rt.stdout()));

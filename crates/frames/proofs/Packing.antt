@@ -4,24 +4,24 @@ use Rattle.std.proofs.Math.Seq.{take-append_seam}
 use Rattle.std.proofs.lemmas.Bool.{true≢false, false≢true}
 use Rattle.std.proofs.lemmas.List.Elements.{All-nil, All-cons, All-take}
 use Rattle.std.specs.declared.io.Error.{Error}
-use Rattle.buffer_redux.specs.Faults.{IsInterrupt, OnlyInterrupts, OnlyInterrupts-joins}
+use Rattle.buffer_redux.specs.Faults.{IsInterrupt, OnlyInterrupts, OnlyInterrupts-none, OnlyInterrupts-joins, MetInterrupts, MetInterrupts-joins, SendErrorCaused, SendErrorCaused-after}
 use Rattle.frame_reader.specs.Outgoing.{Outgoing}
-use Rattle.frame_reader.specs.WriteFrame.{WritesFrame}
-use Rattle.frame_reader.specs.WriteFrameLaws.{FramesTaken-none}
+use Rattle.frame_reader.specs.WriteFrame.{FramesTaken, WritesFrame}
+use Rattle.frame_reader.specs.WriteFrameLaws.{FramesTaken-none, FramesTaken-joins}
 use Rattle.frame_reader.specs.declared.error.WriteFrameError.{WriteFrameError}
 use Rattle.frame_reader.specs.declared.error.WriteFrameError.TheVariants as Unwritten
-use Rattle.line_reader.specs.Lines.{newline, IsLine, HasLines, last_line, with_end}
+use Rattle.line_reader.specs.Lines.{newline, IsLine, IsUnended, HasLines, last_line, with_end}
 use Rattle.line_reader.specs.Lining.{Lining, rest}
-use Rattle.line_reader.specs.LinesWentLaws.{LinesWent-joins}
+use Rattle.line_reader.specs.LinesWentLaws.{LinesWent-none, LinesWent-joins}
 use Rattle.line_reader.specs.NextLine.{LinesWent, NextLine, NextAnswer, NoEnd, NoFault, Faulted}
 use Rattle.line_reader.specs.declared.error.LineError.{LineError}
 use Rattle.line_reader.specs.declared.error.LineError.TheVariants as NoLine
 use Rattle.frames.specs.declared.error.RunError.{RunError}
-use Rattle.frames.specs.declared.error.RunError.TheVariants.{TooLong, Truncated, Io}
+use Rattle.frames.specs.declared.error.RunError.TheVariants.{TooLong, Truncated, Read, Write, Io}
 use Rattle.frames.specs.declared.tries.Step.TheVariants.{End, ReadFailed}
-use Rattle.frames.specs.Pack.{MayAsk, NoneFailed, EndedOnce, KnowsEnd, Packs, PacksNext, PacksOnce, ReadStopped, of_write_error}
+use Rattle.frames.specs.Pack.{AllSent, MayAsk, NoneFailed, EndedOnce, KnowsEnd, Packs, PacksNext, PacksOnce, ReadStopped, of_write_error}
 use Rattle.programs.specs.Streams.{EndsOnce}
-use Rattle.programs.specs.StreamsLaws.{only_same, one_more, gave_up, MetInterrupts-none, EitherFailed-after}
+use Rattle.programs.specs.StreamsLaws.{only_same, one_more, gave_up, MetInterrupts-none, ReadGaveUp-after}
 
 -- an end that no call has told is told next
 abbrev told_end : NextAnswer
@@ -106,7 +106,7 @@ module _ {R W : Type 0} (remaining : R → Option (List ℕ)) (stretch : W → W
   read_stopped e next = record {
     went = subst (λ b. LinesWent remaining s b t) next.answers.0 next.went;
     fault = next.answers.2;
-    few = next.answers.1.fits;
+    left = next.answers.1;
     going = open_err s.ended (NoLine.Io e) next.told;
     still = next.answers.3;
     none = next.answers.4;
@@ -130,7 +130,7 @@ module _ {R W : Type 0} (remaining : R → Option (List ℕ)) (stretch : W → W
     not_written most (Unwritten.Io e) wrote = (
       next.bytes,
       record { went = next.went; taken = wrote.went },
-      inr (record { reader = only next.answers.2; writer = wrote.answers.1 }),
+      record { reader = only next.answers.2; writer = wrote.answers.1 },
       going,
       once,
     )
@@ -231,39 +231,129 @@ module _ {R W : Type 0} (remaining : R → Option (List ℕ)) (stretch : W → W
     p.4 ∙ quiet,
   )
   next_after (Err Truncated) p = p
-  next_after (Err (Io e)) p = (
+  next_after (Err (Read e)) p = (
+    after [] [] p.0,
+    record {
+      reader = ReadGaveUp-after s.reader.log.reads.faults m.reader.log.reads.faults t.reader.log.reads.faults e only
+          p.1.reader;
+      writer = p.1.writer;
+    },
+    subst (λ n. IsUnended n (rest t)) before.max p.2,
+    sym still ∙ p.3,
+    p.4 ∙ quiet,
+    p.5,
+  )
+  next_after (Err (Write e)) p = (
     p.0,
     after p.0 [] p.1,
-    EitherFailed-after e s.reader.log m.reader.log t.reader.log u.writer.log u.writer.log v.writer.log
-        (record { reader = only; writer = MetInterrupts-none u.writer.log.writes }) p.2,
+    record {
+      reader = OnlyInterrupts-joins s.reader.log.reads.faults m.reader.log.reads.faults t.reader.log.reads.faults only
+          p.2.reader;
+      writer = p.2.writer;
+    },
     sym still ∙ p.3,
     omega (arith, p.4, quiet),
   )
+  next_after (Err (Io e)) p = absurd p
 
   pub retried : (w : Outgoing W) → w ≡ u → (answer : Result Bool RunError)
       → PacksNext remaining stretch m w answer t v → PacksNext remaining stretch s u answer t v
   retried w same answer p = next_after answer (subst (λ x. PacksNext remaining stretch m x answer t v) same p)
 
   -- the last try failed
-  pub gives_up : (w : Outgoing W) → w ≡ u → (e : Error) → ReadStopped remaining stretch m w e t v
+  pub gives_up : (w : Outgoing W) → w ≡ u → (e : Error) → (MayAsk s → AllSent u) → ReadStopped remaining stretch m w e t v
       → (IsInterrupt e → length s.reader.log.reads.faults + 65 ≤ length t.reader.log.reads.faults)
-      → PacksNext remaining stretch s u (Err (Io e)) t v
-  gives_up w same e stopped often =
+      → PacksNext remaining stretch s u (Err (Read e)) t v
+  gives_up w same e sent stopped often =
       let kept : v ≡ u = stopped.same ∙ same in
+      let went = LinesWent-joins remaining s m t [] [] before stopped.went in
+      let left : IsUnended s.max (rest t) = subst (λ n. IsUnended n (rest t)) before.max stopped.left in
+      let going = sym still ∙ stopped.going in
       rw kept (
-        [],
+        record { went = went; taken = FramesTaken-none stretch none u },
         record {
-          went = LinesWent-joins remaining s m t [] [] before stopped.went;
-          taken = FramesTaken-none stretch none u;
-        },
-        inl (record {
           reader = gave_up s.reader.log.reads.faults m.reader.log.reads.faults t.reader.log.reads.faults e only
               stopped.fault often;
           writer = MetInterrupts-none u.writer.log.writes;
-        }),
-        sym still ∙ stopped.going,
-        omega (arith, stopped.none, quiet),
+        },
+        left,
+        going,
+        stopped.none ∙ quiet,
+        sent (record { part = unended_before (rest s) went.hands.got (rest t) went.hands.equal left; going = going }),
       )
+    where
+      unended_before : (bytes more all : List ℕ) → all ≡ bytes ++ more → IsUnended s.max all → IsUnended s.max bytes
+      unended_before bytes more all is such = record {
+        fits = omega (arith, such.fits, ap length is, length-append bytes more);
+        plain = subst IsLine (take-append_seam bytes more)
+            (All-take (λ byte. ¬ (byte ≡ newline)) (length bytes) (bytes ++ more) (subst IsLine is such.plain));
+      }
+
+-- all was sent and flushed first
+module _ {R W : Type 0} (remaining : R → Option (List ℕ)) (stretch : W → W → Type 0)
+    (joins : (a b c : W) → stretch a b → stretch b c → stretch a c) (s t : Lining R) (u w v : Outgoing W)
+    (sent : FramesTaken stretch u [] w) (met : MetInterrupts u.writer.log.writes w.writer.log.writes) where
+  behind : (bytes : List ℕ) (lines : List (List ℕ)) → Packs remaining stretch s w bytes lines t v
+      → Packs remaining stretch s u bytes lines t v
+  behind bytes lines p = record { went = p.went; taken = FramesTaken-joins stretch joins u w v [] lines sent p.taken }
+
+  met_behind : NoneFailed s w t v → NoneFailed s u t v
+  met_behind more = record {
+    reader = more.reader;
+    writer = MetInterrupts-joins u.writer.log.writes w.writer.log.writes v.writer.log.writes met more.writer;
+  }
+
+  pub sent_before : (answer : Result Bool RunError) → PacksNext remaining stretch s w answer t v
+      → PacksNext remaining stretch s u answer t v
+  sent_before (Ok true) p = (
+    record {
+      bytes = p.0.bytes;
+      lines = p.0.lines;
+      has = p.0.has;
+      went = behind p.0.bytes p.0.lines p.0.went;
+      all = p.0.all;
+      end = p.0.end;
+      met = met_behind p.0.met;
+    },
+    p.1,
+  )
+  sent_before (Ok false) p = (behind [] [] p.0, met_behind p.1, p.2, p.3)
+  sent_before (Err TooLong) p = (behind [] [] p.0, met_behind p.1, p.2, p.3, p.4)
+  sent_before (Err Truncated) p = p
+  sent_before (Err (Read e)) p = (
+    behind [] [] p.0,
+    record {
+      reader = p.1.reader;
+      writer = MetInterrupts-joins u.writer.log.writes w.writer.log.writes v.writer.log.writes met p.1.writer;
+    },
+    p.2,
+    p.3,
+    p.4,
+    p.5,
+  )
+  sent_before (Err (Write e)) p = (
+    p.0,
+    behind p.0 [] p.1,
+    record {
+      reader = p.2.reader;
+      writer = SendErrorCaused-after u.writer.log.writes w.writer.log.writes v.writer.log.writes e met p.2.writer;
+    },
+    p.3,
+    p.4,
+  )
+  sent_before (Err (Io e)) p = absurd p
+
+-- or sending failed
+pub not_sent : {R W : Type 0} (remaining : R → Option (List ℕ)) (stretch : W → W → Type 0) (s : Lining R) (u w : Outgoing W)
+    (e : Error) → s.ended ≡ false → FramesTaken stretch u [] w → SendErrorCaused u.writer.log.writes w.writer.log.writes e
+    → PacksNext remaining stretch s u (Err (Write e)) s w
+not_sent remaining stretch s u w e going taken caused = (
+  [],
+  record { went = LinesWent-none remaining s; taken = taken },
+  record { reader = OnlyInterrupts-none s.reader.log.reads.faults; writer = caused },
+  going,
+  omega arith,
+)
 
 -- a read that failed was one
 pub not_asked_again : {R : Type 0} (s m t : Lining R) (e : Error) → m ≡ s → ¬ (MayAsk s)

@@ -7,17 +7,18 @@ use Rattle.std.specs.IoError.{error_kind}
 use Rattle.std.specs.List.{All}
 use Rattle.std.specs.declared.io.Error.{Error}
 use Rattle.std.specs.declared.io.ErrorKind.TheVariants.{Other}
+use Rattle.buffer_redux.specs.Faults.{OnlyInterrupts-joins, MetInterrupts-joins, SendErrorCaused-after}
 use Rattle.frame_reader.specs.Outgoing.{Outgoing}
 use Rattle.frame_reader.specs.WriteFrameLaws.{FramesTaken-none, FramesTaken-joins}
-use Rattle.line_reader.specs.Lines.{IsLine, BeginsTooLong, HasLines, last_line, with_end, with_ends}
-use Rattle.line_reader.specs.Lining.{Lining}
+use Rattle.line_reader.specs.Lines.{IsLine, IsUnended, BeginsTooLong, HasLines, last_line, with_end, with_ends}
+use Rattle.line_reader.specs.Lining.{Lining, rest}
 use Rattle.line_reader.specs.LinesWentLaws.{LinesWent-none, LinesWent-joins}
 use Rattle.line_reader.specs.NextLine.{NoEnd}
 use Rattle.frames.specs.declared.error.RunError.{RunError}
-use Rattle.frames.specs.declared.error.RunError.TheVariants.{TooLong, Truncated, Io}
+use Rattle.frames.specs.declared.error.RunError.TheVariants.{TooLong, Truncated, Read, Write, Io}
 use Rattle.frames.specs.Pack.{NoneFailed, EndedOnce, KnowsEnd, Packs, PacksLines, PacksNext, PacksAll}
 use Rattle.programs.specs.Streams.{EndsOnce}
-use Rattle.programs.specs.StreamsLaws.{MetNoFault-none, MetNoFault-joins, EitherFailed-after}
+use Rattle.programs.specs.StreamsLaws.{MetNoFault-none, MetNoFault-joins, ReadGaveUp-after}
 use Rattle.frames.proofs.Packing.{met_open, met_ended}
 
 -- lines with their ends are a text
@@ -65,7 +66,7 @@ module _ {R W : Type 0} (remaining : R → Option (List ℕ)) (stretch : W → W
 
   module _ (count : ℕ) (m : Lining R) (w : Outgoing W) (before : PacksLines remaining stretch s u count m w) where
     -- where the stream has not ended, each line had its end
-    still_open : m.ended ≡ false → (before.has.last ≡ []) × NoEnd s m
+    pub still_open : m.ended ≡ false → (before.has.last ≡ []) × NoEnd s m
     still_open is = elim before.end [
       | inl going ↦ (going.0, going.2)
       | inr ended ↦ absurd (true≢false (sym ended.1 ∙ is))
@@ -74,18 +75,27 @@ module _ {R W : Type 0} (remaining : R → Option (List ℕ)) (stretch : W → W
     pub over : (e : Error) → error_kind e ≡ Other → 2 ^ 64 ≤ count + 1 → PacksAll remaining stretch s u (Err (Io e)) m w
     over e other large = (
       record {
-        bytes = before.bytes;
-        lines = before.lines;
-        lost = [];
-        has = before.has;
-        went = subst (λ l. Packs remaining stretch s u l before.lines m w) (sym (append-nil before.bytes)) before.went;
+        first = record {
+          bytes = before.bytes;
+          lines = before.lines;
+          lost = [];
+          has = before.has;
+          went = subst (λ l. Packs remaining stretch s u l before.lines m w) (sym (append-nil before.bytes)) before.went;
+        };
+        whole = elim before.end [ inl going ↦ inl going.0 | inr ended ↦ inr (ended.0, ended.2) ];
       },
-      elim before.end [ inl going ↦ inl going.0 | inr ended ↦ inr (ended.0, ended.2) ],
-      inr (record { other = other; large = omega (arith, large, before.all); met = before.met }),
+      record { other = other; large = omega (arith, large, before.all); met = before.met },
     )
 
     pub over_once : EndsOnce s.reader.log.reads m.reader.log.reads
     over_once = elim before.end [ inl going ↦ omega (arith, going.2) | inr ended ↦ omega (arith, ended.2) ]
+
+    -- and what went over is those lines with their ends
+    pub all_whole : before.has.last ≡ [] → before.bytes ++ [] ≡ with_ends before.lines
+    all_whole ended =
+        let has = before.has in
+        append-nil before.bytes ∙ has.bytes ∙ ap (λ l. with_ends has.whole ++ l) ended ∙ append-nil (with_ends has.whole)
+        ∙ ap with_ends (sym (has.all ∙ ap (λ l. has.whole ++ last_line l) ended ∙ append-nil has.whole))
 
     module _ (t : Lining R) (v : Outgoing W) where
       then_went : (bytes : List ℕ) (lines : List (List ℕ)) → Packs remaining stretch m w bytes lines t v
@@ -144,40 +154,57 @@ module _ {R W : Type 0} (remaining : R → Option (List ℕ)) (stretch : W → W
 
       pub stops : (e : RunError) → PacksNext remaining stretch m w (Err e) t v → PacksAll remaining stretch s u (Err e) t v
       stops TooLong next =
-          let has = before.has in
-          let ended = (still_open next.3).0 in
-          let bytes : before.bytes ++ [] ≡ with_ends has.whole =
-          append-nil before.bytes ∙ has.bytes ∙ ap (λ l. with_ends has.whole ++ l) ended
-          ∙ append-nil (with_ends has.whole) in
-          let lines : before.lines ≡ has.whole =
-          has.all ∙ ap (λ l. has.whole ++ last_line l) ended ∙ append-nil has.whole in
+          let all = all_whole (still_open next.3).0 in
           record {
             lines = before.lines;
-            plain = has.plain;
-            went = subst (λ l. Packs remaining stretch s u l before.lines t v) (bytes ∙ ap with_ends (sym lines))
-                (then_none [] next.0);
-            long = subst (λ n. BeginsTooLong n (Rattle.line_reader.specs.Lining.rest t)) before.went.went.max next.2;
+            plain = before.has.plain;
+            went = subst (λ l. Packs remaining stretch s u l before.lines t v) all (then_none [] next.0);
+            long = subst (λ n. BeginsTooLong n (rest t)) before.went.went.max next.2;
             met = met_too next.1;
           }
       stops Truncated next = next
-      stops (Io e) next = (
+      stops (Read e) next =
+          let all = all_whole (still_open next.3).0 in
+          record {
+            lines = before.lines;
+            plain = before.has.plain;
+            went = subst (λ l. Packs remaining stretch s u l before.lines t v) all (then_none [] next.0);
+            left = subst (λ n. IsUnended n (rest t)) before.went.went.max next.2;
+            sent = next.5;
+            failed = record {
+              reader = ReadGaveUp-after s.reader.log.reads.faults m.reader.log.reads.faults t.reader.log.reads.faults e
+                  before.met.reader next.1.reader;
+              writer = MetInterrupts-joins u.writer.log.writes w.writer.log.writes v.writer.log.writes before.met.writer
+                  next.1.writer;
+            };
+          }
+      stops (Write e) next = (
         record {
-          bytes = before.bytes;
-          lines = before.lines;
-          lost = next.0;
-          has = before.has;
-          went = then_none next.0 next.1;
+          first = record {
+            bytes = before.bytes;
+            lines = before.lines;
+            lost = next.0;
+            has = before.has;
+            went = then_none next.0 next.1;
+          };
+          whole = inl (still_open next.3).0;
         },
-        inl (still_open next.3).0,
-        inl (EitherFailed-after e s.reader.log m.reader.log t.reader.log u.writer.log w.writer.log v.writer.log before.met
-            next.2),
+        record {
+          reader = OnlyInterrupts-joins s.reader.log.reads.faults m.reader.log.reads.faults t.reader.log.reads.faults
+              before.met.reader next.2.reader;
+          writer = SendErrorCaused-after u.writer.log.writes w.writer.log.writes v.writer.log.writes e before.met.writer
+              next.2.writer;
+        },
       )
+      stops (Io e) next = absurd next
 
       pub stops_once : (e : RunError) → PacksNext remaining stretch m w (Err e) t v
           → EndsOnce s.reader.log.reads t.reader.log.reads
       stops_once TooLong next = omega (arith, (still_open next.3).1, next.4)
       stops_once Truncated next = absurd next
-      stops_once (Io e) next = omega (arith, (still_open next.3).1, next.4)
+      stops_once (Read e) next = omega (arith, (still_open next.3).1, next.4)
+      stops_once (Write e) next = omega (arith, (still_open next.3).1, next.4)
+      stops_once (Io e) next = absurd next
 
       pub done_once : PacksNext remaining stretch m w (Ok false) t v → EndsOnce s.reader.log.reads t.reader.log.reads
       done_once next = omega (arith, ended_too next.3)

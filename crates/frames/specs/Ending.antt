@@ -1,9 +1,9 @@
 -- What the program says of each ending.
 use Rattle.std.specs.Prelude.{◌≡◌, ℕ, List, codes, Bool, true, false, Result, Ok, Err}
-use Rattle.programs.specs.Ending.{FailsAs}
+use Rattle.programs.specs.Ending.{FailsAs, FailsSo}
 use Rattle.programs.specs.Ending as usual
 use Rattle.programs.specs.declared.ending.Ending.{Ending as Usually}
-use Rattle.programs.specs.declared.ending.Ending.TheVariants.{Done}
+use Rattle.programs.specs.declared.ending.Ending.TheVariants.{Done, ReadFailed, WriteFailed}
 use Rattle.frames.specs.declared.ending.Ending.{Ending}
 use Rattle.frames.specs.declared.ending.Ending.TheVariants.{Usual, TooLong, Truncated}
 use Rattle.frames.specs.declared.error.RunError.{RunError}
@@ -14,6 +14,8 @@ abbrev pub faulted : Result (Unit {0}) RunError → Bool
 faulted (Ok _) = false
 faulted (Err Why.TooLong) = false
 faulted (Err Why.Truncated) = false
+faulted (Err (Why.Read e)) = true
+faulted (Err (Why.Write e)) = true
 faulted (Err (Why.Io e)) = true
 
 -- how a run ends that returned this
@@ -21,6 +23,8 @@ abbrev pub EndsAs : Result (Unit {0}) RunError → Ending → Type 0
 EndsAs (Ok _) ending = ending ≡ Usual Done
 EndsAs (Err Why.TooLong) ending = ending ≡ TooLong
 EndsAs (Err Why.Truncated) ending = ending ≡ Truncated
+EndsAs (Err (Why.Read e)) ending = (why : Usually) × FailsSo ReadFailed e why × (ending ≡ Usual why)
+EndsAs (Err (Why.Write e)) ending = (why : Usually) × FailsSo WriteFailed e why × (ending ≡ Usual why)
 EndsAs (Err (Why.Io e)) ending = (why : Usually) × FailsAs e why × (ending ≡ Usual why)
 
 -- the status that the process ends with

@@ -1,4 +1,5 @@
 pub mod Asked
 pub mod Ending
+pub mod Going
 pub mod Pack
 pub mod Unpack

@@ -12,20 +12,58 @@ use Rattle.line_reader.specs.Lines.{IsLine, IsUnended, BeginsTooLong, HasLines, 
 use Rattle.line_reader.specs.Lining.{Lining, rest}
 use Rattle.line_reader.specs.NextLine.{LinesWent, NoEnd, MetEnd, Faulted, empties}
 use Rattle.frames.specs.declared.error.RunError.{RunError}
-use Rattle.frames.specs.declared.error.RunError.TheVariants.{TooLong, Truncated, Io}
+use Rattle.frames.specs.declared.error.RunError.TheVariants.{TooLong, Truncated, Read, Write, Io}
 use Rattle.frames.specs.declared.tries.Step.{Step}
 use Rattle.frames.specs.declared.tries.Step.TheVariants.{Went, End, ReadFailed}
-use Rattle.programs.specs.Streams.{MetNoFault, EitherFailed, Stopped, BufferRefused, EndsOnce, GaveNothing, AllFlushed}
+use Rattle.programs.specs.Prompt.{AskedLast, AsksGive, WasSent}
+use Rattle.programs.specs.Streams.{MetNoFault, ReadFailed as AReadFailed, SendFailed, OverCount, BufferRefused, EndsOnce, GaveNothing, AllFlushed}
 
 -- why a run failed in which a frame could not be written
 abbrev pub of_write_error : WriteFrameError → RunError
 of_write_error (Unwritten.TooLong len) = TooLong
-of_write_error (Unwritten.Io e) = Io e
+of_write_error (Unwritten.Io e) = Write e
 
 -- the stream may be asked: no whole line is left, no beginning of one that is too long, and it hasn't ended
 pub record MayAsk {R : Type 0} (s : Lining R) : Type 0 where
   pub part : IsUnended s.max (rest s)
   pub going : s.ended ≡ false
+
+-- all that was taken in was received and flushed
+abbrev pub AllSent : {W : Type 0} → Outgoing W → Type 0
+AllSent v = (unsent v ≡ []) × AllFlushed v.writer.log
+
+-- the reader was asked, also for the last time, only where what was left, then what had come, was less than a line, and it hadn't
+-- ended; and each ask but the last gave a byte, or failed
+pub record AskedOver {R : Type 0} (s t : Lining R) : Type 0 where
+  pub going : s.ended ≡ false
+  pub came : List ℕ
+  pub last : List ℕ
+  pub asked : AskedLast came last s.reader.log t.reader.log
+  pub left : IsUnended s.max (rest s ++ came)
+
+-- how it was asked. Where the run goes on, and the reader hasn't ended, each ask gave a byte, or failed
+pub record Asks {R : Type 0} (s : Lining R) (going : Bool) (t : Lining R) : Type 0 where
+  pub over : (t.reader.log ≡ s.reader.log) ⊎ AskedOver s t
+  pub give : going ≡ true → t.ended ≡ false → AsksGive s.reader.log t.reader.log
+
+-- it was asked so, once all that had been taken in was received and flushed
+pub record AsksSent {R W : Type 0} (s : Lining R) (u : Outgoing W) (t : Lining R) (v : Outgoing W) : Type 0 where
+  pub over : AskedOver s t
+  pub sent : WasSent (u.writer.log.writes.received ++ unsent u) v.writer.log.writes
+
+-- or it wasn't asked
+abbrev pub AsksWhenSent : {R W : Type 0} → Lining R → Outgoing W → Lining R → Outgoing W → Type 0
+AsksWhenSent s u t v = (t.reader.log ≡ s.reader.log) ⊎ AsksSent s u t v
+
+-- what is due of these bytes: the frames of all whole lines in them
+pub record IsDue (most : ℕ) (bytes due : List ℕ) : Type 0 where
+  pub lines : List (List ℕ)
+  pub left : List ℕ
+  pub equal : bytes ≡ with_ends lines ++ left
+  pub plain : All IsLine lines
+  pub fit : All (Fits most) lines
+  pub no_more : IsUnended most left
+  pub frames_are : due ≡ frames lines
 
 -- neither stream failed
 abbrev pub NoneFailed : {R W : Type 0} → Lining R → Outgoing W → Lining R → Outgoing W → Type 0
@@ -64,6 +102,13 @@ module _ {R W : Type 0} (remaining : R → Option (List ℕ)) (stretch : W → W
     pub end : KnowsEnd s has.last t
     pub met : NoneFailed s u t v
 
+  -- one stream failed with this error
+  abbrev pub FailedToRead : Error → Lining R → Outgoing W → Type 0
+  FailedToRead e t v = AReadFailed e s.reader.log t.reader.log u.writer.log v.writer.log
+
+  abbrev pub FailedToSend : Error → Lining R → Outgoing W → Type 0
+  FailedToSend e t v = SendFailed e s.reader.log t.reader.log u.writer.log v.writer.log
+
   -- what one call did that makes the next line a frame, and answers whether there was one
   abbrev pub PacksNext : Result Bool RunError → Lining R → Outgoing W → Type 0
   PacksNext (Ok true) t v = PacksLines 1 t v × (s.ended ≡ false)
@@ -71,15 +116,18 @@ module _ {R W : Type 0} (remaining : R → Option (List ℕ)) (stretch : W → W
   PacksNext (Err TooLong) t v =
       Packs [] [] t v × NoneFailed s u t v × BeginsTooLong s.max (rest t) × (s.ended ≡ false) × NoEnd s t
   PacksNext (Err Truncated) t v = ⊥
-  PacksNext (Err (Io e)) t v =
-      (lost : List ℕ) × Packs lost [] t v × EitherFailed e s.reader.log t.reader.log u.writer.log v.writer.log
-      × (s.ended ≡ false) × EndsOnce s.reader.log.reads t.reader.log.reads
+  PacksNext (Err (Read e)) t v =
+      Packs [] [] t v × FailedToRead e t v × IsUnended s.max (rest t) × (s.ended ≡ false) × NoEnd s t × AllSent v
+  PacksNext (Err (Write e)) t v =
+      (lost : List ℕ) × Packs lost [] t v × FailedToSend e t v × (s.ended ≡ false)
+      × EndsOnce s.reader.log.reads t.reader.log.reads
+  PacksNext (Err (Io e)) t v = ⊥
 
   -- a read failed with this error: nothing was handed out or taken in, and less than a line is left
   pub record ReadStopped (e : Error) (t : Lining R) (v : Outgoing W) : Type 0 where
     pub went : LinesWent remaining s [] t
     pub fault : Faulted s e t
-    pub few : length (rest t) ≤ s.max
+    pub left : IsUnended s.max (rest t)
     pub going : s.ended ≡ false
     pub still : t.ended ≡ false
     pub none : NoEnd s t
@@ -110,23 +158,39 @@ module _ {R W : Type 0} (remaining : R → Option (List ℕ)) (stretch : W → W
     pub long : BeginsTooLong s.max (rest t)
     pub met : NoneFailed s u t v
 
+  -- they did, and were sent, and then a read failed with this error, where less than a line was left
+  pub record PacksToFault (e : Error) (t : Lining R) (v : Outgoing W) : Type 0 where
+    pub lines : List (List ℕ)
+    pub plain : All IsLine lines
+    pub went : Packs (with_ends lines) lines t v
+    pub left : IsUnended s.max (rest t)
+    pub sent : AllSent v
+    pub failed : FailedToRead e t v
+
+  -- the first lines did, and the last of them had its end, or nothing is left
+  pub record PacksSome (t : Lining R) (v : Outgoing W) : Type 0 where
+    pub first : PacksFirst t v
+    pub whole : (first.has.last ≡ []) ⊎ ((first.lost ++ rest t ≡ []) × EndedOnce s t)
+
   -- what calls did that make line after line a frame
   abbrev pub PacksAll : Result (Unit {0}) RunError → Lining R → Outgoing W → Type 0
   PacksAll (Ok _) t v = PacksText t v
   PacksAll (Err TooLong) t v = PacksToLong t v
   PacksAll (Err Truncated) t v = ⊥
+  PacksAll (Err (Read e)) t v = PacksToFault e t v
+  PacksAll (Err (Write e)) t v = PacksSome t v × FailedToSend e t v
   PacksAll (Err (Io e)) t v =
-      (first : PacksFirst t v) × ((first.has.last ≡ []) ⊎ ((first.lost ++ rest t ≡ []) × EndedOnce s t))
-      × Stopped e (length first.lines) s.reader.log t.reader.log u.writer.log v.writer.log
-
-  -- all that was taken in was received and flushed
-  abbrev pub AllSent : Outgoing W → Type 0
-  AllSent v = (unsent v ≡ []) × AllFlushed v.writer.log
+      (some : PacksSome t v)
+      × OverCount e (length some.first.lines) s.reader.log t.reader.log u.writer.log v.writer.log
 
   -- what they did, and then a flush where no stream failed
   abbrev pub PacksAndFlushes : Result (Unit {0}) RunError → Lining R → Outgoing W → Type 0
+  PacksAndFlushes (Ok _) t v = PacksAll (Ok tt) t v × AllSent v
+  PacksAndFlushes (Err TooLong) t v = PacksAll (Err TooLong) t v × AllSent v
+  PacksAndFlushes (Err Truncated) t v = ⊥
+  PacksAndFlushes (Err (Read e)) t v = PacksAll (Err (Read e)) t v
+  PacksAndFlushes (Err (Write e)) t v = PacksAll (Err (Write e)) t v
   PacksAndFlushes (Err (Io e)) t v = PacksAll (Err (Io e)) t v
-  PacksAndFlushes answer t v = PacksAll answer t v × AllSent v
 
 -- all that was given is a text of lines that fit, what was received is their frames, and the writer has flushed them
 pub record Packed (most : ℕ) (read read' written written' : StreamLog) : Type 0 where
@@ -139,21 +203,23 @@ pub record Packed (most : ℕ) (read read' written written' : StreamLog) : Type 
   pub received : written'.writes.received ≡ written.writes.received ++ frames lines
   pub flushed : AllFlushed written'
 
--- what was given is some lines that fit and then one that is too long; what was received is the frames of those before it
-pub record PackedToLong (most : ℕ) (read read' written written' : StreamLog) : Type 0 where
+-- what was given is some lines that fit and then such bytes; what was received is the frames of those lines, and the writer has
+-- flushed them
+pub record PackedLines (Such : List ℕ → Type 0) (most : ℕ) (read read' written written' : StreamLog) : Type 0 where
   pub lines : List (List ℕ)
   pub more : List ℕ
   pub plain : All IsLine lines
   pub fit : All (Fits most) lines
-  pub long : BeginsTooLong most more
+  pub such : Such more
   pub given : read'.reads.given ≡ read.reads.given ++ (with_ends lines ++ more)
   pub received : written'.writes.received ≡ written.writes.received ++ frames lines
   pub flushed : AllFlushed written'
 
 -- what was received is a beginning of the frames of lines that were given and fit. One without its end is among them only
 -- where the reader had no more to give
-pub record PackedBeginning (most : ℕ) (read read' written written' : StreamLog) (lines : List (List ℕ)) : Type 0 where
+pub record PackedFirst (most : ℕ) (read read' written written' : StreamLog) : Type 0 where
   pub text : List ℕ
+  pub lines : List (List ℕ)
   pub more : List ℕ
   pub unsent : List ℕ
   pub has : HasLines text lines
@@ -162,17 +228,18 @@ pub record PackedBeginning (most : ℕ) (read read' written written' : StreamLog
   pub given : read'.reads.given ≡ read.reads.given ++ (text ++ more)
   pub received : written'.writes.received ++ unsent ≡ written.writes.received ++ frames lines
 
--- a fault ended the run, or a buffer was refused before it began
-pub record PackFailed (most : ℕ) (e : Error) (read read' written written' : StreamLog) : Type 0 where
-  pub lines : List (List ℕ)
-  pub beginning : PackedBeginning most read read' written written' lines
-  pub caused : Stopped e (length lines) read read' written written' ⊎ BufferRefused e read read' written written'
-
--- what a run of `pack` did
+-- what a run of `pack` did. Where a read failed no line that came is lost. Any other fault is a writer's, or a buffer was refused
+-- before the run began, or it ended at its count
 abbrev pub PackRan : ℕ → StreamLog → StreamLog → StreamLog → StreamLog → Result (Unit {0}) RunError → Type 0
 PackRan most read read' written written' (Ok _) =
     Packed most read read' written written' × MetNoFault read read' written written'
 PackRan most read read' written written' (Err TooLong) =
-    PackedToLong most read read' written written' × MetNoFault read read' written written'
+    PackedLines (BeginsTooLong most) most read read' written written' × MetNoFault read read' written written'
 PackRan most read read' written written' (Err Truncated) = ⊥
-PackRan most read read' written written' (Err (Io e)) = PackFailed most e read read' written written'
+PackRan most read read' written written' (Err (Read e)) =
+    PackedLines (IsUnended most) most read read' written written' × AReadFailed e read read' written written'
+PackRan most read read' written written' (Err (Write e)) =
+    PackedFirst most read read' written written' × SendFailed e read read' written written'
+PackRan most read read' written written' (Err (Io e)) =
+    (first : PackedFirst most read read' written written')
+    × (OverCount e (length first.lines) read read' written written' ⊎ BufferRefused e read read' written written')

@@ -8,15 +8,16 @@ use Rattle.buffer_redux.specs.BufWriter.{WritesInOrder}
 use Rattle.buffer_redux.specs.Buffered.{Buffered}
 use Rattle.buffer_redux.specs.StreamLog.{StreamLog}
 use Rattle.buffer_redux.specs.declared.policy.StdPolicy.{StdPolicy}
-use Rattle.frame_reader.specs.Frames.{Fits, frames, BeginsTooLong, IsCutShort}
+use Rattle.frame_reader.specs.Frames.{Fits, Splits, frames, BeginsTooLong, IsCutShort}
 use Rattle.frame_reader.specs.Framing.{Framing, rest}
-use Rattle.frame_reader.specs.Next.{FramesWent}
+use Rattle.frame_reader.specs.Next.{FramesWent, IsUnsettled}
 use Rattle.frames.specs.declared.error.RunError.{RunError}
-use Rattle.frames.specs.declared.error.RunError.TheVariants.{TooLong, Truncated, Io}
+use Rattle.frames.specs.declared.error.RunError.TheVariants.{TooLong, Truncated, Read, Write, Io}
 use Rattle.frames.specs.declared.tries.Step.{Step}
 use Rattle.frames.specs.declared.tries.Step.TheVariants.{Went, End, ReadFailed}
 use Rattle.line_reader.specs.Lines.{with_ends}
-use Rattle.programs.specs.Streams.{MetNoFault, EitherFailed, Stopped, BufferRefused, GaveNothing, AllFlushed}
+use Rattle.programs.specs.Prompt.{AskedLast, AsksGive, WasSent}
+use Rattle.programs.specs.Streams.{MetNoFault, ReadFailed as AReadFailed, SendFailed, OverCount, BufferRefused, EndsOnce, GaveNothing, AllFlushed}
 
 -- a buffered writer of lines: the longest, with its end, is smaller than its buffer
 pub record IsLineTarget {W : Type 0} (most : ℕ) (u : Buffered W StdPolicy) : Type 0 where
@@ -34,10 +35,10 @@ pub record Unpacks {R W : Type 0} (remaining : R → Option (List ℕ)) (s : Fra
 abbrev pub NoneFailed : {R W : Type 0} → Framing R → Buffered W StdPolicy → Framing R → Buffered W StdPolicy → Type 0
 NoneFailed s u t v = MetNoFault s.reader.log t.reader.log u.log v.log
 
--- a stream failed with this error
-abbrev pub FailedWith : {R W : Type 0} → Error → Framing R → Buffered W StdPolicy → Framing R → Buffered W StdPolicy
-    → Type 0
-FailedWith e s u t v = EitherFailed e s.reader.log t.reader.log u.log v.log
+-- all that was taken in was received and flushed
+pub record AllSent {W : Type 0} (v : Buffered W StdPolicy) : Type 0 where
+  pub empty : v.block.bytes ≡ []
+  pub flushed : AllFlushed v.log
 
 -- each payload that was handed out was taken in as a line
 pub record UnpacksEach {R W : Type 0} (remaining : R → Option (List ℕ)) (s : Framing R) (u : Buffered W StdPolicy)
@@ -52,6 +53,15 @@ pub record UnpacksFirst {R W : Type 0} (remaining : R → Option (List ℕ)) (s 
   pub lines : List (List ℕ)
   pub lost : List (List ℕ)
   pub went : Unpacks remaining s u (lines ++ lost) lines t v
+
+-- they all were, and sent, and then a read failed with this error, where what is left is no whole frame
+pub record UnpacksToFault {R W : Type 0} (remaining : R → Option (List ℕ)) (s : Framing R) (u : Buffered W StdPolicy)
+    (e : Error) (t : Framing R) (v : Buffered W StdPolicy) : Type 0 where
+  pub payloads : List (List ℕ)
+  pub went : Unpacks remaining s u payloads payloads t v
+  pub left : IsUnsettled s.max (rest t)
+  pub sent : AllSent v
+  pub failed : AReadFailed e s.reader.log t.reader.log u.log v.log
 
 -- nothing is left, and the reader gave no more
 pub record NothingLeft {R : Type 0} (s t : Framing R) : Type 0 where
@@ -70,7 +80,10 @@ UnpacksNext remaining s u (Ok true) t v = (each : UnpacksEach remaining s u t v)
 UnpacksNext remaining s u (Ok false) t v = UnpacksEach remaining s u t v × NothingLeft s t
 UnpacksNext remaining s u (Err TooLong) t v = UnpacksEach remaining s u t v × BeginsTooLong s.max (rest t)
 UnpacksNext remaining s u (Err Truncated) t v = UnpacksEach remaining s u t v × CutShort s t
-UnpacksNext remaining s u (Err (Io e)) t v = UnpacksFirst remaining s u t v × FailedWith e s u t v
+UnpacksNext remaining s u (Err (Read e)) t v = UnpacksToFault remaining s u e t v
+UnpacksNext remaining s u (Err (Write e)) t v =
+    UnpacksFirst remaining s u t v × SendFailed e s.reader.log t.reader.log u.log v.log
+UnpacksNext remaining s u (Err (Io e)) t v = ⊥
 
 -- a read failed with this error: nothing was handed out or taken in, and less than a frame is left
 pub record ReadStopped {R W : Type 0} (remaining : R → Option (List ℕ)) (s : Framing R) (u : Buffered W StdPolicy) (e : Error)
@@ -78,6 +91,7 @@ pub record ReadStopped {R W : Type 0} (remaining : R → Option (List ℕ)) (s :
   pub went : FramesWent remaining s [] t
   pub fault : t.reader.log.reads.faults ≡ s.reader.log.reads.faults ++ e ∷ []
   pub few : length (rest t) < 2 + s.max
+  pub left : IsUnsettled s.max (rest t)
   pub same : v ≡ u
 
 -- what one try did, up to the first fault of a read
@@ -94,19 +108,53 @@ abbrev pub UnpacksAll : {R W : Type 0} → (R → Option (List ℕ)) → Framing
 UnpacksAll remaining s u (Ok _) t v = UnpacksEach remaining s u t v × NothingLeft s t
 UnpacksAll remaining s u (Err TooLong) t v = UnpacksEach remaining s u t v × BeginsTooLong s.max (rest t)
 UnpacksAll remaining s u (Err Truncated) t v = UnpacksEach remaining s u t v × CutShort s t
+UnpacksAll remaining s u (Err (Read e)) t v = UnpacksToFault remaining s u e t v
+UnpacksAll remaining s u (Err (Write e)) t v =
+    UnpacksFirst remaining s u t v × SendFailed e s.reader.log t.reader.log u.log v.log
 UnpacksAll remaining s u (Err (Io e)) t v =
-    (first : UnpacksFirst remaining s u t v) × Stopped e (length first.lines) s.reader.log t.reader.log u.log v.log
-
--- all that was taken in was received and flushed
-pub record AllSent {W : Type 0} (v : Buffered W StdPolicy) : Type 0 where
-  pub empty : v.block.bytes ≡ []
-  pub flushed : AllFlushed v.log
+    (first : UnpacksFirst remaining s u t v) × OverCount e (length first.lines) s.reader.log t.reader.log u.log v.log
 
 -- what they did, and then a flush where no stream failed
 abbrev pub UnpacksAndFlushes : {R W : Type 0} → (R → Option (List ℕ)) → Framing R → Buffered W StdPolicy
     → Result (Unit {0}) RunError → Framing R → Buffered W StdPolicy → Type 0
+UnpacksAndFlushes remaining s u (Ok _) t v = UnpacksAll remaining s u (Ok tt) t v × AllSent v
+UnpacksAndFlushes remaining s u (Err TooLong) t v = UnpacksAll remaining s u (Err TooLong) t v × AllSent v
+UnpacksAndFlushes remaining s u (Err Truncated) t v = UnpacksAll remaining s u (Err Truncated) t v × AllSent v
+UnpacksAndFlushes remaining s u (Err (Read e)) t v = UnpacksAll remaining s u (Err (Read e)) t v
+UnpacksAndFlushes remaining s u (Err (Write e)) t v = UnpacksAll remaining s u (Err (Write e)) t v
 UnpacksAndFlushes remaining s u (Err (Io e)) t v = UnpacksAll remaining s u (Err (Io e)) t v
-UnpacksAndFlushes remaining s u answer t v = UnpacksAll remaining s u answer t v × AllSent v
+
+-- the reader was asked, also for the last time, only where what was left, then what had come, was no whole frame; and each ask
+-- but the last gave a byte, or failed
+pub record AskedOver {R : Type 0} (s t : Framing R) : Type 0 where
+  pub came : List ℕ
+  pub last : List ℕ
+  pub asked : AskedLast came last s.reader.log t.reader.log
+  pub left : IsUnsettled s.max (rest s ++ came)
+
+-- how it was asked. It gave nothing once at most, and where the run goes on each ask gave a byte, or failed
+pub record Asks {R : Type 0} (s : Framing R) (going : Bool) (t : Framing R) : Type 0 where
+  pub over : (t.reader.log ≡ s.reader.log) ⊎ AskedOver s t
+  pub once : EndsOnce s.reader.log.reads t.reader.log.reads
+  pub give : going ≡ true → AsksGive s.reader.log t.reader.log
+  pub quiet : going ≡ true → t.reader.log.reads.zero_reads ≡ s.reader.log.reads.zero_reads
+
+-- it was so, once all that had been taken in was received and flushed
+pub record AsksSent {R W : Type 0} (s : Framing R) (u : Buffered W StdPolicy) (t : Framing R) (v : Buffered W StdPolicy)
+    : Type 0 where
+  pub over : AskedOver s t
+  pub sent : WasSent (u.log.writes.received ++ u.block.bytes) v.log.writes
+
+-- or it wasn't asked
+abbrev pub AsksWhenSent : {R W : Type 0} → Framing R → Buffered W StdPolicy → Framing R → Buffered W StdPolicy → Type 0
+AsksWhenSent s u t v = (t.reader.log ≡ s.reader.log) ⊎ AsksSent s u t v
+
+-- what is due of these bytes: the payloads of all whole frames in them, as lines
+pub record IsDue (most : ℕ) (bytes due : List ℕ) : Type 0 where
+  pub payloads : List (List ℕ)
+  pub left : List ℕ
+  pub splits : Splits most bytes payloads left
+  pub lines : due ≡ with_ends payloads
 
 -- what was given is the frames of payloads, and then these bytes; what was received is the payloads as lines, which the
 -- writer has flushed
@@ -116,10 +164,10 @@ pub record Unpacked (most : ℕ) (read read' written written' : StreamLog) (more
   pub given : read'.reads.given ≡ read.reads.given ++ (frames payloads ++ more)
   pub received : written'.writes.received ≡ written.writes.received ++ with_ends payloads
   pub flushed : AllFlushed written'
-  pub met : MetNoFault read read' written written'
 
 -- what was received is a beginning of the lines of payloads whose frames were given
-pub record UnpackedBeginning (most : ℕ) (read read' written written' : StreamLog) (lines : List (List ℕ)) : Type 0 where
+pub record UnpackedFirst (most : ℕ) (read read' written written' : StreamLog) : Type 0 where
+  pub lines : List (List ℕ)
   pub lost : List (List ℕ)
   pub more : List ℕ
   pub unsent : List ℕ
@@ -127,18 +175,23 @@ pub record UnpackedBeginning (most : ℕ) (read read' written written' : StreamL
   pub given : read'.reads.given ≡ read.reads.given ++ (frames (lines ++ lost) ++ more)
   pub received : written'.writes.received ++ unsent ≡ written.writes.received ++ with_ends lines
 
--- a fault ended the run, or a buffer was refused before it began
-pub record UnpackFailed (most : ℕ) (e : Error) (read read' written written' : StreamLog) : Type 0 where
-  pub lines : List (List ℕ)
-  pub beginning : UnpackedBeginning most read read' written written' lines
-  pub caused : Stopped e (length lines) read read' written written' ⊎ BufferRefused e read read' written written'
-
--- what a run of `unpack` did: at Ok all that was given is frames, and else some bytes behind them aren't
+-- what a run of `unpack` did: at Ok all that was given is frames, and else some bytes behind them aren't. Where a read failed
+-- no payload that came is lost. Any other fault is a writer's, or a buffer was refused before the run began, or it ended at its
+-- count
 abbrev pub UnpackRan : ℕ → StreamLog → StreamLog → StreamLog → StreamLog → Result (Unit {0}) RunError → Type 0
 UnpackRan most read read' written written' (Ok _) =
-    Unpacked most read read' written written' [] × GaveNothing read read'
+    Unpacked most read read' written written' [] × GaveNothing read read' × MetNoFault read read' written written'
 UnpackRan most read read' written written' (Err TooLong) =
     (more : List ℕ) × Unpacked most read read' written written' more × BeginsTooLong most more
+    × MetNoFault read read' written written'
 UnpackRan most read read' written written' (Err Truncated) =
     (more : List ℕ) × Unpacked most read read' written written' more × IsCutShort most more × GaveNothing read read'
-UnpackRan most read read' written written' (Err (Io e)) = UnpackFailed most e read read' written written'
+    × MetNoFault read read' written written'
+UnpackRan most read read' written written' (Err (Read e)) =
+    (more : List ℕ) × Unpacked most read read' written written' more × IsUnsettled most more
+    × AReadFailed e read read' written written'
+UnpackRan most read read' written written' (Err (Write e)) =
+    UnpackedFirst most read read' written written' × SendFailed e read read' written written'
+UnpackRan most read read' written written' (Err (Io e)) =
+    (first : UnpackedFirst most read read' written written')
+    × (OverCount e (length first.lines) read read' written written' ⊎ BufferRefused e read read' written written')

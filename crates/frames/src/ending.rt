@@ -2,14 +2,14 @@
 ghost use Rattle.std.specs.Prelude.{◌≡◌};
 
 use crate::error::RunError;
-use programs::Said;
+use programs::{Ending as Usual, Said};
 use std::fmt;
 
 /// How a run ends.
 #[derive(Clone, Copy, Debug)]
 pub enum Ending {
     /// As that of any program may.
-    Usual(programs::Ending),
+    Usual(Usual),
     /// A line or a frame was too long.
     TooLong,
     /// The input ended within a frame.
@@ -24,10 +24,12 @@ impl Ending {
         ensures { EndsAs answer.now result }
     {
         match answer {
-            Ok(()) => Ending::Usual(programs::Ending::Done),
+            Ok(()) => Ending::Usual(Usual::Done),
             Err(RunError::TooLong) => Ending::TooLong,
             Err(RunError::Truncated) => Ending::Truncated,
-            Err(RunError::Io(e)) => Ending::Usual(programs::Ending::of_fault(e)),
+            Err(RunError::Read(e)) => Ending::Usual(Usual::of_fault_so(e, Usual::ReadFailed)),
+            Err(RunError::Write(e)) => Ending::Usual(Usual::of_fault_so(e, Usual::WriteFailed)),
+            Err(RunError::Io(e)) => Ending::Usual(Usual::of_fault(e)),
         }
     }
 

@@ -12,7 +12,11 @@ pub enum RunError {
     TooLong,
     /// The input ended within a frame.
     Truncated,
-    /// A stream failed, or memory ran out.
+    /// A read failed.
+    Read(io::Error),
+    /// A write or a flush failed.
+    Write(io::Error),
+    /// Memory ran out, or more went over than a run counts.
     Io(io::Error),
 }
 
@@ -20,16 +24,20 @@ pub enum RunError {
 pub fn is_fault(answer: &Result<(), RunError>) -> bool
     ensures { result ≡ faulted answer.now }
 {
-    matches!(answer, Err(RunError::Io(_)))
+    matches!(
+        answer,
+        Err(RunError::Read(_) | RunError::Write(_) | RunError::Io(_))
+    )
 }
 
+/// What a call of a writer failed with.
 impl From<io::Error> for RunError {
-    ghost use Rattle.frames.specs.declared.error.RunError.TheVariants.{Io};
+    ghost use Rattle.frames.specs.declared.error.RunError.TheVariants.{Write};
 
-    ghost from_gives = { λ e r. r ≡ Io e };
+    ghost from_gives = { λ e r. r ≡ Write e };
 
     fn from(e: io::Error) -> RunError {
-        RunError::Io(e)
+        RunError::Write(e)
     }
 }
 
@@ -41,7 +49,7 @@ impl From<WriteFrameError> for RunError {
     fn from(e: WriteFrameError) -> RunError {
         match e {
             WriteFrameError::TooLong(_) => RunError::TooLong,
-            WriteFrameError::Io(e) => RunError::Io(e),
+            WriteFrameError::Io(e) => RunError::Write(e),
         }
     }
 }

@@ -1,9 +1,15 @@
 //! Payloads printed as lines, over any two streams that tell.
-ghost use Rattle.std.specs.Prelude.{◌≡◌, [], ◌∷◌, ◌++◌, length, IfErr, OnOk, OnErr};
+ghost use Rattle.std.specs.Prelude.{◌≡◌, [], ◌∷◌, ◌++◌, length, true, IfErr, OnOk, OnErr, Ok};
 ghost use Rattle.buffer_redux.specs.BufWriter.{WritesInOrder};
 ghost use Rattle.buffer_redux.specs.Faults.{MetInterrupts, SendErrorCaused};
+ghost use Rattle.frame_reader.specs.Framing.{rest};
+ghost use Rattle.frame_reader.specs.Next.{IsUnsettled};
 ghost use Rattle.line_reader.specs.Lines.{newline};
-ghost use Rattle.frames.specs.Unpack.{IsLineTarget, UnpacksOnce, UnpacksNext, UnpacksAll, UnpacksAndFlushes, UnpackRan};
+ghost use Rattle.programs.specs.Prompt.{AsksGive, HoldsNothingBack, WritesOn};
+ghost use Rattle.programs.specs.Streams.{EndsOnce};
+ghost use Rattle.frames.specs.Going.{goes_on, tries_on};
+ghost use Rattle.frames.specs.Unpack.{AllSent, Asks, AsksWhenSent, IsDue, IsLineTarget};
+ghost use Rattle.frames.specs.Unpack.{UnpacksOnce, UnpacksNext, UnpacksAll, UnpacksAndFlushes, UnpackRan};
 
 use crate::error::{RunError, is_fault};
 use crate::tries::{Step, row_with};
@@ -18,25 +24,28 @@ use std::io::{ErrorKind, Write};
 /// Prints the payload of each frame that `reader` gives as a line on `writer`. Bytes that are no frame of at most `most`
 /// bytes end the run; the lines of the frames before them are sent then.
 ///
-/// Both streams come back, also after a fault.
+/// Nothing is held back: where the reader is asked, the lines of all whole frames that it gave were sent and flushed.
+/// Both streams come back, also after a fault. Once the reader has given nothing it isn't called again.
 pub fn unpack<R: TellRead, W: TellWrite>(
     alloc: Global,
     most: u16,
     reader: R,
     writer: W,
 ) -> (Result<(), RunError>, R, W)
-    ensures { UnpackRan most (R.log reader) (R.log result.1) (W.log writer) (W.log result.2) result.0 }
+    ensures ran { UnpackRan most (R.log reader) (R.log result.1) (W.log writer) (W.log result.2) result.0 }
+    ensures prompt { HoldsNothingBack (IsDue most) (R.log reader) (R.log result.1) (W.log writer) (W.log result.2) }
+    ensures once { EndsOnce (R.log reader).reads (R.log result.1).reads }
 {
     let mut source = match FrameReader::new(alloc, reader, most) {
         Ok(source) => source,
-        Err(MakeError(reader, e)) => return (Err(io::Error::from(e).into()), reader, writer),
+        Err(MakeError(reader, e)) => return (Err(RunError::Io(e.into())), reader, writer),
     };
-    // It takes a line in whole.
-    let room = 2 * (usize::from(most) + 1);
+    // It takes in the lines of all that one read gives.
+    let room = 3 * (usize::from(most) + 2);
     let mut target = match buffered_writer(alloc, false, room, writer) {
         Ok(target) => target,
         Err(MakeError(writer, e)) => {
-            return (Err(io::Error::from(e).into()), source.into_inner(), writer);
+            return (Err(RunError::Io(e.into())), source.into_inner(), writer);
         }
     };
     let answer = unpack_all(&mut source, &mut target);
@@ -49,8 +58,13 @@ fn unpack_all<R: TellRead, W: TellWrite>(
     source: &mut FrameReader<R>,
     target: &mut BufWriter<W>,
 ) -> Result<(), RunError>
-    requires { IsLineTarget source.old.max target.old }
-    ensures { UnpacksAndFlushes R.remaining source.old target.old result source.new target.new }
+    requires target { IsLineTarget source.old.max target.old }
+    requires nothing { source.old.reader.block.bytes ≡ [] }
+    requires empty { target.old.block.bytes ≡ [] }
+    ensures unpacks { UnpacksAndFlushes R.remaining source.old target.old result source.new target.new }
+    ensures prompt { HoldsNothingBack (IsDue source.old.max) source.old.reader.log source.new.reader.log
+        target.old.log target.new.log }
+    ensures once { EndsOnce source.old.reader.log.reads source.new.reader.log.reads }
 {
     let answer = unpack_frames(source, target);
     if is_fault(&answer) {
@@ -65,24 +79,50 @@ fn unpack_frames<R: TellRead, W: TellWrite>(
     source: &mut FrameReader<R>,
     target: &mut BufWriter<W>,
 ) -> Result<(), RunError>
-    requires { IsLineTarget source.old.max target.old }
-    ensures { UnpacksAll R.remaining source.old target.old result source.new target.new }
+    requires target { IsLineTarget source.old.max target.old }
+    requires nothing { source.old.reader.block.bytes ≡ [] }
+    requires empty { target.old.block.bytes ≡ [] }
+    ensures unpacks { UnpacksAll R.remaining source.old target.old result source.new target.new }
+    ensures prompt { HoldsNothingBack (IsDue source.old.max) source.old.reader.log source.new.reader.log
+        target.old.log target.new.log }
+    ensures once { EndsOnce source.old.reader.log.reads source.new.reader.log.reads }
 {
     for _ in 0..u64::MAX {
         if !unpack_frame(source, target)? {
             return Ok(());
         }
     }
-    Err(io::Error::from(ErrorKind::Other).into())
+    Err(RunError::Io(ErrorKind::Other.into()))
 }
 
-// Prints the next payload, and returns whether there was one. Of reads that are interrupted in a row the 65th ends it.
+// Prints the next payload, and returns whether there was one. Where it has to be asked for, all lines are sent and flushed first.
 fn unpack_frame<R: TellRead, W: TellWrite>(
     source: &mut FrameReader<R>,
     target: &mut BufWriter<W>,
 ) -> Result<bool, RunError>
     requires { IsLineTarget source.old.max target.old }
-    ensures { UnpacksNext R.remaining source.old target.old result source.new target.new }
+    ensures unpacks { UnpacksNext R.remaining source.old target.old result source.new target.new }
+    ensures asks { Asks source.old (goes_on result) source.new }
+    ensures prompt { AsksWhenSent source.old target.old source.new target.new }
+    ensures writes { WritesOn target.old.log.writes target.new.log.writes }
+{
+    if source.has_frame() {
+        return print_next(source, target);
+    }
+    target.flush()?;
+    print_next(source, target)
+}
+
+// Prints the next payload. Of reads that are interrupted in a row the 65th ends it.
+fn print_next<R: TellRead, W: TellWrite>(
+    source: &mut FrameReader<R>,
+    target: &mut BufWriter<W>,
+) -> Result<bool, RunError>
+    requires target { IsLineTarget source.old.max target.old }
+    requires sent { IsUnsettled source.old.max (rest source.old) → AllSent target.old }
+    ensures unpacks { UnpacksNext R.remaining source.old target.old result source.new target.new }
+    ensures asks { Asks source.old (goes_on result) source.new }
+    ensures writes { WritesOn target.old.log.writes target.new.log.writes }
 {
     let mut row = 0;
     'tries: loop {
@@ -93,7 +133,7 @@ fn unpack_frame<R: TellRead, W: TellWrite>(
             Step::ReadFailed(e) => {
                 row = row_with(row, source.rest().len() > have);
                 if is_answered(&e, row) {
-                    return Err(e.into());
+                    return Err(RunError::Read(e));
                 }
             }
         }
@@ -106,7 +146,9 @@ fn try_frame<R: TellRead, W: TellWrite>(
     target: &mut BufWriter<W>,
 ) -> Result<Step, RunError>
     requires { IsLineTarget source.old.max target.old }
-    ensures { UnpacksOnce R.remaining source.old target.old result source.new target.new }
+    ensures unpacks { UnpacksOnce R.remaining source.old target.old result source.new target.new }
+    ensures asks { Asks source.old (tries_on result) source.new }
+    ensures writes { WritesOn target.old.log.writes target.new.log.writes }
 {
     match source.next() {
         Ok(Some(payload)) => {
@@ -125,6 +167,7 @@ fn print_line<W: TellWrite>(target: &mut BufWriter<W>, line: &[u8]) -> io::Resul
     requires { IsLineTarget (length line.now) target.old }
     ensures taken { OnOk result (WritesInOrder target.old (line.now ++ newline ∷ []) target.new) }
     ensures none { OnErr result (WritesInOrder target.old [] target.new) }
+    ensures not_flushed { target.new.log.writes.flushed ≡ target.old.log.writes.flushed }
     ensures met { OnOk result (MetInterrupts target.old.log.writes target.new.log.writes) }
     ensures caused { IfErr result (λ e. SendErrorCaused target.old.log.writes target.new.log.writes e) }
     ensures kind { target.new.block.kind ≡ target.old.block.kind }

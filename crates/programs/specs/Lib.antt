@@ -1,4 +1,6 @@
 pub mod Ending
+pub mod Prompt
+pub mod PromptLaws
 pub mod Streams
 pub mod StreamsLaws
 pub mod Words

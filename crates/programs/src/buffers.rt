@@ -84,11 +84,14 @@ pub fn buffered_writer<W: TellWrite>(
     }
 }
 
-/// Sends all that is buffered where so many more bytes don't fit, and makes all free space usable.
+/// Sends all that is buffered where so many more bytes don't fit, and makes all free space usable. Nothing is flushed.
 pub fn make_room<W: TellWrite>(target: &mut BufWriter<W>, whole: usize) -> io::Result<()>
     requires plain { target.old.block.kind ≡ Plain }
     requires inside { whole ≤ target.old.block.capacity }
     ensures none { WritesInOrder target.old [] target.new }
+    ensures fits { length target.old.block.bytes + whole ≤ target.old.block.capacity
+        → target.new.log ≡ target.old.log }
+    ensures not_flushed { target.new.log.writes.flushed ≡ target.old.log.writes.flushed }
     ensures room { OnOk result (whole ≤ usable target.new.block) }
     ensures met { OnOk result (MetInterrupts target.old.log.writes target.new.log.writes) }
     ensures caused { IfErr result (λ e. SendErrorCaused target.old.log.writes target.new.log.writes e) }

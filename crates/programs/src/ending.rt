@@ -1,5 +1,6 @@
 //! How a run ends, and what a program says of it.
 ghost use Rattle.std.specs.Prelude.{◌≡◌};
+ghost use Rattle.std.specs.Process.{exit_status};
 
 use std::io::ErrorKind;
 use std::process::ExitCode;
@@ -12,6 +13,10 @@ pub enum Ending {
     Done,
     /// A read or a write failed.
     Failed,
+    /// A read failed.
+    ReadFailed,
+    /// A write or a flush failed.
+    WriteFailed,
     /// The words after the program's name ask for nothing that it knows.
     Usage,
     /// Memory ran out.
@@ -19,7 +24,7 @@ pub enum Ending {
 }
 
 impl Ending {
-    ghost use Rattle.programs.specs.Ending.{EndsAs, FailsAs, status_of};
+    ghost use Rattle.programs.specs.Ending.{EndsAs, FailsAs, FailsSo, status_of};
 
     /// How a run ends that returned this.
     pub fn of<T>(answer: &io::Result<T>) -> Ending
@@ -35,10 +40,17 @@ impl Ending {
     pub fn of_fault(e: &io::Error) -> Ending
         ensures { FailsAs e.now result }
     {
+        Ending::of_fault_so(e, Ending::Failed)
+    }
+
+    /// How a run ends that failed with this error: so, or for want of memory.
+    pub fn of_fault_so(e: &io::Error, failed: Ending) -> Ending
+        ensures { FailsSo failed e.now result }
+    {
         if e.kind() == ErrorKind::OutOfMemory {
             Ending::Memory
         } else {
-            Ending::Failed
+            failed
         }
     }
 
@@ -48,7 +60,7 @@ impl Ending {
     {
         match self {
             Ending::Done => 0,
-            Ending::Failed => 1,
+            Ending::Failed | Ending::ReadFailed | Ending::WriteFailed => 1,
             Ending::Usage => 2,
             Ending::Memory => 3,
         }
@@ -75,6 +87,8 @@ impl fmt::Display for Said<'_> {
         match self.ending {
             Ending::Done => Ok(()),
             Ending::Failed => write!(f, "{program}: read or write failed"),
+            Ending::ReadFailed => write!(f, "{program}: read failed"),
+            Ending::WriteFailed => write!(f, "{program}: write failed"),
             Ending::Usage => write!(f, "usage: {program} {usage}"),
             Ending::Memory => write!(f, "{program}: out of memory"),
         }
@@ -82,7 +96,9 @@ impl fmt::Display for Said<'_> {
 }
 
 /// Ends the process with this status, and with this line on standard error where the status isn't 0.
-pub fn end<T: fmt::Display + Drop>(rt: &HostRuntime, status: u8, line: T) -> ExitCode {
+pub fn end<T: fmt::Display + Drop>(rt: &HostRuntime, status: u8, line: T) -> ExitCode
+    ensures { exit_status result ≡ status }
+{
     if status != 0 {
         // There is nowhere left to tell of a fault here.
         let _ = rt.eprintln(line);

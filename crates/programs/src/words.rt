@@ -4,9 +4,18 @@ ghost use Rattle.std.specs.Str.Parse.{digits_value};
 ghost use Rattle.programs.specs.Words.{IsNumber};
 
 use std::io;
+use std::io::ErrorKind;
 
-/// The words after the program's name.
-pub fn args(rt: &HostRuntime) -> io::Result<Vec<String>> {
+/// The words after the program's name; `None` where one isn't UTF-8, which no program knows.
+pub fn args(rt: &HostRuntime) -> io::Result<Option<Vec<String>>> {
+    match all_args(rt) {
+        Ok(words) => Ok(Some(words)),
+        Err(e) if e.kind() == ErrorKind::InvalidData => Ok(None),
+        Err(e) => Err(e),
+    }
+}
+
+fn all_args(rt: &HostRuntime) -> io::Result<Vec<String>> {
     // The first is the program's own name.
     Ok(std::env::args(rt)?.skip(1).collect(rt.alloc())?)
 }

@@ -26,8 +26,8 @@
 //! 4. Of a writer, the bytes that the one inside took, and of `handing`, a reader too, those that it handed out.
 //!
 //! Bytes are in hex, more than 64 as `#COUNT:HASH` by the hash FNV-1a of 64 bits, and `-` stands for none. Where the buffer is
-//! refused, `X:WHY` is the line. For a line that can't be read or played a line says why, and the status at the end is 2. It is
-//! 1 where standard input or output fails.
+//! refused, `X:WHY` is the line. For a line that can't be read or played a line says why, and the status at the end is 2, as
+//! for words behind the program's name. It is 1 where standard input or output fails.
 #![tactic(auto)]
 
 mod case;
@@ -48,6 +48,10 @@ use std::io;
 use std::process::ExitCode;
 
 fn run(rt: &HostRuntime) -> io::Result<Ending> {
+    match programs::args(rt)? {
+        Some(words) if words.is_empty() => {}
+        _ => return Ok(Ending::Usage),
+    }
     let input = BufReader::new(rt.alloc(), Told::new(rt.stdin()))?;
     let mut output = BufWriter::new(rt.alloc(), Told::new(rt.stdout()))?;
     replay(rt.alloc(), input, &mut output)
@@ -55,6 +59,7 @@ fn run(rt: &HostRuntime) -> io::Result<Ending> {
 
 fn main(rt: HostRuntime) -> ExitCode {
     match run(&rt) {
+        Ok(Ending::Usage) => programs::end(&rt, 2, "usage: replay < LINES"),
         Ok(ending) => ExitCode::from(ending.status()),
         Err(_) => {
             // There is nowhere left to tell of a fault here.

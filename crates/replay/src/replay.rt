@@ -19,6 +19,8 @@ pub enum Ending {
     AllPlayed,
     /// A line was not.
     SomeUnread,
+    /// None was read, since there were words behind the program's name.
+    Usage,
 }
 
 impl Ending {
@@ -26,10 +28,11 @@ impl Ending {
     pub fn status(&self) -> u8
         ensures played { self.now ≡ Ending.AllPlayed → result ≡ 0 }
         ensures unread { self.now ≡ Ending.SomeUnread → result ≡ 2 }
+        ensures usage { self.now ≡ Ending.Usage → result ≡ 2 }
     {
         match self {
             Ending::AllPlayed => 0,
-            Ending::SomeUnread => 2,
+            Ending::SomeUnread | Ending::Usage => 2,
         }
     }
 }

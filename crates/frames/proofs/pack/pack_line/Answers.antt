@@ -1,87 +1,54 @@
-use Rattle.std.proofs.Common.{subst, sym, ◌∙◌, Ok, Err, true, false, [], arith}
+use Rattle.std.proofs.Common.{◌++◌, ◌∙◌, inl, sym, subst}
+use Rattle.std.proofs.lemmas.Bool.{false≢true}
 use Rattle.std.proofs.lemmas.Result.{err_from_is_err_and}
-use Rattle.line_reader.specs.LinesWentLaws.{LinesWent-joins}
-use Rattle.frames.specs.Pack.{ReadStopped, PacksOnce}
-use Rattle.programs.specs.StreamsLaws.{only_more, one_more}
-use Rattle.frames.proofs.Packing.{retried, gives_up, not_asked_again}
+use Rattle.buffer_redux.specs.GoesOn.{GoesOn, GoesOn-none}
+use Rattle.frame_reader.specs.Outgoing.{unsent}
+use Rattle.programs.specs.Prompt.{WasSent}
+use Rattle.programs.specs.PromptLaws.{WasSent-on, WritesOn-grows, WritesOn-joins}
+use Rattle.frames.proofs.PackPrompting.{asks_none, asks_sent, has_no_ask, not_ended}
+use Rattle.frames.proofs.Packing.{sent_before, not_sent}
 use Rattle.frames.proofs.pack.pack_line.Goals as goal
 
-pub returns-in_err-try_line-clause-packs : goal.returns-in_err-try_line-clause-packs
-returns-in_err-try_line-clause-packs g c =
-    let before = c.tries.invariant in
+pub returns-then-has_line-clause-prompt : goal.returns-then-has_line-clause-prompt
+returns-then-has_line-clause-prompt g c =
+    inl (c.pack_next.ensures.unasked (has_no_ask c.args.source.now (c.has_line.ensures.0 c.if-has_line.true)))
+
+pub returns-in_err-flush-clause-packs : goal.returns-in_err-flush-clause-packs
+returns-in_err-flush-clause-packs g c =
     let p = err_from_is_err_and c.from_residual.result c.from_residual.ensures.1 in
+    let f = c.in_err-flush.ensures in
     rw (p.1, p.2)
-    (retried g.R.TellRead.remaining g.W.TellWrite.stretch g.met.W.TellWrite.stretch_none c.args.source.now c.tries.source
-    c.try_line.new.source c.args.target.now c.try_line.new.target before.went before.met before.still before.quiet
-    c.tries.target before.target (Err c.in_err-try_line.field-0.0) c.in_err-try_line.ensures.packs)
+    (not_sent g.R.TellRead.remaining g.W.TellWrite.stretch c.args.source.now c.args.target.now c.flush.new.self _
+    (not_ended c.args.source.now c.requires.open (λ has. false≢true (sym c.if-has_line.false ∙ c.has_line.ensures.1 has)))
+    f.went f.flushed.caused)
 
-pub returns-in-Went-clause-packs : goal.returns-in-Went-clause-packs
-returns-in-Went-clause-packs g c =
-    let remaining = g.R.TellRead.remaining in
-    let stretch = g.W.TellWrite.stretch in
-    let before = c.tries.invariant in
-    let t = c.try_line.new.source in
-    let v = c.try_line.new.target in
-    retried remaining stretch g.met.W.TellWrite.stretch_none c.args.source.now c.tries.source t c.args.target.now v
-    before.went before.met before.still before.quiet c.tries.target before.target (Ok true)
-    (subst (λ x. PacksOnce remaining stretch c.tries.source c.tries.target (Ok x) t v) c.in-Went.is
-    c.in_ok-try_line.ensures.packs)
+pub returns-in_err-flush-clause-asks : goal.returns-in_err-flush-clause-asks
+returns-in_err-flush-clause-asks g c = asks_none c.args.source.now _
 
-pub returns-in-End-clause-packs : goal.returns-in-End-clause-packs
-returns-in-End-clause-packs g c =
-    let remaining = g.R.TellRead.remaining in
-    let stretch = g.W.TellWrite.stretch in
-    let before = c.tries.invariant in
-    let t = c.try_line.new.source in
-    let v = c.try_line.new.target in
-    retried remaining stretch g.met.W.TellWrite.stretch_none c.args.source.now c.tries.source t c.args.target.now v
-    before.went before.met before.still before.quiet c.tries.target before.target (Ok false)
-    (subst (λ x. PacksOnce remaining stretch c.tries.source c.tries.target (Ok x) t v) c.in-End.is
-    c.in_ok-try_line.ensures.packs)
+pub returns-in_err-flush-clause-writes : goal.returns-in_err-flush-clause-writes
+returns-in_err-flush-clause-writes g c = WritesOn-grows _ _ c.in_err-flush.ensures.flushed.grows
 
-pub returns-then-is_answered-clause-packs : goal.returns-then-is_answered-clause-packs
-returns-then-is_answered-clause-packs g c =
-    let remaining = g.R.TellRead.remaining in
-    let stretch = g.W.TellWrite.stretch in
-    let before = c.tries.invariant in
-    let t = c.try_line.new.source in
-    let v = c.try_line.new.target in
-    let e = c.in-ReadFailed.e in
-    let stopped : ReadStopped remaining stretch c.tries.source c.tries.target e t v =
-    subst (λ x. PacksOnce remaining stretch c.tries.source c.tries.target (Ok x) t v) c.in-ReadFailed.is
-    c.in_ok-try_line.ensures.packs in
-    rw c.into.ensures
-    (gives_up remaining stretch g.met.W.TellWrite.stretch_none c.args.source.now c.tries.source t c.args.target.now v
-    before.went before.met before.still before.quiet c.tries.target before.target e stopped
-    (λ is. omega (
-      arith,
-      c.is_answered.ensures.often c.if-is_answered.true is,
-      c.row_with-row.ensures.most,
-      before.row,
-      one_more _ _ e stopped.fault,
-    )))
+pub returns-clause-packs : goal.returns-clause-packs
+returns-clause-packs g c =
+    let f = c.in_ok-flush.ensures in
+    sent_before g.R.TellRead.remaining g.W.TellWrite.stretch g.met.W.TellWrite.stretch_joins c.args.source.now _
+    c.args.target.now c.flush.new.self _ f.went f.flushed.ok.met _ c.pack_next-2.ensures.packs
 
-pub tries-preserved : goal.tries-preserved
-tries-preserved g c =
-    let remaining = g.R.TellRead.remaining in
-    let stretch = g.W.TellWrite.stretch in
-    let before = c.tries.invariant in
-    let t = c.try_line.new.source in
-    let v = c.try_line.new.target in
-    let e = c.in-ReadFailed.e in
-    let stopped : ReadStopped remaining stretch c.tries.source c.tries.target e t v =
-    subst (λ x. PacksOnce remaining stretch c.tries.source c.tries.target (Ok x) t v) c.in-ReadFailed.is
-    c.in_ok-try_line.ensures.packs in
-    let again = c.is_answered.ensures.again c.if-is_answered.false in
-    record {
-      went = LinesWent-joins remaining c.args.source.now c.tries.source t [] [] before.went stopped.went;
-      target = stopped.same ∙ before.target;
-      met = only_more _ _ _ e before.met stopped.fault again.0;
-      row = omega (arith, before.row, c.row_with-row.ensures.most, one_more _ _ e stopped.fault);
-      few = again.1;
-      still = stopped.still ∙ sym stopped.going ∙ before.still;
-      open' = c.in_ok-try_line.ensures.open;
-      quiet = stopped.none ∙ before.quiet;
-      asked = λ isnt. absurd (not_asked_again c.args.source.now c.tries.source t e (before.asked isnt) isnt
-          c.in_ok-try_line.ensures.unasked stopped.fault);
-    }
+pub returns-clause-prompt : goal.returns-clause-prompt
+returns-clause-prompt g c =
+    let ok = c.in_ok-flush.ensures.flushed.ok in
+    let u = c.args.target.now in
+    let w = c.flush.new.self in
+    let v = c.pack_next-2.new.target in
+    let sent : WasSent (u.writer.log.writes.received ++ unsent u) w.writer.log.writes = record {
+      received = subst (λ l. GoesOn l w.writer.log.writes.received) ok.received (GoesOn-none w.writer.log.writes.received);
+      flushed = subst (λ l. GoesOn l w.writer.log.writes.flushed) (ok.flushed ∙ ok.received)
+          (GoesOn-none w.writer.log.writes.flushed);
+    } in
+    asks_sent c.args.source.now _ u v _ c.pack_next-2.ensures.asks
+    (WasSent-on _ w.writer.log.writes v.writer.log.writes sent c.pack_next-2.ensures.writes)
+
+pub returns-clause-writes : goal.returns-clause-writes
+returns-clause-writes g c =
+    WritesOn-joins _ c.flush.new.self.writer.log.writes _ (WritesOn-grows _ _ c.in_ok-flush.ensures.flushed.grows)
+    c.pack_next-2.ensures.writes

@@ -1,6 +1,7 @@
-use Rattle.std.proofs.Common.{subst, arith, Ok}
+use Rattle.std.proofs.Common.{subst, arith, Ok, inl, refl}
 use Rattle.std.proofs.lemmas.Result.{err_from_is_err_and}
 use Rattle.frames.specs.Pack.{PacksNext}
+use Rattle.frames.proofs.PackPrompting.{held_more}
 use Rattle.frames.proofs.PackingAll.{so_far_none, so_far_more, all_done, done_once, stops, stops_once, over, over_once}
 use Rattle.frames.proofs.pack.pack_lines.Goals as goal
 
@@ -9,6 +10,8 @@ loop-init g c = record {
   lines = so_far_none g.R.TellRead.remaining g.W.TellWrite.stretch g.met.W.TellWrite.stretch_none
       g.met.W.TellWrite.stretch_joins c.args.source.now c.args.target.now c.requires.going;
   open' = c.requires.open;
+  held = inl refl;
+  give = λ _. omega arith;
 }
 
 pub returns-in_err-pack_line-clause-once : goal.returns-in_err-pack_line-clause-once
@@ -52,6 +55,21 @@ loop-preserved g c = record {
       (subst (λ b. PacksNext g.R.TellRead.remaining g.W.TellWrite.stretch c.loop.source c.loop.target (Ok b)
       c.pack_line.new.source c.pack_line.new.target) c.if-not-branch.false c.in_ok-pack_line.ensures.packs);
   open' = c.in_ok-pack_line.ensures.open;
+  held =
+      let before = c.loop.invariant in
+      let one = c.in_ok-pack_line.ensures in
+      held_more g.R.TellRead.remaining g.W.TellWrite.stretch g.met.W.TellWrite.stretch_none g.met.W.TellWrite.stretch_joins
+      c.args.source.now c.loop.source c.pack_line.new.source c.args.target.now c.loop.target c.pack_line.new.target
+      c.requires.nothing c.requires.empty c.requires.most c.loop.counter before.lines before.give before.held one.prompt
+      one.writes;
+  give = λ going.
+      let went = subst (λ b. PacksNext g.R.TellRead.remaining g.W.TellWrite.stretch c.loop.source c.loop.target (Ok b)
+      c.pack_line.new.source c.pack_line.new.target) c.if-not-branch.false c.in_ok-pack_line.ensures.packs in
+      omega (
+        arith,
+        c.loop.invariant.give went.1,
+        c.in_ok-pack_line.ensures.asks.give c.if-not-branch.false going,
+      );
 }
 
 pub returns-clause-once : goal.returns-clause-once
@@ -62,7 +80,27 @@ returns-clause-once g c =
 
 pub returns-clause-packs : goal.returns-clause-packs
 returns-clause-packs g c =
-    rw c.into.ensures
     (over g.R.TellRead.remaining g.W.TellWrite.stretch g.met.W.TellWrite.stretch_none g.met.W.TellWrite.stretch_joins
     c.args.source.now c.args.target.now
-    c.loop.counter c.loop.source c.loop.target c.loop.invariant.lines _ c.from.ensures (omega (arith, c.loop-test.false)))
+    c.loop.counter c.loop.source c.loop.target c.loop.invariant.lines _ c.into.ensures (omega (arith, c.loop-test.false)))
+
+pub returns-in_err-pack_line-clause-prompt : goal.returns-in_err-pack_line-clause-prompt
+returns-in_err-pack_line-clause-prompt g c =
+    let before = c.loop.invariant in
+    let one = c.in_err-pack_line.ensures in
+    held_more g.R.TellRead.remaining g.W.TellWrite.stretch g.met.W.TellWrite.stretch_none g.met.W.TellWrite.stretch_joins
+    c.args.source.now c.loop.source c.pack_line.new.source c.args.target.now c.loop.target c.pack_line.new.target
+    c.requires.nothing c.requires.empty c.requires.most c.loop.counter before.lines before.give before.held one.prompt
+    one.writes
+
+pub returns-then-not-branch-clause-prompt : goal.returns-then-not-branch-clause-prompt
+returns-then-not-branch-clause-prompt g c =
+    let before = c.loop.invariant in
+    let one = c.in_ok-pack_line.ensures in
+    held_more g.R.TellRead.remaining g.W.TellWrite.stretch g.met.W.TellWrite.stretch_none g.met.W.TellWrite.stretch_joins
+    c.args.source.now c.loop.source c.pack_line.new.source c.args.target.now c.loop.target c.pack_line.new.target
+    c.requires.nothing c.requires.empty c.requires.most c.loop.counter before.lines before.give before.held one.prompt
+    one.writes
+
+pub returns-clause-prompt : goal.returns-clause-prompt
+returns-clause-prompt g c = c.loop.invariant.held

@@ -1,76 +1,53 @@
-use Rattle.std.proofs.Common.{subst, ◌∙◌, Ok, Err, true, false, [], arith}
+use Rattle.std.proofs.Common.{◌++◌, ◌∙◌, inl, sym, subst}
 use Rattle.std.proofs.lemmas.Result.{err_from_is_err_and}
-use Rattle.frame_reader.specs.NextLaws.{FramesWent-joins}
-use Rattle.frames.specs.Unpack.{ReadStopped, UnpacksOnce}
-use Rattle.programs.specs.StreamsLaws.{only_more, one_more}
-use Rattle.frames.proofs.Unpacking.{retried, gives_up}
+use Rattle.buffer_redux.specs.GoesOn.{GoesOn, GoesOn-none}
+use Rattle.frame_reader.specs.Framing.{rest}
+use Rattle.frames.specs.Unpack.{IsLineTarget}
+use Rattle.programs.specs.Prompt.{WasSent}
+use Rattle.programs.specs.PromptLaws.{WasSent-on, WritesOn-grows, WritesOn-joins}
+use Rattle.frames.proofs.Prompting.{asks_none, asks_settled, asks_sent}
+use Rattle.frames.proofs.Unpacking.{sent_before, not_sent}
 use Rattle.frames.proofs.unpack.unpack_frame.Goals as goal
 
-pub returns-in_err-try_frame : goal.returns-in_err-try_frame
-returns-in_err-try_frame g c =
-    let before = c.tries.invariant in
+pub returns-then-has_frame-clause-prompt : goal.returns-then-has_frame-clause-prompt
+returns-then-has_frame-clause-prompt g c =
+    inl (asks_settled c.args.source.now c.print_next.new.source _ (c.has_frame.ensures.settled.0 c.if-has_frame.true)
+    c.print_next.ensures.asks)
+
+pub returns-in_err-flush-clause-unpacks : goal.returns-in_err-flush-clause-unpacks
+returns-in_err-flush-clause-unpacks g c =
     let p = err_from_is_err_and c.from_residual.result c.from_residual.ensures.1 in
+    let f = c.in_err-flush.ensures.flushed in
     rw (p.1, p.2)
-    (retried g.R.TellRead.remaining c.args.source.now c.tries.source c.try_frame.new.source c.args.target.now
-    c.try_frame.new.target before.went before.met c.tries.target before.target
-    (Err c.in_err-try_frame.field-0.0) c.in_err-try_frame.ensures)
+    (not_sent g.R.TellRead.remaining c.args.source.now c.args.target.now c.flush.new.self _ c.requires f.in_order f.kind
+    f.capacity f.caused)
 
-pub returns-in-Went : goal.returns-in-Went
-returns-in-Went g c =
-    let remaining = g.R.TellRead.remaining in
-    let before = c.tries.invariant in
-    let t = c.try_frame.new.source in
-    let v = c.try_frame.new.target in
-    retried remaining c.args.source.now c.tries.source t c.args.target.now v before.went before.met c.tries.target
-    before.target (Ok true)
-    (subst (λ x. UnpacksOnce remaining c.tries.source c.tries.target (Ok x) t v) c.in-Went.is c.in_ok-try_frame.ensures)
+pub returns-in_err-flush-clause-asks : goal.returns-in_err-flush-clause-asks
+returns-in_err-flush-clause-asks g c = asks_none c.args.source.now _
 
-pub returns-in-End : goal.returns-in-End
-returns-in-End g c =
-    let remaining = g.R.TellRead.remaining in
-    let before = c.tries.invariant in
-    let t = c.try_frame.new.source in
-    let v = c.try_frame.new.target in
-    retried remaining c.args.source.now c.tries.source t c.args.target.now v before.went before.met c.tries.target
-    before.target (Ok false)
-    (subst (λ x. UnpacksOnce remaining c.tries.source c.tries.target (Ok x) t v) c.in-End.is c.in_ok-try_frame.ensures)
+pub returns-in_err-flush-clause-writes : goal.returns-in_err-flush-clause-writes
+returns-in_err-flush-clause-writes g c = WritesOn-grows _ _ c.in_err-flush.ensures.flushed.grows
 
-pub returns-then-is_answered : goal.returns-then-is_answered
-returns-then-is_answered g c =
-    let remaining = g.R.TellRead.remaining in
-    let before = c.tries.invariant in
-    let t = c.try_frame.new.source in
-    let v = c.try_frame.new.target in
-    let e = c.in-ReadFailed.e in
-    let stopped : ReadStopped remaining c.tries.source c.tries.target e t v =
-    subst (λ x. UnpacksOnce remaining c.tries.source c.tries.target (Ok x) t v) c.in-ReadFailed.is
-    c.in_ok-try_frame.ensures in
-    rw c.into.ensures
-    (gives_up remaining c.args.source.now c.tries.source t c.args.target.now v before.went before.met c.tries.target
-    before.target e c.requires stopped
-    (λ is. omega (
-      arith,
-      c.is_answered.ensures.often c.if-is_answered.true is,
-      c.row_with-row.ensures.most,
-      before.row,
-      one_more _ _ e stopped.fault,
-    )))
+pub returns-clause-unpacks : goal.returns-clause-unpacks
+returns-clause-unpacks g c =
+    let f = c.in_ok-flush.ensures.flushed in
+    sent_before g.R.TellRead.remaining c.args.source.now _ c.args.target.now c.flush.new.self _ f.in_order f.ok.met _
+    c.print_next-2.ensures.unpacks
 
-pub tries-preserved : goal.tries-preserved
-tries-preserved g c =
-    let remaining = g.R.TellRead.remaining in
-    let before = c.tries.invariant in
-    let t = c.try_frame.new.source in
-    let v = c.try_frame.new.target in
-    let e = c.in-ReadFailed.e in
-    let stopped : ReadStopped remaining c.tries.source c.tries.target e t v =
-    subst (λ x. UnpacksOnce remaining c.tries.source c.tries.target (Ok x) t v) c.in-ReadFailed.is
-    c.in_ok-try_frame.ensures in
-    let again = c.is_answered.ensures.again c.if-is_answered.false in
-    record {
-      went = FramesWent-joins remaining c.args.source.now c.tries.source t [] [] before.went stopped.went;
-      target = stopped.same ∙ before.target;
-      met = only_more _ _ _ e before.met stopped.fault again.0;
-      row = omega (arith, before.row, c.row_with-row.ensures.most, one_more _ _ e stopped.fault);
-      few = again.1;
-    }
+pub returns-clause-prompt : goal.returns-clause-prompt
+returns-clause-prompt g c =
+    let ok = c.in_ok-flush.ensures.flushed.ok in
+    let u = c.args.target.now in
+    let w = c.flush.new.self in
+    let sent : WasSent (u.log.writes.received ++ u.block.bytes) w.log.writes = record {
+      received = subst (λ l. GoesOn l w.log.writes.received) ok.received (GoesOn-none w.log.writes.received);
+      flushed = subst (λ l. GoesOn l w.log.writes.flushed) (ok.flushed ∙ ok.received)
+          (GoesOn-none w.log.writes.flushed);
+    } in
+    asks_sent c.args.source.now _ u w _ _ c.print_next-2.ensures.asks
+    (WasSent-on _ w.log.writes _ sent c.print_next-2.ensures.writes)
+
+pub returns-clause-writes : goal.returns-clause-writes
+returns-clause-writes g c =
+    WritesOn-joins _ c.flush.new.self.log.writes _ (WritesOn-grows _ _ c.in_ok-flush.ensures.flushed.grows)
+    c.print_next-2.ensures.writes
