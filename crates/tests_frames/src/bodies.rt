@@ -128,8 +128,12 @@ static CUT: [Row<'static>; 8] = [
 
 type Body = ChunkedReader<Source>;
 
-// Neither it nor any call below promises anything.
-fn over<R: Tell, P>(reader: BufReader<R, P>, line: usize, trailers: usize) -> ChunkedReader<R, P> {
+/// A reader of a body under these limits. Neither it nor any call below promises anything.
+pub fn over<R: Tell, P>(
+    reader: BufReader<R, P>,
+    line: usize,
+    trailers: usize,
+) -> ChunkedReader<R, P> {
     ChunkedReader::new(reader, Limits { line, trailers })
 }
 

@@ -61,8 +61,8 @@ Expires: Wed, 21 Oct 2015 07:28:00 GMT\r\n\r\n",
 
 type Body = ChunkedWriter<Target>;
 
-// A writer of a body behind what is buffered. Neither it nor any call below promises anything.
-fn over<W: TellWrite + Drop>(inner: BufWriter<W>) -> io::Result<ChunkedWriter<W>> {
+/// A writer of a body behind what is buffered. Neither it nor any call below promises anything.
+pub fn over<W: TellWrite + Drop>(inner: BufWriter<W>) -> io::Result<ChunkedWriter<W>> {
     if inner.capacity() <= 20 {
         return Err(io::Error::from(ErrorKind::InvalidInput));
     }
@@ -88,15 +88,16 @@ fn finish<W: TellWrite>(
     body.finish()
 }
 
-fn finish_with<W: TellWrite>(
+/// Ends a body with these trailers.
+pub fn finish_with<W: TellWrite>(
     body: ChunkedWriter<W>,
     fields: &[&[u8]],
 ) -> Result<BufWriter<W>, FinishError<ChunkedWriter<W>>> {
     body.finish_with_trailers(fields)
 }
 
-// Ends a body by the call for such trailers. Where the stream fails the body is back.
-fn ends<W: TellWrite + Drop>(
+/// Ends a body by the call for such trailers. Where the stream fails the body is back.
+pub fn ends<W: TellWrite + Drop>(
     body: ChunkedWriter<W>,
     fields: &[&[u8]],
 ) -> Result<BufWriter<W>, Option<ChunkedWriter<W>>> {

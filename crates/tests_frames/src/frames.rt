@@ -38,8 +38,8 @@ static READS: [Reads<'static>; 9] = [
 
 type Frames = FrameReader<Source>;
 
-// A reader over the usual buffer, or one of at least this capacity. Neither it nor any call below promises anything.
-fn reader<R: TellRead + Drop>(
+/// A reader over the usual buffer, or one of at least this capacity. Neither it nor any call below promises anything.
+pub fn reader<R: TellRead + Drop>(
     alloc: Global,
     capacity: Option<usize>,
     max: u16,
@@ -173,7 +173,8 @@ static WRITES: [Writes<'static>; 2] = [
 
 type Sends = FrameWriter<Target>;
 
-fn writer<W: TellWrite + Drop>(
+/// A writer over such a buffer.
+pub fn writer<W: TellWrite + Drop>(
     alloc: Global,
     capacity: Option<usize>,
     max: u16,
@@ -195,8 +196,8 @@ pub fn frames_into(
     Ok(writer(alloc, capacity, max, target(alloc, script)?)?)
 }
 
-// Whether a frame was taken in, or refused as it should be, and nothing where the stream failed.
-fn puts<W: TellWrite>(frames: &mut FrameWriter<W>, payload: &[u8], max: u16) -> Option<bool> {
+/// Whether a frame was taken in, or refused as it should be, and nothing where the stream failed.
+pub fn puts<W: TellWrite>(frames: &mut FrameWriter<W>, payload: &[u8], max: u16) -> Option<bool> {
     match frames.write_frame(payload) {
         Ok(()) => Some(payload.len() <= usize::from(max)),
         Err(WriteFrameError::TooLong(len)) => Some(len == payload.len() && len > usize::from(max)),

@@ -6,6 +6,8 @@ mod bodies;
 #[cfg(test)]
 mod chunks;
 #[cfg(test)]
+mod drops;
+#[cfg(test)]
 mod frames;
 #[cfg(test)]
 mod laws;

@@ -72,8 +72,8 @@ static SKIPPED: [Row<'static>; 3] = [
 /// A reader of lines over a stream that answers as it is told.
 pub type Lines = LineReader<Source>;
 
-// A reader over the usual buffer, or one of at least this capacity. Neither it nor any call below promises anything.
-fn reader<R: TellRead + Drop>(
+/// A reader over the usual buffer, or one of at least this capacity. Neither it nor any call below promises anything.
+pub fn reader<R: TellRead + Drop>(
     alloc: Global,
     capacity: Option<usize>,
     max: usize,
