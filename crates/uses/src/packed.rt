@@ -1,7 +1,7 @@
 //! Packs records through a buffered writer into a vector, which holds just their frames in the end.
-ghost use Rattle.std.specs.Prelude.{◌≡◌, OnOk, IfOk, vec_items};
+ghost use Rattle.std.specs.Prelude.{◌≡◌, true, OnOk, IfOk, IfErr, vec_items};
 ghost use Rattle.buffer_redux.specs.Buffered.{InnerWent};
-ghost use Rattle.buffer_redux.specs.BufWriter.{WritesInOrder};
+ghost use Rattle.buffer_redux.specs.BufWriter.{WritesInOrder, WriterStopped};
 ghost use Rattle.uses.specs.Records.{frame, frames, IsShort, AreShort};
 
 use buffer_redux::BufWriter;
@@ -30,6 +30,8 @@ pub fn pack_record<W: TellWrite, P: WriterPolicy>(
 ) -> io::Result<()>
     requires short { IsShort bytes.now }
     ensures packed { OnOk result (WritesInOrder writer.old (frame bytes.now) writer.new) }
+    ensures caused { (P.rules.claims writer.old.policy).steady ≡ true
+        → IfErr result (WriterStopped writer.old.log.writes writer.new.log.writes) }
     ensures went { InnerWent W.log W.stretch writer.old writer.new }
 {
     writer.write_all(&(bytes.len() as u16).to_be_bytes())?;

@@ -1,7 +1,10 @@
-use Rattle.std.proofs.Common.{List, ℕ, ◌++◌, Result, Ok, Err, OnOk}
+use Rattle.std.proofs.Common.{List, ℕ, ◌++◌, ◌∙◌, ap, Result, Ok, Err, IfErr, OnOk}
 use Rattle.std.specs.declared.io.Error.{Error}
 use Rattle.buffer_redux.specs.Buffered.{Buffered}
-use Rattle.buffer_redux.specs.BufWriter.{WritesInOrder}
+use Rattle.buffer_redux.specs.BufWriter.{WritesInOrder, WriterStopped}
+use Rattle.buffer_redux.specs.LogGrows.{WriteLogGrows}
+use Rattle.buffer_redux.specs.StreamLog.{WriteLog}
+use Rattle.buffer_redux.specs.WritesAlongLaws.{WriterStopped-after}
 use Rattle.buffer_redux.specs.WriterLaws.{WritesInOrder-joins, InnerWent-joins}
 use Rattle.uses.proofs.packed.pack_record.Goals as goal
 
@@ -18,3 +21,14 @@ returns-clause-packed g c =
 pub returns-clause-went : goal.returns-clause-went
 returns-clause-went g c =
     InnerWent-joins _ _ g.met.W.TellWrite.stretch_joins _ _ _ c.in_ok-write_all.ensures.stretch c.write_all-2.ensures.stretch
+
+later : (a b c : WriteLog) (answer : Result (Unit {0}) Error) → WriteLogGrows a b → IfErr answer (WriterStopped b c)
+    → IfErr answer (WriterStopped a c)
+later a b c (Ok _) grows stopped = tt
+later a b c (Err e) grows stopped = WriterStopped-after a b c e grows stopped
+
+pub returns-clause-caused : goal.returns-clause-caused
+returns-clause-caused g c steady =
+    let first = c.in_ok-write_all.ensures.steps.front.keeps in
+    later _ _ _ c.write_all-2.result first.grows
+    (c.write_all-2.ensures.steadily (ap (λ x. x.steady) first.claims ∙ steady))
