@@ -2,6 +2,7 @@ pub mod Going
 pub mod Having
 pub mod Heads
 pub mod Loading
+pub mod Playing
 pub mod Reading
 pub mod Recording
 pub mod Searching

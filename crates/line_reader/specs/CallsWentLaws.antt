@@ -195,7 +195,14 @@ module _ {S : Type 0} (remaining : S → Option (List ℕ)) where
   call_whole s (NextsTrimmed answer) t n = goes_whole s t n.whole n.next
   call_whole s (Skips answer) t k = k.drops.whole
 
-  -- and any
+  -- calls go on by one
+  pub CallsGo-more : (s : Lining S) (calls : List Call) (m : Lining S) (call : Call) (t : Lining S)
+      → CallsGo remaining s calls m → CallGoes remaining m call t → CallsGo remaining s (calls ++ call ∷ []) t
+  CallsGo-more s [] m call t same goes = (t, subst (λ x. CallGoes remaining x call t) (sym same) goes, refl)
+  CallsGo-more s (first ∷ calls) m call t (between, went, run) goes =
+      (between, went, CallsGo-more between calls m call t run goes)
+
+  -- what any come to
   pub CallsGo-went : (s : Lining S) (calls : List Call) (t : Lining S) → CallsGo remaining s calls t → (before : List ℕ)
       → IsLine before → (s.skipping ≡ false → before ≡ []) → IsLining s
       → CallsWent remaining before s (lines_of_calls calls) (skip_calls calls) t

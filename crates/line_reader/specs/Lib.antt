@@ -13,6 +13,7 @@ pub mod LinesWentLaws
 pub mod Lining
 pub mod NextLine
 pub mod NextLineLaws
+pub mod Played
 pub mod Runs
 pub mod RunsLaws
 pub mod SkipLine

@@ -12,11 +12,13 @@ ghost use Rattle.line_reader.specs.NextLine.{LinesWent, NextAnswer};
 ghost use Rattle.line_reader.specs.SkipLine.{NextGoes, NextTrimmed, SkipsLine};
 ghost use Rattle.line_reader.specs.Runs.{Cuts, NoneTold, all_handed};
 
+mod calls;
 mod lists;
 mod runs;
 
 use crate::reader::LineReader;
 use buffer_redux::tell::TellRead;
+pub use calls::{Ask, Played, play_calls};
 pub use lists::{read_each, round_trip, write_each};
 pub use runs::{next_copied, play_next};
 

@@ -262,22 +262,17 @@ impl<R: TellRead> LineReader<R> {
         dropped
     }
 
-    // Has the next line stand whole at the front of the buffer, hands it out, and returns its length. A line that is being
-    // skipped is skipped first.
+    // Has the next line stand whole at the front of the buffer, hands it out, and returns its length.
     #[inline(never)]
     fn load(&mut self) -> Result<Option<usize>, LineError>
         requires searched { self.old.seen ≡ min (length (rest self.old)) (1 + self.old.max) }
         ensures next { NextGoes R.remaining self.old (load_answer result self.new) self.new }
         ensures within { IfOk result (λ found. IfSome found (λ len. len ≤ length self.new.reader.block.bytes)) }
     {
-        if !self.skipping {
-            return self.load_line();
-        }
-        self.skip_line()?;
-        self.drop_handed();
-        match self.take_buffered() {
-            Some(len) => Ok(Some(len)),
-            None => self.load_line(),
+        if self.skipping {
+            self.load_aside()
+        } else {
+            self.load_line()
         }
     }
 }

@@ -1,0 +1,13 @@
+use Rattle.std.proofs.Common.{◌≡◌, List, ◌++◌, map, take}
+use Rattle.line_reader.specs.Calls.{Call, CallsGo}
+use Rattle.line_reader.specs.Played.{asked, kept_call}
+use Rattle.line_reader.proofs.laws.calls.play_calls.Given as goal
+
+-- the first of the calls were made, and were recorded
+abbrev pub invariant-loop-ask : goal.invariant-loop-ask
+invariant-loop-ask g l = record {
+  calls : List Call;
+  gained : map kept_call l.played.items ≡ map kept_call l.fn.played.items ++ calls;
+  asked : map asked calls ≡ take l.ask-index l.fn.asks;
+  run : CallsGo g.R.TellRead.remaining l.fn.reader calls l.reader;
+}

@@ -1,0 +1,17 @@
+use Rattle.std.proofs.Common.{Ok, Some, sym}
+use Rattle.line_reader.specs.Calls.{Nexts, NextsTrimmed}
+use Rattle.line_reader.proofs.Recording.{on_err}
+use Rattle.line_reader.proofs.laws.calls.play_one.Goals as goal
+
+pub returns-in_err-next_copied-in-Next-clause-lost : goal.returns-in_err-next_copied-in-Next-clause-lost
+returns-in_err-next_copied-in-Next-clause-lost g c =
+    let lost = c.in_err-next_copied-in-Next.ensures.lost in
+    on_err c.from_residual.result
+    (Nexts (Ok (Some lost.line)), record { asked = sym c.in-Next.is; goes = lost.next })
+
+pub returns-in_err-trimmed_copied-in-NextTrimmed-clause-lost :
+    goal.returns-in_err-trimmed_copied-in-NextTrimmed-clause-lost
+returns-in_err-trimmed_copied-in-NextTrimmed-clause-lost g c =
+    let lost = c.in_err-trimmed_copied-in-NextTrimmed.ensures.lost in
+    on_err c.from_residual-in_err-trimmed_copied-in-NextTrimmed.result
+    (NextsTrimmed (Ok (Some lost.0)), record { asked = sym c.in-NextTrimmed.is; goes = lost.1 })

@@ -1,0 +1,45 @@
+-- Calls of a reader of lines as they were asked for, and what was recorded of them.
+use Rattle.std.specs.Prelude.{◌≡◌, ℕ, List, [], ◌∷◌, ◌++◌, map, Option}
+use Rattle.line_reader.specs.Calls.{Call, CallGoes, CallsGo, Nexts, NextsTrimmed, Skips}
+use Rattle.line_reader.specs.Lining.{Lining}
+use Rattle.line_reader.specs.Runs.{kept_answer}
+use Rattle.line_reader.specs.declared.laws.calls.Ask.{Ask}
+use Rattle.line_reader.specs.declared.laws.calls.Ask.TheVariants as ask
+use Rattle.line_reader.specs.declared.laws.calls.Played.{Played}
+use Rattle.line_reader.specs.declared.laws.calls.Played.TheVariants as played
+
+-- a call that was recorded, by the bytes of its line
+abbrev pub kept_call : Played → Call
+kept_call (played.Next answer) = Nexts (kept_answer answer)
+kept_call (played.NextTrimmed answer) = NextsTrimmed (kept_answer answer)
+kept_call (played.SkipLine answer) = Skips answer
+
+-- what was asked for
+abbrev pub asked : Call → Ask
+asked (Nexts answer) = ask.Next
+asked (NextsTrimmed answer) = ask.NextTrimmed
+asked (Skips answer) = ask.SkipLine
+
+-- this call was made as it was asked for
+pub record CallMade {S : Type 0} (remaining : S → Option (List ℕ)) (s : Lining S) (wanted : Ask) (call : Call)
+    (t : Lining S) : Type 0 where
+  pub asked : asked call ≡ wanted
+  pub goes : CallGoes remaining s call t
+
+-- just these calls were made, and the record gained them
+pub record CallsPlayed {S : Type 0} (remaining : S → Option (List ℕ)) (s : Lining S) (asks : List Ask)
+    (old new : List Call) (t : Lining S) : Type 0 where
+  pub calls : List Call
+  pub gained : new ≡ old ++ calls
+  pub all : map asked calls ≡ asks
+  pub run : CallsGo remaining s calls t
+
+-- the first of these calls were made, and the record gained all but the last, of which the answer is lost
+pub record CallsStopped {S : Type 0} (remaining : S → Option (List ℕ)) (s : Lining S) (asks : List Ask)
+    (old new : List Call) (t : Lining S) : Type 0 where
+  pub calls : List Call
+  pub gained : new ≡ old ++ calls
+  pub lost : Call
+  pub more : List Ask
+  pub front : asks ≡ map asked (calls ++ lost ∷ []) ++ more
+  pub run : CallsGo remaining s (calls ++ lost ∷ []) t
