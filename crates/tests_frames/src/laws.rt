@@ -11,6 +11,7 @@ use buffer_redux::script::Answer;
 use buffer_redux::tell::{TellRead, TellWrite};
 use chunked::{ChunkedReader, ChunkedWriter};
 use frame_reader::{FrameError, FrameReader, FrameWriter, WriteFrameError};
+use line_reader::laws::Ask;
 use line_reader::{LineError, LineReader};
 use std::alloc::{AllocError, Global};
 use std::io;
@@ -41,7 +42,10 @@ fn of_lines<R: TellRead>(reader: &LineReader<R>) {
     line_reader::laws::one_reading();
     line_reader::laws::lines_of_text();
     line_reader::laws::since_new(reader);
+    line_reader::laws::whole_lines(reader);
+    line_reader::laws::asks_nobody(reader);
     line_reader::laws::next_known(reader);
+    line_reader::laws::known_lines(reader);
 }
 
 fn of_bodies<R: TellRead, P: ReaderPolicy, W: TellWrite>(
@@ -162,6 +166,13 @@ fn play_lines<R: TellRead>(alloc: Global, reader: &mut LineReader<R>) -> io::Res
     Ok(debug(alloc, &answers)?)
 }
 
+fn play_others<R: TellRead>(alloc: Global, reader: &mut LineReader<R>) -> io::Result<String> {
+    let mut played = Vec::new(alloc);
+    let asks = [Ask::SkipLine, Ask::NextTrimmed, Ask::Next];
+    line_reader::laws::play_calls(alloc, reader, &asks, &mut played)?;
+    Ok(debug(alloc, &played)?)
+}
+
 // Whether the lines come back.
 fn lines_come_back(alloc: Global, lines: &[Vec<u8>]) -> io::Result<bool> {
     Ok(match lines_back(alloc, lines)? {
@@ -176,15 +187,19 @@ fn lines_go_there_and_back(rt: HostRuntime) -> Result<(), Fail> {
     Ok(())
 }
 
-fn lines_read(alloc: Global) -> io::Result<String> {
-    play_lines(alloc, &mut lines_over(alloc, None, 3, b"a\nabcd", &FAULT)?)
+fn lines_read(alloc: Global) -> io::Result<(String, String)> {
+    let mut lines = lines_over(alloc, None, 3, b"a\nabcd\nb\r\n", &FAULT)?;
+    let first = play_lines(alloc, &mut lines)?;
+    Ok((first, play_others(alloc, &mut lines)?))
 }
 
 #[test]
 fn lines_are_played(rt: HostRuntime) -> Result<(), Fail> {
-    let came = lines_read(rt.alloc())?;
+    let (first, others) = lines_read(rt.alloc())?;
     let text = "[Err(Io(Kind(Other))), Ok(Some([97])), Err(TooLong(3))]";
-    assert!(rt; came.as_str() == text, "{came}");
+    assert!(rt; first.as_str() == text, "{first}");
+    let text = "[SkipLine(Ok(5)), NextTrimmed(Ok(Some([98]))), Next(Ok(None))]";
+    assert!(rt; others.as_str() == text, "{others}");
     Ok(())
 }
 
