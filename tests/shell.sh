@@ -80,16 +80,16 @@ refuses() { # its usage, words each
 }
 
 # What it says of a stream that failed.
-said_of() { # `read` or `write`
-    case $name in
-        frames) echo "$1 failed" ;;
+said_of() { # `read` or `write`, the words
+    case "$name $2" in
+        frames* | 'bodies decode') echo "$1 failed" ;;
         *) echo 'read or write failed' ;;
     esac
 }
 
 # Streams that fail at once, or once more than a pipe holds was written.
 faults() { # words, an input of which it writes more than a pipe holds
-    fault="$name: $(said_of write)"
+    fault="$name: $(said_of write "$1")"
     # A device that is always full isn't everywhere.
     if [ -c /dev/full ] && (: > /dev/full) 2> "$scratch/none"; then
         "$program" $1 < "$2" > /dev/full 2> "$scratch/err"
@@ -99,7 +99,7 @@ faults() { # words, an input of which it writes more than a pipe holds
     ended "$name $1 into a closed pipe" "$(cat "$scratch/status")" 1 "$fault"
     "$program" $1 < "$2" >&- 2> "$scratch/err"
     ended "$name $1 into a closed output" $? 1 "$fault"
-    fault="$name: $(said_of read)"
+    fault="$name: $(said_of read "$1")"
     turns "$1" "$scratch" "$nothing" 1 "$fault"
     "$program" $1 > "$scratch/out" 2> "$scratch/err" <&-
     ended "$name $1 from a closed input" $? 1 "$fault"
@@ -123,7 +123,7 @@ answers() { # words, the input, how reads answer, how writes, the output wanted,
 answer() {
     while IFS='|' read -r words input reads writes output status calls line; do
         if [ "$status" -eq 1 ]; then
-            if [ -n "$writes" ]; then line=$(said_of write); else line=$(said_of read); fi
+            if [ -n "$writes" ]; then line=$(said_of write "$words"); else line=$(said_of read "$words"); fi
         fi
         answers "$words" "$input" "$reads" "$writes" "$output" "$status" "$calls" "$line"
     done

@@ -1,5 +1,5 @@
 -- What a whole run of `decode` comes to.
-use Rattle.std.proofs.Common.{◌≡◌, ℕ, inl, inr, List, [], ◌∷◌, ◌++◌, length, length-append, Option, Result, Ok, Err, sym, ap, subst, ◌∙◌, arith, append_assoc, append-nil}
+use Rattle.std.proofs.Common.{◌≡◌, ℕ, ◌≤◌, ◌⊎◌, inl, inr, List, [], ◌∷◌, ◌++◌, length, length-append, Option, Result, Ok, Err, sym, ap, subst, ◌∙◌, arith, append_assoc, append-nil}
 use Rattle.std.specs.declared.io.Error.{Error}
 use Rattle.buffer_redux.specs.BufReader.{ReadsAlong}
 use Rattle.buffer_redux.specs.Buffered.{Buffered}
@@ -15,10 +15,10 @@ use Rattle.chunked.specs.PlaceLaws.{Leads-none}
 use Rattle.chunked.specs.declared.limits.Limits.{Limits}
 use Rattle.chunked.specs.declared.place.Place.TheVariants.{Line}
 use Rattle.bodies.specs.declared.error.RunError.{RunError}
-use Rattle.bodies.specs.declared.error.RunError.TheVariants.{NotChunked, Truncated, Behind, Io}
-use Rattle.bodies.specs.Decode.{AllSent, DecodeRan, Decoded, ExpectsEnd, IsPart, MovesAndFlushes, MovesEach, Sent}
-use Rattle.programs.specs.Streams.{BufferRefused, MetNoFault, Stopped}
-use Rattle.programs.specs.StreamsLaws.{EitherFailed-after, MetInterrupts-none, MetNoFault-joins}
+use Rattle.bodies.specs.declared.error.RunError.TheVariants.{NotChunked, Truncated, Behind, Read, Write, Io}
+use Rattle.bodies.specs.Decode.{AllSent, DecodeFailed, DecodeRan, Decoded, ExpectsEnd, IsPart, MovesAndFlushes, MovesEach, MovesFirst, Sent}
+use Rattle.programs.specs.Streams.{BufferRefused, MetNoFault, OverCount, ReadFailed, SendFailed}
+use Rattle.programs.specs.StreamsLaws.{ReadGaveUp-after, MetInterrupts-none, MetNoFault-joins}
 
 -- from empty buffers on
 module _ {R W : Type 0} (remaining : R → Option (List ℕ)) (limits : Limits) (first : Buffered R StdPolicy)
@@ -86,7 +86,9 @@ module _ {R W : Type 0} (remaining : R → Option (List ℕ)) (limits : Limits) 
           let met = MetNoFault-joins first.log t.reader.log r.log u.log v.log v.log p.met
           (record { reader = end.answers.0; writer = MetInterrupts-none v.log.writes }) in
           (r.block.bytes, end.answers.1, (decoded end.along met, end.answers.2))
-      asked (Err (Io e)) end = record {
+      asked (Err (Write e)) end = absurd end.answers
+      asked (Err (Io e)) end = absurd end.answers
+      asked (Err (Read e)) end = record {
         wire = t.taken;
         payload = p.payload;
         place = t.place;
@@ -95,8 +97,11 @@ module _ {R W : Type 0} (remaining : R → Option (List ℕ)) (limits : Limits) 
         given = given p.payload p.went.went r end.along;
         unsent = [];
         received = append-nil v.log.writes.received ∙ received;
-        caused = inl (inl (EitherFailed-after e first.log t.reader.log r.log u.log v.log v.log p.met
-            (inl (record { reader = end.answers; writer = MetInterrupts-none v.log.writes }))));
+        caused = record {
+          reader = ReadGaveUp-after first.log.reads.faults t.reader.log.reads.faults r.log.reads.faults e p.met.reader
+              end.answers;
+          writer = p.met.writer;
+        };
       }
 
   pub ended : MovesAndFlushes remaining (begun first limits) u (Ok tt) t v → (answer : Result (Unit {0}) RunError)
@@ -104,16 +109,33 @@ module _ {R W : Type 0} (remaining : R → Option (List ℕ)) (limits : Limits) 
       → DecodeRan limits first.log r.log u.log v.log answer
   ended p answer r end = asked p.0.0 p.1 p.0.1 r answer end
 
-  -- the more bytes, the more
-  stopped_longer : (e : Error) (payload lost : List ℕ)
-      → Stopped e (length payload) first.log t.reader.log u.log v.log
-      → Stopped e (length (payload ++ lost)) first.log t.reader.log u.log v.log
-  stopped_longer e payload lost (inl failed) = inl failed
-  stopped_longer e payload lost (inr over) = inr (record {
-    other = over.other;
-    large = omega (arith, over.large, length-append payload lost);
-    met = over.met;
-  })
+  -- the run failed of a cause that doesn't end where there is more payload
+  failed : (Caused : ℕ → Type 0) → ((n k : ℕ) → n ≤ k → Caused n → Caused k)
+      → (some : MovesFirst remaining (begun first limits) u t v) → Caused (length some.payload)
+      → DecodeFailed limits Caused first.log t.reader.log u.log v.log
+  failed Caused more some cause = record {
+    wire = t.taken;
+    payload = some.payload ++ some.lost;
+    place = t.place;
+    part = part (some.payload ++ some.lost) some.went.went some.went.source.whole;
+    rest = t.reader.block.bytes;
+    given = given (some.payload ++ some.lost) some.went.went t.reader
+        (ReadsAlong-none remaining std_read_rules t.reader);
+    unsent = v.block.bytes ++ some.lost;
+    received =
+        sym (append_assoc v.log.writes.received v.block.bytes some.lost)
+        ∙ ap (λ l. l ++ some.lost) (WritesInOrder-fresh u v some.payload none' some.went.taken)
+        ∙ append_assoc u.log.writes.received some.payload some.lost;
+    caused = more (length some.payload) (length (some.payload ++ some.lost))
+        (omega (arith, length-append some.payload some.lost)) cause;
+  }
+
+  over_more : (e : Error) (n k : ℕ) → n ≤ k
+      → OverCount e n first.log t.reader.log u.log v.log ⊎ BufferRefused e first.log t.reader.log u.log v.log
+      → OverCount e k first.log t.reader.log u.log v.log ⊎ BufferRefused e first.log t.reader.log u.log v.log
+  over_more e n k less (inl over) =
+      inl (record { other = over.other; large = omega (arith, over.large, less); met = over.met })
+  over_more e n k less (inr refused) = inr refused
 
   -- the body has no end
   pub stopped : (why : RunError) → MovesAndFlushes remaining (begun first limits) u (Err why) t v
@@ -147,24 +169,14 @@ module _ {R W : Type 0} (remaining : R → Option (List ℕ)) (limits : Limits) 
         ended = cut.dry;
         count = p.0.2;
       }
-  stopped (Behind right) p = absurd p.0
+  stopped (Behind right) p = absurd p
+  stopped (Read e) p =
+      failed (λ _. ReadFailed e first.log t.reader.log u.log v.log) (λ n k less cause. cause) p.0 p.1
+  stopped (Write e) p =
+      failed (λ _. SendFailed e first.log t.reader.log u.log v.log) (λ n k less cause. cause) p.0 p.1
   stopped (Io e) p =
-      let first' = p.0 in
-      record {
-        wire = t.taken;
-        payload = first'.payload ++ first'.lost;
-        place = t.place;
-        part = part (first'.payload ++ first'.lost) first'.went.went first'.went.source.whole;
-        rest = t.reader.block.bytes;
-        given = given (first'.payload ++ first'.lost) first'.went.went t.reader
-            (ReadsAlong-none remaining std_read_rules t.reader);
-        unsent = v.block.bytes ++ first'.lost;
-        received =
-            sym (append_assoc v.log.writes.received v.block.bytes first'.lost)
-            ∙ ap (λ l. l ++ first'.lost) (WritesInOrder-fresh u v first'.payload none' first'.went.taken)
-            ∙ append_assoc u.log.writes.received first'.payload first'.lost;
-        caused = inl (stopped_longer e first'.payload first'.lost p.1);
-      }
+      failed (λ count. OverCount e count first.log t.reader.log u.log v.log
+      ⊎ BufferRefused e first.log t.reader.log u.log v.log) (over_more e) p.0 (inl p.1)
 
 -- a buffer was refused
 pub refused : (limits : Limits) (read read' written written' : StreamLog) (e : Error)

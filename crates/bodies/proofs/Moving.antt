@@ -7,7 +7,7 @@ use Rattle.std.specs.declared.io.ErrorKind.TheVariants.{Other}
 use Rattle.buffer_redux.specs.BufReader.{RanDry}
 use Rattle.buffer_redux.specs.BufWriter.{WritesInOrder}
 use Rattle.buffer_redux.specs.Buffered.{Buffered}
-use Rattle.buffer_redux.specs.Faults.{MetInterrupts, OnlyInterrupts-none, SendErrorCaused}
+use Rattle.buffer_redux.specs.Faults.{MetInterrupts, OnlyInterrupts-none, OnlyInterrupts-joins, SendErrorCaused, SendErrorCaused-after}
 use Rattle.buffer_redux.specs.Policy.{std_read_rules}
 use Rattle.buffer_redux.specs.WriterLaws.{WritesInOrder-joins, WritesInOrder-none, WritesInOrder-then}
 use Rattle.buffer_redux.specs.declared.policy.StdPolicy.{StdPolicy}
@@ -16,10 +16,10 @@ use Rattle.chunked.specs.DechunkingLaws.{BodyWent-joins, BodyWent-none}
 use Rattle.chunked.specs.declared.error.ChunkedError.{ChunkedError}
 use Rattle.chunked.specs.declared.error.ChunkedError.TheVariants as NoPayload
 use Rattle.bodies.specs.declared.error.RunError.{RunError}
-use Rattle.bodies.specs.declared.error.RunError.TheVariants.{NotChunked, Truncated, Behind, Io}
+use Rattle.bodies.specs.declared.error.RunError.TheVariants.{NotChunked, Truncated, Behind, Read, Write, Io}
 use Rattle.bodies.specs.Decode.{AllSent, IsBodySource, IsPieceTarget, Moves, MovesAll, MovesAndFlushes, MovesEach, ReadsMet, ReadsPiece, of_chunked}
 use Rattle.bodies.specs.Ending.{faulted}
-use Rattle.programs.specs.StreamsLaws.{EitherFailed-after, MetInterrupts-none, MetNoFault-joins, MetNoFault-none}
+use Rattle.programs.specs.StreamsLaws.{ReadGaveUp-after, MetInterrupts-none, MetNoFault-joins, MetNoFault-none}
 
 -- so many bytes went over
 pub record MovesSoFar {R W : Type 0} (remaining : R → Option (List ℕ)) (s : Dechunking R StdPolicy)
@@ -56,7 +56,7 @@ module _ {R W : Type 0} (remaining : R → Option (List ℕ)) (s : Dechunking R 
 
     -- a piece was read, and could not be written
     pub not_written : (out : List ℕ) (n : ℕ) → ReadsPiece remaining m out (Ok n) t → (e : Error) → WritesInOrder w [] v
-        → IsPieceTarget v → SendErrorCaused w.log.writes v.log.writes e → MovesAll remaining s u (Err (Io e)) t v
+        → IsPieceTarget v → SendErrorCaused w.log.writes v.log.writes e → MovesAll remaining s u (Err (Write e)) t v
     not_written out n piece e none target caused = (
       record {
         payload = before.payload;
@@ -64,8 +64,11 @@ module _ {R W : Type 0} (remaining : R → Option (List ℕ)) (s : Dechunking R 
         went = subst (λ l. Moves remaining s u (before.payload ++ take n out) l t v) (append-nil before.payload)
             (then_moves (take n out) [] piece.went piece.source none target);
       },
-      inl (EitherFailed-after e s.reader.log m.reader.log t.reader.log u.log w.log v.log before.met
-          (inr (record { reader = piece.answers.0; writer = caused }))),
+      record {
+        reader = OnlyInterrupts-joins s.reader.log.reads.faults m.reader.log.reads.faults t.reader.log.reads.faults
+            before.met.reader piece.answers.0;
+        writer = SendErrorCaused-after u.log.writes w.log.writes v.log.writes e before.met.writer caused;
+      },
     )
 
     -- or was written
@@ -118,8 +121,11 @@ module _ {R W : Type 0} (remaining : R → Option (List ℕ)) (s : Dechunking R 
         went = subst (λ l. Moves remaining s u l (before.payload ++ []) t w) (sym (append-nil (before.payload ++ [])))
             (then_moves m t w w before [] [] piece.went piece.source (WritesInOrder-none w) before.went.target);
       },
-      inl (EitherFailed-after e s.reader.log m.reader.log t.reader.log u.log w.log w.log before.met
-          (inl (record { reader = piece.answers; writer = MetInterrupts-none w.log.writes }))),
+      record {
+        reader = ReadGaveUp-after s.reader.log.reads.faults m.reader.log.reads.faults t.reader.log.reads.faults e
+            before.met.reader piece.answers;
+        writer = before.met.writer;
+      },
     )
 
   pub over : (m : Dechunking R StdPolicy) (w : Buffered W StdPolicy) (before : MovesEach remaining s u m w) (e : Error)
@@ -130,7 +136,7 @@ module _ {R W : Type 0} (remaining : R → Option (List ℕ)) (s : Dechunking R 
       lost = [];
       went = subst (λ l. Moves remaining s u l before.payload m w) (sym (append-nil before.payload)) before.went;
     },
-    inr (record { other = other; large = large; met = before.met }),
+    record { other = other; large = large; met = before.met },
   )
 
 -- and then the flush
@@ -164,10 +170,12 @@ module _ {R W : Type 0} (remaining : R → Option (List ℕ)) (s t : Dechunking 
   flushed_after (Err (NotChunked why right)) other p all more = ((each_sent p.0 more, p.1, p.2), all)
   flushed_after (Err (Truncated right)) other p all more = ((each_sent p.0 more, p.1, p.2), all)
   flushed_after (Err (Behind right)) other p all more = absurd p
+  flushed_after (Err (Read e)) other p all more = absurd (true≢false other)
+  flushed_after (Err (Write e)) other p all more = absurd (true≢false other)
   flushed_after (Err (Io e)) other p all more = absurd (true≢false other)
 
   fails_after : MovesEach remaining s u t w → (e : Error) → SendErrorCaused w.log.writes v.log.writes e
-      → MovesAndFlushes remaining s u (Err (Io e)) t v
+      → MovesAndFlushes remaining s u (Err (Write e)) t v
   fails_after p e caused = (
     record {
       payload = p.payload;
@@ -175,18 +183,22 @@ module _ {R W : Type 0} (remaining : R → Option (List ℕ)) (s t : Dechunking 
       went = subst (λ l. Moves remaining s u l p.payload t v) (sym (append-nil p.payload))
           (then_sent p.payload p.payload p.went);
     },
-    inl (EitherFailed-after e s.reader.log t.reader.log t.reader.log u.log w.log v.log p.met
-        (inr (record { reader = OnlyInterrupts-none t.reader.log.reads.faults; writer = caused }))),
+    record {
+      reader = p.met.reader;
+      writer = SendErrorCaused-after u.log.writes w.log.writes v.log.writes e p.met.writer caused;
+    },
   )
 
   -- or fails
   pub flush_failed_after : (answer : Result (Unit {0}) RunError) → faulted answer ≡ false
       → MovesAll remaining s u answer t w → (e : Error) → SendErrorCaused w.log.writes v.log.writes e
-      → MovesAndFlushes remaining s u (Err (Io e)) t v
+      → MovesAndFlushes remaining s u (Err (Write e)) t v
   flush_failed_after (Ok _) other p e caused = fails_after p.0 e caused
   flush_failed_after (Err (NotChunked why right)) other p e caused = fails_after p.0 e caused
   flush_failed_after (Err (Truncated right)) other p e caused = fails_after p.0 e caused
   flush_failed_after (Err (Behind right)) other p e caused = absurd p
+  flush_failed_after (Err (Read e')) other p e caused = absurd (true≢false other)
+  flush_failed_after (Err (Write e')) other p e caused = absurd (true≢false other)
   flush_failed_after (Err (Io e')) other p e caused = absurd (true≢false other)
 
 -- after a fault no flush is made
@@ -197,4 +209,6 @@ kept remaining s t u v (Ok _) other p = absurd (false≢true other)
 kept remaining s t u v (Err (NotChunked why right)) other p = absurd (false≢true other)
 kept remaining s t u v (Err (Truncated right)) other p = absurd (false≢true other)
 kept remaining s t u v (Err (Behind right)) other p = absurd (false≢true other)
+kept remaining s t u v (Err (Read e)) other p = p
+kept remaining s t u v (Err (Write e)) other p = p
 kept remaining s t u v (Err (Io e)) other p = p

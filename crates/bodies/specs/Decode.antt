@@ -20,14 +20,14 @@ use Rattle.chunked.specs.declared.limits.Limits.{Limits}
 use Rattle.chunked.specs.declared.place.Place.{Place}
 use Rattle.chunked.specs.declared.place.Place.TheVariants.{Line}
 use Rattle.bodies.specs.declared.error.RunError.{RunError}
-use Rattle.bodies.specs.declared.error.RunError.TheVariants.{NotChunked, Truncated, Behind, Io}
-use Rattle.programs.specs.Streams.{MetNoFault, ReadGaveUp, Stopped, BufferRefused, GaveNothing, AllFlushed}
+use Rattle.bodies.specs.declared.error.RunError.TheVariants.{NotChunked, Truncated, Behind, Read, Write, Io}
+use Rattle.programs.specs.Streams.{MetNoFault, ReadGaveUp, ReadFailed, SendFailed, OverCount, BufferRefused, GaveNothing, AllFlushed}
 
 -- why a run failed in which there was no further payload
 abbrev pub of_chunked : ChunkedError → RunError
 of_chunked (NoPayload.NotChunked why right) = NotChunked why right
 of_chunked (NoPayload.Truncated right) = Truncated right
-of_chunked (NoPayload.Io e) = Io e
+of_chunked (NoPayload.Io e) = Read e
 
 -- a reader of a body whose buffered reader has some capacity
 pub record IsBodySource {R : Type 0} (s : Dechunking R StdPolicy) : Type 0 where
@@ -106,8 +106,12 @@ MovesAll remaining s u (Err (NotChunked why right)) t v =
 MovesAll remaining s u (Err (Truncated right)) t v =
     MovesEach remaining s u t v × CutShort s t × (right ≡ taken_count t)
 MovesAll remaining s u (Err (Behind right)) t v = ⊥
+MovesAll remaining s u (Err (Read e)) t v =
+    MovesFirst remaining s u t v × ReadFailed e s.reader.log t.reader.log u.log v.log
+MovesAll remaining s u (Err (Write e)) t v =
+    MovesFirst remaining s u t v × SendFailed e s.reader.log t.reader.log u.log v.log
 MovesAll remaining s u (Err (Io e)) t v =
-    (first : MovesFirst remaining s u t v) × Stopped e (length first.payload) s.reader.log t.reader.log u.log v.log
+    (first : MovesFirst remaining s u t v) × OverCount e (length first.payload) s.reader.log t.reader.log u.log v.log
 
 -- all that was taken in was received and flushed
 pub record AllSent {W : Type 0} (v : Buffered W StdPolicy) : Type 0 where
@@ -117,8 +121,14 @@ pub record AllSent {W : Type 0} (v : Buffered W StdPolicy) : Type 0 where
 -- what they did, and then a flush where no stream failed
 abbrev pub MovesAndFlushes : {R W : Type 0} → (R → Option (List ℕ)) → Dechunking R StdPolicy → Buffered W StdPolicy
     → Result (Unit {0}) RunError → Dechunking R StdPolicy → Buffered W StdPolicy → Type 0
+MovesAndFlushes remaining s u (Ok _) t v = MovesAll remaining s u (Ok tt) t v × AllSent v
+MovesAndFlushes remaining s u (Err (NotChunked why right)) t v =
+    MovesAll remaining s u (Err (NotChunked why right)) t v × AllSent v
+MovesAndFlushes remaining s u (Err (Truncated right)) t v = MovesAll remaining s u (Err (Truncated right)) t v × AllSent v
+MovesAndFlushes remaining s u (Err (Behind right)) t v = ⊥
+MovesAndFlushes remaining s u (Err (Read e)) t v = MovesAll remaining s u (Err (Read e)) t v
+MovesAndFlushes remaining s u (Err (Write e)) t v = MovesAll remaining s u (Err (Write e)) t v
 MovesAndFlushes remaining s u (Err (Io e)) t v = MovesAll remaining s u (Err (Io e)) t v
-MovesAndFlushes remaining s u answer t v = MovesAll remaining s u answer t v × AllSent v
 
 -- what an answer says to the question whether nothing follows a body of so many bytes
 abbrev pub EndAnswers : {R : Type 0} → Buffered R StdPolicy → ℕ → Result (Unit {0}) RunError → Buffered R StdPolicy → Type 0
@@ -128,7 +138,9 @@ EndAnswers s right (Err (NotChunked why count)) t = ⊥
 EndAnswers s right (Err (Truncated count)) t = ⊥
 EndAnswers s right (Err (Behind count)) t =
     OnlyInterrupts s.log.reads.faults t.log.reads.faults × (0 < length t.block.bytes) × (count ≡ right)
-EndAnswers s right (Err (Io e)) t = ReadGaveUp e s.log.reads.faults t.log.reads.faults
+EndAnswers s right (Err (Read e)) t = ReadGaveUp e s.log.reads.faults t.log.reads.faults
+EndAnswers s right (Err (Write e)) t = ⊥
+EndAnswers s right (Err (Io e)) t = ⊥
 
 -- what asking that does: nothing is handed out
 pub record ExpectsEnd {R : Type 0} (remaining : R → Option (List ℕ)) (s : Buffered R StdPolicy) (right : ℕ)
@@ -185,9 +197,8 @@ pub record DecodedToEnd (limits : Limits) (read read' written written' : StreamL
   pub ended : GaveNothing read read'
   pub count : right ≡ counted wire
 
--- a fault ended the run, or a buffer was refused before it began; what was received is a beginning of the payload in such
--- bytes
-pub record DecodeFailed (limits : Limits) (e : Error) (read read' written written' : StreamLog) : Type 0 where
+-- the run failed of such a cause, by how much payload there was; what was received is a beginning of the payload in such bytes
+pub record DecodeFailed (limits : Limits) (Caused : ℕ → Type 0) (read read' written written' : StreamLog) : Type 0 where
   pub wire : List ℕ
   pub payload : List ℕ
   pub place : Place
@@ -196,7 +207,7 @@ pub record DecodeFailed (limits : Limits) (e : Error) (read read' written writte
   pub given : read'.reads.given ≡ read.reads.given ++ (wire ++ rest)
   pub unsent : List ℕ
   pub received : written'.writes.received ++ unsent ≡ written.writes.received ++ payload
-  pub caused : Stopped e (length payload) read read' written written' ⊎ BufferRefused e read read' written written'
+  pub caused : Caused (length payload)
 
 -- what a run of `decode` did: at Ok all that was given is a body
 abbrev pub DecodeRan : Limits → StreamLog → StreamLog → StreamLog → StreamLog → Result (Unit {0}) RunError → Type 0
@@ -209,4 +220,10 @@ DecodeRan limits read read' written written' (Err (Truncated right)) =
 DecodeRan limits read read' written written' (Err (Behind right)) =
     (rest : List ℕ) × (0 < length rest)
     × ((done : Decoded limits read read' written written' rest) × (right ≡ counted done.body))
-DecodeRan limits read read' written written' (Err (Io e)) = DecodeFailed limits e read read' written written'
+DecodeRan limits read read' written written' (Err (Read e)) =
+    DecodeFailed limits (λ _. ReadFailed e read read' written written') read read' written written'
+DecodeRan limits read read' written written' (Err (Write e)) =
+    DecodeFailed limits (λ _. SendFailed e read read' written written') read read' written written'
+DecodeRan limits read read' written written' (Err (Io e)) =
+    DecodeFailed limits (λ count. OverCount e count read read' written written' ⊎ BufferRefused e read read' written written')
+    read read' written written'

@@ -2,10 +2,10 @@
 use Rattle.std.specs.Prelude.{◌≡◌, ℕ, List, ◌++◌, codes, Bool, true, false, Result, Ok, Err}
 use Rattle.std.specs.Fmt.{decimal}
 use Rattle.chunked.specs.Error.{malformed_text}
-use Rattle.programs.specs.Ending.{FailsAs}
+use Rattle.programs.specs.Ending.{FailsAs, FailsSo}
 use Rattle.programs.specs.Ending as usual
 use Rattle.programs.specs.declared.ending.Ending.{Ending as Usually}
-use Rattle.programs.specs.declared.ending.Ending.TheVariants.{Done}
+use Rattle.programs.specs.declared.ending.Ending.TheVariants.{Done, ReadFailed, WriteFailed}
 use Rattle.bodies.specs.declared.ending.Ending.{Ending}
 use Rattle.bodies.specs.declared.ending.Ending.TheVariants.{Usual, NotChunked, Truncated, Behind}
 use Rattle.bodies.specs.declared.error.RunError.{RunError}
@@ -17,6 +17,8 @@ faulted (Ok _) = false
 faulted (Err (Why.NotChunked why right)) = false
 faulted (Err (Why.Truncated right)) = false
 faulted (Err (Why.Behind right)) = false
+faulted (Err (Why.Read e)) = true
+faulted (Err (Why.Write e)) = true
 faulted (Err (Why.Io e)) = true
 
 -- how a run ends that returned this
@@ -25,6 +27,8 @@ EndsAs (Ok _) ending = ending ≡ Usual Done
 EndsAs (Err (Why.NotChunked why right)) ending = ending ≡ NotChunked why right
 EndsAs (Err (Why.Truncated right)) ending = ending ≡ Truncated right
 EndsAs (Err (Why.Behind right)) ending = ending ≡ Behind right
+EndsAs (Err (Why.Read e)) ending = (why : Usually) × FailsSo ReadFailed e why × (ending ≡ Usual why)
+EndsAs (Err (Why.Write e)) ending = (why : Usually) × FailsSo WriteFailed e why × (ending ≡ Usual why)
 EndsAs (Err (Why.Io e)) ending = (why : Usually) × FailsAs e why × (ending ≡ Usual why)
 
 -- the status that the process ends with

@@ -31,7 +31,7 @@ pub fn decode<R: TellRead, W: TellWrite>(
 {
     let (source, mut target) = match buffered(alloc, false, (PIECE, 2 * PIECE), reader, writer) {
         Ok(buffers) => buffers,
-        Err((e, reader, writer)) => return (Err(e.into()), reader, writer),
+        Err((e, reader, writer)) => return (Err(RunError::Io(e)), reader, writer),
     };
     let (answer, rest) = decode_all(source, limits, &mut target);
     let (writer, _) = target.into_inner_with_buffer();
@@ -97,7 +97,7 @@ fn move_pieces<R: TellRead, W: TellWrite>(
         }
         write_piece(target, &piece[..count])?;
     }
-    Err(io::Error::from(ErrorKind::Other).into())
+    Err(RunError::Io(ErrorKind::Other.into()))
 }
 
 // Hands out payload, at least a byte unless the body ended. Of reads that are interrupted the 65th ends it.
@@ -151,9 +151,9 @@ fn expect_end<R: TellRead>(rest: &mut BufReader<R>, right: u64) -> Result<(), Ru
     requires { 0 < rest.old.block.capacity }
     ensures { ExpectsEnd R.remaining rest.old right result rest.new }
 {
-    if is_at_end(rest)? {
-        Ok(())
-    } else {
-        Err(RunError::Behind(right))
+    match is_at_end(rest) {
+        Ok(true) => Ok(()),
+        Ok(false) => Err(RunError::Behind(right)),
+        Err(e) => Err(RunError::Read(e)),
     }
 }

@@ -3,14 +3,14 @@ ghost use Rattle.std.specs.Prelude.{◌≡◌};
 
 use crate::error::RunError;
 use chunked::Malformed;
-use programs::Said;
+use programs::{Ending as Usual, Said};
 use std::fmt;
 
 /// How a run ends.
 #[derive(Clone, Copy, Debug)]
 pub enum Ending {
     /// As that of any program may.
-    Usual(programs::Ending),
+    Usual(Usual),
     /// The body is wrong behind so many bytes.
     NotChunked(Malformed, u64),
     /// The input ended within the body, after so many bytes.
@@ -27,11 +27,13 @@ impl Ending {
         ensures { EndsAs answer.now result }
     {
         match answer {
-            Ok(()) => Ending::Usual(programs::Ending::Done),
+            Ok(()) => Ending::Usual(Usual::Done),
             Err(RunError::NotChunked(why, right)) => Ending::NotChunked(*why, *right),
             Err(RunError::Truncated(right)) => Ending::Truncated(*right),
             Err(RunError::Behind(right)) => Ending::Behind(*right),
-            Err(RunError::Io(e)) => Ending::Usual(programs::Ending::of_fault(e)),
+            Err(RunError::Read(e)) => Ending::Usual(Usual::of_fault_so(e, Usual::ReadFailed)),
+            Err(RunError::Write(e)) => Ending::Usual(Usual::of_fault_so(e, Usual::WriteFailed)),
+            Err(RunError::Io(e)) => Ending::Usual(Usual::of_fault(e)),
         }
     }
 

@@ -15,7 +15,11 @@ pub enum RunError {
     Truncated(u64),
     /// The input goes on behind the body.
     Behind(u64),
-    /// A stream failed, or memory ran out.
+    /// A read failed.
+    Read(io::Error),
+    /// A write or a flush failed.
+    Write(io::Error),
+    /// Memory ran out, or more went over than a run counts.
     Io(io::Error),
 }
 
@@ -23,16 +27,20 @@ pub enum RunError {
 pub fn is_fault(answer: &Result<(), RunError>) -> bool
     ensures { result ≡ faulted answer.now }
 {
-    matches!(answer, Err(RunError::Io(_)))
+    matches!(
+        answer,
+        Err(RunError::Read(_) | RunError::Write(_) | RunError::Io(_))
+    )
 }
 
+/// What a call of a writer failed with.
 impl From<io::Error> for RunError {
-    ghost use Rattle.bodies.specs.declared.error.RunError.TheVariants.{Io};
+    ghost use Rattle.bodies.specs.declared.error.RunError.TheVariants.{Write};
 
-    ghost from_gives = { λ e r. r ≡ Io e };
+    ghost from_gives = { λ e r. r ≡ Write e };
 
     fn from(e: io::Error) -> RunError {
-        RunError::Io(e)
+        RunError::Write(e)
     }
 }
 
@@ -45,7 +53,7 @@ impl From<ChunkedError> for RunError {
         match e {
             ChunkedError::NotChunked(why, right) => RunError::NotChunked(why, right),
             ChunkedError::Truncated(right) => RunError::Truncated(right),
-            ChunkedError::Io(e) => RunError::Io(e),
+            ChunkedError::Io(e) => RunError::Read(e),
         }
     }
 }

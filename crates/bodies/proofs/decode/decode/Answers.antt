@@ -2,7 +2,7 @@ use Rattle.bodies.proofs.DecodeRuns.{refused}
 use Rattle.bodies.proofs.decode.decode.Goals as goal
 
 pub returns-in-Err : goal.returns-in-Err
-returns-in-Err g c = rw c.into.ensures (refused c.args.limits _ _ _ _ _ c.in-Err.ensures.refused)
+returns-in-Err g c = refused c.args.limits _ _ _ _ _ c.in-Err.ensures.refused
 
 pub returns : goal.returns
 returns g c =

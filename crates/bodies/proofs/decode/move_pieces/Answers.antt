@@ -33,5 +33,4 @@ loop-preserved g c =
 
 pub returns : goal.returns
 returns g c =
-    rw c.into.ensures
-    (over _ _ _ _ _ c.loop.invariant.each _ c.from.ensures (omega (arith, c.loop-test.false, c.loop.invariant.all)))
+    over _ _ _ _ _ c.loop.invariant.each _ c.into.ensures (omega (arith, c.loop-test.false, c.loop.invariant.all))
