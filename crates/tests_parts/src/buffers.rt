@@ -1,15 +1,10 @@
-//! What a buffer holds, call by call, what goes between it and a stream, and the blocks that it is made of.
-use buffer_redux::script::{Answer, FaultAt};
+//! What a buffer holds, call by call.
 use redux_buffer::laws::potential;
-use redux_buffer::tell::Told;
-use redux_buffer::{BufImpl, Buffer, GrowError, RawBuf, StdBuf, laws};
+use redux_buffer::{Buffer, GrowError, laws};
 use std::alloc::{AllocError, Global};
-use std::io;
 use std::process::Abort;
 use std::test::Fail;
-use tests_common::{debug, display, empty, first, holding_in, kind};
-
-type Target = Told<FaultAt<Vec<u8>>>;
+use tests_common::{debug, empty, first, holding_in};
 
 #[derive(Clone, Copy)]
 enum Call<'a> {
@@ -150,13 +145,95 @@ const ROUND: &'static [Row] = &[
     ),
 ];
 
-static WALKS: [(bool, usize, &'static [Row]); 6] = [
+// What is consumed stands in front, until room is made. A growth leaves what is held in its place.
+const MOVED: &'static [Row] = &[
+    (
+        Call::Copy(&[1, 2, 3, 4, 5, 6, 7, 8]),
+        "(Ok(8), [1, 2, 3, 4, 5, 6, 7, 8], (8, 0, 4611686018427387904))",
+    ),
+    (
+        Call::Consume(5),
+        "(Ok(0), [6, 7, 8], (8, 0, 4611686018427387904))",
+    ),
+    (
+        Call::MakeRoom,
+        "(Ok(0), [6, 7, 8], (8, 5, 4611686018427387904))",
+    ),
+    (
+        Call::MakeRoom,
+        "(Ok(0), [6, 7, 8], (8, 5, 4611686018427387904))",
+    ),
+    (Call::Consume(3), "(Ok(0), [], (8, 8, 4611686018427387904))"),
+];
+
+const GROWN_BEHIND: &'static [Row] = &[
+    (
+        Call::Copy(&[1, 2, 3, 4, 5, 6, 7, 8]),
+        "(Ok(8), [1, 2, 3, 4, 5, 6, 7, 8], (8, 0, 4611686018427387904))",
+    ),
+    (
+        Call::Consume(5),
+        "(Ok(0), [6, 7, 8], (8, 0, 4611686018427387904))",
+    ),
+    (
+        Call::Reserve(2),
+        "(Ok(0), [6, 7, 8], (10, 2, 4611686018427387904))",
+    ),
+];
+
+// A growth that passes every limit changes nothing, and a consume takes what is there.
+const EMPTIED: &'static [Row] = &[
+    (
+        Call::Copy(&[1, 2, 3]),
+        "(Ok(3), [1, 2, 3], (4, 1, 4611686018427387904))",
+    ),
+    (
+        Call::Reserve(18446744073709551615),
+        "(Err(TooLarge), [1, 2, 3], (4, 1, 4611686018427387904))",
+    ),
+    (
+        Call::Consume(18446744073709551615),
+        "(Ok(0), [], (4, 4, 4611686018427387904))",
+    ),
+];
+
+// An empty plain buffer grows by all that is asked, and a ring by whole units.
+const GROWN: &'static [Row] = &[
+    (Call::Reserve(4), "(Ok(0), [], (4, 4, 4611686018427387904))"),
+    (Call::Reserve(5), "(Ok(0), [], (9, 9, 4611686018427387904))"),
+];
+
+const GROWN_RING: &'static [Row] = &[
+    (
+        Call::Copy(&[7; 10]),
+        "(Ok(10), [7, 7, 7, 7, 7, 7, 7, 7, 7, 7], (4096, 4086, 2305843009213693952))",
+    ),
+    (
+        Call::Reserve(18446744073709551615),
+        "(Err(TooLarge), [7, 7, 7, 7, 7, 7, 7, 7, 7, 7], (4096, 4086, 2305843009213693952))",
+    ),
+    (
+        Call::Reserve(4086),
+        "(Ok(0), [7, 7, 7, 7, 7, 7, 7, 7, 7, 7], (4096, 4086, 2305843009213693952))",
+    ),
+    (
+        Call::Reserve(4087),
+        "(Ok(0), [7, 7, 7, 7, 7, 7, 7, 7, 7, 7], (8192, 8182, 2305843009213693952))",
+    ),
+];
+
+static WALKS: [(bool, usize, &'static [Row]); 11] = [
     (false, 4, PUSHED),
     (false, 4, LIMITED),
     (false, 4, LIMITED_PUSH),
     (false, 0, NO_ROOM),
     (true, 4096, LIMITED_RING),
     (true, 8192, ROUND),
+    (false, 8, MOVED),
+    (false, 8, GROWN_BEHIND),
+    (false, 4, EMPTIED),
+    (false, 4, GROWN),
+    (true, 4096, GROWN_RING),
 ];
 
 #[test]
@@ -186,88 +263,23 @@ fn usual_ones(rt: HostRuntime) -> Result<(), Fail> {
     Ok(())
 }
 
-// How bytes are sent: some at most, by one write, or all.
-#[derive(Clone, Copy)]
-enum Send {
-    Most(usize),
-    Once,
-    All,
-}
-
-fn send_by(b: &mut Buffer, how: Send, wrt: &mut Target) -> io::Result<usize> {
-    match how {
-        Send::Most(most) => potential::write_max(b, most, wrt)?,
-        Send::Once => return potential::write_to(b, wrt),
-        Send::All => potential::write_all(b, wrt)?,
-    }
-    Ok(0)
-}
-
-// What is held, how it is sent, how the first write goes, and the answer, what was taken, what is left, and how many writes there
-// were.
-static SENT: [(&'static [u8], Send, Answer, &'static str); 5] = [
-    (
-        &[1, 2],
-        Send::Most(18446744073709551615),
-        Answer::Interrupt(1),
-        "(Ok(0), [1, 2], [], 2)",
-    ),
-    (
-        &[1, 2, 3, 4],
-        Send::Most(3),
-        Answer::Serve(2),
-        "(Ok(0), [1, 2, 3], [4], 2)",
-    ),
-    (
-        &[1, 2, 3],
-        Send::Once,
-        Answer::Serve(2),
-        "(Ok(2), [1, 2], [3], 1)",
-    ),
-    (&[], Send::Once, Answer::Serve(2), "(Ok(0), [], [], 0)"),
-    (
-        &[1, 2],
-        Send::All,
-        Answer::Serve(0),
-        "(Err(WriteZero), [], [1, 2], 1)",
-    ),
-];
-
-// What a send returns, and what comes of it.
-fn sends(alloc: Global, b: &mut Buffer, how: Send, wrt: &mut Target) -> Result<String, AllocError> {
-    let answer = kind(send_by(b, how, wrt));
-    let inner = wrt.get_ref();
-    let taken = inner.get_ref().as_slice();
-    debug(alloc, &(answer, taken, b.buf(), inner.calls()))
-}
-
+// The capacity of a ring is rounded up.
 #[test]
-fn sent(rt: HostRuntime) -> Result<(), Fail> {
-    for (held, how, first, text) in SENT {
-        let mut wrt = Told::new(FaultAt::new(Vec::new(rt.alloc()), 0, first));
-        let mut b = holding_in(rt.alloc(), false, 4, held)?;
-        let came = sends(rt.alloc(), &mut b, how, &mut wrt)?;
-        assert!(rt; came.as_str() == text, "{came}");
+fn rings(rt: HostRuntime) -> Result<(), Fail> {
+    for (asked, made) in [(0, 0), (1, 4096), (64, 4096), (4096, 4096), (4097, 8192)] {
+        let b = empty(rt.alloc(), true, asked)?;
+        assert!(rt; (b.capacity(), b.usable_space()) == (made, made), "{asked}");
     }
     Ok(())
 }
 
-fn take_in(b: &mut Buffer, mut rdr: Told<&[u8]>) -> io::Result<usize> {
-    potential::read_from(b, &mut rdr)
-}
-
-fn copy_out(b: &mut Buffer, out: &mut [u8]) -> usize {
-    potential::copy_to_slice(b, out)
-}
-
+// What passes the limit of its kind is refused before memory is asked for.
 #[test]
-fn in_and_out(rt: HostRuntime) -> Result<(), Fail> {
-    let mut b = empty(rt.alloc(), false, 2)?;
-    assert!(rt; take_in(&mut b, Told::new(&[1, 2, 3]))? == 2);
-    let mut out = [9u8; 5];
-    assert!(rt; copy_out(&mut b, &mut out[..0]) == 0);
-    assert!(rt; copy_out(&mut b, &mut out) == 2);
-    assert!(rt; out == [1, 2, 9, 9, 9] && b.is_empty());
+fn too_large(rt: HostRuntime) -> Result<(), Fail> {
+    for (ring, asked) in [(false, 4611686018427387905), (true, 2305843009213693953)] {
+        let made = empty(rt.alloc(), ring, asked);
+        assert!(rt; matches!(made.err(), Some(GrowError::TooLarge)), "{asked}");
+    }
     Ok(())
 }
 
@@ -293,75 +305,5 @@ fn laws_of_a_buffer(rt: HostRuntime) -> Result<(), Fail> {
     let mut out = [0u8; 5];
     assert!(rt; copy_through(&mut b, &[1, 2, 3, 4, 5], &mut out) == 4);
     assert!(rt; out == [1, 2, 3, 4, 0]);
-    Ok(())
-}
-
-fn block(alloc: Global, ring: bool) -> Result<BufImpl, GrowError> {
-    if ring {
-        BufImpl::with_capacity_ringbuf(alloc, 4)
-    } else {
-        BufImpl::with_capacity(alloc, 4)
-    }
-}
-
-fn write_two(block: &mut BufImpl) -> Result<(), GrowError> {
-    block.write_buf().fill(7);
-    block.bytes_written(2);
-    block.buf_mut().fill(8);
-    block.bytes_written(1);
-    block.consume(1);
-    block.make_room();
-    block.reserve(2)
-}
-
-#[test]
-fn either_block(rt: HostRuntime) -> Result<(), Fail> {
-    for (ring, usable) in [(false, 2), (true, 4094)] {
-        let mut block = block(rt.alloc(), ring)?;
-        write_two(&mut block)?;
-        assert!(rt; (block.buf(), block.is_ringbuf()) == ([8, 7].as_slice(), ring));
-        assert!(rt; (block.len(), block.usable_space()) == (2, usable));
-    }
-    Ok(())
-}
-
-// More is never written than fits.
-#[test]
-fn plain_block(rt: HostRuntime) -> Result<(), Fail> {
-    let mut plain = StdBuf::with_capacity(rt.alloc(), 4)?;
-    assert!(rt; plain.check_cursors());
-    for (n, len, usable) in [(1, 1, 3), (18446744073709551615, 4, 0)] {
-        plain.bytes_written(n);
-        assert!(rt; (plain.len(), plain.usable_space()) == (len, usable));
-    }
-    Ok(())
-}
-
-// What passes every limit is refused, and changes nothing.
-#[test]
-fn raw_block(rt: HostRuntime) -> Result<(), Fail> {
-    let mut raw = RawBuf::with_capacity(rt.alloc(), 4)?;
-    raw.as_mut_slice().fill(7);
-    assert!(rt; !raw.reserve_in_place(1));
-    assert!(rt; matches!(raw.reserve(4611686018427387901), Err(GrowError::TooLarge)));
-    assert!(rt; raw.as_slice() == [7; 4].as_slice());
-    Ok(())
-}
-
-#[test]
-fn printed(rt: HostRuntime) -> Result<(), Fail> {
-    let alloc = rt.alloc();
-    for (error, text) in [
-        (GrowError::TooLarge, "the needed capacity passes the limit"),
-        (GrowError::Memory, "out of memory"),
-    ] {
-        assert!(rt; display(alloc, &error)?.as_str() == text);
-    }
-    let plain = debug(alloc, &empty(alloc, false, 1)?)?;
-    assert!(rt;
-        plain.as_str()
-            == "Buffer { imp: Std(StdBuf { buf: RawBuf { buf: [0] }, pos: 0, end: 0, stop: 1, consumed: Count, moved: Count }), \
-limit: 4611686018427387904 }"
-    );
     Ok(())
 }

@@ -1,12 +1,16 @@
-//! Parts by worked examples, and each of their public calls once: buffers, the streams that tell, and policies that the library
-//! doesn't know.
+//! Parts by worked examples, and each of their public calls once: buffers, the streams that tell, policies that the library
+//! doesn't know, and what `bufcopy` does.
 #![tactic(auto)]
 
+#[cfg(test)]
+mod blocks;
 #[cfg(test)]
 mod buffers;
 #[cfg(test)]
 mod callers;
 pub mod claims;
+#[cfg(test)]
+mod copying;
 #[cfg(test)]
 mod named;
 #[cfg(test)]
@@ -17,3 +21,5 @@ mod policies;
 mod ring;
 #[cfg(test)]
 mod streams;
+#[cfg(test)]
+mod transfers;

@@ -261,7 +261,20 @@ fn keeps(alloc: Global, name: Name, bytes: &[u8]) -> Result<bool, Fail> {
             }
         }
     }
-    Ok(true)
+    keeps_short(alloc, name)
+}
+
+// The first calls of each list, where nothing goes wrong.
+fn keeps_short(alloc: Global, name: Name) -> Result<bool, Fail> {
+    let (_, read) = reads(
+        alloc,
+        plain(name, 4),
+        &[1, 2, 3, 4, 5],
+        0,
+        &READER_CALLS[..5],
+    )?;
+    let (_, written) = writes(alloc, plain(name, 2), &WRITER_CALLS[..3])?;
+    Ok(read && written)
 }
 
 // Under each policy, and under one that fails at each of its first questions.

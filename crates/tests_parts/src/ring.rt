@@ -1,12 +1,14 @@
 //! When the bytes of a ring move, as its head shows, which is printed.
-use redux_buffer::SliceDequeBuf;
+use redux_buffer::tell::{TellRead, Told};
+use redux_buffer::{Buffer, SliceDequeBuf};
 use std::alloc::{AllocError, Global};
+use std::io;
 use std::test::Fail;
-use tests_common::debug;
+use tests_common::{debug, empty};
 
 #[derive(Clone, Copy)]
 enum Step {
-    // writes this byte to the whole tail, and takes so many of them in, as `Buffer::read_from` does with what a reader gives
+    // writes this byte to the whole tail, and takes so many of them in
     Take(u8, usize),
     // the same without writing to the tail
     Written(usize),
@@ -30,21 +32,6 @@ fn take_step(ring: &mut SliceDequeBuf, step: Step) {
 
 // A step, where the first byte then stands, how many there are, and how many can be written.
 type Row = (Step, &'static str, usize, usize);
-
-// What a reader of 16384 bytes gives, in reads into the whole tail. The third and the fifth move 96 bytes each.
-const READS: &'static [Row] = &[
-    (Step::Take(9, 4096), "head: 0,", 4096, 0),
-    (Step::Consume(4000), "head: 4000,", 96, 4000),
-    (Step::Take(9, 4000), "head: 4000,", 4096, 0),
-    (Step::Consume(4000), "head: 8000,", 96, 4000),
-    (Step::Take(9, 4000), "head: 0,", 4096, 0),
-    (Step::Consume(4000), "head: 4000,", 96, 4000),
-    (Step::Take(9, 4000), "head: 4000,", 4096, 0),
-    (Step::Consume(4000), "head: 8000,", 96, 4000),
-    (Step::Take(9, 288), "head: 0,", 384, 3712),
-    (Step::Consume(4000), "head: 0,", 0, 4096),
-    (Step::Take(9, 0), "head: 0,", 0, 4096),
-];
 
 const EMPTIED: &'static [Row] = &[
     (Step::Take(7, 4096), "head: 0,", 4096, 0),
@@ -77,8 +64,7 @@ const AT_THE_CAPACITY: &'static [Row] = &[
 // Steps, and the bytes in front at their end.
 type Walk = (&'static [Row], &'static [u8]);
 
-static WALKS: [Walk; 4] = [
-    (READS, &[]),
+static WALKS: [Walk; 3] = [
     (EMPTIED, &[]),
     (WRITTEN_WITHOUT_A_LOAN, &[8; 96]),
     (AT_THE_CAPACITY, &[]),
@@ -109,6 +95,38 @@ fn heads(rt: HostRuntime) -> Result<(), Fail> {
     for walk in &WALKS {
         let wrong = wrong_behind(rt.alloc(), walk)?;
         assert!(rt; wrong.is_none(), "at {wrong:?}");
+    }
+    Ok(())
+}
+
+// Of reads of all that fits, with a consume of 4000 bytes behind each: how many bytes came, and where the first stands behind the
+// read and behind the consume. The third and the fifth read move 96 bytes each.
+static READS: [(usize, &str, &str); 6] = [
+    (4096, "head: 0,", "head: 4000,"),
+    (4000, "head: 4000,", "head: 8000,"),
+    (4000, "head: 0,", "head: 4000,"),
+    (4000, "head: 4000,", "head: 8000,"),
+    (288, "head: 0,", "head: 0,"),
+    (0, "head: 0,", "head: 0,"),
+];
+
+fn take_in<R: TellRead>(buf: &mut Buffer, rdr: &mut R) -> io::Result<usize> {
+    buf.read_from(rdr)
+}
+
+// Whether the first byte stands there.
+fn stands(alloc: Global, buf: &Buffer, head: &str) -> Result<bool, AllocError> {
+    Ok(debug(alloc, buf)?.contains(head))
+}
+
+#[test]
+fn heads_of_reads(rt: HostRuntime) -> Result<(), Fail> {
+    let mut buf = empty(rt.alloc(), true, 4096)?;
+    let mut rdr = Told::new([9; 16384].as_slice());
+    for (count, read, consumed) in READS {
+        assert!(rt; take_in(&mut buf, &mut rdr)? == count && stands(rt.alloc(), &buf, read)?);
+        buf.consume(4000);
+        assert!(rt; stands(rt.alloc(), &buf, consumed)?);
     }
     Ok(())
 }
