@@ -79,3 +79,19 @@ pub fn copy_turn<B: TellBufRead, W: TellWrite>(b: &mut B, w: &mut W) -> io::Resu
     b.consume_told(taken);
     Ok(taken)
 }
+
+#[cfg(test)]
+mod tests {
+    use crate::copy::add_total;
+    use std::test::Fail;
+
+    #[test]
+    fn ends_with_a_u64(rt: HostRuntime) -> Result<(), Fail> {
+        let sums = [
+            add_total(18446744073709551615, 0),
+            add_total(18446744073709551615, 1),
+        ];
+        assert!(rt; sums == [Some(18446744073709551615), None]);
+        Ok(())
+    }
+}
