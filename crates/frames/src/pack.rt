@@ -97,6 +97,7 @@ fn pack_lines<R: TellRead, W: TellWrite>(
 
 // Makes the next line a frame, and returns whether there was one. Where it has to be asked for, all frames are sent and flushed
 // first.
+#[inline(always)]
 #[tactic(auto, using(crate::proofs::PackPrompting::has_no_ask))]
 fn pack_line<R: TellRead, W: TellWrite>(
     source: &mut LineReader<R>,
@@ -118,6 +119,7 @@ fn pack_line<R: TellRead, W: TellWrite>(
 }
 
 // Makes the next line a frame. Of reads that are interrupted in a row the 65th ends it.
+#[inline(always)]
 fn pack_next<R: TellRead, W: TellWrite>(
     source: &mut LineReader<R>,
     target: &mut FrameWriter<W>,
@@ -148,6 +150,7 @@ fn pack_next<R: TellRead, W: TellWrite>(
 }
 
 // The same up to the first fault of a read.
+#[inline(always)]
 fn try_line<R: TellRead, W: TellWrite>(
     source: &mut LineReader<R>,
     target: &mut FrameWriter<W>,

@@ -114,6 +114,7 @@ fn unpack_frame<R: TellRead, W: TellWrite>(
 }
 
 // Prints the next payload. Of reads that are interrupted in a row the 65th ends it.
+#[inline(always)]
 fn print_next<R: TellRead, W: TellWrite>(
     source: &mut FrameReader<R>,
     target: &mut BufWriter<W>,
