@@ -7,11 +7,12 @@ use Rattle.std.specs.Borrow.{Bor}
 use Rattle.std.specs.declared.io.Error.{Error}
 use Rattle.line_reader.specs.declared.error.LineError.{LineError}
 use Rattle.line_reader.specs.declared.error.LineError.TheVariants.{TooLong, Io}
-use Rattle.line_reader.specs.Calls.{LinesAlong, Skipped, next_events, trimmed_events}
-use Rattle.line_reader.specs.CallsLaws.{LinesAlong-joins, NextLine-along, Trims-along, no_line, skip_last, skip_whole}
+use Rattle.line_reader.specs.Calls.{Event, LinesAlong, Skipped, next_events, trimmed_events}
+use Rattle.line_reader.specs.CallsLaws.{LinesAlong-joins, NextLine-along, Trims-along, no_line, skip_last, skip_none, skip_whole}
+use Rattle.line_reader.specs.CallsWentLaws.{ended_empty}
 use Rattle.line_reader.specs.Lines.{BeginsTooLong, IsLine, newline}
 use Rattle.line_reader.specs.LinesLaws.{front_plain, line_or_end, no-end-within, take_plain, too_long-append}
-use Rattle.line_reader.specs.Lining.{HasLine, Lining, rest}
+use Rattle.line_reader.specs.Lining.{HasLine, IsLining, Lining, rest}
 use Rattle.line_reader.specs.LinesWentLaws.{LinesWent-unasked}
 use Rattle.line_reader.specs.NextLine.{NextAnswer, NextLine, Trims, answer_of}
 use Rattle.line_reader.specs.NextLineLaws.{NextGoes-plain, NextLine-ended, NextLine-ready, NextLine-too_long}
@@ -152,6 +153,33 @@ module _ {S : Type 0} (remaining : S → Option (List ℕ)) (s t : Lining S) whe
     ]
   ]
 
+-- a line was skipped, or what was left of one; of one that was being skipped nothing may be left at the end of the stream
+abbrev pub IsSkip : List Event → Type 0
+IsSkip events = ((line : List ℕ) × (events ≡ Skipped line ∷ [])) ⊎ (events ≡ [])
+
+module _ {S : Type 0} (remaining : S → Option (List ℕ)) (s t : Lining S) (whole : IsLining s) (count : ℕ)
+    (k : SkipsLine remaining s (Ok count) t) where
+  skips_rest : (bytes : List ℕ) → k.drops.bytes ≡ bytes → IsLine k.drops.bytes → t.ended ≡ true
+      → (events : List Event) × IsSkip events × LinesAlong remaining [] s events [] t
+  skips_rest [] is plain ended =
+      ([], inr refl, skip_none remaining s t [] no_line (λ _. refl) (ended_empty s whole) count k ended is)
+  skips_rest (byte ∷ bytes) is plain ended = (
+    Skipped k.drops.bytes ∷ [],
+    inl (k.drops.bytes, refl),
+    skip_last remaining s t [] no_line (λ _. refl) (ended_empty s whole) count k plain ended (omega (arith, ap length is)),
+  )
+
+  -- what one call of `skip_line` took
+  pub SkipsLine-along : (events : List Event) × IsSkip events × LinesAlong remaining [] s events [] t
+  SkipsLine-along = elim k.drops.answers.2 [
+    | inl (w, going, end) ↦ (
+      Skipped w.line ∷ [],
+      inl (w.line, refl),
+      skip_whole remaining s t [] no_line (λ _. refl) (ended_empty s whole) count k w,
+    )
+    | inr (plain, none, ended, end) ↦ skips_rest k.drops.bytes refl plain ended
+  ]
+
 -- a line that is too long, and then skipped
 module _ {S : Type 0} (remaining : S → Option (List ℕ)) (s m t : Lining S) (max : ℕ) (open' : s.skipping ≡ false)
     (met : NextGoes remaining s (Err (TooLong max)) m) where
@@ -196,6 +224,9 @@ module _ {S : Type 0} (remaining : S → Option (List ℕ)) (s m t : Lining S) (
                 (omega (arith, last_long none))),
           )
         ]
+
+    pub TooLong-taken : (events : List Event) × IsSkip events × LinesAlong remaining [] s events [] t
+    TooLong-taken = (Skipped TooLong-along.0 ∷ [], inl (TooLong-along.0, refl), TooLong-along.2)
 
   -- the stream isn't asked where the end of the line is buffered
   pub TooLong-quiet : (answer : Result ℕ Error) → SkipsLine remaining m answer t → ¬ (IsLine (rest s))

@@ -167,7 +167,8 @@ impl<R: Tell> LineReader<R> {
     /// Whether a line is being skipped, in which [`skip_line`](LineReader::skip_line) failed: what comes of it through its end
     /// is dropped by the next call. Who takes the reader apart then has the middle of that line before it.
     pub fn is_skipping(&self) -> bool
-        ensures { result ≡ self.now.skipping }
+        ensures value { result ≡ self.now.skipping }
+        ensures whole { IsLining self.now }
     {
         self.skipping
     }
