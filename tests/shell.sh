@@ -349,6 +349,24 @@ END
     refused decode "$scratch/body" "$payload"
 }
 
+# A command that stands at the end of a line which is too long is none, whichever read within that line is interrupted or fails.
+run_kv_server() {
+    turns '' crates/kv_server/stdin crates/kv_server/stdout
+    command="SET a $(printf %02200d 0)SET evil 1\\nGET evil\\n"
+    reads=
+    for at in 1 2 3 4 5 6; do
+        answers '' "$command" "$reads i1 512*" '' 'ERROR long line\nNONE\n' 0 '7 1'
+        # Behind the last line it is asked only once the replies are written.
+        if [ "$at" -eq 6 ]; then said='ERROR long line\nNONE\n'; else said=; fi
+        printf '%b' "$command" > "$scratch/in"
+        printf '%b' "$said" > "$scratch/want"
+        READS="$reads e" WRITES="" CALLS=$scratch/calls LD_PRELOAD=$system "$program" < "$scratch/in" > "$scratch/out" 2> "$scratch/err"
+        ended "$name as read $at fails" $? 1 'Error: Os { code: 5, kind: Uncategorized, message: "Input/output error" }'
+        holds "$name as read $at fails" "$scratch/want"
+        reads="$reads 512"
+    done
+}
+
 # It says itself whether all is as it should be. It meets each of the first refusals; the two behind are of more than any machine
 # has, which is refused anyway.
 run_tests_refused() {
@@ -385,7 +403,7 @@ if ! "${CC:-cc}" -O2 -shared -fPIC -o "$system" tests/system.c -ldl 2> "$scratch
     wrong 'tests/system.c is not compiled' "$scratch/compiled"
     exit 1
 fi
-for it in bufcopy replay frames bodies tests_refused; do
+for it in bufcopy replay frames bodies kv_server tests_refused; do
     if begins "$it"; then
         "run_$it"
         ends

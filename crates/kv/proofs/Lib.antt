@@ -1,0 +1,4 @@
+pub mod Blanks
+pub mod Keys
+pub mod Talking
+pub mod Turning

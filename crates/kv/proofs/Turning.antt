@@ -1,0 +1,71 @@
+use Rattle.std.proofs.Common.{◌≡◌, ◌⊎◌, ℕ, List, [], ◌∷◌, Option, None, Some, Result, Ok, Err, MatchResult, IfOk, IfErr, true, false, inl, inr, subst, refl, sym, ap}
+use Rattle.std.specs.declared.io.Error.{Error}
+use Rattle.std.specs.Prelude.{codes, ◌≢◌}
+use Rattle.buffer_redux.specs.BufWriter.{StoppedAlong, WritesAlong}
+use Rattle.buffer_redux.specs.Policy.{std_write_rules}
+use Rattle.buffer_redux.specs.StreamLog.{StreamLog}
+use Rattle.line_reader.specs.Calls.{Event, LinesAlong, Trimmed}
+use Rattle.line_reader.specs.Lines.{IsLine}
+use Rattle.line_reader.specs.Lining.{Lining, rest}
+use Rattle.line_reader.specs.LinesAlongLaws.{NextTrimmed-along}
+use Rattle.line_reader.specs.SkipLine.{NextTrimmed, SkipsLine}
+use Rattle.line_reader.specs.declared.error.LineError.TheVariants.{TooLong}
+use Rattle.kv.specs.Exchange.{Answers, IsTaken}
+use Rattle.kv.specs.Protocol.{quit_line}
+use Rattle.kv.specs.Serving.{AnswersLong, Does, Fails, Server, TookLine, Turns}
+use Rattle.kv.specs.declared.serving.Step.{Step}
+use Rattle.kv.specs.declared.serving.Step.TheVariants.{End, Quit, Went}
+
+module _ {S T P : Type 0} (remaining : S → Option (List ℕ)) (tells : T → StreamLog) (stretch : T → T → Type 0)
+    (s t : Server S T P) where
+  -- a turn that skips a line
+  pub long_turns : (m : Lining S) → ((max : ℕ) × NextTrimmed remaining s.commands (Err (TooLong max)) m) ⊎ ((s.commands.skipping ≡ true) × (s.commands ≡ m))
+      → ((count : ℕ) → SkipsLine remaining m (Ok count) t.commands
+      → (taken : List Event) × IsTaken None taken × LinesAlong remaining [] s.commands taken [] t.commands)
+      → ((answer : Result ℕ Error) → SkipsLine remaining m answer t.commands → ¬ (IsLine (rest s.commands))
+      → t.commands.reader.log ≡ s.commands.reader.log)
+      → s.values ≡ t.values → (answer : Result Step Error)
+      → AnswersLong remaining tells stretch m s.replies answer t.commands t.replies → Turns remaining tells stretch s answer t
+  long_turns m meets taken quiet same (Ok step) ((count, k), along, went) =
+      let took = taken count k in
+      record {
+        quiet = quiet (Ok count) k;
+        does = subst (λ x. Does remaining tells stretch s x t) (sym went) (
+          record { line = None; taken = took.0; reply = codes "ERROR long line\n" },
+          record {
+            takes = (count, (m, meets, k));
+            lines = took.2;
+            is = took.1;
+            answers = (refl, λ q. ap (λ v. v q) (sym same));
+            along = along;
+          },
+        );
+      }
+  long_turns m meets taken quiet same (Err e) (inl (k, w)) =
+      record { quiet = quiet (Err e) k; does = inl (inr (m, meets, k), same, w) }
+  long_turns m meets taken quiet same (Err e) (inr ((count, k), stopped)) =
+      record { quiet = quiet (Ok count) k; does = inr (None, (count, (m, meets, k)), stopped) }
+
+  -- a turn that answers a line which is shown
+  module _ (line : List ℕ) (open' : s.commands.skipping ≡ false)
+      (next : NextTrimmed remaining s.commands (Ok (Some line)) t.commands) where
+    took : (answered : (reply : List ℕ) × Answers s.values (Some line) reply t.values
+        × WritesAlong tells stretch std_write_rules s.replies reply t.replies)
+        → TookLine remaining tells stretch s (record { line = Some line; taken = Trimmed line ∷ []; reply = answered.0 }) t
+    took answered = record {
+      takes = next;
+      lines = NextTrimmed-along remaining s.commands t.commands (Ok (Some line)) open' next;
+      is = refl;
+      answers = answered.1;
+      along = answered.2;
+    }
+
+    pub line_does : (answer : Result Step Error) → IfErr answer (λ e. StoppedAlong tells stretch std_write_rules s.replies e t.replies)
+        → IfOk answer (λ _. (reply : List ℕ) × Answers s.values (Some line) reply t.values
+        × WritesAlong tells stretch std_write_rules s.replies reply t.replies)
+        → IfOk answer (λ step. step ≢ End) → IfOk answer (λ step. step ≡ Quit → line ≡ quit_line)
+        → MatchResult answer (λ step. Does remaining tells stretch s step t) (λ e. Fails remaining tells stretch s e t)
+    line_does (Ok Went) stopped answered goes_on quits = (_, took answered)
+    line_does (Ok Quit) stopped answered goes_on quits = (_, took answered, ap (λ l. Some l) (quits refl))
+    line_does (Ok End) stopped answered goes_on quits = absurd (goes_on refl)
+    line_does (Err e) stopped answered goes_on quits = inr (Some line, next, stopped)

@@ -1,0 +1,7 @@
+use Rattle.std.proofs.Common.{refl}
+use Rattle.buffer_redux.specs.WritesAlongLaws.{WritesAll-all}
+use Rattle.kv.proofs.reply.put.Goals as goal
+
+pub returns : goal.returns
+returns g c = WritesAll-all _ _ _ c.args.writer.now c.args.bytes.now c.write_all.result c.write_all.new.self
+    c.write_all.ensures.steps c.write_all.ensures.steadily refl

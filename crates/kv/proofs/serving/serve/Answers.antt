@@ -1,0 +1,25 @@
+use Rattle.std.proofs.Common.{inr}
+use Rattle.std.proofs.lemmas.Result.{err_from_is_err_and}
+use Rattle.buffer_redux.specs.WritesAlongLaws.{FlushedAlong-of, WasFlushed-all, WritesAlong-then}
+use Rattle.kv.proofs.Talking.{Talked-along, Talked-lines, stops}
+use Rattle.kv.proofs.serving.serve.Goals as goal
+
+pub returns-clause-served : goal.returns-clause-served
+returns-clause-served g c =
+    let joins = g.met.W.TellWrite.stretch_joins in
+    let ends = c.in_ok-ended.ensures.ended in
+    record {
+      replies = c.answer_lines.new.writer;
+      ends = ends;
+      lines = Talked-lines _ _ _ _ ends.exchanges ends.last ends.talked;
+      all = FlushedAlong-of _ _ _ joins _ _ _ _ _ (WritesAlong-then _ _ _ joins _ _ _ _
+          (Talked-along _ _ _ _ g.met.W.TellWrite.stretch_none joins ends.exchanges ends.last ends.talked) ends.sent) c.in_ok-flush.ensures.flushed;
+    }
+
+pub returns-in_err-flush-clause-failed : goal.returns-in_err-flush-clause-failed
+returns-in_err-flush-clause-failed g c =
+    let p = err_from_is_err_and c.from_residual-in_err-flush.result c.from_residual-in_err-flush.ensures.1 in
+    let ends = c.in_ok-ended.ensures.ended in
+    rw (p.1, p.2) (stops _ _ _ _ g.met.W.TellWrite.stretch_none g.met.W.TellWrite.stretch_joins ends.exchanges ends.last
+    c.answer_lines.new.writer ends.talked ends.sent _
+    ends.waits _ (inr (WasFlushed-all _ _ _ _ _ _ c.in_err-flush.ensures.flushed, ends.values)))

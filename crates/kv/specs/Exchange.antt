@@ -1,0 +1,66 @@
+-- Lines of commands, and what is replied to them.
+use Rattle.std.specs.Prelude.{◌≡◌, List, ℕ, [], ◌∷◌, ◌++◌, ◌⊎◌, Bool, Option, None, Some, Result, Ok, Err, MatchOption, codes}
+use Rattle.line_reader.specs.Calls.{CutsInto, Event, Trimmed}
+use Rattle.line_reader.specs.LinesAlongLaws.{IsSkip}
+use Rattle.kv.specs.declared.command.Command.{Command}
+use Rattle.kv.specs.declared.command.Command.TheVariants.{Set, Get, Del, Quit}
+use Rattle.kv.specs.declared.command.Refusal.{Refusal}
+use Rattle.kv.specs.declared.command.Refusal.TheVariants.{Unknown, BadKey, NoValue, LongValue}
+use Rattle.kv.specs.Protocol.{Means}
+use Rattle.kv.specs.Stored.{Values, Puts, Same}
+
+-- why a line is no command
+abbrev pub refusal_line : Refusal → List ℕ
+refusal_line Unknown = codes "ERROR unknown\n"
+refusal_line BadKey = codes "ERROR key\n"
+refusal_line NoValue = codes "ERROR no value\n"
+refusal_line LongValue = codes "ERROR long value\n"
+
+-- what a command does, and its reply
+abbrev pub Acts : Values → Result Command Refusal → List ℕ → Values → Type 0
+Acts old (Ok (Set key value)) reply new =
+    ((reply ≡ codes "OK\n") × Puts key.now (Some value.now) old new) ⊎ ((reply ≡ codes "ERROR full\n") × Same old new)
+Acts old (Ok (Get key)) reply new =
+    MatchOption (old key.now) (reply ≡ codes "NONE\n") (λ value. reply ≡ codes "VALUE " ++ (value ++ codes "\n")) × Same old new
+Acts old (Ok (Del key)) reply new =
+    MatchOption (old key.now) (reply ≡ codes "NONE\n") (λ _. reply ≡ codes "OK\n") × Puts key.now None old new
+Acts old (Ok Quit) reply new = (reply ≡ codes "OK\n") × Same old new
+Acts old (Err refusal) reply new = (reply ≡ refusal_line refusal) × Same old new
+
+-- a line as it was shown, or `None` for one that was too long; what was taken; and the reply
+pub record Exchange : Type 0 where
+  pub line : Option (List ℕ)
+  pub taken : List Event
+  pub reply : List ℕ
+
+-- what was taken is that line. Of one that was being skipped nothing may be left
+abbrev pub IsTaken : Option (List ℕ) → List Event → Type 0
+IsTaken (Some shown) taken = taken ≡ Trimmed shown ∷ []
+IsTaken None taken = IsSkip taken
+
+-- what is replied to a line
+abbrev pub Answers : Values → Option (List ℕ) → List ℕ → Values → Type 0
+Answers old (Some line) reply new = (command : Result Command Refusal) × Means line command × Acts old command reply new
+Answers old None reply new = (reply ≡ codes "ERROR long line\n") × Same old new
+
+-- a part of each exchange, joined; the latest is first
+abbrev pub joined : {A : Type 0} → (Exchange → List A) → List Exchange → List A
+joined part [] = []
+joined part (x ∷ earlier) = joined part earlier ++ part x
+
+-- each line is answered, from these values to those
+abbrev pub Converses : Values → List Exchange → Values → Type 0
+Converses old [] new = Same old new
+Converses old (x ∷ earlier) new =
+    (between : Values) × Converses old earlier between × IsTaken x.line x.taken × Answers between x.line x.reply new
+
+-- the text begins with these lines, each is answered, and these are the replies
+pub record RepliesTo (text : List ℕ) (old : Values) (replies : List ℕ) (new : Values) : Type 0 where
+  pub exchanges : List Exchange
+  pub bytes : List ℕ
+  pub more : List ℕ
+  pub all : text ≡ bytes ++ more
+  pub ended : Bool
+  pub cut : CutsInto ended (joined (λ x. x.taken) exchanges) [] bytes
+  pub converses : Converses old exchanges new
+  pub replied : replies ≡ joined (λ x. x.reply) exchanges

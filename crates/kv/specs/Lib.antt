@@ -1,0 +1,4 @@
+pub mod Protocol
+pub mod Stored
+pub mod Exchange
+pub mod Serving

@@ -1,0 +1,133 @@
+-- What a server does.
+use Rattle.std.specs.Prelude.{◌≡◌, ◌⊎◌, ℕ, List, [], ◌∷◌, Option, None, Some, Result, Ok, Err, MatchResult, true, codes}
+use Rattle.std.specs.declared.io.Error.{Error}
+use Rattle.buffer_redux.specs.Buffered.{Buffered}
+use Rattle.buffer_redux.specs.BufWriter.{WritesAlong, FlushedAlong, StoppedAlong}
+use Rattle.buffer_redux.specs.Policy.{std_write_rules}
+use Rattle.buffer_redux.specs.StreamLog.{StreamLog}
+use Rattle.line_reader.specs.declared.error.LineError.TheVariants.{TooLong, Io}
+use Rattle.line_reader.specs.Calls.{LinesAlong}
+use Rattle.line_reader.specs.Lines.{IsLine}
+use Rattle.line_reader.specs.Lining.{Lining, rest}
+use Rattle.line_reader.specs.SkipLine.{NextTrimmed, SkipsLine}
+use Rattle.kv.specs.Exchange.{Answers, Exchange, IsTaken, joined}
+use Rattle.kv.specs.Protocol.{quit_line}
+use Rattle.kv.specs.Stored.{Values}
+use Rattle.kv.specs.declared.serving.Step.{Step}
+use Rattle.kv.specs.declared.serving.Step.TheVariants as step
+use Rattle.kv.specs.declared.serving.Served.{Served}
+use Rattle.kv.specs.declared.serving.Served.TheVariants as served
+
+-- the reader of commands, the values, and the writer of replies
+pub record Server (S T P : Type 0) : Type 0 where
+  pub commands : Lining S
+  pub values : Values
+  pub replies : Buffered T P
+
+abbrev pub server : {S T P : Type 0} → Lining S → Values → Buffered T P → Server S T P
+server commands values replies = record { commands = commands; values = values; replies = replies }
+
+-- all that was replied is received and flushed
+abbrev pub IsSent : {T P : Type 0} → Buffered T P → Type 0
+IsSent w = (w.block.bytes ≡ []) × (w.log.writes.flushed ≡ w.log.writes.received)
+
+-- the stream of commands wasn't asked, or by then all that was replied had been sent
+abbrev pub Waits : {S T P : Type 0} → Lining S → Buffered T P → Lining S → Type 0
+Waits s w t = (t.reader.log ≡ s.reader.log) ⊎ IsSent w
+
+module _ {S : Type 0} (remaining : S → Option (List ℕ)) where
+  -- a line that is too long stands in front, or one was being skipped; and that is skipped, or fails
+  abbrev pub SkipsLong : Lining S → Result ℕ Error → Lining S → Type 0
+  SkipsLong s answer t = (between : Lining S)
+      × (((max : ℕ) × NextTrimmed remaining s (Err (TooLong max)) between) ⊎ ((s.skipping ≡ true) × (s ≡ between)))
+      × SkipsLine remaining between answer t
+
+  -- this line was taken
+  abbrev pub Takes : Lining S → Option (List ℕ) → Lining S → Type 0
+  Takes s (Some line) t = NextTrimmed remaining s (Ok (Some line)) t
+  Takes s None t = (count : ℕ) × SkipsLong s (Ok count) t
+
+  -- what became of the reader at the end
+  abbrev pub EndedBy : Served → List Exchange → Lining S → Lining S → Type 0
+  EndedBy served.Quit exchanges s t =
+      (s ≡ t) × ((x : Exchange) × (earlier : List Exchange) × (exchanges ≡ x ∷ earlier) × (x.line ≡ Some quit_line))
+  EndedBy served.End exchanges s t = NextTrimmed remaining s (Ok None) t
+  EndedBy served.Many exchanges s t = s ≡ t
+
+module _ {S T P : Type 0} (remaining : S → Option (List ℕ)) (tells : T → StreamLog) (stretch : T → T → Type 0) where
+  -- a line was taken, of which no byte is lost, and answered
+  pub record TookLine (s : Server S T P) (x : Exchange) (t : Server S T P) : Type 0 where
+    pub takes : Takes remaining s.commands x.line t.commands
+    pub lines : LinesAlong remaining [] s.commands x.taken [] t.commands
+    pub is : IsTaken x.line x.taken
+    pub answers : Answers s.values x.line x.reply t.values
+    pub along : WritesAlong tells stretch std_write_rules s.replies x.reply t.replies
+
+  -- what a turn does, and by which line it ended
+  abbrev pub Does : Server S T P → Step → Server S T P → Type 0
+  Does s step.Went t = (x : Exchange) × TookLine s x t
+  Does s step.Quit t = (x : Exchange) × TookLine s x t × (x.line ≡ Some quit_line)
+  Does s step.End t =
+      NextTrimmed remaining s.commands (Ok None) t.commands × (s.values ≡ t.values) × (s.replies ≡ t.replies)
+
+  -- what is left of a line that is too long was skipped, and that replied; or one of the two failed
+  abbrev pub AnswersLong : Lining S → Buffered T P → Result Step Error → Lining S → Buffered T P → Type 0
+  AnswersLong s w answer t v = MatchResult answer
+      (λ done. ((count : ℕ) × SkipsLine remaining s (Ok count) t)
+      × WritesAlong tells stretch std_write_rules w (codes "ERROR long line\n") v × (done ≡ step.Went))
+      (λ e. (SkipsLine remaining s (Err e) t × (w ≡ v))
+      ⊎ (((count : ℕ) × SkipsLine remaining s (Ok count) t) × StoppedAlong tells stretch std_write_rules w e v))
+
+  -- a turn fails: no line was taken, as the stream failed, and nothing was done; or the reply to one couldn't be written
+  abbrev pub Fails : Server S T P → Error → Server S T P → Type 0
+  Fails s e t =
+      ((NextTrimmed remaining s.commands (Err (Io e)) t.commands ⊎ SkipsLong remaining s.commands (Err e) t.commands)
+      × (s.values ≡ t.values) × (s.replies ≡ t.replies))
+      ⊎ ((line : Option (List ℕ)) × Takes remaining s.commands line t.commands
+      × StoppedAlong tells stretch std_write_rules s.replies e t.replies)
+
+  -- a turn: it asks for no command where an end of a line is buffered
+  pub record Turns (s : Server S T P) (answer : Result Step Error) (t : Server S T P) : Type 0 where
+    pub quiet : ¬ (IsLine (rest s.commands)) → t.commands.reader.log ≡ s.commands.reader.log
+    pub does : MatchResult answer (λ done. Does s done t) (λ e. Fails s e t)
+
+  -- replies were flushed where need be, and then a line was taken and answered
+  pub record TookTurn (s : Server S T P) (x : Exchange) (t : Server S T P) : Type 0 where
+    pub ready : Buffered T P
+    pub sent : WritesAlong tells stretch std_write_rules s.replies [] ready
+    pub waits : Waits s.commands ready t.commands
+    pub took : TookLine (server s.commands s.values ready) x t
+
+  -- these exchanges, the latest first, one behind another
+  abbrev pub Talked : Server S T P → List Exchange → Server S T P → Type 0
+  Talked s [] t = s ≡ t
+  Talked s (x ∷ earlier) t = (m : Server S T P) × Talked s earlier m × TookTurn m x t
+
+  -- exchanges up to an end, and then no reply more
+  pub record Ends (s : Server S T P) (ended : Served) (t : Server S T P) : Type 0 where
+    pub exchanges : List Exchange
+    pub last : Server S T P
+    pub talked : Talked s exchanges last
+    pub sent : WritesAlong tells stretch std_write_rules last.replies [] t.replies
+    pub waits : Waits last.commands t.replies t.commands
+    pub why : EndedBy remaining ended exchanges last.commands t.commands
+    pub values : last.values ≡ t.values
+
+  -- what serving did: so, and all replies were received and flushed; what was taken are the lines, and no byte was lost
+  pub record Serves (s : Server S T P) (ended : Served) (t : Server S T P) : Type 0 where
+    pub replies : Buffered T P
+    pub ends : Ends s ended (server t.commands t.values replies)
+    pub lines : LinesAlong remaining [] s.commands (joined (λ x. x.taken) ends.exchanges) [] ends.last.commands
+    pub all : FlushedAlong tells stretch std_write_rules s.replies (joined (λ x. x.reply) ends.exchanges) t.replies
+
+  -- serving failed: exchanges, and then a turn failed, or a flush of their replies
+  pub record Stops (s : Server S T P) (e : Error) (t : Server S T P) : Type 0 where
+    pub exchanges : List Exchange
+    pub last : Server S T P
+    pub talked : Talked s exchanges last
+    pub lines : LinesAlong remaining [] s.commands (joined (λ x. x.taken) exchanges) [] last.commands
+    pub ready : Buffered T P
+    pub along : WritesAlong tells stretch std_write_rules s.replies (joined (λ x. x.reply) exchanges) ready
+    pub waits : Waits last.commands ready t.commands
+    pub why : Fails (server last.commands last.values ready) e t
+        ⊎ (StoppedAlong tells stretch std_write_rules ready e t.replies × (last.values ≡ t.values))

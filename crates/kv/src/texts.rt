@@ -1,0 +1,26 @@
+//! A whole text of commands.
+ghost use Rattle.std.specs.Prelude.{IfOk};
+ghost use Rattle.kv.specs.Exchange.{RepliesTo};
+ghost use Rattle.kv.specs.Stored.{value_in};
+
+use crate::command::MAX_LINE;
+use crate::serving::serve;
+use crate::store::Store;
+use buffer_redux::BufWriter;
+use buffer_redux::tell::Told;
+use line_reader::LineReader;
+use std::alloc::Global;
+use std::io;
+
+/// The replies to a text of commands.
+pub fn serve_text(alloc: Global, text: &[u8], store: &mut Store) -> io::Result<Vec<u8>>
+    ensures { IfOk result (λ out. RepliesTo text.now (value_in store.old.map) out.items (value_in store.new.map)) }
+{
+    let mut reader = LineReader::new(alloc, Told::new(text), MAX_LINE)?;
+    let mut writer = BufWriter::new(alloc, Told::new(Vec::new(alloc)))?;
+    serve(alloc, &mut reader, &mut writer, store)?;
+    match writer.into_inner() {
+        Ok(inner) => Ok(inner.into_inner()),
+        Err(e) => Err(io::Error::from(e)),
+    }
+}
