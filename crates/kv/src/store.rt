@@ -1,6 +1,7 @@
 //! Entries, at most so many.
 
-ghost use Rattle.std.specs.Prelude.{◌≡◌, ◌≤◌, ◌<◌, ◌↔◌, List, ℕ, None, Some, IsTrue, IsSome, OnOk, OnErr, IfErr, IfSome, IfNone};
+ghost use Rattle.std.specs.Prelude.{◌≡◌, ◌≤◌, ◌<◌, ◌↔◌, List, ℕ, None, Some, Err, IsTrue, IsSome, OnOk, OnErr, IfErr, IfSome, IfNone};
+ghost use Rattle.std.specs.HashMap.{hash_map_len};
 ghost use Rattle.kv.specs.Stored.{Puts, Same, value_in};
 
 use std::alloc::Global;
@@ -48,6 +49,8 @@ impl Store {
     pub fn set(&mut self, alloc: Global, key: &[u8], value: &[u8]) -> Result<(), Full>
         ensures put { OnOk result (Puts key.now (Some value.now) (value_in self.old.map) (value_in self.new.map)) }
         ensures same { OnErr result (Same (value_in self.old.map) (value_in self.new.map)) }
+        ensures full { result ≡ Err Full.Entries → (self.old.most ≤ hash_map_len self.old.map)
+            × (value_in self.old.map key.now ≡ None) }
     {
         if self.map.len() >= self.most && !self.map.contains_key(key) {
             return Err(Full::Entries);
