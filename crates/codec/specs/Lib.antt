@@ -24,6 +24,8 @@ pub mod RunsLaws
 pub mod Scanning
 pub mod ScanningLaws
 pub mod Steps
+pub mod TextHeads
+pub mod TextHeadsLaws
 pub mod TextLaws
 pub mod Texts
 pub mod WritePiece

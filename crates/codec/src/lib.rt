@@ -22,6 +22,7 @@ pub mod laws;
 mod number;
 mod reader;
 mod scan;
+mod text_head;
 mod writer;
 
 pub use both::{Codec, written_text};
@@ -38,4 +39,5 @@ pub use heading::Heading;
 pub use number::Number;
 pub use reader::PieceReader;
 pub use scan::{ByScan, Scan, Turn};
+pub use text_head::{ByText, Place, TextHead};
 pub use writer::PieceWriter;

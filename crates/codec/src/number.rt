@@ -1,8 +1,6 @@
 //! Numbers in heads that are text.
 ghost use Rattle.std.specs.Prelude.{◌≡◌};
-ghost use Rattle.codec.specs.Number.{number_of, with_byte, until};
-
-use crate::scan::Turn;
+ghost use Rattle.codec.specs.Number.{with_byte};
 
 // A number of so many or more takes no further digit.
 const MOST: usize = 100_000_000_000_000_000;
@@ -35,28 +33,6 @@ impl Number {
                     Some(Number::Is(10 * value + digit))
                 }
             }
-        }
-    }
-
-    /// A head that is digits up to this end: `Sized` where the byte is the end and a digit came before.
-    #[inline(always)]
-    pub fn until(self, end: u8, byte: u8) -> Turn<Number>
-        ensures { result ≡ until self end byte }
-    {
-        match self.with(byte) {
-            Some(more) => Turn::More(more),
-            None => self.ended(byte == end),
-        }
-    }
-
-    // What no digit makes of it, which is the end or isn't.
-    #[inline(always)]
-    fn ended(self, end: bool) -> Turn<Number>
-        ensures { result ≡ number_of self end }
-    {
-        match self {
-            Number::Is(value) => { if end { Turn::Sized(value) } else { Turn::Bad } }
-            Number::Empty => Turn::Bad,
         }
     }
 }

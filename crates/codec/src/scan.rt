@@ -82,7 +82,7 @@ impl<S: Scan> Headed for ByScan<S> {
 }
 
 // Goes on by these bytes, of which at most `left` may be the head's, behind `used` that are.
-fn scan_head<S: Scan>(
+pub(crate) fn scan_head<S: Scan>(
     protocol: &S,
     bytes: &[u8],
     left: usize,

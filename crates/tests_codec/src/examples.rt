@@ -1,6 +1,11 @@
 //! The examples of the documentation.
+use crate::packets::Packets;
 use buffer_redux::tell::Told;
-use codec::{Delimited, NextError, NotPlain, PieceReader, PieceWriter, TooLong, WritePieceError};
+use codec::{
+    ByHead, ByScan, ByText, Delimited, NextError, NotPlain, PieceReader, PieceWriter, TooLong,
+    WritePieceError,
+};
+use decoders::{BulkStrings, Lengths, Netstrings, Order, Width};
 use std::test::Fail;
 
 #[test]
@@ -57,4 +62,54 @@ fn piece_writer(rt: HostRuntime) -> Result<(), Fail> {
     writer.flush()?;
     assert!(rt; writer.get_ref().get_ref().as_slice() == b"hi\n".as_slice());
     Ok(drop(writer))
+}
+
+#[test]
+fn netstrings(rt: HostRuntime) -> Result<(), Fail> {
+    let alloc = rt.alloc();
+    let netstrings = ByHead(ByText(Netstrings { max: 100 }));
+    let stream = Told::new(b"2:hi,0:,".as_slice());
+    let mut reader = PieceReader::new(alloc, stream, netstrings)?;
+    assert!(rt; matches!(reader.next(), Ok(Some(b"hi"))));
+    assert!(rt; matches!(reader.next(), Ok(Some(b""))));
+    assert!(rt; matches!(reader.next(), Ok(None)));
+    Ok(drop(reader))
+}
+
+#[test]
+fn bulk_strings(rt: HostRuntime) -> Result<(), Fail> {
+    let alloc = rt.alloc();
+    let strings = ByHead(ByText(BulkStrings { max: 100 }));
+    let stream = Told::new(b"$2\r\nhi\r\n".as_slice());
+    let mut reader = PieceReader::new(alloc, stream, strings)?;
+    assert!(rt; matches!(reader.next(), Ok(Some(b"hi"))));
+    assert!(rt; matches!(reader.next(), Ok(None)));
+    Ok(drop(reader))
+}
+
+#[test]
+fn lengths(rt: HostRuntime) -> Result<(), Fail> {
+    let alloc = rt.alloc();
+    let lengths = Lengths {
+        width: Width::Two,
+        order: Order::BigEndian,
+        max: 100,
+    };
+    let stream = Told::new(b"\x00\x02hi\x00\x00".as_slice());
+    let mut reader = PieceReader::new(alloc, stream, ByHead(lengths))?;
+    assert!(rt; matches!(reader.next(), Ok(Some(b"hi"))));
+    assert!(rt; matches!(reader.next(), Ok(Some(b""))));
+    assert!(rt; matches!(reader.next(), Ok(None)));
+    Ok(drop(reader))
+}
+
+#[test]
+fn packets(rt: HostRuntime) -> Result<(), Fail> {
+    let alloc = rt.alloc();
+    let stream = Told::new(b"0006a\n0005b".as_slice());
+    let mut reader = PieceReader::new(alloc, stream, ByHead(ByScan(Packets)))?;
+    assert!(rt; matches!(reader.next(), Ok(Some(b"a\n"))));
+    assert!(rt; matches!(reader.next(), Ok(Some(b"b"))));
+    assert!(rt; matches!(reader.next(), Ok(None)));
+    Ok(drop(reader))
 }

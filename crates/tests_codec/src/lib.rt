@@ -3,8 +3,11 @@
 
 #[cfg(test)]
 mod examples;
+pub mod packets;
 #[cfg(test)]
 mod pieces;
+#[cfg(test)]
+mod ready;
 #[cfg(test)]
 mod sweep;
 #[cfg(test)]

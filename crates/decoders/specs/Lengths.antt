@@ -1,0 +1,39 @@
+-- Lengths in bytes.
+use Rattle.std.specs.Prelude.{ℕ, List, [], length, take, nat_lt, if◌then◌else◌}
+use Rattle.std.specs.Int.{w8, w16, w32, w64, from_be_bytes, from_le_bytes}
+use Rattle.codec.specs.Headings.{Headings}
+use Rattle.codec.specs.declared.heading.Heading.TheVariants.{Short, Sized}
+use Rattle.decoders.specs.declared.lengths.Order.{Order}
+use Rattle.decoders.specs.declared.lengths.Order.TheVariants.{BigEndian, LittleEndian}
+use Rattle.decoders.specs.declared.lengths.Width.{Width}
+use Rattle.decoders.specs.declared.lengths.Width.TheVariants.{One, Two, Four, Eight}
+
+-- how many bytes
+abbrev pub size_of : Width → ℕ
+size_of One = 1
+size_of Two = 2
+size_of Four = 4
+size_of Eight = 8
+
+-- the number that these bytes are
+abbrev pub number_of_all : Width → Order → List ℕ → ℕ
+number_of_all One BigEndian bytes = from_be_bytes w8 bytes
+number_of_all Two BigEndian bytes = from_be_bytes w16 bytes
+number_of_all Four BigEndian bytes = from_be_bytes w32 bytes
+number_of_all Eight BigEndian bytes = from_be_bytes w64 bytes
+number_of_all One LittleEndian bytes = from_le_bytes w8 bytes
+number_of_all Two LittleEndian bytes = from_le_bytes w16 bytes
+number_of_all Four LittleEndian bytes = from_le_bytes w32 bytes
+number_of_all Eight LittleEndian bytes = from_le_bytes w64 bytes
+
+-- the number that so many bytes in front are
+abbrev pub number_of : Width → Order → List ℕ → ℕ
+number_of width order bytes = number_of_all width order (take (size_of width) bytes)
+
+abbrev pub lengths : Width → Order → ℕ → Headings
+lengths width order max = record {
+  heading = λ bytes. if nat_lt (length bytes) (size_of width) then Short else Sized (number_of width order bytes) (size_of width);
+  most_head = size_of width;
+  max = max;
+  tail = [];
+}

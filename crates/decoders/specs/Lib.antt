@@ -1,0 +1,5 @@
+pub mod Lengths
+pub mod LengthsLaws
+pub mod Limits
+pub mod TextWords
+pub mod TextWordsLaws

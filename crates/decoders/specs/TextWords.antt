@@ -1,0 +1,11 @@
+-- Which bytes stand around a length in text.
+use Rattle.std.specs.Prelude.{ℕ, [], ◌∷◌}
+use Rattle.codec.specs.TextHeads.{Words}
+
+-- a colon behind the length, and a comma behind the payload
+abbrev pub netstrings : ℕ → Words
+netstrings max = record { before = []; after = 58 ∷ []; tail = 44 ∷ []; max = max }
+
+-- a dollar sign before the length, and CR and LF behind it and behind the payload
+abbrev pub bulk_strings : ℕ → Words
+bulk_strings max = record { before = 36 ∷ []; after = 13 ∷ 10 ∷ []; tail = 13 ∷ 10 ∷ []; max = max }

@@ -1,0 +1,12 @@
+-- They are few.
+use Rattle.std.specs.Prelude.{ℕ}
+use Rattle.std.proofs.Common.{arith}
+use Rattle.codec.specs.TextHeads.{IsSound}
+use Rattle.decoders.specs.Limits.{IsSmall}
+use Rattle.decoders.specs.TextWords.{bulk_strings, netstrings}
+
+pub netstrings_sound : (max : ℕ) → IsSmall max → IsSound (netstrings max)
+netstrings_sound max fits = record { some = omega arith; small = omega (arith, fits) }
+
+pub bulk_strings_sound : (max : ℕ) → IsSmall max → IsSound (bulk_strings max)
+bulk_strings_sound max fits = record { some = omega arith; small = omega (arith, fits) }

@@ -1,0 +1,138 @@
+//! Pieces whose payload has its length in front, in bytes.
+ghost use Rattle.std.specs.Prelude.{◌≡◌, ◌≤◌, length};
+ghost use Rattle.decoders.specs.Lengths.{number_of, size_of};
+ghost use Rattle.decoders.specs.Limits.{IsSmall};
+ghost use Rattle.decoders.specs.declared.lengths.Order.TheVariants as Order;
+
+use codec::{Headed, Heading};
+
+/// How many bytes a length takes.
+#[derive(Clone, Copy, Debug, PartialEq, Eq, Drop)]
+pub enum Width {
+    /// One byte.
+    One,
+    /// Two bytes.
+    Two,
+    /// Four bytes.
+    Four,
+    /// Eight bytes.
+    Eight,
+}
+
+/// Which byte of a length comes first.
+#[derive(Clone, Copy, Debug, PartialEq, Eq, Drop)]
+pub enum Order {
+    /// The highest, as in the order of networks.
+    BigEndian,
+    /// The lowest.
+    LittleEndian,
+}
+
+/// Payloads of at most `max` bytes, each behind its length. The length doesn't count its own bytes.
+///
+/// ```
+/// let lengths = Lengths {
+///     width: Width::Two,
+///     order: Order::BigEndian,
+///     max: 100,
+/// };
+/// let stream = Told::new(b"\x00\x02hi\x00\x00".as_slice());
+/// let mut reader = PieceReader::new(alloc, stream, ByHead(lengths))?;
+/// assert!(rt; matches!(reader.next(), Ok(Some(b"hi"))));
+/// assert!(rt; matches!(reader.next(), Ok(Some(b""))));
+/// assert!(rt; matches!(reader.next(), Ok(None)));
+/// ```
+#[derive(Clone, Copy, Debug, Drop)]
+pub struct Lengths {
+    pub width: Width,
+    pub order: Order,
+    pub max: usize,
+    pub ghost fits: { IsSmall max },
+}
+
+impl Headed for Lengths {
+    ghost use Rattle.decoders.specs.Lengths.{lengths};
+    ghost use Rattle.decoders.specs.LengthsLaws.{lengths_heads};
+
+    ghost headings = { λ d. lengths d.width d.order d.max };
+
+    #[inline(always)]
+    fn heading(&self, bytes: &[u8]) -> Heading {
+        let size = self.width.size();
+        if bytes.len() < size {
+            return Heading::Short;
+        }
+        let len = match self.order {
+            Order::BigEndian => highest_first(self.width, bytes),
+            Order::LittleEndian => lowest_first(self.width, bytes),
+        };
+        Heading::Sized(len, size)
+    }
+
+    fn most_head(&self) -> usize {
+        self.width.size()
+    }
+
+    #[inline(always)]
+    fn max(&self) -> usize {
+        self.max
+    }
+
+    #[inline(always)]
+    fn tail(&self) -> &[u8] {
+        b""
+    }
+
+    ghost heads = { λ d. lengths_heads d.width d.order d.max d.fits };
+}
+
+impl Width {
+    /// The same as a number.
+    #[inline(always)]
+    pub fn size(self) -> usize
+        ensures { result ≡ size_of self }
+    {
+        match self {
+            Width::One => 1,
+            Width::Two => 2,
+            Width::Four => 4,
+            Width::Eight => 8,
+        }
+    }
+}
+
+// The length that the bytes begin with.
+#[inline(always)]
+fn highest_first(width: Width, bytes: &[u8]) -> usize
+    requires { size_of width ≤ length bytes.now }
+    ensures { result ≡ number_of width Order.BigEndian bytes.now }
+{
+    match width {
+        Width::One => usize::from(u8::from_be_bytes([bytes[0]])),
+        Width::Two => usize::from(u16::from_be_bytes([bytes[0], bytes[1]])),
+        Width::Four => { u32::from_be_bytes([bytes[0], bytes[1], bytes[2], bytes[3]]) as usize }
+        Width::Eight => {
+            u64::from_be_bytes([
+                bytes[0], bytes[1], bytes[2], bytes[3], bytes[4], bytes[5], bytes[6], bytes[7],
+            ]) as usize
+        }
+    }
+}
+
+// The same where the lowest byte comes first.
+#[inline(always)]
+fn lowest_first(width: Width, bytes: &[u8]) -> usize
+    requires { size_of width ≤ length bytes.now }
+    ensures { result ≡ number_of width Order.LittleEndian bytes.now }
+{
+    match width {
+        Width::One => usize::from(u8::from_le_bytes([bytes[0]])),
+        Width::Two => usize::from(u16::from_le_bytes([bytes[0], bytes[1]])),
+        Width::Four => { u32::from_le_bytes([bytes[0], bytes[1], bytes[2], bytes[3]]) as usize }
+        Width::Eight => {
+            u64::from_le_bytes([
+                bytes[0], bytes[1], bytes[2], bytes[3], bytes[4], bytes[5], bytes[6], bytes[7],
+            ]) as usize
+        }
+    }
+}

@@ -1,0 +1,87 @@
+//! Packet lines, as git has them: four digits in hexadecimal say how long a packet is, themselves among it.
+ghost use Rattle.std.specs.Prelude.{◌≡◌};
+ghost use Rattle.tests_codec.specs.Packets.{behind, digit_of};
+
+use codec::{Scan, Turn};
+
+/// Where a head stands: behind these digits.
+#[derive(Clone, Copy, Debug, Drop)]
+pub enum Place {
+    None,
+    One(u8),
+    Two(u8, u8),
+    Three(u8, u8, u8),
+}
+
+/// Packets of the greatest length that git sends.
+#[derive(Clone, Copy, Debug, Drop)]
+pub struct Packets;
+
+impl Scan for Packets {
+    ghost use Rattle.tests_codec.specs.Packets.{packets};
+    ghost use Rattle.tests_codec.specs.PacketsLaws.{packets_small};
+
+    type State = Place;
+
+    ghost scanning = { λ _. packets };
+
+    fn start(&self) -> Place {
+        Place::None
+    }
+
+    fn turn(&self, place: Place, byte: u8) -> Turn<Place> {
+        match digit(byte) {
+            Some(digit) => with_digit(place, digit),
+            None => Turn::Bad,
+        }
+    }
+
+    fn most_head(&self) -> usize {
+        4
+    }
+
+    fn max(&self) -> usize {
+        65516
+    }
+
+    fn tail(&self) -> &[u8] {
+        b""
+    }
+
+    ghost small = { λ _. packets_small };
+}
+
+// The digit that a byte is.
+fn digit(byte: u8) -> Option<u8>
+    ensures { result ≡ digit_of byte }
+{
+    if byte > 47 && byte < 58 {
+        Some(byte - 48)
+    } else if byte > 96 && byte < 103 {
+        Some(byte - 87)
+    } else {
+        None
+    }
+}
+
+// Behind one more digit.
+fn with_digit(place: Place, digit: u8) -> Turn<Place>
+    ensures { result ≡ behind place digit }
+{
+    match place {
+        Place::None => Turn::More(Place::One(digit)),
+        Place::One(a) => Turn::More(Place::Two(a, digit)),
+        Place::Two(a, b) => Turn::More(Place::Three(a, b, digit)),
+        Place::Three(a, b, c) => {
+            let all = 4096 * usize::from(a)
+                + 256 * usize::from(b)
+                + 16 * usize::from(c)
+                + usize::from(digit);
+            if all < 4 {
+                Turn::Bad
+            } else {
+                Turn::Sized(all - 4)
+            }
+        }
+    }
+}
