@@ -2,8 +2,9 @@
 """Counts the rows that the program `replay` is run on, and sees that none is lost.
 
 A line that begins with `#` in crates/replay/stdin names the row below it, whose lines end at the next name. tests/rows.txt has
-each name with how many lines it has, in order; the names stand in stdout at the same places.
+each name with how many lines it has, in order; the names stand in stdout at the same places. No line of stdin stands twice.
 """
+import collections
 import pathlib
 import sys
 
@@ -45,6 +46,8 @@ def main():
         wrong += [f"{what}: rows.txt doesn't want {count} lines: {name}" for name, count in rows if (name, count) not in demanded]
         names = [name for name, _ in rows]
         wrong += [f"{what}: twice: {name}" for name in sorted(set(names)) if names.count(name) > 1]
+    played = [line for line in lines_of("crates/replay/stdin") if not line.startswith("# ")]
+    wrong += [f"stdin: a line that stands twice: {line}" for line, count in collections.Counter(played).items() if count > 1]
     if not wrong and not asked == answered == demanded:
         wrong.append("the rows of stdin, stdout and rows.txt come in another order")
     lines = sum(count for _, count in asked)

@@ -204,6 +204,9 @@ run_replay() {
     gives '' 'writer ring 4 std | 3 | - | L\n' 'line 1: `3` is no number of bytes for a source\n' 2
     gives '' 'reader plain 4 std | 3 | a e:Rust | F\n' 'line 1: `e:Rust` is no answer of a stream\n' 2
     gives '' 'reader plain 4 std | 3 | - | F W3\n' 'line 1: `W3` is no call\n' 2
+    gives '' 'writer plain 4 std | 0 | - | w0\n' 'line 1: `w0` is no call\n' 2
+    gives '' 'writer plain 4 std | 0 | - | w0G\n' 'line 1: `w0G` is no call\n' 2
+    gives '' 'writer plain 4 std | 0 | - | U W1\n' 'line 1: `U` is no call\n' 2
     gives '' 'reader plain 4 std | 3 | - | R18446744073709551615\n' 'line 1: not enough memory\n' 2
     gives '' 'sweep\n' 'line 1: not four parts\n' 2
     gives '' 'sweep lossy reader plain 4 std | 3 | - | F\n' 'line 1: `lossy reader plain 4 std` is no buffered stream\n' 2

@@ -1,5 +1,6 @@
 -- What the words of a line stand for.
 use Rattle.std.specs.Prelude.{◌≡◌, ℕ, List, [], take, drop, codes}
+use Rattle.std.specs.Io.{StartsWith}
 use Rattle.std.specs.Str.Parse.{digits_value}
 use Rattle.programs.specs.Words.{IsNumber}
 use Rattle.redux_play.specs.declared.play.ReaderCall.{ReaderCall}
@@ -34,6 +35,7 @@ IsReaderWord (Reserve n) word = IsSized (codes "V") n word
 abbrev pub IsWriterWord : WriterWord → List ℕ → Type 0
 IsWriterWord (writer.CountFrom n) word = IsSized (codes "@") n word
 IsWriterWord (writer.Write n) word = IsSized (codes "W") n word
+IsWriterWord (writer.WriteThese bytes) word = StartsWith word (codes "w")
 IsWriterWord writer.Flush word = word ≡ codes "L"
 IsWriterWord writer.MakeRoom word = word ≡ codes "M"
 IsWriterWord (writer.Reserve n) word = IsSized (codes "V") n word

@@ -52,12 +52,13 @@ pub enum WriterRule {
     Newline,
 }
 
-/// A call of a writer, with how many bytes a write offers.
-#[derive(Clone, Copy)]
+/// A call of a writer, with how many bytes a write offers, or which.
+#[derive(Drop)]
 pub enum WriterWord {
     /// No call: what is written next counts up from this number, modulo 256.
     CountFrom(usize),
     Write(usize),
+    WriteThese(Vec<u8>),
     Flush,
     MakeRoom,
     Reserve(usize),
@@ -82,4 +83,6 @@ pub struct WriterCase {
     pub rule: WriterRule,
     pub script: Vec<Answer>,
     pub calls: Vec<WriterWord>,
+    /// Whether an `into_inner` comes behind them.
+    pub unwraps: bool,
 }

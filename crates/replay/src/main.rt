@@ -9,14 +9,18 @@
 //! 3. What the stream inside answers, `-` for nothing: `a` gives or takes all, a number at most so many bytes, `z` is `Ok(0)`,
 //!    `i` an `Interrupted`, `e:KIND` an error. Behind that each call gives or takes all.
 //! 4. The calls: `Rn` reads n bytes, `F` fills, `Cn` consumes n, `I` reads into the buffer, `Wn` writes n bytes, which count up
-//!    from one write to the next, `L` flushes, `M` makes room, `Vn` reserves n. `@N` is no call: the next write counts from N.
+//!    from one write to the next, `wHEX` these bytes, `L` flushes, `M` makes room, `Vn` reserves n, and `U`, the last of a writer,
+//!    is `into_inner`, behind whose Ok no buffer is left. `@N` is no call: the next write counts from N.
+//!
+//! All calls but `U` are played as one list.
 //!
 //! `sweep` in front of a line plays it again and again: with no call of the stream inside going wrong, and with each of them in
-//! turn, by `e:Other`, `i`, `i65` (65 times `i`), `z` and `1`. After each run what was handed out, and then what is buffered, is
-//! compared with what was held, and then given; of a writer what was received, and then what is buffered, with what was held,
-//! and then accepted; and the kind of each error, but for a refused growth, with the stream's own. The line of answers is `kept`,
-//! or what is wrong first, as `lost at call 0 by i`: `lost` of bytes, `untold` of errors, `no end` past 1000 calls. `lossy` does
-//! the same, and the call behind the one that goes wrong loses a byte, so that `lost` can be seen.
+//! turn, by `e:Other`, `i`, `i65` (65 times `i`), `z` and `1`; those of a writer are played one by one. After each run what was
+//! handed out, and then what is buffered, is compared with what was held, and then given; of a writer what was received, and then
+//! what is buffered, with what was held, and then accepted; and the kind of each error, but for a refused growth, with the
+//! stream's own. The line of answers is `kept`, or what is wrong first, as `lost at call 0 by i`: `lost` of bytes, `untold` of
+//! errors, `no end` past 1000 calls. `lossy` does the same, and the call behind the one that goes wrong loses a byte, so that
+//! `lost` can be seen.
 //!
 //! The line of answers has else:
 //!

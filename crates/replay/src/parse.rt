@@ -2,7 +2,7 @@
 use crate::case::{
     Case, Kind, ReaderCase, ReaderRule, Storage, WriterCase, WriterRule, WriterWord,
 };
-use crate::words::{answer, reader_call, writer_call};
+use crate::words::{answer, hex_bytes, reader_call, writer_call};
 use buffer_redux::script::Answer;
 use programs::number;
 use redux_play::play::ReaderCall;
@@ -86,12 +86,16 @@ pub fn case(alloc: Global, line: &str) -> Result<Case, Unread<'_>> {
         })),
         // A writer has no source.
         Some(Stream::Writer(_, _)) if count > 0 => Err(Unread::Source(source)),
-        Some(Stream::Writer(storage, rule)) => Ok(Case::Writer(WriterCase {
-            storage,
-            rule,
-            script,
-            calls: writer_calls(alloc, calls)?,
-        })),
+        Some(Stream::Writer(storage, rule)) => {
+            let (calls, unwraps) = unwrapping(calls);
+            Ok(Case::Writer(WriterCase {
+                storage,
+                rule,
+                script,
+                calls: writer_calls(alloc, calls)?,
+                unwraps,
+            }))
+        }
         None => Err(Unread::Stream(stream)),
     }
 }
@@ -171,10 +175,26 @@ fn reader_calls(alloc: Global, text: &str) -> Result<Vec<ReaderCall>, Unread<'_>
     Ok(calls)
 }
 
+// The calls without an `into_inner` behind them, and whether there is one.
+fn unwrapping(text: &str) -> (&str, bool) {
+    match text.strip_suffix('U') {
+        Some(calls) if calls.is_empty() || calls.ends_with(' ') => (calls, true),
+        _ => (text, false),
+    }
+}
+
 fn writer_calls(alloc: Global, text: &str) -> Result<Vec<WriterWord>, Unread<'_>> {
     let mut calls = Vec::new(alloc);
     for word in text.split_whitespace() {
-        calls.push(writer_call(word).ok_or(Unread::Call(word))?)?;
+        calls.push(writer_word(alloc, word)?)?;
     }
     Ok(calls)
+}
+
+fn writer_word(alloc: Global, word: &str) -> Result<WriterWord, Unread<'_>> {
+    if let Some(digits) = word.strip_prefix('w') {
+        let bytes = hex_bytes(alloc, digits)?.ok_or(Unread::Call(word))?;
+        return Ok(WriterWord::WriteThese(bytes));
+    }
+    writer_call(word).ok_or(Unread::Call(word))
 }

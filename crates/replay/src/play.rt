@@ -23,7 +23,7 @@ pub struct Outcome {
     pub whole: Vec<u8>,
     /// The kinds of the errors that the calls returned.
     pub returned: Vec<ErrorKind>,
-    /// The kinds that the stream inside returned for these.
+    /// The kinds that the stream inside returned for these. Of a writer it is told of one call at a time.
     pub caused: Vec<ErrorKind>,
 }
 
@@ -54,11 +54,16 @@ impl<T: Drop> From<AllocFailed<T>> for Unplayed {
     }
 }
 
-/// Plays a case over a stream of which one call may go wrong.
-pub fn play_case(alloc: Global, case: &Case, fault: Fault) -> Result<Outcome, Unplayed> {
+/// Plays a case over a stream of which one call may go wrong, a writer's by so many calls at once.
+pub fn play_case(
+    alloc: Global,
+    case: &Case,
+    fault: Fault,
+    at_once: usize,
+) -> Result<Outcome, Unplayed> {
     match case {
         Case::Reader(case) => reads(alloc, case, fault),
-        Case::Writer(case) => writes(alloc, case, fault),
+        Case::Writer(case) => writes(alloc, case, fault, at_once),
     }
 }
 

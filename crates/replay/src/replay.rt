@@ -76,7 +76,7 @@ fn played(alloc: Global, line: &str) -> Result<String, Unread<'_>> {
     let (mode, line) = mode(line);
     let case = case(alloc, line)?;
     let answer = match mode {
-        Mode::Once => play_case(alloc, &case, Fault::NONE).map(|played| played.line),
+        Mode::Once => play_case(alloc, &case, Fault::NONE, usize::MAX).map(|played| played.line),
         Mode::Sweep => sweep(alloc, &case, false),
         Mode::LossySweep => sweep(alloc, &case, true),
     };

@@ -41,7 +41,7 @@ fn wrong_by(
             answer,
             loses,
         };
-        let outcome = play_case(alloc, case, fault)?;
+        let outcome = play_case(alloc, case, fault, 1)?;
         if let Some(wrong) = wrong_in(&outcome) {
             return Ok(Some((wrong, before)));
         }

@@ -6,6 +6,7 @@ use crate::case::{Mode, WriterWord};
 use buffer_redux::script::Answer;
 use programs::number;
 use redux_play::play::ReaderCall;
+use std::alloc::{AllocError, Global};
 use std::io::ErrorKind;
 
 /// How the case of a line is to be played, and the line without the word for that.
@@ -59,6 +60,29 @@ pub fn writer_call(word: &str) -> Option<WriterWord>
             ("V", n) => Some(WriterWord::Reserve(n)),
             _ => None,
         },
+    }
+}
+
+/// The bytes that these pairs of digits stand for, if they are that.
+pub fn hex_bytes(alloc: Global, digits: &str) -> Result<Option<Vec<u8>>, AllocError> {
+    let mut bytes = Vec::new(alloc);
+    for pair in digits.as_bytes().chunks(2) {
+        let [high, low] = pair else {
+            return Ok(None);
+        };
+        match (hex_digit(*high), hex_digit(*low)) {
+            (Some(high), Some(low)) => bytes.push(high.wrapping_mul(16) | low)?,
+            _ => return Ok(None),
+        }
+    }
+    Ok(Some(bytes))
+}
+
+fn hex_digit(digit: u8) -> Option<u8> {
+    match digit {
+        b'0'..=b'9' => Some(digit - b'0'),
+        b'a'..=b'f' => Some(digit - b'a' + 10),
+        _ => None,
     }
 }
 

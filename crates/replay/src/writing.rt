@@ -8,7 +8,7 @@ use buffer_redux::policy::{
 };
 use buffer_redux::script::ScriptWriter;
 use buffer_redux::tell::{TellWrite, Told};
-use buffer_redux::{BufWriter, Buffer};
+use buffer_redux::{BufWriter, Buffer, IntoInnerError};
 use redux_play::play::{WriterAnswer, WriterCall, WriterRun, play_writer};
 use std::alloc::{AllocError, Global};
 use std::io::ErrorKind;
@@ -24,23 +24,89 @@ struct Record {
     // The kinds of the errors that were returned, and of those that the target had returned last in these calls.
     returned: Vec<ErrorKind>,
     caused: Vec<ErrorKind>,
-    // How many errors the target had returned by the call before.
+    // How many errors the target had returned, and how many answers there were, by then.
     seen: usize,
-    // What is written next counts up from this number.
-    next: u8,
+    answered: usize,
 }
 
-/// Plays a case of a writer over a target of which one call may go wrong.
-pub fn writes(alloc: Global, case: &WriterCase, fault: Fault) -> Result<Outcome, Unplayed> {
+/// Plays a case of a writer over a target of which one call may go wrong, by so many calls at once.
+pub fn writes(
+    alloc: Global,
+    case: &WriterCase,
+    fault: Fault,
+    at_once: usize,
+) -> Result<Outcome, Unplayed> {
     let buffer = first_buffer(alloc, case.storage)?;
     let mut record = Record::new(alloc, buffer.buf())?;
-    let (target, buffer) = under_rule(
-        alloc,
-        writer(alloc, case, fault, buffer)?,
-        case,
-        &mut record,
-    )?;
+    let offers = offers(alloc, case.calls.as_slice(), low_byte(buffer.len()))?;
+    let calls = calls(alloc, case.calls.as_slice(), offers.as_slice())?;
+    let writer = writer(alloc, case, fault, buffer)?;
+    let listed = Listed {
+        calls: calls.as_slice(),
+        at_once,
+        unwraps: case.unwraps,
+    };
+    let (target, buffer) = under_rule(alloc, writer, case.rule, listed, &mut record)?;
     Ok(outcome(alloc, record, target.get_ref(), &buffer)?)
+}
+
+// Calls, by how many at once they are played, and whether an `into_inner` follows.
+#[derive(Clone, Copy)]
+struct Listed<'a> {
+    calls: &'a [WriterCall<'a>],
+    at_once: usize,
+    unwraps: bool,
+}
+
+// What each word offers, if it is a write. What counts up goes on from one write to the next.
+fn offers(alloc: Global, words: &[WriterWord], first: u8) -> Result<Vec<Vec<u8>>, AllocError> {
+    let mut next = first;
+    let mut offers = Vec::new(alloc);
+    for word in words {
+        offers.push(offer(alloc, word, &mut next)?)?;
+    }
+    Ok(offers)
+}
+
+fn offer(alloc: Global, word: &WriterWord, next: &mut u8) -> Result<Vec<u8>, AllocError> {
+    let first = *next;
+    match word {
+        WriterWord::CountFrom(n) => {
+            *next = low_byte(*n);
+            Ok(Vec::new(alloc))
+        }
+        WriterWord::Write(n) => {
+            *next = first.wrapping_add(low_byte(*n));
+            counting(alloc, first, *n)
+        }
+        WriterWord::WriteThese(bytes) => Vec::from_slice(alloc, bytes.as_slice()),
+        _ => Ok(Vec::new(alloc)),
+    }
+}
+
+fn calls<'a>(
+    alloc: Global,
+    words: &[WriterWord],
+    offers: &'a [Vec<u8>],
+) -> Result<Vec<WriterCall<'a>>, AllocError> {
+    let mut calls = Vec::new(alloc);
+    for (word, bytes) in words.iter().zip(offers) {
+        if let Some(call) = call_of(word, bytes.as_slice()) {
+            calls.push(call)?;
+        }
+    }
+    Ok(calls)
+}
+
+// The call that a word asks for, with these bytes for a write.
+fn call_of<'a>(word: &WriterWord, bytes: &'a [u8]) -> Option<WriterCall<'a>> {
+    match word {
+        WriterWord::CountFrom(_) => None,
+        WriterWord::Write(_) | WriterWord::WriteThese(_) => Some(WriterCall::Write(bytes)),
+        WriterWord::Flush => Some(WriterCall::Flush),
+        WriterWord::MakeRoom => Some(WriterCall::MakeRoom),
+        WriterWord::Reserve(n) => Some(WriterCall::Reserve(*n)),
+    }
 }
 
 fn writer(
@@ -78,16 +144,16 @@ fn outcome(
 fn under_rule(
     alloc: Global,
     writer: BufWriter<Told<Target>>,
-    case: &WriterCase,
+    rule: WriterRule,
+    listed: Listed<'_>,
     record: &mut Record,
-) -> Result<(Told<Target>, Buffer), AllocError> {
-    let words = case.calls.as_slice();
-    match case.rule {
-        WriterRule::Std => played(alloc, writer, StdPolicy, words, record),
-        WriterRule::AtLeast(n) => played(alloc, writer, FlushAtLeast(n), words, record),
-        WriterRule::Exact(n) => played(alloc, writer, FlushExact(n), words, record),
-        WriterRule::On(byte) => played(alloc, writer, FlushOn(byte), words, record),
-        WriterRule::Newline => played(alloc, writer, FlushOnNewline, words, record),
+) -> Result<(Told<Target>, Buffer), Unplayed> {
+    match rule {
+        WriterRule::Std => played(alloc, writer, StdPolicy, listed, record),
+        WriterRule::AtLeast(n) => played(alloc, writer, FlushAtLeast(n), listed, record),
+        WriterRule::Exact(n) => played(alloc, writer, FlushExact(n), listed, record),
+        WriterRule::On(byte) => played(alloc, writer, FlushOn(byte), listed, record),
+        WriterRule::Newline => played(alloc, writer, FlushOnNewline, listed, record),
     }
 }
 
@@ -96,46 +162,45 @@ fn played<P: WriterPolicy + Drop>(
     alloc: Global,
     writer: BufWriter<Told<Target>>,
     policy: P,
-    words: &[WriterWord],
+    listed: Listed<'_>,
     record: &mut Record,
-) -> Result<(Told<Target>, Buffer), AllocError> {
+) -> Result<(Told<Target>, Buffer), Unplayed> {
     let mut writer = writer.set_policy(policy);
-    for word in words {
-        plays_word(alloc, &mut writer, *word, record)?;
+    for calls in listed.calls.chunks(listed.at_once.max(1)) {
+        plays(&mut writer, calls, &mut record.run)?;
+        record.note(calls, writer.get_ref().get_ref().errors())?;
+    }
+    if listed.unwraps {
+        return unwrapped(alloc, writer, record);
     }
     Ok(writer.into_inner_with_buffer())
 }
 
-fn plays_word<P: WriterPolicy>(
-    alloc: Global,
-    writer: &mut BufWriter<Told<Target>, P>,
-    word: WriterWord,
-    record: &mut Record,
-) -> Result<(), AllocError> {
-    let bytes = record.offered(alloc, word)?;
-    if let Some(call) = call_of(word, bytes.as_slice()) {
-        plays(writer, call, &mut record.run)?;
-        record.note(bytes.as_slice(), writer.get_ref().get_ref().errors())?;
-    }
-    Ok(())
-}
-
 fn plays<W: TellWrite, P: WriterPolicy>(
     writer: &mut BufWriter<W, P>,
-    call: WriterCall<'_>,
+    calls: &[WriterCall<'_>],
     run: &mut WriterRun,
 ) -> Result<(), AllocError> {
-    play_writer(writer, &[call], run)
+    play_writer(writer, calls, run)
 }
 
-// The call that a word asks for, with these bytes for a write.
-fn call_of(word: WriterWord, bytes: &[u8]) -> Option<WriterCall<'_>> {
-    match word {
-        WriterWord::CountFrom(_) => None,
-        WriterWord::Write(_) => Some(WriterCall::Write(bytes)),
-        WriterWord::Flush => Some(WriterCall::Flush),
-        WriterWord::MakeRoom => Some(WriterCall::MakeRoom),
-        WriterWord::Reserve(n) => Some(WriterCall::Reserve(n)),
+// The target that `into_inner` returns, with a buffer that has nothing, or what it leaves where it fails.
+fn unwrapped<P: WriterPolicy + Drop>(
+    alloc: Global,
+    writer: BufWriter<Told<Target>, P>,
+    record: &mut Record,
+) -> Result<(Told<Target>, Buffer), Unplayed> {
+    match writer.into_inner() {
+        Ok(target) => {
+            record.run.answers.push(WriterAnswer::Done)?;
+            Ok((target, Buffer::with_capacity(alloc, 0)?))
+        }
+        Err(IntoInnerError(writer, e)) => {
+            let (target, buffer) = writer.into_inner_with_buffer();
+            record.run.answers.push(WriterAnswer::Fault(e.kind()))?;
+            record.note(&[WriterCall::Flush], target.get_ref().errors())?;
+            Ok((target, buffer))
+        }
     }
 }
 
@@ -148,43 +213,50 @@ impl Record {
             returned: Vec::new(alloc),
             caused: Vec::new(alloc),
             seen: 0,
-            next: low_byte(held.len()),
+            answered: 0,
         })
     }
 
-    // The bytes that a word offers, which count up from one write to the next.
-    fn offered(&mut self, alloc: Global, word: WriterWord) -> Result<Vec<u8>, AllocError> {
-        let first = self.next;
-        match word {
-            WriterWord::CountFrom(n) => {
-                self.next = low_byte(n);
-                Ok(Vec::new(alloc))
-            }
-            WriterWord::Write(n) => {
-                self.next = first.wrapping_add(low_byte(n));
-                counting(alloc, first, n)
-            }
-            _ => Ok(Vec::new(alloc)),
-        }
-    }
-
-    // Notes what the last call did that offered these bytes: what it accepted, or its error beside the last of the target's,
-    // if that is of this call.
-    fn note(&mut self, bytes: &[u8], errors: &[ErrorKind]) -> Result<(), AllocError> {
+    // Notes what the last calls did: what they accepted, and their errors beside the last of the target's, if that is of these
+    // calls.
+    fn note(&mut self, calls: &[WriterCall<'_>], errors: &[ErrorKind]) -> Result<(), AllocError> {
         let last = errors.iter().skip(self.seen).last().copied();
         self.seen = errors.len();
-        match self.run.answers.as_slice().last().copied() {
-            Some(WriterAnswer::Count(n)) => {
-                self.accepted
-                    .extend_from_slice(bytes.get(..n).unwrap_or(bytes))
+        for (at, call) in calls.iter().enumerate() {
+            let place = self.answered.saturating_add(at);
+            if let Some(answer) = self.run.answers.as_slice().get(place).copied() {
+                self.note_answer(*call, answer, last)?;
             }
-            Some(WriterAnswer::Fault(kind)) if !is_refusal(kind) => {
+        }
+        self.answered = self.run.answers.len();
+        Ok(())
+    }
+
+    fn note_answer(
+        &mut self,
+        call: WriterCall<'_>,
+        answer: WriterAnswer,
+        last: Option<ErrorKind>,
+    ) -> Result<(), AllocError> {
+        match answer {
+            WriterAnswer::Count(n) => self.accept(call, n),
+            WriterAnswer::Fault(kind) if !is_refusal(kind) => {
                 self.returned.push(kind)?;
                 if let Some(last) = last {
                     self.caused.push(last)?;
                 }
                 Ok(())
             }
+            _ => Ok(()),
+        }
+    }
+
+    // So many bytes of this call were accepted.
+    fn accept(&mut self, call: WriterCall<'_>, count: usize) -> Result<(), AllocError> {
+        match call {
+            WriterCall::Write(bytes) => self
+                .accepted
+                .extend_from_slice(bytes.get(..count).unwrap_or(bytes)),
             _ => Ok(()),
         }
     }
