@@ -2,6 +2,7 @@
 mod csv_rows;
 mod full_log;
 mod int_lines;
+mod kv;
 mod line_count;
 mod own_policy;
 mod packed;
