@@ -1,11 +1,12 @@
 //! Calls of readers and writers that grow their buffer: where that is refused, the call fails, and the same call then succeeds.
 use crate::growths::placed;
 use crate::streams::{Sink, Source, empty_sink, reading, taken};
-use crate::trial::{Trial, Wrong, granted, is};
+use crate::trial::{Trial, Wrong, granted, is, print, unchanged};
 use buffer_redux::policy::{FlushAtLeast, FlushExact, MinBuffered, WriterPolicy};
 use buffer_redux::tell::{TellRead, TellWrite, Told};
 use buffer_redux::{BufReader, BufWriter, Buffer, GrowError, LineWriter};
 use std::alloc::Global;
+use std::fmt::Debug;
 use std::io;
 use std::io::{BufRead, ErrorKind};
 use tests_common::policies::Greedy;
@@ -25,7 +26,7 @@ enum Call {
 type Answer = Result<usize, ErrorKind>;
 
 // Makes a call over a stream and a buffer, and takes apart what it was made of.
-trait Attempts: Drop + Sized {
+trait Attempts: Debug + Drop + Sized {
     fn attempts(self, buf: Buffer, call: Call) -> (Answer, Self, Buffer);
 }
 
@@ -112,9 +113,12 @@ fn takes<S: Attempts>(
     call: Call,
     (count, capacity): After,
 ) -> Result<(S, Buffer), Wrong> {
+    let (stream, held) = (print(&inner), print(&buf));
     let (mut answer, mut inner, mut buf) = inner.attempts(buf, call);
     if let Err(kind) = answer {
         trial.failed(kind)?;
+        unchanged(&inner, stream)?;
+        unchanged(&buf, held)?;
         (answer, inner, buf) = inner.attempts(buf, call);
     }
     is(
@@ -230,15 +234,16 @@ fn sends((inner, buf): (Sink, Buffer), bytes: &[u8]) -> Result<(), Wrong> {
     is(taken(it.get_ref()) == bytes, "what is sent")
 }
 
-// A fill of several turns that is refused in one of them keeps the bytes of those before.
-fn fills_greedily<R: TellRead>(
+// A fill of several turns that is refused in one of them keeps the bytes of those before, 4096 each.
+fn fills_greedily(
     trial: &mut Trial,
-    it: &mut BufReader<R, Greedy>,
+    it: &mut BufReader<Told<Source<'_>>, Greedy>,
     capacity: usize,
 ) -> Result<(), Wrong> {
     if let Err(kind) = kind(shown(it)) {
+        let asks = it.get_ref().get_ref().asks;
         is(
-            it.buf_len() == it.capacity().min(10000),
+            it.buf_len() == asks.saturating_mul(4096).min(10000),
             "the bytes of the turns before",
         )?;
         trial.failed(kind)?;
@@ -250,10 +255,10 @@ fn fills_greedily<R: TellRead>(
     )
 }
 
-fn in_turns<R: TellRead + Drop>(
+fn in_turns(
     trial: &mut Trial,
     buf: Buffer,
-    inner: R,
+    inner: Told<Source<'_>>,
     capacity: usize,
 ) -> Result<(), Wrong> {
     let mut it = reader_under(BufReader::with_buffer(buf, inner), Greedy);

@@ -1,11 +1,12 @@
 //! Growths of either kind, with bytes that don't stand at the front.
-use crate::trial::{Trial, Wrong, granted, is};
+use crate::trial::{Trial, Wrong, granted, is, print, unchanged};
 use buffer_redux::{BufImpl, Buffer, GrowError, RawBuf, SliceDequeBuf, StdBuf};
 use std::alloc::Global;
+use std::fmt::Debug;
 use tests_common::holding_in;
 
 /// What grows by itself.
-pub trait Grows: Drop {
+pub trait Grows: Debug + Drop {
     fn grow(&mut self, more: usize) -> Result<(), GrowError>;
 
     fn room(&self) -> usize;
@@ -68,8 +69,10 @@ fn grown<T: Grows>(
     more: usize,
     capacity: usize,
 ) -> Result<(), Wrong> {
+    let before = print(it);
     if let Err(e) = it.grow(more) {
         trial.refused(e)?;
+        unchanged(it, before)?;
         granted(it.grow(more))?;
     }
     is(it.room() == capacity, "the capacity of what grew")
@@ -165,8 +168,10 @@ pub fn twice(alloc: Global, trial: &mut Trial) -> Result<(), Wrong> {
 
 // What doesn't fit grows the buffer by twice its length.
 fn push(trial: &mut Trial, buf: &mut Buffer, held: &[u8], capacity: usize) -> Result<(), Wrong> {
+    let before = print(buf);
     if let Err(e) = buf.push_bytes(&[4, 5]) {
         trial.refused(e)?;
+        unchanged(buf, before)?;
         granted(buf.push_bytes(&[4, 5]))?;
     }
     is(buf.capacity() == capacity, "the capacity behind a push")?;

@@ -3,6 +3,7 @@
 #![tactic(auto)]
 
 mod calls;
+mod copies;
 mod growths;
 mod makers;
 mod plays;
@@ -25,7 +26,8 @@ fn checks(alloc: Global, trial: &mut Trial) -> Result<(), Wrong> {
     calls::from_nothing(alloc, trial)?;
     calls::each_turn(alloc, trial)?;
     plays::reads(alloc, trial)?;
-    plays::writes(alloc, trial)
+    plays::writes(alloc, trial)?;
+    copies::both_kinds(alloc, trial)
 }
 
 fn main(rt: HostRuntime) -> io::Result<()> {

@@ -1,7 +1,7 @@
 //! Makers of either kind: a refused one hands its stream back, over which the same one answers.
 use crate::growths::Grows;
 use crate::streams::{Sink, Source, empty_sink, reading};
-use crate::trial::{Trial, Wrong, granted, is};
+use crate::trial::{Trial, Wrong, granted, is, print, unchanged};
 use buffer_redux::tell::{Tell, TellRead, TellWrite, Told};
 use buffer_redux::{
     BufImpl, BufReader, BufWriter, Buffer, GrowError, LineWriter, MAX_CAPACITY, MAX_RING,
@@ -9,6 +9,7 @@ use buffer_redux::{
 };
 use frame_reader::{FrameReader, FrameWriter};
 use std::alloc::Global;
+use std::fmt::Debug;
 use tests_common::empty;
 
 // By which of its makers something is made.
@@ -148,16 +149,18 @@ impl<W: TellWrite + Drop> Made<W> for FrameWriter<W> {
 }
 
 // The capacity of what is made.
-fn makes<T: Made<S>, S: Drop>(
+fn makes<T: Made<S>, S: Debug + Drop>(
     alloc: Global,
     trial: &mut Trial,
     form: Form,
     inner: S,
 ) -> Result<usize, Wrong> {
+    let before = print(&inner);
     match T::made(alloc, form, inner) {
         Ok(it) => Ok(it.room()),
         Err(MakeError(inner, e)) => {
             trial.refused(e)?;
+            unchanged(&inner, before)?;
             Ok(granted(T::made(alloc, form, inner))?.room())
         }
     }

@@ -1,12 +1,16 @@
 //! Lists of calls whose record finds no memory: the calls before are recorded whole, and the next wasn't begun. The calls
 //! that have no answer yet, played on the same run, end it as if nothing had happened.
 use crate::streams::{Sink, Source, empty_sink, reading, taken};
-use crate::trial::{Trial, Wrong, is};
+use crate::trial::{Trial, Wrong, is, print};
 use buffer_redux::policy::{ReaderPolicy, WriterPolicy};
 use buffer_redux::tell::{TellRead, TellWrite, Told};
 use buffer_redux::{BufReader, BufWriter};
-use redux_play::play::{ReaderCall, ReaderRun, WriterCall, WriterRun, play_reader, play_writer};
+use redux_play::play::{
+    ReaderAnswer, ReaderCall, ReaderRun, WriterAnswer, WriterCall, WriterRun, play_reader,
+    play_writer,
+};
 use std::alloc::{AllocError, Global};
+use std::fmt::Debug;
 use tests_common::{reader, writer};
 
 static READER_CALLS: [ReaderCall; 5] = [
@@ -15,6 +19,14 @@ static READER_CALLS: [ReaderCall; 5] = [
     ReaderCall::Consume(9),
     ReaderCall::ReadIntoBuf,
     ReaderCall::Read(4),
+];
+
+static READER_ANSWERS: [ReaderAnswer; 5] = [
+    ReaderAnswer::Count(2),
+    ReaderAnswer::Shown(2),
+    ReaderAnswer::Count(2),
+    ReaderAnswer::Count(1),
+    ReaderAnswer::Count(1),
 ];
 
 // How many bytes are handed out, how many are buffered, and how often the stream was asked, by the number of calls made.
@@ -31,6 +43,12 @@ static WRITER_CALLS: [WriterCall<'static>; 3] = [
     WriterCall::Write(&[1]),
     WriterCall::Write(&[2, 3]),
     WriterCall::Flush,
+];
+
+static WRITER_ANSWERS: [WriterAnswer; 3] = [
+    WriterAnswer::Count(1),
+    WriterAnswer::Count(2),
+    WriterAnswer::Done,
 ];
 
 // How many bytes were sent, and how many are buffered.
@@ -56,6 +74,11 @@ fn play_writes<W: TellWrite, P: WriterPolicy>(
     play_writer(wrt, calls, run)
 }
 
+// Whether these are the first answers of a list, by what they print.
+fn begin<T: Debug>(answers: &[T], all: &[T]) -> bool {
+    print(&answers) == print(&all.get(..answers.len()).unwrap_or(&[]))
+}
+
 // Those behind so many.
 fn behind<T>(all: &[T], count: usize) -> &[T] {
     all.get(count..).unwrap_or(&[])
@@ -72,7 +95,10 @@ fn reads_on(
     let (done, handed) = (run.answers.len(), run.handed.as_slice());
     let state = [handed.len(), rdr.buf_len(), rdr.get_ref().get_ref().asks];
     is(READER_STATES.get(done) == Some(&state), "what was read")?;
-    is(BYTES.starts_with(handed), "the bytes")?;
+    is(
+        BYTES.starts_with(handed) && begin(run.answers.as_slice(), &READER_ANSWERS),
+        "the bytes that were handed out, or the answers",
+    )?;
     is(
         refused == (done < 5),
         "calls are left out, or nothing is refused",
@@ -108,7 +134,10 @@ fn writes_on(wrt: &mut BufWriter<Sink>, run: &mut WriterRun) -> Result<bool, Wro
     let (done, sent) = (run.answers.len(), taken(wrt.get_ref()));
     let state = [sent.len(), wrt.buf_len()];
     is(WRITER_STATES.get(done) == Some(&state), "what was sent")?;
-    is(BYTES.starts_with(sent), "the bytes that were sent")?;
+    is(
+        BYTES.starts_with(sent) && begin(run.answers.as_slice(), &WRITER_ANSWERS),
+        "the bytes that were sent, or the answers",
+    )?;
     is(
         refused == (done < 3),
         "calls are left out, or nothing is refused",

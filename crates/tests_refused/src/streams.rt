@@ -4,7 +4,7 @@ use std::io;
 use std::io::{Cursor, Read};
 
 /// Gives the bytes that are left, front first, and counts how often it is asked.
-#[derive(Drop)]
+#[derive(Debug, Drop)]
 pub struct Source<'a> {
     pub left: &'a [u8],
     pub asks: usize,

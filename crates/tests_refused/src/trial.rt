@@ -1,5 +1,7 @@
 //! What a run has met so far. Nothing here takes memory.
 use buffer_redux::GrowError;
+use std::fmt;
+use std::fmt::Write;
 use std::io::ErrorKind;
 
 /// What isn't as it should be.
@@ -16,6 +18,31 @@ pub fn granted<T, E: Drop>(outcome: Result<T, E>) -> Result<T, Wrong> {
         Ok(answer) => Ok(answer),
         Err(_) => Err("refused without need"),
     }
+}
+
+// The hash FNV-1a of what was written.
+#[derive(Drop)]
+struct Hash(u64);
+
+impl fmt::Write for Hash {
+    fn write_str(&mut self, text: &str) -> fmt::Result {
+        for byte in text.as_bytes() {
+            self.0 = (self.0 ^ u64::from(*byte)).wrapping_mul(0x100000001b3);
+        }
+        Ok(())
+    }
+}
+
+/// The hash of all that a value prints of itself: of a buffer its storage, and where its bytes stand in it.
+pub fn print<T: fmt::Debug>(value: &T) -> u64 {
+    let mut hash = Hash(0xcbf29ce484222325);
+    let _ = write!(hash, "{value:?}");
+    hash.0
+}
+
+/// `Ok`, where a value that a refused call left prints what it did before.
+pub fn unchanged<T: fmt::Debug>(value: &T, before: u64) -> Result<(), Wrong> {
+    is(print(value) == before, "a refusal changes something")
 }
 
 /// Whether a run met its refusal.
