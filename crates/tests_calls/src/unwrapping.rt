@@ -72,6 +72,11 @@ fn gone(fault: Option<io::Error>) -> Fault {
     }
 }
 
+// What a handler is told, where just the last of the three bytes is left.
+fn told(unsent: &Buffer, e: io::Error) -> Fault {
+    (unsent.buf() == [3].as_slice()).then_some((e.kind(), 1))
+}
+
 fn parts<W: TellWrite>(mut wrt: BufWriter<W>, way: Way) -> (W, Buffer, Fault) {
     let mut seen = None;
     let (inner, buf) = match way {
@@ -85,7 +90,7 @@ fn parts<W: TellWrite>(mut wrt: BufWriter<W>, way: Way) -> (W, Buffer, Fault) {
             wrt.into_inner_with_buffer()
         }
         Way::Finish => wrt.finish(|_, unsent: &mut Buffer, e: io::Error| {
-            seen = Some((e.kind(), unsent.len()));
+            seen = told(unsent, e);
         }),
         Way::Keep => laws::keep_unsent(wrt),
         Way::Clear => laws::drop_unsent(wrt),
@@ -105,7 +110,7 @@ fn line_parts<W: TellWrite>(mut lines: LineWriter<W>, way: Way) -> (W, Buffer, F
             lines.into_inner_with_buffer()
         }
         Way::Finish => lines.finish(|_, unsent: &mut Buffer, e: io::Error| {
-            seen = Some((e.kind(), unsent.len()));
+            seen = told(unsent, e);
         }),
         Way::Keep => laws::keep_unsent_lines(lines),
         Way::Clear => laws::drop_unsent_lines(lines),
