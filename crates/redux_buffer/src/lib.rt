@@ -9,7 +9,7 @@ pub use buffer::Buffer;
 pub use count::Count;
 pub use grow_error::GrowError;
 pub use raw_buf::RawBuf;
-pub use redux_tell::{INTERRUPT_LIMIT, copy_buf, copy_turn, script, tell};
+pub use redux_tell::{INTERRUPT_LIMIT, add_total, copy_buf, copy_turn, script, tell};
 pub use slice_deque_buf::SliceDequeBuf;
 pub use std_buf::StdBuf;
 

@@ -33,8 +33,8 @@ pub fn copy_buf<B: TellBufRead, W: TellWrite>(b: &mut B, w: &mut W) -> io::Resul
     }
 }
 
-// The sum of what was copied, unless it passes what a `u64` holds.
-fn add_total(total: u64, n: usize) -> Option<u64>
+/// The sum of what turns of [`copy_turn`] moved, in bytes; `None` where it passes what a `u64` holds.
+pub fn add_total(total: u64, n: usize) -> Option<u64>
     ensures some { IfSome result (λ sum. sum ≡ total + n) }
     ensures none { IfNone result (2 ^ 64 ≤ total + n) }
 {
@@ -78,20 +78,4 @@ pub fn copy_turn<B: TellBufRead, W: TellWrite>(b: &mut B, w: &mut W) -> io::Resu
     }
     b.consume_told(taken);
     Ok(taken)
-}
-
-#[cfg(test)]
-mod tests {
-    use crate::copy::add_total;
-    use std::test::Fail;
-
-    #[test]
-    fn ends_with_a_u64(rt: HostRuntime) -> Result<(), Fail> {
-        let sums = [
-            add_total(18446744073709551615, 0),
-            add_total(18446744073709551615, 1),
-        ];
-        assert!(rt; sums == [Some(18446744073709551615), None]);
-        Ok(())
-    }
 }

@@ -8,7 +8,7 @@ mod copy;
 pub mod script;
 pub mod tell;
 
-pub use copy::{copy_buf, copy_turn};
+pub use copy::{add_total, copy_buf, copy_turn};
 
 /// How many `Interrupted` in a row a sending or copying call retries.
 pub const INTERRUPT_LIMIT: u32 = 64;

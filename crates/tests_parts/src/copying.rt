@@ -1,4 +1,5 @@
 //! What `bufcopy` does, by worked examples: what its words ask for, what a run returns and leaves, and how it says that.
+use buffer_redux::add_total;
 use buffer_redux::script::{Answer, FaultAt};
 use buffer_redux::tell::{TellRead, TellWrite, Told};
 use copier::Ending;
@@ -178,5 +179,16 @@ fn endings(rt: HostRuntime) -> Result<(), Fail> {
     assert!(rt; said(&refused) == (3, "bufcopy: out of memory"));
     let usage = Ending::Usage;
     assert!(rt; (usage.status(), usage.line()) == (2, "usage: bufcopy [std|ring] [CAPACITY]"));
+    Ok(())
+}
+
+// A total ends where a `u64` does.
+#[test]
+fn adds_up_to_a_u64(rt: HostRuntime) -> Result<(), Fail> {
+    let sums = [
+        add_total(18446744073709551615, 0),
+        add_total(18446744073709551615, 1),
+    ];
+    assert!(rt; sums == [Some(18446744073709551615), None]);
     Ok(())
 }
