@@ -12,4 +12,7 @@ pub mod WriteOn
 pub mod WriteAllCauses
 pub mod WriteAll
 pub mod ReadAll
+pub mod Retrying
+pub mod Searching
+pub mod UntilSteps
 pub mod ReadSteps

@@ -81,10 +81,10 @@ module _ {S P : Type 0} (remaining : S → Option (List ℕ)) (rules : ReadRules
     noted = q.noted ∙ p.noted;
   }
 
-  front_none : (s : Buffered S P) → IsBlock s.block → HandedFront remaining rules s [] s
+  pub front_none : (s : Buffered S P) → IsBlock s.block → HandedFront remaining rules s [] s
   front_none s whole = record { in_order = ReadsInOrder-none s; keeps = keeps_none s whole }
 
-  front_joins : (s m t : Buffered S P) (a b : List ℕ) → HandedFront remaining rules s a m
+  pub front_joins : (s m t : Buffered S P) (a b : List ℕ) → HandedFront remaining rules s a m
       → HandedFront remaining rules m b t → HandedFront remaining rules s (a ++ b) t
   front_joins s m t a b p q = record {
     in_order = ReadsInOrder-joins s m t a b p.in_order q.in_order;

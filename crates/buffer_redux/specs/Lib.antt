@@ -32,6 +32,8 @@ pub mod Remaining
 pub mod RemainingLaws
 pub mod ReadAll
 pub mod ReadInside
+pub mod FillRetried
+pub mod ReadUntil
 pub mod Unbuffer
 pub mod BufWriter
 pub mod WriteAll

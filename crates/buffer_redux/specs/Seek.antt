@@ -1,6 +1,8 @@
 -- Which seeks a seek of a buffered reader makes, and what it does to the reader.
-use Rattle.std.specs.Prelude.{◌≡◌, ℕ, ℤ, pos, ◌-◌, ◌^◌, ◌≤◌, ◌-ℤ◌, neg_ℤ, nat_le, int_le, ◌⊎◌, length, Option, None, Some, Result, Ok, Err, MatchResult, OnOk, OnErr, if◌then◌else◌}
+use Rattle.std.specs.Prelude.{◌≡◌, ℕ, ℤ, pos, ◌+◌, ◌-◌, ◌^◌, ◌<◌, ◌≤◌, ◌-ℤ◌, neg_ℤ, nat_le, int_le, ◌⊎◌, length, Option, None, Some, Result, Ok, Err, MatchResult, OnOk, OnErr, if◌then◌else◌}
+use Rattle.std.specs.IoError.{error_kind}
 use Rattle.std.specs.declared.io.Error.{Error}
+use Rattle.std.specs.declared.io.ErrorKind.TheVariants.{InvalidData}
 use Rattle.std.specs.declared.io.traits.SeekFrom.{SeekFrom}
 use Rattle.std.specs.declared.io.traits.SeekFrom.TheVariants.{Start, End, Current}
 use Rattle.redux_buffer.specs.Block.{Clears, ConsumesFirst}
@@ -69,3 +71,37 @@ pub record DropsWithin {S P : Type 0} (n : ℕ) (s : Buffered S P) (answer : Res
 abbrev pub GoesOnWithin : {S P : Type 0} → ℤ → Buffered S P → Result (Unit {0}) Error → Buffered S P → Type 0
 GoesOnWithin offset s answer t =
     (n : ℕ) → offset ≡ pos n → n ≤ length s.block.bytes → DropsWithin n s answer t
+
+-- a seek's answer without the place
+abbrev pub without_place : Result ℕ Error → Result (Unit {0}) Error
+without_place (Ok n) = Ok tt
+without_place (Err e) = Err e
+
+-- one seek from where the reader stands, as a seek is planned
+pub record SeeksBy {S P : Type 0} (readies : Readies) (offset : ℤ) (s : Buffered S P)
+    (answer : Result (Unit {0}) Error) (t : Buffered S P) : Type 0 where
+  pub place : Result ℕ Error
+  pub answered : answer ≡ without_place place
+  pub seeks : Seeks readies (plan_for (Current offset) (length s.block.bytes)) s place t
+  pub leaves : SeekLeaves s place t
+
+-- so it is back, and forward past what is buffered
+abbrev pub SeeksFar : {S P : Type 0} → Readies → ℤ → Buffered S P → Result (Unit {0}) Error → Buffered S P → Type 0
+SeeksFar readies offset s answer t =
+    ¬ ((n : ℕ) × (offset ≡ pos n) × (n ≤ length s.block.bytes)) → SeeksBy readies offset s answer t
+
+-- the place len bytes before the one that the stream inside said; where it said less than that, there is none
+abbrev pub SaysPlace : ℕ → Result ℕ Error → Result ℕ Error → Type 0
+SaysPlace len (Ok at) (Ok n) = n + len ≡ at
+SaysPlace len (Ok at) (Err e) = (at < len) × (error_kind e ≡ InvalidData)
+SaysPlace len (Err x) answer = answer ≡ Err x
+
+-- the stream inside was asked for its place, by one seek by nothing, and nothing else was done
+pub record AsksPlace {S P : Type 0} (readies : Readies) (s : Buffered S P) (answer : Result ℕ Error)
+    (t : Buffered S P) : Type 0 where
+  pub place : Result ℕ Error
+  pub told : SeekTells readies s.log (Current (pos 0)) place t.log
+  pub says : SaysPlace (length s.block.bytes) place answer
+  pub block : t.block ≡ s.block
+  pub policy : t.policy ≡ s.policy
+  pub noted : t.own_calls ≡ s.own_calls

@@ -29,6 +29,7 @@ use std::{fmt, io};
 mod seek;
 mod steps;
 mod tells;
+mod until;
 
 pub use seek::{SeekPlan, seek_plan};
 

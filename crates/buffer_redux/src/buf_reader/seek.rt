@@ -4,7 +4,7 @@ ghost use Rattle.std.specs.Io.KnownBytes.{Keeps};
 ghost use Rattle.std.specs.Io.Seek.{MovesBy, SeekMoves, StaysAt};
 ghost use Rattle.redux_buffer.specs.Block.{IsBlock};
 ghost use Rattle.redux_tell.specs.StreamLog.{with_fault};
-ghost use Rattle.buffer_redux.specs.Seek.{plan_for, reader_position, GoesOnWithin, Seeks, SeeksOnce, SeekLeaves};
+ghost use Rattle.buffer_redux.specs.Seek.{plan_for, reader_position, AsksPlace, GoesOnWithin, Seeks, SeeksBy, SeeksFar, SeeksOnce, SeekLeaves};
 ghost use Rattle.buffer_redux.specs.Sparing.{Spared};
 
 use crate::buf_reader::BufReader;
@@ -67,6 +67,7 @@ impl<R: TellSeek, P> BufReader<R, P> {
         ensures moves { MovesBy (reader_position R.stream_position self.old)
             (reader_position R.stream_position self.new) offset result }
         ensures bytes { Keeps (R.stream_bytes self.old.inner) (R.stream_bytes self.new.inner) }
+        ensures far { SeeksBy R.readies offset self.old result self.new }
         ensures whole { IsBlock self.new.block }
     {
         self.seek(SeekFrom::Current(offset))?;
@@ -78,6 +79,7 @@ impl<R: TellSeek, P> BufReader<R, P> {
         ensures moves { MovesBy (reader_position R.stream_position self.old)
             (reader_position R.stream_position self.new) offset result }
         ensures bytes { Keeps (R.stream_bytes self.old.inner) (R.stream_bytes self.new.inner) }
+        ensures far { SeeksBy R.readies offset self.old result self.new }
         ensures whole { IsBlock self.new.block }
     {
         self.seek_far(offset)
@@ -120,6 +122,8 @@ impl<R: TellSeek, P> Seek for BufReader<R, P> {
             (reader_position R.stream_position self.new) offset result }
         ensures bytes { Keeps (R.stream_bytes self.old.inner) (R.stream_bytes self.new.inner) }
         ensures near { GoesOnWithin offset self.old result self.new }
+        ensures far { SeeksFar R.readies offset self.old result self.new }
+        ensures caused { self.new.log.seeks.faults ≡ with_fault self.old.log.seeks.faults result }
         ensures whole { IsBlock self.new.block }
     {
         if offset >= 0 && offset as usize <= self.buf.len() {
@@ -136,7 +140,7 @@ impl<R: TellSeek, P> Seek for BufReader<R, P> {
         ensures stays { StaysAt (reader_position R.stream_position self.old)
             (reader_position R.stream_position self.new) }
         ensures bytes { Keeps (R.stream_bytes self.old.inner) (R.stream_bytes self.new.inner) }
-        ensures block { self.new.block ≡ self.old.block }
+        ensures asks { AsksPlace R.readies self.old result self.new }
         ensures whole { IsBlock self.new.block }
     {
         let at = self.inner.seek_told(SeekFrom::Current(0))?;

@@ -1,0 +1,71 @@
+-- Where a byte stands first.
+use Rattle.std.proofs.Common.{◌≡◌, ℕ, zero, suc, ◌+◌, ◌<◌, ◌≤◌, ◌==◌, true, List, [], ◌∷◌, ◌++◌, length, take, drop, slice_index, refl, sym, ap, ◌∙◌, arith, append_assoc, length-take-le}
+use Rattle.std.proofs.lemmas.Bool.{eqb-true, eq-eqb}
+use Rattle.std.proofs.lemmas.List.Elements.{All-nil, All-cons, All-append}
+use Rattle.buffer_redux.specs.ReadUntil.{EndsIn, FirstAt, Lacks}
+
+abbrev other : ℕ → ℕ → Type 0
+other byte b = ¬ (b ≡ byte)
+
+-- it stands nowhere before this place
+abbrev pub NoneBefore : ℕ → List ℕ → ℕ → Type 0
+NoneBefore byte bytes end = (k : ℕ) → 0 ≤ k → k < end → ¬ ((slice_index bytes k == byte) ≡ true)
+
+isnt_byte : (byte b : ℕ) → ¬ ((b == byte) ≡ true) → ¬ (b ≡ byte)
+isnt_byte byte b isnt is = isnt (eq-eqb b byte is)
+
+pub lacks_none : (byte : ℕ) → Lacks byte []
+lacks_none byte = All-nil (other byte)
+
+pub lacks_both : (byte : ℕ) (xs ys : List ℕ) → Lacks byte xs → Lacks byte ys → Lacks byte (xs ++ ys)
+lacks_both byte = All-append (other byte)
+
+pub lacks_all : (byte : ℕ) (bytes : List ℕ) → NoneBefore byte bytes (length bytes) → Lacks byte bytes
+lacks_all byte [] none = All-nil (other byte)
+lacks_all byte (b ∷ bytes) none = All-cons (other byte) b bytes
+    (isnt_byte byte b (none 0 (omega arith) (omega arith)))
+    (lacks_all byte bytes (λ k low high. none (suc k) (omega arith) (omega (arith, high))))
+
+longer : (byte b at : ℕ) (bytes : List ℕ) → ¬ (b ≡ byte) → FirstAt byte at bytes → FirstAt byte (suc at) (b ∷ bytes)
+longer byte b at bytes isnt e =
+    let count : 1 + suc at ≡ suc (1 + at) = omega arith in record {
+      inside = omega (arith, e.inside);
+      plain = All-cons (other byte) b (take at bytes) isnt e.plain;
+      equal = ap (λ n. b ∷ take at bytes ++ byte ∷ drop n (b ∷ bytes)) count ∙ ap (λ l. b ∷ l) e.equal;
+    }
+
+pub first_at : (byte : ℕ) (bytes : List ℕ) (at : ℕ) → at < length bytes → NoneBefore byte bytes at
+    → (slice_index bytes at == byte) ≡ true → FirstAt byte at bytes
+first_at byte [] at inside none is = absurd (omega (arith, inside))
+first_at byte (b ∷ bytes) zero inside none is = record {
+  inside = inside;
+  plain = All-nil (other byte);
+  equal = ap (λ x. x ∷ bytes) (sym (eqb-true b byte is));
+}
+first_at byte (b ∷ bytes) (suc at) inside none is =
+    longer byte b at bytes (isnt_byte byte b (none 0 (omega arith) (omega arith)))
+    (first_at byte bytes at (omega (arith, inside)) (λ k low high. none (suc k) (omega arith) (omega (arith, high))) is)
+
+take-append-more : (front : List ℕ) (byte : ℕ) (more : List ℕ)
+    → take (length front + 1) (front ++ byte ∷ more) ≡ front ++ byte ∷ []
+take-append-more [] byte more = refl
+take-append-more (b ∷ front) byte more =
+    let count : length (b ∷ front) + 1 ≡ suc (length front + 1) = omega arith in
+    ap (λ n. take n (b ∷ front ++ byte ∷ more)) count ∙ ap (λ l. b ∷ l) (take-append-more front byte more)
+
+-- so the first bytes, up to it and with it, end in it
+through : (byte at : ℕ) (bytes : List ℕ) → FirstAt byte at bytes → take (at + 1) bytes ≡ take at bytes ++ byte ∷ []
+through byte at bytes e =
+    let size = length-take-le at bytes (omega (arith, e.inside)) in
+    ap (λ l. take (at + 1) l) (sym e.equal)
+    ∙ ap (λ n. take n (take at bytes ++ byte ∷ drop (1 + at) bytes)) (omega (arith, size))
+    ∙ take-append-more (take at bytes) byte (drop (1 + at) bytes)
+
+-- and so do these behind some that lack it
+pub ends_in : (byte at : ℕ) (h shown : List ℕ) → FirstAt byte at shown → Lacks byte h
+    → EndsIn byte (h ++ take (at + 1) shown)
+ends_in byte at h shown e plain = record {
+  front = h ++ take at shown;
+  plain = lacks_both byte h (take at shown) plain e.plain;
+  equal = ap (λ l. h ++ l) (through byte at shown e) ∙ sym (append_assoc h (take at shown) (byte ∷ []));
+}

@@ -1,0 +1,142 @@
+-- The turns and the ends of a call that goes on up to a byte.
+use Rattle.std.proofs.Common.{◌≡◌, ℕ, ◌+◌, ◌-◌, ◌<◌, ◌≤◌, List, [], ◌++◌, length, take, Result, Ok, Err, Option, sym, ap, subst, ◌∙◌, inl, inr, arith, append-nil, append_assoc, length-append, length-take-le}
+use Rattle.std.proofs.lemmas.List.{nil_from_length}
+use Rattle.std.proofs.Math.Seq.{take-length}
+use Rattle.std.specs.IoError.{error_kind}
+use Rattle.std.specs.declared.io.Error.{Error}
+use Rattle.std.specs.declared.io.ErrorKind.TheVariants.{OutOfMemory}
+use Rattle.redux_buffer.specs.Block.{IsBlock}
+use Rattle.redux_tell.specs.Faults.{OnlyInterrupts, OnlyInterrupts-none, OnlyInterrupts-joins}
+use Rattle.redux_tell.specs.StreamLog.{StreamLog}
+use Rattle.redux_policy.specs.Policy.{ReadRules}
+use Rattle.buffer_redux.specs.Buffered.{Buffered}
+use Rattle.buffer_redux.specs.FillRetried.{FillRetried}
+use Rattle.buffer_redux.specs.ReadAll.{HandedFront}
+use Rattle.buffer_redux.specs.ReaderLaws.{ReaderKeeps-along, WantsBytes}
+use Rattle.buffer_redux.specs.ReadUntil.{EndsUntil, FirstAt, Lacks, Passes, PassesAndFills, PassesToEnd, Reaches, Stops, no_memory}
+use Rattle.buffer_redux.proofs.ReadAll.{front_none, front_joins}
+use Rattle.buffer_redux.proofs.Retrying.{retried_dry, retried_front, retried_only}
+use Rattle.buffer_redux.proofs.Searching.{ends_in, lacks_none, lacks_both}
+
+-- where the log is the same, no fault came
+told_only : (old log log' : StreamLog) → log' ≡ log → OnlyInterrupts old.reads.faults log.reads.faults
+    → OnlyInterrupts old.reads.faults log'.reads.faults
+told_only old log log' same = subst (λ l. OnlyInterrupts old.reads.faults l.reads.faults) (sym same)
+
+module _ {S P : Type 0} (remaining : S → Option (List ℕ)) (rules : ReadRules P) (byte : ℕ) where
+  pub passes_none : (s : Buffered S P) → IsBlock s.block → Passes remaining rules byte s [] s
+  passes_none s whole = record {
+    front = front_none remaining rules s whole;
+    plain = lacks_none byte;
+    faults = OnlyInterrupts-none s.log.reads.faults;
+  }
+
+  module _ (s m : Buffered S P) (handed : List ℕ) (before : Passes remaining rules byte s handed m) where
+    -- then all that is buffered is handed out, which lacks the byte
+    pub passes_all : (t : Buffered S P) (n : ℕ) → n ≡ length m.block.bytes → Lacks byte m.block.bytes
+        → HandedFront remaining rules m (take n m.block.bytes) t → t.log ≡ m.log
+        → Passes remaining rules byte s (handed ++ m.block.bytes) t
+    passes_all t n count plain went told = record {
+      front = front_joins remaining rules s m t handed m.block.bytes before.front
+          (subst (λ l. HandedFront remaining rules m l t) (ap (λ k. take k m.block.bytes) count ∙ take-length m.block.bytes)
+          went);
+      plain = lacks_both byte handed m.block.bytes before.plain plain;
+      faults = told_only s.log m.log t.log told before.faults;
+    }
+
+    -- or a fill is made
+    pub front_filled : (answer : Result (Unit {0}) Error) (t : Buffered S P) → FillRetried remaining rules m answer t
+        → HandedFront remaining rules s handed t
+    front_filled answer t f = subst (λ l. HandedFront remaining rules s l t) (append-nil handed)
+        (front_joins remaining rules s m t handed [] before.front (retried_front remaining rules m answer t f))
+
+    pub passes_filled : (t : Buffered S P) → FillRetried remaining rules m (Ok tt) t
+        → Passes remaining rules byte s handed t
+    passes_filled t f = record {
+      front = front_filled (Ok tt) t f;
+      plain = before.plain;
+      faults = OnlyInterrupts-joins s.log.reads.faults m.log.reads.faults t.log.reads.faults before.faults
+          (retried_only remaining rules m t f);
+    }
+
+    pub passes_and_fills : (answer : Result (Unit {0}) Error) (t : Buffered S P) → FillRetried remaining rules m answer t
+        → PassesAndFills remaining rules byte s handed answer t
+    passes_and_fills answer t f = record { last = m; passes = before; fill = f }
+
+    -- which showed nothing
+    pub passes_to_end : (t : Buffered S P) → FillRetried remaining rules m (Ok tt) t → length t.block.bytes ≡ 0
+        → PassesToEnd remaining rules byte s handed t
+    passes_to_end t f none =
+        let keeps = before.front.keeps in record {
+          fills = passes_and_fills (Ok tt) t f;
+          none = nil_from_length t.block.bytes none;
+          end = λ wants some.
+              let front = front_filled (Ok tt) t f in
+              let dry = retried_dry remaining rules m t f (subst WantsBytes (sym keeps.claims) wants)
+              (omega (arith, some, keeps.capacity)) none in record {
+                along = ReaderKeeps-along remaining rules s handed t front.in_order front.keeps;
+                none = nil_from_length t.block.bytes none;
+                dry = omega (arith, keeps.grows.zero_reads, dry);
+              };
+        }
+
+    -- or the bytes up to the byte, with it
+    pub front_reached : (at : ℕ) (t : Buffered S P) → HandedFront remaining rules m (take (at + 1) m.block.bytes) t
+        → HandedFront remaining rules s (handed ++ take (at + 1) m.block.bytes) t
+    front_reached at t went =
+        front_joins remaining rules s m t handed (take (at + 1) m.block.bytes) before.front went
+
+    pub reaches : (at : ℕ) (t : Buffered S P) → FirstAt byte at m.block.bytes → t.log ≡ m.log
+        → Reaches byte s (handed ++ take (at + 1) m.block.bytes) t
+    reaches at t first told = record {
+      ends = ends_in byte at handed m.block.bytes first before.plain;
+      faults = told_only s.log m.log t.log told before.faults;
+    }
+
+    -- how the call ends: with the fault of a fill, where a fill showed nothing, at the byte, or of its own
+    module _ (stops : Stops) where
+      pub until_failed : (e : Error) (t : Buffered S P) → FillRetried remaining rules m (Err e) t
+          → EndsUntil remaining rules stops byte s (Err e) handed t
+      until_failed e t f = inl (passes_and_fills (Err e) t f)
+
+      pub until_end : (n : ℕ) (t : Buffered S P) → n ≡ length handed → FillRetried remaining rules m (Ok tt) t
+          → length t.block.bytes ≡ 0 → EndsUntil remaining rules stops byte s (Ok n) handed t
+      until_end n t count f none = (count, inr (passes_to_end t f none))
+
+      pub until_reached : (n at : ℕ) (t : Buffered S P) → n ≡ length (handed ++ take (at + 1) m.block.bytes)
+          → FirstAt byte at m.block.bytes → t.log ≡ m.log
+          → EndsUntil remaining rules stops byte s (Ok n) (handed ++ take (at + 1) m.block.bytes) t
+      until_reached n at t count first told = (count, inl (reaches at t first told))
+
+      pub until_stopped : (e : Error) → stops handed e m.block.bytes
+          → EndsUntil remaining rules stops byte s (Err e) handed m
+      until_stopped e why = inr (before, why)
+
+    pub until_refused : (n : ℕ) (e : Error) (t : Buffered S P) → n ≤ length m.block.bytes → 0 < n → t ≡ m
+        → error_kind e ≡ OutOfMemory
+        → HandedFront remaining rules s handed t × EndsUntil remaining rules no_memory byte s (Err e) handed t
+    until_refused n e t within some same kind = subst
+        (λ x. HandedFront remaining rules s handed x × EndsUntil remaining rules no_memory byte s (Err e) handed x) (sym same)
+        (before.front, until_stopped no_memory e (kind, omega (arith, some, within)))
+
+-- more was appended behind what was appended before
+pub appends : (old out h k : List ℕ) (new : List ℕ) → out ≡ old ++ h → new ≡ out ++ k → new ≡ old ++ (h ++ k)
+appends old out h k new before after = after ∙ ap (λ l. l ++ k) before ∙ append_assoc old h k
+
+-- how many bytes these are
+pub through_length : (byte at : ℕ) (handed bytes : List ℕ) → FirstAt byte at bytes
+    → length (handed ++ take (at + 1) bytes) ≡ length handed + (at + 1)
+through_length byte at handed bytes first = omega (
+  arith,
+  length-append handed (take (at + 1) bytes),
+  length-take-le (at + 1) bytes (omega (arith, first.inside)),
+)
+
+-- what was appended is counted by the lengths before and after
+pub appended_length : (old new handed : List ℕ) (before after : ℕ) → new ≡ old ++ handed → before ≡ length old
+    → after ≡ length new → after - before ≡ length handed
+appended_length old new handed before after is first last =
+    omega (arith, ap length is, length-append old handed, first, last)
+
+pub take_whole : (n : ℕ) (bytes : List ℕ) → n ≡ length bytes → take n bytes ≡ bytes
+take_whole n bytes count = ap (λ k. take k bytes) count ∙ take-length bytes

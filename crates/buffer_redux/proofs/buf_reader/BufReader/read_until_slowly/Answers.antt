@@ -1,0 +1,134 @@
+use Rattle.std.proofs.Common.{◌≡◌, ◌+◌, ◌∙◌, [], ◌++◌, length, take, subst, sym, ap, arith, append-nil}
+use Rattle.std.proofs.lemmas.Result.{err_from_is_err_and}
+use Rattle.redux_buffer.specs.Block.{IsBlock}
+use Rattle.buffer_redux.specs.ReadUntil.{FirstAt, Lacks, no_memory}
+use Rattle.buffer_redux.proofs.UntilSteps.{appended_length, appends, front_filled, front_reached, passes_all, passes_filled, passes_none, take_whole, until_end, until_failed, until_reached, until_refused}
+use Rattle.buffer_redux.proofs.buf_reader.BufReader.read_until_slowly.Goals as goal
+
+pub fills-init : goal.fills-init
+fills-init g c = record {
+  handed = [];
+  passes = passes_none _ _ _ _ (subst (λ x. IsBlock x.block) c.self.view_is c.self.invariant);
+  appended = sym (append-nil _);
+  size = c.len-len.ensures.value ∙ ap (λ x. length x.block.bytes) c.self.view_is;
+  behind = c.requires.plain;
+}
+
+pub returns-in_err-append_first : goal.returns-in_err-append_first
+returns-in_err-append_first g c =
+    let before = c.fills.invariant in
+    let a = c.in_err-append_first.ensures.appends in
+    let p = err_from_is_err_and c.from_residual.result c.from_residual.ensures.1 in
+    let ends = until_refused _ _ _ _ c.fills.self before.handed before.passes c.fills.len _ c.append_first.new.self
+    (omega (arith, before.size)) a.2 a.1 a.3 in
+    rw (p.1, p.2) (record {
+      until = record { handed = before.handed; appended = a.0 ∙ before.appended; front = ends.0; ends = ends.1 };
+    })
+
+pub returns-in_err-fill_retried : goal.returns-in_err-fill_retried
+returns-in_err-fill_retried g c =
+    let before = c.fills.invariant in
+    let a = c.in_ok-append_first.ensures.appends in
+    let f = c.in_err-fill_retried.ensures.retried in
+    let p = err_from_is_err_and c.from_residual-in_err-fill_retried.result
+    c.from_residual-in_err-fill_retried.ensures.1 in
+    let passes = passes_all _ _ _ _ c.fills.self before.handed before.passes c.append_first.new.self c.fills.len before.size
+    before.behind a.1 a.2 in
+    rw (p.1, p.2) (record {
+      until = record {
+        handed = before.handed ++ c.fills.self.block.bytes;
+        appended = appends _ _ _ _ _ before.appended
+            (a.0 ∙ ap (λ l. c.fills.out.items ++ l) (take_whole c.fills.len c.fills.self.block.bytes before.size));
+        front = front_filled _ _ _ _ _ _ passes _ _ f;
+        ends = until_failed _ _ _ _ _ _ passes no_memory _ _ f;
+      };
+    })
+
+pub returns-then-is_empty : goal.returns-then-is_empty
+returns-then-is_empty g c =
+    let before = c.fills.invariant in
+    let a = c.in_ok-append_first.ensures.appends in
+    let f = c.in_ok-fill_retried.ensures.retried in
+    let passes = passes_all _ _ _ _ c.fills.self before.handed before.passes c.append_first.new.self c.fills.len before.size
+    before.behind a.1 a.2 in
+    let none = sym (ap (λ x. length x.block.bytes) c.self-in-fills.view_is)
+    ∙ c.is_empty.ensures.value.0 c.if-is_empty.true in
+    let grown = appends _ _ before.handed c.fills.self.block.bytes _ before.appended
+    (a.0 ∙ ap (λ l. c.fills.out.items ++ l) (take_whole c.fills.len c.fills.self.block.bytes before.size)) in record {
+      until = record {
+        handed = before.handed ++ c.fills.self.block.bytes;
+        appended = grown;
+        front = front_filled _ _ _ _ _ _ passes _ _ f;
+        ends = until_end _ _ _ _ _ _ passes no_memory _ _ (appended_length _ _ _ c.len-start.result c.len.result grown
+            (c.len-start.ensures ∙ c.args.out.now.ok.0) (c.len.ensures ∙ c.append_first.new.out.ok.0)) f none;
+      };
+    }
+
+pub returns-in_err-append_first-in-Some : goal.returns-in_err-append_first-in-Some
+returns-in_err-append_first-in-Some g c =
+    let before = c.fills.invariant in
+    let a = c.in_ok-append_first.ensures.appends in
+    let f = c.in_ok-fill_retried.ensures.retried in
+    let b = c.in_err-append_first-in-Some.ensures.appends in
+    let p = err_from_is_err_and c.from_residual-in_err-append_first-in-Some.result
+    c.from_residual-in_err-append_first-in-Some.ensures.1 in
+    let passes = passes_all _ _ _ _ c.fills.self before.handed before.passes c.append_first.new.self c.fills.len before.size
+    before.behind a.1 a.2 in
+    let now = passes_filled _ _ _ _ _ _ passes c.fill_retried.new.self f in
+    let shown : c.buf.result.now ≡ c.fill_retried.new.self.block.bytes =
+    c.buf.ensures ∙ ap (λ x. x.block.bytes) c.self-in-fills.view_is in
+    let first = subst (FirstAt c.args.byte c.in-Some.at) shown c.in-Some.ensures.found in
+    let ends = until_refused _ _ _ _ c.fill_retried.new.self _ now (c.in-Some.at + 1) _ c.append_first-in-Some.new.self
+    (omega (arith, first.inside)) b.2 b.1 b.3 in
+    rw (p.1, p.2) (record {
+      until = record {
+        handed = before.handed ++ c.fills.self.block.bytes;
+        appended = b.0 ∙ appends _ _ _ _ _ before.appended
+            (a.0 ∙ ap (λ l. c.fills.out.items ++ l) (take_whole c.fills.len c.fills.self.block.bytes before.size));
+        front = ends.0;
+        ends = ends.1;
+      };
+    })
+
+pub returns-in-Some : goal.returns-in-Some
+returns-in-Some g c =
+    let before = c.fills.invariant in
+    let a = c.in_ok-append_first.ensures.appends in
+    let f = c.in_ok-fill_retried.ensures.retried in
+    let b = c.in_ok-append_first-in-Some.ensures.appends in
+    let passes = passes_all _ _ _ _ c.fills.self before.handed before.passes c.append_first.new.self c.fills.len before.size
+    before.behind a.1 a.2 in
+    let now = passes_filled _ _ _ _ _ _ passes c.fill_retried.new.self f in
+    let shown : c.buf.result.now ≡ c.fill_retried.new.self.block.bytes =
+    c.buf.ensures ∙ ap (λ x. x.block.bytes) c.self-in-fills.view_is in
+    let first = subst (FirstAt c.args.byte c.in-Some.at) shown c.in-Some.ensures.found in
+    let grown = appends _ _ before.handed c.fills.self.block.bytes _ before.appended
+    (a.0 ∙ ap (λ l. c.fills.out.items ++ l) (take_whole c.fills.len c.fills.self.block.bytes before.size)) in
+    let all = appends _ _ (before.handed ++ c.fills.self.block.bytes)
+    (take (c.in-Some.at + 1) c.fill_retried.new.self.block.bytes) _ grown b.0 in record {
+      until = record {
+        handed = (before.handed ++ c.fills.self.block.bytes)
+            ++ take (c.in-Some.at + 1) c.fill_retried.new.self.block.bytes;
+        appended = all;
+        front = front_reached _ _ _ _ _ _ now c.in-Some.at _ b.1;
+        ends = until_reached _ _ _ _ _ _ now no_memory _ c.in-Some.at _ (appended_length _ _ _ c.len-start.result
+            c.len-in-Some.result all (c.len-start.ensures ∙ c.args.out.now.ok.0)
+            (c.len-in-Some.ensures ∙ c.append_first-in-Some.new.out.ok.0)) first b.2;
+      };
+    }
+
+pub fills-preserved : goal.fills-preserved
+fills-preserved g c =
+    let before = c.fills.invariant in
+    let a = c.in_ok-append_first.ensures.appends in
+    let passes = passes_all _ _ _ _ c.fills.self before.handed before.passes c.append_first.new.self c.fills.len before.size
+    before.behind a.1 a.2 in
+    let shown : c.buf.result.now ≡ c.fill_retried.new.self.block.bytes =
+    c.buf.ensures ∙ ap (λ x. x.block.bytes) c.self-in-fills.view_is in record {
+      handed = before.handed ++ c.fills.self.block.bytes;
+      passes = passes_filled _ _ _ _ _ _ passes c.fill_retried.new.self c.in_ok-fill_retried.ensures.retried;
+      appended = appends _ _ _ _ _ before.appended
+          (a.0 ∙ ap (λ l. c.fills.out.items ++ l) (take_whole c.fills.len c.fills.self.block.bytes before.size));
+      size = c.len-len-in-None.ensures.value ∙ ap (λ x. length x.block.bytes) c.self-in-fills.view_is;
+      behind = subst (Lacks c.args.byte) shown c.in-None.ensures.none;
+    }

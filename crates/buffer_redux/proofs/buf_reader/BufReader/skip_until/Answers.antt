@@ -1,0 +1,22 @@
+use Rattle.std.proofs.Common.{◌≡◌, ◌+◌, ◌∙◌, [], take, subst, ap, arith}
+use Rattle.redux_buffer.specs.Block.{IsBlock}
+use Rattle.buffer_redux.specs.ReadUntil.{FirstAt, no_count}
+use Rattle.buffer_redux.proofs.UntilSteps.{passes_none, through_length, until_reached}
+use Rattle.buffer_redux.proofs.buf_reader.BufReader.skip_until.Goals as goal
+
+pub returns-in-Some : goal.returns-in-Some
+returns-in-Some g c =
+    let remaining = g.R.TellRead.remaining in
+    let rules = g.P.ReaderPolicy.rules in
+    let s = c.args.self.now in
+    let gone = c.consume.ensures in
+    let shown : c.buf.result.now ≡ s.block.bytes = c.buf.ensures ∙ ap (λ x. x.block.bytes) c.self.view_is in
+    let first = subst (FirstAt c.args.byte c.in-Some.at) shown c.in-Some.ensures.found in
+    let whole = subst (λ x. IsBlock x.block) c.self.view_is c.self.invariant in record {
+      until = record {
+        handed = take (c.in-Some.at + 1) s.block.bytes;
+        front = record { in_order = gone.in_order; keeps = gone.keeps };
+        ends = until_reached remaining rules c.args.byte s s [] (passes_none remaining rules c.args.byte s whole) no_count
+            (c.in-Some.at + 1) c.in-Some.at c.consume.new.self (omega (arith, through_length c.args.byte c.in-Some.at [] s.block.bytes first)) first gone.consumed.told;
+      };
+    }

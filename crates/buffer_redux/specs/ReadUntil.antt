@@ -1,0 +1,98 @@
+-- What calls promise that go on up to a byte, fill after fill.
+use Rattle.std.specs.Prelude.{◌≡◌, ℕ, ◌+◌, ◌^◌, ◌<◌, ◌≤◌, ◌⊎◌, List, [], ◌∷◌, ◌++◌, length, take, drop, Result, Ok, Err, Option}
+use Rattle.std.specs.List.{All}
+use Rattle.std.specs.IoError.{error_kind}
+use Rattle.std.specs.declared.io.Error.{Error}
+use Rattle.std.specs.declared.io.ErrorKind.TheVariants.{OutOfMemory, TimedOut}
+use Rattle.redux_tell.specs.Faults.{OnlyInterrupts}
+use Rattle.redux_policy.specs.Policy.{ReadRules}
+use Rattle.buffer_redux.specs.Buffered.{Buffered}
+use Rattle.buffer_redux.specs.BufReader.{ReadsToEnd}
+use Rattle.buffer_redux.specs.FillRetried.{FillRetried}
+use Rattle.buffer_redux.specs.ReadAll.{HandedFront}
+use Rattle.buffer_redux.specs.ReaderLaws.{WantsBytes}
+
+-- the byte is nowhere in these
+abbrev pub Lacks : ℕ → List ℕ → Type 0
+Lacks byte bytes = All (λ b. ¬ (b ≡ byte)) bytes
+
+-- the byte stands first at this place
+pub record FirstAt (byte at : ℕ) (bytes : List ℕ) : Type 0 where
+  pub inside : at < length bytes
+  pub plain : Lacks byte (take at bytes)
+  pub equal : take at bytes ++ byte ∷ drop (1 + at) bytes ≡ bytes
+
+-- the byte stands last in these, and nowhere else
+pub record EndsIn (byte : ℕ) (bytes : List ℕ) : Type 0 where
+  pub front : List ℕ
+  pub plain : Lacks byte front
+  pub equal : bytes ≡ front ++ byte ∷ []
+
+-- these bytes were handed out, which lack the byte, and no fault came but interrupted reads
+pub record Passes {S P : Type 0} (remaining : S → Option (List ℕ)) (rules : ReadRules P) (byte : ℕ)
+    (s : Buffered S P) (handed : List ℕ) (t : Buffered S P) : Type 0 where
+  pub front : HandedFront remaining rules s handed t
+  pub plain : Lacks byte handed
+  pub faults : OnlyInterrupts s.log.reads.faults t.log.reads.faults
+
+-- then a fill, made again where it was interrupted, answered so
+pub record PassesAndFills {S P : Type 0} (remaining : S → Option (List ℕ)) (rules : ReadRules P) (byte : ℕ)
+    (s : Buffered S P) (handed : List ℕ) (answer : Result (Unit {0}) Error) (t : Buffered S P) : Type 0 where
+  pub last : Buffered S P
+  pub passes : Passes remaining rules byte s handed last
+  pub fill : FillRetried remaining rules last answer t
+
+-- that fill showed nothing. Where the policy wants bytes and there is capacity, the reader has no more
+pub record PassesToEnd {S P : Type 0} (remaining : S → Option (List ℕ)) (rules : ReadRules P) (byte : ℕ)
+    (s : Buffered S P) (handed : List ℕ) (t : Buffered S P) : Type 0 where
+  pub fills : PassesAndFills remaining rules byte s handed (Ok tt) t
+  pub none : t.block.bytes ≡ []
+  pub end : WantsBytes (rules.claims s.policy) → 0 < s.block.capacity → ReadsToEnd remaining rules s handed t
+
+-- these bytes end in the byte, and no fault came but interrupted reads
+pub record Reaches {S P : Type 0} (byte : ℕ) (s : Buffered S P) (handed : List ℕ) (t : Buffered S P) : Type 0 where
+  pub ends : EndsIn byte handed
+  pub faults : OnlyInterrupts s.log.reads.faults t.log.reads.faults
+
+-- the call stopped of its own before what is buffered, for which it had no memory, or which no usize counts
+abbrev pub Stops : Type 1
+Stops = List ℕ → Error → List ℕ → Type 0
+
+abbrev pub no_memory : Stops
+no_memory handed e buffered = (error_kind e ≡ OutOfMemory) × (0 < length buffered)
+
+abbrev pub no_count : Stops
+no_count handed e buffered = (error_kind e ≡ TimedOut) × (2 ^ 64 ≤ length handed + length buffered)
+
+-- how such a call ends which handed these bytes out: at Ok they are so many, and end in the byte or at the end of all; at
+-- Err they lack it, and the last fill failed or the call stopped
+abbrev pub EndsUntil : {S P : Type 0} → (S → Option (List ℕ)) → ReadRules P → Stops → ℕ → Buffered S P
+    → Result ℕ Error → List ℕ → Buffered S P → Type 0
+EndsUntil remaining rules stops byte s (Ok n) handed t =
+    (n ≡ length handed) × (Reaches byte s handed t ⊎ PassesToEnd remaining rules byte s handed t)
+EndsUntil remaining rules stops byte s (Err e) handed t =
+    PassesAndFills remaining rules byte s handed (Err e) t
+    ⊎ (Passes remaining rules byte s handed t × stops handed e t.block.bytes)
+
+-- what `skip_until(byte)` does: these bytes were handed out to nobody
+pub record SkipsUntil {S P : Type 0} (remaining : S → Option (List ℕ)) (rules : ReadRules P) (byte : ℕ)
+    (s : Buffered S P) (answer : Result ℕ Error) (t : Buffered S P) : Type 0 where
+  pub handed : List ℕ
+  pub front : HandedFront remaining rules s handed t
+  pub ends : EndsUntil remaining rules no_count byte s answer handed t
+
+-- what `read_until(byte, out)` does, which left `out` so: these bytes were handed out, behind those that were there
+pub record ReadsUntil {S P : Type 0} (remaining : S → Option (List ℕ)) (rules : ReadRules P) (byte : ℕ)
+    (s : Buffered S P) (before : List ℕ) (answer : Result ℕ Error) (after : List ℕ) (t : Buffered S P) : Type 0 where
+  pub handed : List ℕ
+  pub appended : after ≡ before ++ handed
+  pub front : HandedFront remaining rules s handed t
+  pub ends : EndsUntil remaining rules no_memory byte s answer handed t
+
+-- the first n bytes that are buffered were handed out, behind those that were there; without memory nothing was done
+abbrev pub AppendsFirst : {S P A : Type 0} → (S → Option (List ℕ)) → ReadRules P → ℕ → Buffered S P → List ℕ
+    → Result A Error → List ℕ → Buffered S P → Type 0
+AppendsFirst remaining rules n s before (Ok a) after t =
+    (after ≡ before ++ take n s.block.bytes) × HandedFront remaining rules s (take n s.block.bytes) t × (t.log ≡ s.log)
+AppendsFirst remaining rules n s before (Err e) after t =
+    (after ≡ before) × (t ≡ s) × (0 < n) × (error_kind e ≡ OutOfMemory)
