@@ -1,14 +1,14 @@
 -- What sending does, write after write.
-use Rattle.std.proofs.Common.{◌≡◌, ◌∙◌, ℕ, ◌+◌, ◌-◌, ◌*◌, ◌<◌, ◌≤◌, List, [], ◌∷◌, ◌++◌, length, min, take, sym, refl, ap, arith}
-use Rattle.std.proofs.Common.{append-nil, append_assoc, length-append, length-drop, take-take, Result, Ok, Err, inl, inr}
+use Rattle.std.proofs.Common.{◌≡◌, ◌∙◌, ℕ, zero, ◌+◌, ◌-◌, ◌*◌, ◌<◌, ◌≤◌, List, [], ◌∷◌, ◌++◌, length, min, take, sym, refl, ap, arith}
+use Rattle.std.proofs.Common.{append-nil, append_assoc, length-append, length-drop, take-take, Result, Ok, Err, IfErr, inl, inr}
 use Rattle.std.proofs.Math.Seq.{take-add}
 use Rattle.std.proofs.lemmas.List.Elements.{All-push}
 use Rattle.std.specs.IoError.{error_kind}
 use Rattle.std.specs.declared.io.Error.{Error}
 use Rattle.std.specs.declared.io.ErrorKind.TheVariants.{WriteZero}
 use Rattle.redux_buffer.specs.Block.{Block, ConsumesFirst, OnlyRingMoves}
-use Rattle.redux_tell.specs.StreamLog.{StreamLog, portion, after_write, zero_of_some, zero_of_none, short_of_less, short_of_all}
-use Rattle.redux_tell.specs.Faults.{IsInterrupt, OnlyInterrupted, OnlyInterrupted-joins, TookNothing-after, FaultedAfter-after}
+use Rattle.redux_tell.specs.StreamLog.{StreamLog, portion, with_fault, with_short, with_zero, after_write, zero_of_some, zero_of_none, short_of_less, short_of_all}
+use Rattle.redux_tell.specs.Faults.{IsInterrupt, OnlyInterrupted, OnlyInterrupted-none, OnlyInterrupted-joins, TookNothing-after, FaultedAfter-after}
 use Rattle.redux_buffer.specs.Transfer.{OnlyWrites, WritesRetried, WholeWrites, Sent, Sends}
 use Rattle.redux_buffer.proofs.Steps.{OnlyRingMoves-joins, ConsumesFirst-joins}
 
@@ -25,6 +25,19 @@ pub record Interrupts (count : ℕ) (old new : StreamLog) : Type 0 where
 
 OnlyWrites-joins : (a b c : StreamLog) → OnlyWrites a b → OnlyWrites b c → OnlyWrites a c
 OnlyWrites-joins a b c p q = record { reads = q.reads ∙ p.reads; fills = q.fills ∙ p.fills; seeks = q.seeks ∙ p.seeks }
+
+-- none
+no_interrupts : (a : StreamLog) → Interrupts 0 a a
+no_interrupts a = record {
+  received = refl;
+  flushed = refl;
+  errors = [];
+  number = refl;
+  asks = omega arith;
+  short_writes = omega arith;
+  only = OnlyInterrupted-none a.writes;
+  others = record { reads = refl; fills = refl; seeks = refl };
+}
 
 -- one more
 pub Interrupts-more : (count : ℕ) (bs : List ℕ) (e : Error) (a b c : StreamLog) → Interrupts count a b
@@ -48,6 +61,50 @@ Interrupts-more count bs e a b c met is told = record {
     seeks = ap (λ l. l.seeks) told ∙ met.others.seeks;
   };
 }
+
+-- the first of them
+pub Interrupts-first : (bs : List ℕ) (e : Error) (a c : StreamLog) → IsInterrupt e → c ≡ after_write a bs (Err e)
+    → Interrupts 1 a c
+Interrupts-first bs e a c = Interrupts-more 0 bs e a a c (no_interrupts a)
+
+-- the write that came after them, whose answer ends it
+pub Interrupts-end : (count : ℕ) (bs : List ℕ) (answer : Result ℕ Error) (a b c : StreamLog) → Interrupts count a b
+    → count ≤ 64 → IfErr answer (λ e. IsInterrupt e → count ≡ 64) → c ≡ after_write b bs answer
+    → WritesRetried bs a answer c
+Interrupts-end count bs answer a b c met few often told = record {
+  interrupts = met.errors;
+  interrupted = met.only.interrupted;
+  most = omega (arith, few, met.number);
+  often = often_of answer often;
+  received = ap (λ l. l.writes.received) told ∙ ap (λ l. l ++ portion bs answer) met.received;
+  flushed = ap (λ l. l.writes.flushed) told ∙ met.flushed;
+  asks = omega (arith, ap (λ l. l.writes.asks) told, met.asks, met.number);
+  short_writes = ap (λ l. l.writes.short_writes) told
+      ∙ ap (λ n. with_short n bs answer) (omega (arith, met.short_writes, met.number));
+  offered = ap (λ l. l.writes.offer) told;
+  zero_writes = ap (λ l. l.writes.zero_writes) told ∙ ap (λ n. with_zero n bs answer) met.only.zero_writes;
+  faults = ap (λ l. l.writes.faults) told ∙ ap (λ l. with_fault l answer) met.only.faults;
+  others = record {
+    reads = ap (λ l. l.reads) told ∙ met.others.reads;
+    fills = ap (λ l. l.fills) told ∙ met.others.fills;
+    seeks = ap (λ l. l.seeks) told ∙ met.others.seeks;
+  };
+}
+  where
+    often_of : (x : Result ℕ Error) → IfErr x (λ e. IsInterrupt e → count ≡ 64)
+        → IfErr x (λ e. IsInterrupt e → length met.errors ≡ 64)
+    often_of (Ok n) is = tt
+    often_of (Err e) is = λ interrupted. met.number ∙ is interrupted
+
+-- where none was, and it wasn't either
+pub Interrupts-none : (bs : List ℕ) (answer : Result ℕ Error) (a c : StreamLog) → c ≡ after_write a bs answer
+    → IfErr answer (λ e. IsInterrupt e → ⊥) → WritesRetried bs a answer c
+Interrupts-none bs answer a c told other =
+    Interrupts-end 0 bs answer a a c (no_interrupts a) (omega arith) (of answer other) told
+  where
+    of : (x : Result ℕ Error) → IfErr x (λ e. IsInterrupt e → ⊥) → IfErr x (λ e. IsInterrupt e → zero ≡ 64)
+    of (Ok n) is = tt
+    of (Err e) is = λ interrupted. absurd (is interrupted)
 
 module _ (k : ℕ) (es : List Error) (len : ℕ) (a b : Block) (log log' log'' : StreamLog) (sent : Sent k a log b log')
     (only : OnlyInterrupted es log.writes log'.writes) (few : length es ≤ 64 * k) where

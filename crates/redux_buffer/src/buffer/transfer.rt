@@ -1,9 +1,10 @@
 //! What a buffer reads from and writes to a stream.
-ghost use Rattle.std.specs.Prelude.{◌≡◌, ◌<◌, ◌⊎◌, length, Ok, OnErr};
+ghost use Rattle.std.specs.Prelude.{◌≡◌, ◌<◌, ◌⊎◌, length, Ok, Err, OnErr};
 ghost use Rattle.std.specs.Io.{WritesAtMost};
 ghost use Rattle.std.specs.Io.KnownBytes.{IsAtEnd};
 ghost use Rattle.redux_buffer.specs.Block.{IsBlock, LeavesBytes, OnlyRingMoves, usable};
 ghost use Rattle.redux_tell.specs.GivesRemaining.{GivesRemaining};
+ghost use Rattle.redux_tell.specs.StreamLog.{StreamLog, after_write};
 ghost use Rattle.redux_buffer.specs.Transfer.{ReadsFrom, WritesTo, WritesRetried, Sends};
 
 use crate::buffer::Buffer;
@@ -64,12 +65,15 @@ impl Buffer {
     {
         let mut left = max.min(self.len());
         while left > 0 {
-            let n = write_retried(wrt, &self.buf()[..left])?;
-            if n == 0 {
-                return Err(io::Error::from(ErrorKind::WriteZero));
+            // By a `match`, since a `?` copies the answer, which has 96 bytes.
+            match write_retried(wrt, &self.buf()[..left]) {
+                Ok(0) => return Err(io::Error::from(ErrorKind::WriteZero)),
+                Ok(n) => {
+                    self.consume(n);
+                    left -= n;
+                }
+                Err(e) => return Err(e),
             }
-            self.consume(n);
-            left -= n;
         }
         Ok(())
     }
@@ -88,12 +92,42 @@ impl Buffer {
 }
 
 // One write, asked again where it was interrupted, `INTERRUPT_LIMIT` times at the most.
+#[inline(always)]
 fn write_retried<W: TellWrite>(wrt: &mut W, bytes: &[u8]) -> io::Result<usize>
     ensures bound { WritesAtMost result bytes.now }
     ensures wrote { WritesRetried bytes.now (W.log wrt.old) result (W.log wrt.new) }
     ensures stretch { W.stretch wrt.old wrt.new }
 {
-    for _ in 0..INTERRUPT_LIMIT {
+    match wrt.write_told(bytes) {
+        Ok(n) => Ok(n),
+        Err(e) => retry_aside(e, wrt, bytes),
+    }
+}
+
+// Goes on after a first write that failed so. It stands apart, and what it answers is cleared in here, which is inlined,
+// and so where it is called alone.
+#[inline(always)]
+fn retry_aside<W: TellWrite>(e: io::Error, wrt: &mut W, bytes: &[u8]) -> io::Result<usize>
+    ensures bound { WritesAtMost result bytes.now }
+    ensures wrote { (log : StreamLog) → W.log wrt.old ≡ after_write log bytes.now (Err e)
+        → WritesRetried bytes.now log result (W.log wrt.new) }
+    ensures stretch { W.stretch wrt.old wrt.new }
+{
+    retry(e, wrt, bytes)
+}
+
+#[cold]
+#[inline(never)]
+fn retry<W: TellWrite>(e: io::Error, wrt: &mut W, bytes: &[u8]) -> io::Result<usize>
+    ensures bound { WritesAtMost result bytes.now }
+    ensures wrote { (log : StreamLog) → W.log wrt.old ≡ after_write log bytes.now (Err e)
+        → WritesRetried bytes.now log result (W.log wrt.new) }
+    ensures stretch { W.stretch wrt.old wrt.new }
+{
+    if e.kind() != ErrorKind::Interrupted {
+        return Err(e);
+    }
+    for _ in 1..INTERRUPT_LIMIT {
         match wrt.write_told(bytes) {
             Ok(n) => return Ok(n),
             Err(e) => {

@@ -1,28 +1,26 @@
 use Rattle.std.proofs.Common.{◌≡◌, ◌≤◌, ◌<◌, ◌+◌, ◌-◌, [], ◌++◌, length, arith, rules, ap, ◌∙◌, length-append, length-drop, length-take-le}
-use Rattle.std.proofs.lemmas.Result.{err_from_is_err_and}
 use Rattle.redux_tell.specs.Faults.{OnlyInterrupted-none}
 use Rattle.std.proofs.lemmas.Grind.{common_steps}
 use Rattle.redux_buffer.proofs.Sending.{Sent-more, only_more, short_more, whole_more, sends_failed, sends_nothing}
 use Rattle.redux_buffer.proofs.buffer.Buffer.write_max.Goals as goal
 
-pub returns-in_err-n-clause-sent : goal.returns-in_err-n-clause-sent
-returns-in_err-n-clause-sent g c =
+pub returns-in-Err-clause-sent : goal.returns-in-Err-clause-sent
+returns-in-Err-clause-sent g c =
     let inv = c.loop-left.invariant in
-    let wrote = rw c.buf.ensures at c.in_err-n.ensures.wrote in
-    let p = err_from_is_err_and c.from_residual.result c.from_residual.ensures.1 in
+    let wrote = rw c.buf.ensures at c.in-Err.ensures.wrote in
     let left = c.loop-left.left in
     let size = length-take-le left c.loop-left.self.bytes inv.room in
-    rw (p.1, p.2) (sends_failed inv.count inv.interrupts left _ _ _ _ _ inv.sent inv.only inv.few
-    c.args.max c.in_err-n.field-0.0 (inv.short (omega arith)) (omega (arith, inv.rest)) (omega (arith, size)) wrote)
+    sends_failed inv.count inv.interrupts left _ _ _ _ _ inv.sent inv.only inv.few
+    c.args.max c.in-Err.e (inv.short (omega arith)) (omega (arith, inv.rest)) (omega (arith, size)) wrote
 
-pub returns-then-n-eq0-clause-sent : goal.returns-then-n-eq0-clause-sent
-returns-then-n-eq0-clause-sent g c =
+pub returns-in-Ok-eq0-clause-sent : goal.returns-in-Ok-eq0-clause-sent
+returns-in-Ok-eq0-clause-sent g c =
     let inv = c.loop-left.invariant in
     let left = c.loop-left.left in
-    let wrote = rw c.buf.ensures at c.in_ok-n.ensures.wrote in
+    let wrote = rw c.buf.ensures at c.in-Ok-eq0.ensures.wrote in
     let size = length-take-le left c.loop-left.self.bytes inv.room in
-    sends_nothing inv.count inv.interrupts left _ _ _ _ _ inv.sent inv.only inv.few c.args.max c.in_ok-n.n c.from.result
-    (inv.short (omega arith)) (omega (arith, inv.rest)) c.if-n-eq0.true (omega (arith, size)) c.from.ensures wrote
+    sends_nothing inv.count inv.interrupts left _ _ _ _ _ inv.sent inv.only inv.few c.args.max c.in-Ok-eq0.field-0 c.from.result
+    (inv.short (omega arith)) (omega (arith, inv.rest)) c.in-Ok-eq0.field-0-test (omega (arith, size)) c.from.ensures wrote
 
 pub loop-left-init : goal.loop-left-init
 loop-left-init g c = record {
@@ -44,13 +42,13 @@ loop-left-init g c = record {
 pub loop-left-preserved : goal.loop-left-preserved
 loop-left-preserved g c =
     let inv = c.loop-left.invariant in
-    let n = c.in_ok-n.n in
+    let n = c.in-Ok.n in
     let left = c.loop-left.left in
-    let wrote = rw c.buf.ensures at c.in_ok-n.ensures.wrote in
-    let bound = rw c.buf.ensures at c.in_ok-n.ensures.bound in
+    let wrote = rw c.buf.ensures at c.in-Ok.ensures.wrote in
+    let bound = rw c.buf.ensures at c.in-Ok.ensures.bound in
     let size = length-take-le left c.loop-left.self.bytes inv.room in
     let fits : n ≤ left = omega (arith, bound, size) in
-    let some : 0 < n = omega arith in
+    let some : 0 < n = omega (arith, c.in-Ok.n-test, c.in-Ok.n-is) in
     let last : length c.consume.new.self.bytes ≡ length c.loop-left.self.bytes - n =
     ap length c.consume.ensures.bytes.bytes ∙ length-drop n c.loop-left.self.bytes in
     record {
@@ -67,8 +65,8 @@ loop-left-preserved g c =
           (inv.short (omega (arith, some, fits))) wrote (omega (arith, more, size));
       last = λ none _. whole_more inv.count inv.interrupts left _ _ _ _ _ inv.sent inv.only inv.few n
           (inv.short (omega (arith, some, fits))) wrote (omega (arith, none, size));
-      untouched = λ none. absurd (c.if-n-eq0.false (omega (arith, none)));
-      stretch = g.met.W.TellWrite.stretch_joins _ _ _ inv.stretch c.in_ok-n.ensures.stretch;
+      untouched = λ none. absurd (omega (arith, none, some));
+      stretch = g.met.W.TellWrite.stretch_joins _ _ _ inv.stretch c.in-Ok.ensures.stretch;
       whole = c.consume.ensures.whole;
     }
 
@@ -80,15 +78,3 @@ returns-clause-idle g c = grind (arith, common_steps)
 
 pub returns-clause-whole : goal.returns-clause-whole
 returns-clause-whole g c = grind (arith, common_steps)
-
-pub returns-in_err-n-clause-idle : goal.returns-in_err-n-clause-idle
-returns-in_err-n-clause-idle g c = grind (arith, common_steps)
-
-pub returns-in_err-n-clause-whole : goal.returns-in_err-n-clause-whole
-returns-in_err-n-clause-whole g c = grind (arith, common_steps)
-
-pub returns-then-n-eq0-clause-idle : goal.returns-then-n-eq0-clause-idle
-returns-then-n-eq0-clause-idle g c = grind (arith, common_steps)
-
-pub returns-then-n-eq0-clause-whole : goal.returns-then-n-eq0-clause-whole
-returns-then-n-eq0-clause-whole g c = grind (arith, common_steps)
