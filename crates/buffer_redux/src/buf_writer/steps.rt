@@ -14,10 +14,8 @@ use std::io;
 use std::io::{ErrorKind, Write};
 
 impl<W: TellWrite, P: WriterPolicy> BufWriter<W, P> {
-    // All of a write but the first question: flushes the amount, takes the bytes in and asks the policy once more. It
-    // stands apart, so that a write that sends nothing first and fits is short in its caller.
-    #[cold]
-    #[inline(never)]
+    // All of a write but the first question: flushes the amount, takes the bytes in and asks the policy once more.
+    #[inline(always)]
     fn write_slowly(&mut self, first: usize, bytes: &[u8]) -> io::Result<usize>
         ensures bound { WritesAtMost result bytes.now }
         ensures steps { WritesOn P.rules first self.old bytes.now result self.new }
@@ -28,6 +26,18 @@ impl<W: TellWrite, P: WriterPolicy> BufWriter<W, P> {
         let written = self.take_in(bytes)?;
         self.flush_after();
         Ok(written)
+    }
+
+    // The same apart, so that a write that sends nothing first and fits is short in its caller.
+    #[cold]
+    #[inline(never)]
+    fn write_apart(&mut self, first: usize, bytes: &[u8]) -> io::Result<usize>
+        ensures bound { WritesAtMost result bytes.now }
+        ensures steps { WritesOn P.rules first self.old bytes.now result self.new }
+        ensures whole { IsBlock self.new.block }
+        ensures stretch { InnerWent W.log W.stretch self.old self.new }
+    {
+        self.write_slowly(first, bytes)
     }
 
     // All of a write that may not fit behind what is buffered.
@@ -53,7 +63,7 @@ impl<W: TellWrite, P: WriterPolicy> BufWriter<W, P> {
         self.write_asking(bytes)
     }
 
-    // Goes on in `write_slowly`. The kit's compiler clears the answer of a call, here 96 bytes, where the function that makes
+    // Goes on in `write_apart`. The kit's compiler clears the answer of a call, here 96 bytes, where the function that makes
     // the call begins; of a call made in here, which is inlined, that is behind the tests of `write`.
     #[inline(always)]
     pub(super) fn write_aside(&mut self, first: usize, bytes: &[u8]) -> io::Result<usize>
@@ -62,7 +72,7 @@ impl<W: TellWrite, P: WriterPolicy> BufWriter<W, P> {
         ensures whole { IsBlock self.new.block }
         ensures stretch { InnerWent W.log W.stretch self.old self.new }
     {
-        self.write_slowly(first, bytes)
+        self.write_apart(first, bytes)
     }
 
     // Goes on after the first write of a write of all bytes, which returned `answer`: writes what is left, where that write
@@ -88,7 +98,7 @@ impl<W: TellWrite, P: WriterPolicy> BufWriter<W, P> {
         Err(io::Error::from(ErrorKind::TimedOut))
     }
 
-    // All of a write of all bytes but the first question. It stands apart, as `write_slowly` does.
+    // All of a write of all bytes but the first question. It stands apart, as `write_apart` does.
     #[cold]
     #[inline(never)]
     fn write_rest(&mut self, first: usize, bytes: &[u8]) -> io::Result<()>
