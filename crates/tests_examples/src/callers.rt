@@ -1,8 +1,8 @@
 //! The callers of `uses`, a module each.
+mod commands;
 mod csv_rows;
 mod full_log;
 mod int_lines;
-mod kv;
 mod line_count;
 mod own_policy;
 mod packed;
