@@ -24,6 +24,7 @@ pub fn packed(alloc: Global, records: &[Vec<u8>]) -> io::Result<Vec<u8>>
 }
 
 /// Writes one record. Its frame then stands behind what the writer received before, there or in its buffer.
+/// An `Err` may leave a part of it there, as of `write_record`: write nothing more behind it.
 pub fn pack_record<W: TellWrite, P: WriterPolicy>(
     writer: &mut BufWriter<W, P>,
     bytes: &[u8],

@@ -11,6 +11,9 @@ use std::io;
 use std::io::{BufRead, ErrorKind, Read, Write};
 
 /// Writes one record behind what the writer holds.
+///
+/// An `Err` may leave a part of the record written, as its length without its payload: write nothing more behind it, since a
+/// reader would take that for the payload. `FrameWriter` of the crate `frame_reader` tears no frame.
 pub fn write_record<W: Write>(writer: &mut W, bytes: &[u8]) -> io::Result<()>
     requires short { IsShort bytes.now }
     ensures { OnOk result (Appends (W.contents writer.old) (W.contents writer.new) (frame bytes.now)) }
@@ -19,7 +22,7 @@ pub fn write_record<W: Write>(writer: &mut W, bytes: &[u8]) -> io::Result<()>
     writer.write_all(bytes)
 }
 
-/// Writes all records, one behind the other.
+/// Writes all records, one behind the other. After an `Err` write nothing more, as of `write_record`.
 pub fn write_records<W: Write>(writer: &mut W, records: &[Vec<u8>]) -> io::Result<()>
     requires short { AreShort records.now }
     ensures { OnOk result (Appends (W.contents writer.old) (W.contents writer.new) (frames records.now)) }
@@ -31,6 +34,9 @@ pub fn write_records<W: Write>(writer: &mut W, records: &[Vec<u8>]) -> io::Resul
 }
 
 /// The next record, or none at the end.
+///
+/// An `Err` may have taken the length and a part of the payload, which are lost, also where the stream could go on: give the
+/// reader up, since the next call would take payload for a length. `FrameReader` of the crate `frame_reader` can be asked again.
 pub fn read_record<R: BufRead>(alloc: Global, reader: &mut R) -> io::Result<Option<Vec<u8>>>
     ensures { IfOk result (λ next. MatchOption next (IsAtEnd (R.remaining reader.old)) (λ v.
         IsShort (vec_items v) × Consumes (R.remaining reader.old) (R.remaining reader.new) (frame (vec_items v)))) }
@@ -42,7 +48,7 @@ pub fn read_record<R: BufRead>(alloc: Global, reader: &mut R) -> io::Result<Opti
     Ok(Some(read_bytes(alloc, reader, usize::from(len))?))
 }
 
-/// All records up to the end.
+/// All records up to the end. After an `Err` give the reader up, as of `read_record`.
 pub fn read_records<R: BufRead>(alloc: Global, reader: &mut R) -> io::Result<Vec<Vec<u8>>>
     ensures short { IfOk result (λ v. AreShort (vec_items v)) }
     ensures all { IfOk result (λ v. IfSome (R.remaining reader.old) (λ xs. xs ≡ frames (vec_items v))) }
