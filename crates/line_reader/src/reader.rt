@@ -177,6 +177,7 @@ impl<R: Tell> LineReader<R> {
     /// the beginning of one that is too long, or the stream ended, which no call has told yet.
     ///
     /// What an earlier call of that searched isn't searched again.
+    #[inline]
     pub fn has_line(&self) -> bool
         ensures { IsTrue result ↔ HasLine self.now }
     {
