@@ -271,6 +271,23 @@ END
     refused unpack "$scratch/frame" "$scratch/line"
 }
 
+# Each byte between two parts of a body, which has no payload or is refused.
+each_byte() { # what stands in front, what behind, which bytes are taken
+    byte=0
+    while [ "$byte" -lt 256 ]; do
+        want=4
+        for range in $3; do
+            if [ "$byte" -ge "${range%-*}" ] && [ "$byte" -le "${range#*-}" ]; then want=0; fi
+        done
+        printf '%b' "$1\\0$((byte / 64))$((byte / 8 % 8))$((byte % 8))$2" > "$scratch/in"
+        "$program" decode < "$scratch/in" > "$scratch/out" 2> "$scratch/err"
+        came=$?
+        if [ "$came" -ne "$want" ]; then wrong "bodies of $1, byte $byte, $2: status $came" "$scratch/err"; fi
+        runs=$((runs + 1))
+        byte=$((byte + 1))
+    done
+}
+
 run_bodies() {
     # What was decoded of what is wrong, and behind how many bytes of a body.
     gives decode '4\r\nWiki\r\n7\r\npedia i\r\nB\r\nn \r\nchunks.\r\n0\r\n\r\n' 'Wikipedia in \r\nchunks.'
@@ -291,6 +308,110 @@ hello||4|a chunk without a size, behind 0 bytes of a body
 1\r\na\r\r\n|a|4|a CR without an LF, behind 5 bytes of a body
 1\na||4|an LF without a CR, behind 1 bytes of a body
 END
+    # Each form of an extension and of a line of the trailers, in the words of RFC 9112 and RFC 9110.
+    while IFS= read -r extension; do
+        gives decode "1$extension\\r\\na\\r\\n000$extension\\r\\n\\r\\n" a
+    done <<'END'
+;a
+;!#$%&'*+-.^_`|~09AZaz
+ \t;\t a
+;a=b;c;d=e
+;a \t=\t b
+ ; a = b ; c
+;a=""
+;a="b" ;c
+;a="\t !#[]~;=\0200\0377"
+;a="\\"\\\\\\ \\\t\\a\\\0377";b
+END
+    while IFS= read -r trailer; do
+        gives decode "0\\r\\n$trailer\\r\\nb:\\r\\n$trailer\\r\\n\\r\\n" ''
+    done <<'END'
+a:
+!#$%&'*+-.^_`|~09AZaz:
+a:b
+a:\t b \t:\t"\\~\0200\0377
+END
+    # Each way to break one, and how many bytes are right.
+    while IFS='|' read -r right line; do
+        gives decode "1$line\\r\\na\\r\\n0\\r\\n\\r\\n" '' 4 \
+            "bodies: a wrong byte in the line of a size, behind $right bytes of a body"
+    done <<'END'
+1|,
+1|=a
+2|\0040
+2|\t
+2| =
+2|;
+3|;\0040
+2|;;a
+2|;"a"
+2|;=a
+2|;\0200
+3|;a/b
+3|;a"b"
+4|;a\0040
+4|;a b
+4|;a=
+5|;a=\0040
+4|;a=;b
+4|;a==b
+6|;a=b\0040
+5|;a=b=c
+5|;a=b"c"
+6|;a="b
+5|;a="\001"
+5|;a="\0177"
+6|;a="\\
+6|;a="\\\0177"
+6|;a=""b
+7|;a=""\0040
+END
+    while IFS='|' read -r right line; do
+        gives decode "0\\r\\n$line\\r\\n\\r\\n" '' 4 \
+            "bodies: a wrong byte in a line of the trailers, behind $right bytes of a body"
+    done <<'END'
+3| a: b
+3|\ta: b
+3|: b
+3|\0200: b
+4|a
+4|a : b
+4|a/b: c
+6|a: \0000
+5|a:\0177
+7|a:\r\n b
+END
+    # Each byte at each place where another may stand.
+    while IFS='|' read -r front behind allowed; do
+        each_byte "$front" "$behind" "$allowed"
+    done <<'END'
+0;|\r\n\r\n|33 35-39 42-43 45-46 48-57 65-90 94-122 124 126
+0;|a\r\n\r\n|9 32-33 35-39 42-43 45-46 48-57 65-90 94-122 124 126
+0;a|b\r\n\r\n|33 35-39 42-43 45-46 48-57 59 61 65-90 94-122 124 126
+0;a |b\r\n\r\n|59 61
+0;a=|\r\n\r\n|33 35-39 42-43 45-46 48-57 65-90 94-122 124 126
+0;a=|b"\r\n\r\n|34
+0;a=b|;c\r\n\r\n|9 32-33 35-39 42-43 45-46 48-57 65-90 94-122 124 126
+0;a="|"\r\n\r\n|9 32-33 35-91 93-126 128-255
+0;a="\\|"\r\n\r\n|9 32-126 128-255
+0;a="b"|c\r\n\r\n|59
+0;a="b"|\r\n\r\n|
+0\r\n|:\r\n\r\n|33 35-39 42-43 45-46 48-57 65-90 94-122 124 126
+0\r\na|:\r\n\r\n|33 35-39 42-43 45-46 48-58 65-90 94-122 124 126
+0\r\na:|\r\n\r\n|9 32-126 128-255
+END
+    # Each cut.
+    printf '2 ; a = "\\\\b";c\r\nab\r\n0;d\r\na: b\r\n\r\n' > "$scratch/whole"
+    printf 'ab' > "$scratch/ab"
+    turns decode "$scratch/whole" "$scratch/ab"
+    right=0
+    while [ "$right" -lt "$(wc -c < "$scratch/whole")" ]; do
+        head -c "$right" "$scratch/whole" > "$scratch/cut"
+        took=$((right < 18 ? 0 : right < 20 ? right - 17 : 2))
+        head -c "$took" "$scratch/ab" > "$scratch/part"
+        turns decode "$scratch/cut" "$scratch/part" 5 "bodies: the input ends after $right bytes of a body"
+        right=$((right + 1))
+    done
     gives decode "5;$most" '' 4 'bodies: the line of a size is too long, behind 8192 bytes of a body'
     gives decode "0\\r\\nA: $most" '' 4 'bodies: the trailers are too long, behind 65539 bytes of a body'
     # A payload, and its body.

@@ -3,7 +3,7 @@ use Rattle.std.proofs.Common.{ℕ, zero, suc, ◌-◌, ◌<◌, List, [], ◌∷
 use Rattle.std.proofs.lemmas.List.{length-replicate}
 use Rattle.chunked.specs.declared.limits.Limits.{Limits}
 use Rattle.chunked.specs.declared.place.Place.{Place}
-use Rattle.chunked.specs.declared.place.Place.TheVariants.{Line, Size, Blank, Extension, SizeFeed, Data, DataFeed, Fields, FieldName, FieldValue, FieldFeed, LastFeed, Done}
+use Rattle.chunked.specs.declared.place.Place.TheVariants.{Line, Size, Extension, SizeFeed, Data, DataFeed, Fields, FieldName, FieldValue, FieldFeed, LastFeed, Done}
 use Rattle.chunked.specs.Body.{line_end, IsBody, IsTrailers}
 use Rattle.chunked.specs.FieldLaws.{IsField-valued}
 use Rattle.chunked.specs.Place.{BehindSize, Completes, CompletesData, IsPlace}
@@ -24,7 +24,7 @@ module _ (limits : Limits) where
         numeral = (omega arith, (omega arith, tt));
         value = refl;
         small = omega arith;
-        follows = tt;
+        follows = (0, refl);
         fits = omega (arith, some);
       };
       behind = line_end [];
@@ -80,34 +80,21 @@ module _ (limits : Limits) where
       all = tt;
       value = refl;
       small = is;
-      follows = tt;
+      follows = (0, refl);
       fits = omega arith;
       goes_on = goes.goes_on;
     };
   }
-  Completes-some some (Blank size room) is = let goes = size_some some size in record {
-    rest = line_end goes.rest;
+  Completes-some some (Extension within size room) is = let goes = size_some some size in record {
+    rest = is.1.0 ++ line_end goes.rest;
     payload = goes.payload;
     completes = record {
-      text = [];
+      text = is.1.0;
       behind = goes.rest;
       equal = refl;
-      is_rest = tt;
-      fits = omega arith;
-      small = is;
-      goes_on = goes.goes_on;
-    };
-  }
-  Completes-some some (Extension size room) is = let goes = size_some some size in record {
-    rest = line_end goes.rest;
-    payload = goes.payload;
-    completes = record {
-      text = [];
-      behind = goes.rest;
-      equal = refl;
-      is_rest = tt;
-      fits = omega arith;
-      small = is;
+      is_rest = is.1.1;
+      fits = is.1.2;
+      small = is.0;
       goes_on = goes.goes_on;
     };
   }

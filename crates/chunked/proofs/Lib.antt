@@ -1,10 +1,11 @@
 mod Digits
 pub mod Writing
 pub mod Lines
+pub mod Least
+pub mod Extending
 pub mod Passing
 pub mod PassingOn
 pub mod Wrong
-pub mod Texts
 pub mod Skipping
 pub mod Handing
 pub mod Payload

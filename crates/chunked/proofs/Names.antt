@@ -1,32 +1,24 @@
 -- A byte that is wrong has one name.
-use Rattle.std.proofs.Common.{◌≡◌, ℕ, ◌⊎◌, inl, inr, refl, arith}
+use Rattle.std.proofs.Common.{◌≡◌, ℕ, ◌∷◌, inl, inr, refl, arith}
 use Rattle.chunked.specs.declared.error.Malformed.{Malformed}
 use Rattle.chunked.specs.declared.error.Malformed.TheVariants.{NoSize, BadSize, BadField, SizeTooLarge, LineTooLong, TrailersTooLong, BareReturn, BareFeed, ChunkTooLong}
 use Rattle.chunked.specs.declared.limits.Limits.{Limits}
 use Rattle.chunked.specs.declared.place.Place.{Place}
-use Rattle.chunked.specs.declared.place.Place.TheVariants.{Line, Size, Blank, Extension, SizeFeed, Data, DataFeed, Fields, FieldName, FieldValue, FieldFeed, LastFeed}
-use Rattle.chunked.specs.Token.{IsBlank, IsTokenByte, IsValueByte}
-use Rattle.chunked.specs.Body.{IsTextByte}
-use Rattle.chunked.specs.BodyLaws.{blank_no_digit, semicolon_no_digit, digit_is_text, blank_is_text}
+use Rattle.chunked.specs.declared.place.Place.TheVariants.{Line, Size, Extension, SizeFeed, Data, DataFeed, Fields, FieldName, FieldValue, FieldFeed, LastFeed}
+use Rattle.chunked.specs.declared.extension.Within.{Within}
+use Rattle.chunked.specs.declared.extension.Within.TheVariants.{Behind}
+use Rattle.chunked.specs.WithinLaws.{Extends-text}
+use Rattle.chunked.specs.BodyLaws.{digit_is_text, extension_no_digit}
 use Rattle.chunked.specs.FieldLaws.{token_is_text, value_is_text}
-use Rattle.chunked.specs.Place.{EndsNoSize, IsDigit, IsSmallDigit, IsWrong}
+use Rattle.chunked.specs.Within.{RunsOver}
+use Rattle.chunked.specs.Place.{IsDigit, IsWrong}
 
 module _ (l : Limits) (b : ℕ) where
-  -- a blank or a `;`
-  abbrev GoesBehind : Type 0
-  GoesBehind = IsBlank b ⊎ (b ≡ 59)
+  over_no_feed : (within : Within) (room : ℕ) → RunsOver within room b → b ≡ 10 → ⊥
+  over_no_feed within room over feed = (Extends-text within (b ∷ over.text) over.extends).0.1 feed
 
-  behind_no_feed : GoesBehind → b ≡ 10 → ⊥
-  behind_no_feed (inl blank) feed = (blank_is_text b blank).1 feed
-  behind_no_feed (inr semicolon) feed = omega (arith, semicolon, feed)
-
-  behind_no_end : GoesBehind → EndsNoSize b → ⊥
-  behind_no_end (inl blank) ends = ends.no_blank blank
-  behind_no_end (inr semicolon) ends = ends.no_semicolon semicolon
-
-  behind_no_digit : GoesBehind → IsDigit b → ⊥
-  behind_no_digit (inl blank) digit = blank_no_digit b blank digit
-  behind_no_digit (inr semicolon) digit = semicolon_no_digit b semicolon digit
+  over_no_digit : (room : ℕ) → RunsOver Behind room b → IsDigit b → ⊥
+  over_no_digit room over digit = extension_no_digit b over.text over.extends digit
 
   digit_no_feed : IsDigit b → b ≡ 10 → ⊥
   digit_no_feed digit feed = (digit_is_text b digit).1 feed
@@ -42,85 +34,67 @@ module _ (l : Limits) (b : ℕ) where
   no_room LineTooLong h k = refl
   no_room v h k = absurd k
 
+  -- in an extension
+  in_extension : (within : Within) (size room : ℕ) (w v : Malformed) → IsWrong l (Extension within size room) b w
+      → IsWrong l (Extension within size room) b v → w ≡ v
+  in_extension within size room LineTooLong LineTooLong h k = refl
+  in_extension within size room LineTooLong BareFeed h k = absurd (over_no_feed within room h k)
+  in_extension within size room LineTooLong BadSize h k = absurd (k.none h.text h.extends)
+  in_extension within size room BareFeed LineTooLong h k = absurd (over_no_feed within room k h)
+  in_extension within size room BareFeed BareFeed h k = refl
+  in_extension within size room BareFeed BadSize h k = absurd (k.no_feed h)
+  in_extension within size room BadSize LineTooLong h k = absurd (h.none k.text k.extends)
+  in_extension within size room BadSize BareFeed h k = absurd (h.no_feed k)
+  in_extension within size room BadSize BadSize h k = refl
+  in_extension within size room LineTooLong v h k = absurd k
+  in_extension within size room BareFeed v h k = absurd k
+  in_extension within size room BadSize v h k = absurd k
+  in_extension within size room w v h k = absurd h
+
   -- in a size
   module _ (number room : ℕ) where
     too_large : (v : Malformed) → IsWrong l (Size number room) b SizeTooLarge → IsWrong l (Size number room) b v
         → SizeTooLarge ≡ v
     too_large SizeTooLarge h k = refl
-    too_large LineTooLong h (inl digit, none) = absurd (omega (arith, h.1, digit.1))
-    too_large LineTooLong h (inr other, none) = absurd (behind_no_digit other h.0)
+    too_large LineTooLong h (inl digit) = absurd (omega (arith, h.1, digit.0.1))
+    too_large LineTooLong h (inr over) = absurd (over_no_digit room over h.0)
     too_large BareFeed h k = absurd (digit_no_feed h.0 k)
     too_large BadSize h k = absurd (k.0 h.0)
     too_large v h k = absurd k
 
-    size_line : (v : Malformed) → IsSmallDigit number b ⊎ GoesBehind → IsWrong l (Size number room) b v → LineTooLong ≡ v
+    size_line : (v : Malformed) → IsWrong l (Size number room) b LineTooLong → IsWrong l (Size number room) b v
+        → LineTooLong ≡ v
     size_line LineTooLong h k = refl
-    size_line SizeTooLarge (inl digit) k = absurd (omega (arith, digit.1, k.1))
-    size_line SizeTooLarge (inr other) k = absurd (behind_no_digit other k.0)
-    size_line BareFeed (inl digit) k = absurd (digit_no_feed digit.0 k)
-    size_line BareFeed (inr other) k = absurd (behind_no_feed other k)
-    size_line BadSize (inl digit) k = absurd (k.0 digit.0)
-    size_line BadSize (inr other) k = absurd (behind_no_end other k.1)
+    size_line SizeTooLarge (inl digit) k = absurd (omega (arith, digit.0.1, k.1))
+    size_line SizeTooLarge (inr over) k = absurd (over_no_digit room over k.0)
+    size_line BareFeed (inl digit) k = absurd (digit_no_feed digit.0.0 k)
+    size_line BareFeed (inr over) k = absurd (over_no_feed Behind room over k)
+    size_line BadSize (inl digit) k = absurd (k.0 digit.0.0)
+    size_line BadSize (inr over) k = absurd (k.1.none over.text over.extends)
     size_line v h k = absurd k
 
     size_feed : (v : Malformed) → b ≡ 10 → IsWrong l (Size number room) b v → BareFeed ≡ v
     size_feed BareFeed h k = refl
     size_feed SizeTooLarge h k = absurd (digit_no_feed k.0 h)
-    size_feed LineTooLong h (inl digit, none) = absurd (digit_no_feed digit.0 h)
-    size_feed LineTooLong h (inr other, none) = absurd (behind_no_feed other h)
-    size_feed BadSize h k = absurd (k.1.text.1 h)
+    size_feed LineTooLong h (inl digit) = absurd (digit_no_feed digit.0.0 h)
+    size_feed LineTooLong h (inr over) = absurd (over_no_feed Behind room over h)
+    size_feed BadSize h k = absurd (k.1.no_feed h)
     size_feed v h k = absurd k
 
-    size_bad : (v : Malformed) → ¬ IsDigit b → EndsNoSize b → IsWrong l (Size number room) b v → BadSize ≡ v
-    size_bad BadSize h ends k = refl
-    size_bad SizeTooLarge h ends k = absurd (h k.0)
-    size_bad LineTooLong h ends (inl digit, none) = absurd (h digit.0)
-    size_bad LineTooLong h ends (inr other, none) = absurd (behind_no_end other ends)
-    size_bad BareFeed h ends k = absurd (ends.text.1 k)
-    size_bad v h ends k = absurd k
+    size_bad : (v : Malformed) → IsWrong l (Size number room) b BadSize → IsWrong l (Size number room) b v → BadSize ≡ v
+    size_bad BadSize h k = refl
+    size_bad SizeTooLarge h k = absurd (h.0 k.0)
+    size_bad LineTooLong h (inl digit) = absurd (h.0 digit.0.0)
+    size_bad LineTooLong h (inr over) = absurd (h.1.none over.text over.extends)
+    size_bad BareFeed h k = absurd (h.1.no_feed k)
+    size_bad v h k = absurd k
 
     in_size : (w v : Malformed) → IsWrong l (Size number room) b w → IsWrong l (Size number room) b v → w ≡ v
     in_size SizeTooLarge v h k = too_large v h k
-    in_size LineTooLong v h k = size_line v h.0 k
+    in_size LineTooLong v h k = size_line v h k
     in_size BareFeed v h k = size_feed v h k
-    in_size BadSize v h k = size_bad v h.0 h.1 k
+    in_size BadSize v h k = size_bad v h k
     in_size w v h k = absurd h
-
-    -- behind blanks
-    blank_line : (v : Malformed) → GoesBehind → IsWrong l (Blank number room) b v → LineTooLong ≡ v
-    blank_line LineTooLong h k = refl
-    blank_line BareFeed h k = absurd (behind_no_feed h k)
-    blank_line BadSize h k = absurd (behind_no_end h k)
-    blank_line v h k = absurd k
-
-    blank_feed : (v : Malformed) → b ≡ 10 → IsWrong l (Blank number room) b v → BareFeed ≡ v
-    blank_feed BareFeed h k = refl
-    blank_feed LineTooLong h k = absurd (behind_no_feed k.0 h)
-    blank_feed BadSize h k = absurd (k.text.1 h)
-    blank_feed v h k = absurd k
-
-    blank_bad : (v : Malformed) → EndsNoSize b → IsWrong l (Blank number room) b v → BadSize ≡ v
-    blank_bad BadSize h k = refl
-    blank_bad LineTooLong h k = absurd (behind_no_end k.0 h)
-    blank_bad BareFeed h k = absurd (h.text.1 k)
-    blank_bad v h k = absurd k
-
-    in_blank : (w v : Malformed) → IsWrong l (Blank number room) b w → IsWrong l (Blank number room) b v → w ≡ v
-    in_blank LineTooLong v h k = blank_line v h.0 k
-    in_blank BareFeed v h k = blank_feed v h k
-    in_blank BadSize v h k = blank_bad v h k
-    in_blank w v h k = absurd h
-
-  -- in a text that is too long, or ends at an LF
-  extension_line : (size room : ℕ) (v : Malformed) → IsTextByte b → IsWrong l (Extension size room) b v → LineTooLong ≡ v
-  extension_line size room LineTooLong h k = refl
-  extension_line size room BareFeed h k = absurd (h.1 k)
-  extension_line size room v h k = absurd k
-
-  extension_feed : (size room : ℕ) (v : Malformed) → b ≡ 10 → IsWrong l (Extension size room) b v → BareFeed ≡ v
-  extension_feed size room BareFeed h k = refl
-  extension_feed size room LineTooLong h k = absurd (k.0.1 h)
-  extension_feed size room v h k = absurd k
 
   -- in the trailers
   in_fields : (room : ℕ) (w v : Malformed) → IsWrong l (Fields room) b w → IsWrong l (Fields room) b v → w ≡ v
@@ -193,9 +167,7 @@ module _ (l : Limits) (b : ℕ) where
   one_name Line NoSize v h k = no_size v h k
   one_name Line LineTooLong v h k = no_room v h.0 k
   one_name (Size number room) w v h k = in_size number room w v h k
-  one_name (Blank size room) w v h k = in_blank size room w v h k
-  one_name (Extension size room) LineTooLong v h k = extension_line size room v h.0 k
-  one_name (Extension size room) BareFeed v h k = extension_feed size room v h k
+  one_name (Extension within size room) w v h k = in_extension within size room w v h k
   one_name (SizeFeed size) BareReturn v h k = size_feed_only size v k
   one_name (Data left) ChunkTooLong v h k = data_only left v k
   one_name DataFeed BareReturn v h k = data_feed_only v k

@@ -1,18 +1,19 @@
 -- Which bytes lead from one place to another.
-use Rattle.std.proofs.Common.{◌≡◌, ◌≢◌, ℕ, zero, suc, ◌+◌, ◌*◌, ◌-◌, ◌<◌, ◌≤◌, ◌^◌, List, [], ◌∷◌, ◌++◌, length, sym, ap, subst, ◌∙◌, arith, inl, inr, refl, append_assoc, length-append, Result, Ok, Err}
+use Rattle.std.proofs.Common.{◌≡◌, ◌≢◌, ℕ, zero, suc, ◌+◌, ◌*◌, ◌-◌, ◌<◌, ◌^◌, List, [], ◌∷◌, ◌++◌, length, sym, ap, subst, ◌∙◌, arith, inr, refl, Result, Ok, Err}
 use Rattle.std.specs.Char.{digit_value}
 use Rattle.std.specs.Str.Parse.{AllDigits, digits_value_after}
 use Rattle.chunked.specs.declared.error.Malformed.{Malformed}
 use Rattle.chunked.specs.declared.error.Malformed.TheVariants.{LineTooLong, BareFeed, BadSize}
 use Rattle.chunked.specs.declared.limits.Limits.{Limits}
 use Rattle.chunked.specs.declared.place.Place.{Place}
-use Rattle.chunked.specs.declared.place.Place.TheVariants.{Line, Size, Blank, Extension, SizeFeed, Data, DataFeed, Fields, FieldFeed, LastFeed, Done}
-use Rattle.chunked.specs.Token.{IsBlank}
-use Rattle.chunked.specs.Body.{line_end, IsText, IsExtension, IsTrailers}
-use Rattle.chunked.specs.FieldLaws.{text_both}
-use Rattle.chunked.specs.BodyLaws.{blank_no_digit, semicolon_no_digit, blank_is_text}
+use Rattle.chunked.specs.declared.place.Place.TheVariants.{Line, Size, Extension, SizeFeed, Data, DataFeed, Fields, FieldFeed, LastFeed, Done}
+use Rattle.chunked.specs.Extension.{IsExtension}
+use Rattle.chunked.specs.Within.{Extends}
+use Rattle.chunked.specs.declared.extension.Within.TheVariants.{Behind}
+use Rattle.chunked.specs.Body.{line_end, IsTrailers}
+use Rattle.chunked.specs.BodyLaws.{extension_no_digit}
 use Rattle.chunked.specs.Place.{BehindSize, Completes, CompletesSize, CompletesLine, Feeds, Leads, Passes, IsDigit, IsSettled, StepsOver}
-use Rattle.chunked.proofs.Lines.{text_front, text_behind, first_digit, digit_first}
+use Rattle.chunked.proofs.Lines.{first_digit, digit_first}
 
 module _ (limits : Limits) where
   -- bytes that are no payload
@@ -44,10 +45,8 @@ module _ (limits : Limits) where
           → IsDigit b → ⊥
       no_digit_there b rest [] behind h same digit =
           let odd : b ≡ 13 = cc in omega (arith, subst (λ x. digit_value x < 16) odd digit)
-      no_digit_there b rest (x ∷ text) behind (inl (blank, h)) same digit =
-          let head : b ≡ x = cc in blank_no_digit x blank (subst IsDigit head digit)
-      no_digit_there b rest (x ∷ text) behind (inr (is, h)) same digit =
-          let head : b ≡ x = cc in semicolon_no_digit x is (subst IsDigit head digit)
+      no_digit_there b rest (x ∷ text) behind h same digit =
+          let head : b ≡ x = cc in extension_no_digit x text h (subst IsDigit head digit)
   further_digit b number room rest payload (d ∷ digits) c is digit = record {
     digits = digits;
     extension = c.extension;
@@ -88,11 +87,11 @@ module _ (limits : Limits) where
     few = omega (arith, some);
   }
 
-  -- where no digit comes, digits and blanks lead on alike
-  as_blank : (b number room : ℕ) (rest payload digits : List ℕ) → ¬ IsDigit b
+  -- where no digit comes, digits lead on as the beginning of an extension does
+  as_extension : (b number room : ℕ) (rest payload digits : List ℕ) → ¬ IsDigit b
       → (c : CompletesSize limits number room (b ∷ rest) payload) → c.digits ≡ digits
-      → CompletesLine IsExtension limits number room (b ∷ rest) payload
-  as_blank b number room rest payload [] no_digit c is = record {
+      → CompletesLine (Extends Behind) limits number room (b ∷ rest) payload
+  as_extension b number room rest payload [] no_digit c is = record {
     text = c.extension;
     behind = c.behind;
     equal = c.equal ∙ ap (λ l. l ++ (c.extension ++ line_end c.behind)) is;
@@ -102,15 +101,15 @@ module _ (limits : Limits) where
     goes_on = subst (λ n. BehindSize limits n c.behind payload)
         (sym (ap (λ ds. digits_value_after 16 number ds) (sym is) ∙ c.value)) c.goes_on;
   }
-  as_blank b number room rest payload (d ∷ digits) no_digit c is =
+  as_extension b number room rest payload (d ∷ digits) no_digit c is =
       let same : b ∷ rest ≡ d ∷ (digits ++ (c.extension ++ line_end c.behind)) =
       c.equal ∙ ap (λ l. l ++ (c.extension ++ line_end c.behind)) is in
       let head : d ≡ b = cc in
       absurd (no_digit (subst IsDigit head (subst (λ ds. AllDigits 16 ds) is c.all).0))
 
-  of_blank : (number room : ℕ) (bytes payload : List ℕ) → CompletesLine IsExtension limits number room bytes payload
+  of_extension : (number room : ℕ) (bytes payload : List ℕ) → CompletesLine (Extends Behind) limits number room bytes payload
       → CompletesSize limits number room bytes payload
-  of_blank number room bytes payload c = record {
+  of_extension number room bytes payload c = record {
     digits = [];
     extension = c.text;
     size = number;
@@ -124,99 +123,60 @@ module _ (limits : Limits) where
     goes_on = c.goes_on;
   }
 
-  pub size_as_blank : (b number room : ℕ) (q : Place) → ¬ IsDigit b → Passes limits (Blank number room) (b ∷ []) q
-      → Passes limits (Size number room) (b ∷ []) q
-  size_as_blank b number room q no_digit goes = record {
+  pub size_as_extension : (b number room : ℕ) (q : Place) → ¬ IsDigit b
+      → Passes limits (Extension Behind number room) (b ∷ []) q → Passes limits (Size number room) (b ∷ []) q
+  size_as_extension b number room q no_digit goes = record {
     leads = record {
-      onward = λ rest payload c. of_blank number room (b ∷ rest) payload (goes.leads.onward rest payload c);
-      back = λ rest whole c. goes.leads.back rest whole (as_blank b number room rest whole c.digits no_digit c refl);
+      onward = λ rest payload c. of_extension number room (b ∷ rest) payload (goes.leads.onward rest payload c);
+      back = λ rest whole c. goes.leads.back rest whole (as_extension b number room rest whole c.digits no_digit c refl);
     };
     few = goes.few;
   }
 
-  -- behind blanks
-  blank_back : (b size room : ℕ) (rest payload text behind : List ℕ) → IsBlank b
-      → b ∷ rest ≡ text ++ line_end behind → IsExtension text → length text ≤ room → size < 2 ^ 62
-      → BehindSize limits size behind payload → CompletesLine IsExtension limits size (room - 1) rest payload
-  blank_back b size room rest payload [] behind blank same h fits small goes_on =
-      let odd : b ≡ 13 = cc in absurd ((blank_is_text b blank).0 odd)
-  blank_back b size room rest payload (x ∷ text) behind blank same (inl (blank', h)) fits small goes_on = record {
-    text = text;
-    behind = behind;
-    equal = cc;
-    is_rest = h;
-    fits = omega (arith, fits);
-    small = small;
-    goes_on = goes_on;
-  }
-  blank_back b size room rest payload (x ∷ text) behind blank same (inr (is, h)) fits small goes_on =
-      let head : b ≡ x = cc in absurd (no_semicolon b blank (head ∙ is))
-    where
-      no_semicolon : (b : ℕ) → IsBlank b → b ≡ 59 → ⊥
-      no_semicolon b (inl is) odd = omega (arith, is, odd)
-      no_semicolon b (inr is) odd = omega (arith, is, odd)
-
-  pub blank_blank : (b size room : ℕ) → IsBlank b → 0 < room → Passes limits (Blank size room) (b ∷ []) (Blank size (room - 1))
-  blank_blank b size room blank some = record {
-    leads = quiet (Blank size room) (Blank size (room - 1)) (b ∷ [])
-        (λ rest payload c. record {
-          text = b ∷ c.text;
-          behind = c.behind;
-          equal = ap (λ l. b ∷ l) c.equal;
-          is_rest = inl (blank, c.is_rest);
-          fits = omega (arith, c.fits, some);
-          small = c.small;
-          goes_on = c.goes_on;
-        })
-        (λ rest payload c. blank_back b size room rest payload c.text c.behind blank c.equal c.is_rest c.fits c.small c.goes_on);
-    few = omega (arith, some);
+  -- a byte of a line, of whatever kind its rest may be
+  pub line_on : (IsRest IsNext : List ℕ → Type 0) (b size room : ℕ) (rest payload : List ℕ) → 0 < room
+      → ((text : List ℕ) → IsNext text → IsRest (b ∷ text))
+      → CompletesLine IsNext limits size (room - 1) rest payload → CompletesLine IsRest limits size room (b ∷ rest) payload
+  line_on IsRest IsNext b size room rest payload some on c = record {
+    text = b ∷ c.text;
+    behind = c.behind;
+    equal = ap (λ l. b ∷ l) c.equal;
+    is_rest = on c.text c.is_rest;
+    fits = omega (arith, c.fits, some);
+    small = c.small;
+    goes_on = c.goes_on;
   }
 
-  semicolon_back : (b size room : ℕ) (rest payload text behind : List ℕ) → b ≡ 59
-      → b ∷ rest ≡ text ++ line_end behind → IsExtension text → length text ≤ room → size < 2 ^ 62
-      → BehindSize limits size behind payload → CompletesLine IsText limits size (room - 1) rest payload
-  semicolon_back b size room rest payload [] behind is same h fits small goes_on =
-      let odd : b ≡ 13 = cc in absurd (omega (arith, odd, is))
-  semicolon_back b size room rest payload (x ∷ text) behind is same (inl (inl blank, h)) fits small goes_on =
-      let head : b ≡ x = cc in absurd (omega (arith, head, blank, is))
-  semicolon_back b size room rest payload (x ∷ text) behind is same (inl (inr blank, h)) fits small goes_on =
-      let head : b ≡ x = cc in absurd (omega (arith, head, blank, is))
-  semicolon_back b size room rest payload (x ∷ text) behind is same (inr (is', h)) fits small goes_on = record {
-    text = text;
-    behind = behind;
-    equal = cc;
-    is_rest = h;
-    fits = omega (arith, fits);
-    small = small;
-    goes_on = goes_on;
-  }
+  pub line_back : (IsRest IsNext : List ℕ → Type 0) (b size room : ℕ) (rest payload text : List ℕ) → b ≢ 13
+      → ((text : List ℕ) → IsRest (b ∷ text) → IsNext text)
+      → (c : CompletesLine IsRest limits size room (b ∷ rest) payload) → c.text ≡ text
+      → CompletesLine IsNext limits size (room - 1) rest payload
+  line_back IsRest IsNext b size room rest payload [] differs back c is =
+      let same : b ∷ rest ≡ line_end c.behind = c.equal ∙ ap (λ l. l ++ line_end c.behind) is in
+      let odd : b ≡ 13 = cc in
+      absurd (differs odd)
+  line_back IsRest IsNext b size room rest payload (x ∷ text) differs back c is =
+      let same : b ∷ rest ≡ x ∷ (text ++ line_end c.behind) = c.equal ∙ ap (λ l. l ++ line_end c.behind) is in
+      let head : x ≡ b = cc in
+      record {
+        text = text;
+        behind = c.behind;
+        equal = cc;
+        is_rest = back text (subst (λ y. IsRest (y ∷ text)) head (subst IsRest is c.is_rest));
+        fits = omega (arith, c.fits, ap length is);
+        small = c.small;
+        goes_on = c.goes_on;
+      }
 
-  pub blank_semicolon : (b size room : ℕ) → b ≡ 59 → 0 < room
-      → Passes limits (Blank size room) (b ∷ []) (Extension size (room - 1))
-  blank_semicolon b size room is some = record {
-    leads = quiet (Blank size room) (Extension size (room - 1)) (b ∷ [])
-        (λ rest payload c. record {
-          text = b ∷ c.text;
-          behind = c.behind;
-          equal = ap (λ l. b ∷ l) c.equal;
-          is_rest = inr (is, c.is_rest);
-          fits = omega (arith, c.fits, some);
-          small = c.small;
-          goes_on = c.goes_on;
-        })
-        (λ rest payload c. semicolon_back b size room rest payload c.text c.behind is c.equal c.is_rest c.fits c.small c.goes_on);
-    few = omega (arith, some);
-  }
-
-  -- a CR ends a line, of whatever kind its rest may be
-  return_back : (IsRest : List ℕ → Type 0) (size : ℕ) (b : ℕ) (rest payload text behind : List ℕ) → b ≡ 13
+  -- a CR ends a line
+  pub return_back : (IsRest : List ℕ → Type 0) (size : ℕ) (b : ℕ) (rest payload text behind : List ℕ) → b ≡ 13
       → b ∷ rest ≡ text ++ line_end behind → ((x : ℕ) (more : List ℕ) → IsRest (x ∷ more) → x ≢ 13) → IsRest text
       → size < 2 ^ 62 → BehindSize limits size behind payload → Completes limits (SizeFeed size) rest payload
   return_back IsRest size b rest payload [] behind is same differs h small goes_on = ((behind, cc, goes_on), small)
   return_back IsRest size b rest payload (x ∷ text) behind is same differs h small goes_on =
       let head : b ≡ x = cc in absurd (differs x text h (sym head ∙ is))
 
-  return_on : (IsRest : List ℕ → Type 0) (size room b : ℕ) (rest payload : List ℕ) → b ≡ 13 → IsRest []
+  pub return_on : (IsRest : List ℕ → Type 0) (size room b : ℕ) (rest payload : List ℕ) → b ≡ 13 → IsRest []
       → Completes limits (SizeFeed size) rest payload → CompletesLine IsRest limits size room (b ∷ rest) payload
   return_on IsRest size room b rest payload is none ((behind, same, goes_on), small) = record {
     text = [];
@@ -226,55 +186,6 @@ module _ (limits : Limits) where
     fits = omega arith;
     small = small;
     goes_on = goes_on;
-  }
-
-  extension_no_return : (x : ℕ) (more : List ℕ) → IsExtension (x ∷ more) → x ≢ 13
-  extension_no_return x more (inl (blank, h)) = (blank_is_text x blank).0
-  extension_no_return x more (inr (is, h)) = λ odd. omega (arith, is, odd)
-
-  pub blank_return : (b size room : ℕ) → b ≡ 13 → Passes limits (Blank size room) (b ∷ []) (SizeFeed size)
-  blank_return b size room is = record {
-    leads = quiet (Blank size room) (SizeFeed size) (b ∷ [])
-        (λ rest payload c. return_on IsExtension size room b rest payload is tt c)
-        (λ rest payload c. return_back IsExtension size b rest payload c.text c.behind is c.equal extension_no_return c.is_rest
-        c.small c.goes_on);
-    few = omega arith;
-  }
-
-  pub extension_return : (b size room : ℕ) → b ≡ 13 → Passes limits (Extension size room) (b ∷ []) (SizeFeed size)
-  extension_return b size room is = record {
-    leads = quiet (Extension size room) (SizeFeed size) (b ∷ [])
-        (λ rest payload c. return_on IsText size room b rest payload is tt c)
-        (λ rest payload c. return_back IsText size b rest payload c.text c.behind is c.equal (λ x more h. h.0.0) c.is_rest
-        c.small c.goes_on);
-    few = omega arith;
-  }
-
-  pub extension_text : (xs : List ℕ) (size room : ℕ) → IsText xs → length xs ≤ room
-      → Passes limits (Extension size room) xs (Extension size (room - length xs))
-  extension_text xs size room text fits = record {
-    leads = quiet (Extension size room) (Extension size (room - length xs)) xs
-        (λ rest payload c. record {
-          text = xs ++ c.text;
-          behind = c.behind;
-          equal = ap (λ l. xs ++ l) c.equal ∙ sym (append_assoc xs c.text (line_end c.behind));
-          is_rest = text_both xs c.text text c.is_rest;
-          fits = omega (arith, c.fits, fits, length-append xs c.text);
-          small = c.small;
-          goes_on = c.goes_on;
-        })
-        (λ rest payload c.
-        let found = text_front c.text xs c.behind rest text c.equal in
-        record {
-          text = found.0;
-          behind = c.behind;
-          equal = found.2;
-          is_rest = text_behind xs found.0 (subst IsText found.1 c.is_rest);
-          fits = omega (arith, c.fits, ap length found.1, length-append xs found.0);
-          small = c.small;
-          goes_on = c.goes_on;
-        });
-    few = omega (arith, fits);
   }
 
   -- an LF behind a CR
@@ -324,11 +235,11 @@ module _ (limits : Limits) where
     few = omega arith;
   }
 
-  -- what stands behind a size is told by what stands behind blanks
+  -- what stands behind a size is told as at the beginning of an extension
   pub StepsOver-size : (b number room : ℕ) (answer : Result Place Malformed) → ¬ IsDigit b
-      → StepsOver limits (Blank number room) b answer → StepsOver limits (Size number room) b answer
-  StepsOver-size b number room (Ok q) no_digit (goes, small) = (size_as_blank b number room q no_digit goes, small)
-  StepsOver-size b number room (Err LineTooLong) no_digit wrong = (inr wrong.0, wrong.1)
+      → StepsOver limits (Extension Behind number room) b answer → StepsOver limits (Size number room) b answer
+  StepsOver-size b number room (Ok q) no_digit (goes, small) = (size_as_extension b number room q no_digit goes, small)
+  StepsOver-size b number room (Err LineTooLong) no_digit wrong = inr wrong
   StepsOver-size b number room (Err BareFeed) no_digit wrong = wrong
   StepsOver-size b number room (Err BadSize) no_digit wrong = (no_digit, wrong)
   StepsOver-size b number room (Err why) no_digit wrong = absurd wrong

@@ -1,5 +1,5 @@
 -- Which bytes lead on in a chunk and in the trailers.
-use Rattle.std.proofs.Common.{◌≡◌, ◌≢◌, ℕ, ◌+◌, ◌-◌, ◌<◌, ◌≤◌, List, [], ◌∷◌, ◌++◌, codes, length, sym, ap, subst, ◌∙◌, arith, inl, refl, append_assoc, length-append}
+use Rattle.std.proofs.Common.{◌≡◌, ◌≢◌, ℕ, ◌-◌, ◌<◌, ◌≤◌, List, [], ◌∷◌, ◌++◌, codes, length, sym, ap, subst, ◌∙◌, arith, inl, refl, append_assoc, length-append}
 use Rattle.std.specs.List.{AllByRecursion, flat_map}
 use Rattle.chunked.specs.declared.limits.Limits.{Limits}
 use Rattle.chunked.specs.declared.place.Place.TheVariants.{Data, DataFeed, Fields, FieldName, FieldValue, FieldFeed, LastFeed}

@@ -7,21 +7,31 @@ use Rattle.chunked.specs.declared.error.Malformed.{Malformed}
 use Rattle.chunked.specs.declared.error.Malformed.TheVariants.{NoSize, BadSize, BadField, SizeTooLarge, LineTooLong, TrailersTooLong, BareReturn, BareFeed, ChunkTooLong}
 use Rattle.chunked.specs.declared.limits.Limits.{Limits}
 use Rattle.chunked.specs.declared.place.Place.{Place}
-use Rattle.chunked.specs.declared.place.Place.TheVariants.{Line, Size, Blank, Extension, SizeFeed, Data, DataFeed, Fields, FieldName, FieldValue, FieldFeed, LastFeed}
-use Rattle.chunked.specs.Token.{IsBlank, IsTokenByte, IsValueByte}
-use Rattle.chunked.specs.Body.{line_end, IsTextByte, IsText, IsExtension, IsSizeLine, IsTrailers, IsField, IsBody, fields_bytes}
-use Rattle.chunked.specs.BodyLaws.{digit_is_text, blank_is_text}
+use Rattle.chunked.specs.declared.place.Place.TheVariants.{Line, Size, Extension, SizeFeed, Data, DataFeed, Fields, FieldName, FieldValue, FieldFeed, LastFeed}
+use Rattle.chunked.specs.Token.{IsTokenByte, IsValueByte}
+use Rattle.chunked.specs.Within.{Extends}
+use Rattle.chunked.specs.WithinLaws.{Extends-text}
+use Rattle.chunked.specs.declared.extension.Within.{Within}
+use Rattle.chunked.specs.declared.extension.Within.TheVariants.{Behind}
+use Rattle.chunked.specs.Body.{line_end, IsSizeLine, IsTrailers, IsField, IsBody, fields_bytes}
+use Rattle.chunked.specs.BodyLaws.{digit_is_text, extension_no_digit}
 use Rattle.chunked.specs.FieldLaws.{IsField-first, IsField-next, IsField-none, IsField-value, token_is_text, token_plain, value_is_text}
-use Rattle.chunked.specs.Place.{Completes, CompletesData, CompletesField, CompletesSize, Feeds, IsDigit, IsWrong, EndsNoSize}
+use Rattle.chunked.specs.Place.{Completes, CompletesData, CompletesField, CompletesSize, Feeds, IsDigit, IsWrong}
 use Rattle.chunked.proofs.Lines.{line_of}
 
 value_grows : (n : ℕ) (digits : List ℕ) → n ≤ digits_value_after 16 n digits
 value_grows n [] = omega arith
 value_grows n (d ∷ digits) = omega (arith, value_grows (n * 16 + digit_value d) digits)
 
--- what may stand first
-OfSize : ℕ → Type 0
-OfSize b = IsDigit b ⊎ (IsBlank b ⊎ (b ≡ 59))
+-- what may stand first in an extension: what goes on with it, or the end of the line
+abbrev OfExtension : Within → ℕ → ℕ → Type 0
+OfExtension within b room =
+    ((b ≡ 13) × Extends within []) ⊎ ((text : List ℕ) × Extends within (b ∷ text) × (length (b ∷ text) ≤ room))
+
+-- and behind digits of a size: a further one, or that
+abbrev OfSize : ℕ → ℕ → ℕ → Type 0
+OfSize number b room =
+    (IsDigit b × (0 < room) × (number * 16 + digit_value b < 2 ^ 62)) ⊎ OfExtension Behind b room
 
 module _ (limits : Limits) where
   first_of_line : (b : ℕ) (rest text behind digits : List ℕ) (size : ℕ) → (h : IsSizeLine limits.line size text)
@@ -40,35 +50,18 @@ module _ (limits : Limits) where
       let line = line_of limits (b ∷ rest) payload body in
       first_of_line b rest line.text line.behind line.size_line.digits line.size line.size_line refl line.equal
 
-  extension_first : (b room : ℕ) (rest text behind : List ℕ) → b ∷ rest ≡ text ++ line_end behind → IsExtension text
-      → length text ≤ room → (b ≡ 13) ⊎ ((IsBlank b ⊎ (b ≡ 59)) × (0 < room))
-  extension_first b room rest [] behind same h fits = inl cc
-  extension_first b room rest (x ∷ text) behind same (inl (blank, h)) fits =
-      let head : x ≡ b = cc in inr (inl (subst IsBlank head blank), omega (arith, fits))
-  extension_first b room rest (x ∷ text) behind same (inr (is, h)) fits =
-      let head : x ≡ b = cc in inr (inr (sym head ∙ is), omega (arith, fits))
-
-  text_first : (b room : ℕ) (rest text behind : List ℕ) → b ∷ rest ≡ text ++ line_end behind → IsText text
-      → length text ≤ room → (b ≡ 13) ⊎ (IsTextByte b × (0 < room))
-  text_first b room rest [] behind same h fits = inl cc
-  text_first b room rest (x ∷ text) behind same h fits =
-      let head : x ≡ b = cc in inr (subst IsTextByte head h.0, omega (arith, fits))
+  extension_first : (within : Within) (b room : ℕ) (rest text behind : List ℕ) → b ∷ rest ≡ text ++ line_end behind
+      → Extends within text → length text ≤ room → OfExtension within b room
+  extension_first within b room rest [] behind same e fits = inl (cc, e)
+  extension_first within b room rest (x ∷ text) behind same e fits =
+      let head : x ≡ b = cc in inr (text, subst (λ y. Extends within (y ∷ text)) head e, omega (arith, fits))
 
   size_first : (b number room : ℕ) (rest payload digits : List ℕ) → (c : CompletesSize limits number room (b ∷ rest) payload)
-      → c.digits ≡ digits → (b ≡ 13) ⊎ (OfSize b × (0 < room) × (IsDigit b → number * 16 + digit_value b < 2 ^ 62))
-  unfolding OfSize
+      → c.digits ≡ digits → OfSize number b room
   size_first b number room rest payload [] c is =
       let here : b ∷ rest ≡ c.extension ++ line_end c.behind =
       c.equal ∙ ap (λ l. l ++ (c.extension ++ line_end c.behind)) is in
-      elim (extension_first b room rest c.extension c.behind here c.follows (omega (arith, c.fits))) [
-        | inl is ↦ inl is
-        | inr some ↦ inr (inr some.0, some.1, λ digit. absurd (no_digit b some.0 digit))
-      ]
-    where
-      no_digit : (b : ℕ) → IsBlank b ⊎ (b ≡ 59) → IsDigit b → ⊥
-      no_digit b (inl (inl is)) digit = omega (arith, subst IsDigit is digit)
-      no_digit b (inl (inr is)) digit = omega (arith, subst IsDigit is digit)
-      no_digit b (inr is) digit = omega (arith, subst IsDigit is digit)
+      inr (extension_first Behind b room rest c.extension c.behind here c.follows (omega (arith, c.fits)))
   size_first b number room rest payload (d ∷ digits) c is =
       let same : b ∷ rest ≡ d ∷ (digits ++ (c.extension ++ line_end c.behind)) =
       c.equal ∙ ap (λ l. l ++ (c.extension ++ line_end c.behind)) is in
@@ -77,10 +70,10 @@ module _ (limits : Limits) where
       ap (λ ds. digits_value_after 16 number ds) (sym is) ∙ c.value in
       let small : number * 16 + digit_value d < 2 ^ 62 =
       omega (arith, value, c.small, value_grows (number * 16 + digit_value d) digits) in
-      inr (
-        inl (subst IsDigit head (subst (λ ds. AllDigits 16 ds) is c.all).0),
+      inl (
+        subst IsDigit head (subst (λ ds. AllDigits 16 ds) is c.all).0,
         omega (arith, c.fits, ap length is),
-        λ _. subst (λ x. number * 16 + digit_value x < 2 ^ 62) head small,
+        subst (λ x. number * 16 + digit_value x < 2 ^ 62) head small,
       )
 
   trailers_first : (b room : ℕ) (rest : List ℕ) (fields : List (List ℕ)) → (t : IsTrailers room (b ∷ rest)) → t.fields ≡ fields
@@ -137,60 +130,33 @@ module _ (limits : Limits) where
   feed_first : (P : List ℕ → Type 0) (b : ℕ) (rest : List ℕ) → Feeds P (b ∷ rest) → b ≡ 10
   feed_first P b rest f = let same = f.1 in cc
 
-  no_return : (b : ℕ) → OfSize b → b ≡ 13 → ⊥
-  unfolding OfSize
-  no_return b (inl digit) is = (digit_is_text b digit).0 is
-  no_return b (inr (inl blank)) is = (blank_is_text b blank).0 is
-  no_return b (inr (inr semicolon)) is = omega (arith, semicolon, is)
+  wrong_extension : (within : Within) (size room b : ℕ) (why : Malformed) → IsWrong limits (Extension within size room) b why
+      → OfExtension within b room → ⊥
+  wrong_extension within size room b LineTooLong wrong (inl ends) =
+      (Extends-text within (b ∷ wrong.text) wrong.extends).0.0 ends.0
+  wrong_extension within size room b LineTooLong wrong (inr goes) = omega (arith, wrong.over goes.0 goes.1, goes.2)
+  wrong_extension within size room b BareFeed wrong (inl ends) = omega (arith, wrong, ends.0)
+  wrong_extension within size room b BareFeed wrong (inr goes) = (Extends-text within (b ∷ goes.0) goes.1).0.1 wrong
+  wrong_extension within size room b BadSize wrong (inl ends) = wrong.no_return ends.0 ends.1
+  wrong_extension within size room b BadSize wrong (inr goes) = wrong.none goes.0 goes.1
+  wrong_extension within size room b why wrong first = absurd wrong
 
-  no_feed : (b : ℕ) → OfSize b → b ≡ 10 → ⊥
-  unfolding OfSize
-  no_feed b (inl digit) is = (digit_is_text b digit).1 is
-  no_feed b (inr (inl blank)) is = (blank_is_text b blank).1 is
-  no_feed b (inr (inr semicolon)) is = omega (arith, semicolon, is)
+  digit_no_extension : (b room : ℕ) → IsDigit b → OfExtension Behind b room → ⊥
+  digit_no_extension b room digit (inl ends) = (digit_is_text b digit).0 ends.0
+  digit_no_extension b room digit (inr goes) = extension_no_digit b goes.0 goes.1 digit
 
-  -- a text goes wrong by an LF, or for want of room
-  no_text_feed : (b room : ℕ) → b ≡ 10 → (b ≡ 13) ⊎ (IsTextByte b × (0 < room)) → ⊥
-  no_text_feed b room is (inl odd) = omega (arith, is, odd)
-  no_text_feed b room is (inr some) = some.0.1 is
-
-  no_text_room : (b room : ℕ) → IsTextByte b × (room ≡ 0) → (b ≡ 13) ⊎ (IsTextByte b × (0 < room)) → ⊥
-  no_text_room b room wrong (inl odd) = wrong.0.0 odd
-  no_text_room b room wrong (inr some) = omega (arith, wrong.1, some.1)
-
-  no_end : (b : ℕ) → EndsNoSize b → OfSize b → ¬ IsDigit b → ⊥
-  unfolding OfSize
-  no_end b ends (inl digit) not_digit = not_digit digit
-  no_end b ends (inr (inl blank)) not_digit = ends.no_blank blank
-  no_end b ends (inr (inr semicolon)) not_digit = ends.no_semicolon semicolon
-
-  wrong_size : (number room b : ℕ) (why : Malformed) → IsWrong limits (Size number room) b why
-      → (b ≡ 13) ⊎ (OfSize b × (0 < room) × (IsDigit b → number * 16 + digit_value b < 2 ^ 62)) → ⊥
-  unfolding OfSize
-  wrong_size number room b SizeTooLarge wrong (inl is) = (digit_is_text b wrong.0).0 is
-  wrong_size number room b SizeTooLarge wrong (inr some) = omega (arith, wrong.1, some.2 wrong.0)
-  wrong_size number room b LineTooLong wrong (inl is) = elim wrong.0 [
-    | inl digit ↦ no_return b (inl digit.0) is
-    | inr other ↦ no_return b (inr other) is
-  ]
-  wrong_size number room b LineTooLong wrong (inr some) = omega (arith, wrong.1, some.1)
-  wrong_size number room b BareFeed wrong (inl is) = omega (arith, wrong, is)
-  wrong_size number room b BareFeed wrong (inr some) = no_feed b some.0 wrong
-  wrong_size number room b BadSize wrong (inl is) = wrong.1.text.0 is
-  wrong_size number room b BadSize wrong (inr some) = no_end b wrong.1 some.0 wrong.0
-  wrong_size number room b why wrong some = absurd wrong
-
-  wrong_blank : (size room b : ℕ) (why : Malformed) → IsWrong limits (Blank size room) b why
-      → (b ≡ 13) ⊎ ((IsBlank b ⊎ (b ≡ 59)) × (0 < room)) → ⊥
-  unfolding OfSize
-  wrong_blank size room b LineTooLong wrong (inl is) = no_return b (inr wrong.0) is
-  wrong_blank size room b LineTooLong wrong (inr some) = omega (arith, wrong.1, some.1)
-  wrong_blank size room b BareFeed wrong (inl is) = omega (arith, wrong, is)
-  wrong_blank size room b BareFeed wrong (inr some) = no_feed b (inr some.0) wrong
-  wrong_blank size room b BadSize wrong (inl is) = wrong.text.0 is
-  wrong_blank size room b BadSize wrong (inr (inl blank, room')) = wrong.no_blank blank
-  wrong_blank size room b BadSize wrong (inr (inr semicolon, room')) = wrong.no_semicolon semicolon
-  wrong_blank size room b why wrong some = absurd wrong
+  wrong_size : (number room b : ℕ) (why : Malformed) → IsWrong limits (Size number room) b why → OfSize number b room → ⊥
+  wrong_size number room b SizeTooLarge wrong (inl digit) = omega (arith, wrong.1, digit.2)
+  wrong_size number room b SizeTooLarge wrong (inr other) = digit_no_extension b room wrong.0 other
+  wrong_size number room b LineTooLong (inl wrong) (inl digit) = omega (arith, wrong.1, digit.1)
+  wrong_size number room b LineTooLong (inl wrong) (inr other) = digit_no_extension b room wrong.0.0 other
+  wrong_size number room b LineTooLong (inr wrong) (inl digit) = extension_no_digit b wrong.text wrong.extends digit.0
+  wrong_size number room b LineTooLong (inr wrong) (inr other) = wrong_extension Behind number room b LineTooLong wrong other
+  wrong_size number room b BareFeed wrong (inl digit) = (digit_is_text b digit.0).1 wrong
+  wrong_size number room b BareFeed wrong (inr other) = wrong_extension Behind number room b BareFeed wrong other
+  wrong_size number room b BadSize wrong (inl digit) = wrong.0 digit.0
+  wrong_size number room b BadSize wrong (inr other) = wrong_extension Behind number room b BadSize wrong.1 other
+  wrong_size number room b why wrong first = absurd wrong
 
   wrong_fields : (room b : ℕ) (why : Malformed) → IsWrong limits (Fields room) b why
       → (b ≡ 13) ⊎ (IsTokenByte b × (2 ≤ room)) → ⊥
@@ -229,12 +195,8 @@ module _ (limits : Limits) where
   IsWrong-none Line b LineTooLong rest payload wrong c = omega (arith, wrong.1, (line_first b rest payload c).1)
   IsWrong-none (Size number room) b why rest payload wrong c =
       wrong_size number room b why wrong (size_first b number room rest payload c.digits c refl)
-  IsWrong-none (Blank size room) b why rest payload wrong c =
-      wrong_blank size room b why wrong (extension_first b room rest c.text c.behind c.equal c.is_rest c.fits)
-  IsWrong-none (Extension size room) b LineTooLong rest payload wrong c =
-      no_text_room b room wrong (text_first b room rest c.text c.behind c.equal c.is_rest c.fits)
-  IsWrong-none (Extension size room) b BareFeed rest payload wrong c =
-      no_text_feed b room wrong (text_first b room rest c.text c.behind c.equal c.is_rest c.fits)
+  IsWrong-none (Extension within size room) b why rest payload wrong c =
+      wrong_extension within size room b why wrong (extension_first within b room rest c.text c.behind c.equal c.is_rest c.fits)
   IsWrong-none (SizeFeed size) b BareReturn rest payload wrong c = wrong (feed_first _ b rest c.0)
   IsWrong-none (Data left) b ChunkTooLong rest payload wrong c =
       wrong.1 (data_first b rest payload _ (subst (λ n. CompletesData limits n (b ∷ rest) payload) wrong.0 c) refl)

@@ -1,9 +1,10 @@
 -- Bodies in the chunked coding.
-use Rattle.std.specs.Prelude.{◌≡◌, ◌≢◌, ℕ, ◌^◌, ◌<◌, ◌≤◌, ◌⊎◌, List, [], ◌∷◌, ◌++◌, length, flat_map, ⊤}
+use Rattle.std.specs.Prelude.{◌≡◌, ◌≢◌, ℕ, ◌^◌, ◌<◌, ◌≤◌, List, [], ◌∷◌, ◌++◌, length, flat_map}
 use Rattle.std.specs.List.{AllByRecursion}
 use Rattle.std.specs.Str.Parse.{IsNumeral, digits_value}
 use Rattle.chunked.specs.declared.limits.Limits.{Limits}
-use Rattle.chunked.specs.Token.{IsBlank, IsToken, IsValueByte}
+use Rattle.chunked.specs.Token.{IsToken, IsValueByte}
+use Rattle.chunked.specs.Extension.{IsExtension}
 
 -- the end of a line, CR LF, and what stands behind it
 abbrev pub line_end : List ℕ → List ℕ
@@ -16,12 +17,7 @@ IsTextByte b = (b ≢ 13) × (b ≢ 10)
 abbrev pub IsText : List ℕ → Type 0
 IsText text = AllByRecursion IsTextByte text
 
--- what may follow the digits of a size in their line: blanks, and then nothing, or a text that begins with `;`
-abbrev pub IsExtension : List ℕ → Type 0
-IsExtension [] = ⊤
-IsExtension (b ∷ text) = (IsBlank b × IsExtension text) ⊎ ((b ≡ 59) × IsText text)
-
--- the line of a size: hexadecimal digits that write it, and then perhaps an extension
+-- the line of a size: hexadecimal digits that write it, and then an extension, which may be empty
 pub record IsSizeLine (limit size : ℕ) (text : List ℕ) : Type 0 where
   pub digits : List ℕ
   pub extension : List ℕ

@@ -6,39 +6,33 @@ use Rattle.std.specs.Char.{digit_value}
 use Rattle.std.specs.List.{AllByRecursion}
 use Rattle.std.specs.Str.Parse.{AllDigits, digits_value}
 use Rattle.chunked.specs.declared.limits.Limits.{Limits}
-use Rattle.chunked.specs.Token.{IsBlank}
-use Rattle.chunked.specs.Body.{line_end, IsTextByte, IsText, IsExtension, IsSizeLine, IsField, fields_bytes, IsTrailers, HasChunks, IsBody}
+use Rattle.chunked.specs.Extension.{IsExtension}
+use Rattle.chunked.specs.Body.{line_end, IsTextByte, IsText, IsSizeLine, IsField, fields_bytes, IsTrailers, HasChunks, IsBody}
 use Rattle.chunked.specs.FieldLaws.{IsField-none, IsField-text}
+use Rattle.chunked.specs.WithinLaws.{Extends-text, IsExtension-first}
+use Rattle.chunked.specs.declared.extension.Within.TheVariants.{Behind}
 
 -- a digit is no byte of these
 pub digit_is_text : (b : ℕ) → digit_value b < 16 → IsTextByte b
 digit_is_text b small =
     (λ is. omega (arith, subst (λ c. digit_value c < 16) is small), λ is. omega (arith, subst (λ c. digit_value c < 16) is small))
 
-pub blank_is_text : (b : ℕ) → IsBlank b → IsTextByte b
-blank_is_text b (inl is) = (λ odd. omega (arith, is, odd), λ odd. omega (arith, is, odd))
-blank_is_text b (inr is) = (λ odd. omega (arith, is, odd), λ odd. omega (arith, is, odd))
+-- nor does an extension begin with one
+pub extension_no_digit : (b : ℕ) (text : List ℕ) → IsExtension (b ∷ text) → digit_value b < 16 → ⊥
+extension_no_digit b text h small = elim (IsExtension-first b text h) [
+  | inl (inl is) ↦ omega (arith, subst (λ c. digit_value c < 16) is small)
+  | inl (inr is) ↦ omega (arith, subst (λ c. digit_value c < 16) is small)
+  | inr is ↦ omega (arith, subst (λ c. digit_value c < 16) is small)
+]
 
-pub blank_no_digit : (b : ℕ) → IsBlank b → digit_value b < 16 → ⊥
-blank_no_digit b (inl is) small = omega (arith, subst (λ c. digit_value c < 16) is small)
-blank_no_digit b (inr is) small = omega (arith, subst (λ c. digit_value c < 16) is small)
-
-pub semicolon_no_digit : (b : ℕ) → b ≡ 59 → digit_value b < 16 → ⊥
-semicolon_no_digit b is small = omega (arith, subst (λ c. digit_value c < 16) is small)
-
--- what follows the digits, and so the whole line, is a text
-pub IsExtension-text : (text : List ℕ) → IsExtension text → IsText text
-IsExtension-text [] h = tt
-IsExtension-text (b ∷ text) (inl (blank, h)) = (blank_is_text b blank, IsExtension-text text h)
-IsExtension-text (b ∷ text) (inr (is, h)) = ((λ odd. omega (arith, is, odd), λ odd. omega (arith, is, odd)), h)
-
+-- the whole line is a text
 pub digits_text : (digits text : List ℕ) → AllDigits 16 digits → IsText text → IsText (digits ++ text)
 digits_text [] text all h = h
 digits_text (d ∷ digits) text all h = (digit_is_text d all.0, digits_text digits text all.1 h)
 
 pub IsSizeLine-text : (limit size : ℕ) (text : List ℕ) → IsSizeLine limit size text → IsText text
 IsSizeLine-text limit size text h =
-    subst IsText (sym h.equal) (digits_text h.digits h.extension h.numeral.1 (IsExtension-text h.extension h.follows))
+    subst IsText (sym h.equal) (digits_text h.digits h.extension h.numeral.1 (Extends-text Behind h.extension h.follows))
 
 -- two texts that end at a CR are one
 pub text_same : (a b xs ys : List ℕ) → IsText a → IsText b → a ++ 13 ∷ xs ≡ b ++ 13 ∷ ys → (a ≡ b) × (xs ≡ ys)
@@ -58,11 +52,7 @@ line_same a b xs ys p q same =
 
 -- a line says one size
 no_digit_first : (d : ℕ) (digits xs : List ℕ) → digit_value d < 16 → IsExtension xs → xs ≡ d ∷ digits → ⊥
-no_digit_first d digits [] small h same = cc
-no_digit_first d digits (b ∷ xs) small (inl (blank, h)) same =
-    blank_no_digit b blank (subst (λ c. digit_value c < 16) (let is : d ≡ b = cc in is) small)
-no_digit_first d digits (b ∷ xs) small (inr (is, h)) same =
-    semicolon_no_digit b is (subst (λ c. digit_value c < 16) (let head : d ≡ b = cc in head) small)
+no_digit_first d digits xs small h same = extension_no_digit d digits (subst IsExtension same h) small
 
 digits_same : (d e xs ys : List ℕ) → AllDigits 16 d → AllDigits 16 e → IsExtension xs → IsExtension ys
     → d ++ xs ≡ e ++ ys → d ≡ e

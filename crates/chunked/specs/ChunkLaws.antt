@@ -47,7 +47,7 @@ size_digits-line limit size some small room =
       value = digits_value_is 16 (size_digits size) ∙ ap (number_from_digits 16) back.0
           ∙ number_digits_of 16 size (omega arith);
       small = small;
-      follows = tt;
+      follows = (0, refl);
       fits = omega (arith, room, size_digits-few size small);
     }
 
@@ -74,7 +74,7 @@ module _ (limits : Limits) (line : 16 ≤ limits.line) (fields : List (List ℕ)
     numeral = (omega arith, (omega arith, tt));
     value = refl;
     small = omega arith;
-    follows = tt;
+    follows = (0, refl);
     fits = omega (arith, line);
   }
 

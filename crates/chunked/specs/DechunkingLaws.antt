@@ -6,7 +6,7 @@ use Rattle.buffer_redux.specs.Policy.{ReadRules}
 use Rattle.buffer_redux.specs.ReaderLaws.{ReadsAlong-none, ReadsAlong-joins}
 use Rattle.chunked.specs.declared.limits.Limits.{Limits}
 use Rattle.chunked.specs.declared.place.Place.{Place}
-use Rattle.chunked.specs.declared.place.Place.TheVariants.{Line, Size, Blank, Extension, SizeFeed, Data, DataFeed, Fields, FieldName, FieldValue, FieldFeed, LastFeed, Done}
+use Rattle.chunked.specs.declared.place.Place.TheVariants.{Line, Size, Extension, SizeFeed, Data, DataFeed, Fields, FieldName, FieldValue, FieldFeed, LastFeed, Done}
 use Rattle.chunked.specs.Body.{line_end, IsBody, fields_bytes, HasChunks}
 use Rattle.chunked.specs.Dechunking.{BodyWent, Dechunking, IsDechunking, IsWhole, begun, handed_of}
 use Rattle.chunked.specs.Place.{Completes, Leads}
@@ -31,8 +31,7 @@ Completes-nothing limits Line payload c = absurd (no_chunks limits c.payloads c.
 Completes-nothing limits (Size number room) payload c =
     absurd (no_line (c.digits ++ c.extension) c.behind
     (c.equal ∙ sym (append_assoc c.digits c.extension (line_end c.behind))))
-Completes-nothing limits (Blank size room) payload c = absurd (no_line c.text c.behind c.equal)
-Completes-nothing limits (Extension size room) payload c = absurd (no_line c.text c.behind c.equal)
+Completes-nothing limits (Extension within size room) payload c = absurd (no_line c.text c.behind c.equal)
 Completes-nothing limits (SizeFeed size) payload c = absurd (let odd = c.0.1 in cc)
 Completes-nothing limits (Data left) payload c = absurd (no_line c.front c.behind c.equal)
 Completes-nothing limits DataFeed payload c = absurd (let odd = c.1 in cc)

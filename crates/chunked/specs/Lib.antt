@@ -1,7 +1,10 @@
 pub mod Error
 pub mod Token
+pub mod Extension
+pub mod Within
 pub mod Body
 pub mod FieldLaws
+pub mod WithinLaws
 pub mod BodyLaws
 pub mod Place
 pub mod PlaceLaws

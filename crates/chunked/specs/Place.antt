@@ -2,13 +2,16 @@
 use Rattle.std.specs.Prelude.{◌≡◌, ◌≢◌, ℕ, zero, suc, ◌+◌, ◌*◌, ◌^◌, ◌<◌, ◌≤◌, ◌⊎◌, List, [], ◌∷◌, ◌++◌, codes, length, take, slice_index, ⊤, Result, Ok, Err, None, IfSome}
 use Rattle.std.specs.Char.{digit_value}
 use Rattle.std.specs.Str.Parse.{AllDigits, digits_value_after}
-use Rattle.chunked.specs.Token.{IsBlank, IsTokenByte, IsValueByte}
-use Rattle.chunked.specs.Body.{line_end, IsTextByte, IsText, IsExtension, IsField, IsTrailers, IsBody}
+use Rattle.chunked.specs.Token.{IsTokenByte, IsValueByte}
+use Rattle.chunked.specs.Extension.{IsExtension}
+use Rattle.chunked.specs.Within.{EndsNoExtension, Extends, FitsIn, RunsOver}
+use Rattle.chunked.specs.Body.{line_end, IsTextByte, IsField, IsTrailers, IsBody}
 use Rattle.chunked.specs.declared.error.Malformed.{Malformed}
 use Rattle.chunked.specs.declared.error.Malformed.TheVariants.{NoSize, BadSize, BadField, SizeTooLarge, LineTooLong, TrailersTooLong, BareReturn, BareFeed, ChunkTooLong}
 use Rattle.chunked.specs.declared.limits.Limits.{Limits}
 use Rattle.chunked.specs.declared.place.Place.{Place}
-use Rattle.chunked.specs.declared.place.Place.TheVariants.{Line, Size, Blank, Extension, SizeFeed, Data, DataFeed, Fields, FieldName, FieldValue, FieldFeed, LastFeed, Done}
+use Rattle.chunked.specs.declared.place.Place.TheVariants.{Line, Size, Extension, SizeFeed, Data, DataFeed, Fields, FieldName, FieldValue, FieldFeed, LastFeed, Done}
+use Rattle.chunked.specs.declared.extension.Within.TheVariants.{Behind}
 use Rattle.chunked.specs.declared.step.Reached.{Reached}
 
 -- an LF, and then bytes of which this is true
@@ -69,8 +72,7 @@ pub record CompletesField (begun : List ℕ) (room : ℕ) (rest : List ℕ) : Ty
 abbrev pub Completes : Limits → Place → List ℕ → List ℕ → Type 0
 Completes limits Line rest payload = IsBody limits rest payload
 Completes limits (Size number room) rest payload = CompletesSize limits number room rest payload
-Completes limits (Blank size room) rest payload = CompletesLine IsExtension limits size room rest payload
-Completes limits (Extension size room) rest payload = CompletesLine IsText limits size room rest payload
+Completes limits (Extension within size room) rest payload = CompletesLine (Extends within) limits size room rest payload
 Completes limits (SizeFeed size) rest payload =
     Feeds (λ behind. BehindSize limits size behind payload) rest × (size < 2 ^ 62)
 Completes limits (Data left) rest payload = CompletesData limits left rest payload
@@ -102,26 +104,17 @@ sized number b = number * 16 + digit_value b
 abbrev pub IsSmallDigit : ℕ → ℕ → Type 0
 IsSmallDigit number b = IsDigit b × (sized number b < 2 ^ 62)
 
--- none of the bytes that may stand behind the digits of a size, nor an LF
-pub record EndsNoSize (b : ℕ) : Type 0 where
-  pub no_blank : ¬ IsBlank b
-  pub no_semicolon : b ≢ 59
-  pub text : IsTextByte b
-
 -- what is wrong with the next byte in a place. There is nothing else that can be, and no byte is wrong in two ways
 abbrev pub IsWrong : Limits → Place → ℕ → Malformed → Type 0
 IsWrong limits Line b NoSize = ¬ IsDigit b
 IsWrong limits Line b LineTooLong = IsDigit b × (limits.line ≡ 0)
 IsWrong limits (Size number room) b SizeTooLarge = IsDigit b × (2 ^ 62 ≤ sized number b)
-IsWrong limits (Size number room) b LineTooLong =
-    (IsSmallDigit number b ⊎ (IsBlank b ⊎ (b ≡ 59))) × (room ≡ 0)
+IsWrong limits (Size number room) b LineTooLong = (IsSmallDigit number b × (room ≡ 0)) ⊎ RunsOver Behind room b
 IsWrong limits (Size number room) b BareFeed = b ≡ 10
-IsWrong limits (Size number room) b BadSize = ¬ IsDigit b × EndsNoSize b
-IsWrong limits (Blank size room) b LineTooLong = (IsBlank b ⊎ (b ≡ 59)) × (room ≡ 0)
-IsWrong limits (Blank size room) b BareFeed = b ≡ 10
-IsWrong limits (Blank size room) b BadSize = EndsNoSize b
-IsWrong limits (Extension size room) b LineTooLong = IsTextByte b × (room ≡ 0)
-IsWrong limits (Extension size room) b BareFeed = b ≡ 10
+IsWrong limits (Size number room) b BadSize = ¬ IsDigit b × EndsNoExtension Behind b
+IsWrong limits (Extension within size room) b LineTooLong = RunsOver within room b
+IsWrong limits (Extension within size room) b BareFeed = b ≡ 10
+IsWrong limits (Extension within size room) b BadSize = EndsNoExtension within b
 IsWrong limits (SizeFeed size) b BareReturn = b ≢ 10
 IsWrong limits (Data left) b ChunkTooLong = (left ≡ 0) × (b ≢ 13)
 IsWrong limits DataFeed b BareReturn = b ≢ 10
@@ -142,8 +135,7 @@ IsWrong limits p b why = ⊥
 abbrev pub most_between : Limits → Place → ℕ
 most_between limits Line = limits.line + 3 * limits.trailers + 4
 most_between limits (Size number room) = room + 3 * limits.trailers + 4
-most_between limits (Blank size room) = room + 3 * limits.trailers + 4
-most_between limits (Extension size room) = room + 3 * limits.trailers + 4
+most_between limits (Extension within size room) = room + 3 * limits.trailers + 4
 most_between limits (SizeFeed size) = 3 * limits.trailers + 3
 most_between limits (Data zero) = limits.line + 3 * limits.trailers + 6
 most_between limits (Data (suc left)) = 0
@@ -166,11 +158,10 @@ pub record Passes (limits : Limits) (p : Place) (wire : List ℕ) (q : Place) : 
   pub leads : Leads limits p wire [] q
   pub few : most_between limits q + length wire ≤ most_between limits p
 
--- the size that is kept is one of a chunk, and there is room for the colon behind a name
+-- the size that is kept is one of a chunk, and there is room to end what was begun
 abbrev pub IsPlace : Place → Type 0
 IsPlace (Size number room) = number < 2 ^ 62
-IsPlace (Blank size room) = size < 2 ^ 62
-IsPlace (Extension size room) = size < 2 ^ 62
+IsPlace (Extension within size room) = (size < 2 ^ 62) × FitsIn within room
 IsPlace (SizeFeed size) = size < 2 ^ 62
 IsPlace (FieldName room) = 0 < room
 IsPlace p = ⊤

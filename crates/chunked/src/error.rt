@@ -8,7 +8,8 @@ use std::{fmt, io};
 pub enum Malformed {
     /// No digit stands where the line of a size begins.
     NoSize,
-    /// Something else stands behind the digits of a size than blanks, `;` or the end of the line.
+    /// A byte stands in the line of a size, behind its digits, that can't stand there: what follows them is an extension or the
+    /// end of the line.
     BadSize,
     /// A byte stands in a line of the trailers that can't stand there: such a line is a token, a colon, and a value.
     BadField,

@@ -7,6 +7,7 @@
 
 mod chunk;
 mod error;
+mod extension;
 pub mod laws;
 mod limits;
 mod place;
@@ -18,6 +19,7 @@ mod trailers;
 mod writer;
 
 pub use error::{ChunkedError, FinishError, Malformed, TrailersError};
+pub use extension::Within;
 pub use limits::Limits;
 pub use place::Place;
 pub use reader::ChunkedReader;

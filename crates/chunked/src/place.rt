@@ -1,4 +1,5 @@
 //! Where in a body a reader stands.
+use crate::extension::Within;
 
 /// Where in a body a reader stands: what the bytes that were taken of it lead to.
 #[derive(Clone, Copy, Debug)]
@@ -7,10 +8,8 @@ pub enum Place {
     Line,
     /// Behind digits of a size: the number that they write, and how many more bytes the line may have.
     Size(u64, usize),
-    /// Behind blanks in the line of a size.
-    Blank(u64, usize),
-    /// Behind the `;` in the line of a size.
-    Extension(u64, usize),
+    /// Behind a byte of an extension: where in it, the size, and how many more bytes the line may have.
+    Extension(Within, u64, usize),
     /// Behind the CR of the line of a size.
     SizeFeed(u64),
     /// In a chunk, of whose payload so many bytes are left.

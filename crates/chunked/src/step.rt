@@ -2,14 +2,13 @@
 ghost use Rattle.std.specs.Prelude.{◌≡◌, ◌≢◌, ◌^◌, ◌<◌, ◌≤◌, ◌↔◌, length, take, Ok, IfOk, IfErr, IsTrue};
 ghost use Rattle.std.specs.Char.{digit_value};
 ghost use Rattle.std.specs.Option.{SomeIff};
-ghost use Rattle.chunked.specs.Body.{IsText};
 ghost use Rattle.chunked.specs.Place.{Advances, IsPlace, IsSettled, Passes, StepsOver};
 
 use crate::error::Malformed;
+use crate::extension::Within;
 use crate::limits::Limits;
 use crate::place::Place;
 use crate::token::{is_token_byte, is_value_byte};
-use memchr::memchr2;
 
 // The least number that isn't the size of a chunk.
 const TOO_LARGE: u64 = 1 << 62;
@@ -54,7 +53,7 @@ fn in_size(number: u64, room: usize, byte: u8) -> Result<Place, Malformed>
     ensures { (l : Limits) → StepsOver l (Place.Size number room) byte result }
 {
     match digit(byte) {
-        None => behind_size(number, room, byte),
+        None => in_extension(Within::Behind, number, room, byte),
         // The number would be too large with any digit.
         Some(_) if number >= TOO_LARGE / 16 => Err(Malformed::SizeTooLarge),
         Some(_) if room == 0 => Err(Malformed::LineTooLong),
@@ -62,31 +61,20 @@ fn in_size(number: u64, room: usize, byte: u8) -> Result<Place, Malformed>
     }
 }
 
-// What stands behind the digits of a size, and perhaps blanks.
-fn behind_size(size: u64, room: usize, byte: u8) -> Result<Place, Malformed>
+// A byte of an extension, or the end of the line.
+#[inline(always)]
+fn in_extension(within: Within, size: u64, room: usize, byte: u8) -> Result<Place, Malformed>
     requires { size < 2 ^ 62 }
-    ensures { (l : Limits) → StepsOver l (Place.Blank size room) byte result }
+    ensures { (l : Limits) → StepsOver l (Place.Extension within size room) byte result }
 {
     match byte {
-        b'\r' => Ok(Place::SizeFeed(size)),
+        b'\r' if within.may_end() => Ok(Place::SizeFeed(size)),
         b'\n' => Err(Malformed::BareFeed),
-        b' ' | b'\t' | b';' if room == 0 => Err(Malformed::LineTooLong),
-        b' ' | b'\t' => Ok(Place::Blank(size, room - 1)),
-        b';' => Ok(Place::Extension(size, room - 1)),
-        _ => Err(Malformed::BadSize),
-    }
-}
-
-// The end of a text in the line of a size, or a byte for which there is no room.
-fn behind_extension(size: u64, room: usize, byte: u8) -> Result<Place, Malformed>
-    requires { size < 2 ^ 62 }
-    ensures { (l : Limits) → StepsOver l (Place.Extension size room) byte result }
-{
-    match byte {
-        b'\r' => Ok(Place::SizeFeed(size)),
-        b'\n' => Err(Malformed::BareFeed),
-        _ if room == 0 => Err(Malformed::LineTooLong),
-        _ => Ok(Place::Extension(size, room - 1)),
+        _ => match within.next(byte) {
+            None => Err(Malformed::BadSize),
+            Some(next) if room <= next.least() => Err(Malformed::LineTooLong),
+            Some(next) => Ok(Place::Extension(next, size, room - 1)),
+        },
     }
 }
 
@@ -175,8 +163,7 @@ fn step(limits: &Limits, place: Place, byte: u8) -> Result<Place, Malformed>
     match place {
         Place::Line => begin_size(limits, byte),
         Place::Size(number, room) => in_size(number, room, byte),
-        Place::Blank(size, room) => behind_size(size, room, byte),
-        Place::Extension(size, room) => behind_extension(size, room, byte),
+        Place::Extension(within, size, room) => in_extension(within, size, room, byte),
         Place::SizeFeed(size) => feed(byte, begin_data(limits, size)),
         Place::Data(_) => end_data(byte),
         Place::DataFeed => feed(byte, Place::Line),
@@ -186,35 +173,6 @@ fn step(limits: &Limits, place: Place, byte: u8) -> Result<Place, Malformed>
         Place::FieldFeed(room) => feed(byte, Place::Fields(room)),
         Place::LastFeed => feed(byte, Place::Done),
         Place::Done => unreachable!(),
-    }
-}
-
-// How many bytes of a text `shown` begins with, at most so many.
-fn text_len(room: usize, shown: &[u8]) -> usize
-    ensures fits { result ≤ room }
-    ensures within { result ≤ length shown.now }
-    ensures text { IsText (take result shown.now) }
-{
-    let fitting = &shown[..shown.len().min(room)];
-    match memchr2(b'\r', b'\n', fitting) {
-        Some(end) => end,
-        None => fitting.len(),
-    }
-}
-
-// Goes on by the text that `shown` begins with, and returns how many bytes it has.
-fn skip_text(place: Place, shown: &[u8]) -> (Place, usize)
-    requires { IsPlace place }
-    ensures within { result.1 ≤ length shown.now }
-    ensures passes { (l : Limits) → Passes l place (take result.1 shown.now) result.0 }
-    ensures place { IsPlace result.0 }
-{
-    match place {
-        Place::Extension(size, room) => {
-            let len = text_len(room, shown);
-            (Place::Extension(size, room - len), len)
-        }
-        other => (other, 0),
     }
 }
 
@@ -239,9 +197,8 @@ pub fn advance(limits: &Limits, start: Place, shown: &[u8]) -> Reached
     while taken < shown.len() && !is_settled(place) {
         match step(limits, place, shown[taken]) {
             Ok(next) => {
-                let (behind, text) = skip_text(next, &shown[taken + 1..]);
-                place = behind;
-                taken += 1 + text;
+                place = next;
+                taken += 1;
             }
             Err(why) => {
                 return Reached {

@@ -6,7 +6,8 @@ use buffer_redux::script::Answer;
 use buffer_redux::tell::{Tell, TellRead, Told};
 use buffer_redux::{BufReader, GrowError};
 use chunked::Malformed::{
-    BadSize, BareFeed, BareReturn, ChunkTooLong, LineTooLong, NoSize, SizeTooLarge, TrailersTooLong,
+    BadField, BadSize, BareFeed, BareReturn, ChunkTooLong, LineTooLong, NoSize, SizeTooLarge,
+    TrailersTooLong,
 };
 use chunked::{ChunkedError, ChunkedReader, Limits, Malformed};
 use std::alloc::{AllocError, Global};
@@ -48,9 +49,9 @@ static BODIES: [Row<'static>; 5] = [
         Whole(NEXT),
     ),
     Row(
-        4,
+        2,
         0,
-        b"25  \r\nThis is the data in the first chunk\r\n\r\n1C\r\nand this is the second one\r\n\r\n0  \r\n\r\n\
+        b"25\r\nThis is the data in the first chunk\r\n\r\n1C\r\nand this is the second one\r\n\r\n0\r\n\r\n\
 GET / HTTP/1.1\r\n\r\n",
         b"This is the data in the first chunk\r\nand this is the second one\r\n",
         Whole(NEXT),
@@ -73,7 +74,7 @@ GET / HTTP/1.1\r\n\r\n",
 ];
 
 // What isn't a body: the name of what is wrong, behind how many bytes that are right.
-static WRONG: [Row<'static>; 9] = [
+static WRONG: [Row<'static>; 10] = [
     Row(9, 9, b"\r\n", b"", Wrong(NoSize, 0)),
     Row(9, 9, b"1\r\na\r\n;x\r\n", b"a", Wrong(NoSize, 6)),
     Row(9, 9, b"4x\r\nWiki", b"", Wrong(BadSize, 1)),
@@ -83,11 +84,12 @@ static WRONG: [Row<'static>; 9] = [
     Row(9, 9, b"4;a\nWiki", b"", Wrong(BareFeed, 3)),
     Row(9, 9, b"0\r\n\n", b"", Wrong(BareFeed, 3)),
     Row(9, 9, b"0\r\nX\n", b"", Wrong(BareFeed, 4)),
+    Row(9, 9, b"0\r\nX\r\n", b"", Wrong(BadField, 4)),
 ];
 
 static WRONG_RETURNS: [Row<'static>; 7] = [
     Row(9, 9, b"4\rWiki", b"", Wrong(BareReturn, 2)),
-    Row(9, 9, b"4;\"\r\r\n", b"", Wrong(BareReturn, 4)),
+    Row(9, 9, b"4;a\r\r\n", b"", Wrong(BareReturn, 4)),
     Row(9, 9, b"1\r\na\rb", b"a", Wrong(BareReturn, 5)),
     Row(9, 9, b"0\r\nX:\rY", b"", Wrong(BareReturn, 6)),
     Row(9, 9, b"0\r\n\rX", b"", Wrong(BareReturn, 4)),
@@ -102,13 +104,13 @@ static LIMITS: [Row<'static>; 9] = [
     Row(20, 0, b"03FFFFFFFFFFFFFFF\r\n", b"", Truncated(19)),
     Row(4, 0, b"0004\r\n", b"", Truncated(6)),
     Row(4, 0, b"00004\r\n", b"", Wrong(LineTooLong, 4)),
-    Row(4, 0, b"4   ;\r\n", b"", Wrong(LineTooLong, 4)),
+    Row(4, 0, b"4  ;a\r\n", b"", Wrong(LineTooLong, 2)),
     Row(4, 0, b"4;abc\r\n", b"", Wrong(LineTooLong, 4)),
     Row(1, 4, b"0\r\na:\r\nb:\r\n\r\n", b"", Whole(b"")),
     Row(
         1,
-        4,
-        b"0\r\na:\r\nb:\r\nc\r\n\r\n",
+        5,
+        b"0\r\na:\r\nb:\r\nc:\r\n\r\n",
         b"",
         Wrong(TrailersTooLong, 11),
     ),

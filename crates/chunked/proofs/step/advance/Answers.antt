@@ -1,8 +1,7 @@
-use Rattle.std.proofs.Common.{◌+◌, ◌-◌, length, drop, subst, inl, inr, arith, refl, rules}
-use Rattle.std.proofs.lemmas.List.{length-take}
-use Rattle.chunked.specs.Place.{IsSettled}
-use Rattle.chunked.specs.PlaceLaws.{Passes-none}
-use Rattle.chunked.proofs.Texts.{taken_on}
+use Rattle.std.proofs.Common.{[], ◌∷◌, take, slice_index, sym, subst, inl, inr, arith, refl, rules}
+use Rattle.std.proofs.lemmas.List.{take_more}
+use Rattle.chunked.specs.Place.{IsSettled, Passes}
+use Rattle.chunked.specs.PlaceLaws.{Passes-none, Passes-joins}
 use Rattle.chunked.proofs.step.advance.Goals as goal
 
 pub loop-taken-init : goal.loop-taken-init
@@ -16,15 +15,14 @@ loop-taken-init c = record {
 pub loop-taken-preserved : goal.loop-taken-preserved
 loop-taken-preserved c =
     let before = c.loop-taken.invariant in
-    let skipped = c.skip_text-behind.ensures in
     let shown = c.args.shown.now in
-    let rest = drop (c.loop-taken.taken + 1) shown in
     record {
-      within = omega (arith, skipped.within, length-take (length shown - (c.loop-taken.taken + 1)) rest);
-      passes = taken_on c.args.limits.now c.args.start c.loop-taken.place c.in-Ok.next c.skip_text-behind.result.0 shown
-          c.loop-taken.taken c.skip_text-behind.result.1 c.loop-taken-test.true before.passes c.in-Ok.ensures.0
-          (skipped.passes c.args.limits.now);
-      place = skipped.place;
+      within = omega arith;
+      passes = subst (λ l. Passes c.args.limits.now c.args.start l c.in-Ok.next)
+          (sym (take_more shown c.loop-taken.taken 0 c.loop-taken-test.true))
+          (Passes-joins c.args.limits.now c.args.start c.loop-taken.place c.in-Ok.next (take c.loop-taken.taken shown)
+          (slice_index shown c.loop-taken.taken ∷ []) before.passes c.in-Ok.ensures.0);
+      place = c.in-Ok.ensures.1;
       begun = inl (omega arith);
     }
 

@@ -7,12 +7,12 @@ use Rattle.chunked.proofs.step.in_size.Goals as goal
 
 pub returns-in-None : goal.returns-in-None
 returns-in-None c =
-    λ l. StepsOver-size l c.args.byte c.args.number c.args.room c.behind_size.result c.in-None.ensures (c.behind_size.ensures l)
+    λ l. StepsOver-size l c.args.byte c.args.number c.args.room c.in_extension.result c.in-None.ensures (c.in_extension.ensures l)
 
 pub returns-in-Some-2 : goal.returns-in-Some-2
 returns-in-Some-2 c =
     let found = c.in-Some.ensures in
-    λ l. (inl (found.0, omega (arith, found.0)), omega arith)
+    λ l. inl ((found.0, omega (arith, found.0)), omega arith)
 
 pub returns-in-Some-3 : goal.returns-in-Some-3
 returns-in-Some-3 c =

@@ -7,11 +7,8 @@ use Rattle.chunked.proofs.step.step.Goals as goal
 pub returns-in-Size : goal.returns-in-Size
 returns-in-Size c = rw c.in-Size.is (c.in_size.ensures c.args.limits.now)
 
-pub returns-in-Blank : goal.returns-in-Blank
-returns-in-Blank c = rw c.in-Blank.is (c.behind_size.ensures c.args.limits.now)
-
 pub returns-in-Extension : goal.returns-in-Extension
-returns-in-Extension c = rw c.in-Extension.is (c.behind_extension.ensures c.args.limits.now)
+returns-in-Extension c = rw c.in-Extension.is (c.in_extension.ensures c.args.limits.now)
 
 pub returns-in-Data : goal.returns-in-Data
 returns-in-Data c =

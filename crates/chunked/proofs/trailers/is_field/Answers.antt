@@ -2,7 +2,7 @@ use Rattle.std.proofs.Common.{◌≡◌, ◌+◌, length, slice_index, sym, subs
 use Rattle.std.specs.List.{AllByRecursion}
 use Rattle.std.proofs.lemmas.Bool.Decides.{nat_tests}
 use Rattle.std.proofs.lemmas.Slice.{between_to_end}
-use Rattle.chunked.specs.Token.{IsToken, IsValueByte}
+use Rattle.chunked.specs.Token.{IsValueByte}
 use Rattle.chunked.proofs.Colons.{field_has_colon, field_splits, splits_field}
 use Rattle.chunked.proofs.trailers.is_field.Goals as goal
 

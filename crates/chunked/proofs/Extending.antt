@@ -1,0 +1,46 @@
+-- Which bytes lead on in an extension.
+use Rattle.std.proofs.Common.{◌≡◌, ◌≢◌, ℕ, ◌-◌, ◌<◌, ◌≤◌, [], ◌∷◌, Some, arith, refl}
+use Rattle.chunked.specs.declared.extension.Within.{Within}
+use Rattle.chunked.specs.declared.limits.Limits.{Limits}
+use Rattle.chunked.specs.declared.place.Place.TheVariants.{Extension, SizeFeed}
+use Rattle.chunked.specs.Place.{Passes}
+use Rattle.chunked.specs.Within.{Extends, FitsIn, Follows, IsLeast, RunsOver}
+use Rattle.chunked.specs.WithinLaws.{Extends-text}
+use Rattle.chunked.proofs.Passing.{quiet, line_back, line_on, return_back, return_on}
+
+-- a byte that leads on, to where an extension may be completed, and in how many bytes at least
+module _ (within next : Within) (b least : ℕ) (follows : Follows within b (Some next)) (is_least : IsLeast next least) where
+  no_return : b ≢ 13
+  no_return = (Extends-text within (b ∷ is_least.text) ((follows is_least.text).1 is_least.extends)).0.0
+
+  pub fits_in : (room : ℕ) → least < room → FitsIn next (room - 1)
+  fits_in room some = (is_least.text, is_least.extends, omega (arith, is_least.many, some))
+
+  pub runs_over : (room : ℕ) → room ≤ least → RunsOver within room b
+  runs_over room none = record {
+    text = is_least.text;
+    extends = (follows is_least.text).1 is_least.extends;
+    over = λ other e. omega (arith, none, is_least.none_less other ((follows other).0 e));
+  }
+
+  pub extension_on : (limits : Limits) (size room : ℕ) → least < room
+      → Passes limits (Extension within size room) (b ∷ []) (Extension next size (room - 1))
+  extension_on limits size room some = record {
+    leads = quiet limits (Extension within size room) (Extension next size (room - 1)) (b ∷ [])
+        (λ rest payload c. line_on limits (Extends within) (Extends next) b size room rest payload (omega (arith, some))
+        (λ text e. (follows text).1 e) c)
+        (λ rest payload c. line_back limits (Extends within) (Extends next) b size room rest payload c.text no_return
+        (λ text e. (follows text).0 e) c refl);
+    few = omega (arith, some);
+  }
+
+-- the end of the line
+pub extension_return : (limits : Limits) (within : Within) (b size room : ℕ) → Extends within [] → b ≡ 13
+    → Passes limits (Extension within size room) (b ∷ []) (SizeFeed size)
+extension_return limits within b size room none is = record {
+  leads = quiet limits (Extension within size room) (SizeFeed size) (b ∷ [])
+      (λ rest payload c. return_on limits (Extends within) size room b rest payload is none c)
+      (λ rest payload c. return_back limits (Extends within) size b rest payload c.text c.behind is c.equal
+      (λ x more e. (Extends-text within (x ∷ more) e).0.0) c.is_rest c.small c.goes_on);
+  few = omega arith;
+}

@@ -1,0 +1,26 @@
+use Rattle.std.proofs.Common.{[], arith, rules}
+use Rattle.chunked.specs.Within.{Extends}
+use Rattle.chunked.proofs.Extending.{extension_on, extension_return, fits_in, runs_over}
+use Rattle.chunked.proofs.step.in_extension.Goals as goal
+
+pub returns-in-13 : goal.returns-in-13
+returns-in-13 c =
+    let none : Extends c.args.within [] = search rules in
+    λ l. (extension_return l c.args.within c.args.byte c.args.size c.args.room none c.in-13.is, c.requires)
+
+pub returns-in-Some : goal.returns-in-Some
+returns-in-Some c =
+    λ l. runs_over c.args.within c.in-Some.next c.args.byte c.least.result c.in-Some.ensures c.least.ensures c.args.room
+    (omega arith)
+
+pub returns-in-Some-2 : goal.returns-in-Some-2
+returns-in-Some-2 c =
+    let follows = c.in-Some.ensures in
+    λ l. (
+      extension_on c.args.within c.in-Some.next c.args.byte c.least.result follows c.least.ensures l c.args.size c.args.room
+          (omega arith),
+      (
+        c.requires,
+        fits_in c.args.within c.in-Some.next c.args.byte c.least.result follows c.least.ensures c.args.room (omega arith),
+      ),
+    )

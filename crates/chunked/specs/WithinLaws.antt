@@ -1,0 +1,215 @@
+-- Laws of places within an extension: where each byte leads, and what stands first in what is left.
+use Rattle.std.proofs.Common.{◌≡◌, ◌≢◌, ℕ, zero, suc, ◌<◌, ◌≤◌, ◌⊎◌, List, [], ◌∷◌, None, Some, inl, inr, refl, subst, arith}
+use Rattle.chunked.specs.Token.{IsBlank, IsTokenByte, IsValueByte}
+use Rattle.chunked.specs.Extension.{Assigned, IsExtension, IsQuotedByte, Parameter, Parameters}
+use Rattle.chunked.specs.Within.{Extends, Follows, LeftOf}
+use Rattle.chunked.specs.Body.{IsTextByte, IsText}
+use Rattle.chunked.specs.FieldLaws.{token_is_text, token_plain, value_is_text}
+use Rattle.chunked.specs.declared.extension.Within.{Within}
+use Rattle.chunked.specs.declared.extension.Within.TheVariants.{Blank, BeforeName, InName, BehindName, BeforeValue, InValue, Quoted, Escaped, Behind}
+
+module _ (IsToken : ℕ → Type 0) (plain : (b : ℕ) → IsToken b → (33 ≤ b) × (b ≢ 58) × (b ≢ 59) × (b ≢ 61) × (b ≢ 34) × (b ≢ 92))
+  where
+    -- where each byte leads
+    abbrev StepsBy : Within → ℕ → Within → Type 0
+    StepsBy Behind b v = (IsBlank b × (v ≡ Blank)) ⊎ ((b ≡ 59) × (v ≡ BeforeName))
+    StepsBy Blank b v = (IsBlank b × (v ≡ Blank)) ⊎ ((b ≡ 59) × (v ≡ BeforeName))
+    StepsBy BeforeName b v = (IsBlank b × (v ≡ BeforeName)) ⊎ (IsToken b × (v ≡ InName))
+    StepsBy InName b v =
+        (IsBlank b × (v ≡ BehindName)) ⊎ ((IsToken b × (v ≡ InName))
+        ⊎ (((b ≡ 61) × (v ≡ BeforeValue)) ⊎ ((b ≡ 59) × (v ≡ BeforeName))))
+    StepsBy BehindName b v =
+        (IsBlank b × (v ≡ BehindName)) ⊎ (((b ≡ 61) × (v ≡ BeforeValue)) ⊎ ((b ≡ 59) × (v ≡ BeforeName)))
+    StepsBy BeforeValue b v = (IsBlank b × (v ≡ BeforeValue)) ⊎ ((IsToken b × (v ≡ InValue)) ⊎ ((b ≡ 34) × (v ≡ Quoted)))
+    StepsBy InValue b v = (IsBlank b × (v ≡ Blank)) ⊎ ((IsToken b × (v ≡ InValue)) ⊎ ((b ≡ 59) × (v ≡ BeforeName)))
+    StepsBy Quoted b v =
+        (IsQuotedByte b × (v ≡ Quoted)) ⊎ (((b ≡ 92) × (v ≡ Escaped)) ⊎ ((b ≡ 34) × (v ≡ Behind)))
+    StepsBy Escaped b v = IsValueByte b × (v ≡ Quoted)
+
+    one_way_by : (w : Within) (b : ℕ) (v v' : Within) → StepsBy w b v → StepsBy w b v' → v ≡ v'
+    one_way_by Behind b v v' s t = grind (arith, plain)
+    one_way_by Blank b v v' s t = grind (arith, plain)
+    one_way_by BeforeName b v v' s t = grind (arith, plain)
+    one_way_by InName b v v' s t = grind (arith, plain)
+    one_way_by BehindName b v v' s t = grind (arith, plain)
+    one_way_by BeforeValue b v v' s t = grind (arith, plain)
+    one_way_by InValue b v v' s t = grind (arith, plain)
+    one_way_by Quoted b v v' s t = grind (arith, plain)
+    one_way_by Escaped b v v' s t = cc
+
+-- where each byte leads
+abbrev pub Steps : Within → ℕ → Within → Type 0
+Steps w b v = StepsBy IsTokenByte token_plain w b v
+
+one_way : (w : Within) (b : ℕ) (v v' : Within) → Steps w b v → Steps w b v' → v ≡ v'
+one_way w b v v' s t = one_way_by IsTokenByte token_plain w b v v' s t
+
+-- with it in front, what is left there is left here
+on : (w : Within) (b : ℕ) (v : Within) (text : List ℕ) → Steps w b v → Extends v text → Extends w (b ∷ text)
+on Behind b v text (inl (blank, is)) e = let k = subst (λ x. Extends x text) is e in (suc k.0, inr (blank, k.1))
+on Behind b v text (inr (sign, is)) e = let k = subst (λ x. Extends x text) is e in (suc k.0, inl (sign, k.1))
+on Blank b v text (inl (blank, is)) e = let k = subst (λ x. Extends x text) is e in (k.0, inr (blank, k.1))
+on Blank b v text (inr (sign, is)) e = let k = subst (λ x. Extends x text) is e in (k.0, inl (sign, k.1))
+on BeforeName b v text (inl (blank, is)) e = let k = subst (λ x. Extends x text) is e in (k.0, inr (blank, k.1))
+on BeforeName b v text (inr (token, is)) e = let k = subst (λ x. Extends x text) is e in (k.0, inl (token, k.1))
+on InName b v text (inl (blank, is)) e = let k = subst (λ x. Extends x text) is e in elim k.1 [
+  | inl left ↦ (suc k.0, inl (inl (inr (blank, left))))
+  | inr left ↦ (k.0, inl (inr (inr (blank, left))))
+]
+on InName b v text (inr (inl (token, is))) e = let k = subst (λ x. Extends x text) is e in (k.0, inr (token, k.1))
+on InName b v text (inr (inr (inl (sign, is)))) e =
+    let k = subst (λ x. Extends x text) is e in (k.0, inl (inr (inl (sign, k.1))))
+on InName b v text (inr (inr (inr (sign, is)))) e =
+    let k = subst (λ x. Extends x text) is e in (suc k.0, inl (inl (inl (sign, k.1))))
+on BehindName b v text (inl (blank, is)) e = let k = subst (λ x. Extends x text) is e in elim k.1 [
+  | inl left ↦ (k.0, inl (inr (blank, left)))
+  | inr left ↦ (k.0, inr (inr (blank, left)))
+]
+on BehindName b v text (inr (inl (sign, is))) e = let k = subst (λ x. Extends x text) is e in (k.0, inr (inl (sign, k.1)))
+on BehindName b v text (inr (inr (sign, is))) e = let k = subst (λ x. Extends x text) is e in (k.0, inl (inl (sign, k.1)))
+on BeforeValue b v text (inl (blank, is)) e = let k = subst (λ x. Extends x text) is e in (k.0, inr (blank, k.1))
+on BeforeValue b v text (inr (inl (token, is))) e =
+    let k = subst (λ x. Extends x text) is e in (k.0, inl (inl (token, k.1)))
+on BeforeValue b v text (inr (inr (sign, is))) e = let k = subst (λ x. Extends x text) is e in (k.0, inl (inr (sign, k.1)))
+on InValue b v text (inl (blank, is)) e = let k = subst (λ x. Extends x text) is e in (suc k.0, inl (inr (blank, k.1)))
+on InValue b v text (inr (inl (token, is))) e = let k = subst (λ x. Extends x text) is e in (k.0, inr (token, k.1))
+on InValue b v text (inr (inr (sign, is))) e = let k = subst (λ x. Extends x text) is e in (suc k.0, inl (inl (sign, k.1)))
+on Quoted b v [] (inl (quoted, is)) e = absurd (subst (λ x. Extends x []) is e).1
+on Quoted b v (c ∷ text) (inl (quoted, is)) e =
+    let k = subst (λ x. Extends x (c ∷ text)) is e in (k.0, inr (inl (quoted, k.1)))
+on Quoted b v [] (inr (inl (sign, is))) e = absurd (subst (λ x. Extends x []) is e).1
+on Quoted b v (c ∷ text) (inr (inl (sign, is))) e =
+    let k = subst (λ x. Extends x (c ∷ text)) is e in (k.0, inr (inr (sign, k.1.0, k.1.1)))
+on Quoted b v [] (inr (inr (sign, is))) e = let k = subst (λ x. Extends x []) is e in (k.0, (sign, k.1))
+on Quoted b v (c ∷ text) (inr (inr (sign, is))) e =
+    let k = subst (λ x. Extends x (c ∷ text)) is e in (k.0, inl (sign, k.1))
+on Escaped b v text (byte, is) e = let k = subst (λ x. Extends x text) is e in (k.0, (byte, k.1))
+
+-- and there is no other way
+pub record StepsOn (w : Within) (b : ℕ) (text : List ℕ) : Type 0 where
+  pub next : Within
+  pub steps : Steps w b next
+  pub left : Extends next text
+
+-- what a parameter begins with
+abbrev BeginsParameter : ℕ → List ℕ → Type 0
+BeginsParameter b text = (IsBlank b × Extends Blank text) ⊎ ((b ≡ 59) × Extends BeforeName text)
+
+parameter_first : (b count : ℕ) (text : List ℕ) → Parameter (Parameters count) (b ∷ text) → BeginsParameter b text
+parameter_first b count text (inl (sign, left)) = inr (sign, (count, left))
+parameter_first b count text (inr (blank, left)) = inl (blank, (count, left))
+
+pub parameters_first : (b count : ℕ) (text : List ℕ) → Parameters count (b ∷ text) → BeginsParameter b text
+parameters_first b zero text odd = cc
+parameters_first b (suc count) text left = parameter_first b count text left
+
+-- where this leads where a value may have ended
+step_on : (w : Within) (b : ℕ) (text : List ℕ) → (IsBlank b → Steps w b Blank) → ((b ≡ 59) → Steps w b BeforeName)
+    → BeginsParameter b text → StepsOn w b text
+step_on w b text blanks signs (inl (blank, left)) = record { next = Blank; steps = blanks blank; left = left }
+step_on w b text blanks signs (inr (sign, left)) = record { next = BeforeName; steps = signs sign; left = left }
+
+-- and where a name has
+name_on : (w : Within) (b : ℕ) (text : List ℕ) → (IsBlank b → Steps w b BehindName) → ((b ≡ 59) → Steps w b BeforeName)
+    → BeginsParameter b text → StepsOn w b text
+name_on w b text blanks signs (inl (blank, left)) =
+    record { next = BehindName; steps = blanks blank; left = (left.0, inl left.1) }
+name_on w b text blanks signs (inr (sign, left)) = record { next = BeforeName; steps = signs sign; left = left }
+
+assigned_on : (w : Within) (b count : ℕ) (text : List ℕ) → (IsBlank b → Steps w b BehindName)
+    → ((b ≡ 61) → Steps w b BeforeValue) → Assigned (Parameters count) (b ∷ text) → StepsOn w b text
+assigned_on w b count text blanks signs (inl (sign, left)) =
+    record { next = BeforeValue; steps = signs sign; left = (count, left) }
+assigned_on w b count text blanks signs (inr (blank, left)) =
+    record { next = BehindName; steps = blanks blank; left = (count, inr left) }
+
+first_of : (w : Within) (b count : ℕ) (text : List ℕ) → LeftOf w count (b ∷ text) → StepsOn w b text
+first_of Behind b count text left =
+    step_on Behind b text (λ is. inl (is, refl)) (λ is. inr (is, refl)) (parameters_first b count text left)
+first_of Blank b count text left =
+    step_on Blank b text (λ is. inl (is, refl)) (λ is. inr (is, refl)) (parameter_first b count text left)
+first_of BeforeName b count text (inl (token, left)) =
+    record { next = InName; steps = inr (token, refl); left = (count, left) }
+first_of BeforeName b count text (inr (blank, left)) =
+    record { next = BeforeName; steps = inl (blank, refl); left = (count, left) }
+first_of InName b count text (inl (inl left)) =
+    name_on InName b text (λ is. inl (is, refl)) (λ is. inr (inr (inr (is, refl)))) (parameters_first b count text left)
+first_of InName b count text (inl (inr left)) =
+    assigned_on InName b count text (λ is. inl (is, refl)) (λ is. inr (inr (inl (is, refl)))) left
+first_of InName b count text (inr (token, left)) =
+    record { next = InName; steps = inr (inl (token, refl)); left = (count, left) }
+first_of BehindName b count text (inl left) =
+    name_on BehindName b text (λ is. inl (is, refl)) (λ is. inr (inr (is, refl))) (parameter_first b count text left)
+first_of BehindName b count text (inr left) =
+    assigned_on BehindName b count text (λ is. inl (is, refl)) (λ is. inr (inl (is, refl))) left
+first_of BeforeValue b count text (inl (inl (token, left))) =
+    record { next = InValue; steps = inr (inl (token, refl)); left = (count, left) }
+first_of BeforeValue b count text (inl (inr (sign, left))) =
+    record { next = Quoted; steps = inr (inr (sign, refl)); left = (count, left) }
+first_of BeforeValue b count text (inr (blank, left)) =
+    record { next = BeforeValue; steps = inl (blank, refl); left = (count, left) }
+first_of InValue b count text (inl left) =
+    step_on InValue b text (λ is. inl (is, refl)) (λ is. inr (inr (is, refl))) (parameters_first b count text left)
+first_of InValue b count text (inr (token, left)) =
+    record { next = InValue; steps = inr (inl (token, refl)); left = (count, left) }
+first_of Quoted b count [] (sign, left) = record { next = Behind; steps = inr (inr (sign, refl)); left = (count, left) }
+first_of Quoted b count (c ∷ text) (inl (sign, left)) =
+    record { next = Behind; steps = inr (inr (sign, refl)); left = (count, left) }
+first_of Quoted b count (c ∷ text) (inr (inl (quoted, left))) =
+    record { next = Quoted; steps = inl (quoted, refl); left = (count, left) }
+first_of Quoted b count (c ∷ text) (inr (inr (sign, byte, left))) =
+    record { next = Escaped; steps = inr (inl (sign, refl)); left = (count, (byte, left)) }
+first_of Escaped b count text (byte, left) = record { next = Quoted; steps = (byte, refl); left = (count, left) }
+
+pub first : (w : Within) (b : ℕ) (text : List ℕ) → Extends w (b ∷ text) → StepsOn w b text
+first w b text e = first_of w b e.0 text e.1
+
+-- all of an extension is text
+blank_is_text : (b : ℕ) → IsBlank b → IsTextByte b
+blank_is_text b is = value_is_text b (inl is)
+
+sign_is_text : (b sign : ℕ) → 32 < sign → b ≡ sign → IsTextByte b
+sign_is_text b sign high is = (λ odd. omega (arith, high, is, odd), λ odd. omega (arith, high, is, odd))
+
+steps_text : (w : Within) (b : ℕ) (v : Within) → Steps w b v → IsTextByte b
+steps_text Behind b v (inl (blank, is)) = blank_is_text b blank
+steps_text Behind b v (inr (sign, is)) = sign_is_text b 59 (omega arith) sign
+steps_text Blank b v (inl (blank, is)) = blank_is_text b blank
+steps_text Blank b v (inr (sign, is)) = sign_is_text b 59 (omega arith) sign
+steps_text BeforeName b v (inl (blank, is)) = blank_is_text b blank
+steps_text BeforeName b v (inr (token, is)) = token_is_text b token
+steps_text InName b v (inl (blank, is)) = blank_is_text b blank
+steps_text InName b v (inr (inl (token, is))) = token_is_text b token
+steps_text InName b v (inr (inr (inl (sign, is)))) = sign_is_text b 61 (omega arith) sign
+steps_text InName b v (inr (inr (inr (sign, is)))) = sign_is_text b 59 (omega arith) sign
+steps_text BehindName b v (inl (blank, is)) = blank_is_text b blank
+steps_text BehindName b v (inr (inl (sign, is))) = sign_is_text b 61 (omega arith) sign
+steps_text BehindName b v (inr (inr (sign, is))) = sign_is_text b 59 (omega arith) sign
+steps_text BeforeValue b v (inl (blank, is)) = blank_is_text b blank
+steps_text BeforeValue b v (inr (inl (token, is))) = token_is_text b token
+steps_text BeforeValue b v (inr (inr (sign, is))) = sign_is_text b 34 (omega arith) sign
+steps_text InValue b v (inl (blank, is)) = blank_is_text b blank
+steps_text InValue b v (inr (inl (token, is))) = token_is_text b token
+steps_text InValue b v (inr (inr (sign, is))) = sign_is_text b 59 (omega arith) sign
+steps_text Quoted b v (inl (quoted, is)) = value_is_text b quoted.0
+steps_text Quoted b v (inr (inl (sign, is))) = sign_is_text b 92 (omega arith) sign
+steps_text Quoted b v (inr (inr (sign, is))) = sign_is_text b 34 (omega arith) sign
+steps_text Escaped b v (byte, is) = value_is_text b byte
+
+pub Extends-text : (w : Within) (text : List ℕ) → Extends w text → IsText text
+Extends-text w [] e = tt
+Extends-text w (b ∷ text) e = let f = first w b text e in (steps_text w b f.next f.steps, Extends-text f.next text f.left)
+
+-- one begins with a blank or a `;`
+pub IsExtension-first : (b : ℕ) (text : List ℕ) → IsExtension (b ∷ text) → IsBlank b ⊎ (b ≡ 59)
+IsExtension-first b text e = elim (parameters_first b e.0 text e.1) [ inl blank ↦ inl blank.0 | inr sign ↦ inr sign.0 ]
+
+-- so a byte leads on, or none does
+pub leads : (w : Within) (b : ℕ) (v : Within) → Steps w b v → Follows w b (Some v)
+leads w b v s = λ text. (
+  (λ e. let f = first w b text e in subst (λ x. Extends x text) (one_way w b f.next v f.steps s) f.left),
+  λ e. on w b v text s e,
+)
+
+pub none : (w : Within) (b : ℕ) → ((v : Within) → Steps w b v → ⊥) → Follows w b None
+none w b never = λ text e. let f = first w b text e in never f.next f.steps
