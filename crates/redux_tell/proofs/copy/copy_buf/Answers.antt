@@ -13,14 +13,16 @@ returns-in_err-taken-clause-copied g c =
     rw (p.1, p.2) (record {
       moved = (c.turns.total, moved);
       ended = tt;
-      failed = inl (StreamFailed-after _ _ _ g.met.W.TellWrite.stretch_joins before.copies before.writer turn.answers.failed.failed);
+      failed = inl (StreamFailed-after _ _ _ g.met.W.TellWrite.stretch_joins before.copies before.writer
+          turn.answers.failed.failed);
       often = λ is. omega (arith, turn.often is, faults_come before.copies);
       few = omega (arith, before.few, turn.few, moved_count moved);
       fills = omega (arith, before.copies.fills, turn.answers.failed.fills);
       writes = omega (arith, before.copies.writes, turn.answers.writes);
       ends_shown = omega (arith, before.copies.ends_shown, turn.answers.ends_shown);
       one_end = λ takes.
-          turn.answers.one_end (TakesNothing-after _ _ _ g.met.W.TellWrite.stretch_joins before.writer takes) ∙ before.still takes;
+          turn.answers.one_end (TakesNothing-after _ _ _ g.met.W.TellWrite.stretch_joins before.writer takes)
+          ∙ before.still takes;
     })
 
 pub returns-in_err-taken-clause-reader : goal.returns-in_err-taken-clause-reader

@@ -8,7 +8,8 @@ returns-in-Ok-clause-retried g c =
     let before = c.loop.invariant in
     let turn = c.in-Ok.ensures.turn in
     record {
-      answers = TurnAnswers-after _ _ _ g.met.W.TellWrite.stretch_joins before.copies before.writer before.still (Ok c.in-Ok.n) turn.answers;
+      answers = TurnAnswers-after _ _ _ g.met.W.TellWrite.stretch_joins before.copies before.writer before.still
+          (Ok c.in-Ok.n) turn.answers;
       often = tt;
       few = omega (arith, before.few, turn.one_fault);
     }
@@ -18,7 +19,8 @@ returns-then-ne-clause-retried g c =
     let before = c.loop.invariant in
     let turn = c.in-Err.ensures.turn in
     record {
-      answers = TurnAnswers-after _ _ _ g.met.W.TellWrite.stretch_joins before.copies before.writer before.still (Err c.in-Err.e) turn.answers;
+      answers = TurnAnswers-after _ _ _ g.met.W.TellWrite.stretch_joins before.copies before.writer before.still
+          (Err c.in-Err.e) turn.answers;
       often = search rules;
       few = omega (arith, before.few, turn.one_fault);
     }
@@ -34,7 +36,8 @@ loop-preserved g c =
       reader = g.met.B.TellBufRead.stretch_joins _ _ _ before.reader c.in-Err.ensures.reader;
       writer = g.met.W.TellWrite.stretch_joins _ _ _ before.writer c.in-Err.ensures.writer;
       still = λ takes.
-          turn.answers.one_end (TakesNothing-after _ _ _ g.met.W.TellWrite.stretch_joins before.writer takes) ∙ before.still takes;
+          turn.answers.one_end (TakesNothing-after _ _ _ g.met.W.TellWrite.stretch_joins before.writer takes)
+          ∙ before.still takes;
     }
 
 pub returns-clause-retried : goal.returns-clause-retried
