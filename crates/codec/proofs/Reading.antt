@@ -116,7 +116,8 @@ module _ {S : Type 0} (s : Buffered S MinBuffered) where
 
   -- where enough came, each ask gave a byte
   pub fill_gave : {A : Type 0} (a : A) (t : Buffered S MinBuffered) (fills : Fills min_read_rules s (Ok a) t)
-      → s.policy.0 ≤ length t.block.bytes → t.log.reads.asks + length s.log.reads.given ≤ s.log.reads.asks + length t.log.reads.given
+      → s.policy.0 ≤ length t.block.bytes
+      → t.log.reads.asks + length s.log.reads.given ≤ s.log.reads.asks + length t.log.reads.given
   fill_gave a t fills many =
       let f = fills.filled in
       let before = turns_gave f.count s f.last f.turns in

@@ -20,7 +20,8 @@ gains_more f old new new' answers x gained is =
     ∙ append_assoc (map f old) answers (f x ∷ [])
 
 module _ {S D W : Type 0} (remaining : S → Option (List ℕ)) (g : Grammar W) (s m : Piecing S D)
-    (old new answers : List (NextAnswer W)) (gained : new ≡ old ++ answers) (run : NextRuns remaining g s answers m) (calls : ℕ) where
+    (old new answers : List (NextAnswer W)) (gained : new ≡ old ++ answers) (run : NextRuns remaining g s answers m)
+    (calls : ℕ) where
   pub next_played : length answers ≡ calls → NextPlayed remaining g s calls old new m
   next_played all = record {
     answers = answers;

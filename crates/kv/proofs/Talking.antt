@@ -23,7 +23,8 @@ module _ {S T P : Type 0} (remaining : S → Option (List ℕ)) (tells : T → S
   -- what was talked took whole lines
   pub Talked-lines : (exchanges : List Exchange) (t : Server S T P) → Talked remaining tells stretch s exchanges t
       → LinesAlong remaining [] s.commands (joined (λ x. x.taken) exchanges) [] t.commands
-  Talked-lines [] t same = subst (λ t. LinesAlong remaining [] s.commands [] [] t.commands) same (LinesAlong-none remaining s.commands)
+  Talked-lines [] t same = subst (λ t. LinesAlong remaining [] s.commands [] [] t.commands) same
+      (LinesAlong-none remaining s.commands)
   Talked-lines (x ∷ earlier) t (m, talked, turn) =
       LinesAlong-joins remaining s.commands m.commands t.commands [] [] [] (joined (λ x. x.taken) earlier) x.taken
       (Talked-lines earlier m talked) turn.took.lines
@@ -61,7 +62,8 @@ module _ {S T P : Type 0} (remaining : S → Option (List ℕ)) (tells : T → S
       → Talked remaining tells stretch s exchanges m → WritesAlong tells stretch std_write_rules m.replies [] ready
       → (t : Server S T P) → Waits m.commands ready t.commands → (e : Error)
       → Fails remaining tells stretch (server m.commands m.values ready) e t
-      ⊎ (StoppedAlong tells stretch std_write_rules ready e t.replies × (m.values ≡ t.values)) → Stops remaining tells stretch s e t
+      ⊎ (StoppedAlong tells stretch std_write_rules ready e t.replies × (m.values ≡ t.values))
+      → Stops remaining tells stretch s e t
   stops none joins exchanges m ready talked sent t waits e why = record {
     exchanges = exchanges;
     last = m;

@@ -19,7 +19,8 @@ use Rattle.kv.specs.declared.serving.Step.TheVariants.{End, Quit, Went}
 module _ {S T P : Type 0} (remaining : S → Option (List ℕ)) (tells : T → StreamLog) (stretch : T → T → Type 0)
     (s t : Server S T P) where
   -- a turn that skips a line
-  pub long_turns : (m : Lining S) → ((max : ℕ) × NextTrimmed remaining s.commands (Err (TooLong max)) m) ⊎ ((s.commands.skipping ≡ true) × (s.commands ≡ m))
+  pub long_turns : (m : Lining S) → ((max : ℕ) × NextTrimmed remaining s.commands (Err (TooLong max)) m)
+      ⊎ ((s.commands.skipping ≡ true) × (s.commands ≡ m))
       → ((count : ℕ) → SkipsLine remaining m (Ok count) t.commands
       → (taken : List Event) × IsTaken None taken × LinesAlong remaining [] s.commands taken [] t.commands)
       → ((answer : Result ℕ Error) → SkipsLine remaining m answer t.commands → ¬ (IsLine (rest s.commands))
@@ -60,7 +61,8 @@ module _ {S T P : Type 0} (remaining : S → Option (List ℕ)) (tells : T → S
       along = answered.2;
     }
 
-    pub line_does : (answer : Result Step Error) → IfErr answer (λ e. StoppedAlong tells stretch std_write_rules s.replies e t.replies)
+    pub line_does : (answer : Result Step Error)
+        → IfErr answer (λ e. StoppedAlong tells stretch std_write_rules s.replies e t.replies)
         → IfOk answer (λ _. (reply : List ℕ) × Answers s.values (Some line) reply t.values
         × WritesAlong tells stretch std_write_rules s.replies reply t.replies)
         → IfOk answer (λ step. step ≢ End) → IfOk answer (λ step. step ≡ Quit → line ≡ quit_line)

@@ -78,4 +78,5 @@ returns-in_err-turn-clause-failed g c =
     rw (p.1, p.2) (stops _ _ _ _ g.met.W.TellWrite.stretch_none g.met.W.TellWrite.stretch_joins
     c.loop-turn.invariant.0 (server c.loop-turn.reader (value_in c.loop-turn.store.map) c.loop-turn.writer)
     c.make_ready.new.writer c.loop-turn.invariant.1 c.in_ok-make_ready.ensures.along _
-    (waits_when c.loop-turn.reader c.turn.new.reader c.make_ready.new.writer c.in_err-turn.ensures.quiet c.in_ok-make_ready.ensures.ready) _ (inl c.in_err-turn.ensures.does))
+    (waits_when c.loop-turn.reader c.turn.new.reader c.make_ready.new.writer c.in_err-turn.ensures.quiet
+    c.in_ok-make_ready.ensures.ready) _ (inl c.in_err-turn.ensures.does))

@@ -13,7 +13,8 @@ returns-clause-served g c =
       ends = ends;
       lines = Talked-lines _ _ _ _ ends.exchanges ends.last ends.talked;
       all = FlushedAlong-of _ _ _ joins _ _ _ _ _ (WritesAlong-then _ _ _ joins _ _ _ _
-          (Talked-along _ _ _ _ g.met.W.TellWrite.stretch_none joins ends.exchanges ends.last ends.talked) ends.sent) c.in_ok-flush.ensures.flushed;
+          (Talked-along _ _ _ _ g.met.W.TellWrite.stretch_none joins ends.exchanges ends.last ends.talked)
+          ends.sent) c.in_ok-flush.ensures.flushed;
     }
 
 pub returns-in_err-flush-clause-failed : goal.returns-in_err-flush-clause-failed

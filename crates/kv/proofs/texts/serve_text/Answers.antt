@@ -31,7 +31,8 @@ returns-in-Ok c =
       cut = served.lines.cut;
       converses = subst (Converses (value_in c.args.store.now.map) ends.exchanges) ends.values
           (Talked-converses _ _ _ _ ends.exchanges ends.last ends.talked);
-      replied = ap (λ (v : Vec ℕ). v.items) c.into_inner-in-Ok.ensures ∙ ap (λ s. (told_stream {S = Vec ℕ} s).items) (sym end.is_inner)
+      replied = ap (λ (v : Vec ℕ). v.items) c.into_inner-in-Ok.ensures
+          ∙ ap (λ s. (told_stream {S = Vec ℕ} s).items) (sym end.is_inner)
           ∙ FlushedAlong-held _ _ w replies end.left (made.log ∙ ap told_log (sym made.inner)) all
           ∙ ap (λ l. l ++ (w.block.bytes ++ replies)) none ∙ ap (λ l. l ++ replies) made.new.bytes;
     }

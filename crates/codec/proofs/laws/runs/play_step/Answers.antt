@@ -18,7 +18,8 @@ returns-in_err-answer-clause-stopped g c =
     (map kept_answer c.loop.answers.items) inv.answers inv.gained inv.run c.args.calls
     (omega (arith, inv.count, c.loop-test.true)) (vec_capacity c.args.answers.now) (Ok (Some last.payload))
     c.step_copied.new.reader (inl (omega arith))
-    (subst (λ d. NextPiece g.R.TellRead.remaining (grammar d) c.loop.reader (Ok (Some last.payload)) c.step_copied.new.reader) same last.next))
+    (subst (λ d. NextPiece g.R.TellRead.remaining (grammar d) c.loop.reader (Ok (Some last.payload)) c.step_copied.new.reader)
+    same last.next))
 
 pub returns-in_err-push-clause-stopped : goal.returns-in_err-push-clause-stopped
 returns-in_err-push-clause-stopped g c =
@@ -38,7 +39,8 @@ returns-in_err-push-clause-stopped g c =
       length-map c.push.new.self.items kept_answer,
       ap length c.in_err-push.ensures.items,
     )))
-    (subst (λ d. NextPiece g.R.TellRead.remaining (grammar d) c.loop.reader (kept_answer c.in_ok-answer.answer) c.step_copied.new.reader) same
+    (subst (λ d. NextPiece g.R.TellRead.remaining (grammar d) c.loop.reader
+    (kept_answer c.in_ok-answer.answer) c.step_copied.new.reader) same
     c.in_ok-answer.ensures.next))
 
 pub loop-preserved : goal.loop-preserved
@@ -56,7 +58,8 @@ loop-preserved g c =
       capacity = omega (arith, inv.capacity, c.in_ok-push.ensures.capacity);
       run = NextRuns-more g.R.TellRead.remaining gram c.args.reader.now inv.answers c.loop.reader (kept_answer answer)
           c.step_copied.new.reader inv.run
-          (subst (λ d. NextPiece g.R.TellRead.remaining (grammar d) c.loop.reader (kept_answer answer) c.step_copied.new.reader) same
+          (subst (λ d. NextPiece g.R.TellRead.remaining (grammar d) c.loop.reader (kept_answer answer) c.step_copied.new.reader)
+          same
           c.in_ok-answer.ensures.next);
     }
 

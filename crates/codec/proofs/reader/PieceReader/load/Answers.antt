@@ -17,7 +17,8 @@ returns-in_err-read_to-clause-next g c =
     let asked = subst (λ d. AsksFor remaining (grammar d) c.turns.need m (Err c.in_err-read_to.field-0.0) t) inv.head.went.decoder
     c.in_err-read_to.ensures in
     let p = err_from_is_err_and c.from_residual.result c.from_residual.ensures.1 in
-    rw (p.1, p.2) (load_fails remaining (grammar s.decoder) (g.met.D.Decoder.lawful s.decoder) s m c.turns.need inv c.in_err-read_to.field-0.0 t asked)
+    rw (p.1, p.2) (load_fails remaining (grammar s.decoder)
+    (g.met.D.Decoder.lawful s.decoder) s m c.turns.need inv c.in_err-read_to.field-0.0 t asked)
 
 pub returns-then-not-branch-clause-next : goal.returns-then-not-branch-clause-next
 returns-then-not-branch-clause-next g c =
