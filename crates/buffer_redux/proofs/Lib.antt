@@ -5,7 +5,8 @@ pub mod FillClaims
 pub mod KnownAhead
 pub mod WriteSteps
 pub mod WriterFacts
-pub mod Telling
+pub mod FillTelling
+pub mod WriteTelling
 pub mod SeekTelling
 pub mod Resting
 pub mod WriteOn

@@ -1,7 +1,7 @@
 use Rattle.std.proofs.Common.{rules, subst, sym}
 use Rattle.buffer_redux.specs.Fill.{Filled}
 use Rattle.buffer_redux.proofs.FillClaims.{fills}
-use Rattle.buffer_redux.proofs.Telling.{filled_noted, filled_went}
+use Rattle.buffer_redux.proofs.FillTelling.{filled_noted, filled_went}
 use Rattle.buffer_redux.proofs.buf_reader.BufReader.fill_noted.Goals as goal
 
 pub returns-in-Ok-clause-noted : goal.returns-in-Ok-clause-noted

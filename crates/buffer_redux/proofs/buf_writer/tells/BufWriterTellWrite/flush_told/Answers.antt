@@ -4,7 +4,7 @@ use Rattle.redux_tell.specs.StreamLog.{after_flush}
 use Rattle.redux_tell.specs.LogGrows.{WriteLogGrows, WriteLogGrows-flush}
 use Rattle.buffer_redux.specs.WriterTells.{writer_log}
 use Rattle.buffer_redux.specs.BufWriter.{Flushes}
-use Rattle.buffer_redux.proofs.Telling.{call_went, flush_fails, flush_met, flush_fault, flushes_noted}
+use Rattle.buffer_redux.proofs.WriteTelling.{call_went, flush_fails, flush_met, flush_fault, flushes_noted}
 use Rattle.buffer_redux.proofs.buf_writer.tells.BufWriterTellWrite.flush_told.Goals as goal
 
 pub returns-clause-told : goal.returns-clause-told

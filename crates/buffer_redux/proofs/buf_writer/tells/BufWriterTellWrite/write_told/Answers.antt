@@ -6,7 +6,7 @@ use Rattle.redux_tell.specs.StreamLog.{after_write}
 use Rattle.redux_tell.specs.LogGrows.{WriteLogGrows, WriteLogGrows-write}
 use Rattle.buffer_redux.specs.WriterTells.{writer_log}
 use Rattle.buffer_redux.specs.BufWriter.{Writes}
-use Rattle.buffer_redux.proofs.Telling.{call_went, write_fails, write_met, write_fault, write_nothing, writes_noted}
+use Rattle.buffer_redux.proofs.WriteTelling.{call_went, write_fails, write_met, write_fault, write_nothing, writes_noted}
 use Rattle.buffer_redux.proofs.buf_writer.tells.BufWriterTellWrite.write_told.Goals as goal
 
 pub returns-clause-told : goal.returns-clause-told

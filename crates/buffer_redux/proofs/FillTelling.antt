@@ -1,0 +1,174 @@
+-- How what was noted of a fill fits what it did.
+use Rattle.std.proofs.Common.{◌≡◌, ◌∙◌, ℕ, ◌+◌, ◌<◌, ◌≤◌, List, [], ◌∷◌, length, Option, Result, Ok, Err, true, inl, inr, refl, sym, ap, subst, append-nil, le_refl, arith}
+use Rattle.std.proofs.lemmas.Bool.{cases_lt}
+use Rattle.std.specs.declared.io.Error.{Error}
+use Rattle.redux_tell.specs.GoesOn.{GoesOn-none}
+use Rattle.redux_tell.specs.StreamLog.{StreamLog, with_end}
+use Rattle.redux_tell.specs.LogGrows.{ReadLogGrows, FillLogGrows}
+use Rattle.redux_policy.specs.Policy.{ReadRules, ReadsSteadily}
+use Rattle.buffer_redux.specs.Buffered.{Buffered, with_calls}
+use Rattle.buffer_redux.specs.Fill.{Ends, Filled}
+use Rattle.redux_tell.specs.GivesRemaining.{GivesRemaining}
+use Rattle.buffer_redux.specs.BufReader.{Fills, InnerGives}
+use Rattle.buffer_redux.specs.EmptyReads.{ReadsWhenEmpty, none_before_fault, none_where_shown, once_at_most}
+use Rattle.buffer_redux.specs.ReaderLaws.{Fills-empty, WantsBytes}
+use Rattle.buffer_redux.specs.Sparing.{Spared, Spared-noted}
+use Rattle.buffer_redux.specs.ReaderTells.{after_fill, FaultsAlike, ReaderWent}
+
+end_rises : (n : ℕ) (shown : List ℕ) → n ≤ with_end n shown
+end_rises n shown = grind arith
+
+end_same : (n : ℕ) (shown : List ℕ) → 0 < length shown → with_end n shown ≡ n
+end_same n shown some = grind arith
+
+end_noted : (n : ℕ) (shown : List ℕ) → length shown ≡ 0 → with_end n shown ≡ n + 1
+end_noted n shown none = grind arith
+
+consumed_stays : {A : Type 0} (log : StreamLog) (answer : Result A Error) (shown : List ℕ)
+    → (after_fill log answer shown).fills.consumed ≡ log.fills.consumed
+consumed_stays log (Ok a) shown = refl
+consumed_stays log (Err e) shown = refl
+
+fill_grows : {A : Type 0} (log : StreamLog) (answer : Result A Error) (shown : List ℕ)
+    → FillLogGrows log.fills (after_fill log answer shown).fills
+fill_grows log (Ok a) shown =
+    record {
+      consumed = GoesOn-none log.fills.consumed;
+      asks = omega arith;
+      consumes = le_refl _;
+      ends = end_rises log.fills.zero_fills shown;
+      faults = GoesOn-none log.fills.faults;
+    }
+fill_grows log (Err e) shown =
+    record {
+      consumed = GoesOn-none log.fills.consumed;
+      asks = omega arith;
+      consumes = le_refl _;
+      ends = le_refl _;
+      faults = record { more = e ∷ []; equal = refl };
+    }
+
+-- noting a call changes nothing of what filling did
+module _ {S P A : Type 0} (rules : ReadRules P) (t : Buffered S P) (calls : StreamLog) where
+  ends_noted : (s : Buffered S P) (answer : Result A Error) → Ends rules s answer t
+      → Ends rules s answer (with_calls t calls)
+  ends_noted s (Ok a) (inl end) = inl (record { asked = end.asked; told = end.told })
+  ends_noted s (Ok a) (inr (inl end)) = inr (inl (record { asked = end.asked; full = end.full; told = end.told }))
+  ends_noted s (Ok a) (inr (inr end)) = inr (inr (record {
+    seen = end.seen;
+    ordered = record { asked = end.ordered.asked; room = end.ordered.room };
+    read = end.read;
+  }))
+  ends_noted s (Err e) (inl end) = inl (record { asked = end.asked; told = end.told })
+  ends_noted s (Err e) (inr end) = inr (record {
+    seen = end.seen;
+    ordered = record { asked = end.ordered.asked; room = end.ordered.room };
+    read = end.read;
+  })
+
+  pub filled_noted : (s : Buffered S P) (answer : Result A Error) → Filled rules s answer t
+      → Filled rules s answer (with_calls t calls)
+  filled_noted s answer f =
+      record { count = f.count; last = f.last; turns = f.turns; ends = ends_noted f.last answer f.ends }
+
+-- a fill that was noted
+module _ {S P : Type 0} (remaining : S → Option (List ℕ)) (rules : ReadRules P) (s m t : Buffered S P)
+    (is : t ≡ m) (calls : StreamLog) where
+  log : t.log ≡ m.log
+  log = ap (λ x. x.log) is
+
+  block : t.block ≡ m.block
+  block = ap (λ x. x.block) is
+
+  faults_alike : (answer : Result (Unit {0}) Error) → Fills rules s answer m → (rules.claims s.policy).steady ≡ true
+      → FaultsAlike s.own_calls.fills.faults (after_fill s.own_calls answer t.block.bytes).fills.faults
+      s.log.reads.faults m.log.reads.faults
+  faults_alike (Ok a) f steady =
+      record {
+        more = [];
+        first = sym (append-nil s.own_calls.fills.faults);
+        second = f.caused ∙ sym (append-nil s.log.reads.faults);
+      }
+  faults_alike (Err e) f steady = record {
+    more = e ∷ [];
+    first = refl;
+    second = elim f.caused [
+      | inl fault ↦ fault
+      | inr gave ↦
+          absurd (subst (λ b. ReadsSteadily b gave.last.block (Err e))
+          (ap (λ x. x.steady) (sym gave.gave.claims ∙ f.claims) ∙ steady) gave.gave.steady)
+    ];
+  }
+
+  ends_bound : (answer : Result (Unit {0}) Error) → Fills rules s answer m → WantsBytes (rules.claims s.policy)
+      → 0 < s.block.capacity → (after_fill s.own_calls answer t.block.bytes).fills.zero_fills + s.log.reads.zero_reads
+      ≤ s.own_calls.fills.zero_fills + m.log.reads.zero_reads
+  ends_bound (Ok a) f wants room = elim (cases_lt 0 (length t.block.bytes)) [
+    | inl some ↦ omega (arith, end_same s.own_calls.fills.zero_fills t.block.bytes some, f.grows.zero_reads)
+    | inr few ↦ (
+        let none : length t.block.bytes ≡ 0 = omega (arith, few) in
+        let dry = Fills-empty rules s a m f wants room (ap (λ b. length b.bytes) (sym block) ∙ none) in
+        omega (arith, end_noted s.own_calls.fills.zero_fills t.block.bytes none, dry)
+        )
+  ]
+  ends_bound (Err e) f wants room = omega (arith, f.grows.zero_reads)
+
+  once_bound : (answer : Result (Unit {0}) Error) → Fills rules s answer m → ReadsWhenEmpty rules
+      → s.own_calls.fills.zero_fills + m.log.reads.zero_reads
+      ≤ (after_fill s.own_calls answer t.block.bytes).fills.zero_fills + s.log.reads.zero_reads
+  once_bound (Ok a) f orders = elim (cases_lt 0 (length t.block.bytes)) [
+    | inl some ↦ omega (
+      arith,
+      end_same s.own_calls.fills.zero_fills t.block.bytes some,
+      none_where_shown rules orders s m a f.filled (omega (arith, some, ap (λ b. length b.bytes) block)),
+    )
+    | inr few ↦ omega (
+      arith,
+      end_noted s.own_calls.fills.zero_fills t.block.bytes (omega (arith, few)),
+      once_at_most rules orders s m a f.filled,
+    )
+  ]
+  once_bound (Err e) f orders = omega (arith, none_before_fault rules orders s m e f.filled)
+
+  pub filled_went : (answer : Result (Unit {0}) Error) → Fills rules s answer m → InnerGives remaining s m
+      → calls ≡ after_fill s.own_calls answer t.block.bytes → ReaderWent remaining rules s (with_calls t calls)
+  filled_went answer f gives noted = record {
+    handed = [];
+    consumed =
+        ap (λ l. l.fills.consumed) noted ∙ consumed_stays s.own_calls answer t.block.bytes
+        ∙ sym (append-nil s.own_calls.fills.consumed);
+    in_order = record {
+      got = f.in_order.got;
+      given = ap (λ l. l.reads.given) log ∙ f.in_order.given;
+      equal = ap (λ b. b.bytes) block ∙ f.in_order.equal;
+    };
+    known = subst (λ l. GivesRemaining (remaining s.inner) s.log.reads (remaining t.inner) l.reads) (sym log)
+        (subst (λ i. GivesRemaining (remaining s.inner) s.log.reads (remaining i) m.log.reads)
+        (sym (ap (λ x. x.inner) is)) gives);
+    grows = subst (λ l. ReadLogGrows s.log.reads l.reads) (sym log) f.grows;
+    own_grows =
+        subst (λ l. FillLogGrows s.own_calls.fills l.fills) (sym noted) (fill_grows s.own_calls answer t.block.bytes);
+    capacity = omega (arith, ap (λ b. b.capacity) block, f.capacity);
+    kind = ap (λ b. b.kind) block ∙ f.kind;
+    claims = ap (λ x. rules.claims x.policy) is ∙ f.claims;
+    sparing = λ keep claims. Spared-noted keep s t calls (subst (Spared keep s) (sym is) (f.sparing keep claims));
+    faults = λ steady.
+        subst (λ l. FaultsAlike s.own_calls.fills.faults l.fills.faults s.log.reads.faults t.log.reads.faults)
+        (sym noted)
+        (subst (λ l. FaultsAlike s.own_calls.fills.faults (after_fill s.own_calls answer t.block.bytes).fills.faults
+        s.log.reads.faults l.reads.faults) (sym log)
+        (faults_alike answer f steady));
+    ends = λ wants room.
+        omega (
+          arith,
+          ends_bound answer f wants room,
+          ap (λ l. l.fills.zero_fills) noted,
+          ap (λ l. l.reads.zero_reads) log,
+        );
+    once = λ orders. omega (
+      arith,
+      once_bound answer f orders,
+      ap (λ l. l.fills.zero_fills) noted,
+      ap (λ l. l.reads.zero_reads) log,
+    );
+  }
