@@ -18,7 +18,7 @@ use crate::encoder::Encoder;
 use crate::reader::PieceReader;
 use crate::writer::PieceWriter;
 use buffer_redux::tell::{TellRead, TellWrite};
-pub use lists::{read_each, write_each};
+pub use lists::{read_each, round_trip, write_each};
 pub use runs::{play_step, play_write_piece};
 
 /// A text is pieces in one way, and so is a stream of pieces before what is left.

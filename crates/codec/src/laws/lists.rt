@@ -1,18 +1,21 @@
-//! Lists of payloads, written and read.
+//! Lists of payloads, written and read again.
 ghost use Rattle.std.specs.Prelude.{◌≡◌, map, Ok, IfOk, IfErr, OnOk};
 ghost use Rattle.std.specs.List.{All};
+ghost use Rattle.codec.specs.Encoding.{all_coded};
 ghost use Rattle.codec.specs.KnownPieces.{HasLeft, LeavesPieces, ReadStopped};
 ghost use Rattle.codec.specs.NextPiece.{NextPiece};
 ghost use Rattle.codec.specs.Runs.{AllRead, NextFails, kept_answer};
+ghost use Rattle.codec.specs.Texts.{HasPieces};
 ghost use Rattle.codec.specs.WriteRuns.{IsFault, WritesEach};
 
+use crate::both::{Codec, written_text};
 use crate::decoder::Decoder;
 use crate::encoder::Encoder;
 use crate::error::{NextError, WritePieceError};
 use crate::laws::runs::step_copied;
 use crate::reader::PieceReader;
 use crate::writer::PieceWriter;
-use buffer_redux::tell::{TellRead, TellWrite};
+use buffer_redux::tell::{TellRead, TellWrite, Told};
 use std::alloc::Global;
 use std::io;
 
@@ -74,4 +77,52 @@ fn next_of_known<R: TellRead, D: Decoder>(
         Err(NextError::Io(e)) => Err(e),
         Err(NextError::Wrong(_)) => unreachable!(),
     }
+}
+
+/// Payloads that are written and flushed are read again, each of them whole, in order, and no other. Where none is refused an
+/// `Err` is an `Io`.
+pub fn round_trip<C: Codec + Copy>(
+    alloc: Global,
+    codec: C,
+    payloads: &[Vec<u8>],
+) -> Result<Vec<Vec<u8>>, WritePieceError<C::Refusal>>
+    ensures same { IfOk result (λ kept. map (λ v. v.items) kept.items ≡ map (λ v. v.items) payloads.now) }
+    ensures fit { OnOk result (All (C.encoding codec).takes (map (λ v. v.items) payloads.now)) }
+    ensures fault { IfErr result (λ e. All (C.encoding codec).takes (map (λ v. v.items) payloads.now) → IsFault e) }
+{
+    let bytes = written(alloc, codec, payloads)?;
+    written_text(&codec);
+    Ok(read_back(alloc, codec, bytes.as_slice(), payloads)?)
+}
+
+// The pieces of the payloads.
+fn written<E: Encoder>(
+    alloc: Global,
+    encoder: E,
+    payloads: &[Vec<u8>],
+) -> Result<Vec<u8>, WritePieceError<E::Refusal>>
+    ensures fit { OnOk result (All (E.encoding encoder).takes (map (λ v. v.items) payloads.now)) }
+    ensures fault { IfErr result (λ e. All (E.encoding encoder).takes (map (λ v. v.items) payloads.now) → IsFault e) }
+    ensures pieces { IfOk result (λ bytes.
+        bytes.items ≡ all_coded (E.encoding encoder) (map (λ v. v.items) payloads.now)) }
+{
+    let inner = Told::new(Vec::new(alloc));
+    let mut writer = PieceWriter::new(alloc, inner, encoder).map_err(io::Error::from)?;
+    write_each(&mut writer, payloads)?;
+    let inner = writer.into_inner().map_err(io::Error::from)?;
+    Ok(inner.into_inner())
+}
+
+// The payloads of the pieces, which are known to be these.
+fn read_back<D: Decoder>(
+    alloc: Global,
+    decoder: D,
+    bytes: &[u8],
+    payloads: &[Vec<u8>],
+) -> io::Result<Vec<Vec<u8>>>
+    requires pieces { HasPieces (D.grammar decoder) bytes.now (map (λ v. v.items) payloads.now) }
+    ensures same { IfOk result (λ kept. map (λ v. v.items) kept.items ≡ map (λ v. v.items) payloads.now) }
+{
+    let mut reader = PieceReader::new(alloc, Told::new(bytes), decoder)?;
+    read_each(alloc, &mut reader, payloads)
 }
