@@ -15,5 +15,7 @@ pub mod WriteAll
 pub mod ReadAll
 pub mod Retrying
 pub mod Searching
+pub mod AheadSteps
+pub mod ByteSteps
 pub mod UntilSteps
 pub mod ReadSteps

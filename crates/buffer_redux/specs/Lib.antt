@@ -33,6 +33,8 @@ pub mod RemainingLaws
 pub mod ReadAll
 pub mod ReadInside
 pub mod FillRetried
+pub mod Peek
+pub mod ReadByte
 pub mod ReadUntil
 pub mod Unbuffer
 pub mod BufWriter

@@ -26,6 +26,7 @@ use std::io::{BufRead, ErrorKind, Read};
 use std::marker::Model;
 use std::{fmt, io};
 
+mod bytes;
 mod seek;
 mod steps;
 mod tells;

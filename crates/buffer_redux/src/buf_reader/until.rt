@@ -143,7 +143,7 @@ impl<R: TellRead, P: ReaderPolicy> BufReader<R, P> {
     }
 
     // Fills, and again where that was interrupted, `INTERRUPT_LIMIT` times at the most.
-    fn fill_retried(&mut self) -> io::Result<()>
+    pub(super) fn fill_retried(&mut self) -> io::Result<()>
         ensures retried { FillRetried R.remaining P.rules self.old result self.new }
     {
         for _ in 0..INTERRUPT_LIMIT {

@@ -1,0 +1,178 @@
+-- The turns and the ends of reads ahead.
+use Rattle.std.proofs.Common.{◌≡◌, ℕ, ◌+◌, ◌-◌, ◌<◌, ◌≤◌, List, [], length, Result, Ok, Err, Option, inl, inr, refl, sym, ap, subst, ◌∙◌, arith, length-append, length-take-le}
+use Rattle.std.specs.Prelude.{◌⊎◌}
+use Rattle.std.specs.declared.io.Error.{Error}
+use Rattle.redux_buffer.specs.Block.{IsBlock, MakesRoom, usable}
+use Rattle.redux_buffer.specs.Transfer.{ReadsOnce}
+use Rattle.redux_tell.specs.LogGrows.{ReadLogGrows, ReadLogGrows-none}
+use Rattle.redux_tell.specs.StreamLog.{portion, with_fault, with_zero, zero_of_none, zero_of_some}
+use Rattle.redux_policy.specs.Policy.{ReadRules}
+use Rattle.buffer_redux.specs.Buffered.{Buffered, with_block}
+use Rattle.buffer_redux.specs.BufReader.{ReadsAlong, ReadsInOrder, ReadsIntoBuf}
+use Rattle.buffer_redux.specs.Peek.{AheadEnded, ReadsAhead}
+use Rattle.buffer_redux.specs.ReaderLaws.{InnerGives-same, ReadsAlong-none, ReadsAlong-then}
+use Rattle.buffer_redux.proofs.FillFacts.{ReadsInOrder-read_from}
+
+-- each turn gave bytes, and no fault
+pub record AheadTurns {S P : Type 0} (remaining : S → Option (List ℕ)) (rules : ReadRules P) (n : ℕ)
+    (s m : Buffered S P) : Type 0 where
+  pub along : ReadsAlong remaining rules s [] m
+  pub zeros : m.log.reads.zero_reads ≡ s.log.reads.zero_reads
+  pub faults : m.log.reads.faults ≡ s.log.reads.faults
+  pub asks : m.log.reads.asks + length s.block.bytes ≤ s.log.reads.asks + length m.block.bytes
+  pub most : m.log.reads.asks ≤ s.log.reads.asks + (n - length s.block.bytes)
+  pub begun : (m ≡ s) ⊎ (length s.block.bytes < n)
+  pub policy : m.policy ≡ s.policy
+  pub capacity : m.block.capacity ≡ s.block.capacity
+  pub kind : m.block.kind ≡ s.block.kind
+  pub noted : m.own_calls ≡ s.own_calls
+
+-- after such turns to m room was made, which is r, and the reader asked once more
+pub record AsksOnce {S P : Type 0} (remaining : S → Option (List ℕ)) (rules : ReadRules P) (n : ℕ)
+    (s m r : Buffered S P) (answer : Result ℕ Error) (t : Buffered S P) : Type 0 where
+  pub turns : AheadTurns remaining rules n s m
+  pub few : length m.block.bytes < n
+  pub fits : n ≤ s.block.capacity
+  pub room : MakesRoom m.block r.block
+  pub in_order : ReadsInOrder m [] r
+  pub others : r ≡ with_block m r.block
+  pub reads : ReadsIntoBuf remaining r answer t
+
+module _ {S P : Type 0} (remaining : S → Option (List ℕ)) (rules : ReadRules P) (n : ℕ) where
+  pub turns_none : (s : Buffered S P) → AheadTurns remaining rules n s s
+  turns_none s = record {
+    along = ReadsAlong-none remaining rules s;
+    zeros = refl;
+    faults = refl;
+    asks = omega arith;
+    most = omega arith;
+    begun = inl refl;
+    policy = refl;
+    capacity = refl;
+    kind = refl;
+    noted = refl;
+  }
+
+  -- so many bytes are buffered
+  pub ahead_enough : {A : Type 0} (s m : Buffered S P) (a : A) → AheadTurns remaining rules n s m
+      → IsBlock m.block → n ≤ length m.block.bytes → ReadsAhead remaining rules n s (Ok a) m
+  ahead_enough s m a turns whole enough = record {
+    along = turns.along;
+    ended = inl (enough, turns.zeros);
+    caused = turns.faults;
+    asks = turns.most;
+    buffered = λ many. elim turns.begun [ inl same ↦ same | inr less ↦ absurd (omega (arith, many, less)) ];
+    policy = turns.policy;
+    capacity = turns.capacity;
+    kind = turns.kind;
+    noted = turns.noted;
+    whole = whole;
+  }
+
+  module _ (s m r : Buffered S P) (answer : Result ℕ Error) (t : Buffered S P)
+      (a : AsksOnce remaining rules n s m r answer t) where
+    space : 0 < usable r.block
+    space = omega (arith, a.few, a.fits, a.turns.capacity, a.room.usable)
+
+    once : ReadsOnce r.block r.log answer t.block t.log
+    once = a.reads.read.read space
+
+    asked_along : ReadsAlong remaining rules s [] t
+    asked_along =
+        let told : r.log ≡ m.log = ap (λ x. x.log) a.others in
+        ReadsAlong-then remaining rules s r t [] (ReadsAlong-then remaining rules s m r [] a.turns.along (record {
+          in_order = a.in_order;
+          known = InnerGives-same remaining m r (ap (λ x. x.inner) a.others) told;
+          grows = subst (λ l. ReadLogGrows m.log.reads l.reads) (sym told) (ReadLogGrows-none m.log.reads);
+          capacity = omega (arith, a.room.capacity);
+          claims = ap (λ x. rules.claims x.policy) a.others;
+        })) (record {
+          in_order = ReadsInOrder-read_from r t answer a.reads.read;
+          known = a.reads.known;
+          grows = a.reads.grows;
+          capacity = omega (arith, once.added.capacity);
+          claims = ap rules.claims a.reads.policy;
+        })
+
+    grown : length t.block.bytes ≡ length m.block.bytes + length (portion once.out answer)
+    grown = omega (
+      arith,
+      ap length once.added.bytes,
+      length-append r.block.bytes (portion once.out answer),
+      ap length a.room.bytes,
+    )
+
+    asked : t.log.reads.asks ≡ m.log.reads.asks + 1
+    asked = omega (arith, ap (λ l. l.reads.asks) once.told, ap (λ x. x.log.reads.asks) a.others)
+
+    zeros_now : t.log.reads.zero_reads ≡ with_zero s.log.reads.zero_reads once.out answer
+    zeros_now = ap (λ l. l.reads.zero_reads) once.told ∙ ap (λ z. with_zero z once.out answer)
+        (ap (λ x. x.log.reads.zero_reads) a.others ∙ a.turns.zeros)
+
+    faults_now : t.log.reads.faults ≡ with_fault s.log.reads.faults answer
+    faults_now = ap (λ l. l.reads.faults) once.told ∙ ap (λ l. with_fault l answer)
+        (ap (λ x. x.log.reads.faults) a.others ∙ a.turns.faults)
+
+    most_now : t.log.reads.asks ≤ s.log.reads.asks + (n - length s.block.bytes)
+    most_now = omega (arith, asked, a.turns.asks, a.few, a.turns.along.grows.asks)
+
+    -- which ended it
+    ahead_last : {A : Type 0} (end : Result A Error) → AheadEnded n s end t
+        → t.log.reads.faults ≡ with_fault s.log.reads.faults end → ReadsAhead remaining rules n s end t
+    ahead_last end ended caused = record {
+      along = asked_along;
+      ended = ended;
+      caused = caused;
+      asks = most_now;
+      buffered = λ many. elim a.turns.begun [
+        | inl same ↦ absurd (omega (arith, many, a.few, ap (λ x. length x.block.bytes) same))
+        | inr less ↦ absurd (omega (arith, many, less))
+      ];
+      policy = a.reads.policy ∙ ap (λ x. x.policy) a.others ∙ a.turns.policy;
+      capacity = once.added.capacity ∙ a.room.capacity ∙ a.turns.capacity;
+      kind = once.added.kind ∙ a.room.kind ∙ a.turns.kind;
+      noted = a.reads.noted ∙ ap (λ x. x.own_calls) a.others ∙ a.turns.noted;
+      whole = a.reads.whole;
+    }
+
+  pub ahead_failed : {A : Type 0} (s m r : Buffered S P) (e : Error) (t : Buffered S P)
+      → AsksOnce remaining rules n s m r (Err e) t → ReadsAhead {A = A} remaining rules n s (Err e) t
+  ahead_failed s m r e t a = ahead_last s m r (Err e) t a (Err e)
+      (omega (arith, a.few, grown s m r (Err e) t a), zeros_now s m r (Err e) t a) (faults_now s m r (Err e) t a)
+
+  pub ahead_dry : {A : Type 0} (s m r : Buffered S P) (k : ℕ) (t : Buffered S P) (answer : A)
+      → AsksOnce remaining rules n s m r (Ok k) t → k ≡ 0 → ReadsAhead remaining rules n s (Ok answer) t
+  ahead_dry s m r k t answer a none =
+      let read = once s m r (Ok k) t a in
+      ahead_last s m r (Ok k) t a (Ok answer) (inr (
+        omega (arith, a.few, grown s m r (Ok k) t a, length-take-le k read.out read.bound.0, none),
+        zeros_now s m r (Ok k) t a ∙ zero_of_none k read.out s.log.reads.zero_reads none
+            (omega (arith, read.offered, space s m r (Ok k) t a)),
+      )) (faults_now s m r (Ok k) t a)
+
+  pub turns_more : (s m r : Buffered S P) (k : ℕ) (t : Buffered S P) → AsksOnce remaining rules n s m r (Ok k) t
+      → ¬ (k ≡ 0) → AheadTurns remaining rules n s t
+  turns_more s m r k t a some =
+      let read = once s m r (Ok k) t a in record {
+        along = asked_along s m r (Ok k) t a;
+        zeros = zeros_now s m r (Ok k) t a
+            ∙ zero_of_some k read.out s.log.reads.zero_reads (inl (omega (arith, some)));
+        faults = faults_now s m r (Ok k) t a;
+        asks = omega (
+          arith,
+          grown s m r (Ok k) t a,
+          asked s m r (Ok k) t a,
+          a.turns.asks,
+          length-take-le k read.out read.bound.0,
+          some,
+        );
+        most = most_now s m r (Ok k) t a;
+        begun = elim a.turns.begun [
+          | inl same ↦ inr (omega (arith, a.few, ap (λ x. length x.block.bytes) same))
+          | inr less ↦ inr less
+        ];
+        policy = a.reads.policy ∙ ap (λ x. x.policy) a.others ∙ a.turns.policy;
+        capacity = read.added.capacity ∙ a.room.capacity ∙ a.turns.capacity;
+        kind = read.added.kind ∙ a.room.kind ∙ a.turns.kind;
+        noted = a.reads.noted ∙ ap (λ x. x.own_calls) a.others ∙ a.turns.noted;
+      }

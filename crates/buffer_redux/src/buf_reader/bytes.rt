@@ -1,0 +1,103 @@
+//! Calls for one byte, and for a look at bytes ahead.
+ghost use Rattle.std.specs.Prelude.{◌≤◌, min};
+ghost use Rattle.std.specs.Borrow.{sem};
+ghost use Rattle.std.specs.Io.BufRead.{Rests};
+ghost use Rattle.buffer_redux.specs.contracts.buf_reader.BufReader.{the_row};
+ghost use Rattle.buffer_redux.specs.Peek.{Peeks, ReadsAhead};
+ghost use Rattle.buffer_redux.specs.ReadByte.{FillsAndTakes, ReadsByte, TakesFirst};
+
+use crate::buf_reader::BufReader;
+use redux_policy::ReaderPolicy;
+use redux_tell::tell::TellRead;
+use std::io;
+use std::io::BufRead;
+
+impl<R: TellRead, P: ReaderPolicy> BufReader<R, P> {
+    /// The next byte, or `None` where a fill shows nothing: at the end of the stream, unless the policy says no over an empty
+    /// buffer, or that has no capacity. Where a byte is buffered, the policy isn't asked, and neither is the reader.
+    ///
+    /// A fill that was interrupted is made again, 64 times in a row; any other fault is returned, and hands out nothing.
+    #[inline(always)]
+    pub fn read_byte(&mut self) -> io::Result<Option<u8>>
+        ensures byte { ReadsByte R.remaining P.rules self.old result self.new }
+    {
+        match self.take_first() {
+            Some(byte) => Ok(Some(byte)),
+            None => self.read_byte_aside(),
+        }
+    }
+
+    #[inline(always)]
+    fn read_byte_aside(&mut self) -> io::Result<Option<u8>>
+        ensures takes { FillsAndTakes R.remaining P.rules self.old result self.new }
+    {
+        self.read_byte_slowly()
+    }
+
+    // The same where none is buffered.
+    #[cold]
+    #[inline(never)]
+    fn read_byte_slowly(&mut self) -> io::Result<Option<u8>>
+        ensures takes { FillsAndTakes R.remaining P.rules self.old result self.new }
+    {
+        self.fill_retried()?;
+        Ok(self.take_first())
+    }
+
+    // Hands out the first byte that is buffered.
+    #[inline(always)]
+    fn take_first(&mut self) -> Option<u8>
+        ensures takes { TakesFirst R.remaining P.rules self.old result self.new }
+    {
+        match self.buf.buf().first() {
+            Some(&byte) => {
+                self.consume(1);
+                Some(byte)
+            }
+            None => None,
+        }
+    }
+
+    /// The first `n` bytes, which stay buffered; fewer where the stream ends, or no more fit into the buffer. Where they are
+    /// buffered, nobody is asked.
+    ///
+    /// Else it reads past the policy until they are, behind bytes that it moved to the front of a plain buffer. A fault,
+    /// `Interrupted` among them, is returned at once, and what came before it stays buffered.
+    #[inline(always)]
+    pub fn peek(&mut self, n: usize) -> io::Result<&[u8]>
+        ensures* after_borrow { sem 𝓛 (Rests (the_row R.row P.row R.Tell) self.entry
+            (Peeks R.remaining P.rules (min n self.entry.now.block.capacity) self.entry.now result)) }
+    {
+        let n = n.min(self.buf.capacity());
+        self.read_ahead(n)?;
+        let shown = self.buf.buf();
+        Ok(&shown[..n.min(shown.len())])
+    }
+
+    #[inline(always)]
+    fn read_ahead(&mut self, n: usize) -> io::Result<()>
+        requires fits { n ≤ self.old.block.capacity }
+        ensures ahead { ReadsAhead R.remaining P.rules n self.old result self.new }
+    {
+        if self.buf.len() >= n {
+            return Ok(());
+        }
+        self.read_ahead_slowly(n)
+    }
+
+    // Reads past the policy until `n` bytes are buffered.
+    #[cold]
+    #[inline(never)]
+    fn read_ahead_slowly(&mut self, n: usize) -> io::Result<()>
+        requires fits { n ≤ self.old.block.capacity }
+        ensures ahead { ReadsAhead R.remaining P.rules n self.old result self.new }
+    {
+        while self.buf.len() < n {
+            self.make_room();
+            if self.read_into_buf()? == 0 {
+                break;
+            }
+        }
+        Ok(())
+    }
+}
