@@ -36,6 +36,7 @@ pub mod FillRetried
 pub mod Peek
 pub mod ReadByte
 pub mod ReadUntil
+pub mod UntilLaws
 pub mod Unbuffer
 pub mod BufWriter
 pub mod WriteAll

@@ -1,9 +1,11 @@
 //! Calls that go on up to a byte.
-ghost use Rattle.std.specs.Prelude.{◌≡◌, ◌+◌, ◌^◌, ◌≤◌, length, MatchResult, IfNone, IfSome};
+ghost use Rattle.std.specs.Prelude.{◌≡◌, ◌+◌, ◌^◌, ◌≤◌, ◌++◌, length, MatchResult, IfNone, IfOk, IfSome, OnOk};
+ghost use Rattle.std.specs.Io.BufRead.{take_through};
 ghost use Rattle.std.specs.IoError.{error_kind};
 ghost use Rattle.std.specs.declared.io.ErrorKind.TheVariants.{TimedOut};
 ghost use Rattle.buffer_redux.specs.FillRetried.{FillRetried};
 ghost use Rattle.buffer_redux.specs.ReadUntil.{AppendsFirst, FirstAt, Lacks, ReadsUntil, SkipsUntil};
+ghost use Rattle.buffer_redux.specs.Remaining.{reader_remaining};
 
 use crate::buf_reader::BufReader;
 use memchr::memchr;
@@ -23,6 +25,8 @@ impl<R: TellRead, P: ReaderPolicy> BufReader<R, P> {
     #[inline(always)]
     pub fn read_until<A: Allocator>(&mut self, byte: u8, out: &mut Vec<u8, A>) -> io::Result<usize>
         ensures until { ReadsUntil R.remaining P.rules byte self.old out.old.items result out.new.items self.new }
+        ensures bytes { OnOk result (IfSome (reader_remaining R.remaining P.rules self.old)
+            (λ xs. out.new.items ≡ out.old.items ++ take_through byte xs)) }
     {
         match first_of(byte, self.buf.buf()) {
             Some(at) => {
@@ -83,6 +87,8 @@ impl<R: TellRead, P: ReaderPolicy> BufReader<R, P> {
     #[inline(always)]
     pub fn skip_until(&mut self, byte: u8) -> io::Result<usize>
         ensures until { SkipsUntil R.remaining P.rules byte self.old result self.new }
+        ensures count { IfOk result (λ n. IfSome (reader_remaining R.remaining P.rules self.old)
+            (λ xs. n ≡ length (take_through byte xs))) }
     {
         match first_of(byte, self.buf.buf()) {
             Some(at) => {

@@ -1,7 +1,8 @@
 use Rattle.std.proofs.Common.{◌≡◌, ◌+◌, ◌∙◌, [], take, subst, sym, ap, arith, append-nil}
 use Rattle.std.proofs.lemmas.Result.{err_from_is_err_and}
 use Rattle.redux_buffer.specs.Block.{IsBlock}
-use Rattle.buffer_redux.specs.ReadUntil.{FirstAt, no_memory}
+use Rattle.buffer_redux.specs.ReadUntil.{FirstAt, ReadsUntil, no_memory}
+use Rattle.buffer_redux.specs.UntilLaws.{ReadsUntil-known}
 use Rattle.buffer_redux.proofs.UntilSteps.{passes_none, through_length, until_reached, until_refused}
 use Rattle.buffer_redux.proofs.buf_reader.BufReader.read_until.Goals as goal
 
@@ -19,6 +20,7 @@ returns-in_err-append_first-in-Some g c =
     (omega (arith, first.inside)) a.2 a.1 a.3 in
     rw (p.1, p.2) (record {
       until = record { handed = []; appended = a.0 ∙ sym (append-nil _); front = ends.0; ends = ends.1 };
+      bytes = tt;
     })
 
 pub returns-in_ok-append_first-in-Some : goal.returns-in_ok-append_first-in-Some
@@ -29,12 +31,20 @@ returns-in_ok-append_first-in-Some g c =
     let a = c.in_ok-append_first-in-Some.ensures.appends in
     let shown : c.buf.result.now ≡ s.block.bytes = c.buf.ensures ∙ ap (λ x. x.block.bytes) c.self.view_is in
     let first = subst (FirstAt c.args.byte c.in-Some.at) shown c.in-Some.ensures.found in
-    let whole = subst (λ x. IsBlock x.block) c.self.view_is c.self.invariant in record {
-      until = record {
-        handed = take (c.in-Some.at + 1) s.block.bytes;
-        appended = a.0;
-        front = a.1;
-        ends = until_reached remaining rules c.args.byte s s [] (passes_none remaining rules c.args.byte s whole) no_memory
-            (c.in-Some.at + 1) c.in-Some.at c.append_first.new.self (omega (arith, through_length c.args.byte c.in-Some.at [] s.block.bytes first)) first a.2;
-      };
+    let whole = subst (λ x. IsBlock x.block) c.self.view_is c.self.invariant in
+    let until : ReadsUntil remaining rules c.args.byte s _ _ _ _ = record {
+      handed = take (c.in-Some.at + 1) s.block.bytes;
+      appended = a.0;
+      front = a.1;
+      ends = until_reached remaining rules c.args.byte s s [] (passes_none remaining rules c.args.byte s whole) no_memory
+          (c.in-Some.at + 1) c.in-Some.at c.append_first.new.self
+          (omega (arith, through_length c.args.byte c.in-Some.at [] s.block.bytes first)) first a.2;
+    } in
+    record { until = until; bytes = ReadsUntil-known remaining rules c.args.byte s _ _ _ _ until }
+
+pub returns-in-None : goal.returns-in-None
+returns-in-None g c =
+    let until = c.read_until_aside.ensures.until in record {
+      until = until;
+      bytes = ReadsUntil-known g.R.TellRead.remaining g.P.ReaderPolicy.rules c.args.byte c.args.self.now _ _ _ _ until;
     }

@@ -1,6 +1,7 @@
 use Rattle.std.proofs.Common.{◌≡◌, ◌+◌, ◌∙◌, [], take, subst, ap, arith}
 use Rattle.redux_buffer.specs.Block.{IsBlock}
-use Rattle.buffer_redux.specs.ReadUntil.{FirstAt, no_count}
+use Rattle.buffer_redux.specs.ReadUntil.{FirstAt, SkipsUntil, no_count}
+use Rattle.buffer_redux.specs.UntilLaws.{SkipsUntil-known}
 use Rattle.buffer_redux.proofs.UntilSteps.{passes_none, through_length, until_reached}
 use Rattle.buffer_redux.proofs.buf_reader.BufReader.skip_until.Goals as goal
 
@@ -12,11 +13,19 @@ returns-in-Some g c =
     let gone = c.consume.ensures in
     let shown : c.buf.result.now ≡ s.block.bytes = c.buf.ensures ∙ ap (λ x. x.block.bytes) c.self.view_is in
     let first = subst (FirstAt c.args.byte c.in-Some.at) shown c.in-Some.ensures.found in
-    let whole = subst (λ x. IsBlock x.block) c.self.view_is c.self.invariant in record {
-      until = record {
-        handed = take (c.in-Some.at + 1) s.block.bytes;
-        front = record { in_order = gone.in_order; keeps = gone.keeps };
-        ends = until_reached remaining rules c.args.byte s s [] (passes_none remaining rules c.args.byte s whole) no_count
-            (c.in-Some.at + 1) c.in-Some.at c.consume.new.self (omega (arith, through_length c.args.byte c.in-Some.at [] s.block.bytes first)) first gone.consumed.told;
-      };
+    let whole = subst (λ x. IsBlock x.block) c.self.view_is c.self.invariant in
+    let until : SkipsUntil remaining rules c.args.byte s _ _ = record {
+      handed = take (c.in-Some.at + 1) s.block.bytes;
+      front = record { in_order = gone.in_order; keeps = gone.keeps };
+      ends = until_reached remaining rules c.args.byte s s [] (passes_none remaining rules c.args.byte s whole) no_count
+          (c.in-Some.at + 1) c.in-Some.at c.consume.new.self
+          (omega (arith, through_length c.args.byte c.in-Some.at [] s.block.bytes first)) first gone.consumed.told;
+    } in
+    record { until = until; count = SkipsUntil-known remaining rules c.args.byte s _ _ until }
+
+pub returns-in-None : goal.returns-in-None
+returns-in-None g c =
+    let until = c.skip_until_aside.ensures.until in record {
+      until = until;
+      count = SkipsUntil-known g.R.TellRead.remaining g.P.ReaderPolicy.rules c.args.byte c.args.self.now _ _ until;
     }
