@@ -10,6 +10,7 @@ pub mod WriteTelling
 pub mod SeekTelling
 pub mod Resting
 pub mod WriteOn
+pub mod WriteTurns
 pub mod WriteAllCauses
 pub mod WriteAll
 pub mod ReadAll

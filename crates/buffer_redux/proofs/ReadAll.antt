@@ -165,7 +165,7 @@ module _ {S P : Type 0} (remaining : S → Option (List ℕ)) (rules : ReadRules
         (same : take at out ≡ handed) where
       ended : (answer : Result (Unit {0}) Error)
           → MatchResult answer (λ _. (at ≡ length out) × (m ≡ m))
-          (λ e. LastReadFailed remaining rules (length out - at) e m m ⊎ (GaveUp turns (length out - at) e × (m ≡ m)))
+          (λ e. LastReadFailed remaining rules (length out - at) e m m ⊎ (GaveUp turns at (length out) e × (m ≡ m)))
           → ReadsExactly remaining rules s answer out m
       ended answer is = record {
         turns = turns;
@@ -181,7 +181,7 @@ module _ {S P : Type 0} (remaining : S → Option (List ℕ)) (rules : ReadRules
       pub ended_all : length out ≤ at → ReadsExactly remaining rules s (Ok tt) out m
       ended_all enough = ended (Ok tt) (omega (arith, enough, within), refl)
 
-      pub ended_late : (e : Error) → GaveUp turns (length out - at) e → ReadsExactly remaining rules s (Err e) out m
+      pub ended_late : (e : Error) → GaveUp turns at (length out) e → ReadsExactly remaining rules s (Err e) out m
       ended_late e late = ended (Err e) (inr (late, refl))
 
   -- no byte, and the first read into a slice that has some

@@ -19,15 +19,11 @@ use Rattle.buffer_redux.specs.BufWriter.{writer_contents, WritesInOrder, Flushes
 use Rattle.buffer_redux.specs.WriterLaws.{WritesInOrder-none, WritesInOrder-joins, WritesInOrder-contents, flush_ways, ways_in}
 use Rattle.buffer_redux.specs.WriteAll.{LastWriteFailed, WriteTurns, TookFront, TookBeginning, WriteAllErrorCaused, WritesAll, WritesAllSteadily, OneWrite}
 use Rattle.buffer_redux.proofs.WriteAllCauses.{all_caused, all_steadily}
+use Rattle.buffer_redux.proofs.WriteTurns.{claims_stay}
 use Rattle.buffer_redux.proofs.WriterFacts.{writes_keep, writes_caused, writes_steadily, writes_nothing}
 
--- what stays in a write: the policy's claims, and the kind of the buffer
+-- the kind of the buffer stays in a write
 module _ {S P : Type 0} where
-  takes_in_policy : (m t : Buffered S P) (bs : List ℕ) (answer : Result ℕ Error)
-      → TakesIn bs m answer t → t.policy ≡ m.policy
-  takes_in_policy m t bs answer f =
-      elim (ways_in m.block (length bs)) [ inl past ↦ (f.past past).policy | inr inside ↦ (f.inside inside).policy ]
-
   takes_in_kind : (m t : Buffered S P) (bs : List ℕ) (answer : Result ℕ Error)
       → TakesIn bs m answer t → t.block.kind ≡ m.block.kind
   takes_in_kind m t bs answer f = elim (ways_in m.block (length bs)) [
@@ -57,17 +53,6 @@ module _ {S P : Type 0} where
   finished_kind rules m t f = flush_kind (f.amount.0) _ t f.flushed f.flush
 
   module _ (rules : WriteRules P) (s : Buffered S P) (bs : List ℕ) where
-    claims_stay : (answer : Result ℕ Error) (t : Buffered S P) → Writes rules s bs answer t
-        → rules.claims t.policy ≡ rules.claims s.policy
-    claims_stay (Ok n) t w =
-        w.finished.asked.claims ∙ ap rules.claims (takes_in_policy w.before w.after bs (Ok n) w.took_in)
-        ∙ ap rules.claims w.prepared.flush.policy ∙ w.prepared.asked.claims
-    claims_stay (Err e) t (inl refused) = refused.asked.claims
-    claims_stay (Err e) t (inr (inl p)) = ap rules.claims p.flush.policy ∙ p.asked.claims
-    claims_stay (Err e) t (inr (inr f)) =
-        ap rules.claims (takes_in_policy f.before t bs (Err e) f.took_in)
-        ∙ ap rules.claims f.prepared.flush.policy ∙ f.prepared.asked.claims
-
     kind_stays : (answer : Result ℕ Error) (t : Buffered S P) → Writes rules s bs answer t
         → t.block.kind ≡ s.block.kind
     kind_stays (Ok n) t w =
@@ -248,7 +233,7 @@ module _ {S P : Type 0} (tells : S → StreamLog) (stretch : S → S → Type 0)
 
     ended : (answer : Result (Unit {0}) Error)
         → MatchResult answer (λ _. (at ≡ length bs) × (m ≡ m))
-        (λ e. LastWriteFailed rules (drop at bs) e m m ⊎ (GaveUp turns (length bs - at) e × (m ≡ m)))
+        (λ e. LastWriteFailed rules (drop at bs) e m m ⊎ (GaveUp turns at (length bs) e × (m ≡ m)))
         → WritesAll tells stretch rules s bs answer m
     ended answer is = record {
       turns = turns;
@@ -264,7 +249,7 @@ module _ {S P : Type 0} (tells : S → StreamLog) (stretch : S → S → Type 0)
     pub ended_all : length bs ≤ at → WritesAll tells stretch rules s bs (Ok tt) m
     ended_all long = ended (Ok tt) (omega (arith, long, before.within), refl)
 
-    pub ended_late : (e : Error) → GaveUp turns (length bs - at) e → WritesAll tells stretch rules s bs (Err e) m
+    pub ended_late : (e : Error) → GaveUp turns at (length bs) e → WritesAll tells stretch rules s bs (Err e) m
     ended_late e late = ended (Err e) (inr (late, refl))
 
   -- the first write of some bytes

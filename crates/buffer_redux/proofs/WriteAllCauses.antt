@@ -1,5 +1,5 @@
 -- Why a write of all bytes fails.
-use Rattle.std.proofs.Common.{◌≡◌, ℕ, ◌-◌, List, length, drop, Result, Ok, Err, ap, subst, ◌∙◌, arith, inl, inr, true}
+use Rattle.std.proofs.Common.{◌≡◌, ℕ, List, length, drop, Result, Ok, Err, sym, ap, subst, ◌∙◌, arith, inl, inr, true}
 use Rattle.std.specs.Prelude.{◌⊎◌}
 use Rattle.std.specs.IoError.{error_kind}
 use Rattle.std.specs.declared.io.Error.{Error}
@@ -9,9 +9,10 @@ use Rattle.redux_tell.specs.StreamLog.{StreamLog}
 use Rattle.redux_policy.specs.Policy.{WriteRules}
 use Rattle.buffer_redux.specs.AllBytes.{EndsBy, GaveUp}
 use Rattle.buffer_redux.specs.Buffered.{Buffered}
-use Rattle.buffer_redux.specs.BufWriter.{EmptyWriteCaused, NoSpace, SteadyWrite, TookNothingPast, WriteErrorCaused, WriteRefused, WriterStopped}
-use Rattle.buffer_redux.specs.WriteAll.{LastWriteFailed, LeftNoSpace, WriteAllErrorCaused, WritesAll, WritesAllSteadily}
+use Rattle.buffer_redux.specs.BufWriter.{EmptyWriteCaused, NoSpace, SteadyWrite, TookNothingPast, WasInterrupted, WriteErrorCaused, WriteRefused, WriterStopped}
+use Rattle.buffer_redux.specs.WriteAll.{LastWriteFailed, LeftNoSpace, WriteAllErrorCaused, WriteTurns, WritesAll, WritesAllSteadily}
 use Rattle.buffer_redux.specs.WritesAlongLaws.{WriteErrorCaused-failed, WriterStopped-after, WriterStopped-send}
+use Rattle.buffer_redux.proofs.WriteTurns.{turned}
 
 module _ {S P : Type 0} (rules : WriteRules P) (rest : List ℕ) (e : Error) (m t : Buffered S P)
     (failed : LastWriteFailed rules rest e m t) where
@@ -63,20 +64,34 @@ module _ {S P : Type 0} (tells : S → StreamLog) (stretch : S → S → Type 0)
           → WriteAllErrorCaused tells stretch rules s bs (Err e) t
       later (inl stopped) =
           inl (WriterStopped-after s.log.writes all.last.log.writes t.log.writes e all.first.keeps.grows stopped)
-      later (inr policy) = inr (record { count = all.count; last = all.last; first = all.first; why = policy })
+      later (inr policy) = inr (inl (record { count = all.count; last = all.last; first = all.first; why = policy }))
 
       of : LastWriteFailed rules (drop all.count bs) e all.last t
-          ⊎ (GaveUp all.turns (length bs - all.count) e × (t ≡ all.last))
+          ⊎ (GaveUp all.turns all.count (length bs) e × (t ≡ all.last))
           → WriteAllErrorCaused tells stretch rules s bs (Err e) t
       of (inl failed) = later (last_caused rules _ e all.last t failed)
-      of (inr gave) = inl (inr (inr gave.0.timed_out))
+      of (inr gave) = inr (inr (record {
+        turns = all.turns;
+        count = all.count;
+        run = subst (λ u. WriteTurns rules bs all.turns all.count s u) (sym gave.1) all.run;
+        gave_up = gave.0;
+      }))
 
   pub all_steadily : (e : Error) (t : Buffered S P) → WritesAll tells stretch rules s bs (Err e) t
       → WritesAllSteadily rules s (Err e) t
   all_steadily e t all steady = of all.ended
     where
+      interrupted : GaveUp all.turns all.count (length bs) e → WasInterrupted s.log.writes all.last.log.writes
+      interrupted gave = elim (turned rules bs s steady all.turns all.count all.last all.run).took [
+        | inl few ↦ absurd (omega (arith, few, gave.all, gave.some, gave.fits))
+        | inr was ↦ was
+      ]
+
       of : LastWriteFailed rules (drop all.count bs) e all.last t
-          ⊎ (GaveUp all.turns (length bs - all.count) e × (t ≡ all.last)) → WriterStopped s.log.writes t.log.writes e
+          ⊎ (GaveUp all.turns all.count (length bs) e × (t ≡ all.last)) → WriterStopped s.log.writes t.log.writes e
       of (inl failed) = WriterStopped-after s.log.writes all.last.log.writes t.log.writes e all.first.keeps.grows
           (last_steady rules _ e all.last t failed (ap (λ c. c.steady) all.first.keeps.claims ∙ steady))
-      of (inr gave) = inr (inr gave.0.timed_out)
+      of (inr gave) = inr (inr (record {
+        timed_out = gave.0.timed_out;
+        interrupted = subst (λ u. WasInterrupted s.log.writes u.log.writes) (sym gave.1) (interrupted gave.0);
+      }))

@@ -17,8 +17,10 @@ abbrev pub EndsBy : ErrorKind → Result ℕ Error → Error → Type 0
 EndsBy nothing (Ok k) e = (k ≡ 0) × (error_kind e ≡ nothing)
 EndsBy nothing (Err x) e = (x ≡ e) × (error_kind e ≢ Interrupted)
 
--- as many turns were gone on from as std makes, and no more are made, though so many bytes are left, which are some
-pub record GaveUp (turns rest : ℕ) (e : Error) : Type 0 where
-  pub some : 0 < rest
+-- as many turns were gone on from as std makes, and no more are made, though of a slice of so many bytes just the first
+-- `count` are done
+pub record GaveUp (turns count size : ℕ) (e : Error) : Type 0 where
+  pub some : count < size
+  pub fits : size < 2 ^ 64
   pub all : turns ≡ 2 ^ 64 - 1
   pub timed_out : error_kind e ≡ TimedOut

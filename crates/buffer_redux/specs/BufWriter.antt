@@ -7,7 +7,7 @@ use Rattle.std.specs.declared.io.traits.SeekFrom.{SeekFrom}
 use Rattle.redux_buffer.specs.Block.{Block, IsBlock, Extends, MakesRoomInFront, usable}
 use Rattle.redux_tell.specs.LogGrows.{WriteLogGrows}
 use Rattle.redux_tell.specs.StreamLog.{StreamLog, WriteLog, SeekCall, Readies, SeekTells, portion, after_write, after_flush}
-use Rattle.redux_tell.specs.Faults.{MetInterrupts, SendErrorCaused}
+use Rattle.redux_tell.specs.Faults.{IsInterrupt, MetInterrupts, SendErrorCaused}
 use Rattle.redux_buffer.specs.Transfer.{DoesNothing, Sends}
 use Rattle.redux_policy.specs.declared.FlushAmt.{FlushAmt}
 use Rattle.redux_policy.specs.Policy.{WriteRules, BeforeWrite, AfterWrite}
@@ -249,10 +249,23 @@ pub record ZeroWritten (old new : WriteLog) (e : Error) : Type 0 where
   pub is_write_zero : error_kind e ≡ WriteZero
   pub zero_writes : old.zero_writes < new.zero_writes
 
--- the inner writer ended them with this error: by a fault, by a write that took nothing, or by 2^64 - 1 writes that took
--- too little
+-- a write was interrupted since
+pub record WasInterrupted (old new : WriteLog) : Type 0 where
+  pub before : List Error
+  pub interrupt : Error
+  pub is : IsInterrupt interrupt
+  pub after : List Error
+  pub faults : new.faults ≡ ((old.faults ++ before) ++ interrupt ∷ []) ++ after
+
+-- 2^64 - 1 writes didn't take all bytes of a slice, of which there are no more, since some were interrupted
+pub record InterruptedTooOften (old new : WriteLog) (e : Error) : Type 0 where
+  pub timed_out : error_kind e ≡ TimedOut
+  pub interrupted : WasInterrupted old new
+
+-- the inner writer ended them with this error: by a fault, by a write that took nothing, or by writes that were interrupted
+-- again and again
 abbrev pub WriterStopped : WriteLog → WriteLog → Error → Type 0
-WriterStopped old new e = LastFault old new e ⊎ (ZeroWritten old new e ⊎ (error_kind e ≡ TimedOut))
+WriterStopped old new e = LastFault old new e ⊎ (ZeroWritten old new e ⊎ InterruptedTooOften old new e)
 
 -- they ended with this error of the inner writer, and no byte that was accepted is lost
 pub record StoppedAlong {S P : Type 0} (tells : S → StreamLog) (stretch : S → S → Type 0) (rules : WriteRules P)

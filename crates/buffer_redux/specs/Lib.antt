@@ -9,6 +9,7 @@ pub use Rattle.redux_tell.specs.GivesRemaining
 pub use Rattle.redux_tell.specs.GoesOn
 pub use Rattle.redux_buffer.specs.GrowError
 pub use Rattle.redux_tell.specs.LogGrows
+pub use Rattle.redux_tell.specs.Memory
 pub use Rattle.redux_policy.specs.MinBuffered
 pub use Rattle.redux_policy.specs.Policy
 pub use Rattle.redux_buffer.specs.Potential

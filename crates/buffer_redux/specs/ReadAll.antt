@@ -76,7 +76,7 @@ pub record ReadsExactly {S P : Type 0} (remaining : S → Option (List ℕ)) (ru
   pub front : HandedFront remaining rules s (take count out) t
   pub ended : MatchResult answer (λ _. (count ≡ length out) × (t ≡ last))
       (λ e. LastReadFailed remaining rules (length out - count) e last t
-      ⊎ (GaveUp turns (length out - count) e × (t ≡ last)))
+      ⊎ (GaveUp turns count (length out) e × (t ≡ last)))
 
 -- some first bytes of the slice were handed out
 pub record HandedBeginning {S P : Type 0} (out : List ℕ) (s t : Buffered S P) : Type 0 where

@@ -1,5 +1,5 @@
 -- What a write of all bytes promises: a write after another, of what is left, where one was short or interrupted.
-use Rattle.std.specs.Prelude.{◌≡◌, ℕ, ◌+◌, ◌-◌, ◌<◌, ◌≤◌, ◌⊎◌, List, length, take, drop, Result, Ok, MatchResult, IfErr, true, zero, suc}
+use Rattle.std.specs.Prelude.{◌≡◌, ℕ, ◌+◌, ◌<◌, ◌≤◌, ◌⊎◌, List, length, take, drop, Result, Ok, MatchResult, IfErr, true, zero, suc}
 use Rattle.std.specs.IoError.{error_kind}
 use Rattle.std.specs.declared.io.Error.{Error}
 use Rattle.std.specs.declared.io.ErrorKind.TheVariants.{WriteZero}
@@ -62,7 +62,7 @@ pub record WritesAll {S P : Type 0} (tells : S → StreamLog) (stretch : S → S
   pub first : TookFront tells stretch rules s (take count bs) last
   pub front : TookFront tells stretch rules s (take count bs) t
   pub ended : MatchResult answer (λ _. (count ≡ length bs) × (t ≡ last))
-      (λ e. LastWriteFailed rules (drop count bs) e last t ⊎ (GaveUp turns (length bs - count) e × (t ≡ last)))
+      (λ e. LastWriteFailed rules (drop count bs) e last t ⊎ (GaveUp turns count (length bs) e × (t ≡ last)))
 
 -- there was no space, and the policy's answer made none, so that a write of these bytes took nothing
 pub record LeftNoSpace {S P : Type 0} (rules : WriteRules P) (m : Buffered S P) (rest : List ℕ) (e : Error)
@@ -79,11 +79,20 @@ pub record PolicyStopped {S P : Type 0} (tells : S → StreamLog) (stretch : S �
   pub first : TookFront tells stretch rules s (take count bs) last
   pub why : WriteRefused rules last (drop count bs) e t ⊎ LeftNoSpace rules last (drop count bs) e t
 
--- an error is the inner writer's or the policy's
+-- as many writes as std makes were gone on from, and some bytes are left
+pub record RanOutOfTurns {S P : Type 0} (rules : WriteRules P) (s : Buffered S P) (bs : List ℕ) (e : Error)
+    (t : Buffered S P) : Type 0 where
+  pub turns : ℕ
+  pub count : ℕ
+  pub run : WriteTurns rules bs turns count s t
+  pub gave_up : GaveUp turns count (length bs) e
+
+-- an error is the inner writer's or the policy's, or there were too many turns
 abbrev pub WriteAllErrorCaused : {S P : Type 0} → (S → StreamLog) → (S → S → Type 0) → WriteRules P → Buffered S P
     → List ℕ → Result (Unit {0}) Error → Buffered S P → Type 0
 WriteAllErrorCaused tells stretch rules s bs answer t = IfErr answer
-    (λ e. WriterStopped s.log.writes t.log.writes e ⊎ PolicyStopped tells stretch rules s bs e t)
+    (λ e. WriterStopped s.log.writes t.log.writes e
+    ⊎ (PolicyStopped tells stretch rules s bs e t ⊎ RanOutOfTurns rules s bs e t))
 
 -- and under a steady policy the inner writer's
 abbrev pub WritesAllSteadily : {S P : Type 0} → WriteRules P → Buffered S P → Result (Unit {0}) Error → Buffered S P

@@ -6,14 +6,16 @@ use Rattle.std.proofs.lemmas.List.{append_cancel_left}
 use Rattle.std.specs.Io.KnownBytes.{Appends}
 use Rattle.std.specs.IoError.{error_kind}
 use Rattle.std.specs.declared.io.Error.{Error}
-use Rattle.redux_tell.specs.Faults.{FaultedAfter, SendErrorCaused, TookNothing}
+use Rattle.redux_tell.specs.Faults.{FaultedAfter, IsInterrupt, IsMemory, SendErrorCaused, TookNothing}
 use Rattle.redux_tell.specs.LogGrows.{WriteLogGrows, WriteLogGrows-none, WriteLogGrows-joins, WritesGoOn}
+use Rattle.redux_tell.specs.Memory.{fault-memory, writer-takes_some, writer_log}
 use Rattle.redux_tell.specs.StreamLog.{StreamLog, WriteLog, portion}
 use Rattle.redux_tell.specs.Told.{ToldWrites, told_log, told_stream}
+use Rattle.redux_tell.specs.declared.tell.memory.MemoryWriter.{MemoryWriter}
 use Rattle.redux_tell.specs.declared.tell.told.Told.{Told}
 use Rattle.redux_policy.specs.Policy.{WriteRules}
 use Rattle.buffer_redux.specs.Buffered.{Buffered, InnerWent}
-use Rattle.buffer_redux.specs.BufWriter.{WritesInOrder, WriterKeeps, WriterFailed, WasSent, WasFlushed, WriteErrorCaused, WriteRefused, WritesSteadily, WritesAlong, FlushedAlong, WriterStopped, StoppedAlong, AllAlong, AllFlushed}
+use Rattle.buffer_redux.specs.BufWriter.{WritesInOrder, WriterKeeps, WriterFailed, WasSent, WasFlushed, WriteErrorCaused, WriteRefused, WritesSteadily, WritesAlong, FlushedAlong, WasInterrupted, WriterStopped, StoppedAlong, AllAlong, AllFlushed}
 use Rattle.buffer_redux.specs.WriteAll.{WritesAll, WritesAllSteadily}
 use Rattle.buffer_redux.specs.WriterLaws.{WritesInOrder-none, WritesInOrder-joins, WritesInOrder-contents}
 
@@ -21,6 +23,41 @@ use Rattle.buffer_redux.specs.WriterLaws.{WritesInOrder-none, WritesInOrder-join
 goes_on : (s t : StreamLog) → WritesGoOn s t → WriteLogGrows s.writes t.writes
 unfolding WritesGoOn
 goes_on s t grows = grows
+
+-- what was interrupted in a part of a stretch was so in the whole
+pub WasInterrupted-after : (a b c : WriteLog) → WriteLogGrows a b → WasInterrupted b c → WasInterrupted a c
+WasInterrupted-after a b c grows was = record {
+  before = grows.faults.more ++ was.before;
+  interrupt = was.interrupt;
+  is = was.is;
+  after = was.after;
+  faults = was.faults ∙ ap (λ l. ((l ++ was.before) ++ was.interrupt ∷ []) ++ was.after) grows.faults.equal
+      ∙ ap (λ l. (l ++ was.interrupt ∷ []) ++ was.after) (append_assoc a.faults grows.faults.more was.before);
+}
+
+pub WasInterrupted-before : (a b c : WriteLog) → WasInterrupted a b → WriteLogGrows b c → WasInterrupted a c
+WasInterrupted-before a b c was grows = record {
+  before = was.before;
+  interrupt = was.interrupt;
+  is = was.is;
+  after = was.after ++ grows.faults.more;
+  faults = grows.faults.equal ∙ ap (λ l. l ++ grows.faults.more) was.faults
+      ∙ append_assoc ((a.faults ++ was.before) ++ was.interrupt ∷ []) was.after grows.faults.more;
+}
+
+-- a send that answers `Interrupted` was interrupted
+pub WasInterrupted-send : (old new : WriteLog) (e : Error) → IsInterrupt e → SendErrorCaused old new e
+    → WasInterrupted old new
+WasInterrupted-send old new e is s = elim s.cause [
+  | inl nothing ↦ (let odd = nothing.is_write_zero in cc)
+  | inr fault ↦ record {
+    before = s.interrupts;
+    interrupt = e;
+    is = is;
+    after = [];
+    faults = fault.faults ∙ sym (append-nil ((old.faults ++ s.interrupts) ++ e ∷ []));
+  }
+]
 
 -- what ended a later stretch ended the whole
 pub WriterStopped-after : (a b c : WriteLog) (e : Error) → WriteLogGrows a b → WriterStopped b c e → WriterStopped a c e
@@ -31,7 +68,8 @@ WriterStopped-after a b c e grows (inl fault) = inl (record {
 })
 WriterStopped-after a b c e grows (inr (inl zero)) = inr (inl (record
     { is_write_zero = zero.is_write_zero; zero_writes = omega (arith, zero.zero_writes, grows.zero_writes) }))
-WriterStopped-after a b c e grows (inr (inr late)) = inr (inr late)
+WriterStopped-after a b c e grows (inr (inr late)) = inr (inr (record
+    { timed_out = late.timed_out; interrupted = WasInterrupted-after a b c grows late.interrupted }))
 
 -- what a send met ended it
 pub WriterStopped-send : (old new : WriteLog) (e : Error) → SendErrorCaused old new e → WriterStopped old new e
@@ -41,6 +79,18 @@ WriterStopped-send old new e s = of s.cause
     of (inl nothing) = inr (inl (record
         { is_write_zero = nothing.is_write_zero; zero_writes = omega (arith, nothing.zero_writes) }))
     of (inr fault) = inl (record { before = s.interrupts; faults = fault.faults })
+
+-- a writer in memory stopped for want of memory
+pub WriterStopped-memory : (w : MemoryWriter) (old : WriteLog) (e : Error) → WriterStopped old (writer_log w).writes e
+    → IsMemory e
+WriterStopped-memory w old e (inl fault) = fault-memory w (old.faults ++ fault.before) e []
+    (fault.faults ∙ sym (append-nil ((old.faults ++ fault.before) ++ e ∷ [])))
+WriterStopped-memory w old e (inr (inl zero)) = absurd (omega (arith, zero.zero_writes, writer-takes_some w))
+WriterStopped-memory w old e (inr (inr late)) =
+    let was = late.interrupted in
+    let memory = fault-memory w (old.faults ++ was.before) was.interrupt was.after was.faults in
+    let interrupt = was.is in
+    absurd (cc)
 
 -- the same list is no longer, and the same count no larger
 nothing_failed : (old new : WriteLog) → new ≡ old → WriterFailed old new → ⊥

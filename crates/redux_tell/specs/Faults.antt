@@ -7,13 +7,17 @@ use Rattle.std.specs.IoError.{error_kind}
 use Rattle.std.specs.List.{All}
 use Rattle.std.specs.declared.io.Error.{Error}
 use Rattle.std.specs.declared.io.ErrorKind.{ErrorKind}
-use Rattle.std.specs.declared.io.ErrorKind.TheVariants.{Interrupted, WriteZero}
+use Rattle.std.specs.declared.io.ErrorKind.TheVariants.{Interrupted, OutOfMemory, WriteZero}
 use Rattle.redux_tell.specs.LogGrows.{WriteLogGrows}
 use Rattle.redux_tell.specs.StreamLog.{WriteLog}
 
 -- `e.kind()` is `Interrupted`
 abbrev pub IsInterrupt : Error → Type 0
 IsInterrupt e = error_kind e ≡ Interrupted
+
+-- and `OutOfMemory`
+abbrev pub IsMemory : Error → Type 0
+IsMemory e = error_kind e ≡ OutOfMemory
 
 -- no fault came but these, which are `Interrupted`
 pub record OnlyInterrupts (old new : List Error) : Type 0 where

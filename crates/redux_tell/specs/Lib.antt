@@ -5,6 +5,7 @@ pub mod Calls
 pub mod GivesRemaining
 pub mod Told
 pub mod Faults
+pub mod Memory
 pub mod Script
 pub mod FaultAt
 pub mod Copy

@@ -5,9 +5,11 @@
 //! std goes in as a [`Told`].
 
 mod log;
+mod memory;
 mod streams;
 mod told;
 
 pub use log::{Call, CallLog};
+pub use memory::{MemoryReader, MemoryWriter};
 pub use streams::{Tell, TellBufRead, TellRead, TellSeek, TellWrite};
 pub use told::Told;

@@ -91,6 +91,7 @@ returns g c = record {
       c.loop.invariant.within refl _
       (record {
         some = omega (arith, c.if-at-out-2.false);
+        fits = search rules;
         all = omega (arith, c.loop-test.false, c.loop.auto.counter-end);
         timed_out = c.from.ensures;
       });

@@ -70,6 +70,7 @@ returns g c = record {
       (c.loop.invariant.turned s first) _
       (record {
         some = omega (arith, c.if-at-bytes-2.false);
+        fits = search rules;
         all = omega (arith, c.loop-test.false, c.loop.auto.counter-end);
         timed_out = c.from.ensures;
       });
