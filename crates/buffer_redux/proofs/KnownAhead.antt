@@ -41,7 +41,8 @@ module _ {S P : Type 0} (remaining : S → Option (List ℕ)) (rules : ReadRules
   pub remaining_ends : (WantsBytes (rules.claims s.policy) → 0 < s.block.capacity
       → IsAtEnd (remaining s.inner)) → s.block.bytes ≡ [] → IsAtEnd (reader_remaining remaining rules s)
   remaining_ends ended none = IsAtEnd_if (may_stop rules s) (ahead remaining s)
-      (λ is. at_nothing (remaining s.inner) s.block.bytes none (ended (may_stop-false rules s is).0 (may_stop-false rules s is).1))
+      (λ is. at_nothing (remaining s.inner) s.block.bytes none
+      (ended (may_stop-false rules s is).0 (may_stop-false rules s is).1))
 
   module _ (t : Buffered S P) (order : ReadsInOrder s [] t)
       (known : InnerGives remaining s t) where

@@ -175,7 +175,8 @@ module _ (k : ℕ) (es : List Error) (len : ℕ) (a b : Block) (log log' log'' :
   }
 
   -- the next write failed
-  pub sends_failed : (amount : ℕ) (e : Error) → WholeWrites 0 log.writes log'.writes → k < min amount (length a.bytes) → 0 < length (take len b.bytes)
+  pub sends_failed : (amount : ℕ) (e : Error) → WholeWrites 0 log.writes log'.writes → k < min amount (length a.bytes)
+      → 0 < length (take len b.bytes)
       → WritesRetried (take len b.bytes) log' (Err e) log'' → Sends amount a log (Err e) b log''
   sends_failed amount e before fewer some wrote = record {
     count = k;

@@ -19,7 +19,8 @@ pub returns-then-branch : goal.returns-then-branch
 returns-then-branch g c =
     let asked = c.in_ok-is_at_end.ensures in
     at_end g.R.TellRead.remaining g.W.TellWrite.stretch g.met.W.TellWrite.stretch_none g.met.W.TellWrite.stretch_joins
-    _ _ c.requires.whole _ asked.along asked.met (asked.none (ap Ok c.if-branch.true)) (subst (λ b. EndsOnce c.args.source.now (Ok b) c.is_at_end.new.source) c.if-branch.true asked.once)
+    _ _ c.requires.whole _ asked.along asked.met (asked.none (ap Ok c.if-branch.true))
+    (subst (λ b. EndsOnce c.args.source.now (Ok b) c.is_at_end.new.source) c.if-branch.true asked.once)
 
 pub returns : goal.returns
 returns g c =

@@ -59,7 +59,8 @@ returns-in_default-clause-in_order g c =
 
 pub returns-in_default-clause-grows : goal.returns-in_default-clause-grows
 returns-in_default-clause-grows g c =
-    rw (← c.self.view_is, c.read_told.ensures.told) (ReadLogGrows-read (g.R.Tell.log c.self.inside.inner) c.read_told.new.buf c.read_told.result)
+    rw (← c.self.view_is, c.read_told.ensures.told)
+    (ReadLogGrows-read (g.R.Tell.log c.self.inside.inner) c.read_told.new.buf c.read_told.result)
 
 then_handed : (g : _) (c : goal.Joined-self-2 g) → Handed g.R.TellRead.remaining c.args.self.now c.match-self-2.self
     c.copy_to_slice-n.result c.args.out.now c.copy_to_slice-n.new.out
