@@ -3,7 +3,7 @@
 
 A row of a table that begins with 'Call' names calls, and clauses that each of them has: functions of the files that the
 nearest line 'In `FILE`' above it names. A word in code letters with a capital or an underscore is one of the sources, or
-the name of a crate.
+the name of a crate. So is each lemma that a table of docs/PROOFS.md names, which begins with 'To say' or 'Of'.
 """
 import pathlib
 import re
@@ -53,10 +53,23 @@ def wrong_in(page, every):
     return [f"docs/{page.name}:{it}" for it in wrong]
 
 
+def lost_lemmas(page, every):
+    """The lemmas that the tables of a page name and that aren't there, a line each."""
+    wrong, header = [], ""
+    for number, line in enumerate(page.read_text(encoding="utf-8").splitlines(), 1):
+        header = "" if not line.startswith("|") else header or line
+        if header.startswith(("| To say", "| Of ")):
+            for name in re.findall(r"`([A-Z]\w*-\w+)`", line):
+                if not re.search(rf"(?<![\w-]){name}(?![\w-])", every):
+                    wrong.append(f"docs/{page.name}:{number}: `{name}` stands nowhere in the sources")
+    return wrong
+
+
 def main():
     every = "\n".join(sources.values())
     wrong = [it for page in pages for it in wrong_in(page, every)]
-    print("\n".join(wrong) or "each clause and each word that docs/CONTRACTS.md and docs/DESIGN.md name stands in the sources")
+    wrong += lost_lemmas(top / "docs" / "PROOFS.md", every)
+    print("\n".join(wrong) or "each clause, word and lemma that CONTRACTS, DESIGN and PROOFS name stands in the sources")
     return 1 if wrong else 0
 
 

@@ -1,7 +1,40 @@
-//! Lines.
-use buffer_redux::tell::Told;
+//! Lines, and the reader of lines that README and CALLING show.
+ghost use Rattle.std.specs.Prelude.{◌≡◌, ◌++◌, ◌∷◌, IfOk, List, [], false, length, map, ℕ};
+ghost use Rattle.line_reader.specs.Calls.{Ended, Handed, LinesAlong};
+
+use buffer_redux::tell::{TellRead, Told};
 use line_reader::{LineError, LineReader};
+use std::alloc::Global;
+use std::io;
+use std::io::{ErrorKind, Read};
 use std::test::Fail;
+
+/// How many lines are left, up to the end of the stream.
+fn lines_left<R: TellRead>(reader: &mut LineReader<R>) -> Result<u64, LineError>
+    requires between { reader.old.skipping ≡ false }
+    ensures counted { IfOk result (λ count. (lines : List (List ℕ)) × (count ≡ length lines)
+        × LinesAlong R.remaining [] reader.old (map Handed lines ++ Ended ∷ []) [] reader.new) }
+{
+    for count in 0..u64::MAX {
+        match reader.next()? {
+            Some(_) => {}
+            None => return Ok(count),
+        }
+    }
+    Err(LineError::Io(io::Error::from(ErrorKind::Other)))
+}
+
+/// How many lines a stream of std has. None is longer than `max` bytes.
+fn lines_of<R: Read + Drop>(alloc: Global, from: R, max: usize) -> io::Result<u64> {
+    let mut reader = LineReader::new(alloc, Told::new(from), max)?;
+    Ok(lines_left(&mut reader)?)
+}
+
+#[test]
+fn counts_what_is_left(rt: HostRuntime) -> Result<(), Fail> {
+    assert!(rt; lines_of(rt.alloc(), b"one\n\nlast".as_slice(), 4)? == 3);
+    Ok(())
+}
 
 #[test]
 fn line_reader(rt: HostRuntime) -> Result<(), Fail> {
