@@ -9,6 +9,8 @@ pub mod Grammar
 pub mod GrammarLaws
 pub mod Headings
 pub mod HeadingsLaws
+pub mod HeadsOut
+pub mod HeadsOutLaws
 pub mod IoErrors
 pub mod KnownPieces
 pub mod KnownPiecesLaws
@@ -26,8 +28,12 @@ pub mod ScanningLaws
 pub mod Steps
 pub mod TextHeads
 pub mod TextHeadsLaws
+pub mod TextHeadsOut
+pub mod TextHeadsOutLaws
 pub mod TextLaws
 pub mod Texts
+pub mod Trimming
+pub mod TrimmingLaws
 pub mod WritePiece
 pub mod WritePieceLaws
 pub mod WriteRuns

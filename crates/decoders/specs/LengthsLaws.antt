@@ -21,7 +21,7 @@ module _ (size : ℕ) (number : List ℕ → ℕ) where
   few bytes less = ap (λ b. if b then Short else Sized (number (take size bytes)) size)
       (lt-ltb (length bytes) size less)
 
-  enough : (bytes : List ℕ) → size ≤ length bytes → heading bytes ≡ Sized (number (take size bytes)) size
+  pub enough : (bytes : List ℕ) → size ≤ length bytes → heading bytes ≡ Sized (number (take size bytes)) size
   enough bytes many = ap (λ b. if b then Short else Sized (number (take size bytes)) size)
       (le-ltb (length bytes) size many)
 

@@ -1,7 +1,8 @@
 -- They are few.
 use Rattle.std.specs.Prelude.{ℕ}
-use Rattle.std.proofs.Common.{arith}
+use Rattle.std.proofs.Common.{arith, inl, inr}
 use Rattle.codec.specs.TextHeads.{IsSound}
+use Rattle.codec.specs.TextHeadsOut.{IsWritten}
 use Rattle.decoders.specs.Limits.{IsSmall}
 use Rattle.decoders.specs.TextWords.{bulk_strings, netstrings}
 
@@ -10,3 +11,10 @@ netstrings_sound max fits = record { some = omega arith; small = omega (arith, f
 
 pub bulk_strings_sound : (max : ℕ) → IsSmall max → IsSound (bulk_strings max)
 bulk_strings_sound max fits = record { some = omega arith; small = omega (arith, fits) }
+
+-- a colon, or CR, is no digit
+pub netstrings_written : (max : ℕ) → IsWritten (netstrings max)
+netstrings_written max = record { few = omega arith; no_digit = inr (omega arith) }
+
+pub bulk_strings_written : (max : ℕ) → IsWritten (bulk_strings max)
+bulk_strings_written max = record { few = omega arith; no_digit = inl (omega arith) }

@@ -1,7 +1,7 @@
 //! Bulk strings of RESP.
 ghost use Rattle.decoders.specs.Limits.{IsSmall};
 
-use codec::TextHead;
+use codec::{TextHead, TextHeadOut};
 
 /// Bulk strings of RESP of at most `max` bytes: a dollar sign, a length in decimal, CR and LF, so many bytes, and CR and LF. The
 /// null string of RESP 2, whose length is -1, is none.
@@ -46,4 +46,10 @@ impl TextHead for BulkStrings {
     }
 
     ghost sound = { λ d. bulk_strings_sound d.max d.fits };
+}
+
+impl TextHeadOut for BulkStrings {
+    ghost use Rattle.decoders.specs.TextWordsLaws.{bulk_strings_written};
+
+    ghost written = { λ d. bulk_strings_written d.max };
 }

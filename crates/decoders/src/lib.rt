@@ -1,10 +1,11 @@
-//! Decoders that are ready: pieces whose payload has its length in front, in bytes or in text.
+//! Decoders that are ready, and encoders: pieces whose payload has its length in front, in bytes or in text.
 //!
 //! A length above the greatest is refused before memory is taken, a byte is waited for or anything is added to it.
 #![tactic(auto)]
 
 mod bulk_strings;
 mod lengths;
+mod lengths_writer;
 mod netstrings;
 
 pub use bulk_strings::BulkStrings;

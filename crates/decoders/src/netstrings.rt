@@ -1,7 +1,7 @@
 //! Netstrings.
 ghost use Rattle.decoders.specs.Limits.{IsSmall};
 
-use codec::TextHead;
+use codec::{TextHead, TextHeadOut};
 
 /// Netstrings of at most `max` bytes: a length in decimal, a colon, so many bytes, and a comma.
 ///
@@ -46,4 +46,10 @@ impl TextHead for Netstrings {
     }
 
     ghost sound = { λ d. netstrings_sound d.max d.fits };
+}
+
+impl TextHeadOut for Netstrings {
+    ghost use Rattle.decoders.specs.TextWordsLaws.{netstrings_written};
+
+    ghost written = { λ d. netstrings_written d.max };
 }
