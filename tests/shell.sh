@@ -82,7 +82,7 @@ refuses() { # its usage, words each
 # What it says of a stream that failed.
 said_of() { # `read` or `write`, the words
     case "$name $2" in
-        frames* | 'bodies decode') echo "$1 failed" ;;
+        frames* | bodies*) echo "$1 failed" ;;
         *) echo 'read or write failed' ;;
     esac
 }
@@ -437,8 +437,8 @@ END
     head -c 100000 "$lines" > "$payload"
     { printf '186A0\r\n' && cat "$payload" && printf '\r\n0\r\n\r\n'; } > "$scratch/body"
     turns decode "$scratch/body" "$payload"
-    # What one read gave is one chunk. A payload is sent before it is asked whether something follows it. After a fault nothing is
-    # sent.
+    # What one read gave is one chunk, which is sent before more is asked for. A payload is sent before it is asked whether something
+    # follows it. After a fault nothing is sent.
     answer <<'END'
 decode|3\r\nabc\r\n0\r\n\r\n|||abc|0|2 1
 decode|3\r\nabc\r\n0\r\n\r\n|1*|1*|abc|0|14 3
@@ -452,17 +452,19 @@ decode|3\r\nabc\r\n0\r\n\r\n||i65||1|1 65
 decode|3\r\nabc\r\n0\r\n\r\n|i64 a i64||abc|0|130 1
 decode|3\r\nabc\r\n0\r\n\r\n|i65|||1|65 0
 decode|3\r\nabc\r\n0\r\n\r\n|a i65||abc|1|66 1
-encode|abc|||3\r\nabc\r\n0\r\n\r\n|0|2 1
-encode|abc|2||2\r\nab\r\n1\r\nc\r\n0\r\n\r\n|0|3 1
-encode|\r\n|1*|2|1\r\n\r\r\n1\r\n\n\r\n0\r\n\r\n|0|3 2
+encode|abc|||3\r\nabc\r\n0\r\n\r\n|0|2 2
+encode|abc|2||2\r\nab\r\n1\r\nc\r\n0\r\n\r\n|0|3 3
+encode|\r\n|1*|2|1\r\n\r\r\n1\r\n\n\r\n0\r\n\r\n|0|3 4
 encode|abc|e|||1|1 0
-encode|abc|a e|||1|2 0
-encode|abc|i64 a i64||3\r\nabc\r\n0\r\n\r\n|0|130 1
+encode|abc|a e||3\r\nabc\r\n|1|2 1
+encode|abc|1 1 e||1\r\na\r\n1\r\nb\r\n|1|3 2
+encode|abc|i64 a i64||3\r\nabc\r\n0\r\n\r\n|0|130 2
 encode|abc|i65|||1|65 0
-encode|abc|a i65|||1|66 0
-encode|abc||e||1|2 1
-encode|abc||0||1|2 1
-encode|abc||i65||1|2 65
+encode|abc|a i65||3\r\nabc\r\n|1|66 1
+encode|abc||e||1|1 1
+encode|abc||a e|3\r\nabc\r\n|1|2 2
+encode|abc||0||1|1 1
+encode|abc||i65||1|1 65
 END
     refuses 'decode|encode' '' encoder 'encode decode' "$no_text"
     faults encode "$lines"

@@ -1,15 +1,24 @@
--- How often the reader inside gives nothing in one fill: at its end alone.
-use Rattle.std.proofs.Common.{◌≡◌, ℕ, zero, suc, ◌+◌, ◌<◌, ◌==◌, Bool, true, false, length, Ok, Err, inl, inr, refl, sym, ap, ◌∙◌, arith, append-nil}
+-- How the reader inside is asked in one fill, and how often it gives nothing: at its end alone.
+use Rattle.std.proofs.Common.{◌≡◌, ℕ, zero, suc, ◌+◌, ◌<◌, ◌≤◌, ◌⊎◌, ◌==◌, Bool, true, false, [], length, Result, Ok, Err, inl, inr, refl, sym, ap, subst, ◌∙◌, arith, append-nil, length-append}
+use Rattle.std.proofs.lemmas.Bool.{cases_lt}
+use Rattle.std.proofs.lemmas.List.{nil_from_length}
 use Rattle.std.proofs.lemmas.Bool.Decides.{nat_tests}
 use Rattle.std.specs.declared.io.Error.{Error}
-use Rattle.buffer_redux.specs.BufReader.{Fills, RanDry}
+use Rattle.buffer_redux.specs.BufReader.{Fills, RanDry, ReadsInOrder}
 use Rattle.buffer_redux.specs.Buffered.{Buffered}
 use Rattle.buffer_redux.specs.Fill.{Dry, Turns}
 use Rattle.buffer_redux.specs.Policy.{std_read_rules}
 use Rattle.buffer_redux.specs.ReaderLaws.{Fills-empty, WantsBytes-std}
 use Rattle.buffer_redux.specs.StreamLog.{zero_of_some, zero_of_none}
 use Rattle.buffer_redux.specs.declared.policy.StdPolicy.{StdPolicy}
-use Rattle.bodies.specs.AtEnd.{EndsOnce}
+use Rattle.programs.specs.Prompt.{AskedLast}
+use Rattle.bodies.specs.AtEnd.{Asks, AsksOnce, EndsOnce}
+
+none_of : (n : ℕ) → true ≡ (n == 0) → n ≡ 0
+none_of n is = grind (arith, nat_tests)
+
+some_of : (n : ℕ) → false ≡ (n == 0) → 0 < n
+some_of n is = grind (arith, nat_tests)
 
 -- how often it gave nothing so far
 abbrev empties : {R : Type 0} → Buffered R StdPolicy → ℕ
@@ -22,13 +31,61 @@ turns_gave (suc k) s t (m, run, turn) =
     ap (λ l. l.reads.zero_reads) turn.read.told
     ∙ zero_of_some turn.count turn.read.out (empties m) (inl turn.some) ∙ turns_gave k s m run
 
-none_of : (n : ℕ) → true ≡ (n == 0) → n ≡ 0
-none_of n is = grind (arith, nat_tests)
+-- so many turns ask as often
+turns_asked : {R : Type 0} (k : ℕ) (s t : Buffered R StdPolicy) → Turns std_read_rules k s t
+    → t.log.reads.asks ≡ s.log.reads.asks + k
+turns_asked zero s t same = omega (arith, ap (λ x. x.log.reads.asks) same)
+turns_asked (suc k) s t (m, run, turn) = omega (arith, turns_asked k s m run, ap (λ l. l.reads.asks) turn.read.told)
 
-some_of : (n : ℕ) → false ≡ (n == 0) → 0 < n
-some_of n is = grind (arith, nat_tests)
+no_turn : {R : Type 0} (k : ℕ) (s t : Buffered R StdPolicy) → Turns std_read_rules k s t → k ≡ 0 → t.log ≡ s.log
+no_turn zero s t same none = ap (λ x. x.log) (sym same)
+no_turn (suc k) s t run none = absurd (omega (arith, none))
 
 module _ {R A : Type 0} (s t : Buffered R StdPolicy) where
+  -- where none was asked, nothing is told
+  unasked : (answer : Result A Error) → Fills std_read_rules s answer t → t.log.reads.asks ≡ s.log.reads.asks
+      → t.log ≡ s.log
+  unasked (Ok a) fills same =
+      let f = fills.filled in
+      let asked = turns_asked f.count s f.last f.turns in
+      elim f.ends [
+        | inl declined ↦ declined.told
+            ∙ no_turn f.count s f.last f.turns (omega (arith, same, asked, ap (λ l. l.reads.asks) declined.told))
+        | inr (inl full) ↦ full.told
+            ∙ no_turn f.count s f.last f.turns (omega (arith, same, asked, ap (λ l. l.reads.asks) full.told))
+        | inr (inr end) ↦ absurd (omega (arith, same, asked, ap (λ l. l.reads.asks) end.read.told))
+      ]
+  unasked (Err e) fills same =
+      let f = fills.filled in
+      let asked = turns_asked f.count s f.last f.turns in
+      elim f.ends [
+        | inl refused ↦ refused.told
+            ∙ no_turn f.count s f.last f.turns (omega (arith, same, asked, ap (λ l. l.reads.asks) refused.told))
+        | inr faulted ↦ absurd (omega (arith, same, asked, ap (λ l. l.reads.asks) faulted.read.told))
+      ]
+
+  -- a fill asks once at most, and where nothing is buffered
+  pub asks_once : (answer : Result A Error) → Fills std_read_rules s answer t → AsksOnce s t
+  asks_once answer fills = elim (cases_lt s.log.reads.asks t.log.reads.asks) [
+    | inl more ↦
+        let ask = fills.last more in
+        let none = none_of (length ask.before.block.bytes) ask.ordered.asked.allowed.2 in
+        inr (nil_from_length s.block.bytes (omega (arith, ask.saw, none)), omega (arith, ask.asks, ask.saw, none))
+    | inr same ↦ inl (unasked answer fills (omega (arith, same, fills.grows.asks)))
+  ]
+
+  -- a fill that failed leaves nothing
+  pub none_after_fault : (e : Error) → Fills {A = A} std_read_rules s (Err e) t → t.block.bytes ≡ []
+  none_after_fault e fills =
+      let f = fills.filled in
+      elim f.ends [
+        | inl refused ↦ absurd refused.asked.allowed
+        | inr faulted ↦
+            let asked = faulted.ordered.asked in
+            faulted.read.added.bytes ∙ append-nil faulted.seen.bytes ∙ asked.law.bytes
+            ∙ nil_from_length f.last.block.bytes (none_of (length f.last.block.bytes) asked.allowed.2)
+      ]
+
   -- a fill that failed
   pub none_before_fault : (e : Error) → Fills {A = A} std_read_rules s (Err e) t → empties t ≡ empties s
   none_before_fault e fills =
@@ -73,3 +130,43 @@ module _ {R A : Type 0} (s t : Buffered R StdPolicy) where
     ends_once true is room = once_at_end (Fills-empty std_read_rules s a t fills (WantsBytes-std s.policy) room
         (none_of (length t.block.bytes) is))
     ends_once false is room = none_where_shown (some_of (length t.block.bytes) is)
+
+pub asked_once : {R : Type 0} (s t : Buffered R StdPolicy) → AsksOnce s t → t.log.reads.asks ≤ s.log.reads.asks + 1
+asked_once s t (inl same) = omega (arith, ap (λ l. l.reads.asks) same)
+asked_once s t (inr asked) = omega (arith, asked.1)
+
+-- what is told of it stays
+pub asks_same : {R : Type 0} (s m t : Buffered R StdPolicy) → t.log ≡ m.log → Asks s m → Asks s t
+asks_same s m t same (inl none) = inl (same ∙ none)
+asks_same s m t same (inr over) = inr (record {
+  empty = over.empty;
+  last = over.last;
+  asked = subst (λ l. AskedLast [] over.last s.log l) (sym same) over.asked;
+})
+
+-- asks that failed, and then one more
+module _ {R : Type 0} (s m t : Buffered R StdPolicy) (along : ReadsInOrder s [] m) (over : (m.log ≡ s.log) ⊎ (s.block.bytes ≡ []))
+    (few : m.log.reads.asks + length s.log.reads.faults ≤ s.log.reads.asks + length m.log.reads.faults) where
+  empty_before : m.block.bytes ≡ [] → s.block.bytes ≡ []
+  empty_before none = nil_from_length s.block.bytes
+      (omega (arith, ap length none, ap length along.equal, length-append s.block.bytes along.got))
+
+  pub asks_more : AsksOnce m t → (t.log ≡ s.log) ⊎ (s.block.bytes ≡ [])
+  asks_more (inl same) = elim over [ inl none ↦ inl (same ∙ none) | inr empty ↦ inr empty ]
+  asks_more (inr asked) = inr (empty_before asked.0)
+
+  pub asks_last : (all : ReadsInOrder s [] t) → length m.log.reads.faults ≤ length t.log.reads.faults → AsksOnce m t → Asks s t
+  asks_last all grows one = elim (asks_more one) [
+    | inl none ↦ inl none
+    | inr empty ↦ inr (record {
+      empty = empty;
+      last = all.got;
+      asked = record {
+        given = all.given;
+        asks = elim one [
+          | inl same ↦ omega (arith, few, ap (λ l. l.reads.asks) same, ap (λ l. length l.reads.faults) same)
+          | inr asked ↦ omega (arith, few, asked.1, grows)
+        ];
+      };
+    })
+  ]

@@ -3,6 +3,7 @@ use Rattle.std.proofs.Common.{◌≡◌, ℕ, ◌≤◌, ◌⊎◌, inl, inr, Li
 use Rattle.std.specs.declared.io.Error.{Error}
 use Rattle.buffer_redux.specs.BufReader.{ReadsAlong}
 use Rattle.buffer_redux.specs.Buffered.{Buffered}
+use Rattle.buffer_redux.specs.Faults.{OnlyInterrupts}
 use Rattle.buffer_redux.specs.Policy.{std_read_rules}
 use Rattle.buffer_redux.specs.ReaderLaws.{ReadsAlong-none, ReadsAlong-then, ReadsInOrder-fresh}
 use Rattle.buffer_redux.specs.StreamLog.{StreamLog}
@@ -16,8 +17,8 @@ use Rattle.chunked.specs.declared.limits.Limits.{Limits}
 use Rattle.chunked.specs.declared.place.Place.TheVariants.{Line}
 use Rattle.bodies.specs.declared.error.RunError.{RunError}
 use Rattle.bodies.specs.declared.error.RunError.TheVariants.{NotChunked, Truncated, Behind, Read, Write, Io}
-use Rattle.bodies.specs.Decode.{AllSent, DecodeFailed, DecodeRan, Decoded, ExpectsEnd, IsPart, MovesAndFlushes, MovesEach, MovesFirst, Sent}
-use Rattle.programs.specs.Streams.{BufferRefused, MetNoFault, OverCount, ReadFailed, SendFailed}
+use Rattle.bodies.specs.Decode.{DecodeFailed, DecodeRan, Decoded, ExpectsEnd, IsPart, MovesAndFlushes, MovesEach, MovesFirst, Sent}
+use Rattle.programs.specs.Streams.{AllSent, BufferRefused, MetNoFault, OverCount, ReadFailed, SendFailed}
 use Rattle.programs.specs.StreamsLaws.{ReadGaveUp-after, MetInterrupts-none, MetNoFault-joins}
 
 -- from empty buffers on
@@ -48,16 +49,11 @@ module _ {R W : Type 0} (remaining : R → Option (List ℕ)) (limits : Limits) 
         ∙ WritesInOrder-fresh u v p.payload none' p.went.taken
 
     sent : (r : Buffered R StdPolicy) → ReadsAlong remaining std_read_rules t.reader [] r
-        → MetNoFault first.log r.log u.log v.log → Sent first.log r.log u.log v.log t.taken p.payload r.block.bytes
-    sent r still met = record {
-      given = given p.payload p.went.went r still;
-      received = received;
-      flushed = all.flushed;
-      met = met;
-    }
+        → Sent first.log r.log u.log v.log t.taken p.payload r.block.bytes
+    sent r still = record { given = given p.payload p.went.went r still; received = received; flushed = all.flushed }
 
     sent_now : Sent first.log t.reader.log u.log v.log t.taken p.payload t.reader.block.bytes
-    sent_now = sent t.reader (ReadsAlong-none remaining std_read_rules t.reader) p.met
+    sent_now = sent t.reader (ReadsAlong-none remaining std_read_rules t.reader)
 
     body : IsWhole t → IsBody limits t.taken p.payload
     body whole =
@@ -66,26 +62,25 @@ module _ {R W : Type 0} (remaining : R → Option (List ℕ)) (limits : Limits) 
 
     -- it was asked whether something follows
     module _ (whole : IsWhole t) (r : Buffered R StdPolicy) where
-      decoded : ReadsAlong remaining std_read_rules t.reader [] r → MetNoFault first.log r.log u.log v.log
-          → Decoded limits first.log r.log u.log v.log r.block.bytes
-      decoded still met =
-          record { body = t.taken; payload = p.payload; is_body = body whole; sent = sent r still met }
+      decoded : ReadsAlong remaining std_read_rules t.reader [] r → Decoded limits first.log r.log u.log v.log r.block.bytes
+      decoded still = record { body = t.taken; payload = p.payload; is_body = body whole; sent = sent r still }
+
+      met : OnlyInterrupts t.reader.log.reads.faults r.log.reads.faults → MetNoFault first.log r.log u.log v.log
+      met only = MetNoFault-joins first.log t.reader.log r.log u.log v.log v.log p.met
+          (record { reader = only; writer = MetInterrupts-none v.log.writes })
 
       pub asked : (answer : Result (Unit {0}) RunError) → ExpectsEnd remaining t.reader (taken_count t) answer r
           → DecodeRan limits first.log r.log u.log v.log answer
       unfolding decoded
-      asked (Ok _) end =
-          let met = MetNoFault-joins first.log t.reader.log r.log u.log v.log v.log p.met
-          (record { reader = end.answers.0; writer = MetInterrupts-none v.log.writes }) in (
-            subst (Decoded limits first.log r.log u.log v.log) end.answers.1 (decoded end.along met),
-            omega (arith, p.went.went.along.grows.zero_reads, end.answers.2),
-          )
+      asked (Ok _) end = (
+        subst (Decoded limits first.log r.log u.log v.log) end.answers.1 (decoded end.along),
+        omega (arith, p.went.went.along.grows.zero_reads, end.answers.2),
+        met end.answers.0,
+      )
       asked (Err (NotChunked why right)) end = absurd end.answers
       asked (Err (Truncated right)) end = absurd end.answers
       asked (Err (Behind right)) end =
-          let met = MetNoFault-joins first.log t.reader.log r.log u.log v.log v.log p.met
-          (record { reader = end.answers.0; writer = MetInterrupts-none v.log.writes }) in
-          (r.block.bytes, end.answers.1, (decoded end.along met, end.answers.2))
+          (r.block.bytes, end.answers.1, (decoded end.along, end.answers.2), met end.answers.0)
       asked (Err (Write e)) end = absurd end.answers
       asked (Err (Io e)) end = absurd end.answers
       asked (Err (Read e)) end = record {
@@ -142,33 +137,37 @@ module _ {R W : Type 0} (remaining : R → Option (List ℕ)) (limits : Limits) 
       → DecodeRan limits first.log t.reader.log u.log v.log (Err why)
   stopped (NotChunked why right) p =
       let each = p.0.0 in
-      let breaks = p.0.1 in
-      record {
-        wire = t.taken;
-        payload = each.payload;
-        place = t.place;
-        part = part each.payload each.went.went each.went.source.whole;
-        byte = breaks.byte;
-        later = breaks.later;
-        sent = subst (λ l. Sent first.log t.reader.log u.log v.log t.taken each.payload l) breaks.next (sent_now each p.1);
-        name = subst (λ l. IsWrong l t.place breaks.byte why) each.went.went.limits breaks.name;
-        none = subst (λ l. (rest whole : List ℕ) → ¬ IsBody l (t.taken ++ breaks.byte ∷ rest) whole)
-            each.went.went.limits breaks.none;
-        count = p.0.2;
-      }
+      let breaks = p.0.1 in (
+        record {
+          wire = t.taken;
+          payload = each.payload;
+          place = t.place;
+          part = part each.payload each.went.went each.went.source.whole;
+          byte = breaks.byte;
+          later = breaks.later;
+          sent = subst (λ l. Sent first.log t.reader.log u.log v.log t.taken each.payload l) breaks.next (sent_now each p.1);
+          name = subst (λ l. IsWrong l t.place breaks.byte why) each.went.went.limits breaks.name;
+          none = subst (λ l. (rest whole : List ℕ) → ¬ IsBody l (t.taken ++ breaks.byte ∷ rest) whole)
+              each.went.went.limits breaks.none;
+          count = p.0.2;
+        },
+        each.met,
+      )
   stopped (Truncated right) p =
       let each = p.0.0 in
-      let cut = p.0.1 in
-      record {
-        wire = t.taken;
-        payload = each.payload;
-        place = t.place;
-        part = part each.payload each.went.went each.went.source.whole;
-        sent = subst (λ l. Sent first.log t.reader.log u.log v.log t.taken each.payload l) cut.left (sent_now each p.1);
-        none = subst (λ l. (whole : List ℕ) → ¬ IsBody l t.taken whole) each.went.went.limits cut.none;
-        ended = cut.dry;
-        count = p.0.2;
-      }
+      let cut = p.0.1 in (
+        record {
+          wire = t.taken;
+          payload = each.payload;
+          place = t.place;
+          part = part each.payload each.went.went each.went.source.whole;
+          sent = subst (λ l. Sent first.log t.reader.log u.log v.log t.taken each.payload l) cut.left (sent_now each p.1);
+          none = subst (λ l. (whole : List ℕ) → ¬ IsBody l t.taken whole) each.went.went.limits cut.none;
+          ended = cut.dry;
+          count = p.0.2;
+        },
+        each.met,
+      )
   stopped (Behind right) p = absurd p
   stopped (Read e) p =
       failed (λ _. ReadFailed e first.log t.reader.log u.log v.log) (λ n k less cause. cause) p.0 p.1

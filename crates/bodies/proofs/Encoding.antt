@@ -1,5 +1,5 @@
 -- What chunks come to that are made one behind the other.
-use Rattle.std.proofs.Common.{◌≡◌, ℕ, zero, suc, ◌+◌, ◌<◌, ◌≤◌, ◌^◌, inl, inr, List, [], ◌++◌, length, take, true, false, Option, Result, Ok, Err, refl, sym, ap, subst, ◌∙◌, arith, append-nil, length-append}
+use Rattle.std.proofs.Common.{◌≡◌, ℕ, zero, suc, ◌+◌, ◌<◌, ◌≤◌, ◌^◌, inl, inr, Bool, List, [], ◌∷◌, ◌++◌, length, take, true, false, Option, Result, Ok, Err, refl, sym, ap, subst, ◌∙◌, arith, append-nil, length-append}
 use Rattle.std.proofs.lemmas.Bool.{cases_lt}
 use Rattle.std.proofs.lemmas.List.{length-take-le}
 use Rattle.std.proofs.lemmas.List.Concat.{flat_map-append}
@@ -8,17 +8,24 @@ use Rattle.std.specs.List.{flat_map}
 use Rattle.std.specs.declared.io.Error.{Error}
 use Rattle.std.specs.declared.io.ErrorKind.TheVariants.{Other}
 use Rattle.buffer_redux.specs.BufReader.{ReadsAlong}
+use Rattle.buffer_redux.specs.BufWriter.{WasSent}
 use Rattle.buffer_redux.specs.Buffered.{Buffered}
-use Rattle.buffer_redux.specs.Faults.{MetInterrupts, OnlyInterrupts}
+use Rattle.buffer_redux.specs.Faults.{MetInterrupts, OnlyInterrupts, OnlyInterrupts-none, SendErrorCaused}
 use Rattle.buffer_redux.specs.Policy.{std_read_rules}
 use Rattle.buffer_redux.specs.ReaderLaws.{ReadsAlong-joins, ReadsAlong-none}
 use Rattle.buffer_redux.specs.StreamLog.{StreamLog}
 use Rattle.buffer_redux.specs.declared.policy.StdPolicy.{StdPolicy}
-use Rattle.chunked.specs.Chunking.{Chunking, IsChunking, PutsFirst, PutsIn, WritesChunk, around, room, taken_payloads}
+use Rattle.chunked.specs.Chunk.{chunks}
+use Rattle.chunked.specs.Chunking.{Chunking, ChunksWent, IsChunking, PutsFirst, PutsIn, WritesChunk, around, room, taken_payloads}
 use Rattle.chunked.specs.ChunkingLaws.{ChunksWent-joins, ChunksWent-none}
-use Rattle.programs.specs.Streams.{ReadGaveUp}
-use Rattle.programs.specs.StreamsLaws.{EitherFailed-after, MetInterrupts-none, MetNoFault-joins, MetNoFault-none}
-use Rattle.bodies.specs.AtEnd.{EndsOnce}
+use Rattle.programs.specs.Prompt.{WritesOn}
+use Rattle.programs.specs.PromptLaws.{WritesOn-unflushed}
+use Rattle.programs.specs.Streams as Streams
+use Rattle.programs.specs.Streams.{AllSent, ReadGaveUp}
+use Rattle.programs.specs.StreamsLaws.{ReadFailed-after, SendFailed-after, MetInterrupts-none, MetNoFault-joins, MetNoFault-none}
+use Rattle.bodies.specs.declared.error.RunError.{RunError}
+use Rattle.bodies.specs.declared.error.RunError.TheVariants.{NotChunked, Truncated, Behind, Read, Write, Io}
+use Rattle.bodies.specs.AtEnd.{Asks, EndsOnce}
 use Rattle.bodies.specs.Encode.{Encodes, EncodesAll, EncodesEach, EncodesNext, NeverEnded}
 
 -- the writer was at most interrupted, and flushed nothing
@@ -63,9 +70,35 @@ module _ {W : Type 0} (tells : W → StreamLog) (stretch : W → W → Type 0) w
         counted (Ok n) = n
         counted (Err e) = 0
 
+    -- one that took nothing in
+    pub chunk_not_sent : (e : Error) → WritesChunk tells stretch b payload (Err e) c
+        → WasSent tells stretch b.writer (Err e) c.writer
+    chunk_not_sent e p = elim (cases_lt (room b.writer) (around + length payload)) [
+      | inl none ↦ p.full some none
+      | inr there ↦ absurd (let odd = (p.fits some there).ok in cc)
+    ]
+
+    -- in either the writer is called
+    pub chunk_writes : (answer : Result ℕ Error) → WritesChunk tells stretch b payload answer c
+        → WritesOn b.writer.log.writes c.writer.log.writes
+    chunk_writes (Ok n) p =
+        WritesOn-unflushed b.writer c.writer (chunks (taken_payloads payload (Ok n))) p.went.in_order (chunk_quietly n p).not_flushed
+    chunk_writes (Err e) p =
+        let sends = chunk_not_sent e p in WritesOn-unflushed b.writer c.writer [] sends.in_order sends.not_flushed
+
 taken_joined : (payload : List ℕ) (n : ℕ) → take n payload ≡ flat_map (λ p. p) (taken_payloads payload (Ok n))
 taken_joined payload zero = refl
 taken_joined payload (suc n) = sym (append-nil (take (suc n) payload))
+
+-- a read that failed was told
+no_gave_up : (old new : List Error) (e : Error) → new ≡ old → ReadGaveUp e old new → ⊥
+no_gave_up old new e same gave = omega (
+  arith,
+  ap length same,
+  ap length gave.fault.faults,
+  length-append old gave.fault.interrupts,
+  length-append (old ++ gave.fault.interrupts) (e ∷ []),
+)
 
 -- so many chunks were made
 pub record EncodesSoFar {R W : Type 0} (remaining : R → Option (List ℕ)) (stretch : W → W → Type 0)
@@ -82,7 +115,6 @@ module _ {R W : Type 0} (remaining : R → Option (List ℕ)) (stretch : W → W
     payloads = [];
     taken = ChunksWent-none stretch none joins b;
     joined = refl;
-    not_flushed = refl;
     whole = whole;
   }
 
@@ -94,9 +126,38 @@ module _ {R W : Type 0} (remaining : R → Option (List ℕ)) (stretch : W → W
     taken = ChunksWent-joins stretch none joins b d c h.payloads k.payloads h.taken k.taken;
     joined = ap (λ l. l ++ q) h.joined ∙ ap (λ l. flat_map (λ x. x) h.payloads ++ l) k.joined
         ∙ sym (flat_map-append (λ x. x) h.payloads k.payloads);
-    not_flushed = k.not_flushed ∙ h.not_flushed;
     whole = k.whole;
   }
+
+  -- nothing was read, and all chunks were flushed
+  module _ (c : Chunking W) (went : ChunksWent stretch b [] c) (whole : IsChunking c) where
+    flushed : Encodes remaining stretch s b [] s c
+    flushed = record {
+      read = ReadsAlong-none remaining std_read_rules s;
+      payloads = [];
+      taken = went;
+      joined = refl;
+      whole = whole;
+    }
+
+    pub flushed_well : MetInterrupts b.writer.log.writes c.writer.log.writes → EncodesEach remaining stretch s b s c
+    flushed_well met = record {
+      payload = [];
+      went = flushed;
+      met = record { reader = OnlyInterrupts-none s.log.reads.faults; writer = met };
+    }
+
+    -- or they could not be
+    pub not_flushed : (e : Error) → SendErrorCaused b.writer.log.writes c.writer.log.writes e
+        → EncodesNext remaining stretch s b (Err (Write e)) s c
+    not_flushed e caused = (
+      record {
+        payload = [];
+        went = flushed;
+        failed = record { reader = OnlyInterrupts-none s.log.reads.faults; writer = caused };
+      },
+      refl,
+    )
 
   -- one call: it is asked whether more comes
   module _ (whole : IsChunking b) (m : Buffered R StdPolicy) (along : ReadsAlong remaining std_read_rules s [] m) where
@@ -106,14 +167,24 @@ module _ {R W : Type 0} (remaining : R → Option (List ℕ)) (stretch : W → W
       payloads = [];
       taken = ChunksWent-none stretch none joins b;
       joined = refl;
-      not_flushed = refl;
       whole = whole;
     }
 
-    pub not_read : (e : Error) → ReadGaveUp e s.log.reads.faults m.log.reads.faults → NeverEnded s m
-        → EncodesNext remaining stretch s b (Err e) m b
-    not_read e fault never =
-        (looked, inl (record { reader = fault; writer = MetInterrupts-none b.writer.log.writes }), never)
+    pub not_read : (e : Error) → ReadGaveUp e s.log.reads.faults m.log.reads.faults → NeverEnded s m → m.block.bytes ≡ []
+        → Asks s m → (s.block.bytes ≡ [] → AllSent b.writer) → EncodesNext remaining stretch s b (Err (Read e)) m b
+    not_read e fault never empty asks sent = (
+      record {
+        payload = [];
+        went = looked;
+        none = empty;
+        sent = sent (elim asks [
+          | inl same ↦ absurd (no_gave_up s.log.reads.faults m.log.reads.faults e (ap (λ l. l.reads.faults) same) fault)
+          | inr over ↦ over.empty
+        ]);
+        failed = record { reader = fault; writer = MetInterrupts-none b.writer.log.writes };
+      },
+      never,
+    )
 
     module _ (met : OnlyInterrupts s.log.reads.faults m.log.reads.faults) where
       pub at_end : m.block.bytes ≡ [] → EndsOnce s (Ok true) m → EncodesNext remaining stretch s b (Ok false) m b
@@ -140,7 +211,6 @@ module _ {R W : Type 0} (remaining : R → Option (List ℕ)) (stretch : W → W
                   payloads = taken_payloads m.block.bytes (Ok n);
                   taken = p.went;
                   joined = taken_joined m.block.bytes n;
-                  not_flushed = quiet.not_flushed;
                   whole = p.whole;
                 };
                 met = record {
@@ -151,6 +221,18 @@ module _ {R W : Type 0} (remaining : R → Option (List ℕ)) (stretch : W → W
               chunk_some tells stretch b c m.block.bytes more n p whole within,
               ap (λ l. l.reads.zero_reads) told ∙ never,
             )
+
+        -- but there was no room for it
+        pub not_written : (e : Error) → WritesChunk tells stretch b m.block.bytes (Err e) c → NeverEnded s m
+            → EncodesNext remaining stretch s b (Err (Write e)) m c
+        not_written e p never = (
+          record {
+            payload = [];
+            went = record { read = along; payloads = []; taken = p.went; joined = refl; whole = p.whole };
+            failed = record { reader = met; writer = (chunk_not_sent tells stretch b c m.block.bytes more e p).caused };
+          },
+          never,
+        )
 
   pub so_far_none : IsChunking b → EncodesSoFar remaining stretch s b 0 s b
   so_far_none whole = record {
@@ -168,6 +250,42 @@ module _ {R W : Type 0} (remaining : R → Option (List ℕ)) (stretch : W → W
       met = MetNoFault-joins s.log m.log t.log b.writer.log d.writer.log c.writer.log before.met next.met;
     }
 
+    -- what one call did then
+    pub then_next : (answer : Result Bool RunError) → EncodesNext remaining stretch m d answer t c
+        → EncodesNext remaining stretch s b answer t c
+    unfolding then_each
+    then_next (Ok true) next = (
+      then_each next.0,
+      omega (arith, next.1, length-append before.payload next.0.payload),
+      next.2 ∙ never,
+    )
+    then_next (Ok false) next = (
+      then_each next.0,
+      record { none = next.1.none; once = next.1.once ∙ ap (λ n. n + 1) never },
+    )
+    then_next (Err (Read e)) next = (
+      record {
+        payload = before.payload ++ next.0.payload;
+        went = Encodes-joins m t d c before.payload next.0.payload before.went next.0.went;
+        none = next.0.none;
+        sent = next.0.sent;
+        failed = ReadFailed-after e s.log m.log t.log b.writer.log d.writer.log c.writer.log before.met next.0.failed;
+      },
+      next.1 ∙ never,
+    )
+    then_next (Err (Write e)) next = (
+      record {
+        payload = before.payload ++ next.0.payload;
+        went = Encodes-joins m t d c before.payload next.0.payload before.went next.0.went;
+        failed = SendFailed-after e s.log m.log t.log b.writer.log d.writer.log c.writer.log before.met next.0.failed;
+      },
+      next.1 ∙ never,
+    )
+    then_next (Err (NotChunked why right)) next = absurd next
+    then_next (Err (Truncated right)) next = absurd next
+    then_next (Err (Behind right)) next = absurd next
+    then_next (Err (Io e)) next = absurd next
+
     pub so_far_more : (count : ℕ) → count ≤ length before.payload → EncodesNext remaining stretch m d (Ok true) t c
         → EncodesSoFar remaining stretch s b (count + 1) t c
     unfolding then_each
@@ -177,24 +295,28 @@ module _ {R W : Type 0} (remaining : R → Option (List ℕ)) (stretch : W → W
       never = next.2 ∙ never;
     }
 
-    pub all_done : EncodesNext remaining stretch m d (Ok false) t c → EncodesAll remaining stretch s b (Ok tt) t c
-    all_done next = (
-      then_each next.0,
-      record {
-        none = next.1.none;
-        once = next.1.once ∙ ap (λ n. n + 1) never;
-      },
-    )
+    -- the last call
+    pub stops : (e : RunError) → EncodesNext remaining stretch m d (Err e) t c → EncodesAll remaining stretch s b (Err e) t c
+    stops (Read e) next = (then_next (Err (Read e)) next).0
+    stops (Write e) next = (then_next (Err (Write e)) next).0
+    stops (NotChunked why right) next = absurd next
+    stops (Truncated right) next = absurd next
+    stops (Behind right) next = absurd next
+    stops (Io e) next = absurd next
 
-    pub stops : (e : Error) → EncodesNext remaining stretch m d (Err e) t c → EncodesAll remaining stretch s b (Err e) t c
-    stops e next = (
-      before.payload ++ [],
-      Encodes-joins m t d c before.payload [] before.went next.0,
-      inl (EitherFailed-after e s.log m.log t.log b.writer.log d.writer.log c.writer.log before.met next.1),
-      next.2 ∙ never,
-    )
+  -- and how often the reader gave nothing then
+  pub ends_once : (m t : Buffered R StdPolicy) (d c : Chunking W) → NeverEnded s m → (answer : Result Bool RunError)
+      → EncodesNext remaining stretch m d answer t c → Streams.EndsOnce s.log.reads t.log.reads
+  ends_once m t d c never (Ok true) next = omega (arith, never, next.2)
+  ends_once m t d c never (Ok false) next = omega (arith, never, next.1.once)
+  ends_once m t d c never (Err (Read e)) next = omega (arith, never, next.1)
+  ends_once m t d c never (Err (Write e)) next = omega (arith, never, next.1)
+  ends_once m t d c never (Err (NotChunked why right)) next = absurd next
+  ends_once m t d c never (Err (Truncated right)) next = absurd next
+  ends_once m t d c never (Err (Behind right)) next = absurd next
+  ends_once m t d c never (Err (Io e)) next = absurd next
 
-  pub over : (m : Buffered R StdPolicy) (d : Chunking W) (before : EncodesEach remaining stretch s b m d)
-      → NeverEnded s m → (e : Error) → error_kind e ≡ Other → 2 ^ 64 ≤ length before.payload + 1 → EncodesAll remaining stretch s b (Err e) m d
-  over m d before never e other large =
-      (before.payload, before.went, inr (record { other = other; large = large; met = before.met }), never)
+  pub over : (m : Buffered R StdPolicy) (d : Chunking W) (before : EncodesEach remaining stretch s b m d) (e : Error)
+      → error_kind e ≡ Other → 2 ^ 64 ≤ length before.payload + 1 → EncodesAll remaining stretch s b (Err (Io e)) m d
+  over m d before e other large =
+      (before.payload, before.went, record { other = other; large = large; met = before.met })

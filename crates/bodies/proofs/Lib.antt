@@ -3,4 +3,5 @@ pub mod Reading
 pub mod Moving
 pub mod DecodeRuns
 pub mod Encoding
+pub mod EncodePrompting
 pub mod EncodeRuns

@@ -1,5 +1,5 @@
 -- What pieces of payload come to that are copied one behind the other.
-use Rattle.std.proofs.Common.{◌≡◌, ℕ, ◌+◌, ◌<◌, ◌≤◌, ◌^◌, inl, inr, List, [], ◌++◌, length, take, true, false, Option, Result, Ok, Err, sym, subst, ◌∙◌, arith, append-nil, length-append}
+use Rattle.std.proofs.Common.{◌≡◌, ℕ, ◌+◌, ◌<◌, ◌≤◌, ◌^◌, List, [], ◌++◌, length, take, true, false, Option, Result, Ok, Err, sym, subst, ◌∙◌, arith, append-nil, length-append}
 use Rattle.std.proofs.lemmas.Bool.{true≢false, false≢true}
 use Rattle.std.specs.IoError.{error_kind}
 use Rattle.std.specs.declared.io.Error.{Error}
@@ -17,8 +17,9 @@ use Rattle.chunked.specs.declared.error.ChunkedError.{ChunkedError}
 use Rattle.chunked.specs.declared.error.ChunkedError.TheVariants as NoPayload
 use Rattle.bodies.specs.declared.error.RunError.{RunError}
 use Rattle.bodies.specs.declared.error.RunError.TheVariants.{NotChunked, Truncated, Behind, Read, Write, Io}
-use Rattle.bodies.specs.Decode.{AllSent, IsBodySource, IsPieceTarget, Moves, MovesAll, MovesAndFlushes, MovesEach, ReadsMet, ReadsPiece, of_chunked}
+use Rattle.bodies.specs.Decode.{IsBodySource, IsPieceTarget, Moves, MovesAll, MovesAndFlushes, MovesEach, ReadsMet, ReadsPiece, of_chunked}
 use Rattle.bodies.specs.Ending.{faulted}
+use Rattle.programs.specs.Streams.{AllSent}
 use Rattle.programs.specs.StreamsLaws.{ReadGaveUp-after, MetInterrupts-none, MetNoFault-joins, MetNoFault-none}
 
 -- so many bytes went over

@@ -1,17 +1,17 @@
 -- What a run does that words ask for.
 use Rattle.std.specs.Prelude.{◌≡◌, ℕ, List, [], ◌∷◌, codes, Result}
-use Rattle.std.specs.declared.io.Error.{Error}
 use Rattle.buffer_redux.specs.StreamLog.{StreamLog}
 use Rattle.chunked.specs.declared.limits.Limits.{Limits}
-use Rattle.programs.specs.Ending as usual
-use Rattle.programs.specs.declared.ending.Ending.{Ending as Usually}
 use Rattle.programs.specs.declared.ending.Ending.TheVariants.{Usage}
 use Rattle.bodies.specs.declared.ending.Ending.{Ending}
 use Rattle.bodies.specs.declared.ending.Ending.TheVariants.{Usual}
 use Rattle.bodies.specs.declared.error.RunError.{RunError}
 use Rattle.bodies.specs.Decode.{DecodeRan}
 use Rattle.bodies.specs.Encode.{EncodeRan}
+use Rattle.bodies.specs.Encode as encoded
 use Rattle.bodies.specs.Ending.{EndsAs}
+use Rattle.programs.specs.Prompt.{HoldsNothingBack}
+use Rattle.programs.specs.Streams.{EndsOnce}
 
 -- there is one word, which is `decode`, or `encode`
 abbrev pub AskToDecode : List (List ℕ) → Type 0
@@ -32,11 +32,11 @@ pub record DecodedAs (ending : Ending) (read read' written written' : StreamLog)
 
 -- a payload was made a body, and the run ended so
 pub record EncodedAs (ending : Ending) (read read' written written' : StreamLog) : Type 0 where
-  pub answer : Result (Unit {0}) Error
+  pub answer : Result (Unit {0}) RunError
   pub ran : EncodeRan read read' written written' answer
-  pub why : Usually
-  pub ends : usual.EndsAs answer why
-  pub ending_is : ending ≡ Usual why
+  pub prompt : HoldsNothingBack encoded.IsDue read read' written written'
+  pub once : EndsOnce read.reads read'.reads
+  pub ends : EndsAs answer ending
 
 -- what a run did that these words asked for, and that ended so; other words call no stream
 pub record RunDid (words : List (List ℕ)) (ending : Ending) (read read' written written' : StreamLog) : Type 0 where

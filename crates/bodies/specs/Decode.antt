@@ -1,6 +1,5 @@
 -- What a run of `decode` moves from a reader to a writer.
 use Rattle.std.specs.Prelude.{◌≡◌, ℕ, ◌-◌, ◌^◌, ◌<◌, ◌⊎◌, List, [], ◌∷◌, ◌++◌, length, min, Result, Ok, Err, Option}
-use Rattle.std.specs.declared.io.Error.{Error}
 use Rattle.buffer_redux.specs.Block.{Plain}
 use Rattle.buffer_redux.specs.BufReader.{RanDry, ReadsAlong}
 use Rattle.buffer_redux.specs.BufWriter.{WritesInOrder}
@@ -21,7 +20,7 @@ use Rattle.chunked.specs.declared.place.Place.{Place}
 use Rattle.chunked.specs.declared.place.Place.TheVariants.{Line}
 use Rattle.bodies.specs.declared.error.RunError.{RunError}
 use Rattle.bodies.specs.declared.error.RunError.TheVariants.{NotChunked, Truncated, Behind, Read, Write, Io}
-use Rattle.programs.specs.Streams.{MetNoFault, ReadGaveUp, ReadFailed, SendFailed, OverCount, BufferRefused, GaveNothing, AllFlushed}
+use Rattle.programs.specs.Streams.{MetNoFault, ReadGaveUp, ReadFailed, SendFailed, OverCount, BufferRefused, GaveNothing, AllFlushed, AllSent}
 
 -- why a run failed in which there was no further payload
 abbrev pub of_chunked : ChunkedError → RunError
@@ -113,11 +112,6 @@ MovesAll remaining s u (Err (Write e)) t v =
 MovesAll remaining s u (Err (Io e)) t v =
     (first : MovesFirst remaining s u t v) × OverCount e (length first.payload) s.reader.log t.reader.log u.log v.log
 
--- all that was taken in was received and flushed
-pub record AllSent {W : Type 0} (v : Buffered W StdPolicy) : Type 0 where
-  pub empty : v.block.bytes ≡ []
-  pub flushed : AllFlushed v.log
-
 -- what they did, and then a flush where no stream failed
 abbrev pub MovesAndFlushes : {R W : Type 0} → (R → Option (List ℕ)) → Dechunking R StdPolicy → Buffered W StdPolicy
     → Result (Unit {0}) RunError → Dechunking R StdPolicy → Buffered W StdPolicy → Type 0
@@ -152,13 +146,11 @@ pub record ExpectsEnd {R : Type 0} (remaining : R → Option (List ℕ)) (s : Bu
 abbrev pub counted : List ℕ → ℕ
 counted bytes = min (length bytes) (2 ^ 64 - 1)
 
--- what was given is what was taken of it and then the rest; what was received is what was sent, which the writer has flushed;
--- and neither stream failed
+-- what was given is what was taken of it and then the rest; what was received is what was sent, which the writer has flushed
 pub record Sent (read read' written written' : StreamLog) (taken sent rest : List ℕ) : Type 0 where
   pub given : read'.reads.given ≡ read.reads.given ++ (taken ++ rest)
   pub received : written'.writes.received ≡ written.writes.received ++ sent
   pub flushed : AllFlushed written'
-  pub met : MetNoFault read read' written written'
 
 -- what was given is a body, and then the rest; what was received is its payload
 pub record Decoded (limits : Limits) (read read' written written' : StreamLog) (rest : List ℕ) : Type 0 where
@@ -212,14 +204,15 @@ pub record DecodeFailed (limits : Limits) (Caused : ℕ → Type 0) (read read' 
 -- what a run of `decode` did: at Ok all that was given is a body
 abbrev pub DecodeRan : Limits → StreamLog → StreamLog → StreamLog → StreamLog → Result (Unit {0}) RunError → Type 0
 DecodeRan limits read read' written written' (Ok _) =
-    Decoded limits read read' written written' [] × GaveNothing read read'
+    Decoded limits read read' written written' [] × GaveNothing read read' × MetNoFault read read' written written'
 DecodeRan limits read read' written written' (Err (NotChunked why right)) =
-    DecodedToWrong limits read read' written written' why right
+    DecodedToWrong limits read read' written written' why right × MetNoFault read read' written written'
 DecodeRan limits read read' written written' (Err (Truncated right)) =
-    DecodedToEnd limits read read' written written' right
+    DecodedToEnd limits read read' written written' right × MetNoFault read read' written written'
 DecodeRan limits read read' written written' (Err (Behind right)) =
     (rest : List ℕ) × (0 < length rest)
     × ((done : Decoded limits read read' written written' rest) × (right ≡ counted done.body))
+    × MetNoFault read read' written written'
 DecodeRan limits read read' written written' (Err (Read e)) =
     DecodeFailed limits (λ _. ReadFailed e read read' written written') read read' written written'
 DecodeRan limits read read' written written' (Err (Write e)) =

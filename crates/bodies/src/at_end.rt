@@ -1,6 +1,6 @@
 //! Whether more follows in a stream.
-ghost use Rattle.std.specs.Prelude.{◌≡◌, ◌<◌, [], ◌∷◌, ◌++◌, length, true, false, Ok, IfErr, OnOk};
-ghost use Rattle.bodies.specs.AtEnd.{EndsOnce};
+ghost use Rattle.std.specs.Prelude.{◌≡◌, ◌<◌, [], ◌∷◌, ◌++◌, length, true, false, Ok, IfErr, OnOk, OnErr};
+ghost use Rattle.bodies.specs.AtEnd.{Asks, AsksOnce, EndsOnce};
 ghost use Rattle.buffer_redux.specs.BufReader.{ReadsAlong};
 ghost use Rattle.buffer_redux.specs.Faults.{OnlyInterrupts};
 ghost use Rattle.buffer_redux.specs.Policy.{std_read_rules};
@@ -20,7 +20,9 @@ pub fn is_at_end<R: TellRead>(source: &mut BufReader<R>) -> io::Result<bool>
     ensures met { OnOk result (OnlyInterrupts source.old.log.reads.faults source.new.log.reads.faults) }
     ensures fault { IfErr result (λ e. ReadGaveUp e source.old.log.reads.faults source.new.log.reads.faults) }
     ensures none { result ≡ Ok true → source.new.block.bytes ≡ [] }
+    ensures failed { OnErr result (source.new.block.bytes ≡ []) }
     ensures once { EndsOnce source.old result source.new }
+    ensures asks { Asks source.old source.new }
     ensures more { result ≡ Ok false → 0 < length source.new.block.bytes }
 {
     let mut row = 0;
@@ -44,7 +46,9 @@ fn try_at_end<R: TellRead>(source: &mut BufReader<R>) -> io::Result<bool>
     ensures no_fault { OnOk result (source.new.log.reads.faults ≡ source.old.log.reads.faults) }
     ensures fault { IfErr result (λ e. source.new.log.reads.faults ≡ source.old.log.reads.faults ++ e ∷ []) }
     ensures none { result ≡ Ok true → source.new.block.bytes ≡ [] }
+    ensures failed { OnErr result (source.new.block.bytes ≡ []) }
     ensures once { EndsOnce source.old result source.new }
+    ensures asks { AsksOnce source.old source.new }
     ensures more { result ≡ Ok false → 0 < length source.new.block.bytes }
 {
     Ok(source.fill_buf()?.is_empty())

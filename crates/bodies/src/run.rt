@@ -33,8 +33,7 @@ pub fn run_asked<R: TellRead, W: TellWrite>(
         }
         Some("encode") => {
             let (answer, reader, writer) = encode(alloc, reader, writer);
-            let ending = programs::Ending::of(&answer);
-            (Ending::Usual(ending), reader, writer)
+            (Ending::of(&answer), reader, writer)
         }
         _ => (Ending::Usual(programs::Ending::Usage), reader, writer),
     }

@@ -1,11 +1,11 @@
 -- How runs that hold nothing back go on.
-use Rattle.std.proofs.Common.{◌≡◌, ℕ, ◌⊎◌, inl, inr, List, ◌++◌, refl, sym, subst, ◌∙◌}
+use Rattle.std.proofs.Common.{◌≡◌, ℕ, ◌⊎◌, inl, inr, List, ◌++◌, length, refl, sym, ap, subst, ◌∙◌, arith, append_assoc, length-append}
 use Rattle.buffer_redux.specs.BufWriter.{WritesInOrder}
 use Rattle.buffer_redux.specs.Buffered.{Buffered}
 use Rattle.buffer_redux.specs.GoesOn.{GoesOn, GoesOn-none, GoesOn-joins}
 use Rattle.buffer_redux.specs.LogGrows.{WriteLogGrows}
 use Rattle.buffer_redux.specs.StreamLog.{StreamLog, WriteLog}
-use Rattle.programs.specs.Prompt.{HoldsNothingBack, WasSent, WritesOn}
+use Rattle.programs.specs.Prompt.{AskedLast, AsksGive, HoldsNothingBack, WasSent, WritesOn}
 
 pub WritesOn-none : (l : WriteLog) → WritesOn l l
 WritesOn-none l = record { received = GoesOn-none l.received; flushed = inl refl }
@@ -55,3 +55,19 @@ HoldsNothingBack-on IsDue a b c k l m held same more = elim held [
     sent = WasSent-on (k.writes.received ++ sent.due) l.writes m.writes sent.sent more;
   }))
 ]
+
+-- bytes had come, each ask gave a byte or failed, and then it was asked again
+pub AskedLast-after : (a b c : StreamLog) (had came last : List ℕ) → b.reads.given ≡ a.reads.given ++ had → AsksGive a b
+    → AskedLast came last b c → AskedLast (had ++ came) last a c
+AskedLast-after a b c had came last given give asked = record {
+  given = asked.given ∙ ap (λ l. l ++ (came ++ last)) given ∙ append_assoc a.reads.given had (came ++ last)
+      ∙ ap (λ l. a.reads.given ++ l) (sym (append_assoc had came last));
+  asks = omega (
+    arith,
+    asked.asks,
+    give,
+    ap length given,
+    length-append a.reads.given had,
+    length-append had came,
+  );
+}

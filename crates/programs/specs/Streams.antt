@@ -4,6 +4,7 @@ use Rattle.std.specs.IoError.{error_kind}
 use Rattle.std.specs.declared.io.Error.{Error}
 use Rattle.std.specs.declared.io.ErrorKind.TheVariants.{Other, OutOfMemory}
 use Rattle.buffer_redux.specs.Block.{Block}
+use Rattle.buffer_redux.specs.Buffered.{Buffered}
 use Rattle.buffer_redux.specs.Faults.{IsInterrupt, OnlyInterrupts, FaultAfterInterrupts, MetInterrupts, SendErrorCaused}
 use Rattle.buffer_redux.specs.StreamLog.{StreamLog, ReadLog}
 
@@ -27,21 +28,11 @@ pub record SendFailed (e : Error) (read read' written written' : StreamLog) : Ty
   pub reader : OnlyInterrupts read.reads.faults read'.reads.faults
   pub writer : SendErrorCaused written.writes written'.writes e
 
--- one of the streams failed with this error
-abbrev pub EitherFailed : Error → StreamLog → StreamLog → StreamLog → StreamLog → Type 0
-EitherFailed e read read' written written' =
-    ReadFailed e read read' written written' ⊎ SendFailed e read read' written written'
-
 -- as many pieces went over as the run counts
 pub record OverCount (e : Error) (count : ℕ) (read read' written written' : StreamLog) : Type 0 where
   pub other : error_kind e ≡ Other
   pub large : 2 ^ 64 ≤ count + 1
   pub met : MetNoFault read read' written written'
-
--- a run of so many pieces failed with this error: a stream did, or the count ended
-abbrev pub Stopped : Error → ℕ → StreamLog → StreamLog → StreamLog → StreamLog → Type 0
-Stopped e count read read' written written' =
-    EitherFailed e read read' written written' ⊎ OverCount e count read read' written written'
 
 -- a buffer that was just made, of this capacity at least
 pub record IsFresh (cap : ℕ) (b : Block) : Type 0 where
@@ -65,3 +56,8 @@ EndsOnce old new = new.zero_reads ≤ old.zero_reads + 1
 -- what was received has been flushed
 abbrev pub AllFlushed : StreamLog → Type 0
 AllFlushed written = written.writes.flushed ≡ written.writes.received
+
+-- all that was taken in was received and flushed
+pub record AllSent {W P : Type 0} (v : Buffered W P) : Type 0 where
+  pub empty : v.block.bytes ≡ []
+  pub flushed : AllFlushed v.log

@@ -4,7 +4,7 @@ use Rattle.std.proofs.lemmas.List.Elements.{All-push}
 use Rattle.std.specs.declared.io.Error.{Error}
 use Rattle.buffer_redux.specs.Faults.{IsInterrupt, OnlyInterrupts, OnlyInterrupts-none, OnlyInterrupts-joins, FaultAfterInterrupts-after, MetInterrupts, MetInterrupts-joins, OnlyInterrupted-none, SendErrorCaused-after}
 use Rattle.buffer_redux.specs.StreamLog.{StreamLog, WriteLog}
-use Rattle.programs.specs.Streams.{MetNoFault, EitherFailed, ReadGaveUp}
+use Rattle.programs.specs.Streams.{MetNoFault, ReadFailed, ReadGaveUp, SendFailed}
 
 pub MetInterrupts-none : (l : WriteLog) → MetInterrupts l l
 MetInterrupts-none l = record { interrupts = []; only = OnlyInterrupted-none l }
@@ -52,13 +52,16 @@ ReadGaveUp-after a b c e p q = record {
   often = λ is. omega (arith, q.often is, ap length p.faults, length-append a p.interrupts);
 }
 
-pub EitherFailed-after : (e : Error) (a b c k l m : StreamLog) → MetNoFault a b k l → EitherFailed e b c l m
-    → EitherFailed e a c k m
-EitherFailed-after e a b c k l m p (inl q) = inl (record {
+pub ReadFailed-after : (e : Error) (a b c k l m : StreamLog) → MetNoFault a b k l → ReadFailed e b c l m
+    → ReadFailed e a c k m
+ReadFailed-after e a b c k l m p q = record {
   reader = ReadGaveUp-after a.reads.faults b.reads.faults c.reads.faults e p.reader q.reader;
   writer = MetInterrupts-joins k.writes l.writes m.writes p.writer q.writer;
-})
-EitherFailed-after e a b c k l m p (inr q) = inr (record {
+}
+
+pub SendFailed-after : (e : Error) (a b c k l m : StreamLog) → MetNoFault a b k l → SendFailed e b c l m
+    → SendFailed e a c k m
+SendFailed-after e a b c k l m p q = record {
   reader = OnlyInterrupts-joins a.reads.faults b.reads.faults c.reads.faults p.reader q.reader;
   writer = SendErrorCaused-after k.writes l.writes m.writes e p.writer q.writer;
-})
+}

@@ -1,4 +1,4 @@
-use Rattle.std.proofs.Common.{◌≡◌, ◌+◌, ◌-◌, ◌≤◌, [], length}
+use Rattle.std.proofs.Common.{◌≡◌, ◌+◌, ◌-◌, ◌≤◌, ◌⊎◌, [], length}
 use Rattle.buffer_redux.specs.BufReader.{ReadsAlong}
 use Rattle.buffer_redux.specs.Faults.{OnlyInterrupts}
 use Rattle.buffer_redux.specs.Policy.{std_read_rules}
@@ -10,6 +10,9 @@ invariant-tries g l = record {
   met : OnlyInterrupts l.fn.source.log.reads.faults l.source.log.reads.faults;
   row : length l.fn.source.log.reads.faults + l.row ≤ length l.source.log.reads.faults;
   few : l.row ≤ 64;
+  asks : l.source.log.reads.asks + length l.fn.source.log.reads.faults
+      ≤ l.fn.source.log.reads.asks + length l.source.log.reads.faults;
+  over : (l.source.log ≡ l.fn.source.log) ⊎ (l.fn.source.block.bytes ≡ []);
   gave : l.source.log.reads.zero_reads ≡ l.fn.source.log.reads.zero_reads;
 }
 

@@ -1,6 +1,6 @@
 use Rattle.std.proofs.Common.{length, ap, ◌∙◌, ◌==◌}
 use Rattle.std.proofs.lemmas.Result.{err_from_is_err_and}
-use Rattle.bodies.proofs.Asking.{ends_once, none_before_fault}
+use Rattle.bodies.proofs.Asking.{asks_once, ends_once, none_after_fault, none_before_fault}
 use Rattle.bodies.proofs.at_end.try_at_end.Goals as goal
 
 pub returns-in_err-fill_buf-clause-once : goal.returns-in_err-fill_buf-clause-once
@@ -14,3 +14,19 @@ returns-clause-once g c =
     let filled = rw c.in_ok-fill_buf.was at c.fill_buf.follows.holds-at-none in
     ends_once _ _ _ filled.fills c.is_empty.result (c.is_empty.ensures ∙ ap (λ l. length l == 0) filled.shown)
     c.requires.capacity
+
+pub returns-in_err-fill_buf-clause-asks : goal.returns-in_err-fill_buf-clause-asks
+returns-in_err-fill_buf-clause-asks g c =
+    let filled = rw c.in_err-fill_buf.was at c.fill_buf.follows.holds-at-none in
+    asks_once _ _ _ filled.fills
+
+pub returns-in_err-fill_buf-clause-failed : goal.returns-in_err-fill_buf-clause-failed
+returns-in_err-fill_buf-clause-failed g c =
+    let p = err_from_is_err_and c.from_residual.result c.from_residual.ensures.1 in
+    let filled = rw c.in_err-fill_buf.was at c.fill_buf.follows.holds-at-none in
+    rw p.1 (none_after_fault _ _ _ filled.fills)
+
+pub returns-clause-asks : goal.returns-clause-asks
+returns-clause-asks g c =
+    let filled = rw c.in_ok-fill_buf.was at c.fill_buf.follows.holds-at-none in
+    asks_once _ _ _ filled.fills

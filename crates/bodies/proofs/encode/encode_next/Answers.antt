@@ -1,38 +1,69 @@
-use Rattle.std.proofs.Common.{◌≤◌, length, Ok, ap, subst}
+use Rattle.std.proofs.Common.{◌++◌, inl, refl, sym, subst, ◌∙◌}
 use Rattle.std.proofs.lemmas.Result.{err_from_is_err_and}
-use Rattle.buffer_redux.specs.Policy.{std_read_rules}
-use Rattle.buffer_redux.specs.ReaderLaws.{ReaderConsumes-along}
-use Rattle.chunked.specs.Chunking.{WritesChunk}
-use Rattle.bodies.specs.AtEnd.{EndsOnce}
-use Rattle.bodies.proofs.Encoding.{at_end, not_read, written}
+use Rattle.buffer_redux.specs.GoesOn.{GoesOn, GoesOn-none}
+use Rattle.programs.specs.Prompt.{WasSent}
+use Rattle.programs.specs.PromptLaws.{WasSent-on, WritesOn-grows, WritesOn-joins}
+use Rattle.bodies.proofs.EncodePrompting.{asks_sent, not_asked, not_empty}
+use Rattle.bodies.proofs.Encoding.{flushed_well, not_flushed, then_next}
 use Rattle.bodies.proofs.encode.encode_next.Goals as goal
 
-pub returns-in_err-is_at_end : goal.returns-in_err-is_at_end
-returns-in_err-is_at_end g c =
+pub returns-then-not-is_empty-clause-encodes : goal.returns-then-not-is_empty-clause-encodes
+returns-then-not-is_empty-clause-encodes g c = c.chunk_next.ensures.encodes
+
+pub returns-then-not-is_empty-clause-prompt : goal.returns-then-not-is_empty-clause-prompt
+returns-then-not-is_empty-clause-prompt g c =
+    inl (not_asked c.args.source.now c.chunk_next.new.source c.buffer.result.now c.buffer.ensures.value
+    (sym c.if-not-is_empty.true ∙ c.is_empty.ensures) c.chunk_next.ensures.asks)
+
+pub returns-then-not-is_empty-clause-writes : goal.returns-then-not-is_empty-clause-writes
+returns-then-not-is_empty-clause-writes g c = c.chunk_next.ensures.writes
+
+pub returns-in_err-flush-clause-encodes : goal.returns-in_err-flush-clause-encodes
+returns-in_err-flush-clause-encodes g c =
     let p = err_from_is_err_and c.from_residual.result c.from_residual.ensures.1 in
-    let asked = c.in_err-is_at_end.ensures in
+    let f = c.in_err-flush.ensures in
     rw (p.1, p.2)
-    (not_read g.R.TellRead.remaining g.W.TellWrite.stretch g.met.W.TellWrite.stretch_none g.met.W.TellWrite.stretch_joins
-    _ _ c.requires.whole _ asked.along _ asked.fault asked.once)
+    (not_flushed g.R.TellRead.remaining g.W.TellWrite.stretch g.met.W.TellWrite.stretch_none g.met.W.TellWrite.stretch_joins
+    c.args.source.now c.args.body.now c.flush.new.self f.went f.whole c.in_err-flush.field-0.0 f.flushed.caused)
 
-pub returns-then-branch : goal.returns-then-branch
-returns-then-branch g c =
-    let asked = c.in_ok-is_at_end.ensures in
-    at_end g.R.TellRead.remaining g.W.TellWrite.stretch g.met.W.TellWrite.stretch_none g.met.W.TellWrite.stretch_joins
-    _ _ c.requires.whole _ asked.along asked.met (asked.none (ap Ok c.if-branch.true))
-    (subst (λ b. EndsOnce c.args.source.now (Ok b) c.is_at_end.new.source) c.if-branch.true asked.once)
+pub returns-in_err-flush-clause-prompt : goal.returns-in_err-flush-clause-prompt
+returns-in_err-flush-clause-prompt g c = inl refl
 
-pub returns : goal.returns
-returns g c =
-    let asked = c.in_ok-is_at_end.ensures in
-    let m = c.is_at_end.new.source in
-    let wrote = c.in_ok-count.ensures in
-    let count = c.in_ok-count.count in
-    written g.R.TellRead.remaining g.W.TellWrite.stretch g.met.W.TellWrite.stretch_none g.met.W.TellWrite.stretch_joins
-    _ _ c.requires.whole _ asked.along asked.met g.W.Tell.log (asked.more (ap Ok c.if-branch.false)) _ count
-    (subst (λ l. count ≤ length l) c.buffer.ensures.value wrote.bound)
-    (subst (λ l. WritesChunk g.W.Tell.log g.W.TellWrite.stretch c.args.body.now l (Ok count) c.write.new.self)
-    c.buffer.ensures.value wrote.writes)
-    _ (ReaderConsumes-along g.R.TellRead.remaining std_read_rules m count c.consume.new.self c.consume.ensures.inner
-    c.consume.ensures.consumed) c.consume.ensures.consumed.told
-    (subst (λ b. EndsOnce c.args.source.now (Ok b) m) c.if-branch.false asked.once)
+pub returns-in_err-flush-clause-writes : goal.returns-in_err-flush-clause-writes
+returns-in_err-flush-clause-writes g c = WritesOn-grows _ _ c.in_err-flush.ensures.flushed.grows
+
+pub returns-clause-encodes : goal.returns-clause-encodes
+returns-clause-encodes g c =
+    let f = c.in_ok-flush.ensures in
+    then_next g.R.TellRead.remaining g.W.TellWrite.stretch g.met.W.TellWrite.stretch_none g.met.W.TellWrite.stretch_joins
+    c.args.source.now c.args.body.now c.args.source.now c.chunk_next-2.new.source c.flush.new.self c.chunk_next-2.new.body
+    (flushed_well g.R.TellRead.remaining g.W.TellWrite.stretch g.met.W.TellWrite.stretch_none g.met.W.TellWrite.stretch_joins
+    c.args.source.now c.args.body.now c.flush.new.self f.went f.whole f.flushed.ok.met) refl c.chunk_next-2.result
+    c.chunk_next-2.ensures.encodes
+
+pub returns-clause-prompt : goal.returns-clause-prompt
+returns-clause-prompt g c =
+    let ok = c.in_ok-flush.ensures.flushed.ok in
+    let u = c.args.body.now.writer in
+    let w = c.flush.new.self.writer in
+    let sent : WasSent (u.log.writes.received ++ u.block.bytes) w.log.writes = record {
+      received = subst (λ l. GoesOn l w.log.writes.received) ok.received (GoesOn-none w.log.writes.received);
+      flushed = subst (λ l. GoesOn l w.log.writes.flushed) (ok.flushed ∙ ok.received)
+          (GoesOn-none w.log.writes.flushed);
+    } in
+    asks_sent c.args.source.now c.chunk_next-2.new.source c.args.body.now c.chunk_next-2.new.body c.chunk_next-2.ensures.asks
+    (WasSent-on (u.log.writes.received ++ u.block.bytes) w.log.writes c.chunk_next-2.new.body.writer.log.writes sent
+    c.chunk_next-2.ensures.writes)
+
+pub returns-clause-writes : goal.returns-clause-writes
+returns-clause-writes g c =
+    WritesOn-joins _ c.flush.new.self.writer.log.writes _ (WritesOn-grows _ _ c.in_ok-flush.ensures.flushed.grows)
+    c.chunk_next-2.ensures.writes
+
+pub chunk_next-requires-2-clause-sent : goal.chunk_next-requires-2-clause-sent
+chunk_next-requires-2-clause-sent g c = λ _.
+    let ok = c.in_ok-flush.ensures.flushed.ok in record { empty = ok.empty; flushed = ok.flushed }
+
+pub chunk_next-requires-clause-sent : goal.chunk_next-requires-clause-sent
+chunk_next-requires-clause-sent g c = λ none. absurd
+    (not_empty c.args.source.now c.buffer.result.now c.buffer.ensures.value (sym c.if-not-is_empty.true ∙ c.is_empty.ensures) none)
