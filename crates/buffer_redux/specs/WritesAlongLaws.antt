@@ -8,7 +8,7 @@ use Rattle.std.specs.IoError.{error_kind}
 use Rattle.std.specs.declared.io.Error.{Error}
 use Rattle.redux_tell.specs.Faults.{FaultedAfter, IsInterrupt, IsMemory, SendErrorCaused, TookNothing}
 use Rattle.redux_tell.specs.LogGrows.{WriteLogGrows, WriteLogGrows-none, WriteLogGrows-joins, WritesGoOn}
-use Rattle.redux_tell.specs.Memory.{fault-memory, writer-takes_some, writer_log}
+use Rattle.redux_tell.specs.Memory.{fault-memory, send-memory, writer-takes_some, writer_log}
 use Rattle.redux_tell.specs.StreamLog.{StreamLog, WriteLog, portion}
 use Rattle.redux_tell.specs.Told.{ToldWrites, told_log, told_stream}
 use Rattle.redux_tell.specs.declared.tell.memory.MemoryWriter.{MemoryWriter}
@@ -91,6 +91,12 @@ WriterStopped-memory w old e (inr (inr late)) =
     let memory = fault-memory w (old.faults ++ was.before) was.interrupt was.after was.faults in
     let interrupt = was.is in
     absurd (cc)
+
+-- and so did its flush
+pub WasFlushed-memory : {P : Type 0} (stretch : MemoryWriter → MemoryWriter → Type 0) (s t : Buffered MemoryWriter P)
+    (e : Error) → WasFlushed writer_log stretch s (Err e) t → IsMemory e
+WasFlushed-memory stretch s t e f = send-memory t.inner s.log.writes e
+    (subst (λ l. SendErrorCaused s.log.writes l.writes e) f.went.told_after f.caused)
 
 -- the same list is no longer, and the same count no larger
 nothing_failed : (old new : WriteLog) → new ≡ old → WriterFailed old new → ⊥
