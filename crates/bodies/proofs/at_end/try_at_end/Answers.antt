@@ -1,13 +1,15 @@
 use Rattle.std.proofs.Common.{length, ap, ◌∙◌, ◌==◌}
 use Rattle.std.proofs.lemmas.Result.{err_from_is_err_and}
-use Rattle.bodies.proofs.Asking.{asks_once, ends_once, none_after_fault, none_before_fault}
+use Rattle.buffer_redux.specs.EmptyReads.{ReadsWhenEmpty-std, none_before_fault}
+use Rattle.buffer_redux.specs.Policy.{std_read_rules}
+use Rattle.bodies.proofs.Asking.{asks_once, ends_once, none_after_fault}
 use Rattle.bodies.proofs.at_end.try_at_end.Goals as goal
 
 pub returns-in_err-fill_buf-clause-once : goal.returns-in_err-fill_buf-clause-once
 returns-in_err-fill_buf-clause-once g c =
     let p = err_from_is_err_and c.from_residual.result c.from_residual.ensures.1 in
     let filled = rw c.in_err-fill_buf.was at c.fill_buf.follows.holds-at-none in
-    rw p.1 (none_before_fault _ _ _ filled.fills)
+    rw p.1 (none_before_fault std_read_rules ReadsWhenEmpty-std _ _ _ filled.fills.filled)
 
 pub returns-clause-once : goal.returns-clause-once
 returns-clause-once g c =
