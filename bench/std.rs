@@ -1,5 +1,7 @@
 //! The cases of `crates/bench` over the types of Rust's std: `std SHAPE CAPACITY PIECE TOTAL`, all three in bytes. It prints
 //! how many bytes went over.
+mod calls;
+
 use std::hint::black_box;
 use std::io::{self, BufRead, BufReader, BufWriter, LineWriter, Read, Write};
 
@@ -353,7 +355,7 @@ fn measured(shape: &str, capacity: usize, piece: usize, bytes: &[u8]) -> io::Res
         "bodies" => body_to_end(Chunks { inner: reader(), line: Vec::new(), left: 0, first: true }),
         "write_bodies" => write_body(writer(capacity), &bytes[..piece], bytes.len() as u64),
         "write_frames" => write_frames(writer(capacity), &bytes[..piece], bytes.len() as u64),
-        _ => Ok(0),
+        _ => calls::calls(shape, capacity, piece, bytes),
     }
 }
 
@@ -404,6 +406,7 @@ fn main() -> io::Result<()> {
         "next" | "next_trimmed" => text(capacity, total),
         "frames" => framed(piece, total),
         "bodies" => chunked_body(piece, total),
+        shape if calls::takes_lines(shape) => text(piece, total),
         _ => noise(total),
     };
     let bytes = black_box(bytes);

@@ -1,11 +1,11 @@
 # sh bench/table.sh
 #
-# Proves and builds crates/bench, builds bench/std.rs, and prints five tables in Markdown. The first says how many instructions
+# Proves and builds crates/bench, builds bench/std.rs, and prints six tables in Markdown. The first says how many instructions
 # each case takes for a byte that goes over, as callgrind counts them, whatever else the machine does; the second the same
-# where a policy looks ahead, for when a ring pays; the third where lines are read, the fourth frames, the fifth chunked bodies. It needs valgrind; the
-# columns of Rust's std need rustc. A case is one line of `cases` below; one of a new shape is a function in
-# crates/bench/src/cases.rt and one in bench/std.rs too. `sh bench/table.sh pays` prints the second table alone, `lines` in its
-# place the third, `frames` the fourth, `bodies` the fifth.
+# where a policy looks ahead, for when a ring pays; the third where lines are read, the fourth frames, the fifth chunked bodies,
+# the sixth calls of std's types. It needs valgrind; the columns of Rust's std need rustc. A case is one line of `cases` below;
+# one of a new shape is a function in crates/bench/src/cases.rt and one in bench/std.rs too. `sh bench/table.sh pays` prints the
+# second table alone, `lines` in its place the third, `frames` the fourth, `bodies` the fifth, `std` the sixth.
 set -eu
 
 cases='read in pieces of 64|read 8192 64 8388608
@@ -49,6 +49,20 @@ payloads='64
 chunks='64
 1000
 65536'
+
+# Calls of std's types through 8192 bytes: lines, single bytes, and turns that begin with a fill and go on by 64.
+calls='read_until, lines of 80|read_until 80 8388608
+read_until, lines of 10|read_until 10 8388608
+skip_until, lines of 80|skip_until 80 8388608
+skip_until, lines of 10|skip_until 10 8388608
+read_line, lines of 80|read_line 80 8388608
+read_line, lines of 10|read_line 10 8388608
+lines, of 80|lines_of 80 8388608
+split, lines of 80|split 80 8388608
+bytes|bytes 1 1048576
+a fill and seek_relative, a turn|onward 64 8388608
+a fill, stream_position and consume, a turn|positions 64 8388608
+write_all of a byte|write_bytes 1 1048576'
 
 here=$(cd "$(dirname "$0")" && pwd)
 if ! command -v valgrind > /dev/null; then
@@ -155,11 +169,31 @@ print_bodies() {
     done
 }
 
+# The calls of std's types.
+print_calls() {
+    echo "| Instructions for a byte, or a turn | plain | the kit's std | Rust's std |"
+    echo '|---|---|---|---|'
+    echo "$calls" | while IFS='|' read -r name words; do
+        # The words are split on purpose.
+        set -- $words
+        shape=$1
+        shift
+        row="| $name | $(count "$bench" "$shape" plain 8192 "$@") | $(count "$bench" "$shape" std 8192 "$@") |"
+        if [ -n "$rust" ]; then
+            row="$row $(count "$rust" "$shape" 8192 "$@") |"
+        else
+            row="$row – |"
+        fi
+        echo "$row"
+    done
+}
+
 case "${1-}" in
     pays) print_pays && exit ;;
     lines) print_lines && exit ;;
     frames) print_frames && exit ;;
     bodies) print_bodies && exit ;;
+    std) print_calls && exit ;;
 esac
 
 echo "| Instructions a byte | plain | ring | the kit's std | Rust's std |"
@@ -192,3 +226,6 @@ print_frames
 
 echo
 print_bodies
+
+echo
+print_calls

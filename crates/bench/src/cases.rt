@@ -1,5 +1,6 @@
 //! What is measured, and over which types.
 use crate::bodies::{bodies, write_bodies};
+use crate::calls::{Call, calls};
 use crate::frames::{frames, write_frames};
 use crate::lines::{lines_to_end, next_to_end, trimmed_to_end, until_end};
 use crate::makers::{
@@ -59,10 +60,12 @@ pub enum Shape {
     Bodies,
     /// Writes chunks of the same payload again and again, ends the body, and flushes.
     WriteBodies,
+    /// One of the calls that std's types have.
+    Call(Call),
 }
 
 /// Each shape by its name, with the capacity and the piece of a case of it on few bytes.
-pub static SHAPES: [(&str, Shape, usize, usize); 21] = [
+pub static SHAPES: [(&str, Shape, usize, usize); 30] = [
     ("read", Shape::Read, 8192, 64),
     ("fill", Shape::Fill, 8192, 100),
     ("look", Shape::Look, 16384, 100),
@@ -84,6 +87,15 @@ pub static SHAPES: [(&str, Shape, usize, usize); 21] = [
     ("write_frames", Shape::WriteFrames, 8192, 64),
     ("bodies", Shape::Bodies, 8192, 1000),
     ("write_bodies", Shape::WriteBodies, 8192, 1000),
+    ("read_until", Shape::Call(Call::ReadUntil), 8192, 80),
+    ("skip_until", Shape::Call(Call::SkipUntil), 8192, 80),
+    ("read_line", Shape::Call(Call::ReadLine), 8192, 80),
+    ("lines_of", Shape::Call(Call::LinesOf), 8192, 80),
+    ("split", Shape::Call(Call::Split), 8192, 80),
+    ("bytes", Shape::Call(Call::Bytes), 8192, 1),
+    ("onward", Shape::Call(Call::Onward), 8192, 64),
+    ("positions", Shape::Call(Call::Positions), 8192, 64),
+    ("write_bytes", Shape::Call(Call::WriteBytes), 8192, 1),
 ];
 
 impl Shape {
@@ -149,9 +161,10 @@ pub fn measured(alloc: Global, case: &Case, bytes: &[u8]) -> io::Result<u64> {
     }
 }
 
-// Lines, frames and bodies have no ring.
+// Lines, frames, bodies and calls of std's have no ring.
 fn over_plain(alloc: Global, case: &Case, bytes: &[u8]) -> io::Result<u64> {
     match case.shape {
+        Shape::Call(call) => calls(alloc, case, call, bytes),
         Shape::Next => next_to_end(line_reader(alloc, case, bytes)?),
         Shape::NextTrimmed => trimmed_to_end(line_reader(alloc, case, bytes)?),
         Shape::Frames => frames(alloc, case, bytes),
@@ -204,6 +217,7 @@ fn over_std(alloc: Global, case: &Case, bytes: &[u8]) -> io::Result<u64> {
         Shape::Lines | Shape::FormatLines => {
             writes(case, bytes, std_line_writer(alloc, case.capacity)?)
         }
+        Shape::Call(call) => calls(alloc, case, call, bytes),
         Shape::Copy => std_copies(alloc, case, std_reader(alloc, case.capacity, bytes)?),
         Shape::Next | Shape::NextTrimmed => std_lines(
             alloc,

@@ -3,6 +3,7 @@
 #![tactic(auto)]
 
 mod bodies;
+mod calls;
 mod cases;
 mod frames;
 mod lines;
@@ -36,6 +37,7 @@ fn run(alloc: Global, case: &Case, total: usize) -> io::Result<u64> {
         Shape::Frames => framed(alloc, case.piece, total)?,
         Shape::Bodies => chunked_body(alloc, case.piece, total)?,
         Shape::Lines => text(alloc, case.piece, total)?,
+        Shape::Call(call) if call.takes_lines() => text(alloc, case.piece, total)?,
         _ => noise(alloc, total)?,
     };
     measured(alloc, case, bytes.as_slice())
