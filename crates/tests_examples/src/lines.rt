@@ -1,6 +1,6 @@
 //! Lines, and the reader of lines that README and CALLING show.
-ghost use Rattle.std.specs.Prelude.{◌≡◌, ◌++◌, ◌∷◌, IfOk, List, [], false, length, map, ℕ};
-ghost use Rattle.line_reader.specs.Calls.{Ended, Handed, LinesAlong};
+ghost use Rattle.std.specs.Prelude.{◌≡◌, IfOk, List, length, ℕ};
+ghost use Rattle.line_reader.specs.Runs.{AllRead};
 
 use buffer_redux::tell::{TellRead, Told};
 use line_reader::{LineError, LineReader};
@@ -11,9 +11,8 @@ use std::test::Fail;
 
 /// How many lines are left, up to the end of the stream.
 fn lines_left<R: TellRead>(reader: &mut LineReader<R>) -> Result<u64, LineError>
-    requires between { reader.old.skipping ≡ false }
     ensures counted { IfOk result (λ count. (lines : List (List ℕ)) × (count ≡ length lines)
-        × LinesAlong R.remaining [] reader.old (map Handed lines ++ Ended ∷ []) [] reader.new) }
+        × AllRead R.remaining reader.old lines reader.new) }
 {
     for count in 0..u64::MAX {
         match reader.next()? {

@@ -1,11 +1,11 @@
 use Rattle.std.proofs.Common.{◌∷◌, [], ◌++◌, arith, length-append, refl}
 use Rattle.std.proofs.lemmas.List.{map-append}
-use Rattle.line_reader.specs.CallsLaws.{LinesAlong-joins, LinesAlong-none}
-use Rattle.line_reader.specs.LinesAlongLaws.{NextGoes-along, NextGoes-none, NextGoes-open, NextGoes-some}
+use Rattle.line_reader.specs.LinesAlongLaws.{NextGoes-none, NextGoes-some}
+use Rattle.line_reader.specs.RunsLaws.{NextRuns-more}
 use Rattle.tests_examples.proofs.lines.lines_left.Goals as goal
 
 pub loop-count-init : goal.loop-count-init
-loop-count-init g c = record { lines = []; counted = refl; along = LinesAlong-none _ _; open' = c.requires.between }
+loop-count-init g c = record { lines = []; counted = refl; run = refl }
 
 pub loop-count-preserved : goal.loop-count-preserved
 loop-count-preserved g c =
@@ -15,8 +15,7 @@ loop-count-preserved g c =
     record {
       lines = before.lines ++ c.in-Some.field-0.now ∷ [];
       counted = omega (arith, before.counted, length-append before.lines (c.in-Some.field-0.now ∷ []));
-      along = rw map-append (LinesAlong-joins _ _ _ _ _ _ _ _ _ before.along (NextGoes-along _ _ _ _ before.open' next));
-      open' = NextGoes-open _ _ _ _ before.open' next;
+      run = rw map-append (NextRuns-more _ _ _ _ _ _ before.run next);
     }
 
 pub returns-in-None : goal.returns-in-None
@@ -24,10 +23,4 @@ returns-in-None g c =
     let before = c.loop-count.invariant in
     let next = NextGoes-none _ c.loop-count.reader c.next.follows.lender-at-none _ _ c.in_ok-next.was c.in-None.is
     c.next.follows.holds-at-none in
-    record {
-      counted = (
-        before.lines,
-        before.counted,
-        LinesAlong-joins _ _ _ _ _ _ _ _ _ before.along (NextGoes-along _ _ _ _ before.open' next),
-      );
-    }
+    record { counted = (before.lines, before.counted, NextRuns-more _ _ _ _ _ _ before.run next) }
