@@ -15,7 +15,7 @@ use Rattle.line_reader.specs.NextLine.{AskedOver as AskedOverLine, LinesWent, Ne
 use Rattle.line_reader.specs.declared.error.LineError.TheVariants.{TooLong, Io}
 use Rattle.frames.specs.Pack.{Asks, AskedOver, AsksSent, AsksWhenSent, IsDue, MayAsk, PacksLines}
 use Rattle.programs.specs.Prompt.{AskedLast, AsksGive, HoldsNothingBack, WasSent, WritesOn}
-use Rattle.programs.specs.PromptLaws.{HoldsNothingBack-on}
+use Rattle.programs.specs.PromptLaws.{AskedLast-after, HoldsNothingBack-on}
 use Rattle.frames.proofs.PackingAll.{still_open, all_whole}
 use Rattle.frames.proofs.PackRuns.{given}
 
@@ -137,15 +137,7 @@ asks_again remaining s m t going went same_end first then before = record {
         going = over.going;
         came = over.came;
         last = over.last;
-        asked = record {
-          given = ap (λ l. l.reads.given) same ∙ over.asked.given;
-          asks = omega (
-            arith,
-            over.asked.asks,
-            ap (λ l. l.reads.asks) same,
-            ap (λ l. length l.reads.faults) same,
-          );
-        };
+        asked = subst (λ l. AskedLast over.came over.last s.reader.log l) (sym same) over.asked;
         left = over.left;
       })
     ]
@@ -155,19 +147,8 @@ asks_again remaining s m t going went same_end first then before = record {
           going = sym same_end ∙ over.going;
           came = got ++ over.came;
           last = over.last;
-          asked = record {
-            given = over.asked.given ∙ ap (λ l. l ++ (over.came ++ over.last)) went.hands.given
-                ∙ append_assoc s.reader.log.reads.given got (over.came ++ over.last)
-                ∙ ap (λ l. s.reader.log.reads.given ++ l) (sym (append_assoc got over.came over.last));
-            asks = omega (
-              arith,
-              over.asked.asks,
-              first.give refl over.going,
-              ap length went.hands.given,
-              length-append s.reader.log.reads.given got,
-              length-append got over.came,
-            );
-          };
+          asked = AskedLast-after s.reader.log m.reader.log t.reader.log got over.came over.last went.hands.given
+              (first.give refl over.going) over.asked;
           left = subst (λ l. IsUnended s.max l)
               (ap (λ l. l ++ over.came) went.hands.equal ∙ append_assoc (rest s) got over.came)
               (subst (λ n. IsUnended n (rest m ++ over.came)) went.max over.left);
@@ -218,19 +199,7 @@ module _ {R W : Type 0} (remaining : R → Option (List ℕ)) (stretch : W → W
       inr (record {
         before = came ++ over.came;
         last = over.last;
-        asked = record {
-          given = over.asked.given ∙ ap (λ l. l ++ (over.came ++ over.last)) given_m
-              ∙ append_assoc s.reader.log.reads.given came (over.came ++ over.last)
-              ∙ ap (λ l. s.reader.log.reads.given ++ l) (sym (append_assoc came over.came over.last));
-          asks = omega (
-            arith,
-            over.asked.asks,
-            give over.going,
-            ap length given_m,
-            length-append s.reader.log.reads.given came,
-            length-append came over.came,
-          );
-        };
+        asked = AskedLast-after s.reader.log m.reader.log t.reader.log came over.came over.last given_m (give over.going) over.asked;
         due = frames before.lines;
         is_due = record {
           lines = before.lines;

@@ -13,7 +13,7 @@ use Rattle.frame_reader.specs.declared.error.FrameError.TheVariants.{Truncated, 
 use Rattle.line_reader.specs.Lines.{with_ends}
 use Rattle.frames.specs.Unpack.{Asks, AskedOver, AsksSent, AsksWhenSent, IsDue, UnpacksEach}
 use Rattle.programs.specs.Prompt.{AskedLast, AsksGive, HoldsNothingBack, WasSent, WritesOn}
-use Rattle.programs.specs.PromptLaws.{HoldsNothingBack-on}
+use Rattle.programs.specs.PromptLaws.{AskedLast-after, HoldsNothingBack-on}
 use Rattle.frames.proofs.Unpacking.{unsettled_before}
 use Rattle.frames.proofs.UnpackRuns.{given}
 
@@ -103,15 +103,7 @@ asks_again remaining s m t going went first then = record {
       | inr over ↦ inr (record {
         came = over.came;
         last = over.last;
-        asked = record {
-          given = ap (λ l. l.reads.given) same ∙ over.asked.given;
-          asks = omega (
-            arith,
-            over.asked.asks,
-            ap (λ l. l.reads.asks) same,
-            ap (λ l. length l.reads.faults) same,
-          );
-        };
+        asked = subst (λ l. AskedLast over.came over.last s.reader.log l) (sym same) over.asked;
         left = over.left;
       })
     ]
@@ -120,19 +112,8 @@ asks_again remaining s m t going went first then = record {
         inr (record {
           came = got ++ over.came;
           last = over.last;
-          asked = record {
-            given = over.asked.given ∙ ap (λ l. l ++ (over.came ++ over.last)) went.hands.given
-                ∙ append_assoc s.reader.log.reads.given got (over.came ++ over.last)
-                ∙ ap (λ l. s.reader.log.reads.given ++ l) (sym (append_assoc got over.came over.last));
-            asks = omega (
-              arith,
-              over.asked.asks,
-              first.give refl,
-              ap length went.hands.given,
-              length-append s.reader.log.reads.given got,
-              length-append got over.came,
-            );
-          };
+          asked = AskedLast-after s.reader.log m.reader.log t.reader.log got over.came over.last went.hands.given
+              (first.give refl) over.asked;
           left = subst (λ l. IsUnsettled s.max l)
               (ap (λ l. l ++ over.came) went.hands.equal ∙ append_assoc (rest s) got over.came)
               (subst (λ n. IsUnsettled n (rest m ++ over.came)) went.max over.left);
@@ -171,19 +152,7 @@ module _ {R W : Type 0} (remaining : R → Option (List ℕ)) (s m t : Framing R
       inr (record {
         before = came ++ over.came;
         last = over.last;
-        asked = record {
-          given = over.asked.given ∙ ap (λ l. l ++ (over.came ++ over.last)) given_m
-              ∙ append_assoc s.reader.log.reads.given came (over.came ++ over.last)
-              ∙ ap (λ l. s.reader.log.reads.given ++ l) (sym (append_assoc came over.came over.last));
-          asks = omega (
-            arith,
-            over.asked.asks,
-            give,
-            ap length given_m,
-            length-append s.reader.log.reads.given came,
-            length-append came over.came,
-          );
-        };
+        asked = AskedLast-after s.reader.log m.reader.log t.reader.log came over.came over.last given_m give over.asked;
         due = with_ends each.payloads;
         is_due = record {
           payloads = each.payloads;

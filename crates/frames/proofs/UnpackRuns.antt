@@ -18,8 +18,8 @@ use Rattle.frames.specs.declared.error.RunError.{RunError}
 use Rattle.frames.specs.declared.error.RunError.TheVariants.{TooLong, Truncated, Read, Write, Io}
 use Rattle.frames.specs.Ending.{faulted}
 use Rattle.line_reader.specs.Lines.{with_ends}
-use Rattle.frames.specs.Unpack.{Unpacks, UnpacksEach, UnpacksFirst, UnpacksAll, UnpacksAndFlushes, AllSent, Unpacked, UnpackedFirst, UnpackRan}
-use Rattle.programs.specs.Streams.{OverCount}
+use Rattle.frames.specs.Unpack.{Unpacks, UnpacksEach, UnpacksFirst, UnpacksAll, UnpacksAndFlushes, Unpacked, UnpackedFirst, UnpackRan}
+use Rattle.programs.specs.Streams.{AllSent, OverCount}
 use Rattle.programs.specs.StreamsLaws.{MetNoFault-joins}
 
 module _ {R W : Type 0} (remaining : R → Option (List ℕ)) (s t : Framing R) (u w v : Buffered W StdPolicy)

@@ -19,8 +19,9 @@ use Rattle.frame_reader.specs.declared.error.FrameError.TheVariants as NoFrame
 use Rattle.frames.specs.declared.error.RunError.{RunError}
 use Rattle.frames.specs.declared.error.RunError.TheVariants.{TooLong, Truncated, Read, Write, Io}
 use Rattle.line_reader.specs.Lines.{newline, with_ends}
-use Rattle.frames.specs.Unpack.{AllSent, IsLineTarget, Unpacks, UnpacksEach, UnpacksNext, UnpacksOnce, ReadStopped, UnpacksAll}
+use Rattle.frames.specs.Unpack.{IsLineTarget, Unpacks, UnpacksEach, UnpacksNext, UnpacksOnce, ReadStopped, UnpacksAll}
 use Rattle.frames.specs.declared.tries.Step.TheVariants.{End, ReadFailed}
+use Rattle.programs.specs.Streams.{AllSent}
 use Rattle.programs.specs.StreamsLaws.{only_same, gave_up, MetInterrupts-none, MetNoFault-none, MetNoFault-joins, ReadGaveUp-after}
 
 -- what is settled stays so when more comes

@@ -17,7 +17,7 @@ use Rattle.frames.specs.declared.tries.Step.{Step}
 use Rattle.frames.specs.declared.tries.Step.TheVariants.{Went, End, ReadFailed}
 use Rattle.line_reader.specs.Lines.{with_ends}
 use Rattle.programs.specs.Prompt.{AskedLast, AsksGive, WasSent}
-use Rattle.programs.specs.Streams.{MetNoFault, ReadFailed as AReadFailed, SendFailed, OverCount, BufferRefused, EndsOnce, GaveNothing, AllFlushed}
+use Rattle.programs.specs.Streams.{MetNoFault, ReadFailed as AReadFailed, SendFailed, OverCount, BufferRefused, EndsOnce, GaveNothing, AllFlushed, AllSent}
 
 -- a buffered writer of lines: the longest, with its end, is smaller than its buffer
 pub record IsLineTarget {W : Type 0} (most : ℕ) (u : Buffered W StdPolicy) : Type 0 where
@@ -34,11 +34,6 @@ pub record Unpacks {R W : Type 0} (remaining : R → Option (List ℕ)) (s : Fra
 -- neither stream failed
 abbrev pub NoneFailed : {R W : Type 0} → Framing R → Buffered W StdPolicy → Framing R → Buffered W StdPolicy → Type 0
 NoneFailed s u t v = MetNoFault s.reader.log t.reader.log u.log v.log
-
--- all that was taken in was received and flushed
-pub record AllSent {W : Type 0} (v : Buffered W StdPolicy) : Type 0 where
-  pub empty : v.block.bytes ≡ []
-  pub flushed : AllFlushed v.log
 
 -- each payload that was handed out was taken in as a line
 pub record UnpacksEach {R W : Type 0} (remaining : R → Option (List ℕ)) (s : Framing R) (u : Buffered W StdPolicy)

@@ -95,11 +95,32 @@ fn pack_lines<R: TellRead, W: TellWrite>(
     Err(RunError::Io(ErrorKind::Other.into()))
 }
 
-// Makes the next line a frame, and returns whether there was one. Where it has to be asked for, all frames are sent and flushed
-// first.
+// Makes the next line a frame, and returns whether there was one.
 #[inline(always)]
-#[tactic(auto, using(crate::proofs::PackPrompting::has_no_ask))]
 fn pack_line<R: TellRead, W: TellWrite>(
+    source: &mut LineReader<R>,
+    target: &mut FrameWriter<W>,
+) -> Result<bool, RunError>
+    requires most { source.old.max ≡ target.old.max }
+    requires open { source.old.skipping ≡ false }
+    ensures packs { PacksNext R.remaining W.stretch source.old target.old result source.new target.new }
+    ensures asks { Asks source.old (goes_on result) source.new }
+    ensures prompt { AsksWhenSent source.old target.old source.new target.new }
+    ensures writes { WritesOn target.old.writer.log.writes target.new.writer.log.writes }
+    ensures open { source.new.skipping ≡ false }
+{
+    match source.next_buffered() {
+        Some(line) => {
+            target.write_frame(line)?;
+            Ok(true)
+        }
+        None => pack_asked(source, target),
+    }
+}
+
+// The same where no line is buffered whole. Where it has to be asked for, all frames are sent and flushed first.
+#[tactic(auto, using(crate::proofs::PackPrompting::has_no_ask))]
+fn pack_asked<R: TellRead, W: TellWrite>(
     source: &mut LineReader<R>,
     target: &mut FrameWriter<W>,
 ) -> Result<bool, RunError>

@@ -6,9 +6,9 @@ ghost use Rattle.frame_reader.specs.Framing.{rest};
 ghost use Rattle.frame_reader.specs.Next.{IsUnsettled};
 ghost use Rattle.line_reader.specs.Lines.{newline};
 ghost use Rattle.programs.specs.Prompt.{AsksGive, HoldsNothingBack, WritesOn};
-ghost use Rattle.programs.specs.Streams.{EndsOnce};
+ghost use Rattle.programs.specs.Streams.{AllSent, EndsOnce};
 ghost use Rattle.frames.specs.Going.{goes_on, tries_on};
-ghost use Rattle.frames.specs.Unpack.{AllSent, Asks, AsksWhenSent, IsDue, IsLineTarget};
+ghost use Rattle.frames.specs.Unpack.{Asks, AsksWhenSent, IsDue, IsLineTarget};
 ghost use Rattle.frames.specs.Unpack.{UnpacksOnce, UnpacksNext, UnpacksAll, UnpacksAndFlushes, UnpackRan};
 
 use crate::error::{RunError, is_fault};

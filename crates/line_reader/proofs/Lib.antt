@@ -1,3 +1,4 @@
+pub mod Buffered
 pub mod Going
 pub mod Having
 pub mod Heads

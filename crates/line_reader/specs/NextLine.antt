@@ -8,7 +8,7 @@ use Rattle.buffer_redux.specs.BufReader.{InnerGives}
 use Rattle.buffer_redux.specs.Sparing.{PotentialHeld}
 use Rattle.line_reader.specs.declared.error.LineError.{LineError}
 use Rattle.line_reader.specs.declared.error.LineError.TheVariants.{TooLong, Io}
-use Rattle.line_reader.specs.Lines.{IsLine, BeginsTooLong, IsTrimmed, IsUnended, with_end}
+use Rattle.line_reader.specs.Lines.{IsLine, BeginsTooLong, BeginsWhole, IsTrimmed, IsUnended, with_end}
 use Rattle.line_reader.specs.Lining.{Lining, IsLining, rest, most}
 
 -- these bytes, then what is left, are what was left, then what was given since
@@ -100,6 +100,20 @@ pub record NextLine {S : Type 0} (remaining : S → Option (List ℕ)) (s : Lini
   pub told : s.ended ≡ true → answer ≡ Ok None
   pub open' : t.skipping ≡ false
   pub whole : IsLining t
+
+-- nothing was done: what is left is as it was, and the reader inside
+pub record StaysLeft {S : Type 0} (remaining : S → Option (List ℕ)) (s t : Lining S) : Type 0 where
+  pub went : LinesWent remaining s [] t
+  pub left : rest t ≡ rest s
+  pub reader : t.reader ≡ s.reader
+  pub ended : t.ended ≡ s.ended
+  pub skipping : t.skipping ≡ s.skipping
+
+-- what `next_buffered` does: as `next` where the next line stands whole in what is left, and else nothing. The reader inside
+-- isn't called
+abbrev pub NextBuffered : {S : Type 0} → (S → Option (List ℕ)) → Lining S → Option (List ℕ) → Lining S → Type 0
+NextBuffered remaining s (Some line) t = NextLine remaining s (Ok (Some line)) t × (t.reader ≡ s.reader)
+NextBuffered remaining s None t = StaysLeft remaining s t × ¬ (BeginsWhole s.max (rest s))
 
 -- a line is shown without the carriage return before its end, and the last one, which has none, as it is
 abbrev pub Trims : {S : Type 0} → NextAnswer → NextAnswer → Lining S → Type 0

@@ -1,5 +1,5 @@
 //! The reader of lines.
-ghost use Rattle.std.specs.Prelude.{◌≡◌, ℕ, ◌+◌, ◌≤◌, ◌^◌, ◌↔◌, List, ◌∷◌, ◌++◌, length, min, Ok, Err, Some, None, IfOk, IfErr, IfSome, IsTrue, true};
+ghost use Rattle.std.specs.Prelude.{◌≡◌, ℕ, ◌+◌, ◌≤◌, ◌^◌, ◌↔◌, List, ◌∷◌, ◌++◌, length, min, Ok, Err, Some, None, IfOk, IfErr, IfSome, IsTrue, true, option_copied};
 ghost use Rattle.std.specs.Borrow.{Lends, sem};
 ghost use Rattle.std.specs.Io.BufRead.{Rests};
 ghost use Rattle.buffer_redux.specs.GrowError.{FitsWithin};
@@ -7,7 +7,7 @@ ghost use Rattle.buffer_redux.specs.MakeError.{growth};
 ghost use Rattle.line_reader.specs.contracts.reader.LineReader.{the_row};
 ghost use Rattle.line_reader.specs.Lines.{BeginsTooLong, IsLine, newline};
 ghost use Rattle.line_reader.specs.Lining.{HasLine, IsLining, IsFresh, rest, room_for, with_stream};
-ghost use Rattle.line_reader.specs.NextLine.{answer_of, load_answer};
+ghost use Rattle.line_reader.specs.NextLine.{NextBuffered, answer_of, load_answer};
 ghost use Rattle.line_reader.specs.SkipLine.{NextGoes, NextTrimmed, SkipsLine};
 
 mod steps;
@@ -232,7 +232,21 @@ impl<R: TellRead> LineReader<R> {
         }
     }
 
-    /// The same, without the carriage return that may stand before the end, as std's `lines` has it. It is a byte of the line
+    /// Lends the next line as [`next`](LineReader::next) does where it stands whole in the buffer, and asks the stream for nothing.
+    /// `None` where it doesn't; what was searched then isn't searched again.
+    #[inline(always)]
+    pub fn next_buffered(&mut self) -> Option<&[u8]>
+        ensures* after_borrow { sem 𝓛 (Rests (the_row R.row R.Tell) self.entry
+            (NextBuffered R.remaining self.entry.now (option_copied result))) }
+    {
+        let from = self.handed;
+        match self.take_buffered() {
+            Some(len) => Some(&self.reader.buffer()[from..from + len]),
+            None => None,
+        }
+    }
+
+    /// The same as `next`, without the carriage return that may stand before the end, as std's `lines` has it. It is a byte of the line
     /// where the length counts. That of a last line without an end stays.
     #[inline(always)]
     pub fn next_trimmed(&mut self) -> Result<Option<&[u8]>, LineError>

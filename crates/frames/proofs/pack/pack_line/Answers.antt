@@ -1,54 +1,117 @@
-use Rattle.std.proofs.Common.{◌++◌, ◌∙◌, inl, sym, subst}
-use Rattle.std.proofs.lemmas.Bool.{false≢true}
+use Rattle.std.proofs.Common.{ap, inl, subst, Ok, None, Some, option_copied, refl, true, ◌∙◌}
 use Rattle.std.proofs.lemmas.Result.{err_from_is_err_and}
-use Rattle.buffer_redux.specs.GoesOn.{GoesOn, GoesOn-none}
-use Rattle.frame_reader.specs.Outgoing.{unsent}
-use Rattle.programs.specs.Prompt.{WasSent}
-use Rattle.programs.specs.PromptLaws.{WasSent-on, WritesOn-grows, WritesOn-joins}
-use Rattle.frames.proofs.PackPrompting.{asks_none, asks_sent, has_no_ask, not_ended}
-use Rattle.frames.proofs.Packing.{sent_before, not_sent}
+use Rattle.line_reader.specs.NextLine.{NextBuffered}
+use Rattle.programs.specs.PromptLaws.{WritesOn-unflushed}
+use Rattle.programs.specs.StreamsLaws.{only_same}
+use Rattle.frames.proofs.PackBuffered.{asks_stays, sent_stays}
+use Rattle.frames.proofs.PackPrompting.{asks_end, asks_next}
+use Rattle.frames.proofs.Packing.{not_written, retried, written}
 use Rattle.frames.proofs.pack.pack_line.Goals as goal
 
-pub returns-then-has_line-clause-prompt : goal.returns-then-has_line-clause-prompt
-returns-then-has_line-clause-prompt g c =
-    inl (c.pack_next.ensures.unasked (has_no_ask c.args.source.now (c.has_line.ensures.0 c.if-has_line.true)))
-
-pub returns-in_err-flush-clause-packs : goal.returns-in_err-flush-clause-packs
-returns-in_err-flush-clause-packs g c =
+pub returns-in_err-write_frame-in-Some-clause-packs : goal.returns-in_err-write_frame-in-Some-clause-packs
+returns-in_err-write_frame-in-Some-clause-packs g c =
+    let s = c.args.source.now in
+    let t = c.next_buffered.follows.lender-at-none in
+    let took = subst (λ r. NextBuffered g.R.TellRead.remaining s (option_copied r) t) c.in-Some.is c.next_buffered.follows.holds-at-none in
     let p = err_from_is_err_and c.from_residual.result c.from_residual.ensures.1 in
-    let f = c.in_err-flush.ensures in
     rw (p.1, p.2)
-    (not_sent g.R.TellRead.remaining g.W.TellWrite.stretch c.args.source.now c.args.target.now c.flush.new.self _
-    (not_ended c.args.source.now c.requires.open (λ has. false≢true (sym c.if-has_line.false ∙ c.has_line.ensures.1 has)))
-    f.went f.flushed.caused)
+    (not_written g.R.TellRead.remaining g.W.TellWrite.stretch g.met.W.TellWrite.stretch_none s t c.args.target.now c.in-Some.line.now took.0 c.write_frame.new.self c.requires.most _
+    c.in_err-write_frame-in-Some.ensures)
 
-pub returns-in_err-flush-clause-asks : goal.returns-in_err-flush-clause-asks
-returns-in_err-flush-clause-asks g c = asks_none c.args.source.now _
+pub returns-in_err-write_frame-in-Some-clause-asks : goal.returns-in_err-write_frame-in-Some-clause-asks
+returns-in_err-write_frame-in-Some-clause-asks g c =
+    let s = c.args.source.now in
+    let t = c.next_buffered.follows.lender-at-none in
+    let took = subst (λ r. NextBuffered g.R.TellRead.remaining s (option_copied r) t) c.in-Some.is c.next_buffered.follows.holds-at-none in
+    let p = err_from_is_err_and c.from_residual.result c.from_residual.ensures.1 in
+    rw p.1 (asks_end s t true (asks_next g.R.TellRead.remaining s t (Ok (Some c.in-Some.line.now)) took.0))
 
-pub returns-in_err-flush-clause-writes : goal.returns-in_err-flush-clause-writes
-returns-in_err-flush-clause-writes g c = WritesOn-grows _ _ c.in_err-flush.ensures.flushed.grows
+pub returns-in_err-write_frame-in-Some-clause-prompt : goal.returns-in_err-write_frame-in-Some-clause-prompt
+returns-in_err-write_frame-in-Some-clause-prompt g c =
+    let s = c.args.source.now in
+    let t = c.next_buffered.follows.lender-at-none in
+    let took = subst (λ r. NextBuffered g.R.TellRead.remaining s (option_copied r) t) c.in-Some.is c.next_buffered.follows.holds-at-none in
+    inl (ap (λ r. r.log) took.1)
 
-pub returns-clause-packs : goal.returns-clause-packs
-returns-clause-packs g c =
-    let f = c.in_ok-flush.ensures in
-    sent_before g.R.TellRead.remaining g.W.TellWrite.stretch g.met.W.TellWrite.stretch_joins c.args.source.now _
-    c.args.target.now c.flush.new.self _ f.went f.flushed.ok.met _ c.pack_next-2.ensures.packs
+pub returns-in_err-write_frame-in-Some-clause-writes : goal.returns-in_err-write_frame-in-Some-clause-writes
+returns-in_err-write_frame-in-Some-clause-writes g c =
+    let wrote = c.in_err-write_frame-in-Some.ensures in
+    WritesOn-unflushed c.args.target.now.writer c.write_frame.new.self.writer _ wrote.went.in_order wrote.not_flushed
 
-pub returns-clause-prompt : goal.returns-clause-prompt
-returns-clause-prompt g c =
-    let ok = c.in_ok-flush.ensures.flushed.ok in
-    let u = c.args.target.now in
-    let w = c.flush.new.self in
-    let v = c.pack_next-2.new.target in
-    let sent : WasSent (u.writer.log.writes.received ++ unsent u) w.writer.log.writes = record {
-      received = subst (λ l. GoesOn l w.writer.log.writes.received) ok.received (GoesOn-none w.writer.log.writes.received);
-      flushed = subst (λ l. GoesOn l w.writer.log.writes.flushed) (ok.flushed ∙ ok.received)
-          (GoesOn-none w.writer.log.writes.flushed);
-    } in
-    asks_sent c.args.source.now _ u v _ c.pack_next-2.ensures.asks
-    (WasSent-on _ w.writer.log.writes v.writer.log.writes sent c.pack_next-2.ensures.writes)
+pub returns-in_err-write_frame-in-Some-clause-open : goal.returns-in_err-write_frame-in-Some-clause-open
+returns-in_err-write_frame-in-Some-clause-open g c =
+    let s = c.args.source.now in
+    let t = c.next_buffered.follows.lender-at-none in
+    (subst (λ r. NextBuffered g.R.TellRead.remaining s (option_copied r) t) c.in-Some.is c.next_buffered.follows.holds-at-none).0.open'
 
-pub returns-clause-writes : goal.returns-clause-writes
-returns-clause-writes g c =
-    WritesOn-joins _ c.flush.new.self.writer.log.writes _ (WritesOn-grows _ _ c.in_ok-flush.ensures.flushed.grows)
-    c.pack_next-2.ensures.writes
+pub returns-in_ok-write_frame-in-Some-clause-packs : goal.returns-in_ok-write_frame-in-Some-clause-packs
+returns-in_ok-write_frame-in-Some-clause-packs g c =
+    let s = c.args.source.now in
+    let t = c.next_buffered.follows.lender-at-none in
+    let took = subst (λ r. NextBuffered g.R.TellRead.remaining s (option_copied r) t) c.in-Some.is c.next_buffered.follows.holds-at-none in
+    written g.R.TellRead.remaining g.W.TellWrite.stretch g.met.W.TellWrite.stretch_none s t c.args.target.now c.in-Some.line.now took.0 c.write_frame.new.self
+    c.in_ok-write_frame-in-Some.ensures
+
+pub returns-in_ok-write_frame-in-Some-clause-asks : goal.returns-in_ok-write_frame-in-Some-clause-asks
+returns-in_ok-write_frame-in-Some-clause-asks g c =
+    let s = c.args.source.now in
+    let t = c.next_buffered.follows.lender-at-none in
+    let took = subst (λ r. NextBuffered g.R.TellRead.remaining s (option_copied r) t) c.in-Some.is c.next_buffered.follows.holds-at-none in
+    asks_next g.R.TellRead.remaining s t (Ok (Some c.in-Some.line.now)) took.0
+
+pub returns-in_ok-write_frame-in-Some-clause-prompt : goal.returns-in_ok-write_frame-in-Some-clause-prompt
+returns-in_ok-write_frame-in-Some-clause-prompt g c =
+    let s = c.args.source.now in
+    let t = c.next_buffered.follows.lender-at-none in
+    let took = subst (λ r. NextBuffered g.R.TellRead.remaining s (option_copied r) t) c.in-Some.is c.next_buffered.follows.holds-at-none in
+    inl (ap (λ r. r.log) took.1)
+
+pub returns-in_ok-write_frame-in-Some-clause-writes : goal.returns-in_ok-write_frame-in-Some-clause-writes
+returns-in_ok-write_frame-in-Some-clause-writes g c =
+    let wrote = c.in_ok-write_frame-in-Some.ensures in
+    WritesOn-unflushed c.args.target.now.writer c.write_frame.new.self.writer _ wrote.went.in_order wrote.not_flushed
+
+pub returns-in_ok-write_frame-in-Some-clause-open : goal.returns-in_ok-write_frame-in-Some-clause-open
+returns-in_ok-write_frame-in-Some-clause-open g c =
+    let s = c.args.source.now in
+    let t = c.next_buffered.follows.lender-at-none in
+    (subst (λ r. NextBuffered g.R.TellRead.remaining s (option_copied r) t) c.in-Some.is c.next_buffered.follows.holds-at-none).0.open'
+
+pub returns-in-None-clause-packs : goal.returns-in-None-clause-packs
+returns-in-None-clause-packs g c =
+    let s = c.args.source.now in
+    let m = c.next_buffered.follows.lender-at-none in
+    let stays = (subst (λ r. NextBuffered g.R.TellRead.remaining s (option_copied r) m) c.in-None.is c.next_buffered.follows.holds-at-none).0 in
+    retried g.R.TellRead.remaining g.W.TellWrite.stretch g.met.W.TellWrite.stretch_none s m c.pack_asked.new.source c.args.target.now c.pack_asked.new.target stays.went
+    (only_same s.reader.log.reads.faults m.reader.log.reads.faults (ap (λ r. r.log.reads.faults) stays.reader)) stays.ended
+    (ap (λ r. r.log.reads.zero_reads) stays.reader) c.args.target.now refl c.pack_asked.result c.pack_asked.ensures.packs
+
+pub returns-in-None-clause-asks : goal.returns-in-None-clause-asks
+returns-in-None-clause-asks g c =
+    let s = c.args.source.now in
+    let m = c.next_buffered.follows.lender-at-none in
+    asks_stays g.R.TellRead.remaining s m
+    (subst (λ r. NextBuffered g.R.TellRead.remaining s (option_copied r) m) c.in-None.is c.next_buffered.follows.holds-at-none).0
+    c.pack_asked.new.source _ c.pack_asked.ensures.asks
+
+pub returns-in-None-clause-prompt : goal.returns-in-None-clause-prompt
+returns-in-None-clause-prompt g c =
+    let s = c.args.source.now in
+    let m = c.next_buffered.follows.lender-at-none in
+    sent_stays g.R.TellRead.remaining s m
+    (subst (λ r. NextBuffered g.R.TellRead.remaining s (option_copied r) m) c.in-None.is c.next_buffered.follows.holds-at-none).0
+    c.pack_asked.new.source c.args.target.now c.pack_asked.new.target c.pack_asked.ensures.prompt
+
+pub pack_asked-requires-clause-most : goal.pack_asked-requires-clause-most
+pack_asked-requires-clause-most g c =
+    let s = c.args.source.now in
+    let m = c.next_buffered.follows.lender-at-none in
+    (subst (λ r. NextBuffered g.R.TellRead.remaining s (option_copied r) m) c.in-None.is c.next_buffered.follows.holds-at-none).0.went.max
+    ∙ c.requires.most
+
+pub pack_asked-requires-clause-open : goal.pack_asked-requires-clause-open
+pack_asked-requires-clause-open g c =
+    let s = c.args.source.now in
+    let m = c.next_buffered.follows.lender-at-none in
+    (subst (λ r. NextBuffered g.R.TellRead.remaining s (option_copied r) m) c.in-None.is c.next_buffered.follows.holds-at-none).0.skipping
+    ∙ c.requires.open
