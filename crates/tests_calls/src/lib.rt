@@ -27,6 +27,8 @@ mod reader;
 #[cfg(test)]
 mod seeks;
 #[cfg(test)]
+mod std_readers;
+#[cfg(test)]
 mod std_writers;
 #[cfg(test)]
 mod unbuffer;
