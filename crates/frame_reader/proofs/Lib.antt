@@ -3,3 +3,4 @@ pub mod Ending
 pub mod Loading
 pub mod Stepping
 pub mod Recording
+pub mod Refusing

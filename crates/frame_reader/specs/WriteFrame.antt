@@ -4,7 +4,7 @@ use Rattle.std.specs.List.{All}
 use Rattle.std.specs.declared.io.Error.{Error}
 use Rattle.buffer_redux.specs.Block.{Block}
 use Rattle.buffer_redux.specs.BufWriter.{WritesInOrder}
-use Rattle.buffer_redux.specs.Faults.{MetInterrupts, SendErrorCaused}
+use Rattle.buffer_redux.specs.Faults.{IsMemory, MetInterrupts, SendErrorCaused}
 use Rattle.buffer_redux.specs.Transfer.{Sends}
 use Rattle.frame_reader.specs.declared.error.WriteFrameError.{WriteFrameError}
 use Rattle.frame_reader.specs.declared.error.WriteFrameError.TheVariants.{TooLong, Io}
@@ -89,3 +89,8 @@ pub record WritesFrame {S : Type 0} (stretch : S → S → Type 0) (s : Outgoing
 abbrev pub IsFault : WriteFrameError → Type 0
 IsFault (Io e) = ⊤
 IsFault (TooLong len) = ⊥
+
+-- where it isn't, it is want of memory
+abbrev pub IsWantOfMemory : WriteFrameError → Type 0
+IsWantOfMemory (Io e) = IsMemory e
+IsWantOfMemory (TooLong len) = ⊤

@@ -6,6 +6,7 @@ pub mod Loading
 pub mod Playing
 pub mod Reading
 pub mod Recording
+pub mod Refusing
 pub mod Searching
 pub mod Skipping
 pub mod Stepping

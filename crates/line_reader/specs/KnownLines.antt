@@ -1,13 +1,14 @@
 -- What a reader of lines hands out of a stream that is known.
-use Rattle.std.specs.Prelude.{◌≡◌, ℕ, ◌<◌, ◌⊎◌, List, [], ◌∷◌, ◌++◌, length, map, true, false, Option, None, Some, Ok, Err}
+use Rattle.std.specs.Prelude.{◌≡◌, ℕ, ◌<◌, ◌^◌, ◌⊎◌, List, [], ◌∷◌, ◌++◌, length, map, true, false, Option, None, Some, Ok, Err}
 use Rattle.std.specs.Io.KnownBytes.{prepend_known}
 use Rattle.std.specs.IoError.{error_kind}
 use Rattle.std.specs.List.{All}
 use Rattle.std.specs.declared.io.Error.{Error}
-use Rattle.std.specs.declared.io.ErrorKind.TheVariants.{OutOfMemory}
+use Rattle.std.specs.declared.io.ErrorKind.TheVariants.{InvalidInput, OutOfMemory}
+use Rattle.buffer_redux.specs.Faults.{IsMemory}
 use Rattle.line_reader.specs.declared.error.LineError.TheVariants.{TooLong, Io}
 use Rattle.line_reader.specs.Lines.{FitsLine, HasLines}
-use Rattle.line_reader.specs.Lining.{Lining, rest}
+use Rattle.line_reader.specs.Lining.{Lining, rest, room_for}
 use Rattle.line_reader.specs.NextLine.{Faulted, NextAnswer, NoFault}
 use Rattle.line_reader.specs.Runs.{NextRuns}
 
@@ -55,3 +56,7 @@ pub record ReadStopped {S : Type 0} (remaining : S → Option (List ℕ)) (s : L
   pub all : lines ≡ done ++ later
   pub left : HasLeft remaining t later
   pub failed : ReadFails remaining s done e t
+
+-- memory was wanted, or for lines of so many bytes a larger buffer than there is
+abbrev pub BufferRefused : ℕ → Error → Type 0
+BufferRefused max e = IsMemory e ⊎ ((error_kind e ≡ InvalidInput) × (2 ^ 62 < room_for 8192 max))

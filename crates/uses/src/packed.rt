@@ -1,26 +1,28 @@
 //! Packs records through a buffered writer into a vector, which holds just their frames in the end.
 ghost use Rattle.std.specs.Prelude.{◌≡◌, true, OnOk, IfOk, IfErr, vec_items};
 ghost use Rattle.buffer_redux.specs.Buffered.{InnerWent};
+ghost use Rattle.buffer_redux.specs.Faults.{IsMemory};
 ghost use Rattle.buffer_redux.specs.BufWriter.{WritesInOrder, WriterStopped};
 ghost use Rattle.uses.specs.Records.{frame, frames, IsShort, AreShort};
 
 use buffer_redux::BufWriter;
 use buffer_redux::policy::WriterPolicy;
-use buffer_redux::tell::{TellWrite, Told};
+use buffer_redux::tell::{MemoryWriter, TellWrite};
 use std::alloc::Global;
 use std::io;
 use std::io::Write;
 
-/// The frames of all records.
+/// The frames of all records. It fails for want of memory alone.
 pub fn packed(alloc: Global, records: &[Vec<u8>]) -> io::Result<Vec<u8>>
     requires short { AreShort records.now }
-    ensures { IfOk result (λ v. vec_items v ≡ frames records.now) }
+    ensures frames { IfOk result (λ v. vec_items v ≡ frames records.now) }
+    ensures memory { IfErr result IsMemory }
 {
-    let mut writer = BufWriter::new(alloc, Told::new(Vec::new(alloc)))?;
+    let mut writer = BufWriter::new(alloc, MemoryWriter::new(alloc))?;
     for bytes in records {
         pack_record(&mut writer, bytes.as_slice())?;
     }
-    Ok(writer.into_inner()?.into_inner())
+    Ok(writer.into_inner()?.into_vec())
 }
 
 /// Writes one record. Its frame then stands behind what the writer received before, there or in its buffer.

@@ -5,13 +5,14 @@ ghost use Rattle.frame_reader.specs.Frames.{Fits, frames};
 ghost use Rattle.frame_reader.specs.KnownFrames.{HasLeft, LeavesFrames, ReadStopped};
 ghost use Rattle.frame_reader.specs.Next.{Next};
 ghost use Rattle.frame_reader.specs.Runs.{AllRead, NextFails, WritesEach, kept_answer};
-ghost use Rattle.frame_reader.specs.WriteFrame.{IsFault};
+ghost use Rattle.buffer_redux.specs.Faults.{IsMemory};
+ghost use Rattle.frame_reader.specs.WriteFrame.{IsFault, IsWantOfMemory};
 
 use crate::error::{FrameError, WriteFrameError};
 use crate::laws::runs::next_copied;
 use crate::reader::FrameReader;
 use crate::writer::FrameWriter;
-use buffer_redux::tell::{TellRead, TellWrite, Told};
+use buffer_redux::tell::{MemoryReader, MemoryWriter, TellRead, TellWrite};
 use std::alloc::Global;
 use std::io;
 
@@ -74,7 +75,7 @@ fn next_of_known<R: TellRead>(
     }
 }
 
-/// Payloads that are written and flushed are read again, each of them whole, in order, and no other.
+/// Payloads that are written and flushed are read again, each of them whole, in order, and no other. An `Io` is want of memory.
 pub fn round_trip(
     alloc: Global,
     payloads: &[Vec<u8>],
@@ -83,6 +84,7 @@ pub fn round_trip(
     ensures same { IfOk result (λ kept. map (λ v. v.items) kept.items ≡ map (λ v. v.items) payloads.now) }
     ensures fit { OnOk result (All (Fits max) (map (λ v. v.items) payloads.now)) }
     ensures fault { IfErr result (λ e. All (Fits max) (map (λ v. v.items) payloads.now) → IsFault e) }
+    ensures memory { IfErr result IsWantOfMemory }
 {
     let bytes = written(alloc, payloads, max)?;
     Ok(read_back(alloc, bytes.as_slice(), payloads, max)?)
@@ -92,13 +94,19 @@ pub fn round_trip(
 fn written(alloc: Global, payloads: &[Vec<u8>], max: u16) -> Result<Vec<u8>, WriteFrameError>
     ensures fit { OnOk result (All (Fits max) (map (λ v. v.items) payloads.now)) }
     ensures fault { IfErr result (λ e. All (Fits max) (map (λ v. v.items) payloads.now) → IsFault e) }
+    ensures memory { IfErr result IsWantOfMemory }
     ensures frames { IfOk result (λ bytes. bytes.items ≡ frames (map (λ v. v.items) payloads.now)) }
 {
-    let inner = Told::new(Vec::new(alloc));
+    let inner = MemoryWriter::new(alloc);
     let mut writer = FrameWriter::new(alloc, inner, max).map_err(io::Error::from)?;
-    write_each(&mut writer, payloads)?;
-    let inner = writer.into_inner().map_err(io::Error::from)?;
-    Ok(inner.into_inner())
+    let wrote = write_each(&mut writer, payloads);
+    // What it tells is what the stream inside tells, which says why that failed.
+    let _ = writer.get_ref();
+    wrote?;
+    match writer.into_inner() {
+        Ok(inner) => Ok(inner.into_vec()),
+        Err(e) => Err(WriteFrameError::Io(e.into_error())),
+    }
 }
 
 // The payloads of the frames, which are known to be these.
@@ -111,7 +119,10 @@ fn read_back(
     requires fit { All (Fits max) (map (λ v. v.items) payloads.now) }
     requires frames { bytes.now ≡ frames (map (λ v. v.items) payloads.now) }
     ensures same { IfOk result (λ kept. map (λ v. v.items) kept.items ≡ map (λ v. v.items) payloads.now) }
+    ensures memory { IfErr result IsMemory }
 {
-    let mut reader = FrameReader::new(alloc, Told::new(bytes), max)?;
-    read_each(alloc, &mut reader, payloads)
+    let mut reader = FrameReader::new(alloc, MemoryReader::new(bytes), max)?;
+    let read = read_each(alloc, &mut reader, payloads);
+    let _ = reader.get_ref();
+    read
 }

@@ -2,8 +2,9 @@
 ghost use Rattle.std.specs.Prelude.{◌≡◌, map, IfOk, IfErr, OnOk};
 ghost use Rattle.std.specs.List.{All};
 ghost use Rattle.buffer_redux.specs.BufWriter.{WritesInOrder, WriterStopped};
+ghost use Rattle.buffer_redux.specs.Faults.{IsMemory};
 ghost use Rattle.buffer_redux.specs.WriteAll.{TookBeginning};
-ghost use Rattle.line_reader.specs.KnownLines.{HasLeft, LeavesLines, ReadStopped};
+ghost use Rattle.line_reader.specs.KnownLines.{HasLeft, LeavesLines, ReadStopped, BufferRefused};
 ghost use Rattle.line_reader.specs.Lines.{FitsLine, with_ends};
 ghost use Rattle.line_reader.specs.SkipLine.{NextGoes};
 ghost use Rattle.line_reader.specs.Runs.{AllRead, NextFails, kept_answer};
@@ -12,7 +13,7 @@ use crate::error::LineError;
 use crate::laws::runs::next_copied;
 use crate::reader::LineReader;
 use buffer_redux::LineWriter;
-use buffer_redux::tell::{TellRead, TellWrite, Told};
+use buffer_redux::tell::{MemoryReader, MemoryWriter, TellRead, TellWrite};
 use std::alloc::Global;
 use std::io;
 use std::io::Write;
@@ -76,10 +77,12 @@ fn next_of_known<R: TellRead>(
     }
 }
 
-/// Lines that are written, each with an end, and flushed are read again, each of them whole, in order, and no other.
+/// Lines that are written, each with an end, and flushed are read again, each of them whole, in order, and no other. An `Err` is
+/// want of memory, or of a buffer for lines of `max` bytes, which no memory holds.
 pub fn round_trip(alloc: Global, lines: &[Vec<u8>], max: usize) -> io::Result<Vec<Vec<u8>>>
     requires { All (FitsLine max) (map (λ v. v.items) lines.now) }
-    ensures { IfOk result (λ kept. map (λ v. v.items) kept.items ≡ map (λ v. v.items) lines.now) }
+    ensures same { IfOk result (λ kept. map (λ v. v.items) kept.items ≡ map (λ v. v.items) lines.now) }
+    ensures refused { IfErr result (BufferRefused max) }
 {
     let bytes = written(alloc, lines)?;
     read_back(alloc, bytes.as_slice(), lines, max)
@@ -87,12 +90,15 @@ pub fn round_trip(alloc: Global, lines: &[Vec<u8>], max: usize) -> io::Result<Ve
 
 // The lines, each with its end.
 fn written(alloc: Global, lines: &[Vec<u8>]) -> io::Result<Vec<u8>>
-    ensures { IfOk result (λ bytes. bytes.items ≡ with_ends (map (λ v. v.items) lines.now)) }
+    ensures bytes { IfOk result (λ bytes. bytes.items ≡ with_ends (map (λ v. v.items) lines.now)) }
+    ensures memory { IfErr result IsMemory }
 {
-    let mut writer = LineWriter::new(alloc, Told::new(Vec::new(alloc)))?;
-    write_each(&mut writer, lines)?;
-    let inner = writer.into_inner().map_err(io::Error::from)?;
-    Ok(inner.into_inner())
+    let mut writer = LineWriter::new(alloc, MemoryWriter::new(alloc))?;
+    let wrote = write_each(&mut writer, lines);
+    // What it tells is what the stream inside tells, which says why that failed.
+    let _ = writer.get_ref();
+    wrote?;
+    Ok(writer.into_inner()?.into_vec())
 }
 
 // The lines of the text, which are known to be these.
@@ -100,7 +106,10 @@ fn read_back(alloc: Global, text: &[u8], lines: &[Vec<u8>], max: usize) -> io::R
     requires fit { All (FitsLine max) (map (λ v. v.items) lines.now) }
     requires text { text.now ≡ with_ends (map (λ v. v.items) lines.now) }
     ensures same { IfOk result (λ kept. map (λ v. v.items) kept.items ≡ map (λ v. v.items) lines.now) }
+    ensures refused { IfErr result (BufferRefused max) }
 {
-    let mut reader = LineReader::new(alloc, Told::new(text), max)?;
-    read_each(alloc, &mut reader, lines)
+    let mut reader = LineReader::new(alloc, MemoryReader::new(text), max)?;
+    let read = read_each(alloc, &mut reader, lines);
+    let _ = reader.get_ref();
+    read
 }
