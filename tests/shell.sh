@@ -437,14 +437,15 @@ END
     head -c 100000 "$lines" > "$payload"
     { printf '186A0\r\n' && cat "$payload" && printf '\r\n0\r\n\r\n'; } > "$scratch/body"
     turns decode "$scratch/body" "$payload"
-    # What one read gave is one chunk, which is sent before more is asked for. A payload is sent before it is asked whether something
-    # follows it. After a fault nothing is sent.
+    # What one read gave is one chunk. What came whole is sent before more is asked for, and also before it is asked whether
+    # something follows a body. After a fault nothing is sent.
     answer <<'END'
 decode|3\r\nabc\r\n0\r\n\r\n|||abc|0|2 1
 decode|3\r\nabc\r\n0\r\n\r\n|1*|1*|abc|0|14 3
-decode|3\r\nab|1*||ab|5|6 1|the input ends after 5 bytes of a body
+decode|3\r\nab|1*||ab|5|6 2|the input ends after 5 bytes of a body
 decode|3\r\nabc\r\n0\r\n\r\n|e|||1|1 0
-decode|3\r\nabc\r\n0\r\n\r\n|2 2 e|||1|3 0
+decode|3\r\nabc\r\n0\r\n\r\n|2 2 e||a|1|3 1
+decode|1\r\na\r\n2\r\nbc\r\n0\r\n\r\n|8 e||a|1|2 1
 decode|3\r\nabc\r\n0\r\n\r\n|a e||abc|1|2 1
 decode|3\r\nabc\r\n0\r\n\r\n||e||1|1 1
 decode|3\r\nabc\r\n0\r\n\r\n||0||1|1 1

@@ -18,7 +18,7 @@ use Rattle.chunked.specs.declared.place.Place.TheVariants.{Line}
 use Rattle.bodies.specs.declared.error.RunError.{RunError}
 use Rattle.bodies.specs.declared.error.RunError.TheVariants.{NotChunked, Truncated, Behind, Read, Write, Io}
 use Rattle.bodies.specs.Decode.{DecodeFailed, DecodeRan, Decoded, ExpectsEnd, IsPart, MovesAndFlushes, MovesEach, MovesFirst, Sent}
-use Rattle.programs.specs.Streams.{AllSent, BufferRefused, MetNoFault, OverCount, ReadFailed, SendFailed}
+use Rattle.programs.specs.Streams.{AllSent, BufferRefused, MetNoFault, OverCount, SendFailed}
 use Rattle.programs.specs.StreamsLaws.{ReadGaveUp-after, MetInterrupts-none, MetNoFault-joins}
 
 -- from empty buffers on
@@ -83,21 +83,20 @@ module _ {R W : Type 0} (remaining : R → Option (List ℕ)) (limits : Limits) 
           (r.block.bytes, end.answers.1, (decoded end.along, end.answers.2), met end.answers.0)
       asked (Err (Write e)) end = absurd end.answers
       asked (Err (Io e)) end = absurd end.answers
-      asked (Err (Read e)) end = record {
-        wire = t.taken;
-        payload = p.payload;
-        place = t.place;
-        part = part p.payload p.went.went p.went.source.whole;
-        rest = r.block.bytes;
-        given = given p.payload p.went.went r end.along;
-        unsent = [];
-        received = append-nil v.log.writes.received ∙ received;
-        caused = record {
+      asked (Err (Read e)) end = (
+        record {
+          wire = t.taken;
+          payload = p.payload;
+          place = t.place;
+          part = part p.payload p.went.went p.went.source.whole;
+          sent = subst (λ l. Sent first.log r.log u.log v.log t.taken p.payload l) end.answers.1 (sent r end.along);
+        },
+        record {
           reader = ReadGaveUp-after first.log.reads.faults t.reader.log.reads.faults r.log.reads.faults e p.met.reader
-              end.answers;
+              end.answers.0;
           writer = p.met.writer;
-        };
-      }
+        },
+      )
 
   pub ended : MovesAndFlushes remaining (begun first limits) u (Ok tt) t v → (answer : Result (Unit {0}) RunError)
       → (r : Buffered R StdPolicy) → ExpectsEnd remaining t.reader (taken_count t) answer r
@@ -169,8 +168,23 @@ module _ {R W : Type 0} (remaining : R → Option (List ℕ)) (limits : Limits) 
         each.met,
       )
   stopped (Behind right) p = absurd p
-  stopped (Read e) p =
-      failed (λ _. ReadFailed e first.log t.reader.log u.log v.log) (λ n k less cause. cause) p.0 p.1
+  stopped (Read e) p = (
+    record {
+      wire = t.taken;
+      payload = p.payload;
+      place = t.place;
+      part = part p.payload p.went.went p.went.source.whole;
+      sent = record {
+        given = given p.payload p.went.went t.reader (ReadsAlong-none remaining std_read_rules t.reader)
+            ∙ ap (λ l. first.log.reads.given ++ (t.taken ++ l)) p.left;
+        received =
+            sym (append-nil v.log.writes.received) ∙ ap (λ l. v.log.writes.received ++ l) (sym p.sent.empty)
+            ∙ WritesInOrder-fresh u v p.payload none' p.went.taken;
+        flushed = p.sent.flushed;
+      };
+    },
+    p.failed,
+  )
   stopped (Write e) p =
       failed (λ _. SendFailed e first.log t.reader.log u.log v.log) (λ n k less cause. cause) p.0 p.1
   stopped (Io e) p =

@@ -1,5 +1,5 @@
 -- What chunks come to that are made one behind the other.
-use Rattle.std.proofs.Common.{◌≡◌, ℕ, zero, suc, ◌+◌, ◌<◌, ◌≤◌, ◌^◌, inl, inr, Bool, List, [], ◌∷◌, ◌++◌, length, take, true, false, Option, Result, Ok, Err, refl, sym, ap, subst, ◌∙◌, arith, append-nil, length-append}
+use Rattle.std.proofs.Common.{◌≡◌, ℕ, zero, suc, ◌+◌, ◌<◌, ◌≤◌, ◌^◌, inl, inr, Bool, List, [], ◌++◌, length, take, true, false, Option, Result, Ok, Err, refl, sym, ap, subst, ◌∙◌, arith, append-nil, length-append}
 use Rattle.std.proofs.lemmas.Bool.{cases_lt}
 use Rattle.std.proofs.lemmas.List.{length-take-le}
 use Rattle.std.proofs.lemmas.List.Concat.{flat_map-append}
@@ -25,6 +25,7 @@ use Rattle.programs.specs.Streams.{AllSent, ReadGaveUp}
 use Rattle.programs.specs.StreamsLaws.{ReadFailed-after, SendFailed-after, MetInterrupts-none, MetNoFault-joins, MetNoFault-none}
 use Rattle.bodies.specs.declared.error.RunError.{RunError}
 use Rattle.bodies.specs.declared.error.RunError.TheVariants.{NotChunked, Truncated, Behind, Read, Write, Io}
+use Rattle.bodies.proofs.Reading.{no_gave_up}
 use Rattle.bodies.specs.AtEnd.{Asks, EndsOnce}
 use Rattle.bodies.specs.Encode.{Encodes, EncodesAll, EncodesEach, EncodesNext, NeverEnded}
 
@@ -89,16 +90,6 @@ module _ {W : Type 0} (tells : W → StreamLog) (stretch : W → W → Type 0) w
 taken_joined : (payload : List ℕ) (n : ℕ) → take n payload ≡ flat_map (λ p. p) (taken_payloads payload (Ok n))
 taken_joined payload zero = refl
 taken_joined payload (suc n) = sym (append-nil (take (suc n) payload))
-
--- a read that failed was told
-no_gave_up : (old new : List Error) (e : Error) → new ≡ old → ReadGaveUp e old new → ⊥
-no_gave_up old new e same gave = omega (
-  arith,
-  ap length same,
-  ap length gave.fault.faults,
-  length-append old gave.fault.interrupts,
-  length-append (old ++ gave.fault.interrupts) (e ∷ []),
-)
 
 -- so many chunks were made
 pub record EncodesSoFar {R W : Type 0} (remaining : R → Option (List ℕ)) (stretch : W → W → Type 0)

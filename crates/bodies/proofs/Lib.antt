@@ -2,6 +2,8 @@ pub mod Asking
 pub mod Reading
 pub mod Moving
 pub mod DecodeRuns
+pub mod DecodeAsking
+pub mod DecodePrompting
 pub mod Encoding
 pub mod EncodePrompting
 pub mod EncodeRuns

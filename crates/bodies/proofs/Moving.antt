@@ -1,26 +1,26 @@
 -- What pieces of payload come to that are copied one behind the other.
-use Rattle.std.proofs.Common.{◌≡◌, ℕ, ◌+◌, ◌<◌, ◌≤◌, ◌^◌, List, [], ◌++◌, length, take, true, false, Option, Result, Ok, Err, sym, subst, ◌∙◌, arith, append-nil, length-append}
+use Rattle.std.proofs.Common.{◌≡◌, ℕ, ◌+◌, ◌<◌, ◌≤◌, ◌^◌, Bool, List, [], ◌++◌, length, take, true, false, Option, Result, Ok, Err, sym, ap, subst, ◌∙◌, arith, append-nil, append_assoc, length-append}
 use Rattle.std.proofs.lemmas.Bool.{true≢false, false≢true}
 use Rattle.std.specs.IoError.{error_kind}
 use Rattle.std.specs.declared.io.Error.{Error}
 use Rattle.std.specs.declared.io.ErrorKind.TheVariants.{Other}
-use Rattle.buffer_redux.specs.BufReader.{RanDry}
 use Rattle.buffer_redux.specs.BufWriter.{WritesInOrder}
 use Rattle.buffer_redux.specs.Buffered.{Buffered}
-use Rattle.buffer_redux.specs.Faults.{MetInterrupts, OnlyInterrupts-none, OnlyInterrupts-joins, SendErrorCaused, SendErrorCaused-after}
+use Rattle.buffer_redux.specs.Faults.{MetInterrupts, OnlyInterrupts, OnlyInterrupts-none, SendErrorCaused, SendErrorCaused-after}
 use Rattle.buffer_redux.specs.Policy.{std_read_rules}
 use Rattle.buffer_redux.specs.WriterLaws.{WritesInOrder-joins, WritesInOrder-none, WritesInOrder-then}
 use Rattle.buffer_redux.specs.declared.policy.StdPolicy.{StdPolicy}
-use Rattle.chunked.specs.Dechunking.{BodyWent, Dechunking}
+use Rattle.chunked.specs.Dechunking.{BodyWent, Dechunking, HasPayload, TakesBuffered}
 use Rattle.chunked.specs.DechunkingLaws.{BodyWent-joins, BodyWent-none}
 use Rattle.chunked.specs.declared.error.ChunkedError.{ChunkedError}
 use Rattle.chunked.specs.declared.error.ChunkedError.TheVariants as NoPayload
 use Rattle.bodies.specs.declared.error.RunError.{RunError}
 use Rattle.bodies.specs.declared.error.RunError.TheVariants.{NotChunked, Truncated, Behind, Read, Write, Io}
-use Rattle.bodies.specs.Decode.{IsBodySource, IsPieceTarget, Moves, MovesAll, MovesAndFlushes, MovesEach, ReadsMet, ReadsPiece, of_chunked}
+use Rattle.bodies.specs.Decode.{IsBodySource, IsPieceTarget, Moves, MovesAll, MovesAndFlushes, MovesEach, MovesNext, ReadsMet, ReadsPiece, of_chunked}
 use Rattle.bodies.specs.Ending.{faulted}
+use Rattle.bodies.proofs.Reading.{no_gave_up}
 use Rattle.programs.specs.Streams.{AllSent}
-use Rattle.programs.specs.StreamsLaws.{ReadGaveUp-after, MetInterrupts-none, MetNoFault-joins, MetNoFault-none}
+use Rattle.programs.specs.StreamsLaws.{ReadFailed-after, SendFailed-after, MetInterrupts-none, MetNoFault-joins, MetNoFault-none, only_same}
 
 -- so many bytes went over
 pub record MovesSoFar {R W : Type 0} (remaining : R → Option (List ℕ)) (s : Dechunking R StdPolicy)
@@ -44,90 +44,149 @@ module _ {R W : Type 0} (remaining : R → Option (List ℕ)) (s : Dechunking R 
     all = omega arith;
   }
 
-  module _ (m t : Dechunking R StdPolicy) (w v : Buffered W StdPolicy) (before : MovesEach remaining s u m w) where
-    then_moves : (handed accepted : List ℕ) → BodyWent remaining std_read_rules m handed t → IsBodySource t
-        → WritesInOrder w accepted v → IsPieceTarget v
-        → Moves remaining s u (before.payload ++ handed) (before.payload ++ accepted) t v
-    then_moves handed accepted went source taken target = record {
-      went = BodyWent-joins remaining std_read_rules s m t before.payload handed before.went.went went;
-      source = source;
-      taken = WritesInOrder-joins u w v before.payload accepted before.went.taken taken;
-      target = target;
-    }
-
-    -- a piece was read, and could not be written
-    pub not_written : (out : List ℕ) (n : ℕ) → ReadsPiece remaining m out (Ok n) t → (e : Error) → WritesInOrder w [] v
-        → IsPieceTarget v → SendErrorCaused w.log.writes v.log.writes e → MovesAll remaining s u (Err (Write e)) t v
-    not_written out n piece e none target caused = (
-      record {
-        payload = before.payload;
-        lost = take n out;
-        went = subst (λ l. Moves remaining s u (before.payload ++ take n out) l t v) (append-nil before.payload)
-            (then_moves (take n out) [] piece.went piece.source none target);
-      },
-      record {
-        reader = OnlyInterrupts-joins s.reader.log.reads.faults m.reader.log.reads.faults t.reader.log.reads.faults
-            before.met.reader piece.answers.0;
-        writer = SendErrorCaused-after u.log.writes w.log.writes v.log.writes e before.met.writer caused;
-      },
-    )
-
-    -- or was written
-    pub so_far_more : (count : ℕ) → count ≤ length before.payload → (out : List ℕ) (n : ℕ) → 0 < length (take n out)
-        → ReadsPiece remaining m out (Ok n) t → WritesInOrder w (take n out) v → IsPieceTarget v
-        → MetInterrupts w.log.writes v.log.writes → MovesSoFar remaining s u (count + 1) t v
-    so_far_more count all out n some piece taken target met = record {
-      each = record {
-        payload = before.payload ++ take n out;
-        went = then_moves (take n out) (take n out) piece.went piece.source taken target;
-        met = MetNoFault-joins s.reader.log m.reader.log t.reader.log u.log w.log v.log before.met
-            (record { reader = piece.answers.0; writer = met });
-      };
-      all = omega (arith, all, some, length-append before.payload (take n out));
-    }
-
-  -- nothing more was read, and so nothing was written
-  module _ (m t : Dechunking R StdPolicy) (w : Buffered W StdPolicy) (before : MovesEach remaining s u m w) where
-    each_still : BodyWent remaining std_read_rules m [] t → IsBodySource t → ReadsMet m t → MovesEach remaining s u t w
+  -- one piece
+  module _ (target : IsPieceTarget u) (t : Dechunking R StdPolicy) (out : List ℕ) where
+    -- nothing was read, and so nothing was written
+    each_still : BodyWent remaining std_read_rules s [] t → IsBodySource t → ReadsMet s t → MovesEach remaining s u t u
     each_still went source met = record {
-      payload = before.payload ++ [];
-      went = then_moves m t w w before [] [] went source (WritesInOrder-none w) before.went.target;
-      met = MetNoFault-joins s.reader.log m.reader.log t.reader.log u.log w.log w.log before.met
-          (record { reader = met; writer = MetInterrupts-none w.log.writes });
+      payload = [];
+      went = record { went = went; source = source; taken = WritesInOrder-none u; target = target };
+      met = record { reader = met; writer = MetInterrupts-none u.log.writes };
     }
 
-    dry_too : RanDry m.reader t.reader → RanDry s.reader t.reader
-    dry_too dry = omega (arith, before.went.went.along.grows.zero_reads, dry)
-
-    pub all_done : (out : List ℕ) (n : ℕ) → n ≡ 0 → ReadsPiece remaining m out (Ok n) t
-        → MovesAll remaining s u (Ok tt) t w
-    all_done out n none piece =
-        let went = subst (λ k. BodyWent remaining std_read_rules m (take k out) t) none piece.went in
+    pub piece_ends : (n : ℕ) → n ≡ 0 → ReadsPiece remaining s out (Ok n) t → MovesNext remaining s u (Ok false) t u
+    piece_ends n none piece =
+        let went = subst (λ k. BodyWent remaining std_read_rules s (take k out) t) none piece.went in
         (each_still went piece.source piece.answers.0, piece.answers.1 none)
 
-    pub stops : (out : List ℕ) (e : ChunkedError) → ReadsPiece remaining m out (Err e) t
-        → MovesAll remaining s u (Err (of_chunked e)) t w
-    stops out (NoPayload.NotChunked why right) piece =
+    pub piece_stops : (e : ChunkedError) → ReadsPiece remaining s out (Err e) t → (¬ HasPayload s → AllSent u)
+        → (HasPayload s → t.reader.log ≡ s.reader.log) → MovesNext remaining s u (Err (of_chunked e)) t u
+    piece_stops (NoPayload.NotChunked why right) piece sent quiet =
         (each_still piece.went piece.source piece.answers.0, piece.answers.1, piece.answers.2)
-    stops out (NoPayload.Truncated right) piece =
-        let cut = piece.answers.1 in (
-          each_still piece.went piece.source piece.answers.0,
-          record { none = cut.none; left = cut.left; dry = dry_too cut.dry },
-          piece.answers.2,
-        )
-    stops out (NoPayload.Io e) piece = (
+    piece_stops (NoPayload.Truncated right) piece sent quiet =
+        (each_still piece.went piece.source piece.answers.0, piece.answers.1, piece.answers.2)
+    piece_stops (NoPayload.Io e) piece sent quiet = record {
+      payload = [];
+      went = record { went = piece.went; source = piece.source; taken = WritesInOrder-none u; target = target };
+      left = piece.answers.1;
+      sent = sent (λ has. no_gave_up s.reader.log.reads.faults t.reader.log.reads.faults e
+          (ap (λ l. l.reads.faults) (quiet has)) piece.answers.0);
+      failed = record { reader = piece.answers.0; writer = MetInterrupts-none u.log.writes };
+    }
+
+    module _ (n : ℕ) (piece : ReadsPiece remaining s out (Ok n) t) (v : Buffered W StdPolicy) (still : IsPieceTarget v) where
+      -- it was read, and could not be written
+      pub piece_not_written : (e : Error) → WritesInOrder u [] v → SendErrorCaused u.log.writes v.log.writes e
+          → MovesNext remaining s u (Err (Write e)) t v
+      piece_not_written e none caused = (
+        record {
+          payload = [];
+          lost = take n out;
+          went = record { went = piece.went; source = piece.source; taken = none; target = still };
+        },
+        record { reader = piece.answers.0; writer = caused },
+      )
+
+      -- or was written
+      pub piece_written : 0 < length (take n out) → WritesInOrder u (take n out) v → MetInterrupts u.log.writes v.log.writes
+          → MovesNext remaining s u (Ok true) t v
+      piece_written some taken met = (
+        record {
+          payload = take n out;
+          went = record { went = piece.went; source = piece.source; taken = taken; target = still };
+          met = record { reader = piece.answers.0; writer = met };
+        },
+        some,
+      )
+
+  -- what was buffered was taken, and then all was flushed, or nothing was
+  module _ (m : Dechunking R StdPolicy) (taken : TakesBuffered remaining std_read_rules s m) (source : IsBodySource s)
+      (w : Buffered W StdPolicy) (none : WritesInOrder u [] w) (still : IsPieceTarget w) where
+    pub source_on : IsBodySource m
+    source_on = record { capacity = omega (arith, source.capacity, taken.went.along.capacity); whole = taken.whole }
+
+    moved_none : Moves remaining s u [] [] m w
+    moved_none = record { went = taken.went; source = source_on; taken = none; target = still }
+
+    only : OnlyInterrupts s.reader.log.reads.faults m.reader.log.reads.faults
+    only = only_same s.reader.log.reads.faults m.reader.log.reads.faults (ap (λ l. l.reads.faults) taken.told)
+
+    pub looked : MetInterrupts u.log.writes w.log.writes → MovesEach remaining s u m w
+    looked met = record { payload = []; went = moved_none; met = record { reader = only; writer = met } }
+
+    pub not_flushed : (e : Error) → SendErrorCaused u.log.writes w.log.writes e → MovesNext remaining s u (Err (Write e)) m w
+    not_flushed e caused =
+        (record { payload = []; lost = []; went = moved_none }, record { reader = only; writer = caused })
+
+  -- some went over before
+  module _ (m t : Dechunking R StdPolicy) (w v : Buffered W StdPolicy) (before : MovesEach remaining s u m w) where
+    then_moves : (handed accepted : List ℕ) → Moves remaining m w handed accepted t v
+        → Moves remaining s u (before.payload ++ handed) (before.payload ++ accepted) t v
+    then_moves handed accepted p = record {
+      went = BodyWent-joins remaining std_read_rules s m t before.payload handed before.went.went p.went;
+      source = p.source;
+      taken = WritesInOrder-joins u w v before.payload accepted before.went.taken p.taken;
+      target = p.target;
+    }
+
+    then_each : MovesEach remaining m w t v → MovesEach remaining s u t v
+    then_each next = record {
+      payload = before.payload ++ next.payload;
+      went = then_moves next.payload next.payload next.went;
+      met = MetNoFault-joins s.reader.log m.reader.log t.reader.log u.log w.log v.log before.met next.met;
+    }
+
+    pub then_next : (answer : Result Bool RunError) → MovesNext remaining m w answer t v → MovesNext remaining s u answer t v
+    unfolding then_each
+    then_next (Ok true) next =
+        (then_each next.0, omega (arith, next.1, length-append before.payload next.0.payload))
+    then_next (Ok false) next = (then_each next.0, next.1)
+    then_next (Err (NotChunked why right)) next = (then_each next.0, next.1, next.2)
+    then_next (Err (Truncated right)) next = (
+      then_each next.0,
       record {
-        payload = before.payload ++ [];
-        lost = [];
-        went = subst (λ l. Moves remaining s u l (before.payload ++ []) t w) (sym (append-nil (before.payload ++ [])))
-            (then_moves m t w w before [] [] piece.went piece.source (WritesInOrder-none w) before.went.target);
+        none = next.1.none;
+        left = next.1.left;
+        dry = omega (arith, before.went.went.along.grows.zero_reads, next.1.dry);
       },
-      record {
-        reader = ReadGaveUp-after s.reader.log.reads.faults m.reader.log.reads.faults t.reader.log.reads.faults e
-            before.met.reader piece.answers;
-        writer = before.met.writer;
-      },
+      next.2,
     )
+    then_next (Err (Behind right)) next = absurd next
+    then_next (Err (Read e)) next = record {
+      payload = before.payload ++ next.payload;
+      went = then_moves next.payload next.payload next.went;
+      left = next.left;
+      sent = next.sent;
+      failed = ReadFailed-after e s.reader.log m.reader.log t.reader.log u.log w.log v.log before.met next.failed;
+    }
+    then_next (Err (Write e)) next = (
+      record {
+        payload = before.payload ++ next.0.payload;
+        lost = next.0.lost;
+        went = subst (λ l. Moves remaining s u l (before.payload ++ next.0.payload) t v)
+            (sym (append_assoc before.payload next.0.payload next.0.lost))
+            (then_moves (next.0.payload ++ next.0.lost) next.0.payload next.0.went);
+      },
+      SendFailed-after e s.reader.log m.reader.log t.reader.log u.log w.log v.log before.met next.1,
+    )
+    then_next (Err (Io e)) next = absurd next
+
+    pub so_far_more : (count : ℕ) → count ≤ length before.payload → MovesNext remaining m w (Ok true) t v
+        → MovesSoFar remaining s u (count + 1) t v
+    unfolding then_each
+    so_far_more count all next = record {
+      each = then_each next.0;
+      all = omega (arith, all, next.1, length-append before.payload next.0.payload);
+    }
+
+    -- the last call
+    pub stops : (e : RunError) → MovesNext remaining m w (Err e) t v → MovesAll remaining s u (Err e) t v
+    stops (NotChunked why right) next = then_next (Err (NotChunked why right)) next
+    stops (Truncated right) next = then_next (Err (Truncated right)) next
+    stops (Behind right) next = absurd next
+    stops (Read e) next = then_next (Err (Read e)) next
+    stops (Write e) next = then_next (Err (Write e)) next
+    stops (Io e) next = absurd next
 
   pub over : (m : Dechunking R StdPolicy) (w : Buffered W StdPolicy) (before : MovesEach remaining s u m w) (e : Error)
       → error_kind e ≡ Other → 2 ^ 64 ≤ length before.payload + 1 → MovesAll remaining s u (Err (Io e)) m w

@@ -1,5 +1,5 @@
 -- What reads of payload come to, in which interrupted ones are tried again.
-use Rattle.std.proofs.Common.{◌≡◌, ℕ, ◌+◌, ◌<◌, ◌≤◌, inl, inr, List, [], ◌∷◌, ◌++◌, length, Option, Result, Ok, Err, arith}
+use Rattle.std.proofs.Common.{◌≡◌, ℕ, ◌+◌, ◌<◌, ◌≤◌, inl, inr, List, [], ◌∷◌, ◌++◌, length, Option, Result, Ok, Err, OnOk, sym, ap, subst, ◌∙◌, arith, length-append}
 use Rattle.std.specs.declared.io.Error.{Error}
 use Rattle.buffer_redux.specs.Buffered.{Buffered}
 use Rattle.buffer_redux.specs.Faults.{OnlyInterrupts-joins}
@@ -7,11 +7,15 @@ use Rattle.buffer_redux.specs.Policy.{std_read_rules}
 use Rattle.buffer_redux.specs.ReaderLaws.{WantsBytes-std}
 use Rattle.buffer_redux.specs.declared.policy.StdPolicy.{StdPolicy}
 use Rattle.chunked.specs.Between.{Faulted, NoFault, handed_out}
-use Rattle.chunked.specs.Dechunking.{BodyWent, Dechunking, ReadsPayload}
+use Rattle.chunked.specs.Dechunking.{BodyWent, Dechunking, HasPayload, ReadsPayload}
 use Rattle.chunked.specs.DechunkingLaws.{BodyWent-joins}
 use Rattle.chunked.specs.declared.error.ChunkedError.{ChunkedError}
 use Rattle.chunked.specs.declared.error.ChunkedError.TheVariants.{NotChunked, Truncated, Io}
-use Rattle.bodies.specs.Decode.{IsBodySource, PieceAnswers, ReadsMet, ReadsPiece, WasInterrupted}
+use Rattle.bodies.specs.Decode.{Asks, IsBodySource, PieceAnswers, ReadsMet, ReadsPiece, WasInterrupted}
+use Rattle.programs.specs.Prompt.{AsksGive}
+use Rattle.programs.specs.Streams.{ReadGaveUp}
+use Rattle.bodies.proofs.DecodeAsking.{read_fails, read_gives, read_leaves, read_over, read_quiet}
+use Rattle.bodies.proofs.DecodePrompting.{asks_again, gives_on}
 use Rattle.programs.specs.StreamsLaws.{gave_up, one_more, only_more, only_same}
 
 -- under `StdPolicy` an error is the stream's own
@@ -19,6 +23,16 @@ std_fault : {R : Type 0} (s : Buffered R StdPolicy) (e : Error) (t : Buffered R 
     → t.log.reads.faults ≡ s.log.reads.faults ++ e ∷ []
 std_fault s e t (inl fault) = fault
 std_fault s e t (inr failed) = absurd failed.gave.gave.allowed
+
+-- a read that failed was told
+pub no_gave_up : (old new : List Error) (e : Error) → new ≡ old → ReadGaveUp e old new → ⊥
+no_gave_up old new e same gave = omega (
+  arith,
+  ap length same,
+  ap length gave.fault.faults,
+  length-append old gave.fault.interrupts,
+  length-append (old ++ gave.fault.interrupts) (e ∷ []),
+)
 
 -- reads were tried again before
 module _ {R : Type 0} (remaining : R → Option (List ℕ)) (s m t : Dechunking R StdPolicy)
@@ -55,14 +69,56 @@ module _ {R : Type 0} (remaining : R → Option (List ℕ)) (s m t : Dechunking 
           },
           p.answers.0,
         )
-    answers (Err (Io e)) often some p =
-        gave_up s.reader.log.reads.faults m.reader.log.reads.faults t.reader.log.reads.faults e met (fault e p)
-        (λ is. omega (
+    answers (Err (Io e)) often some p = (
+      gave_up s.reader.log.reads.faults m.reader.log.reads.faults t.reader.log.reads.faults e met (fault e p)
+          (λ is. omega (
+            arith,
+            often is,
+            have,
+            one_more m.reader.log.reads.faults t.reader.log.reads.faults e (fault e p),
+          )),
+      read_leaves remaining m t source.whole out e p,
+    )
+
+    -- how they asked
+    pub asked_on : Asks s m → AsksGive s.reader.log m.reader.log → (answer : Result ℕ ChunkedError)
+        → ReadsPayload remaining std_read_rules m out answer t → Asks s t
+    asked_on asks give answer p =
+        asks_again remaining s m t before asks give (read_over remaining m t source.whole out answer p)
+
+    pub gives_last : AsksGive s.reader.log m.reader.log → (answer : Result ℕ ChunkedError)
+        → ReadsPayload remaining std_read_rules m out answer t → OnOk answer (AsksGive s.reader.log t.reader.log)
+    gives_last give (Ok n) p =
+        gives_on s.reader.log m.reader.log t.reader.log give (read_gives remaining m t source.whole out n p)
+    gives_last give (Err e) p = tt
+
+    pub gives_again : AsksGive s.reader.log m.reader.log → (answer : Result ℕ ChunkedError) → WasInterrupted answer
+        → ReadsPayload remaining std_read_rules m out answer t → AsksGive s.reader.log t.reader.log
+    gives_again give (Ok n) is p = absurd is
+    gives_again give (Err (NotChunked why right)) is p = absurd is
+    gives_again give (Err (Truncated right)) is p = absurd is
+    gives_again give (Err (Io e)) is p = gives_on s.reader.log m.reader.log t.reader.log give
+        (read_fails remaining m t source.whole out e p (fault e p))
+
+    -- where payload was buffered the first was the last
+    pub none_again : (HasPayload s → m ≡ s) → (answer : Result ℕ ChunkedError) → WasInterrupted answer
+        → ReadsPayload remaining std_read_rules m out answer t → HasPayload s → t ≡ s
+    none_again quiet (Ok n) is p has = absurd is
+    none_again quiet (Err (NotChunked why right)) is p has = absurd is
+    none_again quiet (Err (Truncated right)) is p has = absurd is
+    none_again quiet (Err (Io e)) is p has =
+        let same = read_quiet remaining m t source.whole out (Err (Io e)) p (subst HasPayload (sym (quiet has)) has) in
+        absurd (omega (
           arith,
-          often is,
-          have,
+          ap (λ l. length l.reads.faults) same,
           one_more m.reader.log.reads.faults t.reader.log.reads.faults e (fault e p),
         ))
+
+    pub quiet_last : (HasPayload s → m ≡ s) → (answer : Result ℕ ChunkedError)
+        → ReadsPayload remaining std_read_rules m out answer t → HasPayload s → t.reader.log ≡ s.reader.log
+    quiet_last quiet answer p has =
+        read_quiet remaining m t source.whole out answer p (subst HasPayload (sym (quiet has)) has)
+        ∙ ap (λ x. x.reader.log) (quiet has)
 
     -- the last of them
     pub answered : (answer : Result ℕ ChunkedError) → (WasInterrupted answer → 65 ≤ row + 1) → 0 < length out

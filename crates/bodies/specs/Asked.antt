@@ -7,6 +7,7 @@ use Rattle.bodies.specs.declared.ending.Ending.{Ending}
 use Rattle.bodies.specs.declared.ending.Ending.TheVariants.{Usual}
 use Rattle.bodies.specs.declared.error.RunError.{RunError}
 use Rattle.bodies.specs.Decode.{DecodeRan}
+use Rattle.bodies.specs.Decode as decoded
 use Rattle.bodies.specs.Encode.{EncodeRan}
 use Rattle.bodies.specs.Encode as encoded
 use Rattle.bodies.specs.Ending.{EndsAs}
@@ -28,6 +29,7 @@ usual_limits = record { line = 8192; trailers = 65536 }
 pub record DecodedAs (ending : Ending) (read read' written written' : StreamLog) : Type 0 where
   pub answer : Result (Unit {0}) RunError
   pub ran : DecodeRan usual_limits read read' written written' answer
+  pub prompt : HoldsNothingBack (decoded.IsDue usual_limits) read read' written written'
   pub ends : EndsAs answer ending
 
 -- a payload was made a body, and the run ended so

@@ -1,5 +1,6 @@
 -- What a run of `decode` moves from a reader to a writer.
-use Rattle.std.specs.Prelude.{◌≡◌, ℕ, ◌-◌, ◌^◌, ◌<◌, ◌⊎◌, List, [], ◌∷◌, ◌++◌, length, min, Result, Ok, Err, Option}
+use Rattle.std.specs.Prelude.{◌≡◌, ℕ, ◌-◌, ◌^◌, ◌<◌, ◌⊎◌, List, [], ◌∷◌, ◌++◌, length, min, Bool, true, false, Result, Ok, Err, Option}
+use Rattle.std.specs.declared.io.Error.{Error}
 use Rattle.buffer_redux.specs.Block.{Plain}
 use Rattle.buffer_redux.specs.BufReader.{RanDry, ReadsAlong}
 use Rattle.buffer_redux.specs.BufWriter.{WritesInOrder}
@@ -10,7 +11,7 @@ use Rattle.buffer_redux.specs.StreamLog.{StreamLog}
 use Rattle.buffer_redux.specs.declared.policy.StdPolicy.{StdPolicy}
 use Rattle.chunked.specs.Between.{handed_out}
 use Rattle.chunked.specs.Body.{IsBody}
-use Rattle.chunked.specs.Dechunking.{BodyWent, Breaks, Dechunking, IsDechunking, IsWhole, taken_count}
+use Rattle.chunked.specs.Dechunking.{BodyWent, Breaks, Dechunking, IsDechunking, IsWhole, handed_of, taken_count}
 use Rattle.chunked.specs.Place.{IsPlace, IsWrong, Leads}
 use Rattle.chunked.specs.declared.error.ChunkedError.{ChunkedError}
 use Rattle.chunked.specs.declared.error.ChunkedError.TheVariants as NoPayload
@@ -18,8 +19,10 @@ use Rattle.chunked.specs.declared.error.Malformed.{Malformed}
 use Rattle.chunked.specs.declared.limits.Limits.{Limits}
 use Rattle.chunked.specs.declared.place.Place.{Place}
 use Rattle.chunked.specs.declared.place.Place.TheVariants.{Line}
+use Rattle.bodies.specs.AtEnd.{Asks as EndAsks}
 use Rattle.bodies.specs.declared.error.RunError.{RunError}
 use Rattle.bodies.specs.declared.error.RunError.TheVariants.{NotChunked, Truncated, Behind, Read, Write, Io}
+use Rattle.programs.specs.Prompt.{AskedLast, WasSent}
 use Rattle.programs.specs.Streams.{MetNoFault, ReadGaveUp, ReadFailed, SendFailed, OverCount, BufferRefused, GaveNothing, AllFlushed, AllSent}
 
 -- why a run failed in which there was no further payload
@@ -36,7 +39,42 @@ pub record IsBodySource {R : Type 0} (s : Dechunking R StdPolicy) : Type 0 where
 -- a buffered writer whose buffer is larger than a piece of payload
 pub record IsPieceTarget {W : Type 0} (u : Buffered W StdPolicy) : Type 0 where
   pub plain : u.block.kind ≡ Plain
-  pub capacity : 8192 < u.block.capacity
+  pub capacity : 16384 < u.block.capacity
+
+-- these bytes lead from before a body to this place in it, and this is the payload in them
+pub record IsPart (limits : Limits) (wire payload : List ℕ) (place : Place) : Type 0 where
+  pub leads : Leads limits Line wire payload place
+  pub is_place : IsPlace place
+
+-- what is due of these bytes: the payload in them
+pub record IsDue (limits : Limits) (bytes due : List ℕ) : Type 0 where
+  pub place : Place
+  pub part : IsPart limits bytes due place
+
+-- no byte was read or taken yet
+pub record IsUnread {R : Type 0} (s : Dechunking R StdPolicy) : Type 0 where
+  pub taken : s.taken ≡ []
+  pub handed : handed_of s ≡ []
+  pub buffered : s.reader.block.bytes ≡ []
+
+-- the reader inside was asked, also for the last time, only where the payload in all that had come was handed out before; and
+-- each ask but the last gave a byte, or failed
+pub record AskedOver {R : Type 0} (s t : Dechunking R StdPolicy) : Type 0 where
+  pub came : List ℕ
+  pub last : List ℕ
+  pub asked : AskedLast came last s.reader.log t.reader.log
+  pub due : IsDue s.limits (s.taken ++ (s.reader.block.bytes ++ came)) (handed_of s)
+
+-- or it wasn't
+abbrev pub Asks : {R : Type 0} → Dechunking R StdPolicy → Dechunking R StdPolicy → Type 0
+Asks s t = (t.reader.log ≡ s.reader.log) ⊎ AskedOver s t
+
+-- it was so, once all that had been taken in was received and flushed; or it wasn't asked
+abbrev pub AsksWhenSent : {R W : Type 0} → Dechunking R StdPolicy → Buffered W StdPolicy → Dechunking R StdPolicy
+    → Buffered W StdPolicy → Type 0
+AsksWhenSent s u t v =
+    (t.reader.log ≡ s.reader.log)
+    ⊎ (AskedOver s t × WasSent (u.log.writes.received ++ u.block.bytes) v.log.writes)
 
 -- reads were at most interrupted
 abbrev pub ReadsMet : {R : Type 0} → Dechunking R StdPolicy → Dechunking R StdPolicy → Type 0
@@ -60,7 +98,8 @@ abbrev pub PieceAnswers : {R : Type 0} → Dechunking R StdPolicy → Result ℕ
 PieceAnswers s (Ok n) t = ReadsMet s t × (n ≡ 0 → IsWhole t)
 PieceAnswers s (Err (NoPayload.NotChunked why right)) t = ReadsMet s t × Breaks why t × (right ≡ taken_count t)
 PieceAnswers s (Err (NoPayload.Truncated right)) t = ReadsMet s t × CutShort s t × (right ≡ taken_count t)
-PieceAnswers s (Err (NoPayload.Io e)) t = ReadGaveUp e s.reader.log.reads.faults t.reader.log.reads.faults
+PieceAnswers s (Err (NoPayload.Io e)) t =
+    ReadGaveUp e s.reader.log.reads.faults t.reader.log.reads.faults × (t.reader.block.bytes ≡ [])
 
 -- what such a read does, which left the slice as out
 pub record ReadsPiece {R : Type 0} (remaining : R → Option (List ℕ)) (s : Dechunking R StdPolicy) (out : List ℕ)
@@ -96,6 +135,30 @@ pub record MovesFirst {R W : Type 0} (remaining : R → Option (List ℕ)) (s : 
   pub lost : List ℕ
   pub went : Moves remaining s u (payload ++ lost) payload t v
 
+-- all of it was, and sent, and then a read failed with this error, where nothing is left
+pub record MovesToFault {R W : Type 0} (remaining : R → Option (List ℕ)) (s : Dechunking R StdPolicy)
+    (u : Buffered W StdPolicy) (e : Error) (t : Dechunking R StdPolicy) (v : Buffered W StdPolicy) : Type 0 where
+  pub payload : List ℕ
+  pub went : Moves remaining s u payload payload t v
+  pub left : t.reader.block.bytes ≡ []
+  pub sent : AllSent v
+  pub failed : ReadFailed e s.reader.log t.reader.log u.log v.log
+
+-- what one call did that moves a piece, and answers whether there was one
+abbrev pub MovesNext : {R W : Type 0} → (R → Option (List ℕ)) → Dechunking R StdPolicy → Buffered W StdPolicy
+    → Result Bool RunError → Dechunking R StdPolicy → Buffered W StdPolicy → Type 0
+MovesNext remaining s u (Ok true) t v = (each : MovesEach remaining s u t v) × (0 < length each.payload)
+MovesNext remaining s u (Ok false) t v = MovesEach remaining s u t v × IsWhole t
+MovesNext remaining s u (Err (NotChunked why right)) t v =
+    MovesEach remaining s u t v × Breaks why t × (right ≡ taken_count t)
+MovesNext remaining s u (Err (Truncated right)) t v =
+    MovesEach remaining s u t v × CutShort s t × (right ≡ taken_count t)
+MovesNext remaining s u (Err (Behind right)) t v = ⊥
+MovesNext remaining s u (Err (Read e)) t v = MovesToFault remaining s u e t v
+MovesNext remaining s u (Err (Write e)) t v =
+    MovesFirst remaining s u t v × SendFailed e s.reader.log t.reader.log u.log v.log
+MovesNext remaining s u (Err (Io e)) t v = ⊥
+
 -- what calls did that move piece after piece
 abbrev pub MovesAll : {R W : Type 0} → (R → Option (List ℕ)) → Dechunking R StdPolicy → Buffered W StdPolicy
     → Result (Unit {0}) RunError → Dechunking R StdPolicy → Buffered W StdPolicy → Type 0
@@ -105,8 +168,7 @@ MovesAll remaining s u (Err (NotChunked why right)) t v =
 MovesAll remaining s u (Err (Truncated right)) t v =
     MovesEach remaining s u t v × CutShort s t × (right ≡ taken_count t)
 MovesAll remaining s u (Err (Behind right)) t v = ⊥
-MovesAll remaining s u (Err (Read e)) t v =
-    MovesFirst remaining s u t v × ReadFailed e s.reader.log t.reader.log u.log v.log
+MovesAll remaining s u (Err (Read e)) t v = MovesToFault remaining s u e t v
 MovesAll remaining s u (Err (Write e)) t v =
     MovesFirst remaining s u t v × SendFailed e s.reader.log t.reader.log u.log v.log
 MovesAll remaining s u (Err (Io e)) t v =
@@ -132,7 +194,7 @@ EndAnswers s right (Err (NotChunked why count)) t = ⊥
 EndAnswers s right (Err (Truncated count)) t = ⊥
 EndAnswers s right (Err (Behind count)) t =
     OnlyInterrupts s.log.reads.faults t.log.reads.faults × (0 < length t.block.bytes) × (count ≡ right)
-EndAnswers s right (Err (Read e)) t = ReadGaveUp e s.log.reads.faults t.log.reads.faults
+EndAnswers s right (Err (Read e)) t = ReadGaveUp e s.log.reads.faults t.log.reads.faults × (t.block.bytes ≡ [])
 EndAnswers s right (Err (Write e)) t = ⊥
 EndAnswers s right (Err (Io e)) t = ⊥
 
@@ -141,6 +203,7 @@ pub record ExpectsEnd {R : Type 0} (remaining : R → Option (List ℕ)) (s : Bu
     (answer : Result (Unit {0}) RunError) (t : Buffered R StdPolicy) : Type 0 where
   pub along : ReadsAlong remaining std_read_rules s [] t
   pub answers : EndAnswers s right answer t
+  pub asks : EndAsks s t
 
 -- how many bytes these are, as far as a `u64` counts
 abbrev pub counted : List ℕ → ℕ
@@ -158,11 +221,6 @@ pub record Decoded (limits : Limits) (read read' written written' : StreamLog) (
   pub payload : List ℕ
   pub is_body : IsBody limits body payload
   pub sent : Sent read read' written written' body payload rest
-
--- these bytes lead from before a body to this place in it, and this is the payload in them
-pub record IsPart (limits : Limits) (wire payload : List ℕ) (place : Place) : Type 0 where
-  pub leads : Leads limits Line wire payload place
-  pub is_place : IsPlace place
 
 -- what was given is such bytes and then one that is wrong there; what was received is the payload in those before it
 pub record DecodedToWrong (limits : Limits) (read read' written written' : StreamLog) (why : Malformed) (right : ℕ)
@@ -189,6 +247,14 @@ pub record DecodedToEnd (limits : Limits) (read read' written written' : StreamL
   pub ended : GaveNothing read read'
   pub count : right ≡ counted wire
 
+-- what was given is such bytes; what was received is the payload in them
+pub record DecodedPart (limits : Limits) (read read' written written' : StreamLog) : Type 0 where
+  pub wire : List ℕ
+  pub payload : List ℕ
+  pub place : Place
+  pub part : IsPart limits wire payload place
+  pub sent : Sent read read' written written' wire payload []
+
 -- the run failed of such a cause, by how much payload there was; what was received is a beginning of the payload in such bytes
 pub record DecodeFailed (limits : Limits) (Caused : ℕ → Type 0) (read read' written written' : StreamLog) : Type 0 where
   pub wire : List ℕ
@@ -201,7 +267,7 @@ pub record DecodeFailed (limits : Limits) (Caused : ℕ → Type 0) (read read' 
   pub received : written'.writes.received ++ unsent ≡ written.writes.received ++ payload
   pub caused : Caused (length payload)
 
--- what a run of `decode` did: at Ok all that was given is a body
+-- what a run of `decode` did: at Ok all that was given is a body. Where a read failed no payload that came is lost
 abbrev pub DecodeRan : Limits → StreamLog → StreamLog → StreamLog → StreamLog → Result (Unit {0}) RunError → Type 0
 DecodeRan limits read read' written written' (Ok _) =
     Decoded limits read read' written written' [] × GaveNothing read read' × MetNoFault read read' written written'
@@ -214,7 +280,7 @@ DecodeRan limits read read' written written' (Err (Behind right)) =
     × ((done : Decoded limits read read' written written' rest) × (right ≡ counted done.body))
     × MetNoFault read read' written written'
 DecodeRan limits read read' written written' (Err (Read e)) =
-    DecodeFailed limits (λ _. ReadFailed e read read' written written') read read' written written'
+    DecodedPart limits read read' written written' × ReadFailed e read read' written written'
 DecodeRan limits read read' written written' (Err (Write e)) =
     DecodeFailed limits (λ _. SendFailed e read read' written written') read read' written written'
 DecodeRan limits read read' written written' (Err (Io e)) =

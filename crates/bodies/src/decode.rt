@@ -1,8 +1,12 @@
 //! The payload of a body copied, over any two streams that tell.
 ghost use Rattle.std.specs.Prelude.{◌≡◌, ◌<◌, ◌≤◌, [], length, true, false, IfOk, IfErr, OnOk, OnErr};
+ghost use Rattle.chunked.specs.Dechunking.{HasPayload};
+ghost use Rattle.programs.specs.Prompt.{AsksGive, HoldsNothingBack, WritesOn};
+ghost use Rattle.programs.specs.Streams.{AllSent};
 ghost use Rattle.buffer_redux.specs.BufWriter.{WritesInOrder};
 ghost use Rattle.buffer_redux.specs.Faults.{MetInterrupts, SendErrorCaused};
-ghost use Rattle.bodies.specs.Decode.{DecodeRan, ExpectsEnd, IsBodySource, IsPieceTarget, MovesAll, MovesAndFlushes, ReadsPiece, WasInterrupted};
+ghost use Rattle.bodies.specs.Decode.{Asks, AsksWhenSent, DecodeRan, ExpectsEnd, IsBodySource, IsDue, IsPieceTarget, IsUnread};
+ghost use Rattle.bodies.specs.Decode.{MovesAll, MovesAndFlushes, MovesNext, ReadsPiece, WasInterrupted};
 
 use crate::at_end::is_at_end;
 use crate::error::{RunError, is_fault};
@@ -14,20 +18,22 @@ use std::alloc::Global;
 use std::io;
 use std::io::{ErrorKind, Write};
 
-// How many bytes of payload go over at a time at most.
-const PIECE: usize = 8192;
+// How many bytes of payload go over at a time at most, and of a body in one read.
+const PIECE: usize = 16384;
 
 /// Copies the payload of the body that `reader` gives to `writer`. A body that is wrong, or ends too early, ends the run; the
 /// payload in what is right of it is sent then. What follows the body is left, and the run says so.
 ///
-/// Both streams come back, also after a fault. The payload is sent and flushed before it is asked whether something follows.
+/// Nothing is held back: where the reader is asked, the payload in all that it gave was sent and flushed, also before it is asked
+/// whether something follows. Both streams come back, also after a fault.
 pub fn decode<R: TellRead, W: TellWrite>(
     alloc: Global,
     limits: Limits,
     reader: R,
     writer: W,
 ) -> (Result<(), RunError>, R, W)
-    ensures { DecodeRan limits (R.log reader) (R.log result.1) (W.log writer) (W.log result.2) result.0 }
+    ensures ran { DecodeRan limits (R.log reader) (R.log result.1) (W.log writer) (W.log result.2) result.0 }
+    ensures prompt { HoldsNothingBack (IsDue limits) (R.log reader) (R.log result.1) (W.log writer) (W.log result.2) }
 {
     let (source, mut target) = match buffered(alloc, false, (PIECE, 2 * PIECE), reader, writer) {
         Ok(buffers) => buffers,
@@ -48,7 +54,8 @@ fn decode_all<R: TellRead, W: TellWrite>(
     requires source { source.block.bytes ≡ [] }
     requires target { IsPieceTarget target.old }
     requires empty { target.old.block.bytes ≡ [] }
-    ensures { DecodeRan limits source.log result.1.log target.old.log target.new.log result.0 }
+    ensures ran { DecodeRan limits source.log result.1.log target.old.log target.new.log result.0 }
+    ensures prompt { HoldsNothingBack (IsDue limits) source.log result.1.log target.old.log target.new.log }
 {
     let mut body = ChunkedReader::new(source, limits);
     let answer = move_and_flush(&mut body, target);
@@ -70,7 +77,12 @@ fn move_and_flush<R: TellRead, W: TellWrite>(
 ) -> Result<(), RunError>
     requires source { IsBodySource source.old }
     requires target { IsPieceTarget target.old }
-    ensures { MovesAndFlushes R.remaining source.old target.old result source.new target.new }
+    requires unread { IsUnread source.old }
+    requires empty { target.old.block.bytes ≡ [] }
+    ensures moves { MovesAndFlushes R.remaining source.old target.old result source.new target.new }
+    ensures prompt { HoldsNothingBack (IsDue source.old.limits) source.old.reader.log source.new.reader.log
+        target.old.log target.new.log }
+    ensures give { OnOk result (AsksGive source.old.reader.log source.new.reader.log) }
 {
     let answer = move_pieces(source, target);
     if is_fault(&answer) {
@@ -87,17 +99,66 @@ fn move_pieces<R: TellRead, W: TellWrite>(
 ) -> Result<(), RunError>
     requires source { IsBodySource source.old }
     requires target { IsPieceTarget target.old }
-    ensures { MovesAll R.remaining source.old target.old result source.new target.new }
+    requires unread { IsUnread source.old }
+    requires empty { target.old.block.bytes ≡ [] }
+    ensures moves { MovesAll R.remaining source.old target.old result source.new target.new }
+    ensures prompt { HoldsNothingBack (IsDue source.old.limits) source.old.reader.log source.new.reader.log
+        target.old.log target.new.log }
+    ensures give { OnOk result (AsksGive source.old.reader.log source.new.reader.log) }
 {
     let mut piece = [0; PIECE];
     for _ in 0..u64::MAX {
-        let count = read_piece(source, &mut piece)?;
-        if count == 0 {
+        if !move_piece(source, target, &mut piece)? {
             return Ok(());
         }
-        write_piece(target, &piece[..count])?;
     }
     Err(RunError::Io(ErrorKind::Other.into()))
+}
+
+// Copies the next piece, and returns whether there was one. Where the reader has to be asked, all payload is sent and flushed
+// first.
+fn move_piece<R: TellRead, W: TellWrite>(
+    source: &mut ChunkedReader<R>,
+    target: &mut BufWriter<W>,
+    piece: &mut [u8],
+) -> Result<bool, RunError>
+    requires source { IsBodySource source.old }
+    requires target { IsPieceTarget target.old }
+    requires room { length piece.old ≡ PIECE }
+    ensures moves { MovesNext R.remaining source.old target.old result source.new target.new }
+    ensures prompt { AsksWhenSent source.old target.old source.new target.new }
+    ensures give { OnOk result (AsksGive source.old.reader.log source.new.reader.log) }
+    ensures writes { WritesOn target.old.log.writes target.new.log.writes }
+{
+    if source.has_payload() {
+        return copy_piece(source, target, piece);
+    }
+    target.flush()?;
+    copy_piece(source, target, piece)
+}
+
+// Copies it.
+fn copy_piece<R: TellRead, W: TellWrite>(
+    source: &mut ChunkedReader<R>,
+    target: &mut BufWriter<W>,
+    piece: &mut [u8],
+) -> Result<bool, RunError>
+    requires source { IsBodySource source.old }
+    requires target { IsPieceTarget target.old }
+    requires room { length piece.old ≡ PIECE }
+    requires sent { ¬ (HasPayload source.old) → AllSent target.old }
+    ensures moves { MovesNext R.remaining source.old target.old result source.new target.new }
+    ensures asks { Asks source.old source.new }
+    ensures quiet { HasPayload source.old → source.new.reader.log ≡ source.old.reader.log }
+    ensures give { OnOk result (AsksGive source.old.reader.log source.new.reader.log) }
+    ensures writes { WritesOn target.old.log.writes target.new.log.writes }
+{
+    let count = read_piece(source, piece)?;
+    if count == 0 {
+        return Ok(false);
+    }
+    write_piece(target, &piece[..count])?;
+    Ok(true)
 }
 
 // Hands out payload, at least a byte unless the body ended. Of reads that are interrupted the 65th ends it.
@@ -109,6 +170,9 @@ fn read_piece<R: TellRead>(
     requires room { 0 < length out.old }
     ensures bound { IfOk result (λ n. n ≤ length out.new) }
     ensures reads { ReadsPiece R.remaining source.old out.new result source.new }
+    ensures asks { Asks source.old source.new }
+    ensures quiet { HasPayload source.old → source.new.reader.log ≡ source.old.reader.log }
+    ensures give { OnOk result (AsksGive source.old.reader.log source.new.reader.log) }
 {
     let mut row = 0;
     'tries: loop {
@@ -139,6 +203,7 @@ fn write_piece<W: TellWrite>(target: &mut BufWriter<W>, piece: &[u8]) -> io::Res
     ensures none { OnErr result (WritesInOrder target.old [] target.new) }
     ensures met { OnOk result (MetInterrupts target.old.log.writes target.new.log.writes) }
     ensures caused { IfErr result (λ e. SendErrorCaused target.old.log.writes target.new.log.writes e) }
+    ensures not_flushed { target.new.log.writes.flushed ≡ target.old.log.writes.flushed }
     ensures target { IsPieceTarget target.new }
 {
     make_room(target, piece.len())?;

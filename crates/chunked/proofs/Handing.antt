@@ -9,6 +9,7 @@ use Rattle.buffer_redux.specs.Policy.{ReadRules}
 use Rattle.buffer_redux.specs.ReaderLaws.{WantsBytes}
 use Rattle.chunked.specs.declared.error.ChunkedError.{ChunkedError}
 use Rattle.chunked.specs.declared.error.ChunkedError.TheVariants.{NotChunked, Truncated, Io}
+use Rattle.chunked.specs.declared.limits.Limits.{Limits}
 use Rattle.chunked.specs.declared.place.Place.{Place}
 use Rattle.chunked.specs.declared.place.Place.TheVariants.{Data, Done}
 use Rattle.chunked.specs.declared.progress.Progress.{Progress}
@@ -51,28 +52,33 @@ read_nothing rules s before after t reads some =
       ]
     ]
 
-module _ {S P : Type 0} (rules : ReadRules P) where
+module _ {S P : Type 0} (rules : ReadRules P) (limits : Limits) where
   -- turns go on
-  TakesTurns-joins : (a b : ℕ) (s m t : Buffered S P) → TakesTurns rules a s m → TakesTurns rules b m t
-      → (k : ℕ) × TakesTurns rules k s t
-  TakesTurns-joins a zero s m t first same = (a, subst (TakesTurns rules a s) same first)
-  TakesTurns-joins a (suc b) s m t first (x, then, turn) =
-      let joined = TakesTurns-joins a b s m x first then in
-      (suc joined.0, (x, joined.1, turn))
+  TakesTurns-joins : (a b : ℕ) (s : Buffered S P) (p : Place) (m : Buffered S P) (q : Place) (t : Buffered S P) (r : Place)
+      → TakesTurns rules limits a s p m q → TakesTurns rules limits b m q t r → (k : ℕ) × TakesTurns rules limits k s p t r
+  TakesTurns-joins a zero s p m q t r first (same, place) =
+      (a, subst (TakesTurns rules limits a s p t) place (subst (λ x. TakesTurns rules limits a s p x q) same first))
+  TakesTurns-joins a (suc b) s p m q t r first (x, at, then, turn) =
+      let joined = TakesTurns-joins a b s p m q x at first then in
+      (suc joined.0, (x, at, joined.1, turn))
 
-  Calls-after : (a : ℕ) (s m : Buffered S P) → TakesTurns rules a s m → {room : ℕ} {answer : Result ℕ ChunkedError}
-      {t : Buffered S P} {p : Place} → Calls rules m room answer t p → Calls rules s room answer t p
-  Calls-after a s m first calls =
-      let joined = TakesTurns-joins a calls.count s m calls.last first calls.turns in
-      record { count = joined.0; last = calls.last; turns = joined.1; call = calls.call }
+  Calls-after : (a : ℕ) (s : Buffered S P) (p : Place) (m : Buffered S P) (q : Place) → TakesTurns rules limits a s p m q
+      → {room : ℕ} {answer : Result ℕ ChunkedError} {t : Buffered S P} {r : Place} → Calls rules limits m q room answer t r
+      → Calls rules limits s p room answer t r
+  Calls-after a s p m q first calls =
+      let joined = TakesTurns-joins a calls.count s p m q calls.last calls.place first calls.turns in
+      record { count = joined.0; last = calls.last; place = calls.place; turns = joined.1; call = calls.call }
 
   -- and no call that hands out none depends on the room
-  pub Calls-fail : (s : Buffered S P) (e : ChunkedError) (t : Buffered S P) (p : Place) → Calls rules s 0 (Err e) t p → (room : ℕ)
-      → Calls rules s room (Err e) t p
-  Calls-fail s e t p calls room = record { count = calls.count; last = calls.last; turns = calls.turns; call = calls.call }
+  pub Calls-fail : (s : Buffered S P) (p : Place) (e : ChunkedError) (t : Buffered S P) (q : Place)
+      → Calls rules limits s p 0 (Err e) t q → (room : ℕ) → Calls rules limits s p room (Err e) t q
+  Calls-fail s p e t q calls room = record
+      { count = calls.count; last = calls.last; place = calls.place; turns = calls.turns; call = calls.call }
 
-  pub Calls-none : (s t : Buffered S P) (p : Place) → Calls rules s 0 (Ok 0) t p → (room : ℕ) → Calls rules s room (Ok 0) t p
-  Calls-none s t p calls room = record { count = calls.count; last = calls.last; turns = calls.turns; call = calls.call }
+  pub Calls-none : (s : Buffered S P) (p : Place) (t : Buffered S P) (q : Place) → Calls rules limits s p 0 (Ok 0) t q
+      → (room : ℕ) → Calls rules limits s p room (Ok 0) t q
+  Calls-none s p t q calls room = record
+      { count = calls.count; last = calls.last; place = calls.place; turns = calls.turns; call = calls.call }
 
 module _ {S P : Type 0} (remaining : S → Option (List ℕ)) (rules : ReadRules P) where
   -- what one read does as a stretch
@@ -95,9 +101,9 @@ module _ {S P : Type 0} (remaining : S → Option (List ℕ)) (rules : ReadRules
     stays order = Takes-still remaining rules s p s p t [] [] (Takes-none remaining rules s p is_place)
         (read_along s t [] order keeps)
 
-    at_once : {room : ℕ} {answer : Result ℕ ChunkedError} {at : Place} → LastCall rules s room answer t at
-        → Calls rules s room answer t at
-    at_once call = record { count = 0; last = s; turns = refl; call = call }
+    at_once : {room : ℕ} {answer : Result ℕ ChunkedError} {at : Place} → LastCall rules s p.place room answer t at
+        → Calls rules p.limits s p.place room answer t at
+    at_once call = record { count = 0; last = s; place = p.place; turns = (refl, refl); call = call }
 
     pub data_fails : (e : Error) → ReadsInOrder s [] t → ReadErrorCaused {A = ℕ} rules s (Err e) t → (before after : List ℕ)
         → Reads rules s before (Err e) after t → 0 < length before → HandsOn remaining rules s p out (Err (Io e)) t p
@@ -133,7 +139,8 @@ module _ {S P : Type 0} (remaining : S → Option (List ℕ)) (rules : ReadRules
     }
 
     given_last : (n room : ℕ) (before after : List ℕ) (q : Progress) → 0 < n → Reads rules s before (Ok n) after t
-        → q.place ≡ Data (left - n) → n ≤ left → length before ≡ min left room → Calls rules s room (Ok n) t q.place
+        → q.place ≡ Data (left - n) → n ≤ left → length before ≡ min left room
+        → Calls rules p.limits s p.place room (Ok n) t q.place
     given_last zero room before after q some reads there few offered = absurd (omega (arith, some))
     given_last (suc n) room before after q some reads there few offered = at_once (record {
       before = before;
@@ -207,13 +214,16 @@ module _ {S P : Type 0} (remaining : S → Option (List ℕ)) (rules : ReadRules
 
   -- payload is handed out behind what is none
   pub HandsOn-after : (s m : Buffered S P) (p q : Progress) (wire : List ℕ) → Takes remaining rules s p wire [] m q → NoFault s m
-      → Calls rules s 0 (Ok 0) m q.place → (out : List ℕ) (answer : Result ℕ ChunkedError) (t : Buffered S P) (r : Progress)
+      → Calls rules p.limits s p.place 0 (Ok 0) m q.place → (out : List ℕ) (answer : Result ℕ ChunkedError) (t : Buffered S P) (r : Progress)
       → HandsOn remaining rules m q out answer t r → HandsOn remaining rules s p out answer t r
   HandsOn-after s m p q wire before well calls out answer t r h =
-      let turns = subst (TakesTurns rules calls.count s) calls.call calls.turns in
+      let limits : q.limits ≡ p.limits = before.limits in
+      let turns = subst (λ x. TakesTurns rules p.limits calls.count s p.place x q.place) calls.call.0
+      (subst (λ x. TakesTurns rules p.limits calls.count s p.place calls.last x) calls.call.1 calls.turns) in
       record {
         wire = wire ++ h.wire;
         takes = Takes-joins remaining rules s p m q t r wire [] h.wire (handed_out out answer) before h.takes;
         ends = ReadEnds-after s m p q wire before well (length out) answer t r h.ends;
-        calls = Calls-after rules calls.count s m turns h.calls;
+        calls = Calls-after rules p.limits calls.count s p.place m q.place turns
+            (subst (λ l. Calls rules l m q.place (length out) answer t r.place) limits h.calls);
       }

@@ -27,7 +27,7 @@ pub record Notes (p : Progress) (there : Place) (bytes : List ℕ) (q : Progress
 module _ {S P : Type 0} (remaining : S → Option (List ℕ)) (rules : ReadRules P) where
   module _ (s : Buffered S P) (p : Progress) (wire : List ℕ) (m : Buffered S P) (q : Progress)
       (before : Takes remaining rules s p wire [] m q) (no_fault : NoFault s m)
-      (count : ℕ) (turns : TakesTurns rules count s m) where
+      (count : ℕ) (turns : TakesTurns rules p.limits count s p.place m q.place) where
     -- the fill failed
     pub skip_fails : (e : Error) (f : Buffered S P) → FillBuf remaining rules m (Err e) f
         → Skips remaining rules s p (Err (Io e)) f q
@@ -38,7 +38,8 @@ module _ {S P : Type 0} (remaining : S → Option (List ℕ)) (rules : ReadRules
         | inl fault ↦ inl (fault ∙ ap (λ l. l ++ e ∷ []) no_fault)
         | inr gave ↦ inr (record { last = m; grows = before.along.grows; no_fault = no_fault; gave = gave })
       ];
-      calls = record { count = count; last = m; turns = turns; call = inl (Fills-err rules m e f filled.fills) };
+      calls = record
+          { count = count; last = m; place = q.place; turns = turns; call = inl (Fills-err rules m e f filled.fills) };
     }
 
     module _ (shown : Bor (List ℕ)) (f : Buffered S P) (filled : FillBuf remaining rules m (Ok shown) f) where
@@ -68,7 +69,8 @@ module _ {S P : Type 0} (remaining : S → Option (List ℕ)) (rules : ReadRules
                     omega (arith, before.along.grows.zero_reads, dry);
               },
             );
-            calls = record { count = count; last = m; turns = turns; call = inl (Fills-ok rules m shown 0 f filled.fills) };
+            calls = record
+                { count = count; last = m; place = q.place; turns = turns; call = inl (Fills-ok rules m shown 0 f filled.fills) };
           }
 
       module _ (r : Reached) (reached : Advances q.limits q.place shown.now r) (q' : Progress)
@@ -98,9 +100,24 @@ module _ {S P : Type 0} (remaining : S → Option (List ℕ)) (rules : ReadRules
           took = gone;
         }
 
-        pub turn_took : r.wrong ≡ None → ¬ IsSettled q.place → 0 < length shown.now → TakesTurns rules (suc count) s t
-        turn_took right goes_on some =
-            (m, turns, (r.taken, reached.some goes_on some right, fills_and_takes reached.within))
+        pub turn_took : r.wrong ≡ None → ¬ IsSettled q.place → 0 < length shown.now
+            → TakesTurns rules p.limits (suc count) s p.place t q'.place
+        unfolding fills_and_takes
+        turn_took right goes_on some = (
+          m,
+          q.place,
+          turns,
+          record {
+            count = r.taken;
+            some = reached.some goes_on some right;
+            takes = fills_and_takes reached.within;
+            unsettled = goes_on;
+            leads = subst (λ l. Leads p.limits q.place (take r.taken l) [] q'.place) filled.shown
+                (subst (λ l. Leads l q.place (take r.taken shown.now) [] q'.place) before.limits
+                (subst (λ x. Leads q.limits q.place (take r.taken shown.now) [] x) (sym notes.place) reached.passes.leads));
+            is_place = subst IsPlace (sym notes.place) reached.place;
+          },
+        )
 
         -- something is wrong with the next byte
         pub skip_wrong : (why : Malformed) → r.wrong ≡ Some why → Skips remaining rules s p (Err (NotChunked why q'.count)) t q'
@@ -128,6 +145,7 @@ module _ {S P : Type 0} (remaining : S → Option (List ℕ)) (rules : ReadRules
               calls = record {
                 count = count;
                 last = m;
+                place = q.place;
                 turns = turns;
                 call = (r.taken, fills_and_takes (omega (arith, found.0)));
               };

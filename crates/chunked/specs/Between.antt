@@ -68,11 +68,21 @@ pub record FillsAndTakes {S P : Type 0} (rules : ReadRules P) (n : ℕ) (s t : B
   pub held : n ≤ length filled.block.bytes
   pub took : ReaderConsumes rules n filled t
 
--- so many turns, each of which took some bytes so
-abbrev pub TakesTurns : {S P : Type 0} → ReadRules P → ℕ → Buffered S P → Buffered S P → Type 0
-TakesTurns rules zero s t = s ≡ t
-TakesTurns {S} {P} rules (suc count) s t =
-    (m : Buffered S P) × TakesTurns rules count s m × ((n : ℕ) × (0 < n) × FillsAndTakes rules n m t)
+-- in a place where no payload comes next some bytes were taken so, which hold none and lead on
+pub record TakesTurn {S P : Type 0} (rules : ReadRules P) (limits : Limits) (s : Buffered S P) (p : Place) (t : Buffered S P)
+    (q : Place) : Type 0 where
+  pub count : ℕ
+  pub some : 0 < count
+  pub takes : FillsAndTakes rules count s t
+  pub unsettled : ¬ IsSettled p
+  pub leads : Leads limits p (take count takes.filled.block.bytes) [] q
+  pub is_place : IsPlace q
+
+-- so many turns
+abbrev pub TakesTurns : {S P : Type 0} → ReadRules P → Limits → ℕ → Buffered S P → Place → Buffered S P → Place → Type 0
+TakesTurns rules limits zero s p t q = (s ≡ t) × (p ≡ q)
+TakesTurns {S} {P} rules limits (suc count) s p t q =
+    (m : Buffered S P) × (r : Place) × TakesTurns rules limits count s p m r × TakesTurn rules limits m r t q
 
 -- one read into some room
 pub record ReadsSome {S P : Type 0} (rules : ReadRules P) (s : Buffered S P) (answer : Result ℕ Error) (t : Buffered S P)
@@ -104,18 +114,20 @@ CallFails rules s (Truncated count) t = AsksOnce rules s (Ok 0) t
 CallFails rules s (Io e) t = AsksOnce rules s (Err e) t
 
 -- the last call of the buffered reader, by the answer. Where none is handed out, and nothing is wrong, there is none
-abbrev pub LastCall : {S P : Type 0} → ReadRules P → Buffered S P → ℕ → Result ℕ ChunkedError → Buffered S P → Place → Type 0
-LastCall rules s room (Ok zero) t p = s ≡ t
-LastCall rules s room (Ok (suc n)) t p = ReadsChunk rules s room (suc n) t p
-LastCall rules s room (Err e) t p = CallFails rules s e t
+abbrev pub LastCall : {S P : Type 0} → ReadRules P → Buffered S P → Place → ℕ → Result ℕ ChunkedError → Buffered S P → Place
+    → Type 0
+LastCall rules s p room (Ok zero) t q = (s ≡ t) × (p ≡ q)
+LastCall rules s p room (Ok (suc n)) t q = ReadsChunk rules s room (suc n) t q
+LastCall rules s p room (Err e) t q = CallFails rules s e t
 
 -- how the buffered reader was called: by turns that took what is no payload, and then by the last call
-pub record Calls {S P : Type 0} (rules : ReadRules P) (s : Buffered S P) (room : ℕ) (answer : Result ℕ ChunkedError)
-    (t : Buffered S P) (p : Place) : Type 0 where
+pub record Calls {S P : Type 0} (rules : ReadRules P) (limits : Limits) (s : Buffered S P) (p : Place) (room : ℕ)
+    (answer : Result ℕ ChunkedError) (t : Buffered S P) (q : Place) : Type 0 where
   pub count : ℕ
   pub last : Buffered S P
-  pub turns : TakesTurns rules count s last
-  pub call : LastCall rules last room answer t p
+  pub place : Place
+  pub turns : TakesTurns rules limits count s p last place
+  pub call : LastCall rules last place room answer t q
 
 -- why there is no further payload
 abbrev pub FailsSo : {S P : Type 0} → ReadRules P → Buffered S P → ChunkedError → Buffered S P → Progress → Type 0
@@ -140,7 +152,16 @@ pub record Skips {S P : Type 0} (remaining : S → Option (List ℕ)) (rules : R
   pub wire : List ℕ
   pub takes : Takes remaining rules s p wire [] t q
   pub ends : SkipEnds rules s answer t q
-  pub calls : Calls rules s 0 (none_handed answer) t q.place
+  pub calls : Calls rules p.limits s p.place 0 (none_handed answer) t q.place
+
+-- what is buffered was taken as far as it is no payload: up to payload, or the end of the body, or what is wrong, or all. The
+-- stream wasn't asked
+pub record SkipsBuffered {S P : Type 0} (remaining : S → Option (List ℕ)) (rules : ReadRules P) (s : Buffered S P) (p : Progress)
+    (t : Buffered S P) (q : Progress) : Type 0 where
+  pub wire : List ℕ
+  pub takes : Takes remaining rules s p wire [] t q
+  pub told : t.log ≡ s.log
+  pub all : IsSettled q.place ⊎ ((t.block.bytes ≡ []) ⊎ ((why : Malformed) × MeetsWrong q.limits q.place t.block.bytes why))
 
 -- the payload that an answer hands out of a slice: its first bytes, or none
 abbrev pub handed_out : List ℕ → Result ℕ ChunkedError → List ℕ
@@ -159,7 +180,7 @@ pub record HandsOn {S P : Type 0} (remaining : S → Option (List ℕ)) (rules :
   pub wire : List ℕ
   pub takes : Takes remaining rules s p wire (handed_out out answer) t q
   pub ends : ReadEnds rules s (length out) answer t q
-  pub calls : Calls rules s (length out) answer t q.place
+  pub calls : Calls rules p.limits s p.place (length out) answer t q.place
 
 -- an error as one of std's streams
 abbrev pub BecomesIo : ChunkedError → Error → Type 0

@@ -1,5 +1,5 @@
 -- What contracts see of a reader of a body, and what its calls promise.
-use Rattle.std.specs.Prelude.{◌≡◌, ℕ, ◌-◌, ◌^◌, ◌<◌, ◌≤◌, List, [], ◌∷◌, ◌++◌, length, min, Option, Result, Ok, Err}
+use Rattle.std.specs.Prelude.{◌≡◌, ℕ, suc, ◌-◌, ◌^◌, ◌<◌, ◌≤◌, ◌⊎◌, List, [], ◌∷◌, ◌++◌, length, min, Option, Result, Ok, Err, ⊤}
 use Rattle.std.specs.declared.io.Error.{Error}
 use Rattle.buffer_redux.specs.Buffered.{Buffered}
 use Rattle.buffer_redux.specs.BufReader.{ReadsAlong}
@@ -10,10 +10,10 @@ use Rattle.chunked.specs.declared.error.ChunkedError.TheVariants.{NotChunked, Tr
 use Rattle.chunked.specs.declared.error.Malformed.{Malformed}
 use Rattle.chunked.specs.declared.limits.Limits.{Limits}
 use Rattle.chunked.specs.declared.place.Place.{Place}
-use Rattle.chunked.specs.declared.place.Place.TheVariants.{Line}
-use Rattle.chunked.specs.Between.{BecomesIo, Calls, Faulted, NoFault, NothingCame, handed_out}
+use Rattle.chunked.specs.declared.place.Place.TheVariants.{Data, Line}
+use Rattle.chunked.specs.Between.{BecomesIo, Calls, Faulted, MeetsWrong, NoFault, NothingCame, handed_out}
 use Rattle.chunked.specs.Body.{IsBody}
-use Rattle.chunked.specs.Place.{IsPlace, IsWrong, Leads}
+use Rattle.chunked.specs.Place.{IsPlace, IsSettled, IsWrong, Leads}
 
 -- the buffered reader; how much of the body may be no payload; where in it the reader stands; the bytes of it that were
 -- taken so far; and its own calls, as a stream tells them
@@ -90,10 +90,28 @@ pub record ReadsPayload {S P : Type 0} (remaining : S → Option (List ℕ)) (ru
     (out : List ℕ) (answer : Result ℕ ChunkedError) (t : Dechunking S P) : Type 0 where
   pub went : BodyWent remaining rules s (handed_out out answer) t
   pub answers : PayloadAnswers rules s (length out) answer t
-  pub calls : Calls rules s.reader (length out) answer t.reader t.place
+  pub calls : Calls rules s.limits s.reader s.place (length out) answer t.reader t.place
   pub ended : IsWhole s → t.reader ≡ s.reader
   pub idle : length out ≡ 0 → (answer ≡ Ok 0) × (t.reader ≡ s.reader)
   pub noted : t.calls ≡ after_payload s.calls out answer
+  pub whole : IsDechunking t
+
+-- payload comes next, and some of it is buffered
+abbrev pub IsPayloadPlace : Place → Type 0
+IsPayloadPlace (Data (suc left)) = ⊤
+IsPayloadPlace p = ⊥
+
+abbrev pub HasPayload : {S P : Type 0} → Dechunking S P → Type 0
+HasPayload d = IsPayloadPlace d.place × (0 < length d.reader.block.bytes)
+
+-- what is buffered was taken as far as it is no payload: up to payload, or the end of the body, or what is wrong, or all. The
+-- stream wasn't asked
+pub record TakesBuffered {S P : Type 0} (remaining : S → Option (List ℕ)) (rules : ReadRules P) (s t : Dechunking S P)
+    : Type 0 where
+  pub went : BodyWent remaining rules s [] t
+  pub told : t.reader.log ≡ s.reader.log
+  pub all : IsSettled t.place
+      ⊎ ((t.reader.block.bytes ≡ []) ⊎ ((why : Malformed) × MeetsWrong t.limits t.place t.reader.block.bytes why))
   pub whole : IsDechunking t
 
 -- an answer of one of std's streams stands for an answer of a payload: the same number of bytes, the stream's own error, or

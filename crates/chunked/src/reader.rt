@@ -3,8 +3,8 @@ ghost use Rattle.std.specs.Prelude.{None, ◌≡◌, ◌<◌, ◌≤◌, ◌↔�
 ghost use Rattle.std.specs.Io.{ReadsAtMost};
 ghost use Rattle.std.specs.Io.KnownBytes.{ReadConsumes};
 ghost use Rattle.buffer_redux.specs.StreamLog.{after_read};
-ghost use Rattle.chunked.specs.Between.{HandsOn, Skips};
-ghost use Rattle.chunked.specs.Dechunking.{IsDechunking, IsWhole, ReadsAsIo, ReadsPayload, ReadsTold, begun, taken_count};
+ghost use Rattle.chunked.specs.Between.{HandsOn, Skips, SkipsBuffered};
+ghost use Rattle.chunked.specs.Dechunking.{HasPayload, IsDechunking, IsPayloadPlace, IsWhole, ReadsAsIo, ReadsPayload, ReadsTold, TakesBuffered, begun, taken_count};
 ghost use Rattle.chunked.specs.Place.{IsPlace, IsSettled};
 
 use crate::error::ChunkedError;
@@ -132,6 +132,16 @@ impl<R: TellRead, P: ReaderPolicy> ChunkedReader<R, P> {
         }
         answer
     }
+
+    /// Takes what is buffered as far as it is no payload, and returns whether payload follows it there. The stream isn't asked:
+    /// what is wrong, or missing, is told by the next [`read_payload`](ChunkedReader::read_payload).
+    pub fn has_payload(&mut self) -> bool
+        ensures takes { TakesBuffered R.remaining P.rules self.old self.new }
+        ensures found { IsTrue result ↔ HasPayload self.new }
+    {
+        take_buffered(&mut self.reader, &mut self.progress);
+        is_payload(self.progress.place) && self.reader.buf_len() > 0
+    }
 }
 
 impl<R: Tell, P> Tell for ChunkedReader<R, P> {
@@ -199,6 +209,30 @@ fn skip<R: TellRead, P: ReaderPolicy>(
         }
     }
     Ok(())
+}
+
+// Takes what is buffered as far as it is no payload.
+fn take_buffered<R: TellRead, P: ReaderPolicy>(
+    reader: &mut BufReader<R, P>,
+    progress: &mut Progress,
+)
+    requires { IsPlace progress.old.place }
+    ensures { SkipsBuffered R.remaining P.rules reader.old progress.old reader.new progress.new }
+{
+    let shown = reader.buffer();
+    let reached = advance(&progress.limits, progress.place, shown);
+    progress.take(reached.place, &shown[..reached.taken]);
+    reader.consume(reached.taken);
+}
+
+// Whether payload comes next.
+fn is_payload(place: Place) -> bool
+    ensures { IsTrue result ↔ IsPayloadPlace place }
+{
+    match place {
+        Place::Data(left) => left > 0,
+        _ => false,
+    }
 }
 
 // Reads of a payload of which so many bytes are left.

@@ -1,15 +1,29 @@
+use Rattle.std.proofs.Common.{inl}
 use Rattle.bodies.proofs.DecodeRuns.{refused}
 use Rattle.bodies.proofs.decode.decode.Goals as goal
 
-pub returns-in-Err : goal.returns-in-Err
-returns-in-Err g c = refused c.args.limits _ _ _ _ _ c.in-Err.ensures.refused
+pub returns-in-Err-clause-ran : goal.returns-in-Err-clause-ran
+returns-in-Err-clause-ran g c = refused c.args.limits _ _ _ _ _ c.in-Err.ensures.refused
 
-pub returns : goal.returns
-returns g c =
+pub returns-in-Err-clause-prompt : goal.returns-in-Err-clause-prompt
+returns-in-Err-clause-prompt g c = inl c.in-Err.ensures.refused.read_same
+
+pub returns-clause-ran : goal.returns-clause-ran
+returns-clause-ran g c =
     rw (
       c.into_inner.ensures.log,
       c.into_inner_with_buffer-writer.ensures.log,
       ← c.in-Ok.ensures.read,
       ← c.in-Ok.ensures.written,
     )
-    c.decode_all-answer.ensures
+    c.decode_all-answer.ensures.ran
+
+pub returns-clause-prompt : goal.returns-clause-prompt
+returns-clause-prompt g c =
+    rw (
+      c.into_inner.ensures.log,
+      c.into_inner_with_buffer-writer.ensures.log,
+      ← c.in-Ok.ensures.read,
+      ← c.in-Ok.ensures.written,
+    )
+    c.decode_all-answer.ensures.prompt

@@ -1,36 +1,66 @@
-use Rattle.std.proofs.Common.{◌≤◌, length, length-take-le, arith}
+use Rattle.std.proofs.Common.{Ok, false, arith, inl, refl, subst}
 use Rattle.std.proofs.lemmas.Result.{err_from_is_err_and}
-use Rattle.bodies.proofs.Moving.{so_far_none, so_far_more, all_done, stops, not_written, over}
+use Rattle.bodies.specs.Decode.{MovesNext}
+use Rattle.bodies.proofs.DecodePrompting.{gives_on, held_more}
+use Rattle.bodies.proofs.Moving.{so_far_none, so_far_more, stops, then_next, over}
 use Rattle.bodies.proofs.decode.move_pieces.Goals as goal
 
 pub loop-init : goal.loop-init
-loop-init g c = so_far_none _ _ _ c.requires.source c.requires.target
+loop-init g c = record {
+  so_far = so_far_none g.R.TellRead.remaining c.args.source.now c.args.target.now c.requires.source c.requires.target;
+  held = inl refl;
+  give = omega arith;
+}
 
-pub returns-in_err-count : goal.returns-in_err-count
-returns-in_err-count g c =
+pub returns-in_err-move_piece-clause-moves : goal.returns-in_err-move_piece-clause-moves
+returns-in_err-move_piece-clause-moves g c =
     let p = err_from_is_err_and c.from_residual.result c.from_residual.ensures.1 in
-    rw (p.1, p.2) (stops _ _ _ _ _ _ c.loop.invariant.each _ _ c.in_err-count.ensures.reads)
-
-pub returns-then-count-eq0 : goal.returns-then-count-eq0
-returns-then-count-eq0 g c =
-    all_done _ _ _ _ _ _ c.loop.invariant.each _ _ c.if-count-eq0.true c.in_ok-count.ensures.reads
-
-pub returns-in_err-write_piece : goal.returns-in_err-write_piece
-returns-in_err-write_piece g c =
-    let p = err_from_is_err_and c.from_residual-in_err-write_piece.result c.from_residual-in_err-write_piece.ensures.1 in
-    let wrote = c.in_err-write_piece.ensures in
     rw (p.1, p.2)
-    (not_written _ _ _ _ _ _ _ c.loop.invariant.each _ _ c.in_ok-count.ensures.reads _ wrote.none wrote.target wrote.caused)
+    (stops g.R.TellRead.remaining c.args.source.now c.args.target.now c.loop.source c.move_piece.new.source c.loop.target c.move_piece.new.target
+    c.loop.invariant.so_far.each c.in_err-move_piece.field-0.0 c.in_err-move_piece.ensures.moves)
+
+pub returns-in_err-move_piece-clause-prompt : goal.returns-in_err-move_piece-clause-prompt
+returns-in_err-move_piece-clause-prompt g c =
+    let before = c.loop.invariant in
+    let one = c.in_err-move_piece.ensures in
+    held_more g.R.TellRead.remaining c.args.source.now c.loop.source c.move_piece.new.source c.args.target.now c.loop.target c.move_piece.new.target
+    c.requires.unread c.requires.empty before.so_far.each before.give before.held one.prompt one.writes
+
+pub returns-then-not-branch-clause-moves : goal.returns-then-not-branch-clause-moves
+returns-then-not-branch-clause-moves g c =
+    then_next g.R.TellRead.remaining c.args.source.now c.args.target.now c.loop.source c.move_piece.new.source c.loop.target c.move_piece.new.target
+    c.loop.invariant.so_far.each (Ok false)
+    (subst (λ b. MovesNext g.R.TellRead.remaining c.loop.source c.loop.target (Ok b) c.move_piece.new.source c.move_piece.new.target)
+    c.if-not-branch.true c.in_ok-move_piece.ensures.moves)
+
+pub returns-then-not-branch-clause-prompt : goal.returns-then-not-branch-clause-prompt
+returns-then-not-branch-clause-prompt g c =
+    let before = c.loop.invariant in
+    let one = c.in_ok-move_piece.ensures in
+    held_more g.R.TellRead.remaining c.args.source.now c.loop.source c.move_piece.new.source c.args.target.now c.loop.target c.move_piece.new.target
+    c.requires.unread c.requires.empty before.so_far.each before.give before.held one.prompt one.writes
+
+pub returns-then-not-branch-clause-give : goal.returns-then-not-branch-clause-give
+returns-then-not-branch-clause-give g c = gives_on c.args.source.now.reader.log c.loop.source.reader.log c.move_piece.new.source.reader.log c.loop.invariant.give c.in_ok-move_piece.ensures.give
 
 pub loop-preserved : goal.loop-preserved
 loop-preserved g c =
-    let wrote = c.in_ok-write_piece.ensures in
-    let count = c.in_ok-count.count in
-    let within : count ≤ length c.read_piece.new.out = c.in_ok-count.ensures.bound in
-    so_far_more _ _ _ _ _ _ _ c.loop.invariant.each _ c.loop.invariant.all _ _
-    (omega (arith, c.if-count-eq0.false, length-take-le count c.read_piece.new.out within)) c.in_ok-count.ensures.reads
-    wrote.taken wrote.target wrote.met
+    let before = c.loop.invariant in
+    let one = c.in_ok-move_piece.ensures in
+    record {
+      so_far = so_far_more g.R.TellRead.remaining c.args.source.now c.args.target.now c.loop.source c.move_piece.new.source c.loop.target c.move_piece.new.target
+          before.so_far.each c.loop.counter before.so_far.all
+          (subst (λ b. MovesNext g.R.TellRead.remaining c.loop.source c.loop.target (Ok b) c.move_piece.new.source c.move_piece.new.target)
+          c.if-not-branch.false one.moves);
+      held = held_more g.R.TellRead.remaining c.args.source.now c.loop.source c.move_piece.new.source c.args.target.now c.loop.target c.move_piece.new.target
+          c.requires.unread c.requires.empty before.so_far.each before.give before.held one.prompt one.writes;
+      give = gives_on c.args.source.now.reader.log c.loop.source.reader.log c.move_piece.new.source.reader.log before.give one.give;
+    }
 
-pub returns : goal.returns
-returns g c =
-    over _ _ _ _ _ c.loop.invariant.each _ c.into.ensures (omega (arith, c.loop-test.false, c.loop.invariant.all))
+pub returns-clause-moves : goal.returns-clause-moves
+returns-clause-moves g c =
+    over g.R.TellRead.remaining c.args.source.now c.args.target.now c.loop.source c.loop.target c.loop.invariant.so_far.each _
+    c.into.ensures (omega (arith, c.loop-test.false, c.loop.invariant.so_far.all))
+
+pub returns-clause-prompt : goal.returns-clause-prompt
+returns-clause-prompt g c = c.loop.invariant.held

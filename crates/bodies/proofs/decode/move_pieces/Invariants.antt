@@ -1,5 +1,11 @@
+use Rattle.bodies.specs.Decode.{IsDue}
+use Rattle.programs.specs.Prompt.{AsksGive, HoldsNothingBack}
 use Rattle.bodies.proofs.Moving.{MovesSoFar}
 use Rattle.bodies.proofs.decode.move_pieces.Given as goal
 
 abbrev pub invariant-loop : goal.invariant-loop
-invariant-loop g l = MovesSoFar g.R.TellRead.remaining l.fn.source l.fn.target l.counter l.source l.target
+invariant-loop g l = record {
+  so_far : MovesSoFar g.R.TellRead.remaining l.fn.source l.fn.target l.counter l.source l.target;
+  held : HoldsNothingBack (IsDue l.fn.source.limits) l.fn.source.reader.log l.source.reader.log l.fn.target.log l.target.log;
+  give : AsksGive l.fn.source.reader.log l.source.reader.log;
+}

@@ -1,7 +1,7 @@
-use Rattle.std.proofs.Common.{arith}
+use Rattle.std.proofs.Common.{arith, inl, refl}
 use Rattle.buffer_redux.specs.Faults.{OnlyInterrupts-none}
 use Rattle.chunked.specs.DechunkingLaws.{BodyWent-none}
-use Rattle.bodies.proofs.Reading.{again, answered, source_kept}
+use Rattle.bodies.proofs.Reading.{again, answered, asked_on, gives_again, gives_last, none_again, quiet_last, source_kept}
 use Rattle.bodies.proofs.decode.read_piece.Goals as goal
 
 pub tries-init : goal.tries-init
@@ -12,6 +12,9 @@ tries-init g c = record {
   room = c.requires.room;
   row = omega arith;
   few = omega arith;
+  asks = inl refl;
+  give = omega arith;
+  quiet = λ _. refl;
 }
 
 pub returns-then-is_final-clause-reads : goal.returns-then-is_final-clause-reads
@@ -19,6 +22,21 @@ returns-then-is_final-clause-reads g c =
     let before = c.tries.invariant in
     answered _ _ _ _ before.went before.source before.met _ _ before.row _ (c.is_final.ensures.often c.if-is_final.true)
     (omega (arith, before.room, c.read_payload-answer.auto.out)) c.read_payload-answer.ensures.reads
+
+pub returns-then-is_final-clause-asks : goal.returns-then-is_final-clause-asks
+returns-then-is_final-clause-asks g c =
+    let before = c.tries.invariant in
+    asked_on _ _ _ _ before.went before.source before.met _ _ before.row before.asks before.give _ c.read_payload-answer.ensures.reads
+
+pub returns-then-is_final-clause-quiet : goal.returns-then-is_final-clause-quiet
+returns-then-is_final-clause-quiet g c =
+    let before = c.tries.invariant in
+    quiet_last _ _ _ _ before.went before.source before.met _ _ before.row before.quiet _ c.read_payload-answer.ensures.reads
+
+pub returns-then-is_final-clause-give : goal.returns-then-is_final-clause-give
+returns-then-is_final-clause-give g c =
+    let before = c.tries.invariant in
+    gives_last _ _ _ _ before.went before.source before.met _ _ before.row before.give _ c.read_payload-answer.ensures.reads
 
 pub tries-preserved : goal.tries-preserved
 tries-preserved g c =
@@ -33,4 +51,7 @@ tries-preserved g c =
       room = omega (arith, before.room, c.read_payload-answer.auto.out);
       row = tried.2;
       few = interrupted.1;
+      asks = asked_on _ _ _ _ before.went before.source before.met _ _ before.row before.asks before.give _ reads;
+      give = gives_again _ _ _ _ before.went before.source before.met _ _ before.row before.give _ interrupted.0 reads;
+      quiet = none_again _ _ _ _ before.went before.source before.met _ _ before.row before.quiet _ interrupted.0 reads;
     }

@@ -1,7 +1,8 @@
-use Rattle.std.proofs.Common.{◌+◌, ◌-◌, ◌<◌, ◌≤◌, [], length}
+use Rattle.std.proofs.Common.{◌≡◌, ◌+◌, ◌-◌, ◌<◌, ◌≤◌, [], length}
 use Rattle.buffer_redux.specs.Policy.{std_read_rules}
-use Rattle.chunked.specs.Dechunking.{BodyWent}
-use Rattle.bodies.specs.Decode.{IsBodySource, ReadsMet}
+use Rattle.chunked.specs.Dechunking.{BodyWent, HasPayload}
+use Rattle.programs.specs.Prompt.{AsksGive}
+use Rattle.bodies.specs.Decode.{Asks, IsBodySource, ReadsMet}
 use Rattle.bodies.proofs.decode.read_piece.Given as goal
 
 abbrev pub invariant-tries : goal.invariant-tries
@@ -12,6 +13,9 @@ invariant-tries g l = record {
   room : 0 < length l.out;
   row : length l.fn.source.reader.log.reads.faults + l.row ≤ length l.source.reader.log.reads.faults;
   few : l.row ≤ 64;
+  asks : Asks l.fn.source l.source;
+  give : AsksGive l.fn.source.reader.log l.source.reader.log;
+  quiet : HasPayload l.fn.source → l.source ≡ l.fn.source;
 }
 
 abbrev pub decreases-tries : goal.decreases-tries

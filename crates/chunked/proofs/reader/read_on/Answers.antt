@@ -12,7 +12,8 @@ returns-then-is_empty-clause-hands g c =
       wire = [];
       takes = Takes-none _ _ _ _ c.requires;
       ends = (omega arith, refl, (λ _ room. absurd (omega (arith, room, none))));
-      calls = record { count = 0; last = c.args.reader.now; turns = refl; call = refl };
+      calls = record
+          { count = 0; last = c.args.reader.now; place = c.args.progress.now.place; turns = (refl, refl); call = (refl, refl) };
     }
 
 pub returns-in-Data-clause-hands : goal.returns-in-Data-clause-hands
@@ -25,7 +26,7 @@ returns-in_err-skip-clause-hands g c =
     let skips = c.in_err-skip.ensures.skips in
     let p = err_from_is_err_and c.from_residual.result c.from_residual.ensures.1 in
     rw (p.1, p.2)
-    (record { wire = skips.wire; takes = skips.takes; ends = skips.ends; calls = Calls-fail _ _ _ _ _ skips.calls _ })
+    (record { wire = skips.wire; takes = skips.takes; ends = skips.ends; calls = Calls-fail _ _ _ _ _ _ _ skips.calls _ })
 
 pub returns-in_default : goal.returns-in_default
 returns-in_default g c =
@@ -35,7 +36,7 @@ returns-in_default g c =
         wire = skips.wire;
         takes = skips.takes;
         ends = (omega arith, skips.ends.0, (λ none room. search rules));
-        calls = Calls-none _ _ _ _ skips.calls _;
+        calls = Calls-none _ _ _ _ _ _ skips.calls _;
       };
       ended = search rules;
       idle = search rules;

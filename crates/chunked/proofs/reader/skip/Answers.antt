@@ -13,7 +13,7 @@ loop-reader-init g c = record {
   no_fault = refl;
   still = inl (refl, refl);
   count = 0;
-  turns = refl;
+  turns = (refl, refl);
 }
 
 pub returns-in_err-shown : goal.returns-in_err-shown
@@ -82,5 +82,11 @@ returns-clause-skips g c =
       wire = before.wire;
       takes = before.takes;
       ends = (before.no_fault, c.loop-reader-test.ensures.0 (search rules));
-      calls = record { count = before.count; last = c.loop-reader.reader; turns = before.turns; call = refl };
+      calls = record {
+        count = before.count;
+        last = c.loop-reader.reader;
+        place = c.loop-reader.progress.place;
+        turns = before.turns;
+        call = (refl, refl);
+      };
     }

@@ -11,7 +11,8 @@ invariant-loop-reader g l = record {
   no_fault : NoFault l.initial.reader l.reader;
   still : ((l.reader ≡ l.initial.reader) × (l.progress ≡ l.initial.progress)) ⊎ (¬ IsSettled l.initial.progress.place);
   count : ℕ;
-  turns : TakesTurns g.P.ReaderPolicy.rules count l.initial.reader l.reader;
+  turns : TakesTurns g.P.ReaderPolicy.rules l.initial.progress.limits count l.initial.reader l.initial.progress.place l.reader
+      l.progress.place;
 }
 
 abbrev pub decreases-loop-reader : goal.decreases-loop-reader
