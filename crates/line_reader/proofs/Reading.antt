@@ -9,7 +9,7 @@ use Rattle.buffer_redux.specs.Buffered.{Buffered, with_policy}
 use Rattle.buffer_redux.specs.MinBuffered.{min_read_rules}
 use Rattle.buffer_redux.specs.declared.policy.MinBuffered.{MinBuffered}
 use Rattle.line_reader.specs.Lines.{IsLine}
-use Rattle.line_reader.specs.Lining.{Lining, IsLining, rest}
+use Rattle.line_reader.specs.Lining.{Lining, IsLining, most, rest}
 use Rattle.line_reader.specs.NextLine.{LinesWent, Faulted, MetEnd, empties}
 use Rattle.line_reader.specs.Steps.{AsksOnce}
 use Rattle.buffer_redux.specs.MinBufferedLaws.{number_of, none_before_fault, none_where_enough, once_at_end}
@@ -17,6 +17,13 @@ use Rattle.buffer_redux.specs.MinBufferedLaws.{number_of, none_before_fault, non
 -- where no byte was handed out, all that is buffered is left
 pub rest_whole : {S : Type 0} (f : Lining S) → f.handed ≡ 0 → rest f ≡ f.reader.block.bytes
 rest_whole f none = ap (λ n. drop n f.reader.block.bytes) none
+
+-- where nothing that was handed out is buffered still, the buffer has what is left, so as much as fits
+pub fits_whole : {S : Type 0} (f s : Lining S) → f ≡ s → s.handed ≡ 0 → length (rest s) < most s
+    → (f.handed ≡ 0) × (length f.reader.block.bytes ≤ f.max)
+fits_whole f s is handed fits =
+    let none : f.handed ≡ 0 = ap (λ x. x.handed) is ∙ handed in
+    (none, omega (arith, fits, ap (λ x. length (rest x)) is, ap (λ x. x.max) is, ap length (rest_whole f none)))
 
 -- the end of the stream, by whether it had been met before
 pub MetEnd-before : {S : Type 0} (s t : Lining S) → s.ended ≡ true → empties t.reader ≡ empties s.reader → MetEnd s t

@@ -1,9 +1,9 @@
-use Rattle.std.proofs.Common.{◌≡◌, ◌+◌, ◌≤◌, Ok, ap, subst, ◌∙◌, arith, length, nat_lt, Err}
+use Rattle.std.proofs.Common.{◌≡◌, ◌+◌, Ok, ap, subst, ◌∙◌, arith, length, nat_lt, Err}
 use Rattle.std.proofs.lemmas.Bool.{ltb-true, ltb-false}
 use Rattle.std.proofs.lemmas.Result.{err_from_is_err_and}
-use Rattle.line_reader.specs.Lining.{Lining, rest}
+use Rattle.line_reader.specs.Lining.{Lining}
 use Rattle.line_reader.specs.Steps.{AsksOnce}
-use Rattle.line_reader.proofs.Reading.{rest_whole, filled_whole, AsksOnce-ok, AsksOnce-err}
+use Rattle.line_reader.proofs.Reading.{fits_whole, filled_whole, AsksOnce-ok, AsksOnce-err}
 use Rattle.line_reader.proofs.reader.LineReader.read_more.Goals as goal
 
 pub invariant_of-self : goal.invariant_of-self
@@ -13,15 +13,8 @@ invariant_of-self g c =
     record { reader = i.reader; max = i.max; handed = i.handed; seen = i.seen; ended = i.ended; skipping = i.skipping } in
     let number : c.set_min.new.self.0 ≡ 1 + length i.reader.block.bytes =
     ap (λ p. p.0) c.set_min.ensures.number ∙ ap (λ n. 1 + n) c.buf_len-have.ensures.value in
-    let handed : i.handed ≡ 0 = ap (λ x. x.handed) c.self.view_is ∙ c.requires.handed in
-    let fits : length i.reader.block.bytes ≤ i.max = omega (
-      arith,
-      c.requires.fits,
-      ap (λ x. length (rest x)) c.self.view_is,
-      ap (λ x. x.max) c.self.view_is,
-      ap length (rest_whole m handed),
-    ) in
-    filled_whole g.R.TellRead.remaining m c.self.invariant handed fits c.if-self.false
+    let whole = fits_whole m _ c.self.view_is c.requires.handed c.requires.fits in
+    filled_whole g.R.TellRead.remaining m c.self.invariant whole.0 whole.1 c.if-self.false
     (ap (λ x. x.skipping) c.self.view_is ∙ c.requires.open) _ number _ _ c.fill_buf.follows.holds-at-none
 
 pub returns-in_err-fill_buf : goal.returns-in_err-fill_buf
@@ -33,14 +26,7 @@ returns-in_err-fill_buf g c =
     let f = rw c.in_err-fill_buf.was at c.fill_buf.follows.holds-at-none in
     let number : c.set_min.new.self.0 ≡ 1 + length i.reader.block.bytes =
     ap (λ p. p.0) c.set_min.ensures.number ∙ ap (λ n. 1 + n) c.buf_len-have.ensures.value in
-    let handed : i.handed ≡ 0 = ap (λ x. x.handed) c.self.view_is ∙ c.requires.handed in
-    let fits : length i.reader.block.bytes ≤ i.max = omega (
-      arith,
-      c.requires.fits,
-      ap (λ x. length (rest x)) c.self.view_is,
-      ap (λ x. x.max) c.self.view_is,
-      ap length (rest_whole m handed),
-    ) in
+    let whole = fits_whole m _ c.self.view_is c.requires.handed c.requires.fits in
     let t : Lining g.row.R.Denot = record {
       reader = c.fill_buf.follows.lender-at-none;
       max = i.max;
@@ -51,7 +37,7 @@ returns-in_err-fill_buf g c =
     } in
     let p = err_from_is_err_and c.from_residual.result c.from_residual.ensures.1 in
     rw (p.1, p.2) (subst (λ x. AsksOnce remaining x (Err c.in_err-fill_buf.field-0.0) t) c.self.view_is
-    (AsksOnce-err remaining m c.self.invariant handed fits c.if-self.false
+    (AsksOnce-err remaining m c.self.invariant whole.0 whole.1 c.if-self.false
     (ap (λ x. x.skipping) c.self.view_is ∙ c.requires.open) _ number _ _ f))
 
 pub returns : goal.returns
@@ -63,14 +49,7 @@ returns g c =
     let f = rw c.in_ok-fill_buf.was at c.fill_buf.follows.holds-at-none in
     let number : c.set_min.new.self.0 ≡ 1 + length i.reader.block.bytes =
     ap (λ p. p.0) c.set_min.ensures.number ∙ ap (λ n. 1 + n) c.buf_len-have.ensures.value in
-    let handed : i.handed ≡ 0 = ap (λ x. x.handed) c.self.view_is ∙ c.requires.handed in
-    let fits : length i.reader.block.bytes ≤ i.max = omega (
-      arith,
-      c.requires.fits,
-      ap (λ x. length (rest x)) c.self.view_is,
-      ap (λ x. x.max) c.self.view_is,
-      ap length (rest_whole m handed),
-    ) in
+    let whole = fits_whole m _ c.self.view_is c.requires.handed c.requires.fits in
     let t : Lining g.row.R.Denot = record {
       reader = c.fill_buf.follows.lender-at-none;
       max = i.max;
@@ -80,7 +59,7 @@ returns g c =
       skipping = i.skipping;
     } in
     subst (λ x. AsksOnce remaining x (Ok (nat_lt c.buf_len-have.result (length c.in_ok-fill_buf.field-0.now))) t) c.self.view_is
-    (AsksOnce-ok remaining m c.self.invariant handed fits c.if-self.false
+    (AsksOnce-ok remaining m c.self.invariant whole.0 whole.1 c.if-self.false
     (ap (λ x. x.skipping) c.self.view_is ∙ c.requires.open) _ number _ _ f _ (λ more. omega (
       arith,
       ltb-true c.buf_len-have.result (length c.in_ok-fill_buf.field-0.now) more,
