@@ -128,10 +128,25 @@ impl<W: TellWrite, E: Encoder> PieceWriter<W, E> {
         ensures { WritesPiece W.stretch (E.encoding self.old.encoder) self.old payload.now result self.new }
     {
         if !self.has_room(head, payload) {
-            return self.write_slowly(head, payload);
+            return self.write_aside(head, payload);
         }
         self.take_in(head, payload);
         Ok(())
+    }
+
+    // Goes on in `write_slowly`. The kit's compiler clears the answer of a call where the function that makes the call begins; of
+    // a call made in here, which is inlined, that is behind the look at the room.
+    #[inline(always)]
+    fn write_aside(
+        &mut self,
+        head: &Head,
+        payload: &[u8],
+    ) -> Result<(), WritePieceError<E::Refusal>>
+        requires head { IsHead (E.encoding self.old.encoder) payload.now head.now }
+        requires full { room self.old < length (coded (E.encoding self.old.encoder) payload.now) }
+        ensures { WritesPiece W.stretch (E.encoding self.old.encoder) self.old payload.now result self.new }
+    {
+        self.write_slowly(head, payload)
     }
 
     // Sends all that is buffered, and then takes the piece in.
