@@ -1,5 +1,5 @@
 -- What the turns of `drop_through` come to.
-use Rattle.std.proofs.Common.{◌≡◌, ℕ, ◌+◌, ◌<◌, ◌≤◌, ◌^◌, List, [], ◌∷◌, ◌++◌, length, length-take-le, drop, take, true, false, refl, sym, ap, subst, ◌∙◌, arith, inl, inr, append-nil, append_assoc, length-append, Option, Ok, Err, length-drop}
+use Rattle.std.proofs.Common.{◌≡◌, ℕ, ◌+◌, ◌<◌, ◌≤◌, ◌^◌, List, [], ◌∷◌, ◌++◌, length, length-take-le, drop, take, Bool, true, false, refl, sym, ap, subst, ◌∙◌, arith, inl, inr, append-nil, append_assoc, length-append, Option, Ok, Err, length-drop}
 use Rattle.std.proofs.lemmas.List.{drop-drop, nil_from_length}
 use Rattle.std.proofs.lemmas.List.Elements.{All-append, All-nil}
 use Rattle.std.specs.IoError.{error_kind}
@@ -125,6 +125,17 @@ skip_on remaining s m t dropped h went told ended skipping =
     }
 
 -- then nothing is left, and more is asked for
+-- where no end was buffered, all that was left is dropped, and consumed
+pub skip_all : {S : Type 0} (remaining : S → Option (List ℕ)) (s m t v : Lining S) (dropped count : ℕ) (found : Bool)
+    → SkipHead remaining s m dropped → found ≡ false → DropsLine m count found t → LinesWent remaining t [] v → rest v ≡ rest t
+    → v.reader.log ≡ t.reader.log → v.ended ≡ t.ended → v.skipping ≡ t.skipping
+    → SkipHead remaining s v (dropped + count) × (rest v ≡ [])
+skip_all remaining s m t v dropped count found h is drops went left told ended skipping =
+    let all = subst (λ b. DropsLine m count b t) is drops in (
+      skip_on remaining s t v (dropped + count) (skipped remaining s m dropped h count t all) went told ended skipping,
+      left ∙ none_left remaining s m dropped h count t all,
+    )
+
 module _ {S : Type 0} (remaining : S → Option (List ℕ)) (s m : Lining S) (dropped : ℕ)
     (h : SkipHead remaining s m dropped) (none : rest m ≡ []) where
   all_plain : IsLine (rest s ++ h.head.went.hands.got)
