@@ -1,6 +1,7 @@
 use Rattle.std.proofs.Common.{◌≡◌, ◌⊎◌, ℕ, List, [], ◌∷◌, Option, None, Some, Result, Ok, Err, MatchResult, IfOk, IfErr, true, false, inl, inr, subst, refl, sym, ap}
 use Rattle.std.specs.declared.io.Error.{Error}
-use Rattle.std.specs.Prelude.{codes, ◌≢◌}
+use Rattle.std.proofs.lemmas.Option.{none-some}
+use Rattle.std.specs.Prelude.{codes}
 use Rattle.buffer_redux.specs.BufWriter.{StoppedAlong, WritesAlong}
 use Rattle.buffer_redux.specs.Policy.{std_write_rules}
 use Rattle.buffer_redux.specs.StreamLog.{StreamLog}
@@ -11,8 +12,7 @@ use Rattle.line_reader.specs.LinesAlongLaws.{NextTrimmed-along}
 use Rattle.line_reader.specs.SkipLine.{NextTrimmed, SkipsLine}
 use Rattle.line_reader.specs.declared.error.LineError.TheVariants.{TooLong}
 use Rattle.kv.specs.Exchange.{Answers, IsTaken}
-use Rattle.kv.specs.Protocol.{quit_line}
-use Rattle.kv.specs.Serving.{AnswersLong, Does, Fails, Server, TookLine, Turns}
+use Rattle.kv.specs.Serving.{AnswersLong, Does, Fails, IsStep, Server, TookLine, Turns}
 use Rattle.kv.specs.declared.serving.Step.{Step}
 use Rattle.kv.specs.declared.serving.Step.TheVariants.{End, Quit, Went}
 
@@ -40,6 +40,7 @@ module _ {S T P : Type 0} (remaining : S → Option (List ℕ)) (tells : T → S
             answers = (refl, λ q. ap (λ v. v q) (sym same));
             along = along;
           },
+          none-some _,
         );
       }
   long_turns m meets taken quiet same (Err e) (inl (k, w)) =
@@ -65,9 +66,9 @@ module _ {S T P : Type 0} (remaining : S → Option (List ℕ)) (tells : T → S
         → IfErr answer (λ e. StoppedAlong tells stretch std_write_rules s.replies e t.replies)
         → IfOk answer (λ _. (reply : List ℕ) × Answers s.values (Some line) reply t.values
         × WritesAlong tells stretch std_write_rules s.replies reply t.replies)
-        → IfOk answer (λ step. step ≢ End) → IfOk answer (λ step. step ≡ Quit → line ≡ quit_line)
+        → IfOk answer (IsStep (Some line))
         → MatchResult answer (λ step. Does remaining tells stretch s step t) (λ e. Fails remaining tells stretch s e t)
-    line_does (Ok Went) stopped answered goes_on quits = (_, took answered)
-    line_does (Ok Quit) stopped answered goes_on quits = (_, took answered, ap (λ l. Some l) (quits refl))
-    line_does (Ok End) stopped answered goes_on quits = absurd (goes_on refl)
-    line_does (Err e) stopped answered goes_on quits = inr (Some line, next, stopped)
+    line_does (Ok Went) stopped answered step = (_, took answered, step)
+    line_does (Ok Quit) stopped answered step = (_, took answered, step)
+    line_does (Ok End) stopped answered step = absurd step
+    line_does (Err e) stopped answered step = inr (Some line, next, stopped)

@@ -1,5 +1,5 @@
 -- What a server does.
-use Rattle.std.specs.Prelude.{◌≡◌, ◌⊎◌, ℕ, List, [], ◌∷◌, Option, None, Some, Result, Ok, Err, MatchResult, true, codes}
+use Rattle.std.specs.Prelude.{◌≡◌, ◌⊎◌, ℕ, List, [], ◌∷◌, Option, None, Some, Result, Ok, Err, MatchResult, true, codes, ⊤}
 use Rattle.std.specs.declared.io.Error.{Error}
 use Rattle.buffer_redux.specs.Buffered.{Buffered}
 use Rattle.buffer_redux.specs.BufWriter.{WritesAlong, FlushedAlong, StoppedAlong}
@@ -35,6 +35,17 @@ IsSent w = (w.block.bytes ≡ []) × (w.log.writes.flushed ≡ w.log.writes.rece
 abbrev pub Waits : {S T P : Type 0} → Lining S → Buffered T P → Lining S → Type 0
 Waits s w t = (t.reader.log ≡ s.reader.log) ⊎ IsSent w
 
+-- which step it is to answer this line: it is `QUIT`, or another
+abbrev pub IsStep : Option (List ℕ) → Step → Type 0
+IsStep line step.Went = ¬ (line ≡ Some quit_line)
+IsStep line step.Quit = line ≡ Some quit_line
+IsStep line step.End = ⊥
+
+-- the latest was no `QUIT`
+abbrev pub GoesOn : List Exchange → Type 0
+GoesOn [] = ⊤
+GoesOn (x ∷ earlier) = IsStep x.line step.Went
+
 module _ {S : Type 0} (remaining : S → Option (List ℕ)) where
   -- a line that is too long stands in front, or one was being skipped; and that is skipped, or fails
   abbrev pub SkipsLong : Lining S → Result ℕ Error → Lining S → Type 0
@@ -50,9 +61,9 @@ module _ {S : Type 0} (remaining : S → Option (List ℕ)) where
   -- what became of the reader at the end
   abbrev pub EndedBy : Served → List Exchange → Lining S → Lining S → Type 0
   EndedBy served.Quit exchanges s t =
-      (s ≡ t) × ((x : Exchange) × (earlier : List Exchange) × (exchanges ≡ x ∷ earlier) × (x.line ≡ Some quit_line))
-  EndedBy served.End exchanges s t = NextTrimmed remaining s (Ok None) t
-  EndedBy served.Many exchanges s t = s ≡ t
+      (s ≡ t) × ((x : Exchange) × (earlier : List Exchange) × (exchanges ≡ x ∷ earlier) × IsStep x.line step.Quit)
+  EndedBy served.End exchanges s t = NextTrimmed remaining s (Ok None) t × GoesOn exchanges
+  EndedBy served.Many exchanges s t = (s ≡ t) × GoesOn exchanges
 
 module _ {S T P : Type 0} (remaining : S → Option (List ℕ)) (tells : T → StreamLog) (stretch : T → T → Type 0) where
   -- a line was taken, of which no byte is lost, and answered
@@ -63,10 +74,10 @@ module _ {S T P : Type 0} (remaining : S → Option (List ℕ)) (tells : T → S
     pub answers : Answers s.values x.line x.reply t.values
     pub along : WritesAlong tells stretch std_write_rules s.replies x.reply t.replies
 
-  -- what a turn does, and by which line it ended
+  -- what a turn does, and which step it was
   abbrev pub Does : Server S T P → Step → Server S T P → Type 0
-  Does s step.Went t = (x : Exchange) × TookLine s x t
-  Does s step.Quit t = (x : Exchange) × TookLine s x t × (x.line ≡ Some quit_line)
+  Does s step.Went t = (x : Exchange) × TookLine s x t × IsStep x.line step.Went
+  Does s step.Quit t = (x : Exchange) × TookLine s x t × IsStep x.line step.Quit
   Does s step.End t =
       NextTrimmed remaining s.commands (Ok None) t.commands × (s.values ≡ t.values) × (s.replies ≡ t.replies)
 
@@ -98,10 +109,10 @@ module _ {S T P : Type 0} (remaining : S → Option (List ℕ)) (tells : T → S
     pub waits : Waits s.commands ready t.commands
     pub took : TookLine (server s.commands s.values ready) x t
 
-  -- these exchanges, the latest first, one behind another
+  -- these exchanges, the latest first, one behind another, and none behind `QUIT`
   abbrev pub Talked : Server S T P → List Exchange → Server S T P → Type 0
   Talked s [] t = s ≡ t
-  Talked s (x ∷ earlier) t = (m : Server S T P) × Talked s earlier m × TookTurn m x t
+  Talked s (x ∷ earlier) t = (m : Server S T P) × Talked s earlier m × GoesOn earlier × TookTurn m x t
 
   -- exchanges up to an end, and then no reply more
   pub record Ends (s : Server S T P) (ended : Served) (t : Server S T P) : Type 0 where
@@ -129,5 +140,5 @@ module _ {S T P : Type 0} (remaining : S → Option (List ℕ)) (tells : T → S
     pub ready : Buffered T P
     pub along : WritesAlong tells stretch std_write_rules s.replies (joined (λ x. x.reply) exchanges) ready
     pub waits : Waits last.commands ready t.commands
-    pub why : Fails (server last.commands last.values ready) e t
+    pub why : (Fails (server last.commands last.values ready) e t × GoesOn exchanges)
         ⊎ (StoppedAlong tells stretch std_write_rules ready e t.replies × (last.values ≡ t.values))

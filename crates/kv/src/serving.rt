@@ -1,12 +1,11 @@
 //! Lines are taken, one after another, and answered.
-ghost use Rattle.std.specs.Prelude.{◌≡◌, ◌≢◌, ◌+◌, ◌++◌, ◌∷◌, ◌⊎◌, ℕ, List, [], Some, take, drop, OnOk, IfOk, IfErr, IfSome, IsTrue};
+ghost use Rattle.std.specs.Prelude.{◌≡◌, ◌+◌, ◌++◌, ◌∷◌, ◌⊎◌, ℕ, List, [], Some, take, drop, OnOk, IfOk, IfErr, IfSome, IsTrue};
 ghost use Rattle.line_reader.specs.Lines.{IsLine, newline};
 ghost use Rattle.line_reader.specs.Lining.{rest};
 ghost use Rattle.buffer_redux.specs.BufWriter.{AllAlong, StoppedAlong, WritesAlong};
 ghost use Rattle.buffer_redux.specs.Policy.{std_write_rules};
 ghost use Rattle.kv.specs.Exchange.{Answers};
-ghost use Rattle.kv.specs.Protocol.{quit_line};
-ghost use Rattle.kv.specs.Serving.{AnswersLong, Ends, IsSent, Serves, Stops, Turns, server};
+ghost use Rattle.kv.specs.Serving.{AnswersLong, Ends, IsSent, IsStep, Serves, Stops, Turns, server};
 ghost use Rattle.kv.specs.Stored.{value_in};
 
 use crate::command::{Command, parse};
@@ -129,8 +128,7 @@ fn answer<W: TellWrite>(
     ensures answered { IfOk result (λ _. (reply : List ℕ)
         × Answers (value_in store.old.map) (Some line.now) reply (value_in store.new.map)
         × WritesAlong W.log W.stretch std_write_rules writer.old reply writer.new) }
-    ensures goes_on { IfOk result (λ step. step ≢ Step.End) }
-    ensures quits { IfOk result (λ step. step ≡ Step.Quit → line.now ≡ quit_line) }
+    ensures step { IfOk result (IsStep (Some line.now)) }
 {
     let command = parse(line);
     act(alloc, command, store, writer)?;

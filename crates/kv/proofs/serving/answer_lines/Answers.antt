@@ -9,17 +9,17 @@ use Rattle.kv.specs.Stored.{value_in}
 use Rattle.kv.proofs.serving.answer_lines.Goals as goal
 
 pub loop-turn-init : goal.loop-turn-init
-loop-turn-init g c = ([], refl)
+loop-turn-init g c = ([], refl, tt)
 
 pub loop-turn-preserved : goal.loop-turn-preserved
 loop-turn-preserved g c =
     let m = server c.loop-turn.reader (value_in c.loop-turn.store.map) c.loop-turn.writer in
     let turn = rw c.in-Went.is at c.in_ok-turn.ensures in (
       turn.does.0 ∷ c.loop-turn.invariant.0,
-      one_more _ _ _ _ c.loop-turn.invariant.0 m c.make_ready.new.writer c.loop-turn.invariant.1
-          c.in_ok-make_ready.ensures.along _
-          (waits_when c.loop-turn.reader c.turn.new.reader c.make_ready.new.writer turn.quiet c.in_ok-make_ready.ensures.ready)
-          turn.does.0 turn.does.1,
+      one_more _ _ _ _ c.loop-turn.invariant.0 m c.make_ready.new.writer c.loop-turn.invariant.1 c.loop-turn.invariant.2
+          c.in_ok-make_ready.ensures.along _ (waits_when c.loop-turn.reader c.turn.new.reader c.make_ready.new.writer
+          turn.quiet c.in_ok-make_ready.ensures.ready) turn.does.0 turn.does.1,
+      turn.does.2,
     )
 
 pub returns-in-Quit-clause-ended : goal.returns-in-Quit-clause-ended
@@ -29,7 +29,7 @@ returns-in-Quit-clause-ended g c =
     record {
       exchanges = turn.does.0 ∷ c.loop-turn.invariant.0;
       last = server c.turn.new.reader (value_in c.turn.new.store.map) c.turn.new.writer;
-      talked = one_more _ _ _ _ c.loop-turn.invariant.0 m c.make_ready.new.writer c.loop-turn.invariant.1
+      talked = one_more _ _ _ _ c.loop-turn.invariant.0 m c.make_ready.new.writer c.loop-turn.invariant.1 c.loop-turn.invariant.2
           c.in_ok-make_ready.ensures.along _ (waits_when c.loop-turn.reader c.turn.new.reader c.make_ready.new.writer
           turn.quiet c.in_ok-make_ready.ensures.ready) turn.does.0 turn.does.1;
       sent = WritesAlong-none _ _ _ g.met.W.TellWrite.stretch_none c.turn.new.writer;
@@ -49,7 +49,7 @@ returns-in-End-clause-ended g c =
           c.in_ok-make_ready.ensures.along;
       waits = subst (λ w. Waits c.loop-turn.reader w c.turn.new.reader) turn.does.2
           (waits_when c.loop-turn.reader c.turn.new.reader c.make_ready.new.writer turn.quiet c.in_ok-make_ready.ensures.ready);
-      why = turn.does.0;
+      why = (turn.does.0, c.loop-turn.invariant.2);
       values = turn.does.1;
     }
 
@@ -60,7 +60,7 @@ returns-clause-ended g c = record {
   talked = c.loop-turn.invariant.1;
   sent = WritesAlong-none _ _ _ g.met.W.TellWrite.stretch_none c.loop-turn.writer;
   waits = inl refl;
-  why = refl;
+  why = (refl, c.loop-turn.invariant.2);
   values = refl;
 }
 
@@ -79,4 +79,4 @@ returns-in_err-turn-clause-failed g c =
     c.loop-turn.invariant.0 (server c.loop-turn.reader (value_in c.loop-turn.store.map) c.loop-turn.writer)
     c.make_ready.new.writer c.loop-turn.invariant.1 c.in_ok-make_ready.ensures.along _
     (waits_when c.loop-turn.reader c.turn.new.reader c.make_ready.new.writer c.in_err-turn.ensures.quiet
-    c.in_ok-make_ready.ensures.ready) _ (inl c.in_err-turn.ensures.does))
+    c.in_ok-make_ready.ensures.ready) _ (inl (c.in_err-turn.ensures.does, c.loop-turn.invariant.2)))
