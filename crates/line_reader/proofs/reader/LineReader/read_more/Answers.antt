@@ -27,14 +27,7 @@ returns-in_err-fill_buf g c =
     let number : c.set_min.new.self.0 ≡ 1 + length i.reader.block.bytes =
     ap (λ p. p.0) c.set_min.ensures.number ∙ ap (λ n. 1 + n) c.buf_len-have.ensures.value in
     let whole = fits_whole m _ c.self.view_is c.requires.handed c.requires.fits in
-    let t : Lining g.row.R.Denot = record {
-      reader = c.fill_buf.follows.lender-at-none;
-      max = i.max;
-      handed = i.handed;
-      seen = i.seen;
-      ended = i.ended;
-      skipping = i.skipping;
-    } in
+    let t = record m { reader = c.fill_buf.follows.lender-at-none } in
     let p = err_from_is_err_and c.from_residual.result c.from_residual.ensures.1 in
     rw (p.1, p.2) (subst (λ x. AsksOnce remaining x (Err c.in_err-fill_buf.field-0.0) t) c.self.view_is
     (AsksOnce-err remaining m c.self.invariant whole.0 whole.1 c.if-self.false
@@ -50,14 +43,7 @@ returns g c =
     let number : c.set_min.new.self.0 ≡ 1 + length i.reader.block.bytes =
     ap (λ p. p.0) c.set_min.ensures.number ∙ ap (λ n. 1 + n) c.buf_len-have.ensures.value in
     let whole = fits_whole m _ c.self.view_is c.requires.handed c.requires.fits in
-    let t : Lining g.row.R.Denot = record {
-      reader = c.fill_buf.follows.lender-at-none;
-      max = i.max;
-      handed = i.handed;
-      seen = i.seen;
-      ended = i.ended;
-      skipping = i.skipping;
-    } in
+    let t = record m { reader = c.fill_buf.follows.lender-at-none } in
     subst (λ x. AsksOnce remaining x (Ok (nat_lt c.buf_len-have.result (length c.in_ok-fill_buf.field-0.now))) t) c.self.view_is
     (AsksOnce-ok remaining m c.self.invariant whole.0 whole.1 c.if-self.false
     (ap (λ x. x.skipping) c.self.view_is ∙ c.requires.open) _ number _ _ f _ (λ more. omega (
