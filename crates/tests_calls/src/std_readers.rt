@@ -1,5 +1,5 @@
-//! The calls of std's readers, each as a user of std writes it, so that `docs/STD.md` says what is there; and rows of those that
-//! a reader has of its own.
+//! Calls of std's readers, as a user of std writes them, so that `docs/STD.md` says what is there; and rows of those that a reader
+//! has of its own.
 use crate::fixtures::of_four;
 use buffer_redux::BufReader;
 use buffer_redux::script::Answer;
@@ -40,34 +40,51 @@ fn text(from: &mut Text, text: &mut String) -> io::Result<usize> {
     Ok(line)
 }
 
-fn through(alloc: Global, mut from: Text) -> io::Result<bool> {
-    let mut line = Vec::new(alloc);
-    let mut all = String::new(alloc);
-    let count = appends(&mut from, &mut line)?;
-    let at = seeks(&mut from)?;
-    let ended = text(&mut from, &mut all)?;
-    let is_read = from.buffer().is_empty() && from.get_ref().get_ref().position() == 14;
-    Ok(
-        is_read
-            && (count, at, ended) == (6, 3, 3)
-            && line.as_slice() == b"d\nghac".as_slice()
-            && all.as_str() == "cd\nef\nghijk\n",
-    )
+// What each of these counts.
+fn reads(from: &mut Text, line: &mut Vec<u8>, all: &mut String) -> io::Result<(usize, u64, usize)> {
+    let count = appends(from, line)?;
+    let at = seeks(from)?;
+    Ok((count, at, text(from, all)?))
 }
 
-// How many bytes come by iterators: lines, pieces up to an `i`, and one by one.
-fn by_parts(alloc: Global, from: &mut Text) -> io::Result<usize> {
-    let mut count = 0usize;
-    for line in from.by_ref().lines(alloc).take(2) {
-        count = count.saturating_add(line?.len());
+fn is_left(from: &Text, line: &[u8], all: &str) -> bool {
+    from.buffer().is_empty()
+        && from.get_ref().get_ref().position() == 14
+        && line == b"d\nghac".as_slice()
+        && all == "cd\nef\nghijk\n"
+}
+
+fn through(alloc: Global, mut from: Text) -> bool {
+    let mut line = Vec::new(alloc);
+    let mut all = String::new(alloc);
+    let counts = kind(reads(&mut from, &mut line, &mut all));
+    counts == Ok((6, 3, 3)) && is_left(&from, line.as_slice(), all.as_str())
+}
+
+// Whether these come first by iterators: a line, a piece up to an `i`, and a byte.
+fn gives_line(alloc: Global, from: &mut Text, text: &str) -> bool {
+    match from.by_ref().lines(alloc).next() {
+        Some(Ok(line)) => line.as_str() == text,
+        _ => false,
     }
-    for piece in from.by_ref().split(alloc, b'i').take(1) {
-        count = count.saturating_add(piece?.len());
+}
+
+fn gives_piece(alloc: Global, from: &mut Text, piece: &[u8]) -> bool {
+    match from.by_ref().split(alloc, b'i').next() {
+        Some(Ok(given)) => given.as_slice() == piece,
+        _ => false,
     }
-    for byte in from.by_ref().chain(b"xyz".as_slice()).bytes() {
-        count = count.saturating_add(10 * byte?.min(1) as usize);
-    }
-    Ok(count)
+}
+
+fn gives_byte(from: &mut Text, byte: u8) -> bool {
+    let given = from.by_ref().chain(b"xyz".as_slice()).bytes().next();
+    matches!(given, Some(Ok(it)) if it == byte)
+}
+
+fn by_parts(alloc: Global, mut from: Text) -> bool {
+    gives_line(alloc, &mut from, "abcd")
+        && gives_piece(alloc, &mut from, b"ef\ngh")
+        && gives_byte(&mut from, b'j')
 }
 
 static TEXT: &[u8] = b"abcd\nef\nghijk\n";
@@ -78,9 +95,8 @@ fn of_text(alloc: Global) -> Result<Text, Fail> {
 
 #[test]
 fn read_as_stds_do(rt: HostRuntime) -> Result<(), Fail> {
-    assert!(rt; through(rt.alloc(), of_text(rt.alloc())?)?);
-    let mut from = of_text(rt.alloc())?;
-    assert!(rt; by_parts(rt.alloc(), &mut from)? == 68);
+    assert!(rt; through(rt.alloc(), of_text(rt.alloc())?));
+    assert!(rt; by_parts(rt.alloc(), of_text(rt.alloc())?));
     Ok(())
 }
 
