@@ -1,2 +1,4 @@
 pub mod Packets
 pub mod PacketsLaws
+pub mod PacketsOut
+pub mod PacketsOutLaws

@@ -3,6 +3,8 @@
 
 #[cfg(test)]
 mod examples;
+#[cfg(test)]
+mod packed;
 pub mod packets;
 #[cfg(test)]
 mod pieces;

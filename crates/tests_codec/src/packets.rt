@@ -2,7 +2,7 @@
 ghost use Rattle.std.specs.Prelude.{◌≡◌};
 ghost use Rattle.tests_codec.specs.Packets.{behind, digit_of};
 
-use codec::{Scan, Turn};
+use codec::{Head, Scan, ScanOut, Turn};
 
 /// Where a head stands: behind these digits.
 #[derive(Clone, Copy, Debug, Drop)]
@@ -49,6 +49,28 @@ impl Scan for Packets {
     }
 
     ghost small = { λ _. packets_small };
+}
+
+// Those of at most one byte are written too.
+impl ScanOut for Packets {
+    ghost use Rattle.tests_codec.specs.PacketsOut.{packets_out};
+    ghost use Rattle.tests_codec.specs.PacketsOutLaws.{packets_read_back};
+
+    ghost heads_out = { λ _. packets_out };
+
+    fn head_of(&self, len: usize) -> Head {
+        if len == 0 {
+            Head::new(b"0004")
+        } else {
+            Head::new(b"0005")
+        }
+    }
+
+    fn max_written(&self) -> usize {
+        1
+    }
+
+    ghost read_back = { λ _. packets_read_back };
 }
 
 // The digit that a byte is.
