@@ -3,7 +3,7 @@ use Rattle.std.specs.Prelude.{◌≡◌, ℕ, ◌<◌, List, [], ◌∷◌, leng
 use Rattle.std.specs.declared.io.Error.{Error}
 use Rattle.redux_policy.specs.Policy.{ReadRules}
 use Rattle.buffer_redux.specs.Buffered.{Buffered}
-use Rattle.buffer_redux.specs.BufReader.{ReadsToEnd}
+use Rattle.buffer_redux.specs.BufReader.{ReaderConsumes, ReadsToEnd}
 use Rattle.buffer_redux.specs.FillRetried.{FillRetried}
 use Rattle.buffer_redux.specs.ReadAll.{HandedFront}
 use Rattle.buffer_redux.specs.ReaderLaws.{WantsBytes}
@@ -14,11 +14,12 @@ handed_byte (Ok (Some byte)) = byte ∷ []
 handed_byte (Ok None) = []
 handed_byte (Err e) = []
 
--- the first byte that is buffered was handed out, and nobody was asked; nothing was done where none is
+-- the first byte that is buffered was handed out, of which the policy was told, and nobody was asked; nothing was done
+-- where none is
 abbrev pub TakesFirst : {S P : Type 0} → (S → Option (List ℕ)) → ReadRules P → Buffered S P → Option ℕ → Buffered S P
     → Type 0
 TakesFirst remaining rules s (Some byte) t =
-    HandedFront remaining rules s (byte ∷ []) t × (byte ∷ t.block.bytes ≡ s.block.bytes) × (t.log ≡ s.log)
+    HandedFront remaining rules s (byte ∷ []) t × (byte ∷ t.block.bytes ≡ s.block.bytes) × ReaderConsumes rules 1 s t
 TakesFirst remaining rules s None t = (s.block.bytes ≡ []) × (t ≡ s)
 
 -- a fill, made again where it was interrupted, and the first byte that is buffered then; or that fill failed
