@@ -1,6 +1,6 @@
 pub mod Lengths
-pub mod Ending
-pub mod Loading
+pub mod Pieces
+pub mod Reading
 pub mod Stepping
 pub mod Recording
 pub mod Refusing

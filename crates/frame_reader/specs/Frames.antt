@@ -1,5 +1,5 @@
 -- Frames, and streams of them.
-use Rattle.std.specs.Prelude.{◌≡◌, ℕ, ◌+◌, ◌<◌, ◌^◌, ◌≤◌, ◌⊎◌, List, ◌++◌, length}
+use Rattle.std.specs.Prelude.{◌≡◌, ℕ, ◌+◌, ◌<◌, ◌^◌, ◌≤◌, ◌⊎◌, List, ◌++◌, length, get_or}
 use Rattle.std.specs.Int.{w16, to_be_bytes}
 use Rattle.std.specs.List.{All, flat_map}
 
@@ -18,6 +18,10 @@ Fits max payload = length payload ≤ max
 -- the frames of these payloads, one behind the other
 abbrev pub frames : List (List ℕ) → List ℕ
 frames payloads = flat_map frame payloads
+
+-- each of these is a byte
+abbrev pub AreBytes : List ℕ → Type 0
+AreBytes bytes = (i : ℕ) → get_or bytes i 0 < 256
 
 -- the bytes begin with this length
 pub record BeginsWith (len : ℕ) (bytes : List ℕ) : Type 0 where

@@ -1,10 +1,13 @@
 -- What contracts see of a reader of frames.
-use Rattle.std.specs.Prelude.{◌≡◌, ℕ, ◌+◌, ◌*◌, ◌<◌, ◌≤◌, ◌^◌, List, [], drop, length, max, slice_range}
-use Rattle.buffer_redux.specs.Block.{Block, IsBlock, Plain, usable}
+use Rattle.std.specs.Prelude.{◌≡◌, ℕ, ◌+◌, ◌*◌, ◌<◌, ◌≤◌, ◌^◌, List, [], drop, length, max, false}
+use Rattle.buffer_redux.specs.Block.{IsBlock, Plain}
 use Rattle.buffer_redux.specs.Buffered.{Buffered}
 use Rattle.buffer_redux.specs.Potential.{potential}
 use Rattle.buffer_redux.specs.StreamLog.{StreamLog}
 use Rattle.buffer_redux.specs.declared.policy.MinBuffered.{MinBuffered}
+use Rattle.codec.specs.Piecing.{IsPiecing, Piecing}
+use Rattle.frame_reader.specs.declared.frame.Frames.{Frames}
+use Rattle.frame_reader.specs.Framed.{framed}
 
 -- the buffered reader, the greatest length of a payload, and how many of the first bytes that are buffered are the
 -- frame that was lent last
@@ -12,6 +15,20 @@ pub record Framing (S : Type 0) : Type 0 where
   pub reader : Buffered S MinBuffered
   pub max : ℕ
   pub lent : ℕ
+
+-- the reader of pieces that it is, and the other way: how many bytes were looked at for nothing isn't told, and no end of
+-- the stream is left to tell
+abbrev pub framing : {S : Type 0} → Piecing S Frames → Framing S
+framing f = record { reader = f.reader; max = f.decoder.max; lent = f.handed }
+
+abbrev pub piecing : {S : Type 0} → Framing S → Piecing S Frames
+piecing f = record { reader = f.reader; decoder = record { max = f.max }; handed = f.lent; seen = 0; ended = false }
+
+-- what is true of the reader of pieces in a reader of frames: no frame is one only since the stream ends
+pub record ReadsFrames {S : Type 0} (f : Piecing S Frames) : Type 0 where
+  pub word : f.decoder.max < 2 ^ 16
+  pub told : f.ended ≡ false
+  pub whole : IsPiecing (framed f.decoder.max) f
 
 -- the buffered bytes behind the frame that was lent last
 abbrev pub rest : {S : Type 0} → Framing S → List ℕ
@@ -34,19 +51,6 @@ pub record IsFraming {S : Type 0} (f : Framing S) : Type 0 where
 -- the capacity for frames of payloads of at most so many bytes, where this one was asked for: three frames always fit
 abbrev pub frame_capacity : ℕ → ℕ → ℕ
 frame_capacity asked greatest = max asked (3 * (2 + greatest))
-
--- a plain block that was just made, and can't grow
-pub record IsFixed (size : ℕ) (b : Block) : Type 0 where
-  pub bytes : b.bytes ≡ []
-  pub usable : usable b ≡ size
-  pub kind : b.kind ≡ Plain
-  pub capacity : b.capacity ≡ size
-  pub limit : b.limit ≡ size
-  pub moved : b.moved ≡ 0
-
--- the payload of the frame that was lent last
-abbrev pub lent_payload : {S : Type 0} → Framing S → List ℕ
-lent_payload f = slice_range f.reader.block.bytes 2 f.lent
 
 -- just made over this stream, with this capacity: nothing is buffered, and no byte was moved
 pub record IsFresh {S : Type 0} (tells : S → StreamLog) (size greatest : ℕ) (stream : S) (f : Framing S) : Type 0 where

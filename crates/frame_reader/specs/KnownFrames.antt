@@ -2,11 +2,10 @@
 use Rattle.std.specs.Prelude.{◌≡◌, ℕ, ◌<◌, ◌⊎◌, List, [], ◌∷◌, ◌++◌, length, Option, None, Some, Ok, Err}
 use Rattle.std.specs.IoError.{error_kind}
 use Rattle.std.specs.Io.KnownBytes.{prepend_known}
-use Rattle.std.specs.List.{All}
 use Rattle.std.specs.declared.io.Error.{Error}
 use Rattle.std.specs.declared.io.ErrorKind.TheVariants.{OutOfMemory}
 use Rattle.frame_reader.specs.declared.error.FrameError.TheVariants.{Truncated, TooLong, Io}
-use Rattle.frame_reader.specs.Frames.{Fits, frames}
+use Rattle.frame_reader.specs.Frames.{frames}
 use Rattle.frame_reader.specs.Framing.{Framing, rest}
 use Rattle.frame_reader.specs.Next.{Faulted, NextAnswer, NoFault}
 use Rattle.frame_reader.specs.Runs.{NextRuns, found_each}
@@ -19,12 +18,6 @@ ahead_of remaining f = prepend_known (rest f) (remaining f.reader.inner)
 -- these bytes are known, and are the frames of these payloads
 abbrev pub HasLeft : {S : Type 0} → (S → Option (List ℕ)) → Framing S → List (List ℕ) → Type 0
 HasLeft remaining f payloads = ahead_of remaining f ≡ Some (frames payloads)
-
--- they are the frames of some payloads, each of which fits
-pub record LeavesFrames {S : Type 0} (remaining : S → Option (List ℕ)) (f : Framing S) : Type 0 where
-  pub payloads : List (List ℕ)
-  pub fit : All (Fits f.max) payloads
-  pub has : HasLeft remaining f payloads
 
 -- where just the frames of these payloads are left, the first is handed out, and the others are left; `None` comes where
 -- there is none; and there is no other `Err` than the inner reader's, which leaves all

@@ -1,5 +1,7 @@
 pub mod Frames
 pub mod FramesLaws
+pub mod Framed
+pub mod FramedLaws
 pub mod Framing
 pub mod Next
 pub mod NextLaws

@@ -1,5 +1,5 @@
 -- What the calls of a reader of frames promise.
-use Rattle.std.specs.Prelude.{◌≡◌, ℕ, ◌+◌, ◌<◌, ◌≤◌, ◌⊎◌, List, [], ◌∷◌, ◌++◌, length, Option, None, Some, Result, Ok, Err, Bool, true, false, option_copied}
+use Rattle.std.specs.Prelude.{◌≡◌, ℕ, ◌+◌, ◌<◌, ◌≤◌, ◌⊎◌, List, [], ◌∷◌, ◌++◌, length, Option, None, Some, Result, Ok, Err, option_copied}
 use Rattle.std.specs.Borrow.{Bor}
 use Rattle.std.specs.List.{All}
 use Rattle.std.specs.declared.io.Error.{Error}
@@ -7,16 +7,19 @@ use Rattle.buffer_redux.specs.Buffered.{Buffered}
 use Rattle.buffer_redux.specs.LogGrows.{ReadLogGrows}
 use Rattle.buffer_redux.specs.BufReader.{InnerGives, RanDry}
 use Rattle.buffer_redux.specs.Sparing.{PotentialHeld}
+use Rattle.codec.specs.declared.decoder.Span.{Span}
+use Rattle.codec.specs.declared.error.NextError.{NextError}
+use Rattle.codec.specs.declared.error.NextError.TheVariants as piece
+use Rattle.codec.specs.Decoding.{bytes_at}
+use Rattle.codec.specs.NextPiece as pieces
+use Rattle.codec.specs.NextPiece.{HandsBytes, NextPiece}
 use Rattle.frame_reader.specs.declared.error.FrameError.{FrameError}
 use Rattle.frame_reader.specs.declared.error.FrameError.TheVariants.{Truncated, TooLong, Io}
+use Rattle.frame_reader.specs.declared.frame.FrameFault.{FrameFault}
+use Rattle.frame_reader.specs.declared.frame.FrameFault.TheVariants as Fault
+use Rattle.frame_reader.specs.Framed.{framed}
 use Rattle.frame_reader.specs.Frames.{Fits, frames, BeginsWith, BeginsWhole, BeginsTooLong, IsCutShort}
-use Rattle.frame_reader.specs.Framing.{Framing, IsFraming, rest, most, lent_payload}
-
--- the frames of these payloads, then what is left, are what was left, then what was given since
-pub record HandsFrames {S : Type 0} (s : Framing S) (payloads : List (List ℕ)) (t : Framing S) : Type 0 where
-  pub got : List ℕ
-  pub given : t.reader.log.reads.given ≡ s.reader.log.reads.given ++ got
-  pub equal : frames payloads ++ rest t ≡ rest s ++ got
+use Rattle.frame_reader.specs.Framing.{Framing, IsFraming, piecing, rest, most}
 
 -- what any calls do, one after another, that handed out these payloads. Each payload fits; no byte is lost; of what the
 -- inner reader is known to have left, just what it gave is gone; no more bytes are moved than are given, over all calls
@@ -24,7 +27,7 @@ pub record HandsFrames {S : Type 0} (s : Framing S) (payloads : List (List ℕ))
 pub record FramesWent {S : Type 0} (remaining : S → Option (List ℕ)) (s : Framing S) (payloads : List (List ℕ))
     (t : Framing S) : Type 0 where
   pub fit : All (Fits s.max) payloads
-  pub hands : HandsFrames s payloads t
+  pub hands : HandsBytes (piecing s) (frames payloads) (piecing t)
   pub known : InnerGives remaining s.reader t.reader
   pub grows : ReadLogGrows s.reader.log.reads t.reader.log.reads
   pub held : PotentialHeld (most s) s.reader t.reader
@@ -40,6 +43,19 @@ NextAnswer = Result (Option (List ℕ)) FrameError
 abbrev pub answer_of : Result (Option (Bor (List ℕ))) FrameError → NextAnswer
 answer_of (Ok found) = Ok (option_copied found)
 answer_of (Err e) = Err e
+
+-- the same answer of a reader of pieces
+abbrev pub piece_answer : NextAnswer → pieces.NextAnswer FrameFault
+piece_answer (Ok found) = Ok found
+piece_answer (Err (Truncated have)) = Err (piece.Wrong (Fault.Truncated have))
+piece_answer (Err (TooLong len)) = Err (piece.Wrong (Fault.TooLong len))
+piece_answer (Err (Io e)) = Err (piece.Io e)
+
+-- the error of a reader of pieces, of frames
+abbrev pub frame_error : NextError FrameFault → FrameError
+frame_error (piece.Wrong (Fault.Truncated have)) = Truncated have
+frame_error (piece.Wrong (Fault.TooLong len)) = TooLong len
+frame_error (piece.Io e) = Io e
 
 -- the payloads that an answer hands out: one, or none
 abbrev pub payloads_of : NextAnswer → List (List ℕ)
@@ -95,27 +111,20 @@ asks_in_vain (Err (Truncated have)) = 1
 asks_in_vain (Err (TooLong len)) = 0
 asks_in_vain (Err (Io e)) = 1
 
--- the stream was asked, also for the last time, only where what was left, then what had come, was such; and each ask but
--- the last gave a byte
-pub record AskedOver {S : Type 0} (Such : List ℕ → Type 0) (s t : Framing S) : Type 0 where
-  pub came : List ℕ
-  pub last : List ℕ
-  pub given : t.reader.log.reads.given ≡ s.reader.log.reads.given ++ (came ++ last)
-  pub such : Such (rest s ++ came)
-  pub asks : t.reader.log.reads.asks ≤ s.reader.log.reads.asks + length came + 1
-
--- so it was, or it wasn't asked
+-- the stream was asked, also for the last time, only where what was left, then what had come, was such, and each ask but
+-- the last gave a byte; or it wasn't asked
 abbrev pub AskedWhere : {S : Type 0} → (List ℕ → Type 0) → Framing S → Framing S → Type 0
-AskedWhere Such s t = (t.reader.log ≡ s.reader.log) ⊎ AskedOver Such s t
+AskedWhere Such s t = pieces.AskedWhere Such (piecing s) (piecing t)
 
 -- these bytes don't settle the answer
 abbrev pub IsUnsettled : ℕ → List ℕ → Type 0
 IsUnsettled max bytes = ¬ IsSettled max bytes
 
--- what one call of `next` does. The stream is asked only until what is left settles the answer; once it gave nothing, it
--- isn't asked again
+-- what one call of `next` does: it is one of a reader of pieces, and the rest says in the words of frames what that comes to.
+-- The stream is asked only until what is left settles the answer; once it gave nothing, it isn't asked again
 pub record Next {S : Type 0} (remaining : S → Option (List ℕ)) (s : Framing S)
     (answer : NextAnswer) (t : Framing S) : Type 0 where
+  pub piece : NextPiece remaining (framed s.max) (piecing s) (piece_answer answer) (piecing t)
   pub went : FramesWent remaining s (payloads_of answer) t
   pub answers : NextAnswers s answer t
   pub not_asked : IsSettled s.max (rest s) → t.reader.log ≡ s.reader.log
@@ -124,8 +133,8 @@ pub record Next {S : Type 0} (remaining : S → Option (List ℕ)) (s : Framing 
   pub asked : AskedWhere (IsUnsettled s.max) s t
   pub whole : IsFraming t
 
--- what is lent once the next frame stands at the front
-abbrev pub load_answer : {S : Type 0} → Result Bool FrameError → Framing S → NextAnswer
-load_answer (Ok true) t = Ok (Some (lent_payload t))
-load_answer (Ok false) t = Ok None
+-- what a step to the next frame answers: its payload is there
+abbrev pub load_answer : {S : Type 0} → Result (Option Span) FrameError → Framing S → NextAnswer
+load_answer (Ok (Some span)) t = Ok (Some (bytes_at span t.reader.block.bytes))
+load_answer (Ok None) t = Ok None
 load_answer (Err e) t = Err e

@@ -3,11 +3,7 @@ use Rattle.std.specs.Prelude.{◌≡◌, ℕ, ◌<◌, ◌≤◌, ◌⊎◌, Lis
 use Rattle.std.specs.Global.{Vec}
 use Rattle.std.specs.List.{flat_map}
 use Rattle.std.specs.Option.{option_map}
-use Rattle.std.specs.IoError.{error_kind}
-use Rattle.std.specs.declared.io.Error.{Error}
-use Rattle.std.specs.declared.io.ErrorKind.TheVariants.{OutOfMemory}
 use Rattle.frame_reader.specs.declared.error.FrameError.{FrameError}
-use Rattle.frame_reader.specs.declared.error.FrameError.TheVariants.{Io}
 use Rattle.frame_reader.specs.declared.error.WriteFrameError.{WriteFrameError}
 use Rattle.frame_reader.specs.Framing.{Framing}
 use Rattle.frame_reader.specs.Next.{FramesWent, Next, NextAnswer, payloads_of}
@@ -62,11 +58,6 @@ pub record NextStopped {S : Type 0} (remaining : S → Option (List ℕ)) (s : F
 pub record NextLost {S : Type 0} (remaining : S → Option (List ℕ)) (s t : Framing S) : Type 0 where
   pub payload : List ℕ
   pub next : Next remaining s (Ok (Some payload)) t
-
--- one call failed with this error: want of memory for what it handed out, or the reader's own
-abbrev pub NextFails : {S : Type 0} → (S → Option (List ℕ)) → Framing S → Error → Framing S → Type 0
-NextFails remaining s e t =
-    ((error_kind e ≡ OutOfMemory) × NextLost remaining s t) ⊎ Next remaining s (Err (Io e)) t
 
 -- calls of `write_frame` with these payloads, one after another, with as many answers
 abbrev pub WriteRuns : {S : Type 0} → (S → S → Type 0) → Outgoing S → List (List ℕ) → List WriteAnswer → Outgoing S

@@ -1,35 +1,75 @@
-//! What a frame takes, and the buffer that it goes through.
-ghost use Rattle.std.specs.Prelude.{◌^◌, ◌≤◌, length, IfOk};
-ghost use Rattle.buffer_redux.specs.Block.{IsBlock};
-ghost use Rattle.buffer_redux.specs.GrowError.{FitsWithin};
-ghost use Rattle.frame_reader.specs.Frames.{BeginsWith};
-ghost use Rattle.frame_reader.specs.Framing.{IsFixed, frame_capacity};
+//! Frames as pieces: which bytes are one.
+ghost use Rattle.std.specs.Prelude.{◌≤◌, length};
+ghost use Rattle.frame_reader.specs.Frames.{AreBytes, BeginsWith};
 
-use buffer_redux::{Buffer, GrowError};
-use std::alloc::Global;
+use codec::{Decoder, End, Found, Span};
 
 /// How many bytes the length of a frame takes.
 pub const HEADER: usize = 2;
 
-/// An empty plain buffer of so many bytes for frames whose payload has at most `max`, which no call lets grow. It has more
-/// where any three of them wouldn't fit: then moving a beginning to the front is paid for by the bytes that were given since
-/// it was moved last.
-pub fn frame_buffer(alloc: Global, capacity: usize, max: u16) -> Result<Buffer, GrowError>
-    ensures made { IfOk result (IsFixed (frame_capacity capacity max)) }
-    ensures whole { IfOk result IsBlock }
-    ensures within { FitsWithin result (frame_capacity capacity max) (2 ^ 62) }
-{
-    let capacity = capacity.max(3 * (HEADER + usize::from(max)));
-    let mut buffer = Buffer::with_capacity(alloc, capacity)?;
-    buffer.set_limit(capacity)?;
-    Ok(buffer)
+/// Frames whose payload has at most `max` bytes.
+#[derive(Clone, Copy, Debug, Drop)]
+pub struct Frames {
+    pub max: u16,
 }
 
-/// The length of the payload of the frame that bytes begin with.
+/// Why bytes are no frame.
+#[derive(Clone, Copy, Debug, Drop)]
+pub enum FrameFault {
+    /// The stream ended after so many bytes of the frame.
+    Truncated(usize),
+    /// The payload has this length, which is more than is taken.
+    TooLong(u16),
+}
+
+impl Decoder for Frames {
+    ghost use Rattle.frame_reader.specs.Framed.{framed};
+    ghost use Rattle.frame_reader.specs.FramedLaws.{framed_lawful};
+
+    type Wrong = FrameFault;
+
+    ghost grammar = { λ d. framed d.max };
+
+    fn most(&self) -> usize {
+        HEADER + usize::from(self.max)
+    }
+
+    #[inline(always)]
+    fn decode(&self, bytes: &[u8], _seen: usize) -> Found<FrameFault> {
+        if bytes.len() < HEADER {
+            return Found::More(HEADER);
+        }
+        let len = length_of(bytes);
+        if len > self.max {
+            return Found::Wrong(FrameFault::TooLong(len));
+        }
+        let len = usize::from(len);
+        let whole = HEADER + len;
+        if bytes.len() < whole {
+            return Found::More(whole);
+        }
+        Found::Piece(Span { from: HEADER, len }, whole)
+    }
+
+    fn at_end(&self, bytes: &[u8]) -> End<FrameFault> {
+        End::Wrong(FrameFault::Truncated(bytes.len()))
+    }
+
+    ghost lawful = { λ d. framed_lawful d.max };
+}
+
+// The length of the payload of the frame that bytes begin with.
 #[inline(always)]
-pub fn length_of(bytes: &[u8]) -> u16
+fn length_of(bytes: &[u8]) -> u16
     requires { HEADER ≤ length bytes.now }
     ensures { BeginsWith result bytes.now }
 {
     u16::from_be_bytes([bytes[0], bytes[1]])
+}
+
+/// What a slice holds is bytes.
+pub fn are_bytes(bytes: &[u8])
+    ensures { AreBytes bytes.now }
+{
+    let _ = bytes;
 }

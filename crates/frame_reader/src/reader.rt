@@ -1,23 +1,21 @@
 //! The reader of frames.
-ghost use Rattle.std.specs.Prelude.{◌≡◌, ℕ, ◌+◌, ◌^◌, ◌<◌, ◌≤◌, ◌↔◌, ◌⊎◌, List, [], ◌∷◌, ◌++◌, length, Ok, Err, Some, IfOk, IfErr, IfSome, IsTrue, OnOk, OnErr, true, false};
+ghost use Rattle.std.specs.Prelude.{◌≡◌, ℕ, ◌+◌, ◌^◌, ◌<◌, ◌≤◌, ◌↔◌, List, ◌++◌, length, Ok, Err, Some, IfOk, IfErr, IfSome, IsTrue};
 ghost use Rattle.std.specs.Borrow.{sem};
 ghost use Rattle.std.specs.Io.BufRead.{Rests};
-ghost use Rattle.buffer_redux.specs.BufReader.{RanDry};
 ghost use Rattle.buffer_redux.specs.GrowError.{FitsWithin};
 ghost use Rattle.buffer_redux.specs.MakeError.{growth};
+ghost use Rattle.codec.specs.Decoding.{bytes_at};
 ghost use Rattle.frame_reader.specs.contracts.reader.FrameReader.{the_row};
-ghost use Rattle.frame_reader.specs.Frames.{BeginsWith, frame};
-ghost use Rattle.frame_reader.specs.Framing.{IsFraming, IsFresh, frame_capacity, lent_payload, rest, most};
-ghost use Rattle.frame_reader.specs.Next.{AskedWhere, AsksGive, FramesWent, IsSettled, NoFault, Next, answer_of, empties, load_answer};
+ghost use Rattle.frame_reader.specs.Frames.{AreBytes, BeginsWith, frame};
+ghost use Rattle.frame_reader.specs.Framing.{IsFraming, IsFresh, frame_capacity, rest};
+ghost use Rattle.frame_reader.specs.Next.{IsSettled, Next, answer_of, frame_error, load_answer};
 
 use crate::error::FrameError;
-use crate::frame::{HEADER, frame_buffer, length_of};
-use buffer_redux::policy::MinBuffered;
+use crate::frame::{FrameFault, Frames, are_bytes};
 use buffer_redux::tell::{Tell, TellRead};
-use buffer_redux::{BufReader, DEFAULT_BUF_SIZE, GrowError, MakeError};
+use buffer_redux::{DEFAULT_BUF_SIZE, GrowError, MakeError};
+use codec::{Decoder, Found, NextError, PieceReader, Span};
 use std::alloc::Global;
-use std::io;
-use std::io::BufRead;
 use std::marker::Model;
 
 /// A reader of frames whose payload has at most so many bytes.
@@ -34,20 +32,17 @@ use std::marker::Model;
 /// ```
 #[derive(Drop)]
 pub struct FrameReader<R: Tell> {
-    reader: BufReader<R, MinBuffered>,
-    max: u16,
-    // How many bytes the frame that was lent last takes at the front of the buffer.
-    lent: usize,
+    pub(crate) pieces: PieceReader<R, Frames>,
 }
 
 impl<R: Tell> Model for FrameReader<R> {
-    ghost use Rattle.frame_reader.specs.Framing.{Framing, IsFraming};
+    ghost use Rattle.frame_reader.specs.Framing.{Framing, ReadsFrames, framing};
 
     ghost Value = { Framing R };
 
-    ghost view = { λ f. record { reader = f.reader; max = f.max; lent = f.lent } };
+    ghost view = { λ f. framing f.pieces };
 
-    ghost invariant = { λ f. IsFraming (record { reader = f.reader; max = f.max; lent = f.lent }) };
+    ghost invariant = { λ f. ReadsFrames f.pieces };
 }
 
 impl<R: Tell> FrameReader<R> {
@@ -76,13 +71,9 @@ impl<R: Tell> FrameReader<R> {
         ensures handed_back { IfErr result (λ e. e.0 ≡ inner) }
         ensures within { FitsWithin (growth result) (frame_capacity capacity max) (2 ^ 62) }
     {
-        match frame_buffer(alloc, capacity, max) {
-            Ok(buffer) => Ok(FrameReader {
-                reader: BufReader::with_buffer(buffer, inner).set_policy(MinBuffered(HEADER)),
-                max,
-                lent: 0,
-            }),
-            Err(e) => Err(MakeError(inner, e)),
+        match PieceReader::with_capacity(alloc, capacity, inner, Frames { max }) {
+            Ok(pieces) => Ok(FrameReader { pieces }),
+            Err(MakeError(back, e)) => Err(MakeError(back.0, e)),
         }
     }
 
@@ -92,7 +83,7 @@ impl<R: Tell> FrameReader<R> {
         ensures log { R.log result.now ≡ self.now.reader.log }
         ensures whole { IsFraming self.now }
     {
-        self.reader.get_ref()
+        self.pieces.get_ref()
     }
 
     /// The inner reader. What is buffered is gone; [`rest`](FrameReader::rest) shows it before.
@@ -100,12 +91,8 @@ impl<R: Tell> FrameReader<R> {
         ensures inner { result ≡ self.reader.inner }
         ensures log { R.log result ≡ self.reader.log }
     {
-        let FrameReader {
-            reader,
-            max: _,
-            lent: _,
-        } = self;
-        reader.into_inner()
+        let FrameReader { pieces } = self;
+        pieces.into_inner()
     }
 
     /// The buffered bytes behind the frame that was lent last.
@@ -114,7 +101,7 @@ impl<R: Tell> FrameReader<R> {
         ensures value { result.now ≡ rest self.now }
         ensures whole { IsFraming self.now }
     {
-        &self.reader.buffer()[self.lent..]
+        self.pieces.rest()
     }
 
     /// Whether a whole frame is buffered behind the one that was lent last, or the length of one that is too long: then
@@ -124,15 +111,34 @@ impl<R: Tell> FrameReader<R> {
         ensures settled { IsTrue result ↔ IsSettled self.now.max (rest self.now) }
         ensures whole { IsFraming self.now }
     {
-        let left = self.rest();
-        if left.len() < HEADER {
-            return false;
+        match self.pieces.decoder().decode(self.pieces.rest(), 0) {
+            Found::Piece(_, _) => true,
+            Found::More(_) => false,
+            Found::Wrong(_) => true,
         }
-        let len = length_of(left);
-        if len > self.max {
-            return true;
+    }
+
+    // Why there is no frame. What is left is bytes, so it is a length and what stands behind it, or shorter than one.
+    #[cold]
+    fn no_frame(&self, e: NextError<FrameFault>) -> FrameError
+        ensures error { result ≡ frame_error e }
+        ensures bytes { AreBytes (rest self.now) }
+    {
+        are_bytes(self.rest());
+        match e {
+            NextError::Wrong(FrameFault::Truncated(have)) => FrameError::Truncated(have),
+            NextError::Wrong(FrameFault::TooLong(len)) => FrameError::TooLong(len),
+            NextError::Io(e) => FrameError::Io(e),
         }
-        HEADER + usize::from(len) <= left.len()
+    }
+
+    // The payload that the last `step` went on to.
+    #[inline(always)]
+    fn lent(&self, span: Span) -> &[u8]
+        requires { span.from + span.len ≤ length self.now.reader.block.bytes }
+        ensures { result.now ≡ bytes_at span self.now.reader.block.bytes }
+    {
+        self.pieces.lent(span)
     }
 }
 
@@ -152,111 +158,22 @@ impl<R: TellRead> FrameReader<R> {
         ensures too_long { (len : ℕ) → self.old.max < len → BeginsWith len (rest self.old)
             → answer_of result ≡ Err (FrameError.TooLong len) }
     {
-        if self.step() || self.load_aside()? {
-            Ok(Some(&self.reader.buffer()[HEADER..self.lent]))
-        } else {
-            Ok(None)
+        match self.step()? {
+            Some(span) => Ok(Some(self.lent(span))),
+            None => Ok(None),
         }
     }
 
-    // Goes on to the next frame where that is buffered whole, and else does nothing.
+    // Goes on to the next frame, and returns where its payload is.
     #[inline(always)]
-    fn step(&mut self) -> bool
-        ensures next { result ≡ true → Next R.remaining self.old (Ok (Some (lent_payload self.new))) self.new }
-        ensures header { result ≡ true → HEADER ≤ self.new.lent }
-        ensures unchanged { result ≡ false → self.new ≡ self.old }
-    {
-        let left = self.rest();
-        if left.len() < HEADER {
-            return false;
-        }
-        let len = length_of(left);
-        let whole = HEADER + usize::from(len);
-        if len > self.max || left.len() < whole {
-            return false;
-        }
-        self.drop_lent();
-        self.lent = whole;
-        true
-    }
-
-    // Goes on in `load`. The kit's compiler clears the answer of a call where the function that makes the call begins; of a
-    // call made in here, which is inlined, that is behind the tests of `step`.
-    #[inline(always)]
-    fn load_aside(&mut self) -> Result<bool, FrameError>
+    fn step(&mut self) -> Result<Option<Span>, FrameError>
         ensures next { Next R.remaining self.old (load_answer result self.new) self.new }
-        ensures header { result ≡ Ok true → HEADER ≤ self.new.lent }
+        ensures within { IfOk result (λ found. IfSome found (λ span.
+            span.from + span.len ≤ length self.new.reader.block.bytes)) }
     {
-        self.load()
-    }
-
-    // Drops the frame that was lent last, and has the next one buffered whole, unless the stream ended behind the last.
-    #[inline(never)]
-    fn load(&mut self) -> Result<bool, FrameError>
-        ensures next { Next R.remaining self.old (load_answer result self.new) self.new }
-        ensures header { result ≡ Ok true → HEADER ≤ self.new.lent }
-    {
-        self.drop_lent();
-        let have = self.fill_to(HEADER)?;
-        if have == 0 {
-            return Ok(false);
+        match self.pieces.step() {
+            Ok(found) => Ok(found),
+            Err(e) => Err(self.no_frame(e)),
         }
-        if have < HEADER {
-            return Err(FrameError::Truncated(have));
-        }
-        let len = length_of(self.reader.buffer());
-        if len > self.max {
-            return Err(FrameError::TooLong(len));
-        }
-        let whole = HEADER + usize::from(len);
-        let have = self.fill_to(whole)?;
-        if have < whole {
-            return Err(FrameError::Truncated(have));
-        }
-        self.lent = whole;
-        Ok(true)
-    }
-
-    // Drops the frame that was lent last.
-    #[inline(always)]
-    fn drop_lent(&mut self)
-        ensures went { FramesWent R.remaining self.old [] self.new }
-        ensures rest { rest self.new ≡ rest self.old }
-        ensures lent { self.new.lent ≡ 0 }
-        ensures told { self.new.reader.log ≡ self.old.reader.log }
-        ensures whole { IsFraming self.new }
-    {
-        self.reader.consume(self.lent);
-        self.lent = 0;
-    }
-
-    // Reads until `min` bytes are buffered, or the stream ends, and returns how many are.
-    fn fill_to(&mut self, min: usize) -> io::Result<usize>
-        requires lent { self.old.lent ≡ 0 }
-        requires fits { min ≤ most self.old }
-        ensures went { FramesWent R.remaining self.old [] self.new }
-        ensures lent { self.new.lent ≡ 0 }
-        ensures count { IfOk result (λ n. n ≡ length self.new.reader.block.bytes) }
-        ensures enough { OnOk result ((min ≤ length self.new.reader.block.bytes)
-            ⊎ RanDry self.old.reader self.new.reader) }
-        ensures few { OnErr result (length self.new.reader.block.bytes < min) }
-        ensures no_fault { OnOk result (NoFault self.old self.new) }
-        ensures fault { IfErr result (λ e. self.new.reader.log.reads.faults
-            ≡ self.old.reader.log.reads.faults ++ e ∷ []) }
-        ensures untouched { min ≤ length self.old.reader.block.bytes
-            → self.new.reader.log ≡ self.old.reader.log }
-        ensures none { OnOk result (min ≤ length self.new.reader.block.bytes
-            → empties self.new.reader ≡ empties self.old.reader) }
-        ensures once { OnOk result (length self.new.reader.block.bytes < min
-            → empties self.new.reader ≡ empties self.old.reader + 1) }
-        ensures no_end { OnErr result (empties self.new.reader ≡ empties self.old.reader) }
-        ensures asks { AsksGive 1 self.old.reader self.new.reader }
-        ensures each { OnOk result (min ≤ length self.new.reader.block.bytes
-            → AsksGive 0 self.old.reader self.new.reader) }
-        ensures asked { AskedWhere (λ bytes. length bytes < min) self.old self.new }
-        ensures whole { IsFraming self.new }
-    {
-        self.reader.policy_mut().set_min(min);
-        Ok(self.reader.fill_buf()?.len())
     }
 }

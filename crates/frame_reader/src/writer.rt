@@ -1,17 +1,18 @@
 //! The writer of frames.
 ghost use Rattle.std.specs.Prelude.{◌≡◌, ◌+◌, ◌^◌, ◌<◌, ◌≤◌, [], length, Ok, Err, IfOk, IfErr, MatchResult};
-ghost use Rattle.buffer_redux.specs.Block.{usable};
+ghost use Rattle.buffer_redux.specs.Block.{IsBlock, usable};
 ghost use Rattle.buffer_redux.specs.BufWriter.{WasFlushed, WasSent};
 ghost use Rattle.buffer_redux.specs.Unwrapping.{InnerOfFlushed};
 ghost use Rattle.buffer_redux.specs.GrowError.{FitsWithin};
 ghost use Rattle.buffer_redux.specs.MakeError.{growth};
+ghost use Rattle.codec.specs.Piecing.{IsFixed};
 ghost use Rattle.frame_reader.specs.Frames.{Fits, frame};
 ghost use Rattle.frame_reader.specs.Framing.{frame_capacity};
 ghost use Rattle.frame_reader.specs.Outgoing.{IsOutgoing, IsUnused, room};
 ghost use Rattle.frame_reader.specs.WriteFrame.{FramesTaken, PutsIn, WritesFrame};
 
 use crate::error::WriteFrameError;
-use crate::frame::{HEADER, frame_buffer};
+use crate::frame::HEADER;
 use buffer_redux::tell::TellWrite;
 use buffer_redux::{BufWriter, Buffer, DEFAULT_BUF_SIZE, GrowError, IntoInnerError, MakeError};
 use std::alloc::Global;
@@ -200,4 +201,17 @@ impl<W: TellWrite> FrameWriter<W> {
     {
         let _ = self.writer.write(bytes);
     }
+}
+
+// An empty plain buffer of so many bytes for frames whose payload has at most `max`, which no call lets grow. It has more
+// where any three of them wouldn't fit.
+fn frame_buffer(alloc: Global, capacity: usize, max: u16) -> Result<Buffer, GrowError>
+    ensures made { IfOk result (IsFixed (frame_capacity capacity max)) }
+    ensures whole { IfOk result IsBlock }
+    ensures within { FitsWithin result (frame_capacity capacity max) (2 ^ 62) }
+{
+    let capacity = capacity.max(3 * (HEADER + usize::from(max)));
+    let mut buffer = Buffer::with_capacity(alloc, capacity)?;
+    buffer.set_limit(capacity)?;
+    Ok(buffer)
 }

@@ -13,7 +13,7 @@ use Rattle.buffer_redux.specs.WriterLaws.{WritesInOrder-then, WritesInOrder-fres
 use Rattle.buffer_redux.specs.declared.policy.StdPolicy.{StdPolicy}
 use Rattle.frame_reader.specs.Frames.{Fits, frames}
 use Rattle.frame_reader.specs.Framing.{Framing, rest}
-use Rattle.frame_reader.specs.NextLaws.{drop_none}
+use Rattle.line_reader.specs.LinesWentLaws.{drop_none}
 use Rattle.frames.specs.declared.error.RunError.{RunError}
 use Rattle.frames.specs.declared.error.RunError.TheVariants.{TooLong, Truncated, Read, Write, Io}
 use Rattle.frames.specs.Ending.{faulted}

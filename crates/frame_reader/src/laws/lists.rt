@@ -2,14 +2,13 @@
 ghost use Rattle.std.specs.Prelude.{◌≡◌, map, IfOk, IfErr, OnOk};
 ghost use Rattle.std.specs.List.{All};
 ghost use Rattle.frame_reader.specs.Frames.{Fits, frames};
-ghost use Rattle.frame_reader.specs.KnownFrames.{HasLeft, LeavesFrames, ReadStopped};
-ghost use Rattle.frame_reader.specs.Next.{Next};
-ghost use Rattle.frame_reader.specs.Runs.{AllRead, NextFails, WritesEach, kept_answer};
+ghost use Rattle.frame_reader.specs.KnownFrames.{HasLeft, ReadStopped};
+ghost use Rattle.frame_reader.specs.Runs.{AllRead, WritesEach};
 ghost use Rattle.buffer_redux.specs.Faults.{IsMemory};
 ghost use Rattle.frame_reader.specs.WriteFrame.{IsFault, IsWantOfMemory};
 
-use crate::error::{FrameError, WriteFrameError};
-use crate::laws::runs::next_copied;
+use crate::error::WriteFrameError;
+use crate::frame::are_bytes;
 use crate::reader::FrameReader;
 use crate::writer::FrameWriter;
 use buffer_redux::tell::{MemoryReader, MemoryWriter, TellRead, TellWrite};
@@ -45,34 +44,9 @@ pub fn read_each<R: TellRead>(
     ensures stopped { IfErr result (λ e.
         ReadStopped R.remaining reader.old (map (λ v. v.items) payloads.now) e reader.new) }
 {
-    let mut kept = Vec::new(alloc);
-    for _ in payloads {
-        match next_of_known(alloc, reader)? {
-            Some(payload) => kept.push(payload)?,
-            None => unreachable!(),
-        }
-    }
-    match next_of_known(alloc, reader)? {
-        Some(_) => unreachable!(),
-        None => Ok(kept),
-    }
-}
-
-// One call of `next`, where it is known that just frames are left: no frame is cut short then, and none is too long.
-fn next_of_known<R: TellRead>(
-    alloc: Global,
-    reader: &mut FrameReader<R>,
-) -> io::Result<Option<Vec<u8>>>
-    requires left { LeavesFrames R.remaining reader.old }
-    ensures next { IfOk result (λ found. Next R.remaining reader.old (kept_answer (Ok found)) reader.new) }
-    ensures failed { IfErr result (λ e. NextFails R.remaining reader.old e reader.new) }
-{
-    match next_copied(alloc, reader)? {
-        Ok(found) => Ok(found),
-        Err(FrameError::Io(e)) => Err(e),
-        Err(FrameError::Truncated(_)) => unreachable!(),
-        Err(FrameError::TooLong(_)) => unreachable!(),
-    }
+    let read = codec::laws::read_each(alloc, &mut reader.pieces, payloads);
+    are_bytes(reader.rest());
+    read
 }
 
 /// Payloads that are written and flushed are read again, each of them whole, in order, and no other. An `Io` is want of memory.

@@ -1,83 +1,48 @@
-use Rattle.std.proofs.Common.{◌≡◌, ◌+◌, map, drop, ◌++◌, ◌∷◌, [], Ok, sym, subst, arith}
-use Rattle.std.proofs.lemmas.Result.{err_from_is_err_and}
-use Rattle.frame_reader.specs.Next.{Next}
-use Rattle.frame_reader.specs.Runs.{kept_answer}
-use Rattle.frame_reader.proofs.Stepping.{ReadsAll, end_fails, kept_more, leaves, read_all, read_fails, read_lost, read_more, read_none, read_some}
+use Rattle.std.proofs.Common.{map, refl, subst, sym}
+use Rattle.std.specs.List.{All}
+use Rattle.frame_reader.specs.Frames.{AreBytes, Fits}
+use Rattle.frame_reader.specs.Framing.{framing}
+use Rattle.frame_reader.specs.KnownFrames.{HasLeft, ReadStopped}
+use Rattle.frame_reader.specs.KnownFramesLaws.{left_pieces}
+use Rattle.frame_reader.specs.Runs.{AllRead}
+use Rattle.frame_reader.proofs.Reading.{all_read, if_err, on_ok, read_stops, still_reads}
 use Rattle.frame_reader.proofs.laws.lists.read_each.Goals as goal
 
-pub next_of_known-requires : goal.next_of_known-requires
-next_of_known-requires g c = record {
-  left = leaves (λ v. v.items) c.args.payloads.now c.loop.index g.R.TellRead.remaining c.args.reader.now c.loop.reader
-      (map (λ v. v.items) c.loop.kept.items) c.requires.fit c.loop.invariant;
-}
-
-pub unreachable-requires : goal.unreachable-requires
-unreachable-requires g c =
+pub read_each-read-requires : goal.read_each-read-requires
+read_each-read-requires g c =
     let remaining = g.R.TellRead.remaining in
-    read_none (λ v. v.items) c.args.payloads.now c.loop.index remaining c.args.reader.now c.loop.reader
-    (map (λ v. v.items) c.loop.kept.items) c.requires.fit c.loop.invariant c.loop-item.result c.loop-test.true
-    c.loop-item.is c.next_of_known.new.reader
-    (subst (λ o. Next remaining c.loop.reader (kept_answer (Ok o)) c.next_of_known.new.reader) c.in-None.is
-    c.in_ok-payload.ensures.next)
+    let payloads = map (λ v. v.items) c.args.payloads.now in
+    record {
+      left = left_pieces remaining c.reader.inside.pieces payloads c.reader.invariant.told c.reader.invariant.word
+          (subst (λ x. All (Fits x.max) payloads) (sym c.reader.view_is) c.requires.fit)
+          (subst (λ x. HasLeft remaining x payloads) (sym c.reader.view_is) c.requires.left);
+    }
 
-pub loop-preserved : goal.loop-preserved
-loop-preserved g c =
-    let remaining = g.R.TellRead.remaining in
-    let t = c.next_of_known.new.reader in
-    let kept = map (λ v. v.items) c.loop.kept.items in
-    let all = map (λ v. v.items) c.args.payloads.now in
-    let payload = c.in-Some.payload.items in
-    let added : map (λ v. v.items) c.push.new.self.items ≡ kept ++ payload ∷ [] =
-    kept_more (λ v. v.items) c.loop.kept.items c.push.new.self.items c.in-Some.payload
-    c.in_ok-push-in-Some.ensures.items in
-    subst (λ l. ReadsAll remaining c.args.reader.now all l (map (λ v. v.items) (drop (c.loop.index + 1) c.args.payloads.now))
-    t) (sym added)
-    (read_some (λ v. v.items) c.args.payloads.now c.loop.index remaining c.args.reader.now c.loop.reader
-    kept c.requires.fit c.loop.invariant c.loop-item.result c.loop-test.true c.loop-item.is t payload
-    (subst (λ o. Next remaining c.loop.reader (kept_answer (Ok o)) t) c.in-Some.is c.in_ok-payload.ensures.next))
-
-pub unreachable-requires-in-Some-2 : goal.unreachable-requires-in-Some-2
-unreachable-requires-in-Some-2 g c =
-    let remaining = g.R.TellRead.remaining in
-    let t = c.next_of_known-2.new.reader in
-    read_more (λ v. v.items) c.args.payloads.now c.loop.index remaining c.args.reader.now c.loop.reader
-    (map (λ v. v.items) c.loop.kept.items) c.requires.fit c.loop.invariant (omega (arith, c.loop-test.false))
-    c.in-Some-2.field-0.items t
-    (subst (λ o. Next remaining c.loop.reader (kept_answer (Ok o)) t) c.in-Some-2.is c.in_ok-next_of_known.ensures.next)
-
-pub returns-in_err-payload-clause-stopped : goal.returns-in_err-payload-clause-stopped
-returns-in_err-payload-clause-stopped g c =
-    let p = err_from_is_err_and c.from_residual.result c.from_residual.ensures.1 in
-    rw (p.1, p.2)
-    (read_fails (λ v. v.items) c.args.payloads.now c.loop.index g.R.TellRead.remaining c.args.reader.now c.loop.reader
-    (map (λ v. v.items) c.loop.kept.items) c.requires.fit c.loop.invariant c.loop-item.result c.loop-test.true
-    c.loop-item.is c.next_of_known.new.reader _ c.in_err-payload.ensures.failed)
-
-pub returns-in_err-push-in-Some-clause-stopped : goal.returns-in_err-push-in-Some-clause-stopped
-returns-in_err-push-in-Some-clause-stopped g c =
-    let remaining = g.R.TellRead.remaining in
-    let t = c.next_of_known.new.reader in
-    let r = c.from_residual-in_err-push-in-Some in
-    let p = err_from_is_err_and r.result r.ensures.1 in
-    rw p.1
-    (read_lost (λ v. v.items) c.args.payloads.now c.loop.index remaining c.args.reader.now c.loop.reader
-    (map (λ v. v.items) c.loop.kept.items) c.requires.fit c.loop.invariant c.loop-item.result c.loop-test.true
-    c.loop-item.is t c.in-Some.payload.items p.0 p.2
-    (subst (λ o. Next remaining c.loop.reader (kept_answer (Ok o)) t) c.in-Some.is c.in_ok-payload.ensures.next))
-
-pub returns-in_err-next_of_known-clause-stopped : goal.returns-in_err-next_of_known-clause-stopped
-returns-in_err-next_of_known-clause-stopped g c =
-    let r = c.from_residual-in_err-next_of_known in
-    let p = err_from_is_err_and r.result r.ensures.1 in
-    rw (p.1, p.2)
-    (end_fails (λ v. v.items) c.args.payloads.now c.loop.index g.R.TellRead.remaining c.args.reader.now c.loop.reader
-    (map (λ v. v.items) c.loop.kept.items) c.requires.fit c.loop.invariant (omega (arith, c.loop-test.false)) _
-    c.next_of_known-2.new.reader c.in_err-next_of_known.ensures.failed)
+pub invariant_of-reader : goal.invariant_of-reader
+invariant_of-reader g c =
+    let s = c.reader.inside.pieces in
+    let read = c.read_each-read in
+    still_reads g.R.TellRead.remaining s.decoder.max s read.new.reader (map (λ v. v.items) c.args.payloads.now) read.result
+    refl c.reader.invariant read.ensures.read read.ensures.stopped
 
 pub returns-clause-read : goal.returns-clause-read
 returns-clause-read g c =
     let remaining = g.R.TellRead.remaining in
-    let t = c.next_of_known-2.new.reader in
-    read_all (λ v. v.items) c.args.payloads.now c.loop.index remaining c.args.reader.now c.loop.reader
-    (map (λ v. v.items) c.loop.kept.items) c.requires.fit c.loop.invariant (omega (arith, c.loop-test.false)) t
-    (subst (λ o. Next remaining c.loop.reader (kept_answer (Ok o)) t) c.in-None-2.is c.in_ok-next_of_known.ensures.next)
+    let payloads = map (λ v. v.items) c.args.payloads.now in
+    let s = c.reader.inside.pieces in
+    let t = c.read_each-read.new.reader in
+    on_ok c.read_each-read.result
+    (λ read. subst (λ x. AllRead remaining x payloads (framing t)) c.reader.view_is
+    (all_read remaining s.decoder.max t s refl c.reader.invariant payloads read)) c.read_each-read.ensures.read
+
+pub returns-clause-stopped : goal.returns-clause-stopped
+returns-clause-stopped g c =
+    let remaining = g.R.TellRead.remaining in
+    let payloads = map (λ v. v.items) c.args.payloads.now in
+    let s = c.reader.inside.pieces in
+    let t = c.read_each-read.new.reader in
+    if_err c.read_each-read.result
+    (λ e stopped. subst (λ x. ReadStopped remaining x payloads e (framing t)) c.reader.view_is
+    (read_stops remaining s.decoder.max t s refl c.reader.invariant
+    (subst AreBytes c.rest.ensures.value c.are_bytes.ensures) payloads e stopped))
+    c.read_each-read.ensures.stopped

@@ -1,23 +1,24 @@
-use Rattle.std.proofs.Common.{◌+◌, ◌≤◌, ◌↔◌, length, sym, subst, ap, arith}
-use Rattle.std.proofs.lemmas.Bool.{le-leb, leb-true}
-use Rattle.frame_reader.specs.Frames.{BeginsWith}
+use Rattle.std.proofs.Common.{◌∙◌, ap, arith, refl}
 use Rattle.frame_reader.specs.Framing.{rest}
-use Rattle.frame_reader.specs.Next.{IsSettled}
-use Rattle.frame_reader.proofs.Loading.{settled_where}
+use Rattle.frame_reader.proofs.Pieces.{settled_piece, unsettled_more}
 use Rattle.frame_reader.proofs.reader.FrameReader.has_frame.Goals as goal
 
-pub returns-clause-settled : goal.returns-clause-settled
-returns-clause-settled g c =
+pub returns-in-Piece-clause-settled : goal.returns-in-Piece-clause-settled
+returns-in-Piece-clause-settled g c =
     let s = c.args.self.now in
-    let len = c.from.result in
-    let shown = c.rest-left.ensures.value in
-    let max = ap (λ x. x.max) c.self.view_is in
-    let begins : BeginsWith len (rest s) =
-    subst (λ n. BeginsWith n (rest s)) (sym c.from.ensures)
-    (subst (BeginsWith c.length_of-len.result) shown c.length_of-len.ensures) in
-    let whole : (2 + len ≤ length (rest s)) ↔ IsSettled s.max (rest s) =
-    settled_where s.max len (rest s) c.rest-left.ensures.whole.word
-    (omega (arith, c.if-len-self.false, c.from.ensures, max)) begins in (
-      λ is. whole.0 (omega (arith, leb-true (2 + len) (length c.rest-left.result.now) is, ap length shown)),
-      λ settled. le-leb (2 + len) (length c.rest-left.result.now) (omega (arith, whole.1 settled, ap length shown)),
+    let same = ap (λ d. d.max) c.decoder.ensures ∙ ap (λ x. x.max) c.self.view_is in
+    let shown = c.rest.ensures.value ∙ ap rest c.self.view_is in (
+      λ _. settled_piece s.max c.decoder.result.now.max (rest s) c.rest.result.now same shown c.in-Piece.field-0
+          c.in-Piece.field-1 c.in-Piece.ensures,
+      λ _. refl,
+    )
+
+pub returns-in-More-clause-settled : goal.returns-in-More-clause-settled
+returns-in-More-clause-settled g c =
+    let s = c.args.self.now in
+    let same = ap (λ d. d.max) c.decoder.ensures ∙ ap (λ x. x.max) c.self.view_is in
+    let shown = c.rest.ensures.value ∙ ap rest c.self.view_is in (
+      λ odd. cc,
+      λ settled. absurd (unsettled_more s.max c.decoder.result.now.max (rest s) c.rest.result.now same shown
+          (omega (arith, ap (λ d. d.max) c.decoder.ensures, c.self.invariant.word)) c.in-More.field-0 c.in-More.ensures settled),
     )

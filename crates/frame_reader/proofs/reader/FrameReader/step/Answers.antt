@@ -1,24 +1,20 @@
-use Rattle.std.proofs.Common.{◌+◌, Ok, Some, ap, arith, subst, sym}
-use Rattle.std.specs.Prelude.{length, slice_range}
-use Rattle.frame_reader.specs.Frames.{BeginsWith}
-use Rattle.frame_reader.specs.Framing.{rest}
-use Rattle.frame_reader.specs.Next.{Next}
-use Rattle.frame_reader.proofs.Loading.{next_buffered}
+use Rattle.std.proofs.Common.{Ok, Err, subst, sym}
+use Rattle.frame_reader.specs.Next.{Next, load_answer}
+use Rattle.frame_reader.specs.Framing.{framing}
+use Rattle.frame_reader.proofs.Pieces.{Next-failed, Next-found}
 use Rattle.frame_reader.proofs.reader.FrameReader.step.Goals as goal
 
-pub returns-clause-next : goal.returns-clause-next
-returns-clause-next g c _ =
-    let s = c.args.self.now in
-    let d = c.drop_lent.ensures in
-    let len = c.from-whole.result in
-    let shown = c.rest-left.ensures.value in
-    let begins : BeginsWith len (rest s) =
-    subst (λ n. BeginsWith n (rest s)) (sym c.from-whole.ensures)
-    (subst (BeginsWith c.length_of-len.result) shown c.length_of-len.ensures) in
-    let max = ap (λ x. x.max) c.self.view_is in
-    subst (λ x. Next g.R.TellRead.remaining s (Ok (Some (slice_range x.reader.block.bytes 2 (2 + len))))
-    (record x { lent = 2 + len }))
-    (sym c.self-2.view_is)
-    (next_buffered g.R.TellRead.remaining s c.drop_lent.new.self d.went d.rest d.lent d.told d.whole len begins
-    (omega (arith, c.if-len-self.false, c.from-whole.ensures, max))
-    (omega (arith, c.if-left-whole.false, ap length shown)))
+pub returns-in-Ok-clause-next : goal.returns-in-Ok-clause-next
+returns-in-Ok-clause-next g c =
+    let remaining = g.R.TellRead.remaining in
+    let t = c.step.new.self in
+    subst (λ x. Next remaining x (load_answer (Ok c.in-Ok.found) (framing t)) (framing t)) c.self.view_is
+    (Next-found remaining c.self.inside.pieces t c.self.invariant c.in-Ok.found c.in-Ok.ensures.next)
+
+pub returns-in-Err-clause-next : goal.returns-in-Err-clause-next
+returns-in-Err-clause-next g c =
+    let remaining = g.R.TellRead.remaining in
+    let t = c.step.new.self in
+    subst (λ x. Next remaining x (Err c.no_frame.result) (framing t)) c.self.view_is
+    (subst (λ x. Next remaining (framing c.self.inside.pieces) (Err x) (framing t)) (sym c.no_frame.ensures.error)
+    (Next-failed remaining c.self.inside.pieces t c.self.invariant c.in-Err.e c.no_frame.ensures.bytes c.in-Err.ensures.next))

@@ -1,0 +1,284 @@
+-- What a call of a reader of pieces comes to in the words of frames.
+use Rattle.std.proofs.Common.{◌≡◌, ℕ, ◌+◌, ◌<◌, ◌≤◌, ◌^◌, ◌⊎◌, List, [], ◌∷◌, ◌++◌, length, length-append, false, Bool, sym, ap, subst, ◌∙◌, arith, inl, inr, append-nil, append_assoc, refl, Option, Ok, Err, Some, None}
+use Rattle.std.proofs.lemmas.Bool.{cases_lt}
+use Rattle.std.proofs.lemmas.List.Elements.{All-nil, All-cons}
+use Rattle.std.specs.Int.{w16, from_be_bytes}
+use Rattle.std.specs.Prelude.{MatchBool}
+use Rattle.codec.specs.declared.decoder.Span.{Span}
+use Rattle.codec.specs.declared.error.NextError.{NextError}
+use Rattle.codec.specs.declared.error.NextError.TheVariants as piece
+use Rattle.codec.specs.declared.decoder.Found.TheVariants.{More}
+use Rattle.codec.specs.Decoding.{Decodes, IsPiece}
+use Rattle.codec.specs.Grammar.{IsOpen}
+use Rattle.codec.specs.GrammarLaws.{begins_of, open_of, open_take}
+use Rattle.codec.specs.NextPiece as pieces
+use Rattle.codec.specs.NextPiece.{NextPiece}
+use Rattle.codec.specs.Piecing.{Piecing, IsPiecing, rest}
+use Rattle.frame_reader.specs.declared.error.FrameError.{FrameError}
+use Rattle.frame_reader.specs.declared.error.FrameError.TheVariants.{Truncated, TooLong, Io}
+use Rattle.frame_reader.specs.declared.frame.FrameFault.{FrameFault}
+use Rattle.frame_reader.specs.declared.frame.FrameFault.TheVariants as Fault
+use Rattle.frame_reader.specs.declared.frame.Frames.{Frames}
+use Rattle.frame_reader.specs.Framed.{framed}
+use Rattle.frame_reader.specs.FramedLaws as frames
+use Rattle.frame_reader.specs.Frames.{AreBytes, BeginsWhole, BeginsWith, Fits, IsCutShort, frame}
+use Rattle.frame_reader.specs.Framing.{IsFraming, ReadsFrames, framing, piecing}
+use Rattle.frame_reader.specs.Next.{AsksGive, Ended, FramesWent, IsSettled, IsUnsettled, Next, NextAnswer, NextAnswers, asks_in_vain, ends_met, frame_error, load_answer, payloads_of, piece_answer}
+use Rattle.frame_reader.specs.NextLaws.{frames_went}
+use Rattle.frame_reader.proofs.Lengths.{BeginsWith-first}
+
+-- bytes that settle nothing are nothing, or cut short
+cut_of : (max : ℕ) (bytes : List ℕ) → AreBytes bytes → IsOpen (framed max) bytes → (bytes ≡ []) ⊎ IsCutShort max bytes
+cut_of max [] small is = inl refl
+cut_of max (a ∷ []) small is = inr (inl refl)
+cut_of max (a ∷ b ∷ more) small is =
+    let bytes = a ∷ b ∷ more in
+    let n = from_be_bytes w16 (a ∷ b ∷ []) in
+    let begins = BeginsWith-first bytes n (omega arith) small refl in
+    let few : n ≤ max = elim (cases_lt max n) [
+      | inl above ↦ absurd (is.not_wrong (Fault.TooLong n)
+          (record { len = n; begins = begins; above = above; told = refl }))
+      | inr fits ↦ fits
+    ] in
+    inr (inr (record {
+      len = n;
+      fits = few;
+      begins = begins;
+      short = elim (cases_lt (length bytes) (2 + n)) [
+        | inl short ↦ short
+        | inr whole ↦ absurd (is.no_piece (begins_of (framed max) bytes (record { from = 2; len = n }) (2 + n)
+            (frames.frame_there max n bytes begins few whole)))
+      ];
+    }))
+
+some_cut : (max : ℕ) (bytes : List ℕ) → 0 < length bytes → (bytes ≡ []) ⊎ IsCutShort max bytes → IsCutShort max bytes
+some_cut max bytes some (inl none) = absurd (omega (arith, some, ap length none))
+some_cut max bytes some (inr cut) = cut
+
+-- and they don't settle the answer
+pub unsettled : (max : ℕ) (bytes : List ℕ) → max < 2 ^ 16 → IsOpen (framed max) bytes → IsUnsettled max bytes
+unsettled max bytes word is (inl whole) = is.no_piece (frames.begins_of max word bytes whole)
+unsettled max bytes word is (inr long) = is.not_wrong (Fault.TooLong long.len)
+    (record { len = long.len; begins = long.begins; above = long.above; told = refl })
+
+-- and what a decoder answers says whether bytes settle it
+module _ (max max' : ℕ) (bytes bytes' : List ℕ) (same : max' ≡ max) (shown : bytes' ≡ bytes) where
+  pub settled_piece : (span : Span) (used : ℕ) → IsPiece (framed max') bytes' span used → IsSettled max bytes
+  settled_piece span used found = inl (subst (λ n. BeginsWhole n bytes) same (subst (BeginsWhole max') shown
+      (frames.whole_of max' bytes' (begins_of (framed max') bytes' span used found))))
+
+  pub unsettled_more : max' < 2 ^ 16 → (n : ℕ) → Decodes (framed max') bytes' (More n) → IsUnsettled max bytes
+  unsettled_more word n lacks = subst (λ n. IsUnsettled n bytes) same (subst (IsUnsettled max') shown
+      (unsettled max' bytes' word (open_of (framed max') n bytes' lacks.0 lacks.2)))
+
+pub settled_more : (max : ℕ) (bytes more : List ℕ) → IsSettled max bytes → IsSettled max (bytes ++ more)
+settled_more max bytes more (inl whole) = inl (record {
+  payload = whole.payload;
+  more = whole.more ++ more;
+  fits = whole.fits;
+  equal = ap (λ l. l ++ more) whole.equal ∙ append_assoc (frame whole.payload) whole.more more;
+})
+settled_more max bytes more (inr long) = inr (record {
+  len = long.len;
+  above = long.above;
+  begins = frames.begins-more long.len bytes more long.begins;
+})
+
+-- of what an error leaves it is known that it is bytes
+abbrev pub Shown : {S : Type 0} → Piecing S Frames → NextAnswer → Type 0
+Shown t answer = (e : FrameError) → answer ≡ Err e → AreBytes (rest t)
+
+-- no end is left to tell
+closed : {S : Type 0} (max : ℕ) (s t : Piecing S Frames) (answer : pieces.NextAnswer FrameFault) (bytes : List ℕ)
+    → pieces.NextAnswers (framed max) s answer bytes t → t.ended ≡ false
+closed max s t (Ok (Some payload)) bytes (fault, inl (is, ended, none)) = ended
+closed max s t (Ok (Some payload)) bytes (fault, inr last) = absurd last.0
+closed max s t (Ok None) bytes (none, left, fault, ended, met) = ended
+closed max s t (Err (piece.Wrong e)) bytes (none, fault, ended, refused) = ended
+closed max s t (Err (piece.Io e)) bytes (none, is, fault, ended, no_end) = ended
+
+pub reads_then : {S : Type 0} (remaining : S → Option (List ℕ)) (max : ℕ) (s t : Piecing S Frames)
+    (answer : pieces.NextAnswer FrameFault) → s.decoder.max ≡ max → ReadsFrames s
+    → NextPiece remaining (framed max) s answer t → (t.decoder.max ≡ max) × ReadsFrames t
+reads_then remaining max s t answer was is next =
+    let same : t.decoder.max ≡ max = ap (λ d. d.max) next.went.decoder ∙ was in (
+      same,
+      record {
+        word = omega (arith, is.word, was, same);
+        told = closed max s t answer next.bytes next.answers;
+        whole = subst (λ n. IsPiecing (framed n) t) (sym same) next.whole;
+      },
+    )
+
+pub whole_of : {S : Type 0} (t : Piecing S Frames) → ReadsFrames t → IsFraming (framing t)
+whole_of t is = record {
+  word = is.word;
+  block = is.whole.block;
+  plain = is.whole.plain;
+  capacity = is.whole.capacity;
+  limit = is.whole.limit;
+  lent = omega (arith, is.whole.handed);
+  ahead = is.whole.ahead;
+}
+
+module _ {S : Type 0} (remaining : S → Option (List ℕ)) (s t : Piecing S Frames) (is : ReadsFrames s) where
+  met_once : pieces.MetEnd s t → t.reader.log.reads.zero_reads ≡ s.reader.log.reads.zero_reads + 1
+  met_once met =
+      let P : Bool → Type 0 = λ b. MatchBool b (t.reader.log.reads.zero_reads ≡ s.reader.log.reads.zero_reads)
+      (t.reader.log.reads.zero_reads ≡ s.reader.log.reads.zero_reads + 1) in
+      subst P is.told met
+
+  ended_of : pieces.MetEnd s t → pieces.NoFault s t → Ended (framing s) (framing t)
+  ended_of met fault = (omega (arith, met_once met), fault)
+
+  -- what was looked at, and whether an end is left to tell, may be left out
+  forgot_went : (most : ℕ) (bytes : List ℕ) → pieces.PiecesWent remaining most s bytes t
+      → pieces.PiecesWent remaining most (piecing (framing s)) bytes (piecing (framing t))
+  forgot_went most bytes went = record {
+    hands = record { got = went.hands.got; given = went.hands.given; equal = went.hands.equal };
+    known = went.known;
+    grows = went.grows;
+    held = went.held;
+    capacity = went.capacity;
+    limit = went.limit;
+    decoder = went.decoder;
+  }
+
+  forgot_answers : (answer : pieces.NextAnswer FrameFault) (bytes : List ℕ)
+      → pieces.NextAnswers (framed s.decoder.max) s answer bytes t
+      → pieces.NextAnswers (framed s.decoder.max) (piecing (framing s)) answer bytes (piecing (framing t))
+  forgot_answers (Ok (Some payload)) bytes (fault, inl (is, ended, none)) = (fault, inl (is, refl, none))
+  forgot_answers (Ok (Some payload)) bytes (fault, inr last) = absurd last.0
+  forgot_answers (Ok None) bytes (none, left, fault, ended, met) = (none, left, fault, refl, met_once met)
+  forgot_answers (Err (piece.Wrong e)) bytes (none, fault, ended, inl wrong) = (none, fault, refl, inl wrong)
+  forgot_answers (Err (piece.Wrong e)) bytes (none, fault, ended, inr (cut, is, some, met)) =
+      (none, fault, refl, inr (cut, is, some, met_once met))
+  forgot_answers (Err (piece.Io e)) bytes (none, is, fault, ended, no_end) = (none, is, fault, refl, no_end)
+
+  asked_of : {P Q : List ℕ → Type 0} → ((bytes : List ℕ) → P bytes → Q bytes) → pieces.AskedWhere P s t
+      → pieces.AskedWhere Q (piecing (framing s)) (piecing (framing t))
+  asked_of goes (inl same) = inl same
+  asked_of goes (inr over) = inr (record {
+    not_ended = refl;
+    came = over.came;
+    last = over.last;
+    given = over.given;
+    such = goes (rest s ++ over.came) over.such;
+    asks = over.asks;
+  })
+
+  forgotten : (answer : pieces.NextAnswer FrameFault) → NextPiece remaining (framed s.decoder.max) s answer t
+      → NextPiece remaining (framed s.decoder.max) (piecing (framing s)) answer (piecing (framing t))
+  forgotten answer next = record {
+    bytes = next.bytes;
+    went = forgot_went (2 + s.decoder.max) next.bytes next.went;
+    answers = forgot_answers answer next.bytes next.answers;
+    asked = asked_of (λ bytes is. is) next.asked;
+    gave = next.gave;
+    told = λ odd. cc;
+    whole = record {
+      block = next.whole.block;
+      plain = next.whole.plain;
+      capacity = next.whole.capacity;
+      limit = next.whole.limit;
+      ahead = next.whole.ahead;
+      handed = omega (arith, next.whole.handed);
+      searched = open_take (framed s.decoder.max) (frames.framed_lawful s.decoder.max) (rest t);
+      ended = λ odd. cc;
+    };
+  }
+
+  went_none : (bytes : List ℕ) → bytes ≡ []
+      → pieces.PiecesWent remaining (2 + s.decoder.max) (piecing (framing s)) bytes (piecing (framing t))
+      → FramesWent remaining (framing s) [] (framing t)
+  went_none bytes none went =
+      frames_went remaining (framing s) (framing t) [] bytes (All-nil (Fits s.decoder.max)) none went
+
+  -- how often the stream was asked in vain, at most
+  at_most_one : pieces.AskedWhere (IsOpen (framed s.decoder.max)) s t → AsksGive 1 s.reader t.reader
+  at_most_one (inl same) = omega (arith, ap (λ l. l.reads.asks) same, ap (λ l. length l.reads.given) same)
+  at_most_one (inr over) = omega (
+    arith,
+    over.asks,
+    ap length over.given,
+    length-append s.reader.log.reads.given (over.came ++ over.last),
+    length-append over.came over.last,
+  )
+
+  not_asked_of : pieces.AskedWhere (IsOpen (framed s.decoder.max)) s t → IsSettled s.decoder.max (rest s)
+      → t.reader.log ≡ s.reader.log
+  not_asked_of (inl same) settled = same
+  not_asked_of (inr over) settled = absurd (unsettled s.decoder.max (rest s ++ over.came) is.word over.such
+      (settled_more s.decoder.max (rest s) over.came settled))
+
+  -- what an answer hands out, what it means, how often the stream gave nothing, and how often it was asked in vain
+  abbrev Tells : NextAnswer → Type 0
+  Tells answer =
+      FramesWent remaining (framing s) (payloads_of answer) (framing t) × NextAnswers (framing s) answer (framing t)
+      × (t.reader.log.reads.zero_reads ≡ s.reader.log.reads.zero_reads + ends_met answer)
+      × AsksGive (asks_in_vain answer) s.reader t.reader
+
+  module _ (bytes : List ℕ)
+      (went : pieces.PiecesWent remaining (2 + s.decoder.max) (piecing (framing s)) bytes (piecing (framing t)))
+      (gave : pieces.NoEnd s t → pieces.NoFault s t → pieces.AsksGive s t) (most : AsksGive 1 s.reader t.reader) where
+    tells : (answer : NextAnswer) → Shown t answer
+        → pieces.NextAnswers (framed s.decoder.max) s (piece_answer answer) bytes t → Tells answer
+    tells (Ok (Some payload)) shown (fault, inl (is, ended, none)) = (
+      frames_went remaining (framing s) (framing t) (payload ∷ []) bytes
+          (All-cons (Fits s.decoder.max) payload [] is.fits (All-nil (Fits s.decoder.max)))
+          (is.equal ∙ sym (append-nil (frame payload))) went,
+      (is.fits, fault),
+      omega (arith, none),
+      omega (arith, gave none fault),
+    )
+    tells (Ok (Some payload)) shown (fault, inr last) = absurd last.0
+    tells (Ok None) shown (none, left, fault, ended, met) =
+        (went_none bytes none went, (left, ended_of met fault), met_once met, most)
+    tells (Err (Truncated n)) shown (none, fault, ended, inl (wrong, no_end)) =
+        (let odd : Fault.Truncated n ≡ Fault.TooLong wrong.len = wrong.told in cc)
+    tells (Err (Truncated n)) shown (none, fault, ended, inr (cut, is, some, met)) =
+        let same : n ≡ length (rest t) = cc in
+        let short = some_cut s.decoder.max (rest t) some (cut_of s.decoder.max (rest t) (shown _ refl) is) in
+        (went_none bytes none went, (same, short, ended_of met fault), met_once met, most)
+    tells (Err (TooLong n)) shown (none, fault, ended, inl (wrong, no_end)) =
+        let same : n ≡ wrong.len = (let told : Fault.TooLong n ≡ Fault.TooLong wrong.len = wrong.told in cc) in (
+          went_none bytes none went,
+          (omega (arith, wrong.above, same), subst (λ k. BeginsWith k (rest t)) (sym same) wrong.begins, fault),
+          omega (arith, no_end),
+          omega (arith, gave no_end fault),
+        )
+    tells (Err (TooLong n)) shown (none, fault, ended, inr (cut, is, some, met)) =
+        (let odd : Fault.TooLong n ≡ Fault.Truncated (length (rest t)) = cut in cc)
+    tells (Err (Io e)) shown (none, is, fault, ended, no_end) =
+        let left = cut_of s.decoder.max (rest t) (shown _ refl) is in
+        (went_none bytes none went, (fault, left), omega (arith, no_end), most)
+
+  pub Next-of : (answer : NextAnswer) → Shown t answer → NextPiece remaining (framed s.decoder.max) s (piece_answer answer) t
+      → Next remaining (framing s) answer (framing t)
+  Next-of answer shown next =
+      let told = tells next.bytes (forgot_went (2 + s.decoder.max) next.bytes next.went) next.gave (at_most_one next.asked)
+      answer shown next.answers in
+      record {
+        piece = forgotten (piece_answer answer) next;
+        went = told.0;
+        answers = told.1;
+        not_asked = not_asked_of next.asked;
+        once = told.2;
+        asks = told.3;
+        asked = asked_of (λ bytes is'. unsettled s.decoder.max bytes is.word is') next.asked;
+        whole = whole_of t (reads_then remaining s.decoder.max s t (piece_answer answer) refl is next).1;
+      }
+
+  -- the same by what `step` answers
+  pub Next-found : (found : Option Span)
+      → NextPiece remaining (framed s.decoder.max) s (pieces.load_answer (Ok found) t) t
+      → Next remaining (framing s) (load_answer (Ok found) (framing t)) (framing t)
+  Next-found (Some span) next = Next-of (load_answer (Ok (Some span)) (framing t)) (λ e odd. cc) next
+  Next-found None next = Next-of (Ok None) (λ e odd. cc) next
+
+  pub Next-failed : (e : NextError FrameFault) → AreBytes (rest t)
+      → NextPiece remaining (framed s.decoder.max) s (Err e) t
+      → Next remaining (framing s) (Err (frame_error e)) (framing t)
+  Next-failed (piece.Wrong (Fault.Truncated have)) small next = Next-of (Err (Truncated have)) (λ _ _. small) next
+  Next-failed (piece.Wrong (Fault.TooLong len)) small next = Next-of (Err (TooLong len)) (λ _ _. small) next
+  Next-failed (piece.Io e) small next = Next-of (Err (Io e)) (λ _ _. small) next

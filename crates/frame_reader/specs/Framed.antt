@@ -1,0 +1,29 @@
+-- Frames as pieces.
+use Rattle.std.specs.Prelude.{◌≡◌, ℕ, ◌+◌, ◌<◌, ◌^◌, List, length}
+use Rattle.codec.specs.Grammar.{Grammar}
+use Rattle.frame_reader.specs.Frames.{BeginsWith, Fits, frame}
+use Rattle.frame_reader.specs.declared.frame.FrameFault.{FrameFault}
+use Rattle.frame_reader.specs.declared.frame.FrameFault.TheVariants.{Truncated, TooLong}
+
+-- the bytes are the frame of this payload
+pub record IsFrame (max : ℕ) (bytes payload : List ℕ) : Type 0 where
+  pub word : length payload < 2 ^ 16
+  pub fits : Fits max payload
+  pub equal : bytes ≡ frame payload
+
+-- they begin with a length above max
+pub record IsTooLong (max : ℕ) (bytes : List ℕ) (e : FrameFault) : Type 0 where
+  pub len : ℕ
+  pub begins : BeginsWith len bytes
+  pub above : max < len
+  pub told : e ≡ TooLong len
+
+-- no frame is one only since the stream ends, so what is left there is cut short
+abbrev pub framed : ℕ → Grammar FrameFault
+framed max = record {
+  most = 2 + max;
+  piece = IsFrame max;
+  wrong = IsTooLong max;
+  last = λ bytes payload. ⊥;
+  cut = λ bytes e. e ≡ Truncated (length bytes);
+}
