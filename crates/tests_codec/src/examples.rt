@@ -3,7 +3,7 @@ use crate::packets::Packets;
 use buffer_redux::tell::Told;
 use codec::{
     ByHead, ByScan, ByText, Delimited, NextError, NotPlain, PieceReader, PieceWriter, TooLong,
-    WritePieceError,
+    Trimmed, WritePieceError,
 };
 use decoders::{BulkStrings, Lengths, Netstrings, Order, Width};
 use std::test::Fail;
@@ -38,6 +38,18 @@ fn delimited(rt: HostRuntime) -> Result<(), Fail> {
     assert!(rt; matches!(reader.next(), Ok(Some(b""))));
     assert!(rt; !reader.has_piece());
     assert!(rt; matches!(reader.next(), Ok(Some(b"last"))));
+    assert!(rt; matches!(reader.next(), Ok(None)));
+    Ok(drop(reader))
+}
+
+#[test]
+fn trimmed(rt: HostRuntime) -> Result<(), Fail> {
+    let alloc = rt.alloc();
+    let lines = Trimmed(Delimited { end: b'\n', max: 9 });
+    let mut reader = PieceReader::new(alloc, Told::new(b"one\r\ntwo\n\r".as_slice()), lines)?;
+    assert!(rt; matches!(reader.next(), Ok(Some(b"one"))));
+    assert!(rt; matches!(reader.next(), Ok(Some(b"two"))));
+    assert!(rt; matches!(reader.next(), Ok(Some(b"\r"))));
     assert!(rt; matches!(reader.next(), Ok(None)));
     Ok(drop(reader))
 }

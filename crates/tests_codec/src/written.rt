@@ -2,19 +2,21 @@
 use buffer_redux::MakeError;
 use buffer_redux::script::Answer;
 use buffer_redux::tell::TellWrite;
-use codec::{Delimited, Encoder, PieceWriter, WritePieceError};
+use codec::{ByHead, ByText, Delimited, Encoder, PieceWriter, WritePieceError};
+use decoders::{BulkStrings, Lengths, Netstrings, Order, Width};
 use std::alloc::{AllocError, Global};
 use std::io;
 use std::io::ErrorKind;
 use std::test::Fail;
 use tests_common::{Target, target};
 
-// Neither this maker nor any call below promises anything. Three pieces of four bytes have room.
-fn writer<W: TellWrite + Drop>(
+// Neither this maker nor any call below promises anything. Three pieces have room.
+fn writer<W: TellWrite + Drop, E: Encoder>(
     alloc: Global,
     inner: W,
-) -> Result<PieceWriter<W, Delimited>, MakeError<(W, Delimited)>> {
-    PieceWriter::with_capacity(alloc, 0, inner, Delimited { end: b'\n', max: 3 })
+    encoder: E,
+) -> Result<PieceWriter<W, E>, MakeError<(W, E)>> {
+    PieceWriter::with_capacity(alloc, 0, inner, encoder)
 }
 
 fn write<W: TellWrite, E: Encoder>(
@@ -81,9 +83,37 @@ fn write_each<W: TellWrite, E: Encoder>(
     outcome
 }
 
-static PAYLOADS: [&[u8]; 8] = [
-    b"ab", b"a\nb", b"", b"abc", b"abcd", b"\xff\0", b"xyz", b"\r",
-];
+/// What is written, how many of the payloads are refused, and what the others are.
+type Row<'a> = (&'a [&'a [u8]], usize, &'a [u8]);
+
+static LINES: Row<'static> = (
+    &[
+        b"ab", b"a\nb", b"", b"abc", b"abcd", b"\xff\0", b"xyz", b"\r",
+    ],
+    2,
+    b"ab\n\nabc\n\xff\0\nxyz\n\r\n",
+);
+
+static BIG: Row<'static> = (&[b"hi", b"abcd", b"", b"abc"], 1, b"\0\x02hi\0\0\0\x03abc");
+
+static LITTLE: Row<'static> = (
+    &[b"hi", b"abcd", b"", b"abc"],
+    1,
+    b"\x02\0\0\0hi\0\0\0\0\x03\0\0\0abc",
+);
+
+// The second is the example of the paper that has netstrings from.
+static NETSTRINGS: Row<'static> = (
+    &[b"abc", b"hello world!", b"", b"hello, world!"],
+    1,
+    b"3:abc,12:hello world!,0:,",
+);
+
+static STRINGS: Row<'static> = (
+    &[b"hello", b"", b"\r\n", b"hello!"],
+    1,
+    b"$5\r\nhello\r\n$0\r\n\r\n$2\r\n\r\n\r\n",
+);
 
 // So many bytes at most a call, and a fault behind the first calls.
 fn script(alloc: Global, most: usize, before: usize) -> Result<Vec<Answer>, AllocError> {
@@ -94,18 +124,30 @@ fn script(alloc: Global, most: usize, before: usize) -> Result<Vec<Answer>, Allo
 }
 
 // Behind so many calls it fails; how often it did, where all pieces came out whole.
-fn failures(alloc: Global, most: usize, before: usize) -> io::Result<Option<usize>> {
+fn failures<E: Encoder>(
+    alloc: Global,
+    encoder: E,
+    row: &Row<'_>,
+    most: usize,
+    before: usize,
+) -> io::Result<Option<usize>> {
+    let (payloads, refused, bytes) = *row;
     let inner = target(alloc, script(alloc, most, before)?.as_slice())?;
-    let mut writer = writer(alloc, inner)?;
-    let outcome = write_each(&mut writer, &PAYLOADS);
-    let whole = taken(&writer) == b"ab\n\nabc\n\xff\0\nxyz\n\r\n".as_slice();
-    Ok((whole && outcome.refused == 2).then_some(outcome.failed))
+    let mut writer = writer(alloc, inner, encoder)?;
+    let outcome = write_each(&mut writer, payloads);
+    let whole = taken(&writer) == bytes;
+    Ok((whole && outcome.refused == refused).then_some(outcome.failed))
 }
 
 // Behind how many calls a fault goes wrong. The last run meets none.
-fn wrong_behind(alloc: Global, most: usize) -> io::Result<Option<usize>> {
+fn wrong_behind<E: Encoder + Copy>(
+    alloc: Global,
+    encoder: E,
+    row: &Row<'_>,
+    most: usize,
+) -> io::Result<Option<usize>> {
     for before in 0..100usize {
-        match failures(alloc, most, before)? {
+        match failures(alloc, encoder, row, most, before)? {
             Some(0) => return Ok(None),
             Some(_) => {}
             None => return Ok(Some(before)),
@@ -114,10 +156,36 @@ fn wrong_behind(alloc: Global, most: usize) -> io::Result<Option<usize>> {
     Ok(Some(100))
 }
 
+// The first that goes wrong: to how many bytes a call, and behind how many calls.
+fn sweep<E: Encoder + Copy>(
+    alloc: Global,
+    encoder: E,
+    row: &Row<'_>,
+) -> io::Result<Option<(usize, usize)>> {
+    for most in &[1usize, 2, 3, 7] {
+        if let Some(before) = wrong_behind(alloc, encoder, row, *most)? {
+            return Ok(Some((*most, before)));
+        }
+    }
+    Ok(None)
+}
+
+fn lengths(width: Width, order: Order) -> ByHead<Lengths> {
+    ByHead(Lengths {
+        width,
+        order,
+        max: 3,
+    })
+}
+
 #[test]
 fn pieces_come_out_whole(rt: HostRuntime) -> Result<(), Fail> {
-    for most in &[1usize, 2, 3, 7] {
-        assert!(rt; wrong_behind(rt.alloc(), *most)?.is_none());
-    }
+    let alloc = rt.alloc();
+    let lines = sweep(alloc, Delimited { end: b'\n', max: 3 }, &LINES)?;
+    let big = sweep(alloc, lengths(Width::Two, Order::BigEndian), &BIG)?;
+    let little = sweep(alloc, lengths(Width::Four, Order::LittleEndian), &LITTLE)?;
+    let netstrings = sweep(alloc, ByHead(ByText(Netstrings { max: 12 })), &NETSTRINGS)?;
+    let strings = sweep(alloc, ByHead(ByText(BulkStrings { max: 5 })), &STRINGS)?;
+    assert!(rt; (lines, big, little, netstrings, strings) == (None, None, None, None, None));
     Ok(())
 }
