@@ -30,7 +30,14 @@ static RECORDS: [Row<'static>; 1] = [(
 static TRIMMED: [Row<'static>; 2] = [
     (
         b"a\r\nb\n\r\r\nc\r",
-        &[Piece(b"a"), Piece(b"b"), Piece(b"\r"), Piece(b"c\r"), End, End],
+        &[
+            Piece(b"a"),
+            Piece(b"b"),
+            Piece(b"\r"),
+            Piece(b"c\r"),
+            End,
+            End,
+        ],
     ),
     (
         b"ab\r\nabc\r",
