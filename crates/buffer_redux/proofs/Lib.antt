@@ -13,6 +13,7 @@ pub mod WriteOn
 pub mod WriteTurns
 pub mod WriteAllCauses
 pub mod WriteAll
+pub mod TextPieces
 pub mod ReadAll
 pub mod Retrying
 pub mod Searching

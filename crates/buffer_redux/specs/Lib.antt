@@ -41,6 +41,7 @@ pub mod UntilLaws
 pub mod Unbuffer
 pub mod BufWriter
 pub mod WriteAll
+pub mod WriteFmt
 pub mod Unwrapping
 pub mod LineWriter
 pub mod WriterLaws

@@ -28,6 +28,7 @@ use std::{fmt, io};
 
 mod steps;
 mod tells;
+mod text;
 mod unwrapping;
 
 /// A writer with a buffer, which flushes as its policy says.

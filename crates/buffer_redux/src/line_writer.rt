@@ -1,5 +1,5 @@
 //! A buffered writer that flushes lines.
-ghost use Rattle.std.specs.Prelude.{◌≡◌, ◌≢◌, ◌<◌, ◌≤◌, ◌^◌, [], length, Ok, Err, IfErr, OnOk, OnErr, IsOk, MatchResult, MatchOption};
+ghost use Rattle.std.specs.Prelude.{◌≡◌, ◌≢◌, ◌<◌, ◌≤◌, ◌^◌, [], length, Ok, Err, IfErr, OnOk, OnErr, IsOk, IfSome, MatchResult, MatchOption};
 ghost use Rattle.std.specs.Borrow.{sem, Lends};
 ghost use Rattle.std.specs.Io.{WritesAtMost};
 ghost use Rattle.std.specs.Io.KnownBytes.{Appends, Keeps, WriteAppends};
@@ -13,6 +13,7 @@ ghost use Rattle.buffer_redux.specs.BufWriter.{writer_contents, Writes, WritesSt
 ghost use Rattle.buffer_redux.specs.LineWriter.{line_rules};
 ghost use Rattle.buffer_redux.specs.Unwrapping.{InnerOfFlushed, SendsOrHandles};
 ghost use Rattle.buffer_redux.specs.WriteAll.{TookBeginning, WriteAllErrorCaused, WritesAll, WritesAllSteadily};
+ghost use Rattle.buffer_redux.specs.WriteFmt.{WritesText};
 
 mod tells;
 
@@ -22,6 +23,7 @@ use redux_buffer::{Buffer, DEFAULT_BUF_SIZE, GrowError};
 use redux_policy::FlushOnNewline;
 use redux_tell::tell::TellWrite;
 use std::alloc::Global;
+use std::fmt::Display;
 use std::io;
 use std::io::{ErrorKind, Write};
 use std::marker::Model;
@@ -201,6 +203,16 @@ impl<W: TellWrite> LineWriter<W> {
     {
         let LineWriter { writer } = self;
         writer.into_inner_with_err()
+    }
+
+    /// Writes a formatted text, as `write!` and `writeln!` ask for it: each of its pieces by `write_all`. See
+    /// [`BufWriter::write_fmt`].
+    #[inline(always)]
+    pub fn write_fmt<D: Display + Drop>(&mut self, text: D) -> io::Result<()>
+        ensures bytes { OnOk result (IfSome (D.output text) (Appends (writer_contents self.old) (writer_contents self.new))) }
+        ensures text { WritesText W.log W.stretch line_rules self.old (D.output text) result self.new }
+    {
+        self.writer.write_fmt(text)
     }
 
     /// Sends what is buffered, without a flush of the inner writer, and hands both parts back. Where sending fails,

@@ -1,0 +1,191 @@
+-- How the pieces of a formatted text join.
+use Rattle.std.proofs.Common.{◌≡◌, List, ℕ, [], ◌∷◌, ◌++◌, take, drop, Result, Ok, Err, Option, None, Some, refl, sym, ap, subst, ◌∙◌, append_assoc, take-append-drop, T, true, false, IfSome, inl, inr}
+use Rattle.std.specs.Prelude.{◌⊎◌, IsOk, OnOk, is_some}
+use Rattle.std.specs.Fmt.{DisplaysOnOk, IsPlainFormatter, formatter_writer}
+use Rattle.std.specs.List.{FoldsTo, concat}
+use Rattle.std.specs.declared.fmt.Error as fmt
+use Rattle.std.specs.declared.fmt.Formatter.{Formatter}
+use Rattle.std.specs.Io.KnownBytes.{Appends}
+use Rattle.std.specs.declared.io.Error.{Error}
+use Rattle.std.proofs.Math.Logic.{∥∥₁_map}
+use Rattle.redux_tell.specs.StreamLog.{StreamLog}
+use Rattle.redux_policy.specs.Policy.{WriteRules}
+use Rattle.buffer_redux.specs.Buffered.{Buffered}
+use Rattle.buffer_redux.specs.BufWriter.{WritesAlong, writer_contents}
+use Rattle.buffer_redux.specs.WriteAll.{WriteAllErrorCaused, WritesAll, WritesAllSteadily}
+use Rattle.buffer_redux.specs.WriteFmt.{IsFormatError, PieceFailed, StoppedIn, TakesPieces, TextWent, WritesText}
+use Rattle.buffer_redux.specs.WriterLaws.{WritesInOrder-contents}
+use Rattle.buffer_redux.specs.WritesAlongLaws.{WritesAll-along, WritesAll-took, WritesAlong-joins, WritesAlong-none}
+
+module _ {S P : Type 0} (tells : S → StreamLog) (stretch : S → S → Type 0) (rules : WriteRules P)
+    (none : (u : S) → stretch u u) (joins : (u v w : S) → stretch u v → stretch v w → stretch u w) where
+  -- a piece whose write failed
+  pub stopped : (s : Buffered S P) (piece : List ℕ) (e : Error) (t : Buffered S P)
+      → WritesAll tells stretch rules s piece (Err e) t → WriteAllErrorCaused tells stretch rules s piece (Err e) t
+      → WritesAllSteadily rules s (Err e) t → StoppedIn tells stretch rules s piece e t
+  stopped s piece e t all caused steadily = record {
+    accepted = take all.count piece;
+    more = drop all.count piece;
+    all = sym (take-append-drop all.count piece);
+    along = WritesAll-along tells stretch rules s piece (Err e) t all;
+    why = record {
+      before = [];
+      last = s;
+      along = WritesAlong-none tells stretch rules none s;
+      piece = piece;
+      caused = caused;
+      steadily = steadily;
+    };
+  }
+
+  failed_after : (s m t : Buffered S P) (a : List ℕ) (e : Error) → WritesAlong tells stretch rules s a m
+      → PieceFailed tells stretch rules m e t → PieceFailed tells stretch rules s e t
+  failed_after s m t a e p q = record {
+    before = a ++ q.before;
+    last = q.last;
+    along = WritesAlong-joins tells stretch rules joins s m q.last a q.before p q.along;
+    piece = q.piece;
+    caused = q.caused;
+    steadily = q.steadily;
+  }
+
+  stopped_after : (s m t : Buffered S P) (a b : List ℕ) (e : Error) → WritesAlong tells stretch rules s a m
+      → StoppedIn tells stretch rules m b e t → StoppedIn tells stretch rules s (a ++ b) e t
+  stopped_after s m t a b e p q = record {
+    accepted = a ++ q.accepted;
+    more = q.more;
+    all = ap (λ l. a ++ l) q.all ∙ sym (append_assoc a q.accepted q.more);
+    along = WritesAlong-joins tells stretch rules joins s m t a q.accepted p q.along;
+    why = failed_after s m t a e p q.why;
+  }
+
+  stopped_before : (s t : Buffered S P) (a b : List ℕ) (e : Error)
+      → StoppedIn tells stretch rules s a e t → StoppedIn tells stretch rules s (a ++ b) e t
+  stopped_before s t a b e p = record {
+    accepted = p.accepted;
+    more = p.more ++ b;
+    all = ap (λ l. l ++ b) p.all ∙ append_assoc p.accepted p.more b;
+    along = p.along;
+    why = p.why;
+  }
+
+  -- pieces, and pieces behind them
+  pieces_join : (s m t : Buffered S P) (k l n : Option Error) (a b : List ℕ) → TakesPieces tells stretch rules s k a m l
+      → TakesPieces tells stretch rules m l b t n → TakesPieces tells stretch rules s k (a ++ b) t n
+  pieces_join s m t None None None a b p q = WritesAlong-joins tells stretch rules joins s m t a b p q
+  pieces_join s m t None None (Some e) a b p q = stopped_after s m t a b e p q
+  pieces_join s m t None (Some e) None a b p q = absurd q
+  pieces_join s m t None (Some e) (Some f) a b p q =
+      subst (λ u. StoppedIn tells stretch rules s (a ++ b) f u) q.1
+      (subst (λ x. StoppedIn tells stretch rules s (a ++ b) x m) q.0 (stopped_before s m a b e p))
+  pieces_join s m t (Some e) None n a b p q = absurd p
+  pieces_join s m t (Some e) (Some f) None a b p q = absurd q
+  pieces_join s m t (Some e) (Some f) (Some h) a b p q = (p.0 ∙ q.0, p.1 ∙ q.1)
+
+  no_pieces : (s : Buffered S P) (k : Option Error) → TakesPieces tells stretch rules s k [] s k
+  no_pieces s None = WritesAlong-none tells stretch rules none s
+  no_pieces s (Some e) = (refl, refl)
+
+  -- all pieces, one after another
+  pub pieces : {A : Type 0} (writer : A → Buffered S P) (ended : A → Option Error) (parts : List (List ℕ)) (f g : A)
+      → FoldsTo (λ x bytes y. TakesPieces tells stretch rules (writer x) (ended x) bytes (writer y) (ended y)) f parts g
+      → TakesPieces tells stretch rules (writer f) (ended f) (concat parts) (writer g) (ended g)
+  pieces writer ended [] f g same = subst
+      (λ x. TakesPieces tells stretch rules (writer f) (ended f) [] (writer x) (ended x)) same
+      (no_pieces (writer f) (ended f))
+  pieces writer ended (a ∷ parts) f g (m, p, q) = pieces_join (writer f) (writer m) (writer g) (ended f) (ended m) (ended g)
+      a (concat parts) p (pieces writer ended parts m g q)
+
+  -- a text that went so far goes on
+  pub went_on : (o : Option (Buffered S P)) (k : Option Error) (m t : Buffered S P) (a : List ℕ) → is_some k ≡ false
+      → ∥ IfSome o (λ s. TextWent tells stretch rules s k m) ∥₁ → WritesAlong tells stretch rules m a t
+      → ∥ IfSome o (λ s. TextWent tells stretch rules s k t) ∥₁
+  went_on None k m t a open' went p = ∣ tt ∣₁
+  went_on (Some s) None m t a open' went p = ∥∥₁_map went
+      (λ w. ((w.0.0 ++ a, WritesAlong-joins tells stretch rules joins s m t w.0.0 a w.0.1 p), tt))
+  went_on (Some s) (Some e) m t a open' went p = absurd (subst T open' tt)
+
+  pub went_wrong : (o : Option (Buffered S P)) (k : Option Error) (m t : Buffered S P) (a : List ℕ) (e : Error)
+      → ∥ IfSome o (λ s. TextWent tells stretch rules s k m) ∥₁ → StoppedIn tells stretch rules m a e t
+      → ∥ IfSome o (λ s. TextWent tells stretch rules s (Some e) t) ∥₁
+  went_wrong None k m t a e went p = ∣ tt ∣₁
+  went_wrong (Some s) k m t a e went p = ∥∥₁_map went
+      (λ w. (
+        (w.0.0 ++ p.accepted, WritesAlong-joins tells stretch rules joins s m t w.0.0 p.accepted w.0.1 p.along),
+        failed_after s m t w.0.0 e w.0.1 p.why,
+      ))
+
+  -- the piece whose write failed, where none had
+  pub piece_stopped : (k : Option Error) (s : Buffered S P) (a : List ℕ) (e : Error) (t : Buffered S P)
+      → is_some k ≡ false → StoppedIn tells stretch rules s a e t → TakesPieces tells stretch rules s k a t (Some e)
+  piece_stopped None s a e t open' p = p
+  piece_stopped (Some x) s a e t open' p = absurd (subst T open' tt)
+
+  -- so a text that is known was taken, where the formatting didn't fail
+  pub text_taken : {A : Type 0} (writer : A → Buffered S P) (ended : A → Option Error) (f g : Formatter A) (a b : A)
+      (k : Option Error) (formatted : Result (Unit {0}) fmt.Error) (text : Option (List ℕ))
+      → DisplaysOnOk (λ x bytes y. TakesPieces tells stretch rules (writer x) (ended x) bytes (writer y) (ended y)) f formatted text g
+      → IsPlainFormatter f → IsOk formatted → formatter_writer f ≡ a → b ≡ formatter_writer g → ended b ≡ k
+      → IfSome text (λ bytes. TakesPieces tells stretch rules (writer a) (ended a) bytes (writer b) k)
+  text_taken writer ended f g a b k formatted None shown plain ok is gives so = tt
+  text_taken writer ended f g a b k formatted (Some bytes) shown plain ok is gives so =
+      let wrote = (shown plain ok).wrote in
+      subst (λ l. TakesPieces tells stretch rules (writer a) (ended a) bytes (writer b) l) so
+      (subst (λ x. TakesPieces tells stretch rules (writer a) (ended a) bytes (writer x) (ended x)) (sym gives)
+      (subst (λ x. TakesPieces tells stretch rules (writer x) (ended x) bytes (writer (formatter_writer g))
+      (ended (formatter_writer g))) is
+      (subst (λ l. TakesPieces tells stretch rules (writer (formatter_writer f)) (ended (formatter_writer f)) l
+      (writer (formatter_writer g)) (ended (formatter_writer g))) wrote.whole
+      (pieces writer ended wrote.parts (formatter_writer f) (formatter_writer g) wrote.calls))))
+
+  -- what went of a text that began so
+  pub went_so : (o : Option (Buffered S P)) (s t : Buffered S P) (k l : Option Error) → o ≡ Some s → k ≡ l
+      → ∥ IfSome o (λ s. TextWent tells stretch rules s k t) ∥₁ → ∥ TextWent tells stretch rules s l t ∥₁
+  went_so o s t k l began so went = subst (λ n. ∥ TextWent tells stretch rules s n t ∥₁) so
+      (subst (λ b. ∥ IfSome b (λ s. TextWent tells stretch rules s k t) ∥₁) began went)
+
+  -- the formatting failed
+  pub text_failed : (s : Buffered S P) (text : Option (List ℕ)) (k : Option Error) (e : Error) (t : Buffered S P)
+      → ∥ TextWent tells stretch rules s k t ∥₁ → IsFormatError e → WritesText tells stretch rules s text (Err e) t
+  text_failed s text k e t went failed = record {
+    along = ∥∥₁_map went (λ w. w.0);
+    caused = ∣ inl failed ∣₁;
+    whole = tt;
+    beginning = of text;
+  }
+    where
+      of : (text : Option (List ℕ)) → IfSome text (λ bytes. IsFormatError e ⊎ StoppedIn tells stretch rules s bytes e t)
+      of None = tt
+      of (Some bytes) = inl failed
+
+  -- the write of a piece failed
+  pub text_stopped : (s : Buffered S P) (text : Option (List ℕ)) (e : Error) (t : Buffered S P)
+      → ∥ TextWent tells stretch rules s (Some e) t ∥₁
+      → IfSome text (λ bytes. TakesPieces tells stretch rules s None bytes t (Some e))
+      → WritesText tells stretch rules s text (Err e) t
+  text_stopped s text e t went taken = record {
+    along = ∥∥₁_map went (λ w. w.0);
+    caused = ∥∥₁_map went (λ w. inr w.1);
+    whole = tt;
+    beginning = of text taken;
+  }
+    where
+      of : (text : Option (List ℕ)) → IfSome text (λ bytes. StoppedIn tells stretch rules s bytes e t)
+          → IfSome text (λ bytes. IsFormatError e ⊎ StoppedIn tells stretch rules s bytes e t)
+      of None p = tt
+      of (Some bytes) p = inr p
+
+  -- and neither
+  pub text_written : (s : Buffered S P) (text : Option (List ℕ)) (x : Unit {0}) (t : Buffered S P)
+      → ∥ TextWent tells stretch rules s None t ∥₁
+      → IfSome text (λ bytes. TakesPieces tells stretch rules s None bytes t None)
+      → WritesText tells stretch rules s text (Ok x) t
+  text_written s text x t went taken =
+      record { along = ∥∥₁_map went (λ w. w.0); caused = tt; whole = taken; beginning = tt }
+
+-- as std has it
+pub text_appends : {S P : Type 0} (tells : S → StreamLog) (stretch : S → S → Type 0) (rules : WriteRules P)
+    (s t : Buffered S P) (text : Option (List ℕ)) → IfSome text (λ bytes. WritesAlong tells stretch rules s bytes t)
+    → IfSome text (Appends (writer_contents s) (writer_contents t))
+text_appends tells stretch rules s t None p = tt
+text_appends tells stretch rules s t (Some bytes) p = WritesInOrder-contents s t bytes p.in_order

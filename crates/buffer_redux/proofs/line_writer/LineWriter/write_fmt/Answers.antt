@@ -1,0 +1,4 @@
+use Rattle.buffer_redux.proofs.line_writer.LineWriter.write_fmt.Goals as goal
+
+pub returns-clause-text : goal.returns-clause-text
+returns-clause-text g c = rw (← c.self.view_is) c.write_fmt.ensures.text
