@@ -1,7 +1,7 @@
 //! The cases of `crates/bench/src/calls.rt` over the types of Rust's std.
-use crate::Sink;
+use crate::{Sink, format_often};
 use std::hint::black_box;
-use std::io::{self, BufRead, BufReader, BufWriter, Read, Seek, SeekFrom, Write};
+use std::io::{self, BufRead, BufReader, BufWriter, LineWriter, Read, Seek, SeekFrom, Write};
 
 struct Place<'a> {
     all: &'a [u8],
@@ -150,6 +150,8 @@ pub fn calls(shape: &str, capacity: usize, piece: usize, bytes: &[u8]) -> io::Re
         "onward" => onward(reader, piece),
         "positions" => positions(reader, piece),
         "write_bytes" => write_bytes(BufWriter::with_capacity(capacity, Sink::default()), bytes),
+        "own_format" => format_often(BufWriter::with_capacity(capacity, Sink::default()), bytes.len() as u64),
+        "own_format_lines" => format_often(LineWriter::with_capacity(capacity, Sink::default()), bytes.len() as u64),
         _ => Ok(0),
     }
 }

@@ -59,10 +59,13 @@ read_line, lines of 80|read_line 80 8388608
 read_line, lines of 10|read_line 10 8388608
 lines, of 80|lines_of 80 8388608
 split, lines of 80|split 80 8388608
-bytes|bytes 1 1048576
+bytes, or read_byte|bytes 1 1048576
 a fill and seek_relative, a turn|onward 64 8388608
 a fill, stream_position and consume, a turn|positions 64 8388608
-write_all of a byte|write_bytes 1 1048576'
+a peek of 8 and consume, a turn|peek 64 8388608
+write_all of a byte|write_bytes 1 1048576
+write! of 21 to a writer that is named|own_format 21 2097152
+the same to a LineWriter|own_format_lines 21 2097152'
 
 here=$(cd "$(dirname "$0")" && pwd)
 if ! command -v valgrind > /dev/null; then

@@ -2,10 +2,11 @@
 //! its piece, and what is no line is counted by turns, each of which consumes a piece.
 use crate::cases::{Case, Kind};
 use crate::lines::{lines_to_end, until_end};
-use crate::makers::{std_writer, writer};
-use crate::streams::Place;
-use buffer_redux::BufReader;
+use crate::makers::{line_writer, std_line_writer, std_writer, writer};
+use crate::streams::{Place, Sink};
+use crate::whole::format_often;
 use buffer_redux::tell::Told;
+use buffer_redux::{BufReader, BufWriter, LineWriter};
 use std::alloc::Global;
 use std::io;
 use std::io::{BufRead, Read, Seek, Write};
@@ -29,16 +30,22 @@ pub enum Call {
     Onward,
     /// Fills the buffer, asks where it stands and consumes a piece, until it stays empty.
     Positions,
+    /// Looks at eight bytes ahead and consumes a piece, until there is none.
+    Peek,
     /// Writes each byte by a `write_all` of its own, and flushes.
     WriteBytes,
+    /// Writes short lines by `write!` to a writer that is named, and flushes.
+    Format,
+    /// The same to a line writer.
+    FormatLines,
 }
 
 impl Call {
     /// Whether lines are read by it.
     pub fn takes_lines(self) -> bool {
-        !matches!(
+        matches!(
             self,
-            Call::Bytes | Call::Onward | Call::Positions | Call::WriteBytes
+            Call::ReadUntil | Call::SkipUntil | Call::ReadLine | Call::LinesOf | Call::Split
         )
     }
 }
@@ -51,10 +58,27 @@ fn place(bytes: &[u8]) -> Place<'_> {
 
 /// Runs such a case over a plain buffer, or over std's.
 pub fn calls(alloc: Global, case: &Case, call: Call, bytes: &[u8]) -> io::Result<u64> {
+    match call {
+        Call::WriteBytes | Call::Format | Call::FormatLines => writes(alloc, case, call, bytes),
+        _ => reads(alloc, case, call, bytes),
+    }
+}
+
+fn writes(alloc: Global, case: &Case, call: Call, bytes: &[u8]) -> io::Result<u64> {
+    let total = bytes.len() as u64;
     match (call, case.kind) {
         (Call::WriteBytes, Kind::Std) => write_bytes(std_writer(alloc, case.capacity)?, bytes),
         (Call::WriteBytes, _) => write_bytes(writer(alloc, case, case.capacity)?, bytes),
-        (_, Kind::Std) => {
+        (Call::Format, Kind::Std) => format_often(std_writer(alloc, case.capacity)?, total),
+        (Call::Format, _) => own_format(writer(alloc, case, case.capacity)?, total),
+        (_, Kind::Std) => format_often(std_line_writer(alloc, case.capacity)?, total),
+        _ => own_format_lines(line_writer(alloc, case)?, total),
+    }
+}
+
+fn reads(alloc: Global, case: &Case, call: Call, bytes: &[u8]) -> io::Result<u64> {
+    match case.kind {
+        Kind::Std => {
             let reader = io::BufReader::with_capacity(alloc, case.capacity, place(bytes))?;
             std_calls(alloc, case, call, reader)
         }
@@ -74,7 +98,9 @@ fn own_calls(alloc: Global, case: &Case, call: Call, reader: Reader<'_>) -> io::
     match call {
         Call::ReadUntil => own_until_end(alloc, reader),
         Call::SkipUntil => own_skip_to_end(reader),
+        Call::Bytes => own_bytes_to_end(reader),
         Call::Onward => onward(reader, case.piece),
+        Call::Peek => peeks(reader, case.piece),
         _ => provided(alloc, case, call, reader),
     }
 }
@@ -191,6 +217,21 @@ fn bytes_to_end<R: Read + Drop>(reader: R) -> io::Result<u64> {
     Ok(total.wrapping_add(u64::from(sum == 255)))
 }
 
+#[inline(never)]
+fn own_bytes_to_end(reader: Reader<'_>) -> io::Result<u64> {
+    let mut reader = reader;
+    let mut total = 0u64;
+    let mut sum = 0u8;
+    for _ in 0..u64::MAX {
+        match reader.read_byte()? {
+            Some(byte) => sum = sum.wrapping_add(byte),
+            None => break,
+        }
+        total = total.wrapping_add(1);
+    }
+    Ok(total.wrapping_add(u64::from(sum == 255)))
+}
+
 // By a piece, as long as there is one.
 fn step(piece: usize) -> i64 {
     (piece & 65535) as i64
@@ -224,6 +265,25 @@ fn std_onward(reader: io::BufReader<Place<'_>>, piece: usize) -> io::Result<u64>
     Ok(turns)
 }
 
+// How many bytes are looked at.
+const AHEAD: usize = 8;
+
+#[inline(never)]
+fn peeks(reader: Reader<'_>, piece: usize) -> io::Result<u64> {
+    let mut reader = reader;
+    let mut turns = 0u64;
+    let mut sum = 0u8;
+    for _ in 0..u64::MAX {
+        match reader.peek(AHEAD)?.first() {
+            Some(first) => sum = sum.wrapping_add(*first),
+            None => break,
+        }
+        reader.consume(piece);
+        turns = turns.wrapping_add(1);
+    }
+    Ok(turns.wrapping_add(u64::from(sum == 255)))
+}
+
 // The places are added up, so that no compiler leaves them out.
 #[inline(never)]
 fn positions<R: BufRead + Seek + Drop>(reader: R, piece: usize) -> io::Result<u64> {
@@ -248,6 +308,42 @@ fn write_bytes<W: Write + Drop>(writer: W, bytes: &[u8]) -> io::Result<u64> {
     for byte in bytes {
         writer.write_all(&[*byte])?;
         total = total.wrapping_add(1);
+    }
+    writer.flush()?;
+    Ok(total)
+}
+
+// The line of `format_often`.
+#[inline(never)]
+fn own_format(writer: BufWriter<Told<Sink>>, least: u64) -> io::Result<u64> {
+    let mut writer = writer;
+    let mut total = 0u64;
+    let name = "value";
+    for at in 0..u64::MAX {
+        if total >= least {
+            break;
+        }
+        let number = 1000000u64.wrapping_add(at);
+        write!(writer, "{name} {number}: {name}\n")?;
+        total = total.wrapping_add(21);
+    }
+    writer.flush()?;
+    Ok(total)
+}
+
+// The same.
+#[inline(never)]
+fn own_format_lines(writer: LineWriter<Told<Sink>>, least: u64) -> io::Result<u64> {
+    let mut writer = writer;
+    let mut total = 0u64;
+    let name = "value";
+    for at in 0..u64::MAX {
+        if total >= least {
+            break;
+        }
+        let number = 1000000u64.wrapping_add(at);
+        write!(writer, "{name} {number}: {name}\n")?;
+        total = total.wrapping_add(21);
     }
     writer.flush()?;
     Ok(total)

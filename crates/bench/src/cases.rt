@@ -65,7 +65,7 @@ pub enum Shape {
 }
 
 /// Each shape by its name, with the capacity and the piece of a case of it on few bytes.
-pub static SHAPES: [(&str, Shape, usize, usize); 30] = [
+pub static SHAPES: [(&str, Shape, usize, usize); 33] = [
     ("read", Shape::Read, 8192, 64),
     ("fill", Shape::Fill, 8192, 100),
     ("look", Shape::Look, 16384, 100),
@@ -95,7 +95,10 @@ pub static SHAPES: [(&str, Shape, usize, usize); 30] = [
     ("bytes", Shape::Call(Call::Bytes), 8192, 1),
     ("onward", Shape::Call(Call::Onward), 8192, 64),
     ("positions", Shape::Call(Call::Positions), 8192, 64),
+    ("peek", Shape::Call(Call::Peek), 8192, 64),
     ("write_bytes", Shape::Call(Call::WriteBytes), 8192, 1),
+    ("own_format", Shape::Call(Call::Format), 8192, 21),
+    ("own_format_lines", Shape::Call(Call::FormatLines), 8192, 21),
 ];
 
 impl Shape {
