@@ -10,11 +10,8 @@ use std::alloc::Global;
 use std::io;
 use std::io::{BufRead, ErrorKind, Read, Write};
 
-/// Writes one record behind what the writer holds.
-///
-/// An `Err` may leave a part of the record written, as its length without its payload: write nothing more behind it, since a
-/// reader would take that for the payload. `FrameWriter` of the crate `frame_reader` tears no frame.
-pub fn write_record<W: Write>(writer: &mut W, bytes: &[u8]) -> io::Result<()>
+// Writes one record behind what the writer holds. After an `Err` that may be a part of it.
+fn write_record<W: Write>(writer: &mut W, bytes: &[u8]) -> io::Result<()>
     requires short { IsShort bytes.now }
     ensures { OnOk result (Appends (W.contents writer.old) (W.contents writer.new) (frame bytes.now)) }
 {
@@ -22,22 +19,24 @@ pub fn write_record<W: Write>(writer: &mut W, bytes: &[u8]) -> io::Result<()>
     writer.write_all(bytes)
 }
 
-/// Writes all records, one behind the other. After an `Err` write nothing more, as of `write_record`.
-pub fn write_records<W: Write>(writer: &mut W, records: &[Vec<u8>]) -> io::Result<()>
+/// Writes all records, one behind the other, and hands the writer back.
+///
+/// An `Err` may come within a record, and what is written behind a part of one would be taken for its payload: so the writer
+/// is dropped. `FrameWriter` of the crate `frame_reader` tears no frame, and can go on.
+pub fn write_records<W: Write + Drop>(writer: W, records: &[Vec<u8>]) -> io::Result<W>
     requires short { AreShort records.now }
-    ensures { OnOk result (Appends (W.contents writer.old) (W.contents writer.new) (frames records.now)) }
+    ensures { IfOk result (λ w. Appends (W.contents writer) (W.contents w) (frames records.now)) }
 {
+    let mut writer = writer;
     for bytes in records {
-        write_record(writer, bytes.as_slice())?;
+        write_record(&mut writer, bytes.as_slice())?;
     }
-    Ok(())
+    Ok(writer)
 }
 
-/// The next record, or none at the end.
-///
-/// An `Err` may have taken the length and a part of the payload, which are lost, also where the stream could go on: give the
-/// reader up, since the next call would take payload for a length. `FrameReader` of the crate `frame_reader` can be asked again.
-pub fn read_record<R: BufRead>(alloc: Global, reader: &mut R) -> io::Result<Option<Vec<u8>>>
+// The next record, or none at the end. An `Err` may have taken the length and a part of the payload, so no other record is
+// read behind it.
+fn read_record<R: BufRead>(alloc: Global, reader: &mut R) -> io::Result<Option<Vec<u8>>>
     ensures { IfOk result (λ next. MatchOption next (IsAtEnd (R.remaining reader.old)) (λ v.
         IsShort (vec_items v) × Consumes (R.remaining reader.old) (R.remaining reader.new) (frame (vec_items v)))) }
 {
@@ -48,14 +47,18 @@ pub fn read_record<R: BufRead>(alloc: Global, reader: &mut R) -> io::Result<Opti
     Ok(Some(read_bytes(alloc, reader, usize::from(len))?))
 }
 
-/// All records up to the end. After an `Err` give the reader up, as of `read_record`.
-pub fn read_records<R: BufRead>(alloc: Global, reader: &mut R) -> io::Result<Vec<Vec<u8>>>
+/// All records up to the end.
+///
+/// An `Err` may come within a record, where the next call would take payload for a length: so the reader is given away.
+/// `FrameReader` of the crate `frame_reader` can be asked again.
+pub fn read_records<R: BufRead + Drop>(alloc: Global, reader: R) -> io::Result<Vec<Vec<u8>>>
     ensures short { IfOk result (λ v. AreShort (vec_items v)) }
-    ensures all { IfOk result (λ v. IfSome (R.remaining reader.old) (λ xs. xs ≡ frames (vec_items v))) }
+    ensures all { IfOk result (λ v. IfSome (R.remaining reader) (λ xs. xs ≡ frames (vec_items v))) }
 {
+    let mut reader = reader;
     let mut records = Vec::new(alloc);
     for _turn in 0..u64::MAX {
-        match read_record(alloc, reader)? {
+        match read_record(alloc, &mut reader)? {
             None => return Ok(records),
             Some(bytes) => records.push(bytes)?,
         }
@@ -69,10 +72,8 @@ pub fn there_and_back(alloc: Global, records: &[Vec<u8>]) -> io::Result<Vec<Vec<
     requires short { AreShort records.now }
     ensures { IfOk result (λ v. map vec_items (vec_items v) ≡ map vec_items records.now) }
 {
-    let mut held = Vec::new(alloc);
-    write_records(&mut held, records)?;
-    let mut reader = BufReader::new(alloc, Told::new(held.as_slice()))?;
-    read_records(alloc, &mut reader)
+    let held = write_records(Vec::new(alloc), records)?;
+    read_records(alloc, BufReader::new(alloc, Told::new(held.as_slice()))?)
 }
 
 // The length of the next record.
