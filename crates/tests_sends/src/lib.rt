@@ -11,7 +11,13 @@ use buffer_redux::{
     RawBuf, SliceDequeBuf, StdBuf, Unbuffer,
 };
 use chunked::{ChunkedError, ChunkedReader, ChunkedWriter, FinishError, TrailersError};
+use codec::{
+    ByHead, ByScan, ByText, Decoder, Delimited, Encoder, End, Found, Head, HeadError, Headed,
+    NextError, NotPlain, PieceReader, PieceWriter, Scan, Span, TextHead, TooLong, WritePieceError,
+};
+use decoders::{BulkStrings, Lengths, Netstrings};
 use frame_reader::{FrameError, FrameReader, FrameWriter, WriteFrameError};
+use kv::{Command, Full, Refusal, Served, Store};
 use line_reader::{LineError, LineReader};
 use std::fs::File;
 
@@ -173,4 +179,77 @@ pub fn finishing_sent<B: Send>(x: &FinishError<B>) {
 
 pub fn finishing_shared<B: Sync>(x: &FinishError<B>) {
     is_sync(x);
+}
+
+pub fn piece_reader_sent<R: Tell + Send, D: Decoder + Send>(x: &PieceReader<R, D>) {
+    is_send(x);
+}
+
+pub fn piece_reader_shared<R: Tell + Sync, D: Decoder + Sync>(x: &PieceReader<R, D>) {
+    is_sync(x);
+}
+
+pub fn piece_writer_sent<W: TellWrite + Send, E: Encoder + Send>(x: &PieceWriter<W, E>) {
+    is_send(x);
+}
+
+pub fn piece_writer_shared<W: TellWrite + Sync, E: Encoder + Sync>(x: &PieceWriter<W, E>) {
+    is_sync(x);
+}
+
+pub fn decoders_sent<H: Headed + Send, S: Scan + Send, T: TextHead + Send>(
+    a: &ByHead<H>,
+    b: &ByScan<S>,
+    c: &ByText<T>,
+) {
+    is_send(a);
+    is_send(b);
+    is_send(c);
+}
+
+pub fn decoders_shared<H: Headed + Sync, S: Scan + Sync, T: TextHead + Sync>(
+    a: &ByHead<H>,
+    b: &ByScan<S>,
+    c: &ByText<T>,
+) {
+    is_sync(a);
+    is_sync(b);
+    is_sync(c);
+}
+
+pub fn ready(a: &Delimited, b: &Lengths, c: &Netstrings, d: &BulkStrings, e: &Head, f: &Span) {
+    is_both(a);
+    is_both(b);
+    is_both(c);
+    is_both(d);
+    is_both(e);
+    is_both(f);
+}
+
+pub fn wrong_pieces(a: &TooLong, b: &HeadError, c: &NotPlain) {
+    is_both(a);
+    is_both(b);
+    is_both(c);
+}
+
+pub fn answers_sent<W: Send>(a: &Found<W>, b: &End<W>, c: &NextError<W>, d: &WritePieceError<W>) {
+    is_send(a);
+    is_send(b);
+    is_send(c);
+    is_send(d);
+}
+
+pub fn answers_shared<W: Sync>(a: &Found<W>, b: &End<W>, c: &NextError<W>, d: &WritePieceError<W>) {
+    is_sync(a);
+    is_sync(b);
+    is_sync(c);
+    is_sync(d);
+}
+
+pub fn entries(a: &Store, b: &Command<'_>, c: &Full, d: &Refusal, e: &Served) {
+    is_both(a);
+    is_both(b);
+    is_both(c);
+    is_both(d);
+    is_both(e);
 }
