@@ -1,6 +1,6 @@
 -- How the pieces of a formatted text join.
-use Rattle.std.proofs.Common.{◌≡◌, List, ℕ, [], ◌∷◌, ◌++◌, take, drop, Result, Ok, Err, Option, None, Some, refl, sym, ap, subst, ◌∙◌, append_assoc, take-append-drop, T, true, false, IfSome, inl, inr}
-use Rattle.std.specs.Prelude.{◌⊎◌, IsOk, OnOk, is_some}
+use Rattle.std.proofs.Common.{◌≡◌, List, ℕ, [], ◌∷◌, ◌++◌, take, drop, Result, Ok, Err, Option, None, Some, refl, sym, ap, subst, ◌∙◌, append_assoc, take-append-drop, T, false, IfSome, inl, inr}
+use Rattle.std.specs.Prelude.{◌⊎◌, IsOk, is_some}
 use Rattle.std.specs.Fmt.{DisplaysOnOk, IsPlainFormatter, formatter_writer}
 use Rattle.std.specs.List.{FoldsTo, concat}
 use Rattle.std.specs.declared.fmt.Error as fmt
@@ -15,7 +15,7 @@ use Rattle.buffer_redux.specs.BufWriter.{WritesAlong, writer_contents}
 use Rattle.buffer_redux.specs.WriteAll.{WriteAllErrorCaused, WritesAll, WritesAllSteadily}
 use Rattle.buffer_redux.specs.WriteFmt.{IsFormatError, PieceFailed, StoppedIn, TakesPieces, TextWent, WritesText}
 use Rattle.buffer_redux.specs.WriterLaws.{WritesInOrder-contents}
-use Rattle.buffer_redux.specs.WritesAlongLaws.{WritesAll-along, WritesAll-took, WritesAlong-joins, WritesAlong-none}
+use Rattle.buffer_redux.specs.WritesAlongLaws.{WritesAll-along, WritesAlong-joins, WritesAlong-none}
 
 module _ {S P : Type 0} (tells : S → StreamLog) (stretch : S → S → Type 0) (rules : WriteRules P)
     (none : (u : S) → stretch u u) (joins : (u v w : S) → stretch u v → stretch v w → stretch u w) where

@@ -23,14 +23,9 @@ impl<W: TellWrite, P: WriterPolicy> BufWriter<W, P> {
         ensures stretch { InnerWent W.log W.stretch self.old self.new }
     {
         self.flush_amount(first)?;
-        // By a `match`, since a `?` copies the answer, which has 96 bytes.
-        match self.take_in(bytes) {
-            Ok(written) => {
-                self.flush_after();
-                Ok(written)
-            }
-            Err(e) => Err(e),
-        }
+        let written = self.take_in(bytes)?;
+        self.flush_after();
+        Ok(written)
     }
 
     // The same apart, so that a write that sends nothing first and fits is short in its caller.

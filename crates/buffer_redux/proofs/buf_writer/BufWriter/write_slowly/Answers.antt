@@ -1,9 +1,12 @@
 use Rattle.std.proofs.Common.{inr}
+use Rattle.std.proofs.lemmas.Result.{err_from_is_err_and}
 use Rattle.buffer_redux.proofs.buf_writer.BufWriter.write_slowly.Goals as goal
 
-pub returns-in-Err-clause-steps : goal.returns-in-Err-clause-steps
-returns-in-Err-clause-steps g c = inr (record {
-  before = c.flush_amount.new.self;
-  flush = c.in_ok-flush_amount.ensures.flushed;
-  took_in = c.in-Err.ensures.took_in;
-})
+pub returns-in_err-written-clause-steps : goal.returns-in_err-written-clause-steps
+returns-in_err-written-clause-steps g c =
+    let p = err_from_is_err_and c.from_residual-in_err-written.result c.from_residual-in_err-written.ensures.1 in
+    rw (p.1, p.2) (inr (record {
+      before = c.flush_amount.new.self;
+      flush = c.in_ok-flush_amount.ensures.flushed;
+      took_in = c.in_err-written.ensures.took_in;
+    }))
