@@ -16,7 +16,8 @@ out/, and is not tried again while the edit, the crate, the libraries below it a
 
 With --after-ci it begins no check once checks took so many seconds of a processor, where each that goes on counts for a minute,
 leaves out what `rt ci` tries, and takes from `rt ci` that the crates are proved and the libraries below them built: a check
-then asks for the edited functions alone, and proves what they call. It begins with the edits that have a line `# each time`,
+then asks for the edited functions alone, and proves what they call. It leaves out crates above a library that isn't
+built, as where `rt ci` kept it from another checkout, and names them. It begins with the edits that have a line `# each time`,
 however long these take, then come the crates that the last commits touched, and then the others in an order that changes with
 each commit.
 
@@ -437,9 +438,14 @@ def main():
             counts["kept"] += why.startswith(KEPT)
             print(f"{edit.crate}/{edit.path.name}: {'refused, as it must be' if well else 'FAILED'}: {why[:200]}", flush=True)
 
+    # A library that `rt ci` keeps from another checkout isn't built in this one, so no edit above it can be tried here.
+    unbuilt = [it for it in names if given.after_ci and not all(below.is_built() for below in crates[it].below())]
+    names = [it for it in names if it not in unbuilt]
     with tempfile.TemporaryDirectory(prefix="edits-") as room:
         Lanes([Crate(crates[it], edits[it], room, budget, given.anew) for it in names], budget, tell).run(given.lanes)
     spent = budget.spent
+    if unbuilt:
+        print(f"not tried, since `rt ci` kept a library below and built none here: the edits of {', '.join(unbuilt)}")
     if counts["kept"]:
         print(f"{counts['kept']} of these were refused by an earlier run, and nothing that they stand on has changed")
     tried = counts["passed"] + counts["failed"] + counts["told"] - counts["kept"]
