@@ -82,7 +82,8 @@ module _ {R W : Type 0} (remaining : R → Option (List ℕ)) (s m t : Dechunkin
         last = over.last;
         asked = subst (λ l. AskedLast l over.last s.reader.log t.reader.log)
             (append_assoc m.taken m.reader.block.bytes over.came)
-            (AskedLast-after s.reader.log m.reader.log t.reader.log (m.taken ++ m.reader.block.bytes) over.came over.last given give
+            (AskedLast-after s.reader.log m.reader.log t.reader.log (m.taken ++ m.reader.block.bytes) over.came over.last
+            given give
             over.asked);
         due = handed_of m;
         is_due = subst (λ l. IsDue l (m.taken ++ (m.reader.block.bytes ++ over.came)) (handed_of m)) went.limits over.due;

@@ -83,7 +83,8 @@ module _ {W : Type 0} (tells : W → StreamLog) (stretch : W → W → Type 0) w
     pub chunk_writes : (answer : Result ℕ Error) → WritesChunk tells stretch b payload answer c
         → WritesOn b.writer.log.writes c.writer.log.writes
     chunk_writes (Ok n) p =
-        WritesOn-unflushed b.writer c.writer (chunks (taken_payloads payload (Ok n))) p.went.in_order (chunk_quietly n p).not_flushed
+        WritesOn-unflushed b.writer c.writer (chunks (taken_payloads payload (Ok n))) p.went.in_order
+        (chunk_quietly n p).not_flushed
     chunk_writes (Err e) p =
         let sends = chunk_not_sent e p in WritesOn-unflushed b.writer c.writer [] sends.in_order sends.not_flushed
 

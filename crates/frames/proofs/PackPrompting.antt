@@ -199,7 +199,8 @@ module _ {R W : Type 0} (remaining : R → Option (List ℕ)) (stretch : W → W
       inr (record {
         before = came ++ over.came;
         last = over.last;
-        asked = AskedLast-after s.reader.log m.reader.log t.reader.log came over.came over.last given_m (give over.going) over.asked;
+        asked = AskedLast-after s.reader.log m.reader.log t.reader.log came over.came over.last given_m (give over.going)
+            over.asked;
         due = frames before.lines;
         is_due = record {
           lines = before.lines;

@@ -9,7 +9,8 @@ returns-in_err-count-clause-moves g c =
     let p = err_from_is_err_and c.from_residual.result c.from_residual.ensures.1 in
     let read = c.in_err-count.ensures in
     rw (p.1, p.2)
-    (piece_stops g.R.TellRead.remaining c.args.source.now c.args.target.now c.requires.target c.read_piece.new.source c.read_piece.new.out
+    (piece_stops g.R.TellRead.remaining c.args.source.now c.args.target.now c.requires.target c.read_piece.new.source
+    c.read_piece.new.out
     c.in_err-count.field-0.0 read.reads c.requires.sent read.quiet)
 
 pub returns-in_err-count-clause-asks : goal.returns-in_err-count-clause-asks
@@ -23,7 +24,8 @@ returns-in_err-count-clause-writes g c = WritesOn-none _
 
 pub returns-then-count-eq0-clause-moves : goal.returns-then-count-eq0-clause-moves
 returns-then-count-eq0-clause-moves g c =
-    piece_ends g.R.TellRead.remaining c.args.source.now c.args.target.now c.requires.target c.read_piece.new.source c.read_piece.new.out
+    piece_ends g.R.TellRead.remaining c.args.source.now c.args.target.now c.requires.target c.read_piece.new.source
+    c.read_piece.new.out
     c.in_ok-count.count c.if-count-eq0.true c.in_ok-count.ensures.reads
 
 pub returns-then-count-eq0-clause-asks : goal.returns-then-count-eq0-clause-asks

@@ -12,15 +12,19 @@ use Rattle.bodies.proofs.decode.move_piece.Goals as goal
 
 pub copy_piece-requires-clause-source : goal.copy_piece-requires-clause-source
 copy_piece-requires-clause-source g c =
-    source_on g.R.TellRead.remaining c.args.source.now c.args.target.now c.has_payload.new.self c.has_payload.ensures.takes c.requires.source c.args.target.now (WritesInOrder-none c.args.target.now) c.requires.target
+    source_on g.R.TellRead.remaining c.args.source.now c.args.target.now c.has_payload.new.self
+    c.has_payload.ensures.takes c.requires.source c.args.target.now (WritesInOrder-none c.args.target.now) c.requires.target
 
 pub copy_piece-requires-clause-sent : goal.copy_piece-requires-clause-sent
 copy_piece-requires-clause-sent g c = λ isnt. absurd (isnt (c.has_payload.ensures.found.0 c.if-has_payload.true))
 
 pub returns-then-has_payload-clause-moves : goal.returns-then-has_payload-clause-moves
 returns-then-has_payload-clause-moves g c =
-    then_next g.R.TellRead.remaining c.args.source.now c.args.target.now c.has_payload.new.self c.copy_piece.new.source c.args.target.now c.copy_piece.new.target
-    (looked g.R.TellRead.remaining c.args.source.now c.args.target.now c.has_payload.new.self c.has_payload.ensures.takes c.requires.source c.args.target.now (WritesInOrder-none c.args.target.now) c.requires.target (MetInterrupts-none c.args.target.now.log.writes))
+    then_next g.R.TellRead.remaining c.args.source.now c.args.target.now c.has_payload.new.self c.copy_piece.new.source
+    c.args.target.now c.copy_piece.new.target
+    (looked g.R.TellRead.remaining c.args.source.now c.args.target.now c.has_payload.new.self c.has_payload.ensures.takes
+    c.requires.source c.args.target.now (WritesInOrder-none c.args.target.now) c.requires.target
+    (MetInterrupts-none c.args.target.now.log.writes))
     c.copy_piece.result c.copy_piece.ensures.moves
 
 pub returns-then-has_payload-clause-prompt : goal.returns-then-has_payload-clause-prompt
@@ -40,7 +44,8 @@ returns-in_err-flush-clause-moves g c =
     let p = err_from_is_err_and c.from_residual.result c.from_residual.ensures.1 in
     let f = c.in_err-flush.ensures.flushed in
     rw (p.1, p.2)
-    (not_flushed g.R.TellRead.remaining c.args.source.now c.args.target.now c.has_payload.new.self c.has_payload.ensures.takes c.requires.source c.flush.new.self f.in_order
+    (not_flushed g.R.TellRead.remaining c.args.source.now c.args.target.now c.has_payload.new.self
+    c.has_payload.ensures.takes c.requires.source c.flush.new.self f.in_order
     (record { plain = f.kind ∙ c.requires.target.plain; capacity = omega (arith, f.capacity, c.requires.target.capacity) })
     c.in_err-flush.field-0.0 f.caused)
 
@@ -52,7 +57,8 @@ returns-in_err-flush-clause-writes g c = WritesOn-grows _ _ c.in_err-flush.ensur
 
 pub copy_piece-requires-2-clause-source : goal.copy_piece-requires-2-clause-source
 copy_piece-requires-2-clause-source g c =
-    source_on g.R.TellRead.remaining c.args.source.now c.args.target.now c.has_payload.new.self c.has_payload.ensures.takes c.requires.source c.args.target.now (WritesInOrder-none c.args.target.now) c.requires.target
+    source_on g.R.TellRead.remaining c.args.source.now c.args.target.now c.has_payload.new.self
+    c.has_payload.ensures.takes c.requires.source c.args.target.now (WritesInOrder-none c.args.target.now) c.requires.target
 
 pub copy_piece-requires-2-clause-target : goal.copy_piece-requires-2-clause-target
 copy_piece-requires-2-clause-target g c =
@@ -68,8 +74,10 @@ returns-clause-moves g c =
     let f = c.in_ok-flush.ensures.flushed in
     let still : IsPieceTarget c.flush.new.self =
     record { plain = f.kind ∙ c.requires.target.plain; capacity = omega (arith, f.capacity, c.requires.target.capacity) } in
-    then_next g.R.TellRead.remaining c.args.source.now c.args.target.now c.has_payload.new.self c.copy_piece-2.new.source c.flush.new.self c.copy_piece-2.new.target
-    (looked g.R.TellRead.remaining c.args.source.now c.args.target.now c.has_payload.new.self c.has_payload.ensures.takes c.requires.source c.flush.new.self f.in_order still f.ok.met)
+    then_next g.R.TellRead.remaining c.args.source.now c.args.target.now c.has_payload.new.self c.copy_piece-2.new.source
+    c.flush.new.self c.copy_piece-2.new.target
+    (looked g.R.TellRead.remaining c.args.source.now c.args.target.now c.has_payload.new.self c.has_payload.ensures.takes
+    c.requires.source c.flush.new.self f.in_order still f.ok.met)
     c.copy_piece-2.result c.copy_piece-2.ensures.moves
 
 pub returns-clause-prompt : goal.returns-clause-prompt
@@ -83,7 +91,8 @@ returns-clause-prompt g c =
       flushed = subst (λ l. GoesOn l w.log.writes.flushed) (ok.flushed ∙ ok.received) (GoesOn-none w.log.writes.flushed);
     } in
     let taken = c.has_payload.ensures.takes in
-    sent_after g.R.TellRead.remaining c.args.source.now c.has_payload.new.self c.copy_piece-2.new.source taken.went u w v taken.told c.copy_piece-2.ensures.asks
+    sent_after g.R.TellRead.remaining c.args.source.now c.has_payload.new.self c.copy_piece-2.new.source taken.went u w v
+    taken.told c.copy_piece-2.ensures.asks
     (WasSent-on (u.log.writes.received ++ u.block.bytes) w.log.writes v.log.writes sent c.copy_piece-2.ensures.writes)
 
 pub returns-clause-give : goal.returns-clause-give

@@ -16,45 +16,55 @@ pub returns-in_err-move_piece-clause-moves : goal.returns-in_err-move_piece-clau
 returns-in_err-move_piece-clause-moves g c =
     let p = err_from_is_err_and c.from_residual.result c.from_residual.ensures.1 in
     rw (p.1, p.2)
-    (stops g.R.TellRead.remaining c.args.source.now c.args.target.now c.loop.source c.move_piece.new.source c.loop.target c.move_piece.new.target
+    (stops g.R.TellRead.remaining c.args.source.now c.args.target.now c.loop.source c.move_piece.new.source c.loop.target
+    c.move_piece.new.target
     c.loop.invariant.so_far.each c.in_err-move_piece.field-0.0 c.in_err-move_piece.ensures.moves)
 
 pub returns-in_err-move_piece-clause-prompt : goal.returns-in_err-move_piece-clause-prompt
 returns-in_err-move_piece-clause-prompt g c =
     let before = c.loop.invariant in
     let one = c.in_err-move_piece.ensures in
-    held_more g.R.TellRead.remaining c.args.source.now c.loop.source c.move_piece.new.source c.args.target.now c.loop.target c.move_piece.new.target
+    held_more g.R.TellRead.remaining c.args.source.now c.loop.source c.move_piece.new.source c.args.target.now
+    c.loop.target c.move_piece.new.target
     c.requires.unread c.requires.empty before.so_far.each before.give before.held one.prompt one.writes
 
 pub returns-then-not-branch-clause-moves : goal.returns-then-not-branch-clause-moves
 returns-then-not-branch-clause-moves g c =
-    then_next g.R.TellRead.remaining c.args.source.now c.args.target.now c.loop.source c.move_piece.new.source c.loop.target c.move_piece.new.target
+    then_next g.R.TellRead.remaining c.args.source.now c.args.target.now c.loop.source c.move_piece.new.source
+    c.loop.target c.move_piece.new.target
     c.loop.invariant.so_far.each (Ok false)
-    (subst (λ b. MovesNext g.R.TellRead.remaining c.loop.source c.loop.target (Ok b) c.move_piece.new.source c.move_piece.new.target)
+    (subst (λ b. MovesNext g.R.TellRead.remaining c.loop.source c.loop.target (Ok b) c.move_piece.new.source
+    c.move_piece.new.target)
     c.if-not-branch.true c.in_ok-move_piece.ensures.moves)
 
 pub returns-then-not-branch-clause-prompt : goal.returns-then-not-branch-clause-prompt
 returns-then-not-branch-clause-prompt g c =
     let before = c.loop.invariant in
     let one = c.in_ok-move_piece.ensures in
-    held_more g.R.TellRead.remaining c.args.source.now c.loop.source c.move_piece.new.source c.args.target.now c.loop.target c.move_piece.new.target
+    held_more g.R.TellRead.remaining c.args.source.now c.loop.source c.move_piece.new.source c.args.target.now
+    c.loop.target c.move_piece.new.target
     c.requires.unread c.requires.empty before.so_far.each before.give before.held one.prompt one.writes
 
 pub returns-then-not-branch-clause-give : goal.returns-then-not-branch-clause-give
-returns-then-not-branch-clause-give g c = gives_on c.args.source.now.reader.log c.loop.source.reader.log c.move_piece.new.source.reader.log c.loop.invariant.give c.in_ok-move_piece.ensures.give
+returns-then-not-branch-clause-give g c = gives_on c.args.source.now.reader.log c.loop.source.reader.log
+    c.move_piece.new.source.reader.log c.loop.invariant.give c.in_ok-move_piece.ensures.give
 
 pub loop-preserved : goal.loop-preserved
 loop-preserved g c =
     let before = c.loop.invariant in
     let one = c.in_ok-move_piece.ensures in
     record {
-      so_far = so_far_more g.R.TellRead.remaining c.args.source.now c.args.target.now c.loop.source c.move_piece.new.source c.loop.target c.move_piece.new.target
+      so_far = so_far_more g.R.TellRead.remaining c.args.source.now c.args.target.now c.loop.source
+          c.move_piece.new.source c.loop.target c.move_piece.new.target
           before.so_far.each c.loop.counter before.so_far.all
-          (subst (λ b. MovesNext g.R.TellRead.remaining c.loop.source c.loop.target (Ok b) c.move_piece.new.source c.move_piece.new.target)
+          (subst (λ b. MovesNext g.R.TellRead.remaining c.loop.source c.loop.target (Ok b) c.move_piece.new.source
+          c.move_piece.new.target)
           c.if-not-branch.false one.moves);
-      held = held_more g.R.TellRead.remaining c.args.source.now c.loop.source c.move_piece.new.source c.args.target.now c.loop.target c.move_piece.new.target
+      held = held_more g.R.TellRead.remaining c.args.source.now c.loop.source c.move_piece.new.source c.args.target.now
+          c.loop.target c.move_piece.new.target
           c.requires.unread c.requires.empty before.so_far.each before.give before.held one.prompt one.writes;
-      give = gives_on c.args.source.now.reader.log c.loop.source.reader.log c.move_piece.new.source.reader.log before.give one.give;
+      give = gives_on c.args.source.now.reader.log c.loop.source.reader.log c.move_piece.new.source.reader.log before.give
+          one.give;
     }
 
 pub returns-clause-moves : goal.returns-clause-moves

@@ -26,7 +26,8 @@ returns-then-is_final-clause-reads g c =
 pub returns-then-is_final-clause-asks : goal.returns-then-is_final-clause-asks
 returns-then-is_final-clause-asks g c =
     let before = c.tries.invariant in
-    asked_on _ _ _ _ before.went before.source before.met _ _ before.row before.asks before.give _ c.read_payload-answer.ensures.reads
+    asked_on _ _ _ _ before.went before.source before.met _ _ before.row before.asks before.give _
+    c.read_payload-answer.ensures.reads
 
 pub returns-then-is_final-clause-quiet : goal.returns-then-is_final-clause-quiet
 returns-then-is_final-clause-quiet g c =

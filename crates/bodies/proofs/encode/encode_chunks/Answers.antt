@@ -66,7 +66,8 @@ loop-preserved g c =
     let next = subst (λ b. EncodesNext g.R.TellRead.remaining g.W.TellWrite.stretch c.loop.source c.loop.body (Ok b)
     c.encode_next.new.source c.encode_next.new.body) c.if-not-branch.false one.encodes in
     record {
-      so_far = so_far_more g.R.TellRead.remaining g.W.TellWrite.stretch g.met.W.TellWrite.stretch_none g.met.W.TellWrite.stretch_joins
+      so_far = so_far_more g.R.TellRead.remaining g.W.TellWrite.stretch g.met.W.TellWrite.stretch_none
+          g.met.W.TellWrite.stretch_joins
           c.args.source.now c.args.body.now c.loop.source c.encode_next.new.source c.loop.body c.encode_next.new.body
           before.so_far.each before.so_far.never c.loop.counter before.so_far.all next;
       held = held_more g.R.TellRead.remaining g.W.TellWrite.stretch c.args.source.now c.loop.source c.encode_next.new.source

@@ -66,4 +66,5 @@ chunk_next-requires-2-clause-sent g c = λ _.
 
 pub chunk_next-requires-clause-sent : goal.chunk_next-requires-clause-sent
 chunk_next-requires-clause-sent g c = λ none. absurd
-    (not_empty c.args.source.now c.buffer.result.now c.buffer.ensures.value (sym c.if-not-is_empty.true ∙ c.is_empty.ensures) none)
+    (not_empty c.args.source.now c.buffer.result.now c.buffer.ensures.value
+    (sym c.if-not-is_empty.true ∙ c.is_empty.ensures) none)

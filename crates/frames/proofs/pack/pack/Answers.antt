@@ -47,7 +47,8 @@ returns-clause-ran g c =
       ← made.log,
       ← made.max,
     )
-    (pack_ran g.R.TellRead.remaining g.W.TellWrite.stretch c.in-Ok.source c.pack_all-answer.new.source c.in-Ok-with_capacity.target
+    (pack_ran g.R.TellRead.remaining g.W.TellWrite.stretch c.in-Ok.source c.pack_all-answer.new.source
+    c.in-Ok-with_capacity.target
     c.pack_all-answer.new.target read.empty made.empty (read.max ∙ c.from.ensures ∙ sym made.max) c.pack_all-answer.result
     c.pack_all-answer.ensures.packs)
 
