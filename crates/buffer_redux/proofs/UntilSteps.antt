@@ -1,5 +1,5 @@
 -- The turns and the ends of a call that goes on up to a byte.
-use Rattle.std.proofs.Common.{◌≡◌, ℕ, ◌+◌, ◌-◌, ◌<◌, ◌≤◌, List, [], ◌++◌, length, take, Result, Ok, Err, Option, sym, ap, subst, ◌∙◌, inl, inr, arith, append-nil, append_assoc, length-append, length-take-le}
+use Rattle.std.proofs.Common.{◌≡◌, ℕ, suc, ◌+◌, ◌-◌, ◌<◌, ◌≤◌, List, [], ◌++◌, length, take, Result, Ok, Err, Option, refl, sym, ap, subst, ◌∙◌, inl, inr, arith, append-nil, append_assoc, length-append, length-take-le}
 use Rattle.std.proofs.lemmas.List.{nil_from_length}
 use Rattle.std.proofs.Math.Seq.{take-length}
 use Rattle.std.specs.IoError.{error_kind}
@@ -10,10 +10,11 @@ use Rattle.redux_tell.specs.Faults.{OnlyInterrupts, OnlyInterrupts-none, OnlyInt
 use Rattle.redux_tell.specs.StreamLog.{StreamLog}
 use Rattle.redux_policy.specs.Policy.{ReadRules}
 use Rattle.buffer_redux.specs.Buffered.{Buffered}
+use Rattle.buffer_redux.specs.BufReader.{ReaderConsumes}
 use Rattle.buffer_redux.specs.FillRetried.{FillRetried}
 use Rattle.buffer_redux.specs.ReadAll.{HandedFront}
 use Rattle.buffer_redux.specs.ReaderLaws.{ReaderKeeps-along, WantsBytes}
-use Rattle.buffer_redux.specs.ReadUntil.{EndsUntil, FirstAt, Lacks, Passes, PassesAndFills, PassesToEnd, Reaches, Stops, no_memory}
+use Rattle.buffer_redux.specs.ReadUntil.{EndsUntil, FirstAt, Lacks, Passes, PassesAndFills, PassesToEnd, Reaches, Steps, Stops, no_memory}
 use Rattle.buffer_redux.proofs.ReadAll.{front_none, front_joins}
 use Rattle.buffer_redux.proofs.Retrying.{retried_dry, retried_front, retried_only}
 use Rattle.buffer_redux.proofs.Searching.{ends_in, lacks_none, lacks_both}
@@ -29,19 +30,25 @@ module _ {S P : Type 0} (remaining : S → Option (List ℕ)) (rules : ReadRules
     front = front_none remaining rules s whole;
     plain = lacks_none byte;
     faults = OnlyInterrupts-none s.log.reads.faults;
+    steps = (0, refl);
   }
 
   module _ (s m : Buffered S P) (handed : List ℕ) (before : Passes remaining rules byte s handed m) where
+    steps_consumed : (t : Buffered S P) (n : ℕ) → ReaderConsumes rules n m t
+        → (count : ℕ) × Steps remaining rules count s t
+    steps_consumed t n gone = (suc before.steps.0, (m, before.steps.1, inl (n, gone)))
+
     -- then all that is buffered is handed out, which lacks the byte
     pub passes_all : (t : Buffered S P) (n : ℕ) → n ≡ length m.block.bytes → Lacks byte m.block.bytes
-        → HandedFront remaining rules m (take n m.block.bytes) t → t.log ≡ m.log
+        → HandedFront remaining rules m (take n m.block.bytes) t → ReaderConsumes rules n m t
         → Passes remaining rules byte s (handed ++ m.block.bytes) t
-    passes_all t n count plain went told = record {
+    passes_all t n count plain went gone = record {
       front = front_joins remaining rules s m t handed m.block.bytes before.front
           (subst (λ l. HandedFront remaining rules m l t) (ap (λ k. take k m.block.bytes) count ∙ take-length m.block.bytes)
           went);
       plain = lacks_both byte handed m.block.bytes before.plain plain;
-      faults = told_only s.log m.log t.log told before.faults;
+      faults = told_only s.log m.log t.log gone.told before.faults;
+      steps = steps_consumed t n gone;
     }
 
     -- or a fill is made
@@ -57,6 +64,7 @@ module _ {S P : Type 0} (remaining : S → Option (List ℕ)) (rules : ReadRules
       plain = before.plain;
       faults = OnlyInterrupts-joins s.log.reads.faults m.log.reads.faults t.log.reads.faults before.faults
           (retried_only remaining rules m t f);
+      steps = (suc before.steps.0, (m, before.steps.1, inr f));
     }
 
     pub passes_and_fills : (answer : Result (Unit {0}) Error) (t : Buffered S P) → FillRetried remaining rules m answer t
@@ -86,11 +94,12 @@ module _ {S P : Type 0} (remaining : S → Option (List ℕ)) (rules : ReadRules
     front_reached at t went =
         front_joins remaining rules s m t handed (take (at + 1) m.block.bytes) before.front went
 
-    pub reaches : (at : ℕ) (t : Buffered S P) → FirstAt byte at m.block.bytes → t.log ≡ m.log
-        → Reaches byte s (handed ++ take (at + 1) m.block.bytes) t
-    reaches at t first told = record {
+    pub reaches : (at : ℕ) (t : Buffered S P) → FirstAt byte at m.block.bytes → ReaderConsumes rules (at + 1) m t
+        → Reaches remaining rules byte s (handed ++ take (at + 1) m.block.bytes) t
+    reaches at t first gone = record {
       ends = ends_in byte at handed m.block.bytes first before.plain;
-      faults = told_only s.log m.log t.log told before.faults;
+      faults = told_only s.log m.log t.log gone.told before.faults;
+      steps = steps_consumed t (at + 1) gone;
     }
 
     -- how the call ends: with the fault of a fill, where a fill showed nothing, at the byte, or of its own
@@ -104,9 +113,9 @@ module _ {S P : Type 0} (remaining : S → Option (List ℕ)) (rules : ReadRules
       until_end n t count f none = (count, inr (passes_to_end t f none))
 
       pub until_reached : (n at : ℕ) (t : Buffered S P) → n ≡ length (handed ++ take (at + 1) m.block.bytes)
-          → FirstAt byte at m.block.bytes → t.log ≡ m.log
+          → FirstAt byte at m.block.bytes → ReaderConsumes rules (at + 1) m t
           → EndsUntil remaining rules stops byte s (Ok n) (handed ++ take (at + 1) m.block.bytes) t
-      until_reached n at t count first told = (count, inl (reaches at t first told))
+      until_reached n at t count first gone = (count, inl (reaches at t first gone))
 
       pub until_stopped : (e : Error) → stops handed e m.block.bytes
           → EndsUntil remaining rules stops byte s (Err e) handed m

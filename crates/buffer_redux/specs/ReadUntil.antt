@@ -1,5 +1,5 @@
 -- What calls promise that go on up to a byte, fill after fill.
-use Rattle.std.specs.Prelude.{◌≡◌, ℕ, ◌+◌, ◌^◌, ◌<◌, ◌≤◌, ◌⊎◌, List, [], ◌∷◌, ◌++◌, length, take, drop, Result, Ok, Err, Option}
+use Rattle.std.specs.Prelude.{◌≡◌, ℕ, zero, suc, ◌+◌, ◌^◌, ◌<◌, ◌≤◌, ◌⊎◌, List, [], ◌∷◌, ◌++◌, length, take, drop, Result, Ok, Err, Option}
 use Rattle.std.specs.List.{All}
 use Rattle.std.specs.IoError.{error_kind}
 use Rattle.std.specs.declared.io.Error.{Error}
@@ -7,7 +7,7 @@ use Rattle.std.specs.declared.io.ErrorKind.TheVariants.{OutOfMemory, TimedOut}
 use Rattle.redux_tell.specs.Faults.{OnlyInterrupts}
 use Rattle.redux_policy.specs.Policy.{ReadRules}
 use Rattle.buffer_redux.specs.Buffered.{Buffered}
-use Rattle.buffer_redux.specs.BufReader.{ReadsToEnd}
+use Rattle.buffer_redux.specs.BufReader.{ReaderConsumes, ReadsToEnd}
 use Rattle.buffer_redux.specs.FillRetried.{FillRetried}
 use Rattle.buffer_redux.specs.ReadAll.{HandedFront}
 use Rattle.buffer_redux.specs.ReaderLaws.{WantsBytes}
@@ -28,12 +28,19 @@ pub record EndsIn (byte : ℕ) (bytes : List ℕ) : Type 0 where
   pub plain : Lacks byte front
   pub equal : bytes ≡ front ++ byte ∷ []
 
+-- so many steps led from s to t, each of them a consume, of which the policy is told, or a fill
+abbrev pub Steps : {S P : Type 0} → (S → Option (List ℕ)) → ReadRules P → ℕ → Buffered S P → Buffered S P → Type 0
+Steps remaining rules zero s t = s ≡ t
+Steps {S} {P} remaining rules (suc count) s t = (m : Buffered S P) × Steps remaining rules count s m
+    × (((n : ℕ) × ReaderConsumes rules n m t) ⊎ FillRetried remaining rules m (Ok tt) t)
+
 -- these bytes were handed out, which lack the byte, and no fault came but interrupted reads
 pub record Passes {S P : Type 0} (remaining : S → Option (List ℕ)) (rules : ReadRules P) (byte : ℕ)
     (s : Buffered S P) (handed : List ℕ) (t : Buffered S P) : Type 0 where
   pub front : HandedFront remaining rules s handed t
   pub plain : Lacks byte handed
   pub faults : OnlyInterrupts s.log.reads.faults t.log.reads.faults
+  pub steps : (count : ℕ) × Steps remaining rules count s t
 
 -- then a fill, made again where it was interrupted, answered so
 pub record PassesAndFills {S P : Type 0} (remaining : S → Option (List ℕ)) (rules : ReadRules P) (byte : ℕ)
@@ -50,9 +57,11 @@ pub record PassesToEnd {S P : Type 0} (remaining : S → Option (List ℕ)) (rul
   pub end : WantsBytes (rules.claims s.policy) → 0 < s.block.capacity → ReadsToEnd remaining rules s handed t
 
 -- these bytes end in the byte, and no fault came but interrupted reads
-pub record Reaches {S P : Type 0} (byte : ℕ) (s : Buffered S P) (handed : List ℕ) (t : Buffered S P) : Type 0 where
+pub record Reaches {S P : Type 0} (remaining : S → Option (List ℕ)) (rules : ReadRules P) (byte : ℕ)
+    (s : Buffered S P) (handed : List ℕ) (t : Buffered S P) : Type 0 where
   pub ends : EndsIn byte handed
   pub faults : OnlyInterrupts s.log.reads.faults t.log.reads.faults
+  pub steps : (count : ℕ) × Steps remaining rules count s t
 
 -- the call stopped of its own before what is buffered, for which it had no memory, or which no usize counts
 abbrev pub Stops : Type 1
@@ -69,7 +78,7 @@ no_count handed e buffered = (error_kind e ≡ TimedOut) × (2 ^ 64 ≤ length h
 abbrev pub EndsUntil : {S P : Type 0} → (S → Option (List ℕ)) → ReadRules P → Stops → ℕ → Buffered S P
     → Result ℕ Error → List ℕ → Buffered S P → Type 0
 EndsUntil remaining rules stops byte s (Ok n) handed t =
-    (n ≡ length handed) × (Reaches byte s handed t ⊎ PassesToEnd remaining rules byte s handed t)
+    (n ≡ length handed) × (Reaches remaining rules byte s handed t ⊎ PassesToEnd remaining rules byte s handed t)
 EndsUntil remaining rules stops byte s (Err e) handed t =
     PassesAndFills remaining rules byte s handed (Err e) t
     ⊎ (Passes remaining rules byte s handed t × stops handed e t.block.bytes)
@@ -93,6 +102,7 @@ pub record ReadsUntil {S P : Type 0} (remaining : S → Option (List ℕ)) (rule
 abbrev pub AppendsFirst : {S P A : Type 0} → (S → Option (List ℕ)) → ReadRules P → ℕ → Buffered S P → List ℕ
     → Result A Error → List ℕ → Buffered S P → Type 0
 AppendsFirst remaining rules n s before (Ok a) after t =
-    (after ≡ before ++ take n s.block.bytes) × HandedFront remaining rules s (take n s.block.bytes) t × (t.log ≡ s.log)
+    (after ≡ before ++ take n s.block.bytes) × HandedFront remaining rules s (take n s.block.bytes) t
+    × ReaderConsumes rules n s t
 AppendsFirst remaining rules n s before (Err e) after t =
     (after ≡ before) × (t ≡ s) × (0 < n) × (error_kind e ≡ OutOfMemory)

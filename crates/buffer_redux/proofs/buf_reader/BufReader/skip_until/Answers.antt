@@ -19,7 +19,7 @@ returns-in-Some g c =
       front = record { in_order = gone.in_order; keeps = gone.keeps };
       ends = until_reached remaining rules c.args.byte s s [] (passes_none remaining rules c.args.byte s whole) no_count
           (c.in-Some.at + 1) c.in-Some.at c.consume.new.self
-          (omega (arith, through_length c.args.byte c.in-Some.at [] s.block.bytes first)) first gone.consumed.told;
+          (omega (arith, through_length c.args.byte c.in-Some.at [] s.block.bytes first)) first gone.consumed;
     } in
     record { until = until; count = SkipsUntil-known remaining rules c.args.byte s _ _ until }
 

@@ -35,7 +35,7 @@ returns-in_err-fill_retried g c =
     let p = err_from_is_err_and c.from_residual-in_err-fill_retried.result
     c.from_residual-in_err-fill_retried.ensures.1 in
     let passes = passes_all _ _ _ _ c.fills.self before.handed before.passes c.consume.new.self c.fills.len before.size
-    before.behind (record { in_order = gone.in_order; keeps = gone.keeps }) gone.consumed.told in
+    before.behind (record { in_order = gone.in_order; keeps = gone.keeps }) gone.consumed in
     rw (p.1, p.2) (record {
       until = record {
         handed = before.handed ++ c.fills.self.block.bytes;
@@ -50,7 +50,7 @@ returns-then-is_empty g c =
     let gone = c.consume.ensures in
     let f = c.in_ok-fill_retried.ensures.retried in
     let passes = passes_all _ _ _ _ c.fills.self before.handed before.passes c.consume.new.self c.fills.len before.size
-    before.behind (record { in_order = gone.in_order; keeps = gone.keeps }) gone.consumed.told in
+    before.behind (record { in_order = gone.in_order; keeps = gone.keeps }) gone.consumed in
     let none = sym (ap (λ x. length x.block.bytes) c.self-in-fills.view_is)
     ∙ c.is_empty.ensures.value.0 c.if-is_empty.true in record {
       until = record {
@@ -74,7 +74,7 @@ returns-in_err-total-in-Some g c =
     let p = err_from_is_err_and c.from_residual-in_err-total-in-Some.result
     c.from_residual-in_err-total-in-Some.ensures.1 in
     let passes = passes_all _ _ _ _ c.fills.self before.handed before.passes c.consume.new.self c.fills.len before.size
-    before.behind (record { in_order = gone.in_order; keeps = gone.keeps }) gone.consumed.told in
+    before.behind (record { in_order = gone.in_order; keeps = gone.keeps }) gone.consumed in
     let now = passes_filled _ _ _ _ _ _ passes c.fill_retried.new.self c.in_ok-fill_retried.ensures.retried in
     let shown : c.buf.result.now ≡ c.fill_retried.new.self.block.bytes =
     c.buf.ensures ∙ ap (λ x. x.block.bytes) c.self-in-fills.view_is in
@@ -105,7 +105,7 @@ returns-in-Some g c =
     let went = c.consume-in-Some.ensures in
     let f = c.in_ok-fill_retried.ensures.retried in
     let passes = passes_all _ _ _ _ c.fills.self before.handed before.passes c.consume.new.self c.fills.len before.size
-    before.behind (record { in_order = gone.in_order; keeps = gone.keeps }) gone.consumed.told in
+    before.behind (record { in_order = gone.in_order; keeps = gone.keeps }) gone.consumed in
     let now = passes_filled _ _ _ _ _ _ passes c.fill_retried.new.self f in
     let shown : c.buf.result.now ≡ c.fill_retried.new.self.block.bytes =
     c.buf.ensures ∙ ap (λ x. x.block.bytes) c.self-in-fills.view_is in
@@ -122,7 +122,7 @@ returns-in-Some g c =
           before.size,
           length-append before.handed c.fills.self.block.bytes,
           through_length c.args.byte c.in-Some.at handed c.fill_retried.new.self.block.bytes first,
-        )) first went.consumed.told;
+        )) first went.consumed;
       };
     }
 
@@ -131,7 +131,7 @@ fills-preserved g c =
     let before = c.fills.invariant in
     let gone = c.consume.ensures in
     let passes = passes_all _ _ _ _ c.fills.self before.handed before.passes c.consume.new.self c.fills.len before.size
-    before.behind (record { in_order = gone.in_order; keeps = gone.keeps }) gone.consumed.told in
+    before.behind (record { in_order = gone.in_order; keeps = gone.keeps }) gone.consumed in
     let shown : c.buf.result.now ≡ c.fill_retried.new.self.block.bytes =
     c.buf.ensures ∙ ap (λ x. x.block.bytes) c.self-in-fills.view_is in record {
       handed = before.handed ++ c.fills.self.block.bytes;
