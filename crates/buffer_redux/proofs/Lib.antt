@@ -1,3 +1,4 @@
+pub mod Testing
 pub mod Turning
 pub mod SparingFacts
 pub mod FillFacts

@@ -38,6 +38,7 @@ pub mod Peek
 pub mod ReadByte
 pub mod ReadUntil
 pub mod UntilLaws
+pub mod Pieces
 pub mod Unbuffer
 pub mod BufWriter
 pub mod WriteAll

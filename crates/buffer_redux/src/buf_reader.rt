@@ -27,11 +27,13 @@ use std::marker::Model;
 use std::{fmt, io};
 
 mod bytes;
+mod pieces;
 mod seek;
 mod steps;
 mod tells;
 mod until;
 
+pub use pieces::{Lines, Split};
 pub use seek::{SeekPlan, seek_plan};
 
 /// A reader with a buffer, which reads ahead as its policy says.

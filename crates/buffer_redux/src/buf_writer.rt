@@ -226,6 +226,18 @@ impl<W: TellWrite, P> BufWriter<W, P> {
         if amount == 0 || amount > self.buf.len() {
             return Ok(());
         }
+        self.send_first(amount)
+    }
+
+    // Inlined, as `write_aside` is.
+    #[inline(always)]
+    fn send_first(&mut self, amount: usize) -> io::Result<()>
+        requires some { 0 < amount }
+        requires within { amount ≤ length self.old.block.bytes }
+        ensures flushed { FlushesAmount amount self.old result self.new }
+        ensures whole { IsBlock self.new.block }
+        ensures stretch { InnerWent W.log W.stretch self.old self.new }
+    {
         self.buf.write_max(amount, &mut self.inner)
     }
 

@@ -12,7 +12,7 @@ mod errors;
 mod line_writer;
 mod unbuffer;
 
-pub use buf_reader::{BufReader, SeekPlan, seek_plan};
+pub use buf_reader::{BufReader, Lines, SeekPlan, Split, seek_plan};
 pub use buf_writer::BufWriter;
 pub use errors::{IntoInnerError, MakeError};
 pub use line_writer::LineWriter;

@@ -82,6 +82,15 @@ impl<R: TellRead, P: ReaderPolicy> BufReader<R, P> {
         if self.buf.len() >= n {
             return Ok(());
         }
+        self.read_ahead_aside(n)
+    }
+
+    // Inlined, as `read_byte_aside` is, so that an answer is cleared only where it is asked for.
+    #[inline(always)]
+    fn read_ahead_aside(&mut self, n: usize) -> io::Result<()>
+        requires fits { n ≤ self.old.block.capacity }
+        ensures ahead { ReadsAhead R.remaining P.rules n self.old result self.new }
+    {
         self.read_ahead_slowly(n)
     }
 

@@ -1,14 +1,11 @@
 use Rattle.std.proofs.Common.{◌≡◌, ℕ, zero, suc, ◌==◌, ◌<◌, true, false, length, Ok, Err, refl, ap, inl, subst, sym, ◌∙◌, arith}
 use Rattle.buffer_redux.specs.Buffered.{Buffered}
 use Rattle.buffer_redux.specs.ReadInside.{AskedRead, ReadsInside}
+use Rattle.buffer_redux.proofs.Testing.{some_of}
 use Rattle.buffer_redux.proofs.ReadSteps.{keeps_length, one_read_says, asked_so, declined_did, refused_did}
 use Rattle.buffer_redux.proofs.ReadAll.{all_at_once, exact_says}
 use Rattle.buffer_redux.proofs.buf_reader.BufReaderRead.read_exact.Goals as goal
 use Rattle.buffer_redux.proofs.buf_reader.BufReaderRead.read_exact.Goals.{After-before_read}
-
-none_not : (n : ℕ) → (n == 0) ≡ false → 0 < n
-none_not zero is = cc
-none_not (suc n) is = omega arith
 
 -- the reader once its policy was asked, which has a byte buffered and all that the slice has room for
 abbrev asked_reader : (g : _) → goal.After-before_read g → Buffered g.row.R.Denot g.row.P.Denot
@@ -27,7 +24,7 @@ asked g c =
     (record { asked = c.before_read.ensures; whole = c.self-2.invariant; inner = refl; told = refl; noted = refl })
 
 offers_some : (g : _) (c : goal.After-before_read g) → 0 < length c.args.out.now
-offers_some g c = none_not (length c.args.out.now) (sym c.is_empty-else-len-out.ensures ∙ c.if-is_empty-2.false)
+offers_some g c = some_of (length c.args.out.now) (sym c.is_empty-else-len-out.ensures ∙ c.if-is_empty-2.false)
 
 has_some : (g : _) (c : goal.After-before_read g) → 0 < length c.args.self.now.block.bytes
 has_some g c = omega (

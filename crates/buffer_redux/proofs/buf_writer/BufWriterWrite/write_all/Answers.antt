@@ -3,18 +3,11 @@ use Rattle.std.proofs.lemmas.List.{nil_from_length}
 use Rattle.redux_buffer.specs.Block.{usable}
 use Rattle.buffer_redux.specs.Buffered.{Buffered}
 use Rattle.buffer_redux.specs.WriteAll.{AskedFirst}
+use Rattle.buffer_redux.proofs.Testing.{some_of, zero_of}
 use Rattle.buffer_redux.proofs.WriteOn.{writes_on, flushes_none, takes_in_all}
 use Rattle.buffer_redux.proofs.WriteAll.{all_none, all_at_once, all_says}
 use Rattle.buffer_redux.proofs.buf_writer.BufWriterWrite.write_all.Goals as goal
 use Rattle.buffer_redux.proofs.buf_writer.BufWriterWrite.write_all.Goals.{In-Ok}
-
-zero_of : (n : ℕ) → (n == 0) ≡ true → n ≡ 0
-zero_of zero is = refl
-zero_of (suc n) is = grind (arith, is)
-
-some_of : (n : ℕ) → (n == 0) ≡ false → 0 < n
-some_of zero is = absurd (let odd = is in cc)
-some_of (suc n) is = omega arith
 
 -- what the policy answered where it returned no error
 asked_first : (g : _) (c : goal.In-Ok g) (amount : ℕ) → c.in-Ok.field-0.0 ≡ amount → AskedFirst g.W.Tell.log
