@@ -20,4 +20,6 @@ pub mod Searching
 pub mod AheadSteps
 pub mod ByteSteps
 pub mod UntilSteps
+pub mod Utf8Fronts
+pub mod LineSteps
 pub mod ReadSteps

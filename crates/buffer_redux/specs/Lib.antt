@@ -37,6 +37,7 @@ pub mod FillRetried
 pub mod Peek
 pub mod ReadByte
 pub mod ReadUntil
+pub mod ReadLine
 pub mod UntilLaws
 pub mod Unbuffer
 pub mod BufWriter
