@@ -107,10 +107,10 @@ module _ {S P : Type 0} (remaining : S → Option (List ℕ)) (rules : ReadRules
   going_on =
       let again = retrying remaining rules (ReadsBehind remaining rules) reading in
       let fill = refilling remaining rules in record {
-        front = λ s answer t f. elim f [ inl a ↦ fill.front s answer t a.1 | inr b ↦ again.front s answer t b.1 ];
-        only = λ s t f. elim f [ inl a ↦ fill.only s t a.1 | inr b ↦ again.only s t b.1 ];
+        front = λ s answer t f. elim f [ inl a ↦ fill.front s answer t a.1 | inr b ↦ again.front s answer t b.2 ];
+        only = λ s t f. elim f [ inl a ↦ fill.only s t a.1 | inr b ↦ again.only s t b.2 ];
         interrupt = λ s e t is f.
-            elim f [ inl a ↦ fill.interrupt s e t is a.1 | inr b ↦ again.interrupt s e t is b.1 ];
+            elim f [ inl a ↦ fill.interrupt s e t is a.1 | inr b ↦ again.interrupt s e t is b.2 ];
       }
 
   interrupted_bytes : (k : ℕ) (s m : Buffered S P) → InterruptedSteps (ReadsBehind remaining rules) k s m
@@ -138,19 +138,19 @@ module _ {S P : Type 0} (remaining : S → Option (List ℕ)) (rules : ReadRules
   line_filled s (Ok tt) t none f = (inl (none, f), λ some. absurd (omega (arith, some, none)))
   line_filled s (Err e) t none f = inl (inl (none, f))
 
-  pub line_more : (s t : Buffered S P) → 0 < length s.block.bytes → BehindRetried remaining rules s (Ok tt) t
+  pub line_more : (s t : Buffered S P) → 0 < length s.block.bytes → IsPart s.block.bytes → BehindRetried remaining rules s (Ok tt) t
       → ¬ (length t.block.bytes ≡ length s.block.bytes) → FillsLine {A = Unit {0}} remaining rules s (Ok tt) t
-  line_more s t some read more = (inr (some, read), λ _. elim (behind_ended s t read) [
+  line_more s t some part read more = (inr (some, part, read), λ _. elim (behind_ended s t read) [
     | inl grew ↦ grew
     | inr none ↦ absurd (more (ap length none.0))
   ])
 
-  pub line_broken : (s : Buffered S P) (e : Error) (t : Buffered S P) → 0 < length s.block.bytes
+  pub line_broken : (s : Buffered S P) (e : Error) (t : Buffered S P) → 0 < length s.block.bytes → IsPart s.block.bytes
       → BehindRetried remaining rules s (Ok tt) t → length t.block.bytes ≡ length s.block.bytes
       → error_kind e ≡ InvalidData → FillsLine {A = Unit {0}} remaining rules s (Err e) t
-  line_broken s e t some read same kind = elim (behind_ended s t read) [
+  line_broken s e t some part read same kind = elim (behind_ended s t read) [
     | inl grew ↦ absurd (omega (arith, grew, same))
-    | inr none ↦ inr (kind, inr (some, read), some, none.0, none.1)
+    | inr none ↦ inr (kind, inr (some, part, read), some, none.0, none.1)
   ]
 
   -- after these bytes were handed out

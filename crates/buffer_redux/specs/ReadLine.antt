@@ -57,12 +57,12 @@ pub record ReadsBehind {S P A : Type 0} (remaining : S → Option (List ℕ)) (r
 abbrev pub BehindRetried : {S P : Type 0} → (S → Option (List ℕ)) → ReadRules P → Step (Buffered S P)
 BehindRetried remaining rules = Retried (ReadsBehind remaining rules)
 
--- how a line goes on: by a fill where nothing is buffered, and by such a read behind some bytes
+-- how a line goes on: by a fill where nothing is buffered, and by such a read behind a part of a character
 abbrev pub FillsOn : {S P : Type 0} → (S → Option (List ℕ)) → ReadRules P → Step (Buffered S P)
 FillsOn remaining rules s answer t = ((length s.block.bytes ≡ 0) × FillRetried remaining rules s answer t)
-    ⊎ ((0 < length s.block.bytes) × BehindRetried remaining rules s answer t)
+    ⊎ ((0 < length s.block.bytes) × IsPart s.block.bytes × BehindRetried remaining rules s answer t)
 
--- so it did, and a read behind some bytes gave more; or it failed; or the stream ended behind them
+-- so it did, and such a read gave more bytes; or it failed; or the stream ended behind that part
 abbrev pub FillsLine : {S P A : Type 0} → (S → Option (List ℕ)) → ReadRules P → Buffered S P → Result A Error
     → Buffered S P → Type 0
 FillsLine remaining rules s (Ok a) t = FillsOn remaining rules s (Ok tt) t

@@ -4,7 +4,7 @@ ghost use Rattle.std.specs.Io.BufRead.{take_through};
 ghost use Rattle.std.specs.IoError.{error_kind};
 ghost use Rattle.redux_buffer.specs.Block.{IsBlock, usable};
 ghost use Rattle.redux_buffer.specs.GrowError.{GrowthRefused};
-ghost use Rattle.buffer_redux.specs.ReadLine.{AppendsLine, AppendsText, FillsLine, FrontOf, MakesSpace, NeverUtf8, ReadsBehind, ReadsLine};
+ghost use Rattle.buffer_redux.specs.ReadLine.{AppendsLine, AppendsText, FillsLine, FrontOf, IsPart, MakesSpace, NeverUtf8, ReadsBehind, ReadsLine};
 ghost use Rattle.buffer_redux.specs.FillRetried.{Retried};
 ghost use Rattle.buffer_redux.specs.ReadUntil.{Lacks};
 ghost use Rattle.buffer_redux.specs.Remaining.{reader_remaining};
@@ -106,6 +106,7 @@ impl<R: TellRead, P: ReaderPolicy> BufReader<R, P> {
 
     // Fills, or reads on behind a part of a character, which the end of the stream makes `InvalidData`.
     fn fill_line(&mut self) -> io::Result<()>
+        requires part { IsPart self.old.block.bytes }
         ensures fills { FillsLine R.remaining P.rules self.old result self.new }
     {
         let len = self.buf.len();

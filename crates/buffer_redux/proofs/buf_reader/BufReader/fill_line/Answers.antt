@@ -7,7 +7,7 @@ returns-then-len g c =
     let was = c.len-len.ensures.value ∙ ap (λ x. length x.block.bytes) c.self.view_is in
     let is = c.len.ensures.value ∙ ap (λ x. length x.block.bytes) c.self-2.view_is in record {
       fills = line_broken g.R.TellRead.remaining g.P.ReaderPolicy.rules c.args.self.now c.from.result
-          c.read_behind_retried.new.self (omega (arith, was, c.if-len-eq0.false))
+          c.read_behind_retried.new.self (omega (arith, was, c.if-len-eq0.false)) c.requires.part
           c.in_ok-read_behind_retried.ensures.retried (sym is ∙ c.if-len.true ∙ was) c.from.ensures;
     }
 
@@ -16,6 +16,6 @@ returns g c =
     let was = c.len-len.ensures.value ∙ ap (λ x. length x.block.bytes) c.self.view_is in
     let is = c.len.ensures.value ∙ ap (λ x. length x.block.bytes) c.self-2.view_is in record {
       fills = line_more g.R.TellRead.remaining g.P.ReaderPolicy.rules c.args.self.now c.read_behind_retried.new.self
-          (omega (arith, was, c.if-len-eq0.false)) c.in_ok-read_behind_retried.ensures.retried
+          (omega (arith, was, c.if-len-eq0.false)) c.requires.part c.in_ok-read_behind_retried.ensures.retried
           (λ same. c.if-len.false (is ∙ same ∙ sym was));
     }
