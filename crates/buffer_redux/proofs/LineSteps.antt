@@ -163,6 +163,12 @@ module _ {S P : Type 0} (remaining : S → Option (List ℕ)) (rules : ReadRules
         passes_first remaining rules 10 s m handed before t a.0 (All-take (λ b. ¬ (b ≡ 10)) a.0 m.block.bytes plain)
         a.2.0.1 a.2.0.2
 
+    -- what stays buffered lacks a line feed too
+    pub text_leaves : (t : Buffered S P) (old new : List ℕ) → Lacks 10 m.block.bytes
+        → AppendsText {A = Unit {0}} remaining rules m old (Ok tt) new t → Lacks 10 t.block.bytes
+    text_leaves t old new plain a =
+        subst (Lacks 10) (sym a.3) (All-drop (λ b. ¬ (b ≡ 10)) a.0 m.block.bytes plain)
+
     stopped_at : (e : Error) (t : Buffered S P) → t ≡ m → no_text handed e m.block.bytes
         → HandedFront remaining rules s handed t × EndsLine remaining rules s (Err e) handed t
     stopped_at e t same why = subst
@@ -185,14 +191,14 @@ module _ {S P : Type 0} (remaining : S → Option (List ℕ)) (rules : ReadRules
       | inr bad ↦ inr (bad.0, subst NeverUtf8 (first_through 10 at m.block.bytes first) (never_line at m.block.bytes first bad.1))
     ])
 
-    pub fill_failed : (e : Error) (t : Buffered S P) → IsPart m.block.bytes
+    pub fill_failed : (e : Error) (t : Buffered S P) → IsPart m.block.bytes → Lacks 10 m.block.bytes
         → FillsLine {A = Unit {0}} remaining rules m (Err e) t
         → HandedFront remaining rules s handed t × EndsLine remaining rules s (Err e) handed t
-    fill_failed e t part (inl f) = (
+    fill_failed e t part plain (inl f) = (
       front_filled remaining rules 10 s m handed before going_on (Err e) t f,
       inl (until_failed remaining rules 10 s m handed before no_text e t f),
     )
-    fill_failed e t part (inr ended) = (
+    fill_failed e t part plain (inr ended) = (
       front_filled remaining rules 10 s m handed before going_on (Ok tt) t ended.1,
       inr (record {
         fills = record { last = m; passes = before; fill = ended.1 };
@@ -200,6 +206,7 @@ module _ {S P : Type 0} (remaining : S → Option (List ℕ)) (rules : ReadRules
         dry = ended.4;
         some = omega (arith, ended.2, ap length ended.3);
         part = subst IsPart (sym ended.3) part;
+        plain = subst (Lacks 10) (sym ended.3) plain;
         kind = ended.0;
       }),
     )

@@ -37,8 +37,9 @@ pub mod FillRetried
 pub mod Peek
 pub mod ReadByte
 pub mod ReadUntil
-pub mod ReadLine
 pub mod UntilLaws
+pub mod ReadLine
+pub mod LineLaws
 pub mod Unbuffer
 pub mod BufWriter
 pub mod WriteAll

@@ -1,5 +1,5 @@
 -- What a call promises that appends a line to a text.
-use Rattle.std.specs.Prelude.{◌≡◌, ℕ, ◌+◌, ◌*◌, ◌<◌, ◌≤◌, ◌⊎◌, List, [], ◌∷◌, ◌++◌, length, take, drop, Result, Ok, Err, Option, IsUtf8}
+use Rattle.std.specs.Prelude.{◌≡◌, ℕ, ◌+◌, ◌*◌, ◌<◌, ◌≤◌, ◌⊎◌, List, [], ◌∷◌, ◌++◌, length, take, drop, Result, Ok, Err, Option, IfSome, IsUtf8, ⊤}
 use Rattle.std.specs.Io.BufRead.{take_through}
 use Rattle.std.specs.IoError.{error_kind}
 use Rattle.std.specs.declared.io.Error.{Error}
@@ -12,6 +12,7 @@ use Rattle.buffer_redux.specs.Buffered.{Buffered}
 use Rattle.buffer_redux.specs.BufReader.{RanDry}
 use Rattle.buffer_redux.specs.FillRetried.{FillRetried, Retried, Step}
 use Rattle.buffer_redux.specs.ReadAll.{HandedFront}
+use Rattle.buffer_redux.specs.Remaining.{reader_remaining}
 use Rattle.buffer_redux.specs.ReadUntil.{AppendsFirst, EndsUntil, FirstAt, Lacks, PassesAndFills, Stops, no_memory}
 
 -- whatever follows these bytes, they are no UTF-8
@@ -84,6 +85,7 @@ pub record BreaksOff {S P : Type 0} (remaining : S → Option (List ℕ)) (rules
   pub dry : RanDry fills.last t
   pub some : 0 < length t.block.bytes
   pub part : IsPart t.block.bytes
+  pub plain : Lacks 10 t.block.bytes
   pub kind : error_kind e ≡ InvalidData
 
 -- how such a call ends: as one that goes on up to a line feed, or within a character
@@ -123,3 +125,11 @@ pub record ReadsLine {S P : Type 0} (remaining : S → Option (List ℕ)) (rules
   pub ends : EndsLine remaining rules s answer handed t
   pub buffered : ¬ (Lacks 10 s.block.bytes)
       → (at : ℕ) × FirstAt 10 at s.block.bytes × AppendsLine remaining rules (at + 1) s before answer after t
+
+-- an `InvalidData` is of a fill or a read on, so the stream's or the policy's; or of a line that is no UTF-8, where std knows it
+abbrev pub InvalidCaused : {S P A : Type 0} → (S → Option (List ℕ)) → ReadRules P → Buffered S P → Result A Error
+    → Buffered S P → Type 0
+InvalidCaused remaining rules s (Ok a) t = ⊤
+InvalidCaused remaining rules s (Err e) t = error_kind e ≡ InvalidData
+    → ((handed : List ℕ) × PassesAndFills remaining rules (FillsOn remaining rules) 10 s handed (Err e) t)
+    ⊎ IfSome (reader_remaining remaining rules s) (λ xs. ¬ (IsUtf8 (take_through 10 xs)))

@@ -10,7 +10,6 @@ use Rattle.buffer_redux.specs.Buffered.{Buffered}
 use Rattle.buffer_redux.specs.FillRetried.{FillRetried, Step}
 use Rattle.buffer_redux.specs.ReadAll.{HandedFront}
 use Rattle.buffer_redux.specs.ReaderLaws.{ReadsAlong-left, ReadsToEnd-known, ReaderKeeps-along}
-use Rattle.buffer_redux.specs.ReadLine.{FillsOn, ReadsLine, no_text}
 use Rattle.buffer_redux.specs.ReadUntil.{EndsIn, EndsUntil, Lacks, ReadsUntil, SkipsUntil, Stops, no_count, no_memory}
 use Rattle.buffer_redux.specs.Remaining.{ahead, may_stop, reader_remaining}
 use Rattle.buffer_redux.specs.RemainingLaws.{may_stop-false}
@@ -35,7 +34,7 @@ ending_known byte (Some xs) None handed ends went = absurd went
 ending_known byte (Some xs) (Some ys) handed ends went =
     ending_through byte handed ys ends ∙ ap (take_through byte) (sym went)
 
-appended_known : (byte : ℕ) (before handed after : List ℕ) → after ≡ before ++ handed → (a : Option (List ℕ))
+pub appended_known : (byte : ℕ) (before handed after : List ℕ) → after ≡ before ++ handed → (a : Option (List ℕ))
     → IfSome a (λ xs. handed ≡ take_through byte xs) → IfSome a (λ xs. after ≡ before ++ take_through byte xs)
 appended_known byte before handed after same None known = tt
 appended_known byte before handed after same (Some xs) known = same ∙ ap (λ l. before ++ l) known
@@ -80,13 +79,3 @@ module _ {S P : Type 0} (remaining : S → Option (List ℕ)) (rules : ReadRules
   ReadsUntil-known before (Err e) after t reads = tt
   ReadsUntil-known before (Ok n) after t reads = appended_known byte before reads.handed after reads.appended
       (reader_remaining remaining rules s) (EndsUntil-known (FillRetried remaining rules) no_memory n reads.handed t reads.front reads.ends)
-
--- and so it is of a line
-module _ {S P : Type 0} (remaining : S → Option (List ℕ)) (rules : ReadRules P) (s : Buffered S P) where
-  pub ReadsLine-known : (before : List ℕ) (answer : Result ℕ Error) (after : List ℕ) (t : Buffered S P)
-      → ReadsLine remaining rules s before answer after t
-      → OnOk answer (IfSome (reader_remaining remaining rules s) (λ xs. after ≡ before ++ take_through 10 xs))
-  ReadsLine-known before (Err e) after t reads = tt
-  ReadsLine-known before (Ok n) after t reads = appended_known 10 before reads.handed after reads.appended
-      (reader_remaining remaining rules s)
-      (EndsUntil-known remaining rules 10 s (FillsOn remaining rules) no_text n reads.handed t reads.front reads.ends)

@@ -4,7 +4,7 @@ ghost use Rattle.std.specs.Io.BufRead.{take_through};
 ghost use Rattle.std.specs.IoError.{error_kind};
 ghost use Rattle.redux_buffer.specs.Block.{IsBlock, usable};
 ghost use Rattle.redux_buffer.specs.GrowError.{GrowthRefused};
-ghost use Rattle.buffer_redux.specs.ReadLine.{AppendsLine, AppendsText, FillsLine, FrontOf, IsPart, MakesSpace, NeverUtf8, ReadsBehind, ReadsLine};
+ghost use Rattle.buffer_redux.specs.ReadLine.{AppendsLine, AppendsText, FillsLine, FrontOf, InvalidCaused, IsPart, MakesSpace, NeverUtf8, ReadsBehind, ReadsLine};
 ghost use Rattle.buffer_redux.specs.FillRetried.{Retried};
 ghost use Rattle.buffer_redux.specs.ReadUntil.{Lacks};
 ghost use Rattle.buffer_redux.specs.Remaining.{reader_remaining};
@@ -35,6 +35,7 @@ impl<R: TellRead, P: ReaderPolicy> BufReader<R, P> {
         ensures line { ReadsLine R.remaining P.rules self.old (string_bytes out.old) result (string_bytes out.new) self.new }
         ensures bytes { OnOk result (IfSome (reader_remaining R.remaining P.rules self.old)
             (λ xs. string_bytes out.new ≡ string_bytes out.old ++ take_through 10 xs)) }
+        ensures invalid { InvalidCaused R.remaining P.rules self.old result self.new }
     {
         match first_of(b'\n', self.buf.buf()) {
             Some(at) => {

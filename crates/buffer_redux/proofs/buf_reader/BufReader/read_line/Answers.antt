@@ -4,7 +4,7 @@ use Rattle.std.proofs.lemmas.Str.{IsUtf8-nil}
 use Rattle.redux_buffer.specs.Block.{IsBlock}
 use Rattle.buffer_redux.specs.ReadLine.{FillsOn, no_text}
 use Rattle.buffer_redux.specs.ReadUntil.{FirstAt, Passes}
-use Rattle.buffer_redux.specs.UntilLaws.{ReadsLine-known}
+use Rattle.buffer_redux.specs.LineLaws.{ReadsLine-invalid, ReadsLine-known}
 use Rattle.buffer_redux.proofs.LineSteps.{line_stopped}
 use Rattle.buffer_redux.proofs.UntilSteps.{passes_none, through_length, until_reached}
 use Rattle.buffer_redux.proofs.buf_reader.BufReader.read_line.Goals as goal
@@ -58,4 +58,14 @@ returns-in_ok-append_line-in-Some-clause-bytes g c =
 pub returns-in-None-clause-bytes : goal.returns-in-None-clause-bytes
 returns-in-None-clause-bytes g c =
     ReadsLine-known g.R.TellRead.remaining g.P.ReaderPolicy.rules c.args.self.now _ _ _ c.read_line_aside.new.self
+    c.read_line_aside.ensures.line
+
+pub returns-in_err-append_line-in-Some-clause-invalid : goal.returns-in_err-append_line-in-Some-clause-invalid
+returns-in_err-append_line-in-Some-clause-invalid g c =
+    ReadsLine-invalid g.R.TellRead.remaining g.P.ReaderPolicy.rules c.args.self.now _ _ _ c.append_line.new.self
+    (returns-in_err-append_line-in-Some-clause-line g c)
+
+pub returns-in-None-clause-invalid : goal.returns-in-None-clause-invalid
+returns-in-None-clause-invalid g c =
+    ReadsLine-invalid g.R.TellRead.remaining g.P.ReaderPolicy.rules c.args.self.now _ _ _ c.read_line_aside.new.self
     c.read_line_aside.ensures.line

@@ -4,7 +4,7 @@ use Rattle.std.proofs.lemmas.Str.{IsUtf8-append, IsUtf8-nil}
 use Rattle.redux_buffer.specs.Block.{IsBlock}
 use Rattle.buffer_redux.specs.ReadLine.{no_text}
 use Rattle.buffer_redux.specs.ReadUntil.{FirstAt, Lacks}
-use Rattle.buffer_redux.proofs.LineSteps.{fill_failed, going_on, line_end, line_stopped, text_passes, text_stopped}
+use Rattle.buffer_redux.proofs.LineSteps.{fill_failed, going_on, line_end, line_stopped, text_leaves, text_passes, text_stopped}
 use Rattle.buffer_redux.proofs.UntilSteps.{appended_length, appends, front_filled, front_reached, passes_filled, passes_none, until_reached}
 use Rattle.buffer_redux.proofs.buf_reader.BufReader.read_line_slowly.Goals as goal
 
@@ -43,7 +43,8 @@ returns-in_err-fill_line g c =
     let passes = text_passes _ _ c.args.self.now c.fills.self before.handed before.passes c.append_text.new.self _ _
     before.behind a in
     let ends = fill_failed _ _ c.args.self.now c.append_text.new.self _ passes c.in_err-fill_line.field-0.0
-    c.fill_line.new.self a.4 c.in_err-fill_line.ensures.fills in
+    c.fill_line.new.self a.4 (text_leaves _ _ c.args.self.now c.fills.self before.handed before.passes
+    c.append_text.new.self _ _ before.behind a) c.in_err-fill_line.ensures.fills in
     rw (p.1, p.2) (record {
       line = record {
         handed = before.handed ++ take a.0 c.fills.self.block.bytes;
