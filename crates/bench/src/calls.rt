@@ -98,6 +98,7 @@ fn own_calls(alloc: Global, case: &Case, call: Call, reader: Reader<'_>) -> io::
     match call {
         Call::ReadUntil => own_until_end(alloc, reader),
         Call::SkipUntil => own_skip_to_end(reader),
+        Call::ReadLine => own_line_by_line(alloc, reader),
         Call::Bytes => own_bytes_to_end(reader),
         Call::Onward => onward(reader, case.piece),
         Call::Peek => peeks(reader, case.piece),
@@ -172,6 +173,22 @@ fn skip_to_end<R: BufRead + Drop>(reader: R) -> io::Result<u64> {
     let mut total = 0u64;
     for _ in 0..u64::MAX {
         let n = reader.skip_until(b'\n')?;
+        if n == 0 {
+            break;
+        }
+        total = total.wrapping_add(n as u64);
+    }
+    Ok(total)
+}
+
+#[inline(never)]
+fn own_line_by_line(alloc: Global, reader: Reader<'_>) -> io::Result<u64> {
+    let mut reader = reader;
+    let mut line = String::new(alloc);
+    let mut total = 0u64;
+    for _ in 0..u64::MAX {
+        line.clear();
+        let n = reader.read_line(&mut line)?;
         if n == 0 {
             break;
         }

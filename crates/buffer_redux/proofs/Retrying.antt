@@ -1,4 +1,4 @@
--- Fills that are made again where they were interrupted.
+-- Steps that are made again where they were interrupted, fills among them.
 use Rattle.std.proofs.Common.{◌≡◌, ℕ, ◌+◌, ◌<◌, ◌≤◌, zero, suc, List, [], ◌∷◌, length, arith, ◌++◌, Result, Ok, Err, IfErr, Option, sym, ap, subst, ◌∙◌, inl, inr}
 use Rattle.std.proofs.lemmas.List.Elements.{All-nil, All-cons}
 use Rattle.std.specs.declared.io.Error.{Error}
@@ -8,7 +8,7 @@ use Rattle.redux_policy.specs.Policy.{ReadRules}
 use Rattle.buffer_redux.specs.Buffered.{Buffered}
 use Rattle.buffer_redux.specs.BufReader.{InnerGives, RanDry, ReadErrorCaused}
 use Rattle.buffer_redux.specs.Fill.{Filled}
-use Rattle.buffer_redux.specs.FillRetried.{OneFill, InterruptedFills, FillRetried}
+use Rattle.buffer_redux.specs.FillRetried.{FillRetried, InterruptedSteps, OneFill, Retried, Step}
 use Rattle.buffer_redux.specs.ReadAll.{HandedFront}
 use Rattle.buffer_redux.specs.ReaderLaws.{Fills-empty, WantsBytes}
 use Rattle.buffer_redux.proofs.FillClaims.{fills}
@@ -16,41 +16,75 @@ use Rattle.buffer_redux.proofs.FillFacts.{turns_facts}
 use Rattle.buffer_redux.proofs.ReadAll.{front_joins}
 use Rattle.buffer_redux.proofs.WriteAll.{one_more}
 
-one_interrupt : (old new : List Error) (e : Error) → IsInterrupt e → new ≡ old ++ e ∷ [] → OnlyInterrupts old new
+pub one_interrupt : (old new : List Error) (e : Error) → IsInterrupt e → new ≡ old ++ e ∷ [] → OnlyInterrupts old new
 one_interrupt old new e is came = record {
   interrupts = e ∷ [];
   interrupted = All-cons IsInterrupt e [] is (All-nil IsInterrupt);
   faults = came;
 }
 
-no_fault : (old new : List Error) → new ≡ old → OnlyInterrupts old new
+pub no_fault : (old new : List Error) → new ≡ old → OnlyInterrupts old new
 no_fault old new same = subst (OnlyInterrupts old) (sym same) (OnlyInterrupts-none old)
 
 pub if_err : {A : Type 0} (answer : Result A Error) (F : Error → Type 0) → ((e : Error) → F e) → IfErr answer F
 if_err (Ok a) F h = tt
 if_err (Err e) F h = h e
 
+module _ {T : Type 0} (step : Step T) where
+  -- one more was interrupted
+  pub interrupted_more : (k : ℕ) (s m t : T) (e : Error) → InterruptedSteps step k s m → IsInterrupt e → step m (Err e) t
+      → InterruptedSteps step (k + 1) s t
+  interrupted_more k s m t e before is went = subst (λ n. InterruptedSteps step n s t) (one_more k)
+      (m, before, record { error = e; interrupt = is; went = went })
+
+  pub retried_ends : (k : ℕ) (s m : T) (answer : Result (Unit {0}) Error) (t : T) → InterruptedSteps step k s m → k ≤ 64
+      → IfErr answer (λ e. IsInterrupt e → k ≡ 64) → step m answer t → Retried step s answer t
+  retried_ends k s m answer t before most often went =
+      record { count = k; last = m; interrupted = before; most = most; often = often; went = went }
+
 module _ {S P : Type 0} (remaining : S → Option (List ℕ)) (rules : ReadRules P) where
+  -- such a step hands out nothing, and meets no fault but interrupted reads: where it's Ok, and where it's interrupted
+  pub record HandsNothing (step : Step (Buffered S P)) : Type 0 where
+    pub front : (s : Buffered S P) (answer : Result (Unit {0}) Error) (t : Buffered S P) → step s answer t
+        → HandedFront remaining rules s [] t
+    pub only : (s t : Buffered S P) → step s (Ok tt) t → OnlyInterrupts s.log.reads.faults t.log.reads.faults
+    pub interrupt : (s : Buffered S P) (e : Error) (t : Buffered S P) → IsInterrupt e → step s (Err e) t
+        → OnlyInterrupts s.log.reads.faults t.log.reads.faults
+
+  module _ (step : Step (Buffered S P)) (h : HandsNothing step) where
+    after_interrupted : (k : ℕ) (s m t : Buffered S P) → InterruptedSteps step k s m
+        → HandedFront remaining rules m [] t → HandedFront remaining rules s [] t
+    after_interrupted zero s m t same f = subst (λ x. HandedFront remaining rules x [] t) (sym same) f
+    after_interrupted (suc k) s m t i f = after_interrupted k s i.0 t i.1
+        (front_joins remaining rules i.0 m t [] [] (h.front i.0 (Err i.2.error) m i.2.went) f)
+
+    only_after : (k : ℕ) (s m t : Buffered S P) → InterruptedSteps step k s m
+        → OnlyInterrupts m.log.reads.faults t.log.reads.faults → OnlyInterrupts s.log.reads.faults t.log.reads.faults
+    only_after zero s m t same f = subst (λ x. OnlyInterrupts x.log.reads.faults t.log.reads.faults) (sym same) f
+    only_after (suc k) s m t i f = only_after k s i.0 t i.1
+        (OnlyInterrupts-joins i.0.log.reads.faults m.log.reads.faults t.log.reads.faults
+        (h.interrupt i.0 i.2.error m i.2.interrupt i.2.went) f)
+
+    -- it hands out nothing, and where it was Ok no fault came but `Interrupted`
+    retried_front : (s : Buffered S P) (answer : Result (Unit {0}) Error) (t : Buffered S P)
+        → Retried step s answer t → HandedFront remaining rules s [] t
+    retried_front s answer t r = after_interrupted r.count s r.last t r.interrupted (h.front r.last answer t r.went)
+
+    retried_only : (s t : Buffered S P) → Retried step s (Ok tt) t
+        → OnlyInterrupts s.log.reads.faults t.log.reads.faults
+    retried_only s t r = only_after r.count s r.last t r.interrupted (h.only r.last t r.went)
+
+    pub retrying : HandsNothing (Retried step)
+    retrying = record {
+      front = retried_front;
+      only = retried_only;
+      interrupt = λ s e t is r. only_after r.count s r.last t r.interrupted (h.interrupt r.last e t is r.went);
+    }
+
   pub one_fill : {A : Type 0} (s : Buffered S P) (answer : Result A Error) (t : Buffered S P) → Filled rules s answer t
       → InnerGives remaining s t → t.own_calls ≡ s.own_calls → IsBlock t.block → OneFill remaining rules s answer t
   one_fill s answer t filled known noted whole =
       record { fills = fills rules s answer t whole filled; known = known; noted = noted }
-
-  fill_front : {A : Type 0} (s : Buffered S P) (answer : Result A Error) (t : Buffered S P)
-      → OneFill remaining rules s answer t → HandedFront remaining rules s [] t
-  fill_front s answer t f = record {
-    in_order = f.fills.in_order;
-    keeps = record {
-      known = f.known;
-      grows = f.fills.grows;
-      capacity = f.fills.capacity;
-      kind = f.fills.kind;
-      claims = f.fills.claims;
-      sparing = f.fills.sparing;
-      whole = f.fills.whole;
-      noted = f.noted;
-    };
-  }
 
   fault_interrupt : (s : Buffered S P) (e : Error) (t : Buffered S P) → IsInterrupt e
       → ReadErrorCaused {A = Unit {0}} rules s (Err e) t → OnlyInterrupts s.log.reads.faults t.log.reads.faults
@@ -58,50 +92,29 @@ module _ {S P : Type 0} (remaining : S → Option (List ℕ)) (rules : ReadRules
   fault_interrupt s e t is (inr gave) = no_fault s.log.reads.faults t.log.reads.faults
       (ap (λ l. l.reads.faults) gave.told ∙ (turns_facts rules gave.count s gave.last gave.turns).faults)
 
-  -- one more fill was interrupted
-  pub interrupted_more : (k : ℕ) (s m t : Buffered S P) (e : Error) → InterruptedFills remaining rules k s m
-      → IsInterrupt e → OneFill {A = Unit {0}} remaining rules m (Err e) t
-      → InterruptedFills remaining rules (k + 1) s t
-  interrupted_more k s m t e before is f = subst (λ n. InterruptedFills remaining rules n s t) (one_more k)
-      (m, before, record { error = e; interrupt = is; fill = f })
-
-  after_interrupted : (k : ℕ) (s m t : Buffered S P) → InterruptedFills remaining rules k s m
-      → HandedFront remaining rules m [] t → HandedFront remaining rules s [] t
-  after_interrupted zero s m t same f = subst (λ x. HandedFront remaining rules x [] t) (sym same) f
-  after_interrupted (suc k) s m t h f = after_interrupted k s h.0 t h.1
-      (front_joins remaining rules h.0 m t [] [] (fill_front h.0 (Err h.2.error) m h.2.fill) f)
-
-  only_after : (k : ℕ) (s m t : Buffered S P) → InterruptedFills remaining rules k s m
-      → OnlyInterrupts m.log.reads.faults t.log.reads.faults → OnlyInterrupts s.log.reads.faults t.log.reads.faults
-  only_after zero s m t same f = subst (λ x. OnlyInterrupts x.log.reads.faults t.log.reads.faults) (sym same) f
-  only_after (suc k) s m t h f = only_after k s h.0 t h.1
-      (OnlyInterrupts-joins h.0.log.reads.faults m.log.reads.faults t.log.reads.faults
-      (fault_interrupt h.0 h.2.error m h.2.interrupt h.2.fill.fills.caused) f)
-
-  -- such a fill hands out nothing, and where it was Ok no fault came but `Interrupted`
-  pub retried_front : (s : Buffered S P) (answer : Result (Unit {0}) Error) (t : Buffered S P)
-      → FillRetried remaining rules s answer t → HandedFront remaining rules s [] t
-  retried_front s answer t f = after_interrupted f.count s f.last t f.interrupted (fill_front f.last answer t f.fill)
-
-  pub retried_only : (s t : Buffered S P) → FillRetried remaining rules s (Ok tt) t
-      → OnlyInterrupts s.log.reads.faults t.log.reads.faults
-  retried_only s t f = only_after f.count s f.last t f.interrupted
-      (no_fault f.last.log.reads.faults t.log.reads.faults f.fill.fills.caused)
-
-  pub retried_ends : (k : ℕ) (s m : Buffered S P) (answer : Result (Unit {0}) Error) (t : Buffered S P)
-      → InterruptedFills remaining rules k s m → k ≤ 64 → IfErr answer (λ e. IsInterrupt e → k ≡ 64)
-      → Filled rules m answer t → InnerGives remaining m t → t.own_calls ≡ m.own_calls → IsBlock t.block
-      → FillRetried remaining rules s answer t
-  retried_ends k s m answer t before most often filled known noted whole = record {
-    count = k;
-    last = m;
-    interrupted = before;
-    most = most;
-    often = often;
-    fill = one_fill m answer t filled known noted whole;
+  pub filling : HandsNothing (OneFill remaining rules)
+  filling = record {
+    front = λ s answer t f. record {
+      in_order = f.fills.in_order;
+      keeps = record {
+        known = f.known;
+        grows = f.fills.grows;
+        capacity = f.fills.capacity;
+        kind = f.fills.kind;
+        claims = f.fills.claims;
+        sparing = f.fills.sparing;
+        whole = f.fills.whole;
+        noted = f.noted;
+      };
+    };
+    only = λ s t f. no_fault s.log.reads.faults t.log.reads.faults f.fills.caused;
+    interrupt = λ s e t is f. fault_interrupt s e t is f.fills.caused;
   }
 
-  still : (k : ℕ) (s m : Buffered S P) → InterruptedFills remaining rules k s m
+  pub refilling : HandsNothing (FillRetried remaining rules)
+  refilling = retrying (OneFill remaining rules) filling
+
+  still : (k : ℕ) (s m : Buffered S P) → InterruptedSteps (OneFill remaining rules) k s m
       → (s.block.capacity ≤ m.block.capacity) × (s.log.reads.zero_reads ≤ m.log.reads.zero_reads)
   still zero s m same = (
     omega (arith, ap (λ x. x.block.capacity) same),
@@ -109,16 +122,16 @@ module _ {S P : Type 0} (remaining : S → Option (List ℕ)) (rules : ReadRules
   )
   still (suc k) s m h =
       let before = still k s h.0 h.1 in
-      let fills = h.2.fill.fills in
+      let fills = h.2.went.fills in
       (omega (arith, before.0, fills.capacity), omega (arith, before.1, fills.grows.zero_reads))
 
-  -- under a policy that wants bytes, where there is capacity, it shows nothing only where the reader ran dry
+  -- under a policy that wants bytes, where there is capacity, a fill shows nothing only where the reader ran dry
   pub retried_dry : (s t : Buffered S P) → FillRetried remaining rules s (Ok tt) t → WantsBytes (rules.claims s.policy)
       → 0 < s.block.capacity → length t.block.bytes ≡ 0 → RanDry s t
   retried_dry s t f wants some none =
       let before = still f.count s f.last f.interrupted in
       let claims : rules.claims s.policy ≡ rules.claims f.last.policy =
-      sym (retried_front s (Ok tt) t f).keeps.claims ∙ f.fill.fills.claims in
+      sym (refilling.front s (Ok tt) t f).keeps.claims ∙ f.went.fills.claims in
       let dry : RanDry f.last t =
-      Fills-empty rules f.last tt t f.fill.fills (subst WantsBytes claims wants) (omega (arith, some, before.0)) none in
+      Fills-empty rules f.last tt t f.went.fills (subst WantsBytes claims wants) (omega (arith, some, before.0)) none in
       omega (arith, before.1, dry)

@@ -1,8 +1,10 @@
 -- Where a byte stands first.
-use Rattle.std.proofs.Common.{◌≡◌, ℕ, zero, suc, ◌+◌, ◌<◌, ◌≤◌, ◌==◌, true, List, [], ◌∷◌, ◌++◌, length, take, drop, slice_index, refl, sym, ap, ◌∙◌, arith, append_assoc, length-take-le}
+use Rattle.std.proofs.Common.{◌≡◌, ℕ, zero, suc, ◌+◌, ◌<◌, ◌≤◌, ◌==◌, true, List, [], ◌∷◌, ◌++◌, length, take, drop, slice_index, refl, sym, ap, ◌∙◌, arith, append_assoc, length-take-le, take-append-drop}
 use Rattle.std.proofs.lemmas.Bool.{eqb-true, eq-eqb}
 use Rattle.std.proofs.lemmas.List.Elements.{All-nil, All-cons, All-append}
+use Rattle.std.specs.Io.BufRead.{take_through}
 use Rattle.buffer_redux.specs.ReadUntil.{EndsIn, FirstAt, Lacks}
+use Rattle.buffer_redux.specs.UntilLaws.{ending_through}
 
 abbrev other : ℕ → ℕ → Type 0
 other byte b = ¬ (b ≡ byte)
@@ -54,7 +56,7 @@ take-append-more (b ∷ front) byte more =
     ap (λ n. take n (b ∷ front ++ byte ∷ more)) count ∙ ap (λ l. b ∷ l) (take-append-more front byte more)
 
 -- so the first bytes, up to it and with it, end in it
-through : (byte at : ℕ) (bytes : List ℕ) → FirstAt byte at bytes → take (at + 1) bytes ≡ take at bytes ++ byte ∷ []
+pub through : (byte at : ℕ) (bytes : List ℕ) → FirstAt byte at bytes → take (at + 1) bytes ≡ take at bytes ++ byte ∷ []
 through byte at bytes e =
     let size = length-take-le at bytes (omega (arith, e.inside)) in
     ap (λ l. take (at + 1) l) (sym e.equal)
@@ -69,3 +71,9 @@ ends_in byte at h shown e plain = record {
   plain = lacks_both byte h (take at shown) plain e.plain;
   equal = ap (λ l. h ++ l) (through byte at shown e) ∙ sym (append_assoc h (take at shown) (byte ∷ []));
 }
+
+-- they are what is taken through it
+pub first_through : (byte at : ℕ) (bytes : List ℕ) → FirstAt byte at bytes → take (at + 1) bytes ≡ take_through byte bytes
+first_through byte at bytes e =
+    ending_through byte (take (at + 1) bytes) (drop (at + 1) bytes) (ends_in byte at [] bytes e (lacks_none byte))
+    ∙ ap (take_through byte) (take-append-drop (at + 1) bytes)

@@ -10,13 +10,13 @@ use Rattle.redux_tell.specs.Faults.{OnlyInterrupts, OnlyInterrupts-none, OnlyInt
 use Rattle.redux_tell.specs.StreamLog.{StreamLog}
 use Rattle.redux_policy.specs.Policy.{ReadRules}
 use Rattle.buffer_redux.specs.Buffered.{Buffered}
-use Rattle.buffer_redux.specs.BufReader.{ReaderConsumes}
-use Rattle.buffer_redux.specs.FillRetried.{FillRetried}
+use Rattle.buffer_redux.specs.BufReader.{RanDry, ReaderConsumes}
+use Rattle.buffer_redux.specs.FillRetried.{Step}
 use Rattle.buffer_redux.specs.ReadAll.{HandedFront}
 use Rattle.buffer_redux.specs.ReaderLaws.{ReaderKeeps-along, WantsBytes}
 use Rattle.buffer_redux.specs.ReadUntil.{EndsUntil, FirstAt, Lacks, Passes, PassesAndFills, PassesToEnd, Reaches, Steps, Stops, no_memory}
 use Rattle.buffer_redux.proofs.ReadAll.{front_none, front_joins}
-use Rattle.buffer_redux.proofs.Retrying.{retried_dry, retried_front, retried_only}
+use Rattle.buffer_redux.proofs.Retrying.{HandsNothing}
 use Rattle.buffer_redux.proofs.Searching.{ends_in, lacks_none, lacks_both}
 
 -- where the log is the same, no fault came
@@ -24,8 +24,8 @@ told_only : (old log log' : StreamLog) → log' ≡ log → OnlyInterrupts old.r
     → OnlyInterrupts old.reads.faults log'.reads.faults
 told_only old log log' same = subst (λ l. OnlyInterrupts old.reads.faults l.reads.faults) (sym same)
 
-module _ {S P : Type 0} (remaining : S → Option (List ℕ)) (rules : ReadRules P) (byte : ℕ) where
-  pub passes_none : (s : Buffered S P) → IsBlock s.block → Passes remaining rules byte s [] s
+module _ {S P : Type 0} {step : Step (Buffered S P)} (remaining : S → Option (List ℕ)) (rules : ReadRules P) (byte : ℕ) where
+  pub passes_none : (s : Buffered S P) → IsBlock s.block → Passes remaining rules step byte s [] s
   passes_none s whole = record {
     front = front_none remaining rules s whole;
     plain = lacks_none byte;
@@ -33,58 +33,65 @@ module _ {S P : Type 0} (remaining : S → Option (List ℕ)) (rules : ReadRules
     steps = (0, refl);
   }
 
-  module _ (s m : Buffered S P) (handed : List ℕ) (before : Passes remaining rules byte s handed m) where
+  module _ (s m : Buffered S P) (handed : List ℕ) (before : Passes remaining rules step byte s handed m) where
     steps_consumed : (t : Buffered S P) (n : ℕ) → ReaderConsumes rules n m t
-        → (count : ℕ) × Steps remaining rules count s t
+        → (count : ℕ) × Steps rules step count s t
     steps_consumed t n gone = (suc before.steps.0, (m, before.steps.1, inl (n, gone)))
 
-    -- then all that is buffered is handed out, which lacks the byte
-    pub passes_all : (t : Buffered S P) (n : ℕ) → n ≡ length m.block.bytes → Lacks byte m.block.bytes
+    -- then the first n bytes are handed out, or all that are buffered, which lack the byte
+    pub passes_first : (t : Buffered S P) (n : ℕ) → Lacks byte (take n m.block.bytes)
         → HandedFront remaining rules m (take n m.block.bytes) t → ReaderConsumes rules n m t
-        → Passes remaining rules byte s (handed ++ m.block.bytes) t
-    passes_all t n count plain went gone = record {
-      front = front_joins remaining rules s m t handed m.block.bytes before.front
-          (subst (λ l. HandedFront remaining rules m l t) (ap (λ k. take k m.block.bytes) count ∙ take-length m.block.bytes)
-          went);
-      plain = lacks_both byte handed m.block.bytes before.plain plain;
+        → Passes remaining rules step byte s (handed ++ take n m.block.bytes) t
+    passes_first t n plain went gone = record {
+      front = front_joins remaining rules s m t handed (take n m.block.bytes) before.front went;
+      plain = lacks_both byte handed (take n m.block.bytes) before.plain plain;
       faults = told_only s.log m.log t.log gone.told before.faults;
       steps = steps_consumed t n gone;
     }
 
-    -- or a fill is made
-    pub front_filled : (answer : Result (Unit {0}) Error) (t : Buffered S P) → FillRetried remaining rules m answer t
-        → HandedFront remaining rules s handed t
-    front_filled answer t f = subst (λ l. HandedFront remaining rules s l t) (append-nil handed)
-        (front_joins remaining rules s m t handed [] before.front (retried_front remaining rules m answer t f))
+    pub passes_all : (t : Buffered S P) (n : ℕ) → n ≡ length m.block.bytes → Lacks byte m.block.bytes
+        → HandedFront remaining rules m (take n m.block.bytes) t → ReaderConsumes rules n m t
+        → Passes remaining rules step byte s (handed ++ m.block.bytes) t
+    passes_all t n count plain went gone =
+        let all : take n m.block.bytes ≡ m.block.bytes =
+        ap (λ k. take k m.block.bytes) count ∙ take-length m.block.bytes in
+        subst (λ l. Passes remaining rules step byte s (handed ++ l) t) all
+        (passes_first t n (subst (Lacks byte) (sym all) plain) went gone)
 
-    pub passes_filled : (t : Buffered S P) → FillRetried remaining rules m (Ok tt) t
-        → Passes remaining rules byte s handed t
-    passes_filled t f = record {
-      front = front_filled (Ok tt) t f;
-      plain = before.plain;
-      faults = OnlyInterrupts-joins s.log.reads.faults m.log.reads.faults t.log.reads.faults before.faults
-          (retried_only remaining rules m t f);
-      steps = (suc before.steps.0, (m, before.steps.1, inr f));
-    }
+    -- or such a step is made as a fill
+    module _ (hands : HandsNothing remaining rules step) where
+      pub front_filled : (answer : Result (Unit {0}) Error) (t : Buffered S P) → step m answer t
+          → HandedFront remaining rules s handed t
+      front_filled answer t f = subst (λ l. HandedFront remaining rules s l t) (append-nil handed)
+          (front_joins remaining rules s m t handed [] before.front (hands.front m answer t f))
 
-    pub passes_and_fills : (answer : Result (Unit {0}) Error) (t : Buffered S P) → FillRetried remaining rules m answer t
-        → PassesAndFills remaining rules byte s handed answer t
+      pub passes_filled : (t : Buffered S P) → step m (Ok tt) t → Passes remaining rules step byte s handed t
+      passes_filled t f = record {
+        front = front_filled (Ok tt) t f;
+        plain = before.plain;
+        faults = OnlyInterrupts-joins s.log.reads.faults m.log.reads.faults t.log.reads.faults before.faults
+            (hands.only m t f);
+        steps = (suc before.steps.0, (m, before.steps.1, inr f));
+      }
+
+    pub passes_and_fills : (answer : Result (Unit {0}) Error) (t : Buffered S P) → step m answer t
+        → PassesAndFills remaining rules step byte s handed answer t
     passes_and_fills answer t f = record { last = m; passes = before; fill = f }
 
     -- which showed nothing
-    pub passes_to_end : (t : Buffered S P) → FillRetried remaining rules m (Ok tt) t → length t.block.bytes ≡ 0
-        → PassesToEnd remaining rules byte s handed t
-    passes_to_end t f none =
+    pub passes_to_end : HandsNothing remaining rules step → (t : Buffered S P) → step m (Ok tt) t
+        → (WantsBytes (rules.claims m.policy) → 0 < m.block.capacity → RanDry m t) → length t.block.bytes ≡ 0
+        → PassesToEnd remaining rules step byte s handed t
+    passes_to_end hands t f dry none =
         let keeps = before.front.keeps in record {
           fills = passes_and_fills (Ok tt) t f;
           none = nil_from_length t.block.bytes none;
           end = λ wants some.
-              let front = front_filled (Ok tt) t f in
-              let dry = retried_dry remaining rules m t f (subst WantsBytes (sym keeps.claims) wants)
-              (omega (arith, some, keeps.capacity)) none in record {
+              let front = front_filled hands (Ok tt) t f in
+              let ran = dry (subst WantsBytes (sym keeps.claims) wants) (omega (arith, some, keeps.capacity)) in record {
                 along = ReaderKeeps-along remaining rules s handed t front.in_order front.keeps;
                 none = nil_from_length t.block.bytes none;
-                dry = omega (arith, keeps.grows.zero_reads, dry);
+                dry = omega (arith, keeps.grows.zero_reads, ran);
               };
         }
 
@@ -95,7 +102,7 @@ module _ {S P : Type 0} (remaining : S → Option (List ℕ)) (rules : ReadRules
         front_joins remaining rules s m t handed (take (at + 1) m.block.bytes) before.front went
 
     pub reaches : (at : ℕ) (t : Buffered S P) → FirstAt byte at m.block.bytes → ReaderConsumes rules (at + 1) m t
-        → Reaches remaining rules byte s (handed ++ take (at + 1) m.block.bytes) t
+        → Reaches rules step byte s (handed ++ take (at + 1) m.block.bytes) t
     reaches at t first gone = record {
       ends = ends_in byte at handed m.block.bytes first before.plain;
       faults = told_only s.log m.log t.log gone.told before.faults;
@@ -104,28 +111,29 @@ module _ {S P : Type 0} (remaining : S → Option (List ℕ)) (rules : ReadRules
 
     -- how the call ends: with the fault of a fill, where a fill showed nothing, at the byte, or of its own
     module _ (stops : Stops) where
-      pub until_failed : (e : Error) (t : Buffered S P) → FillRetried remaining rules m (Err e) t
-          → EndsUntil remaining rules stops byte s (Err e) handed t
+      pub until_failed : (e : Error) (t : Buffered S P) → step m (Err e) t
+          → EndsUntil remaining rules step stops byte s (Err e) handed t
       until_failed e t f = inl (passes_and_fills (Err e) t f)
 
-      pub until_end : (n : ℕ) (t : Buffered S P) → n ≡ length handed → FillRetried remaining rules m (Ok tt) t
-          → length t.block.bytes ≡ 0 → EndsUntil remaining rules stops byte s (Ok n) handed t
-      until_end n t count f none = (count, inr (passes_to_end t f none))
+      pub until_end : HandsNothing remaining rules step → (n : ℕ) (t : Buffered S P) → n ≡ length handed → step m (Ok tt) t
+          → (WantsBytes (rules.claims m.policy) → 0 < m.block.capacity → RanDry m t) → length t.block.bytes ≡ 0
+          → EndsUntil remaining rules step stops byte s (Ok n) handed t
+      until_end hands n t count f dry none = (count, inr (passes_to_end hands t f dry none))
 
       pub until_reached : (n at : ℕ) (t : Buffered S P) → n ≡ length (handed ++ take (at + 1) m.block.bytes)
           → FirstAt byte at m.block.bytes → ReaderConsumes rules (at + 1) m t
-          → EndsUntil remaining rules stops byte s (Ok n) (handed ++ take (at + 1) m.block.bytes) t
+          → EndsUntil remaining rules step stops byte s (Ok n) (handed ++ take (at + 1) m.block.bytes) t
       until_reached n at t count first gone = (count, inl (reaches at t first gone))
 
       pub until_stopped : (e : Error) → stops handed e m.block.bytes
-          → EndsUntil remaining rules stops byte s (Err e) handed m
+          → EndsUntil remaining rules step stops byte s (Err e) handed m
       until_stopped e why = inr (before, why)
 
     pub until_refused : (n : ℕ) (e : Error) (t : Buffered S P) → n ≤ length m.block.bytes → 0 < n → t ≡ m
         → error_kind e ≡ OutOfMemory
-        → HandedFront remaining rules s handed t × EndsUntil remaining rules no_memory byte s (Err e) handed t
+        → HandedFront remaining rules s handed t × EndsUntil remaining rules step no_memory byte s (Err e) handed t
     until_refused n e t within some same kind = subst
-        (λ x. HandedFront remaining rules s handed x × EndsUntil remaining rules no_memory byte s (Err e) handed x) (sym same)
+        (λ x. HandedFront remaining rules s handed x × EndsUntil remaining rules step no_memory byte s (Err e) handed x) (sym same)
         (before.front, until_stopped no_memory e (kind, omega (arith, some, within)))
 
 -- more was appended behind what was appended before

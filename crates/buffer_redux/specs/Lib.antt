@@ -38,6 +38,8 @@ pub mod Peek
 pub mod ReadByte
 pub mod ReadUntil
 pub mod UntilLaws
+pub mod ReadLine
+pub mod LineLaws
 pub mod Pieces
 pub mod Unbuffer
 pub mod BufWriter

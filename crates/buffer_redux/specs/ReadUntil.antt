@@ -8,7 +8,7 @@ use Rattle.redux_tell.specs.Faults.{OnlyInterrupts}
 use Rattle.redux_policy.specs.Policy.{ReadRules}
 use Rattle.buffer_redux.specs.Buffered.{Buffered}
 use Rattle.buffer_redux.specs.BufReader.{ReaderConsumes, ReadsToEnd}
-use Rattle.buffer_redux.specs.FillRetried.{FillRetried}
+use Rattle.buffer_redux.specs.FillRetried.{FillRetried, Step}
 use Rattle.buffer_redux.specs.ReadAll.{HandedFront}
 use Rattle.buffer_redux.specs.ReaderLaws.{WantsBytes}
 
@@ -28,40 +28,42 @@ pub record EndsIn (byte : ℕ) (bytes : List ℕ) : Type 0 where
   pub plain : Lacks byte front
   pub equal : bytes ≡ front ++ byte ∷ []
 
--- so many steps led from s to t, each of them a consume, of which the policy is told, or a fill
-abbrev pub Steps : {S P : Type 0} → (S → Option (List ℕ)) → ReadRules P → ℕ → Buffered S P → Buffered S P → Type 0
-Steps remaining rules zero s t = s ≡ t
-Steps {S} {P} remaining rules (suc count) s t = (m : Buffered S P) × Steps remaining rules count s m
-    × (((n : ℕ) × ReaderConsumes rules n m t) ⊎ FillRetried remaining rules m (Ok tt) t)
+-- so many steps led from s to t, each of them a consume, of which the policy is told, or a fill, or what the call makes in
+-- place of one
+abbrev pub Steps : {S P : Type 0} → ReadRules P → Step (Buffered S P) → ℕ → Buffered S P → Buffered S P → Type 0
+Steps rules step zero s t = s ≡ t
+Steps {S} {P} rules step (suc count) s t = (m : Buffered S P) × Steps rules step count s m
+    × (((n : ℕ) × ReaderConsumes rules n m t) ⊎ step m (Ok tt) t)
 
 -- these bytes were handed out, which lack the byte, and no fault came but interrupted reads
-pub record Passes {S P : Type 0} (remaining : S → Option (List ℕ)) (rules : ReadRules P) (byte : ℕ)
-    (s : Buffered S P) (handed : List ℕ) (t : Buffered S P) : Type 0 where
+pub record Passes {S P : Type 0} (remaining : S → Option (List ℕ)) (rules : ReadRules P) (step : Step (Buffered S P))
+    (byte : ℕ) (s : Buffered S P) (handed : List ℕ) (t : Buffered S P) : Type 0 where
   pub front : HandedFront remaining rules s handed t
   pub plain : Lacks byte handed
   pub faults : OnlyInterrupts s.log.reads.faults t.log.reads.faults
-  pub steps : (count : ℕ) × Steps remaining rules count s t
+  pub steps : (count : ℕ) × Steps rules step count s t
 
--- then a fill, made again where it was interrupted, answered so
-pub record PassesAndFills {S P : Type 0} (remaining : S → Option (List ℕ)) (rules : ReadRules P) (byte : ℕ)
-    (s : Buffered S P) (handed : List ℕ) (answer : Result (Unit {0}) Error) (t : Buffered S P) : Type 0 where
+-- then a fill answered so
+pub record PassesAndFills {S P : Type 0} (remaining : S → Option (List ℕ)) (rules : ReadRules P)
+    (step : Step (Buffered S P)) (byte : ℕ) (s : Buffered S P) (handed : List ℕ) (answer : Result (Unit {0}) Error)
+    (t : Buffered S P) : Type 0 where
   pub last : Buffered S P
-  pub passes : Passes remaining rules byte s handed last
-  pub fill : FillRetried remaining rules last answer t
+  pub passes : Passes remaining rules step byte s handed last
+  pub fill : step last answer t
 
 -- that fill showed nothing. Where the policy wants bytes and there is capacity, the reader has no more
-pub record PassesToEnd {S P : Type 0} (remaining : S → Option (List ℕ)) (rules : ReadRules P) (byte : ℕ)
-    (s : Buffered S P) (handed : List ℕ) (t : Buffered S P) : Type 0 where
-  pub fills : PassesAndFills remaining rules byte s handed (Ok tt) t
+pub record PassesToEnd {S P : Type 0} (remaining : S → Option (List ℕ)) (rules : ReadRules P) (step : Step (Buffered S P))
+    (byte : ℕ) (s : Buffered S P) (handed : List ℕ) (t : Buffered S P) : Type 0 where
+  pub fills : PassesAndFills remaining rules step byte s handed (Ok tt) t
   pub none : t.block.bytes ≡ []
   pub end : WantsBytes (rules.claims s.policy) → 0 < s.block.capacity → ReadsToEnd remaining rules s handed t
 
 -- these bytes end in the byte, and no fault came but interrupted reads
-pub record Reaches {S P : Type 0} (remaining : S → Option (List ℕ)) (rules : ReadRules P) (byte : ℕ)
+pub record Reaches {S P : Type 0} (rules : ReadRules P) (step : Step (Buffered S P)) (byte : ℕ)
     (s : Buffered S P) (handed : List ℕ) (t : Buffered S P) : Type 0 where
   pub ends : EndsIn byte handed
   pub faults : OnlyInterrupts s.log.reads.faults t.log.reads.faults
-  pub steps : (count : ℕ) × Steps remaining rules count s t
+  pub steps : (count : ℕ) × Steps rules step count s t
 
 -- the call stopped of its own before what is buffered, for which it had no memory, or which no usize counts
 abbrev pub Stops : Type 1
@@ -75,20 +77,20 @@ no_count handed e buffered = (error_kind e ≡ TimedOut) × (2 ^ 64 ≤ length h
 
 -- how such a call ends which handed these bytes out: at Ok they are so many, and end in the byte or at the end of all; at
 -- Err they lack it, and the last fill failed or the call stopped
-abbrev pub EndsUntil : {S P : Type 0} → (S → Option (List ℕ)) → ReadRules P → Stops → ℕ → Buffered S P
-    → Result ℕ Error → List ℕ → Buffered S P → Type 0
-EndsUntil remaining rules stops byte s (Ok n) handed t =
-    (n ≡ length handed) × (Reaches remaining rules byte s handed t ⊎ PassesToEnd remaining rules byte s handed t)
-EndsUntil remaining rules stops byte s (Err e) handed t =
-    PassesAndFills remaining rules byte s handed (Err e) t
-    ⊎ (Passes remaining rules byte s handed t × stops handed e t.block.bytes)
+abbrev pub EndsUntil : {S P : Type 0} → (S → Option (List ℕ)) → ReadRules P → Step (Buffered S P) → Stops → ℕ
+    → Buffered S P → Result ℕ Error → List ℕ → Buffered S P → Type 0
+EndsUntil remaining rules step stops byte s (Ok n) handed t =
+    (n ≡ length handed) × (Reaches rules step byte s handed t ⊎ PassesToEnd remaining rules step byte s handed t)
+EndsUntil remaining rules step stops byte s (Err e) handed t =
+    PassesAndFills remaining rules step byte s handed (Err e) t
+    ⊎ (Passes remaining rules step byte s handed t × stops handed e t.block.bytes)
 
 -- what `skip_until(byte)` does: these bytes were handed out to nobody
 pub record SkipsUntil {S P : Type 0} (remaining : S → Option (List ℕ)) (rules : ReadRules P) (byte : ℕ)
     (s : Buffered S P) (answer : Result ℕ Error) (t : Buffered S P) : Type 0 where
   pub handed : List ℕ
   pub front : HandedFront remaining rules s handed t
-  pub ends : EndsUntil remaining rules no_count byte s answer handed t
+  pub ends : EndsUntil remaining rules (FillRetried remaining rules) no_count byte s answer handed t
 
 -- what `read_until(byte, out)` does, which left `out` so: these bytes were handed out, behind those that were there
 pub record ReadsUntil {S P : Type 0} (remaining : S → Option (List ℕ)) (rules : ReadRules P) (byte : ℕ)
@@ -96,7 +98,7 @@ pub record ReadsUntil {S P : Type 0} (remaining : S → Option (List ℕ)) (rule
   pub handed : List ℕ
   pub appended : after ≡ before ++ handed
   pub front : HandedFront remaining rules s handed t
-  pub ends : EndsUntil remaining rules no_memory byte s answer handed t
+  pub ends : EndsUntil remaining rules (FillRetried remaining rules) no_memory byte s answer handed t
 
 -- the first n bytes that are buffered were handed out, behind those that were there; without memory nothing was done
 abbrev pub AppendsFirst : {S P A : Type 0} → (S → Option (List ℕ)) → ReadRules P → ℕ → Buffered S P → List ℕ

@@ -7,20 +7,21 @@ use Rattle.std.specs.Io.KnownBytes.{Consumes}
 use Rattle.std.specs.declared.io.Error.{Error}
 use Rattle.redux_policy.specs.Policy.{ReadRules}
 use Rattle.buffer_redux.specs.Buffered.{Buffered}
+use Rattle.buffer_redux.specs.FillRetried.{FillRetried, Step}
 use Rattle.buffer_redux.specs.ReadAll.{HandedFront}
 use Rattle.buffer_redux.specs.ReaderLaws.{ReadsAlong-left, ReadsToEnd-known, ReaderKeeps-along}
 use Rattle.buffer_redux.specs.ReadUntil.{EndsIn, EndsUntil, Lacks, ReadsUntil, SkipsUntil, Stops, no_count, no_memory}
 use Rattle.buffer_redux.specs.Remaining.{ahead, may_stop, reader_remaining}
 use Rattle.buffer_redux.specs.RemainingLaws.{may_stop-false}
 
-lacking_through : (byte : ℕ) (bytes : List ℕ) → Lacks byte bytes → bytes ≡ take_through byte bytes
+pub lacking_through : (byte : ℕ) (bytes : List ℕ) → Lacks byte bytes → bytes ≡ take_through byte bytes
 lacking_through byte bytes plain =
     sym (append-nil bytes) ∙ sym (take_through-append byte bytes [] plain) ∙ ap (take_through byte) (append-nil bytes)
 
 found_through : (byte : ℕ) (rest : List ℕ) → byte ∷ [] ≡ take_through byte (byte ∷ rest)
 found_through byte rest = grind arith
 
-ending_through : (byte : ℕ) (bytes rest : List ℕ) → EndsIn byte bytes → bytes ≡ take_through byte (bytes ++ rest)
+pub ending_through : (byte : ℕ) (bytes rest : List ℕ) → EndsIn byte bytes → bytes ≡ take_through byte (bytes ++ rest)
 ending_through byte bytes rest ends =
     ends.equal ∙ ap (λ l. ends.front ++ l) (found_through byte rest)
     ∙ sym (take_through-append byte ends.front (byte ∷ rest) ends.plain)
@@ -33,7 +34,7 @@ ending_known byte (Some xs) None handed ends went = absurd went
 ending_known byte (Some xs) (Some ys) handed ends went =
     ending_through byte handed ys ends ∙ ap (take_through byte) (sym went)
 
-appended_known : (byte : ℕ) (before handed after : List ℕ) → after ≡ before ++ handed → (a : Option (List ℕ))
+pub appended_known : (byte : ℕ) (before handed after : List ℕ) → after ≡ before ++ handed → (a : Option (List ℕ))
     → IfSome a (λ xs. handed ≡ take_through byte xs) → IfSome a (λ xs. after ≡ before ++ take_through byte xs)
 appended_known byte before handed after same None known = tt
 appended_known byte before handed after same (Some xs) known = same ∙ ap (λ l. before ++ l) known
@@ -50,10 +51,10 @@ IfSome-if false a Q h = h refl
 
 module _ {S P : Type 0} (remaining : S → Option (List ℕ)) (rules : ReadRules P) (byte : ℕ) (s : Buffered S P) where
   -- at Ok just those were handed out that are known to be left up to the byte
-  pub EndsUntil-known : (stops : Stops) (n : ℕ) (handed : List ℕ) (t : Buffered S P)
-      → HandedFront remaining rules s handed t → EndsUntil remaining rules stops byte s (Ok n) handed t
+  pub EndsUntil-known : (fill : Step (Buffered S P)) (stops : Stops) (n : ℕ) (handed : List ℕ) (t : Buffered S P)
+      → HandedFront remaining rules s handed t → EndsUntil remaining rules fill stops byte s (Ok n) handed t
       → IfSome (reader_remaining remaining rules s) (λ xs. handed ≡ take_through byte xs)
-  EndsUntil-known stops n handed t front ends = elim ends.1 [
+  EndsUntil-known fill stops n handed t front ends = elim ends.1 [
     | inl reached ↦ ending_known byte (reader_remaining remaining rules s) (reader_remaining remaining rules t) handed
         reached.ends
         (ReadsAlong-left remaining rules s handed t
@@ -69,7 +70,7 @@ module _ {S P : Type 0} (remaining : S → Option (List ℕ)) (rules : ReadRules
       → IfOk answer (λ n. IfSome (reader_remaining remaining rules s) (λ xs. n ≡ length (take_through byte xs)))
   SkipsUntil-known (Err e) t skips = tt
   SkipsUntil-known (Ok n) t skips = counted_known byte skips.handed n skips.ends.0 (reader_remaining remaining rules s)
-      (EndsUntil-known no_count n skips.handed t skips.front skips.ends)
+      (EndsUntil-known (FillRetried remaining rules) no_count n skips.handed t skips.front skips.ends)
 
   -- or appended
   pub ReadsUntil-known : (before : List ℕ) (answer : Result ℕ Error) (after : List ℕ) (t : Buffered S P)
@@ -77,4 +78,4 @@ module _ {S P : Type 0} (remaining : S → Option (List ℕ)) (rules : ReadRules
       → OnOk answer (IfSome (reader_remaining remaining rules s) (λ xs. after ≡ before ++ take_through byte xs))
   ReadsUntil-known before (Err e) after t reads = tt
   ReadsUntil-known before (Ok n) after t reads = appended_known byte before reads.handed after reads.appended
-      (reader_remaining remaining rules s) (EndsUntil-known no_memory n reads.handed t reads.front reads.ends)
+      (reader_remaining remaining rules s) (EndsUntil-known (FillRetried remaining rules) no_memory n reads.handed t reads.front reads.ends)

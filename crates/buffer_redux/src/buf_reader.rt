@@ -27,6 +27,7 @@ use std::marker::Model;
 use std::{fmt, io};
 
 mod bytes;
+mod line;
 mod pieces;
 mod seek;
 mod steps;

@@ -31,6 +31,8 @@ mod std_readers;
 #[cfg(test)]
 mod std_writers;
 #[cfg(test)]
+mod text_lines;
+#[cfg(test)]
 mod unbuffer;
 #[cfg(test)]
 mod unwrapping;

@@ -168,7 +168,7 @@ impl<R: TellRead, P: ReaderPolicy> BufReader<R, P> {
 
 // Where the byte stands first.
 #[inline(always)]
-fn first_of(byte: u8, bytes: &[u8]) -> Option<usize>
+pub(super) fn first_of(byte: u8, bytes: &[u8]) -> Option<usize>
     ensures found { IfSome result (λ at. FirstAt byte at bytes.now) }
     ensures none { IfNone result (Lacks byte bytes.now) }
 {

@@ -2,6 +2,7 @@ use Rattle.std.proofs.Common.{◌≡◌, ◌+◌, ◌∙◌, [], ◌++◌, lengt
 use Rattle.std.proofs.lemmas.Result.{err_from_is_err_and}
 use Rattle.redux_buffer.specs.Block.{IsBlock}
 use Rattle.buffer_redux.specs.ReadUntil.{FirstAt, Lacks, no_memory}
+use Rattle.buffer_redux.proofs.Retrying.{refilling, retried_dry}
 use Rattle.buffer_redux.proofs.UntilSteps.{appended_length, appends, front_filled, front_reached, passes_all, passes_filled, passes_none, take_whole, until_end, until_failed, until_reached, until_refused}
 use Rattle.buffer_redux.proofs.buf_reader.BufReader.read_until_slowly.Goals as goal
 
@@ -39,7 +40,7 @@ returns-in_err-fill_retried g c =
         handed = before.handed ++ c.fills.self.block.bytes;
         appended = appends _ _ _ _ _ before.appended
             (a.0 ∙ ap (λ l. c.fills.out.items ++ l) (take_whole c.fills.len c.fills.self.block.bytes before.size));
-        front = front_filled _ _ _ _ _ _ passes _ _ f;
+        front = front_filled _ _ _ _ _ _ passes (refilling _ _) _ _ f;
         ends = until_failed _ _ _ _ _ _ passes no_memory _ _ f;
       };
     })
@@ -58,9 +59,9 @@ returns-then-is_empty g c =
       until = record {
         handed = before.handed ++ c.fills.self.block.bytes;
         appended = grown;
-        front = front_filled _ _ _ _ _ _ passes _ _ f;
-        ends = until_end _ _ _ _ _ _ passes no_memory _ _ (appended_length _ _ _ c.len-start.result c.len.result grown
-            (c.len-start.ensures ∙ c.args.out.now.ok.0) (c.len.ensures ∙ c.append_first.new.out.ok.0)) f none;
+        front = front_filled _ _ _ _ _ _ passes (refilling _ _) _ _ f;
+        ends = until_end _ _ _ _ _ _ passes no_memory (refilling _ _) _ _ (appended_length _ _ _ c.len-start.result c.len.result grown
+            (c.len-start.ensures ∙ c.args.out.now.ok.0) (c.len.ensures ∙ c.append_first.new.out.ok.0)) f (λ wants some. retried_dry _ _ _ _ f wants some none) none;
       };
     }
 
@@ -74,7 +75,7 @@ returns-in_err-append_first-in-Some g c =
     c.from_residual-in_err-append_first-in-Some.ensures.1 in
     let passes = passes_all _ _ _ _ c.fills.self before.handed before.passes c.append_first.new.self c.fills.len before.size
     before.behind a.1 a.2 in
-    let now = passes_filled _ _ _ _ _ _ passes c.fill_retried.new.self f in
+    let now = passes_filled _ _ _ _ _ _ passes (refilling _ _) c.fill_retried.new.self f in
     let shown : c.buf.result.now ≡ c.fill_retried.new.self.block.bytes =
     c.buf.ensures ∙ ap (λ x. x.block.bytes) c.self-in-fills.view_is in
     let first = subst (FirstAt c.args.byte c.in-Some.at) shown c.in-Some.ensures.found in
@@ -98,7 +99,7 @@ returns-in-Some g c =
     let b = c.in_ok-append_first-in-Some.ensures.appends in
     let passes = passes_all _ _ _ _ c.fills.self before.handed before.passes c.append_first.new.self c.fills.len before.size
     before.behind a.1 a.2 in
-    let now = passes_filled _ _ _ _ _ _ passes c.fill_retried.new.self f in
+    let now = passes_filled _ _ _ _ _ _ passes (refilling _ _) c.fill_retried.new.self f in
     let shown : c.buf.result.now ≡ c.fill_retried.new.self.block.bytes =
     c.buf.ensures ∙ ap (λ x. x.block.bytes) c.self-in-fills.view_is in
     let first = subst (FirstAt c.args.byte c.in-Some.at) shown c.in-Some.ensures.found in
@@ -126,7 +127,7 @@ fills-preserved g c =
     let shown : c.buf.result.now ≡ c.fill_retried.new.self.block.bytes =
     c.buf.ensures ∙ ap (λ x. x.block.bytes) c.self-in-fills.view_is in record {
       handed = before.handed ++ c.fills.self.block.bytes;
-      passes = passes_filled _ _ _ _ _ _ passes c.fill_retried.new.self c.in_ok-fill_retried.ensures.retried;
+      passes = passes_filled _ _ _ _ _ _ passes (refilling _ _) c.fill_retried.new.self c.in_ok-fill_retried.ensures.retried;
       appended = appends _ _ _ _ _ before.appended
           (a.0 ∙ ap (λ l. c.fills.out.items ++ l) (take_whole c.fills.len c.fills.self.block.bytes before.size));
       size = c.len-len-in-None.ensures.value ∙ ap (λ x. length x.block.bytes) c.self-in-fills.view_is;

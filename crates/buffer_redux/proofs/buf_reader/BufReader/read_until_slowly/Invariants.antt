@@ -1,4 +1,5 @@
 use Rattle.std.proofs.Common.{◌≡◌, ℕ, ◌+◌, ◌-◌, ◌^◌, List, ◌++◌, length}
+use Rattle.buffer_redux.specs.FillRetried.{FillRetried}
 use Rattle.buffer_redux.specs.ReadUntil.{Lacks, Passes}
 use Rattle.buffer_redux.proofs.buf_reader.BufReader.read_until_slowly.Given as goal
 
@@ -6,7 +7,8 @@ use Rattle.buffer_redux.proofs.buf_reader.BufReader.read_until_slowly.Given as g
 abbrev pub invariant-fills : goal.invariant-fills
 invariant-fills g l = record {
   handed : List ℕ;
-  passes : Passes g.R.TellRead.remaining g.P.ReaderPolicy.rules l.byte l.initial.self handed l.self;
+  passes : Passes g.R.TellRead.remaining g.P.ReaderPolicy.rules
+      (FillRetried g.R.TellRead.remaining g.P.ReaderPolicy.rules) l.byte l.initial.self handed l.self;
   appended : l.out.items ≡ l.initial.out.items ++ handed;
   size : l.len ≡ length l.self.block.bytes;
   behind : Lacks l.byte l.self.block.bytes;

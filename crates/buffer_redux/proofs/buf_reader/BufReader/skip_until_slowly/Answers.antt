@@ -2,6 +2,7 @@ use Rattle.std.proofs.Common.{◌≡◌, ◌+◌, ◌∙◌, [], ◌++◌, lengt
 use Rattle.std.proofs.lemmas.Result.{err_from_is_err_and}
 use Rattle.redux_buffer.specs.Block.{IsBlock}
 use Rattle.buffer_redux.specs.ReadUntil.{FirstAt, Lacks, no_count}
+use Rattle.buffer_redux.proofs.Retrying.{refilling, retried_dry}
 use Rattle.buffer_redux.proofs.UntilSteps.{front_filled, front_reached, passes_all, passes_filled, passes_none, through_length, until_end, until_failed, until_reached, until_stopped}
 use Rattle.buffer_redux.proofs.buf_reader.BufReader.skip_until_slowly.Goals as goal
 
@@ -39,7 +40,7 @@ returns-in_err-fill_retried g c =
     rw (p.1, p.2) (record {
       until = record {
         handed = before.handed ++ c.fills.self.block.bytes;
-        front = front_filled _ _ _ _ _ _ passes _ _ f;
+        front = front_filled _ _ _ _ _ _ passes (refilling _ _) _ _ f;
         ends = until_failed _ _ _ _ _ _ passes no_count _ _ f;
       };
     })
@@ -55,14 +56,14 @@ returns-then-is_empty g c =
     ∙ c.is_empty.ensures.value.0 c.if-is_empty.true in record {
       until = record {
         handed = before.handed ++ c.fills.self.block.bytes;
-        front = front_filled _ _ _ _ _ _ passes _ _ f;
-        ends = until_end _ _ _ _ _ _ passes no_count _ _ (omega (
+        front = front_filled _ _ _ _ _ _ passes (refilling _ _) _ _ f;
+        ends = until_end _ _ _ _ _ _ passes no_count (refilling _ _) _ _ (omega (
           arith,
           c.in_ok-total.ensures,
           before.count,
           before.size,
           length-append before.handed c.fills.self.block.bytes,
-        )) f none;
+        )) f (λ wants some. retried_dry _ _ _ _ f wants some none) none;
       };
     }
 
@@ -75,7 +76,7 @@ returns-in_err-total-in-Some g c =
     c.from_residual-in_err-total-in-Some.ensures.1 in
     let passes = passes_all _ _ _ _ c.fills.self before.handed before.passes c.consume.new.self c.fills.len before.size
     before.behind (record { in_order = gone.in_order; keeps = gone.keeps }) gone.consumed in
-    let now = passes_filled _ _ _ _ _ _ passes c.fill_retried.new.self c.in_ok-fill_retried.ensures.retried in
+    let now = passes_filled _ _ _ _ _ _ passes (refilling _ _) c.fill_retried.new.self c.in_ok-fill_retried.ensures.retried in
     let shown : c.buf.result.now ≡ c.fill_retried.new.self.block.bytes =
     c.buf.ensures ∙ ap (λ x. x.block.bytes) c.self-in-fills.view_is in
     let first = subst (FirstAt c.args.byte c.in-Some.at) shown c.in-Some.ensures.found in
@@ -106,7 +107,7 @@ returns-in-Some g c =
     let f = c.in_ok-fill_retried.ensures.retried in
     let passes = passes_all _ _ _ _ c.fills.self before.handed before.passes c.consume.new.self c.fills.len before.size
     before.behind (record { in_order = gone.in_order; keeps = gone.keeps }) gone.consumed in
-    let now = passes_filled _ _ _ _ _ _ passes c.fill_retried.new.self f in
+    let now = passes_filled _ _ _ _ _ _ passes (refilling _ _) c.fill_retried.new.self f in
     let shown : c.buf.result.now ≡ c.fill_retried.new.self.block.bytes =
     c.buf.ensures ∙ ap (λ x. x.block.bytes) c.self-in-fills.view_is in
     let first = subst (FirstAt c.args.byte c.in-Some.at) shown c.in-Some.ensures.found in
@@ -135,7 +136,7 @@ fills-preserved g c =
     let shown : c.buf.result.now ≡ c.fill_retried.new.self.block.bytes =
     c.buf.ensures ∙ ap (λ x. x.block.bytes) c.self-in-fills.view_is in record {
       handed = before.handed ++ c.fills.self.block.bytes;
-      passes = passes_filled _ _ _ _ _ _ passes c.fill_retried.new.self c.in_ok-fill_retried.ensures.retried;
+      passes = passes_filled _ _ _ _ _ _ passes (refilling _ _) c.fill_retried.new.self c.in_ok-fill_retried.ensures.retried;
       size = c.len-len-in-None.ensures.value ∙ ap (λ x. length x.block.bytes) c.self-in-fills.view_is;
       behind = subst (Lacks c.args.byte) shown c.in-None.ensures.none;
       count = omega (

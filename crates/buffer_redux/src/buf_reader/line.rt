@@ -1,0 +1,186 @@
+//! A line of text.
+ghost use Rattle.std.specs.Prelude.{◌≡◌, ◌+◌, ◌<◌, ◌≤◌, ◌++◌, length, take, drop, IfNone, IfSome, MatchResult, OnErr, OnOk, string_bytes, IsUtf8};
+ghost use Rattle.std.specs.Io.BufRead.{take_through};
+ghost use Rattle.std.specs.IoError.{error_kind};
+ghost use Rattle.redux_buffer.specs.Block.{IsBlock, usable};
+ghost use Rattle.redux_buffer.specs.GrowError.{GrowthRefused};
+ghost use Rattle.buffer_redux.specs.ReadLine.{AppendsLine, AppendsText, FillsLine, FrontOf, InvalidCaused, IsPart, MakesSpace, NeverUtf8, ReadsBehind, ReadsLine};
+ghost use Rattle.buffer_redux.specs.FillRetried.{Retried};
+ghost use Rattle.buffer_redux.specs.ReadUntil.{Lacks};
+ghost use Rattle.buffer_redux.specs.Remaining.{reader_remaining};
+
+use crate::buf_reader::BufReader;
+use crate::buf_reader::until::first_of;
+use redux_buffer::{GrowError, INTERRUPT_LIMIT};
+use redux_policy::ReaderPolicy;
+use redux_tell::tell::TellRead;
+use std::alloc::Allocator;
+use std::io::{BufRead, ErrorKind};
+use std::{io, str};
+
+impl<R: TellRead, P: ReaderPolicy> BufReader<R, P> {
+    /// Appends to `out` the next line with its line feed, or what is left of the stream, and returns how many bytes those
+    /// are. Where the line is buffered, the policy isn't asked, and neither is the reader.
+    ///
+    /// Bytes that are no UTF-8 are handed out to nobody: they are `InvalidData`, and stay buffered, as does what follows them,
+    /// for [`read_until`](BufReader::read_until) or [`skip_until`](BufReader::skip_until). So does a character that the
+    /// stream ends within. Of a line that isn't buffered yet the text before them may have been appended.
+    ///
+    /// A fill that was interrupted is made again, 64 times in a row; any other fault is returned. Whatever is returned, what
+    /// was appended is what was handed out: where memory is refused, the bytes that it was for stay buffered. Behind a part
+    /// of a character it reads past the policy. A plain buffer of fewer than 6 bytes grows where such a part fills it; where
+    /// it must not, its part of the character stays buffered.
+    #[inline(always)]
+    pub fn read_line<A: Allocator>(&mut self, out: &mut String<A>) -> io::Result<usize>
+        ensures line { ReadsLine R.remaining P.rules self.old (string_bytes out.old) result (string_bytes out.new) self.new }
+        ensures bytes { OnOk result (IfSome (reader_remaining R.remaining P.rules self.old)
+            (λ xs. string_bytes out.new ≡ string_bytes out.old ++ take_through 10 xs)) }
+        ensures invalid { InvalidCaused R.remaining P.rules self.old result self.new }
+    {
+        match first_of(b'\n', self.buf.buf()) {
+            Some(at) => {
+                let n = at + 1;
+                self.append_line(n, out)?;
+                Ok(n)
+            }
+            None => self.read_line_aside(out),
+        }
+    }
+
+    #[inline(always)]
+    fn read_line_aside<A: Allocator>(&mut self, out: &mut String<A>) -> io::Result<usize>
+        requires plain { Lacks 10 self.old.block.bytes }
+        ensures line { ReadsLine R.remaining P.rules self.old (string_bytes out.old) result (string_bytes out.new) self.new }
+    {
+        self.read_line_slowly(out)
+    }
+
+    // The same where no line feed is buffered.
+    #[cold]
+    #[inline(never)]
+    fn read_line_slowly<A: Allocator>(&mut self, out: &mut String<A>) -> io::Result<usize>
+        requires plain { Lacks 10 self.old.block.bytes }
+        ensures line { ReadsLine R.remaining P.rules self.old (string_bytes out.old) result (string_bytes out.new) self.new }
+    {
+        let _ = &self.buf;
+        let start = out.len();
+        'fills: loop {
+            self.append_text(out)?;
+            self.fill_line()?;
+            if self.buf.is_empty() {
+                return Ok(out.len() - start);
+            }
+            if let Some(at) = first_of(b'\n', self.buf.buf()) {
+                self.append_line(at + 1, out)?;
+                return Ok(out.len() - start);
+            }
+        }
+    }
+
+    // Appends the first `n` bytes that are buffered to `out`, if they are a text, and drops them.
+    #[inline(always)]
+    fn append_line<A: Allocator>(&mut self, n: usize, out: &mut String<A>) -> io::Result<()>
+        requires within { n ≤ length self.old.block.bytes }
+        ensures appends { AppendsLine R.remaining P.rules n self.old (string_bytes out.old) result (string_bytes out.new) self.new }
+    {
+        let shown = self.buf.buf();
+        let Ok(text) = str::from_utf8(&shown[..n]) else {
+            return Err(io::Error::from(ErrorKind::InvalidData));
+        };
+        out.push_str(text)?;
+        self.consume(n);
+        Ok(())
+    }
+
+    // Appends what is buffered to `out`, up to a character that it ends within, and drops that.
+    fn append_text<A: Allocator>(&mut self, out: &mut String<A>) -> io::Result<()>
+        ensures appends { AppendsText R.remaining P.rules self.old (string_bytes out.old) result (string_bytes out.new) self.new }
+    {
+        let Some(text) = text_in_front(self.buf.buf()) else {
+            return Err(io::Error::from(ErrorKind::InvalidData));
+        };
+        let n = text.len();
+        out.push_str(text)?;
+        self.consume(n);
+        Ok(())
+    }
+
+    // Fills, or reads on behind a part of a character, which the end of the stream makes `InvalidData`.
+    fn fill_line(&mut self) -> io::Result<()>
+        requires part { IsPart self.old.block.bytes }
+        ensures fills { FillsLine R.remaining P.rules self.old result self.new }
+    {
+        let len = self.buf.len();
+        if len == 0 {
+            return self.fill_retried();
+        }
+        self.read_behind_retried()?;
+        if self.buf.len() == len {
+            return Err(io::Error::from(ErrorKind::InvalidData));
+        }
+        Ok(())
+    }
+
+    // Reads behind what is buffered, and again where that was interrupted, `INTERRUPT_LIMIT` times at the most.
+    fn read_behind_retried(&mut self) -> io::Result<()>
+        requires some { 0 < length self.old.block.bytes }
+        ensures retried { Retried (ReadsBehind R.remaining P.rules) self.old result self.new }
+    {
+        for _ in 0..INTERRUPT_LIMIT {
+            match self.read_behind() {
+                Ok(()) => return Ok(()),
+                Err(e) => {
+                    if e.kind() != ErrorKind::Interrupted {
+                        return Err(e);
+                    }
+                }
+            }
+        }
+        self.read_behind()
+    }
+
+    // Reads once past the policy, behind what is buffered.
+    fn read_behind(&mut self) -> io::Result<()>
+        requires some { 0 < length self.old.block.bytes }
+        ensures reads { ReadsBehind R.remaining P.rules self.old result self.new }
+    {
+        self.make_space()?;
+        self.read_into_buf()?;
+        Ok(())
+    }
+
+    // Sees to usable space: bytes go to the front of a plain buffer where that is free to hold them, so that each was given
+    // since some other was moved; else it grows.
+    fn make_space(&mut self) -> Result<(), GrowError>
+        requires some { 0 < length self.old.block.bytes }
+        ensures space { MakesSpace R.remaining P.rules self.old result self.new }
+        ensures whole { IsBlock self.new.block }
+    {
+        if self.buf.usable_space() > 0 {
+            return Ok(());
+        }
+        if self.buf.len() <= self.buf.capacity() / 2 {
+            self.make_room();
+            return Ok(());
+        }
+        self.reserve(1)
+    }
+}
+
+// The text that the bytes begin with, up to a character that they end within; `None` where they are no UTF-8, whatever follows
+// them.
+fn text_in_front(bytes: &[u8]) -> Option<&str>
+    ensures front { IfSome result (λ text. FrontOf bytes.now text.now) }
+    ensures none { IfNone result (NeverUtf8 bytes.now) }
+{
+    match str::from_utf8(bytes) {
+        Ok(text) => Some(text),
+        Err(e) => match e.error_len() {
+            Some(_) => None,
+            None => match str::from_utf8(&bytes[..e.valid_up_to()]) {
+                Ok(text) => Some(text),
+                Err(_) => None,
+            },
+        },
+    }
+}
