@@ -1,7 +1,7 @@
 //! Cases of calls of std's that a `BufReader` has of its own, or that std makes of others. A line of such a case is as long as
 //! its piece, and what is no line is counted by turns, each of which consumes a piece.
 use crate::cases::{Case, Kind};
-use crate::lines::{lines_to_end, until_end};
+use crate::lines::until_end;
 use crate::makers::{line_writer, std_line_writer, std_writer, writer};
 use crate::streams::{Place, Sink};
 use crate::whole::format_often;
@@ -99,6 +99,8 @@ fn own_calls(alloc: Global, case: &Case, call: Call, reader: Reader<'_>) -> io::
         Call::ReadUntil => own_until_end(alloc, reader),
         Call::SkipUntil => own_skip_to_end(reader),
         Call::ReadLine => own_line_by_line(alloc, reader),
+        Call::LinesOf => go_over_lines(reader.lines(alloc)),
+        Call::Split => go_over(reader.split(alloc, b'\n')),
         Call::Bytes => own_bytes_to_end(reader),
         Call::Onward => onward(reader, case.piece),
         Call::Peek => peeks(reader, case.piece),
@@ -130,94 +132,94 @@ fn provided<R: BufRead + Seek + Drop>(
     match call {
         Call::ReadLine => line_by_line(alloc, reader),
         Call::Bytes => bytes_to_end(reader),
-        Call::LinesOf => lines_to_end(alloc, reader),
-        Call::Split => split_to_end(alloc, reader),
+        Call::LinesOf => go_over_lines(reader.lines(alloc)),
+        Call::Split => go_over(reader.split(alloc, b'\n')),
         Call::Positions => positions(reader, case.piece),
         _ => Ok(0),
     }
+}
+
+// How many bytes calls take in all, up to one that takes none. A call that a type has itself is taken only where the type is
+// named, so such a loop stands in a function for each type.
+macro_rules! total_of {
+    ($call:expr) => {{
+        let mut total = 0u64;
+        for _ in 0..u64::MAX {
+            let n = $call?;
+            if n == 0 {
+                break;
+            }
+            total = total.wrapping_add(n as u64);
+        }
+        Ok(total)
+    }};
 }
 
 #[inline(never)]
 fn own_until_end(alloc: Global, reader: Reader<'_>) -> io::Result<u64> {
     let mut reader = reader;
     let mut line = Vec::new(alloc);
-    let mut total = 0u64;
-    for _ in 0..u64::MAX {
+    total_of!({
         line.clear();
-        let n = reader.read_until(b'\n', &mut line)?;
-        if n == 0 {
-            break;
-        }
-        total = total.wrapping_add(n as u64);
-    }
-    Ok(total)
+        reader.read_until(b'\n', &mut line)
+    })
 }
 
 #[inline(never)]
 fn own_skip_to_end(reader: Reader<'_>) -> io::Result<u64> {
     let mut reader = reader;
-    let mut total = 0u64;
-    for _ in 0..u64::MAX {
-        let n = reader.skip_until(b'\n')?;
-        if n == 0 {
-            break;
-        }
-        total = total.wrapping_add(n as u64);
-    }
-    Ok(total)
+    total_of!(reader.skip_until(b'\n'))
 }
 
 #[inline(never)]
 fn skip_to_end<R: BufRead + Drop>(reader: R) -> io::Result<u64> {
     let mut reader = reader;
-    let mut total = 0u64;
-    for _ in 0..u64::MAX {
-        let n = reader.skip_until(b'\n')?;
-        if n == 0 {
-            break;
-        }
-        total = total.wrapping_add(n as u64);
-    }
-    Ok(total)
+    total_of!(reader.skip_until(b'\n'))
 }
 
 #[inline(never)]
 fn own_line_by_line(alloc: Global, reader: Reader<'_>) -> io::Result<u64> {
     let mut reader = reader;
     let mut line = String::new(alloc);
-    let mut total = 0u64;
-    for _ in 0..u64::MAX {
+    total_of!({
         line.clear();
-        let n = reader.read_line(&mut line)?;
-        if n == 0 {
-            break;
-        }
-        total = total.wrapping_add(n as u64);
-    }
-    Ok(total)
+        reader.read_line(&mut line)
+    })
 }
 
 #[inline(never)]
 fn line_by_line<R: BufRead + Drop>(alloc: Global, reader: R) -> io::Result<u64> {
     let mut reader = reader;
     let mut line = String::new(alloc);
+    total_of!({
+        line.clear();
+        reader.read_line(&mut line)
+    })
+}
+
+// Goes over lines, or pieces, which lack their ends.
+#[inline(never)]
+fn go_over_lines<I: Iterator<Item = io::Result<String>>>(lines: I) -> io::Result<u64> {
+    let mut lines = lines;
     let mut total = 0u64;
     for _ in 0..u64::MAX {
-        line.clear();
-        let n = reader.read_line(&mut line)?;
-        if n == 0 {
-            break;
+        match lines.next() {
+            Some(line) => total = total.wrapping_add(line?.len() as u64).wrapping_add(1),
+            None => break,
         }
-        total = total.wrapping_add(n as u64);
     }
     Ok(total)
 }
 
 #[inline(never)]
-fn split_to_end<R: BufRead + Drop>(alloc: Global, reader: R) -> io::Result<u64> {
+fn go_over<I: Iterator<Item = io::Result<Vec<u8>>>>(pieces: I) -> io::Result<u64> {
+    let mut pieces = pieces;
     let mut total = 0u64;
-    for piece in reader.split(alloc, b'\n') {
-        total = total.wrapping_add(piece?.len() as u64).wrapping_add(1);
+    for _ in 0..u64::MAX {
+        match pieces.next() {
+            Some(piece) => total = total.wrapping_add(piece?.len() as u64).wrapping_add(1),
+            None => break,
+        }
     }
     Ok(total)
 }
@@ -330,38 +332,31 @@ fn write_bytes<W: Write + Drop>(writer: W, bytes: &[u8]) -> io::Result<u64> {
     Ok(total)
 }
 
-// The line of `format_often`.
-#[inline(never)]
-fn own_format(writer: BufWriter<Told<Sink>>, least: u64) -> io::Result<u64> {
-    let mut writer = writer;
-    let mut total = 0u64;
-    let name = "value";
-    for at in 0..u64::MAX {
-        if total >= least {
-            break;
+// The line of `format_often` again and again.
+macro_rules! write_lines {
+    ($writer:ident, $least:ident) => {{
+        let mut writer = $writer;
+        let mut total = 0u64;
+        let name = "value";
+        for at in 0..u64::MAX {
+            if total >= $least {
+                break;
+            }
+            let number = 1000000u64.wrapping_add(at);
+            write!(writer, "{name} {number}: {name}\n")?;
+            total = total.wrapping_add(21);
         }
-        let number = 1000000u64.wrapping_add(at);
-        write!(writer, "{name} {number}: {name}\n")?;
-        total = total.wrapping_add(21);
-    }
-    writer.flush()?;
-    Ok(total)
+        writer.flush()?;
+        Ok(total)
+    }};
 }
 
-// The same.
+#[inline(never)]
+fn own_format(writer: BufWriter<Told<Sink>>, least: u64) -> io::Result<u64> {
+    write_lines!(writer, least)
+}
+
 #[inline(never)]
 fn own_format_lines(writer: LineWriter<Told<Sink>>, least: u64) -> io::Result<u64> {
-    let mut writer = writer;
-    let mut total = 0u64;
-    let name = "value";
-    for at in 0..u64::MAX {
-        if total >= least {
-            break;
-        }
-        let number = 1000000u64.wrapping_add(at);
-        write!(writer, "{name} {number}: {name}\n")?;
-        total = total.wrapping_add(21);
-    }
-    writer.flush()?;
-    Ok(total)
+    write_lines!(writer, least)
 }

@@ -21,6 +21,8 @@ mod limits;
 #[cfg(test)]
 mod lines;
 #[cfg(test)]
+mod pieces;
+#[cfg(test)]
 mod play;
 #[cfg(test)]
 mod reader;

@@ -9,7 +9,9 @@ use std::io::ErrorKind;
 use std::test::Fail;
 use tests_common::{holding, kind, reader};
 
-type Text = BufReader<Told<FaultAt<ScriptReader>>>;
+pub type Faulty = Told<FaultAt<ScriptReader>>;
+
+pub type Text = BufReader<Faulty>;
 
 static TEXT: &str = "aé€😀b\n\n😀€é\n€";
 
@@ -17,7 +19,7 @@ static LINES: [&str; 5] = ["aé€😀b\n", "\n", "😀€é\n", "€", ""];
 
 // A reader over a buffer of this capacity, and a stream that gives so many of these bytes in a read at the most, and whose call
 // after so many others answers otherwise.
-fn text(
+pub fn text(
     alloc: Global,
     sizes: (usize, usize),
     bytes: &[u8],
@@ -57,7 +59,7 @@ fn all_come(alloc: Global, mut rdr: Text) -> bool {
     true
 }
 
-const SIZES: [(usize, usize); 12] = [
+pub const SIZES: [(usize, usize); 12] = [
     (1, 1),
     (2, 7),
     (3, 2),

@@ -1,0 +1,105 @@
+//! A reader's own `lines` and `split`: wherever a fill ends, and whichever call of the stream fails.
+use crate::text_lines::{Faulty, SIZES, Text, text};
+use buffer_redux::script::Answer;
+use buffer_redux::{Lines, Split};
+use std::alloc::Global;
+use std::io;
+use std::io::ErrorKind;
+use std::test::Fail;
+
+// What a stream gives, its pieces up to a byte, and its lines.
+type Row = (
+    &'static [u8],
+    u8,
+    &'static [&'static [u8]],
+    &'static [Result<&'static str, ErrorKind>],
+);
+
+static ROWS: [Row; 5] = [
+    (b"", b'\n', &[], &[]),
+    (b"\n", b'\n', &[b""], &[Ok("")]),
+    (
+        b"a\r\n\nbc\r\rd\n\r",
+        b'\n',
+        &[b"a\r", b"", b"bc\r\rd", b"\r"],
+        &[Ok("a"), Ok(""), Ok("bc\r\rd"), Ok("\r")],
+    ),
+    (
+        b"bab\r\n",
+        b'b',
+        &[b"", b"a", b"\r\n"],
+        &[Ok("bab")],
+    ),
+    // A line that is no UTF-8 is gone, and the next one comes whole.
+    (
+        b"a\xff\nb\r\n\xc3",
+        b'\n',
+        &[b"a\xff", b"b\r", b"\xc3"],
+        &[Err(ErrorKind::InvalidData), Ok("b"), Err(ErrorKind::InvalidData)],
+    ),
+];
+
+// These calls promise nothing here, since the rows look at each answer. A fault is met once, and the next call goes on.
+fn piece(pieces: &mut Split<Faulty>) -> Option<io::Result<Vec<u8>>> {
+    match pieces.next() {
+        Some(Err(e)) if e.kind() == ErrorKind::WouldBlock => pieces.next(),
+        given => given,
+    }
+}
+
+fn line(lines: &mut Lines<Faulty>) -> Option<io::Result<String>> {
+    match lines.next() {
+        Some(Err(e)) if e.kind() == ErrorKind::WouldBlock => lines.next(),
+        given => given,
+    }
+}
+
+fn is_cut(alloc: Global, from: Text, row: &Row) -> bool {
+    let mut pieces = from.split(alloc, row.1);
+    for want in row.2 {
+        match piece(&mut pieces) {
+            Some(Ok(given)) if given.as_slice() == *want => {}
+            _ => return false,
+        }
+    }
+    piece(&mut pieces).is_none() && pieces.into_parts().1.is_empty()
+}
+
+fn is_read(alloc: Global, from: Text, row: &Row) -> bool {
+    let mut lines = from.lines(alloc);
+    for want in row.3 {
+        match line(&mut lines) {
+            Some(given) => {
+                if !is_line(given, *want) {
+                    return false;
+                }
+            }
+            None => return false,
+        }
+    }
+    line(&mut lines).is_none() && lines.into_parts().1.is_empty()
+}
+
+fn is_line(given: io::Result<String>, want: Result<&str, ErrorKind>) -> bool {
+    match (given, want) {
+        (Ok(given), Ok(want)) => given.as_str() == want,
+        (Err(e), Err(kind)) => e.kind() == kind,
+        _ => false,
+    }
+}
+
+#[test]
+fn cut_as_stds_cut(rt: HostRuntime) -> Result<(), Fail> {
+    for row in &ROWS {
+        for sizes in SIZES {
+            for before in 0..20 {
+                let fault = (before, Answer::Fail(ErrorKind::WouldBlock));
+                let from = text(rt.alloc(), sizes, row.0, fault)?;
+                assert!(rt; is_cut(rt.alloc(), from, row), "{:?} {:?}", row.0, sizes);
+                let from = text(rt.alloc(), sizes, row.0, fault)?;
+                assert!(rt; is_read(rt.alloc(), from, row), "{:?} {:?}", row.0, sizes);
+            }
+        }
+    }
+    Ok(())
+}
