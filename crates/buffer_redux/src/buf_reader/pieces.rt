@@ -7,7 +7,7 @@ ghost use Rattle.std.specs.declared.io.ErrorKind.TheVariants.{InvalidData};
 ghost use Rattle.buffer_redux.specs.Pieces.{begins, without_end, Gives, GivesLine, GivesPiece};
 
 use crate::buf_reader::BufReader;
-use redux_policy::ReaderPolicy;
+use redux_policy::{ReaderPolicy, StdPolicy};
 use redux_tell::tell::TellRead;
 use std::alloc::Global;
 use std::io::ErrorKind;
@@ -19,7 +19,7 @@ use std::{io, mem};
 /// Where a fault comes into a piece, what came of it stays here, and the next call goes on with it. It ends after 2^64 - 1
 /// calls, the last of which answers `TimedOut`.
 #[derive(Drop)]
-pub struct Split<R: TellRead, P> {
+pub struct Split<R: TellRead, P = StdPolicy> {
     reader: BufReader<R, P>,
     alloc: Global,
     byte: u8,
@@ -40,7 +40,7 @@ impl<R: TellRead, P> Model for Split<R, P> {
 ///
 /// A fault is as in a [`Split`]. A line that is no UTF-8 is gone, and `InvalidData` comes in its place.
 #[derive(Drop)]
-pub struct Lines<R: TellRead, P> {
+pub struct Lines<R: TellRead, P = StdPolicy> {
     lines: Split<R, P>,
 }
 
