@@ -21,6 +21,7 @@ pub mod Searching
 pub mod AheadSteps
 pub mod ByteSteps
 pub mod UntilSteps
+pub mod Utf8Parts
 pub mod Utf8Fronts
 pub mod LineSteps
 pub mod ReadSteps

@@ -11,28 +11,22 @@ use lib.Utf8.{scalars}
 use Rattle.buffer_redux.specs.ReadLine.{FrontOf, IsPart, NeverUtf8}
 use Rattle.buffer_redux.specs.ReadUntil.{FirstAt}
 use Rattle.buffer_redux.proofs.Searching.{through}
-
-eqb_false : (a b : ℕ) → b < a → (a == b) ≡ false
-eqb_false a b h = grind (arith, nat_tests)
-
-ltb_false : (a b : ℕ) → b ≤ a → nat_lt a b ≡ false
-ltb_false a b h = grind (arith, nat_tests)
-
-ltb_true : (a b : ℕ) → a < b → nat_lt a b ≡ true
-ltb_true a b h = grind (arith, nat_tests)
+use Rattle.buffer_redux.proofs.Utf8Parts.{can_finish, ltb_false, ltb_true}
 
 and_true : (a b : Bool) → (a && b) ≡ true → (a ≡ true) × (b ≡ true)
 and_true true b h = (refl, h)
 and_true false b h = absurd (cc h)
 
 -- a proper front of a character may still become one
-part_of_two : (c k : ℕ) → 128 ≤ c → c < 2048 → 0 < k → k < length (encode_utf8 c) → utf8_error_len (take k (encode_utf8 c)) ≡ None
+part_of_two : (c k : ℕ) → 128 ≤ c → c < 2048 → 0 < k → k < length (encode_utf8 c)
+    → utf8_error_len (take k (encode_utf8 c)) ≡ None
 unfolding encode_utf8 utf8_error_len
 part_of_two c k low high some short =
     let one : k ≡ 1 = omega (arith, rw (ltb_false c 128 low, ltb_true c 2048 high) at short) in
     rw (one, ltb_false c 128 low, ltb_true c 2048 high) (grind (arith, nat_tests))
 
-part_of_three : (c k : ℕ) → IsScalar c → 2048 ≤ c → c < 65536 → 0 < k → k < length (encode_utf8 c) → utf8_error_len (take k (encode_utf8 c)) ≡ None
+part_of_three : (c k : ℕ) → IsScalar c → 2048 ≤ c → c < 65536 → 0 < k → k < length (encode_utf8 c)
+    → utf8_error_len (take k (encode_utf8 c)) ≡ None
 unfolding encode_utf8 utf8_error_len
 part_of_three c k scalar low high some short =
     let wide = ltb_false c 128 (omega arith) in
@@ -43,7 +37,8 @@ part_of_three c k scalar low high some short =
       | inr p ↦ let two : k ≡ 2 = omega arith in rw two (grind (arith, nat_tests))
     ])
 
-part_of_four : (c k : ℕ) → IsScalar c → 65536 ≤ c → 0 < k → k < length (encode_utf8 c) → utf8_error_len (take k (encode_utf8 c)) ≡ None
+part_of_four : (c k : ℕ) → IsScalar c → 65536 ≤ c → 0 < k → k < length (encode_utf8 c)
+    → utf8_error_len (take k (encode_utf8 c)) ≡ None
 unfolding encode_utf8 utf8_error_len
 part_of_four c k scalar low some short =
     let wide = ltb_false c 128 (omega arith) in
@@ -82,16 +77,20 @@ part_of_text tail rest (c ∷ cs) some scalar is none =
     elim (leb_tells (length char) (length tail)) [
       | inl p ↦
           let front : char ≡ take (length char) tail =
-          sym (take_at char (encode_utf8_all cs) (length char) refl) ∙ ap (take (length char)) is ∙ take-append-le (length char) tail rest p.1 in
-          absurd (none (length char) (omega (arith, length-encode c, len_utf8_bounds c)) (subst IsUtf8 front (IsUtf8-encode c first)))
+          sym (take_at char (encode_utf8_all cs) (length char) refl) ∙ ap (take (length char)) is
+          ∙ take-append-le (length char) tail rest p.1 in
+          absurd (none (length char) (omega (arith, length-encode c, len_utf8_bounds c))
+          (subst IsUtf8 front (IsUtf8-encode c first)))
       | inr p ↦
           let front : take (length tail) char ≡ tail =
-          sym (take-append-le (length tail) char (encode_utf8_all cs) (omega arith)) ∙ ap (take (length tail)) is ∙ take_at tail rest (length tail) refl in
+          sym (take-append-le (length tail) char (encode_utf8_all cs) (omega arith)) ∙ ap (take (length tail)) is
+          ∙ take_at tail rest (length tail) refl in
           subst (λ xs. utf8_error_len xs ≡ None) front (part_of_char c (length tail) first some p.1)
     ]
 
 -- text, and behind it what is text
-text_behind : (bytes : List ℕ) (v n : ℕ) → IsUtf8 (take v bytes) → IsUtf8 (take n (drop v bytes)) → IsUtf8 (take (v + n) bytes)
+text_behind : (bytes : List ℕ) (v n : ℕ) → IsUtf8 (take v bytes) → IsUtf8 (take n (drop v bytes))
+    → IsUtf8 (take (v + n) bytes)
 text_behind bytes v n front back =
     subst IsUtf8 (sym (take-add v n bytes)) (IsUtf8-append (take v bytes) (take n (drop v bytes)) front back)
 
@@ -108,7 +107,8 @@ never_at_fault bytes v k found fault more whole =
     cc (part, fault)
 
 -- a line that is whole is not mended either: its line feed is a character
-pub never_whole : (line more : List ℕ) (i : ℕ) → length line ≡ i + 1 → slice_index line i < 128 → IsUtf8 (line ++ more) → IsUtf8 line
+never_whole : (line more : List ℕ) (i : ℕ) → length line ≡ i + 1 → slice_index line i < 128 → IsUtf8 (line ++ more)
+    → IsUtf8 line
 never_whole line more i size low whole =
     let same : slice_index (line ++ more) i ≡ slice_index line i = get_or_append_left line more 0 i (omega (arith, size)) in
     let seam = IsCharBoundary-after_ascii (line ++ more) i whole (omega (arith, size, length-append line more))
@@ -122,22 +122,28 @@ front_whole bytes text same whole =
     let none : drop (length text) bytes ≡ [] = drop_all (length text) bytes (omega (arith, ap length same)) in record {
       equal = ap (λ l. text ++ l) none ∙ append-nil text ∙ same;
       utf8 = subst IsUtf8 (sym same) whole;
-      part = record { few = omega (arith, ap length none); bad = λ some. absurd (omega (arith, some, ap length none)) };
+      part = record {
+        few = omega (arith, ap length none);
+        bad = λ n some within. absurd (omega (arith, some, within, ap length none));
+        may = ([], subst IsUtf8 (sym (append-nil (drop (length text) bytes) ∙ none)) IsUtf8-nil);
+      };
     }
 
 -- or but for a part of a character
-pub front_part : (bytes text : List ℕ) (v : ℕ) → IsValidUpTo bytes v → length bytes < v + 4 → text ≡ take v bytes
-    → FrontOf bytes text
-front_part bytes text v found few same =
+pub front_part : (bytes text : List ℕ) (v : ℕ) → IsValidUpTo bytes v → length bytes < v + 4
+    → utf8_error_len (drop v bytes) ≡ None → text ≡ take v bytes → FrontOf bytes text
+front_part bytes text v found few fault same =
     let size : length text ≡ v = ap length same ∙ length-take-le v bytes (omega (arith, found.short)) in
-    let rest : drop (length text) bytes ≡ drop v bytes = ap (λ n. drop n bytes) size in record {
+    let rest : drop (length text) bytes ≡ drop v bytes = ap (λ n. drop n bytes) size in
+    let left : length (drop v bytes) ≡ length bytes - v = length-drop v bytes in
+    let bad : (n : ℕ) → 0 < n → n ≤ length (drop v bytes) → ¬ (IsUtf8 (take n (drop v bytes))) =
+    λ n some within text. found.longest (v + n) (omega (arith, some)) (text_behind bytes v n found.front text) in record {
       equal = ap (λ l. text ++ l) rest ∙ ap (λ l. l ++ drop v bytes) same ∙ take-append-drop v bytes;
       utf8 = subst IsUtf8 (sym same) found.front;
       part = subst IsPart (sym rest) (record {
-        few = omega (arith, few, found.short, length-drop v bytes);
-        bad = λ some text. found.longest (v + length (drop v bytes)) (omega (arith, some))
-            (text_behind bytes v (length (drop v bytes)) found.front
-            (subst IsUtf8 (sym (take_all (length (drop v bytes)) (drop v bytes) (omega arith))) text));
+        few = omega (arith, few, found.short, left);
+        bad = bad;
+        may = can_finish (drop v bytes) (omega (arith, found.short, left)) (omega (arith, few, found.short, left)) fault bad;
       });
     }
 

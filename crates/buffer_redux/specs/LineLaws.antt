@@ -1,5 +1,5 @@
 -- What a call that appends a line does to the bytes that are known to be left.
-use Rattle.std.specs.Prelude.{◌≡◌, ℕ, ◌==◌, ◌⊎◌, Bool, false, true, cond, List, [], ◌∷◌, ◌++◌, Result, Ok, Err, Option, None, Some, IfSome, OnOk, IsUtf8, length}
+use Rattle.std.specs.Prelude.{◌≡◌, ℕ, ◌<◌, ◌==◌, ◌⊎◌, Bool, false, true, cond, List, [], ◌∷◌, ◌++◌, Result, Ok, Err, Option, None, Some, IfSome, OnOk, IsUtf8, length, take}
 use Rattle.std.proofs.Common.{◌∙◌, ap, append-nil, arith, drop_at, inl, inr, length-append, refl, subst, sym}
 use Rattle.std.proofs.BufReadLemmas.{take_through-append}
 use Rattle.std.proofs.lemmas.List.{take_at}
@@ -12,7 +12,7 @@ use Rattle.std.specs.declared.io.ErrorKind.TheVariants.{InvalidData}
 use Rattle.redux_policy.specs.Policy.{ReadRules}
 use Rattle.buffer_redux.specs.Buffered.{Buffered}
 use Rattle.buffer_redux.specs.ReaderLaws.{IfSome-unless, ReadsInOrder-ahead}
-use Rattle.buffer_redux.specs.ReadLine.{BreaksOff, EndsLine, FillsOn, InvalidCaused, NeverUtf8, ReadsLine, no_text}
+use Rattle.buffer_redux.specs.ReadLine.{BreaksOff, EndsLine, FillsOn, InvalidCaused, IsPart, NeverUtf8, ReadsLine, no_text}
 use Rattle.buffer_redux.specs.ReadUntil.{EndsUntil, Lacks}
 use Rattle.buffer_redux.specs.Remaining.{ahead, may_stop, reader_remaining}
 use Rattle.buffer_redux.specs.UntilLaws.{EndsUntil-known, appended_known, lacking_through}
@@ -35,6 +35,10 @@ through_begins byte (b ∷ bytes) rest = by (b == byte) (through_begins byte byt
         ≡ cond is (b ∷ []) (b ∷ take_through byte bytes) ++ more)
     by true later = ([], refl)
     by false later = (later.0, ap (λ l. b ∷ l) later.1)
+
+part_bad : (bytes : List ℕ) → 0 < length bytes → IsPart bytes → ¬ (IsUtf8 bytes)
+part_bad bytes some part text = part.bad (length bytes) some (omega arith)
+    (subst IsUtf8 (sym (take_at bytes [] (length bytes) refl) ∙ ap (take (length bytes)) (append-nil bytes)) text)
 
 -- a line of which a piece is no UTF-8, whatever follows
 never_known : (a b : Option (List ℕ)) (bytes left handed : List ℕ)
@@ -86,5 +90,5 @@ module _ {S P : Type 0} (remaining : S → Option (List ℕ)) (rules : ReadRules
         | inr breaks ↦ inr (unless (λ _. broken_known (remaining s.inner) (remaining t.inner) s.block.bytes t.block.bytes
             reads.handed went
             (keeps.known.dry (omega (arith, breaks.fills.passes.front.keeps.grows.zero_reads, breaks.dry)))
-            reads.text breaks.fills.passes.plain breaks.plain (breaks.part.bad breaks.some)))
+            reads.text breaks.fills.passes.plain breaks.plain (part_bad t.block.bytes breaks.some breaks.part)))
       ]

@@ -19,10 +19,11 @@ use Rattle.buffer_redux.specs.ReadUntil.{AppendsFirst, EndsUntil, FirstAt, Lacks
 abbrev pub NeverUtf8 : List ℕ → Type 0
 NeverUtf8 bytes = (more : List ℕ) → ¬ (IsUtf8 (bytes ++ more))
 
--- the bytes are less than a character, unless there are none
+-- the bytes are less than a character, and more can make one of them; or there are none
 pub record IsPart (bytes : List ℕ) : Type 0 where
   pub few : length bytes < 4
-  pub bad : 0 < length bytes → ¬ (IsUtf8 bytes)
+  pub bad : (n : ℕ) → 0 < n → n ≤ length bytes → ¬ (IsUtf8 (take n bytes))
+  pub may : (more : List ℕ) × IsUtf8 (bytes ++ more)
 
 -- a text of so many bytes, and then a part of a character
 pub record FrontOf (bytes text : List ℕ) : Type 0 where
@@ -126,7 +127,7 @@ pub record ReadsLine {S P : Type 0} (remaining : S → Option (List ℕ)) (rules
   pub buffered : ¬ (Lacks 10 s.block.bytes)
       → (at : ℕ) × FirstAt 10 at s.block.bytes × AppendsLine remaining rules (at + 1) s before answer after t
 
--- an `InvalidData` is of a fill or a read on, so the stream's or the policy's; or of a line that is no UTF-8, where std knows it
+-- an `InvalidData` is of the last fill or read, so the stream's or the policy's; or the line is no UTF-8, where std knows it
 abbrev pub InvalidCaused : {S P A : Type 0} → (S → Option (List ℕ)) → ReadRules P → Buffered S P → Result A Error
     → Buffered S P → Type 0
 InvalidCaused remaining rules s (Ok a) t = ⊤
