@@ -1,22 +1,20 @@
 -- The turns and the ends of a call that appends a line to a text.
-use Rattle.std.proofs.Common.{◌≡◌, ℕ, zero, suc, ◌+◌, ◌*◌, ◌<◌, ◌≤◌, List, [], ◌∷◌, ◌++◌, length, take, drop, Result, Ok, Err, Option, refl, sym, ap, subst, ◌∙◌, inl, inr, arith, append-nil, length-append, length-take-le}
-use Rattle.std.specs.Prelude.{◌⊎◌, IsUtf8, slice_index}
+use Rattle.std.proofs.Common.{◌≡◌, ℕ, zero, suc, ◌+◌, ◌<◌, ◌≤◌, List, [], ◌∷◌, ◌++◌, length, take, Result, Ok, Err, Option, sym, ap, subst, ◌∙◌, inl, inr, arith, append-nil, length-append, length-take-le}
+use Rattle.std.specs.Prelude.{◌⊎◌}
 use Rattle.std.proofs.lemmas.Bool.{cases_lt}
 use Rattle.std.proofs.lemmas.List.Elements.{All-drop, All-take}
-use Rattle.std.specs.Io.BufRead.{take_through}
 use Rattle.std.specs.IoError.{error_kind}
 use Rattle.std.specs.declared.io.Error.{Error}
 use Rattle.std.specs.declared.io.ErrorKind.TheVariants.{InvalidData}
 use Rattle.redux_buffer.specs.Transfer.{ReadsOnce}
-use Rattle.redux_tell.specs.StreamLog.{portion, zero_of_none}
+use Rattle.redux_tell.specs.StreamLog.{zero_of_none}
 use Rattle.redux_policy.specs.Policy.{ReadRules}
 use Rattle.buffer_redux.specs.Buffered.{Buffered}
 use Rattle.buffer_redux.specs.BufReader.{RanDry, ReadsInOrder, ReadsIntoBuf}
 use Rattle.buffer_redux.specs.FillRetried.{FillRetried, InterruptedSteps}
 use Rattle.buffer_redux.specs.ReadAll.{HandedFront}
-use Rattle.buffer_redux.specs.ReaderLaws.{WantsBytes}
 use Rattle.buffer_redux.specs.ReadLine.{AppendsLine, AppendsText, BehindEnded, BehindRetried, EndsLine, FillsLine, FillsOn, IsPart, MakesSpace, NeverUtf8, ReadsBehind, no_text}
-use Rattle.buffer_redux.specs.ReadUntil.{EndsUntil, FirstAt, Lacks, Passes}
+use Rattle.buffer_redux.specs.ReadUntil.{FirstAt, Lacks, Passes}
 use Rattle.buffer_redux.specs.Sparing.{Spared}
 use Rattle.buffer_redux.specs.UntilLaws.{lacking_through}
 use Rattle.buffer_redux.proofs.ReadAll.{front_joins}
@@ -138,12 +136,16 @@ module _ {S P : Type 0} (remaining : S → Option (List ℕ)) (rules : ReadRules
   line_filled s (Ok tt) t none f = (inl (none, f), λ some. absurd (omega (arith, some, none)))
   line_filled s (Err e) t none f = inl (inl (none, f))
 
-  pub line_more : (s t : Buffered S P) → 0 < length s.block.bytes → IsPart s.block.bytes → BehindRetried remaining rules s (Ok tt) t
-      → ¬ (length t.block.bytes ≡ length s.block.bytes) → FillsLine {A = Unit {0}} remaining rules s (Ok tt) t
-  line_more s t some part read more = (inr (some, part, read), λ _. elim (behind_ended s t read) [
-    | inl grew ↦ grew
-    | inr none ↦ absurd (more (ap length none.0))
-  ])
+  pub line_more : (s t : Buffered S P) → 0 < length s.block.bytes → IsPart s.block.bytes
+      → BehindRetried remaining rules s (Ok tt) t → ¬ (length t.block.bytes ≡ length s.block.bytes)
+      → FillsLine {A = Unit {0}} remaining rules s (Ok tt) t
+  line_more s t some part read more = (
+    inr (some, part, read),
+    λ _. elim (behind_ended s t read) [
+      | inl grew ↦ grew
+      | inr none ↦ absurd (more (ap length none.0))
+    ],
+  )
 
   pub line_broken : (s : Buffered S P) (e : Error) (t : Buffered S P) → 0 < length s.block.bytes → IsPart s.block.bytes
       → BehindRetried remaining rules s (Ok tt) t → length t.block.bytes ≡ length s.block.bytes
@@ -155,67 +157,71 @@ module _ {S P : Type 0} (remaining : S → Option (List ℕ)) (rules : ReadRules
 
   -- after these bytes were handed out
   module _ (s m : Buffered S P) (handed : List ℕ) (before : Passes remaining rules (FillsOn remaining rules) 10 s handed m)
-      where
-    pub text_passes : (t : Buffered S P) (old new : List ℕ) → Lacks 10 m.block.bytes
-        → (a : AppendsText {A = Unit {0}} remaining rules m old (Ok tt) new t)
-        → Passes remaining rules (FillsOn remaining rules) 10 s (handed ++ take a.0 m.block.bytes) t
-    text_passes t old new plain a =
-        passes_first remaining rules 10 s m handed before t a.0 (All-take (λ b. ¬ (b ≡ 10)) a.0 m.block.bytes plain)
-        a.2.0.1 a.2.0.2
+    where
+      pub text_passes : (t : Buffered S P) (old new : List ℕ) → Lacks 10 m.block.bytes
+          → (a : AppendsText {A = Unit {0}} remaining rules m old (Ok tt) new t)
+          → Passes remaining rules (FillsOn remaining rules) 10 s (handed ++ take a.0 m.block.bytes) t
+      text_passes t old new plain a =
+          passes_first remaining rules 10 s m handed before t a.0 (All-take (λ b. ¬ (b ≡ 10)) a.0 m.block.bytes plain)
+          a.2.0.1 a.2.0.2
 
-    -- what stays buffered lacks a line feed too
-    pub text_leaves : (t : Buffered S P) (old new : List ℕ) → Lacks 10 m.block.bytes
-        → AppendsText {A = Unit {0}} remaining rules m old (Ok tt) new t → Lacks 10 t.block.bytes
-    text_leaves t old new plain a =
-        subst (Lacks 10) (sym a.3) (All-drop (λ b. ¬ (b ≡ 10)) a.0 m.block.bytes plain)
+      -- what stays buffered lacks a line feed too
+      pub text_leaves : (t : Buffered S P) (old new : List ℕ) → Lacks 10 m.block.bytes
+          → AppendsText {A = Unit {0}} remaining rules m old (Ok tt) new t → Lacks 10 t.block.bytes
+      text_leaves t old new plain a =
+          subst (Lacks 10) (sym a.3) (All-drop (λ b. ¬ (b ≡ 10)) a.0 m.block.bytes plain)
 
-    stopped_at : (e : Error) (t : Buffered S P) → t ≡ m → no_text handed e m.block.bytes
-        → HandedFront remaining rules s handed t × EndsLine remaining rules s (Err e) handed t
-    stopped_at e t same why = subst
-        (λ x. HandedFront remaining rules s handed x × EndsLine remaining rules s (Err e) handed x) (sym same)
-        (before.front, inl (until_stopped remaining rules 10 s m handed before no_text e why))
+      stopped_at : (e : Error) (t : Buffered S P) → t ≡ m → no_text handed e m.block.bytes
+          → HandedFront remaining rules s handed t × EndsLine remaining rules s (Err e) handed t
+      stopped_at e t same why = subst
+          (λ x. HandedFront remaining rules s handed x × EndsLine remaining rules s (Err e) handed x) (sym same)
+          (before.front, inl (until_stopped remaining rules 10 s m handed before no_text e why))
 
-    pub text_stopped : (e : Error) (t : Buffered S P) (old new : List ℕ) → Lacks 10 m.block.bytes
-        → AppendsText {A = Unit {0}} remaining rules m old (Err e) new t
-        → HandedFront remaining rules s handed t × EndsLine remaining rules s (Err e) handed t
-    text_stopped e t old new plain a = stopped_at e t a.1 (elim a.2 [
-      | inl refused ↦ inl (refused.0, refused.1)
-      | inr never ↦ inr (never.0, subst NeverUtf8 (lacking_through 10 m.block.bytes plain) never.1)
-    ])
+      pub text_stopped : (e : Error) (t : Buffered S P) (old new : List ℕ) → Lacks 10 m.block.bytes
+          → AppendsText {A = Unit {0}} remaining rules m old (Err e) new t
+          → HandedFront remaining rules s handed t × EndsLine remaining rules s (Err e) handed t
+      text_stopped e t old new plain a = stopped_at e t a.1 (elim a.2 [
+        | inl refused ↦ inl (refused.0, refused.1)
+        | inr never ↦ inr (never.0, subst NeverUtf8 (lacking_through 10 m.block.bytes plain) never.1)
+      ])
 
-    pub line_stopped : (at : ℕ) (e : Error) (t : Buffered S P) (old new : List ℕ) → FirstAt 10 at m.block.bytes
-        → AppendsLine {A = Unit {0}} remaining rules (at + 1) m old (Err e) new t
-        → HandedFront remaining rules s handed t × EndsLine remaining rules s (Err e) handed t
-    line_stopped at e t old new first a = stopped_at e t a.1 (elim a.2 [
-      | inl refused ↦ inl (refused.0, omega (arith, first.inside))
-      | inr bad ↦ inr (bad.0, subst NeverUtf8 (first_through 10 at m.block.bytes first) (never_line at m.block.bytes first bad.1))
-    ])
+      pub line_stopped : (at : ℕ) (e : Error) (t : Buffered S P) (old new : List ℕ) → FirstAt 10 at m.block.bytes
+          → AppendsLine {A = Unit {0}} remaining rules (at + 1) m old (Err e) new t
+          → HandedFront remaining rules s handed t × EndsLine remaining rules s (Err e) handed t
+      line_stopped at e t old new first a = stopped_at e t a.1 (elim a.2 [
+        | inl refused ↦ inl (refused.0, omega (arith, first.inside))
+        | inr bad ↦ inr (
+          bad.0,
+          subst NeverUtf8 (first_through 10 at m.block.bytes first)
+              (never_line at m.block.bytes first bad.1),
+        )
+      ])
 
-    pub fill_failed : (e : Error) (t : Buffered S P) → IsPart m.block.bytes → Lacks 10 m.block.bytes
-        → FillsLine {A = Unit {0}} remaining rules m (Err e) t
-        → HandedFront remaining rules s handed t × EndsLine remaining rules s (Err e) handed t
-    fill_failed e t part plain (inl f) = (
-      front_filled remaining rules 10 s m handed before going_on (Err e) t f,
-      inl (until_failed remaining rules 10 s m handed before no_text e t f),
-    )
-    fill_failed e t part plain (inr ended) = (
-      front_filled remaining rules 10 s m handed before going_on (Ok tt) t ended.1,
-      inr (record {
-        fills = record { last = m; passes = before; fill = ended.1 };
-        behind = sym ended.3;
-        dry = ended.4;
-        some = omega (arith, ended.2, ap length ended.3);
-        part = subst IsPart (sym ended.3) part;
-        plain = subst (Lacks 10) (sym ended.3) plain;
-        kind = ended.0;
-      }),
-    )
+      pub fill_failed : (e : Error) (t : Buffered S P) → IsPart m.block.bytes → Lacks 10 m.block.bytes
+          → FillsLine {A = Unit {0}} remaining rules m (Err e) t
+          → HandedFront remaining rules s handed t × EndsLine remaining rules s (Err e) handed t
+      fill_failed e t part plain (inl f) = (
+        front_filled remaining rules 10 s m handed before going_on (Err e) t f,
+        inl (until_failed remaining rules 10 s m handed before no_text e t f),
+      )
+      fill_failed e t part plain (inr ended) = (
+        front_filled remaining rules 10 s m handed before going_on (Ok tt) t ended.1,
+        inr (record {
+          fills = record { last = m; passes = before; fill = ended.1 };
+          behind = sym ended.3;
+          dry = ended.4;
+          some = omega (arith, ended.2, ap length ended.3);
+          part = subst IsPart (sym ended.3) part;
+          plain = subst (Lacks 10) (sym ended.3) plain;
+          kind = ended.0;
+        }),
+      )
 
-    pub line_end : (n : ℕ) (t : Buffered S P) → n ≡ length handed → FillsLine {A = Unit {0}} remaining rules m (Ok tt) t
-        → length t.block.bytes ≡ 0 → EndsLine remaining rules s (Ok n) handed t
-    line_end n t count f none =
-        until_end remaining rules 10 s m handed before no_text going_on n t count f.0
-        (λ wants some. elim f.0 [
-          | inl fill ↦ retried_dry remaining rules m t fill.1 wants some none
-          | inr read ↦ absurd (omega (arith, f.1 read.0, none))
-        ]) none
+      pub line_end : (n : ℕ) (t : Buffered S P) → n ≡ length handed → FillsLine {A = Unit {0}} remaining rules m (Ok tt) t
+          → length t.block.bytes ≡ 0 → EndsLine remaining rules s (Ok n) handed t
+      line_end n t count f none =
+          until_end remaining rules 10 s m handed before no_text going_on n t count f.0
+          (λ wants some. elim f.0 [
+            | inl fill ↦ retried_dry remaining rules m t fill.1 wants some none
+            | inr read ↦ absurd (omega (arith, f.1 read.0, none))
+          ]) none

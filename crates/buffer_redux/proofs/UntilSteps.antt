@@ -133,7 +133,8 @@ module _ {S P : Type 0} {step : Step (Buffered S P)} (remaining : S → Option (
         → error_kind e ≡ OutOfMemory
         → HandedFront remaining rules s handed t × EndsUntil remaining rules step no_memory byte s (Err e) handed t
     until_refused n e t within some same kind = subst
-        (λ x. HandedFront remaining rules s handed x × EndsUntil remaining rules step no_memory byte s (Err e) handed x) (sym same)
+        (λ x. HandedFront remaining rules s handed x × EndsUntil remaining rules step no_memory byte s (Err e) handed x)
+        (sym same)
         (before.front, until_stopped no_memory e (kind, omega (arith, some, within)))
 
 -- more was appended behind what was appended before

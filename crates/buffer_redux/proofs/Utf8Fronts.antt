@@ -1,11 +1,11 @@
 -- Bytes that no continuation makes UTF-8.
-use Rattle.std.proofs.Common.{◌≡◌, ℕ, zero, suc, ◌+◌, ◌-◌, ◌*◌, ◌<◌, ◌≤◌, Bool, true, false, cond, ◌&&◌, ◌||◌, ◌==◌, List, [], ◌∷◌, ◌++◌, length, take, drop, Option, None, Some, refl, sym, ◌∙◌, ap, subst, arith, inl, inr, append-nil, append_assoc, take-append-drop, take-add, length-append, length-drop, length-take-le, slice_index}
-use Rattle.std.specs.Prelude.{IsUtf8, encode_utf8_all, nat_lt, ◌⊎◌}
+use Rattle.std.proofs.Common.{◌≡◌, ℕ, ◌+◌, ◌-◌, ◌<◌, ◌≤◌, Bool, true, false, ◌&&◌, List, [], ◌∷◌, ◌++◌, length, take, drop, None, Some, refl, sym, ◌∙◌, ap, subst, arith, inl, inr, append-nil, take-append-drop, take-add, length-append, length-drop, length-take-le, slice_index}
+use Rattle.std.specs.Prelude.{IsUtf8, encode_utf8_all}
 use Rattle.std.specs.Char.{IsScalar, encode_utf8}
 use Rattle.std.specs.Str.{IsValidUpTo}
-use Rattle.std.specs.Str.Lossy.{utf8_error_len, error_len_of_some, error_len_after_one, error_len_after_two, second_byte_min, second_byte_max}
+use Rattle.std.specs.Str.Lossy.{utf8_error_len}
 use Rattle.std.proofs.lemmas.Str.{IsUtf8-append, IsUtf8-nil, IsUtf8-take, IsUtf8-drop, IsUtf8-encode, IsCharBoundary-from_take, IsCharBoundary-after_ascii, length-encode, len_utf8_bounds}
-use Rattle.std.proofs.lemmas.List.{drop_all, get_or_append_left, take_all, take_at, take-append-le, drop-append-le}
+use Rattle.std.proofs.lemmas.List.{drop_all, get_or_append_left, take_at, take-append-le, drop-append-le}
 use Rattle.std.proofs.lemmas.Bool.Decides.{nat_tests, leb_tells, eqb_tells}
 use lib.Utf8.{scalars}
 use Rattle.buffer_redux.specs.ReadLine.{FrontOf, IsPart, NeverUtf8}

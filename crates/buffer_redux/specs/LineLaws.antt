@@ -1,19 +1,17 @@
 -- What a call that appends a line does to the bytes that are known to be left.
-use Rattle.std.specs.Prelude.{◌≡◌, ℕ, ◌<◌, ◌==◌, ◌⊎◌, Bool, false, true, cond, List, [], ◌∷◌, ◌++◌, Result, Ok, Err, Option, None, Some, IfSome, OnOk, IsUtf8, length, take}
+use Rattle.std.specs.Prelude.{◌≡◌, ℕ, ◌<◌, ◌==◌, Bool, false, true, cond, List, [], ◌∷◌, ◌++◌, Result, Ok, Err, Option, None, Some, IfSome, OnOk, IsUtf8, length, take}
 use Rattle.std.proofs.Common.{◌∙◌, ap, append-nil, arith, drop_at, inl, inr, length-append, refl, subst, sym}
 use Rattle.std.proofs.BufReadLemmas.{take_through-append}
 use Rattle.std.proofs.lemmas.List.{take_at}
 use Rattle.std.proofs.lemmas.Str.{IsCharBoundary-from_take, IsUtf8-drop}
 use Rattle.std.specs.Io.BufRead.{take_through}
 use Rattle.std.specs.Io.KnownBytes.{Consumes, IsAtEnd, prepend_known}
-use Rattle.std.specs.IoError.{error_kind}
 use Rattle.std.specs.declared.io.Error.{Error}
-use Rattle.std.specs.declared.io.ErrorKind.TheVariants.{InvalidData}
 use Rattle.redux_policy.specs.Policy.{ReadRules}
 use Rattle.buffer_redux.specs.Buffered.{Buffered}
 use Rattle.buffer_redux.specs.ReaderLaws.{IfSome-unless, ReadsInOrder-ahead}
-use Rattle.buffer_redux.specs.ReadLine.{BreaksOff, EndsLine, FillsOn, InvalidCaused, IsPart, NeverUtf8, ReadsLine, no_text}
-use Rattle.buffer_redux.specs.ReadUntil.{EndsUntil, Lacks}
+use Rattle.buffer_redux.specs.ReadLine.{FillsOn, InvalidCaused, IsPart, NeverUtf8, ReadsLine, no_text}
+use Rattle.buffer_redux.specs.ReadUntil.{Lacks}
 use Rattle.buffer_redux.specs.Remaining.{ahead, may_stop, reader_remaining}
 use Rattle.buffer_redux.specs.UntilLaws.{EndsUntil-known, appended_known, lacking_through}
 

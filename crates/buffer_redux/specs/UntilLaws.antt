@@ -78,4 +78,5 @@ module _ {S P : Type 0} (remaining : S → Option (List ℕ)) (rules : ReadRules
       → OnOk answer (IfSome (reader_remaining remaining rules s) (λ xs. after ≡ before ++ take_through byte xs))
   ReadsUntil-known before (Err e) after t reads = tt
   ReadsUntil-known before (Ok n) after t reads = appended_known byte before reads.handed after reads.appended
-      (reader_remaining remaining rules s) (EndsUntil-known (FillRetried remaining rules) no_memory n reads.handed t reads.front reads.ends)
+      (reader_remaining remaining rules s)
+      (EndsUntil-known (FillRetried remaining rules) no_memory n reads.handed t reads.front reads.ends)

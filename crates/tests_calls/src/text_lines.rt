@@ -145,13 +145,33 @@ static ROWS: [Row; 9] = [
     (b"a", "a", Ok(1), b""),
     (b"ab\xc3", "ab", Err(ErrorKind::InvalidData), b"\xc3"),
     (b"a\xe2\x82", "a", Err(ErrorKind::InvalidData), b"\xe2\x82"),
-    (b"\xf0\x9f\x98", "", Err(ErrorKind::InvalidData), b"\xf0\x9f\x98"),
+    (
+        b"\xf0\x9f\x98",
+        "",
+        Err(ErrorKind::InvalidData),
+        b"\xf0\x9f\x98",
+    ),
     // Of a line that is buffered nothing is appended, nor of a piece that no more bytes mend.
-    (b"ab\xffc\nd", "", Err(ErrorKind::InvalidData), b"ab\xffc\nd"),
+    (
+        b"ab\xffc\nd",
+        "",
+        Err(ErrorKind::InvalidData),
+        b"ab\xffc\nd",
+    ),
     (b"ab\xffc", "", Err(ErrorKind::InvalidData), b"ab\xffc"),
-    (b"a\xed\xa0\x80\n", "", Err(ErrorKind::InvalidData), b"a\xed\xa0\x80\n"),
+    (
+        b"a\xed\xa0\x80\n",
+        "",
+        Err(ErrorKind::InvalidData),
+        b"a\xed\xa0\x80\n",
+    ),
     // A part of a character isn't mended by a line feed.
-    (b"ab\xe2\x82\nc", "", Err(ErrorKind::InvalidData), b"ab\xe2\x82\nc"),
+    (
+        b"ab\xe2\x82\nc",
+        "",
+        Err(ErrorKind::InvalidData),
+        b"ab\xe2\x82\nc",
+    ),
     (b"\xc3\xa9\nc", "\u{e9}\n", Ok(3), b"c"),
 ];
 

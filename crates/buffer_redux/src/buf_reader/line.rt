@@ -27,9 +27,10 @@ impl<R: TellRead, P: ReaderPolicy> BufReader<R, P> {
     /// stream ends within. Of a line that isn't buffered yet the text before them may have been appended.
     ///
     /// A fill that was interrupted is made again, 64 times in a row; any other fault is returned. Whatever is returned, what
-    /// was appended is what was handed out: where memory is refused, the bytes that it was for stay buffered. Behind a part
-    /// of a character it reads past the policy. A plain buffer of fewer than 6 bytes grows where such a part fills it; where
-    /// it must not, its part of the character stays buffered.
+    /// was appended is what was handed out: where memory is refused, the bytes that it was for stay buffered.
+    ///
+    /// Behind a part of a character it reads past the policy. Where that takes more than half of a plain buffer, which has
+    /// fewer than 6 bytes then, the buffer grows; `InvalidInput` says that its limit forbids that, and the part stays buffered.
     #[inline(always)]
     pub fn read_line<A: Allocator>(&mut self, out: &mut String<A>) -> io::Result<usize>
         ensures line { ReadsLine R.remaining P.rules self.old (string_bytes out.old) result (string_bytes out.new) self.new }
@@ -81,7 +82,8 @@ impl<R: TellRead, P: ReaderPolicy> BufReader<R, P> {
     #[inline(always)]
     fn append_line<A: Allocator>(&mut self, n: usize, out: &mut String<A>) -> io::Result<()>
         requires within { n ≤ length self.old.block.bytes }
-        ensures appends { AppendsLine R.remaining P.rules n self.old (string_bytes out.old) result (string_bytes out.new) self.new }
+        ensures appends { AppendsLine R.remaining P.rules n self.old (string_bytes out.old) result
+            (string_bytes out.new) self.new }
     {
         let shown = self.buf.buf();
         let Ok(text) = str::from_utf8(&shown[..n]) else {

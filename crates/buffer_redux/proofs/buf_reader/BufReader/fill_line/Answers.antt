@@ -1,4 +1,4 @@
-use Rattle.std.proofs.Common.{◌≡◌, ◌<◌, ◌∙◌, ap, arith, length, sym}
+use Rattle.std.proofs.Common.{◌∙◌, ap, arith, length, sym}
 use Rattle.buffer_redux.proofs.LineSteps.{line_broken, line_more}
 use Rattle.buffer_redux.proofs.buf_reader.BufReader.fill_line.Goals as goal
 

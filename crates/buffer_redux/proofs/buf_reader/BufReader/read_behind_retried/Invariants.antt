@@ -1,4 +1,4 @@
-use Rattle.std.proofs.Common.{◌≡◌, ◌<◌, length}
+use Rattle.std.proofs.Common.{◌<◌, length}
 use Rattle.buffer_redux.specs.FillRetried.{InterruptedSteps}
 use Rattle.buffer_redux.specs.ReadLine.{ReadsBehind}
 use Rattle.buffer_redux.proofs.buf_reader.BufReader.read_behind_retried.Given as goal

@@ -60,8 +60,9 @@ returns-then-is_empty g c =
         handed = before.handed ++ c.fills.self.block.bytes;
         appended = grown;
         front = front_filled _ _ _ _ _ _ passes (refilling _ _) _ _ f;
-        ends = until_end _ _ _ _ _ _ passes no_memory (refilling _ _) _ _ (appended_length _ _ _ c.len-start.result c.len.result grown
-            (c.len-start.ensures ∙ c.args.out.now.ok.0) (c.len.ensures ∙ c.append_first.new.out.ok.0)) f (λ wants some. retried_dry _ _ _ _ f wants some none) none;
+        ends = until_end _ _ _ _ _ _ passes no_memory (refilling _ _) _ _
+            (appended_length _ _ _ c.len-start.result c.len.result grown (c.len-start.ensures ∙ c.args.out.now.ok.0)
+            (c.len.ensures ∙ c.append_first.new.out.ok.0)) f (λ wants some. retried_dry _ _ _ _ f wants some none) none;
       };
     }
 

@@ -1,4 +1,4 @@
-use Rattle.std.proofs.Common.{◌≡◌, ◌∙◌, ap, length, subst, sym, take}
+use Rattle.std.proofs.Common.{◌∙◌, ap, subst, sym, take}
 use Rattle.std.specs.Str.{IsErrorLen}
 use Rattle.buffer_redux.proofs.Utf8Fronts.{front_part, front_whole, never_at_fault}
 use Rattle.buffer_redux.proofs.buf_reader.line.text_in_front.Goals as goal
