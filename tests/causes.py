@@ -35,7 +35,8 @@ def end_of(text, start):
 def calls_of(text):
     """The name of each public call that returns a `Result`, its return type and its clauses."""
     owned = [(at.start(), end_of(text, text.index("{", at.start()))) for at in re.finditer(r"^impl\b[^{;]* for [^{;]*\{", text, re.M)]
-    for at in re.finditer(r"^ *(pub )?(?:const )?fn (\w+)[^(]*\(", text, re.M):
+    # A bound between the name and the arguments may be `FnMut(u64)`.
+    for at in re.finditer(r"^ *(pub )?(?:const )?fn (\w+)(?:<[^{;]*?>)?\(", text, re.M):
         if not at.group(1) and not any(begin < at.start() < end for begin, end in owned):
             continue
         rest = text[end_of(text, at.end() - 1) :]

@@ -207,6 +207,9 @@ run_replay() {
     gives '' 'writer plain 4 std | 0 | - | w0\n' 'line 1: `w0` is no call\n' 2
     gives '' 'writer plain 4 std | 0 | - | w0G\n' 'line 1: `w0G` is no call\n' 2
     gives '' 'writer plain 4 std | 0 | - | U W1\n' 'line 1: `U` is no call\n' 2
+    gives '' 'buffer plain 4 std | 3 | - | I\n' 'line 1: `buffer plain 4 std` is no buffered stream\n' 2
+    gives '' 'buffer plain 4 | 3 | - | F\n' 'line 1: `F` is no call\n' 2
+    gives '' 'sweep buffer plain 4 | 3 | - | I\n' "line 1: a bare buffer isn't swept\n" 2
     gives '' 'reader plain 4 std | 3 | - | R18446744073709551615\n' 'line 1: not enough memory\n' 2
     gives '' 'sweep\n' 'line 1: not four parts\n' 2
     gives '' 'sweep lossy reader plain 4 std | 3 | - | F\n' 'line 1: `lossy reader plain 4 std` is no buffered stream\n' 2

@@ -2,18 +2,22 @@
 use Rattle.std.proofs.Common.{◌≡◌, ℕ, ◌+◌, ◌<◌, ◌≤◌, inl, inr, List, [], ◌∷◌, ◌++◌, length, Option, Result, Ok, Err, OnOk, sym, ap, subst, ◌∙◌, arith, length-append}
 use Rattle.std.specs.declared.io.Error.{Error}
 use Rattle.buffer_redux.specs.Buffered.{Buffered}
+use Rattle.buffer_redux.specs.EmptyReads.{ReadsWhenEmpty-std}
 use Rattle.buffer_redux.specs.Faults.{OnlyInterrupts-joins}
 use Rattle.buffer_redux.specs.Policy.{std_read_rules}
 use Rattle.buffer_redux.specs.ReaderLaws.{WantsBytes-std}
+use Rattle.buffer_redux.specs.StreamLog.{ReadLog}
 use Rattle.buffer_redux.specs.declared.policy.StdPolicy.{StdPolicy}
 use Rattle.chunked.specs.Between.{Faulted, NoFault, handed_out}
 use Rattle.chunked.specs.Dechunking.{BodyWent, Dechunking, HasPayload, ReadsPayload}
 use Rattle.chunked.specs.DechunkingLaws.{BodyWent-joins}
+use Rattle.chunked.specs.EmptyReads.{EndsOnce, ReadsPayload-ends}
 use Rattle.chunked.specs.declared.error.ChunkedError.{ChunkedError}
 use Rattle.chunked.specs.declared.error.ChunkedError.TheVariants.{NotChunked, Truncated, Io}
-use Rattle.bodies.specs.Decode.{Asks, IsBodySource, PieceAnswers, ReadsMet, ReadsPiece, WasInterrupted}
+use Rattle.bodies.specs.Decode.{Asks, EndsInErr, IsBodySource, PieceAnswers, ReadsMet, ReadsPiece, WasInterrupted}
 use Rattle.programs.specs.Prompt.{AsksGive}
 use Rattle.programs.specs.Streams.{ReadGaveUp}
+use Rattle.programs.specs.Streams as Streams
 use Rattle.bodies.proofs.DecodeAsking.{read_fails, read_gives, read_leaves, read_over, read_quiet}
 use Rattle.bodies.proofs.DecodePrompting.{asks_again, gives_on}
 use Rattle.programs.specs.StreamsLaws.{gave_up, one_more, only_more, only_same}
@@ -33,6 +37,11 @@ no_gave_up old new e same gave = omega (
   length-append old gave.fault.interrupts,
   length-append (old ++ gave.fault.interrupts) (e ∷ []),
 )
+
+pub ends_once : {A E : Type 0} (old new : ReadLog) (answer : Result A E) → EndsInErr old answer new
+    → Streams.EndsOnce old new
+ends_once old new (Ok a) same = omega (arith, same)
+ends_once old new (Err e) once = once
 
 -- reads were tried again before
 module _ {R : Type 0} (remaining : R → Option (List ℕ)) (s m t : Dechunking R StdPolicy)
@@ -99,6 +108,26 @@ module _ {R : Type 0} (remaining : R → Option (List ℕ)) (s m t : Dechunking 
     gives_again give (Err (Truncated right)) is p = absurd is
     gives_again give (Err (Io e)) is p = gives_on s.reader.log m.reader.log t.reader.log give
         (read_fails remaining m t source.whole out e p (fault e p))
+
+    -- and how often the reader gave nothing
+    ends : (answer : Result ℕ ChunkedError) → ReadsPayload remaining std_read_rules m out answer t
+        → EndsOnce m.reader.log.reads answer t.reader.log.reads
+    ends answer p = ReadsPayload-ends std_read_rules ReadsWhenEmpty-std remaining m t out answer p
+
+    pub ends_last : m.reader.log.reads.zero_reads ≡ s.reader.log.reads.zero_reads → (answer : Result ℕ ChunkedError)
+        → ReadsPayload remaining std_read_rules m out answer t → EndsInErr s.reader.log.reads answer t.reader.log.reads
+    ends_last gave (Ok n) p = ends (Ok n) p ∙ gave
+    ends_last gave (Err (NotChunked why right)) p = omega (arith, gave, ends (Err (NotChunked why right)) p)
+    ends_last gave (Err (Truncated right)) p = omega (arith, gave, ends (Err (Truncated right)) p)
+    ends_last gave (Err (Io e)) p = omega (arith, gave, ends (Err (Io e)) p)
+
+    pub gave_again : m.reader.log.reads.zero_reads ≡ s.reader.log.reads.zero_reads → (answer : Result ℕ ChunkedError)
+        → WasInterrupted answer → ReadsPayload remaining std_read_rules m out answer t
+        → t.reader.log.reads.zero_reads ≡ s.reader.log.reads.zero_reads
+    gave_again gave (Ok n) is p = absurd is
+    gave_again gave (Err (NotChunked why right)) is p = absurd is
+    gave_again gave (Err (Truncated right)) is p = absurd is
+    gave_again gave (Err (Io e)) is p = ends (Err (Io e)) p ∙ gave
 
     -- where payload was buffered the first was the last
     pub none_again : (HasPayload s → m ≡ s) → (answer : Result ℕ ChunkedError) → WasInterrupted answer

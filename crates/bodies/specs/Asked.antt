@@ -30,6 +30,7 @@ pub record DecodedAs (ending : Ending) (read read' written written' : StreamLog)
   pub answer : Result (Unit {0}) RunError
   pub ran : DecodeRan usual_limits read read' written written' answer
   pub prompt : HoldsNothingBack (decoded.IsDue usual_limits) read read' written written'
+  pub once : EndsOnce read.reads read'.reads
   pub ends : EndsAs answer ending
 
 -- a payload was made a body, and the run ended so

@@ -7,7 +7,7 @@ use Rattle.buffer_redux.specs.BufWriter.{WritesInOrder}
 use Rattle.buffer_redux.specs.Buffered.{Buffered}
 use Rattle.buffer_redux.specs.Faults.{IsInterrupt, OnlyInterrupts}
 use Rattle.buffer_redux.specs.Policy.{std_read_rules}
-use Rattle.buffer_redux.specs.StreamLog.{StreamLog}
+use Rattle.buffer_redux.specs.StreamLog.{ReadLog, StreamLog}
 use Rattle.buffer_redux.specs.declared.policy.StdPolicy.{StdPolicy}
 use Rattle.chunked.specs.Between.{handed_out}
 use Rattle.chunked.specs.Body.{IsBody}
@@ -23,7 +23,7 @@ use Rattle.bodies.specs.AtEnd.{Asks as EndAsks}
 use Rattle.bodies.specs.declared.error.RunError.{RunError}
 use Rattle.bodies.specs.declared.error.RunError.TheVariants.{NotChunked, Truncated, Behind, Read, Write, Io}
 use Rattle.programs.specs.Prompt.{AskedLast, WasSent}
-use Rattle.programs.specs.Streams.{MetNoFault, ReadGaveUp, ReadFailed, SendFailed, OverCount, BufferRefused, GaveNothing, AllFlushed, AllSent}
+use Rattle.programs.specs.Streams.{EndsOnce, MetNoFault, ReadGaveUp, ReadFailed, SendFailed, OverCount, BufferRefused, GaveNothing, AllFlushed, AllSent}
 
 -- why a run failed in which there was no further payload
 abbrev pub of_chunked : ChunkedError → RunError
@@ -75,6 +75,11 @@ abbrev pub AsksWhenSent : {R W : Type 0} → Dechunking R StdPolicy → Buffered
 AsksWhenSent s u t v =
     (t.reader.log ≡ s.reader.log)
     ⊎ (AskedOver s t × WasSent (u.log.writes.received ++ u.block.bytes) v.log.writes)
+
+-- the reader never gave nothing; or once, and that ended it
+abbrev pub EndsInErr : {A E : Type 0} → ReadLog → Result A E → ReadLog → Type 0
+EndsInErr old (Ok a) new = new.zero_reads ≡ old.zero_reads
+EndsInErr old (Err e) new = EndsOnce old new
 
 -- reads were at most interrupted
 abbrev pub ReadsMet : {R : Type 0} → Dechunking R StdPolicy → Dechunking R StdPolicy → Type 0
@@ -204,6 +209,7 @@ pub record ExpectsEnd {R : Type 0} (remaining : R → Option (List ℕ)) (s : Bu
   pub along : ReadsAlong remaining std_read_rules s [] t
   pub answers : EndAnswers s right answer t
   pub asks : EndAsks s t
+  pub once : EndsOnce s.log.reads t.log.reads
 
 -- how many bytes these are, as far as a `u64` counts
 abbrev pub counted : List ℕ → ℕ

@@ -2,10 +2,10 @@
 ghost use Rattle.std.specs.Prelude.{◌≡◌, ◌<◌, ◌≤◌, [], length, true, false, IfOk, IfErr, OnOk, OnErr};
 ghost use Rattle.chunked.specs.Dechunking.{HasPayload};
 ghost use Rattle.programs.specs.Prompt.{AsksGive, HoldsNothingBack, WritesOn};
-ghost use Rattle.programs.specs.Streams.{AllSent};
+ghost use Rattle.programs.specs.Streams.{AllSent, EndsOnce};
 ghost use Rattle.buffer_redux.specs.BufWriter.{WritesInOrder};
 ghost use Rattle.buffer_redux.specs.Faults.{MetInterrupts, SendErrorCaused};
-ghost use Rattle.bodies.specs.Decode.{Asks, AsksWhenSent, DecodeRan, ExpectsEnd, IsBodySource, IsDue, IsPieceTarget, IsUnread};
+ghost use Rattle.bodies.specs.Decode.{Asks, AsksWhenSent, DecodeRan, EndsInErr, ExpectsEnd, IsBodySource, IsDue, IsPieceTarget, IsUnread};
 ghost use Rattle.bodies.specs.Decode.{MovesAll, MovesAndFlushes, MovesNext, ReadsPiece, WasInterrupted};
 
 use crate::at_end::is_at_end;
@@ -25,7 +25,8 @@ const PIECE: usize = 16384;
 /// payload in what is right of it is sent then. What follows the body is left, and the run says so.
 ///
 /// Nothing is held back: where the reader is asked, the payload in all that it gave was sent and flushed, also before it is asked
-/// whether something follows. Both streams come back, also after a fault.
+/// whether something follows. Once the reader has given nothing it isn't called again. Both streams come back, also after a
+/// fault.
 pub fn decode<R: TellRead, W: TellWrite>(
     alloc: Global,
     limits: Limits,
@@ -34,6 +35,7 @@ pub fn decode<R: TellRead, W: TellWrite>(
 ) -> (Result<(), RunError>, R, W)
     ensures ran { DecodeRan limits (R.log reader) (R.log result.1) (W.log writer) (W.log result.2) result.0 }
     ensures prompt { HoldsNothingBack (IsDue limits) (R.log reader) (R.log result.1) (W.log writer) (W.log result.2) }
+    ensures once { EndsOnce (R.log reader).reads (R.log result.1).reads }
 {
     let (source, mut target) = match buffered(alloc, false, (PIECE, 2 * PIECE), reader, writer) {
         Ok(buffers) => buffers,
@@ -56,6 +58,7 @@ fn decode_all<R: TellRead, W: TellWrite>(
     requires empty { target.old.block.bytes ≡ [] }
     ensures ran { DecodeRan limits source.log result.1.log target.old.log target.new.log result.0 }
     ensures prompt { HoldsNothingBack (IsDue limits) source.log result.1.log target.old.log target.new.log }
+    ensures once { EndsOnce source.log.reads result.1.log.reads }
 {
     let mut body = ChunkedReader::new(source, limits);
     let answer = move_and_flush(&mut body, target);
@@ -83,6 +86,7 @@ fn move_and_flush<R: TellRead, W: TellWrite>(
     ensures prompt { HoldsNothingBack (IsDue source.old.limits) source.old.reader.log source.new.reader.log
         target.old.log target.new.log }
     ensures give { OnOk result (AsksGive source.old.reader.log source.new.reader.log) }
+    ensures once { EndsInErr source.old.reader.log.reads result source.new.reader.log.reads }
 {
     let answer = move_pieces(source, target);
     if is_fault(&answer) {
@@ -105,6 +109,7 @@ fn move_pieces<R: TellRead, W: TellWrite>(
     ensures prompt { HoldsNothingBack (IsDue source.old.limits) source.old.reader.log source.new.reader.log
         target.old.log target.new.log }
     ensures give { OnOk result (AsksGive source.old.reader.log source.new.reader.log) }
+    ensures once { EndsInErr source.old.reader.log.reads result source.new.reader.log.reads }
 {
     let mut piece = [0; PIECE];
     for _ in 0..u64::MAX {
@@ -128,6 +133,7 @@ fn move_piece<R: TellRead, W: TellWrite>(
     ensures moves { MovesNext R.remaining source.old target.old result source.new target.new }
     ensures prompt { AsksWhenSent source.old target.old source.new target.new }
     ensures give { OnOk result (AsksGive source.old.reader.log source.new.reader.log) }
+    ensures once { EndsInErr source.old.reader.log.reads result source.new.reader.log.reads }
     ensures writes { WritesOn target.old.log.writes target.new.log.writes }
 {
     if source.has_payload() {
@@ -151,6 +157,7 @@ fn copy_piece<R: TellRead, W: TellWrite>(
     ensures asks { Asks source.old source.new }
     ensures quiet { HasPayload source.old → source.new.reader.log ≡ source.old.reader.log }
     ensures give { OnOk result (AsksGive source.old.reader.log source.new.reader.log) }
+    ensures once { EndsInErr source.old.reader.log.reads result source.new.reader.log.reads }
     ensures writes { WritesOn target.old.log.writes target.new.log.writes }
 {
     let count = read_piece(source, piece)?;
@@ -173,6 +180,7 @@ fn read_piece<R: TellRead>(
     ensures asks { Asks source.old source.new }
     ensures quiet { HasPayload source.old → source.new.reader.log ≡ source.old.reader.log }
     ensures give { OnOk result (AsksGive source.old.reader.log source.new.reader.log) }
+    ensures once { EndsInErr source.old.reader.log.reads result source.new.reader.log.reads }
 {
     let mut row = 0;
     'tries: loop {

@@ -12,6 +12,7 @@ pub mod Between
 pub mod BetweenLaws
 pub mod Dechunking
 pub mod DechunkingLaws
+pub mod EmptyReads
 pub mod Given
 pub mod Chunk
 pub mod ChunkLaws

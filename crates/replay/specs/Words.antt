@@ -5,6 +5,8 @@ use Rattle.std.specs.Str.Parse.{digits_value}
 use Rattle.programs.specs.Words.{IsNumber}
 use Rattle.redux_play.specs.declared.play.ReaderCall.{ReaderCall}
 use Rattle.redux_play.specs.declared.play.ReaderCall.TheVariants.{Read, Fill, Consume, ReadIntoBuf, MakeRoom, Reserve}
+use Rattle.replay.specs.declared.case.BufferCall.{BufferCall}
+use Rattle.replay.specs.declared.case.BufferCall.TheVariants as buffer
 use Rattle.replay.specs.declared.case.Mode.{Mode}
 use Rattle.replay.specs.declared.case.Mode.TheVariants.{Once, Sweep, LossySweep}
 use Rattle.replay.specs.declared.case.WriterWord.{WriterWord}
@@ -39,3 +41,10 @@ IsWriterWord (writer.WriteThese bytes) word = StartsWith word (codes "w")
 IsWriterWord writer.Flush word = word ≡ codes "L"
 IsWriterWord writer.MakeRoom word = word ≡ codes "M"
 IsWriterWord (writer.Reserve n) word = IsSized (codes "V") n word
+
+-- the word of a call of a bare buffer
+abbrev pub IsBufferWord : BufferCall → List ℕ → Type 0
+IsBufferWord buffer.ReadFrom word = word ≡ codes "I"
+IsBufferWord (buffer.Consume n) word = IsSized (codes "C") n word
+IsBufferWord buffer.MakeRoom word = word ≡ codes "M"
+IsBufferWord (buffer.Reserve n) word = IsSized (codes "V") n word

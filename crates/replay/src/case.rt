@@ -1,10 +1,17 @@
-//! What a line asks for: a buffered reader or writer, what the stream inside answers, and the calls.
+//! What a line asks for: a buffered reader or writer, or a bare buffer, what the stream answers, and the calls.
 use buffer_redux::script::Answer;
 use redux_play::play::ReaderCall;
 
 /// What a line asks for.
 #[derive(Drop)]
 pub enum Case {
+    Stream(StreamCase),
+    Buffer(BufferCase),
+}
+
+/// A buffered stream, and its calls.
+#[derive(Drop)]
+pub enum StreamCase {
     Reader(ReaderCase),
     Writer(WriterCase),
 }
@@ -85,4 +92,22 @@ pub struct WriterCase {
     pub calls: Vec<WriterWord>,
     /// Whether an `into_inner` comes behind them.
     pub unwraps: bool,
+}
+
+/// A call of a bare buffer, with how many bytes it is for.
+#[derive(Clone, Copy)]
+pub enum BufferCall {
+    ReadFrom,
+    Consume(usize),
+    MakeRoom,
+    Reserve(usize),
+}
+
+/// A bare buffer beside a source of so many bytes, and the calls.
+#[derive(Drop)]
+pub struct BufferCase {
+    pub storage: Storage,
+    pub source: usize,
+    pub script: Vec<Answer>,
+    pub calls: Vec<BufferCall>,
 }

@@ -4,23 +4,25 @@
 //!
 //! 1. `reader`, `handing` or `writer`, `plain` or `ring`, the capacity, and the policy: `std`, of a reader `min N`, of a writer
 //!    `atleast N`, `exact N`, `on BYTE` or `newline`. `holds N` in front of the policy puts the first N bytes into the buffer.
+//!    Or it is `buffer`, a bare one, without a policy.
 //! 2. How many bytes the source has. All bytes count up, modulo 256: from 0 those that are held, and on from there those of a
 //!    source or of the first write. For a writer it is 0.
 //! 3. What the stream inside answers, `-` for nothing: `a` gives or takes all, a number at most so many bytes, `z` is `Ok(0)`,
 //!    `i` an `Interrupted`, `e:KIND` an error. Behind that each call gives or takes all.
 //! 4. The calls: `Rn` reads n bytes, `F` fills, `Cn` consumes n, `I` reads into the buffer, `Wn` writes n bytes, which count up
-//!    from one write to the next, `wHEX` these bytes, `L` flushes, `M` makes room, `Vn` reserves n, and `U`, the last of a writer,
-//!    is `into_inner`, behind whose Ok no buffer is left. `@N` is no call: the next write counts from N.
+//!    from one write to the next, `wHEX` these bytes, `L` flushes, `M` makes room, `Vn` reserves n, and `U`, the last of a
+//!    writer, is `into_inner`, behind whose Ok no buffer is left. `@N` is no call: the next write counts from N. A bare buffer
+//!    has `Cn`, `I`, `M` and `Vn`.
 //!
 //! All calls but `U` are played as one list.
 //!
-//! `sweep` in front of a line plays it again and again: with no call of the stream inside going wrong, and with each of them in
-//! turn, by `e:Other`, `i`, `i65` (65 times `i`), `z` and `1`; those of a writer are played one by one. After each run what was
-//! handed out, and then what is buffered, is compared with what was held, and then given; of a writer what was received, and then
-//! what is buffered, with what was held, and then accepted; and the kind of each error, but for a refused growth, with the
-//! stream's own. The line of answers is `kept`, or what is wrong first, as `lost at call 0 by i`: `lost` of bytes, `untold` of
-//! errors, `no end` past 1000 calls. `lossy` does the same, and the call behind the one that goes wrong loses a byte, so that
-//! `lost` can be seen.
+//! `sweep` in front of the line of a reader or a writer plays it again and again: with no call of the stream inside going wrong,
+//! and with each of them in turn, by `e:Other`, `i`, `i65` (65 times `i`), `z` and `1`; those of a writer are played one by one.
+//! After each run what was handed out, and then what is buffered, is compared with what was held, and then given; of a writer
+//! what was received, and then what is buffered, with what was held, and then accepted; and the kind of each error, but for a
+//! refused growth, with the stream's own. The line of answers is `kept`, or what is wrong first, as `lost at call 0 by i`: `lost`
+//! of bytes, `untold` of errors, `no end` past 1000 calls. `lossy` does the same, and the call behind the one that goes wrong
+//! loses a byte, so that `lost` can be seen.
 //!
 //! The line of answers has else:
 //!
@@ -34,6 +36,7 @@
 //! for words behind the program's name. It is 1 where standard input or output fails.
 #![tactic(auto)]
 
+mod bare;
 mod case;
 mod parse;
 mod play;

@@ -1,8 +1,9 @@
 //! Reading a line: what it asks for, or why that can't be told.
 use crate::case::{
-    Case, Kind, ReaderCase, ReaderRule, Storage, WriterCase, WriterRule, WriterWord,
+    BufferCall, BufferCase, Case, Kind, ReaderCase, ReaderRule, Storage, StreamCase, WriterCase,
+    WriterRule, WriterWord,
 };
-use crate::words::{answer, hex_bytes, reader_call, writer_call};
+use crate::words::{answer, buffer_call, hex_bytes, reader_call, writer_call};
 use buffer_redux::script::Answer;
 use programs::number;
 use redux_play::play::ReaderCall;
@@ -22,6 +23,8 @@ pub enum Unread<'a> {
     Answer(&'a str),
     /// This is no call.
     Call(&'a str),
+    /// A bare buffer is played just once.
+    Swept,
     /// There is not enough memory.
     Memory,
 }
@@ -46,6 +49,7 @@ impl fmt::Display for Unread<'_> {
             Unread::Source(text) => write!(f, "`{text}` is no number of bytes for a source"),
             Unread::Answer(word) => write!(f, "`{word}` is no answer of a stream"),
             Unread::Call(word) => write!(f, "`{word}` is no call"),
+            Unread::Swept => f.write_str("a bare buffer isn't swept"),
             Unread::Memory => f.write_str("not enough memory"),
         }
     }
@@ -59,6 +63,7 @@ enum Stream {
         prints_handed: bool,
     },
     Writer(Storage, WriterRule),
+    Bare(Storage),
 }
 
 /// What this line asks for.
@@ -76,26 +81,32 @@ pub fn case(alloc: Global, line: &str) -> Result<Case, Unread<'_>> {
                 rule,
                 prints_handed,
             },
-        ) => Ok(Case::Reader(ReaderCase {
+        ) => Ok(Case::Stream(StreamCase::Reader(ReaderCase {
             storage,
             rule,
             prints_handed,
             source: count,
             script,
             calls: reader_calls(alloc, calls)?,
-        })),
+        }))),
         // A writer has no source.
         Some(Stream::Writer(_, _)) if count > 0 => Err(Unread::Source(source)),
         Some(Stream::Writer(storage, rule)) => {
             let (calls, unwraps) = unwrapping(calls);
-            Ok(Case::Writer(WriterCase {
+            Ok(Case::Stream(StreamCase::Writer(WriterCase {
                 storage,
                 rule,
                 script,
                 calls: writer_calls(alloc, calls)?,
                 unwraps,
-            }))
+            })))
         }
+        Some(Stream::Bare(storage)) => Ok(Case::Buffer(BufferCase {
+            storage,
+            source: count,
+            script,
+            calls: buffer_calls(alloc, calls)?,
+        })),
         None => Err(Unread::Stream(stream)),
     }
 }
@@ -125,6 +136,7 @@ fn stream_of(words: &[&str]) -> Option<Stream> {
             prints_handed: *side == "handing",
         }),
         "writer" => Some(Stream::Writer(storage, writer_rule(rule)?)),
+        "buffer" if rule.is_empty() => Some(Stream::Bare(storage)),
         _ => None,
     }
 }
@@ -171,6 +183,14 @@ fn reader_calls(alloc: Global, text: &str) -> Result<Vec<ReaderCall>, Unread<'_>
     let mut calls = Vec::new(alloc);
     for word in text.split_whitespace() {
         calls.push(reader_call(word).ok_or(Unread::Call(word))?)?;
+    }
+    Ok(calls)
+}
+
+fn buffer_calls(alloc: Global, text: &str) -> Result<Vec<BufferCall>, Unread<'_>> {
+    let mut calls = Vec::new(alloc);
+    for word in text.split_whitespace() {
+        calls.push(buffer_call(word).ok_or(Unread::Call(word))?)?;
     }
     Ok(calls)
 }

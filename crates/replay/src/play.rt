@@ -2,7 +2,7 @@
 ghost use Rattle.std.specs.Prelude.{IfOk};
 ghost use Rattle.replay.specs.Answers.{CountsUp};
 
-use crate::case::{Case, Kind, Storage};
+use crate::case::{Kind, Storage, StreamCase};
 use crate::reading::reads;
 use crate::watched::Fault;
 use crate::writing::writes;
@@ -57,13 +57,13 @@ impl<T: Drop> From<AllocFailed<T>> for Unplayed {
 /// Plays a case over a stream of which one call may go wrong, a writer's by so many calls at once.
 pub fn play_case(
     alloc: Global,
-    case: &Case,
+    case: &StreamCase,
     fault: Fault,
     at_once: usize,
 ) -> Result<Outcome, Unplayed> {
     match case {
-        Case::Reader(case) => reads(alloc, case, fault),
-        Case::Writer(case) => writes(alloc, case, fault, at_once),
+        StreamCase::Reader(case) => reads(alloc, case, fault),
+        StreamCase::Writer(case) => writes(alloc, case, fault, at_once),
     }
 }
 

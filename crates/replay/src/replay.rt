@@ -1,7 +1,8 @@
 //! Lines in, answers out.
 ghost use Rattle.std.specs.Prelude.{◌≡◌};
 
-use crate::case::Mode;
+use crate::bare::plays_bare;
+use crate::case::{Case, Mode};
 use crate::parse::{Unread, case};
 use crate::play::{Unplayed, play_case};
 use crate::print::refusal_word;
@@ -75,10 +76,14 @@ fn played(alloc: Global, line: &str) -> Result<String, Unread<'_>> {
     }
     let (mode, line) = mode(line);
     let case = case(alloc, line)?;
-    let answer = match mode {
-        Mode::Once => play_case(alloc, &case, Fault::NONE, usize::MAX).map(|played| played.line),
-        Mode::Sweep => sweep(alloc, &case, false),
-        Mode::LossySweep => sweep(alloc, &case, true),
+    let answer = match (case, mode) {
+        (Case::Buffer(case), Mode::Once) => plays_bare(alloc, &case),
+        (Case::Buffer(_), _) => return Err(Unread::Swept),
+        (Case::Stream(case), Mode::Once) => {
+            play_case(alloc, &case, Fault::NONE, usize::MAX).map(|played| played.line)
+        }
+        (Case::Stream(case), Mode::Sweep) => sweep(alloc, &case, false),
+        (Case::Stream(case), Mode::LossySweep) => sweep(alloc, &case, true),
     };
     match answer {
         Ok(text) => Ok(text),

@@ -1,5 +1,5 @@
 //! Playing a case again and again, with each call of the stream inside going wrong in turn.
-use crate::case::Case;
+use crate::case::StreamCase;
 use crate::play::{Outcome, Unplayed, play_case};
 use crate::watched::Fault;
 use buffer_redux::script::Answer;
@@ -19,7 +19,7 @@ static ANSWERS: [(&str, Answer); 5] = [
 const MOST_CALLS: usize = 1000;
 
 /// `kept`, or what goes wrong first, at which call of the stream inside, and how that went wrong.
-pub fn sweep(alloc: Global, case: &Case, loses: bool) -> Result<String, Unplayed> {
+pub fn sweep(alloc: Global, case: &StreamCase, loses: bool) -> Result<String, Unplayed> {
     for &(word, answer) in &ANSWERS {
         if let Some((wrong, before)) = wrong_by(alloc, case, answer, loses)? {
             return Ok(format!(in alloc; "{wrong} at call {before} by {word}")?);
@@ -31,7 +31,7 @@ pub fn sweep(alloc: Global, case: &Case, loses: bool) -> Result<String, Unplayed
 // What goes wrong first where calls answer so, and how many calls came before that.
 fn wrong_by(
     alloc: Global,
-    case: &Case,
+    case: &StreamCase,
     answer: Answer,
     loses: bool,
 ) -> Result<Option<(&'static str, usize)>, Unplayed> {

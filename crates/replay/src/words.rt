@@ -1,8 +1,8 @@
 //! The words of a line.
 ghost use Rattle.std.specs.Prelude.{◌≡◌, ◌++◌, IfSome};
-ghost use Rattle.replay.specs.Words.{IsSized, IsReaderWord, IsWriterWord, mode_word};
+ghost use Rattle.replay.specs.Words.{IsBufferWord, IsSized, IsReaderWord, IsWriterWord, mode_word};
 
-use crate::case::{Mode, WriterWord};
+use crate::case::{BufferCall, Mode, WriterWord};
 use buffer_redux::script::Answer;
 use programs::number;
 use redux_play::play::ReaderCall;
@@ -58,6 +58,21 @@ pub fn writer_call(word: &str) -> Option<WriterWord>
             ("@", n) => Some(WriterWord::CountFrom(n)),
             ("W", n) => Some(WriterWord::Write(n)),
             ("V", n) => Some(WriterWord::Reserve(n)),
+            _ => None,
+        },
+    }
+}
+
+/// The call of a bare buffer that this word is.
+pub fn buffer_call(word: &str) -> Option<BufferCall>
+    ensures some { IfSome result (λ call. IsBufferWord call word.now) }
+{
+    match word {
+        "I" => Some(BufferCall::ReadFrom),
+        "M" => Some(BufferCall::MakeRoom),
+        _ => match sized(word)? {
+            ("C", n) => Some(BufferCall::Consume(n)),
+            ("V", n) => Some(BufferCall::Reserve(n)),
             _ => None,
         },
     }

@@ -145,95 +145,13 @@ const ROUND: &'static [Row] = &[
     ),
 ];
 
-// What is consumed stands in front, until room is made. A growth leaves what is held in its place.
-const MOVED: &'static [Row] = &[
-    (
-        Call::Copy(&[1, 2, 3, 4, 5, 6, 7, 8]),
-        "(Ok(8), [1, 2, 3, 4, 5, 6, 7, 8], (8, 0, 4611686018427387904))",
-    ),
-    (
-        Call::Consume(5),
-        "(Ok(0), [6, 7, 8], (8, 0, 4611686018427387904))",
-    ),
-    (
-        Call::MakeRoom,
-        "(Ok(0), [6, 7, 8], (8, 5, 4611686018427387904))",
-    ),
-    (
-        Call::MakeRoom,
-        "(Ok(0), [6, 7, 8], (8, 5, 4611686018427387904))",
-    ),
-    (Call::Consume(3), "(Ok(0), [], (8, 8, 4611686018427387904))"),
-];
-
-const GROWN_BEHIND: &'static [Row] = &[
-    (
-        Call::Copy(&[1, 2, 3, 4, 5, 6, 7, 8]),
-        "(Ok(8), [1, 2, 3, 4, 5, 6, 7, 8], (8, 0, 4611686018427387904))",
-    ),
-    (
-        Call::Consume(5),
-        "(Ok(0), [6, 7, 8], (8, 0, 4611686018427387904))",
-    ),
-    (
-        Call::Reserve(2),
-        "(Ok(0), [6, 7, 8], (10, 2, 4611686018427387904))",
-    ),
-];
-
-// A growth that passes every limit changes nothing, and a consume takes what is there.
-const EMPTIED: &'static [Row] = &[
-    (
-        Call::Copy(&[1, 2, 3]),
-        "(Ok(3), [1, 2, 3], (4, 1, 4611686018427387904))",
-    ),
-    (
-        Call::Reserve(18446744073709551615),
-        "(Err(TooLarge), [1, 2, 3], (4, 1, 4611686018427387904))",
-    ),
-    (
-        Call::Consume(18446744073709551615),
-        "(Ok(0), [], (4, 4, 4611686018427387904))",
-    ),
-];
-
-// An empty plain buffer grows by all that is asked, and a ring by whole units.
-const GROWN: &'static [Row] = &[
-    (Call::Reserve(4), "(Ok(0), [], (4, 4, 4611686018427387904))"),
-    (Call::Reserve(5), "(Ok(0), [], (9, 9, 4611686018427387904))"),
-];
-
-const GROWN_RING: &'static [Row] = &[
-    (
-        Call::Copy(&[7; 10]),
-        "(Ok(10), [7, 7, 7, 7, 7, 7, 7, 7, 7, 7], (4096, 4086, 2305843009213693952))",
-    ),
-    (
-        Call::Reserve(18446744073709551615),
-        "(Err(TooLarge), [7, 7, 7, 7, 7, 7, 7, 7, 7, 7], (4096, 4086, 2305843009213693952))",
-    ),
-    (
-        Call::Reserve(4086),
-        "(Ok(0), [7, 7, 7, 7, 7, 7, 7, 7, 7, 7], (4096, 4086, 2305843009213693952))",
-    ),
-    (
-        Call::Reserve(4087),
-        "(Ok(0), [7, 7, 7, 7, 7, 7, 7, 7, 7, 7], (8192, 8182, 2305843009213693952))",
-    ),
-];
-
-static WALKS: [(bool, usize, &'static [Row]); 11] = [
+static WALKS: [(bool, usize, &'static [Row]); 6] = [
     (false, 4, PUSHED),
     (false, 4, LIMITED),
     (false, 4, LIMITED_PUSH),
     (false, 0, NO_ROOM),
     (true, 4096, LIMITED_RING),
     (true, 8192, ROUND),
-    (false, 8, MOVED),
-    (false, 8, GROWN_BEHIND),
-    (false, 4, EMPTIED),
-    (false, 4, GROWN),
-    (true, 4096, GROWN_RING),
 ];
 
 #[test]
@@ -259,16 +177,6 @@ fn usual_ones(rt: HostRuntime) -> Result<(), Fail> {
         let b = usual(rt.alloc(), ring)?;
         assert!(rt; (b.is_ringbuf(), b.is_empty()) == (ring, true));
         assert!(rt; (b.capacity(), b.usable_space(), b.free_space()) == (8192, 8192, 8192));
-    }
-    Ok(())
-}
-
-// The capacity of a ring is rounded up.
-#[test]
-fn rings(rt: HostRuntime) -> Result<(), Fail> {
-    for (asked, made) in [(0, 0), (1, 4096), (64, 4096), (4096, 4096), (4097, 8192)] {
-        let b = empty(rt.alloc(), true, asked)?;
-        assert!(rt; (b.capacity(), b.usable_space()) == (made, made), "{asked}");
     }
     Ok(())
 }

@@ -1,5 +1,5 @@
 //! What goes between a buffer and a stream, or a slice.
-use buffer_redux::script::{Answer, FaultAt};
+use buffer_redux::script::Answer;
 use redux_buffer::Buffer;
 use redux_buffer::laws::potential;
 use redux_buffer::tell::{TellRead, Told};
@@ -7,7 +7,7 @@ use std::alloc::{AllocError, Global};
 use std::io;
 use std::io::{ErrorKind, Read};
 use std::test::Fail;
-use tests_common::{Target, debug, empty, first, holding_in, kind, target};
+use tests_common::{Target, debug, empty, holding_in, kind, target};
 
 // How bytes are sent: some at most, by one write, or all.
 #[derive(Clone, Copy)]
@@ -91,28 +91,6 @@ fn take_in<R: TellRead>(b: &mut Buffer, rdr: &mut R) -> io::Result<usize> {
 
 fn copy_out(b: &mut Buffer, out: &mut [u8]) -> usize {
     potential::copy_to_slice(b, out)
-}
-
-// The kind and the capacity of a buffer, what two reads into it return, and how often the reader of two bytes was asked.
-static READ: [(bool, usize, [usize; 2], usize); 3] = [
-    (false, 1, [1, 0], 1),
-    (false, 4, [2, 0], 2),
-    (true, 0, [0, 0], 0),
-];
-
-// Reads into a buffer that is full, that has room, and that has none at all, and gets some then.
-#[test]
-fn read_in(rt: HostRuntime) -> Result<(), Fail> {
-    for (ring, capacity, counts, asks) in READ {
-        let mut b = empty(rt.alloc(), ring, capacity)?;
-        let mut rdr = Told::new(FaultAt::new([1, 2].as_slice(), 2, Answer::Serve(0)));
-        let came = [take_in(&mut b, &mut rdr)?, take_in(&mut b, &mut rdr)?];
-        assert!(rt; (came, rdr.get_ref().calls()) == (counts, asks));
-        assert!(rt; b.capacity() == capacity && b.buf() == first(&[1, 2], counts[0]));
-        b.reserve(1)?;
-        assert!(rt; !ring || (b.capacity(), b.usable_space()) == (4096, 4096));
-    }
-    Ok(())
 }
 
 // Says that it gave all that it was asked for, and leaves the bytes as they are.

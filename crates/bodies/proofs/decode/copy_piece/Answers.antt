@@ -84,3 +84,19 @@ returns-clause-writes g c =
     let wrote = c.in_ok-write_piece.ensures in
     WritesOn-unflushed c.args.target.now c.write_piece.new.target (take c.in_ok-count.count c.read_piece.new.out) wrote.taken
     wrote.not_flushed
+
+pub returns-in_err-count-clause-once : goal.returns-in_err-count-clause-once
+returns-in_err-count-clause-once g c =
+    let p = err_from_is_err_and c.from_residual.result c.from_residual.ensures.1 in
+    rw p.1 c.in_err-count.ensures.once
+
+pub returns-then-count-eq0-clause-once : goal.returns-then-count-eq0-clause-once
+returns-then-count-eq0-clause-once g c = c.in_ok-count.ensures.once
+
+pub returns-in_err-write_piece-clause-once : goal.returns-in_err-write_piece-clause-once
+returns-in_err-write_piece-clause-once g c =
+    let p = err_from_is_err_and c.from_residual-in_err-write_piece.result c.from_residual-in_err-write_piece.ensures.1 in
+    rw p.1 (omega (arith, c.in_ok-count.ensures.once))
+
+pub returns-clause-once : goal.returns-clause-once
+returns-clause-once g c = c.in_ok-count.ensures.once

@@ -1,4 +1,4 @@
-use Rattle.std.proofs.Common.{inl}
+use Rattle.std.proofs.Common.{ap, arith, inl}
 use Rattle.bodies.proofs.DecodeRuns.{refused}
 use Rattle.bodies.proofs.decode.decode.Goals as goal
 
@@ -27,3 +27,9 @@ returns-clause-prompt g c =
       ← c.in-Ok.ensures.written,
     )
     c.decode_all-answer.ensures.prompt
+
+pub returns-in-Err-clause-once : goal.returns-in-Err-clause-once
+returns-in-Err-clause-once g c = omega (arith, ap (λ l. l.reads.zero_reads) c.in-Err.ensures.refused.read_same)
+
+pub returns-clause-once : goal.returns-clause-once
+returns-clause-once g c = rw (c.into_inner.ensures.log, ← c.in-Ok.ensures.read) c.decode_all-answer.ensures.once

@@ -1,4 +1,4 @@
-use Rattle.std.proofs.Common.{Err, Ok, refl, subst, sym}
+use Rattle.std.proofs.Common.{Err, Ok, ap, arith, refl, subst, sym}
 use Rattle.bodies.specs.AtEnd.{Asks}
 use Rattle.bodies.specs.Decode.{DecodeRan, ExpectsEnd, IsDue, IsUnread, MovesAndFlushes}
 use Rattle.programs.specs.Prompt.{HoldsNothingBack}
@@ -55,3 +55,20 @@ returns-in-Err-clause-prompt g c =
     (sym c.into_inner-rest.ensures)
     (subst (λ s. HoldsNothingBack (IsDue s.limits) s.reader.log moved.new.source.reader.log c.args.target.now.log
     moved.new.target.log) c.new-body.ensures.begun c.in-Err.ensures.prompt)
+
+pub returns-in-Ok-clause-once : goal.returns-in-Ok-clause-once
+returns-in-Ok-clause-once g c = omega (
+  arith,
+  ap (λ s. s.reader.log.reads.zero_reads) c.new-body.ensures.begun,
+  c.in-Ok.ensures.once,
+  ap (λ r. r.log.reads.zero_reads) c.into_inner-rest.ensures,
+  c.expect_end-answer.ensures.once,
+)
+
+pub returns-in-Err-clause-once : goal.returns-in-Err-clause-once
+returns-in-Err-clause-once g c = omega (
+  arith,
+  ap (λ s. s.reader.log.reads.zero_reads) c.new-body.ensures.begun,
+  c.in-Err.ensures.once,
+  ap (λ r. r.log.reads.zero_reads) c.into_inner-rest.ensures,
+)

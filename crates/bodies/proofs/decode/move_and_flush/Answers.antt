@@ -2,6 +2,7 @@ use Rattle.std.proofs.Common.{refl, sym, ◌∙◌}
 use Rattle.std.proofs.lemmas.Result.{err_from_is_err_and}
 use Rattle.programs.specs.PromptLaws.{HoldsNothingBack-on, WritesOn-grows}
 use Rattle.bodies.specs.Decode.{IsDue}
+use Rattle.bodies.proofs.Reading.{ends_once}
 use Rattle.bodies.proofs.Moving.{kept, flushed_after, flush_failed_after}
 use Rattle.bodies.proofs.decode.move_and_flush.Goals as goal
 
@@ -43,3 +44,15 @@ returns-clause-prompt g c =
 
 pub returns-clause-give : goal.returns-clause-give
 returns-clause-give g c = c.move_pieces-answer.ensures.give
+
+pub returns-then-is_fault-clause-once : goal.returns-then-is_fault-clause-once
+returns-then-is_fault-clause-once g c = c.move_pieces-answer.ensures.once
+
+pub returns-in_err-flush-clause-once : goal.returns-in_err-flush-clause-once
+returns-in_err-flush-clause-once g c =
+    let p = err_from_is_err_and c.from_residual.result c.from_residual.ensures.1 in
+    rw p.1 (ends_once c.args.source.now.reader.log.reads c.move_pieces-answer.new.source.reader.log.reads
+    c.move_pieces-answer.result c.move_pieces-answer.ensures.once)
+
+pub returns-clause-once : goal.returns-clause-once
+returns-clause-once g c = c.move_pieces-answer.ensures.once

@@ -1,10 +1,10 @@
-use Rattle.std.proofs.Common.{◌++◌, OnOk, arith, inl, subst, ◌∙◌}
+use Rattle.std.proofs.Common.{◌++◌, OnOk, ap, arith, inl, subst, ◌∙◌}
 use Rattle.std.proofs.lemmas.Result.{err_from_is_err_and}
 use Rattle.buffer_redux.specs.GoesOn.{GoesOn, GoesOn-none}
 use Rattle.buffer_redux.specs.WriterLaws.{WritesInOrder-none}
 use Rattle.programs.specs.Prompt.{AsksGive, WasSent}
 use Rattle.programs.specs.PromptLaws.{WasSent-on, WritesOn-grows, WritesOn-joins}
-use Rattle.bodies.specs.Decode.{IsPieceTarget}
+use Rattle.bodies.specs.Decode.{EndsInErr, IsPieceTarget}
 use Rattle.bodies.proofs.DecodePrompting.{sent_after}
 use Rattle.bodies.proofs.Moving.{looked, not_flushed, source_on, then_next}
 use Rattle.programs.specs.StreamsLaws.{MetInterrupts-none}
@@ -104,3 +104,18 @@ pub returns-clause-writes : goal.returns-clause-writes
 returns-clause-writes g c =
     WritesOn-joins _ c.flush.new.self.log.writes _ (WritesOn-grows _ _ c.in_ok-flush.ensures.flushed.grows)
     c.copy_piece-2.ensures.writes
+
+pub returns-then-has_payload-clause-once : goal.returns-then-has_payload-clause-once
+returns-then-has_payload-clause-once g c =
+    subst (λ l. EndsInErr l.reads c.copy_piece.result c.copy_piece.new.source.reader.log.reads) c.has_payload.ensures.takes.told
+    c.copy_piece.ensures.once
+
+pub returns-in_err-flush-clause-once : goal.returns-in_err-flush-clause-once
+returns-in_err-flush-clause-once g c =
+    let p = err_from_is_err_and c.from_residual.result c.from_residual.ensures.1 in
+    rw p.1 (omega (arith, ap (λ l. l.reads.zero_reads) c.has_payload.ensures.takes.told))
+
+pub returns-clause-once : goal.returns-clause-once
+returns-clause-once g c =
+    subst (λ l. EndsInErr l.reads c.copy_piece-2.result c.copy_piece-2.new.source.reader.log.reads)
+    c.has_payload.ensures.takes.told c.copy_piece-2.ensures.once

@@ -1,4 +1,4 @@
-use Rattle.std.proofs.Common.{Ok, false, arith, inl, refl, subst}
+use Rattle.std.proofs.Common.{Ok, false, arith, inl, refl, subst, ◌∙◌}
 use Rattle.std.proofs.lemmas.Result.{err_from_is_err_and}
 use Rattle.bodies.specs.Decode.{MovesNext}
 use Rattle.bodies.proofs.DecodePrompting.{gives_on, held_more}
@@ -10,6 +10,7 @@ loop-init g c = record {
   so_far = so_far_none g.R.TellRead.remaining c.args.source.now c.args.target.now c.requires.source c.requires.target;
   held = inl refl;
   give = omega arith;
+  gave = refl;
 }
 
 pub returns-in_err-move_piece-clause-moves : goal.returns-in_err-move_piece-clause-moves
@@ -65,6 +66,7 @@ loop-preserved g c =
           c.requires.unread c.requires.empty before.so_far.each before.give before.held one.prompt one.writes;
       give = gives_on c.args.source.now.reader.log c.loop.source.reader.log c.move_piece.new.source.reader.log before.give
           one.give;
+      gave = one.once ∙ before.gave;
     }
 
 pub returns-clause-moves : goal.returns-clause-moves
@@ -74,3 +76,14 @@ returns-clause-moves g c =
 
 pub returns-clause-prompt : goal.returns-clause-prompt
 returns-clause-prompt g c = c.loop.invariant.held
+
+pub returns-in_err-move_piece-clause-once : goal.returns-in_err-move_piece-clause-once
+returns-in_err-move_piece-clause-once g c =
+    let p = err_from_is_err_and c.from_residual.result c.from_residual.ensures.1 in
+    rw p.1 (omega (arith, c.in_err-move_piece.ensures.once, c.loop.invariant.gave))
+
+pub returns-then-not-branch-clause-once : goal.returns-then-not-branch-clause-once
+returns-then-not-branch-clause-once g c = c.in_ok-move_piece.ensures.once ∙ c.loop.invariant.gave
+
+pub returns-clause-once : goal.returns-clause-once
+returns-clause-once g c = omega (arith, c.loop.invariant.gave)

@@ -1,7 +1,7 @@
 use Rattle.std.proofs.Common.{arith, inl, refl}
 use Rattle.buffer_redux.specs.Faults.{OnlyInterrupts-none}
 use Rattle.chunked.specs.DechunkingLaws.{BodyWent-none}
-use Rattle.bodies.proofs.Reading.{again, answered, asked_on, gives_again, gives_last, none_again, quiet_last, source_kept}
+use Rattle.bodies.proofs.Reading.{again, answered, asked_on, ends_last, gave_again, gives_again, gives_last, none_again, quiet_last, source_kept}
 use Rattle.bodies.proofs.decode.read_piece.Goals as goal
 
 pub tries-init : goal.tries-init
@@ -14,6 +14,7 @@ tries-init g c = record {
   few = omega arith;
   asks = inl refl;
   give = omega arith;
+  gave = refl;
   quiet = λ _. refl;
 }
 
@@ -39,6 +40,11 @@ returns-then-is_final-clause-give g c =
     let before = c.tries.invariant in
     gives_last _ _ _ _ before.went before.source before.met _ _ before.row before.give _ c.read_payload-answer.ensures.reads
 
+pub returns-then-is_final-clause-once : goal.returns-then-is_final-clause-once
+returns-then-is_final-clause-once g c =
+    let before = c.tries.invariant in
+    ends_last _ _ _ _ before.went before.source before.met _ _ before.row before.gave _ c.read_payload-answer.ensures.reads
+
 pub tries-preserved : goal.tries-preserved
 tries-preserved g c =
     let before = c.tries.invariant in
@@ -54,5 +60,6 @@ tries-preserved g c =
       few = interrupted.1;
       asks = asked_on _ _ _ _ before.went before.source before.met _ _ before.row before.asks before.give _ reads;
       give = gives_again _ _ _ _ before.went before.source before.met _ _ before.row before.give _ interrupted.0 reads;
+      gave = gave_again _ _ _ _ before.went before.source before.met _ _ before.row before.gave _ interrupted.0 reads;
       quiet = none_again _ _ _ _ before.went before.source before.met _ _ before.row before.quiet _ interrupted.0 reads;
     }

@@ -15,6 +15,7 @@ invariant-tries g l = record {
   few : l.row ≤ 64;
   asks : Asks l.fn.source l.source;
   give : AsksGive l.fn.source.reader.log l.source.reader.log;
+  gave : l.source.reader.log.reads.zero_reads ≡ l.fn.source.reader.log.reads.zero_reads;
   quiet : HasPayload l.fn.source → l.source ≡ l.fn.source;
 }
 

@@ -1,0 +1,134 @@
+-- How often the reader inside gives nothing in one read of payload, where a read is ordered over an empty buffer alone: once
+-- where that ends the body early, and else never.
+use Rattle.std.proofs.Common.{◌≡◌, ℕ, zero, suc, ◌+◌, ◌<◌, ◌≤◌, List, Option, Result, Ok, Err, length, min, inl, inr, sym, ap, ◌∙◌, arith}
+use Rattle.std.proofs.lemmas.Bool.{cases_lt}
+use Rattle.std.proofs.lemmas.List.{length-drop}
+use Rattle.std.specs.declared.io.Error.{Error}
+use Rattle.buffer_redux.specs.Buffered.{Buffered}
+use Rattle.buffer_redux.specs.BufReader.{Reads, ReadsBuffered}
+use Rattle.buffer_redux.specs.EmptyReads.{ReadsWhenEmpty, none_before_fault, none_where_shown, once_at_most}
+use Rattle.buffer_redux.specs.Policy.{ReadRules}
+use Rattle.buffer_redux.specs.StreamLog.{ReadLog, with_zero, zero_of_some}
+use Rattle.chunked.specs.Between.{FillsAndTakes, LastCall, TakesTurns}
+use Rattle.chunked.specs.Dechunking.{Dechunking, ReadsPayload}
+use Rattle.chunked.specs.declared.error.ChunkedError.{ChunkedError}
+use Rattle.chunked.specs.declared.error.ChunkedError.TheVariants.{NotChunked, Truncated, Io}
+use Rattle.chunked.specs.declared.limits.Limits.{Limits}
+use Rattle.chunked.specs.declared.place.Place.{Place}
+
+-- it never gave nothing; or once, where no payload came of that
+abbrev pub EndsOnce : ReadLog → Result ℕ ChunkedError → ReadLog → Type 0
+EndsOnce old (Ok n) new = new.zero_reads ≡ old.zero_reads
+EndsOnce old (Err (NotChunked why count)) new = new.zero_reads ≡ old.zero_reads
+EndsOnce old (Err (Truncated count)) new = new.zero_reads ≤ old.zero_reads + 1
+EndsOnce old (Err (Io e)) new = new.zero_reads ≡ old.zero_reads
+
+one_more_at_most : (n : ℕ) (bytes : List ℕ) (before : ℕ) → with_zero before bytes (Ok n) ≤ before + 1
+one_more_at_most n bytes before = grind arith
+
+module _ {S P : Type 0} (rules : ReadRules P) (orders : ReadsWhenEmpty rules) where
+  -- a fill that showed something
+  module _ (s t : Buffered S P) (n : ℕ) (takes : FillsAndTakes rules n s t) where
+    some_shown : 0 < length takes.filled.block.bytes → t.log.reads.zero_reads ≡ s.log.reads.zero_reads
+    some_shown some =
+        ap (λ l. l.reads.zero_reads) takes.took.told
+        ∙ none_where_shown rules orders s takes.filled takes.filled.block.bytes takes.fills.filled some
+
+    some_left : 0 < length t.block.bytes → t.log.reads.zero_reads ≡ s.log.reads.zero_reads
+    some_left some = some_shown (omega (
+      arith,
+      some,
+      ap length takes.took.told_policy.law.bytes,
+      ap length takes.took.dropped.bytes,
+      length-drop (min n (length takes.filled.block.bytes)) takes.filled.block.bytes,
+    ))
+
+  turns_gave : (limits : Limits) (count : ℕ) (s : Buffered S P) (p : Place) (t : Buffered S P) (q : Place)
+      → TakesTurns rules limits count s p t q → t.log.reads.zero_reads ≡ s.log.reads.zero_reads
+  turns_gave limits zero s p t q (same, place) = ap (λ x. x.log.reads.zero_reads) (sym same)
+  turns_gave limits (suc count) s p t q (m, r, turns, turn) =
+      some_shown m t turn.count turn.takes (omega (arith, turn.some, turn.takes.held)) ∙ turns_gave limits count s p m r turns
+
+  -- one read, past the buffer, or through it
+  module _ (s t : Buffered S P) (before after : List ℕ) where
+    read_some : (n : ℕ) → Reads rules s before (Ok (suc n)) after t → t.log.reads.zero_reads ≡ s.log.reads.zero_reads
+    read_some n reads =
+        let through : ReadsBuffered rules s (length before) (Ok (suc n)) t → t.log.reads.zero_reads ≡ s.log.reads.zero_reads =
+        λ b. ap (λ l. l.reads.zero_reads) b.handed.1.told
+        ∙ none_where_shown rules orders s b.filled (suc n) b.fills.filled (omega (arith, b.handed.0)) in
+        elim (cases_lt 0 (length s.block.bytes)) [
+          | inl held ↦ through (reads.buffered (inl held))
+          | inr none ↦ elim (cases_lt (length before) s.block.capacity) [
+            | inl short ↦ through (reads.buffered (inr short))
+            | inr long ↦
+                ap (λ l. l.reads.zero_reads) (reads.direct (omega (arith, none), long)).told
+                ∙ zero_of_some (suc n) after s.log.reads.zero_reads (inl (omega arith))
+          ]
+        ]
+
+    read_none : Reads rules s before (Ok 0) after t → t.log.reads.zero_reads ≤ s.log.reads.zero_reads + 1
+    read_none reads =
+        let through : ReadsBuffered rules s (length before) (Ok 0) t → t.log.reads.zero_reads ≤ s.log.reads.zero_reads + 1 =
+        λ b. omega (
+          arith,
+          ap (λ l. l.reads.zero_reads) b.handed.1.told,
+          once_at_most rules orders s b.filled 0 b.fills.filled,
+        ) in
+        elim (cases_lt 0 (length s.block.bytes)) [
+          | inl held ↦ through (reads.buffered (inl held))
+          | inr none ↦ elim (cases_lt (length before) s.block.capacity) [
+            | inl short ↦ through (reads.buffered (inr short))
+            | inr long ↦ omega (
+              arith,
+              ap (λ l. l.reads.zero_reads) (reads.direct (omega (arith, none), long)).told,
+              one_more_at_most 0 after s.log.reads.zero_reads,
+            )
+          ]
+        ]
+
+    read_fault : (e : Error) → Reads rules s before (Err e) after t → t.log.reads.zero_reads ≡ s.log.reads.zero_reads
+    read_fault e reads =
+        let through : ReadsBuffered rules s (length before) (Err e) t → t.log.reads.zero_reads ≡ s.log.reads.zero_reads =
+        λ b. ap (λ x. x.log.reads.zero_reads) b.handed ∙ none_before_fault rules orders s b.filled e b.fills.filled in
+        elim (cases_lt 0 (length s.block.bytes)) [
+          | inl held ↦ through (reads.buffered (inl held))
+          | inr none ↦ elim (cases_lt (length before) s.block.capacity) [
+            | inl short ↦ through (reads.buffered (inr short))
+            | inr long ↦ ap (λ l. l.reads.zero_reads) (reads.direct (omega (arith, none), long)).told
+          ]
+        ]
+
+  module _ (remaining : S → Option (List ℕ)) (s t : Dechunking S P) (out : List ℕ) where
+    module _ (answer : Result ℕ ChunkedError) (reads : ReadsPayload remaining rules s out answer t) where
+      gave : reads.calls.last.log.reads.zero_reads ≡ s.reader.log.reads.zero_reads
+      gave = turns_gave s.limits reads.calls.count s.reader s.place reads.calls.last reads.calls.place reads.calls.turns
+
+    pub ReadsPayload-ends : (answer : Result ℕ ChunkedError) → ReadsPayload remaining rules s out answer t
+        → EndsOnce s.reader.log.reads answer t.reader.log.reads
+    unfolding gave
+    ReadsPayload-ends (Ok zero) reads =
+        ap (λ x. x.log.reads.zero_reads) (sym reads.calls.call.0) ∙ gave (Ok zero) reads
+    ReadsPayload-ends (Ok (suc n)) reads =
+        let call = reads.calls.call in
+        read_some reads.calls.last t.reader call.before call.after n call.reads ∙ gave (Ok (suc n)) reads
+    ReadsPayload-ends (Err (NotChunked why right)) reads =
+        some_left reads.calls.last t.reader reads.calls.call.0 reads.calls.call.1
+        (omega (arith, ap length reads.answers.2.next)) ∙ gave (Err (NotChunked why right)) reads
+    ReadsPayload-ends (Err (Truncated right)) reads = elim reads.calls.call [
+      | inl fills ↦ omega (
+        arith,
+        gave (Err (Truncated right)) reads,
+        once_at_most rules orders reads.calls.last t.reader 0 fills.filled,
+      )
+      | inr some ↦ omega (
+        arith,
+        gave (Err (Truncated right)) reads,
+        read_none reads.calls.last t.reader some.before some.after some.reads,
+      )
+    ]
+    ReadsPayload-ends (Err (Io e)) reads = elim reads.calls.call [
+      | inl fills ↦
+          none_before_fault rules orders reads.calls.last t.reader e fills.filled ∙ gave (Err (Io e)) reads
+      | inr some ↦
+          read_fault reads.calls.last t.reader some.before some.after e some.reads ∙ gave (Err (Io e)) reads
+    ]
