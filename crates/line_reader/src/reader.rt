@@ -232,8 +232,8 @@ impl<R: TellRead> LineReader<R> {
         }
     }
 
-    /// Lends the next line as [`next`](LineReader::next) does where it stands whole in the buffer, and asks the stream for nothing.
-    /// `None` where it doesn't; what was searched then isn't searched again.
+    /// Lends the next line as [`next`](LineReader::next) does where it stands whole in the buffer, and asks the stream for
+    /// nothing. `None` where it doesn't; what was searched then isn't searched again.
     #[inline(always)]
     pub fn next_buffered(&mut self) -> Option<&[u8]>
         ensures* after_borrow { sem 𝓛 (Rests (the_row R.row R.Tell) self.entry
@@ -246,8 +246,8 @@ impl<R: TellRead> LineReader<R> {
         }
     }
 
-    /// The same as `next`, without the carriage return that may stand before the end, as std's `lines` has it. It is a byte of the line
-    /// where the length counts. That of a last line without an end stays.
+    /// The same as `next`, without the carriage return that may stand before the end, as std's `lines` has it. It is a byte of
+    /// the line where the length counts. That of a last line without an end stays.
     #[inline(always)]
     pub fn next_trimmed(&mut self) -> Result<Option<&[u8]>, LineError>
         ensures* after_borrow { sem 𝓛 (Rests (the_row R.row R.Tell) self.entry
