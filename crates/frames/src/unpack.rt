@@ -142,6 +142,7 @@ fn print_next<R: TellRead, W: TellWrite>(
 }
 
 // The same up to the first fault of a read.
+#[inline(always)]
 fn try_frame<R: TellRead, W: TellWrite>(
     source: &mut FrameReader<R>,
     target: &mut BufWriter<W>,
