@@ -24,6 +24,16 @@ module _ {S T P : Type 0} (remaining : S → Option (List ℕ)) (tells : T → S
   once_sent ready sent (inr flushed) Done done t quiet =
       record { ready = ready; sent = sent; waits = inr flushed; done = done }
 
+  -- what asks nobody, and isn't flushed for
+  pub at_once : ((u : T) → stretch u u) → (Done : Server S T P → Type 0) → Done (server s.commands s.values s.replies)
+      → (t : Lining S) → t.reader.log ≡ s.commands.reader.log → OnceSent remaining tells stretch s Done t
+  at_once none Done done t same = record {
+    ready = s.replies;
+    sent = WritesAlong-none tells stretch std_write_rules none s.replies;
+    waits = inl same;
+    done = done;
+  }
+
   -- what was talked took whole lines
   pub Talked-lines : (exchanges : List Exchange) (t : Server S T P) → Talked remaining tells stretch s exchanges t
       → LinesAlong remaining [] s.commands (joined (λ x. x.taken) exchanges) [] t.commands

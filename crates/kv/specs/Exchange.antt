@@ -54,7 +54,7 @@ Converses old [] new = Same old new
 Converses old (x ∷ earlier) new =
     (between : Values) × Converses old earlier between × IsTaken x.line x.taken × Answers between x.line x.reply new
 
--- the first bytes of the text, so many, are these lines, each is answered, and these are the replies
+-- so many of the text's first bytes are these lines, each is answered, and these are the replies
 pub record RepliesTo (text : List ℕ) (old : Values) (replies : List ℕ) (new : Values) : Type 0 where
   pub exchanges : List Exchange
   pub count : ℕ
