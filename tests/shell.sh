@@ -274,13 +274,16 @@ END
     refused unpack "$scratch/frame" "$scratch/line"
 }
 
-# Each byte between two parts of a body, which has no payload or is refused.
-each_byte() { # what stands in front, what behind, which bytes are taken
+# Each byte between two parts of a body, which is taken, is cut short, or is refused.
+each_byte() { # what stands in front, what behind, which bytes are taken, after which the body has no end
     byte=0
     while [ "$byte" -lt 256 ]; do
         want=4
         for range in $3; do
             if [ "$byte" -ge "${range%-*}" ] && [ "$byte" -le "${range#*-}" ]; then want=0; fi
+        done
+        for range in $4; do
+            if [ "$byte" -ge "${range%-*}" ] && [ "$byte" -le "${range#*-}" ]; then want=5; fi
         done
         printf '%b' "$1\\0$((byte / 64))$((byte / 8 % 8))$((byte % 8))$2" > "$scratch/in"
         "$program" decode < "$scratch/in" > "$scratch/out" 2> "$scratch/err"
@@ -384,10 +387,26 @@ END
 5|a:\0177
 7|a:\r\n b
 END
-    # Each byte at each place where another may stand.
-    while IFS='|' read -r front behind allowed; do
-        each_byte "$front" "$behind" "$allowed"
+    # Each byte at each place where another may stand, and in the place of each byte of a short body.
+    while IFS='|' read -r front behind allowed cut; do
+        each_byte "$front" "$behind" "$allowed" "$cut"
     done <<'END'
+|\r\na\r\n0\r\n\r\n|49|54 56-57 65-70 97-102
+1|\r\na\r\n0\r\n\r\n||48-57 65-70 97-102
+1|\na\r\n0\r\n\r\n|13
+1\r|a\r\n0\r\n\r\n|10
+1\r\n|\r\n0\r\n\r\n|0-255
+1\r\na|\n0\r\n\r\n|13
+1\r\na\r|0\r\n\r\n|10
+1\r\na\r\n|\r\n\r\n|48|50-57 65-70 97-102
+0|a\r\n\r\n|59|48-57 65-70 97-102
+0;a|\n\r\n|13
+0;a\r|\r\n|10
+0\r\na|b\r\n\r\n|58
+0\r\na:b|\n\r\n|13
+0\r\na:b\r|\r\n|10
+0\r\na:b\r\n|\n|13
+0\r\na:b\r\n\r||10
 0;|\r\n\r\n|33 35-39 42-43 45-46 48-57 65-90 94-122 124 126
 0;|a\r\n\r\n|9 32-33 35-39 42-43 45-46 48-57 65-90 94-122 124 126
 0;a|b\r\n\r\n|33 35-39 42-43 45-46 48-57 59 61 65-90 94-122 124 126

@@ -23,7 +23,8 @@ bytes_size Two LittleEndian len = refl
 bytes_size Four LittleEndian len = refl
 bytes_size Eight LittleEndian len = refl
 
-said : (width : Width) (order : Order) (len : ℕ) → len ≤ most_of width → number_of_all width order (bytes_of width order len) ≡ len
+said : (width : Width) (order : Order) (len : ℕ) → len ≤ most_of width
+    → number_of_all width order (bytes_of width order len) ≡ len
 said One BigEndian len fits = omega (arith, fits)
 said Two BigEndian len fits = from_be_bytes-to_be_bytes_2 len (omega (arith, fits))
 said Four BigEndian len fits = from_be_bytes-to_be_bytes_4 len (omega (arith, fits))
@@ -33,7 +34,8 @@ said Two LittleEndian len fits = from_le_bytes-to_le_bytes_2 len (omega (arith, 
 said Four LittleEndian len fits = from_le_bytes-to_le_bytes_4 len (omega (arith, fits))
 said Eight LittleEndian len fits = from_le_bytes-to_le_bytes_8 len (omega (arith, fits))
 
-pub lengths_read_back : (width : Width) (order : Order) (max : ℕ) → IsReadBack (lengths width order max) (lengths_out width order max)
+pub lengths_read_back : (width : Width) (order : Order) (max : ℕ)
+    → IsReadBack (lengths width order max) (lengths_out width order max)
 lengths_read_back width order max = record {
   within = omega arith;
   again = λ len fits.

@@ -1,17 +1,15 @@
 -- How `pack` asks its reader.
-use Rattle.std.proofs.Common.{◌≡◌, ℕ, ◌+◌, ◌<◌, ◌≤◌, ◌⊎◌, inl, inr, Bool, true, false, List, [], ◌∷◌, ◌++◌, length, drop, take, Option, None, Some, Result, Ok, Err, refl, sym, ap, subst, ◌∙◌, arith, append-nil, append_assoc, length-append}
-use Rattle.std.proofs.Math.Seq.{take-append_seam}
+use Rattle.std.proofs.Common.{◌≡◌, ℕ, ◌+◌, ◌<◌, ◌≤◌, ◌⊎◌, inl, inr, Bool, true, false, List, [], ◌∷◌, ◌++◌, length, Option, None, Some, Ok, Err, refl, sym, ap, subst, ◌∙◌, arith, append-nil, append_assoc, length-append}
 use Rattle.std.proofs.lemmas.Bool.{false≢true, true≢false}
 use Rattle.std.proofs.lemmas.List.{append_cancel_left, drop_at}
-use Rattle.std.proofs.lemmas.List.Elements.{All-head, All-drop, All-take}
+use Rattle.std.proofs.lemmas.List.Elements.{All-head, All-drop}
 use Rattle.std.specs.List.{All}
-use Rattle.buffer_redux.specs.StreamLog.{StreamLog, WriteLog}
 use Rattle.buffer_redux.specs.WriterLaws.{WritesInOrder-fresh}
 use Rattle.frame_reader.specs.Frames.{frames}
 use Rattle.frame_reader.specs.Outgoing.{Outgoing, unsent}
-use Rattle.line_reader.specs.Lines.{newline, BeginsTooLong, BeginsWhole, IsLine, IsUnended, with_end, with_ends}
+use Rattle.line_reader.specs.Lines.{newline, IsLine, IsUnended, with_end, with_ends}
 use Rattle.line_reader.specs.Lining.{HasLine, Lining, rest}
-use Rattle.line_reader.specs.NextLine.{AskedOver as AskedOverLine, LinesWent, NextAnswer, NextLine, NoEnd, MetEnd}
+use Rattle.line_reader.specs.NextLine.{AskedOver as AskedOverLine, LinesWent, NextAnswer, NextLine}
 use Rattle.line_reader.specs.declared.error.LineError.TheVariants.{TooLong, Io}
 use Rattle.frames.specs.Pack.{Asks, AskedOver, AsksSent, AsksWhenSent, IsDue, MayAsk, PacksLines}
 use Rattle.programs.specs.Prompt.{AskedLast, AsksGive, HoldsNothingBack, WasSent, WritesOn}

@@ -10,7 +10,7 @@ use Rattle.frame_reader.specs.WriteFrame.{FramesTaken, WritesFrame}
 use Rattle.frame_reader.specs.WriteFrameLaws.{FramesTaken-none, FramesTaken-joins}
 use Rattle.frame_reader.specs.declared.error.WriteFrameError.{WriteFrameError}
 use Rattle.frame_reader.specs.declared.error.WriteFrameError.TheVariants as Unwritten
-use Rattle.line_reader.specs.Lines.{newline, IsLine, IsUnended, HasLines, last_line, with_end}
+use Rattle.line_reader.specs.Lines.{newline, IsLine, IsUnended, last_line, with_end}
 use Rattle.line_reader.specs.Lining.{Lining, rest}
 use Rattle.line_reader.specs.LinesWentLaws.{LinesWent-none, LinesWent-joins}
 use Rattle.line_reader.specs.NextLine.{LinesWent, NextLine, NextAnswer, NoEnd, NoFault, Faulted}

@@ -1,14 +1,12 @@
 -- How `unpack` asks its reader.
-use Rattle.std.proofs.Common.{◌≡◌, ℕ, ◌+◌, ◌<◌, ◌≤◌, ◌⊎◌, inl, inr, Bool, true, false, List, [], ◌∷◌, ◌++◌, length, Option, None, Some, Result, Ok, Err, refl, sym, ap, subst, ◌∙◌, arith, append-nil, append_assoc, length-append}
+use Rattle.std.proofs.Common.{◌≡◌, ℕ, ◌+◌, ◌≤◌, ◌⊎◌, inl, inr, Bool, true, false, List, [], ◌∷◌, ◌++◌, length, Option, None, Some, Ok, Err, refl, sym, ap, subst, ◌∙◌, arith, append_assoc, length-append}
 use Rattle.std.proofs.lemmas.Bool.{false≢true}
 use Rattle.buffer_redux.specs.Buffered.{Buffered}
-use Rattle.buffer_redux.specs.GoesOn.{GoesOn}
-use Rattle.buffer_redux.specs.StreamLog.{StreamLog, WriteLog}
 use Rattle.buffer_redux.specs.WriterLaws.{WritesInOrder-fresh}
 use Rattle.buffer_redux.specs.declared.policy.StdPolicy.{StdPolicy}
 use Rattle.frame_reader.specs.Frames.{frames}
 use Rattle.frame_reader.specs.Framing.{Framing, rest}
-use Rattle.frame_reader.specs.Next.{AskedWhere, FramesWent, IsSettled, IsUnsettled, Next, NextAnswer}
+use Rattle.frame_reader.specs.Next.{FramesWent, IsSettled, IsUnsettled, Next, NextAnswer}
 use Rattle.frame_reader.specs.declared.error.FrameError.TheVariants.{Truncated, TooLong, Io}
 use Rattle.line_reader.specs.Lines.{with_ends}
 use Rattle.frames.specs.Unpack.{Asks, AskedOver, AsksSent, AsksWhenSent, IsDue, UnpacksEach}

@@ -88,8 +88,10 @@ fn unpack_frames<R: TellRead, W: TellWrite>(
     ensures once { EndsOnce source.old.reader.log.reads source.new.reader.log.reads }
 {
     for _ in 0..u64::MAX {
-        if !unpack_frame(source, target)? {
-            return Ok(());
+        match unpack_frame(source, target) {
+            Ok(true) => {}
+            Ok(false) => return Ok(()),
+            Err(e) => return Err(e),
         }
     }
     Err(RunError::Io(ErrorKind::Other.into()))
@@ -128,20 +130,22 @@ fn print_next<R: TellRead, W: TellWrite>(
     let mut row = 0;
     'tries: loop {
         let have = source.rest().len();
-        match try_frame(source, target)? {
-            Step::Went => return Ok(true),
-            Step::End => return Ok(false),
-            Step::ReadFailed(e) => {
+        match try_frame(source, target) {
+            Ok(Step::Went) => return Ok(true),
+            Ok(Step::End) => return Ok(false),
+            Ok(Step::ReadFailed(e)) => {
                 row = row_with(row, source.rest().len() > have);
                 if is_answered(&e, row) {
                     return Err(RunError::Read(e));
                 }
             }
+            Err(e) => return Err(e),
         }
     }
 }
 
 // The same up to the first fault of a read.
+#[inline(always)]
 fn try_frame<R: TellRead, W: TellWrite>(
     source: &mut FrameReader<R>,
     target: &mut BufWriter<W>,
@@ -164,6 +168,7 @@ fn try_frame<R: TellRead, W: TellWrite>(
 }
 
 // Takes the line in with its end, or nothing of it where room can't be had.
+#[inline(always)]
 fn print_line<W: TellWrite>(target: &mut BufWriter<W>, line: &[u8]) -> io::Result<()>
     requires { IsLineTarget (length line.now) target.old }
     ensures taken { OnOk result (WritesInOrder target.old (line.now ++ newline ∷ []) target.new) }

@@ -10,16 +10,30 @@ use Rattle.line_reader.specs.CallsLaws.{LinesAlong-joins, LinesAlong-none}
 use Rattle.line_reader.specs.Lines.{IsLine}
 use Rattle.line_reader.specs.Lining.{Lining, rest}
 use Rattle.kv.specs.Exchange.{Converses, Exchange, joined}
-use Rattle.kv.specs.Serving.{Fails, GoesOn, IsSent, Server, Stops, Talked, TookLine, Waits, server}
-
--- a turn that asks nobody where an end is buffered, after a flush where none is
-pub waits_when : {S T P : Type 0} (s t : Lining S) (w : Buffered T P)
-    → (¬ (IsLine (rest s)) → t.reader.log ≡ s.reader.log) → (¬ (IsLine (rest s))) ⊎ IsSent w → Waits s w t
-waits_when s t w quiet (inl end) = inl (quiet end)
-waits_when s t w quiet (inr sent) = inr sent
+use Rattle.kv.specs.Serving.{Fails, HasQuit, IsSent, OnceSent, Server, Stops, Talked, server}
 
 module _ {S T P : Type 0} (remaining : S → Option (List ℕ)) (tells : T → StreamLog) (stretch : T → T → Type 0)
     (s : Server S T P) where
+  -- what asks nobody where an end is buffered, after a flush where none is
+  pub once_sent : (ready : Buffered T P) → WritesAlong tells stretch std_write_rules s.replies [] ready
+      → (¬ (IsLine (rest s.commands))) ⊎ IsSent ready → (Done : Server S T P → Type 0) → Done (server s.commands s.values ready)
+      → (t : Lining S) → (¬ (IsLine (rest s.commands)) → t.reader.log ≡ s.commands.reader.log)
+      → OnceSent remaining tells stretch s Done t
+  once_sent ready sent (inl end) Done done t quiet =
+      record { ready = ready; sent = sent; waits = inl (quiet end); done = done }
+  once_sent ready sent (inr flushed) Done done t quiet =
+      record { ready = ready; sent = sent; waits = inr flushed; done = done }
+
+  -- what asks nobody, and isn't flushed for
+  pub at_once : ((u : T) → stretch u u) → (Done : Server S T P → Type 0) → Done (server s.commands s.values s.replies)
+      → (t : Lining S) → t.reader.log ≡ s.commands.reader.log → OnceSent remaining tells stretch s Done t
+  at_once none Done done t same = record {
+    ready = s.replies;
+    sent = WritesAlong-none tells stretch std_write_rules none s.replies;
+    waits = inl same;
+    done = done;
+  }
+
   -- what was talked took whole lines
   pub Talked-lines : (exchanges : List Exchange) (t : Server S T P) → Talked remaining tells stretch s exchanges t
       → LinesAlong remaining [] s.commands (joined (λ x. x.taken) exchanges) [] t.commands
@@ -27,14 +41,14 @@ module _ {S T P : Type 0} (remaining : S → Option (List ℕ)) (tells : T → S
       (LinesAlong-none remaining s.commands)
   Talked-lines (x ∷ earlier) t (m, talked, goes, turn) =
       LinesAlong-joins remaining s.commands m.commands t.commands [] [] [] (joined (λ x. x.taken) earlier) x.taken
-      (Talked-lines earlier m talked) turn.took.lines
+      (Talked-lines earlier m talked) turn.done.lines
 
   -- answered each
   pub Talked-converses : (exchanges : List Exchange) (t : Server S T P) → Talked remaining tells stretch s exchanges t
       → Converses s.values exchanges t.values
   Talked-converses [] t same = subst (λ t. Converses s.values [] t.values) same (λ q. refl)
   Talked-converses (x ∷ earlier) t (m, talked, goes, turn) =
-      (m.values, Talked-converses earlier m talked, turn.took.is, turn.took.answers)
+      (m.values, Talked-converses earlier m talked, turn.done.is, turn.done.answers)
 
   -- and wrote just the replies
   pub Talked-along : ((u : T) → stretch u u) → ((u v w : T) → stretch u v → stretch v w → stretch u w)
@@ -45,34 +59,20 @@ module _ {S T P : Type 0} (remaining : S → Option (List ℕ)) (tells : T → S
   Talked-along none joins (x ∷ earlier) t (m, talked, goes, turn) =
       WritesAlong-joins tells stretch std_write_rules joins s.replies turn.ready t.replies (joined (λ x. x.reply) earlier) x.reply
       (WritesAlong-then tells stretch std_write_rules joins s.replies m.replies turn.ready (joined (λ x. x.reply) earlier)
-      (Talked-along none joins earlier m talked) turn.sent) turn.took.along
-
-  -- one turn more
-  pub one_more : (exchanges : List Exchange) (m : Server S T P) (ready : Buffered T P)
-      → Talked remaining tells stretch s exchanges m → GoesOn exchanges
-      → WritesAlong tells stretch std_write_rules m.replies [] ready
-      → (t : Server S T P) → Waits m.commands ready t.commands → (x : Exchange)
-      → TookLine remaining tells stretch (server m.commands m.values ready) x t
-      → Talked remaining tells stretch s (x ∷ exchanges) t
-  one_more exchanges m ready talked goes sent t waits x took =
-      (m, talked, goes, record { ready = ready; sent = sent; waits = waits; took = took })
+      (Talked-along none joins earlier m talked) turn.sent) turn.done.along
 
   -- a turn that fails, or a flush
   pub stops : ((u : T) → stretch u u) → ((u v w : T) → stretch u v → stretch v w → stretch u w)
-      → (exchanges : List Exchange) (m : Server S T P) (ready : Buffered T P)
-      → Talked remaining tells stretch s exchanges m → WritesAlong tells stretch std_write_rules m.replies [] ready
-      → (t : Server S T P) → Waits m.commands ready t.commands → (e : Error)
-      → (Fails remaining tells stretch (server m.commands m.values ready) e t × GoesOn exchanges)
-      ⊎ (StoppedAlong tells stretch std_write_rules ready e t.replies × (m.values ≡ t.values))
+      → (exchanges : List Exchange) (m t : Server S T P) → Talked remaining tells stretch s exchanges m → (e : Error)
+      → OnceSent remaining tells stretch m (λ r. (Fails remaining tells stretch r e t × ¬ (HasQuit exchanges))
+      ⊎ (StoppedAlong tells stretch std_write_rules r.replies e t.replies × (r.values ≡ t.values))) t.commands
       → Stops remaining tells stretch s e t
-  stops none joins exchanges m ready talked sent t waits e why = record {
+  stops none joins exchanges m t talked e once = record {
     exchanges = exchanges;
     last = m;
     talked = talked;
     lines = Talked-lines exchanges m talked;
-    ready = ready;
-    along = WritesAlong-then tells stretch std_write_rules joins s.replies m.replies ready (joined (λ x. x.reply) exchanges)
-        (Talked-along none joins exchanges m talked) sent;
-    waits = waits;
-    why = why;
+    stops = once;
+    along = WritesAlong-then tells stretch std_write_rules joins s.replies m.replies once.ready (joined (λ x. x.reply) exchanges)
+        (Talked-along none joins exchanges m talked) once.sent;
   }

@@ -27,7 +27,7 @@ module _ {S T P : Type 0} (remaining : S → Option (List ℕ)) (tells : T → S
       → t.commands.reader.log ≡ s.commands.reader.log)
       → s.values ≡ t.values → (answer : Result Step Error)
       → AnswersLong remaining tells stretch m s.replies answer t.commands t.replies → Turns remaining tells stretch s answer t
-  long_turns m meets taken quiet same (Ok step) ((count, k), along, went) =
+  long_turns m meets taken quiet same (Ok step) (Ok count, k, (along, went)) =
       let took = taken count k in
       record {
         quiet = quiet (Ok count) k;
@@ -43,10 +43,10 @@ module _ {S T P : Type 0} (remaining : S → Option (List ℕ)) (tells : T → S
           none-some _,
         );
       }
-  long_turns m meets taken quiet same (Err e) (inl (k, w)) =
-      record { quiet = quiet (Err e) k; does = inl (inr (m, meets, k), same, w) }
-  long_turns m meets taken quiet same (Err e) (inr ((count, k), stopped)) =
+  long_turns m meets taken quiet same (Err e) (Ok count, k, (stopped, _)) =
       record { quiet = quiet (Ok count) k; does = inr (None, (count, (m, meets, k)), stopped) }
+  long_turns m meets taken quiet same answer (Err e, k, (is, w)) = subst (λ a. Turns remaining tells stretch s a t) (sym is)
+      (record { quiet = quiet (Err e) k; does = inl (inr (m, meets, k), same, w) })
 
   -- a turn that answers a line which is shown
   module _ (line : List ℕ) (open' : s.commands.skipping ≡ false)

@@ -1,5 +1,5 @@
 -- Lines of commands, and what is replied to them.
-use Rattle.std.specs.Prelude.{◌≡◌, List, ℕ, [], ◌∷◌, ◌++◌, ◌⊎◌, Bool, Option, None, Some, Result, Ok, Err, MatchOption, codes}
+use Rattle.std.specs.Prelude.{◌≡◌, List, ℕ, [], ◌∷◌, ◌++◌, ◌⊎◌, Bool, Option, None, Some, Result, Ok, Err, MatchOption, take, codes}
 use Rattle.line_reader.specs.Calls.{CutsInto, Event, Trimmed}
 use Rattle.line_reader.specs.LinesAlongLaws.{IsSkip}
 use Rattle.kv.specs.declared.command.Command.{Command}
@@ -54,13 +54,11 @@ Converses old [] new = Same old new
 Converses old (x ∷ earlier) new =
     (between : Values) × Converses old earlier between × IsTaken x.line x.taken × Answers between x.line x.reply new
 
--- the text begins with these lines, each is answered, and these are the replies
+-- so many of the text's first bytes are these lines, each is answered, and these are the replies
 pub record RepliesTo (text : List ℕ) (old : Values) (replies : List ℕ) (new : Values) : Type 0 where
   pub exchanges : List Exchange
-  pub bytes : List ℕ
-  pub more : List ℕ
-  pub all : text ≡ bytes ++ more
+  pub count : ℕ
   pub ended : Bool
-  pub cut : CutsInto ended (joined (λ x. x.taken) exchanges) [] bytes
+  pub cut : CutsInto ended (joined (λ x. x.taken) exchanges) [] (take count text)
   pub converses : Converses old exchanges new
   pub replied : replies ≡ joined (λ x. x.reply) exchanges

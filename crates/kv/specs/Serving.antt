@@ -1,8 +1,8 @@
 -- What a server does.
-use Rattle.std.specs.Prelude.{◌≡◌, ◌⊎◌, ℕ, List, [], ◌∷◌, Option, None, Some, Result, Ok, Err, MatchResult, true, codes, ⊤}
+use Rattle.std.specs.Prelude.{◌≡◌, ◌⊎◌, ℕ, List, [], ◌∷◌, Option, None, Some, Result, Ok, Err, IfOk, MatchResult, true, codes}
 use Rattle.std.specs.declared.io.Error.{Error}
 use Rattle.buffer_redux.specs.Buffered.{Buffered}
-use Rattle.buffer_redux.specs.BufWriter.{WritesAlong, FlushedAlong, StoppedAlong}
+use Rattle.buffer_redux.specs.BufWriter.{AllAlong, WritesAlong, FlushedAlong, StoppedAlong}
 use Rattle.buffer_redux.specs.Policy.{std_write_rules}
 use Rattle.buffer_redux.specs.StreamLog.{StreamLog}
 use Rattle.line_reader.specs.declared.error.LineError.TheVariants.{TooLong, Io}
@@ -31,20 +31,16 @@ server commands values replies = record { commands = commands; values = values; 
 abbrev pub IsSent : {T P : Type 0} → Buffered T P → Type 0
 IsSent w = (w.block.bytes ≡ []) × (w.log.writes.flushed ≡ w.log.writes.received)
 
--- the stream of commands wasn't asked, or by then all that was replied had been sent
-abbrev pub Waits : {S T P : Type 0} → Lining S → Buffered T P → Lining S → Type 0
-Waits s w t = (t.reader.log ≡ s.reader.log) ⊎ IsSent w
-
 -- which step it is to answer this line: it is `QUIT`, or another
 abbrev pub IsStep : Option (List ℕ) → Step → Type 0
 IsStep line step.Went = ¬ (line ≡ Some quit_line)
 IsStep line step.Quit = line ≡ Some quit_line
 IsStep line step.End = ⊥
 
--- the latest was no `QUIT`
-abbrev pub GoesOn : List Exchange → Type 0
-GoesOn [] = ⊤
-GoesOn (x ∷ earlier) = IsStep x.line step.Went
+-- the latest was `QUIT`
+abbrev pub HasQuit : List Exchange → Type 0
+HasQuit [] = ⊥
+HasQuit (x ∷ earlier) = IsStep x.line step.Quit
 
 module _ {S : Type 0} (remaining : S → Option (List ℕ)) where
   -- a line that is too long stands in front, or one was being skipped; and that is skipped, or fails
@@ -60,10 +56,9 @@ module _ {S : Type 0} (remaining : S → Option (List ℕ)) where
 
   -- what became of the reader at the end
   abbrev pub EndedBy : Served → List Exchange → Lining S → Lining S → Type 0
-  EndedBy served.Quit exchanges s t =
-      (s ≡ t) × ((x : Exchange) × (earlier : List Exchange) × (exchanges ≡ x ∷ earlier) × IsStep x.line step.Quit)
-  EndedBy served.End exchanges s t = NextTrimmed remaining s (Ok None) t × GoesOn exchanges
-  EndedBy served.Many exchanges s t = (s ≡ t) × GoesOn exchanges
+  EndedBy served.Quit exchanges s t = (s ≡ t) × HasQuit exchanges
+  EndedBy served.End exchanges s t = NextTrimmed remaining s (Ok None) t × ¬ (HasQuit exchanges)
+  EndedBy served.Many exchanges s t = (s ≡ t) × ¬ (HasQuit exchanges)
 
 module _ {S T P : Type 0} (remaining : S → Option (List ℕ)) (tells : T → StreamLog) (stretch : T → T → Type 0) where
   -- a line was taken, of which no byte is lost, and answered
@@ -76,18 +71,16 @@ module _ {S T P : Type 0} (remaining : S → Option (List ℕ)) (tells : T → S
 
   -- what a turn does, and which step it was
   abbrev pub Does : Server S T P → Step → Server S T P → Type 0
-  Does s step.Went t = (x : Exchange) × TookLine s x t × IsStep x.line step.Went
-  Does s step.Quit t = (x : Exchange) × TookLine s x t × IsStep x.line step.Quit
   Does s step.End t =
       NextTrimmed remaining s.commands (Ok None) t.commands × (s.values ≡ t.values) × (s.replies ≡ t.replies)
+  Does s done t = (x : Exchange) × TookLine s x t × IsStep x.line done
 
   -- what is left of a line that is too long was skipped, and that replied; or one of the two failed
   abbrev pub AnswersLong : Lining S → Buffered T P → Result Step Error → Lining S → Buffered T P → Type 0
-  AnswersLong s w answer t v = MatchResult answer
-      (λ done. ((count : ℕ) × SkipsLine remaining s (Ok count) t)
-      × WritesAlong tells stretch std_write_rules w (codes "ERROR long line\n") v × (done ≡ step.Went))
-      (λ e. (SkipsLine remaining s (Err e) t × (w ≡ v))
-      ⊎ (((count : ℕ) × SkipsLine remaining s (Ok count) t) × StoppedAlong tells stretch std_write_rules w e v))
+  AnswersLong s w answer t v = (skipped : Result ℕ Error) × SkipsLine remaining s skipped t × MatchResult skipped
+      (λ _. AllAlong tells stretch std_write_rules w (codes "ERROR long line\n") answer v
+      × IfOk answer (λ done. done ≡ step.Went))
+      (λ e. (answer ≡ Err e) × (w ≡ v))
 
   -- a turn fails: no line was taken, as the stream failed, and nothing was done; or the reply to one couldn't be written
   abbrev pub Fails : Server S T P → Error → Server S T P → Type 0
@@ -102,27 +95,27 @@ module _ {S T P : Type 0} (remaining : S → Option (List ℕ)) (tells : T → S
     pub quiet : ¬ (IsLine (rest s.commands)) → t.commands.reader.log ≡ s.commands.reader.log
     pub does : MatchResult answer (λ done. Does s done t) (λ e. Fails s e t)
 
-  -- replies were flushed where need be, and then a line was taken and answered
-  pub record TookTurn (s : Server S T P) (x : Exchange) (t : Server S T P) : Type 0 where
+  -- replies were flushed where need be, and then this was done: the stream of commands wasn't asked for it, or by then all that
+  -- was replied had been sent
+  pub record OnceSent (s : Server S T P) (Done : Server S T P → Type 0) (t : Lining S) : Type 0 where
     pub ready : Buffered T P
     pub sent : WritesAlong tells stretch std_write_rules s.replies [] ready
-    pub waits : Waits s.commands ready t.commands
-    pub took : TookLine (server s.commands s.values ready) x t
+    pub waits : (t.reader.log ≡ s.commands.reader.log) ⊎ IsSent ready
+    pub done : Done (server s.commands s.values ready)
 
   -- these exchanges, the latest first, one behind another, and none behind `QUIT`
   abbrev pub Talked : Server S T P → List Exchange → Server S T P → Type 0
   Talked s [] t = s ≡ t
-  Talked s (x ∷ earlier) t = (m : Server S T P) × Talked s earlier m × GoesOn earlier × TookTurn m x t
+  Talked s (x ∷ earlier) t =
+      (m : Server S T P) × Talked s earlier m × ¬ (HasQuit earlier) × OnceSent m (λ r. TookLine r x t) t.commands
 
   -- exchanges up to an end, and then no reply more
   pub record Ends (s : Server S T P) (ended : Served) (t : Server S T P) : Type 0 where
     pub exchanges : List Exchange
     pub last : Server S T P
     pub talked : Talked s exchanges last
-    pub sent : WritesAlong tells stretch std_write_rules last.replies [] t.replies
-    pub waits : Waits last.commands t.replies t.commands
-    pub why : EndedBy remaining ended exchanges last.commands t.commands
-    pub values : last.values ≡ t.values
+    pub ends : OnceSent last (λ r. EndedBy remaining ended exchanges r.commands t.commands
+        × (r.values ≡ t.values) × (r.replies ≡ t.replies)) t.commands
 
   -- what serving did: so, and all replies were received and flushed; what was taken are the lines, and no byte was lost
   pub record Serves (s : Server S T P) (ended : Served) (t : Server S T P) : Type 0 where
@@ -137,8 +130,6 @@ module _ {S T P : Type 0} (remaining : S → Option (List ℕ)) (tells : T → S
     pub last : Server S T P
     pub talked : Talked s exchanges last
     pub lines : LinesAlong remaining [] s.commands (joined (λ x. x.taken) exchanges) [] last.commands
-    pub ready : Buffered T P
-    pub along : WritesAlong tells stretch std_write_rules s.replies (joined (λ x. x.reply) exchanges) ready
-    pub waits : Waits last.commands ready t.commands
-    pub why : (Fails (server last.commands last.values ready) e t × GoesOn exchanges)
-        ⊎ (StoppedAlong tells stretch std_write_rules ready e t.replies × (last.values ≡ t.values))
+    pub stops : OnceSent last (λ r. (Fails r e t × ¬ (HasQuit exchanges))
+        ⊎ (StoppedAlong tells stretch std_write_rules r.replies e t.replies × (r.values ≡ t.values))) t.commands
+    pub along : WritesAlong tells stretch std_write_rules s.replies (joined (λ x. x.reply) exchanges) stops.ready

@@ -1,5 +1,5 @@
 -- What one call of a reader of lines did, for the proofs of those who call it.
-use Rattle.std.specs.Prelude.{◌≡◌, ℕ, ◌+◌, ◌<◌, ◌⊎◌, List, [], ◌∷◌, ◌++◌, length, take, true, false, MatchBool, Option, None, Some, Result, Ok, Err}
+use Rattle.std.specs.Prelude.{◌≡◌, ℕ, ◌+◌, ◌<◌, ◌⊎◌, List, [], ◌∷◌, ◌++◌, length, take, true, false, MatchBool, Option, None, Some, Result, Ok, Err, option_copied}
 use Rattle.std.proofs.Common.{sym, ap, subst, ◌∙◌, arith, refl, inl, inr, append_assoc, length-append}
 use Rattle.std.proofs.lemmas.Bool.{cases_lt}
 use Rattle.std.proofs.lemmas.List.{take-append-le}
@@ -10,11 +10,11 @@ use Rattle.line_reader.specs.declared.error.LineError.TheVariants.{TooLong, Io}
 use Rattle.line_reader.specs.Calls.{Event, LinesAlong, Skipped, next_events, trimmed_events}
 use Rattle.line_reader.specs.CallsLaws.{LinesAlong-joins, NextLine-along, Trims-along, no_line, skip_last, skip_none, skip_whole}
 use Rattle.line_reader.specs.CallsWentLaws.{ended_empty}
-use Rattle.line_reader.specs.Lines.{BeginsTooLong, IsLine, newline}
+use Rattle.line_reader.specs.Lines.{BeginsTooLong, BeginsWhole, IsLine, newline}
 use Rattle.line_reader.specs.LinesLaws.{front_plain, line_or_end, no-end-within, take_plain, too_long-append}
 use Rattle.line_reader.specs.Lining.{HasLine, IsLining, Lining, rest}
 use Rattle.line_reader.specs.LinesWentLaws.{LinesWent-unasked}
-use Rattle.line_reader.specs.NextLine.{NextAnswer, NextLine, Trims, answer_of}
+use Rattle.line_reader.specs.NextLine.{NextAnswer, NextBuffered, NextLine, StaysLeft, Trims, answer_of}
 use Rattle.line_reader.specs.NextLineLaws.{NextGoes-plain, NextLine-ended, NextLine-ready, NextLine-too_long}
 use Rattle.line_reader.specs.SkipLine.{IsWithEnd, LineFails, NextGoes, NextTrimmed, SkipsFirst, SkipsLine, SkipsStill}
 
@@ -49,6 +49,15 @@ module _ {S : Type 0} (remaining : S → Option (List ℕ)) (s t : Lining S) whe
       → r ≡ Err error → error ≡ e → NextTrimmed remaining s (answer_of r) t → NextTrimmed remaining s (Err e) t
   NextTrimmed-err r error e is error_is =
       subst (λ r. NextTrimmed remaining s (answer_of r) t) (is ∙ ap (λ x. Err x) error_is)
+
+  -- and those of `match reader.next_buffered()`
+  pub NextBuffered-some : (r : Option (Bor (List ℕ))) (line : Bor (List ℕ)) → r ≡ Some line
+      → NextBuffered remaining s (option_copied r) t → NextLine remaining s (Ok (Some line.now)) t × (t.reader ≡ s.reader)
+  NextBuffered-some r line = subst (λ r. NextBuffered remaining s (option_copied r) t)
+
+  pub NextBuffered-none : (r : Option (Bor (List ℕ))) → r ≡ None → NextBuffered remaining s (option_copied r) t
+      → StaysLeft remaining s t × ¬ (BeginsWhole s.max (rest s))
+  NextBuffered-none r = subst (λ r. NextBuffered remaining s (option_copied r) t)
 
   -- an `Err` of `next_trimmed` is one of `next`
   trimmed_err : (whole : NextAnswer) (e : LineError) → NextGoes remaining s whole t → Trims whole (Err e) t

@@ -212,6 +212,7 @@ impl<R: TellRead> LineReader<R> {
     ///
     /// A line that `skip_line` failed in is dropped first, through its end, however often the stream fails in it: so what is
     /// lent begins where a line begins.
+    #[inline(always)]
     pub fn next(&mut self) -> Result<Option<&[u8]>, LineError>
         ensures* after_borrow { sem 𝓛 (Rests (the_row R.row R.Tell) self.entry
             (NextGoes R.remaining self.entry.now (answer_of result))) }
@@ -232,8 +233,8 @@ impl<R: TellRead> LineReader<R> {
         }
     }
 
-    /// Lends the next line as [`next`](LineReader::next) does where it stands whole in the buffer, and asks the stream for nothing.
-    /// `None` where it doesn't; what was searched then isn't searched again.
+    /// Lends the next line as [`next`](LineReader::next) does where it stands whole in the buffer, and asks the stream for
+    /// nothing. `None` where it doesn't; what was searched then isn't searched again.
     #[inline(always)]
     pub fn next_buffered(&mut self) -> Option<&[u8]>
         ensures* after_borrow { sem 𝓛 (Rests (the_row R.row R.Tell) self.entry
@@ -246,8 +247,8 @@ impl<R: TellRead> LineReader<R> {
         }
     }
 
-    /// The same as `next`, without the carriage return that may stand before the end, as std's `lines` has it. It is a byte of the line
-    /// where the length counts. That of a last line without an end stays.
+    /// The same as `next`, without the carriage return that may stand before the end, as std's `lines` has it. It is a byte of
+    /// the line where the length counts. That of a last line without an end stays.
     #[inline(always)]
     pub fn next_trimmed(&mut self) -> Result<Option<&[u8]>, LineError>
         ensures* after_borrow { sem 𝓛 (Rests (the_row R.row R.Tell) self.entry
@@ -278,8 +279,9 @@ impl<R: TellRead> LineReader<R> {
         dropped
     }
 
-    // Has the next line stand whole at the front of the buffer, hands it out, and returns its length.
-    #[inline(never)]
+    // Has the next line stand whole at the front of the buffer, hands it out, and returns its length. It is inlined, so that
+    // `load_line` is called where its answer is looked at.
+    #[inline(always)]
     fn load(&mut self) -> Result<Option<usize>, LineError>
         requires searched { self.old.seen ≡ min (length (rest self.old)) (1 + self.old.max) }
         ensures next { NextGoes R.remaining self.old (load_answer result self.new) self.new }

@@ -1,5 +1,5 @@
-//! Calls of std's readers, as a user of std writes them, so that `docs/STD.md` says what is there; and rows of those that a reader
-//! has of its own.
+//! Calls of std's readers, as a user of std writes them, so that `docs/STD.md` says what is there; and rows of those that a
+//! reader has of its own.
 use crate::fixtures::of_four;
 use buffer_redux::BufReader;
 use buffer_redux::script::Answer;

@@ -82,7 +82,7 @@ impl<R: TellRead> LineReader<R> {
 
     // Has the next line stand whole at the front of the buffer, hands it out, and returns its length, where no line is being
     // skipped.
-    #[inline(always)]
+    #[inline(never)]
     pub(super) fn load_line(&mut self) -> Result<Option<usize>, LineError>
         requires open { self.old.skipping ≡ false }
         requires searched { self.old.seen ≡ min (length (rest self.old)) (1 + self.old.max) }

@@ -1,6 +1,6 @@
-use Rattle.std.proofs.Common.{ap, inl, subst, Ok, None, Some, option_copied, refl, true, ◌∙◌}
+use Rattle.std.proofs.Common.{ap, inl, Ok, None, Some, refl, true, ◌∙◌}
 use Rattle.std.proofs.lemmas.Result.{err_from_is_err_and}
-use Rattle.line_reader.specs.NextLine.{NextBuffered}
+use Rattle.line_reader.specs.LinesAlongLaws.{NextBuffered-none, NextBuffered-some}
 use Rattle.programs.specs.PromptLaws.{WritesOn-unflushed}
 use Rattle.programs.specs.StreamsLaws.{only_same}
 use Rattle.frames.proofs.PackBuffered.{asks_stays, sent_stays}
@@ -12,8 +12,7 @@ pub returns-in_err-write_frame-in-Some-clause-packs : goal.returns-in_err-write_
 returns-in_err-write_frame-in-Some-clause-packs g c =
     let s = c.args.source.now in
     let t = c.next_buffered.follows.lender-at-none in
-    let took = subst (λ r. NextBuffered g.R.TellRead.remaining s (option_copied r) t) c.in-Some.is
-    c.next_buffered.follows.holds-at-none in
+    let took = NextBuffered-some _ s t _ _ c.in-Some.is c.next_buffered.follows.holds-at-none in
     let p = err_from_is_err_and c.from_residual.result c.from_residual.ensures.1 in
     rw (p.1, p.2)
     (not_written g.R.TellRead.remaining g.W.TellWrite.stretch g.met.W.TellWrite.stretch_none s t c.args.target.now
@@ -24,8 +23,7 @@ pub returns-in_err-write_frame-in-Some-clause-asks : goal.returns-in_err-write_f
 returns-in_err-write_frame-in-Some-clause-asks g c =
     let s = c.args.source.now in
     let t = c.next_buffered.follows.lender-at-none in
-    let took = subst (λ r. NextBuffered g.R.TellRead.remaining s (option_copied r) t) c.in-Some.is
-    c.next_buffered.follows.holds-at-none in
+    let took = NextBuffered-some _ s t _ _ c.in-Some.is c.next_buffered.follows.holds-at-none in
     let p = err_from_is_err_and c.from_residual.result c.from_residual.ensures.1 in
     rw p.1 (asks_end s t true (asks_next g.R.TellRead.remaining s t (Ok (Some c.in-Some.line.now)) took.0))
 
@@ -33,8 +31,7 @@ pub returns-in_err-write_frame-in-Some-clause-prompt : goal.returns-in_err-write
 returns-in_err-write_frame-in-Some-clause-prompt g c =
     let s = c.args.source.now in
     let t = c.next_buffered.follows.lender-at-none in
-    let took = subst (λ r. NextBuffered g.R.TellRead.remaining s (option_copied r) t) c.in-Some.is
-    c.next_buffered.follows.holds-at-none in
+    let took = NextBuffered-some _ s t _ _ c.in-Some.is c.next_buffered.follows.holds-at-none in
     inl (ap (λ r. r.log) took.1)
 
 pub returns-in_err-write_frame-in-Some-clause-writes : goal.returns-in_err-write_frame-in-Some-clause-writes
@@ -46,15 +43,13 @@ pub returns-in_err-write_frame-in-Some-clause-open : goal.returns-in_err-write_f
 returns-in_err-write_frame-in-Some-clause-open g c =
     let s = c.args.source.now in
     let t = c.next_buffered.follows.lender-at-none in
-    (subst (λ r. NextBuffered g.R.TellRead.remaining s (option_copied r) t) c.in-Some.is
-    c.next_buffered.follows.holds-at-none).0.open'
+    (NextBuffered-some _ s t _ _ c.in-Some.is c.next_buffered.follows.holds-at-none).0.open'
 
 pub returns-in_ok-write_frame-in-Some-clause-packs : goal.returns-in_ok-write_frame-in-Some-clause-packs
 returns-in_ok-write_frame-in-Some-clause-packs g c =
     let s = c.args.source.now in
     let t = c.next_buffered.follows.lender-at-none in
-    let took = subst (λ r. NextBuffered g.R.TellRead.remaining s (option_copied r) t) c.in-Some.is
-    c.next_buffered.follows.holds-at-none in
+    let took = NextBuffered-some _ s t _ _ c.in-Some.is c.next_buffered.follows.holds-at-none in
     written g.R.TellRead.remaining g.W.TellWrite.stretch g.met.W.TellWrite.stretch_none s t c.args.target.now
     c.in-Some.line.now took.0 c.write_frame.new.self
     c.in_ok-write_frame-in-Some.ensures
@@ -63,16 +58,14 @@ pub returns-in_ok-write_frame-in-Some-clause-asks : goal.returns-in_ok-write_fra
 returns-in_ok-write_frame-in-Some-clause-asks g c =
     let s = c.args.source.now in
     let t = c.next_buffered.follows.lender-at-none in
-    let took = subst (λ r. NextBuffered g.R.TellRead.remaining s (option_copied r) t) c.in-Some.is
-    c.next_buffered.follows.holds-at-none in
+    let took = NextBuffered-some _ s t _ _ c.in-Some.is c.next_buffered.follows.holds-at-none in
     asks_next g.R.TellRead.remaining s t (Ok (Some c.in-Some.line.now)) took.0
 
 pub returns-in_ok-write_frame-in-Some-clause-prompt : goal.returns-in_ok-write_frame-in-Some-clause-prompt
 returns-in_ok-write_frame-in-Some-clause-prompt g c =
     let s = c.args.source.now in
     let t = c.next_buffered.follows.lender-at-none in
-    let took = subst (λ r. NextBuffered g.R.TellRead.remaining s (option_copied r) t) c.in-Some.is
-    c.next_buffered.follows.holds-at-none in
+    let took = NextBuffered-some _ s t _ _ c.in-Some.is c.next_buffered.follows.holds-at-none in
     inl (ap (λ r. r.log) took.1)
 
 pub returns-in_ok-write_frame-in-Some-clause-writes : goal.returns-in_ok-write_frame-in-Some-clause-writes
@@ -84,15 +77,13 @@ pub returns-in_ok-write_frame-in-Some-clause-open : goal.returns-in_ok-write_fra
 returns-in_ok-write_frame-in-Some-clause-open g c =
     let s = c.args.source.now in
     let t = c.next_buffered.follows.lender-at-none in
-    (subst (λ r. NextBuffered g.R.TellRead.remaining s (option_copied r) t) c.in-Some.is
-    c.next_buffered.follows.holds-at-none).0.open'
+    (NextBuffered-some _ s t _ _ c.in-Some.is c.next_buffered.follows.holds-at-none).0.open'
 
 pub returns-in-None-clause-packs : goal.returns-in-None-clause-packs
 returns-in-None-clause-packs g c =
     let s = c.args.source.now in
     let m = c.next_buffered.follows.lender-at-none in
-    let stays = (subst (λ r. NextBuffered g.R.TellRead.remaining s (option_copied r) m) c.in-None.is
-    c.next_buffered.follows.holds-at-none).0 in
+    let stays = (NextBuffered-none _ s m _ c.in-None.is c.next_buffered.follows.holds-at-none).0 in
     retried g.R.TellRead.remaining g.W.TellWrite.stretch g.met.W.TellWrite.stretch_none s m c.pack_asked.new.source
     c.args.target.now c.pack_asked.new.target stays.went
     (only_same s.reader.log.reads.faults m.reader.log.reads.faults (ap (λ r. r.log.reads.faults) stays.reader)) stays.ended
@@ -103,7 +94,7 @@ returns-in-None-clause-asks g c =
     let s = c.args.source.now in
     let m = c.next_buffered.follows.lender-at-none in
     asks_stays g.R.TellRead.remaining s m
-    (subst (λ r. NextBuffered g.R.TellRead.remaining s (option_copied r) m) c.in-None.is c.next_buffered.follows.holds-at-none).0
+    (NextBuffered-none _ s m _ c.in-None.is c.next_buffered.follows.holds-at-none).0
     c.pack_asked.new.source _ c.pack_asked.ensures.asks
 
 pub returns-in-None-clause-prompt : goal.returns-in-None-clause-prompt
@@ -111,21 +102,19 @@ returns-in-None-clause-prompt g c =
     let s = c.args.source.now in
     let m = c.next_buffered.follows.lender-at-none in
     sent_stays g.R.TellRead.remaining s m
-    (subst (λ r. NextBuffered g.R.TellRead.remaining s (option_copied r) m) c.in-None.is c.next_buffered.follows.holds-at-none).0
+    (NextBuffered-none _ s m _ c.in-None.is c.next_buffered.follows.holds-at-none).0
     c.pack_asked.new.source c.args.target.now c.pack_asked.new.target c.pack_asked.ensures.prompt
 
 pub pack_asked-requires-clause-most : goal.pack_asked-requires-clause-most
 pack_asked-requires-clause-most g c =
     let s = c.args.source.now in
     let m = c.next_buffered.follows.lender-at-none in
-    (subst (λ r. NextBuffered g.R.TellRead.remaining s (option_copied r) m) c.in-None.is
-    c.next_buffered.follows.holds-at-none).0.went.max
+    (NextBuffered-none _ s m _ c.in-None.is c.next_buffered.follows.holds-at-none).0.went.max
     ∙ c.requires.most
 
 pub pack_asked-requires-clause-open : goal.pack_asked-requires-clause-open
 pack_asked-requires-clause-open g c =
     let s = c.args.source.now in
     let m = c.next_buffered.follows.lender-at-none in
-    (subst (λ r. NextBuffered g.R.TellRead.remaining s (option_copied r) m) c.in-None.is
-    c.next_buffered.follows.holds-at-none).0.skipping
+    (NextBuffered-none _ s m _ c.in-None.is c.next_buffered.follows.holds-at-none).0.skipping
     ∙ c.requires.open

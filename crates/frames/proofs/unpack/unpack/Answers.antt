@@ -1,4 +1,4 @@
-use Rattle.std.proofs.Common.{◌≡◌, arith, inl, refl, rules}
+use Rattle.std.proofs.Common.{◌≡◌, inl, refl, rules}
 use Rattle.std.specs.IoError.{error_kind}
 use Rattle.std.specs.declared.io.ErrorKind.TheVariants.{OutOfMemory}
 use Rattle.frames.proofs.UnpackRuns.{unpack_ran, unpack_refused}

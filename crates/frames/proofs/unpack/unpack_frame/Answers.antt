@@ -1,8 +1,6 @@
-use Rattle.std.proofs.Common.{◌++◌, ◌∙◌, inl, sym, subst}
+use Rattle.std.proofs.Common.{◌++◌, ◌∙◌, inl, subst}
 use Rattle.std.proofs.lemmas.Result.{err_from_is_err_and}
 use Rattle.buffer_redux.specs.GoesOn.{GoesOn, GoesOn-none}
-use Rattle.frame_reader.specs.Framing.{rest}
-use Rattle.frames.specs.Unpack.{IsLineTarget}
 use Rattle.programs.specs.Prompt.{WasSent}
 use Rattle.programs.specs.PromptLaws.{WasSent-on, WritesOn-grows, WritesOn-joins}
 use Rattle.frames.proofs.Prompting.{asks_none, asks_settled, asks_sent}

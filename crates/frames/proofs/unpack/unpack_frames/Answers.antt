@@ -1,5 +1,4 @@
 use Rattle.std.proofs.Common.{subst, arith, Ok, inl, refl, ◌∙◌}
-use Rattle.std.proofs.lemmas.Result.{err_from_is_err_and}
 use Rattle.frames.specs.Unpack.{UnpacksNext}
 use Rattle.frames.proofs.Prompting.{held_more}
 use Rattle.frames.proofs.Unpacking.{so_far_none, so_far_more, all_done, stops, over}
@@ -13,58 +12,56 @@ loop-init g c = record {
   quiet = refl;
 }
 
-pub returns-in_err-unpack_frame-clause-unpacks : goal.returns-in_err-unpack_frame-clause-unpacks
-returns-in_err-unpack_frame-clause-unpacks g c =
-    let p = err_from_is_err_and c.from_residual.result c.from_residual.ensures.1 in
-    rw (p.1, p.2)
-    (stops g.R.TellRead.remaining c.args.source.now c.args.target.now c.loop.source c.unpack_frame.new.source c.loop.target
-    c.unpack_frame.new.target c.loop.invariant.so_far.each _ c.in_err-unpack_frame.ensures.unpacks)
+pub returns-in-Err-clause-unpacks : goal.returns-in-Err-clause-unpacks
+returns-in-Err-clause-unpacks g c =
+    stops g.R.TellRead.remaining c.args.source.now c.args.target.now c.loop.source c.unpack_frame.new.source c.loop.target
+    c.unpack_frame.new.target c.loop.invariant.so_far.each _ c.in-Err.ensures.unpacks
 
-pub returns-in_err-unpack_frame-clause-prompt : goal.returns-in_err-unpack_frame-clause-prompt
-returns-in_err-unpack_frame-clause-prompt g c =
+pub returns-in-Err-clause-prompt : goal.returns-in-Err-clause-prompt
+returns-in-Err-clause-prompt g c =
     let before = c.loop.invariant in
-    let one = c.in_err-unpack_frame.ensures in
+    let one = c.in-Err.ensures in
     held_more g.R.TellRead.remaining c.args.source.now c.loop.source c.unpack_frame.new.source c.args.target.now c.loop.target
     c.unpack_frame.new.target c.requires.nothing c.requires.empty before.so_far.each before.give before.held one.prompt
     one.writes
 
-pub returns-in_err-unpack_frame-clause-once : goal.returns-in_err-unpack_frame-clause-once
-returns-in_err-unpack_frame-clause-once g c =
-    omega (arith, c.loop.invariant.quiet, c.in_err-unpack_frame.ensures.asks.once)
+pub returns-in-Err-clause-once : goal.returns-in-Err-clause-once
+returns-in-Err-clause-once g c =
+    omega (arith, c.loop.invariant.quiet, c.in-Err.ensures.asks.once)
 
-pub returns-then-not-branch-clause-unpacks : goal.returns-then-not-branch-clause-unpacks
-returns-then-not-branch-clause-unpacks g c =
+pub returns-in-Ok-false-clause-unpacks : goal.returns-in-Ok-false-clause-unpacks
+returns-in-Ok-false-clause-unpacks g c =
     all_done g.R.TellRead.remaining c.args.source.now c.args.target.now c.loop.source c.unpack_frame.new.source
     c.loop.target c.unpack_frame.new.target c.loop.invariant.so_far.each
     (subst (λ b. UnpacksNext g.R.TellRead.remaining c.loop.source c.loop.target (Ok b) c.unpack_frame.new.source
-    c.unpack_frame.new.target) c.if-not-branch.true c.in_ok-unpack_frame.ensures.unpacks)
+    c.unpack_frame.new.target) c.in-Ok-false.field-0-test c.in-Ok-false.ensures.unpacks)
 
-pub returns-then-not-branch-clause-prompt : goal.returns-then-not-branch-clause-prompt
-returns-then-not-branch-clause-prompt g c =
+pub returns-in-Ok-false-clause-prompt : goal.returns-in-Ok-false-clause-prompt
+returns-in-Ok-false-clause-prompt g c =
     let before = c.loop.invariant in
-    let one = c.in_ok-unpack_frame.ensures in
+    let one = c.in-Ok-false.ensures in
     held_more g.R.TellRead.remaining c.args.source.now c.loop.source c.unpack_frame.new.source c.args.target.now c.loop.target
     c.unpack_frame.new.target c.requires.nothing c.requires.empty before.so_far.each before.give before.held one.prompt
     one.writes
 
-pub returns-then-not-branch-clause-once : goal.returns-then-not-branch-clause-once
-returns-then-not-branch-clause-once g c =
-    omega (arith, c.loop.invariant.quiet, c.in_ok-unpack_frame.ensures.asks.once)
+pub returns-in-Ok-false-clause-once : goal.returns-in-Ok-false-clause-once
+returns-in-Ok-false-clause-once g c =
+    omega (arith, c.loop.invariant.quiet, c.in-Ok-false.ensures.asks.once)
 
 pub loop-preserved : goal.loop-preserved
 loop-preserved g c =
     let before = c.loop.invariant in
-    let one = c.in_ok-unpack_frame.ensures in
+    let one = c.in-Ok-true.ensures in
     record {
       so_far = so_far_more g.R.TellRead.remaining c.args.source.now c.args.target.now c.loop.counter c.loop.source
           c.unpack_frame.new.source c.loop.target c.unpack_frame.new.target before.so_far
           (subst (λ b. UnpacksNext g.R.TellRead.remaining c.loop.source c.loop.target (Ok b) c.unpack_frame.new.source
-          c.unpack_frame.new.target) c.if-not-branch.false one.unpacks);
+          c.unpack_frame.new.target) c.in-Ok-true.field-0-test one.unpacks);
       held = held_more g.R.TellRead.remaining c.args.source.now c.loop.source c.unpack_frame.new.source c.args.target.now
           c.loop.target c.unpack_frame.new.target c.requires.nothing c.requires.empty before.so_far.each before.give
           before.held one.prompt one.writes;
-      give = omega (arith, before.give, one.asks.give c.if-not-branch.false);
-      quiet = one.asks.quiet c.if-not-branch.false ∙ before.quiet;
+      give = omega (arith, before.give, one.asks.give c.in-Ok-true.field-0-test);
+      quiet = one.asks.quiet c.in-Ok-true.field-0-test ∙ before.quiet;
     }
 
 pub returns-clause-unpacks : goal.returns-clause-unpacks

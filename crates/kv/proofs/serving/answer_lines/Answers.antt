@@ -1,56 +1,48 @@
-use Rattle.std.proofs.Common.{[], ◌∷◌, inl, inr, refl, subst}
+use Rattle.std.proofs.Common.{[], ◌∷◌, inl, inr, refl}
 use Rattle.std.proofs.lemmas.Result.{err_from_is_err_and}
-use Rattle.buffer_redux.specs.BufWriter.{WritesAlong}
-use Rattle.buffer_redux.specs.Policy.{std_write_rules}
-use Rattle.buffer_redux.specs.WritesAlongLaws.{WritesAlong-none}
-use Rattle.kv.proofs.Talking.{one_more, stops, waits_when}
-use Rattle.kv.specs.Serving.{Waits, server}
+use Rattle.kv.proofs.Talking.{at_once, once_sent, stops}
+use Rattle.kv.specs.Serving.{server}
 use Rattle.kv.specs.Stored.{value_in}
 use Rattle.kv.proofs.serving.answer_lines.Goals as goal
 
 pub loop-turn-init : goal.loop-turn-init
-loop-turn-init g c = ([], refl, tt)
+loop-turn-init g c = ([], refl, λ none. none)
 
 pub loop-turn-preserved : goal.loop-turn-preserved
 loop-turn-preserved g c =
     let m = server c.loop-turn.reader (value_in c.loop-turn.store.map) c.loop-turn.writer in
+    let before = c.loop-turn.invariant in
+    let ready = c.in_ok-make_ready.ensures in
     let turn = rw c.in-Went.is at c.in_ok-turn.ensures in (
-      turn.does.0 ∷ c.loop-turn.invariant.0,
-      one_more _ _ _ _ c.loop-turn.invariant.0 m c.make_ready.new.writer c.loop-turn.invariant.1 c.loop-turn.invariant.2
-          c.in_ok-make_ready.ensures.along _ (waits_when c.loop-turn.reader c.turn.new.reader c.make_ready.new.writer
-          turn.quiet c.in_ok-make_ready.ensures.ready) turn.does.0 turn.does.1,
+      turn.does.0 ∷ before.0,
+      (m, before.1, before.2, once_sent _ _ _ m _ ready.along ready.ready _ turn.does.1 _ turn.quiet),
       turn.does.2,
     )
 
 pub returns-in-Quit-clause-ended : goal.returns-in-Quit-clause-ended
 returns-in-Quit-clause-ended g c =
     let m = server c.loop-turn.reader (value_in c.loop-turn.store.map) c.loop-turn.writer in
+    let before = c.loop-turn.invariant in
+    let ready = c.in_ok-make_ready.ensures in
     let turn = rw c.in-Quit.is at c.in_ok-turn.ensures in
     record {
-      exchanges = turn.does.0 ∷ c.loop-turn.invariant.0;
+      exchanges = turn.does.0 ∷ before.0;
       last = server c.turn.new.reader (value_in c.turn.new.store.map) c.turn.new.writer;
-      talked = one_more _ _ _ _ c.loop-turn.invariant.0 m c.make_ready.new.writer c.loop-turn.invariant.1 c.loop-turn.invariant.2
-          c.in_ok-make_ready.ensures.along _ (waits_when c.loop-turn.reader c.turn.new.reader c.make_ready.new.writer
-          turn.quiet c.in_ok-make_ready.ensures.ready) turn.does.0 turn.does.1;
-      sent = WritesAlong-none _ _ _ g.met.W.TellWrite.stretch_none c.turn.new.writer;
-      waits = inl refl;
-      why = (refl, (turn.does.0, c.loop-turn.invariant.0, refl, turn.does.2));
-      values = refl;
+      talked = (m, before.1, before.2, once_sent _ _ _ m _ ready.along ready.ready _ turn.does.1 _ turn.quiet);
+      ends = at_once _ _ _ _ g.met.W.TellWrite.stretch_none _ ((refl, turn.does.2), refl, refl) _ refl;
     }
 
 pub returns-in-End-clause-ended : goal.returns-in-End-clause-ended
 returns-in-End-clause-ended g c =
+    let m = server c.loop-turn.reader (value_in c.loop-turn.store.map) c.loop-turn.writer in
+    let before = c.loop-turn.invariant in
+    let ready = c.in_ok-make_ready.ensures in
     let turn = rw c.in-End.is at c.in_ok-turn.ensures in
     record {
-      exchanges = c.loop-turn.invariant.0;
-      last = server c.loop-turn.reader (value_in c.loop-turn.store.map) c.loop-turn.writer;
-      talked = c.loop-turn.invariant.1;
-      sent = subst (WritesAlong g.W.Tell.log g.W.TellWrite.stretch std_write_rules c.loop-turn.writer []) turn.does.2
-          c.in_ok-make_ready.ensures.along;
-      waits = subst (λ w. Waits c.loop-turn.reader w c.turn.new.reader) turn.does.2
-          (waits_when c.loop-turn.reader c.turn.new.reader c.make_ready.new.writer turn.quiet c.in_ok-make_ready.ensures.ready);
-      why = (turn.does.0, c.loop-turn.invariant.2);
-      values = turn.does.1;
+      exchanges = before.0;
+      last = m;
+      talked = before.1;
+      ends = once_sent _ _ _ m _ ready.along ready.ready _ ((turn.does.0, before.2), turn.does.1, turn.does.2) _ turn.quiet;
     }
 
 pub returns-clause-ended : goal.returns-clause-ended
@@ -58,25 +50,22 @@ returns-clause-ended g c = record {
   exchanges = c.loop-turn.invariant.0;
   last = server c.loop-turn.reader (value_in c.loop-turn.store.map) c.loop-turn.writer;
   talked = c.loop-turn.invariant.1;
-  sent = WritesAlong-none _ _ _ g.met.W.TellWrite.stretch_none c.loop-turn.writer;
-  waits = inl refl;
-  why = (refl, c.loop-turn.invariant.2);
-  values = refl;
+  ends = at_once _ _ _ _ g.met.W.TellWrite.stretch_none _ ((refl, c.loop-turn.invariant.2), refl, refl) _ refl;
 }
 
 pub returns-in_err-make_ready-clause-failed : goal.returns-in_err-make_ready-clause-failed
 returns-in_err-make_ready-clause-failed g c =
+    let m = server c.loop-turn.reader (value_in c.loop-turn.store.map) c.loop-turn.writer in
     let p = err_from_is_err_and c.from_residual.result c.from_residual.ensures.1 in
-    let none = WritesAlong-none _ _ _ g.met.W.TellWrite.stretch_none c.loop-turn.writer in
-    rw (p.1, p.2) (stops _ _ _ _ g.met.W.TellWrite.stretch_none g.met.W.TellWrite.stretch_joins
-    c.loop-turn.invariant.0 (server c.loop-turn.reader (value_in c.loop-turn.store.map) c.loop-turn.writer) c.loop-turn.writer
-    c.loop-turn.invariant.1 none _ (inl refl) _ (inr (c.in_err-make_ready.ensures.along, refl)))
+    rw (p.1, p.2) (stops _ _ _ _ g.met.W.TellWrite.stretch_none g.met.W.TellWrite.stretch_joins c.loop-turn.invariant.0 m _
+    c.loop-turn.invariant.1 _
+    (at_once _ _ _ m g.met.W.TellWrite.stretch_none _ (inr (c.in_err-make_ready.ensures.along, refl)) _ refl))
 
 pub returns-in_err-turn-clause-failed : goal.returns-in_err-turn-clause-failed
 returns-in_err-turn-clause-failed g c =
     let p = err_from_is_err_and c.from_residual-in_err-turn.result c.from_residual-in_err-turn.ensures.1 in
-    rw (p.1, p.2) (stops _ _ _ _ g.met.W.TellWrite.stretch_none g.met.W.TellWrite.stretch_joins
-    c.loop-turn.invariant.0 (server c.loop-turn.reader (value_in c.loop-turn.store.map) c.loop-turn.writer)
-    c.make_ready.new.writer c.loop-turn.invariant.1 c.in_ok-make_ready.ensures.along _
-    (waits_when c.loop-turn.reader c.turn.new.reader c.make_ready.new.writer c.in_err-turn.ensures.quiet
-    c.in_ok-make_ready.ensures.ready) _ (inl (c.in_err-turn.ensures.does, c.loop-turn.invariant.2)))
+    let m = server c.loop-turn.reader (value_in c.loop-turn.store.map) c.loop-turn.writer in
+    let before = c.loop-turn.invariant in
+    let ready = c.in_ok-make_ready.ensures in
+    rw (p.1, p.2) (stops _ _ _ _ g.met.W.TellWrite.stretch_none g.met.W.TellWrite.stretch_joins before.0 m _ before.1 _
+    (once_sent _ _ _ m _ ready.along ready.ready _ (inl (c.in_err-turn.ensures.does, before.2)) _ c.in_err-turn.ensures.quiet))

@@ -1,5 +1,7 @@
-use Rattle.std.proofs.Common.{inr}
+use Rattle.std.proofs.Common.{[], inr, subst, sym}
 use Rattle.std.proofs.lemmas.Result.{err_from_is_err_and}
+use Rattle.buffer_redux.specs.BufWriter.{StoppedAlong, WritesAlong}
+use Rattle.buffer_redux.specs.Policy.{std_write_rules}
 use Rattle.buffer_redux.specs.WritesAlongLaws.{FlushedAlong-of, WasFlushed-all, WritesAlong-then}
 use Rattle.kv.proofs.Talking.{Talked-along, Talked-lines, stops}
 use Rattle.kv.proofs.serving.serve.Goals as goal
@@ -14,13 +16,22 @@ returns-clause-served g c =
       lines = Talked-lines _ _ _ _ ends.exchanges ends.last ends.talked;
       all = FlushedAlong-of _ _ _ joins _ _ _ _ _ (WritesAlong-then _ _ _ joins _ _ _ _
           (Talked-along _ _ _ _ g.met.W.TellWrite.stretch_none joins ends.exchanges ends.last ends.talked)
-          ends.sent) c.in_ok-flush.ensures.flushed;
+          (subst (WritesAlong g.W.Tell.log g.W.TellWrite.stretch std_write_rules ends.last.replies []) ends.ends.done.2
+          ends.ends.sent)) c.in_ok-flush.ensures.flushed;
     }
 
 pub returns-in_err-flush-clause-failed : goal.returns-in_err-flush-clause-failed
 returns-in_err-flush-clause-failed g c =
     let p = err_from_is_err_and c.from_residual-in_err-flush.result c.from_residual-in_err-flush.ensures.1 in
     let ends = c.in_ok-ended.ensures.ended in
-    rw (p.1, p.2) (stops _ _ _ _ g.met.W.TellWrite.stretch_none g.met.W.TellWrite.stretch_joins ends.exchanges ends.last
-    c.answer_lines.new.writer ends.talked ends.sent _
-    ends.waits _ (inr (WasFlushed-all _ _ _ _ _ _ c.in_err-flush.ensures.flushed, ends.values)))
+    rw (p.1, p.2) (stops _ _ _ _ g.met.W.TellWrite.stretch_none g.met.W.TellWrite.stretch_joins ends.exchanges ends.last _
+    ends.talked _ (record {
+      ready = ends.ends.ready;
+      sent = ends.ends.sent;
+      waits = ends.ends.waits;
+      done = inr (
+        subst (λ w. StoppedAlong g.W.Tell.log g.W.TellWrite.stretch std_write_rules w c.in_err-flush.field-0.0 c.flush.new.self)
+            (sym ends.ends.done.2) (WasFlushed-all _ _ _ _ _ _ c.in_err-flush.ensures.flushed),
+        ends.ends.done.1,
+      );
+    }))

@@ -1,4 +1,5 @@
-use Rattle.std.proofs.Common.{Bor, ◌++◌, List, ℕ, Some, ap, subst, sym, ◌∙◌}
+use Rattle.std.proofs.Common.{Bor, ◌++◌, List, ℕ, Some, ap, length, subst, sym, ◌∙◌}
+use Rattle.std.proofs.Math.Seq.{take-append_seam}
 use Rattle.std.specs.Global.{Vec}
 use Rattle.buffer_redux.specs.Told.{ToldWrites-joins, told_log, told_stream}
 use Rattle.buffer_redux.specs.WritesAlongLaws.{FlushedAlong-held, FlushedAlong-of}
@@ -24,12 +25,10 @@ returns-in-Ok c =
     ∙ c.new-3.ensures.items in
     record {
       exchanges = ends.exchanges;
-      bytes = served.lines.bytes;
-      more = front.0;
-      all = front.2;
+      count = length served.lines.bytes;
       ended = ends.last.commands.ended;
-      cut = served.lines.cut;
-      converses = subst (Converses (value_in c.args.store.now.map) ends.exchanges) ends.values
+      cut = rw (front.2, take-append_seam served.lines.bytes front.0) served.lines.cut;
+      converses = subst (Converses (value_in c.args.store.now.map) ends.exchanges) ends.ends.done.1
           (Talked-converses _ _ _ _ ends.exchanges ends.last ends.talked);
       replied = ap (λ (v : Vec ℕ). v.items) c.into_inner-in-Ok.ensures
           ∙ ap (λ s. (told_stream {S = Vec ℕ} s).items) (sym end.is_inner)
