@@ -1,36 +1,19 @@
 -- One step of a loop over payloads.
-use Rattle.std.proofs.Common.{◌≡◌, ℕ, suc, ◌+◌, ◌<◌, ◌≤◌, List, [], ◌∷◌, ◌++◌, length, map, take, drop, sym, ap, subst, ◌∙◌, arith, append_assoc, append-nil, get_or, inl, inr}
+use Rattle.std.proofs.Common.{◌≡◌, ℕ, ◌+◌, ◌<◌, ◌≤◌, List, [], ◌∷◌, ◌++◌, length, map, drop, sym, ap, subst, ◌∙◌, arith, append_assoc, append-nil, get_or, inl, inr}
 use Rattle.std.specs.Prelude.{Option, None, Some, Ok, Err}
 use Rattle.std.specs.IoError.{error_kind}
 use Rattle.std.specs.declared.io.Error.{Error}
 use Rattle.std.specs.declared.io.ErrorKind.TheVariants.{OutOfMemory}
-use Rattle.std.proofs.Math.Seq.{drop-cons}
-use Rattle.std.proofs.lemmas.List.{drop_all, map-append, take_more, take-append-drop}
+use Rattle.std.proofs.lemmas.List.{drop_all, map-append}
 use Rattle.codec.specs.declared.error.NextError.TheVariants as why
 use Rattle.codec.specs.Grammar.{Grammar, IsLawful}
+use Rattle.codec.specs.PayloadsLaws.{behind}
 use Rattle.codec.specs.Piecing.{Piecing}
 use Rattle.codec.specs.KnownPieces.{HasLeft, LeavesPieces, ReadStopped}
 use Rattle.codec.specs.KnownPiecesLaws.{NextPiece-known}
 use Rattle.codec.specs.NextPiece.{NextAnswer, NextPiece, NoFault}
 use Rattle.codec.specs.Runs.{AllRead, NextFails, NextRuns}
 use Rattle.codec.specs.RunsLaws.{NextRuns-more}
-
--- the item that a loop takes next is between those before it and those behind it
-module _ {V : Type 0} (f : V → List ℕ) (vs : List V) (i : ℕ) (x : V) (inside : i < length vs)
-    (is : x ≡ get_or vs i x) where
-  pub behind : map f (drop i vs) ≡ f x ∷ map f (drop (i + 1) vs)
-  behind =
-      let next : suc i ≡ i + 1 = omega arith in
-      ap (λ l. map f l) (drop-cons vs i x inside) ∙ ap (λ n. f (get_or vs i x) ∷ map f (drop n vs)) next
-      ∙ ap (λ y. f y ∷ map f (drop (i + 1) vs)) (sym is)
-
-  pub before : map f (take (i + 1) vs) ≡ map f (take i vs) ++ f x ∷ []
-  before = ap (λ l. map f l) (take_more vs i x inside) ∙ map-append f (take i vs) (get_or vs i x ∷ [])
-      ∙ ap (λ y. map f (take i vs) ++ f y ∷ []) (sym is)
-
-  pub parted : map f vs ≡ map f (take i vs) ++ f x ∷ map f (drop (i + 1) vs)
-  parted = ap (λ l. map f l) (sym (take-append-drop i vs)) ∙ map-append f (take i vs) (drop i vs)
-      ∙ ap (λ l. map f (take i vs) ++ l) behind
 
 -- one more that is kept
 pub kept_more : {V : Type 0} (f : V → List ℕ) (old new : List V) (v : V) → new ≡ old ++ v ∷ []

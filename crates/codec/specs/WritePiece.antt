@@ -38,7 +38,7 @@ abbrev pub WriteAnswer : Type 0 → Type 0
 WriteAnswer W = Result (Unit {0}) (WritePieceError W)
 
 -- the payloads that an answer took in: the one, or none
-abbrev pub accepted : {W : Type 0} → List ℕ → WriteAnswer W → List (List ℕ)
+abbrev pub accepted : {X : Type 0} → List ℕ → Result (Unit {0}) X → List (List ℕ)
 accepted payload (Ok _) = payload ∷ []
 accepted payload (Err e) = []
 

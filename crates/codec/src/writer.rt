@@ -113,43 +113,34 @@ impl<W: TellWrite, E: Encoder> PieceWriter<W, E> {
         ensures { WritesPiece W.stretch (E.encoding self.old.encoder) self.old payload.now result self.new }
     {
         match self.encoder.head(payload) {
-            Ok(head) => self.write_behind(&head, payload),
+            Ok(head) => {
+                if !self.has_room(&head, payload) {
+                    return self.write_aside(head, payload);
+                }
+                self.take_in(&head, payload);
+                Ok(())
+            }
             Err(e) => Err(WritePieceError::Refused(e)),
         }
     }
 
-    #[inline(always)]
-    fn write_behind(
-        &mut self,
-        head: &Head,
-        payload: &[u8],
-    ) -> Result<(), WritePieceError<E::Refusal>>
-        requires head { IsHead (E.encoding self.old.encoder) payload.now head.now }
-        ensures { WritesPiece W.stretch (E.encoding self.old.encoder) self.old payload.now result self.new }
-    {
-        if !self.has_room(head, payload) {
-            return self.write_aside(head, payload);
-        }
-        self.take_in(head, payload);
-        Ok(())
-    }
-
     // Goes on in `write_slowly`. The kit's compiler clears the answer of a call where the function that makes the call begins; of
-    // a call made in here, which is inlined, that is behind the look at the room.
+    // a call made in here, which is inlined, that is behind the look at the room. So is the copy of the head.
     #[inline(always)]
     fn write_aside(
         &mut self,
-        head: &Head,
+        head: Head,
         payload: &[u8],
     ) -> Result<(), WritePieceError<E::Refusal>>
-        requires head { IsHead (E.encoding self.old.encoder) payload.now head.now }
+        requires head { IsHead (E.encoding self.old.encoder) payload.now head }
         requires full { room self.old < length (coded (E.encoding self.old.encoder) payload.now) }
         ensures { WritesPiece W.stretch (E.encoding self.old.encoder) self.old payload.now result self.new }
     {
-        self.write_slowly(head, payload)
+        self.write_slowly(&head, payload)
     }
 
-    // Sends all that is buffered, and then takes the piece in.
+    // Sends all that is buffered, and then takes the piece in. It stands apart, so that a piece for which there is room is short
+    // in its caller.
     #[cold]
     #[inline(never)]
     fn write_slowly(
@@ -173,15 +164,8 @@ impl<W: TellWrite, E: Encoder> PieceWriter<W, E> {
         ensures room { IsTrue result ↔ (length (coded (E.encoding self.now.encoder) payload.now) ≤ room self.now) }
         ensures whole { IsOutgoing (E.encoding self.now.encoder).most self.now }
     {
-        let left = self.writer.capacity() - self.writer.buf_len();
-        if left < head.len {
-            return false;
-        }
-        let left = left - head.len;
-        if left < payload.len() {
-            return false;
-        }
-        left - payload.len() >= self.encoder.tail().len()
+        let piece = head.len + payload.len() + self.encoder.tail().len();
+        piece <= self.writer.capacity() - self.writer.buf_len()
     }
 
     /// Sends all pieces, without a flush of the inner writer. Where that fails, just what the inner writer took is no longer
