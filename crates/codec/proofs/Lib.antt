@@ -3,6 +3,7 @@ pub mod Heads
 pub mod Loading
 pub mod Reading
 pub mod Recording
+pub mod Refusing
 pub mod Searching
 pub mod Stepping
 pub mod Taking

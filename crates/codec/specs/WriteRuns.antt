@@ -1,5 +1,6 @@
 -- Runs of calls that write payloads: what they come to.
 use Rattle.std.specs.Prelude.{◌≡◌, ℕ, ◌<◌, ◌≤◌, List, [], ◌∷◌, ◌++◌, length, map, take, Bool, MatchBool, Result, Ok, Err, ⊤}
+use Rattle.std.specs.declared.io.Error.{Error}
 use Rattle.codec.specs.declared.error.WritePieceError.{WritePieceError}
 use Rattle.codec.specs.declared.error.WritePieceError.TheVariants.{Refused, Io}
 use Rattle.codec.specs.Encoding.{Encoding}
@@ -69,3 +70,8 @@ module _ {S E W : Type 0} (stretch : S → S → Type 0) (e : Encoding W) where
 abbrev pub IsFault : {W : Type 0} → WritePieceError W → Type 0
 IsFault (Io e) = ⊤
 IsFault (Refused w) = ⊥
+
+-- what holds of one that isn't
+abbrev pub IfFault : {W : Type 0} → (Error → Type 0) → WritePieceError W → Type 0
+IfFault P (Io e) = P e
+IfFault P (Refused w) = ⊤

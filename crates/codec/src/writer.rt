@@ -10,7 +10,7 @@ ghost use Rattle.codec.specs.contracts.writer.PieceWriter.{the_row};
 ghost use Rattle.codec.specs.Encoding.{IsHead, coded};
 ghost use Rattle.codec.specs.Outgoing.{IsOutgoing, IsUnused, room, with_stream};
 ghost use Rattle.codec.specs.Piecing.{room_for};
-ghost use Rattle.codec.specs.WritePiece.{PiecesTaken, PutsIn, WritesPiece};
+ghost use Rattle.codec.specs.WritePiece.{PiecesTaken, PutsIn, WritesBuffered, WritesPiece};
 
 use crate::buffer::piece_buffer;
 use crate::encoder::Encoder;
@@ -121,6 +121,27 @@ impl<W: TellWrite, E: Encoder> PieceWriter<W, E> {
                 Ok(())
             }
             Err(e) => Err(WritePieceError::Refused(e)),
+        }
+    }
+
+    /// Takes the payload's piece in where it fits behind what is buffered, and returns whether it did. The inner writer isn't
+    /// called.
+    ///
+    /// At a `false` or an `Err` nothing changes; at a `false` [`write_piece`](PieceWriter::write_piece) takes the piece in, and
+    /// sends what is buffered before.
+    #[inline(always)]
+    pub fn write_buffered(&mut self, payload: &[u8]) -> Result<bool, E::Refusal>
+        ensures { WritesBuffered W.stretch (E.encoding self.old.encoder) self.old payload.now result self.new }
+    {
+        match self.encoder.head(payload) {
+            Ok(head) => {
+                if !self.has_room(&head, payload) {
+                    return Ok(false);
+                }
+                self.take_in(&head, payload);
+                Ok(true)
+            }
+            Err(e) => Err(e),
         }
     }
 
