@@ -243,11 +243,28 @@ impl<W: TellWrite, E: Encoder> PieceWriter<W, E> {
             (coded (E.encoding self.old.encoder) payload.now) self.new }
     {
         self.writer.make_room();
-        self.put(&head.bytes[..head.len]);
+        self.put_head(head);
         self.put(payload);
         if !self.encoder.tail().is_empty() {
             let _ = self.writer.write(self.encoder.tail());
         }
+    }
+
+    // Copies the head in, for which there is room. A short one goes in from a word of its own: a head of a known length isn't
+    // laid out in memory then, where the room of a long one would be cleared.
+    #[inline(always)]
+    fn put_head(&mut self, head: &Head)
+        requires room { head.now.len ≤ usable self.old.writer.block }
+        requires inside { head.now.len < self.old.writer.block.capacity }
+        ensures put { PutsIn W.stretch (E.encoding self.old.encoder).most self.old (take head.now.len head.now.bytes) self.new }
+        ensures usable { usable self.old.writer.block ≤ usable self.new.writer.block + head.now.len }
+    {
+        if head.len > 8 {
+            return self.put(&head.bytes[..head.len]);
+        }
+        let mut word = [0; 8];
+        word.copy_from_slice(&head.bytes[..8]);
+        self.put(&word[..head.len]);
     }
 
     // Copies bytes in, for which there is room.
