@@ -13,7 +13,7 @@ use Rattle.codec.specs.KnownPieces.{HasLeft, LeavesPieces, ReadStopped}
 use Rattle.codec.specs.KnownPiecesLaws.{NextPiece-known}
 use Rattle.codec.specs.NextPiece.{NextAnswer, NextPiece, NoFault}
 use Rattle.codec.specs.Runs.{AllRead, NextFails, NextRuns}
-use Rattle.codec.specs.RunsLaws.{NextRuns-more}
+use Rattle.codec.specs.RunsLaws.{AnswerRuns-more}
 
 -- one more that is kept
 pub kept_more : {V : Type 0} (f : V → List ℕ) (old new : List V) (v : V) → new ≡ old ++ v ∷ []
@@ -48,7 +48,7 @@ module _ {V S D W : Type 0} (f : V → List ℕ) (vs : List V) (i : ℕ) (remain
     all = sym so_far.all_are;
     left = NextPiece-known remaining g law m t (Err (why.Io e)) (map f (drop i vs)) next so_far.has;
     failed = inr (
-      NextRuns-more remaining g s (map (λ payload. Ok (Some payload)) kept) m (Err (why.Io e)) t so_far.run next,
+      AnswerRuns-more (NextPiece remaining g) s (map (λ payload. Ok (Some payload)) kept) m (Err (why.Io e)) t so_far.run next,
       next.answers.2 ∙ ap (λ l. l ++ e ∷ []) so_far.no_fault,
     );
   }
@@ -73,7 +73,7 @@ module _ {V S D W : Type 0} (f : V → List ℕ) (vs : List V) (i : ℕ) (remain
           no_fault = next.answers.0 ∙ so_far.no_fault;
           run = subst (λ answers. NextRuns remaining g s answers t)
               (sym (map-append (λ payload. Ok (Some payload)) kept (found ∷ [])))
-              (NextRuns-more remaining g s (map (λ payload. Ok (Some payload)) kept) m (Ok (Some found)) t so_far.run next);
+              (AnswerRuns-more (NextPiece remaining g) s (map (λ payload. Ok (Some payload)) kept) m (Ok (Some found)) t so_far.run next);
         }
 
     pub read_lost : (found : List ℕ) (e : Error) → error_kind e ≡ OutOfMemory → NextPiece remaining g m (Ok (Some found)) t
@@ -112,7 +112,7 @@ module _ {V S D W : Type 0} (f : V → List ℕ) (vs : List V) (i : ℕ) (remain
 
     pub read_all : (t : Piecing S D) → NextPiece remaining g m (Ok None) t → AllRead remaining g s (map f vs) t
     read_all t next = subst (λ l. AllRead remaining g s l t) all_kept
-        (NextRuns-more remaining g s (map (λ payload. Ok (Some payload)) kept) m (Ok None) t so_far.run next)
+        (AnswerRuns-more (NextPiece remaining g) s (map (λ payload. Ok (Some payload)) kept) m (Ok None) t so_far.run next)
 
 -- a call under a decoder that is still the same
 pub moved : {S D W : Type 0} (remaining : S → Option (List ℕ)) (grammar : D → Grammar W) (s m t : Piecing S D)

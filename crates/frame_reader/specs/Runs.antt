@@ -1,8 +1,9 @@
 -- Runs of calls: what was recorded of them, and what they come to.
-use Rattle.std.specs.Prelude.{◌≡◌, ℕ, ◌<◌, ◌≤◌, ◌⊎◌, List, [], ◌∷◌, ◌++◌, length, map, Bool, Option, None, Some, Result, Ok, Err}
+use Rattle.std.specs.Prelude.{ℕ, List, [], ◌∷◌, ◌++◌, map, Bool, Option, None, Some, Result, Ok, Err}
 use Rattle.std.specs.Global.{Vec}
 use Rattle.std.specs.List.{flat_map}
 use Rattle.std.specs.Option.{option_map}
+use Rattle.codec.specs.Runs.{AnswerRuns, AnswersPlayed, AnswersStopped}
 use Rattle.codec.specs.WriteRuns.{CallsEach, CallsPlayed}
 use Rattle.frame_reader.specs.declared.error.FrameError.{FrameError}
 use Rattle.frame_reader.specs.Framing.{Framing}
@@ -17,9 +18,7 @@ kept_answer (Err e) = Err e
 
 -- calls of `next`, one after another, with these answers
 abbrev pub NextRuns : {S : Type 0} → (S → Option (List ℕ)) → Framing S → List NextAnswer → Framing S → Type 0
-NextRuns remaining s [] t = s ≡ t
-NextRuns {S} remaining s (answer ∷ answers) t =
-    (m : Framing S) × Next remaining s answer m × NextRuns remaining m answers t
+NextRuns remaining = AnswerRuns (Next remaining)
 
 -- the answers by which these payloads are handed out, each by one
 abbrev pub found_each : List (List ℕ) → List NextAnswer
@@ -33,26 +32,17 @@ AllRead remaining s payloads t = NextRuns remaining s (found_each payloads ++ Ok
 abbrev pub all_payloads : List NextAnswer → List (List ℕ)
 all_payloads answers = flat_map payloads_of answers
 
--- just so many calls were made, and their answers are those that the record gained
-pub record NextPlayed {S : Type 0} (remaining : S → Option (List ℕ)) (s : Framing S) (calls : ℕ)
-    (old new : List NextAnswer) (t : Framing S) : Type 0 where
-  pub answers : List NextAnswer
-  pub gained : new ≡ old ++ answers
-  pub all : length answers ≡ calls
-  pub run : NextRuns remaining s answers t
-  pub went : FramesWent remaining s (all_payloads answers) t
+-- what they come to
+abbrev pub RunWent : {S : Type 0} → (S → Option (List ℕ)) → Framing S → List NextAnswer → Framing S → Type 0
+RunWent remaining s answers t = FramesWent remaining s (all_payloads answers) t
 
--- fewer calls were recorded, and one more was made, of which the answer is lost. Memory was wanted for the payload of that
--- answer, or for the record, which had room for so many
-pub record NextStopped {S : Type 0} (remaining : S → Option (List ℕ)) (s : Framing S) (calls room : ℕ)
-    (old new : List NextAnswer) (t : Framing S) : Type 0 where
-  pub answers : List NextAnswer
-  pub gained : new ≡ old ++ answers
-  pub fewer : length answers < calls
-  pub lost : NextAnswer
-  pub wanted : (0 < length (payloads_of lost)) ⊎ (room ≤ length new)
-  pub run : NextRuns remaining s (answers ++ lost ∷ []) t
-  pub went : FramesWent remaining s (all_payloads (answers ++ lost ∷ [])) t
+-- what was played of it, and what where memory was refused
+module _ {S : Type 0} (remaining : S → Option (List ℕ)) where
+  abbrev pub NextPlayed : Framing S → ℕ → List NextAnswer → List NextAnswer → Framing S → Type 0
+  NextPlayed = AnswersPlayed (Next remaining) (RunWent remaining)
+
+  abbrev pub NextStopped : Framing S → ℕ → ℕ → List NextAnswer → List NextAnswer → Framing S → Type 0
+  NextStopped = AnswersStopped (Next remaining) (RunWent remaining) payloads_of
 
 -- one call was made, and what it handed out is lost
 pub record NextLost {S : Type 0} (remaining : S → Option (List ℕ)) (s t : Framing S) : Type 0 where

@@ -1,4 +1,4 @@
--- Laws of runs: they go on by one call, and what their calls do joins.
+-- Laws of runs: what their calls do joins.
 use Rattle.std.specs.Prelude.{◌≡◌, ℕ, ◌<◌, ◌^◌, List, [], ◌∷◌, ◌++◌, Option, Ok, Err, IfErr}
 use Rattle.std.proofs.Common.{sym, ap, subst, ◌∙◌, arith, refl}
 use Rattle.codec.specs.declared.error.WritePieceError.{WritePieceError}
@@ -21,12 +21,6 @@ use Rattle.frame_reader.specs.WriteFrame.{IsFault, WriteAnswer, WritesFrame, fra
 use Rattle.frame_reader.specs.WriteFrameLaws.{WritesFrame-of, taken_frames}
 
 module _ {S : Type 0} (remaining : S → Option (List ℕ)) where
-  pub NextRuns-more : (s : Framing S) (answers : List NextAnswer) (m : Framing S) (answer : NextAnswer) (t : Framing S)
-      → NextRuns remaining s answers m → Next remaining m answer t → NextRuns remaining s (answers ++ answer ∷ []) t
-  NextRuns-more s [] m answer t e next = (t, subst (λ x. Next remaining x answer t) (sym e) next, refl)
-  NextRuns-more s (a ∷ answers) m answer t run next =
-      (run.0, run.1, NextRuns-more run.0 answers m answer t run.2 next)
-
   pub NextRuns-went : (s : Framing S) (answers : List NextAnswer) (t : Framing S) → NextRuns remaining s answers t
       → FramesWent remaining s (all_payloads answers) t
   NextRuns-went s [] t e = subst (FramesWent remaining s []) e (FramesWent-none remaining s)
