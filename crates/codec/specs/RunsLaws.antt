@@ -5,7 +5,7 @@ use Rattle.std.proofs.lemmas.List.{map-append}
 use Rattle.codec.specs.declared.error.NextError.{NextError}
 use Rattle.codec.specs.declared.error.NextError.TheVariants.{Wrong, Io}
 use Rattle.codec.specs.Grammar.{Grammar}
-use Rattle.codec.specs.NextPiece.{NextAnswer, NextAnswers, NextPiece, PiecesWent}
+use Rattle.codec.specs.NextPiece.{NextAnswer, NextAnswers, PiecesWent}
 use Rattle.codec.specs.PiecesWentLaws.{PiecesWent-none, PiecesWent-joins}
 use Rattle.codec.specs.Piecing.{Piecing}
 use Rattle.codec.specs.Runs.{AnswerRuns, AnswersPlayed, AnswersStopped, Cuts, EndFollows, NextRuns, NoneTold, RunWent, all_handed}

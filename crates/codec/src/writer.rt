@@ -148,11 +148,7 @@ impl<W: TellWrite, E: Encoder> PieceWriter<W, E> {
     // Goes on in `write_slowly`. The kit's compiler clears the answer of a call where the function that makes the call begins; of
     // a call made in here, which is inlined, that is behind the look at the room. So is the copy of the head.
     #[inline(always)]
-    fn write_aside(
-        &mut self,
-        head: Head,
-        payload: &[u8],
-    ) -> Result<(), WritePieceError<E::Refusal>>
+    fn write_aside(&mut self, head: Head, payload: &[u8]) -> Result<(), WritePieceError<E::Refusal>>
         requires head { IsHead (E.encoding self.old.encoder) payload.now head }
         requires full { room self.old < length (coded (E.encoding self.old.encoder) payload.now) }
         ensures { WritesPiece W.stretch (E.encoding self.old.encoder) self.old payload.now result self.new }

@@ -1,5 +1,5 @@
 -- Laws of runs: what their calls do joins.
-use Rattle.std.specs.Prelude.{◌≡◌, ℕ, ◌<◌, ◌^◌, List, [], ◌∷◌, ◌++◌, Option, Ok, Err, IfErr}
+use Rattle.std.specs.Prelude.{◌≡◌, ℕ, ◌<◌, ◌^◌, List, [], ◌∷◌, Option, Ok, Err, IfErr}
 use Rattle.std.proofs.Common.{sym, ap, subst, ◌∙◌, arith, refl}
 use Rattle.codec.specs.declared.error.WritePieceError.{WritePieceError}
 use Rattle.codec.specs.declared.error.WritePieceError.TheVariants as piece
@@ -13,7 +13,7 @@ use Rattle.frame_reader.specs.declared.error.WriteFrameError.TheVariants.{TooLon
 use Rattle.frame_reader.specs.declared.frame.Frames.{Frames}
 use Rattle.frame_reader.specs.Framed.{framed_out}
 use Rattle.frame_reader.specs.Framing.{Framing}
-use Rattle.frame_reader.specs.Next.{FramesWent, Next, NextAnswer, payloads_of}
+use Rattle.frame_reader.specs.Next.{FramesWent, NextAnswer, payloads_of}
 use Rattle.frame_reader.specs.NextLaws.{FramesWent-none, FramesWent-joins}
 use Rattle.frame_reader.specs.Outgoing.{Outgoing, IsOutgoing, outgoing}
 use Rattle.frame_reader.specs.Runs.{NextRuns, WritesEach, all_payloads}
