@@ -2,7 +2,7 @@ pub mod Delimiting
 pub mod Heads
 pub mod Loading
 pub mod Reading
-pub mod Recording
+pub mod Refusing
 pub mod Searching
 pub mod Stepping
 pub mod Taking

@@ -1,36 +1,19 @@
 -- One step of a loop over payloads.
-use Rattle.std.proofs.Common.{◌≡◌, ℕ, suc, ◌+◌, ◌<◌, ◌≤◌, List, [], ◌∷◌, ◌++◌, length, map, take, drop, sym, ap, subst, ◌∙◌, arith, append_assoc, append-nil, get_or, inl, inr}
+use Rattle.std.proofs.Common.{◌≡◌, ℕ, ◌+◌, ◌<◌, ◌≤◌, List, [], ◌∷◌, ◌++◌, length, map, drop, sym, ap, subst, ◌∙◌, arith, append_assoc, append-nil, get_or, inl, inr}
 use Rattle.std.specs.Prelude.{Option, None, Some, Ok, Err}
 use Rattle.std.specs.IoError.{error_kind}
 use Rattle.std.specs.declared.io.Error.{Error}
 use Rattle.std.specs.declared.io.ErrorKind.TheVariants.{OutOfMemory}
-use Rattle.std.proofs.Math.Seq.{drop-cons}
-use Rattle.std.proofs.lemmas.List.{drop_all, map-append, take_more, take-append-drop}
+use Rattle.std.proofs.lemmas.List.{drop_all, map-append}
 use Rattle.codec.specs.declared.error.NextError.TheVariants as why
 use Rattle.codec.specs.Grammar.{Grammar, IsLawful}
+use Rattle.codec.specs.PayloadsLaws.{behind}
 use Rattle.codec.specs.Piecing.{Piecing}
 use Rattle.codec.specs.KnownPieces.{HasLeft, LeavesPieces, ReadStopped}
 use Rattle.codec.specs.KnownPiecesLaws.{NextPiece-known}
 use Rattle.codec.specs.NextPiece.{NextAnswer, NextPiece, NoFault}
 use Rattle.codec.specs.Runs.{AllRead, NextFails, NextRuns}
-use Rattle.codec.specs.RunsLaws.{NextRuns-more}
-
--- the item that a loop takes next is between those before it and those behind it
-module _ {V : Type 0} (f : V → List ℕ) (vs : List V) (i : ℕ) (x : V) (inside : i < length vs)
-    (is : x ≡ get_or vs i x) where
-  pub behind : map f (drop i vs) ≡ f x ∷ map f (drop (i + 1) vs)
-  behind =
-      let next : suc i ≡ i + 1 = omega arith in
-      ap (λ l. map f l) (drop-cons vs i x inside) ∙ ap (λ n. f (get_or vs i x) ∷ map f (drop n vs)) next
-      ∙ ap (λ y. f y ∷ map f (drop (i + 1) vs)) (sym is)
-
-  pub before : map f (take (i + 1) vs) ≡ map f (take i vs) ++ f x ∷ []
-  before = ap (λ l. map f l) (take_more vs i x inside) ∙ map-append f (take i vs) (get_or vs i x ∷ [])
-      ∙ ap (λ y. map f (take i vs) ++ f y ∷ []) (sym is)
-
-  pub parted : map f vs ≡ map f (take i vs) ++ f x ∷ map f (drop (i + 1) vs)
-  parted = ap (λ l. map f l) (sym (take-append-drop i vs)) ∙ map-append f (take i vs) (drop i vs)
-      ∙ ap (λ l. map f (take i vs) ++ l) behind
+use Rattle.codec.specs.RunsLaws.{AnswerRuns-more}
 
 -- one more that is kept
 pub kept_more : {V : Type 0} (f : V → List ℕ) (old new : List V) (v : V) → new ≡ old ++ v ∷ []
@@ -65,7 +48,7 @@ module _ {V S D W : Type 0} (f : V → List ℕ) (vs : List V) (i : ℕ) (remain
     all = sym so_far.all_are;
     left = NextPiece-known remaining g law m t (Err (why.Io e)) (map f (drop i vs)) next so_far.has;
     failed = inr (
-      NextRuns-more remaining g s (map (λ payload. Ok (Some payload)) kept) m (Err (why.Io e)) t so_far.run next,
+      AnswerRuns-more (NextPiece remaining g) s (map (λ payload. Ok (Some payload)) kept) m (Err (why.Io e)) t so_far.run next,
       next.answers.2 ∙ ap (λ l. l ++ e ∷ []) so_far.no_fault,
     );
   }
@@ -90,7 +73,7 @@ module _ {V S D W : Type 0} (f : V → List ℕ) (vs : List V) (i : ℕ) (remain
           no_fault = next.answers.0 ∙ so_far.no_fault;
           run = subst (λ answers. NextRuns remaining g s answers t)
               (sym (map-append (λ payload. Ok (Some payload)) kept (found ∷ [])))
-              (NextRuns-more remaining g s (map (λ payload. Ok (Some payload)) kept) m (Ok (Some found)) t so_far.run next);
+              (AnswerRuns-more (NextPiece remaining g) s (map (λ payload. Ok (Some payload)) kept) m (Ok (Some found)) t so_far.run next);
         }
 
     pub read_lost : (found : List ℕ) (e : Error) → error_kind e ≡ OutOfMemory → NextPiece remaining g m (Ok (Some found)) t
@@ -129,7 +112,7 @@ module _ {V S D W : Type 0} (f : V → List ℕ) (vs : List V) (i : ℕ) (remain
 
     pub read_all : (t : Piecing S D) → NextPiece remaining g m (Ok None) t → AllRead remaining g s (map f vs) t
     read_all t next = subst (λ l. AllRead remaining g s l t) all_kept
-        (NextRuns-more remaining g s (map (λ payload. Ok (Some payload)) kept) m (Ok None) t so_far.run next)
+        (AnswerRuns-more (NextPiece remaining g) s (map (λ payload. Ok (Some payload)) kept) m (Ok None) t so_far.run next)
 
 -- a call under a decoder that is still the same
 pub moved : {S D W : Type 0} (remaining : S → Option (List ℕ)) (grammar : D → Grammar W) (s m t : Piecing S D)

@@ -12,7 +12,8 @@ module _ (h : Headings) (o : HeadsOut) (law : IsHeading h) (back : IsReadBack h 
   few : (len : ℕ) → len ≤ o.max → (0 < length (o.head len)) × (length (o.head len) ≤ h.most_head)
   few len fits = let s = law.some (o.head len) len (length (o.head len)) (back.again len fits) in (s.0, s.2)
 
-  size : (payload : List ℕ) → length (coded (headed_out h o) payload) ≡ length (o.head (length payload)) + (length payload + length h.tail)
+  size : (payload : List ℕ) → length (coded (headed_out h o) payload)
+      ≡ length (o.head (length payload)) + (length payload + length h.tail)
   size payload = omega (arith, length-append (o.head (length payload)) (payload ++ h.tail), length-append payload h.tail)
 
   pub headed_writable : IsWritable (headed_out h o)

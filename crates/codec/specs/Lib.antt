@@ -18,6 +18,7 @@ pub mod NextPiece
 pub mod NextPieceLaws
 pub mod Number
 pub mod Outgoing
+pub mod PayloadsLaws
 pub mod PiecesWentLaws
 pub mod Piecing
 pub mod Plain

@@ -51,12 +51,38 @@ Cuts g (Ok (Some payload) ∷ answers) bytes = (more : List ℕ) × CutsOff g pa
 Cuts g (Ok None ∷ answers) bytes = Cuts g answers bytes
 Cuts g (Err e ∷ answers) bytes = Cuts g answers bytes
 
+-- a call of a reader does this to it, and answers that
+module _ {T A : Type 0} (Call : T → A → T → Type 0) where
+  -- calls, one after another, with these answers
+  abbrev pub AnswerRuns : T → List A → T → Type 0
+  AnswerRuns s [] t = s ≡ t
+  AnswerRuns s (answer ∷ answers) t = (m : T) × Call s answer m × AnswerRuns m answers t
+
+  module _ (Went : T → List A → T → Type 0) where
+    -- just so many calls were made, and their answers are those that the record gained
+    pub record AnswersPlayed (s : T) (calls : ℕ) (old new : List A) (t : T) : Type 0 where
+      pub answers : List A
+      pub gained : new ≡ old ++ answers
+      pub all : length answers ≡ calls
+      pub run : AnswerRuns s answers t
+      pub went : Went s answers t
+
+    -- fewer calls were recorded, and one more was made, of which the answer is lost. Memory was wanted for the payload that it
+    -- handed out, or for the record, which had room for so many
+    pub record AnswersStopped (handed : A → List (List ℕ)) (s : T) (calls room : ℕ) (old new : List A) (t : T)
+        : Type 0 where
+      pub answers : List A
+      pub gained : new ≡ old ++ answers
+      pub fewer : length answers < calls
+      pub lost : A
+      pub wanted : (0 < length (handed lost)) ⊎ (room ≤ length new)
+      pub run : AnswerRuns s (answers ++ lost ∷ []) t
+      pub went : Went s (answers ++ lost ∷ []) t
+
 -- calls of `next`, one after another, with these answers
 abbrev pub NextRuns : {S D W : Type 0} → (S → Option (List ℕ)) → Grammar W → Piecing S D → List (NextAnswer W) → Piecing S D
     → Type 0
-NextRuns remaining g s [] t = s ≡ t
-NextRuns {S} {D} remaining g s (answer ∷ answers) t =
-    (m : Piecing S D) × NextPiece remaining g s answer m × NextRuns remaining g m answers t
+NextRuns remaining g = AnswerRuns (NextPiece remaining g)
 
 -- what they come to: the bytes that they handed out, which are their pieces
 pub record RunWent {S D W : Type 0} (remaining : S → Option (List ℕ)) (g : Grammar W) (s : Piecing S D)
@@ -74,26 +100,13 @@ kept_answer (Err e) = Err e
 abbrev pub AllRead : {S D W : Type 0} → (S → Option (List ℕ)) → Grammar W → Piecing S D → List (List ℕ) → Piecing S D → Type 0
 AllRead remaining g s payloads t = NextRuns remaining g s (map (λ payload. Ok (Some payload)) payloads ++ Ok None ∷ []) t
 
--- just so many calls were made, and their answers are those that the record gained
-pub record NextPlayed {S D W : Type 0} (remaining : S → Option (List ℕ)) (g : Grammar W) (s : Piecing S D) (calls : ℕ)
-    (old new : List (NextAnswer W)) (t : Piecing S D) : Type 0 where
-  pub answers : List (NextAnswer W)
-  pub gained : new ≡ old ++ answers
-  pub all : length answers ≡ calls
-  pub run : NextRuns remaining g s answers t
-  pub went : RunWent remaining g s answers t
+-- what was played of it, and what where memory was refused
+module _ {S D W : Type 0} (remaining : S → Option (List ℕ)) (g : Grammar W) where
+  abbrev pub NextPlayed : Piecing S D → ℕ → List (NextAnswer W) → List (NextAnswer W) → Piecing S D → Type 0
+  NextPlayed = AnswersPlayed (NextPiece remaining g) (RunWent remaining g)
 
--- fewer calls were recorded, and one more was made, of which the answer is lost. Memory was wanted for the payload of that
--- answer, or for the record, which had room for so many
-pub record NextStopped {S D W : Type 0} (remaining : S → Option (List ℕ)) (g : Grammar W) (s : Piecing S D) (calls room : ℕ)
-    (old new : List (NextAnswer W)) (t : Piecing S D) : Type 0 where
-  pub answers : List (NextAnswer W)
-  pub gained : new ≡ old ++ answers
-  pub fewer : length answers < calls
-  pub lost : NextAnswer W
-  pub wanted : (0 < length (handed_payload lost)) ⊎ (room ≤ length new)
-  pub run : NextRuns remaining g s (answers ++ lost ∷ []) t
-  pub went : RunWent remaining g s (answers ++ lost ∷ []) t
+  abbrev pub NextStopped : Piecing S D → ℕ → ℕ → List (NextAnswer W) → List (NextAnswer W) → Piecing S D → Type 0
+  NextStopped = AnswersStopped (NextPiece remaining g) (RunWent remaining g) handed_payload
 
 -- one call was made, and the payload that it handed out is lost
 pub record NextLost {S D W : Type 0} (remaining : S → Option (List ℕ)) (g : Grammar W) (s t : Piecing S D) : Type 0 where

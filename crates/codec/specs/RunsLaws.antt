@@ -1,14 +1,57 @@
 -- Laws of runs: they go on by one call, what their calls do joins, and their pieces are those of the text.
-use Rattle.std.specs.Prelude.{◌≡◌, ℕ, List, [], ◌∷◌, ◌++◌, true, Option, None, Some, Ok, Err}
-use Rattle.std.proofs.Common.{sym, ap, subst, ◌∙◌, refl, inl, inr, append-nil}
+use Rattle.std.specs.Prelude.{◌≡◌, ℕ, ◌<◌, ◌≤◌, ◌⊎◌, List, [], ◌∷◌, ◌++◌, length, map, true, Option, None, Some, Result, Ok, Err, OnErr}
+use Rattle.std.proofs.Common.{sym, ap, subst, ◌∙◌, refl, inl, inr, append_assoc, append-nil}
+use Rattle.std.proofs.lemmas.List.{map-append}
 use Rattle.codec.specs.declared.error.NextError.{NextError}
 use Rattle.codec.specs.declared.error.NextError.TheVariants.{Wrong, Io}
 use Rattle.codec.specs.Grammar.{Grammar}
-use Rattle.codec.specs.NextPiece.{NextAnswer, NextAnswers, NextPiece, PiecesWent}
+use Rattle.codec.specs.NextPiece.{NextAnswer, NextAnswers, PiecesWent}
 use Rattle.codec.specs.PiecesWentLaws.{PiecesWent-none, PiecesWent-joins}
 use Rattle.codec.specs.Piecing.{Piecing}
-use Rattle.codec.specs.Runs.{Cuts, EndFollows, NextRuns, NoneTold, RunWent, all_handed}
+use Rattle.codec.specs.Runs.{AnswerRuns, AnswersPlayed, AnswersStopped, Cuts, EndFollows, NextRuns, NoneTold, RunWent, all_handed}
 use Rattle.codec.specs.Texts.{HasPieces, IsLast}
+
+-- what a `?` hands on is an `Err`
+pub on_err : {T E P : Type 0} (r : Result T E) → P → OnErr r P
+on_err (Ok x) p = tt
+on_err (Err e) p = p
+
+-- a record that gains one more
+pub gains_more : {X A : Type 0} (f : X → A) (old new new' : List X) (answers : List A) (x : X)
+    → map f new ≡ map f old ++ answers → new' ≡ new ++ x ∷ [] → map f new' ≡ map f old ++ (answers ++ f x ∷ [])
+gains_more f old new new' answers x gained is =
+    ap (λ l. map f l) is ∙ map-append f new (x ∷ []) ∙ ap (λ l. l ++ f x ∷ []) gained
+    ∙ append_assoc (map f old) answers (f x ∷ [])
+
+module _ {T A : Type 0} (Call : T → A → T → Type 0) where
+  pub AnswerRuns-more : (s : T) (answers : List A) (m : T) (answer : A) (t : T) → AnswerRuns Call s answers m
+      → Call m answer t → AnswerRuns Call s (answers ++ answer ∷ []) t
+  AnswerRuns-more s [] m answer t e next = (t, subst (λ x. Call x answer t) (sym e) next, refl)
+  AnswerRuns-more s (a ∷ answers) m answer t run next =
+      (run.0, run.1, AnswerRuns-more run.0 answers m answer t run.2 next)
+
+  -- what the loops that play calls come to
+  module _ (Went : T → List A → T → Type 0)
+      (went : (s : T) (answers : List A) (t : T) → AnswerRuns Call s answers t → Went s answers t) (s m : T)
+      (old new answers : List A) (gained : new ≡ old ++ answers) (run : AnswerRuns Call s answers m) (calls : ℕ) where
+    pub answers_played : length answers ≡ calls → AnswersPlayed Call Went s calls old new m
+    answers_played all =
+        record { answers = answers; gained = gained; all = all; run = run; went = went s answers m run }
+
+    pub answers_stopped : (handed : A → List (List ℕ)) → length answers < calls → (room : ℕ) (lost : A) (t : T)
+        → (0 < length (handed lost)) ⊎ (room ≤ length new) → Call m lost t
+        → AnswersStopped Call Went handed s calls room old new t
+    answers_stopped handed fewer room lost t wanted next =
+        let more = AnswerRuns-more s answers m lost t run next in
+        record {
+          answers = answers;
+          gained = gained;
+          fewer = fewer;
+          lost = lost;
+          wanted = wanted;
+          run = more;
+          went = went s (answers ++ lost ∷ []) t more;
+        }
 
 module _ {W : Type 0} (g : Grammar W) where
   -- a last piece is the last
@@ -33,13 +76,6 @@ module _ {W : Type 0} (g : Grammar W) where
   Cuts-text (Err e ∷ answers) bytes none cut = Cuts-text answers bytes none cut
 
 module _ {S D W : Type 0} (remaining : S → Option (List ℕ)) (g : Grammar W) where
-  pub NextRuns-more : (s : Piecing S D) (answers : List (NextAnswer W)) (m : Piecing S D) (answer : NextAnswer W)
-      (t : Piecing S D) → NextRuns remaining g s answers m → NextPiece remaining g m answer t
-      → NextRuns remaining g s (answers ++ answer ∷ []) t
-  NextRuns-more s [] m answer t e next = (t, subst (λ x. NextPiece remaining g x answer t) (sym e) next, refl)
-  NextRuns-more s (a ∷ answers) m answer t run next =
-      (run.0, run.1, NextRuns-more run.0 answers m answer t run.2 next)
-
   -- after a last piece comes the end of the stream
   end_follows : (m : Piecing S D) (answers : List (NextAnswer W)) (t : Piecing S D) → m.ended ≡ true
       → NextRuns remaining g m answers t → EndFollows answers

@@ -158,12 +158,15 @@ module _ (w : Words) where
     within = omega arith;
     again = λ len fits.
         let short : len < 1000000000000000000 = omega (arith, fits) in
-        let few : length (decimal len) ≤ 18 = length-decimal-le 18 len (omega arith) (omega (arith, short)) (omega (arith, short)) in
+        let few : length (decimal len) ≤ 18 =
+        length-decimal-le 18 len (omega arith) (omega (arith, short)) (omega (arith, short)) in
         let front = w.before ++ decimal len in
         let all : w.before ++ (decimal len ++ w.after) ≡ front ++ w.after = sym (append_assoc w.before (decimal len) w.after) in
         let most = 18 + length w.before + length w.after in
-        let on = led most (enters w 0) 0 front w.after (Length (Is len)) (omega (arith, few, length-append w.before (decimal len)))
-        (joined (enters w 0) w.before (Length Empty) (decimal len) (Length (Is len)) (first [] w.before refl) (counted len short)) in
+        let on = led most (enters w 0) 0 front w.after (Length (Is len))
+        (omega (arith, few, length-append w.before (decimal len)))
+        (joined (enters w 0) w.before (Length Empty) (decimal len) (Length (Is len)) (first [] w.before refl)
+        (counted len short)) in
         let size : 0 + length front + length w.after ≡ length (w.before ++ (decimal len ++ w.after)) =
         omega (arith, ap length all, length-append front w.after) in
         ap (λ l. scan_on (text_turn w) most (enters w 0) 0 l) all ∙ on.2

@@ -1,5 +1,5 @@
 -- What the calls of a writer of pieces promise.
-use Rattle.std.specs.Prelude.{◌≡◌, ℕ, ◌<◌, ◌≤◌, List, [], ◌∷◌, ◌++◌, length, Result, Ok, Err}
+use Rattle.std.specs.Prelude.{◌≡◌, ℕ, ◌<◌, ◌≤◌, List, [], ◌∷◌, ◌++◌, length, Bool, true, false, Result, Ok, Err}
 use Rattle.std.specs.List.{All}
 use Rattle.std.specs.declared.io.Error.{Error}
 use Rattle.buffer_redux.specs.Block.{Block}
@@ -38,7 +38,7 @@ abbrev pub WriteAnswer : Type 0 → Type 0
 WriteAnswer W = Result (Unit {0}) (WritePieceError W)
 
 -- the payloads that an answer took in: the one, or none
-abbrev pub accepted : {W : Type 0} → List ℕ → WriteAnswer W → List (List ℕ)
+abbrev pub accepted : {X : Type 0} → List ℕ → Result (Unit {0}) X → List (List ℕ)
 accepted payload (Ok _) = payload ∷ []
 accepted payload (Err e) = []
 
@@ -83,3 +83,13 @@ pub record WritesPiece {S E W : Type 0} (stretch : S → S → Type 0) (e : Enco
   pub full : e.takes payload → room s < length (coded e payload) → SendsFirst e s payload answer t
   pub not_flushed : t.writer.log.writes.flushed ≡ s.writer.log.writes.flushed
   pub whole : IsOutgoing e.most t
+
+-- what one call of `write_buffered` does: where the piece fits behind what is buffered, what `write_piece` does, and else
+-- nothing
+abbrev pub WritesBuffered : {S E W : Type 0} → (S → S → Type 0) → Encoding W → Outgoing S E → List ℕ → Result Bool W
+    → Outgoing S E → Type 0
+WritesBuffered stretch e s payload (Ok true) t =
+    WritesPiece stretch e s payload (Ok tt) t × (length (coded e payload) ≤ room s)
+WritesBuffered stretch e s payload (Ok false) t =
+    e.takes payload × (room s < length (coded e payload)) × (t ≡ s)
+WritesBuffered stretch e s payload (Err w) t = WritesPiece stretch e s payload (Err (Refused w)) t

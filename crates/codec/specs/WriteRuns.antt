@@ -1,64 +1,77 @@
--- Runs of calls of `write_piece`: what they come to.
-use Rattle.std.specs.Prelude.{◌≡◌, ℕ, ◌<◌, ◌≤◌, List, [], ◌∷◌, ◌++◌, length, map, take, Bool, MatchBool, Ok, Err, ⊤}
+-- Runs of calls that write payloads: what they come to.
+use Rattle.std.specs.Prelude.{◌≡◌, ℕ, ◌<◌, ◌≤◌, List, [], ◌∷◌, ◌++◌, length, map, take, Bool, MatchBool, Result, Ok, Err, ⊤}
+use Rattle.std.specs.declared.io.Error.{Error}
 use Rattle.codec.specs.declared.error.WritePieceError.{WritePieceError}
 use Rattle.codec.specs.declared.error.WritePieceError.TheVariants.{Refused, Io}
 use Rattle.codec.specs.Encoding.{Encoding}
 use Rattle.codec.specs.Outgoing.{Outgoing}
 use Rattle.codec.specs.WritePiece.{PiecesTaken, WriteAnswer, WritesPiece, accepted}
 
--- calls of `write_piece` with these payloads, one after another, with as many answers
-abbrev pub WriteRuns : {S E W : Type 0} → (S → S → Type 0) → Encoding W → Outgoing S E → List (List ℕ)
-    → List (WriteAnswer W) → Outgoing S E → Type 0
-WriteRuns stretch e s [] [] t = s ≡ t
-WriteRuns {S} {E} stretch e s (payload ∷ payloads) (answer ∷ answers) t =
-    (m : Outgoing S E) × WritesPiece stretch e s payload answer m × WriteRuns stretch e m payloads answers t
-WriteRuns stretch e s [] (answer ∷ answers) t = ⊥
-WriteRuns stretch e s (payload ∷ payloads) [] t = ⊥
-
--- the payloads that they took in: those whose call returned `Ok`
-abbrev pub all_accepted : {W : Type 0} → List (List ℕ) → List (WriteAnswer W) → List (List ℕ)
+-- the payloads that calls with these took in: those whose call returned `Ok`
+abbrev pub all_accepted : {X : Type 0} → List (List ℕ) → List (Result (Unit {0}) X) → List (List ℕ)
 all_accepted (payload ∷ payloads) (answer ∷ answers) = accepted payload answer ++ all_accepted payloads answers
 all_accepted payloads answers = []
 
--- what was played: the answers that were gained are a run of the first payloads, as many as there are answers; at Ok
--- these are all, and else some are left, of which none was begun, and the record, which had room for so many, was full
-pub record WritePlayed {S E W : Type 0} (stretch : S → S → Type 0) (e : Encoding W) (s : Outgoing S E)
-    (payloads : List (List ℕ)) (room : ℕ) (old : List (WriteAnswer W)) (ok : Bool) (new : List (WriteAnswer W))
-    (t : Outgoing S E) : Type 0 where
-  pub answers : List (WriteAnswer W)
-  pub gained : new ≡ old ++ answers
-  pub run : WriteRuns stretch e s (take (length answers) payloads) answers t
-  pub ended : MatchBool ok (length answers ≡ length payloads)
-      ((length answers < length payloads) × (room ≤ length new))
-  pub taken : PiecesTaken stretch e s (all_accepted payloads answers) t
-
--- each of these payloads was written by a call that answered `Ok`
-abbrev pub all_ok : {W : Type 0} → List (List ℕ) → List (WriteAnswer W)
+-- each of these payloads by a call that answered `Ok`
+abbrev pub all_ok : {X : Type 0} → List (List ℕ) → List (Result (Unit {0}) X)
 all_ok payloads = map (λ payload. Ok tt) payloads
 
-abbrev pub AllWritten : {S E W : Type 0} → (S → S → Type 0) → Encoding W → Outgoing S E → List (List ℕ) → Outgoing S E
-    → Type 0
-AllWritten stretch e s payloads t = WriteRuns stretch e s payloads (all_ok payloads) t
+-- a call with a payload does this to a writer, and calls that took in some do that
+module _ {T X : Type 0} (Call : T → List ℕ → Result (Unit {0}) X → T → Type 0) where
+  -- calls with these payloads, one after another, with as many answers
+  abbrev pub CallRuns : T → List (List ℕ) → List (Result (Unit {0}) X) → T → Type 0
+  CallRuns s [] [] t = s ≡ t
+  CallRuns s (payload ∷ payloads) (answer ∷ answers) t =
+      (m : T) × Call s payload answer m × CallRuns m payloads answers t
+  CallRuns s [] (answer ∷ answers) t = ⊥
+  CallRuns s (payload ∷ payloads) [] t = ⊥
 
--- the first of these payloads were written so, and the next one was answered by this error
-pub record WriteStopped {S E W : Type 0} (stretch : S → S → Type 0) (e : Encoding W) (s : Outgoing S E)
-    (payloads : List (List ℕ)) (why : WritePieceError W) (t : Outgoing S E) : Type 0 where
-  pub done : List (List ℕ)
-  pub payload : List ℕ
-  pub later : List (List ℕ)
-  pub all : payloads ≡ done ++ payload ∷ later
-  pub before : Outgoing S E
-  pub run : AllWritten stretch e s done before
-  pub failed : WritesPiece stretch e before payload (Err why) t
-  pub taken : PiecesTaken stretch e s done t
+  module _ (Taken : T → List (List ℕ) → T → Type 0) where
+    -- what was played: the answers that were gained are a run of the first payloads, as many as there are answers; at Ok
+    -- these are all, and else some are left, of which none was begun, and the record, which had room for so many, was full
+    pub record CallsPlayed (s : T) (payloads : List (List ℕ)) (room : ℕ) (old : List (Result (Unit {0}) X)) (ok : Bool)
+        (new : List (Result (Unit {0}) X)) (t : T) : Type 0 where
+      pub answers : List (Result (Unit {0}) X)
+      pub gained : new ≡ old ++ answers
+      pub run : CallRuns s (take (length answers) payloads) answers t
+      pub ended : MatchBool ok (length answers ≡ length payloads)
+          ((length answers < length payloads) × (room ≤ length new))
+      pub taken : Taken s (all_accepted payloads answers) t
 
--- each of these payloads was written, up to the first error
-abbrev pub WritesEach : {S E W : Type 0} → (S → S → Type 0) → Encoding W → Outgoing S E → List (List ℕ) → WriteAnswer W
-    → Outgoing S E → Type 0
-WritesEach stretch e s payloads (Ok _) t = AllWritten stretch e s payloads t × PiecesTaken stretch e s payloads t
-WritesEach stretch e s payloads (Err why) t = WriteStopped stretch e s payloads why t
+    -- the first of these payloads were written by calls that answered `Ok`, and the next one was answered by this error
+    pub record CallsStopped (s : T) (payloads : List (List ℕ)) (why : X) (t : T) : Type 0 where
+      pub done : List (List ℕ)
+      pub payload : List ℕ
+      pub later : List (List ℕ)
+      pub all : payloads ≡ done ++ payload ∷ later
+      pub before : T
+      pub run : CallRuns s done (all_ok done) before
+      pub failed : Call before payload (Err why) t
+      pub taken : Taken s done t
+
+    -- each of these payloads was written, up to the first error
+    abbrev pub CallsEach : T → List (List ℕ) → Result (Unit {0}) X → T → Type 0
+    CallsEach s payloads (Ok _) t = CallRuns s payloads (all_ok payloads) t × Taken s payloads t
+    CallsEach s payloads (Err why) t = CallsStopped s payloads why t
+
+-- the same of `write_piece`
+module _ {S E W : Type 0} (stretch : S → S → Type 0) (e : Encoding W) where
+  abbrev pub WriteRuns : Outgoing S E → List (List ℕ) → List (WriteAnswer W) → Outgoing S E → Type 0
+  WriteRuns = CallRuns (WritesPiece stretch e)
+
+  abbrev pub WritePlayed : Outgoing S E → List (List ℕ) → ℕ → List (WriteAnswer W) → Bool → List (WriteAnswer W)
+      → Outgoing S E → Type 0
+  WritePlayed = CallsPlayed (WritesPiece stretch e) (PiecesTaken stretch e)
+
+  abbrev pub WritesEach : Outgoing S E → List (List ℕ) → WriteAnswer W → Outgoing S E → Type 0
+  WritesEach = CallsEach (WritesPiece stretch e) (PiecesTaken stretch e)
 
 -- an error that isn't about a payload
 abbrev pub IsFault : {W : Type 0} → WritePieceError W → Type 0
 IsFault (Io e) = ⊤
 IsFault (Refused w) = ⊥
+
+-- what holds of one that isn't
+abbrev pub IfFault : {W : Type 0} → (Error → Type 0) → WritePieceError W → Type 0
+IfFault P (Io e) = P e
+IfFault P (Refused w) = ⊤

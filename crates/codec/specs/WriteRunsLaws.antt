@@ -1,57 +1,103 @@
--- Laws of runs of `write_piece`: they go on by one call, and what their calls take in joins.
-use Rattle.std.specs.Prelude.{◌≡◌, ℕ, List, [], ◌∷◌, ◌++◌, length, take, Ok}
-use Rattle.std.proofs.Common.{sym, ap, subst, refl}
-use Rattle.std.proofs.lemmas.List.{map-append}
-use Rattle.codec.specs.Encoding.{Encoding}
-use Rattle.codec.specs.Outgoing.{Outgoing}
-use Rattle.codec.specs.WritePiece.{PiecesTaken, WriteAnswer, WritesPiece, accepted}
-use Rattle.codec.specs.WritePieceLaws.{PiecesTaken-none, PiecesTaken-joins}
-use Rattle.codec.specs.WriteRuns.{WriteRuns, AllWritten, all_accepted, all_ok}
+-- Laws of runs of calls that write payloads: they go on by one call, what their calls take in joins, and loops.
+use Rattle.std.specs.Prelude.{◌≡◌, ℕ, ◌+◌, ◌<◌, ◌≤◌, List, [], ◌∷◌, ◌++◌, length, map, take, drop, get_or, Bool, MatchBool, Result, Ok, Err}
+use Rattle.std.proofs.Common.{sym, ap, subst, ◌∙◌, refl, append-nil}
+use Rattle.std.proofs.lemmas.List.{map-append, take_all, take-map}
+use Rattle.codec.specs.PayloadsLaws.{before, parted}
+use Rattle.codec.specs.WritePiece.{accepted}
+use Rattle.codec.specs.WriteRuns.{CallRuns, CallsEach, CallsPlayed, CallsStopped, all_accepted, all_ok}
 
 -- what is taken in where each answer is `Ok`, and that only payloads with an answer count
-pub all_accepted-ok : (W : Type 0) (payloads : List (List ℕ)) → all_accepted {W = W} payloads (all_ok payloads) ≡ payloads
-all_accepted-ok W [] = refl
-all_accepted-ok W (payload ∷ payloads) = ap (λ l. payload ∷ l) (all_accepted-ok W payloads)
+pub all_accepted-ok : (X : Type 0) (payloads : List (List ℕ)) → all_accepted {X = X} payloads (all_ok payloads) ≡ payloads
+all_accepted-ok X [] = refl
+all_accepted-ok X (payload ∷ payloads) = ap (λ l. payload ∷ l) (all_accepted-ok X payloads)
 
-pub all_accepted-take : {W : Type 0} → (payloads : List (List ℕ)) (answers : List (WriteAnswer W))
+pub all_accepted-take : {X : Type 0} → (payloads : List (List ℕ)) (answers : List (Result (Unit {0}) X))
     → all_accepted (take (length answers) payloads) answers ≡ all_accepted payloads answers
 all_accepted-take [] [] = refl
 all_accepted-take [] (a ∷ answers) = refl
 all_accepted-take (p ∷ payloads) [] = refl
 all_accepted-take (p ∷ payloads) (a ∷ answers) = ap (λ l. accepted p a ++ l) (all_accepted-take payloads answers)
 
-module _ {S E W : Type 0} (stretch : S → S → Type 0) (e : Encoding W) where
-  pub WriteRuns-more : (s : Outgoing S E) (payloads : List (List ℕ)) (answers : List (WriteAnswer W)) (m : Outgoing S E)
-      (payload : List ℕ) (answer : WriteAnswer W) (t : Outgoing S E)
-      → WriteRuns stretch e s payloads answers m → WritesPiece stretch e m payload answer t
-      → WriteRuns stretch e s (payloads ++ payload ∷ []) (answers ++ answer ∷ []) t
-  WriteRuns-more s [] [] m payload answer t is wrote =
-      (t, subst (λ x. WritesPiece stretch e x payload answer t) (sym is) wrote, refl)
-  WriteRuns-more s [] (a ∷ answers) m payload answer t run wrote = absurd run
-  WriteRuns-more s (p ∷ payloads) [] m payload answer t run wrote = absurd run
-  WriteRuns-more s (p ∷ payloads) (a ∷ answers) m payload answer t run wrote =
-      (run.0, run.1, WriteRuns-more run.0 payloads answers m payload answer t run.2 wrote)
+module _ {T X : Type 0} (Call : T → List ℕ → Result (Unit {0}) X → T → Type 0) where
+  pub CallRuns-more : (s : T) (payloads : List (List ℕ)) (answers : List (Result (Unit {0}) X)) (m : T) (payload : List ℕ)
+      (answer : Result (Unit {0}) X) (t : T) → CallRuns Call s payloads answers m → Call m payload answer t
+      → CallRuns Call s (payloads ++ payload ∷ []) (answers ++ answer ∷ []) t
+  CallRuns-more s [] [] m payload answer t is wrote = (t, subst (λ x. Call x payload answer t) (sym is) wrote, refl)
+  CallRuns-more s [] (a ∷ answers) m payload answer t run wrote = absurd run
+  CallRuns-more s (p ∷ payloads) [] m payload answer t run wrote = absurd run
+  CallRuns-more s (p ∷ payloads) (a ∷ answers) m payload answer t run wrote =
+      (run.0, run.1, CallRuns-more run.0 payloads answers m payload answer t run.2 wrote)
 
-  pub AllWritten-more : (s : Outgoing S E) (payloads : List (List ℕ)) (m : Outgoing S E) (payload : List ℕ)
-      (t : Outgoing S E) → AllWritten stretch e s payloads m → WritesPiece stretch e m payload (Ok tt) t
-      → AllWritten stretch e s (payloads ++ payload ∷ []) t
-  AllWritten-more s payloads m payload t run wrote =
-      subst (λ answers. WriteRuns stretch e s (payloads ++ payload ∷ []) answers t)
-      (sym (map-append (λ p. Ok tt) payloads (payload ∷ [])))
-      (WriteRuns-more s payloads (all_ok payloads) m payload (Ok tt) t run wrote)
+  module _ (Taken : T → List (List ℕ) → T → Type 0) (none : (s : T) → Taken s [] s)
+      (joins : (s m t : T) (ps qs : List (List ℕ)) → Taken s ps m → Taken m qs t → Taken s (ps ++ qs) t)
+      (went : (s : T) (payload : List ℕ) (answer : Result (Unit {0}) X) (t : T) → Call s payload answer t
+      → Taken s (accepted payload answer) t) where
+    pub CallRuns-taken : (s : T) (payloads : List (List ℕ)) (answers : List (Result (Unit {0}) X)) (t : T)
+        → CallRuns Call s payloads answers t → Taken s (all_accepted payloads answers) t
+    CallRuns-taken s [] [] t is = subst (Taken s []) is (none s)
+    CallRuns-taken s [] (a ∷ answers) t run = absurd run
+    CallRuns-taken s (p ∷ payloads) [] t run = absurd run
+    CallRuns-taken s (p ∷ payloads) (a ∷ answers) t run =
+        joins s run.0 t (accepted p a) (all_accepted payloads answers) (went s p a run.0 run.1)
+        (CallRuns-taken run.0 payloads answers t run.2)
 
-  module _ (none : (x : S) → stretch x x) (joins : (a b c : S) → stretch a b → stretch b c → stretch a c) where
-    pub WriteRuns-taken : (s : Outgoing S E) (payloads : List (List ℕ)) (answers : List (WriteAnswer W))
-        (t : Outgoing S E) → WriteRuns stretch e s payloads answers t
-        → PiecesTaken stretch e s (all_accepted payloads answers) t
-    WriteRuns-taken s [] [] t is = subst (PiecesTaken stretch e s []) is (PiecesTaken-none stretch e none s)
-    WriteRuns-taken s [] (a ∷ answers) t run = absurd run
-    WriteRuns-taken s (p ∷ payloads) [] t run = absurd run
-    WriteRuns-taken s (p ∷ payloads) (a ∷ answers) t run =
-        PiecesTaken-joins stretch e joins s run.0 t (accepted p a) (all_accepted payloads answers) run.1.went
-        (WriteRuns-taken run.0 payloads answers t run.2)
+    pub all_ok-taken : (s : T) (payloads : List (List ℕ)) (t : T) → CallRuns Call s payloads (all_ok payloads) t
+        → Taken s payloads t
+    all_ok-taken s payloads t run = subst (λ l. Taken s l t) (all_accepted-ok X payloads)
+        (CallRuns-taken s payloads (all_ok payloads) t run)
 
-    pub AllWritten-taken : (s : Outgoing S E) (payloads : List (List ℕ)) (t : Outgoing S E)
-        → AllWritten stretch e s payloads t → PiecesTaken stretch e s payloads t
-    AllWritten-taken s payloads t run = subst (λ l. PiecesTaken stretch e s l t) (all_accepted-ok W payloads)
-        (WriteRuns-taken s payloads (all_ok payloads) t run)
+    -- of a loop over such payloads, that goes on by one
+    module _ {V : Type 0} (f : V → List ℕ) (vs : List V) (i : ℕ) (s m : T) where
+      pub run_more : (x : V) → i < length vs → x ≡ get_or vs i x → (answers : List (Result (Unit {0}) X))
+          (answer : Result (Unit {0}) X) (t : T) → CallRuns Call s (map f (take i vs)) answers m → Call m (f x) answer t
+          → CallRuns Call s (map f (take (i + 1) vs)) (answers ++ answer ∷ []) t
+      run_more x inside is answers answer t run wrote =
+          subst (λ l. CallRuns Call s l (answers ++ answer ∷ []) t) (sym (before f vs i x inside is))
+          (CallRuns-more s (map f (take i vs)) answers m (f x) answer t run wrote)
+
+      module _ (run : CallRuns Call s (map f (take i vs)) (all_ok (map f (take i vs))) m) where
+        pub written_more : (x : V) → i < length vs → x ≡ get_or vs i x → (t : T) → Call m (f x) (Ok tt) t
+            → CallRuns Call s (map f (take (i + 1) vs)) (all_ok (map f (take (i + 1) vs))) t
+        written_more x inside is t wrote =
+            subst (λ l. CallRuns Call s l (all_ok l) t) (sym (before f vs i x inside is))
+            (subst (λ answers. CallRuns Call s (map f (take i vs) ++ f x ∷ []) answers t)
+            (sym (map-append (λ p. Ok tt) (map f (take i vs)) (f x ∷ [])))
+            (CallRuns-more s (map f (take i vs)) (all_ok (map f (take i vs))) m (f x) (Ok tt) t run wrote))
+
+        pub written_stops : (x : V) → i < length vs → x ≡ get_or vs i x → (why : X) (t : T) → Call m (f x) (Err why) t
+            → CallsStopped Call Taken s (map f vs) why t
+        written_stops x inside is why t failed = record {
+          done = map f (take i vs);
+          payload = f x;
+          later = map f (drop (i + 1) vs);
+          all = parted f vs i x inside is;
+          before = m;
+          run = run;
+          failed = failed;
+          taken = subst (λ l. Taken s l t) (append-nil (map f (take i vs)))
+              (joins s m t (map f (take i vs)) [] (all_ok-taken s (map f (take i vs)) m run)
+              (went m (f x) (Err why) t failed));
+        }
+
+        -- at the end all was written
+        pub written_all : length vs ≤ i → CallsEach Call Taken s (map f vs) (Ok tt) m
+        written_all end =
+            let all : CallRuns Call s (map f vs) (all_ok (map f vs)) m =
+            subst (λ l. CallRuns Call s (map f l) (all_ok (map f l)) m) (take_all i vs end) run in
+            (all, all_ok-taken s (map f vs) m all)
+
+      pub calls_played : (old new answers : List (Result (Unit {0}) X)) → new ≡ old ++ answers → length answers ≡ i
+          → CallRuns Call s (map f (take i vs)) answers m → (room : ℕ) (ok : Bool)
+          → MatchBool ok (length answers ≡ length (map f vs)) ((length answers < length (map f vs)) × (room ≤ length new))
+          → CallsPlayed Call Taken s (map f vs) room old ok new m
+      calls_played old new answers gained count run room ok ended =
+          let run' : CallRuns Call s (take (length answers) (map f vs)) answers m =
+          subst (λ l. CallRuns Call s l answers m) (sym (ap (λ n. take n (map f vs)) count ∙ take-map f i vs)) run in
+          record {
+            answers = answers;
+            gained = gained;
+            run = run';
+            ended = ended;
+            taken = subst (λ l. Taken s l m) (all_accepted-take (map f vs) answers)
+                (CallRuns-taken s (take (length answers) (map f vs)) answers m run');
+          }

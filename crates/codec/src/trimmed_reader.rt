@@ -21,7 +21,8 @@ impl<R: TellRead> PieceReader<R, Trimmed<Delimited>> {
     #[inline(always)]
     pub fn next(&mut self) -> Result<Option<&[u8]>, NextError<TooLong>>
         ensures* after_borrow { sem 𝓛 (Rests
-            (the_row R.row (trimmed_row delimited_row too_long_row) too_long_row R.Tell ⟦<Trimmed<Delimited> as Decoder>⟧) self.entry
+            (the_row R.row (trimmed_row delimited_row too_long_row) too_long_row R.Tell ⟦<Trimmed<Delimited> as Decoder>⟧)
+            self.entry
             (NextPiece R.remaining (trimming (delimited self.entry.now.decoder.0.end self.entry.now.decoder.0.max))
             self.entry.now (answer_of result))) }
     {

@@ -10,7 +10,7 @@ ghost use Rattle.codec.specs.contracts.writer.PieceWriter.{the_row};
 ghost use Rattle.codec.specs.Encoding.{IsHead, coded};
 ghost use Rattle.codec.specs.Outgoing.{IsOutgoing, IsUnused, room, with_stream};
 ghost use Rattle.codec.specs.Piecing.{room_for};
-ghost use Rattle.codec.specs.WritePiece.{PiecesTaken, PutsIn, WritesPiece};
+ghost use Rattle.codec.specs.WritePiece.{PiecesTaken, PutsIn, WritesBuffered, WritesPiece};
 
 use crate::buffer::piece_buffer;
 use crate::encoder::Encoder;
@@ -113,43 +113,51 @@ impl<W: TellWrite, E: Encoder> PieceWriter<W, E> {
         ensures { WritesPiece W.stretch (E.encoding self.old.encoder) self.old payload.now result self.new }
     {
         match self.encoder.head(payload) {
-            Ok(head) => self.write_behind(&head, payload),
+            Ok(head) => {
+                if !self.has_room(&head, payload) {
+                    return self.write_aside(head, payload);
+                }
+                self.take_in(&head, payload);
+                Ok(())
+            }
             Err(e) => Err(WritePieceError::Refused(e)),
         }
     }
 
+    /// Takes the payload's piece in where it fits behind what is buffered, and returns whether it did. The inner writer isn't
+    /// called.
+    ///
+    /// At a `false` or an `Err` nothing changes; at a `false` [`write_piece`](PieceWriter::write_piece) takes the piece in, and
+    /// sends what is buffered before.
     #[inline(always)]
-    fn write_behind(
-        &mut self,
-        head: &Head,
-        payload: &[u8],
-    ) -> Result<(), WritePieceError<E::Refusal>>
-        requires head { IsHead (E.encoding self.old.encoder) payload.now head.now }
-        ensures { WritesPiece W.stretch (E.encoding self.old.encoder) self.old payload.now result self.new }
+    pub fn write_buffered(&mut self, payload: &[u8]) -> Result<bool, E::Refusal>
+        ensures { WritesBuffered W.stretch (E.encoding self.old.encoder) self.old payload.now result self.new }
     {
-        if !self.has_room(head, payload) {
-            return self.write_aside(head, payload);
+        match self.encoder.head(payload) {
+            Ok(head) => {
+                if !self.has_room(&head, payload) {
+                    return Ok(false);
+                }
+                self.take_in(&head, payload);
+                Ok(true)
+            }
+            Err(e) => Err(e),
         }
-        self.take_in(head, payload);
-        Ok(())
     }
 
     // Goes on in `write_slowly`. The kit's compiler clears the answer of a call where the function that makes the call begins; of
-    // a call made in here, which is inlined, that is behind the look at the room.
+    // a call made in here, which is inlined, that is behind the look at the room. So is the copy of the head.
     #[inline(always)]
-    fn write_aside(
-        &mut self,
-        head: &Head,
-        payload: &[u8],
-    ) -> Result<(), WritePieceError<E::Refusal>>
-        requires head { IsHead (E.encoding self.old.encoder) payload.now head.now }
+    fn write_aside(&mut self, head: Head, payload: &[u8]) -> Result<(), WritePieceError<E::Refusal>>
+        requires head { IsHead (E.encoding self.old.encoder) payload.now head }
         requires full { room self.old < length (coded (E.encoding self.old.encoder) payload.now) }
         ensures { WritesPiece W.stretch (E.encoding self.old.encoder) self.old payload.now result self.new }
     {
-        self.write_slowly(head, payload)
+        self.write_slowly(&head, payload)
     }
 
-    // Sends all that is buffered, and then takes the piece in.
+    // Sends all that is buffered, and then takes the piece in. It stands apart, so that a piece for which there is room is short
+    // in its caller.
     #[cold]
     #[inline(never)]
     fn write_slowly(
@@ -173,15 +181,8 @@ impl<W: TellWrite, E: Encoder> PieceWriter<W, E> {
         ensures room { IsTrue result ↔ (length (coded (E.encoding self.now.encoder) payload.now) ≤ room self.now) }
         ensures whole { IsOutgoing (E.encoding self.now.encoder).most self.now }
     {
-        let left = self.writer.capacity() - self.writer.buf_len();
-        if left < head.len {
-            return false;
-        }
-        let left = left - head.len;
-        if left < payload.len() {
-            return false;
-        }
-        left - payload.len() >= self.encoder.tail().len()
+        let piece = head.len + payload.len() + self.encoder.tail().len();
+        piece <= self.writer.capacity() - self.writer.buf_len()
     }
 
     /// Sends all pieces, without a flush of the inner writer. Where that fails, just what the inner writer took is no longer
@@ -238,11 +239,28 @@ impl<W: TellWrite, E: Encoder> PieceWriter<W, E> {
             (coded (E.encoding self.old.encoder) payload.now) self.new }
     {
         self.writer.make_room();
-        self.put(&head.bytes[..head.len]);
+        self.put_head(head);
         self.put(payload);
         if !self.encoder.tail().is_empty() {
             let _ = self.writer.write(self.encoder.tail());
         }
+    }
+
+    // Copies the head in, for which there is room. A short one goes in from a word of its own: a head of a known length isn't
+    // laid out in memory then, where the room of a long one would be cleared.
+    #[inline(always)]
+    fn put_head(&mut self, head: &Head)
+        requires room { head.now.len ≤ usable self.old.writer.block }
+        requires inside { head.now.len < self.old.writer.block.capacity }
+        ensures put { PutsIn W.stretch (E.encoding self.old.encoder).most self.old (take head.now.len head.now.bytes) self.new }
+        ensures usable { usable self.old.writer.block ≤ usable self.new.writer.block + head.now.len }
+    {
+        if head.len > 8 {
+            return self.put(&head.bytes[..head.len]);
+        }
+        let mut word = [0; 8];
+        word.copy_from_slice(&head.bytes[..8]);
+        self.put(&word[..head.len]);
     }
 
     // Copies bytes in, for which there is room.

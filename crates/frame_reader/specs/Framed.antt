@@ -1,7 +1,8 @@
 -- Frames as pieces.
-use Rattle.std.specs.Prelude.{◌≡◌, ℕ, ◌+◌, ◌<◌, ◌^◌, List, length}
+use Rattle.std.specs.Prelude.{◌≡◌, ℕ, ◌+◌, ◌<◌, ◌^◌, List, [], length}
+use Rattle.codec.specs.Encoding.{Encoding}
 use Rattle.codec.specs.Grammar.{Grammar}
-use Rattle.frame_reader.specs.Frames.{BeginsWith, Fits, frame}
+use Rattle.frame_reader.specs.Frames.{BeginsWith, Fits, frame, header}
 use Rattle.frame_reader.specs.declared.frame.FrameFault.{FrameFault}
 use Rattle.frame_reader.specs.declared.frame.FrameFault.TheVariants.{Truncated, TooLong}
 
@@ -26,4 +27,14 @@ framed max = record {
   wrong = IsTooLong max;
   last = λ bytes payload. ⊥;
   cut = λ bytes e. e ≡ Truncated (length bytes);
+}
+
+-- frames as they are written: a payload is taken where its frame is one, and else refused by its length
+abbrev pub framed_out : ℕ → Encoding ℕ
+framed_out max = record {
+  most = 2 + max;
+  takes = λ payload. IsFrame max (frame payload) payload;
+  head = λ payload. header (length payload);
+  tail = [];
+  refuses = λ payload len. (len ≡ length payload) × (max < len);
 }

@@ -1,15 +1,16 @@
 -- Laws of frames as pieces.
 use Rattle.std.specs.Prelude.{◌≡◌, ℕ, suc, ◌+◌, ◌<◌, ◌≤◌, ◌^◌, List, [], ◌∷◌, ◌++◌, length, take, drop}
-use Rattle.std.proofs.Common.{sym, ap, subst, ◌∙◌, arith, refl, inl, inr, append_assoc, length-append, length-drop, length-take-le}
-use Rattle.std.proofs.lemmas.List.Elements.{All-head, All-tail}
+use Rattle.std.proofs.Common.{sym, ap, subst, ◌∙◌, arith, refl, inl, inr, append_assoc, append-nil, length-append, length-drop, length-take-le}
+use Rattle.std.proofs.lemmas.List.Elements.{All-head, All-tail, All-weaker}
 use Rattle.std.specs.List.{All}
 use Rattle.codec.specs.Decoding.{IsPiece}
+use Rattle.codec.specs.Encoding.{IsWritable, all_coded, coded}
 use Rattle.codec.specs.Grammar.{Begins, IsLawful, Lacks}
 use Rattle.codec.specs.TextLaws as pieces
 use Rattle.codec.specs.Texts as texts
 use Rattle.codec.specs.Texts.{HasPieces, IsPieces}
 use Rattle.frame_reader.specs.declared.frame.FrameFault.TheVariants.{TooLong}
-use Rattle.frame_reader.specs.Framed.{IsFrame, framed}
+use Rattle.frame_reader.specs.Framed.{IsFrame, framed, framed_out}
 use Rattle.frame_reader.specs.Frames.{BeginsWith, BeginsWhole, Fits, Splits, frame, frames, header}
 use Rattle.frame_reader.specs.FramesLaws.{frame-same, header-same}
 
@@ -183,3 +184,33 @@ module _ (max : ℕ) (word : max < 2 ^ 16) (stream : List ℕ) where
       → (ps ≡ qs) × (xs ≡ ys)
   Splits-same ps qs xs ys a b = pieces.Splits-same (framed max) (framed_lawful max) stream ps qs xs ys
       (splits_of ps xs a) (splits_of qs ys b)
+
+-- what is written of payloads is their frames
+pub coded_frame : (max : ℕ) (payload : List ℕ) → coded (framed_out max) payload ≡ frame payload
+coded_frame max payload = ap (λ l. header (length payload) ++ l) (append-nil payload)
+
+pub coded_frames : (max : ℕ) (payloads : List (List ℕ)) → all_coded (framed_out max) payloads ≡ frames payloads
+coded_frames max [] = refl
+coded_frames max (p ∷ payloads) =
+    ap (λ l. l ++ all_coded (framed_out max) payloads) (coded_frame max p)
+    ∙ ap (λ l. frame p ++ l) (coded_frames max payloads)
+
+pub framed_writable : (max : ℕ) → IsWritable (framed_out max)
+framed_writable max = record {
+  some = λ payload. omega (arith, length-append (header (length payload)) (payload ++ []));
+  most = λ payload taken.
+      omega (arith, taken.fits, ap length (coded_frame max payload), length-append (header (length payload)) payload);
+  apart = λ payload len taken refused. omega (arith, taken.fits, refused.0, refused.1);
+}
+
+pub framed_back : (max : ℕ) (payload : List ℕ) → IsFrame max (frame payload) payload
+    → IsFrame max (coded (framed_out max) payload) payload
+framed_back max payload taken = record { word = taken.word; fits = taken.fits; equal = coded_frame max payload }
+
+-- a payload that fits is taken, and the other way
+pub all_taken : (max : ℕ) → max < 2 ^ 16 → (payloads : List (List ℕ)) → All (Fits max) payloads
+    → All (framed_out max).takes payloads
+all_taken max word = All-weaker (Fits max) (framed_out max).takes (is_frame max word)
+
+pub all_fit : (max : ℕ) (payloads : List (List ℕ)) → All (framed_out max).takes payloads → All (Fits max) payloads
+all_fit max = All-weaker (framed_out max).takes (Fits max) (λ payload taken. taken.fits)

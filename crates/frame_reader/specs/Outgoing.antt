@@ -4,11 +4,20 @@ use Rattle.buffer_redux.specs.Block.{IsBlock, Plain}
 use Rattle.buffer_redux.specs.Buffered.{Buffered}
 use Rattle.buffer_redux.specs.StreamLog.{StreamLog}
 use Rattle.buffer_redux.specs.declared.policy.StdPolicy.{StdPolicy}
+use Rattle.codec.specs.Outgoing as pieces
+use Rattle.frame_reader.specs.declared.frame.Frames.{Frames}
 
 -- the buffered writer, and the greatest length of a payload
 pub record Outgoing (S : Type 0) : Type 0 where
   pub writer : Buffered S StdPolicy
   pub max : ℕ
+
+-- the writer of pieces that it is, and the other way
+abbrev pub outgoing : {S : Type 0} → pieces.Outgoing S Frames → Outgoing S
+outgoing f = record { writer = f.writer; max = f.encoder.max }
+
+abbrev pub writing : {S : Type 0} → Outgoing S → pieces.Outgoing S Frames
+writing f = record { writer = f.writer; encoder = record { max = f.max } }
 
 -- the bytes that were taken in and not sent yet
 abbrev pub unsent : {S : Type 0} → Outgoing S → List ℕ

@@ -1,34 +1,26 @@
--- Laws of runs: they go on by one call, and what their calls do joins.
-use Rattle.std.specs.Prelude.{◌≡◌, ℕ, List, [], ◌∷◌, ◌++◌, length, take, Option, Ok}
-use Rattle.std.proofs.Common.{sym, ap, subst, refl}
-use Rattle.std.proofs.lemmas.List.{map-append}
+-- Laws of runs: what their calls do joins.
+use Rattle.std.specs.Prelude.{◌≡◌, ℕ, ◌<◌, ◌^◌, List, [], ◌∷◌, Option, Ok, Err, IfErr}
+use Rattle.std.proofs.Common.{sym, ap, subst, ◌∙◌, arith, refl}
+use Rattle.codec.specs.declared.error.WritePieceError.{WritePieceError}
+use Rattle.codec.specs.declared.error.WritePieceError.TheVariants as piece
+use Rattle.codec.specs.Outgoing as pieces
+use Rattle.codec.specs.WritePiece as calls
+use Rattle.codec.specs.WritePiece.{PiecesTaken, WritesPiece}
+use Rattle.codec.specs.WriteRuns as runs
+use Rattle.codec.specs.WriteRuns.{CallRuns, all_ok}
+use Rattle.frame_reader.specs.declared.error.WriteFrameError.{WriteFrameError}
+use Rattle.frame_reader.specs.declared.error.WriteFrameError.TheVariants.{TooLong, Io}
+use Rattle.frame_reader.specs.declared.frame.Frames.{Frames}
+use Rattle.frame_reader.specs.Framed.{framed_out}
 use Rattle.frame_reader.specs.Framing.{Framing}
-use Rattle.frame_reader.specs.Next.{FramesWent, Next, NextAnswer, payloads_of}
+use Rattle.frame_reader.specs.Next.{FramesWent, NextAnswer, payloads_of}
 use Rattle.frame_reader.specs.NextLaws.{FramesWent-none, FramesWent-joins}
-use Rattle.frame_reader.specs.Outgoing.{Outgoing}
-use Rattle.frame_reader.specs.Runs.{NextRuns, WriteRuns, AllWritten, all_payloads, all_accepted, all_ok}
-use Rattle.frame_reader.specs.WriteFrame.{FramesTaken, WriteAnswer, WritesFrame, accepted_frames}
-use Rattle.frame_reader.specs.WriteFrameLaws.{FramesTaken-none, FramesTaken-joins}
-
--- what is taken in where each answer is `Ok`, and that only payloads with an answer count
-pub all_accepted-ok : (payloads : List (List ℕ)) → all_accepted payloads (all_ok payloads) ≡ payloads
-all_accepted-ok [] = refl
-all_accepted-ok (payload ∷ payloads) = ap (λ l. payload ∷ l) (all_accepted-ok payloads)
-
-pub all_accepted-take : (payloads : List (List ℕ)) (answers : List WriteAnswer)
-    → all_accepted (take (length answers) payloads) answers ≡ all_accepted payloads answers
-all_accepted-take [] [] = refl
-all_accepted-take [] (a ∷ answers) = refl
-all_accepted-take (p ∷ payloads) [] = refl
-all_accepted-take (p ∷ payloads) (a ∷ answers) = ap (λ l. accepted_frames p a ++ l) (all_accepted-take payloads answers)
+use Rattle.frame_reader.specs.Outgoing.{Outgoing, IsOutgoing, outgoing}
+use Rattle.frame_reader.specs.Runs.{NextRuns, WritesEach, all_payloads}
+use Rattle.frame_reader.specs.WriteFrame.{IsFault, WriteAnswer, WritesFrame, frame_answer, piece_written}
+use Rattle.frame_reader.specs.WriteFrameLaws.{WritesFrame-of, taken_frames}
 
 module _ {S : Type 0} (remaining : S → Option (List ℕ)) where
-  pub NextRuns-more : (s : Framing S) (answers : List NextAnswer) (m : Framing S) (answer : NextAnswer) (t : Framing S)
-      → NextRuns remaining s answers m → Next remaining m answer t → NextRuns remaining s (answers ++ answer ∷ []) t
-  NextRuns-more s [] m answer t e next = (t, subst (λ x. Next remaining x answer t) (sym e) next, refl)
-  NextRuns-more s (a ∷ answers) m answer t run next =
-      (run.0, run.1, NextRuns-more run.0 answers m answer t run.2 next)
-
   pub NextRuns-went : (s : Framing S) (answers : List NextAnswer) (t : Framing S) → NextRuns remaining s answers t
       → FramesWent remaining s (all_payloads answers) t
   NextRuns-went s [] t e = subst (FramesWent remaining s []) e (FramesWent-none remaining s)
@@ -36,37 +28,74 @@ module _ {S : Type 0} (remaining : S → Option (List ℕ)) where
       FramesWent-joins remaining s run.0 t (payloads_of answer) (all_payloads answers) run.1.went
       (NextRuns-went run.0 answers t run.2)
 
-module _ {S : Type 0} (stretch : S → S → Type 0) where
-  pub WriteRuns-more : (s : Outgoing S) (payloads : List (List ℕ)) (answers : List WriteAnswer) (m : Outgoing S)
-      (payload : List ℕ) (answer : WriteAnswer) (t : Outgoing S)
-      → WriteRuns stretch s payloads answers m → WritesFrame stretch m payload answer t
-      → WriteRuns stretch s (payloads ++ payload ∷ []) (answers ++ answer ∷ []) t
-  WriteRuns-more s [] [] m payload answer t e wrote =
-      (t, subst (λ x. WritesFrame stretch x payload answer t) (sym e) wrote, refl)
-  WriteRuns-more s [] (a ∷ answers) m payload answer t run wrote = absurd run
-  WriteRuns-more s (p ∷ payloads) [] m payload answer t run wrote = absurd run
-  WriteRuns-more s (p ∷ payloads) (a ∷ answers) m payload answer t run wrote =
-      (run.0, run.1, WriteRuns-more run.0 payloads answers m payload answer t run.2 wrote)
+-- what calls of a writer of pieces come to, in the words of frames
+module _ {S : Type 0} (stretch : S → S → Type 0) (max : ℕ) (word : max < 2 ^ 16) where
+  write_of : (answer : WriteAnswer) (payload : List ℕ) (s t : pieces.Outgoing S Frames) → s.encoder.max ≡ max
+      → WritesPiece stretch (framed_out max) s payload (piece_written answer) t
+      → WritesFrame stretch (outgoing s) payload answer (outgoing t)
+  write_of answer payload s t same wrote =
+      WritesFrame-of stretch s t (omega (arith, word, same)) payload answer
+      (subst (λ k. WritesPiece stretch (framed_out k) s payload (piece_written answer) t) (sym same) wrote)
 
-  pub AllWritten-more : (s : Outgoing S) (payloads : List (List ℕ)) (m : Outgoing S) (payload : List ℕ) (t : Outgoing S)
-      → AllWritten stretch s payloads m → WritesFrame stretch m payload (Ok tt) t
-      → AllWritten stretch s (payloads ++ payload ∷ []) t
-  AllWritten-more s payloads m payload t run wrote =
-      subst (λ answers. WriteRuns stretch s (payloads ++ payload ∷ []) answers t)
-      (sym (map-append (λ p. Ok tt) payloads (payload ∷ [])))
-      (WriteRuns-more s payloads (all_ok payloads) m payload (Ok tt) t run wrote)
+  still : (s t : pieces.Outgoing S Frames) → s.encoder.max ≡ max → t.encoder ≡ s.encoder → t.encoder.max ≡ max
+  still s t same is = ap (λ d. d.max) is ∙ same
 
-  module _ (none : (x : S) → stretch x x) (joins : (a b c : S) → stretch a b → stretch b c → stretch a c) where
-    pub WriteRuns-taken : (s : Outgoing S) (payloads : List (List ℕ)) (answers : List WriteAnswer) (t : Outgoing S)
-        → WriteRuns stretch s payloads answers t → FramesTaken stretch s (all_accepted payloads answers) t
-    WriteRuns-taken s [] [] t e = subst (FramesTaken stretch s []) e (FramesTaken-none stretch none s)
-    WriteRuns-taken s [] (a ∷ answers) t run = absurd run
-    WriteRuns-taken s (p ∷ payloads) [] t run = absurd run
-    WriteRuns-taken s (p ∷ payloads) (a ∷ answers) t run =
-        FramesTaken-joins stretch joins s run.0 t (accepted_frames p a) (all_accepted payloads answers) run.1.went
-        (WriteRuns-taken run.0 payloads answers t run.2)
+  runs_of : (s : pieces.Outgoing S Frames) (payloads : List (List ℕ)) (t : pieces.Outgoing S Frames)
+      → s.encoder.max ≡ max → CallRuns (WritesPiece stretch (framed_out max)) s payloads (all_ok payloads) t
+      → CallRuns (WritesFrame stretch) (outgoing s) payloads (all_ok payloads) (outgoing t)
+  runs_of s [] t same run = ap outgoing run
+  runs_of s (payload ∷ payloads) t same run = (
+    outgoing run.0,
+    write_of (Ok tt) payload s run.0 same run.1,
+    runs_of run.0 payloads t (still s run.0 same run.1.went.encoder) run.2,
+  )
 
-    pub AllWritten-taken : (s : Outgoing S) (payloads : List (List ℕ)) (t : Outgoing S) → AllWritten stretch s payloads t
-        → FramesTaken stretch s payloads t
-    AllWritten-taken s payloads t run = subst (λ l. FramesTaken stretch s l t) (all_accepted-ok payloads)
-        (WriteRuns-taken s payloads (all_ok payloads) t run)
+  stopped_of : (s t : pieces.Outgoing S Frames) (payloads : List (List ℕ)) → s.encoder.max ≡ max → (e : WriteFrameError)
+      (why : WritePieceError ℕ) → piece_written (Err e) ≡ Err why
+      → runs.WritesEach stretch (framed_out max) s payloads (Err why) t
+      → WritesEach stretch (outgoing s) payloads (Err e) (outgoing t)
+  stopped_of s t payloads same e why is stopped =
+      let before = stopped.before in
+      let unchanged : before.encoder ≡ s.encoder = sym stopped.failed.went.encoder ∙ stopped.taken.encoder in
+      record {
+        done = stopped.done;
+        payload = stopped.payload;
+        later = stopped.later;
+        all = stopped.all;
+        before = outgoing before;
+        run = runs_of s stopped.done before same stopped.run;
+        failed = write_of (Err e) stopped.payload before t (still s before same unchanged)
+            (subst (λ a. WritesPiece stretch (framed_out max) before stopped.payload a t) (sym is) stopped.failed);
+        taken = taken_frames stretch s t stopped.done
+            (subst (λ k. PiecesTaken stretch (framed_out k) s stopped.done t) (sym same) stopped.taken);
+      }
+
+  pub each_of : (s t : pieces.Outgoing S Frames) (payloads : List (List ℕ)) (answer : calls.WriteAnswer ℕ)
+      → s.encoder.max ≡ max → runs.WritesEach stretch (framed_out max) s payloads answer t
+      → WritesEach stretch (outgoing s) payloads (frame_answer answer) (outgoing t)
+  each_of s t payloads (Ok _) same each = (
+    runs_of s payloads t same each.0,
+    taken_frames stretch s t payloads
+        (subst (λ k. PiecesTaken stretch (framed_out k) s payloads t) (sym same) each.1),
+  )
+  each_of s t payloads (Err (piece.Refused len)) same stopped =
+      stopped_of s t payloads same (TooLong len) (piece.Refused len) refl stopped
+  each_of s t payloads (Err (piece.Io e)) same stopped = stopped_of s t payloads same (Io e) (piece.Io e) refl stopped
+
+-- where it isn't about a payload, neither is it of a frame
+pub fault_of : {A B : Type 0} (answer : calls.WriteAnswer ℕ) → (B → A) → IfErr answer (λ e. A → runs.IsFault e)
+    → IfErr (frame_answer answer) (λ e. B → IsFault e)
+fault_of (Ok _) fit fault = tt
+fault_of (Err (piece.Refused len)) fit fault = λ b. fault (fit b)
+fault_of (Err (piece.Io e)) fit fault = λ b. tt
+
+-- a writer of frames stays one
+pub runs_whole : {S : Type 0} (stretch : S → S → Type 0) (s : Outgoing S) (payloads : List (List ℕ)) (t : Outgoing S)
+    → IsOutgoing s → CallRuns (WritesFrame stretch) s payloads (all_ok payloads) t → IsOutgoing t
+runs_whole stretch s [] t is run = subst IsOutgoing run is
+runs_whole stretch s (payload ∷ payloads) t is run = runs_whole stretch run.0 payloads t run.1.whole run.2
+
+pub each_whole : {S : Type 0} (stretch : S → S → Type 0) (s : Outgoing S) (payloads : List (List ℕ)) (answer : WriteAnswer)
+    (t : Outgoing S) → IsOutgoing s → WritesEach stretch s payloads answer t → IsOutgoing t
+each_whole stretch s payloads (Ok _) t is each = runs_whole stretch s payloads t is each.0
+each_whole stretch s payloads (Err e) t is stopped = stopped.failed.whole

@@ -1,11 +1,15 @@
 -- What the calls of a writer of frames promise.
-use Rattle.std.specs.Prelude.{◌≡◌, ℕ, ◌+◌, ◌<◌, ◌≤◌, List, [], ◌∷◌, ◌++◌, length, Result, Ok, Err, ⊤}
+use Rattle.std.specs.Prelude.{◌≡◌, ℕ, ◌+◌, ◌<◌, ◌≤◌, List, ◌++◌, length, Result, Ok, Err, ⊤}
 use Rattle.std.specs.List.{All}
 use Rattle.std.specs.declared.io.Error.{Error}
 use Rattle.buffer_redux.specs.Block.{Block}
 use Rattle.buffer_redux.specs.BufWriter.{WritesInOrder}
 use Rattle.buffer_redux.specs.Faults.{IsMemory, MetInterrupts, SendErrorCaused}
 use Rattle.buffer_redux.specs.Transfer.{Sends}
+use Rattle.codec.specs.declared.error.WritePieceError.{WritePieceError}
+use Rattle.codec.specs.declared.error.WritePieceError.TheVariants as piece
+use Rattle.codec.specs.WritePiece as pieces
+use Rattle.codec.specs.WritePiece.{accepted}
 use Rattle.frame_reader.specs.declared.error.WriteFrameError.{WriteFrameError}
 use Rattle.frame_reader.specs.declared.error.WriteFrameError.TheVariants.{TooLong, Io}
 use Rattle.frame_reader.specs.Frames.{Fits, frame, frames}
@@ -22,25 +26,24 @@ pub record FramesTaken {S : Type 0} (stretch : S → S → Type 0) (s : Outgoing
   pub limit : t.writer.block.limit ≡ s.writer.block.limit
   pub max : t.max ≡ s.max
 
--- these bytes were copied behind those that are buffered, and the inner writer wasn't called
-pub record PutsIn {S : Type 0} (stretch : S → S → Type 0) (s : Outgoing S) (bytes : List ℕ) (t : Outgoing S)
-    : Type 0 where
-  pub added : unsent t ≡ unsent s ++ bytes
-  pub told : t.writer.log ≡ s.writer.log
-  pub calls : stretch s.writer.inner t.writer.inner
-  pub capacity : t.writer.block.capacity ≡ s.writer.block.capacity
-  pub limit : t.writer.block.limit ≡ s.writer.block.limit
-  pub max : t.max ≡ s.max
-  pub whole : IsOutgoing t
-
 -- what a call of `write_frame` answers
 abbrev pub WriteAnswer : Type 0
 WriteAnswer = Result (Unit {0}) WriteFrameError
 
--- the payloads that an answer took in: the one, or none
-abbrev pub accepted_frames : List ℕ → WriteAnswer → List (List ℕ)
-accepted_frames payload (Ok _) = payload ∷ []
-accepted_frames payload (Err e) = []
+-- the error of a writer of pieces, of frames
+abbrev pub write_error : WritePieceError ℕ → WriteFrameError
+write_error (piece.Refused len) = TooLong len
+write_error (piece.Io e) = Io e
+
+-- its answer, of frames, and the other way
+abbrev pub frame_answer : pieces.WriteAnswer ℕ → WriteAnswer
+frame_answer (Ok _) = Ok tt
+frame_answer (Err e) = Err (write_error e)
+
+abbrev pub piece_written : WriteAnswer → pieces.WriteAnswer ℕ
+piece_written (Ok _) = Ok tt
+piece_written (Err (TooLong len)) = Err (piece.Refused len)
+piece_written (Err (Io e)) = Err (piece.Io e)
 
 -- what each answer means. No answer leaves a part of the frame
 abbrev pub WriteFrameAnswers : {S : Type 0} → Outgoing S → List ℕ → WriteAnswer → Outgoing S → Type 0
@@ -78,7 +81,7 @@ SendsFirst s payload (Err (TooLong len)) t = ⊥
 -- what one call of `write_frame` does
 pub record WritesFrame {S : Type 0} (stretch : S → S → Type 0) (s : Outgoing S) (payload : List ℕ)
     (answer : WriteAnswer) (t : Outgoing S) : Type 0 where
-  pub went : FramesTaken stretch s (accepted_frames payload answer) t
+  pub went : FramesTaken stretch s (accepted payload answer) t
   pub answers : WriteFrameAnswers s payload answer t
   pub fits : Fits s.max payload → 2 + length payload ≤ room s → FrameAdded s payload answer t
   pub full : Fits s.max payload → room s < 2 + length payload → SendsFirst s payload answer t

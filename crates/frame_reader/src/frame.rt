@@ -1,8 +1,8 @@
-//! Frames as pieces: which bytes are one.
+//! Frames as pieces: which bytes are one, and which are written.
 ghost use Rattle.std.specs.Prelude.{◌≤◌, length};
 ghost use Rattle.frame_reader.specs.Frames.{AreBytes, BeginsWith};
 
-use codec::{Decoder, End, Found, Span};
+use codec::{Codec, Decoder, Encoder, End, Found, Head, Span};
 
 /// How many bytes the length of a frame takes.
 pub const HEADER: usize = 2;
@@ -56,6 +56,41 @@ impl Decoder for Frames {
     }
 
     ghost lawful = { λ d. framed_lawful d.max };
+}
+
+/// A payload that is longer is refused by its length.
+impl Encoder for Frames {
+    ghost use Rattle.frame_reader.specs.Framed.{framed_out};
+    ghost use Rattle.frame_reader.specs.FramedLaws.{framed_writable};
+
+    type Refusal = usize;
+
+    ghost encoding = { λ d. framed_out d.max };
+
+    fn most_written(&self) -> usize {
+        HEADER + usize::from(self.max)
+    }
+
+    #[inline(always)]
+    fn head(&self, payload: &[u8]) -> Result<Head, usize> {
+        if payload.len() > usize::from(self.max) {
+            return Err(payload.len());
+        }
+        Ok(Head::new(&(payload.len() as u16).to_be_bytes()))
+    }
+
+    #[inline(always)]
+    fn tail(&self) -> &[u8] {
+        b""
+    }
+
+    ghost writable = { λ d. framed_writable d.max };
+}
+
+impl Codec for Frames {
+    ghost use Rattle.frame_reader.specs.FramedLaws.{framed_back};
+
+    ghost reads_back = { λ d. framed_back d.max };
 }
 
 // The length of the payload of the frame that bytes begin with.

@@ -4,8 +4,7 @@
 //! A frame is a length of two bytes, the higher first, and then so many bytes, its payload. A stream of bytes may come in
 //! whatever pieces: the frames that are handed out, then what is left, are the stream.
 //!
-//! The crate stands on what `buffer_redux` promises, and on nothing else of it: it shows what a protocol needs of a buffered
-//! reader and a buffered writer.
+//! The crate stands on what `codec` promises of pieces: it shows how a protocol gets names, errors and promises of its own.
 #![tactic(auto)]
 
 mod error;

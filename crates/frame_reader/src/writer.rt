@@ -1,23 +1,20 @@
 //! The writer of frames.
-ghost use Rattle.std.specs.Prelude.{◌≡◌, ◌+◌, ◌^◌, ◌<◌, ◌≤◌, [], length, Ok, Err, IfOk, IfErr, MatchResult};
-ghost use Rattle.buffer_redux.specs.Block.{IsBlock, usable};
+ghost use Rattle.std.specs.Prelude.{◌≡◌, ◌^◌, [], Ok, Err, IfOk, IfErr, MatchResult};
 ghost use Rattle.buffer_redux.specs.BufWriter.{WasFlushed, WasSent};
 ghost use Rattle.buffer_redux.specs.Unwrapping.{InnerOfFlushed};
 ghost use Rattle.buffer_redux.specs.GrowError.{FitsWithin};
 ghost use Rattle.buffer_redux.specs.MakeError.{growth};
-ghost use Rattle.codec.specs.Piecing.{IsFixed};
-ghost use Rattle.frame_reader.specs.Frames.{Fits, frame};
 ghost use Rattle.frame_reader.specs.Framing.{frame_capacity};
-ghost use Rattle.frame_reader.specs.Outgoing.{IsOutgoing, IsUnused, room};
-ghost use Rattle.frame_reader.specs.WriteFrame.{FramesTaken, PutsIn, WritesFrame};
+ghost use Rattle.frame_reader.specs.Outgoing.{IsOutgoing, IsUnused};
+ghost use Rattle.frame_reader.specs.WriteFrame.{FramesTaken, WritesFrame, frame_answer, write_error};
 
 use crate::error::WriteFrameError;
-use crate::frame::HEADER;
+use crate::frame::Frames;
 use buffer_redux::tell::TellWrite;
-use buffer_redux::{BufWriter, Buffer, DEFAULT_BUF_SIZE, GrowError, IntoInnerError, MakeError};
+use buffer_redux::{Buffer, DEFAULT_BUF_SIZE, GrowError, IntoInnerError, MakeError};
+use codec::{PieceWriter, WritePieceError};
 use std::alloc::Global;
 use std::io;
-use std::io::Write;
 use std::marker::Model;
 
 /// A writer of frames whose payload has at most so many bytes. A frame is taken in whole, or not at all.
@@ -33,18 +30,17 @@ use std::marker::Model;
 /// ```
 #[derive(Drop)]
 pub struct FrameWriter<W: TellWrite> {
-    writer: BufWriter<W>,
-    max: u16,
+    pub(crate) pieces: PieceWriter<W, Frames>,
 }
 
 impl<W: TellWrite> Model for FrameWriter<W> {
-    ghost use Rattle.frame_reader.specs.Outgoing.{Outgoing, IsOutgoing};
+    ghost use Rattle.frame_reader.specs.Outgoing.{Outgoing, IsOutgoing, outgoing};
 
     ghost Value = { Outgoing W };
 
-    ghost view = { λ f. record { writer = f.writer; max = f.max } };
+    ghost view = { λ f. outgoing f.pieces };
 
-    ghost invariant = { λ f. IsOutgoing (record { writer = f.writer; max = f.max }) };
+    ghost invariant = { λ f. IsOutgoing (outgoing f.pieces) };
 }
 
 impl<W: TellWrite> FrameWriter<W> {
@@ -73,12 +69,9 @@ impl<W: TellWrite> FrameWriter<W> {
         ensures handed_back { IfErr result (λ e. e.0 ≡ inner) }
         ensures within { FitsWithin (growth result) (frame_capacity capacity max) (2 ^ 62) }
     {
-        match frame_buffer(alloc, capacity, max) {
-            Ok(buffer) => Ok(FrameWriter {
-                writer: BufWriter::with_buffer(buffer, inner),
-                max,
-            }),
-            Err(e) => Err(MakeError(inner, e)),
+        match PieceWriter::with_capacity(alloc, capacity, inner, Frames { max }) {
+            Ok(pieces) => Ok(FrameWriter { pieces }),
+            Err(MakeError(back, e)) => Err(MakeError(back.0, e)),
         }
     }
 
@@ -88,7 +81,7 @@ impl<W: TellWrite> FrameWriter<W> {
         ensures log { W.log result.now ≡ self.now.writer.log }
         ensures whole { IsOutgoing self.now }
     {
-        self.writer.get_ref()
+        self.pieces.get_ref()
     }
 
     /// Takes the payload's frame in. It is sent where a later frame finds no room, by [`send`](FrameWriter::send) and
@@ -100,14 +93,11 @@ impl<W: TellWrite> FrameWriter<W> {
     pub fn write_frame(&mut self, payload: &[u8]) -> Result<(), WriteFrameError>
         ensures { WritesFrame W.stretch self.old payload.now result self.new }
     {
-        if payload.len() > usize::from(self.max) {
-            return Err(WriteFrameError::TooLong(payload.len()));
+        match self.pieces.write_buffered(payload) {
+            Ok(true) => Ok(()),
+            Ok(false) => self.write_aside(payload),
+            Err(len) => Err(WriteFrameError::TooLong(len)),
         }
-        if self.writer.capacity() - self.writer.buf_len() < HEADER + payload.len() {
-            return self.write_aside(payload);
-        }
-        self.take_in(payload);
-        Ok(())
     }
 
     /// Sends all frames, without a flush of the inner writer. Where that fails, just what the inner writer took is no longer
@@ -117,7 +107,7 @@ impl<W: TellWrite> FrameWriter<W> {
         ensures went { FramesTaken W.stretch self.old [] self.new }
         ensures whole { IsOutgoing self.new }
     {
-        self.writer.send()
+        self.pieces.send()
     }
 
     /// Sends all frames, and flushes the inner writer.
@@ -126,7 +116,7 @@ impl<W: TellWrite> FrameWriter<W> {
         ensures went { FramesTaken W.stretch self.old [] self.new }
         ensures whole { IsOutgoing self.new }
     {
-        self.writer.flush()
+        self.pieces.flush()
     }
 
     /// Flushes, and hands the inner writer back; where that fails, the writer with the bytes that were not sent, and the
@@ -150,68 +140,46 @@ impl<W: TellWrite> FrameWriter<W> {
         ensures log { W.log result.0 ≡ self.writer.log }
         ensures block { result.1 ≡ self.writer.block }
     {
-        let FrameWriter { writer, max: _ } = self;
-        writer.into_inner_with_buffer()
-    }
-
-    // Sends all that is buffered, and then takes the frame in. It stands apart, so that a frame for which there is room is short
-    // in its caller.
-    #[cold]
-    #[inline(never)]
-    fn write_slowly(&mut self, payload: &[u8]) -> Result<(), WriteFrameError>
-        requires fits { Fits self.old.max payload.now }
-        requires full { room self.old < HEADER + length payload.now }
-        ensures { WritesFrame W.stretch self.old payload.now result self.new }
-    {
-        self.send()?;
-        self.take_in(payload);
-        Ok(())
+        let FrameWriter { pieces } = self;
+        pieces.into_inner_with_buffer()
     }
 
     // Goes on in `write_slowly`. The kit's compiler clears the answer of a call where the function that makes the call begins; of
-    // a call made in here, which is inlined, that is behind the tests of `write_frame`.
+    // a call made in here, which is inlined, that is behind the look at the room.
     #[inline(always)]
     fn write_aside(&mut self, payload: &[u8]) -> Result<(), WriteFrameError>
-        requires fits { Fits self.old.max payload.now }
-        requires full { room self.old < HEADER + length payload.now }
         ensures { WritesFrame W.stretch self.old payload.now result self.new }
     {
         self.write_slowly(payload)
     }
 
-    // Copies the frame in, for which there is room.
-    #[inline(always)]
-    fn take_in(&mut self, payload: &[u8])
-        requires fits { Fits self.old.max payload.now }
-        requires room { HEADER + length payload.now ≤ room self.old }
-        ensures { PutsIn W.stretch self.old (frame payload.now) self.new }
+    // Takes the frame in, also where all that is buffered is to be sent before. It stands apart, so that a frame for which there
+    // is room is short in its caller.
+    #[cold]
+    #[inline(never)]
+    fn write_slowly(&mut self, payload: &[u8]) -> Result<(), WriteFrameError>
+        ensures { WritesFrame W.stretch self.old payload.now result self.new }
     {
-        self.writer.make_room();
-        self.put(&(payload.len() as u16).to_be_bytes());
-        self.put(payload);
-    }
-
-    // Copies bytes in, for which there is room.
-    #[inline(always)]
-    fn put(&mut self, bytes: &[u8])
-        requires room { length bytes.now ≤ usable self.old.writer.block }
-        requires inside { length bytes.now < self.old.writer.block.capacity }
-        ensures put { PutsIn W.stretch self.old bytes.now self.new }
-        ensures usable { usable self.old.writer.block ≤ usable self.new.writer.block + length bytes.now }
-    {
-        let _ = self.writer.write(bytes);
+        answered(self.pieces.write_piece(payload))
     }
 }
 
-// An empty plain buffer of so many bytes for frames whose payload has at most `max`, which no call lets grow. It has more
-// where any three of them wouldn't fit.
-fn frame_buffer(alloc: Global, capacity: usize, max: u16) -> Result<Buffer, GrowError>
-    ensures made { IfOk result (IsFixed (frame_capacity capacity max)) }
-    ensures whole { IfOk result IsBlock }
-    ensures within { FitsWithin result (frame_capacity capacity max) (2 ^ 62) }
+// What a call of the writer of pieces answered, of frames.
+pub(crate) fn answered(answer: Result<(), WritePieceError<usize>>) -> Result<(), WriteFrameError>
+    ensures { result ≡ frame_answer answer }
 {
-    let capacity = capacity.max(3 * (HEADER + usize::from(max)));
-    let mut buffer = Buffer::with_capacity(alloc, capacity)?;
-    buffer.set_limit(capacity)?;
-    Ok(buffer)
+    match answer {
+        Ok(()) => Ok(()),
+        Err(e) => Err(unwritten(e)),
+    }
+}
+
+// Why a frame was not taken in.
+pub(crate) fn unwritten(e: WritePieceError<usize>) -> WriteFrameError
+    ensures { result ≡ write_error e }
+{
+    match e {
+        WritePieceError::Refused(len) => WriteFrameError::TooLong(len),
+        WritePieceError::Io(e) => WriteFrameError::Io(e),
+    }
 }

@@ -1,12 +1,12 @@
 //! Lists of payloads, written and read again.
-ghost use Rattle.std.specs.Prelude.{◌≡◌, map, Ok, IfOk, IfErr, OnOk};
+ghost use Rattle.std.specs.Prelude.{◌≡◌, ◌⊎◌, map, Ok, IfOk, IfErr, OnOk};
 ghost use Rattle.std.specs.List.{All};
 ghost use Rattle.codec.specs.Encoding.{all_coded};
-ghost use Rattle.codec.specs.KnownPieces.{HasLeft, LeavesPieces, ReadStopped};
+ghost use Rattle.codec.specs.KnownPieces.{BufferRefused, HasLeft, LeavesPieces, ReadStopped};
 ghost use Rattle.codec.specs.NextPiece.{NextPiece};
 ghost use Rattle.codec.specs.Runs.{AllRead, NextFails, kept_answer};
 ghost use Rattle.codec.specs.Texts.{HasPieces};
-ghost use Rattle.codec.specs.WriteRuns.{IsFault, WritesEach};
+ghost use Rattle.codec.specs.WriteRuns.{IfFault, IsFault, WritesEach};
 
 use crate::both::{Codec, written_text};
 use crate::decoder::Decoder;
@@ -15,7 +15,7 @@ use crate::error::{NextError, WritePieceError};
 use crate::laws::runs::step_copied;
 use crate::reader::PieceReader;
 use crate::writer::PieceWriter;
-use buffer_redux::tell::{TellRead, TellWrite, Told};
+use buffer_redux::tell::{MemoryReader, MemoryWriter, TellRead, TellWrite};
 use std::alloc::Global;
 use std::io;
 
@@ -80,7 +80,7 @@ fn next_of_known<R: TellRead, D: Decoder>(
 }
 
 /// Payloads that are written and flushed are read again, each of them whole, in order, and no other. Where none is refused an
-/// `Err` is an `Io`.
+/// `Err` is an `Io`: want of memory, or of a buffer for the pieces, which no memory holds.
 pub fn round_trip<C: Codec + Copy>(
     alloc: Global,
     codec: C,
@@ -89,6 +89,8 @@ pub fn round_trip<C: Codec + Copy>(
     ensures same { IfOk result (λ kept. map (λ v. v.items) kept.items ≡ map (λ v. v.items) payloads.now) }
     ensures fit { OnOk result (All (C.encoding codec).takes (map (λ v. v.items) payloads.now)) }
     ensures fault { IfErr result (λ e. All (C.encoding codec).takes (map (λ v. v.items) payloads.now) → IsFault e) }
+    ensures refused { IfErr result (IfFault (λ e.
+        BufferRefused (C.encoding codec).most e ⊎ BufferRefused (C.grammar codec).most e)) }
 {
     let bytes = written(alloc, codec, payloads)?;
     written_text(&codec);
@@ -103,14 +105,20 @@ fn written<E: Encoder>(
 ) -> Result<Vec<u8>, WritePieceError<E::Refusal>>
     ensures fit { OnOk result (All (E.encoding encoder).takes (map (λ v. v.items) payloads.now)) }
     ensures fault { IfErr result (λ e. All (E.encoding encoder).takes (map (λ v. v.items) payloads.now) → IsFault e) }
+    ensures refused { IfErr result (IfFault (BufferRefused (E.encoding encoder).most)) }
     ensures pieces { IfOk result (λ bytes.
         bytes.items ≡ all_coded (E.encoding encoder) (map (λ v. v.items) payloads.now)) }
 {
-    let inner = Told::new(Vec::new(alloc));
+    let inner = MemoryWriter::new(alloc);
     let mut writer = PieceWriter::new(alloc, inner, encoder).map_err(io::Error::from)?;
-    write_each(&mut writer, payloads)?;
-    let inner = writer.into_inner().map_err(io::Error::from)?;
-    Ok(inner.into_inner())
+    let wrote = write_each(&mut writer, payloads);
+    // What it tells is what the stream inside tells, which says why that failed.
+    let _ = writer.get_ref();
+    wrote?;
+    match writer.into_inner() {
+        Ok(inner) => Ok(inner.into_vec()),
+        Err(e) => Err(WritePieceError::Io(e.into_error())),
+    }
 }
 
 // The payloads of the pieces, which are known to be these.
@@ -122,7 +130,10 @@ fn read_back<D: Decoder>(
 ) -> io::Result<Vec<Vec<u8>>>
     requires pieces { HasPieces (D.grammar decoder) bytes.now (map (λ v. v.items) payloads.now) }
     ensures same { IfOk result (λ kept. map (λ v. v.items) kept.items ≡ map (λ v. v.items) payloads.now) }
+    ensures refused { IfErr result (BufferRefused (D.grammar decoder).most) }
 {
-    let mut reader = PieceReader::new(alloc, Told::new(bytes), decoder)?;
-    read_each(alloc, &mut reader, payloads)
+    let mut reader = PieceReader::new(alloc, MemoryReader::new(bytes), decoder)?;
+    let read = read_each(alloc, &mut reader, payloads);
+    let _ = reader.get_ref();
+    read
 }

@@ -1,17 +1,16 @@
 //! Lists of payloads, written and read again.
 ghost use Rattle.std.specs.Prelude.{◌≡◌, map, IfOk, IfErr, OnOk};
 ghost use Rattle.std.specs.List.{All};
-ghost use Rattle.frame_reader.specs.Frames.{Fits, frames};
+ghost use Rattle.frame_reader.specs.Frames.{Fits};
 ghost use Rattle.frame_reader.specs.KnownFrames.{HasLeft, ReadStopped};
 ghost use Rattle.frame_reader.specs.Runs.{AllRead, WritesEach};
-ghost use Rattle.buffer_redux.specs.Faults.{IsMemory};
 ghost use Rattle.frame_reader.specs.WriteFrame.{IsFault, IsWantOfMemory};
 
 use crate::error::WriteFrameError;
-use crate::frame::are_bytes;
+use crate::frame::{Frames, are_bytes};
 use crate::reader::FrameReader;
-use crate::writer::FrameWriter;
-use buffer_redux::tell::{MemoryReader, MemoryWriter, TellRead, TellWrite};
+use crate::writer::{FrameWriter, answered, unwritten};
+use buffer_redux::tell::{TellRead, TellWrite};
 use std::alloc::Global;
 use std::io;
 
@@ -24,10 +23,7 @@ pub fn write_each<W: TellWrite>(
     ensures fault { IfErr result (λ e.
         All (Fits writer.old.max) (map (λ v. v.items) payloads.now) → IsFault e) }
 {
-    for payload in payloads {
-        writer.write_frame(payload)?;
-    }
-    Ok(())
+    answered(codec::laws::write_each(&mut writer.pieces, payloads))
 }
 
 /// Reads frames of which it is known that their payloads are these, and no others. An `Err` is refused memory, or the
@@ -60,43 +56,8 @@ pub fn round_trip(
     ensures fault { IfErr result (λ e. All (Fits max) (map (λ v. v.items) payloads.now) → IsFault e) }
     ensures memory { IfErr result IsWantOfMemory }
 {
-    let bytes = written(alloc, payloads, max)?;
-    Ok(read_back(alloc, bytes.as_slice(), payloads, max)?)
-}
-
-// The frames of the payloads.
-fn written(alloc: Global, payloads: &[Vec<u8>], max: u16) -> Result<Vec<u8>, WriteFrameError>
-    ensures fit { OnOk result (All (Fits max) (map (λ v. v.items) payloads.now)) }
-    ensures fault { IfErr result (λ e. All (Fits max) (map (λ v. v.items) payloads.now) → IsFault e) }
-    ensures memory { IfErr result IsWantOfMemory }
-    ensures frames { IfOk result (λ bytes. bytes.items ≡ frames (map (λ v. v.items) payloads.now)) }
-{
-    let inner = MemoryWriter::new(alloc);
-    let mut writer = FrameWriter::new(alloc, inner, max).map_err(io::Error::from)?;
-    let wrote = write_each(&mut writer, payloads);
-    // What it tells is what the stream inside tells, which says why that failed.
-    let _ = writer.get_ref();
-    wrote?;
-    match writer.into_inner() {
-        Ok(inner) => Ok(inner.into_vec()),
-        Err(e) => Err(WriteFrameError::Io(e.into_error())),
+    match codec::laws::round_trip(alloc, Frames { max }, payloads) {
+        Ok(kept) => Ok(kept),
+        Err(e) => Err(unwritten(e)),
     }
-}
-
-// The payloads of the frames, which are known to be these.
-fn read_back(
-    alloc: Global,
-    bytes: &[u8],
-    payloads: &[Vec<u8>],
-    max: u16,
-) -> io::Result<Vec<Vec<u8>>>
-    requires fit { All (Fits max) (map (λ v. v.items) payloads.now) }
-    requires frames { bytes.now ≡ frames (map (λ v. v.items) payloads.now) }
-    ensures same { IfOk result (λ kept. map (λ v. v.items) kept.items ≡ map (λ v. v.items) payloads.now) }
-    ensures memory { IfErr result IsMemory }
-{
-    let mut reader = FrameReader::new(alloc, MemoryReader::new(bytes), max)?;
-    let read = read_each(alloc, &mut reader, payloads);
-    let _ = reader.get_ref();
-    read
 }

@@ -1,44 +1,38 @@
-use Rattle.std.proofs.Common.{map, subst, Ok, Err, arith}
-use Rattle.std.proofs.lemmas.Result.{err_from_is_err_and}
-use Rattle.frame_reader.specs.Runs.{WriteStopped}
-use Rattle.frame_reader.specs.WriteFrame.{WritesFrame}
-use Rattle.frame_reader.proofs.Stepping.{stopped_fault, written_all, written_more, written_stops}
+use Rattle.std.proofs.Common.{map, refl, subst, sym, IfErr}
+use Rattle.std.specs.List.{All}
+use Rattle.frame_reader.specs.FramedLaws.{all_taken}
+use Rattle.frame_reader.specs.Frames.{Fits}
+use Rattle.frame_reader.specs.Outgoing.{outgoing}
+use Rattle.frame_reader.specs.Runs.{WritesEach}
+use Rattle.frame_reader.specs.RunsLaws.{each_of, each_whole, fault_of}
+use Rattle.frame_reader.specs.WriteFrame.{IsFault, frame_answer}
 use Rattle.frame_reader.proofs.laws.lists.write_each.Goals as goal
 
-stopped : (g : _) (c : goal.After-from_residual g)
-    → WriteStopped g.W.TellWrite.stretch c.args.writer.now (map (λ v. v.items) c.args.payloads.now)
-    c.in_err-write_frame.field-0.0 c.write_frame.new.self
-stopped g c =
-    let stretch = g.W.TellWrite.stretch in
-    written_stops (λ v. v.items) c.args.payloads.now c.loop-payload.payload-index c.payload-item.result
-    c.loop-payload-test.true c.payload-item.is stretch c.args.writer.now c.loop-payload.writer c.write_frame.new.self
-    g.met.W.TellWrite.stretch_none g.met.W.TellWrite.stretch_joins _ c.loop-payload.invariant
-    (subst (λ p. WritesFrame stretch c.loop-payload.writer p (Err c.in_err-write_frame.field-0.0) c.write_frame.new.self)
-    c.deref.ensures.value c.in_err-write_frame.ensures)
-
-pub returns-in_err-write_frame-clause-each : goal.returns-in_err-write_frame-clause-each
-returns-in_err-write_frame-clause-each g c =
-    let p = err_from_is_err_and c.from_residual.result c.from_residual.ensures.1 in
-    rw (p.1, p.2) (stopped g c)
-
-pub returns-in_err-write_frame-clause-fault : goal.returns-in_err-write_frame-clause-fault
-returns-in_err-write_frame-clause-fault g c =
-    let p = err_from_is_err_and c.from_residual.result c.from_residual.ensures.1 in
-    rw (p.1, p.2)
-    (stopped_fault g.W.TellWrite.stretch c.args.writer.now (map (λ v. v.items) c.args.payloads.now) _
-    c.write_frame.new.self (stopped g c))
-
-pub loop-payload-preserved : goal.loop-payload-preserved
-loop-payload-preserved g c =
-    let stretch = g.W.TellWrite.stretch in
-    written_more (λ v. v.items) c.args.payloads.now c.loop-payload.payload-index c.payload-item.result
-    c.loop-payload-test.true c.payload-item.is stretch c.args.writer.now c.loop-payload.writer c.write_frame.new.self
-    c.loop-payload.invariant
-    (subst (λ p. WritesFrame stretch c.loop-payload.writer p (Ok tt) c.write_frame.new.self)
-    c.deref.ensures.value c.in_ok-write_frame.ensures)
+pub invariant_of-writer : goal.invariant_of-writer
+invariant_of-writer g c =
+    let s = c.writer.inside.pieces in
+    let payloads = map (λ v. v.items) c.args.payloads.now in
+    each_whole g.W.TellWrite.stretch (outgoing s) payloads (frame_answer c.write_each.result)
+    (outgoing c.write_each.new.writer) c.writer.invariant
+    (each_of g.W.TellWrite.stretch s.encoder.max c.writer.invariant.word s c.write_each.new.writer payloads c.write_each.result
+    refl c.write_each.ensures.each)
 
 pub returns-clause-each : goal.returns-clause-each
 returns-clause-each g c =
-    written_all (λ v. v.items) c.args.payloads.now c.loop-payload.payload-index g.W.TellWrite.stretch
-    g.met.W.TellWrite.stretch_none g.met.W.TellWrite.stretch_joins c.args.writer.now c.loop-payload.writer
-    (omega (arith, c.loop-payload-test.false)) c.loop-payload.invariant
+    let stretch = g.W.TellWrite.stretch in
+    let s = c.writer.inside.pieces in
+    let t = c.write_each.new.writer in
+    let payloads = map (λ v. v.items) c.args.payloads.now in
+    subst (λ x. WritesEach stretch x payloads c.answered.result (outgoing t)) c.writer.view_is
+    (subst (λ a. WritesEach stretch (outgoing s) payloads a (outgoing t)) (sym c.answered.ensures)
+    (each_of stretch s.encoder.max c.writer.invariant.word s t payloads c.write_each.result refl c.write_each.ensures.each))
+
+pub returns-clause-fault : goal.returns-clause-fault
+returns-clause-fault g c =
+    let s = c.writer.inside.pieces in
+    let payloads = map (λ v. v.items) c.args.payloads.now in
+    subst (λ a. IfErr a (λ e. All (Fits c.args.writer.now.max) payloads → IsFault e)) (sym c.answered.ensures)
+    (fault_of c.write_each.result
+    (λ fit. all_taken s.encoder.max c.writer.invariant.word payloads
+    (subst (λ x. All (Fits x.max) payloads) (sym c.writer.view_is) fit))
+    c.write_each.ensures.fault)

@@ -1,9 +1,9 @@
 use Rattle.std.proofs.Common.{vec_capacity, ◌+◌, ◌++◌, ◌∷◌, [], true, false, arith, length-append, ap, subst, ◌∙◌, append_assoc}
 use Rattle.std.proofs.lemmas.List.{length-map}
 use Rattle.std.proofs.lemmas.Result.{err_from_is_err_and}
-use Rattle.frame_reader.specs.WriteFrame.{WritesFrame}
-use Rattle.frame_reader.proofs.Recording.{write_played}
-use Rattle.frame_reader.proofs.Stepping.{run_more}
+use Rattle.codec.specs.WriteRunsLaws.{calls_played, run_more}
+use Rattle.frame_reader.specs.WriteFrame.{FramesTaken, WritesFrame}
+use Rattle.frame_reader.specs.WriteFrameLaws.{FramesTaken-none, FramesTaken-joins}
 use Rattle.frame_reader.proofs.laws.runs.play_write_frame.Goals as goal
 
 pub returns-in_err-reserve : goal.returns-in_err-reserve
@@ -12,9 +12,11 @@ returns-in_err-reserve g c =
     let stretch = g.W.TellWrite.stretch in
     let p = err_from_is_err_and c.from_residual.result c.from_residual.ensures.1 in
     rw (p.1)
-    (write_played (λ v. v.items) c.args.payloads.now c.loop-payload.payload-index stretch g.met.W.TellWrite.stretch_none
-    g.met.W.TellWrite.stretch_joins c.args.writer.now c.loop-payload.writer c.args.answers.now.items c.reserve.new.self.items
-    inv.answers (c.reserve.ensures.items ∙ inv.gained) inv.count inv.run (vec_capacity c.args.answers.now) false (
+    (calls_played (WritesFrame stretch) (FramesTaken stretch) (FramesTaken-none stretch g.met.W.TellWrite.stretch_none)
+    (FramesTaken-joins stretch g.met.W.TellWrite.stretch_joins) (λ _ _ _ _ wrote. wrote.went) (λ v. v.items)
+    c.args.payloads.now c.loop-payload.payload-index c.args.writer.now c.loop-payload.writer c.args.answers.now.items
+    c.reserve.new.self.items inv.answers (c.reserve.ensures.items ∙ inv.gained) inv.count inv.run
+    (vec_capacity c.args.answers.now) false (
       omega (arith, inv.count, c.loop-payload-test.true, length-map c.args.payloads.now (λ v. v.items)),
       omega (arith, inv.capacity, c.in_err-reserve.ensures.full, c.in_err-reserve.ensures.len),
     ))
@@ -31,9 +33,10 @@ loop-payload-preserved g c =
           ∙ append_assoc c.args.answers.now.items inv.answers (answer ∷ []);
       count = length-append inv.answers (answer ∷ []) ∙ ap (λ n. n + 1) inv.count;
       capacity = omega (arith, inv.capacity, c.in_ok-reserve.ensures.capacity, c.push_reserved.ensures.capacity);
-      run = run_more (λ v. v.items) c.args.payloads.now c.loop-payload.payload-index c.payload-item.result
-          c.loop-payload-test.true c.payload-item.is stretch c.args.writer.now c.loop-payload.writer
-          c.write_frame.new.self inv.answers answer inv.run
+      run = run_more (WritesFrame stretch) (FramesTaken stretch) (FramesTaken-none stretch g.met.W.TellWrite.stretch_none)
+          (FramesTaken-joins stretch g.met.W.TellWrite.stretch_joins) (λ _ _ _ _ wrote. wrote.went) (λ v. v.items)
+          c.args.payloads.now c.loop-payload.payload-index c.args.writer.now c.loop-payload.writer c.payload-item.result
+          c.loop-payload-test.true c.payload-item.is inv.answers answer c.write_frame.new.self inv.run
           (subst (λ p. WritesFrame stretch c.loop-payload.writer p answer c.write_frame.new.self)
           c.deref.ensures.value c.write_frame.ensures);
     }
@@ -41,10 +44,11 @@ loop-payload-preserved g c =
 pub returns : goal.returns
 returns g c =
     let inv = c.loop-payload.invariant in
-    write_played (λ v. v.items) c.args.payloads.now c.loop-payload.payload-index g.W.TellWrite.stretch
-    g.met.W.TellWrite.stretch_none g.met.W.TellWrite.stretch_joins c.args.writer.now c.loop-payload.writer
-    c.args.answers.now.items c.loop-payload.answers.items inv.answers inv.gained inv.count inv.run
-    (vec_capacity c.args.answers.now) true
+    let stretch = g.W.TellWrite.stretch in
+    calls_played (WritesFrame stretch) (FramesTaken stretch) (FramesTaken-none stretch g.met.W.TellWrite.stretch_none)
+    (FramesTaken-joins stretch g.met.W.TellWrite.stretch_joins) (λ _ _ _ _ wrote. wrote.went) (λ v. v.items)
+    c.args.payloads.now c.loop-payload.payload-index c.args.writer.now c.loop-payload.writer c.args.answers.now.items
+    c.loop-payload.answers.items inv.answers inv.gained inv.count inv.run (vec_capacity c.args.answers.now) true
     (omega (
       arith,
       inv.count,
