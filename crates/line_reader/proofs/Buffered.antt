@@ -1,12 +1,12 @@
 -- What is handed out of what is buffered alone.
-use Rattle.std.proofs.Common.{◌≡◌, ℕ, ◌+◌, ◌<◌, ◌≤◌, List, [], ◌∷◌, ◌++◌, length, min, take, Option, inl, inr, refl, sym, ap, subst, ◌∙◌, arith}
+use Rattle.std.proofs.Common.{◌≡◌, ℕ, ◌+◌, List, [], length, min, take, Option, inl, inr, refl, sym, ap, subst, ◌∙◌, arith}
 use Rattle.std.proofs.lemmas.Bool.{cases_lt}
 use Rattle.std.proofs.lemmas.List.{take_all}
-use Rattle.line_reader.specs.Lines.{BeginsWhole, IsLine, newline}
+use Rattle.line_reader.specs.Lines.{BeginsWhole, IsLine}
 use Rattle.line_reader.specs.LinesLaws.{no-end-within}
 use Rattle.line_reader.specs.LinesWentLaws.{LinesWent-inside}
 use Rattle.line_reader.specs.Lining.{IsLining, Lining, rest}
-use Rattle.line_reader.specs.NextLine.{NextBuffered, StaysLeft}
+use Rattle.line_reader.specs.NextLine.{StaysLeft}
 use Rattle.line_reader.specs.Steps.{SearchesAll}
 
 -- where no end stands in so many bytes, or in all, no line that fits stands there

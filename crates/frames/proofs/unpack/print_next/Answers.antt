@@ -22,7 +22,8 @@ returns-in-Ok-Went-clause-unpacks g c =
     let v = c.try_frame.new.target in
     retried remaining c.args.source.now c.tries.source t c.args.target.now v before.went before.met c.tries.target
     before.target (Ok true)
-    (subst (λ x. UnpacksOnce remaining c.tries.source c.tries.target (Ok x) t v) c.in-Ok-Went.field-0-is c.in-Ok-Went.ensures.unpacks)
+    (subst (λ x. UnpacksOnce remaining c.tries.source c.tries.target (Ok x) t v) c.in-Ok-Went.field-0-is
+    c.in-Ok-Went.ensures.unpacks)
 
 pub returns-in-Ok-End-clause-unpacks : goal.returns-in-Ok-End-clause-unpacks
 returns-in-Ok-End-clause-unpacks g c =
@@ -32,7 +33,8 @@ returns-in-Ok-End-clause-unpacks g c =
     let v = c.try_frame.new.target in
     retried remaining c.args.source.now c.tries.source t c.args.target.now v before.went before.met c.tries.target
     before.target (Ok false)
-    (subst (λ x. UnpacksOnce remaining c.tries.source c.tries.target (Ok x) t v) c.in-Ok-End.field-0-is c.in-Ok-End.ensures.unpacks)
+    (subst (λ x. UnpacksOnce remaining c.tries.source c.tries.target (Ok x) t v) c.in-Ok-End.field-0-is
+    c.in-Ok-End.ensures.unpacks)
 
 pub returns-then-is_answered-clause-unpacks : goal.returns-then-is_answered-clause-unpacks
 returns-then-is_answered-clause-unpacks g c =
