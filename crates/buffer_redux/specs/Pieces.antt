@@ -70,4 +70,4 @@ GivesLine remaining rules s (Some (Ok text)) t = (line : List ℕ) × GivesWhole
     × (string_bytes text ≡ without_end line)
 GivesLine remaining rules s (Some (Err e)) t = Stopped remaining rules s e t
     ⊎ ((line : List ℕ) × GivesWhole remaining rules s line t × (¬ IsUtf8 (without_end line))
-        × (error_kind e ≡ InvalidData))
+    × (error_kind e ≡ InvalidData))

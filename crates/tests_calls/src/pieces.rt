@@ -24,18 +24,17 @@ static ROWS: [Row; 5] = [
         &[b"a\r", b"", b"bc\r\rd", b"\r"],
         &[Ok("a"), Ok(""), Ok("bc\r\rd"), Ok("\r")],
     ),
-    (
-        b"bab\r\n",
-        b'b',
-        &[b"", b"a", b"\r\n"],
-        &[Ok("bab")],
-    ),
+    (b"bab\r\n", b'b', &[b"", b"a", b"\r\n"], &[Ok("bab")]),
     // A line that is no UTF-8 is gone, and the next one comes whole.
     (
         b"a\xff\nb\r\n\xc3",
         b'\n',
         &[b"a\xff", b"b\r", b"\xc3"],
-        &[Err(ErrorKind::InvalidData), Ok("b"), Err(ErrorKind::InvalidData)],
+        &[
+            Err(ErrorKind::InvalidData),
+            Ok("b"),
+            Err(ErrorKind::InvalidData),
+        ],
     ),
 ];
 

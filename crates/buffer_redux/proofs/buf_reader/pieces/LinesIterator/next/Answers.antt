@@ -12,7 +12,7 @@ use Rattle.buffer_redux.proofs.buf_reader.pieces.LinesIterator.next.Goals.{in-Ok
 gives_line : {S P : Type 0} (remaining : S → Option (List ℕ)) (rules : ReadRules P) (s t : Splitting S P) (line : List ℕ)
     (answer : Result (String Global) Error) → GivesWhole remaining rules s line t
     → MatchResult answer (λ text. string_bytes text ≡ without_end line)
-        (λ e. (¬ IsUtf8 (without_end line)) × (error_kind e ≡ InvalidData))
+    (λ e. (¬ IsUtf8 (without_end line)) × (error_kind e ≡ InvalidData))
     → GivesLine remaining rules s (Some answer) t
 gives_line remaining rules s t line (Ok text) whole is = (line, whole, is)
 gives_line remaining rules s t line (Err e) whole (not, kind) = inr (line, whole, not, kind)
@@ -28,16 +28,16 @@ returns-clause-steps g c =
     let s = c.self.inside.lines in
     let t = c.next_whole.new.self in
     let gave : (r : Result (Vec ℕ) Error) → c.in_ok-line.field-0 ≡ r
-        → Gives remaining rules (λ v piece. vec_items v ≡ piece) s (Some r) t
+    → Gives remaining rules (λ v piece. vec_items v ≡ piece) s (Some r) t
     = λ r is. subst (λ x. Gives remaining rules (λ v piece. vec_items v ≡ piece) s (Some x) t) is
     c.in_ok-line.ensures.gives in
     subst (λ x. GivesLine remaining rules x c.match-branch-2.result t) c.self.view_is (elim c.match-branch-2.branch [
       | in-Ok w ↦
           let whole = gave (Ok w.in-Ok.line) w.in-Ok.is in
           let text = subst (λ l. MatchResult w.text_of.result (λ x. string_bytes x ≡ without_end l)
-              (λ e. (¬ IsUtf8 (without_end l)) × (error_kind e ≡ InvalidData))) whole.2 w.text_of.ensures in
+          (λ e. (¬ IsUtf8 (without_end l)) × (error_kind e ≡ InvalidData))) whole.2 w.text_of.ensures in
           subst (λ r. GivesLine remaining rules s r t) (sym w.result-is)
-              (gives_line remaining rules s t whole.0 w.text_of.result whole.1 text)
+          (gives_line remaining rules s t whole.0 w.text_of.result whole.1 text)
       | in-Err w ↦ subst (λ r. GivesLine remaining rules s r t) (sym w.result-is)
           (gives_stop remaining rules s t w.in-Err.e (gave (Err w.in-Err.e) w.in-Err.is))
     ])

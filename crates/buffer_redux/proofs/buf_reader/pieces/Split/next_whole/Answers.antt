@@ -23,7 +23,7 @@ returns-clause-gives g c =
       left = own.left - 1;
     } in
     let reads : ReadsUntil remaining rules own.byte own.reader own.begun.items (Ok c.in_default.field-0) piece
-        c.read_until.new.self
+    c.read_until.new.self
     = subst (λ r. ReadsUntil remaining rules own.byte own.reader own.begun.items r piece c.read_until.new.self)
     c.in_default.is c.read_until.ensures.until in
     let called : (own.left - 1) + 1 ≡ own.left = omega (arith, c.if-self-eq0.false) in
