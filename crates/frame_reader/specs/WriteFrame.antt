@@ -26,6 +26,17 @@ pub record FramesTaken {S : Type 0} (stretch : S → S → Type 0) (s : Outgoing
   pub limit : t.writer.block.limit ≡ s.writer.block.limit
   pub max : t.max ≡ s.max
 
+-- these bytes were copied behind those that are buffered, and the inner writer wasn't called
+pub record PutsIn {S : Type 0} (stretch : S → S → Type 0) (s : Outgoing S) (bytes : List ℕ) (t : Outgoing S)
+    : Type 0 where
+  pub added : unsent t ≡ unsent s ++ bytes
+  pub told : t.writer.log ≡ s.writer.log
+  pub calls : stretch s.writer.inner t.writer.inner
+  pub capacity : t.writer.block.capacity ≡ s.writer.block.capacity
+  pub limit : t.writer.block.limit ≡ s.writer.block.limit
+  pub max : t.max ≡ s.max
+  pub whole : IsOutgoing t
+
 -- what a call of `write_frame` answers
 abbrev pub WriteAnswer : Type 0
 WriteAnswer = Result (Unit {0}) WriteFrameError

@@ -1,5 +1,5 @@
 -- Laws of a writer of frames, for the proofs of those who call one.
-use Rattle.std.specs.Prelude.{◌≡◌, ℕ, ◌+◌, ◌<◌, ◌^◌, List, [], ◌++◌, length, Ok, Err}
+use Rattle.std.specs.Prelude.{◌≡◌, ℕ, ◌+◌, ◌<◌, ◌≤◌, ◌^◌, List, [], ◌++◌, length, Bool, true, false, Result, Ok, Err}
 use Rattle.std.proofs.Common.{sym, ap, subst, ◌∙◌, arith, refl, length-append}
 use Rattle.std.proofs.lemmas.List.Concat.{flat_map-append}
 use Rattle.std.proofs.lemmas.List.Elements.{All-nil, All-append}
@@ -10,14 +10,14 @@ use Rattle.buffer_redux.specs.WriterLaws.{WritesInOrder-none, WritesInOrder-join
 use Rattle.codec.specs.Encoding.{coded}
 use Rattle.codec.specs.Outgoing as pieces
 use Rattle.codec.specs.WritePiece as calls
-use Rattle.codec.specs.WritePiece.{PiecesTaken, WritesPiece, accepted}
+use Rattle.codec.specs.WritePiece.{PiecesTaken, WritesBuffered, WritesPiece, accepted}
 use Rattle.frame_reader.specs.declared.error.WriteFrameError.TheVariants.{TooLong, Io}
 use Rattle.frame_reader.specs.declared.frame.Frames.{Frames}
 use Rattle.frame_reader.specs.Framed.{framed_out}
 use Rattle.frame_reader.specs.FramedLaws.{all_fit, coded_frame, coded_frames, is_frame}
 use Rattle.frame_reader.specs.Frames.{Fits, frame, frames, header}
-use Rattle.frame_reader.specs.Outgoing.{Outgoing, IsOutgoing, IsUnused, outgoing, unsent}
-use Rattle.frame_reader.specs.WriteFrame.{FramesTaken, SendsFirst, WriteAnswer, WriteFrameAnswers, WritesFrame, piece_written}
+use Rattle.frame_reader.specs.Outgoing.{Outgoing, IsOutgoing, IsUnused, outgoing, room, unsent}
+use Rattle.frame_reader.specs.WriteFrame.{FramesTaken, PutsIn, SendsFirst, WriteAnswer, WriteFrameAnswers, WritesFrame, piece_written}
 
 -- no call takes in nothing, and calls join
 pub FramesTaken-none : {S : Type 0} (stretch : S → S → Type 0) → ((x : S) → stretch x x) → (s : Outgoing S)
@@ -130,3 +130,26 @@ module _ {S : Type 0} (stretch : S → S → Type 0) (s t : pieces.Outgoing S Fr
         not_flushed = wrote.not_flushed;
         whole = still_outgoing wrote.went.encoder wrote.whole;
       }
+
+      -- where the frame fits it is copied in
+      pub puts_in : Fits s.encoder.max payload → 2 + length payload ≤ room (outgoing s) → (answer : Result Bool ℕ)
+          → WritesBuffered stretch (framed_out s.encoder.max) s payload answer t
+          → PutsIn stretch (outgoing s) (frame payload) (outgoing t)
+      puts_in fit inside (Ok true) (wrote, within) =
+          let added = wrote.fits (is_frame s.encoder.max word payload fit) within in record {
+            added = added.added ∙ ap (λ l. s.writer.block.bytes ++ l) (coded_frame s.encoder.max payload);
+            told = added.told;
+            calls = wrote.went.calls;
+            capacity = wrote.went.capacity;
+            limit = wrote.went.limit;
+            max = ap (λ d. d.max) wrote.went.encoder;
+            whole = still_outgoing wrote.went.encoder wrote.whole;
+          }
+      puts_in fit inside (Ok false) (taken, over, same) = absurd (omega (arith, inside, over, size))
+      puts_in fit inside (Err len) wrote =
+          absurd (omega (arith, fit, wrote.answers.0.0, wrote.answers.0.1))
+
+      -- and where it doesn't, it is known to be taken
+      pub is_full : (framed_out s.encoder.max).takes payload → room (outgoing s) < length (coded (framed_out s.encoder.max) payload)
+          → Fits s.encoder.max payload × (room (outgoing s) < 2 + length payload)
+      is_full taken over = (taken.fits, omega (arith, over, size))

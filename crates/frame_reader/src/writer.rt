@@ -1,15 +1,16 @@
 //! The writer of frames.
-ghost use Rattle.std.specs.Prelude.{◌≡◌, ◌^◌, [], Ok, Err, IfOk, IfErr, MatchResult};
+ghost use Rattle.std.specs.Prelude.{◌≡◌, ◌+◌, ◌<◌, ◌≤◌, ◌^◌, [], length, Ok, Err, IfOk, IfErr, MatchResult};
 ghost use Rattle.buffer_redux.specs.BufWriter.{WasFlushed, WasSent};
 ghost use Rattle.buffer_redux.specs.Unwrapping.{InnerOfFlushed};
 ghost use Rattle.buffer_redux.specs.GrowError.{FitsWithin};
 ghost use Rattle.buffer_redux.specs.MakeError.{growth};
+ghost use Rattle.frame_reader.specs.Frames.{Fits, frame};
 ghost use Rattle.frame_reader.specs.Framing.{frame_capacity};
-ghost use Rattle.frame_reader.specs.Outgoing.{IsOutgoing, IsUnused};
-ghost use Rattle.frame_reader.specs.WriteFrame.{FramesTaken, WritesFrame, frame_answer, write_error};
+ghost use Rattle.frame_reader.specs.Outgoing.{IsOutgoing, IsUnused, room};
+ghost use Rattle.frame_reader.specs.WriteFrame.{FramesTaken, PutsIn, WritesFrame, frame_answer, write_error};
 
 use crate::error::WriteFrameError;
-use crate::frame::Frames;
+use crate::frame::{Frames, HEADER};
 use buffer_redux::tell::TellWrite;
 use buffer_redux::{Buffer, DEFAULT_BUF_SIZE, GrowError, IntoInnerError, MakeError};
 use codec::{PieceWriter, WritePieceError};
@@ -148,19 +149,35 @@ impl<W: TellWrite> FrameWriter<W> {
     // a call made in here, which is inlined, that is behind the look at the room.
     #[inline(always)]
     fn write_aside(&mut self, payload: &[u8]) -> Result<(), WriteFrameError>
+        requires fits { Fits self.old.max payload.now }
+        requires full { room self.old < HEADER + length payload.now }
         ensures { WritesFrame W.stretch self.old payload.now result self.new }
     {
         self.write_slowly(payload)
     }
 
-    // Takes the frame in, also where all that is buffered is to be sent before. It stands apart, so that a frame for which there
-    // is room is short in its caller.
+    // Sends all that is buffered, and then takes the frame in. It stands apart, so that a frame for which there is room is short
+    // in its caller.
     #[cold]
     #[inline(never)]
     fn write_slowly(&mut self, payload: &[u8]) -> Result<(), WriteFrameError>
+        requires fits { Fits self.old.max payload.now }
+        requires full { room self.old < HEADER + length payload.now }
         ensures { WritesFrame W.stretch self.old payload.now result self.new }
     {
-        answered(self.pieces.write_piece(payload))
+        self.send()?;
+        self.take_in(payload);
+        Ok(())
+    }
+
+    // Copies the frame in, for which there is room.
+    #[inline(always)]
+    fn take_in(&mut self, payload: &[u8])
+        requires fits { Fits self.old.max payload.now }
+        requires room { HEADER + length payload.now ≤ room self.old }
+        ensures { PutsIn W.stretch self.old (frame payload.now) self.new }
+    {
+        let _ = self.pieces.write_buffered(payload);
     }
 }
 
