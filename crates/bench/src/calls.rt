@@ -1,7 +1,7 @@
 //! Cases of calls of std's that a `BufReader` has of its own, or that std makes of others. A line of such a case is as long as
 //! its piece, and what is no line is counted by turns, each of which consumes a piece.
 use crate::cases::{Case, Kind};
-use crate::lines::until_end;
+use crate::lines::{lines_to_end, until_end};
 use crate::makers::{line_writer, std_line_writer, std_writer, writer};
 use crate::streams::{Place, Sink};
 use crate::whole::format_often;
@@ -99,8 +99,8 @@ fn own_calls(alloc: Global, case: &Case, call: Call, reader: Reader<'_>) -> io::
         Call::ReadUntil => own_until_end(alloc, reader),
         Call::SkipUntil => own_skip_to_end(reader),
         Call::ReadLine => own_line_by_line(alloc, reader),
-        Call::LinesOf => go_over_lines(reader.lines(alloc)),
-        Call::Split => go_over(reader.split(alloc, b'\n')),
+        Call::LinesOf => own_lines_to_end(alloc, reader),
+        Call::Split => own_split_to_end(alloc, reader),
         Call::Bytes => own_bytes_to_end(reader),
         Call::Onward => onward(reader, case.piece),
         Call::Peek => peeks(reader, case.piece),
@@ -132,8 +132,8 @@ fn provided<R: BufRead + Seek + Drop>(
     match call {
         Call::ReadLine => line_by_line(alloc, reader),
         Call::Bytes => bytes_to_end(reader),
-        Call::LinesOf => go_over_lines(reader.lines(alloc)),
-        Call::Split => go_over(reader.split(alloc, b'\n')),
+        Call::LinesOf => lines_to_end(alloc, reader),
+        Call::Split => split_to_end(alloc, reader),
         Call::Positions => positions(reader, case.piece),
         _ => Ok(0),
     }
@@ -197,31 +197,30 @@ fn line_by_line<R: BufRead + Drop>(alloc: Global, reader: R) -> io::Result<u64> 
     })
 }
 
-// Goes over lines, or pieces, which lack their ends.
-#[inline(never)]
-fn go_over_lines<I: Iterator<Item = io::Result<String>>>(lines: I) -> io::Result<u64> {
-    let mut lines = lines;
-    let mut total = 0u64;
-    for _ in 0..u64::MAX {
-        match lines.next() {
-            Some(line) => total = total.wrapping_add(line?.len() as u64).wrapping_add(1),
-            None => break,
+// How long lines or pieces are in all, which lack their ends. Of these loops the same is true.
+macro_rules! length_of {
+    ($pieces:expr) => {{
+        let mut total = 0u64;
+        for piece in $pieces {
+            total = total.wrapping_add(piece?.len() as u64).wrapping_add(1);
         }
-    }
-    Ok(total)
+        Ok(total)
+    }};
 }
 
 #[inline(never)]
-fn go_over<I: Iterator<Item = io::Result<Vec<u8>>>>(pieces: I) -> io::Result<u64> {
-    let mut pieces = pieces;
-    let mut total = 0u64;
-    for _ in 0..u64::MAX {
-        match pieces.next() {
-            Some(piece) => total = total.wrapping_add(piece?.len() as u64).wrapping_add(1),
-            None => break,
-        }
-    }
-    Ok(total)
+fn own_lines_to_end(alloc: Global, reader: Reader<'_>) -> io::Result<u64> {
+    length_of!(reader.lines(alloc))
+}
+
+#[inline(never)]
+fn own_split_to_end(alloc: Global, reader: Reader<'_>) -> io::Result<u64> {
+    length_of!(reader.split(alloc, b'\n'))
+}
+
+#[inline(never)]
+fn split_to_end<R: BufRead + Drop>(alloc: Global, reader: R) -> io::Result<u64> {
+    length_of!(reader.split(alloc, b'\n'))
 }
 
 // The bytes are added up, so that no compiler leaves them out.
