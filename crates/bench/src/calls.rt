@@ -139,65 +139,84 @@ fn provided<R: BufRead + Seek + Drop>(
     }
 }
 
-// How many bytes calls take in all, up to one that takes none. A call that a type has itself is taken only where the type is
-// named, so such a loop stands in a function for each type.
-macro_rules! total_of {
-    ($call:expr) => {{
-        let mut total = 0u64;
-        for _ in 0..u64::MAX {
-            let n = $call?;
-            if n == 0 {
-                break;
-            }
-            total = total.wrapping_add(n as u64);
-        }
-        Ok(total)
-    }};
-}
-
 #[inline(never)]
 fn own_until_end(alloc: Global, reader: Reader<'_>) -> io::Result<u64> {
     let mut reader = reader;
     let mut line = Vec::new(alloc);
-    total_of!({
+    let mut total = 0u64;
+    for _ in 0..u64::MAX {
         line.clear();
-        reader.read_until(b'\n', &mut line)
-    })
+        let n = reader.read_until(b'\n', &mut line)?;
+        if n == 0 {
+            break;
+        }
+        total = total.wrapping_add(n as u64);
+    }
+    Ok(total)
 }
 
 #[inline(never)]
 fn own_skip_to_end(reader: Reader<'_>) -> io::Result<u64> {
     let mut reader = reader;
-    total_of!(reader.skip_until(b'\n'))
+    let mut total = 0u64;
+    for _ in 0..u64::MAX {
+        let n = reader.skip_until(b'\n')?;
+        if n == 0 {
+            break;
+        }
+        total = total.wrapping_add(n as u64);
+    }
+    Ok(total)
 }
 
 #[inline(never)]
 fn skip_to_end<R: BufRead + Drop>(reader: R) -> io::Result<u64> {
     let mut reader = reader;
-    total_of!(reader.skip_until(b'\n'))
+    let mut total = 0u64;
+    for _ in 0..u64::MAX {
+        let n = reader.skip_until(b'\n')?;
+        if n == 0 {
+            break;
+        }
+        total = total.wrapping_add(n as u64);
+    }
+    Ok(total)
 }
 
 #[inline(never)]
 fn own_line_by_line(alloc: Global, reader: Reader<'_>) -> io::Result<u64> {
     let mut reader = reader;
     let mut line = String::new(alloc);
-    total_of!({
+    let mut total = 0u64;
+    for _ in 0..u64::MAX {
         line.clear();
-        reader.read_line(&mut line)
-    })
+        let n = reader.read_line(&mut line)?;
+        if n == 0 {
+            break;
+        }
+        total = total.wrapping_add(n as u64);
+    }
+    Ok(total)
 }
 
 #[inline(never)]
 fn line_by_line<R: BufRead + Drop>(alloc: Global, reader: R) -> io::Result<u64> {
     let mut reader = reader;
     let mut line = String::new(alloc);
-    total_of!({
+    let mut total = 0u64;
+    for _ in 0..u64::MAX {
         line.clear();
-        reader.read_line(&mut line)
-    })
+        let n = reader.read_line(&mut line)?;
+        if n == 0 {
+            break;
+        }
+        total = total.wrapping_add(n as u64);
+    }
+    Ok(total)
 }
 
-// How long lines or pieces are in all, which lack their ends. Of these loops the same is true.
+// How long lines or pieces are in all, which lack their ends. A call that a type has itself is taken only where the type is
+// named, so such a loop stands in a function for each type.
 macro_rules! length_of {
     ($pieces:expr) => {{
         let mut total = 0u64;
