@@ -95,8 +95,7 @@ module _ {S T P : Type 0} (remaining : S → Option (List ℕ)) (tells : T → S
     pub quiet : ¬ (IsLine (rest s.commands)) → t.commands.reader.log ≡ s.commands.reader.log
     pub does : MatchResult answer (λ done. Does s done t) (λ e. Fails s e t)
 
-  -- replies were flushed where need be, and then this was done: the stream of commands wasn't asked for it, or by then all that
-  -- was replied had been sent
+  -- replies were flushed where need be, and then this was done: the stream wasn't asked for it, or all replies had been sent
   pub record OnceSent (s : Server S T P) (Done : Server S T P → Type 0) (t : Lining S) : Type 0 where
     pub ready : Buffered T P
     pub sent : WritesAlong tells stretch std_write_rules s.replies [] ready
