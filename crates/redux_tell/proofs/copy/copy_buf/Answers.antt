@@ -1,8 +1,17 @@
-use Rattle.std.proofs.Common.{◌+◌, ◌∙◌, arith, rules, inl, inr}
+use Rattle.std.proofs.Common.{◌+◌, ◌∙◌, arith, refl, rules, inl, inr}
 use Rattle.std.proofs.lemmas.Result.{err_from_is_err_and}
-use Rattle.redux_tell.specs.CopyLaws.{MovedBy-still, CopiesOn-joins, CopyEnded-after, StreamFailed-after, TakesNothing-after}
+use Rattle.redux_tell.specs.CopyLaws.{MovedBy-still, CopiesOn-none, CopiesOn-joins, CopyEnded-after, StreamFailed-after, TakesNothing-after}
 use Rattle.redux_tell.proofs.Turning.{moved_count, faults_come}
 use Rattle.redux_tell.proofs.copy.copy_buf.Goals as goal
+
+pub turns-init : goal.turns-init
+turns-init g c = record {
+  copies = CopiesOn-none _ _;
+  few = omega arith;
+  reader = g.met.B.TellBufRead.stretch_none _;
+  writer = g.met.W.TellWrite.stretch_none _;
+  still = λ takes. refl;
+}
 
 pub returns-in_err-taken-clause-copied : goal.returns-in_err-taken-clause-copied
 returns-in_err-taken-clause-copied g c =
@@ -55,6 +64,14 @@ returns-then-taken-eq0-clause-copied g c =
       );
     }
 
+pub returns-then-taken-eq0-clause-reader : goal.returns-then-taken-eq0-clause-reader
+returns-then-taken-eq0-clause-reader g c =
+    g.met.B.TellBufRead.stretch_joins _ _ _ c.turns.invariant.reader c.in_ok-taken.ensures.reader
+
+pub returns-then-taken-eq0-clause-writer : goal.returns-then-taken-eq0-clause-writer
+returns-then-taken-eq0-clause-writer g c =
+    g.met.W.TellWrite.stretch_joins _ _ _ c.turns.invariant.writer c.in_ok-taken.ensures.writer
+
 pub turns-preserved : goal.turns-preserved
 turns-preserved g c =
     let before = c.turns.invariant in
@@ -96,3 +113,11 @@ returns-in-None-clause-copied g c =
           (omega (arith, c.if-taken-eq0.false))
           ∙ before.still takes;
     }
+
+pub returns-in-None-clause-reader : goal.returns-in-None-clause-reader
+returns-in-None-clause-reader g c =
+    g.met.B.TellBufRead.stretch_joins _ _ _ c.turns.invariant.reader c.in_ok-taken.ensures.reader
+
+pub returns-in-None-clause-writer : goal.returns-in-None-clause-writer
+returns-in-None-clause-writer g c =
+    g.met.W.TellWrite.stretch_joins _ _ _ c.turns.invariant.writer c.in_ok-taken.ensures.writer

@@ -1,7 +1,17 @@
-use Rattle.std.proofs.Common.{rules, arith, Ok, Err, ◌∙◌}
-use Rattle.redux_tell.specs.CopyLaws.{CopiesOn-after, TakesNothing-after, TurnAnswers-after}
+use Rattle.std.proofs.Common.{rules, arith, Ok, Err, refl, ◌∙◌}
+use Rattle.redux_tell.specs.CopyLaws.{CopiesOn-none, CopiesOn-after, TakesNothing-after, TurnAnswers-after}
 use Rattle.redux_tell.proofs.Turning.{last_retried}
 use Rattle.redux_tell.proofs.copy.copy_retried.Goals as goal
+
+pub loop-init : goal.loop-init
+loop-init g c = record {
+  copies = CopiesOn-none _ _;
+  faults = omega arith;
+  few = omega arith;
+  reader = g.met.B.TellBufRead.stretch_none _;
+  writer = g.met.W.TellWrite.stretch_none _;
+  still = λ takes. refl;
+}
 
 pub returns-in-Ok-clause-retried : goal.returns-in-Ok-clause-retried
 returns-in-Ok-clause-retried g c =
@@ -14,6 +24,14 @@ returns-in-Ok-clause-retried g c =
       few = omega (arith, before.few, turn.one_fault);
     }
 
+pub returns-in-Ok-clause-reader : goal.returns-in-Ok-clause-reader
+returns-in-Ok-clause-reader g c =
+    g.met.B.TellBufRead.stretch_joins _ _ _ c.loop.invariant.reader c.in-Ok.ensures.reader
+
+pub returns-in-Ok-clause-writer : goal.returns-in-Ok-clause-writer
+returns-in-Ok-clause-writer g c =
+    g.met.W.TellWrite.stretch_joins _ _ _ c.loop.invariant.writer c.in-Ok.ensures.writer
+
 pub returns-then-ne-clause-retried : goal.returns-then-ne-clause-retried
 returns-then-ne-clause-retried g c =
     let before = c.loop.invariant in
@@ -24,6 +42,14 @@ returns-then-ne-clause-retried g c =
       often = search rules;
       few = omega (arith, before.few, turn.one_fault);
     }
+
+pub returns-then-ne-clause-reader : goal.returns-then-ne-clause-reader
+returns-then-ne-clause-reader g c =
+    g.met.B.TellBufRead.stretch_joins _ _ _ c.loop.invariant.reader c.in-Err.ensures.reader
+
+pub returns-then-ne-clause-writer : goal.returns-then-ne-clause-writer
+returns-then-ne-clause-writer g c =
+    g.met.W.TellWrite.stretch_joins _ _ _ c.loop.invariant.writer c.in-Err.ensures.writer
 
 pub loop-preserved : goal.loop-preserved
 loop-preserved g c =
@@ -45,3 +71,11 @@ returns-clause-retried g c =
     let before = c.loop.invariant in
     last_retried _ _ _ g.met.W.TellWrite.stretch_joins before.copies before.writer before.still c.copy_turn-2.result
     (search rules) (search rules) c.copy_turn-2.ensures.turn
+
+pub returns-clause-reader : goal.returns-clause-reader
+returns-clause-reader g c =
+    g.met.B.TellBufRead.stretch_joins _ _ _ c.loop.invariant.reader c.copy_turn-2.ensures.reader
+
+pub returns-clause-writer : goal.returns-clause-writer
+returns-clause-writer g c =
+    g.met.W.TellWrite.stretch_joins _ _ _ c.loop.invariant.writer c.copy_turn-2.ensures.writer

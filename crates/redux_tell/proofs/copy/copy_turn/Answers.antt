@@ -50,3 +50,7 @@ returns-clause-turn g c =
       ended_once = search rules;
       one_fault = search rules;
     }
+
+pub returns-clause-reader : goal.returns-clause-reader
+returns-clause-reader g c =
+    g.met.B.TellBufRead.stretch_joins _ _ _ c.fill_told.follows.holds-at-none.1 c.consume_told.ensures.stretch
