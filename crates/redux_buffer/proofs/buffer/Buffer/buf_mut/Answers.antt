@@ -1,6 +1,6 @@
 use Rattle.std.proofs.Common.{refl, ap, ◌∙◌}
 use Rattle.redux_buffer.specs.Block.{Placed, with_bytes, with_limit}
-use Rattle.redux_buffer.proofs.Written.{as_placed-with_placed}
+use Rattle.redux_buffer.proofs.Written.{as_placed-with_placed, bytes_whole}
 use Rattle.redux_buffer.proofs.buffer.Buffer.buf_mut.Goals as goal
 
 pub returns : goal.returns
@@ -17,3 +17,6 @@ returns c =
         value = c.buf_mut.ensures.value ∙ ap (λ q. q.bytes) c.self.view_is;
       },
     )
+
+pub invariant_of-self-lent : goal.invariant_of-self-lent
+invariant_of-self-lent c w = bytes_whole _ w _ c.self.invariant

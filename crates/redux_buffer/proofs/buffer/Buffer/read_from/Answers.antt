@@ -3,7 +3,7 @@ use Rattle.std.proofs.lemmas.Result.{err_from_is_err_and}
 use Rattle.redux_tell.specs.GivesRemaining.{GivesRemaining-none, GivesRemaining-read}
 use Rattle.redux_buffer.specs.Block.{usable}
 use Rattle.redux_buffer.specs.BufImpl.{as_placed}
-use Rattle.redux_buffer.proofs.Written.{written_adds, written_leaves, leaves_extends}
+use Rattle.redux_buffer.proofs.Written.{tail_whole, written_adds, written_leaves, leaves_extends}
 use Rattle.redux_buffer.proofs.buffer.Buffer.read_from.Goals as goal
 
 pub returns-clause-read : goal.returns-clause-read
@@ -59,3 +59,9 @@ returns-clause-known g c = GivesRemaining-read _ _ _ _ c.read_told.new.buf (Ok c
 
 pub returns-then-usable_space-eq0-clause-known : goal.returns-then-usable_space-eq0-clause-known
 returns-then-usable_space-eq0-clause-known g c = GivesRemaining-none _ _
+
+pub invariant_of-self : goal.invariant_of-self
+invariant_of-self g c = tail_whole _ _ _ c.self.invariant
+
+pub returns-in_err-n-clause-whole : goal.returns-in_err-n-clause-whole
+returns-in_err-n-clause-whole g c = (tail_whole _ c.read_told.new.buf _ c.self.invariant).1
