@@ -1,11 +1,14 @@
 -- The turns and the ends of a call that appends a line to a text.
-use Rattle.std.proofs.Common.{◌≡◌, ℕ, zero, suc, ◌+◌, ◌<◌, ◌≤◌, List, [], ◌∷◌, ◌++◌, length, take, Result, Ok, Err, Option, sym, ap, subst, ◌∙◌, inl, inr, arith, append-nil, length-append, length-take-le}
+use Rattle.std.proofs.Common.{◌≡◌, ℕ, zero, suc, ◌+◌, ◌^◌, ◌<◌, ◌≤◌, List, [], ◌∷◌, ◌++◌, length, take, drop, Result, Ok, Err}
+use Rattle.std.proofs.Common.{Option, sym, ap, subst, ◌∙◌, inl, inr, arith, append-nil, length-append}
+use Rattle.std.proofs.Common.{length-drop, length-take-le}
 use Rattle.std.specs.Prelude.{◌⊎◌}
 use Rattle.std.proofs.lemmas.Bool.{cases_lt}
 use Rattle.std.proofs.lemmas.List.Elements.{All-drop, All-take}
 use Rattle.std.specs.IoError.{error_kind}
 use Rattle.std.specs.declared.io.Error.{Error}
 use Rattle.std.specs.declared.io.ErrorKind.TheVariants.{InvalidData}
+use Rattle.redux_buffer.specs.Block.{Block, IsBlock, Plain, Ring, limit_of}
 use Rattle.redux_buffer.specs.Transfer.{ReadsOnce}
 use Rattle.redux_tell.specs.StreamLog.{zero_of_none}
 use Rattle.redux_policy.specs.Policy.{ReadRules}
@@ -13,7 +16,8 @@ use Rattle.buffer_redux.specs.Buffered.{Buffered}
 use Rattle.buffer_redux.specs.BufReader.{RanDry, ReadsInOrder, ReadsIntoBuf}
 use Rattle.buffer_redux.specs.FillRetried.{FillRetried, InterruptedSteps}
 use Rattle.buffer_redux.specs.ReadAll.{HandedFront}
-use Rattle.buffer_redux.specs.ReadLine.{AppendsLine, AppendsText, BehindEnded, BehindRetried, EndsLine, FillsLine, FillsOn, IsPart, MakesSpace, NeverUtf8, ReadsBehind, no_text}
+use Rattle.buffer_redux.specs.ReadLine.{AppendsLine, AppendsText, BehindEnded, BehindRetried, EndsLine, FillsLine, FillsOn}
+use Rattle.buffer_redux.specs.ReadLine.{IsPart, MakesSpace, NeverUtf8, ReadsBehind, no_text}
 use Rattle.buffer_redux.specs.ReadUntil.{FirstAt, Lacks, Passes}
 use Rattle.buffer_redux.specs.Sparing.{Spared}
 use Rattle.buffer_redux.specs.UntilLaws.{lacking_through}
@@ -225,3 +229,17 @@ module _ {S P : Type 0} (remaining : S → Option (List ℕ)) (rules : ReadRules
             | inl fill ↦ retried_dry remaining rules m t fill.1 wants some none
             | inr read ↦ absurd (omega (arith, f.1 read.0, none))
           ]) none
+
+-- a front, and what is left behind it
+pub parts_length : (n : ℕ) (bytes left : List ℕ) → n ≤ length bytes → left ≡ drop n bytes
+    → length bytes ≡ length (take n bytes) + length left
+parts_length n bytes left within is =
+    omega (arith, length-take-le n bytes within, ap length is, length-drop n bytes)
+
+pub block_within : (b : Block) → IsBlock b → length b.bytes ≤ 2 ^ 62
+block_within b whole =
+    let most : limit_of b.kind ≤ 2 ^ 62 = elim b.kind as (λ k. limit_of k ≤ 2 ^ 62) [
+      | Plain ↦ omega arith
+      | Ring ↦ omega arith
+    ] in
+    omega (arith, whole.fits, whole.limit, whole.most, most)

@@ -1,5 +1,10 @@
 -- The turns and the ends of a call that goes on up to a byte.
-use Rattle.std.proofs.Common.{◌≡◌, ℕ, suc, ◌+◌, ◌-◌, ◌<◌, ◌≤◌, List, [], ◌++◌, length, take, Result, Ok, Err, Option, refl, sym, ap, subst, ◌∙◌, inl, inr, arith, append-nil, append_assoc, length-append, length-take-le}
+use Rattle.std.proofs.Common.{◌≡◌, ℕ, suc, ◌+◌, ◌-◌, ◌^◌, ◌<◌, ◌≤◌, Bool, true, false, List, [], ◌++◌, length, take, Result, Ok}
+use Rattle.std.proofs.Common.{Err, Option}
+use Rattle.std.proofs.Common.{refl, sym, ap, subst, ◌∙◌, inl, inr, arith, append-nil, append_assoc, length-append}
+use Rattle.std.proofs.Common.{length-take-le}
+use Rattle.std.specs.Prelude.{IsTrue, ◌↔◌}
+use Rattle.std.proofs.lemmas.Bool.{cases_lt}
 use Rattle.std.proofs.lemmas.List.{nil_from_length}
 use Rattle.std.proofs.Math.Seq.{take-length}
 use Rattle.std.specs.IoError.{error_kind}
@@ -14,7 +19,8 @@ use Rattle.buffer_redux.specs.BufReader.{RanDry, ReaderConsumes}
 use Rattle.buffer_redux.specs.FillRetried.{Step}
 use Rattle.buffer_redux.specs.ReadAll.{HandedFront}
 use Rattle.buffer_redux.specs.ReaderLaws.{ReaderKeeps-along, WantsBytes}
-use Rattle.buffer_redux.specs.ReadUntil.{EndsUntil, FirstAt, Lacks, Passes, PassesAndFills, PassesToEnd, Reaches, Steps, Stops, no_memory}
+use Rattle.buffer_redux.specs.ReadUntil.{EndsUntil, FirstAt, Lacks, Passes, PassesAndFills, PassesToEnd, Reaches, Steps, Stops}
+use Rattle.buffer_redux.specs.ReadUntil.{no_memory}
 use Rattle.buffer_redux.proofs.ReadAll.{front_none, front_joins}
 use Rattle.buffer_redux.proofs.Retrying.{HandsNothing}
 use Rattle.buffer_redux.proofs.Searching.{ends_in, lacks_none, lacks_both}
@@ -158,3 +164,24 @@ appended_length old new handed before after is first last =
 
 pub take_whole : (n : ℕ) (bytes : List ℕ) → n ≡ length bytes → take n bytes ≡ bytes
 take_whole n bytes count = ap (λ k. take k bytes) count ∙ take-length bytes
+
+-- so the length before is no more than the length after
+pub starts_before : (old new handed : List ℕ) (before after : ℕ) → new ≡ old ++ handed → before ≡ length old
+    → after ≡ length new → before ≤ after
+starts_before old new handed before after is first last =
+    omega (arith, ap length is, length-append old handed, first, last)
+
+-- what is appended and what is buffered come to more, where a fill shows more than was left
+pub comes_to_more : (old new handed : List ℕ) (before after room len left len' : ℕ) (empty : Bool) → new ≡ old ++ handed
+    → before ≡ length old → (after ≡ length new) × (after ≤ room) → room < 2 ^ 63 → len ≡ length handed + left
+    → left ≤ 2 ^ 62 → (0 < left → left < len') → IsTrue empty ↔ (len' ≡ 0) → empty ≡ false
+    → 2 ^ 65 - (after + len') < 2 ^ 65 - (before + len)
+comes_to_more old new handed before after room len left len' empty is first last fits size most more means full =
+    let grown = length-append old handed in
+    elim (cases_lt 0 left) [
+      | inl some ↦ omega (arith, ap length is, grown, first, last, fits, size, most, more some)
+      | inr none ↦ elim (cases_lt 0 len') [
+        | inl some ↦ omega (arith, ap length is, grown, first, last, fits, size, none, some)
+        | inr nothing ↦ let yes : empty ≡ true = means.1 (omega (arith, nothing)) in absurd (cc)
+      ]
+    ]

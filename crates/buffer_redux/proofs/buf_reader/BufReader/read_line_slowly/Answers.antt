@@ -4,8 +4,10 @@ use Rattle.std.proofs.lemmas.Str.{IsUtf8-append, IsUtf8-nil}
 use Rattle.redux_buffer.specs.Block.{IsBlock}
 use Rattle.buffer_redux.specs.ReadLine.{no_text}
 use Rattle.buffer_redux.specs.ReadUntil.{FirstAt, Lacks}
-use Rattle.buffer_redux.proofs.LineSteps.{fill_failed, going_on, line_end, line_stopped, text_leaves, text_passes, text_stopped}
-use Rattle.buffer_redux.proofs.UntilSteps.{appended_length, appends, front_filled, front_reached, passes_filled, passes_none, until_reached}
+use Rattle.buffer_redux.proofs.LineSteps.{block_within, fill_failed, going_on, line_end, line_stopped, parts_length}
+use Rattle.buffer_redux.proofs.LineSteps.{text_leaves, text_passes, text_stopped}
+use Rattle.buffer_redux.proofs.UntilSteps.{appended_length, appends, comes_to_more, front_filled, front_reached, passes_filled}
+use Rattle.buffer_redux.proofs.UntilSteps.{passes_none, starts_before, until_reached}
 use Rattle.buffer_redux.proofs.buf_reader.BufReader.read_line_slowly.Goals as goal
 
 pub fills-init : goal.fills-init
@@ -145,3 +147,30 @@ fills-preserved g c =
       text = IsUtf8-append _ _ before.text a.2.1;
       behind = subst (Lacks 10) shown c.in_default.ensures.none;
     }
+
+pub overflow_sub-result : goal.overflow_sub-result
+overflow_sub-result g c =
+    let before = c.fills.invariant in
+    let a = c.in_ok-append_text.ensures.appends in
+    starts_before _ _ _ _ _ (appends _ _ before.handed (take a.0 c.fills.self.block.bytes) _ before.appended a.2.0.0)
+    (c.len-start.ensures ∙ c.args.out.now.bytes.ok.0) (c.len.ensures ∙ c.append_text.new.out.bytes.ok.0)
+
+pub overflow_sub-result-in-Some : goal.overflow_sub-result-in-Some
+overflow_sub-result-in-Some g c =
+    let before = c.fills.invariant in
+    let a = c.in_ok-append_text.ensures.appends in
+    let handed = take a.0 c.fills.self.block.bytes in
+    starts_before _ _ _ _ _ (appends _ _ (before.handed ++ handed)
+    (take (c.in-Some.at + 1) c.fill_line.new.self.block.bytes) _
+    (appends _ _ before.handed handed _ before.appended a.2.0.0) c.in_ok-append_line.ensures.appends.0.0)
+    (c.len-start.ensures ∙ c.args.out.now.bytes.ok.0) (c.len-in-Some.ensures ∙ c.append_line.new.out.bytes.ok.0)
+
+pub fills-smaller : goal.fills-smaller
+fills-smaller g c =
+    let a = c.in_ok-append_text.ensures.appends in
+    let left = c.append_text.new.self.block.bytes in
+    comes_to_more _ _ (take a.0 c.fills.self.block.bytes) _ _ _ _ (length left) _ c.is_empty.result a.2.0.0
+    c.fills.out.bytes.ok.0 c.append_text.new.out.bytes.ok c.append_text.new.out.bytes.small
+    (parts_length a.0 c.fills.self.block.bytes left a.1 a.3) (block_within c.append_text.new.self.block a.2.0.1.keeps.whole)
+    c.in_ok-fill_line.ensures.fills.1
+    (rw (ap (λ x. length x.block.bytes) c.self-in-fills.view_is) at c.is_empty.ensures.value) c.if-is_empty.false

@@ -1,9 +1,12 @@
-use Rattle.std.proofs.Common.{◌≡◌, ◌+◌, ◌∙◌, [], ◌++◌, length, take, subst, sym, ap, arith, append-nil}
+use Rattle.std.proofs.Common.{◌≡◌, ◌+◌, ◌∙◌, [], ◌++◌, length, take, subst, sym, ap, add-zero, not-suc-le-zero, arith}
+use Rattle.std.proofs.Common.{append-nil}
 use Rattle.std.proofs.lemmas.Result.{err_from_is_err_and}
 use Rattle.redux_buffer.specs.Block.{IsBlock}
 use Rattle.buffer_redux.specs.ReadUntil.{FirstAt, Lacks, no_memory}
 use Rattle.buffer_redux.proofs.Retrying.{refilling, retried_dry}
-use Rattle.buffer_redux.proofs.UntilSteps.{appended_length, appends, front_filled, front_reached, passes_all, passes_filled, passes_none, take_whole, until_end, until_failed, until_reached, until_refused}
+use Rattle.buffer_redux.proofs.UntilSteps.{appended_length, appends, comes_to_more, front_filled, front_reached, passes_all}
+use Rattle.buffer_redux.proofs.UntilSteps.{passes_filled, passes_none, starts_before, take_whole, until_end, until_failed}
+use Rattle.buffer_redux.proofs.UntilSteps.{until_reached, until_refused}
 use Rattle.buffer_redux.proofs.buf_reader.BufReader.read_until_slowly.Goals as goal
 
 pub fills-init : goal.fills-init
@@ -134,3 +137,30 @@ fills-preserved g c =
       size = c.len-len-in-None.ensures.value ∙ ap (λ x. length x.block.bytes) c.self-in-fills.view_is;
       behind = subst (Lacks c.args.byte) shown c.in-None.ensures.none;
     }
+
+pub fills-smaller : goal.fills-smaller
+fills-smaller g c =
+    let bytes = c.fills.self.block.bytes in
+    let size = c.fills.invariant.size in
+    comes_to_more c.fills.out.items c.append_first.new.out.items bytes _ _ _ c.fills.len 0 _ c.is_empty.result
+    (c.in_ok-append_first.ensures.appends.0 ∙ ap (λ l. c.fills.out.items ++ l) (take_whole c.fills.len bytes size))
+    c.fills.out.ok.0 c.append_first.new.out.ok c.append_first.new.out.small (size ∙ sym (add-zero _))
+    (omega arith) (λ none. absurd (not-suc-le-zero none)) (rw c.len-len-in-None.ensures.value c.is_empty.ensures.value)
+    c.if-is_empty.false
+
+pub overflow_sub-result : goal.overflow_sub-result
+overflow_sub-result g c =
+    let before = c.fills.invariant in
+    starts_before _ _ _ _ _ (appends _ _ before.handed (take c.fills.len c.fills.self.block.bytes) _ before.appended
+    c.in_ok-append_first.ensures.appends.0) (c.len-start.ensures ∙ c.args.out.now.ok.0)
+    (c.len.ensures ∙ c.append_first.new.out.ok.0)
+
+pub overflow_sub-result-in-Some : goal.overflow_sub-result-in-Some
+overflow_sub-result-in-Some g c =
+    let before = c.fills.invariant in
+    let handed = take c.fills.len c.fills.self.block.bytes in
+    starts_before _ _ _ _ _ (appends _ _ (before.handed ++ handed)
+    (take (c.in-Some.at + 1) c.fill_retried.new.self.block.bytes) _
+    (appends _ _ before.handed handed _ before.appended c.in_ok-append_first.ensures.appends.0)
+    c.in_ok-append_first-in-Some.ensures.appends.0) (c.len-start.ensures ∙ c.args.out.now.ok.0)
+    (c.len-in-Some.ensures ∙ c.append_first-in-Some.new.out.ok.0)
