@@ -1,3 +1,4 @@
+pub mod Buffered
 pub mod Delimiting
 pub mod Heads
 pub mod Loading

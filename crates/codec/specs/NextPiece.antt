@@ -10,7 +10,7 @@ use Rattle.codec.specs.declared.decoder.Span.{Span}
 use Rattle.codec.specs.declared.error.NextError.{NextError}
 use Rattle.codec.specs.declared.error.NextError.TheVariants.{Wrong, Io}
 use Rattle.codec.specs.Decoding.{bytes_at}
-use Rattle.codec.specs.Grammar.{Grammar, IsOpen}
+use Rattle.codec.specs.Grammar.{Begins, Grammar, IsOpen}
 use Rattle.codec.specs.Piecing.{Piecing, IsPiecing, rest}
 
 -- these bytes, then what is left, are what was left, then what was given since
@@ -117,8 +117,28 @@ abbrev pub AsksNone : {S D W : Type 0} → (S → Option (List ℕ)) → Grammar
 AsksNone {S} {D} {W} remaining g s =
     (answer : NextAnswer W) (t : Piecing S D) → NextPiece remaining g s answer t → t.reader.log ≡ s.reader.log
 
+-- nothing was done: what is left is as it was, and the reader inside
+pub record StaysLeft {S D W : Type 0} (remaining : S → Option (List ℕ)) (g : Grammar W) (s t : Piecing S D) : Type 0 where
+  pub went : PiecesWent remaining g.most s [] t
+  pub left : rest t ≡ rest s
+  pub reader : t.reader ≡ s.reader
+  pub ended : t.ended ≡ s.ended
+  pub whole : IsPiecing g t
+
+-- what `step_buffered` does: as `step` where the next piece stands whole in what is left, and else nothing. The reader inside
+-- isn't called
+abbrev pub NextBuffered : {S D W : Type 0} → (S → Option (List ℕ)) → Grammar W → Piecing S D → Option (List ℕ)
+    → Piecing S D → Type 0
+NextBuffered remaining g s (Some payload) t = NextPiece remaining g s (Ok (Some payload)) t × (t.reader ≡ s.reader)
+NextBuffered remaining g s None t = StaysLeft remaining g s t × ¬ (Begins g (rest s))
+
 -- what is lent once the next piece stands at the front
 abbrev pub load_answer : {S D W : Type 0} → Result (Option Span) (NextError W) → Piecing S D → NextAnswer W
 load_answer (Ok (Some span)) t = Ok (Some (bytes_at span t.reader.block.bytes))
 load_answer (Ok None) t = Ok None
 load_answer (Err e) t = Err e
+
+-- what is lent of a piece that was buffered
+abbrev pub buffered_answer : {S D : Type 0} → Option Span → Piecing S D → Option (List ℕ)
+buffered_answer (Some span) t = Some (bytes_at span t.reader.block.bytes)
+buffered_answer None t = None

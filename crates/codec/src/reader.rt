@@ -9,7 +9,7 @@ ghost use Rattle.codec.specs.declared.error.NextError.TheVariants.{Wrong};
 ghost use Rattle.codec.specs.Decoding.{bytes_at};
 ghost use Rattle.codec.specs.Grammar.{Begins, Lacks, IsOpen};
 ghost use Rattle.codec.specs.Piecing.{IsPiecing, IsFresh, rest, room_for, with_stream};
-ghost use Rattle.codec.specs.NextPiece.{AsksNone, PiecesWent, NextPiece, load_answer};
+ghost use Rattle.codec.specs.NextPiece.{AsksNone, PiecesWent, NextBuffered, NextPiece, buffered_answer, load_answer};
 ghost use Rattle.codec.specs.Steps.{AsksFor, Takes, TakesEnd};
 
 use crate::buffer::piece_buffer;
@@ -169,7 +169,8 @@ impl<R: Tell, D: Decoder> PieceReader<R, D> {
         &self.reader.buffer()[self.handed..]
     }
 
-    /// The payload that the last [`step`](PieceReader::step) went on to, which said where it is.
+    /// The payload that the last [`step`](PieceReader::step), or [`step_buffered`](PieceReader::step_buffered), went on to, which
+    /// said where it is.
     #[inline(always)]
     pub fn lent(&self, span: Span) -> &[u8]
         requires { span.from + span.len ≤ length self.now.reader.block.bytes }
@@ -253,6 +254,25 @@ impl<R: TellRead, D: Decoder> PieceReader<R, D> {
             })),
             Found::More(need) => self.load_aside(need),
             Found::Wrong(e) => Err(NextError::Wrong(e)),
+        }
+    }
+
+    /// Goes on to the next piece as [`step`](PieceReader::step) does where it stands whole in the buffer, and asks the stream for
+    /// nothing. `None` where it doesn't: `step` says then why, or asks for more. What was looked at isn't looked at again.
+    #[inline(always)]
+    pub fn step_buffered(&mut self) -> Option<Span>
+        ensures next { NextBuffered R.remaining (D.grammar self.old.decoder) self.old
+            (buffered_answer result self.new) self.new }
+        ensures within { IfSome result (λ span. span.from + span.len ≤ length self.new.reader.block.bytes) }
+    {
+        let at = self.handed;
+        match self.take() {
+            Found::Piece(span, _) => Some(Span {
+                from: at + span.from,
+                len: span.len,
+            }),
+            Found::More(_) => None,
+            Found::Wrong(_) => None,
         }
     }
 

@@ -23,7 +23,7 @@ use Rattle.frame_reader.specs.Framed.{framed}
 use Rattle.frame_reader.specs.FramedLaws as frames
 use Rattle.frame_reader.specs.Frames.{AreBytes, BeginsWhole, BeginsWith, Fits, IsCutShort, frame}
 use Rattle.frame_reader.specs.Framing.{IsFraming, ReadsFrames, framing, piecing}
-use Rattle.frame_reader.specs.Next.{AsksGive, Ended, FramesWent, IsSettled, IsUnsettled, Next, NextAnswer, NextAnswers, asks_in_vain, ends_met, frame_error, load_answer, payloads_of, piece_answer}
+use Rattle.frame_reader.specs.Next.{AsksGive, Ended, FramesWent, IsSettled, IsUnsettled, Next, NextAnswer, NextAnswers, NextBuffered, asks_in_vain, buffered_answer, ends_met, frame_error, load_answer, payloads_of, piece_answer}
 use Rattle.frame_reader.specs.NextLaws.{frames_went}
 use Rattle.frame_reader.proofs.Lengths.{BeginsWith-first}
 
@@ -253,6 +253,15 @@ module _ {S : Type 0} (remaining : S → Option (List ℕ)) (s t : Piecing S Fra
         let left = cut_of s.decoder.max (rest t) (shown _ refl) is in
         (went_none bytes none went, (fault, left), omega (arith, no_end), most)
 
+  -- where nothing was done it reads frames still
+  reads_still : pieces.StaysLeft remaining (framed s.decoder.max) s t → ReadsFrames t
+  reads_still stays =
+      let same : t.decoder.max ≡ s.decoder.max = ap (λ d. d.max) stays.went.decoder in record {
+        word = omega (arith, is.word, same);
+        told = stays.ended ∙ is.told;
+        whole = subst (λ n. IsPiecing (framed n) t) (sym same) stays.whole;
+      }
+
   pub Next-of : (answer : NextAnswer) → Shown t answer → NextPiece remaining (framed s.decoder.max) s (piece_answer answer) t
       → Next remaining (framing s) answer (framing t)
   Next-of answer shown next =
@@ -282,3 +291,18 @@ module _ {S : Type 0} (remaining : S → Option (List ℕ)) (s t : Piecing S Fra
   Next-failed (piece.Wrong (Fault.Truncated have)) small next = Next-of (Err (Truncated have)) (λ _ _. small) next
   Next-failed (piece.Wrong (Fault.TooLong len)) small next = Next-of (Err (TooLong len)) (λ _ _. small) next
   Next-failed (piece.Io e) small next = Next-of (Err (Io e)) (λ _ _. small) next
+
+  -- and by what `step_buffered` answers
+  pub NextBuffered-found : (found : Option Span)
+      → pieces.NextBuffered remaining (framed s.decoder.max) s (pieces.buffered_answer found t) t
+      → NextBuffered remaining (framing s) (buffered_answer found (framing t)) (framing t)
+  NextBuffered-found (Some span) next = (Next-found (Some span) next.0, next.1)
+  NextBuffered-found None (stays, none) = (
+    record {
+      went = went_none [] refl (forgot_went (2 + s.decoder.max) [] stays.went);
+      left = stays.left;
+      reader = stays.reader;
+      whole = whole_of t (reads_still stays);
+    },
+    λ whole. none (frames.begins_of s.decoder.max is.word (rest s) whole),
+  )

@@ -1,8 +1,9 @@
 -- Laws of a reader of frames, for the proofs of those who call one.
-use Rattle.std.specs.Prelude.{◌≡◌, ℕ, ◌+◌, ◌<◌, ◌≤◌, ◌^◌, List, [], ◌++◌, length, Option, Some, Ok, Err}
+use Rattle.std.specs.Prelude.{◌≡◌, ℕ, ◌+◌, ◌<◌, ◌≤◌, ◌^◌, List, [], ◌++◌, length, Option, None, Some, Ok, Err, option_copied}
 use Rattle.std.proofs.Common.{sym, ap, subst, ◌∙◌, arith, refl}
 use Rattle.std.proofs.lemmas.List.Concat.{flat_map-append}
 use Rattle.std.proofs.lemmas.List.Elements.{All-nil, All-append}
+use Rattle.std.specs.Borrow.{Bor}
 use Rattle.std.specs.List.{All}
 use Rattle.buffer_redux.specs.Sparing.{MovedAtMostGiven}
 use Rattle.buffer_redux.specs.StreamLog.{StreamLog}
@@ -14,9 +15,9 @@ use Rattle.frame_reader.specs.declared.error.FrameError.TheVariants.{Truncated, 
 use Rattle.frame_reader.specs.declared.frame.FrameFault.TheVariants as Fault
 use Rattle.frame_reader.specs.Framed.{framed}
 use Rattle.frame_reader.specs.FramedLaws.{framed_lawful, is_frame}
-use Rattle.frame_reader.specs.Frames.{BeginsWith, Fits, frame, frames}
+use Rattle.frame_reader.specs.Frames.{BeginsWhole, BeginsWith, Fits, frame, frames}
 use Rattle.frame_reader.specs.Framing.{Framing, IsFresh, most, piecing, rest}
-use Rattle.frame_reader.specs.Next.{FramesWent, Next, NextAnswer, piece_answer}
+use Rattle.frame_reader.specs.Next.{FramesWent, Next, NextAnswer, NextBuffered, StaysLeft, piece_answer}
 
 -- an answer of a reader of pieces is of one answer
 same_some : (answer : NextAnswer) (payload : List ℕ) → piece_answer answer ≡ Ok (Some payload)
@@ -90,6 +91,16 @@ module _ {S : Type 0} (remaining : S → Option (List ℕ)) where
 
     pub FramesWent-moved : MovedAtMostGiven s.reader t.reader
     FramesWent-moved = omega (arith, went.held.held, went.held.moved, fresh.potential)
+
+  -- what is known in an arm of `match reader.next_buffered()`
+  module _ (s t : Framing S) where
+    pub NextBuffered-some : (r : Option (Bor (List ℕ))) (payload : Bor (List ℕ)) → r ≡ Some payload
+        → NextBuffered remaining s (option_copied r) t → Next remaining s (Ok (Some payload.now)) t × (t.reader ≡ s.reader)
+    NextBuffered-some r payload = subst (λ r. NextBuffered remaining s (option_copied r) t)
+
+    pub NextBuffered-none : (r : Option (Bor (List ℕ))) → r ≡ None → NextBuffered remaining s (option_copied r) t
+        → StaysLeft remaining s t × ¬ (BeginsWhole s.max (rest s))
+    NextBuffered-none r = subst (λ r. NextBuffered remaining s (option_copied r) t)
 
   module _ (s : Framing S) (answer : NextAnswer) (t : Framing S) (next : Next remaining s answer t) where
     -- a whole frame that stands in front is handed out, and the inner reader isn't called

@@ -1,5 +1,5 @@
 //! The reader of frames.
-ghost use Rattle.std.specs.Prelude.{◌≡◌, ℕ, ◌+◌, ◌^◌, ◌<◌, ◌≤◌, ◌↔◌, List, ◌++◌, length, Ok, Err, Some, IfOk, IfErr, IfSome, IsTrue};
+ghost use Rattle.std.specs.Prelude.{◌≡◌, ℕ, ◌+◌, ◌^◌, ◌<◌, ◌≤◌, ◌↔◌, List, ◌++◌, length, Ok, Err, Some, IfOk, IfErr, IfSome, IsTrue, option_copied};
 ghost use Rattle.std.specs.Borrow.{sem};
 ghost use Rattle.std.specs.Io.BufRead.{Rests};
 ghost use Rattle.buffer_redux.specs.GrowError.{FitsWithin};
@@ -8,7 +8,7 @@ ghost use Rattle.codec.specs.Decoding.{bytes_at};
 ghost use Rattle.frame_reader.specs.contracts.reader.FrameReader.{the_row};
 ghost use Rattle.frame_reader.specs.Frames.{AreBytes, BeginsWith, frame};
 ghost use Rattle.frame_reader.specs.Framing.{IsFraming, IsFresh, frame_capacity, rest};
-ghost use Rattle.frame_reader.specs.Next.{IsSettled, Next, answer_of, frame_error, load_answer};
+ghost use Rattle.frame_reader.specs.Next.{IsSettled, Next, NextBuffered, answer_of, buffered_answer, frame_error, load_answer};
 
 use crate::error::FrameError;
 use crate::frame::{FrameFault, Frames, are_bytes};
@@ -164,6 +164,20 @@ impl<R: TellRead> FrameReader<R> {
         }
     }
 
+    /// Lends the payload of the next frame as [`next`](FrameReader::next) does where that stands whole in the buffer, and asks the
+    /// stream for nothing. `None` where it doesn't.
+    #[inline(always)]
+    pub fn next_buffered(&mut self) -> Option<&[u8]>
+        ensures* after_borrow { sem 𝓛 (Rests (the_row R.row R.Tell) self.entry
+            (NextBuffered R.remaining self.entry.now (option_copied result))) }
+        ensures fits { IfSome result (λ payload. length payload.now ≤ self.old.max) }
+    {
+        match self.step_buffered() {
+            Some(span) => Some(self.lent(span)),
+            None => None,
+        }
+    }
+
     // Goes on to the next frame, and returns where its payload is.
     #[inline(always)]
     fn step(&mut self) -> Result<Option<Span>, FrameError>
@@ -175,5 +189,13 @@ impl<R: TellRead> FrameReader<R> {
             Ok(found) => Ok(found),
             Err(e) => Err(self.no_frame(e)),
         }
+    }
+    // The same where it stands whole in the buffer.
+    #[inline(always)]
+    fn step_buffered(&mut self) -> Option<Span>
+        ensures next { NextBuffered R.remaining self.old (buffered_answer result self.new) self.new }
+        ensures within { IfSome result (λ span. span.from + span.len ≤ length self.new.reader.block.bytes) }
+    {
+        self.pieces.step_buffered()
     }
 }

@@ -5,4 +5,5 @@ pub mod PackBuffered
 pub mod PackPrompting
 pub mod Prompting
 pub mod Unpacking
+pub mod UnpackBuffered
 pub mod UnpackRuns

@@ -97,8 +97,29 @@ fn unpack_frames<R: TellRead, W: TellWrite>(
     Err(RunError::Io(ErrorKind::Other.into()))
 }
 
-// Prints the next payload, and returns whether there was one. Where it has to be asked for, all lines are sent and flushed first.
+// Prints the next payload, and returns whether there was one.
+#[inline(always)]
 fn unpack_frame<R: TellRead, W: TellWrite>(
+    source: &mut FrameReader<R>,
+    target: &mut BufWriter<W>,
+) -> Result<bool, RunError>
+    requires { IsLineTarget source.old.max target.old }
+    ensures unpacks { UnpacksNext R.remaining source.old target.old result source.new target.new }
+    ensures asks { Asks source.old (goes_on result) source.new }
+    ensures prompt { AsksWhenSent source.old target.old source.new target.new }
+    ensures writes { WritesOn target.old.log.writes target.new.log.writes }
+{
+    match source.next_buffered() {
+        Some(payload) => {
+            print_line(target, payload)?;
+            Ok(true)
+        }
+        None => unpack_asked(source, target),
+    }
+}
+
+// The same where no frame is buffered whole. Where it has to be asked for, all lines are sent and flushed first.
+fn unpack_asked<R: TellRead, W: TellWrite>(
     source: &mut FrameReader<R>,
     target: &mut BufWriter<W>,
 ) -> Result<bool, RunError>

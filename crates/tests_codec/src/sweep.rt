@@ -101,32 +101,63 @@ where
     }
 }
 
+// How often the stream was asked.
+fn asked<D: Decoder>(reader: &PieceReader<Source, D>) -> usize {
+    reader.get_ref().get_ref().offers().len()
+}
+
+// The same where the piece is looked for first: it is found just where it is buffered whole, and the stream isn't asked.
+fn answers_looked<D: Decoder>(reader: &mut PieceReader<Source, D>, want: Want<'_>) -> Option<bool>
+where
+    D::Wrong: Explained,
+{
+    let (has, before) = (reader.has_piece(), asked(reader));
+    match reader.step_buffered() {
+        Some(span) => {
+            let met = matches!(want, Want::Piece(payload) if reader.lent(span) == payload);
+            Some(met && has && asked(reader) == before)
+        }
+        None => {
+            if has || asked(reader) != before {
+                return Some(false);
+            }
+            answers(reader, want)
+        }
+    }
+}
+
 // So it is, and nothing where the stream failed.
-fn meets<R: TellRead, D: Decoder>(reader: &mut PieceReader<R, D>, want: Want<'_>) -> Option<bool>
+fn meets<D: Decoder>(
+    reader: &mut PieceReader<Source, D>,
+    want: Want<'_>,
+    looks: bool,
+) -> Option<bool>
 where
     D::Wrong: Explained,
 {
     match want {
         Want::Rest(bytes) => Some(rest(reader) == bytes),
+        _ if looks => answers_looked(reader, want),
         _ => answers(reader, want),
     }
 }
 
 // Makes the calls, those again that the stream failed in. How many these are, and nothing where an answer is another.
-fn walk<R: TellRead, D: Decoder>(
-    reader: &mut PieceReader<R, D>,
+fn walk<D: Decoder>(
+    reader: &mut PieceReader<Source, D>,
     wants: &[Want<'_>],
+    looks: bool,
 ) -> Option<usize>
 where
     D::Wrong: Explained,
 {
     let mut failed = 0usize;
     for want in wants {
-        let met = match meets(reader, *want) {
+        let met = match meets(reader, *want, looks) {
             Some(met) => met,
             None => {
                 failed = failed.saturating_add(1);
-                meets(reader, *want)?
+                meets(reader, *want, looks)?
             }
         };
         if !met {
@@ -147,6 +178,7 @@ fn script(alloc: Global, most: usize, before: usize) -> Result<Vec<Answer>, Allo
     Ok(script)
 }
 
+// The row by `step` alone, and with a look at what is buffered before each call.
 fn run<D: Decoder + Copy>(
     alloc: Global,
     decoder: D,
@@ -158,13 +190,11 @@ where
     D::Wrong: Explained,
 {
     let (bytes, wants) = *row;
-    let mut reader = over(
-        alloc,
-        decoder,
-        bytes,
-        script(alloc, most, before)?.as_slice(),
-    )?;
-    Ok(walk(&mut reader, wants))
+    let script = script(alloc, most, before)?;
+    let mut stepped = over(alloc, decoder, bytes, script.as_slice())?;
+    let mut looked = over(alloc, decoder, bytes, script.as_slice())?;
+    let failed = walk(&mut stepped, wants, false);
+    Ok(failed.filter(|_| walk(&mut looked, wants, true) == failed))
 }
 
 // Behind how many calls a fault makes a row go wrong. The last run meets none.

@@ -109,6 +109,61 @@ fn reads_frames(rt: HostRuntime) -> Result<(), Fail> {
     sweep(&rt, rt.alloc(), &READS, &[usize::MAX, 2, 1], FAULT)
 }
 
+// The same calls, and before each a look at what is buffered.
+#[derive(Drop)]
+struct Looks<'a>(&'a Reads<'a>);
+
+#[derive(Drop)]
+struct Looking(Frames);
+
+// Whether the next frame is lent, and nothing where it isn't buffered whole.
+fn lends(frames: &mut Frames, want: Want<'_>) -> Option<bool> {
+    let payload = frames.next_buffered()?;
+    Some(matches!(want, Next(bytes) if payload == bytes))
+}
+
+// The frame is found just where it is buffered whole, and the stream isn't asked; a length that is too large is left to `next`.
+impl Asks for Looking {
+    fn meets(&mut self, want: Want<'_>) -> Option<bool> {
+        let frames = &mut self.0;
+        if matches!(want, Rest(_)) {
+            return frames.meets(want);
+        }
+        let (has, before) = (frames.has_frame(), asked(frames).len());
+        let lent = lends(frames, want);
+        if asked(frames).len() != before {
+            return Some(false);
+        }
+        match lent {
+            Some(met) => Some(met && has),
+            None if has && !matches!(want, TooLong(_)) => Some(false),
+            None => frames.meets(want),
+        }
+    }
+}
+
+impl Run for Looks<'_> {
+    fn run(&self, alloc: Global, script: &[Answer]) -> io::Result<Option<usize>> {
+        let Reads(max, bytes, wants) = self.0;
+        let frames = frames_over(alloc, Some(0), *max, bytes, script)?;
+        Ok(walk(Looking(frames), wants))
+    }
+}
+
+#[test]
+fn reads_frames_that_are_buffered(rt: HostRuntime) -> Result<(), Fail> {
+    for reads in &READS {
+        sweep(
+            &rt,
+            rt.alloc(),
+            &[Looks(reads)],
+            &[usize::MAX, 7, 3, 2, 1],
+            FAULT,
+        )?;
+    }
+    Ok(())
+}
+
 // The longest frame.
 fn longest(alloc: Global) -> Result<Vec<u8>, AllocError> {
     let mut bytes = Vec::from_slice(alloc, b"\xff\xff")?;

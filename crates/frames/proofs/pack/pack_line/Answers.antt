@@ -1,4 +1,4 @@
-use Rattle.std.proofs.Common.{ap, inl, Ok, None, Some, refl, true, ◌∙◌}
+use Rattle.std.proofs.Common.{ap, inl, Ok, Some, refl, true, ◌∙◌}
 use Rattle.std.proofs.lemmas.Result.{err_from_is_err_and}
 use Rattle.line_reader.specs.LinesAlongLaws.{NextBuffered-none, NextBuffered-some}
 use Rattle.programs.specs.PromptLaws.{WritesOn-unflushed}
