@@ -1,6 +1,5 @@
 //! The payload of a body copied, over any two streams that tell.
 ghost use Rattle.std.specs.Prelude.{◌≡◌, ◌<◌, ◌≤◌, [], length, true, false, IfOk, IfErr, OnOk, OnErr};
-ghost use Rattle.chunked.specs.Dechunking.{HasPayload};
 ghost use Rattle.programs.specs.Prompt.{AsksGive, HoldsNothingBack, WritesOn};
 ghost use Rattle.programs.specs.Streams.{AllSent, EndsOnce};
 ghost use Rattle.buffer_redux.specs.BufWriter.{WritesInOrder};
@@ -136,14 +135,16 @@ fn move_piece<R: TellRead, W: TellWrite>(
     ensures once { EndsInErr source.old.reader.log.reads result source.new.reader.log.reads }
     ensures writes { WritesOn target.old.log.writes target.new.log.writes }
 {
-    if source.has_payload() {
-        return copy_piece(source, target, piece);
+    let held = source.read_buffered(piece);
+    if held > 0 {
+        write_piece(target, &piece[..held])?;
+        return Ok(true);
     }
     target.flush()?;
     copy_piece(source, target, piece)
 }
 
-// Copies it.
+// Copies the next piece, where no payload is buffered.
 fn copy_piece<R: TellRead, W: TellWrite>(
     source: &mut ChunkedReader<R>,
     target: &mut BufWriter<W>,
@@ -152,10 +153,9 @@ fn copy_piece<R: TellRead, W: TellWrite>(
     requires source { IsBodySource source.old }
     requires target { IsPieceTarget target.old }
     requires room { length piece.old ≡ PIECE }
-    requires sent { ¬ (HasPayload source.old) → AllSent target.old }
+    requires sent { AllSent target.old }
     ensures moves { MovesNext R.remaining source.old target.old result source.new target.new }
     ensures asks { Asks source.old source.new }
-    ensures quiet { HasPayload source.old → source.new.reader.log ≡ source.old.reader.log }
     ensures give { OnOk result (AsksGive source.old.reader.log source.new.reader.log) }
     ensures once { EndsInErr source.old.reader.log.reads result source.new.reader.log.reads }
     ensures writes { WritesOn target.old.log.writes target.new.log.writes }
@@ -178,7 +178,6 @@ fn read_piece<R: TellRead>(
     ensures bound { IfOk result (λ n. n ≤ length out.new) }
     ensures reads { ReadsPiece R.remaining source.old out.new result source.new }
     ensures asks { Asks source.old source.new }
-    ensures quiet { HasPayload source.old → source.new.reader.log ≡ source.old.reader.log }
     ensures give { OnOk result (AsksGive source.old.reader.log source.new.reader.log) }
     ensures once { EndsInErr source.old.reader.log.reads result source.new.reader.log.reads }
 {
