@@ -6,7 +6,7 @@ use Rattle.std.specs.declared.io.Error.{Error}
 use Rattle.std.specs.declared.io.ErrorKind.TheVariants.{Other}
 use Rattle.buffer_redux.specs.BufWriter.{WritesInOrder}
 use Rattle.buffer_redux.specs.Buffered.{Buffered}
-use Rattle.buffer_redux.specs.Faults.{MetInterrupts, OnlyInterrupts, OnlyInterrupts-none, SendErrorCaused, SendErrorCaused-after}
+use Rattle.buffer_redux.specs.Faults.{MetInterrupts, OnlyInterrupts-none, SendErrorCaused, SendErrorCaused-after}
 use Rattle.buffer_redux.specs.Policy.{std_read_rules}
 use Rattle.buffer_redux.specs.WriterLaws.{WritesInOrder-joins, WritesInOrder-none, WritesInOrder-then}
 use Rattle.buffer_redux.specs.declared.policy.StdPolicy.{StdPolicy}

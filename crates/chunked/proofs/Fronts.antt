@@ -76,7 +76,7 @@ module _ (limits : Limits) where
       → length tail ≡ length out - r.handed
       → HandsFront limits r.place (take (length shown - r.taken) (drop r.taken shown)) tail q
       → HandsFront limits p shown (put_mid r.handed (length out - r.handed) out tail)
-          (record { place = q.place; taken = r.taken + q.taken; handed = r.handed + q.handed })
+      (record { place = q.place; taken = r.taken + q.taken; handed = r.handed + q.handed })
   unfolding more
   hands_more p shown out tail r q first fits next =
       subst (λ l. HandsFront limits p shown l
@@ -108,7 +108,7 @@ module _ (limits : Limits) where
 
     -- no payload comes next
     none_next : (IsSettled r.place → r.place ≡ Done) → NoneLeft limits r.place (drop r.taken shown)
-    none_next done = elim (ends r.wrong refl) [ | inl settled ↦ inl (done settled) | inr none ↦ inr none ]
+    none_next done = elim (ends r.wrong refl) [ inl settled ↦ inl (done settled) | inr none ↦ inr none ]
 
     module _ (out : List ℕ) (other : (left : ℕ) → r.place ≢ Data left) where
       pub skipped : HandsFront limits p shown out (record { place = r.place; taken = r.taken; handed = 0 })

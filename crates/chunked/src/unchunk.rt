@@ -59,7 +59,7 @@ pub fn unchunk(limits: &Limits, start: Place, shown: &[u8], out: &mut [u8]) -> U
         taken: 0,
         handed: 0,
     };
-    while reached.handed < out.len() {
+    while reached.handed < out.len() && reached.taken < shown.len() {
         let piece = hand_piece(
             limits,
             reached.place,

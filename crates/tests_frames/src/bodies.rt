@@ -198,7 +198,11 @@ fn payload_of<R: TellRead, P: ReaderPolicy>(
 }
 
 /// Whether a body ended so.
-pub fn ends<R: Tell, P>(body: &ChunkedReader<R, P>, why: &Option<ChunkedError>, end: End<'_>) -> bool {
+pub fn ends<R: Tell, P>(
+    body: &ChunkedReader<R, P>,
+    why: &Option<ChunkedError>,
+    end: End<'_>,
+) -> bool {
     match (why, end) {
         (None, Whole(_)) => is_done(body),
         (Some(ChunkedError::NotChunked(why, right)), Wrong(name, count)) => {

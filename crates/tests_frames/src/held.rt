@@ -77,10 +77,7 @@ impl Run for Held<'_> {
             return Ok(None);
         };
         let right = payload.as_slice() == row.3 && ends(&body, &why, row.4);
-        Ok(sum(
-            right.then_some(failed),
-            goes_before(alloc, body, row.4)?,
-        ))
+        Ok(sum(right.then_some(failed), goes_before(alloc, body, row.4)?))
     }
 }
 

@@ -1,4 +1,6 @@
-use Rattle.std.proofs.Common.{[], ◌++◌, OnOk, ap, arith, inl, length, length-take-le, subst, take, ◌∙◌}
+use Rattle.std.proofs.Common.{[], ◌++◌, OnOk, ap, arith, drop, inl, length-take-le, subst, take, ◌∙◌}
+use Rattle.std.proofs.lemmas.List.{take-append-le}
+use Rattle.buffer_redux.specs.BufWriter.{WritesInOrder}
 use Rattle.std.proofs.lemmas.Result.{err_from_is_err_and}
 use Rattle.buffer_redux.specs.GoesOn.{GoesOn, GoesOn-none}
 use Rattle.programs.specs.Prompt.{AsksGive, WasSent}
@@ -33,16 +35,22 @@ returns-in_err-write_piece-clause-once g c =
     let p = err_from_is_err_and c.from_residual.result c.from_residual.ensures.1 in
     rw p.1 (omega (arith, ap (λ l. l.reads.zero_reads) c.read_buffered-held.ensures.told))
 
+pub slice_bounds-read_buffered-end-2 : goal.slice_bounds-read_buffered-end-2
+slice_bounds-read_buffered-end-2 g c =
+    omega (arith, c.requires.room, length-take-le 8191 c.args.piece.now (omega (arith, c.requires.room)))
+
 pub returns-then-held-gt0-clause-moves : goal.returns-then-held-gt0-clause-moves
 returns-then-held-gt0-clause-moves g c =
     let s = c.args.source.now in
     let read = c.read_buffered-held in
     let wrote = c.in_ok-write_piece.ensures in
+    let same = take-append-le read.result read.new.out (drop 8191 c.args.piece.now) read.ensures.bound in
     piece_written g.R.TellRead.remaining s c.args.target.now c.requires.target read.new.self read.new.out read.result
     (buffered_piece g.R.TellRead.remaining s c.args.target.now read.new.out read.result read.new.self read.ensures
     c.requires.source (omega (arith, c.if-held-gt0.true)))
     c.write_piece.new.target wrote.target
-    (omega (arith, c.if-held-gt0.true, length-take-le read.result read.new.out read.ensures.bound)) wrote.taken wrote.met
+    (omega (arith, c.if-held-gt0.true, length-take-le read.result read.new.out read.ensures.bound))
+    (subst (λ l. WritesInOrder c.args.target.now l c.write_piece.new.target) same wrote.taken) wrote.met
 
 pub returns-then-held-gt0-clause-prompt : goal.returns-then-held-gt0-clause-prompt
 returns-then-held-gt0-clause-prompt g c = inl c.read_buffered-held.ensures.told
@@ -51,7 +59,8 @@ pub returns-then-held-gt0-clause-writes : goal.returns-then-held-gt0-clause-writ
 returns-then-held-gt0-clause-writes g c =
     let wrote = c.in_ok-write_piece.ensures in
     let read = c.read_buffered-held in
-    WritesOn-unflushed c.args.target.now c.write_piece.new.target (take read.result read.new.out) wrote.taken wrote.not_flushed
+    WritesOn-unflushed c.args.target.now c.write_piece.new.target
+    (take read.result (read.new.out ++ drop 8191 c.args.piece.now)) wrote.taken wrote.not_flushed
 
 pub returns-in_err-flush-clause-moves : goal.returns-in_err-flush-clause-moves
 returns-in_err-flush-clause-moves g c =

@@ -24,5 +24,5 @@ returns-in_default c = record {
   hands = skipped c.args.limits.now c.args.start c.args.shown.now c.advance-reached.result c.advance-reached.ensures
       c.args.out.now c.in_default.not-Data;
   none = λ _. inr (skipped_none c.args.limits.now c.args.start c.args.shown.now c.advance-reached.result
-  c.advance-reached.ensures c.args.out.now c.in_default.not-Data);
+      c.advance-reached.ensures c.args.out.now c.in_default.not-Data);
 }
