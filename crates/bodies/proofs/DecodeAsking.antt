@@ -10,14 +10,14 @@ use Rattle.buffer_redux.specs.ReaderLaws.{ReadsInOrder-joins, ReadsInOrder-none}
 use Rattle.buffer_redux.specs.StreamLog.{portion, with_fault}
 use Rattle.buffer_redux.specs.declared.policy.StdPolicy.{StdPolicy}
 use Rattle.chunked.specs.Between.{FillsAndTakes, LastCall, TakesTurn, TakesTurns}
-use Rattle.chunked.specs.Dechunking.{Dechunking, HasPayload, IsDechunking, IsPayloadPlace, ReadsPayload, handed_of}
-use Rattle.chunked.specs.Place.{IsPlace, IsSettled, Leads}
+use Rattle.chunked.specs.Dechunking.{Dechunking, IsDechunking, ReadsPayload, handed_of}
+use Rattle.chunked.specs.Place.{IsPlace, Leads}
 use Rattle.chunked.specs.PlaceLaws.{Leads-joins, Leads-none}
 use Rattle.chunked.specs.declared.error.ChunkedError.{ChunkedError}
 use Rattle.chunked.specs.declared.error.ChunkedError.TheVariants.{NotChunked, Truncated, Io}
 use Rattle.chunked.specs.declared.limits.Limits.{Limits}
 use Rattle.chunked.specs.declared.place.Place.{Place}
-use Rattle.chunked.specs.declared.place.Place.TheVariants.{Line, Size, Extension, SizeFeed, Data, DataFeed, Fields, FieldName, FieldValue, FieldFeed, LastFeed, Done}
+use Rattle.chunked.specs.declared.place.Place.TheVariants.{Line}
 use Rattle.programs.specs.Prompt.{AskedLast, AsksGive}
 use Rattle.programs.specs.PromptLaws.{AskedLast-after}
 use Rattle.bodies.specs.Decode.{AskedOver}
@@ -235,32 +235,6 @@ module _ {R : Type 0} (limits : Limits) (s : Buffered R StdPolicy) (p : Place) w
   turns_done zero m r is (same, place) = subst (λ x. TurnsDone x r) same (subst (TurnsDone s) place (no_turns is))
   turns_done (suc count) t q is (m, r, turns, turn) = turn_done m t r q (turns_done count m r is turns) turn
 
--- where payload comes next nothing else is taken
-payload_settled : (p : Place) → IsPayloadPlace p → IsSettled p
-payload_settled Line is = absurd is
-payload_settled (Size number room) is = absurd is
-payload_settled (Extension within size room) is = absurd is
-payload_settled (SizeFeed size) is = absurd is
-payload_settled (Data zero) is = absurd is
-payload_settled (Data (suc left)) is = tt
-payload_settled DataFeed is = absurd is
-payload_settled (Fields room) is = absurd is
-payload_settled (FieldName room) is = absurd is
-payload_settled (FieldValue room) is = absurd is
-payload_settled (FieldFeed room) is = absurd is
-payload_settled LastFeed is = absurd is
-payload_settled Done is = tt
-
-first_unsettled : {R : Type 0} (limits : Limits) (count : ℕ) (s : Buffered R StdPolicy) (p : Place) (t : Buffered R StdPolicy)
-    (q : Place) → TakesTurns std_read_rules limits (suc count) s p t q → ¬ IsSettled p
-first_unsettled limits zero s p t q (m, r, (same, place), turn) = subst (λ x. ¬ IsSettled x) (sym place) turn.unsettled
-first_unsettled limits (suc count) s p t q (m, r, turns, turn) = first_unsettled limits count s p m r turns
-
-settled_stays : {R : Type 0} (limits : Limits) (count : ℕ) (s : Buffered R StdPolicy) (p : Place) (t : Buffered R StdPolicy)
-    (q : Place) → TakesTurns std_read_rules limits count s p t q → IsSettled p → s ≡ t
-settled_stays limits zero s p t q (same, place) settled = same
-settled_stays limits (suc count) s p t q turns settled = absurd (first_unsettled limits count s p t q turns settled)
-
 -- one read of payload
 module _ {R : Type 0} (remaining : R → Option (List ℕ)) (s t : Dechunking R StdPolicy) (is : IsDechunking s) (out : List ℕ) where
   take_once : (n : ℕ) (m f : Buffered R StdPolicy) → FillsAndTakes std_read_rules n m f → OnceAtMost m f
@@ -310,16 +284,6 @@ module _ {R : Type 0} (remaining : R → Option (List ℕ)) (s t : Dechunking R 
       | inl none ↦ inl none
       | inr over ↦ inr (lift over)
     ]
-
-    -- where payload is buffered nothing is asked
-    pub read_quiet : HasPayload s → t.reader.log ≡ s.reader.log
-    read_quiet has =
-        let same = settled_stays s.limits reads.calls.count s.reader s.place reads.calls.last reads.calls.place reads.calls.turns
-        (payload_settled s.place has.0) in
-        elim once [
-          | inl none ↦ none ∙ ap (λ x. x.log) (sym same)
-          | inr one ↦ absurd (omega (arith, has.1, ap length one.empty, ap (λ x. length x.block.bytes) same))
-        ]
 
   -- a read that failed leaves nothing
   none_through : (m f : Buffered R StdPolicy) (room : ℕ) (e : Error) → ReadsBuffered std_read_rules m room (Err e) f

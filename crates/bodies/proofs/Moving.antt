@@ -6,11 +6,11 @@ use Rattle.std.specs.declared.io.Error.{Error}
 use Rattle.std.specs.declared.io.ErrorKind.TheVariants.{Other}
 use Rattle.buffer_redux.specs.BufWriter.{WritesInOrder}
 use Rattle.buffer_redux.specs.Buffered.{Buffered}
-use Rattle.buffer_redux.specs.Faults.{MetInterrupts, OnlyInterrupts, OnlyInterrupts-none, SendErrorCaused, SendErrorCaused-after}
+use Rattle.buffer_redux.specs.Faults.{MetInterrupts, OnlyInterrupts-none, SendErrorCaused, SendErrorCaused-after}
 use Rattle.buffer_redux.specs.Policy.{std_read_rules}
 use Rattle.buffer_redux.specs.WriterLaws.{WritesInOrder-joins, WritesInOrder-none, WritesInOrder-then}
 use Rattle.buffer_redux.specs.declared.policy.StdPolicy.{StdPolicy}
-use Rattle.chunked.specs.Dechunking.{BodyWent, Dechunking, HasPayload, TakesBuffered}
+use Rattle.chunked.specs.Dechunking.{BodyWent, Dechunking, HandsBuffered}
 use Rattle.chunked.specs.DechunkingLaws.{BodyWent-joins, BodyWent-none}
 use Rattle.chunked.specs.declared.error.ChunkedError.{ChunkedError}
 use Rattle.chunked.specs.declared.error.ChunkedError.TheVariants as NoPayload
@@ -18,7 +18,6 @@ use Rattle.bodies.specs.declared.error.RunError.{RunError}
 use Rattle.bodies.specs.declared.error.RunError.TheVariants.{NotChunked, Truncated, Behind, Read, Write, Io}
 use Rattle.bodies.specs.Decode.{IsBodySource, IsPieceTarget, Moves, MovesAll, MovesAndFlushes, MovesEach, MovesNext, ReadsMet, ReadsPiece, of_chunked}
 use Rattle.bodies.specs.Ending.{faulted}
-use Rattle.bodies.proofs.Reading.{no_gave_up}
 use Rattle.programs.specs.Streams.{AllSent}
 use Rattle.programs.specs.StreamsLaws.{ReadFailed-after, SendFailed-after, MetInterrupts-none, MetNoFault-joins, MetNoFault-none, only_same}
 
@@ -59,18 +58,17 @@ module _ {R W : Type 0} (remaining : R → Option (List ℕ)) (s : Dechunking R 
         let went = subst (λ k. BodyWent remaining std_read_rules s (take k out) t) none piece.went in
         (each_still went piece.source piece.answers.0, piece.answers.1 none)
 
-    pub piece_stops : (e : ChunkedError) → ReadsPiece remaining s out (Err e) t → (¬ HasPayload s → AllSent u)
-        → (HasPayload s → t.reader.log ≡ s.reader.log) → MovesNext remaining s u (Err (of_chunked e)) t u
-    piece_stops (NoPayload.NotChunked why right) piece sent quiet =
+    pub piece_stops : (e : ChunkedError) → ReadsPiece remaining s out (Err e) t → AllSent u
+        → MovesNext remaining s u (Err (of_chunked e)) t u
+    piece_stops (NoPayload.NotChunked why right) piece sent =
         (each_still piece.went piece.source piece.answers.0, piece.answers.1, piece.answers.2)
-    piece_stops (NoPayload.Truncated right) piece sent quiet =
+    piece_stops (NoPayload.Truncated right) piece sent =
         (each_still piece.went piece.source piece.answers.0, piece.answers.1, piece.answers.2)
-    piece_stops (NoPayload.Io e) piece sent quiet = record {
+    piece_stops (NoPayload.Io e) piece sent = record {
       payload = [];
       went = record { went = piece.went; source = piece.source; taken = WritesInOrder-none u; target = target };
       left = piece.answers.1;
-      sent = sent (λ has. no_gave_up s.reader.log.reads.faults t.reader.log.reads.faults e
-          (ap (λ l. l.reads.faults) (quiet has)) piece.answers.0);
+      sent = sent;
       failed = record { reader = piece.answers.0; writer = MetInterrupts-none u.log.writes };
     }
 
@@ -99,24 +97,38 @@ module _ {R W : Type 0} (remaining : R → Option (List ℕ)) (s : Dechunking R 
         some,
       )
 
-  -- what was buffered was taken, and then all was flushed, or nothing was
-  module _ (m : Dechunking R StdPolicy) (taken : TakesBuffered remaining std_read_rules s m) (source : IsBodySource s)
-      (w : Buffered W StdPolicy) (none : WritesInOrder u [] w) (still : IsPieceTarget w) where
+  -- what is buffered was handed out
+  module _ (out : List ℕ) (n : ℕ) (m : Dechunking R StdPolicy) (hands : HandsBuffered remaining std_read_rules s out n m)
+      (source : IsBodySource s) where
+    only : ReadsMet s m
+    only = only_same s.reader.log.reads.faults m.reader.log.reads.faults (ap (λ l. l.reads.faults) hands.told)
+
     pub source_on : IsBodySource m
-    source_on = record { capacity = omega (arith, source.capacity, taken.went.along.capacity); whole = taken.whole }
+    source_on = record { capacity = omega (arith, source.capacity, hands.went.along.capacity); whole = hands.whole }
 
-    moved_none : Moves remaining s u [] [] m w
-    moved_none = record { went = taken.went; source = source_on; taken = none; target = still }
+    pub buffered_piece : 0 < n → ReadsPiece remaining s out (Ok n) m
+    buffered_piece some = record {
+      went = hands.went;
+      source = source_on;
+      answers = (only, λ none. absurd (omega (arith, some, none)));
+    }
 
-    only : OnlyInterrupts s.reader.log.reads.faults m.reader.log.reads.faults
-    only = only_same s.reader.log.reads.faults m.reader.log.reads.faults (ap (λ l. l.reads.faults) taken.told)
+    -- there was none, and then all was flushed, or not
+    module _ (none : n ≡ 0) where
+      pub went_none : BodyWent remaining std_read_rules s [] m
+      went_none = subst (λ k. BodyWent remaining std_read_rules s (take k out) m) none hands.went
 
-    pub looked : MetInterrupts u.log.writes w.log.writes → MovesEach remaining s u m w
-    looked met = record { payload = []; went = moved_none; met = record { reader = only; writer = met } }
+      module _ (w : Buffered W StdPolicy) (sent : WritesInOrder u [] w) (still : IsPieceTarget w) where
+        moved_none : Moves remaining s u [] [] m w
+        moved_none = record { went = went_none; source = source_on; taken = sent; target = still }
 
-    pub not_flushed : (e : Error) → SendErrorCaused u.log.writes w.log.writes e → MovesNext remaining s u (Err (Write e)) m w
-    not_flushed e caused =
-        (record { payload = []; lost = []; went = moved_none }, record { reader = only; writer = caused })
+        pub looked : MetInterrupts u.log.writes w.log.writes → MovesEach remaining s u m w
+        looked met = record { payload = []; went = moved_none; met = record { reader = only; writer = met } }
+
+        pub not_flushed : (e : Error) → SendErrorCaused u.log.writes w.log.writes e
+            → MovesNext remaining s u (Err (Write e)) m w
+        not_flushed e caused =
+            (record { payload = []; lost = []; went = moved_none }, record { reader = only; writer = caused })
 
   -- some went over before
   module _ (m t : Dechunking R StdPolicy) (w v : Buffered W StdPolicy) (before : MovesEach remaining s u m w) where

@@ -1,5 +1,5 @@
 -- What reads of payload come to, in which interrupted ones are tried again.
-use Rattle.std.proofs.Common.{◌≡◌, ℕ, ◌+◌, ◌<◌, ◌≤◌, inl, inr, List, [], ◌∷◌, ◌++◌, length, Option, Result, Ok, Err, OnOk, sym, ap, subst, ◌∙◌, arith, length-append}
+use Rattle.std.proofs.Common.{◌≡◌, ℕ, ◌+◌, ◌<◌, ◌≤◌, inl, inr, List, [], ◌∷◌, ◌++◌, length, Option, Result, Ok, Err, OnOk, ap, ◌∙◌, arith, length-append}
 use Rattle.std.specs.declared.io.Error.{Error}
 use Rattle.buffer_redux.specs.Buffered.{Buffered}
 use Rattle.buffer_redux.specs.EmptyReads.{ReadsWhenEmpty-std}
@@ -9,7 +9,7 @@ use Rattle.buffer_redux.specs.ReaderLaws.{WantsBytes-std}
 use Rattle.buffer_redux.specs.StreamLog.{ReadLog}
 use Rattle.buffer_redux.specs.declared.policy.StdPolicy.{StdPolicy}
 use Rattle.chunked.specs.Between.{Faulted, NoFault, handed_out}
-use Rattle.chunked.specs.Dechunking.{BodyWent, Dechunking, HasPayload, ReadsPayload}
+use Rattle.chunked.specs.Dechunking.{BodyWent, Dechunking, ReadsPayload}
 use Rattle.chunked.specs.DechunkingLaws.{BodyWent-joins}
 use Rattle.chunked.specs.EmptyReads.{EndsOnce, ReadsPayload-ends}
 use Rattle.chunked.specs.declared.error.ChunkedError.{ChunkedError}
@@ -18,7 +18,7 @@ use Rattle.bodies.specs.Decode.{Asks, EndsInErr, IsBodySource, PieceAnswers, Rea
 use Rattle.programs.specs.Prompt.{AsksGive}
 use Rattle.programs.specs.Streams.{ReadGaveUp}
 use Rattle.programs.specs.Streams as Streams
-use Rattle.bodies.proofs.DecodeAsking.{read_fails, read_gives, read_leaves, read_over, read_quiet}
+use Rattle.bodies.proofs.DecodeAsking.{read_fails, read_gives, read_leaves, read_over}
 use Rattle.bodies.proofs.DecodePrompting.{asks_again, gives_on}
 use Rattle.programs.specs.StreamsLaws.{gave_up, one_more, only_more, only_same}
 
@@ -128,26 +128,6 @@ module _ {R : Type 0} (remaining : R → Option (List ℕ)) (s m t : Dechunking 
     gave_again gave (Err (NotChunked why right)) is p = absurd is
     gave_again gave (Err (Truncated right)) is p = absurd is
     gave_again gave (Err (Io e)) is p = ends (Err (Io e)) p ∙ gave
-
-    -- where payload was buffered the first was the last
-    pub none_again : (HasPayload s → m ≡ s) → (answer : Result ℕ ChunkedError) → WasInterrupted answer
-        → ReadsPayload remaining std_read_rules m out answer t → HasPayload s → t ≡ s
-    none_again quiet (Ok n) is p has = absurd is
-    none_again quiet (Err (NotChunked why right)) is p has = absurd is
-    none_again quiet (Err (Truncated right)) is p has = absurd is
-    none_again quiet (Err (Io e)) is p has =
-        let same = read_quiet remaining m t source.whole out (Err (Io e)) p (subst HasPayload (sym (quiet has)) has) in
-        absurd (omega (
-          arith,
-          ap (λ l. length l.reads.faults) same,
-          one_more m.reader.log.reads.faults t.reader.log.reads.faults e (fault e p),
-        ))
-
-    pub quiet_last : (HasPayload s → m ≡ s) → (answer : Result ℕ ChunkedError)
-        → ReadsPayload remaining std_read_rules m out answer t → HasPayload s → t.reader.log ≡ s.reader.log
-    quiet_last quiet answer p has =
-        read_quiet remaining m t source.whole out answer p (subst HasPayload (sym (quiet has)) has)
-        ∙ ap (λ x. x.reader.log) (quiet has)
 
     -- the last of them
     pub answered : (answer : Result ℕ ChunkedError) → (WasInterrupted answer → 65 ≤ row + 1) → 0 < length out

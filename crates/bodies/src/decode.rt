@@ -1,6 +1,5 @@
 //! The payload of a body copied, over any two streams that tell.
 ghost use Rattle.std.specs.Prelude.{◌≡◌, ◌<◌, ◌≤◌, [], length, true, false, IfOk, IfErr, OnOk, OnErr};
-ghost use Rattle.chunked.specs.Dechunking.{HasPayload};
 ghost use Rattle.programs.specs.Prompt.{AsksGive, HoldsNothingBack, WritesOn};
 ghost use Rattle.programs.specs.Streams.{AllSent, EndsOnce};
 ghost use Rattle.buffer_redux.specs.BufWriter.{WritesInOrder};
@@ -20,6 +19,10 @@ use std::io::{ErrorKind, Write};
 
 // How many bytes of payload go over at a time at most, and of a body in one read.
 const PIECE: usize = 16384;
+
+// How many bytes that are buffered go over at a time at most. The C library copies fewer than 8192 by a loop, and more by one
+// instruction, which takes longer here.
+const HELD: usize = 8191;
 
 /// Copies the payload of the body that `reader` gives to `writer`. A body that is wrong, or ends too early, ends the run; the
 /// payload in what is right of it is sent then. What follows the body is left, and the run says so.
@@ -136,14 +139,16 @@ fn move_piece<R: TellRead, W: TellWrite>(
     ensures once { EndsInErr source.old.reader.log.reads result source.new.reader.log.reads }
     ensures writes { WritesOn target.old.log.writes target.new.log.writes }
 {
-    if source.has_payload() {
-        return copy_piece(source, target, piece);
+    let held = source.read_buffered(&mut piece[..HELD]);
+    if held > 0 {
+        write_piece(target, &piece[..held])?;
+        return Ok(true);
     }
     target.flush()?;
     copy_piece(source, target, piece)
 }
 
-// Copies it.
+// Copies the next piece, where no payload is buffered.
 fn copy_piece<R: TellRead, W: TellWrite>(
     source: &mut ChunkedReader<R>,
     target: &mut BufWriter<W>,
@@ -152,10 +157,9 @@ fn copy_piece<R: TellRead, W: TellWrite>(
     requires source { IsBodySource source.old }
     requires target { IsPieceTarget target.old }
     requires room { length piece.old ≡ PIECE }
-    requires sent { ¬ (HasPayload source.old) → AllSent target.old }
+    requires sent { AllSent target.old }
     ensures moves { MovesNext R.remaining source.old target.old result source.new target.new }
     ensures asks { Asks source.old source.new }
-    ensures quiet { HasPayload source.old → source.new.reader.log ≡ source.old.reader.log }
     ensures give { OnOk result (AsksGive source.old.reader.log source.new.reader.log) }
     ensures once { EndsInErr source.old.reader.log.reads result source.new.reader.log.reads }
     ensures writes { WritesOn target.old.log.writes target.new.log.writes }
@@ -178,7 +182,6 @@ fn read_piece<R: TellRead>(
     ensures bound { IfOk result (λ n. n ≤ length out.new) }
     ensures reads { ReadsPiece R.remaining source.old out.new result source.new }
     ensures asks { Asks source.old source.new }
-    ensures quiet { HasPayload source.old → source.new.reader.log ≡ source.old.reader.log }
     ensures give { OnOk result (AsksGive source.old.reader.log source.new.reader.log) }
     ensures once { EndsInErr source.old.reader.log.reads result source.new.reader.log.reads }
 {

@@ -10,6 +10,7 @@ pub mod Skipping
 pub mod Handing
 pub mod Payload
 pub mod Alive
+pub mod Fronts
 pub mod Buffered
 mod Given
 mod Written

@@ -5,10 +5,11 @@ use Rattle.buffer_redux.specs.Policy.{ReadRules}
 use Rattle.buffer_redux.specs.StreamLog.{StreamLog}
 use Rattle.chunked.specs.declared.error.ChunkedError.{ChunkedError}
 use Rattle.chunked.specs.declared.error.ChunkedError.TheVariants.{NotChunked, Truncated, Io}
+use Rattle.chunked.specs.declared.error.Malformed.{Malformed}
 use Rattle.chunked.specs.declared.place.Place.TheVariants.{Line, Done}
 use Rattle.chunked.specs.declared.progress.Progress.{Progress}
-use Rattle.chunked.specs.Between.{HandsOn, ReadEnds, handed_out, taken_of}
-use Rattle.chunked.specs.Dechunking.{Dechunking, IsDechunking, PayloadAnswers, ReadsPayload, after_payload, handed_of}
+use Rattle.chunked.specs.Between.{HandsOn, MeetsWrong, ReadEnds, Takes, handed_out, taken_of}
+use Rattle.chunked.specs.Dechunking.{BodyWent, Breaks, Dechunking, IsDechunking, PayloadAnswers, ReadsPayload, after_payload}
 use Rattle.chunked.specs.DechunkingLaws.{IsWhole-done, body_done}
 use Rattle.chunked.specs.Place.{Leads}
 use Rattle.chunked.specs.PlaceLaws.{Leads-joins}
@@ -17,6 +18,37 @@ use Rattle.chunked.proofs.Wrong.{IsWrong-none}
 -- a reader of a body, by its parts
 abbrev pub seen : {S P : Type 0} → Buffered S P → Progress → StreamLog → Dechunking S P
 seen r p calls = record { reader = r; limits = p.limits; place = p.place; taken = taken_of p; calls = calls }
+
+-- a wrong byte
+pub breaks : {S P : Type 0} (t : Dechunking S P) → IsDechunking t → (why : Malformed)
+    → MeetsWrong t.limits t.place t.reader.block.bytes why → Breaks why t
+breaks t is why wrong = record {
+  byte = wrong.byte;
+  later = wrong.later;
+  next = wrong.next;
+  name = wrong.name;
+  none = λ rest payload body.
+      let goes = is.leads.back (wrong.byte ∷ rest) payload body in
+      IsWrong-none t.limits t.place wrong.byte why rest goes.0 wrong.name goes.2;
+}
+
+-- some bytes were taken, and the payload in them was noted
+module _ {S P : Type 0} (remaining : S → Option (List ℕ)) (rules : ReadRules P) (r : Buffered S P) (p : Progress)
+    (calls : StreamLog) (is : IsDechunking (seen r p calls)) (handed : List ℕ) (r' : Buffered S P) (q : Progress)
+    (wire : List ℕ) (takes : Takes remaining rules r p wire handed r' q) (later : StreamLog)
+    (given : later.reads.given ≡ calls.reads.given ++ handed) where
+  pub still_is : IsDechunking (seen r' q later)
+  still_is =
+      let joined = Leads-joins p.limits Line p.place q.place (taken_of p) wire calls.reads.given handed is.leads takes.leads in
+      record {
+        leads = subst (λ l. Leads l Line (taken_of q) later.reads.given q.place) (sym takes.limits)
+            (subst (λ l. Leads p.limits Line l later.reads.given q.place) (sym takes.taken)
+            (subst (λ l. Leads p.limits Line (taken_of p ++ wire) l q.place) (sym given) joined));
+        place = takes.place;
+      }
+
+  pub body_went : BodyWent remaining rules (seen r p calls) handed (seen r' q later)
+  body_went = record { wire = wire; along = takes.along; taken = takes.taken; handed = given; limits = takes.limits }
 
 -- the payload that a call handed out is noted
 given_after : (calls : StreamLog) (out : List ℕ) (answer : Result ℕ ChunkedError)
@@ -30,54 +62,29 @@ module _ {S P : Type 0} (remaining : S → Option (List ℕ)) (rules : ReadRules
   abbrev after : Dechunking S P
   after = seen r' q (after_payload calls out answer)
 
-  still_is : IsDechunking after
-  still_is =
-      let taken : taken_of q ≡ taken_of p ++ hands.wire = hands.takes.taken in
-      let joined = Leads-joins p.limits Line p.place q.place (taken_of p) hands.wire calls.reads.given (handed_out out answer)
-      is.leads hands.takes.leads in
-      record {
-        leads = subst (λ l. Leads l Line (taken_of q) (handed_of after) q.place) (sym hands.takes.limits)
-            (subst (λ l. Leads p.limits Line l (handed_of after) q.place) (sym taken)
-            (subst (λ l. Leads p.limits Line (taken_of p ++ hands.wire) l q.place) (sym (given_after calls out answer)) joined));
-        place = hands.takes.place;
-      }
+  still : IsDechunking after
+  still = still_is remaining rules r p calls is (handed_out out answer) r' q hands.wire hands.takes
+      (after_payload calls out answer) (given_after calls out answer)
 
   answered : (a : Result ℕ ChunkedError) → a ≡ answer → ReadEnds rules r (length out) a r' q
       → PayloadAnswers rules (seen r p calls) (length out) a after
-  answered (Ok n) same ends = (ends.0, ends.1, (λ none some. IsWhole-done after still_is (ends.2 none some)))
-  answered (Err (NotChunked why count)) same (well, right, wrong) = (
-    right ∙ q.counted,
-    well,
-    record {
-      byte = wrong.byte;
-      later = wrong.later;
-      next = wrong.next;
-      name = wrong.name;
-      none = λ rest payload body.
-          let goes = still_is.leads.back (wrong.byte ∷ rest) payload body in
-          IsWrong-none q.limits q.place wrong.byte why rest goes.0 wrong.name goes.2;
-    },
-  )
+  answered (Ok n) same ends = (ends.0, ends.1, (λ none some. IsWhole-done after still (ends.2 none some)))
+  answered (Err (NotChunked why count)) same (well, right, wrong) = (right ∙ q.counted, well, breaks after still why wrong)
   answered (Err (Truncated count)) same (well, right, open', dry) =
-      (right ∙ q.counted, well, record { none = λ payload body. open' (body_done after payload still_is body); dry = dry })
+      (right ∙ q.counted, well, record { none = λ payload body. open' (body_done after payload still body); dry = dry })
   answered (Err (Io e)) same ends = ends
 
   pub payload_read : (p.place ≡ Done → r' ≡ r) → (length out ≡ 0 → (answer ≡ Ok 0) × (r' ≡ r))
       → ReadsPayload remaining rules (seen r p calls) out answer after
   payload_read done idle = record {
-    went = record {
-      wire = hands.wire;
-      along = hands.takes.along;
-      taken = hands.takes.taken;
-      handed = given_after calls out answer;
-      limits = hands.takes.limits;
-    };
+    went = body_went remaining rules r p calls is (handed_out out answer) r' q hands.wire hands.takes
+        (after_payload calls out answer) (given_after calls out answer);
     answers = answered answer refl hands.ends;
     calls = hands.calls;
     ended = λ whole. done (body_done (seen r p calls) calls.reads.given is whole);
     idle = idle;
     noted = refl;
-    whole = still_is;
+    whole = still;
   }
 
 -- an Ok answer is noted, and no other

@@ -15,6 +15,7 @@ use Rattle.chunked.specs.declared.limits.Limits.{Limits}
 use Rattle.chunked.specs.declared.place.Place.{Place}
 use Rattle.chunked.specs.declared.place.Place.TheVariants.{Data, Done}
 use Rattle.chunked.specs.declared.progress.Progress.{Progress}
+use Rattle.chunked.specs.declared.unchunk.Unchunked.{Unchunked}
 use Rattle.chunked.specs.Place.{IsPlace, IsSettled, IsWrong, Leads}
 
 -- the bytes of the body that were taken so far
@@ -154,14 +155,25 @@ pub record Skips {S P : Type 0} (remaining : S → Option (List ℕ)) (rules : R
   pub ends : SkipEnds rules s answer t q
   pub calls : Calls rules p.limits s p.place 0 (none_handed answer) t q.place
 
--- what is buffered was taken as far as it is no payload: up to payload, or the end of the body, or what is wrong, or all. The
--- stream wasn't asked
-pub record SkipsBuffered {S P : Type 0} (remaining : S → Option (List ℕ)) (rules : ReadRules P) (s : Buffered S P) (p : Progress)
-    (t : Buffered S P) (q : Progress) : Type 0 where
+-- no payload can be handed out of these bytes: the body ended, or there is none, or the next is wrong
+abbrev pub NoneLeft : Limits → Place → List ℕ → Type 0
+NoneLeft limits p bytes = (p ≡ Done) ⊎ ((bytes ≡ []) ⊎ ((why : Malformed) × MeetsWrong limits p bytes why))
+
+-- the first of these bytes were taken, and the payload in them was handed out into a slice, which is left as out
+pub record HandsFront (limits : Limits) (p : Place) (shown out : List ℕ) (r : Unchunked) : Type 0 where
+  pub within : r.taken ≤ length shown
+  pub bound : r.handed ≤ length out
+  pub leads : Leads limits p (take r.taken shown) (take r.handed out) r.place
+  pub place : IsPlace r.place
+
+-- as much payload of what is buffered was handed out as the slice takes, or all. The stream wasn't asked
+pub record HandsOnBuffered {S P : Type 0} (remaining : S → Option (List ℕ)) (rules : ReadRules P) (s : Buffered S P)
+    (p : Progress) (out : List ℕ) (n : ℕ) (t : Buffered S P) (q : Progress) : Type 0 where
   pub wire : List ℕ
-  pub takes : Takes remaining rules s p wire [] t q
+  pub takes : Takes remaining rules s p wire (take n out) t q
   pub told : t.log ≡ s.log
-  pub all : IsSettled q.place ⊎ ((t.block.bytes ≡ []) ⊎ ((why : Malformed) × MeetsWrong q.limits q.place t.block.bytes why))
+  pub bound : n ≤ length out
+  pub all : (n ≡ length out) ⊎ NoneLeft q.limits q.place t.block.bytes
 
 -- the payload that an answer hands out of a slice: its first bytes, or none
 abbrev pub handed_out : List ℕ → Result ℕ ChunkedError → List ℕ

@@ -1,5 +1,5 @@
 -- What contracts see of a reader of a body, and what its calls promise.
-use Rattle.std.specs.Prelude.{◌≡◌, ℕ, suc, ◌-◌, ◌^◌, ◌<◌, ◌≤◌, ◌⊎◌, List, [], ◌∷◌, ◌++◌, length, min, Option, Result, Ok, Err, ⊤}
+use Rattle.std.specs.Prelude.{◌≡◌, ℕ, zero, suc, ◌-◌, ◌^◌, ◌<◌, ◌≤◌, ◌⊎◌, List, [], ◌∷◌, ◌++◌, length, min, take, Option, Result, Ok, Err}
 use Rattle.std.specs.declared.io.Error.{Error}
 use Rattle.buffer_redux.specs.Buffered.{Buffered}
 use Rattle.buffer_redux.specs.BufReader.{ReadsAlong}
@@ -10,10 +10,10 @@ use Rattle.chunked.specs.declared.error.ChunkedError.TheVariants.{NotChunked, Tr
 use Rattle.chunked.specs.declared.error.Malformed.{Malformed}
 use Rattle.chunked.specs.declared.limits.Limits.{Limits}
 use Rattle.chunked.specs.declared.place.Place.{Place}
-use Rattle.chunked.specs.declared.place.Place.TheVariants.{Data, Line}
-use Rattle.chunked.specs.Between.{BecomesIo, Calls, Faulted, MeetsWrong, NoFault, NothingCame, handed_out}
+use Rattle.chunked.specs.declared.place.Place.TheVariants.{Line}
+use Rattle.chunked.specs.Between.{BecomesIo, Calls, Faulted, NoFault, NothingCame, handed_out}
 use Rattle.chunked.specs.Body.{IsBody}
-use Rattle.chunked.specs.Place.{IsPlace, IsSettled, IsWrong, Leads}
+use Rattle.chunked.specs.Place.{IsPlace, IsWrong, Leads}
 
 -- the buffered reader; how much of the body may be no payload; where in it the reader stands; the bytes of it that were
 -- taken so far; and its own calls, as a stream tells them
@@ -96,22 +96,24 @@ pub record ReadsPayload {S P : Type 0} (remaining : S → Option (List ℕ)) (ru
   pub noted : t.calls ≡ after_payload s.calls out answer
   pub whole : IsDechunking t
 
--- payload comes next, and some of it is buffered
-abbrev pub IsPayloadPlace : Place → Type 0
-IsPayloadPlace (Data (suc left)) = ⊤
-IsPayloadPlace p = ⊥
+-- no further payload is buffered: the body ended, or all was taken, or the next byte is wrong
+abbrev pub HasNoneBuffered : {S P : Type 0} → Dechunking S P → Type 0
+HasNoneBuffered t = IsWhole t ⊎ ((t.reader.block.bytes ≡ []) ⊎ ((why : Malformed) × Breaks why t))
 
-abbrev pub HasPayload : {S P : Type 0} → Dechunking S P → Type 0
-HasPayload d = IsPayloadPlace d.place × (0 < length d.reader.block.bytes)
+-- bytes that were handed out are noted as an Ok read, and none as no call
+abbrev pub after_buffered : StreamLog → List ℕ → ℕ → StreamLog
+after_buffered calls out zero = calls
+after_buffered calls out (suc n) = after_read calls out (Ok (suc n))
 
--- what is buffered was taken as far as it is no payload: up to payload, or the end of the body, or what is wrong, or all. The
--- stream wasn't asked
-pub record TakesBuffered {S P : Type 0} (remaining : S → Option (List ℕ)) (rules : ReadRules P) (s t : Dechunking S P)
-    : Type 0 where
-  pub went : BodyWent remaining rules s [] t
+-- what one call of `read_buffered` does, which left the slice as out: it hands out as many bytes as the slice takes, or all that
+-- are buffered. The stream isn't asked
+pub record HandsBuffered {S P : Type 0} (remaining : S → Option (List ℕ)) (rules : ReadRules P) (s : Dechunking S P)
+    (out : List ℕ) (n : ℕ) (t : Dechunking S P) : Type 0 where
+  pub went : BodyWent remaining rules s (take n out) t
   pub told : t.reader.log ≡ s.reader.log
-  pub all : IsSettled t.place
-      ⊎ ((t.reader.block.bytes ≡ []) ⊎ ((why : Malformed) × MeetsWrong t.limits t.place t.reader.block.bytes why))
+  pub bound : n ≤ length out
+  pub all : (n ≡ length out) ⊎ HasNoneBuffered t
+  pub noted : t.calls ≡ after_buffered s.calls out n
   pub whole : IsDechunking t
 
 -- an answer of one of std's streams stands for an answer of a payload: the same number of bytes, the stream's own error, or

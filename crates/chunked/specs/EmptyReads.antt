@@ -9,7 +9,7 @@ use Rattle.buffer_redux.specs.BufReader.{Reads, ReadsBuffered}
 use Rattle.buffer_redux.specs.EmptyReads.{ReadsWhenEmpty, none_before_fault, none_where_shown, once_at_most}
 use Rattle.buffer_redux.specs.Policy.{ReadRules}
 use Rattle.buffer_redux.specs.StreamLog.{ReadLog, with_zero, zero_of_some}
-use Rattle.chunked.specs.Between.{FillsAndTakes, LastCall, TakesTurns}
+use Rattle.chunked.specs.Between.{FillsAndTakes, TakesTurns}
 use Rattle.chunked.specs.Dechunking.{Dechunking, ReadsPayload}
 use Rattle.chunked.specs.declared.error.ChunkedError.{ChunkedError}
 use Rattle.chunked.specs.declared.error.ChunkedError.TheVariants.{NotChunked, Truncated, Io}

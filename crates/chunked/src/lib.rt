@@ -16,6 +16,7 @@ mod reader;
 mod step;
 mod token;
 mod trailers;
+mod unchunk;
 mod writer;
 
 pub use error::{ChunkedError, FinishError, Malformed, TrailersError};

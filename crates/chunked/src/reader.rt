@@ -3,8 +3,8 @@ ghost use Rattle.std.specs.Prelude.{None, ◌≡◌, ◌<◌, ◌≤◌, ◌↔�
 ghost use Rattle.std.specs.Io.{ReadsAtMost};
 ghost use Rattle.std.specs.Io.KnownBytes.{ReadConsumes};
 ghost use Rattle.buffer_redux.specs.StreamLog.{after_read};
-ghost use Rattle.chunked.specs.Between.{HandsOn, Skips, SkipsBuffered};
-ghost use Rattle.chunked.specs.Dechunking.{HasPayload, IsDechunking, IsPayloadPlace, IsWhole, ReadsAsIo, ReadsPayload, ReadsTold, TakesBuffered, begun, taken_count};
+ghost use Rattle.chunked.specs.Between.{HandsOn, HandsOnBuffered, Skips};
+ghost use Rattle.chunked.specs.Dechunking.{HandsBuffered, IsDechunking, IsWhole, ReadsAsIo, ReadsPayload, ReadsTold, begun, taken_count};
 ghost use Rattle.chunked.specs.Place.{IsPlace, IsSettled};
 
 use crate::error::ChunkedError;
@@ -12,6 +12,7 @@ use crate::limits::Limits;
 use crate::place::Place;
 use crate::progress::Progress;
 use crate::step::{advance, is_settled};
+use crate::unchunk::unchunk;
 use buffer_redux::BufReader;
 use buffer_redux::policy::{ReaderPolicy, StdPolicy};
 use buffer_redux::tell::{Call, CallLog, Tell, TellRead};
@@ -133,14 +134,17 @@ impl<R: TellRead, P: ReaderPolicy> ChunkedReader<R, P> {
         answer
     }
 
-    /// Takes what is buffered as far as it is no payload, and returns whether payload follows it there. The stream isn't asked:
-    /// what is wrong, or missing, is told by the next [`read_payload`](ChunkedReader::read_payload).
-    pub fn has_payload(&mut self) -> bool
-        ensures takes { TakesBuffered R.remaining P.rules self.old self.new }
-        ensures found { IsTrue result ↔ HasPayload self.new }
+    /// Hands out payload that is buffered, as much as the slice takes, and asks the stream for nothing. Less comes only where no
+    /// more payload is buffered: the body ended, all that is buffered was taken, or what comes next is wrong, which the next
+    /// [`read_payload`](ChunkedReader::read_payload) tells.
+    pub fn read_buffered(&mut self, out: &mut [u8]) -> usize
+        ensures { HandsBuffered R.remaining P.rules self.old out.new result self.new }
     {
-        take_buffered(&mut self.reader, &mut self.progress);
-        is_payload(self.progress.place) && self.reader.buf_len() > 0
+        let count = hand_buffered(&mut self.reader, &mut self.progress, out);
+        if count > 0 {
+            self.calls.note(&Call::Read(out, &Ok(count)));
+        }
+        count
     }
 }
 
@@ -211,28 +215,20 @@ fn skip<R: TellRead, P: ReaderPolicy>(
     Ok(())
 }
 
-// Takes what is buffered as far as it is no payload.
-fn take_buffered<R: TellRead, P: ReaderPolicy>(
+// Hands out payload that is buffered.
+fn hand_buffered<R: TellRead, P: ReaderPolicy>(
     reader: &mut BufReader<R, P>,
     progress: &mut Progress,
-)
+    out: &mut [u8],
+) -> usize
     requires { IsPlace progress.old.place }
-    ensures { SkipsBuffered R.remaining P.rules reader.old progress.old reader.new progress.new }
+    ensures { HandsOnBuffered R.remaining P.rules reader.old progress.old out.new result reader.new progress.new }
 {
     let shown = reader.buffer();
-    let reached = advance(&progress.limits, progress.place, shown);
+    let reached = unchunk(&progress.limits, progress.place, shown, out);
     progress.take(reached.place, &shown[..reached.taken]);
     reader.consume(reached.taken);
-}
-
-// Whether payload comes next.
-fn is_payload(place: Place) -> bool
-    ensures { IsTrue result ↔ IsPayloadPlace place }
-{
-    match place {
-        Place::Data(left) => left > 0,
-        _ => false,
-    }
+    reached.handed
 }
 
 // Reads of a payload of which so many bytes are left.

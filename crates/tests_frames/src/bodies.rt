@@ -17,23 +17,31 @@ use std::io::{ErrorKind, Read};
 use std::test::Fail;
 use tests_common::{Source, debug, first, kind, read_to_end, reader, source};
 
-// How a body ends.
+/// How a body ends.
 #[derive(Clone, Copy)]
-enum End<'a> {
-    // Behind it stand these bytes.
+pub enum End<'a> {
+    /// Behind it stand these bytes.
     Whole(&'a [u8]),
+    /// The byte behind so many is wrong.
     Wrong(Malformed, u64),
+    /// It ends behind so many bytes.
     Truncated(u64),
 }
 
-// The most bytes of a line and of the trailers, what is given, the payload, and how that ends.
-struct Row<'a>(usize, usize, &'a [u8], &'a [u8], End<'a>);
+/// The most bytes of a line and of the trailers, what is given, the payload, and how that ends.
+pub struct Row<'a>(
+    pub usize,
+    pub usize,
+    pub &'a [u8],
+    pub &'a [u8],
+    pub End<'a>,
+);
 
 const NEXT: &[u8] = b"GET / HTTP/1.1\r\n\r\n";
 
-// Bodies from the documentation of protocols and from the tests of other parsers, each with a request behind it, under the least
-// limits that take it.
-static BODIES: [Row<'static>; 5] = [
+/// Bodies from the documentation of protocols and from the tests of other parsers, each with a request behind it, under the
+/// least limits that take it.
+pub static BODIES: [Row<'static>; 5] = [
     Row(
         1,
         0,
@@ -73,8 +81,8 @@ GET / HTTP/1.1\r\n\r\n",
     ),
 ];
 
-// What isn't a body: the name of what is wrong, behind how many bytes that are right.
-static WRONG: [Row<'static>; 10] = [
+/// What isn't a body: the name of what is wrong, behind how many bytes that are right.
+pub static WRONG: [Row<'static>; 10] = [
     Row(9, 9, b"\r\n", b"", Wrong(NoSize, 0)),
     Row(9, 9, b"1\r\na\r\n;x\r\n", b"a", Wrong(NoSize, 6)),
     Row(9, 9, b"4x\r\nWiki", b"", Wrong(BadSize, 1)),
@@ -87,7 +95,8 @@ static WRONG: [Row<'static>; 10] = [
     Row(9, 9, b"0\r\nX\r\n", b"", Wrong(BadField, 4)),
 ];
 
-static WRONG_RETURNS: [Row<'static>; 7] = [
+/// The same of carriage returns.
+pub static WRONG_RETURNS: [Row<'static>; 7] = [
     Row(9, 9, b"4\rWiki", b"", Wrong(BareReturn, 2)),
     Row(9, 9, b"4;a\r\r\n", b"", Wrong(BareReturn, 4)),
     Row(9, 9, b"1\r\na\rb", b"a", Wrong(BareReturn, 5)),
@@ -97,8 +106,8 @@ static WRONG_RETURNS: [Row<'static>; 7] = [
     Row(9, 9, b"3\r\nWik\n", b"Wik", Wrong(ChunkTooLong, 6)),
 ];
 
-// At each limit and one past it.
-static LIMITS: [Row<'static>; 9] = [
+/// At each limit and one past it.
+pub static LIMITS: [Row<'static>; 9] = [
     Row(20, 0, b"3fffffffffffffff\r\n", b"", Truncated(18)),
     Row(20, 0, b"4000000000000000\r\n", b"", Wrong(SizeTooLarge, 15)),
     Row(20, 0, b"03FFFFFFFFFFFFFFF\r\n", b"", Truncated(19)),
@@ -116,8 +125,8 @@ static LIMITS: [Row<'static>; 9] = [
     ),
 ];
 
-// Cut off in each part.
-static CUT: [Row<'static>; 8] = [
+/// Cut off in each part.
+pub static CUT: [Row<'static>; 8] = [
     Row(9, 9, b"", b"", Truncated(0)),
     Row(9, 9, b"4", b"", Truncated(1)),
     Row(9, 9, b"4;a\r", b"", Truncated(4)),
@@ -128,7 +137,8 @@ static CUT: [Row<'static>; 8] = [
     Row(9, 9, b"0\r\nX:\r\n\r", b"", Truncated(8)),
 ];
 
-type Body = ChunkedReader<Source>;
+/// A reader of a body over a script.
+pub type Body = ChunkedReader<Source>;
 
 /// A reader of a body under these limits. Neither it nor any call below promises anything.
 pub fn over<R: Tell, P>(
@@ -149,7 +159,8 @@ pub fn unbegun(alloc: Global) -> io::Result<Body> {
     body(alloc, &Row(9, 9, b"", b"", Truncated(0)), &[])
 }
 
-fn read_payload<R: TellRead, P: ReaderPolicy>(
+/// One read of payload.
+pub fn read_payload<R: TellRead, P: ReaderPolicy>(
     body: &mut ChunkedReader<R, P>,
     out: &mut [u8],
 ) -> Result<usize, ChunkedError> {
@@ -186,8 +197,12 @@ fn payload_of<R: TellRead, P: ReaderPolicy>(
     Ok((None, failed))
 }
 
-// Whether a body ended so.
-fn ends<R: Tell, P>(body: &ChunkedReader<R, P>, why: &Option<ChunkedError>, end: End<'_>) -> bool {
+/// Whether a body ended so.
+pub fn ends<R: Tell, P>(
+    body: &ChunkedReader<R, P>,
+    why: &Option<ChunkedError>,
+    end: End<'_>,
+) -> bool {
     match (why, end) {
         (None, Whole(_)) => is_done(body),
         (Some(ChunkedError::NotChunked(why, right)), Wrong(name, count)) => {
@@ -224,8 +239,8 @@ fn leaves<R: Read>(alloc: Global, reader: &mut R, behind: &[u8]) -> io::Result<O
     Ok((rest.as_slice() == behind).then_some(failed))
 }
 
-// Whether they are left behind a body that is whole.
-fn goes_before<R: TellRead + Drop, P: ReaderPolicy + Drop>(
+/// Whether they are left behind a body that is whole.
+pub fn goes_before<R: TellRead + Drop, P: ReaderPolicy + Drop>(
     alloc: Global,
     body: ChunkedReader<R, P>,
     end: End<'_>,
@@ -236,7 +251,8 @@ fn goes_before<R: TellRead + Drop, P: ReaderPolicy + Drop>(
     }
 }
 
-fn sum(one: Option<usize>, other: Option<usize>) -> Option<usize> {
+/// How often two calls failed.
+pub fn sum(one: Option<usize>, other: Option<usize>) -> Option<usize> {
     Some(one?.saturating_add(other?))
 }
 

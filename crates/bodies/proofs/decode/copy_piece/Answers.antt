@@ -11,13 +11,10 @@ returns-in_err-count-clause-moves g c =
     rw (p.1, p.2)
     (piece_stops g.R.TellRead.remaining c.args.source.now c.args.target.now c.requires.target c.read_piece.new.source
     c.read_piece.new.out
-    c.in_err-count.field-0.0 read.reads c.requires.sent read.quiet)
+    c.in_err-count.field-0.0 read.reads c.requires.sent)
 
 pub returns-in_err-count-clause-asks : goal.returns-in_err-count-clause-asks
 returns-in_err-count-clause-asks g c = c.in_err-count.ensures.asks
-
-pub returns-in_err-count-clause-quiet : goal.returns-in_err-count-clause-quiet
-returns-in_err-count-clause-quiet g c = c.in_err-count.ensures.quiet
 
 pub returns-in_err-count-clause-writes : goal.returns-in_err-count-clause-writes
 returns-in_err-count-clause-writes g c = WritesOn-none _
@@ -30,9 +27,6 @@ returns-then-count-eq0-clause-moves g c =
 
 pub returns-then-count-eq0-clause-asks : goal.returns-then-count-eq0-clause-asks
 returns-then-count-eq0-clause-asks g c = c.in_ok-count.ensures.asks
-
-pub returns-then-count-eq0-clause-quiet : goal.returns-then-count-eq0-clause-quiet
-returns-then-count-eq0-clause-quiet g c = c.in_ok-count.ensures.quiet
 
 pub returns-then-count-eq0-clause-give : goal.returns-then-count-eq0-clause-give
 returns-then-count-eq0-clause-give g c = c.in_ok-count.ensures.give
@@ -52,9 +46,6 @@ returns-in_err-write_piece-clause-moves g c =
 pub returns-in_err-write_piece-clause-asks : goal.returns-in_err-write_piece-clause-asks
 returns-in_err-write_piece-clause-asks g c = c.in_ok-count.ensures.asks
 
-pub returns-in_err-write_piece-clause-quiet : goal.returns-in_err-write_piece-clause-quiet
-returns-in_err-write_piece-clause-quiet g c = c.in_ok-count.ensures.quiet
-
 pub returns-in_err-write_piece-clause-writes : goal.returns-in_err-write_piece-clause-writes
 returns-in_err-write_piece-clause-writes g c =
     let wrote = c.in_err-write_piece.ensures in
@@ -72,9 +63,6 @@ returns-clause-moves g c =
 
 pub returns-clause-asks : goal.returns-clause-asks
 returns-clause-asks g c = c.in_ok-count.ensures.asks
-
-pub returns-clause-quiet : goal.returns-clause-quiet
-returns-clause-quiet g c = c.in_ok-count.ensures.quiet
 
 pub returns-clause-give : goal.returns-clause-give
 returns-clause-give g c = c.in_ok-count.ensures.give

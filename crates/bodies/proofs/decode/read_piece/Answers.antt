@@ -1,7 +1,7 @@
 use Rattle.std.proofs.Common.{arith, inl, refl}
 use Rattle.buffer_redux.specs.Faults.{OnlyInterrupts-none}
 use Rattle.chunked.specs.DechunkingLaws.{BodyWent-none}
-use Rattle.bodies.proofs.Reading.{again, answered, asked_on, ends_last, gave_again, gives_again, gives_last, none_again, quiet_last, source_kept}
+use Rattle.bodies.proofs.Reading.{again, answered, asked_on, ends_last, gave_again, gives_again, gives_last, source_kept}
 use Rattle.bodies.proofs.decode.read_piece.Goals as goal
 
 pub tries-init : goal.tries-init
@@ -15,7 +15,6 @@ tries-init g c = record {
   asks = inl refl;
   give = omega arith;
   gave = refl;
-  quiet = λ _. refl;
 }
 
 pub returns-then-is_final-clause-reads : goal.returns-then-is_final-clause-reads
@@ -29,11 +28,6 @@ returns-then-is_final-clause-asks g c =
     let before = c.tries.invariant in
     asked_on _ _ _ _ before.went before.source before.met _ _ before.row before.asks before.give _
     c.read_payload-answer.ensures.reads
-
-pub returns-then-is_final-clause-quiet : goal.returns-then-is_final-clause-quiet
-returns-then-is_final-clause-quiet g c =
-    let before = c.tries.invariant in
-    quiet_last _ _ _ _ before.went before.source before.met _ _ before.row before.quiet _ c.read_payload-answer.ensures.reads
 
 pub returns-then-is_final-clause-give : goal.returns-then-is_final-clause-give
 returns-then-is_final-clause-give g c =
@@ -61,5 +55,4 @@ tries-preserved g c =
       asks = asked_on _ _ _ _ before.went before.source before.met _ _ before.row before.asks before.give _ reads;
       give = gives_again _ _ _ _ before.went before.source before.met _ _ before.row before.give _ interrupted.0 reads;
       gave = gave_again _ _ _ _ before.went before.source before.met _ _ before.row before.gave _ interrupted.0 reads;
-      quiet = none_again _ _ _ _ before.went before.source before.met _ _ before.row before.quiet _ interrupted.0 reads;
     }

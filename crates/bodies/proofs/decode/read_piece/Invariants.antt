@@ -1,6 +1,6 @@
 use Rattle.std.proofs.Common.{◌≡◌, ◌+◌, ◌-◌, ◌<◌, ◌≤◌, [], length}
 use Rattle.buffer_redux.specs.Policy.{std_read_rules}
-use Rattle.chunked.specs.Dechunking.{BodyWent, HasPayload}
+use Rattle.chunked.specs.Dechunking.{BodyWent}
 use Rattle.programs.specs.Prompt.{AsksGive}
 use Rattle.bodies.specs.Decode.{Asks, IsBodySource, ReadsMet}
 use Rattle.bodies.proofs.decode.read_piece.Given as goal
@@ -16,7 +16,6 @@ invariant-tries g l = record {
   asks : Asks l.fn.source l.source;
   give : AsksGive l.fn.source.reader.log l.source.reader.log;
   gave : l.source.reader.log.reads.zero_reads ≡ l.fn.source.reader.log.reads.zero_reads;
-  quiet : HasPayload l.fn.source → l.source ≡ l.fn.source;
 }
 
 abbrev pub decreases-tries : goal.decreases-tries
