@@ -81,14 +81,23 @@ impl Run for Held<'_> {
     }
 }
 
+fn sweep_row(rt: &impl Abort, alloc: Global, row: &Row<'_>) -> Result<(), Fail> {
+    let runs = [
+        Held(row, 1, 1),
+        Held(row, 1, 64),
+        Held(row, 3, 5),
+        Held(row, 8, 1),
+        Held(row, 8, 5),
+        Held(row, 8, 64),
+        Held(row, 200, 5),
+        Held(row, 200, 64),
+    ];
+    sweep(rt, alloc, &runs, &[usize::MAX, 3, 1], FAULT)
+}
+
 fn sweep_rows(rt: &impl Abort, alloc: Global, rows: &[Row<'_>]) -> Result<(), Fail> {
     for row in rows {
-        for capacity in [1, 3, 8, 200] {
-            for slice in [1, 5, 64] {
-                let runs = [Held(row, capacity, slice)];
-                sweep(rt, alloc, &runs, &[usize::MAX, 3, 1], FAULT)?;
-            }
-        }
+        sweep_row(rt, alloc, row)?;
     }
     Ok(())
 }
