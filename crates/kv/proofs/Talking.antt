@@ -10,7 +10,8 @@ use Rattle.line_reader.specs.CallsLaws.{LinesAlong-joins, LinesAlong-none}
 use Rattle.line_reader.specs.Lines.{IsLine}
 use Rattle.line_reader.specs.Lining.{Lining, rest}
 use Rattle.kv.specs.Exchange.{Converses, Exchange, joined}
-use Rattle.kv.specs.Serving.{Fails, HasQuit, IsSent, OnceSent, Server, Stops, Talked, server}
+use Rattle.kv.specs.Serving.{EndedBy, Fails, HasQuit, IsSent, OnceSent, Server, Stops, Talked, server}
+use Rattle.kv.specs.declared.serving.Served.{Served}
 
 module _ {S T P : Type 0} (remaining : S → Option (List ℕ)) (tells : T → StreamLog) (stretch : T → T → Type 0)
     (s : Server S T P) where
@@ -65,7 +66,8 @@ module _ {S T P : Type 0} (remaining : S → Option (List ℕ)) (tells : T → S
   pub stops : ((u : T) → stretch u u) → ((u v w : T) → stretch u v → stretch v w → stretch u w)
       → (exchanges : List Exchange) (m t : Server S T P) → Talked remaining tells stretch s exchanges m → (e : Error)
       → OnceSent remaining tells stretch m (λ r. (Fails remaining tells stretch r e t × ¬ (HasQuit exchanges))
-      ⊎ (StoppedAlong tells stretch std_write_rules r.replies e t.replies × (r.values ≡ t.values))) t.commands
+      ⊎ ((r.values ≡ t.values) × ((r.commands ≡ t.commands) ⊎ ((ended : Served) × EndedBy remaining ended exchanges
+      r.commands t.commands)) × StoppedAlong tells stretch std_write_rules r.replies e t.replies)) t.commands
       → Stops remaining tells stretch s e t
   stops none joins exchanges m t talked e once = record {
     exchanges = exchanges;

@@ -1,8 +1,8 @@
-use Rattle.std.proofs.Common.{◌≡◌, ◌⊎◌, ℕ, List, [], ◌∷◌, Option, None, Some, Result, Ok, Err, MatchResult, IfOk, IfErr, true, false, inl, inr, subst, refl, sym, ap}
+use Rattle.std.proofs.Common.{◌≡◌, ◌⊎◌, ℕ, List, [], ◌∷◌, Option, None, Some, Result, Ok, Err, MatchResult, IfOk, true, false, inl, inr, subst, refl, sym, ap}
 use Rattle.std.specs.declared.io.Error.{Error}
 use Rattle.std.proofs.lemmas.Option.{none-some}
 use Rattle.std.specs.Prelude.{codes}
-use Rattle.buffer_redux.specs.BufWriter.{StoppedAlong, WritesAlong}
+use Rattle.buffer_redux.specs.BufWriter.{AllAlong, WritesAlong}
 use Rattle.buffer_redux.specs.Policy.{std_write_rules}
 use Rattle.buffer_redux.specs.StreamLog.{StreamLog}
 use Rattle.line_reader.specs.Calls.{Event, LinesAlong, Trimmed}
@@ -44,7 +44,7 @@ module _ {S T P : Type 0} (remaining : S → Option (List ℕ)) (tells : T → S
         );
       }
   long_turns m meets taken quiet same (Err e) (Ok count, k, (stopped, _)) =
-      record { quiet = quiet (Ok count) k; does = inr (None, (count, (m, meets, k)), stopped) }
+      record { quiet = quiet (Ok count) k; does = inr (None, (count, (m, meets, k)), _, (refl, λ q. ap (λ v. v q) (sym same)), stopped) }
   long_turns m meets taken quiet same answer (Err e, k, (is, w)) = subst (λ a. Turns remaining tells stretch s a t) (sym is)
       (record { quiet = quiet (Err e) k; does = inl (inr (m, meets, k), same, w) })
 
@@ -63,12 +63,11 @@ module _ {S T P : Type 0} (remaining : S → Option (List ℕ)) (tells : T → S
     }
 
     pub line_does : (answer : Result Step Error)
-        → IfErr answer (λ e. StoppedAlong tells stretch std_write_rules s.replies e t.replies)
-        → IfOk answer (λ _. (reply : List ℕ) × Answers s.values (Some line) reply t.values
-        × WritesAlong tells stretch std_write_rules s.replies reply t.replies)
+        → (reply : List ℕ) × Answers s.values (Some line) reply t.values
+        × AllAlong tells stretch std_write_rules s.replies reply answer t.replies
         → IfOk answer (IsStep (Some line))
         → MatchResult answer (λ step. Does remaining tells stretch s step t) (λ e. Fails remaining tells stretch s e t)
-    line_does (Ok Went) stopped answered step = (_, took answered, step)
-    line_does (Ok Quit) stopped answered step = (_, took answered, step)
-    line_does (Ok End) stopped answered step = absurd step
-    line_does (Err e) stopped answered step = inr (Some line, next, stopped)
+    line_does (Ok Went) answered step = (_, took answered, step)
+    line_does (Ok Quit) answered step = (_, took answered, step)
+    line_does (Ok End) answered step = absurd step
+    line_does (Err e) (reply, is, stopped) step = inr (Some line, next, reply, is, stopped)

@@ -88,6 +88,7 @@ module _ {S T P : Type 0} (remaining : S → Option (List ℕ)) (tells : T → S
       ((NextTrimmed remaining s.commands (Err (Io e)) t.commands ⊎ SkipsLong remaining s.commands (Err e) t.commands)
       × (s.values ≡ t.values) × (s.replies ≡ t.replies))
       ⊎ ((line : Option (List ℕ)) × Takes remaining s.commands line t.commands
+      × (reply : List ℕ) × Answers s.values line reply t.values
       × StoppedAlong tells stretch std_write_rules s.replies e t.replies)
 
   -- a turn: it asks for no command where an end of a line is buffered
@@ -129,6 +130,7 @@ module _ {S T P : Type 0} (remaining : S → Option (List ℕ)) (tells : T → S
     pub last : Server S T P
     pub talked : Talked s exchanges last
     pub lines : LinesAlong remaining [] s.commands (joined (λ x. x.taken) exchanges) [] last.commands
-    pub stops : OnceSent last (λ r. (Fails r e t × ¬ (HasQuit exchanges))
-        ⊎ (StoppedAlong tells stretch std_write_rules r.replies e t.replies × (r.values ≡ t.values))) t.commands
+    pub stops : OnceSent last (λ r. (Fails r e t × ¬ (HasQuit exchanges)) ⊎ ((r.values ≡ t.values)
+        × ((r.commands ≡ t.commands) ⊎ ((ended : Served) × EndedBy remaining ended exchanges r.commands t.commands))
+        × StoppedAlong tells stretch std_write_rules r.replies e t.replies)) t.commands
     pub along : WritesAlong tells stretch std_write_rules s.replies (joined (λ x. x.reply) exchanges) stops.ready

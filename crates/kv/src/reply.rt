@@ -1,6 +1,6 @@
 //! A command is done, and its reply written.
-ghost use Rattle.std.specs.Prelude.{◌≡◌, ◌++◌, List, ℕ, codes, OnOk, IfErr};
-ghost use Rattle.buffer_redux.specs.BufWriter.{AllAlong, StoppedAlong, WritesAlong};
+ghost use Rattle.std.specs.Prelude.{◌≡◌, ◌++◌, List, ℕ, codes};
+ghost use Rattle.buffer_redux.specs.BufWriter.{AllAlong};
 ghost use Rattle.buffer_redux.specs.Policy.{std_write_rules};
 ghost use Rattle.kv.specs.Exchange.{Acts, refusal_line};
 ghost use Rattle.kv.specs.Stored.{value_in};
@@ -13,17 +13,15 @@ use std::alloc::Global;
 use std::io;
 use std::io::Write;
 
-/// Does a command, and writes its reply.
+/// Does a command, and writes its reply. It is done also where its reply can't be written.
 pub fn act<W: TellWrite>(
     alloc: Global,
     command: Result<Command<'_>, Refusal>,
     store: &mut Store,
     writer: &mut BufWriter<W>,
 ) -> io::Result<()>
-    ensures stopped { IfErr result (λ e. StoppedAlong W.log W.stretch std_write_rules writer.old e writer.new) }
-    ensures acted { OnOk result ((reply : List ℕ)
-        × Acts (value_in store.old.map) command.entry reply (value_in store.new.map)
-        × WritesAlong W.log W.stretch std_write_rules writer.old reply writer.new) }
+    ensures { (reply : List ℕ) × Acts (value_in store.old.map) command.entry reply (value_in store.new.map)
+        × AllAlong W.log W.stretch std_write_rules writer.old reply result writer.new }
 {
     match command {
         Ok(Command::Set(key, value)) => match store.set(alloc, key, value) {

@@ -2,7 +2,7 @@
 ghost use Rattle.std.specs.Prelude.{◌≡◌, ◌+◌, ◌++◌, ◌∷◌, ◌⊎◌, ℕ, List, [], Some, take, drop, OnOk, IfOk, IfErr, IfSome, IsTrue};
 ghost use Rattle.line_reader.specs.Lines.{IsLine, newline};
 ghost use Rattle.line_reader.specs.Lining.{rest};
-ghost use Rattle.buffer_redux.specs.BufWriter.{AllAlong, StoppedAlong, WritesAlong};
+ghost use Rattle.buffer_redux.specs.BufWriter.{AllAlong};
 ghost use Rattle.buffer_redux.specs.Policy.{std_write_rules};
 ghost use Rattle.kv.specs.Exchange.{Answers};
 ghost use Rattle.kv.specs.Serving.{AnswersLong, Ends, IsSent, IsStep, Serves, Stops, Turns, server};
@@ -124,10 +124,8 @@ fn answer<W: TellWrite>(
     store: &mut Store,
     writer: &mut BufWriter<W>,
 ) -> io::Result<Step>
-    ensures stopped { IfErr result (λ e. StoppedAlong W.log W.stretch std_write_rules writer.old e writer.new) }
-    ensures answered { IfOk result (λ _. (reply : List ℕ)
-        × Answers (value_in store.old.map) (Some line.now) reply (value_in store.new.map)
-        × WritesAlong W.log W.stretch std_write_rules writer.old reply writer.new) }
+    ensures answered { (reply : List ℕ) × Answers (value_in store.old.map) (Some line.now) reply (value_in store.new.map)
+        × AllAlong W.log W.stretch std_write_rules writer.old reply result writer.new }
     ensures step { IfOk result (IsStep (Some line.now)) }
 {
     let command = parse(line);

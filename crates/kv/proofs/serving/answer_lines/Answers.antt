@@ -59,7 +59,7 @@ returns-in_err-make_ready-clause-failed g c =
     let p = err_from_is_err_and c.from_residual.result c.from_residual.ensures.1 in
     rw (p.1, p.2) (stops _ _ _ _ g.met.W.TellWrite.stretch_none g.met.W.TellWrite.stretch_joins c.loop-turn.invariant.0 m _
     c.loop-turn.invariant.1 _
-    (at_once _ _ _ m g.met.W.TellWrite.stretch_none _ (inr (c.in_err-make_ready.ensures.along, refl)) _ refl))
+    (at_once _ _ _ m g.met.W.TellWrite.stretch_none _ (inr (refl, inl refl, c.in_err-make_ready.ensures.along)) _ refl))
 
 pub returns-in_err-turn-clause-failed : goal.returns-in_err-turn-clause-failed
 returns-in_err-turn-clause-failed g c =

@@ -24,14 +24,12 @@ pub returns-in_err-flush-clause-failed : goal.returns-in_err-flush-clause-failed
 returns-in_err-flush-clause-failed g c =
     let p = err_from_is_err_and c.from_residual-in_err-flush.result c.from_residual-in_err-flush.ensures.1 in
     let ends = c.in_ok-ended.ensures.ended in
+    let stopped = subst (λ w. StoppedAlong g.W.Tell.log g.W.TellWrite.stretch std_write_rules w c.in_err-flush.field-0.0
+    c.flush.new.self) (sym ends.ends.done.2) (WasFlushed-all _ _ _ _ _ _ c.in_err-flush.ensures.flushed) in
     rw (p.1, p.2) (stops _ _ _ _ g.met.W.TellWrite.stretch_none g.met.W.TellWrite.stretch_joins ends.exchanges ends.last _
     ends.talked _ (record {
       ready = ends.ends.ready;
       sent = ends.ends.sent;
       waits = ends.ends.waits;
-      done = inr (
-        subst (λ w. StoppedAlong g.W.Tell.log g.W.TellWrite.stretch std_write_rules w c.in_err-flush.field-0.0 c.flush.new.self)
-            (sym ends.ends.done.2) (WasFlushed-all _ _ _ _ _ _ c.in_err-flush.ensures.flushed),
-        ends.ends.done.1,
-      );
+      done = inr (ends.ends.done.1, inr (_, ends.ends.done.0), stopped);
     }))

@@ -15,7 +15,7 @@ returns-in-Ok-Some g c =
     let next = NextTrimmed-some _ _ _ _ _ _ c.in-Ok-Some.is c.in-Ok-Some.field-0-is c.next_trimmed.follows.holds-at-none in
     record {
       quiet = λ end. NextTrimmed-quiet _ _ _ _ (HasLine-end _ open' end) next;
-      does = line_does _ _ _ _ _ _ open' next _ c.answer.ensures.stopped c.answer.ensures.answered c.answer.ensures.step;
+      does = line_does _ _ _ _ _ _ open' next _ c.answer.ensures.answered c.answer.ensures.step;
     }
 
 pub returns-in-Ok-None : goal.returns-in-Ok-None
