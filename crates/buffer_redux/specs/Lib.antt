@@ -41,6 +41,7 @@ pub mod UntilLaws
 pub mod ReadLine
 pub mod LineLaws
 pub mod Pieces
+pub mod PiecesLaws
 pub mod Unbuffer
 pub mod BufWriter
 pub mod WriteAll

@@ -44,7 +44,7 @@ Ended remaining rules s t = (s.left ≡ 0) × (t ≡ s)
 abbrev pub Stopped : {S P : Type 0} → (S → Option (List ℕ)) → ReadRules P → Splitting S P → Error → Splitting S P
     → Type 0
 Stopped remaining rules s e t = GoesOnWith remaining rules s (Err e) t.begun t
-    ⊎ ((s.left ≡ 1) × (error_kind e ≡ TimedOut) × (t.reader ≡ s.reader) × (t.begun ≡ s.begun))
+    ⊎ ((s.left ≡ 1) × (error_kind e ≡ TimedOut) × (t ≡ record s { left = 0 }))
 
 -- a call gave this of the next piece, made of all its bytes, or stopped
 abbrev pub Gives : {S P A : Type 0} → (S → Option (List ℕ)) → ReadRules P → (A → List ℕ → Type 0) → Splitting S P

@@ -1,8 +1,9 @@
 -- What calls that go on up to a byte do to the bytes that are known to be left.
 use Rattle.std.specs.Prelude.{◌≡◌, ℕ, Bool, false, true, cond, List, [], ◌∷◌, ◌++◌, Result, Ok, Err, Option, None, Some, IfSome, IfOk, OnOk, length}
-use Rattle.std.proofs.Common.{◌∙◌, ap, append-nil, append_assoc, arith, inl, inr, refl, sym}
+use Rattle.std.proofs.Common.{◌∙◌, eqb, ap, append-nil, append_assoc, arith, inl, inr, refl, sym}
 use Rattle.std.proofs.BufReadLemmas.{take_through-append}
-use Rattle.std.specs.Io.BufRead.{take_through}
+use Rattle.std.proofs.lemmas.List.{append_cancel_left}
+use Rattle.std.specs.Io.BufRead.{take_through, drop_through, DropsThrough}
 use Rattle.std.specs.Io.KnownBytes.{Consumes}
 use Rattle.std.specs.declared.io.Error.{Error}
 use Rattle.redux_policy.specs.Policy.{ReadRules}
@@ -33,6 +34,23 @@ ending_known byte None b handed ends went = tt
 ending_known byte (Some xs) None handed ends went = absurd went
 ending_known byte (Some xs) (Some ys) handed ends went =
     ending_through byte handed ys ends ∙ ap (take_through byte) (sym went)
+
+-- what stands through the first such byte, and what behind it
+through_front : (byte : ℕ) (xs : List ℕ) → take_through byte xs ++ drop_through byte xs ≡ xs
+through_front byte [] = refl
+through_front byte (x ∷ xs) = at (eqb x byte) (through_front byte xs)
+  where
+    at : (b : Bool) → take_through byte xs ++ drop_through byte xs ≡ xs
+        → cond b (x ∷ []) (x ∷ take_through byte xs) ++ cond b xs (drop_through byte xs) ≡ x ∷ xs
+    at true whole = refl
+    at false whole = ap (λ l. x ∷ l) whole
+
+dropped_known : (byte : ℕ) (a b : Option (List ℕ)) (handed : List ℕ) → Consumes a b handed
+    → IfSome a (λ xs. handed ≡ take_through byte xs) → DropsThrough a b byte
+dropped_known byte None b handed went is = tt
+dropped_known byte (Some xs) None handed went is = absurd went
+dropped_known byte (Some xs) (Some ys) handed went is = ap Some (append_cancel_left (take_through byte xs) ys
+    (drop_through byte xs) (ap (λ l. l ++ ys) (sym is) ∙ sym went ∙ sym (through_front byte xs)))
 
 pub appended_known : (byte : ℕ) (before handed after : List ℕ) → after ≡ before ++ handed → (a : Option (List ℕ))
     → IfSome a (λ xs. handed ≡ take_through byte xs) → IfSome a (λ xs. after ≡ before ++ take_through byte xs)
@@ -79,4 +97,14 @@ module _ {S P : Type 0} (remaining : S → Option (List ℕ)) (rules : ReadRules
   ReadsUntil-known before (Err e) after t reads = tt
   ReadsUntil-known before (Ok n) after t reads = appended_known byte before reads.handed after reads.appended
       (reader_remaining remaining rules s)
+      (EndsUntil-known (FillRetried remaining rules) no_memory n reads.handed t reads.front reads.ends)
+
+  -- and just those are gone
+  pub ReadsUntil-drops : (before : List ℕ) (n : ℕ) (after : List ℕ) (t : Buffered S P)
+      → ReadsUntil remaining rules byte s before (Ok n) after t
+      → DropsThrough (reader_remaining remaining rules s) (reader_remaining remaining rules t) byte
+  ReadsUntil-drops before n after t reads = dropped_known byte (reader_remaining remaining rules s)
+      (reader_remaining remaining rules t) reads.handed
+      (ReadsAlong-left remaining rules s reads.handed t
+      (ReaderKeeps-along remaining rules s reads.handed t reads.front.in_order reads.front.keeps))
       (EndsUntil-known (FillRetried remaining rules) no_memory n reads.handed t reads.front reads.ends)
