@@ -1,10 +1,10 @@
 //! The parts of a read: filling the buffer, handing bytes out, and reading on until a slice is full.
-ghost use Rattle.std.specs.Prelude.{◌≡◌, ◌<◌, Ok, Err, length};
+ghost use Rattle.std.specs.Prelude.{◌≡◌, ◌<◌, ◌≤◌, Ok, Err, length, take};
 ghost use Rattle.std.specs.Io.{ReadsAtMost};
 ghost use Rattle.std.specs.Io.KnownBytes.{IsAtEnd};
 ghost use Rattle.redux_buffer.specs.Block.{IsBlock, usable};
 ghost use Rattle.buffer_redux.specs.Buffered.{Buffered};
-ghost use Rattle.buffer_redux.specs.BufReader.{InnerGives, RanDry};
+ghost use Rattle.buffer_redux.specs.BufReader.{InnerGives, RanDry, ReaderConsumes, ReaderKeeps, ReadsInOrder};
 ghost use Rattle.buffer_redux.specs.Fill.{Filled};
 ghost use Rattle.buffer_redux.specs.ReadAll.{OneRead, ReadsExactly};
 ghost use Rattle.buffer_redux.specs.ReadInside.{AskedRead, FillDone, HandOut, ReadsInside};
@@ -33,6 +33,19 @@ impl<R: TellRead, P: ReaderPolicy> BufReader<R, P> {
             }
         }
         Ok(())
+    }
+
+    // Drops the first `count` bytes, which are buffered, and tells the policy.
+    #[inline(always)]
+    pub(super) fn consume_shown(&mut self, count: usize)
+        requires within { count ≤ length self.old.block.bytes }
+        ensures in_order { ReadsInOrder self.old (take count self.old.block.bytes) self.new }
+        ensures inner { self.new.inner ≡ self.old.inner }
+        ensures consumed { ReaderConsumes P.rules count self.old self.new }
+        ensures keeps { ReaderKeeps R.remaining P.rules self.old self.new }
+    {
+        self.buf.consume(count);
+        self.policy.after_consume(&mut self.buf, count);
     }
 
     // Hands out the first bytes that are buffered, as many as fit, and tells the policy how many those were.

@@ -1,4 +1,4 @@
-use Rattle.std.proofs.Common.{◌≡◌, ℕ, zero, suc, ◌==◌, ◌<◌, true, false, length, Ok, Err, refl, ap, inl, subst, sym, ◌∙◌, arith}
+use Rattle.std.proofs.Common.{◌≡◌, ◌<◌, true, length, Ok, Err, refl, ap, inl, subst, sym, ◌∙◌, arith}
 use Rattle.buffer_redux.specs.Buffered.{Buffered}
 use Rattle.buffer_redux.specs.ReadInside.{AskedRead, ReadsInside}
 use Rattle.buffer_redux.proofs.Testing.{some_of}

@@ -1,4 +1,4 @@
-use Rattle.std.proofs.Common.{rules, ◌≡◌, ◌≤◌, ◌∙◌, length, take, subst, ap, arith, length-take-le}
+use Rattle.std.proofs.Common.{rules, ◌≡◌, ◌≤◌, length, subst, ap}
 use Rattle.redux_buffer.specs.Block.{Extends, draw_back, usable}
 use Rattle.redux_buffer.specs.BufImpl.{as_placed}
 use Rattle.redux_buffer.proofs.Written.{front_adds}
