@@ -230,7 +230,8 @@ impl<W: TellWrite, E: Encoder> PieceWriter<W, E> {
         writer.into_inner_with_buffer()
     }
 
-    // Copies the piece in, for which there is room.
+    // Copies the piece in, for which there is room. The length of the head and its first bytes are read before the room is made:
+    // where the compiler knows the length, no part of the head is laid out in memory then.
     #[inline(always)]
     fn take_in(&mut self, head: &Head, payload: &[u8])
         requires head { IsHead (E.encoding self.old.encoder) payload.now head.now }
@@ -238,29 +239,31 @@ impl<W: TellWrite, E: Encoder> PieceWriter<W, E> {
         ensures { PutsIn W.stretch (E.encoding self.old.encoder).most self.old
             (coded (E.encoding self.old.encoder) payload.now) self.new }
     {
+        let len = head.len;
+        let mut word = [0; 8];
+        word.copy_from_slice(&head.bytes[..8]);
         self.writer.make_room();
-        self.put_head(head);
+        self.put_head(head, len, &word);
         self.put(payload);
         if !self.encoder.tail().is_empty() {
             let _ = self.writer.write(self.encoder.tail());
         }
     }
 
-    // Copies the head in, for which there is room. A short one goes in from a word of its own: a head of a known length isn't
-    // laid out in memory then, where the room of a long one would be cleared.
+    // Copies the head in, for which there is room: it has `len` bytes, of which `word` are the first.
     #[inline(always)]
-    fn put_head(&mut self, head: &Head)
+    fn put_head(&mut self, head: &Head, len: usize, word: &[u8])
+        requires len { len ≡ head.now.len }
+        requires word { word.now ≡ take 8 head.now.bytes }
         requires room { head.now.len ≤ usable self.old.writer.block }
         requires inside { head.now.len < self.old.writer.block.capacity }
         ensures put { PutsIn W.stretch (E.encoding self.old.encoder).most self.old (take head.now.len head.now.bytes) self.new }
         ensures usable { usable self.old.writer.block ≤ usable self.new.writer.block + head.now.len }
     {
-        if head.len > 8 {
-            return self.put(&head.bytes[..head.len]);
+        if len > 8 {
+            return self.put(&head.bytes[..len]);
         }
-        let mut word = [0; 8];
-        word.copy_from_slice(&head.bytes[..8]);
-        self.put(&word[..head.len]);
+        self.put(&word[..len]);
     }
 
     // Copies bytes in, for which there is room.
