@@ -164,8 +164,8 @@ impl<R: TellRead> FrameReader<R> {
         }
     }
 
-    /// Lends the payload of the next frame as [`next`](FrameReader::next) does where that stands whole in the buffer, and asks the
-    /// stream for nothing. `None` where it doesn't.
+    /// Lends the payload of the next frame as [`next`](FrameReader::next) does where that stands whole in the buffer, and asks
+    /// the stream for nothing. `None` where it doesn't.
     #[inline(always)]
     pub fn next_buffered(&mut self) -> Option<&[u8]>
         ensures* after_borrow { sem 𝓛 (Rests (the_row R.row R.Tell) self.entry
@@ -190,6 +190,7 @@ impl<R: TellRead> FrameReader<R> {
             Err(e) => Err(self.no_frame(e)),
         }
     }
+
     // The same where it stands whole in the buffer.
     #[inline(always)]
     fn step_buffered(&mut self) -> Option<Span>
