@@ -293,7 +293,7 @@ impl<W: TellWrite, P: WriterPolicy> Write for BufWriter<W, P> {
         ensures keeps { WriterKeeps W.log W.stretch P.rules self.old self.new }
     {
         // Asked before the policy is, so that a policy that asks the same isn't compiled into the caller.
-        if self.buf.usable_space() <= bytes.len() {
+        if !self.buf.has_space_behind(bytes.len()) {
             return self.write_asking_aside(bytes);
         }
         let FlushAmt(first) = self.policy.before_write(&mut self.buf, bytes.len())?;
@@ -330,7 +330,7 @@ impl<W: TellWrite, P: WriterPolicy> Write for BufWriter<W, P> {
             return Ok(());
         }
         // Asked before the policy is, so that a policy that asks the same isn't compiled into the caller.
-        if self.buf.usable_space() <= bytes.len() {
+        if !self.buf.has_space_behind(bytes.len()) {
             return self.write_large_aside(bytes);
         }
         match self.policy.before_write(&mut self.buf, bytes.len()) {

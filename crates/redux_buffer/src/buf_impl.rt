@@ -9,6 +9,7 @@ ghost use Rattle.redux_buffer.specs.contracts.buf_impl.BufImpl.{the_row};
 use crate::grow_error::GrowError;
 use crate::slice_deque_buf::SliceDequeBuf;
 use crate::std_buf::StdBuf;
+use crate::tail_span::TailSpan;
 use std::alloc::Global;
 
 /// A buffer of either kind, with the calls that the two kinds share.
@@ -146,6 +147,41 @@ impl BufImpl {
             BufImpl::Std(b) => b.consume(n),
             BufImpl::Ringbuf(b) => b.consume(n),
         }
+    }
+
+    // Drops the first `n` bytes, which it holds.
+    pub(crate) fn consume_exact(&mut self, n: usize)
+        requires within { n ≤ length (as_placed self.old).block.bytes }
+        ensures bytes { ConsumesFirst n (as_placed self.old).block (as_placed self.new).block }
+        ensures shift { CountsShift n (as_placed self.old) (as_placed self.new) }
+        ensures whole { IsPlaced (as_placed self.new) }
+    {
+        match self {
+            BufImpl::Std(b) => b.consume_exact(n),
+            BufImpl::Ringbuf(b) => b.consume_exact(n),
+        }
+    }
+
+    // Where the tail stands.
+    fn span(&self) -> TailSpan
+        ensures space { result.stop ≡ result.end + usable (as_placed self.now).block }
+        ensures plain { (as_placed self.now).block.kind ≡ Plain → result.stop ≤ result.storage }
+        ensures whole { IsPlaced (as_placed self.now) }
+    {
+        match self {
+            BufImpl::Std(b) => b.span(),
+            BufImpl::Ringbuf(b) => b.span(),
+        }
+    }
+
+    // Whether more than `n` bytes can be written without any being moved.
+    pub(crate) fn has_space_behind(&self, n: usize) -> bool
+        ensures space { result ≡ true → n < usable (as_placed self.now).block }
+        ensures plain { result ≡ false → (as_placed self.now).block.kind ≡ Plain → usable (as_placed self.now).block ≤ n }
+        ensures whole { IsPlaced (as_placed self.now) }
+    {
+        let span = self.span();
+        (span.stop <= span.storage) & (n < span.stop - span.end)
     }
 
     // Whether the bytes are to be drawn back before the tail is written. The two kinds have the same fields, so this and the

@@ -1,5 +1,5 @@
 //! The buffer that readers and writers hold.
-ghost use Rattle.std.specs.Prelude.{◌≡◌, ◌+◌, ◌-◌, ◌*◌, ◌^◌, ◌≤◌, ◌<◌, ◌↔◌, ◌++◌, length, min, take, drop, IsTrue, IfOk, IsOk, IsOkUnless, OnOk, OnErr};
+ghost use Rattle.std.specs.Prelude.{◌≡◌, true, false, ◌+◌, ◌-◌, ◌*◌, ◌^◌, ◌≤◌, ◌<◌, ◌↔◌, ◌++◌, length, min, take, drop, IsTrue, IfOk, IsOk, IsOkUnless, OnOk, OnErr};
 ghost use Rattle.std.specs.Borrow.{Lends, Array, sem, u8};
 ghost use Rattle.redux_buffer.specs.GrowError.{FitsWithin};
 ghost use Rattle.redux_buffer.specs.contracts.buffer.Buffer.{the_row};
@@ -137,6 +137,15 @@ impl Buffer {
         self.imp.usable_space()
     }
 
+    /// Whether more than `n` bytes can be written behind those that it holds without any being moved.
+    pub fn has_space_behind(&self, n: usize) -> bool
+        ensures space { result ≡ true → n < usable self.now }
+        ensures plain { result ≡ false → self.now.kind ≡ Plain → usable self.now ≤ n }
+        ensures whole { IsBlock self.now }
+    {
+        self.imp.has_space_behind(n)
+    }
+
     /// The capacity without the bytes that it holds.
     pub fn free_space(&self) -> usize
         ensures value { result ≡ self.now.capacity - length self.now.bytes }
@@ -221,6 +230,16 @@ impl Buffer {
         ensures whole { IsBlock self.new }
     {
         self.imp.consume(n);
+    }
+
+    /// Drops the first `n` bytes, which it holds.
+    pub fn consume_exact(&mut self, n: usize)
+        requires within { n ≤ length self.old.bytes }
+        ensures bytes { ConsumesFirst n self.old self.new }
+        ensures moved { OnlyRingMoves self.old self.new }
+        ensures whole { IsBlock self.new }
+    {
+        self.imp.consume_exact(n);
     }
 
     // Whether the capacity that `reserve(a)` needs is within the limit.

@@ -21,6 +21,7 @@ pub mod laws;
 mod raw_buf;
 mod slice_deque_buf;
 mod std_buf;
+mod tail_span;
 
 /// The capacity in bytes of a buffer that is made without one.
 pub const DEFAULT_BUF_SIZE: usize = 8192;

@@ -8,6 +8,7 @@ ghost use Rattle.redux_buffer.specs.contracts.slice_deque_buf.SliceDequeBuf.{the
 use crate::count::Count;
 use crate::grow_error::GrowError;
 use crate::raw_buf::RawBuf;
+use crate::tail_span::TailSpan;
 use crate::{MAX_RING, RING_UNIT};
 use std::alloc::Global;
 use std::marker::Model;
@@ -191,16 +192,67 @@ impl SliceDequeBuf {
         ensures shift { CountsShift (min n (length self.old.block.bytes)) self.old self.new }
         ensures whole { IsPlaced self.new }
     {
-        let len = self.end - self.head;
-        if n < len {
+        if n < self.len() {
             self.head += n;
             self.stop += n;
             self.consumed.add(n);
         } else {
-            self.stop -= self.head;
-            self.head = 0;
-            self.end = 0;
-            self.consumed.add(len);
+            self.clear();
+        }
+    }
+
+    // Drops the first `n` bytes, which it holds. To drop all stands apart, so that to drop some is short in its caller.
+    #[tactic(auto, using(crate::proofs::Ranges::drop_range, crate::proofs::Ranges::length_range))]
+    pub(crate) fn consume_exact(&mut self, n: usize)
+        requires within { n ≤ length self.old.block.bytes }
+        ensures bytes { ConsumesFirst n self.old.block self.new.block }
+        ensures shift { CountsShift n self.old self.new }
+        ensures whole { IsPlaced self.new }
+    {
+        let at = self.head + n;
+        if at < self.end {
+            self.head = at;
+            self.stop += n;
+            self.consumed.add(n);
+        } else {
+            self.clear_aside();
+        }
+    }
+
+    // Drops all bytes.
+    #[tactic(auto, using(crate::proofs::Ranges::drop_range, crate::proofs::Ranges::length_range))]
+    fn clear(&mut self)
+        ensures bytes { ConsumesFirst (length self.old.block.bytes) self.old.block self.new.block }
+        ensures shift { CountsShift (length self.old.block.bytes) self.old self.new }
+        ensures whole { IsPlaced self.new }
+    {
+        let len = self.len();
+        self.stop -= self.head;
+        self.head = 0;
+        self.end = 0;
+        self.consumed.add(len);
+    }
+
+    #[cold]
+    #[inline(never)]
+    fn clear_aside(&mut self)
+        ensures bytes { ConsumesFirst (length self.old.block.bytes) self.old.block self.new.block }
+        ensures shift { CountsShift (length self.old.block.bytes) self.old self.new }
+        ensures whole { IsPlaced self.new }
+    {
+        self.clear();
+    }
+
+    // Where the tail stands.
+    pub(crate) fn span(&self) -> TailSpan
+        ensures space { result.stop ≡ result.end + usable self.now.block }
+        ensures whole { IsPlaced self.now }
+        ensures kind { self.now.block.kind ≡ Ring }
+    {
+        TailSpan {
+            end: self.end,
+            stop: self.stop,
+            storage: self.buf.capacity(),
         }
     }
 
@@ -238,7 +290,7 @@ impl SliceDequeBuf {
     {
         let n = out.len().min(self.len());
         out[..n].copy_from_slice(&self.buf()[..n]);
-        self.consume(n);
+        self.consume_exact(n);
         n
     }
 

@@ -9,6 +9,7 @@ use crate::MAX_CAPACITY;
 use crate::count::Count;
 use crate::grow_error::GrowError;
 use crate::raw_buf::RawBuf;
+use crate::tail_span::TailSpan;
 use std::alloc::Global;
 use std::marker::Model;
 
@@ -149,15 +150,52 @@ impl StdBuf {
         ensures shift { CountsShift (min n (length self.old.block.bytes)) self.old self.new }
         ensures whole { IsPlaced self.new }
     {
-        let len = self.end - self.pos;
-        if n < len {
+        if n < self.len() {
             self.pos += n;
             self.consumed.add(n);
         } else {
-            self.pos = 0;
-            self.end = 0;
-            self.consumed.add(len);
+            self.clear();
         }
+    }
+
+    // Drops the first `n` bytes, which it holds. To drop all stands apart, so that to drop some is short in its caller.
+    #[tactic(auto, using(crate::proofs::Ranges::drop_range, crate::proofs::Ranges::length_range))]
+    pub(crate) fn consume_exact(&mut self, n: usize)
+        requires within { n ≤ length self.old.block.bytes }
+        ensures bytes { ConsumesFirst n self.old.block self.new.block }
+        ensures shift { CountsShift n self.old self.new }
+        ensures whole { IsPlaced self.new }
+    {
+        let at = self.pos + n;
+        if at < self.end {
+            self.pos = at;
+            self.consumed.add(n);
+        } else {
+            self.clear_aside();
+        }
+    }
+
+    // Drops all bytes.
+    #[tactic(auto, using(crate::proofs::Ranges::drop_range, crate::proofs::Ranges::length_range))]
+    fn clear(&mut self)
+        ensures bytes { ConsumesFirst (length self.old.block.bytes) self.old.block self.new.block }
+        ensures shift { CountsShift (length self.old.block.bytes) self.old self.new }
+        ensures whole { IsPlaced self.new }
+    {
+        let len = self.len();
+        self.pos = 0;
+        self.end = 0;
+        self.consumed.add(len);
+    }
+
+    #[cold]
+    #[inline(never)]
+    fn clear_aside(&mut self)
+        ensures bytes { ConsumesFirst (length self.old.block.bytes) self.old.block self.new.block }
+        ensures shift { CountsShift (length self.old.block.bytes) self.old self.new }
+        ensures whole { IsPlaced self.new }
+    {
+        self.clear();
     }
 
     // Whether the tail reaches past the storage, asked as a ring asks it. It never does.
@@ -166,6 +204,20 @@ impl StdBuf {
         ensures kind { self.now.block.kind ≡ Plain }
     {
         self.stop > self.buf.capacity()
+    }
+
+    // Where the tail stands.
+    pub(crate) fn span(&self) -> TailSpan
+        ensures space { result.stop ≡ result.end + usable self.now.block }
+        ensures within { result.stop ≤ result.storage }
+        ensures whole { IsPlaced self.now }
+        ensures kind { self.now.block.kind ≡ Plain }
+    {
+        TailSpan {
+            end: self.end,
+            stop: self.stop,
+            storage: self.buf.capacity(),
+        }
     }
 
     // Lends the first `n` bytes of the tail.
@@ -200,7 +252,7 @@ impl StdBuf {
     {
         let n = out.len().min(self.len());
         out[..n].copy_from_slice(&self.buf()[..n]);
-        self.consume(n);
+        self.consume_exact(n);
         n
     }
 

@@ -125,6 +125,10 @@ impl WriterPolicy for StdPolicy {
     ghost rules = { std_write_rules };
 
     fn before_write(&mut self, buf: &mut Buffer, incoming: usize) -> io::Result<FlushAmt> {
+        // Asked as a `BufWriter` asks before, whose test then is the only one.
+        if incoming < buf.usable_space() {
+            return Ok(FlushAmt(0));
+        }
         Ok(flush_when_full(buf, incoming))
     }
 

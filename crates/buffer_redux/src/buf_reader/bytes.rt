@@ -21,23 +21,34 @@ impl<R: TellRead, P: ReaderPolicy> BufReader<R, P> {
     pub fn read_byte(&mut self) -> io::Result<Option<u8>>
         ensures byte { ReadsByte R.remaining P.rules self.old result self.new }
     {
-        match self.take_first() {
-            Some(byte) => Ok(Some(byte)),
-            None => self.read_byte_aside(),
+        // The last one that is buffered is taken apart, since the buffer is emptied there.
+        if self.buf.len() > 1 {
+            return Ok(self.take_first());
         }
+        self.read_byte_aside()
     }
 
     #[inline(always)]
     fn read_byte_aside(&mut self) -> io::Result<Option<u8>>
-        ensures takes { FillsAndTakes R.remaining P.rules self.old result self.new }
+        ensures byte { ReadsByte R.remaining P.rules self.old result self.new }
     {
         self.read_byte_slowly()
     }
 
-    // The same where none is buffered.
+    // The same, wherever the byte comes from.
     #[cold]
     #[inline(never)]
     fn read_byte_slowly(&mut self) -> io::Result<Option<u8>>
+        ensures byte { ReadsByte R.remaining P.rules self.old result self.new }
+    {
+        match self.take_first() {
+            Some(byte) => Ok(Some(byte)),
+            None => self.fill_and_take(),
+        }
+    }
+
+    // Fills, again where that was interrupted, and hands out the first byte that is buffered then.
+    fn fill_and_take(&mut self) -> io::Result<Option<u8>>
         ensures takes { FillsAndTakes R.remaining P.rules self.old result self.new }
     {
         self.fill_retried()?;

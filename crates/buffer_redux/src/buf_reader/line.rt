@@ -1,5 +1,5 @@
 //! A line of text.
-ghost use Rattle.std.specs.Prelude.{◌≡◌, ◌+◌, ◌<◌, ◌≤◌, ◌++◌, length, take, drop, IfNone, IfSome, MatchResult, OnErr, OnOk, string_bytes, IsUtf8};
+ghost use Rattle.std.specs.Prelude.{◌≡◌, ◌+◌, ◌<◌, ◌≤◌, ◌++◌, length, take, drop, IfNone, IfOk, IfSome, MatchResult, OnErr, OnOk, string_bytes, IsUtf8};
 ghost use Rattle.std.specs.Io.BufRead.{take_through};
 ghost use Rattle.std.specs.IoError.{error_kind};
 ghost use Rattle.redux_buffer.specs.Block.{IsBlock, usable};
@@ -40,8 +40,7 @@ impl<R: TellRead, P: ReaderPolicy> BufReader<R, P> {
     {
         match first_of(b'\n', self.buf.buf()) {
             Some(at) => {
-                let n = at + 1;
-                self.append_line(n, out)?;
+                let n = self.append_line(at + 1, out)?;
                 Ok(n)
             }
             None => self.read_line_aside(out),
@@ -78,20 +77,23 @@ impl<R: TellRead, P: ReaderPolicy> BufReader<R, P> {
         }
     }
 
-    // Appends the first `n` bytes that are buffered to `out`, if they are a text, and drops them.
+    // Appends the first `n` bytes that are buffered to `out`, if they are a text, drops them, and returns `n`.
     #[inline(always)]
-    fn append_line<A: Allocator>(&mut self, n: usize, out: &mut String<A>) -> io::Result<()>
+    fn append_line<A: Allocator>(&mut self, n: usize, out: &mut String<A>) -> io::Result<usize>
         requires within { n ≤ length self.old.block.bytes }
         ensures appends { AppendsLine R.remaining P.rules n self.old (string_bytes out.old) result
             (string_bytes out.new) self.new }
+        ensures count { IfOk result (λ count. count ≡ n) }
     {
         let shown = self.buf.buf();
         let Ok(text) = str::from_utf8(&shown[..n]) else {
             return Err(io::Error::from(ErrorKind::InvalidData));
         };
+        // The same as `n`, which needn't be kept then.
+        let count = text.len();
         out.push_str(text)?;
-        self.consume(n);
-        Ok(())
+        self.consume_shown(count);
+        Ok(count)
     }
 
     // Appends what is buffered to `out`, up to a character that it ends within, and drops that.

@@ -44,7 +44,7 @@ impl<R: TellRead, P: ReaderPolicy> BufReader<R, P> {
         ensures consumed { ReaderConsumes P.rules count self.old self.new }
         ensures keeps { ReaderKeeps R.remaining P.rules self.old self.new }
     {
-        self.buf.consume(count);
+        self.buf.consume_exact(count);
         self.policy.after_consume(&mut self.buf, count);
     }
 

@@ -9,18 +9,18 @@ use Rattle.buffer_redux.proofs.LineSteps.{line_stopped}
 use Rattle.buffer_redux.proofs.UntilSteps.{passes_none, through_length, until_reached}
 use Rattle.buffer_redux.proofs.buf_reader.BufReader.read_line.Goals as goal
 
-pub returns-in_err-append_line-in-Some-clause-line : goal.returns-in_err-append_line-in-Some-clause-line
-returns-in_err-append_line-in-Some-clause-line g c =
+pub returns-in_err-n-in-Some-clause-line : goal.returns-in_err-n-in-Some-clause-line
+returns-in_err-n-in-Some-clause-line g c =
     let remaining = g.R.TellRead.remaining in
     let rules = g.P.ReaderPolicy.rules in
     let s = c.args.self.now in
-    let a = c.in_err-append_line-in-Some.ensures.appends in
+    let a = c.in_err-n-in-Some.ensures.appends in
     let p = err_from_is_err_and c.from_residual.result c.from_residual.ensures.1 in
     let shown : c.buf.result.now ≡ s.block.bytes = c.buf.ensures ∙ ap (λ x. x.block.bytes) c.self.view_is in
     let first = subst (FirstAt 10 c.in-Some.at) shown c.in-Some.ensures.found in
     let none : Passes remaining rules (FillsOn remaining rules) 10 s [] s =
     passes_none remaining rules 10 s (subst (λ x. IsBlock x.block) c.self.view_is c.self.invariant) in
-    let ends = line_stopped remaining rules s s [] none c.in-Some.at c.in_err-append_line-in-Some.field-0.0
+    let ends = line_stopped remaining rules s s [] none c.in-Some.at c.in_err-n-in-Some.field-0.0
     c.append_line.new.self _ _ first a in
     rw (p.1, p.2) (record {
       handed = [];
@@ -31,39 +31,40 @@ returns-in_err-append_line-in-Some-clause-line g c =
       buffered = λ some. (c.in-Some.at, first, a);
     })
 
-pub returns-in_ok-append_line-in-Some-clause-line : goal.returns-in_ok-append_line-in-Some-clause-line
-returns-in_ok-append_line-in-Some-clause-line g c =
+pub returns-in_ok-n-in-Some-clause-line : goal.returns-in_ok-n-in-Some-clause-line
+returns-in_ok-n-in-Some-clause-line g c =
     let remaining = g.R.TellRead.remaining in
     let rules = g.P.ReaderPolicy.rules in
     let s = c.args.self.now in
-    let a = c.in_ok-append_line-in-Some.ensures.appends in
+    let a = c.in_ok-n-in-Some.ensures.appends in
     let shown : c.buf.result.now ≡ s.block.bytes = c.buf.ensures ∙ ap (λ x. x.block.bytes) c.self.view_is in
     let first = subst (FirstAt 10 c.in-Some.at) shown c.in-Some.ensures.found in
     let none : Passes remaining rules (FillsOn remaining rules) 10 s [] s =
-    passes_none remaining rules 10 s (subst (λ x. IsBlock x.block) c.self.view_is c.self.invariant) in record {
+    passes_none remaining rules 10 s (subst (λ x. IsBlock x.block) c.self.view_is c.self.invariant) in
+    let ends = until_reached remaining rules 10 s s [] none no_text (c.in-Some.at + 1) c.in-Some.at c.append_line.new.self
+    (omega (arith, through_length 10 c.in-Some.at [] s.block.bytes first)) first a.0.2 in record {
       handed = take (c.in-Some.at + 1) s.block.bytes;
       appended = a.0.0;
       text = a.1;
       front = a.0.1;
-      ends = until_reached remaining rules 10 s s [] none no_text (c.in-Some.at + 1) c.in-Some.at c.append_line.new.self
-          (omega (arith, through_length 10 c.in-Some.at [] s.block.bytes first)) first a.0.2;
+      ends = (c.in_ok-n-in-Some.ensures.count ∙ ends.0, ends.1);
       buffered = λ some. (c.in-Some.at, first, a);
     }
 
-pub returns-in_ok-append_line-in-Some-clause-bytes : goal.returns-in_ok-append_line-in-Some-clause-bytes
-returns-in_ok-append_line-in-Some-clause-bytes g c =
+pub returns-in_ok-n-in-Some-clause-bytes : goal.returns-in_ok-n-in-Some-clause-bytes
+returns-in_ok-n-in-Some-clause-bytes g c =
     ReadsLine-known g.R.TellRead.remaining g.P.ReaderPolicy.rules c.args.self.now _ _ _ c.append_line.new.self
-    (returns-in_ok-append_line-in-Some-clause-line g c)
+    (returns-in_ok-n-in-Some-clause-line g c)
 
 pub returns-in-None-clause-bytes : goal.returns-in-None-clause-bytes
 returns-in-None-clause-bytes g c =
     ReadsLine-known g.R.TellRead.remaining g.P.ReaderPolicy.rules c.args.self.now _ _ _ c.read_line_aside.new.self
     c.read_line_aside.ensures.line
 
-pub returns-in_err-append_line-in-Some-clause-invalid : goal.returns-in_err-append_line-in-Some-clause-invalid
-returns-in_err-append_line-in-Some-clause-invalid g c =
+pub returns-in_err-n-in-Some-clause-invalid : goal.returns-in_err-n-in-Some-clause-invalid
+returns-in_err-n-in-Some-clause-invalid g c =
     ReadsLine-invalid g.R.TellRead.remaining g.P.ReaderPolicy.rules c.args.self.now _ _ _ c.append_line.new.self
-    (returns-in_err-append_line-in-Some-clause-line g c)
+    (returns-in_err-n-in-Some-clause-line g c)
 
 pub returns-in-None-clause-invalid : goal.returns-in-None-clause-invalid
 returns-in-None-clause-invalid g c =

@@ -15,8 +15,8 @@ asked_writer g c = record {
 }
 
 -- the bytes may not fit, before the policy was asked
-pub returns-then-usable_space-bytes : goal.returns-then-usable_space-bytes
-returns-then-usable_space-bytes g c =
+pub returns-then-not-has_space_behind : goal.returns-then-not-has_space_behind
+returns-then-not-has_space_behind g c =
     let wrote = c.write_asking_aside.ensures in
     write_says _ _ g.P.WriterPolicy.rules _ _ _ _ wrote.bound wrote.whole wrote.stretch wrote.steps
 

@@ -44,24 +44,24 @@ returns-then-first-gt0 g c =
     (asked_first g (goal.at.returns-then-first-gt0 g c).In-Ok _ refl))
 
 -- the bytes may not fit, before the policy was asked
-pub returns-then-usable_space-bytes : goal.returns-then-usable_space-bytes
-returns-then-usable_space-bytes g c = all_says _ _ _ _ _ _ _ c.write_large_aside.ensures.all
+pub returns-then-not-has_space_behind : goal.returns-then-not-has_space_behind
+returns-then-not-has_space_behind g c = all_says _ _ _ _ _ _ _ c.write_large_aside.ensures.all
 
 -- or once it was
-pub returns-then-usable_space-bytes-2 : goal.returns-then-usable_space-bytes-2
-returns-then-usable_space-bytes-2 g c =
-    all_says _ _ _ _ _ _ _ (c.write_rest_aside-then-usable_space-bytes-2.ensures.all c.args.self.now
-    (asked_first g (goal.at.returns-then-usable_space-bytes-2 g c).In-Ok 0
+pub returns-then-usable_space-bytes : goal.returns-then-usable_space-bytes
+returns-then-usable_space-bytes g c =
+    all_says _ _ _ _ _ _ _ (c.write_rest_aside-then-usable_space-bytes.ensures.all c.args.self.now
+    (asked_first g (goal.at.returns-then-usable_space-bytes g c).In-Ok 0
     (omega (arith, c.if-first-gt0.false, c.in-Ok.first-is))))
 
 -- neither is so
-pub returns-else-usable_space-bytes-2 : goal.returns-else-usable_space-bytes-2
-returns-else-usable_space-bytes-2 g c =
+pub returns-else-usable_space-bytes : goal.returns-else-usable_space-bytes
+returns-else-usable_space-bytes g c =
     let rules = g.P.WriterPolicy.rules in
     let bytes = c.args.bytes.now in
     let whole = c.in-Ok.ensures.law.whole c.self.invariant in
     let roomy : length bytes < usable c.before_write.new.buf =
-    omega (arith, c.if-usable_space-bytes-2.false, c.usable_space-in-Ok.ensures.value) in
+    omega (arith, c.if-usable_space-bytes.false, c.usable_space.ensures.value) in
     let some : 0 < length bytes =
     omega (arith, some_of (length bytes) (sym c.is_empty.ensures ∙ c.if-is_empty.false)) in
     let before : Buffered g.row.W.Denot g.row.P.Denot = record {
