@@ -107,6 +107,7 @@ fn encode_next<R: TellRead, W: TellWrite>(
 }
 
 // Makes it a chunk. Of reads that are interrupted the 65th ends it.
+#[inline(always)]
 fn chunk_next<R: TellRead, W: TellWrite>(
     source: &mut BufReader<R>,
     body: &mut ChunkedWriter<W>,
