@@ -128,7 +128,7 @@ impl<W: TellWrite, P: WriterPolicy> BufWriter<W, P> {
         ensures all { WritesAll W.log W.stretch P.rules self.old bytes.now result self.new }
     {
         let _ = &self.buf;
-        let answer = self.write(bytes);
+        let answer = self.write_asking(bytes);
         self.write_on(answer, bytes)
     }
 
