@@ -124,7 +124,8 @@ module _ {S P : Type 0} (tells : S → StreamLog) (stretch : S → S → Type 0)
   -- so a text that is known was taken, where the formatting didn't fail
   pub text_taken : {A : Type 0} (writer : A → Buffered S P) (ended : A → Option Error) (f g : Formatter A) (a b : A)
       (k : Option Error) (formatted : Result (Unit {0}) fmt.Error) (text : Option (List ℕ))
-      → DisplaysOnOk (λ x bytes y. TakesPieces tells stretch rules (writer x) (ended x) bytes (writer y) (ended y)) f formatted text g
+      → DisplaysOnOk (λ x bytes y. TakesPieces tells stretch rules (writer x) (ended x) bytes (writer y) (ended y))
+      f formatted text g
       → IsPlainFormatter f → IsOk formatted → formatter_writer f ≡ a → b ≡ formatter_writer g → ended b ≡ k
       → IfSome text (λ bytes. TakesPieces tells stretch rules (writer a) (ended a) bytes (writer b) k)
   text_taken writer ended f g a b k formatted None shown plain ok is gives so = tt

@@ -15,7 +15,8 @@ none_sent b n none = grind arith
 
 module _ {S P : Type 0} (bs : List ℕ) (none : length bs ≡ 0) (s t : Buffered S P) where
   -- what is sent before it
-  module _ (answer : Result (Unit {0}) Error) (m : Buffered S P) (prepared : Prepared std_write_rules (length bs) s answer m) where
+  module _ (answer : Result (Unit {0}) Error) (m : Buffered S P)
+      (prepared : Prepared std_write_rules (length bs) s answer m) where
     amount_none : prepared.amount.0 ≡ 0
     amount_none = prepared.asked.allowed.2 ∙ none_sent s.block (length bs) none
 

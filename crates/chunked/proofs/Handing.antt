@@ -214,7 +214,8 @@ module _ {S P : Type 0} (remaining : S → Option (List ℕ)) (rules : ReadRules
 
   -- payload is handed out behind what is none
   pub HandsOn-after : (s m : Buffered S P) (p q : Progress) (wire : List ℕ) → Takes remaining rules s p wire [] m q → NoFault s m
-      → Calls rules p.limits s p.place 0 (Ok 0) m q.place → (out : List ℕ) (answer : Result ℕ ChunkedError) (t : Buffered S P) (r : Progress)
+      → Calls rules p.limits s p.place 0 (Ok 0) m q.place
+      → (out : List ℕ) (answer : Result ℕ ChunkedError) (t : Buffered S P) (r : Progress)
       → HandsOn remaining rules m q out answer t r → HandsOn remaining rules s p out answer t r
   HandsOn-after s m p q wire before well calls out answer t r h =
       let limits : q.limits ≡ p.limits = before.limits in

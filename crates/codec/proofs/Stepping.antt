@@ -73,7 +73,8 @@ module _ {V S D W : Type 0} (f : V → List ℕ) (vs : List V) (i : ℕ) (remain
           no_fault = next.answers.0 ∙ so_far.no_fault;
           run = subst (λ answers. NextRuns remaining g s answers t)
               (sym (map-append (λ payload. Ok (Some payload)) kept (found ∷ [])))
-              (AnswerRuns-more (NextPiece remaining g) s (map (λ payload. Ok (Some payload)) kept) m (Ok (Some found)) t so_far.run next);
+              (AnswerRuns-more (NextPiece remaining g) s (map (λ payload. Ok (Some payload)) kept) m (Ok (Some found)) t
+              so_far.run next);
         }
 
     pub read_lost : (found : List ℕ) (e : Error) → error_kind e ≡ OutOfMemory → NextPiece remaining g m (Ok (Some found)) t

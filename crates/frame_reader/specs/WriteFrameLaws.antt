@@ -150,6 +150,7 @@ module _ {S : Type 0} (stretch : S → S → Type 0) (s t : pieces.Outgoing S Fr
           absurd (omega (arith, fit, wrote.answers.0.0, wrote.answers.0.1))
 
       -- and where it doesn't, it is known to be taken
-      pub is_full : (framed_out s.encoder.max).takes payload → room (outgoing s) < length (coded (framed_out s.encoder.max) payload)
+      pub is_full : (framed_out s.encoder.max).takes payload
+          → room (outgoing s) < length (coded (framed_out s.encoder.max) payload)
           → Fits s.encoder.max payload × (room (outgoing s) < 2 + length payload)
       is_full taken over = (taken.fits, omega (arith, over, size))

@@ -44,7 +44,10 @@ module _ {S T P : Type 0} (remaining : S → Option (List ℕ)) (tells : T → S
         );
       }
   long_turns m meets taken quiet same (Err e) (Ok count, k, (stopped, _)) =
-      record { quiet = quiet (Ok count) k; does = inr (None, (count, (m, meets, k)), _, (refl, λ q. ap (λ v. v q) (sym same)), stopped) }
+      record {
+        quiet = quiet (Ok count) k;
+        does = inr (None, (count, (m, meets, k)), _, (refl, λ q. ap (λ v. v q) (sym same)), stopped);
+      }
   long_turns m meets taken quiet same answer (Err e, k, (is, w)) = subst (λ a. Turns remaining tells stretch s a t) (sym is)
       (record { quiet = quiet (Err e) k; does = inl (inr (m, meets, k), same, w) })
 

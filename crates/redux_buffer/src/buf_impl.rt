@@ -1,5 +1,5 @@
 //! Either kind of buffer.
-ghost use Rattle.std.specs.Prelude.{◌≡◌, true, false, ◌+◌, ◌-◌, ◌^◌, ◌≤◌, ◌<◌, ◌↔◌, ◌++◌, length, min, take, drop, IsTrue, IfOk, IsOk, OnOk, OnErr};
+ghost use Rattle.std.specs.Prelude.{◌≡◌, true, false, ◌+◌, ◌-◌, ◌^◌, ◌≤◌, ◌<◌, ◌↔◌, ◌++◌, ◌&&◌, length, min, take, drop, nat_le, nat_lt, IsTrue, IfOk, IsOk, OnOk, OnErr};
 ghost use Rattle.std.specs.Borrow.{Lends, Array, sem, u8};
 ghost use Rattle.redux_buffer.specs.GrowError.{FitsWithin};
 ghost use Rattle.redux_buffer.specs.Block.{Plain, Ring, IsPlaced, IsNew, GrowsToFront, BytesWritten, ConsumesFirst, Extends, Reserves, MakesRoom, CountsShift, IsInFront, usable, capacity_for, with_tail, with_bytes, draw_back, round};
@@ -162,10 +162,11 @@ impl BufImpl {
         }
     }
 
-    // Where the tail stands.
+    // Where the tail stands. The kind is asked once for all of it: asked for each part, the compiler leaves a test of the kind.
     fn span(&self) -> TailSpan
         ensures space { result.stop ≡ result.end + usable (as_placed self.now).block }
-        ensures plain { (as_placed self.now).block.kind ≡ Plain → result.stop ≤ result.storage }
+        ensures behind { nat_le result.stop result.storage ≡ (as_placed self.now).block.tail_behind }
+        ensures plain { (as_placed self.now).block.kind ≡ Plain → (as_placed self.now).block.tail_behind ≡ true }
         ensures whole { IsPlaced (as_placed self.now) }
     {
         match self {
@@ -176,8 +177,8 @@ impl BufImpl {
 
     // Whether more than `n` bytes can be written without any being moved.
     pub(crate) fn has_space_behind(&self, n: usize) -> bool
-        ensures space { result ≡ true → n < usable (as_placed self.now).block }
-        ensures plain { result ≡ false → (as_placed self.now).block.kind ≡ Plain → usable (as_placed self.now).block ≤ n }
+        ensures value { result ≡ ((as_placed self.now).block.tail_behind && nat_lt n (usable (as_placed self.now).block)) }
+        ensures plain { (as_placed self.now).block.kind ≡ Plain → (as_placed self.now).block.tail_behind ≡ true }
         ensures whole { IsPlaced (as_placed self.now) }
     {
         let span = self.span();

@@ -1,5 +1,5 @@
 //! The buffer that readers and writers hold.
-ghost use Rattle.std.specs.Prelude.{◌≡◌, true, false, ◌+◌, ◌-◌, ◌*◌, ◌^◌, ◌≤◌, ◌<◌, ◌↔◌, ◌++◌, length, min, take, drop, IsTrue, IfOk, IsOk, IsOkUnless, OnOk, OnErr};
+ghost use Rattle.std.specs.Prelude.{◌≡◌, true, false, ◌+◌, ◌-◌, ◌*◌, ◌^◌, ◌≤◌, ◌<◌, ◌↔◌, ◌++◌, ◌&&◌, length, min, take, drop, nat_lt, IsTrue, IfOk, IsOk, IsOkUnless, OnOk, OnErr};
 ghost use Rattle.std.specs.Borrow.{Lends, Array, sem, u8};
 ghost use Rattle.redux_buffer.specs.GrowError.{FitsWithin};
 ghost use Rattle.redux_buffer.specs.contracts.buffer.Buffer.{the_row};
@@ -139,8 +139,8 @@ impl Buffer {
 
     /// Whether more than `n` bytes can be written behind those that it holds without any being moved.
     pub fn has_space_behind(&self, n: usize) -> bool
-        ensures space { result ≡ true → n < usable self.now }
-        ensures plain { result ≡ false → self.now.kind ≡ Plain → usable self.now ≤ n }
+        ensures value { result ≡ (self.now.tail_behind && nat_lt n (usable self.now)) }
+        ensures plain { self.now.kind ≡ Plain → self.now.tail_behind ≡ true }
         ensures whole { IsBlock self.now }
     {
         self.imp.has_space_behind(n)

@@ -1,5 +1,5 @@
 //! The plain buffer.
-ghost use Rattle.std.specs.Prelude.{◌≡◌, false, ◌+◌, ◌-◌, ◌^◌, ◌≤◌, ◌<◌, ◌↔◌, ◌++◌, length, min, take, drop, IsTrue, IfOk, IsOk, OnOk, OnErr};
+ghost use Rattle.std.specs.Prelude.{◌≡◌, true, false, ◌+◌, ◌-◌, ◌^◌, ◌≤◌, ◌<◌, ◌↔◌, ◌++◌, length, min, take, drop, nat_le, IsTrue, IfOk, IsOk, OnOk, OnErr};
 ghost use Rattle.std.specs.Borrow.{Lends, Array, sem, u8};
 ghost use Rattle.redux_buffer.specs.GrowError.{FitsWithin};
 ghost use Rattle.redux_buffer.specs.Block.{Plain, IsPlaced, IsNew, GrowsToFront, BytesWritten, ConsumesFirst, Reserves, MakesRoom, CountsShift, usable, capacity_for, with_tail, with_bytes};
@@ -209,7 +209,8 @@ impl StdBuf {
     // Where the tail stands.
     pub(crate) fn span(&self) -> TailSpan
         ensures space { result.stop ≡ result.end + usable self.now.block }
-        ensures within { result.stop ≤ result.storage }
+        ensures behind { nat_le result.stop result.storage ≡ self.now.block.tail_behind }
+        ensures plain { self.now.block.tail_behind ≡ true }
         ensures whole { IsPlaced self.now }
         ensures kind { self.now.block.kind ≡ Plain }
     {

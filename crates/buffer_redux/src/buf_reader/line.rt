@@ -92,7 +92,7 @@ impl<R: TellRead, P: ReaderPolicy> BufReader<R, P> {
         // The same as `n`, which needn't be kept then.
         let count = text.len();
         out.push_str(text)?;
-        self.consume_shown(count);
+        self.consume_exact(count);
         Ok(count)
     }
 

@@ -37,7 +37,7 @@ impl<R: TellRead, P: ReaderPolicy> BufReader<R, P> {
 
     // Drops the first `count` bytes, which are buffered, and tells the policy.
     #[inline(always)]
-    pub(super) fn consume_shown(&mut self, count: usize)
+    pub(super) fn consume_exact(&mut self, count: usize)
         requires within { count ≤ length self.old.block.bytes }
         ensures in_order { ReadsInOrder self.old (take count self.old.block.bytes) self.new }
         ensures inner { self.new.inner ≡ self.old.inner }

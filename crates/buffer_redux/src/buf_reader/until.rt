@@ -93,7 +93,7 @@ impl<R: TellRead, P: ReaderPolicy> BufReader<R, P> {
         match first_of(byte, self.buf.buf()) {
             Some(at) => {
                 let n = at + 1;
-                self.consume_shown(n);
+                self.consume_exact(n);
                 Ok(n)
             }
             None => self.skip_until_aside(byte),
@@ -144,7 +144,7 @@ impl<R: TellRead, P: ReaderPolicy> BufReader<R, P> {
     {
         let shown = self.buf.buf();
         out.extend_from_slice(&shown[..n])?;
-        self.consume_shown(n);
+        self.consume_exact(n);
         Ok(())
     }
 

@@ -10,7 +10,7 @@ returns-in-Some g c =
     let remaining = g.R.TellRead.remaining in
     let rules = g.P.ReaderPolicy.rules in
     let s = c.args.self.now in
-    let gone = c.consume_shown.ensures in
+    let gone = c.consume_exact.ensures in
     let shown : c.buf.result.now ≡ s.block.bytes = c.buf.ensures ∙ ap (λ x. x.block.bytes) c.self.view_is in
     let first = subst (FirstAt c.args.byte c.in-Some.at) shown c.in-Some.ensures.found in
     let whole = subst (λ x. IsBlock x.block) c.self.view_is c.self.invariant in
@@ -18,7 +18,7 @@ returns-in-Some g c =
       handed = take (c.in-Some.at + 1) s.block.bytes;
       front = record { in_order = gone.in_order; keeps = gone.keeps };
       ends = until_reached remaining rules c.args.byte s s [] (passes_none remaining rules c.args.byte s whole) no_count
-          (c.in-Some.at + 1) c.in-Some.at c.consume_shown.new.self
+          (c.in-Some.at + 1) c.in-Some.at c.consume_exact.new.self
           (omega (arith, through_length c.args.byte c.in-Some.at [] s.block.bytes first)) first gone.consumed;
     } in
     record { until = until; count = SkipsUntil-known remaining rules c.args.byte s _ _ until }

@@ -16,7 +16,8 @@ returns-in_err-answer-clause-stopped g c =
     on_err c.from_residual.result
     (answers_stopped (NextPiece remaining gram) (RunWent remaining gram) (NextRuns-went remaining gram) c.args.reader.now
     c.loop.reader (map kept_answer c.args.answers.now.items) (map kept_answer c.loop.answers.items) inv.answers inv.gained
-    inv.run c.args.calls handed_payload (omega (arith, inv.count, c.loop-test.true)) (vec_capacity c.args.answers.now) (Ok (Some last.payload))
+    inv.run c.args.calls handed_payload (omega (arith, inv.count, c.loop-test.true)) (vec_capacity c.args.answers.now)
+    (Ok (Some last.payload))
     c.step_copied.new.reader (inl (omega arith))
     (subst (λ d. NextPiece remaining (grammar d) c.loop.reader (Ok (Some last.payload)) c.step_copied.new.reader)
     same last.next))
@@ -31,7 +32,8 @@ returns-in_err-push-clause-stopped g c =
     on_err c.from_residual-in_err-push.result
     (answers_stopped (NextPiece remaining gram) (RunWent remaining gram) (NextRuns-went remaining gram) c.args.reader.now
     c.loop.reader (map kept_answer c.args.answers.now.items) (map kept_answer c.push.new.self.items) inv.answers
-    (ap (λ l. map kept_answer l) c.in_err-push.ensures.items ∙ inv.gained) inv.run c.args.calls handed_payload (omega (arith, inv.count, c.loop-test.true)) (vec_capacity c.args.answers.now)
+    (ap (λ l. map kept_answer l) c.in_err-push.ensures.items ∙ inv.gained) inv.run c.args.calls handed_payload
+    (omega (arith, inv.count, c.loop-test.true)) (vec_capacity c.args.answers.now)
     (kept_answer c.in_ok-answer.answer) c.step_copied.new.reader
     (inr (omega (
       arith,

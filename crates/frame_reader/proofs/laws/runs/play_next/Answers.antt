@@ -14,7 +14,8 @@ returns-in_err-answer-clause-stopped g c =
     on_err c.from_residual.result
     (answers_stopped (Next remaining) (RunWent remaining) (NextRuns-went remaining) c.args.reader.now c.loop.reader
     (map kept_answer c.args.answers.now.items) (map kept_answer c.loop.answers.items) inv.answers inv.gained inv.run
-    c.args.calls payloads_of (omega (arith, inv.count, c.loop-test.true)) (vec_capacity c.args.answers.now) (Ok (Some last.payload))
+    c.args.calls payloads_of (omega (arith, inv.count, c.loop-test.true)) (vec_capacity c.args.answers.now)
+    (Ok (Some last.payload))
     c.next_copied.new.reader (inl (omega arith)) last.next)
 
 pub returns-in_err-push-clause-stopped : goal.returns-in_err-push-clause-stopped
@@ -24,7 +25,8 @@ returns-in_err-push-clause-stopped g c =
     on_err c.from_residual-in_err-push.result
     (answers_stopped (Next remaining) (RunWent remaining) (NextRuns-went remaining) c.args.reader.now c.loop.reader
     (map kept_answer c.args.answers.now.items) (map kept_answer c.push.new.self.items) inv.answers
-    (ap (λ l. map kept_answer l) c.in_err-push.ensures.items ∙ inv.gained) inv.run c.args.calls payloads_of (omega (arith, inv.count, c.loop-test.true)) (vec_capacity c.args.answers.now)
+    (ap (λ l. map kept_answer l) c.in_err-push.ensures.items ∙ inv.gained) inv.run c.args.calls payloads_of
+    (omega (arith, inv.count, c.loop-test.true)) (vec_capacity c.args.answers.now)
     (kept_answer c.in_ok-answer.answer) c.next_copied.new.reader
     (inr (omega (
       arith,

@@ -37,7 +37,8 @@ returns-in-Err g c =
     let e = c.in-Err.ensures in
     record {
       ok = λ _. subst
-          (λ l. TakesPieces g.W.Tell.log g.W.TellWrite.stretch g.P.WriterPolicy.rules s c.args.self.now.ended l t c.kept-self.result)
+          (λ l. TakesPieces g.W.Tell.log g.W.TellWrite.stretch g.P.WriterPolicy.rules s c.args.self.now.ended l t
+          c.kept-self.result)
           c.as_bytes.ensures.value (rw c.kept-self.ensures
           (piece_stopped g.W.Tell.log g.W.TellWrite.stretch g.P.WriterPolicy.rules none joins c.args.self.now.ended s
           c.as_bytes.result.now c.in-Err.e t (c.is_none.ensures ∙ ap not c.if-is_none.true)
