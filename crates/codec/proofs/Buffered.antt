@@ -1,31 +1,25 @@
 -- What is handed out of what is buffered alone.
-use Rattle.std.proofs.Common.{◌≡◌, ℕ, List, [], length, Option, refl, sym, subst}
+use Rattle.std.proofs.Common.{◌≡◌, ℕ, length, ap, subst, sym, ◌∙◌}
 use Rattle.codec.specs.Grammar.{Begins, Grammar, IsLawful}
 use Rattle.codec.specs.GrammarLaws.{open_of}
 use Rattle.codec.specs.NextPiece.{StaysLeft}
-use Rattle.codec.specs.PiecesWentLaws.{PiecesWent-inside}
 use Rattle.codec.specs.Piecing.{Piecing, IsPiecing, rest}
 use Rattle.codec.specs.Steps.{WantsMore}
 
-module _ {S D W : Type 0} (remaining : S → Option (List ℕ)) (g : Grammar W) (s t : Piecing S D) (whole : IsPiecing g t) where
+module _ {S D W : Type 0} (g : Grammar W) (s t : Piecing S D) (whole : IsPiecing g t) where
   -- a look alone hands nothing out
-  looked : (seen : ℕ) → t ≡ record s { seen = seen } → StaysLeft remaining g s t
-  looked seen same =
-      let w : Piecing S D = record s { seen = seen } in
-      subst (StaysLeft remaining g s) (sym same) (record {
-        went = PiecesWent-inside remaining g.most s w [] refl refl refl;
-        left = refl;
-        reader = refl;
-        ended = refl;
-        whole = subst (IsPiecing g) same whole;
-      })
+  looked : (seen : ℕ) → t ≡ record s { seen = seen } → StaysLeft g s t
+  looked seen same = record {
+    same = same ∙ ap (λ n. record s { seen = n }) (sym (ap (λ x. x.seen) same));
+    whole = whole;
+  }
 
   -- nor does one where more is wanted, or where no piece can come
-  pub none_yet : (need : ℕ) → WantsMore g s t need → StaysLeft remaining g s t × ¬ (Begins g (rest s))
+  pub none_yet : (need : ℕ) → WantsMore g s t need → StaysLeft g s t × ¬ (Begins g (rest s))
   none_yet need wants =
       (looked (length (rest s)) wants.same, (open_of g need (rest s) wants.few wants.lacks).no_piece)
 
-  pub none_wrong : IsLawful g → (e : W) → g.wrong (rest s) e → t ≡ s → StaysLeft remaining g s t × ¬ (Begins g (rest s))
+  pub none_wrong : IsLawful g → (e : W) → g.wrong (rest s) e → t ≡ s → StaysLeft g s t × ¬ (Begins g (rest s))
   none_wrong law e wrong same = (
     looked s.seen same,
     λ b. law.apart b.piece b.payload b.more e b.is (subst (λ l. g.wrong l e) b.equal wrong),

@@ -33,21 +33,17 @@ module _ (end max : ℕ) (bytes : List ℕ) where
       }
 
   module _ (to : ℕ) (is : to ≡ min (length bytes) (1 + max)) (plain : IsPlain end (take to bytes)) where
-    pub too_long : max < to → IsTooLong end max bytes (record { 0 = max })
+    pub too_long : max < length bytes → IsTooLong end max bytes (record { 0 = max })
     too_long above =
         let count : to ≡ 1 + max = omega (arith, is, above) in
         record {
-          above = omega (arith, is, above);
+          above = above;
           plain = subst (λ n. IsPlain end (take n bytes)) count plain;
           told = refl;
         }
 
-    pub wants_one : to ≤ max → (length bytes < 1 + to) × (1 + to ≤ 1 + max) × Lacks (delimited end max) (1 + to) bytes
+    pub wants_one : length bytes ≤ max → (length bytes < 1 + length bytes) × (1 + length bytes ≤ 1 + max)
+        × Lacks (delimited end max) (1 + length bytes) bytes
     wants_one few =
-        let all : to ≡ length bytes = omega (arith, is, few) in
-        let whole : IsPlain end bytes = subst (IsPlain end) (take_all to bytes (omega (arith, all))) plain in (
-          omega (arith, all),
-          omega (arith, few),
-          subst (λ n. Lacks (delimited end max) (1 + n) bytes) (sym all)
-              (lacks_one (delimited end max) bytes (plain_open end max bytes whole (omega (arith, all, few)))),
-        )
+        let whole : IsPlain end bytes = subst (IsPlain end) (take_all to bytes (omega (arith, is, few))) plain in
+        (omega arith, omega (arith, few), lacks_one (delimited end max) bytes (plain_open end max bytes whole few))

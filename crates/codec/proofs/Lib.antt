@@ -3,6 +3,7 @@ pub mod Delimiting
 pub mod Heads
 pub mod Loading
 pub mod Reading
+pub mod Refilling
 pub mod Refusing
 pub mod Searching
 pub mod Stepping

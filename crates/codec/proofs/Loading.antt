@@ -1,4 +1,4 @@
--- What the turns of `load` come to.
+-- What the turns of `step_on` come to.
 use Rattle.std.proofs.Common.{◌≡◌, ℕ, ◌+◌, ◌<◌, ◌≤◌, List, [], ◌∷◌, ◌++◌, length, length-take-le, drop, take, true, false, refl, sym, ap, subst, ◌∙◌, arith, inl, inr, append-nil, Bool, Option, Result, Ok, Err, Some, None, length-append, length-drop}
 use Rattle.std.specs.Prelude.{MatchBool}
 use Rattle.std.proofs.lemmas.List.{drop-drop, nil_from_length, take-append-drop}
@@ -26,7 +26,7 @@ gave_end s t (inr over) met none =
     let once : empties t.reader ≡ empties s.reader + 1 = subst P over.not_ended met in
     absurd (omega (arith, once, none))
 
--- what holds before each turn of `load`: nothing was handed out, and the next piece isn't buffered whole
+-- what holds before each turn of `step_on`: nothing was handed out, and the next piece isn't buffered whole
 pub record LoadHead {S D W : Type 0} (remaining : S → Option (List ℕ)) (g : Grammar W) (s m : Piecing S D) (need : ℕ)
     : Type 0 where
   pub head : Head remaining g s m

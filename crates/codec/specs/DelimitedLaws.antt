@@ -13,7 +13,7 @@ module _ (end : ℕ) where
   isnt_end byte = ¬ (byte ≡ end)
 
   -- bytes begin with plain ones and an end in one way
-  plain-same : (p q xs ys : List ℕ) → IsPlain end p → IsPlain end q → p ++ end ∷ xs ≡ q ++ end ∷ ys
+  pub plain-same : (p q xs ys : List ℕ) → IsPlain end p → IsPlain end q → p ++ end ∷ xs ≡ q ++ end ∷ ys
       → (p ≡ q) × (xs ≡ ys)
   plain-same [] [] xs ys plain plain' same = (refl, cc)
   plain-same [] (b ∷ q) xs ys plain plain' same =
@@ -29,7 +29,7 @@ module _ (end : ℕ) where
       (ap (λ x. x ∷ p) first ∙ ap (λ l. b ∷ l) parts.0, parts.1)
 
   -- an end behind at most max bytes is one of the first max + 1
-  end-within : (p more : List ℕ) (max : ℕ) → length p ≤ max → ¬ (IsPlain end (take (1 + max) (p ++ end ∷ more)))
+  pub end-within : (p more : List ℕ) (max : ℕ) → length p ≤ max → ¬ (IsPlain end (take (1 + max) (p ++ end ∷ more)))
   end-within [] more max fits plain =
       let count : 1 + max ≡ suc max = omega arith in
       All-head isnt_end end (take max more) (subst (λ n. IsPlain end (take n (end ∷ more))) count plain) refl
@@ -41,12 +41,13 @@ module _ (end : ℕ) where
       (subst (λ n. IsPlain end (take n (byte ∷ p ++ end ∷ more))) count plain))
 
   -- what has an end isn't plain
-  end_in : (p more : List ℕ) → ¬ (IsPlain end (p ++ end ∷ more))
+  pub end_in : (p more : List ℕ) → ¬ (IsPlain end (p ++ end ∷ more))
   end_in [] more plain = All-head isnt_end end more plain refl
   end_in (byte ∷ p) more plain = end_in p more (All-tail isnt_end byte (p ++ end ∷ more) plain)
 
   -- bytes are plain, or have a first end
-  first_end : (bytes : List ℕ) → IsPlain end bytes ⊎ ((p : List ℕ) × (more : List ℕ) × IsPlain end p × (bytes ≡ p ++ end ∷ more))
+  pub first_end : (bytes : List ℕ)
+      → IsPlain end bytes ⊎ ((p : List ℕ) × (more : List ℕ) × IsPlain end p × (bytes ≡ p ++ end ∷ more))
   first_end [] = inl (All-nil isnt_end)
   first_end (byte ∷ bytes) =
       let behind : ¬ (byte ≡ end) → IsPlain end (byte ∷ bytes)

@@ -14,20 +14,20 @@ use Rattle.codec.specs.TextLaws.{Pieces-first, Pieces-last, Pieces-none, Pieces-
 use Rattle.codec.specs.Texts.{HasPieces, IsLast}
 
 -- of known bytes that lost some, just the others are left
-left_then : (left left' : Option (List ℕ)) (bytes lost : List ℕ) → left ≡ Some bytes → Consumes left left' lost
+pub left_then : (left left' : Option (List ℕ)) (bytes lost : List ℕ) → left ≡ Some bytes → Consumes left left' lost
     → (more : List ℕ) × (left' ≡ Some more) × (bytes ≡ lost ++ more)
 left_then None left' bytes lost is went = cc
 left_then (Some x) None bytes lost is went = absurd went
 left_then (Some x) (Some y) bytes lost is went = (y, refl, (let same : x ≡ bytes = cc in sym same ∙ went))
 
 -- known bytes are those that are buffered, and then the others
-front_of : (buffered : List ℕ) (left : Option (List ℕ)) (bytes : List ℕ) → prepend_known buffered left ≡ Some bytes
+pub front_of : (buffered : List ℕ) (left : Option (List ℕ)) (bytes : List ℕ) → prepend_known buffered left ≡ Some bytes
     → (more : List ℕ) × (left ≡ Some more) × (bytes ≡ buffered ++ more)
 front_of buffered None bytes is = cc
 front_of buffered (Some y) bytes is = (y, refl, cc)
 
 -- the inner reader ran dry, so what was left is what is buffered
-dry_front : (left left' : Option (List ℕ)) (more : List ℕ) → IfSome left (λ _. IsAtEnd left') → left' ≡ Some more
+pub dry_front : (left left' : Option (List ℕ)) (more : List ℕ) → IfSome left (λ _. IsAtEnd left') → left' ≡ Some more
     → (known : List ℕ) → left ≡ Some known → more ≡ []
 dry_front None left' more ended is known was = cc
 dry_front (Some x) None more ended is known was = cc

@@ -1,5 +1,5 @@
 -- What the calls of a reader of pieces promise.
-use Rattle.std.specs.Prelude.{◌≡◌, ℕ, ◌+◌, ◌<◌, ◌≤◌, ◌⊎◌, List, [], ◌∷◌, ◌++◌, length, true, false, MatchBool, Option, None, Some, Result, Ok, Err, option_copied}
+use Rattle.std.specs.Prelude.{◌≡◌, ℕ, ◌+◌, ◌<◌, ◌≤◌, ◌⊎◌, List, [], ◌∷◌, ◌++◌, length, Bool, true, false, MatchBool, Option, None, Some, Result, Ok, Err, option_copied}
 use Rattle.std.specs.Borrow.{Bor}
 use Rattle.std.specs.declared.io.Error.{Error}
 use Rattle.buffer_redux.specs.Buffered.{Buffered}
@@ -117,12 +117,9 @@ abbrev pub AsksNone : {S D W : Type 0} → (S → Option (List ℕ)) → Grammar
 AsksNone {S} {D} {W} remaining g s =
     (answer : NextAnswer W) (t : Piecing S D) → NextPiece remaining g s answer t → t.reader.log ≡ s.reader.log
 
--- nothing was done: what is left is as it was, and the reader inside
-pub record StaysLeft {S D W : Type 0} (remaining : S → Option (List ℕ)) (g : Grammar W) (s t : Piecing S D) : Type 0 where
-  pub went : PiecesWent remaining g.most s [] t
-  pub left : rest t ≡ rest s
-  pub reader : t.reader ≡ s.reader
-  pub ended : t.ended ≡ s.ended
+-- nothing was done, but that more bytes may have been looked at
+pub record StaysLeft {S D W : Type 0} (g : Grammar W) (s t : Piecing S D) : Type 0 where
+  pub same : t ≡ record s { seen = t.seen }
   pub whole : IsPiecing g t
 
 -- what `step_buffered` does: as `step` where the next piece stands whole in what is left, and else nothing. The reader inside
@@ -130,7 +127,19 @@ pub record StaysLeft {S D W : Type 0} (remaining : S → Option (List ℕ)) (g :
 abbrev pub NextBuffered : {S D W : Type 0} → (S → Option (List ℕ)) → Grammar W → Piecing S D → Option (List ℕ)
     → Piecing S D → Type 0
 NextBuffered remaining g s (Some payload) t = NextPiece remaining g s (Ok (Some payload)) t × (t.reader ≡ s.reader)
-NextBuffered remaining g s None t = StaysLeft remaining g s t × ¬ (Begins g (rest s))
+NextBuffered remaining g s None t = StaysLeft g s t × ¬ (Begins g (rest s))
+
+-- what `refill` does where nothing is left: the stream is asked, unless it has ended, and nothing else is done. The end is left
+-- for the next call to tell
+pub record Refills {S D W : Type 0} (remaining : S → Option (List ℕ)) (g : Grammar W) (s : Piecing S D)
+    (answer : Result Bool Error) (t : Piecing S D) : Type 0 where
+  pub went : PiecesWent remaining g.most s [] t
+  pub asked : AskedWhere (λ bytes. bytes ≡ []) s t
+  pub more : answer ≡ Ok true → (0 < length (rest t)) × (s.ended ≡ false) × (t.ended ≡ false) × NoEnd s t × NoFault s t
+  pub end : answer ≡ Ok false → (rest t ≡ []) × (t.ended ≡ true) × MetEnd s t × NoFault s t
+  pub failed : (e : Error) → answer ≡ Err e
+      → (rest t ≡ []) × (s.ended ≡ false) × (t.ended ≡ false) × NoEnd s t × Faulted s e t
+  pub whole : IsPiecing g t
 
 -- what is lent once the next piece stands at the front
 abbrev pub load_answer : {S D W : Type 0} → Result (Option Span) (NextError W) → Piecing S D → NextAnswer W

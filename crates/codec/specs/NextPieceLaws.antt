@@ -1,5 +1,5 @@
 -- Laws of one call of `next`, for the proofs of those who call it.
-use Rattle.std.specs.Prelude.{◌≡◌, ℕ, List, [], ◌++◌, length, Option, None, Some, Ok, Err}
+use Rattle.std.specs.Prelude.{◌≡◌, ℕ, List, [], ◌++◌, length, true, false, Option, None, Some, Ok, Err}
 use Rattle.std.proofs.Common.{sym, ap, subst, ◌∙◌, arith, inl, inr, length-append, append_assoc, append-nil}
 use Rattle.std.proofs.lemmas.List.{append_cancel_left}
 use Rattle.codec.specs.declared.error.NextError.TheVariants.{Wrong, Io}
@@ -7,7 +7,7 @@ use Rattle.codec.specs.Grammar.{Begins, Grammar, IsLawful, IsOpen}
 use Rattle.codec.specs.GrammarLaws.{open_not}
 use Rattle.codec.specs.NextPiece.{AsksNone, NextAnswer, NextAnswers, NextPiece}
 use Rattle.codec.specs.PiecesWentLaws.{PiecesWent-unasked}
-use Rattle.codec.specs.Piecing.{Piecing, rest}
+use Rattle.codec.specs.Piecing.{Piecing, IsSettled, rest}
 
 -- the answer, by what was left, where the stream wasn't asked
 module _ {S D W : Type 0} (g : Grammar W) (law : IsLawful g) (s t : Piecing S D) (bytes : List ℕ)
@@ -89,3 +89,15 @@ pub AsksNone-begins : {S D W : Type 0} (remaining : S → Option (List ℕ)) (g 
     → Begins g (rest s) → AsksNone remaining g s
 AsksNone-begins remaining g law s b answer t next =
     (NextPiece-ready remaining g law s answer t next b.piece b.payload b.more b.is b.equal).2
+
+-- nor where it is settled what the next call answers
+pub AsksNone-settled : {S D W : Type 0} (remaining : S → Option (List ℕ)) (g : Grammar W) → IsLawful g → (s : Piecing S D)
+    → IsSettled g s → AsksNone remaining g s
+AsksNone-settled remaining g law s (inl ended) answer t next = elim next.asked [
+  | inl same ↦ same
+  | inr over ↦ (let odd : true ≡ false = sym ended ∙ over.not_ended in cc)
+]
+AsksNone-settled remaining g law s (inr (inl begins)) answer t next =
+    AsksNone-begins remaining g law s begins answer t next
+AsksNone-settled remaining g law s (inr (inr (e, wrong))) answer t next =
+    (NextPiece-wrong remaining g law s answer t next e wrong).2

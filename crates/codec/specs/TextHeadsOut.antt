@@ -1,5 +1,5 @@
 -- Heads that are text, as they are written.
-use Rattle.std.specs.Prelude.{ℕ, ◌+◌, ◌-◌, ◌<◌, ◌≤◌, ◌^◌, ◌⊎◌, List, ◌++◌, length, min, slice_index}
+use Rattle.std.specs.Prelude.{◌+◌, ◌<◌, ◌≤◌, ◌⊎◌, ◌++◌, length, min, slice_index}
 use Rattle.std.specs.Fmt.{decimal}
 use Rattle.codec.specs.HeadsOut.{HeadsOut}
 use Rattle.codec.specs.TextHeads.{Words}

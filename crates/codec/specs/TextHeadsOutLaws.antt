@@ -1,7 +1,7 @@
 -- A head that is text is read as it was written.
-use Rattle.std.specs.Prelude.{◌≡◌, ℕ, zero, suc, ◌+◌, ◌-◌, ◌*◌, ◌/◌, ◌%◌, ◌<◌, ◌≤◌, ◌^◌, ◌⊎◌, List, [], ◌∷◌, ◌++◌, length, min, Bool, true, false, ◌&&◌, ◌||◌, ◌==◌, nat_lt, if◌then◌else◌, slice_index, Option, None, Some}
+use Rattle.std.specs.Prelude.{◌≡◌, ℕ, zero, suc, ◌+◌, ◌-◌, ◌*◌, ◌/◌, ◌%◌, ◌<◌, ◌≤◌, ◌⊎◌, List, [], ◌∷◌, ◌++◌, length, true, ◌&&◌, ◌||◌, ◌==◌, nat_lt, if◌then◌else◌, slice_index, None, Some}
 use Rattle.std.specs.Fmt.{decimal}
-use Rattle.std.proofs.Common.{sym, ap, subst, ◌∙◌, arith, inl, inr, refl, get_or, length-append, append_assoc, append-nil}
+use Rattle.std.proofs.Common.{sym, ap, subst, ◌∙◌, arith, inl, inr, refl, get_or, length-append, append_assoc}
 use Rattle.std.proofs.Math.Nat.{div-add-mod}
 use Rattle.std.proofs.Math.Seq.{get_or-append_seam}
 use Rattle.std.proofs.lemmas.Bool.{eq-eqb, ne_eqb, lt-ltb, le-ltb}
@@ -9,13 +9,12 @@ use Rattle.std.proofs.lemmas.Fmt.{decimal_by_steps, length-decimal-le}
 use Rattle.codec.specs.HeadsOut.{IsReadBack}
 use Rattle.codec.specs.Number.{with_byte, with_digit}
 use Rattle.codec.specs.Scanning.{says, scan_on, scanned}
-use Rattle.codec.specs.TextHeads.{Words, IsSound, closes, counts, ends, enters, stands, text_scanning, text_turn}
+use Rattle.codec.specs.TextHeads.{Words, IsSound, counts, ends, enters, stands, text_scanning, text_turn}
 use Rattle.codec.specs.TextHeadsOut.{IsWritten, text_out}
 use Rattle.codec.specs.declared.heading.Heading.{Heading}
 use Rattle.codec.specs.declared.heading.Heading.TheVariants as heading
 use Rattle.codec.specs.declared.number.Number.{Number}
 use Rattle.codec.specs.declared.number.Number.TheVariants.{Empty, Is}
-use Rattle.codec.specs.declared.scan.Turn.{Turn}
 use Rattle.codec.specs.declared.scan.Turn.TheVariants.{More, Sized, Bad}
 use Rattle.codec.specs.declared.text_head.Place.{Place}
 use Rattle.codec.specs.declared.text_head.Place.TheVariants.{Before, Length, After}

@@ -1,10 +1,10 @@
 -- Laws of pieces whose payloads are shown without a carriage return.
-use Rattle.std.specs.Prelude.{◌≡◌, ℕ, ◌<◌, List, [], ◌∷◌, ◌++◌, length}
+use Rattle.std.specs.Prelude.{◌≡◌, ℕ, List, [], ◌∷◌, ◌++◌, length}
 use Rattle.std.proofs.Common.{sym, ap, ◌∙◌, arith, inl, inr, refl, length-append, subst}
 use Rattle.std.proofs.lemmas.Bool.{cases_lt}
 use Rattle.std.proofs.lemmas.List.{append_cancel_right}
 use Rattle.codec.specs.Grammar.{Grammar, Begins, IsLawful, IsOpen, Lacks}
-use Rattle.codec.specs.Trimming.{IsShown, IsTrimmed, trimming}
+use Rattle.codec.specs.Trimming.{IsTrimmed, trimming}
 
 -- bytes are shown in one way
 trimmed_same : (bytes a b : List ℕ) → IsTrimmed bytes a → IsTrimmed bytes b → a ≡ b

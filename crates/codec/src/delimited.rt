@@ -57,10 +57,10 @@ impl Decoder for Delimited {
         match find_end(self.end, bytes, seen, to) {
             Some(len) => Found::Piece(Span { from: 0, len }, 1 + len),
             None => {
-                if to > self.max {
+                if bytes.len() > self.max {
                     Found::Wrong(TooLong(self.max))
                 } else {
-                    Found::More(1 + to)
+                    Found::More(1 + bytes.len())
                 }
             }
         }
@@ -76,9 +76,9 @@ impl Decoder for Delimited {
     ghost lawful = { λ d. delimited_lawful d.end d.max };
 }
 
-// Where the first end is, which is none of the first `from` bytes, if that is before `to`.
+/// Where the first end is, which is none of the first `from` bytes, if that is before `to`.
 #[inline(always)]
-fn find_end(end: u8, bytes: &[u8], from: usize, to: usize) -> Option<usize>
+pub fn find_end(end: u8, bytes: &[u8], from: usize, to: usize) -> Option<usize>
     requires within { to ≤ length bytes.now }
     requires order { from ≤ to }
     requires plain { IsPlain end (take from bytes.now) }

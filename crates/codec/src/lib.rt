@@ -33,7 +33,7 @@ mod writer;
 pub use both::{Codec, written_text};
 pub use by_head::ByHead;
 pub use decoder::{Decoder, End, Found, Span};
-pub use delimited::{Delimited, TooLong};
+pub use delimited::{Delimited, TooLong, find_end};
 pub use delimited_writer::NotPlain;
 pub use encoder::Encoder;
 pub use error::{NextError, WritePieceError};

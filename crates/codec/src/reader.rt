@@ -8,8 +8,8 @@ ghost use Rattle.codec.specs.contracts.reader.PieceReader.{the_row};
 ghost use Rattle.codec.specs.declared.error.NextError.TheVariants.{Wrong};
 ghost use Rattle.codec.specs.Decoding.{bytes_at};
 ghost use Rattle.codec.specs.Grammar.{Begins, Lacks, IsOpen};
-ghost use Rattle.codec.specs.Piecing.{IsPiecing, IsFresh, rest, room_for, with_stream};
-ghost use Rattle.codec.specs.NextPiece.{AsksNone, PiecesWent, NextBuffered, NextPiece, buffered_answer, load_answer};
+ghost use Rattle.codec.specs.Piecing.{IsPiecing, IsFresh, IsSettled, Skips, rest, room_for, with_stream};
+ghost use Rattle.codec.specs.NextPiece.{AsksNone, PiecesWent, NextBuffered, NextPiece, Refills, buffered_answer, load_answer};
 ghost use Rattle.codec.specs.Steps.{AsksFor, Takes, TakesEnd};
 
 use crate::buffer::piece_buffer;
@@ -179,6 +179,36 @@ impl<R: Tell, D: Decoder> PieceReader<R, D> {
         &self.reader.buffer()[span.from..span.from + span.len]
     }
 
+    /// How many of the bytes that are left were looked at and settle nothing, so that the next look begins behind them.
+    #[inline(always)]
+    pub fn looked(&self) -> usize
+        ensures value { result ≡ self.now.seen }
+        ensures whole { IsPiecing (D.grammar self.now.decoder) self.now }
+    {
+        self.seen
+    }
+
+    /// Whether the stream ended behind what was handed out or skipped last, which no call has told yet: the next
+    /// [`step`](PieceReader::step) tells it, and reads nothing.
+    #[inline(always)]
+    pub fn has_ended(&self) -> bool
+        ensures value { result ≡ self.now.ended }
+        ensures whole { IsPiecing (D.grammar self.now.decoder) self.now }
+    {
+        self.ended
+    }
+
+    /// Drops the first `count` bytes of what is left, whatever they are. So who is told that no piece begins there goes on
+    /// behind it.
+    #[inline(always)]
+    pub fn skip(&mut self, count: usize)
+        requires within { count ≤ length (rest self.old) }
+        ensures skips { Skips (D.grammar self.old.decoder) self.old count self.new }
+    {
+        self.handed += count;
+        self.seen = 0;
+    }
+
     // Hands the next piece out where it is buffered whole. What was looked at before isn't looked at again.
     #[inline(always)]
     fn take(&mut self) -> Found<D::Wrong>
@@ -287,6 +317,35 @@ impl<R: TellRead, D: Decoder> PieceReader<R, D> {
         )
     }
 
+    /// Whether the next [`step`](PieceReader::step) answers without the stream: a whole piece is buffered, or the beginning of
+    /// none, or the stream ended, which no call has told yet.
+    pub fn is_settled(&self) -> bool
+        ensures settled { IsTrue result ↔ IsSettled (D.grammar self.now.decoder) self.now }
+        ensures unasked { OnTrue result (AsksNone R.remaining (D.grammar self.now.decoder) self.now) }
+    {
+        if self.ended {
+            return true;
+        }
+        match self.decoder.decode(self.rest(), self.seen) {
+            Found::Piece(_, _) => true,
+            Found::More(_) => false,
+            Found::Wrong(_) => true,
+        }
+    }
+
+    /// Asks the stream once where nothing is left, and returns whether something is then: it isn't where the stream ended, which
+    /// the next [`step`](PieceReader::step) tells. An `Err` leaves nothing, too.
+    pub fn refill(&mut self) -> io::Result<bool>
+        requires none { rest self.old ≡ [] }
+        requires room { 0 < (D.grammar self.old.decoder).most }
+        ensures { Refills R.remaining (D.grammar self.old.decoder) self.old result self.new }
+    {
+        self.drop_handed();
+        let came = self.read_to(1)?;
+        self.ended = !came;
+        Ok(came)
+    }
+
     // Goes on in `load`. The kit's compiler clears the answer of a call where the function that makes the call begins; of a
     // call made in here, which is inlined, that is behind the look at what is buffered.
     #[inline(always)]
@@ -302,9 +361,25 @@ impl<R: TellRead, D: Decoder> PieceReader<R, D> {
         self.load(need)
     }
 
-    // Has the next piece stand whole at the front of the buffer, hands it out, and returns where its payload is.
+    // Goes on in `step_on`, as a function of its own.
     #[inline(never)]
     fn load(&mut self, need: usize) -> Result<Option<Span>, NextError<D::Wrong>>
+        requires few { length (rest self.old) < need }
+        requires most { need ≤ (D.grammar self.old.decoder).most }
+        requires lacks { Lacks (D.grammar self.old.decoder) need (rest self.old) }
+        ensures next { NextPiece R.remaining (D.grammar self.old.decoder) self.old
+            (load_answer result self.new) self.new }
+        ensures within { IfOk result (λ found. IfSome found (λ span.
+            span.from + span.len ≤ length self.new.reader.block.bytes)) }
+    {
+        self.step_on(need)
+    }
+
+    /// Goes on to the next piece as [`step`](PieceReader::step) does where it is known that what is left settles nothing before
+    /// there are `need` bytes: it isn't looked at again before more came. Who called
+    /// [`step_buffered`](PieceReader::step_buffered), and knows the pieces, goes on by this.
+    #[inline(always)]
+    pub fn step_on(&mut self, need: usize) -> Result<Option<Span>, NextError<D::Wrong>>
         requires few { length (rest self.old) < need }
         requires most { need ≤ (D.grammar self.old.decoder).most }
         requires lacks { Lacks (D.grammar self.old.decoder) need (rest self.old) }

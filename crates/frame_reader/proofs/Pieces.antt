@@ -254,11 +254,11 @@ module _ {S : Type 0} (remaining : S → Option (List ℕ)) (s t : Piecing S Fra
         (went_none bytes none went, (fault, left), omega (arith, no_end), most)
 
   -- where nothing was done it reads frames still
-  reads_still : pieces.StaysLeft remaining (framed s.decoder.max) s t → ReadsFrames t
+  reads_still : pieces.StaysLeft (framed s.decoder.max) s t → ReadsFrames t
   reads_still stays =
-      let same : t.decoder.max ≡ s.decoder.max = ap (λ d. d.max) stays.went.decoder in record {
+      let same : t.decoder.max ≡ s.decoder.max = ap (λ x. x.decoder.max) stays.same in record {
         word = omega (arith, is.word, same);
-        told = stays.ended ∙ is.told;
+        told = ap (λ x. x.ended) stays.same ∙ is.told;
         whole = subst (λ n. IsPiecing (framed n) t) (sym same) stays.whole;
       }
 
@@ -297,12 +297,5 @@ module _ {S : Type 0} (remaining : S → Option (List ℕ)) (s t : Piecing S Fra
       → pieces.NextBuffered remaining (framed s.decoder.max) s (pieces.buffered_answer found t) t
       → NextBuffered remaining (framing s) (buffered_answer found (framing t)) (framing t)
   NextBuffered-found (Some span) next = (Next-found (Some span) next.0, next.1)
-  NextBuffered-found None (stays, none) = (
-    record {
-      went = went_none [] refl (forgot_went (2 + s.decoder.max) [] stays.went);
-      left = stays.left;
-      reader = stays.reader;
-      whole = whole_of t (reads_still stays);
-    },
-    λ whole. none (frames.begins_of s.decoder.max is.word (rest s) whole),
-  )
+  NextBuffered-found None (stays, none) =
+      (ap framing stays.same, λ whole. none (frames.begins_of s.decoder.max is.word (rest s) whole))

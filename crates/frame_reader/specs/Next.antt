@@ -133,18 +133,11 @@ pub record Next {S : Type 0} (remaining : S → Option (List ℕ)) (s : Framing 
   pub asked : AskedWhere (IsUnsettled s.max) s t
   pub whole : IsFraming t
 
--- nothing was done: what is left is as it was, and the reader inside
-pub record StaysLeft {S : Type 0} (remaining : S → Option (List ℕ)) (s t : Framing S) : Type 0 where
-  pub went : FramesWent remaining s [] t
-  pub left : rest t ≡ rest s
-  pub reader : t.reader ≡ s.reader
-  pub whole : IsFraming t
-
 -- what `next_buffered` does: as `next` where the next frame stands whole in what is left, and else nothing. The reader inside
 -- isn't called
 abbrev pub NextBuffered : {S : Type 0} → (S → Option (List ℕ)) → Framing S → Option (List ℕ) → Framing S → Type 0
 NextBuffered remaining s (Some payload) t = Next remaining s (Ok (Some payload)) t × (t.reader ≡ s.reader)
-NextBuffered remaining s None t = StaysLeft remaining s t × ¬ (BeginsWhole s.max (rest s))
+NextBuffered remaining s None t = (t ≡ s) × ¬ (BeginsWhole s.max (rest s))
 
 -- what a step to the next frame answers: its payload is there
 abbrev pub load_answer : {S : Type 0} → Result (Option Span) FrameError → Framing S → NextAnswer

@@ -17,7 +17,7 @@ use Rattle.frame_reader.specs.Framed.{framed}
 use Rattle.frame_reader.specs.FramedLaws.{framed_lawful, is_frame}
 use Rattle.frame_reader.specs.Frames.{BeginsWhole, BeginsWith, Fits, frame, frames}
 use Rattle.frame_reader.specs.Framing.{Framing, IsFresh, most, piecing, rest}
-use Rattle.frame_reader.specs.Next.{FramesWent, Next, NextAnswer, NextBuffered, StaysLeft, piece_answer}
+use Rattle.frame_reader.specs.Next.{FramesWent, Next, NextAnswer, NextBuffered, piece_answer}
 
 -- an answer of a reader of pieces is of one answer
 same_some : (answer : NextAnswer) (payload : List ℕ) → piece_answer answer ≡ Ok (Some payload)
@@ -99,7 +99,7 @@ module _ {S : Type 0} (remaining : S → Option (List ℕ)) where
     NextBuffered-some r payload = subst (λ r. NextBuffered remaining s (option_copied r) t)
 
     pub NextBuffered-none : (r : Option (Bor (List ℕ))) → r ≡ None → NextBuffered remaining s (option_copied r) t
-        → StaysLeft remaining s t × ¬ (BeginsWhole s.max (rest s))
+        → (t ≡ s) × ¬ (BeginsWhole s.max (rest s))
     NextBuffered-none r = subst (λ r. NextBuffered remaining s (option_copied r) t)
 
   module _ (s : Framing S) (answer : NextAnswer) (t : Framing S) (next : Next remaining s answer t) where

@@ -1,9 +1,7 @@
 pub mod Packing
 pub mod PackingAll
 pub mod PackRuns
-pub mod PackBuffered
 pub mod PackPrompting
 pub mod Prompting
 pub mod Unpacking
-pub mod UnpackBuffered
 pub mod UnpackRuns

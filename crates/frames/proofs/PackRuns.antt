@@ -1,5 +1,6 @@
 -- What a whole run of `pack` comes to.
-use Rattle.std.proofs.Common.{◌≡◌, ℕ, ◌^◌, ◌<◌, inl, inr, List, [], ◌++◌, length, true, false, Option, Result, Ok, Err, refl, sym, ap, subst, ◌∙◌, arith, append-nil, append_assoc}
+use Rattle.std.proofs.Common.{◌≡◌, ℕ, ◌^◌, ◌<◌, inl, inr, List, [], ◌++◌, drop, length, true, false, Option, Result, Ok, Err, refl, sym, ap, subst, ◌∙◌, arith, append-nil, append_assoc}
+use Rattle.std.proofs.Math.Seq.{drop-nil}
 use Rattle.std.proofs.lemmas.Bool.{true≢false, false≢true}
 use Rattle.std.proofs.lemmas.List.Elements.{All-nil}
 use Rattle.std.specs.IoError.{error_kind}
@@ -18,7 +19,6 @@ use Rattle.frame_reader.specs.WriteFrameLaws.{FramesTaken-joins}
 use Rattle.line_reader.specs.Lines.{BeginsTooLong, IsLine, IsUnended, with_ends}
 use Rattle.frame_reader.specs.Framing.{frame_capacity}
 use Rattle.line_reader.specs.Lining.{Lining, rest, room_for}
-use Rattle.line_reader.specs.LinesWentLaws.{drop_none}
 use Rattle.frames.specs.declared.error.RunError.{RunError}
 use Rattle.frames.specs.declared.error.RunError.TheVariants.{TooLong, Truncated, Read, Write, Io}
 use Rattle.frames.specs.Ending.{faulted}
@@ -138,7 +138,7 @@ module _ {R W : Type 0} (remaining : R → Option (List ℕ)) (stretch : W → W
       let hands = p.went.hands in
       hands.given
       ∙ ap (λ l. s.reader.log.reads.given ++ l)
-      (sym (hands.equal ∙ ap (λ l. l ++ hands.got) (drop_none s.handed s.reader.block.bytes none)))
+      (sym (hands.equal ∙ ap (λ l. l ++ hands.got) (ap (λ l. drop s.handed l) none ∙ drop-nil s.handed)))
 
   received : (bytes : List ℕ) (lines : List (List ℕ)) → Packs remaining stretch s u bytes lines t v
       → v.writer.log.writes.received ++ unsent v ≡ u.writer.log.writes.received ++ frames lines

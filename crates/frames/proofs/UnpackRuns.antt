@@ -1,5 +1,6 @@
 -- What a whole run of `unpack` comes to.
-use Rattle.std.proofs.Common.{◌≡◌, ℕ, inl, inr, List, [], ◌++◌, length, true, false, Option, Result, Ok, Err, refl, sym, ap, subst, ◌∙◌, arith, append-nil}
+use Rattle.std.proofs.Common.{◌≡◌, ℕ, inl, inr, List, [], ◌++◌, drop, length, true, false, Option, Result, Ok, Err, refl, sym, ap, subst, ◌∙◌, arith, append-nil}
+use Rattle.std.proofs.Math.Seq.{drop-nil}
 use Rattle.std.proofs.lemmas.Bool.{true≢false, false≢true}
 use Rattle.std.proofs.lemmas.List.Elements.{All-nil}
 use Rattle.std.specs.IoError.{error_kind}
@@ -13,7 +14,6 @@ use Rattle.buffer_redux.specs.WriterLaws.{WritesInOrder-then, WritesInOrder-fres
 use Rattle.buffer_redux.specs.declared.policy.StdPolicy.{StdPolicy}
 use Rattle.frame_reader.specs.Frames.{Fits, frames}
 use Rattle.frame_reader.specs.Framing.{Framing, rest}
-use Rattle.line_reader.specs.LinesWentLaws.{drop_none}
 use Rattle.frames.specs.declared.error.RunError.{RunError}
 use Rattle.frames.specs.declared.error.RunError.TheVariants.{TooLong, Truncated, Read, Write, Io}
 use Rattle.frames.specs.Ending.{faulted}
@@ -100,7 +100,7 @@ module _ {R W : Type 0} (remaining : R → Option (List ℕ)) (s t : Framing R) 
       let hands = p.went.hands in
       hands.given
       ∙ ap (λ l. s.reader.log.reads.given ++ l)
-      (sym (hands.equal ∙ ap (λ l. l ++ hands.got) (drop_none s.lent s.reader.block.bytes none)))
+      (sym (hands.equal ∙ ap (λ l. l ++ hands.got) (ap (λ l. drop s.lent l) none ∙ drop-nil s.lent)))
 
   pub received : (payloads lines : List (List ℕ)) → Unpacks remaining s u payloads lines t v
       → v.log.writes.received ++ v.block.bytes ≡ u.log.writes.received ++ with_ends lines

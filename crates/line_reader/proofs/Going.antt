@@ -1,16 +1,13 @@
 -- A line that is being skipped is skipped first.
-use Rattle.std.proofs.Common.{◌≡◌, ℕ, ◌+◌, ◌≤◌, List, [], ◌∷◌, ◌++◌, length, length-append, min, Bool, true, false, Option, Result, Ok, Err, Some, None, inl, inr, refl, sym, ap, subst, ◌∙◌, arith}
+use Rattle.std.proofs.Common.{◌≡◌, ℕ, ◌≤◌, List, ◌∷◌, ◌++◌, length, length-append, Bool, true, false, Option, Result, Ok, Err, Some, None, inl, inr, refl, sym, ap, subst, ◌∙◌, arith}
 use Rattle.std.specs.Prelude.{MatchBool, is_err, ◌⊎◌}
 use Rattle.std.specs.declared.io.Error.{Error}
 use Rattle.line_reader.specs.declared.error.LineError.TheVariants.{TooLong, Io}
-use Rattle.line_reader.specs.Lines.{newline, BeginsTooLong, IsLine, IsUnended}
+use Rattle.line_reader.specs.Lines.{newline, BeginsTooLong, IsLine}
 use Rattle.line_reader.specs.Lining.{Lining, IsLining, rest}
-use Rattle.line_reader.specs.LinesWentLaws.{LinesWent-joins}
-use Rattle.line_reader.specs.NextLine.{LinesWent, AskedWhere, Faulted, MetEnd, NextAnswer, NextAnswers, NextLine, NoEnd, NoFault, empties}
+use Rattle.line_reader.specs.NextLine.{AskedWhere, LinesWent, NextAnswer, NextLine}
 use Rattle.line_reader.specs.NextLineLaws.{NextLine-ready, NextLine-too_long}
 use Rattle.line_reader.specs.SkipLine.{DropsThrough, NextGoes, SkipAnswers, SkipsFirst, SkipsLine, SkipsStill}
-use Rattle.line_reader.specs.Steps.{SearchesAll, TakesLine}
-use Rattle.line_reader.proofs.Trimming.{next_searched}
 
 module _ {S : Type 0} (remaining : S → Option (List ℕ)) (s t : Lining S) (answer : NextAnswer) where
   abbrev Either : Bool → Type 0
@@ -87,8 +84,6 @@ flag_whole remaining s t (Ok n) d =
       limit = w.limit;
       ahead = w.ahead;
       handed = w.handed;
-      few = w.few;
-      searched = w.searched;
       ended = w.ended;
       skipped = λ odd. cc;
       goes_on = λ odd. cc;
@@ -101,8 +96,6 @@ flag_whole remaining s t (Err e) d =
       limit = w.limit;
       ahead = w.ahead;
       handed = w.handed;
-      few = w.few;
-      searched = w.searched;
       ended = w.ended;
       skipped = λ _. d.answers.1;
       goes_on = λ _. d.answers.2;
@@ -149,131 +142,3 @@ goes_fits remaining s t line goes = by_skipping remaining s t (Ok (Some line)) g
       | inl first ↦ omega (arith, first.next.answers.1, first.skips.drops.went.max)
       | inr still ↦ (let odd : Ok (Some line) ≡ Err (Io still.error) = still.answers in cc)
     ])
-
--- where a line is buffered none is being skipped
-pub takes_open : {S : Type 0} (s t : Lining S) (len : ℕ) → TakesLine s t len → s.skipping ≡ false
-takes_open s t len takes = elim s.skipping as (λ b. b ≡ s.skipping → b ≡ false) [
-  | true ↦ λ is. absurd (omega (arith, takes.inside, ap length (takes.before.skipped (sym is))))
-  | false ↦ λ is. refl
-] refl
-
-pub whole_before : {S : Type 0} (s m : Lining S) → SearchesAll s m → IsLining s
-whole_before s m all = all.before
-
--- a search alone settles nothing
-module _ {S : Type 0} (remaining : S → Option (List ℕ)) (s t : Lining S) (seen : ℕ) where
-  abbrev searched : Lining S
-  searched = record s { seen = seen }
-
-  skip_answers_searched : (answer : Result ℕ Error) (bytes : List ℕ) → SkipAnswers searched answer bytes t
-      → SkipAnswers s answer bytes t
-  skip_answers_searched (Ok n) bytes a = a
-  skip_answers_searched (Err e) bytes a = a
-
-  skip_asked_searched : AskedWhere IsLine searched t → AskedWhere IsLine s t
-  skip_asked_searched (inl same) = inl same
-  skip_asked_searched (inr over) = inr (record {
-    not_ended = over.not_ended;
-    came = over.came;
-    last = over.last;
-    given = over.given;
-    such = over.such;
-    asks = over.asks;
-  })
-
-  skips_searched : (answer : Result ℕ Error) → SkipsLine remaining searched answer t → SkipsLine remaining s answer t
-  skips_searched answer k =
-      let d = k.drops in
-      let w = d.went in record {
-        drops = record {
-          bytes = d.bytes;
-          went = record {
-            hands = record { got = w.hands.got; given = w.hands.given; equal = w.hands.equal };
-            known = w.known;
-            grows = w.grows;
-            held = w.held;
-            capacity = w.capacity;
-            limit = w.limit;
-            max = w.max;
-          };
-          answers = skip_answers_searched answer d.bytes d.answers;
-          asked = skip_asked_searched d.asked;
-          whole = d.whole;
-        };
-        skipping = k.skipping;
-      }
-
-pub goes_searched : {S : Type 0} (remaining : S → Option (List ℕ)) (s m t : Lining S) (answer : NextAnswer)
-    → SearchesAll s m → NextGoes remaining m answer t → NextGoes remaining s answer t
-goes_searched {S} remaining s m t answer all goes =
-    let same : m.skipping ≡ s.skipping = ap (λ x. x.skipping) all.same in
-    let seen = min (length (rest s)) (1 + s.max) in
-    by_skipping remaining m t answer goes (NextGoes remaining s answer t)
-    (λ open' next. goes_plain remaining s t answer (sym same ∙ open') (next_searched remaining s m t answer all next))
-    (λ is n. elim n [
-      | inl first ↦ goes_first remaining s t answer (sym same ∙ is) (record {
-        count = first.count;
-        between = first.between;
-        skips = skips_searched remaining s first.between seen (Ok first.count)
-            (subst (λ x. SkipsLine remaining x (Ok first.count) first.between) all.same first.skips);
-        next = first.next;
-      })
-      | inr still ↦ goes_still remaining s t answer (sym same ∙ is) (record {
-        error = still.error;
-        skips = skips_searched remaining s t seen (Err still.error)
-            (subst (λ x. SkipsLine remaining x (Err still.error) t) all.same still.skips);
-        answers = still.answers;
-      })
-    ])
-
--- what was handed out is dropped, and nothing else is done, before the next line is looked for
-module _ {S : Type 0} (remaining : S → Option (List ℕ)) (s m t : Lining S) (went : LinesWent remaining s [] m)
-    (same : rest m ≡ rest s) (told : m.reader.log ≡ s.reader.log) (ended : m.ended ≡ s.ended) where
-  met_end : MetEnd m t → MetEnd s t
-  met_end met =
-      let none : empties m.reader ≡ empties s.reader = ap (λ l. l.reads.zero_reads) told in
-      subst (λ b. MatchBool b (empties t.reader ≡ empties s.reader) (empties t.reader ≡ empties s.reader + 1)) ended
-      (subst (λ n. MatchBool m.ended (empties t.reader ≡ n) (empties t.reader ≡ n + 1)) none met)
-
-  no_end : NoEnd m t → NoEnd s t
-  no_end none = none ∙ ap (λ l. l.reads.zero_reads) told
-
-  no_fault : NoFault m t → NoFault s t
-  no_fault none = none ∙ ap (λ l. l.reads.faults) told
-
-  faulted : (e : Error) → Faulted m e t → Faulted s e t
-  faulted e met = met ∙ ap (λ l. l.reads.faults ++ e ∷ []) told
-
-  answers_dropped : (answer : NextAnswer) (bytes : List ℕ) → NextAnswers m answer bytes t → NextAnswers s answer bytes t
-  answers_dropped (Ok (Some line)) bytes (plain, fits, fault, inl (is, open', none)) =
-      (plain, omega (arith, fits, went.max), no_fault fault, inl (is, open', no_end none))
-  answers_dropped (Ok (Some line)) bytes (plain, fits, fault, inr (is, some, none, over, met)) =
-      (plain, omega (arith, fits, went.max), no_fault fault, inr (is, some, none, over, met_end met))
-  answers_dropped (Ok None) bytes (is, none, fault, open', met) = (is, none, no_fault fault, open', met_end met)
-  answers_dropped (Err (TooLong n)) bytes (is, max, long, fault, open', none) =
-      (is, max ∙ went.max, subst (λ n. BeginsTooLong n (rest t)) went.max long, no_fault fault, open', no_end none)
-  answers_dropped (Err (Io e)) bytes (is, part, met, open', none) =
-      (is, subst (λ n. IsUnended n (rest t)) went.max part, faulted e met, open', no_end none)
-
-  asked_dropped : AskedWhere (IsUnended m.max) m t → AskedWhere (IsUnended s.max) s t
-  asked_dropped (inl still) = inl (still ∙ told)
-  asked_dropped (inr over) = inr (record {
-    not_ended = sym ended ∙ over.not_ended;
-    came = over.came;
-    last = over.last;
-    given = over.given ∙ ap (λ l. l.reads.given ++ (over.came ++ over.last)) told;
-    such = subst (λ n. IsUnended n (rest s ++ over.came)) went.max
-        (subst (λ l. IsUnended m.max (l ++ over.came)) same over.such);
-    asks = omega (arith, over.asks, ap (λ l. l.reads.asks) told);
-  })
-
-  pub next_dropped : (answer : NextAnswer) → NextLine remaining m answer t → NextLine remaining s answer t
-  next_dropped answer n = record {
-    bytes = n.bytes;
-    went = LinesWent-joins remaining s m t [] n.bytes went n.went;
-    answers = answers_dropped answer n.bytes n.answers;
-    asked = asked_dropped n.asked;
-    told = λ is. n.told (ended ∙ is);
-    open' = n.open';
-    whole = n.whole;
-  }

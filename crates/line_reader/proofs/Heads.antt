@@ -86,28 +86,33 @@ module _ {S : Type 0} (remaining : S → Option (List ℕ)) (Such : List ℕ →
       })
     ] refl
 
-  pub came_more : (t : Lining S) (a : AsksOnce remaining m (Ok true) t) → 0 < length a.went.hands.got
-  came_more t a =
-      omega (arith, (a.more refl).0, ap length a.went.hands.equal, length-append (rest m) a.went.hands.got)
-
-  pub Head-more : (t : Lining S) → AsksOnce remaining m (Ok true) t → Such (rest s ++ h.went.hands.got)
+  pub Head-more : rest m ≡ [] → (t : Lining S) → AsksOnce remaining m (Ok true) t → Such (rest s ++ h.went.hands.got)
       → Head remaining Such s bytes t
-  Head-more t a such = record {
-    went = went_on (Ok true) t a;
-    ended = a.ended ∙ h.ended;
-    skipping = a.skipping ∙ h.skipping;
-    faults = (a.more refl).2 ∙ h.faults;
-    no_end = (a.more refl).1 ∙ h.no_end;
-    asks = omega (
-      arith,
-      h.asks,
-      a.asks,
-      came_more t a,
-      ap length a.went.hands.given,
-      length-append m.reader.log.reads.given a.went.hands.got,
-    );
-    asked = asked_on (Ok true) t a such;
-  }
+  Head-more none t a such =
+      let more = a.more refl in
+      let came : 0 < length a.went.hands.got = omega (
+        arith,
+        more.0,
+        ap length none,
+        ap length a.went.hands.equal,
+        length-append (rest m) a.went.hands.got,
+      ) in
+      record {
+        went = went_on (Ok true) t a;
+        ended = more.1 ∙ h.ended;
+        skipping = a.skipping ∙ h.skipping;
+        faults = more.3 ∙ h.faults;
+        no_end = more.2 ∙ h.no_end;
+        asks = omega (
+          arith,
+          h.asks,
+          a.asks,
+          came,
+          ap length a.went.hands.given,
+          length-append m.reader.log.reads.given a.went.hands.got,
+        );
+        asked = asked_on (Ok true) t a such;
+      }
 
   pub MetEnd-on : (t : Lining S) → MetEnd m t → MetEnd s t
   MetEnd-on t met =

@@ -1,13 +1,9 @@
-pub mod Buffered
 pub mod Going
-pub mod Having
 pub mod Heads
-pub mod Loading
+pub mod Pieces
 pub mod Playing
-pub mod Reading
 pub mod Recording
 pub mod Refusing
-pub mod Searching
 pub mod Skipping
 pub mod Stepping
 pub mod Trimming

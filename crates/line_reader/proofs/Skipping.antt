@@ -7,11 +7,10 @@ use Rattle.std.specs.declared.io.Error.{Error}
 use Rattle.std.specs.declared.io.ErrorKind.TheVariants.{Other}
 use Rattle.line_reader.specs.Lines.{newline, IsLine, with_end}
 use Rattle.line_reader.specs.Lining.{Lining, IsLining, rest}
-use Rattle.line_reader.specs.LinesWentLaws.{LinesWent-joins, LinesWent-inside}
-use Rattle.line_reader.specs.NextLine.{LinesWent}
+use Rattle.line_reader.specs.LinesWentLaws.{LinesWent-inside}
 use Rattle.line_reader.specs.SkipLine.{DropsThrough}
 use Rattle.line_reader.specs.Steps.{AsksOnce, DropsLine}
-use Rattle.line_reader.proofs.Heads.{Head, AskedWhere-told, Head-none, Head-told, Head-more, MetEnd-on, asked_on, not_ended, went_on}
+use Rattle.line_reader.proofs.Heads.{Head, Head-none, Head-told, Head-more, MetEnd-on, asked_on, not_ended, went_on}
 
 abbrev isnt_end : ℕ → Type 0
 isnt_end byte = ¬ (byte ≡ newline)
@@ -26,13 +25,13 @@ pub record SkipHead {S : Type 0} (remaining : S → Option (List ℕ)) (s m : Li
 -- the turns of `drop_through`
 module _ {S : Type 0} (remaining : S → Option (List ℕ)) (s m : Lining S) (dropped : ℕ)
     (h : SkipHead remaining s m dropped) (count : ℕ) where
-  behind_dropped : rest (record m { handed = m.handed + count; seen = 0 }) ≡ drop count (rest m)
+  behind_dropped : rest (record m { handed = m.handed + count }) ≡ drop count (rest m)
   behind_dropped = sym (drop-drop count m.handed m.reader.block.bytes)
 
   -- the end was buffered
   pub skip_found : (t : Lining S) → DropsLine m count true t → DropsThrough remaining s (Ok (dropped + count)) t
   skip_found t drops =
-      let w : Lining S = record m { handed = m.handed + count; seen = 0 } in
+      let w : Lining S = record m { handed = m.handed + count } in
       let found = drops.ends refl in
       let front = take found.0 (rest m) in
       let inside : found.0 < length (rest m) = omega (arith, drops.inside, found.1) in
@@ -80,7 +79,7 @@ module _ {S : Type 0} (remaining : S → Option (List ℕ)) (s m : Lining S) (dr
 
     pub skipped : SkipHead remaining s t (dropped + count)
     skipped =
-        let w : Lining S = record m { handed = m.handed + count; seen = 0 } in
+        let w : Lining S = record m { handed = m.handed + count } in
         let all = drops.none refl in
         let none : rest w ≡ [] = ap rest (sym drops.same) ∙ none_left in
         let split : rest m ++ rest w ≡ rest m = ap (λ l. rest m ++ l) none ∙ append-nil (rest m) in
@@ -111,31 +110,17 @@ module _ {S : Type 0} (remaining : S → Option (List ℕ)) (s m : Lining S) (dr
           whole = drops.whole;
         }
 
--- what was handed out is dropped, and nothing else is done
-pub skip_on : {S : Type 0} (remaining : S → Option (List ℕ)) (s m t : Lining S) (dropped : ℕ)
-    → SkipHead remaining s m dropped → LinesWent remaining m [] t → t.reader.log ≡ m.reader.log → t.ended ≡ m.ended
-    → t.skipping ≡ m.skipping → SkipHead remaining s t dropped
-skip_on remaining s m t dropped h went told ended skipping =
-    let same = append-nil h.bytes in
-    let on = Head-told remaining IsLine s m h.bytes h.head t [] went told ended skipping in record {
-      bytes = h.bytes;
-      head = subst (λ l. Head remaining IsLine s l t) same on;
-      count = h.count;
-      plain = h.plain;
-    }
-
--- then nothing is left, and more is asked for
--- where no end was buffered, all that was left is dropped, and consumed
+-- where no end was buffered, all that was left is dropped
 pub skip_all : {S : Type 0} (remaining : S → Option (List ℕ)) (s m t v : Lining S) (dropped count : ℕ) (found : Bool)
-    → SkipHead remaining s m dropped → found ≡ false → DropsLine m count found t → LinesWent remaining t [] v → rest v ≡ rest t
-    → v.reader.log ≡ t.reader.log → v.ended ≡ t.ended → v.skipping ≡ t.skipping
+    → SkipHead remaining s m dropped → found ≡ false → DropsLine m count found t → v ≡ t
     → SkipHead remaining s v (dropped + count) × (rest v ≡ [])
-skip_all remaining s m t v dropped count found h is drops went left told ended skipping =
+skip_all remaining s m t v dropped count found h is drops same =
     let all = subst (λ b. DropsLine m count b t) is drops in (
-      skip_on remaining s t v (dropped + count) (skipped remaining s m dropped h count t all) went told ended skipping,
-      left ∙ none_left remaining s m dropped h count t all,
+      subst (λ x. SkipHead remaining s x (dropped + count)) (sym same) (skipped remaining s m dropped h count t all),
+      ap rest same ∙ none_left remaining s m dropped h count t all,
     )
 
+-- nothing is left, so the stream is asked
 module _ {S : Type 0} (remaining : S → Option (List ℕ)) (s m : Lining S) (dropped : ℕ)
     (h : SkipHead remaining s m dropped) (none : rest m ≡ []) where
   all_plain : IsLine (rest s ++ h.head.went.hands.got)
@@ -145,7 +130,7 @@ module _ {S : Type 0} (remaining : S → Option (List ℕ)) (s m : Lining S) (dr
   pub skip_more : (t : Lining S) → AsksOnce remaining m (Ok true) t → SkipHead remaining s t dropped
   skip_more t a = record {
     bytes = h.bytes;
-    head = Head-more remaining IsLine s m h.bytes h.head t a all_plain;
+    head = Head-more remaining IsLine s m h.bytes h.head none t a all_plain;
     count = h.count;
     plain = h.plain;
   }
@@ -157,52 +142,27 @@ module _ {S : Type 0} (remaining : S → Option (List ℕ)) (s m : Lining S) (dr
         went = went_on remaining IsLine s m h.bytes h.head (Err e) t a;
         answers = (
           h.plain,
-          f.0 ∙ none,
-          a.ended ∙ f.1,
-          f.2 ∙ h.head.no_end,
-          inl (f.3 ∙ ap (λ l. l ++ e ∷ []) h.head.faults),
+          f.0,
+          f.2,
+          f.3 ∙ h.head.no_end,
+          inl (f.4 ∙ ap (λ l. l ++ e ∷ []) h.head.faults),
         );
         asked = asked_on remaining IsLine s m h.bytes h.head (Err e) t a all_plain;
         whole = a.whole;
       }
 
-  pub ended_whole : s.skipping ≡ false → (t : Lining S) → AsksOnce remaining m (Ok false) t
-      → IsLining (record t { ended = true })
-  ended_whole open' t a = record {
-    block = a.whole.block;
-    plain = a.whole.plain;
-    capacity = a.whole.capacity;
-    limit = a.whole.limit;
-    ahead = a.whole.ahead;
-    handed = a.whole.handed;
-    few = a.whole.few;
-    searched = a.whole.searched;
-    ended = λ _. (a.end refl).0 ∙ none;
-    skipped = λ _. (a.end refl).0 ∙ none;
-    goes_on = λ is. (let odd : true ≡ false = sym is ∙ a.skipping ∙ h.head.skipping ∙ open' in cc);
-  }
-
-  pub skip_ends : s.skipping ≡ false → (t : Lining S) → AsksOnce remaining m (Ok false) t
-      → DropsThrough remaining s (Ok dropped) (record t { ended = true })
-  skip_ends open' t a =
-      let w : Lining S = record t { ended = true } in
-      let inside = LinesWent-inside remaining t w [] refl refl refl in
-      let went = LinesWent-joins remaining s t w h.bytes [] (went_on remaining IsLine s m h.bytes h.head (Ok false) t a) inside in
-      record {
+  pub skip_ends : (t : Lining S) → AsksOnce remaining m (Ok false) t → DropsThrough remaining s (Ok dropped) t
+  skip_ends t a =
+      let end = a.end refl in record {
         bytes = h.bytes;
-        went = subst (λ l. LinesWent remaining s l w) (append-nil h.bytes) went;
+        went = went_on remaining IsLine s m h.bytes h.head (Ok false) t a;
         answers = (
           h.count,
-          (a.end refl).2 ∙ h.head.faults,
-          inr (
-            h.plain,
-            (a.end refl).0 ∙ none,
-            refl,
-            MetEnd-on remaining IsLine s m h.bytes h.head t (a.end refl).1,
-          ),
+          end.3 ∙ h.head.faults,
+          inr (h.plain, end.0, end.1, MetEnd-on remaining IsLine s m h.bytes h.head t end.2),
         );
-        asked = AskedWhere-told IsLine s t w refl (asked_on remaining IsLine s m h.bytes h.head (Ok false) t a all_plain);
-        whole = ended_whole open' t a;
+        asked = asked_on remaining IsLine s m h.bytes h.head (Ok false) t a all_plain;
+        whole = a.whole;
       }
 
 -- before the first turn

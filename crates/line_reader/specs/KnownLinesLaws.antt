@@ -1,41 +1,22 @@
 -- Laws of a reader of lines over a stream that is known.
-use Rattle.std.specs.Prelude.{◌≡◌, ℕ, ◌+◌, ◌<◌, List, [], ◌∷◌, ◌++◌, length, Bool, true, false, MatchBool, Option, None, Some, IfSome, Ok, Err}
+use Rattle.std.specs.Prelude.{◌≡◌, ℕ, ◌+◌, ◌<◌, List, [], ◌∷◌, ◌++◌, length, Bool, true, false, MatchBool, Option, None, Some, Ok, Err}
 use Rattle.std.proofs.Common.{sym, ap, subst, ◌∙◌, arith, inl, inr, refl, append-nil, append_assoc}
 use Rattle.std.proofs.lemmas.List.Elements.{All-nil, All-cons, All-head, All-tail}
-use Rattle.std.specs.Io.KnownBytes.{Consumes, IsAtEnd, prepend_known}
+use Rattle.std.specs.Io.KnownBytes.{prepend_known}
 use Rattle.std.specs.List.{All}
 use Rattle.buffer_redux.specs.GivesRemaining.{GivesRemaining-ahead}
 use Rattle.buffer_redux.specs.StreamLog.{StreamLog}
+use Rattle.codec.specs.KnownPiecesLaws.{dry_front, front_of, left_then}
+use Rattle.codec.specs.PiecesWentLaws.{drop_none}
 use Rattle.line_reader.specs.declared.error.LineError.TheVariants.{TooLong, Io}
 use Rattle.line_reader.specs.Lines.{BeginsTooLong, FitsLine, HasLines, IsLine, newline, with_end}
 use Rattle.line_reader.specs.LinesLaws.{too_long-append}
 use Rattle.line_reader.specs.Lining.{Lining, IsFresh, rest}
-use Rattle.line_reader.specs.LinesWentLaws.{drop_none}
 use Rattle.line_reader.specs.KnownLines.{HasLeft, NextKnown, ahead_of}
 use Rattle.line_reader.specs.NextLine.{LinesWent, MetEnd, NextAnswer, NextLine, empties}
 use Rattle.line_reader.specs.NextLineLaws.{NextGoes-plain}
 use Rattle.line_reader.specs.SkipLine.{NextGoes}
 use Rattle.line_reader.specs.TextLaws.{Lines-first, Lines-fit, Lines-same, lines-last, lines-none}
-
--- of known bytes that lost some, just the others are left
-left_then : (left left' : Option (List ℕ)) (bytes lost : List ℕ) → left ≡ Some bytes → Consumes left left' lost
-    → (more : List ℕ) × (left' ≡ Some more) × (bytes ≡ lost ++ more)
-left_then None left' bytes lost is went = cc
-left_then (Some x) None bytes lost is went = absurd went
-left_then (Some x) (Some y) bytes lost is went = (y, refl, (let same : x ≡ bytes = cc in sym same ∙ went))
-
--- known bytes are those that are buffered, and then the others
-front_of : (buffered : List ℕ) (left : Option (List ℕ)) (bytes : List ℕ) → prepend_known buffered left ≡ Some bytes
-    → (more : List ℕ) × (left ≡ Some more) × (bytes ≡ buffered ++ more)
-front_of buffered None bytes is = cc
-front_of buffered (Some y) bytes is = (y, refl, cc)
-
--- the inner reader ran dry, so what was left is what is buffered
-dry_front : (left left' : Option (List ℕ)) (more : List ℕ) → IfSome left (λ _. IsAtEnd left') → left' ≡ Some more
-    → (known : List ℕ) → left ≡ Some known → more ≡ []
-dry_front None left' more ended is known was = cc
-dry_front (Some x) None more ended is known was = cc
-dry_front (Some x) (Some y) more ended is known was = (let same : y ≡ more = cc in sym same ∙ ended)
 
 -- where the bytes that weren't handed out are known, what went is a front of them, and the others are left
 pub LinesWent-front : {S : Type 0} (remaining : S → Option (List ℕ)) (s t : Lining S) (text bytes : List ℕ)

@@ -1,5 +1,5 @@
 -- Lines, where they end, and texts of them.
-use Rattle.std.specs.Prelude.{◌≡◌, ℕ, ◌+◌, ◌<◌, ◌≤◌, ◌⊎◌, List, [], ◌∷◌, ◌++◌, length, take, drop}
+use Rattle.std.specs.Prelude.{◌≡◌, ℕ, ◌+◌, ◌<◌, ◌≤◌, ◌⊎◌, List, [], ◌∷◌, ◌++◌, length, take}
 use Rattle.std.specs.List.{All, flat_map}
 
 -- the byte that ends a line, and the one that may stand before it
@@ -38,11 +38,6 @@ pub record HasLines (text : List ℕ) (lines : List (List ℕ)) : Type 0 where
 pub record FitsLine (max : ℕ) (line : List ℕ) : Type 0 where
   pub plain : IsLine line
   pub fits : length line ≤ max
-
--- the first line ends at this place
-pub record EndsAt (end : ℕ) (bytes : List ℕ) : Type 0 where
-  pub plain : IsLine (take end bytes)
-  pub equal : take end bytes ++ newline ∷ drop (1 + end) bytes ≡ bytes
 
 -- the bytes begin with a line of at most max bytes, and its end
 pub record BeginsWhole (max : ℕ) (bytes : List ℕ) : Type 0 where

@@ -14,7 +14,7 @@ use Rattle.line_reader.specs.Lines.{BeginsTooLong, BeginsWhole, IsLine, newline}
 use Rattle.line_reader.specs.LinesLaws.{front_plain, line_or_end, no-end-within, take_plain, too_long-append}
 use Rattle.line_reader.specs.Lining.{HasLine, IsLining, Lining, rest}
 use Rattle.line_reader.specs.LinesWentLaws.{LinesWent-unasked}
-use Rattle.line_reader.specs.NextLine.{NextAnswer, NextBuffered, NextLine, StaysLeft, Trims, answer_of}
+use Rattle.line_reader.specs.NextLine.{NextAnswer, NextBuffered, NextLine, Trims, answer_of}
 use Rattle.line_reader.specs.NextLineLaws.{NextGoes-plain, NextLine-ended, NextLine-ready, NextLine-too_long}
 use Rattle.line_reader.specs.SkipLine.{IsWithEnd, LineFails, NextGoes, NextTrimmed, SkipsFirst, SkipsLine, SkipsStill}
 
@@ -56,7 +56,7 @@ module _ {S : Type 0} (remaining : S → Option (List ℕ)) (s t : Lining S) whe
   NextBuffered-some r line = subst (λ r. NextBuffered remaining s (option_copied r) t)
 
   pub NextBuffered-none : (r : Option (Bor (List ℕ))) → r ≡ None → NextBuffered remaining s (option_copied r) t
-      → StaysLeft remaining s t × ¬ (BeginsWhole s.max (rest s))
+      → (t ≡ s) × ¬ (BeginsWhole s.max (rest s))
   NextBuffered-none r = subst (λ r. NextBuffered remaining s (option_copied r) t)
 
   -- an `Err` of `next_trimmed` is one of `next`

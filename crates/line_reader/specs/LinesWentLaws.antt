@@ -1,11 +1,12 @@
 -- How calls of a reader of lines join, and what follows since it was made.
-use Rattle.std.specs.Prelude.{◌≡◌, ℕ, ◌+◌, List, [], ◌++◌, length, drop, Option}
-use Rattle.std.proofs.Common.{sym, ap, subst, ◌∙◌, arith, refl, length-drop, le_refl, append_assoc, append-nil}
-use Rattle.std.proofs.lemmas.List.{append_cancel_left, nil_from_length}
+use Rattle.std.specs.Prelude.{◌≡◌, ℕ, ◌+◌, List, [], ◌++◌, Option}
+use Rattle.std.proofs.Common.{sym, ap, subst, ◌∙◌, arith, refl, le_refl, append_assoc, append-nil}
+use Rattle.std.proofs.lemmas.List.{append_cancel_left}
 use Rattle.buffer_redux.specs.LogGrows.{ReadLogGrows-none, ReadLogGrows-joins}
 use Rattle.buffer_redux.specs.ReaderLaws.{InnerGives-none, InnerGives-joins}
 use Rattle.buffer_redux.specs.Sparing.{PotentialHeld, MovedAtMostGiven}
 use Rattle.buffer_redux.specs.StreamLog.{StreamLog}
+use Rattle.codec.specs.PiecesWentLaws.{drop_none}
 use Rattle.line_reader.specs.Lining.{Lining, IsFresh, rest}
 use Rattle.line_reader.specs.NextLine.{HandsBytes, LinesWent}
 
@@ -73,10 +74,6 @@ LinesWent-inside remaining s t bytes same max split =
       limit = ap (λ r. r.block.limit) same;
       max = max;
     }
-
--- nothing is left of nothing
-pub drop_none : (n : ℕ) (bytes : List ℕ) → bytes ≡ [] → drop n bytes ≡ []
-drop_none n bytes none = nil_from_length (drop n bytes) (omega (arith, length-drop n bytes, ap length none))
 
 -- the same of a reader that was just made: what was given since is the bytes that were handed out, then what is left, and no
 -- more bytes were moved than were given

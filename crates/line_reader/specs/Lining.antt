@@ -1,22 +1,41 @@
 -- What contracts see of a reader of lines.
-use Rattle.std.specs.Prelude.{◌≡◌, ℕ, ◌+◌, ◌*◌, ◌≤◌, ◌⊎◌, List, [], drop, take, length, max, Bool, true, false}
-use Rattle.buffer_redux.specs.Block.{Block, IsBlock, Plain, usable}
+use Rattle.std.specs.Prelude.{◌≡◌, ℕ, ◌+◌, ◌*◌, ◌≤◌, ◌⊎◌, List, [], drop, length, max, Bool, true, false}
+use Rattle.buffer_redux.specs.Block.{IsBlock, Plain}
 use Rattle.buffer_redux.specs.Buffered.{Buffered, with_inner}
 use Rattle.buffer_redux.specs.Potential.{potential}
 use Rattle.buffer_redux.specs.StreamLog.{StreamLog}
 use Rattle.buffer_redux.specs.declared.policy.MinBuffered.{MinBuffered}
-use Rattle.line_reader.specs.Lines.{BeginsTooLong, BeginsWhole, IsLine}
+use Rattle.codec.specs.Delimited.{delimited}
+use Rattle.codec.specs.Piecing as pieces
+use Rattle.codec.specs.Piecing.{IsPiecing, Piecing}
+use Rattle.codec.specs.declared.delimited.Delimited.{Delimited}
+use Rattle.line_reader.specs.Lines.{BeginsTooLong, BeginsWhole, newline}
 
--- the buffered reader; the greatest length of a line; how many of the first bytes that are buffered were handed out; how
--- many behind them were searched, and hold no end of a line; whether the stream ended, which no call has told yet; and
--- whether a line is being skipped, of which the end hasn't come
+-- the buffered reader; the greatest length of a line; how many of the first bytes that are buffered were handed out; whether
+-- the stream ended, which no call has told yet; and whether a line is being skipped, of which the end hasn't come
 pub record Lining (S : Type 0) : Type 0 where
   pub reader : Buffered S MinBuffered
   pub max : ℕ
   pub handed : ℕ
-  pub seen : ℕ
   pub ended : Bool
   pub skipping : Bool
+
+-- the reader of pieces that it is, and whether a line is being skipped: how many bytes were searched isn't told
+abbrev pub lining : {S : Type 0} → Piecing S Delimited → Bool → Lining S
+lining f skipping = record {
+  reader = f.reader;
+  max = f.decoder.max;
+  handed = f.handed;
+  ended = f.ended;
+  skipping = skipping;
+}
+
+-- what is true of the reader of pieces in a reader of lines
+pub record ReadsLines {S : Type 0} (f : Piecing S Delimited) (skipping : Bool) : Type 0 where
+  pub feed : f.decoder.end ≡ newline
+  pub whole : IsPiecing (delimited newline f.decoder.max) f
+  pub skipped : skipping ≡ true → pieces.rest f ≡ []
+  pub goes_on : skipping ≡ true → f.ended ≡ false
 
 -- the buffered bytes that weren't handed out
 abbrev pub rest : {S : Type 0} → Lining S → List ℕ
@@ -38,21 +57,10 @@ pub record IsLining {S : Type 0} (f : Lining S) : Type 0 where
   pub capacity : 3 * most f ≤ f.reader.block.capacity
   pub limit : f.reader.block.limit ≡ f.reader.block.capacity
   pub ahead : f.reader.policy.0 ≤ most f
-  pub handed : f.handed + f.seen ≤ length f.reader.block.bytes
-  pub few : f.seen ≤ most f
-  pub searched : IsLine (take f.seen (rest f))
+  pub handed : f.handed ≤ length f.reader.block.bytes
   pub ended : f.ended ≡ true → rest f ≡ []
   pub skipped : f.skipping ≡ true → rest f ≡ []
   pub goes_on : f.skipping ≡ true → f.ended ≡ false
-
--- a plain block that was just made, and can't grow
-pub record IsFixed (size : ℕ) (b : Block) : Type 0 where
-  pub bytes : b.bytes ≡ []
-  pub usable : usable b ≡ size
-  pub kind : b.kind ≡ Plain
-  pub capacity : b.capacity ≡ size
-  pub limit : b.limit ≡ size
-  pub moved : b.moved ≡ 0
 
 -- just made over this stream: nothing is buffered, and no byte was moved
 pub record IsFresh {S : Type 0} (tells : S → StreamLog) (least greatest : ℕ) (stream : S) (f : Lining S)

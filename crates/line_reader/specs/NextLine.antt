@@ -1,11 +1,13 @@
 -- What the calls of a reader of lines promise.
-use Rattle.std.specs.Prelude.{◌≡◌, ℕ, ◌+◌, ◌<◌, ◌≤◌, ◌⊎◌, List, [], ◌∷◌, ◌++◌, length, take, true, false, MatchBool, Option, None, Some, Result, Ok, Err, option_copied}
+use Rattle.std.specs.Prelude.{◌≡◌, ℕ, ◌+◌, ◌<◌, ◌≤◌, ◌⊎◌, List, [], ◌∷◌, ◌++◌, length, true, false, MatchBool, Option, None, Some, Result, Ok, Err, option_copied}
 use Rattle.std.specs.Borrow.{Bor}
 use Rattle.std.specs.declared.io.Error.{Error}
 use Rattle.buffer_redux.specs.Buffered.{Buffered}
 use Rattle.buffer_redux.specs.LogGrows.{ReadLogGrows}
 use Rattle.buffer_redux.specs.BufReader.{InnerGives}
 use Rattle.buffer_redux.specs.Sparing.{PotentialHeld}
+use Rattle.codec.specs.Decoding.{bytes_at}
+use Rattle.codec.specs.declared.decoder.Span.{Span}
 use Rattle.line_reader.specs.declared.error.LineError.{LineError}
 use Rattle.line_reader.specs.declared.error.LineError.TheVariants.{TooLong, Io}
 use Rattle.line_reader.specs.Lines.{IsLine, BeginsTooLong, BeginsWhole, IsTrimmed, IsUnended, with_end}
@@ -101,19 +103,11 @@ pub record NextLine {S : Type 0} (remaining : S → Option (List ℕ)) (s : Lini
   pub open' : t.skipping ≡ false
   pub whole : IsLining t
 
--- nothing was done: what is left is as it was, and the reader inside
-pub record StaysLeft {S : Type 0} (remaining : S → Option (List ℕ)) (s t : Lining S) : Type 0 where
-  pub went : LinesWent remaining s [] t
-  pub left : rest t ≡ rest s
-  pub reader : t.reader ≡ s.reader
-  pub ended : t.ended ≡ s.ended
-  pub skipping : t.skipping ≡ s.skipping
-
 -- what `next_buffered` does: as `next` where the next line stands whole in what is left, and else nothing. The reader inside
 -- isn't called
 abbrev pub NextBuffered : {S : Type 0} → (S → Option (List ℕ)) → Lining S → Option (List ℕ) → Lining S → Type 0
 NextBuffered remaining s (Some line) t = NextLine remaining s (Ok (Some line)) t × (t.reader ≡ s.reader)
-NextBuffered remaining s None t = StaysLeft remaining s t × ¬ (BeginsWhole s.max (rest s))
+NextBuffered remaining s None t = (t ≡ s) × ¬ (BeginsWhole s.max (rest s))
 
 -- a line is shown without the carriage return before its end, and the last one, which has none, as it is
 abbrev pub Trims : {S : Type 0} → NextAnswer → NextAnswer → Lining S → Type 0
@@ -123,8 +117,13 @@ Trims (Ok (Some line)) (Err e) t = ⊥
 Trims (Ok None) answer t = answer ≡ Ok None
 Trims (Err e) answer t = answer ≡ Err e
 
--- what is lent once the next line stands at the front
-abbrev pub load_answer : {S : Type 0} → Result (Option ℕ) LineError → Lining S → NextAnswer
-load_answer (Ok (Some len)) t = Ok (Some (take len t.reader.block.bytes))
+-- what is lent once the next line stands whole in the buffer
+abbrev pub load_answer : {S : Type 0} → Result (Option Span) LineError → Lining S → NextAnswer
+load_answer (Ok (Some span)) t = Ok (Some (bytes_at span t.reader.block.bytes))
 load_answer (Ok None) t = Ok None
 load_answer (Err e) t = Err e
+
+-- what is lent of a line that was buffered
+abbrev pub buffered_answer : {S : Type 0} → Option Span → Lining S → Option (List ℕ)
+buffered_answer (Some span) t = Some (bytes_at span t.reader.block.bytes)
+buffered_answer None t = None

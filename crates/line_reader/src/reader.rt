@@ -1,5 +1,5 @@
 //! The reader of lines.
-ghost use Rattle.std.specs.Prelude.{◌≡◌, ℕ, ◌+◌, ◌≤◌, ◌^◌, ◌↔◌, List, ◌∷◌, ◌++◌, length, min, Ok, Err, Some, None, IfOk, IfErr, IfSome, IsTrue, true, option_copied};
+ghost use Rattle.std.specs.Prelude.{◌≡◌, ℕ, ◌+◌, ◌≤◌, ◌^◌, ◌↔◌, List, ◌∷◌, ◌++◌, length, Ok, Err, Some, None, IfOk, IfErr, IfSome, IsTrue, true, false, option_copied};
 ghost use Rattle.std.specs.Borrow.{Lends, sem};
 ghost use Rattle.std.specs.Io.BufRead.{Rests};
 ghost use Rattle.buffer_redux.specs.GrowError.{FitsWithin};
@@ -7,16 +7,16 @@ ghost use Rattle.buffer_redux.specs.MakeError.{growth};
 ghost use Rattle.line_reader.specs.contracts.reader.LineReader.{the_row};
 ghost use Rattle.line_reader.specs.Lines.{BeginsTooLong, IsLine, newline};
 ghost use Rattle.line_reader.specs.Lining.{HasLine, IsLining, IsFresh, rest, room_for, with_stream};
-ghost use Rattle.line_reader.specs.NextLine.{NextBuffered, answer_of, load_answer};
+ghost use Rattle.line_reader.specs.NextLine.{NextBuffered, answer_of};
 ghost use Rattle.line_reader.specs.SkipLine.{NextGoes, NextTrimmed, SkipsLine};
 
 mod steps;
 
 use crate::error::LineError;
-use crate::line::{find_end, line_buffer};
-use buffer_redux::policy::MinBuffered;
+use crate::line::trimmed;
 use buffer_redux::tell::{Tell, TellRead};
-use buffer_redux::{BufReader, Buffer, DEFAULT_BUF_SIZE, MakeError};
+use buffer_redux::{Buffer, DEFAULT_BUF_SIZE, GrowError, MAX_CAPACITY, MakeError};
+use codec::{Delimited, PieceReader};
 use std::alloc::Global;
 use std::io;
 use std::marker::Model;
@@ -35,40 +35,19 @@ use std::marker::Model;
 /// ```
 #[derive(Drop)]
 pub struct LineReader<R: Tell> {
-    reader: BufReader<R, MinBuffered>,
-    max: usize,
-    // How many of the first bytes that are buffered were handed out, the line that was lent last among them.
-    handed: usize,
-    // How many behind them were searched, and hold no end of a line.
-    seen: usize,
-    // Whether the stream ended, which no call of `next` has told yet.
-    ended: bool,
+    pieces: PieceReader<R, Delimited>,
     // Whether a line is being skipped, of which the end hasn't come. Then nothing is left, so only `load` looks at this.
     skipping: bool,
 }
 
 impl<R: Tell> Model for LineReader<R> {
-    ghost use Rattle.line_reader.specs.Lining.{Lining, IsLining};
+    ghost use Rattle.line_reader.specs.Lining.{Lining, ReadsLines, lining};
 
     ghost Value = { Lining R };
 
-    ghost view = { λ f. record {
-      reader = f.reader;
-      max = f.max;
-      handed = f.handed;
-      seen = f.seen;
-      ended = f.ended;
-      skipping = f.skipping;
-    } };
+    ghost view = { λ f. lining f.pieces f.skipping };
 
-    ghost invariant = { λ f. IsLining (record {
-      reader = f.reader;
-      max = f.max;
-      handed = f.handed;
-      seen = f.seen;
-      ended = f.ended;
-      skipping = f.skipping;
-    }) };
+    ghost invariant = { λ f. ReadsLines f.pieces f.skipping };
 }
 
 impl<R: Tell> LineReader<R> {
@@ -95,16 +74,15 @@ impl<R: Tell> LineReader<R> {
         ensures handed_back { IfErr result (λ e. e.0 ≡ inner) }
         ensures within { FitsWithin (growth result) (room_for capacity max) (2 ^ 62) }
     {
-        match line_buffer(alloc, capacity, max) {
-            Ok(buffer) => Ok(LineReader {
-                reader: BufReader::with_buffer(buffer, inner).set_policy(MinBuffered(1)),
-                max,
-                handed: 0,
-                seen: 0,
-                ended: false,
+        if max >= MAX_CAPACITY {
+            return Err(MakeError(inner, GrowError::TooLarge));
+        }
+        match PieceReader::with_capacity(alloc, capacity, inner, Delimited { end: b'\n', max }) {
+            Ok(pieces) => Ok(LineReader {
+                pieces,
                 skipping: false,
             }),
-            Err(e) => Err(MakeError(inner, e)),
+            Err(MakeError(back, e)) => Err(MakeError(back.0, e)),
         }
     }
 
@@ -114,7 +92,7 @@ impl<R: Tell> LineReader<R> {
         ensures log { R.log result.now ≡ self.now.reader.log }
         ensures whole { IsLining self.now }
     {
-        self.reader.get_ref()
+        self.pieces.get_ref()
     }
 
     /// The inner reader, for changes. What is read through this is not in the lines.
@@ -124,7 +102,7 @@ impl<R: Tell> LineReader<R> {
         ensures inner { result.now ≡ self.old.reader.inner }
         ensures log { R.log result.now ≡ self.old.reader.log }
     {
-        self.reader.get_mut()
+        self.pieces.get_mut()
     }
 
     /// The inner reader. What is buffered is gone; [`rest`](LineReader::rest) shows it before.
@@ -145,23 +123,17 @@ impl<R: Tell> LineReader<R> {
         ensures capacity { result.1.capacity ≡ self.reader.block.capacity }
     {
         let LineReader {
-            reader,
-            max: _,
-            handed,
-            seen: _,
-            ended: _,
+            pieces,
             skipping: _,
         } = self;
-        let (inner, mut buffer) = reader.into_inner_with_buffer();
-        buffer.consume(handed);
-        (inner, buffer)
+        pieces.into_inner_with_buffer()
     }
 
     /// The greatest length of a line, in bytes, its end not counted.
     pub fn max(&self) -> usize
         ensures { result ≡ self.now.max }
     {
-        self.max
+        self.pieces.decoder().max
     }
 
     /// Whether a line is being skipped, in which [`skip_line`](LineReader::skip_line) failed: what comes of it through its end
@@ -173,34 +145,26 @@ impl<R: Tell> LineReader<R> {
         self.skipping
     }
 
-    /// Whether the next call of [`next`](LineReader::next) answers without asking the stream: a whole line is buffered, or
-    /// the beginning of one that is too long, or the stream ended, which no call has told yet.
-    ///
-    /// What an earlier call of that searched isn't searched again.
-    #[inline]
-    pub fn has_line(&self) -> bool
-        ensures { IsTrue result ↔ HasLine self.now }
-    {
-        let left = self.rest();
-        if self.ended || self.max < left.len() {
-            return true;
-        }
-        match find_end(left, self.seen, left.len()) {
-            Some(_) => true,
-            None => false,
-        }
-    }
-
     /// The buffered bytes that weren't handed out.
     pub fn rest(&self) -> &[u8]
         ensures value { result.now ≡ rest self.now }
         ensures whole { IsLining self.now }
     {
-        &self.reader.buffer()[self.handed..]
+        self.pieces.rest()
     }
 }
 
 impl<R: TellRead> LineReader<R> {
+    /// Whether the next call of [`next`](LineReader::next) answers without asking the stream: a whole line is buffered, or
+    /// the beginning of one that is too long, or the stream ended, which no call has told yet.
+    ///
+    /// What an earlier call of that searched isn't searched again.
+    pub fn has_line(&self) -> bool
+        ensures { IsTrue result ↔ HasLine self.now }
+    {
+        self.pieces.is_settled()
+    }
+
     /// Lends the next line, without its end, out of the buffer; the next call drops it. A carriage return before the end is
     /// a byte of the line. `None` where the stream ended behind the last line, which may lack its end.
     ///
@@ -223,12 +187,11 @@ impl<R: TellRead> LineReader<R> {
             → answer_of result ≡ Err (LineError.TooLong self.old.max) }
         ensures ended { self.old.ended ≡ true → answer_of result ≡ Ok None }
     {
-        let from = self.handed;
-        if let Some(len) = self.take_buffered() {
-            return Ok(Some(&self.reader.buffer()[from..from + len]));
+        if let Some(span) = self.step_buffered() {
+            return Ok(Some(self.lent(span)));
         }
         match self.load()? {
-            Some(len) => Ok(Some(&self.reader.buffer()[..len])),
+            Some(span) => Ok(Some(self.lent(span))),
             None => Ok(None),
         }
     }
@@ -240,9 +203,8 @@ impl<R: TellRead> LineReader<R> {
         ensures* after_borrow { sem 𝓛 (Rests (the_row R.row R.Tell) self.entry
             (NextBuffered R.remaining self.entry.now (option_copied result))) }
     {
-        let from = self.handed;
-        match self.take_buffered() {
-            Some(len) => Some(&self.reader.buffer()[from..from + len]),
+        match self.step_buffered() {
+            Some(span) => Some(self.lent(span)),
             None => None,
         }
     }
@@ -254,12 +216,11 @@ impl<R: TellRead> LineReader<R> {
         ensures* after_borrow { sem 𝓛 (Rests (the_row R.row R.Tell) self.entry
             (NextTrimmed R.remaining self.entry.now (answer_of result))) }
     {
-        let from = self.handed;
-        if let Some(len) = self.take_buffered() {
-            return Ok(Some(self.shown(from, len)));
+        if let Some(span) = self.step_buffered() {
+            return Ok(Some(trimmed(self.lent(span))));
         }
         match self.load()? {
-            Some(len) => Ok(Some(self.shown(0, len))),
+            Some(span) => Ok(Some(self.shown(span))),
             None => Ok(None),
         }
     }
@@ -277,20 +238,5 @@ impl<R: TellRead> LineReader<R> {
         let dropped = self.drop_through();
         self.skipping = dropped.is_err();
         dropped
-    }
-
-    // Has the next line stand whole at the front of the buffer, hands it out, and returns its length. It is inlined, so that
-    // `load_line` is called where its answer is looked at.
-    #[inline(always)]
-    fn load(&mut self) -> Result<Option<usize>, LineError>
-        requires searched { self.old.seen ≡ min (length (rest self.old)) (1 + self.old.max) }
-        ensures next { NextGoes R.remaining self.old (load_answer result self.new) self.new }
-        ensures within { IfOk result (λ found. IfSome found (λ len. len ≤ length self.new.reader.block.bytes)) }
-    {
-        if self.skipping {
-            self.load_aside()
-        } else {
-            self.load_line()
-        }
     }
 }

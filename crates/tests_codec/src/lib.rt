@@ -11,6 +11,8 @@ mod pieces;
 #[cfg(test)]
 mod ready;
 #[cfg(test)]
+mod skipped;
+#[cfg(test)]
 mod sweep;
 #[cfg(test)]
 mod written;

@@ -69,7 +69,8 @@ fn reader<R: TellRead + Drop, D: Decoder>(
     PieceReader::new(alloc, inner, decoder)
 }
 
-fn over<D: Decoder>(
+/// A reader over these bytes, which come by this script.
+pub fn over<D: Decoder>(
     alloc: Global,
     decoder: D,
     bytes: &[u8],
@@ -101,8 +102,8 @@ where
     }
 }
 
-// How often the stream was asked.
-fn asked<D: Decoder>(reader: &PieceReader<Source, D>) -> usize {
+/// How often the stream was asked.
+pub fn asked<D: Decoder>(reader: &PieceReader<Source, D>) -> usize {
     reader.get_ref().get_ref().offers().len()
 }
 
@@ -167,11 +168,11 @@ where
     Some(failed)
 }
 
-// No run calls its stream so often.
-const CALLS: usize = 500;
+/// No run calls its stream so often.
+pub const CALLS: usize = 500;
 
-// So many bytes at most a call, and a fault behind the first calls.
-fn script(alloc: Global, most: usize, before: usize) -> Result<Vec<Answer>, AllocError> {
+/// So many bytes at most a call, and a fault behind the first calls.
+pub fn script(alloc: Global, most: usize, before: usize) -> Result<Vec<Answer>, AllocError> {
     let mut script = Vec::from_slice(alloc, &[Answer::ServeEach(most)])?;
     script.resize(before.saturating_add(1), Answer::Serve(most))?;
     script.extend_from_slice(&[Answer::Fail(ErrorKind::TimedOut)])?;

@@ -1,11 +1,11 @@
-use Rattle.std.proofs.Common.{ap, inl, Ok, Some, refl, true, ◌∙◌}
+use Rattle.std.proofs.Common.{ap, inl, Ok, Some, subst, true, ◌∙◌}
 use Rattle.std.proofs.lemmas.Result.{err_from_is_err_and}
 use Rattle.line_reader.specs.LinesAlongLaws.{NextBuffered-none, NextBuffered-some}
+use Rattle.frames.specs.Going.{goes_on}
+use Rattle.frames.specs.Pack.{Asks, AsksWhenSent, PacksNext}
 use Rattle.programs.specs.PromptLaws.{WritesOn-unflushed}
-use Rattle.programs.specs.StreamsLaws.{only_same}
-use Rattle.frames.proofs.PackBuffered.{asks_stays, sent_stays}
 use Rattle.frames.proofs.PackPrompting.{asks_end, asks_next}
-use Rattle.frames.proofs.Packing.{not_written, retried, written}
+use Rattle.frames.proofs.Packing.{not_written, written}
 use Rattle.frames.proofs.pack.pack_line.Goals as goal
 
 pub returns-in_err-write_frame-in-Some-clause-packs : goal.returns-in_err-write_frame-in-Some-clause-packs
@@ -81,40 +81,29 @@ returns-in_ok-write_frame-in-Some-clause-open g c =
 
 pub returns-in-None-clause-packs : goal.returns-in-None-clause-packs
 returns-in-None-clause-packs g c =
-    let s = c.args.source.now in
-    let m = c.next_buffered.follows.lender-at-none in
-    let stays = (NextBuffered-none _ s m _ c.in-None.is c.next_buffered.follows.holds-at-none).0 in
-    retried g.R.TellRead.remaining g.W.TellWrite.stretch g.met.W.TellWrite.stretch_none s m c.pack_asked.new.source
-    c.args.target.now c.pack_asked.new.target stays.went
-    (only_same s.reader.log.reads.faults m.reader.log.reads.faults (ap (λ r. r.log.reads.faults) stays.reader)) stays.ended
-    (ap (λ r. r.log.reads.zero_reads) stays.reader) c.args.target.now refl c.pack_asked.result c.pack_asked.ensures.packs
+    let asked = c.pack_asked in
+    let same = (NextBuffered-none _ c.args.source.now _ _ c.in-None.is c.next_buffered.follows.holds-at-none).0 in
+    subst (λ x. PacksNext g.R.TellRead.remaining g.W.TellWrite.stretch x c.args.target.now asked.result asked.new.source
+    asked.new.target) same asked.ensures.packs
 
 pub returns-in-None-clause-asks : goal.returns-in-None-clause-asks
 returns-in-None-clause-asks g c =
-    let s = c.args.source.now in
-    let m = c.next_buffered.follows.lender-at-none in
-    asks_stays g.R.TellRead.remaining s m
-    (NextBuffered-none _ s m _ c.in-None.is c.next_buffered.follows.holds-at-none).0
-    c.pack_asked.new.source _ c.pack_asked.ensures.asks
+    let asked = c.pack_asked in
+    let same = (NextBuffered-none _ c.args.source.now _ _ c.in-None.is c.next_buffered.follows.holds-at-none).0 in
+    subst (λ x. Asks x (goes_on asked.result) asked.new.source) same asked.ensures.asks
 
 pub returns-in-None-clause-prompt : goal.returns-in-None-clause-prompt
 returns-in-None-clause-prompt g c =
-    let s = c.args.source.now in
-    let m = c.next_buffered.follows.lender-at-none in
-    sent_stays g.R.TellRead.remaining s m
-    (NextBuffered-none _ s m _ c.in-None.is c.next_buffered.follows.holds-at-none).0
-    c.pack_asked.new.source c.args.target.now c.pack_asked.new.target c.pack_asked.ensures.prompt
+    let asked = c.pack_asked in
+    let same = (NextBuffered-none _ c.args.source.now _ _ c.in-None.is c.next_buffered.follows.holds-at-none).0 in
+    subst (λ x. AsksWhenSent x c.args.target.now asked.new.source asked.new.target) same asked.ensures.prompt
 
 pub pack_asked-requires-clause-most : goal.pack_asked-requires-clause-most
 pack_asked-requires-clause-most g c =
-    let s = c.args.source.now in
-    let m = c.next_buffered.follows.lender-at-none in
-    (NextBuffered-none _ s m _ c.in-None.is c.next_buffered.follows.holds-at-none).0.went.max
+    ap (λ x. x.max) (NextBuffered-none _ c.args.source.now _ _ c.in-None.is c.next_buffered.follows.holds-at-none).0
     ∙ c.requires.most
 
 pub pack_asked-requires-clause-open : goal.pack_asked-requires-clause-open
 pack_asked-requires-clause-open g c =
-    let s = c.args.source.now in
-    let m = c.next_buffered.follows.lender-at-none in
-    (NextBuffered-none _ s m _ c.in-None.is c.next_buffered.follows.holds-at-none).0.skipping
+    ap (λ x. x.skipping) (NextBuffered-none _ c.args.source.now _ _ c.in-None.is c.next_buffered.follows.holds-at-none).0
     ∙ c.requires.open

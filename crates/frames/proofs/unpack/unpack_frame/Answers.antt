@@ -1,12 +1,11 @@
-use Rattle.std.proofs.Common.{ap, inl, refl, subst, sym, true, Ok, Some}
+use Rattle.std.proofs.Common.{ap, inl, subst, sym, true, Ok, Some}
 use Rattle.std.proofs.lemmas.Result.{err_from_is_err_and}
 use Rattle.frame_reader.specs.NextLaws.{NextBuffered-none, NextBuffered-some}
-use Rattle.frames.specs.Unpack.{IsLineTarget}
+use Rattle.frames.specs.Going.{goes_on}
+use Rattle.frames.specs.Unpack.{Asks, AsksWhenSent, IsLineTarget, UnpacksNext}
 use Rattle.programs.specs.PromptLaws.{WritesOn-unflushed}
-use Rattle.programs.specs.StreamsLaws.{only_same}
 use Rattle.frames.proofs.Prompting.{asks_end, asks_next}
-use Rattle.frames.proofs.UnpackBuffered.{asks_stays, sent_stays}
-use Rattle.frames.proofs.Unpacking.{not_printed, printed, retried}
+use Rattle.frames.proofs.Unpacking.{not_printed, printed}
 use Rattle.frames.proofs.unpack.unpack_frame.Goals as goal
 
 pub returns-in_err-print_line-in-Some-clause-unpacks : goal.returns-in_err-print_line-in-Some-clause-unpacks
@@ -70,32 +69,24 @@ returns-in_ok-print_line-in-Some-clause-writes g c =
 
 pub returns-in-None-clause-unpacks : goal.returns-in-None-clause-unpacks
 returns-in-None-clause-unpacks g c =
-    let s = c.args.source.now in
-    let m = c.next_buffered.follows.lender-at-none in
-    let stays = (NextBuffered-none _ s m _ c.in-None.is c.next_buffered.follows.holds-at-none).0 in
-    retried g.R.TellRead.remaining s m c.unpack_asked.new.source c.args.target.now c.unpack_asked.new.target stays.went
-    (only_same s.reader.log.reads.faults m.reader.log.reads.faults (ap (λ r. r.log.reads.faults) stays.reader))
-    c.args.target.now refl c.unpack_asked.result c.unpack_asked.ensures.unpacks
+    let asked = c.unpack_asked in
+    let same = (NextBuffered-none _ c.args.source.now _ _ c.in-None.is c.next_buffered.follows.holds-at-none).0 in
+    subst (λ x. UnpacksNext g.R.TellRead.remaining x c.args.target.now asked.result asked.new.source asked.new.target) same
+    asked.ensures.unpacks
 
 pub returns-in-None-clause-asks : goal.returns-in-None-clause-asks
 returns-in-None-clause-asks g c =
-    let s = c.args.source.now in
-    let m = c.next_buffered.follows.lender-at-none in
-    asks_stays g.R.TellRead.remaining s m
-    (NextBuffered-none _ s m _ c.in-None.is c.next_buffered.follows.holds-at-none).0
-    c.unpack_asked.new.source _ c.unpack_asked.ensures.asks
+    let asked = c.unpack_asked in
+    let same = (NextBuffered-none _ c.args.source.now _ _ c.in-None.is c.next_buffered.follows.holds-at-none).0 in
+    subst (λ x. Asks x (goes_on asked.result) asked.new.source) same asked.ensures.asks
 
 pub returns-in-None-clause-prompt : goal.returns-in-None-clause-prompt
 returns-in-None-clause-prompt g c =
-    let s = c.args.source.now in
-    let m = c.next_buffered.follows.lender-at-none in
-    sent_stays g.R.TellRead.remaining s m
-    (NextBuffered-none _ s m _ c.in-None.is c.next_buffered.follows.holds-at-none).0
-    c.unpack_asked.new.source c.args.target.now c.unpack_asked.new.target c.unpack_asked.ensures.prompt
+    let asked = c.unpack_asked in
+    let same = (NextBuffered-none _ c.args.source.now _ _ c.in-None.is c.next_buffered.follows.holds-at-none).0 in
+    subst (λ x. AsksWhenSent x c.args.target.now asked.new.source asked.new.target) same asked.ensures.prompt
 
 pub unpack_asked-requires : goal.unpack_asked-requires
 unpack_asked-requires g c =
-    let s = c.args.source.now in
-    let m = c.next_buffered.follows.lender-at-none in
-    subst (λ n. IsLineTarget n c.args.target.now)
-    (sym (NextBuffered-none _ s m _ c.in-None.is c.next_buffered.follows.holds-at-none).0.went.max) c.requires
+    let same = (NextBuffered-none _ c.args.source.now _ _ c.in-None.is c.next_buffered.follows.holds-at-none).0 in
+    subst (λ x. IsLineTarget x.max c.args.target.now) (sym same) c.requires

@@ -24,11 +24,11 @@ returns-in-Piece-clause-next g c =
 pub returns-in-More-clause-next : goal.returns-in-More-clause-next
 returns-in-More-clause-next g c =
     let s = c.args.self.now in
-    none_yet g.R.TellRead.remaining (g.D.Decoder.grammar s.decoder) s c.take.new.self c.take.ensures.whole c.in-More.field-0
+    none_yet (g.D.Decoder.grammar s.decoder) s c.take.new.self c.take.ensures.whole c.in-More.field-0
     c.in-More.ensures.takes
 
 pub returns-in-Wrong-clause-next : goal.returns-in-Wrong-clause-next
 returns-in-Wrong-clause-next g c =
     let s = c.args.self.now in
-    none_wrong g.R.TellRead.remaining (g.D.Decoder.grammar s.decoder) s c.take.new.self c.take.ensures.whole
+    none_wrong (g.D.Decoder.grammar s.decoder) s c.take.new.self c.take.ensures.whole
     (g.met.D.Decoder.lawful s.decoder) c.in-Wrong.field-0 c.in-Wrong.ensures.takes.0 c.in-Wrong.ensures.takes.1

@@ -1,9 +1,9 @@
-use Rattle.std.proofs.Common.{◌+◌, Ok, true, false, length, ap, subst, sym, arith}
+use Rattle.std.proofs.Common.{◌≡◌, Ok, Err, true, false, subst, ◌∙◌, arith}
 use Rattle.std.proofs.lemmas.Result.{err_from_is_err_and}
-use Rattle.line_reader.specs.Lining.{IsLining}
-use Rattle.line_reader.specs.SkipLine.{DropsThrough}
+use Rattle.line_reader.specs.Lining.{lining}
 use Rattle.line_reader.specs.Steps.{AsksOnce, DropsLine}
-use Rattle.line_reader.proofs.Skipping.{SkipHead-none, skip_all, skip_found, none_left, skip_too_long, skip_more, skip_fails, ended_whole, skip_ends}
+use Rattle.line_reader.proofs.Pieces.{AsksOnce-of}
+use Rattle.line_reader.proofs.Skipping.{SkipHead-none, skip_all, skip_ends, skip_fails, skip_found, skip_more, skip_too_long}
 use Rattle.line_reader.proofs.reader.LineReader.drop_through.Goals as goal
 
 pub turns-init : goal.turns-init
@@ -26,63 +26,50 @@ returns-then-dropped-gt-MOST_SKIPPED g c =
     skip_too_long g.R.TellRead.remaining c.args.self.now m c.turns.dropped c.turns.invariant.head _ t drops
     c.from.result c.from.ensures c.turns.invariant.few c.if-dropped-gt-MOST_SKIPPED.true
 
-pub read_more-requires-clause-fits : goal.read_more-requires-clause-fits
-read_more-requires-clause-fits g c =
-    let m = c.turns.self in
-    let t = c.drop_line-count.new.self in
-    let drops : DropsLine m c.drop_line-count.result.0 false t =
-    subst (λ b. DropsLine m c.drop_line-count.result.0 b t) c.if-found.false c.drop_line-count.ensures in
-    let none = none_left g.R.TellRead.remaining c.args.self.now m c.turns.dropped c.turns.invariant.head _ t drops in
-    omega (arith, ap length c.drop_handed.ensures.rest, ap length none)
-
-pub returns-in_err-read_more : goal.returns-in_err-read_more
-returns-in_err-read_more g c =
+pub returns-in_err-refill : goal.returns-in_err-refill
+returns-in_err-refill g c =
     let remaining = g.R.TellRead.remaining in
     let s = c.args.self.now in
-    let v = c.drop_handed.new.self in
-    let d = c.drop_handed.ensures in
-    let all = skip_all remaining s c.turns.self _ v _ _ _ c.turns.invariant.head c.if-found.false c.drop_line-count.ensures
-    d.went d.rest d.told d.ended d.skipping in
+    let f = c.self.inside.pieces in
+    let skipping = c.self.inside.skipping in
+    let t = c.refill.new.self in
+    let all = skip_all remaining s c.turns.self _ (lining f skipping) _ _ _ c.turns.invariant.head c.if-found.false
+    c.drop_line-count.ensures c.self.view_is in
+    let open' : skipping ≡ false = all.0.head.skipping ∙ c.requires.open in
+    let asked = AsksOnce-of remaining f t skipping c.self.invariant open' (Err c.in_err-refill.field-0.0)
+    c.in_err-refill.ensures in
     let p = err_from_is_err_and c.from_residual.result c.from_residual.ensures.1 in
-    rw (p.1, p.2) (skip_fails remaining s v _ all.0 all.1 _ c.read_more.new.self c.in_err-read_more.ensures)
-
-pub invariant_of-self : goal.invariant_of-self
-invariant_of-self g c =
-    let remaining = g.R.TellRead.remaining in
-    let s = c.args.self.now in
-    let v = c.drop_handed.new.self in
-    let d = c.drop_handed.ensures in
-    let all = skip_all remaining s c.turns.self _ v _ _ _ c.turns.invariant.head c.if-found.false c.drop_line-count.ensures
-    d.went d.rest d.told d.ended d.skipping in
-    let asked : AsksOnce remaining v (Ok false) c.read_more.new.self =
-    subst (λ b. AsksOnce remaining v (Ok b) c.read_more.new.self) c.if-not-branch.true c.in_ok-read_more.ensures in
-    subst (λ x. IsLining (record x { ended = true })) (sym c.self.view_is)
-    (ended_whole remaining s v _ all.0 all.1 c.requires.open c.read_more.new.self asked)
+    rw (p.1, p.2) (skip_fails remaining s (lining f skipping) _ all.0 all.1 _ (lining t skipping) asked)
 
 pub returns-then-not-branch : goal.returns-then-not-branch
 returns-then-not-branch g c =
     let remaining = g.R.TellRead.remaining in
     let s = c.args.self.now in
-    let v = c.drop_handed.new.self in
-    let d = c.drop_handed.ensures in
-    let all = skip_all remaining s c.turns.self _ v _ _ _ c.turns.invariant.head c.if-found.false c.drop_line-count.ensures
-    d.went d.rest d.told d.ended d.skipping in
-    let asked : AsksOnce remaining v (Ok false) c.read_more.new.self =
-    subst (λ b. AsksOnce remaining v (Ok b) c.read_more.new.self) c.if-not-branch.true c.in_ok-read_more.ensures in
-    subst (λ x. DropsThrough remaining s (Ok (c.turns.dropped + c.drop_line-count.result.0)) (record x { ended = true }))
-    (sym c.self.view_is) (skip_ends remaining s v _ all.0 all.1 c.requires.open c.read_more.new.self asked)
+    let f = c.self.inside.pieces in
+    let skipping = c.self.inside.skipping in
+    let t = c.refill.new.self in
+    let all = skip_all remaining s c.turns.self _ (lining f skipping) _ _ _ c.turns.invariant.head c.if-found.false
+    c.drop_line-count.ensures c.self.view_is in
+    let open' : skipping ≡ false = all.0.head.skipping ∙ c.requires.open in
+    let asked = AsksOnce-of remaining f t skipping c.self.invariant open' (Ok c.in_ok-refill.field-0)
+    c.in_ok-refill.ensures in
+    skip_ends remaining s (lining f skipping) _ all.0 all.1 (lining t skipping)
+    (subst (λ b. AsksOnce remaining (lining f skipping) (Ok b) (lining t skipping)) c.if-not-branch.true asked)
 
 pub turns-preserved : goal.turns-preserved
 turns-preserved g c =
     let remaining = g.R.TellRead.remaining in
     let s = c.args.self.now in
-    let v = c.drop_handed.new.self in
-    let d = c.drop_handed.ensures in
-    let all = skip_all remaining s c.turns.self _ v _ _ _ c.turns.invariant.head c.if-found.false c.drop_line-count.ensures
-    d.went d.rest d.told d.ended d.skipping in
-    let asked : AsksOnce remaining v (Ok true) c.read_more.new.self =
-    subst (λ b. AsksOnce remaining v (Ok b) c.read_more.new.self) c.if-not-branch.false c.in_ok-read_more.ensures in
+    let f = c.self.inside.pieces in
+    let skipping = c.self.inside.skipping in
+    let t = c.refill.new.self in
+    let all = skip_all remaining s c.turns.self _ (lining f skipping) _ _ _ c.turns.invariant.head c.if-found.false
+    c.drop_line-count.ensures c.self.view_is in
+    let open' : skipping ≡ false = all.0.head.skipping ∙ c.requires.open in
+    let asked = AsksOnce-of remaining f t skipping c.self.invariant open' (Ok c.in_ok-refill.field-0)
+    c.in_ok-refill.ensures in
     record {
-      head = skip_more remaining s v _ all.0 all.1 c.read_more.new.self asked;
+      head = skip_more remaining s (lining f skipping) _ all.0 all.1 (lining t skipping)
+          (subst (λ b. AsksOnce remaining (lining f skipping) (Ok b) (lining t skipping)) c.if-not-branch.false asked);
       few = omega (arith, c.if-dropped-gt-MOST_SKIPPED.false);
     }

@@ -1,51 +1,51 @@
-use Rattle.std.proofs.Common.{◌≡◌, ◌<◌, Ok, false, true, subst, arith}
-use Rattle.std.proofs.lemmas.Result.{err_from_is_err_and}
-use Rattle.line_reader.specs.Steps.{AsksOnce}
-use Rattle.line_reader.proofs.Loading.{loads_more, load_fails, load_finished, takes_loaded, searched_on}
+use Rattle.std.proofs.Common.{◌≡◌, Err, ap, arith, false, length, subst, sym, ◌∙◌}
+use Rattle.codec.specs.declared.error.NextError.TheVariants as why
+use Rattle.codec.specs.Delimited.{delimited}
+use Rattle.codec.specs.NextPiece.{NextPiece}
+use Rattle.line_reader.specs.declared.error.LineError.TheVariants.{TooLong}
+use Rattle.line_reader.specs.Lines.{BeginsWhole}
+use Rattle.line_reader.specs.Lining.{lining, rest}
+use Rattle.line_reader.specs.NextLine.{NextLine, load_answer}
+use Rattle.line_reader.proofs.Pieces.{NextLine-found, NextLine-long, NextLine-of}
+use Rattle.line_reader.proofs.reader.LineReader.load_line.Goals.{in-Ok, in-Err-Wrong, in-Err-Io}
 use Rattle.line_reader.proofs.reader.LineReader.load_line.Goals as goal
 
-pub returns-in_err-read_more-clause-next : goal.returns-in_err-read_more-clause-next
-returns-in_err-read_more-clause-next g c =
+pub returns-then-have-max-clause-next : goal.returns-then-have-max-clause-next
+returns-then-have-max-clause-next g c =
     let remaining = g.R.TellRead.remaining in
     let s = c.args.self.now in
-    let m = c.turns.self in
-    let t = c.read_more.new.self in
-    let few : ¬ (m.max < m.seen) = λ long. (let odd : false ≡ true = c.if-is_too_long.ensures.long.1 long in cc) in
-    let p = err_from_is_err_and c.from_residual.result c.from_residual.ensures.1 in
-    rw (p.1, p.2) (load_fails remaining s m c.turns.invariant c.requires.open (omega (arith, few)) _ t c.in_err-read_more.ensures)
+    let f = c.self.inside.pieces in
+    let skipping = c.self.inside.skipping in
+    let max = ap (λ d. d.max) c.decoder.ensures in
+    subst (λ n. NextLine remaining s (Err (TooLong n)) s) (sym max)
+    (subst (λ x. NextLine remaining x (Err (TooLong f.decoder.max)) x) c.self.view_is
+    (NextLine-long remaining f f skipping c.self.invariant (ap (λ x. x.skipping) c.self.view_is ∙ c.requires.open)
+    (omega (arith, c.if-have-max.true, ap length c.rest-have.ensures.value, max))
+    (subst (λ x. ¬ (BeginsWhole x.max (rest x))) (sym c.self.view_is) c.requires.none)))
 
-pub returns-then-not-branch-clause-next : goal.returns-then-not-branch-clause-next
-returns-then-not-branch-clause-next g c =
+pub returns-clause-next : goal.returns-clause-next
+returns-clause-next g c =
     let remaining = g.R.TellRead.remaining in
-    let m = c.turns.self in
-    let t = c.read_more.new.self in
-    let few : ¬ (m.max < m.seen) = λ long. (let odd : false ≡ true = c.if-is_too_long.ensures.long.1 long in cc) in
-    let asked : AsksOnce remaining m (Ok false) t =
-    subst (λ b. AsksOnce remaining m (Ok b) t) c.if-not-branch.true c.in_ok-read_more.ensures in
-    let last = c.take_last.ensures in
-    load_finished remaining c.args.self.now m c.turns.invariant c.requires.open (omega (arith, few)) t asked c.take_last.result
-    c.take_last.new.self last.none last.last last.whole
-
-pub returns-in-Some-clause-next : goal.returns-in-Some-clause-next
-returns-in-Some-clause-next g c =
-    let remaining = g.R.TellRead.remaining in
-    let m = c.turns.self in
-    let t = c.read_more.new.self in
-    let few : ¬ (m.max < m.seen) = λ long. (let odd : false ≡ true = c.if-is_too_long.ensures.long.1 long in cc) in
-    let asked : AsksOnce remaining m (Ok true) t =
-    subst (λ b. AsksOnce remaining m (Ok b) t) c.if-not-branch.false c.in_ok-read_more.ensures in
-    takes_loaded remaining c.args.self.now t c.take_buffered.new.self c.in-Some.len
-    (loads_more remaining c.args.self.now m c.turns.invariant c.requires.open (omega (arith, few)) t asked)
-    c.requires.open asked.handed c.in-Some.ensures.found
-
-pub turns-preserved : goal.turns-preserved
-turns-preserved g c =
-    let remaining = g.R.TellRead.remaining in
-    let m = c.turns.self in
-    let t = c.read_more.new.self in
-    let few : ¬ (m.max < m.seen) = λ long. (let odd : false ≡ true = c.if-is_too_long.ensures.long.1 long in cc) in
-    let asked : AsksOnce remaining m (Ok true) t =
-    subst (λ b. AsksOnce remaining m (Ok b) t) c.if-not-branch.false c.in_ok-read_more.ensures in
-    searched_on remaining c.args.self.now t c.take_buffered.new.self
-    (loads_more remaining c.args.self.now m c.turns.invariant c.requires.open (omega (arith, few)) t asked)
-    asked.handed c.in_default.ensures.none
+    let f = c.self.inside.pieces in
+    let skipping = c.self.inside.skipping in
+    let t = c.step_on.new.self in
+    let open' : skipping ≡ false = ap (λ x. x.skipping) c.self.view_is ∙ c.requires.open in
+    let finish : (r : _) → c.match-step_on.result ≡ r
+    → NextLine remaining (lining f skipping) (load_answer r (lining t skipping)) (lining t skipping)
+    → NextLine remaining c.args.self.now (load_answer c.match-step_on.result (lining t skipping)) (lining t skipping) =
+    λ r is next. subst (λ x. NextLine remaining x (load_answer c.match-step_on.result (lining t skipping)) (lining t skipping))
+    c.self.view_is
+    (subst (λ r. NextLine remaining (lining f skipping) (load_answer r (lining t skipping)) (lining t skipping)) (sym is) next) in
+    let own = delimited f.decoder.end f.decoder.max in
+    elim c.match-step_on.branch [
+      | in-Ok w ↦ finish _ w.result-is
+          (NextLine-found remaining f t skipping c.self.invariant open' w.in-Ok.found w.in-Ok.ensures.next)
+      | in-Err-Wrong w ↦
+          let e = why.Wrong w.in-Err-Wrong.field-0-0 in
+          finish _ w.result-is (NextLine-of remaining f t skipping c.self.invariant open' (Err e)
+          (subst (λ e. NextPiece remaining own f (Err e) t) w.in-Err-Wrong.field-0-is w.in-Err-Wrong.ensures.next))
+      | in-Err-Io w ↦
+          let e = why.Io w.in-Err-Io.e in
+          finish _ w.result-is (NextLine-of remaining f t skipping c.self.invariant open' (Err e)
+          (subst (λ e. NextPiece remaining own f (Err e) t) w.in-Err-Io.field-0-is w.in-Err-Io.ensures.next))
+    ]

@@ -1,0 +1,108 @@
+-- What one ask of the stream does where nothing is left.
+use Rattle.std.proofs.Common.{◌≡◌, ℕ, ◌<◌, List, [], ◌∷◌, ◌++◌, length, Bool, true, false, Option, Ok, Err, refl, sym, ap, subst, ◌∙◌, arith, inl, inr}
+use Rattle.std.proofs.lemmas.List.{nil_from_length}
+use Rattle.std.specs.declared.io.Error.{Error}
+use Rattle.codec.specs.Grammar.{Grammar}
+use Rattle.codec.specs.NextPiece.{AskedWhere, Faulted, PiecesWent, Refills}
+use Rattle.codec.specs.PiecesWentLaws.{PiecesWent-inside, PiecesWent-joins}
+use Rattle.codec.specs.Piecing.{Piecing, rest}
+use Rattle.codec.specs.Steps.{AsksFor}
+use Rattle.codec.proofs.Heads.{AskedWhere-told, Head, Head-none, Head-told, MetEnd-on, open_ended}
+
+-- what was handed out was dropped, and nothing is left
+module _ {S D W : Type 0} (remaining : S → Option (List ℕ)) (g : Grammar W) (s m : Piecing S D)
+    (went : PiecesWent remaining g.most s [] m) (left : rest m ≡ rest s) (ended : m.ended ≡ s.ended)
+    (told : m.reader.log ≡ s.reader.log) (none : rest s ≡ []) where
+  head : Head remaining g s m
+  head = Head-told remaining g s s (Head-none remaining g s) m went told ended
+
+  asked_over : (t : Piecing S D) → AskedWhere (λ bytes. length bytes < 1) m t → AskedWhere (λ bytes. bytes ≡ []) s t
+  asked_over t (inl same) = inl (same ∙ told)
+  asked_over t (inr over) = inr (record {
+    not_ended = sym ended ∙ over.not_ended;
+    came = over.came;
+    last = over.last;
+    given = over.given ∙ ap (λ l. l.reads.given ++ (over.came ++ over.last)) told;
+    such = nil_from_length (rest s ++ over.came) (omega (arith, over.such, ap (λ l. length (l ++ over.came)) left));
+    asks = omega (arith, over.asks, ap (λ l. l.reads.asks) told);
+  })
+
+  module _ (t : Piecing S D) where
+    pub refilled : (came flag : Bool) → came ≡ true → flag ≡ false → AsksFor remaining g 1 m (Ok came) t
+        → Refills remaining g s (Ok came) (record t { ended = flag })
+    refilled came flag is open' a =
+        let w : Piecing S D = record t { ended = flag } in
+        let more = a.more (ap (λ b. Ok b) is) in
+        let going : t.ended ≡ false = open_ended g t a.whole (omega (arith, more.0)) in record {
+          went = PiecesWent-joins remaining g.most s t w [] []
+              (PiecesWent-joins remaining g.most s m t [] [] went a.went)
+              (PiecesWent-inside remaining g.most t w [] refl refl refl);
+          asked = AskedWhere-told (λ bytes. bytes ≡ []) s t w refl (asked_over t a.asked);
+          more = λ _. (
+            omega (arith, more.0),
+            sym ended ∙ sym a.ended ∙ going,
+            open',
+            more.1 ∙ ap (λ l. l.reads.zero_reads) told,
+            more.2 ∙ ap (λ l. l.reads.faults) told,
+          );
+          end = λ odd. (let no : true ≡ false = sym is ∙ cc in cc);
+          failed = λ e odd. cc;
+          whole = record {
+            block = a.whole.block;
+            plain = a.whole.plain;
+            capacity = a.whole.capacity;
+            limit = a.whole.limit;
+            ahead = a.whole.ahead;
+            handed = a.whole.handed;
+            searched = a.whole.searched;
+            ended = λ odd. (let no : true ≡ false = sym odd ∙ open' in cc);
+          };
+        }
+
+    pub ends : (came flag : Bool) → came ≡ false → flag ≡ true → AsksFor remaining g 1 m (Ok came) t
+        → Refills remaining g s (Ok came) (record t { ended = flag })
+    ends came flag is closed a =
+        let w : Piecing S D = record t { ended = flag } in
+        let end = a.end (ap (λ b. Ok b) is) in
+        let empty : rest t ≡ [] = nil_from_length (rest t) (omega (arith, end.0)) in record {
+          went = PiecesWent-joins remaining g.most s t w [] []
+              (PiecesWent-joins remaining g.most s m t [] [] went a.went)
+              (PiecesWent-inside remaining g.most t w [] refl refl refl);
+          asked = AskedWhere-told (λ bytes. bytes ≡ []) s t w refl (asked_over t a.asked);
+          more = λ odd. (let no : true ≡ false = cc in cc);
+          end = λ _. (
+            empty,
+            closed,
+            MetEnd-on remaining g s m head t end.1,
+            end.2 ∙ ap (λ l. l.reads.faults) told,
+          );
+          failed = λ e odd. cc;
+          whole = record {
+            block = a.whole.block;
+            plain = a.whole.plain;
+            capacity = a.whole.capacity;
+            limit = a.whole.limit;
+            ahead = a.whole.ahead;
+            handed = a.whole.handed;
+            searched = a.whole.searched;
+            ended = λ _. empty;
+          };
+        }
+
+    pub fails : (e : Error) → AsksFor remaining g 1 m (Err e) t → Refills remaining g s (Err e) t
+    fails e a =
+        let f = a.failed e refl in record {
+          went = PiecesWent-joins remaining g.most s m t [] [] went a.went;
+          asked = asked_over t a.asked;
+          more = λ odd. cc;
+          end = λ odd. cc;
+          failed = λ e' is. (
+            nil_from_length (rest t) (omega (arith, f.0)),
+            sym ended ∙ f.1,
+            a.ended ∙ f.1,
+            f.2 ∙ ap (λ l. l.reads.zero_reads) told,
+            (let same : e ≡ e' = cc in
+                subst (λ x. Faulted s x t) same (f.3 ∙ ap (λ l. l.reads.faults ++ e ∷ []) told)),
+          );
+          whole = a.whole;
+        }

@@ -1,0 +1,103 @@
+use Rattle.std.proofs.Common.{Ok, Err, false, true, subst, ◌∙◌}
+use Rattle.std.proofs.lemmas.Result.{err_from_is_err_and}
+use Rattle.codec.specs.declared.decoder.Found.TheVariants as found
+use Rattle.codec.specs.Piecing.{IsPiecing}
+use Rattle.codec.specs.Steps.{AsksFor, Takes, TakesEnd}
+use Rattle.codec.proofs.Loading.{load_fails, load_finished, loaded, loads_on, takes_loaded, wrong_next}
+use Rattle.codec.proofs.reader.PieceReader.step_on.Goals as goal
+
+pub returns-in_err-read_to-clause-next : goal.returns-in_err-read_to-clause-next
+returns-in_err-read_to-clause-next g c =
+    let remaining = g.R.TellRead.remaining in
+    let grammar = g.D.Decoder.grammar in
+    let s = c.args.self.now in
+    let m = c.turns.self in
+    let t = c.read_to.new.self in
+    let inv = c.turns.invariant in
+    let asked = subst (λ d. AsksFor remaining (grammar d) c.turns.need m (Err c.in_err-read_to.field-0.0) t) inv.head.went.decoder
+    c.in_err-read_to.ensures in
+    let p = err_from_is_err_and c.from_residual.result c.from_residual.ensures.1 in
+    rw (p.1, p.2) (load_fails remaining (grammar s.decoder)
+    (g.met.D.Decoder.lawful s.decoder) s m c.turns.need inv c.in_err-read_to.field-0.0 t asked)
+
+pub returns-then-not-branch-clause-next : goal.returns-then-not-branch-clause-next
+returns-then-not-branch-clause-next g c =
+    let remaining = g.R.TellRead.remaining in
+    let grammar = g.D.Decoder.grammar in
+    let s = c.args.self.now in
+    let m = c.turns.self in
+    let t = c.read_to.new.self in
+    let v = c.take_end.new.self in
+    let inv = c.turns.invariant in
+    let asked : AsksFor remaining (grammar s.decoder) c.turns.need m (Ok false) t =
+    subst (λ d. AsksFor remaining (grammar d) c.turns.need m (Ok false) t) inv.head.went.decoder
+    (subst (λ b. AsksFor remaining (grammar m.decoder) c.turns.need m (Ok b) t) c.if-not-branch.true
+    c.in_ok-read_to.ensures) in
+    let decoder = asked.went.decoder ∙ inv.head.went.decoder in
+    load_finished remaining (grammar s.decoder) (g.met.D.Decoder.lawful s.decoder) s m c.turns.need inv t asked
+    c.take_end.result v
+    (subst (λ d. TakesEnd (grammar d) t c.take_end.result v) decoder c.take_end.ensures.takes)
+    (subst (λ d. IsPiecing (grammar d) v) decoder c.take_end.ensures.whole)
+
+pub returns-in-Piece-clause-next : goal.returns-in-Piece-clause-next
+returns-in-Piece-clause-next g c =
+    let remaining = g.R.TellRead.remaining in
+    let grammar = g.D.Decoder.grammar in
+    let s = c.args.self.now in
+    let m = c.turns.self in
+    let t = c.read_to.new.self in
+    let v = c.take.new.self in
+    let inv = c.turns.invariant in
+    let asked : AsksFor remaining (grammar s.decoder) c.turns.need m (Ok true) t =
+    subst (λ d. AsksFor remaining (grammar d) c.turns.need m (Ok true) t) inv.head.went.decoder
+    (subst (λ b. AsksFor remaining (grammar m.decoder) c.turns.need m (Ok b) t) c.if-not-branch.false
+    c.in_ok-read_to.ensures) in
+    let decoder = asked.went.decoder ∙ inv.head.went.decoder in
+    let law = g.met.D.Decoder.lawful s.decoder in
+    takes_loaded remaining (grammar s.decoder) law s t v
+    (loaded remaining (grammar s.decoder) law s m c.turns.need inv t asked) asked.whole
+    (subst (λ d. IsPiecing (grammar d) v) decoder c.take.ensures.whole) asked.handed c.in-Piece.span c.in-Piece.field-1
+    (subst (λ r. Takes (grammar s.decoder) t r v) c.in-Piece.is
+    (subst (λ d. Takes (grammar d) t c.take.result v) decoder c.take.ensures.takes))
+
+pub returns-in-Wrong-clause-next : goal.returns-in-Wrong-clause-next
+returns-in-Wrong-clause-next g c =
+    let remaining = g.R.TellRead.remaining in
+    let grammar = g.D.Decoder.grammar in
+    let s = c.args.self.now in
+    let m = c.turns.self in
+    let t = c.read_to.new.self in
+    let v = c.take.new.self in
+    let inv = c.turns.invariant in
+    let asked : AsksFor remaining (grammar s.decoder) c.turns.need m (Ok true) t =
+    subst (λ d. AsksFor remaining (grammar d) c.turns.need m (Ok true) t) inv.head.went.decoder
+    (subst (λ b. AsksFor remaining (grammar m.decoder) c.turns.need m (Ok b) t) c.if-not-branch.false
+    c.in_ok-read_to.ensures) in
+    let decoder = asked.went.decoder ∙ inv.head.went.decoder in
+    let law = g.met.D.Decoder.lawful s.decoder in
+    let refused : Takes (grammar s.decoder) t (found.Wrong c.in-Wrong.e) v =
+    subst (λ r. Takes (grammar s.decoder) t r v) c.in-Wrong.is
+    (subst (λ d. Takes (grammar d) t c.take.result v) decoder c.take.ensures.takes) in
+    wrong_next remaining (grammar s.decoder) law s t v
+    (loaded remaining (grammar s.decoder) law s m c.turns.need inv t asked) asked.whole c.in-Wrong.e refused.0 refused.1
+
+pub turns-preserved : goal.turns-preserved
+turns-preserved g c =
+    let remaining = g.R.TellRead.remaining in
+    let grammar = g.D.Decoder.grammar in
+    let s = c.args.self.now in
+    let m = c.turns.self in
+    let t = c.read_to.new.self in
+    let v = c.take.new.self in
+    let inv = c.turns.invariant in
+    let asked : AsksFor remaining (grammar s.decoder) c.turns.need m (Ok true) t =
+    subst (λ d. AsksFor remaining (grammar d) c.turns.need m (Ok true) t) inv.head.went.decoder
+    (subst (λ b. AsksFor remaining (grammar m.decoder) c.turns.need m (Ok b) t) c.if-not-branch.false
+    c.in_ok-read_to.ensures) in
+    let decoder = asked.went.decoder ∙ inv.head.went.decoder in
+    let law = g.met.D.Decoder.lawful s.decoder in
+    loads_on remaining (grammar s.decoder) law s t v c.in-More.more
+    (loaded remaining (grammar s.decoder) law s m c.turns.need inv t asked) asked.handed
+    (subst (λ r. Takes (grammar s.decoder) t r v) c.in-More.is
+    (subst (λ d. Takes (grammar d) t c.take.result v) decoder c.take.ensures.takes))
+    (subst (λ d. IsPiecing (grammar d) v) decoder c.take.ensures.whole)
