@@ -5,7 +5,6 @@ use Rattle.std.proofs.lemmas.Bool.{cases_lt}
 use Rattle.std.specs.Prelude.{MatchBool}
 use Rattle.std.proofs.lemmas.List.{take-append-le}
 use Rattle.codec.specs.declared.decoder.Span.{Span}
-use Rattle.codec.specs.declared.delimited.Delimited.{Delimited}
 use Rattle.codec.specs.declared.delimited.TooLong.{TooLong}
 use Rattle.codec.specs.declared.error.NextError.TheVariants as why
 use Rattle.codec.specs.Delimited.{delimited}
@@ -17,6 +16,7 @@ use Rattle.codec.specs.PiecesWentLaws.{PiecesWent-unasked, drop_none}
 use Rattle.codec.specs.Plain.{EndsAt}
 use Rattle.codec.specs.Piecing as piecing
 use Rattle.codec.specs.Piecing.{IsPiecing, IsSettled, Piecing, Skips}
+use Rattle.line_reader.specs.declared.line.Lines.{Lines}
 use Rattle.line_reader.specs.declared.error.LineError.TheVariants.{TooLong as TooLongLine, Io}
 use Rattle.line_reader.specs.Lines.{BeginsTooLong, BeginsWhole, IsLine, IsUnended, newline}
 use Rattle.line_reader.specs.LinesLaws.{line_or_end, take_plain}
@@ -26,7 +26,7 @@ use Rattle.line_reader.specs.NextLine.{AskedWhere, LinesWent, NextAnswer, NextAn
 use Rattle.line_reader.specs.Steps.{AsksOnce, DropsLine}
 
 -- the grammar of lines
-abbrev lines : ℕ → Grammar TooLong
+abbrev pub lines : ℕ → Grammar TooLong
 lines max = delimited newline max
 
 pub unended : (max : ℕ) (bytes : List ℕ) → IsOpen (lines max) bytes → IsUnended max bytes
@@ -72,7 +72,7 @@ module _ (max : ℕ) (bytes : List ℕ) (none : ¬ (BeginsWhole max bytes)) wher
     ];
   }
 
-module _ {S : Type 0} (f : Piecing S Delimited) (skipping : Bool) (is : ReadsLines f skipping) where
+module _ {S : Type 0} (f : Piecing S Lines) (skipping : Bool) (is : ReadsLines f skipping) where
   pub whole_of : IsLining (lining f skipping)
   whole_of = record {
     block = is.whole.block;
@@ -120,10 +120,8 @@ module _ {S : Type 0} (f : Piecing S Delimited) (skipping : Bool) (is : ReadsLin
   ]
 
   -- by what `is_settled` answers
-  pub HasLine-of : {A : Type 0} → (A ↔ IsSettled (delimited f.decoder.end f.decoder.max) f) → A ↔ HasLine (lining f skipping)
-  HasLine-of {A} answer =
-      let settled = subst (λ n. A ↔ IsSettled (delimited n f.decoder.max) f) is.feed answer in
-      (λ a. settled_line (settled.0 a), λ has. settled.1 (line_settled has))
+  pub HasLine-of : {A : Type 0} → (A ↔ IsSettled (lines f.decoder.max) f) → A ↔ HasLine (lining f skipping)
+  HasLine-of settled = (λ a. settled_line (settled.0 a), λ has. settled.1 (line_settled has))
 
 -- what a call answers
 abbrev pub line_answer : pieces.NextAnswer TooLong → NextAnswer
@@ -131,7 +129,7 @@ line_answer (Ok found) = Ok found
 line_answer (Err (why.Wrong e)) = Err (TooLongLine e.0)
 line_answer (Err (why.Io e)) = Err (Io e)
 
-module _ {S : Type 0} (remaining : S → Option (List ℕ)) (s t : Piecing S Delimited) (skipping : Bool) where
+module _ {S : Type 0} (remaining : S → Option (List ℕ)) (s t : Piecing S Lines) (skipping : Bool) where
   pub went_of : (bytes : List ℕ) → pieces.PiecesWent remaining (1 + s.decoder.max) s bytes t
       → LinesWent remaining (lining s skipping) bytes (lining t skipping)
   went_of bytes went = record {
@@ -182,14 +180,9 @@ module _ {S : Type 0} (remaining : S → Option (List ℕ)) (s t : Piecing S Del
       (none, unended s.decoder.max (piecing.rest t) open', fault, ended, no_end)
 
   module _ (is : ReadsLines s skipping) where
-    -- what is true of pieces that the reader's byte ends is true of lines
-    own : (P : Grammar TooLong → Type 0) → P (delimited s.decoder.end s.decoder.max) → P (lines s.decoder.max)
-    own P = subst (λ n. P (delimited n s.decoder.max)) is.feed
-
     reads_same : t.decoder ≡ s.decoder → IsPiecing (lines s.decoder.max) t
         → (skipping ≡ true → piecing.rest t ≡ []) → (skipping ≡ true → t.ended ≡ false) → ReadsLines t skipping
     reads_same same whole skipped goes_on = record {
-      feed = ap (λ d. d.end) same ∙ is.feed;
       whole = subst (λ n. IsPiecing (lines n) t) (ap (λ d. d.max) (sym same)) whole;
       skipped = skipped;
       goes_on = goes_on;
@@ -197,10 +190,7 @@ module _ {S : Type 0} (remaining : S → Option (List ℕ)) (s t : Piecing S Del
 
     -- where no line is being skipped
     module _ (open' : skipping ≡ false) (answer : pieces.NextAnswer TooLong)
-        (call : pieces.NextPiece remaining (delimited s.decoder.end s.decoder.max) s answer t) where
-      next : pieces.NextPiece remaining (lines s.decoder.max) s answer t
-      next = own (λ g. pieces.NextPiece remaining g s answer t) call
-
+        (next : pieces.NextPiece remaining (lines s.decoder.max) s answer t) where
       pub reads_then : ReadsLines t skipping
       reads_then = reads_same next.went.decoder next.whole
           (λ odd. (let no : true ≡ false = sym odd ∙ open' in cc)) (λ odd. (let no : true ≡ false = sym odd ∙ open' in cc))
@@ -218,10 +208,9 @@ module _ {S : Type 0} (remaining : S → Option (List ℕ)) (s t : Piecing S Del
 
     -- where a line is handed out of what is buffered none is being skipped
     open_found : (payload : List ℕ)
-        → pieces.NextPiece remaining (delimited s.decoder.end s.decoder.max) s (Ok (Some payload)) t
+        → pieces.NextPiece remaining (lines s.decoder.max) s (Ok (Some payload)) t
         → t.reader ≡ s.reader → skipping ≡ false
-    open_found payload call same =
-        let next = own (λ g. pieces.NextPiece remaining g s (Ok (Some payload)) t) call in
+    open_found payload next same =
         let all = PiecesWent-unasked remaining (1 + s.decoder.max) s t next.bytes next.went (ap (λ r. r.log) same) in
         let some : 0 < length next.bytes = elim next.answers.1 [
           | inl (is', open', none) ↦ omega (arith, ap length is'.equal, length-append payload (newline ∷ []))
@@ -231,7 +220,7 @@ module _ {S : Type 0} (remaining : S → Option (List ℕ)) (s t : Piecing S Del
 
     -- and it isn't the last one
     going_found : (payload : List ℕ)
-        → pieces.NextPiece remaining (delimited s.decoder.end s.decoder.max) s (Ok (Some payload)) t
+        → pieces.NextPiece remaining (lines s.decoder.max) s (Ok (Some payload)) t
         → t.reader ≡ s.reader → t.ended ≡ false
     going_found payload next same = elim next.answers.1 [
       | inl (is', going, none) ↦ going
@@ -246,7 +235,7 @@ module _ {S : Type 0} (remaining : S → Option (List ℕ)) (s t : Piecing S Del
 
     -- by what `step_buffered` answers
     pub NextBuffered-of : (found : Option Span)
-        → pieces.NextBuffered remaining (delimited s.decoder.end s.decoder.max) s (pieces.buffered_answer found t) t
+        → pieces.NextBuffered remaining (lines s.decoder.max) s (pieces.buffered_answer found t) t
         → NextBuffered remaining (lining s skipping) (buffered_answer found (lining t skipping)) (lining t skipping)
         × ReadsLines t skipping
     NextBuffered-of (Some span) (next, same) =
@@ -254,27 +243,25 @@ module _ {S : Type 0} (remaining : S → Option (List ℕ)) (s t : Piecing S Del
         ((NextLine-of open' _ next, same), reads_then open' _ next)
     NextBuffered-of None (stays, none) =
         let left : piecing.rest t ≡ piecing.rest s = ap piecing.rest stays.same in
-        let whole = own (λ g. IsPiecing g t) stays.whole in
-        let reads = reads_same (ap (λ x. x.decoder) stays.same) whole (λ skips. left ∙ is.skipped skips)
+        let reads = reads_same (ap (λ x. x.decoder) stays.same) stays.whole (λ skips. left ∙ is.skipped skips)
         (λ skips. ap (λ x. x.ended) stays.same ∙ is.goes_on skips) in
-        let no_line = own (λ g. ¬ (Begins g (piecing.rest s))) none in
-        ((ap (λ x. lining x skipping) stays.same, λ has. no_line (begins_piece s.decoder.max (piecing.rest s) has)), reads)
+        ((ap (λ x. lining x skipping) stays.same, λ has. none (begins_piece s.decoder.max (piecing.rest s) has)), reads)
 
     pub open_buffered : (found : Option Span)
-        → pieces.NextBuffered remaining (delimited s.decoder.end s.decoder.max) s (pieces.buffered_answer found t) t
+        → pieces.NextBuffered remaining (lines s.decoder.max) s (pieces.buffered_answer found t) t
         → IfSome found (λ _. skipping ≡ false)
     open_buffered (Some span) (next, same) = open_found _ next same
     open_buffered None stays = tt
 
     pub going_buffered : (found : Option Span)
-        → pieces.NextBuffered remaining (delimited s.decoder.end s.decoder.max) s (pieces.buffered_answer found t) t
+        → pieces.NextBuffered remaining (lines s.decoder.max) s (pieces.buffered_answer found t) t
         → IfSome found (λ _. t.ended ≡ false)
     going_buffered (Some span) (next, same) = going_found _ next same
     going_buffered None stays = tt
 
     -- by what `step_on` answers
     pub NextLine-found : skipping ≡ false → (found : Option Span)
-        → pieces.NextPiece remaining (delimited s.decoder.end s.decoder.max) s (pieces.load_answer (Ok found) t) t
+        → pieces.NextPiece remaining (lines s.decoder.max) s (pieces.load_answer (Ok found) t) t
         → NextLine remaining (lining s skipping) (load_answer (Ok found) (lining t skipping)) (lining t skipping)
     NextLine-found open' (Some span) next = NextLine-of open' _ next
     NextLine-found open' None next = NextLine-of open' _ next
@@ -300,10 +287,9 @@ module _ {S : Type 0} (remaining : S → Option (List ℕ)) (s t : Piecing S Del
 
     -- by what `refill` answers
     pub AsksOnce-of : skipping ≡ false → (answer : Result Bool Error)
-        → pieces.Refills remaining (delimited s.decoder.end s.decoder.max) s answer t
+        → pieces.Refills remaining (lines s.decoder.max) s answer t
         → AsksOnce remaining (lining s skipping) answer (lining t skipping)
-    AsksOnce-of open' answer call =
-        let r = own (λ g. pieces.Refills remaining g s answer t) call in
+    AsksOnce-of open' answer r =
         let reads = reads_same r.went.decoder r.whole (λ odd. (let no : true ≡ false = sym odd ∙ open' in cc))
         (λ odd. (let no : true ≡ false = sym odd ∙ open' in cc)) in record {
           went = went_of [] r.went;
@@ -323,14 +309,12 @@ module _ {S : Type 0} (remaining : S → Option (List ℕ)) (s t : Piecing S Del
         }
 
 -- the first bytes that are left are dropped
-module _ {S : Type 0} (f t : Piecing S Delimited) (skipping : Bool) (is : ReadsLines f skipping) (count : ℕ)
-    (skips : Skips (delimited f.decoder.end f.decoder.max) f count t) where
+module _ {S : Type 0} (f t : Piecing S Lines) (skipping : Bool) (is : ReadsLines f skipping) (count : ℕ)
+    (skips : Skips (lines f.decoder.max) f count t) where
   pub reads_behind : ReadsLines t skipping
   reads_behind =
       let same : t.decoder ≡ f.decoder = ap (λ x. x.decoder) skips.same in record {
-        feed = ap (λ d. d.end) same ∙ is.feed;
-        whole = subst (λ n. IsPiecing (lines n) t) (ap (λ d. d.max) (sym same))
-            (subst (λ n. IsPiecing (delimited n f.decoder.max) t) is.feed skips.whole);
+        whole = subst (λ n. IsPiecing (lines n) t) (ap (λ d. d.max) (sym same)) skips.whole;
         skipped = λ skip. skips.left ∙ drop_none count (piecing.rest f) (is.skipped skip);
         goes_on = λ skip. ap (λ x. x.ended) skips.same ∙ is.goes_on skip;
       }

@@ -8,7 +8,7 @@ use Rattle.buffer_redux.specs.declared.policy.MinBuffered.{MinBuffered}
 use Rattle.codec.specs.Delimited.{delimited}
 use Rattle.codec.specs.Piecing as pieces
 use Rattle.codec.specs.Piecing.{IsPiecing, Piecing}
-use Rattle.codec.specs.declared.delimited.Delimited.{Delimited}
+use Rattle.line_reader.specs.declared.line.Lines.{Lines}
 use Rattle.line_reader.specs.Lines.{BeginsTooLong, BeginsWhole, newline}
 
 -- the buffered reader; the greatest length of a line; how many of the first bytes that are buffered were handed out; whether
@@ -21,7 +21,7 @@ pub record Lining (S : Type 0) : Type 0 where
   pub skipping : Bool
 
 -- the reader of pieces that it is, and whether a line is being skipped: how many bytes were searched isn't told
-abbrev pub lining : {S : Type 0} → Piecing S Delimited → Bool → Lining S
+abbrev pub lining : {S : Type 0} → Piecing S Lines → Bool → Lining S
 lining f skipping = record {
   reader = f.reader;
   max = f.decoder.max;
@@ -31,8 +31,7 @@ lining f skipping = record {
 }
 
 -- what is true of the reader of pieces in a reader of lines
-pub record ReadsLines {S : Type 0} (f : Piecing S Delimited) (skipping : Bool) : Type 0 where
-  pub feed : f.decoder.end ≡ newline
+pub record ReadsLines {S : Type 0} (f : Piecing S Lines) (skipping : Bool) : Type 0 where
   pub whole : IsPiecing (delimited newline f.decoder.max) f
   pub skipped : skipping ≡ true → pieces.rest f ≡ []
   pub goes_on : skipping ≡ true → f.ended ≡ false

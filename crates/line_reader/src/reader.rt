@@ -13,10 +13,10 @@ ghost use Rattle.line_reader.specs.SkipLine.{NextGoes, NextTrimmed, SkipsLine};
 mod steps;
 
 use crate::error::LineError;
-use crate::line::trimmed;
+use crate::line::{Lines, trimmed};
 use buffer_redux::tell::{Tell, TellRead};
 use buffer_redux::{Buffer, DEFAULT_BUF_SIZE, GrowError, MAX_CAPACITY, MakeError};
-use codec::{Delimited, PieceReader};
+use codec::PieceReader;
 use std::alloc::Global;
 use std::io;
 use std::marker::Model;
@@ -35,7 +35,7 @@ use std::marker::Model;
 /// ```
 #[derive(Drop)]
 pub struct LineReader<R: Tell> {
-    pieces: PieceReader<R, Delimited>,
+    pieces: PieceReader<R, Lines>,
     // Whether a line is being skipped, of which the end hasn't come. Then nothing is left, so only `load` looks at this.
     skipping: bool,
 }
@@ -77,7 +77,7 @@ impl<R: Tell> LineReader<R> {
         if max >= MAX_CAPACITY {
             return Err(MakeError(inner, GrowError::TooLarge));
         }
-        match PieceReader::with_capacity(alloc, capacity, inner, Delimited { end: b'\n', max }) {
+        match PieceReader::with_capacity(alloc, capacity, inner, Lines { max }) {
             Ok(pieces) => Ok(LineReader {
                 pieces,
                 skipping: false,

@@ -1,12 +1,11 @@
 use Rattle.std.proofs.Common.{◌≡◌, Err, ap, arith, false, length, subst, sym, ◌∙◌}
 use Rattle.codec.specs.declared.error.NextError.TheVariants as why
-use Rattle.codec.specs.Delimited.{delimited}
 use Rattle.codec.specs.NextPiece.{NextPiece}
 use Rattle.line_reader.specs.declared.error.LineError.TheVariants.{TooLong}
 use Rattle.line_reader.specs.Lines.{BeginsWhole}
 use Rattle.line_reader.specs.Lining.{lining, rest}
 use Rattle.line_reader.specs.NextLine.{NextLine, load_answer}
-use Rattle.line_reader.proofs.Pieces.{NextLine-found, NextLine-long, NextLine-of}
+use Rattle.line_reader.proofs.Pieces.{NextLine-found, NextLine-long, NextLine-of, lines}
 use Rattle.line_reader.proofs.reader.LineReader.load_line.Goals.{in-Ok, in-Err-Wrong, in-Err-Io}
 use Rattle.line_reader.proofs.reader.LineReader.load_line.Goals as goal
 
@@ -36,7 +35,7 @@ returns-clause-next g c =
     λ r is next. subst (λ x. NextLine remaining x (load_answer c.match-step_on.result (lining t skipping)) (lining t skipping))
     c.self.view_is
     (subst (λ r. NextLine remaining (lining f skipping) (load_answer r (lining t skipping)) (lining t skipping)) (sym is) next) in
-    let own = delimited f.decoder.end f.decoder.max in
+    let own = lines f.decoder.max in
     elim c.match-step_on.branch [
       | in-Ok w ↦ finish _ w.result-is
           (NextLine-found remaining f t skipping c.self.invariant open' w.in-Ok.found w.in-Ok.ensures.next)
