@@ -154,7 +154,7 @@ module _ {S D W : Type 0} (remaining : S → Option (List ℕ)) (g : Grammar W) 
       asked = asked_on remaining g s m h.head need h.lacks (Ok false) t a
 
       still_ended : 0 < length (rest t) → s.ended ≡ true → t.ended ≡ true
-      still_ended some ended = a.ended ∙ h.head.ended ∙ ended
+      still_ended left ended = a.ended ∙ h.head.ended ∙ ended
 
       -- what `take_end` answers
       pub load_finished : (r : Result (Option Span) (NextError W)) (v : Piecing S D) → TakesEnd g t r v → IsPiecing g v

@@ -5,7 +5,7 @@ use Rattle.std.specs.declared.io.Error.{Error}
 use Rattle.codec.specs.Grammar.{Grammar}
 use Rattle.codec.specs.NextPiece.{AskedWhere, Faulted, PiecesWent, Refills}
 use Rattle.codec.specs.PiecesWentLaws.{PiecesWent-inside, PiecesWent-joins}
-use Rattle.codec.specs.Piecing.{Piecing, rest}
+use Rattle.codec.specs.Piecing.{IsPiecing, Piecing, rest}
 use Rattle.codec.specs.Steps.{AsksFor}
 use Rattle.codec.proofs.Heads.{AskedWhere-told, Head, Head-none, Head-told, MetEnd-on, open_ended}
 
@@ -27,17 +27,37 @@ module _ {S D W : Type 0} (remaining : S → Option (List ℕ)) (g : Grammar W) 
     asks = omega (arith, over.asks, ap (λ l. l.reads.asks) told);
   })
 
-  module _ (t : Piecing S D) where
-    pub refilled : (came flag : Bool) → came ≡ true → flag ≡ false → AsksFor remaining g 1 m (Ok came) t
-        → Refills remaining g s (Ok came) (record t { ended = flag })
-    refilled came flag is open' a =
-        let w : Piecing S D = record t { ended = flag } in
+  -- what changes where the end alone is noted behind the answer
+  module _ (t : Piecing S D) (came flag : Bool) where
+    abbrev pub noted : Piecing S D
+    noted = record t { ended = flag }
+
+    went_on : AsksFor remaining g 1 m (Ok came) t → PiecesWent remaining g.most s [] noted
+    went_on a = PiecesWent-joins remaining g.most s t noted [] []
+        (PiecesWent-joins remaining g.most s m t [] [] went a.went)
+        (PiecesWent-inside remaining g.most t noted [] refl refl refl)
+
+    asked_then : AsksFor remaining g 1 m (Ok came) t → AskedWhere (λ bytes. bytes ≡ []) s noted
+    asked_then a = AskedWhere-told (λ bytes. bytes ≡ []) s t noted refl (asked_over t a.asked)
+
+    still_whole : AsksFor remaining g 1 m (Ok came) t → (flag ≡ true → rest t ≡ []) → IsPiecing g noted
+    still_whole a none_left = record {
+      block = a.whole.block;
+      plain = a.whole.plain;
+      capacity = a.whole.capacity;
+      limit = a.whole.limit;
+      ahead = a.whole.ahead;
+      handed = a.whole.handed;
+      searched = a.whole.searched;
+      ended = none_left;
+    }
+
+    pub refilled : came ≡ true → flag ≡ false → AsksFor remaining g 1 m (Ok came) t → Refills remaining g s (Ok came) noted
+    refilled is open' a =
         let more = a.more (ap (λ b. Ok b) is) in
         let going : t.ended ≡ false = open_ended g t a.whole (omega (arith, more.0)) in record {
-          went = PiecesWent-joins remaining g.most s t w [] []
-              (PiecesWent-joins remaining g.most s m t [] [] went a.went)
-              (PiecesWent-inside remaining g.most t w [] refl refl refl);
-          asked = AskedWhere-told (λ bytes. bytes ≡ []) s t w refl (asked_over t a.asked);
+          went = went_on a;
+          asked = asked_then a;
           more = λ _. (
             omega (arith, more.0),
             sym ended ∙ sym a.ended ∙ going,
@@ -47,28 +67,15 @@ module _ {S D W : Type 0} (remaining : S → Option (List ℕ)) (g : Grammar W) 
           );
           end = λ odd. (let no : true ≡ false = sym is ∙ cc in cc);
           failed = λ e odd. cc;
-          whole = record {
-            block = a.whole.block;
-            plain = a.whole.plain;
-            capacity = a.whole.capacity;
-            limit = a.whole.limit;
-            ahead = a.whole.ahead;
-            handed = a.whole.handed;
-            searched = a.whole.searched;
-            ended = λ odd. (let no : true ≡ false = sym odd ∙ open' in cc);
-          };
+          whole = still_whole a (λ odd. (let no : true ≡ false = sym odd ∙ open' in cc));
         }
 
-    pub ends : (came flag : Bool) → came ≡ false → flag ≡ true → AsksFor remaining g 1 m (Ok came) t
-        → Refills remaining g s (Ok came) (record t { ended = flag })
-    ends came flag is closed a =
-        let w : Piecing S D = record t { ended = flag } in
+    pub ends : came ≡ false → flag ≡ true → AsksFor remaining g 1 m (Ok came) t → Refills remaining g s (Ok came) noted
+    ends is closed a =
         let end = a.end (ap (λ b. Ok b) is) in
         let empty : rest t ≡ [] = nil_from_length (rest t) (omega (arith, end.0)) in record {
-          went = PiecesWent-joins remaining g.most s t w [] []
-              (PiecesWent-joins remaining g.most s m t [] [] went a.went)
-              (PiecesWent-inside remaining g.most t w [] refl refl refl);
-          asked = AskedWhere-told (λ bytes. bytes ≡ []) s t w refl (asked_over t a.asked);
+          went = went_on a;
+          asked = asked_then a;
           more = λ odd. (let no : true ≡ false = cc in cc);
           end = λ _. (
             empty,
@@ -77,18 +84,10 @@ module _ {S D W : Type 0} (remaining : S → Option (List ℕ)) (g : Grammar W) 
             end.2 ∙ ap (λ l. l.reads.faults) told,
           );
           failed = λ e odd. cc;
-          whole = record {
-            block = a.whole.block;
-            plain = a.whole.plain;
-            capacity = a.whole.capacity;
-            limit = a.whole.limit;
-            ahead = a.whole.ahead;
-            handed = a.whole.handed;
-            searched = a.whole.searched;
-            ended = λ _. empty;
-          };
+          whole = still_whole a (λ _. empty);
         }
 
+  module _ (t : Piecing S D) where
     pub fails : (e : Error) → AsksFor remaining g 1 m (Err e) t → Refills remaining g s (Err e) t
     fails e a =
         let f = a.failed e refl in record {

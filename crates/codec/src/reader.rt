@@ -1,5 +1,5 @@
 //! The reader of pieces.
-ghost use Rattle.std.specs.Prelude.{◌≡◌, ℕ, ◌+◌, ◌*◌, ◌<◌, ◌≤◌, ◌^◌, List, [], ◌∷◌, ◌++◌, length, take, drop, Ok, Err, Some, None, ◌↔◌, IfOk, IfErr, IfSome, IsTrue, true, false};
+ghost use Rattle.std.specs.Prelude.{◌≡◌, ℕ, ◌+◌, ◌<◌, ◌≤◌, ◌^◌, List, [], ◌++◌, length, Ok, Err, Some, None, ◌↔◌, IfOk, IfErr, IfSome, IsTrue, true};
 ghost use Rattle.std.specs.Bool.{OnTrue};
 ghost use Rattle.std.specs.Borrow.{Lends, sem};
 ghost use Rattle.buffer_redux.specs.GrowError.{FitsWithin};
@@ -7,20 +7,20 @@ ghost use Rattle.buffer_redux.specs.MakeError.{growth};
 ghost use Rattle.codec.specs.contracts.reader.PieceReader.{the_row};
 ghost use Rattle.codec.specs.declared.error.NextError.TheVariants.{Wrong};
 ghost use Rattle.codec.specs.Decoding.{bytes_at};
-ghost use Rattle.codec.specs.Grammar.{Begins, Lacks, IsOpen};
+ghost use Rattle.codec.specs.Grammar.{Begins, Lacks};
 ghost use Rattle.codec.specs.Piecing.{IsPiecing, IsFresh, IsSettled, Skips, rest, room_for, with_stream};
-ghost use Rattle.codec.specs.NextPiece.{AsksNone, PiecesWent, NextBuffered, NextPiece, Refills, buffered_answer, load_answer};
-ghost use Rattle.codec.specs.Steps.{AsksFor, Takes, TakesEnd};
+ghost use Rattle.codec.specs.NextPiece.{AsksNone, NextBuffered, NextPiece, Refills, buffered_answer, load_answer};
+
+mod steps;
 
 use crate::buffer::piece_buffer;
-use crate::decoder::{Decoder, End, Found, Span};
+use crate::decoder::{Decoder, Found, Span};
 use crate::error::NextError;
 use buffer_redux::policy::MinBuffered;
 use buffer_redux::tell::{Tell, TellRead};
 use buffer_redux::{BufReader, Buffer, DEFAULT_BUF_SIZE, MakeError};
 use std::alloc::Global;
 use std::io;
-use std::io::BufRead;
 use std::marker::Model;
 
 /// A reader of the pieces that a decoder finds.
@@ -208,52 +208,6 @@ impl<R: Tell, D: Decoder> PieceReader<R, D> {
         self.handed += count;
         self.seen = 0;
     }
-
-    // Hands the next piece out where it is buffered whole. What was looked at before isn't looked at again.
-    #[inline(always)]
-    fn take(&mut self) -> Found<D::Wrong>
-        ensures takes { Takes (D.grammar self.old.decoder) self.old result self.new }
-        ensures before { IsPiecing (D.grammar self.old.decoder) self.old }
-        ensures whole { IsPiecing (D.grammar self.old.decoder) self.new }
-    {
-        let left = self.rest();
-        let have = left.len();
-        let found = self.decoder.decode(left, self.seen);
-        match &found {
-            Found::Piece(_, used) => {
-                self.handed += *used;
-                self.seen = 0;
-            }
-            Found::More(_) => {
-                self.seen = have;
-            }
-            Found::Wrong(_) => {}
-        }
-        found
-    }
-
-    // Hands out what is left as the last piece, or says why it is none, where it is something.
-    fn take_end(&mut self) -> Result<Option<Span>, NextError<D::Wrong>>
-        requires handed { self.old.handed ≡ 0 }
-        requires open { IsOpen (D.grammar self.old.decoder) (rest self.old) }
-        ensures takes { TakesEnd (D.grammar self.old.decoder) self.old result self.new }
-        ensures whole { IsPiecing (D.grammar self.old.decoder) self.new }
-    {
-        let len = self.reader.buf_len();
-        if len == 0 {
-            self.ended = false;
-            return Ok(None);
-        }
-        match self.decoder.at_end(self.reader.buffer()) {
-            End::Last(span) => {
-                self.handed = len;
-                self.seen = 0;
-                self.ended = true;
-                Ok(Some(span))
-            }
-            End::Wrong(e) => Err(NextError::Wrong(e)),
-        }
-    }
 }
 
 impl<R: TellRead, D: Decoder> PieceReader<R, D> {
@@ -346,35 +300,6 @@ impl<R: TellRead, D: Decoder> PieceReader<R, D> {
         Ok(came)
     }
 
-    // Goes on in `load`. The kit's compiler clears the answer of a call where the function that makes the call begins; of a
-    // call made in here, which is inlined, that is behind the look at what is buffered.
-    #[inline(always)]
-    fn load_aside(&mut self, need: usize) -> Result<Option<Span>, NextError<D::Wrong>>
-        requires few { length (rest self.old) < need }
-        requires most { need ≤ (D.grammar self.old.decoder).most }
-        requires lacks { Lacks (D.grammar self.old.decoder) need (rest self.old) }
-        ensures next { NextPiece R.remaining (D.grammar self.old.decoder) self.old
-            (load_answer result self.new) self.new }
-        ensures within { IfOk result (λ found. IfSome found (λ span.
-            span.from + span.len ≤ length self.new.reader.block.bytes)) }
-    {
-        self.load(need)
-    }
-
-    // Goes on in `step_on`, as a function of its own.
-    #[inline(never)]
-    fn load(&mut self, need: usize) -> Result<Option<Span>, NextError<D::Wrong>>
-        requires few { length (rest self.old) < need }
-        requires most { need ≤ (D.grammar self.old.decoder).most }
-        requires lacks { Lacks (D.grammar self.old.decoder) need (rest self.old) }
-        ensures next { NextPiece R.remaining (D.grammar self.old.decoder) self.old
-            (load_answer result self.new) self.new }
-        ensures within { IfOk result (λ found. IfSome found (λ span.
-            span.from + span.len ≤ length self.new.reader.block.bytes)) }
-    {
-        self.step_on(need)
-    }
-
     /// Goes on to the next piece as [`step`](PieceReader::step) does where it is known that what is left settles nothing before
     /// there are `need` bytes: it isn't looked at again before more came. Who called
     /// [`step_buffered`](PieceReader::step_buffered), and knows the pieces, goes on by this.
@@ -391,8 +316,10 @@ impl<R: TellRead, D: Decoder> PieceReader<R, D> {
         self.drop_handed();
         let mut need = need;
         'turns: loop {
-            if !self.read_to(need)? {
-                return self.take_end();
+            match self.read_to(need) {
+                Ok(true) => {}
+                Ok(false) => return self.take_end(),
+                Err(e) => return Err(NextError::Io(e)),
             }
             match self.take() {
                 Found::Piece(span, _) => return Ok(Some(span)),
@@ -402,33 +329,5 @@ impl<R: TellRead, D: Decoder> PieceReader<R, D> {
                 Found::Wrong(e) => return Err(NextError::Wrong(e)),
             }
         }
-    }
-
-    // Reads until so many bytes are buffered, and returns whether they are: they aren't where the stream ended.
-    fn read_to(&mut self, need: usize) -> io::Result<bool>
-        requires handed { self.old.handed ≡ 0 }
-        requires few { length (rest self.old) < need }
-        requires most { need ≤ (D.grammar self.old.decoder).most }
-        ensures { AsksFor R.remaining (D.grammar self.old.decoder) need self.old result self.new }
-    {
-        if self.ended {
-            return Ok(false);
-        }
-        self.reader.policy_mut().set_min(need);
-        Ok(self.reader.fill_buf()?.len() >= need)
-    }
-
-    // Drops what was handed out.
-    fn drop_handed(&mut self)
-        ensures went { PiecesWent R.remaining (D.grammar self.old.decoder).most self.old [] self.new }
-        ensures rest { rest self.new ≡ rest self.old }
-        ensures handed { self.new.handed ≡ 0 }
-        ensures seen { self.new.seen ≡ self.old.seen }
-        ensures ended { self.new.ended ≡ self.old.ended }
-        ensures told { self.new.reader.log ≡ self.old.reader.log }
-        ensures whole { IsPiecing (D.grammar self.old.decoder) self.new }
-    {
-        self.reader.consume(self.handed);
-        self.handed = 0;
     }
 }

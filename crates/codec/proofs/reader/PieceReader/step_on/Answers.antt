@@ -1,27 +1,23 @@
 use Rattle.std.proofs.Common.{Ok, Err, false, true, subst, ◌∙◌}
-use Rattle.std.proofs.lemmas.Result.{err_from_is_err_and}
 use Rattle.codec.specs.declared.decoder.Found.TheVariants as found
 use Rattle.codec.specs.Piecing.{IsPiecing}
 use Rattle.codec.specs.Steps.{AsksFor, Takes, TakesEnd}
 use Rattle.codec.proofs.Loading.{load_fails, load_finished, loaded, loads_on, takes_loaded, wrong_next}
 use Rattle.codec.proofs.reader.PieceReader.step_on.Goals as goal
 
-pub returns-in_err-read_to-clause-next : goal.returns-in_err-read_to-clause-next
-returns-in_err-read_to-clause-next g c =
+pub returns-in-Err-clause-next : goal.returns-in-Err-clause-next
+returns-in-Err-clause-next g c =
     let remaining = g.R.TellRead.remaining in
     let grammar = g.D.Decoder.grammar in
     let s = c.args.self.now in
     let m = c.turns.self in
     let t = c.read_to.new.self in
     let inv = c.turns.invariant in
-    let asked = subst (λ d. AsksFor remaining (grammar d) c.turns.need m (Err c.in_err-read_to.field-0.0) t) inv.head.went.decoder
-    c.in_err-read_to.ensures in
-    let p = err_from_is_err_and c.from_residual.result c.from_residual.ensures.1 in
-    rw (p.1, p.2) (load_fails remaining (grammar s.decoder)
-    (g.met.D.Decoder.lawful s.decoder) s m c.turns.need inv c.in_err-read_to.field-0.0 t asked)
+    load_fails remaining (grammar s.decoder) (g.met.D.Decoder.lawful s.decoder) s m c.turns.need inv c.in-Err.e t
+    (subst (λ d. AsksFor remaining (grammar d) c.turns.need m (Err c.in-Err.e) t) inv.head.went.decoder c.in-Err.ensures)
 
-pub returns-then-not-branch-clause-next : goal.returns-then-not-branch-clause-next
-returns-then-not-branch-clause-next g c =
+pub returns-in-Ok-false-clause-next : goal.returns-in-Ok-false-clause-next
+returns-in-Ok-false-clause-next g c =
     let remaining = g.R.TellRead.remaining in
     let grammar = g.D.Decoder.grammar in
     let s = c.args.self.now in
@@ -31,8 +27,7 @@ returns-then-not-branch-clause-next g c =
     let inv = c.turns.invariant in
     let asked : AsksFor remaining (grammar s.decoder) c.turns.need m (Ok false) t =
     subst (λ d. AsksFor remaining (grammar d) c.turns.need m (Ok false) t) inv.head.went.decoder
-    (subst (λ b. AsksFor remaining (grammar m.decoder) c.turns.need m (Ok b) t) c.if-not-branch.true
-    c.in_ok-read_to.ensures) in
+    (subst (λ b. AsksFor remaining (grammar m.decoder) c.turns.need m (Ok b) t) c.in-Ok-false.field-0-test c.in-Ok-false.ensures) in
     let decoder = asked.went.decoder ∙ inv.head.went.decoder in
     load_finished remaining (grammar s.decoder) (g.met.D.Decoder.lawful s.decoder) s m c.turns.need inv t asked
     c.take_end.result v
@@ -50,8 +45,7 @@ returns-in-Piece-clause-next g c =
     let inv = c.turns.invariant in
     let asked : AsksFor remaining (grammar s.decoder) c.turns.need m (Ok true) t =
     subst (λ d. AsksFor remaining (grammar d) c.turns.need m (Ok true) t) inv.head.went.decoder
-    (subst (λ b. AsksFor remaining (grammar m.decoder) c.turns.need m (Ok b) t) c.if-not-branch.false
-    c.in_ok-read_to.ensures) in
+    (subst (λ b. AsksFor remaining (grammar m.decoder) c.turns.need m (Ok b) t) c.in-Ok-true.field-0-test c.in-Ok-true.ensures) in
     let decoder = asked.went.decoder ∙ inv.head.went.decoder in
     let law = g.met.D.Decoder.lawful s.decoder in
     takes_loaded remaining (grammar s.decoder) law s t v
@@ -71,8 +65,7 @@ returns-in-Wrong-clause-next g c =
     let inv = c.turns.invariant in
     let asked : AsksFor remaining (grammar s.decoder) c.turns.need m (Ok true) t =
     subst (λ d. AsksFor remaining (grammar d) c.turns.need m (Ok true) t) inv.head.went.decoder
-    (subst (λ b. AsksFor remaining (grammar m.decoder) c.turns.need m (Ok b) t) c.if-not-branch.false
-    c.in_ok-read_to.ensures) in
+    (subst (λ b. AsksFor remaining (grammar m.decoder) c.turns.need m (Ok b) t) c.in-Ok-true.field-0-test c.in-Ok-true.ensures) in
     let decoder = asked.went.decoder ∙ inv.head.went.decoder in
     let law = g.met.D.Decoder.lawful s.decoder in
     let refused : Takes (grammar s.decoder) t (found.Wrong c.in-Wrong.e) v =
@@ -92,8 +85,7 @@ turns-preserved g c =
     let inv = c.turns.invariant in
     let asked : AsksFor remaining (grammar s.decoder) c.turns.need m (Ok true) t =
     subst (λ d. AsksFor remaining (grammar d) c.turns.need m (Ok true) t) inv.head.went.decoder
-    (subst (λ b. AsksFor remaining (grammar m.decoder) c.turns.need m (Ok b) t) c.if-not-branch.false
-    c.in_ok-read_to.ensures) in
+    (subst (λ b. AsksFor remaining (grammar m.decoder) c.turns.need m (Ok b) t) c.in-Ok-true.field-0-test c.in-Ok-true.ensures) in
     let decoder = asked.went.decoder ∙ inv.head.went.decoder in
     let law = g.met.D.Decoder.lawful s.decoder in
     loads_on remaining (grammar s.decoder) law s t v c.in-More.more
