@@ -190,7 +190,8 @@ def refusal(edit, said):
     if not own or own[0].startswith("proved"):
         return None
     folder = f"proofs/{edit.fn.replace('::', '/')}/"
-    told = [it for it in said.split("\n") if folder in it.partition(": error")[0] and ": error" in it]
+    # A message goes on in lines that begin with spaces.
+    told = [it for it in re.sub(r"\n +", " ", said).split("\n") if folder in it.partition(": error")[0] and ": error" in it]
     if told and all(NAMES.match(it) for it in told) and not any("`search` did not prove" in it for it in own):
         return f"only because a proof file names what the edit took away: {told[0]}"
     return next((it for it in told if not NAMES.match(it)), line)
