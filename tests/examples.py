@@ -2,7 +2,7 @@
 """Sees that each example stands in a test, line for line: those in the documentation of the sources, and those of the pages.
 
 A page's example is cut at its blank lines. Each piece of Rust stands in a source of crates/tests_* or crates/uses, where a
-`pub` in front is not looked at, and each piece of antt in a proof or a spec of these or of redux_tell. What a piece imports
+`pub` in front is not looked at, and each piece of antt in a proof or a spec of these or of redux_buffer. What a piece imports
 by name one of these files imports too. Shell, text and what has `..` in it, or a name in capitals to be put in, is no example.
 """
 import pathlib
@@ -98,7 +98,7 @@ def main():
         if not any(f"\n{example}\n" in f"\n{test}\n" for test in tests)
     ]
     rust = texts("crates/tests_*/src/**/*.rt", "crates/uses/src/**/*.rt")
-    antt = texts(*(f"crates/{it}/{part}/**/*.antt" for it in ("tests_*", "uses", "redux_tell") for part in ("proofs", "specs")))
+    antt = texts(*(f"crates/{it}/{part}/**/*.antt" for it in ("tests_*", "uses", "redux_buffer") for part in ("proofs", "specs")))
     pieces = [(page, *it) for page in PAGES for it in pieces_of(top / page)]
     wrong += [
         f"{page}:{at}: this stands in no test"

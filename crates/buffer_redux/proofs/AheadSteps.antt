@@ -4,9 +4,9 @@ use Rattle.std.specs.Prelude.{◌⊎◌}
 use Rattle.std.specs.declared.io.Error.{Error}
 use Rattle.redux_buffer.specs.Block.{IsBlock, MakesRoom, usable}
 use Rattle.redux_buffer.specs.Transfer.{ReadsOnce}
-use Rattle.redux_tell.specs.LogGrows.{ReadLogGrows, ReadLogGrows-none}
-use Rattle.redux_tell.specs.StreamLog.{portion, with_fault, with_zero, zero_of_none, zero_of_some}
-use Rattle.redux_policy.specs.Policy.{ReadRules}
+use Rattle.redux_buffer.specs.LogGrows.{ReadLogGrows, ReadLogGrows-none}
+use Rattle.redux_buffer.specs.StreamLog.{portion, with_fault, with_zero, zero_of_none, zero_of_some}
+use Rattle.buffer_redux.specs.Policy.{ReadRules}
 use Rattle.buffer_redux.specs.Buffered.{Buffered, with_block}
 use Rattle.buffer_redux.specs.BufReader.{ReadsAlong, ReadsInOrder, ReadsIntoBuf}
 use Rattle.buffer_redux.specs.Peek.{AheadEnded, ReadsAhead}

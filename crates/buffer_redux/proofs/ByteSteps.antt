@@ -1,7 +1,7 @@
 -- The ends of a call for one byte.
 use Rattle.std.proofs.Common.{◌≡◌, ℕ, ◌<◌, List, [], ◌∷◌, length, Result, Ok, Err, Option, None, Some, sym, ap, subst, arith}
 use Rattle.std.specs.declared.io.Error.{Error}
-use Rattle.redux_policy.specs.Policy.{ReadRules}
+use Rattle.buffer_redux.specs.Policy.{ReadRules}
 use Rattle.buffer_redux.specs.Buffered.{Buffered}
 use Rattle.buffer_redux.specs.BufReader.{ReadsToEnd}
 use Rattle.buffer_redux.specs.ReadAll.{HandedFront}

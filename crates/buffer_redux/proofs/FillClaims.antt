@@ -3,8 +3,8 @@ use Rattle.std.proofs.Common.{◌≡◌, ℕ, zero, suc, ◌+◌, ◌-◌, ◌�
 use Rattle.std.specs.declared.io.Error.{Error}
 use Rattle.redux_buffer.specs.Block.{Block, IsBlock}
 use Rattle.redux_buffer.specs.Transfer.{ReadsOnce}
-use Rattle.redux_policy.specs.declared.DoRead.{DoRead}
-use Rattle.redux_policy.specs.Policy.{ReadRules, BeforeRead, no_read, read_now, ReadsToMinimum, ReadsSteadily, ClaimsToSpare}
+use Rattle.buffer_redux.specs.declared.policy.DoRead.{DoRead}
+use Rattle.buffer_redux.specs.Policy.{ReadRules, BeforeRead, no_read, read_now, ReadsToMinimum, ReadsSteadily, ClaimsToSpare}
 use Rattle.buffer_redux.specs.Buffered.{Buffered}
 use Rattle.buffer_redux.specs.Fill.{Turns, Ends, Filled}
 use Rattle.buffer_redux.specs.BufReader.{LooksAhead, FillsToMinimum, SteadyFill, Fills}

@@ -4,11 +4,11 @@ use Rattle.std.proofs.lemmas.Bool.{cases_lt}
 use Rattle.std.proofs.lemmas.List.{nil_from_length}
 use Rattle.std.specs.declared.io.Error.{Error}
 use Rattle.redux_buffer.specs.Block.{Block, Kind, Plain, Ring, OnKind, IsBlock, usable}
-use Rattle.redux_tell.specs.LogGrows.{ReadLogGrows, ReadLogGrows-none, ReadLogGrows-joins, ReadLogGrows-read}
-use Rattle.redux_tell.specs.StreamLog.{StreamLog, portion, after_read}
+use Rattle.redux_buffer.specs.LogGrows.{ReadLogGrows, ReadLogGrows-none, ReadLogGrows-joins, ReadLogGrows-read}
+use Rattle.redux_buffer.specs.StreamLog.{StreamLog, portion, after_read}
 use Rattle.redux_buffer.specs.Transfer.{ReadsOnce, ReadsFrom}
-use Rattle.redux_policy.specs.Policy.{no_read, read_now, ReadRules, BeforeRead}
-use Rattle.redux_policy.specs.declared.DoRead.{DoRead}
+use Rattle.buffer_redux.specs.Policy.{no_read, read_now, ReadRules, BeforeRead}
+use Rattle.buffer_redux.specs.declared.policy.DoRead.{DoRead}
 use Rattle.buffer_redux.specs.Buffered.{Buffered, GoesDirect, StaysInside}
 use Rattle.buffer_redux.specs.Fill.{Ordered, Turns, Declined, Ends, Filled}
 use Rattle.buffer_redux.specs.BufReader.{PolicyGave, PolicyDeclined, ReadsInOrder, ReaderConsumes, ReadErrorCaused, FillEnded, LastAsk, EmptyFillCaused, EmptyReadCaused}

@@ -2,13 +2,13 @@
 use Rattle.std.proofs.Common.{◌≡◌, ◌∙◌, ℕ, ◌+◌, ◌<◌, ◌≤◌, List, [], ◌∷◌, length, Option, Result, Ok, Err, true, inl, inr, refl, sym, ap, subst, append-nil, le_refl, arith}
 use Rattle.std.proofs.lemmas.Bool.{cases_lt}
 use Rattle.std.specs.declared.io.Error.{Error}
-use Rattle.redux_tell.specs.GoesOn.{GoesOn-none}
-use Rattle.redux_tell.specs.StreamLog.{StreamLog, with_end}
-use Rattle.redux_tell.specs.LogGrows.{ReadLogGrows, FillLogGrows}
-use Rattle.redux_policy.specs.Policy.{ReadRules, ReadsSteadily}
+use Rattle.redux_buffer.specs.GoesOn.{GoesOn-none}
+use Rattle.redux_buffer.specs.StreamLog.{StreamLog, with_end}
+use Rattle.redux_buffer.specs.LogGrows.{ReadLogGrows, FillLogGrows}
+use Rattle.buffer_redux.specs.Policy.{ReadRules, ReadsSteadily}
 use Rattle.buffer_redux.specs.Buffered.{Buffered, with_calls}
 use Rattle.buffer_redux.specs.Fill.{Ends, Filled}
-use Rattle.redux_tell.specs.GivesRemaining.{GivesRemaining}
+use Rattle.redux_buffer.specs.GivesRemaining.{GivesRemaining}
 use Rattle.buffer_redux.specs.BufReader.{Fills, InnerGives}
 use Rattle.buffer_redux.specs.EmptyReads.{ReadsWhenEmpty, none_before_fault, none_where_shown, once_at_most}
 use Rattle.buffer_redux.specs.ReaderLaws.{Fills-empty, WantsBytes}

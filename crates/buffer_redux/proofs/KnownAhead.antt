@@ -7,10 +7,10 @@ use Rattle.std.specs.Io.KnownBytes.{Keeps, IsAtEnd, prepend_known}
 use Rattle.std.specs.Borrow.{Bor}
 use Rattle.std.specs.Io.BufRead.{FillKeeps}
 use Rattle.std.specs.declared.io.Error.{Error}
-use Rattle.redux_policy.specs.Policy.{ReadRules}
+use Rattle.buffer_redux.specs.Policy.{ReadRules}
 use Rattle.buffer_redux.specs.Buffered.{Buffered}
 use Rattle.redux_buffer.specs.Block.{Block, usable}
-use Rattle.redux_tell.specs.StreamLog.{StreamLog}
+use Rattle.redux_buffer.specs.StreamLog.{StreamLog}
 use Rattle.redux_buffer.specs.Transfer.{ReadsFrom}
 use Rattle.buffer_redux.specs.BufReader.{ReadsInOrder, InnerGives, FillBuf}
 use Rattle.buffer_redux.specs.Fill.{Turns}

@@ -10,8 +10,8 @@ use Rattle.std.specs.declared.io.Error.{Error}
 use Rattle.std.specs.declared.io.ErrorKind.TheVariants.{InvalidData}
 use Rattle.redux_buffer.specs.Block.{Block, IsBlock, Plain, Ring, limit_of}
 use Rattle.redux_buffer.specs.Transfer.{ReadsOnce}
-use Rattle.redux_tell.specs.StreamLog.{zero_of_none}
-use Rattle.redux_policy.specs.Policy.{ReadRules}
+use Rattle.redux_buffer.specs.StreamLog.{zero_of_none}
+use Rattle.buffer_redux.specs.Policy.{ReadRules}
 use Rattle.buffer_redux.specs.Buffered.{Buffered}
 use Rattle.buffer_redux.specs.BufReader.{RanDry, ReadsInOrder, ReadsIntoBuf}
 use Rattle.buffer_redux.specs.FillRetried.{FillRetried, InterruptedSteps}

@@ -10,9 +10,9 @@ use Rattle.std.specs.IoError.{error_kind}
 use Rattle.std.specs.declared.io.Error.{Error}
 use Rattle.std.specs.declared.io.ErrorKind.TheVariants.{Interrupted, UnexpectedEof}
 use Rattle.redux_buffer.specs.Block.{IsBlock}
-use Rattle.redux_tell.specs.LogGrows.{ReadLogGrows-none, ReadLogGrows-joins}
-use Rattle.redux_tell.specs.StreamLog.{portion}
-use Rattle.redux_policy.specs.Policy.{ReadRules, ClaimsToSpare}
+use Rattle.redux_buffer.specs.LogGrows.{ReadLogGrows-none, ReadLogGrows-joins}
+use Rattle.redux_buffer.specs.StreamLog.{portion}
+use Rattle.buffer_redux.specs.Policy.{ReadRules, ClaimsToSpare}
 use Rattle.buffer_redux.specs.AllBytes.{GoesBy, EndsBy, GaveUp}
 use Rattle.buffer_redux.specs.Buffered.{Buffered, GoesPast, StaysInside}
 use Rattle.buffer_redux.specs.BufReader.{ReadsInOrder, ReaderKeeps, ReadErrorCaused, EmptyReadCaused, RanDry, Reads, ReadsBuffered}

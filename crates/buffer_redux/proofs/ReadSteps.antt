@@ -5,10 +5,10 @@ use Rattle.std.specs.Io.{ReadsAtMost}
 use Rattle.std.specs.Io.KnownBytes.{IsAtEnd, ReadConsumes}
 use Rattle.std.specs.declared.io.Error.{Error}
 use Rattle.redux_buffer.specs.Block.{IsBlock, usable}
-use Rattle.redux_tell.specs.StreamLog.{portion}
+use Rattle.redux_buffer.specs.StreamLog.{portion}
 use Rattle.redux_buffer.specs.Transfer.{ReadsFrom}
-use Rattle.redux_policy.specs.declared.DoRead.{DoRead}
-use Rattle.redux_policy.specs.Policy.{ReadRules, read_now}
+use Rattle.buffer_redux.specs.declared.policy.DoRead.{DoRead}
+use Rattle.buffer_redux.specs.Policy.{ReadRules, read_now}
 use Rattle.buffer_redux.specs.Buffered.{Buffered, StaysInside}
 use Rattle.buffer_redux.specs.Fill.{Turn, Turns, Filled}
 use Rattle.buffer_redux.specs.BufReader.{ReadsInOrder, ReadErrorCaused, EmptyReadCaused, RanDry, InnerGives, ReaderConsumes, ReaderKeeps, Fills, Reads, ReadsBuffered, ReadsIntoBuf, LeavesRest}

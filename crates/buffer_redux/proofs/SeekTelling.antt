@@ -3,7 +3,7 @@ use Rattle.std.proofs.Common.{◌≡◌, ◌∙◌, ℕ, [], ◌++◌, Result, O
 use Rattle.std.specs.Prelude.{MatchResult}
 use Rattle.std.specs.declared.io.Error.{Error}
 use Rattle.std.specs.declared.io.traits.SeekFrom.{SeekFrom}
-use Rattle.redux_tell.specs.StreamLog.{StreamLog, Readies, SeekTells, with_flush, with_ready, with_shown, after_flush, after_seek}
+use Rattle.redux_buffer.specs.StreamLog.{StreamLog, Readies, SeekTells, with_flush, with_ready, with_shown, after_flush, after_seek}
 use Rattle.buffer_redux.specs.Buffered.{Buffered, with_calls}
 use Rattle.buffer_redux.specs.BufWriter.{IsFlushed, SeeksFlushed, SeeksInner, WasFlushed, WritesInOrder}
 use Rattle.buffer_redux.specs.ReaderTells.{drops_shown, reader_log}

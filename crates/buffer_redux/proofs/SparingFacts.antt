@@ -3,9 +3,9 @@ use Rattle.std.proofs.Common.{◌≡◌, ℕ, length, Result, Option, None, Some
 use Rattle.std.specs.Bool.{⊤}
 use Rattle.std.specs.declared.io.Error.{Error}
 use Rattle.redux_buffer.specs.Potential.{of_plain, potential-append}
-use Rattle.redux_tell.specs.StreamLog.{portion}
+use Rattle.redux_buffer.specs.StreamLog.{portion}
 use Rattle.redux_buffer.specs.Transfer.{ReadsOnce}
-use Rattle.redux_policy.specs.Policy.{ClaimsToSpare, Lawful, Spares, SparesPlain}
+use Rattle.buffer_redux.specs.Policy.{ClaimsToSpare, Lawful, Spares, SparesPlain}
 use Rattle.buffer_redux.specs.Buffered.{Buffered}
 use Rattle.buffer_redux.specs.Sparing.{Spared}
 

@@ -8,8 +8,8 @@ use Rattle.std.specs.declared.fmt.Formatter.{Formatter}
 use Rattle.std.specs.Io.KnownBytes.{Appends}
 use Rattle.std.specs.declared.io.Error.{Error}
 use Rattle.std.proofs.Math.Logic.{∥∥₁_map}
-use Rattle.redux_tell.specs.StreamLog.{StreamLog}
-use Rattle.redux_policy.specs.Policy.{WriteRules}
+use Rattle.redux_buffer.specs.StreamLog.{StreamLog}
+use Rattle.buffer_redux.specs.Policy.{WriteRules}
 use Rattle.buffer_redux.specs.Buffered.{Buffered}
 use Rattle.buffer_redux.specs.BufWriter.{WritesAlong, writer_contents}
 use Rattle.buffer_redux.specs.WriteAll.{WriteAllErrorCaused, WritesAll, WritesAllSteadily}

@@ -3,8 +3,8 @@ use Rattle.std.proofs.Common.{◌≡◌, ℕ, ◌<◌, Bool, true, false, Ok, Er
 use Rattle.std.specs.declared.io.Error.{Error}
 use Rattle.redux_buffer.specs.Block.{Block, usable}
 use Rattle.redux_buffer.specs.Transfer.{ReadsFrom}
-use Rattle.redux_policy.specs.declared.DoRead.{DoRead}
-use Rattle.redux_policy.specs.Policy.{ReadRules, BeforeRead}
+use Rattle.buffer_redux.specs.declared.policy.DoRead.{DoRead}
+use Rattle.buffer_redux.specs.Policy.{ReadRules, BeforeRead}
 use Rattle.buffer_redux.specs.Buffered.{Buffered}
 use Rattle.buffer_redux.specs.Fill.{Ordered, Turn, Declined, Full, Dry, Faulted}
 

@@ -11,9 +11,9 @@ use Rattle.std.specs.IoError.{error_kind}
 use Rattle.std.specs.declared.io.Error.{Error}
 use Rattle.std.specs.declared.io.ErrorKind.TheVariants.{OutOfMemory}
 use Rattle.redux_buffer.specs.Block.{IsBlock}
-use Rattle.redux_tell.specs.Faults.{OnlyInterrupts, OnlyInterrupts-none, OnlyInterrupts-joins}
-use Rattle.redux_tell.specs.StreamLog.{StreamLog}
-use Rattle.redux_policy.specs.Policy.{ReadRules}
+use Rattle.redux_buffer.specs.Faults.{OnlyInterrupts, OnlyInterrupts-none, OnlyInterrupts-joins}
+use Rattle.redux_buffer.specs.StreamLog.{StreamLog}
+use Rattle.buffer_redux.specs.Policy.{ReadRules}
 use Rattle.buffer_redux.specs.Buffered.{Buffered}
 use Rattle.buffer_redux.specs.BufReader.{RanDry, ReaderConsumes}
 use Rattle.buffer_redux.specs.FillRetried.{Step}

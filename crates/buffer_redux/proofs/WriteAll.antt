@@ -10,9 +10,9 @@ use Rattle.std.specs.declared.io.ErrorKind.TheVariants.{Interrupted, WriteZero}
 use Rattle.std.specs.Io.{WritesAtMost}
 use Rattle.std.specs.Io.KnownBytes.{Appends}
 use Rattle.redux_buffer.specs.Block.{IsBlock, usable}
-use Rattle.redux_tell.specs.LogGrows.{WriteLogGrows-none, WriteLogGrows-joins}
-use Rattle.redux_tell.specs.StreamLog.{StreamLog, portion}
-use Rattle.redux_policy.specs.Policy.{WriteRules}
+use Rattle.redux_buffer.specs.LogGrows.{WriteLogGrows-none, WriteLogGrows-joins}
+use Rattle.redux_buffer.specs.StreamLog.{StreamLog, portion}
+use Rattle.buffer_redux.specs.Policy.{WriteRules}
 use Rattle.buffer_redux.specs.AllBytes.{GoesBy, EndsBy, GaveUp}
 use Rattle.buffer_redux.specs.Buffered.{Buffered, InnerWent}
 use Rattle.buffer_redux.specs.BufWriter.{writer_contents, WritesInOrder, FlushesAmount, TakesIn, Prepared, Finished, Writes, WriterKeeps, WriteErrorCaused}

@@ -4,9 +4,9 @@ use Rattle.std.specs.Prelude.{◌⊎◌}
 use Rattle.std.specs.IoError.{error_kind}
 use Rattle.std.specs.declared.io.Error.{Error}
 use Rattle.std.specs.declared.io.ErrorKind.TheVariants.{WriteZero}
-use Rattle.redux_tell.specs.Faults.{SendErrorCaused}
-use Rattle.redux_tell.specs.StreamLog.{StreamLog}
-use Rattle.redux_policy.specs.Policy.{WriteRules}
+use Rattle.redux_buffer.specs.Faults.{SendErrorCaused}
+use Rattle.redux_buffer.specs.StreamLog.{StreamLog}
+use Rattle.buffer_redux.specs.Policy.{WriteRules}
 use Rattle.buffer_redux.specs.AllBytes.{EndsBy, GaveUp}
 use Rattle.buffer_redux.specs.Buffered.{Buffered}
 use Rattle.buffer_redux.specs.BufWriter.{EmptyWriteCaused, NoSpace, SteadyWrite, TookNothingPast, WasInterrupted, WriteErrorCaused, WriteRefused, WriterStopped}

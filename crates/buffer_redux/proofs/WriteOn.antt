@@ -5,9 +5,9 @@ use Rattle.std.specs.Io.{WritesAtMost}
 use Rattle.std.specs.Io.KnownBytes.{WriteAppends}
 use Rattle.std.specs.declared.io.Error.{Error}
 use Rattle.redux_buffer.specs.Block.{IsBlock, Extends, usable}
-use Rattle.redux_tell.specs.StreamLog.{StreamLog, portion}
-use Rattle.redux_policy.specs.Policy.{WriteRules, BeforeWrite}
-use Rattle.redux_policy.specs.declared.FlushAmt.{FlushAmt}
+use Rattle.redux_buffer.specs.StreamLog.{StreamLog, portion}
+use Rattle.buffer_redux.specs.Policy.{WriteRules, BeforeWrite}
+use Rattle.buffer_redux.specs.declared.policy.FlushAmt.{FlushAmt}
 use Rattle.buffer_redux.specs.Buffered.{Buffered, InnerWent}
 use Rattle.buffer_redux.specs.BufWriter.{writer_contents, EmptyWriteCaused, FlushesAmount, TakesIn, Prepared, WriteErrorCaused, WriterKeeps, Writes, WritesInOrder, WritesOn, WritesSteadily}
 use Rattle.buffer_redux.specs.WriterLaws.{WritesInOrder-contents}

@@ -4,11 +4,11 @@ use Rattle.std.proofs.lemmas.Bool.{cases_lt}
 use Rattle.std.proofs.lemmas.List.{drop_all, nil_from_length}
 use Rattle.std.specs.declared.io.Error.{Error}
 use Rattle.redux_buffer.specs.Block.{Block, IsBlock, usable}
-use Rattle.redux_tell.specs.GoesOn.{GoesOn}
-use Rattle.redux_tell.specs.LogGrows.{WriteLogGrows, WriteLogGrows-none, WriteLogGrows-joins, WriteLogGrows-write}
-use Rattle.redux_tell.specs.StreamLog.{StreamLog, portion}
+use Rattle.redux_buffer.specs.GoesOn.{GoesOn}
+use Rattle.redux_buffer.specs.LogGrows.{WriteLogGrows, WriteLogGrows-none, WriteLogGrows-joins, WriteLogGrows-write}
+use Rattle.redux_buffer.specs.StreamLog.{StreamLog, portion}
 use Rattle.redux_buffer.specs.Transfer.{Sends}
-use Rattle.redux_policy.specs.Policy.{WriteRules}
+use Rattle.buffer_redux.specs.Policy.{WriteRules}
 use Rattle.buffer_redux.specs.Buffered.{Buffered, InnerWent, with_policy}
 use Rattle.buffer_redux.specs.BufWriter.{FlushesAmount, TakesIn, CopiesIn, Prepared, Finished, WritesInOrder, WasSent, WasFlushed}
 use Rattle.buffer_redux.specs.WriterLaws.{flush_ways, ways_in, WritesInOrder-joins, WritesInOrder-sends}

@@ -6,10 +6,10 @@ use Rattle.std.proofs.lemmas.List.Elements.{All-head}
 use Rattle.std.specs.List.{All}
 use Rattle.std.specs.declared.io.Error.{Error}
 use Rattle.std.specs.declared.io.ErrorKind.TheVariants.{WriteZero}
-use Rattle.redux_tell.specs.StreamLog.{StreamLog, WriteLog, zero_of_some, zero_of_none, after_write, after_flush}
-use Rattle.redux_tell.specs.LogGrows.{WriteLogGrows}
-use Rattle.redux_tell.specs.Faults.{IsInterrupt, MetInterrupts, MetInterrupts-err, TookNothing, SendErrorCaused}
-use Rattle.redux_policy.specs.Policy.{WriteRules}
+use Rattle.redux_buffer.specs.StreamLog.{StreamLog, WriteLog, zero_of_some, zero_of_none, after_write, after_flush}
+use Rattle.redux_buffer.specs.LogGrows.{WriteLogGrows}
+use Rattle.redux_buffer.specs.Faults.{IsInterrupt, MetInterrupts, MetInterrupts-err, TookNothing, SendErrorCaused}
+use Rattle.buffer_redux.specs.Policy.{WriteRules}
 use Rattle.buffer_redux.specs.Buffered.{Buffered, with_calls, with_policy}
 use Rattle.buffer_redux.specs.BufWriter.{WriterFailed, SteadyWrite, Writes, WriteErrorCaused, IsFlushed, Flushes, FlushesAmount, TakesIn}
 use Rattle.buffer_redux.specs.WriterLaws.{Wrote-met}

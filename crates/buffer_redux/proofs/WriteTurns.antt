@@ -2,8 +2,8 @@
 use Rattle.std.proofs.Common.{◌≡◌, ℕ, zero, suc, ◌+◌, ◌≤◌, ◌<◌, List, drop, length, Result, Ok, Err, ap, subst, ◌∙◌, arith, inl, inr, refl, true}
 use Rattle.std.specs.Prelude.{◌⊎◌}
 use Rattle.std.specs.declared.io.Error.{Error}
-use Rattle.redux_tell.specs.LogGrows.{WriteLogGrows-none, WriteLogGrows-joins, WriteLogGrows}
-use Rattle.redux_policy.specs.Policy.{WriteRules}
+use Rattle.redux_buffer.specs.LogGrows.{WriteLogGrows-none, WriteLogGrows-joins, WriteLogGrows}
+use Rattle.buffer_redux.specs.Policy.{WriteRules}
 use Rattle.buffer_redux.specs.AllBytes.{GoesBy}
 use Rattle.buffer_redux.specs.Buffered.{Buffered}
 use Rattle.buffer_redux.specs.BufWriter.{TakesIn, Writes, WasInterrupted}

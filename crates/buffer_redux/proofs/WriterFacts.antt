@@ -5,10 +5,10 @@ use Rattle.std.specs.declared.io.Error.{Error}
 use Rattle.std.specs.declared.io.ErrorKind.TheVariants.{WriteZero}
 use Rattle.redux_buffer.specs.Block.{Block, usable}
 use Rattle.std.proofs.lemmas.List.Elements.{All-nil}
-use Rattle.redux_tell.specs.Faults.{IsInterrupt, TookNothing, SendErrorCaused, FaultedAfter-after}
-use Rattle.redux_tell.specs.StreamLog.{WriteLog, portion, after_write}
-use Rattle.redux_policy.specs.Policy.{WriteRules, BeforeWrite, FlushesSteadily}
-use Rattle.redux_policy.specs.declared.FlushAmt.{FlushAmt}
+use Rattle.redux_buffer.specs.Faults.{IsInterrupt, TookNothing, SendErrorCaused, FaultedAfter-after}
+use Rattle.redux_buffer.specs.StreamLog.{WriteLog, portion, after_write}
+use Rattle.buffer_redux.specs.Policy.{WriteRules, BeforeWrite, FlushesSteadily}
+use Rattle.buffer_redux.specs.declared.policy.FlushAmt.{FlushAmt}
 use Rattle.buffer_redux.specs.Buffered.{Buffered, GoesPast, StaysInside}
 use Rattle.buffer_redux.specs.BufWriter.{FlushesAmount, TakesIn, Prepared, Wrote, Writes, WriteErrorCaused, WriterFailed, WritesSteadily, NoSpace, TookNothingPast, EmptyWriteCaused}
 use Rattle.buffer_redux.specs.WriterLaws.{flush_ways, ways_in, FlushesAmount-met}

@@ -4,7 +4,7 @@ use Rattle.std.specs.IoError.{error_kind}
 use Rattle.std.specs.declared.io.Error.{Error}
 use Rattle.std.specs.declared.io.ErrorKind.{ErrorKind}
 use Rattle.std.specs.declared.io.ErrorKind.TheVariants.{Interrupted, TimedOut}
-use Rattle.redux_tell.specs.Faults.{IsInterrupt}
+use Rattle.redux_buffer.specs.Faults.{IsInterrupt}
 
 -- a turn with this answer is gone on from, n bytes further: it did so many, and some, or was interrupted
 abbrev pub GoesBy : Result ℕ Error → ℕ → Type 0

@@ -3,12 +3,12 @@ use Rattle.std.specs.Prelude.{◌≡◌, ℕ, ◌+◌, ◌-◌, ◌<◌, ◌≤�
 use Rattle.std.specs.Borrow.{Bor}
 use Rattle.std.specs.declared.io.Error.{Error}
 use Rattle.redux_buffer.specs.Block.{Block, IsBlock, ConsumesFirst, OnlyRingMoves, usable}
-use Rattle.redux_tell.specs.LogGrows.{ReadLogGrows}
-use Rattle.redux_tell.specs.StreamLog.{after_read}
-use Rattle.redux_tell.specs.GivesRemaining.{GivesRemaining}
+use Rattle.redux_buffer.specs.LogGrows.{ReadLogGrows}
+use Rattle.redux_buffer.specs.StreamLog.{after_read}
+use Rattle.redux_buffer.specs.GivesRemaining.{GivesRemaining}
 use Rattle.redux_buffer.specs.Transfer.{ReadsFrom}
-use Rattle.redux_policy.specs.declared.DoRead.{DoRead}
-use Rattle.redux_policy.specs.Policy.{ReadRules, BeforeRead, AfterConsume, no_read, read_now}
+use Rattle.buffer_redux.specs.declared.policy.DoRead.{DoRead}
+use Rattle.buffer_redux.specs.Policy.{ReadRules, BeforeRead, AfterConsume, no_read, read_now}
 use Rattle.buffer_redux.specs.Buffered.{Buffered, GoesPast, StaysInside, GoesDirect}
 use Rattle.buffer_redux.specs.Fill.{Turns, Ordered, Declined, Filled}
 use Rattle.buffer_redux.specs.Sparing.{SparesClaimed}

@@ -5,12 +5,12 @@ use Rattle.std.specs.declared.io.Error.{Error}
 use Rattle.std.specs.declared.io.ErrorKind.TheVariants.{WriteZero, TimedOut}
 use Rattle.std.specs.declared.io.traits.SeekFrom.{SeekFrom}
 use Rattle.redux_buffer.specs.Block.{Block, IsBlock, Extends, MakesRoomInFront, usable}
-use Rattle.redux_tell.specs.LogGrows.{WriteLogGrows}
-use Rattle.redux_tell.specs.StreamLog.{StreamLog, WriteLog, SeekCall, Readies, SeekTells, portion, after_write, after_flush}
-use Rattle.redux_tell.specs.Faults.{IsInterrupt, MetInterrupts, SendErrorCaused}
+use Rattle.redux_buffer.specs.LogGrows.{WriteLogGrows}
+use Rattle.redux_buffer.specs.StreamLog.{StreamLog, WriteLog, SeekCall, Readies, SeekTells, portion, after_write, after_flush}
+use Rattle.redux_buffer.specs.Faults.{IsInterrupt, MetInterrupts, SendErrorCaused}
 use Rattle.redux_buffer.specs.Transfer.{DoesNothing, Sends}
-use Rattle.redux_policy.specs.declared.FlushAmt.{FlushAmt}
-use Rattle.redux_policy.specs.Policy.{WriteRules, BeforeWrite, AfterWrite}
+use Rattle.buffer_redux.specs.declared.policy.FlushAmt.{FlushAmt}
+use Rattle.buffer_redux.specs.Policy.{WriteRules, BeforeWrite, AfterWrite}
 use Rattle.buffer_redux.specs.Buffered.{Buffered, GoesPast, StaysInside, GoesDirect, InnerWent, with_policy}
 
 -- the bytes received since, then those buffered, are those that were buffered, then those accepted

@@ -4,7 +4,7 @@ use Rattle.std.specs.Io.{WritesAtMost}
 use Rattle.std.specs.declared.io.Error.{Error}
 use Rattle.redux_buffer.specs.Block.{Block, Kind, IsNew, IsBlock}
 use Rattle.redux_buffer.specs.GrowError.{FitsWithin}
-use Rattle.redux_tell.specs.StreamLog.{StreamLog, no_calls}
+use Rattle.redux_buffer.specs.StreamLog.{StreamLog, no_calls}
 use Rattle.buffer_redux.specs.declared.errors.MakeError.{MakeError}
 use Rattle.buffer_redux.specs.MakeError.{growth}
 

@@ -3,8 +3,8 @@ use Rattle.std.proofs.Common.{◌≡◌, ℕ, ◌+◌, ◌<◌, ◌≤◌, ◌==
 use Rattle.std.proofs.lemmas.Bool.Decides.{nat_tests}
 use Rattle.std.specs.declared.io.Error.{Error}
 use Rattle.redux_buffer.specs.Block.{Block}
-use Rattle.redux_policy.specs.Policy.{ReadRules, read_now, std_read_rules}
-use Rattle.redux_tell.specs.StreamLog.{zero_of_none}
+use Rattle.buffer_redux.specs.Policy.{ReadRules, read_now, std_read_rules}
+use Rattle.redux_buffer.specs.StreamLog.{zero_of_none}
 use Rattle.buffer_redux.specs.Buffered.{Buffered}
 use Rattle.buffer_redux.specs.Fill.{Dry, Filled}
 use Rattle.buffer_redux.specs.FillLaws.{Turns-gave}

@@ -1,10 +1,10 @@
 -- Under `StdPolicy` a write of nothing sends nothing, so it never fails where there is capacity.
 use Rattle.std.proofs.Common.{◌≡◌, ◌∙◌, ℕ, ◌<◌, List, [], ◌∷◌, ◌++◌, length, Result, Ok, Err, inl, inr, sym, ap, length-append, arith}
 use Rattle.std.specs.declared.io.Error.{Error}
-use Rattle.redux_policy.specs.Policy.{amount_when_full, std_write_rules}
+use Rattle.buffer_redux.specs.Policy.{amount_when_full, std_write_rules}
 use Rattle.redux_buffer.specs.Block.{Block}
-use Rattle.redux_tell.specs.Copy.{TakesNothing}
-use Rattle.redux_tell.specs.StreamLog.{after_write}
+use Rattle.redux_buffer.specs.Copy.{TakesNothing}
+use Rattle.redux_buffer.specs.StreamLog.{after_write}
 use Rattle.buffer_redux.specs.Buffered.{Buffered}
 use Rattle.buffer_redux.specs.BufWriter.{Prepared, TakesIn, Writes}
 use Rattle.buffer_redux.specs.WriterLaws.{ways_in}

@@ -3,7 +3,7 @@ use Rattle.std.specs.Prelude.{◌≡◌, ℕ, ◌<◌, ◌⊎◌, Result, Ok, Er
 use Rattle.std.specs.declared.io.Error.{Error}
 use Rattle.redux_buffer.specs.Block.{Block, usable}
 use Rattle.redux_buffer.specs.Transfer.{ReadsOnce}
-use Rattle.redux_policy.specs.Policy.{ReadRules, BeforeRead, no_read, read_now}
+use Rattle.buffer_redux.specs.Policy.{ReadRules, BeforeRead, no_read, read_now}
 use Rattle.buffer_redux.specs.Buffered.{Buffered}
 
 -- the policy ordered a read and left room

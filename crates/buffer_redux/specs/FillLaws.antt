@@ -1,9 +1,9 @@
 -- What a fill did doesn't hang on what the call that made it carries in its Ok; and what its turns gave.
 use Rattle.std.proofs.Common.{◌≡◌, ℕ, zero, suc, Ok, Err, inl, sym, ap, ◌∙◌}
 use Rattle.std.specs.declared.io.Error.{Error}
-use Rattle.redux_policy.specs.Policy.{ReadRules}
+use Rattle.buffer_redux.specs.Policy.{ReadRules}
 use Rattle.buffer_redux.specs.Buffered.{Buffered}
-use Rattle.redux_tell.specs.StreamLog.{zero_of_some}
+use Rattle.redux_buffer.specs.StreamLog.{zero_of_some}
 use Rattle.buffer_redux.specs.Fill.{Filled, Turns}
 use Rattle.buffer_redux.specs.BufReader.{Fills}
 

@@ -1,8 +1,8 @@
 -- What a step promises that is made again where it was interrupted, as a fill.
 use Rattle.std.specs.Prelude.{◌≡◌, ℕ, ◌≤◌, List, Option, Result, Err, IfErr, zero, suc}
 use Rattle.std.specs.declared.io.Error.{Error}
-use Rattle.redux_tell.specs.Faults.{IsInterrupt}
-use Rattle.redux_policy.specs.Policy.{ReadRules}
+use Rattle.redux_buffer.specs.Faults.{IsInterrupt}
+use Rattle.buffer_redux.specs.Policy.{ReadRules}
 use Rattle.buffer_redux.specs.Buffered.{Buffered}
 use Rattle.buffer_redux.specs.BufReader.{Fills, InnerGives}
 

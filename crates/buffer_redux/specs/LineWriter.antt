@@ -1,6 +1,6 @@
 -- The rules under which a line writer flushes.
-use Rattle.redux_policy.specs.Policy.{WriteRules}
-use Rattle.redux_policy.specs.WriterPolicies.{flush_on_rules}
+use Rattle.buffer_redux.specs.Policy.{WriteRules}
+use Rattle.buffer_redux.specs.WriterPolicies.{flush_on_rules}
 
 -- those of `FlushOnNewline`
 abbrev pub line_rules : {P : Type 0} → WriteRules P

@@ -5,9 +5,9 @@ use Rattle.buffer_redux.specs.BufReader.{Fills, RanDry}
 use Rattle.buffer_redux.specs.Buffered.{Buffered}
 use Rattle.buffer_redux.specs.Fill.{Dry}
 use Rattle.buffer_redux.specs.FillLaws.{Turns-gave}
-use Rattle.redux_policy.specs.MinBuffered.{min_read_rules}
-use Rattle.redux_policy.specs.declared.min_buffered.MinBuffered.{MinBuffered}
-use Rattle.redux_tell.specs.StreamLog.{zero_of_none}
+use Rattle.buffer_redux.specs.MinBuffered.{min_read_rules}
+use Rattle.buffer_redux.specs.declared.policy.min_buffered.MinBuffered.{MinBuffered}
+use Rattle.redux_buffer.specs.StreamLog.{zero_of_none}
 
 -- how often it gave nothing so far
 abbrev empties : {S P : Type 0} → Buffered S P → ℕ

@@ -5,7 +5,7 @@ use Rattle.std.proofs.BufReadLemmas.{take_through-nil, take_through_nonempty}
 use Rattle.std.specs.Global.{Global, Vec}
 use Rattle.std.specs.Io.BufRead.{ends_with_byte, first_line, first_piece, strip_last, take_through, DropsThrough}
 use Rattle.std.specs.Io.KnownBytes.{IsAtEnd}
-use Rattle.redux_policy.specs.Policy.{ReadRules}
+use Rattle.buffer_redux.specs.Policy.{ReadRules}
 use Rattle.buffer_redux.specs.Pieces.{Ended, GivesLine, GivesPiece, GivesWhole, GoesOnWith, Splitting, without_end}
 use Rattle.buffer_redux.specs.Remaining.{reader_remaining}
 use Rattle.buffer_redux.specs.UntilLaws.{ReadsUntil-drops, ReadsUntil-known}

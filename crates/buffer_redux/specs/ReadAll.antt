@@ -4,8 +4,8 @@ use Rattle.std.specs.Io.{ReadsAtMost}
 use Rattle.std.specs.declared.io.Error.{Error}
 use Rattle.std.specs.declared.io.ErrorKind.TheVariants.{UnexpectedEof}
 use Rattle.redux_buffer.specs.Block.{IsBlock}
-use Rattle.redux_tell.specs.StreamLog.{portion, after_read}
-use Rattle.redux_policy.specs.Policy.{ReadRules}
+use Rattle.redux_buffer.specs.StreamLog.{portion, after_read}
+use Rattle.buffer_redux.specs.Policy.{ReadRules}
 use Rattle.buffer_redux.specs.AllBytes.{GoesBy, EndsBy, GaveUp}
 use Rattle.buffer_redux.specs.Buffered.{Buffered, GoesPast, StaysInside, GoesDirect}
 use Rattle.buffer_redux.specs.BufReader.{ReadsInOrder, ReaderKeeps, ReadsBuffered, ReadErrorCaused, EmptyReadCaused, RanDry}

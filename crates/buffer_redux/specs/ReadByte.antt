@@ -1,7 +1,7 @@
 -- What a call promises that hands out one byte.
 use Rattle.std.specs.Prelude.{◌≡◌, ℕ, ◌<◌, List, [], ◌∷◌, length, Result, Ok, Err, Option, None, Some, IsOkAnd}
 use Rattle.std.specs.declared.io.Error.{Error}
-use Rattle.redux_policy.specs.Policy.{ReadRules}
+use Rattle.buffer_redux.specs.Policy.{ReadRules}
 use Rattle.buffer_redux.specs.Buffered.{Buffered}
 use Rattle.buffer_redux.specs.BufReader.{ReaderConsumes, ReadsToEnd}
 use Rattle.buffer_redux.specs.FillRetried.{FillRetried}

@@ -3,8 +3,8 @@ use Rattle.std.specs.Prelude.{◌≡◌, ℕ, List, ◌++◌, length, take, drop
 use Rattle.std.specs.Io.KnownBytes.{IsAtEnd}
 use Rattle.std.specs.declared.io.Error.{Error}
 use Rattle.redux_buffer.specs.Block.{IsBlock}
-use Rattle.redux_policy.specs.declared.DoRead.{DoRead}
-use Rattle.redux_policy.specs.Policy.{ReadRules, BeforeRead}
+use Rattle.buffer_redux.specs.declared.policy.DoRead.{DoRead}
+use Rattle.buffer_redux.specs.Policy.{ReadRules, BeforeRead}
 use Rattle.buffer_redux.specs.Buffered.{Buffered}
 use Rattle.buffer_redux.specs.Fill.{Filled}
 use Rattle.buffer_redux.specs.BufReader.{ReadsInOrder, ReaderKeeps, RanDry, InnerGives, ReaderConsumes}

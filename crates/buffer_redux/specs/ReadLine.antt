@@ -7,7 +7,7 @@ use Rattle.std.specs.declared.io.ErrorKind.TheVariants.{InvalidData, OutOfMemory
 use Rattle.redux_buffer.specs.Block.{usable}
 use Rattle.redux_buffer.specs.GrowError.{GrowthFailed, GrowthRefused}
 use Rattle.redux_buffer.specs.declared.grow_error.GrowError.{GrowError}
-use Rattle.redux_policy.specs.Policy.{ReadRules}
+use Rattle.buffer_redux.specs.Policy.{ReadRules}
 use Rattle.buffer_redux.specs.Buffered.{Buffered}
 use Rattle.buffer_redux.specs.BufReader.{RanDry}
 use Rattle.buffer_redux.specs.FillRetried.{FillRetried, Retried, Step}

@@ -8,10 +8,10 @@ use Rattle.std.specs.Borrow.{Bor}
 use Rattle.std.specs.Io.KnownBytes.{Consumes, Keeps, IsAtEnd, prepend_known}
 use Rattle.std.specs.declared.io.Error.{Error}
 use Rattle.redux_buffer.specs.Block.{Kind}
-use Rattle.redux_tell.specs.GivesRemaining.{GivesRemaining, GivesRemaining-none, GivesRemaining-joins, GivesRemaining-ahead}
-use Rattle.redux_tell.specs.LogGrows.{ReadLogGrows, ReadLogGrows-none, ReadLogGrows-joins}
-use Rattle.redux_tell.specs.StreamLog.{StreamLog}
-use Rattle.redux_policy.specs.Policy.{ReadRules, ReadClaims, std_read_rules}
+use Rattle.redux_buffer.specs.GivesRemaining.{GivesRemaining, GivesRemaining-none, GivesRemaining-joins, GivesRemaining-ahead}
+use Rattle.redux_buffer.specs.LogGrows.{ReadLogGrows, ReadLogGrows-none, ReadLogGrows-joins}
+use Rattle.redux_buffer.specs.StreamLog.{StreamLog}
+use Rattle.buffer_redux.specs.Policy.{ReadRules, ReadClaims, std_read_rules}
 use Rattle.buffer_redux.specs.Buffered.{Buffered, IsMade}
 use Rattle.buffer_redux.specs.BufReader.{ReadsInOrder, InnerGives, RanDry, LooksAhead, FillsToMinimum, Fills, FillBuf, ReaderConsumes, ReaderKeeps, ReadsAlong, ReadsToEnd}
 use Rattle.buffer_redux.specs.Remaining.{ahead, wants_some, may_stop, reader_remaining}

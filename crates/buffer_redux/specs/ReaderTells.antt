@@ -4,10 +4,10 @@ use Rattle.std.proofs.Common.{refl, sym, ap, subst, ◌∙◌, arith, le_refl, l
 use Rattle.std.specs.Borrow.{Bor}
 use Rattle.std.specs.declared.io.Error.{Error}
 use Rattle.std.proofs.lemmas.List.{append_cancel_left}
-use Rattle.redux_tell.specs.Faults.{OnlyInterrupts, FaultAfterInterrupts}
-use Rattle.redux_tell.specs.StreamLog.{StreamLog, FillTells, Readies, with_shown, after_shown, after_fill_fault}
-use Rattle.redux_tell.specs.LogGrows.{ReadLogGrows, ReadLogGrows-none, ReadLogGrows-joins, FillLogGrows, FillLogGrows-none, FillLogGrows-joins, FillsGoOn, FillsGoOn-of}
-use Rattle.redux_policy.specs.Policy.{ReadRules, ClaimsToSpare}
+use Rattle.redux_buffer.specs.Faults.{OnlyInterrupts, FaultAfterInterrupts}
+use Rattle.redux_buffer.specs.StreamLog.{StreamLog, FillTells, Readies, with_shown, after_shown, after_fill_fault}
+use Rattle.redux_buffer.specs.LogGrows.{ReadLogGrows, ReadLogGrows-none, ReadLogGrows-joins, FillLogGrows, FillLogGrows-none, FillLogGrows-joins, FillsGoOn, FillsGoOn-of}
+use Rattle.buffer_redux.specs.Policy.{ReadRules, ClaimsToSpare}
 use Rattle.buffer_redux.specs.Buffered.{Buffered}
 use Rattle.buffer_redux.specs.BufReader.{Fills, ReadsInOrder, InnerGives}
 use Rattle.buffer_redux.specs.Sparing.{SparesClaimed, Spared-none, Spared-joins}

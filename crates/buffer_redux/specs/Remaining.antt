@@ -1,7 +1,7 @@
 -- The bytes that a buffered reader is known to have left.
 use Rattle.std.specs.Prelude.{ℕ, Bool, false, not, ◌||◌, ◌==◌, nat_lt, if◌then◌else◌, List, Option, None, Some}
 use Rattle.std.specs.Io.KnownBytes.{prepend_known}
-use Rattle.redux_policy.specs.Policy.{ReadRules}
+use Rattle.buffer_redux.specs.Policy.{ReadRules}
 use Rattle.buffer_redux.specs.Buffered.{Buffered}
 
 -- the buffered bytes, and then those that the reader inside is known to have left

@@ -2,7 +2,7 @@
 use Rattle.std.specs.Prelude.{◌≡◌, ℕ, ◌<◌, ◌==◌, ◌||◌, ◌⊎◌, not, Bool, Option, None, Some, true, false}
 use Rattle.std.proofs.Common.{zero, suc, refl, arith, inl, inr}
 use Rattle.std.proofs.lemmas.Bool.{not-false}
-use Rattle.redux_policy.specs.Policy.{ReadRules}
+use Rattle.buffer_redux.specs.Policy.{ReadRules}
 use Rattle.buffer_redux.specs.Buffered.{Buffered}
 use Rattle.buffer_redux.specs.ReaderLaws.{WantsSome, WantsBytes}
 use Rattle.buffer_redux.specs.Remaining.{may_stop, wants_some}

@@ -6,7 +6,7 @@ use Rattle.std.specs.declared.io.ErrorKind.TheVariants.{InvalidData}
 use Rattle.std.specs.declared.io.traits.SeekFrom.{SeekFrom}
 use Rattle.std.specs.declared.io.traits.SeekFrom.TheVariants.{Start, End, Current}
 use Rattle.redux_buffer.specs.Block.{Clears, ConsumesFirst}
-use Rattle.redux_tell.specs.StreamLog.{Readies, SeekTells}
+use Rattle.redux_buffer.specs.StreamLog.{Readies, SeekTells}
 use Rattle.buffer_redux.specs.declared.buf_reader.seek.SeekPlan.{SeekPlan}
 use Rattle.buffer_redux.specs.declared.buf_reader.seek.SeekPlan.TheVariants.{One, Two}
 use Rattle.buffer_redux.specs.Buffered.{Buffered, with_block}

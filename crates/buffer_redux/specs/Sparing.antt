@@ -6,8 +6,8 @@ use Rattle.std.specs.declared.io.traits.SeekFrom.{SeekFrom}
 use Rattle.redux_buffer.specs.Block.{Block, Plain, IsBlock, Reserves, usable}
 use Rattle.redux_buffer.specs.GrowError.{GrowthFailed}
 use Rattle.redux_buffer.specs.Potential.{potential, of_plain}
-use Rattle.redux_policy.specs.Policy.{ReadRules, ClaimsToSpare}
-use Rattle.redux_tell.specs.StreamLog.{Readies, StreamLog}
+use Rattle.buffer_redux.specs.Policy.{ReadRules, ClaimsToSpare}
+use Rattle.redux_buffer.specs.StreamLog.{Readies, StreamLog}
 use Rattle.buffer_redux.specs.Buffered.{Buffered, with_block, with_calls, with_policy}
 use Rattle.buffer_redux.specs.Seek.{plan_for, Seeks}
 

@@ -4,7 +4,7 @@ use Rattle.std.specs.Io.{ReadsAtMost}
 use Rattle.std.specs.Io.KnownBytes.{prepend_known}
 use Rattle.std.specs.declared.io.Error.{Error}
 use Rattle.redux_buffer.specs.Block.{Block}
-use Rattle.redux_tell.specs.StreamLog.{StreamLog, after_read}
+use Rattle.redux_buffer.specs.StreamLog.{StreamLog, after_read}
 use Rattle.buffer_redux.specs.Buffered.{Buffered}
 
 -- the bytes that are left of the buffer, the reader inside, and what that reader tells

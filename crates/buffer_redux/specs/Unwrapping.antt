@@ -3,8 +3,8 @@ use Rattle.std.specs.Prelude.{◌≡◌, [], length, Result, MatchResult}
 use Rattle.std.specs.Borrow.{MutBor}
 use Rattle.std.specs.declared.io.Error.{Error}
 use Rattle.redux_buffer.specs.Block.{Block, Clears}
-use Rattle.redux_tell.specs.Faults.{SendErrorCaused}
-use Rattle.redux_tell.specs.StreamLog.{StreamLog}
+use Rattle.redux_buffer.specs.Faults.{SendErrorCaused}
+use Rattle.redux_buffer.specs.StreamLog.{StreamLog}
 use Rattle.redux_buffer.specs.Transfer.{Sends}
 use Rattle.buffer_redux.specs.Buffered.{Buffered, InnerWent, with_block, with_inner}
 use Rattle.buffer_redux.specs.BufWriter.{WritesInOrder, WasFlushed}

@@ -4,9 +4,9 @@ use Rattle.std.specs.IoError.{error_kind}
 use Rattle.std.specs.declared.io.Error.{Error}
 use Rattle.std.specs.declared.io.ErrorKind.TheVariants.{WriteZero}
 use Rattle.redux_buffer.specs.Block.{IsBlock}
-use Rattle.redux_tell.specs.StreamLog.{StreamLog}
-use Rattle.redux_policy.specs.declared.FlushAmt.{FlushAmt}
-use Rattle.redux_policy.specs.Policy.{WriteRules, BeforeWrite}
+use Rattle.redux_buffer.specs.StreamLog.{StreamLog}
+use Rattle.buffer_redux.specs.declared.policy.FlushAmt.{FlushAmt}
+use Rattle.buffer_redux.specs.Policy.{WriteRules, BeforeWrite}
 use Rattle.buffer_redux.specs.AllBytes.{GoesBy, EndsBy, GaveUp}
 use Rattle.buffer_redux.specs.Buffered.{Buffered, InnerWent}
 use Rattle.buffer_redux.specs.BufWriter.{WritesInOrder, Writes, Wrote, WriterKeeps, WriteErrorCaused, WriteRefused, NoSpace, EmptyWriteCaused, WritesSteadily, WriterStopped}

@@ -9,10 +9,10 @@ use Rattle.std.specs.declared.io.Error.{Error}
 use Rattle.std.specs.declared.io.ErrorKind.TheVariants.{WriteZero}
 use Rattle.redux_buffer.specs.Block.{Block}
 use Rattle.redux_buffer.specs.Transfer.{Sends}
-use Rattle.redux_tell.specs.Faults.{OnlyInterrupted, OnlyInterrupted-none, MetInterrupts, TookNothing}
-use Rattle.redux_tell.specs.StreamLog.{StreamLog, WriteLog, with_zero, zero_of_some, zero_of_none}
-use Rattle.redux_policy.specs.declared.FlushAmt.{FlushAmt}
-use Rattle.redux_policy.specs.Policy.{WriteRules}
+use Rattle.redux_buffer.specs.Faults.{OnlyInterrupted, OnlyInterrupted-none, MetInterrupts, TookNothing}
+use Rattle.redux_buffer.specs.StreamLog.{StreamLog, WriteLog, with_zero, zero_of_some, zero_of_none}
+use Rattle.buffer_redux.specs.declared.policy.FlushAmt.{FlushAmt}
+use Rattle.buffer_redux.specs.Policy.{WriteRules}
 use Rattle.buffer_redux.specs.Buffered.{Buffered, GoesPast, StaysInside, InnerWent}
 use Rattle.buffer_redux.specs.BufWriter.{WritesInOrder, FlushesAmount, Wrote}
 

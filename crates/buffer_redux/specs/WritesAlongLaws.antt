@@ -6,14 +6,14 @@ use Rattle.std.proofs.lemmas.List.{append_cancel_left}
 use Rattle.std.specs.Io.KnownBytes.{Appends}
 use Rattle.std.specs.IoError.{error_kind}
 use Rattle.std.specs.declared.io.Error.{Error}
-use Rattle.redux_tell.specs.Faults.{FaultedAfter, IsInterrupt, IsMemory, SendErrorCaused, TookNothing}
-use Rattle.redux_tell.specs.LogGrows.{WriteLogGrows, WriteLogGrows-none, WriteLogGrows-joins, WritesGoOn}
-use Rattle.redux_tell.specs.Memory.{fault-memory, send-memory, writer-takes_some, writer_log}
-use Rattle.redux_tell.specs.StreamLog.{StreamLog, WriteLog, portion}
-use Rattle.redux_tell.specs.Told.{ToldWrites, told_log, told_stream}
-use Rattle.redux_tell.specs.declared.tell.memory.MemoryWriter.{MemoryWriter}
-use Rattle.redux_tell.specs.declared.tell.told.Told.{Told}
-use Rattle.redux_policy.specs.Policy.{WriteRules}
+use Rattle.redux_buffer.specs.Faults.{FaultedAfter, IsInterrupt, IsMemory, SendErrorCaused, TookNothing}
+use Rattle.redux_buffer.specs.LogGrows.{WriteLogGrows, WriteLogGrows-none, WriteLogGrows-joins, WritesGoOn}
+use Rattle.redux_buffer.specs.Memory.{fault-memory, send-memory, writer-takes_some, writer_log}
+use Rattle.redux_buffer.specs.StreamLog.{StreamLog, WriteLog, portion}
+use Rattle.redux_buffer.specs.Told.{ToldWrites, told_log, told_stream}
+use Rattle.redux_buffer.specs.declared.tell.memory.MemoryWriter.{MemoryWriter}
+use Rattle.redux_buffer.specs.declared.tell.told.Told.{Told}
+use Rattle.buffer_redux.specs.Policy.{WriteRules}
 use Rattle.buffer_redux.specs.Buffered.{Buffered, InnerWent}
 use Rattle.buffer_redux.specs.BufWriter.{WritesInOrder, WriterKeeps, WriterFailed, WasSent, WasFlushed, WriteErrorCaused, WriteRefused, WritesSteadily, WritesAlong, FlushedAlong, WasInterrupted, WriterStopped, StoppedAlong, AllAlong, AllFlushed}
 use Rattle.buffer_redux.specs.WriteAll.{WritesAll, WritesAllSteadily}

@@ -10,6 +10,7 @@ mod buf_reader;
 mod buf_writer;
 mod errors;
 mod line_writer;
+pub mod policy;
 mod unbuffer;
 
 pub use buf_reader::{BufReader, Lines, SeekPlan, Split, seek_plan};
@@ -20,5 +21,4 @@ pub use redux_buffer::{
     BufImpl, Buffer, Count, DEFAULT_BUF_SIZE, GrowError, INTERRUPT_LIMIT, MAX_CAPACITY, MAX_RING,
     RING_UNIT, RawBuf, SliceDequeBuf, StdBuf, add_total, copy_buf, copy_turn, script, tell,
 };
-pub use redux_policy as policy;
 pub use unbuffer::Unbuffer;

@@ -6,7 +6,7 @@ ghost use Rattle.std.specs.Io.KnownBytes.{Appends, Keeps, WriteAppends};
 ghost use Rattle.std.specs.IoError.{error_kind};
 ghost use Rattle.redux_buffer.specs.Block.{Plain, Ring, IsBlock, Reserves, capacity_for, round, usable};
 ghost use Rattle.redux_buffer.specs.GrowError.{FitsWithin};
-ghost use Rattle.redux_tell.specs.StreamLog.{portion};
+ghost use Rattle.redux_buffer.specs.StreamLog.{portion};
 ghost use Rattle.buffer_redux.specs.contracts.line_writer.LineWriter.{the_row};
 ghost use Rattle.buffer_redux.specs.Buffered.{over_buffer, with_block, with_inner, InnerWent, Makes};
 ghost use Rattle.buffer_redux.specs.BufWriter.{writer_contents, Writes, WritesSteadily, WritesInOrder, WriterKeeps, WriteErrorCaused, EmptyWriteCaused, WasSent, WasFlushed};
@@ -19,9 +19,9 @@ mod tells;
 
 use crate::buf_writer::BufWriter;
 use crate::errors::{IntoInnerError, MakeError};
+use crate::policy::FlushOnNewline;
+use redux_buffer::tell::TellWrite;
 use redux_buffer::{Buffer, DEFAULT_BUF_SIZE, GrowError};
-use redux_policy::FlushOnNewline;
-use redux_tell::tell::TellWrite;
 use std::alloc::Global;
 use std::fmt::Display;
 use std::io;
@@ -45,7 +45,7 @@ pub struct LineWriter<W: TellWrite> {
 // It is seen as the writer that it is, so that all that is said of one is said of the other in the same words.
 impl<W: TellWrite> Model for LineWriter<W> {
     ghost use Rattle.buffer_redux.specs.Buffered.{Buffered};
-    ghost use Rattle.redux_policy.specs.declared.writers.FlushOnNewline.{FlushOnNewline};
+    ghost use Rattle.buffer_redux.specs.declared.policy.writers.FlushOnNewline.{FlushOnNewline};
 
     ghost Value = { Buffered W FlushOnNewline };
 

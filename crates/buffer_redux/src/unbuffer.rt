@@ -2,13 +2,13 @@
 ghost use Rattle.std.specs.Prelude.{◌≡◌, ◌==◌, ◌<◌, length};
 ghost use Rattle.std.specs.Io.{ReadsAtMost};
 ghost use Rattle.std.specs.Io.KnownBytes.{ReadConsumes};
-ghost use Rattle.redux_tell.specs.LogGrows.{ReadLogGrows};
-ghost use Rattle.redux_tell.specs.StreamLog.{portion};
+ghost use Rattle.redux_buffer.specs.LogGrows.{ReadLogGrows};
+ghost use Rattle.redux_buffer.specs.StreamLog.{portion};
 ghost use Rattle.buffer_redux.specs.Unbuffer.{unbuffered, unbuffer_remaining, HandsOutInOrder, HandsOutLeft, AsksReader};
 
 use crate::buf_reader::BufReader;
 use redux_buffer::Buffer;
-use redux_tell::tell::{Tell, TellRead};
+use redux_buffer::tell::{Tell, TellRead};
 use std::io::Read;
 use std::marker::Model;
 use std::{fmt, io};

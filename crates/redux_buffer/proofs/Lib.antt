@@ -1,3 +1,5 @@
+pub mod Turning
+pub mod Walks
 pub mod Ranges
 pub mod Loans
 pub mod Cleared

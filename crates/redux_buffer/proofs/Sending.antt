@@ -7,8 +7,8 @@ use Rattle.std.specs.IoError.{error_kind}
 use Rattle.std.specs.declared.io.Error.{Error}
 use Rattle.std.specs.declared.io.ErrorKind.TheVariants.{WriteZero}
 use Rattle.redux_buffer.specs.Block.{Block, ConsumesFirst, OnlyRingMoves}
-use Rattle.redux_tell.specs.StreamLog.{StreamLog, portion, with_fault, with_short, with_zero, after_write, zero_of_some, zero_of_none, short_of_less, short_of_all}
-use Rattle.redux_tell.specs.Faults.{IsInterrupt, OnlyInterrupted, OnlyInterrupted-none, OnlyInterrupted-joins, TookNothing-after, FaultedAfter-after}
+use Rattle.redux_buffer.specs.StreamLog.{StreamLog, portion, with_fault, with_short, with_zero, after_write, zero_of_some, zero_of_none, short_of_less, short_of_all}
+use Rattle.redux_buffer.specs.Faults.{IsInterrupt, OnlyInterrupted, OnlyInterrupted-none, OnlyInterrupted-joins, TookNothing-after, FaultedAfter-after}
 use Rattle.redux_buffer.specs.Transfer.{OnlyWrites, WritesRetried, WholeWrites, Sent, Sends}
 use Rattle.redux_buffer.proofs.Steps.{OnlyRingMoves-joins, ConsumesFirst-joins}
 

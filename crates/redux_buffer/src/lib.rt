@@ -1,27 +1,30 @@
-//! Buffers of bytes, plain and ring.
+//! Buffers of bytes, plain and ring; the streams that fill and drain them, which tell, in their contracts alone, what they
+//! were asked and what they answered; scripted streams for tests; and copying from one stream to another.
 //!
-//! Every name of `redux_tell`, the streams that fill and drain them, is handed on, and the crate `buffer_redux` hands on
-//! every name of this one.
+//! The crate `buffer_redux` hands on every name of this one.
 #![tactic(auto)]
 
 pub use buf_impl::BufImpl;
 pub use buffer::Buffer;
+pub use copy::{add_total, copy_buf, copy_turn};
 pub use count::Count;
 pub use grow_error::GrowError;
 pub use raw_buf::RawBuf;
-pub use redux_tell::{INTERRUPT_LIMIT, add_total, copy_buf, copy_turn, script, tell};
 pub use slice_deque_buf::SliceDequeBuf;
 pub use std_buf::StdBuf;
 
 mod buf_impl;
 mod buffer;
+mod copy;
 mod count;
 mod grow_error;
 pub mod laws;
 mod raw_buf;
+pub mod script;
 mod slice_deque_buf;
 mod std_buf;
 mod tail_span;
+pub mod tell;
 
 /// The capacity in bytes of a buffer that is made without one.
 pub const DEFAULT_BUF_SIZE: usize = 8192;
@@ -34,3 +37,6 @@ pub const MAX_CAPACITY: usize = 1 << 62;
 
 /// The greatest capacity of a ring, in bytes.
 pub const MAX_RING: usize = 1 << 61;
+
+/// How many `Interrupted` in a row a sending or copying call retries.
+pub const INTERRUPT_LIMIT: u32 = 64;

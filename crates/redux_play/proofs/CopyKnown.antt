@@ -3,12 +3,12 @@ use Rattle.std.proofs.Common.{◌≡◌, ℕ, List, ◌++◌, length, Option, Re
 use Rattle.std.proofs.lemmas.Bool.{cases_lt}
 use Rattle.std.proofs.lemmas.List.{append_cancel_left, nil_from_length}
 use Rattle.std.specs.declared.io.Error.{Error}
-use Rattle.redux_tell.specs.StreamLog.{StreamLog, WriteLog, zero_of_none}
-use Rattle.redux_policy.specs.Policy.{ReadRules}
+use Rattle.redux_buffer.specs.StreamLog.{StreamLog, WriteLog, zero_of_none}
+use Rattle.buffer_redux.specs.Policy.{ReadRules}
 use Rattle.buffer_redux.specs.Buffered.{Buffered}
 use Rattle.buffer_redux.specs.ReaderLaws.{ReadsInOrder-ahead, remaining_gives, IfSome-unless, handed_all, IfSome-any}
 use Rattle.buffer_redux.specs.ReaderTells.{reader_log, ReaderWent}
-use Rattle.redux_tell.specs.Copy.{MovedBy, CopyEnded, MovesKnown, ReceivesAll}
+use Rattle.redux_buffer.specs.Copy.{MovedBy, CopyEnded, MovesKnown, ReceivesAll}
 use Rattle.buffer_redux.specs.Remaining.{ahead, may_stop, reader_remaining}
 use Rattle.buffer_redux.specs.RemainingLaws.{may_stop-false}
 

@@ -3,8 +3,8 @@ use Rattle.std.proofs.Common.{◌≡◌, ℕ, List, ◌++◌, Option, Result, Ok
 use Rattle.std.proofs.lemmas.List.{append_cancel_left}
 use Rattle.std.specs.Io.KnownBytes.{Appends}
 use Rattle.std.specs.declared.io.Error.{Error}
-use Rattle.redux_tell.specs.declared.tell.told.Told.{Told}
-use Rattle.redux_tell.specs.Told.{told_stream, told_log, ToldWrites}
+use Rattle.redux_buffer.specs.declared.tell.told.Told.{Told}
+use Rattle.redux_buffer.specs.Told.{told_stream, told_log, ToldWrites}
 use Rattle.buffer_redux.specs.Buffered.{Buffered, InnerWent}
 use Rattle.buffer_redux.specs.BufWriter.{IsFlushed}
 

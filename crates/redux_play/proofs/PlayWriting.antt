@@ -1,10 +1,10 @@
 -- Runs of a writer go on by one step, and accept what their steps do; and no call consumes more than it sends.
 use Rattle.std.proofs.Common.{◌≡◌, ℕ, ◌<◌, Bool, List, [], ◌∷◌, ◌++◌, length, take, refl, sym, subst, ◌∙◌, arith}
 use Rattle.std.specs.Prelude.{MatchBool}
-use Rattle.redux_tell.specs.LogGrows.{WriteLogGrows-none, WriteLogGrows-joins}
+use Rattle.redux_buffer.specs.LogGrows.{WriteLogGrows-none, WriteLogGrows-joins}
 use Rattle.redux_play.specs.declared.play.WriterCall.{WriterCall}
 use Rattle.redux_play.specs.declared.play.WriterAnswer.{WriterAnswer}
-use Rattle.redux_policy.specs.Policy.{WriteRules}
+use Rattle.buffer_redux.specs.Policy.{WriteRules}
 use Rattle.buffer_redux.specs.Buffered.{Buffered}
 use Rattle.buffer_redux.specs.WriterLaws.{WritesInOrder-none, WritesInOrder-joins}
 use Rattle.redux_play.specs.PlayWriter.{Accepts, WriterStep, WriterRuns, WriterPlays, accepted_bytes, bytes_accepted_by}

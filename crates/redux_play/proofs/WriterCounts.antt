@@ -5,9 +5,9 @@ use Rattle.std.proofs.lemmas.Bool.{cases_lt}
 use Rattle.std.proofs.lemmas.List.{length-take}
 use Rattle.std.specs.declared.io.Error.{Error}
 use Rattle.redux_buffer.specs.Block.{Block, usable}
-use Rattle.redux_tell.specs.StreamLog.{StreamLog, portion, after_write, after_flush}
+use Rattle.redux_buffer.specs.StreamLog.{StreamLog, portion, after_write, after_flush}
 use Rattle.redux_buffer.specs.Transfer.{Sends}
-use Rattle.redux_policy.specs.Policy.{WriteRules}
+use Rattle.buffer_redux.specs.Policy.{WriteRules}
 use Rattle.buffer_redux.specs.Buffered.{Buffered, GoesDirect, with_policy}
 use Rattle.buffer_redux.specs.BufWriter.{FlushesAmount, CopiesIn, TakesIn, Prepared, Finished, Writes, Flushes}
 use Rattle.buffer_redux.specs.WriterLaws.{flush_ways, ways_in}

@@ -6,13 +6,13 @@ use Rattle.std.specs.declared.io.Error.{Error}
 use Rattle.std.specs.declared.io.ErrorKind.{ErrorKind}
 use Rattle.redux_buffer.specs.Block.{LeavesBytes}
 use Rattle.redux_buffer.specs.GrowError.{GrowthRefused}
-use Rattle.redux_tell.specs.LogGrows.{ReadLogGrows}
+use Rattle.redux_buffer.specs.LogGrows.{ReadLogGrows}
 use Rattle.redux_buffer.specs.Transfer.{ReadsFrom}
 use Rattle.redux_play.specs.declared.play.ReaderCall.{ReaderCall}
 use Rattle.redux_play.specs.declared.play.ReaderCall.TheVariants.{Read, Fill, Consume, ReadIntoBuf, MakeRoom, Reserve}
 use Rattle.redux_play.specs.declared.play.ReaderAnswer.{ReaderAnswer}
 use Rattle.redux_play.specs.declared.play.ReaderAnswer.TheVariants.{Count, Shown, Done, Fault, Refused}
-use Rattle.redux_policy.specs.Policy.{ReadRules}
+use Rattle.buffer_redux.specs.Policy.{ReadRules}
 use Rattle.buffer_redux.specs.Buffered.{Buffered}
 use Rattle.buffer_redux.specs.Fill.{Filled}
 use Rattle.buffer_redux.specs.BufReader.{ReadsInOrder, ReadErrorCaused, EmptyReadCaused, EmptyFillCaused, ReaderConsumes}

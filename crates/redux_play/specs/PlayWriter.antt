@@ -4,13 +4,13 @@ use Rattle.std.specs.IoError.{error_kind}
 use Rattle.std.specs.declared.io.Error.{Error}
 use Rattle.std.specs.declared.io.ErrorKind.{ErrorKind}
 use Rattle.redux_buffer.specs.GrowError.{GrowthRefused}
-use Rattle.redux_tell.specs.Faults.{SendErrorCaused}
-use Rattle.redux_tell.specs.LogGrows.{WriteLogGrows}
+use Rattle.redux_buffer.specs.Faults.{SendErrorCaused}
+use Rattle.redux_buffer.specs.LogGrows.{WriteLogGrows}
 use Rattle.redux_play.specs.declared.play.WriterCall.{WriterCall}
 use Rattle.redux_play.specs.declared.play.WriterCall.TheVariants.{Write, Flush, MakeRoom, Reserve}
 use Rattle.redux_play.specs.declared.play.WriterAnswer.{WriterAnswer}
 use Rattle.redux_play.specs.declared.play.WriterAnswer.TheVariants.{Count, Done, Fault, Refused}
-use Rattle.redux_policy.specs.Policy.{WriteRules}
+use Rattle.buffer_redux.specs.Policy.{WriteRules}
 use Rattle.buffer_redux.specs.Buffered.{Buffered}
 use Rattle.buffer_redux.specs.BufWriter.{WritesInOrder, WriteErrorCaused, EmptyWriteCaused, Writes, Flushes, IsFlushed}
 use Rattle.redux_play.specs.PlayRoom.{RoomMade, ReserveDone}

@@ -5,11 +5,11 @@ use Rattle.std.proofs.lemmas.Bool.{cases_lt}
 use Rattle.std.proofs.lemmas.List.{get_or-drop}
 use Rattle.std.specs.declared.io.Error.{Error}
 use Rattle.redux_buffer.specs.Block.{Block}
-use Rattle.redux_policy.specs.declared.FlushAmt.{FlushAmt}
-use Rattle.redux_policy.specs.Policy.{WriteRules, std_before_write}
+use Rattle.buffer_redux.specs.declared.policy.FlushAmt.{FlushAmt}
+use Rattle.buffer_redux.specs.Policy.{WriteRules, std_before_write}
 use Rattle.buffer_redux.specs.Buffered.{Buffered, with_policy}
 use Rattle.buffer_redux.specs.BufWriter.{FlushesAmount, TakesIn, Prepared, Wrote, Writes}
-use Rattle.redux_policy.specs.WriterPolicies.{at_least_before_write, at_least_rules, exact_before_write, exact_rules, flush_on_rules}
+use Rattle.buffer_redux.specs.WriterPolicies.{at_least_before_write, at_least_rules, exact_before_write, exact_rules, flush_on_rules}
 use Rattle.buffer_redux.specs.WriterLaws.{flush_ways, ways_in}
 use Rattle.redux_play.specs.WroteExactly.{EachTook, Wrote-left, Wrote-took}
 

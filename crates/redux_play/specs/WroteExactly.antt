@@ -4,9 +4,9 @@ use Rattle.std.proofs.Common.{refl, sym, ap, subst, ◌∙◌, arith, rules, inl
 use Rattle.std.proofs.lemmas.Bool.{cases_lt, lt-ltb, le-ltb}
 use Rattle.std.specs.declared.io.Error.{Error}
 use Rattle.redux_buffer.specs.Block.{Block, usable}
-use Rattle.redux_tell.specs.Faults.{SendErrorCaused}
-use Rattle.redux_tell.specs.StreamLog.{WriteLog, after_write, with_zero}
-use Rattle.redux_policy.specs.Policy.{WriteRules}
+use Rattle.redux_buffer.specs.Faults.{SendErrorCaused}
+use Rattle.redux_buffer.specs.StreamLog.{WriteLog, after_write, with_zero}
+use Rattle.buffer_redux.specs.Policy.{WriteRules}
 use Rattle.buffer_redux.specs.Buffered.{Buffered, GoesPast, StaysInside, with_policy}
 use Rattle.buffer_redux.specs.BufWriter.{FlushesAmount, CopiesIn, Wrote, WriteFaulted, Writes}
 use Rattle.buffer_redux.specs.WriterLaws.{flush_ways, ways_in, FlushesAmount-met}

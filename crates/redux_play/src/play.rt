@@ -11,11 +11,11 @@ mod reading;
 mod record;
 mod writing;
 
+use buffer_redux::policy::{ReaderPolicy, WriterPolicy};
 use buffer_redux::{BufReader, BufWriter};
 use record::record;
 use redux_buffer::GrowError;
-use redux_policy::{ReaderPolicy, WriterPolicy};
-use redux_tell::tell::{TellRead, TellWrite};
+use redux_buffer::tell::{TellRead, TellWrite};
 use std::alloc::{AllocError, Global};
 use std::io::ErrorKind;
 

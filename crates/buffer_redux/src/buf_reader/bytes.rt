@@ -7,8 +7,8 @@ ghost use Rattle.buffer_redux.specs.Peek.{Peeks, ReadsAhead};
 ghost use Rattle.buffer_redux.specs.ReadByte.{FillsAndTakes, ReadsByte, TakesFirst};
 
 use crate::buf_reader::BufReader;
-use redux_policy::ReaderPolicy;
-use redux_tell::tell::TellRead;
+use crate::policy::ReaderPolicy;
+use redux_buffer::tell::TellRead;
 use std::io;
 use std::io::BufRead;
 

@@ -11,9 +11,9 @@ ghost use Rattle.buffer_redux.specs.Remaining.{reader_remaining};
 
 use crate::buf_reader::BufReader;
 use crate::buf_reader::until::first_of;
+use crate::policy::ReaderPolicy;
+use redux_buffer::tell::TellRead;
 use redux_buffer::{GrowError, INTERRUPT_LIMIT};
-use redux_policy::ReaderPolicy;
-use redux_tell::tell::TellRead;
 use std::alloc::Allocator;
 use std::io::{BufRead, ErrorKind};
 use std::{io, str};

@@ -7,8 +7,8 @@ ghost use Rattle.std.specs.declared.io.ErrorKind.TheVariants.{InvalidData};
 ghost use Rattle.buffer_redux.specs.Pieces.{begins, without_end, Gives, GivesLine, GivesPiece};
 
 use crate::buf_reader::BufReader;
-use redux_policy::{ReaderPolicy, StdPolicy};
-use redux_tell::tell::TellRead;
+use crate::policy::{ReaderPolicy, StdPolicy};
+use redux_buffer::tell::TellRead;
 use std::alloc::Global;
 use std::io::ErrorKind;
 use std::marker::Model;

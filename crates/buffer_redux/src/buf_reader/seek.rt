@@ -3,12 +3,12 @@ ghost use Rattle.std.specs.Prelude.{◌≡◌, ℕ, ◌^◌, ◌≤◌, length, 
 ghost use Rattle.std.specs.Io.KnownBytes.{Keeps};
 ghost use Rattle.std.specs.Io.Seek.{MovesBy, SeekMoves, StaysAt};
 ghost use Rattle.redux_buffer.specs.Block.{IsBlock};
-ghost use Rattle.redux_tell.specs.StreamLog.{with_fault};
+ghost use Rattle.redux_buffer.specs.StreamLog.{with_fault};
 ghost use Rattle.buffer_redux.specs.Seek.{plan_for, reader_position, AsksPlace, GoesOnWithin, Seeks, SeeksBy, SeeksFar, SeeksOnce, SeekLeaves};
 ghost use Rattle.buffer_redux.specs.Sparing.{Spared};
 
 use crate::buf_reader::BufReader;
-use redux_tell::tell::TellSeek;
+use redux_buffer::tell::TellSeek;
 use std::io;
 use std::io::{ErrorKind, Seek, SeekFrom};
 

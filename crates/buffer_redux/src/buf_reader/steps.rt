@@ -8,12 +8,12 @@ ghost use Rattle.buffer_redux.specs.BufReader.{InnerGives, RanDry, ReaderConsume
 ghost use Rattle.buffer_redux.specs.Fill.{Filled};
 ghost use Rattle.buffer_redux.specs.ReadAll.{OneRead, ReadsExactly};
 ghost use Rattle.buffer_redux.specs.ReadInside.{AskedRead, FillDone, HandOut, ReadsInside};
-ghost use Rattle.redux_policy.specs.Policy.{read_now};
+ghost use Rattle.buffer_redux.specs.Policy.{read_now};
 
 use crate::all_bytes::further;
 use crate::buf_reader::BufReader;
-use redux_policy::ReaderPolicy;
-use redux_tell::tell::TellRead;
+use crate::policy::ReaderPolicy;
+use redux_buffer::tell::TellRead;
 use std::io;
 use std::io::{ErrorKind, Read};
 

@@ -5,7 +5,7 @@ ghost use Rattle.std.specs.Io.BufRead.{Rests};
 ghost use Rattle.std.specs.Io.KnownBytes.{Keeps};
 ghost use Rattle.std.specs.Io.Seek.{SeekMoves};
 ghost use Rattle.redux_buffer.specs.Block.{IsBlock};
-ghost use Rattle.redux_tell.specs.StreamLog.{after_consume, SeekTells};
+ghost use Rattle.redux_buffer.specs.StreamLog.{after_consume, SeekTells};
 ghost use Rattle.buffer_redux.specs.contracts.buf_reader.BufReader.{the_row};
 ghost use Rattle.buffer_redux.specs.BufReader.{ReaderConsumes};
 ghost use Rattle.buffer_redux.specs.Buffered.{with_calls};
@@ -14,8 +14,8 @@ ghost use Rattle.buffer_redux.specs.ReaderTells.{reader_log, after_fill, drops_s
 ghost use Rattle.buffer_redux.specs.Seek.{plan_for, reader_position, Seeks};
 
 use crate::buf_reader::BufReader;
-use redux_policy::ReaderPolicy;
-use redux_tell::tell::{Call, Tell, TellBufRead, TellRead, TellSeek};
+use crate::policy::ReaderPolicy;
+use redux_buffer::tell::{Call, Tell, TellBufRead, TellRead, TellSeek};
 use std::io;
 use std::io::{BufRead, Seek, SeekFrom};
 

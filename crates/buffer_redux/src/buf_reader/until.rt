@@ -8,10 +8,10 @@ ghost use Rattle.buffer_redux.specs.ReadUntil.{AppendsFirst, FirstAt, Lacks, Rea
 ghost use Rattle.buffer_redux.specs.Remaining.{reader_remaining};
 
 use crate::buf_reader::BufReader;
+use crate::policy::ReaderPolicy;
 use memchr::memchr;
 use redux_buffer::INTERRUPT_LIMIT;
-use redux_policy::ReaderPolicy;
-use redux_tell::tell::TellRead;
+use redux_buffer::tell::TellRead;
 use std::alloc::Allocator;
 use std::io;
 use std::io::{BufRead, ErrorKind};

@@ -8,8 +8,8 @@ ghost use Rattle.buffer_redux.specs.WriteAll.{AskedFirst, OneWrite, WritesAll};
 
 use crate::all_bytes::further;
 use crate::buf_writer::BufWriter;
-use redux_policy::{FlushAmt, WriterPolicy};
-use redux_tell::tell::TellWrite;
+use crate::policy::{FlushAmt, WriterPolicy};
+use redux_buffer::tell::TellWrite;
 use std::io;
 use std::io::{ErrorKind, Write};
 

@@ -4,14 +4,14 @@ ghost use Rattle.std.specs.Io.{WritesAtMost};
 ghost use Rattle.std.specs.Io.KnownBytes.{Keeps};
 ghost use Rattle.std.specs.Io.Seek.{SeekMoves};
 ghost use Rattle.redux_buffer.specs.Block.{IsBlock};
-ghost use Rattle.redux_tell.specs.StreamLog.{after_write, after_flush, SeekTells};
+ghost use Rattle.redux_buffer.specs.StreamLog.{after_write, after_flush, SeekTells};
 ghost use Rattle.buffer_redux.specs.BufWriter.{Writes, Flushes, WasSought};
 ghost use Rattle.buffer_redux.specs.Buffered.{with_calls};
 ghost use Rattle.buffer_redux.specs.WriterTells.{writer_log, flushes_received, WriterCalled, WriterWent, WriterWent-none, WriterWent-joins, WriterWent-grows};
 
 use crate::buf_writer::BufWriter;
-use redux_policy::WriterPolicy;
-use redux_tell::tell::{Call, Tell, TellSeek, TellWrite};
+use crate::policy::WriterPolicy;
+use redux_buffer::tell::{Call, Tell, TellSeek, TellWrite};
 use std::io;
 use std::io::{Seek, SeekFrom, Write};
 

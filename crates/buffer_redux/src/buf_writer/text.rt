@@ -6,8 +6,8 @@ ghost use Rattle.buffer_redux.specs.BufWriter.{writer_contents};
 ghost use Rattle.buffer_redux.specs.WriteFmt.{TakesPieces, TextWent, WritesText};
 
 use crate::buf_writer::BufWriter;
-use redux_policy::WriterPolicy;
-use redux_tell::tell::TellWrite;
+use crate::policy::WriterPolicy;
+use redux_buffer::tell::TellWrite;
 use std::fmt::{Display, Formatter};
 use std::io::Write;
 use std::marker::{Brand, PhantomData};

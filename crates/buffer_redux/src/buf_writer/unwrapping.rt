@@ -7,9 +7,9 @@ ghost use Rattle.buffer_redux.specs.Unwrapping.{InnerOfFlushed, SendsOrHandles};
 
 use crate::buf_writer::BufWriter;
 use crate::errors::IntoInnerError;
+use crate::policy::WriterPolicy;
 use redux_buffer::Buffer;
-use redux_policy::WriterPolicy;
-use redux_tell::tell::TellWrite;
+use redux_buffer::tell::TellWrite;
 use std::io;
 use std::io::Write;
 

@@ -2,13 +2,13 @@
 ghost use Rattle.std.specs.Prelude.{◌≡◌};
 ghost use Rattle.std.specs.Io.{WritesAtMost};
 ghost use Rattle.redux_buffer.specs.Block.{IsBlock};
-ghost use Rattle.redux_tell.specs.StreamLog.{after_write, after_flush};
+ghost use Rattle.redux_buffer.specs.StreamLog.{after_write, after_flush};
 ghost use Rattle.buffer_redux.specs.BufWriter.{Writes, Flushes};
 ghost use Rattle.buffer_redux.specs.LineWriter.{line_rules};
 ghost use Rattle.buffer_redux.specs.WriterTells.{writer_log, WriterCalled, WriterWent, WriterWent-none, WriterWent-joins, WriterWent-grows};
 
 use crate::line_writer::LineWriter;
-use redux_tell::tell::{Tell, TellWrite};
+use redux_buffer::tell::{Tell, TellWrite};
 use std::io;
 
 impl<W: TellWrite> Tell for LineWriter<W> {

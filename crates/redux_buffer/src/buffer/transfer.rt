@@ -3,13 +3,13 @@ ghost use Rattle.std.specs.Prelude.{◌≡◌, ◌<◌, ◌⊎◌, length, Ok, E
 ghost use Rattle.std.specs.Io.{WritesAtMost};
 ghost use Rattle.std.specs.Io.KnownBytes.{IsAtEnd};
 ghost use Rattle.redux_buffer.specs.Block.{IsBlock, LeavesBytes, OnlyRingMoves, usable};
-ghost use Rattle.redux_tell.specs.GivesRemaining.{GivesRemaining};
-ghost use Rattle.redux_tell.specs.StreamLog.{StreamLog, after_write};
+ghost use Rattle.redux_buffer.specs.GivesRemaining.{GivesRemaining};
+ghost use Rattle.redux_buffer.specs.StreamLog.{StreamLog, after_write};
 ghost use Rattle.redux_buffer.specs.Transfer.{ReadsFrom, WritesTo, WritesRetried, Sends};
 
+use crate::INTERRUPT_LIMIT;
 use crate::buffer::Buffer;
-use redux_tell::INTERRUPT_LIMIT;
-use redux_tell::tell::{TellRead, TellWrite};
+use crate::tell::{TellRead, TellWrite};
 use std::io;
 use std::io::ErrorKind;
 

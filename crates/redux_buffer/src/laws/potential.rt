@@ -14,7 +14,7 @@ ghost use Rattle.redux_buffer.specs.Transfer.{ReadsFrom, WritesTo, Sends};
 
 use crate::buffer::Buffer;
 use crate::grow_error::GrowError;
-use redux_tell::tell::{TellRead, TellWrite};
+use crate::tell::{TellRead, TellWrite};
 use std::io;
 
 /// Dropping bytes doesn't raise the potential.

@@ -1,8 +1,8 @@
 //! What a reader shows under a minimum, and when it answers that nothing is left.
 ghost use Rattle.std.specs.Prelude.{◌≡◌, ◌<◌, [], length, take, Ok, None, IfOk, IfSome, OnOk, is_ok, slice_get};
 ghost use Rattle.std.specs.Io.KnownBytes.{Keeps};
-ghost use Rattle.redux_tell.specs.StreamLog.{portion, after_read};
-ghost use Rattle.redux_policy.specs.MinBuffered.{min_read_rules};
+ghost use Rattle.redux_buffer.specs.StreamLog.{portion, after_read};
+ghost use Rattle.buffer_redux.specs.MinBuffered.{min_read_rules};
 ghost use Rattle.buffer_redux.specs.Buffered.{GoesPast, StaysInside, GoesDirect};
 ghost use Rattle.buffer_redux.specs.BufReader.{Fills, FillsToMinimum, RanDry, ReadErrorCaused, ReadsInOrder};
 ghost use Rattle.buffer_redux.specs.BufReader.{ReadsAlong, ReadsBuffered, ReadsToEnd, LeavesRest, ReaderKeeps};
@@ -11,8 +11,8 @@ ghost use Rattle.buffer_redux.specs.Remaining.{reader_remaining};
 ghost use Rattle.redux_play.specs.NextByte.{TakesByte, taken_byte};
 
 use buffer_redux::BufReader;
-use redux_policy::{MinBuffered, ReaderPolicy};
-use redux_tell::tell::TellRead;
+use buffer_redux::policy::{MinBuffered, ReaderPolicy};
+use redux_buffer::tell::TellRead;
 use std::io;
 use std::io::{BufRead, Read};
 

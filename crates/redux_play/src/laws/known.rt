@@ -1,17 +1,17 @@
 //! What goes over to a stream where std knows what the streams hold.
 ghost use Rattle.std.specs.Prelude.{◌≡◌, IfErr, OnOk};
 ghost use Rattle.std.specs.Io.KnownBytes.{Appends};
-ghost use Rattle.redux_tell.specs.Copy.{CopyBuf, MovesKnown, ReceivesAll};
-ghost use Rattle.redux_tell.specs.Faults.{SendErrorCaused};
-ghost use Rattle.redux_tell.specs.Told.{told_stream};
+ghost use Rattle.redux_buffer.specs.Copy.{CopyBuf, MovesKnown, ReceivesAll};
+ghost use Rattle.redux_buffer.specs.Faults.{SendErrorCaused};
+ghost use Rattle.redux_buffer.specs.Told.{told_stream};
 ghost use Rattle.buffer_redux.specs.BufWriter.{Flushes, IsFlushed};
 ghost use Rattle.buffer_redux.specs.ReaderTells.{reader_log, ReaderWent};
 ghost use Rattle.buffer_redux.specs.Remaining.{reader_remaining};
 
+use buffer_redux::policy::{ReaderPolicy, WriterPolicy};
 use buffer_redux::{BufReader, BufWriter};
-use redux_policy::{ReaderPolicy, WriterPolicy};
-use redux_tell::copy_buf;
-use redux_tell::tell::{TellRead, TellWrite, Told};
+use redux_buffer::copy_buf;
+use redux_buffer::tell::{TellRead, TellWrite, Told};
 use std::io;
 use std::io::Write;
 

@@ -1,13 +1,13 @@
 //! What is taken apart and built again goes on where it was: also under another policy, between two runs of calls.
 ghost use Rattle.std.specs.Prelude.{◌≡◌, ℕ, List};
-ghost use Rattle.redux_tell.specs.StreamLog.{no_calls};
+ghost use Rattle.redux_buffer.specs.StreamLog.{no_calls};
 ghost use Rattle.buffer_redux.specs.Buffered.{Buffered, with_calls, with_policy};
 ghost use Rattle.buffer_redux.specs.BufReader.{ReadsInOrder};
 ghost use Rattle.buffer_redux.specs.BufWriter.{WritesInOrder};
 
+use buffer_redux::policy::{ReaderPolicy, WriterPolicy};
 use buffer_redux::{BufReader, BufWriter};
-use redux_policy::{ReaderPolicy, WriterPolicy};
-use redux_tell::tell::{Tell, TellWrite};
+use redux_buffer::tell::{Tell, TellWrite};
 
 /// A reader that is taken apart and built again is the reader that it was, but that no call of its own is noted.
 pub fn rebuild_reader<R: Tell>(reader: BufReader<R>) -> BufReader<R>

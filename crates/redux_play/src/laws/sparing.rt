@@ -2,15 +2,15 @@
 ghost use Rattle.std.specs.Prelude.{◌≡◌, ℕ, ◌≤◌, is_ok};
 ghost use Rattle.std.specs.List.{All};
 ghost use Rattle.buffer_redux.specs.Buffered.{Buffered, with_policy};
-ghost use Rattle.redux_policy.specs.MinBuffered.{min_read_rules};
+ghost use Rattle.buffer_redux.specs.MinBuffered.{min_read_rules};
 ghost use Rattle.redux_play.specs.PlayReader.{MakesNoRoom, ReaderPlays, with_handed};
-ghost use Rattle.redux_policy.specs.Policy.{ClaimsToSpare};
+ghost use Rattle.buffer_redux.specs.Policy.{ClaimsToSpare};
 ghost use Rattle.buffer_redux.specs.Sparing.{BeginsEmpty, GrowsAndSeeks, MovedAtMostGiven, Spared};
 
 use crate::play::{ReaderCall, ReaderRun, play_reader};
 use buffer_redux::BufReader;
-use redux_policy::{MinBuffered, ReaderPolicy};
-use redux_tell::tell::{TellRead, TellSeek};
+use buffer_redux::policy::{MinBuffered, ReaderPolicy};
+use redux_buffer::tell::{TellRead, TellSeek};
 use std::alloc::{AllocError, Global};
 use std::io;
 use std::io::{Seek, SeekFrom};

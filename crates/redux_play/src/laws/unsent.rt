@@ -4,7 +4,7 @@ ghost use Rattle.buffer_redux.specs.Unwrapping.{DropsUnsent, KeepsUnsent};
 
 use buffer_redux::{BufWriter, LineWriter};
 use redux_buffer::Buffer;
-use redux_tell::tell::TellWrite;
+use redux_buffer::tell::TellWrite;
 
 /// What could not be sent is handed back by a handler that leaves it, so no byte is lost.
 pub fn keep_unsent<W: TellWrite, P: Drop>(writer: BufWriter<W, P>) -> (W, Buffer)

@@ -3,12 +3,12 @@ ghost use Rattle.std.specs.Prelude.{◌≡◌, ◌<◌, length, max, IfOk, OnOk}
 ghost use Rattle.buffer_redux.specs.BufWriter.{WriterKeeps, Writes};
 ghost use Rattle.buffer_redux.specs.LineWriter.{line_rules};
 ghost use Rattle.redux_play.specs.WroteExactly.{EachTook, WroteExactly};
-ghost use Rattle.redux_policy.specs.WriterPolicies.{at_least_rules, exact_rules, flush_on_rules};
+ghost use Rattle.buffer_redux.specs.WriterPolicies.{at_least_rules, exact_rules, flush_on_rules};
 ghost use Rattle.redux_play.specs.WriterPolicyLaws.{HasNo, SendsExactly};
 
+use buffer_redux::policy::{FlushAtLeast, FlushExact, FlushOn, FlushOnNewline, WriterPolicy};
 use buffer_redux::{BufWriter, LineWriter};
-use redux_policy::{FlushAtLeast, FlushExact, FlushOn, FlushOnNewline, WriterPolicy};
-use redux_tell::tell::TellWrite;
+use redux_buffer::tell::TellWrite;
 use std::io;
 use std::io::Write;
 

@@ -7,8 +7,8 @@ ghost use Rattle.redux_play.specs.PlayReader.{ReaderStep, with_handed, room_to_r
 use crate::play::record::hand_out;
 use crate::play::{ReaderAnswer, ReaderCall, ReaderRun};
 use buffer_redux::BufReader;
-use redux_policy::ReaderPolicy;
-use redux_tell::tell::{Tell, TellRead};
+use buffer_redux::policy::ReaderPolicy;
+use redux_buffer::tell::{Tell, TellRead};
 use std::alloc::{AllocError, Global};
 use std::io::{BufRead, Read};
 

@@ -5,8 +5,8 @@ ghost use Rattle.redux_play.specs.PlayWriter.{WriterStep};
 
 use crate::play::{WriterAnswer, WriterCall};
 use buffer_redux::BufWriter;
-use redux_policy::WriterPolicy;
-use redux_tell::tell::TellWrite;
+use buffer_redux::policy::WriterPolicy;
+use redux_buffer::tell::TellWrite;
 use std::io::Write;
 
 // Makes the call.

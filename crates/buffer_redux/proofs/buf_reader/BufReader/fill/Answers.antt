@@ -1,7 +1,7 @@
 use Rattle.std.proofs.Common.{◌<◌, Result, Ok, Err, suc, arith, rules, inl, inr, refl, subst, sym}
 use Rattle.std.proofs.lemmas.Result.{err_from_is_err_and}
 use Rattle.std.specs.declared.io.Error.{Error}
-use Rattle.redux_tell.specs.GivesRemaining.{GivesRemaining-joins}
+use Rattle.redux_buffer.specs.GivesRemaining.{GivesRemaining-joins}
 use Rattle.buffer_redux.specs.Buffered.{Buffered}
 use Rattle.buffer_redux.specs.BufReader.{InnerGives, RanDry}
 use Rattle.buffer_redux.specs.Fill.{Ends, Filled, Turns}

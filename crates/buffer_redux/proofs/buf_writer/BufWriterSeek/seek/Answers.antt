@@ -3,7 +3,7 @@ use Rattle.std.specs.Prelude.{MatchResult}
 use Rattle.std.proofs.lemmas.Result.{err_from_is_err_and}
 use Rattle.std.specs.declared.io.Error.{Error}
 use Rattle.std.specs.declared.io.traits.SeekFrom.{SeekFrom}
-use Rattle.redux_tell.specs.StreamLog.{StreamLog, Readies, SeekTells, after_flush}
+use Rattle.redux_buffer.specs.StreamLog.{StreamLog, Readies, SeekTells, after_flush}
 use Rattle.buffer_redux.specs.Buffered.{Buffered}
 use Rattle.buffer_redux.specs.BufWriter.{Flushes, IsFlushed, IsSought, with_seek}
 use Rattle.buffer_redux.proofs.buf_writer.BufWriterSeek.seek.Goals as goal

@@ -2,9 +2,9 @@ use Rattle.std.proofs.Common.{◌≡◌, ℕ, List, [], ◌++◌, length, take, 
 use Rattle.std.specs.Io.KnownBytes.{Consumes, prepend_known}
 use Rattle.std.proofs.lemmas.Grind.{common_steps}
 use Rattle.std.proofs.lemmas.List.{take-append-drop, nil_from_length, drop_min}
-use Rattle.redux_tell.specs.GivesRemaining.{GivesRemaining, GivesRemaining-none, GivesRemaining-ahead}
-use Rattle.redux_tell.specs.LogGrows.{ReadLogGrows, ReadLogGrows-none, ReadLogGrows-read}
-use Rattle.redux_tell.specs.StreamLog.{portion}
+use Rattle.redux_buffer.specs.GivesRemaining.{GivesRemaining, GivesRemaining-none, GivesRemaining-ahead}
+use Rattle.redux_buffer.specs.LogGrows.{ReadLogGrows, ReadLogGrows-none, ReadLogGrows-read}
+use Rattle.redux_buffer.specs.StreamLog.{portion}
 use Rattle.buffer_redux.specs.Unbuffer.{Unbuffered, HandsOutInOrder, HandsOutLeft, bytes_in}
 use Rattle.buffer_redux.proofs.unbuffer.UnbufferRead.read.Goals as goal
 

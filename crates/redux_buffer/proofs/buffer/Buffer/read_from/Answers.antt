@@ -1,6 +1,6 @@
 use Rattle.std.proofs.Common.{◌≡◌, ◌≤◌, length, Ok, Err, arith, rules, ◌∙◌, ap, sym}
 use Rattle.std.proofs.lemmas.Result.{err_from_is_err_and}
-use Rattle.redux_tell.specs.GivesRemaining.{GivesRemaining-none, GivesRemaining-read}
+use Rattle.redux_buffer.specs.GivesRemaining.{GivesRemaining-none, GivesRemaining-read}
 use Rattle.redux_buffer.specs.Block.{usable}
 use Rattle.redux_buffer.specs.BufImpl.{as_placed}
 use Rattle.redux_buffer.proofs.Written.{tail_whole, written_adds, written_leaves, leaves_extends}

@@ -1,5 +1,5 @@
 use Rattle.std.proofs.Common.{◌≡◌, ◌≤◌, ◌<◌, ◌+◌, ◌-◌, [], ◌++◌, length, arith, rules, ap, ◌∙◌, length-append, length-drop, length-take-le}
-use Rattle.redux_tell.specs.Faults.{OnlyInterrupted-none}
+use Rattle.redux_buffer.specs.Faults.{OnlyInterrupted-none}
 use Rattle.std.proofs.lemmas.Grind.{common_steps}
 use Rattle.redux_buffer.proofs.Sending.{Sent-more, only_more, short_more, whole_more, sends_failed, sends_nothing}
 use Rattle.redux_buffer.proofs.buffer.Buffer.write_max.Goals as goal

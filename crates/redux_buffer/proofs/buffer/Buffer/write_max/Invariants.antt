@@ -1,7 +1,7 @@
 use Rattle.std.proofs.Common.{◌≡◌, ◌<◌, ◌≤◌, ◌+◌, ◌*◌, ℕ, List, length, min}
 use Rattle.std.specs.declared.io.Error.{Error}
 use Rattle.redux_buffer.specs.Block.{IsBlock}
-use Rattle.redux_tell.specs.Faults.{OnlyInterrupted}
+use Rattle.redux_buffer.specs.Faults.{OnlyInterrupted}
 use Rattle.redux_buffer.specs.Transfer.{Sent, WholeWrites}
 use Rattle.redux_buffer.proofs.buffer.Buffer.write_max.Given as goal
 

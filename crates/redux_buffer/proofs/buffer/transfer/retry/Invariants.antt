@@ -1,5 +1,5 @@
 use Rattle.std.proofs.Common.{◌≡◌, Err}
-use Rattle.redux_tell.specs.StreamLog.{StreamLog, after_write}
+use Rattle.redux_buffer.specs.StreamLog.{StreamLog, after_write}
 use Rattle.redux_buffer.proofs.Sending.{Interrupts}
 use Rattle.redux_buffer.proofs.buffer.transfer.retry.Given as goal
 

@@ -1,5 +1,5 @@
 -- An empty body. The borrow is opened, and closed at the sum that the clause names.
-use Rattle.redux_tell.proofs.Walks.{◌+◌, [], ◌∷◌, refl, w64, proved, ftrue, flft, id⊢, named, vunit, ‵, raw, ◌⊛◌, ◌$◌, ◌∵◌, !, qed, done, move, keep, use1, split, join, fsplit3, feq_i, suffices, group, fjoin, nothing, enter, of_opd, unit_lit, returns, alloc_all, pass_all, free_all, look_at, sets, yes, MutRef, mut_vals, mut_Tells, usize, uint_vals, uint_Tells, plain, opens, closes, Stays, says, stay_ref, Goes-ref, stay_dropped, Goes-dropped, ends_at}
+use Rattle.redux_buffer.proofs.Walks.{◌+◌, [], ◌∷◌, refl, w64, proved, ftrue, flft, id⊢, named, vunit, ‵, raw, ◌⊛◌, ◌$◌, ◌∵◌, !, qed, done, move, keep, use1, split, join, fsplit3, feq_i, suffices, group, fjoin, nothing, enter, of_opd, unit_lit, returns, alloc_all, pass_all, free_all, look_at, sets, yes, MutRef, mut_vals, mut_Tells, usize, uint_vals, uint_Tells, plain, opens, closes, Stays, says, stay_ref, Goes-ref, stay_dropped, Goes-dropped, ends_at}
 use Rattle.redux_buffer.specs.declared.count.Count.{Count}
 use Rattle.redux_buffer.specs.contracts.count.Count as T
 use Rattle.redux_buffer.specs.contracts.count.Count.add as f

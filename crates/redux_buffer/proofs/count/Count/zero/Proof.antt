@@ -1,5 +1,5 @@
 -- `zero` makes a value of no bytes, at 0.
-use Rattle.redux_tell.proofs.Walks.{[], ◌∷◌, refl, proved, vstruct, vnil, raw, ◌$◌, ◌∵◌, !, qed, done, keep, join, suffices, enter, no_more, returns, agg, alloc_all, pass_all, free_all, look_at, sets, pure_i, nothing, on_entry, Stays, says, ends_at}
+use Rattle.redux_buffer.proofs.Walks.{[], ◌∷◌, refl, proved, vstruct, vnil, raw, ◌$◌, ◌∵◌, !, qed, done, keep, join, suffices, enter, no_more, returns, agg, alloc_all, pass_all, free_all, look_at, sets, pure_i, nothing, on_entry, Stays, says, ends_at}
 use Rattle.redux_buffer.specs.declared.count.Count.{Count}
 use Rattle.redux_buffer.specs.contracts.count.Count as T
 use Rattle.redux_buffer.specs.contracts.count.Count.zero as f

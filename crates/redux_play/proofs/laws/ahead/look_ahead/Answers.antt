@@ -1,6 +1,6 @@
 use Rattle.std.proofs.Common.{refl, le_refl}
 use Rattle.std.proofs.lemmas.Result.{err_from_is_err_and}
-use Rattle.redux_policy.specs.MinBuffered.{min_read_rules}
+use Rattle.buffer_redux.specs.MinBuffered.{min_read_rules}
 use Rattle.buffer_redux.specs.FillLaws.{Fills-ok, Fills-err}
 use Rattle.buffer_redux.specs.ReaderLaws.{FillBuf-first, FillBuf-keeps}
 use Rattle.redux_play.proofs.laws.ahead.look_ahead.Goals as goal

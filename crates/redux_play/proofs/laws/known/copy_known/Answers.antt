@@ -1,5 +1,5 @@
 use Rattle.std.proofs.Common.{refl}
-use Rattle.redux_tell.specs.CopyLaws.{CopyBuf-moved}
+use Rattle.redux_buffer.specs.CopyLaws.{CopyBuf-moved}
 use Rattle.redux_play.proofs.CopyKnown.{on_ok, moves_known, receives_all}
 use Rattle.redux_play.proofs.laws.known.copy_known.Goals as goal
 

@@ -1,7 +1,7 @@
 use Rattle.std.proofs.Common.{rules, ℕ, Result, Ok, Err, inr}
 use Rattle.std.specs.declared.io.Error.{Error}
 use Rattle.std.specs.declared.io.traits.SeekFrom.{SeekFrom}
-use Rattle.redux_tell.specs.StreamLog.{Readies}
+use Rattle.redux_buffer.specs.StreamLog.{Readies}
 use Rattle.buffer_redux.specs.Buffered.{Buffered, with_policy}
 use Rattle.buffer_redux.specs.Sparing.{GrewAndSought, GrowsAndSeeks}
 use Rattle.redux_play.proofs.laws.sparing.spare_between.Goals as goal

@@ -3,7 +3,7 @@ use Rattle.std.specs.Global.{Global, Vec}
 use Rattle.std.specs.IoError.{error_kind}
 use Rattle.std.specs.declared.io.Error.{Error}
 use Rattle.std.specs.declared.io.ErrorKind.TheVariants.{InvalidData}
-use Rattle.redux_policy.specs.Policy.{ReadRules}
+use Rattle.buffer_redux.specs.Policy.{ReadRules}
 use Rattle.buffer_redux.specs.Pieces.{Gives, GivesLine, GivesWhole, Splitting, Stopped, without_end}
 use Rattle.buffer_redux.proofs.buf_reader.pieces.LinesIterator.next.Goals as goal
 use Rattle.buffer_redux.proofs.buf_reader.pieces.LinesIterator.next.Goals.{in-Ok, in-Err}

@@ -1,5 +1,5 @@
 use Rattle.std.specs.Prelude.{[]}
-use Rattle.redux_tell.specs.StreamLog.{FillTells}
+use Rattle.redux_buffer.specs.StreamLog.{FillTells}
 use Rattle.buffer_redux.specs.ReaderTells.{reader_log, FillTold, ReaderWent}
 use Rattle.buffer_redux.specs.contracts.buf_reader.BufReader.{the_row}
 use Rattle.buffer_redux.proofs.Resting.{rests_widens}

@@ -1,7 +1,7 @@
 use Rattle.std.proofs.Common.{◌≡◌, Ok, refl, subst, sym, ap, ◌∙◌}
 use Rattle.std.proofs.lemmas.Result.{err_from_is_err_and}
-use Rattle.redux_tell.specs.GoesOn.{GoesOn}
-use Rattle.redux_tell.specs.StreamLog.{with_shown, after_shown}
+use Rattle.redux_buffer.specs.GoesOn.{GoesOn}
+use Rattle.redux_buffer.specs.StreamLog.{with_shown, after_shown}
 use Rattle.buffer_redux.specs.BufReader.{Fills}
 use Rattle.buffer_redux.specs.ReaderTells.{reader_log, ReaderWent}
 use Rattle.buffer_redux.specs.FillLaws.{Filled-ok, Filled-err}

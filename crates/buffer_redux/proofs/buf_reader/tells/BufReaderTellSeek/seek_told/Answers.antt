@@ -1,5 +1,5 @@
 use Rattle.std.proofs.Common.{◌≡◌, rules, subst, sym}
-use Rattle.redux_tell.specs.StreamLog.{SeekTells, after_seek, with_shown}
+use Rattle.redux_buffer.specs.StreamLog.{SeekTells, after_seek, with_shown}
 use Rattle.buffer_redux.specs.ReaderTells.{drops_shown, reader_log}
 use Rattle.buffer_redux.proofs.SeekTelling.{reader_sought}
 use Rattle.buffer_redux.proofs.buf_reader.tells.BufReaderTellSeek.seek_told.Goals as goal

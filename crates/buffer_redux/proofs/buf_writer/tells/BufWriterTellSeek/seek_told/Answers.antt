@@ -1,5 +1,5 @@
 use Rattle.std.proofs.Common.{◌≡◌, rules, subst, sym}
-use Rattle.redux_tell.specs.StreamLog.{SeekTells, after_seek}
+use Rattle.redux_buffer.specs.StreamLog.{SeekTells, after_seek}
 use Rattle.buffer_redux.specs.Buffered.{with_calls}
 use Rattle.buffer_redux.specs.WriterTells.{flushes_received, writer_log}
 use Rattle.buffer_redux.proofs.SeekTelling.{writer_sought}

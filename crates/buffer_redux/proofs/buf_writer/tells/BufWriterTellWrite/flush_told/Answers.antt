@@ -1,7 +1,7 @@
 use Rattle.std.proofs.Common.{rules, ◌≡◌, ◌∙◌, inr, ap, subst, sym, arith}
-use Rattle.redux_tell.specs.Faults.{SendErrorCaused}
-use Rattle.redux_tell.specs.StreamLog.{after_flush}
-use Rattle.redux_tell.specs.LogGrows.{WriteLogGrows, WriteLogGrows-flush}
+use Rattle.redux_buffer.specs.Faults.{SendErrorCaused}
+use Rattle.redux_buffer.specs.StreamLog.{after_flush}
+use Rattle.redux_buffer.specs.LogGrows.{WriteLogGrows, WriteLogGrows-flush}
 use Rattle.buffer_redux.specs.WriterTells.{writer_log}
 use Rattle.buffer_redux.specs.BufWriter.{Flushes}
 use Rattle.buffer_redux.proofs.WriteTelling.{call_went, flush_fails, flush_met, flush_fault, flushes_noted}

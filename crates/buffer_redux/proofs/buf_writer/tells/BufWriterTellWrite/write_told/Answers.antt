@@ -1,9 +1,9 @@
 use Rattle.std.proofs.Common.{rules, ◌≡◌, ◌∙◌, List, inl, ap, subst, sym}
 use Rattle.std.specs.declared.io.Error.{Error}
 use Rattle.std.specs.declared.io.ErrorKind.TheVariants.{WriteZero}
-use Rattle.redux_tell.specs.Faults.{TookNothing, SendErrorCaused}
-use Rattle.redux_tell.specs.StreamLog.{after_write}
-use Rattle.redux_tell.specs.LogGrows.{WriteLogGrows, WriteLogGrows-write}
+use Rattle.redux_buffer.specs.Faults.{TookNothing, SendErrorCaused}
+use Rattle.redux_buffer.specs.StreamLog.{after_write}
+use Rattle.redux_buffer.specs.LogGrows.{WriteLogGrows, WriteLogGrows-write}
 use Rattle.buffer_redux.specs.WriterTells.{writer_log}
 use Rattle.buffer_redux.specs.BufWriter.{Writes}
 use Rattle.buffer_redux.proofs.WriteTelling.{call_went, write_fails, write_met, write_fault, write_nothing, writes_noted}

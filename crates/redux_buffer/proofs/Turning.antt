@@ -1,0 +1,186 @@
+-- What the turns of a copy come to.
+use Rattle.std.proofs.Common.{◌≡◌, ℕ, ◌+◌, ◌<◌, ◌≤◌, List, [], ◌∷◌, ◌++◌, length, Result, Ok, Err, refl, sym, ap, subst, ◌∙◌, arith, inl, inr, le_refl, append-nil, length-append}
+use Rattle.std.proofs.lemmas.Bool.{cases_lt}
+use Rattle.std.proofs.lemmas.List.{nil_from_length}
+use Rattle.std.proofs.lemmas.List.Elements.{All-nil, All-cons}
+use Rattle.std.specs.IoError.{error_kind}
+use Rattle.std.specs.List.{All}
+use Rattle.std.specs.declared.io.Error.{Error}
+use Rattle.std.specs.declared.io.ErrorKind.TheVariants.{Interrupted}
+use Rattle.redux_buffer.specs.Copy.{MovedBy, EndsShown, FillsMade, TakesNothing, WritesEachFill, CopiesOn, CopyTurn, CopyRetried, FaultsRise, FaultsAtMost, consumed_since}
+use Rattle.redux_buffer.specs.CopyLaws.{TurnAnswers-after}
+use Rattle.redux_buffer.specs.Faults.{IsInterrupt, MetInterrupts, OnlyInterrupts-none, OnlyInterrupted-none}
+use Rattle.redux_buffer.specs.StreamLog.{StreamLog, FillLog, WriteLog, after_fill_fault, after_shown, after_write, with_end}
+
+-- nothing was consumed, and nothing received
+still : (a b : FillLog) (x y : WriteLog) → b.consumed ≡ a.consumed → b.consumes ≡ a.consumes → y.received ≡ x.received
+    → y.flushed ≡ x.flushed → MovedBy 0 a b x y
+still a b x y consumed consumes received flushed = record {
+  bytes = [];
+  count = refl;
+  consumed = consumed ∙ sym (append-nil a.consumed);
+  consumes = omega (arith, consumes);
+  received = received ∙ sym (append-nil x.received);
+  not_flushed = flushed;
+}
+
+one_interrupt : (e : Error) → error_kind e ≡ Interrupted → All IsInterrupt (e ∷ [])
+one_interrupt e is = All-cons IsInterrupt e [] is (All-nil IsInterrupt)
+
+end_counted : (before : ℕ) (shown : List ℕ) → (before ≤ with_end before shown) × (with_end before shown ≤ before + 1)
+end_counted before shown = (grind arith, grind arith)
+
+no_end : (before : ℕ) (shown : List ℕ) → 0 < length shown → with_end before shown ≡ before
+no_end before shown some = grind arith
+
+module _ {W : Type 0} (tells : W → StreamLog) (stretch call : W → W → Type 0) (from : StreamLog) (w : W) where
+  -- a turn whose fill failed
+  pub not_filled : (shown : List ℕ) (e : Error)
+      → CopyTurn tells stretch call (Err e) from.fills (after_fill_fault from shown e).fills w w
+  not_filled shown e =
+      let none : MetInterrupts (tells w).writes (tells w).writes =
+      record { interrupts = []; only = OnlyInterrupted-none (tells w).writes } in
+      let kept = still from.fills (after_fill_fault from shown e).fills (tells w).writes (tells w).writes refl refl refl refl in
+      let fills : FillsMade 0 from.fills (after_fill_fault from shown e).fills (tells w).writes (tells w).writes =
+      omega (arith, length-append from.fills.faults (e ∷ [])) in
+      let writes : WritesEachFill from.fills (after_fill_fault from shown e).fills (tells w).writes (tells w).writes =
+      omega (arith, length-append from.fills.faults (e ∷ [])) in
+      record {
+        answers = record {
+          copies = tt;
+          ended = λ is. cc;
+          failed = record {
+            failed = inl (record {
+              fault = record {
+                interrupts = [];
+                interrupted = All-nil IsInterrupt;
+                faults = ap (λ l. l ++ e ∷ []) (sym (append-nil from.fills.faults));
+              };
+              writer = none;
+            });
+            nothing = kept;
+            fills = fills;
+          };
+          writes = writes;
+          ends_shown = omega arith;
+          one_end = λ takes. refl;
+          none_ended = λ takes. tt;
+        };
+        interrupted = λ is. record {
+          moved = kept;
+          ends = le_refl _;
+          ends_shown = omega arith;
+          fills = fills;
+          writes = writes;
+          reader = record { interrupts = e ∷ []; interrupted = one_interrupt e is; faults = refl };
+          writer = none;
+        };
+        one_fill = refl;
+        one_write = λ same. absurd (omega (arith, same, length-append from.fills.faults (e ∷ [])));
+        offered = tt;
+        called = λ same. absurd (omega (arith, same, length-append from.fills.faults (e ∷ [])));
+        no_write = λ more. refl;
+        none_ended = tt;
+        ended_once = omega arith;
+        one_fault = omega (arith, length-append from.fills.faults (e ∷ []));
+      }
+
+  -- a turn whose write failed
+  pub not_written : ((x : W) → stretch x x) → (bytes : List ℕ) (e : Error) (w' : W)
+      → tells w' ≡ after_write (tells w) bytes (Err e) → call w w'
+      → CopyTurn tells stretch call (Err e) from.fills (after_shown from bytes).fills w w'
+  not_written none bytes e w' told called =
+      let faults = ap (λ l. l.writes.faults) told in
+      let kept = still from.fills (after_shown from bytes).fills (tells w).writes (tells w').writes refl refl
+      (ap (λ l. l.writes.received) told ∙ append-nil (tells w).writes.received) (ap (λ l. l.writes.flushed) told) in
+      let ends = end_counted from.fills.zero_fills bytes in
+      let fills : FillsMade 0 from.fills (after_shown from bytes).fills (tells w).writes (tells w').writes =
+      omega (arith, ap length faults, length-append (tells w).writes.faults (e ∷ [])) in
+      let shown : EndsShown 0 from.fills (after_shown from bytes).fills (tells w).writes (tells w').writes =
+      omega (arith, ends.1, ap length faults, length-append (tells w).writes.faults (e ∷ [])) in
+      let once = ap (λ l. l.writes.asks) told in
+      record {
+        answers = record {
+          copies = tt;
+          ended = λ is. cc;
+          failed = record {
+            failed = inr (record {
+              reader = OnlyInterrupts-none from.fills.faults;
+              last = record {
+                before = w;
+                went = none w;
+                met = record { interrupts = []; only = OnlyInterrupted-none (tells w).writes };
+                called = called;
+                told = told;
+              };
+            });
+            nothing = kept;
+            fills = fills;
+          };
+          writes = omega (arith, once);
+          ends_shown = shown;
+          one_end = λ takes. elim (cases_lt 0 (length bytes)) [
+            | inl some ↦ no_end from.fills.zero_fills bytes some
+            | inr few ↦
+                absurd (takes w w' e (none w) called
+                (subst (λ l. tells w' ≡ after_write (tells w) l (Err e)) (nil_from_length bytes (omega (arith, few))) told))
+          ];
+          none_ended = λ takes. tt;
+        };
+        interrupted = λ is. record {
+          moved = kept;
+          ends = ends.0;
+          ends_shown = shown;
+          fills = fills;
+          writes = omega (arith, once);
+          reader = OnlyInterrupts-none from.fills.faults;
+          writer = record {
+            interrupts = e ∷ [];
+            only = record {
+              interrupted = one_interrupt e is;
+              faults = faults;
+              zero_writes = ap (λ l. l.writes.zero_writes) told;
+            };
+          };
+        };
+        one_fill = refl;
+        one_write = λ same. once;
+        offered = tt;
+        called = λ same. called;
+        no_write = λ more. absurd (omega (arith, more));
+        none_ended = tt;
+        ended_once = ends.1;
+        one_fault = omega (arith, ap length faults, length-append (tells w).writes.faults (e ∷ []));
+      }
+
+-- the last turn of those that are begun again
+module _ {W : Type 0} (tells : W → StreamLog) (stretch call : W → W → Type 0)
+    (joins : (u v w : W) → stretch u v → stretch v w → stretch u w) {a b : FillLog} {x y : W}
+    (before : CopiesOn 0 a b (tells x).writes (tells y).writes) (went : stretch x y)
+    (still : TakesNothing tells stretch call x → b.zero_fills ≡ a.zero_fills) where
+  pub last_retried : {c : FillLog} {z : W} (answer : Result ℕ Error)
+      → FaultsRise 64 a b (tells x).writes (tells y).writes → FaultsAtMost 64 a b (tells x).writes (tells y).writes
+      → CopyTurn tells stretch call answer b c y z → CopyRetried tells stretch call answer a c x z
+  last_retried (Ok n) rise few turn = record {
+    answers = TurnAnswers-after tells stretch call joins before went still (Ok n) turn.answers;
+    often = tt;
+    few = omega (arith, few, turn.one_fault);
+  }
+  last_retried (Err e) rise few turn = record {
+    answers = TurnAnswers-after tells stretch call joins before went still (Err e) turn.answers;
+    often = λ is. omega (arith, rise, turn.one_fault);
+    few = omega (arith, few, turn.one_fault);
+  }
+
+-- how many bytes were consumed, and that faults only come
+pub moved_count : {n : ℕ} {a b : FillLog} {x y : WriteLog} → MovedBy n a b x y → consumed_since a b ≡ n
+moved_count {n} {a} p = omega (arith, p.count, ap length p.consumed, length-append a.consumed p.bytes)
+
+pub faults_come : {n : ℕ} {a b : FillLog} {x y : WriteLog} → CopiesOn n a b x y → FaultsRise 0 a b x y
+faults_come {n} {a} {b} {x} {y} p = omega (
+  arith,
+  ap length p.reader.faults,
+  length-append a.faults p.reader.interrupts,
+  ap length p.writer.only.faults,
+  length-append x.faults p.writer.interrupts,
+)

@@ -1,0 +1,18 @@
+use Rattle.std.proofs.Common.{◌≡◌, ◌-◌, ◌*◌, ◌^◌}
+use Rattle.redux_buffer.specs.Copy.{CopiesOn, FaultsAtMost, TakesNothing}
+use Rattle.redux_buffer.proofs.copy.copy_buf.Given as goal
+
+abbrev pub invariant-turns : goal.invariant-turns
+invariant-turns g l = record {
+  copies : CopiesOn l.total (g.B.Tell.log l.initial.b).fills (g.B.Tell.log l.b).fills
+      (g.W.Tell.log l.initial.w).writes (g.W.Tell.log l.w).writes;
+  few : FaultsAtMost (64 * l.total) (g.B.Tell.log l.initial.b).fills (g.B.Tell.log l.b).fills
+      (g.W.Tell.log l.initial.w).writes (g.W.Tell.log l.w).writes;
+  reader : g.B.TellBufRead.stretch l.initial.b l.b;
+  writer : g.W.TellWrite.stretch l.initial.w l.w;
+  still : TakesNothing g.W.Tell.log g.W.TellWrite.stretch g.W.TellWrite.call l.initial.w
+      → (g.B.Tell.log l.b).fills.zero_fills ≡ (g.B.Tell.log l.initial.b).fills.zero_fills;
+}
+
+abbrev pub decreases-turns : goal.decreases-turns
+decreases-turns g l = 2 ^ 64 - l.total

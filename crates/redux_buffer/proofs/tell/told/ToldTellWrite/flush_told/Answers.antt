@@ -1,0 +1,5 @@
+use Rattle.redux_buffer.specs.Told.{ToldWrites-flush}
+use Rattle.redux_buffer.proofs.tell.told.ToldTellWrite.flush_told.Goals as goal
+
+pub returns-clause-stretch : goal.returns-clause-stretch
+returns-clause-stretch g c = ToldWrites-flush g.S.Write.contents _ _ _ c.note.ensures c.flush-answer.ensures.bytes

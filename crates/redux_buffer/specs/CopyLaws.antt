@@ -1,0 +1,156 @@
+-- Laws of copying turn by turn, for the proofs of those who make the turns.
+use Rattle.std.proofs.Common.{◌≡◌, ℕ, ◌+◌, List, Result, Ok, Err, inl, inr, subst, le_trans, arith, refl, sym, [], append-nil, ◌∙◌, ◌++◌, ap, append_assoc, length-append, le_refl}
+use Rattle.std.specs.declared.io.Error.{Error}
+use Rattle.redux_buffer.specs.StreamLog.{StreamLog, FillLog, WriteLog}
+use Rattle.redux_buffer.specs.Faults.{OnlyInterrupts-none, OnlyInterrupted-none, OnlyInterrupts-joins, FaultAfterInterrupts-after, MetInterrupts-joins}
+use Rattle.redux_buffer.specs.Copy.{MovedBy, CopiesOn, LastWrite, CopyEnded, StreamFailed, TakesNothing, TurnEnded, TurnFailed, TurnAnswers, CopyBuf}
+
+-- no turn moves nothing, and two turns one after the other move what both do
+pub MovedBy-none : (from : FillLog) (to : WriteLog) → MovedBy 0 from from to to
+MovedBy-none from to = record {
+  bytes = [];
+  count = refl;
+  consumed = sym (append-nil from.consumed);
+  consumes = omega arith;
+  received = sym (append-nil to.received);
+  not_flushed = refl;
+}
+
+pub MovedBy-joins : (n k : ℕ) (a b c : FillLog) (x y z : WriteLog)
+    → MovedBy n a b x y → MovedBy k b c y z → MovedBy (n + k) a c x z
+MovedBy-joins n k a b c x y z p q = record {
+  bytes = p.bytes ++ q.bytes;
+  count = length-append p.bytes q.bytes ∙ (λ i. p.count i + q.count i);
+  consumed = q.consumed ∙ ap (λ l. l ++ q.bytes) p.consumed ∙ append_assoc a.consumed p.bytes q.bytes;
+  consumes = omega (arith, p.consumes, q.consumes);
+  received = q.received ∙ ap (λ l. l ++ q.bytes) p.received ∙ append_assoc x.received p.bytes q.bytes;
+  not_flushed = q.not_flushed ∙ p.not_flushed;
+}
+
+-- a turn that moved nothing
+pub MovedBy-still : {n : ℕ} {a b c : FillLog} {x y z : WriteLog} → MovedBy n a b x y → MovedBy 0 b c y z → MovedBy n a c x z
+MovedBy-still {n} {a} {b} {c} {x} {y} {z} p q =
+    subst (λ k. MovedBy k a c x z) (omega arith) (MovedBy-joins n 0 a b c x y z p q)
+
+pub CopiesOn-none : (from : FillLog) (to : WriteLog) → CopiesOn 0 from from to to
+CopiesOn-none from to = record {
+  moved = MovedBy-none from to;
+  ends = le_refl _;
+  ends_shown = omega arith;
+  fills = omega arith;
+  writes = omega arith;
+  reader = OnlyInterrupts-none from.faults;
+  writer = record { interrupts = []; only = OnlyInterrupted-none to };
+}
+
+-- turns that follow one another
+module _ {n : ℕ} {a b : FillLog} {x y : WriteLog} (before : CopiesOn n a b x y) where
+  pub CopiesOn-joins : {k : ℕ} {c : FillLog} {z : WriteLog} → CopiesOn k b c y z → CopiesOn (n + k) a c x z
+  CopiesOn-joins {k} {c} {z} last = record {
+    moved = MovedBy-joins n k a b c x y z before.moved last.moved;
+    ends = le_trans before.ends last.ends;
+    ends_shown = omega (arith, before.ends_shown, last.ends_shown);
+    fills = omega (arith, before.fills, last.fills);
+    writes = omega (arith, before.writes, last.writes);
+    reader = OnlyInterrupts-joins a.faults b.faults c.faults before.reader last.reader;
+    writer = MetInterrupts-joins x y z before.writer last.writer;
+  }
+
+-- what comes after turns in which the streams were at most interrupted
+module _ {W : Type 0} (tells : W → StreamLog) (stretch call : W → W → Type 0)
+    (joins : (u v w : W) → stretch u v → stretch v w → stretch u w) {n : ℕ} {a b : FillLog} {x y : W}
+    (before : CopiesOn n a b (tells x).writes (tells y).writes) (went : stretch x y) where
+  LastWrite-after : {z : W} (bytes : List ℕ) (answer : Result ℕ Error)
+      → LastWrite tells stretch call y bytes answer z → LastWrite tells stretch call x bytes answer z
+  LastWrite-after bytes answer last = record {
+    before = last.before;
+    went = joins x y last.before went last.went;
+    met = MetInterrupts-joins (tells x).writes (tells y).writes
+        (tells last.before).writes before.writer last.met;
+    called = last.called;
+    told = last.told;
+  }
+
+  pub CopyEnded-after : {c : FillLog} {z : W}
+      → CopyEnded tells stretch call b c y z → CopyEnded tells stretch call a c x z
+  CopyEnded-after {c} ended = record {
+    reader = OnlyInterrupts-joins a.faults b.faults c.faults before.reader ended.reader;
+    last = LastWrite-after c.shown (Ok 0) ended.last;
+    ends = λ none. omega (arith, before.ends, ended.ends none);
+  }
+
+  pub StreamFailed-after : {e : Error} {c : FillLog} {z : W}
+      → StreamFailed tells stretch call e b c y z → StreamFailed tells stretch call e a c x z
+  StreamFailed-after {e} {c} {z} (inl source) = inl (record {
+    fault = FaultAfterInterrupts-after a.faults b.faults c.faults e before.reader source.fault;
+    writer =
+        MetInterrupts-joins (tells x).writes (tells y).writes (tells z).writes before.writer source.writer;
+  })
+  StreamFailed-after {e} {c} (inr target) = inr (record {
+    reader = OnlyInterrupts-joins a.faults b.faults c.faults before.reader target.reader;
+    last = LastWrite-after c.shown (Err e) target.last;
+  })
+
+-- a turn after turns that were only interrupted
+module _ {a b : FillLog} {x y : WriteLog} (before : CopiesOn 0 a b x y) where
+  pub CopiesOn-after : {n : ℕ} {c : FillLog} {z : WriteLog} → CopiesOn n b c y z → CopiesOn n a c x z
+  CopiesOn-after {c = c} {z = z} last =
+      subst (λ k. CopiesOn k a c x z) (omega arith) (CopiesOn-joins before last)
+
+-- what takes nothing from here on does so later too
+pub TakesNothing-after : {W : Type 0} (tells : W → StreamLog) (stretch call : W → W → Type 0)
+    → ((u v w : W) → stretch u v → stretch v w → stretch u w) → {x y : W} → stretch x y
+    → TakesNothing tells stretch call x → TakesNothing tells stretch call y
+TakesNothing-after tells stretch call joins {x} {y} went takes =
+    λ before after e on. takes before after e (joins x y before went on)
+
+-- what a turn answers that was begun again
+module _ {W : Type 0} (tells : W → StreamLog) (stretch call : W → W → Type 0)
+    (joins : (u v w : W) → stretch u v → stretch v w → stretch u w) {a b : FillLog} {x y : W}
+    (before : CopiesOn 0 a b (tells x).writes (tells y).writes) (went : stretch x y)
+    (still : TakesNothing tells stretch call x → b.zero_fills ≡ a.zero_fills) where
+  TurnEnded-after : {c : FillLog} {z : W} → TurnEnded tells stretch call b c y z → TurnEnded tells stretch call a c x z
+  TurnEnded-after turn = record {
+    ended = CopyEnded-after tells stretch call joins before went turn.ended;
+    nothing = MovedBy-still before.moved turn.nothing;
+    fills = omega (arith, before.fills, turn.fills);
+  }
+
+  TurnFailed-after : {e : Error} {c : FillLog} {z : W}
+      → TurnFailed tells stretch call e b c y z → TurnFailed tells stretch call e a c x z
+  TurnFailed-after turn = record {
+    failed = StreamFailed-after tells stretch call joins before went turn.failed;
+    nothing = MovedBy-still before.moved turn.nothing;
+    fills = omega (arith, before.fills, turn.fills);
+  }
+
+  takes_on : TakesNothing tells stretch call x → TakesNothing tells stretch call y
+  takes_on = TakesNothing-after tells stretch call joins went
+
+  pub TurnAnswers-after : {c : FillLog} {z : W} (answer : Result ℕ Error)
+      → TurnAnswers tells stretch call answer b c y z → TurnAnswers tells stretch call answer a c x z
+  TurnAnswers-after (Ok n) turn = record {
+    copies = λ some. CopiesOn-after before (turn.copies some);
+    ended = λ is. TurnEnded-after (turn.ended is);
+    failed = tt;
+    writes = omega (arith, before.writes, turn.writes);
+    ends_shown = omega (arith, before.ends_shown, turn.ends_shown);
+    one_end = λ takes. omega (arith, still takes, turn.one_end (takes_on takes));
+    none_ended = λ takes some. turn.none_ended (takes_on takes) some ∙ still takes;
+  }
+  TurnAnswers-after (Err e) turn = record {
+    copies = tt;
+    ended = λ is. cc;
+    failed = TurnFailed-after turn.failed;
+    writes = omega (arith, before.writes, turn.writes);
+    ends_shown = omega (arith, before.ends_shown, turn.ends_shown);
+    one_end = λ takes. turn.one_end (takes_on takes) ∙ still takes;
+    none_ended = λ takes. tt;
+  }
+
+-- how much went over in a copy, whatever it answered
+pub CopyBuf-moved : {W : Type 0} {tells : W → StreamLog} {stretch call : W → W → Type 0} {a b : FillLog} {x y : W}
+    → (answer : Result ℕ Error) → CopyBuf tells stretch call answer a b x y
+    → (n : ℕ) × MovedBy n a b (tells x).writes (tells y).writes
+CopyBuf-moved (Ok n) copied = (n, copied.moved)
+CopyBuf-moved (Err e) copied = copied.moved

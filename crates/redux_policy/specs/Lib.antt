@@ -1,3 +1,0 @@
-pub mod Policy
-pub mod MinBuffered
-pub mod WriterPolicies
