@@ -5,6 +5,7 @@ use Rattle.std.specs.declared.io.Error.{Error}
 use Rattle.codec.specs.Grammar.{Grammar, IsOpen, Lacks}
 use Rattle.codec.specs.GrammarLaws.{open_with}
 use Rattle.codec.specs.NextPiece.{AsksGive, PiecesWent, AskedWhere, NoFault, NoEnd, MetEnd, empties}
+use Rattle.codec.specs.NextPieceLaws.{AskedWhere-told}
 use Rattle.codec.specs.PiecesWentLaws.{PiecesWent-none, PiecesWent-joins}
 use Rattle.codec.specs.Piecing.{Piecing, IsPiecing, rest}
 use Rattle.codec.specs.Steps.{AsksFor}
@@ -18,19 +19,6 @@ pub record Head {S D W : Type 0} (remaining : S → Option (List ℕ)) (g : Gram
   pub no_end : NoEnd s m
   pub asks : AsksGive s m
   pub asked : AskedWhere (IsOpen g) s m
-
--- where the log stays as it is, so does what it was asked over
-pub AskedWhere-told : {S D : Type 0} (Such : List ℕ → Type 0) (s m t : Piecing S D) → t.reader.log ≡ m.reader.log
-    → AskedWhere Such s m → AskedWhere Such s t
-AskedWhere-told Such s m t told (inl same) = inl (told ∙ same)
-AskedWhere-told Such s m t told (inr over) = inr (record {
-  not_ended = over.not_ended;
-  came = over.came;
-  last = over.last;
-  given = ap (λ l. l.reads.given) told ∙ over.given;
-  such = over.such;
-  asks = omega (arith, over.asks, ap (λ l. l.reads.asks) told);
-})
 
 -- where something is left the stream hasn't ended
 pub open_ended : {S D W : Type 0} (g : Grammar W) (f : Piecing S D) → IsPiecing g f → 0 < length (rest f) → f.ended ≡ false

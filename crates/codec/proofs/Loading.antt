@@ -9,11 +9,12 @@ use Rattle.codec.specs.declared.error.NextError.TheVariants.{Wrong, Io}
 use Rattle.codec.specs.Decoding.{bytes_at}
 use Rattle.codec.specs.Grammar.{Grammar, IsLawful, IsOpen, Lacks}
 use Rattle.codec.specs.NextPiece.{load_answer, AsksGive, AskedWhere, NextAnswer, NextAnswers, NextPiece, MetEnd, NoEnd, PiecesWent, empties}
+use Rattle.codec.specs.NextPieceLaws.{AskedWhere-told}
 use Rattle.codec.specs.PiecesWentLaws.{PiecesWent-joins, PiecesWent-inside}
 use Rattle.codec.specs.Piecing.{Piecing, IsPiecing, rest}
 use Rattle.codec.specs.Steps.{AsksFor, TakesEnd, TakesPiece, WantsMore}
 use Rattle.codec.proofs.Reading.{rest_whole}
-use Rattle.codec.proofs.Heads.{Head, AskedWhere-told, Head-told, Head-more, MetEnd-on, asked_on, open_ended, still_open, went_on}
+use Rattle.codec.proofs.Heads.{Head, Head-told, Head-more, MetEnd-on, asked_on, open_ended, still_open, went_on}
 
 -- where an end was met nothing was asked that gave none
 gave_end : {S D : Type 0} {Such : List ℕ → Type 0} (s t : Piecing S D) → AskedWhere Such s t → MetEnd s t → NoEnd s t

@@ -4,10 +4,11 @@ use Rattle.std.proofs.lemmas.List.{nil_from_length}
 use Rattle.std.specs.declared.io.Error.{Error}
 use Rattle.codec.specs.Grammar.{Grammar}
 use Rattle.codec.specs.NextPiece.{AskedWhere, Faulted, PiecesWent, Refills}
+use Rattle.codec.specs.NextPieceLaws.{AskedWhere-told}
 use Rattle.codec.specs.PiecesWentLaws.{PiecesWent-inside, PiecesWent-joins}
 use Rattle.codec.specs.Piecing.{IsPiecing, Piecing, rest}
 use Rattle.codec.specs.Steps.{AsksFor}
-use Rattle.codec.proofs.Heads.{AskedWhere-told, Head, Head-none, Head-told, MetEnd-on, open_ended}
+use Rattle.codec.proofs.Heads.{Head, Head-none, Head-told, MetEnd-on, open_ended}
 
 -- what was handed out was dropped, and nothing is left
 module _ {S D W : Type 0} (remaining : S → Option (List ℕ)) (g : Grammar W) (s m : Piecing S D)

@@ -1,5 +1,5 @@
 -- One step of a loop over payloads.
-use Rattle.std.proofs.Common.{◌≡◌, ℕ, ◌+◌, ◌<◌, ◌≤◌, List, [], ◌∷◌, ◌++◌, length, map, drop, sym, ap, subst, ◌∙◌, arith, append_assoc, append-nil, get_or, inl, inr}
+use Rattle.std.proofs.Common.{◌≡◌, ℕ, ◌+◌, ◌<◌, ◌≤◌, List, [], ◌∷◌, ◌++◌, length, map, drop, sym, ap, subst, ◌∙◌, append_assoc, append-nil, get_or, inl, inr}
 use Rattle.std.specs.Prelude.{Option, None, Some, Ok, Err}
 use Rattle.std.specs.IoError.{error_kind}
 use Rattle.std.specs.declared.io.Error.{Error}
@@ -7,23 +7,13 @@ use Rattle.std.specs.declared.io.ErrorKind.TheVariants.{OutOfMemory}
 use Rattle.std.proofs.lemmas.List.{drop_all, map-append}
 use Rattle.codec.specs.declared.error.NextError.TheVariants as why
 use Rattle.codec.specs.Grammar.{Grammar, IsLawful}
-use Rattle.codec.specs.PayloadsLaws.{behind}
+use Rattle.codec.specs.PayloadsLaws.{behind, some_more}
 use Rattle.codec.specs.Piecing.{Piecing}
 use Rattle.codec.specs.KnownPieces.{HasLeft, LeavesPieces, ReadStopped}
 use Rattle.codec.specs.KnownPiecesLaws.{NextPiece-known}
 use Rattle.codec.specs.NextPiece.{NextAnswer, NextPiece, NoFault}
 use Rattle.codec.specs.Runs.{AllRead, NextFails, NextRuns}
 use Rattle.codec.specs.RunsLaws.{AnswerRuns-more}
-
--- one more that is kept
-pub kept_more : {V : Type 0} (f : V → List ℕ) (old new : List V) (v : V) → new ≡ old ++ v ∷ []
-    → map f new ≡ map f old ++ f v ∷ []
-kept_more f old new v is = ap (λ l. map f l) is ∙ map-append f old (v ∷ [])
-
--- with one more there is one
-some_more : (kept : List (List ℕ)) (found : List ℕ) → 0 < length (kept ++ found ∷ [])
-some_more [] found = omega arith
-some_more (payload ∷ kept) found = omega arith
 
 -- some of all the payloads were read and kept, and these are left to read
 pub record ReadsAll {S D W : Type 0} (remaining : S → Option (List ℕ)) (g : Grammar W) (s : Piecing S D)

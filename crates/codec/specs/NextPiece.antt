@@ -77,7 +77,7 @@ abbrev pub NextAnswer : Type 0 → Type 0
 NextAnswer W = Result (Option (List ℕ)) (NextError W)
 
 -- the answer, with the payload in place of the slice that is lent
-abbrev pub answer_of : {W : Type 0} → Result (Option (Bor (List ℕ))) (NextError W) → NextAnswer W
+abbrev pub answer_of : {E : Type 0} → Result (Option (Bor (List ℕ))) E → Result (Option (List ℕ)) E
 answer_of (Ok found) = Ok (option_copied found)
 answer_of (Err e) = Err e
 
@@ -142,7 +142,7 @@ pub record Refills {S D W : Type 0} (remaining : S → Option (List ℕ)) (g : G
   pub whole : IsPiecing g t
 
 -- what is lent once the next piece stands at the front
-abbrev pub load_answer : {S D W : Type 0} → Result (Option Span) (NextError W) → Piecing S D → NextAnswer W
+abbrev pub load_answer : {S D E : Type 0} → Result (Option Span) E → Piecing S D → Result (Option (List ℕ)) E
 load_answer (Ok (Some span)) t = Ok (Some (bytes_at span t.reader.block.bytes))
 load_answer (Ok None) t = Ok None
 load_answer (Err e) t = Err e

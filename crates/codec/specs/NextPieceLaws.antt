@@ -5,7 +5,7 @@ use Rattle.std.proofs.lemmas.List.{append_cancel_left}
 use Rattle.codec.specs.declared.error.NextError.TheVariants.{Wrong, Io}
 use Rattle.codec.specs.Grammar.{Begins, Grammar, IsLawful, IsOpen}
 use Rattle.codec.specs.GrammarLaws.{open_not}
-use Rattle.codec.specs.NextPiece.{AsksNone, NextAnswer, NextAnswers, NextPiece}
+use Rattle.codec.specs.NextPiece.{AskedWhere, AsksNone, NextAnswer, NextAnswers, NextPiece}
 use Rattle.codec.specs.PiecesWentLaws.{PiecesWent-unasked}
 use Rattle.codec.specs.Piecing.{Piecing, IsSettled, rest}
 
@@ -101,3 +101,16 @@ AsksNone-settled remaining g law s (inr (inl begins)) answer t next =
     AsksNone-begins remaining g law s begins answer t next
 AsksNone-settled remaining g law s (inr (inr (e, wrong))) answer t next =
     (NextPiece-wrong remaining g law s answer t next e wrong).2
+
+-- where the log stays as it is, so does what it was asked over
+pub AskedWhere-told : {S D : Type 0} (Such : List ℕ → Type 0) (s m t : Piecing S D) → t.reader.log ≡ m.reader.log
+    → AskedWhere Such s m → AskedWhere Such s t
+AskedWhere-told Such s m t told (inl same) = inl (told ∙ same)
+AskedWhere-told Such s m t told (inr over) = inr (record {
+  not_ended = over.not_ended;
+  came = over.came;
+  last = over.last;
+  given = ap (λ l. l.reads.given) told ∙ over.given;
+  such = over.such;
+  asks = omega (arith, over.asks, ap (λ l. l.reads.asks) told);
+})

@@ -20,3 +20,13 @@ module _ {V : Type 0} (f : V → List ℕ) (vs : List V) (i : ℕ) (x : V) (insi
   pub parted : map f vs ≡ map f (take i vs) ++ f x ∷ map f (drop (i + 1) vs)
   parted = ap (λ l. map f l) (sym (take-append-drop i vs)) ∙ map-append f (take i vs) (drop i vs)
       ∙ ap (λ l. map f (take i vs) ++ l) behind
+
+-- one more that is kept
+pub kept_more : {V : Type 0} (f : V → List ℕ) (old new : List V) (v : V) → new ≡ old ++ v ∷ []
+    → map f new ≡ map f old ++ f v ∷ []
+kept_more f old new v is = ap (λ l. map f l) is ∙ map-append f old (v ∷ [])
+
+-- with one more there is one
+pub some_more : (kept : List (List ℕ)) (found : List ℕ) → 0 < length (kept ++ found ∷ [])
+some_more [] found = omega arith
+some_more (payload ∷ kept) found = omega arith

@@ -6,7 +6,6 @@ use Rattle.std.specs.List.{flat_map}
 use Rattle.std.specs.Option.{option_map}
 use Rattle.std.specs.declared.io.Error.{Error}
 use Rattle.std.specs.declared.io.ErrorKind.TheVariants.{OutOfMemory}
-use Rattle.codec.specs.declared.error.NextError.{NextError}
 use Rattle.codec.specs.declared.error.NextError.TheVariants.{Io}
 use Rattle.codec.specs.Grammar.{Grammar}
 use Rattle.codec.specs.NextPiece.{NextAnswer, NextPiece, PiecesWent}
@@ -14,24 +13,24 @@ use Rattle.codec.specs.Piecing.{Piecing}
 use Rattle.codec.specs.Texts.{IsLast, StartsWith}
 
 -- the payload that an answer hands out, or none
-abbrev pub handed_payload : {W : Type 0} → NextAnswer W → List (List ℕ)
+abbrev pub handed_payload : {E : Type 0} → Result (Option (List ℕ)) E → List (List ℕ)
 handed_payload (Ok (Some payload)) = payload ∷ []
 handed_payload (Ok None) = []
 handed_payload (Err e) = []
 
 -- the payloads that answers hand out
-abbrev pub all_handed : {W : Type 0} → List (NextAnswer W) → List (List ℕ)
+abbrev pub all_handed : {E : Type 0} → List (Result (Option (List ℕ)) E) → List (List ℕ)
 all_handed answers = flat_map handed_payload answers
 
 -- no answer tells that the stream ended
-abbrev pub NoneTold : {W : Type 0} → List (NextAnswer W) → Type 0
+abbrev pub NoneTold : {E : Type 0} → List (Result (Option (List ℕ)) E) → Type 0
 NoneTold [] = Unit {0}
 NoneTold (Ok (Some payload) ∷ answers) = NoneTold answers
 NoneTold (Ok None ∷ answers) = ⊥
 NoneTold (Err e ∷ answers) = NoneTold answers
 
 -- the next answer, if there is one, tells that the stream ended
-abbrev pub EndFollows : {W : Type 0} → List (NextAnswer W) → Type 0
+abbrev pub EndFollows : {E : Type 0} → List (Result (Option (List ℕ)) E) → Type 0
 EndFollows [] = Unit {0}
 EndFollows (Ok (Some payload) ∷ answers) = ⊥
 EndFollows (Ok None ∷ answers) = Unit {0}
@@ -92,7 +91,7 @@ pub record RunWent {S D W : Type 0} (remaining : S → Option (List ℕ)) (g : G
   pub went : PiecesWent remaining g.most s bytes t
 
 -- an answer of `step` that was recorded, by the bytes of its payload
-abbrev pub kept_answer : {W : Type 0} → Result (Option (Vec ℕ)) (NextError W) → NextAnswer W
+abbrev pub kept_answer : {E : Type 0} → Result (Option (Vec ℕ)) E → Result (Option (List ℕ)) E
 kept_answer (Ok found) = Ok (option_map (λ payload. payload.items) found)
 kept_answer (Err e) = Err e
 

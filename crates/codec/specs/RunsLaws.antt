@@ -1,7 +1,7 @@
 -- Laws of runs: they go on by one call, what their calls do joins, and their pieces are those of the text.
-use Rattle.std.specs.Prelude.{◌≡◌, ℕ, ◌<◌, ◌≤◌, ◌⊎◌, List, [], ◌∷◌, ◌++◌, length, map, true, Option, None, Some, Result, Ok, Err, OnErr}
-use Rattle.std.proofs.Common.{sym, ap, subst, ◌∙◌, refl, inl, inr, append_assoc, append-nil}
-use Rattle.std.proofs.lemmas.List.{map-append}
+use Rattle.std.specs.Prelude.{◌≡◌, ℕ, ◌+◌, ◌<◌, ◌≤◌, ◌⊎◌, List, [], ◌∷◌, ◌++◌, length, map, true, Option, None, Some, Result, Ok, Err, OnErr}
+use Rattle.std.proofs.Common.{sym, ap, subst, ◌∙◌, refl, arith, inl, inr, append_assoc, append-nil, length-append}
+use Rattle.std.proofs.lemmas.List.{length-map, map-append}
 use Rattle.codec.specs.declared.error.NextError.{NextError}
 use Rattle.codec.specs.declared.error.NextError.TheVariants.{Wrong, Io}
 use Rattle.codec.specs.Grammar.{Grammar}
@@ -30,27 +30,56 @@ module _ {T A : Type 0} (Call : T → A → T → Type 0) where
   AnswerRuns-more s (a ∷ answers) m answer t run next =
       (run.0, run.1, AnswerRuns-more run.0 answers m answer t run.2 next)
 
-  -- what the loops that play calls come to
-  module _ (Went : T → List A → T → Type 0)
-      (went : (s : T) (answers : List A) (t : T) → AnswerRuns Call s answers t → Went s answers t) (s m : T)
-      (old new answers : List A) (gained : new ≡ old ++ answers) (run : AnswerRuns Call s answers m) (calls : ℕ) where
-    pub answers_played : length answers ≡ calls → AnswersPlayed Call Went s calls old new m
-    answers_played all =
-        record { answers = answers; gained = gained; all = all; run = run; went = went s answers m run }
+-- so many calls were played so far: their answers were recorded, in a list with room for so many, which had this room at first
+pub record PlaysSo {T A X : Type 0} (Call : T → A → T → Type 0) (f : X → A) (old kept : List X) (room have : ℕ)
+    (s : T) (calls : ℕ) (m : T) : Type 0 where
+  pub answers : List A
+  pub gained : map f kept ≡ map f old ++ answers
+  pub count : length answers ≡ calls
+  pub capacity : room ≤ have
+  pub run : AnswerRuns Call s answers m
 
-    pub answers_stopped : (handed : A → List (List ℕ)) → length answers < calls → (room : ℕ) (lost : A) (t : T)
-        → (0 < length (handed lost)) ⊎ (room ≤ length new) → Call m lost t
-        → AnswersStopped Call Went handed s calls room old new t
-    answers_stopped handed fewer room lost t wanted next =
-        let more = AnswerRuns-more s answers m lost t run next in
+module _ {T A X : Type 0} {Call : T → A → T → Type 0} {f : X → A} {old kept : List X} {room have : ℕ} {s : T} {calls : ℕ}
+    {m : T} (so : PlaysSo Call f old kept room have s calls m) where
+  -- one more was played
+  pub plays_more : (kept' : List X) (have' : ℕ) (x : X) (t : T) → kept' ≡ kept ++ x ∷ [] → have ≤ have' → Call m (f x) t
+      → PlaysSo Call f old kept' room have' s (calls + 1) t
+  plays_more kept' have' x t is larger next = record {
+    answers = so.answers ++ f x ∷ [];
+    gained = gains_more f old kept kept' so.answers x so.gained is;
+    count = length-append so.answers (f x ∷ []) ∙ ap (λ n. n + 1) so.count;
+    capacity = omega (arith, so.capacity, larger);
+    run = AnswerRuns-more Call s so.answers m (f x) t so.run next;
+  }
+
+  -- all were played; or one more was made, for whose answer memory was refused
+  module _ (Went : T → List A → T → Type 0)
+      (went : (s : T) (answers : List A) (t : T) → AnswerRuns Call s answers t → Went s answers t) (all : ℕ) where
+    pub all_played : calls ≡ all → AnswersPlayed Call Went s all (map f old) (map f kept) m
+    all_played is = record {
+      answers = so.answers;
+      gained = so.gained;
+      all = so.count ∙ is;
+      run = so.run;
+      went = went s so.answers m so.run;
+    }
+
+    pub one_lost : (handed : A → List (List ℕ)) → calls < all → (kept' : List X) → kept' ≡ kept → (lost : A) (t : T)
+        → (0 < length (handed lost)) ⊎ (have ≤ length kept) → Call m lost t
+        → AnswersStopped Call Went handed s all room (map f old) (map f kept') t
+    one_lost handed fewer kept' is lost t wanted next =
+        let more = AnswerRuns-more Call s so.answers m lost t so.run next in
         record {
-          answers = answers;
-          gained = gained;
-          fewer = fewer;
+          answers = so.answers;
+          gained = ap (λ l. map f l) is ∙ so.gained;
+          fewer = omega (arith, so.count, fewer);
           lost = lost;
-          wanted = wanted;
+          wanted = elim wanted [
+            | inl some ↦ inl some
+            | inr full ↦ inr (omega (arith, so.capacity, full, length-map kept' f, ap length is))
+          ];
           run = more;
-          went = went s (answers ++ lost ∷ []) t more;
+          went = went s (so.answers ++ lost ∷ []) t more;
         }
 
 module _ {W : Type 0} (g : Grammar W) where

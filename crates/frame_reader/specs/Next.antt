@@ -1,5 +1,5 @@
 -- What the calls of a reader of frames promise.
-use Rattle.std.specs.Prelude.{◌≡◌, ℕ, ◌+◌, ◌<◌, ◌≤◌, ◌⊎◌, List, [], ◌∷◌, ◌++◌, length, Option, None, Some, Result, Ok, Err, option_copied}
+use Rattle.std.specs.Prelude.{◌≡◌, ℕ, ◌+◌, ◌<◌, ◌≤◌, ◌⊎◌, List, [], length, Option, None, Some, Result, Ok, Err}
 use Rattle.std.specs.Borrow.{Bor}
 use Rattle.std.specs.List.{All}
 use Rattle.std.specs.declared.io.Error.{Error}
@@ -10,9 +10,9 @@ use Rattle.buffer_redux.specs.Sparing.{PotentialHeld}
 use Rattle.codec.specs.declared.decoder.Span.{Span}
 use Rattle.codec.specs.declared.error.NextError.{NextError}
 use Rattle.codec.specs.declared.error.NextError.TheVariants as piece
-use Rattle.codec.specs.Decoding.{bytes_at}
 use Rattle.codec.specs.NextPiece as pieces
 use Rattle.codec.specs.NextPiece.{HandsBytes, NextPiece}
+use Rattle.codec.specs.Runs.{handed_payload}
 use Rattle.frame_reader.specs.declared.error.FrameError.{FrameError}
 use Rattle.frame_reader.specs.declared.error.FrameError.TheVariants.{Truncated, TooLong, Io}
 use Rattle.frame_reader.specs.declared.frame.FrameFault.{FrameFault}
@@ -41,8 +41,7 @@ NextAnswer = Result (Option (List ℕ)) FrameError
 
 -- the answer, with the payload in place of the slice that is lent
 abbrev pub answer_of : Result (Option (Bor (List ℕ))) FrameError → NextAnswer
-answer_of (Ok found) = Ok (option_copied found)
-answer_of (Err e) = Err e
+answer_of answer = pieces.answer_of answer
 
 -- the same answer of a reader of pieces
 abbrev pub piece_answer : NextAnswer → pieces.NextAnswer FrameFault
@@ -59,17 +58,15 @@ frame_error (piece.Io e) = Io e
 
 -- the payloads that an answer hands out: one, or none
 abbrev pub payloads_of : NextAnswer → List (List ℕ)
-payloads_of (Ok (Some payload)) = payload ∷ []
-payloads_of (Ok None) = []
-payloads_of (Err e) = []
+payloads_of answer = handed_payload answer
 
 -- no fault was met
 abbrev pub NoFault : {S : Type 0} → Framing S → Framing S → Type 0
-NoFault s t = t.reader.log.reads.faults ≡ s.reader.log.reads.faults
+NoFault s t = pieces.NoFault (piecing s) (piecing t)
 
 -- this error is the one fault that the reader met
 abbrev pub Faulted : {S : Type 0} → Framing S → Error → Framing S → Type 0
-Faulted s e t = t.reader.log.reads.faults ≡ s.reader.log.reads.faults ++ e ∷ []
+Faulted s e t = pieces.Faulted (piecing s) e (piecing t)
 
 -- the reader gave nothing though it was asked for something, and met no fault
 abbrev pub Ended : {S : Type 0} → Framing S → Framing S → Type 0
@@ -89,7 +86,7 @@ IsSettled max bytes = BeginsWhole max bytes ⊎ BeginsTooLong max bytes
 
 -- how often the reader gave nothing so far though it was asked for something
 abbrev pub empties : {S P : Type 0} → Buffered S P → ℕ
-empties s = s.log.reads.zero_reads
+empties s = pieces.empties s
 
 -- how often it gave nothing in one call: once where the stream ended
 abbrev pub ends_met : NextAnswer → ℕ
@@ -141,11 +138,8 @@ NextBuffered remaining s None t = (t ≡ s) × ¬ (BeginsWhole s.max (rest s))
 
 -- what a step to the next frame answers: its payload is there
 abbrev pub load_answer : {S : Type 0} → Result (Option Span) FrameError → Framing S → NextAnswer
-load_answer (Ok (Some span)) t = Ok (Some (bytes_at span t.reader.block.bytes))
-load_answer (Ok None) t = Ok None
-load_answer (Err e) t = Err e
+load_answer answer t = pieces.load_answer answer (piecing t)
 
 -- what is lent of a frame that was buffered
 abbrev pub buffered_answer : {S : Type 0} → Option Span → Framing S → Option (List ℕ)
-buffered_answer (Some span) t = Some (bytes_at span t.reader.block.bytes)
-buffered_answer None t = None
+buffered_answer found t = pieces.buffered_answer found (piecing t)

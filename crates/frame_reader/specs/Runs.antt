@@ -1,20 +1,11 @@
 -- Runs of calls: what was recorded of them, and what they come to.
-use Rattle.std.specs.Prelude.{ℕ, List, [], ◌∷◌, ◌++◌, map, Bool, Option, None, Some, Result, Ok, Err}
-use Rattle.std.specs.Global.{Vec}
-use Rattle.std.specs.List.{flat_map}
-use Rattle.std.specs.Option.{option_map}
-use Rattle.codec.specs.Runs.{AnswerRuns, AnswersPlayed, AnswersStopped}
+use Rattle.std.specs.Prelude.{ℕ, List, [], ◌∷◌, ◌++◌, map, Bool, Option, None, Some, Ok}
+use Rattle.codec.specs.Runs.{AnswerRuns, AnswersPlayed, AnswersStopped, all_handed}
 use Rattle.codec.specs.WriteRuns.{CallsEach, CallsPlayed}
-use Rattle.frame_reader.specs.declared.error.FrameError.{FrameError}
 use Rattle.frame_reader.specs.Framing.{Framing}
 use Rattle.frame_reader.specs.Next.{FramesWent, Next, NextAnswer, payloads_of}
 use Rattle.frame_reader.specs.Outgoing.{Outgoing}
 use Rattle.frame_reader.specs.WriteFrame.{FramesTaken, WriteAnswer, WritesFrame}
-
--- an answer of `next` whose payload was copied, by its bytes
-abbrev pub kept_answer : Result (Option (Vec ℕ)) FrameError → NextAnswer
-kept_answer (Ok found) = Ok (option_map (λ payload. payload.items) found)
-kept_answer (Err e) = Err e
 
 -- calls of `next`, one after another, with these answers
 abbrev pub NextRuns : {S : Type 0} → (S → Option (List ℕ)) → Framing S → List NextAnswer → Framing S → Type 0
@@ -30,7 +21,7 @@ AllRead remaining s payloads t = NextRuns remaining s (found_each payloads ++ Ok
 
 -- the payloads that they handed out
 abbrev pub all_payloads : List NextAnswer → List (List ℕ)
-all_payloads answers = flat_map payloads_of answers
+all_payloads answers = all_handed answers
 
 -- what they come to
 abbrev pub RunWent : {S : Type 0} → (S → Option (List ℕ)) → Framing S → List NextAnswer → Framing S → Type 0

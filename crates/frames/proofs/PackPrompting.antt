@@ -149,7 +149,7 @@ asks_again remaining s m t going went same_end first then before = record {
               (first.give refl over.going) over.asked;
           left = subst (λ l. IsUnended s.max l)
               (ap (λ l. l ++ over.came) went.hands.equal ∙ append_assoc (rest s) got over.came)
-              (subst (λ n. IsUnended n (rest m ++ over.came)) went.max over.left);
+              (subst (λ n. IsUnended n (rest m ++ over.came)) went.decoder over.left);
         })
   ];
   give = λ on still. omega (arith, first.give refl (before on still), then.give on still);
@@ -206,7 +206,7 @@ module _ {R W : Type 0} (remaining : R → Option (List ℕ)) (stretch : W → W
           equal = append_assoc before.bytes (rest m) over.came ∙ ap (λ l. l ++ (rest m ++ over.came)) whole;
           plain = before.has.plain;
           fit = subst (λ n. All (Rattle.frame_reader.specs.Frames.Fits n) before.lines) (sym most) before.went.taken.fit;
-          no_more = subst (λ n. IsUnended n (rest m ++ over.came)) before.went.went.max over.left;
+          no_more = subst (λ n. IsUnended n (rest m ++ over.came)) before.went.went.decoder over.left;
           frames_are = refl;
         };
         sent = subst (λ l. WasSent l v.writer.log.writes)

@@ -226,7 +226,7 @@ module _ {R W : Type 0} (remaining : R → Option (List ℕ)) (stretch : W → W
   next_after (Err TooLong) p = (
     after [] [] p.0,
     met_after p.1,
-    subst (λ n. Rattle.line_reader.specs.Lines.BeginsTooLong n (rest t)) before.max p.2,
+    subst (λ n. Rattle.line_reader.specs.Lines.BeginsTooLong n (rest t)) before.decoder p.2,
     sym still ∙ p.3,
     p.4 ∙ quiet,
   )
@@ -238,7 +238,7 @@ module _ {R W : Type 0} (remaining : R → Option (List ℕ)) (stretch : W → W
           p.1.reader;
       writer = p.1.writer;
     },
-    subst (λ n. IsUnended n (rest t)) before.max p.2,
+    subst (λ n. IsUnended n (rest t)) before.decoder p.2,
     sym still ∙ p.3,
     p.4 ∙ quiet,
     p.5,
@@ -267,7 +267,7 @@ module _ {R W : Type 0} (remaining : R → Option (List ℕ)) (stretch : W → W
   gives_up w same e sent stopped often =
       let kept : v ≡ u = stopped.same ∙ same in
       let went = LinesWent-joins remaining s m t [] [] before stopped.went in
-      let left : IsUnended s.max (rest t) = subst (λ n. IsUnended n (rest t)) before.max stopped.left in
+      let left : IsUnended s.max (rest t) = subst (λ n. IsUnended n (rest t)) before.decoder stopped.left in
       let going = sym still ∙ stopped.going in
       rw kept (
         record { went = went; taken = FramesTaken-none stretch none u },

@@ -159,7 +159,7 @@ module _ {R W : Type 0} (remaining : R → Option (List ℕ)) (stretch : W → W
             lines = before.lines;
             plain = before.has.plain;
             went = subst (λ l. Packs remaining stretch s u l before.lines t v) all (then_none [] next.0);
-            long = subst (λ n. BeginsTooLong n (rest t)) before.went.went.max next.2;
+            long = subst (λ n. BeginsTooLong n (rest t)) before.went.went.decoder next.2;
             met = met_too next.1;
           }
       stops Truncated next = next
@@ -169,7 +169,7 @@ module _ {R W : Type 0} (remaining : R → Option (List ℕ)) (stretch : W → W
             lines = before.lines;
             plain = before.has.plain;
             went = subst (λ l. Packs remaining stretch s u l before.lines t v) all (then_none [] next.0);
-            left = subst (λ n. IsUnended n (rest t)) before.went.went.max next.2;
+            left = subst (λ n. IsUnended n (rest t)) before.went.went.decoder next.2;
             sent = next.5;
             failed = record {
               reader = ReadGaveUp-after s.reader.log.reads.faults m.reader.log.reads.faults t.reader.log.reads.faults e

@@ -5,7 +5,7 @@ use Rattle.std.specs.declared.io.Error.{Error}
 use Rattle.line_reader.specs.declared.error.LineError.TheVariants.{TooLong, Io}
 use Rattle.line_reader.specs.Lines.{newline, BeginsTooLong, IsLine}
 use Rattle.line_reader.specs.Lining.{Lining, IsLining, rest}
-use Rattle.line_reader.specs.NextLine.{AskedWhere, LinesWent, NextAnswer, NextLine}
+use Rattle.line_reader.specs.NextLine.{NextAnswer, NextLine}
 use Rattle.line_reader.specs.NextLineLaws.{NextLine-ready, NextLine-too_long}
 use Rattle.line_reader.specs.SkipLine.{DropsThrough, NextGoes, SkipAnswers, SkipsFirst, SkipsLine, SkipsStill}
 
@@ -33,41 +33,19 @@ module _ {S : Type 0} (remaining : S → Option (List ℕ)) (s t : Lining S) (wa
   abbrev after : Lining S
   after = record t { skipping = is }
 
-  went_flagged : (bytes : List ℕ) → LinesWent remaining before bytes t → LinesWent remaining s bytes after
-  went_flagged bytes w = record {
-    hands = record { got = w.hands.got; given = w.hands.given; equal = w.hands.equal };
-    known = w.known;
-    grows = w.grows;
-    held = w.held;
-    capacity = w.capacity;
-    limit = w.limit;
-    max = w.max;
-  }
-
   answers_flagged : (answer : Result ℕ Error) (bytes : List ℕ) → SkipAnswers before answer bytes t
       → SkipAnswers s answer bytes after
   answers_flagged (Ok n) bytes a = a
   answers_flagged (Err e) bytes a = a
-
-  asked_flagged : (Such : List ℕ → Type 0) → AskedWhere Such before t → AskedWhere Such s after
-  asked_flagged Such (inl same) = inl same
-  asked_flagged Such (inr over) = inr (record {
-    not_ended = over.not_ended;
-    came = over.came;
-    last = over.last;
-    given = over.given;
-    such = over.such;
-    asks = over.asks;
-  })
 
   pub skips_flagged : (answer : Result ℕ Error) → is ≡ is_err answer → DropsThrough remaining before answer t
       → IsLining after → SkipsLine remaining s answer after
   skips_flagged answer flag d whole = record {
     drops = record {
       bytes = d.bytes;
-      went = went_flagged d.bytes d.went;
+      went = d.went;
       answers = answers_flagged answer d.bytes d.answers;
-      asked = asked_flagged IsLine d.asked;
+      asked = d.asked;
       whole = whole;
     };
     skipping = flag;
@@ -139,6 +117,6 @@ pub goes_fits : {S : Type 0} (remaining : S → Option (List ℕ)) (s t : Lining
 goes_fits remaining s t line goes = by_skipping remaining s t (Ok (Some line)) goes (length line ≤ s.max)
     (λ open' next. next.answers.1)
     (λ is n. elim n [
-      | inl first ↦ omega (arith, first.next.answers.1, first.skips.drops.went.max)
+      | inl first ↦ omega (arith, first.next.answers.1, first.skips.drops.went.decoder)
       | inr still ↦ (let odd : Ok (Some line) ≡ Err (Io still.error) = still.answers in cc)
     ])

@@ -2,7 +2,8 @@
 use Rattle.std.proofs.Common.{◌≡◌, ℕ, ◌+◌, ◌<◌, ◌≤◌, List, [], ◌++◌, length, Bool, true, false, refl, sym, ap, subst, ◌∙◌, arith, inl, inr, append-nil, append_assoc, length-append, Option, Result, Ok}
 use Rattle.std.specs.Prelude.{MatchBool}
 use Rattle.std.specs.declared.io.Error.{Error}
-use Rattle.line_reader.specs.Lining.{Lining, IsLining, rest}
+use Rattle.codec.specs.NextPieceLaws.{AskedWhere-told}
+use Rattle.line_reader.specs.Lining.{Lining, IsLining, piecing, rest}
 use Rattle.line_reader.specs.LinesWentLaws.{LinesWent-none, LinesWent-joins}
 use Rattle.line_reader.specs.NextLine.{LinesWent, AskedWhere, NoFault, NoEnd, MetEnd, empties}
 use Rattle.line_reader.specs.Steps.{AsksOnce}
@@ -19,19 +20,6 @@ pub record Head {S : Type 0} (remaining : S → Option (List ℕ)) (Such : List 
   pub asks : m.reader.log.reads.asks + length s.reader.log.reads.given
       ≤ s.reader.log.reads.asks + length m.reader.log.reads.given
   pub asked : AskedWhere Such s m
-
--- where the log stays as it is, so does what it was asked over
-pub AskedWhere-told : {S : Type 0} (Such : List ℕ → Type 0) (s m t : Lining S) → t.reader.log ≡ m.reader.log
-    → AskedWhere Such s m → AskedWhere Such s t
-AskedWhere-told Such s m t told (inl same) = inl (told ∙ same)
-AskedWhere-told Such s m t told (inr over) = inr (record {
-  not_ended = over.not_ended;
-  came = over.came;
-  last = over.last;
-  given = ap (λ l. l.reads.given) told ∙ over.given;
-  such = over.such;
-  asks = omega (arith, over.asks, ap (λ l. l.reads.asks) told);
-})
 
 -- nothing was done yet
 pub Head-none : {S : Type 0} (remaining : S → Option (List ℕ)) (Such : List ℕ → Type 0) (s : Lining S)
@@ -58,7 +46,7 @@ module _ {S : Type 0} (remaining : S → Option (List ℕ)) (Such : List ℕ →
     faults = ap (λ l. l.reads.faults) told ∙ h.faults;
     no_end = ap (λ l. l.reads.zero_reads) told ∙ h.no_end;
     asks = omega (arith, h.asks, ap (λ l. l.reads.asks) told, ap (λ l. length l.reads.given) told);
-    asked = AskedWhere-told Such s m t told h.asked;
+    asked = AskedWhere-told Such (piecing s) (piecing m) (piecing t) told h.asked;
   }
 
   -- then the stream was asked once for more
@@ -68,7 +56,7 @@ module _ {S : Type 0} (remaining : S → Option (List ℕ)) (Such : List ℕ →
 
     pub asked_on : Such (rest s ++ h.went.hands.got) → AskedWhere Such s t
     asked_on such = elim s.ended as (λ b. b ≡ s.ended → AskedWhere Such s t) [
-      | true ↦ λ is. AskedWhere-told Such s m t (a.still (h.ended ∙ sym is)) h.asked
+      | true ↦ λ is. AskedWhere-told Such (piecing s) (piecing m) (piecing t) (a.still (h.ended ∙ sym is)) h.asked
       | false ↦ λ is. inr (record {
         not_ended = sym is;
         came = h.went.hands.got;

@@ -139,7 +139,7 @@ module _ {S : Type 0} (remaining : S → Option (List ℕ)) (s t : Piecing S Lin
     held = went.held;
     capacity = went.capacity;
     limit = went.limit;
-    max = ap (λ d. d.max) went.decoder;
+    decoder = ap (λ d. d.max) went.decoder;
   }
 
   asked_of : pieces.AskedWhere (IsOpen (lines s.decoder.max)) s t

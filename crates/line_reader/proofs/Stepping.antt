@@ -1,13 +1,13 @@
 -- One step of a loop over lines.
-use Rattle.std.proofs.Common.{◌≡◌, ℕ, suc, ◌+◌, ◌<◌, ◌≤◌, List, [], ◌∷◌, ◌++◌, length, map, take, drop, sym, ap, subst, ◌∙◌, arith, append_assoc, append-nil, get_or, inl, inr}
+use Rattle.std.proofs.Common.{◌≡◌, ℕ, ◌+◌, ◌<◌, ◌≤◌, List, [], ◌∷◌, ◌++◌, length, map, drop, sym, ap, subst, ◌∙◌, append_assoc, append-nil, get_or, inl, inr}
 use Rattle.std.specs.Prelude.{Option, None, Some, Ok, Err}
 use Rattle.std.specs.IoError.{error_kind}
 use Rattle.std.specs.List.{All}
 use Rattle.std.specs.declared.io.Error.{Error}
 use Rattle.std.specs.declared.io.ErrorKind.TheVariants.{OutOfMemory}
-use Rattle.std.proofs.Math.Seq.{drop-cons}
-use Rattle.std.proofs.lemmas.List.{drop-map, drop_all, map-append, take_more, take-append-drop}
+use Rattle.std.proofs.lemmas.List.{drop-map, drop_all, map-append}
 use Rattle.std.proofs.lemmas.List.Elements.{All-drop}
+use Rattle.codec.specs.PayloadsLaws.{behind, some_more}
 use Rattle.line_reader.specs.declared.error.LineError.TheVariants as why
 use Rattle.line_reader.specs.Lines.{FitsLine}
 use Rattle.line_reader.specs.Lining.{Lining}
@@ -18,33 +18,6 @@ use Rattle.line_reader.specs.NextLineLaws.{NextGoes-plain}
 use Rattle.line_reader.specs.SkipLine.{NextGoes}
 use Rattle.line_reader.specs.Runs.{AllRead, NextFails, NextRuns}
 use Rattle.line_reader.specs.RunsLaws.{NextRuns-more}
-
--- the item that a loop takes next is between those before it and those behind it
-module _ {V : Type 0} (f : V → List ℕ) (vs : List V) (i : ℕ) (x : V) (inside : i < length vs)
-    (is : x ≡ get_or vs i x) where
-  pub behind : map f (drop i vs) ≡ f x ∷ map f (drop (i + 1) vs)
-  behind =
-      let next : suc i ≡ i + 1 = omega arith in
-      ap (λ l. map f l) (drop-cons vs i x inside) ∙ ap (λ n. f (get_or vs i x) ∷ map f (drop n vs)) next
-      ∙ ap (λ y. f y ∷ map f (drop (i + 1) vs)) (sym is)
-
-  pub before : map f (take (i + 1) vs) ≡ map f (take i vs) ++ f x ∷ []
-  before = ap (λ l. map f l) (take_more vs i x inside) ∙ map-append f (take i vs) (get_or vs i x ∷ [])
-      ∙ ap (λ y. map f (take i vs) ++ f y ∷ []) (sym is)
-
-  parted : map f vs ≡ map f (take i vs) ++ f x ∷ map f (drop (i + 1) vs)
-  parted = ap (λ l. map f l) (sym (take-append-drop i vs)) ∙ map-append f (take i vs) (drop i vs)
-      ∙ ap (λ l. map f (take i vs) ++ l) behind
-
--- one more that is kept
-pub kept_more : {V : Type 0} (f : V → List ℕ) (old new : List V) (v : V) → new ≡ old ++ v ∷ []
-    → map f new ≡ map f old ++ f v ∷ []
-kept_more f old new v is = ap (λ l. map f l) is ∙ map-append f old (v ∷ [])
-
--- with one more there is one
-some_more : (kept : List (List ℕ)) (found : List ℕ) → 0 < length (kept ++ found ∷ [])
-some_more [] found = omega arith
-some_more (line ∷ kept) found = omega arith
 
 -- some of all the lines were read and kept, and these are left to read
 pub record ReadsAll {S : Type 0} (remaining : S → Option (List ℕ)) (s : Lining S) (all kept left : List (List ℕ))
@@ -96,7 +69,7 @@ module _ {V S : Type 0} (f : V → List ℕ) (vs : List V) (i : ℕ) (remaining 
           all_are = append_assoc kept (found ∷ []) (map f (drop (i + 1) vs))
               ∙ ap (λ p. kept ++ p ∷ map f (drop (i + 1) vs)) known.0
               ∙ ap (λ l. kept ++ l) (sym step) ∙ so_far.all_are;
-          max = plain.went.max ∙ so_far.max;
+          max = plain.went.decoder ∙ so_far.max;
           has = known.1;
           no_fault = plain.answers.2 ∙ so_far.no_fault;
           run = subst (λ answers. NextRuns remaining s answers t)

@@ -8,7 +8,7 @@ use Rattle.buffer_redux.specs.Buffered.{Buffered}
 use Rattle.buffer_redux.specs.WriteAll.{TookBeginning}
 use Rattle.buffer_redux.specs.WriterLaws.{WritesInOrder-none, WritesInOrder-joins}
 use Rattle.line_reader.specs.Lines.{newline, with_end, with_ends}
-use Rattle.line_reader.proofs.Stepping.{behind, before}
+use Rattle.codec.specs.PayloadsLaws.{behind, before}
 
 -- so many lines were taken in
 pub record WroteLines {S P : Type 0} (stretch : S → S → Type 0) (s : Buffered S P) (lines : List (List ℕ)) (t : Buffered S P)

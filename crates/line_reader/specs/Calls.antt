@@ -5,7 +5,7 @@ use Rattle.std.specs.declared.io.Error.{Error}
 use Rattle.line_reader.specs.Lines.{IsLine, IsTrimmed, with_end}
 use Rattle.line_reader.specs.Lining.{Lining}
 use Rattle.line_reader.specs.NextLine.{LinesWent, NextAnswer}
-use Rattle.line_reader.specs.Runs.{handed_line}
+use Rattle.codec.specs.Runs.{handed_payload}
 use Rattle.line_reader.specs.SkipLine.{NextGoes, NextTrimmed, SkipsLine}
 
 -- what calls come to: `next` handed a line out; `next_trimmed` did, and showed this of it; a line was skipped; or the end of
@@ -89,8 +89,8 @@ CallsGo {S} remaining s (call ∷ calls) t =
 
 -- the lines that they hand out
 abbrev pub call_lines : Call → List (List ℕ)
-call_lines (Nexts answer) = handed_line answer
-call_lines (NextsTrimmed answer) = handed_line answer
+call_lines (Nexts answer) = handed_payload answer
+call_lines (NextsTrimmed answer) = handed_payload answer
 call_lines (Skips answer) = []
 
 abbrev pub lines_of_calls : List Call → List (List ℕ)

@@ -10,7 +10,7 @@ use Rattle.line_reader.specs.Lines.{IsLine}
 use Rattle.line_reader.specs.Lining.{Lining, IsLining, rest}
 use Rattle.line_reader.specs.LinesWentLaws.{LinesWent-none}
 use Rattle.line_reader.specs.NextLine.{NextAnswer, NextLine, Trims}
-use Rattle.line_reader.specs.Runs.{handed_line}
+use Rattle.codec.specs.Runs.{handed_payload}
 use Rattle.line_reader.specs.SkipLine.{NextGoes, SkipsFirst, SkipsLine, SkipsStill}
 
 -- lines that were skipped are counted in any part
@@ -21,13 +21,13 @@ skipped_append (Trimmed shown ∷ first) later = skipped_append first later
 skipped_append (Skipped line ∷ first) later = omega (arith, skipped_append first later)
 skipped_append (Ended ∷ first) later = skipped_append first later
 
-next_lines : (answer : NextAnswer) → (lines_of_events (next_events answer) ≡ handed_line answer)
+next_lines : (answer : NextAnswer) → (lines_of_events (next_events answer) ≡ handed_payload answer)
     × (skipped_count (next_events answer) ≡ 0)
 next_lines (Ok (Some line)) = (refl, refl)
 next_lines (Ok None) = (refl, refl)
 next_lines (Err e) = (refl, refl)
 
-trimmed_lines : (answer : NextAnswer) → (lines_of_events (trimmed_events answer) ≡ handed_line answer)
+trimmed_lines : (answer : NextAnswer) → (lines_of_events (trimmed_events answer) ≡ handed_payload answer)
     × (skipped_count (trimmed_events answer) ≡ 0)
 trimmed_lines (Ok (Some shown)) = (refl, refl)
 trimmed_lines (Ok None) = (refl, refl)
@@ -75,7 +75,7 @@ module _ {S : Type 0} (remaining : S → Option (List ℕ)) where
 
   -- one call of `next`, or of `next_trimmed`, where no line is being skipped
   next_plain : (s t : Lining S) (answer : NextAnswer) → NextLine remaining s answer t
-      → CallsWent remaining [] s (handed_line answer) 0 t
+      → CallsWent remaining [] s (handed_payload answer) 0 t
   next_plain s t answer n = record {
     events = next_events answer;
     after = [];
@@ -85,7 +85,7 @@ module _ {S : Type 0} (remaining : S → Option (List ℕ)) where
   }
 
   trimmed_plain : (s t : Lining S) (whole answer : NextAnswer) → NextLine remaining s whole t → Trims whole answer t
-      → CallsWent remaining [] s (handed_line answer) 0 t
+      → CallsWent remaining [] s (handed_payload answer) 0 t
   trimmed_plain s t whole answer n trims = record {
     events = trimmed_events answer;
     after = [];
@@ -170,12 +170,12 @@ module _ {S : Type 0} (remaining : S → Option (List ℕ)) where
       → IsLine before → (s.skipping ≡ false → before ≡ []) → IsLining s
       → CallsWent remaining before s (call_lines call) (call_asks call) t
   CallGoes-went s (Nexts answer) t goes before plain closed whole =
-      skips_first s t before plain closed whole answer (handed_line answer) (λ m n. next_plain m t answer n)
-      (λ e is. ap handed_line is) goes
+      skips_first s t before plain closed whole answer (handed_payload answer) (λ m n. next_plain m t answer n)
+      (λ e is. ap handed_payload is) goes
   CallGoes-went s (NextsTrimmed answer) t n before plain closed whole =
-      skips_first s t before plain closed whole n.whole (handed_line answer)
+      skips_first s t before plain closed whole n.whole (handed_payload answer)
       (λ m line. trimmed_plain m t n.whole answer line n.trims)
-      (λ e is. ap handed_line (subst (λ w. Trims w answer t) is n.trims)) n.next
+      (λ e is. ap handed_payload (subst (λ w. Trims w answer t) is n.trims)) n.next
   CallGoes-went s (Skips (Ok count)) t k before plain closed whole =
       skip_ends s t before plain closed whole count k 1 (omega arith)
   CallGoes-went s (Skips (Err e)) t k before plain closed whole =

@@ -13,7 +13,7 @@ use Rattle.line_reader.specs.KnownLinesLaws.{LinesWent-front, all_buffered, firs
 use Rattle.line_reader.specs.Lines.{HasLines, IsLine, IsTrimmed, last_line, newline}
 use Rattle.line_reader.specs.Lining.{Lining, rest}
 use Rattle.line_reader.specs.NextLine.{LinesWent, MetEnd, NextAnswer, NextLine, Trims}
-use Rattle.line_reader.specs.Runs.{handed_line}
+use Rattle.codec.specs.Runs.{handed_payload}
 use Rattle.line_reader.specs.SkipLine.{IsWithEnd, NextGoes, SkipsFirst, SkipsLine, SkipsStill}
 use Rattle.line_reader.specs.TextLaws.{Lines-first, Lines-last, Lines-none, lines-none}
 
@@ -96,7 +96,7 @@ module _ {S : Type 0} (remaining : S → Option (List ℕ)) (s t : Lining S) (li
     left = LeavesBehind-of remaining t later left;
   }
 
-  next_takes : (answer : NextAnswer) → NextLine remaining s answer t → TookFront remaining lines (handed_line answer) t
+  next_takes : (answer : NextAnswer) → NextLine remaining s answer t → TookFront remaining lines (handed_payload answer) t
   next_takes (Ok (Some line)) n =
       let one = takes_one line n in
       front (Handed line ∷ []) (line ∷ []) refl one.0 (one.0, one.1, refl) one.2
@@ -113,7 +113,7 @@ module _ {S : Type 0} (remaining : S → Option (List ℕ)) (s t : Lining S) (li
   either_shown false line shown trims = inl trims
 
   trimmed_takes : (whole answer : NextAnswer) → NextLine remaining s whole t → Trims whole answer t
-      → TookFront remaining lines (handed_line answer) t
+      → TookFront remaining lines (handed_payload answer) t
   trimmed_takes (Ok (Some line)) (Ok (Some shown)) n trims =
       let one = takes_one line n in
       front (Trimmed shown ∷ []) (shown ∷ []) refl one.0
@@ -121,9 +121,9 @@ module _ {S : Type 0} (remaining : S → Option (List ℕ)) (s t : Lining S) (li
   trimmed_takes (Ok (Some line)) (Ok None) n trims = absurd trims
   trimmed_takes (Ok (Some line)) (Err e) n trims = absurd trims
   trimmed_takes (Ok None) answer n trims =
-      subst (λ a. TookFront remaining lines (handed_line a) t) (sym trims) (next_takes (Ok None) n)
+      subst (λ a. TookFront remaining lines (handed_payload a) t) (sym trims) (next_takes (Ok None) n)
   trimmed_takes (Err e) answer n trims =
-      subst (λ a. TookFront remaining lines (handed_line a) t) (sym trims) (next_takes (Err e) n)
+      subst (λ a. TookFront remaining lines (handed_payload a) t) (sym trims) (next_takes (Err e) n)
 
 -- a skip, or the part of a call that goes on skipping
 module _ {S : Type 0} (remaining : S → Option (List ℕ)) (s t : Lining S) (before : List ℕ) (lines : List (List ℕ))
@@ -276,12 +276,12 @@ module _ {S : Type 0} (remaining : S → Option (List ℕ)) where
   call_takes : (s : Lining S) (call : Call) (t : Lining S) → CallGoes remaining s call t → (before : List ℕ)
       (lines : List (List ℕ)) → LeavesBehind remaining before s lines → TookFront remaining lines (call_lines call) t
   call_takes s (Nexts answer) t goes before lines b =
-      goes_takes s t before lines (handed_line answer) b answer (λ m some has n. next_takes remaining m t some has answer n)
-      (λ e is. ap handed_line is) goes
+      goes_takes s t before lines (handed_payload answer) b answer (λ m some has n. next_takes remaining m t some has answer n)
+      (λ e is. ap handed_payload is) goes
   call_takes s (NextsTrimmed answer) t n before lines b =
-      goes_takes s t before lines (handed_line answer) b n.whole
+      goes_takes s t before lines (handed_payload answer) b n.whole
       (λ m some has line. trimmed_takes remaining m t some has n.whole answer line n.trims)
-      (λ e is. ap handed_line (subst (λ w. Trims w answer t) is n.trims)) n.next
+      (λ e is. ap handed_payload (subst (λ w. Trims w answer t) is n.trims)) n.next
   call_takes s (Skips (Ok count)) t k before lines b = skip_takes remaining s t before lines b count k
   call_takes s (Skips (Err e)) t k before lines b = skip_failed_takes remaining s t before lines b e k
 

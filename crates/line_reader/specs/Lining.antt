@@ -36,6 +36,10 @@ pub record ReadsLines {S : Type 0} (f : Piecing S Lines) (skipping : Bool) : Typ
   pub skipped : skipping ≡ true → pieces.rest f ≡ []
   pub goes_on : skipping ≡ true → f.ended ≡ false
 
+-- the words of a reader of lines are those of this reader of pieces, whose decoder is the greatest length
+abbrev pub piecing : {S : Type 0} → Lining S → Piecing S ℕ
+piecing f = record { reader = f.reader; decoder = f.max; handed = f.handed; seen = 0; ended = f.ended }
+
 -- the buffered bytes that weren't handed out
 abbrev pub rest : {S : Type 0} → Lining S → List ℕ
 rest f = drop f.handed f.reader.block.bytes

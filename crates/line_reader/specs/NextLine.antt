@@ -1,70 +1,48 @@
 -- What the calls of a reader of lines promise.
-use Rattle.std.specs.Prelude.{◌≡◌, ℕ, ◌+◌, ◌<◌, ◌≤◌, ◌⊎◌, List, [], ◌∷◌, ◌++◌, length, true, false, MatchBool, Option, None, Some, Result, Ok, Err, option_copied}
+use Rattle.std.specs.Prelude.{◌≡◌, ℕ, ◌<◌, ◌≤◌, ◌⊎◌, List, [], length, true, false, MatchBool, Option, None, Some, Result, Ok, Err}
 use Rattle.std.specs.Borrow.{Bor}
 use Rattle.std.specs.declared.io.Error.{Error}
 use Rattle.buffer_redux.specs.Buffered.{Buffered}
-use Rattle.buffer_redux.specs.LogGrows.{ReadLogGrows}
-use Rattle.buffer_redux.specs.BufReader.{InnerGives}
-use Rattle.buffer_redux.specs.Sparing.{PotentialHeld}
-use Rattle.codec.specs.Decoding.{bytes_at}
 use Rattle.codec.specs.declared.decoder.Span.{Span}
+use Rattle.codec.specs.NextPiece as pieces
+use Rattle.codec.specs.NextPiece.{PiecesWent}
 use Rattle.line_reader.specs.declared.error.LineError.{LineError}
 use Rattle.line_reader.specs.declared.error.LineError.TheVariants.{TooLong, Io}
 use Rattle.line_reader.specs.Lines.{IsLine, BeginsTooLong, BeginsWhole, IsTrimmed, IsUnended, with_end}
-use Rattle.line_reader.specs.Lining.{Lining, IsLining, rest, most}
+use Rattle.line_reader.specs.Lining.{Lining, IsLining, piecing, rest, most}
 
--- these bytes, then what is left, are what was left, then what was given since
-pub record HandsBytes {S : Type 0} (s : Lining S) (bytes : List ℕ) (t : Lining S) : Type 0 where
-  pub got : List ℕ
-  pub given : t.reader.log.reads.given ≡ s.reader.log.reads.given ++ got
-  pub equal : bytes ++ rest t ≡ rest s ++ got
-
--- what any calls do, one after another, that handed out or skipped these bytes: lines, each with the end that it has. No
--- byte is lost; of what the inner reader is known to have left, just what it gave is gone; no more bytes are moved than
--- are given, over all calls since the reader was made; and no memory is taken
-pub record LinesWent {S : Type 0} (remaining : S → Option (List ℕ)) (s : Lining S) (bytes : List ℕ)
-    (t : Lining S) : Type 0 where
-  pub hands : HandsBytes s bytes t
-  pub known : InnerGives remaining s.reader t.reader
-  pub grows : ReadLogGrows s.reader.log.reads t.reader.log.reads
-  pub held : PotentialHeld (most s) s.reader t.reader
-  pub capacity : t.reader.block.capacity ≡ s.reader.block.capacity
-  pub limit : t.reader.block.limit ≡ s.reader.block.limit
-  pub max : t.max ≡ s.max
+-- what any calls do, one after another, that handed out or skipped these bytes: lines, each with the end that it has
+abbrev pub LinesWent : {S : Type 0} → (S → Option (List ℕ)) → Lining S → List ℕ → Lining S → Type 0
+LinesWent remaining s bytes t = PiecesWent remaining (most s) (piecing s) bytes (piecing t)
 
 -- the stream was asked, also for the last time, only where what was left, then what had come, was such; and each ask but
 -- the last gave a byte
-pub record AskedOver {S : Type 0} (Such : List ℕ → Type 0) (s t : Lining S) : Type 0 where
-  pub not_ended : s.ended ≡ false
-  pub came : List ℕ
-  pub last : List ℕ
-  pub given : t.reader.log.reads.given ≡ s.reader.log.reads.given ++ (came ++ last)
-  pub such : Such (rest s ++ came)
-  pub asks : t.reader.log.reads.asks ≤ s.reader.log.reads.asks + length came + 1
+abbrev pub AskedOver : {S : Type 0} → (List ℕ → Type 0) → Lining S → Lining S → Type 0
+AskedOver Such s t = pieces.AskedOver Such (piecing s) (piecing t)
 
 -- so it was, or it wasn't asked
 abbrev pub AskedWhere : {S : Type 0} → (List ℕ → Type 0) → Lining S → Lining S → Type 0
-AskedWhere Such s t = (t.reader.log ≡ s.reader.log) ⊎ AskedOver Such s t
+AskedWhere Such s t = pieces.AskedWhere Such (piecing s) (piecing t)
 
 -- no fault was met
 abbrev pub NoFault : {S : Type 0} → Lining S → Lining S → Type 0
-NoFault s t = t.reader.log.reads.faults ≡ s.reader.log.reads.faults
+NoFault s t = pieces.NoFault (piecing s) (piecing t)
 
 -- this error is the one fault that the reader met
 abbrev pub Faulted : {S : Type 0} → Lining S → Error → Lining S → Type 0
-Faulted s e t = t.reader.log.reads.faults ≡ s.reader.log.reads.faults ++ e ∷ []
+Faulted s e t = pieces.Faulted (piecing s) e (piecing t)
 
 -- how often the reader gave nothing so far though it was asked for something
 abbrev pub empties : {S P : Type 0} → Buffered S P → ℕ
-empties s = s.log.reads.zero_reads
+empties s = pieces.empties s
 
 -- the reader never gave nothing
 abbrev pub NoEnd : {S : Type 0} → Lining S → Lining S → Type 0
-NoEnd s t = empties t.reader ≡ empties s.reader
+NoEnd s t = pieces.NoEnd (piecing s) (piecing t)
 
 -- it did once, and wasn't asked again; or it had before, which no call had told yet, and wasn't asked
 abbrev pub MetEnd : {S : Type 0} → Lining S → Lining S → Type 0
-MetEnd s t = MatchBool s.ended (NoEnd s t) (empties t.reader ≡ empties s.reader + 1)
+MetEnd s t = pieces.MetEnd (piecing s) (piecing t)
 
 -- what a call of `next` answers: a line, `None` at the end, or why there is no line
 abbrev pub NextAnswer : Type 0
@@ -72,8 +50,7 @@ NextAnswer = Result (Option (List ℕ)) LineError
 
 -- the answer, with the line in place of the slice that is lent
 abbrev pub answer_of : Result (Option (Bor (List ℕ))) LineError → NextAnswer
-answer_of (Ok found) = Ok (option_copied found)
-answer_of (Err e) = Err e
+answer_of answer = pieces.answer_of answer
 
 -- these bytes are the line and its end; or they are the last line, which has none, and nothing else is left
 abbrev pub IsHanded : {S : Type 0} → Lining S → List ℕ → List ℕ → Lining S → Type 0
@@ -119,11 +96,8 @@ Trims (Err e) answer t = answer ≡ Err e
 
 -- what is lent once the next line stands whole in the buffer
 abbrev pub load_answer : {S : Type 0} → Result (Option Span) LineError → Lining S → NextAnswer
-load_answer (Ok (Some span)) t = Ok (Some (bytes_at span t.reader.block.bytes))
-load_answer (Ok None) t = Ok None
-load_answer (Err e) t = Err e
+load_answer answer t = pieces.load_answer answer (piecing t)
 
 -- what is lent of a line that was buffered
 abbrev pub buffered_answer : {S : Type 0} → Option Span → Lining S → Option (List ℕ)
-buffered_answer (Some span) t = Some (bytes_at span t.reader.block.bytes)
-buffered_answer None t = None
+buffered_answer found t = pieces.buffered_answer found (piecing t)

@@ -2,7 +2,7 @@
 use Rattle.std.specs.Prelude.{◌≡◌, ℕ, List, [], ◌∷◌, ◌++◌, map, Option}
 use Rattle.line_reader.specs.Calls.{Call, CallGoes, CallsGo, Nexts, NextsTrimmed, Skips}
 use Rattle.line_reader.specs.Lining.{Lining}
-use Rattle.line_reader.specs.Runs.{kept_answer}
+use Rattle.codec.specs.Runs.{kept_answer}
 use Rattle.line_reader.specs.declared.laws.calls.Ask.{Ask}
 use Rattle.line_reader.specs.declared.laws.calls.Ask.TheVariants as ask
 use Rattle.line_reader.specs.declared.laws.calls.Played.{Played}

@@ -1,6 +1,8 @@
 -- Laws of runs: they go on by one call, what their calls do joins, and their lines are those of the text.
 use Rattle.std.specs.Prelude.{◌≡◌, ℕ, ◌<◌, List, [], ◌∷◌, ◌++◌, length, true, false, Option, None, Some, Ok, Err}
 use Rattle.std.proofs.Common.{sym, ap, subst, ◌∙◌, refl, inl, inr, append-nil}
+use Rattle.codec.specs.Runs.{EndFollows, NoneTold, all_handed}
+use Rattle.codec.specs.RunsLaws.{AnswerRuns-more}
 use Rattle.line_reader.specs.declared.error.LineError.{LineError}
 use Rattle.line_reader.specs.declared.error.LineError.TheVariants.{TooLong, Io}
 use Rattle.line_reader.specs.Lines.{HasLines, IsLine}
@@ -10,7 +12,7 @@ use Rattle.line_reader.specs.NextLine.{LinesWent, NextAnswer, NextAnswers}
 use Rattle.line_reader.specs.NextLineLaws.{NextGoes-plain}
 use Rattle.line_reader.specs.SkipLine.{NextGoes}
 use Rattle.line_reader.specs.TextLaws.{lines-none, lines-last, lines-ended}
-use Rattle.line_reader.specs.Runs.{Cuts, EndFollows, NextRuns, NoneTold, RunWent, all_handed}
+use Rattle.line_reader.specs.Runs.{Cuts, NextRuns, RunWent, RunWentOpen}
 
 -- one without an end is the last
 cuts_last : (answers : List NextAnswer) (line bytes more : List ℕ) → NoneTold answers → IsLine line
@@ -38,9 +40,7 @@ Cuts-text (Err e ∷ answers) bytes none cut = Cuts-text answers bytes none cut
 module _ {S : Type 0} (remaining : S → Option (List ℕ)) where
   pub NextRuns-more : (s : Lining S) (answers : List NextAnswer) (m : Lining S) (answer : NextAnswer) (t : Lining S)
       → NextRuns remaining s answers m → NextGoes remaining m answer t → NextRuns remaining s (answers ++ answer ∷ []) t
-  NextRuns-more s [] m answer t e next = (t, subst (λ x. NextGoes remaining x answer t) (sym e) next, refl)
-  NextRuns-more s (a ∷ answers) m answer t run next =
-      (run.0, run.1, NextRuns-more run.0 answers m answer t run.2 next)
+  NextRuns-more = AnswerRuns-more (NextGoes remaining)
 
   -- after a line without an end comes the end of the stream
   end_follows : (m : Lining S) (answers : List NextAnswer) (t : Lining S) → m.ended ≡ true → m.skipping ≡ false
@@ -80,3 +80,7 @@ module _ {S : Type 0} (remaining : S → Option (List ℕ)) where
         cut = cut_off s run.0 t answer answers next.bytes more.bytes next.answers next.open' run.2 more.cut;
         went = LinesWent-joins remaining s run.0 t next.bytes more.bytes next.went more.went;
       }
+
+  pub NextRuns-open : (s : Lining S) (answers : List NextAnswer) (t : Lining S) → NextRuns remaining s answers t
+      → RunWentOpen remaining s answers t
+  NextRuns-open s answers t run = λ open'. NextRuns-went s answers t open' run

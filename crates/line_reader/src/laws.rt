@@ -10,7 +10,8 @@ ghost use Rattle.line_reader.specs.Lines.{FitsLine, HasLines, IsLine};
 ghost use Rattle.line_reader.specs.Lining.{HasLine, Lining, IsFresh, IsLining, rest};
 ghost use Rattle.line_reader.specs.NextLine.{LinesWent, NextAnswer};
 ghost use Rattle.line_reader.specs.SkipLine.{NextGoes, NextTrimmed, SkipsLine};
-ghost use Rattle.line_reader.specs.Runs.{Cuts, NoneTold, all_handed};
+ghost use Rattle.codec.specs.Runs.{NoneTold, all_handed};
+ghost use Rattle.line_reader.specs.Runs.{Cuts};
 
 mod calls;
 mod lists;

@@ -1,7 +1,8 @@
 //! Any number of calls, one after another, each with its answer.
 ghost use Rattle.std.specs.Prelude.{map, IfOk, OnOk, OnErr, is_ok, vec_capacity};
 ghost use Rattle.frame_reader.specs.Next.{Next};
-ghost use Rattle.frame_reader.specs.Runs.{NextLost, NextPlayed, NextStopped, WritePlayed, kept_answer};
+ghost use Rattle.codec.specs.Runs.{kept_answer};
+ghost use Rattle.frame_reader.specs.Runs.{NextLost, NextPlayed, NextStopped, WritePlayed};
 
 use crate::error::{FrameError, WriteFrameError};
 use crate::reader::FrameReader;

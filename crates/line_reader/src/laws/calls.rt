@@ -2,7 +2,7 @@
 ghost use Rattle.std.specs.Prelude.{List, ℕ, Ok, Some, map, IfOk, OnOk, OnErr};
 ghost use Rattle.line_reader.specs.Calls.{Call};
 ghost use Rattle.line_reader.specs.Played.{CallMade, CallsPlayed, CallsStopped, kept_call};
-ghost use Rattle.line_reader.specs.Runs.{kept_answer};
+ghost use Rattle.codec.specs.Runs.{kept_answer};
 ghost use Rattle.line_reader.specs.SkipLine.{NextTrimmed};
 
 use crate::error::LineError;

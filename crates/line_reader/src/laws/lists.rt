@@ -7,7 +7,8 @@ ghost use Rattle.buffer_redux.specs.WriteAll.{TookBeginning};
 ghost use Rattle.line_reader.specs.KnownLines.{HasLeft, LeavesLines, ReadStopped, BufferRefused};
 ghost use Rattle.line_reader.specs.Lines.{FitsLine, with_ends};
 ghost use Rattle.line_reader.specs.SkipLine.{NextGoes};
-ghost use Rattle.line_reader.specs.Runs.{AllRead, NextFails, kept_answer};
+ghost use Rattle.codec.specs.Runs.{kept_answer};
+ghost use Rattle.line_reader.specs.Runs.{AllRead, NextFails};
 
 use crate::error::LineError;
 use crate::laws::runs::next_copied;

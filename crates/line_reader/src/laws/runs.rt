@@ -1,7 +1,8 @@
 //! Any number of calls, one after another, each with its answer.
-ghost use Rattle.std.specs.Prelude.{map, IfOk, OnOk, OnErr};
+ghost use Rattle.std.specs.Prelude.{map, IfOk, OnOk, OnErr, vec_capacity};
 ghost use Rattle.line_reader.specs.SkipLine.{NextGoes};
-ghost use Rattle.line_reader.specs.Runs.{NextLost, NextPlayed, NextStopped, kept_answer};
+ghost use Rattle.codec.specs.Runs.{kept_answer};
+ghost use Rattle.line_reader.specs.Runs.{NextLost, NextPlayed, NextStopped};
 
 use crate::error::LineError;
 use crate::reader::LineReader;
@@ -11,7 +12,8 @@ use std::alloc::{AllocError, Global};
 /// Calls `next` so many times, whatever it returns, and adds each answer to `answers`. The lines that were handed out, each
 /// with its end, then what is left, are the stream, however it was cut.
 ///
-/// An `Err` is refused memory: then the answer of the last call that was made is lost.
+/// An `Err` is refused memory: then the answer of the last call that was made is lost. Memory is taken for each line, and for
+/// `answers` where that has no room.
 pub fn play_next<R: TellRead>(
     alloc: Global,
     reader: &mut LineReader<R>,
@@ -20,7 +22,7 @@ pub fn play_next<R: TellRead>(
 ) -> Result<(), AllocError>
     ensures played { OnOk result (NextPlayed R.remaining reader.old calls
         (map kept_answer answers.old.items) (map kept_answer answers.new.items) reader.new) }
-    ensures stopped { OnErr result (NextStopped R.remaining reader.old calls
+    ensures stopped { OnErr result (NextStopped R.remaining reader.old calls (vec_capacity answers.old)
         (map kept_answer answers.old.items) (map kept_answer answers.new.items) reader.new) }
 {
     for _ in 0..calls {

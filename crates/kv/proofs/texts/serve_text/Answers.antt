@@ -17,7 +17,8 @@ returns-in-Ok c =
     let made = c.in_ok-writer.ensures.made.made in
     let w = c.in_ok-writer.writer in
     let end = c.in-Ok.ensures in
-    let front = LinesWent-front (λ s. Some (told_stream {S = Bor (List ℕ)} s).now) _ _ c.args.text.now served.lines.bytes
+    let front = LinesWent-front (λ s. Some (told_stream {S = Bor (List ℕ)} s).now) c.in_ok-reader.reader ends.last.commands
+    c.args.text.now served.lines.bytes
     (IsFresh-ahead (λ s. Some (told_stream {S = Bor (List ℕ)} s).now) _ _ _ _ _ c.args.text.now c.in_ok-reader.ensures.made
     (ap (λ (s : Bor (List ℕ)). Some s.now) c.new.ensures.stream)) served.lines.went in
     let all = FlushedAlong-of _ _ _ (ToldWrites-joins _) w c.serve.new.writer end.left replies _ served.all.along end.flushed in

@@ -1,14 +1,10 @@
-use Rattle.std.proofs.Common.{◌≡◌, ◌≤◌, List, ◌++◌, length, map, vec_capacity}
-use Rattle.frame_reader.specs.Next.{NextAnswer}
-use Rattle.frame_reader.specs.Runs.{NextRuns, kept_answer}
+use Rattle.std.proofs.Common.{vec_capacity}
+use Rattle.codec.specs.RunsLaws.{PlaysSo}
+use Rattle.codec.specs.Runs.{kept_answer}
+use Rattle.frame_reader.specs.Next.{Next}
 use Rattle.frame_reader.proofs.laws.runs.play_next.Given as goal
 
 -- the answers so far are a run of so many calls
 abbrev pub invariant-loop : goal.invariant-loop
-invariant-loop g l = record {
-  answers : List NextAnswer;
-  gained : map kept_answer l.answers.items ≡ map kept_answer l.fn.answers.items ++ answers;
-  count : length answers ≡ l.counter;
-  capacity : vec_capacity l.fn.answers ≤ vec_capacity l.answers;
-  run : NextRuns g.R.TellRead.remaining l.fn.reader answers l.reader;
-}
+invariant-loop g l = PlaysSo (Next g.R.TellRead.remaining) kept_answer l.fn.answers.items l.answers.items
+    (vec_capacity l.fn.answers) (vec_capacity l.answers) l.fn.reader l.counter l.reader

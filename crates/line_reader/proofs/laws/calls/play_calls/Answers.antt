@@ -2,7 +2,7 @@ use Rattle.std.proofs.Common.{[], ◌∷◌, ◌++◌, ◌∙◌, ap, append-nil
 use Rattle.std.proofs.lemmas.List.{take_all}
 use Rattle.line_reader.specs.Played.{kept_call}
 use Rattle.line_reader.proofs.Playing.{asked_more, run_more, stopped}
-use Rattle.line_reader.proofs.Recording.{gains_more, on_err}
+use Rattle.codec.specs.RunsLaws.{gains_more, on_err}
 use Rattle.line_reader.proofs.laws.calls.play_calls.Goals as goal
 
 pub loop-ask-init : goal.loop-ask-init

@@ -1,6 +1,6 @@
 use Rattle.std.proofs.Common.{Ok, Some, sym}
 use Rattle.line_reader.specs.Calls.{Nexts, NextsTrimmed}
-use Rattle.line_reader.proofs.Recording.{on_err}
+use Rattle.codec.specs.RunsLaws.{on_err}
 use Rattle.line_reader.proofs.laws.calls.play_one.Goals as goal
 
 pub returns-in_err-next_copied-in-Next-clause-lost : goal.returns-in_err-next_copied-in-Next-clause-lost

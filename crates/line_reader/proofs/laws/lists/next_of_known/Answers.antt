@@ -2,7 +2,7 @@ use Rattle.std.proofs.Common.{Err, ap, subst, ◌∙◌}
 use Rattle.line_reader.specs.declared.error.LineError.TheVariants.{TooLong}
 use Rattle.line_reader.specs.KnownLinesLaws.{NextGoes-known}
 use Rattle.line_reader.specs.SkipLine.{NextGoes}
-use Rattle.line_reader.specs.Runs.{kept_answer}
+use Rattle.codec.specs.Runs.{kept_answer}
 use Rattle.line_reader.proofs.laws.lists.next_of_known.Goals as goal
 
 pub unreachable-requires : goal.unreachable-requires

@@ -1,8 +1,9 @@
 use Rattle.std.proofs.Common.{◌≡◌, ◌+◌, map, drop, ◌++◌, ◌∷◌, [], Ok, sym, subst, arith}
 use Rattle.std.proofs.lemmas.Result.{err_from_is_err_and}
 use Rattle.line_reader.specs.SkipLine.{NextGoes}
-use Rattle.line_reader.specs.Runs.{kept_answer}
-use Rattle.line_reader.proofs.Stepping.{ReadsAll, end_fails, kept_more, leaves, read_all, read_fails, read_lost, read_more, read_none, read_some}
+use Rattle.codec.specs.PayloadsLaws.{kept_more}
+use Rattle.codec.specs.Runs.{kept_answer}
+use Rattle.line_reader.proofs.Stepping.{ReadsAll, end_fails, leaves, read_all, read_fails, read_lost, read_more, read_none, read_some}
 use Rattle.line_reader.proofs.laws.lists.read_each.Goals as goal
 
 pub next_of_known-requires : goal.next_of_known-requires

@@ -1,43 +1,37 @@
-use Rattle.std.proofs.Common.{map, ◌+◌, ◌++◌, ◌∷◌, [], Ok, Some, arith, length-append, ap, ◌∙◌}
-use Rattle.line_reader.specs.Runs.{kept_answer}
-use Rattle.line_reader.specs.RunsLaws.{NextRuns-more}
-use Rattle.line_reader.proofs.Recording.{gains_more, next_played, next_stopped, on_err}
+use Rattle.std.proofs.Common.{vec_capacity, Ok, Some, arith, inl, inr, refl, length, ap}
+use Rattle.codec.specs.RunsLaws.{all_played, on_err, one_lost, plays_more}
+use Rattle.codec.specs.Runs.{handed_payload, kept_answer}
+use Rattle.line_reader.specs.Runs.{RunWentOpen}
+use Rattle.line_reader.specs.RunsLaws.{NextRuns-open}
 use Rattle.line_reader.proofs.laws.runs.play_next.Goals as goal
 
 pub returns-in_err-answer-clause-stopped : goal.returns-in_err-answer-clause-stopped
 returns-in_err-answer-clause-stopped g c =
-    let inv = c.loop.invariant in
+    let remaining = g.R.TellRead.remaining in
     let last = c.in_err-answer.ensures.lost in
     on_err c.from_residual.result
-    (next_stopped g.R.TellRead.remaining c.args.reader.now c.loop.reader (map kept_answer c.args.answers.now.items)
-    (map kept_answer c.loop.answers.items) inv.answers inv.gained inv.run c.args.calls
-    (omega (arith, inv.count, c.loop-test.true)) (Ok (Some last.line)) c.next_copied.new.reader last.next)
+    (one_lost c.loop.invariant (RunWentOpen remaining) (NextRuns-open remaining) c.args.calls handed_payload
+    (omega (arith, c.loop-test.true))
+    c.loop.answers.items refl (Ok (Some last.line)) c.next_copied.new.reader (inl (omega arith)) last.next)
 
 pub returns-in_err-push-clause-stopped : goal.returns-in_err-push-clause-stopped
 returns-in_err-push-clause-stopped g c =
-    let inv = c.loop.invariant in
+    let remaining = g.R.TellRead.remaining in
+    let kept = c.in_err-push.ensures in
     on_err c.from_residual-in_err-push.result
-    (next_stopped g.R.TellRead.remaining c.args.reader.now c.loop.reader (map kept_answer c.args.answers.now.items)
-    (map kept_answer c.push.new.self.items) inv.answers (ap (λ l. map kept_answer l) c.in_err-push.ensures.items ∙ inv.gained)
-    inv.run c.args.calls (omega (arith, inv.count, c.loop-test.true)) (kept_answer c.in_ok-answer.answer)
-    c.next_copied.new.reader c.in_ok-answer.ensures.next)
+    (one_lost c.loop.invariant (RunWentOpen remaining) (NextRuns-open remaining) c.args.calls handed_payload
+    (omega (arith, c.loop-test.true))
+    c.push.new.self.items kept.items (kept_answer c.in_ok-answer.answer) c.next_copied.new.reader
+    (inr (omega (arith, kept.full, ap length kept.items))) c.in_ok-answer.ensures.next)
 
 pub loop-preserved : goal.loop-preserved
 loop-preserved g c =
-    let inv = c.loop.invariant in
-    let answer = c.in_ok-answer.answer in
-    record {
-      answers = inv.answers ++ kept_answer answer ∷ [];
-      gained = gains_more kept_answer c.args.answers.now.items c.loop.answers.items c.push.new.self.items inv.answers answer
-          inv.gained c.in_ok-push.ensures.items;
-      count = length-append inv.answers (kept_answer answer ∷ []) ∙ ap (λ n. n + 1) inv.count;
-      run = NextRuns-more g.R.TellRead.remaining c.args.reader.now inv.answers c.loop.reader (kept_answer answer)
-          c.next_copied.new.reader inv.run c.in_ok-answer.ensures.next;
-    }
+    let remaining = g.R.TellRead.remaining in
+    plays_more c.loop.invariant c.push.new.self.items (vec_capacity c.push.new.self) c.in_ok-answer.answer
+    c.next_copied.new.reader c.in_ok-push.ensures.items c.in_ok-push.ensures.capacity c.in_ok-answer.ensures.next
 
 pub returns-clause-played : goal.returns-clause-played
 returns-clause-played g c =
-    let inv = c.loop.invariant in
-    next_played g.R.TellRead.remaining c.args.reader.now c.loop.reader (map kept_answer c.args.answers.now.items)
-    (map kept_answer c.loop.answers.items) inv.answers inv.gained inv.run c.args.calls
-    (omega (arith, inv.count, c.loop-test.false, c.loop.auto.counter-end))
+    let remaining = g.R.TellRead.remaining in
+    all_played c.loop.invariant (RunWentOpen remaining) (NextRuns-open remaining) c.args.calls
+    (omega (arith, c.loop-test.false, c.loop.auto.counter-end))
