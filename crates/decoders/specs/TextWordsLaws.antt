@@ -12,7 +12,7 @@ netstrings_sound max fits = record { some = omega arith; small = omega (arith, f
 pub bulk_strings_sound : (max : ℕ) → IsSmall max → IsSound (bulk_strings max)
 bulk_strings_sound max fits = record { some = omega arith; small = omega (arith, fits) }
 
--- a colon, or CR, is no digit
+-- a colon is above the digits, and CR below them
 pub netstrings_written : (max : ℕ) → IsWritten (netstrings max)
 netstrings_written max = record { few = omega arith; no_digit = inr (omega arith) }
 
