@@ -1,10 +1,9 @@
 -- What a call of a reader of pieces has done so far, turn by turn.
-use Rattle.std.proofs.Common.{◌≡◌, ℕ, ◌+◌, ◌<◌, List, [], ◌++◌, length, Bool, true, false, refl, sym, ap, subst, ◌∙◌, arith, inl, inr, append_assoc, length-append, Option, Result, Ok}
-use Rattle.std.specs.Prelude.{MatchBool}
+use Rattle.std.proofs.Common.{◌≡◌, ℕ, ◌+◌, ◌<◌, List, [], ◌++◌, length, Bool, true, false, refl, sym, ap, ◌∙◌, arith, inl, inr, append_assoc, length-append, Option, Result, Ok}
 use Rattle.std.specs.declared.io.Error.{Error}
 use Rattle.codec.specs.Grammar.{Grammar, IsOpen, Lacks}
 use Rattle.codec.specs.GrammarLaws.{open_with}
-use Rattle.codec.specs.NextPiece.{AsksGive, PiecesWent, AskedWhere, NoFault, NoEnd, MetEnd, empties}
+use Rattle.codec.specs.NextPiece.{AsksGive, PiecesWent, AskedWhere, NoFault, NoEnd}
 use Rattle.codec.specs.NextPieceLaws.{AskedWhere-told}
 use Rattle.codec.specs.PiecesWentLaws.{PiecesWent-none, PiecesWent-joins}
 use Rattle.codec.specs.Piecing.{Piecing, IsPiecing, rest}
@@ -19,13 +18,6 @@ pub record Head {S D W : Type 0} (remaining : S → Option (List ℕ)) (g : Gram
   pub no_end : NoEnd s m
   pub asks : AsksGive s m
   pub asked : AskedWhere (IsOpen g) s m
-
--- where something is left the stream hasn't ended
-pub open_ended : {S D W : Type 0} (g : Grammar W) (f : Piecing S D) → IsPiecing g f → 0 < length (rest f) → f.ended ≡ false
-open_ended g f whole some = elim f.ended as (λ b. b ≡ f.ended → b ≡ false) [
-  | true ↦ λ is. absurd (omega (arith, some, ap length (whole.ended (sym is))))
-  | false ↦ λ is. refl
-] refl
 
 module _ {S D W : Type 0} (remaining : S → Option (List ℕ)) (g : Grammar W) (s : Piecing S D) where
   -- nothing was done yet
@@ -105,13 +97,3 @@ module _ {S D W : Type 0} (remaining : S → Option (List ℕ)) (g : Grammar W) 
       asks = omega (arith, h.asks, (a.more refl).3);
       asked = asked_on n lacks (Ok true) t a;
     }
-
-    pub MetEnd-on : (t : Piecing S D) → MetEnd m t → MetEnd s t
-    MetEnd-on t met =
-        let P : Bool → Type 0 =
-        λ b. MatchBool b (empties t.reader ≡ empties s.reader) (empties t.reader ≡ empties s.reader + 1) in
-        elim m.ended as (λ b. b ≡ m.ended
-        → MatchBool b (empties t.reader ≡ empties m.reader) (empties t.reader ≡ empties m.reader + 1) → MetEnd s t) [
-          | true ↦ λ is none. subst P (is ∙ h.ended) (none ∙ h.no_end)
-          | false ↦ λ is once. subst P (is ∙ h.ended) (once ∙ ap (λ n. n + 1) h.no_end)
-        ] refl met

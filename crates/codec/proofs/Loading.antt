@@ -1,6 +1,5 @@
 -- What the turns of `step_on` come to.
 use Rattle.std.proofs.Common.{◌≡◌, ℕ, ◌+◌, ◌<◌, ◌≤◌, List, [], ◌∷◌, ◌++◌, length, length-take-le, drop, take, true, false, refl, sym, ap, subst, ◌∙◌, arith, inl, inr, append-nil, Bool, Option, Result, Ok, Err, Some, None, length-append, length-drop}
-use Rattle.std.specs.Prelude.{MatchBool}
 use Rattle.std.proofs.lemmas.List.{drop-drop, nil_from_length, take-append-drop}
 use Rattle.std.specs.declared.io.Error.{Error}
 use Rattle.codec.specs.declared.decoder.Span.{Span}
@@ -8,13 +7,14 @@ use Rattle.codec.specs.declared.error.NextError.{NextError}
 use Rattle.codec.specs.declared.error.NextError.TheVariants.{Wrong, Io}
 use Rattle.codec.specs.Decoding.{bytes_at}
 use Rattle.codec.specs.Grammar.{Grammar, IsLawful, IsOpen, Lacks}
-use Rattle.codec.specs.NextPiece.{load_answer, AsksGive, AskedWhere, NextAnswer, NextAnswers, NextPiece, MetEnd, NoEnd, PiecesWent, empties}
-use Rattle.codec.specs.NextPieceLaws.{AskedWhere-told}
+use Rattle.codec.specs.NextPiece.{load_answer, AsksGive, AskedWhere, NextAnswer, NextPiece, MetEnd, NoEnd, PiecesWent}
+use Rattle.codec.specs.NextPieceLaws.{AskedWhere-told, MetEnd-joins, MetEnd-once, still_going}
 use Rattle.codec.specs.PiecesWentLaws.{PiecesWent-joins, PiecesWent-inside}
-use Rattle.codec.specs.Piecing.{Piecing, IsPiecing, rest}
+use Rattle.codec.specs.Piecing.{Piecing, IsPiecing, rest, retold}
+use Rattle.codec.specs.RetoldLaws.{NextPiece-retold}
 use Rattle.codec.specs.Steps.{AsksFor, TakesEnd, TakesPiece, WantsMore}
 use Rattle.codec.proofs.Reading.{rest_whole}
-use Rattle.codec.proofs.Heads.{Head, Head-told, Head-more, MetEnd-on, asked_on, open_ended, still_open, went_on}
+use Rattle.codec.proofs.Heads.{Head, Head-told, Head-more, asked_on, still_open, went_on}
 
 -- where an end was met nothing was asked that gave none
 gave_end : {S D : Type 0} {Such : List ℕ → Type 0} (s t : Piecing S D) → AskedWhere Such s t → MetEnd s t → NoEnd s t
@@ -22,10 +22,7 @@ gave_end : {S D : Type 0} {Such : List ℕ → Type 0} (s t : Piecing S D) → A
 gave_end s t (inl same) met none =
     omega (arith, ap (λ l. l.reads.asks) same, ap (λ l. length l.reads.given) same)
 gave_end s t (inr over) met none =
-    let P : Bool → Type 0 =
-    λ b. MatchBool b (empties t.reader ≡ empties s.reader) (empties t.reader ≡ empties s.reader + 1) in
-    let once : empties t.reader ≡ empties s.reader + 1 = subst P over.not_ended met in
-    absurd (omega (arith, once, none))
+    absurd (omega (arith, MetEnd-once s t over.not_ended met, none))
 
 -- what holds before each turn of `step_on`: nothing was handed out, and the next piece isn't buffered whole
 pub record LoadHead {S D W : Type 0} (remaining : S → Option (List ℕ)) (g : Grammar W) (s m : Piecing S D) (need : ℕ)
@@ -50,7 +47,7 @@ module _ {S D W : Type 0} (remaining : S → Option (List ℕ)) (g : Grammar W) 
     )
 
     open_m : m.ended ≡ false
-    open_m = open_ended g m whole some
+    open_m = still_going m.ended (rest m) whole.ended some
 
     pub takes_next : NextPiece remaining g s (Ok (Some (bytes_at span (rest m)))) t
     takes_next =
@@ -143,7 +140,7 @@ module _ {S D W : Type 0} (remaining : S → Option (List ℕ)) (g : Grammar W) 
 
     module _ (t : Piecing S D) (a : AsksFor remaining g need m (Ok false) t) where
       ends : MetEnd s t
-      ends = MetEnd-on remaining g s m h.head t (a.end refl).1
+      ends = MetEnd-joins s m t h.head.ended h.head.no_end (a.end refl).1
 
       pub end_open : IsOpen g (rest t)
       end_open = still_open remaining g s m h.head need h.lacks (Ok false) t a (a.end refl).0
@@ -196,7 +193,7 @@ module _ {S D W : Type 0} (remaining : S → Option (List ℕ)) (g : Grammar W) 
       load_finished (Err (Wrong e)) v (some, cut, is) whole = subst (NextPiece remaining g s (Err (Wrong e))) (sym is) (record {
         bytes = [];
         went = went;
-        answers = (refl, (a.end refl).2 ∙ h.head.faults, open_ended g t a.whole some, inr (cut, end_open, some, ends));
+        answers = (refl, (a.end refl).2 ∙ h.head.faults, still_going t.ended (rest t) a.whole.ended some, inr (cut, end_open, some, ends));
         asked = asked;
         gave = λ none _. gave_end s t asked ends none;
         told = λ ended. absurd (omega (arith, some, ap length (a.whole.ended (still_ended some ended))));
@@ -205,41 +202,14 @@ module _ {S D W : Type 0} (remaining : S → Option (List ℕ)) (g : Grammar W) 
       load_finished (Err (Io e)) v ends' whole = absurd ends'
 
   -- a look alone settles nothing
-  answers_looked : (t : Piecing S D) (seen : ℕ) (answer : NextAnswer W) (bytes : List ℕ)
-      → NextAnswers g (record s { seen = seen }) answer bytes t → NextAnswers g s answer bytes t
-  answers_looked t seen (Ok (Some payload)) bytes a = a
-  answers_looked t seen (Ok None) bytes a = a
-  answers_looked t seen (Err (Wrong e)) bytes a = a
-  answers_looked t seen (Err (Io e)) bytes a = a
-
-  asked_looked : (t : Piecing S D) (seen : ℕ) → AskedWhere (IsOpen g) (record s { seen = seen }) t
-      → AskedWhere (IsOpen g) s t
-  asked_looked t seen (inl same) = inl same
-  asked_looked t seen (inr over) = inr (record {
-    not_ended = over.not_ended;
-    came = over.came;
-    last = over.last;
-    given = over.given;
-    such = over.such;
-    asks = over.asks;
-  })
-
   pub next_looked : (m t : Piecing S D) (need : ℕ) (answer : NextAnswer W) → WantsMore g s m need
       → NextPiece remaining g m answer t → NextPiece remaining g s answer t
   next_looked m t need answer wants next =
-      let seen = length (rest s) in
-      let w : Piecing S D = record s { seen = seen } in
-      let n : NextPiece remaining g w answer t = subst (λ x. NextPiece remaining g x answer t) wants.same next in
-      let inside = PiecesWent-inside remaining g.most s w [] refl refl refl in
-      record {
-        bytes = n.bytes;
-        went = PiecesWent-joins remaining g.most s w t [] n.bytes inside n.went;
-        answers = answers_looked t seen answer n.bytes n.answers;
-        asked = asked_looked t seen n.asked;
-        gave = n.gave;
-        told = n.told;
-        whole = n.whole;
-      }
+      let seen : m ≡ retold s.decoder (length (rest s)) s = wants.same in
+      let n : NextPiece remaining g (retold s.decoder (length (rest s)) s) answer t =
+      subst (λ x. NextPiece remaining g x answer t) seen next in
+      NextPiece-retold (retold s.decoder (length (rest s)) s) t s.decoder t.decoder s.seen t.seen g remaining answer
+      n.went.decoder n.whole n
 
 -- where the payload of a piece is, that was handed out
 pub shown_at : {S D : Type 0} (s t : Piecing S D) (at : ℕ) → at ≡ s.handed → t.reader.block.bytes ≡ s.reader.block.bytes
@@ -249,3 +219,11 @@ shown_at s t at is same span =
     ap (take span.len) (drop-drop span.from s.handed s.reader.block.bytes)
     ∙ ap (λ n. take span.len (drop (n + span.from) s.reader.block.bytes)) (sym is)
     ∙ ap (λ l. take span.len (drop (at + span.from) l)) (sym same)
+
+-- the answer of a read is one under the first grammar still
+pub asked_as : {S D W : Type 0} (remaining : S → Option (List ℕ)) (grammar : D → Grammar W) (s m t : Piecing S D) (need : ℕ)
+    (came is : Bool) → came ≡ is → m.decoder ≡ s.decoder → AsksFor remaining (grammar m.decoder) need m (Ok came) t
+    → AsksFor remaining (grammar s.decoder) need m (Ok is) t
+asked_as remaining grammar s m t need came is told same asked =
+    subst (λ d. AsksFor remaining (grammar d) need m (Ok is) t) same
+    (subst (λ b. AsksFor remaining (grammar m.decoder) need m (Ok b) t) told asked)

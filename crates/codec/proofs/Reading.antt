@@ -2,7 +2,6 @@
 use Rattle.std.proofs.Common.{◌≡◌, ℕ, zero, suc, ◌+◌, ◌<◌, ◌≤◌, List, [], ◌∷◌, ◌++◌, length, drop, take, Bool, true, false, Option, Result, Ok, Err, refl, sym, ap, subst, ◌∙◌, arith, inl, inr, append-nil, append_assoc, length-append, length-take-le, ◌⊎◌}
 use Rattle.std.proofs.lemmas.List.{take-append-le}
 use Rattle.std.specs.Borrow.{Bor}
-use Rattle.std.specs.Prelude.{MatchBool}
 use Rattle.std.specs.declared.io.Error.{Error}
 use Rattle.buffer_redux.specs.BufReader.{FillBuf, Fills, PolicyGave}
 use Rattle.buffer_redux.specs.Buffered.{Buffered, with_policy}
@@ -11,7 +10,8 @@ use Rattle.buffer_redux.specs.MinBuffered.{min_read_rules}
 use Rattle.buffer_redux.specs.MinBufferedLaws.{number_of, none_before_fault, none_where_enough, once_at_end, enough_never_dry}
 use Rattle.buffer_redux.specs.declared.policy.MinBuffered.{MinBuffered}
 use Rattle.codec.specs.Grammar.{Grammar, IsOpen}
-use Rattle.codec.specs.NextPiece.{AskedWhere, PiecesWent, Faulted, MetEnd, empties}
+use Rattle.codec.specs.NextPiece.{AskedWhere, PiecesWent, Faulted}
+use Rattle.codec.specs.NextPieceLaws.{MetEnd-before, MetEnd-now}
 use Rattle.codec.specs.PiecesWentLaws.{PiecesWent-none}
 use Rattle.codec.specs.Piecing.{Piecing, IsPiecing, rest}
 use Rattle.codec.specs.Steps.{AsksFor}
@@ -19,20 +19,6 @@ use Rattle.codec.specs.Steps.{AsksFor}
 -- where no byte was handed out, all that is buffered is left
 pub rest_whole : {S D : Type 0} (f : Piecing S D) → f.handed ≡ 0 → rest f ≡ f.reader.block.bytes
 rest_whole f none = ap (λ n. drop n f.reader.block.bytes) none
-
--- the end of the stream, by whether it had been met before
-pub MetEnd-before : {S D : Type 0} (s t : Piecing S D) → s.ended ≡ true → empties t.reader ≡ empties s.reader → MetEnd s t
-MetEnd-before s t ended same =
-    let P : Bool → Type 0 =
-    λ b. MatchBool b (empties t.reader ≡ empties s.reader) (empties t.reader ≡ empties s.reader + 1) in
-    subst P (sym ended) same
-
-pub MetEnd-now : {S D : Type 0} (s t : Piecing S D) → s.ended ≡ false → empties t.reader ≡ empties s.reader + 1
-    → MetEnd s t
-MetEnd-now s t ended once =
-    let P : Bool → Type 0 =
-    λ b. MatchBool b (empties t.reader ≡ empties s.reader) (empties t.reader ≡ empties s.reader + 1) in
-    subst P (sym ended) once
 
 -- what some turns of a fill gave, each a byte at least
 pub record TurnsGave {S : Type 0} (k : ℕ) (s m : Buffered S MinBuffered) : Type 0 where

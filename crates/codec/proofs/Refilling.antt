@@ -4,11 +4,11 @@ use Rattle.std.proofs.lemmas.List.{nil_from_length}
 use Rattle.std.specs.declared.io.Error.{Error}
 use Rattle.codec.specs.Grammar.{Grammar}
 use Rattle.codec.specs.NextPiece.{AskedWhere, Faulted, PiecesWent, Refills}
-use Rattle.codec.specs.NextPieceLaws.{AskedWhere-told}
+use Rattle.codec.specs.NextPieceLaws.{AskedWhere-told, MetEnd-joins, still_going}
 use Rattle.codec.specs.PiecesWentLaws.{PiecesWent-inside, PiecesWent-joins}
 use Rattle.codec.specs.Piecing.{IsPiecing, Piecing, rest}
 use Rattle.codec.specs.Steps.{AsksFor}
-use Rattle.codec.proofs.Heads.{Head, Head-none, Head-told, MetEnd-on, open_ended}
+use Rattle.codec.proofs.Heads.{Head, Head-none, Head-told}
 
 -- what was handed out was dropped, and nothing is left
 module _ {S D W : Type 0} (remaining : S → Option (List ℕ)) (g : Grammar W) (s m : Piecing S D)
@@ -56,7 +56,7 @@ module _ {S D W : Type 0} (remaining : S → Option (List ℕ)) (g : Grammar W) 
     pub refilled : came ≡ true → flag ≡ false → AsksFor remaining g 1 m (Ok came) t → Refills remaining g s (Ok came) noted
     refilled is open' a =
         let more = a.more (ap (λ b. Ok b) is) in
-        let going : t.ended ≡ false = open_ended g t a.whole (omega (arith, more.0)) in record {
+        let going : t.ended ≡ false = still_going t.ended (rest t) a.whole.ended (omega (arith, more.0)) in record {
           went = went_on a;
           asked = asked_then a;
           more = λ _. (
@@ -81,7 +81,7 @@ module _ {S D W : Type 0} (remaining : S → Option (List ℕ)) (g : Grammar W) 
           end = λ _. (
             empty,
             closed,
-            MetEnd-on remaining g s m head t end.1,
+            MetEnd-joins s m t head.ended head.no_end end.1,
             end.2 ∙ ap (λ l. l.reads.faults) told,
           );
           failed = λ e odd. cc;

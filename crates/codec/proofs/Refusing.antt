@@ -1,8 +1,8 @@
 -- Why payloads don't go into memory, or don't come out of it.
-use Rattle.std.proofs.Common.{◌≡◌, ℕ, List, [], ◌∷◌, Option, Result, Ok, Err, IfErr, sym, ap, subst, arith, inl, inr, length, length-append}
+use Rattle.std.proofs.Common.{◌≡◌, ℕ, List, Option, Result, Ok, Err, IfErr, sym, subst, inl, inr}
 use Rattle.std.specs.declared.io.Error.{Error}
 use Rattle.buffer_redux.specs.Faults.{IsMemory, SendErrorCaused}
-use Rattle.buffer_redux.specs.Memory.{reader-faultless, reader_log, send-memory, writer_log}
+use Rattle.buffer_redux.specs.Memory.{reader_log, send-memory, writer_log}
 use Rattle.buffer_redux.specs.declared.tell.MemoryReader.{MemoryReader}
 use Rattle.buffer_redux.specs.declared.tell.MemoryWriter.{MemoryWriter}
 use Rattle.codec.specs.declared.error.WritePieceError.{WritePieceError}
@@ -10,6 +10,7 @@ use Rattle.codec.specs.declared.error.WritePieceError.TheVariants.{Refused, Io}
 use Rattle.codec.specs.Encoding.{Encoding}
 use Rattle.codec.specs.Grammar.{Grammar}
 use Rattle.codec.specs.KnownPieces.{BufferRefused, ReadFails, ReadStopped}
+use Rattle.codec.specs.KnownPiecesLaws.{memory_met_none}
 use Rattle.codec.specs.Outgoing.{Outgoing}
 use Rattle.codec.specs.Piecing.{Piecing}
 use Rattle.codec.specs.WriteRuns.{IfFault, WritesEach}
@@ -19,13 +20,7 @@ module _ {D W : Type 0} (remaining : MemoryReader → Option (List ℕ)) (g : Gr
     (r : MemoryReader) (told : reader_log r ≡ t.reader.log) where
   fails : (done : List (List ℕ)) (e : Error) → ReadFails remaining g s done e t → IsMemory e
   fails done e (inl memory) = memory.0
-  fails done e (inr fault) = absurd (omega (
-    arith,
-    ap (λ l. length l.reads.faults) told,
-    ap length (reader-faultless r),
-    ap length fault.1,
-    length-append s.reader.log.reads.faults (e ∷ []),
-  ))
+  fails done e (inr fault) = absurd (memory_met_none r s.reader.log t.reader.log e told fault.1)
 
   pub read_refused : {A : Type 0} (most : ℕ) (payloads : List (List ℕ)) (answer : Result A Error)
       → IfErr answer (λ e. ReadStopped remaining g s payloads e t) → IfErr answer (BufferRefused most)

@@ -1,13 +1,17 @@
 -- Laws of a reader of pieces over a stream that is known.
-use Rattle.std.specs.Prelude.{◌≡◌, ℕ, ◌+◌, ◌<◌, List, [], ◌∷◌, ◌++◌, length, Bool, true, false, MatchBool, Option, None, Some, IfSome, Ok, Err}
-use Rattle.std.proofs.Common.{sym, ap, subst, ◌∙◌, arith, inl, inr, refl, append-nil}
+use Rattle.std.specs.Prelude.{◌≡◌, ℕ, ◌+◌, ◌<◌, List, [], ◌∷◌, ◌++◌, length, true, false, Option, None, Some, IfSome, Ok, Err}
+use Rattle.std.proofs.Common.{sym, ap, subst, ◌∙◌, arith, inl, inr, refl, append-nil, length-append}
 use Rattle.std.specs.Io.KnownBytes.{Consumes, IsAtEnd, prepend_known}
+use Rattle.std.specs.declared.io.Error.{Error}
 use Rattle.buffer_redux.specs.GivesRemaining.{GivesRemaining-ahead}
+use Rattle.buffer_redux.specs.Memory.{reader-faultless, reader_log}
 use Rattle.buffer_redux.specs.StreamLog.{StreamLog}
+use Rattle.buffer_redux.specs.declared.tell.MemoryReader.{MemoryReader}
 use Rattle.codec.specs.declared.error.NextError.TheVariants.{Wrong, Io}
 use Rattle.codec.specs.Grammar.{Grammar, IsLawful, IsOpen}
 use Rattle.codec.specs.KnownPieces.{HasLeft, NextKnown, ahead_of}
-use Rattle.codec.specs.NextPiece.{MetEnd, NextAnswer, NextPiece, empties}
+use Rattle.codec.specs.NextPiece.{MetEnd, NextAnswer, NextPiece, PiecesWent}
+use Rattle.codec.specs.NextPieceLaws.{MetEnd-once}
 use Rattle.codec.specs.PiecesWentLaws.{drop_none}
 use Rattle.codec.specs.Piecing.{Piecing, IsFresh, rest}
 use Rattle.codec.specs.TextLaws.{Pieces-first, Pieces-last, Pieces-none, Pieces-right, Pieces-whole}
@@ -33,27 +37,33 @@ dry_front None left' more ended is known was = cc
 dry_front (Some x) None more ended is known was = cc
 dry_front (Some x) (Some y) more ended is known was = (let same : y ≡ more = cc in sym same ∙ ended)
 
+-- where the bytes that weren't handed out are known, what went is a front of them, and the others are left
+module _ {S D : Type 0} (remaining : S → Option (List ℕ)) (most : ℕ) (s t : Piecing S D) (text bytes : List ℕ)
+    (known : ahead_of remaining s ≡ Some text) (went : PiecesWent remaining most s bytes t) where
+  pub PiecesWent-front : (more : List ℕ) × (ahead_of remaining t ≡ Some more) × (text ≡ bytes ++ more)
+  PiecesWent-front =
+      left_then (ahead_of remaining s) (ahead_of remaining t) text bytes known
+      (GivesRemaining-ahead (remaining s.reader.inner) (remaining t.reader.inner) s.reader.log.reads t.reader.log.reads
+      (rest s) (rest t) bytes went.hands.got went.known went.hands.given went.hands.equal)
+
+  -- those are just what is buffered, where the stream ended
+  pub PiecesWent-dry : s.ended ≡ false → MetEnd s t → PiecesWent-front.0 ≡ rest t
+  PiecesWent-dry not_ended met =
+      let left = PiecesWent-front in
+      let before = front_of (rest s) (remaining s.reader.inner) text known in
+      let after = front_of (rest t) (remaining t.reader.inner) left.0 left.1 in
+      after.2 ∙ ap (λ l. rest t ++ l) (dry_front (remaining s.reader.inner) (remaining t.reader.inner) after.0
+      (went.known.dry (omega (arith, MetEnd-once s t not_ended met))) after.1 before.0 before.1) ∙ append-nil (rest t)
+
 module _ {S D W : Type 0} (remaining : S → Option (List ℕ)) (g : Grammar W) (law : IsLawful g) (s t : Piecing S D) where
   module _ (answer : NextAnswer W) (next : NextPiece remaining g s answer t) (payloads : List (List ℕ))
       (has : HasLeft remaining g s payloads) where
     -- what is left now
-    left : (more : List ℕ) × (ahead_of remaining t ≡ Some more) × (has.text ≡ next.bytes ++ more)
-    left =
-        let hands = next.went.hands in
-        left_then (ahead_of remaining s) (ahead_of remaining t) has.text next.bytes has.known
-        (GivesRemaining-ahead (remaining s.reader.inner) (remaining t.reader.inner) s.reader.log.reads t.reader.log.reads
-        (rest s) (rest t) next.bytes hands.got next.went.known hands.given hands.equal)
+    abbrev left : (more : List ℕ) × (ahead_of remaining t ≡ Some more) × (has.text ≡ next.bytes ++ more)
+    left = PiecesWent-front remaining g.most s t has.text next.bytes has.known next.went
 
-    -- it is what is buffered, where the stream ended
     all_buffered : s.ended ≡ false → MetEnd s t → left.0 ≡ rest t
-    all_buffered not_ended met =
-        let P : Bool → Type 0 =
-        λ b. MatchBool b (empties t.reader ≡ empties s.reader) (empties t.reader ≡ empties s.reader + 1) in
-        let once : empties t.reader ≡ empties s.reader + 1 = subst P not_ended met in
-        let before = front_of (rest s) (remaining s.reader.inner) has.text has.known in
-        let after = front_of (rest t) (remaining t.reader.inner) left.0 left.1 in
-        after.2 ∙ ap (λ l. rest t ++ l) (dry_front (remaining s.reader.inner) (remaining t.reader.inner) after.0
-        (next.went.known.dry (omega (arith, once))) after.1 before.0 before.1) ∙ append-nil (rest t)
+    all_buffered = PiecesWent-dry remaining g.most s t has.text next.bytes has.known next.went
 
     -- nothing was handed out
     same_left : next.bytes ≡ [] → t.ended ≡ false → HasLeft remaining g t payloads
@@ -173,3 +183,14 @@ IsFresh-left remaining g tells least most stream finder f text payloads fresh kn
       has = has;
       none = λ ended. (let odd : true ≡ false = sym ended ∙ fresh.ended in cc);
     }
+
+-- a reader over memory, whose log is this, met no fault
+pub memory_met_none : (r : MemoryReader) (old new : StreamLog) (e : Error) → reader_log r ≡ new
+    → ¬ (new.reads.faults ≡ old.reads.faults ++ e ∷ [])
+memory_met_none r old new e told fault = omega (
+  arith,
+  ap (λ l. length l.reads.faults) told,
+  ap length (reader-faultless r),
+  ap length fault,
+  length-append old.reads.faults (e ∷ []),
+)

@@ -22,6 +22,7 @@ pub mod PayloadsLaws
 pub mod PiecesWentLaws
 pub mod Piecing
 pub mod Plain
+pub mod RetoldLaws
 pub mod Runs
 pub mod RunsLaws
 pub mod Scanning

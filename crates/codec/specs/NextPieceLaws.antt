@@ -1,13 +1,13 @@
 -- Laws of one call of `next`, for the proofs of those who call it.
-use Rattle.std.specs.Prelude.{◌≡◌, ℕ, List, [], ◌++◌, length, true, false, Option, None, Some, Ok, Err}
-use Rattle.std.proofs.Common.{sym, ap, subst, ◌∙◌, arith, inl, inr, length-append, append_assoc, append-nil}
+use Rattle.std.specs.Prelude.{◌≡◌, ℕ, ◌+◌, ◌<◌, List, [], ◌++◌, length, Bool, true, false, MatchBool, Option, None, Some, Ok, Err}
+use Rattle.std.proofs.Common.{sym, ap, subst, ◌∙◌, refl, arith, inl, inr, length-append, append_assoc, append-nil}
 use Rattle.std.proofs.lemmas.List.{append_cancel_left}
 use Rattle.codec.specs.declared.error.NextError.TheVariants.{Wrong, Io}
 use Rattle.codec.specs.Grammar.{Begins, Grammar, IsLawful, IsOpen}
 use Rattle.codec.specs.GrammarLaws.{open_not}
-use Rattle.codec.specs.NextPiece.{AskedWhere, AsksNone, NextAnswer, NextAnswers, NextPiece}
-use Rattle.codec.specs.PiecesWentLaws.{PiecesWent-unasked}
-use Rattle.codec.specs.Piecing.{Piecing, IsSettled, rest}
+use Rattle.codec.specs.NextPiece.{AskedWhere, AsksNone, MetEnd, NextAnswer, NextAnswers, NextPiece, NoEnd, empties}
+use Rattle.codec.specs.PiecesWentLaws.{PiecesWent-none, PiecesWent-unasked}
+use Rattle.codec.specs.Piecing.{Piecing, IsPiecing, IsSettled, rest}
 
 -- the answer, by what was left, where the stream wasn't asked
 module _ {S D W : Type 0} (g : Grammar W) (law : IsLawful g) (s t : Piecing S D) (bytes : List ℕ)
@@ -114,3 +114,46 @@ AskedWhere-told Such s m t told (inr over) = inr (record {
   such = over.such;
   asks = omega (arith, over.asks, ap (λ l. l.reads.asks) told);
 })
+
+-- an end of the stream that was met: before, which no call had told yet, or now
+module _ {S D : Type 0} (s t : Piecing S D) where
+  abbrev End : Bool → Type 0
+  End before = MatchBool before (NoEnd s t) (empties t.reader ≡ empties s.reader + 1)
+
+  pub MetEnd-before : s.ended ≡ true → NoEnd s t → MetEnd s t
+  MetEnd-before is = subst End (sym is)
+
+  pub MetEnd-now : s.ended ≡ false → empties t.reader ≡ empties s.reader + 1 → MetEnd s t
+  MetEnd-now is = subst End (sym is)
+
+  pub MetEnd-told : s.ended ≡ true → MetEnd s t → NoEnd s t
+  MetEnd-told is = subst End is
+
+  pub MetEnd-once : s.ended ≡ false → MetEnd s t → empties t.reader ≡ empties s.reader + 1
+  MetEnd-once is = subst End is
+
+-- one that was met by the last of some calls, where the others met none, was met by them all
+pub MetEnd-joins : {S D : Type 0} (s m t : Piecing S D) → m.ended ≡ s.ended → NoEnd s m → MetEnd m t → MetEnd s t
+MetEnd-joins s m t same none met = elim m.ended as (λ b. b ≡ m.ended → MetEnd s t) [
+  | true ↦ λ is. MetEnd-before s t (sym same ∙ sym is) (MetEnd-told m t (sym is) met ∙ none)
+  | false ↦ λ is. MetEnd-now s t (sym same ∙ sym is) (MetEnd-once m t (sym is) met ∙ ap (λ n. n + 1) none)
+] refl
+
+-- where something is left the stream hasn't ended
+pub still_going : (ended : Bool) (left : List ℕ) → (ended ≡ true → left ≡ []) → 0 < length left → ended ≡ false
+still_going true left none some = absurd (omega (arith, some, ap length (none refl)))
+still_going false left none some = refl
+
+-- the beginning of no piece is refused as it stands
+pub NextPiece-refused : {S D W : Type 0} (remaining : S → Option (List ℕ)) (g : Grammar W) (s : Piecing S D)
+    → IsPiecing g s → 0 < length (rest s) → (e : W) → g.wrong (rest s) e → NextPiece remaining g s (Err (Wrong e)) s
+NextPiece-refused remaining g s whole some e wrong =
+    let going : s.ended ≡ false = still_going s.ended (rest s) whole.ended some in record {
+      bytes = [];
+      went = PiecesWent-none remaining g.most s;
+      answers = (refl, refl, going, inl (wrong, refl));
+      asked = inl refl;
+      gave = λ _ _. omega arith;
+      told = λ ended. (let odd : true ≡ false = sym ended ∙ going in cc);
+      whole = whole;
+    }

@@ -8,7 +8,7 @@ ghost use Rattle.codec.specs.contracts.reader.PieceReader.{the_row};
 ghost use Rattle.codec.specs.declared.error.NextError.TheVariants.{Wrong};
 ghost use Rattle.codec.specs.Decoding.{bytes_at};
 ghost use Rattle.codec.specs.Grammar.{Begins, Lacks};
-ghost use Rattle.codec.specs.Piecing.{IsPiecing, IsFresh, IsSettled, Skips, rest, room_for, with_stream};
+ghost use Rattle.codec.specs.Piecing.{IsPiecing, IsFresh, IsSettled, Skips, TakenApart, rest, room_for, with_stream};
 ghost use Rattle.codec.specs.NextPiece.{AsksNone, NextBuffered, NextPiece, Refills, buffered_answer, load_answer};
 
 mod steps;
@@ -135,11 +135,7 @@ impl<R: Tell, D: Decoder> PieceReader<R, D> {
     /// The inner reader, and the buffer with the bytes that weren't handed out. It may not grow, but by its
     /// [`set_limit`](Buffer::set_limit).
     pub fn into_inner_with_buffer(self) -> (R, Buffer)
-        ensures inner { result.0 ≡ self.reader.inner }
-        ensures log { R.log result.0 ≡ self.reader.log }
-        ensures bytes { result.1.bytes ≡ rest self }
-        ensures limit { result.1.limit ≡ self.reader.block.limit }
-        ensures capacity { result.1.capacity ≡ self.reader.block.capacity }
+        ensures { TakenApart R.log self result.0 result.1 }
     {
         let PieceReader {
             reader,

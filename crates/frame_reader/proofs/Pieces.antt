@@ -3,17 +3,17 @@ use Rattle.std.proofs.Common.{◌≡◌, ℕ, ◌+◌, ◌<◌, ◌≤◌, ◌^�
 use Rattle.std.proofs.lemmas.Bool.{cases_lt}
 use Rattle.std.proofs.lemmas.List.Elements.{All-nil, All-cons}
 use Rattle.std.specs.Int.{w16, from_be_bytes}
-use Rattle.std.specs.Prelude.{MatchBool}
 use Rattle.codec.specs.declared.decoder.Span.{Span}
 use Rattle.codec.specs.declared.error.NextError.{NextError}
 use Rattle.codec.specs.declared.error.NextError.TheVariants as piece
 use Rattle.codec.specs.declared.decoder.Found.TheVariants.{More}
 use Rattle.codec.specs.Decoding.{Decodes, IsPiece}
 use Rattle.codec.specs.Grammar.{IsOpen}
-use Rattle.codec.specs.GrammarLaws.{begins_of, open_of, open_take}
+use Rattle.codec.specs.GrammarLaws.{begins_of, open_of}
 use Rattle.codec.specs.NextPiece as pieces
 use Rattle.codec.specs.NextPiece.{NextPiece}
-use Rattle.codec.specs.Piecing.{Piecing, IsPiecing, rest}
+use Rattle.codec.specs.Piecing.{Piecing, IsPiecing, rest as left}
+use Rattle.codec.specs.RetoldLaws.{AskedWhere-retold, IsPiecing-unseen, NextPiece-retold}
 use Rattle.frame_reader.specs.declared.error.FrameError.{FrameError}
 use Rattle.frame_reader.specs.declared.error.FrameError.TheVariants.{Truncated, TooLong, Io}
 use Rattle.frame_reader.specs.declared.frame.FrameFault.{FrameFault}
@@ -22,8 +22,8 @@ use Rattle.frame_reader.specs.declared.frame.Frames.{Frames}
 use Rattle.frame_reader.specs.Framed.{framed}
 use Rattle.frame_reader.specs.FramedLaws as frames
 use Rattle.frame_reader.specs.Frames.{AreBytes, BeginsWhole, BeginsWith, Fits, IsCutShort, frame}
-use Rattle.frame_reader.specs.Framing.{IsFraming, ReadsFrames, framing, piecing}
-use Rattle.frame_reader.specs.Next.{AsksGive, Ended, FramesWent, IsSettled, IsUnsettled, Next, NextAnswer, NextAnswers, NextBuffered, asks_in_vain, buffered_answer, ends_met, frame_error, load_answer, payloads_of, piece_answer}
+use Rattle.frame_reader.specs.Framing.{Framing, IsFraming, ReadsFrames, framing, most, piecing, rest}
+use Rattle.frame_reader.specs.Next.{AsksGive, Ended, FramesWent, IsSettled, IsUnsettled, Next, NextAnswer, NextAnswers, NextBuffered, NoFault, asks_in_vain, buffered_answer, ends_met, frame_error, load_answer, payloads_of, piece_answer}
 use Rattle.frame_reader.specs.NextLaws.{frames_went}
 use Rattle.frame_reader.proofs.Lengths.{BeginsWith-first}
 
@@ -86,7 +86,7 @@ settled_more max bytes more (inr long) = inr (record {
 
 -- of what an error leaves it is known that it is bytes
 abbrev pub Shown : {S : Type 0} → Piecing S Frames → NextAnswer → Type 0
-Shown t answer = (e : FrameError) → answer ≡ Err e → AreBytes (rest t)
+Shown t answer = (e : FrameError) → answer ≡ Err e → AreBytes (left t)
 
 -- no end is left to tell
 closed : {S : Type 0} (max : ℕ) (s t : Piecing S Frames) (answer : pieces.NextAnswer FrameFault) (bytes : List ℕ)
@@ -121,81 +121,17 @@ whole_of t is = record {
   ahead = is.whole.ahead;
 }
 
-module _ {S : Type 0} (remaining : S → Option (List ℕ)) (s t : Piecing S Frames) (is : ReadsFrames s) where
-  met_once : pieces.MetEnd s t → t.reader.log.reads.zero_reads ≡ s.reader.log.reads.zero_reads + 1
-  met_once met =
-      let P : Bool → Type 0 = λ b. MatchBool b (t.reader.log.reads.zero_reads ≡ s.reader.log.reads.zero_reads)
-      (t.reader.log.reads.zero_reads ≡ s.reader.log.reads.zero_reads + 1) in
-      subst P is.told met
+-- what a call of a reader of pieces comes to in the words of frames
+module _ {S : Type 0} (remaining : S → Option (List ℕ)) (s t : Framing S) (word : s.max < 2 ^ 16) where
+  ended_of : pieces.MetEnd (piecing s) (piecing t) → NoFault s t → Ended s t
+  ended_of met fault = (omega (arith, met), fault)
 
-  ended_of : pieces.MetEnd s t → pieces.NoFault s t → Ended (framing s) (framing t)
-  ended_of met fault = (omega (arith, met_once met), fault)
-
-  -- what was looked at, and whether an end is left to tell, may be left out
-  forgot_went : (most : ℕ) (bytes : List ℕ) → pieces.PiecesWent remaining most s bytes t
-      → pieces.PiecesWent remaining most (piecing (framing s)) bytes (piecing (framing t))
-  forgot_went most bytes went = record {
-    hands = record { got = went.hands.got; given = went.hands.given; equal = went.hands.equal };
-    known = went.known;
-    grows = went.grows;
-    held = went.held;
-    capacity = went.capacity;
-    limit = went.limit;
-    decoder = went.decoder;
-  }
-
-  forgot_answers : (answer : pieces.NextAnswer FrameFault) (bytes : List ℕ)
-      → pieces.NextAnswers (framed s.decoder.max) s answer bytes t
-      → pieces.NextAnswers (framed s.decoder.max) (piecing (framing s)) answer bytes (piecing (framing t))
-  forgot_answers (Ok (Some payload)) bytes (fault, inl (is, ended, none)) = (fault, inl (is, refl, none))
-  forgot_answers (Ok (Some payload)) bytes (fault, inr last) = absurd last.0
-  forgot_answers (Ok None) bytes (none, left, fault, ended, met) = (none, left, fault, refl, met_once met)
-  forgot_answers (Err (piece.Wrong e)) bytes (none, fault, ended, inl wrong) = (none, fault, refl, inl wrong)
-  forgot_answers (Err (piece.Wrong e)) bytes (none, fault, ended, inr (cut, is, some, met)) =
-      (none, fault, refl, inr (cut, is, some, met_once met))
-  forgot_answers (Err (piece.Io e)) bytes (none, is, fault, ended, no_end) = (none, is, fault, refl, no_end)
-
-  asked_of : {P Q : List ℕ → Type 0} → ((bytes : List ℕ) → P bytes → Q bytes) → pieces.AskedWhere P s t
-      → pieces.AskedWhere Q (piecing (framing s)) (piecing (framing t))
-  asked_of goes (inl same) = inl same
-  asked_of goes (inr over) = inr (record {
-    not_ended = refl;
-    came = over.came;
-    last = over.last;
-    given = over.given;
-    such = goes (rest s ++ over.came) over.such;
-    asks = over.asks;
-  })
-
-  forgotten : (answer : pieces.NextAnswer FrameFault) → NextPiece remaining (framed s.decoder.max) s answer t
-      → NextPiece remaining (framed s.decoder.max) (piecing (framing s)) answer (piecing (framing t))
-  forgotten answer next = record {
-    bytes = next.bytes;
-    went = forgot_went (2 + s.decoder.max) next.bytes next.went;
-    answers = forgot_answers answer next.bytes next.answers;
-    asked = asked_of (λ bytes is. is) next.asked;
-    gave = next.gave;
-    told = λ odd. cc;
-    whole = record {
-      block = next.whole.block;
-      plain = next.whole.plain;
-      capacity = next.whole.capacity;
-      limit = next.whole.limit;
-      ahead = next.whole.ahead;
-      handed = omega (arith, next.whole.handed);
-      searched = open_take (framed s.decoder.max) (frames.framed_lawful s.decoder.max) (rest t);
-      ended = λ odd. cc;
-    };
-  }
-
-  went_none : (bytes : List ℕ) → bytes ≡ []
-      → pieces.PiecesWent remaining (2 + s.decoder.max) (piecing (framing s)) bytes (piecing (framing t))
-      → FramesWent remaining (framing s) [] (framing t)
-  went_none bytes none went =
-      frames_went remaining (framing s) (framing t) [] bytes (All-nil (Fits s.decoder.max)) none went
+  went_none : (bytes : List ℕ) → bytes ≡ [] → pieces.PiecesWent remaining (most s) (piecing s) bytes (piecing t)
+      → FramesWent remaining s [] t
+  went_none bytes none went = frames_went remaining s t [] bytes (All-nil (Fits s.max)) none went
 
   -- how often the stream was asked in vain, at most
-  at_most_one : pieces.AskedWhere (IsOpen (framed s.decoder.max)) s t → AsksGive 1 s.reader t.reader
+  at_most_one : pieces.AskedWhere (IsOpen (framed s.max)) (piecing s) (piecing t) → AsksGive 1 s.reader t.reader
   at_most_one (inl same) = omega (arith, ap (λ l. l.reads.asks) same, ap (λ l. length l.reads.given) same)
   at_most_one (inr over) = omega (
     arith,
@@ -205,27 +141,26 @@ module _ {S : Type 0} (remaining : S → Option (List ℕ)) (s t : Piecing S Fra
     length-append over.came over.last,
   )
 
-  not_asked_of : pieces.AskedWhere (IsOpen (framed s.decoder.max)) s t → IsSettled s.decoder.max (rest s)
+  not_asked_of : pieces.AskedWhere (IsOpen (framed s.max)) (piecing s) (piecing t) → IsSettled s.max (rest s)
       → t.reader.log ≡ s.reader.log
   not_asked_of (inl same) settled = same
-  not_asked_of (inr over) settled = absurd (unsettled s.decoder.max (rest s ++ over.came) is.word over.such
-      (settled_more s.decoder.max (rest s) over.came settled))
+  not_asked_of (inr over) settled = absurd (unsettled s.max (rest s ++ over.came) word over.such
+      (settled_more s.max (rest s) over.came settled))
 
   -- what an answer hands out, what it means, how often the stream gave nothing, and how often it was asked in vain
   abbrev Tells : NextAnswer → Type 0
   Tells answer =
-      FramesWent remaining (framing s) (payloads_of answer) (framing t) × NextAnswers (framing s) answer (framing t)
+      FramesWent remaining s (payloads_of answer) t × NextAnswers s answer t
       × (t.reader.log.reads.zero_reads ≡ s.reader.log.reads.zero_reads + ends_met answer)
       × AsksGive (asks_in_vain answer) s.reader t.reader
 
-  module _ (bytes : List ℕ)
-      (went : pieces.PiecesWent remaining (2 + s.decoder.max) (piecing (framing s)) bytes (piecing (framing t)))
-      (gave : pieces.NoEnd s t → pieces.NoFault s t → pieces.AsksGive s t) (most : AsksGive 1 s.reader t.reader) where
-    tells : (answer : NextAnswer) → Shown t answer
-        → pieces.NextAnswers (framed s.decoder.max) s (piece_answer answer) bytes t → Tells answer
+  module _ (bytes : List ℕ) (went : pieces.PiecesWent remaining (most s) (piecing s) bytes (piecing t))
+      (gave : pieces.NoEnd (piecing s) (piecing t) → NoFault s t → pieces.AsksGive (piecing s) (piecing t)) (once : AsksGive 1 s.reader t.reader) where
+    tells : (answer : NextAnswer) → Shown (piecing t) answer
+        → pieces.NextAnswers (framed s.max) (piecing s) (piece_answer answer) bytes (piecing t) → Tells answer
     tells (Ok (Some payload)) shown (fault, inl (is, ended, none)) = (
-      frames_went remaining (framing s) (framing t) (payload ∷ []) bytes
-          (All-cons (Fits s.decoder.max) payload [] is.fits (All-nil (Fits s.decoder.max)))
+      frames_went remaining s t (payload ∷ []) bytes
+          (All-cons (Fits s.max) payload [] is.fits (All-nil (Fits s.max)))
           (is.equal ∙ sym (append-nil (frame payload))) went,
       (is.fits, fault),
       omega (arith, none),
@@ -233,13 +168,13 @@ module _ {S : Type 0} (remaining : S → Option (List ℕ)) (s t : Piecing S Fra
     )
     tells (Ok (Some payload)) shown (fault, inr last) = absurd last.0
     tells (Ok None) shown (none, left, fault, ended, met) =
-        (went_none bytes none went, (left, ended_of met fault), met_once met, most)
+        (went_none bytes none went, (left, ended_of met fault), met, once)
     tells (Err (Truncated n)) shown (none, fault, ended, inl (wrong, no_end)) =
         (let odd : Fault.Truncated n ≡ Fault.TooLong wrong.len = wrong.told in cc)
     tells (Err (Truncated n)) shown (none, fault, ended, inr (cut, is, some, met)) =
         let same : n ≡ length (rest t) = cc in
-        let short = some_cut s.decoder.max (rest t) some (cut_of s.decoder.max (rest t) (shown _ refl) is) in
-        (went_none bytes none went, (same, short, ended_of met fault), met_once met, most)
+        let short = some_cut s.max (rest t) some (cut_of s.max (rest t) (shown _ refl) is) in
+        (went_none bytes none went, (same, short, ended_of met fault), met, once)
     tells (Err (TooLong n)) shown (none, fault, ended, inl (wrong, no_end)) =
         let same : n ≡ wrong.len = (let told : Fault.TooLong n ≡ Fault.TooLong wrong.len = wrong.told in cc) in (
           went_none bytes none went,
@@ -250,9 +185,27 @@ module _ {S : Type 0} (remaining : S → Option (List ℕ)) (s t : Piecing S Fra
     tells (Err (TooLong n)) shown (none, fault, ended, inr (cut, is, some, met)) =
         (let odd : Fault.TooLong n ≡ Fault.Truncated (length (rest t)) = cut in cc)
     tells (Err (Io e)) shown (none, is, fault, ended, no_end) =
-        let left = cut_of s.decoder.max (rest t) (shown _ refl) is in
-        (went_none bytes none went, (fault, left), omega (arith, no_end), most)
+        let left = cut_of s.max (rest t) (shown _ refl) is in
+        (went_none bytes none went, (fault, left), omega (arith, no_end), once)
 
+  frame_of : (answer : NextAnswer) → Shown (piecing t) answer
+      → NextPiece remaining (framed s.max) (piecing s) (piece_answer answer) (piecing t) → IsFraming t
+      → Next remaining s answer t
+  frame_of answer shown next whole =
+      let told = tells next.bytes next.went next.gave (at_most_one next.asked) answer shown next.answers in
+      record {
+        piece = next;
+        went = told.0;
+        answers = told.1;
+        not_asked = not_asked_of next.asked;
+        once = told.2;
+        asks = told.3;
+        asked = AskedWhere-retold (piecing s) (piecing t) (record { max = s.max }) (record { max = t.max }) 0 0
+            (λ bytes is. unsettled s.max bytes word is) next.asked;
+        whole = whole;
+      }
+
+module _ {S : Type 0} (remaining : S → Option (List ℕ)) (s t : Piecing S Frames) (is : ReadsFrames s) where
   -- where nothing was done it reads frames still
   reads_still : pieces.StaysLeft (framed s.decoder.max) s t → ReadsFrames t
   reads_still stays =
@@ -262,21 +215,25 @@ module _ {S : Type 0} (remaining : S → Option (List ℕ)) (s t : Piecing S Fra
         whole = subst (λ n. IsPiecing (framed n) t) (sym same) stays.whole;
       }
 
+  -- what was looked at, and whether an end is left to tell, may be left out
+  forgotten : (answer : pieces.NextAnswer FrameFault) → t.ended ≡ false
+      → NextPiece remaining (framed s.decoder.max) s answer t
+      → NextPiece remaining (framed s.decoder.max) (piecing (framing s)) answer (piecing (framing t))
+  forgotten answer told next =
+      let g = framed s.decoder.max in
+      let Goes : Bool → Bool → Type 0 = λ before now.
+      NextPiece remaining g (record (piecing (framing s)) { ended = before }) answer
+      (record (piecing (framing t)) { ended = now }) in
+      subst (Goes false) told (subst (λ before. Goes before t.ended) is.told
+      (NextPiece-retold s t s.decoder t.decoder 0 0 g remaining answer next.went.decoder
+      (IsPiecing-unseen g (frames.framed_lawful s.decoder.max) t.decoder t next.whole) next))
+
   pub Next-of : (answer : NextAnswer) → Shown t answer → NextPiece remaining (framed s.decoder.max) s (piece_answer answer) t
       → Next remaining (framing s) answer (framing t)
   Next-of answer shown next =
-      let told = tells next.bytes (forgot_went (2 + s.decoder.max) next.bytes next.went) next.gave (at_most_one next.asked)
-      answer shown next.answers in
-      record {
-        piece = forgotten (piece_answer answer) next;
-        went = told.0;
-        answers = told.1;
-        not_asked = not_asked_of next.asked;
-        once = told.2;
-        asks = told.3;
-        asked = asked_of (λ bytes is'. unsettled s.decoder.max bytes is.word is') next.asked;
-        whole = whole_of t (reads_then remaining s.decoder.max s t (piece_answer answer) refl is next).1;
-      }
+      let reads = (reads_then remaining s.decoder.max s t (piece_answer answer) refl is next).1 in
+      frame_of remaining (framing s) (framing t) is.word answer shown
+      (forgotten (piece_answer answer) reads.told next) (whole_of t reads)
 
   -- the same by what `step` answers
   pub Next-found : (found : Option Span)
@@ -285,7 +242,7 @@ module _ {S : Type 0} (remaining : S → Option (List ℕ)) (s t : Piecing S Fra
   Next-found (Some span) next = Next-of (load_answer (Ok (Some span)) (framing t)) (λ e odd. cc) next
   Next-found None next = Next-of (Ok None) (λ e odd. cc) next
 
-  pub Next-failed : (e : NextError FrameFault) → AreBytes (rest t)
+  pub Next-failed : (e : NextError FrameFault) → AreBytes (left t)
       → NextPiece remaining (framed s.decoder.max) s (Err e) t
       → Next remaining (framing s) (Err (frame_error e)) (framing t)
   Next-failed (piece.Wrong (Fault.Truncated have)) small next = Next-of (Err (Truncated have)) (λ _ _. small) next
@@ -298,4 +255,4 @@ module _ {S : Type 0} (remaining : S → Option (List ℕ)) (s t : Piecing S Fra
       → NextBuffered remaining (framing s) (buffered_answer found (framing t)) (framing t)
   NextBuffered-found (Some span) next = (Next-found (Some span) next.0, next.1)
   NextBuffered-found None (stays, none) =
-      (ap framing stays.same, λ whole. none (frames.begins_of s.decoder.max is.word (rest s) whole))
+      (ap framing stays.same, λ whole. none (frames.begins_of s.decoder.max is.word (left s) whole))

@@ -122,16 +122,14 @@ impl<W: TellWrite> FrameWriter<W> {
 
     /// Flushes, and hands the inner writer back; where that fails, the writer with the bytes that were not sent, and the
     /// fault.
-    pub fn into_inner(mut self) -> Result<W, IntoInnerError<Self>>
+    pub fn into_inner(self) -> Result<W, IntoInnerError<Self>>
         ensures { MatchResult result (InnerOfFlushed W.log W.stretch self.writer (Ok tt))
             (λ e. WasFlushed W.log W.stretch self.writer (Err e.1) e.0.writer × FramesTaken W.stretch self [] e.0) }
     {
-        match self.flush() {
-            Ok(()) => {
-                let (inner, _) = self.into_inner_with_buffer();
-                Ok(inner)
-            }
-            Err(e) => Err(IntoInnerError(self, e)),
+        let FrameWriter { pieces } = self;
+        match pieces.into_inner() {
+            Ok(inner) => Ok(inner),
+            Err(IntoInnerError(pieces, e)) => Err(IntoInnerError(FrameWriter { pieces }, e)),
         }
     }
 

@@ -40,7 +40,7 @@ some_of (byte ∷ more) isnt = omega arith
 module _ {R : Type 0} (remaining : R → Option (List ℕ)) (s t : Lining R) where
   module _ (answer : NextAnswer) (next : NextLine remaining s answer t) where
     more_faults : length s.reader.log.reads.faults ≤ length t.reader.log.reads.faults
-    more_faults = let grows = next.went.grows.faults in
+    more_faults = let grows = next.piece.went.grows.faults in
         omega (arith, ap length grows.equal, length-append s.reader.log.reads.faults grows.more)
 
     asked_over : (t.reader.log ≡ s.reader.log) ⊎ AskedOver s t
@@ -65,10 +65,10 @@ module _ {R : Type 0} (remaining : R → Option (List ℕ)) (s t : Lining R) whe
     )
 
   -- the last ask for a line with its end gave some of it
-  gave_some : (line : List ℕ) (next : NextLine remaining s (Ok (Some line)) t) → next.bytes ≡ with_end line
+  gave_some : (line : List ℕ) (next : NextLine remaining s (Ok (Some line)) t) → next.piece.bytes ≡ with_end line
       → (over : AskedOverLine (IsUnended s.max) s t) → 0 < length over.last
   gave_some line next ended over =
-      let hands = next.went.hands in
+      let hands = next.piece.went.hands in
       let got : hands.got ≡ over.came ++ over.last =
       append_cancel_left s.reader.log.reads.given hands.got (over.came ++ over.last) (sym hands.given ∙ over.given) in
       some_of over.last (λ none. no_end line (rest t) (rest s ++ over.came)

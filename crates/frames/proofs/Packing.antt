@@ -89,12 +89,12 @@ module _ {R W : Type 0} (remaining : R → Option (List ℕ)) (stretch : W → W
 
   pub no_more : NextLine remaining s (Ok None) t → PacksOnce remaining stretch s u (Ok End) t u
   no_more next =
-      (nothing next.bytes next.answers.0 next.went, silent next.answers.2, next.answers.1, next.answers.4)
+      (nothing next.piece.bytes next.answers.0 next.piece.went, silent next.answers.2, next.answers.1, next.answers.4)
 
   pub begins_long : (n : ℕ) → NextLine remaining s (Err (NoLine.TooLong n)) t
       → PacksOnce remaining stretch s u (Err TooLong) t u
   begins_long n next = (
-    nothing next.bytes next.answers.0 next.went,
+    nothing next.piece.bytes next.answers.0 next.piece.went,
     silent next.answers.3,
     next.answers.2,
     open_err s.ended (NoLine.TooLong n) next.told,
@@ -104,7 +104,7 @@ module _ {R W : Type 0} (remaining : R → Option (List ℕ)) (stretch : W → W
   pub read_stopped : (e : Error) → NextLine remaining s (Err (NoLine.Io e)) t
       → PacksOnce remaining stretch s u (Ok (ReadFailed e)) t u
   read_stopped e next = record {
-    went = subst (λ b. LinesWent remaining s b t) next.answers.0 next.went;
+    went = subst (λ b. LinesWent remaining s b t) next.answers.0 next.piece.went;
     fault = next.answers.2;
     left = next.answers.1;
     going = open_err s.ended (NoLine.Io e) next.told;
@@ -128,8 +128,8 @@ module _ {R W : Type 0} (remaining : R → Option (List ℕ)) (stretch : W → W
     not_written most (Unwritten.TooLong len) wrote =
         absurd (omega (arith, next.answers.1, wrote.answers.0, wrote.answers.1, most))
     not_written most (Unwritten.Io e) wrote = (
-      next.bytes,
-      record { went = next.went; taken = wrote.went },
+      next.piece.bytes,
+      record { went = next.piece.went; taken = wrote.went },
       record { reader = only next.answers.2; writer = wrote.answers.1 },
       going,
       once,
@@ -137,13 +137,13 @@ module _ {R W : Type 0} (remaining : R → Option (List ℕ)) (stretch : W → W
 
     pub written : WritesFrame stretch u line (Ok tt) v → PacksNext remaining stretch s u (Ok true) t v
     written wrote =
-        let went : Packs remaining stretch s u next.bytes (line ∷ []) t v =
-        record { went = next.went; taken = wrote.went } in
+        let went : Packs remaining stretch s u next.piece.bytes (line ∷ []) t v =
+        record { went = next.piece.went; taken = wrote.went } in
         let met : NoneFailed s u t v = record { reader = only next.answers.2; writer = wrote.answers.1 } in
         elim next.answers.3 [
           | inl ended ↦ (
             record {
-              bytes = next.bytes;
+              bytes = next.piece.bytes;
               lines = line ∷ [];
               has = record {
                 whole = line ∷ [];
@@ -161,7 +161,7 @@ module _ {R W : Type 0} (remaining : R → Option (List ℕ)) (stretch : W → W
           )
           | inr last ↦ (
             record {
-              bytes = next.bytes;
+              bytes = next.piece.bytes;
               lines = line ∷ [];
               has = record {
                 whole = [];

@@ -1,11 +1,10 @@
 -- What a call of a reader of lines has done so far, turn by turn.
 use Rattle.std.proofs.Common.{◌≡◌, ℕ, ◌+◌, ◌<◌, ◌≤◌, List, [], ◌++◌, length, Bool, true, false, refl, sym, ap, subst, ◌∙◌, arith, inl, inr, append-nil, append_assoc, length-append, Option, Result, Ok}
-use Rattle.std.specs.Prelude.{MatchBool}
 use Rattle.std.specs.declared.io.Error.{Error}
 use Rattle.codec.specs.NextPieceLaws.{AskedWhere-told}
-use Rattle.line_reader.specs.Lining.{Lining, IsLining, piecing, rest}
+use Rattle.line_reader.specs.Lining.{Lining, piecing, rest}
 use Rattle.line_reader.specs.LinesWentLaws.{LinesWent-none, LinesWent-joins}
-use Rattle.line_reader.specs.NextLine.{LinesWent, AskedWhere, NoFault, NoEnd, MetEnd, empties}
+use Rattle.line_reader.specs.NextLine.{LinesWent, AskedWhere, NoFault, NoEnd}
 use Rattle.line_reader.specs.Steps.{AsksOnce}
 
 -- so far these bytes went, without a fault and an end, and the stream was asked only over such bytes; each time it gave a
@@ -101,20 +100,3 @@ module _ {S : Type 0} (remaining : S → Option (List ℕ)) (Such : List ℕ →
         );
         asked = asked_on (Ok true) t a such;
       }
-
-  pub MetEnd-on : (t : Lining S) → MetEnd m t → MetEnd s t
-  MetEnd-on t met =
-      let P : Bool → Type 0 =
-      λ b. MatchBool b (empties t.reader ≡ empties s.reader) (empties t.reader ≡ empties s.reader + 1) in
-      elim m.ended as (λ b. b ≡ m.ended
-      → MatchBool b (empties t.reader ≡ empties m.reader) (empties t.reader ≡ empties m.reader + 1) → MetEnd s t) [
-        | true ↦ λ is none. subst P (is ∙ h.ended) (none ∙ h.no_end)
-        | false ↦ λ is once. subst P (is ∙ h.ended) (once ∙ ap (λ n. n + 1) h.no_end)
-      ] refl met
-
--- where something is left the stream hasn't ended
-pub not_ended : {S : Type 0} (f : Lining S) → IsLining f → 0 < length (rest f) → f.ended ≡ false
-not_ended f whole some = elim f.ended as (λ b. b ≡ f.ended → b ≡ false) [
-  | true ↦ λ is. absurd (omega (arith, some, ap length (whole.ended (sym is))))
-  | false ↦ λ is. refl
-] refl

@@ -1,9 +1,10 @@
 -- Why lines that are known don't come out of memory.
-use Rattle.std.proofs.Common.{◌≡◌, ℕ, List, [], ◌∷◌, Option, Result, Ok, Err, IfErr, ap, arith, inl, inr, length, length-append}
+use Rattle.std.proofs.Common.{◌≡◌, ℕ, List, Option, Result, Ok, Err, IfErr, inl, inr}
 use Rattle.std.specs.declared.io.Error.{Error}
 use Rattle.buffer_redux.specs.Faults.{IsMemory}
-use Rattle.buffer_redux.specs.Memory.{reader-faultless, reader_log}
+use Rattle.buffer_redux.specs.Memory.{reader_log}
 use Rattle.buffer_redux.specs.declared.tell.MemoryReader.{MemoryReader}
+use Rattle.codec.specs.KnownPiecesLaws.{memory_met_none}
 use Rattle.line_reader.specs.KnownLines.{BufferRefused, ReadFails, ReadStopped}
 use Rattle.line_reader.specs.Lining.{Lining}
 
@@ -12,13 +13,7 @@ module _ (remaining : MemoryReader → Option (List ℕ)) (s t : Lining MemoryRe
     (told : reader_log r ≡ t.reader.log) where
   fails : (done : List (List ℕ)) (e : Error) → ReadFails remaining s done e t → IsMemory e
   fails done e (inl memory) = memory.0
-  fails done e (inr fault) = absurd (omega (
-    arith,
-    ap (λ l. length l.reads.faults) told,
-    ap length (reader-faultless r),
-    ap length fault.1,
-    length-append s.reader.log.reads.faults (e ∷ []),
-  ))
+  fails done e (inr fault) = absurd (memory_met_none r s.reader.log t.reader.log e told fault.1)
 
   pub read_refused : {A : Type 0} (max : ℕ) (lines : List (List ℕ)) (answer : Result A Error)
       → IfErr answer (λ e. ReadStopped remaining s lines e t) → IfErr answer (BufferRefused max)

@@ -5,12 +5,13 @@ use Rattle.std.proofs.lemmas.List.Elements.{All-append, All-nil}
 use Rattle.std.specs.IoError.{error_kind}
 use Rattle.std.specs.declared.io.Error.{Error}
 use Rattle.std.specs.declared.io.ErrorKind.TheVariants.{Other}
+use Rattle.codec.specs.NextPieceLaws.{MetEnd-joins, still_going}
 use Rattle.line_reader.specs.Lines.{newline, IsLine, with_end}
-use Rattle.line_reader.specs.Lining.{Lining, IsLining, rest}
+use Rattle.line_reader.specs.Lining.{Lining, IsLining, piecing, rest}
 use Rattle.line_reader.specs.LinesWentLaws.{LinesWent-inside}
 use Rattle.line_reader.specs.SkipLine.{DropsThrough}
 use Rattle.line_reader.specs.Steps.{AsksOnce, DropsLine}
-use Rattle.line_reader.proofs.Heads.{Head, Head-none, Head-told, Head-more, MetEnd-on, asked_on, not_ended, went_on}
+use Rattle.line_reader.proofs.Heads.{Head, Head-none, Head-told, Head-more, asked_on, went_on}
 
 abbrev isnt_end : ℕ → Type 0
 isnt_end byte = ¬ (byte ≡ newline)
@@ -36,7 +37,7 @@ module _ {S : Type 0} (remaining : S → Option (List ℕ)) (s m : Lining S) (dr
       let front = take found.0 (rest m) in
       let inside : found.0 < length (rest m) = omega (arith, drops.inside, found.1) in
       let size = length-take-le found.0 (rest m) (omega (arith, inside)) in
-      let open_m = not_ended m drops.before (omega (arith, inside)) in
+      let open_m = still_going m.ended (rest m) drops.before.ended (omega (arith, inside)) in
       let left : rest w ≡ drop (1 + found.0) (rest m) = behind_dropped ∙ ap (λ n. drop n (rest m)) found.1 in
       let split : with_end front ++ rest w ≡ rest m =
       append_assoc front (newline ∷ []) (rest w) ∙ ap (λ l. front ++ newline ∷ l) left ∙ found.2.equal in
@@ -102,7 +103,7 @@ module _ {S : Type 0} (remaining : S → Option (List ℕ)) (s m : Lining S) (dr
           answers = (
             k.plain,
             none_left,
-            ap (λ x. x.ended) drops.same ∙ not_ended m drops.before some,
+            ap (λ x. x.ended) drops.same ∙ still_going m.ended (rest m) drops.before.ended some,
             k.head.no_end,
             inr (k.head.faults, other, omega (arith, above, k.count)),
           );
@@ -159,7 +160,7 @@ module _ {S : Type 0} (remaining : S → Option (List ℕ)) (s m : Lining S) (dr
         answers = (
           h.count,
           end.3 ∙ h.head.faults,
-          inr (h.plain, end.0, end.1, MetEnd-on remaining IsLine s m h.bytes h.head t end.2),
+          inr (h.plain, end.0, end.1, MetEnd-joins (piecing s) (piecing m) (piecing t) h.head.ended h.head.no_end end.2),
         );
         asked = asked_on remaining IsLine s m h.bytes h.head (Ok false) t a all_plain;
         whole = a.whole;

@@ -69,7 +69,7 @@ module _ {V S : Type 0} (f : V → List ℕ) (vs : List V) (i : ℕ) (remaining 
           all_are = append_assoc kept (found ∷ []) (map f (drop (i + 1) vs))
               ∙ ap (λ p. kept ++ p ∷ map f (drop (i + 1) vs)) known.0
               ∙ ap (λ l. kept ++ l) (sym step) ∙ so_far.all_are;
-          max = plain.went.decoder ∙ so_far.max;
+          max = plain.piece.went.decoder ∙ so_far.max;
           has = known.1;
           no_fault = plain.answers.2 ∙ so_far.no_fault;
           run = subst (λ answers. NextRuns remaining s answers t)

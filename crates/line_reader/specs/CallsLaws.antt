@@ -96,11 +96,11 @@ module _ {S : Type 0} (remaining : S → Option (List ℕ)) where
 
 -- a call of `next` where no line is being skipped
 module _ {S : Type 0} (remaining : S → Option (List ℕ)) (s t : Lining S) where
-  nothing : (answer : NextAnswer) (n : NextLine remaining s answer t) → n.bytes ≡ [] → ¬ (answer ≡ Ok None)
+  nothing : (answer : NextAnswer) (n : NextLine remaining s answer t) → n.piece.bytes ≡ [] → ¬ (answer ≡ Ok None)
       → LinesAlong remaining [] s [] [] t
   nothing answer n none isnt = record {
-    bytes = n.bytes;
-    went = n.went;
+    bytes = n.piece.bytes;
+    went = n.piece.went;
     cut = (subst IsLine (sym none) no_line, none);
     closed = λ open'. refl;
     told = λ ended. absurd (isnt (n.told ended));
@@ -109,8 +109,8 @@ module _ {S : Type 0} (remaining : S → Option (List ℕ)) (s t : Lining S) whe
   pub NextLine-along : (answer : NextAnswer) → NextLine remaining s answer t
       → LinesAlong remaining [] s (next_events answer) [] t
   NextLine-along (Ok (Some line)) n = record {
-    bytes = n.bytes;
-    went = n.went;
+    bytes = n.piece.bytes;
+    went = n.piece.went;
     cut = (
       [],
       n.answers.0,
@@ -124,8 +124,8 @@ module _ {S : Type 0} (remaining : S → Option (List ℕ)) (s t : Lining S) whe
     told = λ ended. (let odd : Ok (Some line) ≡ Ok None = n.told ended in cc);
   }
   NextLine-along (Ok None) n = record {
-    bytes = n.bytes;
-    went = n.went;
+    bytes = n.piece.bytes;
+    went = n.piece.went;
     cut = (subst IsLine (sym n.answers.0) no_line, n.answers.0);
     closed = λ open'. refl;
     told = λ ended. tt;
@@ -141,8 +141,8 @@ module _ {S : Type 0} (remaining : S → Option (List ℕ)) (s t : Lining S) whe
   Trims-along (Ok (Some line)) (Ok (Some shown)) n trims =
       let Shows : Bool → Type 0 = λ b. MatchBool b (shown ≡ line) (IsTrimmed line shown) in
       record {
-        bytes = n.bytes;
-        went = n.went;
+        bytes = n.piece.bytes;
+        went = n.piece.went;
         cut = (
           line,
           [],

@@ -9,7 +9,7 @@ use Rattle.line_reader.specs.Calls.{Handed, Trimmed, Skipped, Ended, Nexts, Next
 use Rattle.line_reader.specs.CallsLaws.{no_line}
 use Rattle.line_reader.specs.KnownCalls.{LeavesBehind, TakesLines, TookFront}
 use Rattle.line_reader.specs.KnownLines.{HasLeft, ahead_of}
-use Rattle.line_reader.specs.KnownLinesLaws.{LinesWent-front, all_buffered, first_of, last_of, none_of, open_of, same_left}
+use Rattle.line_reader.specs.KnownLinesLaws.{LinesWent-front, LinesWent-dry, first_of, last_of, none_of, open_of, same_left}
 use Rattle.line_reader.specs.Lines.{HasLines, IsLine, IsTrimmed, last_line, newline}
 use Rattle.line_reader.specs.Lining.{Lining, rest}
 use Rattle.line_reader.specs.NextLine.{LinesWent, MetEnd, NextAnswer, NextLine, Trims}
@@ -70,7 +70,7 @@ module _ {S : Type 0} (remaining : S → Option (List ℕ)) where
 module _ {S : Type 0} (remaining : S → Option (List ℕ)) (s t : Lining S) (lines : List (List ℕ))
     (has : HasLeft remaining s lines) where
   -- nothing was taken
-  stays : (answer : NextAnswer) (n : NextLine remaining s answer t) → n.bytes ≡ [] → t.ended ≡ false
+  stays : (answer : NextAnswer) (n : NextLine remaining s answer t) → n.piece.bytes ≡ [] → t.ended ≡ false
       → HasLeft remaining t lines
   stays answer n none going = same_left remaining s t answer n lines has none going
 
@@ -140,7 +140,7 @@ module _ {S : Type 0} (remaining : S → Option (List ℕ)) (s t : Lining S) (be
     nothing_left : rest t ≡ [] → MetEnd s t → behind.0 ≡ [] ⊎ (s.ended ≡ true)
     nothing_left none met = elim s.ended as (λ e. e ≡ s.ended → behind.0 ≡ [] ⊎ (s.ended ≡ true)) [
       | true ↦ λ is. inr (sym is)
-      | false ↦ λ is. inl (all_buffered remaining s t b.text bytes b.known went (sym is) met ∙ none)
+      | false ↦ λ is. inl (LinesWent-dry remaining s t b.text bytes b.known went (sym is) met ∙ none)
     ] refl
 
   skip_whole_takes : (count : ℕ) (k : SkipsLine remaining s (Ok count) t) (w : IsWithEnd k.drops.bytes) → t.ended ≡ false

@@ -1,57 +1,45 @@
 -- Laws of a reader of lines over a stream that is known.
-use Rattle.std.specs.Prelude.{◌≡◌, ℕ, ◌+◌, ◌<◌, List, [], ◌∷◌, ◌++◌, length, Bool, true, false, MatchBool, Option, None, Some, Ok, Err}
-use Rattle.std.proofs.Common.{sym, ap, subst, ◌∙◌, arith, inl, inr, refl, append-nil, append_assoc}
+use Rattle.std.specs.Prelude.{◌≡◌, ℕ, ◌+◌, ◌<◌, List, [], ◌∷◌, ◌++◌, length, true, false, Option, None, Some, Ok, Err}
+use Rattle.std.proofs.Common.{sym, ap, subst, ◌∙◌, inl, inr, refl, append-nil, append_assoc}
 use Rattle.std.proofs.lemmas.List.Elements.{All-nil, All-cons, All-head, All-tail}
 use Rattle.std.specs.Io.KnownBytes.{prepend_known}
 use Rattle.std.specs.List.{All}
-use Rattle.buffer_redux.specs.GivesRemaining.{GivesRemaining-ahead}
 use Rattle.buffer_redux.specs.StreamLog.{StreamLog}
-use Rattle.codec.specs.KnownPiecesLaws.{dry_front, front_of, left_then}
+use Rattle.codec.specs.KnownPiecesLaws.{PiecesWent-dry, PiecesWent-front, front_of}
 use Rattle.codec.specs.PiecesWentLaws.{drop_none}
 use Rattle.line_reader.specs.declared.error.LineError.TheVariants.{TooLong, Io}
 use Rattle.line_reader.specs.Lines.{BeginsTooLong, FitsLine, HasLines, IsLine, newline, with_end}
 use Rattle.line_reader.specs.LinesLaws.{too_long-append}
-use Rattle.line_reader.specs.Lining.{Lining, IsFresh, rest}
+use Rattle.line_reader.specs.Lining.{Lining, IsFresh, most, piecing, rest}
 use Rattle.line_reader.specs.KnownLines.{HasLeft, NextKnown, ahead_of}
-use Rattle.line_reader.specs.NextLine.{LinesWent, MetEnd, NextAnswer, NextLine, empties}
+use Rattle.line_reader.specs.NextLine.{LinesWent, MetEnd, NextAnswer, NextLine}
 use Rattle.line_reader.specs.NextLineLaws.{NextGoes-plain}
 use Rattle.line_reader.specs.SkipLine.{NextGoes}
 use Rattle.line_reader.specs.TextLaws.{Lines-first, Lines-fit, Lines-same, lines-last, lines-none}
 
 -- where the bytes that weren't handed out are known, what went is a front of them, and the others are left
-pub LinesWent-front : {S : Type 0} (remaining : S → Option (List ℕ)) (s t : Lining S) (text bytes : List ℕ)
+abbrev pub LinesWent-front : {S : Type 0} (remaining : S → Option (List ℕ)) (s t : Lining S) (text bytes : List ℕ)
     → ahead_of remaining s ≡ Some text → LinesWent remaining s bytes t
     → (more : List ℕ) × (ahead_of remaining t ≡ Some more) × (text ≡ bytes ++ more)
-LinesWent-front remaining s t text bytes known went =
-    left_then (ahead_of remaining s) (ahead_of remaining t) text bytes known
-    (GivesRemaining-ahead (remaining s.reader.inner) (remaining t.reader.inner) s.reader.log.reads t.reader.log.reads
-    (rest s) (rest t) bytes went.hands.got went.known went.hands.given went.hands.equal)
+LinesWent-front remaining s t text bytes = PiecesWent-front remaining (most s) (piecing s) (piecing t) text bytes
 
 -- those are just what is buffered, where the stream ended
-pub all_buffered : {S : Type 0} (remaining : S → Option (List ℕ)) (s t : Lining S) (text bytes : List ℕ)
+pub LinesWent-dry : {S : Type 0} (remaining : S → Option (List ℕ)) (s t : Lining S) (text bytes : List ℕ)
     (known : ahead_of remaining s ≡ Some text) (went : LinesWent remaining s bytes t) → s.ended ≡ false → MetEnd s t
     → (LinesWent-front remaining s t text bytes known went).0 ≡ rest t
-all_buffered remaining s t text bytes known went not_ended met =
-    let P : Bool → Type 0 =
-    λ b. MatchBool b (empties t.reader ≡ empties s.reader) (empties t.reader ≡ empties s.reader + 1) in
-    let once : empties t.reader ≡ empties s.reader + 1 = subst P not_ended met in
-    let left = LinesWent-front remaining s t text bytes known went in
-    let before = front_of (rest s) (remaining s.reader.inner) text known in
-    let after = front_of (rest t) (remaining t.reader.inner) left.0 left.1 in
-    after.2 ∙ ap (λ l. rest t ++ l) (dry_front (remaining s.reader.inner) (remaining t.reader.inner) after.0
-    (went.known.dry (omega (arith, once))) after.1 before.0 before.1) ∙ append-nil (rest t)
+LinesWent-dry remaining s t text bytes = PiecesWent-dry remaining (most s) (piecing s) (piecing t) text bytes
 
 module _ {S : Type 0} (remaining : S → Option (List ℕ)) (s t : Lining S) (answer : NextAnswer)
     (next : NextLine remaining s answer t) (lines : List (List ℕ)) (has : HasLeft remaining s lines) where
   -- what is left now
-  abbrev left : (more : List ℕ) × (ahead_of remaining t ≡ Some more) × (has.text ≡ next.bytes ++ more)
-  left = LinesWent-front remaining s t has.text next.bytes has.known next.went
+  abbrev left : (more : List ℕ) × (ahead_of remaining t ≡ Some more) × (has.text ≡ next.piece.bytes ++ more)
+  left = LinesWent-front remaining s t has.text next.piece.bytes has.known next.piece.went
 
   buffered_left : s.ended ≡ false → MetEnd s t → left.0 ≡ rest t
-  buffered_left = all_buffered remaining s t has.text next.bytes has.known next.went
+  buffered_left = LinesWent-dry remaining s t has.text next.piece.bytes has.known next.piece.went
 
   -- nothing was handed out
-  pub same_left : next.bytes ≡ [] → t.ended ≡ false → HasLeft remaining t lines
+  pub same_left : next.piece.bytes ≡ [] → t.ended ≡ false → HasLeft remaining t lines
   same_left none open' = record {
     text = has.text;
     known = left.1 ∙ ap (λ l. Some l) (sym (left.2 ∙ ap (λ l. l ++ left.0) none));
@@ -61,7 +49,7 @@ module _ {S : Type 0} (remaining : S → Option (List ℕ)) (s t : Lining S) (an
   }
 
   -- a line and its end were
-  pub first_of : (found : List ℕ) → IsLine found → next.bytes ≡ with_end found → t.ended ≡ false
+  pub first_of : (found : List ℕ) → IsLine found → next.piece.bytes ≡ with_end found → t.ended ≡ false
       → (later : List (List ℕ)) × (lines ≡ found ∷ later) × HasLeft remaining t later
   first_of found plain is open' =
       let front : has.text ≡ found ++ newline ∷ left.0 =
@@ -79,7 +67,7 @@ module _ {S : Type 0} (remaining : S → Option (List ℕ)) (s t : Lining S) (an
       )
 
   -- the last one was, which has none
-  pub last_of : (found : List ℕ) → IsLine found → next.bytes ≡ found → 0 < length found → rest t ≡ [] → s.ended ≡ false
+  pub last_of : (found : List ℕ) → IsLine found → next.piece.bytes ≡ found → 0 < length found → rest t ≡ [] → s.ended ≡ false
       → MetEnd s t → (lines ≡ found ∷ []) × HasLeft remaining t []
   last_of found plain is some none not_ended met =
       let nothing : left.0 ≡ [] = buffered_left not_ended met ∙ none in
@@ -89,7 +77,7 @@ module _ {S : Type 0} (remaining : S → Option (List ℕ)) (s t : Lining S) (an
       )
 
   -- none was, at the end
-  pub none_of : next.bytes ≡ [] → rest t ≡ [] → t.ended ≡ false → MetEnd s t → (lines ≡ []) × HasLeft remaining t []
+  pub none_of : next.piece.bytes ≡ [] → rest t ≡ [] → t.ended ≡ false → MetEnd s t → (lines ≡ []) × HasLeft remaining t []
   none_of is none open' met = elim s.ended as (λ b. b ≡ s.ended → (lines ≡ []) × HasLeft remaining t []) [
     | true ↦ λ ended. (
       has.none (sym ended),
@@ -102,7 +90,7 @@ module _ {S : Type 0} (remaining : S → Option (List ℕ)) (s t : Lining S) (an
   ] refl
 
   -- no line that is too long was met
-  never_long : All (FitsLine s.max) lines → next.bytes ≡ [] → BeginsTooLong s.max (rest t) → ⊥
+  never_long : All (FitsLine s.max) lines → next.piece.bytes ≡ [] → BeginsTooLong s.max (rest t) → ⊥
   never_long fit is long =
       let after = front_of (rest t) (remaining t.reader.inner) left.0 left.1 in
       let front : has.text ≡ rest t ++ after.0 = left.2 ∙ ap (λ l. l ++ left.0) is ∙ after.2 in

@@ -5,11 +5,17 @@ use Rattle.buffer_redux.specs.Buffered.{Buffered, with_inner}
 use Rattle.buffer_redux.specs.Potential.{potential}
 use Rattle.buffer_redux.specs.StreamLog.{StreamLog}
 use Rattle.buffer_redux.specs.declared.policy.MinBuffered.{MinBuffered}
+use Rattle.codec.specs.declared.delimited.TooLong.{TooLong}
 use Rattle.codec.specs.Delimited.{delimited}
+use Rattle.codec.specs.Grammar.{Grammar}
 use Rattle.codec.specs.Piecing as pieces
 use Rattle.codec.specs.Piecing.{IsPiecing, Piecing}
 use Rattle.line_reader.specs.declared.line.Lines.{Lines}
 use Rattle.line_reader.specs.Lines.{BeginsTooLong, BeginsWhole, newline}
+
+-- lines as pieces: one of at most so many bytes, and its end
+abbrev pub lined : ℕ → Grammar TooLong
+lined max = delimited newline max
 
 -- the buffered reader; the greatest length of a line; how many of the first bytes that are buffered were handed out; whether
 -- the stream ended, which no call has told yet; and whether a line is being skipped, of which the end hasn't come
@@ -32,7 +38,7 @@ lining f skipping = record {
 
 -- what is true of the reader of pieces in a reader of lines
 pub record ReadsLines {S : Type 0} (f : Piecing S Lines) (skipping : Bool) : Type 0 where
-  pub whole : IsPiecing (delimited newline f.decoder.max) f
+  pub whole : IsPiecing (lined f.decoder.max) f
   pub skipped : skipping ≡ true → pieces.rest f ≡ []
   pub goes_on : skipping ≡ true → f.ended ≡ false
 

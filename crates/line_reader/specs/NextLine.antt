@@ -4,12 +4,14 @@ use Rattle.std.specs.Borrow.{Bor}
 use Rattle.std.specs.declared.io.Error.{Error}
 use Rattle.buffer_redux.specs.Buffered.{Buffered}
 use Rattle.codec.specs.declared.decoder.Span.{Span}
+use Rattle.codec.specs.declared.delimited.TooLong as piece
+use Rattle.codec.specs.declared.error.NextError.TheVariants as why
 use Rattle.codec.specs.NextPiece as pieces
-use Rattle.codec.specs.NextPiece.{PiecesWent}
+use Rattle.codec.specs.NextPiece.{NextPiece, PiecesWent}
 use Rattle.line_reader.specs.declared.error.LineError.{LineError}
 use Rattle.line_reader.specs.declared.error.LineError.TheVariants.{TooLong, Io}
 use Rattle.line_reader.specs.Lines.{IsLine, BeginsTooLong, BeginsWhole, IsTrimmed, IsUnended, with_end}
-use Rattle.line_reader.specs.Lining.{Lining, IsLining, piecing, rest, most}
+use Rattle.line_reader.specs.Lining.{Lining, IsLining, lined, piecing, rest, most}
 
 -- what any calls do, one after another, that handed out or skipped these bytes: lines, each with the end that it has
 abbrev pub LinesWent : {S : Type 0} → (S → Option (List ℕ)) → Lining S → List ℕ → Lining S → Type 0
@@ -48,6 +50,12 @@ MetEnd s t = pieces.MetEnd (piecing s) (piecing t)
 abbrev pub NextAnswer : Type 0
 NextAnswer = Result (Option (List ℕ)) LineError
 
+-- the same answer of a reader of pieces
+abbrev pub piece_answer : NextAnswer → pieces.NextAnswer piece.TooLong
+piece_answer (Ok found) = Ok found
+piece_answer (Err (TooLong n)) = Err (why.Wrong (record { 0 = n }))
+piece_answer (Err (Io e)) = Err (why.Io e)
+
 -- the answer, with the line in place of the slice that is lent
 abbrev pub answer_of : Result (Option (Bor (List ℕ))) LineError → NextAnswer
 answer_of answer = pieces.answer_of answer
@@ -68,13 +76,13 @@ NextAnswers s (Err (TooLong n)) bytes t =
 NextAnswers s (Err (Io e)) bytes t =
     (bytes ≡ []) × IsUnended s.max (rest t) × Faulted s e t × (t.ended ≡ false) × NoEnd s t
 
--- what one call of `next` does where no line is being skipped. The stream is asked only where no whole line is buffered, nor
--- the beginning of one that is too long; and an end that no call has told yet is told
+-- what one call of `next` does where no line is being skipped: it is one of a reader of pieces, and the rest says in the words
+-- of lines what that comes to. The stream is asked only where no whole line is buffered, nor the beginning of one that is too
+-- long; and an end that no call has told yet is told
 pub record NextLine {S : Type 0} (remaining : S → Option (List ℕ)) (s : Lining S)
     (answer : NextAnswer) (t : Lining S) : Type 0 where
-  pub bytes : List ℕ
-  pub went : LinesWent remaining s bytes t
-  pub answers : NextAnswers s answer bytes t
+  pub piece : NextPiece remaining (lined s.max) (piecing s) (piece_answer answer) (piecing t)
+  pub answers : NextAnswers s answer piece.bytes t
   pub asked : AskedWhere (IsUnended s.max) s t
   pub told : s.ended ≡ true → answer ≡ Ok None
   pub open' : t.skipping ≡ false

@@ -1,9 +1,12 @@
 -- Laws of texts: their lines are what they are cut into, in one way.
 use Rattle.std.specs.Prelude.{◌≡◌, ℕ, ◌+◌, ◌<◌, List, [], ◌∷◌, ◌++◌, length, take}
-use Rattle.std.proofs.Common.{sym, ap, subst, ◌∙◌, refl, arith, append_assoc, append-nil}
+use Rattle.std.proofs.Common.{sym, ap, subst, ◌∙◌, refl, arith, inl, inr, append_assoc, append-nil}
 use Rattle.std.proofs.lemmas.List.Elements.{All-nil, All-cons, All-head, All-tail}
 use Rattle.std.specs.List.{All}
+use Rattle.codec.specs.DelimitedLaws.{open_plain}
+use Rattle.codec.specs.Texts.{HasPieces}
 use Rattle.line_reader.specs.Lines.{BeginsTooLong, FitsLine, HasLines, IsLine, last_line, newline, with_end, with_ends}
+use Rattle.line_reader.specs.Lining.{lined}
 use Rattle.line_reader.specs.LinesLaws.{line-same, no-end-within, no_end_in}
 
 -- a text of no line, and of one that has no end
@@ -40,6 +43,17 @@ lines-ended line text lines plain has = record {
   all = ap (λ l. line ∷ l) has.all;
   plain = All-cons IsLine line lines plain has.plain;
 }
+
+-- a text of lines as pieces is one of these lines
+pub lines_of : (max : ℕ) (text : List ℕ) (lines : List (List ℕ)) → HasPieces (lined max) text lines → HasLines text lines
+lines_of max text [] none = subst (λ l. HasLines l []) (sym none) lines-none
+lines_of max text (line ∷ lines) (inl (more, s, has)) =
+    subst (λ l. HasLines l (line ∷ lines)) (sym (s.equal ∙ ap (λ l. l ++ more) s.is.equal))
+    (lines-ended line more lines s.is.plain (lines_of max more lines has))
+lines_of max text (line ∷ lines) (inr (last, none)) =
+    subst (λ l. HasLines text (l ∷ lines)) (sym last.is)
+    (subst (λ l. HasLines text (text ∷ l)) (sym none)
+    (lines-last text (open_plain newline max text last.open').0 last.some))
 
 -- what stands behind the last end is a line
 last_plain : (last : List ℕ) → All IsLine (last_line last) → IsLine last

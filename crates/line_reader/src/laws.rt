@@ -74,8 +74,8 @@ pub fn asks_nobody<R: TellRead>(reader: &LineReader<R>)
 /// What a run of calls handed out, up to the one that told the end, is a text, and the lines that were handed out are its
 /// lines.
 pub fn lines_of_text()
-    ensures { (answers : List NextAnswer) (bytes : List ℕ) → NoneTold answers → Cuts (answers ++ Ok None ∷ []) bytes
-        → HasLines bytes (all_handed answers) }
+    ensures { (max : ℕ) (answers : List NextAnswer) (bytes : List ℕ) → NoneTold answers
+        → Cuts max (answers ++ Ok None ∷ []) bytes → HasLines bytes (all_handed answers) }
 {}
 
 /// Where just some lines are left of a stream that is known, `next` hands out the first, or answers `None` where there is

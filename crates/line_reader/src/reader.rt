@@ -6,7 +6,8 @@ ghost use Rattle.buffer_redux.specs.GrowError.{FitsWithin};
 ghost use Rattle.buffer_redux.specs.MakeError.{growth};
 ghost use Rattle.line_reader.specs.contracts.reader.LineReader.{the_row};
 ghost use Rattle.line_reader.specs.Lines.{BeginsTooLong, IsLine, newline};
-ghost use Rattle.line_reader.specs.Lining.{HasLine, IsLining, IsFresh, rest, room_for, with_stream};
+ghost use Rattle.codec.specs.Piecing.{TakenApart};
+ghost use Rattle.line_reader.specs.Lining.{HasLine, IsLining, IsFresh, piecing, rest, room_for, with_stream};
 ghost use Rattle.line_reader.specs.NextLine.{NextBuffered, answer_of};
 ghost use Rattle.line_reader.specs.SkipLine.{NextGoes, NextTrimmed, SkipsLine};
 
@@ -110,17 +111,17 @@ impl<R: Tell> LineReader<R> {
         ensures inner { result ≡ self.reader.inner }
         ensures log { R.log result ≡ self.reader.log }
     {
-        self.into_inner_with_buffer().0
+        let LineReader {
+            pieces,
+            skipping: _,
+        } = self;
+        pieces.into_inner()
     }
 
     /// The inner reader, and the buffer with the bytes that weren't handed out. It may not grow, but by its
     /// [`set_limit`](Buffer::set_limit).
     pub fn into_inner_with_buffer(self) -> (R, Buffer)
-        ensures inner { result.0 ≡ self.reader.inner }
-        ensures log { R.log result.0 ≡ self.reader.log }
-        ensures bytes { result.1.bytes ≡ rest self }
-        ensures limit { result.1.limit ≡ self.reader.block.limit }
-        ensures capacity { result.1.capacity ≡ self.reader.block.capacity }
+        ensures { TakenApart R.log (piecing self) result.0 result.1 }
     {
         let LineReader {
             pieces,

@@ -1,8 +1,8 @@
-use Rattle.std.proofs.Common.{Ok, Err, false, true, subst, ◌∙◌}
+use Rattle.std.proofs.Common.{Err, false, true, subst, ◌∙◌}
 use Rattle.codec.specs.declared.decoder.Found.TheVariants as found
 use Rattle.codec.specs.Piecing.{IsPiecing}
 use Rattle.codec.specs.Steps.{AsksFor, Takes, TakesEnd}
-use Rattle.codec.proofs.Loading.{load_fails, load_finished, loaded, loads_on, takes_loaded, wrong_next}
+use Rattle.codec.proofs.Loading.{asked_as, load_fails, load_finished, loaded, loads_on, takes_loaded, wrong_next}
 use Rattle.codec.proofs.reader.PieceReader.step_on.Goals as goal
 
 pub returns-in-Err-clause-next : goal.returns-in-Err-clause-next
@@ -25,9 +25,8 @@ returns-in-Ok-false-clause-next g c =
     let t = c.read_to.new.self in
     let v = c.take_end.new.self in
     let inv = c.turns.invariant in
-    let asked : AsksFor remaining (grammar s.decoder) c.turns.need m (Ok false) t =
-    subst (λ d. AsksFor remaining (grammar d) c.turns.need m (Ok false) t) inv.head.went.decoder
-    (subst (λ b. AsksFor remaining (grammar m.decoder) c.turns.need m (Ok b) t) c.in-Ok-false.field-0-test c.in-Ok-false.ensures) in
+    let asked = asked_as remaining grammar s m t c.turns.need _ false c.in-Ok-false.field-0-test inv.head.went.decoder
+    c.in-Ok-false.ensures in
     let decoder = asked.went.decoder ∙ inv.head.went.decoder in
     load_finished remaining (grammar s.decoder) (g.met.D.Decoder.lawful s.decoder) s m c.turns.need inv t asked
     c.take_end.result v
@@ -43,9 +42,8 @@ returns-in-Piece-clause-next g c =
     let t = c.read_to.new.self in
     let v = c.take.new.self in
     let inv = c.turns.invariant in
-    let asked : AsksFor remaining (grammar s.decoder) c.turns.need m (Ok true) t =
-    subst (λ d. AsksFor remaining (grammar d) c.turns.need m (Ok true) t) inv.head.went.decoder
-    (subst (λ b. AsksFor remaining (grammar m.decoder) c.turns.need m (Ok b) t) c.in-Ok-true.field-0-test c.in-Ok-true.ensures) in
+    let asked = asked_as remaining grammar s m t c.turns.need _ true c.in-Ok-true.field-0-test inv.head.went.decoder
+    c.in-Ok-true.ensures in
     let decoder = asked.went.decoder ∙ inv.head.went.decoder in
     let law = g.met.D.Decoder.lawful s.decoder in
     takes_loaded remaining (grammar s.decoder) law s t v
@@ -63,9 +61,8 @@ returns-in-Wrong-clause-next g c =
     let t = c.read_to.new.self in
     let v = c.take.new.self in
     let inv = c.turns.invariant in
-    let asked : AsksFor remaining (grammar s.decoder) c.turns.need m (Ok true) t =
-    subst (λ d. AsksFor remaining (grammar d) c.turns.need m (Ok true) t) inv.head.went.decoder
-    (subst (λ b. AsksFor remaining (grammar m.decoder) c.turns.need m (Ok b) t) c.in-Ok-true.field-0-test c.in-Ok-true.ensures) in
+    let asked = asked_as remaining grammar s m t c.turns.need _ true c.in-Ok-true.field-0-test inv.head.went.decoder
+    c.in-Ok-true.ensures in
     let decoder = asked.went.decoder ∙ inv.head.went.decoder in
     let law = g.met.D.Decoder.lawful s.decoder in
     let refused : Takes (grammar s.decoder) t (found.Wrong c.in-Wrong.e) v =
@@ -83,9 +80,8 @@ turns-preserved g c =
     let t = c.read_to.new.self in
     let v = c.take.new.self in
     let inv = c.turns.invariant in
-    let asked : AsksFor remaining (grammar s.decoder) c.turns.need m (Ok true) t =
-    subst (λ d. AsksFor remaining (grammar d) c.turns.need m (Ok true) t) inv.head.went.decoder
-    (subst (λ b. AsksFor remaining (grammar m.decoder) c.turns.need m (Ok b) t) c.in-Ok-true.field-0-test c.in-Ok-true.ensures) in
+    let asked = asked_as remaining grammar s m t c.turns.need _ true c.in-Ok-true.field-0-test inv.head.went.decoder
+    c.in-Ok-true.ensures in
     let decoder = asked.went.decoder ∙ inv.head.went.decoder in
     let law = g.met.D.Decoder.lawful s.decoder in
     loads_on remaining (grammar s.decoder) law s t v c.in-More.more

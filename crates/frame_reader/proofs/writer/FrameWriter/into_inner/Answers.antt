@@ -1,9 +1,0 @@
-use Rattle.std.proofs.Common.{sym}
-use Rattle.frame_reader.proofs.writer.FrameWriter.into_inner.Goals as goal
-
-pub returns-in-Ok : goal.returns-in-Ok
-returns-in-Ok g c = record {
-  left = c.flush.new.self.writer;
-  flushed = c.in-Ok.ensures.flushed;
-  is_inner = sym c.into_inner_with_buffer-inner.ensures.inner;
-}
