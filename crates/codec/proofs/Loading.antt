@@ -2,6 +2,8 @@
 use Rattle.std.proofs.Common.{◌≡◌, ℕ, ◌+◌, ◌<◌, ◌≤◌, List, [], ◌∷◌, ◌++◌, length, length-take-le, drop, take, true, false, refl, sym, ap, subst, ◌∙◌, arith, inl, inr, append-nil, Bool, Option, Result, Ok, Err, Some, None, length-append, length-drop}
 use Rattle.std.proofs.lemmas.List.{drop-drop, nil_from_length, take-append-drop}
 use Rattle.std.specs.declared.io.Error.{Error}
+use Rattle.codec.specs.declared.decoder.Found.{Found}
+use Rattle.codec.specs.declared.decoder.Found.TheVariants as found
 use Rattle.codec.specs.declared.decoder.Span.{Span}
 use Rattle.codec.specs.declared.error.NextError.{NextError}
 use Rattle.codec.specs.declared.error.NextError.TheVariants.{Wrong, Io}
@@ -12,9 +14,9 @@ use Rattle.codec.specs.NextPieceLaws.{AskedWhere-told, MetEnd-joins, MetEnd-once
 use Rattle.codec.specs.PiecesWentLaws.{PiecesWent-joins, PiecesWent-inside}
 use Rattle.codec.specs.Piecing.{Piecing, IsPiecing, rest, retold}
 use Rattle.codec.specs.RetoldLaws.{NextPiece-retold}
-use Rattle.codec.specs.Steps.{AsksFor, TakesEnd, TakesPiece, WantsMore}
+use Rattle.codec.specs.Steps.{AsksFor, Takes, TakesEnd, TakesPiece, WantsMore}
 use Rattle.codec.proofs.Reading.{rest_whole}
-use Rattle.codec.proofs.Heads.{Head, Head-told, Head-more, asked_on, still_open, went_on}
+use Rattle.codec.proofs.Heads.{Head, Head-none, Head-told, Head-more, asked_on, still_open, went_on}
 
 -- where an end was met nothing was asked that gave none
 gave_end : {S D : Type 0} {Such : List ℕ → Type 0} (s t : Piecing S D) → AskedWhere Such s t → MetEnd s t → NoEnd s t
@@ -33,6 +35,15 @@ pub record LoadHead {S D W : Type 0} (remaining : S → Option (List ℕ)) (g : 
   pub most : need ≤ g.most
   pub lacks : Lacks g need (rest m)
   pub whole : IsPiecing g m
+
+-- so many bytes came as were asked for, and what stands at the front of them was looked at
+pub record Turned {S D W : Type 0} (remaining : S → Option (List ℕ)) (g : Grammar W) (s m : Piecing S D) (looked : Found W)
+    (t : Piecing S D) : Type 0 where
+  pub head : Head remaining g s m
+  pub handed : m.handed ≡ 0
+  pub before : IsPiecing g m
+  pub takes : Takes g m looked t
+  pub whole : IsPiecing g t
 
 module _ {S D W : Type 0} (remaining : S → Option (List ℕ)) (g : Grammar W) (law : IsLawful g) (s : Piecing S D) where
   -- the next piece is buffered whole, and is handed out
@@ -67,46 +78,47 @@ module _ {S D W : Type 0} (remaining : S → Option (List ℕ)) (g : Grammar W) 
         })
 
   -- the same, once it stands at the front
-  pub takes_loaded : (m t : Piecing S D) → Head remaining g s m → IsPiecing g m → IsPiecing g t → m.handed ≡ 0
-      → (span : Span) (used : ℕ) → TakesPiece g m t span used
+  pub takes_loaded : (m t : Piecing S D) (span : Span) (used : ℕ) → Turned remaining g s m (found.Piece span used) t
       → NextPiece remaining g s (Ok (Some (bytes_at span t.reader.block.bytes))) t
-  takes_loaded m t h whole whole' handed span used takes =
+  takes_loaded m t span used turn =
       let same : rest m ≡ t.reader.block.bytes =
-      rest_whole m handed ∙ ap (λ x. x.reader.block.bytes) (sym takes.same) in
+      rest_whole m turn.handed ∙ ap (λ x. x.reader.block.bytes) (sym turn.takes.same) in
       subst (λ l. NextPiece remaining g s (Ok (Some (bytes_at span l))) t) same
-      (takes_next m t h whole whole' span used takes)
+      (takes_next m t turn.head turn.before turn.whole span used turn.takes)
 
   -- what is left begins with no piece
-  pub wrong_next : (m t : Piecing S D) → Head remaining g s m → IsPiecing g m → (e : W) → g.wrong (rest m) e → t ≡ m
+  pub wrong_next : (m t : Piecing S D) (e : W) → Turned remaining g s m (found.Wrong e) t
       → NextPiece remaining g s (Err (Wrong e)) t
-  wrong_next m t h whole e wrong same =
+  wrong_next m t e turn =
+      let h = turn.head in
+      let wrong = turn.takes.0 in
       let none : ¬ (rest m ≡ []) = λ none. law.nothing e (subst (λ l. g.wrong l e) none wrong) in
       let open_m : m.ended ≡ false = elim m.ended as (λ b. b ≡ m.ended → b ≡ false) [
-        | true ↦ λ is. absurd (none (whole.ended (sym is)))
+        | true ↦ λ is. absurd (none (turn.before.ended (sym is)))
         | false ↦ λ is. refl
       ] refl in
-      subst (NextPiece remaining g s (Err (Wrong e))) (sym same) (record {
+      subst (NextPiece remaining g s (Err (Wrong e))) (sym turn.takes.1) (record {
         bytes = [];
         went = h.went;
         answers = (refl, h.faults, open_m, inl (wrong, h.no_end));
         asked = h.asked;
         gave = λ _ _. h.asks;
         told = λ ended. (let odd : true ≡ false = sym ended ∙ sym h.ended ∙ open_m in cc);
-        whole = whole;
+        whole = turn.before;
       })
 
   -- the next piece wasn't there yet
-  pub loads_on : (m t : Piecing S D) (need : ℕ) → Head remaining g s m → m.handed ≡ 0 → WantsMore g m t need
-      → IsPiecing g t → LoadHead remaining g s t need
-  loads_on m t need h handed wants whole =
+  pub loads_on : (m t : Piecing S D) (need : ℕ) → Turned remaining g s m (found.More need) t → LoadHead remaining g s t need
+  loads_on m t need turn =
+      let wants = turn.takes in
       let w : Piecing S D = record m { seen = length (rest m) } in
       subst (λ x. LoadHead remaining g s x need) (sym wants.same) (record {
-        head = Head-told remaining g s m h w (PiecesWent-inside remaining g.most m w [] refl refl refl) refl refl;
-        handed = handed;
+        head = Head-told remaining g s m turn.head w (PiecesWent-inside remaining g.most m w [] refl refl refl) refl refl;
+        handed = turn.handed;
         few = wants.few;
         most = wants.most;
         lacks = wants.lacks;
-        whole = subst (IsPiecing g) wants.same whole;
+        whole = subst (IsPiecing g) wants.same turn.whole;
       })
 
   module _ (m : Piecing S D) (need : ℕ) (h : LoadHead remaining g s m need) where
@@ -211,14 +223,18 @@ module _ {S D W : Type 0} (remaining : S → Option (List ℕ)) (g : Grammar W) 
       NextPiece-retold (retold s.decoder (length (rest s)) s) t s.decoder t.decoder s.seen t.seen g remaining answer
       n.went.decoder n.whole n
 
--- where the payload of a piece is, that was handed out
-pub shown_at : {S D : Type 0} (s t : Piecing S D) (at : ℕ) → at ≡ s.handed → t.reader.block.bytes ≡ s.reader.block.bytes
-    → (span : Span)
-    → bytes_at span (rest s) ≡ bytes_at (record { from = at + span.from; len = span.len }) t.reader.block.bytes
-shown_at s t at is same span =
-    ap (take span.len) (drop-drop span.from s.handed s.reader.block.bytes)
-    ∙ ap (λ n. take span.len (drop (n + span.from) s.reader.block.bytes)) (sym is)
-    ∙ ap (λ l. take span.len (drop (at + span.from) l)) (sym same)
+-- a piece that is buffered whole is handed out, and shown where it stands in the buffer
+pub takes_shown : {S D W : Type 0} (remaining : S → Option (List ℕ)) (g : Grammar W) → IsLawful g → (s t : Piecing S D)
+    (at : ℕ) → at ≡ s.handed → IsPiecing g s → IsPiecing g t → (span : Span) (used : ℕ) → TakesPiece g s t span used
+    → NextPiece remaining g s
+    (Ok (Some (bytes_at (record { from = at + span.from; len = span.len }) t.reader.block.bytes))) t
+takes_shown remaining g law s t at is whole whole' span used takes =
+    let bytes = s.reader.block.bytes in
+    let shown : bytes_at span (rest s) ≡ bytes_at (record { from = at + span.from; len = span.len }) t.reader.block.bytes =
+    ap (take span.len) (drop-drop span.from s.handed bytes) ∙ ap (λ n. take span.len (drop (n + span.from) bytes)) (sym is)
+    ∙ ap (λ x. take span.len (drop (at + span.from) x.reader.block.bytes)) (sym takes.same) in
+    subst (λ l. NextPiece remaining g s (Ok (Some l)) t) shown
+    (takes_next remaining g law s s t (Head-none remaining g s) whole whole' span used takes)
 
 -- the answer of a read is one under the first grammar still
 pub asked_as : {S D W : Type 0} (remaining : S → Option (List ℕ)) (grammar : D → Grammar W) (s m t : Piecing S D) (need : ℕ)
@@ -227,3 +243,21 @@ pub asked_as : {S D W : Type 0} (remaining : S → Option (List ℕ)) (grammar :
 asked_as remaining grammar s m t need came is told same asked =
     subst (λ d. AsksFor remaining (grammar d) need m (Ok is) t) same
     (subst (λ b. AsksFor remaining (grammar m.decoder) need m (Ok b) t) told asked)
+
+-- and so it is of a turn, whose calls are under the grammar of their own reader
+pub turned : {S D W : Type 0} (remaining : S → Option (List ℕ)) (grammar : D → Grammar W)
+    (law : (d : D) → IsLawful (grammar d)) (s m t v : Piecing S D) (need : ℕ) {came : Bool} {r looked : Found W}
+    → LoadHead remaining (grammar s.decoder) s m need → came ≡ true → AsksFor remaining (grammar m.decoder) need m (Ok came) t
+    → r ≡ looked → Takes (grammar t.decoder) t r v → IsPiecing (grammar t.decoder) v
+    → Turned remaining (grammar s.decoder) s t looked v
+turned remaining grammar law s m t v need {came} {r} {looked} h told a is takes whole =
+    let g = grammar s.decoder in
+    let asked = asked_as remaining grammar s m t need came true told h.head.went.decoder a in
+    let same : t.decoder ≡ s.decoder = asked.went.decoder ∙ h.head.went.decoder in
+    record {
+      head = loaded remaining g (law s.decoder) s m need h t asked;
+      handed = asked.handed;
+      before = asked.whole;
+      takes = subst (λ x. Takes g t x v) is (subst (λ d. Takes (grammar d) t r v) same takes);
+      whole = subst (λ d. IsPiecing (grammar d) v) same whole;
+    }

@@ -55,6 +55,11 @@ module _ {S D : Type 0} (remaining : S → Option (List ℕ)) (most : ℕ) (s t 
       after.2 ∙ ap (λ l. rest t ++ l) (dry_front (remaining s.reader.inner) (remaining t.reader.inner) after.0
       (went.known.dry (omega (arith, MetEnd-once s t not_ended met))) after.1 before.0 before.1) ∙ append-nil (rest t)
 
+  -- where nothing was handed out they are what was left
+  pub PiecesWent-stays : bytes ≡ [] → ahead_of remaining t ≡ Some text
+  PiecesWent-stays none =
+      PiecesWent-front.1 ∙ ap (λ l. Some l) (sym (PiecesWent-front.2 ∙ ap (λ l. l ++ PiecesWent-front.0) none))
+
 module _ {S D W : Type 0} (remaining : S → Option (List ℕ)) (g : Grammar W) (law : IsLawful g) (s t : Piecing S D) where
   module _ (answer : NextAnswer W) (next : NextPiece remaining g s answer t) (payloads : List (List ℕ))
       (has : HasLeft remaining g s payloads) where
@@ -69,7 +74,7 @@ module _ {S D W : Type 0} (remaining : S → Option (List ℕ)) (g : Grammar W) 
     same_left : next.bytes ≡ [] → t.ended ≡ false → HasLeft remaining g t payloads
     same_left none open' = record {
       text = has.text;
-      known = left.1 ∙ ap (λ l. Some l) (sym (left.2 ∙ ap (λ l. l ++ left.0) none));
+      known = PiecesWent-stays remaining g.most s t has.text next.bytes has.known next.went none;
       has = has.has;
       none = λ ended. (let odd : true ≡ false = sym ended ∙ open' in cc);
     }

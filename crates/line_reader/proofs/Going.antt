@@ -1,5 +1,5 @@
 -- A line that is being skipped is skipped first.
-use Rattle.std.proofs.Common.{◌≡◌, ℕ, ◌≤◌, List, ◌∷◌, ◌++◌, length, length-append, Bool, true, false, Option, Result, Ok, Err, Some, None, inl, inr, refl, sym, ap, subst, ◌∙◌, arith}
+use Rattle.std.proofs.Common.{[], ◌≡◌, ℕ, ◌≤◌, List, ◌∷◌, ◌++◌, length, length-append, Bool, true, false, Option, Result, Ok, Err, Some, None, inl, inr, refl, sym, ap, subst, ◌∙◌, arith}
 use Rattle.std.specs.Prelude.{MatchBool, is_err, ◌⊎◌}
 use Rattle.std.specs.declared.io.Error.{Error}
 use Rattle.line_reader.specs.declared.error.LineError.TheVariants.{TooLong, Io}
@@ -51,33 +51,26 @@ module _ {S : Type 0} (remaining : S → Option (List ℕ)) (s t : Lining S) (wa
     skipping = flag;
   }
 
--- the flag may stand there by the answer
+-- the flag may stand there where nothing is left, and the stream hasn't ended
+whole_flagged : {S : Type 0} (f : Lining S) (flag : Bool) → IsLining f → (flag ≡ true → rest f ≡ [])
+    → (flag ≡ true → f.ended ≡ false) → IsLining (record f { skipping = flag })
+whole_flagged f flag whole none going = record {
+  block = whole.block;
+  plain = whole.plain;
+  capacity = whole.capacity;
+  limit = whole.limit;
+  ahead = whole.ahead;
+  handed = whole.handed;
+  ended = whole.ended;
+  skipped = none;
+  goes_on = going;
+}
+
+-- so it does behind an error
 pub flag_whole : {S : Type 0} (remaining : S → Option (List ℕ)) (s t : Lining S) (answer : Result ℕ Error)
     → DropsThrough remaining s answer t → IsLining (record t { skipping = is_err answer })
-flag_whole remaining s t (Ok n) d =
-    let w = d.whole in record {
-      block = w.block;
-      plain = w.plain;
-      capacity = w.capacity;
-      limit = w.limit;
-      ahead = w.ahead;
-      handed = w.handed;
-      ended = w.ended;
-      skipped = λ odd. cc;
-      goes_on = λ odd. cc;
-    }
-flag_whole remaining s t (Err e) d =
-    let w = d.whole in record {
-      block = w.block;
-      plain = w.plain;
-      capacity = w.capacity;
-      limit = w.limit;
-      ahead = w.ahead;
-      handed = w.handed;
-      ended = w.ended;
-      skipped = λ _. d.answers.1;
-      goes_on = λ _. d.answers.2;
-    }
+flag_whole remaining s t (Ok n) d = whole_flagged t false d.whole (λ odd. cc) (λ odd. cc)
+flag_whole remaining s t (Err e) d = whole_flagged t true d.whole (λ _. d.answers.1) (λ _. d.answers.2)
 
 -- what a call of `next` does, by whether a line is being skipped
 module _ {S : Type 0} (remaining : S → Option (List ℕ)) (s t : Lining S) (answer : NextAnswer)

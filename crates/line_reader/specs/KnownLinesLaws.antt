@@ -5,7 +5,7 @@ use Rattle.std.proofs.lemmas.List.Elements.{All-nil, All-cons, All-head, All-tai
 use Rattle.std.specs.Io.KnownBytes.{prepend_known}
 use Rattle.std.specs.List.{All}
 use Rattle.buffer_redux.specs.StreamLog.{StreamLog}
-use Rattle.codec.specs.KnownPiecesLaws.{PiecesWent-dry, PiecesWent-front, front_of}
+use Rattle.codec.specs.KnownPiecesLaws.{PiecesWent-dry, PiecesWent-front, PiecesWent-stays, front_of}
 use Rattle.codec.specs.PiecesWentLaws.{drop_none}
 use Rattle.line_reader.specs.declared.error.LineError.TheVariants.{TooLong, Io}
 use Rattle.line_reader.specs.Lines.{BeginsTooLong, FitsLine, HasLines, IsLine, newline, with_end}
@@ -42,7 +42,8 @@ module _ {S : Type 0} (remaining : S → Option (List ℕ)) (s t : Lining S) (an
   pub same_left : next.piece.bytes ≡ [] → t.ended ≡ false → HasLeft remaining t lines
   same_left none open' = record {
     text = has.text;
-    known = left.1 ∙ ap (λ l. Some l) (sym (left.2 ∙ ap (λ l. l ++ left.0) none));
+    known = PiecesWent-stays remaining (most s) (piecing s) (piecing t) has.text next.piece.bytes has.known
+        next.piece.went none;
     has = has.has;
     none = λ ended. (let odd : true ≡ false = sym ended ∙ open' in cc);
     open' = next.open';

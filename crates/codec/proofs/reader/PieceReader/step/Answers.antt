@@ -1,8 +1,7 @@
-use Rattle.std.proofs.Common.{Ok, Some, ap, subst}
+use Rattle.std.proofs.Common.{ap, subst}
 use Rattle.codec.specs.NextPiece.{NextPiece, load_answer}
 use Rattle.codec.specs.NextPieceLaws.{NextPiece-ready, NextPiece-wrong}
-use Rattle.codec.proofs.Heads.{Head-none}
-use Rattle.codec.proofs.Loading.{next_looked, shown_at, takes_next}
+use Rattle.codec.proofs.Loading.{next_looked, takes_shown}
 use Rattle.codec.proofs.reader.PieceReader.step.Goals as goal
 
 pub returns-in-Piece-clause-next : goal.returns-in-Piece-clause-next
@@ -11,13 +10,9 @@ returns-in-Piece-clause-next g c =
     let s = c.args.self.now in
     let t = c.take.new.self in
     let gram = g.D.Decoder.grammar s.decoder in
-    let takes = c.in-Piece.ensures.takes in
-    let span = c.in-Piece.span in
-    let shown = shown_at s t c.self.inside.handed (ap (λ x. x.handed) c.self.view_is)
-    (ap (λ x. x.reader.block.bytes) takes.same) span in
-    subst (λ l. NextPiece remaining gram s (Ok (Some l)) t) shown
-    (takes_next remaining gram (g.met.D.Decoder.lawful s.decoder) s s t (Head-none remaining gram s) c.take.ensures.before
-    c.take.ensures.whole span c.in-Piece.field-1 takes)
+    takes_shown remaining gram (g.met.D.Decoder.lawful s.decoder) s t c.self.inside.handed
+    (ap (λ x. x.handed) c.self.view_is) c.take.ensures.before c.take.ensures.whole c.in-Piece.span c.in-Piece.field-1
+    c.in-Piece.ensures.takes
 
 pub returns-in-Piece-clause-ready : goal.returns-in-Piece-clause-ready
 returns-in-Piece-clause-ready g c piece payload more is front =

@@ -1,8 +1,7 @@
-use Rattle.std.proofs.Common.{Err, false, true, subst, ◌∙◌}
-use Rattle.codec.specs.declared.decoder.Found.TheVariants as found
+use Rattle.std.proofs.Common.{Err, false, subst, ◌∙◌}
 use Rattle.codec.specs.Piecing.{IsPiecing}
-use Rattle.codec.specs.Steps.{AsksFor, Takes, TakesEnd}
-use Rattle.codec.proofs.Loading.{asked_as, load_fails, load_finished, loaded, loads_on, takes_loaded, wrong_next}
+use Rattle.codec.specs.Steps.{AsksFor, TakesEnd}
+use Rattle.codec.proofs.Loading.{asked_as, load_fails, load_finished, loads_on, takes_loaded, turned, wrong_next}
 use Rattle.codec.proofs.reader.PieceReader.step_on.Goals as goal
 
 pub returns-in-Err-clause-next : goal.returns-in-Err-clause-next
@@ -36,56 +35,29 @@ returns-in-Ok-false-clause-next g c =
 pub returns-in-Piece-clause-next : goal.returns-in-Piece-clause-next
 returns-in-Piece-clause-next g c =
     let remaining = g.R.TellRead.remaining in
-    let grammar = g.D.Decoder.grammar in
     let s = c.args.self.now in
-    let m = c.turns.self in
     let t = c.read_to.new.self in
     let v = c.take.new.self in
-    let inv = c.turns.invariant in
-    let asked = asked_as remaining grammar s m t c.turns.need _ true c.in-Ok-true.field-0-test inv.head.went.decoder
-    c.in-Ok-true.ensures in
-    let decoder = asked.went.decoder ∙ inv.head.went.decoder in
-    let law = g.met.D.Decoder.lawful s.decoder in
-    takes_loaded remaining (grammar s.decoder) law s t v
-    (loaded remaining (grammar s.decoder) law s m c.turns.need inv t asked) asked.whole
-    (subst (λ d. IsPiecing (grammar d) v) decoder c.take.ensures.whole) asked.handed c.in-Piece.span c.in-Piece.field-1
-    (subst (λ r. Takes (grammar s.decoder) t r v) c.in-Piece.is
-    (subst (λ d. Takes (grammar d) t c.take.result v) decoder c.take.ensures.takes))
+    takes_loaded remaining (g.D.Decoder.grammar s.decoder) (g.met.D.Decoder.lawful s.decoder) s t v c.in-Piece.span c.in-Piece.field-1
+    (turned remaining g.D.Decoder.grammar g.met.D.Decoder.lawful s c.turns.self t v c.turns.need c.turns.invariant
+    c.in-Ok-true.field-0-test c.in-Ok-true.ensures c.in-Piece.is c.take.ensures.takes c.take.ensures.whole)
 
 pub returns-in-Wrong-clause-next : goal.returns-in-Wrong-clause-next
 returns-in-Wrong-clause-next g c =
     let remaining = g.R.TellRead.remaining in
-    let grammar = g.D.Decoder.grammar in
     let s = c.args.self.now in
-    let m = c.turns.self in
     let t = c.read_to.new.self in
     let v = c.take.new.self in
-    let inv = c.turns.invariant in
-    let asked = asked_as remaining grammar s m t c.turns.need _ true c.in-Ok-true.field-0-test inv.head.went.decoder
-    c.in-Ok-true.ensures in
-    let decoder = asked.went.decoder ∙ inv.head.went.decoder in
-    let law = g.met.D.Decoder.lawful s.decoder in
-    let refused : Takes (grammar s.decoder) t (found.Wrong c.in-Wrong.e) v =
-    subst (λ r. Takes (grammar s.decoder) t r v) c.in-Wrong.is
-    (subst (λ d. Takes (grammar d) t c.take.result v) decoder c.take.ensures.takes) in
-    wrong_next remaining (grammar s.decoder) law s t v
-    (loaded remaining (grammar s.decoder) law s m c.turns.need inv t asked) asked.whole c.in-Wrong.e refused.0 refused.1
+    wrong_next remaining (g.D.Decoder.grammar s.decoder) (g.met.D.Decoder.lawful s.decoder) s t v c.in-Wrong.e
+    (turned remaining g.D.Decoder.grammar g.met.D.Decoder.lawful s c.turns.self t v c.turns.need c.turns.invariant
+    c.in-Ok-true.field-0-test c.in-Ok-true.ensures c.in-Wrong.is c.take.ensures.takes c.take.ensures.whole)
 
 pub turns-preserved : goal.turns-preserved
 turns-preserved g c =
     let remaining = g.R.TellRead.remaining in
-    let grammar = g.D.Decoder.grammar in
     let s = c.args.self.now in
-    let m = c.turns.self in
     let t = c.read_to.new.self in
     let v = c.take.new.self in
-    let inv = c.turns.invariant in
-    let asked = asked_as remaining grammar s m t c.turns.need _ true c.in-Ok-true.field-0-test inv.head.went.decoder
-    c.in-Ok-true.ensures in
-    let decoder = asked.went.decoder ∙ inv.head.went.decoder in
-    let law = g.met.D.Decoder.lawful s.decoder in
-    loads_on remaining (grammar s.decoder) law s t v c.in-More.more
-    (loaded remaining (grammar s.decoder) law s m c.turns.need inv t asked) asked.handed
-    (subst (λ r. Takes (grammar s.decoder) t r v) c.in-More.is
-    (subst (λ d. Takes (grammar d) t c.take.result v) decoder c.take.ensures.takes))
-    (subst (λ d. IsPiecing (grammar d) v) decoder c.take.ensures.whole)
+    loads_on remaining (g.D.Decoder.grammar s.decoder) (g.met.D.Decoder.lawful s.decoder) s t v c.in-More.more
+    (turned remaining g.D.Decoder.grammar g.met.D.Decoder.lawful s c.turns.self t v c.turns.need c.turns.invariant
+    c.in-Ok-true.field-0-test c.in-Ok-true.ensures c.in-More.is c.take.ensures.takes c.take.ensures.whole)
