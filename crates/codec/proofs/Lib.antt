@@ -2,6 +2,7 @@ pub mod Buffered
 pub mod Delimiting
 pub mod Heads
 pub mod Loading
+pub mod Playing
 pub mod Reading
 pub mod Refilling
 pub mod Refusing

@@ -11,7 +11,7 @@ use Rattle.codec.specs.PayloadsLaws.{behind, some_more}
 use Rattle.codec.specs.Piecing.{Piecing}
 use Rattle.codec.specs.KnownPieces.{HasLeft, LeavesPieces, ReadStopped}
 use Rattle.codec.specs.KnownPiecesLaws.{NextPiece-known}
-use Rattle.codec.specs.NextPiece.{NextAnswer, NextPiece, NoFault}
+use Rattle.codec.specs.NextPiece.{NextPiece, NoFault}
 use Rattle.codec.specs.Runs.{AllRead, NextFails, NextRuns}
 use Rattle.codec.specs.RunsLaws.{AnswerRuns-more}
 
@@ -106,11 +106,6 @@ module _ {V S D W : Type 0} (f : V → List ℕ) (vs : List V) (i : ℕ) (remain
         (AnswerRuns-more (NextPiece remaining g) s (map (λ payload. Ok (Some payload)) kept) m (Ok None) t so_far.run next)
 
 -- a call under a decoder that is still the same
-pub moved : {S D W : Type 0} (remaining : S → Option (List ℕ)) (grammar : D → Grammar W) (s m t : Piecing S D)
-    {answer : NextAnswer W} → m.decoder ≡ s.decoder → NextPiece remaining (grammar m.decoder) m answer t
-    → NextPiece remaining (grammar s.decoder) m answer t
-moved remaining grammar s m t {answer} same next = subst (λ d. NextPiece remaining (grammar d) m answer t) same next
-
 pub moved_fails : {S D W : Type 0} (remaining : S → Option (List ℕ)) (grammar : D → Grammar W) (s m t : Piecing S D)
     (e : Error) → m.decoder ≡ s.decoder → NextFails remaining (grammar m.decoder) m e t
     → NextFails remaining (grammar s.decoder) m e t

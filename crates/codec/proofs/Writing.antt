@@ -1,5 +1,5 @@
 -- Steps of a loop that writes payloads.
-use Rattle.std.proofs.Common.{◌≡◌, ℕ, List, ◌∷◌, ◌++◌, length, refl, subst}
+use Rattle.std.proofs.Common.{ℕ, List, ◌∷◌, ◌++◌, length, refl, subst}
 use Rattle.std.specs.Prelude.{Err}
 use Rattle.std.specs.List.{All}
 use Rattle.std.proofs.lemmas.List.{drop_at}
@@ -8,7 +8,6 @@ use Rattle.codec.specs.declared.error.WritePieceError.{WritePieceError}
 use Rattle.codec.specs.declared.error.WritePieceError.TheVariants.{Refused, Io}
 use Rattle.codec.specs.Encoding.{Encoding, IsWritable}
 use Rattle.codec.specs.Outgoing.{Outgoing}
-use Rattle.codec.specs.WritePiece.{WriteAnswer, WritesPiece}
 use Rattle.codec.specs.WriteRuns.{IsFault, WritesEach}
 
 -- where each payload is taken, only a fault stops the writing
@@ -22,10 +21,3 @@ stopped_fault stretch e law s payloads (Refused w) t stopped fit =
     (All-drop e.takes (length stopped.done) (stopped.done ++ stopped.payload ∷ stopped.later)
     (subst (λ l. All e.takes l) stopped.all fit)) in
     absurd (law.apart stopped.payload w (All-head e.takes stopped.payload stopped.later rest) stopped.failed.answers.0)
-
--- a call under an encoder that is still the same
-pub moved_write : {S E W : Type 0} (stretch : S → S → Type 0) (encoding : E → Encoding W) (s m t : Outgoing S E)
-    (payload : List ℕ) (answer : WriteAnswer W) → m.encoder ≡ s.encoder
-    → WritesPiece stretch (encoding m.encoder) m payload answer t → WritesPiece stretch (encoding s.encoder) m payload answer t
-moved_write stretch encoding s m t payload answer same wrote =
-    subst (λ d. WritesPiece stretch (encoding d) m payload answer t) same wrote

@@ -50,6 +50,11 @@ Cuts g (Ok (Some payload) ∷ answers) bytes = (more : List ℕ) × CutsOff g pa
 Cuts g (Ok None ∷ answers) bytes = Cuts g answers bytes
 Cuts g (Err e ∷ answers) bytes = Cuts g answers bytes
 
+-- an answer that was recorded, by the bytes of its payload
+abbrev pub kept_answer : {E : Type 0} → Result (Option (Vec ℕ)) E → Result (Option (List ℕ)) E
+kept_answer (Ok found) = Ok (option_map (λ payload. payload.items) found)
+kept_answer (Err e) = Err e
+
 -- a call of a reader does this to it, and answers that
 module _ {T A : Type 0} (Call : T → A → T → Type 0) where
   -- calls, one after another, with these answers
@@ -57,26 +62,34 @@ module _ {T A : Type 0} (Call : T → A → T → Type 0) where
   AnswerRuns s [] t = s ≡ t
   AnswerRuns s (answer ∷ answers) t = (m : T) × Call s answer m × AnswerRuns m answers t
 
-  module _ (Went : T → List A → T → Type 0) where
-    -- just so many calls were made, and their answers are those that the record gained
-    pub record AnswersPlayed (s : T) (calls : ℕ) (old new : List A) (t : T) : Type 0 where
-      pub answers : List A
-      pub gained : new ≡ old ++ answers
-      pub all : length answers ≡ calls
-      pub run : AnswerRuns s answers t
-      pub went : Went s answers t
+  -- such calls, and what they come to
+  pub record AnswerPlays (Went : T → List A → T → Type 0) (s : T) (answers : List A) (t : T) : Type 0 where
+    pub run : AnswerRuns s answers t
+    pub went : Went s answers t
 
-    -- fewer calls were recorded, and one more was made, of which the answer is lost. Memory was wanted for the payload that it
-    -- handed out, or for the record, which had room for so many
-    pub record AnswersStopped (handed : A → List (List ℕ)) (s : T) (calls room : ℕ) (old new : List A) (t : T)
-        : Type 0 where
-      pub answers : List A
-      pub gained : new ≡ old ++ answers
-      pub fewer : length answers < calls
-      pub lost : A
-      pub wanted : (0 < length (handed lost)) ⊎ (room ≤ length new)
-      pub run : AnswerRuns s (answers ++ lost ∷ []) t
-      pub went : Went s (answers ++ lost ∷ []) t
+-- one call was made, and the payload that it handed out is lost
+pub record NextLost {T E : Type 0} (Call : T → Result (Option (List ℕ)) E → T → Type 0) (s t : T) : Type 0 where
+  pub payload : List ℕ
+  pub next : Call s (Ok (Some payload)) t
+
+-- calls of a reader do this to it, one after another, and answer these
+module _ {T E : Type 0} (Plays : T → List (Result (Option (List ℕ)) E) → T → Type 0) where
+  -- just so many calls were made, and their answers are those that the record gained
+  pub record AnswersPlayed (s : T) (calls : ℕ) (old new : List (Result (Option (List ℕ)) E)) (t : T) : Type 0 where
+    pub answers : List (Result (Option (List ℕ)) E)
+    pub gained : new ≡ old ++ answers
+    pub all : length answers ≡ calls
+    pub plays : Plays s answers t
+
+  -- fewer calls were recorded, and one more was made, of which the answer is lost. Memory was wanted for the payload that it
+  -- handed out, or for the record, which had room for so many
+  pub record AnswersStopped (s : T) (calls room : ℕ) (old new : List (Result (Option (List ℕ)) E)) (t : T) : Type 0 where
+    pub answers : List (Result (Option (List ℕ)) E)
+    pub gained : new ≡ old ++ answers
+    pub fewer : length answers < calls
+    pub lost : Result (Option (List ℕ)) E
+    pub wanted : (0 < length (handed_payload lost)) ⊎ (room ≤ length new)
+    pub plays : Plays s (answers ++ lost ∷ []) t
 
 -- calls of `next`, one after another, with these answers
 abbrev pub NextRuns : {S D W : Type 0} → (S → Option (List ℕ)) → Grammar W → Piecing S D → List (NextAnswer W) → Piecing S D
@@ -90,29 +103,16 @@ pub record RunWent {S D W : Type 0} (remaining : S → Option (List ℕ)) (g : G
   pub cut : Cuts g answers bytes
   pub went : PiecesWent remaining g.most s bytes t
 
--- an answer of `step` that was recorded, by the bytes of its payload
-abbrev pub kept_answer : {E : Type 0} → Result (Option (Vec ℕ)) E → Result (Option (List ℕ)) E
-kept_answer (Ok found) = Ok (option_map (λ payload. payload.items) found)
-kept_answer (Err e) = Err e
+-- both
+abbrev pub NextPlays : {S D W : Type 0} → (S → Option (List ℕ)) → Grammar W → Piecing S D → List (NextAnswer W) → Piecing S D
+    → Type 0
+NextPlays remaining g = AnswerPlays (NextPiece remaining g) (RunWent remaining g)
 
 -- each of these payloads was handed out by a call, and one more call told the end
 abbrev pub AllRead : {S D W : Type 0} → (S → Option (List ℕ)) → Grammar W → Piecing S D → List (List ℕ) → Piecing S D → Type 0
 AllRead remaining g s payloads t = NextRuns remaining g s (map (λ payload. Ok (Some payload)) payloads ++ Ok None ∷ []) t
 
--- what was played of it, and what where memory was refused
-module _ {S D W : Type 0} (remaining : S → Option (List ℕ)) (g : Grammar W) where
-  abbrev pub NextPlayed : Piecing S D → ℕ → List (NextAnswer W) → List (NextAnswer W) → Piecing S D → Type 0
-  NextPlayed = AnswersPlayed (NextPiece remaining g) (RunWent remaining g)
-
-  abbrev pub NextStopped : Piecing S D → ℕ → ℕ → List (NextAnswer W) → List (NextAnswer W) → Piecing S D → Type 0
-  NextStopped = AnswersStopped (NextPiece remaining g) (RunWent remaining g) handed_payload
-
--- one call was made, and the payload that it handed out is lost
-pub record NextLost {S D W : Type 0} (remaining : S → Option (List ℕ)) (g : Grammar W) (s t : Piecing S D) : Type 0 where
-  pub payload : List ℕ
-  pub next : NextPiece remaining g s (Ok (Some payload)) t
-
 -- one call failed with this error: want of memory for what it handed out, or the stream's own
 abbrev pub NextFails : {S D W : Type 0} → (S → Option (List ℕ)) → Grammar W → Piecing S D → Error → Piecing S D → Type 0
 NextFails remaining g s e t =
-    ((error_kind e ≡ OutOfMemory) × NextLost remaining g s t) ⊎ NextPiece remaining g s (Err (Io e)) t
+    ((error_kind e ≡ OutOfMemory) × NextLost (NextPiece remaining g) s t) ⊎ NextPiece remaining g s (Err (Io e)) t

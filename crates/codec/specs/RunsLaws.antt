@@ -1,14 +1,14 @@
 -- Laws of runs: they go on by one call, what their calls do joins, and their pieces are those of the text.
-use Rattle.std.specs.Prelude.{◌≡◌, ℕ, ◌+◌, ◌<◌, ◌≤◌, ◌⊎◌, List, [], ◌∷◌, ◌++◌, length, map, true, Option, None, Some, Result, Ok, Err, OnErr}
-use Rattle.std.proofs.Common.{sym, ap, subst, ◌∙◌, refl, arith, inl, inr, append_assoc, append-nil, length-append}
-use Rattle.std.proofs.lemmas.List.{length-map, map-append}
+use Rattle.std.specs.Prelude.{◌≡◌, ℕ, List, [], ◌∷◌, ◌++◌, map, true, Option, None, Some, Result, Ok, Err, OnErr}
+use Rattle.std.proofs.Common.{sym, ap, subst, ◌∙◌, refl, inl, inr, append_assoc, append-nil}
+use Rattle.std.proofs.lemmas.List.{map-append}
 use Rattle.codec.specs.declared.error.NextError.{NextError}
 use Rattle.codec.specs.declared.error.NextError.TheVariants.{Wrong, Io}
 use Rattle.codec.specs.Grammar.{Grammar}
-use Rattle.codec.specs.NextPiece.{NextAnswer, NextAnswers, PiecesWent}
+use Rattle.codec.specs.NextPiece.{NextAnswer, NextAnswers, NextPiece, PiecesWent}
 use Rattle.codec.specs.PiecesWentLaws.{PiecesWent-none, PiecesWent-joins}
 use Rattle.codec.specs.Piecing.{Piecing}
-use Rattle.codec.specs.Runs.{AnswerRuns, AnswersPlayed, AnswersStopped, Cuts, EndFollows, NextRuns, NoneTold, RunWent, all_handed}
+use Rattle.codec.specs.Runs.{AnswerPlays, AnswerRuns, Cuts, EndFollows, NextPlays, NextRuns, NoneTold, RunWent, all_handed}
 use Rattle.codec.specs.Texts.{HasPieces, IsLast}
 
 -- what a `?` hands on is an `Err`
@@ -30,57 +30,17 @@ module _ {T A : Type 0} (Call : T → A → T → Type 0) where
   AnswerRuns-more s (a ∷ answers) m answer t run next =
       (run.0, run.1, AnswerRuns-more run.0 answers m answer t run.2 next)
 
--- so many calls were played so far: their answers were recorded, in a list with room for so many, which had this room at first
-pub record PlaysSo {T A X : Type 0} (Call : T → A → T → Type 0) (f : X → A) (old kept : List X) (room have : ℕ)
-    (s : T) (calls : ℕ) (m : T) : Type 0 where
-  pub answers : List A
-  pub gained : map f kept ≡ map f old ++ answers
-  pub count : length answers ≡ calls
-  pub capacity : room ≤ have
-  pub run : AnswerRuns Call s answers m
+-- such calls, and what they come to: no call, and one more
+module _ {T A : Type 0} (Call : T → A → T → Type 0) (Went : T → List A → T → Type 0)
+    (went : (s : T) (answers : List A) (t : T) → AnswerRuns Call s answers t → Went s answers t) where
+  pub AnswerPlays-none : (s : T) → AnswerPlays Call Went s [] s
+  AnswerPlays-none s = record { run = refl; went = went s [] s refl }
 
-module _ {T A X : Type 0} {Call : T → A → T → Type 0} {f : X → A} {old kept : List X} {room have : ℕ} {s : T} {calls : ℕ}
-    {m : T} (so : PlaysSo Call f old kept room have s calls m) where
-  -- one more was played
-  pub plays_more : (kept' : List X) (have' : ℕ) (x : X) (t : T) → kept' ≡ kept ++ x ∷ [] → have ≤ have' → Call m (f x) t
-      → PlaysSo Call f old kept' room have' s (calls + 1) t
-  plays_more kept' have' x t is larger next = record {
-    answers = so.answers ++ f x ∷ [];
-    gained = gains_more f old kept kept' so.answers x so.gained is;
-    count = length-append so.answers (f x ∷ []) ∙ ap (λ n. n + 1) so.count;
-    capacity = omega (arith, so.capacity, larger);
-    run = AnswerRuns-more Call s so.answers m (f x) t so.run next;
-  }
-
-  -- all were played; or one more was made, for whose answer memory was refused
-  module _ (Went : T → List A → T → Type 0)
-      (went : (s : T) (answers : List A) (t : T) → AnswerRuns Call s answers t → Went s answers t) (all : ℕ) where
-    pub all_played : calls ≡ all → AnswersPlayed Call Went s all (map f old) (map f kept) m
-    all_played is = record {
-      answers = so.answers;
-      gained = so.gained;
-      all = so.count ∙ is;
-      run = so.run;
-      went = went s so.answers m so.run;
-    }
-
-    pub one_lost : (handed : A → List (List ℕ)) → calls < all → (kept' : List X) → kept' ≡ kept → (lost : A) (t : T)
-        → (0 < length (handed lost)) ⊎ (have ≤ length kept) → Call m lost t
-        → AnswersStopped Call Went handed s all room (map f old) (map f kept') t
-    one_lost handed fewer kept' is lost t wanted next =
-        let more = AnswerRuns-more Call s so.answers m lost t so.run next in
-        record {
-          answers = so.answers;
-          gained = ap (λ l. map f l) is ∙ so.gained;
-          fewer = omega (arith, so.count, fewer);
-          lost = lost;
-          wanted = elim wanted [
-            | inl some ↦ inl some
-            | inr full ↦ inr (omega (arith, so.capacity, full, length-map kept' f, ap length is))
-          ];
-          run = more;
-          went = went s (so.answers ++ lost ∷ []) t more;
-        }
+  pub AnswerPlays-more : (s : T) (answers : List A) (m : T) (answer : A) (t : T) → AnswerPlays Call Went s answers m
+      → Call m answer t → AnswerPlays Call Went s (answers ++ answer ∷ []) t
+  AnswerPlays-more s answers m answer t plays next =
+      let run = AnswerRuns-more Call s answers m answer t plays.run next in
+      record { run = run; went = went s (answers ++ answer ∷ []) t run }
 
 module _ {W : Type 0} (g : Grammar W) where
   -- a last piece is the last
@@ -147,3 +107,23 @@ module _ {S D W : Type 0} (remaining : S → Option (List ℕ)) (g : Grammar W) 
         cut = cut_off s run.0 t answer answers run.1.bytes more.bytes run.1.answers run.2 more.cut;
         went = PiecesWent-joins remaining g.most s run.0 t run.1.bytes more.bytes run.1.went more.went;
       }
+
+-- a call under a decoder that is still the same
+pub NextPiece-moved : {S D W : Type 0} (remaining : S → Option (List ℕ)) (grammar : D → Grammar W) (s m t : Piecing S D)
+    {answer : NextAnswer W} → m.decoder ≡ s.decoder → NextPiece remaining (grammar m.decoder) m answer t
+    → NextPiece remaining (grammar s.decoder) m answer t
+NextPiece-moved remaining grammar s m t {answer} same next = subst (λ d. NextPiece remaining (grammar d) m answer t) same next
+
+-- calls under the decoder of the first: none, and one more
+pub NextPlays-none : {S D W : Type 0} (remaining : S → Option (List ℕ)) (g : Grammar W) (s : Piecing S D)
+    → NextPlays remaining g s [] s
+NextPlays-none remaining g = AnswerPlays-none (NextPiece remaining g) (RunWent remaining g) (NextRuns-went remaining g)
+
+pub NextPlays-more : {S D W : Type 0} (remaining : S → Option (List ℕ)) (grammar : D → Grammar W) (s : Piecing S D)
+    (answers : List (NextAnswer W)) (m : Piecing S D) (answer : NextAnswer W) (t : Piecing S D)
+    → NextPlays remaining (grammar s.decoder) s answers m → NextPiece remaining (grammar m.decoder) m answer t
+    → NextPlays remaining (grammar s.decoder) s (answers ++ answer ∷ []) t
+NextPlays-more remaining grammar s answers m answer t plays next =
+    let g = grammar s.decoder in
+    AnswerPlays-more (NextPiece remaining g) (RunWent remaining g) (NextRuns-went remaining g) s answers m answer t plays
+    (NextPiece-moved remaining grammar s m t plays.went.went.decoder next)

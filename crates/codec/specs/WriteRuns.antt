@@ -27,15 +27,9 @@ module _ {T X : Type 0} (Call : T → List ℕ → Result (Unit {0}) X → T →
   CallRuns s (payload ∷ payloads) [] t = ⊥
 
   module _ (Taken : T → List (List ℕ) → T → Type 0) where
-    -- what was played: the answers that were gained are a run of the first payloads, as many as there are answers; at Ok
-    -- these are all, and else some are left, of which none was begun, and the record, which had room for so many, was full
-    pub record CallsPlayed (s : T) (payloads : List (List ℕ)) (room : ℕ) (old : List (Result (Unit {0}) X)) (ok : Bool)
-        (new : List (Result (Unit {0}) X)) (t : T) : Type 0 where
-      pub answers : List (Result (Unit {0}) X)
-      pub gained : new ≡ old ++ answers
-      pub run : CallRuns s (take (length answers) payloads) answers t
-      pub ended : MatchBool ok (length answers ≡ length payloads)
-          ((length answers < length payloads) × (room ≤ length new))
+    -- such calls, and what they took in
+    pub record CallPlays (s : T) (payloads : List (List ℕ)) (answers : List (Result (Unit {0}) X)) (t : T) : Type 0 where
+      pub run : CallRuns s payloads answers t
       pub taken : Taken s (all_accepted payloads answers) t
 
     -- the first of these payloads were written by calls that answered `Ok`, and the next one was answered by this error
@@ -54,14 +48,25 @@ module _ {T X : Type 0} (Call : T → List ℕ → Result (Unit {0}) X → T →
     CallsEach s payloads (Ok _) t = CallRuns s payloads (all_ok payloads) t × Taken s payloads t
     CallsEach s payloads (Err why) t = CallsStopped s payloads why t
 
+-- calls of a writer with these payloads do this to it, one after another, and answer these
+module _ {T X : Type 0} (Plays : T → List (List ℕ) → List (Result (Unit {0}) X) → T → Type 0) where
+  -- what was played: the answers that were gained are those of the first payloads, as many as there are answers; at Ok these are
+  -- all, and else some are left, of which none was begun, and the record, which had room for so many, was full
+  pub record CallsPlayed (s : T) (payloads : List (List ℕ)) (room : ℕ) (old : List (Result (Unit {0}) X)) (ok : Bool)
+      (new : List (Result (Unit {0}) X)) (t : T) : Type 0 where
+    pub answers : List (Result (Unit {0}) X)
+    pub gained : new ≡ old ++ answers
+    pub plays : Plays s (take (length answers) payloads) answers t
+    pub ended : MatchBool ok (length answers ≡ length payloads)
+        ((length answers < length payloads) × (room ≤ length new))
+
 -- the same of `write_piece`
 module _ {S E W : Type 0} (stretch : S → S → Type 0) (e : Encoding W) where
   abbrev pub WriteRuns : Outgoing S E → List (List ℕ) → List (WriteAnswer W) → Outgoing S E → Type 0
   WriteRuns = CallRuns (WritesPiece stretch e)
 
-  abbrev pub WritePlayed : Outgoing S E → List (List ℕ) → ℕ → List (WriteAnswer W) → Bool → List (WriteAnswer W)
-      → Outgoing S E → Type 0
-  WritePlayed = CallsPlayed (WritesPiece stretch e) (PiecesTaken stretch e)
+  abbrev pub WritePlays : Outgoing S E → List (List ℕ) → List (WriteAnswer W) → Outgoing S E → Type 0
+  WritePlays = CallPlays (WritesPiece stretch e) (PiecesTaken stretch e)
 
   abbrev pub WritesEach : Outgoing S E → List (List ℕ) → WriteAnswer W → Outgoing S E → Type 0
   WritesEach = CallsEach (WritesPiece stretch e) (PiecesTaken stretch e)

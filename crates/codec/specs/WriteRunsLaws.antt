@@ -1,10 +1,13 @@
 -- Laws of runs of calls that write payloads: they go on by one call, what their calls take in joins, and loops.
-use Rattle.std.specs.Prelude.{◌≡◌, ℕ, ◌+◌, ◌<◌, ◌≤◌, List, [], ◌∷◌, ◌++◌, length, map, take, drop, get_or, Bool, MatchBool, Result, Ok, Err}
-use Rattle.std.proofs.Common.{sym, ap, subst, ◌∙◌, refl, append-nil}
-use Rattle.std.proofs.lemmas.List.{map-append, take_all, take-map}
+use Rattle.std.specs.Prelude.{◌≡◌, ℕ, ◌+◌, ◌<◌, ◌≤◌, List, [], ◌∷◌, ◌++◌, length, map, take, drop, get_or, Result, Ok, Err}
+use Rattle.std.proofs.Common.{sym, ap, subst, refl, append-nil}
+use Rattle.std.proofs.lemmas.List.{map-append, take_all}
+use Rattle.codec.specs.Encoding.{Encoding}
+use Rattle.codec.specs.Outgoing.{Outgoing}
 use Rattle.codec.specs.PayloadsLaws.{before, parted}
-use Rattle.codec.specs.WritePiece.{accepted}
-use Rattle.codec.specs.WriteRuns.{CallRuns, CallsEach, CallsPlayed, CallsStopped, all_accepted, all_ok}
+use Rattle.codec.specs.WritePiece.{PiecesTaken, WriteAnswer, WritesPiece, accepted}
+use Rattle.codec.specs.WritePieceLaws.{PiecesTaken-joins, PiecesTaken-none}
+use Rattle.codec.specs.WriteRuns.{CallPlays, CallRuns, CallsEach, CallsStopped, WritePlays, all_accepted, all_ok}
 
 -- what is taken in where each answer is `Ok`, and that only payloads with an answer count
 pub all_accepted-ok : (X : Type 0) (payloads : List (List ℕ)) → all_accepted {X = X} payloads (all_ok payloads) ≡ payloads
@@ -46,15 +49,19 @@ module _ {T X : Type 0} (Call : T → List ℕ → Result (Unit {0}) X → T →
     all_ok-taken s payloads t run = subst (λ l. Taken s l t) (all_accepted-ok X payloads)
         (CallRuns-taken s payloads (all_ok payloads) t run)
 
+    -- such calls, and what they took in: no call, and one more
+    pub CallPlays-none : (s : T) → CallPlays Call Taken s [] [] s
+    CallPlays-none s = record { run = refl; taken = none s }
+
+    pub CallPlays-more : (s : T) (payloads : List (List ℕ)) (answers : List (Result (Unit {0}) X)) (m : T)
+        (payload : List ℕ) (answer : Result (Unit {0}) X) (t : T) → CallPlays Call Taken s payloads answers m
+        → Call m payload answer t → CallPlays Call Taken s (payloads ++ payload ∷ []) (answers ++ answer ∷ []) t
+    CallPlays-more s payloads answers m payload answer t plays wrote =
+        let run = CallRuns-more s payloads answers m payload answer t plays.run wrote in
+        record { run = run; taken = CallRuns-taken s (payloads ++ payload ∷ []) (answers ++ answer ∷ []) t run }
+
     -- of a loop over such payloads, that goes on by one
     module _ {V : Type 0} (f : V → List ℕ) (vs : List V) (i : ℕ) (s m : T) where
-      pub run_more : (x : V) → i < length vs → x ≡ get_or vs i x → (answers : List (Result (Unit {0}) X))
-          (answer : Result (Unit {0}) X) (t : T) → CallRuns Call s (map f (take i vs)) answers m → Call m (f x) answer t
-          → CallRuns Call s (map f (take (i + 1) vs)) (answers ++ answer ∷ []) t
-      run_more x inside is answers answer t run wrote =
-          subst (λ l. CallRuns Call s l (answers ++ answer ∷ []) t) (sym (before f vs i x inside is))
-          (CallRuns-more s (map f (take i vs)) answers m (f x) answer t run wrote)
-
       module _ (run : CallRuns Call s (map f (take i vs)) (all_ok (map f (take i vs))) m) where
         pub written_more : (x : V) → i < length vs → x ≡ get_or vs i x → (t : T) → Call m (f x) (Ok tt) t
             → CallRuns Call s (map f (take (i + 1) vs)) (all_ok (map f (take (i + 1) vs))) t
@@ -86,18 +93,27 @@ module _ {T X : Type 0} (Call : T → List ℕ → Result (Unit {0}) X → T →
             subst (λ l. CallRuns Call s (map f l) (all_ok (map f l)) m) (take_all i vs end) run in
             (all, all_ok-taken s (map f vs) m all)
 
-      pub calls_played : (old new answers : List (Result (Unit {0}) X)) → new ≡ old ++ answers → length answers ≡ i
-          → CallRuns Call s (map f (take i vs)) answers m → (room : ℕ) (ok : Bool)
-          → MatchBool ok (length answers ≡ length (map f vs)) ((length answers < length (map f vs)) × (room ≤ length new))
-          → CallsPlayed Call Taken s (map f vs) room old ok new m
-      calls_played old new answers gained count run room ok ended =
-          let run' : CallRuns Call s (take (length answers) (map f vs)) answers m =
-          subst (λ l. CallRuns Call s l answers m) (sym (ap (λ n. take n (map f vs)) count ∙ take-map f i vs)) run in
-          record {
-            answers = answers;
-            gained = gained;
-            run = run';
-            ended = ended;
-            taken = subst (λ l. Taken s l m) (all_accepted-take (map f vs) answers)
-                (CallRuns-taken s (take (length answers) (map f vs)) answers m run');
-          }
+-- the same of `write_piece`, under the encoder of the first
+module _ {S E W : Type 0} (stretch : S → S → Type 0) where
+  -- a call under an encoder that is still the same
+  pub WritesPiece-moved : (encoding : E → Encoding W) (s m t : Outgoing S E) (payload : List ℕ) (answer : WriteAnswer W)
+      → m.encoder ≡ s.encoder → WritesPiece stretch (encoding m.encoder) m payload answer t
+      → WritesPiece stretch (encoding s.encoder) m payload answer t
+  WritesPiece-moved encoding s m t payload answer same wrote =
+      subst (λ d. WritesPiece stretch (encoding d) m payload answer t) same wrote
+
+  module _ (none : (x : S) → stretch x x) where
+    pub WritePlays-none : (e : Encoding W) (s : Outgoing S E) → WritePlays stretch e s [] [] s
+    WritePlays-none e s = record { run = refl; taken = PiecesTaken-none stretch e none s }
+
+    pub WritePlays-more : ((a b c : S) → stretch a b → stretch b c → stretch a c) → (encoding : E → Encoding W)
+        (s : Outgoing S E) (payloads : List (List ℕ)) (answers : List (WriteAnswer W)) (m : Outgoing S E)
+        (payload : List ℕ) (answer : WriteAnswer W) (t : Outgoing S E)
+        → WritePlays stretch (encoding s.encoder) s payloads answers m
+        → WritesPiece stretch (encoding m.encoder) m payload answer t
+        → WritePlays stretch (encoding s.encoder) s (payloads ++ payload ∷ []) (answers ++ answer ∷ []) t
+    WritePlays-more joins encoding s payloads answers m payload answer t plays wrote =
+        let e = encoding s.encoder in
+        CallPlays-more (WritesPiece stretch e) (PiecesTaken stretch e) (PiecesTaken-none stretch e none)
+        (PiecesTaken-joins stretch e joins) (λ _ _ _ _ wrote. wrote.went) s payloads answers m payload answer t plays
+        (WritesPiece-moved encoding s m t payload answer plays.taken.encoder wrote)

@@ -11,6 +11,7 @@ ghost use Rattle.codec.specs.Texts.{HasPieces, Splits};
 ghost use Rattle.codec.specs.WritePiece.{PiecesTaken};
 
 mod lists;
+mod pieces;
 mod runs;
 
 use crate::decoder::Decoder;
@@ -19,7 +20,7 @@ use crate::reader::PieceReader;
 use crate::writer::PieceWriter;
 use buffer_redux::tell::{TellRead, TellWrite};
 pub use lists::{read_each, round_trip, write_each};
-pub use runs::{play_step, play_write_piece};
+pub use runs::{PayloadReader, PayloadWriter, play_next, play_write};
 
 /// A text is pieces in one way, and so is a stream of pieces before what is left.
 pub fn one_reading<D: Decoder>(decoder: &D)

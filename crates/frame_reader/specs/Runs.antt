@@ -1,9 +1,9 @@
 -- Runs of calls: what was recorded of them, and what they come to.
-use Rattle.std.specs.Prelude.{ℕ, List, [], ◌∷◌, ◌++◌, map, Bool, Option, None, Some, Ok}
-use Rattle.codec.specs.Runs.{AnswerRuns, AnswersPlayed, AnswersStopped, all_handed}
-use Rattle.codec.specs.WriteRuns.{CallsEach, CallsPlayed}
+use Rattle.std.specs.Prelude.{ℕ, List, [], ◌∷◌, ◌++◌, map, Option, None, Some, Ok}
+use Rattle.codec.specs.Runs.{AnswerPlays, AnswerRuns, all_handed}
+use Rattle.codec.specs.WriteRuns.{CallPlays, CallsEach}
 use Rattle.frame_reader.specs.Framing.{Framing}
-use Rattle.frame_reader.specs.Next.{FramesWent, Next, NextAnswer, payloads_of}
+use Rattle.frame_reader.specs.Next.{FramesWent, Next, NextAnswer}
 use Rattle.frame_reader.specs.Outgoing.{Outgoing}
 use Rattle.frame_reader.specs.WriteFrame.{FramesTaken, WriteAnswer, WritesFrame}
 
@@ -27,25 +27,15 @@ all_payloads answers = all_handed answers
 abbrev pub RunWent : {S : Type 0} → (S → Option (List ℕ)) → Framing S → List NextAnswer → Framing S → Type 0
 RunWent remaining s answers t = FramesWent remaining s (all_payloads answers) t
 
--- what was played of it, and what where memory was refused
-module _ {S : Type 0} (remaining : S → Option (List ℕ)) where
-  abbrev pub NextPlayed : Framing S → ℕ → List NextAnswer → List NextAnswer → Framing S → Type 0
-  NextPlayed = AnswersPlayed (Next remaining) (RunWent remaining)
-
-  abbrev pub NextStopped : Framing S → ℕ → ℕ → List NextAnswer → List NextAnswer → Framing S → Type 0
-  NextStopped = AnswersStopped (Next remaining) (RunWent remaining) payloads_of
-
--- one call was made, and what it handed out is lost
-pub record NextLost {S : Type 0} (remaining : S → Option (List ℕ)) (s t : Framing S) : Type 0 where
-  pub payload : List ℕ
-  pub next : Next remaining s (Ok (Some payload)) t
+-- both
+abbrev pub NextPlays : {S : Type 0} → (S → Option (List ℕ)) → Framing S → List NextAnswer → Framing S → Type 0
+NextPlays remaining = AnswerPlays (Next remaining) (RunWent remaining)
 
 -- calls of `write_frame`, one after another
 module _ {S : Type 0} (stretch : S → S → Type 0) where
-  -- what was played
-  abbrev pub WritePlayed : Outgoing S → List (List ℕ) → ℕ → List WriteAnswer → Bool → List WriteAnswer → Outgoing S
-      → Type 0
-  WritePlayed = CallsPlayed (WritesFrame stretch) (FramesTaken stretch)
+  -- with these answers, and what they took in
+  abbrev pub WritePlays : Outgoing S → List (List ℕ) → List WriteAnswer → Outgoing S → Type 0
+  WritePlays = CallPlays (WritesFrame stretch) (FramesTaken stretch)
 
   -- each of these payloads was written, up to the first error
   abbrev pub WritesEach : Outgoing S → List (List ℕ) → WriteAnswer → Outgoing S → Type 0

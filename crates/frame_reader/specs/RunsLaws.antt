@@ -1,24 +1,26 @@
 -- Laws of runs: what their calls do joins.
-use Rattle.std.specs.Prelude.{◌≡◌, ℕ, ◌<◌, ◌^◌, List, [], ◌∷◌, Option, Ok, Err, IfErr}
+use Rattle.std.specs.Prelude.{◌≡◌, ℕ, ◌<◌, ◌^◌, List, [], ◌∷◌, ◌++◌, Option, Ok, Err, IfErr}
 use Rattle.std.proofs.Common.{sym, ap, subst, ◌∙◌, arith, refl}
 use Rattle.codec.specs.declared.error.WritePieceError.{WritePieceError}
 use Rattle.codec.specs.declared.error.WritePieceError.TheVariants as piece
 use Rattle.codec.specs.Outgoing as pieces
 use Rattle.codec.specs.WritePiece as calls
 use Rattle.codec.specs.WritePiece.{PiecesTaken, WritesPiece}
+use Rattle.codec.specs.RunsLaws.{AnswerPlays-more, AnswerPlays-none}
 use Rattle.codec.specs.WriteRuns as runs
 use Rattle.codec.specs.WriteRuns.{CallRuns, all_ok}
+use Rattle.codec.specs.WriteRunsLaws.{CallPlays-more}
 use Rattle.frame_reader.specs.declared.error.WriteFrameError.{WriteFrameError}
 use Rattle.frame_reader.specs.declared.error.WriteFrameError.TheVariants.{TooLong, Io}
 use Rattle.frame_reader.specs.declared.frame.Frames.{Frames}
 use Rattle.frame_reader.specs.Framed.{framed_out}
 use Rattle.frame_reader.specs.Framing.{Framing}
-use Rattle.frame_reader.specs.Next.{FramesWent, NextAnswer, payloads_of}
+use Rattle.frame_reader.specs.Next.{FramesWent, Next, NextAnswer, payloads_of}
 use Rattle.frame_reader.specs.NextLaws.{FramesWent-none, FramesWent-joins}
 use Rattle.frame_reader.specs.Outgoing.{Outgoing, IsOutgoing, outgoing}
-use Rattle.frame_reader.specs.Runs.{NextRuns, WritesEach, all_payloads}
-use Rattle.frame_reader.specs.WriteFrame.{IsFault, WriteAnswer, WritesFrame, frame_answer, piece_written}
-use Rattle.frame_reader.specs.WriteFrameLaws.{WritesFrame-of, taken_frames}
+use Rattle.frame_reader.specs.Runs.{NextPlays, NextRuns, RunWent, WritePlays, WritesEach, all_payloads}
+use Rattle.frame_reader.specs.WriteFrame.{FramesTaken, IsFault, WriteAnswer, WritesFrame, frame_answer, piece_written}
+use Rattle.frame_reader.specs.WriteFrameLaws.{FramesTaken-joins, FramesTaken-none, WritesFrame-of, taken_frames}
 
 module _ {S : Type 0} (remaining : S → Option (List ℕ)) where
   pub NextRuns-went : (s : Framing S) (answers : List NextAnswer) (t : Framing S) → NextRuns remaining s answers t
@@ -27,6 +29,26 @@ module _ {S : Type 0} (remaining : S → Option (List ℕ)) where
   NextRuns-went s (answer ∷ answers) t run =
       FramesWent-joins remaining s run.0 t (payloads_of answer) (all_payloads answers) run.1.went
       (NextRuns-went run.0 answers t run.2)
+
+  -- calls, and what they come to: no call, and one more
+  pub NextPlays-none : (s : Framing S) → NextPlays remaining s [] s
+  NextPlays-none = AnswerPlays-none (Next remaining) (RunWent remaining) NextRuns-went
+
+  pub NextPlays-more : (s : Framing S) (answers : List NextAnswer) (m : Framing S) (answer : NextAnswer) (t : Framing S)
+      → NextPlays remaining s answers m → Next remaining m answer t → NextPlays remaining s (answers ++ answer ∷ []) t
+  NextPlays-more = AnswerPlays-more (Next remaining) (RunWent remaining) NextRuns-went
+
+-- the same of `write_frame`
+module _ {S : Type 0} (stretch : S → S → Type 0) (none : (x : S) → stretch x x) where
+  pub WritePlays-none : (s : Outgoing S) → WritePlays stretch s [] [] s
+  WritePlays-none s = record { run = refl; taken = FramesTaken-none stretch none s }
+
+  pub WritePlays-more : ((a b c : S) → stretch a b → stretch b c → stretch a c) → (s : Outgoing S)
+      (payloads : List (List ℕ)) (answers : List WriteAnswer) (m : Outgoing S) (payload : List ℕ) (answer : WriteAnswer)
+      (t : Outgoing S) → WritePlays stretch s payloads answers m → WritesFrame stretch m payload answer t
+      → WritePlays stretch s (payloads ++ payload ∷ []) (answers ++ answer ∷ []) t
+  WritePlays-more joins = CallPlays-more (WritesFrame stretch) (FramesTaken stretch) (FramesTaken-none stretch none)
+      (FramesTaken-joins stretch joins) (λ _ _ _ _ wrote. wrote.went)
 
 -- what calls of a writer of pieces come to, in the words of frames
 module _ {S : Type 0} (stretch : S → S → Type 0) (max : ℕ) (word : max < 2 ^ 16) where

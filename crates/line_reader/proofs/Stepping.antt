@@ -90,7 +90,7 @@ module _ {V S : Type 0} (f : V → List ℕ) (vs : List V) (i : ℕ) (remaining 
         }
 
     pub read_fails : (e : Error) → NextFails remaining m e t → ReadStopped remaining s (map f vs) e t
-    read_fails e (inl lost) = read_lost lost.1.line e lost.0 lost.1.next
+    read_fails e (inl lost) = read_lost lost.1.payload e lost.0 lost.1.next
     read_fails e (inr faulted) = read_faulted e t faulted
 
     pub read_none : NextGoes remaining m (Ok None) t → ⊥
@@ -105,7 +105,7 @@ module _ {V S : Type 0} (f : V → List ℕ) (vs : List V) (i : ℕ) (remaining 
         (subst (λ l. All (FitsLine m.max) l) none_left left_fit) (subst (λ l. HasLeft remaining m l) none_left so_far.has)
 
     pub end_fails : (e : Error) (t : Lining S) → NextFails remaining m e t → ReadStopped remaining s (map f vs) e t
-    end_fails e t (inl lost) = absurd (read_more lost.1.line t lost.1.next)
+    end_fails e t (inl lost) = absurd (read_more lost.1.payload t lost.1.next)
     end_fails e t (inr faulted) = read_faulted e t faulted
 
     pub all_kept : kept ≡ map f vs

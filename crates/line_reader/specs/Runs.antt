@@ -4,7 +4,7 @@ use Rattle.std.specs.IoError.{error_kind}
 use Rattle.std.specs.declared.io.Error.{Error}
 use Rattle.std.specs.declared.io.ErrorKind.TheVariants.{OutOfMemory}
 use Rattle.codec.specs.Runs as pieces
-use Rattle.codec.specs.Runs.{AnswerRuns, AnswersPlayed, AnswersStopped, handed_payload}
+use Rattle.codec.specs.Runs.{AnswerPlays, AnswerRuns, NextLost}
 use Rattle.line_reader.specs.declared.error.LineError.TheVariants.{Io}
 use Rattle.line_reader.specs.Lining.{Lining, lined, piecing}
 use Rattle.line_reader.specs.NextLine.{NextAnswer, piece_answer}
@@ -32,21 +32,11 @@ AllRead remaining s lines t = NextRuns remaining s (map (λ line. Ok (Some line)
 abbrev pub RunWentOpen : {S : Type 0} → (S → Option (List ℕ)) → Lining S → List NextAnswer → Lining S → Type 0
 RunWentOpen remaining s answers t = s.skipping ≡ false → RunWent remaining s answers t
 
--- what was played of it, and what where memory was refused
-abbrev pub NextPlayed : {S : Type 0} → (S → Option (List ℕ)) → Lining S → ℕ → List NextAnswer → List NextAnswer → Lining S
-    → Type 0
-NextPlayed remaining = AnswersPlayed (NextGoes remaining) (RunWentOpen remaining)
-
-abbrev pub NextStopped : {S : Type 0} → (S → Option (List ℕ)) → Lining S → ℕ → ℕ → List NextAnswer → List NextAnswer → Lining S
-    → Type 0
-NextStopped remaining = AnswersStopped (NextGoes remaining) (RunWentOpen remaining) handed_payload
-
--- one call was made, and the line that it handed out is lost
-pub record NextLost {S : Type 0} (remaining : S → Option (List ℕ)) (s t : Lining S) : Type 0 where
-  pub line : List ℕ
-  pub next : NextGoes remaining s (Ok (Some line)) t
+-- calls, and what they come to
+abbrev pub NextPlays : {S : Type 0} → (S → Option (List ℕ)) → Lining S → List NextAnswer → Lining S → Type 0
+NextPlays remaining = AnswerPlays (NextGoes remaining) (RunWentOpen remaining)
 
 -- one call failed with this error: want of memory for what it handed out, or the stream's own
 abbrev pub NextFails : {S : Type 0} → (S → Option (List ℕ)) → Lining S → Error → Lining S → Type 0
 NextFails remaining s e t =
-    ((error_kind e ≡ OutOfMemory) × NextLost remaining s t) ⊎ NextGoes remaining s (Err (Io e)) t
+    ((error_kind e ≡ OutOfMemory) × NextLost (NextGoes remaining) s t) ⊎ NextGoes remaining s (Err (Io e)) t

@@ -5,7 +5,7 @@ use Rattle.std.proofs.lemmas.List.{map-append}
 use Rattle.codec.specs.Runs as pieces
 use Rattle.codec.specs.Runs.{NoneTold, all_handed}
 use Rattle.codec.specs.RunsLaws as pieces_laws
-use Rattle.codec.specs.RunsLaws.{AnswerRuns-more}
+use Rattle.codec.specs.RunsLaws.{AnswerPlays-more, AnswerPlays-none, AnswerRuns-more}
 use Rattle.codec.specs.Texts.{HasPieces}
 use Rattle.line_reader.specs.declared.error.LineError.TheVariants.{TooLong, Io}
 use Rattle.line_reader.specs.Lines.{HasLines}
@@ -14,7 +14,7 @@ use Rattle.line_reader.specs.NextLine.{NextAnswer, piece_answer}
 use Rattle.line_reader.specs.NextLineLaws.{NextGoes-plain}
 use Rattle.line_reader.specs.SkipLine.{NextGoes}
 use Rattle.line_reader.specs.TextLaws.{lines_of}
-use Rattle.line_reader.specs.Runs.{Cuts, NextRuns, RunWent, RunWentOpen}
+use Rattle.line_reader.specs.Runs.{Cuts, NextPlays, NextRuns, RunWent, RunWentOpen}
 
 -- the answers of a reader of pieces hand out the same, and tell an end where these do
 handed_same : (answers : List NextAnswer) → all_handed (map piece_answer answers) ≡ all_handed answers
@@ -66,3 +66,11 @@ module _ {S : Type 0} (remaining : S → Option (List ℕ)) where
   pub NextRuns-open : (s : Lining S) (answers : List NextAnswer) (t : Lining S) → NextRuns remaining s answers t
       → RunWentOpen remaining s answers t
   NextRuns-open s answers t run = λ open'. NextRuns-went s answers t open' run
+
+  -- calls, and what they come to: no call, and one more
+  pub NextPlays-none : (s : Lining S) → NextPlays remaining s [] s
+  NextPlays-none = AnswerPlays-none (NextGoes remaining) (RunWentOpen remaining) NextRuns-open
+
+  pub NextPlays-more : (s : Lining S) (answers : List NextAnswer) (m : Lining S) (answer : NextAnswer) (t : Lining S)
+      → NextPlays remaining s answers m → NextGoes remaining m answer t → NextPlays remaining s (answers ++ answer ∷ []) t
+  NextPlays-more = AnswerPlays-more (NextGoes remaining) (RunWentOpen remaining) NextRuns-open

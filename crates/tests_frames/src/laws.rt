@@ -82,7 +82,7 @@ fn play_writes<W: TellWrite>(
     payloads: &[Vec<u8>],
 ) -> io::Result<String> {
     let mut answers = Vec::new(alloc);
-    frame_reader::laws::play_write_frame(writer, payloads, &mut answers)?;
+    frame_reader::laws::play_write(writer, payloads, &mut answers)?;
     of_written_frames(writer);
     Ok(debug(alloc, &answers)?)
 }

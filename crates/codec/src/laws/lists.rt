@@ -12,7 +12,7 @@ use crate::both::{Codec, written_text};
 use crate::decoder::Decoder;
 use crate::encoder::Encoder;
 use crate::error::{NextError, WritePieceError};
-use crate::laws::runs::step_copied;
+use crate::laws::runs::PayloadReader;
 use crate::reader::PieceReader;
 use crate::writer::PieceWriter;
 use buffer_redux::tell::{MemoryReader, MemoryWriter, TellRead, TellWrite};
@@ -62,7 +62,7 @@ pub fn read_each<R: TellRead, D: Decoder>(
     }
 }
 
-// One call of `step`, where it is known that just pieces are left: nothing is wrong then.
+// One call of `next_copied`, where it is known that just pieces are left: nothing is wrong then.
 fn next_of_known<R: TellRead, D: Decoder>(
     alloc: Global,
     reader: &mut PieceReader<R, D>,
@@ -72,7 +72,7 @@ fn next_of_known<R: TellRead, D: Decoder>(
         NextPiece R.remaining (D.grammar reader.old.decoder) reader.old (kept_answer (Ok found)) reader.new) }
     ensures failed { IfErr result (λ e. NextFails R.remaining (D.grammar reader.old.decoder) reader.old e reader.new) }
 {
-    match step_copied(alloc, reader)? {
+    match reader.next_copied(alloc)? {
         Ok(found) => Ok(found),
         Err(NextError::Io(e)) => Err(e),
         Err(NextError::Wrong(_)) => unreachable!(),

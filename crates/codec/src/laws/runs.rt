@@ -1,73 +1,101 @@
 //! Any number of calls, one after another, each with its answer.
-ghost use Rattle.std.specs.Prelude.{map, IfOk, OnOk, OnErr, is_ok, vec_capacity};
-ghost use Rattle.codec.specs.NextPiece.{NextPiece};
-ghost use Rattle.codec.specs.Runs.{NextLost, NextPlayed, NextStopped, kept_answer};
-ghost use Rattle.codec.specs.WriteRuns.{WritePlayed};
+ghost use Rattle.std.specs.Prelude.{ℕ, List, [], ◌∷◌, ◌++◌, map, Option, Result, IfOk, OnOk, OnErr, is_ok, vec_capacity};
+ghost use Rattle.codec.specs.Runs.{AnswersPlayed, AnswersStopped, NextLost, kept_answer};
+ghost use Rattle.codec.specs.WriteRuns.{CallsPlayed};
 
-use crate::decoder::Decoder;
-use crate::encoder::Encoder;
-use crate::error::{NextError, WritePieceError};
-use crate::reader::PieceReader;
-use crate::writer::PieceWriter;
-use buffer_redux::tell::{TellRead, TellWrite};
 use std::alloc::{AllocError, Global};
 
-/// Calls `step` so many times, whatever it returns, and adds each answer to `answers`. The pieces that were handed out, then
+/// A reader that hands out payloads, whatever they are cut from: pieces, frames or lines.
+pub trait PayloadReader {
+    /// Why a call hands out no payload.
+    type Error: Drop;
+
+    // What one call does to the reader, by its answer.
+    ghost goes: { Self → Result (Option (List ℕ)) Self.Error → Self → Type 0 };
+
+    // What calls do, one after another, by their answers: as many steps as there are, and what they come to.
+    ghost plays: { Self → List (Result (Option (List ℕ)) Self.Error) → Self → Type 0 };
+
+    /// One call, with the payload copied. An `Err` is refused memory: the call was made, and its payload is lost.
+    fn next_copied(
+        &mut self,
+        alloc: Global,
+    ) -> Result<Result<Option<Vec<u8>>, Self::Error>, AllocError>
+        ensures next { IfOk result (λ answer. goes self.old (kept_answer answer) self.new) }
+        ensures lost { OnErr result (NextLost goes self.old self.new) };
+
+    // No call does nothing.
+    ghost plays_none: { (s : Self) → plays s [] s };
+
+    // One call more.
+    ghost plays_more: { (s : Self) (answers : List (Result (Option (List ℕ)) Self.Error)) (m : Self)
+        (answer : Result (Option (List ℕ)) Self.Error) (t : Self)
+        → plays s answers m → goes m answer t → plays s (answers ++ answer ∷ []) t };
+}
+
+/// Asks for the next payload so many times, whatever is answered, and adds each answer to `answers`. What was handed out, then
 /// what is left, are the stream, however it was cut.
 ///
 /// An `Err` is refused memory: then the answer of the last call that was made is lost. Memory is taken for each payload, and for
 /// `answers` where that has no room.
-pub fn play_step<R: TellRead, D: Decoder>(
+pub fn play_next<P: PayloadReader>(
     alloc: Global,
-    reader: &mut PieceReader<R, D>,
+    reader: &mut P,
     calls: usize,
-    answers: &mut Vec<Result<Option<Vec<u8>>, NextError<D::Wrong>>>,
+    answers: &mut Vec<Result<Option<Vec<u8>>, P::Error>>,
 ) -> Result<(), AllocError>
-    ensures played { OnOk result (NextPlayed R.remaining (D.grammar reader.old.decoder) reader.old calls
+    ensures played { OnOk result (AnswersPlayed P.plays reader.old calls
         (map kept_answer answers.old.items) (map kept_answer answers.new.items) reader.new) }
-    ensures stopped { OnErr result (NextStopped R.remaining (D.grammar reader.old.decoder) reader.old calls
-        (vec_capacity answers.old)
+    ensures stopped { OnErr result (AnswersStopped P.plays reader.old calls (vec_capacity answers.old)
         (map kept_answer answers.old.items) (map kept_answer answers.new.items) reader.new) }
 {
     for _ in 0..calls {
-        let answer = step_copied(alloc, reader)?;
+        let answer = reader.next_copied(alloc)?;
         answers.push(answer)?;
     }
     Ok(())
 }
 
-// One call of `step`, with the payload copied. An `Err` is refused memory: the call was made, and its payload is lost.
-pub(crate) fn step_copied<R: TellRead, D: Decoder>(
-    alloc: Global,
-    reader: &mut PieceReader<R, D>,
-) -> Result<Result<Option<Vec<u8>>, NextError<D::Wrong>>, AllocError>
-    ensures next { IfOk result (λ answer.
-        NextPiece R.remaining (D.grammar reader.old.decoder) reader.old (kept_answer answer) reader.new) }
-    ensures lost { OnErr result (NextLost R.remaining (D.grammar reader.old.decoder) reader.old reader.new) }
-{
-    match reader.step() {
-        Ok(Some(span)) => Ok(Ok(Some(Vec::from_slice(alloc, reader.lent(span))?))),
-        Ok(None) => Ok(Ok(None)),
-        Err(e) => Ok(Err(e)),
-    }
+/// A writer that takes payloads in, each whole or not at all: as a piece or a frame.
+pub trait PayloadWriter {
+    /// Why a payload was not taken in.
+    type Error: Drop;
+
+    // What one call with a payload does to the writer, by its answer.
+    ghost goes: { Self → List ℕ → Result (Unit {0}) Self.Error → Self → Type 0 };
+
+    // What calls with these payloads do, one after another, by their answers: as many steps as there are, and what they took in.
+    ghost plays: { Self → List (List ℕ) → List (Result (Unit {0}) Self.Error) → Self → Type 0 };
+
+    /// Takes the payload in.
+    fn write_payload(&mut self, payload: &[u8]) -> Result<(), Self::Error>
+        ensures { goes self.old payload.now result self.new };
+
+    // No call does nothing.
+    ghost plays_none: { (s : Self) → plays s [] [] s };
+
+    // One call more.
+    ghost plays_more: { (s : Self) (payloads : List (List ℕ)) (answers : List (Result (Unit {0}) Self.Error)) (m : Self)
+        (payload : List ℕ) (answer : Result (Unit {0}) Self.Error) (t : Self)
+        → plays s payloads answers m → goes m payload answer t
+        → plays s (payloads ++ payload ∷ []) (answers ++ answer ∷ []) t };
 }
 
-/// Calls `write_piece` with each payload, whatever it returns, and adds each answer to `answers`. What the stream received
-/// since, then what is buffered, is what was buffered, then the pieces of the payloads whose call returned `Ok`: no piece is
-/// torn, whatever failed.
+/// Writes each payload, whatever is answered, and adds each answer to `answers`. What the stream received since, then what is
+/// buffered, is what was buffered, then what is written for the payloads whose call returned `Ok`: none is torn, whatever failed.
 ///
 /// Room for each answer is made before its call, where there is none. Where memory for that is refused, the call was not begun.
-pub fn play_write_piece<W: TellWrite, E: Encoder>(
-    writer: &mut PieceWriter<W, E>,
+pub fn play_write<P: PayloadWriter>(
+    writer: &mut P,
     payloads: &[Vec<u8>],
-    answers: &mut Vec<Result<(), WritePieceError<E::Refusal>>>,
+    answers: &mut Vec<Result<(), P::Error>>,
 ) -> Result<(), AllocError>
-    ensures { WritePlayed W.stretch (E.encoding writer.old.encoder) writer.old (map (λ v. v.items) payloads.now)
-        (vec_capacity answers.old) answers.old.items (is_ok result) answers.new.items writer.new }
+    ensures { CallsPlayed P.plays writer.old (map (λ v. v.items) payloads.now) (vec_capacity answers.old)
+        answers.old.items (is_ok result) answers.new.items writer.new }
 {
     for payload in payloads {
         answers.reserve(1)?;
-        answers.push_reserved(writer.write_piece(payload));
+        answers.push_reserved(writer.write_payload(payload));
     }
     Ok(())
 }

@@ -1,14 +1,14 @@
 //! Calls of all three kinds, one after another, each with its answer.
-ghost use Rattle.std.specs.Prelude.{List, ℕ, Ok, Some, map, IfOk, OnOk, OnErr};
+ghost use Rattle.std.specs.Prelude.{map, IfOk, OnOk, OnErr};
 ghost use Rattle.line_reader.specs.Calls.{Call};
 ghost use Rattle.line_reader.specs.Played.{CallMade, CallsPlayed, CallsStopped, kept_call};
-ghost use Rattle.codec.specs.Runs.{kept_answer};
+ghost use Rattle.codec.specs.Runs.{NextLost, kept_answer};
 ghost use Rattle.line_reader.specs.SkipLine.{NextTrimmed};
 
 use crate::error::LineError;
-use crate::laws::runs::next_copied;
 use crate::reader::LineReader;
 use buffer_redux::tell::TellRead;
+use codec::laws::PayloadReader;
 use std::alloc::{AllocError, Global};
 use std::io;
 
@@ -60,7 +60,7 @@ fn play_one<R: TellRead>(
     ensures lost { OnErr result ((call : Call) × CallMade R.remaining reader.old ask call reader.new) }
 {
     match ask {
-        Ask::Next => Ok(Played::Next(next_copied(alloc, reader)?)),
+        Ask::Next => Ok(Played::Next(reader.next_copied(alloc)?)),
         Ask::NextTrimmed => Ok(Played::NextTrimmed(trimmed_copied(alloc, reader)?)),
         Ask::SkipLine => Ok(Played::SkipLine(reader.skip_line())),
     }
@@ -72,7 +72,7 @@ fn trimmed_copied<R: TellRead>(
     reader: &mut LineReader<R>,
 ) -> Result<Result<Option<Vec<u8>>, LineError>, AllocError>
     ensures next { IfOk result (λ answer. NextTrimmed R.remaining reader.old (kept_answer answer) reader.new) }
-    ensures lost { OnErr result ((line : List ℕ) × NextTrimmed R.remaining reader.old (Ok (Some line)) reader.new) }
+    ensures lost { OnErr result (NextLost (NextTrimmed R.remaining) reader.old reader.new) }
 {
     match reader.next_trimmed() {
         Ok(Some(line)) => Ok(Ok(Some(Vec::from_slice(alloc, line)?))),

@@ -11,10 +11,10 @@ ghost use Rattle.codec.specs.Runs.{kept_answer};
 ghost use Rattle.line_reader.specs.Runs.{AllRead, NextFails};
 
 use crate::error::LineError;
-use crate::laws::runs::next_copied;
 use crate::reader::LineReader;
 use buffer_redux::LineWriter;
 use buffer_redux::tell::{MemoryReader, MemoryWriter, TellRead, TellWrite};
+use codec::laws::PayloadReader;
 use std::alloc::Global;
 use std::io;
 use std::io::Write;
@@ -71,7 +71,7 @@ fn next_of_known<R: TellRead>(
     ensures next { IfOk result (λ found. NextGoes R.remaining reader.old (kept_answer (Ok found)) reader.new) }
     ensures failed { IfErr result (λ e. NextFails R.remaining reader.old e reader.new) }
 {
-    match next_copied(alloc, reader)? {
+    match reader.next_copied(alloc)? {
         Ok(found) => Ok(found),
         Err(LineError::Io(e)) => Err(e),
         Err(LineError::TooLong(_)) => unreachable!(),

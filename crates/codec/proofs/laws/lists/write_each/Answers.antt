@@ -3,8 +3,8 @@ use Rattle.std.proofs.lemmas.Result.{err_from_is_err_and}
 use Rattle.codec.specs.WritePiece.{PiecesTaken, WritesPiece}
 use Rattle.codec.specs.WritePieceLaws.{PiecesTaken-none, PiecesTaken-joins}
 use Rattle.codec.specs.WriteRuns.{CallsStopped}
-use Rattle.codec.specs.WriteRunsLaws.{all_ok-taken, written_all, written_more, written_stops}
-use Rattle.codec.proofs.Writing.{moved_write, stopped_fault}
+use Rattle.codec.specs.WriteRunsLaws.{all_ok-taken, WritesPiece-moved, written_all, written_more, written_stops}
+use Rattle.codec.proofs.Writing.{stopped_fault}
 use Rattle.codec.proofs.laws.lists.write_each.Goals as goal
 
 stopped : (g : _) (c : goal.After-from_residual g)
@@ -26,7 +26,7 @@ stopped g c =
     (map (λ v. v.items) (take i vs)) m c.loop-payload.invariant).encoder in
     written_stops (WritesPiece stretch e) (PiecesTaken stretch e) none joins (λ _ _ _ _ wrote. wrote.went) (λ v. v.items) vs i
     s m c.loop-payload.invariant c.payload-item.result c.loop-payload-test.true c.payload-item.is why t
-    (moved_write stretch g.E.Encoder.encoding s m t c.payload-item.result.items (Err why) same
+    (WritesPiece-moved stretch g.E.Encoder.encoding s m t c.payload-item.result.items (Err why) same
     (subst (λ p. WritesPiece stretch (g.E.Encoder.encoding m.encoder) m p (Err why) t) c.deref.ensures.value
     c.in_err-write_piece.ensures))
 
@@ -58,7 +58,7 @@ loop-payload-preserved g c =
     (map (λ v. v.items) (take i vs)) m c.loop-payload.invariant).encoder in
     written_more (WritesPiece stretch e) (PiecesTaken stretch e) none joins (λ _ _ _ _ wrote. wrote.went) (λ v. v.items) vs i
     s m c.loop-payload.invariant c.payload-item.result c.loop-payload-test.true c.payload-item.is t
-    (moved_write stretch g.E.Encoder.encoding s m t c.payload-item.result.items (Ok tt) same
+    (WritesPiece-moved stretch g.E.Encoder.encoding s m t c.payload-item.result.items (Ok tt) same
     (subst (λ p. WritesPiece stretch (g.E.Encoder.encoding m.encoder) m p (Ok tt) t) c.deref.ensures.value
     c.in_ok-write_piece.ensures))
 

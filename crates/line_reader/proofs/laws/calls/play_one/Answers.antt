@@ -7,11 +7,11 @@ pub returns-in_err-next_copied-in-Next-clause-lost : goal.returns-in_err-next_co
 returns-in_err-next_copied-in-Next-clause-lost g c =
     let lost = c.in_err-next_copied-in-Next.ensures.lost in
     on_err c.from_residual.result
-    (Nexts (Ok (Some lost.line)), record { asked = sym c.in-Next.is; goes = lost.next })
+    (Nexts (Ok (Some lost.payload)), record { asked = sym c.in-Next.is; goes = lost.next })
 
 pub returns-in_err-trimmed_copied-in-NextTrimmed-clause-lost :
     goal.returns-in_err-trimmed_copied-in-NextTrimmed-clause-lost
 returns-in_err-trimmed_copied-in-NextTrimmed-clause-lost g c =
     let lost = c.in_err-trimmed_copied-in-NextTrimmed.ensures.lost in
     on_err c.from_residual-in_err-trimmed_copied-in-NextTrimmed.result
-    (NextsTrimmed (Ok (Some lost.0)), record { asked = sym c.in-NextTrimmed.is; goes = lost.1 })
+    (NextsTrimmed (Ok (Some lost.payload)), record { asked = sym c.in-NextTrimmed.is; goes = lost.next })

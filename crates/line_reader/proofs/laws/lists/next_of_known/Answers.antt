@@ -9,7 +9,7 @@ pub unreachable-requires : goal.unreachable-requires
 unreachable-requires g c =
     let remaining = g.R.TellRead.remaining in
     let s = c.args.reader.now in
-    let t = c.next_copied.new.reader in
+    let t = c.next_copied.new.self in
     let e = c.in-Err-TooLong in
     let left = c.requires.left in
     NextGoes-known remaining s t (Err (TooLong e.field-0-0)) left.lines
