@@ -1,16 +1,14 @@
 -- Laws of a reader of pieces over a stream that is known.
 use Rattle.std.specs.Prelude.{◌≡◌, ℕ, ◌+◌, ◌<◌, List, [], ◌∷◌, ◌++◌, length, true, false, Option, None, Some, IfSome, Ok, Err}
-use Rattle.std.proofs.Common.{sym, ap, subst, ◌∙◌, arith, inl, inr, refl, append-nil, length-append}
+use Rattle.std.proofs.Common.{sym, ap, subst, ◌∙◌, arith, inl, inr, refl, append-nil}
 use Rattle.std.specs.Io.KnownBytes.{Consumes, IsAtEnd, prepend_known}
-use Rattle.std.specs.declared.io.Error.{Error}
 use Rattle.buffer_redux.specs.GivesRemaining.{GivesRemaining-ahead}
-use Rattle.buffer_redux.specs.Memory.{reader-faultless, reader_log}
 use Rattle.buffer_redux.specs.StreamLog.{StreamLog}
-use Rattle.buffer_redux.specs.declared.tell.MemoryReader.{MemoryReader}
 use Rattle.codec.specs.declared.error.NextError.TheVariants.{Wrong, Io}
 use Rattle.codec.specs.Grammar.{Grammar, IsLawful, IsOpen}
+use Rattle.codec.specs.KnownPayloads.{AnswersKnown}
 use Rattle.codec.specs.KnownPieces.{HasLeft, NextKnown, ahead_of}
-use Rattle.codec.specs.NextPiece.{MetEnd, NextAnswer, NextPiece, PiecesWent}
+use Rattle.codec.specs.NextPiece.{Faulted, MetEnd, NextAnswer, NextPiece, PiecesWent}
 use Rattle.codec.specs.NextPieceLaws.{MetEnd-once}
 use Rattle.codec.specs.PiecesWentLaws.{drop_none}
 use Rattle.codec.specs.Piecing.{Piecing, IsFresh, rest}
@@ -174,6 +172,30 @@ module _ {S D W : Type 0} (remaining : S → Option (List ℕ)) (g : Grammar W) 
   NextPiece-known (Err (Io e)) payloads next has =
       same_left (Err (Io e)) next payloads has next.answers.0 next.answers.3
 
+-- what a call answers where it is known what is left, of any reader of payloads
+module _ {S D W : Type 0} (remaining : S → Option (List ℕ)) (grammar : D → Grammar W)
+    (law : (d : D) → IsLawful (grammar d)) (s : Piecing S D) where
+  pub NextPiece-answers : (answer : NextAnswer W) (payloads : List (List ℕ)) (t : Piecing S D)
+      → HasLeft remaining (grammar s.decoder) s payloads → NextPiece remaining (grammar s.decoder) s answer t
+      → AnswersKnown (λ f. HasLeft remaining (grammar f.decoder) f) (λ f. f.reader.log.reads.faults) Io s answer payloads t
+  NextPiece-answers (Ok (Some found)) [] t has next =
+      NextPiece-known remaining (grammar s.decoder) (law s.decoder) s t (Ok (Some found)) [] next has
+  NextPiece-answers (Ok (Some found)) (payload ∷ later) t has next =
+      let known = NextPiece-known remaining (grammar s.decoder) (law s.decoder) s t (Ok (Some found)) (payload ∷ later) next has in
+      (known.0, subst (λ d. HasLeft remaining (grammar d) t later) (sym next.went.decoder) known.1, next.answers.0)
+  NextPiece-answers (Ok None) [] t has next = subst (λ d. HasLeft remaining (grammar d) t []) (sym next.went.decoder)
+      (NextPiece-known remaining (grammar s.decoder) (law s.decoder) s t (Ok None) [] next has)
+  NextPiece-answers (Ok None) (payload ∷ later) t has next =
+      NextPiece-known remaining (grammar s.decoder) (law s.decoder) s t (Ok None) (payload ∷ later) next has
+  NextPiece-answers (Err (Io e)) payloads t has next = (
+    (e, refl),
+    subst (λ d. HasLeft remaining (grammar d) t payloads) (sym next.went.decoder)
+        (NextPiece-known remaining (grammar s.decoder) (law s.decoder) s t (Err (Io e)) payloads next has),
+    λ why is. (let same : e ≡ why = cc in subst (λ x. Faulted s x t) same next.answers.2),
+  )
+  NextPiece-answers (Err (Wrong e)) payloads t has next =
+      absurd (NextPiece-known remaining (grammar s.decoder) (law s.decoder) s t (Err (Wrong e)) payloads next has)
+
 -- what a fresh reader has left is what its stream has
 pub IsFresh-left : {S D W : Type 0} (remaining : S → Option (List ℕ)) (g : Grammar W) (tells : S → StreamLog)
     (least most : ℕ) (stream : S) (finder : D) (f : Piecing S D) (text : List ℕ) (payloads : List (List ℕ))
@@ -188,14 +210,3 @@ IsFresh-left remaining g tells least most stream finder f text payloads fresh kn
       has = has;
       none = λ ended. (let odd : true ≡ false = sym ended ∙ fresh.ended in cc);
     }
-
--- a reader over memory, whose log is this, met no fault
-pub memory_met_none : (r : MemoryReader) (old new : StreamLog) (e : Error) → reader_log r ≡ new
-    → ¬ (new.reads.faults ≡ old.reads.faults ++ e ∷ [])
-memory_met_none r old new e told fault = omega (
-  arith,
-  ap (λ l. length l.reads.faults) told,
-  ap length (reader-faultless r),
-  ap length fault,
-  length-append old.reads.faults (e ∷ []),
-)

@@ -12,6 +12,8 @@ pub mod HeadingsLaws
 pub mod HeadsOut
 pub mod HeadsOutLaws
 pub mod IoErrors
+pub mod KnownPayloads
+pub mod KnownPayloadsLaws
 pub mod KnownPieces
 pub mod KnownPiecesLaws
 pub mod NextPiece

@@ -1,12 +1,8 @@
 -- Runs of calls: what they come to.
-use Rattle.std.specs.Prelude.{◌≡◌, ℕ, ◌<◌, ◌≤◌, ◌⊎◌, List, [], ◌∷◌, ◌++◌, length, map, Option, None, Some, Result, Ok, Err}
+use Rattle.std.specs.Prelude.{◌≡◌, ℕ, ◌<◌, ◌≤◌, ◌⊎◌, List, [], ◌∷◌, ◌++◌, length, Option, None, Some, Result, Ok, Err}
 use Rattle.std.specs.Global.{Vec}
-use Rattle.std.specs.IoError.{error_kind}
 use Rattle.std.specs.List.{flat_map}
 use Rattle.std.specs.Option.{option_map}
-use Rattle.std.specs.declared.io.Error.{Error}
-use Rattle.std.specs.declared.io.ErrorKind.TheVariants.{OutOfMemory}
-use Rattle.codec.specs.declared.error.NextError.TheVariants.{Io}
 use Rattle.codec.specs.Grammar.{Grammar}
 use Rattle.codec.specs.NextPiece.{NextAnswer, NextPiece, PiecesWent}
 use Rattle.codec.specs.Piecing.{Piecing}
@@ -107,12 +103,3 @@ pub record RunWent {S D W : Type 0} (remaining : S → Option (List ℕ)) (g : G
 abbrev pub NextPlays : {S D W : Type 0} → (S → Option (List ℕ)) → Grammar W → Piecing S D → List (NextAnswer W) → Piecing S D
     → Type 0
 NextPlays remaining g = AnswerPlays (NextPiece remaining g) (RunWent remaining g)
-
--- each of these payloads was handed out by a call, and one more call told the end
-abbrev pub AllRead : {S D W : Type 0} → (S → Option (List ℕ)) → Grammar W → Piecing S D → List (List ℕ) → Piecing S D → Type 0
-AllRead remaining g s payloads t = NextRuns remaining g s (map (λ payload. Ok (Some payload)) payloads ++ Ok None ∷ []) t
-
--- one call failed with this error: want of memory for what it handed out, or the stream's own
-abbrev pub NextFails : {S D W : Type 0} → (S → Option (List ℕ)) → Grammar W → Piecing S D → Error → Piecing S D → Type 0
-NextFails remaining g s e t =
-    ((error_kind e ≡ OutOfMemory) × NextLost (NextPiece remaining g) s t) ⊎ NextPiece remaining g s (Err (Io e)) t

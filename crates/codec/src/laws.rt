@@ -10,6 +10,7 @@ ghost use Rattle.codec.specs.Runs.{Cuts, NextRuns, NoneTold, RunWent, all_handed
 ghost use Rattle.codec.specs.Texts.{HasPieces, Splits};
 ghost use Rattle.codec.specs.WritePiece.{PiecesTaken};
 
+mod known;
 mod lists;
 mod pieces;
 mod runs;
@@ -19,7 +20,8 @@ use crate::encoder::Encoder;
 use crate::reader::PieceReader;
 use crate::writer::PieceWriter;
 use buffer_redux::tell::{TellRead, TellWrite};
-pub use lists::{read_each, round_trip, write_each};
+pub use known::{KnownReader, read_each};
+pub use lists::{round_trip, write_each};
 pub use runs::{PayloadReader, PayloadWriter, play_next, play_write};
 
 /// A text is pieces in one way, and so is a stream of pieces before what is left.

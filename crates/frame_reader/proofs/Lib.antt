@@ -1,3 +1,2 @@
 pub mod Lengths
 pub mod Pieces
-pub mod Reading

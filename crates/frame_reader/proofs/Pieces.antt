@@ -97,18 +97,16 @@ closed max s t (Ok None) bytes (none, left, fault, ended, met) = ended
 closed max s t (Err (piece.Wrong e)) bytes (none, fault, ended, refused) = ended
 closed max s t (Err (piece.Io e)) bytes (none, is, fault, ended, no_end) = ended
 
-pub reads_then : {S : Type 0} (remaining : S → Option (List ℕ)) (max : ℕ) (s t : Piecing S Frames)
-    (answer : pieces.NextAnswer FrameFault) → s.decoder.max ≡ max → ReadsFrames s
-    → NextPiece remaining (framed max) s answer t → (t.decoder.max ≡ max) × ReadsFrames t
-reads_then remaining max s t answer was is next =
-    let same : t.decoder.max ≡ max = ap (λ d. d.max) next.went.decoder ∙ was in (
-      same,
-      record {
-        word = omega (arith, is.word, was, same);
-        told = closed max s t answer next.bytes next.answers;
-        whole = subst (λ n. IsPiecing (framed n) t) (sym same) next.whole;
-      },
-    )
+reads_then : {S : Type 0} (remaining : S → Option (List ℕ)) (s t : Piecing S Frames)
+    (answer : pieces.NextAnswer FrameFault) → ReadsFrames s → NextPiece remaining (framed s.decoder.max) s answer t
+    → ReadsFrames t
+reads_then remaining s t answer is next =
+    let same : t.decoder.max ≡ s.decoder.max = ap (λ d. d.max) next.went.decoder in
+    record {
+      word = omega (arith, is.word, same);
+      told = closed s.decoder.max s t answer next.bytes next.answers;
+      whole = subst (λ n. IsPiecing (framed n) t) (sym same) next.whole;
+    }
 
 pub whole_of : {S : Type 0} (t : Piecing S Frames) → ReadsFrames t → IsFraming (framing t)
 whole_of t is = record {
@@ -231,7 +229,7 @@ module _ {S : Type 0} (remaining : S → Option (List ℕ)) (s t : Piecing S Fra
   pub Next-of : (answer : NextAnswer) → Shown t answer → NextPiece remaining (framed s.decoder.max) s (piece_answer answer) t
       → Next remaining (framing s) answer (framing t)
   Next-of answer shown next =
-      let reads = (reads_then remaining s.decoder.max s t (piece_answer answer) refl is next).1 in
+      let reads = reads_then remaining s t (piece_answer answer) is next in
       frame_of remaining (framing s) (framing t) is.word answer shown
       (forgotten (piece_answer answer) reads.told next) (whole_of t reads)
 

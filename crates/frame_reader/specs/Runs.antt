@@ -1,5 +1,5 @@
 -- Runs of calls: what was recorded of them, and what they come to.
-use Rattle.std.specs.Prelude.{ℕ, List, [], ◌∷◌, ◌++◌, map, Option, None, Some, Ok}
+use Rattle.std.specs.Prelude.{ℕ, List, Option}
 use Rattle.codec.specs.Runs.{AnswerPlays, AnswerRuns, all_handed}
 use Rattle.codec.specs.WriteRuns.{CallPlays, CallsEach}
 use Rattle.frame_reader.specs.Framing.{Framing}
@@ -10,14 +10,6 @@ use Rattle.frame_reader.specs.WriteFrame.{FramesTaken, WriteAnswer, WritesFrame}
 -- calls of `next`, one after another, with these answers
 abbrev pub NextRuns : {S : Type 0} → (S → Option (List ℕ)) → Framing S → List NextAnswer → Framing S → Type 0
 NextRuns remaining = AnswerRuns (Next remaining)
-
--- the answers by which these payloads are handed out, each by one
-abbrev pub found_each : List (List ℕ) → List NextAnswer
-found_each payloads = map (λ payload. Ok (Some payload)) payloads
-
--- each of these payloads was handed out by a call, and one more call told the end
-abbrev pub AllRead : {S : Type 0} → (S → Option (List ℕ)) → Framing S → List (List ℕ) → Framing S → Type 0
-AllRead remaining s payloads t = NextRuns remaining s (found_each payloads ++ Ok None ∷ []) t
 
 -- the payloads that they handed out
 abbrev pub all_payloads : List NextAnswer → List (List ℕ)

@@ -15,8 +15,10 @@ mod runs;
 use crate::reader::FrameReader;
 use crate::writer::FrameWriter;
 use buffer_redux::tell::{TellRead, TellWrite};
-pub use codec::laws::{PayloadReader, PayloadWriter, play_next, play_write};
-pub use lists::{read_each, round_trip, write_each};
+pub use codec::laws::{
+    KnownReader, PayloadReader, PayloadWriter, play_next, play_write, read_each,
+};
+pub use lists::{round_trip, write_each};
 
 /// No frame begins another: what bytes begin with a frame settles its payload, and what is behind it.
 pub fn one_frame()

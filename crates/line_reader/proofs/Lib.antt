@@ -2,8 +2,6 @@ pub mod Going
 pub mod Heads
 pub mod Pieces
 pub mod Playing
-pub mod Refusing
 pub mod Skipping
-pub mod Stepping
 pub mod Trimming
 pub mod WritingLines

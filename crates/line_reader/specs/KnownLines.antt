@@ -1,16 +1,15 @@
 -- What a reader of lines hands out of a stream that is known.
-use Rattle.std.specs.Prelude.{◌≡◌, ℕ, ◌<◌, ◌^◌, ◌⊎◌, List, [], ◌∷◌, ◌++◌, length, map, true, false, Option, None, Some, Ok, Err}
+use Rattle.std.specs.Prelude.{◌≡◌, ℕ, ◌<◌, ◌^◌, ◌⊎◌, List, [], ◌∷◌, true, false, Option, None, Some, Ok, Err}
 use Rattle.std.specs.Io.KnownBytes.{prepend_known}
 use Rattle.std.specs.IoError.{error_kind}
 use Rattle.std.specs.List.{All}
 use Rattle.std.specs.declared.io.Error.{Error}
-use Rattle.std.specs.declared.io.ErrorKind.TheVariants.{InvalidInput, OutOfMemory}
+use Rattle.std.specs.declared.io.ErrorKind.TheVariants.{InvalidInput}
 use Rattle.buffer_redux.specs.Faults.{IsMemory}
 use Rattle.line_reader.specs.declared.error.LineError.TheVariants.{TooLong, Io}
 use Rattle.line_reader.specs.Lines.{FitsLine, HasLines}
 use Rattle.line_reader.specs.Lining.{Lining, rest, room_for}
-use Rattle.line_reader.specs.NextLine.{Faulted, NextAnswer, NoFault}
-use Rattle.line_reader.specs.Runs.{NextRuns}
+use Rattle.line_reader.specs.NextLine.{NextAnswer}
 
 -- the bytes that weren't handed out, where they are known: those that are buffered, and then those that the inner reader is
 -- known to have left
@@ -25,9 +24,8 @@ pub record HasLeft {S : Type 0} (remaining : S → Option (List ℕ)) (f : Linin
   pub none : f.ended ≡ true → lines ≡ []
   pub open' : f.skipping ≡ false
 
--- they are a text of some lines, each of which fits
-pub record LeavesLines {S : Type 0} (remaining : S → Option (List ℕ)) (f : Lining S) : Type 0 where
-  pub lines : List (List ℕ)
+-- just these lines are left, and each of them fits
+pub record LeavesLines {S : Type 0} (remaining : S → Option (List ℕ)) (f : Lining S) (lines : List (List ℕ)) : Type 0 where
   pub fit : All (FitsLine f.max) lines
   pub has : HasLeft remaining f lines
 
@@ -40,22 +38,6 @@ NextKnown remaining (Ok None) (line ∷ later) t = ⊥
 NextKnown remaining (Ok None) [] t = HasLeft remaining t []
 NextKnown remaining (Err (Io e)) lines t = HasLeft remaining t lines
 NextKnown remaining (Err (TooLong max)) lines t = ⊥
-
--- these lines were handed out, each by one call, and then reading failed with this error: memory to keep the last of them
--- was refused, and no fault was met, or one more call met it, and no other
-abbrev pub ReadFails : {S : Type 0} → (S → Option (List ℕ)) → Lining S → List (List ℕ) → Error → Lining S → Type 0
-ReadFails remaining s done e t =
-    ((error_kind e ≡ OutOfMemory) × (0 < length done) × NextRuns remaining s (map (λ line. Ok (Some line)) done) t × NoFault s t)
-    ⊎ (NextRuns remaining s (map (λ line. Ok (Some line)) done ++ Err (Io e) ∷ []) t × Faulted s e t)
-
--- the first of these lines were handed out, and then reading failed with this error: the others are left
-pub record ReadStopped {S : Type 0} (remaining : S → Option (List ℕ)) (s : Lining S) (lines : List (List ℕ))
-    (e : Error) (t : Lining S) : Type 0 where
-  pub done : List (List ℕ)
-  pub later : List (List ℕ)
-  pub all : lines ≡ done ++ later
-  pub left : HasLeft remaining t later
-  pub failed : ReadFails remaining s done e t
 
 -- memory was wanted, or for lines of so many bytes a larger buffer than there is
 abbrev pub BufferRefused : ℕ → Error → Type 0

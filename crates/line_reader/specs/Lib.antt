@@ -5,6 +5,7 @@ pub mod KnownCalls
 pub mod KnownCallsLaws
 pub mod KnownLines
 pub mod KnownLinesLaws
+pub mod LeavesLinesLaws
 pub mod LineError
 pub mod Lines
 pub mod LinesAlongLaws

@@ -1,11 +1,8 @@
 -- Runs of calls: what was recorded of them, and what they come to.
-use Rattle.std.specs.Prelude.{◌≡◌, ℕ, ◌⊎◌, List, [], ◌∷◌, ◌++◌, map, false, Option, None, Some, Ok, Err}
-use Rattle.std.specs.IoError.{error_kind}
-use Rattle.std.specs.declared.io.Error.{Error}
-use Rattle.std.specs.declared.io.ErrorKind.TheVariants.{OutOfMemory}
+use Rattle.std.specs.Prelude.{◌≡◌, ℕ, List, map, false, Option}
+use Rattle.codec.specs.KnownPayloads as known
 use Rattle.codec.specs.Runs as pieces
-use Rattle.codec.specs.Runs.{AnswerPlays, AnswerRuns, NextLost}
-use Rattle.line_reader.specs.declared.error.LineError.TheVariants.{Io}
+use Rattle.codec.specs.Runs.{AnswerPlays, AnswerRuns}
 use Rattle.line_reader.specs.Lining.{Lining, lined, piecing}
 use Rattle.line_reader.specs.NextLine.{NextAnswer, piece_answer}
 use Rattle.line_reader.specs.SkipLine.{NextGoes}
@@ -26,7 +23,7 @@ RunWent remaining s answers t =
 
 -- each of these lines was handed out by a call, and one more call told the end
 abbrev pub AllRead : {S : Type 0} → (S → Option (List ℕ)) → Lining S → List (List ℕ) → Lining S → Type 0
-AllRead remaining s lines t = NextRuns remaining s (map (λ line. Ok (Some line)) lines ++ Ok None ∷ []) t
+AllRead remaining = known.AllRead (NextRuns remaining)
 
 -- that is what they come to where no line was being skipped
 abbrev pub RunWentOpen : {S : Type 0} → (S → Option (List ℕ)) → Lining S → List NextAnswer → Lining S → Type 0
@@ -35,8 +32,3 @@ RunWentOpen remaining s answers t = s.skipping ≡ false → RunWent remaining s
 -- calls, and what they come to
 abbrev pub NextPlays : {S : Type 0} → (S → Option (List ℕ)) → Lining S → List NextAnswer → Lining S → Type 0
 NextPlays remaining = AnswerPlays (NextGoes remaining) (RunWentOpen remaining)
-
--- one call failed with this error: want of memory for what it handed out, or the stream's own
-abbrev pub NextFails : {S : Type 0} → (S → Option (List ℕ)) → Lining S → Error → Lining S → Type 0
-NextFails remaining s e t =
-    ((error_kind e ≡ OutOfMemory) × NextLost (NextGoes remaining) s t) ⊎ NextGoes remaining s (Err (Io e)) t

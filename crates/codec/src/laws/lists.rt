@@ -2,20 +2,18 @@
 ghost use Rattle.std.specs.Prelude.{◌≡◌, ◌⊎◌, map, Ok, IfOk, IfErr, OnOk};
 ghost use Rattle.std.specs.List.{All};
 ghost use Rattle.codec.specs.Encoding.{all_coded};
-ghost use Rattle.codec.specs.KnownPieces.{BufferRefused, HasLeft, LeavesPieces, ReadStopped};
-ghost use Rattle.codec.specs.NextPiece.{NextPiece};
-ghost use Rattle.codec.specs.Runs.{AllRead, NextFails, kept_answer};
+ghost use Rattle.codec.specs.KnownPieces.{BufferRefused};
 ghost use Rattle.codec.specs.Texts.{HasPieces};
 ghost use Rattle.codec.specs.WriteRuns.{IfFault, IsFault, WritesEach};
 
 use crate::both::{Codec, written_text};
 use crate::decoder::Decoder;
 use crate::encoder::Encoder;
-use crate::error::{NextError, WritePieceError};
-use crate::laws::runs::PayloadReader;
+use crate::error::WritePieceError;
+use crate::laws::known::read_each;
 use crate::reader::PieceReader;
 use crate::writer::PieceWriter;
-use buffer_redux::tell::{MemoryReader, MemoryWriter, TellRead, TellWrite};
+use buffer_redux::tell::{MemoryReader, MemoryWriter, TellWrite};
 use std::alloc::Global;
 use std::io;
 
@@ -33,50 +31,6 @@ pub fn write_each<W: TellWrite, E: Encoder>(
         writer.write_piece(payload)?;
     }
     Ok(())
-}
-
-/// Reads pieces of which it is known that they have these payloads, and no others. An `Err` is refused memory for the payload
-/// that was handed out last, or the fault of the inner reader; what is left then is the last of them.
-pub fn read_each<R: TellRead, D: Decoder>(
-    alloc: Global,
-    reader: &mut PieceReader<R, D>,
-    payloads: &[Vec<u8>],
-) -> io::Result<Vec<Vec<u8>>>
-    requires left { HasLeft R.remaining (D.grammar reader.old.decoder) reader.old (map (λ v. v.items) payloads.now) }
-    ensures same { IfOk result (λ kept. map (λ v. v.items) kept.items ≡ map (λ v. v.items) payloads.now) }
-    ensures read { OnOk result (AllRead R.remaining (D.grammar reader.old.decoder) reader.old
-        (map (λ v. v.items) payloads.now) reader.new) }
-    ensures stopped { IfErr result (λ e. ReadStopped R.remaining (D.grammar reader.old.decoder) reader.old
-        (map (λ v. v.items) payloads.now) e reader.new) }
-{
-    let mut kept = Vec::new(alloc);
-    for _ in payloads {
-        match next_of_known(alloc, reader)? {
-            Some(payload) => kept.push(payload)?,
-            None => unreachable!(),
-        }
-    }
-    match next_of_known(alloc, reader)? {
-        Some(_) => unreachable!(),
-        None => Ok(kept),
-    }
-}
-
-// One call of `next_copied`, where it is known that just pieces are left: nothing is wrong then.
-fn next_of_known<R: TellRead, D: Decoder>(
-    alloc: Global,
-    reader: &mut PieceReader<R, D>,
-) -> io::Result<Option<Vec<u8>>>
-    requires left { LeavesPieces R.remaining (D.grammar reader.old.decoder) reader.old }
-    ensures next { IfOk result (λ found.
-        NextPiece R.remaining (D.grammar reader.old.decoder) reader.old (kept_answer (Ok found)) reader.new) }
-    ensures failed { IfErr result (λ e. NextFails R.remaining (D.grammar reader.old.decoder) reader.old e reader.new) }
-{
-    match reader.next_copied(alloc)? {
-        Ok(found) => Ok(found),
-        Err(NextError::Io(e)) => Err(e),
-        Err(NextError::Wrong(_)) => unreachable!(),
-    }
 }
 
 /// Payloads that are written and flushed are read again, each of them whole, in order, and no other. Where none is refused an

@@ -1,4 +1,7 @@
 //! Pieces are payloads that are read and written in runs.
+ghost use Rattle.codec.specs.declared.error.NextError.TheVariants.{Io};
+ghost use Rattle.codec.specs.KnownPieces.{HasLeft};
+ghost use Rattle.codec.specs.KnownPiecesLaws.{NextPiece-answers};
 ghost use Rattle.codec.specs.NextPiece.{NextPiece};
 ghost use Rattle.codec.specs.Runs.{NextPlays};
 ghost use Rattle.codec.specs.RunsLaws.{NextPlays-more, NextPlays-none};
@@ -9,11 +12,13 @@ ghost use Rattle.codec.specs.WriteRunsLaws.{WritePlays-more, WritePlays-none};
 use crate::decoder::Decoder;
 use crate::encoder::Encoder;
 use crate::error::{NextError, WritePieceError};
+use crate::laws::known::KnownReader;
 use crate::laws::runs::{PayloadReader, PayloadWriter};
 use crate::reader::PieceReader;
 use crate::writer::PieceWriter;
 use buffer_redux::tell::{TellRead, TellWrite};
 use std::alloc::{AllocError, Global};
+use std::io;
 
 /// A call is one of `step`.
 impl<R: TellRead, D: Decoder> PayloadReader for PieceReader<R, D> {
@@ -37,6 +42,23 @@ impl<R: TellRead, D: Decoder> PayloadReader for PieceReader<R, D> {
     ghost plays_none = { λ s. NextPlays-none R.remaining (D.grammar s.decoder) s };
 
     ghost plays_more = { NextPlays-more R.remaining D.grammar };
+}
+
+impl<R: TellRead, D: Decoder> KnownReader for PieceReader<R, D> {
+    ghost has_left = { λ s. HasLeft R.remaining (D.grammar s.decoder) s };
+
+    ghost faults = { λ s. s.reader.log.reads.faults };
+
+    ghost stream_error = { Io };
+
+    fn into_io(error: NextError<D::Wrong>) -> io::Error {
+        match error {
+            NextError::Io(e) => e,
+            NextError::Wrong(_) => unreachable!(),
+        }
+    }
+
+    ghost answers_known = { NextPiece-answers R.remaining D.grammar D.lawful };
 }
 
 /// A call is one of `write_piece`.

@@ -13,7 +13,7 @@ pub trait PayloadReader {
     // What one call does to the reader, by its answer.
     ghost goes: { Self → Result (Option (List ℕ)) Self.Error → Self → Type 0 };
 
-    // What calls do, one after another, by their answers: as many steps as there are, and what they come to.
+    // What calls do, one after another, by their answers: the run of them, and what they come to.
     ghost plays: { Self → List (Result (Option (List ℕ)) Self.Error) → Self → Type 0 };
 
     /// One call, with the payload copied. An `Err` is refused memory: the call was made, and its payload is lost.
@@ -64,7 +64,7 @@ pub trait PayloadWriter {
     // What one call with a payload does to the writer, by its answer.
     ghost goes: { Self → List ℕ → Result (Unit {0}) Self.Error → Self → Type 0 };
 
-    // What calls with these payloads do, one after another, by their answers: as many steps as there are, and what they took in.
+    // What calls with these payloads do, one after another, by their answers: the run of them, and what they took in.
     ghost plays: { Self → List (List ℕ) → List (Result (Unit {0}) Self.Error) → Self → Type 0 };
 
     /// Takes the payload in.

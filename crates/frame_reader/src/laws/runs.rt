@@ -1,4 +1,7 @@
 //! Frames are payloads that are read and written in runs.
+ghost use Rattle.frame_reader.specs.declared.error.FrameError.TheVariants.{Io};
+ghost use Rattle.frame_reader.specs.KnownFrames.{LeavesFrames};
+ghost use Rattle.frame_reader.specs.KnownFramesLaws.{Next-answers};
 ghost use Rattle.frame_reader.specs.Next.{Next};
 ghost use Rattle.frame_reader.specs.Runs.{NextPlays, WritePlays};
 ghost use Rattle.frame_reader.specs.RunsLaws.{NextPlays-more, NextPlays-none, WritePlays-more, WritePlays-none};
@@ -8,8 +11,9 @@ use crate::error::{FrameError, WriteFrameError};
 use crate::reader::FrameReader;
 use crate::writer::FrameWriter;
 use buffer_redux::tell::{TellRead, TellWrite};
-use codec::laws::{PayloadReader, PayloadWriter};
+use codec::laws::{KnownReader, PayloadReader, PayloadWriter};
 use std::alloc::{AllocError, Global};
+use std::io;
 
 /// A call is one of `next`.
 impl<R: TellRead> PayloadReader for FrameReader<R> {
@@ -33,6 +37,23 @@ impl<R: TellRead> PayloadReader for FrameReader<R> {
     ghost plays_none = { NextPlays-none R.remaining };
 
     ghost plays_more = { NextPlays-more R.remaining };
+}
+
+impl<R: TellRead> KnownReader for FrameReader<R> {
+    ghost has_left = { LeavesFrames R.remaining };
+
+    ghost faults = { λ s. s.reader.log.reads.faults };
+
+    ghost stream_error = { Io };
+
+    fn into_io(error: FrameError) -> io::Error {
+        match error {
+            FrameError::Io(e) => e,
+            FrameError::Truncated(_) | FrameError::TooLong(_) => unreachable!(),
+        }
+    }
+
+    ghost answers_known = { Next-answers R.remaining };
 }
 
 /// A call is one of `write_frame`.

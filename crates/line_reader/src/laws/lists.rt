@@ -4,17 +4,13 @@ ghost use Rattle.std.specs.List.{All};
 ghost use Rattle.buffer_redux.specs.BufWriter.{WritesInOrder, WriterStopped};
 ghost use Rattle.buffer_redux.specs.Faults.{IsMemory};
 ghost use Rattle.buffer_redux.specs.WriteAll.{TookBeginning};
-ghost use Rattle.line_reader.specs.KnownLines.{HasLeft, LeavesLines, ReadStopped, BufferRefused};
+ghost use Rattle.line_reader.specs.KnownLines.{BufferRefused};
 ghost use Rattle.line_reader.specs.Lines.{FitsLine, with_ends};
-ghost use Rattle.line_reader.specs.SkipLine.{NextGoes};
-ghost use Rattle.codec.specs.Runs.{kept_answer};
-ghost use Rattle.line_reader.specs.Runs.{AllRead, NextFails};
 
-use crate::error::LineError;
 use crate::reader::LineReader;
 use buffer_redux::LineWriter;
-use buffer_redux::tell::{MemoryReader, MemoryWriter, TellRead, TellWrite};
-use codec::laws::PayloadReader;
+use buffer_redux::tell::{MemoryReader, MemoryWriter, TellWrite};
+use codec::laws::read_each;
 use std::alloc::Global;
 use std::io;
 use std::io::Write;
@@ -33,49 +29,6 @@ pub fn write_each<W: TellWrite>(writer: &mut LineWriter<W>, lines: &[Vec<u8>]) -
         writer.write_all(b"\n")?;
     }
     Ok(())
-}
-
-/// Reads lines of which it is known that they are these, and no others. An `Err` is refused memory for the line that was
-/// handed out last, or the fault of the inner reader; what is left then is the last of them.
-pub fn read_each<R: TellRead>(
-    alloc: Global,
-    reader: &mut LineReader<R>,
-    lines: &[Vec<u8>],
-) -> io::Result<Vec<Vec<u8>>>
-    requires fit { All (FitsLine reader.old.max) (map (λ v. v.items) lines.now) }
-    requires left { HasLeft R.remaining reader.old (map (λ v. v.items) lines.now) }
-    ensures same { IfOk result (λ kept. map (λ v. v.items) kept.items ≡ map (λ v. v.items) lines.now) }
-    ensures read { OnOk result (AllRead R.remaining reader.old (map (λ v. v.items) lines.now) reader.new) }
-    ensures stopped { IfErr result (λ e.
-        ReadStopped R.remaining reader.old (map (λ v. v.items) lines.now) e reader.new) }
-{
-    let mut kept = Vec::new(alloc);
-    for _ in lines {
-        match next_of_known(alloc, reader)? {
-            Some(line) => kept.push(line)?,
-            None => unreachable!(),
-        }
-    }
-    match next_of_known(alloc, reader)? {
-        Some(_) => unreachable!(),
-        None => Ok(kept),
-    }
-}
-
-// One call of `next`, where it is known that just lines are left that fit: none is too long then.
-fn next_of_known<R: TellRead>(
-    alloc: Global,
-    reader: &mut LineReader<R>,
-) -> io::Result<Option<Vec<u8>>>
-    requires left { LeavesLines R.remaining reader.old }
-    ensures next { IfOk result (λ found. NextGoes R.remaining reader.old (kept_answer (Ok found)) reader.new) }
-    ensures failed { IfErr result (λ e. NextFails R.remaining reader.old e reader.new) }
-{
-    match reader.next_copied(alloc)? {
-        Ok(found) => Ok(found),
-        Err(LineError::Io(e)) => Err(e),
-        Err(LineError::TooLong(_)) => unreachable!(),
-    }
 }
 
 /// Lines that are written, each with an end, and flushed are read again, each of them whole, in order, and no other. An `Err` is

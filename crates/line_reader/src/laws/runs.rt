@@ -1,4 +1,7 @@
 //! Lines are payloads that are read in runs.
+ghost use Rattle.line_reader.specs.declared.error.LineError.TheVariants.{Io};
+ghost use Rattle.line_reader.specs.KnownLines.{LeavesLines};
+ghost use Rattle.line_reader.specs.LeavesLinesLaws.{NextGoes-answers};
 ghost use Rattle.line_reader.specs.Runs.{NextPlays};
 ghost use Rattle.line_reader.specs.RunsLaws.{NextPlays-more, NextPlays-none};
 ghost use Rattle.line_reader.specs.SkipLine.{NextGoes};
@@ -6,8 +9,9 @@ ghost use Rattle.line_reader.specs.SkipLine.{NextGoes};
 use crate::error::LineError;
 use crate::reader::LineReader;
 use buffer_redux::tell::TellRead;
-use codec::laws::PayloadReader;
+use codec::laws::{KnownReader, PayloadReader};
 use std::alloc::{AllocError, Global};
+use std::io;
 
 /// A call is one of `next`.
 impl<R: TellRead> PayloadReader for LineReader<R> {
@@ -31,4 +35,21 @@ impl<R: TellRead> PayloadReader for LineReader<R> {
     ghost plays_none = { NextPlays-none R.remaining };
 
     ghost plays_more = { NextPlays-more R.remaining };
+}
+
+impl<R: TellRead> KnownReader for LineReader<R> {
+    ghost has_left = { LeavesLines R.remaining };
+
+    ghost faults = { λ s. s.reader.log.reads.faults };
+
+    ghost stream_error = { Io };
+
+    fn into_io(error: LineError) -> io::Error {
+        match error {
+            LineError::Io(e) => e,
+            LineError::TooLong(_) => unreachable!(),
+        }
+    }
+
+    ghost answers_known = { NextGoes-answers R.remaining };
 }

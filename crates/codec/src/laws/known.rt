@@ -1,0 +1,68 @@
+//! Payloads that are known are read.
+ghost use Rattle.std.specs.Prelude.{◌≡◌, ℕ, List, Option, Result, Ok, map, IfOk, IfErr, OnOk};
+ghost use Rattle.std.specs.declared.io.Error.{Error};
+ghost use Rattle.codec.specs.KnownPayloads.{AllRead, AnswersKnown, NextFails, ReadStopped};
+ghost use Rattle.codec.specs.Runs.{kept_answer};
+
+use crate::laws::runs::PayloadReader;
+use std::alloc::Global;
+use std::io;
+
+/// A reader of payloads that says which of them are left, where the bytes of its stream are known.
+pub trait KnownReader: PayloadReader {
+    // Just these payloads are left, and each of them may be handed out.
+    ghost has_left: { Self → List (List ℕ) → Type 0 };
+
+    // The faults that the stream inside met so far.
+    ghost faults: { Self → List Error };
+
+    // An error of the stream inside, as it is answered.
+    ghost stream_error: { Error → Self.Error };
+
+    /// The error of the stream inside that this one is.
+    fn into_io(error: Self::Error) -> io::Error
+        requires { (e : Error) × (error ≡ stream_error e) }
+        ensures { error ≡ stream_error result };
+
+    // A call hands out the first of those that are left, and fails by a fault of the stream alone.
+    ghost answers_known: { (s : Self) (answer : Result (Option (List ℕ)) Self.Error) (payloads : List (List ℕ)) (t : Self)
+        → has_left s payloads → Self.goes s answer t → AnswersKnown has_left faults stream_error s answer payloads t };
+}
+
+/// Reads payloads of which it is known that they are left, and no others. An `Err` is refused memory for the payload that was
+/// handed out last, or the fault of the inner reader; what is left then is the last of them.
+pub fn read_each<P: KnownReader>(
+    alloc: Global,
+    reader: &mut P,
+    payloads: &[Vec<u8>],
+) -> io::Result<Vec<Vec<u8>>>
+    requires left { P.has_left reader.old (map (λ v. v.items) payloads.now) }
+    ensures same { IfOk result (λ kept. map (λ v. v.items) kept.items ≡ map (λ v. v.items) payloads.now) }
+    ensures read { OnOk result (AllRead P.plays reader.old (map (λ v. v.items) payloads.now) reader.new) }
+    ensures stopped { IfErr result (λ e. ReadStopped P.has_left P.faults P.stream_error P.plays reader.old
+        (map (λ v. v.items) payloads.now) e reader.new) }
+{
+    let mut kept = Vec::new(alloc);
+    for _ in payloads {
+        match next_of_known(alloc, reader)? {
+            Some(payload) => kept.push(payload)?,
+            None => unreachable!(),
+        }
+    }
+    match next_of_known(alloc, reader)? {
+        Some(_) => unreachable!(),
+        None => Ok(kept),
+    }
+}
+
+// One call, where it is known what is left: no other `Err` than the stream's comes then.
+fn next_of_known<P: KnownReader>(alloc: Global, reader: &mut P) -> io::Result<Option<Vec<u8>>>
+    requires left { (payloads : List (List ℕ)) × P.has_left reader.old payloads }
+    ensures next { IfOk result (λ found. P.goes reader.old (kept_answer (Ok found)) reader.new) }
+    ensures failed { IfErr result (λ e. NextFails P.goes P.stream_error reader.old e reader.new) }
+{
+    match reader.next_copied(alloc)? {
+        Ok(found) => Ok(found),
+        Err(e) => Err(P::into_io(e)),
+    }
+}
