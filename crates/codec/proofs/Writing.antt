@@ -1,23 +1,59 @@
 -- Steps of a loop that writes payloads.
-use Rattle.std.proofs.Common.{ℕ, List, ◌∷◌, ◌++◌, length, refl, subst}
-use Rattle.std.specs.Prelude.{Err}
+use Rattle.std.specs.Prelude.{◌≡◌, ℕ, ◌+◌, ◌<◌, ◌≤◌, List, [], ◌∷◌, ◌++◌, length, map, take, drop, get_or, Result, Ok, Err}
+use Rattle.std.specs.Global.{Vec}
 use Rattle.std.specs.List.{All}
-use Rattle.std.proofs.lemmas.List.{drop_at}
-use Rattle.std.proofs.lemmas.List.Elements.{All-head, All-drop}
-use Rattle.codec.specs.declared.error.WritePieceError.{WritePieceError}
-use Rattle.codec.specs.declared.error.WritePieceError.TheVariants.{Refused, Io}
-use Rattle.codec.specs.Encoding.{Encoding, IsWritable}
-use Rattle.codec.specs.Outgoing.{Outgoing}
-use Rattle.codec.specs.WriteRuns.{IsFault, WritesEach}
+use Rattle.std.proofs.Common.{sym, subst}
+use Rattle.std.proofs.lemmas.List.{drop-map, map-append, take_all}
+use Rattle.std.proofs.lemmas.List.Elements.{All-drop, All-head}
+use Rattle.codec.specs.PayloadsLaws.{before, behind, parted}
+use Rattle.codec.specs.WriteRuns.{CallsStopped, all_ok}
 
--- where each payload is taken, only a fault stops the writing
-pub stopped_fault : {S E W : Type 0} (stretch : S → S → Type 0) (e : Encoding W) → IsWritable e → (s : Outgoing S E)
-    (payloads : List (List ℕ)) (why : WritePieceError W) (t : Outgoing S E)
-    → WritesEach stretch e s payloads (Err why) t → All e.takes payloads → IsFault why
-stopped_fault stretch e law s payloads (Io x) t stopped fit = tt
-stopped_fault stretch e law s payloads (Refused w) t stopped fit =
-    let rest : All e.takes (stopped.payload ∷ stopped.later) =
-    subst (λ l. All e.takes l) (drop_at stopped.done (stopped.payload ∷ stopped.later) (length stopped.done) refl)
-    (All-drop e.takes (length stopped.done) (stopped.done ++ stopped.payload ∷ stopped.later)
-    (subst (λ l. All e.takes l) stopped.all fit)) in
-    absurd (law.apart stopped.payload w (All-head e.takes stopped.payload stopped.later rest) stopped.failed.answers.0)
+-- the first so many payloads were written so far, and what was taken still is
+pub record WroteSo {T X : Type 0} (Plays : T → List (List ℕ) → List (Result (Unit {0}) X) → T → Type 0)
+    (Takes : T → List ℕ → Type 0) (s : T) (payloads : List (Vec ℕ)) (i : ℕ) (m : T) : Type 0 where
+  pub plays : Plays s (map (λ v. v.items) (take i payloads)) (all_ok (map (λ v. v.items) (take i payloads))) m
+  pub takes : (payload : List ℕ) → Takes s payload → Takes m payload
+
+module _ {T X : Type 0} {Call : T → List ℕ → Result (Unit {0}) X → T → Type 0}
+    {Plays : T → List (List ℕ) → List (Result (Unit {0}) X) → T → Type 0} {Takes : T → List ℕ → Type 0}
+    (more : (s : T) (payloads : List (List ℕ)) (answers : List (Result (Unit {0}) X)) (m : T) (payload : List ℕ)
+    (answer : Result (Unit {0}) X) (t : T) → Plays s payloads answers m → Call m payload answer t
+    → Plays s (payloads ++ payload ∷ []) (answers ++ answer ∷ []) t)
+    (vs : List (Vec ℕ)) (i : ℕ) {s m : T} (so : WroteSo Plays Takes s vs i m) where
+  abbrev done : List (List ℕ)
+  done = map (λ v. v.items) (take i vs)
+
+  module _ (v : Vec ℕ) (inside : i < length vs) (is : v ≡ get_or vs i v) (t : T) where
+    -- one more was
+    pub wrote_more : ((other : List ℕ) → Takes m other → Takes t other) → Call m v.items (Ok tt) t
+        → WroteSo Plays Takes s vs (i + 1) t
+    wrote_more keeps wrote = record {
+      plays = subst (λ l. Plays s l (all_ok l) t) (sym (before (λ x. x.items) vs i v inside is))
+          (subst (λ answers. Plays s (done ++ v.items ∷ []) answers t) (sym (map-append (λ p. Ok tt) done (v.items ∷ [])))
+          (more s done (all_ok done) m v.items (Ok tt) t so.plays wrote));
+      takes = λ other taken. keeps other (so.takes other taken);
+    }
+
+    -- or none more
+    pub wrote_none : (why : X) → Call m v.items (Err why) t → CallsStopped Call Plays s (map (λ x. x.items) vs) why t
+    wrote_none why failed = record {
+      done = done;
+      payload = v.items;
+      later = map (λ x. x.items) (drop (i + 1) vs);
+      all = parted (λ x. x.items) vs i v inside is;
+      before = m;
+      wrote = so.plays;
+      failed = failed;
+      plays = more s done (all_ok done) m v.items (Err why) t so.plays failed;
+    }
+
+    -- where each payload is taken, this one is
+    pub takes_next : All (Takes s) (map (λ x. x.items) vs) → Takes m v.items
+    takes_next all = so.takes v.items
+        (All-head (Takes s) v.items (map (λ x. x.items) (drop (i + 1) vs))
+        (subst (All (Takes s)) (behind (λ x. x.items) vs i v inside is)
+        (subst (All (Takes s)) (drop-map (λ x. x.items) i vs) (All-drop (Takes s) i (map (λ x. x.items) vs) all))))
+
+  -- at the end all were
+  pub wrote_all : length vs ≤ i → Plays s (map (λ v. v.items) vs) (all_ok (map (λ v. v.items) vs)) m
+  wrote_all end = subst (λ l. Plays s (map (λ v. v.items) l) (all_ok (map (λ v. v.items) l)) m) (take_all i vs end) so.plays

@@ -99,7 +99,7 @@ pub record RunWent {S D W : Type 0} (remaining : S → Option (List ℕ)) (g : G
   pub cut : Cuts g answers bytes
   pub went : PiecesWent remaining g.most s bytes t
 
--- both
+-- calls, and what they come to
 abbrev pub NextPlays : {S D W : Type 0} → (S → Option (List ℕ)) → Grammar W → Piecing S D → List (NextAnswer W) → Piecing S D
     → Type 0
 NextPlays remaining g = AnswerPlays (NextPiece remaining g) (RunWent remaining g)

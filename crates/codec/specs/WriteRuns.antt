@@ -16,7 +16,7 @@ all_accepted payloads answers = []
 abbrev pub all_ok : {X : Type 0} → List (List ℕ) → List (Result (Unit {0}) X)
 all_ok payloads = map (λ payload. Ok tt) payloads
 
--- a call with a payload does this to a writer, and calls that took in some do that
+-- a call with a payload does this to a writer, and answers that
 module _ {T X : Type 0} (Call : T → List ℕ → Result (Unit {0}) X → T → Type 0) where
   -- calls with these payloads, one after another, with as many answers
   abbrev pub CallRuns : T → List (List ℕ) → List (Result (Unit {0}) X) → T → Type 0
@@ -26,27 +26,11 @@ module _ {T X : Type 0} (Call : T → List ℕ → Result (Unit {0}) X → T →
   CallRuns s [] (answer ∷ answers) t = ⊥
   CallRuns s (payload ∷ payloads) [] t = ⊥
 
-  module _ (Taken : T → List (List ℕ) → T → Type 0) where
-    -- such calls, and what they took in
-    pub record CallPlays (s : T) (payloads : List (List ℕ)) (answers : List (Result (Unit {0}) X)) (t : T) : Type 0 where
-      pub run : CallRuns s payloads answers t
-      pub taken : Taken s (all_accepted payloads answers) t
-
-    -- the first of these payloads were written by calls that answered `Ok`, and the next one was answered by this error
-    pub record CallsStopped (s : T) (payloads : List (List ℕ)) (why : X) (t : T) : Type 0 where
-      pub done : List (List ℕ)
-      pub payload : List ℕ
-      pub later : List (List ℕ)
-      pub all : payloads ≡ done ++ payload ∷ later
-      pub before : T
-      pub run : CallRuns s done (all_ok done) before
-      pub failed : Call before payload (Err why) t
-      pub taken : Taken s done t
-
-    -- each of these payloads was written, up to the first error
-    abbrev pub CallsEach : T → List (List ℕ) → Result (Unit {0}) X → T → Type 0
-    CallsEach s payloads (Ok _) t = CallRuns s payloads (all_ok payloads) t × Taken s payloads t
-    CallsEach s payloads (Err why) t = CallsStopped s payloads why t
+  -- such calls, and what they took in
+  pub record CallPlays (Taken : T → List (List ℕ) → T → Type 0) (s : T) (payloads : List (List ℕ))
+      (answers : List (Result (Unit {0}) X)) (t : T) : Type 0 where
+    pub run : CallRuns s payloads answers t
+    pub taken : Taken s (all_accepted payloads answers) t
 
 -- calls of a writer with these payloads do this to it, one after another, and answer these
 module _ {T X : Type 0} (Plays : T → List (List ℕ) → List (Result (Unit {0}) X) → T → Type 0) where
@@ -60,16 +44,29 @@ module _ {T X : Type 0} (Plays : T → List (List ℕ) → List (Result (Unit {0
     pub ended : MatchBool ok (length answers ≡ length payloads)
         ((length answers < length payloads) × (room ≤ length new))
 
--- the same of `write_piece`
-module _ {S E W : Type 0} (stretch : S → S → Type 0) (e : Encoding W) where
-  abbrev pub WriteRuns : Outgoing S E → List (List ℕ) → List (WriteAnswer W) → Outgoing S E → Type 0
-  WriteRuns = CallRuns (WritesPiece stretch e)
+-- calls with payloads do that, one after another, and each of them does this
+module _ {T X : Type 0} (Call : T → List ℕ → Result (Unit {0}) X → T → Type 0)
+    (Plays : T → List (List ℕ) → List (Result (Unit {0}) X) → T → Type 0) where
+  -- the first of these payloads were written by calls that answered `Ok`, and the next one was answered by this error
+  pub record CallsStopped (s : T) (payloads : List (List ℕ)) (why : X) (t : T) : Type 0 where
+    pub done : List (List ℕ)
+    pub payload : List ℕ
+    pub later : List (List ℕ)
+    pub all : payloads ≡ done ++ payload ∷ later
+    pub before : T
+    pub wrote : Plays s done (all_ok done) before
+    pub failed : Call before payload (Err why) t
+    pub plays : Plays s (done ++ payload ∷ []) (all_ok done ++ Err why ∷ []) t
 
-  abbrev pub WritePlays : Outgoing S E → List (List ℕ) → List (WriteAnswer W) → Outgoing S E → Type 0
-  WritePlays = CallPlays (WritesPiece stretch e) (PiecesTaken stretch e)
+  -- each of these payloads was written, up to the first error
+  abbrev pub CallsEach : T → List (List ℕ) → Result (Unit {0}) X → T → Type 0
+  CallsEach s payloads (Ok _) t = Plays s payloads (all_ok payloads) t
+  CallsEach s payloads (Err why) t = CallsStopped s payloads why t
 
-  abbrev pub WritesEach : Outgoing S E → List (List ℕ) → WriteAnswer W → Outgoing S E → Type 0
-  WritesEach = CallsEach (WritesPiece stretch e) (PiecesTaken stretch e)
+-- calls of `write_piece`, and what they took in
+abbrev pub WritePlays : {S E W : Type 0} → (S → S → Type 0) → Encoding W → Outgoing S E → List (List ℕ)
+    → List (WriteAnswer W) → Outgoing S E → Type 0
+WritePlays stretch e = CallPlays (WritesPiece stretch e) (PiecesTaken stretch e)
 
 -- an error that isn't about a payload
 abbrev pub IsFault : {W : Type 0} → WritePieceError W → Type 0

@@ -21,8 +21,8 @@ use crate::reader::PieceReader;
 use crate::writer::PieceWriter;
 use buffer_redux::tell::{TellRead, TellWrite};
 pub use known::{KnownReader, read_each};
-pub use lists::{round_trip, write_each};
-pub use runs::{PayloadReader, PayloadWriter, play_next, play_write};
+pub use lists::round_trip;
+pub use runs::{PayloadReader, PayloadWriter, play_next, play_write, write_each};
 
 /// A text is pieces in one way, and so is a stream of pieces before what is left.
 pub fn one_reading<D: Decoder>(decoder: &D)

@@ -207,10 +207,6 @@ pub framed_back : (max : ℕ) (payload : List ℕ) → IsFrame max (frame payloa
     → IsFrame max (coded (framed_out max) payload) payload
 framed_back max payload taken = record { word = taken.word; fits = taken.fits; equal = coded_frame max payload }
 
--- a payload that fits is taken, and the other way
-pub all_taken : (max : ℕ) → max < 2 ^ 16 → (payloads : List (List ℕ)) → All (Fits max) payloads
-    → All (framed_out max).takes payloads
-all_taken max word = All-weaker (Fits max) (framed_out max).takes (is_frame max word)
-
+-- payloads that are taken fit
 pub all_fit : (max : ℕ) (payloads : List (List ℕ)) → All (framed_out max).takes payloads → All (Fits max) payloads
 all_fit max = All-weaker (framed_out max).takes (Fits max) (λ payload taken. taken.fits)

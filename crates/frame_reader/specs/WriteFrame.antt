@@ -46,11 +46,7 @@ abbrev pub write_error : WritePieceError ℕ → WriteFrameError
 write_error (piece.Refused len) = TooLong len
 write_error (piece.Io e) = Io e
 
--- its answer, of frames, and the other way
-abbrev pub frame_answer : pieces.WriteAnswer ℕ → WriteAnswer
-frame_answer (Ok _) = Ok tt
-frame_answer (Err e) = Err (write_error e)
-
+-- what a writer of pieces answers where that of frames does so
 abbrev pub piece_written : WriteAnswer → pieces.WriteAnswer ℕ
 piece_written (Ok _) = Ok tt
 piece_written (Err (TooLong len)) = Err (piece.Refused len)

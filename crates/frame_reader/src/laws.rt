@@ -16,9 +16,9 @@ use crate::reader::FrameReader;
 use crate::writer::FrameWriter;
 use buffer_redux::tell::{TellRead, TellWrite};
 pub use codec::laws::{
-    KnownReader, PayloadReader, PayloadWriter, play_next, play_write, read_each,
+    KnownReader, PayloadReader, PayloadWriter, play_next, play_write, read_each, write_each,
 };
-pub use lists::{round_trip, write_each};
+pub use lists::round_trip;
 
 /// No frame begins another: what bytes begin with a frame settles its payload, and what is behind it.
 pub fn one_frame()

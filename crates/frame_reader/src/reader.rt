@@ -32,7 +32,7 @@ use std::marker::Model;
 /// ```
 #[derive(Drop)]
 pub struct FrameReader<R: Tell> {
-    pub(crate) pieces: PieceReader<R, Frames>,
+    pieces: PieceReader<R, Frames>,
 }
 
 impl<R: Tell> Model for FrameReader<R> {

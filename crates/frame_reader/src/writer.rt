@@ -7,7 +7,7 @@ ghost use Rattle.buffer_redux.specs.MakeError.{growth};
 ghost use Rattle.frame_reader.specs.Frames.{Fits, frame};
 ghost use Rattle.frame_reader.specs.Framing.{frame_capacity};
 ghost use Rattle.frame_reader.specs.Outgoing.{IsOutgoing, IsUnused, room};
-ghost use Rattle.frame_reader.specs.WriteFrame.{FramesTaken, PutsIn, WritesFrame, frame_answer, write_error};
+ghost use Rattle.frame_reader.specs.WriteFrame.{FramesTaken, PutsIn, WritesFrame, write_error};
 
 use crate::error::WriteFrameError;
 use crate::frame::{Frames, HEADER};
@@ -31,7 +31,7 @@ use std::marker::Model;
 /// ```
 #[derive(Drop)]
 pub struct FrameWriter<W: TellWrite> {
-    pub(crate) pieces: PieceWriter<W, Frames>,
+    pieces: PieceWriter<W, Frames>,
 }
 
 impl<W: TellWrite> Model for FrameWriter<W> {
@@ -176,16 +176,6 @@ impl<W: TellWrite> FrameWriter<W> {
         ensures { PutsIn W.stretch self.old (frame payload.now) self.new }
     {
         let _ = self.pieces.write_buffered(payload);
-    }
-}
-
-// What a call of the writer of pieces answered, of frames.
-pub(crate) fn answered(answer: Result<(), WritePieceError<usize>>) -> Result<(), WriteFrameError>
-    ensures { result ≡ frame_answer answer }
-{
-    match answer {
-        Ok(()) => Ok(()),
-        Err(e) => Err(unwritten(e)),
     }
 }
 

@@ -4,34 +4,19 @@ ghost use Rattle.std.specs.List.{All};
 ghost use Rattle.codec.specs.Encoding.{all_coded};
 ghost use Rattle.codec.specs.KnownPieces.{BufferRefused};
 ghost use Rattle.codec.specs.Texts.{HasPieces};
-ghost use Rattle.codec.specs.WriteRuns.{IfFault, IsFault, WritesEach};
+ghost use Rattle.codec.specs.WriteRuns.{IfFault, IsFault};
 
 use crate::both::{Codec, written_text};
 use crate::decoder::Decoder;
 use crate::encoder::Encoder;
 use crate::error::WritePieceError;
 use crate::laws::known::read_each;
+use crate::laws::runs::write_each;
 use crate::reader::PieceReader;
 use crate::writer::PieceWriter;
-use buffer_redux::tell::{MemoryReader, MemoryWriter, TellWrite};
+use buffer_redux::tell::{MemoryReader, MemoryWriter};
 use std::alloc::Global;
 use std::io;
-
-/// Writes the piece of each payload, up to the first `Err`. The payloads before that one were taken in then.
-pub fn write_each<W: TellWrite, E: Encoder>(
-    writer: &mut PieceWriter<W, E>,
-    payloads: &[Vec<u8>],
-) -> Result<(), WritePieceError<E::Refusal>>
-    ensures each { WritesEach W.stretch (E.encoding writer.old.encoder) writer.old (map (λ v. v.items) payloads.now)
-        result writer.new }
-    ensures fault { IfErr result (λ e.
-        All (E.encoding writer.old.encoder).takes (map (λ v. v.items) payloads.now) → IsFault e) }
-{
-    for payload in payloads {
-        writer.write_piece(payload)?;
-    }
-    Ok(())
-}
 
 /// Payloads that are written and flushed are read again, each of them whole, in order, and no other. Where none is refused an
 /// `Err` is an `Io`: want of memory, or of a buffer for the pieces, which no memory holds.

@@ -6,8 +6,8 @@ ghost use Rattle.codec.specs.NextPiece.{NextPiece};
 ghost use Rattle.codec.specs.Runs.{NextPlays};
 ghost use Rattle.codec.specs.RunsLaws.{NextPlays-more, NextPlays-none};
 ghost use Rattle.codec.specs.WritePiece.{WritesPiece};
-ghost use Rattle.codec.specs.WriteRuns.{WritePlays};
-ghost use Rattle.codec.specs.WriteRunsLaws.{WritePlays-more, WritePlays-none};
+ghost use Rattle.codec.specs.WriteRuns.{IsFault, WritePlays};
+ghost use Rattle.codec.specs.WriteRunsLaws.{WritePlays-more, WritePlays-none, WritesPiece-fails, WritesPiece-takes};
 
 use crate::decoder::Decoder;
 use crate::encoder::Encoder;
@@ -69,6 +69,10 @@ impl<W: TellWrite, E: Encoder> PayloadWriter for PieceWriter<W, E> {
 
     ghost plays = { λ s. WritePlays W.stretch (E.encoding s.encoder) s };
 
+    ghost takes = { λ s. (E.encoding s.encoder).takes };
+
+    ghost fault = { IsFault };
+
     fn write_payload(&mut self, payload: &[u8]) -> Result<(), WritePieceError<E::Refusal>> {
         self.write_piece(payload)
     }
@@ -76,4 +80,8 @@ impl<W: TellWrite, E: Encoder> PayloadWriter for PieceWriter<W, E> {
     ghost plays_none = { λ s. WritePlays-none W.stretch W.stretch_none (E.encoding s.encoder) s };
 
     ghost plays_more = { WritePlays-more W.stretch W.stretch_none W.stretch_joins E.encoding };
+
+    ghost still_takes = { WritesPiece-takes W.stretch E.encoding };
+
+    ghost fails_by_fault = { WritesPiece-fails W.stretch E.encoding E.writable };
 }

@@ -1,7 +1,8 @@
 //! Any number of calls, one after another, each with its answer.
-ghost use Rattle.std.specs.Prelude.{ℕ, List, [], ◌∷◌, ◌++◌, map, Option, Result, IfOk, OnOk, OnErr, is_ok, vec_capacity};
+ghost use Rattle.std.specs.Prelude.{ℕ, List, [], ◌∷◌, ◌++◌, map, Option, Result, Err, IfOk, IfErr, OnOk, OnErr, is_ok, vec_capacity};
+ghost use Rattle.std.specs.List.{All};
 ghost use Rattle.codec.specs.Runs.{AnswersPlayed, AnswersStopped, NextLost, kept_answer};
-ghost use Rattle.codec.specs.WriteRuns.{CallsPlayed};
+ghost use Rattle.codec.specs.WriteRuns.{CallsEach, CallsPlayed};
 
 use std::alloc::{AllocError, Global};
 
@@ -67,6 +68,12 @@ pub trait PayloadWriter {
     // What calls with these payloads do, one after another, by their answers: the run of them, and what they took in.
     ghost plays: { Self → List (List ℕ) → List (Result (Unit {0}) Self.Error) → Self → Type 0 };
 
+    // A payload that the writer takes.
+    ghost takes: { Self → List ℕ → Type 0 };
+
+    // An error that isn't about a payload.
+    ghost fault: { Self.Error → Type 0 };
+
     /// Takes the payload in.
     fn write_payload(&mut self, payload: &[u8]) -> Result<(), Self::Error>
         ensures { goes self.old payload.now result self.new };
@@ -79,6 +86,14 @@ pub trait PayloadWriter {
         (payload : List ℕ) (answer : Result (Unit {0}) Self.Error) (t : Self)
         → plays s payloads answers m → goes m payload answer t
         → plays s (payloads ++ payload ∷ []) (answers ++ answer ∷ []) t };
+
+    // No call changes what is taken.
+    ghost still_takes: { (s : Self) (payload : List ℕ) (answer : Result (Unit {0}) Self.Error) (t : Self)
+        → goes s payload answer t → (other : List ℕ) → takes s other → takes t other };
+
+    // Where a payload is taken, an error is a fault.
+    ghost fails_by_fault: { (s : Self) (payload : List ℕ) (why : Self.Error) (t : Self)
+        → takes s payload → goes s payload (Err why) t → fault why };
 }
 
 /// Writes each payload, whatever is answered, and adds each answer to `answers`. What the stream received since, then what is
@@ -96,6 +111,17 @@ pub fn play_write<P: PayloadWriter>(
     for payload in payloads {
         answers.reserve(1)?;
         answers.push_reserved(writer.write_payload(payload));
+    }
+    Ok(())
+}
+
+/// Writes each payload, up to the first `Err`. The payloads before that one were taken in then.
+pub fn write_each<P: PayloadWriter>(writer: &mut P, payloads: &[Vec<u8>]) -> Result<(), P::Error>
+    ensures each { CallsEach P.goes P.plays writer.old (map (λ v. v.items) payloads.now) result writer.new }
+    ensures fault { IfErr result (λ e. All (P.takes writer.old) (map (λ v. v.items) payloads.now) → P.fault e) }
+{
+    for payload in payloads {
+        writer.write_payload(payload)?;
     }
     Ok(())
 }

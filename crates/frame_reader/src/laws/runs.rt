@@ -1,11 +1,12 @@
 //! Frames are payloads that are read and written in runs.
 ghost use Rattle.frame_reader.specs.declared.error.FrameError.TheVariants.{Io};
+ghost use Rattle.frame_reader.specs.Frames.{Fits};
 ghost use Rattle.frame_reader.specs.KnownFrames.{LeavesFrames};
 ghost use Rattle.frame_reader.specs.KnownFramesLaws.{Next-answers};
 ghost use Rattle.frame_reader.specs.Next.{Next};
 ghost use Rattle.frame_reader.specs.Runs.{NextPlays, WritePlays};
-ghost use Rattle.frame_reader.specs.RunsLaws.{NextPlays-more, NextPlays-none, WritePlays-more, WritePlays-none};
-ghost use Rattle.frame_reader.specs.WriteFrame.{WritesFrame};
+ghost use Rattle.frame_reader.specs.RunsLaws.{NextPlays-more, NextPlays-none, WritePlays-more, WritePlays-none, WritesFrame-fails, WritesFrame-takes};
+ghost use Rattle.frame_reader.specs.WriteFrame.{IsFault, WritesFrame};
 
 use crate::error::{FrameError, WriteFrameError};
 use crate::reader::FrameReader;
@@ -64,6 +65,10 @@ impl<W: TellWrite> PayloadWriter for FrameWriter<W> {
 
     ghost plays = { WritePlays W.stretch };
 
+    ghost takes = { λ s. Fits s.max };
+
+    ghost fault = { IsFault };
+
     fn write_payload(&mut self, payload: &[u8]) -> Result<(), WriteFrameError> {
         self.write_frame(payload)
     }
@@ -71,4 +76,8 @@ impl<W: TellWrite> PayloadWriter for FrameWriter<W> {
     ghost plays_none = { WritePlays-none W.stretch W.stretch_none };
 
     ghost plays_more = { WritePlays-more W.stretch W.stretch_none W.stretch_joins };
+
+    ghost still_takes = { WritesFrame-takes W.stretch };
+
+    ghost fails_by_fault = { WritesFrame-fails W.stretch };
 }

@@ -1,0 +1,7 @@
+use Rattle.codec.proofs.Writing.{WroteSo}
+use Rattle.codec.proofs.laws.runs.write_each.Given as goal
+
+-- the payloads so far were written
+abbrev pub invariant-loop-payload : goal.invariant-loop-payload
+invariant-loop-payload g l =
+    WroteSo g.P.PayloadWriter.plays g.P.PayloadWriter.takes l.fn.writer l.payloads l.payload-index l.writer
