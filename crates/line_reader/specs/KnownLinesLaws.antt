@@ -38,34 +38,31 @@ module _ {S : Type 0} (remaining : S → Option (List ℕ)) (s t : Lining S) (an
   buffered_left : s.ended ≡ false → MetEnd s t → left.0 ≡ rest t
   buffered_left = LinesWent-dry remaining s t has.text next.piece.bytes has.known next.piece.went
 
-  -- nothing was handed out
-  pub same_left : next.piece.bytes ≡ [] → t.ended ≡ false → HasLeft remaining t lines
-  same_left none open' = record {
-    text = has.text;
-    known = PiecesWent-stays remaining (most s) (piecing s) (piecing t) has.text next.piece.bytes has.known
-        next.piece.went none;
-    has = has.has;
-    none = λ ended. (let odd : true ≡ false = sym ended ∙ open' in cc);
+  -- these lines are left where the stream goes on
+  lines_left : (text : List ℕ) (later : List (List ℕ)) → ahead_of remaining t ≡ Some text → HasLines text later
+      → t.ended ≡ false → HasLeft remaining t later
+  lines_left text later known has going = record {
+    text = text;
+    known = known;
+    has = has;
+    none = λ ended. (let odd : true ≡ false = sym ended ∙ going in cc);
     open' = next.open';
   }
+
+  -- nothing was handed out
+  pub same_left : next.piece.bytes ≡ [] → t.ended ≡ false → HasLeft remaining t lines
+  same_left none = lines_left has.text lines
+      (PiecesWent-stays remaining (most s) (piecing s) (piecing t) has.text next.piece.bytes has.known next.piece.went none)
+      has.has
 
   -- a line and its end were
   pub first_of : (found : List ℕ) → IsLine found → next.piece.bytes ≡ with_end found → t.ended ≡ false
       → (later : List (List ℕ)) × (lines ≡ found ∷ later) × HasLeft remaining t later
-  first_of found plain is open' =
+  first_of found plain is going =
       let front : has.text ≡ found ++ newline ∷ left.0 =
       left.2 ∙ ap (λ l. l ++ left.0) is ∙ append_assoc found (newline ∷ []) left.0 in
-      let first = Lines-first found left.0 has.text lines plain front has.has in (
-        first.0,
-        first.1,
-        record {
-          text = left.0;
-          known = left.1;
-          has = first.2;
-          none = λ ended. (let odd : true ≡ false = sym ended ∙ open' in cc);
-          open' = next.open';
-        },
-      )
+      let first = Lines-first found left.0 has.text lines plain front has.has in
+      (first.0, first.1, lines_left left.0 first.0 left.1 first.2 going)
 
   -- the last one was, which has none
   pub last_of : (found : List ℕ) → IsLine found → next.piece.bytes ≡ found → 0 < length found → rest t ≡ [] → s.ended ≡ false
