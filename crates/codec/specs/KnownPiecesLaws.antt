@@ -181,7 +181,8 @@ module _ {S D W : Type 0} (remaining : S → Option (List ℕ)) (grammar : D →
   NextPiece-answers (Ok (Some found)) [] t has next =
       NextPiece-known remaining (grammar s.decoder) (law s.decoder) s t (Ok (Some found)) [] next has
   NextPiece-answers (Ok (Some found)) (payload ∷ later) t has next =
-      let known = NextPiece-known remaining (grammar s.decoder) (law s.decoder) s t (Ok (Some found)) (payload ∷ later) next has in
+      let g = grammar s.decoder in
+      let known = NextPiece-known remaining g (law s.decoder) s t (Ok (Some found)) (payload ∷ later) next has in
       (known.0, subst (λ d. HasLeft remaining (grammar d) t later) (sym next.went.decoder) known.1, next.answers.0)
   NextPiece-answers (Ok None) [] t has next = subst (λ d. HasLeft remaining (grammar d) t []) (sym next.went.decoder)
       (NextPiece-known remaining (grammar s.decoder) (law s.decoder) s t (Ok None) [] next has)
