@@ -205,7 +205,12 @@ module _ {S D W : Type 0} (remaining : S → Option (List ℕ)) (g : Grammar W) 
       load_finished (Err (Wrong e)) v (some, cut, is) whole = subst (NextPiece remaining g s (Err (Wrong e))) (sym is) (record {
         bytes = [];
         went = went;
-        answers = (refl, (a.end refl).2 ∙ h.head.faults, still_going t.ended (rest t) a.whole.ended some, inr (cut, end_open, some, ends));
+        answers = (
+          refl,
+          (a.end refl).2 ∙ h.head.faults,
+          still_going t.ended (rest t) a.whole.ended some,
+          inr (cut, end_open, some, ends),
+        );
         asked = asked;
         gave = λ none _. gave_end s t asked ends none;
         told = λ ended. absurd (omega (arith, some, ap length (a.whole.ended (still_ended some ended))));

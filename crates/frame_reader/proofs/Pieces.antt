@@ -153,7 +153,8 @@ module _ {S : Type 0} (remaining : S → Option (List ℕ)) (s t : Framing S) (w
       × AsksGive (asks_in_vain answer) s.reader t.reader
 
   module _ (bytes : List ℕ) (went : pieces.PiecesWent remaining (most s) (piecing s) bytes (piecing t))
-      (gave : pieces.NoEnd (piecing s) (piecing t) → NoFault s t → pieces.AsksGive (piecing s) (piecing t)) (once : AsksGive 1 s.reader t.reader) where
+      (gave : pieces.NoEnd (piecing s) (piecing t) → NoFault s t → pieces.AsksGive (piecing s) (piecing t))
+      (once : AsksGive 1 s.reader t.reader) where
     tells : (answer : NextAnswer) → Shown (piecing t) answer
         → pieces.NextAnswers (framed s.max) (piecing s) (piece_answer answer) bytes (piecing t) → Tells answer
     tells (Ok (Some payload)) shown (fault, inl (is, ended, none)) = (

@@ -27,7 +27,8 @@ module _ {S : Type 0} (remaining : S → Option (List ℕ)) (s : Lining S) where
   NextGoes-answers (Ok (Some found)) (line ∷ later) t left next =
       let known = NextGoes-known remaining s t (Ok (Some found)) (line ∷ later) next left.fit left.has in
       let plain = NextGoes-plain remaining s t (Ok (Some found)) left.has.open' next in
-      (known.0, still_left t later plain.piece.went.decoder (All-tail (FitsLine s.max) line later left.fit) known.1, plain.answers.2)
+      let fit = All-tail (FitsLine s.max) line later left.fit in
+      (known.0, still_left t later plain.piece.went.decoder fit known.1, plain.answers.2)
   NextGoes-answers (Ok None) [] t left next =
       let plain = NextGoes-plain remaining s t (Ok None) left.has.open' next in
       still_left t [] plain.piece.went.decoder left.fit (NextGoes-known remaining s t (Ok None) [] next left.fit left.has)

@@ -243,5 +243,6 @@ module _ {S : Type 0} (remaining : S → Option (List ℕ)) (s m t : Lining S) (
   TooLong-quiet answer k isnt =
       let first = NextGoes-quiet remaining s m (Err (TooLong max)) (HasLine-end s open' isnt) met in
       let same : rest m ≡ rest s =
-      ap (λ l. l ++ rest m) (sym refused.answers.0) ∙ LinesWent-unasked remaining s m refused.piece.bytes refused.piece.went first in
+      ap (λ l. l ++ rest m) (sym refused.answers.0)
+      ∙ LinesWent-unasked remaining s m refused.piece.bytes refused.piece.went first in
       SkipsLine-quiet remaining m t answer (inr (λ plain. isnt (subst IsLine same plain))) k ∙ first

@@ -38,7 +38,8 @@ returns-in-Piece-clause-next g c =
     let s = c.args.self.now in
     let t = c.read_to.new.self in
     let v = c.take.new.self in
-    takes_loaded remaining (g.D.Decoder.grammar s.decoder) (g.met.D.Decoder.lawful s.decoder) s t v c.in-Piece.span c.in-Piece.field-1
+    takes_loaded remaining (g.D.Decoder.grammar s.decoder) (g.met.D.Decoder.lawful s.decoder) s t v c.in-Piece.span
+    c.in-Piece.field-1
     (turned remaining g.D.Decoder.grammar g.met.D.Decoder.lawful s c.turns.self t v c.turns.need c.turns.invariant
     c.in-Ok-true.field-0-test c.in-Ok-true.ensures c.in-Piece.is c.take.ensures.takes c.take.ensures.whole)
 
