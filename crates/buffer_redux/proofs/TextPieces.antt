@@ -1,8 +1,9 @@
 -- How the pieces of a formatted text join.
-use Rattle.std.proofs.Common.{◌≡◌, List, ℕ, [], ◌∷◌, ◌++◌, take, drop, Result, Ok, Err, Option, None, Some, refl, sym, ap, subst, ◌∙◌, append_assoc, take-append-drop, T, false, IfSome, inl, inr}
+use Rattle.std.proofs.Common.{◌≡◌, List, ℕ, [], ◌∷◌, ◌++◌, take, drop, Result, Ok, Err, Option, None, Some, refl, sym, ap, subst, ◌∙◌, append_assoc, take-append-drop, T, false, IfSome, inl, inr, append-nil}
 use Rattle.std.specs.Prelude.{◌⊎◌, IsOk, is_some}
 use Rattle.std.specs.Fmt.{DisplaysOnOk, IsPlainFormatter, formatter_writer}
 use Rattle.std.specs.List.{FoldsTo, concat}
+use Rattle.std.proofs.lemmas.List.Folds.{concat-append}
 use Rattle.std.specs.declared.fmt.Error as fmt
 use Rattle.std.specs.declared.fmt.Formatter.{Formatter}
 use Rattle.std.specs.Io.KnownBytes.{Appends}
@@ -13,66 +14,105 @@ use Rattle.buffer_redux.specs.Policy.{WriteRules}
 use Rattle.buffer_redux.specs.Buffered.{Buffered}
 use Rattle.buffer_redux.specs.BufWriter.{WritesAlong, writer_contents}
 use Rattle.buffer_redux.specs.WriteAll.{WriteAllErrorCaused, WritesAll, WritesAllSteadily}
-use Rattle.buffer_redux.specs.WriteFmt.{IsFormatError, PieceFailed, StoppedIn, TakesPieces, TextWent, WritesText}
+use Rattle.buffer_redux.specs.WriteFmt.{IsFormatError, PieceFailed, StoppedIn, TakesPieces, TextWent, WritesEach, WritesPieces, WritesText}
 use Rattle.buffer_redux.specs.WriterLaws.{WritesInOrder-contents}
-use Rattle.buffer_redux.specs.WritesAlongLaws.{WritesAll-along, WritesAlong-joins, WritesAlong-none}
+use Rattle.buffer_redux.specs.WritesAlongLaws.{WritesAll-along, WritesAll-took, WritesAlong-joins, WritesAlong-none}
 
 module _ {S P : Type 0} (tells : S → StreamLog) (stretch : S → S → Type 0) (rules : WriteRules P)
     (none : (u : S) → stretch u u) (joins : (u v w : S) → stretch u v → stretch v w → stretch u w) where
+  -- no piece, one, and pieces behind others
+  pub pieces_none : (s : Buffered S P) → WritesPieces tells stretch rules s [] s
+  pieces_none s =
+      record { pieces = []; all = refl; each = refl; along = WritesAlong-none tells stretch rules none s }
+
+  pub one_piece : (s : Buffered S P) (piece : List ℕ) (t : Buffered S P)
+      → WritesAll tells stretch rules s piece (Ok tt) t → WritesPieces tells stretch rules s piece t
+  one_piece s piece t all = record {
+    pieces = piece ∷ [];
+    all = append-nil piece;
+    each = (t, all, refl);
+    along = WritesAll-took tells stretch rules s piece tt t all;
+  }
+
+  each_joins : (s m t : Buffered S P) (xs ys : List (List ℕ)) → WritesEach tells stretch rules s xs m
+      → WritesEach tells stretch rules m ys t → WritesEach tells stretch rules s (xs ++ ys) t
+  each_joins s m t [] ys same q = subst (λ u. WritesEach tells stretch rules u ys t) (sym same) q
+  each_joins s m t (x ∷ xs) ys (u, all, p) q = (u, all, each_joins u m t xs ys p q)
+
+  pub pieces_behind : (s m t : Buffered S P) (a b : List ℕ) → WritesPieces tells stretch rules s a m
+      → WritesPieces tells stretch rules m b t → WritesPieces tells stretch rules s (a ++ b) t
+  pieces_behind s m t a b p q = record {
+    pieces = p.pieces ++ q.pieces;
+    all = concat-append p.pieces q.pieces ∙ ap (λ l. l ++ concat q.pieces) p.all ∙ ap (λ l. a ++ l) q.all;
+    each = each_joins s m t p.pieces q.pieces p.each q.each;
+    along = WritesAlong-joins tells stretch rules joins s m t a b p.along q.along;
+  }
+
   -- a piece whose write failed
   pub stopped : (s : Buffered S P) (piece : List ℕ) (e : Error) (t : Buffered S P)
       → WritesAll tells stretch rules s piece (Err e) t → WriteAllErrorCaused tells stretch rules s piece (Err e) t
       → WritesAllSteadily rules s (Err e) t → StoppedIn tells stretch rules s piece e t
   stopped s piece e t all caused steadily = record {
+    why = record {
+      before = [];
+      last = s;
+      went = pieces_none s;
+      piece = piece;
+      steps = all;
+      caused = caused;
+      steadily = steadily;
+    };
+    behind = [];
+    piece_of = sym (append-nil piece);
     accepted = take all.count piece;
     more = drop all.count piece;
     all = sym (take-append-drop all.count piece);
     along = WritesAll-along tells stretch rules s piece (Err e) t all;
-    why = record {
-      before = [];
-      last = s;
-      along = WritesAlong-none tells stretch rules none s;
-      piece = piece;
-      caused = caused;
-      steadily = steadily;
-    };
   }
 
-  failed_after : (s m t : Buffered S P) (a : List ℕ) (e : Error) → WritesAlong tells stretch rules s a m
+  failed_after : (s m t : Buffered S P) (a : List ℕ) (e : Error) → WritesPieces tells stretch rules s a m
       → PieceFailed tells stretch rules m e t → PieceFailed tells stretch rules s e t
   failed_after s m t a e p q = record {
     before = a ++ q.before;
     last = q.last;
-    along = WritesAlong-joins tells stretch rules joins s m q.last a q.before p q.along;
+    went = pieces_behind s m q.last a q.before p q.went;
     piece = q.piece;
+    steps = q.steps;
     caused = q.caused;
     steadily = q.steadily;
   }
 
-  stopped_after : (s m t : Buffered S P) (a b : List ℕ) (e : Error) → WritesAlong tells stretch rules s a m
+  stopped_after : (s m t : Buffered S P) (a b : List ℕ) (e : Error) → WritesPieces tells stretch rules s a m
       → StoppedIn tells stretch rules m b e t → StoppedIn tells stretch rules s (a ++ b) e t
+  unfolding failed_after
   stopped_after s m t a b e p q = record {
+    why = failed_after s m t a e p q.why;
+    behind = q.behind;
+    piece_of = ap (λ l. a ++ l) q.piece_of
+        ∙ sym (append_assoc a (q.why.before ++ q.why.piece) q.behind)
+        ∙ ap (λ l. l ++ q.behind) (sym (append_assoc a q.why.before q.why.piece));
     accepted = a ++ q.accepted;
     more = q.more;
     all = ap (λ l. a ++ l) q.all ∙ sym (append_assoc a q.accepted q.more);
-    along = WritesAlong-joins tells stretch rules joins s m t a q.accepted p q.along;
-    why = failed_after s m t a e p q.why;
+    along = WritesAlong-joins tells stretch rules joins s m t a q.accepted p.along q.along;
   }
 
   stopped_before : (s t : Buffered S P) (a b : List ℕ) (e : Error)
       → StoppedIn tells stretch rules s a e t → StoppedIn tells stretch rules s (a ++ b) e t
   stopped_before s t a b e p = record {
+    why = p.why;
+    behind = p.behind ++ b;
+    piece_of = ap (λ l. l ++ b) p.piece_of ∙ append_assoc (p.why.before ++ p.why.piece) p.behind b;
     accepted = p.accepted;
     more = p.more ++ b;
     all = ap (λ l. l ++ b) p.all ∙ append_assoc p.accepted p.more b;
     along = p.along;
-    why = p.why;
   }
 
   -- pieces, and pieces behind them
   pieces_join : (s m t : Buffered S P) (k l n : Option Error) (a b : List ℕ) → TakesPieces tells stretch rules s k a m l
       → TakesPieces tells stretch rules m l b t n → TakesPieces tells stretch rules s k (a ++ b) t n
-  pieces_join s m t None None None a b p q = WritesAlong-joins tells stretch rules joins s m t a b p q
+  pieces_join s m t None None None a b p q = pieces_behind s m t a b p q
   pieces_join s m t None None (Some e) a b p q = stopped_after s m t a b e p q
   pieces_join s m t None (Some e) None a b p q = absurd q
   pieces_join s m t None (Some e) (Some f) a b p q =
@@ -83,7 +123,7 @@ module _ {S P : Type 0} (tells : S → StreamLog) (stretch : S → S → Type 0)
   pieces_join s m t (Some e) (Some f) (Some h) a b p q = (p.0 ∙ q.0, p.1 ∙ q.1)
 
   no_pieces : (s : Buffered S P) (k : Option Error) → TakesPieces tells stretch rules s k [] s k
-  no_pieces s None = WritesAlong-none tells stretch rules none s
+  no_pieces s None = pieces_none s
   no_pieces s (Some e) = (refl, refl)
 
   -- all pieces, one after another
@@ -98,28 +138,40 @@ module _ {S P : Type 0} (tells : S → StreamLog) (stretch : S → S → Type 0)
 
   -- a text that went so far goes on
   pub went_on : (o : Option (Buffered S P)) (k : Option Error) (m t : Buffered S P) (a : List ℕ) → is_some k ≡ false
-      → ∥ IfSome o (λ s. TextWent tells stretch rules s k m) ∥₁ → WritesAlong tells stretch rules m a t
+      → ∥ IfSome o (λ s. TextWent tells stretch rules s k m) ∥₁ → WritesPieces tells stretch rules m a t
       → ∥ IfSome o (λ s. TextWent tells stretch rules s k t) ∥₁
   went_on None k m t a open' went p = ∣ tt ∣₁
-  went_on (Some s) None m t a open' went p = ∥∥₁_map went
-      (λ w. ((w.0.0 ++ a, WritesAlong-joins tells stretch rules joins s m t w.0.0 a w.0.1 p), tt))
+  went_on (Some s) None m t a open' went p = ∥∥₁_map went (λ w. (w.0 ++ a, pieces_behind s m t w.0 a w.1 p))
   went_on (Some s) (Some e) m t a open' went p = absurd (subst T open' tt)
 
   pub went_wrong : (o : Option (Buffered S P)) (k : Option Error) (m t : Buffered S P) (a : List ℕ) (e : Error)
-      → ∥ IfSome o (λ s. TextWent tells stretch rules s k m) ∥₁ → StoppedIn tells stretch rules m a e t
-      → ∥ IfSome o (λ s. TextWent tells stretch rules s (Some e) t) ∥₁
-  went_wrong None k m t a e went p = ∣ tt ∣₁
-  went_wrong (Some s) k m t a e went p = ∥∥₁_map went
-      (λ w. (
-        (w.0.0 ++ p.accepted, WritesAlong-joins tells stretch rules joins s m t w.0.0 p.accepted w.0.1 p.along),
-        failed_after s m t w.0.0 e w.0.1 p.why,
-      ))
+      → is_some k ≡ false → ∥ IfSome o (λ s. TextWent tells stretch rules s k m) ∥₁
+      → StoppedIn tells stretch rules m a e t → ∥ IfSome o (λ s. TextWent tells stretch rules s (Some e) t) ∥₁
+  went_wrong None k m t a e open' went p = ∣ tt ∣₁
+  went_wrong (Some s) None m t a e open' went p = ∥∥₁_map went (λ w. failed_after s m t w.0 e w.1 p.why)
+  went_wrong (Some s) (Some x) m t a e open' went p = absurd (subst T open' tt)
+
+  -- and lost no byte
+  went_along : (s : Buffered S P) (k : Option Error) (t : Buffered S P) → TextWent tells stretch rules s k t
+      → (accepted : List ℕ) × WritesAlong tells stretch rules s accepted t
+  went_along s None t w = (w.0, w.1.along)
+  went_along s (Some e) t w = let took = take w.steps.count w.piece in (
+    w.before ++ took,
+    WritesAlong-joins tells stretch rules joins s w.last t w.before took w.went.along
+        (WritesAll-along tells stretch rules w.last w.piece (Err e) t w.steps),
+  )
 
   -- the piece whose write failed, where none had
   pub piece_stopped : (k : Option Error) (s : Buffered S P) (a : List ℕ) (e : Error) (t : Buffered S P)
       → is_some k ≡ false → StoppedIn tells stretch rules s a e t → TakesPieces tells stretch rules s k a t (Some e)
   piece_stopped None s a e t open' p = p
   piece_stopped (Some x) s a e t open' p = absurd (subst T open' tt)
+
+  -- and one that was taken
+  pub piece_taken : (k : Option Error) (s : Buffered S P) (a : List ℕ) (t : Buffered S P) → is_some k ≡ false
+      → WritesPieces tells stretch rules s a t → TakesPieces tells stretch rules s k a t k
+  piece_taken None s a t open' p = p
+  piece_taken (Some x) s a t open' p = absurd (subst T open' tt)
 
   -- so a text that is known was taken, where the formatting didn't fail
   pub text_taken : {A : Type 0} (writer : A → Buffered S P) (ended : A → Option Error) (f g : Formatter A) (a b : A)
@@ -149,8 +201,8 @@ module _ {S P : Type 0} (tells : S → StreamLog) (stretch : S → S → Type 0)
   pub text_failed : (s : Buffered S P) (text : Option (List ℕ)) (k : Option Error) (e : Error) (t : Buffered S P)
       → ∥ TextWent tells stretch rules s k t ∥₁ → IsFormatError e → WritesText tells stretch rules s text (Err e) t
   text_failed s text k e t went failed = record {
-    along = ∥∥₁_map went (λ w. w.0);
-    caused = ∣ inl failed ∣₁;
+    along = ∥∥₁_map went (λ w. went_along s k t w);
+    went = ∥∥₁_map went (λ w. inl (failed, (k, w)));
     whole = tt;
     beginning = of text;
   }
@@ -165,8 +217,8 @@ module _ {S P : Type 0} (tells : S → StreamLog) (stretch : S → S → Type 0)
       → IfSome text (λ bytes. TakesPieces tells stretch rules s None bytes t (Some e))
       → WritesText tells stretch rules s text (Err e) t
   text_stopped s text e t went taken = record {
-    along = ∥∥₁_map went (λ w. w.0);
-    caused = ∥∥₁_map went (λ w. inr w.1);
+    along = ∥∥₁_map went (λ w. went_along s (Some e) t w);
+    went = ∥∥₁_map went (λ w. inr w);
     whole = tt;
     beginning = of text taken;
   }
@@ -182,11 +234,11 @@ module _ {S P : Type 0} (tells : S → StreamLog) (stretch : S → S → Type 0)
       → IfSome text (λ bytes. TakesPieces tells stretch rules s None bytes t None)
       → WritesText tells stretch rules s text (Ok x) t
   text_written s text x t went taken =
-      record { along = ∥∥₁_map went (λ w. w.0); caused = tt; whole = taken; beginning = tt }
+      record { along = ∥∥₁_map went (λ w. went_along s None t w); went = went; whole = taken; beginning = tt }
 
 -- as std has it
 pub text_appends : {S P : Type 0} (tells : S → StreamLog) (stretch : S → S → Type 0) (rules : WriteRules P)
-    (s t : Buffered S P) (text : Option (List ℕ)) → IfSome text (λ bytes. WritesAlong tells stretch rules s bytes t)
+    (s t : Buffered S P) (text : Option (List ℕ)) → IfSome text (λ bytes. WritesPieces tells stretch rules s bytes t)
     → IfSome text (Appends (writer_contents s) (writer_contents t))
 text_appends tells stretch rules s t None p = tt
-text_appends tells stretch rules s t (Some bytes) p = WritesInOrder-contents s t bytes p.in_order
+text_appends tells stretch rules s t (Some bytes) p = WritesInOrder-contents s t bytes p.along.in_order

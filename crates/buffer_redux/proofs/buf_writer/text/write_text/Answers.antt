@@ -1,8 +1,7 @@
 use Rattle.std.proofs.Common.{[], IfSome, None, Some, ap, subst, sym, refl}
 use Rattle.std.specs.Prelude.{is_ok}
-use Rattle.buffer_redux.proofs.TextPieces.{text_failed, text_stopped, text_taken, text_written, went_so}
+use Rattle.buffer_redux.proofs.TextPieces.{pieces_none, text_failed, text_stopped, text_taken, text_written, went_so}
 use Rattle.buffer_redux.specs.WriteFmt.{TextWent}
-use Rattle.buffer_redux.specs.WritesAlongLaws.{WritesAlong-none}
 use Rattle.buffer_redux.proofs.buf_writer.text.write_text.Goals as goal
 
 pub invariant_of-pieces-clause-went : goal.invariant_of-pieces-clause-went
@@ -10,12 +9,9 @@ invariant_of-pieces-clause-went g c =
     subst (λ o. ∥ IfSome o (λ s. TextWent g.W.Tell.log g.W.TellWrite.stretch g.P.WriterPolicy.rules s None c.args.writer.now) ∥₁)
     (sym c.requires.began)
     ∣ (
-      (
-        [],
-        WritesAlong-none g.W.Tell.log g.W.TellWrite.stretch g.P.WriterPolicy.rules g.met.W.TellWrite.stretch_none
-            c.args.writer.now,
-      ),
-      tt,
+      [],
+      pieces_none g.W.Tell.log g.W.TellWrite.stretch g.P.WriterPolicy.rules g.met.W.TellWrite.stretch_none
+          g.met.W.TellWrite.stretch_joins c.args.writer.now,
     ) ∣₁
 
 pub returns-in-Err-default-clause-text : goal.returns-in-Err-default-clause-text

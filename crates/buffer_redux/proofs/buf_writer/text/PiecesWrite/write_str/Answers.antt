@@ -1,8 +1,7 @@
 use Rattle.std.proofs.Common.{ap, ◌∙◌, subst}
 use Rattle.std.specs.Prelude.{not}
-use Rattle.buffer_redux.proofs.TextPieces.{piece_stopped, stopped, went_on, went_wrong}
+use Rattle.buffer_redux.proofs.TextPieces.{one_piece, piece_stopped, piece_taken, stopped, went_on, went_wrong}
 use Rattle.buffer_redux.specs.WriteFmt.{TakesPieces}
-use Rattle.buffer_redux.specs.WritesAlongLaws.{WritesAll-took}
 use Rattle.buffer_redux.proofs.buf_writer.text.PiecesWrite.write_str.Goals as goal
 
 pub invariant_of-self-clause-went : goal.invariant_of-self-clause-went
@@ -13,7 +12,8 @@ invariant_of-self-clause-went g c =
     let t = c.write_all.new.self in
     let e = c.in-Err.ensures in
     rw c.kept-self.ensures (went_wrong g.W.Tell.log g.W.TellWrite.stretch g.P.WriterPolicy.rules none joins g.B.Began.writer
-    c.args.self.now.ended s t c.as_bytes.result.now c.in-Err.e c.args.self.now.went
+    c.args.self.now.ended s t c.as_bytes.result.now c.in-Err.e (c.is_none.ensures ∙ ap not c.if-is_none.true)
+    c.args.self.now.went
     (stopped g.W.Tell.log g.W.TellWrite.stretch g.P.WriterPolicy.rules none joins s c.as_bytes.result.now c.in-Err.e t
     e.steps e.caused e.steadily))
 
@@ -25,7 +25,7 @@ invariant_of-self-in_default-clause-went g c =
     let t = c.write_all.new.self in
     went_on g.W.Tell.log g.W.TellWrite.stretch g.P.WriterPolicy.rules none joins g.B.Began.writer c.args.self.now.ended s t
     c.as_bytes.result.now (c.is_none.ensures ∙ ap not c.if-is_none.true) c.args.self.now.went
-    (WritesAll-took g.W.Tell.log g.W.TellWrite.stretch g.P.WriterPolicy.rules s c.as_bytes.result.now c.in_default.field-0 t
+    (one_piece g.W.Tell.log g.W.TellWrite.stretch g.P.WriterPolicy.rules none joins s c.as_bytes.result.now t
     c.in_default.ensures.steps)
 
 pub returns-in-Err : goal.returns-in-Err
@@ -44,4 +44,20 @@ returns-in-Err g c =
           c.as_bytes.result.now c.in-Err.e t (c.is_none.ensures ∙ ap not c.if-is_none.true)
           (stopped g.W.Tell.log g.W.TellWrite.stretch g.P.WriterPolicy.rules none joins s c.as_bytes.result.now c.in-Err.e t
           e.steps e.caused e.steadily)));
+    }
+
+pub returns-in_default : goal.returns-in_default
+returns-in_default g c =
+    let none = g.met.W.TellWrite.stretch_none in
+    let joins = g.met.W.TellWrite.stretch_joins in
+    let s = c.args.self.now.writer.now in
+    let t = c.write_all.new.self in
+    record {
+      ok = λ _. subst
+          (λ l. TakesPieces g.W.Tell.log g.W.TellWrite.stretch g.P.WriterPolicy.rules s c.args.self.now.ended l t
+          c.args.self.now.ended)
+          c.as_bytes.ensures.value (piece_taken g.W.Tell.log g.W.TellWrite.stretch g.P.WriterPolicy.rules none joins
+          c.args.self.now.ended s c.as_bytes.result.now t (c.is_none.ensures ∙ ap not c.if-is_none.true)
+          (one_piece g.W.Tell.log g.W.TellWrite.stretch g.P.WriterPolicy.rules none joins s c.as_bytes.result.now t
+          c.in_default.ensures.steps));
     }
