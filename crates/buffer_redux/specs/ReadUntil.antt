@@ -1,5 +1,5 @@
 -- What calls promise that go on up to a byte, fill after fill.
-use Rattle.std.specs.Prelude.{◌≡◌, ℕ, zero, suc, ◌+◌, ◌^◌, ◌<◌, ◌≤◌, ◌⊎◌, List, [], ◌∷◌, ◌++◌, length, take, drop, Result, Ok, Err, Option}
+use Rattle.std.specs.Prelude.{◌≡◌, ℕ, zero, suc, ◌+◌, ◌^◌, ◌<◌, ◌≤◌, ◌⊎◌, List, [], ◌∷◌, ◌++◌, length, take, drop, Result, Ok, Err, Option, IsOkAnd}
 use Rattle.std.specs.List.{All}
 use Rattle.std.specs.IoError.{error_kind}
 use Rattle.std.specs.declared.io.Error.{Error}
@@ -85,21 +85,6 @@ EndsUntil remaining rules step stops byte s (Err e) handed t =
     PassesAndFills remaining rules step byte s handed (Err e) t
     ⊎ (Passes remaining rules step byte s handed t × stops handed e t.block.bytes)
 
--- what `skip_until(byte)` does: these bytes were handed out to nobody
-pub record SkipsUntil {S P : Type 0} (remaining : S → Option (List ℕ)) (rules : ReadRules P) (byte : ℕ)
-    (s : Buffered S P) (answer : Result ℕ Error) (t : Buffered S P) : Type 0 where
-  pub handed : List ℕ
-  pub front : HandedFront remaining rules s handed t
-  pub ends : EndsUntil remaining rules (FillRetried remaining rules) no_count byte s answer handed t
-
--- what `read_until(byte, out)` does, which left `out` so: these bytes were handed out, behind those that were there
-pub record ReadsUntil {S P : Type 0} (remaining : S → Option (List ℕ)) (rules : ReadRules P) (byte : ℕ)
-    (s : Buffered S P) (before : List ℕ) (answer : Result ℕ Error) (after : List ℕ) (t : Buffered S P) : Type 0 where
-  pub handed : List ℕ
-  pub appended : after ≡ before ++ handed
-  pub front : HandedFront remaining rules s handed t
-  pub ends : EndsUntil remaining rules (FillRetried remaining rules) no_memory byte s answer handed t
-
 -- the first n bytes that are buffered were handed out, behind those that were there; without memory nothing was done
 abbrev pub AppendsFirst : {S P A : Type 0} → (S → Option (List ℕ)) → ReadRules P → ℕ → Buffered S P → List ℕ
     → Result A Error → List ℕ → Buffered S P → Type 0
@@ -108,3 +93,24 @@ AppendsFirst remaining rules n s before (Ok a) after t =
     × ReaderConsumes rules n s t
 AppendsFirst remaining rules n s before (Err e) after t =
     (after ≡ before) × (t ≡ s) × (0 < n) × (error_kind e ≡ OutOfMemory)
+
+-- what `skip_until(byte)` does: these bytes were handed out to nobody. Where the byte is buffered, those up to it are
+-- dropped, and nobody is asked
+pub record SkipsUntil {S P : Type 0} (remaining : S → Option (List ℕ)) (rules : ReadRules P) (byte : ℕ)
+    (s : Buffered S P) (answer : Result ℕ Error) (t : Buffered S P) : Type 0 where
+  pub handed : List ℕ
+  pub front : HandedFront remaining rules s handed t
+  pub ends : EndsUntil remaining rules (FillRetried remaining rules) no_count byte s answer handed t
+  pub buffered : ¬ (Lacks byte s.block.bytes)
+      → (at : ℕ) × FirstAt byte at s.block.bytes × IsOkAnd answer (λ n. (n ≡ at + 1) × ReaderConsumes rules n s t)
+
+-- what `read_until(byte, out)` does, which left `out` so: these bytes were handed out, behind those that were there. Where
+-- the byte is buffered, those up to it are appended, or nothing is done, and nobody is asked
+pub record ReadsUntil {S P : Type 0} (remaining : S → Option (List ℕ)) (rules : ReadRules P) (byte : ℕ)
+    (s : Buffered S P) (before : List ℕ) (answer : Result ℕ Error) (after : List ℕ) (t : Buffered S P) : Type 0 where
+  pub handed : List ℕ
+  pub appended : after ≡ before ++ handed
+  pub front : HandedFront remaining rules s handed t
+  pub ends : EndsUntil remaining rules (FillRetried remaining rules) no_memory byte s answer handed t
+  pub buffered : ¬ (Lacks byte s.block.bytes)
+      → (at : ℕ) × FirstAt byte at s.block.bytes × AppendsFirst remaining rules (at + 1) s before answer after t

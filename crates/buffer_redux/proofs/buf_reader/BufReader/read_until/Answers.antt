@@ -19,7 +19,13 @@ returns-in_err-append_first-in-Some g c =
     (passes_none remaining g.P.ReaderPolicy.rules c.args.byte s whole) (c.in-Some.at + 1) _ c.append_first.new.self
     (omega (arith, first.inside)) a.2 a.1 a.3 in
     rw (p.1, p.2) (record {
-      until = record { handed = []; appended = a.0 ∙ sym (append-nil _); front = ends.0; ends = ends.1 };
+      until = record {
+        handed = [];
+        appended = a.0 ∙ sym (append-nil _);
+        front = ends.0;
+        ends = ends.1;
+        buffered = λ some. (c.in-Some.at, first, a);
+      };
       bytes = tt;
     })
 
@@ -39,6 +45,7 @@ returns-in_ok-append_first-in-Some g c =
       ends = until_reached remaining rules c.args.byte s s [] (passes_none remaining rules c.args.byte s whole) no_memory
           (c.in-Some.at + 1) c.in-Some.at c.append_first.new.self
           (omega (arith, through_length c.args.byte c.in-Some.at [] s.block.bytes first)) first a.2;
+      buffered = λ some. (c.in-Some.at, first, a);
     } in
     record { until = until; bytes = ReadsUntil-known remaining rules c.args.byte s _ _ _ _ until }
 

@@ -26,7 +26,13 @@ returns-in_err-append_first g c =
     let ends = until_refused _ _ _ _ c.fills.self before.handed before.passes c.fills.len _ c.append_first.new.self
     (omega (arith, before.size)) a.2 a.1 a.3 in
     rw (p.1, p.2) (record {
-      until = record { handed = before.handed; appended = a.0 ∙ before.appended; front = ends.0; ends = ends.1 };
+      until = record {
+        handed = before.handed;
+        appended = a.0 ∙ before.appended;
+        front = ends.0;
+        ends = ends.1;
+        buffered = λ some. absurd (some c.requires.plain);
+      };
     })
 
 pub returns-in_err-fill_retried : goal.returns-in_err-fill_retried
@@ -45,6 +51,7 @@ returns-in_err-fill_retried g c =
             (a.0 ∙ ap (λ l. c.fills.out.items ++ l) (take_whole c.fills.len c.fills.self.block.bytes before.size));
         front = front_filled _ _ _ _ _ _ passes (refilling _ _) _ _ f;
         ends = until_failed _ _ _ _ _ _ passes no_memory _ _ f;
+        buffered = λ some. absurd (some c.requires.plain);
       };
     })
 
@@ -66,6 +73,7 @@ returns-then-is_empty g c =
         ends = until_end _ _ _ _ _ _ passes no_memory (refilling _ _) _ _
             (appended_length _ _ _ c.len-start.result c.len.result grown (c.len-start.ensures ∙ c.args.out.now.ok.0)
             (c.len.ensures ∙ c.append_first.new.out.ok.0)) f (λ wants some. retried_dry _ _ _ _ f wants some none) none;
+        buffered = λ some. absurd (some c.requires.plain);
       };
     }
 
@@ -92,6 +100,7 @@ returns-in_err-append_first-in-Some g c =
             (a.0 ∙ ap (λ l. c.fills.out.items ++ l) (take_whole c.fills.len c.fills.self.block.bytes before.size));
         front = ends.0;
         ends = ends.1;
+        buffered = λ some. absurd (some c.requires.plain);
       };
     })
 
@@ -119,6 +128,7 @@ returns-in-Some g c =
         ends = until_reached _ _ _ _ _ _ now no_memory _ c.in-Some.at _ (appended_length _ _ _ c.len-start.result
             c.len-in-Some.result all (c.len-start.ensures ∙ c.args.out.now.ok.0)
             (c.len-in-Some.ensures ∙ c.append_first-in-Some.new.out.ok.0)) first b.2;
+        buffered = λ some. absurd (some c.requires.plain);
       };
     }
 

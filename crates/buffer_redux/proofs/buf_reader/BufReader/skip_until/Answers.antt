@@ -1,4 +1,4 @@
-use Rattle.std.proofs.Common.{◌≡◌, ◌+◌, ◌∙◌, [], take, subst, ap, arith}
+use Rattle.std.proofs.Common.{◌≡◌, ◌+◌, ◌∙◌, [], take, subst, ap, arith, refl}
 use Rattle.redux_buffer.specs.Block.{IsBlock}
 use Rattle.buffer_redux.specs.ReadUntil.{FirstAt, SkipsUntil, no_count}
 use Rattle.buffer_redux.specs.UntilLaws.{SkipsUntil-known}
@@ -20,6 +20,7 @@ returns-in-Some g c =
       ends = until_reached remaining rules c.args.byte s s [] (passes_none remaining rules c.args.byte s whole) no_count
           (c.in-Some.at + 1) c.in-Some.at c.consume_exact.new.self
           (omega (arith, through_length c.args.byte c.in-Some.at [] s.block.bytes first)) first gone.consumed;
+      buffered = λ some. (c.in-Some.at, first, (refl, gone.consumed));
     } in
     record { until = until; count = SkipsUntil-known remaining rules c.args.byte s _ _ until }
 

@@ -25,6 +25,7 @@ returns-in_err-total g c =
         front = before.passes.front;
         ends = until_stopped _ _ _ _ c.fills.self _ before.passes no_count _
             (c.in_err-total.ensures.0, omega (arith, c.in_err-total.ensures.1, before.count, before.size));
+        buffered = λ some. absurd (some c.requires.plain);
       };
     })
 
@@ -42,6 +43,7 @@ returns-in_err-fill_retried g c =
         handed = before.handed ++ c.fills.self.block.bytes;
         front = front_filled _ _ _ _ _ _ passes (refilling _ _) _ _ f;
         ends = until_failed _ _ _ _ _ _ passes no_count _ _ f;
+        buffered = λ some. absurd (some c.requires.plain);
       };
     })
 
@@ -64,6 +66,7 @@ returns-then-is_empty g c =
           before.size,
           length-append before.handed c.fills.self.block.bytes,
         )) f (λ wants some. retried_dry _ _ _ _ f wants some none) none;
+        buffered = λ some. absurd (some c.requires.plain);
       };
     }
 
@@ -96,6 +99,7 @@ returns-in_err-total-in-Some g c =
             length-append before.handed c.fills.self.block.bytes,
           ),
         );
+        buffered = λ some. absurd (some c.requires.plain);
       };
     })
 
@@ -124,6 +128,7 @@ returns-in-Some g c =
           length-append before.handed c.fills.self.block.bytes,
           through_length c.args.byte c.in-Some.at handed c.fill_retried.new.self.block.bytes first,
         )) first went.consumed;
+        buffered = λ some. absurd (some c.requires.plain);
       };
     }
 
