@@ -71,13 +71,14 @@ module _ {S P : Type 0} {step : Step (Buffered S P)} (remaining : S → Option (
       front_filled answer t f = subst (λ l. HandedFront remaining rules s l t) (append-nil handed)
           (front_joins remaining rules s m t handed [] before.front (hands.front m answer t f))
 
-      pub passes_filled : (t : Buffered S P) → step m (Ok tt) t → Passes remaining rules step byte s handed t
-      passes_filled t f = record {
+      pub passes_filled : (t : Buffered S P) → step m (Ok tt) t → length m.block.bytes < length t.block.bytes
+          → Passes remaining rules step byte s handed t
+      passes_filled t f more = record {
         front = front_filled (Ok tt) t f;
         plain = before.plain;
         faults = OnlyInterrupts-joins s.log.reads.faults m.log.reads.faults t.log.reads.faults before.faults
             (hands.only m t f);
-        steps = (suc before.steps.0, (m, before.steps.1, inr f));
+        steps = (suc before.steps.0, (m, before.steps.1, inr (f, more)));
       }
 
     pub passes_and_fills : (answer : Result (Unit {0}) Error) (t : Buffered S P) → step m answer t
@@ -142,6 +143,33 @@ module _ {S P : Type 0} {step : Step (Buffered S P)} (remaining : S → Option (
         (λ x. HandedFront remaining rules s handed x × EndsUntil remaining rules step no_memory byte s (Err e) handed x)
         (sym same)
         (before.front, until_stopped no_memory e (kind, omega (arith, some, within)))
+
+-- where all that is buffered was handed out, nothing is left
+pub emptied : {S P : Type 0} (remaining : S → Option (List ℕ)) (rules : ReadRules P) (m t : Buffered S P) (n : ℕ)
+    → n ≡ length m.block.bytes → HandedFront remaining rules m (take n m.block.bytes) t → ReaderConsumes rules n m t
+    → length t.block.bytes ≡ 0
+emptied remaining rules m t n count went gone = omega (
+  arith,
+  count,
+  length-take-le n m.block.bytes (omega (arith, count)),
+  ap length went.in_order.equal,
+  length-append (take n m.block.bytes) t.block.bytes,
+  length-append m.block.bytes went.in_order.got,
+  ap length went.in_order.given,
+  length-append m.log.reads.given went.in_order.got,
+  ap (λ l. length l.reads.given) gone.told,
+)
+
+-- a fill that leaves some bytes shows more than were left
+pub fills_more : (left len' : ℕ) (empty : Bool) → (0 < left → left < len') → IsTrue empty ↔ (len' ≡ 0) → empty ≡ false
+    → left < len'
+fills_more left len' empty more means full = elim (cases_lt 0 left) [
+  | inl some ↦ more some
+  | inr none ↦ elim (cases_lt 0 len') [
+    | inl some ↦ omega (arith, some, none)
+    | inr nothing ↦ let yes : empty ≡ true = means.1 (omega (arith, nothing)) in absurd (cc)
+  ]
+]
 
 -- more was appended behind what was appended before
 pub appends : (old out h k : List ℕ) (new : List ℕ) → out ≡ old ++ h → new ≡ out ++ k → new ≡ old ++ (h ++ k)

@@ -28,12 +28,12 @@ pub record EndsIn (byte : ℕ) (bytes : List ℕ) : Type 0 where
   pub plain : Lacks byte front
   pub equal : bytes ≡ front ++ byte ∷ []
 
--- so many steps led from s to t, each of them a consume, of which the policy is told, or a fill, or what the call makes in
--- place of one
+-- so many steps led from s to t, each of them a consume, of which the policy is told, or a fill that showed more bytes, or
+-- what the call makes in place of one. So nobody is asked behind a fill that showed no more, which ends the call
 abbrev pub Steps : {S P : Type 0} → ReadRules P → Step (Buffered S P) → ℕ → Buffered S P → Buffered S P → Type 0
 Steps rules step zero s t = s ≡ t
 Steps {S} {P} rules step (suc count) s t = (m : Buffered S P) × Steps rules step count s m
-    × (((n : ℕ) × ReaderConsumes rules n m t) ⊎ step m (Ok tt) t)
+    × (((n : ℕ) × ReaderConsumes rules n m t) ⊎ (step m (Ok tt) t × (length m.block.bytes < length t.block.bytes)))
 
 -- these bytes were handed out, which lack the byte, and no fault came but interrupted reads
 pub record Passes {S P : Type 0} (remaining : S → Option (List ℕ)) (rules : ReadRules P) (step : Step (Buffered S P))

@@ -6,6 +6,7 @@ use Rattle.buffer_redux.specs.ReadLine.{no_text}
 use Rattle.buffer_redux.specs.ReadUntil.{FirstAt, Lacks}
 use Rattle.buffer_redux.proofs.LineSteps.{block_within, fill_failed, going_on, line_end, line_stopped, parts_length}
 use Rattle.buffer_redux.proofs.LineSteps.{text_leaves, text_passes, text_stopped}
+use Rattle.buffer_redux.proofs.UntilSteps.{fills_more}
 use Rattle.buffer_redux.proofs.UntilSteps.{appended_length, appends, comes_to_more, front_filled, front_reached, passes_filled}
 use Rattle.buffer_redux.proofs.UntilSteps.{passes_none, starts_before, until_reached}
 use Rattle.buffer_redux.proofs.buf_reader.BufReader.read_line_slowly.Goals as goal
@@ -89,7 +90,9 @@ returns-in_err-append_line g c =
     c.from_residual-in_err-append_line.ensures.1 in
     let passes = text_passes _ _ c.args.self.now c.fills.self before.handed before.passes c.append_text.new.self _ _
     before.behind a in
-    let now = passes_filled _ _ _ _ _ _ passes (going_on _ _) c.fill_line.new.self f.0 in
+    let now = passes_filled _ _ _ _ _ _ passes (going_on _ _) c.fill_line.new.self f.0
+    (fills_more _ _ c.is_empty.result f.1
+    (rw (ap (λ x. length x.block.bytes) c.self-in-fills.view_is) at c.is_empty.ensures.value) c.if-is_empty.false) in
     let shown : c.buf.result.now ≡ c.fill_line.new.self.block.bytes =
     c.buf.ensures ∙ ap (λ x. x.block.bytes) c.self-in-fills.view_is in
     let ends = line_stopped _ _ c.args.self.now c.fill_line.new.self _ now c.in-Some.at c.in_err-append_line.field-0.0
@@ -113,7 +116,9 @@ returns-in-Some g c =
     let b = c.in_ok-append_line.ensures.appends in
     let passes = text_passes _ _ c.args.self.now c.fills.self before.handed before.passes c.append_text.new.self _ _
     before.behind a in
-    let now = passes_filled _ _ _ _ _ _ passes (going_on _ _) c.fill_line.new.self f.0 in
+    let now = passes_filled _ _ _ _ _ _ passes (going_on _ _) c.fill_line.new.self f.0
+    (fills_more _ _ c.is_empty.result f.1
+    (rw (ap (λ x. length x.block.bytes) c.self-in-fills.view_is) at c.is_empty.ensures.value) c.if-is_empty.false) in
     let shown : c.buf.result.now ≡ c.fill_line.new.self.block.bytes =
     c.buf.ensures ∙ ap (λ x. x.block.bytes) c.self-in-fills.view_is in
     let handed = before.handed ++ take a.0 c.fills.self.block.bytes in
@@ -142,7 +147,9 @@ fills-preserved g c =
     let shown : c.buf.result.now ≡ c.fill_line.new.self.block.bytes =
     c.buf.ensures ∙ ap (λ x. x.block.bytes) c.self-in-fills.view_is in record {
       handed = before.handed ++ take a.0 c.fills.self.block.bytes;
-      passes = passes_filled _ _ _ _ _ _ passes (going_on _ _) c.fill_line.new.self c.in_ok-fill_line.ensures.fills.0;
+      passes = passes_filled _ _ _ _ _ _ passes (going_on _ _) c.fill_line.new.self c.in_ok-fill_line.ensures.fills.0
+          (fills_more _ _ c.is_empty.result c.in_ok-fill_line.ensures.fills.1
+          (rw (ap (λ x. length x.block.bytes) c.self-in-fills.view_is) at c.is_empty.ensures.value) c.if-is_empty.false);
       appended = appends _ _ _ _ _ before.appended a.2.0.0;
       text = IsUtf8-append _ _ before.text a.2.1;
       behind = subst (Lacks 10) shown c.in_default.ensures.none;

@@ -4,6 +4,7 @@ use Rattle.std.proofs.lemmas.Result.{err_from_is_err_and}
 use Rattle.redux_buffer.specs.Block.{IsBlock}
 use Rattle.buffer_redux.specs.ReadUntil.{FirstAt, Lacks, no_memory}
 use Rattle.buffer_redux.proofs.Retrying.{refilling, retried_dry}
+use Rattle.buffer_redux.proofs.UntilSteps.{emptied, fills_more}
 use Rattle.buffer_redux.proofs.UntilSteps.{appended_length, appends, comes_to_more, front_filled, front_reached, passes_all}
 use Rattle.buffer_redux.proofs.UntilSteps.{passes_filled, passes_none, starts_before, take_whole, until_end, until_failed}
 use Rattle.buffer_redux.proofs.UntilSteps.{until_reached, until_refused}
@@ -87,7 +88,10 @@ returns-in_err-append_first-in-Some g c =
     c.from_residual-in_err-append_first-in-Some.ensures.1 in
     let passes = passes_all _ _ _ _ c.fills.self before.handed before.passes c.append_first.new.self c.fills.len before.size
     before.behind a.1 a.2 in
-    let now = passes_filled _ _ _ _ _ _ passes (refilling _ _) c.fill_retried.new.self f in
+    let left = emptied _ _ c.fills.self c.append_first.new.self c.fills.len before.size a.1 a.2 in
+    let now = passes_filled _ _ _ _ _ _ passes (refilling _ _) c.fill_retried.new.self f
+    (fills_more _ _ c.is_empty.result (λ some. absurd (omega (arith, some, left)))
+    (rw (ap (λ x. length x.block.bytes) c.self-in-fills.view_is) at c.is_empty.ensures.value) c.if-is_empty.false) in
     let shown : c.buf.result.now ≡ c.fill_retried.new.self.block.bytes =
     c.buf.ensures ∙ ap (λ x. x.block.bytes) c.self-in-fills.view_is in
     let first = subst (FirstAt c.args.byte c.in-Some.at) shown c.in-Some.ensures.found in
@@ -112,7 +116,10 @@ returns-in-Some g c =
     let b = c.in_ok-append_first-in-Some.ensures.appends in
     let passes = passes_all _ _ _ _ c.fills.self before.handed before.passes c.append_first.new.self c.fills.len before.size
     before.behind a.1 a.2 in
-    let now = passes_filled _ _ _ _ _ _ passes (refilling _ _) c.fill_retried.new.self f in
+    let left = emptied _ _ c.fills.self c.append_first.new.self c.fills.len before.size a.1 a.2 in
+    let now = passes_filled _ _ _ _ _ _ passes (refilling _ _) c.fill_retried.new.self f
+    (fills_more _ _ c.is_empty.result (λ some. absurd (omega (arith, some, left)))
+    (rw (ap (λ x. length x.block.bytes) c.self-in-fills.view_is) at c.is_empty.ensures.value) c.if-is_empty.false) in
     let shown : c.buf.result.now ≡ c.fill_retried.new.self.block.bytes =
     c.buf.ensures ∙ ap (λ x. x.block.bytes) c.self-in-fills.view_is in
     let first = subst (FirstAt c.args.byte c.in-Some.at) shown c.in-Some.ensures.found in
@@ -138,10 +145,13 @@ fills-preserved g c =
     let a = c.in_ok-append_first.ensures.appends in
     let passes = passes_all _ _ _ _ c.fills.self before.handed before.passes c.append_first.new.self c.fills.len before.size
     before.behind a.1 a.2 in
+    let left = emptied _ _ c.fills.self c.append_first.new.self c.fills.len before.size a.1 a.2 in
     let shown : c.buf.result.now ≡ c.fill_retried.new.self.block.bytes =
     c.buf.ensures ∙ ap (λ x. x.block.bytes) c.self-in-fills.view_is in record {
       handed = before.handed ++ c.fills.self.block.bytes;
-      passes = passes_filled _ _ _ _ _ _ passes (refilling _ _) c.fill_retried.new.self c.in_ok-fill_retried.ensures.retried;
+      passes = passes_filled _ _ _ _ _ _ passes (refilling _ _) c.fill_retried.new.self c.in_ok-fill_retried.ensures.retried
+          (fills_more _ _ c.is_empty.result (λ some. absurd (omega (arith, some, left)))
+          (rw (ap (λ x. length x.block.bytes) c.self-in-fills.view_is) at c.is_empty.ensures.value) c.if-is_empty.false);
       appended = appends _ _ _ _ _ before.appended
           (a.0 ∙ ap (λ l. c.fills.out.items ++ l) (take_whole c.fills.len c.fills.self.block.bytes before.size));
       size = c.len-len-in-None.ensures.value ∙ ap (λ x. length x.block.bytes) c.self-in-fills.view_is;

@@ -3,6 +3,7 @@ use Rattle.std.proofs.lemmas.Result.{err_from_is_err_and}
 use Rattle.redux_buffer.specs.Block.{IsBlock}
 use Rattle.buffer_redux.specs.ReadUntil.{FirstAt, Lacks, no_count}
 use Rattle.buffer_redux.proofs.Retrying.{refilling, retried_dry}
+use Rattle.buffer_redux.proofs.UntilSteps.{emptied, fills_more}
 use Rattle.buffer_redux.proofs.UntilSteps.{front_filled, front_reached, passes_all, passes_filled, passes_none, through_length, until_end, until_failed, until_reached, until_stopped}
 use Rattle.buffer_redux.proofs.buf_reader.BufReader.skip_until_slowly.Goals as goal
 
@@ -79,7 +80,10 @@ returns-in_err-total-in-Some g c =
     c.from_residual-in_err-total-in-Some.ensures.1 in
     let passes = passes_all _ _ _ _ c.fills.self before.handed before.passes c.consume.new.self c.fills.len before.size
     before.behind (record { in_order = gone.in_order; keeps = gone.keeps }) gone.consumed in
-    let now = passes_filled _ _ _ _ _ _ passes (refilling _ _) c.fill_retried.new.self c.in_ok-fill_retried.ensures.retried in
+    let left = emptied _ _ c.fills.self c.consume.new.self c.fills.len before.size (record { in_order = gone.in_order; keeps = gone.keeps }) gone.consumed in
+    let now = passes_filled _ _ _ _ _ _ passes (refilling _ _) c.fill_retried.new.self c.in_ok-fill_retried.ensures.retried
+    (fills_more _ _ c.is_empty.result (λ some. absurd (omega (arith, some, left)))
+    (rw (ap (λ x. length x.block.bytes) c.self-in-fills.view_is) at c.is_empty.ensures.value) c.if-is_empty.false) in
     let shown : c.buf.result.now ≡ c.fill_retried.new.self.block.bytes =
     c.buf.ensures ∙ ap (λ x. x.block.bytes) c.self-in-fills.view_is in
     let first = subst (FirstAt c.args.byte c.in-Some.at) shown c.in-Some.ensures.found in
@@ -111,7 +115,10 @@ returns-in-Some g c =
     let f = c.in_ok-fill_retried.ensures.retried in
     let passes = passes_all _ _ _ _ c.fills.self before.handed before.passes c.consume.new.self c.fills.len before.size
     before.behind (record { in_order = gone.in_order; keeps = gone.keeps }) gone.consumed in
-    let now = passes_filled _ _ _ _ _ _ passes (refilling _ _) c.fill_retried.new.self f in
+    let left = emptied _ _ c.fills.self c.consume.new.self c.fills.len before.size (record { in_order = gone.in_order; keeps = gone.keeps }) gone.consumed in
+    let now = passes_filled _ _ _ _ _ _ passes (refilling _ _) c.fill_retried.new.self f
+    (fills_more _ _ c.is_empty.result (λ some. absurd (omega (arith, some, left)))
+    (rw (ap (λ x. length x.block.bytes) c.self-in-fills.view_is) at c.is_empty.ensures.value) c.if-is_empty.false) in
     let shown : c.buf.result.now ≡ c.fill_retried.new.self.block.bytes =
     c.buf.ensures ∙ ap (λ x. x.block.bytes) c.self-in-fills.view_is in
     let first = subst (FirstAt c.args.byte c.in-Some.at) shown c.in-Some.ensures.found in
@@ -138,10 +145,13 @@ fills-preserved g c =
     let gone = c.consume.ensures in
     let passes = passes_all _ _ _ _ c.fills.self before.handed before.passes c.consume.new.self c.fills.len before.size
     before.behind (record { in_order = gone.in_order; keeps = gone.keeps }) gone.consumed in
+    let left = emptied _ _ c.fills.self c.consume.new.self c.fills.len before.size (record { in_order = gone.in_order; keeps = gone.keeps }) gone.consumed in
     let shown : c.buf.result.now ≡ c.fill_retried.new.self.block.bytes =
     c.buf.ensures ∙ ap (λ x. x.block.bytes) c.self-in-fills.view_is in record {
       handed = before.handed ++ c.fills.self.block.bytes;
-      passes = passes_filled _ _ _ _ _ _ passes (refilling _ _) c.fill_retried.new.self c.in_ok-fill_retried.ensures.retried;
+      passes = passes_filled _ _ _ _ _ _ passes (refilling _ _) c.fill_retried.new.self c.in_ok-fill_retried.ensures.retried
+          (fills_more _ _ c.is_empty.result (λ some. absurd (omega (arith, some, left)))
+          (rw (ap (λ x. length x.block.bytes) c.self-in-fills.view_is) at c.is_empty.ensures.value) c.if-is_empty.false);
       size = c.len-len-in-None.ensures.value ∙ ap (λ x. length x.block.bytes) c.self-in-fills.view_is;
       behind = subst (Lacks c.args.byte) shown c.in-None.ensures.none;
       count = omega (
