@@ -2,15 +2,17 @@
 use Rattle.std.proofs.Common.{◌≡◌, ℕ, ◌+◌, ◌-◌, ◌<◌, ◌≤◌, List, [], length, Result, Ok, Err, Option, inl, inr, refl, sym, ap, subst, ◌∙◌, arith, length-append, length-take-le}
 use Rattle.std.specs.Prelude.{◌⊎◌}
 use Rattle.std.specs.declared.io.Error.{Error}
-use Rattle.redux_buffer.specs.Block.{IsBlock, MakesRoom, usable}
+use Rattle.redux_buffer.specs.Block.{IsBlock, MakesRoom, MovesToFront, usable}
+use Rattle.redux_buffer.specs.Potential.{potential-make_room}
 use Rattle.redux_buffer.specs.Transfer.{ReadsOnce}
 use Rattle.redux_buffer.specs.LogGrows.{ReadLogGrows, ReadLogGrows-none}
 use Rattle.redux_buffer.specs.StreamLog.{portion, with_fault, with_zero, zero_of_none, zero_of_some}
 use Rattle.buffer_redux.specs.Policy.{ReadRules}
 use Rattle.buffer_redux.specs.Buffered.{Buffered, with_block}
 use Rattle.buffer_redux.specs.BufReader.{ReadsAlong, ReadsInOrder, ReadsIntoBuf}
-use Rattle.buffer_redux.specs.Peek.{AheadEnded, ReadsAhead}
-use Rattle.buffer_redux.specs.ReaderLaws.{InnerGives-same, ReadsAlong-none, ReadsAlong-then}
+use Rattle.buffer_redux.specs.Peek.{AheadEnded, MakesRoomFor, ReadsAhead, SparesFrom}
+use Rattle.buffer_redux.specs.Sparing.{Spared, Spared-joins, Spared-none}
+use Rattle.buffer_redux.specs.ReaderLaws.{InnerGives-same, ReadsAlong-none, ReadsAlong-then, ReadsInOrder-none}
 use Rattle.buffer_redux.proofs.FillFacts.{ReadsInOrder-read_from}
 
 -- each turn gave bytes, and no fault
@@ -26,17 +28,55 @@ pub record AheadTurns {S P : Type 0} (remaining : S → Option (List ℕ)) (rule
   pub capacity : m.block.capacity ≡ s.block.capacity
   pub kind : m.block.kind ≡ s.block.kind
   pub noted : m.own_calls ≡ s.own_calls
+  pub sparing : SparesFrom n s m
 
--- after such turns to m room was made, which is r, and the reader asked once more
+-- room is made where it lacks, which spares what holds the bytes
+pub room_there : {S P : Type 0} (more : ℕ) (s : Buffered S P) → more ≤ usable s.block → MakesRoomFor more s s
+room_there more s enough = record {
+  in_order = ReadsInOrder-none s;
+  others = refl;
+  bytes = refl;
+  room = enough;
+  capacity = refl;
+  kind = refl;
+  spared = λ keep _. Spared-none keep s;
+}
+
+pub room_made : {S P : Type 0} (more : ℕ) (s t : Buffered S P) → usable s.block < more
+    → length s.block.bytes + more ≤ s.block.capacity → MakesRoom s.block t.block → MovesToFront s.block t.block
+    → ReadsInOrder s [] t → t ≡ with_block s t.block → MakesRoomFor more s t
+room_made more s t few fits room moves order others = record {
+  in_order = order;
+  others = others;
+  bytes = room.bytes;
+  room = omega (arith, room.usable, fits);
+  capacity = room.capacity;
+  kind = room.kind;
+  spared = λ keep holds. record {
+    kind = room.kind;
+    capacity = omega (arith, room.capacity);
+    plain = λ plain three.
+        let rises = potential-make_room keep s.block t.block room moves (record {
+          capacity = three;
+          held = omega (arith, holds);
+          usable = omega (arith, few, holds);
+        }) plain in
+        record {
+          moved = rises.moved;
+          held = omega (arith, rises.held, ap (λ x. length x.log.reads.given) others);
+        };
+  };
+}
+
+-- after such turns to m there was room, in r, and the reader was asked once more
 pub record AsksOnce {S P : Type 0} (remaining : S → Option (List ℕ)) (rules : ReadRules P) (n : ℕ)
     (s m r : Buffered S P) (answer : Result ℕ Error) (t : Buffered S P) : Type 0 where
   pub turns : AheadTurns remaining rules n s m
   pub few : length m.block.bytes < n
   pub fits : n ≤ s.block.capacity
-  pub room : MakesRoom m.block r.block
-  pub in_order : ReadsInOrder m [] r
-  pub others : r ≡ with_block m r.block
+  pub room : MakesRoomFor (n - length m.block.bytes) m r
   pub reads : ReadsIntoBuf remaining r answer t
+  pub spared : (keep : ℕ) → Spared keep r t
 
 module _ {S P : Type 0} (remaining : S → Option (List ℕ)) (rules : ReadRules P) (n : ℕ) where
   pub turns_none : (s : Buffered S P) → AheadTurns remaining rules n s s
@@ -51,6 +91,7 @@ module _ {S P : Type 0} (remaining : S → Option (List ℕ)) (rules : ReadRules
     capacity = refl;
     kind = refl;
     noted = refl;
+    sparing = record { each = λ keep _. Spared-none keep s };
   }
 
   -- so many bytes are buffered
@@ -66,26 +107,27 @@ module _ {S P : Type 0} (remaining : S → Option (List ℕ)) (rules : ReadRules
     capacity = turns.capacity;
     kind = turns.kind;
     noted = turns.noted;
+    sparing = turns.sparing;
     whole = whole;
   }
 
   module _ (s m r : Buffered S P) (answer : Result ℕ Error) (t : Buffered S P)
       (a : AsksOnce remaining rules n s m r answer t) where
     space : 0 < usable r.block
-    space = omega (arith, a.few, a.fits, a.turns.capacity, a.room.usable)
+    space = omega (arith, a.few, a.room.room)
 
     once : ReadsOnce r.block r.log answer t.block t.log
     once = a.reads.read.read space
 
     asked_along : ReadsAlong remaining rules s [] t
     asked_along =
-        let told : r.log ≡ m.log = ap (λ x. x.log) a.others in
+        let told : r.log ≡ m.log = ap (λ x. x.log) a.room.others in
         ReadsAlong-then remaining rules s r t [] (ReadsAlong-then remaining rules s m r [] a.turns.along (record {
-          in_order = a.in_order;
-          known = InnerGives-same remaining m r (ap (λ x. x.inner) a.others) told;
+          in_order = a.room.in_order;
+          known = InnerGives-same remaining m r (ap (λ x. x.inner) a.room.others) told;
           grows = subst (λ l. ReadLogGrows m.log.reads l.reads) (sym told) (ReadLogGrows-none m.log.reads);
           capacity = omega (arith, a.room.capacity);
-          claims = ap (λ x. rules.claims x.policy) a.others;
+          claims = ap (λ x. rules.claims x.policy) a.room.others;
         })) (record {
           in_order = ReadsInOrder-read_from r t answer a.reads.read;
           known = a.reads.known;
@@ -103,18 +145,24 @@ module _ {S P : Type 0} (remaining : S → Option (List ℕ)) (rules : ReadRules
     )
 
     asked : t.log.reads.asks ≡ m.log.reads.asks + 1
-    asked = omega (arith, ap (λ l. l.reads.asks) once.told, ap (λ x. x.log.reads.asks) a.others)
+    asked = omega (arith, ap (λ l. l.reads.asks) once.told, ap (λ x. x.log.reads.asks) a.room.others)
 
     zeros_now : t.log.reads.zero_reads ≡ with_zero s.log.reads.zero_reads once.out answer
     zeros_now = ap (λ l. l.reads.zero_reads) once.told ∙ ap (λ z. with_zero z once.out answer)
-        (ap (λ x. x.log.reads.zero_reads) a.others ∙ a.turns.zeros)
+        (ap (λ x. x.log.reads.zero_reads) a.room.others ∙ a.turns.zeros)
 
     faults_now : t.log.reads.faults ≡ with_fault s.log.reads.faults answer
     faults_now = ap (λ l. l.reads.faults) once.told ∙ ap (λ l. with_fault l answer)
-        (ap (λ x. x.log.reads.faults) a.others ∙ a.turns.faults)
+        (ap (λ x. x.log.reads.faults) a.room.others ∙ a.turns.faults)
 
     most_now : t.log.reads.asks ≤ s.log.reads.asks + (n - length s.block.bytes)
     most_now = omega (arith, asked, a.turns.asks, a.few, a.turns.along.grows.asks)
+
+    spared_now : SparesFrom n s t
+    spared_now = record {
+      each = λ keep holds. Spared-joins keep s m t (a.turns.sparing.each keep holds)
+          (Spared-joins keep m r t (a.room.spared keep (omega (arith, a.few, holds))) (a.spared keep));
+    }
 
     -- which ended it
     ahead_last : {A : Type 0} (end : Result A Error) → AheadEnded n s end t
@@ -128,10 +176,11 @@ module _ {S P : Type 0} (remaining : S → Option (List ℕ)) (rules : ReadRules
         | inl same ↦ absurd (omega (arith, many, a.few, ap (λ x. length x.block.bytes) same))
         | inr less ↦ absurd (omega (arith, many, less))
       ];
-      policy = a.reads.policy ∙ ap (λ x. x.policy) a.others ∙ a.turns.policy;
+      policy = a.reads.policy ∙ ap (λ x. x.policy) a.room.others ∙ a.turns.policy;
       capacity = once.added.capacity ∙ a.room.capacity ∙ a.turns.capacity;
       kind = once.added.kind ∙ a.room.kind ∙ a.turns.kind;
-      noted = a.reads.noted ∙ ap (λ x. x.own_calls) a.others ∙ a.turns.noted;
+      noted = a.reads.noted ∙ ap (λ x. x.own_calls) a.room.others ∙ a.turns.noted;
+      sparing = spared_now;
       whole = a.reads.whole;
     }
 
@@ -171,8 +220,9 @@ module _ {S P : Type 0} (remaining : S → Option (List ℕ)) (rules : ReadRules
           | inl same ↦ inr (omega (arith, a.few, ap (λ x. length x.block.bytes) same))
           | inr less ↦ inr less
         ];
-        policy = a.reads.policy ∙ ap (λ x. x.policy) a.others ∙ a.turns.policy;
+        policy = a.reads.policy ∙ ap (λ x. x.policy) a.room.others ∙ a.turns.policy;
         capacity = read.added.capacity ∙ a.room.capacity ∙ a.turns.capacity;
         kind = read.added.kind ∙ a.room.kind ∙ a.turns.kind;
-        noted = a.reads.noted ∙ ap (λ x. x.own_calls) a.others ∙ a.turns.noted;
+        noted = a.reads.noted ∙ ap (λ x. x.own_calls) a.room.others ∙ a.turns.noted;
+        sparing = spared_now s m r (Ok k) t a;
       }

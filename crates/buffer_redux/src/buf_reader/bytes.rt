@@ -1,9 +1,9 @@
 //! Calls for one byte, and for a look at bytes ahead.
-ghost use Rattle.std.specs.Prelude.{◌≤◌, min};
+ghost use Rattle.std.specs.Prelude.{◌+◌, ◌≤◌, length, min};
 ghost use Rattle.std.specs.Borrow.{sem};
 ghost use Rattle.std.specs.Io.BufRead.{Rests};
 ghost use Rattle.buffer_redux.specs.contracts.buf_reader.BufReader.{the_row};
-ghost use Rattle.buffer_redux.specs.Peek.{Peeks, ReadsAhead};
+ghost use Rattle.buffer_redux.specs.Peek.{MakesRoomFor, Peeks, ReadsAhead};
 ghost use Rattle.buffer_redux.specs.ReadByte.{FillsAndTakes, ReadsByte, TakesFirst};
 
 use crate::buf_reader::BufReader;
@@ -72,8 +72,9 @@ impl<R: TellRead, P: ReaderPolicy> BufReader<R, P> {
     /// The first `n` bytes, which stay buffered; fewer where the stream ends, or no more fit into the buffer. Where they are
     /// buffered, nobody is asked.
     ///
-    /// Else it reads past the policy until they are, behind bytes that it moved to the front of a plain buffer. A fault,
-    /// `Interrupted` among them, is returned at once, and what came before it stays buffered.
+    /// Else it reads past the policy until they are; in a plain buffer, behind bytes that it moved to the front where the
+    /// others didn't fit behind them. A fault, `Interrupted` among them, is returned at once, and what came before it stays
+    /// buffered.
     #[inline(always)]
     pub fn peek(&mut self, n: usize) -> io::Result<&[u8]>
         ensures* after_borrow { sem 𝓛 (Rests (the_row R.row P.row R.Tell) self.entry
@@ -113,11 +114,22 @@ impl<R: TellRead, P: ReaderPolicy> BufReader<R, P> {
         ensures ahead { ReadsAhead R.remaining P.rules n self.old result self.new }
     {
         while self.buf.len() < n {
-            self.make_room();
+            let more = n - self.buf.len();
+            self.make_room_for(more);
             if self.read_into_buf()? == 0 {
                 break;
             }
         }
         Ok(())
+    }
+
+    // Makes room, unless `more` bytes fit behind those that are buffered.
+    fn make_room_for(&mut self, more: usize)
+        requires fits { length self.old.block.bytes + more ≤ self.old.block.capacity }
+        ensures makes { MakesRoomFor more self.old self.new }
+    {
+        if self.buf.usable_space() < more {
+            self.make_room();
+        }
     }
 }

@@ -1,23 +1,26 @@
-use Rattle.std.proofs.Common.{ℕ, length, Result, Ok, Err, arith, ap}
+use Rattle.std.proofs.Common.{ℕ, ◌-◌, ◌∙◌, length, Result, Ok, Err, arith, ap, subst}
 use Rattle.std.proofs.lemmas.Result.{err_from_is_err_and}
 use Rattle.std.specs.declared.io.Error.{Error}
 use Rattle.buffer_redux.specs.BufReader.{ReadsIntoBuf}
+use Rattle.buffer_redux.specs.Peek.{MakesRoomFor}
+use Rattle.buffer_redux.specs.Sparing.{Spared}
 use Rattle.buffer_redux.proofs.AheadSteps.{AsksOnce, ahead_dry, ahead_failed, turns_more, turns_none}
 use Rattle.buffer_redux.proofs.buf_reader.BufReader.read_ahead_slowly.Goals as goal
 use Rattle.buffer_redux.proofs.buf_reader.BufReader.read_ahead_slowly.Goals.{After-read_into_buf}
 
 asked : (g : _) (c : goal.After-read_into_buf g) (answer : Result ℕ Error)
-    → ReadsIntoBuf g.R.TellRead.remaining c.make_room.new.self answer c.read_into_buf.new.self
+    → ReadsIntoBuf g.R.TellRead.remaining c.make_room_for.new.self answer c.read_into_buf.new.self
+    → ((keep : ℕ) → Spared keep c.make_room_for.new.self c.read_into_buf.new.self)
     → AsksOnce g.R.TellRead.remaining g.P.ReaderPolicy.rules c.args.n c.args.self.now c.loop-self.self
-    c.make_room.new.self answer c.read_into_buf.new.self
-asked g c answer reads = record {
+    c.make_room_for.new.self answer c.read_into_buf.new.self
+asked g c answer reads spared = record {
   turns = c.loop-self.invariant.turns;
   few = omega (arith, c.len.ensures.value, c.loop-self-test.true, ap (λ x. length x.block.bytes) c.self.view_is);
   fits = c.requires.fits;
-  room = c.make_room.ensures.room;
-  in_order = c.make_room.ensures.in_order;
-  others = c.make_room.ensures.others;
+  room = subst (λ k. MakesRoomFor (c.args.n - k) c.loop-self.self c.make_room_for.new.self)
+      (c.len-in-loop-self.ensures.value ∙ ap (λ x. length x.block.bytes) c.self.view_is) c.make_room_for.ensures.makes;
   reads = reads;
+  spared = spared;
 }
 
 pub loop-self-init : goal.loop-self-init
@@ -27,7 +30,8 @@ pub loop-self-preserved : goal.loop-self-preserved
 loop-self-preserved g c =
     let at = (goal.at.loop-self-preserved g c).After-read_into_buf in record {
       turns = turns_more _ _ _ _ _ _ c.in_ok-read_into_buf.field-0 _
-          (asked g at (Ok c.in_ok-read_into_buf.field-0) c.in_ok-read_into_buf.ensures.reads) c.if-branch-eq0.false;
+          (asked g at (Ok c.in_ok-read_into_buf.field-0) c.in_ok-read_into_buf.ensures.reads
+          c.in_ok-read_into_buf.ensures.spared) c.if-branch-eq0.false;
     }
 
 pub returns-in_err-read_into_buf : goal.returns-in_err-read_into_buf
@@ -35,12 +39,14 @@ returns-in_err-read_into_buf g c =
     let at = (goal.at.returns-in_err-read_into_buf g c).After-read_into_buf in
     let p = err_from_is_err_and c.from_residual.result c.from_residual.ensures.1 in
     rw (p.1, p.2) (record {
-      ahead = ahead_failed _ _ _ _ _ _ _ _ (asked g at (Err _) c.in_err-read_into_buf.ensures.reads);
+      ahead = ahead_failed _ _ _ _ _ _ _ _ (asked g at (Err _) c.in_err-read_into_buf.ensures.reads
+          c.in_err-read_into_buf.ensures.spared);
     })
 
 pub returns-then-branch-eq0 : goal.returns-then-branch-eq0
 returns-then-branch-eq0 g c =
     let at = (goal.at.returns-then-branch-eq0 g c).After-read_into_buf in record {
       ahead = ahead_dry _ _ _ _ _ _ c.in_ok-read_into_buf.field-0 _ tt
-          (asked g at (Ok c.in_ok-read_into_buf.field-0) c.in_ok-read_into_buf.ensures.reads) c.if-branch-eq0.true;
+          (asked g at (Ok c.in_ok-read_into_buf.field-0) c.in_ok-read_into_buf.ensures.reads
+          c.in_ok-read_into_buf.ensures.spared) c.if-branch-eq0.true;
     }
