@@ -1,7 +1,8 @@
 use Rattle.std.specs.declared.io.Error.{Error}
 use Rattle.std.proofs.Common.{◌≡◌, ◌⊎◌, ℕ, List, [], ◌∷◌, Option, inl, inr, refl, subst}
 use Rattle.buffer_redux.specs.Buffered.{Buffered}
-use Rattle.buffer_redux.specs.BufWriter.{StoppedAlong, WritesAlong}
+use Rattle.buffer_redux.specs.BufWriter.{WritesAlong}
+use Rattle.kv.specs.Replies.{ReplyFailed}
 use Rattle.buffer_redux.specs.Policy.{std_write_rules}
 use Rattle.buffer_redux.specs.StreamLog.{StreamLog}
 use Rattle.buffer_redux.specs.WritesAlongLaws.{WritesAlong-joins, WritesAlong-none, WritesAlong-then}
@@ -10,20 +11,22 @@ use Rattle.line_reader.specs.CallsLaws.{LinesAlong-joins, LinesAlong-none}
 use Rattle.line_reader.specs.Lines.{IsLine}
 use Rattle.line_reader.specs.Lining.{Lining, rest}
 use Rattle.kv.specs.Exchange.{Converses, Exchange, joined}
-use Rattle.kv.specs.Serving.{EndedBy, Fails, HasQuit, IsSent, OnceSent, Server, Stops, Talked, server}
+use Rattle.kv.specs.Exchange.{HasQuit}
+use Rattle.kv.specs.Serving.{EndedBy, Fails, IsSent, OnceSent, Server, Stops, Talked, server}
 use Rattle.kv.specs.declared.serving.Served.{Served}
+use Rattle.kv.proofs.Keys.{same_of}
 
 module _ {S T P : Type 0} (remaining : S → Option (List ℕ)) (tells : T → StreamLog) (stretch : T → T → Type 0)
     (s : Server S T P) where
   -- what asks nobody where an end is buffered, after a flush where none is
   pub once_sent : (ready : Buffered T P) → WritesAlong tells stretch std_write_rules s.replies [] ready
-      → (¬ (IsLine (rest s.commands))) ⊎ IsSent ready → (Done : Server S T P → Type 0) → Done (server s.commands s.values ready)
+      → (¬ (IsLine (rest s.commands)) → ready ≡ s.replies) → (¬ (IsLine (rest s.commands))) ⊎ IsSent ready → (Done : Server S T P → Type 0) → Done (server s.commands s.values ready)
       → (t : Lining S) → (¬ (IsLine (rest s.commands)) → t.reader.log ≡ s.commands.reader.log)
       → OnceSent remaining tells stretch s Done t
-  once_sent ready sent (inl end) Done done t quiet =
-      record { ready = ready; sent = sent; waits = inl (quiet end); done = done }
-  once_sent ready sent (inr flushed) Done done t quiet =
-      record { ready = ready; sent = sent; waits = inr flushed; done = done }
+  once_sent ready sent idle (inl end) Done done t quiet =
+      record { ready = ready; sent = sent; idle = idle; waits = inl (quiet end); done = done }
+  once_sent ready sent idle (inr flushed) Done done t quiet =
+      record { ready = ready; sent = sent; idle = idle; waits = inr flushed; done = done }
 
   -- what asks nobody, and isn't flushed for
   pub at_once : ((u : T) → stretch u u) → (Done : Server S T P → Type 0) → Done (server s.commands s.values s.replies)
@@ -31,6 +34,7 @@ module _ {S T P : Type 0} (remaining : S → Option (List ℕ)) (tells : T → S
   at_once none Done done t same = record {
     ready = s.replies;
     sent = WritesAlong-none tells stretch std_write_rules none s.replies;
+    idle = λ _. refl;
     waits = inl same;
     done = done;
   }
@@ -47,9 +51,9 @@ module _ {S T P : Type 0} (remaining : S → Option (List ℕ)) (tells : T → S
   -- answered each
   pub Talked-converses : (exchanges : List Exchange) (t : Server S T P) → Talked remaining tells stretch s exchanges t
       → Converses s.values exchanges t.values
-  Talked-converses [] t same = subst (λ t. Converses s.values [] t.values) same (λ q. refl)
+  Talked-converses [] t same = subst (λ t. Converses s.values [] t.values) same (same_of s.values s.values refl)
   Talked-converses (x ∷ earlier) t (m, talked, goes, turn) =
-      (m.values, Talked-converses earlier m talked, turn.done.is, turn.done.answers)
+      (m.values, Talked-converses earlier m talked, goes, turn.done.is, turn.done.answers)
 
   -- and wrote just the replies
   pub Talked-along : ((u : T) → stretch u u) → ((u v w : T) → stretch u v → stretch v w → stretch u w)
@@ -67,7 +71,7 @@ module _ {S T P : Type 0} (remaining : S → Option (List ℕ)) (tells : T → S
       → (exchanges : List Exchange) (m t : Server S T P) → Talked remaining tells stretch s exchanges m → (e : Error)
       → OnceSent remaining tells stretch m (λ r. (Fails remaining tells stretch r e t × ¬ (HasQuit exchanges))
       ⊎ ((r.values ≡ t.values) × ((r.commands ≡ t.commands) ⊎ ((ended : Served) × EndedBy remaining ended exchanges
-      r.commands t.commands)) × StoppedAlong tells stretch std_write_rules r.replies e t.replies)) t.commands
+      r.commands t.commands)) × ReplyFailed tells stretch r.replies e t.replies)) t.commands
       → Stops remaining tells stretch s e t
   stops none joins exchanges m t talked e once = record {
     exchanges = exchanges;
@@ -77,4 +81,8 @@ module _ {S T P : Type 0} (remaining : S → Option (List ℕ)) (tells : T → S
     stops = once;
     along = WritesAlong-then tells stretch std_write_rules joins s.replies m.replies once.ready (joined (λ x. x.reply) exchanges)
         (Talked-along none joins exchanges m talked) once.sent;
+    again = λ is. elim once.done [
+      | inl turn ↦ turn.1
+      | inr flush ↦ absurd (flush.2.1 is)
+    ];
   }

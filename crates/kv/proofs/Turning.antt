@@ -1,8 +1,9 @@
-use Rattle.std.proofs.Common.{◌≡◌, ◌⊎◌, ℕ, List, [], ◌∷◌, Option, None, Some, Result, Ok, Err, MatchResult, IfOk, true, false, inl, inr, subst, refl, sym, ap}
+use Rattle.std.proofs.Common.{◌≡◌, ◌⊎◌, ℕ, List, [], ◌∷◌, Option, None, Some, Result, Ok, Err, MatchResult, IfOk, true, false, inl, inr, subst, refl, sym}
 use Rattle.std.specs.declared.io.Error.{Error}
 use Rattle.std.proofs.lemmas.Option.{none-some}
 use Rattle.std.specs.Prelude.{codes}
-use Rattle.buffer_redux.specs.BufWriter.{AllAlong, WritesAlong}
+use Rattle.buffer_redux.specs.BufWriter.{WritesAlong}
+use Rattle.kv.specs.Replies.{Replied}
 use Rattle.buffer_redux.specs.Policy.{std_write_rules}
 use Rattle.buffer_redux.specs.StreamLog.{StreamLog}
 use Rattle.line_reader.specs.Calls.{Event, LinesAlong, Trimmed}
@@ -11,6 +12,7 @@ use Rattle.line_reader.specs.Lining.{Lining, rest}
 use Rattle.line_reader.specs.LinesAlongLaws.{NextTrimmed-along}
 use Rattle.line_reader.specs.SkipLine.{NextTrimmed, SkipsLine}
 use Rattle.line_reader.specs.declared.error.LineError.TheVariants.{TooLong}
+use Rattle.kv.proofs.Keys.{same_of}
 use Rattle.kv.specs.Exchange.{Answers, IsTaken}
 use Rattle.kv.specs.Serving.{AnswersLong, Does, Fails, IsStep, Server, TookLine, Turns}
 use Rattle.kv.specs.declared.serving.Step.{Step}
@@ -37,7 +39,7 @@ module _ {S T P : Type 0} (remaining : S → Option (List ℕ)) (tells : T → S
             takes = (count, (m, meets, k));
             lines = took.2;
             is = took.1;
-            answers = (refl, λ q. ap (λ v. v q) (sym same));
+            answers = (refl, same_of s.values t.values same);
             along = along;
           },
           none-some _,
@@ -46,7 +48,7 @@ module _ {S T P : Type 0} (remaining : S → Option (List ℕ)) (tells : T → S
   long_turns m meets taken quiet same (Err e) (Ok count, k, (stopped, _)) =
       record {
         quiet = quiet (Ok count) k;
-        does = inr (None, (count, (m, meets, k)), _, (refl, λ q. ap (λ v. v q) (sym same)), stopped);
+        does = inr (None, (count, (m, meets, k)), _, (refl, same_of s.values t.values same), stopped);
       }
   long_turns m meets taken quiet same answer (Err e, k, (is, w)) = subst (λ a. Turns remaining tells stretch s a t) (sym is)
       (record { quiet = quiet (Err e) k; does = inl (inr (m, meets, k), same, w) })
@@ -67,7 +69,7 @@ module _ {S T P : Type 0} (remaining : S → Option (List ℕ)) (tells : T → S
 
     pub line_does : (answer : Result Step Error)
         → (reply : List ℕ) × Answers s.values (Some line) reply t.values
-        × AllAlong tells stretch std_write_rules s.replies reply answer t.replies
+        × Replied tells stretch s.replies reply answer t.replies
         → IfOk answer (IsStep (Some line))
         → MatchResult answer (λ step. Does remaining tells stretch s step t) (λ e. Fails remaining tells stretch s e t)
     line_does (Ok Went) answered step = (_, took answered, step)

@@ -1,4 +1,5 @@
-pub mod Protocol
-pub mod Stored
 pub mod Exchange
+pub mod Protocol
+pub mod Replies
 pub mod Serving
+pub mod Stored

@@ -1,8 +1,9 @@
 -- What a server does.
-use Rattle.std.specs.Prelude.{◌≡◌, ◌⊎◌, ℕ, List, [], ◌∷◌, Option, None, Some, Result, Ok, Err, IfOk, MatchResult, true, codes}
+use Rattle.std.specs.Prelude.{◌≡◌, ◌⊎◌, ℕ, List, [], ◌∷◌, Option, None, Some, Result, Ok, Err, IfOk, MatchResult, true, false, codes}
 use Rattle.std.specs.declared.io.Error.{Error}
 use Rattle.buffer_redux.specs.Buffered.{Buffered}
-use Rattle.buffer_redux.specs.BufWriter.{AllAlong, WritesAlong, FlushedAlong, StoppedAlong}
+use Rattle.buffer_redux.specs.BufWriter.{WritesAlong, FlushedAlong}
+use Rattle.buffer_redux.specs.Faults.{IsInterrupt}
 use Rattle.buffer_redux.specs.Policy.{std_write_rules}
 use Rattle.buffer_redux.specs.StreamLog.{StreamLog}
 use Rattle.line_reader.specs.declared.error.LineError.TheVariants.{TooLong, Io}
@@ -10,8 +11,9 @@ use Rattle.line_reader.specs.Calls.{LinesAlong}
 use Rattle.line_reader.specs.Lines.{IsLine}
 use Rattle.line_reader.specs.Lining.{Lining, rest}
 use Rattle.line_reader.specs.SkipLine.{NextTrimmed, SkipsLine}
-use Rattle.kv.specs.Exchange.{Answers, Exchange, IsTaken, joined}
+use Rattle.kv.specs.Exchange.{Answers, Exchange, HasQuit, IsMany, IsTaken, joined}
 use Rattle.kv.specs.Protocol.{quit_line}
+use Rattle.kv.specs.Replies.{Replied, ReplyFailed}
 use Rattle.kv.specs.Stored.{Values}
 use Rattle.kv.specs.declared.serving.Step.{Step}
 use Rattle.kv.specs.declared.serving.Step.TheVariants as step
@@ -37,11 +39,6 @@ IsStep line step.Went = ¬ (line ≡ Some quit_line)
 IsStep line step.Quit = line ≡ Some quit_line
 IsStep line step.End = ⊥
 
--- the latest was `QUIT`
-abbrev pub HasQuit : List Exchange → Type 0
-HasQuit [] = ⊥
-HasQuit (x ∷ earlier) = IsStep x.line step.Quit
-
 module _ {S : Type 0} (remaining : S → Option (List ℕ)) where
   -- a line that is too long stands in front, or one was being skipped; and that is skipped, or fails
   abbrev pub SkipsLong : Lining S → Result ℕ Error → Lining S → Type 0
@@ -57,8 +54,9 @@ module _ {S : Type 0} (remaining : S → Option (List ℕ)) where
   -- what became of the reader at the end
   abbrev pub EndedBy : Served → List Exchange → Lining S → Lining S → Type 0
   EndedBy served.Quit exchanges s t = (s ≡ t) × HasQuit exchanges
-  EndedBy served.End exchanges s t = NextTrimmed remaining s (Ok None) t × ¬ (HasQuit exchanges)
-  EndedBy served.Many exchanges s t = (s ≡ t) × ¬ (HasQuit exchanges)
+  EndedBy served.End exchanges s t =
+      NextTrimmed remaining s (Ok None) t × ¬ (HasQuit exchanges) × (s.skipping ≡ false)
+  EndedBy served.Many exchanges s t = (s ≡ t) × ¬ (HasQuit exchanges) × IsMany exchanges
 
 module _ {S T P : Type 0} (remaining : S → Option (List ℕ)) (tells : T → StreamLog) (stretch : T → T → Type 0) where
   -- a line was taken, of which no byte is lost, and answered
@@ -73,12 +71,13 @@ module _ {S T P : Type 0} (remaining : S → Option (List ℕ)) (tells : T → S
   abbrev pub Does : Server S T P → Step → Server S T P → Type 0
   Does s step.End t =
       NextTrimmed remaining s.commands (Ok None) t.commands × (s.values ≡ t.values) × (s.replies ≡ t.replies)
+      × (s.commands.skipping ≡ false)
   Does s done t = (x : Exchange) × TookLine s x t × IsStep x.line done
 
   -- what is left of a line that is too long was skipped, and that replied; or one of the two failed
   abbrev pub AnswersLong : Lining S → Buffered T P → Result Step Error → Lining S → Buffered T P → Type 0
   AnswersLong s w answer t v = (skipped : Result ℕ Error) × SkipsLine remaining s skipped t × MatchResult skipped
-      (λ _. AllAlong tells stretch std_write_rules w (codes "ERROR long line\n") answer v
+      (λ _. Replied tells stretch w (codes "ERROR long line\n") answer v
       × IfOk answer (λ done. done ≡ step.Went))
       (λ e. (answer ≡ Err e) × (w ≡ v))
 
@@ -89,17 +88,19 @@ module _ {S T P : Type 0} (remaining : S → Option (List ℕ)) (tells : T → S
       × (s.values ≡ t.values) × (s.replies ≡ t.replies))
       ⊎ ((line : Option (List ℕ)) × Takes remaining s.commands line t.commands
       × (reply : List ℕ) × Answers s.values line reply t.values
-      × StoppedAlong tells stretch std_write_rules s.replies e t.replies)
+      × ReplyFailed tells stretch s.replies e t.replies)
 
   -- a turn: it asks for no command where an end of a line is buffered
   pub record Turns (s : Server S T P) (answer : Result Step Error) (t : Server S T P) : Type 0 where
     pub quiet : ¬ (IsLine (rest s.commands)) → t.commands.reader.log ≡ s.commands.reader.log
     pub does : MatchResult answer (λ done. Does s done t) (λ e. Fails s e t)
 
-  -- replies were flushed where need be, and then this was done: the stream wasn't asked for it, or all replies had been sent
+  -- replies were flushed where no end of a line was buffered, and else nothing was sent, and then this was done: the stream
+  -- wasn't asked for it, or all replies had been sent
   pub record OnceSent (s : Server S T P) (Done : Server S T P → Type 0) (t : Lining S) : Type 0 where
     pub ready : Buffered T P
     pub sent : WritesAlong tells stretch std_write_rules s.replies [] ready
+    pub idle : ¬ (IsLine (rest s.commands)) → ready ≡ s.replies
     pub waits : (t.reader.log ≡ s.commands.reader.log) ⊎ IsSent ready
     pub done : Done (server s.commands s.values ready)
 
@@ -124,7 +125,8 @@ module _ {S T P : Type 0} (remaining : S → Option (List ℕ)) (tells : T → S
     pub lines : LinesAlong remaining [] s.commands (joined (λ x. x.taken) ends.exchanges) [] ends.last.commands
     pub all : FlushedAlong tells stretch std_write_rules s.replies (joined (λ x. x.reply) ends.exchanges) t.replies
 
-  -- serving failed: exchanges, and then a turn failed, or a flush of their replies
+  -- serving failed: exchanges, and then a turn failed, or a flush of their replies. Where it was interrupted, no `QUIT` was
+  -- taken, so it can go on
   pub record Stops (s : Server S T P) (e : Error) (t : Server S T P) : Type 0 where
     pub exchanges : List Exchange
     pub last : Server S T P
@@ -132,5 +134,6 @@ module _ {S T P : Type 0} (remaining : S → Option (List ℕ)) (tells : T → S
     pub lines : LinesAlong remaining [] s.commands (joined (λ x. x.taken) exchanges) [] last.commands
     pub stops : OnceSent last (λ r. (Fails r e t × ¬ (HasQuit exchanges)) ⊎ ((r.values ≡ t.values)
         × ((r.commands ≡ t.commands) ⊎ ((ended : Served) × EndedBy remaining ended exchanges r.commands t.commands))
-        × StoppedAlong tells stretch std_write_rules r.replies e t.replies)) t.commands
+        × ReplyFailed tells stretch r.replies e t.replies)) t.commands
     pub along : WritesAlong tells stretch std_write_rules s.replies (joined (λ x. x.reply) exchanges) stops.ready
+    pub again : IsInterrupt e → ¬ (HasQuit exchanges)

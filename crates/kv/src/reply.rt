@@ -1,12 +1,11 @@
 //! A command is done, and its reply written.
 ghost use Rattle.std.specs.Prelude.{◌≡◌, ◌++◌, List, ℕ, codes};
-ghost use Rattle.buffer_redux.specs.BufWriter.{AllAlong};
-ghost use Rattle.buffer_redux.specs.Policy.{std_write_rules};
 ghost use Rattle.kv.specs.Exchange.{Acts, refusal_line};
-ghost use Rattle.kv.specs.Stored.{value_in};
+ghost use Rattle.kv.specs.Replies.{Replied};
+ghost use Rattle.kv.specs.Stored.{held};
 
 use crate::command::{Command, Refusal};
-use crate::store::Store;
+use crate::store::{Full, Store};
 use buffer_redux::BufWriter;
 use buffer_redux::tell::TellWrite;
 use std::alloc::Global;
@@ -20,13 +19,14 @@ pub fn act<W: TellWrite>(
     store: &mut Store,
     writer: &mut BufWriter<W>,
 ) -> io::Result<()>
-    ensures { (reply : List ℕ) × Acts (value_in store.old.map) command.entry reply (value_in store.new.map)
-        × AllAlong W.log W.stretch std_write_rules writer.old reply result writer.new }
+    ensures { (reply : List ℕ) × Acts (held store.old) command.entry reply (held store.new)
+        × Replied W.log W.stretch writer.old reply result writer.new }
 {
     match command {
         Ok(Command::Set(key, value)) => match store.set(alloc, key, value) {
             Ok(()) => put(writer, b"OK\n"),
-            Err(_) => put(writer, b"ERROR full\n"),
+            Err(Full::Entries) => put(writer, b"ERROR full\n"),
+            Err(Full::Memory) => put(writer, b"ERROR memory\n"),
         },
         Ok(Command::Get(key)) => match store.get(key) {
             Some(value) => write_value(writer, value),
@@ -45,7 +45,7 @@ pub fn act<W: TellWrite>(
 }
 
 fn write_value<W: TellWrite>(writer: &mut BufWriter<W>, value: &[u8]) -> io::Result<()>
-    ensures { AllAlong W.log W.stretch std_write_rules writer.old
+    ensures { Replied W.log W.stretch writer.old
         (codes "VALUE " ++ (value.now ++ codes "\n")) result writer.new }
 {
     put(writer, b"VALUE ")?;
@@ -66,7 +66,7 @@ fn text_of(refusal: Refusal) -> &'static [u8]
 
 /// Writes all of these bytes. An error is the stream's.
 pub fn put<W: TellWrite>(writer: &mut BufWriter<W>, bytes: &[u8]) -> io::Result<()>
-    ensures { AllAlong W.log W.stretch std_write_rules writer.old bytes.now result writer.new }
+    ensures { Replied W.log W.stretch writer.old bytes.now result writer.new }
 {
     writer.write_all(bytes)
 }

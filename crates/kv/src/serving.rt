@@ -1,23 +1,22 @@
 //! Lines are taken, one after another, and answered.
-ghost use Rattle.std.specs.Prelude.{◌≡◌, ◌+◌, ◌++◌, ◌∷◌, ◌⊎◌, ℕ, List, [], Some, take, drop, OnOk, IfOk, IfErr, IfSome, IsTrue};
+ghost use Rattle.std.specs.Prelude.{◌≡◌, ◌+◌, ◌++◌, ◌∷◌, ◌⊎◌, ℕ, List, [], Some, take, drop, OnOk, IfOk, IfErr, IfNone, IfSome, IsTrue, false};
 ghost use Rattle.line_reader.specs.Lines.{IsLine, newline};
 ghost use Rattle.line_reader.specs.Lining.{rest};
-ghost use Rattle.buffer_redux.specs.BufWriter.{AllAlong};
-ghost use Rattle.buffer_redux.specs.Policy.{std_write_rules};
 ghost use Rattle.kv.specs.Exchange.{Answers};
 ghost use Rattle.kv.specs.Serving.{AnswersLong, Ends, IsSent, IsStep, Serves, Stops, Turns, server};
-ghost use Rattle.kv.specs.Stored.{value_in};
+ghost use Rattle.kv.specs.Replies.{FlushesAll, Replied};
+ghost use Rattle.kv.specs.Stored.{held};
 
 use crate::command::{Command, parse};
 use crate::reply::{act, put};
 use crate::store::Store;
-use buffer_redux::BufWriter;
 use buffer_redux::tell::{TellRead, TellWrite};
+use buffer_redux::{BufWriter, INTERRUPT_LIMIT};
 use line_reader::{LineError, LineReader};
 use memchr::memchr;
 use std::alloc::Global;
 use std::io;
-use std::io::Write;
+use std::io::{ErrorKind, Write};
 
 /// What one turn was.
 #[derive(Clone, Copy)]
@@ -42,7 +41,8 @@ pub enum Served {
 }
 
 /// Reads commands and writes their replies, up to `QUIT` or the end of the stream. Replies are flushed where no further
-/// line is buffered whole. After an `Err` of the stream of commands it may be called again, and goes on where it was.
+/// line is buffered whole. After an `Err` of the stream of commands, as each `Interrupted` is, it may be called again, and
+/// goes on where it was: no `QUIT` was taken.
 pub fn serve<R: TellRead, W: TellWrite>(
     alloc: Global,
     reader: &mut LineReader<R>,
@@ -50,12 +50,12 @@ pub fn serve<R: TellRead, W: TellWrite>(
     store: &mut Store,
 ) -> io::Result<Served>
     ensures failed { IfErr result (λ e. Stops R.remaining W.log W.stretch
-        (server reader.old (value_in store.old.map) writer.old) e (server reader.new (value_in store.new.map) writer.new)) }
+        (server reader.old (held store.old) writer.old) e (server reader.new (held store.new) writer.new)) }
     ensures served { IfOk result (λ ended. Serves R.remaining W.log W.stretch
-        (server reader.old (value_in store.old.map) writer.old) ended (server reader.new (value_in store.new.map) writer.new)) }
+        (server reader.old (held store.old) writer.old) ended (server reader.new (held store.new) writer.new)) }
 {
     let ended = answer_lines(alloc, reader, writer, store)?;
-    writer.flush()?;
+    flush_all(writer)?;
     Ok(ended)
 }
 
@@ -67,9 +67,9 @@ fn answer_lines<R: TellRead, W: TellWrite>(
     store: &mut Store,
 ) -> io::Result<Served>
     ensures failed { IfErr result (λ e. Stops R.remaining W.log W.stretch
-        (server reader.old (value_in store.old.map) writer.old) e (server reader.new (value_in store.new.map) writer.new)) }
+        (server reader.old (held store.old) writer.old) e (server reader.new (held store.new) writer.new)) }
     ensures ended { IfOk result (λ ended. Ends R.remaining W.log W.stretch
-        (server reader.old (value_in store.old.map) writer.old) ended (server reader.new (value_in store.new.map) writer.new)) }
+        (server reader.old (held store.old) writer.old) ended (server reader.new (held store.new) writer.new)) }
 {
     for _turn in 0..u64::MAX {
         make_ready(reader, writer)?;
@@ -87,13 +87,32 @@ fn make_ready<R: TellRead, W: TellWrite>(
     reader: &LineReader<R>,
     writer: &mut BufWriter<W>,
 ) -> io::Result<()>
-    ensures along { AllAlong W.log W.stretch std_write_rules writer.old [] result writer.new }
+    ensures along { Replied W.log W.stretch writer.old [] result writer.new }
     ensures ready { OnOk result ((¬ (IsLine (rest reader.now))) ⊎ IsSent writer.new) }
+    ensures idle { ¬ (IsLine (rest reader.now)) → writer.new ≡ writer.old }
 {
     if has_end(reader) {
         return Ok(());
     }
-    writer.flush()
+    flush_all(writer)
+}
+
+// Flushes, and again where that was interrupted, `INTERRUPT_LIMIT` times at the most; then it is `TimedOut`. So an
+// `Interrupted` that `serve` returns is of the stream of commands.
+fn flush_all<W: TellWrite>(writer: &mut BufWriter<W>) -> io::Result<()>
+    ensures { FlushesAll W.log W.stretch writer.old result writer.new }
+{
+    for _ in 0..INTERRUPT_LIMIT {
+        match writer.flush() {
+            Ok(()) => return Ok(()),
+            Err(e) => {
+                if e.kind() != ErrorKind::Interrupted {
+                    return Err(e);
+                }
+            }
+        }
+    }
+    Err(io::Error::from(ErrorKind::TimedOut))
 }
 
 // Takes one line and answers it.
@@ -103,8 +122,8 @@ fn turn<R: TellRead, W: TellWrite>(
     writer: &mut BufWriter<W>,
     store: &mut Store,
 ) -> io::Result<Step>
-    ensures { Turns R.remaining W.log W.stretch (server reader.old (value_in store.old.map) writer.old) result
-        (server reader.new (value_in store.new.map) writer.new) }
+    ensures { Turns R.remaining W.log W.stretch (server reader.old (held store.old) writer.old) result
+        (server reader.new (held store.new) writer.new) }
 {
     if reader.is_skipping() {
         return answer_long(reader, writer);
@@ -124,8 +143,8 @@ fn answer<W: TellWrite>(
     store: &mut Store,
     writer: &mut BufWriter<W>,
 ) -> io::Result<Step>
-    ensures answered { (reply : List ℕ) × Answers (value_in store.old.map) (Some line.now) reply (value_in store.new.map)
-        × AllAlong W.log W.stretch std_write_rules writer.old reply result writer.new }
+    ensures answered { (reply : List ℕ) × Answers (held store.old) (Some line.now) reply (held store.new)
+        × Replied W.log W.stretch writer.old reply result writer.new }
     ensures step { IfOk result (IsStep (Some line.now)) }
 {
     let command = parse(line);
@@ -150,7 +169,8 @@ fn answer_long<R: TellRead, W: TellWrite>(
 
 // Whether an end of a line is buffered.
 fn has_end<R: TellRead>(reader: &LineReader<R>) -> bool
-    ensures { IsTrue result → ¬ (IsLine (rest reader.now)) }
+    ensures end { IsTrue result → ¬ (IsLine (rest reader.now)) }
+    ensures none { result ≡ false → IsLine (rest reader.now) }
 {
     match first_end(reader.rest()) {
         Some(_) => true,
@@ -159,7 +179,8 @@ fn has_end<R: TellRead>(reader: &LineReader<R>) -> bool
 }
 
 fn first_end(bytes: &[u8]) -> Option<usize>
-    ensures { IfSome result (λ at. take at bytes.now ++ newline ∷ drop (1 + at) bytes.now ≡ bytes.now) }
+    ensures end { IfSome result (λ at. take at bytes.now ++ newline ∷ drop (1 + at) bytes.now ≡ bytes.now) }
+    ensures none { IfNone result (IsLine bytes.now) }
 {
     match memchr(b'\n', bytes) {
         Some(at) => Some(at),

@@ -2,7 +2,7 @@
 
 ghost use Rattle.std.specs.Prelude.{◌≡◌, ◌≤◌, ◌<◌, ◌↔◌, List, ℕ, None, Some, Err, IsTrue, IsSome, OnOk, OnErr, IfErr, IfSome, IfNone};
 ghost use Rattle.std.specs.HashMap.{hash_map_len};
-ghost use Rattle.kv.specs.Stored.{Puts, Same, value_in};
+ghost use Rattle.kv.specs.Stored.{HasRoom, HoldsNone, IsFull, Puts, Same, held, value_in};
 
 use std::alloc::Global;
 use std::collections::HashMap;
@@ -26,7 +26,7 @@ pub enum Full {
 impl Store {
     /// An empty store of at most so many entries.
     pub fn new(alloc: Global, most: usize) -> Store
-        ensures { (q : List ℕ) → value_in result.map q ≡ None }
+        ensures { HoldsNone most (held result) }
     {
         Store {
             map: HashMap::new(alloc),
@@ -47,10 +47,10 @@ impl Store {
 
     /// Puts a value at a key. An `Err` changes nothing.
     pub fn set(&mut self, alloc: Global, key: &[u8], value: &[u8]) -> Result<(), Full>
-        ensures put { OnOk result (Puts key.now (Some value.now) (value_in self.old.map) (value_in self.new.map)) }
-        ensures same { OnErr result (Same (value_in self.old.map) (value_in self.new.map)) }
-        ensures full { result ≡ Err Full.Entries → (self.old.most ≤ hash_map_len self.old.map)
-            × (value_in self.old.map key.now ≡ None) }
+        ensures put { OnOk result (Puts key.now (Some value.now) (held self.old) (held self.new)) }
+        ensures room { OnOk result (HasRoom key.now (held self.old)) }
+        ensures same { OnErr result (Same (held self.old) (held self.new)) }
+        ensures full { result ≡ Err Full.Entries → IsFull key.now (held self.old) }
     {
         if self.map.len() >= self.most && !self.map.contains_key(key) {
             return Err(Full::Entries);
@@ -70,7 +70,7 @@ impl Store {
     /// Takes a key out, and says whether it was there.
     pub fn del(&mut self, key: &[u8]) -> bool
         ensures was { IsTrue result ↔ IsSome (value_in self.old.map key.now) }
-        ensures put { Puts key.now None (value_in self.old.map) (value_in self.new.map) }
+        ensures put { Puts key.now None (held self.old) (held self.new) }
     {
         self.map.remove(key).is_some()
     }

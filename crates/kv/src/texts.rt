@@ -1,7 +1,7 @@
 //! A whole text of commands.
 ghost use Rattle.std.specs.Prelude.{IfOk};
 ghost use Rattle.kv.specs.Exchange.{RepliesTo};
-ghost use Rattle.kv.specs.Stored.{value_in};
+ghost use Rattle.kv.specs.Stored.{held};
 
 use crate::command::MAX_LINE;
 use crate::serving::serve;
@@ -14,7 +14,7 @@ use std::io;
 
 /// The replies to a text of commands.
 pub fn serve_text(alloc: Global, text: &[u8], store: &mut Store) -> io::Result<Vec<u8>>
-    ensures { IfOk result (λ out. RepliesTo text.now (value_in store.old.map) out.items (value_in store.new.map)) }
+    ensures { IfOk result (λ out. RepliesTo text.now (held store.old) out.items (held store.new)) }
 {
     let mut reader = LineReader::new(alloc, Told::new(text), MAX_LINE)?;
     let mut writer = BufWriter::new(alloc, Told::new(Vec::new(alloc)))?;

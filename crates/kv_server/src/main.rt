@@ -13,8 +13,9 @@ fn main(rt: HostRuntime) -> io::Result<()> {
     let mut reader = LineReader::new(alloc, Told::new(rt.stdin()), MAX_LINE)?;
     let mut writer = BufWriter::new(alloc, Told::new(rt.stdout()))?;
     let mut store = Store::new(alloc, 1000);
-    // Where a read was interrupted the next call goes on, also in the middle of a line that is too long.
-    for _call in 0..64 {
+    // Where a read was interrupted the next call goes on, also in the middle of a line that is too long, however often: no call
+    // says how many lines were answered since. Replies are never interrupted, so none goes on behind `QUIT`.
+    for _call in 0..u64::MAX {
         match serve(alloc, &mut reader, &mut writer, &mut store) {
             Ok(_ended) => return Ok(()),
             Err(e) if e.kind() == ErrorKind::Interrupted => {}

@@ -22,7 +22,7 @@ pub returns-in-Ok-None : goal.returns-in-Ok-None
 returns-in-Ok-None g c =
     let open' = sym c.is_skipping.ensures.value ∙ c.if-is_skipping.false in
     let next = NextTrimmed-none _ _ _ _ _ c.in-Ok-None.is c.in-Ok-None.field-0-is c.next_trimmed.follows.holds-at-none in
-    record { quiet = λ end. NextTrimmed-quiet _ _ _ _ (HasLine-end _ open' end) next; does = (next, refl, refl) }
+    record { quiet = λ end. NextTrimmed-quiet _ _ _ _ (HasLine-end _ open' end) next; does = (next, refl, refl, open') }
 
 pub returns-in-Err-Io : goal.returns-in-Err-Io
 returns-in-Err-Io g c =
