@@ -1,7 +1,8 @@
 -- One step of a loop that plays calls.
 use Rattle.std.proofs.Common.{◌≡◌, ℕ, ◌+◌, ◌<◌, List, [], ◌∷◌, ◌++◌, length, map, take, drop, Option, sym, ap, ◌∙◌, get_or}
 use Rattle.std.proofs.lemmas.List.{map-append, take_more, take-append-drop}
-use Rattle.line_reader.specs.Calls.{Call, CallsGo}
+use Rattle.std.specs.Prelude.{◌≤◌, ◌⊎◌}
+use Rattle.line_reader.specs.Calls.{Call, CallsGo, call_lines}
 use Rattle.line_reader.specs.CallsWentLaws.{CallsGo-more}
 use Rattle.line_reader.specs.Lining.{Lining}
 use Rattle.line_reader.specs.Played.{CallMade, CallsStopped, asked}
@@ -19,12 +20,14 @@ module _ {S : Type 0} (remaining : S → Option (List ℕ)) (s m t : Lining S) (
   pub run_more : CallsGo remaining s (calls ++ call ∷ []) t
   run_more = CallsGo-more remaining s calls m call t run made.goes
 
-  pub stopped : (old new : List Call) → new ≡ old ++ calls → CallsStopped remaining s asks old new t
-  stopped old new gained = record {
+  pub stopped : (room : ℕ) (old new : List Call) → new ≡ old ++ calls
+      → (0 < length (call_lines call)) ⊎ (room ≤ length new) → CallsStopped remaining s asks room old new t
+  stopped room old new gained wanted = record {
     calls = calls;
     gained = gained;
     lost = call;
     more = drop (i + 1) asks;
     front = sym (take-append-drop (i + 1) asks) ∙ ap (λ l. l ++ drop (i + 1) asks) (sym asked_more);
+    wanted = wanted;
     run = run_more;
   }

@@ -1,6 +1,6 @@
 -- Calls of a reader of lines as they were asked for, and what was recorded of them.
-use Rattle.std.specs.Prelude.{◌≡◌, ℕ, List, [], ◌∷◌, ◌++◌, map, Option}
-use Rattle.line_reader.specs.Calls.{Call, CallGoes, CallsGo, Nexts, NextsTrimmed, Skips}
+use Rattle.std.specs.Prelude.{◌≡◌, ℕ, ◌<◌, ◌≤◌, ◌⊎◌, List, [], ◌∷◌, ◌++◌, length, map, Option}
+use Rattle.line_reader.specs.Calls.{Call, CallGoes, CallsGo, Nexts, NextsTrimmed, Skips, call_lines}
 use Rattle.line_reader.specs.Lining.{Lining}
 use Rattle.codec.specs.Runs.{kept_answer}
 use Rattle.line_reader.specs.declared.laws.calls.Ask.{Ask}
@@ -34,12 +34,14 @@ pub record CallsPlayed {S : Type 0} (remaining : S → Option (List ℕ)) (s : L
   pub all : map asked calls ≡ asks
   pub run : CallsGo remaining s calls t
 
--- the first of these calls were made, and the record gained all but the last, of which the answer is lost
-pub record CallsStopped {S : Type 0} (remaining : S → Option (List ℕ)) (s : Lining S) (asks : List Ask)
+-- the first of these calls were made, and the record gained all but the last, of which the answer is lost. Memory was wanted
+-- for the line that it handed out, or for the record, which had room for so many
+pub record CallsStopped {S : Type 0} (remaining : S → Option (List ℕ)) (s : Lining S) (asks : List Ask) (room : ℕ)
     (old new : List Call) (t : Lining S) : Type 0 where
   pub calls : List Call
   pub gained : new ≡ old ++ calls
   pub lost : Call
   pub more : List Ask
   pub front : asks ≡ map asked (calls ++ lost ∷ []) ++ more
+  pub wanted : (0 < length (call_lines lost)) ⊎ (room ≤ length new)
   pub run : CallsGo remaining s (calls ++ lost ∷ []) t

@@ -1,6 +1,6 @@
 //! Calls of all three kinds, one after another, each with its answer.
-ghost use Rattle.std.specs.Prelude.{map, IfOk, OnOk, OnErr};
-ghost use Rattle.line_reader.specs.Calls.{Call};
+ghost use Rattle.std.specs.Prelude.{◌<◌, length, map, IfOk, OnOk, OnErr, vec_capacity};
+ghost use Rattle.line_reader.specs.Calls.{Call, call_lines};
 ghost use Rattle.line_reader.specs.Played.{CallMade, CallsPlayed, CallsStopped, kept_call};
 ghost use Rattle.codec.specs.Runs.{NextLost, kept_answer};
 ghost use Rattle.line_reader.specs.SkipLine.{NextTrimmed};
@@ -31,7 +31,8 @@ pub enum Played {
 /// Makes these calls, whatever they return, and adds each with its answer to `played`. What was given, cut at the ends of its
 /// lines, is the lines that were handed out and those that were skipped, then what is left (`whole_lines`).
 ///
-/// An `Err` is refused memory: then the answer of the last call that was made is lost.
+/// An `Err` is refused memory, for a line that was handed out, or where the record is full: then the answer of the last call
+/// that was made is lost.
 pub fn play_calls<R: TellRead>(
     alloc: Global,
     reader: &mut LineReader<R>,
@@ -40,7 +41,7 @@ pub fn play_calls<R: TellRead>(
 ) -> Result<(), AllocError>
     ensures played { OnOk result (CallsPlayed R.remaining reader.old asks.now
         (map kept_call played.old.items) (map kept_call played.new.items) reader.new) }
-    ensures stopped { OnErr result (CallsStopped R.remaining reader.old asks.now
+    ensures stopped { OnErr result (CallsStopped R.remaining reader.old asks.now (vec_capacity played.old)
         (map kept_call played.old.items) (map kept_call played.new.items) reader.new) }
 {
     for ask in asks {
@@ -57,7 +58,8 @@ fn play_one<R: TellRead>(
     ask: Ask,
 ) -> Result<Played, AllocError>
     ensures made { IfOk result (λ call. CallMade R.remaining reader.old ask (kept_call call) reader.new) }
-    ensures lost { OnErr result ((call : Call) × CallMade R.remaining reader.old ask call reader.new) }
+    ensures lost { OnErr result ((call : Call) × CallMade R.remaining reader.old ask call reader.new
+        × (0 < length (call_lines call))) }
 {
     match ask {
         Ask::Next => Ok(Played::Next(reader.next_copied(alloc)?)),
