@@ -10,3 +10,4 @@ pub mod Searching
 pub mod Stepping
 pub mod Taking
 pub mod Writing
+pub mod Handover

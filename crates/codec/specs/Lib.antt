@@ -30,6 +30,7 @@ pub mod RunsLaws
 pub mod Scanning
 pub mod ScanningLaws
 pub mod Steps
+pub mod StreamWent
 pub mod TextHeads
 pub mod TextHeadsLaws
 pub mod TextHeadsOut

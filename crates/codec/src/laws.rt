@@ -1,12 +1,13 @@
 //! Laws, each as the contract of a function over the calls.
-ghost use Rattle.std.specs.Prelude.{◌≡◌, ℕ, List, [], ◌∷◌, ◌++◌, None, Ok};
+ghost use Rattle.std.specs.Prelude.{◌≡◌, ℕ, List, [], ◌∷◌, ◌++◌, IfOk, None, Ok};
 ghost use Rattle.buffer_redux.specs.Sparing.{MovedAtMostGiven};
 ghost use Rattle.codec.specs.Encoding.{all_coded};
 ghost use Rattle.codec.specs.KnownPieces.{HasLeft, NextKnown};
 ghost use Rattle.codec.specs.NextPiece.{NextAnswer, NextPiece, PiecesWent};
 ghost use Rattle.codec.specs.Outgoing.{Outgoing, IsUnused, unsent};
-ghost use Rattle.codec.specs.Piecing.{Piecing, IsFresh, rest};
+ghost use Rattle.codec.specs.Piecing.{Piecing, IsFresh, left_of, rest};
 ghost use Rattle.codec.specs.Runs.{Cuts, NextRuns, NoneTold, RunWent, all_handed};
+ghost use Rattle.codec.specs.StreamWent.{StreamWent};
 ghost use Rattle.codec.specs.Texts.{HasPieces, Splits};
 ghost use Rattle.codec.specs.WritePiece.{PiecesTaken};
 
@@ -20,9 +21,11 @@ use crate::encoder::Encoder;
 use crate::reader::PieceReader;
 use crate::writer::PieceWriter;
 use buffer_redux::tell::{TellRead, TellWrite};
+use buffer_redux::{Buffer, MakeError};
 pub use known::{KnownReader, read_each};
 pub use lists::round_trip;
 pub use runs::{PayloadReader, PayloadWriter, play_next, play_write, write_each};
+use std::alloc::Global;
 
 /// A text is pieces in one way, and so is a stream of pieces before what is left.
 pub fn one_reading<D: Decoder>(decoder: &D)
@@ -72,3 +75,19 @@ pub fn next_known<R: TellRead, D: Decoder>(reader: &PieceReader<R, D>)
         → HasLeft R.remaining (D.grammar s.decoder) s payloads
         → NextKnown R.remaining (D.grammar s.decoder) answer payloads reader.now }
 {}
+
+/// A reader that is taken apart and made again with another decoder has left what the first had. So the pieces of both, one
+/// after another, are the front of what was left at first: the second decoder's begin just where the first one's ended.
+pub fn handed_over<R: TellRead, D: Decoder, E: Decoder>(
+    alloc: Global,
+    reader: PieceReader<R, D>,
+    decoder: E,
+) -> Result<PieceReader<R, E>, MakeError<(Buffer, R, E)>>
+    ensures left { IfOk result (λ next. left_of next ≡ left_of reader) }
+    ensures went { IfOk result (λ next. (most more : ℕ) (first : Piecing R D) (last : Piecing R E) (bytes later : List ℕ)
+        → PiecesWent R.remaining most first bytes reader → PiecesWent R.remaining more next later last
+        → StreamWent R.remaining (left_of first) (bytes ++ later) (left_of last)) }
+{
+    let (inner, buffer) = reader.into_inner_with_buffer();
+    PieceReader::with_buffer(alloc, buffer, inner, decoder)
+}

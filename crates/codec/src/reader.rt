@@ -1,19 +1,20 @@
 //! The reader of pieces.
-ghost use Rattle.std.specs.Prelude.{◌≡◌, ℕ, ◌+◌, ◌<◌, ◌≤◌, ◌^◌, List, [], ◌++◌, length, Ok, Err, Some, None, ◌↔◌, IfOk, IfErr, IfSome, IsTrue, true};
+ghost use Rattle.std.specs.Prelude.{◌≡◌, ℕ, ◌+◌, ◌*◌, ◌<◌, ◌≤◌, ◌^◌, List, [], ◌++◌, length, Ok, Err, Some, None, ◌↔◌, IfOk, IfErr, IfSome, IsOk, IsTrue, true};
 ghost use Rattle.std.specs.Bool.{OnTrue};
 ghost use Rattle.std.specs.Borrow.{Lends, sem};
+ghost use Rattle.buffer_redux.specs.Block.{Plain};
 ghost use Rattle.buffer_redux.specs.GrowError.{FitsWithin};
 ghost use Rattle.buffer_redux.specs.MakeError.{growth};
 ghost use Rattle.codec.specs.contracts.reader.PieceReader.{the_row};
 ghost use Rattle.codec.specs.declared.error.NextError.TheVariants.{Wrong};
 ghost use Rattle.codec.specs.Decoding.{bytes_at};
 ghost use Rattle.codec.specs.Grammar.{Begins, Lacks};
-ghost use Rattle.codec.specs.Piecing.{IsPiecing, IsFresh, IsSettled, Skips, TakenApart, rest, room_for, with_stream};
+ghost use Rattle.codec.specs.Piecing.{IsOver, IsPiecing, IsFresh, IsSettled, Skips, TakenApart, redecoded, rest, room_for, with_stream};
 ghost use Rattle.codec.specs.NextPiece.{AsksNone, NextBuffered, NextPiece, Refills, buffered_answer, load_answer};
 
 mod steps;
 
-use crate::buffer::piece_buffer;
+use crate::buffer::{fit_buffer, piece_buffer};
 use crate::decoder::{Decoder, Found, Span};
 use crate::error::NextError;
 use buffer_redux::policy::MinBuffered;
@@ -106,6 +107,64 @@ impl<R: Tell, D: Decoder> PieceReader<R, D> {
         }
     }
 
+    /// The same over a buffer of yours: the bytes that `buffer` holds are read first, and then `inner` is asked. So a reader that
+    /// another was taken apart into is read on, just behind what that handed out.
+    ///
+    /// A plain buffer in which three pieces fit is kept, and then this takes no memory. For any other there is a new one, of as
+    /// many bytes or of what three pieces take where that is more. A refusal hands all three back.
+    pub fn with_buffer(
+        alloc: Global,
+        buffer: Buffer,
+        inner: R,
+        decoder: D,
+    ) -> Result<Self, MakeError<(Buffer, R, D)>>
+        ensures made { IfOk result (IsOver R.log (D.grammar decoder).most buffer inner decoder) }
+        ensures whole { IfOk result (IsPiecing (D.grammar decoder)) }
+        ensures handed_back { IfErr result (λ e. (e.0.0 ≡ buffer) × (e.0.1 ≡ inner) × (e.0.2 ≡ decoder)) }
+        ensures within { FitsWithin (growth result) (room_for buffer.capacity (D.grammar decoder).most) (2 ^ 62) }
+        ensures kept { buffer.kind ≡ Plain → 3 * (D.grammar decoder).most ≤ buffer.capacity → IsOk result }
+    {
+        match fit_buffer(alloc, buffer, decoder.most()) {
+            Ok(buffer) => Ok(PieceReader {
+                reader: BufReader::with_buffer(buffer, inner).set_policy(MinBuffered(0)),
+                decoder,
+                handed: 0,
+                seen: 0,
+                ended: false,
+            }),
+            Err(MakeError(buffer, e)) => Err(MakeError((buffer, inner, decoder), e)),
+        }
+    }
+
+    /// The same reader with another decoder, which goes on behind what was handed out last. An end that no call has told is told
+    /// by the next one still.
+    ///
+    /// Where three pieces of `decoder` don't fit into the buffer, both are handed back as they were.
+    pub fn set_decoder<E: Decoder>(self, decoder: E) -> Result<PieceReader<R, E>, (Self, E)>
+        ensures set { IfOk result (λ f. f ≡ redecoded decoder self) }
+        ensures whole { IfOk result (IsPiecing (E.grammar decoder)) }
+        ensures handed_back { IfErr result (λ e. (e.0 ≡ self) × (e.1 ≡ decoder)) }
+        ensures fits { IsOk result ↔ (3 * (E.grammar decoder).most ≤ self.reader.block.capacity) }
+    {
+        if decoder.most().saturating_mul(3) > self.reader.capacity() {
+            return Err((self, decoder));
+        }
+        let PieceReader {
+            reader,
+            decoder: _,
+            handed,
+            seen: _,
+            ended,
+        } = self;
+        Ok(PieceReader {
+            reader: reader.set_policy(MinBuffered(0)),
+            decoder,
+            handed,
+            seen: 0,
+            ended,
+        })
+    }
+
     /// The inner reader.
     pub fn get_ref(&self) -> &R
         ensures inner { result.now ≡ self.now.reader.inner }
@@ -133,7 +192,8 @@ impl<R: Tell, D: Decoder> PieceReader<R, D> {
     }
 
     /// The inner reader, and the buffer with the bytes that weren't handed out. It may not grow, but by its
-    /// [`set_limit`](Buffer::set_limit).
+    /// [`set_limit`](Buffer::set_limit). A `with_buffer` makes a reader of them again, of this layer or another. An end that no
+    /// call has told ([`has_ended`](PieceReader::has_ended)) is forgotten: the stream is asked again.
     pub fn into_inner_with_buffer(self) -> (R, Buffer)
         ensures { TakenApart R.log self result.0 result.1 }
     {

@@ -4,6 +4,8 @@
 #[cfg(test)]
 mod examples;
 #[cfg(test)]
+mod handover;
+#[cfg(test)]
 mod packed;
 pub mod packets;
 #[cfg(test)]
