@@ -13,7 +13,7 @@ use Rattle.chunked.specs.declared.limits.Limits.{Limits}
 use Rattle.chunked.specs.declared.place.Place.{Place}
 use Rattle.chunked.specs.declared.place.Place.TheVariants.{Data, Done}
 use Rattle.chunked.specs.declared.progress.Progress.{Progress}
-use Rattle.chunked.specs.Between.{Calls, FailsSo, HandsOn, LastCall, NoFault, ReadEnds, Takes, TakesTurns, handed_out}
+use Rattle.chunked.specs.Between.{Calls, FailsSo, Faulted, HandsOn, LastCall, NoFault, NothingCame, ReadEnds, Takes, TakesTurns, handed_out}
 use Rattle.chunked.specs.BetweenLaws.{Takes-joins, Takes-none, Takes-still}
 use Rattle.chunked.specs.Place.{IsPlace, Leads}
 use Rattle.chunked.proofs.PassingOn.{data_payload}
@@ -179,15 +179,11 @@ module _ {S P : Type 0} (remaining : S → Option (List ℕ)) (rules : ReadRules
         }
 
   -- a failure goes on where no read failed before
-  FailsSo-after : (s m : Buffered S P) → s.block.capacity ≤ m.block.capacity → rules.claims m.policy ≡ rules.claims s.policy
-      → ReadLogGrows s.log.reads m.log.reads → NoFault s m → (e : ChunkedError) (t : Buffered S P) (r : Progress)
-      → FailsSo rules m e t r → FailsSo rules s e t r
-  FailsSo-after s m room claims grows well (NotChunked why count) t r (no_fault, right, wrong) = (no_fault ∙ well, right, wrong)
-  FailsSo-after s m room claims grows well (Truncated count) t r (no_fault, right, within, none) = (
-    no_fault ∙ well,
-    right,
-    within,
-    record {
+  module _ (s m : Buffered S P) (room : s.block.capacity ≤ m.block.capacity)
+      (claims : rules.claims m.policy ≡ rules.claims s.policy) (grows : ReadLogGrows s.log.reads m.log.reads)
+      (well : NoFault s m) (t : Buffered S P) where
+    pub NothingCame-after : NothingCame rules m t → NothingCame rules s t
+    NothingCame-after none = record {
       last = none.last;
       grows = ReadLogGrows-joins s.log.reads m.log.reads none.last.log.reads grows none.grows;
       caused = none.caused;
@@ -195,22 +191,29 @@ module _ {S P : Type 0} (remaining : S → Option (List ℕ)) (rules : ReadRules
       dry = λ wants some.
           let dry = none.dry (subst WantsBytes (sym claims) wants) (omega (arith, some, room)) in
           omega (arith, dry, grows.zero_reads);
-    },
-  )
-  FailsSo-after s m room claims grows well (Io e) t r (inl fault) = inl (fault ∙ ap (λ l. l ++ e ∷ []) well)
-  FailsSo-after s m room claims grows well (Io e) t r (inr failed) = inr (record {
-    last = failed.last;
-    grows = ReadLogGrows-joins s.log.reads m.log.reads failed.last.log.reads grows failed.grows;
-    no_fault = failed.no_fault ∙ well;
-    gave = failed.gave;
-  })
+    }
+
+    pub Faulted-after : (e : Error) → Faulted rules m e t → Faulted rules s e t
+    Faulted-after e (inl fault) = inl (fault ∙ ap (λ l. l ++ e ∷ []) well)
+    Faulted-after e (inr failed) = inr (record {
+      last = failed.last;
+      grows = ReadLogGrows-joins s.log.reads m.log.reads failed.last.log.reads grows failed.grows;
+      no_fault = failed.no_fault ∙ well;
+      gave = failed.gave;
+    })
+
+    FailsSo-after : (e : ChunkedError) (r : Progress) → FailsSo rules m e t r → FailsSo rules s e t r
+    FailsSo-after (NotChunked why count) r (no_fault, right, wrong) = (no_fault ∙ well, right, wrong)
+    FailsSo-after (Truncated count) r (no_fault, right, within, none) =
+        (no_fault ∙ well, right, within, NothingCame-after none)
+    FailsSo-after (Io e) r fault = Faulted-after e fault
 
   ReadEnds-after : (s m : Buffered S P) (p q : Progress) (wire : List ℕ) → Takes remaining rules s p wire [] m q → NoFault s m
       → (room : ℕ) (answer : Result ℕ ChunkedError) (t : Buffered S P) (r : Progress) → ReadEnds rules m room answer t r
       → ReadEnds rules s room answer t r
   ReadEnds-after s m p q wire before well room (Ok n) t r ends = (ends.0, ends.1 ∙ well, ends.2)
   ReadEnds-after s m p q wire before well room (Err e) t r ends =
-      FailsSo-after s m before.along.capacity before.along.claims before.along.grows well e t r ends
+      FailsSo-after s m before.along.capacity before.along.claims before.along.grows well t e r ends
 
   -- payload is handed out behind what is none
   pub HandsOn-after : (s m : Buffered S P) (p q : Progress) (wire : List ℕ) → Takes remaining rules s p wire [] m q → NoFault s m

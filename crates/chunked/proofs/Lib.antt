@@ -17,3 +17,4 @@ mod Written
 mod Fields
 pub mod Colons
 mod Names
+pub mod Draining

@@ -1,6 +1,8 @@
 -- What contracts see of a reader of a body, and what its calls promise.
 use Rattle.std.specs.Prelude.{◌≡◌, ℕ, zero, suc, ◌-◌, ◌^◌, ◌<◌, ◌≤◌, ◌⊎◌, List, [], ◌∷◌, ◌++◌, length, min, take, Option, Result, Ok, Err}
+use Rattle.std.specs.IoError.{error_kind}
 use Rattle.std.specs.declared.io.Error.{Error}
+use Rattle.std.specs.declared.io.ErrorKind.TheVariants.{Other}
 use Rattle.buffer_redux.specs.Buffered.{Buffered}
 use Rattle.buffer_redux.specs.BufReader.{ReadsAlong}
 use Rattle.buffer_redux.specs.Policy.{ReadRules}
@@ -11,7 +13,7 @@ use Rattle.chunked.specs.declared.error.Malformed.{Malformed}
 use Rattle.chunked.specs.declared.limits.Limits.{Limits}
 use Rattle.chunked.specs.declared.place.Place.{Place}
 use Rattle.chunked.specs.declared.place.Place.TheVariants.{Line}
-use Rattle.chunked.specs.Between.{BecomesIo, Calls, Faulted, NoFault, NothingCame, handed_out}
+use Rattle.chunked.specs.Between.{BecomesIo, Calls, Faulted, NoFault, NothingCame, handed_out, none_handed}
 use Rattle.chunked.specs.Body.{IsBody}
 use Rattle.chunked.specs.Place.{IsPlace, IsWrong, Leads}
 
@@ -95,6 +97,47 @@ pub record ReadsPayload {S P : Type 0} (remaining : S → Option (List ℕ)) (ru
   pub idle : length out ≡ 0 → (answer ≡ Ok 0) × (t.reader ≡ s.reader)
   pub noted : t.calls ≡ after_payload s.calls out answer
   pub whole : IsDechunking t
+
+-- more pieces of payload were dropped than are counted
+pub record DropsTooMany (payload : List ℕ) (answer : Result (Unit {0}) ChunkedError) : Type 0 where
+  pub error : Error
+  pub answers : answer ≡ Err (Io error)
+  pub kind : error_kind error ≡ Other
+  pub many : 2 ^ 64 - 1 ≤ length payload
+
+-- so many reads of payload, one after another, each of which handed some out
+abbrev pub ReadsOn : {S P : Type 0} → (S → Option (List ℕ)) → ReadRules P → ℕ → Dechunking S P → Dechunking S P → Type 0
+ReadsOn remaining rules zero s t = s ≡ t
+ReadsOn {S} {P} remaining rules (suc count) s t =
+    (m : Dechunking S P) × (out : List ℕ) × (n : ℕ) × ReadsOn remaining rules count s m
+    × ReadsPayload remaining rules m out (Ok (suc n)) t
+
+-- how the rest of a body is read: so, and then by one read with this answer, unless none was to be made. So nobody is asked
+-- behind the end of the body, as no such read does
+pub record DrainReads {S P : Type 0} (remaining : S → Option (List ℕ)) (rules : ReadRules P) (s : Dechunking S P)
+    (answer : Result ℕ ChunkedError) (t : Dechunking S P) : Type 0 where
+  pub count : ℕ
+  pub last : Dechunking S P
+  pub before : ReadsOn remaining rules count s last
+  pub end : (last ≡ t) ⊎ ((out : List ℕ) × (0 < length out) × ReadsPayload remaining rules last out answer t)
+
+-- the rest of the body was taken, and its payload dropped, or why not: as one read answers that hands out nothing. Once the
+-- body ended the buffered reader isn't called
+pub record Drains {S P : Type 0} (remaining : S → Option (List ℕ)) (rules : ReadRules P) (s : Dechunking S P)
+    (answer : Result (Unit {0}) ChunkedError) (t : Dechunking S P) : Type 0 where
+  pub payload : List ℕ
+  pub went : BodyWent remaining rules s payload t
+  pub answers : PayloadAnswers rules s 1 (none_handed answer) t ⊎ DropsTooMany payload answer
+  pub ended : IsWhole s → t.reader ≡ s.reader
+  pub reads : DrainReads remaining rules s (none_handed answer) t
+
+-- the same where that ended well, of the buffered reader alone, which has what follows the body
+pub record LeavesBody {S P : Type 0} (remaining : S → Option (List ℕ)) (rules : ReadRules P) (s : Dechunking S P)
+    (rest : Buffered S P) : Type 0 where
+  pub body : Dechunking S P
+  pub drains : Drains remaining rules s (Ok tt) body
+  pub is_whole : IsWhole body
+  pub is_rest : rest ≡ body.reader
 
 -- no further payload is buffered: the body ended, or all was taken, or the next byte is wrong
 abbrev pub HasNoneBuffered : {S P : Type 0} → Dechunking S P → Type 0

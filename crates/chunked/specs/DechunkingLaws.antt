@@ -1,13 +1,16 @@
 -- Laws of a reader of a body.
-use Rattle.std.specs.Prelude.{◌≡◌, ℕ, List, [], ◌∷◌, ◌++◌, Option}
+use Rattle.std.specs.Prelude.{◌≡◌, ℕ, List, [], ◌∷◌, ◌++◌, Option, None, Some}
 use Rattle.std.proofs.Common.{sym, ap, subst, ◌∙◌, refl, append_assoc, append-nil}
+use Rattle.std.specs.Io.KnownBytes.{Consumes}
 use Rattle.buffer_redux.specs.Buffered.{Buffered}
 use Rattle.buffer_redux.specs.Policy.{ReadRules}
-use Rattle.buffer_redux.specs.ReaderLaws.{ReadsAlong-none, ReadsAlong-joins}
+use Rattle.buffer_redux.specs.ReaderLaws.{ReadsAlong-none, ReadsAlong-joins, ReadsInOrder-ahead}
+use Rattle.buffer_redux.specs.Remaining.{ahead}
 use Rattle.chunked.specs.declared.limits.Limits.{Limits}
 use Rattle.chunked.specs.declared.place.Place.{Place}
 use Rattle.chunked.specs.declared.place.Place.TheVariants.{Line, Size, Extension, SizeFeed, Data, DataFeed, Fields, FieldName, FieldValue, FieldFeed, LastFeed, Done}
 use Rattle.chunked.specs.Body.{line_end, IsBody, fields_bytes, HasChunks}
+use Rattle.chunked.specs.BodyLaws.{IsBody-same}
 use Rattle.chunked.specs.Dechunking.{BodyWent, Dechunking, IsDechunking, IsWhole, begun, handed_of}
 use Rattle.chunked.specs.Place.{Completes, Leads}
 use Rattle.chunked.specs.PlaceLaws.{Leads-none, Leads-whole}
@@ -78,3 +81,21 @@ module _ {S P : Type 0} (remaining : S → Option (List ℕ)) (rules : ReadRules
     handed = b.handed ∙ ap (λ l. l ++ k) a.handed ∙ append_assoc (handed_of s) h k;
     limits = b.limits ∙ a.limits;
   }
+
+  -- where the bytes that are known to be left begin with a body, once it ended just what follows it is left
+  pub BodyWent-behind : (first : Buffered S P) (limits : Limits) (body payload behind handed : List ℕ) (t : Dechunking S P)
+      → ahead remaining first ≡ Some (body ++ behind) → IsBody limits body payload
+      → BodyWent remaining rules (begun first limits) handed t → IsWhole t
+      → (handed ≡ payload) × (ahead remaining t.reader ≡ Some behind)
+  BodyWent-behind first limits body payload behind handed t known is went whole =
+      let left = left_then (ahead remaining first) (ahead remaining t.reader) (body ++ behind) went.wire known
+      (ReadsInOrder-ahead remaining first t.reader went.wire went.along.in_order went.along.known) in
+      let same = IsBody-same t.limits limits t.taken body (handed_of t) payload left.0 behind whole is
+      (ap (λ l. l ++ left.0) went.taken ∙ sym left.2) in
+      (sym went.handed ∙ same.1, left.1 ∙ ap (λ l. Some l) same.2)
+    where
+      left_then : (a b : Option (List ℕ)) (bytes lost : List ℕ) → a ≡ Some bytes → Consumes a b lost
+          → (more : List ℕ) × (b ≡ Some more) × (bytes ≡ lost ++ more)
+      left_then None b bytes lost is gone = cc
+      left_then (Some x) None bytes lost is gone = absurd gone
+      left_then (Some x) (Some y) bytes lost is gone = (y, refl, (let same : x ≡ bytes = cc in sym same ∙ gone))

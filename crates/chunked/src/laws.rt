@@ -1,8 +1,9 @@
 //! Laws, each as the contract of a function.
-ghost use Rattle.std.specs.Prelude.{◌≡◌, ℕ, ◌<◌, List, ◌++◌, flat_map};
+ghost use Rattle.std.specs.Prelude.{◌≡◌, ℕ, ◌<◌, List, ◌++◌, Some, flat_map};
 ghost use Rattle.std.specs.List.{AllByRecursion};
 ghost use Rattle.buffer_redux.specs.Buffered.{Buffered};
 ghost use Rattle.buffer_redux.specs.BufReader.{ReadsAlong};
+ghost use Rattle.buffer_redux.specs.Remaining.{ahead};
 ghost use Rattle.buffer_redux.specs.declared.policy.StdPolicy.{StdPolicy};
 ghost use Rattle.chunked.specs.Body.{IsBody, IsField, fields_bytes};
 ghost use Rattle.chunked.specs.Chunking.{LetsThrough};
@@ -78,6 +79,15 @@ pub fn given_body<R: TellRead, P: ReaderPolicy>(reader: &ChunkedReader<R, P>)
 {
     let _ = reader.get_ref();
 }
+
+/// Where the bytes that are known to be left begin with a body, a reader of that which ended, as `finish` does, has handed out or
+/// dropped its payload, and leaves just what follows it.
+pub fn behind_body<R: TellRead, P: ReaderPolicy>(reader: &ChunkedReader<R, P>)
+    ensures { (first : Buffered R P) (limits : Limits) (body payload behind handed : List ℕ)
+        → ahead R.remaining first ≡ Some (body ++ behind) → IsBody limits body payload
+        → BodyWent R.remaining P.rules (begun first limits) handed reader.now → IsWhole reader.now
+        → (handed ≡ payload) × (ahead R.remaining reader.now.reader ≡ Some behind) }
+{}
 
 /// Where a writer of a body took payloads in, each in one write, and was finished with these trailers, or with none, what the
 /// buffered writer gained is a body with these payloads, joined.

@@ -1,10 +1,10 @@
 //! The reader of a body.
-ghost use Rattle.std.specs.Prelude.{None, ◌≡◌, ◌<◌, ◌≤◌, ◌↔◌, length, IfOk, IsTrue, Ok};
+ghost use Rattle.std.specs.Prelude.{None, ◌≡◌, ◌<◌, ◌≤◌, ◌↔◌, length, Err, IfOk, IsTrue, MatchResult, Ok};
 ghost use Rattle.std.specs.Io.{ReadsAtMost};
 ghost use Rattle.std.specs.Io.KnownBytes.{ReadConsumes};
 ghost use Rattle.buffer_redux.specs.StreamLog.{after_read};
 ghost use Rattle.chunked.specs.Between.{HandsOn, HandsOnBuffered, Skips};
-ghost use Rattle.chunked.specs.Dechunking.{HandsBuffered, IsDechunking, IsWhole, ReadsAsIo, ReadsPayload, ReadsTold, begun, taken_count};
+ghost use Rattle.chunked.specs.Dechunking.{Drains, HandsBuffered, IsDechunking, IsWhole, LeavesBody, ReadsAsIo, ReadsPayload, ReadsTold, begun, taken_count};
 ghost use Rattle.chunked.specs.Place.{IsPlace, IsSettled};
 
 use crate::error::ChunkedError;
@@ -16,7 +16,7 @@ use crate::unchunk::unchunk;
 use buffer_redux::BufReader;
 use buffer_redux::policy::{ReaderPolicy, StdPolicy};
 use buffer_redux::tell::{Call, CallLog, Tell, TellRead};
-use std::io::{BufRead, Read};
+use std::io::{BufRead, ErrorKind, Read};
 use std::marker::Model;
 use std::{fmt, io};
 
@@ -91,7 +91,8 @@ impl<R: Tell, P> ChunkedReader<R, P> {
         &self.reader
     }
 
-    /// The buffered reader, with what follows the bytes that were taken.
+    /// The buffered reader, with what follows the bytes that were taken: where the body hasn't ended, the rest of it, also where
+    /// all of its payload was handed out. So no message begins there; [`finish`](ChunkedReader::finish) goes on to the next.
     pub fn into_inner(self) -> BufReader<R, P>
         ensures { result ≡ self.reader }
     {
@@ -132,6 +133,50 @@ impl<R: TellRead, P: ReaderPolicy> ChunkedReader<R, P> {
             self.calls.note(&Call::Read(out, &Ok(*count)));
         }
         answer
+    }
+
+    /// The buffered reader, with just what follows the body: what is left of that is taken first, and its payload dropped. The
+    /// stream is asked for nothing behind the end of the body, and for nothing at all where that was taken.
+    ///
+    /// An `Err` says why the body didn't end, as one of [`read_payload`](ChunkedReader::read_payload), and hands the reader back,
+    /// which has taken what was right. A body whose rest is read in 2^64 pieces ends the call too, by `Other`.
+    ///
+    /// ```
+    /// let stream = Told::new(b"5\r\nhello\r\n0\r\n\r\nGET".as_slice());
+    /// let limits = Limits {
+    ///     line: 64,
+    ///     trailers: 4096,
+    /// };
+    /// let mut body = ChunkedReader::new(BufReader::new(alloc, stream)?, limits);
+    /// let mut out = [0; 5];
+    /// assert!(rt; matches!(body.read_payload(&mut out), Ok(5)));
+    /// let rest = body.finish().map_err(|(_, e)| io::Error::from(e))?;
+    /// assert!(rt; rest.buffer() == b"GET".as_slice());
+    /// ```
+    pub fn finish(mut self) -> Result<BufReader<R, P>, (Self, ChunkedError)>
+        ensures { MatchResult result (LeavesBody R.remaining P.rules self)
+            (λ e. Drains R.remaining P.rules self (Err e.1) e.0) }
+    {
+        match self.drain() {
+            Ok(()) => Ok(self.into_inner()),
+            Err(e) => Err((self, e)),
+        }
+    }
+
+    // Takes the rest of the body, and drops its payload.
+    fn drain(&mut self) -> Result<(), ChunkedError>
+        ensures { Drains R.remaining P.rules self.old result self.new }
+    {
+        if self.is_done() {
+            return Ok(());
+        }
+        let mut dropped = [0; 512];
+        for _read in 0..u64::MAX {
+            if self.read_payload(&mut dropped)? == 0 {
+                return Ok(());
+            }
+        }
+        Err(ChunkedError::Io(io::Error::from(ErrorKind::Other)))
     }
 
     /// Hands out payload that is buffered, as much as the slice takes, and asks the stream for nothing. Less comes only where no

@@ -26,6 +26,22 @@ fn chunked_reader(rt: HostRuntime) -> Result<(), Fail> {
 }
 
 #[test]
+fn chunked_finish(rt: HostRuntime) -> Result<(), Fail> {
+    let alloc = rt.alloc();
+    let stream = Told::new(b"5\r\nhello\r\n0\r\n\r\nGET".as_slice());
+    let limits = Limits {
+        line: 64,
+        trailers: 4096,
+    };
+    let mut body = ChunkedReader::new(BufReader::new(alloc, stream)?, limits);
+    let mut out = [0; 5];
+    assert!(rt; matches!(body.read_payload(&mut out), Ok(5)));
+    let rest = body.finish().map_err(|(_, e)| io::Error::from(e))?;
+    assert!(rt; rest.buffer() == b"GET".as_slice());
+    Ok(drop(rest))
+}
+
+#[test]
 fn chunked_error(rt: HostRuntime) -> Result<(), Fail> {
     let alloc = rt.alloc();
     let stream = Told::new(b"5\r\nhello!\r\n".as_slice());

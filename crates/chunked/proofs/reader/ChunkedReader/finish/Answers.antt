@@ -1,0 +1,7 @@
+use Rattle.chunked.proofs.Draining.{leaves}
+use Rattle.chunked.proofs.reader.ChunkedReader.finish.Goals as goal
+
+pub returns-in-Ok : goal.returns-in-Ok
+returns-in-Ok g c =
+    rw c.into_inner.ensures
+    (leaves g.R.TellRead.remaining g.P.ReaderPolicy.rules c.args.self c.drain.new.self c.in-Ok.ensures)
