@@ -5,15 +5,16 @@ ghost use Rattle.std.specs.Io.BufRead.{Rests};
 ghost use Rattle.buffer_redux.specs.GrowError.{FitsWithin};
 ghost use Rattle.buffer_redux.specs.MakeError.{growth};
 ghost use Rattle.codec.specs.Decoding.{bytes_at};
+ghost use Rattle.codec.specs.Piecing.{IsOver, TakenApart};
 ghost use Rattle.frame_reader.specs.contracts.reader.FrameReader.{the_row};
 ghost use Rattle.frame_reader.specs.Frames.{AreBytes, BeginsWith, frame};
-ghost use Rattle.frame_reader.specs.Framing.{IsFraming, IsFresh, frame_capacity, rest};
+ghost use Rattle.frame_reader.specs.Framing.{IsFraming, IsFresh, frame_capacity, piecing, rest};
 ghost use Rattle.frame_reader.specs.Next.{IsSettled, Next, NextBuffered, answer_of, buffered_answer, frame_error, load_answer};
 
 use crate::error::FrameError;
 use crate::frame::{FrameFault, Frames, are_bytes};
 use buffer_redux::tell::{Tell, TellRead};
-use buffer_redux::{DEFAULT_BUF_SIZE, GrowError, MakeError};
+use buffer_redux::{Buffer, DEFAULT_BUF_SIZE, GrowError, MakeError};
 use codec::{Decoder, Found, NextError, PieceReader, Span};
 use std::alloc::Global;
 use std::marker::Model;
@@ -77,6 +78,25 @@ impl<R: Tell> FrameReader<R> {
         }
     }
 
+    /// The same over a buffer of yours, as [`PieceReader::with_buffer`]: the bytes that `buffer` holds are read first, as the
+    /// beginning of a frame. A refusal hands both back.
+    pub fn with_buffer(
+        alloc: Global,
+        buffer: Buffer,
+        inner: R,
+        max: u16,
+    ) -> Result<Self, MakeError<(Buffer, R)>>
+        ensures made { IfOk result (λ f. IsOver R.log (2 + max) buffer inner (record { max = max }) (piecing f)) }
+        ensures whole { IfOk result IsFraming }
+        ensures handed_back { IfErr result (λ e. (e.0.0 ≡ buffer) × (e.0.1 ≡ inner)) }
+        ensures within { FitsWithin (growth result) (frame_capacity buffer.capacity max) (2 ^ 62) }
+    {
+        match PieceReader::with_buffer(alloc, buffer, inner, Frames { max }) {
+            Ok(pieces) => Ok(FrameReader { pieces }),
+            Err(MakeError(back, e)) => Err(MakeError((back.0, back.1), e)),
+        }
+    }
+
     /// The inner reader.
     pub fn get_ref(&self) -> &R
         ensures inner { result.now ≡ self.now.reader.inner }
@@ -93,6 +113,15 @@ impl<R: Tell> FrameReader<R> {
     {
         let FrameReader { pieces } = self;
         pieces.into_inner()
+    }
+
+    /// The inner reader, and the buffer with the bytes behind the frame that was lent last, of which
+    /// [`with_buffer`](FrameReader::with_buffer) makes a reader again, of this layer or another.
+    pub fn into_inner_with_buffer(self) -> (R, Buffer)
+        ensures { TakenApart R.log (piecing self) result.0 result.1 }
+    {
+        let FrameReader { pieces } = self;
+        pieces.into_inner_with_buffer()
     }
 
     /// The buffered bytes behind the frame that was lent last.

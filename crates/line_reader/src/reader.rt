@@ -6,7 +6,7 @@ ghost use Rattle.buffer_redux.specs.GrowError.{FitsWithin};
 ghost use Rattle.buffer_redux.specs.MakeError.{growth};
 ghost use Rattle.line_reader.specs.contracts.reader.LineReader.{the_row};
 ghost use Rattle.line_reader.specs.Lines.{BeginsTooLong, IsLine, newline};
-ghost use Rattle.codec.specs.Piecing.{TakenApart};
+ghost use Rattle.codec.specs.Piecing.{IsOver, TakenApart};
 ghost use Rattle.line_reader.specs.Lining.{HasLine, IsLining, IsFresh, piecing, rest, room_for, with_stream};
 ghost use Rattle.line_reader.specs.NextLine.{NextBuffered, answer_of};
 ghost use Rattle.line_reader.specs.SkipLine.{NextGoes, NextTrimmed, SkipsLine};
@@ -84,6 +84,32 @@ impl<R: Tell> LineReader<R> {
                 skipping: false,
             }),
             Err(MakeError(back, e)) => Err(MakeError(back.0, e)),
+        }
+    }
+
+    /// The same over a buffer of yours, as [`PieceReader::with_buffer`]: the bytes that `buffer` holds are read first, as the
+    /// beginning of a line. A refusal hands both back.
+    pub fn with_buffer(
+        alloc: Global,
+        buffer: Buffer,
+        inner: R,
+        max: usize,
+    ) -> Result<Self, MakeError<(Buffer, R)>>
+        ensures made { IfOk result (λ f. IsOver R.log (1 + max) buffer inner max (piecing f)) }
+        ensures going { IfOk result (λ f. f.skipping ≡ false) }
+        ensures whole { IfOk result IsLining }
+        ensures handed_back { IfErr result (λ e. (e.0.0 ≡ buffer) × (e.0.1 ≡ inner)) }
+        ensures within { FitsWithin (growth result) (room_for buffer.capacity max) (2 ^ 62) }
+    {
+        if max >= MAX_CAPACITY {
+            return Err(MakeError((buffer, inner), GrowError::TooLarge));
+        }
+        match PieceReader::with_buffer(alloc, buffer, inner, Lines { max }) {
+            Ok(pieces) => Ok(LineReader {
+                pieces,
+                skipping: false,
+            }),
+            Err(MakeError(back, e)) => Err(MakeError((back.0, back.1), e)),
         }
     }
 
