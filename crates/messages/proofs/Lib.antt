@@ -1,0 +1,6 @@
+pub mod Going
+pub mod Parsing
+pub mod Beginning
+pub mod Deciding
+pub mod Passed
+pub mod Failing

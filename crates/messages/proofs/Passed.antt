@@ -1,0 +1,46 @@
+-- What a message that is passed comes to.
+use Rattle.std.proofs.Common.{◌≡◌, ℕ, List, [], ◌++◌, Option, sym, ap, subst}
+use Rattle.buffer_redux.specs.Unbuffer.{Unbuffered}
+use Rattle.codec.specs.NextPiece.{NextPiece}
+use Rattle.codec.specs.Piecing.{Piecing, left_of}
+use Rattle.codec.specs.StreamWent.{PiecesWent-stream, StreamWent, StreamWent-joins}
+use Rattle.messages.specs.declared.head.Heads as head
+use Rattle.messages.specs.declared.requests.Stop.{Stop}
+use Rattle.messages.specs.declared.requests.Stop.TheVariants.{Ended, Bad, Io}
+use Rattle.messages.specs.Heads.{IsHead, heads}
+use Rattle.messages.specs.Messages.{Begun, Ends, InBody, InsideGoes, MessageBegun, MessageWent, Onward, answer_of}
+use Rattle.messages.specs.MessagesLaws.{MessageWent-of}
+use Rattle.messages.proofs.Going.{takes_none}
+
+module _ {S : Type 0} (remaining : S → Option (List ℕ)) (s : Piecing S head.Heads) where
+  -- a call that goes into no message takes nothing
+  stays : (t : Piecing S head.Heads) (bytes : List ℕ) → bytes ≡ [] → StreamWent remaining (left_of s) bytes (left_of t)
+      → StreamWent remaining (left_of s) [] (left_of t)
+  stays t bytes none went = subst (λ l. StreamWent remaining (left_of s) l (left_of t)) none went
+
+  pub stopped_before : (stop : Stop) (t : Piecing S head.Heads) → NextPiece remaining heads s (answer_of stop) t
+      → StreamWent remaining (left_of s) [] (left_of t)
+  stopped_before Ended t next =
+      stays t next.bytes next.answers.0 (PiecesWent-stream remaining heads.most s t next.bytes next.went)
+  stopped_before (Bad e) t next =
+      stays t next.bytes next.answers.0 (PiecesWent-stream remaining heads.most s t next.bytes next.went)
+  stopped_before (Io e) t next =
+      stays t next.bytes next.answers.0 (PiecesWent-stream remaining heads.most s t next.bytes next.went)
+
+  module _ (b : InBody S) (begun : Begun remaining s b) where
+    pub passed : (t : Unbuffered S) → (ends : Ends remaining b.stream b.rest t)
+        → MessageWent remaining (left_of s) b.head ([] ++ ends.payload) t
+    passed t ends = MessageWent-of remaining s b b [] t begun (takes_none remaining b.stream b.rest) ends
+
+    pub stopped_inside : (handed : List ℕ) (t : InBody S) → InsideGoes remaining b handed t
+        → MessageBegun remaining (left_of s) t
+    stopped_inside handed t goes = record {
+      taken = goes.takes.wire;
+      went = subst (λ h. StreamWent remaining (left_of s) (h ++ goes.takes.wire) t.stream) (sym goes.head)
+          (StreamWent-joins remaining (left_of s) b.stream t.stream b.head goes.takes.wire begun.went goes.takes.went);
+      text = subst (λ h. heads.piece h h) (sym goes.head) begun.text;
+      extent = begun.extent;
+      is = subst (λ h. IsHead h begun.extent) (sym goes.head) begun.is;
+      handed = handed;
+      onward = subst (λ r. Onward r goes.takes.wire handed t.rest) (ap (λ x. x.rest) begun.rest) goes.takes.onward;
+    }

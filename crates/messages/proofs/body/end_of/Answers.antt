@@ -1,0 +1,20 @@
+use Rattle.std.proofs.Common.{inl}
+use Rattle.buffer_redux.specs.Policy.{std_read_rules}
+use Rattle.messages.proofs.Going.{along_stream, bytes_onward}
+use Rattle.messages.proofs.body.end_of.Goals as goal
+
+pub returns-in-Err : goal.returns-in-Err
+returns-in-Err g c =
+    let dropped = c.in-Err.ensures.dropped in
+    rw c.in-Sized.is (
+      dropped.0,
+      record {
+        wire = dropped.0;
+        went = along_stream g.R.TellRead.remaining std_read_rules c.in-Sized.reader dropped.0 c.skip.new.reader dropped.1;
+        onward = bytes_onward c.in-Sized.left dropped.0 c.skip.new.left dropped.2;
+      },
+      inl c.in-Err.ensures.fails,
+    )
+
+pub returns-in-Chunked : goal.returns-in-Chunked
+returns-in-Chunked g c = rw c.in-Chunked.is c.finish_chunked.ensures

@@ -1,0 +1,5 @@
+use Rattle.messages.specs.MessagesLaws.{one_cut}
+use Rattle.messages.proofs.laws.one_cut.Goals as goal
+
+pub returns : goal.returns
+returns c = one_cut

@@ -1,0 +1,33 @@
+use Rattle.std.proofs.Common.{[], ◌∷◌, ◌++◌, arith, length-append, refl}
+use Rattle.codec.specs.Piecing.{left_of}
+use Rattle.messages.specs.MessagesLaws.{MessagesWent-more, MessagesWent-none}
+use Rattle.messages.proofs.laws.pass.Goals as goal
+
+pub loop-init : goal.loop-init
+loop-init g c = record {
+  messages = [];
+  many = refl;
+  went = MessagesWent-none g.R.TellRead.remaining (left_of c.args.requests);
+}
+
+pub loop-preserved : goal.loop-preserved
+loop-preserved g c =
+    let before = c.loop.invariant in
+    let one = c.in-Ok.ensures.passed in
+    record {
+      messages = before.messages ++ (one.0, one.1) ∷ [];
+      many = omega (arith, before.many, length-append before.messages ((one.0, one.1) ∷ []));
+      went = MessagesWent-more g.R.TellRead.remaining (left_of c.args.requests) (left_of c.loop.next) (left_of c.in-Ok.behind)
+          before.messages one.0 one.1 before.went one.2;
+    }
+
+pub returns-in-Err-clause-stopped : goal.returns-in-Err-clause-stopped
+returns-in-Err-clause-stopped g c =
+    let before = c.loop.invariant in
+    record {
+      messages = before.messages;
+      between = left_of c.loop.next;
+      fewer = omega (arith, before.many, c.loop-test.true);
+      went = before.went;
+      stops = c.in-Err.ensures.stopped;
+    }

@@ -1,0 +1,12 @@
+use Rattle.std.proofs.Common.{◌≡◌, List, length}
+use Rattle.codec.specs.Piecing.{left_of}
+use Rattle.messages.specs.Messages.{Message, MessagesWent}
+use Rattle.messages.proofs.laws.pass.Given as goal
+
+-- so many messages went
+abbrev pub invariant-loop : goal.invariant-loop
+invariant-loop g l = record {
+  messages : List Message;
+  many : length messages ≡ l.counter;
+  went : MessagesWent g.R.TellRead.remaining (left_of l.fn.requests) messages (left_of l.next);
+}

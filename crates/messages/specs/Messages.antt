@@ -1,0 +1,144 @@
+-- Messages, and what contracts see of a reader that stands in one.
+use Rattle.std.specs.Prelude.{◌≡◌, ◌⊎◌, ◌≤◌, ◌-◌, ◌^◌, ℕ, List, [], ◌∷◌, ◌++◌, length, Option, None, Ok, Err}
+use Rattle.buffer_redux.specs.Unbuffer.{Unbuffered}
+use Rattle.chunked.specs.declared.error.ChunkedError.{ChunkedError}
+use Rattle.chunked.specs.declared.error.ChunkedError.TheVariants.{NotChunked, Truncated, Io as Fault}
+use Rattle.chunked.specs.declared.limits.Limits.{Limits}
+use Rattle.chunked.specs.declared.place.Place.{Place}
+use Rattle.chunked.specs.declared.place.Place.TheVariants.{Line}
+use Rattle.chunked.specs.Place.{Completes}
+use Rattle.codec.specs.declared.error.NextError.TheVariants as why
+use Rattle.codec.specs.NextPiece.{NextAnswer}
+use Rattle.codec.specs.Piecing.{Piecing, left_of}
+use Rattle.codec.specs.StreamWent.{StreamWent}
+use Rattle.messages.specs.declared.body.BodyError.{BodyError}
+use Rattle.messages.specs.declared.body.BodyError.TheVariants.{Body, Buffer}
+use Rattle.messages.specs.declared.body.Extent.{Extent}
+use Rattle.messages.specs.declared.body.Extent.TheVariants.{Sized, Chunked}
+use Rattle.messages.specs.declared.head.BadHead.{BadHead}
+use Rattle.messages.specs.declared.head.Heads.{Heads}
+use Rattle.messages.specs.declared.requests.Stop.{Stop}
+use Rattle.messages.specs.declared.requests.Stop.TheVariants.{Ended, Bad, Io}
+use Rattle.messages.specs.Heads.{IsHead, heads}
+
+-- what is left of a body: so many bytes, or what completes a chunked one from here
+pub data Rest : Type 0 where
+  Bytes : ℕ → Rest
+  Chunks : Limits → Place → Rest
+
+-- these bytes are just that, with this payload
+abbrev pub IsRest : Rest → List ℕ → List ℕ → Type 0
+IsRest (Bytes n) wire payload = (length wire ≡ n) × (payload ≡ wire)
+IsRest (Chunks limits place) wire payload = Completes limits place wire payload
+
+-- with these bytes in front, in which there is this payload, what is the one rest is the other
+abbrev pub Onward : Rest → List ℕ → List ℕ → Rest → Type 0
+Onward r wire handed r' = (later payload : List ℕ) → IsRest r' later payload → IsRest r (wire ++ later) (handed ++ payload)
+
+-- the whole body
+abbrev pub body_of : Extent → Rest
+body_of (Sized len) = Bytes len
+body_of Chunked = Chunks (record { line = 256; trailers = 4096 }) Line
+
+-- a message: a head, and the body that it says, with this payload
+pub record IsMessage (bytes head payload : List ℕ) : Type 0 where
+  pub wire : List ℕ
+  pub equal : bytes ≡ head ++ wire
+  pub text : heads.piece head head
+  pub extent : Extent
+  pub is : IsHead head extent
+  pub body : IsRest (body_of extent) wire payload
+
+-- a reader in a body: what the stream has left, the head, and what is left of the body
+pub record InBody (S : Type 0) : Type 0 where
+  pub stream : Unbuffered S
+  pub head : List ℕ
+  pub rest : Rest
+
+abbrev pub begun : {S : Type 0} → Unbuffered S → List ℕ → Extent → InBody S
+begun stream head extent = record { stream = stream; head = head; rest = body_of extent }
+
+-- the reader stands behind a head, in front of its body
+pub record Begun {S : Type 0} (remaining : S → Option (List ℕ)) (s : Piecing S Heads) (b : InBody S) : Type 0 where
+  pub went : StreamWent remaining (left_of s) b.head b.stream
+  pub text : heads.piece b.head b.head
+  pub extent : Extent
+  pub is : IsHead b.head extent
+  pub rest : b ≡ begun b.stream b.head extent
+
+-- why there is no message is the answer of a reader of pieces
+abbrev pub answer_of : Stop → NextAnswer BadHead
+answer_of Ended = Ok None
+answer_of (Bad e) = Err (why.Wrong e)
+answer_of (Io e) = Err (why.Io e)
+
+-- in a stream of which that is left of a body, these bytes of the body were taken, in which there is this payload
+pub record Takes {S : Type 0} (remaining : S → Option (List ℕ)) (s : Unbuffered S) (r : Rest) (handed : List ℕ)
+    (t : Unbuffered S) (r' : Rest) : Type 0 where
+  pub wire : List ℕ
+  pub went : StreamWent remaining s wire t
+  pub onward : Onward r wire handed r'
+
+-- why no payload comes: however it goes on, what comes next doesn't complete the body; or no byte came, and it isn't complete;
+-- or the stream failed, once
+abbrev pub Fails : {S : Type 0} → Unbuffered S → ChunkedError → Unbuffered S → Rest → Type 0
+Fails s (NotChunked name right) t r = (later payload : List ℕ) → ¬ (IsRest r (t.left ++ later) payload)
+Fails s (Truncated right) t r = (payload : List ℕ) → ¬ (IsRest r [] payload)
+Fails s (Fault e) t r = t.log.reads.faults ≡ s.log.reads.faults ++ e ∷ []
+
+-- why a body wasn't taken to its end, of which this payload was dropped: so, or it is of more pieces than are counted
+abbrev pub FailsBehind : {S : Type 0} → Unbuffered S → List ℕ → ChunkedError → Unbuffered S → Rest → Type 0
+FailsBehind s handed e t r = Fails s e t r ⊎ (2 ^ 64 - 1 ≤ length handed)
+
+-- or it was, and memory was refused for the next head
+abbrev pub FinishFails : {S : Type 0} → Unbuffered S → List ℕ → BodyError → Unbuffered S → Rest → Type 0
+FinishFails s handed (Body e) t r = FailsBehind s handed e t r
+FinishFails s handed (Buffer e) t r = r ≡ Bytes 0
+
+-- all of that was taken, and what stands behind the body is left
+pub record Ends {S : Type 0} (remaining : S → Option (List ℕ)) (s : Unbuffered S) (r : Rest) (t : Unbuffered S)
+    : Type 0 where
+  pub wire : List ℕ
+  pub payload : List ℕ
+  pub went : StreamWent remaining s wire t
+  pub is : IsRest r wire payload
+
+-- a call of a reader in a body, which keeps the head, did so
+pub record InsideGoes {S : Type 0} (remaining : S → Option (List ℕ)) (s : InBody S) (handed : List ℕ) (t : InBody S)
+    : Type 0 where
+  pub takes : Takes remaining s.stream s.rest handed t.stream t.rest
+  pub head : t.head ≡ s.head
+
+-- a message went: all of its bytes, and no other, were taken of what was left
+pub record MessageWent {S : Type 0} (remaining : S → Option (List ℕ)) (s : Unbuffered S) (head payload : List ℕ)
+    (t : Unbuffered S) : Type 0 where
+  pub bytes : List ℕ
+  pub went : StreamWent remaining s bytes t
+  pub is : IsMessage bytes head payload
+
+-- a head, and a payload
+abbrev pub Message : Type 0
+Message = List ℕ × List ℕ
+
+-- these bytes are these messages, one after another
+abbrev pub AreMessages : List Message → List ℕ → Type 0
+AreMessages [] bytes = bytes ≡ []
+AreMessages (m ∷ later) bytes =
+    (first : List ℕ) × (more : List ℕ) × IsMessage first m.0 m.1 × AreMessages later more × (bytes ≡ first ++ more)
+
+-- these messages went, one after another: each begins where the one before it ended
+pub record MessagesWent {S : Type 0} (remaining : S → Option (List ℕ)) (s : Unbuffered S) (messages : List Message)
+    (t : Unbuffered S) : Type 0 where
+  pub bytes : List ℕ
+  pub are : AreMessages messages bytes
+  pub went : StreamWent remaining s bytes t
+
+-- it is cut short: a head, and the beginning of the body that it says; nothing else of the stream was taken
+pub record MessageBegun {S : Type 0} (remaining : S → Option (List ℕ)) (s : Unbuffered S) (b : InBody S) : Type 0 where
+  pub taken : List ℕ
+  pub went : StreamWent remaining s (b.head ++ taken) b.stream
+  pub text : heads.piece b.head b.head
+  pub extent : Extent
+  pub is : IsHead b.head extent
+  pub handed : List ℕ
+  pub onward : Onward (body_of extent) taken handed b.rest

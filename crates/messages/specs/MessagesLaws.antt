@@ -1,0 +1,135 @@
+-- Laws of messages.
+use Rattle.std.specs.Prelude.{◌≡◌, ℕ, List, [], ◌∷◌, ◌++◌, length, Option, Some}
+use Rattle.std.proofs.Common.{sym, ap, subst, ◌∙◌, arith, refl, append_assoc, append-nil}
+use Rattle.std.proofs.lemmas.List.{append_cancel_left}
+use Rattle.buffer_redux.specs.Unbuffer.{Unbuffered, unbuffer_remaining}
+use Rattle.chunked.specs.BodyLaws.{IsBody-same}
+use Rattle.codec.specs.Piecing.{Piecing, left_of}
+use Rattle.codec.specs.StreamWent.{StreamWent-front, StreamWent-joins, StreamWent-none}
+use Rattle.httparse.proofs.GrammarLemmas.{request_unique}
+use Rattle.http1.specs.Framing.{method_kind, request_framing}
+use Rattle.http1.specs.Message.{known_of}
+use Rattle.messages.specs.declared.body.Extent.{Extent}
+use Rattle.messages.specs.declared.body.Extent.TheVariants.{Sized, Chunked}
+use Rattle.messages.specs.declared.head.Heads as head
+use Rattle.messages.specs.Heads.{IsHead, extent_of}
+use Rattle.messages.specs.HeadsLaws.{heads_lawful}
+use Rattle.messages.specs.Messages.{AreMessages, Begun, Ends, InBody, IsMessage, IsRest, Message, MessageWent, MessagesWent, Rest, Takes, body_of}
+
+-- of two texts that begin so and have one length
+split : (a b xs ys : List ℕ) → length a ≡ length b → a ++ xs ≡ b ++ ys → (a ≡ b) × (xs ≡ ys)
+split [] [] xs ys long same = (refl, same)
+split [] (y ∷ b) xs ys long same = absurd (omega (arith, long))
+split (x ∷ a) [] xs ys long same = absurd (omega (arith, long))
+split (x ∷ a) (y ∷ b) xs ys long same =
+    let first : x ≡ y = cc in
+    let more : a ++ xs ≡ b ++ ys = cc in
+    let rest = split a b xs ys (omega (arith, long)) more in
+    (ap (λ c. c ∷ a) first ∙ ap (λ l. y ∷ l) rest.0, rest.1)
+
+-- a head says in one way where the body ends
+pub one_extent : (bytes : List ℕ) (e e' : Extent) → IsHead bytes e → IsHead bytes e' → e ≡ e'
+one_extent bytes e e' is is' =
+    let same = request_unique bytes is.head is'.head [] [] is.reads is'.reads in
+    let both : Some e ≡ Some e' =
+    sym is.framed ∙ ap (λ h. extent_of (request_framing (method_kind h.method) h.minor (known_of h.fields))) same.0 ∙ is'.framed in
+    cc
+
+-- and so a body ends in one place
+one_body : (e : Extent) (a b p q xs ys : List ℕ) → IsRest (body_of e) a p → IsRest (body_of e) b q → a ++ xs ≡ b ++ ys
+    → (a ≡ b) × (p ≡ q) × (xs ≡ ys)
+one_body (Sized n) a b p q xs ys is is' same =
+    let parts = split a b xs ys (is.0 ∙ sym is'.0) same in
+    (parts.0, is.1 ∙ parts.0 ∙ sym is'.1, parts.1)
+one_body Chunked a b p q xs ys is is' same =
+    IsBody-same (record { line = 256; trailers = 4096 }) (record { line = 256; trailers = 4096 }) a b p q xs ys is is' same
+
+-- no message begins another
+pub one_message : (a b xs ys h k p q : List ℕ) → IsMessage a h p → IsMessage b k q → a ++ xs ≡ b ++ ys
+    → (a ≡ b) × (h ≡ k) × (p ≡ q) × (xs ≡ ys)
+one_message a b xs ys h k p q m n same =
+    let cut : h ++ (m.wire ++ xs) ≡ k ++ (n.wire ++ ys) =
+    sym (append_assoc h m.wire xs) ∙ sym (ap (λ l. l ++ xs) m.equal) ∙ same ∙ ap (λ l. l ++ ys) n.equal
+    ∙ append_assoc k n.wire ys in
+    let head : h ≡ k = (heads_lawful.one h k (m.wire ++ xs) (n.wire ++ ys) h k m.text n.text cut).0 in
+    let behind : m.wire ++ xs ≡ n.wire ++ ys =
+    append_cancel_left h (m.wire ++ xs) (n.wire ++ ys) (cut ∙ ap (λ l. l ++ (n.wire ++ ys)) (sym head)) in
+    let extent : m.extent ≡ n.extent =
+    one_extent h m.extent n.extent m.is (subst (λ l. IsHead l n.extent) (sym head) n.is) in
+    let body = one_body m.extent m.wire n.wire p q xs ys m.body
+    (subst (λ e. IsRest (body_of e) n.wire q) (sym extent) n.body) behind in
+    (m.equal ∙ ap (λ l. l ++ m.wire) head ∙ ap (λ l. k ++ l) body.0 ∙ sym n.equal, head, body.1, body.2)
+
+-- so a text is cut into so many messages in one way
+pub one_cut : (ms ns : List Message) (a b xs ys : List ℕ) → length ms ≡ length ns → AreMessages ms a → AreMessages ns b
+    → a ++ xs ≡ b ++ ys → (ms ≡ ns) × (xs ≡ ys)
+one_cut [] [] a b xs ys many is is' same =
+    (refl, sym (ap (λ l. l ++ xs) is) ∙ same ∙ ap (λ l. l ++ ys) is')
+one_cut [] (n ∷ ns) a b xs ys many is is' same = absurd (omega (arith, many))
+one_cut (m ∷ ms) [] a b xs ys many is is' same = absurd (omega (arith, many))
+one_cut (m ∷ ms) (n ∷ ns) a b xs ys many (f, x, is, are, equal) (k, y, is', are', equal') same =
+    let cut : f ++ (x ++ xs) ≡ k ++ (y ++ ys) =
+    sym (append_assoc f x xs) ∙ sym (ap (λ l. l ++ xs) equal) ∙ same ∙ ap (λ l. l ++ ys) equal' ∙ append_assoc k y ys in
+    let first = one_message f k (x ++ xs) (y ++ ys) m.0 n.0 m.1 n.1 is is' cut in
+    let later = one_cut ms ns x y xs ys (omega (arith, many)) are are' first.3 in
+    let pair : m ≡ n = ap (λ l. (l, m.1)) first.1 ∙ ap (λ l. (n.0, l)) first.2 in
+    (ap (λ l. l ∷ ms) pair ∙ ap (λ l. n ∷ l) later.0, later.1)
+
+module _ {S : Type 0} (remaining : S → Option (List ℕ)) where
+  -- calls in a body go on
+  pub Takes-joins : (s m t : Unbuffered S) (r q u : Rest) (h k : List ℕ) → Takes remaining s r h m q
+      → Takes remaining m q k t u → Takes remaining s r (h ++ k) t u
+  Takes-joins s m t r q u h k a b = record {
+    wire = a.wire ++ b.wire;
+    went = StreamWent-joins remaining s m t a.wire b.wire a.went b.went;
+    onward = λ later payload is.
+        subst (λ l. IsRest r l ((h ++ k) ++ payload)) (sym (append_assoc a.wire b.wire later))
+        (subst (λ l. IsRest r (a.wire ++ (b.wire ++ later)) l) (sym (append_assoc h k payload))
+        (a.onward (b.wire ++ later) (k ++ payload) (b.onward later payload is)));
+  }
+
+  -- whatever was read of it, a message that is begun and ended went whole
+  pub MessageWent-of : (s : Piecing S head.Heads) (b m : InBody S) (handed : List ℕ) (t : Unbuffered S)
+      → Begun remaining s b → Takes remaining b.stream b.rest handed m.stream m.rest
+      → (ends : Ends remaining m.stream m.rest t)
+      → MessageWent remaining (left_of s) b.head (handed ++ ends.payload) t
+  MessageWent-of s b m handed t begun takes ends = record {
+    bytes = b.head ++ (takes.wire ++ ends.wire);
+    went = StreamWent-joins remaining (left_of s) b.stream t b.head (takes.wire ++ ends.wire) begun.went
+        (StreamWent-joins remaining b.stream m.stream t takes.wire ends.wire takes.went ends.went);
+    is = record {
+      wire = takes.wire ++ ends.wire;
+      equal = refl;
+      text = begun.text;
+      extent = begun.extent;
+      is = begun.is;
+      body = subst (λ r. IsRest r (takes.wire ++ ends.wire) (handed ++ ends.payload)) (ap (λ x. x.rest) begun.rest)
+          (takes.onward ends.wire ends.payload ends.is);
+    };
+  }
+
+  pub MessagesWent-none : (s : Unbuffered S) → MessagesWent remaining s [] s
+  MessagesWent-none s = record { bytes = []; are = refl; went = StreamWent-none remaining s }
+
+  snoc : (ms : List Message) (bytes first : List ℕ) (m : Message) → AreMessages ms bytes → IsMessage first m.0 m.1
+      → AreMessages (ms ++ m ∷ []) (bytes ++ first)
+  snoc [] bytes first m are is = (first, [], is, refl, ap (λ l. l ++ first) are ∙ sym (append-nil first))
+  snoc (x ∷ ms) bytes first m (f, more, is', are, equal) is =
+      (f, more ++ first, is', snoc ms more first m are is, ap (λ l. l ++ first) equal ∙ append_assoc f more first)
+
+  pub MessagesWent-more : (s m t : Unbuffered S) (ms : List Message) (h p : List ℕ) → MessagesWent remaining s ms m
+      → MessageWent remaining m h p t → MessagesWent remaining s (ms ++ (h, p) ∷ []) t
+  MessagesWent-more s m t ms h p before one = record {
+    bytes = before.bytes ++ one.bytes;
+    are = snoc ms before.bytes one.bytes (h, p) before.are one.is;
+    went = StreamWent-joins remaining s m t before.bytes one.bytes before.went one.went;
+  }
+
+  -- of a stream that is known, the messages that went are its first, and what follows them is left
+  pub MessagesWent-known : (s t : Unbuffered S) (ms ns : List Message) (text behind : List ℕ) → MessagesWent remaining s ms t
+      → unbuffer_remaining remaining s ≡ Some (text ++ behind) → AreMessages ns text → length ms ≡ length ns
+      → (ms ≡ ns) × (unbuffer_remaining remaining t ≡ Some behind)
+  MessagesWent-known s t ms ns text behind went known are many =
+      let left = StreamWent-front remaining s t went.bytes (text ++ behind) went.went known in
+      let same = one_cut ms ns went.bytes text left.0 behind many went.are are (sym left.2) in
+      (same.0, left.1 ∙ ap (λ l. Some l) same.1)

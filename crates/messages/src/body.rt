@@ -1,0 +1,245 @@
+//! The reader of requests, in a body.
+ghost use Rattle.std.specs.Prelude.{◌≡◌, ℕ, ◌+◌, ◌<◌, ◌≤◌, List, [], length, IfErr, IfOk, MatchResult, Ok, OnOk};
+ghost use Rattle.buffer_redux.specs.BufReader.{ReadsAlong};
+ghost use Rattle.buffer_redux.specs.Policy.{std_read_rules};
+ghost use Rattle.buffer_redux.specs.Unbuffer.{unbuffered};
+ghost use Rattle.chunked.specs.Between.{handed_out};
+ghost use Rattle.codec.specs.Piecing.{left_of};
+ghost use Rattle.messages.specs.Messages.{Bytes, Chunks, Ends, Fails, FailsBehind, FinishFails, InsideGoes, IsRest, Takes, begun};
+ghost use Rattle.messages.specs.Source.{rest_of, stream_of};
+
+use crate::head::Heads;
+use crate::requests::Requests;
+use buffer_redux::tell::{Tell, TellRead};
+use buffer_redux::{BufReader, Buffer, GrowError, MakeError};
+use chunked::{ChunkedError, ChunkedReader, Limits};
+use codec::PieceReader;
+use std::alloc::Global;
+use std::io::{BufRead, Read};
+use std::marker::Model;
+
+/// Where a body ends.
+#[derive(Clone, Copy, Debug, PartialEq, Eq, Drop)]
+pub enum Extent {
+    /// Behind so many bytes.
+    Sized(u64),
+    /// Where the chunked coding ends.
+    Chunked,
+}
+
+/// How much of a chunked body may be no payload.
+pub const LIMITS: Limits = Limits {
+    line: 256,
+    trailers: 4096,
+};
+
+// What reads the rest of a body.
+#[derive(Drop)]
+enum Source<R: Tell> {
+    // A reader that has so many bytes of the body before what follows it.
+    Sized(BufReader<R>, u64),
+    Chunked(ChunkedReader<R>),
+}
+
+/// A reader of requests that stands in the body of one.
+#[derive(Drop)]
+pub struct Body<R: Tell> {
+    alloc: Global,
+    source: Source<R>,
+    head: Buffer,
+}
+
+impl<R: Tell> Model for Body<R> {
+    ghost use Rattle.std.specs.Prelude.{◌≤◌};
+    ghost use Rattle.messages.specs.Messages.{InBody};
+    ghost use Rattle.messages.specs.Source.{rest_of, stream_of};
+
+    ghost Value = { InBody R };
+
+    ghost view = { λ b. record { stream = stream_of b.source; head = b.head.bytes; rest = rest_of b.source } };
+
+    ghost invariant = { λ b. 8192 ≤ b.head.capacity };
+}
+
+/// Why there is no further payload, or no next head.
+#[derive(Debug, Drop)]
+pub enum BodyError {
+    /// The body is no body, or ends early, or the stream failed.
+    Body(ChunkedError),
+    /// Memory was wanted for the next head. The call can be made again.
+    Buffer(GrowError),
+}
+
+impl<R: Tell> Body<R> {
+    /// The body of a message with this head, of which the reader has the beginning.
+    pub(crate) fn new(alloc: Global, reader: BufReader<R>, head: Buffer, extent: Extent) -> Self
+        requires room { 8192 ≤ head.capacity }
+        ensures { result ≡ begun (unbuffered reader) head.bytes extent }
+    {
+        let source = match extent {
+            Extent::Sized(len) => Source::Sized(reader, len),
+            Extent::Chunked => Source::Chunked(ChunkedReader::new(reader, LIMITS)),
+        };
+        Body {
+            alloc,
+            source,
+            head,
+        }
+    }
+
+    /// The head.
+    pub fn head(&self) -> &[u8]
+        ensures { result.now ≡ self.now.head }
+    {
+        self.head.buf()
+    }
+}
+
+impl<R: TellRead> Body<R> {
+    /// Hands out payload, at least a byte unless the body ended or the slice is empty. After an `Io` the call can be made again;
+    /// what is wrong, or missing, is so at each further call.
+    pub fn read(&mut self, out: &mut [u8]) -> Result<usize, ChunkedError>
+        ensures bound { IfOk result (λ n. n ≤ length out.new) }
+        ensures goes { InsideGoes R.remaining self.old (handed_out out.new result) self.new }
+        ensures ended { result ≡ Ok 0 → 0 < length out.new → IsRest self.new.rest [] [] }
+        ensures fails { IfErr result (λ e. Fails self.old.stream e self.new.stream self.new.rest) }
+    {
+        match &mut self.source {
+            Source::Sized(reader, left) => read_sized(reader, left, out),
+            Source::Chunked(body) => read_chunked(body, out),
+        }
+    }
+
+    /// Goes on to the next head: takes what is left of the body, and drops its payload. An `Err` hands the reader back, in the
+    /// body still.
+    pub fn finish(self) -> Result<Requests<R>, (Self, BodyError)>
+        ensures { MatchResult result (λ next. Ends R.remaining self.stream self.rest (left_of next))
+            (λ e. (handed : List ℕ) × InsideGoes R.remaining self handed e.0
+            × FinishFails self.stream handed e.1 e.0.stream e.0.rest) }
+    {
+        let Body {
+            alloc,
+            source,
+            head,
+        } = self;
+        match end_of(source) {
+            Ok(reader) => {
+                let (inner, buffer) = reader.into_inner_with_buffer();
+                match PieceReader::with_buffer(alloc, buffer, inner, Heads) {
+                    Ok(pieces) => Ok(Requests::before(alloc, pieces, head)),
+                    Err(MakeError(back, e)) => Err((
+                        Body {
+                            alloc,
+                            source: Source::Sized(BufReader::with_buffer(back.0, back.1), 0),
+                            head,
+                        },
+                        BodyError::Buffer(e),
+                    )),
+                }
+            }
+            Err((source, e)) => Err((
+                Body {
+                    alloc,
+                    source,
+                    head,
+                },
+                BodyError::Body(e),
+            )),
+        }
+    }
+}
+
+// Reads of a body that has so many bytes before what follows it.
+fn read_sized<R: TellRead>(
+    reader: &mut BufReader<R>,
+    left: &mut u64,
+    out: &mut [u8],
+) -> Result<usize, ChunkedError>
+    ensures bound { IfOk result (λ n. n ≤ length out.new) }
+    ensures takes { Takes R.remaining (unbuffered reader.old) (Bytes left.old) (handed_out out.new result)
+        (unbuffered reader.new) (Bytes left.new) }
+    ensures ended { result ≡ Ok 0 → 0 < length out.new → left.new ≡ 0 }
+    ensures fails { IfErr result (λ e. Fails (unbuffered reader.old) e (unbuffered reader.new) (Bytes left.new)) }
+{
+    let most = (*left).min(out.len() as u64) as usize;
+    if most == 0 {
+        return Ok(0);
+    }
+    let count = reader.read(&mut out[..most])?;
+    if count == 0 {
+        return Err(ChunkedError::Truncated(*left));
+    }
+    *left -= count as u64;
+    Ok(count)
+}
+
+// Reads of a body in chunks.
+fn read_chunked<R: TellRead>(
+    body: &mut ChunkedReader<R>,
+    out: &mut [u8],
+) -> Result<usize, ChunkedError>
+    ensures bound { IfOk result (λ n. n ≤ length out.new) }
+    ensures takes { Takes R.remaining (unbuffered body.old.reader) (Chunks body.old.limits body.old.place)
+        (handed_out out.new result) (unbuffered body.new.reader) (Chunks body.new.limits body.new.place) }
+    ensures ended { result ≡ Ok 0 → 0 < length out.new → IsRest (Chunks body.new.limits body.new.place) [] [] }
+    ensures fails { IfErr result (λ e. Fails (unbuffered body.old.reader) e (unbuffered body.new.reader)
+        (Chunks body.new.limits body.new.place)) }
+{
+    let _ = body.get_ref();
+    body.read_payload(out)
+}
+
+// Takes what is left of a body.
+fn end_of<R: TellRead>(source: Source<R>) -> Result<BufReader<R>, (Source<R>, ChunkedError)>
+    ensures { MatchResult result
+        (λ reader. Ends R.remaining (stream_of source) (rest_of source) (unbuffered reader))
+        (λ e. (handed : List ℕ)
+        × Takes R.remaining (stream_of source) (rest_of source) handed (stream_of e.0) (rest_of e.0)
+        × FailsBehind (stream_of source) handed e.1 (stream_of e.0) (rest_of e.0)) }
+{
+    match source {
+        Source::Sized(mut reader, mut left) => match skip(&mut reader, &mut left) {
+            Ok(()) => Ok(reader),
+            Err(e) => Err((Source::Sized(reader, left), e)),
+        },
+        Source::Chunked(body) => finish_chunked(body),
+    }
+}
+
+fn finish_chunked<R: TellRead>(
+    body: ChunkedReader<R>,
+) -> Result<BufReader<R>, (Source<R>, ChunkedError)>
+    ensures { MatchResult result
+        (λ reader. Ends R.remaining (unbuffered body.reader) (Chunks body.limits body.place) (unbuffered reader))
+        (λ e. (handed : List ℕ) × Takes R.remaining (unbuffered body.reader) (Chunks body.limits body.place) handed
+        (stream_of e.0) (rest_of e.0)
+        × FailsBehind (unbuffered body.reader) handed e.1 (stream_of e.0) (rest_of e.0)) }
+{
+    let _ = body.get_ref();
+    match body.finish() {
+        Ok(reader) => Ok(reader),
+        Err((body, e)) => {
+            let _ = body.get_ref();
+            Err((Source::Chunked(body), e))
+        }
+    }
+}
+
+// Drops so many bytes.
+fn skip<R: TellRead>(reader: &mut BufReader<R>, left: &mut u64) -> Result<(), ChunkedError>
+    ensures dropped { (wire : List ℕ) × ReadsAlong R.remaining std_read_rules reader.old wire reader.new
+        × (length wire + left.new ≡ left.old) }
+    ensures all { OnOk result (left.new ≡ 0) }
+    ensures fails { IfErr result (λ e. Fails (unbuffered reader.old) e (unbuffered reader.new) (Bytes left.new)) }
+{
+    while *left > 0 {
+        let shown = reader.fill_buf()?;
+        if shown.is_empty() {
+            return Err(ChunkedError::Truncated(*left));
+        }
+        let count = (*left).min(shown.len() as u64) as usize;
+        reader.consume(count);
+        *left -= count as u64;
+    }
+    Ok(())
+}

@@ -1,0 +1,78 @@
+//! Laws, each as the contract of a function.
+ghost use Rattle.std.specs.Prelude.{◌≡◌, ℕ, List, ◌∷◌, [], ◌++◌, length, IfErr, IfOk, Some};
+ghost use Rattle.buffer_redux.specs.Unbuffer.{Unbuffered, unbuffer_remaining};
+ghost use Rattle.codec.specs.Piecing.{Piecing, left_of};
+ghost use Rattle.messages.specs.declared.head.Heads as head;
+ghost use Rattle.messages.specs.Messages.{AreMessages, Begun, Ends, InBody, Message, MessageWent, MessagesWent, Takes};
+ghost use Rattle.messages.specs.Passing.{StopsBehind, StopsIn};
+
+use crate::body::{Body, BodyError};
+use crate::requests::{Requests, Stop};
+use buffer_redux::tell::{Tell, TellRead};
+
+/// No message begins another: a text is cut into so many messages in one way.
+pub fn one_cut()
+    ensures { (messages others : List Message) (text text' behind behind' : List ℕ) → length messages ≡ length others
+        → AreMessages messages text → AreMessages others text' → text ++ behind ≡ text' ++ behind'
+        → (messages ≡ others) × (behind ≡ behind') }
+{}
+
+/// However a stream is cut into reads, and whatever its reads answered: from `next` to `finish`, whatever was read of the body
+/// between, just a message goes, so the next one begins where this one ended (`one`, `many`). So of a stream that is known the
+/// messages that went are its first, and what follows them is left (`known`). Where a call failed, the reader that it hands back
+/// stands before the same head, or in the same body, of which what was taken is gone (`next`, `read` and `finish` say so).
+pub fn no_byte_between<R: TellRead>(requests: &Requests<R>)
+    ensures one { (s : Piecing R head.Heads) (b m : InBody R) (handed : List ℕ) → Begun R.remaining s b
+        → Takes R.remaining b.stream b.rest handed m.stream m.rest
+        → (ends : Ends R.remaining m.stream m.rest (left_of requests.now))
+        → MessageWent R.remaining (left_of s) b.head (handed ++ ends.payload) (left_of requests.now) }
+    ensures many { (s m : Unbuffered R) (messages : List Message) (head payload : List ℕ)
+        → MessagesWent R.remaining s messages m → MessageWent R.remaining m head payload (left_of requests.now)
+        → MessagesWent R.remaining s (messages ++ (head, payload) ∷ []) (left_of requests.now) }
+    ensures known { (s : Unbuffered R) (messages others : List Message) (text behind : List ℕ)
+        → MessagesWent R.remaining s messages (left_of requests.now)
+        → unbuffer_remaining R.remaining s ≡ Some (text ++ behind) → AreMessages others text
+        → length messages ≡ length others
+        → (messages ≡ others) × (unbuffer_remaining R.remaining (left_of requests.now) ≡ Some behind) }
+{}
+
+/// Why fewer messages went: the reader stands before a head, or in a body.
+#[derive(Drop)]
+pub enum Stopped<R: Tell> {
+    Before(Requests<R>, Stop),
+    Inside(Body<R>, BodyError),
+}
+
+/// Passes so many messages, however the stream is cut: each begins where the one before it ended, and what is left begins where
+/// the last did. An `Err` stands behind fewer, before a head, of which nothing is gone, or in a body.
+pub fn pass<R: TellRead>(requests: Requests<R>, count: usize) -> Result<Requests<R>, Stopped<R>>
+    ensures passed { IfOk result (λ next. (messages : List Message) × (length messages ≡ count)
+        × MessagesWent R.remaining (left_of requests) messages (left_of next)) }
+    ensures stopped { IfErr result (StopsBehind R.remaining (left_of requests) count) }
+{
+    let mut next = requests;
+    for _ in 0..count {
+        match pass_one(next) {
+            Ok(behind) => {
+                next = behind;
+            }
+            Err(stopped) => return Err(stopped),
+        }
+    }
+    Ok(next)
+}
+
+// Passes one.
+fn pass_one<R: TellRead>(requests: Requests<R>) -> Result<Requests<R>, Stopped<R>>
+    ensures passed { IfOk result (λ next. (head : List ℕ) × (payload : List ℕ)
+        × MessageWent R.remaining (left_of requests) head payload (left_of next)) }
+    ensures stopped { IfErr result (StopsIn R.remaining (left_of requests)) }
+{
+    match requests.next() {
+        Ok(body) => match body.finish() {
+            Ok(next) => Ok(next),
+            Err((body, e)) => Err(Stopped::Inside(body, e)),
+        },
+        Err((requests, stop)) => Err(Stopped::Before(requests, stop)),
+    }
+}

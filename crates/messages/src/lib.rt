@@ -1,0 +1,15 @@
+//! Requests of HTTP/1.1 in a stream (RFC 9112): a head, its body, the next head.
+//!
+//! [`Requests`] stands before a head, and `next` goes on into the body; a [`Body`] stands in one, and its `finish` goes on to
+//! the next head. There is no other way from one to the other, so no byte of a body is taken for a head, also after an `Err`.
+#![tactic(auto)]
+
+mod body;
+mod head;
+pub mod laws;
+mod lines;
+mod requests;
+
+pub use body::{Body, BodyError, Extent};
+pub use head::{BadHead, Heads, MAX_FIELDS, MAX_HEAD};
+pub use requests::{Requests, Stop};

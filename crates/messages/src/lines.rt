@@ -1,0 +1,70 @@
+//! Where a head ends: behind the first empty line, where CR LF ends each line.
+use crate::head::MAX_HEAD;
+use codec::{Scan, Turn};
+
+/// What stands before the next byte of a head.
+#[derive(Clone, Copy, Debug, Drop)]
+pub enum Before {
+    /// The beginning, or a byte of a line.
+    Text,
+    /// A CR behind such.
+    Return,
+    /// The end of a line.
+    Feed,
+    /// A CR behind that.
+    EmptyReturn,
+}
+
+/// Lines up to an empty one, as a head that has no payload.
+#[derive(Clone, Copy, Debug, Drop)]
+pub struct Lines;
+
+impl Scan for Lines {
+    ghost use Rattle.messages.specs.Heads.{lines};
+    ghost use Rattle.messages.specs.HeadsLaws.{lines_small};
+
+    type State = Before;
+
+    ghost scanning = { λ _. lines };
+
+    fn start(&self) -> Before {
+        Before::Text
+    }
+
+    fn turn(&self, before: Before, byte: u8) -> Turn<Before> {
+        match before {
+            Before::Text => match byte {
+                b'\r' => Turn::More(Before::Return),
+                b'\n' => Turn::Bad,
+                _ => Turn::More(Before::Text),
+            },
+            Before::Return => match byte {
+                b'\n' => Turn::More(Before::Feed),
+                _ => Turn::Bad,
+            },
+            Before::Feed => match byte {
+                b'\r' => Turn::More(Before::EmptyReturn),
+                b'\n' => Turn::Bad,
+                _ => Turn::More(Before::Text),
+            },
+            Before::EmptyReturn => match byte {
+                b'\n' => Turn::Sized(0),
+                _ => Turn::Bad,
+            },
+        }
+    }
+
+    fn most_head(&self) -> usize {
+        MAX_HEAD
+    }
+
+    fn max(&self) -> usize {
+        0
+    }
+
+    fn tail(&self) -> &[u8] {
+        b""
+    }
+
+    ghost small = { λ _. lines_small };
+}

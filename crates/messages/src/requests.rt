@@ -1,0 +1,121 @@
+//! The reader of requests, before a head.
+ghost use Rattle.std.specs.Prelude.{◌≡◌, ◌≤◌, IfErr, IfOk, MatchResult};
+ghost use Rattle.codec.specs.NextPiece.{NextPiece};
+ghost use Rattle.codec.specs.Piecing.{IsFresh, TakenApart};
+ghost use Rattle.messages.specs.Heads.{heads};
+ghost use Rattle.messages.specs.Messages.{Begun, answer_of};
+
+use crate::body::Body;
+use crate::head::{BadHead, Heads, extent};
+use buffer_redux::tell::{Tell, TellRead};
+use buffer_redux::{BufReader, Buffer, MakeError};
+use codec::{NextError, PieceReader};
+use std::alloc::Global;
+use std::io;
+use std::marker::Model;
+
+/// Why there is no next message, or no end of this one.
+#[derive(Debug, Drop)]
+pub enum Stop {
+    /// The stream ended behind the last message.
+    Ended,
+    /// What comes next is no head. Each further call says the same.
+    Bad(BadHead),
+    /// The stream failed. The call can be made again.
+    Io(io::Error),
+}
+
+/// A reader of requests that stands before a head, or at the end of the stream.
+#[derive(Drop)]
+pub struct Requests<R: Tell> {
+    alloc: Global,
+    pieces: PieceReader<R, Heads>,
+    // Room for a head.
+    head: Buffer,
+}
+
+impl<R: Tell> Model for Requests<R> {
+    ghost use Rattle.std.specs.Prelude.{◌≤◌};
+    ghost use Rattle.codec.specs.Piecing.{Piecing};
+    ghost use Rattle.messages.specs.declared.head.Heads.{Heads};
+
+    ghost Value = { Piecing R Heads };
+
+    ghost view = { λ r. r.pieces };
+
+    ghost invariant = { λ r. 8192 ≤ r.head.capacity };
+}
+
+impl<R: Tell> Requests<R> {
+    /// The requests of `inner`. A refusal hands it back.
+    pub fn new(alloc: Global, inner: R) -> Result<Self, MakeError<R>>
+        ensures made { IfOk result (IsFresh R.log 8192 8192 inner (record {})) }
+        ensures handed_back { IfErr result (λ e. e.0 ≡ inner) }
+    {
+        let head = match Buffer::new(alloc) {
+            Ok(head) => head,
+            Err(e) => return Err(MakeError(inner, e)),
+        };
+        match PieceReader::new(alloc, inner, Heads) {
+            Ok(pieces) => Ok(Requests {
+                alloc,
+                pieces,
+                head,
+            }),
+            Err(MakeError(back, e)) => Err(MakeError(back.0, e)),
+        }
+    }
+
+    /// The requests of this reader, with room for a head.
+    pub(crate) fn before(alloc: Global, pieces: PieceReader<R, Heads>, head: Buffer) -> Self
+        requires room { 8192 ≤ head.capacity }
+        ensures { result ≡ pieces }
+    {
+        Requests {
+            alloc,
+            pieces,
+            head,
+        }
+    }
+
+    /// The stream, and the buffer with what comes next of it.
+    pub fn into_inner_with_buffer(self) -> (R, Buffer)
+        ensures { TakenApart R.log self result.0 result.1 }
+    {
+        let Requests {
+            alloc: _,
+            pieces,
+            head: _,
+        } = self;
+        pieces.into_inner_with_buffer()
+    }
+}
+
+impl<R: TellRead> Requests<R> {
+    /// Goes on into the next message. An `Err` says why there is none, and hands the reader back, before what there is.
+    pub fn next(mut self) -> Result<Body<R>, (Self, Stop)>
+        ensures { MatchResult result (Begun R.remaining self)
+            (λ e. NextPiece R.remaining heads self (answer_of e.1) e.0) }
+    {
+        match self.pieces.step() {
+            Ok(Some(span)) => {
+                let lent = self.pieces.lent(span);
+                let Some(extent) = extent(lent) else {
+                    unreachable!()
+                };
+                self.head.clear();
+                self.head.append(lent);
+                let Requests {
+                    alloc,
+                    pieces,
+                    head,
+                } = self;
+                let (inner, buffer) = pieces.into_inner_with_buffer();
+                Ok(Body::new(alloc, BufReader::with_buffer(buffer, inner), head, extent))
+            }
+            Ok(None) => Err((self, Stop::Ended)),
+            Err(NextError::Wrong(why)) => Err((self, Stop::Bad(why))),
+            Err(NextError::Io(e)) => Err((self, Stop::Io(e))),
+        }
+    }
+}
