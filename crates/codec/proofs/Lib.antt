@@ -1,6 +1,7 @@
 pub mod Buffered
 pub mod Delimiting
 pub mod Heads
+pub mod Lending
 pub mod Loading
 pub mod Playing
 pub mod Reading

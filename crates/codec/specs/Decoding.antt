@@ -1,5 +1,5 @@
 -- What the calls of a decoder answer.
-use Rattle.std.specs.Prelude.{ℕ, ◌+◌, ◌<◌, ◌≤◌, List, length, take, drop}
+use Rattle.std.specs.Prelude.{ℕ, ◌+◌, ◌<◌, ◌≤◌, ◌⊎◌, List, length, take, drop}
 use Rattle.codec.specs.declared.decoder.End.{End}
 use Rattle.codec.specs.declared.decoder.End.TheVariants as end
 use Rattle.codec.specs.declared.decoder.Found.{Found}
@@ -16,6 +16,16 @@ pub record IsPiece {W : Type 0} (g : Grammar W) (bytes : List ℕ) (span : Span)
   pub inside : used ≤ length bytes
   pub within : span.from + span.len ≤ used
   pub is : g.piece (take used bytes) (bytes_at span bytes)
+
+-- of so many first bytes that were handed out the last are a piece, or a last one, and its payload is there. So this holds of the
+-- place that the last step answered, and of one that an earlier step answered only where it shows just the same
+pub record IsLent {W : Type 0} (g : Grammar W) (handed : ℕ) (bytes : List ℕ) (span : Span) : Type 0 where
+  pub start : ℕ
+  pub after : start ≤ span.from
+  pub within : span.from + span.len ≤ handed
+  pub inside : handed ≤ length bytes
+  pub is : g.piece (drop start (take handed bytes)) (bytes_at span bytes)
+      ⊎ g.last (drop start (take handed bytes)) (bytes_at span bytes)
 
 -- what each answer of `decode` means
 abbrev pub Decodes : {W : Type 0} → Grammar W → List ℕ → Found W → Type 0

@@ -7,7 +7,7 @@ ghost use Rattle.buffer_redux.specs.GrowError.{FitsWithin};
 ghost use Rattle.buffer_redux.specs.MakeError.{growth};
 ghost use Rattle.codec.specs.contracts.reader.PieceReader.{the_row};
 ghost use Rattle.codec.specs.declared.error.NextError.TheVariants.{Wrong};
-ghost use Rattle.codec.specs.Decoding.{bytes_at};
+ghost use Rattle.codec.specs.Decoding.{IsLent, bytes_at};
 ghost use Rattle.codec.specs.Grammar.{Begins, Lacks};
 ghost use Rattle.codec.specs.Piecing.{IsOver, IsPiecing, IsFresh, IsSettled, Skips, TakenApart, redecoded, rest, room_for, with_stream};
 ghost use Rattle.codec.specs.NextPiece.{AsksNone, NextBuffered, NextPiece, Refills, buffered_answer, load_answer};
@@ -226,10 +226,10 @@ impl<R: Tell, D: Decoder> PieceReader<R, D> {
     }
 
     /// The payload that the last [`step`](PieceReader::step), or [`step_buffered`](PieceReader::step_buffered), went on to, which
-    /// said where it is.
+    /// said where it is. A place that an earlier step said is refused.
     #[inline(always)]
     pub fn lent(&self, span: Span) -> &[u8]
-        requires { span.from + span.len ≤ length self.now.reader.block.bytes }
+        requires { IsLent (D.grammar self.now.decoder) self.now.handed self.now.reader.block.bytes span }
         ensures { result.now ≡ bytes_at span self.now.reader.block.bytes }
     {
         &self.reader.buffer()[span.from..span.from + span.len]
@@ -278,8 +278,8 @@ impl<R: TellRead, D: Decoder> PieceReader<R, D> {
     pub fn step(&mut self) -> Result<Option<Span>, NextError<D::Wrong>>
         ensures next { NextPiece R.remaining (D.grammar self.old.decoder) self.old
             (load_answer result self.new) self.new }
-        ensures within { IfOk result (λ found. IfSome found (λ span.
-            span.from + span.len ≤ length self.new.reader.block.bytes)) }
+        ensures lends { IfOk result (λ found. IfSome found
+            (IsLent (D.grammar self.new.decoder) self.new.handed self.new.reader.block.bytes)) }
         ensures ready { (piece payload more : List ℕ) → (D.grammar self.old.decoder).piece piece payload
             → rest self.old ≡ piece ++ more → load_answer result self.new ≡ Ok (Some payload) }
         ensures wrong { (e : D.Wrong) → (D.grammar self.old.decoder).wrong (rest self.old) e
@@ -303,7 +303,8 @@ impl<R: TellRead, D: Decoder> PieceReader<R, D> {
     pub fn step_buffered(&mut self) -> Option<Span>
         ensures next { NextBuffered R.remaining (D.grammar self.old.decoder) self.old
             (buffered_answer result self.new) self.new }
-        ensures within { IfSome result (λ span. span.from + span.len ≤ length self.new.reader.block.bytes) }
+        ensures lends { IfSome result
+            (IsLent (D.grammar self.new.decoder) self.new.handed self.new.reader.block.bytes) }
     {
         let at = self.handed;
         match self.take() {
@@ -366,8 +367,8 @@ impl<R: TellRead, D: Decoder> PieceReader<R, D> {
         requires lacks { Lacks (D.grammar self.old.decoder) need (rest self.old) }
         ensures next { NextPiece R.remaining (D.grammar self.old.decoder) self.old
             (load_answer result self.new) self.new }
-        ensures within { IfOk result (λ found. IfSome found (λ span.
-            span.from + span.len ≤ length self.new.reader.block.bytes)) }
+        ensures lends { IfOk result (λ found. IfSome found
+            (IsLent (D.grammar self.new.decoder) self.new.handed self.new.reader.block.bytes)) }
     {
         self.drop_handed();
         let mut need = need;

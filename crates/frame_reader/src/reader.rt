@@ -4,9 +4,10 @@ ghost use Rattle.std.specs.Borrow.{sem};
 ghost use Rattle.std.specs.Io.BufRead.{Rests};
 ghost use Rattle.buffer_redux.specs.GrowError.{FitsWithin};
 ghost use Rattle.buffer_redux.specs.MakeError.{growth};
-ghost use Rattle.codec.specs.Decoding.{bytes_at};
+ghost use Rattle.codec.specs.Decoding.{IsLent, bytes_at};
 ghost use Rattle.codec.specs.Piecing.{IsOver, TakenApart};
 ghost use Rattle.frame_reader.specs.contracts.reader.FrameReader.{the_row};
+ghost use Rattle.frame_reader.specs.Framed.{framed};
 ghost use Rattle.frame_reader.specs.Frames.{AreBytes, BeginsWith, frame};
 ghost use Rattle.frame_reader.specs.Framing.{IsFraming, IsFresh, frame_capacity, piecing, rest};
 ghost use Rattle.frame_reader.specs.Next.{IsSettled, Next, NextBuffered, answer_of, buffered_answer, frame_error, load_answer};
@@ -164,7 +165,7 @@ impl<R: Tell> FrameReader<R> {
     // The payload that the last `step` went on to.
     #[inline(always)]
     fn lent(&self, span: Span) -> &[u8]
-        requires { span.from + span.len ≤ length self.now.reader.block.bytes }
+        requires { IsLent (framed self.now.max) self.now.lent self.now.reader.block.bytes span }
         ensures { result.now ≡ bytes_at span self.now.reader.block.bytes }
     {
         self.pieces.lent(span)
@@ -211,8 +212,8 @@ impl<R: TellRead> FrameReader<R> {
     #[inline(always)]
     fn step(&mut self) -> Result<Option<Span>, FrameError>
         ensures next { Next R.remaining self.old (load_answer result self.new) self.new }
-        ensures within { IfOk result (λ found. IfSome found (λ span.
-            span.from + span.len ≤ length self.new.reader.block.bytes)) }
+        ensures lends { IfOk result (λ found. IfSome found
+            (IsLent (framed self.new.max) self.new.lent self.new.reader.block.bytes)) }
     {
         match self.pieces.step() {
             Ok(found) => Ok(found),
@@ -224,7 +225,7 @@ impl<R: TellRead> FrameReader<R> {
     #[inline(always)]
     fn step_buffered(&mut self) -> Option<Span>
         ensures next { NextBuffered R.remaining self.old (buffered_answer result self.new) self.new }
-        ensures within { IfSome result (λ span. span.from + span.len ≤ length self.new.reader.block.bytes) }
+        ensures lends { IfSome result (IsLent (framed self.new.max) self.new.lent self.new.reader.block.bytes) }
     {
         self.pieces.step_buffered()
     }

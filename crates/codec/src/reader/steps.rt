@@ -1,5 +1,6 @@
 //! The steps of which the calls of a reader of pieces are made.
-ghost use Rattle.std.specs.Prelude.{◌≡◌, ◌+◌, ◌<◌, ◌≤◌, [], length, IfOk, IfSome};
+ghost use Rattle.std.specs.Prelude.{◌≡◌, ◌<◌, ◌≤◌, [], length, IfOk, IfSome};
+ghost use Rattle.codec.specs.Decoding.{IsLent};
 ghost use Rattle.codec.specs.Grammar.{IsOpen, Lacks};
 ghost use Rattle.codec.specs.NextPiece.{NextPiece, PiecesWent, load_answer};
 ghost use Rattle.codec.specs.Piecing.{IsPiecing, rest};
@@ -70,8 +71,8 @@ impl<R: TellRead, D: Decoder> PieceReader<R, D> {
         requires lacks { Lacks (D.grammar self.old.decoder) need (rest self.old) }
         ensures next { NextPiece R.remaining (D.grammar self.old.decoder) self.old
             (load_answer result self.new) self.new }
-        ensures within { IfOk result (λ found. IfSome found (λ span.
-            span.from + span.len ≤ length self.new.reader.block.bytes)) }
+        ensures lends { IfOk result (λ found. IfSome found
+            (IsLent (D.grammar self.new.decoder) self.new.handed self.new.reader.block.bytes)) }
     {
         self.load(need)
     }
@@ -84,8 +85,8 @@ impl<R: TellRead, D: Decoder> PieceReader<R, D> {
         requires lacks { Lacks (D.grammar self.old.decoder) need (rest self.old) }
         ensures next { NextPiece R.remaining (D.grammar self.old.decoder) self.old
             (load_answer result self.new) self.new }
-        ensures within { IfOk result (λ found. IfSome found (λ span.
-            span.from + span.len ≤ length self.new.reader.block.bytes)) }
+        ensures lends { IfOk result (λ found. IfSome found
+            (IsLent (D.grammar self.new.decoder) self.new.handed self.new.reader.block.bytes)) }
     {
         match self.step_on(need) {
             Ok(found) => Ok(found),

@@ -1,9 +1,9 @@
 //! The steps of a reader of lines: what is buffered is handed out or dropped, and the stream is asked.
-ghost use Rattle.std.specs.Prelude.{◌≡◌, ℕ, ◌+◌, ◌≤◌, List, length, IfOk, IfSome, true, false};
+ghost use Rattle.std.specs.Prelude.{◌≡◌, IfOk, IfSome, true, false};
 ghost use Rattle.std.specs.Bool.{OnFalse, OnTrue};
-ghost use Rattle.codec.specs.Decoding.{bytes_at};
+ghost use Rattle.codec.specs.Decoding.{IsLent, bytes_at};
 ghost use Rattle.line_reader.specs.Lines.{BeginsWhole, IsTrimmed};
-ghost use Rattle.line_reader.specs.Lining.{IsLining, rest};
+ghost use Rattle.line_reader.specs.Lining.{IsLining, lined, rest};
 ghost use Rattle.line_reader.specs.NextLine.{NextBuffered, NextLine, buffered_answer, load_answer};
 ghost use Rattle.line_reader.specs.SkipLine.{DropsThrough, NextGoes};
 ghost use Rattle.line_reader.specs.Steps.{DropsLine};
@@ -23,7 +23,7 @@ impl<R: Tell> LineReader<R> {
     // The line that the last step handed out.
     #[inline(always)]
     pub(super) fn lent(&self, span: Span) -> &[u8]
-        requires { span.from + span.len ≤ length self.now.reader.block.bytes }
+        requires { IsLent (lined self.now.max) self.now.handed self.now.reader.block.bytes span }
         ensures { result.now ≡ bytes_at span self.now.reader.block.bytes }
     {
         self.pieces.lent(span)
@@ -32,7 +32,7 @@ impl<R: Tell> LineReader<R> {
     // The same without the carriage return before its end; the last one has none.
     #[inline(always)]
     pub(super) fn shown(&self, span: Span) -> &[u8]
-        requires { span.from + span.len ≤ length self.now.reader.block.bytes }
+        requires { IsLent (lined self.now.max) self.now.handed self.now.reader.block.bytes span }
         ensures last { OnTrue self.now.ended (result.now ≡ bytes_at span self.now.reader.block.bytes) }
         ensures trimmed { OnFalse self.now.ended (IsTrimmed (bytes_at span self.now.reader.block.bytes) result.now) }
     {
@@ -65,7 +65,7 @@ impl<R: TellRead> LineReader<R> {
     pub(super) fn step_buffered(&mut self) -> Option<Span>
         ensures before { IsLining self.old }
         ensures next { NextBuffered R.remaining self.old (buffered_answer result self.new) self.new }
-        ensures within { IfSome result (λ span. span.from + span.len ≤ length self.new.reader.block.bytes) }
+        ensures lends { IfSome result (IsLent (lined self.new.max) self.new.handed self.new.reader.block.bytes) }
         ensures open { IfSome result (λ _. self.old.skipping ≡ false) }
         ensures going { IfSome result (λ _. self.new.ended ≡ false) }
     {
@@ -78,8 +78,8 @@ impl<R: TellRead> LineReader<R> {
     pub(super) fn load(&mut self) -> Result<Option<Span>, LineError>
         requires none { ¬ (BeginsWhole self.old.max (rest self.old)) }
         ensures next { NextGoes R.remaining self.old (load_answer result self.new) self.new }
-        ensures within { IfOk result (λ found. IfSome found (λ span.
-            span.from + span.len ≤ length self.new.reader.block.bytes)) }
+        ensures lends { IfOk result (λ found. IfSome found
+            (IsLent (lined self.new.max) self.new.handed self.new.reader.block.bytes)) }
     {
         if self.skipping {
             self.load_aside()
@@ -94,8 +94,8 @@ impl<R: TellRead> LineReader<R> {
     fn load_aside(&mut self) -> Result<Option<Span>, LineError>
         requires skipping { self.old.skipping ≡ true }
         ensures next { NextGoes R.remaining self.old (load_answer result self.new) self.new }
-        ensures within { IfOk result (λ found. IfSome found (λ span.
-            span.from + span.len ≤ length self.new.reader.block.bytes)) }
+        ensures lends { IfOk result (λ found. IfSome found
+            (IsLent (lined self.new.max) self.new.handed self.new.reader.block.bytes)) }
     {
         self.load_behind()
     }
@@ -105,8 +105,8 @@ impl<R: TellRead> LineReader<R> {
     fn load_behind(&mut self) -> Result<Option<Span>, LineError>
         requires skipping { self.old.skipping ≡ true }
         ensures next { NextGoes R.remaining self.old (load_answer result self.new) self.new }
-        ensures within { IfOk result (λ found. IfSome found (λ span.
-            span.from + span.len ≤ length self.new.reader.block.bytes)) }
+        ensures lends { IfOk result (λ found. IfSome found
+            (IsLent (lined self.new.max) self.new.handed self.new.reader.block.bytes)) }
     {
         self.skip_line()?;
         match self.step_buffered() {
@@ -121,8 +121,8 @@ impl<R: TellRead> LineReader<R> {
         requires open { self.old.skipping ≡ false }
         requires none { ¬ (BeginsWhole self.old.max (rest self.old)) }
         ensures next { NextLine R.remaining self.old (load_answer result self.new) self.new }
-        ensures within { IfOk result (λ found. IfSome found (λ span.
-            span.from + span.len ≤ length self.new.reader.block.bytes)) }
+        ensures lends { IfOk result (λ found. IfSome found
+            (IsLent (lined self.new.max) self.new.handed self.new.reader.block.bytes)) }
     {
         let have = self.pieces.rest().len();
         let max = self.pieces.decoder().max;

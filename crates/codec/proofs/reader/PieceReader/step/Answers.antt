@@ -1,6 +1,7 @@
 use Rattle.std.proofs.Common.{ap, subst}
 use Rattle.codec.specs.NextPiece.{NextPiece, load_answer}
 use Rattle.codec.specs.NextPieceLaws.{NextPiece-ready, NextPiece-wrong}
+use Rattle.codec.proofs.Lending.{lends_piece}
 use Rattle.codec.proofs.Loading.{next_looked, takes_shown}
 use Rattle.codec.proofs.reader.PieceReader.step.Goals as goal
 
@@ -38,3 +39,8 @@ returns-in-More-clause-next g c =
     let same = ap (λ x. x.decoder) wants.same in
     next_looked remaining gram (g.met.D.Decoder.lawful s.decoder) s m t c.in-More.need answer wants
     (subst (λ d. NextPiece remaining (g.D.Decoder.grammar d) m answer t) same c.load_aside.ensures.next)
+
+pub returns-in-Piece-clause-lends : goal.returns-in-Piece-clause-lends
+returns-in-Piece-clause-lends g c =
+    lends_piece g.D.Decoder.grammar c.args.self.now c.take.new.self c.self.inside.handed (ap (λ x. x.handed) c.self.view_is)
+    c.take.ensures.whole c.in-Piece.span c.in-Piece.field-1 c.in-Piece.ensures.takes

@@ -1,5 +1,6 @@
 use Rattle.std.proofs.Common.{ap}
 use Rattle.codec.proofs.Buffered.{none_wrong, none_yet}
+use Rattle.codec.proofs.Lending.{lends_piece}
 use Rattle.codec.proofs.Loading.{takes_shown}
 use Rattle.codec.proofs.reader.PieceReader.step_buffered.Goals as goal
 
@@ -26,3 +27,8 @@ returns-in-Wrong-clause-next g c =
     let s = c.args.self.now in
     none_wrong (g.D.Decoder.grammar s.decoder) s c.take.new.self c.take.ensures.whole
     (g.met.D.Decoder.lawful s.decoder) c.in-Wrong.field-0 c.in-Wrong.ensures.takes.0 c.in-Wrong.ensures.takes.1
+
+pub returns-in-Piece-clause-lends : goal.returns-in-Piece-clause-lends
+returns-in-Piece-clause-lends g c =
+    lends_piece g.D.Decoder.grammar c.args.self.now c.take.new.self c.self.inside.handed (ap (λ x. x.handed) c.self.view_is)
+    c.take.ensures.whole c.in-Piece.span c.in-Piece.field-1 c.in-Piece.ensures.takes

@@ -1,6 +1,7 @@
 use Rattle.std.proofs.Common.{Err, false, subst, ◌∙◌}
 use Rattle.codec.specs.Piecing.{IsPiecing}
 use Rattle.codec.specs.Steps.{AsksFor, TakesEnd}
+use Rattle.codec.proofs.Lending.{lends_end, lends_first}
 use Rattle.codec.proofs.Loading.{asked_as, load_fails, load_finished, loads_on, takes_loaded, turned, wrong_next}
 use Rattle.codec.proofs.reader.PieceReader.step_on.Goals as goal
 
@@ -62,3 +63,13 @@ turns-preserved g c =
     loads_on remaining (g.D.Decoder.grammar s.decoder) (g.met.D.Decoder.lawful s.decoder) s t v c.in-More.more
     (turned remaining g.D.Decoder.grammar g.met.D.Decoder.lawful s c.turns.self t v c.turns.need c.turns.invariant
     c.in-Ok-true.field-0-test c.in-Ok-true.ensures c.in-More.is c.take.ensures.takes c.take.ensures.whole)
+
+pub returns-in-Ok-false-clause-lends : goal.returns-in-Ok-false-clause-lends
+returns-in-Ok-false-clause-lends g c =
+    lends_end g.D.Decoder.grammar c.read_to.new.self c.take_end.new.self c.read_to.ensures.handed c.take_end.result
+    c.take_end.ensures.takes
+
+pub returns-in-Piece-clause-lends : goal.returns-in-Piece-clause-lends
+returns-in-Piece-clause-lends g c =
+    lends_first g.D.Decoder.grammar c.read_to.new.self c.take.new.self c.read_to.ensures.handed c.take.ensures.whole
+    c.in-Piece.span c.in-Piece.field-1 c.in-Piece.ensures.takes
