@@ -115,6 +115,7 @@ module _ (end : ℕ) where
           let parts = plain-same a b xs ys is.plain is'.plain (sym (cut p a xs is) ∙ same ∙ cut q b ys is') in
           (is.equal ∙ ap (λ l. l ++ end ∷ []) parts.0 ∙ sym is'.equal, parts.0);
       some = λ p a is. omega (arith, ap length is.equal, length-append a (end ∷ []));
+      room = omega arith;
       apart = λ p a more e is wrong.
           end-within a more max is.fits (subst (λ l. IsPlain end (take (1 + max) l)) (cut p a more is) wrong.plain);
       reason = λ bytes e e' wrong wrong'. wrong.told ∙ sym wrong'.told;

@@ -118,6 +118,7 @@ module _ (h : Headings) (law : IsHeading h) where
   headed_lawful = record {
     one = one;
     some = λ p a is. omega (arith, size p a is, (law.some p (length a) is.used is.is).0);
+    room = omega (arith, law.short [] law.nothing);
     apart = apart;
     reason = reason;
     stays = stays;

@@ -32,6 +32,7 @@ pub mod ScanningLaws
 pub mod Steps
 pub mod StreamWent
 pub mod TextHeads
+pub mod TextHeadsInLaws
 pub mod TextHeadsLaws
 pub mod TextHeadsOut
 pub mod TextHeadsOutLaws

@@ -1,7 +1,10 @@
 -- Heads that are text.
 use Rattle.std.specs.Prelude.{ℕ, ◌+◌, ◌<◌, ◌^◌, List, length, Bool, ◌&&◌, ◌==◌, nat_lt, if◌then◌else◌, slice_index, Option, None, Some}
 use Rattle.codec.specs.Number.{with_byte}
-use Rattle.codec.specs.Scanning.{Scanning}
+use Rattle.codec.specs.Grammar.{Grammar}
+use Rattle.codec.specs.Headings.{headed}
+use Rattle.codec.specs.Scanning.{Scanning, scanned}
+use Rattle.codec.specs.declared.head_error.HeadError.{HeadError}
 use Rattle.codec.specs.declared.number.Number.{Number}
 use Rattle.codec.specs.declared.number.Number.TheVariants.{Empty, Is}
 use Rattle.codec.specs.declared.scan.Turn.{Turn}
@@ -60,3 +63,7 @@ text_scanning w = record {
   max = w.max;
   tail = w.tail;
 }
+
+-- the pieces whose heads are such, as `ByHead(ByText(..))` reads them
+abbrev pub texted : Words → Grammar HeadError
+texted w = headed (scanned (text_scanning w))

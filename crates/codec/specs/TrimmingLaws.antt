@@ -78,6 +78,7 @@ module _ {W : Type 0} (g : Grammar W) where
         let parts = law.one p q xs ys is.payload is'.payload is.is is'.is same in
         (parts.0, trimmed_same is'.payload a b (subst (λ l. IsTrimmed l a) parts.1 is.trimmed) is'.trimmed);
     some = λ p a is. law.some p is.payload is.is;
+    room = law.room;
     apart = λ p a more e is. law.apart p is.payload more e is.is;
     reason = law.reason;
     stays = law.stays;

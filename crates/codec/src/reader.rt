@@ -348,7 +348,6 @@ impl<R: TellRead, D: Decoder> PieceReader<R, D> {
     /// the next [`step`](PieceReader::step) tells. An `Err` leaves nothing, too.
     pub fn refill(&mut self) -> io::Result<bool>
         requires none { rest self.old ≡ [] }
-        requires room { 0 < (D.grammar self.old.decoder).most }
         ensures { Refills R.remaining (D.grammar self.old.decoder) self.old result self.new }
     {
         self.drop_handed();

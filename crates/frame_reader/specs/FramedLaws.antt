@@ -41,6 +41,7 @@ framed_lawful max = record {
       (ap (λ l. l ++ xs) (sym is.equal) ∙ same ∙ ap (λ l. l ++ ys) is'.equal) in
       (is.equal ∙ ap frame parts.0 ∙ sym is'.equal, parts.0);
   some = λ p a is. omega (arith, size max p a is);
+  room = omega arith;
   apart = λ p a more e is wrong.
       let same = begins-same (length a) wrong.len (p ++ more) (begins-frame max p a more is) wrong.begins in
       omega (arith, is.fits, wrong.above, same);

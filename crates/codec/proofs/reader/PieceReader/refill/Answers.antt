@@ -1,10 +1,14 @@
-use Rattle.std.proofs.Common.{Ok, Err, not, true, false, refl, subst, sym}
+use Rattle.std.proofs.Common.{Ok, Err, arith, not, true, false, refl, subst, sym}
 use Rattle.std.proofs.lemmas.Result.{err_from_is_err_and}
 use Rattle.codec.specs.NextPiece.{Refills}
 use Rattle.codec.specs.Piecing.{Piecing}
 use Rattle.codec.specs.Steps.{AsksFor}
 use Rattle.codec.proofs.Refilling.{ends, fails, refilled}
 use Rattle.codec.proofs.reader.PieceReader.refill.Goals as goal
+
+pub read_to-requires-clause-most : goal.read_to-requires-clause-most
+read_to-requires-clause-most g c =
+    omega (arith, (g.met.D.Decoder.lawful c.drop_handed.new.self.decoder).room)
 
 pub returns-in_err-came : goal.returns-in_err-came
 returns-in_err-came g c =
