@@ -5,6 +5,8 @@ pub mod DelimitedLaws
 pub mod DelimitedOut
 pub mod DelimitedOutLaws
 pub mod Encoding
+pub mod FirstByte
+pub mod FirstByteLaws
 pub mod Grammar
 pub mod GrammarLaws
 pub mod Headings

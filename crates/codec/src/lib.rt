@@ -6,6 +6,7 @@
 
 mod both;
 mod buffer;
+mod by_first;
 mod by_head;
 mod decoder;
 mod delimited;
@@ -31,6 +32,7 @@ mod trimmed_reader;
 mod writer;
 
 pub use both::{Codec, written_text};
+pub use by_first::{ByFirst, EitherWrong};
 pub use by_head::ByHead;
 pub use decoder::{Decoder, End, Found, Span};
 pub use delimited::{Delimited, TooLong, find_end};

@@ -1,0 +1,55 @@
+-- Protocols in one stream that the first byte of a piece tells apart.
+use Rattle.std.specs.Prelude.{◌≡◌, ℕ, ◌==◌, List, [], ◌∷◌, max, Bool, true, false}
+use Rattle.codec.specs.declared.by_first.EitherWrong.{EitherWrong}
+use Rattle.codec.specs.declared.by_first.EitherWrong.TheVariants.{One, Other}
+use Rattle.codec.specs.declared.decoder.End.{End}
+use Rattle.codec.specs.declared.decoder.End.TheVariants as end
+use Rattle.codec.specs.declared.decoder.Found.{Found}
+use Rattle.codec.specs.declared.decoder.Found.TheVariants as found
+use Rattle.codec.specs.Grammar.{Grammar}
+
+-- the same pieces, with other words for why bytes are none
+abbrev pub renamed : {V W : Type 0} → (V → W) → Grammar V → Grammar W
+renamed {V} {W} f g = record {
+  most = g.most;
+  piece = g.piece;
+  wrong = λ bytes e. (why : V) × g.wrong bytes why × (e ≡ f why);
+  last = g.last;
+  cut = λ bytes e. (why : V) × g.cut bytes why × (e ≡ f why);
+}
+
+-- the answers of a decoder of those
+abbrev pub found_as : {V W : Type 0} → (V → W) → Found V → Found W
+found_as f (found.Piece span used) = found.Piece span used
+found_as f (found.More n) = found.More n
+found_as f (found.Wrong e) = found.Wrong (f e)
+
+abbrev pub end_as : {V W : Type 0} → (V → W) → End V → End W
+end_as f (end.Last span) = end.Last span
+end_as f (end.Wrong e) = end.Wrong (f e)
+
+-- what the first byte says of bytes; nothing does of none
+abbrev pub OnFirst : {A : Type 0} → (ℕ → List ℕ → A → Type 0) → List ℕ → A → Type 0
+OnFirst Says [] x = ⊥
+OnFirst Says (byte ∷ bytes) x = Says byte (byte ∷ bytes) x
+
+-- any number of protocols: the first byte says of which a piece is
+abbrev pub by_first : {W : Type 0} → ℕ → (ℕ → Grammar W) → Grammar W
+by_first most of_byte = record {
+  most = most;
+  piece = OnFirst (λ byte. (of_byte byte).piece);
+  wrong = OnFirst (λ byte. (of_byte byte).wrong);
+  last = OnFirst (λ byte. (of_byte byte).last);
+  cut = OnFirst (λ byte. (of_byte byte).cut);
+}
+
+-- two: the pieces of the one begin with this byte
+abbrev pub side : {V W : Type 0} → Grammar V → Grammar W → Bool → Grammar (EitherWrong V W)
+side g h true = renamed (λ e. One e) g
+side g h false = renamed (λ e. Other e) h
+
+abbrev pub one_or : {V W : Type 0} → ℕ → Grammar V → Grammar W → ℕ → Grammar (EitherWrong V W)
+one_or byte g h first = side g h (first == byte)
+
+abbrev pub either : {V W : Type 0} → ℕ → Grammar V → Grammar W → Grammar (EitherWrong V W)
+either byte g h = by_first (max g.most h.most) (one_or byte g h)
