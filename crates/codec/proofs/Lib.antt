@@ -1,5 +1,6 @@
 pub mod Buffered
 pub mod Delimiting
+pub mod Fetched
 pub mod Heads
 pub mod Lending
 pub mod Loading

@@ -5,6 +5,7 @@ pub mod DelimitedLaws
 pub mod DelimitedOut
 pub mod DelimitedOutLaws
 pub mod Encoding
+pub mod Fetching
 pub mod FirstByte
 pub mod FirstByteLaws
 pub mod Grammar

@@ -1,0 +1,48 @@
+//! The next piece, before which replies are flushed where the stream is waited for.
+ghost use Rattle.std.specs.Prelude.{IfOk, IfSome};
+ghost use Rattle.codec.specs.Decoding.{IsLent};
+ghost use Rattle.codec.specs.Fetching.{FlushedFirst};
+ghost use Rattle.codec.specs.NextPiece.{NextPiece, load_answer};
+
+use crate::decoder::{Decoder, Span};
+use crate::error::NextError;
+use crate::reader::PieceReader;
+use buffer_redux::BufWriter;
+use buffer_redux::policy::WriterPolicy;
+use buffer_redux::tell::{TellRead, TellWrite};
+use std::io;
+use std::io::Write;
+
+/// Does as [`step`](PieceReader::step), and flushes the writer first where that would ask the stream, and only there. So who
+/// answers requests on a stream holds no reply back while it waits for the next one. An `Err` is the writer's: then nothing was
+/// asked.
+///
+/// ```
+/// let lines = Delimited { end: b'\n', max: 9 };
+/// let mut reader = PieceReader::new(alloc, Told::new(b"one\ntwo\n".as_slice()), lines)?;
+/// let mut writer = BufWriter::new(alloc, Told::new(Vec::new(alloc)))?;
+/// while let Ok(Some(span)) = fetch(&mut reader, &mut writer)? {
+///     writer.write_all(reader.lent(span))?;
+/// }
+/// ```
+pub fn fetch<R: TellRead, D: Decoder, W: TellWrite, P: WriterPolicy>(
+    reader: &mut PieceReader<R, D>,
+    writer: &mut BufWriter<W, P>,
+) -> io::Result<Result<Option<Span>, NextError<D::Wrong>>>
+    ensures next { IfOk result (λ answer. NextPiece R.remaining (D.grammar reader.old.decoder) reader.old
+        (load_answer answer reader.new) reader.new) }
+    ensures lends { IfOk result (λ answer. IfOk answer (λ found. IfSome found
+        (IsLent (D.grammar reader.new.decoder) reader.new.handed reader.new.reader.block.bytes))) }
+    ensures first { FlushedFirst W.log W.stretch (D.grammar reader.old.decoder) reader.old writer.old result
+        reader.new writer.new }
+{
+    if let Some(span) = reader.step_buffered() {
+        return Ok(Ok(Some(span)));
+    }
+    if !reader.is_settled() {
+        if let Err(e) = writer.flush() {
+            return Err(e);
+        }
+    }
+    Ok(reader.step())
+}
