@@ -8,6 +8,7 @@ pub mod Playing
 pub mod Reading
 pub mod Refilling
 pub mod Refusing
+pub mod Saying
 pub mod Searching
 pub mod Stepping
 pub mod Taking

@@ -1,6 +1,6 @@
 -- Laws of protocols that the first byte tells apart.
 use Rattle.std.specs.Prelude.{◌≡◌, ℕ, zero, suc, ◌<◌, ◌≤◌, ◌==◌, List, [], ◌∷◌, ◌++◌, length, take, max, Bool, true, false, slice_index}
-use Rattle.std.proofs.Common.{sym, ap, subst, ◌∙◌, arith, refl}
+use Rattle.std.proofs.Common.{sym, ap, subst, ◌∙◌, arith, refl, inl, inr}
 use Rattle.std.proofs.Math.Nat.{le-max_left, le-max_right}
 use Rattle.codec.specs.declared.by_first.EitherWrong.{EitherWrong}
 use Rattle.codec.specs.declared.by_first.EitherWrong.TheVariants.{One, Other}
@@ -13,6 +13,7 @@ use Rattle.codec.specs.Decoding.{Decodes, Ends, bytes_at}
 use Rattle.codec.specs.FirstByte.{OnFirst, by_first, either, end_as, found_as, one_or, renamed, side}
 use Rattle.codec.specs.Grammar.{Grammar, Begins, IsLawful, IsOpen, Lacks}
 use Rattle.codec.specs.GrammarLaws.{lacks_one, open_none}
+use Rattle.codec.specs.Items.{IsWhole}
 
 -- other words for why bytes are none change nothing else
 module _ {V W : Type 0} (f : V → W) (g : Grammar V) where
@@ -219,3 +220,9 @@ module _ {V W : Type 0} (byte : ℕ) (g : Grammar V) (h : Grammar W) (one_law : 
     side_ends (first ∷ bytes) some is end ends =
         first_ends (max g.most h.most) (one_or byte g h) room laws first bytes end
         (subst (λ x. Ends (side g h x) (first ∷ bytes) end) (sym is) ends)
+
+  -- a piece of either has a first byte
+  pub either_some : (bytes : List ℕ) → IsWhole (either byte g h) bytes → 0 < length bytes
+  either_some [] (payload, inl is) = absurd is
+  either_some [] (payload, inr is) = absurd is
+  either_some (first ∷ bytes) is = omega arith

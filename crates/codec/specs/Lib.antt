@@ -15,6 +15,7 @@ pub mod HeadingsLaws
 pub mod HeadsOut
 pub mod HeadsOutLaws
 pub mod IoErrors
+pub mod Items
 pub mod KnownPayloads
 pub mod KnownPayloadsLaws
 pub mod KnownPieces

@@ -4,6 +4,7 @@ ghost use Rattle.codec.specs.FirstByte.{end_as, found_as};
 ghost use Rattle.codec.specs.declared.by_first.EitherWrong.TheVariants.{One, Other};
 
 use crate::decoder::{Decoder, End, Found};
+use crate::items::Items;
 use std::error::Error;
 use std::fmt;
 
@@ -130,5 +131,19 @@ fn ends_other<V, W>(end: End<W>) -> End<EitherWrong<V, W>>
     match end {
         End::Last(span) => End::Last(span),
         End::Wrong(e) => End::Wrong(EitherWrong::Other(e)),
+    }
+}
+
+/// A piece says whether it is one of `one`.
+impl<A: Decoder, B: Decoder> Items for ByFirst<A, B> {
+    ghost use Rattle.std.specs.Prelude.{◌==◌, slice_index};
+
+    type Item = bool;
+
+    ghost item_of = { λ d bytes. slice_index bytes 0 == d.byte };
+
+    #[inline(always)]
+    fn item(&self, piece: &[u8]) -> bool {
+        begins_with(piece, self.byte)
     }
 }

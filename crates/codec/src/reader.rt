@@ -1,5 +1,5 @@
 //! The reader of pieces.
-ghost use Rattle.std.specs.Prelude.{◌≡◌, ℕ, ◌+◌, ◌*◌, ◌<◌, ◌≤◌, ◌^◌, List, [], ◌++◌, length, Ok, Err, Some, None, ◌↔◌, IfOk, IfErr, IfSome, IsOk, IsTrue, true};
+ghost use Rattle.std.specs.Prelude.{◌≡◌, ℕ, ◌+◌, ◌*◌, ◌<◌, ◌≤◌, ◌^◌, List, [], ◌++◌, length, take, Ok, Err, Some, None, ◌↔◌, IfOk, IfErr, IfSome, IsOk, IsTrue, true};
 ghost use Rattle.std.specs.Bool.{OnTrue};
 ghost use Rattle.std.specs.Borrow.{Lends, sem};
 ghost use Rattle.buffer_redux.specs.Block.{Plain};
@@ -10,8 +10,9 @@ ghost use Rattle.codec.specs.declared.error.NextError.TheVariants.{Wrong};
 ghost use Rattle.codec.specs.Decoding.{IsLent, bytes_at};
 ghost use Rattle.codec.specs.Grammar.{Begins, Lacks};
 ghost use Rattle.codec.specs.Piecing.{IsOver, IsPiecing, IsFresh, IsSettled, Skips, TakenApart, redecoded, rest, room_for, with_stream};
-ghost use Rattle.codec.specs.NextPiece.{AsksNone, NextBuffered, NextPiece, Refills, buffered_answer, load_answer};
+ghost use Rattle.codec.specs.NextPiece.{AsksNone, HandsBytes, NextBuffered, NextPiece, Refills, buffered_answer, load_answer};
 
+mod saying;
 mod steps;
 
 use crate::buffer::{fit_buffer, piece_buffer};
@@ -368,6 +369,8 @@ impl<R: TellRead, D: Decoder> PieceReader<R, D> {
             (load_answer result self.new) self.new }
         ensures lends { IfOk result (λ found. IfSome found
             (IsLent (D.grammar self.new.decoder) self.new.handed self.new.reader.block.bytes)) }
+        ensures front { IfOk result (λ found. IfSome found (λ _.
+            HandsBytes self.old (take self.new.handed self.new.reader.block.bytes) self.new)) }
     {
         self.drop_handed();
         let mut need = need;

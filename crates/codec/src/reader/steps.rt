@@ -1,8 +1,8 @@
 //! The steps of which the calls of a reader of pieces are made.
-ghost use Rattle.std.specs.Prelude.{◌≡◌, ◌<◌, ◌≤◌, [], length, IfOk, IfSome};
+ghost use Rattle.std.specs.Prelude.{◌≡◌, ◌<◌, ◌≤◌, [], length, take, IfOk, IfSome};
 ghost use Rattle.codec.specs.Decoding.{IsLent};
 ghost use Rattle.codec.specs.Grammar.{IsOpen, Lacks};
-ghost use Rattle.codec.specs.NextPiece.{NextPiece, PiecesWent, load_answer};
+ghost use Rattle.codec.specs.NextPiece.{HandsBytes, NextPiece, PiecesWent, load_answer};
 ghost use Rattle.codec.specs.Piecing.{IsPiecing, rest};
 ghost use Rattle.codec.specs.Steps.{AsksFor, Takes, TakesEnd};
 
@@ -73,6 +73,8 @@ impl<R: TellRead, D: Decoder> PieceReader<R, D> {
             (load_answer result self.new) self.new }
         ensures lends { IfOk result (λ found. IfSome found
             (IsLent (D.grammar self.new.decoder) self.new.handed self.new.reader.block.bytes)) }
+        ensures front { IfOk result (λ found. IfSome found (λ _.
+            HandsBytes self.old (take self.new.handed self.new.reader.block.bytes) self.new)) }
     {
         self.load(need)
     }
@@ -87,6 +89,8 @@ impl<R: TellRead, D: Decoder> PieceReader<R, D> {
             (load_answer result self.new) self.new }
         ensures lends { IfOk result (λ found. IfSome found
             (IsLent (D.grammar self.new.decoder) self.new.handed self.new.reader.block.bytes)) }
+        ensures front { IfOk result (λ found. IfSome found (λ _.
+            HandsBytes self.old (take self.new.handed self.new.reader.block.bytes) self.new)) }
     {
         match self.step_on(need) {
             Ok(found) => Ok(found),

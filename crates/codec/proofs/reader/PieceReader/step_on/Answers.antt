@@ -1,8 +1,10 @@
-use Rattle.std.proofs.Common.{Err, false, subst, ◌∙◌}
+use Rattle.std.proofs.Common.{Err, [], ap, false, subst, ◌∙◌}
 use Rattle.codec.specs.Piecing.{IsPiecing}
+use Rattle.codec.specs.PiecesWentLaws.{PiecesWent-joins}
 use Rattle.codec.specs.Steps.{AsksFor, TakesEnd}
 use Rattle.codec.proofs.Lending.{lends_end, lends_first}
 use Rattle.codec.proofs.Loading.{asked_as, load_fails, load_finished, loads_on, takes_loaded, turned, wrong_next}
+use Rattle.codec.proofs.Saying.{hands_front, hands_last}
 use Rattle.codec.proofs.reader.PieceReader.step_on.Goals as goal
 
 pub returns-in-Err-clause-next : goal.returns-in-Err-clause-next
@@ -73,3 +75,27 @@ pub returns-in-Piece-clause-lends : goal.returns-in-Piece-clause-lends
 returns-in-Piece-clause-lends g c =
     lends_first g.D.Decoder.grammar c.read_to.new.self c.take.new.self c.read_to.ensures.handed c.take.ensures.whole
     c.in-Piece.span c.in-Piece.field-1 c.in-Piece.ensures.takes
+
+pub returns-in-Ok-false-clause-front : goal.returns-in-Ok-false-clause-front
+returns-in-Ok-false-clause-front g c =
+    let remaining = g.R.TellRead.remaining in
+    let grammar = g.D.Decoder.grammar in
+    let s = c.args.self.now in
+    let m = c.turns.self in
+    let t = c.read_to.new.self in
+    let inv = c.turns.invariant in
+    let asked = asked_as remaining grammar s m t c.turns.need _ false c.in-Ok-false.field-0-test inv.head.went.decoder
+    c.in-Ok-false.ensures in
+    hands_last s t c.take_end.new.self remaining (grammar s.decoder).most (grammar t.decoder)
+    (PiecesWent-joins remaining (grammar s.decoder).most s m t [] [] inv.head.went asked.went) asked.handed c.take_end.result
+    c.take_end.ensures.takes
+
+pub returns-in-Piece-clause-front : goal.returns-in-Piece-clause-front
+returns-in-Piece-clause-front g c =
+    let remaining = g.R.TellRead.remaining in
+    let s = c.args.self.now in
+    let t = c.read_to.new.self in
+    let v = c.take.new.self in
+    let turn = turned remaining g.D.Decoder.grammar g.met.D.Decoder.lawful s c.turns.self t v c.turns.need c.turns.invariant
+    c.in-Ok-true.field-0-test c.in-Ok-true.ensures c.in-Piece.is c.take.ensures.takes c.take.ensures.whole in
+    hands_front s t v remaining (g.D.Decoder.grammar s.decoder).most turn.head.went turn.handed (ap (λ x. x.reader) turn.takes.same)

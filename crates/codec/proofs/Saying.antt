@@ -1,0 +1,135 @@
+-- What pieces say that a step went on to.
+use Rattle.std.proofs.Common.{◌≡◌, ◌⊎◌, ℕ, ◌+◌, ◌-◌, ◌≤◌, List, [], ◌++◌, length, take, drop, true, false, sym, ap, subst, ◌∙◌, arith, inl, inr, refl, append-nil, Option, Result, Ok, Err, Some, None, IfOk, IfSome}
+use Rattle.std.proofs.lemmas.List.{append_cancel_left, append_cancel_right, drop-drop, take-append-drop}
+use Rattle.codec.specs.declared.decoder.Span.{Span}
+use Rattle.codec.specs.declared.error.NextError.{NextError}
+use Rattle.codec.specs.declared.error.NextError.TheVariants.{Wrong, Io}
+use Rattle.codec.specs.Decoding.{bytes_at}
+use Rattle.codec.specs.Grammar.{Grammar, IsLawful}
+use Rattle.codec.specs.Items.{IsWhole, part}
+use Rattle.codec.specs.NextPiece.{HandsBytes, NextPiece, PiecesWent, load_answer}
+use Rattle.codec.specs.PiecesWentLaws.{PiecesWent-none}
+use Rattle.codec.specs.Piecing.{Piecing, IsPiecing, rest}
+use Rattle.codec.specs.Steps.{TakesEnd, TakesPiece}
+use Rattle.codec.proofs.Reading.{rest_whole}
+
+module _ {S D : Type 0} where
+  -- a stretch hands out one list of bytes
+  pub hands_same : (s t : Piecing S D) (a b : List ℕ) → HandsBytes s a t → HandsBytes s b t → a ≡ b
+  hands_same s t a b h k =
+      let got : h.got ≡ k.got = append_cancel_left s.reader.log.reads.given h.got k.got (sym h.given ∙ k.given) in
+      append_cancel_right a b (rest t) (h.equal ∙ ap (λ l. rest s ++ l) got ∙ sym k.equal)
+
+  -- what stands at the front of the buffer is what was left, and what came
+  pub hands_front : (s m t : Piecing S D) (remaining : S → Option (List ℕ)) (most : ℕ) → PiecesWent remaining most s [] m
+      → m.handed ≡ 0 → t.reader ≡ m.reader → HandsBytes s (take t.handed t.reader.block.bytes) t
+  hands_front s m t remaining most went none same = record {
+    got = went.hands.got;
+    given = ap (λ r. r.log.reads.given) same ∙ went.hands.given;
+    equal = take-append-drop t.handed t.reader.block.bytes ∙ ap (λ r. r.block.bytes) same ∙ sym (rest_whole m none)
+        ∙ went.hands.equal;
+  }
+
+  pub part_front : (t : Piecing S D) → part 0 t.handed t.reader.block.bytes ≡ take t.handed t.reader.block.bytes
+  part_front t =
+      let count : t.handed - 0 ≡ t.handed = omega arith in
+      ap (λ n. take n t.reader.block.bytes) count
+
+  -- a look alone hands nothing out
+  pub hands_looked : (s m t : Piecing S D) (bytes : List ℕ) (seen : ℕ) → m ≡ record s { seen = seen } → HandsBytes m bytes t
+      → HandsBytes s bytes t
+  hands_looked s m t bytes seen same h =
+      let k : HandsBytes (record s { seen = seen }) bytes t = subst (λ x. HandsBytes x bytes t) same h in
+      record { got = k.got; given = k.given; equal = k.equal }
+
+module _ {S D W : Type 0} where
+  -- and so it is of the last piece
+  pub hands_last : (s m t : Piecing S D) (remaining : S → Option (List ℕ)) (most : ℕ) (g : Grammar W)
+      → PiecesWent remaining most s [] m → m.handed ≡ 0 → (r : Result (Option Span) (NextError W)) → TakesEnd g m r t
+      → IfOk r (λ found. IfSome found (λ _. HandsBytes s (take t.handed t.reader.block.bytes) t))
+  hands_last s m t remaining most g went none (Ok None) takes = tt
+  hands_last s m t remaining most g went none (Err (Wrong e)) takes = tt
+  hands_last s m t remaining most g went none (Err (Io e)) takes = tt
+  hands_last s m t remaining most g went none (Ok (Some span)) takes =
+      hands_front s m t remaining most went none (ap (λ x. x.reader) takes.3)
+
+  -- a piece that was buffered whole is what was handed out
+  pub part_piece : (g : Grammar W) (s t : Piecing S D) (at : ℕ) (span : Span) (used : ℕ) → at ≡ s.handed
+      → TakesPiece g s t span used → part at t.handed t.reader.block.bytes ≡ take used (rest s)
+  part_piece g s t at span used is takes =
+      let same = takes.same in
+      let count : t.handed - at ≡ used = omega (arith, is, ap (λ x. x.handed) same) in
+      ap (λ n. take n (drop at t.reader.block.bytes)) count ∙ ap (λ x. take used (drop at x.reader.block.bytes)) same
+      ∙ ap (λ n. take used (drop n s.reader.block.bytes)) is
+
+  pub hands_piece : (g : Grammar W) (s t : Piecing S D) (span : Span) (used : ℕ) → TakesPiece g s t span used
+      → HandsBytes s (take used (rest s)) t
+  hands_piece g s t span used takes =
+      let same = takes.same in
+      record {
+        got = [];
+        given = ap (λ x. x.reader.log.reads.given) same ∙ sym (append-nil s.reader.log.reads.given);
+        equal = ap (λ x. take used (rest s) ++ rest x) same
+            ∙ ap (λ l. take used (rest s) ++ l) (sym (drop-drop used s.handed s.reader.block.bytes))
+            ∙ take-append-drop used (rest s) ∙ sym (append-nil (rest s));
+      }
+
+  -- what a call handed out is a piece, or a last one
+  pub whole_of : (remaining : S → Option (List ℕ)) (g : Grammar W) (s t : Piecing S D) (payload : List ℕ)
+      (next : NextPiece remaining g s (Ok (Some payload)) t) → IsWhole g next.bytes
+  whole_of remaining g s t payload next = elim next.answers.1 [
+    | inl is ↦ (payload, inl is.0)
+    | inr is ↦ (payload, inr is.0)
+  ]
+
+module _ {S D W : Type 0} (grammar : D → Grammar W) (s t : Piecing S D) where
+  -- so what is looked at for an item is a piece
+  pub whole_piece : (at : ℕ) (span : Span) (used : ℕ) → at ≡ s.handed → TakesPiece (grammar s.decoder) s t span used
+      → IsWhole (grammar t.decoder) (part at t.handed t.reader.block.bytes)
+  whole_piece at span used is takes =
+      let told : t.decoder ≡ s.decoder = ap (λ x. x.decoder) takes.same in
+      subst (IsWhole (grammar t.decoder)) (sym (part_piece (grammar s.decoder) s t at span used is takes))
+      (subst (λ d. IsWhole (grammar d) (take used (rest s))) (sym told) (bytes_at span (rest s), inl takes.piece.is))
+
+  module _ (remaining : S → Option (List ℕ)) (payload : List ℕ)
+      (next : NextPiece remaining (grammar s.decoder) s (Ok (Some payload)) t)
+      (front : HandsBytes s (take t.handed t.reader.block.bytes) t) where
+    pub whole_front : IsWhole (grammar t.decoder) (part 0 t.handed t.reader.block.bytes)
+    whole_front =
+        let same : next.bytes ≡ part 0 t.handed t.reader.block.bytes =
+        hands_same s t next.bytes (take t.handed t.reader.block.bytes) next.went.hands front ∙ sym (part_front t) in
+        subst (IsWhole (grammar t.decoder)) same
+        (subst (λ d. IsWhole (grammar d) next.bytes) (sym next.went.decoder) (whole_of remaining (grammar s.decoder) s t payload next))
+
+-- what is promised of an answer, where that is a place
+module _ {S D W : Type 0} (s t : Piecing S D) (r : Result (Option Span) (NextError W)) (span : Span) (is : r ≡ Ok (Some span)) where
+  pub loaded_front : IfOk r (λ found. IfSome found (λ _. HandsBytes s (take t.handed t.reader.block.bytes) t))
+      → HandsBytes s (take t.handed t.reader.block.bytes) t
+  loaded_front front = subst (λ x. IfOk x (λ found. IfSome found (λ _. HandsBytes s (take t.handed t.reader.block.bytes) t))) is
+      front
+
+pub loaded_next : {S D W : Type 0} (grammar : D → Grammar W) (s t : Piecing S D) (remaining : S → Option (List ℕ))
+    (r : Result (Option Span) (NextError W)) (span : Span) → r ≡ Ok (Some span)
+    → NextPiece remaining (grammar s.decoder) s (load_answer r t) t
+    → NextPiece remaining (grammar s.decoder) s (load_answer (Ok (Some span)) t) t
+loaded_next grammar s t remaining r span is next =
+    subst (λ x. NextPiece remaining (grammar s.decoder) s (load_answer x t) t) is next
+
+-- what is left begins with no piece
+pub wrong_now : {S D W : Type 0} (remaining : S → Option (List ℕ)) (g : Grammar W) → IsLawful g → (s t : Piecing S D) (e : W)
+    → g.wrong (rest s) e → t ≡ s → IsPiecing g s → NextPiece remaining g s (Err (Wrong e)) t
+wrong_now remaining g law s t e wrong same whole =
+    let none : ¬ (rest s ≡ []) = λ none. law.nothing e (subst (λ l. g.wrong l e) none wrong) in
+    let going : s.ended ≡ false = elim s.ended as (λ b. b ≡ s.ended → b ≡ false) [
+      | true ↦ λ is. absurd (none (whole.ended (sym is)))
+      | false ↦ λ is. refl
+    ] refl in
+    subst (NextPiece remaining g s (Err (Wrong e))) (sym same) (record {
+      bytes = [];
+      went = PiecesWent-none remaining g.most s;
+      answers = (refl, refl, going, inl (wrong, refl));
+      asked = inl refl;
+      gave = λ _ _. omega arith;
+      told = λ ended. (let odd : true ≡ false = sym ended ∙ going in cc);
+      whole = whole;
+    })
