@@ -5,6 +5,8 @@ pub mod DelimitedLaws
 pub mod DelimitedOut
 pub mod DelimitedOutLaws
 pub mod Encoding
+pub mod Ended
+pub mod EndedLaws
 pub mod Fetching
 pub mod FirstByte
 pub mod FirstByteLaws

@@ -1,0 +1,15 @@
+use Rattle.std.proofs.Common.{subst, sym, take}
+use Rattle.codec.specs.Decoding.{Decodes}
+use Rattle.codec.specs.Ended.{ended}
+use Rattle.codec.specs.EndedLaws.{ended_decodes, ended_open}
+use Rattle.codec.proofs.ended.EndedDecoder.decode.Goals as goal
+
+pub decode-requires-clause-open : goal.decode-requires-clause-open
+decode-requires-clause-open g c =
+    ended_open (g.D.Decoder.grammar c.args.self.now.0) (take c.args.seen c.args.bytes.now) c.requires.open
+
+pub returns : goal.returns
+returns g c =
+    let own = g.D.Decoder.grammar c.args.self.now.0 in
+    subst (Decodes (ended own) c.args.bytes.now) (sym c.as_ended.ensures)
+    (ended_decodes own c.args.bytes.now c.decode.result c.decode.ensures)

@@ -1,0 +1,69 @@
+//! Pieces that have their own end.
+ghost use Rattle.std.specs.Prelude.{◌≡◌};
+ghost use Rattle.codec.specs.FirstByte.{found_as};
+ghost use Rattle.codec.specs.declared.ended.Unended.TheVariants as unended;
+
+use crate::decoder::{Decoder, End, Found};
+use std::error::Error;
+use std::fmt;
+
+/// Why bytes are no piece with its own end.
+#[derive(Clone, Copy, Debug, PartialEq, Eq, Drop)]
+pub enum Unended<W> {
+    /// They are no piece.
+    Wrong(W),
+    /// The stream ended after so many bytes of one.
+    Cut(usize),
+}
+
+impl<W: fmt::Display> fmt::Display for Unended<W> {
+    fn fmt<T: fmt::Write>(&self, f: &mut fmt::Formatter<T>) -> fmt::Result {
+        match self {
+            Unended::Wrong(why) => fmt::Display::fmt(why, f),
+            Unended::Cut(have) => write!(f, "the stream ended after {} bytes of a piece", have),
+        }
+    }
+}
+
+impl<W: fmt::Debug + fmt::Display + Drop> Error for Unended<W> {}
+
+/// The pieces of another decoder, but none that is one only since the stream ended: of a protocol of commands, a line that was
+/// cut off is no command.
+#[derive(Clone, Copy, Debug, Drop)]
+pub struct Ended<D: Decoder>(pub D);
+
+impl<D: Decoder> Decoder for Ended<D> {
+    ghost use Rattle.codec.specs.Ended.{ended};
+    ghost use Rattle.codec.specs.EndedLaws.{ended_lawful};
+
+    type Wrong = Unended<D::Wrong>;
+
+    ghost grammar = { λ d. ended (D.grammar d.0) };
+
+    fn most(&self) -> usize {
+        self.0.most()
+    }
+
+    #[inline(always)]
+    fn decode(&self, bytes: &[u8], seen: usize) -> Found<Unended<D::Wrong>> {
+        as_ended(self.0.decode(bytes, seen))
+    }
+
+    fn at_end(&self, bytes: &[u8]) -> End<Unended<D::Wrong>> {
+        End::Wrong(Unended::Cut(bytes.len()))
+    }
+
+    ghost lawful = { λ d. ended_lawful (D.grammar d.0) (D.lawful d.0) };
+}
+
+// The answer of the other decoder.
+#[inline(always)]
+fn as_ended<W>(found: Found<W>) -> Found<Unended<W>>
+    ensures { result ≡ found_as (λ e. unended.Wrong e) found }
+{
+    match found {
+        Found::Piece(span, used) => Found::Piece(span, used),
+        Found::More(need) => Found::More(need),
+        Found::Wrong(e) => Found::Wrong(Unended::Wrong(e)),
+    }
+}
