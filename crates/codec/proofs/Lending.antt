@@ -1,5 +1,5 @@
 -- Where the payload is that a step went on to.
-use Rattle.std.proofs.Common.{◌≡◌, ℕ, ◌+◌, ◌≤◌, List, length, take, drop, true, sym, ap, subst, ◌∙◌, arith, inl, inr, length-drop, Option, Result, Ok, Err, Some, None, IfOk, IfSome}
+use Rattle.std.proofs.Common.{◌≡◌, ℕ, ◌+◌, length, take, drop, sym, ap, subst, ◌∙◌, arith, inl, inr, Option, Result, Ok, Err, Some, None, IfOk, IfSome}
 use Rattle.std.proofs.lemmas.List.{drop-drop, drop-take, take_all}
 use Rattle.codec.specs.declared.decoder.Span.{Span}
 use Rattle.codec.specs.declared.error.NextError.{NextError}

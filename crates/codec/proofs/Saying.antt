@@ -1,5 +1,5 @@
 -- What pieces say that a step went on to.
-use Rattle.std.proofs.Common.{◌≡◌, ◌⊎◌, ℕ, ◌+◌, ◌-◌, ◌≤◌, List, [], ◌++◌, length, take, drop, true, false, sym, ap, subst, ◌∙◌, arith, inl, inr, refl, append-nil, Option, Result, Ok, Err, Some, None, IfOk, IfSome}
+use Rattle.std.proofs.Common.{◌≡◌, ℕ, ◌-◌, List, [], ◌++◌, take, drop, true, false, sym, ap, subst, ◌∙◌, arith, inl, inr, refl, append-nil, Option, Result, Ok, Err, Some, None, IfOk, IfSome}
 use Rattle.std.proofs.lemmas.List.{append_cancel_left, append_cancel_right, drop-drop, take-append-drop}
 use Rattle.codec.specs.declared.decoder.Span.{Span}
 use Rattle.codec.specs.declared.error.NextError.{NextError}

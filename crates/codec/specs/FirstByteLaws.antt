@@ -8,10 +8,9 @@ use Rattle.codec.specs.declared.decoder.End.{End}
 use Rattle.codec.specs.declared.decoder.End.TheVariants as end
 use Rattle.codec.specs.declared.decoder.Found.{Found}
 use Rattle.codec.specs.declared.decoder.Found.TheVariants as found
-use Rattle.codec.specs.declared.decoder.Span.{Span}
 use Rattle.codec.specs.Decoding.{Decodes, Ends, bytes_at}
 use Rattle.codec.specs.FirstByte.{OnFirst, by_first, either, end_as, found_as, one_or, renamed, side}
-use Rattle.codec.specs.Grammar.{Grammar, Begins, IsLawful, IsOpen, Lacks}
+use Rattle.codec.specs.Grammar.{Grammar, IsLawful, IsOpen}
 use Rattle.codec.specs.GrammarLaws.{lacks_one, open_none}
 use Rattle.codec.specs.Items.{IsWhole}
 

@@ -4,7 +4,7 @@ use Rattle.codec.specs.declared.decoder.Span.{Span}
 use Rattle.codec.specs.declared.error.NextError.{NextError}
 use Rattle.codec.specs.Decoding.{bytes_at}
 use Rattle.codec.specs.Grammar.{Grammar}
-use Rattle.codec.specs.NextPiece.{NextAnswer, NextPiece}
+use Rattle.codec.specs.NextPiece.{NextPiece}
 use Rattle.codec.specs.Piecing.{Piecing}
 
 -- these bytes are a piece, or a last one

@@ -9,7 +9,6 @@ use Rattle.codec.specs.Headings.{IsHeaded}
 use Rattle.codec.specs.Number.{with_byte, with_digit}
 use Rattle.codec.specs.Scanning.{says, scan_on, scanned}
 use Rattle.codec.specs.TextHeads.{Words, counts, ends, enters, stands, text_scanning, text_turn}
-use Rattle.codec.specs.declared.heading.Heading.{Heading}
 use Rattle.codec.specs.declared.heading.Heading.TheVariants as heading
 use Rattle.codec.specs.declared.number.Number.{Number}
 use Rattle.codec.specs.declared.number.Number.TheVariants.{Empty, Is}
@@ -73,6 +72,7 @@ longer value digit more few is = go (value == 0) (nat_lt 99999999999999999 value
         not_zero : (v : ℕ) → (v == 0) ≡ false → 0 < v
         not_zero zero odd = (let no : true ≡ false = odd in cc)
         not_zero (suc v) is = omega arith
+
         written : (v d : ℕ) → d < 10 → 0 < v → v ≤ 99999999999999999 → decimal (10 * v + d) ≡ decimal v ++ (48 + d) ∷ []
         written v d few some short =
             let front : (10 * v + d) / 10 ≡ v = omega (arith, few) in
@@ -116,8 +116,8 @@ module _ (w : Words) where
   behind_next at n byte done is there =
       let next = stands_next w.after at byte there in
       ended (at + 1) n (done ++ byte ∷ []) (omega (arith, next.0)) (
-        ap (λ l. l ++ byte ∷ []) is ∙ append_assoc w.before (decimal n ++ take at w.after) (byte ∷ [])
-        ∙ ap (λ l. w.before ++ l) (append_assoc (decimal n) (take at w.after) (byte ∷ []) ∙ ap (λ l. decimal n ++ l) (sym next.1)))
+      ap (λ l. l ++ byte ∷ []) is ∙ append_assoc w.before (decimal n ++ take at w.after) (byte ∷ [])
+      ∙ ap (λ l. w.before ++ l) (append_assoc (decimal n) (take at w.after) (byte ∷ []) ∙ ap (λ l. decimal n ++ l) (sym next.1)))
 
   counted : (number : Number) (byte : ℕ) (done : List ℕ) → WasRead (Length number) done → (o : Option Number)
       → with_byte number byte ≡ o → NowRead (counts w o number byte) (done ++ byte ∷ [])
@@ -126,6 +126,7 @@ module _ (w : Words) where
     where
       first : done ≡ w.before ++ (decimal n ++ take 0 w.after)
       first = is ∙ ap (λ l. w.before ++ l) (sym (append-nil (decimal n)) ∙ ap (λ l. decimal n ++ l) (sym (take_zero w.after)))
+
       go : (b : Bool) → stands w.after 0 byte ≡ b → NowRead (if b then ends w 1 n else Bad) (done ++ byte ∷ [])
       go true there = behind_next 0 n byte done first there
       go false other = tt
@@ -136,14 +137,14 @@ module _ (w : Words) where
       let text : decimal (byte - 48) ≡ byte ∷ [] =
       decimal_digit (byte - 48) (omega (arith, d.0, d.1)) ∙ ap (λ b. b ∷ []) back in
       subst (λ m. WasRead (Length m) (done ++ byte ∷ [])) (sym same) (
-        ap (λ l. l ++ byte ∷ []) is ∙ ap (λ l. w.before ++ l) (sym text))
+      ap (λ l. l ++ byte ∷ []) is ∙ ap (λ l. w.before ++ l) (sym text))
   counted (Is n) byte done is (Some more) longer_is =
       let d = is_digit (Is n) more byte longer_is in
       let next = longer n (byte - 48) more (omega (arith, d.0, d.1)) d.2 in
       let back : 48 + (byte - 48) ≡ byte = omega (arith, d.0) in
       subst (λ m. WasRead (Length m) (done ++ byte ∷ [])) (sym next.1) (
-        ap (λ l. l ++ byte ∷ []) is ∙ append_assoc w.before (decimal n) (byte ∷ [])
-        ∙ ap (λ b. w.before ++ (decimal n ++ b ∷ [])) (sym back) ∙ ap (λ l. w.before ++ l) (sym next.2))
+      ap (λ l. l ++ byte ∷ []) is ∙ append_assoc w.before (decimal n) (byte ∷ [])
+      ∙ ap (λ b. w.before ++ (decimal n ++ b ∷ [])) (sym back) ∙ ap (λ l. w.before ++ l) (sym next.2))
 
   turned : (place : Place) (byte : ℕ) (done : List ℕ) → WasRead place done
       → NowRead (text_turn w place byte) (done ++ byte ∷ [])

@@ -27,9 +27,7 @@ impl<V: fmt::Display, W: fmt::Display> fmt::Display for EitherWrong<V, W> {
 }
 
 impl<V: fmt::Debug + fmt::Display + Drop, W: fmt::Debug + fmt::Display + Drop> Error
-    for EitherWrong<V, W>
-{
-}
+    for EitherWrong<V, W> {}
 
 /// The pieces of `one` that begin with `byte`, and those of `other` that don't. Either may be such a choice again.
 ///

@@ -37,15 +37,15 @@ returns-clause-first g c =
     let stays : StaysLeft (grammar s.decoder) s m = c.in_default.ensures.next.0 in
     elim c.if-not-is_settled.branch [
       | then-not-is_settled+in_default-flush w ↦ inr (
-          stays_unsettled g.R.TellRead.remaining (grammar s.decoder) s m m stays m.decoder grammar refl refl _
-              w.if-not-is_settled.true c.is_settled.ensures.settled,
-          subst (λ v. WasFlushed g.W.Tell.log g.W.TellWrite.stretch c.args.writer.now (Ok tt) v) (sym w.writer-is)
-              (subst (λ a. WasFlushed g.W.Tell.log g.W.TellWrite.stretch c.args.writer.now a w.flush.new.self)
-              w.in_default-flush.is w.flush.ensures.flushed),
-        )
+        stays_unsettled g.R.TellRead.remaining (grammar s.decoder) s m m stays m.decoder grammar refl refl _
+            w.if-not-is_settled.true c.is_settled.ensures.settled,
+        subst (λ v. WasFlushed g.W.Tell.log g.W.TellWrite.stretch c.args.writer.now (Ok tt) v) (sym w.writer-is)
+            (subst (λ a. WasFlushed g.W.Tell.log g.W.TellWrite.stretch c.args.writer.now a w.flush.new.self)
+            w.in_default-flush.is w.flush.ensures.flushed),
+      )
       | else-not-is_settled w ↦ inl (
-          w.writer-is,
-          w.if-not-is_settled.ensures.unasked (load_answer c.step.result t) t c.step.ensures.next
-              ∙ ap (λ x. x.reader.log) stays.same,
-        )
+        w.writer-is,
+        w.if-not-is_settled.ensures.unasked (load_answer c.step.result t) t c.step.ensures.next
+            ∙ ap (λ x. x.reader.log) stays.same,
+      )
     ]
