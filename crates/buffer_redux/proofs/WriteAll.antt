@@ -78,6 +78,7 @@ writer_keeps tells stretch rules s bs answer t whole steps went =
     record {
       grows = keeps.grows;
       not_flushed = keeps.flushed;
+      flushes = keeps.flushes;
       capacity = keeps.capacity;
       kind = kind_stays rules s bs answer t steps;
       claims = claims_stay rules s bs answer t steps;
@@ -139,6 +140,7 @@ module _ {S P : Type 0} (tells : S → StreamLog) (stretch : S → S → Type 0)
     keeps = record {
       grows = WriteLogGrows-none s.log.writes;
       not_flushed = refl;
+      flushes = refl;
       capacity = le_refl _;
       kind = refl;
       claims = refl;
@@ -152,6 +154,7 @@ module _ {S P : Type 0} (tells : S → StreamLog) (stretch : S → S → Type 0)
   keeps_joins s m t p q = record {
     grows = WriteLogGrows-joins s.log.writes m.log.writes t.log.writes p.grows q.grows;
     not_flushed = q.not_flushed ∙ p.not_flushed;
+    flushes = q.flushes ∙ p.flushes;
     capacity = le_trans p.capacity q.capacity;
     kind = q.kind ∙ p.kind;
     claims = q.claims ∙ p.claims;

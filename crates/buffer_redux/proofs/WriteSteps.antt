@@ -51,6 +51,7 @@ sends_grow amount b b' log log' answer f =
     let writes = sent_writes amount b b' log log' answer f in record {
       received = record { more = take f.count b.bytes; equal = f.sent.received };
       flushed = inl f.sent.flushed;
+      flushes = omega (arith, f.sent.flushes);
       asks = writes.0;
       short_writes = writes.1;
       zero_writes = faults.1;
@@ -132,6 +133,7 @@ module _ {S P : Type 0} where
     pub in_order : WritesInOrder s accepted t
     pub grows : WriteLogGrows s.log.writes t.log.writes
     pub flushed : t.log.writes.flushed ≡ s.log.writes.flushed
+    pub flushes : t.log.writes.flushes ≡ s.log.writes.flushes
     pub capacity : s.block.capacity ≤ t.block.capacity
 
   pub StepKeeps-joins : (s m t : Buffered S P) (a b : List ℕ)
@@ -140,6 +142,7 @@ module _ {S P : Type 0} where
     in_order = WritesInOrder-joins s m t a b p.in_order q.in_order;
     grows = WriteLogGrows-joins s.log.writes m.log.writes t.log.writes p.grows q.grows;
     flushed = q.flushed ∙ p.flushed;
+    flushes = q.flushes ∙ p.flushes;
     capacity = omega (arith, p.capacity, q.capacity);
   }
 
@@ -176,6 +179,7 @@ module _ {S P : Type 0} where
             in_order = WritesInOrder-same s t idle.told (ap (λ b. b.bytes) idle.buffer);
             grows = log_same s.log t.log idle.told;
             flushed = ap (λ l. l.writes.flushed) idle.told;
+            flushes = ap (λ l. l.writes.flushes) idle.told;
             capacity = omega (arith, capacity_stays);
           }
           )
@@ -185,6 +189,7 @@ module _ {S P : Type 0} where
             in_order = WritesInOrder-sends s t amount answer sends;
             grows = sends_grow amount _ _ _ _ answer sends;
             flushed = sends.sent.flushed;
+            flushes = sends.sent.flushes;
             capacity = omega (arith, capacity_stays);
           }
           )
@@ -217,6 +222,7 @@ module _ {S P : Type 0} where
           grows = subst (λ l. WriteLogGrows s.log.writes l.writes) (sym direct.told)
               (WriteLogGrows-write s.log bs answer);
           flushed = ap (λ l. l.writes.flushed) direct.told;
+          flushes = ap (λ l. l.writes.flushes) direct.told;
           capacity = omega (arith, ap (λ b. b.capacity) direct.block);
         }
         )
@@ -227,6 +233,7 @@ module _ {S P : Type 0} where
               (copied.added.bytes ∙ ap (λ l. l ++ portion bs answer) settled.0);
           grows = log_same s.log t.log copied.told;
           flushed = ap (λ l. l.writes.flushed) copied.told;
+          flushes = ap (λ l. l.writes.flushes) copied.told;
           capacity = omega (arith, copied.added.capacity, settled.1);
         }
         )
@@ -239,6 +246,7 @@ module _ {S P : Type 0} where
         in_order = WritesInOrder-same s p.seen p.told p.asked.law.bytes;
         grows = log_same s.log p.seen.log p.told;
         flushed = ap (λ l. l.writes.flushed) p.told;
+        flushes = ap (λ l. l.writes.flushes) p.told;
         capacity = p.asked.law.capacity;
       })
       (StepKeeps-flush p.seen m (p.amount.0) flushed p.flush)
@@ -254,5 +262,6 @@ module _ {S P : Type 0} where
         };
         grows = kept.grows;
         flushed = kept.flushed;
+        flushes = kept.flushes;
         capacity = kept.capacity;
       }

@@ -107,6 +107,7 @@ writes_keep rules s bs (Err e) t (inl refused) =
       in_order = WritesInOrder-same s t refused.told refused.asked.law.bytes;
       grows = log_same s.log t.log refused.told;
       flushed = ap (λ l. l.writes.flushed) refused.told;
+      flushes = ap (λ l. l.writes.flushes) refused.told;
       capacity = refused.asked.law.capacity;
     }
 writes_keep rules s bs (Err e) t (inr (inl prepared)) =

@@ -160,6 +160,7 @@ pub record WriterKeeps {S P : Type 0} (tells : S → StreamLog) (stretch : S →
     (s t : Buffered S P) : Type 0 where
   pub grows : WriteLogGrows s.log.writes t.log.writes
   pub not_flushed : t.log.writes.flushed ≡ s.log.writes.flushed
+  pub flushes : t.log.writes.flushes ≡ s.log.writes.flushes
   pub capacity : s.block.capacity ≤ t.block.capacity
   pub kind : t.block.kind ≡ s.block.kind
   pub claims : rules.claims t.policy ≡ rules.claims s.policy

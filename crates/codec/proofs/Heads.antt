@@ -64,6 +64,7 @@ module _ {S D W : Type 0} (remaining : S → Option (List ℕ)) (g : Grammar W) 
           given = over.given ∙ ap (λ l. l ++ (over.came ++ over.last)) h.went.hands.given
               ∙ append_assoc s.reader.log.reads.given h.went.hands.got (over.came ++ over.last)
               ∙ ap (λ l. s.reader.log.reads.given ++ l) (sym (append_assoc h.went.hands.got over.came over.last));
+          latest = over.latest;
           such = open_with g n (rest m) over.came (rest s ++ (h.went.hands.got ++ over.came))
               (sym (append_assoc (rest s) h.went.hands.got over.came) ∙ ap (λ l. l ++ over.came) (sym came))
               (omega (

@@ -59,19 +59,21 @@ pub record AsksFew {S : Type 0} (s t : Buffered S MinBuffered) : Type 0 where
   pub came : List ℕ
   pub last : List ℕ
   pub given : t.log.reads.given ≡ s.log.reads.given ++ (came ++ last)
+  pub latest : t.log.reads.latest ≡ last
   pub few : length (s.block.bytes ++ came) < s.policy.0
   pub asks : t.log.reads.asks ≤ s.log.reads.asks + length came + 1
 
 module _ {S : Type 0} (s : Buffered S MinBuffered) where
   -- one ask more, after these turns
   asked_after : (k : ℕ) (m t : Buffered S MinBuffered) → Turns min_read_rules k s m → length m.block.bytes < m.policy.0
-      → (last : List ℕ) → t.log.reads.given ≡ m.log.reads.given ++ last → t.log.reads.asks ≡ m.log.reads.asks + 1
-      → AsksFew s t
-  asked_after k m t run few last given asks =
+      → (last : List ℕ) → t.log.reads.given ≡ m.log.reads.given ++ last → t.log.reads.latest ≡ last
+      → t.log.reads.asks ≡ m.log.reads.asks + 1 → AsksFew s t
+  asked_after k m t run few last given latest asks =
       let before = turns_gave k s m run in record {
         came = before.got;
         last = last;
         given = given ∙ ap (λ l. l ++ last) before.given ∙ append_assoc s.log.reads.given before.got last;
+        latest = latest;
         few = omega (arith, few, ap length before.bytes, ap (λ p. p.0) before.policy);
         asks = omega (arith, asks, before.asks, before.many);
       }
@@ -83,6 +85,7 @@ module _ {S : Type 0} (s : Buffered S MinBuffered) where
   asked_turns (suc k) m t (v, run, turn) told =
       inr (asked_after k v t run turn.ordered.asked.allowed.1.0 (take turn.count turn.read.out)
       (ap (λ l. l.reads.given) told ∙ ap (λ l. l.reads.given) turn.read.told)
+      (ap (λ l. l.reads.latest) told ∙ ap (λ l. l.reads.latest) turn.read.told)
       (ap (λ l. l.reads.asks) told ∙ ap (λ l. l.reads.asks) turn.read.told))
 
   -- how a whole fill asked
@@ -92,12 +95,12 @@ module _ {S : Type 0} (s : Buffered S MinBuffered) where
     | inl declined ↦ asked_turns f.count f.last t f.turns declined.told
     | inr (inl full) ↦ asked_turns f.count f.last t f.turns full.told
     | inr (inr dry) ↦ inr (asked_after f.count f.last t f.turns dry.ordered.asked.allowed.1.0 (take 0 dry.read.out)
-        (ap (λ l. l.reads.given) dry.read.told) (ap (λ l. l.reads.asks) dry.read.told))
+        (ap (λ l. l.reads.given) dry.read.told) (ap (λ l. l.reads.latest) dry.read.told) (ap (λ l. l.reads.asks) dry.read.told))
   ]
   fill_asked (Err e) t f = elim f.ends [
     | inl refused ↦ asked_turns f.count f.last t f.turns refused.told
     | inr fault ↦ inr (asked_after f.count f.last t f.turns fault.ordered.asked.allowed.1.0 []
-        (ap (λ l. l.reads.given) fault.read.told) (ap (λ l. l.reads.asks) fault.read.told))
+        (ap (λ l. l.reads.given) fault.read.told) (ap (λ l. l.reads.latest) fault.read.told) (ap (λ l. l.reads.asks) fault.read.told))
   ]
 
   -- where enough came, each ask gave a byte
@@ -203,6 +206,7 @@ module _ {S D W : Type 0} (remaining : S → Option (List ℕ)) (g : Grammar W) 
       came = over.came;
       last = over.last;
       given = over.given;
+      latest = over.latest;
       such = omega (arith, over.few, number, ap (λ l. length (l ++ over.came)) (rest_whole s handed));
       asks = over.asks;
     })

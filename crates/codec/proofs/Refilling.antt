@@ -24,6 +24,7 @@ module _ {S D W : Type 0} (remaining : S → Option (List ℕ)) (g : Grammar W) 
     came = over.came;
     last = over.last;
     given = over.given ∙ ap (λ l. l.reads.given ++ (over.came ++ over.last)) told;
+    latest = over.latest;
     such = nil_from_length (rest s ++ over.came) (omega (arith, over.such, ap (λ l. length (l ++ over.came)) left));
     asks = omega (arith, over.asks, ap (λ l. l.reads.asks) told);
   })

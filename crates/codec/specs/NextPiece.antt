@@ -33,12 +33,13 @@ pub record PiecesWent {S D : Type 0} (remaining : S → Option (List ℕ)) (most
   pub decoder : t.decoder ≡ s.decoder
 
 -- the stream was asked, also for the last time, only where what was left, then what had come, was such; and each ask but
--- the last gave a byte
+-- the last gave a byte, and that gave the last
 pub record AskedOver {S D : Type 0} (Such : List ℕ → Type 0) (s t : Piecing S D) : Type 0 where
   pub not_ended : s.ended ≡ false
   pub came : List ℕ
   pub last : List ℕ
   pub given : t.reader.log.reads.given ≡ s.reader.log.reads.given ++ (came ++ last)
+  pub latest : t.reader.log.reads.latest ≡ last
   pub such : Such (rest s ++ came)
   pub asks : t.reader.log.reads.asks ≤ s.reader.log.reads.asks + length came + 1
 

@@ -111,6 +111,7 @@ AskedWhere-told Such s m t told (inr over) = inr (record {
   came = over.came;
   last = over.last;
   given = ap (λ l. l.reads.given) told ∙ over.given;
+  latest = ap (λ l. l.reads.latest) told ∙ over.latest;
   such = over.such;
   asks = omega (arith, over.asks, ap (λ l. l.reads.asks) told);
 })

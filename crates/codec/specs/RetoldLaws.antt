@@ -43,6 +43,7 @@ module _ {S D E : Type 0} (s t : Piecing S D) (d d' : E) (seen seen' : ℕ) wher
     came = over.came;
     last = over.last;
     given = over.given;
+    latest = over.latest;
     such = goes (rest s ++ over.came) over.such;
     asks = over.asks;
   })

@@ -39,6 +39,7 @@ pub record AskedOver {R : Type 0} (s t : Lining R) : Type 0 where
   pub came : List ℕ
   pub last : List ℕ
   pub asked : AskedLast came last s.reader.log t.reader.log
+  pub latest : t.reader.log.reads.latest ≡ last
   pub left : IsUnended s.max (rest s ++ came)
 
 -- how it was asked. Where the run goes on, and the reader hasn't ended, each ask gave a byte, or failed

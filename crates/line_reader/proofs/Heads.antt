@@ -56,21 +56,25 @@ module _ {S : Type 0} (remaining : S → Option (List ℕ)) (Such : List ℕ →
     pub asked_on : Such (rest s ++ h.went.hands.got) → AskedWhere Such s t
     asked_on such = elim s.ended as (λ b. b ≡ s.ended → AskedWhere Such s t) [
       | true ↦ λ is. AskedWhere-told Such (piecing s) (piecing m) (piecing t) (a.still (h.ended ∙ sym is)) h.asked
-      | false ↦ λ is. inr (record {
-        not_ended = sym is;
-        came = h.went.hands.got;
-        last = a.went.hands.got;
-        given = a.went.hands.given ∙ ap (λ l. l ++ a.went.hands.got) h.went.hands.given
-            ∙ append_assoc s.reader.log.reads.given h.went.hands.got a.went.hands.got;
-        such = such;
-        asks = omega (
-          arith,
-          h.asks,
-          a.asks,
-          ap length h.went.hands.given,
-          length-append s.reader.log.reads.given h.went.hands.got,
-        );
-      })
+      | false ↦ λ is. elim a.latest [
+        | inl same ↦ AskedWhere-told Such (piecing s) (piecing m) (piecing t) same h.asked
+        | inr latest ↦ inr (record {
+          not_ended = sym is;
+          came = h.went.hands.got;
+          last = a.went.hands.got;
+          given = a.went.hands.given ∙ ap (λ l. l ++ a.went.hands.got) h.went.hands.given
+              ∙ append_assoc s.reader.log.reads.given h.went.hands.got a.went.hands.got;
+          latest = latest;
+          such = such;
+          asks = omega (
+            arith,
+            h.asks,
+            a.asks,
+            ap length h.went.hands.given,
+            length-append s.reader.log.reads.given h.went.hands.got,
+          );
+        })
+      ]
     ] refl
 
   pub Head-more : rest m ≡ [] → (t : Lining S) → AsksOnce remaining m (Ok true) t → Such (rest s ++ h.went.hands.got)

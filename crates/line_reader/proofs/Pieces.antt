@@ -2,7 +2,7 @@
 use Rattle.std.proofs.Common.{◌≡◌, ℕ, ◌+◌, ◌<◌, ◌≤◌, List, [], ◌∷◌, ◌++◌, length, length-append, take, Bool, true, false, refl, sym, ap, subst, ◌∙◌, arith, append_assoc, inl, inr, Option, Result, Ok, Err, Some, None, IfSome, ◌↔◌}
 use Rattle.std.specs.declared.io.Error.{Error}
 use Rattle.std.proofs.lemmas.Bool.{cases_lt}
-use Rattle.std.proofs.lemmas.List.{take-append-le}
+use Rattle.std.proofs.lemmas.List.{append_cancel_left, nil_from_length, take-append-le}
 use Rattle.codec.specs.declared.decoder.Span.{Span}
 use Rattle.codec.specs.Decoding.{bytes_at}
 use Rattle.codec.specs.DelimitedLaws.{delimited_lawful, open_plain}
@@ -262,6 +262,15 @@ module _ {S : Type 0} (remaining : S → Option (List ℕ)) (s t : Piecing S Lin
           asks = elim r.asked [
             | inl same ↦ omega (arith, ap (λ l. l.reads.asks) same)
             | inr over ↦ omega (arith, over.asks, ap length over.such, length-append (left s) over.came)
+          ];
+          latest = elim r.asked [
+            | inl same ↦ inl same
+            | inr over ↦
+                let w = went_of [] r.went.decoder r.went in
+                let none : over.came ≡ [] =
+                nil_from_length over.came (omega (arith, ap length over.such, length-append (left s) over.came)) in
+                inr (over.latest ∙ sym (append_cancel_left s.reader.log.reads.given w.hands.got (over.came ++ over.last)
+                (sym w.hands.given ∙ over.given) ∙ ap (λ l. l ++ over.last) none))
           ];
           still = λ ended. elim r.asked [
             | inl same ↦ same

@@ -1,5 +1,5 @@
 -- What the steps of a reader of lines do.
-use Rattle.std.specs.Prelude.{◌≡◌, ℕ, ◌+◌, ◌<◌, ◌≤◌, List, [], length, Bool, true, false, Option, Result, Ok, Err}
+use Rattle.std.specs.Prelude.{◌≡◌, ℕ, ◌+◌, ◌<◌, ◌≤◌, List, [], length, Bool, true, false, Option, Result, Ok, Err, ◌⊎◌}
 use Rattle.std.specs.declared.io.Error.{Error}
 use Rattle.codec.specs.Plain.{EndsAt}
 use Rattle.line_reader.specs.Lines.{IsLine, newline}
@@ -21,6 +21,7 @@ pub record AsksOnce {S : Type 0} (remaining : S → Option (List ℕ)) (s : Lini
   pub went : LinesWent remaining s [] t
   pub skipping : t.skipping ≡ s.skipping
   pub asks : t.reader.log.reads.asks ≤ s.reader.log.reads.asks + 1
+  pub latest : (t.reader.log ≡ s.reader.log) ⊎ (t.reader.log.reads.latest ≡ went.hands.got)
   pub still : s.ended ≡ true → t.reader.log ≡ s.reader.log
   pub more : answer ≡ Ok true → (0 < length (rest t)) × (t.ended ≡ s.ended) × NoEnd s t × NoFault s t
   pub end : answer ≡ Ok false → (rest t ≡ []) × (t.ended ≡ true) × MetEnd s t × NoFault s t

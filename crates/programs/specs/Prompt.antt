@@ -29,6 +29,23 @@ abbrev pub HoldsNothingBack : (List ℕ → List ℕ → Type 0) → StreamLog �
 HoldsNothingBack IsDue read read' written written' =
     (read' ≡ read) ⊎ SentBeforeAsking IsDue read read' written written'
 
+-- these bytes were given before the last ask, and behind them just what that gave
+pub record GivenBefore (before : List ℕ) (read read' : StreamLog) : Type 0 where
+  pub given : read'.reads.given ≡ read.reads.given ++ (before ++ read'.reads.latest)
+
+-- what is due of all that was given before the last ask was received and flushed
+pub record SentBeforeLast (IsDue : List ℕ → List ℕ → Type 0) (read read' written written' : StreamLog) : Type 0 where
+  pub before : List ℕ
+  pub given : GivenBefore before read read'
+  pub due : List ℕ
+  pub is_due : IsDue before due
+  pub sent : WasSent (written.writes.received ++ due) written'.writes
+
+-- so it was, or the reader was not asked
+abbrev pub KeepsNothingBack : (List ℕ → List ℕ → Type 0) → StreamLog → StreamLog → StreamLog → StreamLog → Type 0
+KeepsNothingBack IsDue read read' written written' =
+    (read' ≡ read) ⊎ SentBeforeLast IsDue read read' written written'
+
 -- each ask gave a byte, or failed
 abbrev pub AsksGive : StreamLog → StreamLog → Type 0
 AsksGive read read' =

@@ -16,6 +16,7 @@ use Rattle.redux_buffer.proofs.Steps.{OnlyRingMoves-joins, ConsumesFirst-joins}
 pub record Interrupts (count : ℕ) (old new : StreamLog) : Type 0 where
   pub received : new.writes.received ≡ old.writes.received
   pub flushed : new.writes.flushed ≡ old.writes.flushed
+  pub flushes : new.writes.flushes ≡ old.writes.flushes
   pub errors : List Error
   pub number : length errors ≡ count
   pub asks : new.writes.asks ≡ old.writes.asks + count
@@ -31,6 +32,7 @@ no_interrupts : (a : StreamLog) → Interrupts 0 a a
 no_interrupts a = record {
   received = refl;
   flushed = refl;
+  flushes = refl;
   errors = [];
   number = refl;
   asks = omega arith;
@@ -45,6 +47,7 @@ pub Interrupts-more : (count : ℕ) (bs : List ℕ) (e : Error) (a b c : StreamL
 Interrupts-more count bs e a b c met is told = record {
   received = ap (λ l. l.writes.received) told ∙ append-nil b.writes.received ∙ met.received;
   flushed = ap (λ l. l.writes.flushed) told ∙ met.flushed;
+  flushes = ap (λ l. l.writes.flushes) told ∙ met.flushes;
   errors = met.errors ++ e ∷ [];
   number = omega (arith, met.number, length-append met.errors (e ∷ []));
   asks = omega (arith, met.asks, ap (λ l. l.writes.asks) told);
@@ -78,6 +81,7 @@ Interrupts-end count bs answer a b c met few often told = record {
   often = often_of answer often;
   received = ap (λ l. l.writes.received) told ∙ ap (λ l. l ++ portion bs answer) met.received;
   flushed = ap (λ l. l.writes.flushed) told ∙ met.flushed;
+  flushes = ap (λ l. l.writes.flushes) told ∙ met.flushes;
   asks = omega (arith, ap (λ l. l.writes.asks) told, met.asks, met.number);
   short_writes = ap (λ l. l.writes.short_writes) told
       ∙ ap (λ n. with_short n bs answer) (omega (arith, met.short_writes, met.number));
@@ -123,6 +127,7 @@ module _ (k : ℕ) (es : List Error) (len : ℕ) (a b : Block) (log log' log'' :
             (take-take n len b.bytes short ∙ ap (take n) sent.dropped.bytes)
             ∙ ap (λ l. log.writes.received ++ l) (sym (take-add k n a.bytes));
         flushed = wrote.flushed ∙ sent.flushed;
+        flushes = wrote.flushes ∙ sent.flushes;
         others = OnlyWrites-joins log log' log'' sent.others wrote.others;
       }
 
@@ -171,6 +176,7 @@ module _ (k : ℕ) (es : List Error) (len : ℕ) (a b : Block) (log log' log'' :
     moved = sent.moved;
     received = wrote.received ∙ ap (λ l. log'.writes.received ++ l) none ∙ append-nil log'.writes.received ∙ sent.received;
     flushed = wrote.flushed ∙ sent.flushed;
+    flushes = wrote.flushes ∙ sent.flushes;
     others = OnlyWrites-joins log log' log'' sent.others wrote.others;
   }
 

@@ -14,14 +14,15 @@ use Rattle.redux_buffer.specs.StreamLog.{StreamLog, FillLog, WriteLog, after_fil
 
 -- nothing was consumed, and nothing received
 still : (a b : FillLog) (x y : WriteLog) → b.consumed ≡ a.consumed → b.consumes ≡ a.consumes → y.received ≡ x.received
-    → y.flushed ≡ x.flushed → MovedBy 0 a b x y
-still a b x y consumed consumes received flushed = record {
+    → y.flushed ≡ x.flushed → y.flushes ≡ x.flushes → MovedBy 0 a b x y
+still a b x y consumed consumes received flushed flushes = record {
   bytes = [];
   count = refl;
   consumed = consumed ∙ sym (append-nil a.consumed);
   consumes = omega (arith, consumes);
   received = received ∙ sym (append-nil x.received);
   not_flushed = flushed;
+  flushes = flushes;
 }
 
 one_interrupt : (e : Error) → error_kind e ≡ Interrupted → All IsInterrupt (e ∷ [])
@@ -40,7 +41,7 @@ module _ {W : Type 0} (tells : W → StreamLog) (stretch call : W → W → Type
   not_filled shown e =
       let none : MetInterrupts (tells w).writes (tells w).writes =
       record { interrupts = []; only = OnlyInterrupted-none (tells w).writes } in
-      let kept = still from.fills (after_fill_fault from shown e).fills (tells w).writes (tells w).writes refl refl refl refl in
+      let kept = still from.fills (after_fill_fault from shown e).fills (tells w).writes (tells w).writes refl refl refl refl refl in
       let fills : FillsMade 0 from.fills (after_fill_fault from shown e).fills (tells w).writes (tells w).writes =
       omega (arith, length-append from.fills.faults (e ∷ [])) in
       let writes : WritesEachFill from.fills (after_fill_fault from shown e).fills (tells w).writes (tells w).writes =
@@ -92,7 +93,8 @@ module _ {W : Type 0} (tells : W → StreamLog) (stretch call : W → W → Type
   not_written none bytes e w' told called =
       let faults = ap (λ l. l.writes.faults) told in
       let kept = still from.fills (after_shown from bytes).fills (tells w).writes (tells w').writes refl refl
-      (ap (λ l. l.writes.received) told ∙ append-nil (tells w).writes.received) (ap (λ l. l.writes.flushed) told) in
+      (ap (λ l. l.writes.received) told ∙ append-nil (tells w).writes.received) (ap (λ l. l.writes.flushed) told)
+      (ap (λ l. l.writes.flushes) told) in
       let ends = end_counted from.fills.zero_fills bytes in
       let fills : FillsMade 0 from.fills (after_shown from bytes).fills (tells w).writes (tells w').writes =
       omega (arith, ap length faults, length-append (tells w).writes.faults (e ∷ [])) in

@@ -15,6 +15,7 @@ pub record MovedBy (n : ℕ) (from from' : FillLog) (to to' : WriteLog) : Type 0
   pub consumes : from'.consumes ≤ from.consumes + n
   pub received : to'.received ≡ to.received ++ bytes
   pub not_flushed : to'.flushed ≡ to.flushed
+  pub flushes : to'.flushes ≡ to.flushes
 
 -- a fill was made for each consume and each fault that the streams met, and so many more
 abbrev pub FillsMade : ℕ → FillLog → FillLog → WriteLog → WriteLog → Type 0

@@ -14,6 +14,7 @@ MovedBy-none from to = record {
   consumes = omega arith;
   received = sym (append-nil to.received);
   not_flushed = refl;
+  flushes = refl;
 }
 
 pub MovedBy-joins : (n k : ℕ) (a b c : FillLog) (x y z : WriteLog)
@@ -25,6 +26,7 @@ MovedBy-joins n k a b c x y z p q = record {
   consumes = omega (arith, p.consumes, q.consumes);
   received = q.received ∙ ap (λ l. l ++ q.bytes) p.received ∙ append_assoc x.received p.bytes q.bytes;
   not_flushed = q.not_flushed ∙ p.not_flushed;
+  flushes = q.flushes ∙ p.flushes;
 }
 
 -- a turn that moved nothing

@@ -19,6 +19,7 @@ pub record FlushedSince (old new : WriteLog) : Type 0 where
 pub record WriteLogGrows (old new : WriteLog) : Type 0 where
   pub received : GoesOn old.received new.received
   pub flushed : (new.flushed ≡ old.flushed) ⊎ FlushedSince old new
+  pub flushes : old.flushes ≤ new.flushes
   pub asks : old.asks ≤ new.asks
   pub short_writes : old.short_writes ≤ new.short_writes
   pub zero_writes : old.zero_writes ≤ new.zero_writes
@@ -68,6 +69,7 @@ pub WriteLogGrows-none : (s : WriteLog) → WriteLogGrows s s
 WriteLogGrows-none s = record {
   received = GoesOn-none s.received;
   flushed = inl refl;
+  flushes = le_refl _;
   asks = le_refl _;
   short_writes = le_refl _;
   zero_writes = le_refl _;
@@ -78,6 +80,7 @@ pub WriteLogGrows-joins : (a b c : WriteLog) → WriteLogGrows a b → WriteLogG
 WriteLogGrows-joins a b c p q = record {
   received = GoesOn-joins a.received b.received c.received p.received q.received;
   flushed = flushed-joins a b c p.received q.received p.flushed q.flushed;
+  flushes = le_trans p.flushes q.flushes;
   asks = le_trans p.asks q.asks;
   short_writes = le_trans p.short_writes q.short_writes;
   zero_writes = le_trans p.zero_writes q.zero_writes;
@@ -136,6 +139,7 @@ pub WriteLogGrows-write : (log : StreamLog) (buf : List ℕ) (answer : Result �
 WriteLogGrows-write log buf answer = record {
   received = record { more = portion buf answer; equal = refl };
   flushed = inl refl;
+  flushes = le_refl _;
   asks = omega arith;
   short_writes = short_rises answer buf log.writes.short_writes;
   zero_writes = zero_rises answer buf log.writes.zero_writes;
@@ -150,6 +154,7 @@ WriteLogGrows-flush log answer = record {
     | inl same ↦ inl same
     | inr since ↦ inr (record { all = since.all; front = since.front })
   ];
+  flushes = omega arith;
   asks = le_refl _;
   short_writes = le_refl _;
   zero_writes = le_refl _;

@@ -6,21 +6,23 @@ use Rattle.std.specs.declared.io.Error.{Error}
 use Rattle.std.specs.declared.io.traits.SeekFrom.{SeekFrom}
 use Rattle.redux_buffer.specs.GoesOn.{GoesOn}
 
--- what a reader tells of its reads: the bytes that it gave, the reads that it answered, the length of the last slice
--- that it was lent, its `Ok(0)` to slices that were not empty, and its faults
+-- what a reader tells of its reads: the bytes that it gave, those of them that its last read gave, the reads that it
+-- answered, the length of the last slice that it was lent, its `Ok(0)` to slices that were not empty, and its faults
 pub record ReadLog : Type 0 where
   pub given : List ℕ
+  pub latest : List ℕ
   pub asks : ℕ
   pub offer : ℕ
   pub zero_reads : ℕ
   pub faults : List Error
 
 -- what a writer tells of its writes and flushes: the bytes that it took, those that it had taken at its last Ok flush,
--- the writes that it answered, those that fell short, as they took less than they were offered or failed, the length of
--- the last slice, its `Ok(0)` to slices that were not empty, and its faults
+-- the flushes that it answered, the writes, those that fell short, as they took less than they were offered or failed,
+-- the length of the last slice, its `Ok(0)` to slices that were not empty, and its faults
 pub record WriteLog : Type 0 where
   pub received : List ℕ
   pub flushed : List ℕ
+  pub flushes : ℕ
   pub asks : ℕ
   pub short_writes : ℕ
   pub offer : ℕ
@@ -56,8 +58,8 @@ pub record StreamLog : Type 0 where
 -- a stream that was not called yet
 abbrev pub no_calls : StreamLog
 no_calls = record {
-  reads = record { given = []; asks = 0; offer = 0; zero_reads = 0; faults = [] };
-  writes = record { received = []; flushed = []; asks = 0; short_writes = 0; offer = 0; zero_writes = 0; faults = [] };
+  reads = record { given = []; latest = []; asks = 0; offer = 0; zero_reads = 0; faults = [] };
+  writes = record { received = []; flushed = []; flushes = 0; asks = 0; short_writes = 0; offer = 0; zero_writes = 0; faults = [] };
   fills = record { shown = []; consumed = []; asks = 0; consumes = 0; zero_fills = 0; faults = [] };
   seeks = record { calls = []; faults = [] };
 }
@@ -108,6 +110,7 @@ abbrev pub after_read : StreamLog → List ℕ → Result ℕ Error → StreamLo
 after_read log buf answer = record log {
   reads = record {
     given = log.reads.given ++ portion buf answer;
+    latest = portion buf answer;
     asks = log.reads.asks + 1;
     offer = length buf;
     zero_reads = with_zero log.reads.zero_reads buf answer;
@@ -121,6 +124,7 @@ after_write log buf answer = record log {
   writes = record {
     received = log.writes.received ++ portion buf answer;
     flushed = log.writes.flushed;
+    flushes = log.writes.flushes;
     asks = log.writes.asks + 1;
     short_writes = with_short log.writes.short_writes buf answer;
     offer = length buf;
@@ -135,6 +139,7 @@ after_flush log answer = record log {
   writes = record {
     received = log.writes.received;
     flushed = with_flush log.writes.flushed log.writes.received answer;
+    flushes = log.writes.flushes + 1;
     asks = log.writes.asks;
     short_writes = log.writes.short_writes;
     offer = log.writes.offer;

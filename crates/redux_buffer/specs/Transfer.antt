@@ -56,6 +56,7 @@ pub record WritesRetried (bs : List ℕ) (log : StreamLog) (answer : Result ℕ 
   pub often : IfErr answer (λ e. IsInterrupt e → length interrupts ≡ 64)
   pub received : log'.writes.received ≡ log.writes.received ++ portion bs answer
   pub flushed : log'.writes.flushed ≡ log.writes.flushed
+  pub flushes : log'.writes.flushes ≡ log.writes.flushes
   pub asks : log'.writes.asks ≡ log.writes.asks + length interrupts + 1
   pub short_writes : log'.writes.short_writes ≡ with_short (log.writes.short_writes + length interrupts) bs answer
   pub offered : log'.writes.offer ≡ length bs
@@ -70,6 +71,7 @@ pub record Sent (count : ℕ) (old : Block) (log : StreamLog) (new : Block) (log
   pub moved : OnlyRingMoves old new
   pub received : log'.writes.received ≡ log.writes.received ++ take count old.bytes
   pub flushed : log'.writes.flushed ≡ log.writes.flushed
+  pub flushes : log'.writes.flushes ≡ log.writes.flushes
   pub others : OnlyWrites log log'
 
 -- n writes took all that they were offered, and every other one fell short
