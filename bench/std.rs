@@ -1,5 +1,5 @@
-//! The cases of `crates/bench` over the types of Rust's std: `std SHAPE CAPACITY PIECE TOTAL`, all three in bytes. It prints
-//! how many bytes went over.
+//! The cases of `crates/bench` over the types of Rust's std: `std SHAPE CAPACITY PIECE TOTAL TURNS`, the first three numbers in
+//! bytes. It goes over the same bytes so many times, and prints how many went over in one.
 mod calls;
 
 use std::hint::black_box;
@@ -399,7 +399,7 @@ fn main() -> io::Result<()> {
         return Err(io::ErrorKind::InvalidInput.into());
     };
     let numbers: Vec<usize> = numbers.iter().filter_map(|word| word.parse().ok()).collect();
-    let [capacity, piece, total] = numbers[..] else {
+    let [capacity, piece, total, turns] = numbers[..] else {
         return Err(io::ErrorKind::InvalidInput.into());
     };
     let bytes = match shape.as_str() {
@@ -409,7 +409,10 @@ fn main() -> io::Result<()> {
         shape if calls::takes_lines(shape) => text(piece, total),
         _ => noise(total),
     };
-    let bytes = black_box(bytes);
-    println!("{}", measured(shape, capacity, piece, &bytes)?);
+    let mut over = 0;
+    for _ in 0..turns {
+        over = measured(shape, capacity, piece, black_box(&bytes))?;
+    }
+    println!("{over}");
     Ok(())
 }

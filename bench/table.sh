@@ -89,7 +89,7 @@ fi
 
 # Instructions a byte of one program with its words.
 count() {
-    over=$(valgrind --tool=callgrind --callgrind-out-file=/dev/null '--toggle-collect=*measured*' "$@" 2> "$scratch/counted")
+    over=$(valgrind --tool=callgrind --callgrind-out-file=/dev/null '--toggle-collect=*measured*' "$@" 1 2> "$scratch/counted")
     if [ "$over" = 0 ]; then
         echo '–'
     else

@@ -1,5 +1,6 @@
-//! One case of the benchmark, for callgrind to count: `bench SHAPE KIND CAPACITY PIECE TOTAL`, all three in bytes. It prints
-//! how many bytes went over. Without words it runs each case on a few bytes and prints what went over in each.
+//! One case of the benchmark: `bench SHAPE KIND CAPACITY PIECE TOTAL TURNS`, the first three numbers in bytes. It goes over the
+//! same bytes so many times, and prints how many went over in one. Without words it runs each case on a few bytes and prints
+//! what went over in each.
 #![tactic(auto)]
 
 mod bodies;
@@ -30,8 +31,8 @@ fn noise(alloc: Global, total: usize) -> Result<Vec<u8>, AllocError> {
     Ok(bytes)
 }
 
-// One case on so many bytes.
-fn run(alloc: Global, case: &Case, total: usize) -> io::Result<u64> {
+// One case on so many bytes, again and again.
+fn run(alloc: Global, case: &Case, total: usize, turns: usize) -> io::Result<u64> {
     let bytes = match case.shape {
         Shape::Next | Shape::NextTrimmed => text(alloc, case.capacity, total)?,
         Shape::Frames => framed(alloc, case.piece, total)?,
@@ -40,12 +41,16 @@ fn run(alloc: Global, case: &Case, total: usize) -> io::Result<u64> {
         Shape::Call(call) if call.takes_lines() => text(alloc, case.piece, total)?,
         _ => noise(alloc, total)?,
     };
-    measured(alloc, case, bytes.as_slice())
+    let mut over = 0;
+    for _ in 0..turns {
+        over = measured(alloc, case, bytes.as_slice())?;
+    }
+    Ok(over)
 }
 
-// The case that these words ask for, and on how many bytes.
-fn asked(words: &[String]) -> Option<(Case, usize)> {
-    let [shape, kind, capacity, piece, total] = words else {
+// The case that these words ask for, on how many bytes, and how often.
+fn asked(words: &[String]) -> Option<(Case, usize, usize)> {
+    let [shape, kind, capacity, piece, total, turns] = words else {
         return None;
     };
     let case = Case {
@@ -54,7 +59,7 @@ fn asked(words: &[String]) -> Option<(Case, usize)> {
         capacity: capacity.parse().ok()?,
         piece: piece.parse().ok()?,
     };
-    Some((case, total.parse().ok()?))
+    Some((case, total.parse().ok()?, turns.parse().ok()?))
 }
 
 // A shape over each kind, on few bytes.
@@ -66,7 +71,7 @@ fn run_kinds(rt: &HostRuntime, shape: Shape, capacity: usize, piece: usize) -> i
             capacity,
             piece,
         };
-        let over = run(rt.alloc(), &case, 40000)?;
+        let over = run(rt.alloc(), &case, 40000, 1)?;
         print!(rt; " {over}")?;
     }
     println!(rt; "")
@@ -83,10 +88,10 @@ fn run_all(rt: &HostRuntime) -> io::Result<()> {
 
 // The case that these words ask for.
 fn run_asked(rt: &HostRuntime, words: &[String]) -> io::Result<()> {
-    let Some((case, total)) = asked(words) else {
+    let Some((case, total, turns)) = asked(words) else {
         return Err(io::Error::from(ErrorKind::InvalidInput));
     };
-    let over = run(rt.alloc(), &case, total)?;
+    let over = run(rt.alloc(), &case, total, turns)?;
     println!(rt; "{over}")
 }
 
