@@ -268,24 +268,37 @@ pub record InterruptedTooOften (old new : WriteLog) (e : Error) : Type 0 where
 abbrev pub WriterStopped : WriteLog → WriteLog → Error → Type 0
 WriterStopped old new e = LastFault old new e ⊎ (ZeroWritten old new e ⊎ InterruptedTooOften old new e)
 
--- they ended with this error of the inner writer, and no byte that was accepted is lost
-pub record StoppedAlong {S P : Type 0} (tells : S → StreamLog) (stretch : S → S → Type 0) (rules : WriteRules P)
-    (s : Buffered S P) (e : Error) (t : Buffered S P) : Type 0 where
+-- they accepted a beginning of these bytes, of which none is lost
+pub record BegunAlong {S P : Type 0} (tells : S → StreamLog) (stretch : S → S → Type 0) (rules : WriteRules P)
+    (s : Buffered S P) (bytes : List ℕ) (t : Buffered S P) : Type 0 where
   pub accepted : List ℕ
+  pub more : List ℕ
+  pub all : bytes ≡ accepted ++ more
   pub along : WritesAlong tells stretch rules s accepted t
+
+-- and then ended with this error of the inner writer
+pub record StoppedAlong {S P : Type 0} (tells : S → StreamLog) (stretch : S → S → Type 0) (rules : WriteRules P)
+    (s : Buffered S P) (bytes : List ℕ) (e : Error) (t : Buffered S P) : Type 0 where
+  pub begun : BegunAlong tells stretch rules s bytes t
   pub why : WriterStopped s.log.writes t.log.writes e
 
--- at Ok they accepted these bytes, and an Err is one of the inner writer
+-- at Ok they accepted these bytes, at an Err a beginning of them
+abbrev pub FrontAlong : {S P A E : Type 0} → (S → StreamLog) → (S → S → Type 0) → WriteRules P → Buffered S P → List ℕ
+    → Result A E → Buffered S P → Type 0
+FrontAlong tells stretch rules s bytes answer t = MatchResult answer
+    (λ _. WritesAlong tells stretch rules s bytes t) (λ _. BegunAlong tells stretch rules s bytes t)
+
+-- and an Err is one of the inner writer
 abbrev pub AllAlong : {S P A : Type 0} → (S → StreamLog) → (S → S → Type 0) → WriteRules P → Buffered S P → List ℕ
     → Result A Error → Buffered S P → Type 0
 AllAlong tells stretch rules s bytes answer t = MatchResult answer
-    (λ _. WritesAlong tells stretch rules s bytes t) (λ e. StoppedAlong tells stretch rules s e t)
+    (λ _. WritesAlong tells stretch rules s bytes t) (λ e. StoppedAlong tells stretch rules s bytes e t)
 
 -- at Ok the last was an Ok flush too
 abbrev pub AllFlushed : {S P A : Type 0} → (S → StreamLog) → (S → S → Type 0) → WriteRules P → Buffered S P → List ℕ
     → Result A Error → Buffered S P → Type 0
 AllFlushed tells stretch rules s bytes answer t = MatchResult answer
-    (λ _. FlushedAlong tells stretch rules s bytes t) (λ e. StoppedAlong tells stretch rules s e t)
+    (λ _. FlushedAlong tells stretch rules s bytes t) (λ e. StoppedAlong tells stretch rules s bytes e t)
 
 -- one seek of the inner writer; neither the policy nor the buffer was touched
 pub record SeeksInner {S P : Type 0} (tells : S → StreamLog) (readies : Readies) (s : Buffered S P) (to : SeekFrom)

@@ -1,6 +1,6 @@
 -- Laws of stretches of a writer's calls, for the proofs of those who make them.
-use Rattle.std.specs.Prelude.{◌≡◌, ℕ, ◌⊎◌, List, [], ◌∷◌, ◌++◌, length, take, Result, Ok, Err, Option, true}
-use Rattle.std.proofs.Common.{sym, ap, subst, refl, ◌∙◌, arith, inl, inr, le_refl, le_trans, append_assoc, append-nil}
+use Rattle.std.specs.Prelude.{◌≡◌, ℕ, ◌⊎◌, List, [], ◌∷◌, ◌++◌, length, take, drop, Result, Ok, Err, Option, true}
+use Rattle.std.proofs.Common.{sym, ap, subst, refl, ◌∙◌, arith, inl, inr, le_refl, le_trans, append_assoc, append-nil, take-append-drop}
 use Rattle.std.proofs.Math.Seq.{take-length}
 use Rattle.std.proofs.lemmas.List.{append_cancel_left}
 use Rattle.std.specs.Io.KnownBytes.{Appends}
@@ -15,7 +15,7 @@ use Rattle.redux_buffer.specs.declared.tell.memory.MemoryWriter.{MemoryWriter}
 use Rattle.redux_buffer.specs.declared.tell.told.Told.{Told}
 use Rattle.buffer_redux.specs.Policy.{WriteRules}
 use Rattle.buffer_redux.specs.Buffered.{Buffered, InnerWent}
-use Rattle.buffer_redux.specs.BufWriter.{WritesInOrder, WriterKeeps, WriterFailed, WasSent, WasFlushed, WriteErrorCaused, WriteRefused, WritesSteadily, WritesAlong, FlushedAlong, WasInterrupted, WriterStopped, StoppedAlong, AllAlong, AllFlushed}
+use Rattle.buffer_redux.specs.BufWriter.{WritesInOrder, WriterKeeps, WriterFailed, WasSent, WasFlushed, WriteErrorCaused, WriteRefused, WritesSteadily, WritesAlong, FlushedAlong, WasInterrupted, WriterStopped, BegunAlong, StoppedAlong, FrontAlong, AllAlong, AllFlushed}
 use Rattle.buffer_redux.specs.WriteAll.{WritesAll, WritesAllSteadily}
 use Rattle.buffer_redux.specs.WriterLaws.{WritesInOrder-none, WritesInOrder-joins, WritesInOrder-contents}
 
@@ -153,6 +153,32 @@ module _ {S P : Type 0} (tells : S → StreamLog) (stretch : S → S → Type 0)
     claims = keeps.claims;
   }
 
+  -- a stretch that accepted the first of these bytes
+  pub BegunAlong-of : (s t : Buffered S P) (a more : List ℕ) → WritesAlong tells stretch rules s a t
+      → BegunAlong tells stretch rules s (a ++ more) t
+  BegunAlong-of s t a more p = record { accepted = a; more = more; all = refl; along = p }
+
+  -- a beginning of some bytes is one of more
+  pub BegunAlong-more : (s t : Buffered S P) (a more : List ℕ) → BegunAlong tells stretch rules s a t
+      → BegunAlong tells stretch rules s (a ++ more) t
+  BegunAlong-more s t a more p = record {
+    accepted = p.accepted;
+    more = p.more ++ more;
+    all = ap (λ l. l ++ more) p.all ∙ append_assoc p.accepted p.more more;
+    along = p.along;
+  }
+
+  -- where a call stopped, it did so before more bytes
+  pub StoppedAlong-more : (s t : Buffered S P) (a more : List ℕ) (e : Error) → StoppedAlong tells stretch rules s a e t
+      → StoppedAlong tells stretch rules s (a ++ more) e t
+  StoppedAlong-more s t a more e p = record { begun = BegunAlong-more s t a more p.begun; why = p.why }
+
+  -- whatever the cause
+  pub AllAlong-front : {A : Type 0} (s t : Buffered S P) (a : List ℕ) (answer : Result A Error)
+      → AllAlong tells stretch rules s a answer t → FrontAlong tells stretch rules s a answer t
+  AllAlong-front s t a (Ok x) p = p
+  AllAlong-front s t a (Err e) p = p.begun
+
   -- the same with why it failed, under a steady policy
   pub Writes-all : (s : Buffered S P) (bs : List ℕ) (answer : Result ℕ Error) (t : Buffered S P)
       → WritesInOrder s (portion bs answer) t → WriteErrorCaused rules s bs answer t
@@ -160,8 +186,7 @@ module _ {S P : Type 0} (tells : S → StreamLog) (stretch : S → S → Type 0)
       → (rules.claims s.policy).steady ≡ true → AllAlong tells stretch rules s (portion bs answer) answer t
   Writes-all s bs (Ok n) t order caused steadily keeps steady = WriterKeeps-along s (take n bs) t order keeps
   Writes-all s bs (Err e) t order caused steadily keeps steady = record {
-    accepted = [];
-    along = WriterKeeps-along s [] t order keeps;
+    begun = BegunAlong-of s t [] [] (WriterKeeps-along s [] t order keeps);
     why = WriteErrorCaused-failed rules s bs e t caused (steadily steady).err;
   }
 
@@ -175,16 +200,23 @@ module _ {S P : Type 0} (tells : S → StreamLog) (stretch : S → S → Type 0)
   WritesAll-took s bs x t all = subst (λ l. WritesAlong tells stretch rules s l t)
       (ap (λ n. take n bs) all.ended.0 ∙ take-length bs) (WritesAll-along s bs (Ok x) t all)
 
+  pub WritesAll-front : (s : Buffered S P) (bs : List ℕ) (answer : Result (Unit {0}) Error) (t : Buffered S P)
+      → WritesAll tells stretch rules s bs answer t → FrontAlong tells stretch rules s bs answer t
+  WritesAll-front s bs (Ok x) t all = WritesAll-took s bs x t all
+  WritesAll-front s bs (Err e) t all = record {
+    accepted = take all.count bs;
+    more = drop all.count bs;
+    all = sym (take-append-drop all.count bs);
+    along = WritesAll-along s bs (Err e) t all;
+  }
+
   -- the same with why it failed, under a steady policy
   pub WritesAll-all : (s : Buffered S P) (bs : List ℕ) (answer : Result (Unit {0}) Error) (t : Buffered S P)
       → WritesAll tells stretch rules s bs answer t → WritesAllSteadily rules s answer t
       → (rules.claims s.policy).steady ≡ true → AllAlong tells stretch rules s bs answer t
   WritesAll-all s bs (Ok x) t all steadily steady = WritesAll-took s bs x t all
-  WritesAll-all s bs (Err e) t all steadily steady = record {
-    accepted = take all.count bs;
-    along = WritesAll-along s bs (Err e) t all;
-    why = steadily steady;
-  }
+  WritesAll-all s bs (Err e) t all steadily steady =
+      record { begun = WritesAll-front s bs (Err e) t all; why = steadily steady }
 
   -- a flush accepts nothing, whatever it answers
   pub WasFlushed-along : (s : Buffered S P) (answer : Result (Unit {0}) Error) (t : Buffered S P)
@@ -204,8 +236,7 @@ module _ {S P : Type 0} (tells : S → StreamLog) (stretch : S → S → Type 0)
       → WasFlushed tells stretch s answer t → AllAlong tells stretch rules s [] answer t
   WasFlushed-all s (Ok x) t f = WasFlushed-along s (Ok x) t f
   WasFlushed-all s (Err e) t f = record {
-    accepted = [];
-    along = WasFlushed-along s (Err e) t f;
+    begun = BegunAlong-of s t [] [] (WasFlushed-along s (Err e) t f);
     why = WriterStopped-send s.log.writes t.log.writes e f.caused;
   }
 
@@ -228,8 +259,7 @@ module _ {S P : Type 0} (tells : S → StreamLog) (stretch : S → S → Type 0)
         → WasSent tells stretch s answer t → AllAlong tells stretch rules s [] answer t
     WasSent-all s (Ok x) t f = WasSent-along s (Ok x) t f
     WasSent-all s (Err e) t f = record {
-      accepted = [];
-      along = WasSent-along s (Err e) t f;
+      begun = BegunAlong-of s t [] [] (WasSent-along s (Err e) t f);
       why = WriterStopped-send s.log.writes t.log.writes e f.caused;
     }
 
@@ -254,12 +284,27 @@ module _ {S P : Type 0} (tells : S → StreamLog) (stretch : S → S → Type 0)
     WritesAlong-then s m t a p q =
         subst (λ l. WritesAlong tells stretch rules s l t) (append-nil a) (WritesAlong-joins s m t a [] p q)
 
-    -- where a later stretch stopped, the whole did
-    pub StoppedAlong-after : (s m t : Buffered S P) (a : List ℕ) (e : Error) → WritesAlong tells stretch rules s a m
-        → StoppedAlong tells stretch rules m e t → StoppedAlong tells stretch rules s e t
-    StoppedAlong-after s m t a e p q = record {
+    -- a beginning behind what was accepted
+    pub BegunAlong-after : (s m t : Buffered S P) (a b : List ℕ) → WritesAlong tells stretch rules s a m
+        → BegunAlong tells stretch rules m b t → BegunAlong tells stretch rules s (a ++ b) t
+    BegunAlong-after s m t a b p q = record {
       accepted = a ++ q.accepted;
+      more = q.more;
+      all = ap (λ l. a ++ l) q.all ∙ sym (append_assoc a q.accepted q.more);
       along = WritesAlong-joins s m t a q.accepted p q.along;
+    }
+
+    pub FrontAlong-after : {A E : Type 0} (s m t : Buffered S P) (a b : List ℕ) (answer : Result A E)
+        → WritesAlong tells stretch rules s a m → FrontAlong tells stretch rules m b answer t
+        → FrontAlong tells stretch rules s (a ++ b) answer t
+    FrontAlong-after s m t a b (Ok x) p q = WritesAlong-joins s m t a b p q
+    FrontAlong-after s m t a b (Err e) p q = BegunAlong-after s m t a b p q
+
+    -- where a later stretch stopped, the whole did
+    pub StoppedAlong-after : (s m t : Buffered S P) (a b : List ℕ) (e : Error) → WritesAlong tells stretch rules s a m
+        → StoppedAlong tells stretch rules m b e t → StoppedAlong tells stretch rules s (a ++ b) e t
+    StoppedAlong-after s m t a b e p q = record {
+      begun = BegunAlong-after s m t a b p q.begun;
       why = WriterStopped-after s.log.writes m.log.writes t.log.writes e p.grows q.why;
     }
 
@@ -267,7 +312,13 @@ module _ {S P : Type 0} (tells : S → StreamLog) (stretch : S → S → Type 0)
         → WritesAlong tells stretch rules s a m → AllAlong tells stretch rules m b answer t
         → AllAlong tells stretch rules s (a ++ b) answer t
     AllAlong-after s m t a b (Ok x) p q = WritesAlong-joins s m t a b p q
-    AllAlong-after s m t a b (Err e) p q = StoppedAlong-after s m t a e p q
+    AllAlong-after s m t a b (Err e) p q = StoppedAlong-after s m t a b e p q
+
+    -- nothing more was to be accepted
+    pub StoppedAlong-then : (s m t : Buffered S P) (a : List ℕ) (e : Error) → WritesAlong tells stretch rules s a m
+        → StoppedAlong tells stretch rules m [] e t → StoppedAlong tells stretch rules s a e t
+    StoppedAlong-then s m t a e p q =
+        subst (λ l. StoppedAlong tells stretch rules s l e t) (append-nil a) (StoppedAlong-after s m t a [] e p q)
 
     -- behind an Ok flush all is received and flushed
     pub FlushedAlong-of : (s m t : Buffered S P) (a : List ℕ) (x : Unit {0}) → WritesAlong tells stretch rules s a m
@@ -285,7 +336,7 @@ module _ {S P : Type 0} (tells : S → StreamLog) (stretch : S → S → Type 0)
         → WritesAlong tells stretch rules s a m → WasFlushed tells stretch m answer t
         → AllFlushed tells stretch rules s a answer t
     AllFlushed-of s m t a (Ok x) p f = FlushedAlong-of s m t a x p f
-    AllFlushed-of s m t a (Err e) p f = StoppedAlong-after s m t a e p (WasFlushed-all m (Err e) t f)
+    AllFlushed-of s m t a (Err e) p f = StoppedAlong-then s m t a e p (WasFlushed-all m (Err e) t f)
 
 -- what a stream in a `Told` is known to hold gained just the bytes that were buffered and accepted
 pub FlushedAlong-held : {S P : Type 0} (contents : S → Option (List ℕ)) (rules : WriteRules P)

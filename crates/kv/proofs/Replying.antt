@@ -9,7 +9,7 @@ use Rattle.buffer_redux.specs.Faults.{IsInterrupt}
 use Rattle.buffer_redux.specs.Policy.{std_write_rules}
 use Rattle.buffer_redux.specs.StreamLog.{StreamLog}
 use Rattle.buffer_redux.specs.WriterLaws.{WritesInOrder-contents}
-use Rattle.buffer_redux.specs.WritesAlongLaws.{FlushedAlong-of, StoppedAlong-after, WasFlushed-all, WasFlushed-along, WasInterrupted-after, WasInterrupted-send, WritesAlong-joins, WritesAlong-then}
+use Rattle.buffer_redux.specs.WritesAlongLaws.{BegunAlong-of, FlushedAlong-of, StoppedAlong-after, WasFlushed-all, WasFlushed-along, WasInterrupted-after, WasInterrupted-send, WritesAlong-joins, WritesAlong-then}
 use Rattle.kv.specs.Replies.{FlushesAll, Replied, ReplyFailed}
 use Rattle.kv.specs.Serving.{IsSent}
 
@@ -18,7 +18,7 @@ module _ {T P : Type 0} (tells : T → StreamLog) (stretch : T → T → Type 0)
       → AllAlong tells stretch std_write_rules s bytes answer t → IfErr answer (λ e. error_kind e ≢ Interrupted)
       → Replied tells stretch s bytes answer t
   replied s bytes (Ok x) t along retried = along
-  replied s bytes (Err e) t stopped retried = (stopped, retried)
+  replied s bytes (Err e) t stopped retried = ((bytes, stopped), retried)
 
   pub flushes_along : {A : Type 0} (s : Buffered T P) (answer : Result A Error) (t : Buffered T P)
       → FlushesAll tells stretch s answer t → Replied tells stretch s [] answer t
@@ -33,7 +33,8 @@ module _ {T P : Type 0} (tells : T → StreamLog) (stretch : T → T → Type 0)
   module _ (joins : (u v w : T) → stretch u v → stretch v w → stretch u w) where
     pub failed_after : (s m t : Buffered T P) (a : List ℕ) (e : Error) → WritesAlong tells stretch std_write_rules s a m
         → ReplyFailed tells stretch m e t → ReplyFailed tells stretch s e t
-    failed_after s m t a e p q = (StoppedAlong-after tells stretch std_write_rules joins s m t a e p q.0, q.1)
+    failed_after s m t a e p q =
+        ((a ++ q.0.0, StoppedAlong-after tells stretch std_write_rules joins s m t a q.0.0 e p q.0.1), q.1)
 
     pub replied_after : {A : Type 0} (s m t : Buffered T P) (a b : List ℕ) (answer : Result A Error)
         → WritesAlong tells stretch std_write_rules s a m → Replied tells stretch m b answer t
@@ -75,21 +76,23 @@ module _ {T P : Type 0} (tells : T → StreamLog) (stretch : T → T → Type 0)
     pub flush_failed : (s m t : Buffered T P) (count : ℕ) (e : Error) → Interruptions s m count → ¬ (IsInterrupt e)
         → WasFlushed tells stretch m (Err e) t → ReplyFailed tells stretch s e t
     flush_failed s m t count e before isnt f = (
-      StoppedAlong-after tells stretch std_write_rules joins s m t [] e before.along
-          (WasFlushed-all tells stretch std_write_rules m (Err e) t f),
+      (
+        [],
+        StoppedAlong-after tells stretch std_write_rules joins s m t [] [] e before.along
+            (WasFlushed-all tells stretch std_write_rules m (Err e) t f),
+      ),
       isnt,
     )
 
     pub flush_given_up : (s m : Buffered T P) (count : ℕ) (e : Error) → Interruptions s m count → ¬ (count ≡ 0)
         → error_kind e ≡ TimedOut → ReplyFailed tells stretch s e m
     flush_given_up s m count e before some late = (
-      record {
-        accepted = [];
-        along = before.along;
+      ([], record {
+        begun = BegunAlong-of tells stretch std_write_rules s m [] [] before.along;
         why = inr (inr (record {
           timed_out = late;
           interrupted = elim before.some [ inl none ↦ absurd (some none) | inr was ↦ was ];
         }));
-      },
+      }),
       λ is. (let odd : TimedOut ≡ Interrupted = sym late ∙ is in cc),
     )

@@ -10,7 +10,8 @@ use Rattle.buffer_redux.specs.StreamLog.{StreamLog}
 module _ {T P : Type 0} (tells : T → StreamLog) (stretch : T → T → Type 0) where
   -- the stream of replies failed. That it was interrupted is no failure: it is tried again
   abbrev pub ReplyFailed : Buffered T P → Error → Buffered T P → Type 0
-  ReplyFailed s e t = StoppedAlong tells stretch std_write_rules s e t × ¬ (IsInterrupt e)
+  ReplyFailed s e t =
+      ((bytes : List ℕ) × StoppedAlong tells stretch std_write_rules s bytes e t) × ¬ (IsInterrupt e)
 
   -- at Ok these bytes were accepted
   abbrev pub Replied : {A : Type 0} → Buffered T P → List ℕ → Result A Error → Buffered T P → Type 0

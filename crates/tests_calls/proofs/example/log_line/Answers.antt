@@ -1,5 +1,5 @@
 use Rattle.std.proofs.lemmas.Result.{err_from_is_err_and}
-use Rattle.buffer_redux.specs.WritesAlongLaws.{AllFlushed-of, StoppedAlong-after, WritesAll-all, WritesAll-took, WritesAlong-joins, WritesAlong-steady}
+use Rattle.buffer_redux.specs.WritesAlongLaws.{AllFlushed-of, StoppedAlong-after, StoppedAlong-more, WritesAll-all, WritesAll-took, WritesAlong-joins, WritesAlong-steady}
 use Rattle.tests_calls.proofs.example.log_line.Goals as goal
 
 -- the line was refused
@@ -7,7 +7,10 @@ pub returns-in_err-write_all : goal.returns-in_err-write_all
 returns-in_err-write_all g c =
     let p = err_from_is_err_and c.from_residual.result c.from_residual.ensures.1 in
     let e = c.in_err-write_all.ensures in
-    rw (p.1, p.2) (WritesAll-all _ _ _ c.args.writer.now _ _ c.write_all.new.self e.steps e.steadily c.requires.steady)
+    let s = c.args.writer.now in
+    let m = c.write_all.new.self in
+    rw (p.1, p.2) (StoppedAlong-more _ _ _ s m _ _ _
+    (WritesAll-all _ _ _ s _ _ m e.steps e.steadily c.requires.steady))
 
 -- its end was
 pub returns-in_err-write_all-2 : goal.returns-in_err-write_all-2
@@ -17,7 +20,7 @@ returns-in_err-write_all-2 g c =
     let m = c.write_all.new.self in
     let e = c.in_err-write_all-2.ensures in
     let line = WritesAll-took _ _ _ s _ _ m c.in_ok-write_all.ensures.steps in
-    rw (p.1, p.2) (StoppedAlong-after _ _ _ g.met.W.TellWrite.stretch_joins s m c.write_all-2.new.self _ _ line
+    rw (p.1, p.2) (StoppedAlong-after _ _ _ g.met.W.TellWrite.stretch_joins s m c.write_all-2.new.self _ _ _ line
     (WritesAll-all _ _ _ m _ _ c.write_all-2.new.self e.steps e.steadily (WritesAlong-steady _ _ _ s m _ line c.requires.steady)))
 
 pub returns : goal.returns
