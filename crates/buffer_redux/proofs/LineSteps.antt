@@ -166,7 +166,7 @@ module _ {S P : Type 0} (remaining : S → Option (List ℕ)) (rules : ReadRules
           → (a : AppendsText {A = Unit {0}} remaining rules m old (Ok tt) new t)
           → Passes remaining rules (FillsOn remaining rules) 10 s (handed ++ take a.0 m.block.bytes) t
       text_passes t old new plain a =
-          passes_first remaining rules 10 s m handed before t a.0 (All-take (λ b. ¬ (b ≡ 10)) a.0 m.block.bytes plain)
+          passes_first remaining rules 10 s m handed before t a.0 a.1 (All-take (λ b. ¬ (b ≡ 10)) a.0 m.block.bytes plain)
           a.2.0.1 a.2.0.2
 
       -- what stays buffered lacks a line feed too

@@ -19,7 +19,7 @@ use Rattle.buffer_redux.specs.BufReader.{RanDry, ReaderConsumes}
 use Rattle.buffer_redux.specs.FillRetried.{Step}
 use Rattle.buffer_redux.specs.ReadAll.{HandedFront}
 use Rattle.buffer_redux.specs.ReaderLaws.{ReaderKeeps-along, WantsBytes}
-use Rattle.buffer_redux.specs.ReadUntil.{EndsUntil, FirstAt, Lacks, Passes, PassesAndFills, PassesToEnd, Reaches, Steps, Stops}
+use Rattle.buffer_redux.specs.ReadUntil.{DropsFirst, EndsUntil, FirstAt, Lacks, Passes, PassesAndFills, PassesToEnd, Reaches, Steps, Stops}
 use Rattle.buffer_redux.specs.ReadUntil.{no_memory}
 use Rattle.buffer_redux.proofs.ReadAll.{front_none, front_joins}
 use Rattle.buffer_redux.proofs.Retrying.{HandsNothing}
@@ -29,6 +29,18 @@ use Rattle.buffer_redux.proofs.Searching.{ends_in, lacks_none, lacks_both}
 told_only : (old log log' : StreamLog) → log' ≡ log → OnlyInterrupts old.reads.faults log.reads.faults
     → OnlyInterrupts old.reads.faults log'.reads.faults
 told_only old log log' same = subst (λ l. OnlyInterrupts old.reads.faults l.reads.faults) (sym same)
+
+-- to drop bytes asks nobody
+drops_told : {S P : Type 0} (rules : ReadRules P) (s t : Buffered S P) (n : ℕ) → DropsFirst rules n s t → t.log ≡ s.log
+drops_told rules s t n gone = elim (cases_lt 0 n) [
+  | inl some ↦ (gone.some some).told
+  | inr none ↦ ap (λ x. x.log) (gone.none (omega (arith, none)))
+]
+
+-- some bytes were dropped by a consume of just these
+pub drops_some : {S P : Type 0} (rules : ReadRules P) (s t : Buffered S P) (n : ℕ) → 0 < n → ReaderConsumes rules n s t
+    → DropsFirst rules n s t
+drops_some rules s t n some gone = record { none = λ none. absurd (omega (arith, some, none)); some = λ _. gone }
 
 module _ {S P : Type 0} {step : Step (Buffered S P)} (remaining : S → Option (List ℕ)) (rules : ReadRules P) (byte : ℕ) where
   pub passes_none : (s : Buffered S P) → IsBlock s.block → Passes remaining rules step byte s [] s
@@ -40,29 +52,32 @@ module _ {S P : Type 0} {step : Step (Buffered S P)} (remaining : S → Option (
   }
 
   module _ (s m : Buffered S P) (handed : List ℕ) (before : Passes remaining rules step byte s handed m) where
-    steps_consumed : (t : Buffered S P) (n : ℕ) → ReaderConsumes rules n m t
+    steps_consumed : (t : Buffered S P) (n : ℕ) → n ≤ length m.block.bytes → DropsFirst rules n m t
         → (count : ℕ) × Steps rules step count s t
-    steps_consumed t n gone = (suc before.steps.0, (m, before.steps.1, inl (n, gone)))
+    steps_consumed t n within gone = elim (cases_lt 0 n) [
+      | inl some ↦ (suc before.steps.0, (m, before.steps.1, inl (n, some, within, gone.some some)))
+      | inr none ↦ subst (λ x. (count : ℕ) × Steps rules step count s x) (sym (gone.none (omega (arith, none)))) before.steps
+    ]
 
     -- then the first n bytes are handed out, or all that are buffered, which lack the byte
-    pub passes_first : (t : Buffered S P) (n : ℕ) → Lacks byte (take n m.block.bytes)
-        → HandedFront remaining rules m (take n m.block.bytes) t → ReaderConsumes rules n m t
+    pub passes_first : (t : Buffered S P) (n : ℕ) → n ≤ length m.block.bytes → Lacks byte (take n m.block.bytes)
+        → HandedFront remaining rules m (take n m.block.bytes) t → DropsFirst rules n m t
         → Passes remaining rules step byte s (handed ++ take n m.block.bytes) t
-    passes_first t n plain went gone = record {
+    passes_first t n within plain went gone = record {
       front = front_joins remaining rules s m t handed (take n m.block.bytes) before.front went;
       plain = lacks_both byte handed (take n m.block.bytes) before.plain plain;
-      faults = told_only s.log m.log t.log gone.told before.faults;
-      steps = steps_consumed t n gone;
+      faults = told_only s.log m.log t.log (drops_told rules m t n gone) before.faults;
+      steps = steps_consumed t n within gone;
     }
 
     pub passes_all : (t : Buffered S P) (n : ℕ) → n ≡ length m.block.bytes → Lacks byte m.block.bytes
-        → HandedFront remaining rules m (take n m.block.bytes) t → ReaderConsumes rules n m t
+        → HandedFront remaining rules m (take n m.block.bytes) t → DropsFirst rules n m t
         → Passes remaining rules step byte s (handed ++ m.block.bytes) t
     passes_all t n count plain went gone =
         let all : take n m.block.bytes ≡ m.block.bytes =
         ap (λ k. take k m.block.bytes) count ∙ take-length m.block.bytes in
         subst (λ l. Passes remaining rules step byte s (handed ++ l) t) all
-        (passes_first t n (subst (Lacks byte) (sym all) plain) went gone)
+        (passes_first t n (omega (arith, count)) (subst (Lacks byte) (sym all) plain) went gone)
 
     -- or such a step is made as a fill
     module _ (hands : HandsNothing remaining rules step) where
@@ -108,12 +123,12 @@ module _ {S P : Type 0} {step : Step (Buffered S P)} (remaining : S → Option (
     front_reached at t went =
         front_joins remaining rules s m t handed (take (at + 1) m.block.bytes) before.front went
 
-    pub reaches : (at : ℕ) (t : Buffered S P) → FirstAt byte at m.block.bytes → ReaderConsumes rules (at + 1) m t
+    pub reaches : (at : ℕ) (t : Buffered S P) → FirstAt byte at m.block.bytes → DropsFirst rules (at + 1) m t
         → Reaches rules step byte s (handed ++ take (at + 1) m.block.bytes) t
     reaches at t first gone = record {
       ends = ends_in byte at handed m.block.bytes first before.plain;
-      faults = told_only s.log m.log t.log gone.told before.faults;
-      steps = steps_consumed t (at + 1) gone;
+      faults = told_only s.log m.log t.log (drops_told rules m t (at + 1) gone) before.faults;
+      steps = steps_consumed t (at + 1) (omega (arith, first.inside)) gone;
     }
 
     -- how the call ends: with the fault of a fill, where a fill showed nothing, at the byte, or of its own
@@ -128,7 +143,7 @@ module _ {S P : Type 0} {step : Step (Buffered S P)} (remaining : S → Option (
       until_end hands n t count f dry none = (count, inr (passes_to_end hands t f dry none))
 
       pub until_reached : (n at : ℕ) (t : Buffered S P) → n ≡ length (handed ++ take (at + 1) m.block.bytes)
-          → FirstAt byte at m.block.bytes → ReaderConsumes rules (at + 1) m t
+          → FirstAt byte at m.block.bytes → DropsFirst rules (at + 1) m t
           → EndsUntil remaining rules step stops byte s (Ok n) (handed ++ take (at + 1) m.block.bytes) t
       until_reached n at t count first gone = (count, inl (reaches at t first gone))
 
@@ -146,7 +161,7 @@ module _ {S P : Type 0} {step : Step (Buffered S P)} (remaining : S → Option (
 
 -- where all that is buffered was handed out, nothing is left
 pub emptied : {S P : Type 0} (remaining : S → Option (List ℕ)) (rules : ReadRules P) (m t : Buffered S P) (n : ℕ)
-    → n ≡ length m.block.bytes → HandedFront remaining rules m (take n m.block.bytes) t → ReaderConsumes rules n m t
+    → n ≡ length m.block.bytes → HandedFront remaining rules m (take n m.block.bytes) t → DropsFirst rules n m t
     → length t.block.bytes ≡ 0
 emptied remaining rules m t n count went gone = omega (
   arith,
@@ -157,7 +172,7 @@ emptied remaining rules m t n count went gone = omega (
   length-append m.block.bytes went.in_order.got,
   ap length went.in_order.given,
   length-append m.log.reads.given went.in_order.got,
-  ap (λ l. length l.reads.given) gone.told,
+  ap (λ l. length l.reads.given) (drops_told rules m t n gone),
 )
 
 -- a fill that leaves some bytes shows more than were left

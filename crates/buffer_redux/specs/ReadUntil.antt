@@ -28,12 +28,19 @@ pub record EndsIn (byte : ℕ) (bytes : List ℕ) : Type 0 where
   pub plain : Lacks byte front
   pub equal : bytes ≡ front ++ byte ∷ []
 
--- so many steps led from s to t, each of them a consume, of which the policy is told, or a fill that showed more bytes, or
--- what the call makes in place of one. So nobody is asked behind a fill that showed no more, which ends the call
+-- the first n bytes that are buffered were dropped, and the policy was told so. Of no bytes it isn't told
+pub record DropsFirst {S P : Type 0} (rules : ReadRules P) (n : ℕ) (s t : Buffered S P) : Type 0 where
+  pub none : n ≡ 0 → t ≡ s
+  pub some : 0 < n → ReaderConsumes rules n s t
+
+-- so many steps led from s to t, each of them a consume of some bytes that are buffered, of which the policy is told, or a
+-- fill that showed more bytes, or what the call makes in place of one. So nobody is asked behind a fill that showed no
+-- more, which ends the call, and the policy is told of no consume of nothing
 abbrev pub Steps : {S P : Type 0} → ReadRules P → Step (Buffered S P) → ℕ → Buffered S P → Buffered S P → Type 0
 Steps rules step zero s t = s ≡ t
 Steps {S} {P} rules step (suc count) s t = (m : Buffered S P) × Steps rules step count s m
-    × (((n : ℕ) × ReaderConsumes rules n m t) ⊎ (step m (Ok tt) t × (length m.block.bytes < length t.block.bytes)))
+    × (((n : ℕ) × (0 < n) × (n ≤ length m.block.bytes) × ReaderConsumes rules n m t)
+    ⊎ (step m (Ok tt) t × (length m.block.bytes < length t.block.bytes)))
 
 -- these bytes were handed out, which lack the byte, and no fault came but interrupted reads
 pub record Passes {S P : Type 0} (remaining : S → Option (List ℕ)) (rules : ReadRules P) (step : Step (Buffered S P))
@@ -90,7 +97,7 @@ abbrev pub AppendsFirst : {S P A : Type 0} → (S → Option (List ℕ)) → Rea
     → Result A Error → List ℕ → Buffered S P → Type 0
 AppendsFirst remaining rules n s before (Ok a) after t =
     (after ≡ before ++ take n s.block.bytes) × HandedFront remaining rules s (take n s.block.bytes) t
-    × ReaderConsumes rules n s t
+    × DropsFirst rules n s t
 AppendsFirst remaining rules n s before (Err e) after t =
     (after ≡ before) × (t ≡ s) × (0 < n) × (error_kind e ≡ OutOfMemory)
 

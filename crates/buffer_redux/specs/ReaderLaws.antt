@@ -266,6 +266,15 @@ module _ {S P : Type 0} (remaining : S → Option (List ℕ)) (rules : ReadRules
   ReadsAlong-then a b c h p q =
       subst (λ l. ReadsAlong remaining rules a l c) (append-nil h) (ReadsAlong-joins a b c h [] p q)
 
+  -- and one that goes to the end
+  pub ReadsToEnd-after : (a b c : Buffered S P) (h k : List ℕ) → ReadsAlong remaining rules a h b
+      → ReadsToEnd remaining rules b k c → ReadsToEnd remaining rules a (h ++ k) c
+  ReadsToEnd-after a b c h k p q = record {
+    along = ReadsAlong-joins a b c h k p q.along;
+    none = q.none;
+    dry = omega (arith, p.grows.zero_reads, q.dry);
+  }
+
   -- a call that says what it handed out and what it keeps, as `read` does, whatever it answers
   pub ReaderKeeps-along : (s : Buffered S P) (handed : List ℕ) (t : Buffered S P) → ReadsInOrder s handed t
       → ReaderKeeps remaining rules s t → ReadsAlong remaining rules s handed t

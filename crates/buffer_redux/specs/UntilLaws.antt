@@ -1,16 +1,17 @@
 -- What calls that go on up to a byte do to the bytes that are known to be left.
-use Rattle.std.specs.Prelude.{◌≡◌, ℕ, Bool, false, true, cond, List, [], ◌∷◌, ◌++◌, Result, Ok, Err, Option, None, Some, IfSome, IfOk, OnOk, length}
-use Rattle.std.proofs.Common.{◌∙◌, eqb, ap, append-nil, append_assoc, arith, inl, inr, refl, sym}
+use Rattle.std.specs.Prelude.{◌≡◌, ℕ, ◌<◌, ◌⊎◌, Bool, false, true, cond, List, [], ◌∷◌, ◌++◌, Result, Ok, Err, Option, None, Some, IfSome, IfOk, OnOk, length}
+use Rattle.std.proofs.Common.{◌∙◌, eqb, ap, append-nil, append_assoc, arith, inl, inr, length-append, refl, subst, sym}
 use Rattle.std.proofs.BufReadLemmas.{take_through-append}
-use Rattle.std.proofs.lemmas.List.{append_cancel_left}
+use Rattle.std.proofs.lemmas.List.{append_cancel_left, nil_from_length}
 use Rattle.std.specs.Io.BufRead.{take_through, drop_through, DropsThrough}
 use Rattle.std.specs.Io.KnownBytes.{Consumes}
 use Rattle.std.specs.declared.io.Error.{Error}
 use Rattle.buffer_redux.specs.Policy.{ReadRules}
 use Rattle.buffer_redux.specs.Buffered.{Buffered}
 use Rattle.buffer_redux.specs.FillRetried.{FillRetried, Step}
+use Rattle.buffer_redux.specs.BufReader.{ReadsAlong, ReadsToEnd}
 use Rattle.buffer_redux.specs.ReadAll.{HandedFront}
-use Rattle.buffer_redux.specs.ReaderLaws.{ReadsAlong-left, ReadsToEnd-known, ReaderKeeps-along}
+use Rattle.buffer_redux.specs.ReaderLaws.{ReadsAlong-left, ReadsToEnd-known, ReaderKeeps-along, WantsBytes}
 use Rattle.buffer_redux.specs.ReadUntil.{EndsIn, EndsUntil, Lacks, ReadsUntil, SkipsUntil, Stops, no_count, no_memory}
 use Rattle.buffer_redux.specs.Remaining.{ahead, may_stop, reader_remaining}
 use Rattle.buffer_redux.specs.RemainingLaws.{may_stop-false}
@@ -109,6 +110,41 @@ module _ {S P : Type 0} (remaining : S → Option (List ℕ)) (rules : ReadRules
       (ReaderKeeps-along remaining rules s reads.handed t reads.front.in_order reads.front.keeps))
       (EndsUntil-known (FillRetried remaining rules) no_memory n reads.handed t reads.front reads.ends)
 
+  -- the call as a stretch, whatever it answers
+  pub ReadsUntil-along : (before : List ℕ) (answer : Result ℕ Error) (after : List ℕ) (t : Buffered S P)
+      → (reads : ReadsUntil remaining rules byte s before answer after t) → ReadsAlong remaining rules s reads.handed t
+  ReadsUntil-along before answer after t reads =
+      ReaderKeeps-along remaining rules s reads.handed t reads.front.in_order reads.front.keeps
+
+  pub SkipsUntil-along : (answer : Result ℕ Error) (t : Buffered S P)
+      → (skips : SkipsUntil remaining rules byte s answer t) → ReadsAlong remaining rules s skips.handed t
+  SkipsUntil-along answer t skips =
+      ReaderKeeps-along remaining rules s skips.handed t skips.front.in_order skips.front.keeps
+
+  -- at Ok it appended a piece that ends in the byte, or one without it
+  pub ReadsUntil-piece : (before : List ℕ) (n : ℕ) (after : List ℕ) (t : Buffered S P)
+      → (reads : ReadsUntil remaining rules byte s before (Ok n) after t) → EndsIn byte reads.handed ⊎ Lacks byte reads.handed
+  ReadsUntil-piece before n after t reads = elim reads.ends.1 [
+    | inl reached ↦ inl reached.ends
+    | inr ended ↦ inr ended.fills.passes.plain
+  ]
+
+  -- one that appended nothing has met the end
+  pub ReadsUntil-end : (before after : List ℕ) (t : Buffered S P)
+      → ReadsUntil remaining rules byte s before (Ok 0) after t → WantsBytes (rules.claims s.policy)
+      → 0 < s.block.capacity → (after ≡ before) × ReadsToEnd remaining rules s [] t
+  ReadsUntil-end before after t reads wants some = elim reads.ends.1 [
+    | inl reached ↦ absurd (omega (arith, reads.ends.0, ap length reached.ends.equal,
+        length-append reached.ends.front (byte ∷ [])))
+    | inr ended ↦ (
+      reads.appended ∙ ap (λ l. before ++ l) nothing ∙ append-nil before,
+      subst (λ l. ReadsToEnd remaining rules s l t) nothing (ended.end wants some),
+    )
+  ]
+    where
+      nothing : reads.handed ≡ []
+      nothing = nil_from_length reads.handed (sym reads.ends.0)
+
   -- where the byte is buffered, nobody is asked
   pub SkipsUntil-quiet : (answer : Result ℕ Error) (t : Buffered S P) → SkipsUntil remaining rules byte s answer t
       → ¬ (Lacks byte s.block.bytes) → t.log ≡ s.log
@@ -117,5 +153,5 @@ module _ {S P : Type 0} (remaining : S → Option (List ℕ)) (rules : ReadRules
 
   pub ReadsUntil-quiet : (before : List ℕ) (answer : Result ℕ Error) (after : List ℕ) (t : Buffered S P)
       → ReadsUntil remaining rules byte s before answer after t → ¬ (Lacks byte s.block.bytes) → t.log ≡ s.log
-  ReadsUntil-quiet before (Ok n) after t reads some = (reads.buffered some).2.2.told
+  ReadsUntil-quiet before (Ok n) after t reads some = ((reads.buffered some).2.2.some (omega arith)).told
   ReadsUntil-quiet before (Err e) after t reads some = ap (λ x. x.log) (reads.buffered some).2.1

@@ -81,6 +81,7 @@ impl<R: TellRead, P: ReaderPolicy> BufReader<R, P> {
     #[inline(always)]
     fn append_line<A: Allocator>(&mut self, n: usize, out: &mut String<A>) -> io::Result<usize>
         requires within { n ≤ length self.old.block.bytes }
+        requires some { 0 < n }
         ensures appends { AppendsLine R.remaining P.rules n self.old (string_bytes out.old) result
             (string_bytes out.new) self.new }
         ensures count { IfOk result (λ count. count ≡ n) }
@@ -105,7 +106,7 @@ impl<R: TellRead, P: ReaderPolicy> BufReader<R, P> {
         };
         let n = text.len();
         out.push_str(text)?;
-        self.consume(n);
+        self.drop_first(n);
         Ok(())
     }
 

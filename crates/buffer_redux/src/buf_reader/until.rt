@@ -1,10 +1,11 @@
 //! Calls that go on up to a byte.
-ghost use Rattle.std.specs.Prelude.{◌≡◌, ◌+◌, ◌^◌, ◌≤◌, ◌++◌, length, MatchResult, IfNone, IfOk, IfSome, OnOk};
+ghost use Rattle.std.specs.Prelude.{◌≡◌, ◌+◌, ◌^◌, ◌<◌, ◌≤◌, ◌++◌, length, take, drop, MatchResult, IfNone, IfOk, IfSome, OnOk};
 ghost use Rattle.std.specs.Io.BufRead.{take_through};
 ghost use Rattle.std.specs.IoError.{error_kind};
 ghost use Rattle.std.specs.declared.io.ErrorKind.TheVariants.{TimedOut};
 ghost use Rattle.buffer_redux.specs.FillRetried.{FillRetried};
-ghost use Rattle.buffer_redux.specs.ReadUntil.{AppendsFirst, FirstAt, Lacks, ReadsUntil, SkipsUntil};
+ghost use Rattle.buffer_redux.specs.ReadAll.{HandedFront};
+ghost use Rattle.buffer_redux.specs.ReadUntil.{AppendsFirst, DropsFirst, FirstAt, Lacks, ReadsUntil, SkipsUntil};
 ghost use Rattle.buffer_redux.specs.Remaining.{reader_remaining};
 
 use crate::buf_reader::BufReader;
@@ -64,14 +65,14 @@ impl<R: TellRead, P: ReaderPolicy> BufReader<R, P> {
         let start = out.len();
         let mut len = self.buf.len();
         'fills: loop {
-            self.append_first(len, out)?;
+            self.append_some(len, out)?;
             self.fill_retried()?;
             if self.buf.is_empty() {
                 return Ok(out.len() - start);
             }
             match first_of(byte, self.buf.buf()) {
                 Some(at) => {
-                    self.append_first(at + 1, out)?;
+                    self.append_some(at + 1, out)?;
                     return Ok(out.len() - start);
                 }
                 None => len = self.buf.len(),
@@ -119,7 +120,7 @@ impl<R: TellRead, P: ReaderPolicy> BufReader<R, P> {
         let mut len = self.buf.len();
         'fills: loop {
             total = counted(total, len)?;
-            self.consume(len);
+            self.drop_first(len);
             self.fill_retried()?;
             if self.buf.is_empty() {
                 return Ok(total);
@@ -128,7 +129,7 @@ impl<R: TellRead, P: ReaderPolicy> BufReader<R, P> {
                 Some(at) => {
                     let n = at + 1;
                     total = counted(total, n)?;
-                    self.consume(n);
+                    self.drop_first(n);
                     return Ok(total);
                 }
                 None => len = self.buf.len(),
@@ -140,12 +141,40 @@ impl<R: TellRead, P: ReaderPolicy> BufReader<R, P> {
     #[inline(always)]
     fn append_first<A: Allocator>(&mut self, n: usize, out: &mut Vec<u8, A>) -> io::Result<()>
         requires within { n ≤ length self.old.block.bytes }
+        requires some { 0 < n }
         ensures appends { AppendsFirst R.remaining P.rules n self.old out.old.items result out.new.items self.new }
     {
         let shown = self.buf.buf();
         out.extend_from_slice(&shown[..n])?;
         self.consume_exact(n);
         Ok(())
+    }
+
+    // The same where these may be none.
+    fn append_some<A: Allocator>(&mut self, n: usize, out: &mut Vec<u8, A>) -> io::Result<()>
+        requires within { n ≤ length self.old.block.bytes }
+        ensures appends { AppendsFirst R.remaining P.rules n self.old out.old.items result out.new.items self.new }
+    {
+        if n == 0 {
+            let _ = &self.buf;
+            return Ok(());
+        }
+        self.append_first(n, out)
+    }
+
+    // Drops the first `n` bytes that are buffered.
+    #[inline(always)]
+    pub(super) fn drop_first(&mut self, n: usize)
+        requires within { n ≤ length self.old.block.bytes }
+        ensures front { HandedFront R.remaining P.rules self.old (take n self.old.block.bytes) self.new }
+        ensures dropped { DropsFirst P.rules n self.old self.new }
+        ensures left { self.new.block.bytes ≡ drop n self.old.block.bytes }
+    {
+        if n == 0 {
+            let _ = &self.buf;
+            return;
+        }
+        self.consume_exact(n);
     }
 
     // Fills, and again where that was interrupted, `INTERRUPT_LIMIT` times at the most.

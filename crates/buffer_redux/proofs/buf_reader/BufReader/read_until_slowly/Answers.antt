@@ -19,12 +19,12 @@ fills-init g c = record {
   behind = c.requires.plain;
 }
 
-pub returns-in_err-append_first : goal.returns-in_err-append_first
-returns-in_err-append_first g c =
+pub returns-in_err-append_some : goal.returns-in_err-append_some
+returns-in_err-append_some g c =
     let before = c.fills.invariant in
-    let a = c.in_err-append_first.ensures.appends in
+    let a = c.in_err-append_some.ensures.appends in
     let p = err_from_is_err_and c.from_residual.result c.from_residual.ensures.1 in
-    let ends = until_refused _ _ _ _ c.fills.self before.handed before.passes c.fills.len _ c.append_first.new.self
+    let ends = until_refused _ _ _ _ c.fills.self before.handed before.passes c.fills.len _ c.append_some.new.self
     (omega (arith, before.size)) a.2 a.1 a.3 in
     rw (p.1, p.2) (record {
       until = record {
@@ -39,11 +39,11 @@ returns-in_err-append_first g c =
 pub returns-in_err-fill_retried : goal.returns-in_err-fill_retried
 returns-in_err-fill_retried g c =
     let before = c.fills.invariant in
-    let a = c.in_ok-append_first.ensures.appends in
+    let a = c.in_ok-append_some.ensures.appends in
     let f = c.in_err-fill_retried.ensures.retried in
     let p = err_from_is_err_and c.from_residual-in_err-fill_retried.result
     c.from_residual-in_err-fill_retried.ensures.1 in
-    let passes = passes_all _ _ _ _ c.fills.self before.handed before.passes c.append_first.new.self c.fills.len before.size
+    let passes = passes_all _ _ _ _ c.fills.self before.handed before.passes c.append_some.new.self c.fills.len before.size
     before.behind a.1 a.2 in
     rw (p.1, p.2) (record {
       until = record {
@@ -59,9 +59,9 @@ returns-in_err-fill_retried g c =
 pub returns-then-is_empty : goal.returns-then-is_empty
 returns-then-is_empty g c =
     let before = c.fills.invariant in
-    let a = c.in_ok-append_first.ensures.appends in
+    let a = c.in_ok-append_some.ensures.appends in
     let f = c.in_ok-fill_retried.ensures.retried in
-    let passes = passes_all _ _ _ _ c.fills.self before.handed before.passes c.append_first.new.self c.fills.len before.size
+    let passes = passes_all _ _ _ _ c.fills.self before.handed before.passes c.append_some.new.self c.fills.len before.size
     before.behind a.1 a.2 in
     let none = sym (ap (λ x. length x.block.bytes) c.self-in-fills.view_is)
     ∙ c.is_empty.ensures.value.0 c.if-is_empty.true in
@@ -73,29 +73,29 @@ returns-then-is_empty g c =
         front = front_filled _ _ _ _ _ _ passes (refilling _ _) _ _ f;
         ends = until_end _ _ _ _ _ _ passes no_memory (refilling _ _) _ _
             (appended_length _ _ _ c.len-start.result c.len.result grown (c.len-start.ensures ∙ c.args.out.now.ok.0)
-            (c.len.ensures ∙ c.append_first.new.out.ok.0)) f (λ wants some. retried_dry _ _ _ _ f wants some none) none;
+            (c.len.ensures ∙ c.append_some.new.out.ok.0)) f (λ wants some. retried_dry _ _ _ _ f wants some none) none;
         buffered = λ some. absurd (some c.requires.plain);
       };
     }
 
-pub returns-in_err-append_first-in-Some : goal.returns-in_err-append_first-in-Some
-returns-in_err-append_first-in-Some g c =
+pub returns-in_err-append_some-in-Some : goal.returns-in_err-append_some-in-Some
+returns-in_err-append_some-in-Some g c =
     let before = c.fills.invariant in
-    let a = c.in_ok-append_first.ensures.appends in
+    let a = c.in_ok-append_some.ensures.appends in
     let f = c.in_ok-fill_retried.ensures.retried in
-    let b = c.in_err-append_first-in-Some.ensures.appends in
-    let p = err_from_is_err_and c.from_residual-in_err-append_first-in-Some.result
-    c.from_residual-in_err-append_first-in-Some.ensures.1 in
-    let passes = passes_all _ _ _ _ c.fills.self before.handed before.passes c.append_first.new.self c.fills.len before.size
+    let b = c.in_err-append_some-in-Some.ensures.appends in
+    let p = err_from_is_err_and c.from_residual-in_err-append_some-in-Some.result
+    c.from_residual-in_err-append_some-in-Some.ensures.1 in
+    let passes = passes_all _ _ _ _ c.fills.self before.handed before.passes c.append_some.new.self c.fills.len before.size
     before.behind a.1 a.2 in
-    let left = emptied _ _ c.fills.self c.append_first.new.self c.fills.len before.size a.1 a.2 in
+    let left = emptied _ _ c.fills.self c.append_some.new.self c.fills.len before.size a.1 a.2 in
     let now = passes_filled _ _ _ _ _ _ passes (refilling _ _) c.fill_retried.new.self f
     (fills_more _ _ c.is_empty.result (λ some. absurd (omega (arith, some, left)))
     (rw (ap (λ x. length x.block.bytes) c.self-in-fills.view_is) at c.is_empty.ensures.value) c.if-is_empty.false) in
     let shown : c.buf.result.now ≡ c.fill_retried.new.self.block.bytes =
     c.buf.ensures ∙ ap (λ x. x.block.bytes) c.self-in-fills.view_is in
     let first = subst (FirstAt c.args.byte c.in-Some.at) shown c.in-Some.ensures.found in
-    let ends = until_refused _ _ _ _ c.fill_retried.new.self _ now (c.in-Some.at + 1) _ c.append_first-in-Some.new.self
+    let ends = until_refused _ _ _ _ c.fill_retried.new.self _ now (c.in-Some.at + 1) _ c.append_some-in-Some.new.self
     (omega (arith, first.inside)) b.2 b.1 b.3 in
     rw (p.1, p.2) (record {
       until = record {
@@ -111,12 +111,12 @@ returns-in_err-append_first-in-Some g c =
 pub returns-in-Some : goal.returns-in-Some
 returns-in-Some g c =
     let before = c.fills.invariant in
-    let a = c.in_ok-append_first.ensures.appends in
+    let a = c.in_ok-append_some.ensures.appends in
     let f = c.in_ok-fill_retried.ensures.retried in
-    let b = c.in_ok-append_first-in-Some.ensures.appends in
-    let passes = passes_all _ _ _ _ c.fills.self before.handed before.passes c.append_first.new.self c.fills.len before.size
+    let b = c.in_ok-append_some-in-Some.ensures.appends in
+    let passes = passes_all _ _ _ _ c.fills.self before.handed before.passes c.append_some.new.self c.fills.len before.size
     before.behind a.1 a.2 in
-    let left = emptied _ _ c.fills.self c.append_first.new.self c.fills.len before.size a.1 a.2 in
+    let left = emptied _ _ c.fills.self c.append_some.new.self c.fills.len before.size a.1 a.2 in
     let now = passes_filled _ _ _ _ _ _ passes (refilling _ _) c.fill_retried.new.self f
     (fills_more _ _ c.is_empty.result (λ some. absurd (omega (arith, some, left)))
     (rw (ap (λ x. length x.block.bytes) c.self-in-fills.view_is) at c.is_empty.ensures.value) c.if-is_empty.false) in
@@ -134,7 +134,7 @@ returns-in-Some g c =
         front = front_reached _ _ _ _ _ _ now c.in-Some.at _ b.1;
         ends = until_reached _ _ _ _ _ _ now no_memory _ c.in-Some.at _ (appended_length _ _ _ c.len-start.result
             c.len-in-Some.result all (c.len-start.ensures ∙ c.args.out.now.ok.0)
-            (c.len-in-Some.ensures ∙ c.append_first-in-Some.new.out.ok.0)) first b.2;
+            (c.len-in-Some.ensures ∙ c.append_some-in-Some.new.out.ok.0)) first b.2;
         buffered = λ some. absurd (some c.requires.plain);
       };
     }
@@ -142,10 +142,10 @@ returns-in-Some g c =
 pub fills-preserved : goal.fills-preserved
 fills-preserved g c =
     let before = c.fills.invariant in
-    let a = c.in_ok-append_first.ensures.appends in
-    let passes = passes_all _ _ _ _ c.fills.self before.handed before.passes c.append_first.new.self c.fills.len before.size
+    let a = c.in_ok-append_some.ensures.appends in
+    let passes = passes_all _ _ _ _ c.fills.self before.handed before.passes c.append_some.new.self c.fills.len before.size
     before.behind a.1 a.2 in
-    let left = emptied _ _ c.fills.self c.append_first.new.self c.fills.len before.size a.1 a.2 in
+    let left = emptied _ _ c.fills.self c.append_some.new.self c.fills.len before.size a.1 a.2 in
     let shown : c.buf.result.now ≡ c.fill_retried.new.self.block.bytes =
     c.buf.ensures ∙ ap (λ x. x.block.bytes) c.self-in-fills.view_is in record {
       handed = before.handed ++ c.fills.self.block.bytes;
@@ -162,9 +162,9 @@ pub fills-smaller : goal.fills-smaller
 fills-smaller g c =
     let bytes = c.fills.self.block.bytes in
     let size = c.fills.invariant.size in
-    comes_to_more c.fills.out.items c.append_first.new.out.items bytes _ _ _ c.fills.len 0 _ c.is_empty.result
-    (c.in_ok-append_first.ensures.appends.0 ∙ ap (λ l. c.fills.out.items ++ l) (take_whole c.fills.len bytes size))
-    c.fills.out.ok.0 c.append_first.new.out.ok c.append_first.new.out.small (size ∙ sym (add-zero _))
+    comes_to_more c.fills.out.items c.append_some.new.out.items bytes _ _ _ c.fills.len 0 _ c.is_empty.result
+    (c.in_ok-append_some.ensures.appends.0 ∙ ap (λ l. c.fills.out.items ++ l) (take_whole c.fills.len bytes size))
+    c.fills.out.ok.0 c.append_some.new.out.ok c.append_some.new.out.small (size ∙ sym (add-zero _))
     (omega arith) (λ none. absurd (not-suc-le-zero none)) (rw c.len-len-in-None.ensures.value c.is_empty.ensures.value)
     c.if-is_empty.false
 
@@ -172,8 +172,8 @@ pub overflow_sub-result : goal.overflow_sub-result
 overflow_sub-result g c =
     let before = c.fills.invariant in
     starts_before _ _ _ _ _ (appends _ _ before.handed (take c.fills.len c.fills.self.block.bytes) _ before.appended
-    c.in_ok-append_first.ensures.appends.0) (c.len-start.ensures ∙ c.args.out.now.ok.0)
-    (c.len.ensures ∙ c.append_first.new.out.ok.0)
+    c.in_ok-append_some.ensures.appends.0) (c.len-start.ensures ∙ c.args.out.now.ok.0)
+    (c.len.ensures ∙ c.append_some.new.out.ok.0)
 
 pub overflow_sub-result-in-Some : goal.overflow_sub-result-in-Some
 overflow_sub-result-in-Some g c =
@@ -181,6 +181,6 @@ overflow_sub-result-in-Some g c =
     let handed = take c.fills.len c.fills.self.block.bytes in
     starts_before _ _ _ _ _ (appends _ _ (before.handed ++ handed)
     (take (c.in-Some.at + 1) c.fill_retried.new.self.block.bytes) _
-    (appends _ _ before.handed handed _ before.appended c.in_ok-append_first.ensures.appends.0)
-    c.in_ok-append_first-in-Some.ensures.appends.0) (c.len-start.ensures ∙ c.args.out.now.ok.0)
-    (c.len-in-Some.ensures ∙ c.append_first-in-Some.new.out.ok.0)
+    (appends _ _ before.handed handed _ before.appended c.in_ok-append_some.ensures.appends.0)
+    c.in_ok-append_some-in-Some.ensures.appends.0) (c.len-start.ensures ∙ c.args.out.now.ok.0)
+    (c.len-in-Some.ensures ∙ c.append_some-in-Some.new.out.ok.0)

@@ -33,12 +33,12 @@ returns-in_err-total g c =
 pub returns-in_err-fill_retried : goal.returns-in_err-fill_retried
 returns-in_err-fill_retried g c =
     let before = c.fills.invariant in
-    let gone = c.consume.ensures in
+    let gone = c.drop_first.ensures in
     let f = c.in_err-fill_retried.ensures.retried in
     let p = err_from_is_err_and c.from_residual-in_err-fill_retried.result
     c.from_residual-in_err-fill_retried.ensures.1 in
-    let passes = passes_all _ _ _ _ c.fills.self before.handed before.passes c.consume.new.self c.fills.len before.size
-    before.behind (record { in_order = gone.in_order; keeps = gone.keeps }) gone.consumed in
+    let passes = passes_all _ _ _ _ c.fills.self before.handed before.passes c.drop_first.new.self c.fills.len before.size
+    before.behind gone.front gone.dropped in
     rw (p.1, p.2) (record {
       until = record {
         handed = before.handed ++ c.fills.self.block.bytes;
@@ -51,10 +51,10 @@ returns-in_err-fill_retried g c =
 pub returns-then-is_empty : goal.returns-then-is_empty
 returns-then-is_empty g c =
     let before = c.fills.invariant in
-    let gone = c.consume.ensures in
+    let gone = c.drop_first.ensures in
     let f = c.in_ok-fill_retried.ensures.retried in
-    let passes = passes_all _ _ _ _ c.fills.self before.handed before.passes c.consume.new.self c.fills.len before.size
-    before.behind (record { in_order = gone.in_order; keeps = gone.keeps }) gone.consumed in
+    let passes = passes_all _ _ _ _ c.fills.self before.handed before.passes c.drop_first.new.self c.fills.len before.size
+    before.behind gone.front gone.dropped in
     let none = sym (ap (λ x. length x.block.bytes) c.self-in-fills.view_is)
     ∙ c.is_empty.ensures.value.0 c.if-is_empty.true in record {
       until = record {
@@ -74,13 +74,13 @@ returns-then-is_empty g c =
 pub returns-in_err-total-in-Some : goal.returns-in_err-total-in-Some
 returns-in_err-total-in-Some g c =
     let before = c.fills.invariant in
-    let gone = c.consume.ensures in
+    let gone = c.drop_first.ensures in
     let more = c.in_err-total-in-Some.ensures in
     let p = err_from_is_err_and c.from_residual-in_err-total-in-Some.result
     c.from_residual-in_err-total-in-Some.ensures.1 in
-    let passes = passes_all _ _ _ _ c.fills.self before.handed before.passes c.consume.new.self c.fills.len before.size
-    before.behind (record { in_order = gone.in_order; keeps = gone.keeps }) gone.consumed in
-    let left = emptied _ _ c.fills.self c.consume.new.self c.fills.len before.size (record { in_order = gone.in_order; keeps = gone.keeps }) gone.consumed in
+    let passes = passes_all _ _ _ _ c.fills.self before.handed before.passes c.drop_first.new.self c.fills.len before.size
+    before.behind gone.front gone.dropped in
+    let left = emptied _ _ c.fills.self c.drop_first.new.self c.fills.len before.size gone.front gone.dropped in
     let now = passes_filled _ _ _ _ _ _ passes (refilling _ _) c.fill_retried.new.self c.in_ok-fill_retried.ensures.retried
     (fills_more _ _ c.is_empty.result (λ some. absurd (omega (arith, some, left)))
     (rw (ap (λ x. length x.block.bytes) c.self-in-fills.view_is) at c.is_empty.ensures.value) c.if-is_empty.false) in
@@ -110,12 +110,12 @@ returns-in_err-total-in-Some g c =
 pub returns-in-Some : goal.returns-in-Some
 returns-in-Some g c =
     let before = c.fills.invariant in
-    let gone = c.consume.ensures in
-    let went = c.consume-in-Some.ensures in
+    let gone = c.drop_first.ensures in
+    let went = c.drop_first-in-Some.ensures in
     let f = c.in_ok-fill_retried.ensures.retried in
-    let passes = passes_all _ _ _ _ c.fills.self before.handed before.passes c.consume.new.self c.fills.len before.size
-    before.behind (record { in_order = gone.in_order; keeps = gone.keeps }) gone.consumed in
-    let left = emptied _ _ c.fills.self c.consume.new.self c.fills.len before.size (record { in_order = gone.in_order; keeps = gone.keeps }) gone.consumed in
+    let passes = passes_all _ _ _ _ c.fills.self before.handed before.passes c.drop_first.new.self c.fills.len before.size
+    before.behind gone.front gone.dropped in
+    let left = emptied _ _ c.fills.self c.drop_first.new.self c.fills.len before.size gone.front gone.dropped in
     let now = passes_filled _ _ _ _ _ _ passes (refilling _ _) c.fill_retried.new.self f
     (fills_more _ _ c.is_empty.result (λ some. absurd (omega (arith, some, left)))
     (rw (ap (λ x. length x.block.bytes) c.self-in-fills.view_is) at c.is_empty.ensures.value) c.if-is_empty.false) in
@@ -125,7 +125,7 @@ returns-in-Some g c =
     let handed = before.handed ++ c.fills.self.block.bytes in record {
       until = record {
         handed = handed ++ take (c.in-Some.at + 1) c.fill_retried.new.self.block.bytes;
-        front = front_reached _ _ _ _ _ _ now c.in-Some.at _ (record { in_order = went.in_order; keeps = went.keeps });
+        front = front_reached _ _ _ _ _ _ now c.in-Some.at _ went.front;
         ends = until_reached _ _ _ _ _ _ now no_count _ c.in-Some.at _ (omega (
           arith,
           c.in_ok-total.ensures,
@@ -134,7 +134,7 @@ returns-in-Some g c =
           before.size,
           length-append before.handed c.fills.self.block.bytes,
           through_length c.args.byte c.in-Some.at handed c.fill_retried.new.self.block.bytes first,
-        )) first went.consumed;
+        )) first went.dropped;
         buffered = λ some. absurd (some c.requires.plain);
       };
     }
@@ -142,10 +142,10 @@ returns-in-Some g c =
 pub fills-preserved : goal.fills-preserved
 fills-preserved g c =
     let before = c.fills.invariant in
-    let gone = c.consume.ensures in
-    let passes = passes_all _ _ _ _ c.fills.self before.handed before.passes c.consume.new.self c.fills.len before.size
-    before.behind (record { in_order = gone.in_order; keeps = gone.keeps }) gone.consumed in
-    let left = emptied _ _ c.fills.self c.consume.new.self c.fills.len before.size (record { in_order = gone.in_order; keeps = gone.keeps }) gone.consumed in
+    let gone = c.drop_first.ensures in
+    let passes = passes_all _ _ _ _ c.fills.self before.handed before.passes c.drop_first.new.self c.fills.len before.size
+    before.behind gone.front gone.dropped in
+    let left = emptied _ _ c.fills.self c.drop_first.new.self c.fills.len before.size gone.front gone.dropped in
     let shown : c.buf.result.now ≡ c.fill_retried.new.self.block.bytes =
     c.buf.ensures ∙ ap (λ x. x.block.bytes) c.self-in-fills.view_is in record {
       handed = before.handed ++ c.fills.self.block.bytes;
