@@ -25,3 +25,4 @@ pub mod Utf8Parts
 pub mod Utf8Fronts
 pub mod LineSteps
 pub mod ReadSteps
+pub mod LineSends

@@ -15,7 +15,10 @@ ghost use Rattle.buffer_redux.specs.Unwrapping.{InnerOfFlushed, SendsOrHandles};
 ghost use Rattle.buffer_redux.specs.WriteAll.{TookBeginning, WriteAllErrorCaused, WritesAll, WritesAllSteadily};
 ghost use Rattle.buffer_redux.specs.WriteFmt.{WritesText};
 
+mod sender;
 mod tells;
+
+pub use sender::LineSender;
 
 use crate::buf_writer::BufWriter;
 use crate::errors::{IntoInnerError, MakeError};
@@ -29,7 +32,9 @@ use std::io::{ErrorKind, Write};
 use std::marker::Model;
 
 /// A [`BufWriter`] under [`FlushOnNewline`]: after each write it flushes through the last newline, the byte 10, that is
-/// buffered. A fault of that flush isn't returned, and what wasn't sent stays buffered.
+/// buffered. A fault of that flush isn't returned, and what wasn't sent stays buffered: so `writeln!` to a full device
+/// answers `Ok`. [`LineSender`] returns it, as std's `LineWriter` does; so do [`send`](LineWriter::send), `flush` and
+/// [`finish`](LineWriter::finish).
 ///
 /// ```
 /// let mut writer = LineWriter::new(alloc, Told::new(Vec::new(alloc)))?;

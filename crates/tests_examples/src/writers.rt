@@ -1,7 +1,7 @@
 //! Writers, and what runs them.
 use buffer_redux::script::{Answer, ScriptWriter};
 use buffer_redux::tell::Told;
-use buffer_redux::{BufWriter, LineWriter};
+use buffer_redux::{BufWriter, LineSender, LineWriter};
 use redux_play::play::{WriterAnswer, WriterCall, WriterRun, play_writer};
 use std::io::{ErrorKind, Write};
 use std::test::Fail;
@@ -24,6 +24,17 @@ fn line_writer(rt: HostRuntime) -> Result<(), Fail> {
     writer.write_all(b"one\ntwo")?;
     assert!(rt; writer.get_ref().get_ref().as_slice() == b"one\n".as_slice());
     assert!(rt; writer.buf_len() == 3);
+    Ok(())
+}
+
+#[test]
+fn line_sender(rt: HostRuntime) -> Result<(), Fail> {
+    let alloc = rt.alloc();
+    let faults = [Answer::Fail(ErrorKind::StorageFull), Answer::Fail(ErrorKind::StorageFull)];
+    let full = Told::new(ScriptWriter::new(alloc, &faults)?);
+    let mut writer = LineSender::new(LineWriter::new(alloc, full)?);
+    assert!(rt; writeln!(writer, "one").is_err());
+    assert!(rt; writer.get_ref().buf_len() == 4);
     Ok(())
 }
 
