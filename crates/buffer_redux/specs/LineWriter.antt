@@ -1,5 +1,5 @@
 -- The rules under which a line writer flushes, and lines whose send is told of.
-use Rattle.std.specs.Prelude.{◌≡◌, ℕ, Result, Ok, Err, MatchResult}
+use Rattle.std.specs.Prelude.{◌≡◌, Result, Ok, Err, MatchResult}
 use Rattle.std.specs.declared.io.Error.{Error}
 use Rattle.redux_buffer.specs.StreamLog.{StreamLog}
 use Rattle.buffer_redux.specs.Buffered.{Buffered}

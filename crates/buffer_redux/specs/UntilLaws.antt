@@ -134,8 +134,12 @@ module _ {S P : Type 0} (remaining : S → Option (List ℕ)) (rules : ReadRules
       → ReadsUntil remaining rules byte s before (Ok 0) after t → WantsBytes (rules.claims s.policy)
       → 0 < s.block.capacity → (after ≡ before) × ReadsToEnd remaining rules s [] t
   ReadsUntil-end before after t reads wants some = elim reads.ends.1 [
-    | inl reached ↦ absurd (omega (arith, reads.ends.0, ap length reached.ends.equal,
-        length-append reached.ends.front (byte ∷ [])))
+    | inl reached ↦ absurd (omega (
+      arith,
+      reads.ends.0,
+      ap length reached.ends.equal,
+      length-append reached.ends.front (byte ∷ []),
+    ))
     | inr ended ↦ (
       reads.appended ∙ ap (λ l. before ++ l) nothing ∙ append-nil before,
       subst (λ l. ReadsToEnd remaining rules s l t) nothing (ended.end wants some),

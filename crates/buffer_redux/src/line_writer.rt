@@ -18,13 +18,12 @@ ghost use Rattle.buffer_redux.specs.WriteFmt.{WritesText};
 mod sender;
 mod tells;
 
-pub use sender::LineSender;
-
 use crate::buf_writer::BufWriter;
 use crate::errors::{IntoInnerError, MakeError};
 use crate::policy::FlushOnNewline;
 use redux_buffer::tell::TellWrite;
 use redux_buffer::{Buffer, DEFAULT_BUF_SIZE, GrowError};
+pub use sender::LineSender;
 use std::alloc::Global;
 use std::fmt::Display;
 use std::io;
