@@ -10,7 +10,7 @@ import re
 import sys
 
 top = pathlib.Path(__file__).resolve().parent.parent
-PAGES = ("README.md", "CALLING.md", "docs/PROOFS.md", "docs/POLICIES.md", "docs/PROTOCOLS.md")
+PAGES = ("README.md", "CALLING.md", "docs/STD.md", "docs/PROOFS.md", "docs/POLICIES.md", "docs/PROTOCOLS.md")
 IMPORTS = re.compile(r"(?:pub )?(?:ghost )?use (.*?);?")
 
 

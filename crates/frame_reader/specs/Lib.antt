@@ -1,3 +1,4 @@
+pub use Rattle.codec.specs.Piecing
 pub mod Frames
 pub mod FramesLaws
 pub mod Framed

@@ -1,6 +1,7 @@
 -- Runs of calls: what was recorded of them, and what they come to.
 use Rattle.std.specs.Prelude.{ℕ, List, Option}
-use Rattle.codec.specs.Runs.{AnswerPlays, AnswerRuns, all_handed}
+use Rattle.codec.specs.Runs.{AnswerPlays, AnswerRuns}
+pub use Rattle.codec.specs.Runs.{NoneTold, all_handed, handed_payload}
 use Rattle.codec.specs.WriteRuns.{CallPlays}
 use Rattle.frame_reader.specs.Framing.{Framing}
 use Rattle.frame_reader.specs.Next.{FramesWent, Next, NextAnswer}

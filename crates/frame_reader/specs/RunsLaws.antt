@@ -1,6 +1,7 @@
 -- Laws of runs: what their calls do joins.
 use Rattle.std.specs.Prelude.{ℕ, List, [], ◌∷◌, ◌++◌, Option, Err}
 use Rattle.std.proofs.Common.{sym, subst, arith, refl}
+pub use Rattle.codec.specs.RunsLaws.{all_handed-more}
 use Rattle.codec.specs.RunsLaws.{AnswerPlays-more, AnswerPlays-none}
 use Rattle.codec.specs.WriteRunsLaws.{CallPlays-more}
 use Rattle.frame_reader.specs.declared.error.WriteFrameError.{WriteFrameError}

@@ -1,3 +1,4 @@
+pub use Rattle.codec.specs.Piecing
 pub mod Calls
 pub mod CallsLaws
 pub mod CallsWentLaws

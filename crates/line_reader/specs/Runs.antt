@@ -3,6 +3,7 @@ use Rattle.std.specs.Prelude.{◌≡◌, ℕ, List, map, false, Option}
 use Rattle.codec.specs.KnownPayloads as known
 use Rattle.codec.specs.Runs as pieces
 use Rattle.codec.specs.Runs.{AnswerPlays, AnswerRuns}
+pub use Rattle.codec.specs.Runs.{NoneTold, all_handed, handed_payload}
 use Rattle.line_reader.specs.Lining.{Lining, lined, piecing}
 use Rattle.line_reader.specs.NextLine.{NextAnswer, piece_answer}
 use Rattle.line_reader.specs.SkipLine.{NextGoes}

@@ -5,6 +5,7 @@ use Rattle.std.proofs.lemmas.List.{map-append}
 use Rattle.codec.specs.Runs as pieces
 use Rattle.codec.specs.Runs.{NoneTold, all_handed}
 use Rattle.codec.specs.RunsLaws as pieces_laws
+pub use Rattle.codec.specs.RunsLaws.{all_handed-more}
 use Rattle.codec.specs.RunsLaws.{AnswerPlays-more, AnswerPlays-none, AnswerRuns-more}
 use Rattle.codec.specs.Texts.{HasPieces}
 use Rattle.line_reader.specs.declared.error.LineError.TheVariants.{TooLong, Io}

@@ -1,6 +1,7 @@
 //! The callers of `uses`, a module each.
 mod commands;
 mod csv_rows;
+mod filter;
 mod full_log;
 mod int_lines;
 mod line_count;
@@ -10,3 +11,4 @@ mod progress;
 mod records;
 mod sniff;
 mod survive;
+mod tally;

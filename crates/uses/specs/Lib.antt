@@ -5,3 +5,4 @@ pub mod Records
 pub mod Sniff
 pub mod Stops
 pub mod Survive
+pub mod Tally

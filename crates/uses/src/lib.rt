@@ -4,6 +4,7 @@
 #![tactic(auto)]
 
 pub mod csv_rows;
+pub mod filter;
 pub mod full_log;
 pub mod int_lines;
 pub mod line_count;
@@ -13,3 +14,4 @@ pub mod progress;
 pub mod records;
 pub mod sniff;
 pub mod survive;
+pub mod tally;

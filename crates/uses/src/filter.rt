@@ -1,0 +1,34 @@
+//! Copies lines to a writer that tells where one can't be sent.
+use buffer_redux::tell::{TellRead, TellWrite, Told};
+use buffer_redux::{BufReader, LineSender, LineWriter};
+use std::alloc::Global;
+use std::io;
+use std::io::{Read, Write};
+
+/// Copies the lines that have `word` in them, and ends at the first that can't be sent.
+pub fn matching<R: TellRead + Drop, W: TellWrite>(
+    alloc: Global,
+    reader: BufReader<R>,
+    writer: &mut LineSender<W>,
+    word: &str,
+) -> io::Result<()> {
+    for line in reader.lines(alloc) {
+        let line = line?;
+        if line.contains(word) {
+            writeln!(writer, "{line}")?;
+        }
+    }
+    writer.flush()
+}
+
+/// The same from a stream of std to another.
+pub fn filter<R: Read + Drop, W: Write + Drop>(
+    alloc: Global,
+    from: R,
+    to: W,
+    word: &str,
+) -> io::Result<()> {
+    let reader = BufReader::new(alloc, Told::new(from))?;
+    let lines = LineWriter::new(alloc, Told::new(to))?;
+    matching(alloc, reader, &mut LineSender::new(lines), word)
+}
