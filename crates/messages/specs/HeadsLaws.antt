@@ -50,6 +50,7 @@ heads_lawful = record {
       let parts = texts_lawful.one p q xs ys is.none is'.none is.text is'.text same in
       (parts.0, is.same ∙ parts.0 ∙ sym is'.same);
   some = λ p a is. texts_lawful.some p is.none is.text;
+  room = texts_lawful.room;
   apart = λ p a more e is wrong. elim wrong [
     | inl bad ↦ texts_lawful.apart p is.none more bad.why is.text bad.wrong
     | inr refused ↦
