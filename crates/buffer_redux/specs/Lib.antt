@@ -43,6 +43,7 @@ pub mod LineLaws
 pub mod Pieces
 pub mod PiecesLaws
 pub mod Unbuffer
+pub mod UnbufferLaws
 pub mod BufWriter
 pub mod WriteAll
 pub mod WriteFmt

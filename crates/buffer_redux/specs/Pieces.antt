@@ -16,9 +16,13 @@ pub record Splitting (S P : Type 0) : Type 0 where
   pub begun : List ℕ
   pub left : ℕ
 
--- a reader of which nothing was asked yet
+-- a reader of which nothing was asked yet, and of whose next piece these bytes came before
+abbrev pub goes_on : {S P : Type 0} → ℕ → Buffered S P → List ℕ → Splitting S P
+goes_on byte reader begun = record { reader = reader; byte = byte; begun = begun; left = 2 ^ 64 - 1 }
+
+-- or none did
 abbrev pub begins : {S P : Type 0} → ℕ → Buffered S P → Splitting S P
-begins byte reader = record { reader = reader; byte = byte; begun = []; left = 2 ^ 64 - 1 }
+begins byte reader = goes_on byte reader []
 
 -- the next piece was gone on with up to its byte or the end of all, or to this error
 pub record GoesOnWith {S P : Type 0} (remaining : S → Option (List ℕ)) (rules : ReadRules P) (s : Splitting S P)

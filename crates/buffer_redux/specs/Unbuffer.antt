@@ -4,6 +4,8 @@ use Rattle.std.specs.Io.{ReadsAtMost}
 use Rattle.std.specs.Io.KnownBytes.{prepend_known}
 use Rattle.std.specs.declared.io.Error.{Error}
 use Rattle.redux_buffer.specs.Block.{Block}
+use Rattle.redux_buffer.specs.GivesRemaining.{GivesRemaining}
+use Rattle.redux_buffer.specs.LogGrows.{ReadLogGrows}
 use Rattle.redux_buffer.specs.StreamLog.{StreamLog, after_read}
 use Rattle.buffer_redux.specs.Buffered.{Buffered}
 
@@ -13,7 +15,7 @@ pub record Unbuffered (R : Type 0) : Type 0 where
   pub inner : R
   pub log : StreamLog
 
--- what a buffered reader becomes
+-- what a buffered reader becomes, or a writer of which what is left wasn't sent
 abbrev pub unbuffered : {S P : Type 0} → Buffered S P → Unbuffered S
 unbuffered r = record { left = r.block.bytes; inner = r.inner; log = r.log }
 
@@ -52,3 +54,18 @@ pub record AsksReader {R : Type 0} (s : Unbuffered R) (answer : Result ℕ Error
   pub bound : ReadsAtMost answer out'
   pub left : t.left ≡ []
   pub told : t.log ≡ after_read s.log out' answer
+
+-- what readers of one stream do, one after another, each made of what the one before it left, of whichever layer they are: these
+-- bytes, then what is left, are what was left, then what was given since; and of what the stream is known to have left just
+-- what it gave is gone
+pub record StreamWent {R : Type 0} (remaining : R → Option (List ℕ)) (s : Unbuffered R) (bytes : List ℕ) (t : Unbuffered R)
+    : Type 0 where
+  pub order : HandsOutInOrder s bytes t
+  pub known : GivesRemaining (remaining s.inner) s.log.reads (remaining t.inner) t.log.reads
+  pub grows : ReadLogGrows s.log.reads t.log.reads
+
+-- what writers of one stream do so: what was received since, then what is not sent yet, are what was not, then these bytes
+pub record StreamTook {W : Type 0} (s : Unbuffered W) (bytes : List ℕ) (t : Unbuffered W) : Type 0 where
+  pub sent : List ℕ
+  pub received : t.log.writes.received ≡ s.log.writes.received ++ sent
+  pub equal : sent ++ t.left ≡ s.left ++ bytes

@@ -148,7 +148,8 @@ impl<W: TellWrite, P> BufWriter<W, P> {
         &self.inner
     }
 
-    /// The inner writer, for changes. What is written through this goes out before the buffered bytes.
+    /// The inner writer, for changes. What is written through this goes out before the buffered bytes. Where a send failed, those
+    /// may be the rest of what is half sent, so nothing is to be written here then before they went out.
     pub fn get_mut(&mut self) -> &mut W
         ensures* writes_back { sem 𝓛 (Lends (the_row W.row P.row W.TellWrite.own W.Tell.own) W.row
             self.entry result (with_inner W.log self.old)) }

@@ -111,7 +111,8 @@ impl<W: TellWrite> LineWriter<W> {
         self.writer.get_ref()
     }
 
-    /// The inner writer, for changes. What is written through this goes out before the buffered bytes.
+    /// The inner writer, for changes. What is written through this goes out before the buffered bytes. Where a send failed, those
+    /// may be the rest of what is half sent, so nothing is to be written here then before they went out.
     pub fn get_mut(&mut self) -> &mut W
         ensures* writes_back { sem 𝓛 (Lends (the_row W.row W.TellWrite.own W.Tell.own) W.row
             self.entry result (with_inner W.log self.old)) }

@@ -27,7 +27,8 @@ impl<R: TellRead, P: ReaderPolicy> BufReader<R, P> {
     /// stream ends within. Of a line that isn't buffered yet the text before them may have been appended.
     ///
     /// A fill that was interrupted is made again, 64 times in a row; any other fault is returned. Whatever is returned, what
-    /// was appended is what was handed out: where memory is refused, the bytes that it was for stay buffered.
+    /// was appended is what was handed out: where memory is refused, the bytes that it was for stay buffered. So does a part of a
+    /// character that a fault came into: the call that is made again goes on with it.
     ///
     /// Behind a part of a character it reads past the policy. Where that takes more than half of a plain buffer, which has
     /// fewer than 6 bytes then, the buffer grows; `InvalidInput` says that its limit forbids that, and the part stays buffered.

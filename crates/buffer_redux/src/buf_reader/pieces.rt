@@ -4,7 +4,7 @@ ghost use Rattle.std.specs.Iterator.{at_most};
 ghost use Rattle.std.specs.Io.BufRead.{ends_with_byte, strip_last};
 ghost use Rattle.std.specs.IoError.{error_kind};
 ghost use Rattle.std.specs.declared.io.ErrorKind.TheVariants.{InvalidData};
-ghost use Rattle.buffer_redux.specs.Pieces.{begins, without_end, Gives, GivesLine, GivesPiece};
+ghost use Rattle.buffer_redux.specs.Pieces.{begins, goes_on, without_end, Gives, GivesLine, GivesPiece};
 
 use crate::buf_reader::BufReader;
 use crate::policy::{ReaderPolicy, StdPolicy};
@@ -57,13 +57,7 @@ impl<R: TellRead, P: ReaderPolicy> BufReader<R, P> {
     pub fn split(self, alloc: Global, byte: u8) -> Split<R, P>
         ensures { result ≡ begins byte self }
     {
-        Split {
-            reader: self,
-            alloc,
-            byte,
-            begun: Vec::new(alloc),
-            left: u64::MAX,
-        }
+        Split::from_parts(alloc, self, byte, Vec::new(alloc))
     }
 
     /// The lines of what is left, each in a string without its end.
@@ -76,8 +70,25 @@ impl<R: TellRead, P: ReaderPolicy> BufReader<R, P> {
     }
 }
 
+impl<R: TellRead, P> Split<R, P> {
+    /// The pieces of what is left, of which the first begins with `begun`: the inverse of [`into_parts`](Split::into_parts).
+    pub fn from_parts(alloc: Global, reader: BufReader<R, P>, byte: u8, begun: Vec<u8>) -> Self
+        ensures { result ≡ goes_on byte reader (vec_items begun) }
+    {
+        Split {
+            reader,
+            alloc,
+            byte,
+            begun,
+            left: u64::MAX,
+        }
+    }
+}
+
 impl<R: TellRead, P: ReaderPolicy> Split<R, P> {
-    /// The reader, and what came of the next piece before a fault.
+    /// The reader, and what came of the next piece before a fault. Those bytes were handed out by the reader, and are nowhere
+    /// else: [`from_parts`](Split::from_parts) goes on with the piece, and so does
+    /// [`read_until`](BufReader::read_until), which appends the rest to them.
     pub fn into_parts(self) -> (BufReader<R, P>, Vec<u8>)
         ensures reader { result.0 ≡ self.reader }
         ensures begun { vec_items result.1 ≡ self.begun }
@@ -135,8 +146,21 @@ impl<R: TellRead + Drop, P: ReaderPolicy + Drop> Iterator for Split<R, P> {
     }
 }
 
+impl<R: TellRead, P> Lines<R, P> {
+    /// The lines of what is left, of which the first begins with `begun`: the inverse of [`into_parts`](Lines::into_parts).
+    pub fn from_parts(alloc: Global, reader: BufReader<R, P>, begun: Vec<u8>) -> Self
+        ensures { result ≡ goes_on 10 reader (vec_items begun) }
+    {
+        Lines {
+            lines: Split::from_parts(alloc, reader, b'\n', begun),
+        }
+    }
+}
+
 impl<R: TellRead, P: ReaderPolicy> Lines<R, P> {
-    /// The reader, and what came of the next line before a fault.
+    /// The reader, and what came of the next line before a fault. Those bytes were handed out by the reader, and are nowhere
+    /// else: [`from_parts`](Lines::from_parts) goes on with the line. They may end within a character, so what the reader has
+    /// next may be no text of its own, and [`read_line`](BufReader::read_line) would answer `InvalidData` each time.
     pub fn into_parts(self) -> (BufReader<R, P>, Vec<u8>)
         ensures reader { result.0 ≡ self.reader }
         ensures begun { vec_items result.1 ≡ self.begun }

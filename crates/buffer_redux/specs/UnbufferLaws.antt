@@ -1,0 +1,73 @@
+-- What readers, or writers, of one stream do, one after another.
+use Rattle.std.specs.Prelude.{◌≡◌, ℕ, List, [], ◌++◌, Option, None, Some}
+use Rattle.std.proofs.Common.{sym, ap, ◌∙◌, refl, append_assoc, append-nil}
+use Rattle.std.specs.Io.KnownBytes.{Consumes}
+use Rattle.redux_buffer.specs.GivesRemaining.{GivesRemaining-none, GivesRemaining-joins, GivesRemaining-ahead}
+use Rattle.redux_buffer.specs.LogGrows.{ReadLogGrows-none, ReadLogGrows-joins}
+use Rattle.buffer_redux.specs.Buffered.{Buffered}
+use Rattle.buffer_redux.specs.BufReader.{ReadsAlong}
+use Rattle.buffer_redux.specs.BufWriter.{WritesInOrder}
+use Rattle.buffer_redux.specs.Policy.{ReadRules}
+use Rattle.buffer_redux.specs.Unbuffer.{StreamTook, StreamWent, Unbuffered, unbuffer_remaining, unbuffered}
+
+-- known bytes are those that went, and then what is left
+pub left_then : (left left' : Option (List ℕ)) (bytes lost : List ℕ) → left ≡ Some bytes → Consumes left left' lost
+    → (more : List ℕ) × (left' ≡ Some more) × (bytes ≡ lost ++ more)
+left_then None left' bytes lost is went = cc
+left_then (Some x) None bytes lost is went = absurd went
+left_then (Some x) (Some y) bytes lost is went = (y, refl, (let same : x ≡ bytes = cc in sym same ∙ went))
+
+module _ {R : Type 0} (remaining : R → Option (List ℕ)) where
+  pub StreamWent-none : (s : Unbuffered R) → StreamWent remaining s [] s
+  StreamWent-none s = record {
+    order = record { got = []; given = sym (append-nil s.log.reads.given); equal = sym (append-nil s.left) };
+    known = GivesRemaining-none (remaining s.inner) s.log.reads;
+    grows = ReadLogGrows-none s.log.reads;
+  }
+
+  pub StreamWent-joins : (s m t : Unbuffered R) (h k : List ℕ) → StreamWent remaining s h m → StreamWent remaining m k t
+      → StreamWent remaining s (h ++ k) t
+  StreamWent-joins s m t h k a b = record {
+    order = record {
+      got = a.order.got ++ b.order.got;
+      given = b.order.given ∙ ap (λ l. l ++ b.order.got) a.order.given
+          ∙ append_assoc s.log.reads.given a.order.got b.order.got;
+      equal = append_assoc h k t.left ∙ ap (λ l. h ++ l) b.order.equal ∙ sym (append_assoc h m.left b.order.got)
+          ∙ ap (λ l. l ++ b.order.got) a.order.equal ∙ append_assoc s.left a.order.got b.order.got;
+    };
+    known = GivesRemaining-joins (remaining s.inner) s.log.reads (remaining m.inner) m.log.reads (remaining t.inner)
+        t.log.reads a.known b.known;
+    grows = ReadLogGrows-joins s.log.reads m.log.reads t.log.reads a.grows b.grows;
+  }
+
+  -- where what is left is known, these bytes are its front, and the others are left
+  pub StreamWent-front : (s t : Unbuffered R) (bytes text : List ℕ) → StreamWent remaining s bytes t
+      → unbuffer_remaining remaining s ≡ Some text
+      → (more : List ℕ) × (unbuffer_remaining remaining t ≡ Some more) × (text ≡ bytes ++ more)
+  StreamWent-front s t bytes text went known =
+      left_then (unbuffer_remaining remaining s) (unbuffer_remaining remaining t) text bytes known
+      (GivesRemaining-ahead (remaining s.inner) (remaining t.inner) s.log.reads t.log.reads s.left t.left bytes
+      went.order.got went.known went.order.given went.order.equal)
+
+  -- any calls of a buffered reader do so
+  pub ReadsAlong-stream : {P : Type 0} (rules : ReadRules P) (s : Buffered R P) (bytes : List ℕ) (t : Buffered R P)
+      → ReadsAlong remaining rules s bytes t → StreamWent remaining (unbuffered s) bytes (unbuffered t)
+  ReadsAlong-stream rules s bytes t along = record {
+    order = record { got = along.in_order.got; given = along.in_order.given; equal = along.in_order.equal };
+    known = along.known;
+    grows = along.grows;
+  }
+
+pub StreamTook-joins : {W : Type 0} (s m t : Unbuffered W) (h k : List ℕ) → StreamTook s h m → StreamTook m k t
+    → StreamTook s (h ++ k) t
+StreamTook-joins s m t h k a b = record {
+  sent = a.sent ++ b.sent;
+  received = b.received ∙ ap (λ l. l ++ b.sent) a.received ∙ append_assoc s.log.writes.received a.sent b.sent;
+  equal = append_assoc a.sent b.sent t.left ∙ ap (λ l. a.sent ++ l) b.equal ∙ sym (append_assoc a.sent m.left k)
+      ∙ ap (λ l. l ++ k) a.equal ∙ append_assoc s.left h k;
+}
+
+-- any calls of a buffered writer do so
+pub WritesInOrder-stream : {W P : Type 0} (s : Buffered W P) (bytes : List ℕ) (t : Buffered W P) → WritesInOrder s bytes t
+    → StreamTook (unbuffered s) bytes (unbuffered t)
+WritesInOrder-stream s bytes t went = record { sent = went.sent; received = went.received; equal = went.equal }
