@@ -91,8 +91,9 @@ impl<R: Tell, P> ChunkedReader<R, P> {
         &self.reader
     }
 
-    /// The buffered reader, with what follows the bytes that were taken: where the body hasn't ended, the rest of it, also where
-    /// all of its payload was handed out. So no message begins there; [`finish`](ChunkedReader::finish) goes on to the next.
+    /// The buffered reader where it stands, which may be within the body: that is torn then. What comes next is the rest of the
+    /// body unless [`is_done`](ChunkedReader::is_done), also where all of its payload was handed out, so no message begins there,
+    /// and no other reader goes on with it. [`finish`](ChunkedReader::finish) is the way to what follows the body.
     pub fn into_inner(self) -> BufReader<R, P>
         ensures { result ≡ self.reader }
     {

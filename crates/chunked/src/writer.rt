@@ -2,6 +2,7 @@
 ghost use Rattle.std.specs.Prelude.{◌≡◌, ◌<◌, [], length, MatchResult};
 ghost use Rattle.std.specs.Io.{WritesAtMost};
 ghost use Rattle.std.specs.Io.KnownBytes.{Keeps, WriteAppends};
+ghost use Rattle.buffer_redux.specs.Buffered.{over_buffer};
 ghost use Rattle.buffer_redux.specs.BufWriter.{WasFlushed};
 ghost use Rattle.buffer_redux.specs.StreamLog.{after_flush, after_write};
 ghost use Rattle.chunked.specs.Chunk.{body_end};
@@ -14,7 +15,7 @@ use crate::chunk::{AROUND, make_space, put_chunk};
 use crate::error::{FinishError, TrailersError};
 use crate::trailers::{BARE_END, end_len, put_end};
 use buffer_redux::tell::{Call, CallLog, Tell, TellWrite};
-use buffer_redux::{BufWriter, IntoInnerError};
+use buffer_redux::{BufWriter, Buffer, IntoInnerError};
 use std::io::Write;
 use std::marker::Model;
 use std::{fmt, io};
@@ -76,6 +77,16 @@ impl<W: TellWrite> ChunkedWriter<W> {
         }
     }
 
+    /// The same over a buffer of yours, of which the bytes are sent first. So the writer of a body that was taken apart goes on:
+    /// its next chunk stands behind those of the other.
+    pub fn with_buffer(buffer: Buffer, inner: W) -> Self
+        requires room { around < buffer.capacity }
+        ensures begun { result ≡ unbegun (over_buffer W.log (record {}) buffer inner) }
+        ensures whole { IsChunking result }
+    {
+        ChunkedWriter::new(BufWriter::with_buffer(buffer, inner))
+    }
+
     /// The buffered writer.
     pub fn get_ref(&self) -> &BufWriter<W>
         ensures writer { result.now ≡ self.now.writer }
@@ -84,7 +95,17 @@ impl<W: TellWrite> ChunkedWriter<W> {
         &self.writer
     }
 
-    /// The buffered writer, with the chunks that were not sent. The body isn't ended.
+    /// The inner writer, and the buffer with the bytes of chunks that were not sent. Nothing is sent, and the body isn't ended.
+    pub fn into_inner_with_buffer(self) -> (W, Buffer)
+        ensures inner { result.0 ≡ self.writer.inner }
+        ensures log { W.log result.0 ≡ self.writer.log }
+        ensures block { result.1 ≡ self.writer.block }
+    {
+        self.into_inner().into_inner_with_buffer()
+    }
+
+    /// The buffered writer, with the chunks that were not sent. The body isn't ended: [`new`](ChunkedWriter::new) goes on with
+    /// it, and what is written into this before stands within it.
     pub fn into_inner(self) -> BufWriter<W>
         ensures { result ≡ self.writer }
     {

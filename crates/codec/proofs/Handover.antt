@@ -1,11 +1,15 @@
--- A reader of pieces that is made over what another one left.
-use Rattle.std.proofs.Common.{◌≡◌, ◌*◌, ◌≤◌, ◌∙◌, false, arith, sym}
+-- A reader, or a writer, of pieces that is made over what another one left.
+use Rattle.std.proofs.Common.{◌≡◌, ◌*◌, ◌≤◌, ◌∙◌, Result, Ok, Err, IfOk, false, arith, sym}
 use Rattle.buffer_redux.specs.Block.{Block, IsBlock}
 use Rattle.buffer_redux.specs.Buffered.{Buffered}
 use Rattle.buffer_redux.specs.declared.policy.MinBuffered.{MinBuffered}
 use Rattle.codec.specs.Grammar.{Grammar, IsLawful}
 use Rattle.codec.specs.GrammarLaws.{open_take}
 use Rattle.codec.specs.Piecing.{IsFitted, IsPiecing, Piecing, redecoded, rest}
+
+pub on_ok : {A E : Type 0} (P Q : A → Type 0) → ((a : A) → P a → Q a) → (r : Result A E) → IfOk r P → IfOk r Q
+on_ok P Q f (Ok a) p = f a p
+on_ok P Q f (Err e) p = tt
 
 module _ {S W : Type 0} (g : Grammar W) (law : IsLawful g) where
   pub over_piecing : {D : Type 0} (r : Buffered S MinBuffered) (d : D) (old : Block) → IsBlock r.block

@@ -1,9 +1,10 @@
 -- Laws of a reader of pieces over a stream that is known.
 use Rattle.std.specs.Prelude.{◌≡◌, ℕ, ◌+◌, ◌<◌, List, [], ◌∷◌, ◌++◌, length, true, false, Option, None, Some, IfSome, Ok, Err}
 use Rattle.std.proofs.Common.{sym, ap, subst, ◌∙◌, arith, inl, inr, refl, append-nil}
-use Rattle.std.specs.Io.KnownBytes.{Consumes, IsAtEnd, prepend_known}
+use Rattle.std.specs.Io.KnownBytes.{IsAtEnd, prepend_known}
 use Rattle.buffer_redux.specs.GivesRemaining.{GivesRemaining-ahead}
 use Rattle.buffer_redux.specs.StreamLog.{StreamLog}
+use Rattle.buffer_redux.specs.UnbufferLaws.{left_then}
 use Rattle.codec.specs.declared.error.NextError.TheVariants.{Wrong, Io}
 use Rattle.codec.specs.Grammar.{Grammar, IsLawful, IsOpen}
 use Rattle.codec.specs.KnownPayloads.{AnswersKnown}
@@ -14,13 +15,6 @@ use Rattle.codec.specs.PiecesWentLaws.{drop_none}
 use Rattle.codec.specs.Piecing.{Piecing, IsFresh, rest}
 use Rattle.codec.specs.TextLaws.{Pieces-first, Pieces-last, Pieces-none, Pieces-right, Pieces-whole}
 use Rattle.codec.specs.Texts.{HasPieces, IsLast}
-
--- of known bytes that lost some, just the others are left
-pub left_then : (left left' : Option (List ℕ)) (bytes lost : List ℕ) → left ≡ Some bytes → Consumes left left' lost
-    → (more : List ℕ) × (left' ≡ Some more) × (bytes ≡ lost ++ more)
-left_then None left' bytes lost is went = cc
-left_then (Some x) None bytes lost is went = absurd went
-left_then (Some x) (Some y) bytes lost is went = (y, refl, (let same : x ≡ bytes = cc in sym same ∙ went))
 
 -- known bytes are those that are buffered, and then the others
 pub front_of : (buffered : List ℕ) (left : Option (List ℕ)) (bytes : List ℕ) → prepend_known buffered left ≡ Some bytes

@@ -36,7 +36,6 @@ pub mod RunsLaws
 pub mod Scanning
 pub mod ScanningLaws
 pub mod Steps
-pub mod StreamWent
 pub mod TextHeads
 pub mod TextHeadsInLaws
 pub mod TextHeadsLaws

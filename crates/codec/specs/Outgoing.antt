@@ -1,8 +1,9 @@
 -- What contracts see of a writer of pieces.
 use Rattle.std.specs.Prelude.{◌≡◌, ℕ, ◌-◌, ◌*◌, ◌≤◌, List, [], length}
-use Rattle.buffer_redux.specs.Block.{IsBlock, Plain}
+use Rattle.buffer_redux.specs.Block.{Block, IsBlock, Plain}
 use Rattle.buffer_redux.specs.Buffered.{Buffered, with_inner}
 use Rattle.buffer_redux.specs.StreamLog.{StreamLog}
+use Rattle.buffer_redux.specs.Unbuffer.{unbuffered}
 use Rattle.buffer_redux.specs.declared.policy.StdPolicy.{StdPolicy}
 use Rattle.codec.specs.Piecing.{room_for}
 
@@ -35,6 +36,13 @@ pub record IsUnused {S E : Type 0} (tells : S → StreamLog) (least most : ℕ) 
   pub encoder : f.encoder ≡ maker
   pub capacity : f.writer.block.capacity ≡ room_for least most
   pub limit : f.writer.block.limit ≡ room_for least most
+
+-- made over this buffer and stream: just what the buffer has is not sent yet
+pub record IsOver {S E : Type 0} (tells : S → StreamLog) (most : ℕ) (buffer : Block) (stream : S) (maker : E)
+    (f : Outgoing S E) : Type 0 where
+  pub left : unbuffered f.writer ≡ record { left = buffer.bytes; inner = stream; log = tells stream }
+  pub encoder : f.encoder ≡ maker
+  pub capacity : f.writer.block.capacity ≡ room_for buffer.capacity most
 
 -- with this stream inside
 abbrev pub with_stream : {S E : Type 0} → (S → StreamLog) → Outgoing S E → S → Outgoing S E

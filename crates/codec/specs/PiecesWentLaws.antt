@@ -7,8 +7,10 @@ use Rattle.buffer_redux.specs.LogGrows.{ReadLogGrows, ReadLogGrows-none, ReadLog
 use Rattle.buffer_redux.specs.ReaderLaws.{InnerGives-none, InnerGives-joins}
 use Rattle.buffer_redux.specs.Sparing.{PotentialHeld, MovedAtMostGiven}
 use Rattle.buffer_redux.specs.StreamLog.{StreamLog}
+use Rattle.buffer_redux.specs.Unbuffer.{StreamWent}
+use Rattle.buffer_redux.specs.UnbufferLaws.{StreamWent-joins}
 use Rattle.codec.specs.NextPiece.{HandsBytes, PiecesWent}
-use Rattle.codec.specs.Piecing.{Piecing, IsFresh, rest}
+use Rattle.codec.specs.Piecing.{Piecing, IsFresh, left_of, rest}
 
 -- no call hands out nothing, and calls join
 pub HandsBytes-none : {S D : Type 0} (s : Piecing S D) → HandsBytes s [] s
@@ -103,3 +105,20 @@ pub PiecesWent-moved : {S D : Type 0} (remaining : S → Option (List ℕ)) (tel
     → PiecesWent remaining most s bytes t → MovedAtMostGiven s.reader t.reader
 PiecesWent-moved remaining tells least most stream decoder s t bytes fresh went =
     omega (arith, went.held.held, went.held.moved, fresh.potential)
+
+module _ {S : Type 0} (remaining : S → Option (List ℕ)) where
+  -- pieces go of a stream, also those of two decoders, where the second reader has left what the first one had
+  pub PiecesWent-stream : {D : Type 0} (most : ℕ) (s t : Piecing S D) (bytes : List ℕ) → PiecesWent remaining most s bytes t
+      → StreamWent remaining (left_of s) bytes (left_of t)
+  PiecesWent-stream most s t bytes went = record {
+    order = record { got = went.hands.got; given = went.hands.given; equal = went.hands.equal };
+    known = went.known;
+    grows = went.grows;
+  }
+
+  pub PiecesWent-then : {D E : Type 0} (most more : ℕ) (s m : Piecing S D) (n t : Piecing S E) (h k : List ℕ)
+      → PiecesWent remaining most s h m → left_of n ≡ left_of m → PiecesWent remaining more n k t
+      → StreamWent remaining (left_of s) (h ++ k) (left_of t)
+  PiecesWent-then most more s m n t h k first same second =
+      StreamWent-joins remaining (left_of s) (left_of m) (left_of t) h k (PiecesWent-stream most s m h first)
+      (subst (λ u. StreamWent remaining u k (left_of t)) same (PiecesWent-stream more n t k second))

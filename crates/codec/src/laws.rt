@@ -1,13 +1,13 @@
 //! Laws, each as the contract of a function over the calls.
 ghost use Rattle.std.specs.Prelude.{◌≡◌, ℕ, List, [], ◌∷◌, ◌++◌, IfOk, None, Ok};
 ghost use Rattle.buffer_redux.specs.Sparing.{MovedAtMostGiven};
+ghost use Rattle.buffer_redux.specs.Unbuffer.{StreamTook, StreamWent, unbuffered};
 ghost use Rattle.codec.specs.Encoding.{all_coded};
 ghost use Rattle.codec.specs.KnownPieces.{HasLeft, NextKnown};
 ghost use Rattle.codec.specs.NextPiece.{NextAnswer, NextPiece, PiecesWent};
 ghost use Rattle.codec.specs.Outgoing.{Outgoing, IsUnused, unsent};
 ghost use Rattle.codec.specs.Piecing.{Piecing, IsFresh, left_of, rest};
 ghost use Rattle.codec.specs.Runs.{Cuts, NextRuns, NoneTold, RunWent, all_handed};
-ghost use Rattle.codec.specs.StreamWent.{StreamWent};
 ghost use Rattle.codec.specs.Texts.{HasPieces, Splits};
 ghost use Rattle.codec.specs.WritePiece.{PiecesTaken};
 
@@ -77,7 +77,8 @@ pub fn next_known<R: TellRead, D: Decoder>(reader: &PieceReader<R, D>)
 {}
 
 /// A reader that is taken apart and made again with another decoder has left what the first had. So the pieces of both, one
-/// after another, are the front of what was left at first: the second decoder's begin just where the first one's ended.
+/// after another, are the front of what was left at first: the second decoder's begin just where the first one's ended. Whether there
+/// is an end to tell, `into_inner_with_buffer` says.
 pub fn handed_over<R: TellRead, D: Decoder, E: Decoder>(
     alloc: Global,
     reader: PieceReader<R, D>,
@@ -88,6 +89,24 @@ pub fn handed_over<R: TellRead, D: Decoder, E: Decoder>(
         → PiecesWent R.remaining most first bytes reader → PiecesWent R.remaining more next later last
         → StreamWent R.remaining (left_of first) (bytes ++ later) (left_of last)) }
 {
-    let (inner, buffer) = reader.into_inner_with_buffer();
+    let (inner, buffer, _ended) = reader.into_inner_with_buffer();
     PieceReader::with_buffer(alloc, buffer, inner, decoder)
+}
+
+/// A writer that is taken apart and made again with another encoder has not sent what the first hadn't. So the stream takes the
+/// pieces of both, one after another, behind what was not sent at first.
+pub fn written_over<W: TellWrite, E: Encoder, F: Encoder>(
+    alloc: Global,
+    writer: PieceWriter<W, E>,
+    encoder: F,
+) -> Result<PieceWriter<W, F>, MakeError<(Buffer, W, F)>>
+    ensures left { IfOk result (λ next. unbuffered next.writer ≡ unbuffered writer.writer) }
+    ensures took { IfOk result (λ next. (first : Outgoing W E) (last : Outgoing W F) (payloads later : List (List ℕ))
+        → PiecesTaken W.stretch (E.encoding writer.encoder) first payloads writer
+        → PiecesTaken W.stretch (F.encoding encoder) next later last
+        → StreamTook (unbuffered first.writer)
+        (all_coded (E.encoding writer.encoder) payloads ++ all_coded (F.encoding encoder) later) (unbuffered last.writer)) }
+{
+    let (inner, buffer) = writer.into_inner_with_buffer();
+    PieceWriter::with_buffer(alloc, buffer, inner, encoder)
 }

@@ -184,30 +184,41 @@ impl<R: Tell, D: Decoder> PieceReader<R, D> {
         self.reader.get_mut()
     }
 
-    /// The inner reader. What is buffered is gone; [`rest`](PieceReader::rest) shows it before.
+    /// The inner reader. What is buffered is gone, and so is an end that no call has told; [`rest`](PieceReader::rest) and
+    /// [`has_ended`](PieceReader::has_ended) show them before.
     pub fn into_inner(self) -> R
         ensures inner { result ≡ self.reader.inner }
         ensures log { R.log result ≡ self.reader.log }
     {
-        self.into_inner_with_buffer().0
+        let PieceReader {
+            reader,
+            decoder: _,
+            handed: _,
+            seen: _,
+            ended: _,
+        } = self;
+        reader.into_inner()
     }
 
     /// The inner reader, and the buffer with the bytes that weren't handed out. It may not grow, but by its
-    /// [`set_limit`](Buffer::set_limit). A `with_buffer` makes a reader of them again, of this layer or another. An end that no
-    /// call has told ([`has_ended`](PieceReader::has_ended)) is forgotten: the stream is asked again.
-    pub fn into_inner_with_buffer(self) -> (R, Buffer)
-        ensures { TakenApart R.log self result.0 result.1 }
+    /// [`set_limit`](Buffer::set_limit). A `with_buffer` makes a reader of them again, of this layer or another.
+    ///
+    /// The last part is whether the stream ended, which no call has told yet ([`has_ended`](PieceReader::has_ended)): a reader that
+    /// is made of the others doesn't know that, and would ask the stream again.
+    pub fn into_inner_with_buffer(self) -> (R, Buffer, bool)
+        ensures apart { TakenApart R.log self result.0 result.1 }
+        ensures ended { result.2 ≡ self.ended }
     {
         let PieceReader {
             reader,
             decoder: _,
             handed,
             seen: _,
-            ended: _,
+            ended,
         } = self;
         let (inner, mut buffer) = reader.into_inner_with_buffer();
         buffer.consume(handed);
-        (inner, buffer)
+        (inner, buffer, ended)
     }
 
     /// The decoder.

@@ -1,18 +1,18 @@
 //! The writer of pieces.
-ghost use Rattle.std.specs.Prelude.{◌≡◌, ◌↔◌, IsTrue, ◌+◌, ◌<◌, ◌≤◌, ◌^◌, ◌++◌, [], length, take, Ok, Err, IfOk, IfErr, MatchResult};
+ghost use Rattle.std.specs.Prelude.{◌≡◌, ◌↔◌, IsTrue, ◌+◌, ◌*◌, ◌<◌, ◌≤◌, ◌^◌, ◌++◌, [], length, take, Ok, Err, IfOk, IfErr, IsOk, MatchResult};
 ghost use Rattle.std.specs.Borrow.{Lends, sem};
-ghost use Rattle.buffer_redux.specs.Block.{usable};
+ghost use Rattle.buffer_redux.specs.Block.{Plain, usable};
 ghost use Rattle.buffer_redux.specs.BufWriter.{WasFlushed, WasSent};
 ghost use Rattle.buffer_redux.specs.Unwrapping.{InnerOfFlushed};
 ghost use Rattle.buffer_redux.specs.GrowError.{FitsWithin};
 ghost use Rattle.buffer_redux.specs.MakeError.{growth};
 ghost use Rattle.codec.specs.contracts.writer.PieceWriter.{the_row};
 ghost use Rattle.codec.specs.Encoding.{IsHead, coded};
-ghost use Rattle.codec.specs.Outgoing.{IsOutgoing, IsUnused, room, with_stream};
+ghost use Rattle.codec.specs.Outgoing.{IsOutgoing, IsOver, IsUnused, room, with_stream};
 ghost use Rattle.codec.specs.Piecing.{room_for};
 ghost use Rattle.codec.specs.WritePiece.{PiecesTaken, PutsIn, WritesBuffered, WritesPiece};
 
-use crate::buffer::piece_buffer;
+use crate::buffer::{fit_buffer, piece_buffer};
 use crate::encoder::Encoder;
 use crate::error::WritePieceError;
 use crate::head::Head;
@@ -85,6 +85,32 @@ impl<W: TellWrite, E: Encoder> PieceWriter<W, E> {
         }
     }
 
+    /// The same over a buffer of yours, of which the bytes are sent first. So a writer that another was taken apart into is
+    /// written on, behind what that took in.
+    ///
+    /// A plain buffer in which three pieces fit is kept, and then this takes no memory. For any other there is a new one, of as
+    /// many bytes or of what three pieces take where that is more. A refusal hands all three back.
+    pub fn with_buffer(
+        alloc: Global,
+        buffer: Buffer,
+        inner: W,
+        encoder: E,
+    ) -> Result<Self, MakeError<(Buffer, W, E)>>
+        ensures made { IfOk result (IsOver W.log (E.encoding encoder).most buffer inner encoder) }
+        ensures whole { IfOk result (IsOutgoing (E.encoding encoder).most) }
+        ensures handed_back { IfErr result (λ e. (e.0.0 ≡ buffer) × (e.0.1 ≡ inner) × (e.0.2 ≡ encoder)) }
+        ensures within { FitsWithin (growth result) (room_for buffer.capacity (E.encoding encoder).most) (2 ^ 62) }
+        ensures kept { buffer.kind ≡ Plain → 3 * (E.encoding encoder).most ≤ buffer.capacity → IsOk result }
+    {
+        match fit_buffer(alloc, buffer, encoder.most_written()) {
+            Ok(buffer) => Ok(PieceWriter {
+                writer: BufWriter::with_buffer(buffer, inner),
+                encoder,
+            }),
+            Err(MakeError(buffer, e)) => Err(MakeError((buffer, inner, encoder), e)),
+        }
+    }
+
     /// The inner writer.
     pub fn get_ref(&self) -> &W
         ensures inner { result.now ≡ self.now.writer.inner }
@@ -93,7 +119,9 @@ impl<W: TellWrite, E: Encoder> PieceWriter<W, E> {
         self.writer.get_ref()
     }
 
-    /// The inner writer, for changes. What is written through this goes out before the buffered pieces.
+    /// The inner writer, for changes. What is written through this goes out before the buffered pieces: between two of them, and
+    /// within one where a send failed, of which just a beginning may have gone out. So nothing is to be written then before a
+    /// [`send`](PieceWriter::send) is Ok.
     pub fn get_mut(&mut self) -> &mut W
         ensures* writes_back { sem 𝓛 (Lends (the_row W.row E.row E.Refusal.row W.TellWrite.own W.Tell.own E.Encoder) W.row
             self.entry result (with_stream W.log self.old)) }

@@ -1,11 +1,8 @@
-use Rattle.std.proofs.Common.{◌≡◌, Result, Ok, Err, IfOk, rules}
+use Rattle.std.proofs.Common.{◌≡◌, rules}
+use Rattle.codec.specs.PiecesWentLaws.{PiecesWent-then}
 use Rattle.codec.specs.Piecing.{left_of}
-use Rattle.codec.specs.StreamWent.{PiecesWent-then}
+use Rattle.codec.proofs.Handover.{on_ok}
 use Rattle.codec.proofs.laws.handed_over.Goals as goal
-
-on_ok : {A E : Type 0} (P Q : A → Type 0) → ((a : A) → P a → Q a) → (r : Result A E) → IfOk r P → IfOk r Q
-on_ok P Q f (Ok a) p = f a p
-on_ok P Q f (Err e) p = tt
 
 pub returns-clause-went : goal.returns-clause-went
 returns-clause-went g c =
