@@ -122,7 +122,9 @@ impl<R: Tell> FrameReader<R> {
         ensures { TakenApart R.log (piecing self) result.0 result.1 }
     {
         let FrameReader { pieces } = self;
-        pieces.into_inner_with_buffer()
+        // No frame is one only since the stream ends, so no end is left to tell.
+        let (inner, buffer, _ended) = pieces.into_inner_with_buffer();
+        (inner, buffer)
     }
 
     /// The buffered bytes behind the frame that was lent last.

@@ -6,7 +6,8 @@ ghost use Rattle.buffer_redux.specs.GrowError.{FitsWithin};
 ghost use Rattle.buffer_redux.specs.MakeError.{growth};
 ghost use Rattle.frame_reader.specs.Frames.{Fits, frame};
 ghost use Rattle.frame_reader.specs.Framing.{frame_capacity};
-ghost use Rattle.frame_reader.specs.Outgoing.{IsOutgoing, IsUnused, room};
+ghost use Rattle.codec.specs.Outgoing.{IsOver};
+ghost use Rattle.frame_reader.specs.Outgoing.{IsOutgoing, IsUnused, room, writing};
 ghost use Rattle.frame_reader.specs.WriteFrame.{FramesTaken, PutsIn, WritesFrame, write_error};
 
 use crate::error::WriteFrameError;
@@ -73,6 +74,25 @@ impl<W: TellWrite> FrameWriter<W> {
         match PieceWriter::with_capacity(alloc, capacity, inner, Frames { max }) {
             Ok(pieces) => Ok(FrameWriter { pieces }),
             Err(MakeError(back, e)) => Err(MakeError(back.0, e)),
+        }
+    }
+
+    /// The same over a buffer of yours, as [`PieceWriter::with_buffer`]: the bytes that `buffer` holds are sent first. A refusal
+    /// hands both back.
+    pub fn with_buffer(
+        alloc: Global,
+        buffer: Buffer,
+        inner: W,
+        max: u16,
+    ) -> Result<Self, MakeError<(Buffer, W)>>
+        ensures made { IfOk result (λ f. IsOver W.log (2 + max) buffer inner (record { max = max }) (writing f)) }
+        ensures whole { IfOk result IsOutgoing }
+        ensures handed_back { IfErr result (λ e. (e.0.0 ≡ buffer) × (e.0.1 ≡ inner)) }
+        ensures within { FitsWithin (growth result) (frame_capacity buffer.capacity max) (2 ^ 62) }
+    {
+        match PieceWriter::with_buffer(alloc, buffer, inner, Frames { max }) {
+            Ok(pieces) => Ok(FrameWriter { pieces }),
+            Err(MakeError(back, e)) => Err(MakeError((back.0, back.1), e)),
         }
     }
 

@@ -122,7 +122,11 @@ impl<R: Tell> LineReader<R> {
         self.pieces.get_ref()
     }
 
-    /// The inner reader, for changes. What is read through this is not in the lines.
+    /// The inner reader, for changes. What is read through this is not in the lines. A new stream that is put here is read where
+    /// the old one was: behind what is buffered of that, which may be the beginning of a line. Its first line is dropped where
+    /// [`is_skipping`](LineReader::is_skipping), as the end of the one that is being skipped. And an end of the old one that no
+    /// call has told yet, behind a last line that had none, is told first. So put it into a new reader, unless the last call
+    /// answered `None`.
     pub fn get_mut(&mut self) -> &mut R
         ensures* writes_back { sem 𝓛 (Lends (the_row R.row R.Tell) R.row
             self.entry result (with_stream R.log self.old)) }
@@ -132,7 +136,8 @@ impl<R: Tell> LineReader<R> {
         self.pieces.get_mut()
     }
 
-    /// The inner reader. What is buffered is gone; [`rest`](LineReader::rest) shows it before.
+    /// The inner reader. What is buffered is gone, and so is an end that no call has told; [`rest`](LineReader::rest) shows it
+    /// before.
     pub fn into_inner(self) -> R
         ensures inner { result ≡ self.reader.inner }
         ensures log { R.log result ≡ self.reader.log }
@@ -146,8 +151,12 @@ impl<R: Tell> LineReader<R> {
 
     /// The inner reader, and the buffer with the bytes that weren't handed out. It may not grow, but by its
     /// [`set_limit`](Buffer::set_limit).
-    pub fn into_inner_with_buffer(self) -> (R, Buffer)
-        ensures { TakenApart R.log (piecing self) result.0 result.1 }
+    ///
+    /// The last part is whether the stream ended behind a line that had no end, which no call has told yet: a reader that is made
+    /// of the others doesn't know that, and would ask the stream again.
+    pub fn into_inner_with_buffer(self) -> (R, Buffer, bool)
+        ensures apart { TakenApart R.log (piecing self) result.0 result.1 }
+        ensures ended { result.2 ≡ self.ended }
     {
         let LineReader {
             pieces,

@@ -42,7 +42,8 @@ fn too_large_a_decoder(rt: HostRuntime) -> Result<(), Fail> {
     assert!(rt; large.max == 2730);
     assert!(rt; matches!(lines.next(), Ok(Some(b"two"))));
     // A new buffer is made for it.
-    let (inner, buffer) = lines.into_inner_with_buffer();
+    let (inner, buffer, ended) = lines.into_inner_with_buffer();
+    assert!(rt; !ended);
     let mut parts = PieceReader::with_buffer(alloc, buffer, inner, large)?;
     assert!(rt; matches!(parts.next(), Ok(None)));
     Ok(drop(parts))

@@ -288,7 +288,7 @@ fn begins<A: Asks>(lines: &mut A, first: &[u8]) -> bool {
 
 // The stream that a reader is over, and whether these bytes are in the buffer that is taken out of it.
 fn apart<R: TellRead>(lines: LineReader<R>, held: &[u8]) -> (R, bool) {
-    let (inner, buffer) = lines.into_inner_with_buffer();
+    let (inner, buffer, _ended) = lines.into_inner_with_buffer();
     (inner, buffer.buf() == held)
 }
 
