@@ -1,27 +1,32 @@
--- What is left of a reader that looked, and found no whole piece.
-use Rattle.std.proofs.Common.{◌≡◌, ◌↔◌, ℕ, List, Option, Bool, true, false, IsTrue, sym, ap, subst, ◌∙◌}
-use Rattle.codec.specs.Grammar.{Grammar}
+-- What was flushed before a step.
+use Rattle.std.proofs.Common.{◌≡◌, ◌↔◌, Bool, IsTrue, true, false, List, ℕ, Option, Result, Ok, Err, inl, inr, sym, ap, ◌∙◌}
+use Rattle.std.specs.declared.io.Error.{Error}
+use Rattle.buffer_redux.specs.Buffered.{Buffered}
+use Rattle.buffer_redux.specs.StreamLog.{StreamLog}
+use Rattle.codec.specs.Fetching.{FlushedFirst, FlushesToAsk}
+use Rattle.codec.specs.Grammar.{Grammar, IsLawful}
 use Rattle.codec.specs.NextPiece.{NextAnswer, NextPiece, StaysLeft}
-use Rattle.codec.specs.Piecing.{IsSettled, Piecing, retold}
-use Rattle.codec.specs.RetoldLaws.{NextPiece-retold}
+use Rattle.codec.specs.NextPieceLaws.{AsksNone-settled}
+use Rattle.codec.specs.Piecing.{Piecing}
+use Rattle.codec.specs.StaysLeftLaws.{StaysLeft-settled}
 
-module _ {S D W : Type 0} (remaining : S → Option (List ℕ)) (g : Grammar W) (s m t : Piecing S D) (stays : StaysLeft g s m) where
-  -- what the next call does is what it does here
-  pub stays_next : (answer : NextAnswer W) → NextPiece remaining g m answer t → NextPiece remaining g s answer t
-  stays_next answer next =
-      let seen : m ≡ retold s.decoder m.seen s = stays.same in
-      let n : NextPiece remaining g (retold s.decoder m.seen s) answer t = subst (λ x. NextPiece remaining g x answer t) seen next in
-      NextPiece-retold (retold s.decoder m.seen s) t s.decoder t.decoder s.seen t.seen g remaining answer
-      n.went.decoder n.whole n
+-- a test that failed
+pub untrue : {P : Type 0} (b : Bool) → b ≡ false → (IsTrue b ↔ P) → ¬ P
+untrue b isnt is p = let odd : b ≡ true = is.1 p in (let never : true ≡ false = sym odd ∙ isnt in cc)
 
-  -- and it is settled by what settled it here
-  pub stays_settled : IsSettled g s → IsSettled g m
-  stays_settled is = subst (IsSettled g) (sym stays.same) is
+module _ {S D V T P : Type 0} (remaining : S → Option (List ℕ)) (tells : T → StreamLog) (stretch : T → T → Type 0)
+    (g : Grammar V) (s m : Piecing S D) (stays : StaysLeft g s m) (w v : Buffered T P) where
+  -- a step behind a look, and behind the flush that it needs
+  pub first_ok : (x : Unit {0}) → IsLawful g → FlushesToAsk tells stretch g m w (Ok x) v → (answer : NextAnswer V)
+      (t : Piecing S D) → NextPiece remaining g m answer t → FlushedFirst tells stretch g s w {A = Unit {0}} (Ok tt) t v
+  first_ok x law (inl (settled, is, same)) answer t next =
+      inl (same, AsksNone-settled remaining g law m settled answer t next ∙ ap (λ x. x.reader.log) stays.same)
+  first_ok x law (inr (unsettled, flushed)) answer t next =
+      inr ((λ settled. unsettled (StaysLeft-settled remaining g s m stays settled)), flushed)
 
-  -- nor is it settled there, where it isn't here
-  pub stays_unsettled : (d : D) (grammar : D → Grammar W) → grammar s.decoder ≡ g → d ≡ m.decoder → (b : Bool) → b ≡ false
-      → (IsTrue b ↔ IsSettled (grammar d) m) → ¬ (IsSettled g s)
-  stays_unsettled d grammar is told b isnt settled here =
-      let same : grammar d ≡ g = ap grammar (told ∙ ap (λ x. x.decoder) stays.same) ∙ is in
-      let odd : b ≡ true = settled.1 (subst (λ h. IsSettled h m) (sym same) (stays_settled here)) in
-      (let never : true ≡ false = sym odd ∙ isnt in cc)
+  -- where that fails there is no step
+  pub first_err : (e : Error) → FlushesToAsk tells stretch g m w (Err e) v
+      → FlushedFirst tells stretch g s w {A = Unit {0}} (Err e) m v
+  first_err e (inl (settled, is, same)) = (let odd : ◌≡◌ {A = Result (Unit {0}) Error} (Err e) (Ok tt) = is in cc)
+  first_err e (inr (unsettled, flushed)) =
+      ((λ settled. unsettled (StaysLeft-settled remaining g s m stays settled)), flushed, stays)

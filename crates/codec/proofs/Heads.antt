@@ -1,12 +1,12 @@
 -- What a call of a reader of pieces has done so far, turn by turn.
-use Rattle.std.proofs.Common.{◌≡◌, ℕ, ◌+◌, ◌<◌, List, [], ◌++◌, length, Bool, true, false, refl, sym, ap, ◌∙◌, arith, inl, inr, append_assoc, length-append, Option, Result, Ok}
+use Rattle.std.proofs.Common.{◌≡◌, ℕ, ◌<◌, List, [], ◌++◌, length, Bool, true, refl, sym, ap, ◌∙◌, arith, inl, inr, append_assoc, length-append, Option, Result, Ok}
 use Rattle.std.specs.declared.io.Error.{Error}
 use Rattle.codec.specs.Grammar.{Grammar, IsOpen, Lacks}
 use Rattle.codec.specs.GrammarLaws.{open_with}
 use Rattle.codec.specs.NextPiece.{AsksGive, PiecesWent, AskedWhere, NoFault, NoEnd}
 use Rattle.codec.specs.NextPieceLaws.{AskedWhere-told}
 use Rattle.codec.specs.PiecesWentLaws.{PiecesWent-none, PiecesWent-joins}
-use Rattle.codec.specs.Piecing.{Piecing, IsPiecing, rest}
+use Rattle.codec.specs.Piecing.{Piecing, rest}
 use Rattle.codec.specs.Steps.{AsksFor}
 
 -- so far nothing was handed out, and no fault and no end was met; the stream was asked only where what was there settled

@@ -14,3 +14,4 @@ pub mod Stepping
 pub mod Taking
 pub mod Writing
 pub mod Handover
+pub mod Turning

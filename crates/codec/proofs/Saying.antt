@@ -1,25 +1,22 @@
 -- What pieces say that a step went on to.
-use Rattle.std.proofs.Common.{◌≡◌, ℕ, ◌-◌, List, [], ◌++◌, take, drop, true, false, sym, ap, subst, ◌∙◌, arith, inl, inr, refl, append-nil, Option, Result, Ok, Err, Some, None, IfOk, IfSome}
-use Rattle.std.proofs.lemmas.List.{append_cancel_left, append_cancel_right, drop-drop, take-append-drop}
+use Rattle.std.proofs.Common.{◌≡◌, ℕ, ◌+◌, ◌-◌, List, [], ◌++◌, take, drop, sym, ap, subst, ◌∙◌, arith, inl, inr, append-nil, Option, Result, Ok, Err, Some, None, IfOk, IfSome}
+use Rattle.std.proofs.lemmas.List.{drop-drop, take-append-drop}
 use Rattle.codec.specs.declared.decoder.Span.{Span}
 use Rattle.codec.specs.declared.error.NextError.{NextError}
 use Rattle.codec.specs.declared.error.NextError.TheVariants.{Wrong, Io}
 use Rattle.codec.specs.Decoding.{bytes_at}
 use Rattle.codec.specs.Grammar.{Grammar, IsLawful}
-use Rattle.codec.specs.Items.{IsWhole, part}
+use Rattle.codec.specs.Items.{IsWhole, NextItem, part}
 use Rattle.codec.specs.NextPiece.{HandsBytes, NextPiece, PiecesWent, load_answer}
-use Rattle.codec.specs.PiecesWentLaws.{PiecesWent-none}
+use Rattle.codec.specs.GrammarLaws.{wrong_some}
+use Rattle.codec.specs.NextPieceLaws.{NextPiece-refused}
+use Rattle.codec.specs.PiecesWentLaws.{HandsBytes-same}
 use Rattle.codec.specs.Piecing.{Piecing, IsPiecing, rest}
 use Rattle.codec.specs.Steps.{TakesEnd, TakesPiece}
+use Rattle.codec.proofs.Loading.{takes_shown}
 use Rattle.codec.proofs.Reading.{rest_whole}
 
 module _ {S D : Type 0} where
-  -- a stretch hands out one list of bytes
-  pub hands_same : (s t : Piecing S D) (a b : List ℕ) → HandsBytes s a t → HandsBytes s b t → a ≡ b
-  hands_same s t a b h k =
-      let got : h.got ≡ k.got = append_cancel_left s.reader.log.reads.given h.got k.got (sym h.given ∙ k.given) in
-      append_cancel_right a b (rest t) (h.equal ∙ ap (λ l. rest s ++ l) got ∙ sym k.equal)
-
   -- what stands at the front of the buffer is what was left, and what came
   pub hands_front : (s m t : Piecing S D) (remaining : S → Option (List ℕ)) (most : ℕ) → PiecesWent remaining most s [] m
       → m.handed ≡ 0 → t.reader ≡ m.reader → HandsBytes s (take t.handed t.reader.block.bytes) t
@@ -34,13 +31,6 @@ module _ {S D : Type 0} where
   part_front t =
       let count : t.handed - 0 ≡ t.handed = omega arith in
       ap (λ n. take n t.reader.block.bytes) count
-
-  -- a look alone hands nothing out
-  pub hands_looked : (s m t : Piecing S D) (bytes : List ℕ) (seen : ℕ) → m ≡ record s { seen = seen } → HandsBytes m bytes t
-      → HandsBytes s bytes t
-  hands_looked s m t bytes seen same h =
-      let k : HandsBytes (record s { seen = seen }) bytes t = subst (λ x. HandsBytes x bytes t) same h in
-      record { got = k.got; given = k.given; equal = k.equal }
 
 module _ {S D W : Type 0} where
   -- and so it is of the last piece
@@ -97,7 +87,7 @@ module _ {S D W : Type 0} (grammar : D → Grammar W) (s t : Piecing S D) where
     pub whole_front : IsWhole (grammar t.decoder) (part 0 t.handed t.reader.block.bytes)
     whole_front =
         let same : next.bytes ≡ part 0 t.handed t.reader.block.bytes =
-        hands_same s t next.bytes (take t.handed t.reader.block.bytes) next.went.hands front ∙ sym (part_front t) in
+        HandsBytes-same s t next.bytes (take t.handed t.reader.block.bytes) next.went.hands front ∙ sym (part_front t) in
         subst (IsWhole (grammar t.decoder)) same
         (subst (λ d. IsWhole (grammar d) next.bytes) (sym next.went.decoder) (whole_of remaining (grammar s.decoder) s t payload next))
 
@@ -118,18 +108,22 @@ loaded_next grammar s t remaining r span is next =
 -- what is left begins with no piece
 pub wrong_now : {S D W : Type 0} (remaining : S → Option (List ℕ)) (g : Grammar W) → IsLawful g → (s t : Piecing S D) (e : W)
     → g.wrong (rest s) e → t ≡ s → IsPiecing g s → NextPiece remaining g s (Err (Wrong e)) t
-wrong_now remaining g law s t e wrong same whole =
-    let none : ¬ (rest s ≡ []) = λ none. law.nothing e (subst (λ l. g.wrong l e) none wrong) in
-    let going : s.ended ≡ false = elim s.ended as (λ b. b ≡ s.ended → b ≡ false) [
-      | true ↦ λ is. absurd (none (whole.ended (sym is)))
-      | false ↦ λ is. refl
-    ] refl in
-    subst (NextPiece remaining g s (Err (Wrong e))) (sym same) (record {
-      bytes = [];
-      went = PiecesWent-none remaining g.most s;
-      answers = (refl, refl, going, inl (wrong, refl));
-      asked = inl refl;
-      gave = λ _ _. omega arith;
-      told = λ ended. (let odd : true ≡ false = sym ended ∙ going in cc);
-      whole = whole;
-    })
+wrong_now remaining g law s t e wrong same whole = subst (NextPiece remaining g s (Err (Wrong e))) (sym same)
+    (NextPiece-refused remaining g s whole (wrong_some g law (rest s) e wrong) e wrong)
+
+-- a piece that was buffered whole says what all of its bytes say
+pub says_piece : {S D W I : Type 0} (remaining : S → Option (List ℕ)) (grammar : D → Grammar W) (item_of : D → List ℕ → I)
+    (s t : Piecing S D) → IsLawful (grammar s.decoder) → IsPiecing (grammar s.decoder) s → IsPiecing (grammar s.decoder) t
+    → (at : ℕ) → at ≡ s.handed → (span : Span) (used : ℕ) → TakesPiece (grammar s.decoder) s t span used → (item : I)
+    → item ≡ item_of t.decoder (part at t.handed t.reader.block.bytes)
+    → NextItem remaining (grammar s.decoder) (item_of s.decoder) s
+    (Ok (Some (item, record { from = at + span.from; len = span.len }))) t
+says_piece remaining grammar item_of s t law before whole at here span used takes item is =
+    let g = grammar s.decoder in
+    let next = takes_shown remaining g law s t at here before whole span used takes in
+    let bytes = part_piece g s t at span used here takes
+    ∙ HandsBytes-same s t (take used (rest s)) next.bytes (hands_piece g s t span used takes) next.went.hands in
+    record {
+      next = next;
+      says = is ∙ ap (λ x. item_of x.decoder (part at t.handed t.reader.block.bytes)) takes.same ∙ ap (item_of s.decoder) bytes;
+    }

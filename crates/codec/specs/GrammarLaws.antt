@@ -43,6 +43,11 @@ module _ {W : Type 0} (g : Grammar W) where
       let none : more ≡ [] = nil_from_length more (omega (arith, few, length-append bytes more)) in
       subst (IsOpen g) (sym (ap (λ l. bytes ++ l) none ∙ append-nil bytes)) is
 
+  -- the beginning of no piece has a byte
+  pub wrong_some : IsLawful g → (bytes : List ℕ) (e : W) → g.wrong bytes e → 0 < length bytes
+  wrong_some law [] e wrong = absurd (law.nothing e wrong)
+  wrong_some law (b ∷ bytes) e wrong = omega arith
+
   -- what begins with a piece isn't open, whatever comes behind
   pub open_not : (piece payload more : List ℕ) → g.piece piece payload → ¬ (IsOpen g (piece ++ more))
   open_not piece payload more is open' =

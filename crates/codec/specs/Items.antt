@@ -3,9 +3,9 @@ use Rattle.std.specs.Prelude.{◌≡◌, ℕ, ◌-◌, ◌⊎◌, List, take, dr
 use Rattle.codec.specs.declared.decoder.Span.{Span}
 use Rattle.codec.specs.declared.error.NextError.{NextError}
 use Rattle.codec.specs.Decoding.{bytes_at}
-use Rattle.codec.specs.Grammar.{Grammar}
-use Rattle.codec.specs.NextPiece.{NextPiece}
-use Rattle.codec.specs.Piecing.{Piecing}
+use Rattle.codec.specs.Grammar.{Begins, Grammar}
+use Rattle.codec.specs.NextPiece.{NextPiece, StaysLeft}
+use Rattle.codec.specs.Piecing.{Piecing, rest}
 
 -- these bytes are a piece, or a last one
 abbrev pub IsWhole : {W : Type 0} → Grammar W → List ℕ → Type 0
@@ -32,3 +32,10 @@ pub record NextItem {S D W I : Type 0} (remaining : S → Option (List ℕ)) (g 
     (s : Piecing S D) (answer : Result (Option (I × Span)) (NextError W)) (t : Piecing S D) : Type 0 where
   pub next : NextPiece remaining g s (item_answer answer t) t
   pub says : Says item_of answer next.bytes
+
+-- what `step_item_buffered` does: as `step_item` where the next piece stands whole in what is left, and else nothing. The
+-- reader inside isn't called
+abbrev pub ItemBuffered : {S D W I : Type 0} → (S → Option (List ℕ)) → Grammar W → (List ℕ → I) → Piecing S D
+    → Option (I × Span) → Piecing S D → Type 0
+ItemBuffered remaining g item_of s (Some said) t = NextItem remaining g item_of s (Ok (Some said)) t × (t.reader ≡ s.reader)
+ItemBuffered remaining g item_of s None t = StaysLeft g s t × ¬ (Begins g (rest s))

@@ -1,3 +1,4 @@
+pub mod Answering
 pub mod CodecLaws
 pub mod Decoding
 pub mod Delimited
@@ -30,11 +31,17 @@ pub mod PayloadsLaws
 pub mod PiecesWentLaws
 pub mod Piecing
 pub mod Plain
+pub mod RefillsLaws
 pub mod RetoldLaws
 pub mod Runs
 pub mod RunsLaws
 pub mod Scanning
 pub mod ScanningLaws
+pub mod Serving
+pub mod ServingLaws
+pub mod Showing
+pub mod ShowingLaws
+pub mod StaysLeftLaws
 pub mod Steps
 pub mod TextHeads
 pub mod TextHeadsInLaws

@@ -1,7 +1,7 @@
 -- How calls of a reader of pieces join, and what follows since it was made.
 use Rattle.std.specs.Prelude.{◌≡◌, ℕ, List, [], ◌++◌, length, drop, Option}
 use Rattle.std.proofs.Common.{sym, ap, subst, ◌∙◌, arith, refl, length-drop, le_refl, append_assoc, append-nil}
-use Rattle.std.proofs.lemmas.List.{append_cancel_left, nil_from_length}
+use Rattle.std.proofs.lemmas.List.{append_cancel_left, append_cancel_right, nil_from_length}
 use Rattle.buffer_redux.specs.BufReader.{InnerGives}
 use Rattle.buffer_redux.specs.LogGrows.{ReadLogGrows, ReadLogGrows-none, ReadLogGrows-joins}
 use Rattle.buffer_redux.specs.ReaderLaws.{InnerGives-none, InnerGives-joins}
@@ -11,6 +11,19 @@ use Rattle.buffer_redux.specs.Unbuffer.{StreamWent}
 use Rattle.buffer_redux.specs.UnbufferLaws.{StreamWent-joins}
 use Rattle.codec.specs.NextPiece.{HandsBytes, PiecesWent}
 use Rattle.codec.specs.Piecing.{Piecing, IsFresh, left_of, rest}
+
+-- a stretch hands out one list of bytes
+pub HandsBytes-same : {S D : Type 0} (s t : Piecing S D) (a b : List ℕ) → HandsBytes s a t → HandsBytes s b t → a ≡ b
+HandsBytes-same s t a b h k =
+    let got : h.got ≡ k.got = append_cancel_left s.reader.log.reads.given h.got k.got (sym h.given ∙ k.given) in
+    append_cancel_right a b (rest t) (h.equal ∙ ap (λ l. rest s ++ l) got ∙ sym k.equal)
+
+-- a look alone hands nothing out
+pub HandsBytes-looked : {S D : Type 0} (s m t : Piecing S D) (bytes : List ℕ) (seen : ℕ) → m ≡ record s { seen = seen }
+    → HandsBytes m bytes t → HandsBytes s bytes t
+HandsBytes-looked s m t bytes seen same h =
+    let k : HandsBytes (record s { seen = seen }) bytes t = subst (λ x. HandsBytes x bytes t) same h in
+    record { got = k.got; given = k.given; equal = k.equal }
 
 -- no call hands out nothing, and calls join
 pub HandsBytes-none : {S D : Type 0} (s : Piecing S D) → HandsBytes s [] s

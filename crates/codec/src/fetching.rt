@@ -1,11 +1,13 @@
 //! The next piece, before which replies are flushed where the stream is waited for.
 ghost use Rattle.std.specs.Prelude.{IfOk, IfSome};
 ghost use Rattle.codec.specs.Decoding.{IsLent};
-ghost use Rattle.codec.specs.Fetching.{FlushedFirst};
+ghost use Rattle.codec.specs.Fetching.{FlushedFirst, FlushesToAsk};
+ghost use Rattle.codec.specs.Items.{NextItem};
 ghost use Rattle.codec.specs.NextPiece.{NextPiece, load_answer};
 
 use crate::decoder::{Decoder, Span};
 use crate::error::NextError;
+use crate::items::Items;
 use crate::reader::PieceReader;
 use buffer_redux::BufWriter;
 use buffer_redux::policy::WriterPolicy;
@@ -39,10 +41,42 @@ pub fn fetch<R: TellRead, D: Decoder, W: TellWrite, P: WriterPolicy>(
     if let Some(span) = reader.step_buffered() {
         return Ok(Ok(Some(span)));
     }
-    if !reader.is_settled() {
-        if let Err(e) = writer.flush() {
-            return Err(e);
-        }
+    match flush_to_ask(reader, writer) {
+        Ok(()) => Ok(reader.step()),
+        Err(e) => Err(e),
     }
-    Ok(reader.step())
+}
+
+/// Does as [`step_item`](PieceReader::step_item), and flushes the writer first as [`fetch`] does.
+pub fn fetch_item<R: TellRead, D: Items, W: TellWrite, P: WriterPolicy>(
+    reader: &mut PieceReader<R, D>,
+    writer: &mut BufWriter<W, P>,
+) -> io::Result<Result<Option<(D::Item, Span)>, NextError<D::Wrong>>>
+    ensures next { IfOk result (λ answer. NextItem R.remaining (D.grammar reader.old.decoder)
+        (D.item_of reader.old.decoder) reader.old answer reader.new) }
+    ensures lends { IfOk result (λ answer. IfOk answer (λ found. IfSome found (λ said.
+        IsLent (D.grammar reader.new.decoder) reader.new.handed reader.new.reader.block.bytes said.1))) }
+    ensures first { FlushedFirst W.log W.stretch (D.grammar reader.old.decoder) reader.old writer.old result
+        reader.new writer.new }
+{
+    if let Some(said) = reader.step_item_buffered() {
+        return Ok(Ok(Some(said)));
+    }
+    match flush_to_ask(reader, writer) {
+        Ok(()) => Ok(reader.step_item()),
+        Err(e) => Err(e),
+    }
+}
+
+// Flushes where the next step would ask the stream.
+fn flush_to_ask<R: TellRead, D: Decoder, W: TellWrite, P: WriterPolicy>(
+    reader: &PieceReader<R, D>,
+    writer: &mut BufWriter<W, P>,
+) -> io::Result<()>
+    ensures { FlushesToAsk W.log W.stretch (D.grammar reader.now.decoder) reader.now writer.old result writer.new }
+{
+    if reader.is_settled() {
+        return Ok(());
+    }
+    writer.flush()
 }

@@ -1,7 +1,7 @@
 //! The next piece, and what it says.
 ghost use Rattle.std.specs.Prelude.{◌≡◌, ◌≤◌, IfOk, IfSome};
 ghost use Rattle.codec.specs.Decoding.{IsLent};
-ghost use Rattle.codec.specs.Items.{IsWhole, NextItem, part};
+ghost use Rattle.codec.specs.Items.{IsWhole, ItemBuffered, NextItem, part};
 
 use crate::decoder::{Found, Span};
 use crate::error::NextError;
@@ -39,6 +39,32 @@ impl<R: TellRead, D: Items> PieceReader<R, D> {
                 Err(e) => Err(e),
             },
             Found::Wrong(e) => Err(NextError::Wrong(e)),
+        }
+    }
+
+    /// Goes on to the next piece as [`step_item`](PieceReader::step_item) does where it stands whole in the buffer, and asks the
+    /// stream for nothing. `None` where it doesn't, as [`step_buffered`](PieceReader::step_buffered) says.
+    #[inline(always)]
+    pub fn step_item_buffered(&mut self) -> Option<(D::Item, Span)>
+        ensures next { ItemBuffered R.remaining (D.grammar self.old.decoder) (D.item_of self.old.decoder) self.old
+            result self.new }
+        ensures lends { IfSome result (λ said.
+            IsLent (D.grammar self.new.decoder) self.new.handed self.new.reader.block.bytes said.1) }
+    {
+        let at = self.handed;
+        match self.take() {
+            Found::Piece(span, _) => {
+                let item = self.said(at);
+                Some((
+                    item,
+                    Span {
+                        from: at + span.from,
+                        len: span.len,
+                    },
+                ))
+            }
+            Found::More(_) => None,
+            Found::Wrong(_) => None,
         }
     }
 

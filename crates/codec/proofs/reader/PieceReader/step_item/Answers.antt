@@ -1,10 +1,10 @@
 use Rattle.std.proofs.Common.{Err, None, Ok, Some, ap, subst, take, ◌∙◌}
 use Rattle.codec.specs.Items.{part}
 use Rattle.codec.specs.NextPiece.{NextPiece, load_answer}
-use Rattle.codec.specs.Piecing.{rest}
+use Rattle.codec.specs.PiecesWentLaws.{HandsBytes-looked, HandsBytes-same}
 use Rattle.codec.proofs.Lending.{lends_piece}
-use Rattle.codec.proofs.Loading.{next_looked, takes_shown}
-use Rattle.codec.proofs.Saying.{hands_looked, hands_piece, hands_same, loaded_front, loaded_next, part_front, part_piece, whole_front, whole_piece, wrong_now}
+use Rattle.codec.proofs.Loading.{next_looked}
+use Rattle.codec.proofs.Saying.{loaded_front, loaded_next, part_front, says_piece, whole_front, whole_piece, wrong_now}
 use Rattle.codec.proofs.reader.PieceReader.step_item.Goals as goal
 
 pub said-item-requires-clause-whole : goal.said-item-requires-clause-whole
@@ -22,24 +22,10 @@ said-item-requires-in-Ok-Some-clause-whole g c =
 
 pub returns-in-Piece-clause-next : goal.returns-in-Piece-clause-next
 returns-in-Piece-clause-next g c =
-    let remaining = g.R.TellRead.remaining in
     let s = c.args.self.now in
-    let t = c.take.new.self in
-    let gram = g.D.Decoder.grammar s.decoder in
-    let at = c.self.inside.handed in
-    let here = ap (λ x. x.handed) c.self.view_is in
-    let takes = c.in-Piece.ensures.takes in
-    let next = takes_shown remaining gram (g.met.D.Decoder.lawful s.decoder) s t at here c.take.ensures.before
-    c.take.ensures.whole c.in-Piece.span c.in-Piece.field-1 takes in
-    let bytes = part_piece gram s t at c.in-Piece.span c.in-Piece.field-1 here takes
-    ∙ hands_same s t (take c.in-Piece.field-1 (rest s)) next.bytes (hands_piece gram s t c.in-Piece.span c.in-Piece.field-1 takes)
-    next.went.hands in
-    record {
-      next = next;
-      says = c.said-item.ensures
-          ∙ ap (λ x. g.D.Items.item_of x.decoder (part at t.handed t.reader.block.bytes)) takes.same
-          ∙ ap (g.D.Items.item_of s.decoder) bytes;
-    }
+    says_piece g.R.TellRead.remaining g.D.Decoder.grammar g.D.Items.item_of s c.take.new.self
+    (g.met.D.Decoder.lawful s.decoder) c.take.ensures.before c.take.ensures.whole c.self.inside.handed
+    (ap (λ x. x.handed) c.self.view_is) c.in-Piece.span c.in-Piece.field-1 c.in-Piece.ensures.takes _ c.said-item.ensures
 
 pub returns-in-Piece-clause-lends : goal.returns-in-Piece-clause-lends
 returns-in-Piece-clause-lends g c =
@@ -60,8 +46,8 @@ returns-in-Ok-Some-clause-next g c =
     let next = next_looked remaining gram (g.met.D.Decoder.lawful s.decoder) s m t c.in-More.need answer wants
     (subst (λ d. NextPiece remaining (g.D.Decoder.grammar d) m answer t) told
     (loaded_next g.D.Decoder.grammar m t remaining c.load_aside.result c.in-Ok-Some.span found c.load_aside.ensures.next)) in
-    let bytes = part_front t ∙ hands_same s t (take t.handed t.reader.block.bytes) next.bytes
-    (hands_looked s m t (take t.handed t.reader.block.bytes) _ wants.same
+    let bytes = part_front t ∙ HandsBytes-same s t (take t.handed t.reader.block.bytes) next.bytes
+    (HandsBytes-looked s m t (take t.handed t.reader.block.bytes) _ wants.same
     (loaded_front m t c.load_aside.result c.in-Ok-Some.span found c.load_aside.ensures.front)) next.went.hands in
     record {
       next = next;

@@ -1,0 +1,66 @@
+-- What a turn of a server comes to.
+use Rattle.std.proofs.Common.{◌≡◌, ◌⊎◌, ℕ, List, Bool, Option, Result, Ok, Err, Some, IfOk, inr, refl, subst}
+use Rattle.std.specs.declared.io.Error.{Error}
+use Rattle.buffer_redux.specs.Buffered.{Buffered}
+use Rattle.buffer_redux.specs.StreamLog.{StreamLog}
+use Rattle.codec.specs.Answering.{Answered}
+use Rattle.codec.specs.declared.decoder.Span.{Span}
+use Rattle.codec.specs.declared.error.NextError.{NextError}
+use Rattle.codec.specs.Decoding.{bytes_at}
+use Rattle.codec.specs.Fetching.{FlushedFirst}
+use Rattle.codec.specs.Grammar.{Grammar}
+use Rattle.codec.specs.Items.{NextItem}
+use Rattle.codec.specs.Piecing.{Piecing}
+use Rattle.codec.specs.Serving.{AnswerFailed, Answering, Exchange, Fetched, FlushFailed, Server, TookPiece, server}
+
+module _ {S D W I A T P : Type 0} (remaining : S → Option (List ℕ)) (tells : T → StreamLog) (stretch : T → T → Type 0)
+    (g : Grammar W) (item_of : List ℕ → I) (Answers : Answering A I) (s : Server S D A T P) (t : Piecing S D)
+    (ready : Buffered T P) (r : Result (Result (Option (I × Span)) (NextError W)) Error) (said : I × Span)
+    (is : r ≡ Ok (Ok (Some said))) (next : IfOk r (λ answer. NextItem remaining g item_of s.pieces answer t))
+    (first : FlushedFirst tells stretch g s.pieces s.answers r t ready) (shown : List ℕ)
+    (lent : shown ≡ bytes_at said.1 t.reader.block.bytes) (after : A) (last : Buffered T P) where
+  abbrev item : NextItem remaining g item_of s.pieces (Ok (Some said)) t
+  item = subst (λ r. IfOk r (λ answer. NextItem remaining g item_of s.pieces answer t)) is next
+
+  abbrev exchange : List ℕ → Exchange
+  exchange reply = record { bytes = item.next.bytes; payload = bytes_at said.1 t.reader.block.bytes; reply = reply }
+
+  abbrev fetched : Fetched remaining tells stretch g item_of Answers s (Ok (Some (bytes_at said.1 t.reader.block.bytes))) ready t
+  fetched = record {
+    next = item.next;
+    first = subst (λ r. FlushedFirst tells stretch g s.pieces s.answers r t ready) is first;
+  }
+
+  answers : (reply : List ℕ) (more : Bool) → Answers s.service said.0 shown reply more after
+      → Answers s.service (item_of item.next.bytes) (bytes_at said.1 t.reader.block.bytes) reply more after
+  answers reply more a = subst (λ i. Answers s.service i (bytes_at said.1 t.reader.block.bytes) reply more after) item.says
+      (subst (λ l. Answers s.service said.0 l reply more after) lent a)
+
+  -- it was answered
+  pub took_piece : (b more : Bool) → b ≡ more → Answered tells stretch (Answers s.service said.0 shown) ready (Ok b) after last
+      → (x : Exchange) × TookPiece remaining tells stretch g item_of Answers s x more (server t after last)
+  took_piece b more same (reply, a, along) = (
+    exchange reply,
+    record {
+      ready = ready;
+      fetched = fetched;
+      all = refl;
+      answers = answers reply more (subst (λ m. Answers s.service said.0 shown reply m after) same a);
+      along = along;
+    },
+  )
+
+  -- or couldn't be
+  pub answer_failed : (e : Error) → Answered tells stretch (Answers s.service said.0 shown) ready (Err e) after last
+      → FlushFailed remaining tells stretch g item_of Answers s e (server t after last)
+      ⊎ ((x : Exchange) × AnswerFailed remaining tells stretch g item_of Answers s x (server t after last))
+  answer_failed e (reply, more, a, nothing) = inr (
+    exchange reply,
+    record {
+      ready = ready;
+      fetched = fetched;
+      all = refl;
+      answers = (more, answers reply more a);
+      nothing = nothing;
+    },
+  )

@@ -1,0 +1,33 @@
+use Rattle.std.proofs.Common.{Ok, ap, ◌∙◌}
+use Rattle.codec.specs.Serving.{server}
+use Rattle.codec.proofs.Turning.{answer_failed, took_piece}
+use Rattle.codec.proofs.serving.turn.Goals as goal
+
+pub returns-in-Ok-true : goal.returns-in-Ok-true
+returns-in-Ok-true g c =
+    let said = c.in-Ok-Ok-Some.is ∙ ap (λ x. Ok x) (c.in-Ok-Ok-Some.field-0-is ∙ ap (λ x. Ok x) c.in-Ok-Ok-Some.field-0-0-is) in
+    let r = c.args.reader.now in
+    took_piece g.R.TellRead.remaining g.W.Tell.log g.W.TellWrite.stretch (g.D.Decoder.grammar r.decoder)
+    (g.D.Items.item_of r.decoder) g.S.Service.answers (server r c.args.service.now c.args.writer.now) c.fetch_item.new.reader
+    c.fetch_item.new.writer c.fetch_item.result _ said c.fetch_item.ensures.next c.fetch_item.ensures.first c.lent.result.now
+    c.lent.ensures c.answer.new.self c.answer.new.writer c.in-Ok-true.field-0 _ c.in-Ok-true.field-0-test
+    c.in-Ok-true.ensures
+
+pub returns-in-Ok-false : goal.returns-in-Ok-false
+returns-in-Ok-false g c =
+    let said = c.in-Ok-Ok-Some.is ∙ ap (λ x. Ok x) (c.in-Ok-Ok-Some.field-0-is ∙ ap (λ x. Ok x) c.in-Ok-Ok-Some.field-0-0-is) in
+    let r = c.args.reader.now in
+    took_piece g.R.TellRead.remaining g.W.Tell.log g.W.TellWrite.stretch (g.D.Decoder.grammar r.decoder)
+    (g.D.Items.item_of r.decoder) g.S.Service.answers (server r c.args.service.now c.args.writer.now) c.fetch_item.new.reader
+    c.fetch_item.new.writer c.fetch_item.result _ said c.fetch_item.ensures.next c.fetch_item.ensures.first c.lent.result.now
+    c.lent.ensures c.answer.new.self c.answer.new.writer c.in-Ok-false.field-0 _ c.in-Ok-false.field-0-test
+    c.in-Ok-false.ensures
+
+pub returns-in-Err-answer : goal.returns-in-Err-answer
+returns-in-Err-answer g c =
+    let said = c.in-Ok-Ok-Some.is ∙ ap (λ x. Ok x) (c.in-Ok-Ok-Some.field-0-is ∙ ap (λ x. Ok x) c.in-Ok-Ok-Some.field-0-0-is) in
+    let r = c.args.reader.now in
+    answer_failed g.R.TellRead.remaining g.W.Tell.log g.W.TellWrite.stretch (g.D.Decoder.grammar r.decoder)
+    (g.D.Items.item_of r.decoder) g.S.Service.answers (server r c.args.service.now c.args.writer.now) c.fetch_item.new.reader
+    c.fetch_item.new.writer c.fetch_item.result _ said c.fetch_item.ensures.next c.fetch_item.ensures.first c.lent.result.now
+    c.lent.ensures c.answer.new.self c.answer.new.writer c.in-Err-answer.e c.in-Err-answer.ensures

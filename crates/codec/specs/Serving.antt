@@ -1,0 +1,136 @@
+-- What a server does, whatever its pieces are.
+use Rattle.std.specs.Prelude.{◌≡◌, ℕ, ◌+◌, ◌^◌, ◌≤◌, ◌⊎◌, List, [], ◌∷◌, ◌++◌, length, Bool, true, false, Option, None, Some, Result, Ok, Err}
+use Rattle.std.specs.declared.io.Error.{Error}
+use Rattle.buffer_redux.specs.Buffered.{Buffered}
+use Rattle.buffer_redux.specs.BufWriter.{FlushedAlong, WasFlushed, WritesAlong}
+use Rattle.buffer_redux.specs.Policy.{std_write_rules}
+use Rattle.buffer_redux.specs.StreamLog.{StreamLog}
+use Rattle.codec.specs.declared.error.NextError.TheVariants as next
+use Rattle.codec.specs.declared.serving.ServeError.{ServeError}
+use Rattle.codec.specs.declared.serving.ServeError.TheVariants.{Read, Write, Wrong}
+use Rattle.codec.specs.declared.serving.Served.{Served}
+use Rattle.codec.specs.declared.serving.Served.TheVariants as served
+use Rattle.codec.specs.declared.serving.Step.{Step}
+use Rattle.codec.specs.declared.serving.Step.TheVariants as step
+use Rattle.codec.specs.Fetching.{FlushedFirst}
+use Rattle.codec.specs.Grammar.{Grammar}
+use Rattle.codec.specs.NextPiece.{NextAnswer, NextPiece, PiecesWent}
+use Rattle.codec.specs.Piecing.{Piecing}
+
+-- the reader of pieces, what answers them, and the writer of answers
+pub record Server (S D A T P : Type 0) : Type 0 where
+  pub pieces : Piecing S D
+  pub service : A
+  pub answers : Buffered T P
+
+abbrev pub server : {S D A T P : Type 0} → Piecing S D → A → Buffered T P → Server S D A T P
+server pieces service answers = record { pieces = pieces; service = service; answers = answers }
+
+-- a piece: all bytes that it takes, its payload, and what was written for it
+pub record Exchange : Type 0 where
+  pub bytes : List ℕ
+  pub payload : List ℕ
+  pub reply : List ℕ
+
+-- a part of each exchange, joined; the latest is first
+abbrev pub joined : (Exchange → List ℕ) → List Exchange → List ℕ
+joined part [] = []
+joined part (x ∷ earlier) = joined part earlier ++ part x
+
+-- what services answer: the item and the payload of a piece, what is written for it, and whether a further one is taken
+abbrev pub Answering : Type 0 → Type 0 → Type 1
+Answering A I = A → I → List ℕ → List ℕ → Bool → A → Type 0
+
+-- each piece was answered, one after another; behind the last a further one is taken, or none
+abbrev pub Converses : {A I : Type 0} → (List ℕ → I) → Answering A I → A → List Exchange → Bool → A → Type 0
+Converses item_of Answers a [] more b = (a ≡ b) × (more ≡ true)
+Converses {A} item_of Answers a (x ∷ earlier) more b =
+    (between : A) × Converses item_of Answers a earlier true between
+    × Answers between (item_of x.bytes) x.payload x.reply more b
+
+module _ {S D W I A T P : Type 0} (remaining : S → Option (List ℕ)) (tells : T → StreamLog) (stretch : T → T → Type 0)
+    (g : Grammar W) (item_of : List ℕ → I) (Answers : Answering A I) where
+  -- answers were flushed if the stream had to be asked, and then this came of a step
+  pub record Fetched (s : Server S D A T P) (answer : NextAnswer W) (ready : Buffered T P) (t : Piecing S D) : Type 0 where
+    pub next : NextPiece remaining g s.pieces answer t
+    pub first : FlushedFirst tells stretch g s.pieces s.answers {A = Unit {0}} (Ok tt) t ready
+
+  -- just this piece was taken, and answered
+  pub record TookPiece (s : Server S D A T P) (x : Exchange) (more : Bool) (t : Server S D A T P) : Type 0 where
+    pub ready : Buffered T P
+    pub fetched : Fetched s (Ok (Some x.payload)) ready t.pieces
+    pub all : fetched.next.bytes ≡ x.bytes
+    pub answers : Answers s.service (item_of x.bytes) x.payload x.reply more t.service
+    pub along : WritesAlong tells stretch std_write_rules ready x.reply t.answers
+
+  -- there was no piece, and nothing was answered
+  pub record TookNone (s : Server S D A T P) (answer : NextAnswer W) (t : Server S D A T P) : Type 0 where
+    pub fetched : Fetched s answer t.answers t.pieces
+    pub service : t.service ≡ s.service
+
+  -- answers couldn't be flushed, and nothing was asked or taken
+  pub record FlushFailed (s : Server S D A T P) (e : Error) (t : Server S D A T P) : Type 0 where
+    pub first : FlushedFirst tells stretch g s.pieces s.answers {A = Unit {0}} (Err e) t.pieces t.answers
+    pub service : t.service ≡ s.service
+
+  -- a piece was taken, and what it asks for was done, but nothing was written for it
+  pub record AnswerFailed (s : Server S D A T P) (x : Exchange) (t : Server S D A T P) : Type 0 where
+    pub ready : Buffered T P
+    pub fetched : Fetched s (Ok (Some x.payload)) ready t.pieces
+    pub all : fetched.next.bytes ≡ x.bytes
+    pub answers : (more : Bool) × Answers s.service (item_of x.bytes) x.payload x.reply more t.service
+    pub nothing : WritesAlong tells stretch std_write_rules ready [] t.answers
+
+  -- what one turn does
+  abbrev pub Turns : Server S D A T P → Result Step (ServeError W) → Server S D A T P → Type 0
+  Turns s (Ok step.Went) t = (x : Exchange) × TookPiece s x true t
+  Turns s (Ok step.Closed) t = (x : Exchange) × TookPiece s x false t
+  Turns s (Ok step.End) t = TookNone s (Ok None) t
+  Turns s (Err (Read e)) t = TookNone s (Err (next.Io e)) t
+  Turns s (Err (Wrong e)) t = TookNone s (Err (next.Wrong e)) t
+  Turns s (Err (Write e)) t = FlushFailed s e t ⊎ ((x : Exchange) × AnswerFailed s x t)
+
+  -- these exchanges, the latest first, one behind another; behind the last a further piece is taken, or none
+  abbrev pub Talked : Server S D A T P → List Exchange → Bool → Server S D A T P → Type 0
+  Talked s [] more t = (s ≡ t) × (more ≡ true)
+  Talked s (x ∷ earlier) more t = (m : Server S D A T P) × Talked s earlier true m × TookPiece m x more t
+
+  -- how they ended
+  abbrev pub EndedBy : Served → List Exchange → Bool → Server S D A T P → Server S D A T P → Type 0
+  EndedBy served.Closed exchanges more s t = (more ≡ false) × (s ≡ t)
+  EndedBy served.End exchanges more s t = (more ≡ true) × TookNone s (Ok None) t
+  EndedBy served.Many exchanges more s t = (more ≡ true) × (2 ^ 64 ≤ length exchanges + 1) × (s ≡ t)
+
+  pub record Ends (s : Server S D A T P) (ended : Served) (t : Server S D A T P) : Type 0 where
+    pub exchanges : List Exchange
+    pub more : Bool
+    pub last : Server S D A T P
+    pub talked : Talked s exchanges more last
+    pub ends : EndedBy ended exchanges more last t
+
+  -- what serving did: exchanges up to an end. What was taken is their pieces, and no byte of another; and all answers were
+  -- received and flushed
+  pub record Serves (s : Server S D A T P) (ended : Served) (t : Server S D A T P) : Type 0 where
+    pub answers : Buffered T P
+    pub ends : Ends s ended (server t.pieces t.service answers)
+    pub taken : PiecesWent remaining g.most s.pieces (joined (λ x. x.bytes) ends.exchanges) t.pieces
+    pub service : Converses item_of Answers s.service ends.exchanges ends.more t.service
+    pub all : FlushedAlong tells stretch std_write_rules s.answers (joined (λ x. x.reply) ends.exchanges) t.answers
+
+  -- a turn failed; or the last flush did
+  abbrev pub FailedBy : ServeError W → List Exchange → Bool → Server S D A T P → Server S D A T P → Type 0
+  FailedBy e exchanges more s t =
+      ((more ≡ true) × Turns s (Err e) t)
+      ⊎ ((ended : Served) × (m : Server S D A T P) × EndedBy ended exchanges more s m × (t.pieces ≡ m.pieces)
+      × (t.service ≡ m.service) × ((why : Error) × (e ≡ Write why) × WasFlushed tells stretch m.answers (Err why) t.answers))
+
+  -- serving failed: exchanges, and then that
+  pub record Stops (s : Server S D A T P) (e : ServeError W) (t : Server S D A T P) : Type 0 where
+    pub exchanges : List Exchange
+    pub more : Bool
+    pub last : Server S D A T P
+    pub talked : Talked s exchanges more last
+    pub fails : FailedBy e exchanges more last t
+    pub taken : PiecesWent remaining g.most s.pieces (joined (λ x. x.bytes) exchanges) last.pieces
+    pub service : Converses item_of Answers s.service exchanges more last.service
+    pub along : WritesAlong tells stretch std_write_rules s.answers (joined (λ x. x.reply) exchanges) last.answers

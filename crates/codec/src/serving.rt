@@ -1,0 +1,128 @@
+//! Pieces are answered, one after another.
+ghost use Rattle.std.specs.Prelude.{ℕ, List, Bool, IfOk, IfErr};
+ghost use Rattle.codec.specs.Answering.{Answered};
+ghost use Rattle.codec.specs.Serving.{Ends, Serves, Stops, Turns, server};
+
+use crate::error::NextError;
+use crate::fetching::fetch_item;
+use crate::items::Items;
+use crate::reader::PieceReader;
+use buffer_redux::BufWriter;
+use buffer_redux::tell::{TellRead, TellWrite};
+use std::io;
+use std::io::Write;
+
+/// What answers the pieces of a protocol: a server, but for its streams.
+pub trait Service<D: Items> {
+    // What a piece makes of it: what it says, its payload, what is written for it, and whether a further piece is taken.
+    ghost answers: { Self → D.Item → List ℕ → List ℕ → Bool → Self → Type 0 };
+
+    /// Answers a piece, and says whether a further one is taken. It may write nothing, as to a part of a request. An `Err` is the
+    /// writer's: nothing of the answer was taken in then, and what the piece asked for is done.
+    fn answer<W: TellWrite>(
+        &mut self,
+        item: D::Item,
+        payload: &[u8],
+        writer: &mut BufWriter<W>,
+    ) -> io::Result<bool>
+        ensures { Answered W.log W.stretch (answers self.old item payload.now) writer.old result self.new writer.new };
+}
+
+/// Why serving ended.
+#[derive(Clone, Copy, PartialEq, Eq, Debug, Drop)]
+pub enum Served {
+    /// The service takes no further piece.
+    Closed,
+    /// The stream of pieces ended.
+    End,
+    /// At 2^64 - 1 pieces.
+    Many,
+}
+
+/// Why serving failed.
+#[derive(Debug, Drop)]
+pub enum ServeError<W> {
+    /// The stream of pieces failed. All answers were received and flushed, and [`serve`] may be called again.
+    Read(io::Error),
+    /// The stream of answers failed.
+    Write(io::Error),
+    /// What is left is no piece. It stays, and answers to what stood before it may be buffered still.
+    Wrong(W),
+}
+
+// What one turn was.
+#[derive(Clone, Copy, Drop)]
+pub enum Step {
+    Went,
+    Closed,
+    End,
+}
+
+/// Answers the pieces of a stream, one after another, up to its end or where `service` takes no further piece. Answers are
+/// flushed where the stream is asked for more, and only there, and once all is answered.
+///
+/// A piece is answered once, and the next one begins just behind it. After a [`ServeError::Read`] this may be called again, and
+/// goes on where it was, also in the middle of a piece.
+pub fn serve<R: TellRead, D: Items, W: TellWrite, S: Service<D>>(
+    service: &mut S,
+    reader: &mut PieceReader<R, D>,
+    writer: &mut BufWriter<W>,
+) -> Result<Served, ServeError<D::Wrong>>
+    ensures served { IfOk result (λ ended. Serves R.remaining W.log W.stretch (D.grammar reader.old.decoder)
+        (D.item_of reader.old.decoder) S.answers (server reader.old service.old writer.old) ended
+        (server reader.new service.new writer.new)) }
+    ensures failed { IfErr result (λ e. Stops R.remaining W.log W.stretch (D.grammar reader.old.decoder)
+        (D.item_of reader.old.decoder) S.answers (server reader.old service.old writer.old) e
+        (server reader.new service.new writer.new)) }
+{
+    let ended = answer_pieces(service, reader, writer)?;
+    match writer.flush() {
+        Ok(()) => Ok(ended),
+        Err(e) => Err(ServeError::Write(e)),
+    }
+}
+
+// Serves, but for the last flush.
+fn answer_pieces<R: TellRead, D: Items, W: TellWrite, S: Service<D>>(
+    service: &mut S,
+    reader: &mut PieceReader<R, D>,
+    writer: &mut BufWriter<W>,
+) -> Result<Served, ServeError<D::Wrong>>
+    ensures ended { IfOk result (λ ended. Ends R.remaining W.log W.stretch (D.grammar reader.old.decoder)
+        (D.item_of reader.old.decoder) S.answers (server reader.old service.old writer.old) ended
+        (server reader.new service.new writer.new)) }
+    ensures failed { IfErr result (λ e. Stops R.remaining W.log W.stretch (D.grammar reader.old.decoder)
+        (D.item_of reader.old.decoder) S.answers (server reader.old service.old writer.old) e
+        (server reader.new service.new writer.new)) }
+{
+    for _turn in 0..u64::MAX {
+        match turn(service, reader, writer)? {
+            Step::Went => {}
+            Step::Closed => return Ok(Served::Closed),
+            Step::End => return Ok(Served::End),
+        }
+    }
+    Ok(Served::Many)
+}
+
+// Takes one piece, and answers it.
+fn turn<R: TellRead, D: Items, W: TellWrite, S: Service<D>>(
+    service: &mut S,
+    reader: &mut PieceReader<R, D>,
+    writer: &mut BufWriter<W>,
+) -> Result<Step, ServeError<D::Wrong>>
+    ensures { Turns R.remaining W.log W.stretch (D.grammar reader.old.decoder) (D.item_of reader.old.decoder) S.answers
+        (server reader.old service.old writer.old) result (server reader.new service.new writer.new) }
+{
+    match fetch_item(reader, writer) {
+        Ok(Ok(Some(said))) => match service.answer(said.0, reader.lent(said.1), writer) {
+            Ok(true) => Ok(Step::Went),
+            Ok(false) => Ok(Step::Closed),
+            Err(e) => Err(ServeError::Write(e)),
+        },
+        Ok(Ok(None)) => Ok(Step::End),
+        Ok(Err(NextError::Io(e))) => Err(ServeError::Read(e)),
+        Ok(Err(NextError::Wrong(e))) => Err(ServeError::Wrong(e)),
+        Err(e) => Err(ServeError::Write(e)),
+    }
+}
