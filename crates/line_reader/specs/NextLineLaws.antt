@@ -8,7 +8,7 @@ use Rattle.codec.specs.NextPieceLaws.{NextPiece-ready, NextPiece-wrong}
 use Rattle.line_reader.specs.declared.error.LineError.TheVariants.{TooLong, Io}
 use Rattle.line_reader.specs.Lines.{newline, IsLine, BeginsTooLong, with_end}
 use Rattle.line_reader.specs.Lining.{Lining, lined, piecing, rest}
-use Rattle.line_reader.specs.NextLine.{NextAnswer, NextLine, piece_answer}
+use Rattle.line_reader.specs.NextLine.{IsHanded, NextAnswer, NextLine, piece_answer}
 use Rattle.line_reader.specs.SkipLine.{NextGoes, SkipsFirst, SkipsStill}
 
 -- an answer of a reader of pieces is of one answer
@@ -59,3 +59,17 @@ NextGoes-plain remaining s t answer open' goes =
     let Either : Bool → Type 0 =
     λ b. MatchBool b (SkipsFirst remaining s answer t ⊎ SkipsStill remaining s answer t) (NextLine remaining s answer t) in
     subst Either open' goes
+
+-- a line that was handed out had its end where the stream didn't end behind it, and else it had none
+module _ {S : Type 0} (s t : Lining S) (line bytes : List ℕ) (handed : IsHanded s line bytes t) where
+  pub IsHanded-end : t.ended ≡ false → bytes ≡ with_end line
+  IsHanded-end going = elim handed [
+    | inl whole ↦ whole.0
+    | inr last ↦ (let odd : true ≡ false = sym last.3 ∙ going in cc)
+  ]
+
+  pub IsHanded-last : t.ended ≡ true → bytes ≡ line
+  IsHanded-last ended = elim handed [
+    | inl whole ↦ (let odd : true ≡ false = sym ended ∙ whole.1 in cc)
+    | inr last ↦ last.0
+  ]

@@ -12,4 +12,5 @@ mod line;
 mod reader;
 
 pub use error::LineError;
+pub use line::trimmed;
 pub use reader::LineReader;

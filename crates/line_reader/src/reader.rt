@@ -6,9 +6,10 @@ ghost use Rattle.buffer_redux.specs.GrowError.{FitsWithin};
 ghost use Rattle.buffer_redux.specs.MakeError.{growth};
 ghost use Rattle.line_reader.specs.contracts.reader.LineReader.{the_row};
 ghost use Rattle.line_reader.specs.Lines.{BeginsTooLong, IsLine, newline};
+ghost use Rattle.codec.specs.Decoding.{IsLent, bytes_at};
 ghost use Rattle.codec.specs.Piecing.{IsOver, TakenApart};
-ghost use Rattle.line_reader.specs.Lining.{HasLine, IsLining, IsFresh, piecing, rest, room_for, with_stream};
-ghost use Rattle.line_reader.specs.NextLine.{NextBuffered, answer_of};
+ghost use Rattle.line_reader.specs.Lining.{HasLine, IsLining, IsFresh, lined, piecing, rest, room_for, with_stream};
+ghost use Rattle.line_reader.specs.NextLine.{NextBuffered, answer_of, load_answer};
 ghost use Rattle.line_reader.specs.SkipLine.{NextGoes, NextTrimmed, SkipsLine};
 
 mod steps;
@@ -17,7 +18,7 @@ use crate::error::LineError;
 use crate::line::{Lines, trimmed};
 use buffer_redux::tell::{Tell, TellRead};
 use buffer_redux::{Buffer, DEFAULT_BUF_SIZE, GrowError, MAX_CAPACITY, MakeError};
-use codec::PieceReader;
+use codec::{PieceReader, Span};
 use std::alloc::Global;
 use std::io;
 use std::marker::Model;
@@ -181,6 +182,26 @@ impl<R: Tell> LineReader<R> {
         self.skipping
     }
 
+    /// Whether the stream ended behind the line that was handed out or skipped last, which no call has told yet: then that line
+    /// lacked its end. It may be a part of a longer one, so who acts on lines asks this between [`step`](LineReader::step) and
+    /// [`lent`](LineReader::lent).
+    pub fn has_ended(&self) -> bool
+        ensures value { result ≡ self.now.ended }
+        ensures whole { IsLining self.now }
+    {
+        self.pieces.has_ended()
+    }
+
+    /// The line that the last [`step`](LineReader::step) went on to, without its end. [`trimmed`](crate::trimmed) takes a carriage
+    /// return off it. A place that an earlier step said is refused.
+    #[inline(always)]
+    pub fn lent(&self, span: Span) -> &[u8]
+        requires { IsLent (lined self.now.max) self.now.handed self.now.reader.block.bytes span }
+        ensures { result.now ≡ bytes_at span self.now.reader.block.bytes }
+    {
+        self.pieces.lent(span)
+    }
+
     /// The buffered bytes that weren't handed out.
     pub fn rest(&self) -> &[u8]
         ensures value { result.now ≡ rest self.now }
@@ -229,6 +250,20 @@ impl<R: TellRead> LineReader<R> {
         match self.load()? {
             Some(span) => Ok(Some(self.lent(span))),
             None => Ok(None),
+        }
+    }
+
+    /// Goes on to the next line as [`next`](LineReader::next) does, and returns where it is: [`lent`](LineReader::lent) shows it
+    /// until the next call. What is asked in between, as [`has_ended`](LineReader::has_ended), is asked while no line is lent.
+    #[inline(always)]
+    pub fn step(&mut self) -> Result<Option<Span>, LineError>
+        ensures next { NextGoes R.remaining self.old (load_answer result self.new) self.new }
+        ensures lends { IfOk result (λ found. IfSome found
+            (IsLent (lined self.new.max) self.new.handed self.new.reader.block.bytes)) }
+    {
+        match self.step_buffered() {
+            Some(span) => Ok(Some(span)),
+            None => self.load(),
         }
     }
 

@@ -20,16 +20,7 @@ use std::io::ErrorKind;
 const MOST_SKIPPED: u64 = 1 << 63;
 
 impl<R: Tell> LineReader<R> {
-    // The line that the last step handed out.
-    #[inline(always)]
-    pub(super) fn lent(&self, span: Span) -> &[u8]
-        requires { IsLent (lined self.now.max) self.now.handed self.now.reader.block.bytes span }
-        ensures { result.now ≡ bytes_at span self.now.reader.block.bytes }
-    {
-        self.pieces.lent(span)
-    }
-
-    // The same without the carriage return before its end; the last one has none.
+    // The line that the last step handed out, without the carriage return before its end; the last one has none.
     #[inline(always)]
     pub(super) fn shown(&self, span: Span) -> &[u8]
         requires { IsLent (lined self.now.max) self.now.handed self.now.reader.block.bytes span }
