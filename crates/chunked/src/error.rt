@@ -72,7 +72,7 @@ impl fmt::Display for Malformed {
 pub enum ChunkedError {
     /// What comes next is wrong. It stays in the buffered reader, and each further call returns the same.
     NotChunked(Malformed, u64),
-    /// The stream ended within the body.
+    /// The stream ended within the body. A further call asks it again, and goes on where more came.
     Truncated(u64),
     /// The stream failed. The call can be made again.
     Io(io::Error),

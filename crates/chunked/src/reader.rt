@@ -123,8 +123,8 @@ impl<R: Tell, P> ChunkedReader<R, P> {
 impl<R: TellRead, P: ReaderPolicy> ChunkedReader<R, P> {
     /// Hands out payload, at least a byte unless the body ended or the slice is empty.
     ///
-    /// What an `Err` says stays so: what is wrong, or missing, comes next at each further call. After an `Io` the call can be
-    /// made again, and goes on.
+    /// What is wrong stays buffered, and each further call says so. After a `Truncated` a further call asks the stream again, and
+    /// goes on where more came, as it does after an `Io`.
     pub fn read_payload(&mut self, out: &mut [u8]) -> Result<usize, ChunkedError>
         ensures bound { IfOk result (λ n. n ≤ length out.new) }
         ensures reads { ReadsPayload R.remaining P.rules self.old out.new result self.new }
