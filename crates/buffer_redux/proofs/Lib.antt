@@ -26,3 +26,4 @@ pub mod Utf8Fronts
 pub mod LineSteps
 pub mod ReadSteps
 pub mod LineSends
+pub mod Parts

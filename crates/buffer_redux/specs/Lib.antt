@@ -46,6 +46,7 @@ pub mod Unbuffer
 pub mod UnbufferLaws
 pub mod BufWriter
 pub mod WriteAll
+pub mod WriteParts
 pub mod WriteFmt
 pub mod Unwrapping
 pub mod LineWriter

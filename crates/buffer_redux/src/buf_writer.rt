@@ -26,6 +26,7 @@ use std::io::{ErrorKind, Seek, SeekFrom, Write};
 use std::marker::Model;
 use std::{fmt, io};
 
+mod parts;
 mod steps;
 mod tells;
 mod text;

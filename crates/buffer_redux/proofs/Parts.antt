@@ -1,0 +1,190 @@
+-- Parts that are taken in together.
+use Rattle.std.proofs.Common.{◌≡◌, ℕ, suc, ◌+◌, ◌-◌, ◌*◌, ◌/◌, ◌%◌, ◌<◌, ◌≤◌, List, [], ◌∷◌, ◌++◌, length, map, min, drop, get_or, Bor, Result, Ok, Err, IfErr, MatchResult, refl, sym, ap, subst, ◌∙◌, arith, inl, inr, add-one, drop-cons, append_assoc, append-nil, length-append, length-drop, le_refl}
+use Rattle.std.specs.Prelude.{◌⊎◌, ◌==◌, nat_le}
+use Rattle.std.specs.List.{concat}
+use Rattle.std.specs.declared.io.Error.{Error}
+use Rattle.std.proofs.lemmas.Bool.{cond_both, leb-false, leb-true}
+use Rattle.std.proofs.lemmas.List.{nil_from_length}
+use Rattle.std.proofs.lemmas.Nat.{div-add-mod'}
+use Rattle.redux_buffer.specs.Block.{Block, IsBlock, Kind, OnKind, Plain, Ring, Reserves, capacity_for, limit_of, needed_capacity, round, usable}
+use Rattle.redux_buffer.specs.Faults.{SendErrorCaused}
+use Rattle.redux_buffer.specs.GrowError.{GrowthFailed}
+use Rattle.redux_buffer.specs.LogGrows.{WriteLogGrows-none, WritesGoOn}
+use Rattle.redux_buffer.specs.StreamLog.{StreamLog}
+use Rattle.buffer_redux.specs.Buffered.{Buffered, with_block}
+use Rattle.buffer_redux.specs.BufWriter.{WasSent, WritesAlong}
+use Rattle.buffer_redux.specs.Policy.{std_write_rules}
+use Rattle.buffer_redux.specs.WriteParts.{MakesPlace, PutsIn, WritesParts}
+use Rattle.buffer_redux.specs.WritesAlongLaws.{WasSent-along, WritesAlong-joins, WritesAlong-then}
+
+-- the bytes of all parts
+abbrev pub all_of : List (Bor (List ℕ)) → List ℕ
+all_of parts = concat (map (λ part. part.now) parts)
+
+-- those from one part on
+pub from_part : (parts : List (Bor (List ℕ))) (at : ℕ) → at < length parts
+    → all_of (drop at parts) ≡ (get_or parts at (record { ref_ptr = (0, 0); now = [] })).now ++ all_of (drop (at + 1) parts)
+from_part parts at within = rw add-one (ap all_of (drop-cons parts at (record { ref_ptr = (0, 0); now = [] }) within))
+
+-- and behind one more
+pub one_more : (parts : List (Bor (List ℕ))) (at : ℕ) → at < length parts → (held all new : List ℕ)
+    → held ++ all_of (drop at parts) ≡ all → new ≡ held ++ (get_or parts at (record { ref_ptr = (0, 0); now = [] })).now
+    → new ++ all_of (drop (at + 1) parts) ≡ all
+one_more parts at within held all new is added =
+    let part = (get_or parts at (record { ref_ptr = (0, 0); now = [] })).now in
+    let rest = all_of (drop (at + 1) parts) in
+    ap (λ l. l ++ rest) added ∙ append_assoc held part rest ∙ ap (λ l. held ++ l) (sym (from_part parts at within)) ∙ is
+
+pub none_from : (parts : List (Bor (List ℕ))) (at : ℕ) → length parts ≤ at → all_of (drop at parts) ≡ []
+none_from parts at past =
+    ap all_of (nil_from_length (drop at parts) (omega (arith, past, length-drop {A = Bor (List ℕ)} at parts)))
+
+-- bytes fit where there is room for as many, or for the greatest number
+limit_small : (k : Kind) → limit_of k ≤ 4611686018427387904
+limit_small Plain = omega arith
+limit_small Ring = omega arith
+
+pub fits_of : (b : Block) → IsBlock b → (n count : ℕ) → count ≡ min n 18446744073709551615 → count ≤ usable b → n ≤ usable b
+fits_of b whole n count is fit = omega (arith, is, fit, whole.fits, whole.limit, whole.most, limit_small b.kind)
+
+-- a growth lowers no capacity, and makes room for so many bytes
+abbrev Roomy : Block → ℕ → ℕ → Type 0
+Roomy b a c = (b.capacity ≤ c) × (a ≤ usable b + (c - b.capacity))
+
+ring_grows : (held room capacity a : ℕ) → held + room ≡ capacity → room < a
+    → (capacity ≤ round (held + a)) × (a ≤ room + (round (held + a) - capacity))
+ring_grows held room capacity a all few =
+    let up = div-add-mod' (held + a + 4095) 4096 in
+    let rest : (held + a + 4095) % 4096 < 4096 = omega arith in
+    (omega (arith, all, few, up, rest), omega (arith, all, few, up, rest))
+
+grows : (k : Kind) (b : Block) (a : ℕ) → b.kind ≡ k → IsBlock b → usable b < a → Roomy b a (needed_capacity b a)
+grows Plain b a is whole few = rw is (cond_both (length b.bytes == 0) (b.capacity + a) (b.capacity - usable b + a)
+    (Roomy b a) (λ _. (omega arith, omega arith))
+    (λ _. (omega (arith, whole.fits, few), omega (arith, whole.fits, few))))
+grows Ring b a is whole few = rw is (ring_grows (length b.bytes) (usable b) b.capacity a
+    (subst (λ k. OnKind k (length b.bytes ≡ 0 → usable b ≡ b.capacity) (length b.bytes + usable b ≡ b.capacity)) is
+    whole.space) few)
+
+roomy : (b : Block) (a : ℕ) → IsBlock b → Roomy b a (capacity_for b a)
+roomy b a whole = cond_both (nat_le a (usable b)) b.capacity (needed_capacity b a) (Roomy b a)
+    (λ yes. (le_refl _, omega (arith, leb-true a (usable b) yes)))
+    (λ no. grows b.kind b a refl whole (leb-false a (usable b) no))
+
+module _ {S P : Type 0} (tells : S → StreamLog) (stretch : S → S → Type 0) (none : (u : S) → stretch u u) where
+  -- what touches the buffer alone, and has these bytes behind it
+  block_along : (s t : Buffered S P) (bytes : List ℕ) → t ≡ with_block s t.block → t.block.bytes ≡ s.block.bytes ++ bytes
+      → s.block.capacity ≤ t.block.capacity → t.block.kind ≡ s.block.kind
+      → WritesAlong tells stretch std_write_rules s bytes t
+  block_along s t bytes same is up kind = subst (WritesAlong tells stretch std_write_rules s bytes) (sym same) (record {
+    in_order = record { sent = []; received = sym (append-nil s.log.writes.received); equal = is };
+    calls = none s.inner;
+    told = λ told. told;
+    noted = refl;
+    grows = WriteLogGrows-none s.log.writes;
+    capacity = up;
+    kind = kind;
+    claims = refl;
+  })
+
+  put_along : (s t : Buffered S P) (bytes : List ℕ) → PutsIn bytes s.block t.block → t ≡ with_block s t.block
+      → WritesAlong tells stretch std_write_rules s bytes t
+  put_along s t bytes p others = block_along s t bytes others p.bytes (omega (arith, p.capacity)) p.kind
+
+  -- where they fit nothing else is done
+  pub parts_fit : (s t : Buffered S P) (bytes : List ℕ) → PutsIn bytes s.block t.block → t ≡ with_block s t.block
+      → WritesParts tells stretch s bytes (Ok tt) t
+  parts_fit s t bytes p others = record {
+    along = put_along s t bytes p others;
+    fits = λ _. (refl, ap (λ x. x.log) others);
+    calls = inl (ap (λ x. x.log) others);
+    caused = tt;
+    whole = p.whole;
+  }
+
+  -- what was sent before, and the room that there is then, or none
+  pub place_made : (s m t : Buffered S P) (count : ℕ) (x y : Unit {0}) → WasSent tells stretch s (Ok x) m
+      → Reserves count m.block t.block → t ≡ with_block m t.block → IsBlock t.block → MakesPlace tells stretch count s (Ok y) t
+  place_made s m t count x y sent grown others whole =
+      let up = roomy m.block count sent.whole in record {
+        sending = Ok x;
+        left = m;
+        sent = sent;
+        others = others;
+        kept = record { bytes = grown.bytes; capacity = omega (arith, up.0, grown.capacity); kind = grown.kind };
+        room = omega (arith, up.1, grown.usable, grown.capacity);
+        unsent = λ e is. (let odd : ◌≡◌ {A = Result (Unit {0}) Error} (Ok x) (Err e) = is in cc);
+        refused = λ x is. tt;
+        whole = whole;
+      }
+
+  pub place_refused : (s m : Buffered S P) (count : ℕ) (x : Unit {0}) (e : Error) → WasSent tells stretch s (Ok x) m
+      → GrowthFailed count m.block e → MakesPlace tells stretch count s (Err e) m
+  place_refused s m count x e sent failed = record {
+    sending = Ok x;
+    left = m;
+    sent = sent;
+    others = refl;
+    kept = record { bytes = refl; capacity = le_refl _; kind = refl };
+    room = tt;
+    unsent = λ e is. (let odd : ◌≡◌ {A = Result (Unit {0}) Error} (Ok x) (Err e) = is in cc);
+    refused = λ x is. failed;
+    whole = sent.whole;
+  }
+
+  pub place_unsent : (s t : Buffered S P) (count : ℕ) (e : Error) → WasSent tells stretch s (Err e) t
+      → MakesPlace tells stretch count s (Err e) t
+  place_unsent s t count e sent = record {
+    sending = Err e;
+    left = t;
+    sent = sent;
+    others = refl;
+    kept = record { bytes = refl; capacity = le_refl _; kind = refl };
+    room = tt;
+    unsent = λ why is. (let same : ◌≡◌ {A = Result (Unit {0}) Error} (Err e) (Err why) = is in let back : why ≡ e = cc in back);
+    refused = λ x is. (let odd : ◌≡◌ {A = Result (Unit {0}) Error} (Err e) (Ok x) = is in cc);
+    whole = sent.whole;
+  }
+
+  module _ (joins : (u v w : S) → stretch u v → stretch v w → stretch u w)
+      (goes : (u v : S) → stretch u v → WritesGoOn (tells u) (tells v)) where
+    -- what was sent before
+    place_along : (s t : Buffered S P) (count : ℕ) (answer : Result (Unit {0}) Error) → MakesPlace tells stretch count s answer t
+        → WritesAlong tells stretch std_write_rules s [] t
+    place_along s t count answer p = WritesAlong-then tells stretch std_write_rules joins s p.left t []
+        (WasSent-along tells stretch std_write_rules goes s p.sending p.left p.sent)
+        (block_along p.left t [] p.others (p.kept.bytes ∙ sym (append-nil p.left.block.bytes)) p.kept.capacity p.kept.kind)
+
+    -- and then there was room
+    pub parts_moved : (s m t : Buffered S P) (count : ℕ) (bytes : List ℕ) → usable s.block < length bytes
+        → MakesPlace tells stretch count s (Ok tt) m → PutsIn bytes m.block t.block → t ≡ with_block m t.block
+        → WritesParts tells stretch s bytes (Ok tt) t
+    parts_moved s m t count bytes few p put others = record {
+      along = WritesAlong-joins tells stretch std_write_rules joins s m t [] bytes (place_along s m count (Ok tt) p)
+          (put_along m t bytes put others);
+      fits = λ fit. absurd (omega (arith, fit, few));
+      calls = inr (p.sending, p.left, p.sent, ap (λ x. x.log) others ∙ ap (λ x. x.log) p.others);
+      caused = tt;
+      whole = put.whole;
+    }
+
+    -- or none
+    pub parts_failed : (s t : Buffered S P) (count : ℕ) (bytes : List ℕ) (e : Error) → usable s.block < length bytes
+        → count ≤ length bytes → MakesPlace tells stretch count s (Err e) t → WritesParts tells stretch s bytes (Err e) t
+    parts_failed s t count bytes e few within p = record {
+      along = place_along s t count (Err e) p;
+      fits = λ fit. absurd (omega (arith, fit, few));
+      calls = inr (p.sending, p.left, p.sent, ap (λ x. x.log) p.others);
+      caused = failed p.sending refl;
+      whole = p.whole;
+    }
+      where
+        failed : (sending : Result (Unit {0}) Error) → p.sending ≡ sending
+            → SendErrorCaused s.log.writes t.log.writes e ⊎ ((n : ℕ) × (n ≤ length bytes) × GrowthFailed n t.block e)
+        failed (Ok x) is = inr (count, within, p.refused x is)
+        failed (Err why) is =
+            let same = p.unsent why is in
+            let cause : SendErrorCaused s.log.writes p.left.log.writes why =
+            subst (λ a. IfErr a (λ e. SendErrorCaused s.log.writes p.left.log.writes e)) is p.sent.caused in
+            inl (subst (λ x. SendErrorCaused s.log.writes x.log.writes e) (sym p.others)
+            (subst (SendErrorCaused s.log.writes p.left.log.writes) same cause))

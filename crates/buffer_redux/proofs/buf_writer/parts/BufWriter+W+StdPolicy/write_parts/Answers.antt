@@ -1,0 +1,43 @@
+use Rattle.std.proofs.Common.{◌<◌, ap, arith, length, refl}
+use Rattle.redux_buffer.specs.Block.{usable}
+use Rattle.buffer_redux.proofs.Parts.{all_of, fits_of, parts_failed, parts_fit, parts_moved}
+use Rattle.buffer_redux.proofs.buf_writer.parts.BufWriter+W+StdPolicy.write_parts.Goals as goal
+
+pub append_parts-requires-clause-room : goal.append_parts-requires-clause-room
+append_parts-requires-clause-room g c =
+    fits_of c.self.inside.buf c.usable_space.ensures.whole _ c.total-len.result c.total-len.ensures
+    (omega (arith, c.if-usable_space-len.true, c.usable_space.ensures.value))
+
+pub append_parts-requires-in-Ok-clause-room : goal.append_parts-requires-in-Ok-clause-room
+append_parts-requires-in-Ok-clause-room g c =
+    fits_of c.self-2.inside.buf c.self-2.invariant _ c.total-len.result c.total-len.ensures
+    (omega (arith, c.in-Ok.ensures.room, ap (λ x. usable x.block) c.self-2.view_is))
+
+pub returns-then-usable_space-len : goal.returns-then-usable_space-len
+returns-then-usable_space-len g c = parts_fit _ _ g.met.W.TellWrite.stretch_none c.args.self.now _ _
+    (rw (← c.self.view_is) c.append_parts.ensures) (rw (← c.self.view_is) refl)
+
+pub returns-in-Ok : goal.returns-in-Ok
+returns-in-Ok g c =
+    let few : usable c.args.self.now.block < length (all_of c.args.parts.now) = omega (
+      arith,
+      c.if-usable_space-len.false,
+      c.usable_space.ensures.value,
+      c.total-len.ensures,
+      ap (λ x. usable x.block) c.self.view_is,
+    ) in
+    parts_moved _ _ g.met.W.TellWrite.stretch_none g.met.W.TellWrite.stretch_joins g.met.W.TellWrite.stretch_grows c.args.self.now
+    c.make_place.new.self _ c.total-len.result _ few c.in-Ok.ensures
+    (rw (← c.self-2.view_is) c.append_parts-in-Ok.ensures) (rw (← c.self-2.view_is) refl)
+
+pub returns-in-Err : goal.returns-in-Err
+returns-in-Err g c =
+    let few : usable c.args.self.now.block < length (all_of c.args.parts.now) = omega (
+      arith,
+      c.if-usable_space-len.false,
+      c.usable_space.ensures.value,
+      c.total-len.ensures,
+      ap (λ x. usable x.block) c.self.view_is,
+    ) in
+    parts_failed _ _ g.met.W.TellWrite.stretch_none g.met.W.TellWrite.stretch_joins g.met.W.TellWrite.stretch_grows
+    c.args.self.now c.make_place.new.self c.total-len.result _ c.in-Err.e few (omega (arith, c.total-len.ensures)) c.in-Err.ensures

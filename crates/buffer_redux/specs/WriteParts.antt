@@ -1,0 +1,48 @@
+-- What a write of parts does.
+use Rattle.std.specs.Prelude.{◌≡◌, ℕ, ◌≤◌, ◌⊎◌, List, [], ◌++◌, length, Result, Ok, Err, MatchResult, IfErr, IsOk, OnOk}
+use Rattle.std.specs.declared.io.Error.{Error}
+use Rattle.redux_buffer.specs.Block.{Block, IsBlock, usable}
+use Rattle.redux_buffer.specs.Faults.{SendErrorCaused}
+use Rattle.redux_buffer.specs.GrowError.{GrowthFailed}
+use Rattle.redux_buffer.specs.StreamLog.{StreamLog}
+use Rattle.buffer_redux.specs.Buffered.{Buffered, with_block}
+use Rattle.buffer_redux.specs.BufWriter.{WasSent, WritesAlong}
+use Rattle.buffer_redux.specs.Policy.{std_write_rules}
+
+-- the same bytes, in a buffer that is no smaller
+pub record KeepsBytes (old new : Block) : Type 0 where
+  pub bytes : new.bytes ≡ old.bytes
+  pub capacity : old.capacity ≤ new.capacity
+  pub kind : new.kind ≡ old.kind
+
+-- these bytes were copied in behind those that were there
+pub record PutsIn (put : List ℕ) (old new : Block) : Type 0 where
+  pub bytes : new.bytes ≡ old.bytes ++ put
+  pub capacity : new.capacity ≡ old.capacity
+  pub kind : new.kind ≡ old.kind
+  pub whole : IsBlock new
+
+module _ {S P : Type 0} (tells : S → StreamLog) (stretch : S → S → Type 0) where
+  -- all that was buffered was sent, and then there was room for so many bytes, or it was refused
+  pub record MakesPlace (count : ℕ) (s : Buffered S P) (answer : Result (Unit {0}) Error) (t : Buffered S P) : Type 0 where
+    pub sending : Result (Unit {0}) Error
+    pub left : Buffered S P
+    pub sent : WasSent tells stretch s sending left
+    pub others : t ≡ with_block left t.block
+    pub kept : KeepsBytes left.block t.block
+    pub room : OnOk answer (count ≤ usable t.block)
+    pub unsent : (e : Error) → sending ≡ Err e → IfErr answer (λ why. e ≡ why)
+    pub refused : (x : Unit {0}) → sending ≡ Ok x → IfErr answer (λ e. GrowthFailed count t.block e)
+    pub whole : IsBlock t.block
+
+  -- all of these bytes were taken in, or nothing was; where they fit the inner writer isn't called, and else what was buffered
+  -- is sent, once
+  pub record WritesParts (s : Buffered S P) (bytes : List ℕ) (answer : Result (Unit {0}) Error) (t : Buffered S P) : Type 0 where
+    pub along : MatchResult answer (λ _. WritesAlong tells stretch std_write_rules s bytes t)
+        (λ e. WritesAlong tells stretch std_write_rules s [] t)
+    pub fits : length bytes ≤ usable s.block → IsOk answer × (t.log ≡ s.log)
+    pub calls : (t.log ≡ s.log)
+        ⊎ ((sending : Result (Unit {0}) Error) × (left : Buffered S P) × WasSent tells stretch s sending left × (t.log ≡ left.log))
+    pub caused : IfErr answer (λ e. SendErrorCaused s.log.writes t.log.writes e
+        ⊎ ((count : ℕ) × (count ≤ length bytes) × GrowthFailed count t.block e))
+    pub whole : IsBlock t.block
