@@ -498,9 +498,11 @@ END
     refused decode "$scratch/body" "$payload"
 }
 
-# A command that stands at the end of a line which is too long is none, whichever read within that line is interrupted or fails.
+# A command that stands at the end of a line which is too long is none, whichever read within that line is interrupted or fails;
+# nor is the last line one where it lacks its end.
 run_kv_server() {
     turns '' crates/kv_server/stdin crates/kv_server/stdout
+    gives '' 'SET foo 1\nSET foobar 2\nDEL foo' 'OK\nOK\nERROR cut line\n'
     command="SET a $(printf %02200d 0)SET evil 1\\nGET evil\\n"
     reads=
     for at in 1 2 3 4 5 6; do

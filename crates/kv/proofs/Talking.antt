@@ -1,5 +1,5 @@
 use Rattle.std.specs.declared.io.Error.{Error}
-use Rattle.std.proofs.Common.{◌≡◌, ◌⊎◌, ℕ, List, [], ◌∷◌, Option, inl, inr, refl, subst}
+use Rattle.std.proofs.Common.{◌≡◌, ◌⊎◌, ℕ, List, [], ◌∷◌, Option, false, inl, inr, refl, subst}
 use Rattle.buffer_redux.specs.Buffered.{Buffered}
 use Rattle.buffer_redux.specs.BufWriter.{WritesAlong}
 use Rattle.kv.specs.Replies.{ReplyFailed}
@@ -11,8 +11,8 @@ use Rattle.line_reader.specs.CallsLaws.{LinesAlong-joins, LinesAlong-none}
 use Rattle.line_reader.specs.Lines.{IsLine}
 use Rattle.line_reader.specs.Lining.{Lining, rest}
 use Rattle.kv.specs.Exchange.{Converses, Exchange, joined}
-use Rattle.kv.specs.Exchange.{HasQuit}
-use Rattle.kv.specs.Serving.{EndedBy, Fails, IsSent, OnceSent, Server, Stops, Talked, server}
+use Rattle.kv.specs.Exchange.{HasCommand, HasQuit}
+use Rattle.kv.specs.Serving.{EndedBy, Fails, IsSent, OnceSent, Server, Stops, Takes, Talked, server}
 use Rattle.kv.specs.declared.serving.Served.{Served}
 use Rattle.kv.proofs.Keys.{same_of}
 
@@ -54,6 +54,13 @@ module _ {S T P : Type 0} (remaining : S → Option (List ℕ)) (tells : T → S
   Talked-converses [] t same = subst (λ t. Converses s.values [] t.values) same (same_of s.values s.values refl)
   Talked-converses (x ∷ earlier) t (m, talked, goes, turn) =
       (m.values, Talked-converses earlier m talked, goes, turn.done.is, turn.done.answers)
+
+  -- where the latest was a command, its end came
+  pub Talked-ended : (exchanges : List Exchange) (t : Server S T P) → Talked remaining tells stretch s exchanges t
+      → HasCommand exchanges → t.commands.ended ≡ false
+  Talked-ended [] t same has = absurd has
+  Talked-ended (x ∷ earlier) t (m, talked, goes, turn) (line, is) =
+      (subst (λ l. Takes remaining m.commands l t.commands) is turn.done.takes).1
 
   -- and wrote just the replies
   pub Talked-along : ((u : T) → stretch u u) → ((u v w : T) → stretch u v → stretch v w → stretch u w)

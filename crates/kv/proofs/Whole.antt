@@ -5,18 +5,17 @@ use Rattle.std.proofs.lemmas.Bool.{cases_lt}
 use Rattle.std.proofs.lemmas.List.{nil_from_length}
 use Rattle.buffer_redux.specs.StreamLog.{StreamLog}
 use Rattle.line_reader.specs.declared.error.LineError.TheVariants.{TooLong}
-use Rattle.line_reader.specs.Calls.{Call, CallsGo, NextsTrimmed, Skips}
+use Rattle.line_reader.specs.Calls.{Call, CallsGo, Nexts, NextsTrimmed, Skips}
 use Rattle.line_reader.specs.KnownCallsLaws.{CallsGo-takes, HasLeft-of, LeavesBehind-of}
 use Rattle.line_reader.specs.KnownLines.{HasLeft, ahead_of}
 use Rattle.line_reader.specs.KnownLinesLaws.{none_of}
 use Rattle.line_reader.specs.Lines.{HasLines, newline}
 use Rattle.line_reader.specs.LinesLaws.{line_or_end}
 use Rattle.line_reader.specs.Lining.{Lining}
-use Rattle.line_reader.specs.NextLine.{NextAnswer, NextLine, Trims}
+use Rattle.line_reader.specs.NextLine.{NextLine}
 use Rattle.line_reader.specs.NextLineLaws.{NextGoes-plain}
-use Rattle.line_reader.specs.SkipLine.{NextGoes}
 use Rattle.line_reader.specs.TextLaws.{Lines-none, lines-ended, lines-last, lines-none}
-use Rattle.kv.specs.Exchange.{Exchange, HasQuit, IsMany}
+use Rattle.kv.specs.Exchange.{Cut, Exchange, HasQuit, IsMany, Line, Long, Shown}
 use Rattle.kv.specs.Serving.{EndedBy, Server, Takes, Talked}
 use Rattle.kv.specs.declared.serving.Served.{Served}
 use Rattle.kv.specs.declared.serving.Served.TheVariants.{End, Many, Quit}
@@ -38,11 +37,6 @@ has_lines (suc most) text few = elim (line_or_end text) [
       )
 ]
 
-trims_none : {S : Type 0} (whole : NextAnswer) (t : Lining S) → Trims whole (Ok None) t → whole ≡ Ok None
-trims_none (Ok (Some line)) t trims = absurd trims
-trims_none (Ok None) t trims = refl
-trims_none (Err e) t trims = sym trims
-
 module _ {S : Type 0} (remaining : S → Option (List ℕ)) where
   goes_joins : (s m t : Lining S) (first then : List Call) → CallsGo remaining s first m → CallsGo remaining m then t
       → CallsGo remaining s (first ++ then) t
@@ -51,12 +45,13 @@ module _ {S : Type 0} (remaining : S → Option (List ℕ)) where
       (between, went, goes_joins between m t first then run later)
 
   -- a line is taken by calls of the reader
-  takes_calls : (s : Lining S) (line : Option (List ℕ)) (t : Lining S) → Takes remaining s line t
+  takes_calls : (s : Lining S) (line : Line) (t : Lining S) → Takes remaining s line t
       → (calls : List Call) × CallsGo remaining s calls t
-  takes_calls s (Some line) t next = (NextsTrimmed (Ok (Some line)) ∷ [], (t, next, refl))
-  takes_calls s None t (count, (m, inl (max, next), skips)) =
-      (NextsTrimmed (Err (TooLong max)) ∷ Skips (Ok count) ∷ [], (m, next, (t, skips, refl)))
-  takes_calls s None t (count, (m, inr (skipping, same), skips)) = (
+  takes_calls s (Shown line) t (next, whole) = (NextsTrimmed (Ok (Some line)) ∷ [], (t, next, refl))
+  takes_calls s (Cut line) t (next, cut) = (Nexts (Ok (Some line)) ∷ [], (t, next, refl))
+  takes_calls s Long t (count, (m, inl (max, next), skips)) =
+      (Nexts (Err (TooLong max)) ∷ Skips (Ok count) ∷ [], (m, next, (t, skips, refl)))
+  takes_calls s Long t (count, (m, inr (skipping, same), skips)) = (
     Skips (Ok count) ∷ [],
     subst (λ x. CallsGo remaining x (Skips (Ok count) ∷ []) t) (sym same) (t, skips, refl),
   )
@@ -86,8 +81,7 @@ module _ {S T P : Type 0} (remaining : S → Option (List ℕ)) (tells : T → S
       let took = CallsGo-takes remaining s.commands calls.0 last.commands calls.1 [] has.0
       (LeavesBehind-of remaining s.commands has.0 (begins has.0 has.1)) in
       let left = HasLeft-of remaining last.commands took.before took.later open' took.left in
-      let line : NextLine remaining last.commands (Ok None) t = NextGoes-plain remaining last.commands t (Ok None) open'
-      (subst (λ w. NextGoes remaining last.commands w t) (trims_none next.whole t next.trims) next.next) in
+      let line : NextLine remaining last.commands (Ok None) t = NextGoes-plain remaining last.commands t (Ok None) open' next in
       let a = line.answers in
       let end = none_of remaining last.commands t (Ok None) line took.later left a.0 a.1 a.3 a.4 in
       let nothing = Lines-none left.text (subst (HasLines left.text) end.0 left.has) in

@@ -10,8 +10,8 @@ use Rattle.line_reader.specs.declared.error.LineError.TheVariants.{TooLong, Io}
 use Rattle.line_reader.specs.Calls.{LinesAlong}
 use Rattle.line_reader.specs.Lines.{IsLine}
 use Rattle.line_reader.specs.Lining.{Lining, rest}
-use Rattle.line_reader.specs.SkipLine.{NextTrimmed, SkipsLine}
-use Rattle.kv.specs.Exchange.{Answers, Exchange, HasQuit, IsMany, IsTaken, joined}
+use Rattle.line_reader.specs.SkipLine.{NextGoes, NextTrimmed, SkipsLine}
+use Rattle.kv.specs.Exchange.{Answers, Exchange, HasQuit, IsMany, IsTaken, Line, Shown, Cut, Long, joined}
 use Rattle.kv.specs.Protocol.{quit_line}
 use Rattle.kv.specs.Replies.{Replied, ReplyFailed}
 use Rattle.kv.specs.Stored.{Values}
@@ -34,28 +34,29 @@ abbrev pub IsSent : {T P : Type 0} → Buffered T P → Type 0
 IsSent w = (w.block.bytes ≡ []) × (w.log.writes.flushed ≡ w.log.writes.received)
 
 -- which step it is to answer this line: it is `QUIT`, or another
-abbrev pub IsStep : Option (List ℕ) → Step → Type 0
-IsStep line step.Went = ¬ (line ≡ Some quit_line)
-IsStep line step.Quit = line ≡ Some quit_line
+abbrev pub IsStep : Line → Step → Type 0
+IsStep line step.Went = ¬ (line ≡ Shown quit_line)
+IsStep line step.Quit = line ≡ Shown quit_line
 IsStep line step.End = ⊥
 
 module _ {S : Type 0} (remaining : S → Option (List ℕ)) where
   -- a line that is too long stands in front, or one was being skipped; and that is skipped, or fails
   abbrev pub SkipsLong : Lining S → Result ℕ Error → Lining S → Type 0
   SkipsLong s answer t = (between : Lining S)
-      × (((max : ℕ) × NextTrimmed remaining s (Err (TooLong max)) between) ⊎ ((s.skipping ≡ true) × (s ≡ between)))
+      × (((max : ℕ) × NextGoes remaining s (Err (TooLong max)) between) ⊎ ((s.skipping ≡ true) × (s ≡ between)))
       × SkipsLine remaining between answer t
 
-  -- this line was taken
-  abbrev pub Takes : Lining S → Option (List ℕ) → Lining S → Type 0
-  Takes s (Some line) t = NextTrimmed remaining s (Ok (Some line)) t
-  Takes s None t = (count : ℕ) × SkipsLong s (Ok count) t
+  -- this line was taken: what is shown had its end, and what was cut off had none
+  abbrev pub Takes : Lining S → Line → Lining S → Type 0
+  Takes s (Shown line) t = NextTrimmed remaining s (Ok (Some line)) t × (t.ended ≡ false)
+  Takes s (Cut line) t = NextGoes remaining s (Ok (Some line)) t × (t.ended ≡ true)
+  Takes s Long t = (count : ℕ) × SkipsLong s (Ok count) t
 
   -- what became of the reader at the end
   abbrev pub EndedBy : Served → List Exchange → Lining S → Lining S → Type 0
   EndedBy served.Quit exchanges s t = (s ≡ t) × HasQuit exchanges
   EndedBy served.End exchanges s t =
-      NextTrimmed remaining s (Ok None) t × ¬ (HasQuit exchanges) × (s.skipping ≡ false)
+      NextGoes remaining s (Ok None) t × ¬ (HasQuit exchanges) × (s.skipping ≡ false)
   EndedBy served.Many exchanges s t = (s ≡ t) × ¬ (HasQuit exchanges) × IsMany exchanges
 
 module _ {S T P : Type 0} (remaining : S → Option (List ℕ)) (tells : T → StreamLog) (stretch : T → T → Type 0) where
@@ -70,7 +71,7 @@ module _ {S T P : Type 0} (remaining : S → Option (List ℕ)) (tells : T → S
   -- what a turn does, and which step it was
   abbrev pub Does : Server S T P → Step → Server S T P → Type 0
   Does s step.End t =
-      NextTrimmed remaining s.commands (Ok None) t.commands × (s.values ≡ t.values) × (s.replies ≡ t.replies)
+      NextGoes remaining s.commands (Ok None) t.commands × (s.values ≡ t.values) × (s.replies ≡ t.replies)
       × (s.commands.skipping ≡ false)
   Does s done t = (x : Exchange) × TookLine s x t × IsStep x.line done
 
@@ -84,9 +85,9 @@ module _ {S T P : Type 0} (remaining : S → Option (List ℕ)) (tells : T → S
   -- a turn fails: no line was taken, as the stream failed, and nothing was done; or the reply to one couldn't be written
   abbrev pub Fails : Server S T P → Error → Server S T P → Type 0
   Fails s e t =
-      ((NextTrimmed remaining s.commands (Err (Io e)) t.commands ⊎ SkipsLong remaining s.commands (Err e) t.commands)
+      ((NextGoes remaining s.commands (Err (Io e)) t.commands ⊎ SkipsLong remaining s.commands (Err e) t.commands)
       × (s.values ≡ t.values) × (s.replies ≡ t.replies))
-      ⊎ ((line : Option (List ℕ)) × Takes remaining s.commands line t.commands
+      ⊎ ((line : Line) × Takes remaining s.commands line t.commands
       × (reply : List ℕ) × Answers s.values line reply t.values
       × ReplyFailed tells stretch s.replies e t.replies)
 

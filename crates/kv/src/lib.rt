@@ -1,4 +1,4 @@
-//! A key-value server over lines: each command gets its reply, and none is lost.
+//! A key-value server over lines: each command gets its reply, none is lost, and none is done that was cut off.
 #![tactic(auto)]
 
 mod command;

@@ -1,10 +1,11 @@
 //! Lines are taken, one after another, and answered.
-ghost use Rattle.std.specs.Prelude.{◌≡◌, ◌+◌, ◌++◌, ◌∷◌, ◌⊎◌, ℕ, List, [], Some, take, drop, OnOk, IfOk, IfErr, IfNone, IfSome, IsTrue, false};
+ghost use Rattle.std.specs.Prelude.{◌≡◌, ◌+◌, ◌++◌, ◌∷◌, ◌⊎◌, ℕ, List, [], take, drop, OnOk, IfOk, IfErr, IfNone, IfSome, IsTrue, false, codes};
 ghost use Rattle.line_reader.specs.Lines.{IsLine, newline};
 ghost use Rattle.line_reader.specs.Lining.{rest};
-ghost use Rattle.kv.specs.Exchange.{Answers};
+ghost use Rattle.kv.specs.Exchange.{Answers, Shown};
 ghost use Rattle.kv.specs.Serving.{AnswersLong, Ends, IsSent, IsStep, Serves, Stops, Turns, server};
 ghost use Rattle.kv.specs.Replies.{FlushesAll, Replied};
+ghost use Rattle.kv.specs.declared.serving.Step.TheVariants.{Went};
 ghost use Rattle.kv.specs.Stored.{held};
 
 use crate::command::{Command, parse};
@@ -12,7 +13,7 @@ use crate::reply::{act, put};
 use crate::store::Store;
 use buffer_redux::tell::{TellRead, TellWrite};
 use buffer_redux::{BufWriter, INTERRUPT_LIMIT};
-use line_reader::{LineError, LineReader};
+use line_reader::{LineError, LineReader, trimmed};
 use memchr::memchr;
 use std::alloc::Global;
 use std::io;
@@ -40,8 +41,9 @@ pub enum Served {
     Many,
 }
 
-/// Reads commands and writes their replies, up to `QUIT` or the end of the stream. Replies are flushed where no further
-/// line is buffered whole. After an `Err` of the stream of commands, as each `Interrupted` is, it may be called again, and
+/// Reads commands and writes their replies, up to `QUIT` or the end of the stream. A last line that lacks its end is answered
+/// `ERROR cut line` and not done, since it may be a part of a longer one. Replies are flushed where no further line is buffered
+/// whole. After an `Err` of the stream of commands, as each `Interrupted` is, it may be called again, and
 /// goes on where it was: no `QUIT` was taken.
 pub fn serve<R: TellRead, W: TellWrite>(
     alloc: Global,
@@ -128,8 +130,13 @@ fn turn<R: TellRead, W: TellWrite>(
     if reader.is_skipping() {
         return answer_long(reader, writer);
     }
-    match reader.next_trimmed() {
-        Ok(Some(line)) => answer(alloc, line, store, writer),
+    match reader.step() {
+        Ok(Some(span)) => {
+            if reader.has_ended() {
+                return answer_cut(writer);
+            }
+            answer(alloc, trimmed(reader.lent(span)), store, writer)
+        }
         Ok(None) => Ok(Step::End),
         Err(LineError::Io(e)) => Err(e),
         Err(LineError::TooLong(_)) => answer_long(reader, writer),
@@ -143,9 +150,9 @@ fn answer<W: TellWrite>(
     store: &mut Store,
     writer: &mut BufWriter<W>,
 ) -> io::Result<Step>
-    ensures answered { (reply : List ℕ) × Answers (held store.old) (Some line.now) reply (held store.new)
+    ensures answered { (reply : List ℕ) × Answers (held store.old) (Shown line.now) reply (held store.new)
         × Replied W.log W.stretch writer.old reply result writer.new }
-    ensures step { IfOk result (IsStep (Some line.now)) }
+    ensures step { IfOk result (IsStep (Shown line.now)) }
 {
     let command = parse(line);
     act(alloc, command, store, writer)?;
@@ -153,6 +160,15 @@ fn answer<W: TellWrite>(
         Ok(Command::Quit) => Ok(Step::Quit),
         _ => Ok(Step::Went),
     }
+}
+
+// Answers a line that lacks its end.
+fn answer_cut<W: TellWrite>(writer: &mut BufWriter<W>) -> io::Result<Step>
+    ensures written { Replied W.log W.stretch writer.old (codes "ERROR cut line\n") result writer.new }
+    ensures step { IfOk result (λ done. done ≡ Went) }
+{
+    put(writer, b"ERROR cut line\n")?;
+    Ok(Step::Went)
 }
 
 // Skips what is left of a line that is too long.

@@ -12,7 +12,7 @@ use line_reader::LineReader;
 use std::alloc::Global;
 use std::io;
 
-/// The replies to a text of commands.
+/// The replies to a text of commands. A last line that lacks its end is answered so, and not done.
 pub fn serve_text(alloc: Global, text: &[u8], store: &mut Store) -> io::Result<Vec<u8>>
     ensures { IfOk result (λ out. RepliesTo text.now (held store.old) out.items (held store.new)) }
 {

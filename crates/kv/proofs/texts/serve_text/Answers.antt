@@ -4,7 +4,7 @@ use Rattle.std.specs.Global.{Vec}
 use Rattle.buffer_redux.specs.Told.{ToldWrites-joins, told_log, told_stream}
 use Rattle.buffer_redux.specs.WritesAlongLaws.{FlushedAlong-held, FlushedAlong-of}
 use Rattle.line_reader.specs.KnownLinesLaws.{IsFresh-ahead, IsFresh-left, LinesWent-front}
-use Rattle.kv.proofs.Talking.{Talked-converses}
+use Rattle.kv.proofs.Talking.{Talked-converses, Talked-ended}
 use Rattle.kv.proofs.Whole.{ended_whole}
 use Rattle.kv.specs.Exchange.{Converses, joined}
 use Rattle.kv.specs.Stored.{held}
@@ -32,6 +32,7 @@ returns-in-Ok c =
       cut = rw (front.2, take-append_seam served.lines.bytes front.0) served.lines.cut;
       converses = subst (Converses (held c.args.store.now) ends.exchanges) ends.ends.done.1
           (Talked-converses _ _ _ _ ends.exchanges ends.last ends.talked);
+      had_end = Talked-ended _ _ _ _ ends.exchanges ends.last ends.talked;
       whole = ended_whole _ _ _ _ c.args.text.now served.lines.bytes ends.exchanges ends.last _
           (λ lines has. IsFresh-left (λ s. Some (told_stream {S = Bor (List ℕ)} s).now) _ _ _ _ _ c.args.text.now lines
           c.in_ok-reader.ensures.made (ap (λ (s : Bor (List ℕ)). Some s.now) c.new.ensures.stream) has)
