@@ -15,3 +15,4 @@ pub mod Taking
 pub mod Writing
 pub mod Handover
 pub mod Turning
+pub mod Scanning

@@ -1,10 +1,10 @@
 -- Loops that play calls.
-use Rattle.std.specs.Prelude.{◌≡◌, ℕ, ◌+◌, ◌<◌, ◌≤◌, ◌⊎◌, List, [], ◌∷◌, ◌++◌, length, map, take, get_or, Bool, true, false, MatchBool, Option, Result}
+use Rattle.std.specs.Prelude.{◌≡◌, ℕ, ◌+◌, ◌<◌, ◌≤◌, ◌⊎◌, List, [], ◌∷◌, ◌++◌, length, map, take, get_or, Bool, true, false, MatchBool, Option, Some, Result, Ok}
 use Rattle.std.specs.Global.{Vec}
 use Rattle.std.proofs.Common.{sym, ap, subst, ◌∙◌, arith, inl, inr, append_assoc, length-append}
 use Rattle.std.proofs.lemmas.List.{length-map, take-map}
 use Rattle.codec.specs.PayloadsLaws.{before}
-use Rattle.codec.specs.Runs.{AnswersPlayed, AnswersStopped, handed_payload, kept_answer}
+use Rattle.codec.specs.Runs.{AnswersPlayed, AnswersStopped, kept_answer}
 use Rattle.codec.specs.RunsLaws.{gains_more}
 use Rattle.codec.specs.WriteRuns.{CallsPlayed}
 
@@ -35,22 +35,26 @@ module _ {T E : Type 0} {Plays : T → List (Result (Option (List ℕ)) E) → T
     plays = plays;
   }
 
-  -- one more was made, for whose answer memory was refused
-  pub one_lost : (all : ℕ) → calls < all → (kept' : List (Result (Option (Vec ℕ)) E)) → kept' ≡ kept
-      → (lost : Result (Option (List ℕ)) E) (t : T) → (0 < length (handed_payload lost)) ⊎ (have ≤ length kept)
-      → Plays s (so.answers ++ lost ∷ []) t
-      → AnswersStopped Plays s all room (map kept_answer old) (map kept_answer kept') t
-  one_lost all fewer kept' is lost t wanted plays = record {
-    answers = so.answers;
-    gained = ap (λ l. map kept_answer l) is ∙ so.gained;
-    fewer = omega (arith, so.count, fewer);
-    lost = lost;
-    wanted = elim wanted [
-      | inl some ↦ inl some
-      | inr full ↦ inr (omega (arith, so.capacity, full, length-map kept' kept_answer, ap length is))
-    ];
-    plays = plays;
-  }
+  module _ (all : ℕ) (fewer : calls < all) (kept' : List (Result (Option (Vec ℕ)) E)) (is : kept' ≡ kept) where
+    -- the record was full
+    pub none_begun : have ≤ length kept
+        → AnswersStopped Plays s all room (map kept_answer old) (map kept_answer kept') m
+    none_begun full = record {
+      answers = so.answers;
+      gained = ap (λ l. map kept_answer l) is ∙ so.gained;
+      fewer = omega (arith, so.count, fewer);
+      wanted = inl (so.plays, omega (arith, so.capacity, full, length-map kept' kept_answer, ap length is));
+    }
+
+    -- one more was made, for whose payload memory was refused
+    pub one_lost : (payload : List ℕ) (t : T) → Plays s (so.answers ++ Ok (Some payload) ∷ []) t
+        → AnswersStopped Plays s all room (map kept_answer old) (map kept_answer kept') t
+    one_lost payload t plays = record {
+      answers = so.answers;
+      gained = ap (λ l. map kept_answer l) is ∙ so.gained;
+      fewer = omega (arith, so.count, fewer);
+      wanted = inr (payload, plays);
+    }
 
 -- the first so many payloads were written so far, and each answer was recorded
 pub record WritesSo {T X : Type 0} (Plays : T → List (List ℕ) → List (Result (Unit {0}) X) → T → Type 0)

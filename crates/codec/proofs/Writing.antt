@@ -2,9 +2,10 @@
 use Rattle.std.specs.Prelude.{◌≡◌, ℕ, ◌+◌, ◌<◌, ◌≤◌, List, [], ◌∷◌, ◌++◌, length, map, take, drop, get_or, Result, Ok, Err}
 use Rattle.std.specs.Global.{Vec}
 use Rattle.std.specs.List.{All}
-use Rattle.std.proofs.Common.{sym, subst}
-use Rattle.std.proofs.lemmas.List.{drop-map, map-append, take_all}
+use Rattle.std.proofs.Common.{sym, subst, arith}
+use Rattle.std.proofs.lemmas.List.{drop-map, length-map, length-take-le, map-append, take_all}
 use Rattle.std.proofs.lemmas.List.Elements.{All-drop, All-head}
+use Rattle.codec.specs.declared.laws.runs.WriteEachError.{WriteEachError}
 use Rattle.codec.specs.PayloadsLaws.{before, behind, parted}
 use Rattle.codec.specs.WriteRuns.{CallsStopped, all_ok}
 
@@ -35,16 +36,18 @@ module _ {T X : Type 0} {Call : T → List ℕ → Result (Unit {0}) X → T →
     }
 
     -- or none more
-    pub wrote_none : (why : X) → Call m v.items (Err why) t → CallsStopped Call Plays s (map (λ x. x.items) vs) why t
-    wrote_none why failed = record {
+    pub wrote_none : (why : WriteEachError X) → why.taken ≡ i → Call m v.items (Err why.error) t
+        → CallsStopped Call Plays s (map (λ x. x.items) vs) why t
+    wrote_none why count failed = record {
       done = done;
+      taken = omega (arith, count, inside, length-map (take i vs) (λ (x : Vec ℕ). x.items), length-take-le i vs (omega (arith, inside)));
       payload = v.items;
       later = map (λ x. x.items) (drop (i + 1) vs);
       all = parted (λ x. x.items) vs i v inside is;
       before = m;
       wrote = so.plays;
       failed = failed;
-      plays = more s done (all_ok done) m v.items (Err why) t so.plays failed;
+      plays = more s done (all_ok done) m v.items (Err why.error) t so.plays failed;
     }
 
     -- where each payload is taken, this one is

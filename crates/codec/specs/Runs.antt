@@ -77,15 +77,14 @@ module _ {T E : Type 0} (Plays : T → List (Result (Option (List ℕ)) E) → T
     pub all : length answers ≡ calls
     pub plays : Plays s answers t
 
-  -- fewer calls were recorded, and one more was made, of which the answer is lost. Memory was wanted for the payload that it
-  -- handed out, or for the record, which had room for so many
+  -- fewer calls were recorded. The record, which had room for so many, was full, and no further call was begun; or one more
+  -- was made, and the payload that it handed out is lost
   pub record AnswersStopped (s : T) (calls room : ℕ) (old new : List (Result (Option (List ℕ)) E)) (t : T) : Type 0 where
     pub answers : List (Result (Option (List ℕ)) E)
     pub gained : new ≡ old ++ answers
     pub fewer : length answers < calls
-    pub lost : Result (Option (List ℕ)) E
-    pub wanted : (0 < length (handed_payload lost)) ⊎ (room ≤ length new)
-    pub plays : Plays s (answers ++ lost ∷ []) t
+    pub wanted : (Plays s answers t × (room ≤ length new))
+        ⊎ ((payload : List ℕ) × Plays s (answers ++ Ok (Some payload) ∷ []) t)
 
 -- calls of `next`, one after another, with these answers
 abbrev pub NextRuns : {S D W : Type 0} → (S → Option (List ℕ)) → Grammar W → Piecing S D → List (NextAnswer W) → Piecing S D

@@ -3,6 +3,7 @@ use Rattle.std.specs.Prelude.{◌≡◌, ℕ, ◌<◌, ◌≤◌, List, [], ◌�
 use Rattle.std.specs.declared.io.Error.{Error}
 use Rattle.codec.specs.declared.error.WritePieceError.{WritePieceError}
 use Rattle.codec.specs.declared.error.WritePieceError.TheVariants.{Refused, Io}
+use Rattle.codec.specs.declared.laws.runs.WriteEachError.{WriteEachError}
 use Rattle.codec.specs.Encoding.{Encoding}
 use Rattle.codec.specs.Outgoing.{Outgoing}
 use Rattle.codec.specs.WritePiece.{PiecesTaken, WriteAnswer, WritesPiece, accepted}
@@ -47,21 +48,22 @@ module _ {T X : Type 0} (Plays : T → List (List ℕ) → List (Result (Unit {0
 -- calls with payloads do that, one after another, and each of them does this
 module _ {T X : Type 0} (Call : T → List ℕ → Result (Unit {0}) X → T → Type 0)
     (Plays : T → List (List ℕ) → List (Result (Unit {0}) X) → T → Type 0) where
-  -- the first of these payloads were written by calls that answered `Ok`, and the next one was answered by this error
-  pub record CallsStopped (s : T) (payloads : List (List ℕ)) (why : X) (t : T) : Type 0 where
+  -- the first of these payloads, so many, were written by calls that answered `Ok`, and the next one was answered by this error
+  pub record CallsStopped (s : T) (payloads : List (List ℕ)) (stopped : WriteEachError X) (t : T) : Type 0 where
     pub done : List (List ℕ)
+    pub taken : stopped.taken ≡ length done
     pub payload : List ℕ
     pub later : List (List ℕ)
     pub all : payloads ≡ done ++ payload ∷ later
     pub before : T
     pub wrote : Plays s done (all_ok done) before
-    pub failed : Call before payload (Err why) t
-    pub plays : Plays s (done ++ payload ∷ []) (all_ok done ++ Err why ∷ []) t
+    pub failed : Call before payload (Err stopped.error) t
+    pub plays : Plays s (done ++ payload ∷ []) (all_ok done ++ Err stopped.error ∷ []) t
 
   -- each of these payloads was written, up to the first error
-  abbrev pub CallsEach : T → List (List ℕ) → Result (Unit {0}) X → T → Type 0
+  abbrev pub CallsEach : T → List (List ℕ) → Result (Unit {0}) (WriteEachError X) → T → Type 0
   CallsEach s payloads (Ok _) t = Plays s payloads (all_ok payloads) t
-  CallsEach s payloads (Err why) t = CallsStopped s payloads why t
+  CallsEach s payloads (Err stopped) t = CallsStopped s payloads stopped t
 
 -- calls of `write_piece`, and what they took in
 abbrev pub WritePlays : {S E W : Type 0} → (S → S → Type 0) → Encoding W → Outgoing S E → List (List ℕ)

@@ -1,8 +1,10 @@
 -- Laws of runs of calls that write payloads: they go on by one call, and what their calls take in joins.
 use Rattle.std.specs.Prelude.{◌≡◌, ℕ, List, [], ◌∷◌, ◌++◌, length, take, Result, Err}
-use Rattle.std.proofs.Common.{sym, ap, subst, refl}
+use Rattle.std.proofs.Common.{sym, ap, subst, refl, ◌∙◌}
+use Rattle.std.proofs.Math.Seq.{take-append_seam}
 use Rattle.codec.specs.declared.error.WritePieceError.{WritePieceError}
 use Rattle.codec.specs.declared.error.WritePieceError.TheVariants.{Refused, Io}
+use Rattle.codec.specs.declared.laws.runs.WriteEachError.{WriteEachError}
 use Rattle.codec.specs.Encoding.{Encoding, IsWritable}
 use Rattle.codec.specs.Outgoing.{Outgoing}
 use Rattle.codec.specs.WritePiece.{PiecesTaken, WriteAnswer, WritesPiece, accepted}
@@ -42,10 +44,13 @@ module _ {T X : Type 0} (Call : T → List ℕ → Result (Unit {0}) X → T →
       → CallPlays Call Taken s payloads (all_ok payloads) t → Taken s payloads t
   CallPlays-ok Taken s payloads t plays = subst (λ l. Taken s l t) (all_accepted-ok X payloads) plays.taken
 
-  pub CallsStopped-taken : (Taken : T → List (List ℕ) → T → Type 0) (s : T) (payloads : List (List ℕ)) (why : X) (t : T)
-      (stopped : CallsStopped Call (CallPlays Call Taken) s payloads why t) → Taken s stopped.done t
-  CallsStopped-taken Taken s payloads why t stopped = subst (λ l. Taken s l t)
-      (all_accepted-stopped stopped.done stopped.payload why) stopped.plays.taken
+  pub CallsStopped-taken : (Taken : T → List (List ℕ) → T → Type 0) (s : T) (payloads : List (List ℕ))
+      (why : WriteEachError X) (t : T) (stopped : CallsStopped Call (CallPlays Call Taken) s payloads why t)
+      → Taken s (take why.taken payloads) t
+  CallsStopped-taken Taken s payloads why t stopped =
+      let front : take why.taken payloads ≡ stopped.done = ap (λ n. take n payloads) stopped.taken
+      ∙ ap (λ l. take (length stopped.done) l) stopped.all ∙ take-append_seam stopped.done (stopped.payload ∷ stopped.later) in
+      subst (λ l. Taken s l t) (all_accepted-stopped stopped.done stopped.payload why.error ∙ sym front) stopped.plays.taken
 
   module _ (Taken : T → List (List ℕ) → T → Type 0) (none : (s : T) → Taken s [] s)
       (joins : (s m t : T) (ps qs : List (List ℕ)) → Taken s ps m → Taken m qs t → Taken s (ps ++ qs) t)

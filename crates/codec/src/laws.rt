@@ -24,7 +24,7 @@ use buffer_redux::tell::{TellRead, TellWrite};
 use buffer_redux::{Buffer, MakeError};
 pub use known::{KnownReader, read_each};
 pub use lists::round_trip;
-pub use runs::{PayloadReader, PayloadWriter, play_next, play_write, write_each};
+pub use runs::{PayloadReader, PayloadWriter, WriteEachError, play_next, play_write, write_each};
 use std::alloc::Global;
 
 /// A text is pieces in one way, and so is a stream of pieces before what is left.

@@ -1,6 +1,6 @@
 //! Heads that are read byte by byte.
 ghost use Rattle.std.specs.Prelude.{◌≡◌, ℕ, ◌+◌, ◌<◌, ◌^◌, List, length};
-ghost use Rattle.codec.specs.Scanning.{Scanning, IsSmall, scan_on};
+ghost use Rattle.codec.specs.Scanning.{Scanning, IsSmall, scanned};
 
 use crate::headed::Headed;
 use crate::heading::Heading;
@@ -61,7 +61,7 @@ impl<S: Scan> Headed for ByScan<S> {
 
     #[inline(always)]
     fn heading(&self, bytes: &[u8]) -> Heading {
-        scan_head(&self.0, bytes, self.0.most_head(), self.0.start(), 0)
+        scan_head(&self.0, bytes)
     }
 
     fn most_head(&self) -> usize {
@@ -81,26 +81,29 @@ impl<S: Scan> Headed for ByScan<S> {
     ghost heads = { λ s. scanned_heads (S.scanning s.0) (S.small s.0) };
 }
 
-// Goes on by these bytes, of which at most `left` may be the head's, behind `used` that are.
-pub(crate) fn scan_head<S: Scan>(
-    protocol: &S,
-    bytes: &[u8],
-    left: usize,
-    state: S::State,
-    used: usize,
-) -> Heading
-    requires { left + used ≡ (S.scanning protocol.now).most_head }
-    ensures { result ≡ scan_on (S.scanning protocol.now).turn left state used bytes.now }
+// What the head says at the front of these bytes.
+pub(crate) fn scan_head<S: Scan>(protocol: &S, bytes: &[u8]) -> Heading
+    ensures { result ≡ (scanned (S.scanning protocol.now)).heading bytes.now }
 {
-    if left == 0 {
-        return Heading::Bad;
+    let most = protocol.most_head();
+    let mut state = protocol.start();
+    let mut used = 0usize;
+    for byte in bytes {
+        if used == most {
+            return Heading::Bad;
+        }
+        used += 1;
+        match protocol.turn(state, *byte) {
+            Turn::More(next) => {
+                state = next;
+            }
+            Turn::Sized(len) => return Heading::Sized(len, used),
+            Turn::Bad => return Heading::Bad,
+        }
     }
-    match bytes {
-        [] => Heading::Short,
-        [byte, more @ ..] => match protocol.turn(state, *byte) {
-            Turn::More(next) => scan_head(protocol, more, left - 1, next, used + 1),
-            Turn::Sized(len) => Heading::Sized(len, used + 1),
-            Turn::Bad => Heading::Bad,
-        },
+    if used == most {
+        Heading::Bad
+    } else {
+        Heading::Short
     }
 }

@@ -157,7 +157,7 @@ impl<T: TextHead> Headed for ByText<T> {
 
     #[inline(always)]
     fn heading(&self, bytes: &[u8]) -> Heading {
-        scan_head(self, bytes, Scan::most_head(self), Scan::start(self), 0)
+        scan_head(self, bytes)
     }
 
     fn most_head(&self) -> usize {

@@ -53,7 +53,10 @@ fn written<E: Encoder>(
     let wrote = write_each(&mut writer, payloads);
     // What it tells is what the stream inside tells, which says why that failed.
     let _ = writer.get_ref();
-    wrote?;
+    match wrote {
+        Ok(()) => {}
+        Err(e) => return Err(e.error),
+    }
     match writer.into_inner() {
         Ok(inner) => Ok(inner.into_vec()),
         Err(e) => Err(WritePieceError::Io(e.into_error())),

@@ -5,6 +5,8 @@ ghost use Rattle.codec.specs.Runs.{AnswersPlayed, AnswersStopped, NextLost, kept
 ghost use Rattle.codec.specs.WriteRuns.{CallsEach, CallsPlayed};
 
 use std::alloc::{AllocError, Global};
+use std::error::Error;
+use std::fmt;
 
 /// A reader that hands out payloads, whatever they are cut from: pieces, frames or lines.
 pub trait PayloadReader {
@@ -17,7 +19,8 @@ pub trait PayloadReader {
     // What calls do, one after another, by their answers: the run of them, and what they come to.
     ghost plays: { Self → List (Result (Option (List ℕ)) Self.Error) → Self → Type 0 };
 
-    /// One call, with the payload copied. An `Err` is refused memory: the call was made, and its payload is lost.
+    /// One call, with the payload copied. An `Err` is refused memory: the call was made, and its payload is lost, since how long it
+    /// is shows in the call alone.
     fn next_copied(
         &mut self,
         alloc: Global,
@@ -37,8 +40,8 @@ pub trait PayloadReader {
 /// Asks for the next payload so many times, whatever is answered, and adds each answer to `answers`. What was handed out, then
 /// what is left, are the stream, however it was cut.
 ///
-/// An `Err` is refused memory: then the answer of the last call that was made is lost. Memory is taken for each payload, and for
-/// `answers` where that has no room.
+/// An `Err` is refused memory. Room for an answer is made before its call, where there is none: where that was refused, no further
+/// call was begun. Where it was the memory for a payload, that was handed out and is lost.
 pub fn play_next<P: PayloadReader>(
     alloc: Global,
     reader: &mut P,
@@ -51,8 +54,8 @@ pub fn play_next<P: PayloadReader>(
         (map kept_answer answers.old.items) (map kept_answer answers.new.items) reader.new) }
 {
     for _ in 0..calls {
-        let answer = reader.next_copied(alloc)?;
-        answers.push(answer)?;
+        answers.reserve(1)?;
+        answers.push_reserved(reader.next_copied(alloc)?);
     }
     Ok(())
 }
@@ -115,13 +118,39 @@ pub fn play_write<P: PayloadWriter>(
     Ok(())
 }
 
-/// Writes each payload, up to the first `Err`. The payloads before that one were taken in then.
-pub fn write_each<P: PayloadWriter>(writer: &mut P, payloads: &[Vec<u8>]) -> Result<(), P::Error>
+/// Why a payload of a list was not taken in.
+#[derive(Debug, Drop)]
+pub struct WriteEachError<E> {
+    /// So many payloads before it were. Who goes on begins with the one behind these.
+    pub taken: usize,
+    /// The error of its call.
+    pub error: E,
+}
+
+impl<E: fmt::Display> fmt::Display for WriteEachError<E> {
+    fn fmt<W: fmt::Write>(&self, f: &mut fmt::Formatter<W>) -> fmt::Result {
+        write!(f, "after {} payloads: {}", self.taken, self.error)
+    }
+}
+
+impl<E: fmt::Debug + fmt::Display + Drop> Error for WriteEachError<E> {}
+
+/// Writes each payload, up to the first `Err`, which says how many were taken in before.
+pub fn write_each<P: PayloadWriter>(
+    writer: &mut P,
+    payloads: &[Vec<u8>],
+) -> Result<(), WriteEachError<P::Error>>
     ensures each { CallsEach P.goes P.plays writer.old (map (λ v. v.items) payloads.now) result writer.new }
-    ensures fault { IfErr result (λ e. All (P.takes writer.old) (map (λ v. v.items) payloads.now) → P.fault e) }
+    ensures fault { IfErr result (λ e. All (P.takes writer.old) (map (λ v. v.items) payloads.now) → P.fault e.error) }
 {
+    let mut taken = 0usize;
     for payload in payloads {
-        writer.write_payload(payload)?;
+        match writer.write_payload(payload) {
+            Ok(()) => {
+                taken += 1;
+            }
+            Err(error) => return Err(WriteEachError { taken, error }),
+        }
     }
     Ok(())
 }

@@ -1,7 +1,7 @@
-use Rattle.std.proofs.Common.{vec_capacity, [], Ok, Some, arith, append-nil, inl, inr, refl, sym, length, ap, map}
+use Rattle.std.proofs.Common.{vec_capacity, [], ◌∷◌, ◌++◌, ◌∙◌, Ok, Some, arith, append-nil, refl, sym, ap, map}
 use Rattle.codec.specs.Runs.{kept_answer}
 use Rattle.codec.specs.RunsLaws.{on_err}
-use Rattle.codec.proofs.Playing.{all_played, one_lost, plays_on}
+use Rattle.codec.proofs.Playing.{all_played, none_begun, one_lost, plays_on}
 use Rattle.codec.proofs.laws.runs.play_next.Goals as goal
 
 pub loop-init : goal.loop-init
@@ -16,31 +16,28 @@ loop-init g c = record {
 pub loop-preserved : goal.loop-preserved
 loop-preserved g c =
     let inv = c.loop.invariant in
-    plays_on inv c.push.new.self.items (vec_capacity c.push.new.self) c.in_ok-answer.answer c.next_copied.new.self
-    c.in_ok-push.ensures.items c.in_ok-push.ensures.capacity
-    (g.met.P.PayloadReader.plays_more c.args.reader.now inv.answers c.loop.reader (kept_answer c.in_ok-answer.answer)
-    c.next_copied.new.self inv.plays c.in_ok-answer.ensures.next)
+    let answer = c.in_ok-next_copied.field-0 in
+    plays_on inv c.push_reserved.new.self.items (vec_capacity c.push_reserved.new.self) answer c.next_copied.new.self
+    (c.push_reserved.ensures.items ∙ ap (λ l. l ++ answer ∷ []) c.reserve.ensures.items)
+    (omega (arith, c.in_ok-reserve.ensures.capacity, c.push_reserved.ensures.capacity))
+    (g.met.P.PayloadReader.plays_more c.args.reader.now inv.answers c.loop.reader (kept_answer answer)
+    c.next_copied.new.self inv.plays c.in_ok-next_copied.ensures.next)
 
-pub returns-in_err-answer-clause-stopped : goal.returns-in_err-answer-clause-stopped
-returns-in_err-answer-clause-stopped g c =
-    let inv = c.loop.invariant in
-    let lost = c.in_err-answer.ensures.lost in
+pub returns-in_err-reserve-clause-stopped : goal.returns-in_err-reserve-clause-stopped
+returns-in_err-reserve-clause-stopped g c =
     on_err c.from_residual.result
-    (one_lost inv c.args.calls (omega (arith, c.loop-test.true)) c.loop.answers.items refl (Ok (Some lost.payload))
-    c.next_copied.new.self (inl (omega arith))
+    (none_begun c.loop.invariant c.args.calls (omega (arith, c.loop-test.true)) c.reserve.new.self.items c.reserve.ensures.items
+    (omega (arith, c.in_err-reserve.ensures.full, c.in_err-reserve.ensures.len)))
+
+pub returns-in_err-next_copied-clause-stopped : goal.returns-in_err-next_copied-clause-stopped
+returns-in_err-next_copied-clause-stopped g c =
+    let inv = c.loop.invariant in
+    let lost = c.in_err-next_copied.ensures.lost in
+    on_err c.from_residual-in_err-next_copied.result
+    (one_lost inv c.args.calls (omega (arith, c.loop-test.true)) c.reserve.new.self.items c.reserve.ensures.items lost.payload
+    c.next_copied.new.self
     (g.met.P.PayloadReader.plays_more c.args.reader.now inv.answers c.loop.reader (Ok (Some lost.payload)) c.next_copied.new.self
     inv.plays lost.next))
-
-pub returns-in_err-push-clause-stopped : goal.returns-in_err-push-clause-stopped
-returns-in_err-push-clause-stopped g c =
-    let inv = c.loop.invariant in
-    let kept = c.in_err-push.ensures in
-    let answer = kept_answer c.in_ok-answer.answer in
-    on_err c.from_residual-in_err-push.result
-    (one_lost inv c.args.calls (omega (arith, c.loop-test.true)) c.push.new.self.items kept.items answer
-    c.next_copied.new.self (inr (omega (arith, kept.full, ap length kept.items)))
-    (g.met.P.PayloadReader.plays_more c.args.reader.now inv.answers c.loop.reader answer c.next_copied.new.self inv.plays
-    c.in_ok-answer.ensures.next))
 
 pub returns-clause-played : goal.returns-clause-played
 returns-clause-played g c =
