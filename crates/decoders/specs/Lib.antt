@@ -3,5 +3,9 @@ pub mod LengthsLaws
 pub mod LengthsOut
 pub mod LengthsOutLaws
 pub mod Limits
+pub mod Nullable
+pub mod NullableLaws
+pub mod Resp
+pub mod RespLaws
 pub mod TextWords
 pub mod TextWordsLaws

@@ -7,7 +7,11 @@ mod bulk_strings;
 mod lengths;
 mod lengths_writer;
 mod netstrings;
+mod nullable;
+mod resp;
 
 pub use bulk_strings::BulkStrings;
 pub use lengths::{Lengths, Order, Width};
 pub use netstrings::Netstrings;
+pub use nullable::{NullableStrings, StringPlace};
+pub use resp::{Resp, RespItem};

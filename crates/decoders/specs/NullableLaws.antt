@@ -1,0 +1,9 @@
+-- They are few.
+use Rattle.std.specs.Prelude.{ℕ}
+use Rattle.std.proofs.Common.{arith}
+use Rattle.codec.specs.Scanning.{IsSmall}
+use Rattle.decoders.specs.Limits as limits
+use Rattle.decoders.specs.Nullable.{nullable}
+
+pub nullable_small : (max : ℕ) → limits.IsSmall max → IsSmall (nullable max)
+nullable_small max fits = record { some = omega arith; small = omega (arith, fits) }

@@ -1,0 +1,66 @@
+-- The pieces of RESP.
+use Rattle.std.specs.Prelude.{ℕ, List, [], ◌∷◌, Bool, ◌&&◌, ◌||◌, ◌==◌, slice_index, if◌then◌else◌, Option, None, Some}
+use Rattle.codec.specs.Delimited.{delimited}
+use Rattle.codec.specs.Ended.{ended}
+use Rattle.codec.specs.FirstByte.{either}
+use Rattle.codec.specs.Grammar.{Grammar}
+use Rattle.codec.specs.Headings.{headed}
+use Rattle.codec.specs.Number.{with_byte}
+use Rattle.codec.specs.Scanning.{scanned}
+use Rattle.codec.specs.Showing.{showing}
+use Rattle.codec.specs.Trimming.{trimming}
+use Rattle.codec.specs.declared.by_first.EitherWrong.{EitherWrong}
+use Rattle.codec.specs.declared.delimited.TooLong.{TooLong}
+use Rattle.codec.specs.declared.ended.Unended.{Unended}
+use Rattle.codec.specs.declared.head_error.HeadError.{HeadError}
+use Rattle.codec.specs.declared.number.Number.{Number}
+use Rattle.codec.specs.declared.number.Number.TheVariants as number
+use Rattle.decoders.specs.Nullable.{nullable}
+use Rattle.decoders.specs.declared.resp.RespItem.{RespItem}
+use Rattle.decoders.specs.declared.resp.RespItem.TheVariants.{Bulk, Null, Array, NullArray, Simple, Error, Number as Numeral, Inline}
+
+-- an asterisk, a plus, a minus and a colon say what a line is
+abbrev pub is_kind : ℕ → Bool
+is_kind byte = (byte == 42) || (byte == 43) || (byte == 45) || (byte == 58)
+
+abbrev pub behind_kind : List ℕ → List ℕ
+behind_kind [] = []
+behind_kind (byte ∷ line) = if is_kind byte then line else byte ∷ line
+
+-- lines without that byte, and without the CR that they may end with
+abbrev pub lines : ℕ → Grammar TooLong
+lines max = showing behind_kind (trimming (delimited 10 max))
+
+-- what a dollar sign begins is a bulk string, or the null one; each other piece is a line, with its end
+abbrev pub resp : ℕ → Grammar (EitherWrong HeadError (Unended TooLong))
+resp max = either 36 (headed (scanned (nullable max))) (ended (lines max))
+
+-- a line ends here: with LF, or with CR and LF
+abbrev pub ends_line : ℕ → List ℕ → Bool
+ends_line byte line = (byte == 10) || ((byte == 13) && (slice_index line 0 == 10))
+
+-- the number in decimal that a line is, with its end, behind these digits of it
+abbrev pub counted : Number → ℕ → List ℕ → Option ℕ
+counted number.Empty byte line = None
+counted (number.Is value) byte line = if ends_line byte line then Some value else None
+
+abbrev pub count_on : Option Number → (Number → Option ℕ) → Option ℕ → Option ℕ
+count_on (Some more) goes_on stops = goes_on more
+count_on None goes_on stops = stops
+
+abbrev pub count_in : Number → List ℕ → Option ℕ
+count_in number [] = None
+count_in number (byte ∷ line) =
+    count_on (with_byte number byte) (λ more. count_in more line) (counted number byte line)
+
+-- what a piece is that this byte begins
+abbrev pub line_item : ℕ → List ℕ → RespItem
+line_item kind line =
+    if kind == 36 then (if slice_index line 0 == 45 then Null else Bulk)
+    else if kind == 42 then (if (slice_index line 0 == 45) && (slice_index line 1 == 49) then NullArray
+    else Array (count_in number.Empty line))
+    else if kind == 43 then Simple else if kind == 45 then Error else if kind == 58 then Numeral else Inline
+
+abbrev pub resp_item : List ℕ → RespItem
+resp_item [] = Inline
+resp_item (kind ∷ line) = line_item kind line
