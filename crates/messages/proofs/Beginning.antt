@@ -1,13 +1,13 @@
 -- A head that was lent, and the body behind it.
 use Rattle.std.proofs.Common.{◌≡◌, ℕ, ◌≤◌, List, [], length, Option, Some, Ok, sym, subst, arith, refl, ap, length-append, inl, inr}
 use Rattle.std.proofs.lemmas.List.{length-drop}
-use Rattle.buffer_redux.specs.Unbuffer.{Unbuffered}
+use Rattle.buffer_redux.specs.Unbuffer.{StreamWent, Unbuffered}
 use Rattle.codec.specs.NextPiece.{NextPiece}
+use Rattle.codec.specs.PiecesWentLaws.{PiecesWent-stream}
 use Rattle.codec.specs.Piecing.{Piecing, left_of}
 use Rattle.codec.specs.ScanningLaws.{scanned_heads}
-use Rattle.codec.specs.StreamWent.{PiecesWent-stream, StreamWent}
-use Rattle.messages.specs.declared.body.Extent.{Extent}
 use Rattle.messages.specs.declared.head.Heads as head
+use Rattle.messages.specs.declared.head.Said.{Said}
 use Rattle.messages.specs.Heads.{IsHead, IsHeadPiece, heads, lines, texts}
 use Rattle.messages.specs.HeadsLaws.{lines_small}
 use Rattle.messages.specs.Messages.{Begun, begun}
@@ -38,21 +38,20 @@ module _ {S : Type 0} (remaining : S → Option (List ℕ)) (s t : Piecing S hea
     same = refl;
     none = piece.none;
     text = subst (λ l. texts.piece l piece.none) (sym piece.same) piece.text;
-    extent = piece.extent;
-    is = subst (λ l. IsHead l piece.extent) (sym piece.same) piece.is;
+    said = piece.said;
+    is = subst (λ l. IsHead l piece.said) (sym piece.same) piece.is;
   }
 
   pub lent_few : length payload ≤ 8192
   lent_few = text_few payload lent.none lent.text
 
-  pub Begun-of : (extent : Extent) → IsHead payload extent → (u : Unbuffered S) → u ≡ left_of t
-      → Begun remaining s (begun u payload extent)
-  Begun-of extent is u same = record {
+  pub Begun-of : (said : Said) → IsHead payload said → (u : Unbuffered S) → u ≡ left_of t
+      → Begun remaining s (begun u payload said)
+  Begun-of said is u same = record {
     went = subst (λ v. StreamWent remaining (left_of s) payload v) (sym same)
         (subst (λ l. StreamWent remaining (left_of s) l (left_of t)) (sym piece.same)
         (PiecesWent-stream remaining heads.most s t next.bytes next.went));
     text = lent;
-    extent = extent;
     is = is;
     rest = refl;
   }

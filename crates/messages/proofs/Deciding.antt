@@ -3,20 +3,20 @@ use Rattle.std.proofs.Common.{ℕ, List, take, drop, sym, refl, arith, inr}
 use Rattle.std.proofs.lemmas.List.{take-append-drop}
 use Rattle.codec.specs.declared.decoder.Span.{Span}
 use Rattle.codec.specs.Decoding.{IsPiece, bytes_at}
-use Rattle.messages.specs.declared.body.Extent.{Extent}
 use Rattle.messages.specs.declared.head.BadHead.TheVariants.{Refused}
+use Rattle.messages.specs.declared.head.Said.{Said}
 use Rattle.messages.specs.Heads.{IsHead, heads, texts}
 
 module _ (bytes : List ℕ) (span : Span) (used : ℕ) (found : IsPiece texts bytes span used) where
-  pub head_piece : (extent : Extent) → IsHead (take used bytes) extent
+  pub head_piece : (said : Said) → IsHead (take used bytes) said
       → IsPiece heads bytes (record { from = 0; len = used }) used
-  head_piece extent is = record {
+  head_piece said is = record {
     inside = found.inside;
     within = omega arith;
-    is = record { same = refl; none = bytes_at span bytes; text = found.is; extent = extent; is = is };
+    is = record { same = refl; none = bytes_at span bytes; text = found.is; said = said; is = is };
   }
 
-  pub refused : ((extent : Extent) → ¬ (IsHead (take used bytes) extent)) → heads.wrong bytes Refused
+  pub refused : ((said : Said) → ¬ (IsHead (take used bytes) said)) → heads.wrong bytes Refused
   refused none = inr (record {
     text = record {
       piece = take used bytes;

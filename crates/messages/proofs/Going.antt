@@ -1,28 +1,17 @@
 -- What calls of the layers below take of a body, and of its stream.
 use Rattle.std.proofs.Common.{◌≡◌, ℕ, ◌+◌, List, [], ◌++◌, length, Option, sym, ap, subst, ◌∙◌, arith, refl, append_assoc, append-nil, length-append}
 use Rattle.std.proofs.lemmas.List.{append_cancel_left, nil_from_length}
-use Rattle.buffer_redux.specs.Buffered.{Buffered}
-use Rattle.buffer_redux.specs.BufReader.{ReadsAlong}
 use Rattle.buffer_redux.specs.Policy.{ReadRules}
 use Rattle.buffer_redux.specs.Unbuffer.{Unbuffered, unbuffered}
+use Rattle.buffer_redux.specs.UnbufferLaws.{ReadsAlong-stream, StreamWent-none}
 use Rattle.chunked.specs.Body.{IsBody}
 use Rattle.chunked.specs.Dechunking.{BodyWent, Dechunking, IsDechunking, IsWhole, handed_of}
 use Rattle.chunked.specs.DechunkingLaws.{body_done}
 use Rattle.chunked.specs.Place.{Completes}
 use Rattle.chunked.specs.declared.place.Place.TheVariants.{Line}
-use Rattle.codec.specs.StreamWent.{StreamWent, StreamWent-none}
 use Rattle.messages.specs.Messages.{Bytes, Chunks, Ends, IsRest, Onward, Rest, Takes}
 
 module _ {S : Type 0} (remaining : S → Option (List ℕ)) where
-  -- a stretch of calls of a buffered reader
-  pub along_stream : {P : Type 0} (rules : ReadRules P) (s : Buffered S P) (bytes : List ℕ) (t : Buffered S P)
-      → ReadsAlong remaining rules s bytes t → StreamWent remaining (unbuffered s) bytes (unbuffered t)
-  along_stream rules s bytes t along = record {
-    order = record { got = along.in_order.got; given = along.in_order.given; equal = along.in_order.equal };
-    known = along.known;
-    grows = along.grows;
-  }
-
   -- nothing was taken
   pub takes_none : (s : Unbuffered S) (r : Rest) → Takes remaining s r [] s r
   takes_none s r = record { wire = []; went = StreamWent-none remaining s; onward = λ later payload is. is }
@@ -73,7 +62,7 @@ module _ {S P : Type 0} (remaining : S → Option (List ℕ)) (rules : ReadRules
       (Chunks t.limits t.place)
   chunks_take = record {
     wire = went.wire;
-    went = along_stream remaining rules s.reader went.wire t.reader went.along;
+    went = ReadsAlong-stream remaining rules s.reader went.wire t.reader went.along;
     onward = chunks_onward;
   }
 
@@ -94,6 +83,6 @@ module _ {S P : Type 0} (remaining : S → Option (List ℕ)) (rules : ReadRules
       record {
         wire = went.wire;
         payload = back.0;
-        went = along_stream remaining rules s.reader went.wire t.reader went.along;
+        went = ReadsAlong-stream remaining rules s.reader went.wire t.reader went.along;
         is = back.2;
       }

@@ -1,14 +1,15 @@
 -- What a message that is passed comes to.
-use Rattle.std.proofs.Common.{◌≡◌, ℕ, List, [], ◌++◌, Option, sym, ap, subst}
-use Rattle.buffer_redux.specs.Unbuffer.{Unbuffered}
+use Rattle.std.proofs.Common.{◌≡◌, ℕ, List, [], ◌++◌, Option, sym, subst}
+use Rattle.buffer_redux.specs.Unbuffer.{StreamWent, Unbuffered}
+use Rattle.buffer_redux.specs.UnbufferLaws.{StreamWent-joins}
 use Rattle.codec.specs.NextPiece.{NextPiece}
+use Rattle.codec.specs.PiecesWentLaws.{PiecesWent-stream}
 use Rattle.codec.specs.Piecing.{Piecing, left_of}
-use Rattle.codec.specs.StreamWent.{PiecesWent-stream, StreamWent, StreamWent-joins}
 use Rattle.messages.specs.declared.head.Heads as head
 use Rattle.messages.specs.declared.requests.Stop.{Stop}
 use Rattle.messages.specs.declared.requests.Stop.TheVariants.{Ended, Bad, Io}
 use Rattle.messages.specs.Heads.{IsHead, heads}
-use Rattle.messages.specs.Messages.{Begun, Ends, InBody, InsideGoes, MessageBegun, MessageWent, Onward, answer_of}
+use Rattle.messages.specs.Messages.{Begun, Ends, InBody, InsideGoes, MessageBegun, MessageWent, Onward, answer_of, body_of}
 use Rattle.messages.specs.MessagesLaws.{MessageWent-of}
 use Rattle.messages.proofs.Going.{takes_none}
 
@@ -39,8 +40,8 @@ module _ {S : Type 0} (remaining : S → Option (List ℕ)) (s : Piecing S head.
       went = subst (λ h. StreamWent remaining (left_of s) (h ++ goes.takes.wire) t.stream) (sym goes.head)
           (StreamWent-joins remaining (left_of s) b.stream t.stream b.head goes.takes.wire begun.went goes.takes.went);
       text = subst (λ h. heads.piece h h) (sym goes.head) begun.text;
-      extent = begun.extent;
-      is = subst (λ h. IsHead h begun.extent) (sym goes.head) begun.is;
+      is = subst (λ h. IsHead h t.said) (sym goes.head) (subst (λ x. IsHead b.head x) (sym goes.said) begun.is);
       handed = handed;
-      onward = subst (λ r. Onward r goes.takes.wire handed t.rest) (ap (λ x. x.rest) begun.rest) goes.takes.onward;
+      onward = subst (λ x. Onward (body_of x.extent) goes.takes.wire handed t.rest) (sym goes.said)
+          (subst (λ r. Onward r goes.takes.wire handed t.rest) begun.rest goes.takes.onward);
     }

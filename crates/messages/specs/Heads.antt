@@ -1,5 +1,5 @@
 -- Heads of requests, and what they say of the body.
-use Rattle.std.specs.Prelude.{◌≡◌, ℕ, ◌≤◌, ◌⊎◌, ◌==◌, if◌then◌else◌, List, [], length, IsTrue, Option, None, Some, Result, Ok, Err}
+use Rattle.std.specs.Prelude.{◌≡◌, ℕ, ◌≤◌, ◌⊎◌, ◌==◌, ◌&&◌, ◌||◌, not, nat_lt, if◌then◌else◌, Bool, true, false, List, [], length, IsTrue, Option, None, Some, Result, Ok, Err}
 use Rattle.codec.specs.declared.head_error.HeadError.{HeadError}
 use Rattle.codec.specs.declared.head_error.HeadError.TheVariants.{Truncated}
 use Rattle.codec.specs.declared.scan.Turn.{Turn}
@@ -10,13 +10,17 @@ use Rattle.codec.specs.Scanning.{Scanning, scanned}
 use Rattle.http1.specs.declared.framing.Framing.{Framing}
 use Rattle.http1.specs.declared.framing.Framing.TheVariants as framing
 use Rattle.http1.specs.declared.framing.FramingError.{FramingError}
+use Rattle.http1.specs.declared.framing.MethodKind.{MethodKind}
+use Rattle.http1.specs.declared.framing.MethodKind.TheVariants as kind
+use Rattle.http1.specs.declared.fields.KnownFields.{KnownFields}
 use Rattle.http1.specs.Framing.{method_kind, request_framing}
 use Rattle.http1.specs.Message.{has_one_host, known_of}
 use Rattle.httparse.specs.Grammar.{ReadsRequest, RequestHead}
 use Rattle.messages.specs.declared.head.BadHead.{BadHead}
 use Rattle.messages.specs.declared.head.BadHead.TheVariants.{Lines, Refused}
-use Rattle.messages.specs.declared.body.Extent.{Extent}
-use Rattle.messages.specs.declared.body.Extent.TheVariants as extent
+use Rattle.messages.specs.declared.head.Extent.{Extent}
+use Rattle.messages.specs.declared.head.Extent.TheVariants as extent
+use Rattle.messages.specs.declared.head.Said.{Said}
 use Rattle.messages.specs.declared.lines.Before.{Before}
 use Rattle.messages.specs.declared.lines.Before.TheVariants.{Text, Return, Feed, EmptyReturn}
 
@@ -42,28 +46,54 @@ extent_of (Ok framing.Chunked) = Some extent.Chunked
 extent_of (Ok framing.UntilClose) = None
 extent_of (Err e) = None
 
--- these bytes are just the head of a request, whose body ends so (RFC 9112, section 6): at most one field says where, and it has
--- one `Host`, which HTTP/1.0 may leave out
-pub record IsHead (bytes : List ℕ) (extent : Extent) : Type 0 where
+-- whether it is the method of a tunnel, or of a request whose answer has no body
+abbrev pub is_connect : MethodKind → Bool
+is_connect kind.Head = false
+is_connect kind.Connect = true
+is_connect kind.Other = false
+
+abbrev pub is_bare : MethodKind → Bool
+is_bare kind.Head = true
+is_bare kind.Connect = false
+is_bare kind.Other = false
+
+-- whether another request may follow (RFC 9112, section 9.3)
+abbrev pub keeps : ℕ → KnownFields → Bool
+keeps minor known = not known.close && (nat_lt 0 minor || known.keep_alive)
+
+-- whether the client waits for a 100 before it sends the body (RFC 9110, section 10.1.1)
+abbrev pub expects : ℕ → KnownFields → Bool
+expects minor known = nat_lt 0 minor && known.expect_continue
+
+-- what a head with this method, of this version, with these fields says, of a body that ends so
+abbrev pub said_of : MethodKind → ℕ → KnownFields → Extent → Said
+said_of method minor known extent =
+    record { extent = extent; bare = is_bare method; keeps = keeps minor known; expects = expects minor known }
+
+-- these bytes are just the head of a request, which says so (RFC 9112, section 6): at most one field says where the body ends, no
+-- tunnel begins behind it, and it has one `Host`, which HTTP/1.0 may leave out
+pub record IsHead (bytes : List ℕ) (said : Said) : Type 0 where
   pub head : RequestHead
   pub reads : ReadsRequest bytes head []
   pub few : length head.fields ≤ 64
   pub host : IsTrue (has_one_host head.minor (known_of head.fields))
   pub single : (known_of head.fields).framing_fields ≤ 1
-  pub framed : extent_of (request_framing (method_kind head.method) head.minor (known_of head.fields)) ≡ Some extent
+  pub open' : is_connect (method_kind head.method) ≡ false
+  pub framed : extent_of (request_framing (method_kind head.method) head.minor (known_of head.fields)) ≡ Some said.extent
+  pub says : said ≡ said_of (method_kind head.method) head.minor (known_of head.fields) said.extent
 
 -- a head as a piece, lent whole
 pub record IsHeadPiece (bytes payload : List ℕ) : Type 0 where
   pub same : payload ≡ bytes
   pub none : List ℕ
   pub text : texts.piece bytes none
-  pub extent : Extent
-  pub is : IsHead bytes extent
+  pub said : Said
+  pub is : IsHead bytes said
 
 -- lines in front are no such head
 pub record IsRefused (bytes : List ℕ) (e : BadHead) : Type 0 where
   pub text : Begins texts bytes
-  pub not_head : (extent : Extent) → ¬ (IsHead text.piece extent)
+  pub not_head : (said : Said) → ¬ (IsHead text.piece said)
   pub told : e ≡ Refused
 
 -- or they are no lines

@@ -56,7 +56,7 @@ heads_lawful = record {
     | inr refused ↦
         (let parts = texts_lawful.one p refused.text.piece more refused.text.more is.none refused.text.payload is.text
         refused.text.is refused.text.equal in
-        refused.not_head is.extent (subst (λ l. IsHead l is.extent) parts.0 is.is))
+        refused.not_head is.said (subst (λ l. IsHead l is.said) parts.0 is.is))
   ];
   reason = λ bytes e e' wrong wrong'. elim wrong [
     | inl bad ↦ elim wrong' [

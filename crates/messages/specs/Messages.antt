@@ -1,8 +1,8 @@
 -- Messages, and what contracts see of a reader that stands in one.
-use Rattle.std.specs.Prelude.{◌≡◌, ◌⊎◌, ◌≤◌, ◌-◌, ◌^◌, ℕ, List, [], ◌∷◌, ◌++◌, length, Option, None, Ok, Err}
-use Rattle.buffer_redux.specs.Unbuffer.{Unbuffered}
+use Rattle.std.specs.Prelude.{◌≡◌, ◌⊎◌, ◌≤◌, ◌<◌, ◌-◌, ◌^◌, ℕ, List, [], ◌∷◌, ◌++◌, length, take, Option, None, Result, Ok, Err}
+use Rattle.buffer_redux.specs.Unbuffer.{StreamWent, Unbuffered}
 use Rattle.chunked.specs.declared.error.ChunkedError.{ChunkedError}
-use Rattle.chunked.specs.declared.error.ChunkedError.TheVariants.{NotChunked, Truncated, Io as Fault}
+use Rattle.chunked.specs.declared.error.ChunkedError.TheVariants as chunks
 use Rattle.chunked.specs.declared.limits.Limits.{Limits}
 use Rattle.chunked.specs.declared.place.Place.{Place}
 use Rattle.chunked.specs.declared.place.Place.TheVariants.{Line}
@@ -10,13 +10,15 @@ use Rattle.chunked.specs.Place.{Completes}
 use Rattle.codec.specs.declared.error.NextError.TheVariants as why
 use Rattle.codec.specs.NextPiece.{NextAnswer}
 use Rattle.codec.specs.Piecing.{Piecing, left_of}
-use Rattle.codec.specs.StreamWent.{StreamWent}
-use Rattle.messages.specs.declared.body.BodyError.{BodyError}
-use Rattle.messages.specs.declared.body.BodyError.TheVariants.{Body, Buffer}
-use Rattle.messages.specs.declared.body.Extent.{Extent}
-use Rattle.messages.specs.declared.body.Extent.TheVariants.{Sized, Chunked}
+use Rattle.messages.specs.declared.error.BodyError.{BodyError}
+use Rattle.messages.specs.declared.error.BodyError.TheVariants.{Wrong, Truncated, Io as Fault}
+use Rattle.messages.specs.declared.error.FinishError.{FinishError}
+use Rattle.messages.specs.declared.error.FinishError.TheVariants.{Body, Memory}
+use Rattle.messages.specs.declared.head.Extent.{Extent}
+use Rattle.messages.specs.declared.head.Extent.TheVariants.{Sized, Chunked}
 use Rattle.messages.specs.declared.head.BadHead.{BadHead}
 use Rattle.messages.specs.declared.head.Heads.{Heads}
+use Rattle.messages.specs.declared.head.Said.{Said}
 use Rattle.messages.specs.declared.requests.Stop.{Stop}
 use Rattle.messages.specs.declared.requests.Stop.TheVariants.{Ended, Bad, Io}
 use Rattle.messages.specs.Heads.{IsHead, heads}
@@ -45,26 +47,26 @@ pub record IsMessage (bytes head payload : List ℕ) : Type 0 where
   pub wire : List ℕ
   pub equal : bytes ≡ head ++ wire
   pub text : heads.piece head head
-  pub extent : Extent
-  pub is : IsHead head extent
-  pub body : IsRest (body_of extent) wire payload
+  pub said : Said
+  pub is : IsHead head said
+  pub body : IsRest (body_of said.extent) wire payload
 
--- a reader in a body: what the stream has left, the head, and what is left of the body
+-- a reader in a body: what the stream has left, the head and what that says, and what is left of the body
 pub record InBody (S : Type 0) : Type 0 where
   pub stream : Unbuffered S
   pub head : List ℕ
+  pub said : Said
   pub rest : Rest
 
-abbrev pub begun : {S : Type 0} → Unbuffered S → List ℕ → Extent → InBody S
-begun stream head extent = record { stream = stream; head = head; rest = body_of extent }
+abbrev pub begun : {S : Type 0} → Unbuffered S → List ℕ → Said → InBody S
+begun stream head said = record { stream = stream; head = head; said = said; rest = body_of said.extent }
 
 -- the reader stands behind a head, in front of its body
 pub record Begun {S : Type 0} (remaining : S → Option (List ℕ)) (s : Piecing S Heads) (b : InBody S) : Type 0 where
   pub went : StreamWent remaining (left_of s) b.head b.stream
   pub text : heads.piece b.head b.head
-  pub extent : Extent
-  pub is : IsHead b.head extent
-  pub rest : b ≡ begun b.stream b.head extent
+  pub is : IsHead b.head b.said
+  pub rest : b.rest ≡ body_of b.said.extent
 
 -- why there is no message is the answer of a reader of pieces
 abbrev pub answer_of : Stop → NextAnswer BadHead
@@ -79,21 +81,33 @@ pub record Takes {S : Type 0} (remaining : S → Option (List ℕ)) (s : Unbuffe
   pub went : StreamWent remaining s wire t
   pub onward : Onward r wire handed r'
 
--- why no payload comes: however it goes on, what comes next doesn't complete the body; or no byte came, and it isn't complete;
--- or the stream failed, once
-abbrev pub Fails : {S : Type 0} → Unbuffered S → ChunkedError → Unbuffered S → Rest → Type 0
-Fails s (NotChunked name right) t r = (later payload : List ℕ) → ¬ (IsRest r (t.left ++ later) payload)
-Fails s (Truncated right) t r = (payload : List ℕ) → ¬ (IsRest r [] payload)
+-- the payload that an answer handed out, of the slice as it left that
+abbrev pub handed_out : List ℕ → Result ℕ BodyError → List ℕ
+handed_out out (Ok n) = take n out
+handed_out out (Err e) = []
+
+-- why no payload comes: however it goes on, what comes next doesn't complete the body; or the stream was asked, and gave nothing,
+-- and the body isn't complete; or the stream failed, once
+abbrev pub Fails : {S : Type 0} → Unbuffered S → BodyError → Unbuffered S → Rest → Type 0
+Fails s (Wrong name) t r = (later payload : List ℕ) → ¬ (IsRest r (t.left ++ later) payload)
+Fails s Truncated t r =
+    (s.log.reads.zero_reads < t.log.reads.zero_reads) × ((payload : List ℕ) → ¬ (IsRest r [] payload))
 Fails s (Fault e) t r = t.log.reads.faults ≡ s.log.reads.faults ++ e ∷ []
 
+-- as a reader of chunks says it
+abbrev pub body_error : ChunkedError → BodyError
+body_error (chunks.NotChunked name right) = Wrong name
+body_error (chunks.Truncated right) = Truncated
+body_error (chunks.Io e) = Fault e
+
 -- why a body wasn't taken to its end, of which this payload was dropped: so, or it is of more pieces than are counted
-abbrev pub FailsBehind : {S : Type 0} → Unbuffered S → List ℕ → ChunkedError → Unbuffered S → Rest → Type 0
+abbrev pub FailsBehind : {S : Type 0} → Unbuffered S → List ℕ → BodyError → Unbuffered S → Rest → Type 0
 FailsBehind s handed e t r = Fails s e t r ⊎ (2 ^ 64 - 1 ≤ length handed)
 
 -- or it was, and memory was refused for the next head
-abbrev pub FinishFails : {S : Type 0} → Unbuffered S → List ℕ → BodyError → Unbuffered S → Rest → Type 0
+abbrev pub FinishFails : {S : Type 0} → Unbuffered S → List ℕ → FinishError → Unbuffered S → Rest → Type 0
 FinishFails s handed (Body e) t r = FailsBehind s handed e t r
-FinishFails s handed (Buffer e) t r = r ≡ Bytes 0
+FinishFails s handed (Memory e) t r = r ≡ Bytes 0
 
 -- all of that was taken, and what stands behind the body is left
 pub record Ends {S : Type 0} (remaining : S → Option (List ℕ)) (s : Unbuffered S) (r : Rest) (t : Unbuffered S)
@@ -103,11 +117,12 @@ pub record Ends {S : Type 0} (remaining : S → Option (List ℕ)) (s : Unbuffer
   pub went : StreamWent remaining s wire t
   pub is : IsRest r wire payload
 
--- a call of a reader in a body, which keeps the head, did so
+-- a call of a reader in a body, which keeps the head and what that says, did so
 pub record InsideGoes {S : Type 0} (remaining : S → Option (List ℕ)) (s : InBody S) (handed : List ℕ) (t : InBody S)
     : Type 0 where
   pub takes : Takes remaining s.stream s.rest handed t.stream t.rest
   pub head : t.head ≡ s.head
+  pub said : t.said ≡ s.said
 
 -- a message went: all of its bytes, and no other, were taken of what was left
 pub record MessageWent {S : Type 0} (remaining : S → Option (List ℕ)) (s : Unbuffered S) (head payload : List ℕ)
@@ -138,7 +153,6 @@ pub record MessageBegun {S : Type 0} (remaining : S → Option (List ℕ)) (s : 
   pub taken : List ℕ
   pub went : StreamWent remaining s (b.head ++ taken) b.stream
   pub text : heads.piece b.head b.head
-  pub extent : Extent
-  pub is : IsHead b.head extent
+  pub is : IsHead b.head b.said
   pub handed : List ℕ
-  pub onward : Onward (body_of extent) taken handed b.rest
+  pub onward : Onward (body_of b.said.extent) taken handed b.rest

@@ -3,15 +3,16 @@ use Rattle.std.specs.Prelude.{◌≡◌, ℕ, List, [], ◌∷◌, ◌++◌, len
 use Rattle.std.proofs.Common.{sym, ap, subst, ◌∙◌, arith, refl, append_assoc, append-nil}
 use Rattle.std.proofs.lemmas.List.{append_cancel_left}
 use Rattle.buffer_redux.specs.Unbuffer.{Unbuffered, unbuffer_remaining}
+use Rattle.buffer_redux.specs.UnbufferLaws.{StreamWent-front, StreamWent-joins, StreamWent-none}
 use Rattle.chunked.specs.BodyLaws.{IsBody-same}
 use Rattle.codec.specs.Piecing.{Piecing, left_of}
-use Rattle.codec.specs.StreamWent.{StreamWent-front, StreamWent-joins, StreamWent-none}
 use Rattle.httparse.proofs.GrammarLemmas.{request_unique}
 use Rattle.http1.specs.Framing.{method_kind, request_framing}
 use Rattle.http1.specs.Message.{known_of}
-use Rattle.messages.specs.declared.body.Extent.{Extent}
-use Rattle.messages.specs.declared.body.Extent.TheVariants.{Sized, Chunked}
+use Rattle.messages.specs.declared.head.Extent.{Extent}
+use Rattle.messages.specs.declared.head.Extent.TheVariants.{Sized, Chunked}
 use Rattle.messages.specs.declared.head.Heads as head
+use Rattle.messages.specs.declared.head.Said.{Said}
 use Rattle.messages.specs.Heads.{IsHead, extent_of}
 use Rattle.messages.specs.HeadsLaws.{heads_lawful}
 use Rattle.messages.specs.Messages.{AreMessages, Begun, Ends, InBody, IsMessage, IsRest, Message, MessageWent, MessagesWent, Rest, Takes, body_of}
@@ -28,10 +29,10 @@ split (x ∷ a) (y ∷ b) xs ys long same =
     (ap (λ c. c ∷ a) first ∙ ap (λ l. y ∷ l) rest.0, rest.1)
 
 -- a head says in one way where the body ends
-pub one_extent : (bytes : List ℕ) (e e' : Extent) → IsHead bytes e → IsHead bytes e' → e ≡ e'
+pub one_extent : (bytes : List ℕ) (e e' : Said) → IsHead bytes e → IsHead bytes e' → e.extent ≡ e'.extent
 one_extent bytes e e' is is' =
     let same = request_unique bytes is.head is'.head [] [] is.reads is'.reads in
-    let both : Some e ≡ Some e' =
+    let both : Some e.extent ≡ Some e'.extent =
     sym is.framed ∙ ap (λ h. extent_of (request_framing (method_kind h.method) h.minor (known_of h.fields))) same.0 ∙ is'.framed in
     cc
 
@@ -54,9 +55,9 @@ one_message a b xs ys h k p q m n same =
     let head : h ≡ k = (heads_lawful.one h k (m.wire ++ xs) (n.wire ++ ys) h k m.text n.text cut).0 in
     let behind : m.wire ++ xs ≡ n.wire ++ ys =
     append_cancel_left h (m.wire ++ xs) (n.wire ++ ys) (cut ∙ ap (λ l. l ++ (n.wire ++ ys)) (sym head)) in
-    let extent : m.extent ≡ n.extent =
-    one_extent h m.extent n.extent m.is (subst (λ l. IsHead l n.extent) (sym head) n.is) in
-    let body = one_body m.extent m.wire n.wire p q xs ys m.body
+    let extent : m.said.extent ≡ n.said.extent =
+    one_extent h m.said n.said m.is (subst (λ l. IsHead l n.said) (sym head) n.is) in
+    let body = one_body m.said.extent m.wire n.wire p q xs ys m.body
     (subst (λ e. IsRest (body_of e) n.wire q) (sym extent) n.body) behind in
     (m.equal ∙ ap (λ l. l ++ m.wire) head ∙ ap (λ l. k ++ l) body.0 ∙ sym n.equal, head, body.1, body.2)
 
@@ -101,9 +102,9 @@ module _ {S : Type 0} (remaining : S → Option (List ℕ)) where
       wire = takes.wire ++ ends.wire;
       equal = refl;
       text = begun.text;
-      extent = begun.extent;
+      said = b.said;
       is = begun.is;
-      body = subst (λ r. IsRest r (takes.wire ++ ends.wire) (handed ++ ends.payload)) (ap (λ x. x.rest) begun.rest)
+      body = subst (λ r. IsRest r (takes.wire ++ ends.wire) (handed ++ ends.payload)) begun.rest
           (takes.onward ends.wire ends.payload ends.is);
     };
   }

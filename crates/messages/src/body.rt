@@ -3,29 +3,20 @@ ghost use Rattle.std.specs.Prelude.{◌≡◌, ℕ, ◌+◌, ◌<◌, ◌≤◌,
 ghost use Rattle.buffer_redux.specs.BufReader.{ReadsAlong};
 ghost use Rattle.buffer_redux.specs.Policy.{std_read_rules};
 ghost use Rattle.buffer_redux.specs.Unbuffer.{unbuffered};
-ghost use Rattle.chunked.specs.Between.{handed_out};
 ghost use Rattle.codec.specs.Piecing.{left_of};
-ghost use Rattle.messages.specs.Messages.{Bytes, Chunks, Ends, Fails, FailsBehind, FinishFails, InsideGoes, IsRest, Takes, begun};
-ghost use Rattle.messages.specs.Source.{rest_of, stream_of};
+ghost use Rattle.messages.specs.Messages.{Bytes, Chunks, Ends, Fails, FailsBehind, FinishFails, InsideGoes, IsRest, Takes, begun, handed_out};
+ghost use Rattle.messages.specs.Source.{HasRoom, rest_of, stream_of};
 
-use crate::head::Heads;
+use crate::error::{BodyError, FinishError, unread};
+use crate::head::{Extent, Heads, Said};
 use crate::requests::Requests;
 use buffer_redux::tell::{Tell, TellRead};
-use buffer_redux::{BufReader, Buffer, GrowError, MakeError};
-use chunked::{ChunkedError, ChunkedReader, Limits};
+use buffer_redux::{BufReader, Buffer, MakeError};
+use chunked::{ChunkedReader, Limits};
 use codec::PieceReader;
 use std::alloc::Global;
 use std::io::{BufRead, Read};
 use std::marker::Model;
-
-/// Where a body ends.
-#[derive(Clone, Copy, Debug, PartialEq, Eq, Drop)]
-pub enum Extent {
-    /// Behind so many bytes.
-    Sized(u64),
-    /// Where the chunked coding ends.
-    Chunked,
-}
 
 /// How much of a chunked body may be no payload.
 pub const LIMITS: Limits = Limits {
@@ -47,36 +38,34 @@ pub struct Body<R: Tell> {
     alloc: Global,
     source: Source<R>,
     head: Buffer,
+    said: Said,
 }
 
 impl<R: Tell> Model for Body<R> {
     ghost use Rattle.std.specs.Prelude.{◌≤◌};
     ghost use Rattle.messages.specs.Messages.{InBody};
-    ghost use Rattle.messages.specs.Source.{rest_of, stream_of};
+    ghost use Rattle.messages.specs.Source.{HasRoom, rest_of, stream_of};
 
     ghost Value = { InBody R };
 
-    ghost view = { λ b. record { stream = stream_of b.source; head = b.head.bytes; rest = rest_of b.source } };
+    ghost view = { λ b. record {
+      stream = stream_of b.source;
+      head = b.head.bytes;
+      said = b.said;
+      rest = rest_of b.source;
+    } };
 
-    ghost invariant = { λ b. 8192 ≤ b.head.capacity };
-}
-
-/// Why there is no further payload, or no next head.
-#[derive(Debug, Drop)]
-pub enum BodyError {
-    /// The body is no body, or ends early, or the stream failed.
-    Body(ChunkedError),
-    /// Memory was wanted for the next head. The call can be made again.
-    Buffer(GrowError),
+    ghost invariant = { λ b. (8192 ≤ b.head.capacity) × HasRoom b.source };
 }
 
 impl<R: Tell> Body<R> {
     /// The body of a message with this head, of which the reader has the beginning.
-    pub(crate) fn new(alloc: Global, reader: BufReader<R>, head: Buffer, extent: Extent) -> Self
+    pub(crate) fn new(alloc: Global, reader: BufReader<R>, head: Buffer, said: Said) -> Self
         requires room { 8192 ≤ head.capacity }
-        ensures { result ≡ begun (unbuffered reader) head.bytes extent }
+        requires some { 0 < reader.block.capacity }
+        ensures { result ≡ begun (unbuffered reader) head.bytes said }
     {
-        let source = match extent {
+        let source = match said.extent {
             Extent::Sized(len) => Source::Sized(reader, len),
             Extent::Chunked => Source::Chunked(ChunkedReader::new(reader, LIMITS)),
         };
@@ -84,6 +73,7 @@ impl<R: Tell> Body<R> {
             alloc,
             source,
             head,
+            said,
         }
     }
 
@@ -93,12 +83,19 @@ impl<R: Tell> Body<R> {
     {
         self.head.buf()
     }
+
+    /// What the head says.
+    pub fn said(&self) -> Said
+        ensures { result ≡ self.now.said }
+    {
+        self.said
+    }
 }
 
 impl<R: TellRead> Body<R> {
     /// Hands out payload, at least a byte unless the body ended or the slice is empty. After an `Io` the call can be made again;
     /// what is wrong, or missing, is so at each further call.
-    pub fn read(&mut self, out: &mut [u8]) -> Result<usize, ChunkedError>
+    pub fn read(&mut self, out: &mut [u8]) -> Result<usize, BodyError>
         ensures bound { IfOk result (λ n. n ≤ length out.new) }
         ensures goes { InsideGoes R.remaining self.old (handed_out out.new result) self.new }
         ensures ended { result ≡ Ok 0 → 0 < length out.new → IsRest self.new.rest [] [] }
@@ -112,7 +109,7 @@ impl<R: TellRead> Body<R> {
 
     /// Goes on to the next head: takes what is left of the body, and drops its payload. An `Err` hands the reader back, in the
     /// body still.
-    pub fn finish(self) -> Result<Requests<R>, (Self, BodyError)>
+    pub fn finish(self) -> Result<Requests<R>, (Self, FinishError)>
         ensures { MatchResult result (λ next. Ends R.remaining self.stream self.rest (left_of next))
             (λ e. (handed : List ℕ) × InsideGoes R.remaining self handed e.0
             × FinishFails self.stream handed e.1 e.0.stream e.0.rest) }
@@ -121,6 +118,7 @@ impl<R: TellRead> Body<R> {
             alloc,
             source,
             head,
+            said,
         } = self;
         match end_of(source) {
             Ok(reader) => {
@@ -132,8 +130,9 @@ impl<R: TellRead> Body<R> {
                             alloc,
                             source: Source::Sized(BufReader::with_buffer(back.0, back.1), 0),
                             head,
+                            said,
                         },
-                        BodyError::Buffer(e),
+                        FinishError::Memory(e),
                     )),
                 }
             }
@@ -142,8 +141,9 @@ impl<R: TellRead> Body<R> {
                     alloc,
                     source,
                     head,
+                    said,
                 },
-                BodyError::Body(e),
+                FinishError::Body(e),
             )),
         }
     }
@@ -154,8 +154,9 @@ fn read_sized<R: TellRead>(
     reader: &mut BufReader<R>,
     left: &mut u64,
     out: &mut [u8],
-) -> Result<usize, ChunkedError>
+) -> Result<usize, BodyError>
     ensures bound { IfOk result (λ n. n ≤ length out.new) }
+    ensures room { reader.old.block.capacity ≤ reader.new.block.capacity }
     ensures takes { Takes R.remaining (unbuffered reader.old) (Bytes left.old) (handed_out out.new result)
         (unbuffered reader.new) (Bytes left.new) }
     ensures ended { result ≡ Ok 0 → 0 < length out.new → left.new ≡ 0 }
@@ -167,7 +168,7 @@ fn read_sized<R: TellRead>(
     }
     let count = reader.read(&mut out[..most])?;
     if count == 0 {
-        return Err(ChunkedError::Truncated(*left));
+        return Err(BodyError::Truncated);
     }
     *left -= count as u64;
     Ok(count)
@@ -177,8 +178,10 @@ fn read_sized<R: TellRead>(
 fn read_chunked<R: TellRead>(
     body: &mut ChunkedReader<R>,
     out: &mut [u8],
-) -> Result<usize, ChunkedError>
+) -> Result<usize, BodyError>
+    requires some { 0 < body.old.reader.block.capacity }
     ensures bound { IfOk result (λ n. n ≤ length out.new) }
+    ensures room { 0 < body.new.reader.block.capacity }
     ensures takes { Takes R.remaining (unbuffered body.old.reader) (Chunks body.old.limits body.old.place)
         (handed_out out.new result) (unbuffered body.new.reader) (Chunks body.new.limits body.new.place) }
     ensures ended { result ≡ Ok 0 → 0 < length out.new → IsRest (Chunks body.new.limits body.new.place) [] [] }
@@ -186,12 +189,17 @@ fn read_chunked<R: TellRead>(
         (Chunks body.new.limits body.new.place)) }
 {
     let _ = body.get_ref();
-    body.read_payload(out)
+    match body.read_payload(out) {
+        Ok(count) => Ok(count),
+        Err(e) => Err(unread(e)),
+    }
 }
 
 // Takes what is left of a body.
-fn end_of<R: TellRead>(source: Source<R>) -> Result<BufReader<R>, (Source<R>, ChunkedError)>
-    ensures { MatchResult result
+fn end_of<R: TellRead>(source: Source<R>) -> Result<BufReader<R>, (Source<R>, BodyError)>
+    requires { HasRoom source }
+    ensures room { MatchResult result (λ reader. 0 < reader.block.capacity) (λ e. HasRoom e.0) }
+    ensures ends { MatchResult result
         (λ reader. Ends R.remaining (stream_of source) (rest_of source) (unbuffered reader))
         (λ e. (handed : List ℕ)
         × Takes R.remaining (stream_of source) (rest_of source) handed (stream_of e.0) (rest_of e.0)
@@ -208,8 +216,10 @@ fn end_of<R: TellRead>(source: Source<R>) -> Result<BufReader<R>, (Source<R>, Ch
 
 fn finish_chunked<R: TellRead>(
     body: ChunkedReader<R>,
-) -> Result<BufReader<R>, (Source<R>, ChunkedError)>
-    ensures { MatchResult result
+) -> Result<BufReader<R>, (Source<R>, BodyError)>
+    requires { 0 < body.reader.block.capacity }
+    ensures room { MatchResult result (λ reader. 0 < reader.block.capacity) (λ e. HasRoom e.0) }
+    ensures ends { MatchResult result
         (λ reader. Ends R.remaining (unbuffered body.reader) (Chunks body.limits body.place) (unbuffered reader))
         (λ e. (handed : List ℕ) × Takes R.remaining (unbuffered body.reader) (Chunks body.limits body.place) handed
         (stream_of e.0) (rest_of e.0)
@@ -220,13 +230,14 @@ fn finish_chunked<R: TellRead>(
         Ok(reader) => Ok(reader),
         Err((body, e)) => {
             let _ = body.get_ref();
-            Err((Source::Chunked(body), e))
+            Err((Source::Chunked(body), unread(e)))
         }
     }
 }
 
 // Drops so many bytes.
-fn skip<R: TellRead>(reader: &mut BufReader<R>, left: &mut u64) -> Result<(), ChunkedError>
+fn skip<R: TellRead>(reader: &mut BufReader<R>, left: &mut u64) -> Result<(), BodyError>
+    requires { 0 < reader.old.block.capacity }
     ensures dropped { (wire : List ℕ) × ReadsAlong R.remaining std_read_rules reader.old wire reader.new
         × (length wire + left.new ≡ left.old) }
     ensures all { OnOk result (left.new ≡ 0) }
@@ -235,7 +246,7 @@ fn skip<R: TellRead>(reader: &mut BufReader<R>, left: &mut u64) -> Result<(), Ch
     while *left > 0 {
         let shown = reader.fill_buf()?;
         if shown.is_empty() {
-            return Err(ChunkedError::Truncated(*left));
+            return Err(BodyError::Truncated);
         }
         let count = (*left).min(shown.len() as u64) as usize;
         reader.consume(count);

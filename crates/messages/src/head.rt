@@ -1,9 +1,9 @@
 //! Heads of requests as pieces, and what they say of the body.
 ghost use Rattle.std.specs.Prelude.{◌≡◌, IfNone, IfSome};
 ghost use Rattle.http1.specs.Message.{has_one_host};
-ghost use Rattle.messages.specs.Heads.{IsHead, extent_of};
+ghost use Rattle.messages.specs.declared.head.Said.{Said};
+ghost use Rattle.messages.specs.Heads.{IsHead, expects, extent_of, is_bare, is_connect, keeps};
 
-use crate::body::Extent;
 use crate::lines::Lines;
 use codec::{ByHead, ByScan, Decoder, End, Found, HeadError, Span};
 use http1::fields::KnownFields;
@@ -18,6 +18,28 @@ pub const MAX_HEAD: usize = 8192;
 
 /// No head has more fields.
 pub const MAX_FIELDS: usize = 64;
+
+/// Where a body ends.
+#[derive(Clone, Copy, Debug, PartialEq, Eq, Drop)]
+pub enum Extent {
+    /// Behind so many bytes.
+    Sized(u64),
+    /// Where the chunked coding ends.
+    Chunked,
+}
+
+/// What a head says.
+#[derive(Clone, Copy, Debug, PartialEq, Eq, Drop)]
+pub struct Said {
+    /// Where the body ends.
+    pub extent: Extent,
+    /// Whether the answer has no body, as one to `HEAD`, whatever its fields say.
+    pub bare: bool,
+    /// Whether another request may follow: not behind `Connection: close`, nor one of HTTP/1.0 without `keep-alive`.
+    pub keeps: bool,
+    /// Whether the client waits for a `100 Continue` before it sends the body.
+    pub expects: bool,
+}
 
 /// Why what comes next is no head.
 #[derive(Clone, Copy, Debug, PartialEq, Eq, Drop)]
@@ -57,7 +79,7 @@ impl Decoder for Heads {
 
     fn decode(&self, bytes: &[u8], _seen: usize) -> Found<BadHead> {
         match ByHead(ByScan(Lines)).decode(bytes, 0) {
-            Found::Piece(_, used) => match extent(&bytes[..used]) {
+            Found::Piece(_, used) => match read_head(&bytes[..used]) {
                 Some(_) => Found::Piece(Span { from: 0, len: used }, used),
                 None => Found::Wrong(BadHead::Refused),
             },
@@ -73,11 +95,11 @@ impl Decoder for Heads {
     ghost lawful = { λ _. heads_lawful };
 }
 
-/// What a head says of its body: these bytes are just a head, of HTTP/1.0 or 1.1, with one `Host`, which 1.0 may leave out, and
-/// at most one field that says where the body ends, as RFC 9112, section 6 has it.
-pub fn extent(head: &[u8]) -> Option<Extent>
-    ensures some { IfSome result (λ extent. IsHead head.now extent) }
-    ensures none { IfNone result ((extent : Extent) → ¬ (IsHead head.now extent)) }
+/// What a head says: these bytes are just a head, of HTTP/1.0 or 1.1, with one `Host`, which 1.0 may leave out, and at most one
+/// field that says where the body ends, as RFC 9112, section 6 has it. `CONNECT` is refused: a tunnel begins behind it.
+pub fn read_head(head: &[u8]) -> Option<Said>
+    ensures some { IfSome result (λ said. IsHead head.now said) }
+    ensures none { IfNone result ((said : Said) → ¬ (IsHead head.now said)) }
 {
     let mut fields = [EMPTY_HEADER_SPAN; MAX_FIELDS];
     let Ok(Status::Complete(spans)) = parse_request(head, &mut fields) else {
@@ -91,7 +113,18 @@ pub fn extent(head: &[u8]) -> Option<Extent>
         return None;
     }
     let method = MethodKind::of(spans.method.of(head));
-    extent_of(request_framing(method, spans.version, &known))
+    if is_connect(method) {
+        return None;
+    }
+    match extent_of(request_framing(method, spans.version, &known)) {
+        Some(extent) => Some(Said {
+            extent,
+            bare: is_bare(method),
+            keeps: keeps(spans.version, &known),
+            expects: expects(spans.version, &known),
+        }),
+        None => None,
+    }
 }
 
 // Where the body ends, if that is said plainly.
@@ -110,4 +143,28 @@ fn has_one_host(minor: u8, known: &KnownFields) -> bool
     ensures { result ≡ has_one_host minor known.now }
 {
     known.hosts == 1 || known.hosts == 0 && minor == 0
+}
+
+fn is_connect(method: MethodKind) -> bool
+    ensures { result ≡ is_connect method }
+{
+    matches!(method, MethodKind::Connect)
+}
+
+fn is_bare(method: MethodKind) -> bool
+    ensures { result ≡ is_bare method }
+{
+    matches!(method, MethodKind::Head)
+}
+
+fn keeps(minor: u8, known: &KnownFields) -> bool
+    ensures { result ≡ keeps minor known.now }
+{
+    !known.close && (minor > 0 || known.keep_alive)
+}
+
+fn expects(minor: u8, known: &KnownFields) -> bool
+    ensures { result ≡ expects minor known.now }
+{
+    minor > 0 && known.expect_continue
 }

@@ -6,7 +6,8 @@ ghost use Rattle.messages.specs.declared.head.Heads as head;
 ghost use Rattle.messages.specs.Messages.{AreMessages, Begun, Ends, InBody, Message, MessageWent, MessagesWent, Takes};
 ghost use Rattle.messages.specs.Passing.{StopsBehind, StopsIn};
 
-use crate::body::{Body, BodyError};
+use crate::body::Body;
+use crate::error::FinishError;
 use crate::requests::{Requests, Stop};
 use buffer_redux::tell::{Tell, TellRead};
 
@@ -40,7 +41,7 @@ pub fn no_byte_between<R: TellRead>(requests: &Requests<R>)
 #[derive(Drop)]
 pub enum Stopped<R: Tell> {
     Before(Requests<R>, Stop),
-    Inside(Body<R>, BodyError),
+    Inside(Body<R>, FinishError),
 }
 
 /// Passes so many messages, however the stream is cut: each begins where the one before it ended, and what is left begins where

@@ -5,11 +5,13 @@
 #![tactic(auto)]
 
 mod body;
+mod error;
 mod head;
 pub mod laws;
 mod lines;
 mod requests;
 
-pub use body::{Body, BodyError, Extent};
-pub use head::{BadHead, Heads, MAX_FIELDS, MAX_HEAD};
+pub use body::Body;
+pub use error::{BodyError, FinishError};
+pub use head::{BadHead, Extent, Heads, MAX_FIELDS, MAX_HEAD, Said, read_head};
 pub use requests::{Requests, Stop};

@@ -1,12 +1,12 @@
 //! The reader of requests, before a head.
-ghost use Rattle.std.specs.Prelude.{◌≡◌, ◌≤◌, IfErr, IfOk, MatchResult};
+ghost use Rattle.std.specs.Prelude.{◌≡◌, ◌≤◌, IfErr, IfOk, MatchResult, false};
 ghost use Rattle.codec.specs.NextPiece.{NextPiece};
 ghost use Rattle.codec.specs.Piecing.{IsFresh, TakenApart};
 ghost use Rattle.messages.specs.Heads.{heads};
 ghost use Rattle.messages.specs.Messages.{Begun, answer_of};
 
 use crate::body::Body;
-use crate::head::{BadHead, Heads, extent};
+use crate::head::{BadHead, Heads, read_head};
 use buffer_redux::tell::{Tell, TellRead};
 use buffer_redux::{BufReader, Buffer, MakeError};
 use codec::{NextError, PieceReader};
@@ -35,7 +35,7 @@ pub struct Requests<R: Tell> {
 }
 
 impl<R: Tell> Model for Requests<R> {
-    ghost use Rattle.std.specs.Prelude.{◌≤◌};
+    ghost use Rattle.std.specs.Prelude.{◌≡◌, ◌≤◌, false};
     ghost use Rattle.codec.specs.Piecing.{Piecing};
     ghost use Rattle.messages.specs.declared.head.Heads.{Heads};
 
@@ -43,7 +43,7 @@ impl<R: Tell> Model for Requests<R> {
 
     ghost view = { λ r. r.pieces };
 
-    ghost invariant = { λ r. 8192 ≤ r.head.capacity };
+    ghost invariant = { λ r. (8192 ≤ r.head.capacity) × (r.pieces.ended ≡ false) };
 }
 
 impl<R: Tell> Requests<R> {
@@ -69,6 +69,7 @@ impl<R: Tell> Requests<R> {
     /// The requests of this reader, with room for a head.
     pub(crate) fn before(alloc: Global, pieces: PieceReader<R, Heads>, head: Buffer) -> Self
         requires room { 8192 ≤ head.capacity }
+        requires told { pieces.ended ≡ false }
         ensures { result ≡ pieces }
     {
         Requests {
@@ -80,14 +81,16 @@ impl<R: Tell> Requests<R> {
 
     /// The stream, and the buffer with what comes next of it.
     pub fn into_inner_with_buffer(self) -> (R, Buffer)
-        ensures { TakenApart R.log self result.0 result.1 }
+        ensures apart { TakenApart R.log self result.0 result.1 }
+        ensures told { self.ended ≡ false }
     {
         let Requests {
             alloc: _,
             pieces,
             head: _,
         } = self;
-        pieces.into_inner_with_buffer()
+        let (inner, buffer, _ended) = pieces.into_inner_with_buffer();
+        (inner, buffer)
     }
 }
 
@@ -100,7 +103,7 @@ impl<R: TellRead> Requests<R> {
         match self.pieces.step() {
             Ok(Some(span)) => {
                 let lent = self.pieces.lent(span);
-                let Some(extent) = extent(lent) else {
+                let Some(said) = read_head(lent) else {
                     unreachable!()
                 };
                 self.head.clear();
@@ -110,8 +113,8 @@ impl<R: TellRead> Requests<R> {
                     pieces,
                     head,
                 } = self;
-                let (inner, buffer) = pieces.into_inner_with_buffer();
-                Ok(Body::new(alloc, BufReader::with_buffer(buffer, inner), head, extent))
+                let (inner, buffer, _ended) = pieces.into_inner_with_buffer();
+                Ok(Body::new(alloc, BufReader::with_buffer(buffer, inner), head, said))
             }
             Ok(None) => Err((self, Stop::Ended)),
             Err(NextError::Wrong(why)) => Err((self, Stop::Bad(why))),

@@ -1,16 +1,17 @@
 use Rattle.std.proofs.Common.{inl}
 use Rattle.buffer_redux.specs.Policy.{std_read_rules}
-use Rattle.messages.proofs.Going.{along_stream, bytes_onward}
+use Rattle.buffer_redux.specs.UnbufferLaws.{ReadsAlong-stream}
+use Rattle.messages.proofs.Going.{bytes_onward}
 use Rattle.messages.proofs.body.end_of.Goals as goal
 
-pub returns-in-Err : goal.returns-in-Err
-returns-in-Err g c =
+pub returns-in-Err-clause-ends : goal.returns-in-Err-clause-ends
+returns-in-Err-clause-ends g c =
     let dropped = c.in-Err.ensures.dropped in
     rw c.in-Sized.is (
       dropped.0,
       record {
         wire = dropped.0;
-        went = along_stream g.R.TellRead.remaining std_read_rules c.in-Sized.reader dropped.0 c.skip.new.reader dropped.1;
+        went = ReadsAlong-stream g.R.TellRead.remaining std_read_rules c.in-Sized.reader dropped.0 c.skip.new.reader dropped.1;
         onward = bytes_onward c.in-Sized.left dropped.0 c.skip.new.left dropped.2;
       },
       inl c.in-Err.ensures.fails,

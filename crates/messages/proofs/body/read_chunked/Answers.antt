@@ -1,24 +1,36 @@
-use Rattle.std.proofs.Common.{Ok, length, refl}
+use Rattle.std.proofs.Common.{◌≡◌, [], length, take, arith}
 use Rattle.buffer_redux.specs.Policy.{std_read_rules}
-use Rattle.chunked.specs.Between.{handed_out}
 use Rattle.messages.proofs.Failing.{chunks_fail}
 use Rattle.messages.proofs.Going.{chunks_done, chunks_take}
 use Rattle.messages.proofs.body.read_chunked.Goals as goal
 
-pub returns-clause-takes : goal.returns-clause-takes
-returns-clause-takes g c =
-    let reads = c.read_payload.ensures.reads in
+pub returns-in-Ok-clause-room : goal.returns-in-Ok-clause-room
+returns-in-Ok-clause-room g c = omega (arith, c.requires, c.in-Ok.ensures.reads.went.along.capacity)
+
+pub returns-in-Ok-clause-takes : goal.returns-in-Ok-clause-takes
+returns-in-Ok-clause-takes g c =
+    let reads = c.in-Ok.ensures.reads in
     chunks_take g.R.TellRead.remaining std_read_rules c.args.body.now c.get_ref.ensures.whole
-    (handed_out c.read_payload.new.out c.read_payload.result) c.read_payload.new.self reads.whole reads.went
+    (take c.in-Ok.count c.read_payload.new.out) c.read_payload.new.self reads.whole reads.went
 
-pub returns-clause-ended : goal.returns-clause-ended
-returns-clause-ended g c = λ none some.
-    let reads = rw none at c.read_payload.ensures.reads in
+pub returns-in-Ok-clause-ended : goal.returns-in-Ok-clause-ended
+returns-in-Ok-clause-ended g c = λ none some.
+    let reads = c.in-Ok.ensures.reads in
+    let zero : c.in-Ok.count ≡ 0 = cc in
     chunks_done g.R.TellRead.remaining std_read_rules c.args.body.now c.get_ref.ensures.whole
-    (handed_out c.read_payload.new.out (Ok 0)) c.read_payload.new.self reads.whole reads.went (reads.answers.2 refl some)
+    (take c.in-Ok.count c.read_payload.new.out) c.read_payload.new.self reads.whole reads.went (reads.answers.2 zero some)
 
-pub returns-clause-fails : goal.returns-clause-fails
-returns-clause-fails g c =
-    let reads = c.read_payload.ensures.reads in
-    chunks_fail c.args.body.now c.read_payload.new.self reads.whole (length c.read_payload.new.out) c.read_payload.result
-    reads.answers
+pub returns-in-Err-clause-room : goal.returns-in-Err-clause-room
+returns-in-Err-clause-room g c = omega (arith, c.requires, c.in-Err.ensures.reads.went.along.capacity)
+
+pub returns-in-Err-clause-takes : goal.returns-in-Err-clause-takes
+returns-in-Err-clause-takes g c =
+    let reads = c.in-Err.ensures.reads in
+    chunks_take g.R.TellRead.remaining std_read_rules c.args.body.now c.get_ref.ensures.whole [] c.read_payload.new.self
+    reads.whole reads.went
+
+pub returns-in-Err-clause-fails : goal.returns-in-Err-clause-fails
+returns-in-Err-clause-fails g c =
+    let reads = c.in-Err.ensures.reads in
+    rw c.unread.ensures (chunks_fail c.args.body.now c.read_payload.new.self reads.whole c.requires.some
+    (length c.read_payload.new.out) c.in-Err.e reads.answers)

@@ -29,7 +29,7 @@ returns-in-Err-with_buffer g c =
     let three : b ≡ d = ap (λ x. record { left = bytes; inner = x; log = log x }) stream in
     let four : d ≡ e = ap (λ x. record { left = bytes; inner = x; log = log inner }) apart.inner in
     let five : e ≡ unbuffered reader = ap (λ x. record { left = bytes; inner = reader.inner; log = x }) apart.log in
-    let ends = c.in-Ok.ensures in
+    let ends = c.in-Ok.ensures.ends in
     let takes = ends_of remaining (stream_of source) (rest_of source) (unbuffered reader) ends in
     let here : Takes remaining (stream_of source) (rest_of source) ends.payload u (Bytes 0) =
     subst (λ v. Takes remaining (stream_of source) (rest_of source) ends.payload v (Bytes 0))
@@ -38,19 +38,21 @@ returns-in-Err-with_buffer g c =
       record {
         takes = subst (λ x. Takes remaining x.stream x.rest ends.payload u (Bytes 0)) c.self.view_is here;
         head = ap (λ x. x.head) c.self.view_is;
+        said = ap (λ x. x.said) c.self.view_is;
       },
       refl,
     )
 
 pub returns-in-Err : goal.returns-in-Err
 returns-in-Err g c =
-    let failed = c.in-Err.ensures in
+    let failed = c.in-Err.ensures.ends in
     let t = stream_of c.in-Err.source in
     let r = rest_of c.in-Err.source in (
       failed.0,
       record {
         takes = subst (λ x. Takes g.R.TellRead.remaining x.stream x.rest failed.0 t r) c.self.view_is failed.1;
         head = ap (λ x. x.head) c.self.view_is;
+        said = ap (λ x. x.said) c.self.view_is;
       },
       subst (λ x. FailsBehind x.stream failed.0 c.in-Err.e t r) c.self.view_is failed.2,
     )

@@ -11,7 +11,7 @@ pub unreachable-requires : goal.unreachable-requires
 unreachable-requires g c =
     let next = rw c.in-Ok-Some.field-0-is at c.in-Ok-Some.ensures.next in
     let head = lent g.R.TellRead.remaining c.self.inside.pieces c.step.new.self _ next in
-    c.in_default.ensures.none head.extent (subst (λ l. IsHead l head.extent) (sym c.lent-lent.ensures) head.is)
+    c.in_default.ensures.none head.said (subst (λ l. IsHead l head.said) (sym c.lent-lent.ensures) head.is)
 
 pub append-requires : goal.append-requires
 append-requires g c =
@@ -32,10 +32,10 @@ returns-in-Some g c =
     let s = c.self.inside.pieces in
     let t = c.step.new.self in
     let payload = bytes_at c.in-Ok-Some.span t.reader.block.bytes in
-    let extent = c.in-Some.extent in
+    let said = c.in-Some.said in
     let inner = c.into_inner_with_buffer-inner.result.0 in
     let buffer = c.into_inner_with_buffer-inner.result.1 in
-    let apart = c.into_inner_with_buffer-inner.ensures in
+    let apart = c.into_inner_with_buffer-inner.ensures.apart in
     let log = g.R.Tell.log inner in
     let u : Unbuffered g.row.R.Denot = unbuffered c.with_buffer.result in
     let a : Unbuffered g.row.R.Denot = record { left = buffer.bytes; inner = inner; log = log } in
@@ -47,9 +47,9 @@ returns-in-Some g c =
     let four : d ≡ left_of t = ap (λ x. record { left = rest t; inner = t.reader.inner; log = x }) apart.log in
     let bytes : c.append.new.self.bytes ≡ payload =
     c.append.ensures.bytes.bytes ∙ ap (λ l. l ++ c.lent-lent.result.now) c.clear.ensures.bytes.bytes ∙ c.lent-lent.ensures in
-    let is : IsHead payload extent = subst (λ l. IsHead l extent) c.lent-lent.ensures c.in-Some.ensures.some in
-    let begins : Begun remaining s (begun u payload extent) =
-    Begun-of remaining s t payload (rw c.in-Ok-Some.field-0-is at c.in-Ok-Some.ensures.next) extent is u (one ∙ two ∙ three ∙ four) in
+    let is : IsHead payload said = subst (λ l. IsHead l said) c.lent-lent.ensures c.in-Some.ensures.some in
+    let begins : Begun remaining s (begun u payload said) =
+    Begun-of remaining s t payload (rw c.in-Ok-Some.field-0-is at c.in-Ok-Some.ensures.next) said is u (one ∙ two ∙ three ∙ four) in
     rw c.new.ensures
-    (subst (λ x. Begun remaining x (begun u c.append.new.self.bytes extent)) c.self.view_is
-    (subst (λ l. Begun remaining s (begun u l extent)) (sym bytes) begins))
+    (subst (λ x. Begun remaining x (begun u c.append.new.self.bytes said)) c.self.view_is
+    (subst (λ l. Begun remaining s (begun u l said)) (sym bytes) begins))

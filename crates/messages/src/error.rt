@@ -1,0 +1,62 @@
+//! Why there is no payload, or no way to the next head.
+ghost use Rattle.std.specs.Prelude.{◌≡◌};
+ghost use Rattle.messages.specs.Messages.{body_error};
+
+use buffer_redux::GrowError;
+use chunked::{ChunkedError, Malformed};
+use std::error::Error;
+use std::{fmt, io};
+
+/// Why there is no further payload.
+#[derive(Debug, Drop)]
+pub enum BodyError {
+    /// What comes next is wrong, and stays: each further call says the same.
+    Wrong(Malformed),
+    /// The stream ended within the body: it was asked, and gave nothing.
+    Truncated,
+    /// The stream failed. The call can be made again.
+    Io(io::Error),
+}
+
+/// Why the next head can't be gone on to.
+#[derive(Debug, Drop)]
+pub enum FinishError {
+    /// The body doesn't end.
+    Body(BodyError),
+    /// Memory was wanted for the next head. The call can be made again.
+    Memory(GrowError),
+}
+
+impl fmt::Display for BodyError {
+    fn fmt<W: fmt::Write>(&self, f: &mut fmt::Formatter<W>) -> fmt::Result {
+        match self {
+            BodyError::Wrong(why) => fmt::Display::fmt(why, f),
+            BodyError::Truncated => f.write_str("the stream ended within a body"),
+            BodyError::Io(e) => fmt::Display::fmt(e, f),
+        }
+    }
+}
+
+impl Error for BodyError {}
+
+impl From<io::Error> for BodyError {
+    ghost use Rattle.std.specs.Prelude.{◌≡◌};
+    ghost use Rattle.messages.specs.declared.error.BodyError.TheVariants.{Io};
+
+    ghost from_gives = { λ e r. r ≡ Io e };
+
+    fn from(e: io::Error) -> BodyError {
+        BodyError::Io(e)
+    }
+}
+
+// Why a reader of chunks handed none out.
+pub(crate) fn unread(e: ChunkedError) -> BodyError
+    ensures { result ≡ body_error e }
+{
+    match e {
+        ChunkedError::NotChunked(why, _) => BodyError::Wrong(why),
+        ChunkedError::Truncated(_) => BodyError::Truncated,
+        ChunkedError::Io(e) => BodyError::Io(e),
+    }
+}
