@@ -1,5 +1,5 @@
 -- How the reader inside is asked in one fill, and how often it gives nothing: at its end alone.
-use Rattle.std.proofs.Common.{◌≡◌, ℕ, zero, suc, ◌+◌, ◌<◌, ◌≤◌, ◌⊎◌, ◌==◌, Bool, true, false, [], length, Result, Ok, Err, inl, inr, sym, ap, subst, ◌∙◌, arith, append-nil, length-append}
+use Rattle.std.proofs.Common.{◌≡◌, ℕ, zero, suc, ◌+◌, ◌<◌, ◌≤◌, ◌==◌, Bool, true, false, List, [], ◌++◌, length, Result, Ok, Err, inl, inr, sym, ap, subst, ◌∙◌, arith, append-nil, length-append}
 use Rattle.std.proofs.lemmas.Bool.{cases_lt}
 use Rattle.std.proofs.lemmas.List.{nil_from_length}
 use Rattle.std.proofs.lemmas.Bool.Decides.{nat_tests}
@@ -10,6 +10,7 @@ use Rattle.buffer_redux.specs.EmptyReads.{ReadsWhenEmpty-std, none_where_shown, 
 use Rattle.buffer_redux.specs.Fill.{Turns}
 use Rattle.buffer_redux.specs.Policy.{std_read_rules}
 use Rattle.buffer_redux.specs.ReaderLaws.{Fills-empty, WantsBytes-std}
+use Rattle.buffer_redux.specs.StreamLog.{StreamLog, after_read}
 use Rattle.buffer_redux.specs.declared.policy.StdPolicy.{StdPolicy}
 use Rattle.programs.specs.Prompt.{AskedLast}
 use Rattle.bodies.specs.AtEnd.{Asks, AsksOnce, EndsOnce}
@@ -29,6 +30,12 @@ turns_asked (suc k) s t (m, run, turn) = omega (arith, turns_asked k s m run, ap
 no_turn : {R : Type 0} (k : ℕ) (s t : Buffered R StdPolicy) → Turns std_read_rules k s t → k ≡ 0 → t.log ≡ s.log
 no_turn zero s t same none = ap (λ x. x.log) (sym same)
 no_turn (suc k) s t run none = absurd (omega (arith, none))
+
+-- what was given behind a read ends with what it gave
+pub given_last : (old new : StreamLog) (out : List ℕ) (answer : Result ℕ Error) → new ≡ after_read old out answer
+    → new.reads.given ≡ old.reads.given ++ new.reads.latest
+given_last old new out answer told =
+    ap (λ l. l.reads.given) told ∙ ap (λ l. old.reads.given ++ l.reads.latest) (sym told)
 
 module _ {R A : Type 0} (s t : Buffered R StdPolicy) where
   -- where none was asked, nothing is told
@@ -59,7 +66,13 @@ module _ {R A : Type 0} (s t : Buffered R StdPolicy) where
     | inl more ↦
         let ask = fills.last more in
         let none = none_of (length ask.before.block.bytes) ask.ordered.asked.allowed.2 in
-        inr (nil_from_length s.block.bytes (omega (arith, ask.saw, none)), omega (arith, ask.asks, ask.saw, none))
+        let first : ask.count ≡ 0 = omega (arith, ask.saw, none) in
+        inr (record {
+          empty = nil_from_length s.block.bytes (omega (arith, ask.saw, none));
+          given = given_last ask.before.log t.log ask.out ask.answer ask.told
+              ∙ ap (λ l. l.reads.given ++ t.log.reads.latest) (no_turn ask.count s ask.before ask.turns first);
+          asks = omega (arith, ask.asks, first);
+        })
     | inr same ↦ inl (unasked answer fills (omega (arith, same, fills.grows.asks)))
   ]
 
@@ -88,40 +101,31 @@ module _ {R A : Type 0} (s t : Buffered R StdPolicy) where
 
 pub asked_once : {R : Type 0} (s t : Buffered R StdPolicy) → AsksOnce s t → t.log.reads.asks ≤ s.log.reads.asks + 1
 asked_once s t (inl same) = omega (arith, ap (λ l. l.reads.asks) same)
-asked_once s t (inr asked) = omega (arith, asked.1)
+asked_once s t (inr once) = omega (arith, once.asks)
 
 -- what is told of it stays
 pub asks_same : {R : Type 0} (s m t : Buffered R StdPolicy) → t.log ≡ m.log → Asks s m → Asks s t
 asks_same s m t same (inl none) = inl (same ∙ none)
 asks_same s m t same (inr over) = inr (record {
   empty = over.empty;
-  last = over.last;
-  asked = subst (λ l. AskedLast [] over.last s.log l) (sym same) over.asked;
+  asked = subst (λ l. AskedLast [] s.log l) (sym same) over.asked;
 })
 
 -- asks that failed, and then one more
-module _ {R : Type 0} (s m t : Buffered R StdPolicy) (along : ReadsInOrder s [] m) (over : (m.log ≡ s.log) ⊎ (s.block.bytes ≡ []))
-    (few : m.log.reads.asks + length s.log.reads.faults ≤ s.log.reads.asks + length m.log.reads.faults) where
-  empty_before : m.block.bytes ≡ [] → s.block.bytes ≡ []
-  empty_before none = nil_from_length s.block.bytes
-      (omega (arith, ap length none, ap length along.equal, length-append s.block.bytes along.got))
-
-  pub asks_more : AsksOnce m t → (t.log ≡ s.log) ⊎ (s.block.bytes ≡ [])
-  asks_more (inl same) = elim over [ inl none ↦ inl (same ∙ none) | inr empty ↦ inr empty ]
-  asks_more (inr asked) = inr (empty_before asked.0)
-
-  pub asks_last : (all : ReadsInOrder s [] t) → length m.log.reads.faults ≤ length t.log.reads.faults → AsksOnce m t → Asks s t
-  asks_last all grows one = elim (asks_more one) [
-    | inl none ↦ inl none
-    | inr empty ↦ inr (record {
-      empty = empty;
-      last = all.got;
+pub asks_on : {R : Type 0} (s m t : Buffered R StdPolicy) → ReadsInOrder s [] m → Asks s m
+    → m.log.reads.asks + length s.log.reads.faults ≤ s.log.reads.asks + length m.log.reads.faults
+    → length m.log.reads.faults ≤ length t.log.reads.faults → AsksOnce m t → Asks s t
+asks_on s m t along before few more (inl same) = asks_same s m t same before
+asks_on s m t along before few more (inr once) =
+    let none : length s.block.bytes + length along.got ≡ 0 =
+    omega (arith, ap length once.empty, ap length along.equal, length-append s.block.bytes along.got) in
+    let same : m.log.reads.given ≡ s.log.reads.given =
+    along.given ∙ ap (λ l. s.log.reads.given ++ l) (nil_from_length along.got (omega (arith, none)))
+    ∙ append-nil s.log.reads.given in
+    inr (record {
+      empty = nil_from_length s.block.bytes (omega (arith, none));
       asked = record {
-        given = all.given;
-        asks = elim one [
-          | inl same ↦ omega (arith, few, ap (λ l. l.reads.asks) same, ap (λ l. length l.reads.faults) same)
-          | inr asked ↦ omega (arith, few, asked.1, grows)
-        ];
+        given = once.given ∙ ap (λ l. l ++ t.log.reads.latest) same;
+        asks = omega (arith, few, once.asks, more);
       };
     })
-  ]

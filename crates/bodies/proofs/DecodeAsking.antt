@@ -1,5 +1,5 @@
 -- How one read of payload asks the reader inside.
-use Rattle.std.proofs.Common.{◌≡◌, ℕ, zero, suc, ◌+◌, ◌<◌, ◌≤◌, ◌⊎◌, inl, inr, List, [], ◌∷◌, ◌++◌, length, take, drop, min, Option, Result, Ok, Err, refl, sym, ap, subst, ◌∙◌, arith, append-nil, length-append, length-take-le, take-append-drop}
+use Rattle.std.proofs.Common.{◌≡◌, ℕ, zero, suc, ◌<◌, ◌≤◌, ◌⊎◌, inl, inr, List, [], ◌∷◌, ◌++◌, length, take, drop, min, Option, Result, Ok, Err, refl, sym, ap, subst, ◌∙◌, arith, append-nil, length-append, length-take-le, take-append-drop}
 use Rattle.std.proofs.lemmas.Bool.{cases_lt}
 use Rattle.std.proofs.lemmas.List.{nil_from_length}
 use Rattle.std.specs.declared.io.Error.{Error}
@@ -7,7 +7,7 @@ use Rattle.buffer_redux.specs.BufReader.{Fills, ReaderConsumes, Reads, ReadsBuff
 use Rattle.buffer_redux.specs.Buffered.{Buffered}
 use Rattle.buffer_redux.specs.Policy.{std_read_rules}
 use Rattle.buffer_redux.specs.ReaderLaws.{ReadsInOrder-joins, ReadsInOrder-none}
-use Rattle.buffer_redux.specs.StreamLog.{portion, with_fault}
+use Rattle.buffer_redux.specs.StreamLog.{with_fault}
 use Rattle.buffer_redux.specs.declared.policy.StdPolicy.{StdPolicy}
 use Rattle.chunked.specs.Between.{FillsAndTakes, LastCall, TakesTurn, TakesTurns}
 use Rattle.chunked.specs.Dechunking.{Dechunking, IsDechunking, ReadsPayload, handed_of}
@@ -20,15 +20,13 @@ use Rattle.chunked.specs.declared.place.Place.{Place}
 use Rattle.chunked.specs.declared.place.Place.TheVariants.{Line}
 use Rattle.programs.specs.Prompt.{AskedLast, AsksGive}
 use Rattle.programs.specs.PromptLaws.{AskedLast-after}
+use Rattle.bodies.specs.AtEnd.{AskedOnce}
 use Rattle.bodies.specs.Decode.{AskedOver}
-use Rattle.bodies.proofs.Asking.{asks_once, none_after_fault}
+use Rattle.bodies.proofs.Asking.{asks_once, given_last, none_after_fault}
 
--- the reader inside was asked where nothing was buffered, and once, and this came
+-- the reader inside was asked where nothing was buffered, and once
 pub record Once {R : Type 0} (m t : Buffered R StdPolicy) : Type 0 where
-  pub empty : m.block.bytes ≡ []
-  pub came : List ℕ
-  pub given : t.log.reads.given ≡ m.log.reads.given ++ came
-  pub asks : t.log.reads.asks ≡ m.log.reads.asks + 1
+  pub asked : AskedOnce m t
   pub faults : length m.log.reads.faults ≤ length t.log.reads.faults
 
 -- or it wasn't
@@ -43,10 +41,11 @@ module _ {R : Type 0} where
   told_on : (m f t : Buffered R StdPolicy) → t.log ≡ f.log → OnceAtMost m f → OnceAtMost m t
   told_on m f t same (inl none) = inl (same ∙ none)
   told_on m f t same (inr once) = inr (record {
-    empty = once.empty;
-    came = once.came;
-    given = ap (λ l. l.reads.given) same ∙ once.given;
-    asks = ap (λ l. l.reads.asks) same ∙ once.asks;
+    asked = record {
+      empty = once.asked.empty;
+      given = ap (λ l. l.reads.given) same ∙ once.asked.given ∙ ap (λ l. m.log.reads.given ++ l.reads.latest) (sym same);
+      asks = ap (λ l. l.reads.asks) same ∙ once.asked.asks;
+    };
     faults = omega (arith, once.faults, ap (λ l. length l.reads.faults) same);
   })
 
@@ -55,10 +54,7 @@ module _ {R : Type 0} where
   fill_once m f answer fills = elim (asks_once m f answer fills) [
     | inl same ↦ inl same
     | inr asked ↦ inr (record {
-      empty = asked.0;
-      came = fills.in_order.got;
-      given = fills.in_order.given;
-      asks = asked.1;
+      asked = asked;
       faults = omega (
         arith,
         ap length fills.grows.faults.equal,
@@ -81,10 +77,11 @@ module _ {R : Type 0} where
         | inr long ↦
             let direct = reads.direct (omega (arith, none), long) in
             inr (record {
-              empty = nil_from_length m.block.bytes (omega (arith, none));
-              came = portion after answer;
-              given = ap (λ l. l.reads.given) direct.told;
-              asks = ap (λ l. l.reads.asks) direct.told;
+              asked = record {
+                empty = nil_from_length m.block.bytes (omega (arith, none));
+                given = given_last m.log t.log after answer direct.told;
+                asks = ap (λ l. l.reads.asks) direct.told;
+              };
               faults = omega (
                 arith,
                 ap (λ l. length l.reads.faults) direct.told,
@@ -126,8 +123,7 @@ module _ {R : Type 0} (limits : Limits) (s : Buffered R StdPolicy) (p : Place) w
   -- it was asked, also for the last time, only where what was buffered, then what had come, led to a place and held no payload
   pub record LastOver (t : Buffered R StdPolicy) : Type 0 where
     pub came : List ℕ
-    pub last : List ℕ
-    pub asked : AskedLast came last s.log t.log
+    pub asked : AskedLast came s.log t.log
     pub place : Place
     pub leads : Leads limits p (s.block.bytes ++ came) [] place
     pub is_place : IsPlace place
@@ -146,8 +142,7 @@ module _ {R : Type 0} (limits : Limits) (s : Buffered R StdPolicy) (p : Place) w
   over_on m t same (inl none) = inl (same ∙ none)
   over_on m t same (inr over) = inr (record {
     came = over.came;
-    last = over.last;
-    asked = subst (λ l. AskedLast over.came over.last s.log l) (sym same) over.asked;
+    asked = subst (λ l. AskedLast over.came s.log l) (sym same) over.asked;
     place = over.place;
     leads = over.leads;
     is_place = over.is_place;
@@ -160,13 +155,12 @@ module _ {R : Type 0} (limits : Limits) (s : Buffered R StdPolicy) (p : Place) w
   then_once m t r done (inr once) =
       let got = done.order.got in
       let all : done.wire ≡ s.block.bytes ++ got =
-      sym (append-nil done.wire) ∙ ap (λ l. done.wire ++ l) (sym once.empty) ∙ done.order.equal in
+      sym (append-nil done.wire) ∙ ap (λ l. done.wire ++ l) (sym once.asked.empty) ∙ done.order.equal in
       inr (record {
         came = got;
-        last = once.came;
-        asked = subst (λ l. AskedLast l once.came s.log t.log) (append-nil got)
-            (AskedLast-after s.log m.log t.log got [] once.came done.order.given done.give
-            (record { given = once.given; asks = omega (arith, once.asks, once.faults) }));
+        asked = subst (λ l. AskedLast l s.log t.log) (append-nil got)
+            (AskedLast-after s.log m.log t.log got [] done.order.given done.give
+            (record { given = once.asked.given; asks = omega (arith, once.asked.asks, once.faults) }));
         place = r;
         leads = subst (λ l. Leads limits p l [] r) all done.leads;
         is_place = done.is_place;
@@ -215,11 +209,11 @@ module _ {R : Type 0} (limits : Limits) (s : Buffered R StdPolicy) (p : Place) w
           | inr one ↦ omega (
             arith,
             done.give,
-            one.asks,
+            one.asked.asks,
             one.faults,
             turn.some,
             turn.takes.held,
-            ap length one.empty,
+            ap length one.asked.empty,
             ap length fills.in_order.equal,
             ap length fills.in_order.given,
             ap (λ l. length l.reads.given) took.told,
@@ -258,7 +252,6 @@ module _ {R : Type 0} (remaining : R → Option (List ℕ)) (s t : Dechunking R 
   lift : LastOver s.limits s.reader s.place t.reader → AskedOver s t
   lift over = record {
     came = over.came;
-    last = over.last;
     asked = over.asked;
     due = record {
       place = over.place;
@@ -317,9 +310,10 @@ module _ {R : Type 0} (remaining : R → Option (List ℕ)) (s t : Dechunking R 
     | inr one ↦ omega (
       arith,
       (done (Ok (suc n)) reads).give,
-      one.asks,
+      one.asked.asks,
       one.faults,
-      read_gave reads.calls.last t.reader reads.calls.call.before reads.calls.call.after n reads.calls.call.reads one.empty,
+      read_gave reads.calls.last t.reader reads.calls.call.before reads.calls.call.after n reads.calls.call.reads
+          one.asked.empty,
     )
   ]
 
@@ -334,9 +328,9 @@ module _ {R : Type 0} (remaining : R → Option (List ℕ)) (s t : Dechunking R 
         | inr one ↦ omega (
           arith,
           turns.give,
-          one.asks,
-          ap length one.given,
-          length-append reads.calls.last.log.reads.given one.came,
+          one.asked.asks,
+          ap length one.asked.given,
+          length-append reads.calls.last.log.reads.given t.reader.log.reads.latest,
           ap length turns.no_fault,
           ap length fault,
           length-append s.reader.log.reads.faults (e ∷ []),

@@ -37,8 +37,7 @@ module _ {R : Type 0} (remaining : R → Option (List ℕ)) (s m t : Dechunking 
       let order = went.along.in_order in
       record {
         came = order.got ++ over.came;
-        last = over.last;
-        asked = AskedLast-after s.reader.log m.reader.log t.reader.log order.got over.came over.last order.given give over.asked;
+        asked = AskedLast-after s.reader.log m.reader.log t.reader.log order.got over.came order.given give over.asked;
         due = subst (λ l. IsDue l (s.taken ++ (s.reader.block.bytes ++ (order.got ++ over.came))) (handed_of s)) went.limits
             (subst (λ l. IsDue m.limits l (handed_of s)) (had over.came)
             (subst (λ l. IsDue m.limits (m.taken ++ (m.reader.block.bytes ++ over.came)) l)
@@ -48,8 +47,7 @@ module _ {R : Type 0} (remaining : R → Option (List ℕ)) (s m t : Dechunking 
   over_same : t.reader.log ≡ m.reader.log → AskedOver s m → AskedOver s t
   over_same same over = record {
     came = over.came;
-    last = over.last;
-    asked = subst (λ l. AskedLast over.came over.last s.reader.log l) (sym same) over.asked;
+    asked = subst (λ l. AskedLast over.came s.reader.log l) (sym same) over.asked;
     due = over.due;
   }
 
@@ -79,11 +77,8 @@ module _ {R W : Type 0} (remaining : R → Option (List ℕ)) (s m t : Dechunkin
       let payload : handed_of m ≡ each.payload = went.handed ∙ ap (λ l. l ++ each.payload) unread.handed in
       inr (record {
         before = m.taken ++ (m.reader.block.bytes ++ over.came);
-        last = over.last;
-        asked = subst (λ l. AskedLast l over.last s.reader.log t.reader.log)
-            (append_assoc m.taken m.reader.block.bytes over.came)
-            (AskedLast-after s.reader.log m.reader.log t.reader.log (m.taken ++ m.reader.block.bytes) over.came over.last
-            given give
+        asked = subst (λ l. AskedLast l s.reader.log t.reader.log) (append_assoc m.taken m.reader.block.bytes over.came)
+            (AskedLast-after s.reader.log m.reader.log t.reader.log (m.taken ++ m.reader.block.bytes) over.came given give
             over.asked);
         due = handed_of m;
         is_due = subst (λ l. IsDue l (m.taken ++ (m.reader.block.bytes ++ over.came)) (handed_of m)) went.limits over.due;
@@ -122,7 +117,6 @@ module _ {R W : Type 0} (remaining : R → Option (List ℕ)) (s m : Dechunking 
       (inr (
         record {
           came = [];
-          last = over.last;
           asked = over.asked;
           due = record {
             place = m.place;

@@ -26,9 +26,8 @@ module _ {R W : Type 0} (remaining : R → Option (List ℕ)) (stretch : W → W
       ∙ ap (λ l. s.log.reads.given ++ l) (append-nil before.payload) in
       inr (record {
         before = before.payload;
-        last = over.last;
-        asked = subst (λ l. AskedLast l over.last s.log t.log) (append-nil before.payload)
-            (AskedLast-after s.log m.log t.log before.payload [] over.last given give over.asked);
+        asked = subst (λ l. AskedLast l s.log t.log) (append-nil before.payload)
+            (AskedLast-after s.log m.log t.log before.payload [] given give over.asked);
         due = chunks went.payloads;
         is_due = record {
           payloads = went.payloads;

@@ -61,8 +61,7 @@ pub record IsUnread {R : Type 0} (s : Dechunking R StdPolicy) : Type 0 where
 -- each ask but the last gave a byte, or failed
 pub record AskedOver {R : Type 0} (s t : Dechunking R StdPolicy) : Type 0 where
   pub came : List ℕ
-  pub last : List ℕ
-  pub asked : AskedLast came last s.reader.log t.reader.log
+  pub asked : AskedLast came s.reader.log t.reader.log
   pub due : IsDue s.limits (s.taken ++ (s.reader.block.bytes ++ came)) (handed_of s)
 
 -- or it wasn't

@@ -12,8 +12,8 @@ use Rattle.line_reader.specs.Lining.{HasLine, Lining, rest}
 use Rattle.line_reader.specs.NextLine.{AskedOver as AskedOverLine, LinesWent, NextAnswer, NextLine}
 use Rattle.line_reader.specs.declared.error.LineError.TheVariants.{TooLong, Io}
 use Rattle.frames.specs.Pack.{Asks, AskedOver, AsksSent, AsksWhenSent, IsDue, MayAsk, PacksLines}
-use Rattle.programs.specs.Prompt.{AskedLast, AsksGive, KeepsNothingBack, WasSent, WritesOn}
-use Rattle.programs.specs.PromptLaws.{AskedLast-after, GivenBefore-of, KeepsNothingBack-on}
+use Rattle.programs.specs.Prompt.{AskedLast, AsksGive, HoldsNothingBack, WasSent, WritesOn}
+use Rattle.programs.specs.PromptLaws.{AskedLast-after, HoldsNothingBack-on}
 use Rattle.frames.proofs.PackingAll.{still_open, all_whole}
 use Rattle.frames.proofs.PackRuns.{given}
 
@@ -49,9 +49,10 @@ module _ {R : Type 0} (remaining : R → Option (List ℕ)) (s t : Lining R) whe
       | inr over ↦ inr (record {
         going = over.not_ended;
         came = over.came;
-        last = over.last;
-        asked = record { given = over.given; asks = omega (arith, over.asks, more_faults) };
-        latest = over.latest;
+        asked = record {
+          given = over.given ∙ ap (λ l. s.reader.log.reads.given ++ (over.came ++ l)) (sym over.latest);
+          asks = omega (arith, over.asks, more_faults);
+        };
         left = over.such;
       })
     ]
@@ -135,9 +136,7 @@ asks_again remaining s m t going went same_end first then before = record {
       | inr over ↦ inr (record {
         going = over.going;
         came = over.came;
-        last = over.last;
-        asked = subst (λ l. AskedLast over.came over.last s.reader.log l) (sym same) over.asked;
-        latest = ap (λ l. l.reads.latest) same ∙ over.latest;
+        asked = subst (λ l. AskedLast over.came s.reader.log l) (sym same) over.asked;
         left = over.left;
       })
     ]
@@ -146,10 +145,8 @@ asks_again remaining s m t going went same_end first then before = record {
         inr (record {
           going = sym same_end ∙ over.going;
           came = got ++ over.came;
-          last = over.last;
-          asked = AskedLast-after s.reader.log m.reader.log t.reader.log got over.came over.last went.hands.given
+          asked = AskedLast-after s.reader.log m.reader.log t.reader.log got over.came went.hands.given
               (first.give refl over.going) over.asked;
-          latest = over.latest;
           left = subst (λ l. IsUnended s.max l)
               (ap (λ l. l ++ over.came) went.hands.equal ∙ append_assoc (rest s) got over.came)
               (subst (λ n. IsUnended n (rest m ++ over.came)) went.decoder over.left);
@@ -189,7 +186,7 @@ module _ {R W : Type 0} (remaining : R → Option (List ℕ)) (stretch : W → W
     (none' : s.reader.block.bytes ≡ []) (none'' : unsent u ≡ []) (most : s.max ≡ u.max) (count : ℕ)
     (before : PacksLines remaining stretch s u count m w)
     (give : m.ended ≡ false → AsksGive s.reader.log m.reader.log) where
-  sends : AsksSent m w t v → KeepsNothingBack (IsDue s.max) s.reader.log t.reader.log u.writer.log v.writer.log
+  sends : AsksSent m w t v → HoldsNothingBack (IsDue s.max) s.reader.log t.reader.log u.writer.log v.writer.log
   sends asks =
       let over = asks.over in
       let came = before.bytes ++ rest m in
@@ -199,9 +196,7 @@ module _ {R W : Type 0} (remaining : R → Option (List ℕ)) (stretch : W → W
       sym (append-nil before.bytes) ∙ all_whole remaining stretch none joins s u count m w before ended in
       inr (record {
         before = came ++ over.came;
-        given = GivenBefore-of (came ++ over.came) over.last s.reader.log t.reader.log
-            (AskedLast-after s.reader.log m.reader.log t.reader.log came over.came over.last given_m (give over.going)
-            over.asked) over.latest;
+        asked = AskedLast-after s.reader.log m.reader.log t.reader.log came over.came given_m (give over.going) over.asked;
         due = frames before.lines;
         is_due = record {
           lines = before.lines;
@@ -216,11 +211,11 @@ module _ {R W : Type 0} (remaining : R → Option (List ℕ)) (stretch : W → W
             (WritesInOrder-fresh u.writer w.writer (frames before.lines) none'' before.went.taken.in_order) asks.sent;
       })
 
-  pub held_more : KeepsNothingBack (IsDue s.max) s.reader.log m.reader.log u.writer.log w.writer.log → AsksWhenSent m w t v
+  pub held_more : HoldsNothingBack (IsDue s.max) s.reader.log m.reader.log u.writer.log w.writer.log → AsksWhenSent m w t v
       → WritesOn w.writer.log.writes v.writer.log.writes
-      → KeepsNothingBack (IsDue s.max) s.reader.log t.reader.log u.writer.log v.writer.log
+      → HoldsNothingBack (IsDue s.max) s.reader.log t.reader.log u.writer.log v.writer.log
   held_more held asks more = elim asks [
-    | inl same ↦ KeepsNothingBack-on (IsDue s.max) s.reader.log m.reader.log t.reader.log u.writer.log w.writer.log
+    | inl same ↦ HoldsNothingBack-on (IsDue s.max) s.reader.log m.reader.log t.reader.log u.writer.log w.writer.log
         v.writer.log held same more
     | inr sent ↦ sends sent
   ]

@@ -10,8 +10,8 @@ use Rattle.frame_reader.specs.Next.{FramesWent, IsSettled, IsUnsettled, Next, Ne
 use Rattle.frame_reader.specs.declared.error.FrameError.TheVariants.{Truncated, TooLong, Io}
 use Rattle.line_reader.specs.Lines.{with_ends}
 use Rattle.frames.specs.Unpack.{Asks, AskedOver, AsksSent, AsksWhenSent, IsDue, UnpacksEach}
-use Rattle.programs.specs.Prompt.{AskedLast, AsksGive, KeepsNothingBack, WasSent, WritesOn}
-use Rattle.programs.specs.PromptLaws.{AskedLast-after, GivenBefore-of, KeepsNothingBack-on}
+use Rattle.programs.specs.Prompt.{AskedLast, AsksGive, HoldsNothingBack, WasSent, WritesOn}
+use Rattle.programs.specs.PromptLaws.{AskedLast-after, HoldsNothingBack-on}
 use Rattle.frames.proofs.Unpacking.{unsettled_before}
 use Rattle.frames.proofs.UnpackRuns.{given}
 
@@ -34,9 +34,10 @@ module _ {R : Type 0} (remaining : R → Option (List ℕ)) (s t : Framing R) wh
     | inl same ↦ inl same
     | inr over ↦ inr (record {
       came = over.came;
-      last = over.last;
-      asked = record { given = over.given; asks = omega (arith, over.asks, more_faults answer next) };
-      latest = over.latest;
+      asked = record {
+        given = over.given ∙ ap (λ l. s.reader.log.reads.given ++ (over.came ++ l)) (sym over.latest);
+        asks = omega (arith, over.asks, more_faults answer next);
+      };
       left = over.such;
     })
   ]
@@ -101,9 +102,7 @@ asks_again remaining s m t going went first then = record {
       | inl none ↦ inl (same ∙ none)
       | inr over ↦ inr (record {
         came = over.came;
-        last = over.last;
-        asked = subst (λ l. AskedLast over.came over.last s.reader.log l) (sym same) over.asked;
-        latest = ap (λ l. l.reads.latest) same ∙ over.latest;
+        asked = subst (λ l. AskedLast over.came s.reader.log l) (sym same) over.asked;
         left = over.left;
       })
     ]
@@ -111,10 +110,8 @@ asks_again remaining s m t going went first then = record {
         let got = went.hands.got in
         inr (record {
           came = got ++ over.came;
-          last = over.last;
-          asked = AskedLast-after s.reader.log m.reader.log t.reader.log got over.came over.last went.hands.given
+          asked = AskedLast-after s.reader.log m.reader.log t.reader.log got over.came went.hands.given
               (first.give refl) over.asked;
-          latest = over.latest;
           left = subst (λ l. IsUnsettled s.max l)
               (ap (λ l. l ++ over.came) went.hands.equal ∙ append_assoc (rest s) got over.came)
               (subst (λ n. IsUnsettled n (rest m ++ over.came)) went.max over.left);
@@ -145,16 +142,14 @@ asks_sent s t u w v going asks sent = elim asks.over [
 module _ {R W : Type 0} (remaining : R → Option (List ℕ)) (s m t : Framing R) (u w v : Buffered W StdPolicy)
     (none : s.reader.block.bytes ≡ []) (none' : u.block.bytes ≡ []) (each : UnpacksEach remaining s u m w)
     (give : AsksGive s.reader.log m.reader.log) where
-  sends : AsksSent m w t v → KeepsNothingBack (IsDue s.max) s.reader.log t.reader.log u.log v.log
+  sends : AsksSent m w t v → HoldsNothingBack (IsDue s.max) s.reader.log t.reader.log u.log v.log
   sends asks =
       let over = asks.over in
       let came = frames each.payloads ++ rest m in
       let given_m = given remaining s m u w none none' each.payloads each.payloads each.went in
       inr (record {
         before = came ++ over.came;
-        given = GivenBefore-of (came ++ over.came) over.last s.reader.log t.reader.log
-            (AskedLast-after s.reader.log m.reader.log t.reader.log came over.came over.last given_m give over.asked)
-            over.latest;
+        asked = AskedLast-after s.reader.log m.reader.log t.reader.log came over.came given_m give over.asked;
         due = with_ends each.payloads;
         is_due = record {
           payloads = each.payloads;
@@ -170,9 +165,9 @@ module _ {R W : Type 0} (remaining : R → Option (List ℕ)) (s m t : Framing R
             asks.sent;
       })
 
-  pub held_more : KeepsNothingBack (IsDue s.max) s.reader.log m.reader.log u.log w.log → AsksWhenSent m w t v
-      → WritesOn w.log.writes v.log.writes → KeepsNothingBack (IsDue s.max) s.reader.log t.reader.log u.log v.log
+  pub held_more : HoldsNothingBack (IsDue s.max) s.reader.log m.reader.log u.log w.log → AsksWhenSent m w t v
+      → WritesOn w.log.writes v.log.writes → HoldsNothingBack (IsDue s.max) s.reader.log t.reader.log u.log v.log
   held_more held asks more = elim asks [
-    | inl same ↦ KeepsNothingBack-on (IsDue s.max) s.reader.log m.reader.log t.reader.log u.log w.log v.log held same more
+    | inl same ↦ HoldsNothingBack-on (IsDue s.max) s.reader.log m.reader.log t.reader.log u.log w.log v.log held same more
     | inr sent ↦ sends sent
   ]

@@ -10,7 +10,7 @@ use Rattle.frames.specs.Pack.{PackRan}
 use Rattle.frames.specs.Pack as packed
 use Rattle.frames.specs.Unpack.{UnpackRan}
 use Rattle.frames.specs.Unpack as unpacked
-use Rattle.programs.specs.Prompt.{KeepsNothingBack}
+use Rattle.programs.specs.Prompt.{HoldsNothingBack}
 use Rattle.programs.specs.Streams.{EndsOnce}
 
 -- there is one word, which is `pack`, or `unpack`
@@ -24,7 +24,7 @@ AskToUnpack words = words ≡ codes "unpack" ∷ []
 pub record PackedAs (ending : Ending) (read read' written written' : StreamLog) : Type 0 where
   pub answer : Result (Unit {0}) RunError
   pub ran : PackRan 65535 read read' written written' answer
-  pub prompt : KeepsNothingBack (packed.IsDue 65535) read read' written written'
+  pub prompt : HoldsNothingBack (packed.IsDue 65535) read read' written written'
   pub once : EndsOnce read.reads read'.reads
   pub ends : EndsAs answer ending
 
@@ -32,7 +32,7 @@ pub record PackedAs (ending : Ending) (read read' written written' : StreamLog) 
 pub record UnpackedAs (ending : Ending) (read read' written written' : StreamLog) : Type 0 where
   pub answer : Result (Unit {0}) RunError
   pub ran : UnpackRan 65535 read read' written written' answer
-  pub prompt : KeepsNothingBack (unpacked.IsDue 65535) read read' written written'
+  pub prompt : HoldsNothingBack (unpacked.IsDue 65535) read read' written written'
   pub once : EndsOnce read.reads read'.reads
   pub ends : EndsAs answer ending
 

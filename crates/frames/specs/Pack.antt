@@ -37,9 +37,7 @@ AllSent v = (unsent v ≡ []) × AllFlushed v.writer.log
 pub record AskedOver {R : Type 0} (s t : Lining R) : Type 0 where
   pub going : s.ended ≡ false
   pub came : List ℕ
-  pub last : List ℕ
-  pub asked : AskedLast came last s.reader.log t.reader.log
-  pub latest : t.reader.log.reads.latest ≡ last
+  pub asked : AskedLast came s.reader.log t.reader.log
   pub left : IsUnended s.max (rest s ++ came)
 
 -- how it was asked. Where the run goes on, and the reader hasn't ended, each ask gave a byte, or failed

@@ -123,9 +123,7 @@ UnpacksAndFlushes remaining s u (Err (Io e)) t v = UnpacksAll remaining s u (Err
 -- but the last gave a byte, or failed
 pub record AskedOver {R : Type 0} (s t : Framing R) : Type 0 where
   pub came : List ℕ
-  pub last : List ℕ
-  pub asked : AskedLast came last s.reader.log t.reader.log
-  pub latest : t.reader.log.reads.latest ≡ last
+  pub asked : AskedLast came s.reader.log t.reader.log
   pub left : IsUnsettled s.max (rest s ++ came)
 
 -- how it was asked. It gave nothing once at most, and where the run goes on each ask gave a byte, or failed

@@ -1,7 +1,7 @@
 //! Lines made frames, over any two streams that tell.
 ghost use Rattle.std.specs.Prelude.{◌≡◌, [], false};
 ghost use Rattle.frame_reader.specs.Outgoing.{unsent};
-ghost use Rattle.programs.specs.Prompt.{KeepsNothingBack, WritesOn};
+ghost use Rattle.programs.specs.Prompt.{HoldsNothingBack, WritesOn};
 ghost use Rattle.programs.specs.Streams.{EndsOnce};
 ghost use Rattle.frames.specs.Going.{goes_on, tries_on};
 ghost use Rattle.frames.specs.Pack.{AllSent, Asks, AsksWhenSent, IsDue, MayAsk};
@@ -29,7 +29,7 @@ pub fn pack<R: TellRead, W: TellWrite>(
     writer: W,
 ) -> (Result<(), RunError>, R, W)
     ensures ran { PackRan most (R.log reader) (R.log result.1) (W.log writer) (W.log result.2) result.0 }
-    ensures prompt { KeepsNothingBack (IsDue most) (R.log reader) (R.log result.1) (W.log writer) (W.log result.2) }
+    ensures prompt { HoldsNothingBack (IsDue most) (R.log reader) (R.log result.1) (W.log writer) (W.log result.2) }
     ensures once { EndsOnce (R.log reader).reads (R.log result.1).reads }
 {
     let mut source = match LineReader::new(alloc, reader, usize::from(most)) {
@@ -60,7 +60,7 @@ fn pack_all<R: TellRead, W: TellWrite>(
     requires nothing { source.old.reader.block.bytes ≡ [] }
     requires empty { unsent target.old ≡ [] }
     ensures packs { PacksAndFlushes R.remaining W.stretch source.old target.old result source.new target.new }
-    ensures prompt { KeepsNothingBack (IsDue source.old.max) source.old.reader.log source.new.reader.log
+    ensures prompt { HoldsNothingBack (IsDue source.old.max) source.old.reader.log source.new.reader.log
         target.old.writer.log target.new.writer.log }
     ensures once { EndsOnce source.old.reader.log.reads source.new.reader.log.reads }
 {
@@ -83,7 +83,7 @@ fn pack_lines<R: TellRead, W: TellWrite>(
     requires nothing { source.old.reader.block.bytes ≡ [] }
     requires empty { unsent target.old ≡ [] }
     ensures packs { PacksAll R.remaining W.stretch source.old target.old result source.new target.new }
-    ensures prompt { KeepsNothingBack (IsDue source.old.max) source.old.reader.log source.new.reader.log
+    ensures prompt { HoldsNothingBack (IsDue source.old.max) source.old.reader.log source.new.reader.log
         target.old.writer.log target.new.writer.log }
     ensures once { EndsOnce source.old.reader.log.reads source.new.reader.log.reads }
 {

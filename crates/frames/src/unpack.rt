@@ -5,7 +5,7 @@ ghost use Rattle.buffer_redux.specs.Faults.{MetInterrupts, SendErrorCaused};
 ghost use Rattle.frame_reader.specs.Framing.{rest};
 ghost use Rattle.frame_reader.specs.Next.{IsUnsettled};
 ghost use Rattle.line_reader.specs.Lines.{newline};
-ghost use Rattle.programs.specs.Prompt.{AsksGive, KeepsNothingBack, WritesOn};
+ghost use Rattle.programs.specs.Prompt.{AsksGive, HoldsNothingBack, WritesOn};
 ghost use Rattle.programs.specs.Streams.{AllSent, EndsOnce};
 ghost use Rattle.frames.specs.Going.{goes_on, tries_on};
 ghost use Rattle.frames.specs.Unpack.{Asks, AsksWhenSent, IsDue, IsLineTarget};
@@ -33,7 +33,7 @@ pub fn unpack<R: TellRead, W: TellWrite>(
     writer: W,
 ) -> (Result<(), RunError>, R, W)
     ensures ran { UnpackRan most (R.log reader) (R.log result.1) (W.log writer) (W.log result.2) result.0 }
-    ensures prompt { KeepsNothingBack (IsDue most) (R.log reader) (R.log result.1) (W.log writer) (W.log result.2) }
+    ensures prompt { HoldsNothingBack (IsDue most) (R.log reader) (R.log result.1) (W.log writer) (W.log result.2) }
     ensures once { EndsOnce (R.log reader).reads (R.log result.1).reads }
 {
     let mut source = match FrameReader::new(alloc, reader, most) {
@@ -62,7 +62,7 @@ fn unpack_all<R: TellRead, W: TellWrite>(
     requires nothing { source.old.reader.block.bytes ≡ [] }
     requires empty { target.old.block.bytes ≡ [] }
     ensures unpacks { UnpacksAndFlushes R.remaining source.old target.old result source.new target.new }
-    ensures prompt { KeepsNothingBack (IsDue source.old.max) source.old.reader.log source.new.reader.log
+    ensures prompt { HoldsNothingBack (IsDue source.old.max) source.old.reader.log source.new.reader.log
         target.old.log target.new.log }
     ensures once { EndsOnce source.old.reader.log.reads source.new.reader.log.reads }
 {
@@ -83,7 +83,7 @@ fn unpack_frames<R: TellRead, W: TellWrite>(
     requires nothing { source.old.reader.block.bytes ≡ [] }
     requires empty { target.old.block.bytes ≡ [] }
     ensures unpacks { UnpacksAll R.remaining source.old target.old result source.new target.new }
-    ensures prompt { KeepsNothingBack (IsDue source.old.max) source.old.reader.log source.new.reader.log
+    ensures prompt { HoldsNothingBack (IsDue source.old.max) source.old.reader.log source.new.reader.log
         target.old.log target.new.log }
     ensures once { EndsOnce source.old.reader.log.reads source.new.reader.log.reads }
 {

@@ -5,7 +5,7 @@ use Rattle.buffer_redux.specs.Buffered.{Buffered}
 use Rattle.buffer_redux.specs.GoesOn.{GoesOn, GoesOn-none, GoesOn-joins}
 use Rattle.buffer_redux.specs.LogGrows.{WriteLogGrows}
 use Rattle.buffer_redux.specs.StreamLog.{StreamLog, WriteLog}
-use Rattle.programs.specs.Prompt.{AskedLast, AsksGive, GivenBefore, HoldsNothingBack, KeepsNothingBack, WasSent, WritesOn}
+use Rattle.programs.specs.Prompt.{AskedLast, AsksGive, HoldsNothingBack, WasSent, WritesOn}
 
 pub WritesOn-none : (l : WriteLog) → WritesOn l l
 WritesOn-none l = record { received = GoesOn-none l.received; flushed = inl refl }
@@ -48,7 +48,6 @@ HoldsNothingBack-on IsDue a b c k l m held same more = elim held [
   | inl none ↦ inl (same ∙ none)
   | inr sent ↦ subst (λ x. HoldsNothingBack IsDue a x k m) (sym same) (inr (record {
     before = sent.before;
-    last = sent.last;
     asked = sent.asked;
     due = sent.due;
     is_due = sent.is_due;
@@ -56,37 +55,20 @@ HoldsNothingBack-on IsDue a b c k l m held same more = elim held [
   }))
 ]
 
-pub KeepsNothingBack-on : (IsDue : List ℕ → List ℕ → Type 0) (a b c k l m : StreamLog) → KeepsNothingBack IsDue a b k l
-    → c ≡ b → WritesOn l.writes m.writes → KeepsNothingBack IsDue a c k m
-KeepsNothingBack-on IsDue a b c k l m held same more = elim held [
-  | inl none ↦ inl (same ∙ none)
-  | inr sent ↦ subst (λ x. KeepsNothingBack IsDue a x k m) (sym same) (inr (record {
-    before = sent.before;
-    given = sent.given;
-    due = sent.due;
-    is_due = sent.is_due;
-    sent = WasSent-on (k.writes.received ++ sent.due) l.writes m.writes sent.sent more;
-  }))
-]
-
--- the last ask gave what came behind these bytes
-pub GivenBefore-of : (before last : List ℕ) (read read' : StreamLog) → AskedLast before last read read'
-    → read'.reads.latest ≡ last → GivenBefore before read read'
-GivenBefore-of before last read read' asked latest =
-    record { given = asked.given ∙ ap (λ l. read.reads.given ++ (before ++ l)) (sym latest) }
-
 -- bytes had come, each ask gave a byte or failed, and then it was asked again
-pub AskedLast-after : (a b c : StreamLog) (had came last : List ℕ) → b.reads.given ≡ a.reads.given ++ had → AsksGive a b
-    → AskedLast came last b c → AskedLast (had ++ came) last a c
-AskedLast-after a b c had came last given give asked = record {
-  given = asked.given ∙ ap (λ l. l ++ (came ++ last)) given ∙ append_assoc a.reads.given had (came ++ last)
-      ∙ ap (λ l. a.reads.given ++ l) (sym (append_assoc had came last));
-  asks = omega (
-    arith,
-    asked.asks,
-    give,
-    ap length given,
-    length-append a.reads.given had,
-    length-append had came,
-  );
-}
+pub AskedLast-after : (a b c : StreamLog) (had came : List ℕ) → b.reads.given ≡ a.reads.given ++ had → AsksGive a b
+    → AskedLast came b c → AskedLast (had ++ came) a c
+AskedLast-after a b c had came given give asked =
+    let last = c.reads.latest in
+    record {
+      given = asked.given ∙ ap (λ l. l ++ (came ++ last)) given ∙ append_assoc a.reads.given had (came ++ last)
+          ∙ ap (λ l. a.reads.given ++ l) (sym (append_assoc had came last));
+      asks = omega (
+        arith,
+        asked.asks,
+        give,
+        ap length given,
+        length-append a.reads.given had,
+        length-append had came,
+      );
+    }

@@ -1,5 +1,5 @@
 -- How two streams fared, over calls that follow one another.
-use Rattle.std.proofs.Common.{◌≡◌, ◌+◌, ◌≤◌, inl, inr, List, [], ◌∷◌, ◌++◌, length, length-append, ap, subst, sym, ◌∙◌, arith, append_assoc}
+use Rattle.std.proofs.Common.{◌≡◌, ◌+◌, ◌≤◌, List, [], ◌∷◌, ◌++◌, length, length-append, ap, subst, sym, ◌∙◌, arith, append_assoc}
 use Rattle.std.proofs.lemmas.List.Elements.{All-push}
 use Rattle.std.specs.declared.io.Error.{Error}
 use Rattle.buffer_redux.specs.Faults.{IsInterrupt, OnlyInterrupts, OnlyInterrupts-none, OnlyInterrupts-joins, FaultAfterInterrupts-after, MetInterrupts, MetInterrupts-joins, OnlyInterrupted-none, SendErrorCaused-after}

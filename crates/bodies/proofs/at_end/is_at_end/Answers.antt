@@ -1,7 +1,7 @@
 use Rattle.std.proofs.Common.{[], length, ap, ◌∙◌, arith}
 use Rattle.buffer_redux.specs.ReaderLaws.{ReadsAlong-joins}
 use Rattle.programs.specs.StreamsLaws.{only_more, one_more}
-use Rattle.bodies.proofs.Asking.{asked_once, asks_last, asks_more}
+use Rattle.bodies.proofs.Asking.{asked_once, asks_on}
 use Rattle.bodies.proofs.at_end.is_at_end.Goals as goal
 
 pub returns-in-Ok-clause-along : goal.returns-in-Ok-clause-along
@@ -28,21 +28,19 @@ tries-preserved g c =
         asked_once c.tries.source c.try_at_end.new.source c.try_at_end.ensures.asks,
         one_more _ _ c.in-Err.e tried.fault,
       );
-      over = asks_more c.args.source.now c.tries.source c.try_at_end.new.source before.along.in_order before.over before.asks
-          c.try_at_end.ensures.asks;
+      over = asks_on c.args.source.now c.tries.source c.try_at_end.new.source before.along.in_order before.over before.asks
+          (omega (arith, one_more _ _ c.in-Err.e tried.fault)) c.try_at_end.ensures.asks;
       gave = tried.once ∙ before.gave;
     }
 
 pub returns-in-Ok-clause-asks : goal.returns-in-Ok-clause-asks
 returns-in-Ok-clause-asks g c =
     let before = c.tries.invariant in
-    asks_last c.args.source.now c.tries.source c.try_at_end.new.source before.along.in_order before.over before.asks
-    (ReadsAlong-joins _ _ _ _ _ [] [] before.along c.try_at_end.ensures.along).in_order
+    asks_on c.args.source.now c.tries.source c.try_at_end.new.source before.along.in_order before.over before.asks
     (omega (arith, ap length c.in-Ok.ensures.no_fault)) c.try_at_end.ensures.asks
 
 pub returns-then-is_answered-clause-asks : goal.returns-then-is_answered-clause-asks
 returns-then-is_answered-clause-asks g c =
     let before = c.tries.invariant in
-    asks_last c.args.source.now c.tries.source c.try_at_end.new.source before.along.in_order before.over before.asks
-    (ReadsAlong-joins _ _ _ _ _ [] [] before.along c.try_at_end.ensures.along).in_order
+    asks_on c.args.source.now c.tries.source c.try_at_end.new.source before.along.in_order before.over before.asks
     (omega (arith, one_more _ _ c.in-Err.e c.in-Err.ensures.fault)) c.try_at_end.ensures.asks

@@ -1,7 +1,8 @@
-use Rattle.std.proofs.Common.{◌≡◌, ◌+◌, ◌-◌, ◌≤◌, ◌⊎◌, [], length}
+use Rattle.std.proofs.Common.{◌≡◌, ◌+◌, ◌-◌, ◌≤◌, [], length}
 use Rattle.buffer_redux.specs.BufReader.{ReadsAlong}
 use Rattle.buffer_redux.specs.Faults.{OnlyInterrupts}
 use Rattle.buffer_redux.specs.Policy.{std_read_rules}
+use Rattle.bodies.specs.AtEnd.{Asks}
 use Rattle.bodies.proofs.at_end.is_at_end.Given as goal
 
 abbrev pub invariant-tries : goal.invariant-tries
@@ -12,7 +13,7 @@ invariant-tries g l = record {
   few : l.row ≤ 64;
   asks : l.source.log.reads.asks + length l.fn.source.log.reads.faults
       ≤ l.fn.source.log.reads.asks + length l.source.log.reads.faults;
-  over : (l.source.log ≡ l.fn.source.log) ⊎ (l.fn.source.block.bytes ≡ []);
+  over : Asks l.fn.source l.source;
   gave : l.source.log.reads.zero_reads ≡ l.fn.source.log.reads.zero_reads;
 }
 

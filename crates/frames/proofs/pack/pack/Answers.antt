@@ -4,7 +4,7 @@ use Rattle.std.specs.declared.io.ErrorKind.TheVariants.{OutOfMemory}
 use Rattle.buffer_redux.specs.GrowError.{FitsWithin}
 use Rattle.line_reader.specs.Lining.{room_for}
 use Rattle.frames.specs.Pack.{IsDue}
-use Rattle.programs.specs.Prompt.{KeepsNothingBack}
+use Rattle.programs.specs.Prompt.{HoldsNothingBack}
 use Rattle.frames.proofs.PackRuns.{pack_ran, pack_refused, only_memory, only_memory_too}
 use Rattle.frames.proofs.pack.pack.Goals as goal
 
@@ -62,6 +62,6 @@ returns-clause-prompt g c =
       ← read.log,
       ← made.log,
     )
-    (subst (λ n. KeepsNothingBack (IsDue n) c.in-Ok.source.reader.log c.pack_all-answer.new.source.reader.log
+    (subst (λ n. HoldsNothingBack (IsDue n) c.in-Ok.source.reader.log c.pack_all-answer.new.source.reader.log
     c.in-Ok-with_capacity.target.writer.log c.pack_all-answer.new.target.writer.log) (read.max ∙ c.from.ensures)
     c.pack_all-answer.ensures.prompt)

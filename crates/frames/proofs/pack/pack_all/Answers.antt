@@ -1,7 +1,7 @@
 use Rattle.std.proofs.Common.{refl, sym, ◌∙◌}
 use Rattle.std.proofs.lemmas.Result.{err_from_is_err_and}
 use Rattle.frames.specs.Pack.{IsDue}
-use Rattle.programs.specs.PromptLaws.{KeepsNothingBack-on, WritesOn-grows}
+use Rattle.programs.specs.PromptLaws.{HoldsNothingBack-on, WritesOn-grows}
 use Rattle.frames.proofs.PackRuns.{kept, flushed_after, flush_failed_after}
 use Rattle.frames.proofs.pack.pack_all.Goals as goal
 
@@ -31,10 +31,10 @@ returns-clause-packs g c =
 
 pub returns-in_err-flush-clause-prompt : goal.returns-in_err-flush-clause-prompt
 returns-in_err-flush-clause-prompt g c =
-    KeepsNothingBack-on (IsDue c.args.source.now.max) _ _ _ _ _ _ c.pack_lines-answer.ensures.prompt refl
+    HoldsNothingBack-on (IsDue c.args.source.now.max) _ _ _ _ _ _ c.pack_lines-answer.ensures.prompt refl
     (WritesOn-grows _ _ c.in_err-flush.ensures.flushed.grows)
 
 pub returns-clause-prompt : goal.returns-clause-prompt
 returns-clause-prompt g c =
-    KeepsNothingBack-on (IsDue c.args.source.now.max) _ _ _ _ _ _ c.pack_lines-answer.ensures.prompt refl
+    HoldsNothingBack-on (IsDue c.args.source.now.max) _ _ _ _ _ _ c.pack_lines-answer.ensures.prompt refl
     (WritesOn-grows _ _ c.in_ok-flush.ensures.flushed.grows)

@@ -1,6 +1,6 @@
 use Rattle.std.proofs.Common.{◌≡◌, false}
 use Rattle.frames.specs.Pack.{IsDue, PacksLines}
-use Rattle.programs.specs.Prompt.{AsksGive, KeepsNothingBack}
+use Rattle.programs.specs.Prompt.{AsksGive, HoldsNothingBack}
 use Rattle.frames.proofs.pack.pack_lines.Given as goal
 
 abbrev pub invariant-loop : goal.invariant-loop
@@ -8,7 +8,7 @@ invariant-loop g l =
     record {
       lines : PacksLines g.R.TellRead.remaining g.W.TellWrite.stretch l.fn.source l.fn.target l.counter l.source l.target;
       open' : l.source.skipping ≡ false;
-      held : KeepsNothingBack (IsDue l.fn.source.max) l.fn.source.reader.log l.source.reader.log l.fn.target.writer.log
+      held : HoldsNothingBack (IsDue l.fn.source.max) l.fn.source.reader.log l.source.reader.log l.fn.target.writer.log
           l.target.writer.log;
       give : l.source.ended ≡ false → AsksGive l.fn.source.reader.log l.source.reader.log;
     }

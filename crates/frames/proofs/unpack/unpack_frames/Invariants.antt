@@ -1,13 +1,13 @@
 use Rattle.std.proofs.Common.{◌≡◌}
 use Rattle.frames.proofs.Unpacking.{UnpacksSoFar}
 use Rattle.frames.specs.Unpack.{IsDue}
-use Rattle.programs.specs.Prompt.{AsksGive, KeepsNothingBack}
+use Rattle.programs.specs.Prompt.{AsksGive, HoldsNothingBack}
 use Rattle.frames.proofs.unpack.unpack_frames.Given as goal
 
 abbrev pub invariant-loop : goal.invariant-loop
 invariant-loop g l = record {
   so_far : UnpacksSoFar g.R.TellRead.remaining l.fn.source l.fn.target l.counter l.source l.target;
-  held : KeepsNothingBack (IsDue l.fn.source.max) l.fn.source.reader.log l.source.reader.log l.fn.target.log l.target.log;
+  held : HoldsNothingBack (IsDue l.fn.source.max) l.fn.source.reader.log l.source.reader.log l.fn.target.log l.target.log;
   give : AsksGive l.fn.source.reader.log l.source.reader.log;
   quiet : l.source.reader.log.reads.zero_reads ≡ l.fn.source.reader.log.reads.zero_reads;
 }
