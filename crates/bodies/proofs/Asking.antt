@@ -1,5 +1,5 @@
 -- How the reader inside is asked in one fill, and how often it gives nothing: at its end alone.
-use Rattle.std.proofs.Common.{◌≡◌, ℕ, zero, suc, ◌+◌, ◌<◌, ◌≤◌, ◌==◌, Bool, true, false, List, [], ◌++◌, length, Result, Ok, Err, inl, inr, sym, ap, subst, ◌∙◌, arith, append-nil, length-append}
+use Rattle.std.proofs.Common.{◌≡◌, ℕ, zero, suc, ◌+◌, ◌<◌, ◌≤◌, ◌==◌, Bool, true, false, List, [], ◌∷◌, ◌++◌, length, Result, Ok, Err, inl, inr, sym, ap, subst, ◌∙◌, arith, append-nil, length-append, ◌⊎◌, refl}
 use Rattle.std.proofs.lemmas.Bool.{cases_lt}
 use Rattle.std.proofs.lemmas.List.{nil_from_length}
 use Rattle.std.proofs.lemmas.Bool.Decides.{nat_tests}
@@ -18,7 +18,7 @@ use Rattle.bodies.specs.AtEnd.{Asks, AsksOnce, EndsOnce}
 none_of : (n : ℕ) → true ≡ (n == 0) → n ≡ 0
 none_of n is = grind (arith, nat_tests)
 
-some_of : (n : ℕ) → false ≡ (n == 0) → 0 < n
+pub some_of : (n : ℕ) → false ≡ (n == 0) → 0 < n
 some_of n is = grind (arith, nat_tests)
 
 -- so many turns ask as often
@@ -129,3 +129,40 @@ asks_on s m t along before few more (inr once) =
         asks = omega (arith, few, once.asks, more);
       };
     })
+
+-- where nothing was buffered it was asked
+module _ {R : Type 0} (s t : Buffered R StdPolicy) (one : AsksOnce s t) (none : s.block.bytes ≡ []) where
+  by_ask : (t.log ≡ s.log → ⊥) → s.log.reads.asks < t.log.reads.asks
+  by_ask told = elim one [ inl same ↦ absurd (told same) | inr once ↦ omega (arith, once.asks) ]
+
+  pub asked_at_end : (answer : Bool) → EndsOnce s (Ok answer) t → ReadsInOrder s [] t
+      → (answer ≡ false → 0 < length t.block.bytes) → s.log.reads.asks < t.log.reads.asks
+  asked_at_end true ends along more = by_ask (λ same. absurd (omega (arith, ends, ap (λ l. l.reads.zero_reads) same)))
+  asked_at_end false ends along more = by_ask (λ same. absurd (omega (
+    arith,
+    more refl,
+    ap length none,
+    ap length along.equal,
+    ap (λ l. length l.reads.given) same,
+    ap length along.given,
+    length-append s.log.reads.given along.got,
+    length-append s.block.bytes along.got,
+  )))
+
+  pub asked_in_vain : (e : Error) → t.log.reads.faults ≡ s.log.reads.faults ++ e ∷ [] → s.log.reads.asks < t.log.reads.asks
+  asked_in_vain e fault = by_ask (λ same. absurd (omega (
+    arith,
+    ap length fault,
+    length-append s.log.reads.faults (e ∷ []),
+    ap (λ l. length l.reads.faults) same,
+  )))
+
+-- or before it
+pub asked_last : {R : Type 0} (s m t : Buffered R StdPolicy)
+    → (m.block.bytes ≡ []) ⊎ (s.log.reads.asks < m.log.reads.asks) → m.log.reads.asks ≤ t.log.reads.asks
+    → (m.block.bytes ≡ [] → m.log.reads.asks < t.log.reads.asks) → s.log.reads.asks ≤ m.log.reads.asks
+    → s.log.reads.asks < t.log.reads.asks
+asked_last s m t before grows now first = elim before [
+  | inl still ↦ omega (arith, first, now still)
+  | inr asked ↦ omega (arith, asked, grows)
+]

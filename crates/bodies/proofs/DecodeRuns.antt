@@ -17,7 +17,7 @@ use Rattle.chunked.specs.declared.limits.Limits.{Limits}
 use Rattle.chunked.specs.declared.place.Place.TheVariants.{Line}
 use Rattle.bodies.specs.declared.error.RunError.{RunError}
 use Rattle.bodies.specs.declared.error.RunError.TheVariants.{NotChunked, Truncated, Behind, Read, Write, Io}
-use Rattle.bodies.specs.Decode.{DecodeFailed, DecodeRan, Decoded, ExpectsEnd, IsPart, MovesAndFlushes, MovesEach, MovesFirst, Sent}
+use Rattle.bodies.specs.Decode.{DecodeFailed, DecodeRan, Decoded, ExpectsEnd, IsPart, MovesAll, MovesEach, MovesFirst, Sent}
 use Rattle.programs.specs.Streams.{AllSent, BufferRefused, MetNoFault, OverCount, SendFailed}
 use Rattle.programs.specs.StreamsLaws.{ReadGaveUp-after, MetInterrupts-none, MetNoFault-joins}
 
@@ -98,7 +98,7 @@ module _ {R W : Type 0} (remaining : R → Option (List ℕ)) (limits : Limits) 
         },
       )
 
-  pub ended : MovesAndFlushes remaining (begun first limits) u (Ok tt) t v → (answer : Result (Unit {0}) RunError)
+  pub ended : MovesAll remaining (begun first limits) u (Ok tt) t v → (answer : Result (Unit {0}) RunError)
       → (r : Buffered R StdPolicy) → ExpectsEnd remaining t.reader (taken_count t) answer r
       → DecodeRan limits first.log r.log u.log v.log answer
   ended p answer r end = asked p.0.0 p.1 p.0.1 r answer end
@@ -132,7 +132,7 @@ module _ {R W : Type 0} (remaining : R → Option (List ℕ)) (limits : Limits) 
   over_more e n k less (inr refused) = inr refused
 
   -- the body has no end
-  pub stopped : (why : RunError) → MovesAndFlushes remaining (begun first limits) u (Err why) t v
+  pub stopped : (why : RunError) → MovesAll remaining (begun first limits) u (Err why) t v
       → DecodeRan limits first.log t.reader.log u.log v.log (Err why)
   stopped (NotChunked why right) p =
       let each = p.0.0 in

@@ -1,6 +1,7 @@
 -- How `encode` asks its reader.
-use Rattle.std.proofs.Common.{◌≡◌, ℕ, ◌==◌, inl, inr, true, false, List, [], ◌++◌, length, Option, Ok, refl, ap, subst, ◌∙◌, arith, append-nil, length-append}
+use Rattle.std.proofs.Common.{◌≡◌, ℕ, ◌==◌, inl, inr, true, false, List, [], ◌++◌, length, Option, Result, Ok, Err, OnOk, refl, ap, subst, ◌∙◌, arith, append-nil, length-append}
 use Rattle.std.proofs.lemmas.Bool.Decides.{nat_tests}
+use Rattle.std.proofs.lemmas.List.{nil_from_length}
 use Rattle.buffer_redux.specs.Buffered.{Buffered}
 use Rattle.buffer_redux.specs.ReaderLaws.{ReadsInOrder-fresh}
 use Rattle.buffer_redux.specs.WriterLaws.{WritesInOrder-fresh}
@@ -73,6 +74,10 @@ pub not_empty : {R : Type 0} (s : Buffered R StdPolicy) (shown : List ℕ) → s
     → false ≡ (length shown == 0) → s.block.bytes ≡ [] → ⊥
 not_empty s shown same some none = grind (arith, nat_tests, ap length same, ap length none)
 
+pub is_nil : {R : Type 0} (s : Buffered R StdPolicy) (shown : List ℕ) → shown ≡ s.block.bytes
+    → true ≡ (length shown == 0) → s.block.bytes ≡ []
+is_nil s shown same none = nil_from_length s.block.bytes (grind (arith, nat_tests, ap length same))
+
 pub not_asked : {R : Type 0} (s t : Buffered R StdPolicy) (shown : List ℕ) → shown ≡ s.block.bytes
     → false ≡ (length shown == 0) → Asks s t → t.log ≡ s.log
 not_asked s t shown same some (inl none) = none
@@ -83,3 +88,7 @@ pub asks_sent : {R W : Type 0} (s t : Buffered R StdPolicy) (b c : Chunking W) �
     → WasSent (b.writer.log.writes.received ++ b.writer.block.bytes) c.writer.log.writes → AsksWhenSent s b t c
 asks_sent s t b c (inl none) sent = inl none
 asks_sent s t b c (inr over) sent = inr (over, sent)
+
+pub on_ok : {A E F : Type 0} (answer : Result A E) → F → OnOk answer F
+on_ok (Ok a) f = f
+on_ok (Err e) f = tt

@@ -33,6 +33,7 @@ use Rattle.bodies.specs.Encode.{Encodes, EncodesAll, EncodesEach, EncodesNext, N
 pub record Quiet {W : Type 0} (u v : Buffered W StdPolicy) : Type 0 where
   pub met : MetInterrupts u.log.writes v.log.writes
   pub not_flushed : v.log.writes.flushed ≡ u.log.writes.flushed
+  pub flushes : v.log.writes.flushes ≡ u.log.writes.flushes
 
 module _ {W : Type 0} (tells : W → StreamLog) (stretch : W → W → Type 0) where
   -- so it is where bytes go in, whether or not what was buffered had to be sent first
@@ -42,10 +43,12 @@ module _ {W : Type 0} (tells : W → StreamLog) (stretch : W → W → Type 0) w
     | inl none ↦ (let first = full none in record {
       met = subst (λ l. MetInterrupts u.log.writes l.writes) (sym first.puts.told) first.sends.ok.met;
       not_flushed = ap (λ l. l.writes.flushed) first.puts.told ∙ first.sends.not_flushed;
+      flushes = ap (λ l. l.writes.flushes) first.puts.told ∙ first.sends.sends.sent.flushes;
     })
     | inr there ↦ (let puts = fits there in record {
       met = subst (λ l. MetInterrupts u.log.writes l.writes) (sym puts.told) (MetInterrupts-none u.log.writes);
       not_flushed = ap (λ l. l.writes.flushed) puts.told;
+      flushes = ap (λ l. l.writes.flushes) puts.told;
     })
   ]
 
@@ -87,6 +90,12 @@ module _ {W : Type 0} (tells : W → StreamLog) (stretch : W → W → Type 0) w
         (chunk_quietly n p).not_flushed
     chunk_writes (Err e) p =
         let sends = chunk_not_sent e p in WritesOn-unflushed b.writer c.writer [] sends.in_order sends.not_flushed
+
+    -- and flushed nothing
+    pub chunk_unflushed : (answer : Result ℕ Error) → WritesChunk tells stretch b payload answer c
+        → c.writer.log.writes.flushes ≡ b.writer.log.writes.flushes
+    chunk_unflushed (Ok n) p = (chunk_quietly n p).flushes
+    chunk_unflushed (Err e) p = (chunk_not_sent e p).sends.sent.flushes
 
 taken_joined : (payload : List ℕ) (n : ℕ) → take n payload ≡ flat_map (λ p. p) (taken_payloads payload (Ok n))
 taken_joined payload zero = refl

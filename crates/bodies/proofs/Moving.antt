@@ -1,14 +1,13 @@
 -- What pieces of payload come to that are copied one behind the other.
-use Rattle.std.proofs.Common.{◌≡◌, ℕ, ◌+◌, ◌<◌, ◌≤◌, ◌^◌, Bool, List, [], ◌++◌, length, take, true, false, Option, Result, Ok, Err, sym, ap, subst, ◌∙◌, arith, append-nil, append_assoc, length-append}
-use Rattle.std.proofs.lemmas.Bool.{true≢false, false≢true}
+use Rattle.std.proofs.Common.{◌≡◌, ℕ, ◌+◌, ◌<◌, ◌≤◌, ◌^◌, Bool, List, [], ◌++◌, length, take, true, false, Option, Result, Ok, Err, sym, ap, subst, arith, append-nil, append_assoc, length-append}
 use Rattle.std.specs.IoError.{error_kind}
 use Rattle.std.specs.declared.io.Error.{Error}
 use Rattle.std.specs.declared.io.ErrorKind.TheVariants.{Other}
 use Rattle.buffer_redux.specs.BufWriter.{WritesInOrder}
 use Rattle.buffer_redux.specs.Buffered.{Buffered}
-use Rattle.buffer_redux.specs.Faults.{MetInterrupts, OnlyInterrupts-none, SendErrorCaused, SendErrorCaused-after}
+use Rattle.buffer_redux.specs.Faults.{MetInterrupts, SendErrorCaused}
 use Rattle.buffer_redux.specs.Policy.{std_read_rules}
-use Rattle.buffer_redux.specs.WriterLaws.{WritesInOrder-joins, WritesInOrder-none, WritesInOrder-then}
+use Rattle.buffer_redux.specs.WriterLaws.{WritesInOrder-joins, WritesInOrder-none}
 use Rattle.buffer_redux.specs.declared.policy.StdPolicy.{StdPolicy}
 use Rattle.chunked.specs.Dechunking.{BodyWent, Dechunking, HandsBuffered}
 use Rattle.chunked.specs.DechunkingLaws.{BodyWent-joins, BodyWent-none}
@@ -16,8 +15,7 @@ use Rattle.chunked.specs.declared.error.ChunkedError.{ChunkedError}
 use Rattle.chunked.specs.declared.error.ChunkedError.TheVariants as NoPayload
 use Rattle.bodies.specs.declared.error.RunError.{RunError}
 use Rattle.bodies.specs.declared.error.RunError.TheVariants.{NotChunked, Truncated, Behind, Read, Write, Io}
-use Rattle.bodies.specs.Decode.{IsBodySource, IsPieceTarget, Moves, MovesAll, MovesAndFlushes, MovesEach, MovesNext, ReadsMet, ReadsPiece, of_chunked}
-use Rattle.bodies.specs.Ending.{faulted}
+use Rattle.bodies.specs.Decode.{IsBodySource, IsPieceTarget, Moves, MovesAll, MovesEach, MovesNext, ReadsMet, ReadsPiece, of_chunked}
 use Rattle.programs.specs.Streams.{AllSent}
 use Rattle.programs.specs.StreamsLaws.{ReadFailed-after, SendFailed-after, MetInterrupts-none, MetNoFault-joins, MetNoFault-none, only_same}
 
@@ -53,17 +51,18 @@ module _ {R W : Type 0} (remaining : R → Option (List ℕ)) (s : Dechunking R 
       met = record { reader = met; writer = MetInterrupts-none u.log.writes };
     }
 
-    pub piece_ends : (n : ℕ) → n ≡ 0 → ReadsPiece remaining s out (Ok n) t → MovesNext remaining s u (Ok false) t u
-    piece_ends n none piece =
+    pub piece_ends : (n : ℕ) → n ≡ 0 → ReadsPiece remaining s out (Ok n) t → AllSent u
+        → MovesNext remaining s u (Ok false) t u
+    piece_ends n none piece sent =
         let went = subst (λ k. BodyWent remaining std_read_rules s (take k out) t) none piece.went in
-        (each_still went piece.source piece.answers.0, piece.answers.1 none)
+        ((each_still went piece.source piece.answers.0, piece.answers.1 none), sent)
 
     pub piece_stops : (e : ChunkedError) → ReadsPiece remaining s out (Err e) t → AllSent u
         → MovesNext remaining s u (Err (of_chunked e)) t u
     piece_stops (NoPayload.NotChunked why right) piece sent =
-        (each_still piece.went piece.source piece.answers.0, piece.answers.1, piece.answers.2)
+        ((each_still piece.went piece.source piece.answers.0, piece.answers.1, piece.answers.2), sent)
     piece_stops (NoPayload.Truncated right) piece sent =
-        (each_still piece.went piece.source piece.answers.0, piece.answers.1, piece.answers.2)
+        ((each_still piece.went piece.source piece.answers.0, piece.answers.1, piece.answers.2), sent)
     piece_stops (NoPayload.Io e) piece sent = record {
       payload = [];
       went = record { went = piece.went; source = piece.source; taken = WritesInOrder-none u; target = target };
@@ -152,17 +151,21 @@ module _ {R W : Type 0} (remaining : R → Option (List ℕ)) (s : Dechunking R 
     unfolding then_each
     then_next (Ok true) next =
         (then_each next.0, omega (arith, next.1, length-append before.payload next.0.payload))
-    then_next (Ok false) next = (then_each next.0, next.1)
-    then_next (Err (NotChunked why right)) next = (then_each next.0, next.1, next.2)
-    then_next (Err (Truncated right)) next = (
-      then_each next.0,
-      record {
-        none = next.1.none;
-        left = next.1.left;
-        dry = omega (arith, before.went.went.along.grows.zero_reads, next.1.dry);
-      },
-      next.2,
-    )
+    then_next (Ok false) next = ((then_each next.0.0, next.0.1), next.1)
+    then_next (Err (NotChunked why right)) next = ((then_each next.0.0, next.0.1, next.0.2), next.1)
+    then_next (Err (Truncated right)) next =
+        let cut = next.0.1 in (
+          (
+            then_each next.0.0,
+            record {
+              none = cut.none;
+              left = cut.left;
+              dry = omega (arith, before.went.went.along.grows.zero_reads, cut.dry);
+            },
+            next.0.2,
+          ),
+          next.1,
+        )
     then_next (Err (Behind right)) next = absurd next
     then_next (Err (Read e)) next = record {
       payload = before.payload ++ next.payload;
@@ -210,77 +213,3 @@ module _ {R W : Type 0} (remaining : R → Option (List ℕ)) (s : Dechunking R 
     },
     record { other = other; large = large; met = before.met },
   )
-
--- and then the flush
-module _ {R W : Type 0} (remaining : R → Option (List ℕ)) (s t : Dechunking R StdPolicy) (u w v : Buffered W StdPolicy)
-    (sent : WritesInOrder w [] v) (kind : v.block.kind ≡ w.block.kind) (capacity : v.block.capacity ≡ w.block.capacity) where
-  then_sent : (handed accepted : List ℕ) → Moves remaining s u handed accepted t w
-      → Moves remaining s u handed accepted t v
-  then_sent handed accepted p = record {
-    went = p.went;
-    source = p.source;
-    taken = WritesInOrder-then u w v accepted p.taken sent;
-    target = record {
-      plain = kind ∙ p.target.plain;
-      capacity = omega (arith, p.target.capacity, capacity);
-    };
-  }
-
-  each_sent : MovesEach remaining s u t w → MetInterrupts w.log.writes v.log.writes → MovesEach remaining s u t v
-  each_sent p more = record {
-    payload = p.payload;
-    went = then_sent p.payload p.payload p.went;
-    met = MetNoFault-joins s.reader.log t.reader.log t.reader.log u.log w.log v.log p.met
-        (record { reader = OnlyInterrupts-none t.reader.log.reads.faults; writer = more });
-  }
-
-  -- it succeeds
-  pub flushed_after : (answer : Result (Unit {0}) RunError) → faulted answer ≡ false
-      → MovesAll remaining s u answer t w → AllSent v → MetInterrupts w.log.writes v.log.writes
-      → MovesAndFlushes remaining s u answer t v
-  flushed_after (Ok _) other p all more = ((each_sent p.0 more, p.1), all)
-  flushed_after (Err (NotChunked why right)) other p all more = ((each_sent p.0 more, p.1, p.2), all)
-  flushed_after (Err (Truncated right)) other p all more = ((each_sent p.0 more, p.1, p.2), all)
-  flushed_after (Err (Behind right)) other p all more = absurd p
-  flushed_after (Err (Read e)) other p all more = absurd (true≢false other)
-  flushed_after (Err (Write e)) other p all more = absurd (true≢false other)
-  flushed_after (Err (Io e)) other p all more = absurd (true≢false other)
-
-  fails_after : MovesEach remaining s u t w → (e : Error) → SendErrorCaused w.log.writes v.log.writes e
-      → MovesAndFlushes remaining s u (Err (Write e)) t v
-  fails_after p e caused = (
-    record {
-      payload = p.payload;
-      lost = [];
-      went = subst (λ l. Moves remaining s u l p.payload t v) (sym (append-nil p.payload))
-          (then_sent p.payload p.payload p.went);
-    },
-    record {
-      reader = p.met.reader;
-      writer = SendErrorCaused-after u.log.writes w.log.writes v.log.writes e p.met.writer caused;
-    },
-  )
-
-  -- or fails
-  pub flush_failed_after : (answer : Result (Unit {0}) RunError) → faulted answer ≡ false
-      → MovesAll remaining s u answer t w → (e : Error) → SendErrorCaused w.log.writes v.log.writes e
-      → MovesAndFlushes remaining s u (Err (Write e)) t v
-  flush_failed_after (Ok _) other p e caused = fails_after p.0 e caused
-  flush_failed_after (Err (NotChunked why right)) other p e caused = fails_after p.0 e caused
-  flush_failed_after (Err (Truncated right)) other p e caused = fails_after p.0 e caused
-  flush_failed_after (Err (Behind right)) other p e caused = absurd p
-  flush_failed_after (Err (Read e')) other p e caused = absurd (true≢false other)
-  flush_failed_after (Err (Write e')) other p e caused = absurd (true≢false other)
-  flush_failed_after (Err (Io e')) other p e caused = absurd (true≢false other)
-
--- after a fault no flush is made
-pub kept : {R W : Type 0} (remaining : R → Option (List ℕ)) (s t : Dechunking R StdPolicy) (u v : Buffered W StdPolicy)
-    → (answer : Result (Unit {0}) RunError) → faulted answer ≡ true → MovesAll remaining s u answer t v
-    → MovesAndFlushes remaining s u answer t v
-kept remaining s t u v (Ok _) other p = absurd (false≢true other)
-kept remaining s t u v (Err (NotChunked why right)) other p = absurd (false≢true other)
-kept remaining s t u v (Err (Truncated right)) other p = absurd (false≢true other)
-kept remaining s t u v (Err (Behind right)) other p = absurd (false≢true other)
-kept remaining s t u v (Err (Read e)) other p = p
-kept remaining s t u v (Err (Write e)) other p = p
-kept remaining s t u v (Err (Io e)) other p = p

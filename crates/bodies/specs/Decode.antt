@@ -148,15 +148,15 @@ pub record MovesToFault {R W : Type 0} (remaining : R → Option (List ℕ)) (s 
   pub sent : AllSent v
   pub failed : ReadFailed e s.reader.log t.reader.log u.log v.log
 
--- what one call did that moves a piece, and answers whether there was one
+-- what one call did that moves a piece, and answers whether there was one. Where there is no more, all was sent
 abbrev pub MovesNext : {R W : Type 0} → (R → Option (List ℕ)) → Dechunking R StdPolicy → Buffered W StdPolicy
     → Result Bool RunError → Dechunking R StdPolicy → Buffered W StdPolicy → Type 0
 MovesNext remaining s u (Ok true) t v = (each : MovesEach remaining s u t v) × (0 < length each.payload)
-MovesNext remaining s u (Ok false) t v = MovesEach remaining s u t v × IsWhole t
+MovesNext remaining s u (Ok false) t v = (MovesEach remaining s u t v × IsWhole t) × AllSent v
 MovesNext remaining s u (Err (NotChunked why right)) t v =
-    MovesEach remaining s u t v × Breaks why t × (right ≡ taken_count t)
+    (MovesEach remaining s u t v × Breaks why t × (right ≡ taken_count t)) × AllSent v
 MovesNext remaining s u (Err (Truncated right)) t v =
-    MovesEach remaining s u t v × CutShort s t × (right ≡ taken_count t)
+    (MovesEach remaining s u t v × CutShort s t × (right ≡ taken_count t)) × AllSent v
 MovesNext remaining s u (Err (Behind right)) t v = ⊥
 MovesNext remaining s u (Err (Read e)) t v = MovesToFault remaining s u e t v
 MovesNext remaining s u (Err (Write e)) t v =
@@ -166,29 +166,17 @@ MovesNext remaining s u (Err (Io e)) t v = ⊥
 -- what calls did that move piece after piece
 abbrev pub MovesAll : {R W : Type 0} → (R → Option (List ℕ)) → Dechunking R StdPolicy → Buffered W StdPolicy
     → Result (Unit {0}) RunError → Dechunking R StdPolicy → Buffered W StdPolicy → Type 0
-MovesAll remaining s u (Ok _) t v = MovesEach remaining s u t v × IsWhole t
+MovesAll remaining s u (Ok _) t v = (MovesEach remaining s u t v × IsWhole t) × AllSent v
 MovesAll remaining s u (Err (NotChunked why right)) t v =
-    MovesEach remaining s u t v × Breaks why t × (right ≡ taken_count t)
+    (MovesEach remaining s u t v × Breaks why t × (right ≡ taken_count t)) × AllSent v
 MovesAll remaining s u (Err (Truncated right)) t v =
-    MovesEach remaining s u t v × CutShort s t × (right ≡ taken_count t)
+    (MovesEach remaining s u t v × CutShort s t × (right ≡ taken_count t)) × AllSent v
 MovesAll remaining s u (Err (Behind right)) t v = ⊥
 MovesAll remaining s u (Err (Read e)) t v = MovesToFault remaining s u e t v
 MovesAll remaining s u (Err (Write e)) t v =
     MovesFirst remaining s u t v × SendFailed e s.reader.log t.reader.log u.log v.log
 MovesAll remaining s u (Err (Io e)) t v =
     (first : MovesFirst remaining s u t v) × OverCount e (length first.payload) s.reader.log t.reader.log u.log v.log
-
--- what they did, and then a flush where no stream failed
-abbrev pub MovesAndFlushes : {R W : Type 0} → (R → Option (List ℕ)) → Dechunking R StdPolicy → Buffered W StdPolicy
-    → Result (Unit {0}) RunError → Dechunking R StdPolicy → Buffered W StdPolicy → Type 0
-MovesAndFlushes remaining s u (Ok _) t v = MovesAll remaining s u (Ok tt) t v × AllSent v
-MovesAndFlushes remaining s u (Err (NotChunked why right)) t v =
-    MovesAll remaining s u (Err (NotChunked why right)) t v × AllSent v
-MovesAndFlushes remaining s u (Err (Truncated right)) t v = MovesAll remaining s u (Err (Truncated right)) t v × AllSent v
-MovesAndFlushes remaining s u (Err (Behind right)) t v = ⊥
-MovesAndFlushes remaining s u (Err (Read e)) t v = MovesAll remaining s u (Err (Read e)) t v
-MovesAndFlushes remaining s u (Err (Write e)) t v = MovesAll remaining s u (Err (Write e)) t v
-MovesAndFlushes remaining s u (Err (Io e)) t v = MovesAll remaining s u (Err (Io e)) t v
 
 -- what an answer says to the question whether nothing follows a body of so many bytes
 abbrev pub EndAnswers : {R : Type 0} → Buffered R StdPolicy → ℕ → Result (Unit {0}) RunError → Buffered R StdPolicy → Type 0

@@ -1,5 +1,5 @@
 -- What the program says of each ending.
-use Rattle.std.specs.Prelude.{◌≡◌, ℕ, List, ◌++◌, codes, Bool, true, false, Result, Ok, Err}
+use Rattle.std.specs.Prelude.{◌≡◌, ℕ, List, ◌++◌, codes, Result, Ok, Err}
 use Rattle.std.specs.Fmt.{decimal}
 use Rattle.chunked.specs.Error.{malformed_text}
 use Rattle.programs.specs.Ending.{FailsAs, FailsSo}
@@ -10,16 +10,6 @@ use Rattle.bodies.specs.declared.ending.Ending.{Ending}
 use Rattle.bodies.specs.declared.ending.Ending.TheVariants.{Usual, NotChunked, Truncated, Behind}
 use Rattle.bodies.specs.declared.error.RunError.{RunError}
 use Rattle.bodies.specs.declared.error.RunError.TheVariants as Why
-
--- a stream failed, or memory ran out
-abbrev pub faulted : Result (Unit {0}) RunError → Bool
-faulted (Ok _) = false
-faulted (Err (Why.NotChunked why right)) = false
-faulted (Err (Why.Truncated right)) = false
-faulted (Err (Why.Behind right)) = false
-faulted (Err (Why.Read e)) = true
-faulted (Err (Why.Write e)) = true
-faulted (Err (Why.Io e)) = true
 
 -- how a run ends that returned this
 abbrev pub EndsAs : Result (Unit {0}) RunError → Ending → Type 0

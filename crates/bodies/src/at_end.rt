@@ -23,6 +23,7 @@ pub fn is_at_end<R: TellRead>(source: &mut BufReader<R>) -> io::Result<bool>
     ensures failed { OnErr result (source.new.block.bytes ≡ []) }
     ensures once { EndsOnce source.old result source.new }
     ensures asks { Asks source.old source.new }
+    ensures asked { source.old.block.bytes ≡ [] → source.old.log.reads.asks < source.new.log.reads.asks }
     ensures more { result ≡ Ok false → 0 < length source.new.block.bytes }
 {
     let mut row = 0;
@@ -49,6 +50,7 @@ fn try_at_end<R: TellRead>(source: &mut BufReader<R>) -> io::Result<bool>
     ensures failed { OnErr result (source.new.block.bytes ≡ []) }
     ensures once { EndsOnce source.old result source.new }
     ensures asks { AsksOnce source.old source.new }
+    ensures asked { source.old.block.bytes ≡ [] → source.old.log.reads.asks < source.new.log.reads.asks }
     ensures more { result ≡ Ok false → 0 < length source.new.block.bytes }
 {
     Ok(source.fill_buf()?.is_empty())

@@ -1,14 +1,15 @@
 //! The payload of a body copied, over any two streams that tell.
 ghost use Rattle.std.specs.Prelude.{◌≡◌, ◌<◌, ◌≤◌, [], length, true, false, IfOk, IfErr, OnOk, OnErr};
+ghost use Rattle.programs.specs.Flushes.{FlushesOnce, FlushesSend};
 ghost use Rattle.programs.specs.Prompt.{AsksGive, HoldsNothingBack, WritesOn};
 ghost use Rattle.programs.specs.Streams.{AllSent, EndsOnce};
 ghost use Rattle.buffer_redux.specs.BufWriter.{WritesInOrder};
 ghost use Rattle.buffer_redux.specs.Faults.{MetInterrupts, SendErrorCaused};
 ghost use Rattle.bodies.specs.Decode.{Asks, AsksWhenSent, DecodeRan, EndsInErr, ExpectsEnd, IsBodySource, IsDue, IsPieceTarget, IsUnread};
-ghost use Rattle.bodies.specs.Decode.{MovesAll, MovesAndFlushes, MovesNext, ReadsPiece, WasInterrupted};
+ghost use Rattle.bodies.specs.Decode.{MovesAll, MovesNext, ReadsPiece, WasInterrupted};
 
 use crate::at_end::is_at_end;
-use crate::error::{RunError, is_fault};
+use crate::error::RunError;
 use buffer_redux::tell::{TellRead, TellWrite};
 use buffer_redux::{BufReader, BufWriter};
 use chunked::{ChunkedError, ChunkedReader, Limits};
@@ -39,6 +40,7 @@ pub fn decode<R: TellRead, W: TellWrite>(
     ensures ran { DecodeRan limits (R.log reader) (R.log result.1) (W.log writer) (W.log result.2) result.0 }
     ensures prompt { HoldsNothingBack (IsDue limits) (R.log reader) (R.log result.1) (W.log writer) (W.log result.2) }
     ensures once { EndsOnce (R.log reader).reads (R.log result.1).reads }
+    ensures flushes { FlushesSend 1 (W.log writer).writes (W.log result.2).writes }
 {
     let (source, mut target) = match buffered(alloc, false, (PIECE, 2 * PIECE), reader, writer) {
         Ok(buffers) => buffers,
@@ -62,9 +64,10 @@ fn decode_all<R: TellRead, W: TellWrite>(
     ensures ran { DecodeRan limits source.log result.1.log target.old.log target.new.log result.0 }
     ensures prompt { HoldsNothingBack (IsDue limits) source.log result.1.log target.old.log target.new.log }
     ensures once { EndsOnce source.log.reads result.1.log.reads }
+    ensures flushes { FlushesSend 1 target.old.log.writes target.new.log.writes }
 {
     let mut body = ChunkedReader::new(source, limits);
-    let answer = move_and_flush(&mut body, target);
+    let answer = move_pieces(&mut body, target);
     let right = body.taken();
     let mut rest = body.into_inner();
     match answer {
@@ -76,30 +79,7 @@ fn decode_all<R: TellRead, W: TellWrite>(
     }
 }
 
-// Copies all payload, and flushes it, also that in front of what is wrong.
-fn move_and_flush<R: TellRead, W: TellWrite>(
-    source: &mut ChunkedReader<R>,
-    target: &mut BufWriter<W>,
-) -> Result<(), RunError>
-    requires source { IsBodySource source.old }
-    requires target { IsPieceTarget target.old }
-    requires unread { IsUnread source.old }
-    requires empty { target.old.block.bytes ≡ [] }
-    ensures moves { MovesAndFlushes R.remaining source.old target.old result source.new target.new }
-    ensures prompt { HoldsNothingBack (IsDue source.old.limits) source.old.reader.log source.new.reader.log
-        target.old.log target.new.log }
-    ensures give { OnOk result (AsksGive source.old.reader.log source.new.reader.log) }
-    ensures once { EndsInErr source.old.reader.log.reads result source.new.reader.log.reads }
-{
-    let answer = move_pieces(source, target);
-    if is_fault(&answer) {
-        return answer;
-    }
-    target.flush()?;
-    answer
-}
-
-// Copies all payload, piece by piece.
+// Copies all payload, piece by piece, and sends and flushes it, also that in front of what is wrong.
 fn move_pieces<R: TellRead, W: TellWrite>(
     source: &mut ChunkedReader<R>,
     target: &mut BufWriter<W>,
@@ -113,6 +93,7 @@ fn move_pieces<R: TellRead, W: TellWrite>(
         target.old.log target.new.log }
     ensures give { OnOk result (AsksGive source.old.reader.log source.new.reader.log) }
     ensures once { EndsInErr source.old.reader.log.reads result source.new.reader.log.reads }
+    ensures flushes { FlushesSend 1 target.old.log.writes target.new.log.writes }
 {
     let mut piece = [0; PIECE];
     for _ in 0..u64::MAX {
@@ -138,6 +119,7 @@ fn move_piece<R: TellRead, W: TellWrite>(
     ensures give { OnOk result (AsksGive source.old.reader.log source.new.reader.log) }
     ensures once { EndsInErr source.old.reader.log.reads result source.new.reader.log.reads }
     ensures writes { WritesOn target.old.log.writes target.new.log.writes }
+    ensures flushes { FlushesOnce target.old target.new }
 {
     let held = source.read_buffered(&mut piece[..HELD]);
     if held > 0 {
@@ -163,6 +145,7 @@ fn copy_piece<R: TellRead, W: TellWrite>(
     ensures give { OnOk result (AsksGive source.old.reader.log source.new.reader.log) }
     ensures once { EndsInErr source.old.reader.log.reads result source.new.reader.log.reads }
     ensures writes { WritesOn target.old.log.writes target.new.log.writes }
+    ensures flushes { target.new.log.writes.flushes ≡ target.old.log.writes.flushes }
 {
     let count = read_piece(source, piece)?;
     if count == 0 {
@@ -215,6 +198,7 @@ fn write_piece<W: TellWrite>(target: &mut BufWriter<W>, piece: &[u8]) -> io::Res
     ensures met { OnOk result (MetInterrupts target.old.log.writes target.new.log.writes) }
     ensures caused { IfErr result (λ e. SendErrorCaused target.old.log.writes target.new.log.writes e) }
     ensures not_flushed { target.new.log.writes.flushed ≡ target.old.log.writes.flushed }
+    ensures flushes { target.new.log.writes.flushes ≡ target.old.log.writes.flushes }
     ensures target { IsPieceTarget target.new }
 {
     make_room(target, piece.len())?;

@@ -1,6 +1,7 @@
 //! What is given made the payload of a body, over any two streams that tell.
-ghost use Rattle.std.specs.Prelude.{◌≡◌, ◌<◌, ◌+◌, []};
+ghost use Rattle.std.specs.Prelude.{◌≡◌, ◌<◌, ◌≤◌, ◌+◌, [], OnOk};
 ghost use Rattle.chunked.specs.Chunking.{IsChunking, around};
+ghost use Rattle.programs.specs.Flushes.{FlushesPerAsk};
 ghost use Rattle.programs.specs.Prompt.{HoldsNothingBack, WritesOn};
 ghost use Rattle.programs.specs.Streams.{AllSent, EndsOnce, IsFresh};
 ghost use Rattle.bodies.specs.AtEnd.{Asks};
@@ -32,6 +33,7 @@ pub fn encode<R: TellRead, W: TellWrite>(
     ensures ran { EncodeRan (R.log reader) (R.log result.1) (W.log writer) (W.log result.2) result.0 }
     ensures prompt { HoldsNothingBack IsDue (R.log reader) (R.log result.1) (W.log writer) (W.log result.2) }
     ensures once { EndsOnce (R.log reader).reads (R.log result.1).reads }
+    ensures flushes { FlushesPerAsk 1 (R.log reader) (R.log result.1) (W.log writer) (W.log result.2) }
 {
     let (mut source, target) = match buffered(alloc, false, (PIECE, 2 * PIECE), reader, writer) {
         Ok(buffers) => buffers,
@@ -52,6 +54,7 @@ fn encode_all<R: TellRead, W: TellWrite>(
     ensures ran { EncodeRan source.old.log source.new.log target.log result.1.log result.0 }
     ensures prompt { HoldsNothingBack IsDue source.old.log source.new.log target.log result.1.log }
     ensures once { EndsOnce source.old.log.reads source.new.log.reads }
+    ensures flushes { FlushesPerAsk 1 source.old.log source.new.log target.log result.1.log }
 {
     let mut body = ChunkedWriter::new(target);
     if let Err(e) = encode_chunks(source, &mut body) {
@@ -78,6 +81,9 @@ fn encode_chunks<R: TellRead, W: TellWrite>(
     ensures encodes { EncodesAll R.remaining W.stretch source.old body.old result source.new body.new }
     ensures prompt { HoldsNothingBack IsDue source.old.log source.new.log body.old.writer.log body.new.writer.log }
     ensures once { EndsOnce source.old.log.reads source.new.log.reads }
+    ensures flushes { FlushesPerAsk 1 source.old.log source.new.log body.old.writer.log body.new.writer.log }
+    ensures balanced { OnOk result (FlushesPerAsk 0 source.old.log source.new.log
+        body.old.writer.log body.new.writer.log) }
 {
     for _ in 0..u64::MAX {
         if !encode_next(source, body)? {
@@ -98,6 +104,9 @@ fn encode_next<R: TellRead, W: TellWrite>(
     ensures encodes { EncodesNext R.remaining W.stretch source.old body.old result source.new body.new }
     ensures prompt { AsksWhenSent source.old body.old source.new body.new }
     ensures writes { WritesOn body.old.writer.log.writes body.new.writer.log.writes }
+    ensures flushes { FlushesPerAsk 1 source.old.log source.new.log body.old.writer.log body.new.writer.log }
+    ensures balanced { OnOk result (FlushesPerAsk 0 source.old.log source.new.log
+        body.old.writer.log body.new.writer.log) }
 {
     if !source.buffer().is_empty() {
         return chunk_next(source, body);
@@ -118,6 +127,9 @@ fn chunk_next<R: TellRead, W: TellWrite>(
     ensures encodes { EncodesNext R.remaining W.stretch source.old body.old result source.new body.new }
     ensures asks { Asks source.old source.new }
     ensures writes { WritesOn body.old.writer.log.writes body.new.writer.log.writes }
+    ensures flushes { body.new.writer.log.writes.flushes ≡ body.old.writer.log.writes.flushes }
+    ensures asked { source.old.block.bytes ≡ [] → source.old.log.reads.asks < source.new.log.reads.asks }
+    ensures asks_grow { source.old.log.reads.asks ≤ source.new.log.reads.asks }
 {
     match is_at_end(source) {
         Ok(true) => Ok(false),

@@ -1,6 +1,5 @@
 //! Why a run failed.
 ghost use Rattle.std.specs.Prelude.{◌≡◌};
-ghost use Rattle.bodies.specs.Ending.{faulted};
 
 use chunked::{ChunkedError, Malformed};
 use std::io;
@@ -21,16 +20,6 @@ pub enum RunError {
     Write(io::Error),
     /// Memory ran out, or more went over than a run counts.
     Io(io::Error),
-}
-
-/// Whether a stream failed, or memory ran out.
-pub fn is_fault(answer: &Result<(), RunError>) -> bool
-    ensures { result ≡ faulted answer.now }
-{
-    matches!(
-        answer,
-        Err(RunError::Read(_) | RunError::Write(_) | RunError::Io(_))
-    )
 }
 
 /// What a call of a writer failed with.

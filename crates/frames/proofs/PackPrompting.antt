@@ -1,12 +1,14 @@
 -- How `pack` asks its reader.
-use Rattle.std.proofs.Common.{◌≡◌, ℕ, ◌<◌, ◌≤◌, ◌⊎◌, inl, inr, Bool, true, false, List, [], ◌∷◌, ◌++◌, length, Option, None, Some, Ok, Err, refl, sym, ap, subst, ◌∙◌, arith, append-nil, append_assoc, length-append}
-use Rattle.std.proofs.lemmas.Bool.{false≢true, true≢false}
+use Rattle.std.proofs.Common.{◌≡◌, ℕ, ◌+◌, ◌<◌, ◌≤◌, ◌⊎◌, inl, inr, Bool, true, false, List, [], ◌∷◌, ◌++◌, length, Option, None, Some, Ok, Err, refl, sym, ap, subst, ◌∙◌, arith, append-nil, append_assoc, length-append}
+use Rattle.std.proofs.lemmas.Bool.{cases_lt, false≢true, true≢false}
 use Rattle.std.proofs.lemmas.List.{append_cancel_left, drop_at}
 use Rattle.std.proofs.lemmas.List.Elements.{All-head, All-drop}
 use Rattle.std.specs.List.{All}
 use Rattle.buffer_redux.specs.WriterLaws.{WritesInOrder-fresh}
-use Rattle.frame_reader.specs.Frames.{frames}
-use Rattle.frame_reader.specs.Outgoing.{Outgoing, unsent}
+use Rattle.frame_reader.specs.Frames.{frame, frames, header}
+use Rattle.frame_reader.specs.Outgoing.{Outgoing, room, unsent}
+use Rattle.frame_reader.specs.WriteFrame.{SendsFirst, WriteAnswer, WritesFrame}
+use Rattle.frame_reader.specs.declared.error.WriteFrameError.TheVariants as Unwritten
 use Rattle.line_reader.specs.Lines.{newline, IsLine, IsUnended, with_end, with_ends}
 use Rattle.line_reader.specs.Lining.{HasLine, Lining, rest}
 use Rattle.line_reader.specs.NextLine.{AskedOver as AskedOverLine, LinesWent, NextAnswer, NextLine}
@@ -219,3 +221,27 @@ module _ {R W : Type 0} (remaining : R → Option (List ℕ)) (stretch : W → W
         v.writer.log held same more
     | inr sent ↦ sends sent
   ]
+
+-- a frame that is written flushes nothing
+module _ {W : Type 0} (stretch : W → W → Type 0) (u v : Outgoing W) (line : List ℕ) (fit : length line ≤ u.max) where
+  sent_first : (answer : WriteAnswer) → SendsFirst u line answer v
+      → v.writer.log.writes.flushes ≡ u.writer.log.writes.flushes
+  sent_first (Ok _) p = p.sends.1.sent.flushes
+  sent_first (Err (Unwritten.Io e)) p = p.sent.flushes
+  sent_first (Err (Unwritten.TooLong len)) p = absurd p
+
+  pub unflushed : (answer : WriteAnswer) → WritesFrame stretch u line answer v
+      → v.writer.log.writes.flushes ≡ u.writer.log.writes.flushes
+  unflushed answer wrote = elim (cases_lt (room u) (2 + length line)) [
+    | inl full ↦ sent_first answer (wrote.full fit full)
+    | inr there ↦ ap (λ l. l.writes.flushes) (wrote.fits fit there).told
+  ]
+
+-- frames have some bytes
+pub frames_some : (lines : List (List ℕ)) → 0 < length lines → 0 < length (frames lines)
+frames_some [] some = absurd (omega (arith, some))
+frames_some (line ∷ more) some = omega (
+  arith,
+  length-append (frame line) (frames more),
+  length-append (header (length line)) line,
+)

@@ -1,5 +1,5 @@
 -- How `unpack` asks its reader.
-use Rattle.std.proofs.Common.{◌≡◌, ℕ, ◌≤◌, ◌⊎◌, inl, inr, Bool, true, false, List, [], ◌∷◌, ◌++◌, length, Option, None, Some, Ok, Err, refl, sym, ap, subst, ◌∙◌, arith, append_assoc, length-append}
+use Rattle.std.proofs.Common.{◌≡◌, ℕ, ◌<◌, ◌≤◌, ◌⊎◌, inl, inr, Bool, true, false, List, [], ◌∷◌, ◌++◌, length, Option, None, Some, Ok, Err, refl, sym, ap, subst, ◌∙◌, arith, append_assoc, length-append}
 use Rattle.std.proofs.lemmas.Bool.{false≢true}
 use Rattle.buffer_redux.specs.Buffered.{Buffered}
 use Rattle.buffer_redux.specs.WriterLaws.{WritesInOrder-fresh}
@@ -8,7 +8,7 @@ use Rattle.frame_reader.specs.Frames.{frames}
 use Rattle.frame_reader.specs.Framing.{Framing, rest}
 use Rattle.frame_reader.specs.Next.{FramesWent, IsSettled, IsUnsettled, Next, NextAnswer}
 use Rattle.frame_reader.specs.declared.error.FrameError.TheVariants.{Truncated, TooLong, Io}
-use Rattle.line_reader.specs.Lines.{with_ends}
+use Rattle.line_reader.specs.Lines.{newline, with_end, with_ends}
 use Rattle.frames.specs.Unpack.{Asks, AskedOver, AsksSent, AsksWhenSent, IsDue, UnpacksEach}
 use Rattle.programs.specs.Prompt.{AskedLast, AsksGive, HoldsNothingBack, WasSent, WritesOn}
 use Rattle.programs.specs.PromptLaws.{AskedLast-after, HoldsNothingBack-on}
@@ -171,3 +171,9 @@ module _ {R W : Type 0} (remaining : R → Option (List ℕ)) (s m t : Framing R
     | inl same ↦ HoldsNothingBack-on (IsDue s.max) s.reader.log m.reader.log t.reader.log u.log w.log v.log held same more
     | inr sent ↦ sends sent
   ]
+
+-- lines with their ends have some bytes
+pub lines_some : (lines : List (List ℕ)) → 0 < length lines → 0 < length (with_ends lines)
+lines_some [] some = absurd (omega (arith, some))
+lines_some (line ∷ more) some =
+    omega (arith, length-append (with_end line) (with_ends more), length-append line (newline ∷ []))

@@ -10,6 +10,7 @@ use Rattle.frames.specs.Pack.{PackRan}
 use Rattle.frames.specs.Pack as packed
 use Rattle.frames.specs.Unpack.{UnpackRan}
 use Rattle.frames.specs.Unpack as unpacked
+use Rattle.programs.specs.Flushes.{FlushesSend}
 use Rattle.programs.specs.Prompt.{HoldsNothingBack}
 use Rattle.programs.specs.Streams.{EndsOnce}
 
@@ -26,6 +27,7 @@ pub record PackedAs (ending : Ending) (read read' written written' : StreamLog) 
   pub ran : PackRan 65535 read read' written written' answer
   pub prompt : HoldsNothingBack (packed.IsDue 65535) read read' written written'
   pub once : EndsOnce read.reads read'.reads
+  pub flushes : FlushesSend 2 written.writes written'.writes
   pub ends : EndsAs answer ending
 
 -- frames of at most as many were printed, and the run ended so
@@ -34,6 +36,7 @@ pub record UnpackedAs (ending : Ending) (read read' written written' : StreamLog
   pub ran : UnpackRan 65535 read read' written written' answer
   pub prompt : HoldsNothingBack (unpacked.IsDue 65535) read read' written written'
   pub once : EndsOnce read.reads read'.reads
+  pub flushes : FlushesSend 2 written.writes written'.writes
   pub ends : EndsAs answer ending
 
 -- what a run did that these words asked for, and that ended so; other words call no stream

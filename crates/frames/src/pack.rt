@@ -1,6 +1,9 @@
 //! Lines made frames, over any two streams that tell.
 ghost use Rattle.std.specs.Prelude.{◌≡◌, [], false};
 ghost use Rattle.frame_reader.specs.Outgoing.{unsent};
+ghost use Rattle.line_reader.specs.Lines.{BeginsWhole};
+ghost use Rattle.line_reader.specs.Lining.{rest};
+ghost use Rattle.programs.specs.Flushes.{FlushesOnce, FlushesSend};
 ghost use Rattle.programs.specs.Prompt.{HoldsNothingBack, WritesOn};
 ghost use Rattle.programs.specs.Streams.{EndsOnce};
 ghost use Rattle.frames.specs.Going.{goes_on, tries_on};
@@ -31,6 +34,7 @@ pub fn pack<R: TellRead, W: TellWrite>(
     ensures ran { PackRan most (R.log reader) (R.log result.1) (W.log writer) (W.log result.2) result.0 }
     ensures prompt { HoldsNothingBack (IsDue most) (R.log reader) (R.log result.1) (W.log writer) (W.log result.2) }
     ensures once { EndsOnce (R.log reader).reads (R.log result.1).reads }
+    ensures flushes { FlushesSend 2 (W.log writer).writes (W.log result.2).writes }
 {
     let mut source = match LineReader::new(alloc, reader, usize::from(most)) {
         Ok(source) => source,
@@ -63,6 +67,7 @@ fn pack_all<R: TellRead, W: TellWrite>(
     ensures prompt { HoldsNothingBack (IsDue source.old.max) source.old.reader.log source.new.reader.log
         target.old.writer.log target.new.writer.log }
     ensures once { EndsOnce source.old.reader.log.reads source.new.reader.log.reads }
+    ensures flushes { FlushesSend 2 target.old.writer.log.writes target.new.writer.log.writes }
 {
     let answer = pack_lines(source, target);
     if is_fault(&answer) {
@@ -86,6 +91,7 @@ fn pack_lines<R: TellRead, W: TellWrite>(
     ensures prompt { HoldsNothingBack (IsDue source.old.max) source.old.reader.log source.new.reader.log
         target.old.writer.log target.new.writer.log }
     ensures once { EndsOnce source.old.reader.log.reads source.new.reader.log.reads }
+    ensures flushes { FlushesSend 1 target.old.writer.log.writes target.new.writer.log.writes }
 {
     for _ in 0..u64::MAX {
         if !pack_line(source, target)? {
@@ -108,6 +114,9 @@ fn pack_line<R: TellRead, W: TellWrite>(
     ensures prompt { AsksWhenSent source.old target.old source.new target.new }
     ensures writes { WritesOn target.old.writer.log.writes target.new.writer.log.writes }
     ensures open { source.new.skipping ≡ false }
+    ensures flushes { FlushesOnce target.old.writer target.new.writer }
+    ensures buffered { BeginsWhole source.old.max (rest source.old)
+        → target.new.writer.log.writes.flushes ≡ target.old.writer.log.writes.flushes }
 {
     match source.next_buffered() {
         Some(line) => {
@@ -131,6 +140,7 @@ fn pack_asked<R: TellRead, W: TellWrite>(
     ensures prompt { AsksWhenSent source.old target.old source.new target.new }
     ensures writes { WritesOn target.old.writer.log.writes target.new.writer.log.writes }
     ensures open { source.new.skipping ≡ false }
+    ensures flushes { FlushesOnce target.old.writer target.new.writer }
 {
     if source.has_line() {
         return pack_next(source, target);
@@ -153,6 +163,7 @@ fn pack_next<R: TellRead, W: TellWrite>(
     ensures unasked { ¬ (MayAsk source.old) → source.new.reader.log ≡ source.old.reader.log }
     ensures writes { WritesOn target.old.writer.log.writes target.new.writer.log.writes }
     ensures open { source.new.skipping ≡ false }
+    ensures flushes { target.new.writer.log.writes.flushes ≡ target.old.writer.log.writes.flushes }
 {
     let mut row = 0;
     'tries: loop {
@@ -183,6 +194,7 @@ fn try_line<R: TellRead, W: TellWrite>(
     ensures writes { WritesOn target.old.writer.log.writes target.new.writer.log.writes }
     ensures unasked { ¬ (MayAsk source.old) → source.new.reader.log ≡ source.old.reader.log }
     ensures open { source.new.skipping ≡ false }
+    ensures flushes { target.new.writer.log.writes.flushes ≡ target.old.writer.log.writes.flushes }
 {
     match source.next() {
         Ok(Some(line)) => {

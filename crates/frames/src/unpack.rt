@@ -2,9 +2,11 @@
 ghost use Rattle.std.specs.Prelude.{◌≡◌, [], ◌∷◌, ◌++◌, length, true, IfErr, OnOk, OnErr, Ok};
 ghost use Rattle.buffer_redux.specs.BufWriter.{WritesInOrder};
 ghost use Rattle.buffer_redux.specs.Faults.{MetInterrupts, SendErrorCaused};
+ghost use Rattle.frame_reader.specs.Frames.{BeginsWhole};
 ghost use Rattle.frame_reader.specs.Framing.{rest};
 ghost use Rattle.frame_reader.specs.Next.{IsUnsettled};
 ghost use Rattle.line_reader.specs.Lines.{newline};
+ghost use Rattle.programs.specs.Flushes.{FlushesOnce, FlushesSend};
 ghost use Rattle.programs.specs.Prompt.{AsksGive, HoldsNothingBack, WritesOn};
 ghost use Rattle.programs.specs.Streams.{AllSent, EndsOnce};
 ghost use Rattle.frames.specs.Going.{goes_on, tries_on};
@@ -35,6 +37,7 @@ pub fn unpack<R: TellRead, W: TellWrite>(
     ensures ran { UnpackRan most (R.log reader) (R.log result.1) (W.log writer) (W.log result.2) result.0 }
     ensures prompt { HoldsNothingBack (IsDue most) (R.log reader) (R.log result.1) (W.log writer) (W.log result.2) }
     ensures once { EndsOnce (R.log reader).reads (R.log result.1).reads }
+    ensures flushes { FlushesSend 2 (W.log writer).writes (W.log result.2).writes }
 {
     let mut source = match FrameReader::new(alloc, reader, most) {
         Ok(source) => source,
@@ -65,6 +68,7 @@ fn unpack_all<R: TellRead, W: TellWrite>(
     ensures prompt { HoldsNothingBack (IsDue source.old.max) source.old.reader.log source.new.reader.log
         target.old.log target.new.log }
     ensures once { EndsOnce source.old.reader.log.reads source.new.reader.log.reads }
+    ensures flushes { FlushesSend 2 target.old.log.writes target.new.log.writes }
 {
     let answer = unpack_frames(source, target);
     if is_fault(&answer) {
@@ -86,6 +90,7 @@ fn unpack_frames<R: TellRead, W: TellWrite>(
     ensures prompt { HoldsNothingBack (IsDue source.old.max) source.old.reader.log source.new.reader.log
         target.old.log target.new.log }
     ensures once { EndsOnce source.old.reader.log.reads source.new.reader.log.reads }
+    ensures flushes { FlushesSend 1 target.old.log.writes target.new.log.writes }
 {
     for _ in 0..u64::MAX {
         match unpack_frame(source, target) {
@@ -108,6 +113,9 @@ fn unpack_frame<R: TellRead, W: TellWrite>(
     ensures asks { Asks source.old (goes_on result) source.new }
     ensures prompt { AsksWhenSent source.old target.old source.new target.new }
     ensures writes { WritesOn target.old.log.writes target.new.log.writes }
+    ensures flushes { FlushesOnce target.old target.new }
+    ensures buffered { BeginsWhole source.old.max (rest source.old)
+        → target.new.log.writes.flushes ≡ target.old.log.writes.flushes }
 {
     match source.next_buffered() {
         Some(payload) => {
@@ -128,6 +136,7 @@ fn unpack_asked<R: TellRead, W: TellWrite>(
     ensures asks { Asks source.old (goes_on result) source.new }
     ensures prompt { AsksWhenSent source.old target.old source.new target.new }
     ensures writes { WritesOn target.old.log.writes target.new.log.writes }
+    ensures flushes { FlushesOnce target.old target.new }
 {
     if source.has_frame() {
         return print_next(source, target);
@@ -147,6 +156,7 @@ fn print_next<R: TellRead, W: TellWrite>(
     ensures unpacks { UnpacksNext R.remaining source.old target.old result source.new target.new }
     ensures asks { Asks source.old (goes_on result) source.new }
     ensures writes { WritesOn target.old.log.writes target.new.log.writes }
+    ensures flushes { target.new.log.writes.flushes ≡ target.old.log.writes.flushes }
 {
     let mut row = 0;
     'tries: loop {
@@ -175,6 +185,7 @@ fn try_frame<R: TellRead, W: TellWrite>(
     ensures unpacks { UnpacksOnce R.remaining source.old target.old result source.new target.new }
     ensures asks { Asks source.old (tries_on result) source.new }
     ensures writes { WritesOn target.old.log.writes target.new.log.writes }
+    ensures flushes { target.new.log.writes.flushes ≡ target.old.log.writes.flushes }
 {
     match source.next() {
         Ok(Some(payload)) => {
@@ -195,6 +206,7 @@ fn print_line<W: TellWrite>(target: &mut BufWriter<W>, line: &[u8]) -> io::Resul
     ensures taken { OnOk result (WritesInOrder target.old (line.now ++ newline ∷ []) target.new) }
     ensures none { OnErr result (WritesInOrder target.old [] target.new) }
     ensures not_flushed { target.new.log.writes.flushed ≡ target.old.log.writes.flushed }
+    ensures flushes { target.new.log.writes.flushes ≡ target.old.log.writes.flushes }
     ensures met { OnOk result (MetInterrupts target.old.log.writes target.new.log.writes) }
     ensures caused { IfErr result (λ e. SendErrorCaused target.old.log.writes target.new.log.writes e) }
     ensures kind { target.new.block.kind ≡ target.old.block.kind }

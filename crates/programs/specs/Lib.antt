@@ -1,4 +1,6 @@
 pub mod Ending
+pub mod Flushes
+pub mod FlushesLaws
 pub mod Prompt
 pub mod PromptLaws
 pub mod Streams

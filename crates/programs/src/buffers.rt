@@ -92,6 +92,7 @@ pub fn make_room<W: TellWrite>(target: &mut BufWriter<W>, whole: usize) -> io::R
     ensures fits { length target.old.block.bytes + whole ≤ target.old.block.capacity
         → target.new.log ≡ target.old.log }
     ensures not_flushed { target.new.log.writes.flushed ≡ target.old.log.writes.flushed }
+    ensures flushes { target.new.log.writes.flushes ≡ target.old.log.writes.flushes }
     ensures room { OnOk result (whole ≤ usable target.new.block) }
     ensures met { OnOk result (MetInterrupts target.old.log.writes target.new.log.writes) }
     ensures caused { IfErr result (λ e. SendErrorCaused target.old.log.writes target.new.log.writes e) }

@@ -1,7 +1,7 @@
-use Rattle.std.proofs.Common.{[], length, ap, ◌∙◌, arith}
+use Rattle.std.proofs.Common.{[], inr, length, ap, ◌∙◌, arith}
 use Rattle.buffer_redux.specs.ReaderLaws.{ReadsAlong-joins}
 use Rattle.programs.specs.StreamsLaws.{only_more, one_more}
-use Rattle.bodies.proofs.Asking.{asked_once, asks_on}
+use Rattle.bodies.proofs.Asking.{asked_last, asked_once, asks_on}
 use Rattle.bodies.proofs.at_end.is_at_end.Goals as goal
 
 pub returns-in-Ok-clause-along : goal.returns-in-Ok-clause-along
@@ -31,6 +31,9 @@ tries-preserved g c =
       over = asks_on c.args.source.now c.tries.source c.try_at_end.new.source before.along.in_order before.over before.asks
           (omega (arith, one_more _ _ c.in-Err.e tried.fault)) c.try_at_end.ensures.asks;
       gave = tried.once ∙ before.gave;
+      asked = λ none. inr (asked_last c.args.source.now c.tries.source c.try_at_end.new.source
+          (before.asked none) c.try_at_end.ensures.along.grows.asks c.try_at_end.ensures.asked
+          before.along.grows.asks);
     }
 
 pub returns-in-Ok-clause-asks : goal.returns-in-Ok-clause-asks
@@ -44,3 +47,15 @@ returns-then-is_answered-clause-asks g c =
     let before = c.tries.invariant in
     asks_on c.args.source.now c.tries.source c.try_at_end.new.source before.along.in_order before.over before.asks
     (omega (arith, one_more _ _ c.in-Err.e c.in-Err.ensures.fault)) c.try_at_end.ensures.asks
+
+pub returns-in-Ok-clause-asked : goal.returns-in-Ok-clause-asked
+returns-in-Ok-clause-asked g c = λ none.
+    asked_last c.args.source.now c.tries.source c.try_at_end.new.source
+    (c.tries.invariant.asked none) c.try_at_end.ensures.along.grows.asks c.try_at_end.ensures.asked
+    c.tries.invariant.along.grows.asks
+
+pub returns-then-is_answered-clause-asked : goal.returns-then-is_answered-clause-asked
+returns-then-is_answered-clause-asked g c = λ none.
+    asked_last c.args.source.now c.tries.source c.try_at_end.new.source
+    (c.tries.invariant.asked none) c.try_at_end.ensures.along.grows.asks c.try_at_end.ensures.asked
+    c.tries.invariant.along.grows.asks

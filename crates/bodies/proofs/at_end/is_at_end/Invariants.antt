@@ -1,4 +1,4 @@
-use Rattle.std.proofs.Common.{◌≡◌, ◌+◌, ◌-◌, ◌≤◌, [], length}
+use Rattle.std.proofs.Common.{◌≡◌, ◌+◌, ◌-◌, ◌<◌, ◌≤◌, ◌⊎◌, [], length}
 use Rattle.buffer_redux.specs.BufReader.{ReadsAlong}
 use Rattle.buffer_redux.specs.Faults.{OnlyInterrupts}
 use Rattle.buffer_redux.specs.Policy.{std_read_rules}
@@ -14,6 +14,8 @@ invariant-tries g l = record {
   asks : l.source.log.reads.asks + length l.fn.source.log.reads.faults
       ≤ l.fn.source.log.reads.asks + length l.source.log.reads.faults;
   over : Asks l.fn.source l.source;
+  asked : l.fn.source.block.bytes ≡ []
+      → (l.source.block.bytes ≡ []) ⊎ (l.fn.source.log.reads.asks < l.source.log.reads.asks);
   gave : l.source.log.reads.zero_reads ≡ l.fn.source.log.reads.zero_reads;
 }
 

@@ -23,7 +23,7 @@ pub returns-then-count-eq0-clause-moves : goal.returns-then-count-eq0-clause-mov
 returns-then-count-eq0-clause-moves g c =
     piece_ends g.R.TellRead.remaining c.args.source.now c.args.target.now c.requires.target c.read_piece.new.source
     c.read_piece.new.out
-    c.in_ok-count.count c.if-count-eq0.true c.in_ok-count.ensures.reads
+    c.in_ok-count.count c.if-count-eq0.true c.in_ok-count.ensures.reads c.requires.sent
 
 pub returns-then-count-eq0-clause-asks : goal.returns-then-count-eq0-clause-asks
 returns-then-count-eq0-clause-asks g c = c.in_ok-count.ensures.asks

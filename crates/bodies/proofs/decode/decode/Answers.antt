@@ -1,4 +1,4 @@
-use Rattle.std.proofs.Common.{ap, arith, inl}
+use Rattle.std.proofs.Common.{ap, arith, inl, length}
 use Rattle.bodies.proofs.DecodeRuns.{refused}
 use Rattle.bodies.proofs.decode.decode.Goals as goal
 
@@ -33,3 +33,14 @@ returns-in-Err-clause-once g c = omega (arith, ap (λ l. l.reads.zero_reads) c.i
 
 pub returns-clause-once : goal.returns-clause-once
 returns-clause-once g c = rw (c.into_inner.ensures.log, ← c.in-Ok.ensures.read) c.decode_all-answer.ensures.once
+
+pub returns-in-Err-clause-flushes : goal.returns-in-Err-clause-flushes
+returns-in-Err-clause-flushes g c = omega (
+  arith,
+  ap (λ l. l.writes.flushes) c.in-Err.ensures.refused.written_same,
+  ap (λ l. length l.writes.received) c.in-Err.ensures.refused.written_same,
+)
+
+pub returns-clause-flushes : goal.returns-clause-flushes
+returns-clause-flushes g c =
+    rw (c.into_inner_with_buffer-writer.ensures.log, ← c.in-Ok.ensures.written) c.decode_all-answer.ensures.flushes

@@ -3,6 +3,7 @@ use Rattle.std.proofs.lemmas.List.{take-append-le}
 use Rattle.buffer_redux.specs.BufWriter.{WritesInOrder}
 use Rattle.std.proofs.lemmas.Result.{err_from_is_err_and}
 use Rattle.buffer_redux.specs.GoesOn.{GoesOn, GoesOn-none}
+use Rattle.programs.specs.FlushesLaws.{FlushesOnce-flush, FlushesOnce-on}
 use Rattle.programs.specs.Prompt.{AsksGive, WasSent}
 use Rattle.programs.specs.PromptLaws.{WasSent-on, WritesOn-grows, WritesOn-joins, WritesOn-unflushed}
 use Rattle.bodies.specs.Decode.{EndsInErr, IsPieceTarget}
@@ -142,3 +143,17 @@ pub returns-clause-once : goal.returns-clause-once
 returns-clause-once g c =
     subst (λ l. EndsInErr l.reads c.copy_piece.result c.copy_piece.new.source.reader.log.reads)
     c.read_buffered-held.ensures.told c.copy_piece.ensures.once
+
+pub returns-in_err-flush-clause-flushes : goal.returns-in_err-flush-clause-flushes
+returns-in_err-flush-clause-flushes g c = FlushesOnce-flush _ _ _ c.in_err-flush.ensures.flushed.steps
+
+pub returns-clause-flushes : goal.returns-clause-flushes
+returns-clause-flushes g c =
+    FlushesOnce-on c.args.target.now c.flush.new.self c.copy_piece.new.target
+    (FlushesOnce-flush _ _ _ c.in_ok-flush.ensures.flushed.steps) c.copy_piece.ensures.flushes c.copy_piece.ensures.writes
+
+pub returns-in_err-write_piece-clause-flushes : goal.returns-in_err-write_piece-clause-flushes
+returns-in_err-write_piece-clause-flushes g c = inl c.in_err-write_piece.ensures.flushes
+
+pub returns-then-held-gt0-clause-flushes : goal.returns-then-held-gt0-clause-flushes
+returns-then-held-gt0-clause-flushes g c = inl c.in_ok-write_piece.ensures.flushes

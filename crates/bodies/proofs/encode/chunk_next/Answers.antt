@@ -1,4 +1,4 @@
-use Rattle.std.proofs.Common.{◌≤◌, length, Err, Ok, ap, subst}
+use Rattle.std.proofs.Common.{◌≤◌, length, Err, Ok, ap, arith, subst}
 use Rattle.std.proofs.lemmas.Result.{err_from_is_err_and}
 use Rattle.buffer_redux.specs.Policy.{std_read_rules}
 use Rattle.buffer_redux.specs.ReaderLaws.{ReaderConsumes-along}
@@ -6,7 +6,7 @@ use Rattle.chunked.specs.Chunking.{WritesChunk}
 use Rattle.programs.specs.PromptLaws.{WritesOn-none}
 use Rattle.bodies.specs.AtEnd.{EndsOnce}
 use Rattle.bodies.proofs.Asking.{asks_same}
-use Rattle.bodies.proofs.Encoding.{at_end, chunk_writes, not_read, not_written, written}
+use Rattle.bodies.proofs.Encoding.{at_end, chunk_unflushed, chunk_writes, not_read, not_written, written}
 use Rattle.bodies.proofs.encode.chunk_next.Goals as goal
 
 pub returns-in-Ok-true-clause-encodes : goal.returns-in-Ok-true-clause-encodes
@@ -91,3 +91,29 @@ returns-in_ok-count-in-Ok-false-clause-writes g c =
     (c.in-Ok-false.ensures.more (ap Ok c.in-Ok-false.field-0-test)) (Ok count)
     (subst (λ l. WritesChunk g.W.Tell.log g.W.TellWrite.stretch c.args.body.now l (Ok count) c.write.new.self)
     c.buffer.ensures.value c.in_ok-count-in-Ok-false.ensures.writes)
+
+pub returns-in_err-count-in-Ok-false-clause-flushes : goal.returns-in_err-count-in-Ok-false-clause-flushes
+returns-in_err-count-in-Ok-false-clause-flushes g c =
+    let m = c.is_at_end.new.source in
+    let e = c.in_err-count-in-Ok-false.field-0.0 in
+    chunk_unflushed g.W.Tell.log g.W.TellWrite.stretch c.args.body.now c.write.new.self m.block.bytes
+    (c.in-Ok-false.ensures.more (ap Ok c.in-Ok-false.field-0-test)) (Err e)
+    (subst (λ l. WritesChunk g.W.Tell.log g.W.TellWrite.stretch c.args.body.now l (Err e) c.write.new.self)
+    c.buffer.ensures.value c.in_err-count-in-Ok-false.ensures.writes)
+
+pub returns-in_ok-count-in-Ok-false-clause-flushes : goal.returns-in_ok-count-in-Ok-false-clause-flushes
+returns-in_ok-count-in-Ok-false-clause-flushes g c =
+    let m = c.is_at_end.new.source in
+    let count = c.in_ok-count-in-Ok-false.count in
+    chunk_unflushed g.W.Tell.log g.W.TellWrite.stretch c.args.body.now c.write.new.self m.block.bytes
+    (c.in-Ok-false.ensures.more (ap Ok c.in-Ok-false.field-0-test)) (Ok count)
+    (subst (λ l. WritesChunk g.W.Tell.log g.W.TellWrite.stretch c.args.body.now l (Ok count) c.write.new.self)
+    c.buffer.ensures.value c.in_ok-count-in-Ok-false.ensures.writes)
+
+pub returns-in_ok-count-in-Ok-false-clause-asked : goal.returns-in_ok-count-in-Ok-false-clause-asked
+returns-in_ok-count-in-Ok-false-clause-asked g c = λ none.
+    omega (arith, c.in-Ok-false.ensures.asked none, ap (λ l. l.reads.asks) c.consume.ensures.consumed.told)
+
+pub returns-in_ok-count-in-Ok-false-clause-asks_grow : goal.returns-in_ok-count-in-Ok-false-clause-asks_grow
+returns-in_ok-count-in-Ok-false-clause-asks_grow g c =
+    omega (arith, c.in-Ok-false.ensures.along.grows.asks, ap (λ l. l.reads.asks) c.consume.ensures.consumed.told)

@@ -33,3 +33,20 @@ returns-clause-prompt g c =
 
 pub returns-clause-once : goal.returns-clause-once
 returns-clause-once g c = rw (c.into_inner.ensures.log, ← c.in-Ok.ensures.read) c.encode_all-answer.ensures.once
+
+pub returns-in-Err-clause-flushes : goal.returns-in-Err-clause-flushes
+returns-in-Err-clause-flushes g c = omega (
+  arith,
+  ap (λ l. l.writes.flushes) c.in-Err.ensures.refused.written_same,
+  ap (λ l. l.reads.asks) c.in-Err.ensures.refused.read_same,
+)
+
+pub returns-clause-flushes : goal.returns-clause-flushes
+returns-clause-flushes g c =
+    rw (
+      c.into_inner.ensures.log,
+      c.into_inner_with_buffer-writer.ensures.log,
+      ← c.in-Ok.ensures.read,
+      ← c.in-Ok.ensures.written,
+    )
+    c.encode_all-answer.ensures.flushes

@@ -1,6 +1,7 @@
-use Rattle.std.proofs.Common.{[], Err, Ok, arith, refl, subst, sym}
+use Rattle.std.proofs.Common.{[], Err, Ok, ap, arith, refl, subst, sym}
 use Rattle.chunked.specs.Chunk.{body_end}
 use Rattle.chunked.specs.Chunking.{unbegun}
+use Rattle.programs.specs.FlushesLaws.{flushed_once}
 use Rattle.programs.specs.Prompt.{HoldsNothingBack}
 use Rattle.programs.specs.PromptLaws.{HoldsNothingBack-on, WritesOn-grows, WritesOn-joins, WritesOn-unflushed}
 use Rattle.bodies.specs.Encode.{EncodeRan, EncodesAll, IsDue}
@@ -119,3 +120,46 @@ returns-in-Err-finish-clause-prompt g c =
 
 pub returns-in-Err-finish-clause-once : goal.returns-in-Err-finish-clause-once
 returns-in-Err-finish-clause-once g c = c.in_default.ensures.once
+
+pub returns-in-Ok-flush-clause-flushes : goal.returns-in-Ok-flush-clause-flushes
+returns-in-Ok-flush-clause-flushes g c =
+    let body = c.encode_chunks.new.body in
+    let end = c.in-Ok.ensures in
+    let quiet = put_quietly g.W.Tell.log g.W.TellWrite.stretch body.writer c.in-Ok.target (body_end []) _ end.fits end.full in
+    omega (
+      arith,
+      c.in_default.ensures.balanced,
+      ap (λ b. b.writer.log.writes.flushes) c.new-body.ensures.begun,
+      quiet.flushes,
+      flushed_once c.in-Ok.target c.flush.new.self _ c.flush.ensures.flushed.steps,
+    )
+
+pub returns-in-Err-flush-clause-flushes : goal.returns-in-Err-flush-clause-flushes
+returns-in-Err-flush-clause-flushes g c =
+    let body = c.encode_chunks.new.body in
+    let end = c.in-Ok.ensures in
+    let quiet = put_quietly g.W.Tell.log g.W.TellWrite.stretch body.writer c.in-Ok.target (body_end []) _ end.fits end.full in
+    omega (
+      arith,
+      c.in_default.ensures.balanced,
+      ap (λ b. b.writer.log.writes.flushes) c.new-body.ensures.begun,
+      quiet.flushes,
+      flushed_once c.in-Ok.target c.flush.new.self _ c.flush.ensures.flushed.steps,
+    )
+
+pub returns-in-Err-finish-clause-flushes : goal.returns-in-Err-finish-clause-flushes
+returns-in-Err-finish-clause-flushes g c =
+    rw c.into_inner-in-Err-finish.ensures (omega (
+      arith,
+      c.in_default.ensures.balanced,
+      ap (λ b. b.writer.log.writes.flushes) c.new-body.ensures.begun,
+      c.in-Err-finish.ensures.sends.sends.sent.flushes,
+    ))
+
+pub returns-in-Err-clause-flushes : goal.returns-in-Err-clause-flushes
+returns-in-Err-clause-flushes g c = omega (
+  arith,
+  c.in-Err.ensures.flushes,
+  ap (λ b. b.writer.log.writes.flushes) c.new-body.ensures.begun,
+  ap (λ w. w.log.writes.flushes) c.into_inner.ensures,
+)

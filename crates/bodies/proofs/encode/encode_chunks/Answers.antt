@@ -11,6 +11,7 @@ loop-init g c = record {
       c.args.source.now c.args.body.now c.requires.whole;
   held = inl refl;
   give = omega arith;
+  balanced = omega arith;
 }
 
 pub returns-in_err-encode_next-clause-encodes : goal.returns-in_err-encode_next-clause-encodes
@@ -79,6 +80,7 @@ loop-preserved g c =
         gives g.R.TellRead.remaining g.W.TellWrite.stretch c.loop.source c.encode_next.new.source
             c.loop.body c.encode_next.new.body next one.prompt,
       );
+      balanced = omega (arith, before.balanced, one.balanced);
     }
 
 pub returns-clause-encodes : goal.returns-clause-encodes
@@ -93,3 +95,18 @@ returns-clause-prompt g c = c.loop.invariant.held
 
 pub returns-clause-once : goal.returns-clause-once
 returns-clause-once g c = omega (arith, c.loop.invariant.so_far.never)
+
+pub returns-in_err-encode_next-clause-flushes : goal.returns-in_err-encode_next-clause-flushes
+returns-in_err-encode_next-clause-flushes g c =
+    omega (arith, c.loop.invariant.balanced, c.in_err-encode_next.ensures.flushes)
+
+pub returns-then-not-branch-clause-flushes : goal.returns-then-not-branch-clause-flushes
+returns-then-not-branch-clause-flushes g c =
+    omega (arith, c.loop.invariant.balanced, c.in_ok-encode_next.ensures.flushes)
+
+pub returns-then-not-branch-clause-balanced : goal.returns-then-not-branch-clause-balanced
+returns-then-not-branch-clause-balanced g c =
+    omega (arith, c.loop.invariant.balanced, c.in_ok-encode_next.ensures.balanced)
+
+pub returns-clause-flushes : goal.returns-clause-flushes
+returns-clause-flushes g c = omega (arith, c.loop.invariant.balanced)

@@ -1,9 +1,11 @@
-use Rattle.std.proofs.Common.{◌++◌, inl, refl, sym, subst, ◌∙◌}
+use Rattle.std.proofs.Common.{◌++◌, arith, inl, refl, sym, subst, ◌∙◌}
 use Rattle.std.proofs.lemmas.Result.{err_from_is_err_and}
 use Rattle.buffer_redux.specs.GoesOn.{GoesOn, GoesOn-none}
+use Rattle.programs.specs.Flushes.{FlushesPerAsk}
+use Rattle.programs.specs.FlushesLaws.{flushed_once}
 use Rattle.programs.specs.Prompt.{WasSent}
 use Rattle.programs.specs.PromptLaws.{WasSent-on, WritesOn-grows, WritesOn-joins}
-use Rattle.bodies.proofs.EncodePrompting.{asks_sent, not_asked, not_empty}
+use Rattle.bodies.proofs.EncodePrompting.{asks_sent, is_nil, not_asked, not_empty, on_ok}
 use Rattle.bodies.proofs.Encoding.{flushed_well, not_flushed, then_next}
 use Rattle.bodies.proofs.encode.encode_next.Goals as goal
 
@@ -68,3 +70,41 @@ pub chunk_next-requires-clause-sent : goal.chunk_next-requires-clause-sent
 chunk_next-requires-clause-sent g c = λ none. absurd
     (not_empty c.args.source.now c.buffer.result.now c.buffer.ensures.value
     (sym c.if-not-is_empty.true ∙ c.is_empty.ensures) none)
+
+pub returns-then-not-is_empty-clause-flushes : goal.returns-then-not-is_empty-clause-flushes
+returns-then-not-is_empty-clause-flushes g c =
+    let one = c.chunk_next.ensures in omega (arith, one.flushes, one.asks_grow)
+
+pub returns-then-not-is_empty-clause-balanced : goal.returns-then-not-is_empty-clause-balanced
+returns-then-not-is_empty-clause-balanced g c =
+    let one = c.chunk_next.ensures in
+    let even : FlushesPerAsk 0 c.args.source.now.log c.chunk_next.new.source.log c.args.body.now.writer.log
+    c.chunk_next.new.body.writer.log = omega (arith, one.flushes, one.asks_grow) in
+    on_ok c.chunk_next.result even
+
+pub returns-in_err-flush-clause-flushes : goal.returns-in_err-flush-clause-flushes
+returns-in_err-flush-clause-flushes g c =
+    omega (arith, flushed_once c.args.body.now.writer c.flush.new.self.writer _ c.in_err-flush.ensures.flushed.steps)
+
+pub returns-clause-flushes : goal.returns-clause-flushes
+returns-clause-flushes g c =
+    let one = c.chunk_next-2.ensures in
+    omega (
+      arith,
+      flushed_once c.args.body.now.writer c.flush.new.self.writer _ c.in_ok-flush.ensures.flushed.steps,
+      one.flushes,
+      one.asks_grow,
+    )
+
+pub returns-clause-balanced : goal.returns-clause-balanced
+returns-clause-balanced g c =
+    let one = c.chunk_next-2.ensures in
+    let even : FlushesPerAsk 0 c.args.source.now.log c.chunk_next-2.new.source.log c.args.body.now.writer.log
+    c.chunk_next-2.new.body.writer.log = omega (
+      arith,
+      flushed_once c.args.body.now.writer c.flush.new.self.writer _ c.in_ok-flush.ensures.flushed.steps,
+      one.flushes,
+      one.asked (is_nil c.args.source.now c.buffer.result.now c.buffer.ensures.value
+          (sym c.if-not-is_empty.false ∙ c.is_empty.ensures)),
+    ) in
+    on_ok c.chunk_next-2.result even

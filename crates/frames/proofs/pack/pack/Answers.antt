@@ -65,3 +65,14 @@ returns-clause-prompt g c =
     (subst (λ n. HoldsNothingBack (IsDue n) c.in-Ok.source.reader.log c.pack_all-answer.new.source.reader.log
     c.in-Ok-with_capacity.target.writer.log c.pack_all-answer.new.target.writer.log) (read.max ∙ c.from.ensures)
     c.pack_all-answer.ensures.prompt)
+
+pub returns-in-Err-clause-flushes : goal.returns-in-Err-clause-flushes
+returns-in-Err-clause-flushes g c = omega arith
+
+pub returns-in-Err-with_capacity-clause-flushes : goal.returns-in-Err-with_capacity-clause-flushes
+returns-in-Err-with_capacity-clause-flushes g c = rw c.in-Err-with_capacity.ensures.handed_back (omega arith)
+
+pub returns-clause-flushes : goal.returns-clause-flushes
+returns-clause-flushes g c =
+    rw (c.into_inner_with_buffer-writer.ensures.log, ← c.in-Ok-with_capacity.ensures.made.log)
+    c.pack_all-answer.ensures.flushes

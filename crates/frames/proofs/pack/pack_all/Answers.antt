@@ -1,6 +1,7 @@
-use Rattle.std.proofs.Common.{refl, sym, ◌∙◌}
+use Rattle.std.proofs.Common.{arith, refl, sym, ◌∙◌}
 use Rattle.std.proofs.lemmas.Result.{err_from_is_err_and}
 use Rattle.frames.specs.Pack.{IsDue}
+use Rattle.programs.specs.FlushesLaws.{FlushesSend-flush}
 use Rattle.programs.specs.PromptLaws.{HoldsNothingBack-on, WritesOn-grows}
 use Rattle.frames.proofs.PackRuns.{kept, flushed_after, flush_failed_after}
 use Rattle.frames.proofs.pack.pack_all.Goals as goal
@@ -38,3 +39,18 @@ pub returns-clause-prompt : goal.returns-clause-prompt
 returns-clause-prompt g c =
     HoldsNothingBack-on (IsDue c.args.source.now.max) _ _ _ _ _ _ c.pack_lines-answer.ensures.prompt refl
     (WritesOn-grows _ _ c.in_ok-flush.ensures.flushed.grows)
+
+pub returns-then-is_fault-clause-flushes : goal.returns-then-is_fault-clause-flushes
+returns-then-is_fault-clause-flushes g c = omega (arith, c.pack_lines-answer.ensures.flushes)
+
+pub returns-in_err-flush-clause-flushes : goal.returns-in_err-flush-clause-flushes
+returns-in_err-flush-clause-flushes g c =
+    let flushed = c.in_err-flush.ensures.flushed in
+    FlushesSend-flush 1 c.args.target.now.writer.log.writes c.pack_lines-answer.new.target.writer c.flush.new.self.writer _
+    c.pack_lines-answer.ensures.flushes flushed.steps (WritesOn-grows _ _ flushed.grows)
+
+pub returns-clause-flushes : goal.returns-clause-flushes
+returns-clause-flushes g c =
+    let flushed = c.in_ok-flush.ensures.flushed in
+    FlushesSend-flush 1 c.args.target.now.writer.log.writes c.pack_lines-answer.new.target.writer c.flush.new.self.writer _
+    c.pack_lines-answer.ensures.flushes flushed.steps (WritesOn-grows _ _ flushed.grows)

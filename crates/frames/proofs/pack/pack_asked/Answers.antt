@@ -3,6 +3,7 @@ use Rattle.std.proofs.lemmas.Bool.{false≢true}
 use Rattle.std.proofs.lemmas.Result.{err_from_is_err_and}
 use Rattle.buffer_redux.specs.GoesOn.{GoesOn, GoesOn-none}
 use Rattle.frame_reader.specs.Outgoing.{unsent}
+use Rattle.programs.specs.FlushesLaws.{FlushesOnce-flush, FlushesOnce-on}
 use Rattle.programs.specs.Prompt.{WasSent}
 use Rattle.programs.specs.PromptLaws.{WasSent-on, WritesOn-grows, WritesOn-joins}
 use Rattle.frames.proofs.PackPrompting.{asks_none, asks_sent, has_no_ask, not_ended}
@@ -52,3 +53,14 @@ pub returns-clause-writes : goal.returns-clause-writes
 returns-clause-writes g c =
     WritesOn-joins _ c.flush.new.self.writer.log.writes _ (WritesOn-grows _ _ c.in_ok-flush.ensures.flushed.grows)
     c.pack_next-2.ensures.writes
+
+pub returns-then-has_line-clause-flushes : goal.returns-then-has_line-clause-flushes
+returns-then-has_line-clause-flushes g c = inl c.pack_next.ensures.flushes
+
+pub returns-in_err-flush-clause-flushes : goal.returns-in_err-flush-clause-flushes
+returns-in_err-flush-clause-flushes g c = FlushesOnce-flush _ _ _ c.in_err-flush.ensures.flushed.steps
+
+pub returns-clause-flushes : goal.returns-clause-flushes
+returns-clause-flushes g c =
+    FlushesOnce-on c.args.target.now.writer c.flush.new.self.writer c.pack_next-2.new.target.writer
+    (FlushesOnce-flush _ _ _ c.in_ok-flush.ensures.flushed.steps) c.pack_next-2.ensures.flushes c.pack_next-2.ensures.writes

@@ -1,10 +1,10 @@
-use Rattle.std.proofs.Common.{ap, inl, Ok, Some, subst, true, ◌∙◌}
+use Rattle.std.proofs.Common.{ap, arith, inl, Err, Ok, Some, subst, true, ◌∙◌}
 use Rattle.std.proofs.lemmas.Result.{err_from_is_err_and}
 use Rattle.line_reader.specs.LinesAlongLaws.{NextBuffered-none, NextBuffered-some}
 use Rattle.frames.specs.Going.{goes_on}
 use Rattle.frames.specs.Pack.{Asks, AsksWhenSent, PacksNext}
 use Rattle.programs.specs.PromptLaws.{WritesOn-unflushed}
-use Rattle.frames.proofs.PackPrompting.{asks_end, asks_next}
+use Rattle.frames.proofs.PackPrompting.{asks_end, asks_next, unflushed}
 use Rattle.frames.proofs.Packing.{not_written, written}
 use Rattle.frames.proofs.pack.pack_line.Goals as goal
 
@@ -107,3 +107,39 @@ pub pack_asked-requires-clause-open : goal.pack_asked-requires-clause-open
 pack_asked-requires-clause-open g c =
     ap (λ x. x.skipping) (NextBuffered-none _ c.args.source.now _ _ c.in-None.is c.next_buffered.follows.holds-at-none).0
     ∙ c.requires.open
+
+pub returns-in_err-write_frame-in-Some-clause-flushes : goal.returns-in_err-write_frame-in-Some-clause-flushes
+returns-in_err-write_frame-in-Some-clause-flushes g c =
+    let s = c.args.source.now in
+    let t = c.next_buffered.follows.lender-at-none in
+    let took = NextBuffered-some _ s t _ _ c.in-Some.is c.next_buffered.follows.holds-at-none in
+    inl (unflushed g.W.TellWrite.stretch c.args.target.now c.write_frame.new.self c.in-Some.line.now
+    (omega (arith, took.0.answers.1, c.requires.most)) (Err _) c.in_err-write_frame-in-Some.ensures)
+
+pub returns-in_err-write_frame-in-Some-clause-buffered : goal.returns-in_err-write_frame-in-Some-clause-buffered
+returns-in_err-write_frame-in-Some-clause-buffered g c =
+    let s = c.args.source.now in
+    let t = c.next_buffered.follows.lender-at-none in
+    let took = NextBuffered-some _ s t _ _ c.in-Some.is c.next_buffered.follows.holds-at-none in
+    λ _. unflushed g.W.TellWrite.stretch c.args.target.now c.write_frame.new.self c.in-Some.line.now
+    (omega (arith, took.0.answers.1, c.requires.most)) (Err _) c.in_err-write_frame-in-Some.ensures
+
+pub returns-in_ok-write_frame-in-Some-clause-flushes : goal.returns-in_ok-write_frame-in-Some-clause-flushes
+returns-in_ok-write_frame-in-Some-clause-flushes g c =
+    let s = c.args.source.now in
+    let t = c.next_buffered.follows.lender-at-none in
+    let took = NextBuffered-some _ s t _ _ c.in-Some.is c.next_buffered.follows.holds-at-none in
+    inl (unflushed g.W.TellWrite.stretch c.args.target.now c.write_frame.new.self c.in-Some.line.now
+    (omega (arith, took.0.answers.1, c.requires.most)) (Ok tt) c.in_ok-write_frame-in-Some.ensures)
+
+pub returns-in_ok-write_frame-in-Some-clause-buffered : goal.returns-in_ok-write_frame-in-Some-clause-buffered
+returns-in_ok-write_frame-in-Some-clause-buffered g c =
+    let s = c.args.source.now in
+    let t = c.next_buffered.follows.lender-at-none in
+    let took = NextBuffered-some _ s t _ _ c.in-Some.is c.next_buffered.follows.holds-at-none in
+    λ _. unflushed g.W.TellWrite.stretch c.args.target.now c.write_frame.new.self c.in-Some.line.now
+    (omega (arith, took.0.answers.1, c.requires.most)) (Ok tt) c.in_ok-write_frame-in-Some.ensures
+
+pub returns-in-None-clause-buffered : goal.returns-in-None-clause-buffered
+returns-in-None-clause-buffered g c = λ whole. absurd
+    ((NextBuffered-none _ c.args.source.now _ _ c.in-None.is c.next_buffered.follows.holds-at-none).1 whole)

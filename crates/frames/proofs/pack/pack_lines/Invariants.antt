@@ -1,5 +1,6 @@
 use Rattle.std.proofs.Common.{◌≡◌, false}
 use Rattle.frames.specs.Pack.{IsDue, PacksLines}
+use Rattle.programs.specs.Flushes.{FlushesSend, FlushesTake}
 use Rattle.programs.specs.Prompt.{AsksGive, HoldsNothingBack}
 use Rattle.frames.proofs.pack.pack_lines.Given as goal
 
@@ -10,5 +11,7 @@ invariant-loop g l =
       open' : l.source.skipping ≡ false;
       held : HoldsNothingBack (IsDue l.fn.source.max) l.fn.source.reader.log l.source.reader.log l.fn.target.writer.log
           l.target.writer.log;
+      takes : FlushesTake l.fn.target.writer.log.writes l.target.writer;
+      sends : FlushesSend 1 l.fn.target.writer.log.writes l.target.writer.log.writes;
       give : l.source.ended ≡ false → AsksGive l.fn.source.reader.log l.source.reader.log;
     }

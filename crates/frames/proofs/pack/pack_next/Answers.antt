@@ -1,4 +1,4 @@
-use Rattle.std.proofs.Common.{subst, sym, ◌∙◌, Ok, Err, true, false, [], arith, refl}
+use Rattle.std.proofs.Common.{ap, subst, sym, ◌∙◌, Ok, Err, true, false, [], arith, refl}
 use Rattle.std.proofs.lemmas.Result.{err_from_is_err_and}
 use Rattle.std.proofs.lemmas.Bool.{false≢true}
 use Rattle.buffer_redux.specs.Faults.{OnlyInterrupts-none}
@@ -149,3 +149,19 @@ returns-then-is_answered-clause-asks g c =
     asks_end s t true (asks_again remaining s c.tries.source t true before.went before.still before.asks
     (subst (λ x. Asks c.tries.source (tries_on (Ok x)) t) c.in-ReadFailed.is c.in_ok-try_line.ensures.asks)
     (λ _ _. stopped.going))
+
+pub returns-in_err-try_line-clause-flushes : goal.returns-in_err-try_line-clause-flushes
+returns-in_err-try_line-clause-flushes g c =
+    c.in_err-try_line.ensures.flushes ∙ ap (λ w. w.writer.log.writes.flushes) c.tries.invariant.target
+
+pub returns-in-Went-clause-flushes : goal.returns-in-Went-clause-flushes
+returns-in-Went-clause-flushes g c =
+    c.in_ok-try_line.ensures.flushes ∙ ap (λ w. w.writer.log.writes.flushes) c.tries.invariant.target
+
+pub returns-in-End-clause-flushes : goal.returns-in-End-clause-flushes
+returns-in-End-clause-flushes g c =
+    c.in_ok-try_line.ensures.flushes ∙ ap (λ w. w.writer.log.writes.flushes) c.tries.invariant.target
+
+pub returns-then-is_answered-clause-flushes : goal.returns-then-is_answered-clause-flushes
+returns-then-is_answered-clause-flushes g c =
+    c.in_ok-try_line.ensures.flushes ∙ ap (λ w. w.writer.log.writes.flushes) c.tries.invariant.target

@@ -1,11 +1,11 @@
-use Rattle.std.proofs.Common.{subst, ap, ◌∙◌, Ok, Err, Some, None, true}
+use Rattle.std.proofs.Common.{subst, ap, arith, ◌∙◌, Ok, Err, Some, None, true}
 use Rattle.std.proofs.lemmas.Result.{err_from_is_err_and}
 use Rattle.line_reader.specs.NextLine.{NextLine, answer_of}
 use Rattle.line_reader.specs.NextLineLaws.{NextGoes-plain}
 use Rattle.frames.proofs.Packing.{not_asked, begins_long, no_more, not_written, written}
 use Rattle.line_reader.specs.declared.error.LineError.TheVariants as NoLine
 use Rattle.programs.specs.PromptLaws.{WritesOn-unflushed}
-use Rattle.frames.proofs.PackPrompting.{asks_next, asks_end}
+use Rattle.frames.proofs.PackPrompting.{asks_next, asks_end, unflushed}
 use Rattle.frames.proofs.pack.try_line.Goals as goal
 
 pub returns-in_err-write_frame-in-Ok-Some-clause-packs : goal.returns-in_err-write_frame-in-Ok-Some-clause-packs
@@ -169,3 +169,25 @@ pub returns-in_ok-write_frame-in-Ok-Some-clause-writes : goal.returns-in_ok-writ
 returns-in_ok-write_frame-in-Ok-Some-clause-writes g c =
     let wrote = c.in_ok-write_frame-in-Ok-Some.ensures in
     WritesOn-unflushed c.args.target.now.writer c.write_frame.new.self.writer _ wrote.went.in_order wrote.not_flushed
+
+pub returns-in_err-write_frame-in-Ok-Some-clause-flushes : goal.returns-in_err-write_frame-in-Ok-Some-clause-flushes
+returns-in_err-write_frame-in-Ok-Some-clause-flushes g c =
+    let remaining = g.R.TellRead.remaining in
+    let s = c.args.source.now in
+    let t = c.next.follows.lender-at-none in
+    let next : NextLine remaining s (Ok (Some c.in-Ok-Some.line.now)) t =
+    subst (λ r. NextLine remaining s (answer_of r) t) (c.in-Ok-Some.is ∙ ap (λ x. Ok x) c.in-Ok-Some.field-0-is)
+    (NextGoes-plain remaining s t (answer_of c.next.result) c.requires.open c.next.follows.holds-at-none) in
+    unflushed g.W.TellWrite.stretch c.args.target.now c.write_frame.new.self c.in-Ok-Some.line.now
+    (omega (arith, next.answers.1, c.requires.most)) (Err _) c.in_err-write_frame-in-Ok-Some.ensures
+
+pub returns-in_ok-write_frame-in-Ok-Some-clause-flushes : goal.returns-in_ok-write_frame-in-Ok-Some-clause-flushes
+returns-in_ok-write_frame-in-Ok-Some-clause-flushes g c =
+    let remaining = g.R.TellRead.remaining in
+    let s = c.args.source.now in
+    let t = c.next.follows.lender-at-none in
+    let next : NextLine remaining s (Ok (Some c.in-Ok-Some.line.now)) t =
+    subst (λ r. NextLine remaining s (answer_of r) t) (c.in-Ok-Some.is ∙ ap (λ x. Ok x) c.in-Ok-Some.field-0-is)
+    (NextGoes-plain remaining s t (answer_of c.next.result) c.requires.open c.next.follows.holds-at-none) in
+    unflushed g.W.TellWrite.stretch c.args.target.now c.write_frame.new.self c.in-Ok-Some.line.now
+    (omega (arith, next.answers.1, c.requires.most)) (Ok tt) c.in_ok-write_frame-in-Ok-Some.ensures

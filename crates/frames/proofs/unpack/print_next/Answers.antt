@@ -1,4 +1,4 @@
-use Rattle.std.proofs.Common.{subst, ◌∙◌, Ok, Err, true, false, [], arith, refl}
+use Rattle.std.proofs.Common.{ap, subst, ◌∙◌, Ok, Err, true, false, [], arith, refl}
 use Rattle.buffer_redux.specs.Faults.{OnlyInterrupts-none}
 use Rattle.frame_reader.specs.NextLaws.{FramesWent-none, FramesWent-joins}
 use Rattle.frames.specs.Going.{tries_on}
@@ -114,3 +114,15 @@ returns-then-is_answered-clause-asks g c =
     let t = c.try_frame.new.source in
     asks_end s t true (asks_again g.R.TellRead.remaining s c.tries.source t true before.went before.asks
     (subst (λ x. Asks c.tries.source (tries_on (Ok x)) t) c.in-Ok-ReadFailed.field-0-is c.in-Ok-ReadFailed.ensures.asks))
+
+pub returns-in-Err-clause-flushes : goal.returns-in-Err-clause-flushes
+returns-in-Err-clause-flushes g c = c.in-Err.ensures.flushes ∙ ap (λ w. w.log.writes.flushes) c.tries.invariant.target
+
+pub returns-in-Ok-Went-clause-flushes : goal.returns-in-Ok-Went-clause-flushes
+returns-in-Ok-Went-clause-flushes g c = c.in-Ok-Went.ensures.flushes ∙ ap (λ w. w.log.writes.flushes) c.tries.invariant.target
+
+pub returns-in-Ok-End-clause-flushes : goal.returns-in-Ok-End-clause-flushes
+returns-in-Ok-End-clause-flushes g c = c.in-Ok-End.ensures.flushes ∙ ap (λ w. w.log.writes.flushes) c.tries.invariant.target
+
+pub returns-then-is_answered-clause-flushes : goal.returns-then-is_answered-clause-flushes
+returns-then-is_answered-clause-flushes g c = c.in-Ok-ReadFailed.ensures.flushes ∙ ap (λ w. w.log.writes.flushes) c.tries.invariant.target

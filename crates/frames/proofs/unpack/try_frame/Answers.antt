@@ -130,3 +130,9 @@ returns-in-Err-Io-clause-unpacks g c =
     read_stopped remaining s t c.args.target.now c.requires c.in-Err-Io.e
     (subst (λ r. Next remaining s (answer_of r) t) (c.in-Err-Io.is ∙ ap (λ x. Err x) c.in-Err-Io.field-0-is)
     c.next.follows.holds-at-none)
+
+pub returns-in_err-print_line-in-Ok-Some-clause-flushes : goal.returns-in_err-print_line-in-Ok-Some-clause-flushes
+returns-in_err-print_line-in-Ok-Some-clause-flushes g c = c.in_err-print_line-in-Ok-Some.ensures.flushes
+
+pub returns-in_ok-print_line-in-Ok-Some-clause-flushes : goal.returns-in_ok-print_line-in-Ok-Some-clause-flushes
+returns-in_ok-print_line-in-Ok-Some-clause-flushes g c = c.in_ok-print_line-in-Ok-Some.ensures.flushes

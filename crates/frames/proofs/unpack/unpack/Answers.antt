@@ -1,4 +1,4 @@
-use Rattle.std.proofs.Common.{◌≡◌, inl, refl, rules}
+use Rattle.std.proofs.Common.{◌≡◌, arith, inl, refl, rules}
 use Rattle.std.specs.IoError.{error_kind}
 use Rattle.std.specs.declared.io.ErrorKind.TheVariants.{OutOfMemory}
 use Rattle.frames.proofs.UnpackRuns.{unpack_ran, unpack_refused}
@@ -47,3 +47,13 @@ returns-clause-prompt g c =
       ← made.max,
     )
     c.unpack_all-answer.ensures.prompt
+
+pub returns-in-Err-clause-flushes : goal.returns-in-Err-clause-flushes
+returns-in-Err-clause-flushes g c = omega arith
+
+pub returns-in-Err-buffered_writer-clause-flushes : goal.returns-in-Err-buffered_writer-clause-flushes
+returns-in-Err-buffered_writer-clause-flushes g c = rw c.in-Err-buffered_writer.ensures.handed_back (omega arith)
+
+pub returns-clause-flushes : goal.returns-clause-flushes
+returns-clause-flushes g c =
+    rw (c.into_inner_with_buffer-writer.ensures.log, ← c.in-Ok-buffered_writer.ensures.log) c.unpack_all-answer.ensures.flushes

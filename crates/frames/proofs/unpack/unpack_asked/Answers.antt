@@ -2,6 +2,7 @@ use Rattle.std.proofs.Common.{◌++◌, ◌∙◌, inl, subst}
 use Rattle.std.proofs.lemmas.Result.{err_from_is_err_and}
 use Rattle.buffer_redux.specs.GoesOn.{GoesOn, GoesOn-none}
 use Rattle.programs.specs.Prompt.{WasSent}
+use Rattle.programs.specs.FlushesLaws.{FlushesOnce-flush, FlushesOnce-on}
 use Rattle.programs.specs.PromptLaws.{WasSent-on, WritesOn-grows, WritesOn-joins}
 use Rattle.frames.proofs.Prompting.{asks_none, asks_settled, asks_sent}
 use Rattle.frames.proofs.Unpacking.{sent_before, not_sent}
@@ -48,4 +49,16 @@ returns-clause-prompt g c =
 pub returns-clause-writes : goal.returns-clause-writes
 returns-clause-writes g c =
     WritesOn-joins _ c.flush.new.self.log.writes _ (WritesOn-grows _ _ c.in_ok-flush.ensures.flushed.grows)
+    c.print_next-2.ensures.writes
+
+pub returns-then-has_frame-clause-flushes : goal.returns-then-has_frame-clause-flushes
+returns-then-has_frame-clause-flushes g c = inl c.print_next.ensures.flushes
+
+pub returns-in_err-flush-clause-flushes : goal.returns-in_err-flush-clause-flushes
+returns-in_err-flush-clause-flushes g c = FlushesOnce-flush _ _ _ c.in_err-flush.ensures.flushed.steps
+
+pub returns-clause-flushes : goal.returns-clause-flushes
+returns-clause-flushes g c =
+    FlushesOnce-on c.args.target.now c.flush.new.self c.print_next-2.new.target
+    (FlushesOnce-flush _ _ _ c.in_ok-flush.ensures.flushed.steps) c.print_next-2.ensures.flushes
     c.print_next-2.ensures.writes

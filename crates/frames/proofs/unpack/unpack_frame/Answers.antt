@@ -90,3 +90,19 @@ pub unpack_asked-requires : goal.unpack_asked-requires
 unpack_asked-requires g c =
     let same = (NextBuffered-none _ c.args.source.now _ _ c.in-None.is c.next_buffered.follows.holds-at-none).0 in
     subst (λ x. IsLineTarget x.max c.args.target.now) (sym same) c.requires
+
+pub returns-in_err-print_line-in-Some-clause-flushes : goal.returns-in_err-print_line-in-Some-clause-flushes
+returns-in_err-print_line-in-Some-clause-flushes g c = inl c.in_err-print_line-in-Some.ensures.flushes
+
+pub returns-in_err-print_line-in-Some-clause-buffered : goal.returns-in_err-print_line-in-Some-clause-buffered
+returns-in_err-print_line-in-Some-clause-buffered g c = λ _. c.in_err-print_line-in-Some.ensures.flushes
+
+pub returns-in_ok-print_line-in-Some-clause-flushes : goal.returns-in_ok-print_line-in-Some-clause-flushes
+returns-in_ok-print_line-in-Some-clause-flushes g c = inl c.in_ok-print_line-in-Some.ensures.flushes
+
+pub returns-in_ok-print_line-in-Some-clause-buffered : goal.returns-in_ok-print_line-in-Some-clause-buffered
+returns-in_ok-print_line-in-Some-clause-buffered g c = λ _. c.in_ok-print_line-in-Some.ensures.flushes
+
+pub returns-in-None-clause-buffered : goal.returns-in-None-clause-buffered
+returns-in-None-clause-buffered g c = λ whole. absurd
+    ((NextBuffered-none _ c.args.source.now _ _ c.in-None.is c.next_buffered.follows.holds-at-none).1 whole)

@@ -1,6 +1,7 @@
 use Rattle.std.proofs.Common.{◌≡◌}
 use Rattle.frames.proofs.Unpacking.{UnpacksSoFar}
 use Rattle.frames.specs.Unpack.{IsDue}
+use Rattle.programs.specs.Flushes.{FlushesSend, FlushesTake}
 use Rattle.programs.specs.Prompt.{AsksGive, HoldsNothingBack}
 use Rattle.frames.proofs.unpack.unpack_frames.Given as goal
 
@@ -9,5 +10,7 @@ invariant-loop g l = record {
   so_far : UnpacksSoFar g.R.TellRead.remaining l.fn.source l.fn.target l.counter l.source l.target;
   held : HoldsNothingBack (IsDue l.fn.source.max) l.fn.source.reader.log l.source.reader.log l.fn.target.log l.target.log;
   give : AsksGive l.fn.source.reader.log l.source.reader.log;
+  takes : FlushesTake l.fn.target.log.writes l.target;
+  sends : FlushesSend 1 l.fn.target.log.writes l.target.log.writes;
   quiet : l.source.reader.log.reads.zero_reads ≡ l.fn.source.reader.log.reads.zero_reads;
 }

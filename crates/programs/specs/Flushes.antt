@@ -1,0 +1,25 @@
+-- How often a run flushes its writer: only where that sends something.
+use Rattle.std.specs.Prelude.{◌≡◌, ℕ, ◌+◌, ◌≤◌, ◌⊎◌, length}
+use Rattle.buffer_redux.specs.Buffered.{Buffered}
+use Rattle.buffer_redux.specs.StreamLog.{StreamLog, WriteLog}
+
+-- each flush but so many came behind a byte that the writer had received since the one before
+abbrev pub FlushesSend : ℕ → WriteLog → WriteLog → Type 0
+FlushesSend idle old new = new.flushes + length old.received ≤ old.flushes + length new.received + idle
+
+-- the writer was flushed once for each ask of the reader at most, and so many times more
+abbrev pub FlushesPerAsk : ℕ → StreamLog → StreamLog → StreamLog → StreamLog → Type 0
+FlushesPerAsk more read read' written written' =
+    written'.writes.flushes + read.reads.asks ≤ written.writes.flushes + read'.reads.asks + more
+
+-- a byte was taken in behind each flush
+abbrev pub FlushesTake : {W P : Type 0} → WriteLog → Buffered W P → Type 0
+FlushesTake old u =
+    u.log.writes.flushes + length old.received ≤ old.flushes + length u.log.writes.received + length u.block.bytes
+
+-- the writer was flushed once at most, and all that was buffered had been received then
+abbrev pub FlushesOnce : {W P : Type 0} → Buffered W P → Buffered W P → Type 0
+FlushesOnce u v =
+    (v.log.writes.flushes ≡ u.log.writes.flushes)
+    ⊎ ((v.log.writes.flushes ≡ u.log.writes.flushes + 1)
+    × (length u.log.writes.received + length u.block.bytes ≤ length v.log.writes.received))
