@@ -1,4 +1,4 @@
--- Runs that hold nothing back: where the reader is asked, all that is due of what it gave before was received and flushed.
+-- Runs that hold nothing back: all that is due of what the reader gave before its last ask was received and flushed.
 use Rattle.std.specs.Prelude.{◌≡◌, ℕ, ◌+◌, ◌≤◌, ◌⊎◌, List, ◌++◌, length}
 use Rattle.buffer_redux.specs.GoesOn.{GoesOn}
 use Rattle.buffer_redux.specs.StreamLog.{StreamLog, WriteLog}
@@ -22,7 +22,7 @@ pub record SentBeforeAsking (IsDue : List ℕ → List ℕ → Type 0) (read rea
   pub is_due : IsDue before due
   pub sent : WasSent (written.writes.received ++ due) written'.writes
 
--- so it was, or the reader was not asked
+-- so it was when the run returned, or the reader was not asked. That it was so when it was asked no clause over two logs says
 abbrev pub HoldsNothingBack : (List ℕ → List ℕ → Type 0) → StreamLog → StreamLog → StreamLog → StreamLog → Type 0
 HoldsNothingBack IsDue read read' written written' =
     (read' ≡ read) ⊎ SentBeforeAsking IsDue read read' written written'
