@@ -1,0 +1,132 @@
+-- A filter: how payloads go from one stream to another, and what its calls promise.
+use Rattle.std.specs.Prelude.{◌≡◌, ℕ, ◌+◌, ◌≤◌, ◌⊎◌, List, [], ◌∷◌, ◌++◌, Bool, true, false, Result, Ok, Err}
+use Rattle.std.specs.declared.io.Error.{Error}
+use Rattle.redux_buffer.specs.Faults.{IsInterrupt, MetInterrupts, SendErrorCaused}
+use Rattle.redux_buffer.specs.StreamLog.{StreamLog}
+use Rattle.forward.specs.Prompt.{SentBeforeLast, WritesOn}
+use Rattle.forward.specs.declared.error.AskError.{AskError}
+use Rattle.forward.specs.declared.error.AskError.TheVariants.{Wrong, Io}
+
+-- what a filter's states are
+pub record FilterRules (T W : Type 0) : Type 1 where
+  -- what the stream that is read from told, and that which is written to
+  pub read : T → StreamLog
+  pub written : T → StreamLog
+  -- what each call wants, and leaves
+  pub ready : T → Type 0
+  -- from one state to the other these payloads were handed out, and what becomes of these was taken in
+  pub hands : T → List (List ℕ) → T → Type 0
+  pub takes : T → List (List ℕ) → T → Type 0
+  -- a payload is there; or none is, before more is given
+  pub has : T → Type 0
+  pub lacks : T → Type 0
+  -- all that was taken in was received and flushed
+  pub sent : T → Type 0
+  -- how the stream is asked: for bytes that come while what is there holds no payload
+  pub asks : T → T → Type 0
+  -- how payloads end: at Ok there are no more, at Err what comes next is wrong
+  pub ends : T → Result (Unit {0}) W → T → Type 0
+  -- the stream's end was told, behind which it isn't asked
+  pub closed : T → Type 0
+  -- nothing was read or taken in yet
+  pub fresh : T → Type 0
+  -- what is due of bytes that were given
+  pub due : T → List ℕ → List ℕ → Type 0
+
+-- an ask was answered by an interruption
+abbrev pub WasInterrupted : {W : Type 0} → Result Bool (AskError W) → Type 0
+WasInterrupted (Ok more) = ⊥
+WasInterrupted (Err (Wrong why)) = ⊥
+WasInterrupted (Err (Io e)) = IsInterrupt e
+
+module _ {T W : Type 0} (rules : FilterRules T W) where
+  -- these payloads were handed out, and those were taken in
+  pub record Moves (s : T) (handed taken : List (List ℕ)) (t : T) : Type 0 where
+    pub hands : rules.hands s handed t
+    pub takes : rules.takes s taken t
+
+  -- writes were at most interrupted; or one failed with this error
+  abbrev pub Wrote : T → T → Type 0
+  Wrote s t = MetInterrupts (rules.written s).writes (rules.written t).writes
+
+  abbrev pub FailedToWrite : Error → T → T → Type 0
+  FailedToWrite e s t = SendErrorCaused (rules.written s).writes (rules.written t).writes e
+
+  -- what an answer of `pass` says. Where the writer failed, what was handed out may be lost
+  abbrev pub PassAnswers : T → Result Bool Error → T → Type 0
+  PassAnswers s (Ok true) t = (payload : List ℕ) × Moves s (payload ∷ []) (payload ∷ []) t × Wrote s t
+  PassAnswers s (Ok false) t = Moves s [] [] t × Wrote s t × rules.lacks t × (¬ rules.has s)
+  PassAnswers s (Err e) t = (lost : List (List ℕ)) × Moves s lost [] t × FailedToWrite e s t
+
+  -- what `pass` does: the stream that is read from isn't asked
+  pub record Passes (s : T) (answer : Result Bool Error) (t : T) : Type 0 where
+    pub told : rules.read t ≡ rules.read s
+    pub ready : rules.ready t
+    pub closed : rules.closed s → rules.closed t
+    pub writes : WritesOn (rules.written s).writes (rules.written t).writes
+    pub answers : PassAnswers s answer t
+
+  abbrev pub FlushAnswers : T → Result (Unit {0}) Error → T → Type 0
+  FlushAnswers s (Ok _) t = rules.sent t × Wrote s t
+  FlushAnswers s (Err e) t = FailedToWrite e s t
+
+  -- what `flush` does: the stream that is read from isn't asked
+  pub record Flushes (s : T) (answer : Result (Unit {0}) Error) (t : T) : Type 0 where
+    pub told : rules.read t ≡ rules.read s
+    pub ready : rules.ready t
+    pub closed : rules.closed s → rules.closed t
+    pub writes : WritesOn (rules.written s).writes (rules.written t).writes
+    pub moves : Moves s [] [] t
+    pub lacks : rules.lacks s → rules.lacks t
+    pub answers : FlushAnswers s answer t
+
+  -- reads met no fault; or one failed with this error
+  abbrev pub Read : T → T → Type 0
+  Read s t = (rules.read t).reads.faults ≡ (rules.read s).reads.faults
+
+  abbrev pub FailedToRead : Error → T → T → Type 0
+  FailedToRead e s t = (rules.read t).reads.faults ≡ (rules.read s).reads.faults ++ e ∷ []
+
+  -- the stream gave nothing once at most, behind its end never, and so it stays
+  pub record AsksOnce (s t : T) : Type 0 where
+    pub once : (rules.read t).reads.zero_reads ≤ (rules.read s).reads.zero_reads + 1
+    pub quiet : rules.closed s → (rules.read t).reads.zero_reads ≡ (rules.read s).reads.zero_reads
+    pub closed : rules.closed s → rules.closed t
+
+  -- it never did, or its end is known
+  abbrev pub StaysOpen : T → T → Type 0
+  StaysOpen s t = ((rules.read t).reads.zero_reads ≡ (rules.read s).reads.zero_reads) ⊎ rules.closed t
+
+  abbrev pub AskAnswers : T → Result Bool (AskError W) → T → Type 0
+  AskAnswers s (Ok true) t = rules.has t × Read s t × StaysOpen s t
+  AskAnswers s (Ok false) t = rules.ends s (Ok tt) t × Read s t
+  AskAnswers s (Err (Wrong why)) t = rules.ends s (Err why) t × Read s t
+  AskAnswers s (Err (Io e)) t = rules.lacks t × FailedToRead e s t × StaysOpen s t
+
+  -- what `ask` does: nothing is written
+  pub record Asks (s : T) (answer : Result Bool (AskError W)) (t : T) : Type 0 where
+    pub told : rules.written t ≡ rules.written s
+    pub ready : rules.ready t
+    pub moves : Moves s [] [] t
+    pub sent : rules.sent s → rules.sent t
+    pub asks : rules.asks s t
+    pub once : AsksOnce s t
+    pub answers : AskAnswers s answer t
+
+  -- since the first state, what was due of all that was given before the last ask was received and flushed; or it wasn't asked
+  abbrev pub AsksSent : T → T → T → Type 0
+  AsksSent first s t =
+      (rules.read t ≡ rules.read s)
+      ⊎ SentBeforeLast (rules.due first) (rules.read first) (rules.read t) (rules.written first) (rules.written s)
+
+  -- payloads go on in order, and an end that follows some is their end. And where nothing is there that was not handed out, and all
+  -- that was taken in was sent, so was what is due of each byte before an ask
+  pub record IsLawful : Type 0 where
+    pub hands_none : (s : T) → rules.hands s [] s
+    pub hands_joins : (a b c : T) (p q : List (List ℕ)) → rules.hands a p b → rules.hands b q c → rules.hands a (p ++ q) c
+    pub takes_none : (s : T) → rules.takes s [] s
+    pub takes_joins : (a b c : T) (p q : List (List ℕ)) → rules.takes a p b → rules.takes b q c → rules.takes a (p ++ q) c
+    pub ends_after : (a b c : T) (p : List (List ℕ)) (how : Result (Unit {0}) W) → rules.hands a p b → rules.ends b how c
+        → rules.ends a how c
+    pub asks_sent : (first s t : T) (p : List (List ℕ)) → rules.fresh first → Moves first p p s → rules.lacks s → rules.sent s
+        → rules.asks s t → AsksSent first s t

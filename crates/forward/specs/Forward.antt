@@ -1,0 +1,49 @@
+-- What `forward` promises.
+use Rattle.std.specs.Prelude.{◌≡◌, ℕ, ◌+◌, ◌^◌, ◌≤◌, List, ◌++◌, length, Result, Ok, Err}
+use Rattle.forward.specs.Filter.{FilterRules, Moves}
+use Rattle.forward.specs.Link.{Goes, IsPrompt, Linked}
+use Rattle.forward.specs.Streams.{EndsOnce, MetNoFault, ReadFailed, SendFailed}
+use Rattle.forward.specs.declared.error.Cause.{Cause}
+use Rattle.forward.specs.declared.error.Cause.TheVariants.{Wrong, Read, Write, Count}
+use Rattle.forward.specs.declared.error.Stopped.{Stopped}
+
+module _ {T W : Type 0} (rules : FilterRules T W) where
+  -- neither stream failed
+  abbrev pub NoneFailed : T → T → Type 0
+  NoneFailed s t = MetNoFault (rules.read s) (rules.read t) (rules.written s) (rules.written t)
+
+  -- so many payloads were handed out, and just they were taken in
+  pub record Forwarded (count : ℕ) (s t : T) : Type 0 where
+    pub payloads : List (List ℕ)
+    pub moves : Moves rules s payloads payloads t
+    pub all : length payloads ≡ count
+
+  -- so many were taken in, and some behind them were lost
+  pub record ForwardedFirst (count : ℕ) (s t : T) : Type 0 where
+    pub payloads : List (List ℕ)
+    pub lost : List (List ℕ)
+    pub moves : Moves rules s (payloads ++ lost) payloads t
+    pub all : length payloads ≡ count
+
+  -- what each cause says, behind which so many payloads went over
+  abbrev pub StopsBy : ℕ → T → Cause W → T → Type 0
+  StopsBy count s (Wrong why) t = Forwarded count s t × rules.ends s (Err why) t × rules.sent t × NoneFailed s t
+  StopsBy count s (Read e) t =
+      Forwarded count s t × rules.lacks t × rules.sent t
+      × ReadFailed e (rules.read s) (rules.read t) (rules.written s) (rules.written t)
+  StopsBy count s (Write e) t =
+      ForwardedFirst count s t × SendFailed e (rules.read s) (rules.read t) (rules.written s) (rules.written t)
+  StopsBy count s Count t = Forwarded count s t × (2 ^ 64 ≤ count + 1) × NoneFailed s t
+
+  -- what an answer says
+  abbrev pub ForwardAnswers : T → Result ℕ (Stopped W) → T → Type 0
+  ForwardAnswers s (Ok count) t = Forwarded count s t × rules.ends s (Ok tt) t × rules.sent t × NoneFailed s t
+  ForwardAnswers s (Err stopped) t = StopsBy stopped.count s stopped.cause t
+
+  -- what `forward` does: in front of each ask all that was due was sent, an interrupted one is made again, and the end is asked
+  -- for once
+  pub record Forwards (s : Linked T) (answer : Result ℕ (Stopped W)) (t : Linked T) : Type 0 where
+    pub goes : Goes rules (IsPrompt rules s.filter) s t
+    pub once : EndsOnce (rules.read s.filter).reads (rules.read t.filter).reads
+    pub ready : rules.ready t.filter
+    pub answers : ForwardAnswers s.filter answer t.filter

@@ -1,0 +1,86 @@
+-- What contracts see of a link, and what its asks come to.
+use Rattle.std.specs.Prelude.{◌≡◌, ◌≤◌, List, [], ◌∷◌, ◌++◌, length, Bool, Result}
+use Rattle.std.specs.List.{All, flat_map}
+use Rattle.std.specs.declared.io.Error.{Error}
+use Rattle.redux_buffer.specs.Faults.{IsInterrupt}
+use Rattle.forward.specs.Filter.{Asks, AsksSent, FailedToRead, FilterRules, Flushes, Passes}
+use Rattle.forward.specs.Prompt.{WritesOn}
+use Rattle.forward.specs.declared.error.AskError.{AskError}
+
+-- a filter, and the states in which it was asked, with those that came of it, in turn
+pub record Linked (T : Type 0) : Type 0 where
+  pub filter : T
+  pub states : List T
+
+abbrev pub linked : {T : Type 0} → T → Linked T
+linked filter = record { filter = filter; states = [] }
+
+-- one call that asks: from this state to that
+pub record Ask (T : Type 0) : Type 0 where
+  pub before : T
+  pub after : T
+
+abbrev pub ask_states : {T : Type 0} → Ask T → List T
+ask_states ask = ask.before ∷ ask.after ∷ []
+
+-- the states of asks, one after another
+abbrev pub states_of : {T : Type 0} → List (Ask T) → List T
+states_of asks = flat_map ask_states asks
+
+module _ {T W : Type 0} (rules : FilterRules T W) where
+  -- the stream that is read from wasn't asked
+  pub record NotAsked (s t : T) : Type 0 where
+    pub told : rules.read t ≡ rules.read s
+    pub writes : WritesOn (rules.written s).writes (rules.written t).writes
+
+  -- these are all asks, in order, and nothing was written in one
+  abbrev pub AsksAlong : T → List (Ask T) → T → Type 0
+  AsksAlong s [] t = NotAsked s t
+  AsksAlong s (ask ∷ asks) t =
+      NotAsked s ask.before × (rules.written ask.after ≡ rules.written ask.before) × AsksAlong ask.after asks t
+
+  -- this one was interrupted
+  pub record IsInterrupted (ask : Ask T) : Type 0 where
+    pub error : Error
+    pub interrupt : IsInterrupt error
+    pub failed : FailedToRead rules error ask.before ask.after
+
+  -- an ask, made again where it was interrupted: 64 times at the most, and it ends by an interruption only then
+  pub record IsTurn (asks : List (Ask T)) : Type 0 where
+    pub interrupted : List (Ask T)
+    pub last : Ask T
+    pub equal : asks ≡ interrupted ++ last ∷ []
+    pub each : All IsInterrupted interrupted
+    pub most : length interrupted ≤ 64
+    pub often : IsInterrupted last → length interrupted ≡ 64
+
+  -- asks go by turns
+  pub record AreTurns (asks : List (Ask T)) : Type 0 where
+    pub turns : List (List (Ask T))
+    pub each : All IsTurn turns
+    pub equal : asks ≡ flat_map (λ turn. turn) turns
+
+  -- what calls do to a link: each ask that was made is noted, and is such a one
+  pub record Goes (Such : Ask T → Type 0) (s t : Linked T) : Type 0 where
+    pub asks : List (Ask T)
+    pub noted : t.states ≡ s.states ++ states_of asks
+    pub along : AsksAlong s.filter asks t.filter
+    pub turns : AreTurns asks
+    pub each : All Such asks
+
+  -- an ask in front of which all that was due was sent, since the first state
+  abbrev pub IsPrompt : T → Ask T → Type 0
+  IsPrompt first ask = AsksSent rules first ask.before ask.after
+
+  -- a call of the filter's, and whether it is noted
+  pub record LinkPasses (s : Linked T) (answer : Result Bool Error) (t : Linked T) : Type 0 where
+    pub passes : Passes rules s.filter answer t.filter
+    pub noted : t.states ≡ s.states
+
+  pub record LinkFlushes (s : Linked T) (answer : Result (Unit {0}) Error) (t : Linked T) : Type 0 where
+    pub flushes : Flushes rules s.filter answer t.filter
+    pub noted : t.states ≡ s.states
+
+  pub record LinkAsks (s : Linked T) (answer : Result Bool (AskError W)) (t : Linked T) : Type 0 where
+    pub asks : Asks rules s.filter answer t.filter
+    pub noted : t.states ≡ s.states ++ (s.filter ∷ t.filter ∷ [])

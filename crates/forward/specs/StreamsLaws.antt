@@ -1,0 +1,67 @@
+-- How two streams fared, over calls that follow one another.
+use Rattle.std.proofs.Common.{◌≡◌, ◌+◌, ◌≤◌, List, [], ◌∷◌, ◌++◌, length, length-append, ap, subst, sym, ◌∙◌, arith, append_assoc}
+use Rattle.std.proofs.lemmas.List.Elements.{All-push}
+use Rattle.std.specs.declared.io.Error.{Error}
+use Rattle.redux_buffer.specs.Faults.{IsInterrupt, OnlyInterrupts, OnlyInterrupts-none, OnlyInterrupts-joins, FaultAfterInterrupts-after, MetInterrupts, MetInterrupts-joins, OnlyInterrupted-none, SendErrorCaused-after}
+use Rattle.redux_buffer.specs.StreamLog.{StreamLog, WriteLog}
+use Rattle.forward.specs.Streams.{MetNoFault, ReadFailed, ReadGaveUp, SendFailed}
+
+pub MetInterrupts-none : (l : WriteLog) → MetInterrupts l l
+MetInterrupts-none l = record { interrupts = []; only = OnlyInterrupted-none l }
+
+pub MetNoFault-none : (read written : StreamLog) → MetNoFault read read written written
+MetNoFault-none read written =
+    record { reader = OnlyInterrupts-none read.reads.faults; writer = MetInterrupts-none written.writes }
+
+pub MetNoFault-joins : (a b c k l m : StreamLog) → MetNoFault a b k l → MetNoFault b c l m → MetNoFault a c k m
+MetNoFault-joins a b c k l m p q = record {
+  reader = OnlyInterrupts-joins a.reads.faults b.reads.faults c.reads.faults p.reader q.reader;
+  writer = MetInterrupts-joins k.writes l.writes m.writes p.writer q.writer;
+}
+
+-- no fault was met
+pub only_same : (old new : List Error) → new ≡ old → OnlyInterrupts old new
+only_same old new same = subst (OnlyInterrupts old) (sym same) (OnlyInterrupts-none old)
+
+-- after interrupted reads, one more was interrupted
+pub only_more : (a b c : List Error) (e : Error) → OnlyInterrupts a b → c ≡ b ++ e ∷ [] → IsInterrupt e → OnlyInterrupts a c
+only_more a b c e p fault is = record {
+  interrupts = p.interrupts ++ e ∷ [];
+  interrupted = All-push IsInterrupt p.interrupts e p.interrupted is;
+  faults = fault ∙ ap (λ l. l ++ e ∷ []) p.faults ∙ append_assoc a p.interrupts (e ∷ []);
+}
+
+pub one_more : (b c : List Error) (e : Error) → c ≡ b ++ e ∷ [] → length c ≡ length b + 1
+one_more b c e fault = ap length fault ∙ length-append b (e ∷ [])
+
+-- or failed, and was not tried again
+pub gave_up : (a b c : List Error) (e : Error) → OnlyInterrupts a b → c ≡ b ++ e ∷ []
+    → (IsInterrupt e → length a + 65 ≤ length c) → ReadGaveUp e a c
+gave_up a b c e p fault often = record {
+  fault = record {
+    interrupts = p.interrupts;
+    interrupted = p.interrupted;
+    faults = fault ∙ ap (λ l. l ++ e ∷ []) p.faults;
+  };
+  often = often;
+}
+
+pub ReadGaveUp-after : (a b c : List Error) (e : Error) → OnlyInterrupts a b → ReadGaveUp e b c → ReadGaveUp e a c
+ReadGaveUp-after a b c e p q = record {
+  fault = FaultAfterInterrupts-after a b c e p q.fault;
+  often = λ is. omega (arith, q.often is, ap length p.faults, length-append a p.interrupts);
+}
+
+pub ReadFailed-after : (e : Error) (a b c k l m : StreamLog) → MetNoFault a b k l → ReadFailed e b c l m
+    → ReadFailed e a c k m
+ReadFailed-after e a b c k l m p q = record {
+  reader = ReadGaveUp-after a.reads.faults b.reads.faults c.reads.faults e p.reader q.reader;
+  writer = MetInterrupts-joins k.writes l.writes m.writes p.writer q.writer;
+}
+
+pub SendFailed-after : (e : Error) (a b c k l m : StreamLog) → MetNoFault a b k l → SendFailed e b c l m
+    → SendFailed e a c k m
+SendFailed-after e a b c k l m p q = record {
+  reader = OnlyInterrupts-joins a.reads.faults b.reads.faults c.reads.faults p.reader q.reader;
+  writer = SendErrorCaused-after k.writes l.writes m.writes e p.writer q.writer;
+}
