@@ -1,1 +1,4 @@
 mod Walks
+pub mod Moving
+pub mod Turning
+pub mod Forwarding

@@ -5,3 +5,4 @@ pub mod StreamsLaws
 pub mod Filter
 pub mod Link
 pub mod Forward
+pub mod Steps

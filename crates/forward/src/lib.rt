@@ -6,7 +6,9 @@ mod error;
 mod filter;
 mod history;
 mod link;
+mod pump;
 
 pub use error::{AskError, Cause, Stopped};
 pub use filter::Filter;
 pub use link::Link;
+pub use pump::forward;

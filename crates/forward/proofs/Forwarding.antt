@@ -1,0 +1,372 @@
+-- What is done for one payload, and for all.
+use Rattle.std.proofs.Common.{◌≡◌, ℕ, ◌+◌, ◌^◌, ◌≤◌, List, [], ◌∷◌, ◌++◌, Bool, true, false, Result, Ok, Err, refl, sym, ap, subst, ◌∙◌, arith, append_assoc, length-append}
+use Rattle.std.specs.declared.io.Error.{Error}
+use Rattle.redux_buffer.specs.Faults.{MetInterrupts, OnlyInterrupts}
+use Rattle.forward.specs.Filter.{AsksOnce, FilterRules, IsLawful, Moves, StaysOpen, Wrote}
+use Rattle.forward.specs.Forward.{Forwarded, ForwardedFirst, Forwards, NoneFailed}
+use Rattle.forward.specs.Link.{Ask, Goes, IsPrompt, LinkFlushes, LinkPasses, Linked}
+use Rattle.forward.specs.Steps.{AskedFrom, ForwardsNext, NextAnswers, OnlyInterrupted, TakesTurn}
+use Rattle.forward.specs.Streams.{ReadGaveUp}
+use Rattle.forward.specs.StreamsLaws.{MetNoFault-joins, MetNoFault-none, ReadFailed-after, SendFailed-after, only_same}
+use Rattle.forward.specs.declared.error.AskError.{AskError}
+use Rattle.forward.specs.declared.error.AskError.TheVariants as asked
+use Rattle.forward.specs.declared.error.Cause.{Cause}
+use Rattle.forward.specs.declared.error.Cause.TheVariants.{Wrong, Read, Write, Count}
+use Rattle.forward.proofs.Moving.{AsksOnce-joins, AsksOnce-none, Goes-joins, Goes-none, Goes-turn, Goes-unasked, Goes-weaker, Moves-joins, Moves-none, Moves-on, StaysOpen-joins, StaysOpen-none}
+
+module _ {T W : Type 0} (rules : FilterRules T W) where
+  -- so many payloads went over, by asks of this kind
+  pub record SoFar (Such : Ask T → Type 0) (count : ℕ) (first s : Linked T) : Type 0 where
+    pub goes : Goes rules Such first s
+    pub once : AsksOnce rules first.filter s.filter
+    pub still : StaysOpen rules first.filter s.filter
+    pub forwarded : Forwarded rules count first.filter s.filter
+    pub met : NoneFailed rules first.filter s.filter
+    pub ready : rules.ready s.filter
+
+  met_writes : (s t : T) → rules.read t ≡ rules.read s → Wrote rules s t → NoneFailed rules s t
+  met_writes s t told met = record {
+    reader = only_same (rules.read s).reads.faults (rules.read t).reads.faults (ap (λ l. l.reads.faults) told);
+    writer = met;
+  }
+
+  module _ (lawful : IsLawful rules) where
+    none_forwarded : (s t : T) → Moves rules s [] [] t → Forwarded rules 0 s t
+    none_forwarded s t moves = record { payloads = []; moves = moves; all = refl }
+
+    none_first : (s t : T) (lost : List (List ℕ)) → Moves rules s lost [] t → ForwardedFirst rules 0 s t
+    none_first s t lost moves = record { payloads = []; lost = lost; moves = moves; all = refl }
+
+    forwarded_joins : (a b c : T) (n k : ℕ) → Forwarded rules n a b → Forwarded rules k b c → Forwarded rules (n + k) a c
+    forwarded_joins a b c n k first second = record {
+      payloads = first.payloads ++ second.payloads;
+      moves = Moves-joins rules lawful a b c first.payloads second.payloads first.payloads second.payloads first.moves
+          second.moves;
+      all = omega (arith, first.all, second.all, length-append first.payloads second.payloads);
+    }
+
+    forwarded_on : (a b c : T) (n : ℕ) → Forwarded rules n a b → Forwarded rules 0 b c → Forwarded rules n a c
+    forwarded_on a b c n first second =
+        let both = forwarded_joins a b c n 0 first second in
+        record { payloads = both.payloads; moves = both.moves; all = omega (arith, both.all) }
+
+    first_joins : (a b c : T) (n : ℕ) → Forwarded rules n a b → ForwardedFirst rules 0 b c → ForwardedFirst rules n a c
+    first_joins a b c n first second = record {
+      payloads = first.payloads ++ second.payloads;
+      lost = second.lost;
+      moves = subst (λ l. Moves rules a l (first.payloads ++ second.payloads) c)
+          (sym (append_assoc first.payloads second.payloads second.lost))
+          (Moves-joins rules lawful a b c first.payloads (second.payloads ++ second.lost) first.payloads second.payloads
+          first.moves second.moves);
+      all = omega (arith, first.all, second.all, length-append first.payloads second.payloads);
+    }
+
+    -- behind those that went over before comes the next
+    module _ (Such : Ask T → Type 0) (count : ℕ) (first s t : Linked T) (before : SoFar Such count first s)
+        (so : (ask : Ask T) → AskedFrom rules s.filter ask → Such ask) where
+      met_on : NoneFailed rules s.filter t.filter → NoneFailed rules first.filter t.filter
+      met_on = MetNoFault-joins (rules.read first.filter) (rules.read s.filter) (rules.read t.filter)
+          (rules.written first.filter) (rules.written s.filter) (rules.written t.filter) before.met
+
+      behind : (answer : Result Bool (Cause W)) → AsksOnce rules s.filter t.filter
+          → NextAnswers rules 0 s.filter answer t.filter → NextAnswers rules count first.filter answer t.filter
+      behind (Ok true) once next = (
+        forwarded_joins first.filter s.filter t.filter count 1 before.forwarded next.0,
+        met_on next.1,
+        StaysOpen-joins rules first.filter s.filter t.filter before.still once next.2,
+      )
+      behind (Ok false) once next = (
+        forwarded_on first.filter s.filter t.filter count before.forwarded next.0,
+        lawful.ends_after first.filter s.filter t.filter before.forwarded.payloads (Ok tt) before.forwarded.moves.hands next.1,
+        next.2,
+        met_on next.3,
+      )
+      behind (Err (Wrong why)) once next = (
+        forwarded_on first.filter s.filter t.filter count before.forwarded next.0,
+        lawful.ends_after first.filter s.filter t.filter before.forwarded.payloads (Err why) before.forwarded.moves.hands
+            next.1,
+        next.2,
+        met_on next.3,
+      )
+      behind (Err (Read e)) once next = (
+        forwarded_on first.filter s.filter t.filter count before.forwarded next.0,
+        next.1,
+        next.2,
+        ReadFailed-after e (rules.read first.filter) (rules.read s.filter) (rules.read t.filter) (rules.written first.filter)
+            (rules.written s.filter) (rules.written t.filter) before.met next.3,
+      )
+      behind (Err (Write e)) once next = (
+        first_joins first.filter s.filter t.filter count before.forwarded next.0,
+        SendFailed-after e (rules.read first.filter) (rules.read s.filter) (rules.read t.filter) (rules.written first.filter)
+            (rules.written s.filter) (rules.written t.filter) before.met next.1,
+      )
+      behind (Err Count) once next = absurd (omega (arith, next.1))
+
+      module _ (answer : Result Bool (Cause W)) (next : ForwardsNext rules s answer t) where
+        goes_on : Goes rules Such first t
+        goes_on = Goes-joins rules Such first s t before.goes
+            (Goes-weaker rules (AskedFrom rules s.filter) Such so s t next.goes)
+
+        once_on : AsksOnce rules first.filter t.filter
+        once_on = AsksOnce-joins rules first.filter s.filter t.filter before.once before.still next.once
+
+        answers_on : NextAnswers rules count first.filter answer t.filter
+        answers_on = behind answer next.once next.answers
+
+    asked_after : (a b : T) → Moves rules a [] [] b → (ask : Ask T) → AskedFrom rules b ask → AskedFrom rules a ask
+    asked_after a b moves ask asked = record {
+      moves = Moves-on rules lawful a b ask.before [] [] moves asked.moves;
+      lacks = asked.lacks;
+      sent = asked.sent;
+      asks = asked.asks;
+    }
+
+    -- a payload was there; or none was, and it was asked for; or sending failed
+    module _ (s m : Linked T) where
+      unasked : (Such : Ask T → Type 0) → (answer : Result Bool Error) → LinkPasses rules s answer m → Goes rules Such s m
+      unasked Such answer p =
+          Goes-unasked rules Such s m (record { told = p.passes.told; writes = p.passes.writes }) p.noted
+
+      unasked_once : (answer : Result Bool Error) → LinkPasses rules s answer m → AsksOnce rules s.filter m.filter
+      unasked_once answer p = AsksOnce-none rules s.filter m.filter p.passes.told p.passes.closed
+
+      pub passed : LinkPasses rules s (Ok true) m → ForwardsNext rules s (Ok true) m
+      passed p = record {
+        goes = unasked (AskedFrom rules s.filter) (Ok true) p;
+        once = unasked_once (Ok true) p;
+        ready = p.passes.ready;
+        answers = (
+          record { payloads = p.passes.answers.0 ∷ []; moves = p.passes.answers.1; all = refl },
+          met_writes s.filter m.filter p.passes.told p.passes.answers.2,
+          StaysOpen-none rules s.filter m.filter p.passes.told,
+        );
+      }
+
+      pub not_passed : (e : Error) → LinkPasses rules s (Err e) m → ForwardsNext rules s (Err (Write e)) m
+      not_passed e p = record {
+        goes = unasked (AskedFrom rules s.filter) (Err e) p;
+        once = unasked_once (Err e) p;
+        ready = p.passes.ready;
+        answers = (
+          none_first s.filter m.filter p.passes.answers.0 p.passes.answers.1,
+          record {
+            reader = only_same (rules.read s.filter).reads.faults (rules.read m.filter).reads.faults
+                (ap (λ l. l.reads.faults) p.passes.told);
+            writer = p.passes.answers.2;
+          },
+        );
+      }
+
+      none_passed : (Such : Ask T → Type 0) → LinkPasses rules s (Ok false) m → SoFar Such 0 s m
+      none_passed Such p = record {
+        goes = unasked Such (Ok false) p;
+        once = unasked_once (Ok false) p;
+        still = StaysOpen-none rules s.filter m.filter p.passes.told;
+        forwarded = none_forwarded s.filter m.filter p.passes.answers.0;
+        met = met_writes s.filter m.filter p.passes.told p.passes.answers.1;
+        ready = p.passes.ready;
+      }
+
+      pub then_asked : LinkPasses rules s (Ok false) m → (answer : Result Bool (Cause W)) (t : Linked T)
+          → ForwardsNext rules m answer t → ForwardsNext rules s answer t
+      then_asked p answer t next =
+          let Such = AskedFrom rules s.filter in
+          let before = none_passed Such p in
+          let so = asked_after s.filter m.filter p.passes.answers.0 in
+          record {
+            goes = goes_on Such 0 s m t before so answer next;
+            once = once_on Such 0 s m t before so answer next;
+            ready = next.ready;
+            answers = answers_on Such 0 s m t before so answer next;
+          }
+
+      flush_unasked : (Such : Ask T → Type 0) → (answer : Result (Unit {0}) Error) → LinkFlushes rules s answer m
+          → Goes rules Such s m
+      flush_unasked Such answer p =
+          Goes-unasked rules Such s m (record { told = p.flushes.told; writes = p.flushes.writes }) p.noted
+
+      flush_once : (answer : Result (Unit {0}) Error) → LinkFlushes rules s answer m → AsksOnce rules s.filter m.filter
+      flush_once answer p = AsksOnce-none rules s.filter m.filter p.flushes.told p.flushes.closed
+
+      pub not_flushed : (e : Error) → LinkFlushes rules s (Err e) m → ForwardsNext rules s (Err (Write e)) m
+      not_flushed e p = record {
+        goes = flush_unasked (AskedFrom rules s.filter) (Err e) p;
+        once = flush_once (Err e) p;
+        ready = p.flushes.ready;
+        answers = (
+          none_first s.filter m.filter [] p.flushes.moves,
+          record {
+            reader = only_same (rules.read s.filter).reads.faults (rules.read m.filter).reads.faults
+                (ap (λ l. l.reads.faults) p.flushes.told);
+            writer = p.flushes.answers;
+          },
+        );
+      }
+
+    -- it was flushed, and asked for in one turn
+    module _ (s m t : Linked T) (p : LinkFlushes rules s (Ok tt) m) (answer : Result Bool (AskError W))
+        (turn : TakesTurn rules m answer t) where
+      moves : Moves rules s.filter [] [] t.filter
+      moves = Moves-on rules lawful s.filter m.filter t.filter [] [] p.flushes.moves turn.moves
+
+      goes : Goes rules (AskedFrom rules s.filter) s t
+      goes = Goes-joins rules (AskedFrom rules s.filter) s m t (flush_unasked s m (AskedFrom rules s.filter) (Ok tt) p)
+          (Goes-weaker rules (AskedFrom rules m.filter) (AskedFrom rules s.filter)
+          (asked_after s.filter m.filter p.flushes.moves) m t
+          (Goes-turn rules (AskedFrom rules m.filter) m t turn.asks turn.noted turn.along turn.turn turn.each))
+
+      once : AsksOnce rules s.filter t.filter
+      once = AsksOnce-joins rules s.filter m.filter t.filter (flush_once s m (Ok tt) p)
+          (StaysOpen-none rules s.filter m.filter p.flushes.told) turn.once
+
+      wrote : Wrote rules s.filter t.filter
+      wrote = subst (λ l. MetInterrupts (rules.written s.filter).writes l.writes) (sym turn.told) p.flushes.answers.1
+
+      met : OnlyInterrupted rules m.filter t.filter → NoneFailed rules s.filter t.filter
+      met only = record {
+        reader = subst (λ l. OnlyInterrupts l.reads.faults (rules.read t.filter).reads.faults) p.flushes.told only;
+        writer = wrote;
+      }
+
+      ended : (next : Result Bool (Cause W)) → NextAnswers rules 0 s.filter next t.filter → ForwardsNext rules s next t
+      ended next answers = record { goes = goes; once = once; ready = turn.ready; answers = answers }
+
+    module _ (s m t : Linked T) (p : LinkFlushes rules s (Ok tt) m) where
+      pub no_more : TakesTurn rules m (Ok false) t → ForwardsNext rules s (Ok false) t
+      no_more turn = ended s m t p (Ok false) turn (Ok false) (
+        none_forwarded s.filter t.filter (moves s m t p (Ok false) turn),
+        lawful.ends_after s.filter m.filter t.filter [] (Ok tt) p.flushes.moves.hands turn.answers.0,
+        turn.sent,
+        met s m t p (Ok false) turn turn.answers.1,
+      )
+
+      pub wrong_next : (why : W) → TakesTurn rules m (Err (asked.Wrong why)) t → ForwardsNext rules s (Err (Wrong why)) t
+      wrong_next why turn = ended s m t p (Err (asked.Wrong why)) turn (Err (Wrong why)) (
+        none_forwarded s.filter t.filter (moves s m t p (Err (asked.Wrong why)) turn),
+        lawful.ends_after s.filter m.filter t.filter [] (Err why) p.flushes.moves.hands turn.answers.0,
+        turn.sent,
+        met s m t p (Err (asked.Wrong why)) turn turn.answers.1,
+      )
+
+      pub not_read : (e : Error) → TakesTurn rules m (Err (asked.Io e)) t → ForwardsNext rules s (Err (Read e)) t
+      not_read e turn = ended s m t p (Err (asked.Io e)) turn (Err (Read e)) (
+        none_forwarded s.filter t.filter (moves s m t p (Err (asked.Io e)) turn),
+        turn.answers.0,
+        turn.sent,
+        record {
+          reader = subst (λ l. ReadGaveUp e l.reads.faults (rules.read t.filter).reads.faults) p.flushes.told turn.answers.1;
+          writer = wrote s m t p (Err (asked.Io e)) turn;
+        },
+      )
+
+      -- it came, and is moved
+      module _ (turn : TakesTurn rules m (Ok true) t) where
+        came : SoFar (AskedFrom rules s.filter) 0 s t
+        came = record {
+          goes = goes s m t p (Ok true) turn;
+          once = once s m t p (Ok true) turn;
+          still = StaysOpen-joins rules s.filter m.filter t.filter (StaysOpen-none rules s.filter m.filter p.flushes.told)
+              turn.once turn.answers.2;
+          forwarded = none_forwarded s.filter t.filter (moves s m t p (Ok true) turn);
+          met = met s m t p (Ok true) turn turn.answers.1;
+          ready = turn.ready;
+        }
+
+        then_moved : (u : Linked T) (answer : Result Bool (Cause W)) → ForwardsNext rules t answer u
+            → ForwardsNext rules s answer u
+        then_moved u answer next =
+            let Such = AskedFrom rules s.filter in
+            let so = asked_after s.filter t.filter (moves s m t p (Ok true) turn) in
+            record {
+              goes = goes_on Such 0 s t u came so answer next;
+              once = once_on Such 0 s t u came so answer next;
+              ready = next.ready;
+              answers = answers_on Such 0 s t u came so answer next;
+            }
+
+        pub came_passed : (u : Linked T) (moved : Bool) → LinkPasses rules t (Ok moved) u → ForwardsNext rules s (Ok moved) u
+        came_passed u true q = then_moved u (Ok true) (passed t u q)
+        came_passed u false q = absurd (q.passes.answers.3 turn.answers.0)
+
+        pub came_not_passed : (u : Linked T) (e : Error) → LinkPasses rules t (Err e) u
+            → ForwardsNext rules s (Err (Write e)) u
+        came_not_passed u e q = then_moved u (Err (Write e)) (not_passed t u e q)
+
+    -- all of them
+    module _ (first : Linked T) (fresh : rules.fresh first.filter) where
+      abbrev Prompt : Ask T → Type 0
+      Prompt = IsPrompt rules first.filter
+
+      pub so_far_none : rules.ready first.filter → SoFar Prompt 0 first first
+      so_far_none ready = record {
+        goes = Goes-none rules Prompt first;
+        once = AsksOnce-none rules first.filter first.filter refl (λ closed. closed);
+        still = StaysOpen-none rules first.filter first.filter refl;
+        forwarded = none_forwarded first.filter first.filter (Moves-none rules lawful first.filter);
+        met = MetNoFault-none (rules.read first.filter) (rules.written first.filter);
+        ready = ready;
+      }
+
+      module _ (count : ℕ) (s t : Linked T) (before : SoFar Prompt count first s) where
+        prompt_of : (ask : Ask T) → AskedFrom rules s.filter ask → Prompt ask
+        prompt_of ask asked =
+            let went = before.forwarded in
+            lawful.asks_sent first.filter ask.before ask.after went.payloads fresh
+            (Moves-on rules lawful first.filter s.filter ask.before went.payloads went.payloads went.moves asked.moves)
+            asked.lacks asked.sent asked.asks
+
+        module _ (answer : Result Bool (Cause W)) (next : ForwardsNext rules s answer t) where
+          all_goes : Goes rules Prompt first t
+          all_goes = goes_on Prompt count first s t before prompt_of answer next
+
+          all_once : AsksOnce rules first.filter t.filter
+          all_once = once_on Prompt count first s t before prompt_of answer next
+
+          all_answers : NextAnswers rules count first.filter answer t.filter
+          all_answers = answers_on Prompt count first s t before prompt_of answer next
+
+        pub so_far_more : ForwardsNext rules s (Ok true) t → SoFar Prompt (count + 1) first t
+        so_far_more next =
+            let answers = all_answers (Ok true) next in
+            record {
+              goes = all_goes (Ok true) next;
+              once = all_once (Ok true) next;
+              still = answers.2;
+              forwarded = answers.0;
+              met = answers.1;
+              ready = next.ready;
+            }
+
+        pub all_forwarded : ForwardsNext rules s (Ok false) t → Forwards rules first (Ok count) t
+        all_forwarded next = record {
+          goes = all_goes (Ok false) next;
+          once = (all_once (Ok false) next).once;
+          ready = next.ready;
+          answers = all_answers (Ok false) next;
+        }
+
+        pub stopped_by : (cause : Cause W) → ForwardsNext rules s (Err cause) t
+            → Forwards rules first (Err (record { count = count; cause = cause })) t
+        stopped_by cause next = record {
+          goes = all_goes (Err cause) next;
+          once = (all_once (Err cause) next).once;
+          ready = next.ready;
+          answers = all_answers (Err cause) next;
+        }
+
+      pub counted_all : (count : ℕ) (s : Linked T) → SoFar Prompt count first s → (most : ℕ) → count ≡ most → 2 ^ 64 ≤ most + 1
+          → Forwards rules first (Err (record { count = most; cause = Count })) s
+      counted_all count s before most is large = record {
+        goes = before.goes;
+        once = before.once.once;
+        ready = before.ready;
+        answers = (
+          record {
+            payloads = before.forwarded.payloads;
+            moves = before.forwarded.moves;
+            all = before.forwarded.all ∙ is;
+          },
+          large,
+          before.met,
+        );
+      }

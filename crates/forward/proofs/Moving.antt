@@ -1,0 +1,138 @@
+-- How calls of a filter, and of a link, follow one another.
+use Rattle.std.proofs.Common.{◌≡◌, ℕ, inl, inr, List, [], ◌∷◌, ◌++◌, refl, sym, ap, subst, ◌∙◌, arith, append-nil, append_assoc, All, flat_map}
+use Rattle.std.proofs.lemmas.Grind.{flat_map-append}
+use Rattle.std.proofs.lemmas.List.Elements.{All-append, All-cons, All-nil, All-weaker}
+use Rattle.forward.specs.Filter.{AsksOnce, FilterRules, IsLawful, Moves, StaysOpen}
+use Rattle.forward.specs.Link.{Ask, AreTurns, AsksAlong, Goes, IsTurn, Linked, NotAsked, ask_states, states_of}
+use Rattle.forward.specs.PromptLaws.{WritesOn-none, WritesOn-joins}
+
+module _ {T W : Type 0} (rules : FilterRules T W) where
+  module _ (lawful : IsLawful rules) where
+    pub Moves-none : (s : T) → Moves rules s [] [] s
+    Moves-none s = record { hands = lawful.hands_none s; takes = lawful.takes_none s }
+
+    pub Moves-joins : (a b c : T) (p q p' q' : List (List ℕ)) → Moves rules a p p' b → Moves rules b q q' c
+        → Moves rules a (p ++ q) (p' ++ q') c
+    Moves-joins a b c p q p' q' first second = record {
+      hands = lawful.hands_joins a b c p q first.hands second.hands;
+      takes = lawful.takes_joins a b c p' q' first.takes second.takes;
+    }
+
+    -- nothing more went over
+    pub Moves-on : (a b c : T) (p p' : List (List ℕ)) → Moves rules a p p' b → Moves rules b [] [] c → Moves rules a p p' c
+    Moves-on a b c p p' first second =
+        subst (λ l. Moves rules a l p' c) (append-nil p)
+        (subst (λ l. Moves rules a (p ++ []) l c) (append-nil p') (Moves-joins a b c p [] p' [] first second))
+
+  pub AsksOnce-none : (s t : T) → rules.read t ≡ rules.read s → (rules.closed s → rules.closed t) → AsksOnce rules s t
+  AsksOnce-none s t same closed = record {
+    once = omega (arith, ap (λ l. l.reads.zero_reads) same);
+    quiet = λ _. ap (λ l. l.reads.zero_reads) same;
+    closed = closed;
+  }
+
+  pub StaysOpen-none : (s t : T) → rules.read t ≡ rules.read s → StaysOpen rules s t
+  StaysOpen-none s t same = inl (ap (λ l. l.reads.zero_reads) same)
+
+  pub AsksOnce-joins : (a b c : T) → AsksOnce rules a b → StaysOpen rules a b → AsksOnce rules b c → AsksOnce rules a c
+  AsksOnce-joins a b c first open' second = record {
+    once = elim open' [
+      | inl same ↦ omega (arith, same, second.once)
+      | inr closed ↦ omega (arith, first.once, second.quiet closed)
+    ];
+    quiet = λ closed. second.quiet (first.closed closed) ∙ first.quiet closed;
+    closed = λ closed. second.closed (first.closed closed);
+  }
+
+  pub StaysOpen-joins : (a b c : T) → StaysOpen rules a b → AsksOnce rules b c → StaysOpen rules b c → StaysOpen rules a c
+  StaysOpen-joins a b c (inl same) once (inl same') = inl (same' ∙ same)
+  StaysOpen-joins a b c (inl same) once (inr closed) = inr closed
+  StaysOpen-joins a b c (inr closed) once second = inr (once.closed closed)
+
+  pub NotAsked-none : (s : T) → NotAsked rules s s
+  NotAsked-none s = record { told = refl; writes = WritesOn-none (rules.written s).writes }
+
+  pub NotAsked-joins : (a b c : T) → NotAsked rules a b → NotAsked rules b c → NotAsked rules a c
+  NotAsked-joins a b c first second = record {
+    told = second.told ∙ first.told;
+    writes = WritesOn-joins (rules.written a).writes (rules.written b).writes (rules.written c).writes first.writes
+        second.writes;
+  }
+
+  along_after : (a b c : T) (asks : List (Ask T)) → NotAsked rules a b → AsksAlong rules b asks c → AsksAlong rules a asks c
+  along_after a b c [] first second = NotAsked-joins a b c first second
+  along_after a b c (ask ∷ asks) first second = (NotAsked-joins a b ask.before first second.0, second.1, second.2)
+
+  pub AsksAlong-joins : (a b c : T) (asks more : List (Ask T)) → AsksAlong rules a asks b → AsksAlong rules b more c
+      → AsksAlong rules a (asks ++ more) c
+  AsksAlong-joins a b c [] more first second = along_after a b c more first second
+  AsksAlong-joins a b c (ask ∷ asks) more first second =
+      (first.0, first.1, AsksAlong-joins ask.after b c asks more first.2 second)
+
+  pub along_one : (s t : T) → rules.written t ≡ rules.written s → AsksAlong rules s (record { before = s; after = t } ∷ []) t
+  along_one s t told = (NotAsked-none s, told, NotAsked-none t)
+
+  -- what is noted goes on
+  pub noted_on : (s t u : List T) (asks more : List (Ask T)) → t ≡ s ++ states_of asks → u ≡ t ++ states_of more
+      → u ≡ s ++ states_of (asks ++ more)
+  noted_on s t u asks more first second =
+      second ∙ ap (λ l. l ++ states_of more) first ∙ append_assoc s (states_of asks) (states_of more)
+      ∙ ap (λ l. s ++ l) (sym (flat_map-append ask_states asks more))
+
+  turns_none : AreTurns rules []
+  turns_none = record { turns = []; each = All-nil (IsTurn rules); equal = refl }
+
+  one_turn : (asks : List (Ask T)) → IsTurn rules asks → AreTurns rules asks
+  one_turn asks turn = record {
+    turns = asks ∷ [];
+    each = All-cons (IsTurn rules) asks [] turn (All-nil (IsTurn rules));
+    equal = sym (append-nil asks);
+  }
+
+  turns_join : (asks more : List (Ask T)) → AreTurns rules asks → AreTurns rules more → AreTurns rules (asks ++ more)
+  turns_join asks more first second = record {
+    turns = first.turns ++ second.turns;
+    each = All-append (IsTurn rules) first.turns second.turns first.each second.each;
+    equal =
+        ap (λ l. l ++ more) first.equal ∙ ap (λ l. flat_map (λ turn. turn) first.turns ++ l) second.equal
+        ∙ sym (flat_map-append (λ turn. turn) first.turns second.turns);
+  }
+
+  module _ (Such : Ask T → Type 0) where
+    -- the stream was not asked
+    pub Goes-unasked : (s t : Linked T) → NotAsked rules s.filter t.filter → t.states ≡ s.states → Goes rules Such s t
+    Goes-unasked s t none same = record {
+      asks = [];
+      noted = same ∙ sym (append-nil s.states);
+      along = none;
+      turns = turns_none;
+      each = All-nil Such;
+    }
+
+    pub Goes-none : (s : Linked T) → Goes rules Such s s
+    Goes-none s = Goes-unasked s s (NotAsked-none s.filter) refl
+
+    -- it was asked in one turn
+    pub Goes-turn : (s t : Linked T) (asks : List (Ask T)) → t.states ≡ s.states ++ states_of asks
+        → AsksAlong rules s.filter asks t.filter → IsTurn rules asks → All Such asks → Goes rules Such s t
+    Goes-turn s t asks noted along turn each =
+        record { asks = asks; noted = noted; along = along; turns = one_turn asks turn; each = each }
+
+    pub Goes-joins : (s t u : Linked T) → Goes rules Such s t → Goes rules Such t u → Goes rules Such s u
+    Goes-joins s t u first second = record {
+      asks = first.asks ++ second.asks;
+      noted = noted_on s.states t.states u.states first.asks second.asks first.noted second.noted;
+      along = AsksAlong-joins s.filter t.filter u.filter first.asks second.asks first.along second.along;
+      turns = turns_join first.asks second.asks first.turns second.turns;
+      each = All-append Such first.asks second.asks first.each second.each;
+    }
+
+    pub Goes-weaker : (Other : Ask T → Type 0) → ((ask : Ask T) → Such ask → Other ask) → (s t : Linked T)
+        → Goes rules Such s t → Goes rules Other s t
+    Goes-weaker Other so s t goes = record {
+      asks = goes.asks;
+      noted = goes.noted;
+      along = goes.along;
+      turns = goes.turns;
+      each = All-weaker Such Other so goes.asks goes.each;
+    }

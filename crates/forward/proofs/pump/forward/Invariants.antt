@@ -1,0 +1,6 @@
+use Rattle.forward.specs.Link.{IsPrompt}
+use Rattle.forward.proofs.Forwarding.{SoFar}
+use Rattle.forward.proofs.pump.forward.Given as goal
+
+abbrev pub invariant-loop-count : goal.invariant-loop-count
+invariant-loop-count g l = SoFar g.F.Filter.rules (IsPrompt g.F.Filter.rules l.fn.link.filter) l.count l.fn.link l.link

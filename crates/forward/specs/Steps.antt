@@ -1,0 +1,56 @@
+-- The steps of `forward`: one turn of asks, and one payload.
+use Rattle.std.specs.Prelude.{◌≡◌, ℕ, ◌+◌, List, [], ◌++◌, Bool, true, false, Result, Ok, Err}
+use Rattle.std.specs.List.{All}
+use Rattle.redux_buffer.specs.Faults.{OnlyInterrupts}
+use Rattle.forward.specs.Filter.{AsksOnce, FilterRules, Moves, StaysOpen}
+use Rattle.forward.specs.Forward.{Forwarded, NoneFailed, StopsBy}
+use Rattle.forward.specs.Link.{Ask, AsksAlong, Goes, IsTurn, Linked, states_of}
+use Rattle.forward.specs.Streams.{ReadGaveUp}
+use Rattle.forward.specs.declared.error.AskError.{AskError}
+use Rattle.forward.specs.declared.error.AskError.TheVariants.{Wrong, Io}
+use Rattle.forward.specs.declared.error.Cause.{Cause}
+
+module _ {T W : Type 0} (rules : FilterRules T W) where
+  -- since this state nothing more went over before the ask, nothing was there to hand out, and all was sent
+  pub record AskedFrom (s : T) (ask : Ask T) : Type 0 where
+    pub moves : Moves rules s [] [] ask.before
+    pub lacks : rules.lacks ask.before
+    pub sent : rules.sent ask.before
+    pub asks : rules.asks ask.before ask.after
+
+  -- reads were at most interrupted
+  abbrev pub OnlyInterrupted : T → T → Type 0
+  OnlyInterrupted s t = OnlyInterrupts (rules.read s).reads.faults (rules.read t).reads.faults
+
+  abbrev pub TurnAnswers : T → Result Bool (AskError W) → T → Type 0
+  TurnAnswers s (Ok true) t = rules.has t × OnlyInterrupted s t × StaysOpen rules s t
+  TurnAnswers s (Ok false) t = rules.ends s (Ok tt) t × OnlyInterrupted s t
+  TurnAnswers s (Err (Wrong why)) t = rules.ends s (Err why) t × OnlyInterrupted s t
+  TurnAnswers s (Err (Io e)) t = rules.lacks t × ReadGaveUp e (rules.read s).reads.faults (rules.read t).reads.faults
+
+  -- what one turn of asks does
+  pub record TakesTurn (s : Linked T) (answer : Result Bool (AskError W)) (t : Linked T) : Type 0 where
+    pub asks : List (Ask T)
+    pub noted : t.states ≡ s.states ++ states_of asks
+    pub along : AsksAlong rules s.filter asks t.filter
+    pub turn : IsTurn rules asks
+    pub each : All (AskedFrom s.filter) asks
+    pub told : rules.written t.filter ≡ rules.written s.filter
+    pub ready : rules.ready t.filter
+    pub moves : Moves rules s.filter [] [] t.filter
+    pub sent : rules.sent t.filter
+    pub once : AsksOnce rules s.filter t.filter
+    pub answers : TurnAnswers s.filter answer t.filter
+
+  -- what the next payload's answer says, behind so many that went over
+  abbrev pub NextAnswers : ℕ → T → Result Bool (Cause W) → T → Type 0
+  NextAnswers count s (Ok true) t = Forwarded rules (count + 1) s t × NoneFailed rules s t × StaysOpen rules s t
+  NextAnswers count s (Ok false) t = Forwarded rules count s t × rules.ends s (Ok tt) t × rules.sent t × NoneFailed rules s t
+  NextAnswers count s (Err cause) t = StopsBy rules count s cause t
+
+  -- what is done for one payload
+  pub record ForwardsNext (s : Linked T) (answer : Result Bool (Cause W)) (t : Linked T) : Type 0 where
+    pub goes : Goes rules (AskedFrom s.filter) s t
+    pub once : AsksOnce rules s.filter t.filter
+    pub ready : rules.ready t.filter
+    pub answers : NextAnswers 0 s.filter answer t.filter

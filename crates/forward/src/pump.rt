@@ -1,0 +1,94 @@
+//! Payloads forwarded until there are no more.
+ghost use Rattle.std.specs.Prelude.{◌≡◌, true, false};
+ghost use Rattle.forward.specs.Filter.{WasInterrupted};
+ghost use Rattle.forward.specs.Forward.{Forwards};
+ghost use Rattle.forward.specs.Steps.{ForwardsNext, TakesTurn};
+
+use crate::error::{AskError, Cause, Stopped};
+use crate::filter::Filter;
+use crate::link::Link;
+use redux_buffer::INTERRUPT_LIMIT;
+use std::io::ErrorKind;
+
+/// Forwards each payload, in order, until the stream that is read from ends, and returns how many those were.
+///
+/// Nothing is held back: before the stream is asked, all that was taken in is sent and flushed. An ask that was interrupted is made
+/// again, 64 times in a row. An `Err` says which side stopped, and why, and how many payloads went over: where that isn't a fault
+/// of the writer, all of these were sent and flushed.
+pub fn forward<F: Filter>(link: &mut Link<F>) -> Result<u64, Stopped<F::Wrong>>
+    requires ready { F.rules.ready link.old.filter }
+    requires fresh { F.rules.fresh link.old.filter }
+    ensures { Forwards F.rules link.old result link.new }
+{
+    for count in 0..u64::MAX {
+        match forward_next(link) {
+            Ok(true) => {}
+            Ok(false) => return Ok(count),
+            Err(cause) => return Err(Stopped { count, cause }),
+        }
+    }
+    Err(Stopped {
+        count: u64::MAX,
+        cause: Cause::Count,
+    })
+}
+
+// Forwards the next payload, and returns whether there was one.
+#[inline(always)]
+fn forward_next<F: Filter>(link: &mut Link<F>) -> Result<bool, Cause<F::Wrong>>
+    requires { F.rules.ready link.old.filter }
+    ensures { ForwardsNext F.rules link.old result link.new }
+{
+    match link.pass() {
+        Ok(true) => Ok(true),
+        Ok(false) => forward_asked(link),
+        Err(e) => Err(Cause::Write(e)),
+    }
+}
+
+// The same where none is there: all that was taken in is sent and flushed, and then it is asked for.
+fn forward_asked<F: Filter>(link: &mut Link<F>) -> Result<bool, Cause<F::Wrong>>
+    requires ready { F.rules.ready link.old.filter }
+    requires lacks { F.rules.lacks link.old.filter }
+    ensures { ForwardsNext F.rules link.old result link.new }
+{
+    if let Err(e) = link.flush() {
+        return Err(Cause::Write(e));
+    }
+    match ask_retried(link) {
+        Ok(true) => match link.pass() {
+            Ok(passed) => Ok(passed),
+            Err(e) => Err(Cause::Write(e)),
+        },
+        Ok(false) => Ok(false),
+        Err(AskError::Wrong(why)) => Err(Cause::Wrong(why)),
+        Err(AskError::Io(e)) => Err(Cause::Read(e)),
+    }
+}
+
+// Asks for a payload. Of asks that are interrupted in a row the 65th ends it.
+fn ask_retried<F: Filter>(link: &mut Link<F>) -> Result<bool, AskError<F::Wrong>>
+    requires ready { F.rules.ready link.old.filter }
+    requires lacks { F.rules.lacks link.old.filter }
+    requires sent { F.rules.sent link.old.filter }
+    ensures { TakesTurn F.rules link.old result link.new }
+{
+    for _ in 0..INTERRUPT_LIMIT {
+        let answer = link.ask();
+        if !was_interrupted(&answer) {
+            return answer;
+        }
+    }
+    link.ask()
+}
+
+// Whether an ask was interrupted.
+fn was_interrupted<W>(answer: &Result<bool, AskError<W>>) -> bool
+    ensures yes { result ≡ true → WasInterrupted answer.now }
+    ensures no { result ≡ false → ¬ WasInterrupted answer.now }
+{
+    match answer {
+        Err(AskError::Io(e)) => e.kind() == ErrorKind::Interrupted,
+        _ => false,
+    }
+}
