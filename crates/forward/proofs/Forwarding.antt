@@ -113,9 +113,12 @@ module _ {T W : Type 0} (rules : FilterRules T W) where
         answers_on : NextAnswers rules count first.filter answer t.filter
         answers_on = behind answer next.once next.answers
 
-    asked_after : (a b : T) → Moves rules a [] [] b → (ask : Ask T) → AskedFrom rules b ask → AskedFrom rules a ask
-    asked_after a b moves ask asked = record {
+    asked_after : (a b : T) → Moves rules a [] [] b → AsksOnce rules a b → StaysOpen rules a b → (ask : Ask T)
+        → AskedFrom rules b ask → AskedFrom rules a ask
+    asked_after a b moves once still ask asked = record {
       moves = Moves-on rules lawful a b ask.before [] [] moves asked.moves;
+      once = AsksOnce-joins rules a b ask.before once still asked.once;
+      still = StaysOpen-joins rules a b ask.before still asked.once asked.still;
       lacks = asked.lacks;
       sent = asked.sent;
       asks = asked.asks;
@@ -172,7 +175,7 @@ module _ {T W : Type 0} (rules : FilterRules T W) where
       then_asked p answer t next =
           let Such = AskedFrom rules s.filter in
           let before = none_passed Such p in
-          let so = asked_after s.filter m.filter p.passes.answers.0 in
+          let so = asked_after s.filter m.filter p.passes.answers.0 before.once before.still in
           record {
             goes = goes_on Such 0 s m t before so answer next;
             once = once_on Such 0 s m t before so answer next;
@@ -212,7 +215,8 @@ module _ {T W : Type 0} (rules : FilterRules T W) where
       goes : Goes rules (AskedFrom rules s.filter) s t
       goes = Goes-joins rules (AskedFrom rules s.filter) s m t (flush_unasked s m (AskedFrom rules s.filter) (Ok tt) p)
           (Goes-weaker rules (AskedFrom rules m.filter) (AskedFrom rules s.filter)
-          (asked_after s.filter m.filter p.flushes.moves) m t
+          (asked_after s.filter m.filter p.flushes.moves (flush_once s m (Ok tt) p)
+          (StaysOpen-none rules s.filter m.filter p.flushes.told)) m t
           (Goes-turn rules (AskedFrom rules m.filter) m t turn.asks turn.noted turn.along turn.turn turn.each))
 
       once : AsksOnce rules s.filter t.filter
@@ -276,7 +280,7 @@ module _ {T W : Type 0} (rules : FilterRules T W) where
             → ForwardsNext rules s answer u
         then_moved u answer next =
             let Such = AskedFrom rules s.filter in
-            let so = asked_after s.filter t.filter (moves s m t p (Ok true) turn) in
+            let so = asked_after s.filter t.filter (moves s m t p (Ok true) turn) came.once came.still in
             record {
               goes = goes_on Such 0 s t u came so answer next;
               once = once_on Such 0 s t u came so answer next;
@@ -313,7 +317,7 @@ module _ {T W : Type 0} (rules : FilterRules T W) where
             let went = before.forwarded in
             lawful.asks_sent first.filter ask.before ask.after went.payloads fresh
             (Moves-on rules lawful first.filter s.filter ask.before went.payloads went.payloads went.moves asked.moves)
-            asked.lacks asked.sent asked.asks
+            (StaysOpen-joins rules first.filter s.filter ask.before before.still asked.once asked.still) asked.lacks asked.sent asked.asks
 
         module _ (answer : Result Bool (Cause W)) (next : ForwardsNext rules s answer t) where
           all_goes : Goes rules Prompt first t

@@ -4,7 +4,8 @@ use Rattle.std.proofs.lemmas.Grind.{flat_map-append}
 use Rattle.std.proofs.lemmas.List.Elements.{All-append, All-cons, All-nil, All-weaker}
 use Rattle.forward.specs.Filter.{AsksOnce, FilterRules, IsLawful, Moves, StaysOpen}
 use Rattle.forward.specs.Link.{Ask, AreTurns, AsksAlong, Goes, IsTurn, Linked, NotAsked, ask_states, states_of}
-use Rattle.forward.specs.PromptLaws.{WritesOn-none, WritesOn-joins}
+use Rattle.forward.specs.Prompt.{AsksGive}
+use Rattle.forward.specs.PromptLaws.{AsksGive-joins, AsksGive-none, WritesOn-none, WritesOn-joins}
 
 module _ {T W : Type 0} (rules : FilterRules T W) where
   module _ (lawful : IsLawful rules) where
@@ -32,12 +33,15 @@ module _ {T W : Type 0} (rules : FilterRules T W) where
   }
 
   pub StaysOpen-none : (s t : T) → rules.read t ≡ rules.read s → StaysOpen rules s t
-  StaysOpen-none s t same = inl (ap (λ l. l.reads.zero_reads) same)
+  StaysOpen-none s t same = inl (record {
+    zero_reads = ap (λ l. l.reads.zero_reads) same;
+    give = subst (AsksGive (rules.read s)) (sym same) (AsksGive-none (rules.read s));
+  })
 
   pub AsksOnce-joins : (a b c : T) → AsksOnce rules a b → StaysOpen rules a b → AsksOnce rules b c → AsksOnce rules a c
   AsksOnce-joins a b c first open' second = record {
     once = elim open' [
-      | inl same ↦ omega (arith, same, second.once)
+      | inl gives ↦ omega (arith, gives.zero_reads, second.once)
       | inr closed ↦ omega (arith, first.once, second.quiet closed)
     ];
     quiet = λ closed. second.quiet (first.closed closed) ∙ first.quiet closed;
@@ -45,8 +49,11 @@ module _ {T W : Type 0} (rules : FilterRules T W) where
   }
 
   pub StaysOpen-joins : (a b c : T) → StaysOpen rules a b → AsksOnce rules b c → StaysOpen rules b c → StaysOpen rules a c
-  StaysOpen-joins a b c (inl same) once (inl same') = inl (same' ∙ same)
-  StaysOpen-joins a b c (inl same) once (inr closed) = inr closed
+  StaysOpen-joins a b c (inl first) once (inl second) = inl (record {
+    zero_reads = second.zero_reads ∙ first.zero_reads;
+    give = AsksGive-joins (rules.read a) (rules.read b) (rules.read c) first.give second.give;
+  })
+  StaysOpen-joins a b c (inl first) once (inr closed) = inr closed
   StaysOpen-joins a b c (inr closed) once second = inr (once.closed closed)
 
   pub NotAsked-none : (s : T) → NotAsked rules s s

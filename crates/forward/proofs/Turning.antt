@@ -69,6 +69,8 @@ module _ {T W : Type 0} (rules : FilterRules T W) where
       each : All (AskedFrom rules s.filter) all
       each = All-push (AskedFrom rules s.filter) before.asks last before.each (record {
         moves = before.moves;
+        once = before.once;
+        still = before.still;
         lacks = before.lacks;
         sent = before.sent;
         asks = next.asks.asks;
@@ -104,7 +106,7 @@ module _ {T W : Type 0} (rules : FilterRules T W) where
           each = each count t u before (Err (Io e)) next;
           told = next.asks.told ∙ before.told;
           ready = next.asks.ready;
-          lacks = next.asks.answers.0;
+          lacks = lawful.waits_lacks u.filter next.asks.answers.0;
           sent = next.asks.sent before.sent;
           moves = moves count t u before (Err (Io e)) next;
           once = once count t u before (Err (Io e)) next;

@@ -3,7 +3,7 @@ use Rattle.std.specs.Prelude.{◌≡◌, ℕ, ◌+◌, ◌≤◌, ◌⊎◌, Lis
 use Rattle.std.specs.declared.io.Error.{Error}
 use Rattle.redux_buffer.specs.Faults.{IsInterrupt, MetInterrupts, SendErrorCaused}
 use Rattle.redux_buffer.specs.StreamLog.{StreamLog}
-use Rattle.forward.specs.Prompt.{SentBeforeLast, WritesOn}
+use Rattle.forward.specs.Prompt.{AsksGive, SentBeforeAsking, WritesOn}
 use Rattle.forward.specs.declared.error.AskError.{AskError}
 use Rattle.forward.specs.declared.error.AskError.TheVariants.{Wrong, Io}
 
@@ -17,9 +17,10 @@ pub record FilterRules (T W : Type 0) : Type 1 where
   -- from one state to the other these payloads were handed out, and what becomes of these was taken in
   pub hands : T → List (List ℕ) → T → Type 0
   pub takes : T → List (List ℕ) → T → Type 0
-  -- a payload is there; or none is, before more is given
+  -- a payload is there; or none is; or none is, and what is left may become one
   pub has : T → Type 0
   pub lacks : T → Type 0
+  pub waits : T → Type 0
   -- all that was taken in was received and flushed
   pub sent : T → Type 0
   -- how the stream is asked: for bytes that come while what is there holds no payload
@@ -93,15 +94,20 @@ module _ {T W : Type 0} (rules : FilterRules T W) where
     pub quiet : rules.closed s → (rules.read t).reads.zero_reads ≡ (rules.read s).reads.zero_reads
     pub closed : rules.closed s → rules.closed t
 
-  -- it never did, or its end is known
+  -- it never did: each ask gave a byte, or failed
+  pub record Gives (s t : T) : Type 0 where
+    pub zero_reads : (rules.read t).reads.zero_reads ≡ (rules.read s).reads.zero_reads
+    pub give : AsksGive (rules.read s) (rules.read t)
+
+  -- so it was, or its end is known
   abbrev pub StaysOpen : T → T → Type 0
-  StaysOpen s t = ((rules.read t).reads.zero_reads ≡ (rules.read s).reads.zero_reads) ⊎ rules.closed t
+  StaysOpen s t = Gives s t ⊎ rules.closed t
 
   abbrev pub AskAnswers : T → Result Bool (AskError W) → T → Type 0
   AskAnswers s (Ok true) t = rules.has t × Read s t × StaysOpen s t
   AskAnswers s (Ok false) t = rules.ends s (Ok tt) t × Read s t
   AskAnswers s (Err (Wrong why)) t = rules.ends s (Err why) t × Read s t
-  AskAnswers s (Err (Io e)) t = rules.lacks t × FailedToRead e s t × StaysOpen s t
+  AskAnswers s (Err (Io e)) t = rules.waits t × FailedToRead e s t × StaysOpen s t
 
   -- what `ask` does: nothing is written
   pub record Asks (s : T) (answer : Result Bool (AskError W)) (t : T) : Type 0 where
@@ -117,10 +123,10 @@ module _ {T W : Type 0} (rules : FilterRules T W) where
   abbrev pub AsksSent : T → T → T → Type 0
   AsksSent first s t =
       (rules.read t ≡ rules.read s)
-      ⊎ SentBeforeLast (rules.due first) (rules.read first) (rules.read t) (rules.written first) (rules.written s)
+      ⊎ SentBeforeAsking (rules.due first) (rules.read first) (rules.read t) (rules.written first) (rules.written s)
 
-  -- payloads go on in order, and an end that follows some is their end. And where nothing is there that was not handed out, and all
-  -- that was taken in was sent, so was what is due of each byte before an ask
+  -- payloads go on in order, and an end that follows some is their end. And where no payload is there, and all that was taken in
+  -- was sent, so was what is due of each byte that comes before the last ask
   pub record IsLawful : Type 0 where
     pub hands_none : (s : T) → rules.hands s [] s
     pub hands_joins : (a b c : T) (p q : List (List ℕ)) → rules.hands a p b → rules.hands b q c → rules.hands a (p ++ q) c
@@ -128,5 +134,6 @@ module _ {T W : Type 0} (rules : FilterRules T W) where
     pub takes_joins : (a b c : T) (p q : List (List ℕ)) → rules.takes a p b → rules.takes b q c → rules.takes a (p ++ q) c
     pub ends_after : (a b c : T) (p : List (List ℕ)) (how : Result (Unit {0}) W) → rules.hands a p b → rules.ends b how c
         → rules.ends a how c
-    pub asks_sent : (first s t : T) (p : List (List ℕ)) → rules.fresh first → Moves first p p s → rules.lacks s → rules.sent s
-        → rules.asks s t → AsksSent first s t
+    pub waits_lacks : (s : T) → rules.waits s → rules.lacks s
+    pub asks_sent : (first s t : T) (p : List (List ℕ)) → rules.fresh first → Moves first p p s → StaysOpen first s → rules.lacks s
+        → rules.sent s → rules.asks s t → AsksSent first s t

@@ -29,7 +29,7 @@ module _ {T W : Type 0} (rules : FilterRules T W) where
   abbrev pub StopsBy : ℕ → T → Cause W → T → Type 0
   StopsBy count s (Wrong why) t = Forwarded count s t × rules.ends s (Err why) t × rules.sent t × NoneFailed s t
   StopsBy count s (Read e) t =
-      Forwarded count s t × rules.lacks t × rules.sent t
+      Forwarded count s t × rules.waits t × rules.sent t
       × ReadFailed e (rules.read s) (rules.read t) (rules.written s) (rules.written t)
   StopsBy count s (Write e) t =
       ForwardedFirst count s t × SendFailed e (rules.read s) (rules.read t) (rules.written s) (rules.written t)

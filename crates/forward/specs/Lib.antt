@@ -5,4 +5,5 @@ pub mod StreamsLaws
 pub mod Filter
 pub mod Link
 pub mod Forward
+pub mod ForwardLaws
 pub mod Steps

@@ -1,31 +1,39 @@
--- Nothing held back: where a stream is asked, all that is due of what it gave before was received and flushed.
-use Rattle.std.specs.Prelude.{◌≡◌, ℕ, ◌⊎◌, List, ◌++◌}
+-- Runs that hold nothing back: where the reader is asked, all that is due of what it gave before was received and flushed.
+use Rattle.std.specs.Prelude.{◌≡◌, ℕ, ◌+◌, ◌≤◌, ◌⊎◌, List, ◌++◌, length}
 use Rattle.redux_buffer.specs.GoesOn.{GoesOn}
 use Rattle.redux_buffer.specs.StreamLog.{StreamLog, WriteLog}
+
+-- these bytes were given before the last ask, and then what that gave: each other ask gave a byte, or failed
+pub record AskedLast (before : List ℕ) (read read' : StreamLog) : Type 0 where
+  pub given : read'.reads.given ≡ read.reads.given ++ (before ++ read'.reads.latest)
+  pub asks : read'.reads.asks + length read.reads.faults
+      ≤ read.reads.asks + length before + length read'.reads.faults + 1
 
 -- what was received, and what was flushed, begins with these bytes
 pub record WasSent (bytes : List ℕ) (written : WriteLog) : Type 0 where
   pub received : GoesOn bytes written.received
   pub flushed : GoesOn bytes written.flushed
 
--- a writer was called: what it received goes on, and all that it had received was flushed, or nothing was
-pub record WritesOn (old new : WriteLog) : Type 0 where
-  pub received : GoesOn old.received new.received
-  pub flushed : (new.flushed ≡ old.flushed) ⊎ GoesOn old.received new.flushed
-
--- these bytes were given before the last ask, and behind them just what that gave
-pub record GivenBefore (before : List ℕ) (read read' : StreamLog) : Type 0 where
-  pub given : read'.reads.given ≡ read.reads.given ++ (before ++ read'.reads.latest)
-
--- what is due of all that was given before the last ask was received and flushed
-pub record SentBeforeLast (IsDue : List ℕ → List ℕ → Type 0) (read read' written written' : StreamLog) : Type 0 where
+-- what is due of the bytes that were given before the last ask was received and flushed
+pub record SentBeforeAsking (IsDue : List ℕ → List ℕ → Type 0) (read read' written written' : StreamLog) : Type 0 where
   pub before : List ℕ
-  pub given : GivenBefore before read read'
+  pub asked : AskedLast before read read'
   pub due : List ℕ
   pub is_due : IsDue before due
   pub sent : WasSent (written.writes.received ++ due) written'.writes
 
 -- so it was, or the reader was not asked
-abbrev pub KeepsNothingBack : (List ℕ → List ℕ → Type 0) → StreamLog → StreamLog → StreamLog → StreamLog → Type 0
-KeepsNothingBack IsDue read read' written written' =
-    (read' ≡ read) ⊎ SentBeforeLast IsDue read read' written written'
+abbrev pub HoldsNothingBack : (List ℕ → List ℕ → Type 0) → StreamLog → StreamLog → StreamLog → StreamLog → Type 0
+HoldsNothingBack IsDue read read' written written' =
+    (read' ≡ read) ⊎ SentBeforeAsking IsDue read read' written written'
+
+-- each ask gave a byte, or failed
+abbrev pub AsksGive : StreamLog → StreamLog → Type 0
+AsksGive read read' =
+    read'.reads.asks + length read.reads.given + length read.reads.faults
+    ≤ read.reads.asks + length read'.reads.given + length read'.reads.faults
+
+-- a writer was called: what it received goes on, and all that it had received was flushed, or nothing was
+pub record WritesOn (old new : WriteLog) : Type 0 where
+  pub received : GoesOn old.received new.received
+  pub flushed : (new.flushed ≡ old.flushed) ⊎ GoesOn old.received new.flushed

@@ -1,9 +1,9 @@
--- How calls that hold nothing back follow one another.
-use Rattle.std.proofs.Common.{◌≡◌, ℕ, ◌⊎◌, inl, inr, List, ◌++◌, refl, sym, subst}
+-- How runs that hold nothing back go on.
+use Rattle.std.proofs.Common.{◌≡◌, ℕ, ◌⊎◌, inl, inr, List, ◌++◌, length, refl, sym, ap, subst, ◌∙◌, arith, append_assoc, length-append}
 use Rattle.redux_buffer.specs.GoesOn.{GoesOn, GoesOn-none, GoesOn-joins}
 use Rattle.redux_buffer.specs.LogGrows.{WriteLogGrows}
 use Rattle.redux_buffer.specs.StreamLog.{StreamLog, WriteLog}
-use Rattle.forward.specs.Prompt.{SentBeforeLast, WasSent, WritesOn}
+use Rattle.forward.specs.Prompt.{AskedLast, AsksGive, HoldsNothingBack, WasSent, WritesOn}
 
 pub WritesOn-none : (l : WriteLog) → WritesOn l l
 WritesOn-none l = record { received = GoesOn-none l.received; flushed = inl refl }
@@ -34,13 +34,41 @@ WasSent-on bytes old new sent more = record {
   ];
 }
 
-pub SentBeforeLast-on : (IsDue : List ℕ → List ℕ → Type 0) (read read' written old new : StreamLog)
-    → SentBeforeLast IsDue read read' written old → WritesOn old.writes new.writes
-    → SentBeforeLast IsDue read read' written new
-SentBeforeLast-on IsDue read read' written old new sent more = record {
-  before = sent.before;
-  given = sent.given;
-  due = sent.due;
-  is_due = sent.is_due;
-  sent = WasSent-on (written.writes.received ++ sent.due) old.writes new.writes sent.sent more;
-}
+-- the writer was called, and the reader wasn't asked
+pub HoldsNothingBack-on : (IsDue : List ℕ → List ℕ → Type 0) (a b c k l m : StreamLog) → HoldsNothingBack IsDue a b k l
+    → c ≡ b → WritesOn l.writes m.writes → HoldsNothingBack IsDue a c k m
+HoldsNothingBack-on IsDue a b c k l m held same more = elim held [
+  | inl none ↦ inl (same ∙ none)
+  | inr sent ↦ subst (λ x. HoldsNothingBack IsDue a x k m) (sym same) (inr (record {
+    before = sent.before;
+    asked = sent.asked;
+    due = sent.due;
+    is_due = sent.is_due;
+    sent = WasSent-on (k.writes.received ++ sent.due) l.writes m.writes sent.sent more;
+  }))
+]
+
+-- bytes had come, each ask gave a byte or failed, and then it was asked again
+pub AskedLast-after : (a b c : StreamLog) (had came : List ℕ) → b.reads.given ≡ a.reads.given ++ had → AsksGive a b
+    → AskedLast came b c → AskedLast (had ++ came) a c
+AskedLast-after a b c had came given give asked =
+    let last = c.reads.latest in
+    record {
+      given = asked.given ∙ ap (λ l. l ++ (came ++ last)) given ∙ append_assoc a.reads.given had (came ++ last)
+          ∙ ap (λ l. a.reads.given ++ l) (sym (append_assoc had came last));
+      asks = omega (
+        arith,
+        asked.asks,
+        give,
+        ap length given,
+        length-append a.reads.given had,
+        length-append had came,
+      );
+    }
+
+-- each ask gave a byte, or failed, and so on
+pub AsksGive-none : (a : StreamLog) → AsksGive a a
+AsksGive-none a = omega arith
+
+pub AsksGive-joins : (a b c : StreamLog) → AsksGive a b → AsksGive b c → AsksGive a c
+AsksGive-joins a b c first second = omega (arith, first, second)

@@ -14,6 +14,8 @@ module _ {T W : Type 0} (rules : FilterRules T W) where
   -- since this state nothing more went over before the ask, nothing was there to hand out, and all was sent
   pub record AskedFrom (s : T) (ask : Ask T) : Type 0 where
     pub moves : Moves rules s [] [] ask.before
+    pub once : AsksOnce rules s ask.before
+    pub still : StaysOpen rules s ask.before
     pub lacks : rules.lacks ask.before
     pub sent : rules.sent ask.before
     pub asks : rules.asks ask.before ask.after
@@ -26,7 +28,7 @@ module _ {T W : Type 0} (rules : FilterRules T W) where
   TurnAnswers s (Ok true) t = rules.has t × OnlyInterrupted s t × StaysOpen rules s t
   TurnAnswers s (Ok false) t = rules.ends s (Ok tt) t × OnlyInterrupted s t
   TurnAnswers s (Err (Wrong why)) t = rules.ends s (Err why) t × OnlyInterrupted s t
-  TurnAnswers s (Err (Io e)) t = rules.lacks t × ReadGaveUp e (rules.read s).reads.faults (rules.read t).reads.faults
+  TurnAnswers s (Err (Io e)) t = rules.waits t × ReadGaveUp e (rules.read s).reads.faults (rules.read t).reads.faults
 
   -- what one turn of asks does
   pub record TakesTurn (s : Linked T) (answer : Result Bool (AskError W)) (t : Linked T) : Type 0 where
