@@ -77,14 +77,15 @@ module _ {T W : Type 0} (rules : FilterRules T W) where
       )
       behind (Ok false) once next = (
         forwarded_on first.filter s.filter t.filter count before.forwarded next.0,
-        lawful.ends_after first.filter s.filter t.filter before.forwarded.payloads (Ok tt) before.forwarded.moves.hands next.1,
+        lawful.ends_after first.filter s.filter t.filter before.forwarded.payloads (Ok tt) before.forwarded.moves.hands
+            before.still next.1,
         next.2,
         met_on next.3,
       )
       behind (Err (Wrong why)) once next = (
         forwarded_on first.filter s.filter t.filter count before.forwarded next.0,
         lawful.ends_after first.filter s.filter t.filter before.forwarded.payloads (Err why) before.forwarded.moves.hands
-            next.1,
+            before.still next.1,
         next.2,
         met_on next.3,
       )
@@ -239,7 +240,8 @@ module _ {T W : Type 0} (rules : FilterRules T W) where
       pub no_more : TakesTurn rules m (Ok false) t → ForwardsNext rules s (Ok false) t
       no_more turn = ended s m t p (Ok false) turn (Ok false) (
         none_forwarded s.filter t.filter (moves s m t p (Ok false) turn),
-        lawful.ends_after s.filter m.filter t.filter [] (Ok tt) p.flushes.moves.hands turn.answers.0,
+        lawful.ends_after s.filter m.filter t.filter [] (Ok tt) p.flushes.moves.hands
+            (StaysOpen-none rules s.filter m.filter p.flushes.told) turn.answers.0,
         turn.sent,
         met s m t p (Ok false) turn turn.answers.1,
       )
@@ -247,7 +249,8 @@ module _ {T W : Type 0} (rules : FilterRules T W) where
       pub wrong_next : (why : W) → TakesTurn rules m (Err (asked.Wrong why)) t → ForwardsNext rules s (Err (Wrong why)) t
       wrong_next why turn = ended s m t p (Err (asked.Wrong why)) turn (Err (Wrong why)) (
         none_forwarded s.filter t.filter (moves s m t p (Err (asked.Wrong why)) turn),
-        lawful.ends_after s.filter m.filter t.filter [] (Err why) p.flushes.moves.hands turn.answers.0,
+        lawful.ends_after s.filter m.filter t.filter [] (Err why) p.flushes.moves.hands
+            (StaysOpen-none rules s.filter m.filter p.flushes.told) turn.answers.0,
         turn.sent,
         met s m t p (Err (asked.Wrong why)) turn turn.answers.1,
       )

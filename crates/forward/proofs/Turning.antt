@@ -139,12 +139,12 @@ module _ {T W : Type 0} (rules : FilterRules T W) where
           (a.0, only count t u before (Ok true) next a.1, still count t u before (Ok true) next a.2)
       answers (Ok false) next few =
           let a = next.asks.answers in (
-            lawful.ends_after s.filter t.filter u.filter [] (Ok tt) before.moves.hands a.0,
+            lawful.ends_after s.filter t.filter u.filter [] (Ok tt) before.moves.hands before.still a.0,
             only count t u before (Ok false) next a.1,
           )
       answers (Err (Wrong why)) next few =
           let a = next.asks.answers in (
-            lawful.ends_after s.filter t.filter u.filter [] (Err why) before.moves.hands a.0,
+            lawful.ends_after s.filter t.filter u.filter [] (Err why) before.moves.hands before.still a.0,
             only count t u before (Err (Wrong why)) next a.1,
           )
       answers (Err (Io e)) next few =

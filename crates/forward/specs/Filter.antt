@@ -132,8 +132,8 @@ module _ {T W : Type 0} (rules : FilterRules T W) where
     pub hands_joins : (a b c : T) (p q : List (List ℕ)) → rules.hands a p b → rules.hands b q c → rules.hands a (p ++ q) c
     pub takes_none : (s : T) → rules.takes s [] s
     pub takes_joins : (a b c : T) (p q : List (List ℕ)) → rules.takes a p b → rules.takes b q c → rules.takes a (p ++ q) c
-    pub ends_after : (a b c : T) (p : List (List ℕ)) (how : Result (Unit {0}) W) → rules.hands a p b → rules.ends b how c
-        → rules.ends a how c
+    pub ends_after : (a b c : T) (p : List (List ℕ)) (how : Result (Unit {0}) W) → rules.hands a p b → StaysOpen a b
+        → rules.ends b how c → rules.ends a how c
     pub waits_lacks : (s : T) → rules.waits s → rules.lacks s
     pub asks_sent : (first s t : T) (p : List (List ℕ)) → rules.fresh first → Moves first p p s → StaysOpen first s → rules.lacks s
         → rules.sent s → rules.asks s t → AsksSent first s t

@@ -1,74 +1,11 @@
 -- How runs that hold nothing back go on.
-use Rattle.std.proofs.Common.{◌≡◌, ℕ, ◌⊎◌, inl, inr, List, ◌++◌, length, refl, sym, ap, subst, ◌∙◌, arith, append_assoc, length-append}
+use Rattle.std.proofs.Common.{◌≡◌, ℕ, List, inl}
 use Rattle.buffer_redux.specs.BufWriter.{WritesInOrder}
 use Rattle.buffer_redux.specs.Buffered.{Buffered}
-use Rattle.buffer_redux.specs.GoesOn.{GoesOn, GoesOn-none, GoesOn-joins}
-use Rattle.buffer_redux.specs.LogGrows.{WriteLogGrows}
-use Rattle.buffer_redux.specs.StreamLog.{StreamLog, WriteLog}
-use Rattle.programs.specs.Prompt.{AskedLast, AsksGive, HoldsNothingBack, WasSent, WritesOn}
-
-pub WritesOn-none : (l : WriteLog) → WritesOn l l
-WritesOn-none l = record { received = GoesOn-none l.received; flushed = inl refl }
-
-pub WritesOn-joins : (a b c : WriteLog) → WritesOn a b → WritesOn b c → WritesOn a c
-WritesOn-joins a b c p q = record {
-  received = GoesOn-joins a.received b.received c.received p.received q.received;
-  flushed = elim q.flushed [
-    | inl same ↦ subst (λ l. (l ≡ a.flushed) ⊎ GoesOn a.received l) (sym same) p.flushed
-    | inr since ↦ inr (GoesOn-joins a.received b.received c.flushed p.received since)
-  ];
-}
-
--- a flush, or none
-pub WritesOn-grows : (old new : WriteLog) → WriteLogGrows old new → WritesOn old new
-WritesOn-grows old new grows = record {
-  received = grows.received;
-  flushed = elim grows.flushed [ inl same ↦ inl same | inr since ↦ inr since.all ];
-}
+use Rattle.programs.specs.Prompt.{WritesOn}
+pub use Rattle.forward.specs.PromptLaws.{WritesOn-none, WritesOn-joins, WritesOn-grows, WasSent-on, HoldsNothingBack-on, AskedLast-after}
 
 pub WritesOn-unflushed : {S P : Type 0} (s t : Buffered S P) (accepted : List ℕ) → WritesInOrder s accepted t
     → t.log.writes.flushed ≡ s.log.writes.flushed → WritesOn s.log.writes t.log.writes
 WritesOn-unflushed s t accepted taken same =
     record { received = record { more = taken.sent; equal = taken.received }; flushed = inl same }
-
--- what was sent stays so
-pub WasSent-on : (bytes : List ℕ) (old new : WriteLog) → WasSent bytes old → WritesOn old new → WasSent bytes new
-WasSent-on bytes old new sent more = record {
-  received = GoesOn-joins bytes old.received new.received sent.received more.received;
-  flushed = elim more.flushed [
-    | inl same ↦ subst (λ l. GoesOn bytes l) (sym same) sent.flushed
-    | inr since ↦ GoesOn-joins bytes old.received new.flushed sent.received since
-  ];
-}
-
--- the writer was called, and the reader wasn't asked
-pub HoldsNothingBack-on : (IsDue : List ℕ → List ℕ → Type 0) (a b c k l m : StreamLog) → HoldsNothingBack IsDue a b k l
-    → c ≡ b → WritesOn l.writes m.writes → HoldsNothingBack IsDue a c k m
-HoldsNothingBack-on IsDue a b c k l m held same more = elim held [
-  | inl none ↦ inl (same ∙ none)
-  | inr sent ↦ subst (λ x. HoldsNothingBack IsDue a x k m) (sym same) (inr (record {
-    before = sent.before;
-    asked = sent.asked;
-    due = sent.due;
-    is_due = sent.is_due;
-    sent = WasSent-on (k.writes.received ++ sent.due) l.writes m.writes sent.sent more;
-  }))
-]
-
--- bytes had come, each ask gave a byte or failed, and then it was asked again
-pub AskedLast-after : (a b c : StreamLog) (had came : List ℕ) → b.reads.given ≡ a.reads.given ++ had → AsksGive a b
-    → AskedLast came b c → AskedLast (had ++ came) a c
-AskedLast-after a b c had came given give asked =
-    let last = c.reads.latest in
-    record {
-      given = asked.given ∙ ap (λ l. l ++ (came ++ last)) given ∙ append_assoc a.reads.given had (came ++ last)
-          ∙ ap (λ l. a.reads.given ++ l) (sym (append_assoc had came last));
-      asks = omega (
-        arith,
-        asked.asks,
-        give,
-        ap length given,
-        length-append a.reads.given had,
-        length-append had came,
-      );
-    }

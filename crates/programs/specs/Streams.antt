@@ -1,32 +1,12 @@
 -- How the two streams of a run fared.
-use Rattle.std.specs.Prelude.{◌≡◌, ℕ, ◌+◌, ◌^◌, ◌<◌, ◌≤◌, List, [], length}
+use Rattle.std.specs.Prelude.{◌≡◌, ℕ, ◌+◌, ◌^◌, ◌<◌, ◌≤◌, []}
 use Rattle.std.specs.IoError.{error_kind}
 use Rattle.std.specs.declared.io.Error.{Error}
 use Rattle.std.specs.declared.io.ErrorKind.TheVariants.{Other, OutOfMemory}
 use Rattle.buffer_redux.specs.Block.{Block}
 use Rattle.buffer_redux.specs.Buffered.{Buffered}
-use Rattle.buffer_redux.specs.Faults.{IsInterrupt, OnlyInterrupts, FaultAfterInterrupts, MetInterrupts, SendErrorCaused}
-use Rattle.buffer_redux.specs.StreamLog.{StreamLog, ReadLog}
-
--- reads and writes were at most interrupted
-pub record MetNoFault (read read' written written' : StreamLog) : Type 0 where
-  pub reader : OnlyInterrupts read.reads.faults read'.reads.faults
-  pub writer : MetInterrupts written.writes written'.writes
-
--- after reads that were interrupted, one failed with this error: an interrupted one after 64 of them at least
-pub record ReadGaveUp (e : Error) (old new : List Error) : Type 0 where
-  pub fault : FaultAfterInterrupts old new e
-  pub often : IsInterrupt e → length old + 65 ≤ length new
-
--- a read failed with this error, and writes were at most interrupted
-pub record ReadFailed (e : Error) (read read' written written' : StreamLog) : Type 0 where
-  pub reader : ReadGaveUp e read.reads.faults read'.reads.faults
-  pub writer : MetInterrupts written.writes written'.writes
-
--- sending to the writer failed with this error, and reads were at most interrupted
-pub record SendFailed (e : Error) (read read' written written' : StreamLog) : Type 0 where
-  pub reader : OnlyInterrupts read.reads.faults read'.reads.faults
-  pub writer : SendErrorCaused written.writes written'.writes e
+use Rattle.buffer_redux.specs.StreamLog.{StreamLog}
+pub use Rattle.forward.specs.Streams.{MetNoFault, ReadGaveUp, ReadFailed, SendFailed, EndsOnce}
 
 -- as many pieces went over as the run counts
 pub record OverCount (e : Error) (count : ℕ) (read read' written written' : StreamLog) : Type 0 where
@@ -48,10 +28,6 @@ pub record BufferRefused (e : Error) (read read' written written' : StreamLog) :
 -- the reader gave nothing though it was asked for something
 abbrev pub GaveNothing : StreamLog → StreamLog → Type 0
 GaveNothing read read' = read.reads.zero_reads < read'.reads.zero_reads
-
--- the reader gave nothing once at most: behind its end it isn't asked again
-abbrev pub EndsOnce : ReadLog → ReadLog → Type 0
-EndsOnce old new = new.zero_reads ≤ old.zero_reads + 1
 
 -- what was received has been flushed
 abbrev pub AllFlushed : StreamLog → Type 0
