@@ -87,12 +87,15 @@ module _ {T P : Type 0} (tells : T → StreamLog) (stretch : T → T → Type 0)
     pub flush_given_up : (s m : Buffered T P) (count : ℕ) (e : Error) → Interruptions s m count → ¬ (count ≡ 0)
         → error_kind e ≡ TimedOut → ReplyFailed tells stretch s e m
     flush_given_up s m count e before some late = (
-      ([], record {
-        begun = BegunAlong-of tells stretch std_write_rules s m [] [] before.along;
-        why = inr (inr (record {
-          timed_out = late;
-          interrupted = elim before.some [ inl none ↦ absurd (some none) | inr was ↦ was ];
-        }));
-      }),
+      (
+        [],
+        record {
+          begun = BegunAlong-of tells stretch std_write_rules s m [] [] before.along;
+          why = inr (inr (record {
+            timed_out = late;
+            interrupted = elim before.some [ inl none ↦ absurd (some none) | inr was ↦ was ];
+          }));
+        },
+      ),
       λ is. (let odd : TimedOut ≡ Interrupted = sym late ∙ is in cc),
     )

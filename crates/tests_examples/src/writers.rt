@@ -30,8 +30,8 @@ fn line_writer(rt: HostRuntime) -> Result<(), Fail> {
 #[test]
 fn line_sender(rt: HostRuntime) -> Result<(), Fail> {
     let alloc = rt.alloc();
-    let faults = [Answer::Fail(ErrorKind::StorageFull), Answer::Fail(ErrorKind::StorageFull)];
-    let full = Told::new(ScriptWriter::new(alloc, &faults)?);
+    let fault = Answer::Fail(ErrorKind::StorageFull);
+    let full = Told::new(ScriptWriter::new(alloc, &[fault, fault])?);
     let mut writer = LineSender::new(LineWriter::new(alloc, full)?);
     assert!(rt; writeln!(writer, "one").is_err());
     assert!(rt; writer.get_ref().buf_len() == 4);

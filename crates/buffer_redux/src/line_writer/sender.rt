@@ -26,8 +26,8 @@ use std::marker::Model;
 /// `LineWriter`; the next of the others meets it.
 ///
 /// ```
-/// let faults = [Answer::Fail(ErrorKind::StorageFull), Answer::Fail(ErrorKind::StorageFull)];
-/// let full = Told::new(ScriptWriter::new(alloc, &faults)?);
+/// let fault = Answer::Fail(ErrorKind::StorageFull);
+/// let full = Told::new(ScriptWriter::new(alloc, &[fault, fault])?);
 /// let mut writer = LineSender::new(LineWriter::new(alloc, full)?);
 /// assert!(rt; writeln!(writer, "one").is_err());
 /// assert!(rt; writer.get_ref().buf_len() == 4);

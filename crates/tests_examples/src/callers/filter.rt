@@ -5,7 +5,7 @@ use std::alloc::Global;
 use std::io;
 use std::io::ErrorKind;
 use std::test::Fail;
-use tests_common::{Target, target, taken_lines};
+use tests_common::{Target, taken_lines, target};
 use uses::filter::matching;
 
 const FULL: Answer = Answer::Fail(ErrorKind::StorageFull);

@@ -1,4 +1,4 @@
-use Rattle.std.proofs.Common.{◌≡◌, [], ◌∷◌, ◌++◌, Err, refl, subst, ◌∙◌}
+use Rattle.std.proofs.Common.{[], ◌∷◌, ◌++◌, subst, ◌∙◌}
 use Rattle.std.proofs.lemmas.Result.{err_from_is_err_and}
 use Rattle.buffer_redux.specs.BufWriter.{BegunAlong, FrontAlong}
 use Rattle.buffer_redux.specs.WritesAlongLaws.{BegunAlong-after, BegunAlong-more, BegunAlong-of, FrontAlong-after, WritesAll-front, WritesAll-took, WritesAlong-none}
