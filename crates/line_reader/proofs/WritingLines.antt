@@ -1,14 +1,15 @@
 -- What the loop comes to that writes lines with their ends.
-use Rattle.std.proofs.Common.{◌≡◌, ℕ, ◌+◌, ◌<◌, ◌≤◌, List, [], ◌∷◌, ◌++◌, length, map, take, drop, sym, ap, subst, ◌∙◌, arith, append_assoc, append-nil, get_or, length-append}
+use Rattle.std.proofs.Common.{◌≡◌, ℕ, ◌+◌, ◌<◌, ◌≤◌, List, [], ◌∷◌, ◌++◌, length, map, take, drop, sym, ap, subst, refl, ◌∙◌, arith, append-nil, get_or, length-append}
 use Rattle.std.proofs.Math.Seq.{take-append-add}
 use Rattle.std.proofs.lemmas.Grind.{flat_map-append}
-use Rattle.std.proofs.lemmas.List.{map-append, take_all, take-append-drop, take-append-le}
+use Rattle.std.proofs.lemmas.List.{take_all, take-append-le, take-map}
 use Rattle.buffer_redux.specs.BufWriter.{WritesInOrder}
 use Rattle.buffer_redux.specs.Buffered.{Buffered}
 use Rattle.buffer_redux.specs.WriteAll.{TookBeginning}
 use Rattle.buffer_redux.specs.WriterLaws.{WritesInOrder-none, WritesInOrder-joins}
 use Rattle.line_reader.specs.Lines.{newline, with_end, with_ends}
-use Rattle.codec.specs.PayloadsLaws.{behind, before}
+use Rattle.line_reader.specs.WrittenLines.{StopsInLine}
+use Rattle.codec.specs.PayloadsLaws.{before, parted}
 
 -- so many lines were taken in
 pub record WroteLines {S P : Type 0} (stretch : S → S → Type 0) (s : Buffered S P) (lines : List (List ℕ)) (t : Buffered S P)
@@ -43,58 +44,43 @@ begins_all s t all wrote = record {
   in_order = subst (λ l. WritesInOrder s l t) (sym (take_all (length all) all (omega arith))) wrote;
 }
 
+-- a beginning of the line, or the line and a beginning of its end, is one of both
+module _ {S P : Type 0} (line : List ℕ) (s t : Buffered S P) where
+  pub line_begins : TookBeginning line s t → TookBeginning (with_end line) s t
+  line_begins took = begins_after s s t [] line (newline ∷ []) (with_end line) refl (WritesInOrder-none s) took
+
+  pub end_begins : (m : Buffered S P) → WritesInOrder s line m → TookBeginning (newline ∷ []) m t
+      → TookBeginning (with_end line) s t
+  end_begins m wrote took = begins_after s m t line (newline ∷ []) [] (with_end line) refl wrote took
+
 module _ {V : Type 0} (f : V → List ℕ) (vs : List V) (i : ℕ) (x : V) (inside : i < length vs)
-    (is : x ≡ get_or vs i x) where
-  done : List ℕ
-  done = with_ends (map f (take i vs))
+    (is : x ≡ get_or vs i x) {S P : Type 0} (stretch : S → S → Type 0)
+    (joins : (a b c : S) → stretch a b → stretch b c → stretch a c) (s m t : Buffered S P)
+    (so_far : WroteLines stretch s (map f (take i vs)) m) where
+  -- the next line was not taken in whole
+  pub stops_in : (taken : ℕ) → taken ≡ i → TookBeginning (with_end (f x)) m t → StopsInLine (map f vs) taken s t
+  stops_in taken count part =
+      let same : take taken (map f vs) ≡ map f (take i vs) = ap (λ n. take n (map f vs)) count ∙ take-map f i vs in record {
+        line = f x;
+        later = map f (drop (i + 1) vs);
+        all = parted f vs i x inside is ∙ ap (λ l. l ++ f x ∷ map f (drop (i + 1) vs)) (sym same);
+        between = m;
+        whole = subst (λ l. WritesInOrder s (with_ends l) m) (sym same) so_far.in_order;
+        part = part;
+      }
 
-  later : List ℕ
-  later = with_ends (map f (drop (i + 1) vs))
-
-  -- the next line is between those before it and those behind it
-  pub parts : with_ends (map f vs) ≡ with_ends (map f (take i vs)) ++ (with_end (f x) ++ with_ends (map f (drop (i + 1) vs)))
-  parts =
-      ap (λ l. with_ends (map f l)) (sym (take-append-drop i vs))
-      ∙ ap with_ends (map-append f (take i vs) (drop i vs))
-      ∙ flat_map-append with_end (map f (take i vs)) (map f (drop i vs))
-      ∙ ap (λ l. with_ends (map f (take i vs)) ++ with_ends l) (behind f vs i x inside is)
-
-  module _ {S P : Type 0} (stretch : S → S → Type 0) (joins : (a b c : S) → stretch a b → stretch b c → stretch a c)
-      (s m : Buffered S P) (so_far : WroteLines stretch s (map f (take i vs)) m) where
-    -- the line was refused
-    pub line_stops : (t : Buffered S P) → TookBeginning (f x) m t → TookBeginning (with_ends (map f vs)) s t
-    line_stops t took =
-        begins_after s m t (with_ends (map f (take i vs))) (f x) (newline ∷ with_ends (map f (drop (i + 1) vs)))
-        (with_ends (map f vs))
-        (parts ∙ ap (λ l. with_ends (map f (take i vs)) ++ l)
-        (append_assoc (f x) (newline ∷ []) (with_ends (map f (drop (i + 1) vs)))))
-        so_far.in_order took
-
-    module _ (t : Buffered S P) (wrote : WritesInOrder m (f x) t) where
-      -- its end was
-      pub end_stops : (u : Buffered S P) → TookBeginning (newline ∷ []) t u → TookBeginning (with_ends (map f vs)) s u
-      end_stops u took =
-          let front = WritesInOrder-joins s m t (with_ends (map f (take i vs))) (f x) so_far.in_order wrote in
-          begins_after s t u (with_ends (map f (take i vs)) ++ f x) (newline ∷ []) (with_ends (map f (drop (i + 1) vs)))
-          (with_ends (map f vs))
-          (parts ∙ ap (λ l. with_ends (map f (take i vs)) ++ l)
-          (append_assoc (f x) (newline ∷ []) (with_ends (map f (drop (i + 1) vs))))
-          ∙ sym (append_assoc (with_ends (map f (take i vs))) (f x) (newline ∷ with_ends (map f (drop (i + 1) vs)))))
-          front took
-
-      -- both were taken in
-      pub line_written : (u : Buffered S P) → WritesInOrder t (newline ∷ []) u → stretch m.inner t.inner
-          → stretch t.inner u.inner → WroteLines stretch s (map f (take (i + 1) vs)) u
-      line_written u ended went went' =
-          let one = WritesInOrder-joins m t u (f x) (newline ∷ []) wrote ended in
-          let all = WritesInOrder-joins s m u (with_ends (map f (take i vs))) (with_end (f x)) so_far.in_order one in
-          let same : with_ends (map f (take (i + 1) vs)) ≡ with_ends (map f (take i vs)) ++ with_end (f x) =
-          ap with_ends (before f vs i x inside is) ∙ flat_map-append with_end (map f (take i vs)) (f x ∷ [])
-          ∙ ap (λ l. with_ends (map f (take i vs)) ++ l) (append-nil (with_end (f x))) in
-          record {
-            in_order = subst (λ l. WritesInOrder s l u) (sym same) all;
-            went = joins s.inner m.inner u.inner so_far.went (joins m.inner t.inner u.inner went went');
-          }
+  -- it was
+  pub line_written : WritesInOrder m (with_end (f x)) t → stretch m.inner t.inner
+      → WroteLines stretch s (map f (take (i + 1) vs)) t
+  line_written one went =
+      let all = WritesInOrder-joins s m t (with_ends (map f (take i vs))) (with_end (f x)) so_far.in_order one in
+      let same : with_ends (map f (take (i + 1) vs)) ≡ with_ends (map f (take i vs)) ++ with_end (f x) =
+      ap with_ends (before f vs i x inside is) ∙ flat_map-append with_end (map f (take i vs)) (f x ∷ [])
+      ∙ ap (λ l. with_ends (map f (take i vs)) ++ l) (append-nil (with_end (f x))) in
+      record {
+        in_order = subst (λ l. WritesInOrder s l t) (sym same) all;
+        went = joins s.inner m.inner t.inner so_far.went went;
+      }
 
 -- before the first, and after the last
 pub none_written : {S P : Type 0} (stretch : S → S → Type 0) → ((x : S) → stretch x x) → (s : Buffered S P)

@@ -21,3 +21,4 @@ pub mod RunsLaws
 pub mod SkipLine
 pub mod Steps
 pub mod TextLaws
+pub mod WrittenLines

@@ -34,14 +34,14 @@ pub record CallsPlayed {S : Type 0} (remaining : S → Option (List ℕ)) (s : L
   pub all : map asked calls ≡ asks
   pub run : CallsGo remaining s calls t
 
--- the first of these calls were made, and the record gained all but the last, of which the answer is lost. Memory was wanted
--- for the line that it handed out, or for the record, which had room for so many
+-- the first of these calls were made, and the record gained them. It had room for so many, and was full, so no further call was
+-- begun; or one more was made, and the line that it handed out is lost
 pub record CallsStopped {S : Type 0} (remaining : S → Option (List ℕ)) (s : Lining S) (asks : List Ask) (room : ℕ)
     (old new : List Call) (t : Lining S) : Type 0 where
   pub calls : List Call
   pub gained : new ≡ old ++ calls
-  pub lost : Call
+  pub next : Ask
   pub more : List Ask
-  pub front : asks ≡ map asked (calls ++ lost ∷ []) ++ more
-  pub wanted : (0 < length (call_lines lost)) ⊎ (room ≤ length new)
-  pub run : CallsGo remaining s (calls ++ lost ∷ []) t
+  pub front : asks ≡ map asked calls ++ next ∷ more
+  pub wanted : (CallsGo remaining s calls t × (room ≤ length new))
+      ⊎ ((lost : Call) × (asked lost ≡ next) × (0 < length (call_lines lost)) × CallsGo remaining s (calls ++ lost ∷ []) t)

@@ -20,7 +20,7 @@ mod runs;
 use crate::reader::LineReader;
 use buffer_redux::tell::TellRead;
 pub use calls::{Ask, Played, play_calls};
-pub use codec::laws::{KnownReader, PayloadReader, play_next, read_each};
+pub use codec::laws::{KnownReader, PayloadReader, WriteEachError, play_next, read_each};
 pub use lists::{round_trip, write_each};
 
 /// A text is cut into lines in one way.

@@ -31,8 +31,8 @@ pub enum Played {
 /// Makes these calls, whatever they return, and adds each with its answer to `played`. What was given, cut at the ends of its
 /// lines, is the lines that were handed out and those that were skipped, then what is left (`whole_lines`).
 ///
-/// An `Err` is refused memory, for a line that was handed out, or where the record is full: then the answer of the last call
-/// that was made is lost.
+/// An `Err` is refused memory. Room in the record is made before a call, where there is none: where that was refused, no further
+/// call was begun. Where it was the memory for a line, that was handed out and is lost.
 pub fn play_calls<R: TellRead>(
     alloc: Global,
     reader: &mut LineReader<R>,
@@ -45,8 +45,8 @@ pub fn play_calls<R: TellRead>(
         (map kept_call played.old.items) (map kept_call played.new.items) reader.new) }
 {
     for ask in asks {
-        let call = play_one(alloc, reader, *ask)?;
-        played.push(call)?;
+        played.reserve(1)?;
+        played.push_reserved(play_one(alloc, reader, *ask)?);
     }
     Ok(())
 }

@@ -3,31 +3,57 @@ ghost use Rattle.std.specs.Prelude.{◌≡◌, map, IfOk, IfErr, OnOk};
 ghost use Rattle.std.specs.List.{All};
 ghost use Rattle.buffer_redux.specs.BufWriter.{WritesInOrder, WriterStopped};
 ghost use Rattle.buffer_redux.specs.Faults.{IsMemory};
+ghost use Rattle.buffer_redux.specs.LogGrows.{WriteLogGrows};
 ghost use Rattle.buffer_redux.specs.WriteAll.{TookBeginning};
 ghost use Rattle.line_reader.specs.KnownLines.{BufferRefused};
-ghost use Rattle.line_reader.specs.Lines.{FitsLine, with_ends};
+ghost use Rattle.line_reader.specs.Lines.{FitsLine, with_end, with_ends};
+ghost use Rattle.line_reader.specs.WrittenLines.{StopsInLine};
 
 use crate::reader::LineReader;
 use buffer_redux::LineWriter;
 use buffer_redux::tell::{MemoryReader, MemoryWriter, TellWrite};
-use codec::laws::read_each;
+use codec::laws::{WriteEachError, read_each};
 use std::alloc::Global;
 use std::io;
 use std::io::Write;
 
-/// Writes each line, and its end, up to the first `Err`, which is one of the inner writer. What was taken in then is a beginning
-/// of all that was to be. Nothing is flushed.
-pub fn write_each<W: TellWrite>(writer: &mut LineWriter<W>, lines: &[Vec<u8>]) -> io::Result<()>
+/// Writes each line, and its end, up to the first `Err`, which is one of the inner writer, and says how many lines were taken in
+/// before. A beginning of the next one may have been too, and no call tells how much: who goes on with that line may write this
+/// beginning twice. Nothing is flushed.
+pub fn write_each<W: TellWrite>(
+    writer: &mut LineWriter<W>,
+    lines: &[Vec<u8>],
+) -> Result<(), WriteEachError<io::Error>>
     ensures written { OnOk result (WritesInOrder writer.old (with_ends (map (λ v. v.items) lines.now)) writer.new) }
-    ensures beginning { TookBeginning (with_ends (map (λ v. v.items) lines.now)) writer.old writer.new }
-    ensures caused { IfErr result (WriterStopped writer.old.log.writes writer.new.log.writes) }
+    ensures stopped { IfErr result (λ e.
+        StopsInLine (map (λ v. v.items) lines.now) e.taken writer.old writer.new) }
+    ensures caused { IfErr result (λ e. WriterStopped writer.old.log.writes writer.new.log.writes e.error) }
     ensures not_flushed { writer.new.log.writes.flushed ≡ writer.old.log.writes.flushed }
     ensures stretch { W.stretch writer.old.inner writer.new.inner }
 {
+    let mut taken = 0usize;
     for line in lines {
-        writer.write_all(line)?;
-        writer.write_all(b"\n")?;
+        match write_line(writer, line) {
+            Ok(()) => {
+                taken += 1;
+            }
+            Err(error) => return Err(WriteEachError { taken, error }),
+        }
     }
+    Ok(())
+}
+
+// Writes one, and its end.
+fn write_line<W: TellWrite>(writer: &mut LineWriter<W>, line: &[u8]) -> io::Result<()>
+    ensures written { OnOk result (WritesInOrder writer.old (with_end line.now) writer.new) }
+    ensures beginning { TookBeginning (with_end line.now) writer.old writer.new }
+    ensures caused { IfErr result (WriterStopped writer.old.log.writes writer.new.log.writes) }
+    ensures grows { WriteLogGrows writer.old.log.writes writer.new.log.writes }
+    ensures not_flushed { writer.new.log.writes.flushed ≡ writer.old.log.writes.flushed }
+    ensures stretch { W.stretch writer.old.inner writer.new.inner }
+{
+    writer.write_all(line)?;
+    writer.write_all(b"\n")?;
     Ok(())
 }
 
@@ -51,7 +77,10 @@ fn written(alloc: Global, lines: &[Vec<u8>]) -> io::Result<Vec<u8>>
     let wrote = write_each(&mut writer, lines);
     // What it tells is what the stream inside tells, which says why that failed.
     let _ = writer.get_ref();
-    wrote?;
+    match wrote {
+        Ok(()) => {}
+        Err(e) => return Err(e.error),
+    }
     Ok(writer.into_inner()?.into_vec())
 }
 

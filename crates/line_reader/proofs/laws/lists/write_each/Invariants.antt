@@ -8,4 +8,5 @@ invariant-loop-line g l = record {
   wrote : WroteLines g.W.TellWrite.stretch l.fn.writer (map (λ v. v.items) (take l.line-index l.lines)) l.writer;
   grows : WriteLogGrows l.fn.writer.log.writes l.writer.log.writes;
   same_flushed : l.writer.log.writes.flushed ≡ l.fn.writer.log.writes.flushed;
+  count : l.taken ≡ l.line-index;
 }
