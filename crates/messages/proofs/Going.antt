@@ -3,18 +3,13 @@ use Rattle.std.proofs.Common.{◌≡◌, ℕ, ◌+◌, List, [], ◌++◌, lengt
 use Rattle.std.proofs.lemmas.List.{append_cancel_left, nil_from_length}
 use Rattle.buffer_redux.specs.Policy.{ReadRules}
 use Rattle.buffer_redux.specs.Unbuffer.{Unbuffered, unbuffered}
-use Rattle.buffer_redux.specs.UnbufferLaws.{ReadsAlong-stream, StreamWent-none}
+use Rattle.buffer_redux.specs.UnbufferLaws.{ReadsAlong-stream}
 use Rattle.chunked.specs.Body.{IsBody}
 use Rattle.chunked.specs.Dechunking.{BodyWent, Dechunking, IsDechunking, IsWhole, handed_of}
 use Rattle.chunked.specs.DechunkingLaws.{body_done}
 use Rattle.chunked.specs.Place.{Completes}
 use Rattle.chunked.specs.declared.place.Place.TheVariants.{Line}
 use Rattle.messages.specs.Messages.{Bytes, Chunks, Ends, IsRest, Onward, Rest, Takes}
-
-module _ {S : Type 0} (remaining : S → Option (List ℕ)) where
-  -- nothing was taken
-  pub takes_none : (s : Unbuffered S) (r : Rest) → Takes remaining s r [] s r
-  takes_none s r = record { wire = []; went = StreamWent-none remaining s; onward = λ later payload is. is }
 
 -- some of so many bytes
 pub bytes_onward : (left : ℕ) (wire : List ℕ) (left' : ℕ) → length wire + left' ≡ left

@@ -10,8 +10,7 @@ use Rattle.messages.specs.declared.requests.Stop.{Stop}
 use Rattle.messages.specs.declared.requests.Stop.TheVariants.{Ended, Bad, Io}
 use Rattle.messages.specs.Heads.{IsHead, heads}
 use Rattle.messages.specs.Messages.{Begun, Ends, InBody, InsideGoes, MessageBegun, MessageWent, Onward, answer_of, body_of}
-use Rattle.messages.specs.MessagesLaws.{MessageWent-of}
-use Rattle.messages.proofs.Going.{takes_none}
+use Rattle.messages.specs.MessagesLaws.{MessageWent-of, Takes-none}
 
 module _ {S : Type 0} (remaining : S → Option (List ℕ)) (s : Piecing S head.Heads) where
   -- a call that goes into no message takes nothing
@@ -31,7 +30,7 @@ module _ {S : Type 0} (remaining : S → Option (List ℕ)) (s : Piecing S head.
   module _ (b : InBody S) (begun : Begun remaining s b) where
     pub passed : (t : Unbuffered S) → (ends : Ends remaining b.stream b.rest t)
         → MessageWent remaining (left_of s) b.head ([] ++ ends.payload) t
-    passed t ends = MessageWent-of remaining s b b [] t begun (takes_none remaining b.stream b.rest) ends
+    passed t ends = MessageWent-of remaining s b b [] t begun (Takes-none remaining b.stream b.rest) ends
 
     pub stopped_inside : (handed : List ℕ) (t : InBody S) → InsideGoes remaining b handed t
         → MessageBegun remaining (left_of s) t

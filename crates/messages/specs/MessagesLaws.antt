@@ -15,7 +15,7 @@ use Rattle.messages.specs.declared.head.Heads as head
 use Rattle.messages.specs.declared.head.Said.{Said}
 use Rattle.messages.specs.Heads.{IsHead, extent_of}
 use Rattle.messages.specs.HeadsLaws.{heads_lawful}
-use Rattle.messages.specs.Messages.{AreMessages, Begun, Ends, InBody, IsMessage, IsRest, Message, MessageWent, MessagesWent, Rest, Takes, body_of}
+use Rattle.messages.specs.Messages.{AreMessages, Begun, Ends, InBody, InsideGoes, IsMessage, IsRest, Message, MessageWent, MessagesWent, Rest, Takes, body_of}
 
 -- of two texts that begin so and have one length
 split : (a b xs ys : List ℕ) → length a ≡ length b → a ++ xs ≡ b ++ ys → (a ≡ b) × (xs ≡ ys)
@@ -78,6 +78,9 @@ one_cut (m ∷ ms) (n ∷ ns) a b xs ys many (f, x, is, are, equal) (k, y, is', 
 
 module _ {S : Type 0} (remaining : S → Option (List ℕ)) where
   -- calls in a body go on
+  pub Takes-none : (s : Unbuffered S) (r : Rest) → Takes remaining s r [] s r
+  Takes-none s r = record { wire = []; went = StreamWent-none remaining s; onward = λ later payload is. is }
+
   pub Takes-joins : (s m t : Unbuffered S) (r q u : Rest) (h k : List ℕ) → Takes remaining s r h m q
       → Takes remaining m q k t u → Takes remaining s r (h ++ k) t u
   Takes-joins s m t r q u h k a b = record {
@@ -87,6 +90,17 @@ module _ {S : Type 0} (remaining : S → Option (List ℕ)) where
         subst (λ l. IsRest r l ((h ++ k) ++ payload)) (sym (append_assoc a.wire b.wire later))
         (subst (λ l. IsRest r (a.wire ++ (b.wire ++ later)) l) (sym (append_assoc h k payload))
         (a.onward (b.wire ++ later) (k ++ payload) (b.onward later payload is)));
+  }
+
+  pub InsideGoes-none : (b : InBody S) → InsideGoes remaining b [] b
+  InsideGoes-none b = record { takes = Takes-none b.stream b.rest; head = refl; said = refl }
+
+  pub InsideGoes-joins : (s m t : InBody S) (h k : List ℕ) → InsideGoes remaining s h m → InsideGoes remaining m k t
+      → InsideGoes remaining s (h ++ k) t
+  InsideGoes-joins s m t h k a b = record {
+    takes = Takes-joins s.stream m.stream t.stream s.rest m.rest t.rest h k a.takes b.takes;
+    head = b.head ∙ a.head;
+    said = b.said ∙ a.said;
   }
 
   -- whatever was read of it, a message that is begun and ended went whole

@@ -1,0 +1,66 @@
+use Rattle.std.proofs.Common.{◌≡◌, ℕ, ◌+◌, ◌<◌, ◌≤◌, List, [], ◌++◌, length, take, Result, Ok, Err, IfOk, refl, arith, rules, ◌∙◌, length-append}
+use Rattle.std.proofs.lemmas.List.{length-take-le}
+use Rattle.messages.specs.declared.error.BodyError.{BodyError}
+use Rattle.messages.specs.Messages.{handed_out}
+use Rattle.messages.specs.MessagesLaws.{InsideGoes-joins, InsideGoes-none}
+use Rattle.requests.proofs.payload_len.Goals as goal
+use Rattle.requests.proofs.payload_len.Goals.{in-Ok+in-Some, in-Err+else-not-is_interrupted}
+
+some : (out : List ℕ) (answer : Result ℕ BodyError) (n : ℕ) → answer ≡ Ok n → IfOk answer (λ m. m ≤ length out)
+    → length (handed_out out answer) ≡ n
+some out (Ok m) n same fits = (let one : m ≡ n = cc in length-take-le m out fits ∙ one)
+some out (Err e) n same fits = cc
+
+none : (out : List ℕ) (answer : Result ℕ BodyError) (e : BodyError) → answer ≡ Err e → length (handed_out out answer) ≡ 0
+none out (Ok m) e same = cc
+none out (Err x) e same = refl
+
+pub loop-read-init : goal.loop-read-init
+loop-read-init g c =
+    record { payload = []; goes = InsideGoes-none g.R.TellRead.remaining c.args.body.now; many = refl }
+
+pub loop-read-preserved : goal.loop-read-preserved
+loop-read-preserved g c =
+    let before = c.loop-read.invariant in
+    let handed = handed_out c.read.new.out c.read.result in
+    let both = length-append before.payload handed in
+    record {
+      payload = before.payload ++ handed;
+      goes = InsideGoes-joins g.R.TellRead.remaining c.args.body.now c.loop-read.body c.read.new.self before.payload handed
+          before.goes c.read.ensures.goes;
+      many = elim c.match-read.branch [
+        | in-Ok+in-Some w ↦
+            (let is : c.read.result ≡ Ok w.in-Ok.count = cc in
+            omega (
+              arith,
+              both,
+              before.many,
+              some c.read.new.out c.read.result w.in-Ok.count is c.read.ensures.bound,
+              w.in-Some.ensures,
+            ))
+        | in-Err+else-not-is_interrupted w ↦
+            (let is : c.read.result ≡ Err w.in-Err.e = cc in
+            omega (arith, both, before.many, none c.read.new.out c.read.result w.in-Err.e is))
+      ];
+    }
+
+pub returns-in-Ok-eq0 : goal.returns-in-Ok-eq0
+returns-in-Ok-eq0 g c =
+    let before = c.loop-read.invariant in
+    let handed = handed_out c.read.new.out c.read.result in
+    let zero : c.read.result ≡ Ok 0 = cc in
+    let room : 0 < length c.read.new.out = search rules in
+    record {
+      whole = (
+        before.payload ++ handed,
+        InsideGoes-joins g.R.TellRead.remaining c.args.body.now c.loop-read.body c.read.new.self before.payload handed
+            before.goes c.read.ensures.goes,
+        omega (
+          arith,
+          length-append before.payload handed,
+          before.many,
+          some c.read.new.out c.read.result 0 zero c.read.ensures.bound,
+        ),
+        c.read.ensures.ended zero room,
+      );
+    }
