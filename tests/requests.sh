@@ -1,0 +1,276 @@
+# sh tests/requests.sh [built]
+#
+# What the program `requests` answers. Rows that need no peer: heads that may be read in two ways, bodies that are cut short, and
+# requests that are cut at each byte, of which each row says the statuses that are wanted, by RFC 9112. And real peers, over
+# sockets of the loopback, for which it wants python3: http.client, curl, and node's http, each left out where it isn't there.
+#
+# `built` says that `rt ci` has just built it; else it is proved and built first. It writes nothing into the repository but what
+# rt builds in the folder out/, and ends with status 0 only where each run ended well.
+set -u
+built=${1-}
+
+cd "$(dirname "$0")/.." || exit 1
+scratch=$(mktemp -d) || exit 1
+failed=0
+runs=0
+program=$PWD/crates/requests/out/requests
+server=
+
+cleans() {
+    if [ -n "$server" ]; then kill "$server" 2> "$scratch/none"; fi
+    rm -rf "$scratch"
+}
+trap cleans EXIT
+
+if [ "$built" != built ] || [ ! -x "$program" ]; then
+    (cd crates/requests && rt run < stdin) > "$scratch/log" 2>&1 || {
+        tail -n 40 "$scratch/log" >&2
+        echo "requests: it is not built" >&2
+        exit 1
+    }
+fi
+
+wrong() { # what is said of it
+    echo "requests: $1" >&2
+    failed=1
+}
+
+# The statuses, and for a 200 with a payload its length, in order.
+answers() { # the file that came in
+    "$program" < "$1" > "$scratch/out" 2> "$scratch/err" || wrong "status $?"
+    tr -d '\r' < "$scratch/out" | awk '/^HTTP/ { printf "%s%s", sep, $2; sep = " " } /^ *[0-9]+$/ { printf ":%d", $1 }'
+}
+
+# A row: what comes in, as `printf %b` writes it, and what is wanted.
+row() {
+    printf '%b' "$1" > "$scratch/in"
+    got=$(answers "$scratch/in")
+    runs=$((runs + 1))
+    if [ "$got" != "$2" ]; then wrong "'$got', not '$2', of $(printf '%.90s' "$1")"; fi
+}
+
+H='Host: a\r\n'
+P="POST / HTTP/1.1\r\n$H"
+G="GET /smuggled HTTP/1.1\r\n$H\r\n"
+C='Transfer-Encoding: chunked\r\n'
+
+# One reading.
+row "$G" '200:0'
+row "${P}Content-Length: 5\r\n\r\nhello$G" '200:5 200:0'
+row "${P}Content-Length: 0\r\n\r\n$G" '200:0 200:0'
+row "${P}content-length:\t5 \r\n\r\nhello$G" '200:5 200:0'
+row "${P}$C\r\n3\r\nabc\r\n0\r\n\r\n$G" '200:3 200:0'
+row "${P}transfer-encoding: CHUNKED\r\n\r\n3;a=b\r\nabc\r\n00\r\nT: v\r\n\r\n$G" '200:3 200:0'
+row "${P}Content-Length: 35\r\n\r\n$G$G" '200:35 200:0'
+row "${P}$C\r\n23\r\n$G\r\n0\r\n\r\n$G" '200:35 200:0'
+row "HEAD / HTTP/1.1\r\n$H\r\n$G" '200 200:0'
+
+# None.
+row "${P}Content-Length: 5\r\nContent-Length: 5\r\n\r\nhello$G" '400'
+row "${P}Content-Length: 5\r\nContent-Length: 6\r\n\r\nhello$G" '400'
+row "${P}Content-Length: 5, 5\r\n\r\nhello$G" '400'
+row "${P}Content-Length: 5, 6\r\n\r\nhello$G" '400'
+row "${P}Content-Length: +5\r\n\r\nhello$G" '400'
+row "${P}Content-Length: -5\r\n\r\nhello$G" '400'
+row "${P}Content-Length: 0x5\r\n\r\nhello$G" '400'
+row "${P}Content-Length: 5 5\r\n\r\nhello$G" '400'
+row "${P}Content-Length: 5.0\r\n\r\nhello$G" '400'
+row "${P}Content-Length: \r\n\r\n$G" '400'
+row "${P}Content-Length: 18446744073709551616\r\n\r\n$G" '400'
+row "${P}Content-Length : 5\r\n\r\nhello$G" '400'
+row "${P}Content-Length: 5\r\n$C\r\n0\r\n\r\n$G" '400'
+row "${P}${C}Content-Length: 5\r\n\r\n0\r\n\r\n$G" '400'
+row "${P}$C$C\r\n0\r\n\r\n$G" '400'
+row "${P}Transfer-Encoding: chunked, chunked\r\n\r\n0\r\n\r\n$G" '400'
+row "${P}Transfer-Encoding: chunked, gzip\r\n\r\n0\r\n\r\n$G" '400'
+row "${P}Transfer-Encoding: gzip\r\n\r\n0\r\n\r\n$G" '400'
+row "${P}Transfer-Encoding: identity\r\n\r\n$G" '400'
+row "${P}Transfer-Encoding: xchunked\r\n\r\n0\r\n\r\n$G" '400'
+row "${P}Transfer-Encoding: chunked;q=1\r\n\r\n0\r\n\r\n$G" '400'
+row "${P}Transfer-Encoding: \"chunked\"\r\n\r\n0\r\n\r\n$G" '400'
+row "${P}Transfer-Encoding:\013chunked\r\n\r\n0\r\n\r\n$G" '400'
+row "${P}Transfer-Encoding : chunked\r\n\r\n0\r\n\r\n$G" '400'
+row "${P} Transfer-Encoding: chunked\r\n\r\n0\r\n\r\n$G" '400'
+row "${P}X: a\r\n Transfer-Encoding: chunked\r\n\r\n0\r\n\r\n$G" '400'
+row "${P}X: a\r\n\tb\r\n\r\n$G" '400'
+row "POST / HTTP/1.0\r\n$C\r\n0\r\n\r\n$G" '400'
+row "GET / HTTP/1.1\nHost: a\n\n$G" '400'
+row "GET / HTTP/1.1\r\nHost: a\n\r\n$G" '400'
+row "GET / HTTP/1.1\r\nHost: a\r\n\n$G" '400'
+row "GET / HTTP/1.1\r\nHost: a\r\rX: b\r\n\r\n$G" '400'
+row "GET / HTTP/1.1\r\n\r\n$G" '400'
+row "GET / HTTP/1.1\r\n$H$H\r\n$G" '400'
+row "GET / HTTP/1.1\r\n$H: x\r\n\r\n$G" '400'
+row "GET / HTTP/1.1\r\n${H}X\r\n\r\n$G" '400'
+row "GET / HTTP/1.2\r\n$H\r\n$G" '400'
+row "GET / HTTP/2.0\r\n$H\r\n$G" '400'
+row "GET / HTTP/1.1 \r\n$H\r\n$G" '400'
+row "CONNECT a:1 HTTP/1.1\r\n$H\r\n$G" '400'
+row "${P}$C\r\n+3\r\nabc\r\n0\r\n\r\n$G" '400'
+row "${P}$C\r\n0x3\r\nabc\r\n0\r\n\r\n$G" '400'
+row "${P}$C\r\n3 \r\nabc\r\n0\r\n\r\n$G" '400'
+row "${P}$C\r\n3\nabc\r\n0\r\n\r\n$G" '400'
+row "${P}$C\r\n3\r\nabcd\r\n0\r\n\r\n$G" '400'
+row "${P}$C\r\n3\r\nabc0\r\n\r\n$G" '400'
+row "${P}$C\r\n3;a\nb\r\nabc\r\n0\r\n\r\n$G" '400'
+row "${P}$C\r\nfffffffffffffffff\r\nabc" '400'
+row "${P}$C\r\n0\r\nT v\r\n\r\n$G" '400'
+
+# Cut short.
+row "GET / HTTP/1.1\r\n${H}X: " '400'
+row "${P}Content-Length: 5\r\n\r\nhel" '400'
+row "${P}$C\r\n5\r\nhel" '400'
+row "${P}$C\r\n5\r\nhello\r\n" '400'
+
+# What ends behind the answer, and what goes on.
+row "GET / HTTP/1.1\r\n${H}Connection: close\r\n\r\n$G" '200:0'
+row "GET / HTTP/1.1\r\n${H}Connection: x, CLOSE\r\n\r\n$G" '200:0'
+row "GET / HTTP/1.0\r\n\r\n$G" '200:0'
+row "GET / HTTP/1.0\r\nConnection: keep-alive\r\n\r\n$G" '200:0 200:0'
+row "${P}Expect: 100-continue\r\nContent-Length: 5\r\n\r\nhello$G" '100 200:5 200:0'
+row "${P}Expect: 100-continue\r\n\r\n$G" '200:0 200:0'
+
+# Cut at each byte: what comes before the cut is answered as far as it is whole.
+printf '%b' "${P}Content-Length: 5\r\n\r\nhello${P}$C\r\n3\r\nabc\r\n0\r\n\r\n$G" > "$scratch/all"
+size=$(wc -c < "$scratch/all")
+one=$(printf '%b' "${P}Content-Length: 5\r\n\r\nhello" | wc -c)
+two=$((one + $(printf '%b' "${P}$C\r\n3\r\nabc\r\n0\r\n\r\n" | wc -c)))
+at=0
+while [ "$at" -le "$size" ]; do
+    head -c "$at" "$scratch/all" > "$scratch/in"
+    want=
+    if [ "$at" -ge "$one" ]; then want='200:5'; fi
+    if [ "$at" -ge "$two" ]; then want='200:5 200:3'; fi
+    if [ "$at" -eq "$size" ]; then
+        want='200:5 200:3 200:0'
+    elif [ "$at" -ne 0 ] && [ "$at" -ne "$one" ] && [ "$at" -ne "$two" ]; then
+        want="$want${want:+ }400"
+    fi
+    got=$(answers "$scratch/in")
+    runs=$((runs + 1))
+    if [ "$got" != "$want" ]; then wrong "'$got', not '$want', cut at $at"; fi
+    at=$((at + 1))
+done
+echo "requests: $runs rows"
+
+# Real peers.
+has() {
+    if command -v "$1" > "$scratch/none"; then return 0; fi
+    echo "requests: no $1, so left out: $2"
+    return 1
+}
+
+has python3 'all peers' || exit "$failed"
+python3 - "$program" "$scratch/port" << 'LISTENER' &
+import os, signal, socket, sys
+signal.signal(signal.SIGCHLD, signal.SIG_IGN)
+at = socket.create_server(('127.0.0.1', 0))
+with open(sys.argv[2] + '.new', 'w') as port:
+    port.write(str(at.getsockname()[1]))
+os.rename(sys.argv[2] + '.new', sys.argv[2])
+while True:
+    to, _ = at.accept()
+    if os.fork() == 0:
+        os.dup2(to.fileno(), 0)
+        os.dup2(to.fileno(), 1)
+        os.execv(sys.argv[1], [sys.argv[1]])
+    to.close()
+LISTENER
+server=$!
+tries=0
+while [ ! -s "$scratch/port" ]; do
+    tries=$((tries + 1))
+    if [ "$tries" -gt 100 ]; then
+        wrong 'nobody listens'
+        exit 1
+    fi
+    sleep 0.1
+done
+port=$(cat "$scratch/port")
+url=http://127.0.0.1:$port/
+
+counts() { # what was said, the lengths wanted, in a line
+    runs=$((runs + 1))
+    got=$(tr -d '\r' < "$scratch/out" | awk '/^ *[0-9]+$/ { printf "%s%d", sep, $1; sep = " " }')
+    if [ "$got" != "$2" ]; then wrong "$1: '$got', not '$2'"; fi
+}
+
+# Each byte a write of its own.
+runs=$((runs + 1))
+python3 - "$port" "$scratch/all" << 'PEER' || wrong 'byte by byte'
+import socket, sys
+to = socket.create_connection(('127.0.0.1', int(sys.argv[1])))
+to.setsockopt(socket.IPPROTO_TCP, socket.TCP_NODELAY, 1)
+for byte in open(sys.argv[2], 'rb').read():
+    to.sendall(bytes([byte]))
+to.shutdown(socket.SHUT_WR)
+got = b''
+while more := to.recv(4096):
+    got += more
+assert got.count(b'HTTP/1.1 200 OK') == 3 and b' 400 ' not in got, got
+PEER
+
+# A thousand in one write.
+runs=$((runs + 1))
+python3 - "$port" << 'PEER' || wrong 'a thousand at once'
+import socket, sys
+to = socket.create_connection(('127.0.0.1', int(sys.argv[1])))
+to.sendall(b'GET / HTTP/1.1\r\nHost: a\r\n\r\n' * 1000)
+to.shutdown(socket.SHUT_WR)
+got = b''
+while more := to.recv(65536):
+    got += more
+assert got.count(b'HTTP/1.1 200 OK') == 1000 and b' 400 ' not in got
+PEER
+
+if has curl 'its requests'; then
+    head -c 200000 /dev/zero > "$scratch/body"
+    curl -sS -m 20 "$url" "$url" "$url" > "$scratch/out" || wrong 'curl, several'
+    counts 'curl, several' '0 0 0'
+    curl -sS -m 20 -v "$url" "$url" 2>&1 > "$scratch/out" | grep -qi 're-us' || wrong 'curl makes a connection for each'
+    curl -sS -m 20 -T "$scratch/body" "$url" "$url" > "$scratch/out" || wrong 'curl, a length'
+    counts 'curl, a length' '200000 0'
+    curl -sS -m 20 -T - "$url" < "$scratch/body" > "$scratch/out" || wrong 'curl, in chunks'
+    counts 'curl, in chunks' '200000'
+    curl -sS -m 20 -H 'Expect: 100-continue' -d hello "$url" > "$scratch/out" || wrong 'curl waits'
+    counts 'curl waits' '5'
+    curl -sS -m 20 -I "$url" > "$scratch/out" || wrong 'curl, HEAD'
+    counts 'curl, HEAD' ''
+    curl -sS -m 20 -0 "$url" > "$scratch/out" || wrong 'curl, HTTP/1.0'
+    counts 'curl, HTTP/1.0' '0'
+fi
+
+python3 - "$port" > "$scratch/out" << 'PEER' || wrong 'http.client'
+import http.client, sys
+to = http.client.HTTPConnection('127.0.0.1', int(sys.argv[1]), timeout=20)
+for body in (None, b'hello', iter([b'ab', b'cde']), b'x' * 70000):
+    to.request('POST', '/', body=body)
+    print(to.getresponse().read().decode(), end='')
+PEER
+counts 'http.client' '0 5 5 70000'
+
+if has node 'its http'; then
+    node - "$port" > "$scratch/out" << 'PEER' || wrong 'node'
+const http = require('http');
+const agent = new http.Agent({ keepAlive: true, maxSockets: 1 });
+function ask(parts, fields) {
+    return new Promise((done, fail) => {
+        const to = http.request({ host: '127.0.0.1', port: process.argv[2], method: 'POST', agent, headers: fields });
+        to.on('error', fail);
+        to.on('response', (from) => from.on('data', (text) => process.stdout.write(text)).on('end', done));
+        for (const part of parts) to.write(part);
+        to.end();
+    });
+}
+(async () => {
+    await ask(['hello'], { 'Content-Length': 5 });
+    await ask(['ab', 'cde', 'f'.repeat(70000)], {});
+    await ask([], {});
+    agent.destroy();
+})();
+PEER
+    counts 'node' '5 70005 0'
+fi
+
+echo "requests: $runs runs"
+exit "$failed"
