@@ -32,12 +32,15 @@ impl<V: fmt::Debug + fmt::Display + Drop, W: fmt::Debug + fmt::Display + Drop> E
 /// The pieces of `one` that begin with `byte`, and those of `other` that don't. Either may be such a choice again.
 ///
 /// ```
-/// let lines = Delimited { end: b'\n', max: 9 };
 /// let mixed = ByFirst {
 ///     byte: b'$',
-///     one: ByHead(ByText(BulkStrings { max: 100 })),
-///     other: lines,
+///     one: ByHead(ByText(BulkStrings { max: 9 })),
+///     other: Delimited { end: b'\n', max: 9 },
 /// };
+/// let stream = Told::new(b"one\n$2\r\nhi\r\n".as_slice());
+/// let mut reader = PieceReader::new(alloc, stream, mixed)?;
+/// assert!(rt; matches!(reader.step_item(), Ok(Some((false, _)))));
+/// assert!(rt; matches!(reader.step_item(), Ok(Some((true, _)))));
 /// ```
 #[derive(Clone, Copy, Debug, Drop)]
 pub struct ByFirst<A: Decoder, B: Decoder> {

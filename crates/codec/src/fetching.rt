@@ -21,11 +21,13 @@ use std::io::Write;
 ///
 /// ```
 /// let lines = Delimited { end: b'\n', max: 9 };
-/// let mut reader = PieceReader::new(alloc, Told::new(b"one\ntwo\n".as_slice()), lines)?;
+/// let mut reader = PieceReader::new(alloc, Told::new(b"one\n".as_slice()), lines)?;
 /// let mut writer = BufWriter::new(alloc, Told::new(Vec::new(alloc)))?;
-/// while let Ok(Some(span)) = fetch(&mut reader, &mut writer)? {
+/// if let Ok(Some(span)) = fetch(&mut reader, &mut writer)? {
 ///     writer.write_all(reader.lent(span))?;
 /// }
+/// assert!(rt; matches!(fetch(&mut reader, &mut writer)?, Ok(None)));
+/// assert!(rt; writer.get_ref().get_ref().as_slice() == b"one".as_slice());
 /// ```
 pub fn fetch<R: TellRead, D: Decoder, W: TellWrite, P: WriterPolicy>(
     reader: &mut PieceReader<R, D>,

@@ -13,6 +13,8 @@ mod pieces;
 #[cfg(test)]
 mod ready;
 #[cfg(test)]
+mod served;
+#[cfg(test)]
 mod skipped;
 #[cfg(test)]
 mod sweep;

@@ -18,6 +18,15 @@ fn buf_writer(rt: HostRuntime) -> Result<(), Fail> {
 }
 
 #[test]
+fn write_parts(rt: HostRuntime) -> Result<(), Fail> {
+    let alloc = rt.alloc();
+    let mut writer = BufWriter::with_capacity(alloc, 4, Told::new(Vec::new(alloc)))?;
+    writer.write_parts(&[b"$2", b"\r\n", b"hi"])?;
+    assert!(rt; writer.buffer() == b"$2\r\nhi".as_slice());
+    Ok(())
+}
+
+#[test]
 fn line_writer(rt: HostRuntime) -> Result<(), Fail> {
     let alloc = rt.alloc();
     let mut writer = LineWriter::new(alloc, Told::new(Vec::new(alloc)))?;

@@ -1,0 +1,95 @@
+//! Pieces of several kinds, and steps before which a writer is flushed.
+use buffer_redux::BufWriter;
+use buffer_redux::tell::Told;
+use codec::{ByFirst, ByHead, ByScan, ByText, Delimited, PieceReader, fetch};
+use decoders::{BulkStrings, NullableStrings, Resp, RespItem};
+use std::io::Write;
+use std::test::Fail;
+
+#[test]
+fn fetched(rt: HostRuntime) -> Result<(), Fail> {
+    let alloc = rt.alloc();
+    let lines = Delimited { end: b'\n', max: 9 };
+    let mut reader = PieceReader::new(alloc, Told::new(b"one\n".as_slice()), lines)?;
+    let mut writer = BufWriter::new(alloc, Told::new(Vec::new(alloc)))?;
+    if let Ok(Some(span)) = fetch(&mut reader, &mut writer)? {
+        writer.write_all(reader.lent(span))?;
+    }
+    assert!(rt; matches!(fetch(&mut reader, &mut writer)?, Ok(None)));
+    assert!(rt; writer.get_ref().get_ref().as_slice() == b"one".as_slice());
+    drop(writer);
+    Ok(drop(reader))
+}
+
+fn echo(
+    reader: &mut PieceReader<Told<&[u8]>, Delimited>,
+    writer: &mut BufWriter<Told<Vec<u8>>>,
+) -> Result<(), Fail> {
+    for _ in 0..u64::MAX {
+        let next = match reader.step_buffered() {
+            Some(span) => Some(span),
+            None => {
+                writer.flush()?;
+                reader.step()?
+            }
+        };
+        match next {
+            Some(span) => writer.write_all(reader.lent(span))?,
+            None => return Ok(()),
+        }
+    }
+    Ok(())
+}
+
+#[test]
+fn echoed(rt: HostRuntime) -> Result<(), Fail> {
+    let alloc = rt.alloc();
+    let lines = Delimited { end: b'\n', max: 9 };
+    let mut reader = PieceReader::new(alloc, Told::new(b"one\ntwo\n".as_slice()), lines)?;
+    let mut writer = BufWriter::new(alloc, Told::new(Vec::new(alloc)))?;
+    echo(&mut reader, &mut writer)?;
+    assert!(rt; writer.get_ref().get_ref().as_slice() == b"onetwo".as_slice());
+    drop(writer);
+    Ok(drop(reader))
+}
+
+#[test]
+fn by_first(rt: HostRuntime) -> Result<(), Fail> {
+    let alloc = rt.alloc();
+    let mixed = ByFirst {
+        byte: b'$',
+        one: ByHead(ByText(BulkStrings { max: 9 })),
+        other: Delimited { end: b'\n', max: 9 },
+    };
+    let stream = Told::new(b"one\n$2\r\nhi\r\n".as_slice());
+    let mut reader = PieceReader::new(alloc, stream, mixed)?;
+    assert!(rt; matches!(reader.step_item(), Ok(Some((false, _)))));
+    assert!(rt; matches!(reader.step_item(), Ok(Some((true, _)))));
+    Ok(drop(reader))
+}
+
+#[test]
+fn nullable(rt: HostRuntime) -> Result<(), Fail> {
+    let alloc = rt.alloc();
+    let strings = ByHead(ByScan(NullableStrings { max: 100 }));
+    let stream = Told::new(b"$2\r\nhi\r\n$-1\r\n".as_slice());
+    let mut reader = PieceReader::new(alloc, stream, strings)?;
+    assert!(rt; matches!(reader.next(), Ok(Some(b"hi"))));
+    assert!(rt; matches!(reader.next(), Ok(Some(b""))));
+    assert!(rt; matches!(reader.next(), Ok(None)));
+    Ok(drop(reader))
+}
+
+#[test]
+fn resp(rt: HostRuntime) -> Result<(), Fail> {
+    let alloc = rt.alloc();
+    let stream = Told::new(b"*2\r\n$4\r\nECHO\r\n$-1\r\n".as_slice());
+    let mut reader = PieceReader::new(alloc, stream, Resp { max: 100 })?;
+    assert!(rt; matches!(reader.step_item(), Ok(Some((RespItem::Array(Some(2)), _)))));
+    if let Some((item, span)) = reader.step_item()? {
+        assert!(rt; item == RespItem::Bulk && reader.lent(span) == b"ECHO".as_slice());
+    }
+    assert!(rt; matches!(reader.step_item(), Ok(Some((RespItem::Null, _)))));
+    assert!(rt; matches!(reader.step_item(), Ok(None)));
+    Ok(drop(reader))
+}
