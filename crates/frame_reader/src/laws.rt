@@ -16,7 +16,8 @@ use crate::reader::FrameReader;
 use crate::writer::FrameWriter;
 use buffer_redux::tell::{TellRead, TellWrite};
 pub use codec::laws::{
-    KnownReader, PayloadReader, PayloadWriter, play_next, play_write, read_each, write_each,
+    KnownReader, PayloadReader, PayloadWriter, WriteEachError, play_next, play_write, read_each,
+    write_each,
 };
 pub use lists::round_trip;
 
