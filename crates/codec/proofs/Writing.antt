@@ -40,7 +40,13 @@ module _ {T X : Type 0} {Call : T → List ℕ → Result (Unit {0}) X → T →
         → CallsStopped Call Plays s (map (λ x. x.items) vs) why t
     wrote_none why count failed = record {
       done = done;
-      taken = omega (arith, count, inside, length-map (take i vs) (λ (x : Vec ℕ). x.items), length-take-le i vs (omega (arith, inside)));
+      taken = omega (
+        arith,
+        count,
+        inside,
+        length-map (take i vs) (λ (x : Vec ℕ). x.items),
+        length-take-le i vs (omega (arith, inside)),
+      );
       payload = v.items;
       later = map (λ x. x.items) (drop (i + 1) vs);
       all = parted (λ x. x.items) vs i v inside is;

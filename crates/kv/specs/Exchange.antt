@@ -81,8 +81,8 @@ abbrev pub IsMany : List Exchange → Type 0
 IsMany exchanges = 2 ^ 64 ≤ length exchanges + 1
 
 -- so many of the text's first bytes are these lines, each is answered, and these are the replies. The text is answered up to
--- its end, unless the latest was `QUIT`, or there were as many as a server takes. Only the latest may lack its end, where the text
--- ended, and then it was no command
+-- its end, unless the latest was `QUIT`, or there were as many as a server takes. Only the latest may lack its end, where the
+-- text ended, and then it was no command
 pub record RepliesTo (text : List ℕ) (old : Values) (replies : List ℕ) (new : Values) : Type 0 where
   pub exchanges : List Exchange
   pub count : ℕ

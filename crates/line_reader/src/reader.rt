@@ -154,7 +154,8 @@ impl<R: Tell> LineReader<R> {
     /// [`set_limit`](Buffer::set_limit).
     ///
     /// The last part is whether the stream ended behind a line that had no end, which no call has told yet: a reader that is made
-    /// of the others doesn't know that, and would ask the stream again.
+    /// of the others doesn't know that, and would ask the stream again. That a line [`is_skipping`](LineReader::is_skipping) is
+    /// forgotten: ask before.
     pub fn into_inner_with_buffer(self) -> (R, Buffer, bool)
         ensures apart { TakenApart R.log (piecing self) result.0 result.1 }
         ensures ended { result.2 ≡ self.ended }
@@ -192,8 +193,8 @@ impl<R: Tell> LineReader<R> {
         self.pieces.has_ended()
     }
 
-    /// The line that the last [`step`](LineReader::step) went on to, without its end. [`trimmed`](crate::trimmed) takes a carriage
-    /// return off it. A place that an earlier step said is refused.
+    /// The line that the last [`step`](LineReader::step) went on to, without its end. [`trimmed`](crate::trimmed) takes a
+    /// carriage return off it. A place that an earlier step said is refused.
     #[inline(always)]
     pub fn lent(&self, span: Span) -> &[u8]
         requires { IsLent (lined self.now.max) self.now.handed self.now.reader.block.bytes span }

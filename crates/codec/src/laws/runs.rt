@@ -19,8 +19,8 @@ pub trait PayloadReader {
     // What calls do, one after another, by their answers: the run of them, and what they come to.
     ghost plays: { Self → List (Result (Option (List ℕ)) Self.Error) → Self → Type 0 };
 
-    /// One call, with the payload copied. An `Err` is refused memory: the call was made, and its payload is lost, since how long it
-    /// is shows in the call alone.
+    /// One call, with the payload copied. An `Err` is refused memory: the call was made, and its payload is lost, since how long
+    /// it is shows in the call alone.
     fn next_copied(
         &mut self,
         alloc: Global,
@@ -40,8 +40,8 @@ pub trait PayloadReader {
 /// Asks for the next payload so many times, whatever is answered, and adds each answer to `answers`. What was handed out, then
 /// what is left, are the stream, however it was cut.
 ///
-/// An `Err` is refused memory. Room for an answer is made before its call, where there is none: where that was refused, no further
-/// call was begun. Where it was the memory for a payload, that was handed out and is lost.
+/// An `Err` is refused memory. Room for an answer is made before its call, where there is none: where that was refused, no
+/// further call was begun. Where it was the memory for a payload, that was handed out and is lost.
 pub fn play_next<P: PayloadReader>(
     alloc: Global,
     reader: &mut P,

@@ -17,7 +17,8 @@ returns-then-has_ended g c =
     let s = c.args.reader.now in
     let t = c.step.new.self in
     let open' = sym c.is_skipping.ensures.value ∙ c.if-is_skipping.false in
-    let next = subst (λ o. NextGoes g.R.TellRead.remaining s (load_answer (Ok o) t) t) c.in-Ok-Some.field-0-is c.in-Ok-Some.ensures.next in
+    let next = subst (λ o. NextGoes g.R.TellRead.remaining s (load_answer (Ok o) t) t) c.in-Ok-Some.field-0-is
+    c.in-Ok-Some.ensures.next in
     record {
       quiet = λ end. NextGoes-quiet _ _ _ _ (HasLine-end _ open' end) next;
       does = cut_does _ _ _ _ _ _ open' next (sym c.has_ended.ensures.value ∙ c.if-has_ended.true) refl _
