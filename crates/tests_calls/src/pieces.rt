@@ -15,7 +15,7 @@ type Row = (
     &'static [Result<&'static str, ErrorKind>],
 );
 
-static ROWS: [Row; 5] = [
+static ROWS: [Row; 6] = [
     (b"", b'\n', &[], &[]),
     (b"\n", b'\n', &[b""], &[Ok("")]),
     (
@@ -36,6 +36,13 @@ static ROWS: [Row; 5] = [
             Err(ErrorKind::InvalidData),
         ],
     ),
+    // A character that a fault cuts in two.
+    (
+        b"\xe2\x82\xac\n",
+        b'\n',
+        &[b"\xe2\x82\xac"],
+        &[Ok("\u{20ac}")],
+    ),
 ];
 
 // These calls promise nothing here, since the rows look at each answer. A fault is met once, and the next call goes on.
@@ -46,10 +53,16 @@ fn piece(pieces: &mut Split<Faulty>) -> Option<io::Result<Vec<u8>>> {
     }
 }
 
-fn line(lines: &mut Lines<Faulty>) -> Option<io::Result<String>> {
+// Where a fault comes, the lines are taken apart, and made again of what had begun.
+fn line(alloc: Global, mut lines: Lines<Faulty>) -> (Lines<Faulty>, Option<io::Result<String>>) {
     match lines.next() {
-        Some(Err(e)) if e.kind() == ErrorKind::WouldBlock => lines.next(),
-        given => given,
+        Some(Err(e)) if e.kind() == ErrorKind::WouldBlock => {
+            let (reader, begun) = lines.into_parts();
+            let mut again = Lines::from_parts(alloc, reader, begun);
+            let given = again.next();
+            (again, given)
+        }
+        given => (lines, given),
     }
 }
 
@@ -67,7 +80,9 @@ fn is_cut(alloc: Global, from: Text, row: &Row) -> bool {
 fn is_read(alloc: Global, from: Text, row: &Row) -> bool {
     let mut lines = from.lines(alloc);
     for want in row.3 {
-        match line(&mut lines) {
+        let (next, given) = line(alloc, lines);
+        lines = next;
+        match given {
             Some(given) => {
                 if !is_line(given, *want) {
                     return false;
@@ -76,7 +91,8 @@ fn is_read(alloc: Global, from: Text, row: &Row) -> bool {
             None => return false,
         }
     }
-    line(&mut lines).is_none() && lines.into_parts().1.is_empty()
+    let (lines, given) = line(alloc, lines);
+    given.is_none() && lines.into_parts().1.is_empty()
 }
 
 fn is_line(given: io::Result<String>, want: Result<&str, ErrorKind>) -> bool {

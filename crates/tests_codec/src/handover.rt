@@ -1,7 +1,7 @@
-//! Readers that go on where another one stopped.
+//! Readers and writers that go on where another one stopped.
 use buffer_redux::Buffer;
 use buffer_redux::tell::Told;
-use codec::{Delimited, PieceReader};
+use codec::{Delimited, PieceReader, PieceWriter};
 use std::test::Fail;
 
 const LINES: Delimited = Delimited { end: b'\n', max: 9 };
@@ -65,4 +65,26 @@ fn a_ring_and_a_small_buffer(rt: HostRuntime) -> Result<(), Fail> {
     assert!(rt; matches!(lines.next(), Ok(Some(b"xy"))));
     assert!(rt; matches!(lines.next(), Ok(Some(b"z"))));
     Ok(drop(lines))
+}
+
+#[test]
+fn an_untold_end(rt: HostRuntime) -> Result<(), Fail> {
+    let alloc = rt.alloc();
+    let mut lines = PieceReader::new(alloc, Told::new(b"one".as_slice()), LINES)?;
+    assert!(rt; matches!(lines.next(), Ok(Some(b"one"))));
+    let (_, _, ended) = lines.into_inner_with_buffer();
+    Ok(assert!(rt; ended))
+}
+
+#[test]
+fn another_encoder(rt: HostRuntime) -> Result<(), Fail> {
+    let alloc = rt.alloc();
+    let mut lines = PieceWriter::new(alloc, Told::new(Vec::new(alloc)), LINES)?;
+    assert!(rt; lines.write_piece(b"one").is_ok());
+    let (inner, buffer) = lines.into_inner_with_buffer();
+    let mut parts = PieceWriter::with_buffer(alloc, buffer, inner, PARTS)?;
+    assert!(rt; parts.write_piece(b"two").is_ok());
+    parts.flush()?;
+    assert!(rt; parts.get_ref().get_ref().as_slice() == b"one\ntwo;".as_slice());
+    Ok(drop(parts))
 }

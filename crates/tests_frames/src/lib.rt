@@ -10,6 +10,8 @@ mod drops;
 #[cfg(test)]
 mod frames;
 #[cfg(test)]
+mod handover;
+#[cfg(test)]
 mod held;
 #[cfg(test)]
 mod laws;
