@@ -22,6 +22,11 @@ pub record PutsIn (put : List ℕ) (old new : Block) : Type 0 where
   pub kind : new.kind ≡ old.kind
   pub whole : IsBlock new
 
+-- why nothing was taken in of so many bytes: what was buffered couldn't be sent, or room for them was refused
+abbrev pub PartsRefused : {S P : Type 0} → ℕ → Buffered S P → Error → Buffered S P → Type 0
+PartsRefused count s e t = SendErrorCaused s.log.writes t.log.writes e
+    ⊎ ((more : ℕ) × (more ≤ count) × GrowthFailed more t.block e)
+
 module _ {S P : Type 0} (tells : S → StreamLog) (stretch : S → S → Type 0) where
   -- all that was buffered was sent, and then there was room for so many bytes, or it was refused
   pub record MakesPlace (count : ℕ) (s : Buffered S P) (answer : Result (Unit {0}) Error) (t : Buffered S P) : Type 0 where
@@ -43,6 +48,5 @@ module _ {S P : Type 0} (tells : S → StreamLog) (stretch : S → S → Type 0)
     pub fits : length bytes ≤ usable s.block → IsOk answer × (t.log ≡ s.log)
     pub calls : (t.log ≡ s.log)
         ⊎ ((sending : Result (Unit {0}) Error) × (left : Buffered S P) × WasSent tells stretch s sending left × (t.log ≡ left.log))
-    pub caused : IfErr answer (λ e. SendErrorCaused s.log.writes t.log.writes e
-        ⊎ ((count : ℕ) × (count ≤ length bytes) × GrowthFailed count t.block e))
+    pub caused : IfErr answer (λ e. PartsRefused (length bytes) s e t)
     pub whole : IsBlock t.block

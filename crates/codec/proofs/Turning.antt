@@ -53,8 +53,8 @@ module _ {S D W I A T P : Type 0} (remaining : S → Option (List ℕ)) (tells :
   -- or couldn't be
   pub answer_failed : (e : Error) → Answered tells stretch (Answers s.service said.0 shown) ready (Err e) after last
       → FlushFailed remaining tells stretch g item_of Answers s e (server t after last)
-      ⊎ ((x : Exchange) × AnswerFailed remaining tells stretch g item_of Answers s x (server t after last))
-  answer_failed e (reply, more, a, nothing) = inr (
+      ⊎ ((x : Exchange) × AnswerFailed remaining tells stretch g item_of Answers s x e (server t after last))
+  answer_failed e (reply, more, a, nothing, refused) = inr (
     exchange reply,
     record {
       ready = ready;
@@ -62,5 +62,6 @@ module _ {S D W I A T P : Type 0} (remaining : S → Option (List ℕ)) (tells :
       all = refl;
       answers = (more, answers reply more a);
       nothing = nothing;
+    refused = refused;
     },
   )

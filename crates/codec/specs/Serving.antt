@@ -5,6 +5,7 @@ use Rattle.buffer_redux.specs.Buffered.{Buffered}
 use Rattle.buffer_redux.specs.BufWriter.{FlushedAlong, WasFlushed, WritesAlong}
 use Rattle.buffer_redux.specs.Policy.{std_write_rules}
 use Rattle.buffer_redux.specs.StreamLog.{StreamLog}
+use Rattle.buffer_redux.specs.WriteParts.{PartsRefused}
 use Rattle.codec.specs.declared.error.NextError.TheVariants as next
 use Rattle.codec.specs.declared.serving.ServeError.{ServeError}
 use Rattle.codec.specs.declared.serving.ServeError.TheVariants.{Read, Write, Wrong}
@@ -74,12 +75,13 @@ module _ {S D W I A T P : Type 0} (remaining : S → Option (List ℕ)) (tells :
     pub service : t.service ≡ s.service
 
   -- a piece was taken, and what it asks for was done, but nothing was written for it
-  pub record AnswerFailed (s : Server S D A T P) (x : Exchange) (t : Server S D A T P) : Type 0 where
+  pub record AnswerFailed (s : Server S D A T P) (x : Exchange) (e : Error) (t : Server S D A T P) : Type 0 where
     pub ready : Buffered T P
     pub fetched : Fetched s (Ok (Some x.payload)) ready t.pieces
     pub all : fetched.next.bytes ≡ x.bytes
     pub answers : (more : Bool) × Answers s.service (item_of x.bytes) x.payload x.reply more t.service
     pub nothing : WritesAlong tells stretch std_write_rules ready [] t.answers
+    pub refused : PartsRefused (length x.reply) ready e t.answers
 
   -- what one turn does
   abbrev pub Turns : Server S D A T P → Result Step (ServeError W) → Server S D A T P → Type 0
@@ -88,7 +90,7 @@ module _ {S D W I A T P : Type 0} (remaining : S → Option (List ℕ)) (tells :
   Turns s (Ok step.End) t = TookNone s (Ok None) t
   Turns s (Err (Read e)) t = TookNone s (Err (next.Io e)) t
   Turns s (Err (Wrong e)) t = TookNone s (Err (next.Wrong e)) t
-  Turns s (Err (Write e)) t = FlushFailed s e t ⊎ ((x : Exchange) × AnswerFailed s x t)
+  Turns s (Err (Write e)) t = FlushFailed s e t ⊎ ((x : Exchange) × AnswerFailed s x e t)
 
   -- these exchanges, the latest first, one behind another; behind the last a further piece is taken, or none
   abbrev pub Talked : Server S D A T P → List Exchange → Bool → Server S D A T P → Type 0
