@@ -7,8 +7,10 @@ use Rattle.redux_play.specs.declared.play.ReaderCall.{ReaderCall}
 use Rattle.redux_play.specs.declared.play.ReaderCall.TheVariants.{Read, Fill, Consume, ReadIntoBuf, MakeRoom, Reserve}
 use Rattle.replay.specs.declared.case.BufferCall.{BufferCall}
 use Rattle.replay.specs.declared.case.BufferCall.TheVariants as buffer
+use Rattle.replay.specs.declared.case.ReaderWord.{ReaderWord}
+use Rattle.replay.specs.declared.case.ReaderWord.TheVariants as reader
 use Rattle.replay.specs.declared.case.Mode.{Mode}
-use Rattle.replay.specs.declared.case.Mode.TheVariants.{Once, Sweep, LossySweep}
+use Rattle.replay.specs.declared.case.Mode.TheVariants.{Once, Sweep, LossySweep, SilentSweep}
 use Rattle.replay.specs.declared.case.WriterWord.{WriterWord}
 use Rattle.replay.specs.declared.case.WriterWord.TheVariants as writer
 
@@ -17,6 +19,7 @@ abbrev pub mode_word : Mode → List ℕ
 mode_word Once = []
 mode_word Sweep = codes "sweep "
 mode_word LossySweep = codes "lossy "
+mode_word SilentSweep = codes "silent "
 
 -- this letter, and then this number
 pub record IsSized (letter : List ℕ) (n : ℕ) (word : List ℕ) : Type 0 where
@@ -25,19 +28,25 @@ pub record IsSized (letter : List ℕ) (n : ℕ) (word : List ℕ) : Type 0 wher
   pub value : digits_value 10 (drop 1 word) ≡ n
 
 -- the word of a call of a reader
-abbrev pub IsReaderWord : ReaderCall → List ℕ → Type 0
-IsReaderWord (Read n) word = IsSized (codes "R") n word
-IsReaderWord Fill word = word ≡ codes "F"
-IsReaderWord (Consume n) word = IsSized (codes "C") n word
-IsReaderWord ReadIntoBuf word = word ≡ codes "I"
-IsReaderWord MakeRoom word = word ≡ codes "M"
-IsReaderWord (Reserve n) word = IsSized (codes "V") n word
+abbrev pub IsCallWord : ReaderCall → List ℕ → Type 0
+IsCallWord (Read n) word = IsSized (codes "R") n word
+IsCallWord Fill word = word ≡ codes "F"
+IsCallWord (Consume n) word = IsSized (codes "C") n word
+IsCallWord ReadIntoBuf word = word ≡ codes "I"
+IsCallWord MakeRoom word = word ≡ codes "M"
+IsCallWord (Reserve n) word = IsSized (codes "V") n word
+
+-- that, or the word of another minimum
+abbrev pub IsReaderWord : ReaderWord → List ℕ → Type 0
+IsReaderWord (reader.Call call) word = IsCallWord call word
+IsReaderWord (reader.SetMin n) word = IsSized (codes "N") n word
 
 -- the word of a call of a writer
 abbrev pub IsWriterWord : WriterWord → List ℕ → Type 0
 IsWriterWord (writer.CountFrom n) word = IsSized (codes "@") n word
 IsWriterWord (writer.Write n) word = IsSized (codes "W") n word
 IsWriterWord (writer.WriteThese bytes) word = StartsWith word (codes "w")
+IsWriterWord (writer.WriteAll n) word = IsSized (codes "A") n word
 IsWriterWord writer.Flush word = word ≡ codes "L"
 IsWriterWord writer.MakeRoom word = word ≡ codes "M"
 IsWriterWord (writer.Reserve n) word = IsSized (codes "V") n word
@@ -48,3 +57,6 @@ IsBufferWord buffer.ReadFrom word = word ≡ codes "I"
 IsBufferWord (buffer.Consume n) word = IsSized (codes "C") n word
 IsBufferWord buffer.MakeRoom word = word ≡ codes "M"
 IsBufferWord (buffer.Reserve n) word = IsSized (codes "V") n word
+IsBufferWord (buffer.Push n) word = IsSized (codes "P") n word
+IsBufferWord (buffer.SetLimit n) word = IsSized (codes "T") n word
+IsBufferWord buffer.Limit word = word ≡ codes "T"

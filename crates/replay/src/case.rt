@@ -25,6 +25,8 @@ pub enum Mode {
     Sweep,
     /// So too, and the call behind that one loses a byte.
     LossySweep,
+    /// So too, and an error of that one is kept from the caller.
+    SilentSweep,
 }
 
 /// The kind of a buffer.
@@ -34,12 +36,15 @@ pub enum Kind {
     Ring,
 }
 
-/// The buffer that is asked for, with how many bytes it holds at first, as far as they fit.
+/// The buffer that is asked for: of the usual capacity or another one, and with how many bytes it holds at first, as far as they
+/// fit.
 #[derive(Clone, Copy)]
 pub struct Storage {
     pub kind: Kind,
-    pub capacity: usize,
+    pub capacity: Option<usize>,
     pub held: usize,
+    /// Its own limit, if it has one.
+    pub limit: Option<usize>,
 }
 
 /// The policy of a reader.
@@ -47,6 +52,7 @@ pub struct Storage {
 pub enum ReaderRule {
     Std,
     Min(usize),
+    Foreign(Foreign),
 }
 
 /// The policy of a writer.
@@ -57,6 +63,32 @@ pub enum WriterRule {
     Exact(usize),
     On(u8),
     Newline,
+    Foreign(Foreign),
+}
+
+/// A policy that the library doesn't know, as `tests_common` has them.
+#[derive(Clone, Copy)]
+pub enum Foreign {
+    Greedy,
+    Never,
+    Always,
+    TooMuch,
+    Tidy(usize),
+    Growing,
+    Limiting(usize),
+    Fickle,
+    Header,
+    Halves,
+    Copying,
+    FailsAt(usize),
+}
+
+/// A call of a reader, which the player knows, or another minimum.
+#[derive(Clone, Copy)]
+pub enum ReaderWord {
+    Call(ReaderCall),
+    /// No call of the reader: its policy looks ahead by so many bytes from now on.
+    SetMin(usize),
 }
 
 /// A call of a writer, with how many bytes a write offers, or which.
@@ -66,6 +98,8 @@ pub enum WriterWord {
     CountFrom(usize),
     Write(usize),
     WriteThese(Vec<u8>),
+    /// A `write_all`.
+    WriteAll(usize),
     Flush,
     MakeRoom,
     Reserve(usize),
@@ -76,11 +110,11 @@ pub enum WriterWord {
 pub struct ReaderCase {
     pub storage: Storage,
     pub rule: ReaderRule,
-    /// Whether the bytes that it handed out are printed.
-    pub prints_handed: bool,
+    /// Whether the bytes that a fill shows, and those that it handed out, are printed.
+    pub prints_bytes: bool,
     pub source: usize,
     pub script: Vec<Answer>,
-    pub calls: Vec<ReaderCall>,
+    pub calls: Vec<ReaderWord>,
 }
 
 /// A buffered writer, and the calls.
@@ -101,6 +135,9 @@ pub enum BufferCall {
     Consume(usize),
     MakeRoom,
     Reserve(usize),
+    Push(usize),
+    SetLimit(usize),
+    Limit,
 }
 
 /// A bare buffer beside a source of so many bytes, and the calls.

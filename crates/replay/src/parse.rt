@@ -1,12 +1,11 @@
 //! Reading a line: what it asks for, or why that can't be told.
 use crate::case::{
-    BufferCall, BufferCase, Case, Kind, ReaderCase, ReaderRule, Storage, StreamCase, WriterCase,
-    WriterRule, WriterWord,
+    BufferCall, BufferCase, Case, Foreign, Kind, ReaderCase, ReaderRule, ReaderWord, Storage,
+    StreamCase, WriterCase, WriterRule, WriterWord,
 };
 use crate::words::{answer, buffer_call, hex_bytes, reader_call, writer_call};
 use buffer_redux::script::Answer;
 use programs::number;
-use redux_play::play::ReaderCall;
 use std::alloc::{AllocError, AllocFailed, Global};
 use std::fmt;
 
@@ -60,7 +59,7 @@ enum Stream {
     Reader {
         storage: Storage,
         rule: ReaderRule,
-        prints_handed: bool,
+        prints_bytes: bool,
     },
     Writer(Storage, WriterRule),
     Bare(Storage),
@@ -79,12 +78,12 @@ pub fn case(alloc: Global, line: &str) -> Result<Case, Unread<'_>> {
             Stream::Reader {
                 storage,
                 rule,
-                prints_handed,
+                prints_bytes,
             },
         ) => Ok(Case::Stream(StreamCase::Reader(ReaderCase {
             storage,
             rule,
-            prints_handed,
+            prints_bytes,
             source: count,
             script,
             calls: reader_calls(alloc, calls)?,
@@ -120,20 +119,25 @@ fn stream_of(words: &[&str]) -> Option<Stream> {
     let [side, kind, capacity, others @ ..] = words else {
         return None;
     };
+    let (limit, others) = match others {
+        ["limit", most, others @ ..] => (Some(number(*most)?), others),
+        _ => (None, others),
+    };
     let (held, rule) = match others {
         ["holds", count, rule @ ..] => (number(*count)?, rule),
         _ => (0, others),
     };
     let storage = Storage {
         kind: kind_of(*kind)?,
-        capacity: number(*capacity)?,
+        capacity: capacity_of(*capacity)?,
         held,
+        limit,
     };
     match *side {
         "reader" | "handing" => Some(Stream::Reader {
             storage,
             rule: reader_rule(rule)?,
-            prints_handed: *side == "handing",
+            prints_bytes: *side == "handing",
         }),
         "writer" => Some(Stream::Writer(storage, writer_rule(rule)?)),
         "buffer" if rule.is_empty() => Some(Stream::Bare(storage)),
@@ -149,10 +153,39 @@ fn kind_of(word: &str) -> Option<Kind> {
     }
 }
 
+// The usual capacity is none.
+fn capacity_of(word: &str) -> Option<Option<usize>> {
+    match word {
+        "usual" => Some(None),
+        _ => Some(Some(number(word)?)),
+    }
+}
+
 fn reader_rule(words: &[&str]) -> Option<ReaderRule> {
     match words {
         ["std"] => Some(ReaderRule::Std),
         ["min", n] => Some(ReaderRule::Min(number(*n)?)),
+        _ => match foreign(words)? {
+            Foreign::TooMuch => None,
+            policy => Some(ReaderRule::Foreign(policy)),
+        },
+    }
+}
+
+fn foreign(words: &[&str]) -> Option<Foreign> {
+    match words {
+        ["greedy"] => Some(Foreign::Greedy),
+        ["never"] => Some(Foreign::Never),
+        ["always"] => Some(Foreign::Always),
+        ["toomuch"] => Some(Foreign::TooMuch),
+        ["tidy", min] => Some(Foreign::Tidy(number(*min)?)),
+        ["growing"] => Some(Foreign::Growing),
+        ["limiting", limit] => Some(Foreign::Limiting(number(*limit)?)),
+        ["fickle"] => Some(Foreign::Fickle),
+        ["header"] => Some(Foreign::Header),
+        ["halves"] => Some(Foreign::Halves),
+        ["copying"] => Some(Foreign::Copying),
+        ["failsat", question] => Some(Foreign::FailsAt(number(*question)?)),
         _ => None,
     }
 }
@@ -164,7 +197,10 @@ fn writer_rule(words: &[&str]) -> Option<WriterRule> {
         ["atleast", n] => Some(WriterRule::AtLeast(number(*n)?)),
         ["exact", n] => Some(WriterRule::Exact(number(*n)?)),
         ["on", byte] => Some(WriterRule::On(byte.parse::<u8>().ok()?)),
-        _ => None,
+        _ => match foreign(words)? {
+            Foreign::Header | Foreign::Copying => None,
+            policy => Some(WriterRule::Foreign(policy)),
+        },
     }
 }
 
@@ -179,7 +215,7 @@ fn answers(alloc: Global, text: &str) -> Result<Vec<Answer>, Unread<'_>> {
     Ok(answers)
 }
 
-fn reader_calls(alloc: Global, text: &str) -> Result<Vec<ReaderCall>, Unread<'_>> {
+fn reader_calls(alloc: Global, text: &str) -> Result<Vec<ReaderWord>, Unread<'_>> {
     let mut calls = Vec::new(alloc);
     for word in text.split_whitespace() {
         calls.push(reader_call(word).ok_or(Unread::Call(word))?)?;

@@ -81,10 +81,15 @@ pub fn counting(alloc: Global, first: u8, count: usize) -> Result<Vec<u8>, Alloc
 /// The buffer that is asked for, with what it holds at first.
 pub fn first_buffer(alloc: Global, storage: Storage) -> Result<Buffer, Unplayed> {
     let held = counting(alloc, 0, storage.held)?;
-    let mut buffer = match storage.kind {
-        Kind::Plain => Buffer::with_capacity(alloc, storage.capacity)?,
-        Kind::Ring => Buffer::with_capacity_ringbuf(alloc, storage.capacity)?,
+    let mut buffer = match (storage.kind, storage.capacity) {
+        (Kind::Plain, Some(capacity)) => Buffer::with_capacity(alloc, capacity)?,
+        (Kind::Ring, Some(capacity)) => Buffer::with_capacity_ringbuf(alloc, capacity)?,
+        (Kind::Plain, None) => Buffer::new(alloc)?,
+        (Kind::Ring, None) => Buffer::new_ringbuf(alloc)?,
     };
+    if let Some(limit) = storage.limit {
+        buffer.set_limit(limit)?;
+    }
     let _ = buffer.copy_from_slice(held.as_slice());
     Ok(buffer)
 }

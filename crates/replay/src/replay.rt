@@ -7,7 +7,7 @@ use crate::parse::{Unread, case};
 use crate::play::{Unplayed, play_case};
 use crate::print::refusal_word;
 use crate::sweep::sweep;
-use crate::watched::Fault;
+use crate::watched::{Fault, Lie};
 use crate::words::mode;
 use std::alloc::Global;
 use std::io;
@@ -82,8 +82,9 @@ fn played(alloc: Global, line: &str) -> Result<String, Unread<'_>> {
         (Case::Stream(case), Mode::Once) => {
             play_case(alloc, &case, Fault::NONE, usize::MAX).map(|played| played.line)
         }
-        (Case::Stream(case), Mode::Sweep) => sweep(alloc, &case, false),
-        (Case::Stream(case), Mode::LossySweep) => sweep(alloc, &case, true),
+        (Case::Stream(case), Mode::Sweep) => sweep(alloc, &case, Lie::None),
+        (Case::Stream(case), Mode::LossySweep) => sweep(alloc, &case, Lie::Loses),
+        (Case::Stream(case), Mode::SilentSweep) => sweep(alloc, &case, Lie::Hides),
     };
     match answer {
         Ok(text) => Ok(text),

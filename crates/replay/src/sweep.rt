@@ -1,7 +1,7 @@
 //! Playing a case again and again, with each call of the stream inside going wrong in turn.
 use crate::case::StreamCase;
 use crate::play::{Outcome, Unplayed, play_case};
-use crate::watched::Fault;
+use crate::watched::{Fault, Lie};
 use buffer_redux::script::Answer;
 use std::alloc::Global;
 use std::io::ErrorKind;
@@ -18,38 +18,45 @@ static ANSWERS: [(&str, Answer); 5] = [
 // No run makes so many calls.
 const MOST_CALLS: usize = 1000;
 
-/// `kept`, or what goes wrong first, at which call of the stream inside, and how that went wrong.
-pub fn sweep(alloc: Global, case: &StreamCase, loses: bool) -> Result<String, Unplayed> {
-    for &(word, answer) in &ANSWERS {
-        if let Some((wrong, before)) = wrong_by(alloc, case, answer, loses)? {
-            return Ok(format!(in alloc; "{wrong} at call {before} by {word}")?);
-        }
-    }
-    Ok(String::from_str(alloc, "kept")?)
+// What came of all runs in which one call answers so.
+#[derive(Clone, Copy)]
+enum Swept {
+    // All went well, and in so many the call was made.
+    Kept(usize),
+    // What went wrong first, and how many calls came before that.
+    Wrong(&'static str, usize),
 }
 
-// What goes wrong first where calls answer so, and how many calls came before that.
-fn wrong_by(
-    alloc: Global,
-    case: &StreamCase,
-    answer: Answer,
-    loses: bool,
-) -> Result<Option<(&'static str, usize)>, Unplayed> {
+/// `kept` with how many calls went wrong, or what is lost first, at which call of the stream inside, and how that went wrong.
+pub fn sweep(alloc: Global, case: &StreamCase, lie: Lie) -> Result<String, Unplayed> {
+    let mut met = 0usize;
+    for &(word, answer) in &ANSWERS {
+        match sweep_by(alloc, case, answer, lie)? {
+            Swept::Kept(count) => met = met.saturating_add(count),
+            Swept::Wrong(what, before) => {
+                return Ok(format!(in alloc; "{what} at call {before} by {word}")?);
+            }
+        }
+    }
+    Ok(format!(in alloc; "kept {met}")?)
+}
+
+fn sweep_by(alloc: Global, case: &StreamCase, answer: Answer, lie: Lie) -> Result<Swept, Unplayed> {
     for before in 0..MOST_CALLS {
         let fault = Fault {
             before,
             answer,
-            loses,
+            lie,
         };
         let outcome = play_case(alloc, case, fault, 1)?;
         if let Some(wrong) = wrong_in(&outcome) {
-            return Ok(Some((wrong, before)));
+            return Ok(Swept::Wrong(wrong, before));
         }
         if outcome.calls <= before {
-            return Ok(None);
+            return Ok(Swept::Kept(before));
         }
     }
-    Ok(Some(("no end", MOST_CALLS)))
+    Ok(Swept::Wrong("no end", MOST_CALLS))
 }
 
 // What is wrong with what came of a case.

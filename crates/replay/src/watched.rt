@@ -4,14 +4,23 @@ use std::alloc::Global;
 use std::io;
 use std::io::{ErrorKind, Read, Write};
 
+/// What a stream does beside going wrong, so that a sweep can be seen to see it.
+#[derive(Clone, Copy)]
+pub enum Lie {
+    None,
+    /// The call behind the one that goes wrong loses a byte, the last that it gives or the first that it takes.
+    Loses,
+    /// An error is noted, and in its place the stream says that nothing came, or was taken.
+    Hides,
+}
+
 /// Which call of a stream goes wrong, and how.
 #[derive(Clone, Copy)]
 pub struct Fault {
     /// So many calls come before it.
     pub before: usize,
     pub answer: Answer,
-    /// Whether the call behind it loses a byte, the last that it gives or the first that it takes.
-    pub loses: bool,
+    pub lie: Lie,
 }
 
 impl Fault {
@@ -19,7 +28,7 @@ impl Fault {
     pub const NONE: Fault = Fault {
         before: usize::MAX,
         answer: Answer::Serve(0),
-        loses: false,
+        lie: Lie::None,
     };
 }
 
@@ -41,7 +50,7 @@ pub struct Watched<S> {
 }
 
 impl<S> Watched<S> {
-    ghost use Rattle.std.specs.Prelude.{◌≡◌, []};
+    ghost use Rattle.std.specs.Prelude.{◌≡◌, [], IfOk};
     ghost use Rattle.replay.specs.Watched.{noted};
 
     /// `stream`, but for the call that goes wrong.
@@ -75,7 +84,20 @@ impl<S> Watched<S> {
 
     // Whether the next call is the one that loses a byte.
     fn loses(&self) -> bool {
-        self.fault.loses && self.stream.calls().checked_sub(self.fault.before) == Some(1)
+        matches!(self.fault.lie, Lie::Loses)
+            && self.stream.calls().checked_sub(self.fault.before) == Some(1)
+    }
+
+    // Notes an error, and returns it, or `hidden` in its place.
+    fn fails_or<T: Drop>(&mut self, e: io::Error, hidden: T) -> io::Result<T>
+        ensures notes { noted self.new ≡ noted self.old }
+        ensures ok { IfOk result (λ value. value ≡ hidden) }
+    {
+        let e = self.fails(e);
+        match self.fault.lie {
+            Lie::Hides => Ok(hidden),
+            _ => Err(e),
+        }
     }
 
     // Notes an error.
@@ -105,7 +127,7 @@ impl<S: Read> Read for Watched<S> {
         match self.stream.read(buf) {
             Ok(count) if loses => Ok(count.saturating_sub(1)),
             Ok(count) => Ok(count),
-            Err(e) => Err(self.fails(e)),
+            Err(e) => self.fails_or(e, 0),
         }
     }
 }
@@ -129,7 +151,7 @@ impl<S: Write> Write for Watched<S> {
                 Ok(0)
             }
             Ok(count) => Ok(count + lost),
-            Err(e) => Err(self.fails(e)),
+            Err(e) => self.fails_or(e, 0),
         }
     }
 
@@ -140,7 +162,7 @@ impl<S: Write> Write for Watched<S> {
         self.notes.push(Noted::Flush)?;
         match self.stream.flush() {
             Ok(()) => Ok(()),
-            Err(e) => Err(self.fails(e)),
+            Err(e) => self.fails_or(e, ()),
         }
     }
 }

@@ -2,7 +2,7 @@
 ghost use Rattle.std.specs.Prelude.{◌≡◌, ◌++◌, IfSome};
 ghost use Rattle.replay.specs.Words.{IsBufferWord, IsSized, IsReaderWord, IsWriterWord, mode_word};
 
-use crate::case::{BufferCall, Mode, WriterWord};
+use crate::case::{BufferCall, Mode, ReaderWord, WriterWord};
 use buffer_redux::script::Answer;
 use programs::number;
 use redux_play::play::ReaderCall;
@@ -16,8 +16,11 @@ pub fn mode(line: &str) -> (Mode, &str)
     if let Some(case) = line.strip_prefix("sweep ") {
         return (Mode::Sweep, case);
     }
-    match line.strip_prefix("lossy ") {
-        Some(case) => (Mode::LossySweep, case),
+    if let Some(case) = line.strip_prefix("lossy ") {
+        return (Mode::LossySweep, case);
+    }
+    match line.strip_prefix("silent ") {
+        Some(case) => (Mode::SilentSweep, case),
         None => (Mode::Once, line),
     }
 }
@@ -31,17 +34,18 @@ fn sized(word: &str) -> Option<(&str, usize)>
 }
 
 /// The call of a reader that this word is.
-pub fn reader_call(word: &str) -> Option<ReaderCall>
+pub fn reader_call(word: &str) -> Option<ReaderWord>
     ensures some { IfSome result (λ call. IsReaderWord call word.now) }
 {
     match word {
-        "F" => Some(ReaderCall::Fill),
-        "I" => Some(ReaderCall::ReadIntoBuf),
-        "M" => Some(ReaderCall::MakeRoom),
+        "F" => Some(ReaderWord::Call(ReaderCall::Fill)),
+        "I" => Some(ReaderWord::Call(ReaderCall::ReadIntoBuf)),
+        "M" => Some(ReaderWord::Call(ReaderCall::MakeRoom)),
         _ => match sized(word)? {
-            ("R", n) => Some(ReaderCall::Read(n)),
-            ("C", n) => Some(ReaderCall::Consume(n)),
-            ("V", n) => Some(ReaderCall::Reserve(n)),
+            ("R", n) => Some(ReaderWord::Call(ReaderCall::Read(n))),
+            ("C", n) => Some(ReaderWord::Call(ReaderCall::Consume(n))),
+            ("V", n) => Some(ReaderWord::Call(ReaderCall::Reserve(n))),
+            ("N", n) => Some(ReaderWord::SetMin(n)),
             _ => None,
         },
     }
@@ -57,6 +61,7 @@ pub fn writer_call(word: &str) -> Option<WriterWord>
         _ => match sized(word)? {
             ("@", n) => Some(WriterWord::CountFrom(n)),
             ("W", n) => Some(WriterWord::Write(n)),
+            ("A", n) => Some(WriterWord::WriteAll(n)),
             ("V", n) => Some(WriterWord::Reserve(n)),
             _ => None,
         },
@@ -70,9 +75,12 @@ pub fn buffer_call(word: &str) -> Option<BufferCall>
     match word {
         "I" => Some(BufferCall::ReadFrom),
         "M" => Some(BufferCall::MakeRoom),
+        "T" => Some(BufferCall::Limit),
         _ => match sized(word)? {
             ("C", n) => Some(BufferCall::Consume(n)),
             ("V", n) => Some(BufferCall::Reserve(n)),
+            ("P", n) => Some(BufferCall::Push(n)),
+            ("T", n) => Some(BufferCall::SetLimit(n)),
             _ => None,
         },
     }

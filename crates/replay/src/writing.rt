@@ -1,17 +1,20 @@
 //! Playing a case of a writer.
-use crate::case::{WriterCase, WriterRule, WriterWord};
+use crate::case::{Foreign, WriterCase, WriterRule, WriterWord};
 use crate::play::{Outcome, Unplayed, counting, first_buffer, is_refusal, low_byte};
 use crate::print;
 use crate::watched::{Fault, Watched};
 use buffer_redux::policy::{
-    FlushAtLeast, FlushExact, FlushOn, FlushOnNewline, StdPolicy, WriterPolicy,
+    FlushAtLeast, FlushExact, FlushOn, FlushOnNewline, MinBuffered, StdPolicy, WriterPolicy,
 };
 use buffer_redux::script::ScriptWriter;
 use buffer_redux::tell::{TellWrite, Told};
 use buffer_redux::{BufWriter, Buffer, IntoInnerError};
 use redux_play::play::{WriterAnswer, WriterCall, WriterRun, play_writer};
 use std::alloc::{AllocError, Global};
-use std::io::ErrorKind;
+use std::io::{ErrorKind, Write};
+use tests_common::claims::Halves;
+use tests_common::constant::{Always, Never, TooMuch};
+use tests_common::policies::{FailsAt, Fickle, Greedy, Growing, Limiting, Tidy};
 
 type Target = Watched<ScriptWriter>;
 
@@ -38,22 +41,34 @@ pub fn writes(
 ) -> Result<Outcome, Unplayed> {
     let buffer = first_buffer(alloc, case.storage)?;
     let mut record = Record::new(alloc, buffer.buf())?;
-    let offers = offers(alloc, case.calls.as_slice(), low_byte(buffer.len()))?;
-    let calls = calls(alloc, case.calls.as_slice(), offers.as_slice())?;
+    let words = case.calls.as_slice();
+    let offers = offers(alloc, words, low_byte(buffer.len()))?;
+    let calls = calls(alloc, words, offers.as_slice())?;
     let writer = writer(alloc, case, fault, buffer)?;
+    // The player knows no `write_all`, so each call beside one is played by itself.
+    let has_all = words
+        .iter()
+        .any(|word| matches!(word, WriterWord::WriteAll(_)));
     let listed = Listed {
         calls: calls.as_slice(),
-        at_once,
+        at_once: if has_all { 1 } else { at_once.max(1) },
         unwraps: case.unwraps,
     };
     let (target, buffer) = under_rule(alloc, writer, case.rule, listed, &mut record)?;
     Ok(outcome(alloc, record, target.get_ref(), &buffer)?)
 }
 
+// A call that the player knows, or a `write_all`.
+#[derive(Clone, Copy)]
+enum Step<'a> {
+    Call(WriterCall<'a>),
+    All(&'a [u8]),
+}
+
 // Calls, by how many at once they are played, and whether an `into_inner` follows.
 #[derive(Clone, Copy)]
 struct Listed<'a> {
-    calls: &'a [WriterCall<'a>],
+    calls: &'a [Step<'a>],
     at_once: usize,
     unwraps: bool,
 }
@@ -75,7 +90,7 @@ fn offer(alloc: Global, word: &WriterWord, next: &mut u8) -> Result<Vec<u8>, All
             *next = low_byte(*n);
             Ok(Vec::new(alloc))
         }
-        WriterWord::Write(n) => {
+        WriterWord::Write(n) | WriterWord::WriteAll(n) => {
             *next = first.wrapping_add(low_byte(*n));
             counting(alloc, first, *n)
         }
@@ -88,7 +103,7 @@ fn calls<'a>(
     alloc: Global,
     words: &[WriterWord],
     offers: &'a [Vec<u8>],
-) -> Result<Vec<WriterCall<'a>>, AllocError> {
+) -> Result<Vec<Step<'a>>, AllocError> {
     let mut calls = Vec::new(alloc);
     for (word, bytes) in words.iter().zip(offers) {
         if let Some(call) = call_of(word, bytes.as_slice()) {
@@ -99,13 +114,16 @@ fn calls<'a>(
 }
 
 // The call that a word asks for, with these bytes for a write.
-fn call_of<'a>(word: &WriterWord, bytes: &'a [u8]) -> Option<WriterCall<'a>> {
+fn call_of<'a>(word: &WriterWord, bytes: &'a [u8]) -> Option<Step<'a>> {
     match word {
         WriterWord::CountFrom(_) => None,
-        WriterWord::Write(_) | WriterWord::WriteThese(_) => Some(WriterCall::Write(bytes)),
-        WriterWord::Flush => Some(WriterCall::Flush),
-        WriterWord::MakeRoom => Some(WriterCall::MakeRoom),
-        WriterWord::Reserve(n) => Some(WriterCall::Reserve(*n)),
+        WriterWord::WriteAll(_) => Some(Step::All(bytes)),
+        WriterWord::Write(_) | WriterWord::WriteThese(_) => {
+            Some(Step::Call(WriterCall::Write(bytes)))
+        }
+        WriterWord::Flush => Some(Step::Call(WriterCall::Flush)),
+        WriterWord::MakeRoom => Some(Step::Call(WriterCall::MakeRoom)),
+        WriterWord::Reserve(n) => Some(Step::Call(WriterCall::Reserve(*n))),
     }
 }
 
@@ -154,6 +172,30 @@ fn under_rule(
         WriterRule::Exact(n) => played(alloc, writer, FlushExact(n), listed, record),
         WriterRule::On(byte) => played(alloc, writer, FlushOn(byte), listed, record),
         WriterRule::Newline => played(alloc, writer, FlushOnNewline, listed, record),
+        WriterRule::Foreign(policy) => under_foreign(alloc, writer, policy, listed, record),
+    }
+}
+
+// Those that just a reader has say what std says.
+fn under_foreign(
+    alloc: Global,
+    writer: BufWriter<Told<Target>>,
+    policy: Foreign,
+    listed: Listed<'_>,
+    record: &mut Record,
+) -> Result<(Told<Target>, Buffer), Unplayed> {
+    match policy {
+        Foreign::Greedy => played(alloc, writer, Greedy, listed, record),
+        Foreign::Never => played(alloc, writer, Never, listed, record),
+        Foreign::Always => played(alloc, writer, Always, listed, record),
+        Foreign::TooMuch => played(alloc, writer, TooMuch, listed, record),
+        Foreign::Tidy(min) => played(alloc, writer, Tidy(MinBuffered(min)), listed, record),
+        Foreign::Growing => played(alloc, writer, Growing, listed, record),
+        Foreign::Limiting(limit) => played(alloc, writer, Limiting(limit), listed, record),
+        Foreign::Fickle => played(alloc, writer, Fickle { asked: 0 }, listed, record),
+        Foreign::Halves => played(alloc, writer, Halves, listed, record),
+        Foreign::FailsAt(n) => played(alloc, writer, FailsAt::new(n), listed, record),
+        Foreign::Header | Foreign::Copying => played(alloc, writer, StdPolicy, listed, record),
     }
 }
 
@@ -166,14 +208,60 @@ fn played<P: WriterPolicy + Drop>(
     record: &mut Record,
 ) -> Result<(Told<Target>, Buffer), Unplayed> {
     let mut writer = writer.set_policy(policy);
-    for calls in listed.calls.chunks(listed.at_once.max(1)) {
-        plays(&mut writer, calls, &mut record.run)?;
-        record.note(calls, writer.get_ref().get_ref().errors())?;
+    for steps in listed.calls.chunks(listed.at_once.max(1)) {
+        match steps {
+            [Step::All(bytes)] => writes_all(&mut writer, bytes, record)?,
+            _ => {
+                let calls = known(alloc, steps)?;
+                plays(&mut writer, calls.as_slice(), &mut record.run)?;
+                record.note(calls.as_slice(), writer.get_ref().get_ref().errors())?;
+            }
+        }
     }
     if listed.unwraps {
         return unwrapped(alloc, writer, record);
     }
     Ok(writer.into_inner_with_buffer())
+}
+
+// The calls that the player knows.
+fn known<'a>(alloc: Global, steps: &[Step<'a>]) -> Result<Vec<WriterCall<'a>>, AllocError> {
+    let mut calls = Vec::new(alloc);
+    for step in steps {
+        if let Step::Call(call) = *step {
+            calls.push(call)?;
+        }
+    }
+    Ok(calls)
+}
+
+// All of these bytes. Where that fails, as many were accepted as are now taken or buffered.
+fn writes_all<P: WriterPolicy>(
+    writer: &mut BufWriter<Told<Target>, P>,
+    bytes: &[u8],
+    record: &mut Record,
+) -> Result<(), AllocError> {
+    let answer = write_all(writer, bytes);
+    let target = writer.get_ref().get_ref();
+    let held = target
+        .inside()
+        .taken()
+        .len()
+        .saturating_add(writer.buf_len());
+    let count = match answer {
+        WriterAnswer::Done => bytes.len(),
+        _ => held.saturating_sub(record.accepted.len()),
+    };
+    record.run.answers.push(answer)?;
+    record.accept(WriterCall::Write(bytes), count)?;
+    record.note(&[WriterCall::Write(bytes)], target.errors())
+}
+
+fn write_all<W: Write>(writer: &mut W, bytes: &[u8]) -> WriterAnswer {
+    match writer.write_all(bytes) {
+        Ok(()) => WriterAnswer::Done,
+        Err(e) => WriterAnswer::Fault(e.kind()),
+    }
 }
 
 fn plays<W: TellWrite, P: WriterPolicy>(

@@ -11,6 +11,7 @@ mod looks;
 mod makers;
 pub mod policies;
 mod positions;
+pub mod sweep;
 mod texts;
 
 pub use crate::calls::{consume, fill_buf, flush, kind, read, read_to_end, seek, write, write_all};
