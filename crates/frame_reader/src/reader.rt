@@ -1,7 +1,8 @@
 //! The reader of frames.
-ghost use Rattle.std.specs.Prelude.{◌≡◌, ℕ, ◌+◌, ◌^◌, ◌<◌, ◌≤◌, ◌↔◌, List, ◌++◌, length, Ok, Err, Some, IfOk, IfErr, IfSome, IsTrue, option_copied};
+ghost use Rattle.std.specs.Prelude.{◌≡◌, ℕ, ◌+◌, ◌*◌, ◌^◌, ◌<◌, ◌≤◌, ◌↔◌, List, ◌++◌, length, Ok, Err, Some, IfOk, IfErr, IfSome, IsOk, IsTrue, option_copied};
 ghost use Rattle.std.specs.Borrow.{sem};
 ghost use Rattle.std.specs.Io.BufRead.{Rests};
+ghost use Rattle.buffer_redux.specs.Block.{Plain};
 ghost use Rattle.buffer_redux.specs.GrowError.{FitsWithin};
 ghost use Rattle.buffer_redux.specs.MakeError.{growth};
 ghost use Rattle.codec.specs.Decoding.{IsLent, bytes_at};
@@ -91,6 +92,7 @@ impl<R: Tell> FrameReader<R> {
         ensures whole { IfOk result IsFraming }
         ensures handed_back { IfErr result (λ e. (e.0.0 ≡ buffer) × (e.0.1 ≡ inner)) }
         ensures within { FitsWithin (growth result) (frame_capacity buffer.capacity max) (2 ^ 62) }
+        ensures kept { buffer.kind ≡ Plain → 3 * (2 + max) ≤ buffer.capacity → IsOk result }
     {
         match PieceReader::with_buffer(alloc, buffer, inner, Frames { max }) {
             Ok(pieces) => Ok(FrameReader { pieces }),

@@ -1,7 +1,8 @@
 //! The reader of lines.
-ghost use Rattle.std.specs.Prelude.{◌≡◌, ℕ, ◌+◌, ◌≤◌, ◌^◌, ◌↔◌, List, ◌∷◌, ◌++◌, length, Ok, Err, Some, None, IfOk, IfErr, IfSome, IsTrue, true, false, option_copied};
+ghost use Rattle.std.specs.Prelude.{◌≡◌, ℕ, ◌+◌, ◌*◌, ◌<◌, ◌≤◌, ◌^◌, ◌↔◌, List, ◌∷◌, ◌++◌, length, Ok, Err, Some, None, IfOk, IfErr, IfSome, IsOk, IsTrue, true, false, option_copied};
 ghost use Rattle.std.specs.Borrow.{Lends, sem};
 ghost use Rattle.std.specs.Io.BufRead.{Rests};
+ghost use Rattle.buffer_redux.specs.Block.{Plain};
 ghost use Rattle.buffer_redux.specs.GrowError.{FitsWithin};
 ghost use Rattle.buffer_redux.specs.MakeError.{growth};
 ghost use Rattle.line_reader.specs.contracts.reader.LineReader.{the_row};
@@ -101,6 +102,7 @@ impl<R: Tell> LineReader<R> {
         ensures whole { IfOk result IsLining }
         ensures handed_back { IfErr result (λ e. (e.0.0 ≡ buffer) × (e.0.1 ≡ inner)) }
         ensures within { FitsWithin (growth result) (room_for buffer.capacity max) (2 ^ 62) }
+        ensures kept { buffer.kind ≡ Plain → 3 * (1 + max) ≤ buffer.capacity → max < 2 ^ 62 → IsOk result }
     {
         if max >= MAX_CAPACITY {
             return Err(MakeError((buffer, inner), GrowError::TooLarge));

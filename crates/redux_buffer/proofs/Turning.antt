@@ -41,7 +41,8 @@ module _ {W : Type 0} (tells : W → StreamLog) (stretch call : W → W → Type
   not_filled shown e =
       let none : MetInterrupts (tells w).writes (tells w).writes =
       record { interrupts = []; only = OnlyInterrupted-none (tells w).writes } in
-      let kept = still from.fills (after_fill_fault from shown e).fills (tells w).writes (tells w).writes refl refl refl refl refl in
+      let kept = still from.fills (after_fill_fault from shown e).fills (tells w).writes (tells w).writes refl refl refl refl
+      refl in
       let fills : FillsMade 0 from.fills (after_fill_fault from shown e).fills (tells w).writes (tells w).writes =
       omega (arith, length-append from.fills.faults (e ∷ [])) in
       let writes : WritesEachFill from.fills (after_fill_fault from shown e).fills (tells w).writes (tells w).writes =

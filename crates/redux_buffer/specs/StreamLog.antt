@@ -59,7 +59,16 @@ pub record StreamLog : Type 0 where
 abbrev pub no_calls : StreamLog
 no_calls = record {
   reads = record { given = []; latest = []; asks = 0; offer = 0; zero_reads = 0; faults = [] };
-  writes = record { received = []; flushed = []; flushes = 0; asks = 0; short_writes = 0; offer = 0; zero_writes = 0; faults = [] };
+  writes = record {
+    received = [];
+    flushed = [];
+    flushes = 0;
+    asks = 0;
+    short_writes = 0;
+    offer = 0;
+    zero_writes = 0;
+    faults = [];
+  };
   fills = record { shown = []; consumed = []; asks = 0; consumes = 0; zero_fills = 0; faults = [] };
   seeks = record { calls = []; faults = [] };
 }
