@@ -498,17 +498,17 @@ END
     refused decode "$scratch/body" "$payload"
 }
 
-# A command that stands at the end of a line which is too long is none, whichever read within that line is interrupted or fails;
-# nor is the last line one where it lacks its end.
-run_kv_server() {
-    turns '' crates/kv_server/stdin crates/kv_server/stdout
-    gives '' 'SET foo 1\nSET foobar 2\nDEL foo' 'OK\nOK\nERROR cut line\n'
-    command="SET a $(printf %02200d 0)SET evil 1\\nGET evil\\n"
+# A request that stands within a bulk string is none, whichever read within that string is interrupted or fails.
+run_resp_server() {
+    turns '' crates/resp_server/stdin crates/resp_server/stdout
+    within="$(printf %02000d 0)\\r\\nPING\\r\\n"
+    command="*2\\r\\n\$4\\r\\nECHO\\r\\n\$2008\\r\\n$within\\r\\nPING\\r\\n"
+    replies="\$2008\\r\\n$within\\r\\n+PONG\\r\\n"
     reads=
-    for at in 1 2 3 4 5 6; do
-        answers '' "$command" "$reads i1 512*" '' 'ERROR long line\nNONE\n' 0 '7 1'
-        # Behind the last line it is asked only once the replies are written.
-        if [ "$at" -eq 6 ]; then said='ERROR long line\nNONE\n'; else said=; fi
+    for at in 1 2 3 4 5; do
+        answers '' "$command" "$reads i1 512*" '' "$replies" 0 '6 1'
+        # Behind the last request it is asked only once the replies are written.
+        if [ "$at" -eq 5 ]; then said=$replies; else said=; fi
         printf '%b' "$command" > "$scratch/in"
         printf '%b' "$said" > "$scratch/want"
         READS="$reads e" WRITES="" CALLS=$scratch/calls LD_PRELOAD=$system "$program" < "$scratch/in" > "$scratch/out" 2> "$scratch/err"
@@ -554,7 +554,7 @@ if ! "${CC:-cc}" -O2 -shared -fPIC -o "$system" tests/system.c -ldl 2> "$scratch
     wrong 'tests/system.c is not compiled' "$scratch/compiled"
     exit 1
 fi
-for it in bufcopy replay frames bodies kv_server tests_refused; do
+for it in bufcopy replay frames bodies resp_server tests_refused; do
     if begins "$it"; then
         "run_$it"
         ends

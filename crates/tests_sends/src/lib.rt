@@ -17,8 +17,8 @@ use codec::{
 };
 use decoders::{BulkStrings, Lengths, Netstrings};
 use frame_reader::{FrameError, FrameReader, FrameWriter, WriteFrameError};
-use kv::{Command, Full, Refusal, Served, Store};
 use line_reader::{LineError, LineReader};
+use resp::{Command, Full, Refusal, Session, Store};
 use std::fs::File;
 
 fn is_send<T: Send>(_value: &T) {}
@@ -246,7 +246,7 @@ pub fn answers_shared<W: Sync>(a: &Found<W>, b: &End<W>, c: &NextError<W>, d: &W
     is_sync(d);
 }
 
-pub fn entries(a: &Store, b: &Command<'_>, c: &Full, d: &Refusal, e: &Served) {
+pub fn entries(a: &Store, b: &Command<'_>, c: &Full, d: &Refusal, e: &Session) {
     is_both(a);
     is_both(b);
     is_both(c);

@@ -1,6 +1,0 @@
-use Rattle.kv.proofs.Keys.{count_taken, puts}
-use Rattle.kv.proofs.store.Store.del.Goals as goal
-
-pub returns-clause-put : goal.returns-clause-put
-returns-clause-put c = puts c.args.key.now _ c.args.self.now.map c.remove.new.self _ c.remove.ensures.updates
-    (count_taken _ _ _ _ c.remove.ensures.value c.remove.ensures.len)

@@ -1,0 +1,33 @@
+-- What is replied behind a piece.
+use Rattle.std.proofs.Common.{◌≡◌, ℕ, List, Bool, true, Result, Ok, Err, IfOk, MatchBool, refl, subst, sym}
+use Rattle.std.specs.Prelude.{codes}
+use Rattle.std.specs.declared.io.Error.{Error}
+use Rattle.buffer_redux.specs.Buffered.{Buffered}
+use Rattle.buffer_redux.specs.StreamLog.{StreamLog}
+use Rattle.codec.specs.Answering.{Answered}
+use Rattle.resp.specs.Commands.{Acts, Means, goes_on}
+use Rattle.resp.specs.Replies.{Replied}
+use Rattle.resp.specs.Sessions.{RepliesWhole}
+use Rattle.resp.specs.Stored.{Same, Values}
+use Rattle.resp.specs.Waiting.{Waiting, nothing}
+use Rattle.resp.specs.declared.command.Command.{Command}
+use Rattle.resp.proofs.Keys.{same_of}
+
+-- a reply that was written, or couldn't be
+pub answered : {A T P : Type 0} (tells : T → StreamLog) (stretch : T → T → Type 0) (Says : List ℕ → Bool → A → Type 0)
+    (reply : List ℕ) (more : Bool) (t : A) → Says reply more t → (w v : Buffered T P) (r : Result Bool Error)
+    → Replied tells stretch w reply r v → IfOk r (λ b. b ≡ more) → Answered tells stretch Says w r t v
+answered tells stretch Says reply more t says w v (Ok b) along is =
+    (reply, subst (λ b. Says reply b t) (sym is) says, along)
+answered tells stretch Says reply more t says w v (Err e) (nothing, refused) is = (reply, more, says, nothing, refused)
+
+-- to a request that was lost
+pub lost_whole : (m : Waiting) (old : Values) (t : Waiting) → m.lost ≡ true → t ≡ nothing
+    → RepliesWhole m old (codes "-ERR out of memory\r\n") true t old
+lost_whole m old t is none = (
+  none,
+  subst (λ b. MatchBool b
+      ((codes "-ERR out of memory\r\n" ≡ codes "-ERR out of memory\r\n") × (true ≡ true) × Same old old)
+      ((command : Command) × Means m.parts command × Acts old command (codes "-ERR out of memory\r\n") old
+      × (true ≡ goes_on command))) (sym is) (refl, refl, same_of old old refl),
+)

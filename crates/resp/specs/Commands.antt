@@ -1,0 +1,120 @@
+-- What requests ask for, and what is done and replied.
+use Rattle.std.specs.Prelude.{◌≡◌, ℕ, ℤ, pos, ◌+ℤ◌, ◌+◌, ◌≤◌, ◌⊎◌, List, [], ◌∷◌, length, map, codes, decimal, Bool, true, false, Option, None, Some, MatchOption}
+use Rattle.std.specs.Fmt.{signed_decimal}
+use Rattle.std.specs.Char.{to_ascii_lowercase}
+use Rattle.resp.specs.declared.command.Command.{Command}
+use Rattle.resp.specs.declared.command.Command.TheVariants as command
+use Rattle.resp.specs.declared.command.Name.{Name}
+use Rattle.resp.specs.declared.command.Name.TheVariants as name
+use Rattle.resp.specs.Replies.{bulk_reply, number_reply}
+use Rattle.resp.specs.Stored.{HasRoom, IsFull, Puts, Same, Values, counted}
+use Rattle.resp.specs.Waiting.{bytes_of}
+
+-- the same word, in either case
+abbrev pub SameWord : List ℕ → List ℕ → Type 0
+SameWord word other = map to_ascii_lowercase word ≡ map to_ascii_lowercase other
+
+abbrev pub word_of : Name → List ℕ
+word_of name.Ping = codes "ping"
+word_of name.Echo = codes "echo"
+word_of name.Get = codes "get"
+word_of name.Set = codes "set"
+word_of name.Del = codes "del"
+word_of name.Incr = codes "incr"
+word_of name.DbSize = codes "dbsize"
+word_of name.Quit = codes "quit"
+word_of name.Command = codes "command"
+word_of name.Config = codes "config"
+
+abbrev pub IsNoName : List ℕ → Type 0
+IsNoName word = (n : Name) → ¬ (SameWord word (word_of n))
+
+-- behind this name a command has so many other parts
+abbrev pub Takes : Name → ℕ → Type 0
+Takes name.Ping n = n ≤ 1
+Takes name.Echo n = n ≡ 1
+Takes name.Get n = n ≡ 1
+Takes name.Set n = n ≡ 2
+Takes name.Del n = 1 ≤ n
+Takes name.Incr n = n ≡ 1
+Takes name.DbSize n = n ≡ 0
+Takes name.Quit n = n ≡ 0
+Takes name.Command n = Unit {0}
+Takes name.Config n = Unit {0}
+
+-- which command it is, with this name and these other parts
+abbrev pub MeansRest : Name → List (List ℕ) → Command → Type 0
+MeansRest n rest command.Ping = (n ≡ name.Ping) × (rest ≡ [])
+MeansRest n rest (command.Echo text) = ((n ≡ name.Ping) ⊎ (n ≡ name.Echo)) × (rest ≡ text.now ∷ [])
+MeansRest n rest (command.Get key) = (n ≡ name.Get) × (rest ≡ key.now ∷ [])
+MeansRest n rest (command.Set key value) = (n ≡ name.Set) × (rest ≡ key.now ∷ value.now ∷ [])
+MeansRest n rest (command.Del keys) = (n ≡ name.Del) × (rest ≡ bytes_of keys.now) × (1 ≤ length rest)
+MeansRest n rest (command.Incr key) = (n ≡ name.Incr) × (rest ≡ key.now ∷ [])
+MeansRest n rest command.DbSize = (n ≡ name.DbSize) × (rest ≡ [])
+MeansRest n rest command.Quit = (n ≡ name.Quit) × (rest ≡ [])
+MeansRest n rest command.Nothing = (n ≡ name.Command) ⊎ (n ≡ name.Config)
+MeansRest n rest command.Arguments = ¬ (Takes n (length rest))
+MeansRest n rest command.Unknown = ⊥
+
+-- a request has a name, and is a command with that; or it has none
+abbrev pub Means : List (List ℕ) → Command → Type 0
+Means [] c = c ≡ command.Unknown
+Means (word ∷ rest) c =
+    ((n : Name) × SameWord word (word_of n) × MeansRest n rest c) ⊎ (IsNoName word × (c ≡ command.Unknown))
+
+-- the number at a key, which is 0 where there is none
+abbrev pub IsNumberAt : Option (List ℕ) → ℤ → Type 0
+IsNumberAt None n = n ≡ pos 0
+IsNumberAt (Some text) n = text ≡ signed_decimal n
+
+-- the number at a key is now this, one more than it was
+abbrev pub Raises : Values → List ℕ → ℤ → Values → Type 0
+Raises old key n new = (m : ℤ) × IsNumberAt (old.value key) m × (n ≡ m +ℤ pos 1) × HasRoom key old
+    × Puts key (Some (signed_decimal n)) old new
+
+-- or it is not, and why: there is no number that can be raised, or there is no room for one. That memory is refused, and which
+-- text is no number, is said of no state
+abbrev pub RaisesNone : Values → List ℕ → List ℕ → Values → Type 0
+RaisesNone old key why new = Same old new
+    × ((why ≡ codes "-ERR value is not an integer or out of range\r\n")
+    ⊎ ((why ≡ codes "-ERR increment or decrement would overflow\r\n")
+    ⊎ (((why ≡ codes "-ERR too many keys\r\n") × IsFull key old) ⊎ (why ≡ codes "-ERR out of memory\r\n"))))
+
+-- keys are taken out one after another, and so many of them were there
+abbrev pub Deletes : List (List ℕ) → Values → ℕ → Values → Type 0
+Deletes [] old n new = (n ≡ 0) × Same old new
+Deletes (key ∷ keys) old n new = (between : Values) × (m : ℕ) × Puts key None old between
+    × (n ≡ counted (old.value key) + m) × Deletes keys between m new
+
+-- what a command does, and its reply. That memory is refused is said of no state
+abbrev pub Acts : Values → Command → List ℕ → Values → Type 0
+Acts old command.Ping reply new = (reply ≡ codes "+PONG\r\n") × Same old new
+Acts old (command.Echo text) reply new = (reply ≡ bulk_reply text.now) × Same old new
+Acts old (command.Get key) reply new =
+    MatchOption (old.value key.now) (reply ≡ codes "$-1\r\n") (λ value. reply ≡ bulk_reply value) × Same old new
+Acts old (command.Set key value) reply new =
+    ((reply ≡ codes "+OK\r\n") × HasRoom key.now old × Puts key.now (Some value.now) old new)
+    ⊎ (((reply ≡ codes "-ERR too many keys\r\n") × IsFull key.now old × Same old new)
+    ⊎ ((reply ≡ codes "-ERR out of memory\r\n") × Same old new))
+Acts old (command.Del keys) reply new = (n : ℕ) × (reply ≡ number_reply (decimal n)) × Deletes (bytes_of keys.now) old n new
+Acts old (command.Incr key) reply new =
+    ((n : ℤ) × (reply ≡ number_reply (signed_decimal n)) × Raises old key.now n new) ⊎ RaisesNone old key.now reply new
+Acts old command.DbSize reply new = (reply ≡ number_reply (decimal old.count)) × Same old new
+Acts old command.Quit reply new = (reply ≡ codes "+OK\r\n") × Same old new
+Acts old command.Nothing reply new = (reply ≡ codes "*0\r\n") × Same old new
+Acts old command.Arguments reply new = (reply ≡ codes "-ERR wrong number of arguments\r\n") × Same old new
+Acts old command.Unknown reply new = (reply ≡ codes "-ERR unknown command\r\n") × Same old new
+
+-- no request is taken behind `QUIT`
+abbrev pub goes_on : Command → Bool
+goes_on command.Ping = true
+goes_on (command.Echo text) = true
+goes_on (command.Get key) = true
+goes_on (command.Set key value) = true
+goes_on (command.Del keys) = true
+goes_on (command.Incr key) = true
+goes_on command.DbSize = true
+goes_on command.Quit = false
+goes_on command.Nothing = true
+goes_on command.Arguments = true
+goes_on command.Unknown = true

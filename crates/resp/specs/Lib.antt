@@ -1,0 +1,5 @@
+pub mod Commands
+pub mod Replies
+pub mod Sessions
+pub mod Stored
+pub mod Waiting

@@ -1,0 +1,47 @@
+-- What a session does with a piece, and replies.
+use Rattle.std.specs.Prelude.{◌≡◌, ℕ, List, [], Bool, true, false, MatchBool, codes}
+use Rattle.decoders.specs.declared.resp.RespItem.{RespItem}
+use Rattle.resp.specs.Commands.{Acts, Means, goes_on}
+use Rattle.resp.specs.Stored.{Same, Values, held}
+use Rattle.resp.specs.Waiting.{Feeds, Waiting, nothing}
+use Rattle.resp.specs.declared.command.Command.{Command}
+use Rattle.resp.specs.declared.request.Fed.{Fed}
+use Rattle.resp.specs.declared.request.Fed.TheVariants.{More, Whole, Bad}
+use Rattle.resp.specs.declared.request.Refusal.{Refusal}
+use Rattle.resp.specs.declared.session.Session.{Session}
+use Rattle.resp.specs.declared.request.Refusal.TheVariants.{Count, NoBulk, NoArray}
+
+-- what came of a request, and what the store holds
+pub record SessionState : Type 0 where
+  pub waiting : Waiting
+  pub values : Values
+
+abbrev pub session : Waiting → Values → SessionState
+session waiting values = record { waiting = waiting; values = values }
+
+abbrev pub state_of : Session → SessionState
+state_of s = session s.request (held s.store)
+
+-- why a piece belongs to no request
+abbrev pub refusal_reply : Refusal → List ℕ
+refusal_reply Count = codes "-ERR Protocol error: invalid multibulk length\r\n"
+refusal_reply NoBulk = codes "-ERR Protocol error: expected '$'\r\n"
+refusal_reply NoArray = codes "-ERR Protocol error: expected '*'\r\n"
+
+-- one reply to a request that is whole, after which none waits; of one that was lost nothing is done
+abbrev pub RepliesWhole : Waiting → Values → List ℕ → Bool → Waiting → Values → Type 0
+RepliesWhole m old reply more t new = (t ≡ nothing) × MatchBool m.lost
+    ((reply ≡ codes "-ERR out of memory\r\n") × (more ≡ true) × Same old new)
+    ((command : Command) × Means m.parts command × Acts old command reply new × (more ≡ goes_on command))
+
+-- what is replied behind a piece: nothing, while more of a request is to come; one reply to a whole one; and an error to what
+-- belongs to none, behind which no further piece is taken
+abbrev pub RepliesTo : Waiting → Values → Fed → List ℕ → Bool → Waiting → Values → Type 0
+RepliesTo m old More reply more t new = (reply ≡ []) × (more ≡ true) × (t ≡ m) × Same old new
+RepliesTo m old Whole reply more t new = RepliesWhole m old reply more t new
+RepliesTo m old (Bad why) reply more t new = (reply ≡ refusal_reply why) × (more ≡ false) × (t ≡ m) × Same old new
+
+-- a piece is fed to the request, and then this is replied
+abbrev pub Replies : SessionState → RespItem → List ℕ → List ℕ → Bool → SessionState → Type 0
+Replies s item payload reply more t = (fed : Fed) × (between : Waiting) × Feeds s.waiting item payload fed between
+    × RepliesTo between s.values fed reply more t.waiting t.values
