@@ -21,7 +21,7 @@ use Rattle.chunked.specs.declared.place.Place.TheVariants.{Line}
 use Rattle.programs.specs.Prompt.{AskedLast, AsksGive}
 use Rattle.programs.specs.PromptLaws.{AskedLast-after}
 use Rattle.bodies.specs.AtEnd.{AskedOnce}
-use Rattle.bodies.specs.Decode.{AskedOver}
+use Rattle.bodies.specs.Decoding.{AskedOver}
 use Rattle.bodies.proofs.Asking.{asks_once, given_last, none_after_fault}
 
 -- the reader inside was asked where nothing was buffered, and once

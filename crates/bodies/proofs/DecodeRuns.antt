@@ -17,7 +17,8 @@ use Rattle.chunked.specs.declared.limits.Limits.{Limits}
 use Rattle.chunked.specs.declared.place.Place.TheVariants.{Line}
 use Rattle.bodies.specs.declared.error.RunError.{RunError}
 use Rattle.bodies.specs.declared.error.RunError.TheVariants.{NotChunked, Truncated, Behind, Read, Write, Io}
-use Rattle.bodies.specs.Decode.{DecodeFailed, DecodeRan, Decoded, ExpectsEnd, IsPart, MovesAll, MovesEach, MovesFirst, Sent}
+use Rattle.bodies.specs.Decode.{DecodeFailed, DecodeRan, Decoded, ExpectsEnd, IsPart, Sent}
+use Rattle.bodies.proofs.Moved.{MovesAll, MovesEach, MovesFirst}
 use Rattle.programs.specs.Streams.{AllSent, BufferRefused, MetNoFault, OverCount, SendFailed}
 use Rattle.programs.specs.StreamsLaws.{ReadGaveUp-after, MetInterrupts-none, MetNoFault-joins}
 
@@ -88,7 +89,7 @@ module _ {R W : Type 0} (remaining : R → Option (List ℕ)) (limits : Limits) 
           wire = t.taken;
           payload = p.payload;
           place = t.place;
-          part = part p.payload p.went.went p.went.source.whole;
+          part = part p.payload p.went.went p.went.whole;
           sent = subst (λ l. Sent first.log r.log u.log v.log t.taken p.payload l) end.answers.1 (sent r end.along);
         },
         record {
@@ -101,7 +102,7 @@ module _ {R W : Type 0} (remaining : R → Option (List ℕ)) (limits : Limits) 
   pub ended : MovesAll remaining (begun first limits) u (Ok tt) t v → (answer : Result (Unit {0}) RunError)
       → (r : Buffered R StdPolicy) → ExpectsEnd remaining t.reader (taken_count t) answer r
       → DecodeRan limits first.log r.log u.log v.log answer
-  ended p answer r end = asked p.0.0 p.1 p.0.1 r answer end
+  ended p answer r end = asked p.0 p.2 p.1 r answer end
 
   -- the run failed of a cause that doesn't end where there is more payload
   failed : (Caused : ℕ → Type 0) → ((n k : ℕ) → n ≤ k → Caused n → Caused k)
@@ -111,7 +112,7 @@ module _ {R W : Type 0} (remaining : R → Option (List ℕ)) (limits : Limits) 
     wire = t.taken;
     payload = some.payload ++ some.lost;
     place = t.place;
-    part = part (some.payload ++ some.lost) some.went.went some.went.source.whole;
+    part = part (some.payload ++ some.lost) some.went.went some.went.whole;
     rest = t.reader.block.bytes;
     given = given (some.payload ++ some.lost) some.went.went t.reader
         (ReadsAlong-none remaining std_read_rules t.reader);
@@ -135,35 +136,35 @@ module _ {R W : Type 0} (remaining : R → Option (List ℕ)) (limits : Limits) 
   pub stopped : (why : RunError) → MovesAll remaining (begun first limits) u (Err why) t v
       → DecodeRan limits first.log t.reader.log u.log v.log (Err why)
   stopped (NotChunked why right) p =
-      let each = p.0.0 in
-      let breaks = p.0.1 in (
+      let each = p.0 in
+      let breaks = p.1 in (
         record {
           wire = t.taken;
           payload = each.payload;
           place = t.place;
-          part = part each.payload each.went.went each.went.source.whole;
+          part = part each.payload each.went.went each.went.whole;
           byte = breaks.byte;
           later = breaks.later;
-          sent = subst (λ l. Sent first.log t.reader.log u.log v.log t.taken each.payload l) breaks.next (sent_now each p.1);
+          sent = subst (λ l. Sent first.log t.reader.log u.log v.log t.taken each.payload l) breaks.next (sent_now each p.3);
           name = subst (λ l. IsWrong l t.place breaks.byte why) each.went.went.limits breaks.name;
           none = subst (λ l. (rest whole : List ℕ) → ¬ IsBody l (t.taken ++ breaks.byte ∷ rest) whole)
               each.went.went.limits breaks.none;
-          count = p.0.2;
+          count = p.2;
         },
         each.met,
       )
   stopped (Truncated right) p =
-      let each = p.0.0 in
-      let cut = p.0.1 in (
+      let each = p.0 in
+      let cut = p.1 in (
         record {
           wire = t.taken;
           payload = each.payload;
           place = t.place;
-          part = part each.payload each.went.went each.went.source.whole;
-          sent = subst (λ l. Sent first.log t.reader.log u.log v.log t.taken each.payload l) cut.left (sent_now each p.1);
+          part = part each.payload each.went.went each.went.whole;
+          sent = subst (λ l. Sent first.log t.reader.log u.log v.log t.taken each.payload l) cut.left (sent_now each p.3);
           none = subst (λ l. (whole : List ℕ) → ¬ IsBody l t.taken whole) each.went.went.limits cut.none;
           ended = cut.dry;
-          count = p.0.2;
+          count = p.2;
         },
         each.met,
       )
@@ -173,7 +174,7 @@ module _ {R W : Type 0} (remaining : R → Option (List ℕ)) (limits : Limits) 
       wire = t.taken;
       payload = p.payload;
       place = t.place;
-      part = part p.payload p.went.went p.went.source.whole;
+      part = part p.payload p.went.went p.went.whole;
       sent = record {
         given = given p.payload p.went.went t.reader (ReadsAlong-none remaining std_read_rules t.reader)
             ∙ ap (λ l. first.log.reads.given ++ (t.taken ++ l)) p.left;

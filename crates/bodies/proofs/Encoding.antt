@@ -1,5 +1,5 @@
 -- What chunks come to that are made one behind the other.
-use Rattle.std.proofs.Common.{◌≡◌, ℕ, zero, suc, ◌+◌, ◌<◌, ◌≤◌, ◌^◌, inl, inr, Bool, List, [], ◌++◌, length, take, true, false, Option, Result, Ok, Err, refl, sym, ap, subst, ◌∙◌, arith, append-nil, length-append}
+use Rattle.std.proofs.Common.{◌≡◌, ℕ, zero, suc, ◌+◌, ◌<◌, ◌≤◌, ◌^◌, inl, inr, Bool, List, [], ◌∷◌, ◌++◌, length, take, true, false, Option, Result, Ok, Err, refl, sym, ap, subst, ◌∙◌, arith, append-nil, length-append}
 use Rattle.std.proofs.lemmas.Bool.{cases_lt}
 use Rattle.std.proofs.lemmas.List.{length-take-le}
 use Rattle.std.proofs.lemmas.List.Concat.{flat_map-append}
@@ -25,9 +25,18 @@ use Rattle.programs.specs.Streams.{AllSent, ReadGaveUp}
 use Rattle.programs.specs.StreamsLaws.{ReadFailed-after, SendFailed-after, MetInterrupts-none, MetNoFault-joins, MetNoFault-none}
 use Rattle.bodies.specs.declared.error.RunError.{RunError}
 use Rattle.bodies.specs.declared.error.RunError.TheVariants.{NotChunked, Truncated, Behind, Read, Write, Io}
-use Rattle.bodies.proofs.Reading.{no_gave_up}
 use Rattle.bodies.specs.AtEnd.{Asks, EndsOnce}
 use Rattle.bodies.specs.Encode.{Encodes, EncodesAll, EncodesEach, EncodesNext, NeverEnded}
+
+-- a read that failed was told
+no_gave_up : (old new : List Error) (e : Error) → new ≡ old → ReadGaveUp e old new → ⊥
+no_gave_up old new e same gave = omega (
+  arith,
+  ap length same,
+  ap length gave.fault.faults,
+  length-append old gave.fault.interrupts,
+  length-append (old ++ gave.fault.interrupts) (e ∷ []),
+)
 
 -- the writer was at most interrupted, and flushed nothing
 pub record Quiet {W : Type 0} (u v : Buffered W StdPolicy) : Type 0 where

@@ -1,9 +1,9 @@
 pub mod Asking
-pub mod Reading
-pub mod Moving
-pub mod DecodeRuns
 pub mod DecodeAsking
-pub mod DecodePrompting
-pub mod Encoding
+pub mod Passing
+pub mod Moved
+pub mod DecodeRuns
+pub mod Decoded
 pub mod EncodePrompting
+pub mod Encoding
 pub mod EncodeRuns

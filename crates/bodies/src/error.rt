@@ -1,7 +1,6 @@
 //! Why a run failed.
-ghost use Rattle.std.specs.Prelude.{◌≡◌};
 
-use chunked::{ChunkedError, Malformed};
+use chunked::Malformed;
 use std::io;
 
 /// Why a run failed. Each that isn't a stream's fault has the number of bytes of the body that were right, as far as a `u64`
@@ -24,25 +23,12 @@ pub enum RunError {
 
 /// What a call of a writer failed with.
 impl From<io::Error> for RunError {
+    ghost use Rattle.std.specs.Prelude.{◌≡◌};
     ghost use Rattle.bodies.specs.declared.error.RunError.TheVariants.{Write};
 
     ghost from_gives = { λ e r. r ≡ Write e };
 
     fn from(e: io::Error) -> RunError {
         RunError::Write(e)
-    }
-}
-
-impl From<ChunkedError> for RunError {
-    ghost use Rattle.bodies.specs.Decode.{of_chunked};
-
-    ghost from_gives = { λ e r. r ≡ of_chunked e };
-
-    fn from(e: ChunkedError) -> RunError {
-        match e {
-            ChunkedError::NotChunked(why, right) => RunError::NotChunked(why, right),
-            ChunkedError::Truncated(right) => RunError::Truncated(right),
-            ChunkedError::Io(e) => RunError::Read(e),
-        }
     }
 }

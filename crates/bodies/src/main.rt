@@ -3,6 +3,7 @@
 
 mod at_end;
 mod decode;
+mod decoding;
 mod encode;
 mod ending;
 mod error;

@@ -1,11 +1,13 @@
 -- What is done for one payload, and for all.
-use Rattle.std.proofs.Common.{◌≡◌, ℕ, ◌+◌, ◌^◌, ◌≤◌, List, [], ◌∷◌, ◌++◌, Bool, true, false, Result, Ok, Err, refl, sym, ap, subst, ◌∙◌, arith, append_assoc, length-append}
+use Rattle.std.proofs.Common.{inl, inr, length, ◌<◌, ◌≡◌, ℕ, ◌+◌, ◌^◌, ◌≤◌, List, [], ◌∷◌, ◌++◌, Bool, true, false, Result, Ok, Err, refl, sym, ap, subst, ◌∙◌, arith, append_assoc, length-append}
 use Rattle.std.specs.declared.io.Error.{Error}
 use Rattle.redux_buffer.specs.Faults.{MetInterrupts, OnlyInterrupts}
-use Rattle.forward.specs.Filter.{AsksOnce, FilterRules, IsLawful, Moves, StaysOpen, Wrote}
+use Rattle.forward.specs.Filter.{AsksOnce, FilterRules, FlushesOnce, IsLawful, Moves, StaysOpen, Wrote}
+use Rattle.forward.specs.Flushes.{FlushesSend}
 use Rattle.forward.specs.Forward.{Forwarded, ForwardedFirst, Forwards, NoneFailed}
 use Rattle.forward.specs.Link.{Ask, Goes, IsPrompt, LinkFlushes, LinkPasses, Linked}
-use Rattle.forward.specs.Steps.{AskedFrom, ForwardsNext, NextAnswers, OnlyInterrupted, TakesTurn}
+use Rattle.forward.specs.Prompt.{WritesOn}
+use Rattle.forward.specs.Steps.{AskedFrom, ForwardsNext, NextAnswers, OnTrue, OnlyInterrupted, TakesTurn}
 use Rattle.forward.specs.Streams.{ReadGaveUp}
 use Rattle.forward.specs.StreamsLaws.{MetNoFault-joins, MetNoFault-none, ReadFailed-after, SendFailed-after, only_same}
 use Rattle.forward.specs.declared.error.AskError.{AskError}
@@ -23,6 +25,21 @@ module _ {T W : Type 0} (rules : FilterRules T W) where
     pub forwarded : Forwarded rules count first.filter s.filter
     pub met : NoneFailed rules first.filter s.filter
     pub ready : rules.ready s.filter
+
+  -- a byte was taken in behind each flush; and so was one received, but for one flush at most
+  pub record Paced (first s : T) : Type 0 where
+    pub take : (rules.written s).writes.flushes + length (rules.written first).writes.received
+        ≤ (rules.written first).writes.flushes + rules.taken s
+    pub send : FlushesSend 1 (rules.written first).writes (rules.written s).writes
+
+  -- what was received goes on
+  longer : (s t : T) → WritesOn (rules.written s).writes (rules.written t).writes
+      → length (rules.written s).writes.received ≤ length (rules.written t).writes.received
+  longer s t writes = omega (
+    arith,
+    ap length writes.received.equal,
+    length-append (rules.written s).writes.received writes.received.more,
+  )
 
   met_writes : (s t : T) → rules.read t ≡ rules.read s → Wrote rules s t → NoneFailed rules s t
   met_writes s t told met = record {
@@ -125,6 +142,11 @@ module _ {T W : Type 0} (rules : FilterRules T W) where
       asks = asked.asks;
     }
 
+    more_after : (a b c : ℕ) (answer : Result Bool (Cause W)) → a ≤ b → OnTrue rules answer (b < c) → OnTrue rules answer (a < c)
+    more_after a b c (Ok true) before next = omega (arith, before, next)
+    more_after a b c (Ok false) before next = tt
+    more_after a b c (Err cause) before next = tt
+
     -- a payload was there; or none was, and it was asked for; or sending failed
     module _ (s m : Linked T) where
       unasked : (Such : Ask T → Type 0) → (answer : Result Bool Error) → LinkPasses rules s answer m → Goes rules Such s m
@@ -138,6 +160,9 @@ module _ {T W : Type 0} (rules : FilterRules T W) where
       passed p = record {
         goes = unasked (AskedFrom rules s.filter) (Ok true) p;
         once = unasked_once (Ok true) p;
+        flushes = inl p.passes.flushes;
+        more = p.passes.answers.3;
+        received = longer s.filter m.filter p.passes.writes;
         ready = p.passes.ready;
         answers = (
           record { payloads = p.passes.answers.0 ∷ []; moves = p.passes.answers.1; all = refl },
@@ -150,6 +175,9 @@ module _ {T W : Type 0} (rules : FilterRules T W) where
       not_passed e p = record {
         goes = unasked (AskedFrom rules s.filter) (Err e) p;
         once = unasked_once (Err e) p;
+        flushes = inl p.passes.flushes;
+        more = tt;
+        received = longer s.filter m.filter p.passes.writes;
         ready = p.passes.ready;
         answers = (
           none_first s.filter m.filter p.passes.answers.0 p.passes.answers.1,
@@ -180,6 +208,20 @@ module _ {T W : Type 0} (rules : FilterRules T W) where
           record {
             goes = goes_on Such 0 s m t before so answer next;
             once = once_on Such 0 s m t before so answer next;
+            flushes = elim next.flushes [
+              | inl same ↦ inl (same ∙ p.passes.flushes)
+              | inr one ↦ inr (
+                omega (arith, one.0, p.passes.flushes),
+                omega (
+                  arith,
+                  one.1,
+                  lawful.taken_on s.filter m.filter []
+                      p.passes.answers.0.takes,
+                ),
+              )
+            ];
+            more = more_after _ _ _ answer (lawful.taken_on s.filter m.filter [] p.passes.answers.0.takes) next.more;
+            received = omega (arith, longer s.filter m.filter p.passes.writes, next.received);
             ready = next.ready;
             answers = answers_on Such 0 s m t before so answer next;
           }
@@ -196,6 +238,9 @@ module _ {T W : Type 0} (rules : FilterRules T W) where
       not_flushed e p = record {
         goes = flush_unasked (AskedFrom rules s.filter) (Err e) p;
         once = flush_once (Err e) p;
+        flushes = p.flushes.flushes;
+        more = tt;
+        received = longer s.filter m.filter p.flushes.writes;
         ready = p.flushes.ready;
         answers = (
           none_first s.filter m.filter [] p.flushes.moves,
@@ -233,12 +278,33 @@ module _ {T W : Type 0} (rules : FilterRules T W) where
         writer = wrote;
       }
 
-      ended : (next : Result Bool (Cause W)) → NextAnswers rules 0 s.filter next t.filter → ForwardsNext rules s next t
-      ended next answers = record { goes = goes; once = once; ready = turn.ready; answers = answers }
+      flushes : FlushesOnce rules s.filter t.filter
+      flushes = elim p.flushes.flushes [
+        | inl same ↦ inl (ap (λ l. l.writes.flushes) turn.told ∙ same)
+        | inr one ↦ inr (
+          ap (λ l. l.writes.flushes) turn.told ∙ one.0,
+          omega (arith, one.1, ap (λ l. length l.writes.received) turn.told),
+        )
+      ]
+
+      received : length (rules.written s.filter).writes.received ≤ length (rules.written t.filter).writes.received
+      received = omega (arith, longer s.filter m.filter p.flushes.writes, ap (λ l. length l.writes.received) turn.told)
+
+      ended : (next : Result Bool (Cause W)) → OnTrue rules next (rules.taken s.filter < rules.taken t.filter)
+          → NextAnswers rules 0 s.filter next t.filter → ForwardsNext rules s next t
+      ended next more answers = record {
+        goes = goes;
+        once = once;
+        flushes = flushes;
+        more = more;
+        received = received;
+        ready = turn.ready;
+        answers = answers;
+      }
 
     module _ (s m t : Linked T) (p : LinkFlushes rules s (Ok tt) m) where
       pub no_more : TakesTurn rules m (Ok false) t → ForwardsNext rules s (Ok false) t
-      no_more turn = ended s m t p (Ok false) turn (Ok false) (
+      no_more turn = ended s m t p (Ok false) turn (Ok false) tt (
         none_forwarded s.filter t.filter (moves s m t p (Ok false) turn),
         lawful.ends_after s.filter m.filter t.filter [] (Ok tt) p.flushes.moves.hands
             (StaysOpen-none rules s.filter m.filter p.flushes.told) turn.answers.0,
@@ -247,7 +313,7 @@ module _ {T W : Type 0} (rules : FilterRules T W) where
       )
 
       pub wrong_next : (why : W) → TakesTurn rules m (Err (asked.Wrong why)) t → ForwardsNext rules s (Err (Wrong why)) t
-      wrong_next why turn = ended s m t p (Err (asked.Wrong why)) turn (Err (Wrong why)) (
+      wrong_next why turn = ended s m t p (Err (asked.Wrong why)) turn (Err (Wrong why)) tt (
         none_forwarded s.filter t.filter (moves s m t p (Err (asked.Wrong why)) turn),
         lawful.ends_after s.filter m.filter t.filter [] (Err why) p.flushes.moves.hands
             (StaysOpen-none rules s.filter m.filter p.flushes.told) turn.answers.0,
@@ -256,7 +322,7 @@ module _ {T W : Type 0} (rules : FilterRules T W) where
       )
 
       pub not_read : (e : Error) → TakesTurn rules m (Err (asked.Io e)) t → ForwardsNext rules s (Err (Read e)) t
-      not_read e turn = ended s m t p (Err (asked.Io e)) turn (Err (Read e)) (
+      not_read e turn = ended s m t p (Err (asked.Io e)) turn (Err (Read e)) tt (
         none_forwarded s.filter t.filter (moves s m t p (Err (asked.Io e)) turn),
         turn.answers.0,
         turn.sent,
@@ -280,24 +346,31 @@ module _ {T W : Type 0} (rules : FilterRules T W) where
         }
 
         then_moved : (u : Linked T) (answer : Result Bool (Cause W)) → ForwardsNext rules t answer u
-            → ForwardsNext rules s answer u
-        then_moved u answer next =
+            → (rules.written u.filter).writes.flushes ≡ (rules.written t.filter).writes.flushes → ForwardsNext rules s answer u
+        then_moved u answer next unflushed =
             let Such = AskedFrom rules s.filter in
             let so = asked_after s.filter t.filter (moves s m t p (Ok true) turn) came.once came.still in
             record {
               goes = goes_on Such 0 s t u came so answer next;
               once = once_on Such 0 s t u came so answer next;
+              flushes = elim (flushes s m t p (Ok true) turn) [
+                | inl same ↦ inl (unflushed ∙ same)
+                | inr one ↦ inr (unflushed ∙ one.0, omega (arith, one.1, next.received))
+              ];
+              more = more_after _ _ _ answer
+                  (lawful.taken_on s.filter t.filter [] (moves s m t p (Ok true) turn).takes) next.more;
+              received = omega (arith, received s m t p (Ok true) turn, next.received);
               ready = next.ready;
               answers = answers_on Such 0 s t u came so answer next;
             }
 
         pub came_passed : (u : Linked T) (moved : Bool) → LinkPasses rules t (Ok moved) u → ForwardsNext rules s (Ok moved) u
-        came_passed u true q = then_moved u (Ok true) (passed t u q)
+        came_passed u true q = then_moved u (Ok true) (passed t u q) q.passes.flushes
         came_passed u false q = absurd (q.passes.answers.3 turn.answers.0)
 
         pub came_not_passed : (u : Linked T) (e : Error) → LinkPasses rules t (Err e) u
             → ForwardsNext rules s (Err (Write e)) u
-        came_not_passed u e q = then_moved u (Err (Write e)) (not_passed t u e q)
+        came_not_passed u e q = then_moved u (Err (Write e)) (not_passed t u e q) q.passes.flushes
 
     -- all of them
     module _ (first : Linked T) (fresh : rules.fresh first.filter) where
@@ -314,7 +387,26 @@ module _ {T W : Type 0} (rules : FilterRules T W) where
         ready = ready;
       }
 
-      module _ (count : ℕ) (s t : Linked T) (before : SoFar Prompt count first s) where
+      pub paced_none : Paced first.filter first.filter
+      paced_none = record { take = omega (arith, lawful.received_taken first.filter); send = omega arith }
+
+      module _ (count : ℕ) (s t : Linked T) (before : SoFar Prompt count first s) (paced : Paced first.filter s.filter) where
+        flushes_on : (answer : Result Bool (Cause W)) → ForwardsNext rules s answer t
+            → FlushesSend 1 (rules.written first.filter).writes (rules.written t.filter).writes
+        flushes_on answer next = elim next.flushes [
+          | inl same ↦ omega (arith, paced.send, same, next.received)
+          | inr one ↦ omega (arith, paced.take, one.0, one.1)
+        ]
+
+        pub paced_more : ForwardsNext rules s (Ok true) t → Paced first.filter t.filter
+        paced_more next = record {
+          take = elim next.flushes [
+            | inl same ↦ omega (arith, paced.take, same, next.more)
+            | inr one ↦ omega (arith, paced.take, one.0, next.more)
+          ];
+          send = flushes_on (Ok true) next;
+        }
+
         prompt_of : (ask : Ask T) → AskedFrom rules s.filter ask → Prompt ask
         prompt_of ask asked =
             let went = before.forwarded in
@@ -348,6 +440,7 @@ module _ {T W : Type 0} (rules : FilterRules T W) where
         all_forwarded next = record {
           goes = all_goes (Ok false) next;
           once = (all_once (Ok false) next).once;
+          flushes = flushes_on (Ok false) next;
           ready = next.ready;
           answers = all_answers (Ok false) next;
         }
@@ -357,15 +450,17 @@ module _ {T W : Type 0} (rules : FilterRules T W) where
         stopped_by cause next = record {
           goes = all_goes (Err cause) next;
           once = (all_once (Err cause) next).once;
+          flushes = flushes_on (Err cause) next;
           ready = next.ready;
           answers = all_answers (Err cause) next;
         }
 
-      pub counted_all : (count : ℕ) (s : Linked T) → SoFar Prompt count first s → (most : ℕ) → count ≡ most → 2 ^ 64 ≤ most + 1
+      pub counted_all : (count : ℕ) (s : Linked T) → SoFar Prompt count first s → Paced first.filter s.filter → (most : ℕ) → count ≡ most → 2 ^ 64 ≤ most + 1
           → Forwards rules first (Err (record { count = most; cause = Count })) s
-      counted_all count s before most is large = record {
+      counted_all count s before paced most is large = record {
         goes = before.goes;
         once = before.once.once;
+        flushes = paced.send;
         ready = before.ready;
         answers = (
           record {

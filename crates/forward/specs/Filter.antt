@@ -1,5 +1,5 @@
 -- A filter: how payloads go from one stream to another, and what its calls promise.
-use Rattle.std.specs.Prelude.{◌≡◌, ℕ, ◌+◌, ◌≤◌, ◌⊎◌, List, [], ◌∷◌, ◌++◌, Bool, true, false, Result, Ok, Err}
+use Rattle.std.specs.Prelude.{◌≡◌, ℕ, ◌+◌, ◌<◌, ◌≤◌, ◌⊎◌, List, [], ◌∷◌, ◌++◌, length, Bool, true, false, Result, Ok, Err}
 use Rattle.std.specs.declared.io.Error.{Error}
 use Rattle.redux_buffer.specs.Faults.{IsInterrupt, MetInterrupts, SendErrorCaused}
 use Rattle.redux_buffer.specs.StreamLog.{StreamLog}
@@ -21,8 +21,9 @@ pub record FilterRules (T W : Type 0) : Type 1 where
   pub has : T → Type 0
   pub lacks : T → Type 0
   pub waits : T → Type 0
-  -- all that was taken in was received and flushed
+  -- all that was taken in was received and flushed; and how many bytes were taken in, whether or not they were received
   pub sent : T → Type 0
+  pub taken : T → ℕ
   -- how the stream is asked: for bytes that come while what is there holds no payload
   pub asks : T → T → Type 0
   -- how payloads end: at Ok there are no more, at Err what comes next is wrong
@@ -53,9 +54,17 @@ module _ {T W : Type 0} (rules : FilterRules T W) where
   abbrev pub FailedToWrite : Error → T → T → Type 0
   FailedToWrite e s t = SendErrorCaused (rules.written s).writes (rules.written t).writes e
 
+  -- the writer was flushed once at most, and all that had been taken in was received then
+  abbrev pub FlushesOnce : T → T → Type 0
+  FlushesOnce s t =
+      ((rules.written t).writes.flushes ≡ (rules.written s).writes.flushes)
+      ⊎ (((rules.written t).writes.flushes ≡ (rules.written s).writes.flushes + 1)
+      × (rules.taken s ≤ length (rules.written t).writes.received))
+
   -- what an answer of `pass` says. Where the writer failed, what was handed out may be lost
   abbrev pub PassAnswers : T → Result Bool Error → T → Type 0
-  PassAnswers s (Ok true) t = (payload : List ℕ) × Moves s (payload ∷ []) (payload ∷ []) t × Wrote s t
+  PassAnswers s (Ok true) t =
+      (payload : List ℕ) × Moves s (payload ∷ []) (payload ∷ []) t × Wrote s t × (rules.taken s < rules.taken t)
   PassAnswers s (Ok false) t = Moves s [] [] t × Wrote s t × rules.lacks t × (¬ rules.has s)
   PassAnswers s (Err e) t = (lost : List (List ℕ)) × Moves s lost [] t × FailedToWrite e s t
 
@@ -65,6 +74,7 @@ module _ {T W : Type 0} (rules : FilterRules T W) where
     pub ready : rules.ready t
     pub closed : rules.closed s → rules.closed t
     pub writes : WritesOn (rules.written s).writes (rules.written t).writes
+    pub flushes : (rules.written t).writes.flushes ≡ (rules.written s).writes.flushes
     pub answers : PassAnswers s answer t
 
   abbrev pub FlushAnswers : T → Result (Unit {0}) Error → T → Type 0
@@ -77,6 +87,7 @@ module _ {T W : Type 0} (rules : FilterRules T W) where
     pub ready : rules.ready t
     pub closed : rules.closed s → rules.closed t
     pub writes : WritesOn (rules.written s).writes (rules.written t).writes
+    pub flushes : FlushesOnce s t
     pub moves : Moves s [] [] t
     pub lacks : rules.lacks s → rules.lacks t
     pub answers : FlushAnswers s answer t
@@ -135,5 +146,7 @@ module _ {T W : Type 0} (rules : FilterRules T W) where
     pub ends_after : (a b c : T) (p : List (List ℕ)) (how : Result (Unit {0}) W) → rules.hands a p b → StaysOpen a b
         → rules.ends b how c → rules.ends a how c
     pub waits_lacks : (s : T) → rules.waits s → rules.lacks s
+    pub received_taken : (s : T) → length (rules.written s).writes.received ≤ rules.taken s
+    pub taken_on : (s t : T) (p : List (List ℕ)) → rules.takes s p t → rules.taken s ≤ rules.taken t
     pub asks_sent : (first s t : T) (p : List (List ℕ)) → rules.fresh first → Moves first p p s → StaysOpen first s → rules.lacks s
         → rules.sent s → rules.asks s t → AsksSent first s t

@@ -2,6 +2,7 @@ pub mod Prompt
 pub mod PromptLaws
 pub mod Streams
 pub mod StreamsLaws
+pub mod Flushes
 pub mod Filter
 pub mod Link
 pub mod Forward

@@ -22,7 +22,7 @@ pub record SentBeforeAsking (IsDue : List ℕ → List ℕ → Type 0) (read rea
   pub is_due : IsDue before due
   pub sent : WasSent (written.writes.received ++ due) written'.writes
 
--- so it was when the run returned, or the reader was not asked. That it was so when it was asked no clause over two logs says
+-- so it was, or the reader was not asked
 abbrev pub HoldsNothingBack : (List ℕ → List ℕ → Type 0) → StreamLog → StreamLog → StreamLog → StreamLog → Type 0
 HoldsNothingBack IsDue read read' written written' =
     (read' ≡ read) ⊎ SentBeforeAsking IsDue read read' written written'

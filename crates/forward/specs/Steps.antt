@@ -1,8 +1,8 @@
 -- The steps of `forward`: one turn of asks, and one payload.
-use Rattle.std.specs.Prelude.{◌≡◌, ℕ, ◌+◌, List, [], ◌++◌, Bool, true, false, Result, Ok, Err}
+use Rattle.std.specs.Prelude.{◌≡◌, ℕ, ◌+◌, ◌<◌, ◌≤◌, List, [], ◌++◌, length, Bool, true, false, Result, Ok, Err}
 use Rattle.std.specs.List.{All}
 use Rattle.redux_buffer.specs.Faults.{OnlyInterrupts}
-use Rattle.forward.specs.Filter.{AsksOnce, FilterRules, Moves, StaysOpen}
+use Rattle.forward.specs.Filter.{AsksOnce, FilterRules, FlushesOnce, Moves, StaysOpen}
 use Rattle.forward.specs.Forward.{Forwarded, NoneFailed, StopsBy}
 use Rattle.forward.specs.Link.{Ask, AsksAlong, Goes, IsTurn, Linked, states_of}
 use Rattle.forward.specs.Streams.{ReadGaveUp}
@@ -50,9 +50,18 @@ module _ {T W : Type 0} (rules : FilterRules T W) where
   NextAnswers count s (Ok false) t = Forwarded rules count s t × rules.ends s (Ok tt) t × rules.sent t × NoneFailed rules s t
   NextAnswers count s (Err cause) t = StopsBy rules count s cause t
 
+  -- so it is where a payload went over
+  abbrev pub OnTrue : Result Bool (Cause W) → Type 0 → Type 0
+  OnTrue (Ok true) fact = fact
+  OnTrue (Ok false) fact = Unit {0}
+  OnTrue (Err cause) fact = Unit {0}
+
   -- what is done for one payload
   pub record ForwardsNext (s : Linked T) (answer : Result Bool (Cause W)) (t : Linked T) : Type 0 where
     pub goes : Goes rules (AskedFrom s.filter) s t
     pub once : AsksOnce rules s.filter t.filter
+    pub flushes : FlushesOnce rules s.filter t.filter
+    pub more : OnTrue answer (rules.taken s.filter < rules.taken t.filter)
+    pub received : length (rules.written s.filter).writes.received ≤ length (rules.written t.filter).writes.received
     pub ready : rules.ready t.filter
     pub answers : NextAnswers 0 s.filter answer t.filter

@@ -1,5 +1,5 @@
 //! Payloads forwarded until there are no more.
-ghost use Rattle.std.specs.Prelude.{◌≡◌, true, false};
+ghost use Rattle.std.specs.Prelude.{◌≡◌, ◌<◌, ◌≤◌, true, false};
 ghost use Rattle.forward.specs.Filter.{WasInterrupted};
 ghost use Rattle.forward.specs.Forward.{Forwards};
 ghost use Rattle.forward.specs.Steps.{ForwardsNext, TakesTurn};
@@ -47,6 +47,7 @@ fn forward_next<F: Filter>(link: &mut Link<F>) -> Result<bool, Cause<F::Wrong>>
 }
 
 // The same where none is there: all that was taken in is sent and flushed, and then it is asked for.
+#[inline(always)]
 fn forward_asked<F: Filter>(link: &mut Link<F>) -> Result<bool, Cause<F::Wrong>>
     requires ready { F.rules.ready link.old.filter }
     requires lacks { F.rules.lacks link.old.filter }
@@ -67,28 +68,31 @@ fn forward_asked<F: Filter>(link: &mut Link<F>) -> Result<bool, Cause<F::Wrong>>
 }
 
 // Asks for a payload. Of asks that are interrupted in a row the 65th ends it.
+#[inline(always)]
 fn ask_retried<F: Filter>(link: &mut Link<F>) -> Result<bool, AskError<F::Wrong>>
     requires ready { F.rules.ready link.old.filter }
     requires lacks { F.rules.lacks link.old.filter }
     requires sent { F.rules.sent link.old.filter }
     ensures { TakesTurn F.rules link.old result link.new }
 {
-    for _ in 0..INTERRUPT_LIMIT {
+    let mut row = 0;
+    'tries: loop {
         let answer = link.ask();
-        if !was_interrupted(&answer) {
+        if is_final(&answer, row) {
             return answer;
         }
+        row += 1;
     }
-    link.ask()
 }
 
-// Whether an ask was interrupted.
-fn was_interrupted<W>(answer: &Result<bool, AskError<W>>) -> bool
-    ensures yes { result ≡ true → WasInterrupted answer.now }
-    ensures no { result ≡ false → ¬ WasInterrupted answer.now }
+// Whether this answer ends a row, in which so many asks were interrupted before.
+#[inline(always)]
+fn is_final<W>(answer: &Result<bool, AskError<W>>, row: u32) -> bool
+    ensures again { result ≡ false → WasInterrupted answer.now × (row < 64) }
+    ensures often { result ≡ true → WasInterrupted answer.now → 64 ≤ row }
 {
     match answer {
-        Err(AskError::Io(e)) => e.kind() == ErrorKind::Interrupted,
-        _ => false,
+        Err(AskError::Io(e)) => e.kind() != ErrorKind::Interrupted || row >= INTERRUPT_LIMIT,
+        _ => true,
     }
 }

@@ -2,10 +2,7 @@
 use Rattle.std.specs.Prelude.{◌≡◌, ℕ, ◌+◌, ◌≤◌, ◌⊎◌, length}
 use Rattle.buffer_redux.specs.Buffered.{Buffered}
 use Rattle.buffer_redux.specs.StreamLog.{StreamLog, WriteLog}
-
--- each flush but so many came behind a byte that the writer had received since the one before
-abbrev pub FlushesSend : ℕ → WriteLog → WriteLog → Type 0
-FlushesSend idle old new = new.flushes + length old.received ≤ old.flushes + length new.received + idle
+pub use Rattle.forward.specs.Flushes.{FlushesSend}
 
 -- the writer was flushed once for each ask of the reader at most, and so many times more
 abbrev pub FlushesPerAsk : ℕ → StreamLog → StreamLog → StreamLog → StreamLog → Type 0

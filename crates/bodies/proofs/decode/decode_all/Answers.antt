@@ -1,74 +1,91 @@
-use Rattle.std.proofs.Common.{Err, Ok, ap, arith, refl, subst, sym}
-use Rattle.bodies.specs.AtEnd.{Asks}
-use Rattle.bodies.specs.Decode.{DecodeRan, ExpectsEnd, IsDue, IsUnread, MovesAll}
+use Rattle.std.proofs.Common.{Err, Ok, ap, subst, sym, ◌∙◌}
+use Rattle.forward.specs.Forward.{ForwardAnswers, Forwards, StopsBy}
+use Rattle.forward.specs.ForwardLaws.{Goes-holds}
+use Rattle.forward.specs.Link.{linked}
+use Rattle.programs.specs.Flushes.{FlushesSend}
 use Rattle.programs.specs.Prompt.{HoldsNothingBack}
-use Rattle.bodies.proofs.DecodePrompting.{held_end}
-use Rattle.bodies.proofs.DecodeRuns.{ended, stopped}
+use Rattle.bodies.specs.AtEnd.{Asks}
+use Rattle.bodies.specs.Decode.{DecodeRan, ExpectsEnd, IsDue}
+use Rattle.bodies.specs.Decoding.{IsReady, decoding_rules}
+use Rattle.bodies.proofs.Decoded.{held_to_end, ran_to_end, ran_to_stop, start}
 use Rattle.bodies.proofs.decode.decode_all.Goals as goal
-
-pub move_pieces-answer-requires-clause-unread : goal.move_pieces-answer-requires-clause-unread
-move_pieces-answer-requires-clause-unread g c =
-    subst IsUnread (sym c.new-body.ensures.begun) (record { taken = refl; handed = refl; buffered = c.requires.source })
 
 pub returns-in-Ok-clause-ran : goal.returns-in-Ok-clause-ran
 returns-in-Ok-clause-ran g c =
-    let moved = c.move_pieces-answer in
+    let remaining = g.R.TellRead.remaining in
+    let rules = decoding_rules {W = g.row.W.Denot} remaining in
+    let first = start c.args.limits c.args.source c.args.target c.args.piece in
+    let t = c.into_inner-body.result in
+    let begun = c.new-link.ensures
+    ∙ ap (λ b. linked (record { source = b; target = c.args.target; piece = c.args.piece; held = 0 })) c.new.ensures.begun in
+    let over = subst (λ k. Forwards rules k (Ok c.in-Ok.field-0) c.forward-answer.new.link) begun c.in-Ok.ensures in
     let answer = c.expect_end-answer.result in
     let rest = c.expect_end-answer.new.rest in
-    ended g.R.TellRead.remaining c.args.limits c.args.source moved.new.source c.args.target.now moved.new.target
-    c.requires.source c.requires.empty
-    (subst (λ s. MovesAll g.R.TellRead.remaining s c.args.target.now (Ok tt) moved.new.source moved.new.target)
-    c.new-body.ensures.begun c.in-Ok.ensures.moves) answer rest
-    (subst (λ right. ExpectsEnd g.R.TellRead.remaining moved.new.source.reader right answer rest) c.taken-right.ensures
-    (subst (λ s. ExpectsEnd g.R.TellRead.remaining s c.taken-right.result answer rest) c.into_inner-rest.ensures
-    c.expect_end-answer.ensures))
+    ran_to_end remaining c.args.limits c.args.source c.args.target c.args.piece c.requires.source c.requires.empty t
+    (subst IsReady (sym c.into_inner-body.ensures) over.ready) c.in-Ok.field-0
+    (subst (ForwardAnswers rules first (Ok c.in-Ok.field-0)) (sym c.into_inner-body.ensures) over.answers) rest answer
+    (subst (λ right. ExpectsEnd remaining t.source.reader right answer rest) c.taken-right.ensures
+    (subst (λ s. ExpectsEnd remaining s c.taken-right.result answer rest) c.into_inner-rest.ensures c.expect_end-answer.ensures))
 
 pub returns-in-Ok-clause-prompt : goal.returns-in-Ok-clause-prompt
 returns-in-Ok-clause-prompt g c =
-    let s = c.new-body.result in
-    let moved = c.move_pieces-answer in
-    let t = moved.new.source in
-    let v = moved.new.target in
+    let remaining = g.R.TellRead.remaining in
+    let rules = decoding_rules {W = g.row.W.Denot} remaining in
+    let first = start c.args.limits c.args.source c.args.target c.args.piece in
+    let t = c.into_inner-body.result in
+    let begun = c.new-link.ensures
+    ∙ ap (λ b. linked (record { source = b; target = c.args.target; piece = c.args.piece; held = 0 })) c.new.ensures.begun in
+    let over = subst (λ k. Forwards rules k (Ok c.in-Ok.field-0) c.forward-answer.new.link) begun c.in-Ok.ensures in
     let rest = c.expect_end-answer.new.rest in
-    let each = c.in-Ok.ensures.moves.0.0 in
-    let unread = subst IsUnread (sym c.new-body.ensures.begun)
-    (record { taken = refl; handed = refl; buffered = c.requires.source }) in
-    subst (λ x. HoldsNothingBack (IsDue x.limits) x.reader.log rest.log c.args.target.now.log v.log) c.new-body.ensures.begun
-    (held_end g.R.TellRead.remaining s t c.args.target.now v unread c.requires.empty each c.in-Ok.ensures.give
-    c.in-Ok.ensures.moves.1 each.went.source.whole rest c.in-Ok.ensures.prompt
-    (subst (λ x. Asks x rest) c.into_inner-rest.ensures c.expect_end-answer.ensures.asks))
+    held_to_end remaining c.args.limits c.args.source c.args.target c.args.piece c.requires.source c.requires.empty t
+    (subst IsReady (sym c.into_inner-body.ensures) over.ready) c.in-Ok.field-0
+    (subst (ForwardAnswers rules first (Ok c.in-Ok.field-0)) (sym c.into_inner-body.ensures) over.answers) rest
+    (subst (λ x. HoldsNothingBack (IsDue c.args.limits) c.args.source.log x.source.reader.log c.args.target.log x.target.log)
+    (sym c.into_inner-body.ensures) (Goes-holds rules (linked first) c.forward-answer.new.link over.goes))
+    (subst (λ s. Asks s rest) c.into_inner-rest.ensures c.expect_end-answer.ensures.asks)
 
 pub returns-in-Err-clause-ran : goal.returns-in-Err-clause-ran
 returns-in-Err-clause-ran g c =
-    let moved = c.move_pieces-answer in
-    subst (λ r. DecodeRan c.args.limits c.args.source.log r.log c.args.target.now.log moved.new.target.log
-    (Err c.in-Err.e)) (sym c.into_inner-rest.ensures)
-    (stopped g.R.TellRead.remaining c.args.limits c.args.source moved.new.source c.args.target.now moved.new.target
-    c.requires.source c.requires.empty c.in-Err.e
-    (subst (λ s. MovesAll g.R.TellRead.remaining s c.args.target.now (Err c.in-Err.e) moved.new.source
-    moved.new.target) c.new-body.ensures.begun c.in-Err.ensures.moves))
+    let remaining = g.R.TellRead.remaining in
+    let rules = decoding_rules {W = g.row.W.Denot} remaining in
+    let first = start c.args.limits c.args.source c.args.target c.args.piece in
+    let t = c.into_inner-body.result in
+    let begun = c.new-link.ensures
+    ∙ ap (λ b. linked (record { source = b; target = c.args.target; piece = c.args.piece; held = 0 })) c.new.ensures.begun in
+    let why = c.in-Err.stopped in
+    let over = subst (λ k. Forwards rules k (Err why) c.forward-answer.new.link) begun c.in-Err.ensures in
+    subst (λ r. DecodeRan c.args.limits c.args.source.log r.log c.args.target.log t.target.log (Err c.error_of.result))
+    (sym c.into_inner-rest.ensures)
+    (ran_to_stop remaining c.args.limits c.args.source c.args.target c.args.piece c.requires.source c.requires.empty t
+    (subst IsReady (sym c.into_inner-body.ensures) over.ready) why c.error_of.result
+    (subst (StopsBy rules why.count first why.cause) (sym c.into_inner-body.ensures) over.answers) c.error_of.ensures)
 
 pub returns-in-Err-clause-prompt : goal.returns-in-Err-clause-prompt
 returns-in-Err-clause-prompt g c =
-    let moved = c.move_pieces-answer in
-    subst (λ r. HoldsNothingBack (IsDue c.args.limits) c.args.source.log r.log c.args.target.now.log moved.new.target.log)
+    let remaining = g.R.TellRead.remaining in
+    let rules = decoding_rules {W = g.row.W.Denot} remaining in
+    let first = start c.args.limits c.args.source c.args.target c.args.piece in
+    let t = c.into_inner-body.result in
+    let begun = c.new-link.ensures
+    ∙ ap (λ b. linked (record { source = b; target = c.args.target; piece = c.args.piece; held = 0 })) c.new.ensures.begun in
+    let over = subst (λ k. Forwards rules k (Err c.in-Err.stopped) c.forward-answer.new.link) begun c.in-Err.ensures in
+    subst (λ r. HoldsNothingBack (IsDue c.args.limits) c.args.source.log r.log c.args.target.log t.target.log)
     (sym c.into_inner-rest.ensures)
-    (subst (λ s. HoldsNothingBack (IsDue s.limits) s.reader.log moved.new.source.reader.log c.args.target.now.log
-    moved.new.target.log) c.new-body.ensures.begun c.in-Err.ensures.prompt)
+    (subst (λ x. HoldsNothingBack (IsDue c.args.limits) c.args.source.log x.source.reader.log c.args.target.log x.target.log)
+    (sym c.into_inner-body.ensures) (Goes-holds rules (linked first) c.forward-answer.new.link over.goes))
 
-pub returns-in-Ok-clause-once : goal.returns-in-Ok-clause-once
-returns-in-Ok-clause-once g c = omega (
-  arith,
-  ap (λ s. s.reader.log.reads.zero_reads) c.new-body.ensures.begun,
-  c.in-Ok.ensures.once,
-  ap (λ r. r.log.reads.zero_reads) c.into_inner-rest.ensures,
-  c.expect_end-answer.ensures.once,
-)
+pub returns-in-Ok-clause-flushes : goal.returns-in-Ok-clause-flushes
+returns-in-Ok-clause-flushes g c =
+    let rules = decoding_rules {W = g.row.W.Denot} g.R.TellRead.remaining in
+    let begun = c.new-link.ensures
+    ∙ ap (λ b. linked (record { source = b; target = c.args.target; piece = c.args.piece; held = 0 })) c.new.ensures.begun in
+    let over = subst (λ k. Forwards rules k (Ok c.in-Ok.field-0) c.forward-answer.new.link) begun c.in-Ok.ensures in
+    subst (λ x. FlushesSend 1 c.args.target.log.writes x.target.log.writes) (sym c.into_inner-body.ensures) over.flushes
 
-pub returns-in-Err-clause-once : goal.returns-in-Err-clause-once
-returns-in-Err-clause-once g c = omega (
-  arith,
-  ap (λ s. s.reader.log.reads.zero_reads) c.new-body.ensures.begun,
-  c.in-Err.ensures.once,
-  ap (λ r. r.log.reads.zero_reads) c.into_inner-rest.ensures,
-)
+pub returns-in-Err-clause-flushes : goal.returns-in-Err-clause-flushes
+returns-in-Err-clause-flushes g c =
+    let rules = decoding_rules {W = g.row.W.Denot} g.R.TellRead.remaining in
+    let begun = c.new-link.ensures
+    ∙ ap (λ b. linked (record { source = b; target = c.args.target; piece = c.args.piece; held = 0 })) c.new.ensures.begun in
+    let over = subst (λ k. Forwards rules k (Err c.in-Err.stopped) c.forward-answer.new.link) begun c.in-Err.ensures in
+    subst (λ x. FlushesSend 1 c.args.target.log.writes x.target.log.writes) (sym c.into_inner-body.ensures) over.flushes

@@ -2,23 +2,32 @@ use Rattle.std.proofs.Common.{arith}
 use Rattle.forward.proofs.Turning.{none_yet, one_retry, turn_ends}
 use Rattle.forward.proofs.pump.ask_retried.Goals as goal
 
-pub loop-init : goal.loop-init
-loop-init g c =
-    none_yet g.F.Filter.rules g.met.F.Filter.lawful c.args.link.now c.requires.ready c.requires.lacks c.requires.sent
+pub tries-init : goal.tries-init
+tries-init g c = record {
+  before = none_yet g.F.Filter.rules g.met.F.Filter.lawful c.args.link.now c.requires.ready c.requires.lacks c.requires.sent;
+  few = omega arith;
+}
 
-pub loop-preserved : goal.loop-preserved
-loop-preserved g c =
-    one_retry g.F.Filter.rules g.met.F.Filter.lawful c.args.link.now c.loop.counter c.loop.link c.ask-answer.new.self
-    c.loop.invariant c.ask-answer.result c.ask-answer.ensures (c.was_interrupted.ensures.yes c.if-not-was_interrupted.false)
+pub tries-preserved : goal.tries-preserved
+tries-preserved g c =
+    let again = c.is_final.ensures.again c.if-is_final.false in
+    record {
+      before = one_retry g.F.Filter.rules g.met.F.Filter.lawful c.args.link.now c.tries.row c.tries.link c.ask-answer.new.self
+          c.tries.invariant.before c.ask-answer.result c.ask-answer.ensures again.0;
+      few = omega (arith, again.1);
+    }
 
-pub returns-then-not-was_interrupted : goal.returns-then-not-was_interrupted
-returns-then-not-was_interrupted g c =
-    turn_ends g.F.Filter.rules g.met.F.Filter.lawful c.args.link.now c.loop.counter c.loop.link c.ask-answer.new.self
-    c.loop.invariant (omega (arith, c.loop-test.true)) c.ask-answer.result c.ask-answer.ensures
-    (λ is. absurd (c.was_interrupted.ensures.no c.if-not-was_interrupted.true is))
+pub returns-then-is_final : goal.returns-then-is_final
+returns-then-is_final g c =
+    turn_ends g.F.Filter.rules g.met.F.Filter.lawful c.args.link.now c.tries.row c.tries.link c.ask-answer.new.self
+    c.tries.invariant.before c.tries.invariant.few c.ask-answer.result c.ask-answer.ensures
+    (λ is. omega (arith, c.is_final.ensures.often c.if-is_final.true is, c.tries.invariant.few))
 
-pub returns : goal.returns
-returns g c =
-    turn_ends g.F.Filter.rules g.met.F.Filter.lawful c.args.link.now c.loop.counter c.loop.link c.ask.new.self
-    c.loop.invariant (omega (arith, c.loop.auto.counter-end)) c.ask.result c.ask.ensures
-    (λ is. omega (arith, c.loop-test.false, c.loop.auto.counter-end))
+pub tries-preserved-else-is_final-2 : goal.tries-preserved-else-is_final-2
+tries-preserved-else-is_final-2 g c =
+    let again = c.is_final.ensures.again c.if-is_final.false in
+    record {
+      before = one_retry g.F.Filter.rules g.met.F.Filter.lawful c.args.link.now c.tries.row c.tries.link c.ask-answer.new.self
+          c.tries.invariant.before c.ask-answer.result c.ask-answer.ensures again.0;
+      few = omega (arith, again.1);
+    }

@@ -1,0 +1,7 @@
+-- How often a writer is flushed: only where that sends something.
+use Rattle.std.specs.Prelude.{ℕ, ◌+◌, ◌≤◌, length}
+use Rattle.redux_buffer.specs.StreamLog.{WriteLog}
+
+-- each flush but so many came behind a byte that the writer had received since the one before
+abbrev pub FlushesSend : ℕ → WriteLog → WriteLog → Type 0
+FlushesSend idle old new = new.flushes + length old.received ≤ old.flushes + length new.received + idle
