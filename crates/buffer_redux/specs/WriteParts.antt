@@ -47,6 +47,7 @@ module _ {S P : Type 0} (tells : S → StreamLog) (stretch : S → S → Type 0)
         (λ e. WritesAlong tells stretch std_write_rules s [] t)
     pub fits : length bytes ≤ usable s.block → IsOk answer × (t.log ≡ s.log)
     pub calls : (t.log ≡ s.log)
-        ⊎ ((sending : Result (Unit {0}) Error) × (left : Buffered S P) × WasSent tells stretch s sending left × (t.log ≡ left.log))
+        ⊎ ((sending : Result (Unit {0}) Error) × (left : Buffered S P)
+        × WasSent tells stretch s sending left × (t.log ≡ left.log))
     pub caused : IfErr answer (λ e. PartsRefused (length bytes) s e t)
     pub whole : IsBlock t.block

@@ -89,10 +89,12 @@ module _ {S D W : Type 0} (grammar : D → Grammar W) (s t : Piecing S D) where
         let same : next.bytes ≡ part 0 t.handed t.reader.block.bytes =
         HandsBytes-same s t next.bytes (take t.handed t.reader.block.bytes) next.went.hands front ∙ sym (part_front t) in
         subst (IsWhole (grammar t.decoder)) same
-        (subst (λ d. IsWhole (grammar d) next.bytes) (sym next.went.decoder) (whole_of remaining (grammar s.decoder) s t payload next))
+        (subst (λ d. IsWhole (grammar d) next.bytes) (sym next.went.decoder)
+        (whole_of remaining (grammar s.decoder) s t payload next))
 
 -- what is promised of an answer, where that is a place
-module _ {S D W : Type 0} (s t : Piecing S D) (r : Result (Option Span) (NextError W)) (span : Span) (is : r ≡ Ok (Some span)) where
+module _ {S D W : Type 0} (s t : Piecing S D) (r : Result (Option Span) (NextError W)) (span : Span)
+    (is : r ≡ Ok (Some span)) where
   pub loaded_front : IfOk r (λ found. IfSome found (λ _. HandsBytes s (take t.handed t.reader.block.bytes) t))
       → HandsBytes s (take t.handed t.reader.block.bytes) t
   loaded_front front = subst (λ x. IfOk x (λ found. IfSome found (λ _. HandsBytes s (take t.handed t.reader.block.bytes) t))) is

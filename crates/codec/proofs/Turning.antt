@@ -62,6 +62,6 @@ module _ {S D W I A T P : Type 0} (remaining : S → Option (List ℕ)) (tells :
       all = refl;
       answers = (more, answers reply more a);
       nothing = nothing;
-    refused = refused;
+      refused = refused;
     },
   )

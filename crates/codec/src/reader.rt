@@ -108,8 +108,7 @@ impl<R: Tell, D: Decoder> PieceReader<R, D> {
         }
     }
 
-    /// The same over a buffer of yours: the bytes that `buffer` holds are read first, and then `inner` is asked. So a reader that
-    /// another was taken apart into is read on, just behind what that handed out.
+    /// The same over a buffer of yours: its bytes are read first, as those that another reader left, and then `inner` is asked.
     ///
     /// A plain buffer in which three pieces fit is kept, and then this takes no memory. For any other there is a new one, of as
     /// many bytes or of what three pieces take where that is more. A refusal hands all three back.
@@ -137,8 +136,7 @@ impl<R: Tell, D: Decoder> PieceReader<R, D> {
         }
     }
 
-    /// The same reader with another decoder, which goes on behind what was handed out last. An end that no call has told is told
-    /// by the next one still.
+    /// The same reader with another decoder: it goes on behind what was handed out last, and keeps an end that no call told.
     ///
     /// Where three pieces of `decoder` don't fit into the buffer, both are handed back as they were.
     pub fn set_decoder<E: Decoder>(self, decoder: E) -> Result<PieceReader<R, E>, (Self, E)>
@@ -203,8 +201,7 @@ impl<R: Tell, D: Decoder> PieceReader<R, D> {
     /// The inner reader, and the buffer with the bytes that weren't handed out. It may not grow, but by its
     /// [`set_limit`](Buffer::set_limit). A `with_buffer` makes a reader of them again, of this layer or another.
     ///
-    /// The last part is whether the stream ended, which no call has told yet ([`has_ended`](PieceReader::has_ended)): a reader that
-    /// is made of the others doesn't know that, and would ask the stream again.
+    /// The last part is [`has_ended`](PieceReader::has_ended): a reader that is made of the others asks the stream again.
     pub fn into_inner_with_buffer(self) -> (R, Buffer, bool)
         ensures apart { TakenApart R.log self result.0 result.1 }
         ensures ended { result.2 ≡ self.ended }
@@ -266,8 +263,7 @@ impl<R: Tell, D: Decoder> PieceReader<R, D> {
         self.ended
     }
 
-    /// Drops the first `count` bytes of what is left, whatever they are. So who is told that no piece begins there goes on
-    /// behind it.
+    /// Drops the first `count` bytes of what is left, whatever they are: the way on behind what begins no piece.
     #[inline(always)]
     pub fn skip(&mut self, count: usize)
         requires within { count ≤ length (rest self.old) }

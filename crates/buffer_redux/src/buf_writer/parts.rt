@@ -11,8 +11,8 @@ use redux_buffer::tell::TellWrite;
 use std::io;
 
 impl<W: TellWrite> BufWriter<W, StdPolicy> {
-    /// Takes the parts in, one behind another: all of them, or nothing. Where they don't fit behind what is buffered, that is sent
-    /// before, and where they are more than the capacity, the buffer grows.
+    /// Takes the parts in, one behind another: all of them, or nothing. Where they don't fit behind what is buffered, that is
+    /// sent before, and where they are more than the capacity, the buffer grows.
     ///
     /// An `Err` is that of the send; or the growth was refused, of the kind `InvalidInput` past the limit and `OutOfMemory` for
     /// want of memory. No part was taken in then.

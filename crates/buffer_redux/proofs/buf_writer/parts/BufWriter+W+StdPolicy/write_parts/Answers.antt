@@ -40,4 +40,5 @@ returns-in-Err g c =
       ap (λ x. usable x.block) c.self.view_is,
     ) in
     parts_failed _ _ g.met.W.TellWrite.stretch_none g.met.W.TellWrite.stretch_joins g.met.W.TellWrite.stretch_grows
-    c.args.self.now c.make_place.new.self c.total-len.result _ c.in-Err.e few (omega (arith, c.total-len.ensures)) c.in-Err.ensures
+    c.args.self.now c.make_place.new.self c.total-len.result _ c.in-Err.e few (omega (arith, c.total-len.ensures))
+    c.in-Err.ensures
