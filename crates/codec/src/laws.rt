@@ -77,8 +77,8 @@ pub fn next_known<R: TellRead, D: Decoder>(reader: &PieceReader<R, D>)
 {}
 
 /// A reader that is taken apart and made again with another decoder has left what the first had. So the pieces of both, one
-/// after another, are the front of what was left at first: the second decoder's begin just where the first one's ended. Whether there
-/// is an end to tell, `into_inner_with_buffer` says.
+/// after another, are the front of what was left at first: the second decoder's begin just where the first one's ended. Whether
+/// there is an end to tell, `into_inner_with_buffer` says.
 pub fn handed_over<R: TellRead, D: Decoder, E: Decoder>(
     alloc: Global,
     reader: PieceReader<R, D>,

@@ -188,20 +188,14 @@ impl<R: Tell, D: Decoder> PieceReader<R, D> {
         ensures inner { result ≡ self.reader.inner }
         ensures log { R.log result ≡ self.reader.log }
     {
-        let PieceReader {
-            reader,
-            decoder: _,
-            handed: _,
-            seen: _,
-            ended: _,
-        } = self;
-        reader.into_inner()
+        self.into_inner_with_buffer().0
     }
 
     /// The inner reader, and the buffer with the bytes that weren't handed out. It may not grow, but by its
     /// [`set_limit`](Buffer::set_limit). A `with_buffer` makes a reader of them again, of this layer or another.
     ///
-    /// The last part is [`has_ended`](PieceReader::has_ended): a reader that is made of the others asks the stream again.
+    /// The last part is whether the stream ended, which no call has told yet ([`has_ended`](PieceReader::has_ended)): a reader
+    /// that is made of the others doesn't know that, and would ask the stream again.
     pub fn into_inner_with_buffer(self) -> (R, Buffer, bool)
         ensures apart { TakenApart R.log self result.0 result.1 }
         ensures ended { result.2 ≡ self.ended }
