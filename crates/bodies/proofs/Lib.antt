@@ -1,6 +1,7 @@
 pub mod Asking
 pub mod DecodeAsking
 pub mod Passing
+pub mod PieceAsked
 pub mod Moved
 pub mod DecodeRuns
 pub mod Decoded

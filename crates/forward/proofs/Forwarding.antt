@@ -1,20 +1,20 @@
--- What is done for one payload, and for all.
-use Rattle.std.proofs.Common.{inl, inr, length, ◌<◌, ◌≡◌, ℕ, ◌+◌, ◌^◌, ◌≤◌, List, [], ◌∷◌, ◌++◌, Bool, true, false, Result, Ok, Err, refl, sym, ap, subst, ◌∙◌, arith, append_assoc, length-append}
+-- What is done for one payload, behind those that went over before.
+use Rattle.std.proofs.Common.{inl, inr, length, ◌<◌, ◌≡◌, ℕ, ◌+◌, ◌≤◌, List, [], ◌∷◌, ◌++◌, Bool, true, false, Result, Ok, Err, refl, sym, ap, subst, ◌∙◌, arith, append_assoc, length-append}
 use Rattle.std.specs.declared.io.Error.{Error}
 use Rattle.redux_buffer.specs.Faults.{MetInterrupts, OnlyInterrupts}
 use Rattle.forward.specs.Filter.{AsksOnce, FilterRules, FlushesOnce, IsLawful, Moves, StaysOpen, Wrote}
 use Rattle.forward.specs.Flushes.{FlushesSend}
-use Rattle.forward.specs.Forward.{Forwarded, ForwardedFirst, Forwards, NoneFailed}
-use Rattle.forward.specs.Link.{Ask, Goes, IsPrompt, LinkFlushes, LinkPasses, Linked}
+use Rattle.forward.specs.Forward.{Forwarded, ForwardedFirst, NoneFailed}
+use Rattle.forward.specs.Link.{Ask, Goes, LinkFlushes, LinkPasses, Linked}
 use Rattle.forward.specs.Prompt.{WritesOn}
 use Rattle.forward.specs.Steps.{AskedFrom, ForwardsNext, NextAnswers, OnTrue, OnlyInterrupted, TakesTurn}
 use Rattle.forward.specs.Streams.{ReadGaveUp}
-use Rattle.forward.specs.StreamsLaws.{MetNoFault-joins, MetNoFault-none, ReadFailed-after, SendFailed-after, only_same}
+use Rattle.forward.specs.StreamsLaws.{MetNoFault-joins, ReadFailed-after, SendFailed-after, only_same}
 use Rattle.forward.specs.declared.error.AskError.{AskError}
 use Rattle.forward.specs.declared.error.AskError.TheVariants as asked
 use Rattle.forward.specs.declared.error.Cause.{Cause}
 use Rattle.forward.specs.declared.error.Cause.TheVariants.{Wrong, Read, Write, Count}
-use Rattle.forward.proofs.Moving.{AsksOnce-joins, AsksOnce-none, Goes-joins, Goes-none, Goes-turn, Goes-unasked, Goes-weaker, Moves-joins, Moves-none, Moves-on, StaysOpen-joins, StaysOpen-none}
+use Rattle.forward.proofs.Moving.{AsksOnce-joins, AsksOnce-none, Goes-joins, Goes-turn, Goes-unasked, Goes-weaker, Moves-joins, Moves-on, StaysOpen-joins, StaysOpen-none}
 
 module _ {T W : Type 0} (rules : FilterRules T W) where
   -- so many payloads went over, by asks of this kind
@@ -48,7 +48,7 @@ module _ {T W : Type 0} (rules : FilterRules T W) where
   }
 
   module _ (lawful : IsLawful rules) where
-    none_forwarded : (s t : T) → Moves rules s [] [] t → Forwarded rules 0 s t
+    pub none_forwarded : (s t : T) → Moves rules s [] [] t → Forwarded rules 0 s t
     none_forwarded s t moves = record { payloads = []; moves = moves; all = refl }
 
     none_first : (s t : T) (lost : List (List ℕ)) → Moves rules s lost [] t → ForwardedFirst rules 0 s t
@@ -121,14 +121,14 @@ module _ {T W : Type 0} (rules : FilterRules T W) where
       behind (Err Count) once next = absurd (omega (arith, next.1))
 
       module _ (answer : Result Bool (Cause W)) (next : ForwardsNext rules s answer t) where
-        goes_on : Goes rules Such first t
+        pub goes_on : Goes rules Such first t
         goes_on = Goes-joins rules Such first s t before.goes
             (Goes-weaker rules (AskedFrom rules s.filter) Such so s t next.goes)
 
-        once_on : AsksOnce rules first.filter t.filter
+        pub once_on : AsksOnce rules first.filter t.filter
         once_on = AsksOnce-joins rules first.filter s.filter t.filter before.once before.still next.once
 
-        answers_on : NextAnswers rules count first.filter answer t.filter
+        pub answers_on : NextAnswers rules count first.filter answer t.filter
         answers_on = behind answer next.once next.answers
 
     asked_after : (a b : T) → Moves rules a [] [] b → AsksOnce rules a b → StaysOpen rules a b → (ask : Ask T)
@@ -371,104 +371,3 @@ module _ {T W : Type 0} (rules : FilterRules T W) where
         pub came_not_passed : (u : Linked T) (e : Error) → LinkPasses rules t (Err e) u
             → ForwardsNext rules s (Err (Write e)) u
         came_not_passed u e q = then_moved u (Err (Write e)) (not_passed t u e q) q.passes.flushes
-
-    -- all of them
-    module _ (first : Linked T) (fresh : rules.fresh first.filter) where
-      abbrev Prompt : Ask T → Type 0
-      Prompt = IsPrompt rules first.filter
-
-      pub so_far_none : rules.ready first.filter → SoFar Prompt 0 first first
-      so_far_none ready = record {
-        goes = Goes-none rules Prompt first;
-        once = AsksOnce-none rules first.filter first.filter refl (λ closed. closed);
-        still = StaysOpen-none rules first.filter first.filter refl;
-        forwarded = none_forwarded first.filter first.filter (Moves-none rules lawful first.filter);
-        met = MetNoFault-none (rules.read first.filter) (rules.written first.filter);
-        ready = ready;
-      }
-
-      pub paced_none : Paced first.filter first.filter
-      paced_none = record { take = omega (arith, lawful.received_taken first.filter); send = omega arith }
-
-      module _ (count : ℕ) (s t : Linked T) (before : SoFar Prompt count first s) (paced : Paced first.filter s.filter) where
-        flushes_on : (answer : Result Bool (Cause W)) → ForwardsNext rules s answer t
-            → FlushesSend 1 (rules.written first.filter).writes (rules.written t.filter).writes
-        flushes_on answer next = elim next.flushes [
-          | inl same ↦ omega (arith, paced.send, same, next.received)
-          | inr one ↦ omega (arith, paced.take, one.0, one.1)
-        ]
-
-        pub paced_more : ForwardsNext rules s (Ok true) t → Paced first.filter t.filter
-        paced_more next = record {
-          take = elim next.flushes [
-            | inl same ↦ omega (arith, paced.take, same, next.more)
-            | inr one ↦ omega (arith, paced.take, one.0, next.more)
-          ];
-          send = flushes_on (Ok true) next;
-        }
-
-        prompt_of : (ask : Ask T) → AskedFrom rules s.filter ask → Prompt ask
-        prompt_of ask asked =
-            let went = before.forwarded in
-            lawful.asks_sent first.filter ask.before ask.after went.payloads fresh
-            (Moves-on rules lawful first.filter s.filter ask.before went.payloads went.payloads went.moves asked.moves)
-            (StaysOpen-joins rules first.filter s.filter ask.before before.still asked.once asked.still) asked.lacks asked.sent asked.asks
-
-        module _ (answer : Result Bool (Cause W)) (next : ForwardsNext rules s answer t) where
-          all_goes : Goes rules Prompt first t
-          all_goes = goes_on Prompt count first s t before prompt_of answer next
-
-          all_once : AsksOnce rules first.filter t.filter
-          all_once = once_on Prompt count first s t before prompt_of answer next
-
-          all_answers : NextAnswers rules count first.filter answer t.filter
-          all_answers = answers_on Prompt count first s t before prompt_of answer next
-
-        pub so_far_more : ForwardsNext rules s (Ok true) t → SoFar Prompt (count + 1) first t
-        so_far_more next =
-            let answers = all_answers (Ok true) next in
-            record {
-              goes = all_goes (Ok true) next;
-              once = all_once (Ok true) next;
-              still = answers.2;
-              forwarded = answers.0;
-              met = answers.1;
-              ready = next.ready;
-            }
-
-        pub all_forwarded : ForwardsNext rules s (Ok false) t → Forwards rules first (Ok count) t
-        all_forwarded next = record {
-          goes = all_goes (Ok false) next;
-          once = (all_once (Ok false) next).once;
-          flushes = flushes_on (Ok false) next;
-          ready = next.ready;
-          answers = all_answers (Ok false) next;
-        }
-
-        pub stopped_by : (cause : Cause W) → ForwardsNext rules s (Err cause) t
-            → Forwards rules first (Err (record { count = count; cause = cause })) t
-        stopped_by cause next = record {
-          goes = all_goes (Err cause) next;
-          once = (all_once (Err cause) next).once;
-          flushes = flushes_on (Err cause) next;
-          ready = next.ready;
-          answers = all_answers (Err cause) next;
-        }
-
-      pub counted_all : (count : ℕ) (s : Linked T) → SoFar Prompt count first s → Paced first.filter s.filter → (most : ℕ) → count ≡ most → 2 ^ 64 ≤ most + 1
-          → Forwards rules first (Err (record { count = most; cause = Count })) s
-      counted_all count s before paced most is large = record {
-        goes = before.goes;
-        once = before.once.once;
-        flushes = paced.send;
-        ready = before.ready;
-        answers = (
-          record {
-            payloads = before.forwarded.payloads;
-            moves = before.forwarded.moves;
-            all = before.forwarded.all ∙ is;
-          },
-          large,
-          before.met,
-        );
-      }

@@ -1,6 +1,6 @@
 use Rattle.std.proofs.Common.{Ok, subst, arith, lit≤}
 use Rattle.forward.specs.Steps.{ForwardsNext}
-use Rattle.forward.proofs.Forwarding.{all_forwarded, counted_all, paced_more, paced_none, so_far_more, so_far_none, stopped_by}
+use Rattle.forward.proofs.Forwarded.{all_forwarded, counted_all, paced_more, paced_none, so_far_more, so_far_none, stopped_by}
 use Rattle.forward.proofs.pump.forward.Goals as goal
 
 pub loop-count-init : goal.loop-count-init

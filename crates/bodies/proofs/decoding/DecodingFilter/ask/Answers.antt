@@ -1,7 +1,7 @@
 use Rattle.std.proofs.Common.{Err, length, arith, ap, subst, ◌∙◌}
 use Rattle.buffer_redux.specs.Policy.{std_read_rules}
 use Rattle.chunked.specs.Dechunking.{ReadsPayload}
-use Rattle.bodies.proofs.Passing.{asked_cut, asked_failed, asked_more, asked_none, asked_wrong}
+use Rattle.bodies.proofs.PieceAsked.{asked_cut, asked_failed, asked_more, asked_none, asked_wrong}
 use Rattle.bodies.proofs.decoding.DecodingFilter.ask.Goals as goal
 
 pub returns-in-Ok-eq0 : goal.returns-in-Ok-eq0

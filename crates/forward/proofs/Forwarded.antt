@@ -1,0 +1,115 @@
+-- What `forward` does for all payloads.
+use Rattle.std.proofs.Common.{inl, inr, ◌≡◌, ℕ, ◌+◌, ◌^◌, ◌≤◌, Bool, true, false, Result, Ok, Err, refl, ◌∙◌, arith}
+use Rattle.forward.specs.Filter.{AsksOnce, FilterRules, IsLawful}
+use Rattle.forward.specs.Flushes.{FlushesSend}
+use Rattle.forward.specs.Forward.{Forwards}
+use Rattle.forward.specs.Link.{Ask, Goes, IsPrompt, Linked}
+use Rattle.forward.specs.Steps.{AskedFrom, ForwardsNext, NextAnswers}
+use Rattle.forward.specs.StreamsLaws.{MetNoFault-none}
+use Rattle.forward.specs.declared.error.Cause.{Cause}
+use Rattle.forward.specs.declared.error.Cause.TheVariants.{Count}
+use Rattle.forward.proofs.Forwarding.{Paced, SoFar, answers_on, goes_on, none_forwarded, once_on}
+use Rattle.forward.proofs.Moving.{AsksOnce-none, Goes-none, Moves-none, Moves-on, StaysOpen-joins, StaysOpen-none}
+
+module _ {T W : Type 0} (rules : FilterRules T W) (lawful : IsLawful rules) where
+  module _ (first : Linked T) (fresh : rules.fresh first.filter) where
+    abbrev Prompt : Ask T → Type 0
+    Prompt = IsPrompt rules first.filter
+
+    pub so_far_none : rules.ready first.filter → SoFar rules Prompt 0 first first
+    so_far_none ready = record {
+      goes = Goes-none rules Prompt first;
+      once = AsksOnce-none rules first.filter first.filter refl (λ closed. closed);
+      still = StaysOpen-none rules first.filter first.filter refl;
+      forwarded = none_forwarded rules lawful first.filter first.filter (Moves-none rules lawful first.filter);
+      met = MetNoFault-none (rules.read first.filter) (rules.written first.filter);
+      ready = ready;
+    }
+
+    pub paced_none : Paced rules first.filter first.filter
+    paced_none = record { take = omega (arith, lawful.received_taken first.filter); send = omega arith }
+
+    module _ (count : ℕ) (s t : Linked T) (before : SoFar rules Prompt count first s) (paced : Paced rules first.filter s.filter) where
+      flushes_on : (answer : Result Bool (Cause W)) → ForwardsNext rules s answer t
+          → FlushesSend 1 (rules.written first.filter).writes (rules.written t.filter).writes
+      flushes_on answer next = elim next.flushes [
+        | inl same ↦ omega (arith, paced.send, same, next.received)
+        | inr one ↦ omega (arith, paced.take, one.0, one.1)
+      ]
+
+      pub paced_more : ForwardsNext rules s (Ok true) t → Paced rules first.filter t.filter
+      paced_more next = record {
+        take = elim next.flushes [
+          | inl same ↦ omega (arith, paced.take, same, next.more)
+          | inr one ↦ omega (arith, paced.take, one.0, next.more)
+        ];
+        send = flushes_on (Ok true) next;
+      }
+
+      prompt_of : (ask : Ask T) → AskedFrom rules s.filter ask → Prompt ask
+      prompt_of ask asked =
+          let went = before.forwarded in
+          lawful.asks_sent first.filter ask.before ask.after went.payloads fresh
+          (Moves-on rules lawful first.filter s.filter ask.before went.payloads went.payloads went.moves asked.moves)
+          (StaysOpen-joins rules first.filter s.filter ask.before before.still asked.once asked.still) asked.lacks asked.sent
+          asked.asks
+
+      module _ (answer : Result Bool (Cause W)) (next : ForwardsNext rules s answer t) where
+        all_goes : Goes rules Prompt first t
+        all_goes = goes_on rules lawful Prompt count first s t before prompt_of answer next
+
+        all_once : AsksOnce rules first.filter t.filter
+        all_once = once_on rules lawful Prompt count first s t before prompt_of answer next
+
+        all_answers : NextAnswers rules count first.filter answer t.filter
+        all_answers = answers_on rules lawful Prompt count first s t before prompt_of answer next
+
+      pub so_far_more : ForwardsNext rules s (Ok true) t → SoFar rules Prompt (count + 1) first t
+      so_far_more next =
+          let answers = all_answers (Ok true) next in
+          record {
+            goes = all_goes (Ok true) next;
+            once = all_once (Ok true) next;
+            still = answers.2;
+            forwarded = answers.0;
+            met = answers.1;
+            ready = next.ready;
+          }
+
+      pub all_forwarded : ForwardsNext rules s (Ok false) t → Forwards rules first (Ok count) t
+      all_forwarded next = record {
+        goes = all_goes (Ok false) next;
+        once = (all_once (Ok false) next).once;
+        flushes = flushes_on (Ok false) next;
+        ready = next.ready;
+        answers = all_answers (Ok false) next;
+      }
+
+      pub stopped_by : (cause : Cause W) → ForwardsNext rules s (Err cause) t
+          → Forwards rules first (Err (record { count = count; cause = cause })) t
+      stopped_by cause next = record {
+        goes = all_goes (Err cause) next;
+        once = (all_once (Err cause) next).once;
+        flushes = flushes_on (Err cause) next;
+        ready = next.ready;
+        answers = all_answers (Err cause) next;
+      }
+
+    pub counted_all : (count : ℕ) (s : Linked T) → SoFar rules Prompt count first s → Paced rules first.filter s.filter
+        → (most : ℕ) → count ≡ most → 2 ^ 64 ≤ most + 1
+        → Forwards rules first (Err (record { count = most; cause = Count })) s
+    counted_all count s before paced most is large = record {
+      goes = before.goes;
+      once = before.once.once;
+      flushes = paced.send;
+      ready = before.ready;
+      answers = (
+        record {
+          payloads = before.forwarded.payloads;
+          moves = before.forwarded.moves;
+          all = before.forwarded.all ∙ is;
+        },
+        large,
+        before.met,
+      );
+    }
