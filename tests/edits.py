@@ -4,7 +4,8 @@
 usage, at the top of the repository: python3 tests/edits.py [--after-ci SECONDS] [--anew] [--lanes N] [CRATE | EDIT ..]
 
 An edit stands in tests/edits/CRATE/, or in crates/CRATE/must-fail/, where `rt ci` tries it too. It is a file as that reads
-it, with a line `# fn: PATH` in front, which names the function whose proof it breaks, as `rt check` does below the crate.
+it, with a line `# fn: PATH` in front, which names the function whose proof it breaks, as `rt check` does below the crate. One
+in tests/edits/CRATE/laws/ changes a definition, and no body: it breaks a law that this has to keep.
 
 A function is proved against the contracts of those that it calls. So edits of different functions stand in one check, and
 each has its verdict in the line of its own function: one that tells of goals of its own is a refusal. 'It calls X, which is
@@ -80,7 +81,7 @@ def read(path):
             old = value
         elif key == "new":
             pairs.append((file, old, value.removeprefix(" ")))
-    crate = path.parent.name if path.parent.name != "must-fail" else path.parent.parent.name
+    crate = path.parent.parent.name if path.parent.name in ("must-fail", "laws") else path.parent.name
     return Edit(crate, path, fn, tuple(pairs), "# each time" in lines)
 
 
@@ -421,7 +422,7 @@ def main():
     parser.add_argument("--lanes", type=int, default=len(os.sched_getaffinity(0)))
     parser.add_argument("wanted", nargs="*")
     given = parser.parse_args()
-    folders = [*TOP.glob("tests/edits/*/*.edit")] + ([] if given.after_ci else [*TOP.glob("crates/*/must-fail/*.edit")])
+    folders = [*TOP.glob("tests/edits/**/*.edit")] + ([] if given.after_ci else [*TOP.glob("crates/*/must-fail/*.edit")])
     edits = collections.defaultdict(list)
     for it in sorted(folders):
         edit = read(it)
