@@ -9,8 +9,8 @@ use std::test::Fail;
 fn answers_requests(rt: HostRuntime) -> Result<(), Fail> {
     let alloc = rt.alloc();
     let mut session = Session::new(alloc, Store::new(alloc, 1));
-    let text =
-        b"*3\r\n$3\r\nSET\r\n$1\r\na\r\n$3\r\none\r\n*2\r\n$3\r\nget\r\n$1\r\na\r\n*3\r\n$3\r\nDEL\r\n$1\r\na\r\n$1\r\nb\r\nQUIT\r\nPING\r\n";
+    let text = b"*3\r\n$3\r\nSET\r\n$1\r\na\r\n$3\r\none\r\n*2\r\n$3\r\nget\r\n$1\r\na\r\n\
+        *3\r\n$3\r\nDEL\r\n$1\r\na\r\n$1\r\nb\r\nQUIT\r\nPING\r\n";
     let mut reader = PieceReader::new(alloc, Told::new(text.as_slice()), Resp { max: MAX_PART })?;
     let mut writer = BufWriter::new(alloc, Told::new(Vec::new(alloc)))?;
     let ended = serve(&mut session, &mut reader, &mut writer);
