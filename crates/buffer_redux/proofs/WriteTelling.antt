@@ -1,5 +1,5 @@
 -- How what was noted of a write or a flush fits what it did.
-use Rattle.std.proofs.Common.{◌≡◌, ◌∙◌, ℕ, ◌+◌, ◌≤◌, List, [], ◌∷◌, ◌++◌, length, Result, Ok, Err, IfErr, true, inl, inr, refl, sym, ap, subst, length-append, arith, OnOk}
+use Rattle.std.proofs.Common.{◌≡◌, ◌∙◌, ℕ, ◌+◌, ◌≤◌, List, [], ◌∷◌, ◌++◌, length, Result, Ok, Err, IfErr, true, inl, inr, refl, sym, ap, subst, length-append, arith, OnOk, MatchResult}
 use Rattle.std.proofs.lemmas.Bool.{cases_lt}
 use Rattle.std.proofs.lemmas.List.{append_cancel_left}
 use Rattle.std.proofs.lemmas.List.Elements.{All-head}
@@ -141,18 +141,31 @@ flush_fails s t (Err e) on caused = omega (
   length-append s.own_calls.writes.faults (e ∷ []),
 )
 
+-- a flush flushes the inner writer once at most
+flush_counted : {S P : Type 0} (s t : Buffered S P) (sent : StreamLog) (answer sending : Result (Unit {0}) Error)
+    → sent.writes.flushes ≡ s.log.writes.flushes
+    → MatchResult sending (λ _. t.log ≡ after_flush sent answer) (λ e. (answer ≡ Err e) × (t.log ≡ sent))
+    → t.log.writes.flushes ≤ s.log.writes.flushes + 1
+flush_counted s t sent answer (Ok _) same ended = omega (arith, same, ap (λ l. l.writes.flushes) ended)
+flush_counted s t sent answer (Err e) same ended = omega (arith, same, ap (λ l. l.writes.flushes) ended.1)
+
+pub flush_once : {S P : Type 0} (s t : Buffered S P) (answer : Result (Unit {0}) Error) → Flushes s answer t
+    → t.log.writes.flushes ≤ s.log.writes.flushes + 1
+flush_once s t answer f = flush_counted s t f.sent_log answer f.sending f.sends.sent.flushes f.ended
+
 -- a call of a writer that was noted
 pub call_went : {S P : Type 0} (stretch : S → S → Type 0) (rules : WriteRules P) (s m t : Buffered S P)
     (calls noted : StreamLog) → t ≡ m → calls ≡ noted → stretch s.inner m.inner
     → WriteLogGrows s.log.writes m.log.writes
     → WriteLogGrows (writer_log s).writes (writer_log (with_calls t calls)).writes
     → s.block.capacity ≤ m.block.capacity → m.block.kind ≡ s.block.kind → rules.claims m.policy ≡ rules.claims s.policy
+    → m.log.writes.flushes + s.own_calls.writes.flushes ≤ s.log.writes.flushes + noted.writes.flushes
     → ((rules.claims s.policy).steady ≡ true
     → failures noted.writes + failures s.log.writes ≤ failures s.own_calls.writes + failures m.log.writes)
     → (TellsFailures rules s.policy → MetInterrupts s.own_calls.writes noted.writes
     → MetInterrupts s.log.writes m.log.writes)
     → WriterWent stretch rules s (with_calls t calls)
-call_went stretch rules s m t calls noted is told went grows own capacity kind claims fails met =
+call_went stretch rules s m t calls noted is told went grows own capacity kind claims flushes fails met =
     let log : t.log ≡ m.log = ap (λ x. x.log) is in record {
       inner = subst (stretch s.inner) (sym (ap (λ x. x.inner) is)) went;
       grows = subst (λ l. WriteLogGrows s.log.writes l.writes) (sym log) grows;
@@ -160,6 +173,7 @@ call_went stretch rules s m t calls noted is told went grows own capacity kind c
       capacity = omega (arith, ap (λ x. x.block.capacity) is, capacity);
       kind = ap (λ x. x.block.kind) is ∙ kind;
       claims = ap (λ x. rules.claims x.policy) is ∙ claims;
+      flushes = omega (arith, flushes, ap (λ l. l.writes.flushes) told, ap (λ l. l.writes.flushes) log);
       fails = λ steady. omega (
         arith,
         fails steady,

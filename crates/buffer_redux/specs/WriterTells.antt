@@ -38,8 +38,9 @@ failures log = length log.faults + log.zero_writes
 abbrev pub TellsFailures : {P : Type 0} → WriteRules P → P → Type 0
 TellsFailures rules p = ((rules.claims p).steady ≡ true) × FlushesNothingAfter rules
 
--- the lists and counts only go on, its own and the inner writer's. Under a steady policy it failed no more often than the
--- inner writer; and where no failure is kept back, the inner writer was at most interrupted where it was so itself
+-- the lists and counts only go on, its own and the inner writer's, which was flushed no more often than it was itself. Under
+-- a steady policy it failed no more often than the inner writer; and where no failure is kept back, the inner writer was at
+-- most interrupted where it was so itself
 pub record WriterWent {S P : Type 0} (stretch : S → S → Type 0) (rules : WriteRules P) (s t : Buffered S P)
     : Type 0 where
   pub inner : stretch s.inner t.inner
@@ -48,6 +49,7 @@ pub record WriterWent {S P : Type 0} (stretch : S → S → Type 0) (rules : Wri
   pub capacity : s.block.capacity ≤ t.block.capacity
   pub kind : t.block.kind ≡ s.block.kind
   pub claims : rules.claims t.policy ≡ rules.claims s.policy
+  pub flushes : t.log.writes.flushes + s.own_calls.writes.flushes ≤ s.log.writes.flushes + t.own_calls.writes.flushes
   pub fails : (rules.claims s.policy).steady ≡ true
       → failures t.own_calls.writes + failures s.log.writes ≤ failures s.own_calls.writes + failures t.log.writes
   pub met : TellsFailures rules s.policy → MetInterrupts s.own_calls.writes t.own_calls.writes
@@ -118,6 +120,7 @@ module _ {S P : Type 0} (stretch : S → S → Type 0) (rules : WriteRules P) wh
     capacity = le_refl _;
     kind = refl;
     claims = refl;
+    flushes = le_refl _;
     fails = λ steady. le_refl _;
     met = λ tells only. record { interrupts = []; only = OnlyInterrupted-none s.log.writes };
   }
@@ -138,6 +141,7 @@ module _ {S P : Type 0} (stretch : S → S → Type 0) (rules : WriteRules P) wh
         capacity = le_trans p.capacity q.capacity;
         kind = q.kind ∙ p.kind;
         claims = q.claims ∙ p.claims;
+        flushes = omega (arith, p.flushes, q.flushes);
         fails = λ steady. omega (
           arith,
           p.fails steady,

@@ -4,7 +4,7 @@ use Rattle.redux_buffer.specs.StreamLog.{after_flush}
 use Rattle.redux_buffer.specs.LogGrows.{WriteLogGrows, WriteLogGrows-flush}
 use Rattle.buffer_redux.specs.WriterTells.{writer_log}
 use Rattle.buffer_redux.specs.BufWriter.{Flushes}
-use Rattle.buffer_redux.proofs.WriteTelling.{call_went, flush_fails, flush_met, flush_fault, flushes_noted}
+use Rattle.buffer_redux.proofs.WriteTelling.{call_went, flush_once, flush_fails, flush_met, flush_fault, flushes_noted}
 use Rattle.buffer_redux.proofs.buf_writer.tells.BufWriterTellWrite.flush_told.Goals as goal
 
 pub returns-clause-told : goal.returns-clause-told
@@ -25,6 +25,7 @@ returns-clause-stretch g c =
     (omega (arith, flush.capacity))
     flush.kind
     (ap table.claims flush.steps.policy)
+    (omega (arith, flush_once s m answer flush.steps))
     (λ steady. flush_fails s m answer flush.grows flush.caused)
     (λ tells. flush_met s m answer flush.ok flush.caused)
 

@@ -1,4 +1,4 @@
-use Rattle.std.proofs.Common.{rules, ◌≡◌, ◌∙◌, List, inl, ap, subst, sym}
+use Rattle.std.proofs.Common.{rules, ◌≡◌, ◌∙◌, List, inl, ap, subst, sym, arith}
 use Rattle.std.specs.declared.io.Error.{Error}
 use Rattle.std.specs.declared.io.ErrorKind.TheVariants.{WriteZero}
 use Rattle.redux_buffer.specs.Faults.{TookNothing, SendErrorCaused}
@@ -24,6 +24,7 @@ returns-clause-stretch g c =
     c.self.view_is noted wrote.keeps.went.calls wrote.keeps.grows
     (subst (λ l. WriteLogGrows (writer_log s).writes l.writes) (sym (returns-clause-told g c))
     (WriteLogGrows-write (writer_log s) bs answer)) wrote.keeps.capacity wrote.keeps.kind wrote.keeps.claims
+    (omega (arith, wrote.keeps.flushes))
     (λ steady. write_fails s m bs answer wrote.keeps.grows (wrote.steadily steady))
     (λ tells. write_met g.P.WriterPolicy.rules s m bs tells answer wrote.steps wrote.caused)
 
