@@ -19,7 +19,7 @@ std_tail_written b w within =
     let tail = drop_refilled_from b.buf b.end w within in
     (λ i. record p { block = record p.block { bytes = bytes i; tail = tail i } })
 
--- and one that took a front of its tail
+-- a plain buffer that took in a front of its tail
 pub std_took : (b : StdInside) (n k : ℕ) → b.pos ≤ b.end → b.end ≤ b.stop → b.stop ≡ length b.buf
     → k ≡ min n (b.stop - b.end) → BytesWritten n (std_view b).block (std_view (record b { end = b.end + k })).block
 std_took b n k ordered fits all is = record {

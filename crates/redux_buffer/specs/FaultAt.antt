@@ -17,7 +17,6 @@ pub record FaultProgress : Type 0 where
 abbrev pub fault_progress : {S : Type 0} → FaultAt S → FaultProgress
 fault_progress s = record { before = s.before; answer = s.answer; calls = s.calls }
 
--- and the stream inside
 abbrev pub fault_stream : {S : Type 0} → FaultAt S → S
 fault_stream s = s.stream
 

@@ -15,7 +15,7 @@ use Rattle.redux_buffer.specs.StreamLog.{WriteLog}
 abbrev pub IsInterrupt : Error → Type 0
 IsInterrupt e = error_kind e ≡ Interrupted
 
--- and `OutOfMemory`
+-- `e.kind()` is `OutOfMemory`
 abbrev pub IsMemory : Error → Type 0
 IsMemory e = error_kind e ≡ OutOfMemory
 

@@ -24,7 +24,7 @@ pub record GrowthRefused (more : ℕ) (b : Block) (refusal : GrowError) : Type 0
   pub tight : usable b < more
   pub within : FitsWithin {T = Unit {0}} (Err refusal) (capacity_for b more) b.limit
 
--- it was refused, which an I/O error tells by its kind
+-- an I/O error tells by its kind why room for so many more bytes was refused
 pub record GrowthFailed (more : ℕ) (b : Block) (e : Error) : Type 0 where
   pub refusal : GrowError
   pub tells : error_kind e ≡ kind_of refusal

@@ -11,7 +11,7 @@ pub record ReadLogGrows (old new : ReadLog) : Type 0 where
   pub zero_reads : old.zero_reads ≤ new.zero_reads
   pub faults : GoesOn old.faults new.faults
 
--- it was flushed since: of what was received at first nothing is left out, and what is flushed was received
+-- a writer was flushed since: what is flushed holds all that was received at first, and nothing that wasn't received
 pub record FlushedSince (old new : WriteLog) : Type 0 where
   pub all : GoesOn old.received new.flushed
   pub front : GoesOn new.flushed new.received

@@ -47,7 +47,7 @@ fault-memory w before e after is =
     All-head IsMemory e [] (subst (All IsMemory) (drop_at before (e ∷ []) (length before) refl)
     (All-drop IsMemory (length before) (before ++ e ∷ []) front))
 
--- and so was what sending failed by
+-- each error of sending was want of memory
 pub send-memory : (w : MemoryWriter) (old : WriteLog) (e : Error) → SendErrorCaused old (writer_log w).writes e → IsMemory e
 send-memory w old e s = elim s.cause [
   | inl nothing ↦ absurd (omega (arith, nothing.zero_writes, w.takes_some))

@@ -14,7 +14,7 @@ pub record RisesAtMost (keep most : ℕ) (old new : Block) : Type 0 where
   pub moved : old.moved ≤ new.moved
   pub held : potential keep new ≤ potential keep old + most
 
--- so it is of a plain block, whatever the number
+-- in a plain block no move was undone, and the potential rose by at most so much, whatever the number
 abbrev pub PlainRises : ℕ → Block → Block → Type 0
 PlainRises most old new = old.kind ≡ Plain → (keep : ℕ) → RisesAtMost keep most old new
 
