@@ -94,7 +94,7 @@ module _ {S P : Type 0} (remaining : S → Option (List ℕ)) (rules : ReadRules
     sparing = record { each = λ keep _. Spared-none keep s };
   }
 
-  -- so many bytes are buffered
+  -- n bytes are buffered, which ends reading ahead
   pub ahead_enough : {A : Type 0} (s m : Buffered S P) (a : A) → AheadTurns remaining rules n s m
       → IsBlock m.block → n ≤ length m.block.bytes → ReadsAhead remaining rules n s (Ok a) m
   ahead_enough s m a turns whole enough = record {

@@ -52,7 +52,7 @@ module _ {S P : Type 0} (rules : ReadRules P) where
         let found = at_minimum k m turn.seen read_now t h.1 turn.ordered.asked in
         turn.read.added.capacity ∙ found.capacity (omega (arith, before, holds)) ∙ before
 
-    -- and none changed the limit
+    -- no turn changed the limit
     same_limit : (k : ℕ) (m : Buffered S P) → Turns rules k s m → m.block.limit ≡ s.block.limit
     same_limit zero m e = ap (λ x. x.block.limit) (sym e)
     same_limit (suc k) t h =

@@ -58,7 +58,7 @@ module _ {S P : Type 0} (remaining : S → Option (List ℕ)) (rules : ReadRules
       fill_front = IfSome-unless (may_stop rules s) (ahead remaining s) (λ xs. StartsWith xs shown)
           (λ _. prepend_known-front (ahead remaining s) (remaining t.inner) shown lent)
 
-      -- and where it shows nothing, nothing is ahead
+      -- nothing is ahead where a fill shows nothing
       pub fill_end : (WantsBytes (rules.claims s.policy) → 0 < s.block.capacity → length t.block.bytes ≡ 0
           → IsAtEnd (remaining t.inner))
           → IfSome (reader_remaining remaining rules s) (λ xs. length shown ≡ 0 → xs ≡ [])

@@ -26,7 +26,7 @@ pub from_part : (parts : List (Bor (List ℕ))) (at : ℕ) → at < length parts
     → all_of (drop at parts) ≡ (get_or parts at (record { ref_ptr = (0, 0); now = [] })).now ++ all_of (drop (at + 1) parts)
 from_part parts at within = rw add-one (ap all_of (drop-cons parts at (record { ref_ptr = (0, 0); now = [] }) within))
 
--- and behind one more
+-- what is held and the parts left make up all, after one more part too
 pub one_more : (parts : List (Bor (List ℕ))) (at : ℕ) → at < length parts → (held all new : List ℕ)
     → held ++ all_of (drop at parts) ≡ all → new ≡ held ++ (get_or parts at (record { ref_ptr = (0, 0); now = [] })).now
     → new ++ all_of (drop (at + 1) parts) ≡ all
@@ -155,7 +155,7 @@ module _ {S P : Type 0} (tells : S → StreamLog) (stretch : S → S → Type 0)
         (WasSent-along tells stretch std_write_rules goes s p.sending p.left p.sent)
         (block_along p.left t [] p.others (p.kept.bytes ∙ sym (append-nil p.left.block.bytes)) p.kept.capacity p.kept.kind)
 
-    -- and then there was room
+    -- the parts moved in, once there was room
     pub parts_moved : (s m t : Buffered S P) (count : ℕ) (bytes : List ℕ) → usable s.block < length bytes
         → MakesPlace tells stretch count s (Ok tt) m → PutsIn bytes m.block t.block → t ≡ with_block m t.block
         → WritesParts tells stretch s bytes (Ok tt) t
@@ -168,7 +168,7 @@ module _ {S P : Type 0} (tells : S → StreamLog) (stretch : S → S → Type 0)
       whole = put.whole;
     }
 
-    -- or none
+    -- no room was made, and no part moved in
     pub parts_failed : (s t : Buffered S P) (count : ℕ) (bytes : List ℕ) (e : Error) → usable s.block < length bytes
         → count ≤ length bytes → MakesPlace tells stretch count s (Err e) t → WritesParts tells stretch s bytes (Err e) t
     parts_failed s t count bytes e few within p = record {

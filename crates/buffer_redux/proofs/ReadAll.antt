@@ -91,7 +91,7 @@ module _ {S P : Type 0} (remaining : S → Option (List ℕ)) (rules : ReadRules
     keeps = keeps_joins s m t p.keeps q.keeps;
   }
 
-  -- so many turns handed these bytes out, into a slice of `room` bytes
+  -- `turns` turns handed these bytes out, into a slice of `room` bytes
   pub record Turned (s : Buffered S P) (room turns : ℕ) (handed : List ℕ) (t : Buffered S P) : Type 0 where
     pub within : length handed ≤ room
     pub run : ReadTurns remaining rules room turns handed s t

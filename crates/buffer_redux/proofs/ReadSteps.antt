@@ -280,7 +280,7 @@ module _ {S P : Type 0} (remaining : S → Option (List ℕ)) (rules : ReadRules
         keeps = filled_keeps remaining rules s (Err e) t f r.fill;
       }
 
-  -- and the slice keeps its length
+  -- the slice keeps its length
   pub keeps_length : (answer : Result ℕ Error) (out' : List ℕ) (t : Buffered S P)
       → ReadsInside remaining rules s out answer out' t → StaysInside s.block (length out) → length out' ≡ length out
   keeps_length (Ok n) out' t r inside = same_length n out' t r inside

@@ -65,7 +65,7 @@ module _ {S P : Type 0} (remaining : S → Option (List ℕ)) (rules : ReadRules
         (OnlyInterrupts-joins i.0.log.reads.faults m.log.reads.faults t.log.reads.faults
         (h.interrupt i.0 i.2.error m i.2.interrupt i.2.went) f)
 
-    -- it hands out nothing, and where it was Ok no fault came but `Interrupted`
+    -- a retried step hands out nothing, and at Ok met no fault but `Interrupted`
     retried_front : (s : Buffered S P) (answer : Result (Unit {0}) Error) (t : Buffered S P)
         → Retried step s answer t → HandedFront remaining rules s [] t
     retried_front s answer t r = after_interrupted r.count s r.last t r.interrupted (h.front r.last answer t r.went)

@@ -9,7 +9,7 @@ use Rattle.buffer_redux.specs.UntilLaws.{ending_through}
 abbrev other : ℕ → ℕ → Type 0
 other byte b = ¬ (b ≡ byte)
 
--- it stands nowhere before this place
+-- the byte stands nowhere before this place
 abbrev pub NoneBefore : ℕ → List ℕ → ℕ → Type 0
 NoneBefore byte bytes end = (k : ℕ) → 0 ≤ k → k < end → ¬ ((slice_index bytes k == byte) ≡ true)
 
@@ -55,7 +55,7 @@ take-append-more (b ∷ front) byte more =
     let count : length (b ∷ front) + 1 ≡ suc (length front + 1) = omega arith in
     ap (λ n. take n (b ∷ front ++ byte ∷ more)) count ∙ ap (λ l. b ∷ l) (take-append-more front byte more)
 
--- so the first bytes, up to it and with it, end in it
+-- the first bytes, up to the byte and with it, end in it
 pub through : (byte at : ℕ) (bytes : List ℕ) → FirstAt byte at bytes → take (at + 1) bytes ≡ take at bytes ++ byte ∷ []
 through byte at bytes e =
     let size = length-take-le at bytes (omega (arith, e.inside)) in
@@ -63,7 +63,7 @@ through byte at bytes e =
     ∙ ap (λ n. take n (take at bytes ++ byte ∷ drop (1 + at) bytes)) (omega (arith, size))
     ∙ take-append-more (take at bytes) byte (drop (1 + at) bytes)
 
--- and so do these behind some that lack it
+-- bytes that lack the byte, and then some up to it and with it, end in it
 pub ends_in : (byte at : ℕ) (h shown : List ℕ) → FirstAt byte at shown → Lacks byte h
     → EndsIn byte (h ++ take (at + 1) shown)
 ends_in byte at h shown e plain = record {
@@ -72,7 +72,7 @@ ends_in byte at h shown e plain = record {
   equal = ap (λ l. h ++ l) (through byte at shown e) ∙ sym (append_assoc h (take at shown) (byte ∷ []));
 }
 
--- they are what is taken through it
+-- the first bytes, up to the byte and with it, are what is taken through it
 pub first_through : (byte at : ℕ) (bytes : List ℕ) → FirstAt byte at bytes → take (at + 1) bytes ≡ take_through byte bytes
 first_through byte at bytes e =
     ending_through byte (take (at + 1) bytes) (drop (at + 1) bytes) (ends_in byte at [] bytes e (lacks_none byte))

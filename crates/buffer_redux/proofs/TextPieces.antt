@@ -151,7 +151,7 @@ module _ {S P : Type 0} (tells : S → StreamLog) (stretch : S → S → Type 0)
   went_wrong (Some s) None m t a e open' went p = ∥∥₁_map went (λ w. failed_after s m t w.0 e w.1 p.why)
   went_wrong (Some s) (Some x) m t a e open' went p = absurd (subst T open' tt)
 
-  -- and lost no byte
+  -- a text that went so far lost no byte
   went_along : (s : Buffered S P) (k : Option Error) (t : Buffered S P) → TextWent tells stretch rules s k t
       → (accepted : List ℕ) × WritesAlong tells stretch rules s accepted t
   went_along s None t w = (w.0, w.1.along)
@@ -167,13 +167,13 @@ module _ {S P : Type 0} (tells : S → StreamLog) (stretch : S → S → Type 0)
   piece_stopped None s a e t open' p = p
   piece_stopped (Some x) s a e t open' p = absurd (subst T open' tt)
 
-  -- and one that was taken
+  -- a piece that was taken, where no write had failed
   pub piece_taken : (k : Option Error) (s : Buffered S P) (a : List ℕ) (t : Buffered S P) → is_some k ≡ false
       → WritesPieces tells stretch rules s a t → TakesPieces tells stretch rules s k a t k
   piece_taken None s a t open' p = p
   piece_taken (Some x) s a t open' p = absurd (subst T open' tt)
 
-  -- so a text that is known was taken, where the formatting didn't fail
+  -- a text that is known was taken, where the formatting didn't fail
   pub text_taken : {A : Type 0} (writer : A → Buffered S P) (ended : A → Option Error) (f g : Formatter A) (a b : A)
       (k : Option Error) (formatted : Result (Unit {0}) fmt.Error) (text : Option (List ℕ))
       → DisplaysOnOk (λ x bytes y. TakesPieces tells stretch rules (writer x) (ended x) bytes (writer y) (ended y))
@@ -228,7 +228,7 @@ module _ {S P : Type 0} (tells : S → StreamLog) (stretch : S → S → Type 0)
       of None p = tt
       of (Some bytes) p = inr p
 
-  -- and neither
+  -- neither the formatting nor the write of a piece failed
   pub text_written : (s : Buffered S P) (text : Option (List ℕ)) (x : Unit {0}) (t : Buffered S P)
       → ∥ TextWent tells stretch rules s None t ∥₁
       → IfSome text (λ bytes. TakesPieces tells stretch rules s None bytes t None)

@@ -59,7 +59,7 @@ module _ {S P : Type 0} {step : Step (Buffered S P)} (remaining : S → Option (
       | inr none ↦ subst (λ x. (count : ℕ) × Steps rules step count s x) (sym (gone.none (omega (arith, none)))) before.steps
     ]
 
-    -- then the first n bytes are handed out, or all that are buffered, which lack the byte
+    -- the next bytes handed out lack the byte: the first n that are buffered, or all
     pub passes_first : (t : Buffered S P) (n : ℕ) → n ≤ length m.block.bytes → Lacks byte (take n m.block.bytes)
         → HandedFront remaining rules m (take n m.block.bytes) t → DropsFirst rules n m t
         → Passes remaining rules step byte s (handed ++ take n m.block.bytes) t
@@ -79,7 +79,7 @@ module _ {S P : Type 0} {step : Step (Buffered S P)} (remaining : S → Option (
         subst (λ l. Passes remaining rules step byte s (handed ++ l) t) all
         (passes_first t n (omega (arith, count)) (subst (Lacks byte) (sym all) plain) went gone)
 
-    -- or such a step is made as a fill
+    -- a step that hands out nothing is made as a fill
     module _ (hands : HandsNothing remaining rules step) where
       pub front_filled : (answer : Result (Unit {0}) Error) (t : Buffered S P) → step m answer t
           → HandedFront remaining rules s handed t
@@ -117,7 +117,7 @@ module _ {S P : Type 0} {step : Step (Buffered S P)} (remaining : S → Option (
               };
         }
 
-    -- or the bytes up to the byte, with it
+    -- the bytes up to the byte, with it, are handed out next
     pub front_reached : (at : ℕ) (t : Buffered S P) → HandedFront remaining rules m (take (at + 1) m.block.bytes) t
         → HandedFront remaining rules s (handed ++ take (at + 1) m.block.bytes) t
     front_reached at t went =
@@ -208,7 +208,7 @@ appended_length old new handed before after is first last =
 pub take_whole : (n : ℕ) (bytes : List ℕ) → n ≡ length bytes → take n bytes ≡ bytes
 take_whole n bytes count = ap (λ k. take k bytes) count ∙ take-length bytes
 
--- so the length before is no more than the length after
+-- the length before is no more than the length after, where bytes were appended
 pub starts_before : (old new handed : List ℕ) (before after : ℕ) → new ≡ old ++ handed → before ≡ length old
     → after ≡ length new → before ≤ after
 starts_before old new handed before after is first last =

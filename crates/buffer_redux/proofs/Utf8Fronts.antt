@@ -129,7 +129,7 @@ front_whole bytes text same whole =
       };
     }
 
--- or but for a part of a character
+-- all of the bytes but a part of a character are a text
 pub front_part : (bytes text : List ℕ) (v : ℕ) → IsValidUpTo bytes v → length bytes < v + 4
     → utf8_error_len (drop v bytes) ≡ None → text ≡ take v bytes → FrontOf bytes text
 front_part bytes text v found few fault same =
@@ -151,7 +151,7 @@ last_is : (byte : ℕ) (front : List ℕ) → slice_index (front ++ byte ∷ [])
 last_is byte [] = refl
 last_is byte (b ∷ front) = last_is byte front
 
--- so no continuation mends a line that is whole
+-- no continuation mends a whole line that is no UTF-8
 pub never_line : (at : ℕ) (bytes : List ℕ) → FirstAt 10 at bytes → ¬ (IsUtf8 (take (at + 1) bytes))
     → NeverUtf8 (take (at + 1) bytes)
 never_line at bytes first bad more whole =

@@ -124,7 +124,7 @@ not_interrupted nothing other (Ok k) e ends odd = other (sym ends.1 ∙ odd)
 not_interrupted nothing other (Err x) e ends odd = ends.1 odd
 
 module _ {S P : Type 0} (tells : S → StreamLog) (stretch : S → S → Type 0) (rules : WriteRules P) where
-  -- so many turns took the bytes before `at` in
+  -- `turns` turns took the bytes before `at` in
   pub record Turned (s : Buffered S P) (bs : List ℕ) (turns at : ℕ) (t : Buffered S P) : Type 0 where
     pub within : at ≤ length bs
     pub run : WriteTurns rules bs turns at s t

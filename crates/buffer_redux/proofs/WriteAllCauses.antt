@@ -27,7 +27,7 @@ module _ {S P : Type 0} (rules : WriteRules P) (rest : List ℕ) (e : Error) (m 
       of (Err x) ends caused steadily = subst (λ y. WriterStopped m.log.writes t.log.writes y) ends.0
           (WriteErrorCaused-failed rules m rest x t caused steadily.err)
 
-  -- and else the policy's answer may be what ended it
+  -- the last write was stopped by the inner writer, refused by the policy, or found no space
   last_caused : WriterStopped m.log.writes t.log.writes e
       ⊎ (WriteRefused rules m rest e t ⊎ LeftNoSpace rules m rest e t)
   last_caused = of failed.answer failed.ends failed.caused failed.empty

@@ -71,7 +71,7 @@ takes_in_roomy m t bs n whole room count added policy told = record {
   };
 }
 
--- and all of them, where they were appended as they are
+-- a write that fits took in all of its bytes, where they were appended as they are
 pub takes_in_all : {S P : Type 0} (m t : Buffered S P) (bs : List ℕ) → IsBlock m.block → length bs < usable m.block
     → Extends bs m.block t.block → t.policy ≡ m.policy → t.log ≡ m.log → TakesIn bs m (Ok (length bs)) t
 takes_in_all m t bs whole room added policy told = takes_in_roomy m t bs (length bs) whole room (omega (arith, room))

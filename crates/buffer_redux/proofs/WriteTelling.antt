@@ -129,7 +129,7 @@ write_fails s t bs (Ok n) on steadily = elim (cases_lt 0 n) [
   ]
 ]
 
--- and so is a failed flush
+-- a failed flush is a failure of the inner writer's
 pub flush_fails : {S P : Type 0} (s t : Buffered S P) (answer : Result (Unit {0}) Error)
     → WriteLogGrows s.log.writes t.log.writes → IfErr answer (λ e. SendErrorCaused s.log.writes t.log.writes e)
     → failures (after_flush s.own_calls answer).writes + failures s.log.writes
@@ -215,7 +215,7 @@ write_fault rules s t bs steady (Err e) f caused same =
     (same_fault s.own_calls.writes.faults e f same)
     (steady_caused rules s t bs e steady caused)
 
--- and so is an answer that took nothing of something
+-- under a steady policy an answer that took nothing of something is caused by the inner writer
 pub write_nothing : {S P : Type 0} (rules : WriteRules P) (s t : Buffered S P) (bs : List ℕ)
     → (rules.claims s.policy).steady ≡ true → (answer : Result ℕ Error) → Writes rules s bs answer t
     → (after_write s.own_calls bs answer).writes.zero_writes ≡ s.own_calls.writes.zero_writes + 1

@@ -40,7 +40,7 @@ module _ {S P : Type 0} (rules : WriteRules P) where
   one_turn bs (Err x) further s t steps goes steady = inr (WasInterrupted-send s.log.writes t.log.writes x goes.0
       (steady_caused rules s t bs x steady (writes_caused rules s bs x t steps)))
 
-  -- so many turns took as many bytes at least, or the inner writer was interrupted
+  -- `turns` turns took as many bytes at least, or the inner writer was interrupted
   pub record Turned (turns count : ℕ) (s t : Buffered S P) : Type 0 where
     pub took : (turns ≤ count) ⊎ WasInterrupted s.log.writes t.log.writes
     pub grows : WriteLogGrows s.log.writes t.log.writes

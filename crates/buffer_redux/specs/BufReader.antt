@@ -41,7 +41,7 @@ pub record PolicyDeclined {S P : Type 0} (rules : ReadRules P) (s t : Buffered S
   pub none : s.block.bytes ≡ []
   pub declined : Declined rules s t
 
--- so filling ended, and then nothing was handed out, of which the policy was told
+-- the policy ended filling with nothing buffered; then nothing was handed out, of which the policy was told
 pub record ReadDeclined {S P : Type 0} (rules : ReadRules P) (s t : Buffered S P) : Type 0 where
   pub filled : Buffered S P
   pub declined : PolicyDeclined rules s filled
@@ -96,7 +96,7 @@ pub record FillsToMinimum {S P : Type 0} (n : ℕ) (s : Buffered S P) (ok : Bool
   pub capacity : n ≤ s.block.capacity → t.block.capacity ≡ s.block.capacity
   pub limit : t.block.limit ≡ s.block.limit
 
--- so it is where the policy claims a minimum
+-- what a fill does where the policy claims a minimum
 abbrev pub LooksAhead : {S P : Type 0} → Option ℕ → Buffered S P → Bool → Buffered S P → Type 0
 LooksAhead None s ok t = ⊤
 LooksAhead (Some n) s ok t = FillsToMinimum n s ok t
@@ -106,7 +106,7 @@ pub record SteadyFill {S P : Type 0} (s : Buffered S P) (ok : Bool) (t : Buffere
   pub faulted : ok ≡ false → length s.log.reads.faults < length t.log.reads.faults
   pub empty : ok ≡ true → 0 < s.block.capacity → length t.block.bytes ≡ 0 → RanDry s t
 
--- so it is under a steady policy
+-- what a fill does under a steady policy
 abbrev pub FillsSteadily : {S P : Type 0} → ReadRules P → Buffered S P → Bool → Buffered S P → Type 0
 FillsSteadily rules s ok t = (rules.claims s.policy).steady ≡ true → SteadyFill s ok t
 

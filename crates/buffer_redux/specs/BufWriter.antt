@@ -101,7 +101,7 @@ pub record WroteOn {S P : Type 0} (rules : WriteRules P) (amount : ℕ) (m : Buf
   pub took_in : TakesIn bs before (Ok n) after
   pub finished : Finished rules after t
 
--- and where the inner writer returned the error to the write past the buffer
+-- the steps after the first question, where the inner writer returned the error to the write past the buffer
 pub record FaultedOn {S P : Type 0} (amount : ℕ) (m : Buffered S P) (bs : List ℕ) (e : Error) (t : Buffered S P)
     : Type 0 where
   pub before : Buffered S P
@@ -150,7 +150,7 @@ pub record SteadyWrite {S P : Type 0} (s : Buffered S P) (incoming : ℕ) (answe
   pub empty : answer ≡ Ok 0 → 0 < incoming
       → s.log.writes.zero_writes < t.log.writes.zero_writes
 
--- so it is under a steady policy
+-- what a write does under a steady policy
 abbrev pub WritesSteadily : {S P : Type 0} → WriteRules P → Buffered S P → ℕ → Result ℕ Error → Buffered S P → Type 0
 WritesSteadily rules s incoming answer t = (rules.claims s.policy).steady ≡ true → SteadyWrite s incoming answer t
 
@@ -231,8 +231,8 @@ pub record WritesAlong {S P : Type 0} (tells : S → StreamLog) (stretch : S →
   pub kind : t.block.kind ≡ s.block.kind
   pub claims : rules.claims t.policy ≡ rules.claims s.policy
 
--- and the last was an Ok flush: nothing is buffered, and the inner writer received what was, then what was accepted, and
--- has flushed all that it received
+-- calls accepted these bytes, and the last was an Ok flush: nothing is buffered, and the inner writer received what was, then
+-- what was accepted, and has flushed all that it received
 pub record FlushedAlong {S P : Type 0} (tells : S → StreamLog) (stretch : S → S → Type 0) (rules : WriteRules P)
     (s : Buffered S P) (accepted : List ℕ) (t : Buffered S P) : Type 0 where
   pub along : WritesAlong tells stretch rules s accepted t
@@ -268,7 +268,7 @@ pub record InterruptedTooOften (old new : WriteLog) (e : Error) : Type 0 where
 abbrev pub WriterStopped : WriteLog → WriteLog → Error → Type 0
 WriterStopped old new e = LastFault old new e ⊎ (ZeroWritten old new e ⊎ InterruptedTooOften old new e)
 
--- they accepted a beginning of these bytes, of which none is lost
+-- calls accepted a beginning of these bytes, of which none is lost
 pub record BegunAlong {S P : Type 0} (tells : S → StreamLog) (stretch : S → S → Type 0) (rules : WriteRules P)
     (s : Buffered S P) (bytes : List ℕ) (t : Buffered S P) : Type 0 where
   pub accepted : List ℕ
@@ -276,7 +276,7 @@ pub record BegunAlong {S P : Type 0} (tells : S → StreamLog) (stretch : S → 
   pub all : bytes ≡ accepted ++ more
   pub along : WritesAlong tells stretch rules s accepted t
 
--- and then ended with this error of the inner writer
+-- calls accepted a beginning of these bytes, and then ended with this error of the inner writer
 pub record StoppedAlong {S P : Type 0} (tells : S → StreamLog) (stretch : S → S → Type 0) (rules : WriteRules P)
     (s : Buffered S P) (bytes : List ℕ) (e : Error) (t : Buffered S P) : Type 0 where
   pub begun : BegunAlong tells stretch rules s bytes t
@@ -288,7 +288,7 @@ abbrev pub FrontAlong : {S P A E : Type 0} → (S → StreamLog) → (S → S �
 FrontAlong tells stretch rules s bytes answer t = MatchResult answer
     (λ _. WritesAlong tells stretch rules s bytes t) (λ _. BegunAlong tells stretch rules s bytes t)
 
--- and an Err is one of the inner writer
+-- at Ok calls accepted these bytes, at an Err a beginning of them, and the error is the inner writer's
 abbrev pub AllAlong : {S P A : Type 0} → (S → StreamLog) → (S → S → Type 0) → WriteRules P → Buffered S P → List ℕ
     → Result A Error → Buffered S P → Type 0
 AllAlong tells stretch rules s bytes answer t = MatchResult answer

@@ -16,7 +16,7 @@ pub record InterruptedStep {T : Type 0} (step : Step T) (s t : T) : Type 0 where
   pub interrupt : IsInterrupt error
   pub went : step s (Err error) t
 
--- so many such, one after another
+-- this many steps that answered `Interrupted`, one after another
 abbrev pub InterruptedSteps : {T : Type 0} → Step T → ℕ → T → T → Type 0
 InterruptedSteps step zero s t = s ≡ t
 InterruptedSteps {T} step (suc k) s t = (m : T) × InterruptedSteps step k s m × InterruptedStep step m t

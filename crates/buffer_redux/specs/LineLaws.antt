@@ -49,7 +49,7 @@ never_known (Some x) (Some y) bytes left handed went text plain never = λ whole
     let line = ap (take_through 10) went ∙ take_through-append 10 handed (left ++ y) plain in
     never begins.0 (subst IsUtf8 begins.1 (text_behind handed (take_through 10 (left ++ y)) text (subst IsUtf8 line whole)))
 
--- or whose last piece is none
+-- a line whose last piece, at the end of all, is no UTF-8
 broken_known : (a b : Option (List ℕ)) (bytes left handed : List ℕ)
     → Consumes (prepend_known bytes a) (prepend_known left b) handed → IfSome a (λ _. IsAtEnd b) → IsUtf8 handed
     → Lacks 10 handed → Lacks 10 left → ¬ (IsUtf8 left)
@@ -72,7 +72,7 @@ module _ {S P : Type 0} (remaining : S → Option (List ℕ)) (rules : ReadRules
       (reader_remaining remaining rules s)
       (EndsUntil-known remaining rules 10 s (FillsOn remaining rules) no_text n reads.handed t reads.front reads.ends)
 
-  -- and a line is refused only where it is no UTF-8
+  -- a line is refused only where it is no UTF-8
   pub ReadsLine-invalid : (before : List ℕ) (answer : Result ℕ Error) (after : List ℕ) (t : Buffered S P)
       → ReadsLine remaining rules s before answer after t → InvalidCaused remaining rules s answer t
   ReadsLine-invalid before (Ok n) after t reads = tt

@@ -13,11 +13,11 @@ free_space b = b.capacity - length b.bytes
 pub record ReadiesFor (n : ℕ) (old new : Block) : Type 0 where
   -- n bytes fit behind its bytes
   pub enough : n ≤ usable old → new ≡ old
-  -- they fit once room is made
+  -- n bytes fit once room is made
   pub behind : usable old < n → n ≤ free_space old → MakesRoomInFront old new
-  -- it is too small to hold n bytes
+  -- the buffer is too small to hold n bytes
   pub too_small : old.capacity < n → Reserves (n - old.capacity) old new
-  -- it can hold n bytes, and can't take in n more: room is made only where nothing can be written
+  -- the buffer can hold n bytes, and can't take in n more: room is made only where nothing can be written
   pub full : n ≤ old.capacity → free_space old < n → usable old ≡ 0 → MakesRoomInFront old new
   pub not_full : n ≤ old.capacity → free_space old < n → 0 < usable old → new ≡ old
 

@@ -16,8 +16,7 @@ AheadEnded n s (Ok a) t =
     ⊎ ((length t.block.bytes < n) × (t.log.reads.zero_reads ≡ s.log.reads.zero_reads + 1))
 AheadEnded n s (Err e) t = (length t.block.bytes < n) × (t.log.reads.zero_reads ≡ s.log.reads.zero_reads)
 
--- so many more bytes fit behind those that are buffered, for which room was made at most. That spares each number which
--- they and those come to
+-- `more` bytes fit behind those that are buffered. At most room was made, which spares each number that holds all of them
 pub record MakesRoomFor {S P : Type 0} (more : ℕ) (s t : Buffered S P) : Type 0 where
   pub in_order : ReadsInOrder s [] t
   pub others : t ≡ with_block s t.block

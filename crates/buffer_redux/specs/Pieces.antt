@@ -20,7 +20,7 @@ pub record Splitting (S P : Type 0) : Type 0 where
 abbrev pub goes_on : {S P : Type 0} → ℕ → Buffered S P → List ℕ → Splitting S P
 goes_on byte reader begun = record { reader = reader; byte = byte; begun = begun; left = 2 ^ 64 - 1 }
 
--- or none did
+-- a reader of which nothing was asked yet, and of whose next piece no bytes came before
 abbrev pub begins : {S P : Type 0} → ℕ → Buffered S P → Splitting S P
 begins byte reader = goes_on byte reader []
 

@@ -32,11 +32,11 @@ AfterWriteTable P = P → Block → FlushAmt → P → Type 0
 
 -- what a reader's policy may claim beyond its tables
 pub record ReadClaims : Type 0 where
-  -- it has filling go on until this many bytes are there, and no longer
+  -- the policy has filling go on until this many bytes are there, and no longer
   pub minimum : Option ℕ
-  -- it returns no error, and reads into an empty buffer
+  -- the policy returns no error, and reads into an empty buffer
   pub steady : Bool
-  -- it spares each number from this one on: where the capacity is three times as large, it doesn't raise the potential
+  -- the policy spares each number from this one on: where the capacity is three times as large, it doesn't raise the potential
   pub spares : Option ℕ
 
 abbrev pub no_read_claims : ReadClaims

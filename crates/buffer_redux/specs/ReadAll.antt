@@ -46,7 +46,7 @@ pub record ReadTurn {S P : Type 0} (remaining : S → Option (List ℕ)) (rules 
   pub goes : GoesBy answer further
   pub adds : handed ≡ before ++ portion slice answer
 
--- so many turns, one after another, handed these bytes out
+-- this many turns, one after another, handed these bytes out
 abbrev pub ReadTurns : {S P : Type 0} → (S → Option (List ℕ)) → ReadRules P → ℕ → ℕ → List ℕ → Buffered S P
     → Buffered S P → Type 0
 ReadTurns remaining rules room zero handed s t = (handed ≡ []) × (s ≡ t)

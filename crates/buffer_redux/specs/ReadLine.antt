@@ -64,7 +64,7 @@ abbrev pub FillsOn : {S P : Type 0} → (S → Option (List ℕ)) → ReadRules 
 FillsOn remaining rules s answer t = ((length s.block.bytes ≡ 0) × FillRetried remaining rules s answer t)
     ⊎ ((0 < length s.block.bytes) × IsPart s.block.bytes × BehindRetried remaining rules s answer t)
 
--- so it did, and such a read gave more bytes; or it failed; or the stream ended behind that part
+-- a line went on, by more bytes behind a part of a character; or that failed; or the stream ended behind the part
 abbrev pub FillsLine : {S P A : Type 0} → (S → Option (List ℕ)) → ReadRules P → Buffered S P → Result A Error
     → Buffered S P → Type 0
 FillsLine remaining rules s (Ok a) t = FillsOn remaining rules s (Ok tt) t

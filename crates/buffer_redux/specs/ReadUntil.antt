@@ -33,7 +33,7 @@ pub record DropsFirst {S P : Type 0} (rules : ReadRules P) (n : ℕ) (s t : Buff
   pub none : n ≡ 0 → t ≡ s
   pub some : 0 < n → ReaderConsumes rules n s t
 
--- so many steps led from s to t, each of them a consume of some bytes that are buffered, of which the policy is told, or a
+-- this many steps led from s to t, each of them a consume of some bytes that are buffered, of which the policy is told, or a
 -- fill that showed more bytes, or what the call makes in place of one. So nobody is asked behind a fill that showed no
 -- more, which ends the call, and the policy is told of no consume of nothing
 abbrev pub Steps : {S P : Type 0} → ReadRules P → Step (Buffered S P) → ℕ → Buffered S P → Buffered S P → Type 0
@@ -50,7 +50,7 @@ pub record Passes {S P : Type 0} (remaining : S → Option (List ℕ)) (rules : 
   pub faults : OnlyInterrupts s.log.reads.faults t.log.reads.faults
   pub steps : (count : ℕ) × Steps rules step count s t
 
--- then a fill answered so
+-- these bytes were handed out, which lack the byte, and then a fill answered so
 pub record PassesAndFills {S P : Type 0} (remaining : S → Option (List ℕ)) (rules : ReadRules P)
     (step : Step (Buffered S P)) (byte : ℕ) (s : Buffered S P) (handed : List ℕ) (answer : Result (Unit {0}) Error)
     (t : Buffered S P) : Type 0 where

@@ -83,7 +83,7 @@ WantsSome (Some n) = 0 < n
 abbrev pub WantsBytes : ReadClaims → Type 0
 WantsBytes claims = (claims.steady ≡ true) ⊎ WantsSome claims.minimum
 
--- so does `StdPolicy`
+-- `StdPolicy` wants bytes
 pub WantsBytes-std : {P : Type 0} (p : P) → WantsBytes ((std_read_rules {P = P}).claims p)
 WantsBytes-std p = inl refl
 
@@ -266,7 +266,7 @@ module _ {S P : Type 0} (remaining : S → Option (List ℕ)) (rules : ReadRules
   ReadsAlong-then a b c h p q =
       subst (λ l. ReadsAlong remaining rules a l c) (append-nil h) (ReadsAlong-joins a b c h [] p q)
 
-  -- and one that goes to the end
+  -- a stretch that goes to the end, behind another
   pub ReadsToEnd-after : (a b c : Buffered S P) (h k : List ℕ) → ReadsAlong remaining rules a h b
       → ReadsToEnd remaining rules b k c → ReadsToEnd remaining rules a (h ++ k) c
   ReadsToEnd-after a b c h k p q = record {

@@ -85,7 +85,7 @@ pub record SeeksBy {S P : Type 0} (readies : Readies) (offset : ℤ) (s : Buffer
   pub seeks : Seeks readies (plan_for (Current offset) (length s.block.bytes)) s place t
   pub leaves : SeekLeaves s place t
 
--- so it is back, and forward past what is buffered
+-- one seek from where the reader stands, back, or forward past what is buffered
 abbrev pub SeeksFar : {S P : Type 0} → Readies → ℤ → Buffered S P → Result (Unit {0}) Error → Buffered S P → Type 0
 SeeksFar readies offset s answer t =
     ¬ ((n : ℕ) × (offset ≡ pos n) × (n ≤ length s.block.bytes)) → SeeksBy readies offset s answer t

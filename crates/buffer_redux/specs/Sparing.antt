@@ -24,7 +24,7 @@ pub record Spared {S P Q : Type 0} (keep : ℕ) (s : Buffered S P) (t : Buffered
   pub capacity : s.block.capacity ≤ t.block.capacity
   pub plain : s.block.kind ≡ Plain → 3 * keep ≤ s.block.capacity → PotentialHeld keep s t
 
--- they spared each number that the policy claims to spare
+-- the calls spared each number that the policy claims to spare
 abbrev pub SparesClaimed : {S P : Type 0} → ReadRules P → Buffered S P → Buffered S P → Type 0
 SparesClaimed rules s t = (keep : ℕ) → ClaimsToSpare (rules.claims s.policy).spares keep → Spared keep s t
 

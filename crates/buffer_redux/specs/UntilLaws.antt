@@ -84,14 +84,14 @@ module _ {S P : Type 0} (remaining : S → Option (List ℕ)) (rules : ReadRules
         (lacking_through byte handed all.fills.passes.plain))
   ]
 
-  -- so those were counted
+  -- at Ok just the bytes known to be left up to the byte were counted
   pub SkipsUntil-known : (answer : Result ℕ Error) (t : Buffered S P) → SkipsUntil remaining rules byte s answer t
       → IfOk answer (λ n. IfSome (reader_remaining remaining rules s) (λ xs. n ≡ length (take_through byte xs)))
   SkipsUntil-known (Err e) t skips = tt
   SkipsUntil-known (Ok n) t skips = counted_known byte skips.handed n skips.ends.0 (reader_remaining remaining rules s)
       (EndsUntil-known (FillRetried remaining rules) no_count n skips.handed t skips.front skips.ends)
 
-  -- or appended
+  -- at Ok just the bytes known to be left up to the byte were appended
   pub ReadsUntil-known : (before : List ℕ) (answer : Result ℕ Error) (after : List ℕ) (t : Buffered S P)
       → ReadsUntil remaining rules byte s before answer after t
       → OnOk answer (IfSome (reader_remaining remaining rules s) (λ xs. after ≡ before ++ take_through byte xs))
@@ -100,7 +100,7 @@ module _ {S P : Type 0} (remaining : S → Option (List ℕ)) (rules : ReadRules
       (reader_remaining remaining rules s)
       (EndsUntil-known (FillRetried remaining rules) no_memory n reads.handed t reads.front reads.ends)
 
-  -- and just those are gone
+  -- at Ok just the bytes known to be left up to the byte are gone
   pub ReadsUntil-drops : (before : List ℕ) (n : ℕ) (after : List ℕ) (t : Buffered S P)
       → ReadsUntil remaining rules byte s before (Ok n) after t
       → DropsThrough (reader_remaining remaining rules s) (reader_remaining remaining rules t) byte

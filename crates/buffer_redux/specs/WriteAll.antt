@@ -21,7 +21,7 @@ pub record WriteTurn {S P : Type 0} (rules : WriteRules P) (bs : List ℕ) (befo
   pub goes : GoesBy answer further
   pub adds : count ≡ before + further
 
--- so many turns, one after another, took the first `count` bytes in
+-- this many turns, one after another, took the first `count` bytes in
 abbrev pub WriteTurns : {S P : Type 0} → WriteRules P → List ℕ → ℕ → ℕ → Buffered S P → Buffered S P → Type 0
 WriteTurns rules bs zero count s t = (count ≡ 0) × (s ≡ t)
 WriteTurns {S} {P} rules bs (suc k) count s t =
@@ -94,7 +94,7 @@ WriteAllErrorCaused tells stretch rules s bs answer t = IfErr answer
     (λ e. WriterStopped s.log.writes t.log.writes e
     ⊎ (PolicyStopped tells stretch rules s bs e t ⊎ RanOutOfTurns rules s bs e t))
 
--- and under a steady policy the inner writer's
+-- under a steady policy an error is the inner writer's
 abbrev pub WritesAllSteadily : {S P : Type 0} → WriteRules P → Buffered S P → Result (Unit {0}) Error → Buffered S P
     → Type 0
 WritesAllSteadily rules s answer t =

@@ -54,7 +54,7 @@ exact_before_write exact p b incoming (Ok a) p' b' =
     (p' ≡ p) × (a.0 ≡ exact p) × ((m : Block) × Ensured (exact p) b m × MakesRoomBelow (exact p) incoming m b')
 exact_before_write exact p b incoming (Err e) p' b' = (p' ≡ p) × EnsuresCapacity (exact p) b (Err e) b'
 
--- so it does after a write
+-- `FlushExact` flushes its number after a write too
 abbrev pub exact_rules : {P : Type 0} → (P → ℕ) → WriteRules P
 exact_rules exact = record {
   before_write = exact_before_write exact;

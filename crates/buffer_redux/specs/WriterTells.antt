@@ -11,8 +11,8 @@ use Rattle.buffer_redux.specs.Buffered.{Buffered}
 use Rattle.buffer_redux.specs.BufWriter.{Writes, Flushes}
 use Rattle.buffer_redux.specs.WriterLaws.{FlushesNothingAfter}
 
--- it received what the inner writer did, and then what is buffered, and flushed what the inner writer did; the rest was
--- noted call by call
+-- a buffered writer tells that it received what the inner writer did, and then what is buffered, and flushed what the inner
+-- writer did; the rest was noted call by call
 abbrev pub writer_log : {S P : Type 0} → Buffered S P → StreamLog
 writer_log b = record b.own_calls {
   writes = record b.own_calls.writes {

@@ -92,7 +92,7 @@ WriterStopped-memory w old e (inr (inr late)) =
     let interrupt = was.is in
     absurd (cc)
 
--- and so did its flush
+-- a flush to a writer in memory failed for want of memory
 pub WasFlushed-memory : {P : Type 0} (stretch : MemoryWriter → MemoryWriter → Type 0) (s t : Buffered MemoryWriter P)
     (e : Error) → WasFlushed writer_log stretch s (Err e) t → IsMemory e
 WasFlushed-memory stretch s t e f = send-memory t.inner s.log.writes e
@@ -103,7 +103,7 @@ nothing_failed : (old new : WriteLog) → new ≡ old → WriterFailed old new �
 nothing_failed old new same (inl fault) = omega (arith, fault, ap (λ l. length l.faults) same)
 nothing_failed old new same (inr zero) = omega (arith, zero, ap (λ l. l.zero_writes) same)
 
--- so an error that came with a failure of the inner writer is the inner writer's
+-- an error that came with a failure of the inner writer is the inner writer's
 pub WriteErrorCaused-failed : {S P : Type 0} (rules : WriteRules P) (s : Buffered S P) (bs : List ℕ) (e : Error)
     (t : Buffered S P) → WriteErrorCaused rules s bs (Err e) t → WriterFailed s.log.writes t.log.writes
     → WriterStopped s.log.writes t.log.writes e
@@ -240,7 +240,7 @@ module _ {S P : Type 0} (tells : S → StreamLog) (stretch : S → S → Type 0)
     why = WriterStopped-send s.log.writes t.log.writes e f.caused;
   }
 
-  -- so does a send
+  -- a send accepts nothing, whatever it answers
   module _ (goes : (u v : S) → stretch u v → WritesGoOn (tells u) (tells v)) where
     pub WasSent-along : (s : Buffered S P) (answer : Result (Unit {0}) Error) (t : Buffered S P)
         → WasSent tells stretch s answer t → WritesAlong tells stretch rules s [] t

@@ -46,7 +46,7 @@ pub struct LineWriter<W: TellWrite> {
     writer: BufWriter<W, FlushOnNewline>,
 }
 
-// It is seen as the writer that it is, so that all that is said of one is said of the other in the same words.
+// A `LineWriter` is seen as the writer that it is, so that all that is said of one is said of the other in the same words.
 impl<W: TellWrite> Model for LineWriter<W> {
     ghost use Rattle.buffer_redux.specs.Buffered.{Buffered};
     ghost use Rattle.buffer_redux.specs.declared.policy.writers.FlushOnNewline.{FlushOnNewline};

@@ -72,9 +72,9 @@ impl<R: TellRead, P: ReaderPolicy> BufReader<R, P> {
     /// The first `n` bytes, which stay buffered; fewer where the stream ends, or no more fit into the buffer. Where they are
     /// buffered, nobody is asked.
     ///
-    /// Else it reads past the policy until they are; in a plain buffer, behind bytes that it moved to the front where the
-    /// others didn't fit behind them. A fault, `Interrupted` among them, is returned at once, and what came before it stays
-    /// buffered.
+    /// Where fewer are buffered, `peek` reads past the policy until `n` are; in a plain buffer, behind bytes that it moved to the
+    /// front where the others didn't fit behind them. A fault, `Interrupted` among them, is returned at once, and what came
+    /// before it stays buffered.
     #[inline(always)]
     pub fn peek(&mut self, n: usize) -> io::Result<&[u8]>
         ensures* after_borrow { sem 𝓛 (Rests (the_row R.row P.row R.Tell) self.entry

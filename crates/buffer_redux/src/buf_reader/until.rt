@@ -207,7 +207,7 @@ pub(super) fn first_of(byte: u8, bytes: &[u8]) -> Option<usize>
     }
 }
 
-// So many more, as far as a `usize` counts.
+// `n` more than `total`, as far as a `usize` counts.
 fn counted(total: usize, n: usize) -> io::Result<usize>
     ensures { MatchResult result (λ sum. sum ≡ total + n) (λ e. (error_kind e ≡ TimedOut) × (2 ^ 64 ≤ total + n)) }
 {

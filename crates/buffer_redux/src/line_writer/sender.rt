@@ -37,7 +37,7 @@ pub struct LineSender<W: TellWrite> {
     writer: LineWriter<W>,
 }
 
-// It is seen as the writer that it is.
+// A `LineSender` is seen as the writer that it is.
 impl<W: TellWrite> Model for LineSender<W> {
     ghost use Rattle.buffer_redux.specs.Buffered.{Buffered};
     ghost use Rattle.buffer_redux.specs.declared.policy.writers.FlushOnNewline.{FlushOnNewline};

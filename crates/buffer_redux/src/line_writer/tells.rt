@@ -15,7 +15,7 @@ impl<W: TellWrite> Tell for LineWriter<W> {
     ghost log = { writer_log };
 }
 
-// It tells what the writer inside it tells.
+// A `LineWriter` tells what the writer inside it tells.
 impl<W: TellWrite> TellWrite for LineWriter<W> {
     ghost stretch = { WriterWent W.stretch line_rules };
 

@@ -48,7 +48,7 @@ returns-then-more g c =
     exact_says _ _ _ _ _ _ (c.read_ordered_aside.ensures.exact c.args.self.now
     (asked_so table c.args.self.now m c.in-Ok.field-0 true c.if-more.true is) (has_some g before))
 
--- it says no
+-- the policy wants no more
 pub returns-else-more : goal.returns-else-more
 returns-else-more g c =
     let before = (goal.at.returns-else-more g c).After-before_read in
@@ -82,7 +82,7 @@ returns-else-more g c =
     exact_says remaining table c.args.self.now out t (Ok tt) (all_at_once remaining table c.args.self.now out n t
     (omega (arith, same, offers_some g before)) long one)
 
--- it returned an error
+-- the policy returned an error
 pub returns-in-Err : goal.returns-in-Err
 returns-in-Err g c =
     let before = (goal.at.returns-in-Err g c).After-before_read in

@@ -47,7 +47,7 @@ returns-then-first-gt0 g c =
 pub returns-then-not-has_space_behind : goal.returns-then-not-has_space_behind
 returns-then-not-has_space_behind g c = all_says _ _ _ _ _ _ _ c.write_large_aside.ensures.all
 
--- or once it was
+-- the bytes may not fit, once the policy was asked
 pub returns-then-usable_space-bytes : goal.returns-then-usable_space-bytes
 returns-then-usable_space-bytes g c =
     all_says _ _ _ _ _ _ _ (c.write_rest_aside-then-usable_space-bytes.ensures.all c.args.self.now
