@@ -10,7 +10,7 @@ use Rattle.chunked.specs.FieldLaws.{token_plain}
 abbrev IsColonAt : List ℕ → ℕ → Type 0
 IsColonAt line k = (slice_index line k == 58) ≡ true
 
--- and none before this one
+-- no colon stands before this place
 abbrev pub NoColonBefore : List ℕ → ℕ → Type 0
 NoColonBefore line end = (k : ℕ) → 0 ≤ k → k < end → ¬ IsColonAt line k
 

@@ -68,7 +68,7 @@ module _ {S P : Type 0} (remaining : S → Option (List ℕ)) (rules : ReadRules
       reads = record { count = count; last = m; before = before; end = inl refl };
     }
 
-  -- and so what follows the body is left
+  -- an Ok drain leaves what follows the body
   pub leaves : (t : Dechunking S P) → Drains remaining rules s (Ok tt) t → LeavesBody remaining rules s t.reader
   leaves t drains = record {
     body = t;

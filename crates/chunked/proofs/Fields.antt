@@ -104,7 +104,7 @@ line_noted start w m t fields i line within is was put ends =
 
 module _ {S : Type 0} (stretch : S → S → Type 0) (none : (x : S) → stretch x x)
     (joins : (a b c : S) → stretch a b → stretch b c → stretch a c) where
-  -- they were copied in
+  -- one more line was copied in, with its end
   pub line_in : (s m n t : Buffered S StdPolicy) (fields : List (List ℕ)) (i : ℕ) (line : List ℕ) → i < length fields
       → line ≡ get_or fields i [] → PutsIn stretch s (front (take i fields)) m → PutsIn stretch m line n
       → PutsIn stretch n (line_end []) t → PutsIn stretch s (front (take (i + 1) fields)) t
@@ -113,7 +113,7 @@ module _ {S : Type 0} (stretch : S → S → Type 0) (none : (x : S) → stretch
       (PutsIn-joins stretch none joins s n t (front (take i fields) ++ line) (line_end [])
       (PutsIn-joins stretch none joins s m n (front (take i fields)) line so_far puts) ends)
 
-  -- and the empty line behind all of them
+  -- the empty line was copied in behind all lines
   pub end_in : (s m t : Buffered S StdPolicy) (fields so_far : List (List ℕ)) → so_far ≡ fields
       → PutsIn stretch s (front so_far) m → PutsIn stretch m (line_end []) t → PutsIn stretch s (body_end fields) t
   end_in s m t fields so_far all puts ends =

@@ -42,7 +42,7 @@ module _ (limits : Limits) where
       → HandsFront limits p shown out (record { place = p; taken = 0; handed = 0 })
   hands_none p shown out is = record { within = omega arith; bound = omega arith; leads = Leads-none limits p; place = is }
 
-  -- and then some more was
+  -- some was taken, and then some more
   module _ (p : Place) (shown out tail : List ℕ) (r q : Unchunked) (first : HandsFront limits p shown out r)
       (fits : length tail ≡ length (drop r.handed out)) (next : HandsFront limits r.place (drop r.taken shown) tail q) where
     payload : take (r.handed + q.handed) (take r.handed out ++ tail) ≡ take r.handed out ++ take q.handed tail
@@ -117,7 +117,7 @@ module _ (limits : Limits) where
       pub skipped_none : NoneLeft limits r.place (drop r.taken shown)
       skipped_none = none_next (λ settled. settled_done r.place settled other)
 
-    -- so many bytes of a chunk do
+    -- `count` bytes of a chunk come next
     module _ (left : ℕ) (there : r.place ≡ Data left) (count : ℕ) (few : count ≤ left) (held : count ≤ length shown - r.taken)
         (front more : List ℕ) (copied : front ≡ take count (take (length shown - r.taken) (drop r.taken shown))) where
       same : front ≡ take count (drop r.taken shown)

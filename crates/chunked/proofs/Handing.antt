@@ -69,7 +69,7 @@ module _ {S P : Type 0} (rules : ReadRules P) (limits : Limits) where
       let joined = TakesTurns-joins a calls.count s p m q calls.last calls.place first calls.turns in
       record { count = joined.0; last = calls.last; place = calls.place; turns = joined.1; call = calls.call }
 
-  -- and no call that hands out none depends on the room
+  -- a call that hands out none doesn't depend on the room
   pub Calls-fail : (s : Buffered S P) (p : Place) (e : ChunkedError) (t : Buffered S P) (q : Place)
       → Calls rules limits s p 0 (Err e) t q → (room : ℕ) → Calls rules limits s p room (Err e) t q
   Calls-fail s p e t q calls room = record

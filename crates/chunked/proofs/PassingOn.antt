@@ -226,7 +226,7 @@ module _ (limits : Limits) where
     few = omega (arith, some);
   }
 
-  -- and its end
+  -- a CR ends the value of a line
   value_return_back : (b room : ℕ) (rest text : List ℕ) → b ≡ 13 → (f : CompletesField (codes "a:") room (b ∷ rest))
       → f.text ≡ text → Feeds (IsTrailers room) rest
   value_return_back b room rest [] is f same =

@@ -46,7 +46,7 @@ module _ {S P : Type 0} (remaining : S → Option (List ℕ)) (rules : ReadRules
       filled_well : NoFault s f
       filled_well = filled.fills.caused ∙ no_fault
 
-      -- it showed nothing
+      -- the fill showed nothing
       pub skip_dry : length shown.now ≡ 0 → ¬ IsSettled q.place
           → Skips remaining rules s p (Err (Truncated q.count)) f q
       skip_dry none not_settled =

@@ -28,7 +28,7 @@ abbrev OfExtension : Within → ℕ → ℕ → Type 0
 OfExtension within b room =
     ((b ≡ 13) × Extends within []) ⊎ ((text : List ℕ) × Extends within (b ∷ text) × (length (b ∷ text) ≤ room))
 
--- and behind digits of a size: a further one, or that
+-- what may stand behind digits of a size: a further one, or what may stand first in an extension
 abbrev OfSize : ℕ → ℕ → ℕ → Type 0
 OfSize number b room =
     (IsDigit b × (0 < room) × (number * 16 + digit_value b < 2 ^ 62)) ⊎ OfExtension Behind b room

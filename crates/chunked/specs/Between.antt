@@ -79,7 +79,7 @@ pub record TakesTurn {S P : Type 0} (rules : ReadRules P) (limits : Limits) (s :
   pub leads : Leads limits p (take count takes.filled.block.bytes) [] q
   pub is_place : IsPlace q
 
--- so many turns
+-- this many turns, one after another
 abbrev pub TakesTurns : {S P : Type 0} → ReadRules P → Limits → ℕ → Buffered S P → Place → Buffered S P → Place → Type 0
 TakesTurns rules limits zero s p t q = (s ≡ t) × (p ≡ q)
 TakesTurns {S} {P} rules limits (suc count) s p t q =

@@ -17,7 +17,7 @@ pub digit_is_text : (b : ℕ) → digit_value b < 16 → IsTextByte b
 digit_is_text b small =
     (λ is. omega (arith, subst (λ c. digit_value c < 16) is small), λ is. omega (arith, subst (λ c. digit_value c < 16) is small))
 
--- nor does an extension begin with one
+-- no extension begins with a digit
 pub extension_no_digit : (b : ℕ) (text : List ℕ) → IsExtension (b ∷ text) → digit_value b < 16 → ⊥
 extension_no_digit b text h small = elim (IsExtension-first b text h) [
   | inl (inl is) ↦ omega (arith, subst (λ c. digit_value c < 16) is small)

@@ -32,7 +32,7 @@ size_digits-few size small =
     let few = length-digits_of-le 16 16 size (omega arith) (omega (arith, small)) in
     omega (arith, few, length-map (digits_of 16 size) digit_char)
 
--- they are the line of the size
+-- the digits of a size are its line
 pub size_digits-line : (limit size : ℕ) → 0 < size → size < 2 ^ 62 → 16 ≤ limit → IsSizeLine limit size (size_digits size)
 size_digits-line limit size some small room =
     let back = digits_back (digits_of 16 size) (all_below_base_digits_of 16 size (omega arith)) in

@@ -69,8 +69,7 @@ pub record PutsIn {S : Type 0} (stretch : S → S → Type 0) (s : Buffered S St
   pub kind : t.block.kind ≡ s.block.kind
   pub whole : IsBlock t.block
 
--- they were so where there was room for so many bytes; else all that was buffered was sent first, and the inner writer wasn't
--- flushed
+-- all that was buffered was sent first, without a flush of the inner writer, and then these bytes were copied in
 pub record PutsFirst {S : Type 0} (tells : S → StreamLog) (stretch : S → S → Type 0) (s : Buffered S StdPolicy)
     (bytes : List ℕ) (t : Buffered S StdPolicy) : Type 0 where
   pub sent : Buffered S StdPolicy

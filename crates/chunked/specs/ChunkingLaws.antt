@@ -42,7 +42,7 @@ module _ {S : Type 0} (stretch : S → S → Type 0) (none : (x : S) → stretch
     limit = q.limit ∙ p.limit;
   }
 
-  -- so it is of calls that are told
+  -- an empty stretch of calls that are told, and two that join
   pub ChunkingWent-none : (s : Chunking S) → ChunkingWent stretch s s
   ChunkingWent-none s =
       record { payloads = []; went = ChunksWent-none s; grows = WriteLogGrows-none s.calls.writes }

@@ -105,7 +105,7 @@ pub record DropsTooMany (payload : List ℕ) (answer : Result (Unit {0}) Chunked
   pub kind : error_kind error ≡ Other
   pub many : 2 ^ 64 - 1 ≤ length payload
 
--- so many reads of payload, one after another, each of which handed some out
+-- this many reads of payload, one after another, each of which handed some out
 abbrev pub ReadsOn : {S P : Type 0} → (S → Option (List ℕ)) → ReadRules P → ℕ → Dechunking S P → Dechunking S P → Type 0
 ReadsOn remaining rules zero s t = s ≡ t
 ReadsOn {S} {P} remaining rules (suc count) s t =

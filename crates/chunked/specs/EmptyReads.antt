@@ -16,7 +16,7 @@ use Rattle.chunked.specs.declared.error.ChunkedError.TheVariants.{NotChunked, Tr
 use Rattle.chunked.specs.declared.limits.Limits.{Limits}
 use Rattle.chunked.specs.declared.place.Place.{Place}
 
--- it never gave nothing; or once, where no payload came of that
+-- the inner reader never gave nothing; or once, where no payload came of that
 abbrev pub EndsOnce : ReadLog → Result ℕ ChunkedError → ReadLog → Type 0
 EndsOnce old (Ok n) new = new.zero_reads ≡ old.zero_reads
 EndsOnce old (Err (NotChunked why count)) new = new.zero_reads ≡ old.zero_reads

@@ -49,7 +49,7 @@ Name Then text = Token (λ rest. Then rest ⊎ Assigned Then rest) text
 abbrev pub Parameter : (List ℕ → Type 0) → List ℕ → Type 0
 Parameter Then text = Blanks (Sign 59 (Blanks (Name Then))) text
 
--- so many parameters, and nothing else
+-- this many parameters, and nothing else
 abbrev pub Parameters : ℕ → List ℕ → Type 0
 Parameters zero text = text ≡ []
 Parameters (suc count) text = Parameter (Parameters count) text

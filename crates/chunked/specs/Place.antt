@@ -18,7 +18,7 @@ use Rattle.chunked.specs.declared.step.Reached.{Reached}
 abbrev pub Feeds : (List ℕ → Type 0) → List ℕ → Type 0
 Feeds P rest = (behind : List ℕ) × (rest ≡ 10 ∷ behind) × P behind
 
--- so many bytes of payload, the end of a line, and then a body
+-- `left` bytes of payload, the end of a line, and then a body
 pub record CompletesData (limits : Limits) (left : ℕ) (rest payload : List ℕ) : Type 0 where
   pub front : List ℕ
   pub later : List ℕ

@@ -33,7 +33,7 @@ pub record IsLeast (within : Within) (least : ℕ) : Type 0 where
   pub many : length text ≡ least
   pub none_less : (other : List ℕ) → Extends within other → least ≤ length other
 
--- so many bytes are enough to complete one
+-- `room` bytes are enough to complete an extension
 abbrev pub FitsIn : Within → ℕ → Type 0
 FitsIn within room = (text : List ℕ) × Extends within text × (length text ≤ room)
 

@@ -85,7 +85,7 @@ on Quoted b v (c ∷ text) (inr (inr (sign, is))) e =
     let k = subst (λ x. Extends x (c ∷ text)) is e in (k.0, inl (sign, k.1))
 on Escaped b v text (byte, is) e = let k = subst (λ x. Extends x text) is e in (k.0, (byte, k.1))
 
--- and there is no other way
+-- a byte leads to a place, from where the text completes an extension
 pub record StepsOn (w : Within) (b : ℕ) (text : List ℕ) : Type 0 where
   pub next : Within
   pub steps : Steps w b next
@@ -109,7 +109,7 @@ step_on : (w : Within) (b : ℕ) (text : List ℕ) → (IsBlank b → Steps w b 
 step_on w b text blanks signs (inl (blank, left)) = record { next = Blank; steps = blanks blank; left = left }
 step_on w b text blanks signs (inr (sign, left)) = record { next = BeforeName; steps = signs sign; left = left }
 
--- and where a name has
+-- where a byte leads behind a name
 name_on : (w : Within) (b : ℕ) (text : List ℕ) → (IsBlank b → Steps w b BehindName) → ((b ≡ 59) → Steps w b BeforeName)
     → BeginsParameter b text → StepsOn w b text
 name_on w b text blanks signs (inl (blank, left)) =
@@ -204,7 +204,7 @@ Extends-text w (b ∷ text) e = let f = first w b text e in (steps_text w b f.ne
 pub IsExtension-first : (b : ℕ) (text : List ℕ) → IsExtension (b ∷ text) → IsBlank b ⊎ (b ≡ 59)
 IsExtension-first b text e = elim (parameters_first b e.0 text e.1) [ inl blank ↦ inl blank.0 | inr sign ↦ inr sign.0 ]
 
--- so a byte leads on, or none does
+-- a byte leads on as the steps say, or nowhere
 pub leads : (w : Within) (b : ℕ) (v : Within) → Steps w b v → Follows w b (Some v)
 leads w b v s = λ text. (
   (λ e. let f = first w b text e in subst (λ x. Extends x text) (one_way w b f.next v f.steps s) f.left),

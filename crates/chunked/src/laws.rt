@@ -26,7 +26,7 @@ pub fn one_body()
         → (a ≡ b) × (p ≡ q) × (xs ≡ ys) }
 {}
 
-/// Nor do trailers begin others: what bytes begin with them settles where they end, and each of their lines.
+/// No trailers begin others: what bytes begin with them settles where they end, and each of their lines.
 pub fn one_list_of_fields()
     ensures { (f g : List (List ℕ)) (xs ys : List ℕ) → AllByRecursion IsField f → AllByRecursion IsField g
         → fields_bytes f ++ xs ≡ fields_bytes g ++ ys → (f ≡ g) × (xs ≡ ys) }

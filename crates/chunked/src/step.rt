@@ -98,7 +98,7 @@ fn begin_field(room: usize, byte: u8) -> Result<Place, Malformed>
         b'\r' => Ok(Place::LastFeed),
         b'\n' => Err(Malformed::BareFeed),
         _ if !is_token_byte(byte) => Err(Malformed::BadField),
-        // It has a colon too.
+        // A field has a colon behind its name.
         _ if room < 2 => Err(Malformed::TrailersTooLong),
         _ => Ok(Place::FieldName(room - 1)),
     }
