@@ -14,7 +14,7 @@ module _ {S D W : Type 0} (g : Grammar W) (s t : Piecing S D) (whole : IsPiecing
     whole = whole;
   }
 
-  -- nor does one where more is wanted, or where no piece can come
+  -- a step hands nothing out where more is wanted, or where no piece can come
   pub none_yet : (need : ℕ) → WantsMore g s t need → StaysLeft g s t × ¬ (Begins g (rest s))
   none_yet need wants =
       (looked (length (rest s)) wants.same, (open_of g need (rest s) wants.few wants.lacks).no_piece)

@@ -9,7 +9,7 @@ use Rattle.codec.specs.PiecesWentLaws.{PiecesWent-none, PiecesWent-joins}
 use Rattle.codec.specs.Piecing.{Piecing, rest}
 use Rattle.codec.specs.Steps.{AsksFor}
 
--- so far nothing was handed out, and no fault and no end was met; the stream was asked only where what was there settled
+-- nothing was handed out so far, and no fault and no end was met; the stream was asked only where what was there settled
 -- nothing, and each time it gave a byte
 pub record Head {S D W : Type 0} (remaining : S → Option (List ℕ)) (g : Grammar W) (s m : Piecing S D) : Type 0 where
   pub went : PiecesWent remaining g.most s [] m
@@ -36,7 +36,7 @@ module _ {S D W : Type 0} (remaining : S → Option (List ℕ)) (g : Grammar W) 
     pub came : rest m ≡ rest s ++ h.went.hands.got
     came = h.went.hands.equal
 
-    -- then nothing was read, and nothing was handed out
+    -- a head goes on where nothing was read, and nothing was handed out
     pub Head-told : (t : Piecing S D) → PiecesWent remaining g.most m [] t → t.reader.log ≡ m.reader.log
         → t.ended ≡ m.ended → Head remaining g s t
     Head-told t went told ended = record {
@@ -48,7 +48,7 @@ module _ {S D W : Type 0} (remaining : S → Option (List ℕ)) (g : Grammar W) 
       asked = AskedWhere-told (IsOpen g) s m t told h.asked;
     }
 
-    -- then the stream was asked until so many bytes are there
+    -- behind a head the stream was asked until so many bytes are there
     module _ (n : ℕ) (lacks : Lacks g n (rest m)) (answer : Result Bool Error) (t : Piecing S D)
         (a : AsksFor remaining g n m answer t) where
       pub went_on : PiecesWent remaining g.most s [] t

@@ -10,7 +10,7 @@ use Rattle.codec.specs.Piecing.{Piecing, IsPiecing, rest}
 use Rattle.codec.specs.Steps.{TakesEnd, TakesPiece}
 use Rattle.codec.proofs.Reading.{rest_whole}
 
--- it is lent out of this reader
+-- the span is lent out of this reader
 abbrev pub Lends : {S D W : Type 0} → (D → Grammar W) → Piecing S D → Span → Type 0
 Lends grammar t span = IsLent (grammar t.decoder) t.handed t.reader.block.bytes span
 

@@ -36,7 +36,7 @@ pub record LoadHead {S D W : Type 0} (remaining : S → Option (List ℕ)) (g : 
   pub lacks : Lacks g need (rest m)
   pub whole : IsPiecing g m
 
--- so many bytes came as were asked for, and what stands at the front of them was looked at
+-- as many bytes came as were asked for, and what stands at the front of them was looked at
 pub record Turned {S D W : Type 0} (remaining : S → Option (List ℕ)) (g : Grammar W) (s m : Piecing S D) (looked : Found W)
     (t : Piecing S D) : Type 0 where
   pub head : Head remaining g s m
@@ -249,7 +249,7 @@ asked_as remaining grammar s m t need came is told same asked =
     subst (λ d. AsksFor remaining (grammar d) need m (Ok is) t) same
     (subst (λ b. AsksFor remaining (grammar m.decoder) need m (Ok b) t) told asked)
 
--- and so it is of a turn, whose calls are under the grammar of their own reader
+-- a turn whose calls are under the grammar of their own reader is one under the first grammar
 pub turned : {S D W : Type 0} (remaining : S → Option (List ℕ)) (grammar : D → Grammar W)
     (law : (d : D) → IsLawful (grammar d)) (s m t v : Piecing S D) (need : ℕ) {came : Bool} {r looked : Found W}
     → LoadHead remaining (grammar s.decoder) s m need → came ≡ true → AsksFor remaining (grammar m.decoder) need m (Ok came) t

@@ -8,7 +8,7 @@ use Rattle.codec.specs.Runs.{AnswersPlayed, AnswersStopped, kept_answer}
 use Rattle.codec.specs.RunsLaws.{gains_more}
 use Rattle.codec.specs.WriteRuns.{CallsPlayed}
 
--- so many calls were played so far: their answers were recorded, in a list with room for so many, which had this room at first
+-- the first so many calls were played: their answers were recorded, in a list with room for so many, which had this room at first
 pub record PlaysSo {T E : Type 0} (Plays : T → List (Result (Option (List ℕ)) E) → T → Type 0)
     (old kept : List (Result (Option (Vec ℕ)) E)) (room have : ℕ) (s : T) (calls : ℕ) (m : T) : Type 0 where
   pub answers : List (Result (Option (List ℕ)) E)

@@ -212,7 +212,7 @@ module _ {S D W : Type 0} (remaining : S → Option (List ℕ)) (g : Grammar W) 
     })
   ]
 
--- so many came, or the stream ended
+-- where the read didn't fail, so many bytes came, or the stream ended
 pub AsksFor-ok : {S D W : Type 0} (remaining : S → Option (List ℕ)) (g : Grammar W) (n : ℕ) (s : Piecing S D)
     → IsPiecing g s → s.handed ≡ 0 → length (rest s) < n → n ≤ g.most → s.ended ≡ false → (p : MinBuffered)
     → p.0 ≡ n → (bytes : Bor (List ℕ)) (t : Buffered S MinBuffered)
@@ -254,7 +254,6 @@ no_policy_error e s t holds gave =
     let table = gave.gave.allowed in
     omega (arith, holds, table.3.refused.tight, ap (λ p. p.0) table.0, ap (λ b. b.capacity) table.1)
 
--- it failed
 pub AsksFor-err : {S D W : Type 0} (remaining : S → Option (List ℕ)) (g : Grammar W) (n : ℕ) (s : Piecing S D)
     → IsPiecing g s → s.handed ≡ 0 → length (rest s) < n → n ≤ g.most → s.ended ≡ false → (p : MinBuffered)
     → p.0 ≡ n → (e : Error) (t : Buffered S MinBuffered)

@@ -33,7 +33,7 @@ module _ {S D : Type 0} where
       ap (λ n. take n t.reader.block.bytes) count
 
 module _ {S D W : Type 0} where
-  -- and so it is of the last piece
+  -- what was handed out as the last piece is what stands at the front of the buffer
   pub hands_last : (s m t : Piecing S D) (remaining : S → Option (List ℕ)) (most : ℕ) (g : Grammar W)
       → PiecesWent remaining most s [] m → m.handed ≡ 0 → (r : Result (Option Span) (NextError W)) → TakesEnd g m r t
       → IfOk r (λ found. IfSome found (λ _. HandsBytes s (take t.handed t.reader.block.bytes) t))
@@ -73,7 +73,7 @@ module _ {S D W : Type 0} where
   ]
 
 module _ {S D W : Type 0} (grammar : D → Grammar W) (s t : Piecing S D) where
-  -- so what is looked at for an item is a piece
+  -- what is looked at for an item is a piece
   pub whole_piece : (at : ℕ) (span : Span) (used : ℕ) → at ≡ s.handed → TakesPiece (grammar s.decoder) s t span used
       → IsWhole (grammar t.decoder) (part at t.handed t.reader.block.bytes)
   whole_piece at span used is takes =

@@ -36,7 +36,7 @@ module _ {S D W I A T P : Type 0} (remaining : S → Option (List ℕ)) (tells :
   answers reply more a = subst (λ i. Answers s.service i (bytes_at said.1 t.reader.block.bytes) reply more after) item.says
       (subst (λ l. Answers s.service said.0 l reply more after) lent a)
 
-  -- it was answered
+  -- the piece was answered
   pub took_piece : (b more : Bool) → b ≡ more → Answered tells stretch (Answers s.service said.0 shown) ready (Ok b) after last
       → (x : Exchange) × TookPiece remaining tells stretch g item_of Answers s x more (server t after last)
   took_piece b more same (reply, a, along) = (
@@ -50,7 +50,7 @@ module _ {S D W I A T P : Type 0} (remaining : S → Option (List ℕ)) (tells :
     },
   )
 
-  -- or couldn't be
+  -- the piece couldn't be answered
   pub answer_failed : (e : Error) → Answered tells stretch (Answers s.service said.0 shown) ready (Err e) after last
       → FlushFailed remaining tells stretch g item_of Answers s e (server t after last)
       ⊎ ((x : Exchange) × AnswerFailed remaining tells stretch g item_of Answers s x e (server t after last))

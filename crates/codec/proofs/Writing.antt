@@ -25,7 +25,7 @@ module _ {T X : Type 0} {Call : T → List ℕ → Result (Unit {0}) X → T →
   done = map (λ v. v.items) (take i vs)
 
   module _ (v : Vec ℕ) (inside : i < length vs) (is : v ≡ get_or vs i v) (t : T) where
-    -- one more was
+    -- one more payload was written
     pub wrote_more : ((other : List ℕ) → Takes m other → Takes t other) → Call m v.items (Ok tt) t
         → WroteSo Plays Takes s vs (i + 1) t
     wrote_more keeps wrote = record {
@@ -35,7 +35,7 @@ module _ {T X : Type 0} {Call : T → List ℕ → Result (Unit {0}) X → T →
       takes = λ other taken. keeps other (so.takes other taken);
     }
 
-    -- or none more
+    -- no further payload was written
     pub wrote_none : (why : WriteEachError X) → why.taken ≡ i → Call m v.items (Err why.error) t
         → CallsStopped Call Plays s (map (λ x. x.items) vs) why t
     wrote_none why count failed = record {

@@ -97,7 +97,7 @@ module _ (end : ℕ) where
           ])
         ]
 
-    -- and the other way
+    -- what is plain, and has at most max bytes, settles nothing
     pub plain_open : (bytes : List ℕ) → IsPlain end bytes → length bytes ≤ max → IsOpen (delimited end max) bytes
     plain_open bytes plain few = record {
       no_piece = λ b.

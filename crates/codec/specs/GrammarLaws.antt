@@ -32,7 +32,7 @@ module _ {W : Type 0} (g : Grammar W) where
       let same = append-nil bytes in
       subst (IsOpen g) same (lacks [] (omega (arith, few, ap length same)))
 
-  -- and so is what comes of it, while that is too short
+  -- what comes of what lacks bytes is open, while it is too short
   pub open_with : (n : ℕ) (bytes more all : List ℕ) → all ≡ bytes ++ more → length all < n → Lacks g n bytes → IsOpen g all
   open_with n bytes more all is few lacks =
       subst (IsOpen g) (sym is) (lacks more (omega (arith, few, ap length is)))

@@ -121,7 +121,7 @@ module _ {S D W : Type 0} (remaining : S → Option (List ℕ)) (g : Grammar W) 
         let after = front_of (rest t) (remaining t.reader.inner) left.0 left.1 in
         Pieces-right g law has.text (rest t) after.0 payloads e (front none ∙ after.2) has.has
 
-    -- and nothing that is cut short
+    -- nothing that is left is cut short
     never_cut : (e : W) → next.bytes ≡ [] → IsOpen g (rest t) → 0 < length (rest t) → s.ended ≡ false → MetEnd s t
         → ¬ (g.cut (rest t) e)
     never_cut e none is some not_ended met =

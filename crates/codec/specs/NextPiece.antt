@@ -43,7 +43,7 @@ pub record AskedOver {S D : Type 0} (Such : List ℕ → Type 0) (s t : Piecing 
   pub such : Such (rest s ++ came)
   pub asks : t.reader.log.reads.asks ≤ s.reader.log.reads.asks + length came + 1
 
--- so it was, or it wasn't asked
+-- the stream wasn't asked, or only where what was there was such
 abbrev pub AskedWhere : {S D : Type 0} → (List ℕ → Type 0) → Piecing S D → Piecing S D → Type 0
 AskedWhere Such s t = (t.reader.log ≡ s.reader.log) ⊎ AskedOver Such s t
 
@@ -69,7 +69,7 @@ AsksGive s t =
 abbrev pub NoEnd : {S D : Type 0} → Piecing S D → Piecing S D → Type 0
 NoEnd s t = empties t.reader ≡ empties s.reader
 
--- it did once, and wasn't asked again; or it had before, which no call had told yet, and wasn't asked
+-- the reader gave nothing once, and wasn't asked again; or it had before, which no call had told yet, and wasn't asked
 abbrev pub MetEnd : {S D : Type 0} → Piecing S D → Piecing S D → Type 0
 MetEnd s t = MatchBool s.ended (NoEnd s t) (empties t.reader ≡ empties s.reader + 1)
 

@@ -90,7 +90,7 @@ pub AsksNone-begins : {S D W : Type 0} (remaining : S → Option (List ℕ)) (g 
 AsksNone-begins remaining g law s b answer t next =
     (NextPiece-ready remaining g law s answer t next b.piece b.payload b.more b.is b.equal).2
 
--- nor where it is settled what the next call answers
+-- where it is settled what the next call answers, that call doesn't ask the stream
 pub AsksNone-settled : {S D W : Type 0} (remaining : S → Option (List ℕ)) (g : Grammar W) → IsLawful g → (s : Piecing S D)
     → IsSettled g s → AsksNone remaining g s
 AsksNone-settled remaining g law s (inl ended) answer t next = elim next.asked [

@@ -49,7 +49,7 @@ module _ {S D W I A T P : Type 0} (remaining : S → Option (List ℕ)) (tells :
       | inr flushed ↦ WasFlushed-along tells stretch std_write_rules w (Ok tt) ready flushed.1
     ]
 
-    -- and wrote just their answers
+    -- exchanges wrote just their answers
     pub Talked-along : ((u v w : T) → stretch u v → stretch v w → stretch u w) → (exchanges : List Exchange) (more : Bool)
         (t : Server S D A T P) → Talked remaining tells stretch g item_of Answers s exchanges more t
         → WritesAlong tells stretch std_write_rules s.answers (joined (λ x. x.reply) exchanges) t.answers
@@ -100,7 +100,7 @@ module _ {S D W I A T P : Type 0} (remaining : S → Option (List ℕ)) (tells :
       )
       ends_so served.Many exchanges more m t (is, many, same) = still m t same
 
-      -- and then a flush
+      -- up to an end, and then a flush
       module _ (by : Served) (t : Server S D A T P) (ends : Ends remaining tells stretch g item_of Answers s by t)
           (v : Buffered T P) where
         so : PiecesWent remaining g.most ends.last.pieces [] t.pieces × (t.service ≡ ends.last.service)

@@ -16,7 +16,7 @@ pub record TakesPiece {S D W : Type 0} (g : Grammar W) (s t : Piecing S D) (span
   pub piece : IsPiece g (rest s) span used
   pub same : t ≡ record s { handed = s.handed + used; seen = 0 }
 
--- it isn't there yet
+-- the next piece isn't there yet
 pub record WantsMore {S D W : Type 0} (g : Grammar W) (s t : Piecing S D) (need : ℕ) : Type 0 where
   pub few : length (rest s) < need
   pub most : need ≤ g.most

@@ -53,7 +53,7 @@ is_digit number more byte is = go (nat_lt byte 48) (nat_lt 57 byte) refl refl is
     go false true low high odd = (let no : ◌≡◌ {A = Option Number} None (Some more) = odd in cc)
     go false false low high same = (ltb-false byte 48 low, ltb-false 57 byte high, same)
 
--- and the number is written with it behind
+-- a number that a digit made longer is written with the digit behind
 longer : (value digit : ℕ) (more : Number) → digit < 10 → with_digit (Is value) digit ≡ Some more
     → (next : ℕ) × (more ≡ Is next) × (decimal next ≡ decimal value ++ (48 + digit) ∷ [])
 longer value digit more few is = go (value == 0) (nat_lt 99999999999999999 value) refl refl is
@@ -88,7 +88,7 @@ module _ (w : Words) where
   WasRead (Length (Is n)) done = done ≡ w.before ++ decimal n
   WasRead (After at n) done = (at ≤ length w.after) × (done ≡ w.before ++ (decimal n ++ take at w.after))
 
-  -- and these behind one more byte
+  -- these bytes were read, the last by a turn that came to this
   abbrev NowRead : Turn Place → List ℕ → Type 0
   NowRead (More place) done = WasRead place done
   NowRead (Sized n) done = done ≡ w.before ++ (decimal n ++ w.after)

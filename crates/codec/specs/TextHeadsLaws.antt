@@ -10,6 +10,6 @@ use Rattle.codec.specs.TextHeads.{Words, IsSound, text_scanning, texted}
 pub text_small : (w : Words) → IsSound w → IsSmall (text_scanning w)
 text_small w is = record { some = omega (arith, is.some); small = omega (arith, is.small) }
 
--- and the law of decoders holds
+-- the law of decoders holds of heads that are text
 pub text_lawful : (w : Words) → IsSound w → IsLawful (texted w)
 text_lawful w is = headed_lawful (scanned (text_scanning w)) (scanned_heads (text_scanning w) (text_small w is))

@@ -35,7 +35,7 @@ with_byte_digit number digit few =
     ∙ ap (λ b. if b then None else with_digit number (48 + digit - 48)) (le-ltb 57 (48 + digit) (omega (arith, few)))
     ∙ ap (with_digit number) (let same : 48 + digit - 48 ≡ digit = omega arith in same)
 
--- and goes on with a number that isn't 0 and has at most 17
+-- a number that isn't 0 and has at most 17 digits goes on with a digit
 with_digit_more : (value digit : ℕ) → 0 < value → value ≤ 99999999999999999
     → with_digit (Is value) digit ≡ Some (Is (10 * value + digit))
 with_digit_more value digit some few =
@@ -62,7 +62,7 @@ module _ (w : Words) where
   joined s [] m cs t is on = subst (λ x. Leads x cs t) (sym is) on
   joined s (b ∷ bs) m cs t first on = (first.0, first.1, joined first.0 bs m cs t first.2 on)
 
-  -- so they are read
+  -- a scan reads bytes that lead from one place to another, and goes on there
   led : (left : ℕ) (s : Place) (used : ℕ) (bs more : List ℕ) (t : Place) → length bs ≤ left → Leads s bs t
       → (less : ℕ) × (less + length bs ≡ left)
       × (scan_on (text_turn w) left s used (bs ++ more) ≡ scan_on (text_turn w) less t (used + length bs) more)

@@ -66,7 +66,7 @@ module _ {W : Type 0} (g : Grammar W) (law : IsLawful g) where
   Pieces-right text front more (a ∷ payloads) e is (inr (last, none)) wrong =
       last.open'.not_wrong e (subst (λ l. g.wrong l e) (sym is) (law.stays front more e wrong))
 
-  -- and isn't cut short
+  -- a text isn't cut short
   pub Pieces-whole : (text : List ℕ) (payloads : List (List ℕ)) (e : W) → 0 < length text → IsOpen g text
       → HasPieces g text payloads → ¬ (g.cut text e)
   Pieces-whole text [] e some is has cut = absurd (omega (arith, some, ap length has))

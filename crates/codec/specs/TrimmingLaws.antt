@@ -32,7 +32,7 @@ trimmed_one byte =
     ends [] is isnt = isnt (let e : byte ≡ 13 = cc in e)
     ends (b ∷ front) is isnt = omega (arith, ap length is, length-append front (13 ∷ []))
 
--- and there is one
+-- bytes are shown in some way
 trimmed_is : (bytes : List ℕ) → (shown : List ℕ) × IsTrimmed bytes shown
 trimmed_is [] = ([], inr (refl, λ front is. omega (arith, ap length is, length-append front (13 ∷ []))))
 trimmed_is (a ∷ []) = trimmed_one a
@@ -63,7 +63,7 @@ module _ {W : Type 0} (g : Grammar W) where
   begins_shown : (bytes : List ℕ) → Begins (trimming g) bytes → Begins g bytes
   begins_shown bytes b = record { piece = b.piece; payload = b.is.payload; more = b.more; is = b.is.is; equal = b.equal }
 
-  -- and settle something
+  -- bytes that settle nothing do so however a piece is shown
   pub open_shown : (bytes : List ℕ) → IsOpen (trimming g) bytes → IsOpen g bytes
   open_shown bytes o = record { no_piece = λ b. o.no_piece (shown_begins bytes b); not_wrong = o.not_wrong }
 

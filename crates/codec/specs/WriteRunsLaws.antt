@@ -23,7 +23,7 @@ all_accepted-take [] (a ∷ answers) = refl
 all_accepted-take (p ∷ payloads) [] = refl
 all_accepted-take (p ∷ payloads) (a ∷ answers) = ap (λ l. accepted p a ++ l) (all_accepted-take payloads answers)
 
--- and where the last is an error
+-- what is taken in where the last answer is an error
 all_accepted-stopped : {X : Type 0} (done : List (List ℕ)) (payload : List ℕ) (why : X)
     → all_accepted (done ++ payload ∷ []) (all_ok done ++ Err why ∷ []) ≡ done
 all_accepted-stopped [] payload why = refl

@@ -11,9 +11,9 @@ use std::fmt;
 /// Why bytes are no piece of either protocol.
 #[derive(Clone, Copy, Debug, PartialEq, Eq, Drop)]
 pub enum EitherWrong<V, W> {
-    /// They begin with the byte, and are no piece of the one.
+    /// The bytes begin with the byte, and are no piece of the one.
     One(V),
-    /// They begin with another, and are no piece of the other.
+    /// The bytes begin with another byte, and are no piece of the other.
     Other(W),
 }
 

@@ -13,7 +13,7 @@ use std::{fmt, slice};
 /// Why a payload is not written.
 #[derive(Clone, Copy, Debug, PartialEq, Eq, Drop)]
 pub enum NotPlain {
-    /// It has so many bytes, which are more than are written.
+    /// The payload has so many bytes, which are more than are written.
     TooLong(usize),
     /// One of its bytes is the end.
     HasEnd,

@@ -10,7 +10,7 @@ use std::fmt;
 /// Why bytes are no piece with its own end.
 #[derive(Clone, Copy, Debug, PartialEq, Eq, Drop)]
 pub enum Unended<W> {
-    /// They are no piece.
+    /// The bytes are no piece.
     Wrong(W),
     /// The stream ended after so many bytes of one.
     Cut(usize),

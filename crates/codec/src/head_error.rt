@@ -5,7 +5,7 @@ use std::fmt;
 /// Why bytes are no piece that has a head.
 #[derive(Clone, Copy, Debug, PartialEq, Eq, Drop)]
 pub enum HeadError {
-    /// They begin with no head.
+    /// The bytes begin with no head.
     NoHead,
     /// The payload has this length, which is more than is read.
     TooLong(usize),

@@ -38,11 +38,11 @@ pub trait TextHead: Drop {
 /// Where such a head stands.
 #[derive(Clone, Copy, Debug, PartialEq, Eq, Drop)]
 pub enum Place {
-    /// So many of the bytes before the length were there.
+    /// Within the bytes before the length: how many of them were there.
     Before(usize),
-    /// This much of the length.
+    /// Within the length: as much of it as was there.
     Length(Number),
-    /// So many of the bytes behind the length, which was this.
+    /// Within the bytes behind the length: how many of them were there, and the length.
     After(usize, usize),
 }
 

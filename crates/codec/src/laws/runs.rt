@@ -121,7 +121,7 @@ pub fn play_write<P: PayloadWriter>(
 /// Why a payload of a list was not taken in.
 #[derive(Debug, Drop)]
 pub struct WriteEachError<E> {
-    /// So many payloads before it were. Who goes on begins with the one behind these.
+    /// How many payloads were taken in. Who goes on begins with the one behind these.
     pub taken: usize,
     /// The error of its call.
     pub error: E,

@@ -2,7 +2,7 @@ use Rattle.std.proofs.Common.{◌≡◌}
 use Rattle.codec.proofs.Scanning.{ScansOn}
 use Rattle.codec.proofs.scan.scan_head.Given as goal
 
--- so many bytes were read, and this is where the head stands
+-- the bytes that were read so far lead to where the head stands
 abbrev pub invariant-loop-byte : goal.invariant-loop-byte
 invariant-loop-byte g l =
     ScansOn (g.S.Scan.scanning l.protocol).turn (g.S.Scan.scanning l.protocol).most_head (g.S.Scan.scanning l.protocol).start
