@@ -66,7 +66,7 @@ whole_flagged f flag whole none going = record {
   goes_on = going;
 }
 
--- so it does behind an error
+-- the state is whole with the flag that the answer sets
 pub flag_whole : {S : Type 0} (remaining : S → Option (List ℕ)) (s t : Lining S) (answer : Result ℕ Error)
     → DropsThrough remaining s answer t → IsLining (record t { skipping = is_err answer })
 flag_whole remaining s t (Ok n) d = whole_flagged t false d.whole (λ odd. cc) (λ odd. cc)

@@ -7,7 +7,7 @@ use Rattle.line_reader.specs.LinesWentLaws.{LinesWent-none, LinesWent-joins}
 use Rattle.line_reader.specs.NextLine.{LinesWent, AskedWhere, NoFault, NoEnd}
 use Rattle.line_reader.specs.Steps.{AsksOnce}
 
--- so far these bytes went, without a fault and an end, and the stream was asked only over such bytes; each time it gave a
+-- these bytes went so far, without a fault and an end, and the stream was asked only over such bytes; each time it gave a
 -- byte
 pub record Head {S : Type 0} (remaining : S → Option (List ℕ)) (Such : List ℕ → Type 0) (s : Lining S)
     (bytes : List ℕ) (m : Lining S) : Type 0 where
@@ -35,7 +35,7 @@ Head-none remaining Such s = record {
 
 module _ {S : Type 0} (remaining : S → Option (List ℕ)) (Such : List ℕ → Type 0) (s m : Lining S) (bytes : List ℕ)
     (h : Head remaining Such s bytes m) where
-  -- then these bytes went, and nothing was read
+  -- a head goes on by these bytes, where nothing was read
   pub Head-told : (t : Lining S) (more : List ℕ) → LinesWent remaining m more t → t.reader.log ≡ m.reader.log
       → t.ended ≡ m.ended → t.skipping ≡ m.skipping → Head remaining Such s (bytes ++ more) t
   Head-told t more went told ended skipping = record {
@@ -48,7 +48,7 @@ module _ {S : Type 0} (remaining : S → Option (List ℕ)) (Such : List ℕ →
     asked = AskedWhere-told Such (piecing s) (piecing m) (piecing t) told h.asked;
   }
 
-  -- then the stream was asked once for more
+  -- behind a head the stream was asked once for more
   module _ (answer : Result Bool Error) (t : Lining S) (a : AsksOnce remaining m answer t) where
     pub went_on : LinesWent remaining s bytes t
     went_on = subst (λ l. LinesWent remaining s l t) (append-nil bytes) (LinesWent-joins remaining s m t bytes [] h.went a.went)

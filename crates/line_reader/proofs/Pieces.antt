@@ -203,7 +203,7 @@ module _ {S : Type 0} (remaining : S → Option (List ℕ)) (s t : Piecing S Lin
         ] in
         open_where s skipping is (omega (arith, some, ap length all, length-append next.bytes (left t)))
 
-    -- and it isn't the last one
+    -- a line that is handed out of what is buffered isn't the last one
     going_found : (payload : List ℕ)
         → NextPiece remaining (lined s.decoder.max) s (Ok (Some payload)) t
         → t.reader ≡ s.reader → t.ended ≡ false

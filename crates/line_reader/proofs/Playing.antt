@@ -39,7 +39,6 @@ module _ {S : Type 0} (remaining : S → Option (List ℕ)) (s m t : Lining S) (
   pub run_more : CallsGo remaining s (calls ++ call ∷ []) t
   run_more = CallsGo-more remaining s calls m call t run made.goes
 
-  -- its line is lost
   pub line_lost : (room : ℕ) (old new : List Call) → new ≡ old ++ calls → 0 < length (call_lines call)
       → CallsStopped remaining s asks room old new t
   line_lost room old new gained some = record {

@@ -11,7 +11,7 @@ use Rattle.line_reader.specs.Lines.{newline, with_end, with_ends}
 use Rattle.line_reader.specs.WrittenLines.{StopsInLine}
 use Rattle.codec.specs.PayloadsLaws.{before, parted}
 
--- so many lines were taken in
+-- these lines were taken in, one after another
 pub record WroteLines {S P : Type 0} (stretch : S → S → Type 0) (s : Buffered S P) (lines : List (List ℕ)) (t : Buffered S P)
     : Type 0 where
   pub in_order : WritesInOrder s (with_ends lines) t
@@ -69,7 +69,7 @@ module _ {V : Type 0} (f : V → List ℕ) (vs : List V) (i : ℕ) (x : V) (insi
         part = part;
       }
 
-  -- it was
+  -- the next line was taken in whole
   pub line_written : WritesInOrder m (with_end (f x)) t → stretch m.inner t.inner
       → WroteLines stretch s (map f (take (i + 1) vs)) t
   line_written one went =

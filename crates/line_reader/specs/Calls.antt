@@ -28,7 +28,7 @@ EndNext ended (Ended ∷ events) = Unit {0}
 abbrev pub WithEnd : List ℕ → List ℕ → List ℕ → Type 0
 WithEnd line bytes more = bytes ≡ with_end line ++ more
 
--- they begin with a line without one, before an end of the stream
+-- these bytes begin with a line without an end, before an end of the stream
 abbrev pub WithoutEnd : Bool → List Event → List ℕ → List ℕ → List ℕ → Type 0
 WithoutEnd ended events line bytes more = (bytes ≡ line ++ more) × (0 < length line) × EndNext ended events
 

@@ -81,7 +81,6 @@ module _ {S : Type 0} (remaining : S → Option (List ℕ)) where
     told = λ ended. ended;
   }
 
-  -- and calls join
   pub LinesAlong-joins : (s m t : Lining S) (before mid after : List ℕ) (first later : List Event)
       → LinesAlong remaining before s first mid m → LinesAlong remaining mid m later after t
       → LinesAlong remaining before s (first ++ later) after t
@@ -135,7 +134,7 @@ module _ {S : Type 0} (remaining : S → Option (List ℕ)) (s t : Lining S) whe
   NextLine-along (Err (Io e)) n =
       nothing (Err (Io e)) n n.answers.0 (λ is. (let odd : Err (Io e) ≡ Ok None = is in cc))
 
-  -- and of `next_trimmed`
+  -- a call of `next_trimmed` where no line is being skipped
   pub Trims-along : (whole answer : NextAnswer) → NextLine remaining s whole t → Trims whole answer t
       → LinesAlong remaining [] s (trimmed_events answer) [] t
   Trims-along (Ok (Some line)) (Ok (Some shown)) n trims =

@@ -285,7 +285,7 @@ module _ {S : Type 0} (remaining : S → Option (List ℕ)) where
   call_takes s (Skips (Ok count)) t k before lines b = skip_takes remaining s t before lines b count k
   call_takes s (Skips (Err e)) t k before lines b = skip_failed_takes remaining s t before lines b e k
 
-  -- and any
+  -- any calls, one after another
   pub CallsGo-takes : (s : Lining S) (calls : List Call) (t : Lining S) → CallsGo remaining s calls t → (before : List ℕ)
       (lines : List (List ℕ)) → LeavesBehind remaining before s lines
       → TookFront remaining lines (lines_of_calls calls) t

@@ -16,7 +16,7 @@ use Rattle.line_reader.specs.NextLine.{NextAnswer}
 abbrev pub ahead_of : {S : Type 0} → (S → Option (List ℕ)) → Lining S → Option (List ℕ)
 ahead_of remaining f = prepend_known (rest f) (remaining f.reader.inner)
 
--- they are known, and a text of these lines; where the stream has ended there are none; and no line is being skipped
+-- what wasn't handed out is known, and a text of these lines; where the stream has ended there are none; no line is being skipped
 pub record HasLeft {S : Type 0} (remaining : S → Option (List ℕ)) (f : Lining S) (lines : List (List ℕ)) : Type 0 where
   pub text : List ℕ
   pub known : ahead_of remaining f ≡ Some text

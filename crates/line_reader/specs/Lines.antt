@@ -47,12 +47,12 @@ pub record BeginsWhole (max : ℕ) (bytes : List ℕ) : Type 0 where
   pub plain : IsLine line
   pub equal : bytes ≡ line ++ newline ∷ more
 
--- they begin with more than max bytes of a line
+-- the bytes begin with more than max bytes of a line
 pub record BeginsTooLong (max : ℕ) (bytes : List ℕ) : Type 0 where
   pub above : max < length bytes
   pub plain : IsLine (take (1 + max) bytes)
 
--- they are at most max bytes, and none of them ends a line
+-- the bytes are at most max, and none of them ends a line
 pub record IsUnended (max : ℕ) (bytes : List ℕ) : Type 0 where
   pub fits : length bytes ≤ max
   pub plain : IsLine bytes

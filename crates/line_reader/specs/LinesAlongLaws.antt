@@ -33,7 +33,7 @@ module _ {S : Type 0} (remaining : S → Option (List ℕ)) (s t : Lining S) whe
       → r ≡ Err error → error ≡ e → NextGoes remaining s (answer_of r) t → NextGoes remaining s (Err e) t
   NextGoes-err r error e is error_is = subst (λ r. NextGoes remaining s (answer_of r) t) (is ∙ ap (λ x. Err x) error_is)
 
-  -- and those of `match reader.next_trimmed()`
+  -- the arms of `match reader.next_trimmed()`
   pub NextTrimmed-some : (r : Result (Option (Bor (List ℕ))) LineError) (found : Option (Bor (List ℕ)))
       (line : Bor (List ℕ)) → r ≡ Ok found → found ≡ Some line → NextTrimmed remaining s (answer_of r) t
       → NextTrimmed remaining s (Ok (Some line.now)) t
@@ -50,7 +50,7 @@ module _ {S : Type 0} (remaining : S → Option (List ℕ)) (s t : Lining S) whe
   NextTrimmed-err r error e is error_is =
       subst (λ r. NextTrimmed remaining s (answer_of r) t) (is ∙ ap (λ x. Err x) error_is)
 
-  -- and those of `match reader.next_buffered()`
+  -- the arms of `match reader.next_buffered()`
   pub NextBuffered-some : (r : Option (Bor (List ℕ))) (line : Bor (List ℕ)) → r ≡ Some line
       → NextBuffered remaining s (option_copied r) t → NextLine remaining s (Ok (Some line.now)) t × (t.reader ≡ s.reader)
   NextBuffered-some r line = subst (λ r. NextBuffered remaining s (option_copied r) t)

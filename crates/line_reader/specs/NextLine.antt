@@ -22,7 +22,7 @@ LinesWent remaining s bytes t = PiecesWent remaining (most s) (piecing s) bytes 
 abbrev pub AskedOver : {S : Type 0} → (List ℕ → Type 0) → Lining S → Lining S → Type 0
 AskedOver Such s t = pieces.AskedOver Such (piecing s) (piecing t)
 
--- so it was, or it wasn't asked
+-- the stream wasn't asked, or only where what was there was such
 abbrev pub AskedWhere : {S : Type 0} → (List ℕ → Type 0) → Lining S → Lining S → Type 0
 AskedWhere Such s t = pieces.AskedWhere Such (piecing s) (piecing t)
 
@@ -42,7 +42,7 @@ empties s = pieces.empties s
 abbrev pub NoEnd : {S : Type 0} → Lining S → Lining S → Type 0
 NoEnd s t = pieces.NoEnd (piecing s) (piecing t)
 
--- it did once, and wasn't asked again; or it had before, which no call had told yet, and wasn't asked
+-- the reader gave nothing once, and wasn't asked again; or it had before, which no call had told yet, and wasn't asked
 abbrev pub MetEnd : {S : Type 0} → Lining S → Lining S → Type 0
 MetEnd s t = pieces.MetEnd (piecing s) (piecing t)
 

@@ -59,7 +59,7 @@ pub record SkipsFirst {S : Type 0} (remaining : S → Option (List ℕ)) (s : Li
   pub skips : SkipsLine remaining s (Ok count) between
   pub next : NextLine remaining between answer t
 
--- it didn't
+-- the line that is being skipped didn't come to its end
 pub record SkipsStill {S : Type 0} (remaining : S → Option (List ℕ)) (s : Lining S) (answer : NextAnswer)
     (t : Lining S) : Type 0 where
   pub error : Error

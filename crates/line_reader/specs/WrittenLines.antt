@@ -5,7 +5,7 @@ use Rattle.buffer_redux.specs.BufWriter.{WritesInOrder}
 use Rattle.buffer_redux.specs.WriteAll.{TookBeginning}
 use Rattle.line_reader.specs.Lines.{with_end, with_ends}
 
--- so many of these lines were taken in with their ends, and of the next one, with its end, a beginning
+-- the first so many lines were taken in with their ends, and of the next one, with its end, a beginning
 pub record StopsInLine {S P : Type 0} (lines : List (List ℕ)) (taken : ℕ) (s t : Buffered S P) : Type 0 where
   pub line : List ℕ
   pub later : List (List ℕ)

@@ -16,7 +16,7 @@ use codec::{NextError, Span, TooLong, find_end};
 use std::io;
 use std::io::ErrorKind;
 
-// So many bytes are skipped in one call, and as many more as are buffered.
+// One call skips at most so many bytes, and as many more as are buffered.
 const MOST_SKIPPED: u64 = 1 << 63;
 
 impl<R: Tell> LineReader<R> {
