@@ -55,13 +55,13 @@ some_cut : (max : ℕ) (bytes : List ℕ) → 0 < length bytes → (bytes ≡ []
 some_cut max bytes some (inl none) = absurd (omega (arith, some, ap length none))
 some_cut max bytes some (inr cut) = cut
 
--- and they don't settle the answer
+-- bytes that settle nothing don't settle the answer
 pub unsettled : (max : ℕ) (bytes : List ℕ) → max < 2 ^ 16 → IsOpen (framed max) bytes → IsUnsettled max bytes
 unsettled max bytes word is (inl whole) = is.no_piece (frames.begins_of max word bytes whole)
 unsettled max bytes word is (inr long) = is.not_wrong (Fault.TooLong long.len)
     (record { len = long.len; begins = long.begins; above = long.above; told = refl })
 
--- and what a decoder answers says whether bytes settle it
+-- what a decoder answers says whether bytes settle the answer
 module _ (max max' : ℕ) (bytes bytes' : List ℕ) (same : max' ≡ max) (shown : bytes' ≡ bytes) where
   pub settled_piece : (span : Span) (used : ℕ) → IsPiece (framed max') bytes' span used → IsSettled max bytes
   settled_piece span used found = inl (subst (λ n. BeginsWhole n bytes) same (subst (BeginsWhole max') shown
@@ -248,7 +248,7 @@ module _ {S : Type 0} (remaining : S → Option (List ℕ)) (s t : Piecing S Fra
   Next-failed (piece.Wrong (Fault.TooLong len)) small next = Next-of (Err (TooLong len)) (λ _ _. small) next
   Next-failed (piece.Io e) small next = Next-of (Err (Io e)) (λ _ _. small) next
 
-  -- and by what `step_buffered` answers
+  -- a call of `next_buffered`, by what `step_buffered` answers
   pub NextBuffered-found : (found : Option Span)
       → pieces.NextBuffered remaining (framed s.decoder.max) s (pieces.buffered_answer found t) t
       → NextBuffered remaining (framing s) (buffered_answer found (framing t)) (framing t)

@@ -12,7 +12,7 @@ pub record IsFrame (max : ℕ) (bytes payload : List ℕ) : Type 0 where
   pub fits : Fits max payload
   pub equal : bytes ≡ frame payload
 
--- they begin with a length above max
+-- the bytes begin with a length above max
 pub record IsTooLong (max : ℕ) (bytes : List ℕ) (e : FrameFault) : Type 0 where
   pub len : ℕ
   pub begins : BeginsWith len bytes

@@ -78,7 +78,7 @@ lacks_length max bytes more few = record {
   );
 }
 
--- and so is less than a frame
+-- less than a frame is open
 pub lacks_payload : (max len : ℕ) (bytes : List ℕ) → BeginsWith len bytes → len ≤ max → Lacks (framed max) (2 + len) bytes
 lacks_payload max len bytes begins fits more few =
     let here = begins-more len bytes more begins in record {
@@ -164,7 +164,7 @@ module _ (max : ℕ) (word : max < 2 ^ 16) where
     text_of payloads (All-tail (Fits max) p payloads fit),
   )
 
--- and a text of pieces is frames
+-- a text of pieces is frames
 pub frames_of : (max : ℕ) (text : List ℕ) (payloads : List (List ℕ)) → HasPieces (framed max) text payloads
     → text ≡ frames payloads
 frames_of max text [] is = is

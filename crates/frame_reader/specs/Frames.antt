@@ -36,20 +36,20 @@ pub record BeginsWhole (max : ℕ) (bytes : List ℕ) : Type 0 where
   pub fits : Fits max payload
   pub equal : bytes ≡ frame payload ++ more
 
--- they begin with a length above max
+-- the bytes begin with a length above max
 pub record BeginsTooLong (max : ℕ) (bytes : List ℕ) : Type 0 where
   pub len : ℕ
   pub above : max < len
   pub begins : BeginsWith len bytes
 
--- they are less than a frame whose length is at most max, and more than its length
+-- the bytes are less than a frame whose length is at most max, and more than its length
 pub record StopsInPayload (max : ℕ) (bytes : List ℕ) : Type 0 where
   pub len : ℕ
   pub fits : len ≤ max
   pub begins : BeginsWith len bytes
   pub short : length bytes < 2 + len
 
--- they are less than a frame, and not nothing
+-- the bytes are less than a frame, and not nothing
 abbrev pub IsCutShort : ℕ → List ℕ → Type 0
 IsCutShort max bytes = (length bytes ≡ 1) ⊎ StopsInPayload max bytes
 

@@ -78,7 +78,7 @@ module _ {S : Type 0} (stretch : S → S → Type 0) (s t : pieces.Outgoing S Fr
           limit = whole.limit;
         }
 
-    -- and one call of it
+    -- one call of a writer of pieces, in the words of frames
     module _ (payload : List ℕ) where
       size : length (coded (framed_out s.encoder.max) payload) ≡ 2 + length payload
       size = ap length (coded_frame s.encoder.max payload) ∙ length-append (header (length payload)) payload
@@ -149,7 +149,7 @@ module _ {S : Type 0} (stretch : S → S → Type 0) (s t : pieces.Outgoing S Fr
       puts_in fit inside (Err len) wrote =
           absurd (omega (arith, fit, wrote.answers.0.0, wrote.answers.0.1))
 
-      -- and where it doesn't, it is known to be taken
+      -- where the frame doesn't fit, the payload is known to be taken
       pub is_full : (framed_out s.encoder.max).takes payload
           → room (outgoing s) < length (coded (framed_out s.encoder.max) payload)
           → Fits s.encoder.max payload × (room (outgoing s) < 2 + length payload)
