@@ -1,4 +1,4 @@
--- They are few.
+-- Bulk strings, and the null string, have small parts.
 use Rattle.std.specs.Prelude.{ℕ}
 use Rattle.std.proofs.Common.{arith}
 use Rattle.codec.specs.Scanning.{IsSmall}

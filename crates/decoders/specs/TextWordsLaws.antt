@@ -1,4 +1,4 @@
--- They are few.
+-- The bytes around a length in text are few.
 use Rattle.std.specs.Prelude.{ℕ}
 use Rattle.std.proofs.Common.{arith, inl, inr}
 use Rattle.codec.specs.TextHeads.{IsSound}
