@@ -72,8 +72,8 @@ abbrev pub Raises : Values → List ℕ → ℤ → Values → Type 0
 Raises old key n new = (m : ℤ) × IsNumberAt (old.value key) m × (n ≡ m +ℤ pos 1) × HasRoom key old
     × Puts key (Some (signed_decimal n)) old new
 
--- or it is not, and why: there is no number that can be raised, or there is no room for one. That memory is refused, and which
--- text is no number, is said of no state
+-- the number at a key is not raised, and why: no number can be raised there, or there is no room for one. That memory is refused,
+-- and which text is no number, is said of no state
 abbrev pub RaisesNone : Values → List ℕ → List ℕ → Values → Type 0
 RaisesNone old key why new = Same old new
     × ((why ≡ codes "-ERR value is not an integer or out of range\r\n")

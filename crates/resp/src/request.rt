@@ -14,9 +14,9 @@ pub const MAX_PARTS: usize = 1024;
 pub enum Fed {
     /// More is to come, or there is none.
     More,
-    /// It is whole.
+    /// The request is whole.
     Whole,
-    /// It is none.
+    /// What came is no request.
     Bad(Refusal),
 }
 
