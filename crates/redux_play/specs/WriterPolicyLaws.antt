@@ -17,7 +17,7 @@ use Rattle.redux_play.specs.WroteExactly.{EachTook, Wrote-left, Wrote-took}
 abbrev pub HasNo : ℕ → List ℕ → Type 0
 HasNo byte bytes = (k : ℕ) → k < length bytes → ¬ (slice_index bytes k ≡ byte)
 
--- so many bytes, or none
+-- these bytes are so many, or none
 abbrev pub AllOrNone : ℕ → List ℕ → Type 0
 AllOrNone n bytes = (length bytes ≡ n) ⊎ (length bytes ≡ 0)
 
@@ -99,7 +99,7 @@ module _ {S P : Type 0} (rules : WriteRules P) (stays : PolicyStays rules) where
       took_in_policy wrote.before wrote.after bs (Ok n) wrote.took_in
       ∙ prepared_policy s wrote.before (length bs) (Ok tt) wrote.prepared
 
-  -- so a write leaves the policy
+  -- a write leaves the policy
   pub Writes-policy : (s t : Buffered S P) (bs : List ℕ) (answer : Result ℕ Error) → Writes rules s bs answer t
       → t.policy ≡ s.policy
   Writes-policy s t bs (Ok n) wrote =

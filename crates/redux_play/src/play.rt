@@ -39,9 +39,9 @@ pub enum ReaderCall {
 /// What a call of a buffered reader returned.
 #[derive(Clone, Copy, Debug)]
 pub enum ReaderAnswer {
-    /// So many bytes were read, or consumed.
+    /// The number of bytes that were read, or consumed.
     Count(usize),
-    /// So many bytes were shown.
+    /// The number of bytes that were shown.
     Shown(usize),
     /// The call was done, and returns nothing.
     Done,
@@ -101,7 +101,7 @@ pub enum WriterCall<'a> {
 /// What a call of a buffered writer returned.
 #[derive(Clone, Copy, Debug)]
 pub enum WriterAnswer {
-    /// So many bytes were taken in.
+    /// The number of bytes that were taken in.
     Count(usize),
     /// The call was done, and returns nothing.
     Done,
