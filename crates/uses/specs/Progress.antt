@@ -17,7 +17,7 @@ pub record Tells {F : Type 0} (step : F → ℕ → F → Type 0) (report : F) (
   pub last : F
   pub told : Reports step report calls (u64_saturate count) last
 
--- it was `Other`, since more bytes went over than a `u64` counts
+-- the error was `Other`, since more bytes went over than a `u64` counts
 pub record TooManyTurns (e : Error) (from from' : FillLog) : Type 0 where
   pub other : error_kind e ≡ Other
   pub large : 2 ^ 64 ≤ consumed_since from from' + 1

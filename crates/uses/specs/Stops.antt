@@ -8,7 +8,7 @@ use Rattle.buffer_redux.specs.BufWriter.{LastFault, ZeroWritten}
 use Rattle.buffer_redux.specs.StreamLog.{WriteLog}
 use Rattle.buffer_redux.specs.WriterTells.{failures}
 
--- it was `Other`, since so many bytes were there to be handed out, give or take `off`, as a `u64` doesn't count
+-- the error was `Other`, since so many bytes were there to be handed out, give or take `off`, as a `u64` doesn't count
 pub record CameTooMuch {S P : Type 0} (e : Error) (off : ℕ) (s t : Buffered S P) : Type 0 where
   pub other : error_kind e ≡ Other
   pub large : 2 ^ 64 + length s.log.reads.given ≤ length s.block.bytes + length t.log.reads.given + off
@@ -21,7 +21,7 @@ StopsAtOnce e s t = (t.log.reads.faults ≡ s.log.reads.faults ++ e ∷ []) ⊎ 
 abbrev pub Passes : Error → Type 0
 Passes e = (error_kind e ≡ Interrupted) ⊎ ((error_kind e ≡ WouldBlock) ⊎ (error_kind e ≡ TimedOut))
 
--- so many faults came, all of which pass
+-- the faults that came are so many, and all of them pass
 pub record MetPassing (count : ℕ) (old new : List Error) : Type 0 where
   pub met : List Error
   pub count_is : length met ≡ count
@@ -53,6 +53,6 @@ Endures most (Err e) s t = MetLast most s.log.reads.faults t.log.reads.faults e 
 abbrev pub DeviceFailed : WriteLog → WriteLog → Error → Type 0
 DeviceFailed old new e = LastFault old new e ⊎ ZeroWritten old new e
 
--- it failed so often since
+-- the device failed so often since
 abbrev pub FailedTimes : ℕ → WriteLog → WriteLog → Type 0
 FailedTimes n old new = failures old + n ≤ failures new

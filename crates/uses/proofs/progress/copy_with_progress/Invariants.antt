@@ -4,7 +4,7 @@ use Rattle.buffer_redux.specs.Copy.{CopiesOn, FaultsMet}
 use Rattle.uses.specs.Progress.{Reports}
 use Rattle.uses.proofs.progress.copy_with_progress.Given as goal
 
--- so many bytes went over, and the callback was told so
+-- the bytes that went over were counted, and the callback was told how many
 abbrev pub invariant-loop : goal.invariant-loop
 invariant-loop g l = record {
   count : ℕ;

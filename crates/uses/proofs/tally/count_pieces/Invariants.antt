@@ -4,7 +4,7 @@ use Rattle.buffer_redux.specs.BufReader.{ReadsAlong}
 use Rattle.buffer_redux.specs.ReadUntil.{EndsIn, Lacks}
 use Rattle.uses.proofs.tally.count_pieces.Given as goal
 
--- so many pieces were handed out
+-- as many pieces were handed out as were counted
 abbrev pub invariant-loop-count : goal.invariant-loop-count
 invariant-loop-count g l = record {
   pieces : List (List ℕ);
