@@ -14,7 +14,7 @@ pub record FailsSo (failed : Ending) (e : Error) (ending : Ending) : Type 0 wher
 abbrev pub FailsAs : Error → Ending → Type 0
 FailsAs e ending = FailsSo Failed e ending
 
--- and one that returned this
+-- how a run ends that returned this
 abbrev pub EndsAs : {T : Type 0} → Result T Error → Ending → Type 0
 EndsAs (Ok _) ending = ending ≡ Done
 EndsAs (Err e) ending = FailsAs e ending

@@ -31,7 +31,7 @@ module _ {W P : Type 0} where
       )
       once (Err e) sends told = inl (ap (λ l. l.writes.flushes) told.1 ∙ sends.sent.flushes)
 
-  -- and none since
+  -- one flush, and none since
   pub FlushesOnce-on : (u w v : Buffered W P) → FlushesOnce u w → v.log.writes.flushes ≡ w.log.writes.flushes
       → WritesOn w.log.writes v.log.writes → FlushesOnce u v
   FlushesOnce-on u w v (inl same) none more = inl (none ∙ same)
@@ -79,7 +79,7 @@ flushed_once u v answer flushes = elim (FlushesOnce-flush u v answer flushes) [
   | inr once ↦ omega (arith, once.0)
 ]
 
--- and one more
+-- one more flush may be one more that came behind no byte
 pub FlushesSend-flush : {W P : Type 0} (idle : ℕ) (old : WriteLog) (u v : Buffered W P) (answer : Result (Unit {0}) Error)
     → FlushesSend idle old u.log.writes → Flushes u answer v → WritesOn u.log.writes v.log.writes
     → FlushesSend (idle + 1) old v.log.writes
