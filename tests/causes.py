@@ -1,20 +1,26 @@
 #!/usr/bin/env python3
-"""Sees that docs/CAUSES.md names, for each public call of a library that returns a `Result`, what refuses an `Err` at once.
+"""Sees that tests/causes.txt names, for each public call of a library that returns a `Result`, what refuses an `Err` at once.
 
-A public call is a `pub fn`, or one of a trait's that a type has; texts (`fmt`) are left out. Below a line 'In `FILE`:' a row of the
-page names calls of that file, and behind them in code letters clauses that each of these has: a lone one, which has no name, is
-written `ensures`. Or it says, without code letters, why there is none: `memory` where the error tells of nothing but a buffer that
-could not be made or grow, `rules` of a policy, whose table its trait's clauses cite, and `only tested`.
+A body that does nothing and answers `Err(Other)` at once must not meet a contract. So each such call is tied by a clause to what
+was done: the table has it, below the call's file, as `call, call: clause, clause`, each clause on each call. `ensures` is a lone
+one, which has no name. Where there is none, a reason stands in brackets:
+
+- `(memory)`: the error says that a buffer, a list or a record could not be made or grow; no contract says that memory is left;
+- `(rules)`: the type answers for the call itself, as a policy, a decoder or a filter does, by what its trait's clauses cite;
+- `(only tested)`: what fails is a stream of std, or memory, and std says no more of it.
+
+A public call is a `pub fn`, or one of a trait's that a type has; texts (`fmt`) are left out. Who adds a row with a clause tries
+such a body. `--table` prints the table, a line for each call.
 """
 import pathlib
 import re
 import sys
 
 TOP = pathlib.Path(__file__).resolve().parent.parent
-PAGE = TOP / "docs" / "CAUSES.md"
+TABLE = TOP / "tests" / "causes.txt"
 # No libraries: tests, and what is measured or played.
 LEFT_OUT = ("bench", "bufcopy", "replay")
-NO_CLAUSE = ("memory", "rules", "only tested")
+NO_CLAUSE = ("(memory)", "(rules)", "(only tested)")
 REFUSALS = ("AllocError", "GrowError", "MakeError")
 TOKEN = re.compile(r"""//[^\n]*|"(?:\\.|[^"\\])*"|'(?:\\.|[^'\\])'|[(){}]""", re.S)
 
@@ -64,35 +70,44 @@ def public_calls():
     return found
 
 
-def wrong_in(page, found):
-    """What the page leaves out, or names that isn't there, a line each."""
-    wrong, told, file = [], set(), ""
-    for number, line in enumerate(page.splitlines(), 1):
-        if named := re.match(r"In `(crates/[^`]*)`", line):
-            file = named.group(1)
-        if not line.startswith("| `"):
+def rows_of(table):
+    """Each call of the table, with the number of its line, its file, and the clauses or the reason."""
+    file = ""
+    for number, line in enumerate(table.splitlines(), 1):
+        if not line.startswith(" "):
+            file = line
             continue
-        calls, why = (line.split("|")[it] for it in (1, 2))
-        for call in re.findall(r"`(\w+)`", calls):
-            told.add((file, call))
-            if (file, call) not in found:
-                wrong.append(f"{number}: no public call `{call}` of {file} returns a `Result`")
-                continue
-            for returned, clauses in found[file, call]:
-                names = re.findall(r"`(\w+)`", why)
-                wrong += [f"{number}: `{call}` has no clause `{it}`" for it in names if it not in clauses]
-                if not names and why.strip() not in NO_CLAUSE:
-                    wrong.append(f"{number}: `{call}` has neither a clause nor a reason why it has none")
-                if why.strip() == "memory" and not any(it in returned for it in REFUSALS):
-                    wrong.append(f"{number}: `{call}` fails for more than memory")
-    wrong += [f"`{call}` of {file} is not on the page" for file, call in found if (file, call) not in told]
-    return [f"docs/{PAGE.name}: {it}" for it in wrong]
+        calls, _, why = line.strip().partition(": ")
+        for call in calls.split(", "):
+            yield number, file, call, why
+
+
+def wrong_in(rows, found):
+    """What the table leaves out, or names that isn't there, a line each."""
+    wrong = []
+    for number, file, call, why in rows:
+        if (file, call) not in found:
+            wrong.append(f"{number}: no public call `{call}` of {file} returns a `Result`")
+        for returned, clauses in found.get((file, call), ()):
+            if why not in NO_CLAUSE:
+                wrong += [f"{number}: `{call}` has no clause `{it}`" for it in why.split(", ") if it not in clauses]
+            elif why == "(memory)" and not any(it in returned for it in REFUSALS):
+                wrong.append(f"{number}: `{call}` fails for more than memory")
+    told = {(file, call) for _, file, call, _ in rows}
+    wrong += [f"`{call}` of {file} is not in the table" for file, call in found if (file, call) not in told]
+    return [f"tests/{TABLE.name}: {it}" for it in wrong]
 
 
 def main():
+    rows = list(rows_of(TABLE.read_text(encoding="utf-8")))
+    if sys.argv[1:] == ["--table"]:
+        for _, file, call, why in rows:
+            print(f"{call:24}{why:24}{file}")
+        return 0
     found = public_calls()
-    wrong = wrong_in(PAGE.read_text(encoding="utf-8"), found)
-    print("\n".join(wrong) or f"docs/{PAGE.name} says of all {len(found)} calls what refuses an `Err` at once, or that nothing does")
+    wrong = wrong_in(rows, found)
+    said = f"tests/{TABLE.name} says of all {len(found)} calls what refuses an `Err` at once, or that nothing does"
+    print("\n".join(wrong) or said)
     return 1 if wrong else 0
 
 
