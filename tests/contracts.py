@@ -1,9 +1,9 @@
 #!/usr/bin/env python3
-"""Sees that each clause and each word that docs/CONTRACTS.md and docs/DESIGN.md name stands in the sources.
+"""Sees that each clause, word and file that docs/CONTRACTS.md and docs/DESIGN.md name stands in the sources.
 
-A row of a table that begins with 'Call' names calls, and clauses that each of them has: functions of the files that the
-nearest line 'In `FILE`' above it names. A word in code letters with a capital or an underscore is one of the sources, or
-the name of a crate. So is each lemma that a table of docs/PROOFS.md names, which begins with 'To say' or 'Of'.
+A line of a list that begins with calls and, in brackets, clauses, names clauses that each of these calls has: functions of the
+files that the nearest line 'In `FILE`' above it names. A word in code letters with a capital or an underscore is one of the
+sources, or the name of a crate. So is each lemma that a table of docs/PROOFS.md names, which begins with 'To say' or 'Of'.
 """
 import pathlib
 import re
@@ -11,6 +11,8 @@ import sys
 
 top = pathlib.Path(__file__).resolve().parent.parent
 pages = [top / "docs" / it for it in ("CONTRACTS.md", "DESIGN.md")]
+NAMES = r"`\w+`(?:, `\w+`)*"
+CALLS = re.compile(rf"- ({NAMES}) \(({NAMES})\):")
 crates = {it.name for it in top.glob("crates/*")}
 sources = {it: it.read_text(encoding="utf-8") for part in ("src", "specs") for it in top.glob(f"crates/*/{part}/**/*.*")}
 
@@ -29,23 +31,17 @@ def clauses_of(files, call):
 
 def wrong_in(page, every):
     """What a page names that isn't there, a line each."""
-    wrong = []
-    files, header = [], ""
+    wrong, files = [], []
     for number, line in enumerate(page.read_text(encoding="utf-8").splitlines(), 1):
-        if line.startswith(("In `", "Laws, in `")):
-            named = re.findall(r"`(crates/[^`]*\.rt)`", line)
-            files = [top / it for it in named]
-            wrong += [f"{number}: no file {it}" for it in named if top / it not in sources]
-            files = [it for it in files if it in sources]
-        if line.startswith("| ") and not line.startswith(("| Call", "| Part")) and header.startswith("| Call"):
-            calls, clauses = (re.findall(r"`(\w+)`", it) for it in line.split("|")[1:3])
+        named = re.findall(r"`(crates/[^`{*]*)`", line)
+        wrong += [f"{number}: no file {it}" for it in named if not (top / it).exists()]
+        if line.startswith("In `"):
+            files = [top / it for it in named if top / it in sources]
+        if item := CALLS.match(line):
+            calls, clauses = (re.findall(r"\w+", it) for it in item.groups())
             for call in calls:
                 there = clauses_of(files, call)
                 wrong += [f"{number}: `{call}` has no clause `{it}`" for it in clauses if it not in there]
-        if line.startswith("| Call") or line.startswith("| Part"):
-            header = line
-        elif not line.startswith("|"):
-            header = ""
         for word in re.findall(r"`([A-Za-z_]\w*)`", line):
             is_name = word not in crates and (word != word.lower() or "_" in word)
             if is_name and not re.search(rf"\b{word}\b", every):
@@ -69,7 +65,7 @@ def main():
     every = "\n".join(sources.values())
     wrong = [it for page in pages for it in wrong_in(page, every)]
     wrong += lost_lemmas(top / "docs" / "PROOFS.md", every)
-    print("\n".join(wrong) or "each clause, word and lemma that CONTRACTS, DESIGN and PROOFS name stands in the sources")
+    print("\n".join(wrong) or "each clause, word, file and lemma that CONTRACTS, DESIGN and PROOFS name stands in the sources")
     return 1 if wrong else 0
 
 
