@@ -34,7 +34,8 @@ def wrong_in(page, every):
     wrong, files = [], []
     for number, line in enumerate(page.read_text(encoding="utf-8").splitlines(), 1):
         named = re.findall(r"`(crates/[^`{*]*)`", line)
-        wrong += [f"{number}: no file {it}" for it in named if not (top / it).exists()]
+        paths = [f"crates/*/{it}" for it in re.findall(r"`((?:src|specs|proofs)/[^`{*]*)`", line)]
+        wrong += [f"{number}: no file {it}" for it in named + paths if not any(top.glob(it))]
         if line.startswith("In `"):
             files = [top / it for it in named if top / it in sources]
         if item := CALLS.match(line):
