@@ -1,10 +1,27 @@
-//! Pieces by worked examples, cut in every way and with a fault at each call; and the examples of their documentation.
+//! Pieces, frames, lines and bodies by worked examples, cut in every way and with a fault at each call; and the examples of the
+//! documentation of `codec`.
 #![tactic(auto)]
 
 #[cfg(test)]
+mod asks;
+#[cfg(test)]
+mod bodies;
+#[cfg(test)]
+mod chunks;
+#[cfg(test)]
+mod drops;
+#[cfg(test)]
 mod examples;
 #[cfg(test)]
+mod frames;
+#[cfg(test)]
 mod handover;
+#[cfg(test)]
+mod in_turn;
+#[cfg(test)]
+mod laws;
+#[cfg(test)]
+mod lines;
 #[cfg(test)]
 mod packed;
 pub mod packets;
@@ -15,8 +32,6 @@ mod ready;
 #[cfg(test)]
 mod served;
 #[cfg(test)]
-mod skipped;
-#[cfg(test)]
-mod sweep;
+mod texts;
 #[cfg(test)]
 mod written;

@@ -1,57 +1,161 @@
 //! Pieces that a byte ends.
-use crate::sweep::Want::{End, Piece, Rest, Wrong};
-use crate::sweep::Why::Long;
-use crate::sweep::{Row, sweep};
-use codec::{Delimited, Trimmed};
+use crate::asks::Want::{End, Next, Rest, Wrong};
+use crate::asks::Why::Long;
+use crate::asks::{Asks, Want, Why, walk};
+use buffer_redux::MakeError;
+use buffer_redux::script::Answer;
+use buffer_redux::tell::TellRead;
+use codec::{Decoder, Delimited, HeadError, NextError, PieceReader, TooLong, Trimmed};
+use std::alloc::Global;
+use std::io;
 use std::test::Fail;
+use tests_common::sweep::{Came, FAULT, Run, sweep};
+use tests_common::{Source, source};
+
+/// What a decoder finds wrong.
+pub trait Explained: Copy {
+    /// In one enum for all decoders.
+    fn why(self) -> Why;
+}
+
+impl Explained for TooLong {
+    fn why(self) -> Why {
+        Long(self.0)
+    }
+}
+
+impl Explained for HeadError {
+    fn why(self) -> Why {
+        match self {
+            HeadError::NoHead => Why::NoHead,
+            HeadError::TooLong(len) => Long(len),
+            HeadError::NoTail => Why::NoTail,
+            HeadError::Truncated(have) => Why::Truncated(have),
+        }
+    }
+}
+
+// Neither this maker nor any call below promises anything.
+fn reader<R: TellRead + Drop, D: Decoder>(
+    alloc: Global,
+    decoder: D,
+    inner: R,
+) -> Result<PieceReader<R, D>, MakeError<(R, D)>> {
+    PieceReader::new(alloc, inner, decoder)
+}
+
+fn rest<R: TellRead, D: Decoder>(reader: &PieceReader<R, D>) -> &[u8] {
+    reader.rest()
+}
+
+fn step<R: TellRead, D: Decoder>(reader: &mut PieceReader<R, D>, want: Want<'_>) -> Option<bool>
+where
+    D::Wrong: Explained,
+{
+    match reader.step() {
+        Ok(Some(span)) => Some(matches!(want, Next(payload) if reader.lent(span) == payload)),
+        Ok(None) => Some(matches!(want, End)),
+        Err(NextError::Wrong(e)) => Some(matches!(want, Wrong(why) if e.why() == why)),
+        Err(NextError::Io(_)) => None,
+    }
+}
+
+impl<D: Decoder> Asks for PieceReader<Source, D>
+where
+    D::Wrong: Explained,
+{
+    fn answers(&mut self, want: Want<'_>) -> Option<bool> {
+        step(self, want)
+    }
+
+    fn left(&self) -> &[u8] {
+        rest(self)
+    }
+
+    fn asked(&self) -> &[usize] {
+        self.get_ref().get_ref().offers()
+    }
+}
+
+/// The bytes of the stream, and call after call.
+pub type Row<'a> = (&'a [u8], &'a [Want<'a>]);
+
+// A row by this decoder.
+#[derive(Drop)]
+struct Decoded<'a, D>(D, &'a Row<'a>);
+
+impl<D: Decoder + Copy> Run for Decoded<'_, D>
+where
+    D::Wrong: Explained,
+{
+    fn run(&self, alloc: Global, script: &[Answer]) -> io::Result<Option<Came>> {
+        let &Decoded(decoder, (bytes, wants)) = self;
+        let reader = reader(alloc, decoder, source(alloc, bytes, script)?)?;
+        Ok(walk(reader, wants))
+    }
+}
+
+/// Each row in pieces of at most 7, 3, 2 and 1 bytes, with a fault at each call of the stream in turn, and without. How many
+/// faults were met, or which row went wrong.
+pub fn swept<D: Decoder + Copy>(
+    alloc: Global,
+    decoder: D,
+    rows: &[Row<'_>],
+) -> io::Result<Result<usize, (usize, usize)>>
+where
+    D::Wrong: Explained,
+{
+    let mut met = 0usize;
+    for (at, row) in rows.iter().enumerate() {
+        match sweep(alloc, &[Decoded(decoder, row)], &[7, 3, 2, 1], FAULT)? {
+            Ok(count) => met = met.saturating_add(count),
+            Err((_, most)) => return Ok(Err((at, most))),
+        }
+    }
+    Ok(Ok(met))
+}
 
 // The pieces are those of std's `split` at the byte, where none is too long.
 static LINES: [Row<'static>; 4] = [
     (b"", &[End, End]),
     (
         b"a\n\n\nbc",
-        &[Piece(b"a"), Piece(b""), Piece(b""), Piece(b"bc"), End, End],
+        &[Next(b"a"), Next(b""), Next(b""), Next(b"bc"), End, End],
     ),
     (
         b"abc\nabcd",
-        &[Piece(b"abc"), Wrong(Long(3)), Wrong(Long(3)), Rest(b"abcd")],
+        &[Next(b"abc"), Wrong(Long(3)), Wrong(Long(3)), Rest(b"abcd")],
     ),
-    (b"\r\nab\r\n", &[Piece(b"\r"), Piece(b"ab\r"), End]),
+    (b"\r\nab\r\n", &[Next(b"\r"), Next(b"ab\r"), End]),
 ];
 
-static EMPTY: [Row<'static>; 1] = [(b"\n\na", &[Piece(b""), Piece(b""), Wrong(Long(0))])];
+static EMPTY: [Row<'static>; 1] = [(b"\n\na", &[Next(b""), Next(b""), Wrong(Long(0))])];
 
 static RECORDS: [Row<'static>; 1] = [(
     b"\xff\n\0\0\xc3",
-    &[Piece(b"\xff\n"), Piece(b""), Piece(b"\xc3"), End],
+    &[Next(b"\xff\n"), Next(b""), Next(b"\xc3"), End],
 )];
 
 // The pieces are those of std's `lines`.
 static TRIMMED: [Row<'static>; 2] = [
     (
         b"a\r\nb\n\r\r\nc\r",
-        &[
-            Piece(b"a"),
-            Piece(b"b"),
-            Piece(b"\r"),
-            Piece(b"c\r"),
-            End,
-            End,
-        ],
+        &[Next(b"a"), Next(b"b"), Next(b"\r"), Next(b"c\r"), End, End],
     ),
     (
         b"ab\r\nabc\r",
-        &[Piece(b"ab"), Wrong(Long(3)), Rest(b"abc\r")],
+        &[Next(b"ab"), Wrong(Long(3)), Rest(b"abc\r")],
     ),
 ];
 
 #[test]
 fn delimited(rt: HostRuntime) -> Result<(), Fail> {
     let alloc = rt.alloc();
-    let lines = sweep(alloc, Delimited { end: b'\n', max: 3 }, &LINES)?;
-    let empty = sweep(alloc, Delimited { end: b'\n', max: 0 }, &EMPTY)?;
-    let records = sweep(alloc, Delimited { end: 0, max: 3 }, &RECORDS)?;
-    let trimmed = sweep(alloc, Trimmed(Delimited { end: b'\n', max: 3 }), &TRIMMED)?;
-    assert!(rt; (lines, empty, records, trimmed) == (None, None, None, None));
+    let lines = swept(alloc, Delimited { end: b'\n', max: 3 }, &LINES)?;
+    let empty = swept(alloc, Delimited { end: b'\n', max: 0 }, &EMPTY)?;
+    let records = swept(alloc, Delimited { end: 0, max: 3 }, &RECORDS)?;
+    let trimmed = swept(alloc, Trimmed(Delimited { end: b'\n', max: 3 }), &TRIMMED)?;
+    let met = (lines, empty, records, trimmed);
+    assert!(rt; met == (Ok(61), Ok(7), Ok(15), Ok(46)), "{met:?}");
     Ok(())
 }

@@ -1,7 +1,7 @@
 //! The ready decoders.
-use crate::sweep::Want::{End, Piece, Rest, Wrong};
-use crate::sweep::Why::{Long, NoHead, NoTail, Truncated};
-use crate::sweep::{Row, sweep};
+use crate::asks::Want::{End, Next, Rest, Wrong};
+use crate::asks::Why::{Long, NoHead, NoTail, Truncated};
+use crate::pieces::{Row, swept};
 use codec::{ByHead, ByText};
 use decoders::{BulkStrings, Lengths, Netstrings, Order, Width};
 use std::alloc::Global;
@@ -12,15 +12,15 @@ use std::test::Fail;
 static NETSTRINGS: [Row<'static>; 5] = [
     (
         b"3:abc,0:,12:hello world!,",
-        &[Piece(b"abc"), Piece(b""), Piece(b"hello world!"), End, End],
+        &[Next(b"abc"), Next(b""), Next(b"hello world!"), End, End],
     ),
     (
         b"1:a,5x",
-        &[Piece(b"a"), Wrong(NoHead), Wrong(NoHead), Rest(b"5x")],
+        &[Next(b"a"), Wrong(NoHead), Wrong(NoHead), Rest(b"5x")],
     ),
     // No length without a digit, and no zero in front of another.
-    (b"0:,:,", &[Piece(b""), Wrong(NoHead)]),
-    (b"0:,01:a,", &[Piece(b""), Wrong(NoHead)]),
+    (b"0:,:,", &[Next(b""), Wrong(NoHead)]),
+    (b"0:,01:a,", &[Next(b""), Wrong(NoHead)]),
     (b"1:ab", &[Wrong(NoTail), Rest(b"1:ab")]),
 ];
 
@@ -39,33 +39,33 @@ static LIMITS: [Row<'static>; 5] = [
 static STRINGS: [Row<'static>; 5] = [
     (
         b"$5\r\nhello\r\n$0\r\n\r\n",
-        &[Piece(b"hello"), Piece(b""), End],
+        &[Next(b"hello"), Next(b""), End],
     ),
-    (b"$2\r\n\r\n\r\n", &[Piece(b"\r\n"), End]),
+    (b"$2\r\n\r\n\r\n", &[Next(b"\r\n"), End]),
     (b"$-1\r\n", &[Wrong(NoHead), Wrong(NoHead)]),
     (b"$1\na\r\n", &[Wrong(NoHead)]),
     (b"$1\r\na\n\r", &[Wrong(NoTail)]),
 ];
 
 static ONE: [Row<'static>; 2] = [
-    (b"\x02hi\0", &[Piece(b"hi"), Piece(b""), End]),
+    (b"\x02hi\0", &[Next(b"hi"), Next(b""), End]),
     (b"\x04", &[Wrong(Long(4)), Rest(b"\x04")]),
 ];
 
 static BIG: [Row<'static>; 3] = [
-    (b"\0\x02hi\0\0", &[Piece(b"hi"), Piece(b""), End]),
+    (b"\0\x02hi\0\0", &[Next(b"hi"), Next(b""), End]),
     (b"\x01\0", &[Wrong(Long(256))]),
     (b"\0\x03ab", &[Wrong(Truncated(4)), Rest(b"\0\x03ab")]),
 ];
 
 static LITTLE: [Row<'static>; 2] = [
-    (b"\x02\0\0\0hi\0\0\0\0", &[Piece(b"hi"), Piece(b""), End]),
+    (b"\x02\0\0\0hi\0\0\0\0", &[Next(b"hi"), Next(b""), End]),
     (b"\0\0\0\x01", &[Wrong(Long(0x0100_0000))]),
 ];
 
 // The greatest length of all takes no sum and no memory.
 static EIGHT: [Row<'static>; 3] = [
-    (b"\0\0\0\0\0\0\0\x01a", &[Piece(b"a"), End]),
+    (b"\0\0\0\0\0\0\0\x01a", &[Next(b"a"), End]),
     (
         b"\xff\xff\xff\xff\xff\xff\xff\xff",
         &[Wrong(Long(usize::MAX))],
@@ -73,10 +73,10 @@ static EIGHT: [Row<'static>; 3] = [
     (b"\0\0\0\0\0\0\0", &[Wrong(Truncated(7))]),
 ];
 
-type Answer = io::Result<Option<(usize, usize, usize)>>;
+type Answer = io::Result<Result<usize, (usize, usize)>>;
 
 fn lengths(alloc: Global, width: Width, order: Order, rows: &[Row<'_>]) -> Answer {
-    sweep(
+    swept(
         alloc,
         ByHead(Lengths {
             width,
@@ -94,16 +94,18 @@ fn lengths_in_bytes(rt: HostRuntime) -> Result<(), Fail> {
     let big = lengths(alloc, Width::Two, Order::BigEndian, &BIG)?;
     let little = lengths(alloc, Width::Four, Order::LittleEndian, &LITTLE)?;
     let eight = lengths(alloc, Width::Eight, Order::BigEndian, &EIGHT)?;
-    assert!(rt; (one, big, little, eight) == (None, None, None, None));
+    let met = (one, big, little, eight);
+    assert!(rt; met == (Ok(17), Ok(34), Ok(34), Ok(59)), "{met:?}");
     Ok(())
 }
 
 #[test]
 fn lengths_in_text(rt: HostRuntime) -> Result<(), Fail> {
     let alloc = rt.alloc();
-    let netstrings = sweep(alloc, ByHead(ByText(Netstrings { max: 12 })), &NETSTRINGS)?;
-    let limits = sweep(alloc, ByHead(ByText(Netstrings { max: 12 })), &LIMITS)?;
-    let strings = sweep(alloc, ByHead(ByText(BulkStrings { max: 5 })), &STRINGS)?;
-    assert!(rt; (netstrings, limits, strings) == (None, None, None));
+    let netstrings = swept(alloc, ByHead(ByText(Netstrings { max: 12 })), &NETSTRINGS)?;
+    let limits = swept(alloc, ByHead(ByText(Netstrings { max: 12 })), &LIMITS)?;
+    let strings = swept(alloc, ByHead(ByText(BulkStrings { max: 5 })), &STRINGS)?;
+    let met = (netstrings, limits, strings);
+    assert!(rt; met == (Ok(100), Ok(117), Ok(87)), "{met:?}");
     Ok(())
 }

@@ -4,10 +4,10 @@ use buffer_redux::script::Answer;
 use buffer_redux::tell::TellWrite;
 use codec::{ByHead, ByText, Delimited, Encoder, PieceWriter, WritePieceError};
 use decoders::{BulkStrings, Lengths, Netstrings, Order, Width};
-use std::alloc::{AllocError, Global};
+use std::alloc::Global;
 use std::io;
-use std::io::ErrorKind;
 use std::test::Fail;
+use tests_common::sweep::{Came, FAULT, Run, sweep};
 use tests_common::{Target, target};
 
 // Neither this maker nor any call below promises anything. Three pieces have room.
@@ -32,6 +32,10 @@ fn flush<W: TellWrite, E: Encoder>(writer: &mut PieceWriter<W, E>) -> io::Result
 
 fn taken<E: Encoder>(writer: &PieceWriter<Target, E>) -> &[u8] {
     writer.get_ref().get_ref().taken()
+}
+
+fn offered<E: Encoder>(writer: &PieceWriter<Target, E>) -> usize {
+    writer.get_ref().get_ref().offers().len()
 }
 
 // What came of payloads: how many were refused, and how often the stream failed.
@@ -83,7 +87,7 @@ fn write_each<W: TellWrite, E: Encoder>(
     outcome
 }
 
-/// What is written, how many of the payloads are refused, and what the others are.
+// What is written, how many of the payloads are refused, and what the others are.
 type Row<'a> = (&'a [&'a [u8]], usize, &'a [u8]);
 
 static LINES: Row<'static> = (
@@ -115,59 +119,30 @@ static STRINGS: Row<'static> = (
     b"$5\r\nhello\r\n$0\r\n\r\n$2\r\n\r\n\r\n",
 );
 
-// So many bytes at most a call, and a fault behind the first calls.
-fn script(alloc: Global, most: usize, before: usize) -> Result<Vec<Answer>, AllocError> {
-    let mut script = Vec::from_slice(alloc, &[Answer::ServeEach(most)])?;
-    script.resize(before.saturating_add(1), Answer::Serve(most))?;
-    script.extend_from_slice(&[Answer::Fail(ErrorKind::TimedOut)])?;
-    Ok(script)
-}
+// A row by this encoder.
+#[derive(Drop)]
+struct Encoded<'a, E>(E, &'a Row<'a>);
 
-// Behind so many calls it fails; how often it did, where all pieces came out whole.
-fn failures<E: Encoder>(
-    alloc: Global,
-    encoder: E,
-    row: &Row<'_>,
-    most: usize,
-    before: usize,
-) -> io::Result<Option<usize>> {
-    let (payloads, refused, bytes) = *row;
-    let inner = target(alloc, script(alloc, most, before)?.as_slice())?;
-    let mut writer = writer(alloc, inner, encoder)?;
-    let outcome = write_each(&mut writer, payloads);
-    let whole = taken(&writer) == bytes;
-    Ok((whole && outcome.refused == refused).then_some(outcome.failed))
-}
-
-// Behind how many calls a fault goes wrong. The last run meets none.
-fn wrong_behind<E: Encoder + Copy>(
-    alloc: Global,
-    encoder: E,
-    row: &Row<'_>,
-    most: usize,
-) -> io::Result<Option<usize>> {
-    for before in 0..100usize {
-        match failures(alloc, encoder, row, most, before)? {
-            Some(0) => return Ok(None),
-            Some(_) => {}
-            None => return Ok(Some(before)),
-        }
+impl<E: Encoder + Copy> Run for Encoded<'_, E> {
+    fn run(&self, alloc: Global, script: &[Answer]) -> io::Result<Option<Came>> {
+        let &Encoded(encoder, &(payloads, refused, bytes)) = self;
+        let mut writer = writer(alloc, target(alloc, script)?, encoder)?;
+        let outcome = write_each(&mut writer, payloads);
+        let calls = offered(&writer);
+        let whole = taken(&writer) == bytes && outcome.refused == refused;
+        Ok(whole.then_some(Came {
+            failed: outcome.failed,
+            calls,
+        }))
     }
-    Ok(Some(100))
 }
 
-// The first that goes wrong: to how many bytes a call, and behind how many calls.
-fn sweep<E: Encoder + Copy>(
+fn swept<E: Encoder + Copy>(
     alloc: Global,
     encoder: E,
     row: &Row<'_>,
-) -> io::Result<Option<(usize, usize)>> {
-    for most in &[1usize, 2, 3, 7] {
-        if let Some(before) = wrong_behind(alloc, encoder, row, *most)? {
-            return Ok(Some((*most, before)));
-        }
-    }
-    Ok(None)
+) -> io::Result<Result<usize, (usize, usize)>> {
+    sweep(alloc, &[Encoded(encoder, row)], &[7, 3, 2, 1], FAULT)
 }
 
 fn lengths(width: Width, order: Order) -> ByHead<Lengths> {
@@ -181,11 +156,12 @@ fn lengths(width: Width, order: Order) -> ByHead<Lengths> {
 #[test]
 fn pieces_come_out_whole(rt: HostRuntime) -> Result<(), Fail> {
     let alloc = rt.alloc();
-    let lines = sweep(alloc, Delimited { end: b'\n', max: 3 }, &LINES)?;
-    let big = sweep(alloc, lengths(Width::Two, Order::BigEndian), &BIG)?;
-    let little = sweep(alloc, lengths(Width::Four, Order::LittleEndian), &LITTLE)?;
-    let netstrings = sweep(alloc, ByHead(ByText(Netstrings { max: 12 })), &NETSTRINGS)?;
-    let strings = sweep(alloc, ByHead(ByText(BulkStrings { max: 5 })), &STRINGS)?;
-    assert!(rt; (lines, big, little, netstrings, strings) == (None, None, None, None, None));
+    let lines = swept(alloc, Delimited { end: b'\n', max: 3 }, &LINES)?;
+    let big = swept(alloc, lengths(Width::Two, Order::BigEndian), &BIG)?;
+    let little = swept(alloc, lengths(Width::Four, Order::LittleEndian), &LITTLE)?;
+    let netstrings = swept(alloc, ByHead(ByText(Netstrings { max: 12 })), &NETSTRINGS)?;
+    let strings = swept(alloc, ByHead(ByText(BulkStrings { max: 5 })), &STRINGS)?;
+    let met = (lines, big, little, netstrings, strings);
+    assert!(rt; met == (Ok(35), Ok(23), Ok(35), Ok(51), Ok(51)), "{met:?}");
     Ok(())
 }

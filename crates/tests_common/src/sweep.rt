@@ -16,18 +16,13 @@ pub trait Run {
     /// Makes the calls over a stream that answers by the script, those again that the stream failed in. Returns nothing where
     /// an answer is another.
     fn run(&self, alloc: Global, script: &[Answer]) -> io::Result<Option<Came>>;
-
-    /// How often it has to call a stream that gives or takes so many bytes at most, and doesn't fail.
-    fn calls(&self, most: usize) -> usize;
-}
-
-/// How many calls bring so many bytes, if each brings so many at most.
-pub fn calls_of(bytes: usize, most: usize) -> usize {
-    bytes.div_ceil(most.max(1))
 }
 
 /// A fault of the stream.
 pub const FAULT: Answer = Answer::Fail(ErrorKind::Other);
+
+// No run calls its stream so often.
+const CALLS: usize = 500;
 
 // So many bytes at most a call, and this fault behind the first calls.
 fn script(
@@ -42,40 +37,47 @@ fn script(
     Ok(script)
 }
 
-// Whether a run is as it has to be with this fault behind so many calls: if it makes a call behind them, it meets the fault and
-// is told of it once, and if not, it meets none.
-fn is_so<R: Run>(
+// What comes of a run with this fault behind so many calls.
+fn behind<R: Run>(
     alloc: Global,
     run: &R,
     most: usize,
     before: usize,
     fault: Answer,
-) -> io::Result<bool> {
-    let script = script(alloc, most, before, fault)?;
-    let calls = run.calls(most);
-    let met = usize::from(before < calls);
-    Ok(match run.run(alloc, script.as_slice())? {
-        Some(came) => came.failed == met && came.calls == calls.saturating_add(met),
-        None => false,
-    })
+) -> io::Result<Option<Came>> {
+    run.run(alloc, script(alloc, most, before, fault)?.as_slice())
 }
 
-/// Each run in pieces of at most so many bytes, with this fault at each call of the stream in turn, and without. The first that
-/// goes wrong: which, by how many bytes, and behind how many calls.
+// How often a run calls its stream, where a fault at each of these calls is told once and costs one call more.
+fn swept<R: Run>(alloc: Global, run: &R, most: usize, fault: Answer) -> io::Result<Option<usize>> {
+    let Some(Came { failed: 0, calls }) = behind(alloc, run, most, CALLS, fault)? else {
+        return Ok(None);
+    };
+    for before in 0..calls {
+        match behind(alloc, run, most, before, fault)? {
+            Some(came) if came.failed == 1 && came.calls == calls.saturating_add(1) => {}
+            _ => return Ok(None),
+        }
+    }
+    Ok(Some(calls))
+}
+
+/// Each run in pieces of at most so many bytes, with this fault at each call of the stream in turn, and without. Returns how many
+/// faults were met, each of which was told once, or else which run went wrong, and by how many bytes.
 pub fn sweep<R: Run>(
     alloc: Global,
     runs: &[R],
     pieces: &[usize],
     fault: Answer,
-) -> io::Result<Option<[usize; 3]>> {
+) -> io::Result<Result<usize, (usize, usize)>> {
+    let mut met = 0usize;
     for (row, run) in runs.iter().enumerate() {
         for &most in pieces {
-            for before in 0..run.calls(most).saturating_add(1) {
-                if !is_so(alloc, run, most, before, fault)? {
-                    return Ok(Some([row, most, before]));
-                }
+            match swept(alloc, run, most, fault)? {
+                Some(calls) => met = met.saturating_add(calls),
+                None => return Ok(Err((row, most))),
             }
         }
     }
-    Ok(None)
+    Ok(Ok(met))
 }

@@ -1,4 +1,5 @@
-//! The examples that the documentation of the public types shows, and the callers of `uses`, each run once.
+//! The examples that the documentation of the public types shows, and the callers of `uses`, each run once; and which types may
+//! go to another thread.
 //!
 //! A test of an example is that, line for line; `tests/examples.py` sees that they are the same.
 #![tactic(auto)]
@@ -17,6 +18,7 @@ mod lines;
 mod policies;
 #[cfg(test)]
 mod readers;
+pub mod sends;
 #[cfg(test)]
 mod streams;
 #[cfg(test)]

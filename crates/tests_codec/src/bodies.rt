@@ -1,5 +1,4 @@
 //! The reader of bodies in the chunked coding.
-use crate::sweep::{FAULT, Run, sweep};
 use End::{Truncated, Whole, Wrong};
 use buffer_redux::policy::ReaderPolicy;
 use buffer_redux::script::Answer;
@@ -15,33 +14,28 @@ use std::fmt::Debug;
 use std::io;
 use std::io::{ErrorKind, Read};
 use std::test::Fail;
-use tests_common::{Source, debug, first, kind, read_to_end, reader, source};
+use tests_common::sweep::{Came, FAULT, Run, sweep};
+use tests_common::{Source, asked, debug, first, kind, read_to_end, reader, source};
 
-/// How a body ends.
+// How a body ends.
 #[derive(Clone, Copy)]
-pub enum End<'a> {
-    /// Behind it stand these bytes.
+enum End<'a> {
+    // Behind it stand these bytes.
     Whole(&'a [u8]),
-    /// The byte behind so many is wrong.
+    // The byte behind so many is wrong.
     Wrong(Malformed, u64),
-    /// It ends behind so many bytes.
+    // It ends behind so many bytes.
     Truncated(u64),
 }
 
-/// The most bytes of a line and of the trailers, what is given, the payload, and how that ends.
-pub struct Row<'a>(
-    pub usize,
-    pub usize,
-    pub &'a [u8],
-    pub &'a [u8],
-    pub End<'a>,
-);
+// The most bytes of a line and of the trailers, what is given, the payload, and how that ends.
+struct Row<'a>(usize, usize, &'a [u8], &'a [u8], End<'a>);
 
 const NEXT: &[u8] = b"GET / HTTP/1.1\r\n\r\n";
 
-/// Bodies from the documentation of protocols and from the tests of other parsers, each with a request behind it, under the
-/// least limits that take it.
-pub static BODIES: [Row<'static>; 5] = [
+// Bodies from the documentation of protocols and from the tests of other parsers, each with a request behind it, under the
+// least limits that take it.
+static BODIES: [Row<'static>; 5] = [
     Row(
         1,
         0,
@@ -81,8 +75,8 @@ GET / HTTP/1.1\r\n\r\n",
     ),
 ];
 
-/// What isn't a body: the name of what is wrong, behind how many bytes that are right.
-pub static WRONG: [Row<'static>; 10] = [
+// What isn't a body: the name of what is wrong, behind how many bytes that are right.
+static WRONG: [Row<'static>; 10] = [
     Row(9, 9, b"\r\n", b"", Wrong(NoSize, 0)),
     Row(9, 9, b"1\r\na\r\n;x\r\n", b"a", Wrong(NoSize, 6)),
     Row(9, 9, b"4x\r\nWiki", b"", Wrong(BadSize, 1)),
@@ -95,8 +89,8 @@ pub static WRONG: [Row<'static>; 10] = [
     Row(9, 9, b"0\r\nX\r\n", b"", Wrong(BadField, 4)),
 ];
 
-/// The same of carriage returns.
-pub static WRONG_RETURNS: [Row<'static>; 7] = [
+// The same of carriage returns.
+static WRONG_RETURNS: [Row<'static>; 7] = [
     Row(9, 9, b"4\rWiki", b"", Wrong(BareReturn, 2)),
     Row(9, 9, b"4;a\r\r\n", b"", Wrong(BareReturn, 4)),
     Row(9, 9, b"1\r\na\rb", b"a", Wrong(BareReturn, 5)),
@@ -106,8 +100,8 @@ pub static WRONG_RETURNS: [Row<'static>; 7] = [
     Row(9, 9, b"3\r\nWik\n", b"Wik", Wrong(ChunkTooLong, 6)),
 ];
 
-/// At each limit and one past it.
-pub static LIMITS: [Row<'static>; 9] = [
+// At each limit and one past it.
+static LIMITS: [Row<'static>; 9] = [
     Row(20, 0, b"3fffffffffffffff\r\n", b"", Truncated(18)),
     Row(20, 0, b"4000000000000000\r\n", b"", Wrong(SizeTooLarge, 15)),
     Row(20, 0, b"03FFFFFFFFFFFFFFF\r\n", b"", Truncated(19)),
@@ -125,8 +119,8 @@ pub static LIMITS: [Row<'static>; 9] = [
     ),
 ];
 
-/// Cut off in each part.
-pub static CUT: [Row<'static>; 8] = [
+// Cut off in each part.
+static CUT: [Row<'static>; 8] = [
     Row(9, 9, b"", b"", Truncated(0)),
     Row(9, 9, b"4", b"", Truncated(1)),
     Row(9, 9, b"4;a\r", b"", Truncated(4)),
@@ -137,8 +131,8 @@ pub static CUT: [Row<'static>; 8] = [
     Row(9, 9, b"0\r\nX:\r\n\r", b"", Truncated(8)),
 ];
 
-/// A reader of a body over a script.
-pub type Body = ChunkedReader<Source>;
+// A reader of a body over a script.
+type Body = ChunkedReader<Source>;
 
 /// A reader of a body under these limits. Neither it nor any call below promises anything.
 pub fn over<R: Tell, P>(
@@ -159,8 +153,8 @@ pub fn unbegun(alloc: Global) -> io::Result<Body> {
     body(alloc, &Row(9, 9, b"", b"", Truncated(0)), &[])
 }
 
-/// One read of payload.
-pub fn read_payload<R: TellRead, P: ReaderPolicy>(
+// One read of payload.
+fn read_payload<R: TellRead, P: ReaderPolicy>(
     body: &mut ChunkedReader<R, P>,
     out: &mut [u8],
 ) -> Result<usize, ChunkedError> {
@@ -197,12 +191,8 @@ fn payload_of<R: TellRead, P: ReaderPolicy>(
     Ok((None, failed))
 }
 
-/// Whether a body ended so.
-pub fn ends<R: Tell, P>(
-    body: &ChunkedReader<R, P>,
-    why: &Option<ChunkedError>,
-    end: End<'_>,
-) -> bool {
+// Whether a body ended so.
+fn ends<R: Tell, P>(body: &ChunkedReader<R, P>, why: &Option<ChunkedError>, end: End<'_>) -> bool {
     match (why, end) {
         (None, Whole(_)) => is_done(body),
         (Some(ChunkedError::NotChunked(why, right)), Wrong(name, count)) => {
@@ -228,7 +218,7 @@ fn comes<R: TellRead, P: ReaderPolicy>(
     Ok(right.then_some(failed))
 }
 
-// Whether these bytes are left in a reader, which is read again where the stream failed.
+// Whether these bytes are left in a reader, which is read again where the stream failed, and how often it was.
 fn leaves<R: Read>(alloc: Global, reader: &mut R, behind: &[u8]) -> io::Result<Option<usize>> {
     let mut rest = Vec::new(alloc);
     let mut failed = 0;
@@ -239,59 +229,60 @@ fn leaves<R: Read>(alloc: Global, reader: &mut R, behind: &[u8]) -> io::Result<O
     Ok((rest.as_slice() == behind).then_some(failed))
 }
 
-/// Whether they are left behind a body that is whole.
-pub fn goes_before<R: TellRead + Drop, P: ReaderPolicy + Drop>(
-    alloc: Global,
-    body: ChunkedReader<R, P>,
-    end: End<'_>,
-) -> io::Result<Option<usize>> {
-    match end {
-        Whole(behind) => leaves(alloc, &mut into_inner(body), behind),
-        _ => Ok(Some(0)),
-    }
+// Whether they are left behind a body that is whole. How often that failed, and how often the stream was asked in all.
+fn goes_before(alloc: Global, body: Body, end: End<'_>) -> io::Result<Option<Came>> {
+    let mut reader = into_inner(body);
+    let failed = match end {
+        Whole(behind) => leaves(alloc, &mut reader, behind)?,
+        _ => Some(0),
+    };
+    let calls = asked(&reader).len();
+    Ok(failed.map(|failed| Came { failed, calls }))
 }
 
-/// How often two calls failed.
-pub fn sum(one: Option<usize>, other: Option<usize>) -> Option<usize> {
-    Some(one?.saturating_add(other?))
-}
-
-// Whatever ends a body stays so.
-fn stays<R: TellRead, P: ReaderPolicy>(
-    alloc: Global,
-    body: &mut ChunkedReader<R, P>,
-    row: &Row<'_>,
-) -> Result<Option<usize>, AllocError> {
+// Whatever ends a body stays so: how often the stream failed.
+fn stays(alloc: Global, body: &mut Body, row: &Row<'_>) -> Result<Option<usize>, AllocError> {
     let once = comes(alloc, body, row.3, row.4)?;
     let again = comes(alloc, body, b"", row.4)?;
-    Ok(sum(once, again))
-}
-
-fn plays<R: TellRead + Drop, P: ReaderPolicy + Drop>(
-    alloc: Global,
-    mut body: ChunkedReader<R, P>,
-    row: &Row<'_>,
-) -> io::Result<Option<usize>> {
-    let failed = stays(alloc, &mut body, row)?;
-    Ok(sum(failed, goes_before(alloc, body, row.4)?))
+    Ok(match (once, again) {
+        (Some(one), Some(other)) => Some(one.saturating_add(other)),
+        _ => None,
+    })
 }
 
 impl Run for Row<'_> {
-    fn run(&self, alloc: Global, script: &[Answer]) -> io::Result<Option<usize>> {
-        plays(alloc, body(alloc, self, script)?, self)
+    fn run(&self, alloc: Global, script: &[Answer]) -> io::Result<Option<Came>> {
+        let mut body = body(alloc, self, script)?;
+        let failed = stays(alloc, &mut body, self)?;
+        let came = goes_before(alloc, body, self.4)?;
+        Ok(match (failed, came) {
+            (Some(more), Some(Came { failed, calls })) => Some(Came {
+                failed: failed.saturating_add(more),
+                calls,
+            }),
+            _ => None,
+        })
     }
 }
 
 #[test]
 fn reads_bodies(rt: HostRuntime) -> Result<(), Fail> {
-    sweep(&rt, rt.alloc(), &BODIES, &[usize::MAX, 3, 1], FAULT)
+    let met = sweep(rt.alloc(), &BODIES, &[1], FAULT)?;
+    assert!(rt; met == Ok(408), "{met:?}");
+    assert!(rt; sweep(rt.alloc(), &BODIES, &[usize::MAX, 3], FAULT)?.is_ok());
+    Ok(())
 }
 
 #[test]
 fn tells_how_bodies_end(rt: HostRuntime) -> Result<(), Fail> {
-    for rows in [WRONG.as_slice(), &WRONG_RETURNS, &LIMITS, &CUT] {
-        sweep(&rt, rt.alloc(), rows, &[usize::MAX, 1], FAULT)?;
+    let mut met = [Ok(0); 4];
+    for (met, rows) in met
+        .iter_mut()
+        .zip([WRONG.as_slice(), &WRONG_RETURNS, &LIMITS, &CUT])
+    {
+        *met = sweep(rt.alloc(), rows, &[1], FAULT)?;
     }
+    assert!(rt; met == [Ok(36), Ok(40), Ok(104), Ok(55)], "{met:?}");
     Ok(())
 }
 

@@ -1,6 +1,7 @@
 //! Lines.
-use crate::sweep::Want::{Asked, End, Next, Offered, Rest, Skipped, TooLong, Trimmed};
-use crate::sweep::{Asks, Run, Scripted, Want, are_so, sweep, walk};
+use crate::asks::Want::{Asked, End, Next, Offered, Rest, Skipped, Trimmed, Wrong};
+use crate::asks::Why::Long;
+use crate::asks::{Asks, Want, meets, walk};
 use buffer_redux::script::Answer;
 use buffer_redux::tell::TellRead;
 use buffer_redux::{GrowError, MakeError};
@@ -9,6 +10,7 @@ use std::alloc::{AllocError, Global};
 use std::io;
 use std::io::ErrorKind;
 use std::test::Fail;
+use tests_common::sweep::{Came, Run, sweep};
 use tests_common::{Source, kind, source};
 
 // The greatest length of a line, the bytes of the stream, and call after call.
@@ -23,15 +25,19 @@ static ROWS: [Row<'static>; 8] = [
         b"a\n\n\nbc",
         &[Next(b"a"), Next(b""), Next(b""), Next(b"bc"), End, End],
     ),
-    Row(3, b"abc\nabcd", &[Next(b"abc"), TooLong(3), TooLong(3)]),
-    Row(0, b"\n\na", &[Next(b""), Next(b""), TooLong(0)]),
+    Row(
+        3,
+        b"abc\nabcd",
+        &[Next(b"abc"), Wrong(Long(3)), Wrong(Long(3))],
+    ),
+    Row(0, b"\n\na", &[Next(b""), Next(b""), Wrong(Long(0))]),
     // Nothing is decoded.
     Row(3, b"\xff\0\n\xc3", &[Next(b"\xff\0"), Next(b"\xc3"), End]),
     // A carriage return is a byte of the line, also where the length counts.
     Row(
         3,
-        b"\r\nab\r\nabc\r\n",
-        &[Next(b"\r"), Next(b"ab\r"), TooLong(3)],
+        b"\r\nab\r\nabc\r",
+        &[Next(b"\r"), Next(b"ab\r"), Wrong(Long(3))],
     ),
     Row(
         3,
@@ -59,9 +65,9 @@ static SKIPPED: [Row<'static>; 3] = [
         3,
         b"abcd\nabcdefghijklmnopqrst\nab",
         &[
-            TooLong(3),
+            Wrong(Long(3)),
             Skipped(5),
-            TooLong(3),
+            Wrong(Long(3)),
             Skipped(21),
             Next(b"ab"),
             End,
@@ -96,15 +102,15 @@ pub fn lines_over(
     Ok(reader(alloc, capacity, max, source(alloc, bytes, script)?)?)
 }
 
-pub fn next<R: TellRead>(lines: &mut LineReader<R>) -> Result<Option<&[u8]>, LineError> {
+fn next<R: TellRead>(lines: &mut LineReader<R>) -> Result<Option<&[u8]>, LineError> {
     lines.next()
 }
 
-pub fn next_trimmed<R: TellRead>(lines: &mut LineReader<R>) -> Result<Option<&[u8]>, LineError> {
+fn next_trimmed<R: TellRead>(lines: &mut LineReader<R>) -> Result<Option<&[u8]>, LineError> {
     lines.next_trimmed()
 }
 
-pub fn skip_line<R: TellRead>(lines: &mut LineReader<R>) -> Result<u64, ErrorKind> {
+fn skip_line<R: TellRead>(lines: &mut LineReader<R>) -> Result<u64, ErrorKind> {
     kind(lines.skip_line())
 }
 
@@ -112,20 +118,21 @@ fn rest<R: TellRead>(lines: &LineReader<R>) -> &[u8] {
     lines.rest()
 }
 
-pub fn asked(lines: &Lines) -> &[usize] {
-    lines.get_ref().get_ref().offers()
-}
-
 impl Asks for Lines {
-    fn meets(&mut self, want: Want<'_>) -> Option<bool> {
+    fn answers(&mut self, want: Want<'_>) -> Option<bool> {
         match want {
-            Rest(bytes) => Some(rest(self) == bytes),
-            Asked(count) => Some(asked(self).len() == count),
-            Offered(count) => Some(asked(self).first() == Some(&count)),
             Skipped(count) => Some(skip_line(self).ok()? == count),
             Trimmed(_) => is_such(next_trimmed(self), want),
             _ => is_such(next(self), want),
         }
+    }
+
+    fn left(&self) -> &[u8] {
+        rest(self)
+    }
+
+    fn asked(&self) -> &[usize] {
+        self.get_ref().get_ref().offers()
     }
 }
 
@@ -134,14 +141,14 @@ fn is_such(answer: Result<Option<&[u8]>, LineError>, want: Want<'_>) -> Option<b
     match (answer, want) {
         (Ok(Some(line)), Next(bytes) | Trimmed(bytes)) => Some(line == bytes),
         (Ok(None), End) => Some(true),
-        (Err(LineError::TooLong(max)), TooLong(most)) => Some(max == most),
+        (Err(LineError::TooLong(max)), Wrong(Long(most))) => Some(max == most),
         (Err(LineError::Io(_)), _) => None,
         _ => Some(false),
     }
 }
 
 impl Run for Row<'_> {
-    fn run(&self, alloc: Global, script: &[Answer]) -> io::Result<Option<usize>> {
+    fn run(&self, alloc: Global, script: &[Answer]) -> io::Result<Option<Came>> {
         let lines = lines_over(alloc, Some(0), self.0, self.1, script)?;
         Ok(walk(lines, self.2))
     }
@@ -152,7 +159,8 @@ static PIECES: [usize; 4] = [usize::MAX, 3, 2, 1];
 #[test]
 fn reads_lines(rt: HostRuntime) -> Result<(), Fail> {
     for fault in [Answer::Fail(ErrorKind::TimedOut), Answer::Interrupt(1)] {
-        sweep(&rt, rt.alloc(), &ROWS, &PIECES, fault)?;
+        let met = sweep(rt.alloc(), &ROWS, &PIECES, fault)?;
+        assert!(rt; met == Ok(131), "{met:?}");
     }
     Ok(())
 }
@@ -160,11 +168,17 @@ fn reads_lines(rt: HostRuntime) -> Result<(), Fail> {
 // What came before a fault is gone where a line is dropped: so without one.
 #[test]
 fn skips_lines(rt: HostRuntime) -> Result<(), Fail> {
-    sweep(&rt, rt.alloc(), &SKIPPED, &PIECES, Answer::Interrupt(0))
+    for most in PIECES {
+        for row in &SKIPPED {
+            let came = row.run(rt.alloc(), &[Answer::ServeEach(most)])?;
+            assert!(rt; matches!(came, Some(Came { failed: 0, .. })));
+        }
+    }
+    Ok(())
 }
 
 // A fault in a line that is dropped; and a terminal that ends after three bytes of a line, and goes on.
-static SCRIPTED: [Scripted<Row<'static>>; 4] = [
+static SCRIPTED: [(Row<'static>, &[Answer], usize); 4] = [
     (
         Row(
             3,
@@ -232,7 +246,10 @@ const TERMINAL: [Answer; 4] = [
 
 #[test]
 fn reads_as_the_stream_gives(rt: HostRuntime) -> Result<(), Fail> {
-    assert!(rt; are_so(rt.alloc(), &SCRIPTED)?);
+    for (row, script, times) in &SCRIPTED {
+        let came = row.run(rt.alloc(), script)?;
+        assert!(rt; matches!(came, Some(Came { failed, .. }) if failed == *times));
+    }
     Ok(())
 }
 
@@ -249,7 +266,7 @@ static CAPACITIES: [(Option<usize>, usize, usize); 4] = [
 fn takes_the_capacity(rt: HostRuntime) -> Result<(), Fail> {
     for &(capacity, max, count) in &CAPACITIES {
         let lines = lines_over(rt.alloc(), capacity, max, b"", &[])?;
-        assert!(rt; walk(lines, &[End, Asked(1), Offered(count)]) == Some(0));
+        assert!(rt; walk(lines, &[End, Asked(1), Offered(count)]).is_some());
     }
     Ok(())
 }
@@ -283,7 +300,7 @@ fn refuses_what_is_too_large(rt: HostRuntime) -> Result<(), Fail> {
 
 // Whether this line comes first.
 fn begins<A: Asks>(lines: &mut A, first: &[u8]) -> bool {
-    lines.meets(Next(first)) == Some(true)
+    meets(lines, Next(first)) == Some(true)
 }
 
 // The stream that a reader is over, and whether these bytes are in the buffer that is taken out of it.

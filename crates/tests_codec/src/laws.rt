@@ -1,15 +1,12 @@
-//! The laws, each called once.
+//! The laws of lists of calls, each called once.
 ghost use Rattle.std.specs.Prelude.{map, IsTrue};
 ghost use Rattle.std.specs.List.{All};
 ghost use Rattle.line_reader.specs.Lines.{FitsLine};
 
 use crate::frames::{frames_into, frames_over};
 use crate::lines::lines_over;
-use crate::{bodies, chunks};
-use buffer_redux::policy::ReaderPolicy;
 use buffer_redux::script::Answer;
 use buffer_redux::tell::{TellRead, TellWrite};
-use chunked::{ChunkedReader, ChunkedWriter};
 use frame_reader::{FrameError, FrameReader, FrameWriter, WriteFrameError};
 use line_reader::laws::Ask;
 use line_reader::{LineError, LineReader};
@@ -26,41 +23,6 @@ fn some(alloc: Global) -> Result<[Vec<u8>; 3], AllocError> {
     Ok([first, Vec::new(alloc), last])
 }
 
-// Those that are no call say what stands, and none of these promises anything.
-fn of_frames<R: TellRead>(reader: &FrameReader<R>) {
-    frame_reader::laws::one_frame();
-    frame_reader::laws::one_reading(3);
-    frame_reader::laws::since_new(reader);
-    frame_reader::laws::next_known(reader);
-}
-
-fn of_written_frames<W: TellWrite>(writer: &FrameWriter<W>) {
-    frame_reader::laws::written_since_new(writer);
-}
-
-fn of_lines<R: TellRead>(reader: &LineReader<R>) {
-    line_reader::laws::one_reading();
-    line_reader::laws::lines_of_text();
-    line_reader::laws::since_new(reader);
-    line_reader::laws::whole_lines(reader);
-    line_reader::laws::asks_nobody(reader);
-    line_reader::laws::next_known(reader);
-    line_reader::laws::known_lines(reader);
-}
-
-fn of_bodies<R: TellRead, P: ReaderPolicy, W: TellWrite>(
-    reader: &ChunkedReader<R, P>,
-    writer: &ChunkedWriter<W>,
-) {
-    chunked::laws::one_body();
-    chunked::laws::one_list_of_fields();
-    chunked::laws::one_name();
-    chunked::laws::since_new(reader);
-    chunked::laws::taken_begins(reader);
-    chunked::laws::written_body(writer);
-    chunked::laws::round_trip(writer, reader);
-}
-
 fn frames_back(
     alloc: Global,
     payloads: &[Vec<u8>],
@@ -72,7 +34,6 @@ fn frames_back(
 fn play_reads<R: TellRead>(alloc: Global, reader: &mut FrameReader<R>) -> io::Result<String> {
     let mut answers = Vec::new(alloc);
     frame_reader::laws::play_next(alloc, reader, 3, &mut answers)?;
-    of_frames(reader);
     Ok(debug(alloc, &answers)?)
 }
 
@@ -83,7 +44,6 @@ fn play_writes<W: TellWrite>(
 ) -> io::Result<String> {
     let mut answers = Vec::new(alloc);
     frame_reader::laws::play_write(writer, payloads, &mut answers)?;
-    of_written_frames(writer);
     Ok(debug(alloc, &answers)?)
 }
 
@@ -162,7 +122,6 @@ fn lines_back(alloc: Global, lines: &[Vec<u8>]) -> io::Result<Option<Vec<Vec<u8>
 fn play_lines<R: TellRead>(alloc: Global, reader: &mut LineReader<R>) -> io::Result<String> {
     let mut answers = Vec::new(alloc);
     line_reader::laws::play_next(alloc, reader, 3, &mut answers)?;
-    of_lines(reader);
     Ok(debug(alloc, &answers)?)
 }
 
@@ -201,18 +160,4 @@ fn lines_are_played(rt: HostRuntime) -> Result<(), Fail> {
     let text = "[SkipLine(Ok(5)), NextTrimmed(Ok(Some([98]))), Next(Ok(None))]";
     assert!(rt; others.as_str() == text, "{others}");
     Ok(())
-}
-
-fn of_some_bodies<R: TellRead, P: ReaderPolicy>(
-    alloc: Global,
-    reader: &ChunkedReader<R, P>,
-) -> io::Result<()> {
-    of_bodies(reader, &chunks::body(alloc, 21, &[])?);
-    Ok(())
-}
-
-#[test]
-fn bodies_have_laws(rt: HostRuntime) -> Result<(), Fail> {
-    let reader = bodies::unbegun(rt.alloc())?;
-    Ok(of_some_bodies(rt.alloc(), &reader)?)
 }

@@ -1,6 +1,7 @@
 //! Frames, read and written.
-use crate::sweep::Want::{Asked, End, Next, Offered, Rest, TooLong, Truncated};
-use crate::sweep::{Asks, FAULT, Run, Scripted, Want, are_so, sweep, walk};
+use crate::asks::Want::{Asked, End, Next, Offered, Rest, Wrong};
+use crate::asks::Why::{Long, Truncated};
+use crate::asks::{Asks, Want, walk};
 use buffer_redux::MakeError;
 use buffer_redux::script::Answer;
 use buffer_redux::tell::{TellRead, TellWrite};
@@ -9,6 +10,7 @@ use std::alloc::{AllocError, Global};
 use std::io;
 use std::io::ErrorKind;
 use std::test::Fail;
+use tests_common::sweep::{Came, FAULT, Run, sweep};
 use tests_common::{Source, Target, source, target};
 
 // The greatest length of a payload, the bytes of the stream, and call after call.
@@ -19,21 +21,26 @@ static READS: [Reads<'static>; 9] = [
     Reads(
         3,
         b"\x00\x03abc\x00\x00\x00\x02d",
-        &[Next(b"abc"), Next(b""), Truncated(3), Truncated(3)],
+        &[
+            Next(b"abc"),
+            Next(b""),
+            Wrong(Truncated(3)),
+            Wrong(Truncated(3)),
+        ],
     ),
-    Reads(3, b"\x00\x04", &[TooLong(4), TooLong(4)]),
+    Reads(3, b"\x00\x04", &[Wrong(Long(4)), Wrong(Long(4))]),
     Reads(3, b"", &[End, End]),
-    Reads(3, b"\x05", &[Truncated(1), Rest(b"\x05")]),
+    Reads(3, b"\x05", &[Wrong(Truncated(1)), Rest(b"\x05")]),
     Reads(
         0,
         b"\x00\x00\x00\x00\x00\x01",
-        &[Next(b""), Next(b""), TooLong(1)],
+        &[Next(b""), Next(b""), Wrong(Long(1))],
     ),
     Reads(3, b"\x00\x01a", &[Next(b"a"), End]),
     Reads(3, b"\x00\x01a\x00\x01b", &[Next(b"a"), Next(b"b"), End]),
     // The higher byte of a length comes first: these are 256 bytes, and more than 255.
-    Reads(255, b"\x01\x00", &[TooLong(256)]),
-    Reads(256, b"\x01\x00a", &[Truncated(3)]),
+    Reads(255, b"\x01\x00", &[Wrong(Long(256))]),
+    Reads(256, b"\x01\x00a", &[Wrong(Truncated(3))]),
 ];
 
 type Frames = FrameReader<Source>;
@@ -70,18 +77,17 @@ fn rest<R: TellRead>(frames: &FrameReader<R>) -> &[u8] {
     frames.rest()
 }
 
-fn asked(frames: &Frames) -> &[usize] {
-    frames.get_ref().get_ref().offers()
-}
-
 impl Asks for Frames {
-    fn meets(&mut self, want: Want<'_>) -> Option<bool> {
-        match want {
-            Rest(bytes) => Some(rest(self) == bytes),
-            Asked(count) => Some(asked(self).len() == count),
-            Offered(count) => Some(asked(self).first() == Some(&count)),
-            _ => is_such(next(self), want),
-        }
+    fn answers(&mut self, want: Want<'_>) -> Option<bool> {
+        is_such(next(self), want)
+    }
+
+    fn left(&self) -> &[u8] {
+        rest(self)
+    }
+
+    fn asked(&self) -> &[usize] {
+        self.get_ref().get_ref().offers()
     }
 }
 
@@ -90,15 +96,15 @@ fn is_such(answer: Result<Option<&[u8]>, FrameError>, want: Want<'_>) -> Option<
     match (answer, want) {
         (Ok(Some(payload)), Next(bytes)) => Some(payload == bytes),
         (Ok(None), End) => Some(true),
-        (Err(FrameError::Truncated(have)), Truncated(count)) => Some(have == count),
-        (Err(FrameError::TooLong(len)), TooLong(count)) => Some(usize::from(len) == count),
+        (Err(FrameError::Truncated(have)), Wrong(Truncated(count))) => Some(have == count),
+        (Err(FrameError::TooLong(len)), Wrong(Long(count))) => Some(usize::from(len) == count),
         (Err(FrameError::Io(e)), _) => (e.kind() != ErrorKind::Other).then_some(false),
         _ => Some(false),
     }
 }
 
 impl Run for Reads<'_> {
-    fn run(&self, alloc: Global, script: &[Answer]) -> io::Result<Option<usize>> {
+    fn run(&self, alloc: Global, script: &[Answer]) -> io::Result<Option<Came>> {
         let frames = frames_over(alloc, Some(0), self.0, self.1, script)?;
         Ok(walk(frames, self.2))
     }
@@ -106,61 +112,8 @@ impl Run for Reads<'_> {
 
 #[test]
 fn reads_frames(rt: HostRuntime) -> Result<(), Fail> {
-    sweep(&rt, rt.alloc(), &READS, &[usize::MAX, 2, 1], FAULT)
-}
-
-// The same calls, and before each a look at what is buffered.
-#[derive(Drop)]
-struct Looks<'a>(&'a Reads<'a>);
-
-#[derive(Drop)]
-struct Looking(Frames);
-
-// Whether the next frame is lent, and nothing where it isn't buffered whole.
-fn lends(frames: &mut Frames, want: Want<'_>) -> Option<bool> {
-    let payload = frames.next_buffered()?;
-    Some(matches!(want, Next(bytes) if payload == bytes))
-}
-
-// The frame is found just where it is buffered whole, and the stream isn't asked; a length that is too large is left to `next`.
-impl Asks for Looking {
-    fn meets(&mut self, want: Want<'_>) -> Option<bool> {
-        let frames = &mut self.0;
-        if matches!(want, Rest(_)) {
-            return frames.meets(want);
-        }
-        let (has, before) = (frames.has_frame(), asked(frames).len());
-        let lent = lends(frames, want);
-        if asked(frames).len() != before {
-            return Some(false);
-        }
-        match lent {
-            Some(met) => Some(met && has),
-            None if has && !matches!(want, TooLong(_)) => Some(false),
-            None => frames.meets(want),
-        }
-    }
-}
-
-impl Run for Looks<'_> {
-    fn run(&self, alloc: Global, script: &[Answer]) -> io::Result<Option<usize>> {
-        let Reads(max, bytes, wants) = self.0;
-        let frames = frames_over(alloc, Some(0), *max, bytes, script)?;
-        Ok(walk(Looking(frames), wants))
-    }
-}
-
-#[test]
-fn reads_frames_that_are_buffered(rt: HostRuntime) -> Result<(), Fail> {
-    for reads in &READS {
-        sweep(
-            &rt,
-            rt.alloc(),
-            &[Looks(reads)],
-            &[usize::MAX, 7, 3, 2, 1],
-            FAULT,
-        )?;
-    }
+    let met = sweep(rt.alloc(), &READS, &[usize::MAX, 2, 1], FAULT)?;
+    assert!(rt; met == Ok(83), "{met:?}");
     Ok(())
 }
 
@@ -171,7 +124,7 @@ fn longest(alloc: Global) -> Result<Vec<u8>, AllocError> {
     Ok(bytes)
 }
 
-fn takes_longest(alloc: Global, most: usize) -> io::Result<Option<usize>> {
+fn takes_longest(alloc: Global, most: usize) -> io::Result<Option<Came>> {
     let bytes = longest(alloc)?;
     let payload = bytes.get(2..).unwrap_or_default();
     let frame = Reads(65535, bytes.as_slice(), &[Next(payload), End]);
@@ -181,32 +134,34 @@ fn takes_longest(alloc: Global, most: usize) -> io::Result<Option<usize>> {
 #[test]
 fn takes_the_longest(rt: HostRuntime) -> Result<(), Fail> {
     for most in [usize::MAX, 1] {
-        assert!(rt; takes_longest(rt.alloc(), most)? == Some(0));
+        assert!(rt;
+            matches!(
+                takes_longest(rt.alloc(), most)?,
+                Some(Came { failed: 0, .. })
+            )
+        );
     }
     Ok(())
 }
 
-// The stream fails behind the first byte of a frame; and two frames come in one read.
-static SCRIPTED: [Scripted<Reads<'static>>; 2] = [
-    (
-        Reads(3, b"\x00\x01a", &[Next(b"a"), End]),
-        &[Answer::Serve(1), Answer::Fail(ErrorKind::Other)],
-        1,
-    ),
-    (
-        Reads(
-            3,
-            b"\x00\x01a\x00\x01b",
-            &[Next(b"a"), Rest(b"\x00\x01b"), Next(b"b"), Asked(1)],
-        ),
-        &[],
-        0,
-    ),
-];
+// Two frames come in one read.
+static AT_ONCE: Reads<'static> = Reads(
+    3,
+    b"\x00\x01a\x00\x01b",
+    &[Next(b"a"), Rest(b"\x00\x01b"), Next(b"b"), Asked(1)],
+);
 
 #[test]
-fn reads_as_the_stream_gives(rt: HostRuntime) -> Result<(), Fail> {
-    assert!(rt; are_so(rt.alloc(), &SCRIPTED)?);
+fn reads_two_at_once(rt: HostRuntime) -> Result<(), Fail> {
+    assert!(rt;
+        matches!(
+            AT_ONCE.run(rt.alloc(), &[])?,
+            Some(Came {
+                failed: 0,
+                calls: 1
+            })
+        )
+    );
     Ok(())
 }
 
@@ -268,7 +223,11 @@ fn taken(frames: &Sends) -> &[u8] {
     frames.get_ref().get_ref().taken()
 }
 
-// Writes a frame, again where the stream failed, as `run` of [`Run`].
+fn offered(frames: &Sends) -> usize {
+    frames.get_ref().get_ref().offers().len()
+}
+
+// Writes a frame, again where the stream failed.
 fn puts_again<W: TellWrite>(
     frames: &mut FrameWriter<W>,
     payload: &[u8],
@@ -303,20 +262,22 @@ fn puts_each<W: TellWrite>(
 
 // No frame is torn.
 impl Run for Writes<'_> {
-    fn run(&self, alloc: Global, script: &[Answer]) -> io::Result<Option<usize>> {
+    fn run(&self, alloc: Global, script: &[Answer]) -> io::Result<Option<Came>> {
         let mut frames = frames_into(alloc, Some(0), self.0, script)?;
         let failed = puts_each(&mut frames, self.1, self.0);
-        Ok(if taken(&frames) == self.2 {
-            failed
-        } else {
-            None
+        let calls = offered(&frames);
+        Ok(match failed {
+            Some(failed) if taken(&frames) == self.2 => Some(Came { failed, calls }),
+            _ => None,
         })
     }
 }
 
 #[test]
 fn writes_frames(rt: HostRuntime) -> Result<(), Fail> {
-    sweep(&rt, rt.alloc(), &WRITES, &[usize::MAX, 2, 1], FAULT)
+    let met = sweep(rt.alloc(), &WRITES, &[usize::MAX, 2, 1], FAULT)?;
+    assert!(rt; met == Ok(48), "{met:?}");
+    Ok(())
 }
 
 // The stream inside took so many bytes, or failed so, and the writer is back.
@@ -363,7 +324,7 @@ fn capacity_of(alloc: Global, capacity: Option<usize>, max: u16) -> io::Result<u
 fn takes_the_capacity(rt: HostRuntime) -> Result<(), Fail> {
     for &(capacity, max, count) in &CAPACITIES {
         let frames = frames_over(rt.alloc(), capacity, max, b"", &[])?;
-        assert!(rt; walk(frames, &[End, Offered(count)]) == Some(0));
+        assert!(rt; walk(frames, &[End, Offered(count)]).is_some());
         assert!(rt; capacity_of(rt.alloc(), capacity, max)? == count);
     }
     Ok(())

@@ -1,7 +1,5 @@
 //! That each type may go to another thread, or be shared by threads, where what is in it may. A function here is proved from
 //! the bounds that it has, and none is run.
-#![tactic(auto)]
-
 use buffer_redux::policy::{
     FlushAtLeast, FlushExact, FlushOn, FlushOnNewline, MinBuffered, StdPolicy,
 };
