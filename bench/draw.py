@@ -1,7 +1,8 @@
 """Draws docs/speed.svg from the tables of docs/SPEED.md: python3 bench/draw.py
 
-Each table whose head begins with 'Instructions a byte' gives a group of bars for each row, and a bar for each of its numbers.
-The axis goes by tens, since the rows differ by a thousand times. Who changes a number there draws again.
+A bar is how much of Rust's instructions ours takes, by the numbers of one row: to the left of the line less, to the right more.
+Columns that name Rust go with ours in order; where there is but one, the first of ours is the bar, and the next a mark in it.
+Those of the kit's std are left out. The axis goes by doublings. Who changes a number there draws again.
 """
 
 import math
@@ -9,70 +10,95 @@ import pathlib
 from xml.sax.saxutils import escape
 
 DOCS = pathlib.Path(__file__).resolve().parent.parent / "docs"
-HEAD = "Instructions a byte"
-COLOURS = {"plain": "#1f6f8b", "ring": "#7fb7c9", "the kit's std": "#c9a227", "Rust's std": "#8d8d8d"}
-OTHER = "#a05a7a"
-NAMES, WIDTH, BAR, GAP, TOP = 270, 880, 11, 12, 64
-LEAST, MOST = 0.1, 200
+LESS, MORE = "#1f6f8b", "#c9733a"
+NAMES, WIDTH, BAR, TOP = 290, 840, 13, 48
+LEAST, MOST = 1 / 8, 32
 
 
-def rows_of(page):
-    """The rows of the tables: a name, and the numbers that it has, by the column's name."""
-    found, columns = [], None
+def cells_of(line):
+    return [it.strip() for it in line.strip().strip("|").split("|")]
+
+
+def number(cell):
+    return float(cell) if cell.replace(".", "", 1).isdigit() else None
+
+
+def bars_of(columns):
+    """For each bar a name, the columns of ours and the one of Rust, by their places."""
+    rust = [at for at, name in enumerate(columns) if at and "Rust" in name]
+    ours = [at for at, name in enumerate(columns) if at and at not in rust and not name.startswith("the kit's")]
+    if len(rust) == 1:
+        return [("", ours, rust[0])]
+    return [(f": {columns[our]}", [our], other) for our, other in zip(ours, rust)]
+
+
+def groups_of(page):
+    """Of each table that has a column of Rust the heading above it, and each bar's name and ratios."""
+    found, heading, columns = [], "", None
     for line in page.splitlines():
-        cells = [it.strip() for it in line.strip("|").split("|")] if line.startswith("|") else []
-        if not cells:
+        if line.startswith("## "):
+            heading = line[3:]
+        if not line.startswith("|"):
             columns = None
-        elif cells[0] == HEAD:
-            columns = cells[1:]
-        elif columns and not cells[0].startswith("-"):
-            numbers = {name: float(it) for name, it in zip(columns, cells[1:]) if it.replace(".", "", 1).isdigit()}
-            found.append((cells[0].replace("`", ""), numbers))
+        elif columns is None:
+            columns = cells_of(line)
+            rows, wanted = [], bars_of(columns)
+            if wanted:
+                found.append((f"{heading}: {columns[0][0].lower()}{columns[0][1:]}", rows))
+        elif not line.startswith("|-"):
+            row = cells_of(line)
+            for name, ours, other in wanted:
+                below = number(row[other])
+                ratios = [number(row[at]) / below for at in ours if below and number(row[at])]
+                if ratios:
+                    rows.append((row[0] + name, ratios))
     return found
 
 
-def place(number):
-    """How far to the right a number stands."""
-    share = math.log(max(number, LEAST) / LEAST) / math.log(MOST / LEAST)
-    return NAMES + share * (WIDTH - NAMES - 60)
+def place(ratio):
+    """How far to the right a ratio stands."""
+    share = math.log(min(max(ratio, LEAST), MOST) / LEAST) / math.log(MOST / LEAST)
+    return NAMES + share * (WIDTH - NAMES - 40)
 
 
-def text(x, y, words, size=12, anchor="start"):
-    return f'<text x="{x:.1f}" y="{y:.1f}" font-size="{size}" text-anchor="{anchor}">{escape(words)}</text>'
+def text(x, y, words, size=11, anchor="start", weight="normal"):
+    style = f'font-size="{size}" text-anchor="{anchor}" font-weight="{weight}"'
+    return f'<text x="{x:.1f}" y="{y:.1f}" {style}>{escape(words)}</text>'
 
 
-def bar(x, y, width, height, colour):
+def block(x, y, width, height, colour):
     return f'<rect x="{x:.1f}" y="{y}" width="{width:.1f}" height="{height}" fill="{colour}"/>'
 
 
-def drawing(rows):
+def drawing(groups):
     parts, y = [], TOP
-    for name, numbers in rows:
-        middle = y + len(numbers) * BAR / 2
-        parts.append(text(NAMES - 10, middle + 4, name, anchor="end"))
-        for column, number in numbers.items():
-            end = place(number)
-            parts.append(bar(NAMES, y, end - NAMES, BAR - 1, COLOURS.get(column, OTHER)))
-            parts.append(text(end + 4, y + BAR - 2, f"{number:g}", size=9))
+    for head, rows in groups:
+        parts.append(text(12, y + BAR, head, weight="bold"))
+        y += BAR + 6
+        for name, (ratio, *others) in rows:
+            first, last = sorted((place(1), place(ratio)))
+            parts.append(text(NAMES - 12, y + BAR - 3, name.replace("`", ""), anchor="end"))
+            parts.append(block(first, y, last - first, BAR - 2, LESS if ratio < 1 else MORE))
+            parts += [block(place(it) - 1, y, 2, BAR - 2, "#222222") for it in others]
+            ends = [first, last, *map(place, others)]
+            at, anchor = (min(ends) - 4, "end") if ratio < 1 else (max(ends) + 4, "start")
+            parts.append(text(at, y + BAR - 3, f"{ratio:.2f}", 9, anchor))
             y += BAR
-        y += GAP
+        y += 8
     lines = []
-    for at in (0.1, 1, 10, 100):
-        lines += [bar(place(at), TOP - 10, 1, y - TOP + 10, "#dddddd"), text(place(at), TOP - 14, f"{at:g}", 10, "middle")]
-    keys = []
-    for at, (column, colour) in enumerate(COLOURS.items()):
-        x = NAMES + at * 130
-        keys += [bar(x, 14, 12, 12, colour), text(x + 17, 24, column)]
+    for at, words in (1 / 4, "1/4"), (1 / 2, "1/2"), (1, "as Rust"), (2, "2"), (4, "4"), (8, "8"), (16, "16"):
+        colour = "#444444" if at == 1 else "#dddddd"
+        lines += [block(place(at), TOP - 6, 1, y - TOP, colour), text(place(at), TOP - 10, words, 10, "middle")]
+    title = "Instructions of ours for one of Rust's std: less is better. A mark is a ring"
     head = f'<svg xmlns="http://www.w3.org/2000/svg" width="{WIDTH}" height="{y + 8}" font-family="sans-serif" role="img">'
-    about = f"<title>{HEAD}, less is better</title>"
-    back = '<rect width="100%" height="100%" fill="white"/>' + text(NAMES - 10, 24, HEAD + ", less is better", anchor="end")
-    return "\n".join([head, about, back, *keys, *lines, *parts, "</svg>\n"])
+    back = '<rect width="100%" height="100%" fill="white"/>' + text(12, 22, title, 13, weight="bold")
+    return "\n".join([head, f"<title>{title}</title>", back, *lines, *parts, "</svg>\n"])
 
 
 def main():
-    rows = rows_of((DOCS / "SPEED.md").read_text(encoding="utf-8"))
-    (DOCS / "speed.svg").write_text(drawing(rows), encoding="utf-8")
-    print(f"drew {len(rows)} rows")
+    groups = groups_of((DOCS / "SPEED.md").read_text(encoding="utf-8"))
+    (DOCS / "speed.svg").write_text(drawing(groups), encoding="utf-8")
+    print(f"drew {sum(len(rows) for _, rows in groups)} bars of {len(groups)} tables")
 
 
 if __name__ == "__main__":
