@@ -1,4 +1,4 @@
-//! Lines, and the reader of lines that README and CALLING show.
+//! Lines, and the reader of lines that CALLING shows.
 ghost use Rattle.std.specs.Prelude.{◌≡◌, IfOk, List, length, ℕ};
 ghost use Rattle.line_reader.specs.Runs.{AllRead};
 
