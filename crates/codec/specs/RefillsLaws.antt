@@ -78,22 +78,22 @@ module _ {S D W : Type 0} (remaining : S → Option (List ℕ)) (g : Grammar W) 
     gives : Refills remaining g s (Ok true) m → AsksGive s m
     gives refills = elim refills.asked [
       | inl same ↦ omega (
-          arith,
-          ap (λ l. l.reads.asks) same,
-          ap (λ l. length l.reads.given) same,
-        )
+        arith,
+        ap (λ l. l.reads.asks) same,
+        ap (λ l. length l.reads.given) same,
+      )
       | inr over ↦ omega (
-          arith,
-          over.asks,
-          (refills.more refl).0,
-          ap length refills.went.hands.equal,
-          ap length refills.went.hands.given,
-          length-append s.reader.log.reads.given refills.went.hands.got,
-          length-append (rest s) refills.went.hands.got,
-          length-append (rest s) over.came,
-          ap length over.such,
-          ap length nothing,
-        )
+        arith,
+        over.asks,
+        (refills.more refl).0,
+        ap length refills.went.hands.equal,
+        ap length refills.went.hands.given,
+        length-append s.reader.log.reads.given refills.went.hands.got,
+        length-append (rest s) refills.went.hands.got,
+        length-append (rest s) over.came,
+        ap length over.such,
+        ap length nothing,
+      )
     ]
 
     open_asked : (came : Bool) → Refills remaining g s (Ok came) m → AskedWhere (IsOpen g) s m
@@ -123,12 +123,12 @@ module _ {S D W : Type 0} (remaining : S → Option (List ℕ)) (g : Grammar W) 
           asked = AskedWhere-told (IsOpen g) s m t told (open_asked false refills);
           gave = λ no_end no_fault. elim refills.asked [
             | inl same ↦ omega (
-                arith,
-                ap (λ l. l.reads.asks) told,
-                ap (λ l. l.reads.asks) same,
-                ap (λ l. length l.reads.given) told,
-                ap (λ l. length l.reads.given) same,
-              )
+              arith,
+              ap (λ l. l.reads.asks) told,
+              ap (λ l. l.reads.asks) same,
+              ap (λ l. length l.reads.given) told,
+              ap (λ l. length l.reads.given) same,
+            )
             | inr over ↦ absurd (omega (arith, no_end, count, MetEnd-once s m over.not_ended end.2))
           ];
           told = λ ended. refl;
