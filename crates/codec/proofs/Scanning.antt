@@ -3,10 +3,9 @@ use Rattle.std.specs.Prelude.{◌≡◌, ℕ, zero, suc, ◌+◌, ◌<◌, ◌�
 use Rattle.std.proofs.Common.{sym, ap, ◌∙◌, arith, refl}
 use Rattle.std.proofs.lemmas.List.{drop_all, drop_more}
 use Rattle.codec.specs.Scanning.{says, scan_on}
-use Rattle.codec.specs.declared.heading.Heading.{Heading}
 use Rattle.codec.specs.declared.heading.Heading.TheVariants as heading
 use Rattle.codec.specs.declared.scan.Turn.{Turn}
-use Rattle.codec.specs.declared.scan.Turn.TheVariants.{More, Sized, Bad}
+use Rattle.codec.specs.declared.scan.Turn.TheVariants.{More, Bad}
 
 module _ {S : Type 0} (go : S → ℕ → Turn S) where
   -- one byte more is read, where one may be the head's

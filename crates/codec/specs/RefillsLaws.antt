@@ -7,7 +7,7 @@ use Rattle.codec.specs.declared.error.NextError.TheVariants.{Wrong, Io}
 use Rattle.codec.specs.Grammar.{Grammar, IsLawful, IsOpen}
 use Rattle.codec.specs.GrammarLaws.{open_none}
 use Rattle.codec.specs.Items.{NextItem, Says, item_answer}
-use Rattle.codec.specs.NextPiece.{AskedWhere, AsksGive, MetEnd, NextAnswer, NextAnswers, NextPiece, NoEnd, NoFault, PiecesWent, Refills, empties}
+use Rattle.codec.specs.NextPiece.{AskedWhere, AsksGive, NextAnswer, NextAnswers, NextPiece, NoEnd, NoFault, PiecesWent, Refills, empties}
 use Rattle.codec.specs.NextPieceLaws.{AskedWhere-told, MetEnd-joins, MetEnd-once}
 use Rattle.codec.specs.PiecesWentLaws.{HandsBytes-joins, HandsBytes-same, PiecesWent-joins}
 use Rattle.codec.specs.Piecing.{Piecing, rest}

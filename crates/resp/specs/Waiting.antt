@@ -1,5 +1,5 @@
 -- A request, of which some parts may still be to come.
-use Rattle.std.specs.Prelude.{◌≡◌, ℕ, ◌-◌, ◌<◌, ◌≤◌, ◌⊎◌, List, [], ◌∷◌, ◌++◌, length, map, Bool, true, false, Option, None, Some}
+use Rattle.std.specs.Prelude.{◌≡◌, ℕ, ◌-◌, ◌<◌, ◌≤◌, ◌⊎◌, List, [], ◌∷◌, ◌++◌, map, Bool, true, false, None, Some}
 use Rattle.std.specs.Global.{Vec}
 use Rattle.decoders.specs.declared.resp.RespItem.{RespItem}
 use Rattle.decoders.specs.declared.resp.RespItem.TheVariants as item
