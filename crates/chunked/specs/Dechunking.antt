@@ -1,10 +1,10 @@
 -- What contracts see of a reader of a body, and what its calls promise.
-use Rattle.std.specs.Prelude.{◌≡◌, ℕ, zero, suc, ◌-◌, ◌^◌, ◌<◌, ◌≤◌, ◌⊎◌, List, [], ◌∷◌, ◌++◌, length, min, take, Option, Result, Ok, Err}
+use Rattle.std.specs.Prelude.{◌≡◌, ℕ, zero, suc, ◌-◌, ◌^◌, ◌<◌, ◌≤◌, ◌⊎◌, List, [], ◌∷◌, ◌++◌, length, min, take, ◌==◌, Bool, Option, Result, Ok, Err, IfOk}
 use Rattle.std.specs.IoError.{error_kind}
 use Rattle.std.specs.declared.io.Error.{Error}
 use Rattle.std.specs.declared.io.ErrorKind.TheVariants.{Other}
 use Rattle.buffer_redux.specs.Buffered.{Buffered}
-use Rattle.buffer_redux.specs.BufReader.{ReadsAlong}
+use Rattle.buffer_redux.specs.BufReader.{Fills, ReadsAlong}
 use Rattle.buffer_redux.specs.Policy.{ReadRules}
 use Rattle.buffer_redux.specs.StreamLog.{StreamLog, after_read, no_calls}
 use Rattle.chunked.specs.declared.error.ChunkedError.{ChunkedError}
@@ -138,6 +138,14 @@ pub record LeavesBody {S P : Type 0} (remaining : S → Option (List ℕ)) (rule
   pub drains : Drains remaining rules s (Ok tt) body
   pub is_whole : IsWhole body
   pub is_rest : rest ≡ body.reader
+
+-- it was asked whether nothing follows what was taken: the buffer was filled, and nothing else is done
+pub record LooksBehind {S P : Type 0} (remaining : S → Option (List ℕ)) (rules : ReadRules P) (s : Dechunking S P)
+    (answer : Result Bool Error) (t : Dechunking S P) : Type 0 where
+  pub fills : Fills rules s.reader answer t.reader
+  pub along : ReadsAlong remaining rules s.reader [] t.reader
+  pub none : IfOk answer (λ none. none ≡ (length t.reader.block.bytes == 0))
+  pub still : t ≡ record s { reader = t.reader }
 
 -- no further payload is buffered: the body ended, or all was taken, or the next byte is wrong
 abbrev pub HasNoneBuffered : {S P : Type 0} → Dechunking S P → Type 0

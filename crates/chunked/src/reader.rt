@@ -4,7 +4,7 @@ ghost use Rattle.std.specs.Io.{ReadsAtMost};
 ghost use Rattle.std.specs.Io.KnownBytes.{ReadConsumes};
 ghost use Rattle.buffer_redux.specs.StreamLog.{after_read};
 ghost use Rattle.chunked.specs.Between.{HandsOn, HandsOnBuffered, Skips};
-ghost use Rattle.chunked.specs.Dechunking.{Drains, HandsBuffered, IsDechunking, IsWhole, LeavesBody, ReadsAsIo, ReadsPayload, ReadsTold, begun, taken_count};
+ghost use Rattle.chunked.specs.Dechunking.{Drains, HandsBuffered, IsDechunking, IsWhole, LeavesBody, LooksBehind, ReadsAsIo, ReadsPayload, ReadsTold, begun, taken_count};
 ghost use Rattle.chunked.specs.Place.{IsPlace, IsSettled};
 
 use crate::error::ChunkedError;
@@ -178,6 +178,14 @@ impl<R: TellRead, P: ReaderPolicy> ChunkedReader<R, P> {
             }
         }
         Err(ChunkedError::Io(io::Error::from(ErrorKind::Other)))
+    }
+
+    /// Whether nothing follows what was taken: fills the buffer as `fill_buf` does, and leaves what comes. Behind the end of the
+    /// body this tells whether the stream ended too.
+    pub fn is_at_end(&mut self) -> io::Result<bool>
+        ensures { LooksBehind R.remaining P.rules self.old result self.new }
+    {
+        Ok(self.reader.fill_buf()?.is_empty())
     }
 
     /// Hands out payload that is buffered, as much as the slice takes, and asks the stream for nothing. Less comes only where no
