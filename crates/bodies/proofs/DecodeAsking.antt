@@ -3,7 +3,7 @@ use Rattle.std.proofs.Common.{◌≡◌, ℕ, zero, suc, ◌<◌, ◌≤◌, ◌
 use Rattle.std.proofs.lemmas.Bool.{cases_lt}
 use Rattle.std.proofs.lemmas.List.{nil_from_length}
 use Rattle.std.specs.declared.io.Error.{Error}
-use Rattle.buffer_redux.specs.BufReader.{Fills, ReaderConsumes, Reads, ReadsBuffered, ReadsInOrder}
+use Rattle.buffer_redux.specs.BufReader.{ReaderConsumes, Reads, ReadsBuffered, ReadsInOrder}
 use Rattle.buffer_redux.specs.Buffered.{Buffered}
 use Rattle.buffer_redux.specs.Policy.{std_read_rules}
 use Rattle.buffer_redux.specs.ReaderLaws.{ReadsInOrder-joins, ReadsInOrder-none}
@@ -20,18 +20,13 @@ use Rattle.chunked.specs.declared.place.Place.{Place}
 use Rattle.chunked.specs.declared.place.Place.TheVariants.{Line}
 use Rattle.programs.specs.Prompt.{AskedLast, AsksGive}
 use Rattle.programs.specs.PromptLaws.{AskedLast-after}
-use Rattle.bodies.specs.AtEnd.{AskedOnce}
 use Rattle.bodies.specs.Decoding.{AskedOver}
+use Rattle.bodies.specs.Filters.{AskedOnce}
 use Rattle.bodies.proofs.Asking.{asks_once, given_last, none_after_fault}
 
--- the reader inside was asked where nothing was buffered, and once
-pub record Once {R : Type 0} (m t : Buffered R StdPolicy) : Type 0 where
-  pub asked : AskedOnce m t
-  pub faults : length m.log.reads.faults ≤ length t.log.reads.faults
-
--- or it wasn't
+-- the reader inside was asked once, or wasn't
 abbrev pub OnceAtMost : {R : Type 0} → Buffered R StdPolicy → Buffered R StdPolicy → Type 0
-OnceAtMost m t = (t.log ≡ m.log) ⊎ Once m t
+OnceAtMost m t = (t.log ≡ m.log) ⊎ AskedOnce m t
 
 more_faults : (old : List Error) (answer : Result ℕ Error) → length old ≤ length (with_fault old answer)
 more_faults old (Ok n) = omega arith
@@ -41,33 +36,17 @@ module _ {R : Type 0} where
   told_on : (m f t : Buffered R StdPolicy) → t.log ≡ f.log → OnceAtMost m f → OnceAtMost m t
   told_on m f t same (inl none) = inl (same ∙ none)
   told_on m f t same (inr once) = inr (record {
-    asked = record {
-      empty = once.asked.empty;
-      given = ap (λ l. l.reads.given) same ∙ once.asked.given ∙ ap (λ l. m.log.reads.given ++ l.reads.latest) (sym same);
-      asks = ap (λ l. l.reads.asks) same ∙ once.asked.asks;
-    };
+    empty = once.empty;
+    given = ap (λ l. l.reads.given) same ∙ once.given ∙ ap (λ l. m.log.reads.given ++ l.reads.latest) (sym same);
+    asks = ap (λ l. l.reads.asks) same ∙ once.asks;
     faults = omega (arith, once.faults, ap (λ l. length l.reads.faults) same);
   })
-
-  fill_once : {A : Type 0} (m f : Buffered R StdPolicy) (answer : Result A Error) → Fills std_read_rules m answer f
-      → OnceAtMost m f
-  fill_once m f answer fills = elim (asks_once m f answer fills) [
-    | inl same ↦ inl same
-    | inr asked ↦ inr (record {
-      asked = asked;
-      faults = omega (
-        arith,
-        ap length fills.grows.faults.equal,
-        length-append m.log.reads.faults fills.grows.faults.more,
-      );
-    })
-  ]
 
   -- one read, past the buffer, or through it
   module _ (m t : Buffered R StdPolicy) (before after : List ℕ) where
     through : (answer : Result ℕ Error) → ReadsBuffered std_read_rules m (length before) answer t → OnceAtMost m t
-    through (Ok n) b = told_on m b.filled t b.handed.1.told (fill_once m b.filled (Ok n) b.fills)
-    through (Err e) b = told_on m b.filled t (ap (λ x. x.log) b.handed) (fill_once m b.filled (Err e) b.fills)
+    through (Ok n) b = told_on m b.filled t b.handed.1.told (asks_once m b.filled (Ok n) b.fills)
+    through (Err e) b = told_on m b.filled t (ap (λ x. x.log) b.handed) (asks_once m b.filled (Err e) b.fills)
 
     pub read_once : (answer : Result ℕ Error) → Reads std_read_rules m before answer after t → OnceAtMost m t
     read_once answer reads = elim (cases_lt 0 (length m.block.bytes)) [
@@ -77,11 +56,9 @@ module _ {R : Type 0} where
         | inr long ↦
             let direct = reads.direct (omega (arith, none), long) in
             inr (record {
-              asked = record {
-                empty = nil_from_length m.block.bytes (omega (arith, none));
-                given = given_last m.log t.log after answer direct.told;
-                asks = ap (λ l. l.reads.asks) direct.told;
-              };
+              empty = nil_from_length m.block.bytes (omega (arith, none));
+              given = given_last m.log t.log after answer direct.told;
+              asks = ap (λ l. l.reads.asks) direct.told;
               faults = omega (
                 arith,
                 ap (λ l. length l.reads.faults) direct.told,
@@ -155,12 +132,12 @@ module _ {R : Type 0} (limits : Limits) (s : Buffered R StdPolicy) (p : Place) w
   then_once m t r done (inr once) =
       let got = done.order.got in
       let all : done.wire ≡ s.block.bytes ++ got =
-      sym (append-nil done.wire) ∙ ap (λ l. done.wire ++ l) (sym once.asked.empty) ∙ done.order.equal in
+      sym (append-nil done.wire) ∙ ap (λ l. done.wire ++ l) (sym once.empty) ∙ done.order.equal in
       inr (record {
         came = got;
         asked = subst (λ l. AskedLast l s.log t.log) (append-nil got)
             (AskedLast-after s.log m.log t.log got [] done.order.given done.give
-            (record { given = once.asked.given; asks = omega (arith, once.asked.asks, once.faults) }));
+            (record { given = once.given; asks = omega (arith, once.asks, once.faults) }));
         place = r;
         leads = subst (λ l. Leads limits p l [] r) all done.leads;
         is_place = done.is_place;
@@ -196,7 +173,7 @@ module _ {R : Type 0} (limits : Limits) (s : Buffered R StdPolicy) (p : Place) w
       let took = turn.takes.took in
       let order = ReadsInOrder-joins m f t [] (take turn.count f.block.bytes) fills.in_order
       (taken turn.count f t turn.takes.held took) in
-      let once = told_on m f t took.told (fill_once m f (Ok f.block.bytes) fills) in
+      let once = told_on m f t took.told (asks_once m f (Ok f.block.bytes) fills) in
       let faults : t.log.reads.faults ≡ m.log.reads.faults = ap (λ l. l.reads.faults) took.told ∙ fills.caused in
       record {
         wire = done.wire ++ take turn.count f.block.bytes;
@@ -209,11 +186,11 @@ module _ {R : Type 0} (limits : Limits) (s : Buffered R StdPolicy) (p : Place) w
           | inr one ↦ omega (
             arith,
             done.give,
-            one.asked.asks,
+            one.asks,
             one.faults,
             turn.some,
             turn.takes.held,
-            ap length one.asked.empty,
+            ap length one.empty,
             ap length fills.in_order.equal,
             ap length fills.in_order.given,
             ap (λ l. length l.reads.given) took.told,
@@ -233,7 +210,7 @@ module _ {R : Type 0} (limits : Limits) (s : Buffered R StdPolicy) (p : Place) w
 module _ {R : Type 0} (remaining : R → Option (List ℕ)) (s t : Dechunking R StdPolicy) (is : IsDechunking s) (out : List ℕ) where
   take_once : (n : ℕ) (m f : Buffered R StdPolicy) → FillsAndTakes std_read_rules n m f → OnceAtMost m f
   take_once n m f takes =
-      told_on m takes.filled f takes.took.told (fill_once m takes.filled (Ok takes.filled.block.bytes) takes.fills)
+      told_on m takes.filled f takes.took.told (asks_once m takes.filled (Ok takes.filled.block.bytes) takes.fills)
 
   last_once : (m f : Buffered R StdPolicy) (r q : Place) (room : ℕ) (answer : Result ℕ ChunkedError)
       → LastCall std_read_rules m r room answer f q → OnceAtMost m f
@@ -241,11 +218,11 @@ module _ {R : Type 0} (remaining : R → Option (List ℕ)) (s t : Dechunking R 
   last_once m f r q room (Ok (suc n)) call = read_once m f call.before call.after (Ok (suc n)) call.reads
   last_once m f r q room (Err (NotChunked why right)) call = take_once call.0 m f call.1
   last_once m f r q room (Err (Truncated right)) call = elim call [
-    | inl fills ↦ fill_once m f (Ok 0) fills
+    | inl fills ↦ asks_once m f (Ok 0) fills
     | inr reads ↦ read_once m f reads.before reads.after (Ok 0) reads.reads
   ]
   last_once m f r q room (Err (Io e)) call = elim call [
-    | inl fills ↦ fill_once m f (Err e) fills
+    | inl fills ↦ asks_once m f (Err e) fills
     | inr reads ↦ read_once m f reads.before reads.after (Err e) reads.reads
   ]
 
@@ -310,10 +287,10 @@ module _ {R : Type 0} (remaining : R → Option (List ℕ)) (s t : Dechunking R 
     | inr one ↦ omega (
       arith,
       (done (Ok (suc n)) reads).give,
-      one.asked.asks,
+      one.asks,
       one.faults,
       read_gave reads.calls.last t.reader reads.calls.call.before reads.calls.call.after n reads.calls.call.reads
-          one.asked.empty,
+          one.empty,
     )
   ]
 
@@ -328,8 +305,8 @@ module _ {R : Type 0} (remaining : R → Option (List ℕ)) (s t : Dechunking R 
         | inr one ↦ omega (
           arith,
           turns.give,
-          one.asked.asks,
-          ap length one.asked.given,
+          one.asks,
+          ap length one.given,
           length-append reads.calls.last.log.reads.given t.reader.log.reads.latest,
           ap length turns.no_fault,
           ap length fault,

@@ -1,196 +1,224 @@
 -- What a whole run of `decode` comes to.
-use Rattle.std.proofs.Common.{◌≡◌, ℕ, ◌≤◌, ◌⊎◌, inl, inr, List, [], ◌∷◌, ◌++◌, length, length-append, Option, Result, Ok, Err, sym, ap, subst, ◌∙◌, arith, append_assoc, append-nil}
+use Rattle.std.proofs.Common.{◌≡◌, ℕ, ◌<◌, ◌≤◌, ◌⊎◌, inl, inr, List, [], ◌∷◌, ◌++◌, length, length-append, Option, Ok, Err, refl, sym, ap, subst, ◌∙◌, arith, append_assoc, append-nil}
+use Rattle.std.proofs.lemmas.Grind.{flat_map-append}
+use Rattle.std.specs.Global.{Vec}
 use Rattle.std.specs.declared.io.Error.{Error}
-use Rattle.buffer_redux.specs.BufReader.{ReadsAlong}
 use Rattle.buffer_redux.specs.Buffered.{Buffered}
-use Rattle.buffer_redux.specs.Faults.{OnlyInterrupts}
-use Rattle.buffer_redux.specs.Policy.{std_read_rules}
-use Rattle.buffer_redux.specs.ReaderLaws.{ReadsAlong-none, ReadsAlong-then, ReadsInOrder-fresh}
+use Rattle.buffer_redux.specs.ReaderLaws.{ReadsInOrder-fresh}
 use Rattle.buffer_redux.specs.StreamLog.{StreamLog}
 use Rattle.buffer_redux.specs.WriterLaws.{WritesInOrder-fresh}
 use Rattle.buffer_redux.specs.declared.policy.StdPolicy.{StdPolicy}
 use Rattle.chunked.specs.Body.{IsBody}
-use Rattle.chunked.specs.Dechunking.{BodyWent, Dechunking, IsDechunking, IsWhole, begun, taken_count}
+use Rattle.chunked.specs.Dechunking.{IsDechunking, IsWhole, begun}
 use Rattle.chunked.specs.Place.{IsWrong, Leads}
 use Rattle.chunked.specs.PlaceLaws.{Leads-none}
 use Rattle.chunked.specs.declared.limits.Limits.{Limits}
 use Rattle.chunked.specs.declared.place.Place.TheVariants.{Line}
+use Rattle.forward.specs.Filter.{FilterRules, Moves}
+use Rattle.forward.specs.Forward.{ForwardAnswers, Forwarded, StopsBy}
+use Rattle.forward.specs.declared.error.Cause.{Cause}
+use Rattle.forward.specs.declared.error.Cause.TheVariants as cause
+use Rattle.programs.specs.Streams.{AllSent, BufferRefused, MetNoFault, OverCount, SendFailed}
+use Rattle.bodies.specs.Decode.{DecodeFailed, DecodeRan, Decoded, IsPart, Sent}
+use Rattle.bodies.specs.Decoding.{IsPieceTarget, IsReady, PiecesEnd, decoding_rules, held_of}
+use Rattle.bodies.specs.DecodingLaws.{handed_joined, none_held}
+use Rattle.bodies.specs.Filters.{IsErrorOf, joined}
+use Rattle.bodies.specs.FiltersLaws.{each_some, received_all}
+use Rattle.bodies.specs.declared.decoding.Decoding.{Decoding}
 use Rattle.bodies.specs.declared.error.RunError.{RunError}
 use Rattle.bodies.specs.declared.error.RunError.TheVariants.{NotChunked, Truncated, Behind, Read, Write, Io}
-use Rattle.bodies.specs.Decode.{DecodeFailed, DecodeRan, Decoded, ExpectsEnd, IsPart, Sent}
-use Rattle.bodies.proofs.Moved.{MovesAll, MovesEach, MovesFirst}
-use Rattle.programs.specs.Streams.{AllSent, BufferRefused, MetNoFault, OverCount, SendFailed}
-use Rattle.programs.specs.StreamsLaws.{ReadGaveUp-after, MetInterrupts-none, MetNoFault-joins}
+
+-- a filter before a body
+abbrev pub start : {R W : Type 0} → Limits → Buffered R StdPolicy → Buffered W StdPolicy → Vec ℕ → Decoding R W
+start limits first u piece = record { source = begun first limits; target = u; piece = piece; held = 0 }
 
 -- from empty buffers on
 module _ {R W : Type 0} (remaining : R → Option (List ℕ)) (limits : Limits) (first : Buffered R StdPolicy)
-    (t : Dechunking R StdPolicy) (u v : Buffered W StdPolicy) (none : first.block.bytes ≡ [])
-    (none' : u.block.bytes ≡ []) where
-  part : (payload : List ℕ) → BodyWent remaining std_read_rules (begun first limits) payload t → IsDechunking t
-      → IsPart limits t.taken payload t.place
-  part payload went is = record {
-    leads = subst (λ l. Leads l Line t.taken payload t.place) went.limits
-        (subst (λ l. Leads t.limits Line t.taken l t.place) went.handed is.leads);
-    is_place = is.place;
-  }
+    (u : Buffered W StdPolicy) (piece : Vec ℕ) (none : first.block.bytes ≡ []) (none' : u.block.bytes ≡ []) where
+  abbrev rules : FilterRules (Decoding R W) RunError
+  rules = decoding_rules remaining
 
-  -- what follows what was taken is buffered, also after calls that hand out nothing
-  given : (payload : List ℕ) → BodyWent remaining std_read_rules (begun first limits) payload t
-      → (r : Buffered R StdPolicy) → ReadsAlong remaining std_read_rules t.reader [] r
-      → r.log.reads.given ≡ first.log.reads.given ++ (t.taken ++ r.block.bytes)
-  given payload went r still =
-      ReadsInOrder-fresh first r went.wire none
-      (ReadsAlong-then remaining std_read_rules first t.reader r went.wire went.along still).in_order
-      ∙ ap (λ l. first.log.reads.given ++ (l ++ r.block.bytes)) (sym went.taken)
+  abbrev begin : Decoding R W
+  begin = start limits first u piece
 
-  module _ (p : MovesEach remaining (begun first limits) u t v) (all : AllSent v) where
-    received : v.log.writes.received ≡ u.log.writes.received ++ p.payload
-    received =
-        sym (append-nil v.log.writes.received) ∙ ap (λ l. v.log.writes.received ++ l) (sym all.empty)
-        ∙ WritesInOrder-fresh u v p.payload none' p.went.taken
+  pub start_ready : 0 < first.block.capacity → IsDechunking (begun first limits) → IsPieceTarget u → length piece.items ≡ 16384
+      → IsReady begin
+  start_ready capacity whole target room =
+      record { source = record { capacity = capacity; whole = whole }; target = target; room = room; held = omega arith }
 
-    sent : (r : Buffered R StdPolicy) → ReadsAlong remaining std_read_rules t.reader [] r
-        → Sent first.log r.log u.log v.log t.taken p.payload r.block.bytes
-    sent r still = record { given = given p.payload p.went.went r still; received = received; flushed = all.flushed }
+  pub start_fresh : rules.fresh begin
+  start_fresh = (record { taken = refl; handed = refl; buffered = none }, none', refl)
 
-    sent_now : Sent first.log t.reader.log u.log v.log t.taken p.payload t.reader.block.bytes
-    sent_now = sent t.reader (ReadsAlong-none remaining std_read_rules t.reader)
+  module _ (t : Decoding R W) (ready : IsReady t) where
+    abbrev Caused : (ℕ → Type 0) → Type 0
+    Caused cause = DecodeFailed limits cause first.log t.source.reader.log u.log t.target.log
 
-    body : IsWhole t → IsBody limits t.taken p.payload
-    body whole =
-        subst (λ l. IsBody l t.taken p.payload) p.went.went.limits
-        (subst (λ l. IsBody t.limits t.taken l) p.went.went.handed whole)
+    -- these pieces went over, and some may be lost
+    module _ (p lost handed : List (List ℕ)) (all : handed ≡ p ++ lost) (moves : Moves rules begin handed p t) where
+      abbrev payload : List ℕ
+      payload = moves.hands.payload
 
-    -- it was asked whether something follows
-    module _ (whole : IsWhole t) (r : Buffered R StdPolicy) where
-      decoded : ReadsAlong remaining std_read_rules t.reader [] r → Decoded limits first.log r.log u.log v.log r.block.bytes
-      decoded still = record { body = t.taken; payload = p.payload; is_body = body whole; sent = sent r still }
+      abbrev left : List ℕ
+      left = joined lost ++ held_of t
 
-      met : OnlyInterrupts t.reader.log.reads.faults r.log.reads.faults → MetNoFault first.log r.log u.log v.log
-      met only = MetNoFault-joins first.log t.reader.log r.log u.log v.log v.log p.met
-          (record { reader = only; writer = MetInterrupts-none v.log.writes })
+      part : IsPart limits t.source.taken payload t.source.place
+      part = record {
+        leads = subst (λ l. Leads l Line t.source.taken payload t.source.place) moves.hands.went.limits
+            (subst (λ l. Leads t.source.limits Line t.source.taken l t.source.place) moves.hands.went.handed
+            ready.source.whole.leads);
+        is_place = ready.source.whole.place;
+      }
 
-      pub asked : (answer : Result (Unit {0}) RunError) → ExpectsEnd remaining t.reader (taken_count t) answer r
-          → DecodeRan limits first.log r.log u.log v.log answer
-      unfolding decoded
-      asked (Ok _) end = (
-        subst (Decoded limits first.log r.log u.log v.log) end.answers.1 (decoded end.along),
-        omega (arith, p.went.went.along.grows.zero_reads, end.answers.2),
-        met end.answers.0,
-      )
-      asked (Err (NotChunked why right)) end = absurd end.answers
-      asked (Err (Truncated right)) end = absurd end.answers
-      asked (Err (Behind right)) end =
-          (r.block.bytes, end.answers.1, (decoded end.along, end.answers.2), met end.answers.0)
-      asked (Err (Write e)) end = absurd end.answers
-      asked (Err (Io e)) end = absurd end.answers
-      asked (Err (Read e)) end = (
-        record {
-          wire = t.taken;
-          payload = p.payload;
-          place = t.place;
-          part = part p.payload p.went.went p.went.whole;
-          sent = subst (λ l. Sent first.log r.log u.log v.log t.taken p.payload l) end.answers.1 (sent r end.along);
-        },
-        record {
-          reader = ReadGaveUp-after first.log.reads.faults t.reader.log.reads.faults r.log.reads.faults e p.met.reader
-              end.answers.0;
-          writer = p.met.writer;
-        },
-      )
+      -- what follows what was taken is buffered
+      given : t.source.reader.log.reads.given ≡ first.log.reads.given ++ (t.source.taken ++ t.source.reader.block.bytes)
+      given =
+          let went = moves.hands.went in
+          ReadsInOrder-fresh first t.source.reader went.wire none went.along.in_order
+          ∙ ap (λ l. first.log.reads.given ++ (l ++ t.source.reader.block.bytes)) (sym went.taken)
 
-  pub ended : MovesAll remaining (begun first limits) u (Ok tt) t v → (answer : Result (Unit {0}) RunError)
-      → (r : Buffered R StdPolicy) → ExpectsEnd remaining t.reader (taken_count t) answer r
-      → DecodeRan limits first.log r.log u.log v.log answer
-  ended p answer r end = asked p.0 p.2 p.1 r answer end
+      parted : payload ≡ joined p ++ left
+      parted = sym (ap (λ l. l ++ payload) (none_held remaining begin refl)) ∙ moves.hands.order
+          ∙ ap (λ l. l ++ held_of t) (ap (λ l. joined l) all ∙ flat_map-append (λ x. x) p lost)
+          ∙ append_assoc (joined p) (joined lost) (held_of t)
 
-  -- the run failed of a cause that doesn't end where there is more payload
-  failed : (Caused : ℕ → Type 0) → ((n k : ℕ) → n ≤ k → Caused n → Caused k)
-      → (some : MovesFirst remaining (begun first limits) u t v) → Caused (length some.payload)
-      → DecodeFailed limits Caused first.log t.reader.log u.log v.log
-  failed Caused more some cause = record {
-    wire = t.taken;
-    payload = some.payload ++ some.lost;
-    place = t.place;
-    part = part (some.payload ++ some.lost) some.went.went some.went.whole;
-    rest = t.reader.block.bytes;
-    given = given (some.payload ++ some.lost) some.went.went t.reader
-        (ReadsAlong-none remaining std_read_rules t.reader);
-    unsent = v.block.bytes ++ some.lost;
-    received =
-        sym (append_assoc v.log.writes.received v.block.bytes some.lost)
-        ∙ ap (λ l. l ++ some.lost) (WritesInOrder-fresh u v some.payload none' some.went.taken)
-        ∙ append_assoc u.log.writes.received some.payload some.lost;
-    caused = more (length some.payload) (length (some.payload ++ some.lost))
-        (omega (arith, length-append some.payload some.lost)) cause;
-  }
-
-  over_more : (e : Error) (n k : ℕ) → n ≤ k
-      → OverCount e n first.log t.reader.log u.log v.log ⊎ BufferRefused e first.log t.reader.log u.log v.log
-      → OverCount e k first.log t.reader.log u.log v.log ⊎ BufferRefused e first.log t.reader.log u.log v.log
-  over_more e n k less (inl over) =
-      inl (record { other = over.other; large = omega (arith, over.large, less); met = over.met })
-  over_more e n k less (inr refused) = inr refused
-
-  -- the body has no end
-  pub stopped : (why : RunError) → MovesAll remaining (begun first limits) u (Err why) t v
-      → DecodeRan limits first.log t.reader.log u.log v.log (Err why)
-  stopped (NotChunked why right) p =
-      let each = p.0 in
-      let breaks = p.1 in (
-        record {
-          wire = t.taken;
-          payload = each.payload;
-          place = t.place;
-          part = part each.payload each.went.went each.went.whole;
-          byte = breaks.byte;
-          later = breaks.later;
-          sent = subst (λ l. Sent first.log t.reader.log u.log v.log t.taken each.payload l) breaks.next (sent_now each p.3);
-          name = subst (λ l. IsWrong l t.place breaks.byte why) each.went.went.limits breaks.name;
-          none = subst (λ l. (rest whole : List ℕ) → ¬ IsBody l (t.taken ++ breaks.byte ∷ rest) whole)
-              each.went.went.limits breaks.none;
-          count = p.2;
-        },
-        each.met,
-      )
-  stopped (Truncated right) p =
-      let each = p.0 in
-      let cut = p.1 in (
-        record {
-          wire = t.taken;
-          payload = each.payload;
-          place = t.place;
-          part = part each.payload each.went.went each.went.whole;
-          sent = subst (λ l. Sent first.log t.reader.log u.log v.log t.taken each.payload l) cut.left (sent_now each p.3);
-          none = subst (λ l. (whole : List ℕ) → ¬ IsBody l t.taken whole) each.went.went.limits cut.none;
-          ended = cut.dry;
-          count = p.2;
-        },
-        each.met,
-      )
-  stopped (Behind right) p = absurd p
-  stopped (Read e) p = (
-    record {
-      wire = t.taken;
-      payload = p.payload;
-      place = t.place;
-      part = part p.payload p.went.went p.went.whole;
-      sent = record {
-        given = given p.payload p.went.went t.reader (ReadsAlong-none remaining std_read_rules t.reader)
-            ∙ ap (λ l. first.log.reads.given ++ (t.taken ++ l)) p.left;
+      -- it failed of a cause
+      failed : (cause : ℕ → Type 0) → cause (length payload)
+          → DecodeFailed limits cause first.log t.source.reader.log u.log t.target.log
+      failed cause why = record {
+        wire = t.source.taken;
+        payload = payload;
+        place = t.source.place;
+        part = part;
+        rest = t.source.reader.block.bytes;
+        given = given;
+        unsent = t.target.block.bytes ++ left;
         received =
-            sym (append-nil v.log.writes.received) ∙ ap (λ l. v.log.writes.received ++ l) (sym p.sent.empty)
-            ∙ WritesInOrder-fresh u v p.payload none' p.went.taken;
-        flushed = p.sent.flushed;
-      };
-    },
-    p.failed,
-  )
-  stopped (Write e) p =
-      failed (λ _. SendFailed e first.log t.reader.log u.log v.log) (λ n k less cause. cause) p.0 p.1
-  stopped (Io e) p =
-      failed (λ count. OverCount e count first.log t.reader.log u.log v.log
-      ⊎ BufferRefused e first.log t.reader.log u.log v.log) (over_more e) p.0 (inl p.1)
+            sym (append_assoc t.target.log.writes.received t.target.block.bytes left)
+            ∙ ap (λ l. l ++ left) (WritesInOrder-fresh u t.target (joined p) none' moves.takes)
+            ∙ append_assoc u.log.writes.received (joined p) left ∙ ap (λ l. u.log.writes.received ++ l) (sym parted);
+        caused = why;
+      }
+
+    -- all that was handed out went over
+    module _ (count : ℕ) (over : Forwarded rules count begin t) where
+      none_lost : over.payloads ≡ over.payloads ++ []
+      none_lost = sym (append-nil over.payloads)
+
+      abbrev went_over : List ℕ
+      went_over = over.moves.hands.payload
+
+      -- so many pieces have so many bytes
+      counted : count ≤ length went_over
+      counted = omega (
+        arith,
+        over.all,
+        each_some over.payloads over.moves.hands.some,
+        ap length (parted over.payloads [] over.payloads none_lost over.moves),
+        length-append (joined over.payloads) (held_of t),
+      )
+
+      part_over : IsPart limits t.source.taken went_over t.source.place
+      part_over = part over.payloads [] over.payloads none_lost over.moves
+
+      -- and was sent
+      module _ (held : t.held ≡ 0) (sent : AllSent t.target) where
+        all_sent : (rest : List ℕ) → t.source.reader.block.bytes ≡ rest
+            → Sent first.log t.source.reader.log u.log t.target.log t.source.taken went_over rest
+        all_sent rest is = record {
+          given = given over.payloads [] over.payloads none_lost over.moves
+              ∙ ap (λ l. first.log.reads.given ++ (t.source.taken ++ l)) is;
+          received = received_all u t.target (joined over.payloads) none' over.moves.takes sent
+              ∙ ap (λ l. u.log.writes.received ++ l)
+              (sym (handed_joined remaining begin t over.payloads over.moves.hands refl held));
+          flushed = sent.flushed;
+        }
+
+        decoded : (rest : List ℕ) → t.source.reader.block.bytes ≡ rest → IsWhole t.source
+            → Decoded limits first.log t.source.reader.log u.log t.target.log rest
+        decoded rest is whole = record {
+          body = t.source.taken;
+          payload = went_over;
+          is_body = subst (λ l. IsBody l t.source.taken went_over) over.moves.hands.went.limits
+              (subst (λ l. IsBody t.source.limits t.source.taken l) over.moves.hands.went.handed whole);
+          sent = all_sent rest is;
+        }
+
+        -- what comes next is wrong, or missing, or more than the body
+        wrong : (why : RunError) → PiecesEnd begin (Err why) t
+            → MetNoFault first.log t.source.reader.log u.log t.target.log
+            → DecodeRan limits first.log t.source.reader.log u.log t.target.log (Err why)
+        unfolding decoded
+        wrong (NotChunked why right) end met =
+            let breaks = end.0 in (
+              record {
+                wire = t.source.taken;
+                payload = went_over;
+                place = t.source.place;
+                part = part_over;
+                byte = breaks.byte;
+                later = breaks.later;
+                sent = all_sent (breaks.byte ∷ breaks.later) breaks.next;
+                name = subst (λ l. IsWrong l t.source.place breaks.byte why) over.moves.hands.went.limits breaks.name;
+                none = subst (λ l. (rest whole : List ℕ) → ¬ IsBody l (t.source.taken ++ breaks.byte ∷ rest) whole)
+                    over.moves.hands.went.limits breaks.none;
+                count = end.1;
+              },
+              met,
+            )
+        wrong (Truncated right) end met =
+            let cut = end.0 in (
+              record {
+                wire = t.source.taken;
+                payload = went_over;
+                place = t.source.place;
+                part = part_over;
+                sent = all_sent [] cut.left;
+                none = subst (λ l. (whole : List ℕ) → ¬ IsBody l t.source.taken whole) over.moves.hands.went.limits cut.none;
+                ended = cut.dry;
+                count = end.1;
+              },
+              met,
+            )
+        wrong (Behind right) end met =
+            (t.source.reader.block.bytes, end.1, (decoded t.source.reader.block.bytes refl end.0, end.2), met)
+        wrong (Read e) end met = absurd end
+        wrong (Write e) end met = absurd end
+        wrong (Io e) end met = absurd end
+
+    -- all went over
+    pub ended : (count : ℕ) → ForwardAnswers rules begin (Ok count) t
+        → DecodeRan limits first.log t.source.reader.log u.log t.target.log (Ok tt)
+    ended count p =
+        let end = p.1 in (decoded count p.0 end.0 p.2 [] end.1.1 end.1.0, end.1.2, p.3)
+
+    -- or it was stopped
+    pub stopped : (count : ℕ) (why : Cause RunError) (e : RunError) → StopsBy rules count begin why t → IsErrorOf why e
+        → DecodeRan limits first.log t.source.reader.log u.log t.target.log (Err e)
+    stopped count (cause.Wrong why) e p is =
+        subst (λ x. DecodeRan limits first.log t.source.reader.log u.log t.target.log (Err x)) (sym is)
+        (wrong count p.0 p.1.0 p.2 why p.1.1 p.3)
+    stopped count (cause.Read fault) e p is =
+        subst (λ x. DecodeRan limits first.log t.source.reader.log u.log t.target.log (Err x)) (sym is) (
+          record {
+            wire = t.source.taken;
+            payload = went_over count p.0;
+            place = t.source.place;
+            part = part_over count p.0;
+            sent = all_sent count p.0 p.1.0 p.2 [] p.1.1;
+          },
+          p.3,
+        )
+    stopped count (cause.Write fault) e p is =
+        subst (λ x. DecodeRan limits first.log t.source.reader.log u.log t.target.log (Err x)) (sym is)
+        (failed p.0.payloads p.0.lost (p.0.payloads ++ p.0.lost) refl p.0.moves
+        (λ _. SendFailed fault first.log t.source.reader.log u.log t.target.log) p.1)
+    stopped count cause.Count e p is =
+        let over = p.0 in
+        subst (λ x. DecodeRan limits first.log t.source.reader.log u.log t.target.log (Err x)) (sym is.2)
+        (failed over.payloads [] over.payloads (none_lost count over) over.moves
+        (λ n. OverCount is.0 n first.log t.source.reader.log u.log t.target.log
+        ⊎ BufferRefused is.0 first.log t.source.reader.log u.log t.target.log)
+        (inl (record { other = is.1; large = omega (arith, p.1, counted count over); met = p.2 })))
 
 -- a buffer was refused
 pub refused : (limits : Limits) (read read' written written' : StreamLog) (e : Error)

@@ -2,9 +2,7 @@ pub mod Asking
 pub mod DecodeAsking
 pub mod Passing
 pub mod PieceAsked
-pub mod Moved
 pub mod DecodeRuns
-pub mod Decoded
-pub mod EncodePrompting
-pub mod Encoding
+pub mod Chunks
+pub mod EncodingCalls
 pub mod EncodeRuns

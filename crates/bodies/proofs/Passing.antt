@@ -19,7 +19,8 @@ use Rattle.programs.specs.FlushesLaws.{FlushesOnce-flush}
 use Rattle.programs.specs.PromptLaws.{WritesOn-grows, WritesOn-none, WritesOn-unflushed}
 use Rattle.programs.specs.StreamsLaws.{MetInterrupts-none}
 use Rattle.bodies.specs.Decoding.{HandsHeld, HandsPieces, IsPieceTarget, IsReady, decoding_rules, held_of}
-use Rattle.bodies.specs.DecodingLaws.{counted, none_held}
+use Rattle.bodies.specs.DecodingLaws.{none_held}
+use Rattle.bodies.specs.FiltersLaws.{taken_more}
 use Rattle.bodies.specs.declared.decoding.Decoding.{Decoding}
 use Rattle.bodies.specs.declared.error.RunError.{RunError}
 
@@ -99,7 +100,7 @@ module _ {R W : Type 0} (remaining : R → Option (List ℕ)) (s : Decoding R W)
               arith,
               some,
               length-take-le s.held s.piece.items (omega (arith, ready.held, ready.room)),
-              counted remaining s t piece taken,
+              taken_more s.target v piece taken,
             ),
           );
         }
@@ -199,7 +200,7 @@ module _ {R W : Type 0} (remaining : R → Option (List ℕ)) (s : Decoding R W)
                 takes = subst (λ l. WritesInOrder s.target l v) (sym (append-nil (take n out))) taken;
               },
               met,
-              omega (arith, some, length-take-le n out hands.bound, counted remaining s after (take n out) taken),
+              omega (arith, some, length-take-le n out hands.bound, taken_more s.target v (take n out) taken),
             );
           }
 

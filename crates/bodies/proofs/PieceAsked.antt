@@ -1,35 +1,44 @@
 -- What an ask of a filter of payload does.
-use Rattle.std.proofs.Common.{◌≡◌, ℕ, ◌+◌, ◌<◌, ◌≤◌, inl, inr, List, [], ◌∷◌, ◌++◌, length, take, true, false, Option, Result, Ok, Err, sym, ap, subst, refl, ◌∙◌, arith, append-nil}
+use Rattle.std.proofs.Common.{◌≡◌, ℕ, ◌+◌, ◌<◌, ◌≤◌, inl, inr, List, [], ◌∷◌, ◌++◌, length, take, true, false, Bool, Option, Result, Ok, Err, sym, ap, subst, refl, ◌∙◌, arith, append-nil}
 use Rattle.std.proofs.lemmas.List.Elements.{All-nil}
 use Rattle.std.proofs.lemmas.List.{with_items_is}
 use Rattle.std.specs.Vec.{with_items}
 use Rattle.std.specs.declared.io.Error.{Error}
 use Rattle.buffer_redux.specs.Buffered.{Buffered}
-use Rattle.buffer_redux.specs.EmptyReads.{ReadsWhenEmpty-std}
+use Rattle.buffer_redux.specs.EmptyReads.{ReadsWhenEmpty-std, none_before_fault, none_where_shown}
 use Rattle.buffer_redux.specs.Policy.{std_read_rules}
 use Rattle.buffer_redux.specs.ReaderLaws.{WantsBytes-std}
 use Rattle.buffer_redux.specs.WriterLaws.{WritesInOrder-none}
 use Rattle.buffer_redux.specs.declared.policy.StdPolicy.{StdPolicy}
 use Rattle.chunked.specs.Between.{Faulted}
-use Rattle.chunked.specs.Dechunking.{BodyWent, Dechunking, ReadsPayload}
+use Rattle.chunked.specs.Dechunking.{BodyWent, Dechunking, IsDechunking, IsWhole, LooksBehind, ReadsPayload, handed_of, taken_count}
+use Rattle.chunked.specs.DechunkingLaws.{BodyWent-joins}
 use Rattle.chunked.specs.EmptyReads.{EndsOnce, ReadsPayload-ends}
+use Rattle.chunked.specs.Place.{Leads}
 use Rattle.chunked.specs.declared.error.ChunkedError.{ChunkedError}
 use Rattle.chunked.specs.declared.error.ChunkedError.TheVariants as chunked
 use Rattle.chunked.specs.declared.error.Malformed.{Malformed}
-use Rattle.forward.specs.Filter.{AsksOnce, Asks, Moves}
+use Rattle.chunked.specs.declared.place.Place.TheVariants.{Line}
+use Rattle.forward.specs.Filter.{AskAnswers, Asks, AsksOnce, Moves}
+use Rattle.forward.specs.declared.error.AskError.{AskError}
 use Rattle.forward.specs.declared.error.AskError.TheVariants.{Wrong, Io}
+use Rattle.programs.specs.Prompt.{AskedLast, AsksGive}
+use Rattle.programs.specs.PromptLaws.{AskedLast-after}
+use Rattle.bodies.specs.Decoding as Source
 use Rattle.bodies.specs.Decoding.{IsReady, held_of}
 use Rattle.bodies.specs.DecodingLaws.{none_held}
 use Rattle.bodies.specs.declared.decoding.Decoding.{Decoding}
-use Rattle.bodies.specs.declared.error.RunError.TheVariants.{NotChunked, Truncated}
+use Rattle.bodies.specs.declared.error.RunError.{RunError}
+use Rattle.bodies.specs.declared.error.RunError.TheVariants.{NotChunked, Truncated, Behind}
+use Rattle.bodies.proofs.Asking.{asks_once, ended, failed_once, none_after_fault, some_of}
 use Rattle.bodies.proofs.DecodeAsking.{read_fails, read_gives, read_leaves, read_over}
 use Rattle.bodies.proofs.Passing.{ready_on, rules}
 
 -- under `StdPolicy` an error is the stream's own
-std_fault : {R : Type 0} (s : Buffered R StdPolicy) (e : Error) (t : Buffered R StdPolicy) → Faulted std_read_rules s e t
+own_fault : {R : Type 0} (s : Buffered R StdPolicy) (e : Error) (t : Buffered R StdPolicy) → Faulted std_read_rules s e t
     → t.log.reads.faults ≡ s.log.reads.faults ++ e ∷ []
-std_fault s e t (inl fault) = fault
-std_fault s e t (inr failed) = absurd failed.gave.gave.allowed
+own_fault s e t (inl fault) = fault
+own_fault s e t (inr failed) = absurd failed.gave.gave.allowed
 
 module _ {R W : Type 0} (remaining : R → Option (List ℕ)) (s : Decoding R W) (ready : IsReady s) where
   -- it was asked for
@@ -107,30 +116,129 @@ module _ {R W : Type 0} (remaining : R → Option (List ℕ)) (s : Decoding R W)
       ready_still : IsReady (asked n)
       ready_still = ready_on remaining s ready (asked n) [] went p.whole ready.target full (omega (arith, still))
 
-    pub asked_none : (n : ℕ) → n ≡ 0 → (k : ℕ) → k ≡ 0 → Reads (Ok k) → Asks (rules remaining s ready) s (Ok false) (asked n)
-    asked_none n still k nothing p =
-        let went = subst (λ j. BodyWent remaining std_read_rules s.source (take j out) m) nothing p.went in
-        record {
-          told = refl;
-          ready = ready_still n still (Ok k) p went;
-          moves = moves n still (Ok k) p went;
-          sent = λ sent. sent;
-          asks = read_over remaining s.source m ready.source.whole out (Ok k) p;
-          once = once n (Ok k) p;
-          answers = (
-            (
-              still,
-              (
-                p.answers.2 nothing (omega (arith, len, ready.room)),
-                record {
-                  zero_reads = ends (Ok k) p;
-                  give = read_gives remaining s.source m ready.source.whole out k p;
-                },
-              ),
-            ),
-            p.answers.1,
-          );
-        }
+    -- the body ended, and then it was asked whether more follows
+    module _ (n k : ℕ) (still : n ≡ 0) (nothing : k ≡ 0) (p : Reads (Ok k)) (end : Result Bool Error) (t : Dechunking R StdPolicy)
+        (looks : LooksBehind remaining std_read_rules m end t) where
+      abbrev behind : Decoding R W
+      behind = record s { source = t; piece = with_items s.piece out; held = n }
+
+      done : IsWhole t
+      done = subst IsWhole (sym looks.still) (p.answers.2 nothing (omega (arith, len, ready.room)))
+
+      first : BodyWent remaining std_read_rules s.source [] m
+      first = subst (λ j. BodyWent remaining std_read_rules s.source (take j out) m) nothing p.went
+
+      went_on : BodyWent remaining std_read_rules s.source [] t
+      went_on = BodyWent-joins remaining std_read_rules s.source m t [] [] first (record {
+        wire = [];
+        along = looks.along;
+        taken = ap (λ d. d.taken) looks.still ∙ sym (append-nil m.taken);
+        handed = ap (λ d. handed_of d) looks.still ∙ sym (append-nil (handed_of m));
+        limits = ap (λ d. d.limits) looks.still;
+      })
+
+      -- each ask but the last gave a byte, and the payload in what they gave was handed out before
+      gave : AsksGive s.source.reader.log m.reader.log
+      gave = read_gives remaining s.source m ready.source.whole out k p
+
+      asked_on : Source.Asks s.source t
+      asked_on = elim (asks_once m.reader t.reader end looks.fills) [
+        | inl same ↦ elim (read_over remaining s.source m ready.source.whole out (Ok k) p) [
+          | inl none_told ↦ inl (same ∙ none_told)
+          | inr over ↦ inr (record {
+            came = over.came;
+            asked = subst (λ l. AskedLast over.came s.source.reader.log l) (sym same) over.asked;
+            due = over.due;
+          })
+        ]
+        | inr once ↦
+            let got = first.along.in_order.got in
+            let all : m.taken ≡ s.source.taken ++ (s.source.reader.block.bytes ++ got) =
+            first.taken ∙ ap (λ l. s.source.taken ++ l) (sym (append-nil first.wire)
+            ∙ ap (λ l. first.wire ++ l) (sym once.empty) ∙ first.along.in_order.equal) in
+            inr (record {
+              came = got;
+              asked = subst (λ l. AskedLast l s.source.reader.log t.reader.log) (append-nil got)
+                  (AskedLast-after s.source.reader.log m.reader.log t.reader.log got [] first.along.in_order.given gave
+                  (record { given = once.given; asks = omega (arith, once.asks, once.faults) }));
+              due = record {
+                place = m.place;
+                part = record {
+                  leads = subst (λ l. Leads s.source.limits Line l (handed_of s.source) m.place) all
+                      (subst (λ l. Leads s.source.limits Line m.taken l m.place)
+                      (first.handed ∙ append-nil (handed_of s.source))
+                      (subst (λ l. Leads l Line m.taken (handed_of m) m.place) first.limits p.whole.leads));
+                  is_place = p.whole.place;
+                };
+              };
+            })
+      ]
+
+      asked_so : (answer : Result Bool (AskError RunError))
+          → t.reader.log.reads.zero_reads ≤ s.source.reader.log.reads.zero_reads + 1
+          → AskAnswers (rules remaining s ready) s answer behind → Asks (rules remaining s ready) s answer behind
+      asked_so answer quiet answers = record {
+        told = refl;
+        ready = ready_on remaining s ready behind [] went_on (subst IsDechunking (sym looks.still) (record {
+          leads = p.whole.leads;
+          place = p.whole.place;
+        })) ready.target full (omega (arith, still));
+        moves = record {
+          hands = record {
+            payload = [];
+            went = went_on;
+            order = append-nil (held_of s) ∙ none_held remaining s none ∙ sym (none_held remaining behind still);
+            some = All-nil (λ q. 0 < length q);
+          };
+          takes = WritesInOrder-none s.target;
+        };
+        sent = λ sent. sent;
+        asks = asked_on;
+        once = record { once = quiet; quiet = λ closed. absurd closed; closed = λ closed. closed };
+        answers = answers;
+      }
+
+      quietly : m.reader.log.reads.zero_reads ≡ s.source.reader.log.reads.zero_reads
+      quietly = ends (Ok k) p
+
+    -- none does, or some
+    pub asked_end : (n k : ℕ) → n ≡ 0 → k ≡ 0 → Reads (Ok k) → (t : Dechunking R StdPolicy)
+        → LooksBehind remaining std_read_rules m (Ok true) t
+        → Asks (rules remaining s ready) s (Ok false) (record s { source = t; piece = with_items s.piece out; held = n })
+    asked_end n k still nothing p t looks =
+        let over = ended m.reader t.reader true looks.fills (sym looks.none) (omega (arith, ready.source.capacity, p.went.along.capacity)) in
+        let before = quietly n k still nothing p (Ok true) t looks in
+        asked_so n k still nothing p (Ok true) t looks (Ok false) (omega (arith, over.1, before)) (
+          (still, (done n k still nothing p (Ok true) t looks, over.0, omega (arith, over.1, before))),
+          looks.fills.caused ∙ p.answers.1,
+        )
+
+    pub asked_more_behind : (n k : ℕ) → n ≡ 0 → k ≡ 0 → Reads (Ok k) → (t : Dechunking R StdPolicy)
+        → LooksBehind remaining std_read_rules m (Ok false) t → (right : ℕ) → right ≡ taken_count t
+        → Asks (rules remaining s ready) s (Err (Wrong (Behind right)))
+        (record s { source = t; piece = with_items s.piece out; held = n })
+    asked_more_behind n k still nothing p t looks right count =
+        let some = some_of (length t.reader.block.bytes) looks.none in
+        let quiet = none_where_shown std_read_rules ReadsWhenEmpty-std m.reader t.reader false looks.fills.filled some in
+        let before = quietly n k still nothing p (Ok false) t looks in
+        asked_so n k still nothing p (Ok false) t looks (Err (Wrong (Behind right))) (omega (arith, quiet, before)) (
+          (still, (done n k still nothing p (Ok false) t looks, some, count)),
+          looks.fills.caused ∙ p.answers.1,
+        )
+
+    -- or that can't be told
+    pub asked_in_vain : (n k : ℕ) → n ≡ 0 → k ≡ 0 → Reads (Ok k) → (t : Dechunking R StdPolicy) → (e : Error)
+        → LooksBehind remaining std_read_rules m (Err e) t
+        → Asks (rules remaining s ready) s (Err (Io e)) (record s { source = t; piece = with_items s.piece out; held = n })
+    asked_in_vain n k still nothing p t e looks =
+        let quiet = none_before_fault std_read_rules ReadsWhenEmpty-std m.reader t.reader e looks.fills.filled in
+        let before = quietly n k still nothing p (Err e) t looks in
+        let fault = failed_once m.reader t.reader e looks.fills in
+        asked_so n k still nothing p (Err e) t looks (Err (Io e)) (omega (arith, quiet, before)) (
+          (still, none_after_fault m.reader t.reader e looks.fills),
+          fault.0 ∙ ap (λ l. l ++ e ∷ []) p.answers.1,
+          inl (record { zero_reads = quiet ∙ before; give = omega (arith, gave n k still nothing p (Err e) t looks, fault.2) }),
+        )
 
     pub asked_wrong : (n : ℕ) → n ≡ 0 → (why : Malformed) (right : ℕ) → Reads (Err (chunked.NotChunked why right))
         → Asks (rules remaining s ready) s (Err (Wrong (NotChunked why right))) (asked n)
@@ -177,7 +285,7 @@ module _ {R W : Type 0} (remaining : R → Option (List ℕ)) (s : Decoding R W)
     pub asked_failed : (n : ℕ) → n ≡ 0 → (e : Error) → Reads (Err (chunked.Io e)) → Asks (rules remaining s ready) s (Err (Io e)) (asked n)
     asked_failed n still e p =
         let answer = Err (chunked.Io e) in
-        let fault = std_fault s.source.reader e m.reader p.answers in
+        let fault = own_fault s.source.reader e m.reader p.answers in
         record {
           told = refl;
           ready = ready_still n still answer p p.went;

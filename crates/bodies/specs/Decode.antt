@@ -1,21 +1,15 @@
 -- What a run of `decode` moves from a reader to a writer.
-use Rattle.std.specs.Prelude.{◌≡◌, ℕ, ◌-◌, ◌^◌, ◌<◌, ◌⊎◌, List, [], ◌∷◌, ◌++◌, length, min, Result, Ok, Err, Option}
-use Rattle.buffer_redux.specs.BufReader.{RanDry, ReadsAlong}
-use Rattle.buffer_redux.specs.Buffered.{Buffered}
-use Rattle.buffer_redux.specs.Faults.{OnlyInterrupts}
-use Rattle.buffer_redux.specs.Policy.{std_read_rules}
+use Rattle.std.specs.Prelude.{◌≡◌, ℕ, ◌-◌, ◌^◌, ◌<◌, ◌⊎◌, List, [], ◌∷◌, ◌++◌, length, min, Result, Ok, Err}
 use Rattle.buffer_redux.specs.StreamLog.{StreamLog}
-use Rattle.buffer_redux.specs.declared.policy.StdPolicy.{StdPolicy}
 use Rattle.chunked.specs.Body.{IsBody}
 use Rattle.chunked.specs.Place.{IsPlace, IsWrong, Leads}
 use Rattle.chunked.specs.declared.error.Malformed.{Malformed}
 use Rattle.chunked.specs.declared.limits.Limits.{Limits}
 use Rattle.chunked.specs.declared.place.Place.{Place}
 use Rattle.chunked.specs.declared.place.Place.TheVariants.{Line}
-use Rattle.bodies.specs.AtEnd.{Asks as EndAsks}
 use Rattle.bodies.specs.declared.error.RunError.{RunError}
 use Rattle.bodies.specs.declared.error.RunError.TheVariants.{NotChunked, Truncated, Behind, Read, Write, Io}
-use Rattle.programs.specs.Streams.{EndsOnce, MetNoFault, ReadGaveUp, ReadFailed, SendFailed, OverCount, BufferRefused, GaveNothing, AllFlushed}
+use Rattle.programs.specs.Streams.{MetNoFault, ReadFailed, SendFailed, OverCount, BufferRefused, GaveNothing, AllFlushed}
 
 -- these bytes lead from before a body to this place in it, and this is the payload in them
 pub record IsPart (limits : Limits) (wire payload : List ℕ) (place : Place) : Type 0 where
@@ -26,26 +20,6 @@ pub record IsPart (limits : Limits) (wire payload : List ℕ) (place : Place) : 
 pub record IsDue (limits : Limits) (bytes due : List ℕ) : Type 0 where
   pub place : Place
   pub part : IsPart limits bytes due place
-
--- what an answer says to the question whether nothing follows a body of so many bytes
-abbrev pub EndAnswers : {R : Type 0} → Buffered R StdPolicy → ℕ → Result (Unit {0}) RunError → Buffered R StdPolicy → Type 0
-EndAnswers s right (Ok _) t =
-    OnlyInterrupts s.log.reads.faults t.log.reads.faults × (t.block.bytes ≡ []) × RanDry s t
-EndAnswers s right (Err (NotChunked why count)) t = ⊥
-EndAnswers s right (Err (Truncated count)) t = ⊥
-EndAnswers s right (Err (Behind count)) t =
-    OnlyInterrupts s.log.reads.faults t.log.reads.faults × (0 < length t.block.bytes) × (count ≡ right)
-EndAnswers s right (Err (Read e)) t = ReadGaveUp e s.log.reads.faults t.log.reads.faults × (t.block.bytes ≡ [])
-EndAnswers s right (Err (Write e)) t = ⊥
-EndAnswers s right (Err (Io e)) t = ⊥
-
--- what asking that does: nothing is handed out
-pub record ExpectsEnd {R : Type 0} (remaining : R → Option (List ℕ)) (s : Buffered R StdPolicy) (right : ℕ)
-    (answer : Result (Unit {0}) RunError) (t : Buffered R StdPolicy) : Type 0 where
-  pub along : ReadsAlong remaining std_read_rules s [] t
-  pub answers : EndAnswers s right answer t
-  pub asks : EndAsks s t
-  pub once : EndsOnce s.log.reads t.log.reads
 
 -- how many bytes these are, as far as a `u64` counts
 abbrev pub counted : List ℕ → ℕ

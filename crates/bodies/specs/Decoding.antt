@@ -1,24 +1,19 @@
 -- A filter that hands out the payload of a body.
-use Rattle.std.specs.Prelude.{◌≡◌, ℕ, ◌+◌, ◌<◌, ◌≤◌, ◌⊎◌, List, [], ◌++◌, length, take, Result, Ok, Err, Option}
-use Rattle.std.specs.IoError.{error_kind}
-use Rattle.std.specs.List.{All, flat_map}
-use Rattle.std.specs.declared.io.Error.{Error}
-use Rattle.std.specs.declared.io.ErrorKind.TheVariants.{Other}
+use Rattle.std.specs.Prelude.{◌≡◌, ℕ, ◌<◌, ◌≤◌, ◌⊎◌, List, [], ◌++◌, length, take, Result, Ok, Err, Option}
+use Rattle.std.specs.List.{All}
 use Rattle.buffer_redux.specs.Block.{Plain}
 use Rattle.buffer_redux.specs.BufReader.{RanDry}
 use Rattle.buffer_redux.specs.BufWriter.{WritesInOrder}
 use Rattle.buffer_redux.specs.Buffered.{Buffered}
 use Rattle.buffer_redux.specs.Policy.{std_read_rules}
-use Rattle.buffer_redux.specs.StreamLog.{StreamLog}
 use Rattle.buffer_redux.specs.declared.policy.StdPolicy.{StdPolicy}
 use Rattle.chunked.specs.Body.{IsBody}
 use Rattle.chunked.specs.Dechunking.{BodyWent, Breaks, Dechunking, HandsBuffered, IsDechunking, IsWhole, handed_of, taken_count}
 use Rattle.forward.specs.Filter.{FilterRules}
-use Rattle.forward.specs.declared.error.Cause.{Cause}
-use Rattle.forward.specs.declared.error.Cause.TheVariants as cause
-use Rattle.programs.specs.Prompt.{AskedLast, AsksGive}
+use Rattle.programs.specs.Prompt.{AskedLast}
 use Rattle.programs.specs.Streams.{AllSent}
 use Rattle.bodies.specs.Decode.{IsDue}
+use Rattle.bodies.specs.Filters.{joined, taken_in}
 use Rattle.bodies.specs.declared.decoding.Decoding.{Decoding}
 use Rattle.bodies.specs.declared.error.RunError.{RunError}
 use Rattle.bodies.specs.declared.error.RunError.TheVariants.{NotChunked, Truncated, Behind, Read, Write, Io}
@@ -80,20 +75,16 @@ pub record HandsPieces {R W : Type 0} (remaining : R → Option (List ℕ)) (s :
     (t : Decoding R W) : Type 0 where
   pub payload : List ℕ
   pub went : BodyWent remaining std_read_rules s.source payload t.source
-  pub order : held_of s ++ payload ≡ flat_map (λ piece. piece) pieces ++ held_of t
+  pub order : held_of s ++ payload ≡ joined pieces ++ held_of t
   pub some : All (λ piece. 0 < length piece) pieces
 
--- the reader gave something each time, or failed
-pub record GaveEach (read read' : StreamLog) : Type 0 where
-  pub zero_reads : read'.reads.zero_reads ≡ read.reads.zero_reads
-  pub give : AsksGive read read'
-
--- the body ended; or what comes next is wrong, or missing
+-- the body ended, and the stream behind it, which gave nothing; or what comes next is wrong, or missing, or more than the body
 abbrev pub PiecesEnd : {R W : Type 0} → Decoding R W → Result (Unit {0}) RunError → Decoding R W → Type 0
-PiecesEnd s (Ok _) t = IsWhole t.source × GaveEach s.source.reader.log t.source.reader.log
+PiecesEnd s (Ok _) t = IsWhole t.source × (t.source.reader.block.bytes ≡ []) × RanDry s.source.reader t.source.reader
 PiecesEnd s (Err (NotChunked why right)) t = Breaks why t.source × (right ≡ taken_count t.source)
 PiecesEnd s (Err (Truncated right)) t = CutShort s.source t.source × (right ≡ taken_count t.source)
-PiecesEnd s (Err (Behind right)) t = ⊥
+PiecesEnd s (Err (Behind right)) t =
+    IsWhole t.source × (0 < length t.source.reader.block.bytes) × (right ≡ taken_count t.source)
 PiecesEnd s (Err (Read e)) t = ⊥
 PiecesEnd s (Err (Write e)) t = ⊥
 PiecesEnd s (Err (Io e)) t = ⊥
@@ -104,22 +95,15 @@ decoding_rules remaining = record {
   written = λ s. s.target.log;
   ready = λ s. IsReady s;
   hands = HandsPieces remaining;
-  takes = λ s pieces t. WritesInOrder s.target (flat_map (λ piece. piece) pieces) t.target;
+  takes = λ s pieces t. WritesInOrder s.target (joined pieces) t.target;
   has = λ s. 0 < s.held;
   lacks = λ s. s.held ≡ 0;
   waits = λ s. (s.held ≡ 0) × (s.source.reader.block.bytes ≡ []);
   sent = λ s. AllSent s.target;
-  taken = λ s. length s.target.log.writes.received + length s.target.block.bytes;
+  taken = λ s. taken_in s.target;
   asks = λ s t. Asks s.source t.source;
   ends = λ s how t. (t.held ≡ 0) × PiecesEnd s how t;
   closed = λ s. ⊥;
   fresh = λ s. IsUnread s.source × (s.target.block.bytes ≡ []) × (s.held ≡ 0);
   due = λ s. IsDue s.source.limits;
 }
-
--- the error that a run of the program fails with, by what stopped the payload
-abbrev pub IsErrorOf : Cause RunError → RunError → Type 0
-IsErrorOf (cause.Wrong why) error = error ≡ why
-IsErrorOf (cause.Read e) error = error ≡ Read e
-IsErrorOf (cause.Write e) error = error ≡ Write e
-IsErrorOf cause.Count error = (e : Error) × (error_kind e ≡ Other) × (error ≡ Io e)

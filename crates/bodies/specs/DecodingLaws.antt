@@ -1,12 +1,11 @@
 -- The payload of a body is handed out in order, and what is due is sent with it.
-use Rattle.std.proofs.Common.{◌≤◌, ◌+◌, length-append, ◌≡◌, ℕ, ◌<◌, inl, inr, List, [], ◌++◌, length, take, Option, Result, Ok, Err, sym, ap, subst, ◌∙◌, arith, append-nil, append_assoc, flat_map}
+use Rattle.std.proofs.Common.{◌≡◌, ℕ, ◌<◌, inl, inr, List, [], ◌++◌, length, take, Option, Result, Ok, Err, sym, ap, subst, ◌∙◌, arith, append-nil, append_assoc}
 use Rattle.std.proofs.lemmas.Grind.{flat_map-append}
 use Rattle.std.proofs.lemmas.List.Elements.{All-append, All-nil}
 use Rattle.buffer_redux.specs.BufWriter.{WritesInOrder}
-use Rattle.buffer_redux.specs.GoesOn.{GoesOn, GoesOn-none}
 use Rattle.buffer_redux.specs.Policy.{std_read_rules}
 use Rattle.buffer_redux.specs.ReaderLaws.{ReadsInOrder-fresh}
-use Rattle.buffer_redux.specs.WriterLaws.{WritesInOrder-fresh, WritesInOrder-joins, WritesInOrder-none}
+use Rattle.buffer_redux.specs.WriterLaws.{WritesInOrder-joins, WritesInOrder-none}
 use Rattle.chunked.specs.Dechunking.{handed_of}
 use Rattle.chunked.specs.DechunkingLaws.{BodyWent-joins, BodyWent-none}
 use Rattle.forward.specs.Filter.{AsksSent, IsLawful, Moves, StaysOpen}
@@ -15,12 +14,11 @@ use Rattle.programs.specs.PromptLaws.{AskedLast-after}
 use Rattle.programs.specs.Streams.{AllSent}
 use Rattle.bodies.specs.Decode.{IsDue}
 use Rattle.bodies.specs.Decoding.{Asks, HandsPieces, IsUnread, PiecesEnd, decoding_rules, held_of}
+use Rattle.bodies.specs.Filters.{joined}
+use Rattle.bodies.specs.FiltersLaws.{sent_all, taken_on}
 use Rattle.bodies.specs.declared.decoding.Decoding.{Decoding}
 use Rattle.bodies.specs.declared.error.RunError.{RunError}
 use Rattle.bodies.specs.declared.error.RunError.TheVariants.{NotChunked, Truncated, Behind, Read, Write, Io}
-
-abbrev joined : List (List ℕ) → List ℕ
-joined pieces = flat_map (λ piece. piece) pieces
 
 module _ {R W : Type 0} (remaining : R → Option (List ℕ)) where
   hands_none : (s : Decoding R W) → HandsPieces remaining s [] s
@@ -49,29 +47,19 @@ module _ {R W : Type 0} (remaining : R → Option (List ℕ)) where
   takes_joins a b c p q f g = subst (λ l. WritesInOrder a.target l c.target) (sym (flat_map-append (λ piece. piece) p q))
       (WritesInOrder-joins a.target b.target c.target (joined p) (joined q) f g)
 
-  ends_after : (a b c : Decoding R W) (p : List (List ℕ)) (how : Result (Unit {0}) RunError) → HandsPieces remaining a p b
-      → StaysOpen (decoding_rules remaining) a b → PiecesEnd b how c → PiecesEnd a how c
-  ends_after a b c p how hands (inr closed) end = absurd closed
-  ends_after a b c p (Ok _) hands (inl gives) end = (
-    end.0,
-    record {
-      zero_reads = end.1.zero_reads ∙ gives.zero_reads;
-      give = omega (arith, gives.give, end.1.give);
-    },
-  )
-  ends_after a b c p (Err (NotChunked why right)) hands (inl gives) end = end
-  ends_after a b c p (Err (Truncated right)) hands (inl gives) end = (
-    record {
-      none = end.0.none;
-      left = end.0.left;
-      dry = omega (arith, gives.zero_reads, end.0.dry);
-    },
+  ends_after : (a b c : Decoding R W) (how : Result (Unit {0}) RunError) → StaysOpen (decoding_rules remaining) a b
+      → PiecesEnd b how c → PiecesEnd a how c
+  ends_after a b c how (inr closed) end = absurd closed
+  ends_after a b c (Ok _) (inl gives) end = (end.0, end.1, omega (arith, gives.zero_reads, end.2))
+  ends_after a b c (Err (NotChunked why right)) (inl gives) end = end
+  ends_after a b c (Err (Truncated right)) (inl gives) end = (
+    record { none = end.0.none; left = end.0.left; dry = omega (arith, gives.zero_reads, end.0.dry) },
     end.1,
   )
-  ends_after a b c p (Err (Behind right)) hands (inl gives) end = absurd end
-  ends_after a b c p (Err (Read e)) hands (inl gives) end = absurd end
-  ends_after a b c p (Err (Write e)) hands (inl gives) end = absurd end
-  ends_after a b c p (Err (Io e)) hands (inl gives) end = absurd end
+  ends_after a b c (Err (Behind right)) (inl gives) end = end
+  ends_after a b c (Err (Read e)) (inl gives) end = absurd end
+  ends_after a b c (Err (Write e)) (inl gives) end = absurd end
+  ends_after a b c (Err (Io e)) (inl gives) end = absurd end
 
   -- nothing is held where the count is 0
   pub none_held : (s : Decoding R W) → s.held ≡ 0 → held_of s ≡ []
@@ -83,18 +71,6 @@ module _ {R W : Type 0} (remaining : R → Option (List ℕ)) where
   handed_joined s t p hands none none' =
       sym (ap (λ l. l ++ hands.payload) (none_held s none)) ∙ hands.order ∙ ap (λ l. joined p ++ l) (none_held t none')
       ∙ append-nil (joined p)
-
-  -- all that was taken in was sent
-  pub all_sent : (s : Decoding R W) → AllSent s.target
-      → WasSent (s.target.log.writes.received ++ s.target.block.bytes) s.target.log.writes
-  all_sent s sent =
-      let log = s.target.log.writes in
-      let whole : log.received ++ s.target.block.bytes ≡ log.received =
-      ap (λ l. log.received ++ l) sent.empty ∙ append-nil log.received in
-      record {
-        received = subst (λ l. GoesOn l log.received) (sym whole) (GoesOn-none log.received);
-        flushed = subst (λ l. GoesOn l log.flushed) (sent.flushed ∙ sym whole) (GoesOn-none log.flushed);
-      }
 
   asks_sent : (first s t : Decoding R W) (p : List (List ℕ))
       → IsUnread first.source × (first.target.block.bytes ≡ []) × (first.held ≡ 0)
@@ -121,27 +97,8 @@ module _ {R W : Type 0} (remaining : R → Option (List ℕ)) where
         due = handed_of m;
         is_due = subst (λ l. IsDue l (m.taken ++ (m.reader.block.bytes ++ over.came)) (handed_of m)) went.limits over.due;
         sent = subst (λ l. WasSent (first.target.log.writes.received ++ l) s.target.log.writes) (sym payload)
-            (subst (λ l. WasSent l s.target.log.writes)
-            (WritesInOrder-fresh first.target s.target (joined p) fresh.1 moves.takes) (all_sent s sent));
+            (sent_all first.target s.target (joined p) fresh.1 moves.takes sent);
       })
-
-  -- bytes that are taken in are received or buffered
-  pub counted : (s t : Decoding R W) (bytes : List ℕ) → WritesInOrder s.target bytes t.target
-      → length s.target.log.writes.received + length s.target.block.bytes + length bytes
-      ≡ length t.target.log.writes.received + length t.target.block.bytes
-  counted s t bytes taken = omega (
-    arith,
-    ap length taken.received,
-    ap length taken.equal,
-    length-append s.target.log.writes.received taken.sent,
-    length-append taken.sent t.target.block.bytes,
-    length-append s.target.block.bytes bytes,
-  )
-
-  taken_on : (s t : Decoding R W) (p : List (List ℕ)) → WritesInOrder s.target (joined p) t.target
-      → length s.target.log.writes.received + length s.target.block.bytes
-      ≤ length t.target.log.writes.received + length t.target.block.bytes
-  taken_on s t p taken = omega (arith, counted s t (joined p) taken)
 
   pub decoding_lawful : IsLawful (decoding_rules {R = R} {W = W} remaining)
   decoding_lawful = record {
@@ -149,9 +106,9 @@ module _ {R W : Type 0} (remaining : R → Option (List ℕ)) where
     hands_joins = hands_joins;
     takes_none = λ s. WritesInOrder-none s.target;
     takes_joins = takes_joins;
-    ends_after = λ a b c p how hands still end. (end.0, ends_after a b c p how hands still end.1);
+    ends_after = λ a b c p how hands still end. (end.0, ends_after a b c how still end.1);
     waits_lacks = λ s waits. waits.0;
     received_taken = λ s. omega arith;
-    taken_on = taken_on;
+    taken_on = λ s t p taken. taken_on s.target t.target (joined p) taken;
     asks_sent = asks_sent;
   }

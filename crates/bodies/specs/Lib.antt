@@ -1,7 +1,10 @@
 pub mod Ending
-pub mod AtEnd
+pub mod Filters
+pub mod FiltersLaws
 pub mod Decode
 pub mod Decoding
 pub mod DecodingLaws
 pub mod Encode
+pub mod Encoding
+pub mod EncodingLaws
 pub mod Asked

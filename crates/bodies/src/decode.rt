@@ -3,19 +3,17 @@ ghost use Rattle.std.specs.Prelude.{◌≡◌, ◌<◌, [], vec_len};
 ghost use Rattle.programs.specs.Flushes.{FlushesSend};
 ghost use Rattle.programs.specs.Prompt.{HoldsNothingBack};
 ghost use Rattle.programs.specs.Streams.{EndsOnce};
-ghost use Rattle.bodies.specs.Decode.{DecodeRan, ExpectsEnd, IsDue};
-ghost use Rattle.bodies.specs.Decoding.{IsErrorOf, IsPieceTarget};
+ghost use Rattle.bodies.specs.Decode.{DecodeRan, IsDue};
+ghost use Rattle.bodies.specs.Decoding.{IsPieceTarget};
 
-use crate::at_end::is_at_end;
 use crate::decoding::{Decoding, PIECE};
-use crate::error::RunError;
+use crate::error::{RunError, error_of};
 use buffer_redux::tell::{TellRead, TellWrite};
 use buffer_redux::{BufReader, BufWriter};
 use chunked::{ChunkedReader, Limits};
-use forward::{Cause, Link, forward};
+use forward::{Link, forward};
 use programs::buffered;
 use std::alloc::Global;
-use std::io::ErrorKind;
 
 /// Copies the payload of the body that `reader` gives to `writer`. A body that is wrong, or ends too early, ends the run; the
 /// payload in what is right of it is sent then. What follows the body is left, and the run says so.
@@ -47,7 +45,7 @@ pub fn decode<R: TellRead, W: TellWrite>(
     (answer, rest.into_inner(), writer)
 }
 
-// Copies all payload, and then asks whether something follows the body. Both streams come back.
+// Copies all payload. Both streams come back.
 fn decode_all<R: TellRead, W: TellWrite>(
     source: BufReader<R>,
     limits: Limits,
@@ -77,37 +75,9 @@ fn decode_all<R: TellRead, W: TellWrite>(
         piece: _,
         held: _,
     } = link.into_inner();
-    let right = body.taken();
-    let mut rest = body.into_inner();
-    match answer {
-        Ok(_) => {
-            let answer = expect_end(&mut rest, right);
-            (answer, rest, target)
-        }
-        Err(stopped) => (Err(error_of(stopped.cause)), rest, target),
-    }
-}
-
-// Why a run failed in which no more payload could go over.
-fn error_of(cause: Cause<RunError>) -> RunError
-    ensures { IsErrorOf cause result }
-{
-    match cause {
-        Cause::Wrong(e) => e,
-        Cause::Read(e) => RunError::Read(e),
-        Cause::Write(e) => RunError::Write(e),
-        Cause::Count => RunError::Io(ErrorKind::Other.into()),
-    }
-}
-
-// That nothing follows the body, which has so many bytes.
-fn expect_end<R: TellRead>(rest: &mut BufReader<R>, right: u64) -> Result<(), RunError>
-    requires { 0 < rest.old.block.capacity }
-    ensures { ExpectsEnd R.remaining rest.old right result rest.new }
-{
-    match is_at_end(rest) {
-        Ok(true) => Ok(()),
-        Ok(false) => Err(RunError::Behind(right)),
-        Err(e) => Err(RunError::Read(e)),
-    }
+    let answer = match answer {
+        Ok(_) => Ok(()),
+        Err(stopped) => Err(error_of(stopped.cause)),
+    };
+    (answer, body.into_inner(), target)
 }

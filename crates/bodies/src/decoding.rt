@@ -57,7 +57,12 @@ impl<R: TellRead, W: TellWrite> Filter for Decoding<R, W> {
     #[inline(always)]
     fn ask(&mut self) -> Result<bool, AskError<RunError>> {
         match self.source.read_payload(self.piece.as_mut_slice()) {
-            Ok(0) => Ok(false),
+            // Nothing may follow the body.
+            Ok(0) => match self.source.is_at_end() {
+                Ok(true) => Ok(false),
+                Ok(false) => Err(AskError::Wrong(RunError::Behind(self.source.taken()))),
+                Err(e) => Err(AskError::Io(e)),
+            },
             Ok(count) => {
                 self.held = count;
                 Ok(true)

@@ -1,7 +1,10 @@
 //! Why a run failed.
+ghost use Rattle.bodies.specs.Filters.{IsErrorOf};
 
 use chunked::Malformed;
+use forward::Cause;
 use std::io;
+use std::io::ErrorKind;
 
 /// Why a run failed. Each that isn't a stream's fault has the number of bytes of the body that were right, as far as a `u64`
 /// counts.
@@ -21,14 +24,14 @@ pub enum RunError {
     Io(io::Error),
 }
 
-/// What a call of a writer failed with.
-impl From<io::Error> for RunError {
-    ghost use Rattle.std.specs.Prelude.{◌≡◌};
-    ghost use Rattle.bodies.specs.declared.error.RunError.TheVariants.{Write};
-
-    ghost from_gives = { λ e r. r ≡ Write e };
-
-    fn from(e: io::Error) -> RunError {
-        RunError::Write(e)
+/// Why a run failed in which no more could go over.
+pub fn error_of(cause: Cause<RunError>) -> RunError
+    ensures { IsErrorOf cause result }
+{
+    match cause {
+        Cause::Wrong(e) => e,
+        Cause::Read(e) => RunError::Read(e),
+        Cause::Write(e) => RunError::Write(e),
+        Cause::Count => RunError::Io(ErrorKind::Other.into()),
     }
 }

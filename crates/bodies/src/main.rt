@@ -1,10 +1,10 @@
 //! Copies the payload of the chunked body that standard input is to standard output, or makes standard input the payload of one.
 #![tactic(auto)]
 
-mod at_end;
 mod decode;
 mod decoding;
 mod encode;
+mod encoding;
 mod ending;
 mod error;
 mod run;

@@ -1,4 +1,4 @@
-use Rattle.std.proofs.Common.{inl, ap, arith}
+use Rattle.std.proofs.Common.{inl, length, ap, arith}
 use Rattle.bodies.proofs.EncodeRuns.{refused}
 use Rattle.bodies.proofs.encode.encode.Goals as goal
 
@@ -38,15 +38,9 @@ pub returns-in-Err-clause-flushes : goal.returns-in-Err-clause-flushes
 returns-in-Err-clause-flushes g c = omega (
   arith,
   ap (λ l. l.writes.flushes) c.in-Err.ensures.refused.written_same,
-  ap (λ l. l.reads.asks) c.in-Err.ensures.refused.read_same,
+  ap (λ l. length l.writes.received) c.in-Err.ensures.refused.written_same,
 )
 
 pub returns-clause-flushes : goal.returns-clause-flushes
 returns-clause-flushes g c =
-    rw (
-      c.into_inner.ensures.log,
-      c.into_inner_with_buffer-writer.ensures.log,
-      ← c.in-Ok.ensures.read,
-      ← c.in-Ok.ensures.written,
-    )
-    c.encode_all-answer.ensures.flushes
+    rw (c.into_inner_with_buffer-writer.ensures.log, ← c.in-Ok.ensures.written) c.encode_all-answer.ensures.flushes

@@ -1,16 +1,41 @@
-use Rattle.std.proofs.Common.{Err, length, arith, ap, subst, ◌∙◌}
+use Rattle.std.proofs.Common.{Err, Ok, length, arith, ap, subst, ◌∙◌}
 use Rattle.buffer_redux.specs.Policy.{std_read_rules}
-use Rattle.chunked.specs.Dechunking.{ReadsPayload}
-use Rattle.bodies.proofs.PieceAsked.{asked_cut, asked_failed, asked_more, asked_none, asked_wrong}
+use Rattle.chunked.specs.Dechunking.{LooksBehind, ReadsPayload}
+use Rattle.bodies.proofs.PieceAsked.{asked_cut, asked_end, asked_failed, asked_in_vain, asked_more, asked_more_behind, asked_wrong}
 use Rattle.bodies.proofs.decoding.DecodingFilter.ask.Goals as goal
 
-pub returns-in-Ok-eq0 : goal.returns-in-Ok-eq0
-returns-in-Ok-eq0 g c =
+pub returns-in-Ok-true : goal.returns-in-Ok-true
+returns-in-Ok-true g c =
     let s = c.args.self.now in
     let out = c.read_payload.new.out in
     let len = c.read_payload.auto.out ∙ ap length c.as_mut_slice.ensures.value in
-    asked_none g.R.TellRead.remaining s c.requires.ready c.requires.lacks c.read_payload.new.self out len s.held
-    c.requires.lacks c.in-Ok-eq0.field-0 c.in-Ok-eq0.field-0-test c.in-Ok-eq0.ensures.reads
+    let m = c.read_payload.new.self in
+    let t = c.is_at_end.new.self in
+    asked_end g.R.TellRead.remaining s c.requires.ready c.requires.lacks m out len s.held c.in-Ok-eq0.field-0
+    c.requires.lacks c.in-Ok-eq0.field-0-test c.in-Ok-eq0.ensures.reads t (subst (λ a. LooksBehind g.R.TellRead.remaining std_read_rules m a t)
+    (c.in-Ok-true.is ∙ ap Ok c.in-Ok-true.field-0-test) c.is_at_end.ensures)
+
+pub returns-in-Ok-false : goal.returns-in-Ok-false
+returns-in-Ok-false g c =
+    let s = c.args.self.now in
+    let out = c.read_payload.new.out in
+    let len = c.read_payload.auto.out ∙ ap length c.as_mut_slice.ensures.value in
+    let m = c.read_payload.new.self in
+    let t = c.is_at_end.new.self in
+    asked_more_behind g.R.TellRead.remaining s c.requires.ready c.requires.lacks m out len s.held c.in-Ok-eq0.field-0
+    c.requires.lacks c.in-Ok-eq0.field-0-test c.in-Ok-eq0.ensures.reads t (subst (λ a. LooksBehind g.R.TellRead.remaining std_read_rules m a t)
+    (c.in-Ok-false.is ∙ ap Ok c.in-Ok-false.field-0-test) c.is_at_end.ensures) c.taken.result c.taken.ensures
+
+pub returns-in-Err : goal.returns-in-Err
+returns-in-Err g c =
+    let s = c.args.self.now in
+    let out = c.read_payload.new.out in
+    let len = c.read_payload.auto.out ∙ ap length c.as_mut_slice.ensures.value in
+    let m = c.read_payload.new.self in
+    let t = c.is_at_end.new.self in
+    asked_in_vain g.R.TellRead.remaining s c.requires.ready c.requires.lacks m out len s.held c.in-Ok-eq0.field-0
+    c.requires.lacks c.in-Ok-eq0.field-0-test c.in-Ok-eq0.ensures.reads t c.in-Err.e (subst (λ a. LooksBehind g.R.TellRead.remaining std_read_rules m a t)
+    c.in-Err.is c.is_at_end.ensures)
 
 pub returns-in-Ok : goal.returns-in-Ok
 returns-in-Ok g c =

@@ -1,0 +1,8 @@
+use Rattle.bodies.proofs.EncodingCalls.{flushes_all}
+use Rattle.bodies.proofs.encoding.EncodingFilter.flush.Goals as goal
+
+pub returns : goal.returns
+returns g c =
+    flushes_all g.R.TellRead.remaining g.W.Tell.log g.W.TellWrite.stretch g.met.W.TellWrite.stretch_none
+    g.met.W.TellWrite.stretch_joins c.args.self.now c.requires c.flush.new.self c.flush.ensures.went c.flush.ensures.whole
+    c.flush.result c.flush.ensures.flushed

@@ -1,0 +1,41 @@
+-- A filter that makes what is given chunks.
+use Rattle.std.specs.Prelude.{◌≡◌, ℕ, ◌+◌, ◌<◌, List, [], length, Result, Ok, Err, Option}
+use Rattle.buffer_redux.specs.BufReader.{ReadsAlong}
+use Rattle.buffer_redux.specs.Policy.{std_read_rules}
+use Rattle.chunked.specs.Chunk.{IsChunks}
+use Rattle.chunked.specs.Chunking.{ChunksWent, IsChunking}
+use Rattle.forward.specs.Filter.{FilterRules}
+use Rattle.programs.specs.Streams.{AllSent}
+use Rattle.bodies.specs.Filters.{AskedOnce, joined, taken_in}
+use Rattle.bodies.specs.declared.encoding.Encoding.{Encoding}
+use Rattle.bodies.specs.declared.error.RunError.{RunError}
+
+-- what each call of the filter wants
+pub record IsReady {R W : Type 0} (s : Encoding R W) : Type 0 where
+  pub capacity : 0 < s.source.block.capacity
+  pub whole : IsChunking s.target
+
+-- nothing is left, and the reader gave nothing, once. No byte is wrong
+abbrev pub ReaderEnds : {R W : Type 0} → Encoding R W → Result (Unit {0}) RunError → Encoding R W → Type 0
+ReaderEnds s (Ok _) t =
+    (t.source.block.bytes ≡ []) × (t.source.log.reads.zero_reads ≡ s.source.log.reads.zero_reads + 1)
+ReaderEnds s (Err why) t = ⊥
+
+abbrev pub encoding_rules : {R W : Type 0} → (R → Option (List ℕ)) → (W → W → Type 0) → FilterRules (Encoding R W) RunError
+encoding_rules remaining stretch = record {
+  read = λ s. s.source.log;
+  written = λ s. s.target.writer.log;
+  ready = λ s. IsReady s;
+  hands = λ s payloads t. ReadsAlong remaining std_read_rules s.source (joined payloads) t.source;
+  takes = λ s payloads t. ChunksWent stretch s.target payloads t.target;
+  has = λ s. 0 < length s.source.block.bytes;
+  lacks = λ s. s.source.block.bytes ≡ [];
+  waits = λ s. s.source.block.bytes ≡ [];
+  sent = λ s. AllSent s.target.writer;
+  taken = λ s. taken_in s.target.writer;
+  asks = λ s t. AskedOnce s.source t.source;
+  ends = λ s how t. ReaderEnds s how t;
+  closed = λ s. ⊥;
+  fresh = λ s. (s.source.block.bytes ≡ []) × (s.target.writer.block.bytes ≡ []);
+  due = λ s bytes due. IsChunks due bytes;
+}

@@ -1,0 +1,32 @@
+-- What the filters of both runs say.
+use Rattle.std.specs.Prelude.{◌≡◌, ℕ, ◌+◌, ◌≤◌, List, [], ◌++◌, length, flat_map}
+use Rattle.std.specs.IoError.{error_kind}
+use Rattle.std.specs.declared.io.Error.{Error}
+use Rattle.std.specs.declared.io.ErrorKind.TheVariants.{Other}
+use Rattle.buffer_redux.specs.Buffered.{Buffered}
+use Rattle.forward.specs.declared.error.Cause.{Cause}
+use Rattle.forward.specs.declared.error.Cause.TheVariants as cause
+use Rattle.bodies.specs.declared.error.RunError.{RunError}
+use Rattle.bodies.specs.declared.error.RunError.TheVariants.{Read, Write, Io}
+
+-- the reader inside was asked where nothing was buffered, and once
+pub record AskedOnce {R P : Type 0} (s t : Buffered R P) : Type 0 where
+  pub empty : s.block.bytes ≡ []
+  pub given : t.log.reads.given ≡ s.log.reads.given ++ t.log.reads.latest
+  pub asks : t.log.reads.asks ≡ s.log.reads.asks + 1
+  pub faults : length s.log.reads.faults ≤ length t.log.reads.faults
+
+-- payloads, one behind the other
+abbrev pub joined : List (List ℕ) → List ℕ
+joined payloads = flat_map (λ payload. payload) payloads
+
+-- how many bytes a buffered writer took in, whether or not they were received
+abbrev pub taken_in : {W P : Type 0} → Buffered W P → ℕ
+taken_in u = length u.log.writes.received + length u.block.bytes
+
+-- the error that a run of the program fails with, by what stopped it
+abbrev pub IsErrorOf : Cause RunError → RunError → Type 0
+IsErrorOf (cause.Wrong why) error = error ≡ why
+IsErrorOf (cause.Read e) error = error ≡ Read e
+IsErrorOf (cause.Write e) error = error ≡ Write e
+IsErrorOf cause.Count error = (e : Error) × (error_kind e ≡ Other) × (error ≡ Io e)

@@ -1,0 +1,48 @@
+//! What is given as it goes over, chunk by chunk.
+ghost use Rattle.bodies.specs.Encoding.{encoding_rules};
+ghost use Rattle.bodies.specs.EncodingLaws.{encoding_lawful};
+
+use crate::error::RunError;
+use buffer_redux::BufReader;
+use buffer_redux::tell::{TellRead, TellWrite};
+use chunked::ChunkedWriter;
+use forward::{AskError, Filter};
+use std::io;
+use std::io::{BufRead, Write};
+
+// A reader, and the writer of the body that takes in what it gives.
+#[derive(Drop)]
+pub struct Encoding<R: TellRead, W: TellWrite> {
+    pub source: BufReader<R>,
+    pub target: ChunkedWriter<W>,
+}
+
+impl<R: TellRead, W: TellWrite> Filter for Encoding<R, W> {
+    type Wrong = RunError;
+
+    ghost rules = { encoding_rules R.remaining W.stretch };
+
+    #[inline(always)]
+    fn pass(&mut self) -> io::Result<bool> {
+        if self.source.buffer().is_empty() {
+            return Ok(false);
+        }
+        let count = self.target.write(self.source.buffer())?;
+        self.source.consume(count);
+        Ok(true)
+    }
+
+    fn flush(&mut self) -> io::Result<()> {
+        self.target.flush()
+    }
+
+    #[inline(always)]
+    fn ask(&mut self) -> Result<bool, AskError<RunError>> {
+        match self.source.fill_buf() {
+            Ok(came) => Ok(!came.is_empty()),
+            Err(e) => Err(AskError::Io(e)),
+        }
+    }
+
+    ghost lawful = { encoding_lawful R.remaining W.stretch W.stretch_none W.stretch_joins };
+}
