@@ -300,5 +300,6 @@ module _ {R W : Type 0} (remaining : R → Option (List ℕ)) (s : Decoding R W)
               zero_reads = ends answer p;
               give = read_fails remaining s.source m ready.source.whole out e p fault;
             }),
+            refl,
           );
         }

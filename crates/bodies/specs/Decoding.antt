@@ -102,6 +102,7 @@ decoding_rules remaining = record {
   sent = λ s. AllSent s.target;
   taken = λ s. taken_in s.target;
   asks = λ s t. Asks s.source t.source;
+  wants = λ s. 0;
   ends = λ s how t. (t.held ≡ 0) × PiecesEnd s how t;
   closed = λ s. ⊥;
   fresh = λ s. IsUnread s.source × (s.target.block.bytes ≡ []) × (s.held ≡ 0);

@@ -7,7 +7,7 @@ use Rattle.forward.specs.Flushes.{FlushesSend}
 use Rattle.forward.specs.Forward.{Forwarded, ForwardedFirst, NoneFailed}
 use Rattle.forward.specs.Link.{Ask, Goes, LinkFlushes, LinkPasses, Linked}
 use Rattle.forward.specs.Prompt.{WritesOn}
-use Rattle.forward.specs.Steps.{AskedFrom, ForwardsNext, NextAnswers, OnTrue, OnlyInterrupted, TakesTurn}
+use Rattle.forward.specs.Steps.{AskedFrom, ForwardsNext, GivesUp, NextAnswers, OnTrue, OnlyInterrupted, TakesTurn}
 use Rattle.forward.specs.Streams.{ReadGaveUp}
 use Rattle.forward.specs.StreamsLaws.{MetNoFault-joins, ReadFailed-after, SendFailed-after, only_same}
 use Rattle.forward.specs.declared.error.AskError.{AskError}
@@ -321,16 +321,23 @@ module _ {T W : Type 0} (rules : FilterRules T W) where
         met s m t p (Err (asked.Wrong why)) turn turn.answers.1,
       )
 
-      pub not_read : (e : Error) → TakesTurn rules m (Err (asked.Io e)) t → ForwardsNext rules s (Err (Read e)) t
-      not_read e turn = ended s m t p (Err (asked.Io e)) turn (Err (Read e)) tt (
-        none_forwarded s.filter t.filter (moves s m t p (Err (asked.Io e)) turn),
-        turn.answers.0,
+      not_read : (answer : Result Bool (AskError W)) (e : Error) → TakesTurn rules m answer t
+          → GivesUp rules m.filter e t.filter → ForwardsNext rules s (Err (Read e)) t
+      not_read answer e turn up = ended s m t p answer turn (Err (Read e)) tt (
+        none_forwarded s.filter t.filter (moves s m t p answer turn),
+        up.0,
         turn.sent,
         record {
-          reader = subst (λ l. ReadGaveUp e l.reads.faults (rules.read t.filter).reads.faults) p.flushes.told turn.answers.1;
-          writer = wrote s m t p (Err (asked.Io e)) turn;
+          reader = subst (λ l. ReadGaveUp e l.reads.faults (rules.read t.filter).reads.faults) p.flushes.told up.1;
+          writer = wrote s m t p answer turn;
         },
       )
+
+      pub none_read : (e : Error) → TakesTurn rules m (Err (asked.Io e)) t → ForwardsNext rules s (Err (Read e)) t
+      none_read e turn = not_read (Err (asked.Io e)) e turn turn.answers
+
+      pub some_read : (e : Error) → TakesTurn rules m (Err (asked.IoBehind e)) t → ForwardsNext rules s (Err (Read e)) t
+      some_read e turn = not_read (Err (asked.IoBehind e)) e turn turn.answers
 
       -- it came, and is moved
       module _ (turn : TakesTurn rules m (Ok true) t) where

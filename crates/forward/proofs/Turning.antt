@@ -1,15 +1,15 @@
 -- A turn of asks.
-use Rattle.std.proofs.Common.{◌≡◌, ℕ, ◌+◌, ◌≤◌, List, [], ◌∷◌, ◌++◌, length, Bool, true, false, Result, Ok, Err, refl, sym, ap, subst, ◌∙◌, arith, append-nil, length-append, All}
+use Rattle.std.proofs.Common.{◌≡◌, ℕ, ◌+◌, ◌<◌, ◌≤◌, ◌⊎◌, inl, inr, List, [], ◌∷◌, ◌++◌, length, Bool, true, false, None, Some, Result, Ok, Err, refl, sym, ap, subst, ◌∙◌, arith, append-nil, append_assoc, length-append, All}
 use Rattle.std.proofs.lemmas.List.{append_cancel_left}
 use Rattle.std.proofs.lemmas.List.Elements.{All-nil, All-push}
 use Rattle.std.specs.declared.io.Error.{Error}
 use Rattle.redux_buffer.specs.Faults.{IsInterrupt, OnlyInterrupts, OnlyInterrupts-none}
-use Rattle.forward.specs.Filter.{AsksOnce, FilterRules, IsLawful, Moves, StaysOpen, WasInterrupted}
-use Rattle.forward.specs.Link.{Ask, AsksAlong, IsInterrupted, LinkAsks, Linked, states_of}
-use Rattle.forward.specs.Steps.{AskedFrom, OnlyInterrupted, TakesTurn, TurnAnswers}
+use Rattle.forward.specs.Filter.{AsksOnce, FailedToRead, FilterRules, IsLawful, Moves, StaysOpen}
+use Rattle.forward.specs.Link.{Ask, AsksAlong, Gave, IsIdle, IsInterrupted, IsTurn, IsTurnBehind, LinkAsks, Linked, states_of}
+use Rattle.forward.specs.Steps.{AskedFrom, OnlyInterrupted, RowGoes, TakesTurn, TurnAnswers}
 use Rattle.forward.specs.StreamsLaws.{gave_up, one_more, only_more}
 use Rattle.forward.specs.declared.error.AskError.{AskError}
-use Rattle.forward.specs.declared.error.AskError.TheVariants.{Wrong, Io}
+use Rattle.forward.specs.declared.error.AskError.TheVariants.{Wrong, Io, IoBehind}
 use Rattle.forward.proofs.Moving.{AsksAlong-joins, AsksOnce-joins, AsksOnce-none, Moves-none, Moves-on, NotAsked-none, StaysOpen-joins, StaysOpen-none, along_one, noted_on}
 
 module _ {T W : Type 0} (rules : FilterRules T W) where
@@ -18,8 +18,7 @@ module _ {T W : Type 0} (rules : FilterRules T W) where
     pub asks : List (Ask T)
     pub noted : t.states ≡ s.states ++ states_of asks
     pub along : AsksAlong rules s.filter asks t.filter
-    pub interrupted : All (IsInterrupted rules) asks
-    pub all : length asks ≡ count
+    pub turn : (more : List (Ask T)) → IsTurnBehind rules count more → IsTurn rules (asks ++ more)
     pub each : All (AskedFrom rules s.filter) asks
     pub told : rules.written t.filter ≡ rules.written s.filter
     pub ready : rules.ready t.filter
@@ -37,8 +36,7 @@ module _ {T W : Type 0} (rules : FilterRules T W) where
       asks = [];
       noted = sym (append-nil s.states);
       along = NotAsked-none rules s.filter;
-      interrupted = All-nil (IsInterrupted rules);
-      all = refl;
+      turn = λ more is. is;
       each = All-nil (AskedFrom rules s.filter);
       told = refl;
       ready = ready;
@@ -88,32 +86,68 @@ module _ {T W : Type 0} (rules : FilterRules T W) where
       only : (rules.read u.filter).reads.faults ≡ (rules.read t.filter).reads.faults → OnlyInterrupted rules s.filter u.filter
       only same = subst (OnlyInterrupts (rules.read s.filter).reads.faults) (sym same) before.met
 
-    pub one_retry : (count : ℕ) (t u : Linked T) (before : Retrying count s t) (answer : Result Bool (AskError W))
-        → LinkAsks rules t answer u → WasInterrupted answer → Retrying (count + 1) s u
-    one_retry count t u before (Ok more) next is = absurd is
-    one_retry count t u before (Err (Wrong why)) next is = absurd is
-    one_retry count t u before (Err (Io e)) next is =
-        let failed = next.asks.answers.1 in
-        let old = (rules.read t.filter).reads.faults in
-        let new = (rules.read u.filter).reads.faults in
-        record {
-          asks = all count t u before (Err (Io e)) next;
-          noted = noted count t u before (Err (Io e)) next;
-          along = along count t u before (Err (Io e)) next;
-          interrupted = All-push (IsInterrupted rules) before.asks (last count t u before (Err (Io e)) next) before.interrupted
-              (record { error = e; interrupt = is; failed = failed });
-          all = omega (arith, before.all, length-append before.asks (last count t u before (Err (Io e)) next ∷ []));
-          each = each count t u before (Err (Io e)) next;
-          told = next.asks.told ∙ before.told;
-          ready = next.asks.ready;
-          lacks = lawful.waits_lacks u.filter next.asks.answers.0;
-          sent = next.asks.sent before.sent;
-          moves = moves count t u before (Err (Io e)) next;
-          once = once count t u before (Err (Io e)) next;
-          still = still count t u before (Err (Io e)) next next.asks.answers.2;
-          met = only_more (rules.read s.filter).reads.faults old new e before.met failed is;
-          often = omega (arith, before.often, one_more old new e failed);
-        }
+    -- an ask that was interrupted, in front of others
+    again : (ask : Ask T) → IsInterrupted rules ask → (row : ℕ) → (more : List (Ask T))
+        → (IsIdle rules ask × (row < 64) × IsTurnBehind rules (row + 1) more) ⊎ (Gave rules ask × IsTurnBehind rules 1 more)
+        → IsTurnBehind rules row (ask ∷ more)
+    again ask is row [] (inl idle) = absurd idle.2
+    again ask is row [] (inr gave) = absurd gave.1
+    again ask is row (next ∷ more) goes = (is, goes)
+
+    no_row : (row : ℕ) → Some row ≡ None → ⊥
+    no_row row goes = cc
+
+    -- it was interrupted once more, and so many were in a row then
+    module _ (count : ℕ) (t u : Linked T) (before : Retrying count s t) where
+      retry : (e : Error) (answer : Result Bool (AskError W)) (next : LinkAsks rules t answer u) → IsInterrupt e
+          → rules.waits u.filter × FailedToRead rules e t.filter u.filter × StaysOpen rules t.filter u.filter → (with : ℕ)
+          → with ≤ count + 1
+          → ((more : List (Ask T)) → IsTurnBehind rules with more
+          → IsTurnBehind rules count (record { before = t.filter; after = u.filter } ∷ more)) → Retrying with s u
+      retry e answer next is failed with few turn =
+          let old = (rules.read t.filter).reads.faults in
+          let new = (rules.read u.filter).reads.faults in
+          record {
+            asks = all count t u before answer next;
+            noted = noted count t u before answer next;
+            along = along count t u before answer next;
+            turn = λ more so. subst (IsTurn rules) (sym (append_assoc before.asks (last count t u before answer next ∷ []) more))
+                (before.turn (last count t u before answer next ∷ more) (turn more so));
+            each = each count t u before answer next;
+            told = next.asks.told ∙ before.told;
+            ready = next.asks.ready;
+            lacks = lawful.waits_lacks u.filter failed.0;
+            sent = next.asks.sent before.sent;
+            moves = moves count t u before answer next;
+            once = once count t u before answer next;
+            still = still count t u before answer next failed.2;
+            met = only_more (rules.read s.filter).reads.faults old new e before.met failed.1 is;
+            often = omega (arith, before.often, few, one_more old new e failed.1);
+          }
+
+      pub one_retry : (answer : Result Bool (AskError W)) → LinkAsks rules t answer u → (with : ℕ)
+          → RowGoes answer count (Some with) → Retrying with s u
+      one_retry (Ok more) next with goes = absurd (no_row with goes)
+      one_retry (Err (Wrong why)) next with goes = absurd (no_row with goes)
+      one_retry (Err (Io e)) next with goes =
+          let a = next.asks.answers in
+          let is : IsInterrupted rules (record { before = t.filter; after = u.filter }) =
+          record { error = e; interrupt = goes.0; failed = a.1 } in
+          retry e (Err (Io e)) next goes.0 (a.0, a.1, a.2) with (omega (arith, goes.2))
+          (λ more so. again _ is count more (inl (a.3, goes.1, subst (λ n. IsTurnBehind rules n more) goes.2 so)))
+      one_retry (Err (IoBehind e)) next with goes =
+          let a = next.asks.answers in
+          let is : IsInterrupted rules (record { before = t.filter; after = u.filter }) =
+          record { error = e; interrupt = goes.0; failed = a.1 } in
+          retry e (Err (IoBehind e)) next goes.0 (a.0, a.1, a.2) with (omega (arith, goes.1))
+          (λ more so. again _ is count more (inr (a.3, subst (λ n. IsTurnBehind rules n more) goes.1 so)))
+
+      -- these are 64 at the most
+      pub row_fits : count ≤ 64 → (answer : Result Bool (AskError W)) → (with : ℕ) → RowGoes answer count (Some with) → with ≤ 64
+      row_fits most (Ok more) with goes = absurd (no_row with goes)
+      row_fits most (Err (Wrong why)) with goes = absurd (no_row with goes)
+      row_fits most (Err (Io e)) with goes = omega (arith, goes.1, goes.2)
+      row_fits most (Err (IoBehind e)) with goes = omega (arith, goes.1)
 
     -- a call that met no fault wasn't interrupted, and one that did met just that
     not_interrupted : (xs : List Error) (e : Error) → xs ≡ xs ++ e ∷ [] → ⊥
@@ -124,31 +158,21 @@ module _ {T W : Type 0} (rules : FilterRules T W) where
         let same : e ∷ [] ≡ d ∷ [] = append_cancel_left xs (e ∷ []) (d ∷ []) (sym one ∙ other) in cc
 
     module _ (count : ℕ) (t u : Linked T) (before : Retrying count s t) (most : count ≤ 64) where
-      often : (answer : Result Bool (AskError W)) → LinkAsks rules t answer u → (WasInterrupted answer → count ≡ 64)
-          → IsInterrupted rules (record { before = t.filter; after = u.filter }) → count ≡ 64
-      often (Ok true) next few is = absurd (not_interrupted _ is.error (sym next.asks.answers.1 ∙ is.failed))
-      often (Ok false) next few is = absurd (not_interrupted _ is.error (sym next.asks.answers.1 ∙ is.failed))
-      often (Err (Wrong why)) next few is = absurd (not_interrupted _ is.error (sym next.asks.answers.1 ∙ is.failed))
-      often (Err (Io e)) next few is =
-          few (subst IsInterrupt (sym (same_fault _ _ e is.error next.asks.answers.1 is.failed)) is.interrupt)
+      often : (answer : Result Bool (AskError W)) → LinkAsks rules t answer u → RowGoes answer count None
+          → IsTurnBehind rules count (record { before = t.filter; after = u.filter } ∷ [])
+      often (Ok true) next ends is = absurd (not_interrupted _ is.error (sym next.asks.answers.1 ∙ is.failed))
+      often (Ok false) next ends is = absurd (not_interrupted _ is.error (sym next.asks.answers.1 ∙ is.failed))
+      often (Err (Wrong why)) next ends is = absurd (not_interrupted _ is.error (sym next.asks.answers.1 ∙ is.failed))
+      often (Err (Io e)) next ends is =
+          let a = next.asks.answers in
+          let large = ends (subst IsInterrupt (sym (same_fault _ _ e is.error a.1 is.failed)) is.interrupt) in
+          (a.3, omega (arith, large, most))
+      often (Err (IoBehind e)) next ends is =
+          absurd (ends (subst IsInterrupt (sym (same_fault _ _ e is.error next.asks.answers.1 is.failed)) is.interrupt))
 
-      answers : (answer : Result Bool (AskError W)) → LinkAsks rules t answer u → (WasInterrupted answer → count ≡ 64)
-          → TurnAnswers rules s.filter answer u.filter
-      answers (Ok true) next few =
-          let a = next.asks.answers in
-          (a.0, only count t u before (Ok true) next a.1, still count t u before (Ok true) next a.2)
-      answers (Ok false) next few =
-          let a = next.asks.answers in (
-            lawful.ends_after s.filter t.filter u.filter [] (Ok tt) before.moves.hands before.still a.0,
-            only count t u before (Ok false) next a.1,
-          )
-      answers (Err (Wrong why)) next few =
-          let a = next.asks.answers in (
-            lawful.ends_after s.filter t.filter u.filter [] (Err why) before.moves.hands before.still a.0,
-            only count t u before (Err (Wrong why)) next a.1,
-          )
-      answers (Err (Io e)) next few =
-          let a = next.asks.answers in
+      failed : (e : Error) (answer : Result Bool (AskError W)) (next : LinkAsks rules t answer u) → (IsInterrupt e → count ≡ 64)
+          → rules.waits u.filter × FailedToRead rules e t.filter u.filter → TurnAnswers rules s.filter (Err (Io e)) u.filter
+      failed e answer next few a =
           let first = (rules.read s.filter).reads.faults in
           let old = (rules.read t.filter).reads.faults in
           let new = (rules.read u.filter).reads.faults in (
@@ -157,26 +181,41 @@ module _ {T W : Type 0} (rules : FilterRules T W) where
                 (λ is. omega (arith, few is, before.often, one_more old new e a.1)),
           )
 
+      answers : (answer : Result Bool (AskError W)) → LinkAsks rules t answer u → RowGoes answer count None
+          → TurnAnswers rules s.filter answer u.filter
+      answers (Ok true) next ends =
+          let a = next.asks.answers in
+          (a.0, only count t u before (Ok true) next a.1, still count t u before (Ok true) next a.2)
+      answers (Ok false) next ends =
+          let a = next.asks.answers in (
+            lawful.ends_after s.filter t.filter u.filter [] (Ok tt) before.moves.hands before.still a.0,
+            only count t u before (Ok false) next a.1,
+          )
+      answers (Err (Wrong why)) next ends =
+          let a = next.asks.answers in (
+            lawful.ends_after s.filter t.filter u.filter [] (Err why) before.moves.hands before.still a.0,
+            only count t u before (Err (Wrong why)) next a.1,
+          )
+      answers (Err (Io e)) next ends =
+          let a = next.asks.answers in
+          failed e (Err (Io e)) next (λ is. omega (arith, ends is, most)) (a.0, a.1)
+      answers (Err (IoBehind e)) next ends =
+          let a = next.asks.answers in
+          failed e (Err (IoBehind e)) next (λ is. absurd (ends is)) (a.0, a.1)
+
       -- the last ask of a turn
-      pub turn_ends : (answer : Result Bool (AskError W)) → LinkAsks rules t answer u → (WasInterrupted answer → count ≡ 64)
+      pub turn_ends : (answer : Result Bool (AskError W)) → LinkAsks rules t answer u → RowGoes answer count None
           → TakesTurn rules s answer u
-      turn_ends answer next few = record {
+      turn_ends answer next ends = record {
         asks = all count t u before answer next;
         noted = noted count t u before answer next;
         along = along count t u before answer next;
-        turn = record {
-          interrupted = before.asks;
-          last = record { before = t.filter; after = u.filter };
-          equal = refl;
-          each = before.interrupted;
-          most = omega (arith, before.all, most);
-          often = λ is. omega (arith, before.all, often answer next few is);
-        };
+        turn = before.turn (last count t u before answer next ∷ []) (often answer next ends);
         each = each count t u before answer next;
         told = next.asks.told ∙ before.told;
         ready = next.asks.ready;
         moves = moves count t u before answer next;
         sent = next.asks.sent before.sent;
         once = once count t u before answer next;
-        answers = answers answer next few;
+        answers = answers answer next ends;
       }

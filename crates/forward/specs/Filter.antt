@@ -1,11 +1,11 @@
 -- A filter: how payloads go from one stream to another, and what its calls promise.
 use Rattle.std.specs.Prelude.{◌≡◌, ℕ, ◌+◌, ◌<◌, ◌≤◌, ◌⊎◌, List, [], ◌∷◌, ◌++◌, length, Bool, true, false, Result, Ok, Err}
 use Rattle.std.specs.declared.io.Error.{Error}
-use Rattle.redux_buffer.specs.Faults.{IsInterrupt, MetInterrupts, SendErrorCaused}
+use Rattle.redux_buffer.specs.Faults.{MetInterrupts, SendErrorCaused}
 use Rattle.redux_buffer.specs.StreamLog.{StreamLog}
 use Rattle.forward.specs.Prompt.{AsksGive, SentBeforeAsking, WritesOn}
 use Rattle.forward.specs.declared.error.AskError.{AskError}
-use Rattle.forward.specs.declared.error.AskError.TheVariants.{Wrong, Io}
+use Rattle.forward.specs.declared.error.AskError.TheVariants.{Wrong, Io, IoBehind}
 
 -- what a filter's states are
 pub record FilterRules (T W : Type 0) : Type 1 where
@@ -26,6 +26,8 @@ pub record FilterRules (T W : Type 0) : Type 1 where
   pub taken : T → ℕ
   -- how the stream is asked: for bytes that come while what is there holds no payload
   pub asks : T → T → Type 0
+  -- how many bytes may come at the most before a payload is there, or none is; 0 where that isn't known
+  pub wants : T → ℕ
   -- how payloads end: at Ok there are no more, at Err what comes next is wrong
   pub ends : T → Result (Unit {0}) W → T → Type 0
   -- the stream's end was told, behind which it isn't asked
@@ -34,12 +36,6 @@ pub record FilterRules (T W : Type 0) : Type 1 where
   pub fresh : T → Type 0
   -- what is due of bytes that were given
   pub due : T → List ℕ → List ℕ → Type 0
-
--- an ask was answered by an interruption
-abbrev pub WasInterrupted : {W : Type 0} → Result Bool (AskError W) → Type 0
-WasInterrupted (Ok more) = ⊥
-WasInterrupted (Err (Wrong why)) = ⊥
-WasInterrupted (Err (Io e)) = IsInterrupt e
 
 module _ {T W : Type 0} (rules : FilterRules T W) where
   -- these payloads were handed out, and those were taken in
@@ -118,7 +114,8 @@ module _ {T W : Type 0} (rules : FilterRules T W) where
   AskAnswers s (Ok true) t = rules.has t × Read s t × StaysOpen s t
   AskAnswers s (Ok false) t = rules.ends s (Ok tt) t × Read s t
   AskAnswers s (Err (Wrong why)) t = rules.ends s (Err why) t × Read s t
-  AskAnswers s (Err (Io e)) t = rules.waits t × FailedToRead e s t × StaysOpen s t
+  AskAnswers s (Err (Io e)) t = rules.waits t × FailedToRead e s t × StaysOpen s t × (rules.wants t ≡ rules.wants s)
+  AskAnswers s (Err (IoBehind e)) t = rules.waits t × FailedToRead e s t × StaysOpen s t × (rules.wants t < rules.wants s)
 
   -- what `ask` does: nothing is written
   pub record Asks (s : T) (answer : Result Bool (AskError W)) (t : T) : Type 0 where

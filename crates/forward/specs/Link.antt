@@ -1,5 +1,5 @@
 -- What contracts see of a link, and what its asks come to.
-use Rattle.std.specs.Prelude.{◌≡◌, ◌≤◌, List, [], ◌∷◌, ◌++◌, length, Bool, Result}
+use Rattle.std.specs.Prelude.{◌≡◌, ℕ, ◌+◌, ◌<◌, ◌⊎◌, List, [], ◌∷◌, ◌++◌, Bool, Result}
 use Rattle.std.specs.List.{All, flat_map}
 use Rattle.std.specs.declared.io.Error.{Error}
 use Rattle.redux_buffer.specs.Faults.{IsInterrupt}
@@ -45,14 +45,24 @@ module _ {T W : Type 0} (rules : FilterRules T W) where
     pub interrupt : IsInterrupt error
     pub failed : FailedToRead rules error ask.before ask.after
 
-  -- an ask, made again where it was interrupted: 64 times at the most, and it ends by an interruption only then
-  pub record IsTurn (asks : List (Ask T)) : Type 0 where
-    pub interrupted : List (Ask T)
-    pub last : Ask T
-    pub equal : asks ≡ interrupted ++ last ∷ []
-    pub each : All IsInterrupted interrupted
-    pub most : length interrupted ≤ 64
-    pub often : IsInterrupted last → length interrupted ≡ 64
+  -- nothing came in this one; or some bytes did
+  abbrev pub IsIdle : Ask T → Type 0
+  IsIdle ask = rules.wants ask.after ≡ rules.wants ask.before
+
+  abbrev pub Gave : Ask T → Type 0
+  Gave ask = rules.wants ask.after < rules.wants ask.before
+
+  -- an ask, made again where it was interrupted, behind so many in a row that were. It ends by an interruption only behind 64 in a
+  -- row; and where bytes came in one that was interrupted, it is the first of a new row
+  abbrev pub IsTurnBehind : ℕ → List (Ask T) → Type 0
+  IsTurnBehind row [] = ⊥
+  IsTurnBehind row (ask ∷ []) = IsInterrupted ask → IsIdle ask × (row ≡ 64)
+  IsTurnBehind row (ask ∷ next ∷ more) =
+      IsInterrupted ask
+      × ((IsIdle ask × (row < 64) × IsTurnBehind (row + 1) (next ∷ more)) ⊎ (Gave ask × IsTurnBehind 1 (next ∷ more)))
+
+  abbrev pub IsTurn : List (Ask T) → Type 0
+  IsTurn asks = IsTurnBehind 0 asks
 
   -- asks go by turns
   pub record AreTurns (asks : List (Ask T)) : Type 0 where

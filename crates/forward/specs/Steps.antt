@@ -1,14 +1,24 @@
 -- The steps of `forward`: one turn of asks, and one payload.
-use Rattle.std.specs.Prelude.{◌≡◌, ℕ, ◌+◌, ◌<◌, ◌≤◌, List, [], ◌++◌, length, Bool, true, false, Result, Ok, Err}
+use Rattle.std.specs.Prelude.{◌≡◌, ℕ, ◌+◌, ◌<◌, ◌≤◌, List, [], ◌++◌, length, Bool, true, false, Option, None, Some, Result, Ok, Err}
 use Rattle.std.specs.List.{All}
-use Rattle.redux_buffer.specs.Faults.{OnlyInterrupts}
+use Rattle.std.specs.declared.io.Error.{Error}
+use Rattle.redux_buffer.specs.Faults.{IsInterrupt, OnlyInterrupts}
 use Rattle.forward.specs.Filter.{AsksOnce, FilterRules, FlushesOnce, Moves, StaysOpen}
 use Rattle.forward.specs.Forward.{Forwarded, NoneFailed, StopsBy}
 use Rattle.forward.specs.Link.{Ask, AsksAlong, Goes, IsTurn, Linked, states_of}
 use Rattle.forward.specs.Streams.{ReadGaveUp}
 use Rattle.forward.specs.declared.error.AskError.{AskError}
-use Rattle.forward.specs.declared.error.AskError.TheVariants.{Wrong, Io}
+use Rattle.forward.specs.declared.error.AskError.TheVariants.{Wrong, Io, IoBehind}
 use Rattle.forward.specs.declared.error.Cause.{Cause}
+
+-- an ask with this answer is made again, behind so many in a row that were interrupted, and so many are with it; or it isn't
+abbrev pub RowGoes : {W : Type 0} → Result Bool (AskError W) → ℕ → Option ℕ → Type 0
+RowGoes (Ok more) row next = next ≡ None
+RowGoes (Err (Wrong why)) row next = next ≡ None
+RowGoes (Err (Io e)) row None = IsInterrupt e → 64 ≤ row
+RowGoes (Err (Io e)) row (Some next) = IsInterrupt e × (row < 64) × (next ≡ row + 1)
+RowGoes (Err (IoBehind e)) row None = ¬ IsInterrupt e
+RowGoes (Err (IoBehind e)) row (Some next) = IsInterrupt e × (next ≡ 1)
 
 module _ {T W : Type 0} (rules : FilterRules T W) where
   -- since this state nothing more went over before the ask, nothing was there to hand out, and all was sent
@@ -24,11 +34,16 @@ module _ {T W : Type 0} (rules : FilterRules T W) where
   abbrev pub OnlyInterrupted : T → T → Type 0
   OnlyInterrupted s t = OnlyInterrupts (rules.read s).reads.faults (rules.read t).reads.faults
 
+  -- where reads failed so that they aren't tried again, none is there yet
+  abbrev pub GivesUp : T → Error → T → Type 0
+  GivesUp s e t = rules.waits t × ReadGaveUp e (rules.read s).reads.faults (rules.read t).reads.faults
+
   abbrev pub TurnAnswers : T → Result Bool (AskError W) → T → Type 0
   TurnAnswers s (Ok true) t = rules.has t × OnlyInterrupted s t × StaysOpen rules s t
   TurnAnswers s (Ok false) t = rules.ends s (Ok tt) t × OnlyInterrupted s t
   TurnAnswers s (Err (Wrong why)) t = rules.ends s (Err why) t × OnlyInterrupted s t
-  TurnAnswers s (Err (Io e)) t = rules.waits t × ReadGaveUp e (rules.read s).reads.faults (rules.read t).reads.faults
+  TurnAnswers s (Err (Io e)) t = GivesUp s e t
+  TurnAnswers s (Err (IoBehind e)) t = GivesUp s e t
 
   -- what one turn of asks does
   pub record TakesTurn (s : Linked T) (answer : Result Bool (AskError W)) (t : Linked T) : Type 0 where

@@ -7,8 +7,10 @@ use std::{fmt, io};
 pub enum AskError<W> {
     /// What comes next is none, and begins none.
     Wrong(W),
-    /// The stream failed.
+    /// The stream failed, and gave nothing before.
     Io(io::Error),
+    /// The stream gave bytes, and then it failed.
+    IoBehind(io::Error),
 }
 
 /// Which side stopped, and why.

@@ -1,8 +1,7 @@
 //! Payloads forwarded until there are no more.
 ghost use Rattle.std.specs.Prelude.{◌≡◌, ◌<◌, ◌≤◌, true, false};
-ghost use Rattle.forward.specs.Filter.{WasInterrupted};
 ghost use Rattle.forward.specs.Forward.{Forwards};
-ghost use Rattle.forward.specs.Steps.{ForwardsNext, TakesTurn};
+ghost use Rattle.forward.specs.Steps.{ForwardsNext, RowGoes, TakesTurn};
 
 use crate::error::{AskError, Cause, Stopped};
 use crate::filter::Filter;
@@ -13,8 +12,8 @@ use std::io::ErrorKind;
 /// Forwards each payload, in order, until the stream that is read from ends, and returns how many those were.
 ///
 /// Nothing is held back: before the stream is asked, all that was taken in is sent and flushed. An ask that was interrupted is made
-/// again, 64 times in a row. An `Err` says which side stopped, and why, and how many payloads went over: where that isn't a fault
-/// of the writer, all of these were sent and flushed.
+/// again, 64 times in a row, which begins anew where bytes came in one. An `Err` says which side stopped, and why, and how many
+/// payloads went over: where that isn't a fault of the writer, all of these were sent and flushed.
 pub fn forward<F: Filter>(link: &mut Link<F>) -> Result<u64, Stopped<F::Wrong>>
     requires ready { F.rules.ready link.old.filter }
     requires fresh { F.rules.fresh link.old.filter }
@@ -64,10 +63,11 @@ fn forward_asked<F: Filter>(link: &mut Link<F>) -> Result<bool, Cause<F::Wrong>>
         Ok(false) => Ok(false),
         Err(AskError::Wrong(why)) => Err(Cause::Wrong(why)),
         Err(AskError::Io(e)) => Err(Cause::Read(e)),
+        Err(AskError::IoBehind(e)) => Err(Cause::Read(e)),
     }
 }
 
-// Asks for a payload. Of asks that are interrupted in a row the 65th ends it.
+// Asks for a payload. Of asks that are interrupted in a row the 65th ends it; one in which bytes came is the first of a row.
 #[inline(always)]
 fn ask_retried<F: Filter>(link: &mut Link<F>) -> Result<bool, AskError<F::Wrong>>
     requires ready { F.rules.ready link.old.filter }
@@ -78,21 +78,23 @@ fn ask_retried<F: Filter>(link: &mut Link<F>) -> Result<bool, AskError<F::Wrong>
     let mut row = 0;
     'tries: loop {
         let answer = link.ask();
-        if is_final(&answer, row) {
-            return answer;
+        match row_with(&answer, row) {
+            Some(with) => row = with,
+            None => return answer,
         }
-        row += 1;
     }
 }
 
-// Whether this answer ends a row, in which so many asks were interrupted before.
+// How many asks in a row were interrupted with this one, where so many were before; `None` where it isn't made again.
 #[inline(always)]
-fn is_final<W>(answer: &Result<bool, AskError<W>>, row: u32) -> bool
-    ensures again { result ≡ false → WasInterrupted answer.now × (row < 64) }
-    ensures often { result ≡ true → WasInterrupted answer.now → 64 ≤ row }
+fn row_with<W>(answer: &Result<bool, AskError<W>>, row: u32) -> Option<u32>
+    ensures { RowGoes answer.now row result }
 {
     match answer {
-        Err(AskError::Io(e)) => e.kind() != ErrorKind::Interrupted || row >= INTERRUPT_LIMIT,
-        _ => true,
+        Err(AskError::Io(e)) if e.kind() == ErrorKind::Interrupted && row < INTERRUPT_LIMIT => {
+            Some(row + 1)
+        }
+        Err(AskError::IoBehind(e)) if e.kind() == ErrorKind::Interrupted => Some(1),
+        _ => None,
     }
 }

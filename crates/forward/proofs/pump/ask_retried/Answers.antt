@@ -1,5 +1,5 @@
 use Rattle.std.proofs.Common.{arith}
-use Rattle.forward.proofs.Turning.{none_yet, one_retry, turn_ends}
+use Rattle.forward.proofs.Turning.{none_yet, one_retry, row_fits, turn_ends}
 use Rattle.forward.proofs.pump.ask_retried.Goals as goal
 
 pub tries-init : goal.tries-init
@@ -8,26 +8,15 @@ tries-init g c = record {
   few = omega arith;
 }
 
-pub tries-preserved : goal.tries-preserved
-tries-preserved g c =
-    let again = c.is_final.ensures.again c.if-is_final.false in
-    record {
-      before = one_retry g.F.Filter.rules g.met.F.Filter.lawful c.args.link.now c.tries.row c.tries.link c.ask-answer.new.self
-          c.tries.invariant.before c.ask-answer.result c.ask-answer.ensures again.0;
-      few = omega (arith, again.1);
-    }
+pub tries-preserved-in-Some-2 : goal.tries-preserved-in-Some-2
+tries-preserved-in-Some-2 g c = record {
+  before = one_retry g.F.Filter.rules g.met.F.Filter.lawful c.args.link.now c.tries.row c.tries.link c.ask-answer.new.self
+      c.tries.invariant.before c.ask-answer.result c.ask-answer.ensures c.in-Some.with c.in-Some.ensures;
+  few = row_fits g.F.Filter.rules g.met.F.Filter.lawful c.args.link.now c.tries.row c.tries.link c.ask-answer.new.self
+      c.tries.invariant.before c.tries.invariant.few c.ask-answer.result c.in-Some.with c.in-Some.ensures;
+}
 
-pub returns-then-is_final : goal.returns-then-is_final
-returns-then-is_final g c =
+pub returns-in-None : goal.returns-in-None
+returns-in-None g c =
     turn_ends g.F.Filter.rules g.met.F.Filter.lawful c.args.link.now c.tries.row c.tries.link c.ask-answer.new.self
-    c.tries.invariant.before c.tries.invariant.few c.ask-answer.result c.ask-answer.ensures
-    (λ is. omega (arith, c.is_final.ensures.often c.if-is_final.true is, c.tries.invariant.few))
-
-pub tries-preserved-else-is_final-2 : goal.tries-preserved-else-is_final-2
-tries-preserved-else-is_final-2 g c =
-    let again = c.is_final.ensures.again c.if-is_final.false in
-    record {
-      before = one_retry g.F.Filter.rules g.met.F.Filter.lawful c.args.link.now c.tries.row c.tries.link c.ask-answer.new.self
-          c.tries.invariant.before c.ask-answer.result c.ask-answer.ensures again.0;
-      few = omega (arith, again.1);
-    }
+    c.tries.invariant.before c.tries.invariant.few c.ask-answer.result c.ask-answer.ensures c.in-None.ensures

@@ -1,4 +1,4 @@
-use Rattle.std.proofs.Common.{◌-◌, ◌≤◌}
+use Rattle.std.proofs.Common.{◌+◌, ◌*◌, ◌-◌, ◌≤◌}
 use Rattle.forward.proofs.Turning.{Retrying}
 use Rattle.forward.proofs.pump.ask_retried.Given as goal
 
@@ -9,4 +9,4 @@ invariant-tries g l = record {
 }
 
 abbrev pub decreases-tries : goal.decreases-tries
-decreases-tries g l = 64 - l.row
+decreases-tries g l = g.F.Filter.rules.wants l.link.filter * 65 + (64 - l.row)

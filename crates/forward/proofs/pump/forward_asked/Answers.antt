@@ -1,6 +1,6 @@
 use Rattle.std.proofs.Common.{Ok, Err, subst}
 use Rattle.forward.specs.Steps.{TakesTurn}
-use Rattle.forward.proofs.Forwarding.{came_not_passed, came_passed, no_more, not_read, wrong_next}
+use Rattle.forward.proofs.Forwarding.{came_not_passed, came_passed, no_more, none_read, some_read, wrong_next}
 use Rattle.forward.proofs.pump.forward_asked.Goals as goal
 
 pub returns-in-Ok : goal.returns-in-Ok
@@ -42,5 +42,13 @@ returns-in-Err-Io g c =
     let rules = g.F.Filter.rules in
     let m = c.flush.new.self in
     let t = c.ask_retried.new.link in
-    not_read rules g.met.F.Filter.lawful c.args.link.now m t c.in_default.ensures c.in-Err-Io.e
+    none_read rules g.met.F.Filter.lawful c.args.link.now m t c.in_default.ensures c.in-Err-Io.e
     (subst (λ e. TakesTurn rules m (Err e) t) c.in-Err-Io.field-0-is c.in-Err-Io.ensures)
+
+pub returns-in-Err-IoBehind : goal.returns-in-Err-IoBehind
+returns-in-Err-IoBehind g c =
+    let rules = g.F.Filter.rules in
+    let m = c.flush.new.self in
+    let t = c.ask_retried.new.link in
+    some_read rules g.met.F.Filter.lawful c.args.link.now m t c.in_default.ensures c.in-Err-IoBehind.e
+    (subst (λ e. TakesTurn rules m (Err e) t) c.in-Err-IoBehind.field-0-is c.in-Err-IoBehind.ensures)
