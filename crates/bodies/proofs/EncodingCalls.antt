@@ -155,4 +155,5 @@ module _ {R W : Type 0} (remaining : R → Option (List ℕ)) (tells : W → Str
           none_after_fault s.source t e fills,
           failed.0,
           inl (record { zero_reads = none_gave; give = failed.2 }),
+          refl,
         )

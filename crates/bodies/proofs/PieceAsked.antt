@@ -238,6 +238,7 @@ module _ {R W : Type 0} (remaining : R → Option (List ℕ)) (s : Decoding R W)
           (still, none_after_fault m.reader t.reader e looks.fills),
           fault.0 ∙ ap (λ l. l ++ e ∷ []) p.answers.1,
           inl (record { zero_reads = quiet ∙ before; give = omega (arith, gave n k still nothing p (Err e) t looks, fault.2) }),
+          refl,
         )
 
     pub asked_wrong : (n : ℕ) → n ≡ 0 → (why : Malformed) (right : ℕ) → Reads (Err (chunked.NotChunked why right))

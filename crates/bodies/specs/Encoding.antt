@@ -34,6 +34,7 @@ encoding_rules remaining stretch = record {
   sent = λ s. AllSent s.target.writer;
   taken = λ s. taken_in s.target.writer;
   asks = λ s t. AskedOnce s.source t.source;
+  wants = λ s. 0;
   ends = λ s how t. ReaderEnds s how t;
   closed = λ s. ⊥;
   fresh = λ s. (s.source.block.bytes ≡ []) × (s.target.writer.block.bytes ≡ []);
