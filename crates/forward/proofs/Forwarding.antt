@@ -2,8 +2,8 @@
 use Rattle.std.proofs.Common.{inl, inr, length, ◌<◌, ◌≡◌, ℕ, ◌+◌, ◌≤◌, List, [], ◌∷◌, ◌++◌, Bool, true, false, Result, Ok, Err, refl, sym, ap, subst, ◌∙◌, arith, append_assoc, length-append}
 use Rattle.std.specs.declared.io.Error.{Error}
 use Rattle.redux_buffer.specs.Faults.{MetInterrupts, OnlyInterrupts}
-use Rattle.forward.specs.Filter.{AsksOnce, FilterRules, FlushesOnce, IsLawful, Moves, StaysOpen, Wrote}
-use Rattle.forward.specs.Flushes.{FlushesSend}
+use Rattle.forward.specs.Filter.{AlwaysAsks, AsksOnce, FilterRules, FlushesOnce, IsLawful, Moves, StaysOpen, Wrote}
+use Rattle.forward.specs.Flushes.{FlushesPerAsk, FlushesSend, flushed_last}
 use Rattle.forward.specs.Forward.{Forwarded, ForwardedFirst, NoneFailed}
 use Rattle.forward.specs.Link.{Ask, Goes, LinkFlushes, LinkPasses, Linked}
 use Rattle.forward.specs.Prompt.{WritesOn}
@@ -31,6 +31,25 @@ module _ {T W : Type 0} (rules : FilterRules T W) where
     pub take : (rules.written s).writes.flushes + length (rules.written first).writes.received
         ≤ (rules.written first).writes.flushes + rules.taken s
     pub send : FlushesSend 1 (rules.written first).writes (rules.written s).writes
+    pub asked : AlwaysAsks rules → FlushesPerAsk 0 (rules.read first) (rules.read s) (rules.written first) (rules.written s)
+
+  -- it was flushed once at most, or not
+  once_more : (s t : T) → FlushesOnce rules s t
+      → (rules.written t).writes.flushes ≤ (rules.written s).writes.flushes + 1
+  once_more s t (inl same) = omega (arith, same)
+  once_more s t (inr one) = omega (arith, one.0)
+
+  abbrev PerAsk : ℕ → T → T → Type 0
+  PerAsk more s t = FlushesPerAsk more (rules.read s) (rules.read t) (rules.written s) (rules.written t)
+
+  late : (s t : T) → PerAsk 0 s t → (answer : Result Bool (Cause W)) → PerAsk (flushed_last answer) s t
+  late s t even (Ok a) = even
+  late s t even (Err e) = omega (arith, even)
+
+  unflushed : (s t : T) → rules.read t ≡ rules.read s
+      → (rules.written t).writes.flushes ≡ (rules.written s).writes.flushes → (answer : Result Bool (Cause W))
+      → PerAsk (flushed_last answer) s t
+  unflushed s t told same answer = late s t (omega (arith, same, ap (λ l. l.reads.asks) told)) answer
 
   -- what was received goes on
   longer : (s t : T) → WritesOn (rules.written s).writes (rules.written t).writes
@@ -161,6 +180,7 @@ module _ {T W : Type 0} (rules : FilterRules T W) where
         goes = unasked (AskedFrom rules s.filter) (Ok true) p;
         once = unasked_once (Ok true) p;
         flushes = inl p.passes.flushes;
+        asked = λ always. unflushed s.filter m.filter p.passes.told p.passes.flushes (Ok true);
         more = p.passes.answers.3;
         received = longer s.filter m.filter p.passes.writes;
         ready = p.passes.ready;
@@ -176,6 +196,7 @@ module _ {T W : Type 0} (rules : FilterRules T W) where
         goes = unasked (AskedFrom rules s.filter) (Err e) p;
         once = unasked_once (Err e) p;
         flushes = inl p.passes.flushes;
+        asked = λ always. unflushed s.filter m.filter p.passes.told p.passes.flushes (Err (Write e));
         more = tt;
         received = longer s.filter m.filter p.passes.writes;
         ready = p.passes.ready;
@@ -220,6 +241,7 @@ module _ {T W : Type 0} (rules : FilterRules T W) where
                 ),
               )
             ];
+            asked = λ always. omega (arith, next.asked always, p.passes.flushes, ap (λ l. l.reads.asks) p.passes.told);
             more = more_after _ _ _ answer (lawful.taken_on s.filter m.filter [] p.passes.answers.0.takes) next.more;
             received = omega (arith, longer s.filter m.filter p.passes.writes, next.received);
             ready = next.ready;
@@ -239,6 +261,7 @@ module _ {T W : Type 0} (rules : FilterRules T W) where
         goes = flush_unasked (AskedFrom rules s.filter) (Err e) p;
         once = flush_once (Err e) p;
         flushes = p.flushes.flushes;
+        asked = λ always. omega (arith, once_more s.filter m.filter p.flushes.flushes, ap (λ l. l.reads.asks) p.flushes.told);
         more = tt;
         received = longer s.filter m.filter p.flushes.writes;
         ready = p.flushes.ready;
@@ -287,6 +310,15 @@ module _ {T W : Type 0} (rules : FilterRules T W) where
         )
       ]
 
+      flushed_then_asked : AlwaysAsks rules → PerAsk 0 s.filter t.filter
+      flushed_then_asked always = omega (
+        arith,
+        once_more s.filter m.filter p.flushes.flushes,
+        turn.asked always,
+        ap (λ l. l.writes.flushes) turn.told,
+        ap (λ l. l.reads.asks) p.flushes.told,
+      )
+
       received : length (rules.written s.filter).writes.received ≤ length (rules.written t.filter).writes.received
       received = omega (arith, longer s.filter m.filter p.flushes.writes, ap (λ l. length l.writes.received) turn.told)
 
@@ -296,6 +328,7 @@ module _ {T W : Type 0} (rules : FilterRules T W) where
         goes = goes;
         once = once;
         flushes = flushes;
+        asked = λ always. late s.filter t.filter (flushed_then_asked always) next;
         more = more;
         received = received;
         ready = turn.ready;
@@ -364,6 +397,7 @@ module _ {T W : Type 0} (rules : FilterRules T W) where
                 | inl same ↦ inl (unflushed ∙ same)
                 | inr one ↦ inr (unflushed ∙ one.0, omega (arith, one.1, next.received))
               ];
+              asked = λ always. omega (arith, flushed_then_asked s m t p (Ok true) turn always, next.asked always);
               more = more_after _ _ _ answer
                   (lawful.taken_on s.filter t.filter [] (moves s m t p (Ok true) turn).takes) next.more;
               received = omega (arith, received s m t p (Ok true) turn, next.received);

@@ -3,7 +3,8 @@ use Rattle.std.specs.Prelude.{◌≡◌, ℕ, ◌+◌, ◌<◌, ◌≤◌, List,
 use Rattle.std.specs.List.{All}
 use Rattle.std.specs.declared.io.Error.{Error}
 use Rattle.redux_buffer.specs.Faults.{IsInterrupt, OnlyInterrupts}
-use Rattle.forward.specs.Filter.{AsksOnce, FilterRules, FlushesOnce, Moves, StaysOpen}
+use Rattle.forward.specs.Filter.{AlwaysAsks, AsksOnce, FilterRules, FlushesOnce, Moves, StaysOpen}
+use Rattle.forward.specs.Flushes.{FlushesPerAsk, flushed_last}
 use Rattle.forward.specs.Forward.{Forwarded, NoneFailed, StopsBy}
 use Rattle.forward.specs.Link.{Ask, AsksAlong, Goes, IsTurn, Linked, states_of}
 use Rattle.forward.specs.Streams.{ReadGaveUp}
@@ -57,6 +58,7 @@ module _ {T W : Type 0} (rules : FilterRules T W) where
     pub moves : Moves rules s.filter [] [] t.filter
     pub sent : rules.sent t.filter
     pub once : AsksOnce rules s.filter t.filter
+    pub asked : AlwaysAsks rules → (rules.read s.filter).reads.asks < (rules.read t.filter).reads.asks
     pub answers : TurnAnswers s.filter answer t.filter
 
   -- what the next payload's answer says, behind so many that went over
@@ -76,6 +78,8 @@ module _ {T W : Type 0} (rules : FilterRules T W) where
     pub goes : Goes rules (AskedFrom s.filter) s t
     pub once : AsksOnce rules s.filter t.filter
     pub flushes : FlushesOnce rules s.filter t.filter
+    pub asked : AlwaysAsks rules → FlushesPerAsk (flushed_last answer) (rules.read s.filter) (rules.read t.filter)
+        (rules.written s.filter) (rules.written t.filter)
     pub more : OnTrue answer (rules.taken s.filter < rules.taken t.filter)
     pub received : length (rules.written s.filter).writes.received ≤ length (rules.written t.filter).writes.received
     pub ready : rules.ready t.filter

@@ -1,13 +1,8 @@
 -- How often a run flushes its writer: only where that sends something.
-use Rattle.std.specs.Prelude.{◌≡◌, ℕ, ◌+◌, ◌≤◌, ◌⊎◌, length}
+use Rattle.std.specs.Prelude.{◌≡◌, ◌+◌, ◌≤◌, ◌⊎◌, length}
 use Rattle.buffer_redux.specs.Buffered.{Buffered}
-use Rattle.buffer_redux.specs.StreamLog.{StreamLog, WriteLog}
-pub use Rattle.forward.specs.Flushes.{FlushesSend}
-
--- the writer was flushed once for each ask of the reader at most, and so many times more
-abbrev pub FlushesPerAsk : ℕ → StreamLog → StreamLog → StreamLog → StreamLog → Type 0
-FlushesPerAsk more read read' written written' =
-    written'.writes.flushes + read.reads.asks ≤ written.writes.flushes + read'.reads.asks + more
+use Rattle.buffer_redux.specs.StreamLog.{WriteLog}
+pub use Rattle.forward.specs.Flushes.{FlushesSend, FlushesPerAsk}
 
 -- a byte was taken in behind each flush
 abbrev pub FlushesTake : {W P : Type 0} → WriteLog → Buffered W P → Type 0
