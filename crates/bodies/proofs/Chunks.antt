@@ -10,7 +10,7 @@ use Rattle.buffer_redux.specs.WriterLaws.{WritesInOrder-then}
 use Rattle.buffer_redux.specs.declared.policy.StdPolicy.{StdPolicy}
 use Rattle.chunked.specs.Chunk.{body_end}
 use Rattle.chunked.specs.Chunking.{Chunking, IsChunking, PutsFirst, PutsIn, WritesChunk, around, room}
-use Rattle.programs.specs.FlushesLaws.{FlushesOnce-flush}
+use Rattle.programs.specs.FlushesLaws.{FlushesOnce-flush, flushed_once}
 use Rattle.programs.specs.PromptLaws.{WritesOn-grows, WritesOn-joins, WritesOn-unflushed}
 use Rattle.programs.specs.StreamsLaws.{MetInterrupts-none}
 use Rattle.bodies.specs.Encode.{EndAnswers, EndsBody}
@@ -85,6 +85,7 @@ module _ {W : Type 0} (tells : W → StreamLog) (stretch : W → W → Type 0) w
           taken = WritesInOrder-then u m v (body_end []) taken f.in_order;
           answers = answers;
           writes = writes;
+          once = omega (arith, flushed_once m v answer f.steps, quiet.flushes);
           flushes = elim (FlushesOnce-flush m v answer f.steps) [
             | inl same ↦ omega (
               arith,

@@ -11,7 +11,7 @@ use Rattle.bodies.specs.Decode as decoded
 use Rattle.bodies.specs.Encode.{EncodeRan}
 use Rattle.bodies.specs.Encode as encoded
 use Rattle.bodies.specs.Ending.{EndsAs}
-use Rattle.programs.specs.Flushes.{FlushesSend}
+use Rattle.programs.specs.Flushes.{FlushesPerAsk, FlushesSend}
 use Rattle.programs.specs.Prompt.{HoldsNothingBack}
 use Rattle.programs.specs.Streams.{EndsOnce}
 
@@ -42,6 +42,7 @@ pub record EncodedAs (ending : Ending) (read read' written written' : StreamLog)
   pub prompt : HoldsNothingBack encoded.IsDue read read' written written'
   pub once : EndsOnce read.reads read'.reads
   pub flushes : FlushesSend 1 written.writes written'.writes
+  pub per_ask : FlushesPerAsk 1 read read' written written'
   pub ends : EndsAs answer ending
 
 -- what a run did that these words asked for, and that ended so; other words call no stream

@@ -33,6 +33,7 @@ pub record EndsBody {W : Type 0} (u : Buffered W StdPolicy) (answer : Result (Un
   pub answers : EndAnswers u end answer v
   pub writes : WritesOn u.log.writes v.log.writes
   pub flushes : FlushesSend 0 u.log.writes v.log.writes
+  pub once : v.log.writes.flushes ≤ u.log.writes.flushes + 1
 
 -- these bytes are a body with this payload, for each reader that lets the line of a size have 16 bytes
 abbrev pub IsWritten : List ℕ → List ℕ → Type 0

@@ -41,6 +41,23 @@ returns-in-Err-clause-flushes g c = omega (
   ap (λ l. length l.writes.received) c.in-Err.ensures.refused.written_same,
 )
 
+pub returns-in-Err-clause-per_ask : goal.returns-in-Err-clause-per_ask
+returns-in-Err-clause-per_ask g c = omega (
+  arith,
+  ap (λ l. l.writes.flushes) c.in-Err.ensures.refused.written_same,
+  ap (λ l. l.reads.asks) c.in-Err.ensures.refused.read_same,
+)
+
+pub returns-clause-per_ask : goal.returns-clause-per_ask
+returns-clause-per_ask g c =
+    rw (
+      c.into_inner.ensures.log,
+      c.into_inner_with_buffer-writer.ensures.log,
+      ← c.in-Ok.ensures.read,
+      ← c.in-Ok.ensures.written,
+    )
+    c.encode_all-answer.ensures.per_ask
+
 pub returns-clause-flushes : goal.returns-clause-flushes
 returns-clause-flushes g c =
     rw (c.into_inner_with_buffer-writer.ensures.log, ← c.in-Ok.ensures.written) c.encode_all-answer.ensures.flushes
