@@ -5,8 +5,8 @@
 #![tactic(auto)]
 
 use buffer_redux::tell::Told;
-use copier::Ending;
-use copier::run::{ending, run_asked};
+use copier::run::{run_asked, said};
+use programs::Ending;
 use std::process::ExitCode;
 
 // Copies as the words that the program was given ask for.
@@ -14,7 +14,7 @@ fn outcome(rt: &HostRuntime) -> Ending {
     let words = match programs::args(rt) {
         Ok(Some(words)) => words,
         Ok(None) => return Ending::Usage,
-        Err(e) => return ending(&Err(e)),
+        Err(e) => return Ending::of_fault(&e),
     };
     let (reader, writer) = (Told::new(rt.stdin()), Told::new(rt.stdout()));
     run_asked(rt.alloc(), words.as_slice(), reader, writer).0
@@ -22,5 +22,5 @@ fn outcome(rt: &HostRuntime) -> Ending {
 
 fn main(rt: HostRuntime) -> ExitCode {
     let ending = outcome(&rt);
-    programs::end(&rt, ending.status(), ending.line())
+    programs::end(&rt, ending.status(), said(ending))
 }

@@ -18,7 +18,7 @@ use Rattle.buffer_redux.specs.ReaderTells.{reader_log, ReaderWent, FaultsAlike-o
 use Rattle.buffer_redux.specs.WriterTells.{writer_log, TellsFailures, WriterWent, WriterCalled}
 use Rattle.buffer_redux.specs.Copy.{MovedBy, LastWrite, CopyEnded, CopyFailed, FaultsRise, TakesNothing}
 use Rattle.programs.specs.Streams.{EndsOnce}
-use Rattle.copier.specs.Copy.{Copied, EitherFailed, IsBeginning, OnlyFlushLeft, InterruptedOften, OverTotal}
+use Rattle.copier.specs.Copy.{Copied, EitherFailed, IsBeginning, OnlyFlushLeft, InterruptedOften, OverTotal, RunFlushes}
 use Rattle.copier.specs.Copy as RunFaults
 
 -- nothing was given, and nothing received
@@ -150,6 +150,10 @@ module _ {R P W Q : Type 0} {remaining : R → Option (List ℕ)} {stretch : W �
     flush_begins v' flush =
         beginning s t u v' none none' moved.bytes handed (WritesInOrder-then u v v' moved.bytes passed flush)
 
+    -- the writer inside was not flushed
+    pub copy_unflushed : v.log.writes.flushes ≡ u.log.writes.flushes
+    copy_unflushed = omega (arith, went'.flushes, went'.grows.flushes, moved.flushes)
+
     over : 2 ^ 64 ≤ n → 2 ^ 64 ≤ length t.log.reads.given - length s.log.reads.given
     over large = omega (
       arith,
@@ -250,6 +254,54 @@ module _ {R P W Q : Type 0} {remaining : R → Option (List ℕ)} {stretch : W �
             (out_met stretch u v t.block.bytes ended.last left went') caused;
       })
 
+      -- all was sent, and then the flush was left
+      only_flush_left : (total : ℕ)
+          → MovedBy total (reader_log s).fills (reader_log t).fills (writer_log u).writes (writer_log v).writes
+          → 0 < s.block.capacity → WritesInOrder v [] v' → (sent : StreamLog)
+          → Sends (length v.block.bytes) v.block v.log (Ok tt) v'.block sent → OnlyFlushLeft s.log t.log u.log v'.log
+      only_flush_left total moved room in_order sent sends =
+          let empty : v'.block.bytes ≡ [] = nil_from_length v'.block.bytes
+          (omega (arith, sends.whole, ap length sends.sent.dropped.bytes, length-drop sends.count v.block.bytes)) in
+          let all = whole s t u v' none none' moved.bytes (handed total moved)
+          (WritesInOrder-then u v v' moved.bytes (passed total moved) in_order)
+          (nil_from_length t.block.bytes left) empty in
+          record {
+            bytes = moved.bytes;
+            given = all.0;
+            received = all.1;
+            ended = omega (arith, went.ends (inl refl) room, ended.ends left);
+          }
+
+      module _ (total : ℕ)
+          (moved : MovedBy total (reader_log s).fills (reader_log t).fills (writer_log u).writes (writer_log v).writes)
+          (room : 0 < s.block.capacity) (in_order : WritesInOrder v [] v') where
+        -- the flush was made then, or sending failed
+        counted : (answer sending : Result (Unit {0}) Error) (sent : StreamLog)
+            → Sends (length v.block.bytes) v.block v.log sending v'.block sent
+            → MatchResult sending (λ _. v'.log ≡ after_flush sent answer) (λ d. (answer ≡ Err d) × (v'.log ≡ sent))
+            → (OnlyFlushLeft s.log t.log u.log v'.log × (v'.log.writes.flushes ≡ u.log.writes.flushes + 1))
+            ⊎ (((d : Error) × (answer ≡ Err d)) × (v'.log.writes.flushes ≡ u.log.writes.flushes))
+        counted answer (Ok _) sent sends told = inl (
+          only_flush_left total moved room in_order sent sends,
+          omega (arith, ap (λ l. l.writes.flushes) told, sends.sent.flushes, copy_unflushed total moved),
+        )
+        counted answer (Err d) sent sends told = inr (
+          (d, told.0),
+          omega (arith, ap (λ l. l.writes.flushes) told.1, sends.sent.flushes, copy_unflushed total moved),
+        )
+
+        pub flushed_once : Flushes v (Ok tt) v' → RunFlushes (Ok total) s.log t.log u.log v'.log
+        flushed_once f = elim (counted (Ok tt) f.sending f.sent_log f.sends f.ended) [
+          | inl made ↦ made.1
+          | inr failed ↦ absurd (let odd = failed.0.1 in cc)
+        ]
+
+        pub flushed_at_most : (e : Error) → Flushes v (Err e) v' → RunFlushes (Err e) s.log t.log u.log v'.log
+        flushed_at_most e f = elim (counted (Err e) f.sending f.sent_log f.sends f.ended) [
+          | inl made ↦ inr made
+          | inr failed ↦ inl failed.1
+        ]
+
       pub flush_often : (total : ℕ)
           → MovedBy total (reader_log s).fills (reader_log t).fills (writer_log u).writes (writer_log v).writes
           → 0 < s.block.capacity → (e : Error) → Flushes v (Err e) v' → WritesInOrder v [] v'
@@ -286,17 +338,7 @@ module _ {R P W Q : Type 0} {remaining : R → Option (List ℕ)} {stretch : W �
               (λ d. (answer ≡ Err d) × (v'.log ≡ flushes.sent_log))
               → RunFaults.FaultsRise 65 s.log t.log u.log v'.log ⊎ OnlyFlushLeft s.log t.log u.log v'.log
           by_sending (Ok _) answer failed sends ended' =
-              let empty : v'.block.bytes ≡ [] = nil_from_length v'.block.bytes
-              (omega (arith, sends.whole, ap length sends.sent.dropped.bytes, length-drop sends.count v.block.bytes)) in
-              let all = whole s t u v' none none' moved.bytes (handed total moved)
-              (WritesInOrder-then u v v' moved.bytes (passed total moved) in_order)
-              (nil_from_length t.block.bytes left) empty in
-              inr (record {
-                bytes = moved.bytes;
-                given = all.0;
-                received = all.1;
-                ended = omega (arith, went.ends (inl refl) room, ended.ends left);
-              })
+              inr (only_flush_left total moved room in_order flushes.sent_log sends)
           by_sending (Err d) answer failed sends ended' =
               let failed' = ended'.0 in
               let same : e ≡ d = cc in

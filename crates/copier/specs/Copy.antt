@@ -1,13 +1,13 @@
 -- What a run moves from a reader to a writer.
-use Rattle.std.specs.Prelude.{◌≡◌, ◌≢◌, ℕ, ◌+◌, ◌-◌, ◌^◌, ◌≤◌, ◌⊎◌, List, ◌++◌, length}
+use Rattle.std.specs.Prelude.{◌≡◌, ◌≢◌, ℕ, ◌+◌, ◌-◌, ◌^◌, ◌≤◌, ◌⊎◌, List, ◌++◌, length, Result, Ok, Err}
 use Rattle.std.specs.IoError.{error_kind}
 use Rattle.std.specs.declared.io.Error.{Error}
 use Rattle.std.specs.declared.io.ErrorKind.TheVariants.{Interrupted, Other, OutOfMemory}
 use Rattle.buffer_redux.specs.Copy.{SourceFailed}
 use Rattle.buffer_redux.specs.StreamLog.{StreamLog}
 use Rattle.programs.specs.Streams.{AllFlushed, BufferRefused, GaveNothing, MetNoFault, SendFailed}
-use Rattle.copier.specs.declared.ending.Ending.{Ending}
-use Rattle.copier.specs.declared.ending.Ending.TheVariants.{Done, Failed, Usage, Memory}
+use Rattle.programs.specs.declared.ending.Ending.{Ending}
+use Rattle.programs.specs.declared.ending.Ending.TheVariants.{Done, Failed, Usage, Memory}
 
 -- what was received is a beginning of what was given
 pub record IsBeginning (read read' written written' : StreamLog) : Type 0 where
@@ -56,6 +56,13 @@ abbrev pub InterruptedOften : Error → StreamLog → StreamLog → StreamLog �
 InterruptedOften e read read' written written' = error_kind e ≡ Interrupted
     → FaultsRise 65 read read' written written' ⊎ OnlyFlushLeft read read' written written'
 
+-- the writer was flushed once where all was copied, or just that was left; and else never
+abbrev pub RunFlushes : Result ℕ Error → StreamLog → StreamLog → StreamLog → StreamLog → Type 0
+RunFlushes (Ok total) read read' written written' = written'.writes.flushes ≡ written.writes.flushes + 1
+RunFlushes (Err e) read read' written written' =
+    (written'.writes.flushes ≡ written.writes.flushes)
+    ⊎ (OnlyFlushLeft read read' written written' × (written'.writes.flushes ≡ written.writes.flushes + 1))
+
 -- why a run failed with this error: a stream failed with it, a buffer was refused, or the total passed what a `u64` counts
 abbrev pub RunFailed : Error → StreamLog → StreamLog → StreamLog → StreamLog → Type 0
 RunFailed e read read' written written' =
@@ -67,12 +74,15 @@ pub record RunStopped (e : Error) (read read' written written' : StreamLog) : Ty
   pub caused : RunFailed e read read' written written'
   pub often : InterruptedOften e read read' written written'
   pub not_flushed : written'.writes.flushed ≡ written.writes.flushed
+  pub flushes : RunFlushes (Err e) read read' written written'
 
 -- what a run did that ended so
 abbrev pub RunEnded : Ending → StreamLog → StreamLog → StreamLog → StreamLog → Type 0
-RunEnded Done read read' written written' = (total : ℕ) × Copied total read read' written written'
+RunEnded Done read read' written written' =
+    (total : ℕ) × Copied total read read' written written' × RunFlushes (Ok total) read read' written written'
 RunEnded Failed read read' written written' =
     (e : Error) × (error_kind e ≢ OutOfMemory) × RunStopped e read read' written written'
 RunEnded Usage read read' written written' = (read' ≡ read) × (written' ≡ written)
 RunEnded Memory read read' written written' =
     (e : Error) × (error_kind e ≡ OutOfMemory) × RunStopped e read read' written written'
+RunEnded other read read' written written' = ⊥

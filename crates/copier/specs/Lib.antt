@@ -1,3 +1,2 @@
 pub mod Copy
-pub mod Ending
 pub mod Settings

@@ -3,8 +3,5 @@
 //! The crate stands on what `buffer_redux` promises, and on nothing else of it.
 #![tactic(auto)]
 
-mod ending;
 pub mod run;
 pub mod settings;
-
-pub use ending::Ending;

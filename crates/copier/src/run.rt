@@ -1,15 +1,13 @@
 //! The copy itself, over any two streams that tell.
-ghost use Rattle.std.specs.Prelude.{◌≡◌, ◌≢◌, ◌≤◌, ◌⊎◌, ◌↔◌, map, string_bytes, IfOk, IfErr, OnOk, OnErr};
-ghost use Rattle.std.specs.IoError.{error_kind};
+ghost use Rattle.std.specs.Prelude.{◌≡◌, ◌≤◌, ◌⊎◌, ◌↔◌, codes, map, string_bytes, IfOk, IfErr, OnErr};
 ghost use Rattle.programs.specs.Streams.{EndsOnce, IsFresh};
 ghost use Rattle.copier.specs.Settings.{Asks};
-ghost use Rattle.copier.specs.Copy.{EitherFailed, OverTotal, Copied, InterruptedOften, IsBeginning, RunEnded, RunFailed};
+ghost use Rattle.copier.specs.Copy.{EitherFailed, OverTotal, Copied, InterruptedOften, IsBeginning, RunEnded, RunFailed, RunFlushes};
 
-use crate::ending::Ending;
 use crate::settings::settings;
 use buffer_redux::tell::{TellRead, TellWrite};
 use buffer_redux::{BufReader, BufWriter, copy_buf};
-use programs::{GREATEST_CAPACITY, buffered};
+use programs::{Ending, GREATEST_CAPACITY, Said, buffered};
 use std::alloc::Global;
 use std::io;
 use std::io::{ErrorKind, Write};
@@ -35,6 +33,7 @@ pub fn run<R: TellRead, W: TellWrite>(
     ensures a_beginning { IsBeginning (R.log reader) (R.log result.1) (W.log writer) (W.log result.2) }
     ensures once { EndsOnce (R.log reader).reads (R.log result.1).reads }
     ensures not_flushed { OnErr result.0 ((W.log result.2).writes.flushed ≡ (W.log writer).writes.flushed) }
+    ensures flushes { RunFlushes result.0 (R.log reader) (R.log result.1) (W.log writer) (W.log result.2) }
 {
     let (mut source, mut target) = match buffered(alloc, ring, (cap, cap), reader, writer) {
         Ok(buffers) => buffers,
@@ -63,6 +62,7 @@ fn copy_all<R: TellRead, W: TellWrite>(
     ensures a_beginning { IsBeginning source.old.log source.new.log target.old.log target.new.log }
     ensures once { EndsOnce source.old.log.reads source.new.log.reads }
     ensures not_flushed { OnErr result (target.new.log.writes.flushed ≡ target.old.log.writes.flushed) }
+    ensures flushes { RunFlushes result source.old.log source.new.log target.old.log target.new.log }
 {
     let total = copy_buf(source, target)?;
     if source.buf_len() > 0 {
@@ -89,18 +89,18 @@ pub fn run_asked<R: TellRead, W: TellWrite>(
         return (Ending::Usage, reader, writer);
     };
     let (answer, reader, writer) = run(alloc, ring, cap, reader, writer);
-    (ending(&answer), reader, writer)
+    (Ending::of(&answer), reader, writer)
 }
 
-/// How a run ends that returned this.
-pub fn ending(answer: &io::Result<u64>) -> Ending
-    ensures done { OnOk answer.now (result ≡ Ending.Done) }
-    ensures memory { IfErr answer.now (λ e. error_kind e ≡ ErrorKind.OutOfMemory → result ≡ Ending.Memory) }
-    ensures failed { IfErr answer.now (λ e. error_kind e ≢ ErrorKind.OutOfMemory → result ≡ Ending.Failed) }
+/// What the program says of an ending.
+pub fn said(ending: Ending) -> Said<'static>
+    ensures program { result.program.now ≡ codes "bufcopy" }
+    ensures usage { result.usage.now ≡ codes "[std|ring] [CAPACITY]" }
+    ensures ending { result.ending ≡ ending }
 {
-    match answer {
-        Ok(_) => Ending::Done,
-        Err(e) if e.kind() == ErrorKind::OutOfMemory => Ending::Memory,
-        Err(_) => Ending::Failed,
+    Said {
+        program: "bufcopy",
+        usage: "[std|ring] [CAPACITY]",
+        ending,
     }
 }

@@ -1,6 +1,6 @@
 use Rattle.std.proofs.Common.{inl, arith}
 use Rattle.std.proofs.lemmas.Result.{err_from_is_err_and}
-use Rattle.copier.proofs.Moving.{copy_begins, copy_once, flush_begins, copy_caused, copy_often, flush_often, left_caused, flush_caused, flush_copied}
+use Rattle.copier.proofs.Moving.{copy_begins, copy_once, copy_unflushed, flush_begins, copy_caused, copy_often, flush_often, flushed_at_most, flushed_once, left_caused, flush_caused, flush_copied}
 use Rattle.copier.proofs.run.copy_all.Goals as goal
 
 pub returns-in_err-total-clause-caused : goal.returns-in_err-total-clause-caused
@@ -96,3 +96,32 @@ returns-clause-once g c =
     let copy = c.in_ok-total.ensures in
     copy_once copy.reader copy.writer c.requires.source.bytes c.requires.target.bytes
     (omega (arith, c.requires.target.capacity)) copy.copied.one_end
+
+pub returns-in_err-total-clause-flushes : goal.returns-in_err-total-clause-flushes
+returns-in_err-total-clause-flushes g c =
+    let p = err_from_is_err_and c.from_residual.result c.from_residual.ensures.1 in
+    let copy = c.in_err-total.ensures in
+    rw p.1 (inl (copy_unflushed copy.reader copy.writer c.requires.source.bytes c.requires.target.bytes _ copy.copied.moved.1))
+
+pub returns-then-buf_len-gt0-clause-flushes : goal.returns-then-buf_len-gt0-clause-flushes
+returns-then-buf_len-gt0-clause-flushes g c =
+    let copy = c.in_ok-total.ensures in
+    inl (copy_unflushed copy.reader copy.writer c.requires.source.bytes c.requires.target.bytes _ copy.copied.moved)
+
+pub returns-in_err-flush-clause-flushes : goal.returns-in_err-flush-clause-flushes
+returns-in_err-flush-clause-flushes g c =
+    let p = err_from_is_err_and c.from_residual-in_err-flush.result c.from_residual-in_err-flush.ensures.1 in
+    let copy = c.in_ok-total.ensures in
+    let flushed = c.in_err-flush.ensures.flushed in
+    rw p.1
+    (flushed_at_most copy.reader copy.writer c.requires.source.bytes c.requires.target.bytes copy.copied.ended
+    (omega (arith, c.if-buf_len-gt0.false, c.buf_len.ensures.value)) c.flush.new.self _ copy.copied.moved
+    (omega (arith, c.requires.source.capacity)) flushed.in_order _ flushed.steps)
+
+pub returns-clause-flushes : goal.returns-clause-flushes
+returns-clause-flushes g c =
+    let copy = c.in_ok-total.ensures in
+    let flushed = c.in_ok-flush.ensures.flushed in
+    flushed_once copy.reader copy.writer c.requires.source.bytes c.requires.target.bytes copy.copied.ended
+    (omega (arith, c.if-buf_len-gt0.false, c.buf_len.ensures.value)) c.flush.new.self _ copy.copied.moved
+    (omega (arith, c.requires.source.capacity)) flushed.in_order flushed.steps

@@ -15,3 +15,13 @@ returns-clause-a_beginning g c =
       ← c.in-Ok.ensures.written,
     )
     c.copy_all-answer.ensures.a_beginning
+
+pub returns-clause-flushes : goal.returns-clause-flushes
+returns-clause-flushes g c =
+    rw (
+      c.into_inner_with_buffer-reader.ensures.log,
+      c.into_inner_with_buffer-writer.ensures.log,
+      ← c.in-Ok.ensures.read,
+      ← c.in-Ok.ensures.written,
+    )
+    c.copy_all-answer.ensures.flushes
