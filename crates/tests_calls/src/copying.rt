@@ -2,14 +2,14 @@
 use buffer_redux::add_total;
 use buffer_redux::script::{Answer, FaultAt};
 use buffer_redux::tell::{TellRead, TellWrite, Told};
-use copier::Ending;
-use copier::run::{ending, run};
+use copier::run::{run, said};
 use copier::settings::settings;
+use programs::Ending;
 use std::alloc::{AllocError, Global};
 use std::io;
 use std::io::ErrorKind;
 use std::test::Fail;
-use tests_common::kind;
+use tests_common::{display, kind};
 
 /// The stream inside, and what goes wrong in it: which call, and how.
 pub type Fault = (usize, Answer);
@@ -113,24 +113,14 @@ fn runs<R: TellRead + Drop, W: TellWrite + Drop>(
     run(alloc, ring, cap.clamp(1, 1048576), reader, writer)
 }
 
-// The ending of an answer, in its status and its line.
-fn said(answer: &io::Result<u64>) -> (u8, &'static str) {
-    let ending = ending(answer);
-    (ending.status(), ending.line())
-}
-
-const DONE: (u8, &'static str) = (0, "");
-
-const NOT_DONE: (u8, &'static str) = (1, "bufcopy: read or write failed");
-
 // Whether a run comes to what its row says.
 fn is_so(alloc: Global, row: &Row) -> bool {
     let &(ring, cap, bytes, (read, reads), (write, writes), wanted, count, calls) = row;
     let reader = Told::new(FaultAt::new(bytes, read, reads));
     let writer = Told::new(FaultAt::new(Vec::new(alloc), write, writes));
     let (answer, reader, writer) = runs(alloc, ring, cap, reader, writer);
-    let end = if wanted.is_ok() { DONE } else { NOT_DONE };
-    said(&answer) == end
+    let status = if wanted.is_ok() { 0 } else { 1 };
+    Ending::of(&answer).status() == status
         && kind(answer) == wanted
         && bytes.get(..count) == Some(writer.get_ref().get_ref().as_slice())
         && (reader.get_ref().calls(), writer.get_ref().calls()) == calls
@@ -173,12 +163,20 @@ fn words(rt: HostRuntime) -> Result<(), Fail> {
     Ok(())
 }
 
+// How it ends, in its status and its line.
+static ENDINGS: [(Ending, u8, &str); 4] = [
+    (Ending::Done, 0, ""),
+    (Ending::Failed, 1, "bufcopy: read or write failed"),
+    (Ending::Usage, 2, "usage: bufcopy [std|ring] [CAPACITY]"),
+    (Ending::Memory, 3, "bufcopy: out of memory"),
+];
+
 #[test]
 fn endings(rt: HostRuntime) -> Result<(), Fail> {
-    let refused = Err(io::Error::from(ErrorKind::OutOfMemory));
-    assert!(rt; said(&refused) == (3, "bufcopy: out of memory"));
-    let usage = Ending::Usage;
-    assert!(rt; (usage.status(), usage.line()) == (2, "usage: bufcopy [std|ring] [CAPACITY]"));
+    for &(ending, status, line) in &ENDINGS {
+        assert!(rt; ending.status() == status);
+        assert!(rt; display(rt.alloc(), &said(ending))?.as_str() == line);
+    }
     Ok(())
 }
 

@@ -2,7 +2,8 @@
 use crate::streams::{Sink, Source, empty_sink, reading, taken};
 use crate::trial::{Trial, Wrong, granted, is, print, unchanged};
 use buffer_redux::tell::{TellRead, TellWrite, Told};
-use copier::run::{ending, run};
+use copier::run::run;
+use programs::Ending;
 use std::alloc::Global;
 use std::io;
 use tests_common::kind;
@@ -21,11 +22,7 @@ fn runs<R: TellRead, W: TellWrite>(
 
 // Notes a refusal by its kind, and looks at how the program would end.
 fn refused(trial: &mut Trial, answer: io::Result<u64>) -> Result<(), Wrong> {
-    let ending = ending(&answer);
-    is(
-        (ending.status(), ending.line()) == (3, "bufcopy: out of memory"),
-        "how a refused run ends",
-    )?;
+    is(Ending::of(&answer).status() == 3, "how a refused run ends")?;
     match kind(answer) {
         Ok(_) => Err("a refused run returns Ok"),
         Err(kind) => trial.failed(kind),
