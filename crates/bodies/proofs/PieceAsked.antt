@@ -19,13 +19,13 @@ use Rattle.chunked.specs.declared.error.ChunkedError.{ChunkedError}
 use Rattle.chunked.specs.declared.error.ChunkedError.TheVariants as chunked
 use Rattle.chunked.specs.declared.error.Malformed.{Malformed}
 use Rattle.chunked.specs.declared.place.Place.TheVariants.{Line}
-use Rattle.forward.specs.Filter.{AskAnswers, Asks, AsksOnce, Moves}
+use Rattle.forward.specs.Filter.{AskAnswers, Asks, AsksOnce}
 use Rattle.forward.specs.declared.error.AskError.{AskError}
 use Rattle.forward.specs.declared.error.AskError.TheVariants.{Wrong, Io}
 use Rattle.programs.specs.Prompt.{AskedLast, AsksGive}
 use Rattle.programs.specs.PromptLaws.{AskedLast-after}
 use Rattle.bodies.specs.Decoding as Source
-use Rattle.bodies.specs.Decoding.{IsReady, held_of}
+use Rattle.bodies.specs.Decoding.{CutShort, IsReady, held_of}
 use Rattle.bodies.specs.DecodingLaws.{none_held}
 use Rattle.bodies.specs.declared.decoding.Decoding.{Decoding}
 use Rattle.bodies.specs.declared.error.RunError.{RunError}
@@ -100,201 +100,61 @@ module _ {R W : Type 0} (remaining : R → Option (List ℕ)) (s : Decoding R W)
     }
 
     -- nothing was handed out
-    module _ (n : ℕ) (still : n ≡ 0) (answer : Result ℕ ChunkedError) (p : Reads answer)
-        (went : BodyWent remaining std_read_rules s.source [] m) where
-      moves : Moves (rules remaining s ready) s [] [] (asked n)
-      moves = record {
-        hands = record {
-          payload = [];
-          went = went;
-          order = append-nil (held_of s) ∙ none_held remaining s none ∙ sym (none_held remaining (asked n) still);
-          some = All-nil (λ q. 0 < length q);
-        };
-        takes = WritesInOrder-none s.target;
-      }
+    module _ (n : ℕ) (still : n ≡ 0) where
+      module _ (t : Dechunking R StdPolicy) where
+        abbrev after : Decoding R W
+        after = record s { source = t; piece = with_items s.piece out; held = n }
 
-      ready_still : IsReady (asked n)
-      ready_still = ready_on remaining s ready (asked n) [] went p.whole ready.target full (omega (arith, still))
-
-    -- the body ended, and then it was asked whether more follows
-    module _ (n k : ℕ) (still : n ≡ 0) (nothing : k ≡ 0) (p : Reads (Ok k)) (end : Result Bool Error) (t : Dechunking R StdPolicy)
-        (looks : LooksBehind remaining std_read_rules m end t) where
-      abbrev behind : Decoding R W
-      behind = record s { source = t; piece = with_items s.piece out; held = n }
-
-      done : IsWhole t
-      done = subst IsWhole (sym looks.still) (p.answers.2 nothing (omega (arith, len, ready.room)))
-
-      first : BodyWent remaining std_read_rules s.source [] m
-      first = subst (λ j. BodyWent remaining std_read_rules s.source (take j out) m) nothing p.went
-
-      went_on : BodyWent remaining std_read_rules s.source [] t
-      went_on = BodyWent-joins remaining std_read_rules s.source m t [] [] first (record {
-        wire = [];
-        along = looks.along;
-        taken = ap (λ d. d.taken) looks.still ∙ sym (append-nil m.taken);
-        handed = ap (λ d. handed_of d) looks.still ∙ sym (append-nil (handed_of m));
-        limits = ap (λ d. d.limits) looks.still;
-      })
-
-      -- each ask but the last gave a byte, and the payload in what they gave was handed out before
-      gave : AsksGive s.source.reader.log m.reader.log
-      gave = read_gives remaining s.source m ready.source.whole out k p
-
-      asked_on : Source.Asks s.source t
-      asked_on = elim (asks_once m.reader t.reader end looks.fills) [
-        | inl same ↦ elim (read_over remaining s.source m ready.source.whole out (Ok k) p) [
-          | inl none_told ↦ inl (same ∙ none_told)
-          | inr over ↦ inr (record {
-            came = over.came;
-            asked = subst (λ l. AskedLast over.came s.source.reader.log l) (sym same) over.asked;
-            due = over.due;
-          })
-        ]
-        | inr once ↦
-            let got = first.along.in_order.got in
-            let all : m.taken ≡ s.source.taken ++ (s.source.reader.block.bytes ++ got) =
-            first.taken ∙ ap (λ l. s.source.taken ++ l) (sym (append-nil first.wire)
-            ∙ ap (λ l. first.wire ++ l) (sym once.empty) ∙ first.along.in_order.equal) in
-            inr (record {
-              came = got;
-              asked = subst (λ l. AskedLast l s.source.reader.log t.reader.log) (append-nil got)
-                  (AskedLast-after s.source.reader.log m.reader.log t.reader.log got [] first.along.in_order.given gave
-                  (record { given = once.given; asks = omega (arith, once.asks, once.faults) }));
-              due = record {
-                place = m.place;
-                part = record {
-                  leads = subst (λ l. Leads s.source.limits Line l (handed_of s.source) m.place) all
-                      (subst (λ l. Leads s.source.limits Line m.taken l m.place)
-                      (first.handed ∙ append-nil (handed_of s.source))
-                      (subst (λ l. Leads l Line m.taken (handed_of m) m.place) first.limits p.whole.leads));
-                  is_place = p.whole.place;
-                };
-              };
-            })
-      ]
-
-      asked_so : (answer : Result Bool (AskError RunError))
-          → t.reader.log.reads.zero_reads ≤ s.source.reader.log.reads.zero_reads + 1
-          → AskAnswers (rules remaining s ready) s answer behind → Asks (rules remaining s ready) s answer behind
-      asked_so answer quiet answers = record {
-        told = refl;
-        ready = ready_on remaining s ready behind [] went_on (subst IsDechunking (sym looks.still) (record {
-          leads = p.whole.leads;
-          place = p.whole.place;
-        })) ready.target full (omega (arith, still));
-        moves = record {
-          hands = record {
-            payload = [];
-            went = went_on;
-            order = append-nil (held_of s) ∙ none_held remaining s none ∙ sym (none_held remaining behind still);
-            some = All-nil (λ q. 0 < length q);
+        asked_so : BodyWent remaining std_read_rules s.source [] t → IsDechunking t → Source.Asks s.source t
+            → (answer : Result Bool (AskError RunError))
+            → t.reader.log.reads.zero_reads ≤ s.source.reader.log.reads.zero_reads + 1
+            → AskAnswers (rules remaining s ready) s answer after → Asks (rules remaining s ready) s answer after
+        asked_so went whole over answer quiet answers = record {
+          told = refl;
+          ready = ready_on remaining s ready after [] went whole ready.target full (omega (arith, still));
+          moves = record {
+            hands = record {
+              payload = [];
+              went = went;
+              order = append-nil (held_of s) ∙ none_held remaining s none ∙ sym (none_held remaining after still);
+              some = All-nil (λ q. 0 < length q);
+            };
+            takes = WritesInOrder-none s.target;
           };
-          takes = WritesInOrder-none s.target;
-        };
-        sent = λ sent. sent;
-        asks = asked_on;
-        once = record { once = quiet; quiet = λ closed. absurd closed; closed = λ closed. closed };
-        answers = answers;
-      }
-
-      quietly : m.reader.log.reads.zero_reads ≡ s.source.reader.log.reads.zero_reads
-      quietly = ends (Ok k) p
-
-    -- none does, or some
-    pub asked_end : (n k : ℕ) → n ≡ 0 → k ≡ 0 → Reads (Ok k) → (t : Dechunking R StdPolicy)
-        → LooksBehind remaining std_read_rules m (Ok true) t
-        → Asks (rules remaining s ready) s (Ok false) (record s { source = t; piece = with_items s.piece out; held = n })
-    asked_end n k still nothing p t looks =
-        let over = ended m.reader t.reader true looks.fills (sym looks.none) (omega (arith, ready.source.capacity, p.went.along.capacity)) in
-        let before = quietly n k still nothing p (Ok true) t looks in
-        asked_so n k still nothing p (Ok true) t looks (Ok false) (omega (arith, over.1, before)) (
-          (still, (done n k still nothing p (Ok true) t looks, over.0, omega (arith, over.1, before))),
-          looks.fills.caused ∙ p.answers.1,
-        )
-
-    pub asked_more_behind : (n k : ℕ) → n ≡ 0 → k ≡ 0 → Reads (Ok k) → (t : Dechunking R StdPolicy)
-        → LooksBehind remaining std_read_rules m (Ok false) t → (right : ℕ) → right ≡ taken_count t
-        → Asks (rules remaining s ready) s (Err (Wrong (Behind right)))
-        (record s { source = t; piece = with_items s.piece out; held = n })
-    asked_more_behind n k still nothing p t looks right count =
-        let some = some_of (length t.reader.block.bytes) looks.none in
-        let quiet = none_where_shown std_read_rules ReadsWhenEmpty-std m.reader t.reader false looks.fills.filled some in
-        let before = quietly n k still nothing p (Ok false) t looks in
-        asked_so n k still nothing p (Ok false) t looks (Err (Wrong (Behind right))) (omega (arith, quiet, before)) (
-          (still, (done n k still nothing p (Ok false) t looks, some, count)),
-          looks.fills.caused ∙ p.answers.1,
-        )
-
-    -- or that can't be told
-    pub asked_in_vain : (n k : ℕ) → n ≡ 0 → k ≡ 0 → Reads (Ok k) → (t : Dechunking R StdPolicy) → (e : Error)
-        → LooksBehind remaining std_read_rules m (Err e) t
-        → Asks (rules remaining s ready) s (Err (Io e)) (record s { source = t; piece = with_items s.piece out; held = n })
-    asked_in_vain n k still nothing p t e looks =
-        let quiet = none_before_fault std_read_rules ReadsWhenEmpty-std m.reader t.reader e looks.fills.filled in
-        let before = quietly n k still nothing p (Err e) t looks in
-        let fault = failed_once m.reader t.reader e looks.fills in
-        asked_so n k still nothing p (Err e) t looks (Err (Io e)) (omega (arith, quiet, before)) (
-          (still, none_after_fault m.reader t.reader e looks.fills),
-          fault.0 ∙ ap (λ l. l ++ e ∷ []) p.answers.1,
-          inl (record { zero_reads = quiet ∙ before; give = omega (arith, gave n k still nothing p (Err e) t looks, fault.2) }),
-          refl,
-        )
-
-    pub asked_wrong : (n : ℕ) → n ≡ 0 → (why : Malformed) (right : ℕ) → Reads (Err (chunked.NotChunked why right))
-        → Asks (rules remaining s ready) s (Err (Wrong (NotChunked why right))) (asked n)
-    asked_wrong n still why right p =
-        let answer = Err (chunked.NotChunked why right) in
-        record {
-          told = refl;
-          ready = ready_still n still answer p p.went;
-          moves = moves n still answer p p.went;
           sent = λ sent. sent;
-          asks = read_over remaining s.source m ready.source.whole out answer p;
-          once = once n answer p;
-          answers = ((still, (p.answers.2, p.answers.0)), p.answers.1);
+          asks = over;
+          once = record { once = quiet; quiet = λ closed. absurd closed; closed = λ closed. closed };
+          answers = answers;
         }
 
-    pub asked_cut : (n : ℕ) → n ≡ 0 → (right : ℕ) → Reads (Err (chunked.Truncated right))
-        → Asks (rules remaining s ready) s (Err (Wrong (Truncated right))) (asked n)
-    asked_cut n still right p =
-        let answer = Err (chunked.Truncated right) in
-        let early = p.answers.2 in
-        record {
-          told = refl;
-          ready = ready_still n still answer p p.went;
-          moves = moves n still answer p p.went;
-          sent = λ sent. sent;
-          asks = read_over remaining s.source m ready.source.whole out answer p;
-          once = once n answer p;
-          answers = (
-            (
-              still,
-              (
-                record {
-                  none = early.none;
-                  left = early.dry.none;
-                  dry = early.dry.dry (WantsBytes-std s.source.reader.policy) ready.source.capacity;
-                },
-                p.answers.0,
-              ),
-            ),
-            p.answers.1,
-          );
-        }
+      over_so : (answer : Result ℕ ChunkedError) → Reads answer → Source.Asks s.source m
+      over_so answer p = read_over remaining s.source m ready.source.whole out answer p
 
-    pub asked_failed : (n : ℕ) → n ≡ 0 → (e : Error) → Reads (Err (chunked.Io e)) → Asks (rules remaining s ready) s (Err (Io e)) (asked n)
-    asked_failed n still e p =
-        let answer = Err (chunked.Io e) in
-        let fault = own_fault s.source.reader e m.reader p.answers in
-        record {
-          told = refl;
-          ready = ready_still n still answer p p.went;
-          moves = moves n still answer p p.went;
-          sent = λ sent. sent;
-          asks = read_over remaining s.source m ready.source.whole out answer p;
-          once = once n answer p;
-          answers = (
+      pub asked_wrong : (why : Malformed) (right : ℕ) → Reads (Err (chunked.NotChunked why right))
+          → Asks (rules remaining s ready) s (Err (Wrong (NotChunked why right))) (asked n)
+      asked_wrong why right p =
+          let answer = Err (chunked.NotChunked why right) in
+          asked_so m p.went p.whole (over_so answer p) (Err (Wrong (NotChunked why right))) (at_most answer (ends answer p))
+          ((still, (p.answers.2, p.answers.0)), p.answers.1)
+
+      pub asked_cut : (right : ℕ) → Reads (Err (chunked.Truncated right))
+          → Asks (rules remaining s ready) s (Err (Wrong (Truncated right))) (asked n)
+      asked_cut right p =
+          let answer = Err (chunked.Truncated right) in
+          let early = p.answers.2 in
+          let cut : CutShort s.source m = record {
+            none = early.none;
+            left = early.dry.none;
+            dry = early.dry.dry (WantsBytes-std s.source.reader.policy) ready.source.capacity;
+          } in
+          asked_so m p.went p.whole (over_so answer p) (Err (Wrong (Truncated right))) (at_most answer (ends answer p))
+          ((still, (cut, p.answers.0)), p.answers.1)
+
+      pub asked_failed : (e : Error) → Reads (Err (chunked.Io e)) → Asks (rules remaining s ready) s (Err (Io e)) (asked n)
+      asked_failed e p =
+          let answer = Err (chunked.Io e) in
+          let fault = own_fault s.source.reader e m.reader p.answers in
+          asked_so m p.went p.whole (over_so answer p) (Err (Io e)) (at_most answer (ends answer p)) (
             (still, read_leaves remaining s.source m ready.source.whole out e p),
             fault,
             inl (record {
@@ -302,5 +162,96 @@ module _ {R W : Type 0} (remaining : R → Option (List ℕ)) (s : Decoding R W)
               give = read_fails remaining s.source m ready.source.whole out e p fault;
             }),
             refl,
-          );
-        }
+          )
+
+      -- the body ended, and then it was asked whether more follows
+      module _ (k : ℕ) (nothing : k ≡ 0) (p : Reads (Ok k)) (t : Dechunking R StdPolicy) where
+        abbrev Looks : Result Bool Error → Type 0
+        Looks end = LooksBehind remaining std_read_rules m end t
+
+        first : BodyWent remaining std_read_rules s.source [] m
+        first = subst (λ j. BodyWent remaining std_read_rules s.source (take j out) m) nothing p.went
+
+        -- each ask but the last gave a byte, and the payload in what they gave was handed out before
+        gave : AsksGive s.source.reader.log m.reader.log
+        gave = read_gives remaining s.source m ready.source.whole out k p
+
+        done : (end : Result Bool Error) → Looks end → IsWhole t
+        done end looks = subst IsWhole (sym looks.still) (p.answers.2 nothing (omega (arith, len, ready.room)))
+
+        over_on : (end : Result Bool Error) → Looks end → Source.Asks s.source t
+        over_on end looks = elim (asks_once m.reader t.reader end looks.fills) [
+          | inl same ↦ elim (over_so (Ok k) p) [
+            | inl none_told ↦ inl (same ∙ none_told)
+            | inr over ↦ inr (record {
+              came = over.came;
+              asked = subst (λ l. AskedLast over.came s.source.reader.log l) (sym same) over.asked;
+              due = over.due;
+            })
+          ]
+          | inr once ↦
+              let got = first.along.in_order.got in
+              let all : m.taken ≡ s.source.taken ++ (s.source.reader.block.bytes ++ got) =
+              first.taken ∙ ap (λ l. s.source.taken ++ l) (sym (append-nil first.wire)
+              ∙ ap (λ l. first.wire ++ l) (sym once.empty) ∙ first.along.in_order.equal) in
+              inr (record {
+                came = got;
+                asked = subst (λ l. AskedLast l s.source.reader.log t.reader.log) (append-nil got)
+                    (AskedLast-after s.source.reader.log m.reader.log t.reader.log got [] first.along.in_order.given gave
+                    (record { given = once.given; asks = omega (arith, once.asks, once.faults) }));
+                due = record {
+                  place = m.place;
+                  part = record {
+                    leads = subst (λ l. Leads s.source.limits Line l (handed_of s.source) m.place) all
+                        (subst (λ l. Leads s.source.limits Line m.taken l m.place)
+                        (first.handed ∙ append-nil (handed_of s.source))
+                        (subst (λ l. Leads l Line m.taken (handed_of m) m.place) first.limits p.whole.leads));
+                    is_place = p.whole.place;
+                  };
+                };
+              })
+        ]
+
+        asked_on : (end : Result Bool Error) → Looks end → (answer : Result Bool (AskError RunError))
+            → t.reader.log.reads.zero_reads ≤ m.reader.log.reads.zero_reads + 1
+            → AskAnswers (rules remaining s ready) s answer (after t) → Asks (rules remaining s ready) s answer (after t)
+        asked_on end looks answer quiet answers = asked_so t
+            (BodyWent-joins remaining std_read_rules s.source m t [] [] first (record {
+              wire = [];
+              along = looks.along;
+              taken = ap (λ d. d.taken) looks.still ∙ sym (append-nil m.taken);
+              handed = ap (λ d. handed_of d) looks.still ∙ sym (append-nil (handed_of m));
+              limits = ap (λ d. d.limits) looks.still;
+            }))
+            (subst IsDechunking (sym looks.still) (record { leads = p.whole.leads; place = p.whole.place }))
+            (over_on end looks) answer (omega (arith, quiet, ends (Ok k) p)) answers
+
+        -- none does, or some
+        pub asked_end : Looks (Ok true) → Asks (rules remaining s ready) s (Ok false) (after t)
+        asked_end looks =
+            let over = ended m.reader t.reader true looks.fills (sym looks.none)
+            (omega (arith, ready.source.capacity, p.went.along.capacity)) in
+            asked_on (Ok true) looks (Ok false) (omega (arith, over.1)) (
+              (still, (done (Ok true) looks, over.0, omega (arith, over.1, ends (Ok k) p))),
+              looks.fills.caused ∙ p.answers.1,
+            )
+
+        pub asked_more_behind : Looks (Ok false) → (right : ℕ) → right ≡ taken_count t
+            → Asks (rules remaining s ready) s (Err (Wrong (Behind right))) (after t)
+        asked_more_behind looks right count =
+            let some = some_of (length t.reader.block.bytes) looks.none in
+            let quiet = none_where_shown std_read_rules ReadsWhenEmpty-std m.reader t.reader false looks.fills.filled some in
+            asked_on (Ok false) looks (Err (Wrong (Behind right))) (omega (arith, quiet))
+            ((still, (done (Ok false) looks, some, count)), looks.fills.caused ∙ p.answers.1)
+
+        -- or that can't be told
+        pub asked_in_vain : (e : Error) → Looks (Err e) → Asks (rules remaining s ready) s (Err (Io e)) (after t)
+        asked_in_vain e looks =
+            let quiet = none_before_fault std_read_rules ReadsWhenEmpty-std m.reader t.reader e looks.fills.filled in
+            let fault = failed_once m.reader t.reader e looks.fills in
+            asked_on (Err e) looks (Err (Io e)) (omega (arith, quiet)) (
+              (still, none_after_fault m.reader t.reader e looks.fills),
+              fault.0 ∙ ap (λ l. l ++ e ∷ []) p.answers.1,
+              inl (record { zero_reads = quiet ∙ ends (Ok k) p; give = omega (arith, gave, fault.2) }),
+              refl,
+            )

@@ -11,8 +11,8 @@ returns-in-Ok-true g c =
     let len = c.read_payload.auto.out ∙ ap length c.as_mut_slice.ensures.value in
     let m = c.read_payload.new.self in
     let t = c.is_at_end.new.self in
-    asked_end g.R.TellRead.remaining s c.requires.ready c.requires.lacks m out len s.held c.in-Ok-eq0.field-0
-    c.requires.lacks c.in-Ok-eq0.field-0-test c.in-Ok-eq0.ensures.reads t (subst (λ a. LooksBehind g.R.TellRead.remaining std_read_rules m a t)
+    asked_end g.R.TellRead.remaining s c.requires.ready c.requires.lacks m out len s.held
+    c.requires.lacks c.in-Ok-eq0.field-0 c.in-Ok-eq0.field-0-test c.in-Ok-eq0.ensures.reads t (subst (λ a. LooksBehind g.R.TellRead.remaining std_read_rules m a t)
     (c.in-Ok-true.is ∙ ap Ok c.in-Ok-true.field-0-test) c.is_at_end.ensures)
 
 pub returns-in-Ok-false : goal.returns-in-Ok-false
@@ -22,8 +22,8 @@ returns-in-Ok-false g c =
     let len = c.read_payload.auto.out ∙ ap length c.as_mut_slice.ensures.value in
     let m = c.read_payload.new.self in
     let t = c.is_at_end.new.self in
-    asked_more_behind g.R.TellRead.remaining s c.requires.ready c.requires.lacks m out len s.held c.in-Ok-eq0.field-0
-    c.requires.lacks c.in-Ok-eq0.field-0-test c.in-Ok-eq0.ensures.reads t (subst (λ a. LooksBehind g.R.TellRead.remaining std_read_rules m a t)
+    asked_more_behind g.R.TellRead.remaining s c.requires.ready c.requires.lacks m out len s.held
+    c.requires.lacks c.in-Ok-eq0.field-0 c.in-Ok-eq0.field-0-test c.in-Ok-eq0.ensures.reads t (subst (λ a. LooksBehind g.R.TellRead.remaining std_read_rules m a t)
     (c.in-Ok-false.is ∙ ap Ok c.in-Ok-false.field-0-test) c.is_at_end.ensures) c.taken.result c.taken.ensures
 
 pub returns-in-Err : goal.returns-in-Err
@@ -33,8 +33,8 @@ returns-in-Err g c =
     let len = c.read_payload.auto.out ∙ ap length c.as_mut_slice.ensures.value in
     let m = c.read_payload.new.self in
     let t = c.is_at_end.new.self in
-    asked_in_vain g.R.TellRead.remaining s c.requires.ready c.requires.lacks m out len s.held c.in-Ok-eq0.field-0
-    c.requires.lacks c.in-Ok-eq0.field-0-test c.in-Ok-eq0.ensures.reads t c.in-Err.e (subst (λ a. LooksBehind g.R.TellRead.remaining std_read_rules m a t)
+    asked_in_vain g.R.TellRead.remaining s c.requires.ready c.requires.lacks m out len s.held
+    c.requires.lacks c.in-Ok-eq0.field-0 c.in-Ok-eq0.field-0-test c.in-Ok-eq0.ensures.reads t c.in-Err.e (subst (λ a. LooksBehind g.R.TellRead.remaining std_read_rules m a t)
     c.in-Err.is c.is_at_end.ensures)
 
 pub returns-in-Ok : goal.returns-in-Ok
