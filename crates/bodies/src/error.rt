@@ -25,6 +25,8 @@ pub enum RunError {
 }
 
 /// Why a run failed in which no more could go over.
+// It is compiled into each run: beside a call the compiler clears what a filter answers, at each ask.
+#[inline(always)]
 pub fn error_of(cause: Cause<RunError>) -> RunError
     ensures { IsErrorOf cause result }
 {

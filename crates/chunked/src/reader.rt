@@ -182,6 +182,9 @@ impl<R: TellRead, P: ReaderPolicy> ChunkedReader<R, P> {
 
     /// Whether nothing follows what was taken: fills the buffer as `fill_buf` does, and leaves what comes. Behind the end of the
     /// body this tells whether the stream ended too.
+    // A call of its own, since what it needs would be cleared in each turn of a loop that it stands in.
+    #[cold]
+    #[inline(never)]
     pub fn is_at_end(&mut self) -> io::Result<bool>
         ensures { LooksBehind R.remaining P.rules self.old result self.new }
     {
