@@ -166,9 +166,9 @@ impl<R: Tell> FrameReader<R> {
         }
     }
 
-    // The payload that the last `step` went on to.
+    /// The payload that the last [`step`](FrameReader::step) went on to. A place that an earlier step said is refused.
     #[inline(always)]
-    fn lent(&self, span: Span) -> &[u8]
+    pub fn lent(&self, span: Span) -> &[u8]
         requires { IsLent (framed self.now.max) self.now.lent self.now.reader.block.bytes span }
         ensures { result.now ≡ bytes_at span self.now.reader.block.bytes }
     {
@@ -212,9 +212,10 @@ impl<R: TellRead> FrameReader<R> {
         }
     }
 
-    // Goes on to the next frame, and returns where its payload is.
+    /// Goes on to the next frame as [`next`](FrameReader::next) does, and returns where its payload is:
+    /// [`lent`](FrameReader::lent) shows it until the next call.
     #[inline(always)]
-    fn step(&mut self) -> Result<Option<Span>, FrameError>
+    pub fn step(&mut self) -> Result<Option<Span>, FrameError>
         ensures next { Next R.remaining self.old (load_answer result self.new) self.new }
         ensures lends { IfOk result (λ found. IfSome found
             (IsLent (framed self.new.max) self.new.lent self.new.reader.block.bytes)) }

@@ -2,6 +2,5 @@ pub mod Packing
 pub mod PackingAll
 pub mod PackRuns
 pub mod PackPrompting
-pub mod Prompting
-pub mod Unpacking
+pub mod UnpackingCalls
 pub mod UnpackRuns

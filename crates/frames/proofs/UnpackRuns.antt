@@ -1,157 +1,133 @@
 -- What a whole run of `unpack` comes to.
-use Rattle.std.proofs.Common.{◌≡◌, ℕ, inl, inr, List, [], ◌++◌, drop, length, true, false, Option, Result, Ok, Err, refl, sym, ap, subst, ◌∙◌, arith, append-nil}
-use Rattle.std.proofs.Math.Seq.{drop-nil}
-use Rattle.std.proofs.lemmas.Bool.{true≢false, false≢true}
+use Rattle.std.proofs.Common.{◌≡◌, ℕ, ◌+◌, ◌^◌, ◌≤◌, inl, inr, List, [], ◌++◌, length, Option, None, Result, Ok, Err, refl, sym, ap, subst, ◌∙◌, arith, append-nil, append_assoc}
 use Rattle.std.proofs.lemmas.List.Elements.{All-nil}
 use Rattle.std.specs.IoError.{error_kind}
 use Rattle.std.specs.declared.io.Error.{Error}
-use Rattle.std.specs.declared.io.ErrorKind.TheVariants.{OutOfMemory}
-use Rattle.buffer_redux.specs.BufWriter.{WritesInOrder}
-use Rattle.buffer_redux.specs.Buffered.{Buffered}
-use Rattle.buffer_redux.specs.Faults.{MetInterrupts, OnlyInterrupts-none, SendErrorCaused, SendErrorCaused-after}
+use Rattle.std.specs.declared.io.ErrorKind.TheVariants.{Other, OutOfMemory}
 use Rattle.buffer_redux.specs.StreamLog.{StreamLog}
-use Rattle.buffer_redux.specs.WriterLaws.{WritesInOrder-then, WritesInOrder-fresh}
-use Rattle.buffer_redux.specs.declared.policy.StdPolicy.{StdPolicy}
-use Rattle.frame_reader.specs.Frames.{Fits, frames}
-use Rattle.frame_reader.specs.Framing.{Framing, rest}
+use Rattle.buffer_redux.specs.WriterLaws.{WritesInOrder-fresh}
+use Rattle.forward.specs.Filter.{FilterRules}
+use Rattle.forward.specs.Forward.{ForwardAnswers, Forwarded, ForwardedFirst, StopsBy}
+use Rattle.forward.specs.declared.error.Cause.{Cause}
+use Rattle.forward.specs.declared.error.Cause.TheVariants as cause
+use Rattle.frame_reader.specs.Frames.{BeginsTooLong, Fits, IsCutShort}
+use Rattle.frame_reader.specs.Framing.{rest}
+use Rattle.frame_reader.specs.Next.{FramesWent, IsUnsettled}
+use Rattle.line_reader.specs.Lines.{with_ends}
+use Rattle.programs.specs.Streams.{AllSent}
+use Rattle.frames.specs.Ending.{IsErrorOf}
+use Rattle.frames.specs.Unpack.{Unpacked, UnpackedFirst, UnpackRan}
+use Rattle.frames.specs.Unpacking.{HandsFrames, held_of, unpacking_rules}
+use Rattle.frames.specs.UnpackingLaws.{frames_given, handed_all, none_held}
 use Rattle.frames.specs.declared.error.RunError.{RunError}
 use Rattle.frames.specs.declared.error.RunError.TheVariants.{TooLong, Truncated, Read, Write, Io}
-use Rattle.frames.specs.Ending.{faulted}
-use Rattle.line_reader.specs.Lines.{with_ends}
-use Rattle.frames.specs.Unpack.{Unpacks, UnpacksEach, UnpacksFirst, UnpacksAll, UnpacksAndFlushes, Unpacked, UnpackedFirst, UnpackRan}
-use Rattle.programs.specs.Streams.{AllSent, OverCount}
-use Rattle.programs.specs.StreamsLaws.{MetNoFault-joins}
-
-module _ {R W : Type 0} (remaining : R → Option (List ℕ)) (s t : Framing R) (u w v : Buffered W StdPolicy)
-    (sent : WritesInOrder w [] v) (kind : v.block.kind ≡ w.block.kind) (capacity : v.block.capacity ≡ w.block.capacity) where
-  then_sent : (payloads lines : List (List ℕ)) → Unpacks remaining s u payloads lines t w
-      → Unpacks remaining s u payloads lines t v
-  then_sent payloads lines p = record {
-    went = p.went;
-    taken = WritesInOrder-then u w v (with_ends lines) p.taken sent;
-    target = record {
-      plain = kind ∙ p.target.plain;
-      capacity = omega (arith, p.target.capacity, capacity);
-    };
-  }
-
-  each_sent : UnpacksEach remaining s u t w → MetInterrupts w.log.writes v.log.writes → UnpacksEach remaining s u t v
-  each_sent p more = record {
-    payloads = p.payloads;
-    went = then_sent p.payloads p.payloads p.went;
-    met = MetNoFault-joins s.reader.log t.reader.log t.reader.log u.log w.log v.log p.met
-        (record { reader = OnlyInterrupts-none t.reader.log.reads.faults; writer = more });
-  }
-
-  -- the flush after the payloads succeeds
-  pub flushed_after : (answer : Result (Unit {0}) RunError) → faulted answer ≡ false
-      → UnpacksAll remaining s u answer t w → AllSent v → MetInterrupts w.log.writes v.log.writes
-      → UnpacksAndFlushes remaining s u answer t v
-  flushed_after (Ok _) other p all more = ((each_sent p.0 more, p.1), all)
-  flushed_after (Err TooLong) other p all more = ((each_sent p.0 more, p.1), all)
-  flushed_after (Err Truncated) other p all more = ((each_sent p.0 more, p.1), all)
-  flushed_after (Err (Read e)) other p all more = absurd (true≢false other)
-  flushed_after (Err (Write e)) other p all more = absurd (true≢false other)
-  flushed_after (Err (Io e)) other p all more = absurd (true≢false other)
-
-  fails_after : UnpacksEach remaining s u t w → (e : Error) → SendErrorCaused w.log.writes v.log.writes e
-      → UnpacksAndFlushes remaining s u (Err (Write e)) t v
-  fails_after p e caused = (
-    record {
-      lines = p.payloads;
-      lost = [];
-      went = subst (λ l. Unpacks remaining s u l p.payloads t v) (sym (append-nil p.payloads))
-          (then_sent p.payloads p.payloads p.went);
-    },
-    record {
-      reader = p.met.reader;
-      writer = SendErrorCaused-after u.log.writes w.log.writes v.log.writes e p.met.writer caused;
-    },
-  )
-
-  -- or fails
-  pub flush_failed_after : (answer : Result (Unit {0}) RunError) → faulted answer ≡ false
-      → UnpacksAll remaining s u answer t w → (e : Error) → SendErrorCaused w.log.writes v.log.writes e
-      → UnpacksAndFlushes remaining s u (Err (Write e)) t v
-  flush_failed_after (Ok _) other p e caused = fails_after p.0 e caused
-  flush_failed_after (Err TooLong) other p e caused = fails_after p.0 e caused
-  flush_failed_after (Err Truncated) other p e caused = fails_after p.0 e caused
-  flush_failed_after (Err (Read e')) other p e caused = absurd (true≢false other)
-  flush_failed_after (Err (Write e')) other p e caused = absurd (true≢false other)
-  flush_failed_after (Err (Io e')) other p e caused = absurd (true≢false other)
-
--- after a fault no flush is made
-pub kept : {R W : Type 0} (remaining : R → Option (List ℕ)) (s t : Framing R) (u v : Buffered W StdPolicy)
-    → (answer : Result (Unit {0}) RunError) → faulted answer ≡ true → UnpacksAll remaining s u answer t v
-    → UnpacksAndFlushes remaining s u answer t v
-kept remaining s t u v (Ok _) other p = absurd (false≢true other)
-kept remaining s t u v (Err TooLong) other p = absurd (false≢true other)
-kept remaining s t u v (Err Truncated) other p = absurd (false≢true other)
-kept remaining s t u v (Err (Read e)) other p = p
-kept remaining s t u v (Err (Write e)) other p = p
-kept remaining s t u v (Err (Io e)) other p = p
+use Rattle.frames.specs.declared.unpacking.Unpacking.{Unpacking}
 
 -- from empty buffers on
-module _ {R W : Type 0} (remaining : R → Option (List ℕ)) (s t : Framing R) (u v : Buffered W StdPolicy)
-    (none : s.reader.block.bytes ≡ []) (none' : u.block.bytes ≡ []) where
-  pub given : (payloads lines : List (List ℕ)) → Unpacks remaining s u payloads lines t v
-      → t.reader.log.reads.given ≡ s.reader.log.reads.given ++ (frames payloads ++ rest t)
-  given payloads lines p =
-      let hands = p.went.hands in
-      hands.given
-      ∙ ap (λ l. s.reader.log.reads.given ++ l)
-      (sym (hands.equal ∙ ap (λ l. l ++ hands.got) (ap (λ l. drop s.lent l) none ∙ drop-nil s.lent)))
+module _ {R W : Type 0} (remaining : R → Option (List ℕ)) (s t : Unpacking R W) (none : s.source.reader.block.bytes ≡ [])
+    (none' : s.target.block.bytes ≡ []) (empty : s.held ≡ None) where
+  abbrev rules : FilterRules (Unpacking R W) RunError
+  rules = unpacking_rules remaining
 
-  pub received : (payloads lines : List (List ℕ)) → Unpacks remaining s u payloads lines t v
-      → v.log.writes.received ++ v.block.bytes ≡ u.log.writes.received ++ with_ends lines
-  received payloads lines p = WritesInOrder-fresh u v (with_ends lines) none' p.taken
+  abbrev Ran : Result (Unit {0}) RunError → Type 0
+  Ran answer =
+      UnpackRan s.source.max s.source.reader.log t.source.reader.log s.target.log t.target.log answer
 
-  unpacked : (payloads : List (List ℕ)) → Unpacks remaining s u payloads payloads t v → AllSent v
-      → Unpacked s.max s.reader.log t.reader.log u.log v.log (rest t)
-  unpacked payloads went all = record {
-    payloads = payloads;
-    fit = went.went.fit;
-    given = given payloads payloads went;
-    received =
-        sym (append-nil v.log.writes.received) ∙ ap (λ l. v.log.writes.received ++ l) (sym all.empty)
-        ∙ received payloads payloads went;
-    flushed = all.flushed;
-  }
+  went_all : (count : ℕ) (p : Forwarded rules count s t) → t.held ≡ None → FramesWent remaining s.source p.payloads t.source
+  went_all count p empty' =
+      subst (λ l. FramesWent remaining s.source l t.source) (handed_all remaining s t p.payloads p.moves.hands empty empty')
+      p.moves.hands.went
 
-  first_unpacked : (first : UnpacksFirst remaining s u t v)
-      → (ran : UnpackedFirst s.max s.reader.log t.reader.log u.log v.log) × (ran.lines ≡ first.lines)
-  first_unpacked first = (
-    record {
-      lines = first.lines;
-      lost = first.lost;
-      more = rest t;
-      unsent = v.block.bytes;
-      fit = first.went.went.fit;
-      given = given (first.lines ++ first.lost) first.lines first.went;
-      received = received (first.lines ++ first.lost) first.lines first.went;
-    },
-    refl,
+  unpacked : (count : ℕ) → Forwarded rules count s t → t.held ≡ None → AllSent t.target
+      → Unpacked s.source.max s.source.reader.log t.source.reader.log s.target.log t.target.log (rest t.source)
+  unpacked count p empty' all =
+      let went = went_all count p empty' in
+      let log = t.target.log.writes in
+      record {
+        payloads = p.payloads;
+        fit = went.fit;
+        given = frames_given remaining s.source t.source p.payloads none went;
+        received =
+            sym (append-nil log.received) ∙ ap (λ l. log.received ++ l) (sym all.empty)
+            ∙ WritesInOrder-fresh s.target t.target (with_ends p.payloads) none' p.moves.takes;
+        flushed = all.flushed;
+      }
+
+  -- some were lost, also one that is held
+  first : (count : ℕ) → ForwardedFirst rules count s t
+      → (ran : UnpackedFirst s.source.max s.source.reader.log t.source.reader.log s.target.log t.target.log)
+      × (length ran.lines ≡ count)
+  first count p =
+      let hands = p.moves.hands in
+      let lost = p.lost ++ held_of t in
+      let got : hands.got ≡ p.payloads ++ lost =
+      sym (ap (λ l. l ++ hands.got) (none_held remaining s empty)) ∙ hands.order ∙ append_assoc p.payloads p.lost (held_of t) in
+      let went = subst (λ l. FramesWent remaining s.source l t.source) got hands.went in (
+        record {
+          lines = p.payloads;
+          lost = lost;
+          more = rest t.source;
+          unsent = t.target.block.bytes;
+          fit = went.fit;
+          given = frames_given remaining s.source t.source (p.payloads ++ lost) none went;
+          received = WritesInOrder-fresh s.target t.target (with_ends p.payloads) none' p.moves.takes;
+        },
+        p.all,
+      )
+
+  pub all_ran : (count : ℕ) → ForwardAnswers rules s (Ok count) t → Ran (Ok tt)
+  all_ran count p = (
+    subst (Unpacked s.source.max s.source.reader.log t.source.reader.log s.target.log t.target.log) p.1.1.0
+        (unpacked count p.0 p.1.0 p.2),
+    p.1.1.1,
+    p.3,
   )
 
-  pub unpack_ran : (answer : Result (Unit {0}) RunError) → UnpacksAndFlushes remaining s u answer t v
-      → UnpackRan s.max s.reader.log t.reader.log u.log v.log answer
-  unpack_ran (Ok _) p =
-      let each = p.0.0 in (
-        subst (Unpacked s.max s.reader.log t.reader.log u.log v.log) p.0.1.left (unpacked each.payloads each.went p.1),
-        p.0.1.dry,
-        each.met,
+  wrong_ran : (count : ℕ) (why : RunError) → StopsBy rules count s (cause.Wrong why) t → Ran (Err why)
+  wrong_ran count TooLong p =
+      let max = (went_all count p.0 p.1.0).max in
+      (rest t.source, unpacked count p.0 p.1.0 p.2, subst (λ n. BeginsTooLong n (rest t.source)) max p.1.1, p.3)
+  wrong_ran count Truncated p =
+      let max = (went_all count p.0 p.1.0).max in (
+        rest t.source,
+        unpacked count p.0 p.1.0 p.2,
+        subst (λ n. IsCutShort n (rest t.source)) max p.1.1.0,
+        p.1.1.1,
+        p.3,
       )
-  unpack_ran (Err TooLong) p =
-      let each = p.0.0 in (rest t, unpacked each.payloads each.went p.1, p.0.1, each.met)
-  unpack_ran (Err Truncated) p =
-      let each = p.0.0 in (rest t, unpacked each.payloads each.went p.1, p.0.1.left, p.0.1.dry, each.met)
-  unpack_ran (Err (Read e)) p = (rest t, unpacked p.payloads p.went p.sent, p.left, p.failed)
-  unpack_ran (Err (Write e)) p = ((first_unpacked p.0).0, p.1)
-  unpack_ran (Err (Io e)) p =
-      let first = first_unpacked p.0 in (
-        first.0,
-        inl (subst (λ ls. OverCount e (length ls) s.reader.log t.reader.log u.log v.log) (sym first.1) p.1),
-      )
+  wrong_ran count (Read e) p = absurd p.1.1
+  wrong_ran count (Write e) p = absurd p.1.1
+  wrong_ran count (Io e) p = absurd p.1.1
+
+  read_ran : (count : ℕ) (e : Error) → StopsBy rules count s (cause.Read e) t → Ran (Err (Read e))
+  read_ran count e p = (
+    rest t.source,
+    unpacked count p.0 p.1.0 p.2,
+    subst (λ n. IsUnsettled n (rest t.source)) (went_all count p.0 p.1.0).max p.1.1,
+    p.3,
+  )
+
+  count_ran : (count : ℕ) (e : Error) → StopsBy rules count s cause.Count t → error_kind e ≡ Other → Ran (Err (Io e))
+  count_ran count e p other =
+      let all = p.0 in
+      let over = first count (record {
+        payloads = all.payloads;
+        lost = [];
+        moves = record {
+          hands = subst (λ l. HandsFrames remaining s l t) (sym (append-nil all.payloads)) all.moves.hands;
+          takes = all.moves.takes;
+        };
+        all = all.all;
+      }) in
+      (over.0, inl (record { other = other; large = omega (arith, p.1, over.1); met = p.2 }))
+
+  pub stopped_ran : (count : ℕ) (why : Cause RunError) (e : RunError) → StopsBy rules count s why t → IsErrorOf why e
+      → Ran (Err e)
+  stopped_ran count (cause.Wrong why) e p is = subst (λ x. Ran (Err x)) (sym is) (wrong_ran count why p)
+  stopped_ran count (cause.Read fault) e p is = subst (λ x. Ran (Err x)) (sym is) (read_ran count fault p)
+  stopped_ran count (cause.Write fault) e p is =
+      subst (λ x. Ran (Err x)) (sym is) ((first count p.0).0, p.1)
+  stopped_ran count cause.Count e p is = subst (λ x. Ran (Err x)) (sym is.2) (count_ran count is.0 p is.1)
 
 -- a buffer was refused
 pub unpack_refused : (most : ℕ) (read written : StreamLog) (e : Error) → error_kind e ≡ OutOfMemory

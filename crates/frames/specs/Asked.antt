@@ -36,7 +36,7 @@ pub record UnpackedAs (ending : Ending) (read read' written written' : StreamLog
   pub ran : UnpackRan 65535 read read' written written' answer
   pub prompt : HoldsNothingBack (unpacked.IsDue 65535) read read' written written'
   pub once : EndsOnce read.reads read'.reads
-  pub flushes : FlushesSend 2 written.writes written'.writes
+  pub flushes : FlushesSend 1 written.writes written'.writes
   pub ends : EndsAs answer ending
 
 -- what a run did that these words asked for, and that ended so; other words call no stream

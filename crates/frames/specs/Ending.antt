@@ -1,5 +1,10 @@
 -- What the program says of each ending.
 use Rattle.std.specs.Prelude.{◌≡◌, ℕ, List, codes, Bool, true, false, Result, Ok, Err}
+use Rattle.std.specs.IoError.{error_kind}
+use Rattle.std.specs.declared.io.Error.{Error}
+use Rattle.std.specs.declared.io.ErrorKind.TheVariants.{Other}
+use Rattle.forward.specs.declared.error.Cause.{Cause}
+use Rattle.forward.specs.declared.error.Cause.TheVariants as cause
 use Rattle.programs.specs.Ending.{FailsAs, FailsSo}
 use Rattle.programs.specs.Ending as usual
 use Rattle.programs.specs.declared.ending.Ending.{Ending as Usually}
@@ -17,6 +22,13 @@ faulted (Err Why.Truncated) = false
 faulted (Err (Why.Read e)) = true
 faulted (Err (Why.Write e)) = true
 faulted (Err (Why.Io e)) = true
+
+-- the error that a run fails with, by what stopped its payloads
+abbrev pub IsErrorOf : Cause RunError → RunError → Type 0
+IsErrorOf (cause.Wrong why) error = error ≡ why
+IsErrorOf (cause.Read e) error = error ≡ Why.Read e
+IsErrorOf (cause.Write e) error = error ≡ Why.Write e
+IsErrorOf cause.Count error = (e : Error) × (error_kind e ≡ Other) × (error ≡ Why.Io e)
 
 -- how a run ends that returned this
 abbrev pub EndsAs : Result (Unit {0}) RunError → Ending → Type 0

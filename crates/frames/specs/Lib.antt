@@ -3,3 +3,5 @@ pub mod Ending
 pub mod Going
 pub mod Pack
 pub mod Unpack
+pub mod Unpacking
+pub mod UnpackingLaws

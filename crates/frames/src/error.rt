@@ -2,8 +2,10 @@
 ghost use Rattle.std.specs.Prelude.{◌≡◌};
 ghost use Rattle.frames.specs.Ending.{faulted};
 
+use forward::Cause;
 use frame_reader::WriteFrameError;
 use std::io;
+use std::io::ErrorKind;
 
 /// Why a run failed.
 #[derive(Debug, Drop)]
@@ -28,6 +30,22 @@ pub fn is_fault(answer: &Result<(), RunError>) -> bool
         answer,
         Err(RunError::Read(_) | RunError::Write(_) | RunError::Io(_))
     )
+}
+
+impl RunError {
+    ghost use Rattle.frames.specs.Ending.{IsErrorOf};
+
+    /// Why a run failed whose payloads were stopped so.
+    pub fn of(cause: Cause<RunError>) -> RunError
+        ensures { IsErrorOf cause result }
+    {
+        match cause {
+            Cause::Wrong(e) => e,
+            Cause::Read(e) => RunError::Read(e),
+            Cause::Write(e) => RunError::Write(e),
+            Cause::Count => RunError::Io(ErrorKind::Other.into()),
+        }
+    }
 }
 
 /// What a call of a writer failed with.

@@ -10,6 +10,7 @@ mod pack;
 mod run;
 mod tries;
 mod unpack;
+mod unpacking;
 
 use crate::ending::Ending;
 use buffer_redux::tell::Told;

@@ -1,7 +1,7 @@
 use Rattle.std.proofs.Common.{◌≡◌, arith, inl, refl, rules}
 use Rattle.std.specs.IoError.{error_kind}
 use Rattle.std.specs.declared.io.ErrorKind.TheVariants.{OutOfMemory}
-use Rattle.frames.proofs.UnpackRuns.{unpack_ran, unpack_refused}
+use Rattle.frames.proofs.UnpackRuns.{unpack_refused}
 use Rattle.frames.proofs.unpack.unpack.Goals as goal
 
 pub returns-in-Err-clause-ran : goal.returns-in-Err-clause-ran
@@ -32,9 +32,7 @@ returns-clause-ran g c =
       ← c.in-Ok-buffered_writer.ensures.log,
       ← made.max,
     )
-    (unpack_ran g.R.TellRead.remaining c.in-Ok.source c.unpack_all-answer.new.source c.in-Ok-buffered_writer.target
-    c.unpack_all-answer.new.target made.empty c.in-Ok-buffered_writer.ensures.made.bytes c.unpack_all-answer.result
-    c.unpack_all-answer.ensures.unpacks)
+    c.unpack_all-answer.ensures.ran
 
 pub returns-clause-prompt : goal.returns-clause-prompt
 returns-clause-prompt g c =

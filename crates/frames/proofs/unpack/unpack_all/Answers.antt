@@ -1,55 +1,47 @@
-use Rattle.std.proofs.Common.{arith, refl, sym, ◌∙◌}
-use Rattle.std.proofs.lemmas.Result.{err_from_is_err_and}
+use Rattle.std.proofs.Common.{Err, None, Ok, refl, subst, sym}
+use Rattle.forward.specs.Forward.{ForwardAnswers, Forwards, StopsBy}
+use Rattle.forward.specs.ForwardLaws.{Goes-holds}
+use Rattle.forward.specs.Link.{Goes, IsPrompt, linked}
+use Rattle.programs.specs.Prompt.{HoldsNothingBack}
 use Rattle.frames.specs.Unpack.{IsDue}
-use Rattle.programs.specs.FlushesLaws.{FlushesSend-flush}
-use Rattle.programs.specs.PromptLaws.{HoldsNothingBack-on, WritesOn-grows}
-use Rattle.frames.proofs.UnpackRuns.{kept, flushed_after, flush_failed_after}
+use Rattle.frames.specs.Unpacking.{unpacking_rules}
+use Rattle.frames.specs.declared.unpacking.Unpacking.{Unpacking}
+use Rattle.frames.proofs.UnpackRuns.{all_ran, stopped_ran}
 use Rattle.frames.proofs.unpack.unpack_all.Goals as goal
 
-pub returns-then-is_fault-clause-unpacks : goal.returns-then-is_fault-clause-unpacks
-returns-then-is_fault-clause-unpacks g c =
-    kept g.R.TellRead.remaining c.args.source.now c.unpack_frames-answer.new.source c.args.target.now
-    c.unpack_frames-answer.new.target c.unpack_frames-answer.result (sym c.is_fault.ensures ∙ c.if-is_fault.true)
-    c.unpack_frames-answer.ensures.unpacks
+pub returns-in-Ok-clause-ran : goal.returns-in-Ok-clause-ran
+returns-in-Ok-clause-ran g c =
+    let remaining = g.R.TellRead.remaining in
+    let rules = unpacking_rules {W = g.row.W.Denot} remaining in
+    let first : Unpacking g.row.R.Denot g.row.W.Denot =
+    record { source = c.args.source; target = c.args.target; held = None } in
+    let over = subst (λ k. Forwards rules k (Ok c.in-Ok.field-0) c.forward-answer.new.link) c.new-link.ensures c.in-Ok.ensures in
+    all_ran remaining first c.into_inner-source.result c.requires.nothing c.requires.empty refl c.in-Ok.field-0
+    (subst (ForwardAnswers rules first (Ok c.in-Ok.field-0)) (sym c.into_inner-source.ensures) over.answers)
 
-pub returns-in_err-flush-clause-unpacks : goal.returns-in_err-flush-clause-unpacks
-returns-in_err-flush-clause-unpacks g c =
-    let p = err_from_is_err_and c.from_residual.result c.from_residual.ensures.1 in
-    let f = c.in_err-flush.ensures.flushed in
-    rw (p.1, p.2)
-    (flush_failed_after g.R.TellRead.remaining c.args.source.now c.unpack_frames-answer.new.source c.args.target.now
-    c.unpack_frames-answer.new.target c.flush.new.self f.in_order f.kind f.capacity c.unpack_frames-answer.result
-    (sym c.is_fault.ensures ∙ c.if-is_fault.false) c.unpack_frames-answer.ensures.unpacks _ f.caused)
+pub returns-in-Err-clause-ran : goal.returns-in-Err-clause-ran
+returns-in-Err-clause-ran g c =
+    let remaining = g.R.TellRead.remaining in
+    let rules = unpacking_rules {W = g.row.W.Denot} remaining in
+    let first : Unpacking g.row.R.Denot g.row.W.Denot =
+    record { source = c.args.source; target = c.args.target; held = None } in
+    let why = c.in-Err.stopped in
+    let over = subst (λ k. Forwards rules k (Err why) c.forward-answer.new.link) c.new-link.ensures c.in-Err.ensures in
+    stopped_ran remaining first c.into_inner-source.result c.requires.nothing c.requires.empty refl why.count why.cause c.of.result
+    (subst (StopsBy rules why.count first why.cause) (sym c.into_inner-source.ensures) over.answers) c.of.ensures
 
-pub returns-clause-unpacks : goal.returns-clause-unpacks
-returns-clause-unpacks g c =
-    let f = c.in_ok-flush.ensures.flushed in
-    flushed_after g.R.TellRead.remaining c.args.source.now c.unpack_frames-answer.new.source c.args.target.now
-    c.unpack_frames-answer.new.target c.flush.new.self f.in_order f.kind f.capacity c.unpack_frames-answer.result
-    (sym c.is_fault.ensures ∙ c.if-is_fault.false) c.unpack_frames-answer.ensures.unpacks
-    (record { empty = f.ok.empty; flushed = f.ok.flushed }) f.ok.met
+pub returns-in-Ok-clause-prompt : goal.returns-in-Ok-clause-prompt
+returns-in-Ok-clause-prompt g c =
+    let rules = unpacking_rules {W = g.row.W.Denot} g.R.TellRead.remaining in
+    let t = c.forward-answer.new.link in
+    let goes = subst (λ k. Goes rules (IsPrompt rules k.filter) k t) c.new-link.ensures c.forward-answer.ensures.goes in
+    subst (λ x. HoldsNothingBack (IsDue c.args.source.max) c.args.source.reader.log x.source.reader.log c.args.target.log
+    x.target.log) (sym c.into_inner-source.ensures) (Goes-holds rules _ t goes)
 
-pub returns-in_err-flush-clause-prompt : goal.returns-in_err-flush-clause-prompt
-returns-in_err-flush-clause-prompt g c =
-    HoldsNothingBack-on (IsDue c.args.source.now.max) _ _ _ _ _ _ c.unpack_frames-answer.ensures.prompt refl
-    (WritesOn-grows _ _ c.in_err-flush.ensures.flushed.grows)
-
-pub returns-clause-prompt : goal.returns-clause-prompt
-returns-clause-prompt g c =
-    HoldsNothingBack-on (IsDue c.args.source.now.max) _ _ _ _ _ _ c.unpack_frames-answer.ensures.prompt refl
-    (WritesOn-grows _ _ c.in_ok-flush.ensures.flushed.grows)
-
-pub returns-then-is_fault-clause-flushes : goal.returns-then-is_fault-clause-flushes
-returns-then-is_fault-clause-flushes g c = omega (arith, c.unpack_frames-answer.ensures.flushes)
-
-pub returns-in_err-flush-clause-flushes : goal.returns-in_err-flush-clause-flushes
-returns-in_err-flush-clause-flushes g c =
-    let flushed = c.in_err-flush.ensures.flushed in
-    FlushesSend-flush 1 c.args.target.now.log.writes c.unpack_frames-answer.new.target c.flush.new.self _
-    c.unpack_frames-answer.ensures.flushes flushed.steps (WritesOn-grows _ _ flushed.grows)
-
-pub returns-clause-flushes : goal.returns-clause-flushes
-returns-clause-flushes g c =
-    let flushed = c.in_ok-flush.ensures.flushed in
-    FlushesSend-flush 1 c.args.target.now.log.writes c.unpack_frames-answer.new.target c.flush.new.self _
-    c.unpack_frames-answer.ensures.flushes flushed.steps (WritesOn-grows _ _ flushed.grows)
+pub returns-in-Err-clause-prompt : goal.returns-in-Err-clause-prompt
+returns-in-Err-clause-prompt g c =
+    let rules = unpacking_rules {W = g.row.W.Denot} g.R.TellRead.remaining in
+    let t = c.forward-answer.new.link in
+    let goes = subst (λ k. Goes rules (IsPrompt rules k.filter) k t) c.new-link.ensures c.forward-answer.ensures.goes in
+    subst (λ x. HoldsNothingBack (IsDue c.args.source.max) c.args.source.reader.log x.source.reader.log c.args.target.log
+    x.target.log) (sym c.into_inner-source.ensures) (Goes-holds rules _ t goes)

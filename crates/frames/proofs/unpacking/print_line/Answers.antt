@@ -1,7 +1,7 @@
 use Rattle.std.proofs.Common.{◌∷◌, []}
 use Rattle.buffer_redux.specs.WriterLaws.{WritesInOrder-joins}
 use Rattle.line_reader.specs.Lines.{newline}
-use Rattle.frames.proofs.unpack.print_line.Goals as goal
+use Rattle.frames.proofs.unpacking.print_line.Goals as goal
 
 pub returns-clause-taken : goal.returns-clause-taken
 returns-clause-taken g c =
