@@ -67,18 +67,18 @@ module _ {S P : Type 0} (rules : ReadRules P) (limits : Limits) where
       → Calls rules limits s p room answer t r
   Calls-after a s p m q first calls =
       let joined = TakesTurns-joins a calls.count s p m q calls.last calls.place first calls.turns in
-      record { count = joined.0; last = calls.last; place = calls.place; turns = joined.1; call = calls.call }
+      record { count = joined.0; last = calls.last; place = calls.place; turns = joined.1; call = calls.call; before_end = calls.before_end }
 
   -- a call that hands out none doesn't depend on the room
   pub Calls-fail : (s : Buffered S P) (p : Place) (e : ChunkedError) (t : Buffered S P) (q : Place)
       → Calls rules limits s p 0 (Err e) t q → (room : ℕ) → Calls rules limits s p room (Err e) t q
   Calls-fail s p e t q calls room = record
-      { count = calls.count; last = calls.last; place = calls.place; turns = calls.turns; call = calls.call }
+      { count = calls.count; last = calls.last; place = calls.place; turns = calls.turns; call = calls.call; before_end = calls.before_end }
 
   pub Calls-none : (s : Buffered S P) (p : Place) (t : Buffered S P) (q : Place) → Calls rules limits s p 0 (Ok 0) t q
       → (room : ℕ) → Calls rules limits s p room (Ok 0) t q
   Calls-none s p t q calls room = record
-      { count = calls.count; last = calls.last; place = calls.place; turns = calls.turns; call = calls.call }
+      { count = calls.count; last = calls.last; place = calls.place; turns = calls.turns; call = calls.call; before_end = calls.before_end }
 
 module _ {S P : Type 0} (remaining : S → Option (List ℕ)) (rules : ReadRules P) where
   -- what one read does as a stretch
@@ -103,7 +103,7 @@ module _ {S P : Type 0} (remaining : S → Option (List ℕ)) (rules : ReadRules
 
     at_once : {room : ℕ} {answer : Result ℕ ChunkedError} {at : Place} → LastCall rules s p.place room answer t at
         → Calls rules p.limits s p.place room answer t at
-    at_once call = record { count = 0; last = s; place = p.place; turns = (refl, refl); call = call }
+    at_once call = record { count = 0; last = s; place = p.place; turns = (refl, refl); call = call; before_end = inr (λ is. let odd : Data left ≡ Done = sym there ∙ is in cc) }
 
     pub data_fails : (e : Error) → ReadsInOrder s [] t → ReadErrorCaused {A = ℕ} rules s (Err e) t → (before after : List ℕ)
         → Reads rules s before (Err e) after t → 0 < length before → HandsOn remaining rules s p out (Err (Io e)) t p

@@ -1,5 +1,5 @@
 -- A turn of taking what is no payload, and how that ends.
-use Rattle.std.proofs.Common.{◌≡◌, ℕ, suc, ◌+◌, ◌<◌, ◌≤◌, ◌⊎◌, List, [], ◌∷◌, ◌++◌, length, take, drop, min, slice_index, Option, Ok, Err, None, Some, IfSome, sym, ap, subst, ◌∙◌, arith, inl, inr, refl, append_assoc}
+use Rattle.std.proofs.Common.{◌≡◌, ◌≢◌, ℕ, suc, ◌+◌, ◌<◌, ◌≤◌, ◌⊎◌, List, [], ◌∷◌, ◌++◌, length, take, drop, min, slice_index, Option, Ok, Err, None, Some, IfSome, sym, ap, subst, ◌∙◌, arith, inl, inr, refl, append_assoc}
 use Rattle.std.proofs.lemmas.List.{drop_more, nil_from_length}
 use Rattle.std.specs.Borrow.{Bor}
 use Rattle.std.specs.declared.io.Error.{Error}
@@ -11,6 +11,7 @@ use Rattle.buffer_redux.specs.ReaderLaws.{FillBuf-along, Fills-empty, ReadsAlong
 use Rattle.chunked.specs.declared.error.ChunkedError.TheVariants.{NotChunked, Truncated, Io}
 use Rattle.chunked.specs.declared.error.Malformed.{Malformed}
 use Rattle.chunked.specs.declared.place.Place.{Place}
+use Rattle.chunked.specs.declared.place.Place.TheVariants.{Done}
 use Rattle.chunked.specs.declared.progress.Progress.{Progress}
 use Rattle.chunked.specs.declared.step.Reached.{Reached}
 use Rattle.chunked.specs.Between.{FillsAndTakes, NoFault, Skips, Takes, TakesTurns, taken_of}
@@ -24,14 +25,20 @@ pub record Notes (p : Progress) (there : Place) (bytes : List ℕ) (q : Progress
   pub place : q.place ≡ there
   pub taken : taken_of q ≡ taken_of p ++ bytes
 
+not_done : (p : Place) → ¬ IsSettled p → p ≢ Done
+not_done p goes_on is = goes_on (subst IsSettled (sym is) tt)
+
 module _ {S P : Type 0} (remaining : S → Option (List ℕ)) (rules : ReadRules P) where
   module _ (s : Buffered S P) (p : Progress) (wire : List ℕ) (m : Buffered S P) (q : Progress)
       (before : Takes remaining rules s p wire [] m q) (no_fault : NoFault s m)
       (count : ℕ) (turns : TakesTurns rules p.limits count s p.place m q.place) where
+    not_ended : {f : Buffered S P} → ¬ IsSettled q.place → (m ≡ f) ⊎ (q.place ≢ Done)
+    not_ended goes_on = inr (not_done q.place goes_on)
+
     -- the fill failed
-    pub skip_fails : (e : Error) (f : Buffered S P) → FillBuf remaining rules m (Err e) f
+    pub skip_fails : (e : Error) (f : Buffered S P) → FillBuf remaining rules m (Err e) f → ¬ IsSettled q.place
         → Skips remaining rules s p (Err (Io e)) f q
-    skip_fails e f filled = record {
+    skip_fails e f filled goes_on = record {
       wire = wire;
       takes = Takes-still remaining rules s p m q f wire [] before (FillBuf-along remaining rules m (Err e) f filled);
       ends = elim filled.fills.caused [
@@ -39,7 +46,7 @@ module _ {S P : Type 0} (remaining : S → Option (List ℕ)) (rules : ReadRules
         | inr gave ↦ inr (record { last = m; grows = before.along.grows; no_fault = no_fault; gave = gave })
       ];
       calls = record
-          { count = count; last = m; place = q.place; turns = turns; call = inl (Fills-err rules m e f filled.fills) };
+          { count = count; last = m; place = q.place; turns = turns; call = inl (Fills-err rules m e f filled.fills); before_end = not_ended goes_on };
     }
 
     module _ (shown : Bor (List ℕ)) (f : Buffered S P) (filled : FillBuf remaining rules m (Ok shown) f) where
@@ -57,7 +64,7 @@ module _ {S P : Type 0} (remaining : S → Option (List ℕ)) (rules : ReadRules
             ends = (
               filled_well,
               refl,
-              (λ is. not_settled (subst IsSettled (sym is) tt)),
+              not_done q.place not_settled,
               record {
                 last = m;
                 grows = before.along.grows;
@@ -70,7 +77,7 @@ module _ {S P : Type 0} (remaining : S → Option (List ℕ)) (rules : ReadRules
               },
             );
             calls = record
-                { count = count; last = m; place = q.place; turns = turns; call = inl (Fills-ok rules m shown 0 f filled.fills) };
+                { count = count; last = m; place = q.place; turns = turns; call = inl (Fills-ok rules m shown 0 f filled.fills); before_end = not_ended not_settled };
           }
 
       module _ (r : Reached) (reached : Advances q.limits q.place shown.now r) (q' : Progress)
@@ -120,8 +127,8 @@ module _ {S P : Type 0} (remaining : S → Option (List ℕ)) (rules : ReadRules
         )
 
         -- something is wrong with the next byte
-        pub skip_wrong : (why : Malformed) → r.wrong ≡ Some why → Skips remaining rules s p (Err (NotChunked why q'.count)) t q'
-        skip_wrong why is =
+        pub skip_wrong : (why : Malformed) → r.wrong ≡ Some why → ¬ IsSettled q.place → Skips remaining rules s p (Err (NotChunked why q'.count)) t q'
+        skip_wrong why is goes_on =
             let found : (r.taken < length shown.now) × IsWrong q.limits r.place (slice_index shown.now r.taken) why =
             subst (λ o. IfSome o (λ w. (r.taken < length shown.now)
             × IsWrong q.limits r.place (slice_index shown.now r.taken) w)) is reached.wrong in
@@ -148,6 +155,7 @@ module _ {S P : Type 0} (remaining : S → Option (List ℕ)) (rules : ReadRules
                 place = q.place;
                 turns = turns;
                 call = (r.taken, fills_and_takes (omega (arith, found.0)));
+                before_end = not_ended goes_on;
               };
             }
 

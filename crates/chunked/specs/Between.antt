@@ -121,7 +121,8 @@ LastCall rules s p room (Ok zero) t q = (s ≡ t) × (p ≡ q)
 LastCall rules s p room (Ok (suc n)) t q = ReadsChunk rules s room (suc n) t q
 LastCall rules s p room (Err e) t q = CallFails rules s e t
 
--- how the buffered reader was called: by turns that took what is no payload, and then by the last call
+-- how the buffered reader was called: by turns that took what is no payload, and then, unless the body ended there, by the last
+-- call
 pub record Calls {S P : Type 0} (rules : ReadRules P) (limits : Limits) (s : Buffered S P) (p : Place) (room : ℕ)
     (answer : Result ℕ ChunkedError) (t : Buffered S P) (q : Place) : Type 0 where
   pub count : ℕ
@@ -129,6 +130,7 @@ pub record Calls {S P : Type 0} (rules : ReadRules P) (limits : Limits) (s : Buf
   pub place : Place
   pub turns : TakesTurns rules limits count s p last place
   pub call : LastCall rules last place room answer t q
+  pub before_end : (last ≡ t) ⊎ (place ≢ Done)
 
 -- why there is no further payload
 abbrev pub FailsSo : {S P : Type 0} → ReadRules P → Buffered S P → ChunkedError → Buffered S P → Progress → Type 0

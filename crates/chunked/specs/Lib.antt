@@ -13,6 +13,8 @@ pub mod BetweenLaws
 pub mod Dechunking
 pub mod DechunkingLaws
 pub mod EmptyReads
+pub mod Asking
+pub mod AskingLaws
 pub mod Given
 pub mod Chunk
 pub mod ChunkLaws

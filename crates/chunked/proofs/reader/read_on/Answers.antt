@@ -1,4 +1,4 @@
-use Rattle.std.proofs.Common.{◌≡◌, [], length, refl, rules, sym, arith}
+use Rattle.std.proofs.Common.{◌≡◌, [], length, inl, refl, rules, sym, arith}
 use Rattle.std.proofs.lemmas.Bool.{eqb-true}
 use Rattle.std.proofs.lemmas.Result.{err_from_is_err_and}
 use Rattle.chunked.specs.BetweenLaws.{Takes-none}
@@ -13,7 +13,7 @@ returns-then-is_empty-clause-hands g c =
       takes = Takes-none _ _ _ _ c.requires;
       ends = (omega arith, refl, (λ _ room. absurd (omega (arith, room, none))));
       calls = record
-          { count = 0; last = c.args.reader.now; place = c.args.progress.now.place; turns = (refl, refl); call = (refl, refl) };
+          { count = 0; last = c.args.reader.now; place = c.args.progress.now.place; turns = (refl, refl); call = (refl, refl); before_end = inl refl };
     }
 
 pub returns-in-Data-clause-hands : goal.returns-in-Data-clause-hands

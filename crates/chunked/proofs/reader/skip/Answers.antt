@@ -23,7 +23,7 @@ returns-in_err-shown g c =
     let p = err_from_is_err_and c.from_residual.result c.from_residual.ensures.1 in
     let goes_on : ¬ IsSettled c.loop-reader.progress.place = λ settled. (let odd = c.loop-reader-test.ensures.1 settled in cc) in
     rw (p.1, p.2) (record {
-      skips = skip_fails _ _ _ _ before.wire _ _ before.takes before.no_fault _ before.turns _ _ filled;
+      skips = skip_fails _ _ _ _ before.wire _ _ before.takes before.no_fault _ before.turns _ _ filled goes_on;
       still = λ settled. absurd (never_settled _ _ _ _ before.still goes_on settled);
     })
 
@@ -49,7 +49,7 @@ returns-in-Some g c =
     record {
       skips = skip_wrong _ _ _ _ before.wire _ _ before.takes before.no_fault _ before.turns _ _ filled _
           c.advance-reached.ensures _ notes _
-          c.consume.ensures.inner c.consume.ensures.consumed _ c.in-Some.is;
+          c.consume.ensures.inner c.consume.ensures.consumed _ c.in-Some.is goes_on;
       still = λ settled. absurd (never_settled _ _ _ _ before.still goes_on settled);
     }
 
@@ -88,5 +88,6 @@ returns-clause-skips g c =
         place = c.loop-reader.progress.place;
         turns = before.turns;
         call = (refl, refl);
+        before_end = inl refl;
       };
     }
