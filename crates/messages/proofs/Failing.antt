@@ -25,12 +25,17 @@ module _ {S : Type 0} (s t : Dechunking S StdPolicy) (is : IsDechunking t) (room
 
   pub chunks_fail : (asked : ℕ) (e : ChunkedError) → PayloadAnswers std_read_rules s asked (Err e) t
       → Fails (unbuffered s.reader) (body_error e) (unbuffered t.reader) (Chunks t.limits t.place)
-  chunks_fail asked (NotChunked why right) answers = λ later payload c.
-      answers.2.none (answers.2.later ++ later) (handed_of t ++ payload)
-      (subst (λ l. IsBody t.limits (t.taken ++ (l ++ later)) (handed_of t ++ payload)) answers.2.next
-      (whole (t.reader.block.bytes ++ later) payload c))
+  chunks_fail asked (NotChunked why right) answers = (
+    answers.1,
+    λ later payload c.
+        answers.2.none (answers.2.later ++ later) (handed_of t ++ payload)
+        (subst (λ l. IsBody t.limits (t.taken ++ (l ++ later)) (handed_of t ++ payload)) answers.2.next
+        (whole (t.reader.block.bytes ++ later) payload c)),
+  )
   chunks_fail asked (Truncated right) answers = (
+    answers.1,
     answers.2.dry.dry (WantsBytes-std s.reader.policy) room,
+    answers.2.dry.none,
     λ payload c. answers.2.none (handed_of t ++ payload)
         (subst (λ l. IsBody t.limits l (handed_of t ++ payload)) (append-nil t.taken) (whole [] payload c)),
   )

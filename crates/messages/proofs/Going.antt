@@ -68,7 +68,8 @@ module _ {S P : Type 0} (remaining : S → Option (List ℕ)) (rules : ReadRules
 
 -- it ended
 module _ {S P : Type 0} (remaining : S → Option (List ℕ)) (rules : ReadRules P) (s : Dechunking S P) (is : IsDechunking s)
-    (handed : List ℕ) (t : Dechunking S P) (went : BodyWent remaining rules s handed t) where
+    (handed : List ℕ) (t : Dechunking S P) (went : BodyWent remaining rules s handed t)
+    (no_fault : t.reader.log.reads.faults ≡ s.reader.log.reads.faults) where
   pub chunks_end : IsWhole t → Ends remaining (unbuffered s.reader) (Chunks s.limits s.place) (unbuffered t.reader)
   chunks_end whole =
       let body : IsBody s.limits (s.taken ++ went.wire) (handed_of t) =
@@ -80,4 +81,5 @@ module _ {S P : Type 0} (remaining : S → Option (List ℕ)) (rules : ReadRules
         payload = back.0;
         went = ReadsAlong-stream remaining rules s.reader went.wire t.reader went.along;
         is = back.2;
+        no_fault = no_fault;
       }

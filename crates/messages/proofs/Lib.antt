@@ -4,3 +4,4 @@ pub mod Beginning
 pub mod Deciding
 pub mod Passed
 pub mod Failing
+pub mod Asking

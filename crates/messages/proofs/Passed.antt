@@ -10,7 +10,7 @@ use Rattle.messages.specs.declared.requests.Stop.{Stop}
 use Rattle.messages.specs.declared.requests.Stop.TheVariants.{Ended, Bad, Io}
 use Rattle.messages.specs.Heads.{IsHead, heads}
 use Rattle.messages.specs.Messages.{Begun, Ends, InBody, InsideGoes, MessageBegun, MessageWent, Onward, answer_of, body_of}
-use Rattle.messages.specs.MessagesLaws.{MessageWent-of, Takes-none}
+use Rattle.messages.specs.MessagesLaws.{Begun-went, MessageWent-of, Takes-none, lent}
 
 module _ {S : Type 0} (remaining : S → Option (List ℕ)) (s : Piecing S head.Heads) where
   -- a call that goes into no message takes nothing
@@ -37,8 +37,9 @@ module _ {S : Type 0} (remaining : S → Option (List ℕ)) (s : Piecing S head.
     stopped_inside handed t goes = record {
       taken = goes.takes.wire;
       went = subst (λ h. StreamWent remaining (left_of s) (h ++ goes.takes.wire) t.stream) (sym goes.head)
-          (StreamWent-joins remaining (left_of s) b.stream t.stream b.head goes.takes.wire begun.went goes.takes.went);
-      text = subst (λ h. heads.piece h h) (sym goes.head) begun.text;
+          (StreamWent-joins remaining (left_of s) b.stream t.stream b.head goes.takes.wire (Begun-went remaining s b begun)
+          goes.takes.went);
+      text = subst (λ h. heads.piece h h) (sym goes.head) (lent remaining s begun.behind b.head begun.next).1;
       is = subst (λ h. IsHead h t.said) (sym goes.head) (subst (λ x. IsHead b.head x) (sym goes.said) begun.is);
       handed = handed;
       onward = subst (λ x. Onward (body_of x.extent) goes.takes.wire handed t.rest) (sym goes.said)

@@ -1,14 +1,14 @@
 -- Messages, and what contracts see of a reader that stands in one.
-use Rattle.std.specs.Prelude.{◌≡◌, ◌⊎◌, ◌≤◌, ◌<◌, ◌-◌, ◌^◌, ℕ, List, [], ◌∷◌, ◌++◌, length, take, Option, None, Result, Ok, Err}
+use Rattle.std.specs.Prelude.{◌≡◌, ◌⊎◌, ◌≤◌, ◌<◌, ◌-◌, ◌^◌, ℕ, List, [], ◌∷◌, ◌++◌, length, take, Option, None, Some, Result, Ok, Err}
 use Rattle.buffer_redux.specs.Unbuffer.{StreamWent, Unbuffered}
 use Rattle.chunked.specs.declared.error.ChunkedError.{ChunkedError}
 use Rattle.chunked.specs.declared.error.ChunkedError.TheVariants as chunks
 use Rattle.chunked.specs.declared.limits.Limits.{Limits}
 use Rattle.chunked.specs.declared.place.Place.{Place}
-use Rattle.chunked.specs.declared.place.Place.TheVariants.{Line}
-use Rattle.chunked.specs.Place.{Completes}
+use Rattle.chunked.specs.declared.place.Place.TheVariants.{Line, Done}
+use Rattle.chunked.specs.Place.{Completes, IsSettled}
 use Rattle.codec.specs.declared.error.NextError.TheVariants as why
-use Rattle.codec.specs.NextPiece.{NextAnswer}
+use Rattle.codec.specs.NextPiece.{NextAnswer, NextPiece}
 use Rattle.codec.specs.Piecing.{Piecing, left_of}
 use Rattle.messages.specs.declared.error.BodyError.{BodyError}
 use Rattle.messages.specs.declared.error.BodyError.TheVariants.{Wrong, Truncated, Io as Fault}
@@ -37,6 +37,18 @@ IsRest (Chunks limits place) wire payload = Completes limits place wire payload
 abbrev pub Onward : Rest → List ℕ → List ℕ → Rest → Type 0
 Onward r wire handed r' = (later payload : List ℕ) → IsRest r' later payload → IsRest r (wire ++ later) (handed ++ payload)
 
+-- these bytes begin that, with this payload in them, and it goes on behind them
+pub record GoesOn (r : Rest) (handed bytes : List ℕ) : Type 0 where
+  pub rest : Rest
+  pub onward : Onward r bytes handed rest
+  pub later : List ℕ
+  pub payload : List ℕ
+  pub some : 0 < length later
+  pub is : IsRest rest later payload
+
+abbrev pub Unended : Rest → List ℕ → Type 0
+Unended r bytes = (handed : List ℕ) × GoesOn r handed bytes
+
 -- the whole body
 abbrev pub body_of : Extent → Rest
 body_of (Sized len) = Bytes len
@@ -61,10 +73,11 @@ pub record InBody (S : Type 0) : Type 0 where
 abbrev pub begun : {S : Type 0} → Unbuffered S → List ℕ → Said → InBody S
 begun stream head said = record { stream = stream; head = head; said = said; rest = body_of said.extent }
 
--- the reader stands behind a head, in front of its body
+-- the reader stands in front of a body, behind its head, which was the next piece
 pub record Begun {S : Type 0} (remaining : S → Option (List ℕ)) (s : Piecing S Heads) (b : InBody S) : Type 0 where
-  pub went : StreamWent remaining (left_of s) b.head b.stream
-  pub text : heads.piece b.head b.head
+  pub behind : Piecing S Heads
+  pub next : NextPiece remaining heads s (Ok (Some b.head)) behind
+  pub stream : b.stream ≡ left_of behind
   pub is : IsHead b.head b.said
   pub rest : b.rest ≡ body_of b.said.extent
 
@@ -86,12 +99,22 @@ abbrev pub handed_out : List ℕ → Result ℕ BodyError → List ℕ
 handed_out out (Ok n) = take n out
 handed_out out (Err e) = []
 
--- why no payload comes: however it goes on, what comes next doesn't complete the body; or the stream was asked, and gave nothing,
--- and the body isn't complete; or the stream failed, once
+-- the next byte of payload is left of a buffer, or none is to come
+abbrev pub IsReady : {S : Type 0} → Unbuffered S → Rest → Type 0
+IsReady s (Bytes n) = (n ≡ 0) ⊎ (0 < length s.left)
+IsReady s (Chunks limits place) = (place ≡ Done) ⊎ (IsSettled place × (0 < length s.left))
+
+-- no read of the stream failed
+abbrev pub NoFault : {S : Type 0} → Unbuffered S → Unbuffered S → Type 0
+NoFault s t = t.log.reads.faults ≡ s.log.reads.faults
+
+-- why no payload comes: however it goes on, what comes next doesn't complete the body; or the stream was asked where nothing was
+-- left, and gave nothing, and the body isn't complete; or the stream failed, once
 abbrev pub Fails : {S : Type 0} → Unbuffered S → BodyError → Unbuffered S → Rest → Type 0
-Fails s (Wrong name) t r = (later payload : List ℕ) → ¬ (IsRest r (t.left ++ later) payload)
+Fails s (Wrong name) t r = NoFault s t × ((later payload : List ℕ) → ¬ (IsRest r (t.left ++ later) payload))
 Fails s Truncated t r =
-    (s.log.reads.zero_reads < t.log.reads.zero_reads) × ((payload : List ℕ) → ¬ (IsRest r [] payload))
+    NoFault s t × (s.log.reads.zero_reads < t.log.reads.zero_reads) × (t.left ≡ [])
+    × ((payload : List ℕ) → ¬ (IsRest r [] payload))
 Fails s (Fault e) t r = t.log.reads.faults ≡ s.log.reads.faults ++ e ∷ []
 
 -- as a reader of chunks says it
@@ -107,7 +130,7 @@ FailsBehind s handed e t r = Fails s e t r ⊎ (2 ^ 64 - 1 ≤ length handed)
 -- or it was, and memory was refused for the next head
 abbrev pub FinishFails : {S : Type 0} → Unbuffered S → List ℕ → FinishError → Unbuffered S → Rest → Type 0
 FinishFails s handed (Body e) t r = FailsBehind s handed e t r
-FinishFails s handed (Memory e) t r = r ≡ Bytes 0
+FinishFails s handed (Memory e) t r = NoFault s t × (r ≡ Bytes 0)
 
 -- all of that was taken, and what stands behind the body is left
 pub record Ends {S : Type 0} (remaining : S → Option (List ℕ)) (s : Unbuffered S) (r : Rest) (t : Unbuffered S)
@@ -116,6 +139,7 @@ pub record Ends {S : Type 0} (remaining : S → Option (List ℕ)) (s : Unbuffer
   pub payload : List ℕ
   pub went : StreamWent remaining s wire t
   pub is : IsRest r wire payload
+  pub no_fault : NoFault s t
 
 -- a call of a reader in a body, which keeps the head and what that says, did so
 pub record InsideGoes {S : Type 0} (remaining : S → Option (List ℕ)) (s : InBody S) (handed : List ℕ) (t : InBody S)

@@ -1,10 +1,12 @@
 -- Laws of messages.
-use Rattle.std.specs.Prelude.{◌≡◌, ℕ, List, [], ◌∷◌, ◌++◌, length, Option, Some}
-use Rattle.std.proofs.Common.{sym, ap, subst, ◌∙◌, arith, refl, append_assoc, append-nil}
+use Rattle.std.specs.Prelude.{◌≡◌, ℕ, List, [], ◌∷◌, ◌++◌, length, Option, Some, Ok}
+use Rattle.std.proofs.Common.{sym, ap, subst, ◌∙◌, arith, refl, append_assoc, append-nil, inl, inr}
 use Rattle.std.proofs.lemmas.List.{append_cancel_left}
-use Rattle.buffer_redux.specs.Unbuffer.{Unbuffered, unbuffer_remaining}
+use Rattle.buffer_redux.specs.Unbuffer.{StreamWent, Unbuffered, unbuffer_remaining}
 use Rattle.buffer_redux.specs.UnbufferLaws.{StreamWent-front, StreamWent-joins, StreamWent-none}
 use Rattle.chunked.specs.BodyLaws.{IsBody-same}
+use Rattle.codec.specs.NextPiece.{NextPiece}
+use Rattle.codec.specs.PiecesWentLaws.{PiecesWent-stream}
 use Rattle.codec.specs.Piecing.{Piecing, left_of}
 use Rattle.httparse.proofs.GrammarLemmas.{request_unique}
 use Rattle.http1.specs.Framing.{method_kind, request_framing}
@@ -13,9 +15,9 @@ use Rattle.messages.specs.declared.head.Extent.{Extent}
 use Rattle.messages.specs.declared.head.Extent.TheVariants.{Sized, Chunked}
 use Rattle.messages.specs.declared.head.Heads as head
 use Rattle.messages.specs.declared.head.Said.{Said}
-use Rattle.messages.specs.Heads.{IsHead, extent_of}
+use Rattle.messages.specs.Heads.{IsHead, IsHeadPiece, extent_of, heads, texts}
 use Rattle.messages.specs.HeadsLaws.{heads_lawful}
-use Rattle.messages.specs.Messages.{AreMessages, Begun, Ends, InBody, InsideGoes, IsMessage, IsRest, Message, MessageWent, MessagesWent, Rest, Takes, body_of}
+use Rattle.messages.specs.Messages.{AreMessages, Begun, Ends, InBody, InsideGoes, IsMessage, IsRest, Message, MessageWent, MessagesWent, Onward, Rest, Takes, body_of}
 
 -- of two texts that begin so and have one length
 split : (a b xs ys : List ℕ) → length a ≡ length b → a ++ xs ≡ b ++ ys → (a ≡ b) × (xs ≡ ys)
@@ -76,7 +78,36 @@ one_cut (m ∷ ms) (n ∷ ns) a b xs ys many (f, x, is, are, equal) (k, y, is', 
     let pair : m ≡ n = ap (λ l. (l, m.1)) first.1 ∙ ap (λ l. (n.0, l)) first.2 in
     (ap (λ l. l ∷ ms) pair ∙ ap (λ l. n ∷ l) later.0, later.1)
 
+-- what goes on behind what was taken
+pub Onward-joins : (r q u : Rest) (a b h k : List ℕ) → Onward r a h q → Onward q b k u → Onward r (a ++ b) (h ++ k) u
+Onward-joins r q u a b h k first second later payload is =
+    subst (λ l. IsRest r l ((h ++ k) ++ payload)) (sym (append_assoc a b later))
+    (subst (λ l. IsRest r (a ++ (b ++ later)) l) (sym (append_assoc h k payload))
+    (first (b ++ later) (k ++ payload) (second later payload is)))
+
 module _ {S : Type 0} (remaining : S → Option (List ℕ)) where
+  -- a head that was handed out
+  pub lent : (s t : Piecing S head.Heads) (bytes : List ℕ) (next : NextPiece remaining heads s (Ok (Some bytes)) t)
+      → (next.bytes ≡ bytes) × IsHeadPiece bytes bytes
+  lent s t bytes next =
+      let piece : IsHeadPiece next.bytes bytes = elim next.answers.1 [ inl is ↦ is.0 | inr last ↦ absurd last.0 ] in (
+        sym piece.same,
+        record {
+          same = refl;
+          none = piece.none;
+          text = subst (λ l. texts.piece l piece.none) (sym piece.same) piece.text;
+          said = piece.said;
+          is = subst (λ l. IsHead l piece.said) (sym piece.same) piece.is;
+        },
+      )
+
+  pub Begun-went : (s : Piecing S head.Heads) (b : InBody S) → Begun remaining s b
+      → StreamWent remaining (left_of s) b.head b.stream
+  Begun-went s b begun =
+      subst (λ l. StreamWent remaining (left_of s) l b.stream) (lent s begun.behind b.head begun.next).0
+      (subst (λ u. StreamWent remaining (left_of s) begun.next.bytes u) (sym begun.stream)
+      (PiecesWent-stream remaining heads.most s begun.behind begun.next.bytes begun.next.went))
+
   -- calls in a body go on
   pub Takes-none : (s : Unbuffered S) (r : Rest) → Takes remaining s r [] s r
   Takes-none s r = record { wire = []; went = StreamWent-none remaining s; onward = λ later payload is. is }
@@ -86,10 +117,7 @@ module _ {S : Type 0} (remaining : S → Option (List ℕ)) where
   Takes-joins s m t r q u h k a b = record {
     wire = a.wire ++ b.wire;
     went = StreamWent-joins remaining s m t a.wire b.wire a.went b.went;
-    onward = λ later payload is.
-        subst (λ l. IsRest r l ((h ++ k) ++ payload)) (sym (append_assoc a.wire b.wire later))
-        (subst (λ l. IsRest r (a.wire ++ (b.wire ++ later)) l) (sym (append_assoc h k payload))
-        (a.onward (b.wire ++ later) (k ++ payload) (b.onward later payload is)));
+    onward = Onward-joins r q u a.wire b.wire h k a.onward b.onward;
   }
 
   pub InsideGoes-none : (b : InBody S) → InsideGoes remaining b [] b
@@ -110,12 +138,13 @@ module _ {S : Type 0} (remaining : S → Option (List ℕ)) where
       → MessageWent remaining (left_of s) b.head (handed ++ ends.payload) t
   MessageWent-of s b m handed t begun takes ends = record {
     bytes = b.head ++ (takes.wire ++ ends.wire);
-    went = StreamWent-joins remaining (left_of s) b.stream t b.head (takes.wire ++ ends.wire) begun.went
+    went = StreamWent-joins remaining (left_of s) b.stream t b.head (takes.wire ++ ends.wire)
+        (Begun-went s b begun)
         (StreamWent-joins remaining b.stream m.stream t takes.wire ends.wire takes.went ends.went);
     is = record {
       wire = takes.wire ++ ends.wire;
       equal = refl;
-      text = begun.text;
+      text = (lent s begun.behind b.head begun.next).1;
       said = b.said;
       is = begun.is;
       body = subst (λ r. IsRest r (takes.wire ++ ends.wire) (handed ++ ends.payload)) begun.rest

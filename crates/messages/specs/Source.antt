@@ -15,7 +15,7 @@ abbrev pub rest_of : {S : Type 0} → Source S → Rest
 rest_of (Sized reader left) = Bytes left
 rest_of (Chunked body) = Chunks body.limits body.place
 
--- its buffer has some capacity, so that the stream ended where it shows nothing
+-- its buffer has some capacity, so that the stream ended where it shows nothing; and a chunk has room for its size
 abbrev pub HasRoom : {S : Type 0} → Source S → Type 0
 HasRoom (Sized reader left) = 0 < reader.block.capacity
-HasRoom (Chunked body) = 0 < body.reader.block.capacity
+HasRoom (Chunked body) = (0 < body.reader.block.capacity) × (0 < body.limits.line)

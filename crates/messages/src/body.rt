@@ -1,10 +1,11 @@
 //! The reader of requests, in a body.
 ghost use Rattle.std.specs.Prelude.{◌≡◌, ℕ, ◌+◌, ◌<◌, ◌≤◌, List, [], length, IfErr, IfOk, MatchResult, Ok, OnOk};
+ghost use Rattle.chunked.specs.Asking.{AskedWhere};
 ghost use Rattle.buffer_redux.specs.BufReader.{ReadsAlong};
 ghost use Rattle.buffer_redux.specs.Policy.{std_read_rules};
 ghost use Rattle.buffer_redux.specs.Unbuffer.{unbuffered};
 ghost use Rattle.codec.specs.Piecing.{left_of};
-ghost use Rattle.messages.specs.Messages.{Bytes, Chunks, Ends, Fails, FailsBehind, FinishFails, InsideGoes, IsRest, Takes, begun, handed_out};
+ghost use Rattle.messages.specs.Messages.{Bytes, Chunks, Ends, Fails, FailsBehind, FinishFails, GoesOn, InsideGoes, IsReady, IsRest, NoFault, Takes, Unended, begun, handed_out};
 ghost use Rattle.messages.specs.Source.{HasRoom, rest_of, stream_of};
 
 use crate::error::{BodyError, FinishError, unread};
@@ -95,11 +96,16 @@ impl<R: Tell> Body<R> {
 impl<R: TellRead> Body<R> {
     /// Hands out payload, at least a byte unless the body ended or the slice is empty. After an `Io` the call can be made again;
     /// what is wrong, or missing, is so at each further call.
+    ///
+    /// The stream is asked only where no payload is buffered and the body goes on behind all that is: for no byte behind its last.
     pub fn read(&mut self, out: &mut [u8]) -> Result<usize, BodyError>
         ensures bound { IfOk result (λ n. n ≤ length out.new) }
         ensures goes { InsideGoes R.remaining self.old (handed_out out.new result) self.new }
         ensures ended { result ≡ Ok 0 → 0 < length out.new → IsRest self.new.rest [] [] }
+        ensures no_fault { OnOk result (NoFault self.old.stream self.new.stream) }
         ensures fails { IfErr result (λ e. Fails self.old.stream e self.new.stream self.new.rest) }
+        ensures asked { AskedWhere (GoesOn self.old.rest []) self.old.stream self.new.stream }
+        ensures idle { IsReady self.old.stream self.old.rest → self.new.stream.log ≡ self.old.stream.log }
     {
         match &mut self.source {
             Source::Sized(reader, left) => read_sized(reader, left, out),
@@ -107,12 +113,14 @@ impl<R: TellRead> Body<R> {
         }
     }
 
-    /// Goes on to the next head: takes what is left of the body, and drops its payload. An `Err` hands the reader back, in the
-    /// body still.
+    /// Goes on to the next head: takes what is left of the body, and drops its payload. The stream is asked for no byte behind the
+    /// body. An `Err` hands the reader back, in the body still.
     pub fn finish(self) -> Result<Requests<R>, (Self, FinishError)>
-        ensures { MatchResult result (λ next. Ends R.remaining self.stream self.rest (left_of next))
+        ensures ends { MatchResult result (λ next. Ends R.remaining self.stream self.rest (left_of next))
             (λ e. (handed : List ℕ) × InsideGoes R.remaining self handed e.0
             × FinishFails self.stream handed e.1 e.0.stream e.0.rest) }
+        ensures asked { MatchResult result (λ next. AskedWhere (Unended self.rest) self.stream (left_of next))
+            (λ e. AskedWhere (Unended self.rest) self.stream e.0.stream) }
     {
         let Body {
             alloc,
@@ -160,7 +168,10 @@ fn read_sized<R: TellRead>(
     ensures takes { Takes R.remaining (unbuffered reader.old) (Bytes left.old) (handed_out out.new result)
         (unbuffered reader.new) (Bytes left.new) }
     ensures ended { result ≡ Ok 0 → 0 < length out.new → left.new ≡ 0 }
+    ensures no_fault { OnOk result (NoFault (unbuffered reader.old) (unbuffered reader.new)) }
     ensures fails { IfErr result (λ e. Fails (unbuffered reader.old) e (unbuffered reader.new) (Bytes left.new)) }
+    ensures asked { AskedWhere (GoesOn (Bytes left.old) []) (unbuffered reader.old) (unbuffered reader.new) }
+    ensures idle { IsReady (unbuffered reader.old) (Bytes left.old) → reader.new.log ≡ reader.old.log }
 {
     let most = (*left).min(out.len() as u64) as usize;
     if most == 0 {
@@ -179,14 +190,19 @@ fn read_chunked<R: TellRead>(
     body: &mut ChunkedReader<R>,
     out: &mut [u8],
 ) -> Result<usize, BodyError>
-    requires some { 0 < body.old.reader.block.capacity }
+    requires { HasRoom (Source.Chunked body.old) }
     ensures bound { IfOk result (λ n. n ≤ length out.new) }
-    ensures room { 0 < body.new.reader.block.capacity }
+    ensures room { HasRoom (Source.Chunked body.new) }
     ensures takes { Takes R.remaining (unbuffered body.old.reader) (Chunks body.old.limits body.old.place)
         (handed_out out.new result) (unbuffered body.new.reader) (Chunks body.new.limits body.new.place) }
     ensures ended { result ≡ Ok 0 → 0 < length out.new → IsRest (Chunks body.new.limits body.new.place) [] [] }
+    ensures no_fault { OnOk result (NoFault (unbuffered body.old.reader) (unbuffered body.new.reader)) }
     ensures fails { IfErr result (λ e. Fails (unbuffered body.old.reader) e (unbuffered body.new.reader)
         (Chunks body.new.limits body.new.place)) }
+    ensures asked { AskedWhere (GoesOn (Chunks body.old.limits body.old.place) []) (unbuffered body.old.reader)
+        (unbuffered body.new.reader) }
+    ensures idle { IsReady (unbuffered body.old.reader) (Chunks body.old.limits body.old.place)
+        → body.new.reader.log ≡ body.old.reader.log }
 {
     let _ = body.get_ref();
     match body.read_payload(out) {
@@ -204,6 +220,9 @@ fn end_of<R: TellRead>(source: Source<R>) -> Result<BufReader<R>, (Source<R>, Bo
         (λ e. (handed : List ℕ)
         × Takes R.remaining (stream_of source) (rest_of source) handed (stream_of e.0) (rest_of e.0)
         × FailsBehind (stream_of source) handed e.1 (stream_of e.0) (rest_of e.0)) }
+    ensures asked { MatchResult result
+        (λ reader. AskedWhere (Unended (rest_of source)) (stream_of source) (unbuffered reader))
+        (λ e. AskedWhere (Unended (rest_of source)) (stream_of source) (stream_of e.0)) }
 {
     match source {
         Source::Sized(mut reader, mut left) => match skip(&mut reader, &mut left) {
@@ -217,13 +236,16 @@ fn end_of<R: TellRead>(source: Source<R>) -> Result<BufReader<R>, (Source<R>, Bo
 fn finish_chunked<R: TellRead>(
     body: ChunkedReader<R>,
 ) -> Result<BufReader<R>, (Source<R>, BodyError)>
-    requires { 0 < body.reader.block.capacity }
+    requires { HasRoom (Source.Chunked body) }
     ensures room { MatchResult result (λ reader. 0 < reader.block.capacity) (λ e. HasRoom e.0) }
     ensures ends { MatchResult result
         (λ reader. Ends R.remaining (unbuffered body.reader) (Chunks body.limits body.place) (unbuffered reader))
         (λ e. (handed : List ℕ) × Takes R.remaining (unbuffered body.reader) (Chunks body.limits body.place) handed
         (stream_of e.0) (rest_of e.0)
         × FailsBehind (unbuffered body.reader) handed e.1 (stream_of e.0) (rest_of e.0)) }
+    ensures asked { MatchResult result
+        (λ reader. AskedWhere (Unended (Chunks body.limits body.place)) (unbuffered body.reader) (unbuffered reader))
+        (λ e. AskedWhere (Unended (Chunks body.limits body.place)) (unbuffered body.reader) (stream_of e.0)) }
 {
     let _ = body.get_ref();
     match body.finish() {
@@ -241,7 +263,9 @@ fn skip<R: TellRead>(reader: &mut BufReader<R>, left: &mut u64) -> Result<(), Bo
     ensures dropped { (wire : List ℕ) × ReadsAlong R.remaining std_read_rules reader.old wire reader.new
         × (length wire + left.new ≡ left.old) }
     ensures all { OnOk result (left.new ≡ 0) }
+    ensures no_fault { OnOk result (NoFault (unbuffered reader.old) (unbuffered reader.new)) }
     ensures fails { IfErr result (λ e. Fails (unbuffered reader.old) e (unbuffered reader.new) (Bytes left.new)) }
+    ensures asked { AskedWhere (Unended (Bytes left.old)) (unbuffered reader.old) (unbuffered reader.new) }
 {
     while *left > 0 {
         let shown = reader.fill_buf()?;

@@ -8,7 +8,7 @@ ghost use Rattle.messages.specs.Messages.{Begun, answer_of};
 use crate::body::Body;
 use crate::head::{BadHead, Heads, read_head};
 use buffer_redux::tell::{Tell, TellRead};
-use buffer_redux::{BufReader, Buffer, MakeError};
+use buffer_redux::{BufReader, Buffer, GrowError, MakeError};
 use codec::{NextError, PieceReader};
 use std::alloc::Global;
 use std::io;
@@ -51,6 +51,7 @@ impl<R: Tell> Requests<R> {
     pub fn new(alloc: Global, inner: R) -> Result<Self, MakeError<R>>
         ensures made { IfOk result (IsFresh R.log 8192 8192 inner (record {})) }
         ensures handed_back { IfErr result (λ e. e.0 ≡ inner) }
+        ensures refused { IfErr result (λ e. e.1 ≡ GrowError.Memory) }
     {
         let head = match Buffer::new(alloc) {
             Ok(head) => head,

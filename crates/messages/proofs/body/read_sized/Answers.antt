@@ -1,8 +1,10 @@
-use Rattle.std.proofs.Common.{inl, inr}
+use Rattle.std.proofs.Common.{inl, inr, arith}
 use Rattle.std.proofs.lemmas.Result.{err_from_is_err_and}
 use Rattle.buffer_redux.specs.Unbuffer.{unbuffered}
+use Rattle.chunked.specs.AskingLaws.{read_asks}
 use Rattle.messages.specs.Messages.{Bytes}
 use Rattle.messages.specs.MessagesLaws.{Takes-none}
+use Rattle.messages.proofs.Asking.{bytes_asked, bytes_idle}
 use Rattle.messages.proofs.Failing.{never_gave}
 use Rattle.messages.proofs.body.read_sized.Goals as goal
 
@@ -17,3 +19,23 @@ returns-in_err-count-clause-fails g c =
       | inl fault ↦ fault
       | inr gave ↦ absurd (never_gave _ _ _ gave)
     ])
+
+pub returns-in_err-count-clause-asked : goal.returns-in_err-count-clause-asked
+returns-in_err-count-clause-asked g c =
+    bytes_asked c.args.left.now c.args.reader.now c.read.new.self (omega (arith, c.if-most-eq0.false, c.min-most.ensures))
+    (read_asks c.args.reader.now c.read.new.self _ _ _ c.in_err-count.ensures.steps)
+
+pub returns-then-count-eq0-clause-asked : goal.returns-then-count-eq0-clause-asked
+returns-then-count-eq0-clause-asked g c =
+    bytes_asked c.args.left.now c.args.reader.now c.read.new.self (omega (arith, c.if-most-eq0.false, c.min-most.ensures))
+    (read_asks c.args.reader.now c.read.new.self _ _ _ c.in_ok-count.ensures.steps)
+
+pub returns-clause-asked : goal.returns-clause-asked
+returns-clause-asked g c =
+    bytes_asked c.args.left.now c.args.reader.now c.read.new.self (omega (arith, c.if-most-eq0.false, c.min-most.ensures))
+    (read_asks c.args.reader.now c.read.new.self _ _ _ c.in_ok-count.ensures.steps)
+
+pub returns-clause-idle : goal.returns-clause-idle
+returns-clause-idle g c =
+    bytes_idle c.args.left.now c.args.reader.now c.read.new.self (omega (arith, c.if-most-eq0.false, c.min-most.ensures))
+    (read_asks c.args.reader.now c.read.new.self _ _ _ c.in_ok-count.ensures.steps)

@@ -1,25 +1,28 @@
-use Rattle.std.proofs.Common.{◌≡◌, ◌++◌, arith, ap, sym, subst, ◌∙◌, length}
+use Rattle.std.proofs.Common.{◌≡◌, ◌++◌, Ok, Some, arith, ap, sym, subst, ◌∙◌, length, refl}
 use Rattle.buffer_redux.specs.Unbuffer.{Unbuffered, unbuffered}
 use Rattle.codec.specs.Decoding.{bytes_at}
+use Rattle.codec.specs.NextPiece.{NextPiece}
 use Rattle.codec.specs.Piecing.{left_of, rest}
-use Rattle.messages.specs.Heads.{IsHead}
+use Rattle.messages.specs.Heads.{IsHead, heads}
 use Rattle.messages.specs.Messages.{Begun, begun}
-use Rattle.messages.proofs.Beginning.{Begun-of, lent, lent_few}
+use Rattle.messages.specs.MessagesLaws.{lent}
+use Rattle.messages.proofs.Beginning.{text_few}
 use Rattle.messages.proofs.requests.Requests.next.Goals as goal
 
 pub unreachable-requires : goal.unreachable-requires
 unreachable-requires g c =
     let next = rw c.in-Ok-Some.field-0-is at c.in-Ok-Some.ensures.next in
-    let head = lent g.R.TellRead.remaining c.self.inside.pieces c.step.new.self _ next in
+    let head = (lent g.R.TellRead.remaining c.self.inside.pieces c.step.new.self _ next).1 in
     c.in_default.ensures.none head.said (subst (λ l. IsHead l head.said) (sym c.lent-lent.ensures) head.is)
 
 pub append-requires : goal.append-requires
 append-requires g c =
     let next = rw c.in-Ok-Some.field-0-is at c.in-Ok-Some.ensures.next in
+    let head = (lent g.R.TellRead.remaining c.self.inside.pieces c.step.new.self _ next).1 in
     record {
       fits = omega (
         arith,
-        lent_few g.R.TellRead.remaining c.self.inside.pieces c.step.new.self _ next,
+        text_few _ head.none head.text,
         ap length c.lent-lent.ensures,
         c.clear.ensures.bytes.usable,
         c.self.invariant,
@@ -31,8 +34,8 @@ returns-in-Some g c =
     let remaining = g.R.TellRead.remaining in
     let s = c.self.inside.pieces in
     let t = c.step.new.self in
-    let payload = bytes_at c.in-Ok-Some.span t.reader.block.bytes in
     let said = c.in-Some.said in
+    let head = c.append.new.self.bytes in
     let inner = c.into_inner_with_buffer-inner.result.0 in
     let buffer = c.into_inner_with_buffer-inner.result.1 in
     let apart = c.into_inner_with_buffer-inner.ensures.apart in
@@ -45,11 +48,16 @@ returns-in-Some g c =
     let two : a ≡ b = ap (λ x. record { left = x; inner = inner; log = log }) apart.bytes in
     let three : b ≡ d = ap (λ x. record { left = rest t; inner = x; log = log }) apart.inner in
     let four : d ≡ left_of t = ap (λ x. record { left = rest t; inner = t.reader.inner; log = x }) apart.log in
-    let bytes : c.append.new.self.bytes ≡ payload =
-    c.append.ensures.bytes.bytes ∙ ap (λ l. l ++ c.lent-lent.result.now) c.clear.ensures.bytes.bytes ∙ c.lent-lent.ensures in
-    let is : IsHead payload said = subst (λ l. IsHead l said) c.lent-lent.ensures c.in-Some.ensures.some in
-    let begins : Begun remaining s (begun u payload said) =
-    Begun-of remaining s t payload (rw c.in-Ok-Some.field-0-is at c.in-Ok-Some.ensures.next) said is u (one ∙ two ∙ three ∙ four) in
-    rw c.new.ensures
-    (subst (λ x. Begun remaining x (begun u c.append.new.self.bytes said)) c.self.view_is
-    (subst (λ l. Begun remaining s (begun u l said)) (sym bytes) begins))
+    let lent : head ≡ c.lent-lent.result.now =
+    c.append.ensures.bytes.bytes ∙ ap (λ l. l ++ c.lent-lent.result.now) c.clear.ensures.bytes.bytes in
+    let bytes : bytes_at c.in-Ok-Some.span t.reader.block.bytes ≡ head = sym c.lent-lent.ensures ∙ sym lent in
+    let next : NextPiece remaining heads s (Ok (Some head)) t =
+    subst (λ l. NextPiece remaining heads s (Ok (Some l)) t) bytes (rw c.in-Ok-Some.field-0-is at c.in-Ok-Some.ensures.next) in
+    let begins : Begun remaining s (begun u head said) = record {
+      behind = t;
+      next = next;
+      stream = one ∙ two ∙ three ∙ four;
+      is = subst (λ l. IsHead l said) (sym lent) c.in-Some.ensures.some;
+      rest = refl;
+    } in
+    rw c.new.ensures (subst (λ x. Begun remaining x (begun u head said)) c.self.view_is begins)
