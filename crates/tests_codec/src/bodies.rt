@@ -267,9 +267,8 @@ impl Run for Row<'_> {
 
 #[test]
 fn reads_bodies(rt: HostRuntime) -> Result<(), Fail> {
-    let met = sweep(rt.alloc(), &BODIES, &[1], FAULT)?;
-    assert!(rt; met == Ok(408), "{met:?}");
-    assert!(rt; sweep(rt.alloc(), &BODIES, &[usize::MAX, 3], FAULT)?.is_ok());
+    let met = sweep(rt.alloc(), &BODIES, &[usize::MAX, 3, 1], FAULT)?;
+    assert!(rt; met == Ok(593), "{met:?}");
     Ok(())
 }
 

@@ -183,9 +183,8 @@ impl Run for Row<'_> {
 
 #[test]
 fn writes_bodies(rt: HostRuntime) -> Result<(), Fail> {
-    let met = sweep(rt.alloc(), &BODIES, &[1], FAULT)?;
-    assert!(rt; met == Ok(330), "{met:?}");
-    assert!(rt; sweep(rt.alloc(), &BODIES, &[usize::MAX, 3], FAULT)?.is_ok());
+    let met = sweep(rt.alloc(), &BODIES, &[usize::MAX, 3, 1], FAULT)?;
+    assert!(rt; met == Ok(460), "{met:?}");
     Ok(())
 }
 

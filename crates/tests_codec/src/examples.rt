@@ -61,6 +61,8 @@ fn piece_reader(rt: HostRuntime) -> Result<(), Fail> {
     let mut reader = PieceReader::new(alloc, Told::new(b"hi\n".as_slice()), lines)?;
     if let Some(span) = reader.step()? {
         assert!(rt; reader.lent(span) == b"hi".as_slice());
+    } else {
+        return Ok(assert!(rt; false));
     }
     Ok(drop(reader))
 }

@@ -88,6 +88,8 @@ fn resp(rt: HostRuntime) -> Result<(), Fail> {
     assert!(rt; matches!(reader.step_item(), Ok(Some((RespItem::Array(Some(2)), _)))));
     if let Some((item, span)) = reader.step_item()? {
         assert!(rt; item == RespItem::Bulk && reader.lent(span) == b"ECHO".as_slice());
+    } else {
+        return Ok(assert!(rt; false));
     }
     assert!(rt; matches!(reader.step_item(), Ok(Some((RespItem::Null, _)))));
     assert!(rt; matches!(reader.step_item(), Ok(None)));
