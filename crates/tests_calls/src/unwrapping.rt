@@ -291,7 +291,8 @@ fn other() -> io::Error {
 fn shows_other(alloc: Global, error: &IntoInnerError<u8>) -> Result<bool, AllocError> {
     let text = display(alloc, error)?;
     let is_other = text.as_str() == display(alloc, &other())?.as_str();
-    Ok(is_other && error.error().kind() == ErrorKind::Other && !debug(alloc, error)?.is_empty())
+    let shown = debug(alloc, error)?;
+    Ok(is_other && shown.as_str() == "IntoInnerError(7, Kind(Other))")
 }
 
 fn turned() -> ErrorKind {

@@ -27,7 +27,8 @@ fn make_error(rt: HostRuntime) -> Result<(), Fail> {
             assert!(rt; stream.into_inner() == b"abc".as_slice());
         }
     }
-    Ok(())
+    let refused = BufReader::with_capacity(alloc, usize::MAX, Told::new(b"abc".as_slice()));
+    Ok(assert!(rt; refused.is_err()))
 }
 
 #[test]

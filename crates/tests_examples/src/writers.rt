@@ -56,6 +56,8 @@ fn into_inner_error(rt: HostRuntime) -> Result<(), Fail> {
     if let Err(failed) = writer.into_inner() {
         assert!(rt; failed.error().kind() == ErrorKind::StorageFull);
         assert!(rt; failed.into_inner().buf_len() == 3);
+    } else {
+        return Ok(assert!(rt; false));
     }
     Ok(())
 }
