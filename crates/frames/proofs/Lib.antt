@@ -1,6 +1,4 @@
-pub mod Packing
-pub mod PackingAll
+pub mod PackingCalls
 pub mod PackRuns
-pub mod PackPrompting
 pub mod UnpackingCalls
 pub mod UnpackRuns

@@ -1,226 +1,233 @@
 -- What a whole run of `pack` comes to.
-use Rattle.std.proofs.Common.{◌≡◌, ℕ, ◌^◌, ◌<◌, inl, inr, List, [], ◌++◌, drop, length, true, false, Option, Result, Ok, Err, refl, sym, ap, subst, ◌∙◌, arith, append-nil, append_assoc}
-use Rattle.std.proofs.Math.Seq.{drop-nil}
-use Rattle.std.proofs.lemmas.Bool.{true≢false, false≢true}
-use Rattle.std.proofs.lemmas.List.Elements.{All-nil}
+use Rattle.std.proofs.Common.{◌≡◌, ℕ, ◌^◌, ◌<◌, ◌⊎◌, inl, inr, List, [], ◌∷◌, ◌++◌, length, false, Option, None, Result, Ok, Err, refl, sym, ap, subst, ◌∙◌, arith, append-nil, append_assoc, length-append}
+use Rattle.std.proofs.Math.Seq.{take-append_seam}
+use Rattle.std.proofs.lemmas.Bool.{true≢false}
+use Rattle.std.proofs.lemmas.List.Concat.{flat_map-append}
+use Rattle.std.proofs.lemmas.List.Elements.{All-nil, All-take}
 use Rattle.std.specs.IoError.{error_kind}
+use Rattle.std.specs.List.{All}
 use Rattle.std.specs.declared.io.Error.{Error}
-use Rattle.std.specs.declared.io.ErrorKind.TheVariants.{OutOfMemory}
-use Rattle.buffer_redux.specs.Faults.{MetInterrupts, OnlyInterrupts-none, SendErrorCaused, SendErrorCaused-after}
+use Rattle.std.specs.declared.io.ErrorKind.TheVariants.{Other, OutOfMemory}
 use Rattle.buffer_redux.specs.GrowError.{FitsWithin, kind_of}
 use Rattle.buffer_redux.specs.StreamLog.{StreamLog}
 use Rattle.buffer_redux.specs.WriterLaws.{WritesInOrder-fresh}
 use Rattle.redux_buffer.specs.declared.grow_error.GrowError.{GrowError}
 use Rattle.redux_buffer.specs.declared.grow_error.GrowError.TheVariants.{TooLarge, Memory}
+use Rattle.forward.specs.Filter.{FilterRules}
+use Rattle.forward.specs.Forward.{ForwardAnswers, Forwarded, ForwardedFirst, StopsBy}
+use Rattle.forward.specs.declared.error.Cause.{Cause}
+use Rattle.forward.specs.declared.error.Cause.TheVariants as cause
 use Rattle.frame_reader.specs.Frames.{Fits, frames}
-use Rattle.frame_reader.specs.Outgoing.{Outgoing, unsent}
-use Rattle.frame_reader.specs.WriteFrame.{FramesTaken}
-use Rattle.frame_reader.specs.WriteFrameLaws.{FramesTaken-joins}
-use Rattle.line_reader.specs.Lines.{BeginsTooLong, IsLine, IsUnended, with_ends}
 use Rattle.frame_reader.specs.Framing.{frame_capacity}
-use Rattle.line_reader.specs.Lining.{Lining, rest, room_for}
+use Rattle.frame_reader.specs.Outgoing.{unsent}
+use Rattle.line_reader.specs.Lines.{BeginsTooLong, HasLines, IsLine, IsUnended, last_line, with_end, with_ends}
+use Rattle.line_reader.specs.Lining.{rest, room_for}
+use Rattle.line_reader.specs.NextLine.{LinesWent}
+use Rattle.programs.specs.Streams.{AllSent, GaveNothing}
+use Rattle.frames.specs.Ending.{IsErrorOf}
+use Rattle.frames.specs.Pack.{PackedFirst, PackedLines, PackRan}
+use Rattle.frames.specs.Packing.{HandsLines, HasEnded, IsReady, held_of, packing_rules}
+use Rattle.frames.specs.PackingLaws.{all_ended, all_whole, ended_all, handed_all, lines_given, none_held}
 use Rattle.frames.specs.declared.error.RunError.{RunError}
 use Rattle.frames.specs.declared.error.RunError.TheVariants.{TooLong, Truncated, Read, Write, Io}
-use Rattle.frames.specs.Ending.{faulted}
-use Rattle.frames.specs.Pack.{NoneFailed, FailedToSend, Packs, PacksAll, PacksSome, PacksAndFlushes, AllSent, PackedFirst, PackRan}
-use Rattle.programs.specs.Streams.{OverCount}
-use Rattle.programs.specs.StreamsLaws.{MetNoFault-joins}
-use Rattle.frames.proofs.PackingAll.{all_ended}
+use Rattle.frames.specs.declared.packing.Packing.{Packing}
 
-module _ {R W : Type 0} (remaining : R → Option (List ℕ)) (stretch : W → W → Type 0)
-    (joins : (a b c : W) → stretch a b → stretch b c → stretch a c)
-    (s t : Lining R) (u w v : Outgoing W) (sent : FramesTaken stretch w [] v) where
-  then_sent : (bytes : List ℕ) (lines : List (List ℕ)) → Packs remaining stretch s u bytes lines t w
-      → Packs remaining stretch s u bytes lines t v
-  then_sent bytes lines p = record {
-    went = p.went;
-    taken = subst (λ ls. FramesTaken stretch u ls v) (append-nil lines)
-        (FramesTaken-joins stretch joins u w v lines [] p.taken sent);
-  }
+-- of a text whose last lines are left out
+record Front (text : List ℕ) (lines : List (List ℕ)) : Type 0 where
+  pub front : List ℕ
+  pub more : List ℕ
+  pub has : HasLines front lines
+  pub equal : text ≡ front ++ more
 
-  met_too : NoneFailed s u t w → MetInterrupts w.writer.log.writes v.writer.log.writes → NoneFailed s u t v
-  met_too met more = MetNoFault-joins s.reader.log t.reader.log t.reader.log u.writer.log w.writer.log v.writer.log met
-      (record { reader = OnlyInterrupts-none t.reader.log.reads.faults; writer = more })
+-- lines that are followed by others stand before the last
+followed : (lines : List (List ℕ)) (lost : List ℕ) (more whole : List (List ℕ)) (last : List ℕ)
+    → lines ++ lost ∷ more ≡ whole ++ last_line last → (mid : List (List ℕ)) × (whole ≡ lines ++ mid)
+followed [] lost more whole last is = (whole, refl)
+followed (line ∷ lines) lost more [] [] is = absurd (omega (arith, ap length is))
+followed (line ∷ lines) lost more [] (byte ∷ bytes) is =
+    absurd (omega (arith, ap length is, length-append lines (lost ∷ more)))
+followed (line ∷ lines) lost more (first ∷ whole) last is =
+    let tail : lines ++ lost ∷ more ≡ whole ++ last_line last = cc in
+    let head : first ≡ line = cc in
+    let rest_of = followed lines lost more whole last tail in
+    (rest_of.0, ap (λ l. first ∷ l) rest_of.1 ∙ ap (λ l. l ∷ (lines ++ rest_of.0)) head)
 
-  -- the flush after the lines succeeds
-  pub flushed_after : (answer : Result (Unit {0}) RunError) → faulted answer ≡ false
-      → PacksAll remaining stretch s u answer t w → AllSent v
-      → MetInterrupts w.writer.log.writes v.writer.log.writes → PacksAndFlushes remaining stretch s u answer t v
-  flushed_after (Ok _) other p all more = (
-    record {
-      text = p.text;
-      lines = p.lines;
-      has = p.has;
-      went = then_sent p.text p.lines p.went;
-      left = p.left;
-      end = p.end;
-      met = met_too p.met more;
-    },
-    all,
-  )
-  flushed_after (Err TooLong) other p all more = (
-    record {
-      lines = p.lines;
-      plain = p.plain;
-      went = then_sent (with_ends p.lines) p.lines p.went;
-      long = p.long;
-      met = met_too p.met more;
-    },
-    all,
-  )
-  flushed_after (Err Truncated) other p all more = absurd p
-  flushed_after (Err (Read e)) other p all more = absurd (true≢false other)
-  flushed_after (Err (Write e)) other p all more = absurd (true≢false other)
-  flushed_after (Err (Io e)) other p all more = absurd (true≢false other)
-
-  fails_after : NoneFailed s u t w → (e : Error) → SendErrorCaused w.writer.log.writes v.writer.log.writes e
-      → FailedToSend remaining stretch s u e t v
-  fails_after met e caused = record {
-    reader = met.reader;
-    writer = SendErrorCaused-after u.writer.log.writes w.writer.log.writes v.writer.log.writes e met.writer caused;
-  }
-
-  -- or fails
-  pub flush_failed_after : (answer : Result (Unit {0}) RunError) → faulted answer ≡ false
-      → PacksAll remaining stretch s u answer t w → (e : Error)
-      → SendErrorCaused w.writer.log.writes v.writer.log.writes e
-      → PacksAndFlushes remaining stretch s u (Err (Write e)) t v
-  flush_failed_after (Ok _) other p e caused = (
-    record {
-      first = record {
-        bytes = p.text;
-        lines = p.lines;
-        lost = [];
-        has = p.has;
-        went = subst (λ l. Packs remaining stretch s u l p.lines t v) (sym (append-nil p.text))
-            (then_sent p.text p.lines p.went);
-      };
-      whole = inr (p.left, p.end);
-    },
-    fails_after p.met e caused,
-  )
-  flush_failed_after (Err TooLong) other p e caused = (
-    record {
-      first = record {
-        bytes = with_ends p.lines;
-        lines = p.lines;
-        lost = [];
-        has = all_ended p.lines p.plain;
-        went = subst (λ l. Packs remaining stretch s u l p.lines t v) (sym (append-nil (with_ends p.lines)))
-            (then_sent (with_ends p.lines) p.lines p.went);
-      };
-      whole = inl refl;
-    },
-    fails_after p.met e caused,
-  )
-  flush_failed_after (Err Truncated) other p e caused = absurd p
-  flush_failed_after (Err (Read e')) other p e caused = absurd (true≢false other)
-  flush_failed_after (Err (Write e')) other p e caused = absurd (true≢false other)
-  flush_failed_after (Err (Io e')) other p e caused = absurd (true≢false other)
-
--- after a fault no flush is made
-pub kept : {R W : Type 0} (remaining : R → Option (List ℕ)) (stretch : W → W → Type 0) (s t : Lining R) (u v : Outgoing W)
-    → (answer : Result (Unit {0}) RunError) → faulted answer ≡ true → PacksAll remaining stretch s u answer t v
-    → PacksAndFlushes remaining stretch s u answer t v
-kept remaining stretch s t u v (Ok _) other p = absurd (false≢true other)
-kept remaining stretch s t u v (Err TooLong) other p = absurd (false≢true other)
-kept remaining stretch s t u v (Err Truncated) other p = absurd p
-kept remaining stretch s t u v (Err (Read e)) other p = p
-kept remaining stretch s t u v (Err (Write e)) other p = p
-kept remaining stretch s t u v (Err (Io e)) other p = p
+-- and have their ends
+front_of : (lines lost : List (List ℕ)) (text : List ℕ) (has : HasLines text (lines ++ lost)) → All IsLine lines
+    → (front : Front text lines) × ((front.has.last ≡ []) ⊎ ((lost ≡ []) × (front.more ≡ []) × (front.has.last ≡ has.last)))
+front_of lines [] text has plain = (
+  record {
+    front = text;
+    more = [];
+    has = record {
+      whole = has.whole;
+      last = has.last;
+      bytes = has.bytes;
+      all = sym (append-nil lines) ∙ has.all;
+      plain = plain;
+    };
+    equal = sym (append-nil text);
+  },
+  inr (refl, refl, refl),
+)
+front_of lines (first ∷ more) text has plain =
+    let mid = followed lines first more has.whole has.last has.all in (
+      record {
+        front = with_ends lines;
+        more = with_ends mid.0 ++ has.last;
+        has = all_ended lines plain;
+        equal =
+            has.bytes ∙ ap (λ l. with_ends l ++ has.last) mid.1 ∙ ap (λ l. l ++ has.last) (flat_map-append with_end lines mid.0)
+            ∙ append_assoc (with_ends lines) (with_ends mid.0) has.last;
+      },
+      inl refl,
+    )
 
 -- from empty buffers on
-module _ {R W : Type 0} (remaining : R → Option (List ℕ)) (stretch : W → W → Type 0) (s t : Lining R) (u v : Outgoing W)
-    (none : s.reader.block.bytes ≡ []) (none' : unsent u ≡ []) where
-  pub given : (bytes : List ℕ) (lines : List (List ℕ)) → Packs remaining stretch s u bytes lines t v
-      → t.reader.log.reads.given ≡ s.reader.log.reads.given ++ (bytes ++ rest t)
-  given bytes lines p =
-      let hands = p.went.hands in
-      hands.given
-      ∙ ap (λ l. s.reader.log.reads.given ++ l)
-      (sym (hands.equal ∙ ap (λ l. l ++ hands.got) (ap (λ l. drop s.handed l) none ∙ drop-nil s.handed)))
+module _ {R W : Type 0} (remaining : R → Option (List ℕ)) (stretch : W → W → Type 0) (s t : Packing R W)
+    (none : s.source.reader.block.bytes ≡ []) (none' : unsent s.target ≡ []) (empty : s.held ≡ None)
+    (going : s.source.ended ≡ false) (most : s.source.max ≡ s.target.max) (ready : IsReady t) where
+  abbrev rules : FilterRules (Packing R W) RunError
+  rules = packing_rules remaining stretch
 
-  received : (bytes : List ℕ) (lines : List (List ℕ)) → Packs remaining stretch s u bytes lines t v
-      → v.writer.log.writes.received ++ unsent v ≡ u.writer.log.writes.received ++ frames lines
-  received bytes lines p = WritesInOrder-fresh u.writer v.writer (frames lines) none' p.taken.in_order
+  abbrev Ran : Result (Unit {0}) RunError → Type 0
+  Ran answer = PackRan s.source.max s.source.reader.log t.source.reader.log s.target.writer.log t.target.writer.log answer
 
-  all_received : (bytes : List ℕ) (lines : List (List ℕ)) → Packs remaining stretch s u bytes lines t v → unsent v ≡ []
-      → v.writer.log.writes.received ≡ u.writer.log.writes.received ++ frames lines
-  all_received bytes lines p empty =
-      sym (append-nil v.writer.log.writes.received) ∙ ap (λ l. v.writer.log.writes.received ++ l) (sym empty)
-      ∙ received bytes lines p
+  received : (count : ℕ) (p : Forwarded rules count s t) → AllSent t.target.writer
+      → t.target.writer.log.writes.received ≡ s.target.writer.log.writes.received ++ frames p.payloads
+  received count p all =
+      let log = t.target.writer.log.writes in
+      sym (append-nil log.received) ∙ ap (λ l. log.received ++ l) (sym all.empty)
+      ∙ WritesInOrder-fresh s.target.writer t.target.writer (frames p.payloads) none' p.moves.takes.in_order
 
-  first_packed : (some : PacksSome remaining stretch s u t v)
-      → (ran : PackedFirst u.max s.reader.log t.reader.log u.writer.log v.writer.log) × (ran.lines ≡ some.first.lines)
-  first_packed some =
-      let first = some.first in (
+  ended_dry : (p : List (List ℕ)) → HandsLines remaining s p t → HasEnded s.source ⊎ GaveNothing s.source.reader.log t.source.reader.log
+      → GaveNothing s.source.reader.log t.source.reader.log
+  ended_dry p hands (inl ended) = absurd (true≢false (sym ended ∙ going))
+  ended_dry p hands (inr dry) = dry
+
+  pub all_ran : (count : ℕ) → ForwardAnswers rules s (Ok count) t → Ran (Ok tt)
+  all_ran count p =
+      let lines = p.0.payloads in
+      let hands = p.0.moves.hands in
+      let all = handed_all remaining s t lines hands empty p.1.0 in (
         record {
-          text = first.bytes;
-          lines = first.lines;
-          more = first.lost ++ rest t;
-          unsent = unsent v;
-          has = first.has;
-          fit = first.went.taken.fit;
-          whole = elim some.whole [ inl none_cut ↦ inl none_cut | inr end ↦ inr (end.0, omega (arith, end.1)) ];
-          given = given (first.bytes ++ first.lost) first.lines first.went
-              ∙ ap (λ l. s.reader.log.reads.given ++ l) (append_assoc first.bytes first.lost (rest t));
-          received = received (first.bytes ++ first.lost) first.lines first.went;
+          text = hands.bytes;
+          lines = lines;
+          has = subst (HasLines hands.bytes) all hands.has;
+          fit = subst (All (Fits s.source.max)) all hands.fit;
+          given = lines_given remaining s.source t.source hands.bytes none hands.went
+              ∙ ap (λ l. s.source.reader.log.reads.given ++ (hands.bytes ++ l)) p.1.1.0
+              ∙ ap (λ l. s.source.reader.log.reads.given ++ l) (append-nil hands.bytes);
+          ended = ended_dry lines hands p.1.1.1;
+          received = received count p.0 p.2;
+          flushed = p.2.flushed;
         },
-        refl,
+        p.3,
       )
 
-  pub pack_ran : s.max ≡ u.max → (answer : Result (Unit {0}) RunError) → PacksAndFlushes remaining stretch s u answer t v
-      → PackRan u.max s.reader.log t.reader.log u.writer.log v.writer.log answer
-  pack_ran most (Ok _) p =
-      let text = p.0 in (
+  -- all that was handed out went over, and each line had its end
+  some_lines : (Such : List ℕ → Type 0) (count : ℕ) (p : Forwarded rules count s t) → t.held ≡ None → t.source.ended ≡ false
+      → AllSent t.target.writer → Such (rest t.source)
+      → PackedLines Such s.source.max s.source.reader.log t.source.reader.log s.target.writer.log t.target.writer.log
+  some_lines Such count p empty' open' sent such =
+      let lines = p.payloads in
+      let hands = p.moves.hands in
+      let all = handed_all remaining s t lines hands empty empty' in
+      let text : hands.bytes ≡ with_ends lines =
+      ended_all hands.bytes hands.got hands.has (all_whole remaining s t lines hands open') ∙ ap with_ends all in
+      record {
+        lines = lines;
+        more = rest t.source;
+        plain = subst (All IsLine) all hands.has.plain;
+        fit = subst (All (Fits s.source.max)) all hands.fit;
+        such = such;
+        given = lines_given remaining s.source t.source (with_ends lines) none
+            (subst (λ l. LinesWent remaining s.source l t.source) text hands.went);
+        received = received count p sent;
+        flushed = sent.flushed;
+      }
+
+  -- the first lines went over
+  first : (count : ℕ) → ForwardedFirst rules count s t
+      → (ran : PackedFirst s.source.max s.source.reader.log t.source.reader.log s.target.writer.log t.target.writer.log)
+      × (length ran.lines ≡ count)
+  first count p =
+      let lines = p.payloads in
+      let lost = p.lost ++ held_of t in
+      let hands = p.moves.hands in
+      let got : hands.got ≡ lines ++ lost =
+      sym (ap (λ l. l ++ hands.got) (none_held remaining s empty)) ∙ hands.order ∙ append_assoc lines p.lost (held_of t) in
+      let has = subst (HasLines hands.bytes) got hands.has in
+      let some = front_of lines lost hands.bytes (record {
+        whole = hands.has.whole;
+        last = hands.has.last;
+        bytes = hands.has.bytes;
+        all = sym got ∙ hands.has.all;
+        plain = has.plain;
+      }) (subst (All IsLine) (take-append_seam lines lost) (All-take IsLine (length lines) (lines ++ lost) has.plain)) in
+      let front = some.0 in (
         record {
-          text = text.text;
-          lines = text.lines;
-          has = text.has;
-          fit = text.went.taken.fit;
-          given = given text.text text.lines text.went
-              ∙ ap (λ l. s.reader.log.reads.given ++ (text.text ++ l)) text.left
-              ∙ ap (λ l. s.reader.log.reads.given ++ l) (append-nil text.text);
-          ended = omega (arith, text.end);
-          received = all_received text.text text.lines text.went p.1.0;
-          flushed = p.1.1;
+          text = front.front;
+          lines = lines;
+          more = front.more ++ rest t.source;
+          unsent = unsent t.target;
+          has = front.has;
+          fit = subst (λ n. All (Fits n) lines) (sym most) p.moves.takes.fit;
+          whole = elim some.1 [
+            | inl none_cut ↦ inl none_cut
+            | inr whole ↦ elim hands.ends [
+              | inl none_cut ↦ inl (whole.2 ∙ none_cut)
+              | inr ended ↦ inr (
+                ap (λ l. l ++ rest t.source) whole.1 ∙ ready.whole.ended ended,
+                ended_dry (lines ++ p.lost) hands (hands.dry ended),
+              )
+            ]
+          ];
+          given = lines_given remaining s.source t.source hands.bytes none hands.went
+              ∙ ap (λ l. s.source.reader.log.reads.given ++ (l ++ rest t.source)) front.equal
+              ∙ ap (λ l. s.source.reader.log.reads.given ++ l) (append_assoc front.front front.more (rest t.source));
+          received = WritesInOrder-fresh s.target.writer t.target.writer (frames lines) none' p.moves.takes.in_order;
         },
-        text.met,
+        p.all,
       )
-  pack_ran most (Err TooLong) p =
-      let long = p.0 in (
-        record {
-          lines = long.lines;
-          more = rest t;
-          plain = long.plain;
-          fit = long.went.taken.fit;
-          such = subst (λ n. BeginsTooLong n (rest t)) most long.long;
-          given = given (with_ends long.lines) long.lines long.went;
-          received = all_received (with_ends long.lines) long.lines long.went p.1.0;
-          flushed = p.1.1;
-        },
-        long.met,
+
+  wrong_ran : (count : ℕ) (why : RunError) → StopsBy rules count s (cause.Wrong why) t → Ran (Err why)
+  wrong_ran count TooLong p =
+      let max = p.0.moves.hands.went.decoder in (
+        some_lines (BeginsTooLong s.source.max) count p.0 p.1.0 p.1.1.1 p.2
+            (subst (λ n. BeginsTooLong n (rest t.source)) max p.1.1.0),
+        p.3,
       )
-  pack_ran most (Err Truncated) p = absurd p
-  pack_ran most (Err (Read e)) p = (
-    record {
-      lines = p.lines;
-      more = rest t;
-      plain = p.plain;
-      fit = p.went.taken.fit;
-      such = subst (λ n. IsUnended n (rest t)) most p.left;
-      given = given (with_ends p.lines) p.lines p.went;
-      received = all_received (with_ends p.lines) p.lines p.went p.sent.0;
-      flushed = p.sent.1;
-    },
-    p.failed,
-  )
-  pack_ran most (Err (Write e)) p = ((first_packed p.0).0, p.1)
-  pack_ran most (Err (Io e)) p =
-      let first = first_packed p.0 in (
-        first.0,
-        inl (subst (λ ls. OverCount e (length ls) s.reader.log t.reader.log u.writer.log v.writer.log) (sym first.1) p.1),
-      )
+  wrong_ran count Truncated p = absurd p.1.1
+  wrong_ran count (Read e) p = absurd p.1.1
+  wrong_ran count (Write e) p = absurd p.1.1
+  wrong_ran count (Io e) p = absurd p.1.1
+
+  read_ran : (count : ℕ) (e : Error) → StopsBy rules count s (cause.Read e) t → Ran (Err (Read e))
+  read_ran count e p =
+      let max = p.0.moves.hands.went.decoder in
+      (some_lines (IsUnended s.source.max) count p.0 p.1.0 p.1.2 p.2 (subst (λ n. IsUnended n (rest t.source)) max p.1.1), p.3)
+
+  count_ran : (count : ℕ) (e : Error) → StopsBy rules count s cause.Count t → error_kind e ≡ Other → Ran (Err (Io e))
+  count_ran count e p other =
+      let all = p.0 in
+      let over = first count (record {
+        payloads = all.payloads;
+        lost = [];
+        moves = record {
+          hands = subst (λ l. HandsLines remaining s l t) (sym (append-nil all.payloads)) all.moves.hands;
+          takes = all.moves.takes;
+        };
+        all = all.all;
+      }) in
+      (over.0, inl (record { other = other; large = omega (arith, p.1, over.1); met = p.2 }))
+
+  pub stopped_ran : (count : ℕ) (why : Cause RunError) (e : RunError) → StopsBy rules count s why t → IsErrorOf why e
+      → Ran (Err e)
+  stopped_ran count (cause.Wrong why) e p is = subst (λ x. Ran (Err x)) (sym is) (wrong_ran count why p)
+  stopped_ran count (cause.Read fault) e p is = subst (λ x. Ran (Err x)) (sym is) (read_ran count fault p)
+  stopped_ran count (cause.Write fault) e p is = subst (λ x. Ran (Err x)) (sym is) ((first count p.0).0, p.1)
+  stopped_ran count cause.Count e p is = subst (λ x. Ran (Err x)) (sym is.2) (count_ran count is.0 p is.1)
 
 -- a buffer for lines this short is refused for want of memory alone
 pub only_memory : (most : ℕ) (refusal : GrowError) → most < 2 ^ 16

@@ -1,5 +1,5 @@
 -- What the calls of a filter of frames do.
-use Rattle.std.proofs.Common.{◌≡◌, ℕ, ◌+◌, ◌-◌, ◌≤◌, ◌^◌, ◌<◌, ◌⊎◌, inl, inr, Bool, true, false, List, [], ◌∷◌, ◌++◌, length, Option, None, Some, Result, Ok, Err, refl, sym, ap, subst, ◌∙◌, arith, append-nil, append_assoc, length-append}
+use Rattle.std.proofs.Common.{◌≡◌, ℕ, ◌+◌, ◌≤◌, ◌^◌, ◌<◌, ◌⊎◌, inl, inr, Bool, true, false, List, [], ◌∷◌, ◌++◌, length, Option, None, Some, Result, Ok, Err, refl, sym, ap, subst, ◌∙◌, arith, append-nil, append_assoc, length-append}
 use Rattle.std.specs.declared.io.Error.{Error}
 use Rattle.buffer_redux.specs.BufWriter.{WasFlushed, WritesInOrder}
 use Rattle.buffer_redux.specs.Buffered.{Buffered}
@@ -8,13 +8,13 @@ use Rattle.buffer_redux.specs.StreamLog.{StreamLog}
 use Rattle.buffer_redux.specs.WriterLaws.{WritesInOrder-none}
 use Rattle.buffer_redux.specs.declared.policy.StdPolicy.{StdPolicy}
 use Rattle.codec.specs.declared.decoder.Span.{Span}
-use Rattle.frame_reader.specs.Frames.{BeginsTooLong, Fits, IsCutShort, frame, header}
+use Rattle.frame_reader.specs.Frames.{IsCutShort, header}
 use Rattle.frame_reader.specs.FramesLaws.{header-same}
 use Rattle.frame_reader.specs.Framing.{Framing, rest}
 use Rattle.frame_reader.specs.Next.{FramesWent, IsUnsettled, Next, NextAnswer}
 use Rattle.frame_reader.specs.NextLaws.{FramesWent-none}
 use Rattle.frame_reader.specs.declared.error.FrameError.TheVariants as NoFrame
-use Rattle.forward.specs.Filter.{AskAnswers, Asks, AsksOnce, FilterRules, FlushAnswers, Flushes, Gives, Passes}
+use Rattle.forward.specs.Filter.{AskAnswers, Asks, FilterRules, FlushAnswers, Flushes, Gives, Passes}
 use Rattle.forward.specs.declared.error.AskError.{AskError}
 use Rattle.forward.specs.declared.error.AskError.TheVariants.{Wrong, Io, IoBehind}
 use Rattle.line_reader.specs.Lines.{newline, with_end}
@@ -255,8 +255,7 @@ module _ {R W : Type 0} (remaining : R → Option (List ℕ)) (s : Unpacking R W
           went = next.went;
           order = ap (λ l. l ++ shown m span ∷ []) (none_held remaining s empty);
         })
-        (omega (arith, next.once)) (Ok true)
-        (
+        (omega (arith, next.once)) (Ok true) (
           λ is. (let no : Some span ≡ None = is in cc),
           next.answers.1,
           inl (record {

@@ -27,7 +27,7 @@ pub record PackedAs (ending : Ending) (read read' written written' : StreamLog) 
   pub ran : PackRan 65535 read read' written written' answer
   pub prompt : HoldsNothingBack (packed.IsDue 65535) read read' written written'
   pub once : EndsOnce read.reads read'.reads
-  pub flushes : FlushesSend 2 written.writes written'.writes
+  pub flushes : FlushesSend 1 written.writes written'.writes
   pub ends : EndsAs answer ending
 
 -- frames of at most as many were printed, and the run ended so

@@ -1,5 +1,5 @@
 -- What the program says of each ending.
-use Rattle.std.specs.Prelude.{◌≡◌, ℕ, List, codes, Bool, true, false, Result, Ok, Err}
+use Rattle.std.specs.Prelude.{◌≡◌, ℕ, List, codes, Result, Ok, Err}
 use Rattle.std.specs.IoError.{error_kind}
 use Rattle.std.specs.declared.io.Error.{Error}
 use Rattle.std.specs.declared.io.ErrorKind.TheVariants.{Other}
@@ -13,15 +13,6 @@ use Rattle.frames.specs.declared.ending.Ending.{Ending}
 use Rattle.frames.specs.declared.ending.Ending.TheVariants.{Usual, TooLong, Truncated}
 use Rattle.frames.specs.declared.error.RunError.{RunError}
 use Rattle.frames.specs.declared.error.RunError.TheVariants as Why
-
--- a stream failed, or memory ran out
-abbrev pub faulted : Result (Unit {0}) RunError → Bool
-faulted (Ok _) = false
-faulted (Err Why.TooLong) = false
-faulted (Err Why.Truncated) = false
-faulted (Err (Why.Read e)) = true
-faulted (Err (Why.Write e)) = true
-faulted (Err (Why.Io e)) = true
 
 -- the error that a run fails with, by what stopped its payloads
 abbrev pub IsErrorOf : Cause RunError → RunError → Type 0

@@ -1,23 +1,13 @@
 -- What a run of `unpack` moves from a reader to a writer.
-use Rattle.std.specs.Prelude.{◌≡◌, ℕ, ◌+◌, ◌<◌, ◌⊎◌, List, [], ◌∷◌, ◌++◌, length, Bool, true, false, Result, Ok, Err, Option}
+use Rattle.std.specs.Prelude.{◌≡◌, ℕ, List, [], ◌++◌, length, ◌⊎◌, Result, Ok, Err}
 use Rattle.std.specs.List.{All}
-use Rattle.std.specs.declared.io.Error.{Error}
-use Rattle.buffer_redux.specs.Block.{Plain}
-use Rattle.buffer_redux.specs.BufReader.{RanDry}
-use Rattle.buffer_redux.specs.BufWriter.{WritesInOrder}
-use Rattle.buffer_redux.specs.Buffered.{Buffered}
 use Rattle.buffer_redux.specs.StreamLog.{StreamLog}
-use Rattle.buffer_redux.specs.declared.policy.StdPolicy.{StdPolicy}
-use Rattle.frame_reader.specs.Frames.{Fits, Splits, frames, BeginsTooLong, IsCutShort}
-use Rattle.frame_reader.specs.Framing.{Framing, rest}
-use Rattle.frame_reader.specs.Next.{FramesWent, IsUnsettled}
+use Rattle.frame_reader.specs.Frames.{BeginsTooLong, Fits, IsCutShort, Splits, frames}
+use Rattle.frame_reader.specs.Next.{IsUnsettled}
 use Rattle.frames.specs.declared.error.RunError.{RunError}
 use Rattle.frames.specs.declared.error.RunError.TheVariants.{TooLong, Truncated, Read, Write, Io}
-use Rattle.frames.specs.declared.tries.Step.{Step}
-use Rattle.frames.specs.declared.tries.Step.TheVariants.{Went, End, ReadFailed}
 use Rattle.line_reader.specs.Lines.{with_ends}
-use Rattle.programs.specs.Prompt.{AskedLast, AsksGive, WasSent}
-use Rattle.programs.specs.Streams.{MetNoFault, ReadFailed as AReadFailed, SendFailed, OverCount, BufferRefused, EndsOnce, GaveNothing, AllFlushed, AllSent}
+use Rattle.programs.specs.Streams.{MetNoFault, ReadFailed as AReadFailed, SendFailed, OverCount, BufferRefused, GaveNothing, AllFlushed}
 
 -- what is due of these bytes: the payloads of all whole frames in them, as lines
 pub record IsDue (most : ℕ) (bytes due : List ℕ) : Type 0 where

@@ -7,8 +7,8 @@
 mod ending;
 mod error;
 mod pack;
+mod packing;
 mod run;
-mod tries;
 mod unpack;
 mod unpacking;
 

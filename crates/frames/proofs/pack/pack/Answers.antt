@@ -1,11 +1,9 @@
-use Rattle.std.proofs.Common.{◌≡◌, ◌^◌, ◌∙◌, Err, arith, inl, refl, sym, subst}
+use Rattle.std.proofs.Common.{◌≡◌, ◌^◌, ◌∙◌, Err, arith, inl, refl, subst}
 use Rattle.std.specs.IoError.{error_kind}
 use Rattle.std.specs.declared.io.ErrorKind.TheVariants.{OutOfMemory}
 use Rattle.buffer_redux.specs.GrowError.{FitsWithin}
 use Rattle.line_reader.specs.Lining.{room_for}
-use Rattle.frames.specs.Pack.{IsDue}
-use Rattle.programs.specs.Prompt.{HoldsNothingBack}
-use Rattle.frames.proofs.PackRuns.{pack_ran, pack_refused, only_memory, only_memory_too}
+use Rattle.frames.proofs.PackRuns.{pack_refused, only_memory, only_memory_too}
 use Rattle.frames.proofs.pack.pack.Goals as goal
 
 pub returns-in-Err-clause-ran : goal.returns-in-Err-clause-ran
@@ -45,12 +43,10 @@ returns-clause-ran g c =
       c.into_inner_with_buffer-writer.ensures.log,
       ← read.log,
       ← made.log,
-      ← made.max,
+      ← c.from.ensures,
+      ← read.max,
     )
-    (pack_ran g.R.TellRead.remaining g.W.TellWrite.stretch c.in-Ok.source c.pack_all-answer.new.source
-    c.in-Ok-with_capacity.target
-    c.pack_all-answer.new.target read.empty made.empty (read.max ∙ c.from.ensures ∙ sym made.max) c.pack_all-answer.result
-    c.pack_all-answer.ensures.packs)
+    c.pack_all-answer.ensures.ran
 
 pub returns-clause-prompt : goal.returns-clause-prompt
 returns-clause-prompt g c =
@@ -61,10 +57,10 @@ returns-clause-prompt g c =
       c.into_inner_with_buffer-writer.ensures.log,
       ← read.log,
       ← made.log,
+      ← c.from.ensures,
+      ← read.max,
     )
-    (subst (λ n. HoldsNothingBack (IsDue n) c.in-Ok.source.reader.log c.pack_all-answer.new.source.reader.log
-    c.in-Ok-with_capacity.target.writer.log c.pack_all-answer.new.target.writer.log) (read.max ∙ c.from.ensures)
-    c.pack_all-answer.ensures.prompt)
+    c.pack_all-answer.ensures.prompt
 
 pub returns-in-Err-clause-flushes : goal.returns-in-Err-clause-flushes
 returns-in-Err-clause-flushes g c = omega arith

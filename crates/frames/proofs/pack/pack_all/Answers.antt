@@ -1,56 +1,49 @@
-use Rattle.std.proofs.Common.{arith, refl, sym, ◌∙◌}
-use Rattle.std.proofs.lemmas.Result.{err_from_is_err_and}
+use Rattle.std.proofs.Common.{Err, None, Ok, refl, subst, sym}
+use Rattle.forward.specs.Forward.{ForwardAnswers, Forwards, StopsBy}
+use Rattle.forward.specs.ForwardLaws.{Goes-holds}
+use Rattle.forward.specs.Link.{Goes, IsPrompt}
+use Rattle.programs.specs.Prompt.{HoldsNothingBack}
 use Rattle.frames.specs.Pack.{IsDue}
-use Rattle.programs.specs.FlushesLaws.{FlushesSend-flush}
-use Rattle.programs.specs.PromptLaws.{HoldsNothingBack-on, WritesOn-grows}
-use Rattle.frames.proofs.PackRuns.{kept, flushed_after, flush_failed_after}
+use Rattle.frames.specs.Packing.{IsReady, packing_rules}
+use Rattle.frames.specs.declared.packing.Packing.{Packing}
+use Rattle.frames.proofs.PackRuns.{all_ran, stopped_ran}
 use Rattle.frames.proofs.pack.pack_all.Goals as goal
 
-pub returns-then-is_fault-clause-packs : goal.returns-then-is_fault-clause-packs
-returns-then-is_fault-clause-packs g c =
-    kept g.R.TellRead.remaining g.W.TellWrite.stretch c.args.source.now c.pack_lines-answer.new.source c.args.target.now
-    c.pack_lines-answer.new.target c.pack_lines-answer.result (sym c.is_fault.ensures ∙ c.if-is_fault.true)
-    c.pack_lines-answer.ensures.packs
+pub returns-in-Ok-clause-ran : goal.returns-in-Ok-clause-ran
+returns-in-Ok-clause-ran g c =
+    let remaining = g.R.TellRead.remaining in
+    let rules = packing_rules remaining g.W.TellWrite.stretch in
+    let first : Packing g.row.R.Denot g.row.W.Denot =
+    record { source = c.args.source; target = c.args.target; held = None } in
+    let over = subst (λ k. Forwards rules k (Ok c.in-Ok.field-0) c.forward-answer.new.link) c.new-link.ensures c.in-Ok.ensures in
+    all_ran remaining g.W.TellWrite.stretch first c.into_inner-source.result c.requires.nothing c.requires.empty refl c.requires.going c.requires.most
+    (subst IsReady (sym c.into_inner-source.ensures) over.ready) c.in-Ok.field-0
+    (subst (ForwardAnswers rules first (Ok c.in-Ok.field-0)) (sym c.into_inner-source.ensures) over.answers)
 
-pub returns-in_err-flush-clause-packs : goal.returns-in_err-flush-clause-packs
-returns-in_err-flush-clause-packs g c =
-    let p = err_from_is_err_and c.from_residual.result c.from_residual.ensures.1 in
-    rw (p.1, p.2)
-    (flush_failed_after g.R.TellRead.remaining g.W.TellWrite.stretch g.met.W.TellWrite.stretch_joins c.args.source.now
-    c.pack_lines-answer.new.source c.args.target.now c.pack_lines-answer.new.target c.flush.new.self
-    c.in_err-flush.ensures.went c.pack_lines-answer.result (sym c.is_fault.ensures ∙ c.if-is_fault.false)
-    c.pack_lines-answer.ensures.packs _ c.in_err-flush.ensures.flushed.caused)
+pub returns-in-Err-clause-ran : goal.returns-in-Err-clause-ran
+returns-in-Err-clause-ran g c =
+    let remaining = g.R.TellRead.remaining in
+    let rules = packing_rules remaining g.W.TellWrite.stretch in
+    let first : Packing g.row.R.Denot g.row.W.Denot =
+    record { source = c.args.source; target = c.args.target; held = None } in
+    let why = c.in-Err.stopped in
+    let over = subst (λ k. Forwards rules k (Err why) c.forward-answer.new.link) c.new-link.ensures c.in-Err.ensures in
+    stopped_ran remaining g.W.TellWrite.stretch first c.into_inner-source.result c.requires.nothing c.requires.empty refl c.requires.going c.requires.most
+    (subst IsReady (sym c.into_inner-source.ensures) over.ready) why.count why.cause c.of.result
+    (subst (StopsBy rules why.count first why.cause) (sym c.into_inner-source.ensures) over.answers) c.of.ensures
 
-pub returns-clause-packs : goal.returns-clause-packs
-returns-clause-packs g c =
-    let ok = c.in_ok-flush.ensures.flushed.ok in
-    flushed_after g.R.TellRead.remaining g.W.TellWrite.stretch g.met.W.TellWrite.stretch_joins c.args.source.now
-    c.pack_lines-answer.new.source c.args.target.now c.pack_lines-answer.new.target c.flush.new.self
-    c.in_ok-flush.ensures.went c.pack_lines-answer.result (sym c.is_fault.ensures ∙ c.if-is_fault.false)
-    c.pack_lines-answer.ensures.packs (ok.empty, ok.flushed)
-    ok.met
+pub returns-in-Ok-clause-prompt : goal.returns-in-Ok-clause-prompt
+returns-in-Ok-clause-prompt g c =
+    let rules = packing_rules g.R.TellRead.remaining g.W.TellWrite.stretch in
+    let t = c.forward-answer.new.link in
+    let goes = subst (λ k. Goes rules (IsPrompt rules k.filter) k t) c.new-link.ensures c.forward-answer.ensures.goes in
+    subst (λ x. HoldsNothingBack (IsDue c.args.source.max) c.args.source.reader.log x.source.reader.log c.args.target.writer.log
+    x.target.writer.log) (sym c.into_inner-source.ensures) (Goes-holds rules _ t goes)
 
-pub returns-in_err-flush-clause-prompt : goal.returns-in_err-flush-clause-prompt
-returns-in_err-flush-clause-prompt g c =
-    HoldsNothingBack-on (IsDue c.args.source.now.max) _ _ _ _ _ _ c.pack_lines-answer.ensures.prompt refl
-    (WritesOn-grows _ _ c.in_err-flush.ensures.flushed.grows)
-
-pub returns-clause-prompt : goal.returns-clause-prompt
-returns-clause-prompt g c =
-    HoldsNothingBack-on (IsDue c.args.source.now.max) _ _ _ _ _ _ c.pack_lines-answer.ensures.prompt refl
-    (WritesOn-grows _ _ c.in_ok-flush.ensures.flushed.grows)
-
-pub returns-then-is_fault-clause-flushes : goal.returns-then-is_fault-clause-flushes
-returns-then-is_fault-clause-flushes g c = omega (arith, c.pack_lines-answer.ensures.flushes)
-
-pub returns-in_err-flush-clause-flushes : goal.returns-in_err-flush-clause-flushes
-returns-in_err-flush-clause-flushes g c =
-    let flushed = c.in_err-flush.ensures.flushed in
-    FlushesSend-flush 1 c.args.target.now.writer.log.writes c.pack_lines-answer.new.target.writer c.flush.new.self.writer _
-    c.pack_lines-answer.ensures.flushes flushed.steps (WritesOn-grows _ _ flushed.grows)
-
-pub returns-clause-flushes : goal.returns-clause-flushes
-returns-clause-flushes g c =
-    let flushed = c.in_ok-flush.ensures.flushed in
-    FlushesSend-flush 1 c.args.target.now.writer.log.writes c.pack_lines-answer.new.target.writer c.flush.new.self.writer _
-    c.pack_lines-answer.ensures.flushes flushed.steps (WritesOn-grows _ _ flushed.grows)
+pub returns-in-Err-clause-prompt : goal.returns-in-Err-clause-prompt
+returns-in-Err-clause-prompt g c =
+    let rules = packing_rules g.R.TellRead.remaining g.W.TellWrite.stretch in
+    let t = c.forward-answer.new.link in
+    let goes = subst (λ k. Goes rules (IsPrompt rules k.filter) k t) c.new-link.ensures c.forward-answer.ensures.goes in
+    subst (λ x. HoldsNothingBack (IsDue c.args.source.max) c.args.source.reader.log x.source.reader.log c.args.target.writer.log
+    x.target.writer.log) (sym c.into_inner-source.ensures) (Goes-holds rules _ t goes)

@@ -1,7 +1,7 @@
 use Rattle.std.proofs.Common.{Err, None, Ok, refl, subst, sym}
 use Rattle.forward.specs.Forward.{ForwardAnswers, Forwards, StopsBy}
 use Rattle.forward.specs.ForwardLaws.{Goes-holds}
-use Rattle.forward.specs.Link.{Goes, IsPrompt, linked}
+use Rattle.forward.specs.Link.{Goes, IsPrompt}
 use Rattle.programs.specs.Prompt.{HoldsNothingBack}
 use Rattle.frames.specs.Unpack.{IsDue}
 use Rattle.frames.specs.Unpacking.{unpacking_rules}

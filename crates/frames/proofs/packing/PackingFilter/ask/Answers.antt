@@ -1,0 +1,62 @@
+use Rattle.std.proofs.Common.{Err, IfSome, Ok, ap, arith, length, subst, sym, ◌∙◌}
+use Rattle.codec.specs.Decoding.{IsLent}
+use Rattle.line_reader.specs.Lining.{lined}
+use Rattle.line_reader.specs.NextLine.{load_answer}
+use Rattle.line_reader.specs.NextLineLaws.{NextGoes-plain}
+use Rattle.line_reader.specs.SkipLine.{NextGoes}
+use Rattle.frames.proofs.PackingCalls.{asked_behind, asked_ended, asked_idle, asked_long, asked_more, asked_none}
+use Rattle.frames.proofs.packing.PackingFilter.ask.Goals as goal
+
+pub returns-in-Ok-Some : goal.returns-in-Ok-Some
+returns-in-Ok-Some g c =
+    let remaining = g.R.TellRead.remaining in
+    let s = c.args.self.now in
+    let t = c.step.new.self in
+    asked_more remaining g.W.TellWrite.stretch g.met.W.TellWrite.stretch_none s c.requires.ready c.requires.lacks (sym c.has_ended.ensures.value ∙ c.if-has_ended.false) t c.in-Ok-Some.span
+    (subst (λ found. IfSome found (IsLent (lined t.max) t.handed t.reader.block.bytes)) c.in-Ok-Some.field-0-is
+    c.in-Ok-Some.ensures.lends)
+    (NextGoes-plain remaining s.source t _ c.requires.ready.open'
+    (subst (λ found. NextGoes remaining s.source (load_answer (Ok found) t) t) c.in-Ok-Some.field-0-is c.in-Ok-Some.ensures.next))
+
+pub returns-in-Ok-None : goal.returns-in-Ok-None
+returns-in-Ok-None g c =
+    let remaining = g.R.TellRead.remaining in
+    let s = c.args.self.now in
+    let t = c.step.new.self in
+    asked_none remaining g.W.TellWrite.stretch g.met.W.TellWrite.stretch_none s c.requires.ready c.requires.lacks (sym c.has_ended.ensures.value ∙ c.if-has_ended.false) t
+    (NextGoes-plain remaining s.source t _ c.requires.ready.open'
+    (subst (λ found. NextGoes remaining s.source (load_answer (Ok found) t) t) c.in-Ok-None.field-0-is c.in-Ok-None.ensures.next))
+
+pub returns-in-Err-TooLong : goal.returns-in-Err-TooLong
+returns-in-Err-TooLong g c =
+    let remaining = g.R.TellRead.remaining in
+    let s = c.args.self.now in
+    let t = c.step.new.self in
+    asked_long remaining g.W.TellWrite.stretch g.met.W.TellWrite.stretch_none s c.requires.ready c.requires.lacks (sym c.has_ended.ensures.value ∙ c.if-has_ended.false) t c.in-Err-TooLong.field-0-0
+    (NextGoes-plain remaining s.source t _ c.requires.ready.open'
+    (subst (λ e. NextGoes remaining s.source (Err e) t) c.in-Err-TooLong.field-0-is c.in-Err-TooLong.ensures.next))
+
+pub returns-then-rest-have : goal.returns-then-rest-have
+returns-then-rest-have g c =
+    let remaining = g.R.TellRead.remaining in
+    let s = c.args.self.now in
+    let t = c.step.new.self in
+    asked_behind remaining g.W.TellWrite.stretch g.met.W.TellWrite.stretch_none s c.requires.ready c.requires.lacks (sym c.has_ended.ensures.value ∙ c.if-has_ended.false) t c.in-Err-Io.e
+    (NextGoes-plain remaining s.source t _ c.requires.ready.open'
+    (subst (λ e. NextGoes remaining s.source (Err e) t) c.in-Err-Io.field-0-is c.in-Err-Io.ensures.next))
+    (omega (arith, c.if-rest-have.true, ap length c.rest.ensures.value, ap length c.rest-have.ensures.value))
+
+pub returns-else-rest-have : goal.returns-else-rest-have
+returns-else-rest-have g c =
+    let remaining = g.R.TellRead.remaining in
+    let s = c.args.self.now in
+    let t = c.step.new.self in
+    asked_idle remaining g.W.TellWrite.stretch g.met.W.TellWrite.stretch_none s c.requires.ready c.requires.lacks (sym c.has_ended.ensures.value ∙ c.if-has_ended.false) t c.in-Err-Io.e
+    (NextGoes-plain remaining s.source t _ c.requires.ready.open'
+    (subst (λ e. NextGoes remaining s.source (Err e) t) c.in-Err-Io.field-0-is c.in-Err-Io.ensures.next))
+    (omega (arith, c.if-rest-have.false, ap length c.rest.ensures.value, ap length c.rest-have.ensures.value))
+
+pub returns-then-has_ended : goal.returns-then-has_ended
+returns-then-has_ended g c =
+    asked_ended g.R.TellRead.remaining g.W.TellWrite.stretch g.met.W.TellWrite.stretch_none c.args.self.now c.requires.ready
+    c.requires.lacks (sym c.has_ended.ensures.value ∙ c.if-has_ended.true)

@@ -1,0 +1,91 @@
+//! Lines as they go over, one by one, as frames.
+ghost use Rattle.std.specs.Prelude.{◌≡◌, ◌≤◌, [], ◌∷◌, length, IfErr, OnErr, OnOk};
+ghost use Rattle.buffer_redux.specs.Faults.{MetInterrupts, SendErrorCaused};
+ghost use Rattle.frame_reader.specs.WriteFrame.{FramesTaken};
+ghost use Rattle.frames.specs.Packing.{packing_rules};
+ghost use Rattle.frames.specs.PackingLaws.{packing_lawful};
+
+use crate::error::RunError;
+use buffer_redux::tell::{TellRead, TellWrite};
+use codec::Span;
+use forward::{AskError, Filter};
+use frame_reader::{FrameWriter, WriteFrameError};
+use line_reader::{LineError, LineReader};
+use std::io;
+
+// A reader of lines, and the writer that takes their frames. A line that was asked for is held until it is passed.
+#[derive(Drop)]
+pub struct Packing<R: TellRead, W: TellWrite> {
+    pub source: LineReader<R>,
+    pub target: FrameWriter<W>,
+    pub held: Option<Span>,
+}
+
+impl<R: TellRead, W: TellWrite> Filter for Packing<R, W> {
+    type Wrong = RunError;
+
+    ghost rules = { packing_rules R.remaining W.stretch };
+
+    #[inline(always)]
+    fn pass(&mut self) -> io::Result<bool> {
+        if let Some(span) = self.held {
+            write_line(&mut self.target, self.source.lent(span))?;
+            self.held = None;
+            return Ok(true);
+        }
+        match self.source.next_buffered() {
+            Some(line) => {
+                write_line(&mut self.target, line)?;
+                Ok(true)
+            }
+            None => Ok(false),
+        }
+    }
+
+    fn flush(&mut self) -> io::Result<()> {
+        self.target.flush()
+    }
+
+    fn ask(&mut self) -> Result<bool, AskError<RunError>> {
+        // The stream ended behind a last line without an end.
+        if self.source.has_ended() {
+            return Ok(false);
+        }
+        let have = self.source.rest().len();
+        match self.source.step() {
+            Ok(Some(span)) => {
+                self.held = Some(span);
+                Ok(true)
+            }
+            Ok(None) => Ok(false),
+            Err(LineError::TooLong(_)) => Err(AskError::Wrong(RunError::TooLong)),
+            Err(LineError::Io(e)) => {
+                if self.source.rest().len() > have {
+                    Err(AskError::IoBehind(e))
+                } else {
+                    Err(AskError::Io(e))
+                }
+            }
+        }
+    }
+
+    ghost lawful = { packing_lawful R.remaining W.stretch W.stretch_none W.stretch_joins };
+}
+
+// Takes the frame of the line in, or nothing of it where room can't be had.
+#[inline(always)]
+fn write_line<W: TellWrite>(target: &mut FrameWriter<W>, line: &[u8]) -> io::Result<()>
+    requires { length line.now ≤ target.old.max }
+    ensures taken { OnOk result (FramesTaken W.stretch target.old (line.now ∷ []) target.new) }
+    ensures none { OnErr result (FramesTaken W.stretch target.old [] target.new) }
+    ensures met { OnOk result (MetInterrupts target.old.writer.log.writes target.new.writer.log.writes) }
+    ensures caused { IfErr result (λ e. SendErrorCaused target.old.writer.log.writes target.new.writer.log.writes e) }
+    ensures not_flushed { target.new.writer.log.writes.flushed ≡ target.old.writer.log.writes.flushed }
+    ensures flushes { target.new.writer.log.writes.flushes ≡ target.old.writer.log.writes.flushes }
+{
+    match target.write_frame(line) {
+        Ok(()) => Ok(()),
+        Err(WriteFrameError::Io(e)) => Err(e),
+        Err(WriteFrameError::TooLong(_)) => unreachable!(),
+    }
+}
