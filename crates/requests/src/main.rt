@@ -1,11 +1,13 @@
 //! Answers each request on standard input by how many bytes of payload its body has.
 //!
 //! 200 and that number; 100 before it, where the client waits for that; 400 where what comes is no request, or its body is none,
-//! or ends early, and then no more. It ends behind a request after which none may follow, and where the stream does.
+//! or ends early, and then no more. It ends behind a request after which none may follow, and where the stream does. It reads
+//! only where all that it answered was sent (`sent`).
 #![tactic(auto)]
 
-ghost use Rattle.std.specs.Prelude.{◌≡◌, ℕ, List, [], length, IfOk};
+ghost use Rattle.std.specs.Prelude.{◌≡◌, ℕ, List, [], length, IfOk, OnOk};
 ghost use Rattle.messages.specs.Messages.{InsideGoes, IsRest};
+ghost use Rattle.programs.specs.Streams.{AllSent};
 
 use buffer_redux::BufWriter;
 use buffer_redux::tell::{TellRead, TellWrite, Told};
@@ -25,7 +27,9 @@ fn main(rt: HostRuntime) -> io::Result<()> {
 fn serve<R: TellRead + Drop, W: TellWrite>(
     requests: Requests<R>,
     writer: &mut BufWriter<W>,
-) -> io::Result<()> {
+) -> io::Result<()>
+    requires sent { AllSent writer.old }
+{
     let mut next = Some(requests);
     for _message in 0..u64::MAX {
         match next {
@@ -42,7 +46,10 @@ fn serve<R: TellRead + Drop, W: TellWrite>(
 fn answer<R: TellRead + Drop, W: TellWrite>(
     requests: Requests<R>,
     writer: &mut BufWriter<W>,
-) -> io::Result<Option<Requests<R>>> {
+) -> io::Result<Option<Requests<R>>>
+    requires sent { AllSent writer.old }
+    ensures sent { OnOk result (AllSent writer.new) }
+{
     match requests.next() {
         Ok(body) => answer_body(body, writer),
         Err((requests, stop)) => stopped(requests, stop, writer),
@@ -54,7 +61,10 @@ fn stopped<R: TellRead + Drop, W: TellWrite>(
     requests: Requests<R>,
     stop: Stop,
     writer: &mut BufWriter<W>,
-) -> io::Result<Option<Requests<R>>> {
+) -> io::Result<Option<Requests<R>>>
+    requires sent { AllSent writer.old }
+    ensures sent { OnOk result (AllSent writer.new) }
+{
     if is_interrupt(&stop) {
         return Ok(Some(requests));
     }
@@ -77,7 +87,10 @@ fn is_interrupt(stop: &Stop) -> bool {
 fn answer_body<R: TellRead + Drop, W: TellWrite>(
     body: Body<R>,
     writer: &mut BufWriter<W>,
-) -> io::Result<Option<Requests<R>>> {
+) -> io::Result<Option<Requests<R>>>
+    requires sent { AllSent writer.old }
+    ensures sent { OnOk result (AllSent writer.new) }
+{
     let mut body = body;
     let said = body.said();
     if said.expects && !matches!(said.extent, Extent::Sized(0)) {
@@ -136,7 +149,10 @@ fn answer_whole<R: TellRead + Drop, W: TellWrite>(
     len: u64,
     said: Said,
     writer: &mut BufWriter<W>,
-) -> io::Result<Option<Requests<R>>> {
+) -> io::Result<Option<Requests<R>>>
+    requires sent { AllSent writer.old }
+    ensures sent { OnOk result (AllSent writer.new) }
+{
     match body.finish() {
         Ok(requests) => {
             accept(len, said, writer)?;
@@ -153,14 +169,18 @@ fn answer_whole<R: TellRead + Drop, W: TellWrite>(
     }
 }
 
-fn unended<W: TellWrite>(e: FinishError, writer: &mut BufWriter<W>) -> io::Result<()> {
+fn unended<W: TellWrite>(e: FinishError, writer: &mut BufWriter<W>) -> io::Result<()>
+    ensures sent { OnOk result (AllSent writer.new) }
+{
     match e {
         FinishError::Body(e) => unread(e, writer),
         FinishError::Memory(_) => Err(io::Error::from(ErrorKind::OutOfMemory)),
     }
 }
 
-fn unread<W: TellWrite>(e: BodyError, writer: &mut BufWriter<W>) -> io::Result<()> {
+fn unread<W: TellWrite>(e: BodyError, writer: &mut BufWriter<W>) -> io::Result<()>
+    ensures sent { OnOk result (AllSent writer.new) }
+{
     match e {
         BodyError::Wrong(_) | BodyError::Truncated => refuse(writer),
         BodyError::Io(e) => Err(e),
@@ -168,7 +188,9 @@ fn unread<W: TellWrite>(e: BodyError, writer: &mut BufWriter<W>) -> io::Result<(
 }
 
 // Says how many bytes of payload there were, and whether another request may follow.
-fn accept<W: TellWrite>(len: u64, said: Said, writer: &mut BufWriter<W>) -> io::Result<()> {
+fn accept<W: TellWrite>(len: u64, said: Said, writer: &mut BufWriter<W>) -> io::Result<()>
+    ensures sent { OnOk result (AllSent writer.new) }
+{
     let connection = if said.keeps { "keep-alive" } else { "close" };
     write!(
         writer,
@@ -180,12 +202,16 @@ fn accept<W: TellWrite>(len: u64, said: Said, writer: &mut BufWriter<W>) -> io::
     writer.flush()
 }
 
-fn call_for_body<W: TellWrite>(writer: &mut BufWriter<W>) -> io::Result<()> {
+fn call_for_body<W: TellWrite>(writer: &mut BufWriter<W>) -> io::Result<()>
+    ensures sent { OnOk result (AllSent writer.new) }
+{
     writer.write_all(b"HTTP/1.1 100 Continue\r\n\r\n")?;
     writer.flush()
 }
 
-fn refuse<W: TellWrite>(writer: &mut BufWriter<W>) -> io::Result<()> {
+fn refuse<W: TellWrite>(writer: &mut BufWriter<W>) -> io::Result<()>
+    ensures sent { OnOk result (AllSent writer.new) }
+{
     writer.write_all(
         b"HTTP/1.1 400 Bad Request\r\nContent-Length: 0\r\nConnection: close\r\n\r\n",
     )?;
