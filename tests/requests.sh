@@ -234,8 +234,9 @@ if has curl 'its requests'; then
     counts 'curl, in chunks' '200000'
     curl -sS -m 20 -H 'Expect: 100-continue' -d hello "$url" > "$scratch/out" || wrong 'curl waits'
     counts 'curl waits' '5'
-    curl -sS -m 20 -I "$url" > "$scratch/out" || wrong 'curl, HEAD'
-    counts 'curl, HEAD' ''
+    curl -sS -m 20 -v -I "$url" > "$scratch/out" 2>&1 || wrong 'curl, HEAD'
+    if grep -qi excess "$scratch/out"; then wrong 'curl, HEAD: a body came'; fi
+    runs=$((runs + 1))
     curl -sS -m 20 -0 "$url" > "$scratch/out" || wrong 'curl, HTTP/1.0'
     counts 'curl, HTTP/1.0' '0'
 fi
@@ -270,6 +271,45 @@ function ask(parts, fields) {
 })();
 PEER
     counts 'node' '5 70005 0'
+fi
+
+# Many requests at once, for a second: `wrk` sends sixteen before it reads an answer, on each of four connections, and looks at
+# each answer.
+if has wrk 'many requests at once' && has socat 'many requests at once'; then
+    cat > "$scratch/load.lua" << 'LOAD'
+local wanted = string.format('%20d\n', 5)
+wrong = 0
+function setup(thread) only = thread end
+function init()
+    local kinds = {
+        wrk.format('POST', '/', {}, 'hello'),
+        wrk.format('POST', '/', { ['Transfer-Encoding'] = 'chunked' }) .. '2\r\nhe\r\n3\r\nllo\r\n0\r\n\r\n',
+    }
+    local all = {}
+    for i = 1, 16 do all[i] = kinds[i % 2 + 1] end
+    many = table.concat(all)
+end
+function request() return many end
+function response(status, _, body)
+    if status ~= 200 or body ~= wanted then wrong = wrong + 1 end
+end
+function done(summary)
+    local failed = summary.errors
+    print('load', summary.requests >= 16, only:get('wrong'), failed.connect + failed.read + failed.write + failed.timeout)
+end
+LOAD
+    socat -d -d TCP-LISTEN:0,bind=127.0.0.1,backlog=16,fork EXEC:"$program" 2> "$scratch/relay" &
+    relay=$!
+    tries=0
+    until grep -qs 'listening on' "$scratch/relay" || [ "$tries" -gt 100 ]; do
+        tries=$((tries + 1))
+        sleep 0.1
+    done
+    runs=$((runs + 1))
+    at=$(sed -n 's/.*listening on .*:\([0-9]*\)$/\1/p' "$scratch/relay")
+    wrk -t 1 -c 4 -d 1s -s "$scratch/load.lua" "http://127.0.0.1:$at/" > "$scratch/out" 2>&1
+    got=$(sed -n 's/^load//p' "$scratch/out" | tr -s '\t' ' ')
+    if [ "$got" != ' true 0 0' ]; then wrong "wrk: '$got', not ' true 0 0'"; fi
 fi
 
 echo "requests: $runs runs"
