@@ -82,7 +82,7 @@ pub type Row<'a> = (&'a [u8], &'a [Want<'a>]);
 
 // A row by this decoder.
 #[derive(Drop)]
-struct Decoded<'a, D>(D, &'a Row<'a>);
+struct Decoded<'a, D>(&'a D, &'a Row<'a>);
 
 impl<D: Decoder + Copy> Run for Decoded<'_, D>
 where
@@ -90,7 +90,7 @@ where
 {
     fn run(&self, alloc: Global, script: &[Answer]) -> io::Result<Option<Came>> {
         let &Decoded(decoder, (bytes, wants)) = self;
-        let reader = reader(alloc, decoder, source(alloc, bytes, script)?)?;
+        let reader = reader(alloc, *decoder, source(alloc, bytes, script)?)?;
         Ok(walk(reader, wants))
     }
 }
@@ -107,7 +107,7 @@ where
 {
     let mut met = 0usize;
     for (at, row) in rows.iter().enumerate() {
-        match sweep(alloc, &[Decoded(decoder, row)], &[7, 3, 2, 1], FAULT)? {
+        match sweep(alloc, &[Decoded(&decoder, row)], &[7, 3, 2, 1], FAULT)? {
             Ok(count) => met = met.saturating_add(count),
             Err((_, most)) => return Ok(Err((at, most))),
         }

@@ -121,12 +121,12 @@ static STRINGS: Row<'static> = (
 
 // A row by this encoder.
 #[derive(Drop)]
-struct Encoded<'a, E>(E, &'a Row<'a>);
+struct Encoded<'a, E>(&'a E, &'a Row<'a>);
 
 impl<E: Encoder + Copy> Run for Encoded<'_, E> {
     fn run(&self, alloc: Global, script: &[Answer]) -> io::Result<Option<Came>> {
         let &Encoded(encoder, &(payloads, refused, bytes)) = self;
-        let mut writer = writer(alloc, target(alloc, script)?, encoder)?;
+        let mut writer = writer(alloc, target(alloc, script)?, *encoder)?;
         let outcome = write_each(&mut writer, payloads);
         let calls = offered(&writer);
         let whole = taken(&writer) == bytes && outcome.refused == refused;
@@ -142,7 +142,7 @@ fn swept<E: Encoder + Copy>(
     encoder: E,
     row: &Row<'_>,
 ) -> io::Result<Result<usize, (usize, usize)>> {
-    sweep(alloc, &[Encoded(encoder, row)], &[7, 3, 2, 1], FAULT)
+    sweep(alloc, &[Encoded(&encoder, row)], &[7, 3, 2, 1], FAULT)
 }
 
 fn lengths(width: Width, order: Order) -> ByHead<Lengths> {
