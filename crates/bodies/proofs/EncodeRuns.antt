@@ -159,7 +159,8 @@ module _ {R W : Type 0} (remaining : R → Option (List ℕ)) (stretch : W → W
           body = chunks payloads ++ end.end;
           is_body = subst (λ l. IsWritten (chunks payloads ++ l) (joined payloads)) (sym end.answers.0)
               (written (chunks payloads) (joined payloads) (is_chunks payloads [] payloads none_lost over.moves));
-          sent = sent_part (chunks payloads ++ end.end) v (order payloads [] payloads none_lost over.moves end.end v end.taken) end.answers.1 left;
+          sent = sent_part (chunks payloads ++ end.end) v
+              (order payloads [] payloads none_lost over.moves end.end v end.taken) end.answers.1 left;
           ended = once;
         },
         MetNoFault-joins first.log t.source.log t.source.log u.log t.target.writer.log v.log met
@@ -178,7 +179,8 @@ module _ {R W : Type 0} (remaining : R → Option (List ℕ)) (stretch : W → W
       ended once (Err (Read e)) end = absurd end.answers
       ended once (Err (Io e)) end = absurd end.answers
 
-    read_failed : t.source.block.bytes ≡ [] → AllSent t.target.writer → EncodedPart first.log t.source.log u.log t.target.writer.log
+    read_failed : t.source.block.bytes ≡ [] → AllSent t.target.writer
+        → EncodedPart first.log t.source.log u.log t.target.writer.log
     read_failed left sent =
         let is = is_chunks payloads [] payloads none_lost over.moves in
         record {

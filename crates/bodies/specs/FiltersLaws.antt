@@ -18,10 +18,11 @@ module _ {W P : Type 0} where
 
   pub sent_all : (u v : Buffered W P) (accepted : List ℕ) → u.block.bytes ≡ [] → WritesInOrder u accepted v → AllSent v
       → WasSent (u.log.writes.received ++ accepted) v.log.writes
-  sent_all u v accepted none taken sent = subst (λ l. WasSent l v.log.writes) (received_all u v accepted none taken sent) (record {
-    received = GoesOn-none v.log.writes.received;
-    flushed = subst (λ l. GoesOn l v.log.writes.flushed) sent.flushed (GoesOn-none v.log.writes.flushed);
-  })
+  sent_all u v accepted none taken sent = subst (λ l. WasSent l v.log.writes)
+      (received_all u v accepted none taken sent) (record {
+        received = GoesOn-none v.log.writes.received;
+        flushed = subst (λ l. GoesOn l v.log.writes.flushed) sent.flushed (GoesOn-none v.log.writes.flushed);
+      })
 
   pub taken_more : (u v : Buffered W P) (accepted : List ℕ) → WritesInOrder u accepted v
       → taken_in u + length accepted ≡ taken_in v

@@ -22,11 +22,13 @@ returns-clause-ran g c =
     (elim c.match-answer.branch [
       | in-Ok w ↦ subst (DecodeRan c.args.limits c.args.source.log t.source.reader.log c.args.target.log t.target.log)
           (sym w.answer-is)
-          (ended remaining c.args.limits c.args.source c.args.target c.args.piece c.requires.source c.requires.empty t over.ready _
+          (ended remaining c.args.limits c.args.source c.args.target c.args.piece c.requires.source c.requires.empty t
+          over.ready _
           (subst (λ a. ForwardAnswers rules first a t) w.in-Ok.is over.answers))
       | in-Err w ↦ subst (DecodeRan c.args.limits c.args.source.log t.source.reader.log c.args.target.log t.target.log)
           (sym w.answer-is)
-          (stopped remaining c.args.limits c.args.source c.args.target c.args.piece c.requires.source c.requires.empty t over.ready
+          (stopped remaining c.args.limits c.args.source c.args.target c.args.piece c.requires.source c.requires.empty t
+          over.ready
           _ _ _ (subst (λ a. ForwardAnswers rules first a t) w.in-Err.is over.answers) w.error_of.ensures)
     ]))
 

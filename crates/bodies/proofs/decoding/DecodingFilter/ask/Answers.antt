@@ -12,7 +12,8 @@ returns-in-Ok-true g c =
     let m = c.read_payload.new.self in
     let t = c.is_at_end.new.self in
     asked_end g.R.TellRead.remaining s c.requires.ready c.requires.lacks m out len s.held
-    c.requires.lacks c.in-Ok-eq0.field-0 c.in-Ok-eq0.field-0-test c.in-Ok-eq0.ensures.reads t (subst (λ a. LooksBehind g.R.TellRead.remaining std_read_rules m a t)
+    c.requires.lacks c.in-Ok-eq0.field-0 c.in-Ok-eq0.field-0-test c.in-Ok-eq0.ensures.reads t
+    (subst (λ a. LooksBehind g.R.TellRead.remaining std_read_rules m a t)
     (c.in-Ok-true.is ∙ ap Ok c.in-Ok-true.field-0-test) c.is_at_end.ensures)
 
 pub returns-in-Ok-false : goal.returns-in-Ok-false
@@ -23,7 +24,8 @@ returns-in-Ok-false g c =
     let m = c.read_payload.new.self in
     let t = c.is_at_end.new.self in
     asked_more_behind g.R.TellRead.remaining s c.requires.ready c.requires.lacks m out len s.held
-    c.requires.lacks c.in-Ok-eq0.field-0 c.in-Ok-eq0.field-0-test c.in-Ok-eq0.ensures.reads t (subst (λ a. LooksBehind g.R.TellRead.remaining std_read_rules m a t)
+    c.requires.lacks c.in-Ok-eq0.field-0 c.in-Ok-eq0.field-0-test c.in-Ok-eq0.ensures.reads t
+    (subst (λ a. LooksBehind g.R.TellRead.remaining std_read_rules m a t)
     (c.in-Ok-false.is ∙ ap Ok c.in-Ok-false.field-0-test) c.is_at_end.ensures) c.taken.result c.taken.ensures
 
 pub returns-in-Err : goal.returns-in-Err
@@ -34,7 +36,8 @@ returns-in-Err g c =
     let m = c.read_payload.new.self in
     let t = c.is_at_end.new.self in
     asked_in_vain g.R.TellRead.remaining s c.requires.ready c.requires.lacks m out len s.held
-    c.requires.lacks c.in-Ok-eq0.field-0 c.in-Ok-eq0.field-0-test c.in-Ok-eq0.ensures.reads t c.in-Err.e (subst (λ a. LooksBehind g.R.TellRead.remaining std_read_rules m a t)
+    c.requires.lacks c.in-Ok-eq0.field-0 c.in-Ok-eq0.field-0-test c.in-Ok-eq0.ensures.reads t
+    c.in-Err.e (subst (λ a. LooksBehind g.R.TellRead.remaining std_read_rules m a t)
     c.in-Err.is c.is_at_end.ensures)
 
 pub returns-in-Ok : goal.returns-in-Ok
