@@ -1,4 +1,4 @@
-//! What goes between a buffer and a stream, or a slice.
+//! What goes between a buffer and a stream.
 use buffer_redux::script::Answer;
 use redux_buffer::Buffer;
 use redux_buffer::laws::potential;
@@ -89,10 +89,6 @@ fn take_in<R: TellRead>(b: &mut Buffer, rdr: &mut R) -> io::Result<usize> {
     potential::read_from(b, rdr)
 }
 
-fn copy_out(b: &mut Buffer, out: &mut [u8]) -> usize {
-    potential::copy_to_slice(b, out)
-}
-
 // Says that it gave all that it was asked for, and leaves the bytes as they are.
 #[derive(Drop)]
 struct Pretends;
@@ -119,15 +115,5 @@ fn pretended(rt: HostRuntime) -> Result<(), Fail> {
     assert!(rt; came == [8187, 5] && b.buf() == [0, 0, 0, 0, 0, 1, 2, 3, 4, 5].as_slice());
     b.clear();
     assert!(rt; b.usable_space() == 8192);
-    Ok(())
-}
-
-#[test]
-fn in_and_out(rt: HostRuntime) -> Result<(), Fail> {
-    let mut b = holding_in(rt.alloc(), false, 2, &[1, 2, 3])?;
-    let mut out = [9u8; 5];
-    assert!(rt; copy_out(&mut b, &mut out[..0]) == 0);
-    assert!(rt; copy_out(&mut b, &mut out) == 2);
-    assert!(rt; out == [1, 2, 9, 9, 9] && b.is_empty());
     Ok(())
 }
