@@ -220,13 +220,6 @@ fn begun(alloc: Global) -> Result<Bytes<'static>, GrowError> {
 }
 
 #[test]
-fn all_that_is_left(rt: HostRuntime) -> Result<(), Fail> {
-    let reader = begun(rt.alloc())?;
-    assert!(rt; rest_of(rt.alloc(), reader)?.as_slice() == ALL);
-    Ok(())
-}
-
-#[test]
 fn all_that_is_left_of_an_unbuffered_one(rt: HostRuntime) -> Result<(), Fail> {
     let mut all = Vec::new(rt.alloc());
     let reader = begun(rt.alloc())?.unbuffer();
