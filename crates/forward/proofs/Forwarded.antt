@@ -8,7 +8,8 @@ use Rattle.forward.specs.Steps.{AskedFrom, ForwardsNext, NextAnswers}
 use Rattle.forward.specs.StreamsLaws.{MetNoFault-none}
 use Rattle.forward.specs.declared.error.Cause.{Cause}
 use Rattle.forward.specs.declared.error.Cause.TheVariants.{Count}
-use Rattle.forward.proofs.Forwarding.{Paced, SoFar, answers_on, goes_on, none_forwarded, once_on}
+use Rattle.forward.proofs.Between.{Paced, SoFar}
+use Rattle.forward.proofs.Forwarding.{answers_on, goes_on, none_forwarded, once_on}
 use Rattle.forward.proofs.Moving.{AsksOnce-none, Goes-none, Moves-none, Moves-on, StaysOpen-joins, StaysOpen-none}
 
 module _ {T W : Type 0} (rules : FilterRules T W) (lawful : IsLawful rules) where

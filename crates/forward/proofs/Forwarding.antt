@@ -14,25 +14,10 @@ use Rattle.forward.specs.declared.error.AskError.{AskError}
 use Rattle.forward.specs.declared.error.AskError.TheVariants as asked
 use Rattle.forward.specs.declared.error.Cause.{Cause}
 use Rattle.forward.specs.declared.error.Cause.TheVariants.{Wrong, Read, Write, Count}
+use Rattle.forward.proofs.Between.{Paced, SoFar}
 use Rattle.forward.proofs.Moving.{AsksOnce-joins, AsksOnce-none, Goes-joins, Goes-turn, Goes-unasked, Goes-weaker, Moves-joins, Moves-on, StaysOpen-joins, StaysOpen-none}
 
 module _ {T W : Type 0} (rules : FilterRules T W) where
-  -- so many payloads went over, by asks of this kind
-  pub record SoFar (Such : Ask T → Type 0) (count : ℕ) (first s : Linked T) : Type 0 where
-    pub goes : Goes rules Such first s
-    pub once : AsksOnce rules first.filter s.filter
-    pub still : StaysOpen rules first.filter s.filter
-    pub forwarded : Forwarded rules count first.filter s.filter
-    pub met : NoneFailed rules first.filter s.filter
-    pub ready : rules.ready s.filter
-
-  -- a byte was taken in behind each flush; and so was one received, but for one flush at most
-  pub record Paced (first s : T) : Type 0 where
-    pub take : (rules.written s).writes.flushes + length (rules.written first).writes.received
-        ≤ (rules.written first).writes.flushes + rules.taken s
-    pub send : FlushesSend 1 (rules.written first).writes (rules.written s).writes
-    pub asked : AlwaysAsks rules → FlushesPerAsk 0 (rules.read first) (rules.read s) (rules.written first) (rules.written s)
-
   -- it was flushed once at most, or not
   once_more : (s t : T) → FlushesOnce rules s t
       → (rules.written t).writes.flushes ≤ (rules.written s).writes.flushes + 1
@@ -98,7 +83,7 @@ module _ {T W : Type 0} (rules : FilterRules T W) where
     }
 
     -- behind those that went over before comes the next
-    module _ (Such : Ask T → Type 0) (count : ℕ) (first s t : Linked T) (before : SoFar Such count first s)
+    module _ (Such : Ask T → Type 0) (count : ℕ) (first s t : Linked T) (before : SoFar rules Such count first s)
         (so : (ask : Ask T) → AskedFrom rules s.filter ask → Such ask) where
       met_on : NoneFailed rules s.filter t.filter → NoneFailed rules first.filter t.filter
       met_on = MetNoFault-joins (rules.read first.filter) (rules.read s.filter) (rules.read t.filter)
@@ -210,7 +195,7 @@ module _ {T W : Type 0} (rules : FilterRules T W) where
         );
       }
 
-      none_passed : (Such : Ask T → Type 0) → LinkPasses rules s (Ok false) m → SoFar Such 0 s m
+      none_passed : (Such : Ask T → Type 0) → LinkPasses rules s (Ok false) m → SoFar rules Such 0 s m
       none_passed Such p = record {
         goes = unasked Such (Ok false) p;
         once = unasked_once (Ok false) p;
@@ -374,7 +359,7 @@ module _ {T W : Type 0} (rules : FilterRules T W) where
 
       -- it came, and is moved
       module _ (turn : TakesTurn rules m (Ok true) t) where
-        came : SoFar (AskedFrom rules s.filter) 0 s t
+        came : SoFar rules (AskedFrom rules s.filter) 0 s t
         came = record {
           goes = goes s m t p (Ok true) turn;
           once = once s m t p (Ok true) turn;

@@ -1,4 +1,5 @@
 mod Walks
+pub mod Between
 pub mod Moving
 pub mod Turning
 pub mod Forwarding

@@ -168,7 +168,7 @@ module _ {R W : Type 0} (remaining : R → Option (List ℕ)) (stretch : W → W
       answers = (lost, record { hands = hands; takes = taken }, caused);
     }
 
-    -- it was held
+    -- the line was held
     pub held_written : (span : Span) → s.held ≡ Some span → FramesTaken stretch s.target (shown s.source span ∷ []) v
         → MetInterrupts s.target.writer.log.writes v.writer.log.writes
         → Passes rules s (Ok true) (record s { target = v; held = None })
@@ -182,7 +182,6 @@ module _ {R W : Type 0} (remaining : R → Option (List ℕ)) (stretch : W → W
         line_lost s.source refl refl ready.whole ready.open' (λ ended. ended) ready.shows [] (still v s.held [] refl) taken e
         caused
 
-    -- or it was buffered
     module _ (empty : s.held ≡ None) (m : Lining R) (line : List ℕ)
         (took : NextLine remaining s.source (Ok (Some line)) m × (m.reader ≡ s.source.reader)) where
       shows : CanShow m s.held
@@ -349,7 +348,6 @@ module _ {R W : Type 0} (remaining : R → Option (List ℕ)) (stretch : W → W
         asked_nothing (Err (NoLine.TooLong n)) next a.0 a.4 (omega (arith, a.5)) (Err (Wrong TooLong))
         ((empty, (subst (λ k. BeginsTooLong k (rest m)) (sym next.piece.went.decoder) a.2, a.4)), a.3)
 
-    -- or failed
     module _ (e : Error) (next : NextLine remaining s.source (Err (NoLine.Io e)) m) where
       waits : (s.held ≡ None) × IsUnended m.max (rest m) × (m.ended ≡ false)
       waits = (

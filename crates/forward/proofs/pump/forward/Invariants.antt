@@ -1,5 +1,5 @@
 use Rattle.forward.specs.Link.{IsPrompt}
-use Rattle.forward.proofs.Forwarding.{Paced, SoFar}
+use Rattle.forward.proofs.Between.{Paced, SoFar}
 use Rattle.forward.proofs.pump.forward.Given as goal
 
 abbrev pub invariant-loop-count : goal.invariant-loop-count
