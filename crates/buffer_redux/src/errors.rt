@@ -7,13 +7,11 @@ use std::{fmt, io};
 ///
 /// ```
 /// let refused = BufReader::with_capacity(alloc, usize::MAX, Told::new(b"abc".as_slice()));
-/// match refused {
-///     Ok(reader) => drop(reader),
-///     Err(MakeError(stream, why)) => {
-///         assert!(rt; matches!(why, GrowError::TooLarge));
-///         assert!(rt; stream.into_inner() == b"abc".as_slice());
-///     }
-/// }
+/// let Err(MakeError(stream, why)) = refused else {
+///     return Ok(assert!(rt; false));
+/// };
+/// assert!(rt; matches!(why, GrowError::TooLarge));
+/// assert!(rt; stream.into_inner() == b"abc".as_slice());
 /// ```
 #[derive(Debug, Drop)]
 pub struct MakeError<T>(pub T, pub GrowError);
@@ -47,10 +45,11 @@ impl<T: Drop> From<MakeError<T>> for io::Error {
 /// let full = ScriptWriter::new(alloc, &[Answer::Fail(ErrorKind::StorageFull)])?;
 /// let mut writer = BufWriter::new(alloc, Told::new(full))?;
 /// writer.write_all(b"abc")?;
-/// if let Err(failed) = writer.into_inner() {
-///     assert!(rt; failed.error().kind() == ErrorKind::StorageFull);
-///     assert!(rt; failed.into_inner().buf_len() == 3);
-/// }
+/// let Err(failed) = writer.into_inner() else {
+///     return Ok(assert!(rt; false));
+/// };
+/// assert!(rt; failed.error().kind() == ErrorKind::StorageFull);
+/// assert!(rt; failed.into_inner().buf_len() == 3);
 /// ```
 #[derive(Debug, Drop)]
 pub struct IntoInnerError<W>(pub W, pub io::Error);

@@ -20,15 +20,12 @@ fn buf_reader(rt: HostRuntime) -> Result<(), Fail> {
 fn make_error(rt: HostRuntime) -> Result<(), Fail> {
     let alloc = rt.alloc();
     let refused = BufReader::with_capacity(alloc, usize::MAX, Told::new(b"abc".as_slice()));
-    match refused {
-        Ok(reader) => drop(reader),
-        Err(MakeError(stream, why)) => {
-            assert!(rt; matches!(why, GrowError::TooLarge));
-            assert!(rt; stream.into_inner() == b"abc".as_slice());
-        }
-    }
-    let refused = BufReader::with_capacity(alloc, usize::MAX, Told::new(b"abc".as_slice()));
-    Ok(assert!(rt; refused.is_err()))
+    let Err(MakeError(stream, why)) = refused else {
+        return Ok(assert!(rt; false));
+    };
+    assert!(rt; matches!(why, GrowError::TooLarge));
+    assert!(rt; stream.into_inner() == b"abc".as_slice());
+    Ok(())
 }
 
 #[test]

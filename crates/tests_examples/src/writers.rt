@@ -53,12 +53,11 @@ fn into_inner_error(rt: HostRuntime) -> Result<(), Fail> {
     let full = ScriptWriter::new(alloc, &[Answer::Fail(ErrorKind::StorageFull)])?;
     let mut writer = BufWriter::new(alloc, Told::new(full))?;
     writer.write_all(b"abc")?;
-    if let Err(failed) = writer.into_inner() {
-        assert!(rt; failed.error().kind() == ErrorKind::StorageFull);
-        assert!(rt; failed.into_inner().buf_len() == 3);
-    } else {
+    let Err(failed) = writer.into_inner() else {
         return Ok(assert!(rt; false));
-    }
+    };
+    assert!(rt; failed.error().kind() == ErrorKind::StorageFull);
+    assert!(rt; failed.into_inner().buf_len() == 3);
     Ok(())
 }
 
