@@ -33,9 +33,11 @@ use std::marker::Model;
 /// ```
 /// let lines = Delimited { end: b'\n', max: 9 };
 /// let mut reader = PieceReader::new(alloc, Told::new(b"hi\n".as_slice()), lines)?;
-/// if let Some(span) = reader.step()? {
-///     assert!(rt; reader.lent(span) == b"hi".as_slice());
-/// }
+/// let shown = match reader.step()? {
+///     Some(span) => reader.lent(span),
+///     None => b"".as_slice(),
+/// };
+/// assert!(rt; shown == b"hi".as_slice());
 /// ```
 #[derive(Drop)]
 pub struct PieceReader<R: Tell, D: Decoder> {
