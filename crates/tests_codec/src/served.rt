@@ -86,11 +86,11 @@ fn resp(rt: HostRuntime) -> Result<(), Fail> {
     let stream = Told::new(b"*2\r\n$4\r\nECHO\r\n$-1\r\n".as_slice());
     let mut reader = PieceReader::new(alloc, stream, Resp { max: 100 })?;
     assert!(rt; matches!(reader.step_item(), Ok(Some((RespItem::Array(Some(2)), _)))));
-    if let Some((item, span)) = reader.step_item()? {
-        assert!(rt; item == RespItem::Bulk && reader.lent(span) == b"ECHO".as_slice());
-    } else {
-        return Ok(assert!(rt; false));
-    }
+    let is_echo = match reader.step_item()? {
+        Some((item, span)) => item == RespItem::Bulk && reader.lent(span) == b"ECHO".as_slice(),
+        None => false,
+    };
+    assert!(rt; is_echo);
     assert!(rt; matches!(reader.step_item(), Ok(Some((RespItem::Null, _)))));
     assert!(rt; matches!(reader.step_item(), Ok(None)));
     Ok(drop(reader))
