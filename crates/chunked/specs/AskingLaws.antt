@@ -1,5 +1,5 @@
 -- Where the stream is asked under `StdPolicy`: in a fill, in a read, and in a read of payload.
-use Rattle.std.proofs.Common.{◌≡◌, ◌≢◌, ℕ, zero, suc, ◌+◌, ◌<◌, ◌≤◌, ◌==◌, true, ◌⊎◌, inl, inr, List, [], ◌∷◌, ◌++◌, length, take, drop, min, Option, Result, Ok, Err, refl, sym, ap, subst, ◌∙◌, arith, append_assoc, append-nil, length-append, length-take-le, take-append-drop}
+use Rattle.std.proofs.Common.{◌≡◌, ◌≢◌, ℕ, zero, suc, ◌+◌, ◌<◌, ◌≤◌, ◌==◌, true, inl, inr, List, [], ◌++◌, length, take, drop, min, Option, Result, Ok, Err, refl, sym, ap, subst, ◌∙◌, arith, append_assoc, append-nil, length-append, length-take-le, take-append-drop}
 use Rattle.std.proofs.lemmas.Bool.{cases_lt}
 use Rattle.std.proofs.lemmas.Bool.Decides.{nat_tests}
 use Rattle.std.proofs.lemmas.List.{nil_from_length}
@@ -9,13 +9,12 @@ use Rattle.buffer_redux.specs.Buffered.{Buffered}
 use Rattle.buffer_redux.specs.Fill.{Turns}
 use Rattle.buffer_redux.specs.Policy.{std_read_rules}
 use Rattle.buffer_redux.specs.ReaderLaws.{ReadsInOrder-joins, ReadsInOrder-none}
-use Rattle.buffer_redux.specs.StreamLog.{StreamLog, after_read}
+use Rattle.buffer_redux.specs.StreamLog.{after_read}
 use Rattle.buffer_redux.specs.Unbuffer.{Unbuffered, unbuffered}
 use Rattle.buffer_redux.specs.declared.policy.StdPolicy.{StdPolicy}
-use Rattle.chunked.specs.Asking.{AskedOver, AskedWhere}
+use Rattle.chunked.specs.Asking.{AskedWhere}
 use Rattle.chunked.specs.Between.{FillsAndTakes, LastCall, TakesTurn, TakesTurns}
-use Rattle.chunked.specs.Dechunking.{Dechunking, IsDechunking, IsWhole, ReadsPayload}
-use Rattle.chunked.specs.DechunkingLaws.{IsWhole-done}
+use Rattle.chunked.specs.Dechunking.{Dechunking, IsDechunking, ReadsPayload}
 use Rattle.chunked.specs.Place.{IsPlace, IsSettled, Leads}
 use Rattle.chunked.specs.PlaceLaws.{Leads-joins, Leads-none}
 use Rattle.chunked.specs.declared.error.ChunkedError.{ChunkedError}

@@ -3,7 +3,7 @@ use Rattle.std.proofs.Common.{inl, inr, length, ◌<◌, ◌≡◌, ℕ, ◌+◌
 use Rattle.std.specs.declared.io.Error.{Error}
 use Rattle.redux_buffer.specs.Faults.{MetInterrupts, OnlyInterrupts}
 use Rattle.forward.specs.Filter.{AlwaysAsks, AsksOnce, FilterRules, FlushesOnce, IsLawful, Moves, StaysOpen, Wrote}
-use Rattle.forward.specs.Flushes.{FlushesPerAsk, FlushesSend, flushed_last}
+use Rattle.forward.specs.Flushes.{FlushesPerAsk, flushed_last}
 use Rattle.forward.specs.Forward.{Forwarded, ForwardedFirst, NoneFailed}
 use Rattle.forward.specs.Link.{Ask, Goes, LinkFlushes, LinkPasses, Linked}
 use Rattle.forward.specs.Prompt.{WritesOn}
@@ -14,7 +14,7 @@ use Rattle.forward.specs.declared.error.AskError.{AskError}
 use Rattle.forward.specs.declared.error.AskError.TheVariants as asked
 use Rattle.forward.specs.declared.error.Cause.{Cause}
 use Rattle.forward.specs.declared.error.Cause.TheVariants.{Wrong, Read, Write, Count}
-use Rattle.forward.proofs.Between.{Paced, SoFar}
+use Rattle.forward.proofs.Between.{SoFar}
 use Rattle.forward.proofs.Moving.{AsksOnce-joins, AsksOnce-none, Goes-joins, Goes-turn, Goes-unasked, Goes-weaker, Moves-joins, Moves-on, StaysOpen-joins, StaysOpen-none}
 
 module _ {T W : Type 0} (rules : FilterRules T W) where

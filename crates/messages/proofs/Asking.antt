@@ -1,5 +1,5 @@
 -- Where a reader in a body asks its stream.
-use Rattle.std.proofs.Common.{◌≡◌, ◌≢◌, ℕ, zero, suc, ◌+◌, ◌<◌, List, [], ◌∷◌, ◌++◌, length, take, replicate, Option, Result, Ok, Err, inl, inr, sym, ap, subst, ◌∙◌, append-nil, arith, refl}
+use Rattle.std.proofs.Common.{◌≡◌, ◌≢◌, ℕ, zero, suc, ◌+◌, ◌<◌, List, [], ◌∷◌, ◌++◌, length, take, replicate, Option, Result, Ok, inl, inr, sym, ap, subst, ◌∙◌, append-nil, arith, refl}
 use Rattle.std.proofs.lemmas.List.{length-replicate}
 use Rattle.std.specs.declared.io.Error.{Error}
 use Rattle.buffer_redux.specs.BufReader.{Fills}
