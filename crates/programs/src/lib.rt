@@ -1,15 +1,12 @@
-//! What programs share that copy from one stream to another: the words that they are asked by, their buffers, which reads are
-//! tried again, and how a run ends.
+//! What programs share that copy from one stream to another: the words that they are asked by, their buffers, and how a run ends.
 //!
 //! The crate stands on what `buffer_redux` promises, and on nothing else of it.
 #![tactic(auto)]
 
 mod buffers;
 mod ending;
-mod tries;
 mod words;
 
 pub use buffers::{GREATEST_CAPACITY, buffered, buffered_writer, make_room, put};
 pub use ending::{Ending, Said, end};
-pub use tries::is_answered;
 pub use words::{args, number, only_word};
