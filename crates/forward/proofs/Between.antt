@@ -1,14 +1,14 @@
 -- What holds between two payloads.
 use Rattle.std.proofs.Common.{ℕ, ◌+◌, ◌≤◌, length}
-use Rattle.forward.specs.Filter.{AlwaysAsks, AsksOnce, FilterRules, StaysOpen}
-use Rattle.forward.specs.Flushes.{FlushesPerAsk, FlushesSend}
+use Rattle.forward.specs.Filter.{AsksOnce, FilterRules, StaysOpen}
+use Rattle.forward.specs.Flushes.{FlushesSend}
 use Rattle.forward.specs.Forward.{Forwarded, NoneFailed}
 use Rattle.forward.specs.Link.{Ask, Goes, Linked}
 
 module _ {T W : Type 0} (rules : FilterRules T W) where
   -- `count` payloads went over, by asks of this kind
   pub record SoFar (Such : Ask T → Type 0) (count : ℕ) (first s : Linked T) : Type 0 where
-    pub goes : Goes rules Such first s
+    pub goes : Goes rules Such 0 first s
     pub once : AsksOnce rules first.filter s.filter
     pub still : StaysOpen rules first.filter s.filter
     pub forwarded : Forwarded rules count first.filter s.filter
@@ -20,4 +20,3 @@ module _ {T W : Type 0} (rules : FilterRules T W) where
     pub take : (rules.written s).writes.flushes + length (rules.written first).writes.received
         ≤ (rules.written first).writes.flushes + rules.taken s
     pub send : FlushesSend 1 (rules.written first).writes (rules.written s).writes
-    pub asked : AlwaysAsks rules → FlushesPerAsk 0 (rules.read first) (rules.read s) (rules.written first) (rules.written s)

@@ -1,10 +1,10 @@
 -- What `forward` does for all payloads.
 use Rattle.std.proofs.Common.{inl, inr, ◌≡◌, ℕ, ◌+◌, ◌^◌, ◌≤◌, Bool, true, false, Result, Ok, Err, refl, ◌∙◌, arith}
-use Rattle.forward.specs.Filter.{AlwaysAsks, AsksOnce, FilterRules, IsLawful}
-use Rattle.forward.specs.Flushes.{FlushesPerAsk, FlushesSend, flushed_last}
+use Rattle.forward.specs.Filter.{AsksOnce, FilterRules, IsLawful}
+use Rattle.forward.specs.Flushes.{FlushesSend}
 use Rattle.forward.specs.Forward.{Forwards}
 use Rattle.forward.specs.Link.{Ask, Goes, IsPrompt, Linked}
-use Rattle.forward.specs.Steps.{AskedFrom, ForwardsNext, NextAnswers}
+use Rattle.forward.specs.Steps.{AskedFrom, ForwardsNext, NextAnswers, flushed_next}
 use Rattle.forward.specs.StreamsLaws.{MetNoFault-none}
 use Rattle.forward.specs.declared.error.Cause.{Cause}
 use Rattle.forward.specs.declared.error.Cause.TheVariants.{Count}
@@ -29,7 +29,7 @@ module _ {T W : Type 0} (rules : FilterRules T W) (lawful : IsLawful rules) wher
 
     pub paced_none : Paced rules first.filter first.filter
     paced_none =
-        record { take = omega (arith, lawful.received_taken first.filter); send = omega arith; asked = λ always. omega arith }
+        record { take = omega (arith, lawful.received_taken first.filter); send = omega arith }
 
     module _ (count : ℕ) (s t : Linked T) (before : SoFar rules Prompt count first s) (paced : Paced rules first.filter s.filter) where
       flushes_on : (answer : Result Bool (Cause W)) → ForwardsNext rules s answer t
@@ -39,11 +39,6 @@ module _ {T W : Type 0} (rules : FilterRules T W) (lawful : IsLawful rules) wher
         | inr one ↦ omega (arith, paced.take, one.0, one.1)
       ]
 
-      asked_on : (answer : Result Bool (Cause W)) → ForwardsNext rules s answer t → AlwaysAsks rules
-          → FlushesPerAsk (flushed_last answer) (rules.read first.filter) (rules.read t.filter) (rules.written first.filter)
-          (rules.written t.filter)
-      asked_on answer next always = omega (arith, paced.asked always, next.asked always)
-
       pub paced_more : ForwardsNext rules s (Ok true) t → Paced rules first.filter t.filter
       paced_more next = record {
         take = elim next.flushes [
@@ -51,7 +46,6 @@ module _ {T W : Type 0} (rules : FilterRules T W) (lawful : IsLawful rules) wher
           | inr one ↦ omega (arith, paced.take, one.0, next.more)
         ];
         send = flushes_on (Ok true) next;
-        asked = asked_on (Ok true) next;
       }
 
       prompt_of : (ask : Ask T) → AskedFrom rules s.filter ask → Prompt ask
@@ -63,7 +57,7 @@ module _ {T W : Type 0} (rules : FilterRules T W) (lawful : IsLawful rules) wher
           asked.asks
 
       module _ (answer : Result Bool (Cause W)) (next : ForwardsNext rules s answer t) where
-        all_goes : Goes rules Prompt first t
+        all_goes : Goes rules Prompt (flushed_next answer) first t
         all_goes = goes_on rules lawful Prompt count first s t before prompt_of answer next
 
         all_once : AsksOnce rules first.filter t.filter
@@ -89,7 +83,6 @@ module _ {T W : Type 0} (rules : FilterRules T W) (lawful : IsLawful rules) wher
         goes = all_goes (Ok false) next;
         once = (all_once (Ok false) next).once;
         flushes = flushes_on (Ok false) next;
-        asked = asked_on (Ok false) next;
         ready = next.ready;
         answers = all_answers (Ok false) next;
       }
@@ -100,7 +93,6 @@ module _ {T W : Type 0} (rules : FilterRules T W) (lawful : IsLawful rules) wher
         goes = all_goes (Err cause) next;
         once = (all_once (Err cause) next).once;
         flushes = flushes_on (Err cause) next;
-        asked = asked_on (Err cause) next;
         ready = next.ready;
         answers = all_answers (Err cause) next;
       }
@@ -112,7 +104,6 @@ module _ {T W : Type 0} (rules : FilterRules T W) (lawful : IsLawful rules) wher
       goes = before.goes;
       once = before.once.once;
       flushes = paced.send;
-      asked = λ always. omega (arith, paced.asked always);
       ready = before.ready;
       answers = (
         record {

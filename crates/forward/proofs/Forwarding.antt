@@ -2,12 +2,11 @@
 use Rattle.std.proofs.Common.{inl, inr, length, ◌<◌, ◌≡◌, ℕ, ◌+◌, ◌≤◌, List, [], ◌∷◌, ◌++◌, Bool, true, false, Result, Ok, Err, refl, sym, ap, subst, ◌∙◌, arith, append_assoc, length-append}
 use Rattle.std.specs.declared.io.Error.{Error}
 use Rattle.redux_buffer.specs.Faults.{MetInterrupts, OnlyInterrupts}
-use Rattle.forward.specs.Filter.{AlwaysAsks, AsksOnce, FilterRules, FlushesOnce, IsLawful, Moves, StaysOpen, Wrote}
-use Rattle.forward.specs.Flushes.{FlushesPerAsk, flushed_last}
+use Rattle.forward.specs.Filter.{AsksOnce, FilterRules, FlushesOnce, IsLawful, Moves, StaysOpen, Wrote}
 use Rattle.forward.specs.Forward.{Forwarded, ForwardedFirst, NoneFailed}
-use Rattle.forward.specs.Link.{Ask, Goes, LinkFlushes, LinkPasses, Linked}
+use Rattle.forward.specs.Link.{Ask, Goes, LinkFlushes, LinkPasses, Linked, NotAsked}
 use Rattle.forward.specs.Prompt.{WritesOn}
-use Rattle.forward.specs.Steps.{AskedFrom, ForwardsNext, GivesUp, NextAnswers, OnTrue, OnlyInterrupted, TakesTurn}
+use Rattle.forward.specs.Steps.{AskedFrom, ForwardsNext, GivesUp, NextAnswers, OnTrue, OnlyInterrupted, TakesTurn, flushed_next}
 use Rattle.forward.specs.Streams.{ReadGaveUp}
 use Rattle.forward.specs.StreamsLaws.{MetNoFault-joins, ReadFailed-after, SendFailed-after, only_same}
 use Rattle.forward.specs.declared.error.AskError.{AskError}
@@ -23,18 +22,6 @@ module _ {T W : Type 0} (rules : FilterRules T W) where
       → (rules.written t).writes.flushes ≤ (rules.written s).writes.flushes + 1
   once_more s t (inl same) = omega (arith, same)
   once_more s t (inr one) = omega (arith, one.0)
-
-  abbrev PerAsk : ℕ → T → T → Type 0
-  PerAsk more s t = FlushesPerAsk more (rules.read s) (rules.read t) (rules.written s) (rules.written t)
-
-  late : (s t : T) → PerAsk 0 s t → (answer : Result Bool (Cause W)) → PerAsk (flushed_last answer) s t
-  late s t even (Ok a) = even
-  late s t even (Err e) = omega (arith, even)
-
-  unflushed : (s t : T) → rules.read t ≡ rules.read s
-      → (rules.written t).writes.flushes ≡ (rules.written s).writes.flushes → (answer : Result Bool (Cause W))
-      → PerAsk (flushed_last answer) s t
-  unflushed s t told same answer = late s t (omega (arith, same, ap (λ l. l.reads.asks) told)) answer
 
   -- what was received goes on
   longer : (s t : T) → WritesOn (rules.written s).writes (rules.written t).writes
@@ -125,9 +112,9 @@ module _ {T W : Type 0} (rules : FilterRules T W) where
       behind (Err Count) once next = absurd (omega (arith, next.1))
 
       module _ (answer : Result Bool (Cause W)) (next : ForwardsNext rules s answer t) where
-        pub goes_on : Goes rules Such first t
-        goes_on = Goes-joins rules Such first s t before.goes
-            (Goes-weaker rules (AskedFrom rules s.filter) Such so s t next.goes)
+        pub goes_on : Goes rules Such (flushed_next answer) first t
+        goes_on = Goes-joins rules Such (flushed_next answer) first s t before.goes
+            (Goes-weaker rules (AskedFrom rules s.filter) Such so (flushed_next answer) s t next.goes)
 
         pub once_on : AsksOnce rules first.filter t.filter
         once_on = AsksOnce-joins rules first.filter s.filter t.filter before.once before.still next.once
@@ -153,19 +140,20 @@ module _ {T W : Type 0} (rules : FilterRules T W) where
 
     -- a payload was there; or none was, and it was asked for; or sending failed
     module _ (s m : Linked T) where
-      unasked : (Such : Ask T → Type 0) → (answer : Result Bool Error) → LinkPasses rules s answer m → Goes rules Such s m
-      unasked Such answer p =
-          Goes-unasked rules Such s m (record { told = p.passes.told; writes = p.passes.writes }) p.noted
+      unasked : (Such : Ask T → Type 0) (more : ℕ) (answer : Result Bool Error) → LinkPasses rules s answer m
+          → Goes rules Such more s m
+      unasked Such more answer p =
+          Goes-unasked rules Such more s m (record { told = p.passes.told; writes = p.passes.writes }) p.noted
+          (omega (arith, p.passes.flushes))
 
       unasked_once : (answer : Result Bool Error) → LinkPasses rules s answer m → AsksOnce rules s.filter m.filter
       unasked_once answer p = AsksOnce-none rules s.filter m.filter p.passes.told p.passes.closed
 
       pub passed : LinkPasses rules s (Ok true) m → ForwardsNext rules s (Ok true) m
       passed p = record {
-        goes = unasked (AskedFrom rules s.filter) (Ok true) p;
+        goes = unasked (AskedFrom rules s.filter) 0 (Ok true) p;
         once = unasked_once (Ok true) p;
         flushes = inl p.passes.flushes;
-        asked = λ always. unflushed s.filter m.filter p.passes.told p.passes.flushes (Ok true);
         more = p.passes.answers.3;
         received = longer s.filter m.filter p.passes.writes;
         ready = p.passes.ready;
@@ -178,10 +166,9 @@ module _ {T W : Type 0} (rules : FilterRules T W) where
 
       pub not_passed : (e : Error) → LinkPasses rules s (Err e) m → ForwardsNext rules s (Err (Write e)) m
       not_passed e p = record {
-        goes = unasked (AskedFrom rules s.filter) (Err e) p;
+        goes = unasked (AskedFrom rules s.filter) 1 (Err e) p;
         once = unasked_once (Err e) p;
         flushes = inl p.passes.flushes;
-        asked = λ always. unflushed s.filter m.filter p.passes.told p.passes.flushes (Err (Write e));
         more = tt;
         received = longer s.filter m.filter p.passes.writes;
         ready = p.passes.ready;
@@ -197,7 +184,7 @@ module _ {T W : Type 0} (rules : FilterRules T W) where
 
       none_passed : (Such : Ask T → Type 0) → LinkPasses rules s (Ok false) m → SoFar rules Such 0 s m
       none_passed Such p = record {
-        goes = unasked Such (Ok false) p;
+        goes = unasked Such 0 (Ok false) p;
         once = unasked_once (Ok false) p;
         still = StaysOpen-none rules s.filter m.filter p.passes.told;
         forwarded = none_forwarded s.filter m.filter p.passes.answers.0;
@@ -226,27 +213,24 @@ module _ {T W : Type 0} (rules : FilterRules T W) where
                 ),
               )
             ];
-            asked = λ always. omega (arith, next.asked always, p.passes.flushes, ap (λ l. l.reads.asks) p.passes.told);
             more = more_after _ _ _ answer (lawful.taken_on s.filter m.filter [] p.passes.answers.0.takes) next.more;
             received = omega (arith, longer s.filter m.filter p.passes.writes, next.received);
             ready = next.ready;
             answers = answers_on Such 0 s m t before so answer next;
           }
 
-      flush_unasked : (Such : Ask T → Type 0) → (answer : Result (Unit {0}) Error) → LinkFlushes rules s answer m
-          → Goes rules Such s m
-      flush_unasked Such answer p =
-          Goes-unasked rules Such s m (record { told = p.flushes.told; writes = p.flushes.writes }) p.noted
+      flush_unasked : (answer : Result (Unit {0}) Error) → LinkFlushes rules s answer m → NotAsked rules s.filter m.filter
+      flush_unasked answer p = record { told = p.flushes.told; writes = p.flushes.writes }
 
       flush_once : (answer : Result (Unit {0}) Error) → LinkFlushes rules s answer m → AsksOnce rules s.filter m.filter
       flush_once answer p = AsksOnce-none rules s.filter m.filter p.flushes.told p.flushes.closed
 
       pub not_flushed : (e : Error) → LinkFlushes rules s (Err e) m → ForwardsNext rules s (Err (Write e)) m
       not_flushed e p = record {
-        goes = flush_unasked (AskedFrom rules s.filter) (Err e) p;
+        goes = Goes-unasked rules (AskedFrom rules s.filter) 1 s m (flush_unasked (Err e) p) p.noted
+            (once_more s.filter m.filter p.flushes.flushes);
         once = flush_once (Err e) p;
         flushes = p.flushes.flushes;
-        asked = λ always. omega (arith, once_more s.filter m.filter p.flushes.flushes, ap (λ l. l.reads.asks) p.flushes.told);
         more = tt;
         received = longer s.filter m.filter p.flushes.writes;
         ready = p.flushes.ready;
@@ -266,12 +250,12 @@ module _ {T W : Type 0} (rules : FilterRules T W) where
       moves : Moves rules s.filter [] [] t.filter
       moves = Moves-on rules lawful s.filter m.filter t.filter [] [] p.flushes.moves turn.moves
 
-      goes : Goes rules (AskedFrom rules s.filter) s t
-      goes = Goes-joins rules (AskedFrom rules s.filter) s m t (flush_unasked s m (AskedFrom rules s.filter) (Ok tt) p)
-          (Goes-weaker rules (AskedFrom rules m.filter) (AskedFrom rules s.filter)
+      goes : (more : ℕ) → Goes rules (AskedFrom rules s.filter) more s t
+      goes more = Goes-weaker rules (AskedFrom rules m.filter) (AskedFrom rules s.filter)
           (asked_after s.filter m.filter p.flushes.moves (flush_once s m (Ok tt) p)
-          (StaysOpen-none rules s.filter m.filter p.flushes.told)) m t
-          (Goes-turn rules (AskedFrom rules m.filter) m t turn.asks turn.noted turn.along turn.turn turn.each))
+          (StaysOpen-none rules s.filter m.filter p.flushes.told)) more s t
+          (Goes-turn rules (AskedFrom rules m.filter) more s m t (flush_unasked s m (Ok tt) p) p.noted
+          (once_more s.filter m.filter p.flushes.flushes) turn.told turn.asks turn.noted turn.along turn.turn turn.each)
 
       once : AsksOnce rules s.filter t.filter
       once = AsksOnce-joins rules s.filter m.filter t.filter (flush_once s m (Ok tt) p)
@@ -295,25 +279,15 @@ module _ {T W : Type 0} (rules : FilterRules T W) where
         )
       ]
 
-      flushed_then_asked : AlwaysAsks rules → PerAsk 0 s.filter t.filter
-      flushed_then_asked always = omega (
-        arith,
-        once_more s.filter m.filter p.flushes.flushes,
-        turn.asked always,
-        ap (λ l. l.writes.flushes) turn.told,
-        ap (λ l. l.reads.asks) p.flushes.told,
-      )
-
       received : length (rules.written s.filter).writes.received ≤ length (rules.written t.filter).writes.received
       received = omega (arith, longer s.filter m.filter p.flushes.writes, ap (λ l. length l.writes.received) turn.told)
 
       ended : (next : Result Bool (Cause W)) → OnTrue rules next (rules.taken s.filter < rules.taken t.filter)
           → NextAnswers rules 0 s.filter next t.filter → ForwardsNext rules s next t
       ended next more answers = record {
-        goes = goes;
+        goes = goes (flushed_next next);
         once = once;
         flushes = flushes;
-        asked = λ always. late s.filter t.filter (flushed_then_asked always) next;
         more = more;
         received = received;
         ready = turn.ready;
@@ -361,7 +335,7 @@ module _ {T W : Type 0} (rules : FilterRules T W) where
       module _ (turn : TakesTurn rules m (Ok true) t) where
         came : SoFar rules (AskedFrom rules s.filter) 0 s t
         came = record {
-          goes = goes s m t p (Ok true) turn;
+          goes = goes s m t p (Ok true) turn 0;
           once = once s m t p (Ok true) turn;
           still = StaysOpen-joins rules s.filter m.filter t.filter (StaysOpen-none rules s.filter m.filter p.flushes.told)
               turn.once turn.answers.2;
@@ -382,7 +356,6 @@ module _ {T W : Type 0} (rules : FilterRules T W) where
                 | inl same ↦ inl (unflushed ∙ same)
                 | inr one ↦ inr (unflushed ∙ one.0, omega (arith, one.1, next.received))
               ];
-              asked = λ always. omega (arith, flushed_then_asked s m t p (Ok true) turn always, next.asked always);
               more = more_after _ _ _ answer
                   (lawful.taken_on s.filter t.filter [] (moves s m t p (Ok true) turn).takes) next.more;
               received = omega (arith, received s m t p (Ok true) turn, next.received);

@@ -1,9 +1,9 @@
 -- How calls of a filter, and of a link, follow one another.
-use Rattle.std.proofs.Common.{◌≡◌, ℕ, inl, inr, List, [], ◌∷◌, ◌++◌, refl, sym, ap, subst, ◌∙◌, arith, append-nil, append_assoc, All, flat_map}
+use Rattle.std.proofs.Common.{◌≡◌, ℕ, ◌+◌, ◌≤◌, inl, inr, List, [], ◌∷◌, ◌++◌, refl, sym, ap, subst, ◌∙◌, arith, append-nil, append_assoc, length-append, All, flat_map}
 use Rattle.std.proofs.lemmas.Grind.{flat_map-append}
 use Rattle.std.proofs.lemmas.List.Elements.{All-append, All-cons, All-nil, All-weaker}
 use Rattle.forward.specs.Filter.{AsksOnce, FilterRules, IsLawful, Moves, StaysOpen}
-use Rattle.forward.specs.Link.{Ask, AreTurns, AsksAlong, Goes, IsTurn, Linked, NotAsked, ask_states, states_of}
+use Rattle.forward.specs.Link.{Ask, AreTurns, AsksAlong, Goes, IsAsk, IsTurn, Linked, NotAsked, ask_states, states_of}
 use Rattle.forward.specs.Prompt.{AsksGive}
 use Rattle.forward.specs.PromptLaws.{AsksGive-joins, AsksGive-none, WritesOn-none, WritesOn-joins}
 
@@ -76,8 +76,9 @@ module _ {T W : Type 0} (rules : FilterRules T W) where
   AsksAlong-joins a b c (ask ∷ asks) more first second =
       (first.0, first.1, AsksAlong-joins ask.after b c asks more first.2 second)
 
-  pub along_one : (s t : T) → rules.written t ≡ rules.written s → AsksAlong rules s (record { before = s; after = t } ∷ []) t
-  along_one s t told = (NotAsked-none s, told, NotAsked-none t)
+  pub along_one : (s t : T) → IsAsk rules (record { before = s; after = t })
+      → AsksAlong rules s (record { before = s; after = t } ∷ []) t
+  along_one s t is = (NotAsked-none s, is, NotAsked-none t)
 
   -- what is noted goes on
   pub noted_on : (s t u : List T) (asks more : List (Ask T)) → t ≡ s ++ states_of asks → u ≡ t ++ states_of more
@@ -86,17 +87,17 @@ module _ {T W : Type 0} (rules : FilterRules T W) where
       second ∙ ap (λ l. l ++ states_of more) first ∙ append_assoc s (states_of asks) (states_of more)
       ∙ ap (λ l. s ++ l) (sym (flat_map-append ask_states asks more))
 
-  turns_none : AreTurns rules []
+  abbrev turns_none : AreTurns rules []
   turns_none = record { turns = []; each = All-nil (IsTurn rules); equal = refl }
 
-  one_turn : (asks : List (Ask T)) → IsTurn rules asks → AreTurns rules asks
+  abbrev one_turn : (asks : List (Ask T)) → IsTurn rules asks → AreTurns rules asks
   one_turn asks turn = record {
     turns = asks ∷ [];
     each = All-cons (IsTurn rules) asks [] turn (All-nil (IsTurn rules));
     equal = sym (append-nil asks);
   }
 
-  turns_join : (asks more : List (Ask T)) → AreTurns rules asks → AreTurns rules more → AreTurns rules (asks ++ more)
+  abbrev turns_join : (asks more : List (Ask T)) → AreTurns rules asks → AreTurns rules more → AreTurns rules (asks ++ more)
   turns_join asks more first second = record {
     turns = first.turns ++ second.turns;
     each = All-append (IsTurn rules) first.turns second.turns first.each second.each;
@@ -107,39 +108,56 @@ module _ {T W : Type 0} (rules : FilterRules T W) where
 
   module _ (Such : Ask T → Type 0) where
     -- the stream was not asked
-    pub Goes-unasked : (s t : Linked T) → NotAsked rules s.filter t.filter → t.states ≡ s.states → Goes rules Such s t
-    Goes-unasked s t none same = record {
+    pub Goes-unasked : (more : ℕ) (s t : Linked T) → NotAsked rules s.filter t.filter → t.states ≡ s.states
+        → (rules.written t.filter).writes.flushes ≤ (rules.written s.filter).writes.flushes + more → Goes rules Such more s t
+    Goes-unasked more s t none same flushes = record {
       asks = [];
       noted = same ∙ sym (append-nil s.states);
       along = none;
       turns = turns_none;
       each = All-nil Such;
+      flushes = omega (arith, flushes);
     }
 
-    pub Goes-none : (s : Linked T) → Goes rules Such s s
-    Goes-none s = Goes-unasked s s (NotAsked-none s.filter) refl
+    pub Goes-none : (s : Linked T) → Goes rules Such 0 s s
+    Goes-none s = Goes-unasked 0 s s (NotAsked-none s.filter) refl (omega arith)
 
-    -- it was asked in one turn
-    pub Goes-turn : (s t : Linked T) (asks : List (Ask T)) → t.states ≡ s.states ++ states_of asks
-        → AsksAlong rules s.filter asks t.filter → IsTurn rules asks → All Such asks → Goes rules Such s t
-    Goes-turn s t asks noted along turn each =
-        record { asks = asks; noted = noted; along = along; turns = one_turn asks turn; each = each }
+    -- the writer was flushed at most, and then it was asked in one turn
+    pub Goes-turn : (more : ℕ) (s m t : Linked T) → NotAsked rules s.filter m.filter → m.states ≡ s.states
+        → (rules.written m.filter).writes.flushes ≤ (rules.written s.filter).writes.flushes + 1
+        → rules.written t.filter ≡ rules.written m.filter → (asks : List (Ask T)) → t.states ≡ m.states ++ states_of asks
+        → AsksAlong rules m.filter asks t.filter → IsTurn rules asks → All Such asks → Goes rules Such more s t
+    Goes-turn more s m t none same flushed told asks noted along turn each = record {
+      asks = asks;
+      noted = noted ∙ ap (λ l. l ++ states_of asks) same;
+      along = along_after s.filter m.filter t.filter asks none along;
+      turns = one_turn asks turn;
+      each = each;
+      flushes = omega (arith, flushed, ap (λ l. l.writes.flushes) told);
+    }
 
-    pub Goes-joins : (s t u : Linked T) → Goes rules Such s t → Goes rules Such t u → Goes rules Such s u
-    Goes-joins s t u first second = record {
+    pub Goes-joins : (more : ℕ) (s t u : Linked T) → Goes rules Such 0 s t → Goes rules Such more t u → Goes rules Such more s u
+    Goes-joins more s t u first second = record {
       asks = first.asks ++ second.asks;
       noted = noted_on s.states t.states u.states first.asks second.asks first.noted second.noted;
       along = AsksAlong-joins s.filter t.filter u.filter first.asks second.asks first.along second.along;
       turns = turns_join first.asks second.asks first.turns second.turns;
       each = All-append Such first.asks second.asks first.each second.each;
+      flushes = omega (
+        arith,
+        first.flushes,
+        second.flushes,
+        length-append first.turns.turns second.turns.turns,
+      );
     }
 
-    pub Goes-weaker : (Other : Ask T → Type 0) → ((ask : Ask T) → Such ask → Other ask) → (s t : Linked T)
-        → Goes rules Such s t → Goes rules Other s t
-    Goes-weaker Other so s t goes = record {
+    pub Goes-weaker : (Other : Ask T → Type 0) → ((ask : Ask T) → Such ask → Other ask) → (more : ℕ)
+        → (s t : Linked T) → Goes rules Such more s t → Goes rules Other more s t
+    Goes-weaker Other so more s t goes = record {
       asks = goes.asks;
       noted = goes.noted;
       along = goes.along;
       turns = goes.turns;
       each = All-weaker Such Other so goes.asks goes.each;
+      flushes = goes.flushes;
     }

@@ -4,7 +4,7 @@ use Rattle.std.proofs.lemmas.List.{append_cancel_left}
 use Rattle.std.proofs.lemmas.List.Elements.{All-nil, All-push}
 use Rattle.std.specs.declared.io.Error.{Error}
 use Rattle.redux_buffer.specs.Faults.{IsInterrupt, OnlyInterrupts, OnlyInterrupts-none}
-use Rattle.forward.specs.Filter.{AlwaysAsks, AsksOnce, FailedToRead, FilterRules, IsLawful, Moves, StaysOpen}
+use Rattle.forward.specs.Filter.{AsksOnce, FailedToRead, FilterRules, IsLawful, Moves, StaysOpen}
 use Rattle.forward.specs.Link.{Ask, AsksAlong, Gave, IsIdle, IsInterrupted, IsTurn, IsTurnBehind, LinkAsks, Linked, states_of}
 use Rattle.forward.specs.Steps.{AskedFrom, OnlyInterrupted, RowGoes, TakesTurn, TurnAnswers}
 use Rattle.forward.specs.StreamsLaws.{gave_up, one_more, only_more}
@@ -28,7 +28,6 @@ module _ {T W : Type 0} (rules : FilterRules T W) where
     pub once : AsksOnce rules s.filter t.filter
     pub still : StaysOpen rules s.filter t.filter
     pub met : OnlyInterrupted rules s.filter t.filter
-    pub asked : AlwaysAsks rules → (rules.read s.filter).reads.asks ≤ (rules.read t.filter).reads.asks
     pub often : length (rules.read s.filter).reads.faults + count ≤ length (rules.read t.filter).reads.faults
 
   module _ (lawful : IsLawful rules) (s : Linked T) where
@@ -47,7 +46,6 @@ module _ {T W : Type 0} (rules : FilterRules T W) where
       once = AsksOnce-none rules s.filter s.filter refl (λ closed. closed);
       still = StaysOpen-none rules s.filter s.filter refl;
       met = OnlyInterrupts-none (rules.read s.filter).reads.faults;
-      asked = λ always. omega arith;
       often = omega arith;
     }
 
@@ -64,7 +62,7 @@ module _ {T W : Type 0} (rules : FilterRules T W) where
 
       along : AsksAlong rules s.filter all u.filter
       along = AsksAlong-joins rules s.filter t.filter u.filter before.asks (last ∷ []) before.along
-          (along_one rules t.filter u.filter next.asks.told)
+          (along_one rules t.filter u.filter (record { asks = next.asks.asks; told = next.asks.told }))
 
       each : All (AskedFrom rules s.filter) all
       each = All-push (AskedFrom rules s.filter) before.asks last before.each (record {
@@ -81,9 +79,6 @@ module _ {T W : Type 0} (rules : FilterRules T W) where
 
       still : StaysOpen rules t.filter u.filter → StaysOpen rules s.filter u.filter
       still open' = StaysOpen-joins rules s.filter t.filter u.filter before.still next.asks.once open'
-
-      asked_on : AlwaysAsks rules → (rules.read s.filter).reads.asks < (rules.read u.filter).reads.asks
-      asked_on always = omega (arith, before.asked always, always t.filter u.filter next.asks.asks)
 
       moves : Moves rules s.filter [] [] u.filter
       moves = Moves-on rules lawful s.filter t.filter u.filter [] [] before.moves next.asks.moves
@@ -127,7 +122,6 @@ module _ {T W : Type 0} (rules : FilterRules T W) where
             once = once count t u before answer next;
             still = still count t u before answer next failed.2;
             met = only_more (rules.read s.filter).reads.faults old new e before.met failed.1 is;
-            asked = λ always. omega (arith, asked_on count t u before answer next always);
             often = omega (arith, before.often, few, one_more old new e failed.1);
           }
 
@@ -223,6 +217,5 @@ module _ {T W : Type 0} (rules : FilterRules T W) where
         moves = moves count t u before answer next;
         sent = next.asks.sent before.sent;
         once = once count t u before answer next;
-        asked = asked_on count t u before answer next;
         answers = answers answer next ends;
       }

@@ -127,10 +127,6 @@ module _ {T W : Type 0} (rules : FilterRules T W) where
     pub once : AsksOnce s t
     pub answers : AskAnswers s answer t
 
-  -- the stream is asked in each such call
-  abbrev pub AlwaysAsks : Type 0
-  AlwaysAsks = (s t : T) → rules.asks s t → (rules.read s).reads.asks < (rules.read t).reads.asks
-
   -- since the first state, what was due of all that was given before the last ask was received and flushed; or it wasn't asked
   abbrev pub AsksSent : T → T → T → Type 0
   AsksSent first s t =

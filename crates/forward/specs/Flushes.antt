@@ -1,5 +1,5 @@
 -- How often a writer is flushed: only where that sends something, or something is asked for.
-use Rattle.std.specs.Prelude.{ℕ, ◌+◌, ◌≤◌, length, Result, Ok, Err}
+use Rattle.std.specs.Prelude.{ℕ, ◌+◌, ◌≤◌, length}
 use Rattle.redux_buffer.specs.StreamLog.{StreamLog, WriteLog}
 
 -- each flush but so many came behind a byte that the writer had received since the one before
@@ -10,8 +10,3 @@ FlushesSend idle old new = new.flushes + length old.received ≤ old.flushes + l
 abbrev pub FlushesPerAsk : ℕ → StreamLog → StreamLog → StreamLog → StreamLog → Type 0
 FlushesPerAsk more read read' written written' =
     written'.writes.flushes + read.reads.asks ≤ written.writes.flushes + read'.reads.asks + more
-
--- how many flushes may come that no ask follows: one, where the call failed
-abbrev pub flushed_last : {A E : Type 0} → Result A E → ℕ
-flushed_last (Ok a) = 0
-flushed_last (Err e) = 1

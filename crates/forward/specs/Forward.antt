@@ -1,12 +1,23 @@
 -- What `forward` promises.
 use Rattle.std.specs.Prelude.{◌≡◌, ℕ, ◌+◌, ◌^◌, ◌≤◌, List, ◌++◌, length, Result, Ok, Err}
-use Rattle.forward.specs.Filter.{AlwaysAsks, FilterRules, Moves}
-use Rattle.forward.specs.Flushes.{FlushesPerAsk, FlushesSend, flushed_last}
+use Rattle.forward.specs.Filter.{FilterRules, Moves}
+use Rattle.forward.specs.Flushes.{FlushesSend}
 use Rattle.forward.specs.Link.{Goes, IsPrompt, Linked}
 use Rattle.forward.specs.Streams.{EndsOnce, MetNoFault, ReadFailed, SendFailed}
 use Rattle.forward.specs.declared.error.Cause.{Cause}
 use Rattle.forward.specs.declared.error.Cause.TheVariants.{Wrong, Read, Write, Count}
 use Rattle.forward.specs.declared.error.Stopped.{Stopped}
+
+-- how many flushes may come that no ask follows: one, where the writer failed
+abbrev pub flushed_last : {W : Type 0} → Cause W → ℕ
+flushed_last (Wrong why) = 0
+flushed_last (Read e) = 0
+flushed_last (Write e) = 1
+flushed_last Count = 0
+
+abbrev pub last_flush : {W : Type 0} → Result ℕ (Stopped W) → ℕ
+last_flush (Ok count) = 0
+last_flush (Err stopped) = flushed_last stopped.cause
 
 module _ {T W : Type 0} (rules : FilterRules T W) where
   -- neither stream failed
@@ -41,14 +52,11 @@ module _ {T W : Type 0} (rules : FilterRules T W) where
   ForwardAnswers s (Ok count) t = Forwarded count s t × rules.ends s (Ok tt) t × rules.sent t × NoneFailed s t
   ForwardAnswers s (Err stopped) t = StopsBy stopped.count s stopped.cause t
 
-  -- what `forward` does: in front of each ask all that was due was sent, an interrupted one is made again, the end is asked
-  -- for once, and each flush but one at most sent something; where the filter always asks its stream, there is an ask behind
-  -- each flush
+  -- what `forward` does: in front of each ask all that was due was sent, an interrupted one is made again, and the end is asked
+  -- for once. The writer is flushed once for each turn of asks at most, and each flush but one at most sent something
   pub record Forwards (s : Linked T) (answer : Result ℕ (Stopped W)) (t : Linked T) : Type 0 where
-    pub goes : Goes rules (IsPrompt rules s.filter) s t
+    pub goes : Goes rules (IsPrompt rules s.filter) (last_flush answer) s t
     pub once : EndsOnce (rules.read s.filter).reads (rules.read t.filter).reads
     pub flushes : FlushesSend 1 (rules.written s.filter).writes (rules.written t.filter).writes
-    pub asked : AlwaysAsks rules → FlushesPerAsk (flushed_last answer) (rules.read s.filter) (rules.read t.filter)
-        (rules.written s.filter) (rules.written t.filter)
     pub ready : rules.ready t.filter
     pub answers : ForwardAnswers s.filter answer t.filter

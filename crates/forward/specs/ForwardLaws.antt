@@ -1,10 +1,14 @@
--- What asks come to in front of each of which all that was due was sent.
-use Rattle.std.proofs.Common.{inl, inr, List, [], ◌∷◌, refl, sym, subst, All}
+-- What asks come to in front of each of which all that was due was sent, and what their turns.
+use Rattle.std.proofs.Common.{inl, inr, ℕ, ◌+◌, ◌<◌, ◌≤◌, List, [], ◌∷◌, length, refl, sym, ap, subst, arith, length-append, All, flat_map}
 use Rattle.std.proofs.lemmas.List.Elements.{All-head, All-tail}
 use Rattle.forward.specs.Filter.{FilterRules}
-use Rattle.forward.specs.Link.{Ask, AsksAlong, Goes, IsPrompt, Linked}
+use Rattle.forward.specs.Flushes.{FlushesPerAsk}
+use Rattle.forward.specs.Forward.{flushed_last}
+use Rattle.forward.specs.Link.{Ask, AsksAlong, Goes, IsPrompt, IsTurn, Linked}
 use Rattle.forward.specs.Prompt.{HoldsNothingBack}
 use Rattle.forward.specs.PromptLaws.{HoldsNothingBack-on, WritesOn-none}
+use Rattle.forward.specs.declared.error.Cause.{Cause}
+use Rattle.forward.specs.declared.error.Cause.TheVariants.{Wrong, Read, Write, Count}
 
 module _ {T W : Type 0} (rules : FilterRules T W) (first : T) where
   -- of the logs of both streams alone, at that state
@@ -19,7 +23,7 @@ module _ {T W : Type 0} (rules : FilterRules T W) (first : T) where
       let before = HoldsNothingBack-on (rules.due first) (rules.read first) (rules.read s) (rules.read ask.before)
       (rules.written first) (rules.written s) (rules.written ask.before) held along.0.told along.0.writes in
       let after : Holds ask.after = subst (HoldsNothingBack (rules.due first) (rules.read first) (rules.read ask.after)
-      (rules.written first)) (sym along.1) (elim (All-head (IsPrompt rules first) ask asks each) [
+      (rules.written first)) (sym along.1.told) (elim (All-head (IsPrompt rules first) ask asks each) [
         | inl same ↦ HoldsNothingBack-on (rules.due first) (rules.read first) (rules.read ask.before) (rules.read ask.after)
             (rules.written first) (rules.written ask.before) (rules.written ask.before) before same
             (WritesOn-none (rules.written ask.before).writes)
@@ -28,7 +32,54 @@ module _ {T W : Type 0} (rules : FilterRules T W) (first : T) where
       holds_along ask.after t asks after along.2 (All-tail (IsPrompt rules first) ask asks each)
 
 -- nothing was held back, as the logs of the two streams have it
-pub Goes-holds : {T W : Type 0} (rules : FilterRules T W) (s t : Linked T) → Goes rules (IsPrompt rules s.filter) s t
-    → HoldsNothingBack (rules.due s.filter) (rules.read s.filter) (rules.read t.filter) (rules.written s.filter)
+pub Goes-holds : {T W : Type 0} (rules : FilterRules T W) {more : ℕ} (s t : Linked T)
+    → Goes rules (IsPrompt rules s.filter) more s t → HoldsNothingBack (rules.due s.filter) (rules.read s.filter) (rules.read t.filter) (rules.written s.filter)
     (rules.written t.filter)
 Goes-holds rules s t goes = holds_along rules s.filter s.filter t.filter goes.asks (inl refl) goes.along goes.each
+
+module _ {T W : Type 0} (rules : FilterRules T W) where
+  -- the stream is asked in each ask of the filter's
+  abbrev pub AlwaysAsks : Type 0
+  AlwaysAsks = (s t : T) → rules.asks s t → (rules.read s).reads.asks < (rules.read t).reads.asks
+
+  asks_counted : AlwaysAsks → (s t : T) (asks : List (Ask T)) → AsksAlong rules s asks t
+      → (rules.read s).reads.asks + length asks ≤ (rules.read t).reads.asks
+  asks_counted always s t [] along = omega (arith, ap (λ l. l.reads.asks) along.told)
+  asks_counted always s t (ask ∷ asks) along = omega (
+    arith,
+    ap (λ l. l.reads.asks) along.0.told,
+    always ask.before ask.after along.1.asks,
+    asks_counted always ask.after t asks along.2,
+  )
+
+  -- a turn has an ask at least
+  some_asks : (turn : List (Ask T)) → IsTurn rules turn → 0 < length turn
+  some_asks [] is = absurd is
+  some_asks (ask ∷ more) is = omega arith
+
+  turns_counted : (turns : List (List (Ask T))) → All (IsTurn rules) turns → length turns ≤ length (flat_map (λ turn. turn) turns)
+  turns_counted [] each = omega arith
+  turns_counted (turn ∷ turns) each = omega (
+    arith,
+    some_asks turn (All-head (IsTurn rules) turn turns each),
+    turns_counted turns (All-tail (IsTurn rules) turn turns each),
+    length-append turn (flat_map (λ turn. turn) turns),
+  )
+
+  -- a flush for each turn is one for each ask of the stream, where that is asked in each
+  pub Goes-per_ask : {Such : Ask T → Type 0} {more : ℕ} (s t : Linked T) → Goes rules Such more s t → AlwaysAsks
+      → FlushesPerAsk more (rules.read s.filter) (rules.read t.filter) (rules.written s.filter) (rules.written t.filter)
+  Goes-per_ask s t goes always = omega (
+    arith,
+    goes.flushes,
+    asks_counted always s.filter t.filter goes.asks goes.along,
+    turns_counted goes.turns.turns goes.turns.each,
+    ap length goes.turns.equal,
+  )
+
+-- behind the last ask there is one flush at most
+pub one_flush : {W : Type 0} (cause : Cause W) → flushed_last cause ≤ 1
+one_flush (Wrong why) = omega arith
+one_flush (Read e) = omega arith
+one_flush (Write e) = omega arith
+one_flush Count = omega arith

@@ -1,5 +1,5 @@
 -- What contracts see of a link, and what its asks come to.
-use Rattle.std.specs.Prelude.{◌≡◌, ℕ, ◌+◌, ◌<◌, ◌⊎◌, List, [], ◌∷◌, ◌++◌, Bool, Result}
+use Rattle.std.specs.Prelude.{◌≡◌, ℕ, ◌+◌, ◌<◌, ◌≤◌, ◌⊎◌, List, [], ◌∷◌, ◌++◌, length, Bool, Result}
 use Rattle.std.specs.List.{All, flat_map}
 use Rattle.std.specs.declared.io.Error.{Error}
 use Rattle.redux_buffer.specs.Faults.{IsInterrupt}
@@ -33,11 +33,15 @@ module _ {T W : Type 0} (rules : FilterRules T W) where
     pub told : rules.read t ≡ rules.read s
     pub writes : WritesOn (rules.written s).writes (rules.written t).writes
 
-  -- these are all asks, in order, and nothing was written in one
+  -- it was, and nothing was written
+  pub record IsAsk (ask : Ask T) : Type 0 where
+    pub asks : rules.asks ask.before ask.after
+    pub told : rules.written ask.after ≡ rules.written ask.before
+
+  -- these are all asks, in order
   abbrev pub AsksAlong : T → List (Ask T) → T → Type 0
   AsksAlong s [] t = NotAsked s t
-  AsksAlong s (ask ∷ asks) t =
-      NotAsked s ask.before × (rules.written ask.after ≡ rules.written ask.before) × AsksAlong ask.after asks t
+  AsksAlong s (ask ∷ asks) t = NotAsked s ask.before × IsAsk ask × AsksAlong ask.after asks t
 
   -- this one was interrupted
   pub record IsInterrupted (ask : Ask T) : Type 0 where
@@ -70,13 +74,16 @@ module _ {T W : Type 0} (rules : FilterRules T W) where
     pub each : All IsTurn turns
     pub equal : asks ≡ flat_map (λ turn. turn) turns
 
-  -- what calls do to a link: each ask that was made is noted, and is such a one
-  pub record Goes (Such : Ask T → Type 0) (s t : Linked T) : Type 0 where
+  -- what calls do to a link: each ask that was made is noted, and is such a one; and the writer was flushed once for each turn of
+  -- them at most, and so many times more
+  pub record Goes (Such : Ask T → Type 0) (more : ℕ) (s t : Linked T) : Type 0 where
     pub asks : List (Ask T)
     pub noted : t.states ≡ s.states ++ states_of asks
     pub along : AsksAlong s.filter asks t.filter
     pub turns : AreTurns asks
     pub each : All Such asks
+    pub flushes : (rules.written t.filter).writes.flushes
+        ≤ (rules.written s.filter).writes.flushes + length turns.turns + more
 
   -- an ask in front of which all that was due was sent, since the first state
   abbrev pub IsPrompt : T → Ask T → Type 0

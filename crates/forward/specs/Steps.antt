@@ -3,9 +3,8 @@ use Rattle.std.specs.Prelude.{◌≡◌, ℕ, ◌+◌, ◌<◌, ◌≤◌, List,
 use Rattle.std.specs.List.{All}
 use Rattle.std.specs.declared.io.Error.{Error}
 use Rattle.redux_buffer.specs.Faults.{IsInterrupt, OnlyInterrupts}
-use Rattle.forward.specs.Filter.{AlwaysAsks, AsksOnce, FilterRules, FlushesOnce, Moves, StaysOpen}
-use Rattle.forward.specs.Flushes.{FlushesPerAsk, flushed_last}
-use Rattle.forward.specs.Forward.{Forwarded, NoneFailed, StopsBy}
+use Rattle.forward.specs.Filter.{AsksOnce, FilterRules, FlushesOnce, Moves, StaysOpen}
+use Rattle.forward.specs.Forward.{Forwarded, NoneFailed, StopsBy, flushed_last}
 use Rattle.forward.specs.Link.{Ask, AsksAlong, Goes, IsTurn, Linked, states_of}
 use Rattle.forward.specs.Streams.{ReadGaveUp}
 use Rattle.forward.specs.declared.error.AskError.{AskError}
@@ -20,6 +19,11 @@ RowGoes (Err (Io e)) row None = IsInterrupt e → 64 ≤ row
 RowGoes (Err (Io e)) row (Some next) = IsInterrupt e × (row < 64) × (next ≡ row + 1)
 RowGoes (Err (IoBehind e)) row None = ¬ IsInterrupt e
 RowGoes (Err (IoBehind e)) row (Some next) = IsInterrupt e × (next ≡ 1)
+
+-- how many flushes may come that no ask follows, where the next payload's answer is this
+abbrev pub flushed_next : {W : Type 0} → Result Bool (Cause W) → ℕ
+flushed_next (Ok more) = 0
+flushed_next (Err cause) = flushed_last cause
 
 module _ {T W : Type 0} (rules : FilterRules T W) where
   -- since this state nothing more went over before the ask, nothing was there to hand out, and all was sent
@@ -58,7 +62,6 @@ module _ {T W : Type 0} (rules : FilterRules T W) where
     pub moves : Moves rules s.filter [] [] t.filter
     pub sent : rules.sent t.filter
     pub once : AsksOnce rules s.filter t.filter
-    pub asked : AlwaysAsks rules → (rules.read s.filter).reads.asks < (rules.read t.filter).reads.asks
     pub answers : TurnAnswers s.filter answer t.filter
 
   -- what the next payload's answer says, behind so many that went over
@@ -75,11 +78,9 @@ module _ {T W : Type 0} (rules : FilterRules T W) where
 
   -- what is done for one payload
   pub record ForwardsNext (s : Linked T) (answer : Result Bool (Cause W)) (t : Linked T) : Type 0 where
-    pub goes : Goes rules (AskedFrom s.filter) s t
+    pub goes : Goes rules (AskedFrom s.filter) (flushed_next answer) s t
     pub once : AsksOnce rules s.filter t.filter
     pub flushes : FlushesOnce rules s.filter t.filter
-    pub asked : AlwaysAsks rules → FlushesPerAsk (flushed_last answer) (rules.read s.filter) (rules.read t.filter)
-        (rules.written s.filter) (rules.written t.filter)
     pub more : OnTrue answer (rules.taken s.filter < rules.taken t.filter)
     pub received : length (rules.written s.filter).writes.received ≤ length (rules.written t.filter).writes.received
     pub ready : rules.ready t.filter

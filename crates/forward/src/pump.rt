@@ -12,8 +12,9 @@ use std::io::ErrorKind;
 /// Forwards each payload, in order, until the stream that is read from ends, and returns how many those were.
 ///
 /// Nothing is held back: before the stream is asked, all that was taken in is sent and flushed. An ask that was interrupted is made
-/// again, 64 times in a row, which begins anew where bytes came in one. An `Err` says which side stopped, and why, and how many
-/// payloads went over: where that isn't a fault of the writer, all of these were sent and flushed.
+/// again, 64 times in a row, which begins anew where bytes came in one; for all of these the writer is flushed once at most. An
+/// `Err` says which side stopped, and why, and how many payloads went over: where what came was wrong, or a read failed, all of
+/// these were sent and flushed.
 pub fn forward<F: Filter>(link: &mut Link<F>) -> Result<u64, Stopped<F::Wrong>>
     requires ready { F.rules.ready link.old.filter }
     requires fresh { F.rules.fresh link.old.filter }

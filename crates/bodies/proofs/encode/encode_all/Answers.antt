@@ -1,5 +1,5 @@
-use Rattle.std.proofs.Common.{Err, refl, subst, sym}
-use Rattle.forward.specs.ForwardLaws.{Goes-holds}
+use Rattle.std.proofs.Common.{Err, refl, subst, sym, arith}
+use Rattle.forward.specs.ForwardLaws.{Goes-holds, Goes-per_ask, one_flush}
 use Rattle.forward.specs.Link.{linked}
 use Rattle.programs.specs.PromptLaws.{HoldsNothingBack-on}
 use Rattle.bodies.specs.Encode.{EncodeRan, IsDue}
@@ -41,3 +41,20 @@ returns-in-Err-clause-prompt g c =
     let over = rw (c.new-link.ensures, c.new.ensures.begun) at c.in-Err.ensures in
     rw (c.into_inner.ensures, c.into_inner-source.ensures)
     (Goes-holds rules (linked (start c.args.source c.args.target)) c.forward-answer.new.link over.goes)
+
+pub returns-in-Ok-clause-per_ask : goal.returns-in-Ok-clause-per_ask
+returns-in-Ok-clause-per_ask g c =
+    let rules = encoding_rules g.R.TellRead.remaining g.W.TellWrite.stretch in
+    let over = rw (c.new-link.ensures, c.new.ensures.begun) at c.in-Ok.ensures in
+    let end = rw c.into_inner-source.ensures at c.end-answer.ensures in
+    let before = Goes-per_ask rules (linked (start c.args.source c.args.target)) c.forward-answer.new.link over.goes
+    (λ s t once. omega (arith, once.asks)) in
+    rw c.into_inner-source.ensures (omega (arith, before, end.once))
+
+pub returns-in-Err-clause-per_ask : goal.returns-in-Err-clause-per_ask
+returns-in-Err-clause-per_ask g c =
+    let rules = encoding_rules g.R.TellRead.remaining g.W.TellWrite.stretch in
+    let over = rw (c.new-link.ensures, c.new.ensures.begun) at c.in-Err.ensures in
+    let before = Goes-per_ask rules (linked (start c.args.source c.args.target)) c.forward-answer.new.link over.goes
+    (λ s t once. omega (arith, once.asks)) in
+    rw (c.into_inner.ensures, c.into_inner-source.ensures) (omega (arith, before, one_flush c.in-Err.stopped.cause))

@@ -1,7 +1,11 @@
 use Rattle.std.proofs.Common.{Ok, Err, subst}
 use Rattle.forward.specs.Steps.{TakesTurn}
-use Rattle.forward.proofs.Forwarding.{came_not_passed, came_passed, no_more, none_read, some_read, wrong_next}
+use Rattle.forward.proofs.Forwarding.{came_not_passed, came_passed, no_more, none_read, not_flushed, some_read, wrong_next}
 use Rattle.forward.proofs.pump.forward_asked.Goals as goal
+
+pub returns-in-Err : goal.returns-in-Err
+returns-in-Err g c =
+    not_flushed g.F.Filter.rules g.met.F.Filter.lawful c.args.link.now c.flush.new.self c.in-Err.e c.in-Err.ensures
 
 pub returns-in-Ok : goal.returns-in-Ok
 returns-in-Ok g c =

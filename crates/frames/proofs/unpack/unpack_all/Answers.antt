@@ -1,5 +1,5 @@
 use Rattle.std.proofs.Common.{Err, None, Ok, refl, subst, sym}
-use Rattle.forward.specs.Forward.{ForwardAnswers, Forwards, StopsBy}
+use Rattle.forward.specs.Forward.{ForwardAnswers, Forwards, StopsBy, last_flush}
 use Rattle.forward.specs.ForwardLaws.{Goes-holds}
 use Rattle.forward.specs.Link.{Goes, IsPrompt}
 use Rattle.programs.specs.Prompt.{HoldsNothingBack}
@@ -34,7 +34,7 @@ pub returns-in-Ok-clause-prompt : goal.returns-in-Ok-clause-prompt
 returns-in-Ok-clause-prompt g c =
     let rules = unpacking_rules {W = g.row.W.Denot} g.R.TellRead.remaining in
     let t = c.forward-answer.new.link in
-    let goes = subst (λ k. Goes rules (IsPrompt rules k.filter) k t) c.new-link.ensures c.forward-answer.ensures.goes in
+    let goes = subst (λ k. Goes rules (IsPrompt rules k.filter) (last_flush c.forward-answer.result) k t) c.new-link.ensures c.forward-answer.ensures.goes in
     subst (λ x. HoldsNothingBack (IsDue c.args.source.max) c.args.source.reader.log x.source.reader.log c.args.target.log
     x.target.log) (sym c.into_inner-source.ensures) (Goes-holds rules _ t goes)
 
@@ -42,6 +42,6 @@ pub returns-in-Err-clause-prompt : goal.returns-in-Err-clause-prompt
 returns-in-Err-clause-prompt g c =
     let rules = unpacking_rules {W = g.row.W.Denot} g.R.TellRead.remaining in
     let t = c.forward-answer.new.link in
-    let goes = subst (λ k. Goes rules (IsPrompt rules k.filter) k t) c.new-link.ensures c.forward-answer.ensures.goes in
+    let goes = subst (λ k. Goes rules (IsPrompt rules k.filter) (last_flush c.forward-answer.result) k t) c.new-link.ensures c.forward-answer.ensures.goes in
     subst (λ x. HoldsNothingBack (IsDue c.args.source.max) c.args.source.reader.log x.source.reader.log c.args.target.log
     x.target.log) (sym c.into_inner-source.ensures) (Goes-holds rules _ t goes)
