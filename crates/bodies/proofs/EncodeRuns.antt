@@ -1,11 +1,11 @@
 -- What a whole run of `encode` comes to.
-use Rattle.std.proofs.Common.{◌≡◌, ℕ, ◌+◌, ◌<◌, ◌⊎◌, inl, inr, List, [], ◌++◌, length, length-append, Option, Result, Ok, Err, refl, sym, ap, subst, ◌∙◌, arith, append_assoc, append-nil}
+use Rattle.std.proofs.Common.{◌≡◌, ℕ, ◌+◌, ◌<◌, inl, inr, List, [], ◌++◌, length, length-append, Option, Result, Ok, Err, refl, sym, ap, subst, ◌∙◌, arith, append_assoc, append-nil}
 use Rattle.std.proofs.lemmas.Grind.{flat_map-append}
 use Rattle.std.proofs.lemmas.List.Elements.{All-weaker}
 use Rattle.std.specs.declared.io.Error.{Error}
 use Rattle.buffer_redux.specs.BufWriter.{WritesInOrder}
 use Rattle.buffer_redux.specs.Buffered.{Buffered}
-use Rattle.buffer_redux.specs.Faults.{OnlyInterrupts-none, SendErrorCaused}
+use Rattle.buffer_redux.specs.Faults.{OnlyInterrupts-none}
 use Rattle.buffer_redux.specs.ReaderLaws.{ReadsInOrder-fresh}
 use Rattle.buffer_redux.specs.StreamLog.{StreamLog}
 use Rattle.buffer_redux.specs.WriterLaws.{WritesInOrder-joins, WritesInOrder-none}
@@ -20,13 +20,12 @@ use Rattle.forward.specs.Filter.{FilterRules, Moves}
 use Rattle.forward.specs.Forward.{Forwarded, NoneFailed, StopsBy}
 use Rattle.forward.specs.declared.error.Cause.{Cause}
 use Rattle.forward.specs.declared.error.Cause.TheVariants as cause
-use Rattle.programs.specs.Streams.{AllSent, BufferRefused, SendFailed}
+use Rattle.programs.specs.Streams.{AllSent, BufferRefused}
 use Rattle.programs.specs.StreamsLaws.{MetNoFault-joins, SendFailed-after}
-use Rattle.bodies.specs.Decode.{Sent}
-use Rattle.bodies.specs.Encode.{EncodedFirst, EncodedPart, EncodeRan, EndsBody, IsCut, IsUnended, IsUnflushed, IsWritten}
+use Rattle.bodies.specs.Encode.{EncodeRan, Encodes, EndsBody, IsCut, IsUnended, IsUnflushed, IsWritten, Moved, MovedAll}
 use Rattle.bodies.specs.Encoding.{encoding_rules}
 use Rattle.bodies.specs.Filters.{IsErrorOf, joined}
-use Rattle.bodies.specs.FiltersLaws.{each_some, received_all}
+use Rattle.bodies.specs.FiltersLaws.{each_some}
 use Rattle.bodies.specs.declared.encoding.Encoding.{Encoding}
 use Rattle.bodies.specs.declared.error.RunError.{RunError}
 use Rattle.bodies.specs.declared.error.RunError.TheVariants.{NotChunked, Truncated, Behind, Read, Write, Io}
@@ -52,14 +51,19 @@ cut_short sent behind payload whole some limits body payload' more is begins =
 written : (bytes payload : List ℕ) → IsChunks bytes payload → IsWritten (bytes ++ body_end []) payload
 written bytes payload is limits line = IsChunks-body limits line [] tt (omega arith) bytes payload is
 
-chunks_cut : (sent unsent payload : List ℕ) → IsChunks (sent ++ unsent) payload → IsCut sent
-chunks_cut sent unsent payload is = cut_short sent (unsent ++ body_end []) payload
-    (subst (λ l. IsBody least l payload) (append_assoc sent unsent (body_end []))
-    (written (sent ++ unsent) payload is least (omega arith)))
-    (omega (arith, length-append unsent (body_end [])))
+module _ {read read' written' written'' : StreamLog} (m : Moved read read' written' written'') where
+  unended : IsChunks (m.sent ++ m.unsent) m.payload → IsUnended m
+  unended is = record {
+    chunks = is;
+    cut = cut_short m.sent (m.unsent ++ body_end []) m.payload
+        (subst (λ l. IsBody least l m.payload) (append_assoc m.sent m.unsent (body_end []))
+        (written (m.sent ++ m.unsent) m.payload is least (omega arith)))
+        (omega (arith, length-append m.unsent (body_end [])));
+  }
 
-unended : (sent unsent payload : List ℕ) → IsChunks (sent ++ unsent) payload → IsUnended payload sent unsent
-unended sent unsent payload is = record { chunks = is; cut = chunks_cut sent unsent payload is }
+  unflushed : IsWritten (m.sent ++ m.unsent) m.payload → m.rest ≡ [] → IsUnflushed m
+  unflushed is left =
+      record { is_body = is; cut = cut_short m.sent m.unsent m.payload (is least (omega arith)); all = left }
 
 -- a filter before a body
 abbrev pub start : {R W : Type 0} → Buffered R StdPolicy → Buffered W StdPolicy → Encoding R W
@@ -74,104 +78,76 @@ module _ {R W : Type 0} (remaining : R → Option (List ℕ)) (stretch : W → W
   abbrev begin : Encoding R W
   begin = start first u
 
-  -- these payloads went over, and some may be lost
-  module _ (p lost handed : List (List ℕ)) (all : handed ≡ p ++ lost) (moves : Moves rules begin handed p t) where
+  -- these payloads went over, and some may be lost; and these bytes were taken in behind their chunks
+  module _ (p lost : List (List ℕ)) (moves : Moves rules begin (p ++ lost) p t) (end : List ℕ) (v : Buffered W StdPolicy)
+      (taken : WritesInOrder t.target.writer end v) where
+    order : WritesInOrder u (chunks p ++ end) v
+    order = WritesInOrder-joins u t.target.writer v (chunks p) end moves.takes.in_order taken
+
+    abbrev moved : Moved first.log t.source.log u.log v.log
+    moved = record {
+      payload = joined p;
+      rest = joined lost ++ t.source.block.bytes;
+      given = ReadsInOrder-fresh first t.source (joined (p ++ lost)) none moves.hands.in_order
+          ∙ ap (λ l. first.log.reads.given ++ (l ++ t.source.block.bytes)) (flat_map-append (λ x. x) p lost)
+          ∙ ap (λ l. first.log.reads.given ++ l) (append_assoc (joined p) (joined lost) t.source.block.bytes);
+      sent = order.sent;
+      unsent = v.block.bytes;
+      received = order.received;
+    }
+
+    part : order.sent ++ v.block.bytes ≡ chunks p ++ end
+    part = order.equal ∙ ap (λ l. l ++ (chunks p ++ end)) none'
+
     is_chunks : IsChunks (chunks p) (joined p)
     is_chunks = record { payloads = p; carried = moves.takes.carried; equal = refl; joined = refl }
 
-    given : t.source.log.reads.given ≡ first.log.reads.given ++ (joined p ++ (joined lost ++ t.source.block.bytes))
-    given = ReadsInOrder-fresh first t.source (joined handed) none moves.hands.in_order
-        ∙ ap (λ l. first.log.reads.given ++ (l ++ t.source.block.bytes))
-        (ap (λ l. joined l) all ∙ flat_map-append (λ x. x) p lost)
-        ∙ ap (λ l. first.log.reads.given ++ l) (append_assoc (joined p) (joined lost) t.source.block.bytes)
+    -- the body's end wasn't taken in, or was
+    not_ended : end ≡ [] → IsUnended moved
+    not_ended nothing =
+        unended moved (subst (λ l. IsChunks l (joined p))
+        (sym (part ∙ ap (λ l. chunks p ++ l) nothing ∙ append-nil (chunks p))) is_chunks)
 
-    -- these were taken in behind their chunks
-    module _ (end : List ℕ) (v : Buffered W StdPolicy) (taken : WritesInOrder t.target.writer end v) where
-      order : WritesInOrder u (chunks p ++ end) v
-      order = WritesInOrder-joins u t.target.writer v (chunks p) end moves.takes.in_order taken
-
-      part : order.sent ++ v.block.bytes ≡ chunks p ++ end
-      part = order.equal ∙ ap (λ l. l ++ (chunks p ++ end)) none'
-
-      first_of : (IsUnended (joined p) order.sent v.block.bytes
-          ⊎ IsUnflushed (joined p) (joined lost ++ t.source.block.bytes) order.sent v.block.bytes)
-          → EncodedFirst first.log t.source.log u.log v.log
-      first_of beginning = record {
-        payload = joined p;
-        rest = joined lost ++ t.source.block.bytes;
-        given = given;
-        sent = order.sent;
-        unsent = v.block.bytes;
-        received = order.received;
-        beginning = beginning;
-      }
-
-      -- the body's end wasn't
-      not_ended : end ≡ [] → EncodedFirst first.log t.source.log u.log v.log
-      not_ended nothing = first_of (inl (unended order.sent v.block.bytes (joined p)
-          (subst (λ l. IsChunks l (joined p)) (sym (part ∙ ap (λ l. chunks p ++ l) nothing ∙ append-nil (chunks p))) is_chunks)))
-
-      -- or was, where nothing is left to be read
-      ended_first : end ≡ body_end [] → joined lost ++ t.source.block.bytes ≡ [] → EncodedFirst first.log t.source.log u.log v.log
-      ended_first all left =
-          let whole : IsWritten (order.sent ++ v.block.bytes) (joined p) =
-          subst (λ l. IsWritten l (joined p)) (sym (part ∙ ap (λ l. chunks p ++ l) all))
-          (written (chunks p) (joined p) is_chunks) in
-          first_of (inr (record {
-            is_body = whole;
-            cut = cut_short order.sent v.block.bytes (joined p) (whole least (omega arith));
-            all = left;
-          }))
-
-  not_sent : (p lost handed : List (List ℕ)) → handed ≡ p ++ lost → Moves rules begin handed p t
-      → EncodedFirst first.log t.source.log u.log t.target.writer.log
-  not_sent p lost handed all moves =
-      not_ended p lost handed all moves [] t.target.writer (WritesInOrder-none t.target.writer) refl
+    is_written : end ≡ body_end [] → IsWritten (order.sent ++ v.block.bytes) (joined p)
+    is_written all = subst (λ l. IsWritten l (joined p)) (sym (part ∙ ap (λ l. chunks p ++ l) all))
+        (written (chunks p) (joined p) is_chunks)
 
   -- all that was handed out went over
   module _ (count : ℕ) (over : Forwarded rules count begin t) where
-    abbrev payloads : List (List ℕ)
-    payloads = over.payloads
+    abbrev none_lost : Moves rules begin (over.payloads ++ []) over.payloads t
+    none_lost = subst (λ l. Moves rules begin l over.payloads t) (sym (append-nil over.payloads)) over.moves
 
-    none_lost : payloads ≡ payloads ++ []
-    none_lost = sym (append-nil payloads)
+    abbrev moved_over : (end : List ℕ) (v : Buffered W StdPolicy) → WritesInOrder t.target.writer end v
+        → Moved first.log t.source.log u.log v.log
+    moved_over = moved over.payloads [] none_lost
 
-    sent_part : (bytes : List ℕ) (v : Buffered W StdPolicy) → WritesInOrder u bytes v → AllSent v → t.source.block.bytes ≡ []
-        → Sent first.log t.source.log u.log v.log (joined payloads) bytes []
-    sent_part bytes v taken sent left = record {
-      given = given payloads [] payloads none_lost over.moves ∙ ap (λ l. first.log.reads.given ++ (joined payloads ++ l)) left;
-      received = received_all u v bytes none' taken sent;
-      flushed = sent.flushed;
-    }
+    abbrev moved_all : (end : List ℕ) (v : Buffered W StdPolicy) → WritesInOrder t.target.writer end v → t.source.block.bytes ≡ []
+        → AllSent v → MovedAll first.log t.source.log u.log v.log
+    moved_all end v taken left sent =
+        record { moved = moved_over end v taken; all = left; none_left = sent.empty; flushed = sent.flushed }
 
     -- and so did the end of the body, or not
     module _ (left : t.source.block.bytes ≡ []) (met : NoneFailed rules begin t) (v : Buffered W StdPolicy) where
-      sending_failed : (e : Error) → SendErrorCaused t.target.writer.log.writes v.log.writes e
-          → SendFailed e first.log t.source.log u.log v.log
-      sending_failed e caused = SendFailed-after e first.log t.source.log t.source.log u.log t.target.writer.log v.log met
-          (record { reader = OnlyInterrupts-none t.source.log.reads.faults; writer = caused })
-
       pub ended : t.source.log.reads.zero_reads ≡ first.log.reads.zero_reads + 1 → (answer : Result (Unit {0}) RunError)
           → EndsBody t.target.writer answer v → EncodeRan first.log t.source.log u.log v.log answer
       ended once (Ok _) end = (
-        record {
-          payload = joined payloads;
-          body = chunks payloads ++ end.end;
-          is_body = subst (λ l. IsWritten (chunks payloads ++ l) (joined payloads)) (sym end.answers.0)
-              (written (chunks payloads) (joined payloads) (is_chunks payloads [] payloads none_lost over.moves));
-          sent = sent_part (chunks payloads ++ end.end) v
-              (order payloads [] payloads none_lost over.moves end.end v end.taken) end.answers.1 left;
-          ended = once;
-        },
+        moved_all end.end v end.taken left end.answers.1,
+        (let sent = (order over.payloads [] none_lost end.end v end.taken).sent in
+            subst (λ l. IsWritten l (joined over.payloads)) (ap (λ l. sent ++ l) end.answers.1.empty ∙ append-nil sent)
+            (is_written over.payloads [] none_lost end.end v end.taken end.answers.0)),
+        once,
         MetNoFault-joins first.log t.source.log t.source.log u.log t.target.writer.log v.log met
             (record { reader = OnlyInterrupts-none t.source.log.reads.faults; writer = end.answers.2 }),
       )
       ended once (Err (Write e)) end = (
+        moved_over end.end v end.taken,
         elim end.answers.0 [
-          | inl all ↦ ended_first payloads [] payloads none_lost over.moves end.end v end.taken all left
-          | inr nothing ↦ not_ended payloads [] payloads none_lost over.moves end.end v end.taken nothing
+          | inl all ↦ inr (unflushed (moved_over end.end v end.taken)
+              (is_written over.payloads [] none_lost end.end v end.taken all) left)
+          | inr nothing ↦ inl (not_ended over.payloads [] none_lost end.end v end.taken nothing)
         ],
-        sending_failed e end.answers.1,
+        SendFailed-after e first.log t.source.log t.source.log u.log t.target.writer.log v.log met
+            (record { reader = OnlyInterrupts-none t.source.log.reads.faults; writer = end.answers.1 }),
       )
       ended once (Err (NotChunked why right)) end = absurd end.answers
       ended once (Err (Truncated right)) end = absurd end.answers
@@ -179,59 +155,61 @@ module _ {R W : Type 0} (remaining : R → Option (List ℕ)) (stretch : W → W
       ended once (Err (Read e)) end = absurd end.answers
       ended once (Err (Io e)) end = absurd end.answers
 
-    read_failed : t.source.block.bytes ≡ [] → AllSent t.target.writer
-        → EncodedPart first.log t.source.log u.log t.target.writer.log
-    read_failed left sent =
-        let is = is_chunks payloads [] payloads none_lost over.moves in
-        record {
-          payload = joined payloads;
-          bytes = chunks payloads;
-          chunks = is;
-          cut = chunks_cut (chunks payloads) [] (joined payloads)
-              (subst (λ l. IsChunks l (joined payloads)) (sym (append-nil (chunks payloads))) is);
-          sent = sent_part (chunks payloads) t.target.writer over.moves.takes.in_order sent left;
-        }
+  -- it was stopped, and no end was taken in
+  abbrev still : WritesInOrder t.target.writer [] t.target.writer
+  still = WritesInOrder-none t.target.writer
 
-  -- it was stopped
-  pub stopped : (count : ℕ) (why : Cause RunError) (e : RunError) → StopsBy rules count begin why t → IsErrorOf why e
-      → EncodeRan first.log t.source.log u.log t.target.writer.log (Err e)
-  unfolding not_sent not_ended first_of
-  stopped count (cause.Wrong why) e p is = absurd p.1
-  stopped count (cause.Read fault) e p is =
-      subst (λ x. EncodeRan first.log t.source.log u.log t.target.writer.log (Err x)) (sym is)
-      (read_failed count p.0 p.1 p.2, p.3)
-  stopped count (cause.Write fault) e p is =
-      subst (λ x. EncodeRan first.log t.source.log u.log t.target.writer.log (Err x)) (sym is)
-      (not_sent p.0.payloads p.0.lost (p.0.payloads ++ p.0.lost) refl p.0.moves, p.1)
-  stopped count cause.Count e p is =
-      let over = p.0 in
-      subst (λ x. EncodeRan first.log t.source.log u.log t.target.writer.log (Err x)) (sym is.2) (
-        not_sent over.payloads [] over.payloads (none_lost count over) over.moves,
-        inl (record {
-          other = is.1;
-          large = omega (
-            arith,
-            p.1,
-            over.all,
-            each_some over.payloads (All-weaker IsCarried (λ l. 0 < length l) (λ l carried. carried.0) over.payloads
-                over.moves.takes.carried),
-          );
-          met = p.2;
-        }),
-      )
+  abbrev Ran : RunError → Type 0
+  Ran e = EncodeRan first.log t.source.log u.log t.target.writer.log (Err e)
+
+  pub stopped : (count : ℕ) (why : Cause RunError) (e : RunError) → StopsBy rules count begin why t → IsErrorOf why e → Ran e
+  stopped count (cause.Wrong why) e (over, wrong, sent, met) is = absurd wrong
+  stopped count (cause.Read fault) e (over, left, sent, failed) is = subst Ran (sym is) (
+    moved_all count over [] t.target.writer still left sent,
+    not_ended over.payloads [] (none_lost count over) [] t.target.writer still refl,
+    failed,
+  )
+  stopped count (cause.Write fault) e (p, failed) is = subst Ran (sym is) (
+    moved p.payloads p.lost p.moves [] t.target.writer still,
+    inl (not_ended p.payloads p.lost p.moves [] t.target.writer still refl),
+    failed,
+  )
+  stopped count cause.Count e (over, large, met) is = subst Ran (sym is.2) (
+    moved_over count over [] t.target.writer still,
+    inl (not_ended over.payloads [] (none_lost count over) [] t.target.writer still refl),
+    inl (record {
+      other = is.1;
+      large = omega (
+        arith,
+        large,
+        over.all,
+        each_some over.payloads (All-weaker IsCarried (λ l. 0 < length l) (λ l carried. carried.0) over.payloads
+            over.moves.takes.carried),
+      );
+      met = met;
+    }),
+  )
 
 -- a buffer was refused
 pub refused : (read read' written written' : StreamLog) (e : Error) → BufferRefused e read read' written written'
-    → EncodeRan read read' written written' (Err (Io e))
-refused read read' written written' e p = (
-  record {
-    payload = [];
-    rest = [];
-    given = ap (λ l. l.reads.given) p.read_same ∙ sym (append-nil read.reads.given);
-    sent = [];
-    unsent = [];
-    received = ap (λ l. l.writes.received) p.written_same ∙ sym (append-nil written.writes.received);
-    beginning = inl (unended [] [] [] IsChunks-none);
-  },
-  inr p,
-)
+    → Encodes read read' written written' (Err (Io e))
+refused read read' written written' e p =
+    let moved : Moved read read' written written' = record {
+      payload = [];
+      rest = [];
+      given = ap (λ l. l.reads.given) p.read_same ∙ sym (append-nil read.reads.given);
+      sent = [];
+      unsent = [];
+      received = ap (λ l. l.writes.received) p.written_same ∙ sym (append-nil written.writes.received);
+    } in
+    record {
+      ran = (moved, inl (unended moved IsChunks-none), inr p);
+      prompt = inl p.read_same;
+      once = omega (arith, ap (λ l. l.reads.zero_reads) p.read_same);
+      flushes = omega (
+        arith,
+        ap (λ l. l.writes.flushes) p.written_same,
+        ap (λ l. length l.writes.received) p.written_same,
+      );
+      per_ask = omega (arith, ap (λ l. l.writes.flushes) p.written_same, ap (λ l. l.reads.asks) p.read_same);
+    }

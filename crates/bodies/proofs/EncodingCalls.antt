@@ -1,5 +1,5 @@
 -- What the calls of a filter of chunks do.
-use Rattle.std.proofs.Common.{◌≡◌, ℕ, zero, suc, ◌+◌, ◌<◌, ◌≤◌, ◌==◌, not, inl, Bool, List, [], ◌++◌, length, take, true, false, Option, Result, Ok, Err, refl, sym, ap, subst, arith, append-nil, length-append}
+use Rattle.std.proofs.Common.{◌≡◌, ℕ, zero, suc, ◌+◌, ◌<◌, ◌≤◌, ◌==◌, not, inl, inr, Bool, List, [], ◌∷◌, ◌++◌, length, take, true, false, Option, Result, Ok, Err, refl, sym, ap, subst, arith, append-nil, length-append}
 use Rattle.std.specs.declared.io.Error.{Error}
 use Rattle.buffer_redux.specs.BufReader.{Fills, ReadsAlong}
 use Rattle.buffer_redux.specs.BufWriter.{WasFlushed}
@@ -9,6 +9,7 @@ use Rattle.buffer_redux.specs.Policy.{std_read_rules}
 use Rattle.buffer_redux.specs.ReaderLaws.{ReadsAlong-none}
 use Rattle.buffer_redux.specs.StreamLog.{StreamLog}
 use Rattle.buffer_redux.specs.declared.policy.StdPolicy.{StdPolicy}
+use Rattle.chunked.specs.AskingLaws.{fill_leaves, took_some}
 use Rattle.chunked.specs.Body.{line_end}
 use Rattle.chunked.specs.Chunk.{chunk, size_digits}
 use Rattle.chunked.specs.Chunking.{Chunking, ChunksWent, IsChunking, WritesChunk}
@@ -19,11 +20,11 @@ use Rattle.forward.specs.declared.error.AskError.TheVariants.{Io}
 use Rattle.programs.specs.FlushesLaws.{FlushesOnce-flush}
 use Rattle.programs.specs.PromptLaws.{WritesOn-grows, WritesOn-unflushed}
 use Rattle.bodies.specs.Encoding.{IsReady, encoding_rules}
-use Rattle.bodies.specs.FiltersLaws.{taken_more}
+use Rattle.bodies.specs.Filters.{Asked}
+use Rattle.bodies.specs.FiltersLaws.{fault_gives, taken_more}
 use Rattle.bodies.specs.declared.encoding.Encoding.{Encoding}
 use Rattle.bodies.specs.declared.error.RunError.{RunError}
-use Rattle.bodies.specs.Filters.{AskedOnce}
-use Rattle.bodies.proofs.Asking.{asked_of, asks_once, ended, failed_once, none_after_fault, some_of}
+use Rattle.bodies.proofs.Asking.{ended, fill_asked, some_of, std_fault}
 use Rattle.bodies.proofs.Chunks.{chunk_not_sent, chunk_quietly, chunk_some}
 
 module _ {R W : Type 0} (remaining : R → Option (List ℕ)) (tells : W → StreamLog) (stretch : W → W → Type 0)
@@ -104,14 +105,15 @@ module _ {R W : Type 0} (remaining : R → Option (List ℕ)) (tells : W → Str
     abbrev after : Encoding R W
     after = record s { source = t }
 
-    asks_so : AskedOnce s.source t → t.log.reads.zero_reads ≤ s.source.log.reads.zero_reads + 1
+    empty_asked : Asked (λ bytes. bytes ≡ []) s.source t → ¬ (t.log ≡ s.source.log)
+        → t.log.reads.zero_reads ≤ s.source.log.reads.zero_reads + 1
         → (answer : Result Bool (AskError RunError)) → AskAnswers rules s answer after → Asks rules s answer after
-    asks_so once quiet answer answers = record {
+    empty_asked asked told quiet answer answers = record {
       told = refl;
       ready = record { capacity = omega (arith, ready.capacity, along.capacity); whole = ready.whole };
       moves = record { hands = along; takes = ChunksWent-none stretch none joins s.target };
       sent = λ sent. sent;
-      asks = once;
+      asks = (asked, elim asked.asked [ inl same ↦ absurd (told same) | inr over ↦ over.some ]);
       once = record { once = quiet; quiet = λ closed. absurd closed; closed = λ closed. closed };
       answers = answers;
     }
@@ -120,15 +122,15 @@ module _ {R W : Type 0} (remaining : R → Option (List ℕ)) (tells : W → Str
     pub asked : {A : Type 0} (a : A) → Fills std_read_rules s.source (Ok a) t → (empty : Bool)
         → empty ≡ (length t.block.bytes == 0) → Asks rules s (Ok (not empty)) after
     asked a fills true is =
-        let end = ended s.source t a fills (sym is) ready.capacity in
-        let once = asked_of s.source t (asks_once s.source t (Ok a) fills)
-        (λ same. omega (arith, end.1, ap (λ l. l.reads.zero_reads) same)) in
-        asks_so once (omega (arith, end.1)) (Ok false) (end, fills.caused)
+        let end = ended s.source t a fills is ready.capacity in
+        empty_asked (fill_asked s.source t (Ok a) fills) (λ same. omega (arith, end.1, ap (λ l. l.reads.zero_reads) same))
+        (omega (arith, end.1)) (Ok false) (end, fills.caused)
     asked a fills false is =
         let some = some_of (length t.block.bytes) is in
         let order = fills.in_order in
-        let none_gave = none_where_shown std_read_rules ReadsWhenEmpty-std s.source t a fills.filled some in
-        let gave : length s.source.log.reads.given < length t.log.reads.given = omega (
+        let asked = fill_asked s.source t (Ok a) fills in
+        let quiet = none_where_shown std_read_rules ReadsWhenEmpty-std s.source t a fills.filled some in
+        empty_asked asked (λ same. omega (
           arith,
           some,
           ap length lacks,
@@ -136,24 +138,35 @@ module _ {R W : Type 0} (remaining : R → Option (List ℕ)) (tells : W → Str
           ap length order.equal,
           length-append s.source.log.reads.given order.got,
           length-append s.source.block.bytes order.got,
-        ) in
-        let once = asked_of s.source t (asks_once s.source t (Ok a) fills)
-        (λ same. omega (arith, gave, ap (λ l. length l.reads.given) same)) in
-        asks_so once (omega (arith, none_gave)) (Ok true) (
+          ap (λ l. length l.reads.given) same,
+        )) (omega (arith, quiet)) (Ok true) (
           some,
           fills.caused,
-          inl (record { zero_reads = none_gave; give = omega (arith, once.asks, once.faults, gave, ap length fills.caused) }),
+          inl (record {
+            zero_reads = quiet;
+            give = omega (
+              arith,
+              (took_some s.source [] t order (omega (arith, some)) asked.asked).gives,
+              ap length fills.caused,
+            );
+          }),
         )
 
     -- or a read failed
     pub not_asked : {A : Type 0} (e : Error) → Fills {A = A} std_read_rules s.source (Err e) t
         → Asks rules s (Err (Io e)) after
     not_asked e fills =
-        let none_gave = none_before_fault std_read_rules ReadsWhenEmpty-std s.source t e fills.filled in
-        let failed = failed_once s.source t e fills in
-        asks_so failed.1 (omega (arith, none_gave)) (Err (Io e)) (
-          none_after_fault s.source t e fills,
-          failed.0,
-          inl (record { zero_reads = none_gave; give = failed.2 }),
+        let quiet = none_before_fault std_read_rules ReadsWhenEmpty-std s.source t e fills.filled in
+        let fault = std_fault s.source t e fills in
+        let asked = fill_asked s.source t (Err e) fills in
+        empty_asked asked (λ same. omega (
+          arith,
+          ap length fault,
+          length-append s.source.log.reads.faults (e ∷ []),
+          ap (λ l. length l.reads.faults) same,
+        )) (omega (arith, quiet)) (Err (Io e)) (
+          fill_leaves s.source t e fills,
+          fault,
+          inl (record { zero_reads = quiet; give = fault_gives (λ bytes. bytes ≡ []) s.source t asked e fault }),
           refl,
         )

@@ -1,7 +1,5 @@
 pub mod Asking
-pub mod DecodeAsking
-pub mod Passing
-pub mod PieceAsked
+pub mod DecodingCalls
 pub mod DecodeRuns
 pub mod Chunks
 pub mod EncodingCalls

@@ -9,7 +9,9 @@ use Rattle.chunked.specs.declared.place.Place.{Place}
 use Rattle.chunked.specs.declared.place.Place.TheVariants.{Line}
 use Rattle.bodies.specs.declared.error.RunError.{RunError}
 use Rattle.bodies.specs.declared.error.RunError.TheVariants.{NotChunked, Truncated, Behind, Read, Write, Io}
-use Rattle.programs.specs.Streams.{MetNoFault, ReadFailed, SendFailed, OverCount, BufferRefused, GaveNothing, AllFlushed}
+use Rattle.programs.specs.Flushes.{FlushesSend}
+use Rattle.programs.specs.Prompt.{HoldsNothingBack}
+use Rattle.programs.specs.Streams.{EndsOnce, MetNoFault, ReadFailed, SendFailed, OverCount, BufferRefused, GaveNothing, AllFlushed}
 
 -- these bytes lead from before a body to this place in it, and this is the payload in them
 pub record IsPart (limits : Limits) (wire payload : List ℕ) (place : Place) : Type 0 where
@@ -25,54 +27,16 @@ pub record IsDue (limits : Limits) (bytes due : List ℕ) : Type 0 where
 abbrev pub counted : List ℕ → ℕ
 counted bytes = min (length bytes) (2 ^ 64 - 1)
 
--- what was given is what was taken of it and then the rest; what was received is what was sent, which the writer has flushed
-pub record Sent (read read' written written' : StreamLog) (taken sent rest : List ℕ) : Type 0 where
-  pub given : read'.reads.given ≡ read.reads.given ++ (taken ++ rest)
-  pub received : written'.writes.received ≡ written.writes.received ++ sent
-  pub flushed : AllFlushed written'
-
--- what was given is a body, and then the rest; what was received is its payload
-pub record Decoded (limits : Limits) (read read' written written' : StreamLog) (rest : List ℕ) : Type 0 where
-  pub body : List ℕ
-  pub payload : List ℕ
-  pub is_body : IsBody limits body payload
-  pub sent : Sent read read' written written' body payload rest
-
--- what was given is such bytes and then one that is wrong there; what was received is the payload in those before it
-pub record DecodedToWrong (limits : Limits) (read read' written written' : StreamLog) (why : Malformed) (right : ℕ)
-    : Type 0 where
-  pub wire : List ℕ
-  pub payload : List ℕ
-  pub place : Place
-  pub part : IsPart limits wire payload place
+-- the next byte is wrong in this place, and no body begins with these bytes and then that
+pub record NextIsWrong (limits : Limits) (place : Place) (wire rest : List ℕ) (why : Malformed) : Type 0 where
   pub byte : ℕ
   pub later : List ℕ
-  pub sent : Sent read read' written written' wire payload (byte ∷ later)
+  pub next : rest ≡ byte ∷ later
   pub name : IsWrong limits place byte why
-  pub none : (rest whole : List ℕ) → ¬ IsBody limits (wire ++ byte ∷ rest) whole
-  pub count : right ≡ counted wire
+  pub none : (more whole : List ℕ) → ¬ IsBody limits (wire ++ byte ∷ more) whole
 
--- what was given is such bytes and no body, and the reader gave no more; what was received is the payload in them
-pub record DecodedToEnd (limits : Limits) (read read' written written' : StreamLog) (right : ℕ) : Type 0 where
-  pub wire : List ℕ
-  pub payload : List ℕ
-  pub place : Place
-  pub part : IsPart limits wire payload place
-  pub sent : Sent read read' written written' wire payload []
-  pub none : (whole : List ℕ) → ¬ IsBody limits wire whole
-  pub ended : GaveNothing read read'
-  pub count : right ≡ counted wire
-
--- what was given is such bytes; what was received is the payload in them
-pub record DecodedPart (limits : Limits) (read read' written written' : StreamLog) : Type 0 where
-  pub wire : List ℕ
-  pub payload : List ℕ
-  pub place : Place
-  pub part : IsPart limits wire payload place
-  pub sent : Sent read read' written written' wire payload []
-
--- the run failed of such a cause, by how much payload there was; what was received is a beginning of the payload in such bytes
-pub record DecodeFailed (limits : Limits) (Caused : ℕ → Type 0) (read read' written written' : StreamLog) : Type 0 where
+-- what was given is such bytes, and then the rest; of the payload in them all was received that wasn't left unsent
+pub record Moved (limits : Limits) (read read' written written' : StreamLog) : Type 0 where
   pub wire : List ℕ
   pub payload : List ℕ
   pub place : Place
@@ -81,24 +45,41 @@ pub record DecodeFailed (limits : Limits) (Caused : ℕ → Type 0) (read read' 
   pub given : read'.reads.given ≡ read.reads.given ++ (wire ++ rest)
   pub unsent : List ℕ
   pub received : written'.writes.received ++ unsent ≡ written.writes.received ++ payload
-  pub caused : Caused (length payload)
+
+-- what a run did that wasn't stopped by the writer: nothing was left unsent, and the writer was flushed
+pub record MovedAll (limits : Limits) (read read' written written' : StreamLog) : Type 0 where
+  pub moved : Moved limits read read' written written'
+  pub all : moved.unsent ≡ []
+  pub flushed : AllFlushed written'
 
 -- what a run of `decode` did: at Ok all that was given is a body. Where a read failed no payload that came is lost
 abbrev pub DecodeRan : Limits → StreamLog → StreamLog → StreamLog → StreamLog → Result (Unit {0}) RunError → Type 0
 DecodeRan limits read read' written written' (Ok _) =
-    Decoded limits read read' written written' [] × GaveNothing read read' × MetNoFault read read' written written'
+    (m : MovedAll limits read read' written written') × IsBody limits m.moved.wire m.moved.payload × (m.moved.rest ≡ [])
+    × GaveNothing read read' × MetNoFault read read' written written'
 DecodeRan limits read read' written written' (Err (NotChunked why right)) =
-    DecodedToWrong limits read read' written written' why right × MetNoFault read read' written written'
+    (m : MovedAll limits read read' written written')
+    × NextIsWrong limits m.moved.place m.moved.wire m.moved.rest why
+    × (right ≡ counted m.moved.wire) × MetNoFault read read' written written'
 DecodeRan limits read read' written written' (Err (Truncated right)) =
-    DecodedToEnd limits read read' written written' right × MetNoFault read read' written written'
+    (m : MovedAll limits read read' written written')
+    × ((whole : List ℕ) → ¬ IsBody limits m.moved.wire whole) × (m.moved.rest ≡ [])
+    × GaveNothing read read' × (right ≡ counted m.moved.wire) × MetNoFault read read' written written'
 DecodeRan limits read read' written written' (Err (Behind right)) =
-    (rest : List ℕ) × (0 < length rest)
-    × ((done : Decoded limits read read' written written' rest) × (right ≡ counted done.body))
-    × MetNoFault read read' written written'
+    (m : MovedAll limits read read' written written') × IsBody limits m.moved.wire m.moved.payload
+    × (0 < length m.moved.rest) × (right ≡ counted m.moved.wire) × MetNoFault read read' written written'
 DecodeRan limits read read' written written' (Err (Read e)) =
-    DecodedPart limits read read' written written' × ReadFailed e read read' written written'
+    (m : MovedAll limits read read' written written') × (m.moved.rest ≡ []) × ReadFailed e read read' written written'
 DecodeRan limits read read' written written' (Err (Write e)) =
-    DecodeFailed limits (λ _. SendFailed e read read' written written') read read' written written'
+    Moved limits read read' written written' × SendFailed e read read' written written'
 DecodeRan limits read read' written written' (Err (Io e)) =
-    DecodeFailed limits (λ count. OverCount e count read read' written written' ⊎ BufferRefused e read read' written written')
-    read read' written written'
+    (m : Moved limits read read' written written')
+    × (OverCount e (length m.payload) read read' written written' ⊎ BufferRefused e read read' written written')
+
+-- all that a run of `decode` promises
+pub record Decodes (limits : Limits) (read read' written written' : StreamLog) (answer : Result (Unit {0}) RunError)
+    : Type 0 where
+  pub ran : DecodeRan limits read read' written written' answer
+  pub prompt : HoldsNothingBack (IsDue limits) read read' written written'
+  pub once : EndsOnce read.reads read'.reads
+  pub flushes : FlushesSend 1 written.writes written'.writes

@@ -1,33 +1,37 @@
 -- The payload of a body is handed out in order, and what is due is sent with it.
-use Rattle.std.proofs.Common.{◌≡◌, ℕ, ◌<◌, inl, inr, List, [], ◌++◌, length, take, Option, Result, Ok, Err, sym, ap, subst, ◌∙◌, arith, append-nil, append_assoc}
+use Rattle.std.proofs.Common.{◌≡◌, ℕ, ◌<◌, inl, inr, List, [], ◌++◌, length, take, Option, Result, Ok, Err, refl, sym, ap, subst, ◌∙◌, arith, append-nil, append_assoc}
 use Rattle.std.proofs.lemmas.Grind.{flat_map-append}
 use Rattle.std.proofs.lemmas.List.Elements.{All-append, All-nil}
 use Rattle.buffer_redux.specs.BufWriter.{WritesInOrder}
 use Rattle.buffer_redux.specs.Policy.{std_read_rules}
-use Rattle.buffer_redux.specs.ReaderLaws.{ReadsInOrder-fresh}
 use Rattle.buffer_redux.specs.WriterLaws.{WritesInOrder-joins, WritesInOrder-none}
-use Rattle.chunked.specs.Dechunking.{handed_of}
+use Rattle.chunked.specs.Dechunking.{BodyWent, handed_of}
 use Rattle.chunked.specs.DechunkingLaws.{BodyWent-joins, BodyWent-none}
-use Rattle.forward.specs.Filter.{AsksSent, IsLawful, Moves, StaysOpen}
-use Rattle.programs.specs.Prompt.{AskedLast, WasSent}
-use Rattle.programs.specs.PromptLaws.{AskedLast-after}
+use Rattle.forward.specs.Filter.{AsksSent, FilterRules, Gives, IsLawful, Moves, StaysOpen}
+use Rattle.programs.specs.Prompt.{WasSent}
 use Rattle.programs.specs.Streams.{AllSent}
 use Rattle.bodies.specs.Decode.{IsDue}
 use Rattle.bodies.specs.Decoding.{Asks, HandsPieces, IsUnread, PiecesEnd, decoding_rules, held_of}
 use Rattle.bodies.specs.Filters.{joined}
-use Rattle.bodies.specs.FiltersLaws.{sent_all, taken_on}
+use Rattle.bodies.specs.FiltersLaws.{asked_after, sent_all, taken_more}
 use Rattle.bodies.specs.declared.decoding.Decoding.{Decoding}
 use Rattle.bodies.specs.declared.error.RunError.{RunError}
 use Rattle.bodies.specs.declared.error.RunError.TheVariants.{NotChunked, Truncated, Behind, Read, Write, Io}
 
 module _ {R W : Type 0} (remaining : R → Option (List ℕ)) where
-  hands_none : (s : Decoding R W) → HandsPieces remaining s [] s
-  hands_none s = record {
-    payload = [];
-    went = BodyWent-none remaining std_read_rules s.source;
-    order = append-nil (held_of s);
-    some = All-nil (λ piece. 0 < length piece);
-  }
+  abbrev rules : FilterRules (Decoding R W) RunError
+  rules = decoding_rules remaining
+
+  -- what was handed out is held, behind what was
+  pub hands_held : (s t : Decoding R W) (payload : List ℕ) → BodyWent remaining std_read_rules s.source payload t.source
+      → held_of s ++ payload ≡ held_of t → HandsPieces remaining s [] t
+  hands_held s t payload went order =
+      record { payload = payload; went = went; order = order; some = All-nil (λ piece. 0 < length piece) }
+
+  pub hands_none : (s t : Decoding R W) → t.source ≡ s.source → held_of s ≡ held_of t → HandsPieces remaining s [] t
+  hands_none s t same held = hands_held s t []
+      (subst (BodyWent remaining std_read_rules s.source []) (sym same) (BodyWent-none remaining std_read_rules s.source))
+      (append-nil (held_of s) ∙ held)
 
   hands_joins : (a b c : Decoding R W) (p q : List (List ℕ)) → HandsPieces remaining a p b → HandsPieces remaining b q c
       → HandsPieces remaining a (p ++ q) c
@@ -47,19 +51,19 @@ module _ {R W : Type 0} (remaining : R → Option (List ℕ)) where
   takes_joins a b c p q f g = subst (λ l. WritesInOrder a.target l c.target) (sym (flat_map-append (λ piece. piece) p q))
       (WritesInOrder-joins a.target b.target c.target (joined p) (joined q) f g)
 
-  ends_after : (a b c : Decoding R W) (how : Result (Unit {0}) RunError) → StaysOpen (decoding_rules remaining) a b
-      → PiecesEnd b how c → PiecesEnd a how c
-  ends_after a b c how (inr closed) end = absurd closed
-  ends_after a b c (Ok _) (inl gives) end = (end.0, end.1, omega (arith, gives.zero_reads, end.2))
-  ends_after a b c (Err (NotChunked why right)) (inl gives) end = end
-  ends_after a b c (Err (Truncated right)) (inl gives) end = (
-    record { none = end.0.none; left = end.0.left; dry = omega (arith, gives.zero_reads, end.0.dry) },
-    end.1,
-  )
-  ends_after a b c (Err (Behind right)) (inl gives) end = end
-  ends_after a b c (Err (Read e)) (inl gives) end = absurd end
-  ends_after a b c (Err (Write e)) (inl gives) end = absurd end
-  ends_after a b c (Err (Io e)) (inl gives) end = absurd end
+  ends_after : (a b c : Decoding R W) (how : Result (Unit {0}) RunError) → Gives rules a b → PiecesEnd b.source how c.source
+      → PiecesEnd a.source how c.source
+  ends_after a b c (Ok _) gives end = (end.0, end.1, omega (arith, gives.zero_reads, end.2))
+  ends_after a b c (Err (NotChunked why right)) gives end = end
+  ends_after a b c (Err (Truncated right)) gives end = (end.0, end.1, omega (arith, gives.zero_reads, end.2), end.3)
+  ends_after a b c (Err (Behind right)) gives end = end
+  ends_after a b c (Err (Read e)) gives end = absurd end
+  ends_after a b c (Err (Write e)) gives end = absurd end
+  ends_after a b c (Err (Io e)) gives end = absurd end
+
+  still_open : (a b : Decoding R W) → StaysOpen rules a b → Gives rules a b
+  still_open a b (inl gives) = gives
+  still_open a b (inr closed) = absurd closed
 
   -- nothing is held where the count is 0
   pub none_held : (s : Decoding R W) → s.held ≡ 0 → held_of s ≡ []
@@ -72,43 +76,39 @@ module _ {R W : Type 0} (remaining : R → Option (List ℕ)) where
       sym (ap (λ l. l ++ hands.payload) (none_held s none)) ∙ hands.order ∙ ap (λ l. joined p ++ l) (none_held t none')
       ∙ append-nil (joined p)
 
-  asks_sent : (first s t : Decoding R W) (p : List (List ℕ))
-      → IsUnread first.source × (first.target.block.bytes ≡ []) × (first.held ≡ 0)
-      → Moves (decoding_rules remaining) first p p s → StaysOpen (decoding_rules remaining) first s → s.held ≡ 0 → AllSent s.target
-      → Asks s.source t.source → AsksSent (decoding_rules remaining) first s t
-  asks_sent first s t p fresh moves (inr closed) lacks sent asks = absurd closed
-  asks_sent first s t p fresh moves (inl gives) lacks sent (inl same) = inl same
-  asks_sent first s t p fresh moves (inl gives) lacks sent (inr over) =
+  asks_sent : (first s t : Decoding R W) (p : List (List ℕ)) → IsUnread first → Moves rules first p p s → Gives rules first s
+      → s.held ≡ 0 → AllSent s.target → Asks s.source t.source → AsksSent rules first s t
+  asks_sent first s t p fresh moves gives lacks sent asks =
       let went = moves.hands.went in
-      let old = first.source.reader.log in
       let m = s.source in
-      let unread = fresh.0 in
-      let taken : m.taken ≡ went.wire = went.taken ∙ ap (λ l. l ++ went.wire) unread.taken in
-      let given : m.reader.log.reads.given ≡ old.reads.given ++ (m.taken ++ m.reader.block.bytes) =
-      ReadsInOrder-fresh first.source.reader m.reader went.wire unread.buffered went.along.in_order
-      ∙ ap (λ l. old.reads.given ++ (l ++ m.reader.block.bytes)) (sym taken) in
+      let due : List ℕ → Type 0 = λ bytes. IsDue m.limits (m.taken ++ bytes) (handed_of m) in
       let payload : handed_of m ≡ joined p =
-      went.handed ∙ ap (λ l. l ++ moves.hands.payload) unread.handed ∙ handed_joined first s p moves.hands fresh.2 lacks in
-      inr (record {
-        before = m.taken ++ (m.reader.block.bytes ++ over.came);
-        asked = subst (λ l. AskedLast l old t.source.reader.log) (append_assoc m.taken m.reader.block.bytes over.came)
-            (AskedLast-after old m.reader.log t.source.reader.log (m.taken ++ m.reader.block.bytes) over.came given gives.give
-            over.asked);
-        due = handed_of m;
-        is_due = subst (λ l. IsDue l (m.taken ++ (m.reader.block.bytes ++ over.came)) (handed_of m)) went.limits over.due;
-        sent = subst (λ l. WasSent (first.target.log.writes.received ++ l) s.target.log.writes) (sym payload)
-            (sent_all first.target s.target (joined p) fresh.1 moves.takes sent);
-      })
+      went.handed ∙ ap (λ l. l ++ moves.hands.payload) fresh.handed
+      ∙ handed_joined first s p moves.hands fresh.held lacks in
+      elim (asked_after due m.reader t.source.reader asks first.source.reader went.wire fresh.buffered went.along.in_order
+      gives.give) [
+        | inl same ↦ inl same
+        | inr (bytes, is_due, last) ↦ inr (record {
+          before = went.wire ++ bytes;
+          asked = last;
+          due = handed_of m;
+          is_due = subst (λ l. IsDue first.source.limits (l ++ bytes) (handed_of m))
+              (went.taken ∙ ap (λ l. l ++ went.wire) fresh.taken)
+              (subst (λ l. IsDue l (m.taken ++ bytes) (handed_of m)) went.limits is_due);
+          sent = subst (λ l. WasSent (first.target.log.writes.received ++ l) s.target.log.writes) (sym payload)
+              (sent_all first.target s.target (joined p) moves.takes fresh.target sent);
+        })
+      ]
 
   pub decoding_lawful : IsLawful (decoding_rules {R = R} {W = W} remaining)
   decoding_lawful = record {
-    hands_none = hands_none;
+    hands_none = λ s. hands_none s s refl refl;
     hands_joins = hands_joins;
     takes_none = λ s. WritesInOrder-none s.target;
     takes_joins = takes_joins;
-    ends_after = λ a b c p how hands still end. (end.0, ends_after a b c how still end.1);
+    ends_after = λ a b c p how hands still end. (end.0, ends_after a b c how (still_open a b still) end.1);
     waits_lacks = λ s waits. waits.0;
     received_taken = λ s. omega arith;
-    taken_on = λ s t p taken. taken_on s.target t.target (joined p) taken;
-    asks_sent = asks_sent;
+    taken_on = λ s t p taken. omega (arith, taken_more s.target t.target (joined p) taken);
+    asks_sent = λ first s t p fresh moves still. asks_sent first s t p fresh moves (still_open first s still);
   }

@@ -8,12 +8,11 @@ use Rattle.buffer_redux.specs.declared.policy.StdPolicy.{StdPolicy}
 use Rattle.chunked.specs.Body.{IsBody}
 use Rattle.chunked.specs.Chunk.{IsChunks, body_end}
 use Rattle.chunked.specs.declared.limits.Limits.{Limits}
-use Rattle.programs.specs.Flushes.{FlushesSend}
-use Rattle.programs.specs.Prompt.{WritesOn}
-use Rattle.programs.specs.Streams.{AllSent, MetNoFault, ReadFailed, SendFailed, OverCount, BufferRefused}
+use Rattle.programs.specs.Flushes.{FlushesPerAsk, FlushesSend}
+use Rattle.programs.specs.Prompt.{HoldsNothingBack, WritesOn}
+use Rattle.programs.specs.Streams.{AllFlushed, AllSent, EndsOnce, MetNoFault, ReadFailed, SendFailed, OverCount, BufferRefused}
 use Rattle.bodies.specs.declared.error.RunError.{RunError}
 use Rattle.bodies.specs.declared.error.RunError.TheVariants.{Read, Write, Io}
-use Rattle.bodies.specs.Decode.{Sent}
 
 -- what is due of these bytes: chunks with all of them
 abbrev pub IsDue : List ℕ → List ℕ → Type 0
@@ -43,53 +42,56 @@ IsWritten body payload = (limits : Limits) → 16 ≤ limits.line → IsBody lim
 abbrev pub IsCut : List ℕ → Type 0
 IsCut bytes = (limits : Limits) (body payload more : List ℕ) → IsBody limits body payload → ¬ (bytes ≡ body ++ more)
 
--- what was given is this payload, and then the reader gave nothing, once; what was received is a body with it
-pub record Encoded (read read' written written' : StreamLog) : Type 0 where
-  pub payload : List ℕ
-  pub body : List ℕ
-  pub is_body : IsWritten body payload
-  pub sent : Sent read read' written written' payload body []
-  pub ended : read'.reads.zero_reads ≡ read.reads.zero_reads + 1
-
--- what was given is the payload of the chunks that were received, which no last one follows
-pub record EncodedPart (read read' written written' : StreamLog) : Type 0 where
-  pub payload : List ℕ
-  pub bytes : List ℕ
-  pub chunks : IsChunks bytes payload
-  pub cut : IsCut bytes
-  pub sent : Sent read read' written written' payload bytes []
-
--- what was received, and was left unsent, is chunks of this payload, which no last one follows
-pub record IsUnended (payload sent unsent : List ℕ) : Type 0 where
-  pub chunks : IsChunks (sent ++ unsent) payload
-  pub cut : IsCut sent
-
--- or a body with it, all of which was received, or the beginning, and nothing else was given
-pub record IsUnflushed (payload rest sent unsent : List ℕ) : Type 0 where
-  pub is_body : IsWritten (sent ++ unsent) payload
-  pub cut : 0 < length unsent → IsCut sent
-  pub all : rest ≡ []
-
--- what was received is a beginning of a body with a payload that was given
-pub record EncodedFirst (read read' written written' : StreamLog) : Type 0 where
+-- what was given is this payload, and then the rest; what became of the payload was received, but for what was left unsent
+pub record Moved (read read' written written' : StreamLog) : Type 0 where
   pub payload : List ℕ
   pub rest : List ℕ
   pub given : read'.reads.given ≡ read.reads.given ++ (payload ++ rest)
   pub sent : List ℕ
   pub unsent : List ℕ
   pub received : written'.writes.received ≡ written.writes.received ++ sent
-  pub beginning : IsUnended payload sent unsent ⊎ IsUnflushed payload rest sent unsent
 
--- what a run of `encode` did. Where a read failed no byte that came is lost. Any other fault is a writer's, or a buffer was
--- refused before the run began, or it ended at its count
+-- all that was given went over, and was received and flushed
+pub record MovedAll (read read' written written' : StreamLog) : Type 0 where
+  pub moved : Moved read read' written written'
+  pub all : moved.rest ≡ []
+  pub none_left : moved.unsent ≡ []
+  pub flushed : AllFlushed written'
+
+-- the payload became chunks, which no last one follows
+pub record IsUnended {read read' written written' : StreamLog} (m : Moved read read' written written') : Type 0 where
+  pub chunks : IsChunks (m.sent ++ m.unsent) m.payload
+  pub cut : IsCut m.sent
+
+-- or a body with it, all of which was received, or the beginning, and nothing else was given
+pub record IsUnflushed {read read' written written' : StreamLog} (m : Moved read read' written written') : Type 0 where
+  pub is_body : IsWritten (m.sent ++ m.unsent) m.payload
+  pub cut : 0 < length m.unsent → IsCut m.sent
+  pub all : m.rest ≡ []
+
+-- what became of a beginning of what was given
+abbrev pub IsBeginning : {read read' written written' : StreamLog} → Moved read read' written written' → Type 0
+IsBeginning m = IsUnended m ⊎ IsUnflushed m
+
+-- what a run of `encode` did: at Ok a body was received, and the reader gave nothing, once. Where a read failed no byte that came
+-- is lost. Any other fault is a writer's, or a buffer was refused before the run began, or it ended at its count
 abbrev pub EncodeRan : StreamLog → StreamLog → StreamLog → StreamLog → Result (Unit {0}) RunError → Type 0
 EncodeRan read read' written written' (Ok _) =
-    Encoded read read' written written' × MetNoFault read read' written written'
+    (m : MovedAll read read' written written') × IsWritten m.moved.sent m.moved.payload
+    × (read'.reads.zero_reads ≡ read.reads.zero_reads + 1) × MetNoFault read read' written written'
 EncodeRan read read' written written' (Err (Read e)) =
-    EncodedPart read read' written written' × ReadFailed e read read' written written'
+    (m : MovedAll read read' written written') × IsUnended m.moved × ReadFailed e read read' written written'
 EncodeRan read read' written written' (Err (Write e)) =
-    EncodedFirst read read' written written' × SendFailed e read read' written written'
+    (m : Moved read read' written written') × IsBeginning m × SendFailed e read read' written written'
 EncodeRan read read' written written' (Err (Io e)) =
-    (first : EncodedFirst read read' written written')
-    × (OverCount e (length first.payload) read read' written written' ⊎ BufferRefused e read read' written written')
+    (m : Moved read read' written written') × IsBeginning m
+    × (OverCount e (length m.payload) read read' written written' ⊎ BufferRefused e read read' written written')
 EncodeRan read read' written written' (Err other) = ⊥
+
+-- all that a run of `encode` promises
+pub record Encodes (read read' written written' : StreamLog) (answer : Result (Unit {0}) RunError) : Type 0 where
+  pub ran : EncodeRan read read' written written' answer
+  pub prompt : HoldsNothingBack IsDue read read' written written'
+  pub once : EndsOnce read.reads read'.reads
+  pub flushes : FlushesSend 1 written.writes written'.writes
+  pub per_ask : FlushesPerAsk 1 read read' written written'

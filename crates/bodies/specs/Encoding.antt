@@ -2,11 +2,11 @@
 use Rattle.std.specs.Prelude.{◌≡◌, ℕ, ◌+◌, ◌<◌, List, [], length, Result, Ok, Err, Option}
 use Rattle.buffer_redux.specs.BufReader.{ReadsAlong}
 use Rattle.buffer_redux.specs.Policy.{std_read_rules}
-use Rattle.chunked.specs.Chunk.{IsChunks}
 use Rattle.chunked.specs.Chunking.{ChunksWent, IsChunking}
 use Rattle.forward.specs.Filter.{FilterRules}
 use Rattle.programs.specs.Streams.{AllSent}
-use Rattle.bodies.specs.Filters.{AskedOnce, joined, taken_in}
+use Rattle.bodies.specs.Encode.{IsDue}
+use Rattle.bodies.specs.Filters.{Asked, joined, taken_in}
 use Rattle.bodies.specs.declared.encoding.Encoding.{Encoding}
 use Rattle.bodies.specs.declared.error.RunError.{RunError}
 
@@ -33,10 +33,10 @@ encoding_rules remaining stretch = record {
   waits = λ s. s.source.block.bytes ≡ [];
   sent = λ s. AllSent s.target.writer;
   taken = λ s. taken_in s.target.writer;
-  asks = λ s t. AskedOnce s.source t.source;
+  asks = λ s t. Asked (λ bytes. bytes ≡ []) s.source t.source × (s.source.log.reads.asks < t.source.log.reads.asks);
   wants = λ s. 0;
   ends = λ s how t. ReaderEnds s how t;
   closed = λ s. ⊥;
   fresh = λ s. (s.source.block.bytes ≡ []) × (s.target.writer.block.bytes ≡ []);
-  due = λ s bytes due. IsChunks due bytes;
+  due = λ s. IsDue;
 }

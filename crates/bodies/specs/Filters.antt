@@ -1,20 +1,22 @@
 -- What the filters of both runs say.
-use Rattle.std.specs.Prelude.{◌≡◌, ℕ, ◌+◌, ◌≤◌, List, [], ◌++◌, length, flat_map}
+use Rattle.std.specs.Prelude.{◌≡◌, ℕ, ◌+◌, List, length, flat_map}
 use Rattle.std.specs.IoError.{error_kind}
 use Rattle.std.specs.declared.io.Error.{Error}
 use Rattle.std.specs.declared.io.ErrorKind.TheVariants.{Other}
 use Rattle.buffer_redux.specs.Buffered.{Buffered}
+use Rattle.buffer_redux.specs.LogGrows.{ReadLogGrows}
+use Rattle.buffer_redux.specs.Unbuffer.{unbuffered}
+use Rattle.buffer_redux.specs.declared.policy.StdPolicy.{StdPolicy}
+use Rattle.chunked.specs.Asking.{AskedWhere}
 use Rattle.forward.specs.declared.error.Cause.{Cause}
 use Rattle.forward.specs.declared.error.Cause.TheVariants as cause
 use Rattle.bodies.specs.declared.error.RunError.{RunError}
 use Rattle.bodies.specs.declared.error.RunError.TheVariants.{Read, Write, Io}
 
--- the reader inside was asked where nothing was buffered, and once
-pub record AskedOnce {R P : Type 0} (s t : Buffered R P) : Type 0 where
-  pub empty : s.block.bytes ≡ []
-  pub given : t.log.reads.given ≡ s.log.reads.given ++ t.log.reads.latest
-  pub asks : t.log.reads.asks ≡ s.log.reads.asks + 1
-  pub faults : length s.log.reads.faults ≤ length t.log.reads.faults
+-- the reader inside was asked only where what was buffered, then what had come, was such; and its log only goes on
+pub record Asked {R : Type 0} (Such : List ℕ → Type 0) (s t : Buffered R StdPolicy) : Type 0 where
+  pub asked : AskedWhere Such (unbuffered s) (unbuffered t)
+  pub grows : ReadLogGrows s.log.reads t.log.reads
 
 -- payloads, one behind the other
 abbrev pub joined : List (List ℕ) → List ℕ

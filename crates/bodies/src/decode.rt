@@ -1,9 +1,6 @@
 //! The payload of a body copied, over any two streams that tell.
 ghost use Rattle.std.specs.Prelude.{◌≡◌, ◌<◌, [], vec_len};
-ghost use Rattle.programs.specs.Flushes.{FlushesSend};
-ghost use Rattle.programs.specs.Prompt.{HoldsNothingBack};
-ghost use Rattle.programs.specs.Streams.{EndsOnce};
-ghost use Rattle.bodies.specs.Decode.{DecodeRan, IsDue};
+ghost use Rattle.bodies.specs.Decode.{Decodes};
 ghost use Rattle.bodies.specs.Decoding.{IsPieceTarget};
 
 use crate::decoding::{Decoding, PIECE};
@@ -27,10 +24,7 @@ pub fn decode<R: TellRead, W: TellWrite>(
     reader: R,
     writer: W,
 ) -> (Result<(), RunError>, R, W)
-    ensures ran { DecodeRan limits (R.log reader) (R.log result.1) (W.log writer) (W.log result.2) result.0 }
-    ensures prompt { HoldsNothingBack (IsDue limits) (R.log reader) (R.log result.1) (W.log writer) (W.log result.2) }
-    ensures once { EndsOnce (R.log reader).reads (R.log result.1).reads }
-    ensures flushes { FlushesSend 1 (W.log writer).writes (W.log result.2).writes }
+    ensures { Decodes limits (R.log reader) (R.log result.1) (W.log writer) (W.log result.2) result.0 }
 {
     let piece = match vec![in alloc; 0; PIECE] {
         Ok(piece) => piece,
@@ -57,10 +51,7 @@ fn decode_all<R: TellRead, W: TellWrite>(
     requires target { IsPieceTarget target }
     requires empty { target.block.bytes ≡ [] }
     requires room { vec_len piece ≡ PIECE }
-    ensures ran { DecodeRan limits source.log result.1.log target.log result.2.log result.0 }
-    ensures prompt { HoldsNothingBack (IsDue limits) source.log result.1.log target.log result.2.log }
-    ensures once { EndsOnce source.log.reads result.1.log.reads }
-    ensures flushes { FlushesSend 1 target.log.writes result.2.log.writes }
+    ensures { Decodes limits source.log result.1.log target.log result.2.log result.0 }
 {
     let mut link = Link::new(Decoding {
         source: ChunkedReader::new(source, limits),

@@ -1,8 +1,6 @@
 //! The payload of a body as it goes over, piece by piece.
-ghost use Rattle.std.specs.Prelude.{◌≡◌, ◌≤◌, [], length, IfErr, OnErr, OnOk};
-ghost use Rattle.buffer_redux.specs.BufWriter.{WritesInOrder};
-ghost use Rattle.buffer_redux.specs.Faults.{MetInterrupts, SendErrorCaused};
-ghost use Rattle.bodies.specs.Decoding.{HandsHeld, IsPieceTarget, decoding_rules};
+ghost use Rattle.std.specs.Prelude.{◌≡◌, ◌≤◌, length};
+ghost use Rattle.bodies.specs.Decoding.{HandsHeld, Holds, IsPieceTarget, IsReady, LooksOn, WritesPiece, ask_error, decoding_rules};
 ghost use Rattle.bodies.specs.DecodingLaws.{decoding_lawful};
 
 use crate::error::RunError;
@@ -37,16 +35,12 @@ impl<R: TellRead, W: TellWrite> Filter for Decoding<R, W> {
 
     #[inline(always)]
     fn pass(&mut self) -> io::Result<bool> {
-        if self.held > 0 {
-            write_piece(&mut self.target, &self.piece.as_slice()[..self.held])?;
-            self.held = 0;
-            return Ok(true);
-        }
-        let count = read_held(&mut self.source, self.piece.as_mut_slice());
-        if count == 0 {
+        hold(self);
+        if self.held == 0 {
             return Ok(false);
         }
-        write_piece(&mut self.target, &self.piece.as_slice()[..count])?;
+        write_piece(&mut self.target, &self.piece.as_slice()[..self.held])?;
+        self.held = 0;
         Ok(true)
     }
 
@@ -57,25 +51,27 @@ impl<R: TellRead, W: TellWrite> Filter for Decoding<R, W> {
     #[inline(always)]
     fn ask(&mut self) -> Result<bool, AskError<RunError>> {
         match self.source.read_payload(self.piece.as_mut_slice()) {
-            // Nothing may follow the body.
-            Ok(0) => match self.source.is_at_end() {
-                Ok(true) => Ok(false),
-                Ok(false) => Err(AskError::Wrong(RunError::Behind(self.source.taken()))),
-                Err(e) => Err(AskError::Io(e)),
-            },
+            Ok(0) => ask_behind(&mut self.source),
             Ok(count) => {
                 self.held = count;
                 Ok(true)
             }
-            Err(ChunkedError::NotChunked(why, right)) => {
-                Err(AskError::Wrong(RunError::NotChunked(why, right)))
-            }
-            Err(ChunkedError::Truncated(right)) => Err(AskError::Wrong(RunError::Truncated(right))),
-            Err(ChunkedError::Io(e)) => Err(AskError::Io(e)),
+            Err(e) => Err(ask_error(e)),
         }
     }
 
     ghost lawful = { decoding_lawful R.remaining };
+}
+
+// Holds a piece of what is buffered, where none is held.
+#[inline(always)]
+fn hold<R: TellRead, W: TellWrite>(filter: &mut Decoding<R, W>)
+    requires { IsReady filter.old }
+    ensures { Holds R.remaining filter.old filter.new }
+{
+    if filter.held == 0 {
+        filter.held = read_held(&mut filter.source, filter.piece.as_mut_slice());
+    }
 }
 
 // Hands out payload that is buffered, as the first bytes of the piece.
@@ -91,15 +87,33 @@ fn read_held<R: TellRead>(source: &mut ChunkedReader<R>, piece: &mut [u8]) -> us
 fn write_piece<W: TellWrite>(target: &mut BufWriter<W>, piece: &[u8]) -> io::Result<()>
     requires target { IsPieceTarget target.old }
     requires fits { length piece.now ≤ PIECE }
-    ensures taken { OnOk result (WritesInOrder target.old piece.now target.new) }
-    ensures none { OnErr result (WritesInOrder target.old [] target.new) }
-    ensures met { OnOk result (MetInterrupts target.old.log.writes target.new.log.writes) }
-    ensures caused { IfErr result (λ e. SendErrorCaused target.old.log.writes target.new.log.writes e) }
-    ensures not_flushed { target.new.log.writes.flushed ≡ target.old.log.writes.flushed }
-    ensures flushes { target.new.log.writes.flushes ≡ target.old.log.writes.flushes }
-    ensures target { IsPieceTarget target.new }
+    ensures { WritesPiece target.old piece.now result target.new }
 {
     make_room(target, piece.len())?;
     put(target, piece);
     Ok(())
+}
+
+// Asks whether the stream ends with the body: nothing may follow.
+#[inline(always)]
+fn ask_behind<R: TellRead>(source: &mut ChunkedReader<R>) -> Result<bool, AskError<RunError>>
+    ensures { LooksOn R.remaining source.old result source.new }
+{
+    match source.is_at_end() {
+        Ok(true) => Ok(false),
+        Ok(false) => Err(AskError::Wrong(RunError::Behind(source.taken()))),
+        Err(e) => Err(AskError::Io(e)),
+    }
+}
+
+// Why no payload came, as a filter says it.
+#[inline(always)]
+fn ask_error(e: ChunkedError) -> AskError<RunError>
+    ensures { result ≡ ask_error e }
+{
+    match e {
+        ChunkedError::NotChunked(why, right) => AskError::Wrong(RunError::NotChunked(why, right)),
+        ChunkedError::Truncated(right) => AskError::Wrong(RunError::Truncated(right)),
+        ChunkedError::Io(e) => AskError::Io(e),
+    }
 }

@@ -1,10 +1,8 @@
 //! What is given made the payload of a body, over any two streams that tell.
 ghost use Rattle.std.specs.Prelude.{◌+◌};
 ghost use Rattle.chunked.specs.Chunking.{around};
-ghost use Rattle.programs.specs.Flushes.{FlushesPerAsk, FlushesSend};
-ghost use Rattle.programs.specs.Prompt.{HoldsNothingBack};
-ghost use Rattle.programs.specs.Streams.{EndsOnce, IsFresh};
-ghost use Rattle.bodies.specs.Encode.{EncodeRan, EndsBody, IsDue};
+ghost use Rattle.programs.specs.Streams.{IsFresh};
+ghost use Rattle.bodies.specs.Encode.{Encodes, EndsBody};
 
 use crate::encoding::Encoding;
 use crate::error::{RunError, error_of};
@@ -30,11 +28,7 @@ pub fn encode<R: TellRead, W: TellWrite>(
     reader: R,
     writer: W,
 ) -> (Result<(), RunError>, R, W)
-    ensures ran { EncodeRan (R.log reader) (R.log result.1) (W.log writer) (W.log result.2) result.0 }
-    ensures prompt { HoldsNothingBack IsDue (R.log reader) (R.log result.1) (W.log writer) (W.log result.2) }
-    ensures once { EndsOnce (R.log reader).reads (R.log result.1).reads }
-    ensures flushes { FlushesSend 1 (W.log writer).writes (W.log result.2).writes }
-    ensures per_ask { FlushesPerAsk 1 (R.log reader) (R.log result.1) (W.log writer) (W.log result.2) }
+    ensures { Encodes (R.log reader) (R.log result.1) (W.log writer) (W.log result.2) result.0 }
 {
     let (source, target) = match buffered(alloc, false, (PIECE, 2 * PIECE), reader, writer) {
         Ok(buffers) => buffers,
@@ -52,11 +46,7 @@ fn encode_all<R: TellRead, W: TellWrite>(
 ) -> (Result<(), RunError>, BufReader<R>, BufWriter<W>)
     requires source { IsFresh 1 source.block }
     requires target { IsFresh (around + 1) target.block }
-    ensures ran { EncodeRan source.log result.1.log target.log result.2.log result.0 }
-    ensures prompt { HoldsNothingBack IsDue source.log result.1.log target.log result.2.log }
-    ensures once { EndsOnce source.log.reads result.1.log.reads }
-    ensures flushes { FlushesSend 1 target.log.writes result.2.log.writes }
-    ensures per_ask { FlushesPerAsk 1 source.log result.1.log target.log result.2.log }
+    ensures { Encodes source.log result.1.log target.log result.2.log result.0 }
 {
     let mut link = Link::new(Encoding {
         source,

@@ -14,6 +14,7 @@ use Rattle.buffer_redux.specs.Unbuffer.{Unbuffered, unbuffered}
 use Rattle.buffer_redux.specs.declared.policy.StdPolicy.{StdPolicy}
 use Rattle.chunked.specs.Asking.{AskedWhere}
 use Rattle.chunked.specs.Between.{FillsAndTakes, LastCall, TakesTurn, TakesTurns}
+use Rattle.chunked.specs.BetweenLaws.{Reads-ways}
 use Rattle.chunked.specs.Dechunking.{Dechunking, IsDechunking, ReadsPayload}
 use Rattle.chunked.specs.Place.{IsPlace, IsSettled, Leads}
 use Rattle.chunked.specs.PlaceLaws.{Leads-joins, Leads-none}
@@ -27,16 +28,24 @@ pub AskedWhere-of : {R : Type 0} (P Q : List ℕ → Type 0) (s t : Unbuffered R
     → AskedWhere P s t → AskedWhere Q s t
 AskedWhere-of P Q s t so (inl same) = inl same
 AskedWhere-of P Q s t so (inr over) =
-    inr (record { came = over.came; given = over.given; such = so (s.left ++ over.came) over.such; asks = over.asks })
+    inr (record {
+      came = over.came;
+      given = over.given;
+      such = so (s.left ++ over.came) over.such;
+      some = over.some;
+      asks = over.asks;
+    })
 
 -- what is told of it stays
-AskedWhere-same : {R : Type 0} (P : List ℕ → Type 0) (s m t : Unbuffered R) → t.log ≡ m.log → AskedWhere P s m → AskedWhere P s t
+AskedWhere-same : {R : Type 0} (P : List ℕ → Type 0) (s m t : Unbuffered R) → t.log ≡ m.log → AskedWhere P s m
+    → AskedWhere P s t
 AskedWhere-same P s m t same (inl none) = inl (same ∙ none)
 AskedWhere-same P s m t same (inr over) = inr (record {
   came = over.came;
   given = ap (λ l. l.reads.given) same ∙ over.given
       ∙ ap (λ l. s.log.reads.given ++ (over.came ++ l.reads.latest)) (sym same);
   such = over.such;
+  some = omega (arith, over.some, ap (λ l. l.reads.asks) same);
   asks = omega (arith, over.asks, ap (λ l. l.reads.asks) same);
 })
 
@@ -77,6 +86,10 @@ module _ {R : Type 0} where
             ∙ append_assoc s.log.reads.given got (over.came ++ t.log.reads.latest)
             ∙ ap (λ l. s.log.reads.given ++ l) (sym (append_assoc got over.came t.log.reads.latest));
         such = subst P bytes (so (m.block.bytes ++ over.came) over.such);
+        some = elim before [
+          | inl same ↦ omega (arith, over.some, ap (λ l. l.reads.asks) same)
+          | inr first ↦ omega (arith, over.some, first.some)
+        ];
         asks = omega (
           arith,
           over.asks,
@@ -112,6 +125,7 @@ module _ {R : Type 0} where
     given = ap (λ l. l.reads.given) told ∙ ap (λ l. m.log.reads.given ++ l.reads.latest) (sym told)
         ∙ ap (λ l. l.reads.given ++ t.log.reads.latest) same;
     such = append-nil s.block.bytes ∙ empty;
+    some = omega (arith, ap (λ l. l.reads.asks) told, ap (λ l. l.reads.asks) same);
     asks = omega (arith, ap (λ l. l.reads.asks) told, ap (λ l. l.reads.asks) same);
   })
 
@@ -160,14 +174,9 @@ module _ {R : Type 0} where
 
   pub read_asks : (s t : Buffered R StdPolicy) (before after : List ℕ) (answer : Result ℕ Error)
       → Reads std_read_rules s before answer after t → AsksEmpty s t
-  read_asks s t before after answer reads = elim (cases_lt 0 (length s.block.bytes)) [
-    | inl some ↦ through s t (length before) answer (reads.buffered (inl some))
-    | inr none ↦ elim (cases_lt (length before) s.block.capacity) [
-      | inl short ↦ through s t (length before) answer (reads.buffered (inr short))
-      | inr long ↦
-          once s s t after answer (nil_from_length s.block.bytes (omega (arith, none))) refl
-          (reads.direct (omega (arith, none), long)).told
-    ]
+  read_asks s t before after answer reads = elim (Reads-ways std_read_rules s t before after answer reads) [
+    | inl b ↦ through s t (length before) answer b
+    | inr past ↦ once s s t after answer past.0 refl past.1.told
   ]
 
   -- where some bytes were taken, or are left, of none that were buffered, some came
@@ -196,30 +205,44 @@ module _ {R : Type 0} where
   -- a read that hands some out
   read_gives : (s t : Buffered R StdPolicy) (before after : List ℕ) (n : ℕ)
       → Reads std_read_rules s before (Ok (suc n)) after t → AsksGive s t
-  read_gives s t before after n reads =
-      let inside : ReadsBuffered std_read_rules s (length before) (Ok (suc n)) t → AsksGive s t = λ b.
-      let took = took_some s [] b.filled b.fills.in_order (omega (arith, b.handed.0)) (fill_asks s b.filled (Ok (suc n)) b.fills) in
-      omega (
-        arith,
-        took.gives,
-        ap (λ l. l.reads.asks) b.handed.1.told,
-        ap (λ l. length l.reads.given) b.handed.1.told,
-      ) in
-      elim (cases_lt 0 (length s.block.bytes)) [
-        | inl some ↦ inside (reads.buffered (inl some))
-        | inr none ↦ elim (cases_lt (length before) s.block.capacity) [
-          | inl short ↦ inside (reads.buffered (inr short))
-          | inr long ↦
-              let direct = reads.direct (omega (arith, none), long) in
-              omega (
-                arith,
-                ap (λ l. l.reads.asks) direct.told,
-                ap (λ l. length l.reads.given) direct.told,
-                length-append s.log.reads.given (take (suc n) after),
-                length-take-le (suc n) after direct.bound,
-              )
-        ]
+  read_gives s t before after n reads = elim (Reads-ways std_read_rules s t before after (Ok (suc n)) reads) [
+    | inl b ↦
+        let took = took_some s [] b.filled b.fills.in_order (omega (arith, b.handed.0))
+        (fill_asks s b.filled (Ok (suc n)) b.fills) in
+        omega (
+          arith,
+          took.gives,
+          ap (λ l. l.reads.asks) b.handed.1.told,
+          ap (λ l. length l.reads.given) b.handed.1.told,
+        )
+    | inr past ↦ omega (
+      arith,
+      ap (λ l. l.reads.asks) past.1.told,
+      ap (λ l. length l.reads.given) past.1.told,
+      length-append s.log.reads.given (take (suc n) after),
+      length-take-le (suc n) after past.1.bound,
+    )
+  ]
+
+  -- one that failed leaves nothing, as a fill does
+  pub fill_leaves : {A : Type 0} (s t : Buffered R StdPolicy) (e : Error) → Fills {A = A} std_read_rules s (Err e) t
+      → t.block.bytes ≡ []
+  fill_leaves s t e fills =
+      let last = fills.filled.last in
+      elim fills.filled.ends [
+        | inl refused ↦ absurd refused.asked.allowed
+        | inr faulted ↦
+            let asked = faulted.ordered.asked in
+            faulted.read.added.bytes ∙ append-nil faulted.seen.bytes ∙ asked.law.bytes
+            ∙ nil_from_length last.block.bytes (none_of (length last.block.bytes) asked.allowed.2)
       ]
+
+  read_leaves : (s t : Buffered R StdPolicy) (before after : List ℕ) (e : Error)
+      → Reads std_read_rules s before (Err e) after t → t.block.bytes ≡ []
+  read_leaves s t before after e reads = elim (Reads-ways std_read_rules s t before after (Err e) reads) [
+    | inl b ↦ ap (λ x. x.block.bytes) b.handed ∙ fill_leaves s b.filled e b.fills
+    | inr past ↦ ap (λ b. b.bytes) past.1.block ∙ past.0
+  ]
 
 -- these bytes hold no payload, and lead on to a place before the end of the body
 pub record LeadsOn (limits : Limits) (p : Place) (bytes : List ℕ) : Type 0 where
@@ -247,7 +270,8 @@ module _ {R : Type 0} (limits : Limits) (s : Buffered R StdPolicy) (p : Place) w
       AskedWhere-on (LeadsOn limits p) (λ bytes. bytes ≡ []) s m t done.wire done.took
       (λ bytes none. record {
         place = r;
-        leads = subst (λ l. Leads limits p l [] r) (sym (append-nil done.wire) ∙ ap (λ l. done.wire ++ l) (sym none)) done.leads;
+        leads = subst (λ l. Leads limits p l [] r) (sym (append-nil done.wire) ∙ ap (λ l. done.wire ++ l) (sym none))
+            done.leads;
         is_place = done.is_place;
         before_end = goes_on;
       }) done.asked asks
@@ -273,7 +297,8 @@ module _ {R : Type 0} (limits : Limits) (s : Buffered R StdPolicy) (p : Place) w
       let f = turn.takes.filled in
       let front = take turn.count f.block.bytes in
       let asks = take_asks turn.count m t turn.takes in
-      let order = ReadsInOrder-joins m f t [] front turn.takes.fills.in_order (taken turn.count f t turn.takes.held turn.takes.took) in
+      let order = ReadsInOrder-joins m f t [] front turn.takes.fills.in_order
+      (taken turn.count f t turn.takes.held turn.takes.took) in
       record {
         wire = done.wire ++ front;
         leads = Leads-joins limits p r q done.wire front [] [] done.leads turn.leads;
@@ -316,7 +341,8 @@ module _ {R : Type 0} (remaining : R → Option (List ℕ)) (s t : Dechunking R 
   done = turns_done s.limits s.reader s.place reads.calls.count reads.calls.last reads.calls.place is.place reads.calls.turns
 
   last : AsksEmpty reads.calls.last t.reader
-  last = last_asks s.limits s.reader s.place reads.calls.last t.reader reads.calls.place t.place (length out) answer reads.calls.call
+  last = last_asks s.limits s.reader s.place reads.calls.last t.reader reads.calls.place t.place (length out) answer
+      reads.calls.call
 
   -- it asks only where all that was buffered, then what had come, holds no payload, and the body goes on behind it
   pub payload_asks : AskedWhere (LeadsOn s.limits s.place) (unbuffered s.reader) (unbuffered t.reader)
@@ -326,23 +352,33 @@ module _ {R : Type 0} (remaining : R → Option (List ℕ)) (s t : Dechunking R 
         then_asks s.limits s.reader s.place reads.calls.last t.reader reads.calls.place done goes_on last
   ]
 
-  -- where it handed some out, each ask gave a byte
-  pub payload_takes : (n : ℕ) → answer ≡ Ok (suc n) → Took s.reader reads.went.wire t.reader
-  payload_takes n is =
-      let call = subst (λ a. LastCall std_read_rules reads.calls.last reads.calls.place (length out) a t.reader t.place) is
-      reads.calls.call in
-      record {
-        order = reads.went.along.in_order;
-        gives = omega (
-          arith,
-          done.took.gives,
-          read_gives reads.calls.last t.reader call.before call.after n call.reads,
-        );
-      }
+  -- where it handed some out, or the body ended, each ask gave a byte
+  pub payload_gives : (n : ℕ) → answer ≡ Ok n → AsksGive s.reader t.reader
+  payload_gives n is = gives n (subst (λ a. LastCall std_read_rules reads.calls.last reads.calls.place (length out) a t.reader
+      t.place) is reads.calls.call)
+    where
+      gives : (n : ℕ) → LastCall std_read_rules reads.calls.last reads.calls.place (length out) (Ok n) t.reader t.place
+          → AsksGive s.reader t.reader
+      gives zero call = subst (AsksGive s.reader) call.0 done.took.gives
+      gives (suc n) call = omega (
+        arith,
+        done.took.gives,
+        read_gives reads.calls.last t.reader call.before call.after n call.reads,
+      )
+
+  -- where one failed nothing is left
+  pub payload_leaves : (e : Error) → answer ≡ Err (Io e) → t.reader.block.bytes ≡ []
+  payload_leaves e is =
+      elim (subst (λ a. LastCall std_read_rules reads.calls.last reads.calls.place (length out) a t.reader t.place) is
+      reads.calls.call) [
+        | inl fills ↦ fill_leaves reads.calls.last t.reader e fills
+        | inr some ↦ read_leaves reads.calls.last t.reader some.before some.after e some.reads
+      ]
 
   -- and nobody where the next byte of payload is buffered
   pub payload_idle : IsSettled s.place → 0 < length s.reader.block.bytes → t.reader.log ≡ s.reader.log
   payload_idle settled some =
-      let still = still s.limits s.reader s.place reads.calls.count reads.calls.last reads.calls.place settled reads.calls.turns in
+      let still = still s.limits s.reader s.place reads.calls.count reads.calls.last reads.calls.place settled
+      reads.calls.turns in
       asks_none reads.calls.last t.reader last (omega (arith, some, ap (λ x. length x.block.bytes) still.0))
       ∙ ap (λ x. x.log) (sym still.0)

@@ -1,10 +1,13 @@
--- Laws of what is taken of a body: stretches of calls join.
-use Rattle.std.specs.Prelude.{ℕ, List, [], ◌++◌, Option}
-use Rattle.std.proofs.Common.{sym, ap, subst, ◌∙◌, refl, append_assoc, append-nil}
-use Rattle.buffer_redux.specs.Buffered.{Buffered}
-use Rattle.buffer_redux.specs.BufReader.{ReadsAlong}
+-- Laws of what is taken of a body: stretches of calls join; and the two ways of a read.
+use Rattle.std.proofs.Common.{◌≡◌, ℕ, List, [], ◌++◌, length, Option, Result, ◌⊎◌, inl, inr, sym, ap, subst, ◌∙◌, refl, arith, append_assoc, append-nil}
+use Rattle.std.proofs.lemmas.Bool.{cases_lt}
+use Rattle.std.proofs.lemmas.List.{nil_from_length}
+use Rattle.std.specs.declared.io.Error.{Error}
+use Rattle.buffer_redux.specs.Buffered.{Buffered, GoesDirect}
+use Rattle.buffer_redux.specs.BufReader.{Reads, ReadsAlong, ReadsBuffered}
 use Rattle.buffer_redux.specs.Policy.{ReadRules}
 use Rattle.buffer_redux.specs.ReaderLaws.{ReadsAlong-none, ReadsAlong-joins}
+use Rattle.buffer_redux.specs.StreamLog.{after_read}
 use Rattle.chunked.specs.declared.progress.Progress.{Progress}
 use Rattle.chunked.specs.Between.{Takes, taken_of}
 use Rattle.chunked.specs.Place.{IsPlace, Leads}
@@ -44,3 +47,15 @@ module _ {S P : Type 0} (remaining : S → Option (List ℕ)) (rules : ReadRules
     limits = x.limits;
     place = x.place;
   }
+
+-- a read goes through the buffer, or past an empty one
+pub Reads-ways : {S P : Type 0} (rules : ReadRules P) (s t : Buffered S P) (before after : List ℕ) (answer : Result ℕ Error)
+    → Reads rules s before answer after t
+    → ReadsBuffered rules s (length before) answer t ⊎ ((s.block.bytes ≡ []) × GoesDirect after_read s after answer t)
+Reads-ways rules s t before after answer reads = elim (cases_lt 0 (length s.block.bytes)) [
+  | inl some ↦ inl (reads.buffered (inl some))
+  | inr none ↦ elim (cases_lt (length before) s.block.capacity) [
+    | inl short ↦ inl (reads.buffered (inr short))
+    | inr long ↦ inr (nil_from_length s.block.bytes (omega (arith, none)), reads.direct (omega (arith, none), long))
+  ]
+]

@@ -1,7 +1,8 @@
 -- Laws of a reader of a body.
-use Rattle.std.specs.Prelude.{◌≡◌, ℕ, List, [], ◌∷◌, ◌++◌, Option, None, Some}
+use Rattle.std.specs.Prelude.{◌≡◌, ℕ, List, [], ◌∷◌, ◌++◌, Bool, Option, None, Some, Result}
 use Rattle.std.proofs.Common.{sym, ap, subst, ◌∙◌, refl, append_assoc, append-nil}
 use Rattle.std.specs.Io.KnownBytes.{Consumes}
+use Rattle.std.specs.declared.io.Error.{Error}
 use Rattle.buffer_redux.specs.Buffered.{Buffered}
 use Rattle.buffer_redux.specs.Policy.{ReadRules}
 use Rattle.buffer_redux.specs.ReaderLaws.{ReadsAlong-none, ReadsAlong-joins, ReadsInOrder-ahead}
@@ -11,7 +12,7 @@ use Rattle.chunked.specs.declared.place.Place.{Place}
 use Rattle.chunked.specs.declared.place.Place.TheVariants.{Line, Size, Extension, SizeFeed, Data, DataFeed, Fields, FieldName, FieldValue, FieldFeed, LastFeed, Done}
 use Rattle.chunked.specs.Body.{line_end, IsBody, fields_bytes, HasChunks}
 use Rattle.chunked.specs.BodyLaws.{IsBody-same}
-use Rattle.chunked.specs.Dechunking.{BodyWent, Dechunking, IsDechunking, IsWhole, begun, handed_of}
+use Rattle.chunked.specs.Dechunking.{BodyWent, Dechunking, IsDechunking, IsWhole, LooksBehind, begun, handed_of}
 use Rattle.chunked.specs.Place.{Completes, Leads}
 use Rattle.chunked.specs.PlaceLaws.{Leads-none, Leads-whole}
 
@@ -80,6 +81,17 @@ module _ {S P : Type 0} (remaining : S → Option (List ℕ)) (rules : ReadRules
     taken = b.taken ∙ ap (λ l. l ++ b.wire) a.taken ∙ append_assoc s.taken a.wire b.wire;
     handed = b.handed ∙ ap (λ l. l ++ k) a.handed ∙ append_assoc (handed_of s) h k;
     limits = b.limits ∙ a.limits;
+  }
+
+  -- a fill takes nothing
+  pub LooksBehind-went : (s t : Dechunking S P) (answer : Result Bool Error) → LooksBehind remaining rules s answer t
+      → BodyWent remaining rules s [] t
+  LooksBehind-went s t answer looks = record {
+    wire = [];
+    along = looks.along;
+    taken = ap (λ d. d.taken) looks.still ∙ sym (append-nil s.taken);
+    handed = ap (λ d. handed_of d) looks.still ∙ sym (append-nil (handed_of s));
+    limits = ap (λ d. d.limits) looks.still;
   }
 
   -- where the bytes that are known to be left begin with a body, once it ended just what follows it is left

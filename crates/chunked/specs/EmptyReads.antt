@@ -1,15 +1,15 @@
 -- How often the reader inside gives nothing in one read of payload, where a read is ordered over an empty buffer alone: once
 -- where that ends the body early, and else never.
 use Rattle.std.proofs.Common.{◌≡◌, ℕ, zero, suc, ◌+◌, ◌<◌, ◌≤◌, List, Option, Result, Ok, Err, length, min, inl, inr, sym, ap, ◌∙◌, arith}
-use Rattle.std.proofs.lemmas.Bool.{cases_lt}
 use Rattle.std.proofs.lemmas.List.{length-drop}
 use Rattle.std.specs.declared.io.Error.{Error}
 use Rattle.buffer_redux.specs.Buffered.{Buffered}
-use Rattle.buffer_redux.specs.BufReader.{Reads, ReadsBuffered}
+use Rattle.buffer_redux.specs.BufReader.{Reads}
 use Rattle.buffer_redux.specs.EmptyReads.{ReadsWhenEmpty, none_before_fault, none_where_shown, once_at_most}
 use Rattle.buffer_redux.specs.Policy.{ReadRules}
 use Rattle.buffer_redux.specs.StreamLog.{ReadLog, with_zero, zero_of_some}
 use Rattle.chunked.specs.Between.{FillsAndTakes, TakesTurns}
+use Rattle.chunked.specs.BetweenLaws.{Reads-ways}
 use Rattle.chunked.specs.Dechunking.{Dechunking, ReadsPayload}
 use Rattle.chunked.specs.declared.error.ChunkedError.{ChunkedError}
 use Rattle.chunked.specs.declared.error.ChunkedError.TheVariants.{NotChunked, Truncated, Io}
@@ -49,54 +49,36 @@ module _ {S P : Type 0} (rules : ReadRules P) (orders : ReadsWhenEmpty rules) wh
   turns_gave limits (suc count) s p t q (m, r, turns, turn) =
       some_shown m t turn.count turn.takes (omega (arith, turn.some, turn.takes.held)) ∙ turns_gave limits count s p m r turns
 
-  -- one read, past the buffer, or through it
+  -- one read, through the buffer, or past it
   module _ (s t : Buffered S P) (before after : List ℕ) where
     read_some : (n : ℕ) → Reads rules s before (Ok (suc n)) after t → t.log.reads.zero_reads ≡ s.log.reads.zero_reads
-    read_some n reads =
-        let through : ReadsBuffered rules s (length before) (Ok (suc n)) t → t.log.reads.zero_reads ≡ s.log.reads.zero_reads =
-        λ b. ap (λ l. l.reads.zero_reads) b.handed.1.told
-        ∙ none_where_shown rules orders s b.filled (suc n) b.fills.filled (omega (arith, b.handed.0)) in
-        elim (cases_lt 0 (length s.block.bytes)) [
-          | inl held ↦ through (reads.buffered (inl held))
-          | inr none ↦ elim (cases_lt (length before) s.block.capacity) [
-            | inl short ↦ through (reads.buffered (inr short))
-            | inr long ↦
-                ap (λ l. l.reads.zero_reads) (reads.direct (omega (arith, none), long)).told
-                ∙ zero_of_some (suc n) after s.log.reads.zero_reads (inl (omega arith))
-          ]
-        ]
+    read_some n reads = elim (Reads-ways rules s t before after (Ok (suc n)) reads) [
+      | inl b ↦ ap (λ l. l.reads.zero_reads) b.handed.1.told
+          ∙ none_where_shown rules orders s b.filled (suc n) b.fills.filled (omega (arith, b.handed.0))
+      | inr past ↦ ap (λ l. l.reads.zero_reads) past.1.told
+          ∙ zero_of_some (suc n) after s.log.reads.zero_reads (inl (omega arith))
+    ]
 
     read_none : Reads rules s before (Ok 0) after t → t.log.reads.zero_reads ≤ s.log.reads.zero_reads + 1
-    read_none reads =
-        let through : ReadsBuffered rules s (length before) (Ok 0) t → t.log.reads.zero_reads ≤ s.log.reads.zero_reads + 1 =
-        λ b. omega (
-          arith,
-          ap (λ l. l.reads.zero_reads) b.handed.1.told,
-          once_at_most rules orders s b.filled 0 b.fills.filled,
-        ) in
-        elim (cases_lt 0 (length s.block.bytes)) [
-          | inl held ↦ through (reads.buffered (inl held))
-          | inr none ↦ elim (cases_lt (length before) s.block.capacity) [
-            | inl short ↦ through (reads.buffered (inr short))
-            | inr long ↦ omega (
-              arith,
-              ap (λ l. l.reads.zero_reads) (reads.direct (omega (arith, none), long)).told,
-              one_more_at_most 0 after s.log.reads.zero_reads,
-            )
-          ]
-        ]
+    read_none reads = elim (Reads-ways rules s t before after (Ok 0) reads) [
+      | inl b ↦ omega (
+        arith,
+        ap (λ l. l.reads.zero_reads) b.handed.1.told,
+        once_at_most rules orders s b.filled 0 b.fills.filled,
+      )
+      | inr past ↦ omega (
+        arith,
+        ap (λ l. l.reads.zero_reads) past.1.told,
+        one_more_at_most 0 after s.log.reads.zero_reads,
+      )
+    ]
 
     read_fault : (e : Error) → Reads rules s before (Err e) after t → t.log.reads.zero_reads ≡ s.log.reads.zero_reads
-    read_fault e reads =
-        let through : ReadsBuffered rules s (length before) (Err e) t → t.log.reads.zero_reads ≡ s.log.reads.zero_reads =
-        λ b. ap (λ x. x.log.reads.zero_reads) b.handed ∙ none_before_fault rules orders s b.filled e b.fills.filled in
-        elim (cases_lt 0 (length s.block.bytes)) [
-          | inl held ↦ through (reads.buffered (inl held))
-          | inr none ↦ elim (cases_lt (length before) s.block.capacity) [
-            | inl short ↦ through (reads.buffered (inr short))
-            | inr long ↦ ap (λ l. l.reads.zero_reads) (reads.direct (omega (arith, none), long)).told
-          ]
-        ]
+    read_fault e reads = elim (Reads-ways rules s t before after (Err e) reads) [
+      | inl b ↦
+          ap (λ x. x.log.reads.zero_reads) b.handed ∙ none_before_fault rules orders s b.filled e b.fills.filled
+      | inr past ↦ ap (λ l. l.reads.zero_reads) past.1.told
+    ]
 
   module _ (remaining : S → Option (List ℕ)) (s t : Dechunking S P) (out : List ℕ) where
     module _ (answer : Result ℕ ChunkedError) (reads : ReadsPayload remaining rules s out answer t) where

@@ -8,7 +8,7 @@ use Rattle.buffer_redux.specs.Policy.{std_read_rules}
 use Rattle.buffer_redux.specs.Unbuffer.{unbuffered}
 use Rattle.buffer_redux.specs.declared.policy.StdPolicy.{StdPolicy}
 use Rattle.chunked.specs.Asking.{AskedWhere}
-use Rattle.chunked.specs.AskingLaws.{AskedWhere-of, AsksEmpty, asks_none, fill_asks, AskedWhere-on, AsksGive, LeadsOn, Took, payload_asks, payload_idle, payload_takes}
+use Rattle.chunked.specs.AskingLaws.{AskedWhere-of, AsksEmpty, asks_none, fill_asks, AskedWhere-on, AsksGive, LeadsOn, Took, payload_asks, payload_gives, payload_idle}
 use Rattle.chunked.specs.Dechunking.{BodyWent, Dechunking, DrainReads, IsDechunking, ReadsOn, ReadsPayload}
 use Rattle.chunked.specs.DechunkingLaws.{BodyWent-joins, BodyWent-none, Completes-nothing, IsWhole-done}
 use Rattle.chunked.specs.Place.{Completes}
@@ -143,7 +143,7 @@ module _ {R : Type 0} (remaining : R → Option (List ℕ)) (s : Dechunking R St
         handed = d.handed ++ take (suc n) out;
         went = BodyWent-joins remaining std_read_rules s m t d.handed (take (suc n) out) d.went reads.went;
         whole = reads.whole;
-        gives = omega (arith, d.gives, (payload_takes remaining m t d.whole out (Ok (suc n)) reads n refl).gives);
+        gives = omega (arith, d.gives, payload_gives remaining m t d.whole out (Ok (suc n)) reads (suc n) refl);
         asked = then_asked m t out (Ok (suc n)) d reads;
       }
 

@@ -1,18 +1,21 @@
-use Rattle.std.proofs.Common.{arith, drop, length-append, length-take-le}
+use Rattle.std.proofs.Common.{arith, drop, length-append, length-take-le, subst, sym}
 use Rattle.std.proofs.lemmas.List.{take-append-le}
+use Rattle.buffer_redux.specs.Policy.{std_read_rules}
+use Rattle.chunked.specs.Dechunking.{BodyWent}
 use Rattle.bodies.proofs.decoding.read_held.Goals as goal
 
 pub returns : goal.returns
-returns g c = record {
-  out = c.read_buffered.new.out;
-  hands = c.read_buffered.ensures;
-  front = take-append-le c.read_buffered.result c.read_buffered.new.out (drop 8191 c.args.piece.now) c.read_buffered.ensures.bound;
-  bound = omega (
-    arith,
-    c.read_buffered.ensures.bound,
-    length-append c.read_buffered.new.out (drop 8191 c.args.piece.now),
-  );
-}
+returns g c =
+    let hands = c.read_buffered.ensures in
+    let out = c.read_buffered.new.out in
+    let more = drop 8191 c.args.piece.now in
+    record {
+      went = subst (λ l. BodyWent g.R.TellRead.remaining std_read_rules c.args.source.now l c.read_buffered.new.self)
+          (sym (take-append-le c.read_buffered.result out more hands.bound)) hands.went;
+      told = hands.told;
+      bound = omega (arith, hands.bound, length-append out more);
+      whole = hands.whole;
+    }
 
 pub slice_bounds-read_buffered-end-2 : goal.slice_bounds-read_buffered-end-2
 slice_bounds-read_buffered-end-2 g c =

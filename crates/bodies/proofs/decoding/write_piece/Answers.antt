@@ -1,7 +1,21 @@
-use Rattle.std.proofs.Common.{[]}
+use Rattle.std.proofs.Common.{[], ap, arith, subst, sym, ◌∙◌}
+use Rattle.buffer_redux.specs.Faults.{MetInterrupts}
 use Rattle.buffer_redux.specs.WriterLaws.{WritesInOrder-joins}
 use Rattle.bodies.proofs.decoding.write_piece.Goals as goal
 
-pub returns-clause-taken : goal.returns-clause-taken
-returns-clause-taken g c =
-    WritesInOrder-joins _ _ _ [] c.args.piece.now c.in_ok-make_room.ensures.none c.put.ensures.taken
+pub returns : goal.returns
+returns g c =
+    let made = c.in_ok-make_room.ensures in
+    let put = c.put.ensures in
+    record {
+      answers = (
+        WritesInOrder-joins _ _ _ [] c.args.piece.now made.none put.taken,
+        subst (λ l. MetInterrupts c.args.target.now.log.writes l.writes) (sym put.told) made.met,
+      );
+      not_flushed = ap (λ l. l.writes.flushed) put.told ∙ made.not_flushed;
+      flushes = ap (λ l. l.writes.flushes) put.told ∙ made.flushes;
+      target = record {
+        plain = put.kind ∙ made.kind ∙ c.requires.target.plain;
+        capacity = omega (arith, put.capacity, made.capacity, c.requires.target.capacity);
+      };
+    }

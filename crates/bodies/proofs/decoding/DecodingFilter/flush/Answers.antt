@@ -1,4 +1,4 @@
-use Rattle.bodies.proofs.Passing.{flushes_all}
+use Rattle.bodies.proofs.DecodingCalls.{flushes_all}
 use Rattle.bodies.proofs.decoding.DecodingFilter.flush.Goals as goal
 
 pub returns : goal.returns
