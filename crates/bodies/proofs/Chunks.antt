@@ -1,5 +1,5 @@
 -- What a chunk, and the end of a body, do to the writer.
-use Rattle.std.proofs.Common.{◌≡◌, ℕ, ◌+◌, ◌<◌, ◌≤◌, inl, inr, List, [], length, Result, Ok, Err, refl, subst, sym, ap, ◌∙◌, arith, length-append}
+use Rattle.std.proofs.Common.{◌≡◌, ℕ, ◌+◌, ◌<◌, ◌≤◌, inl, inr, List, [], length, take, Result, Ok, Err, refl, subst, sym, ap, ◌∙◌, arith, length-append}
 use Rattle.std.proofs.lemmas.Bool.{cases_lt}
 use Rattle.std.specs.declared.io.Error.{Error}
 use Rattle.buffer_redux.specs.BufWriter.{WasFlushed, WasSent, WritesInOrder}
@@ -8,7 +8,7 @@ use Rattle.buffer_redux.specs.Faults.{MetInterrupts, MetInterrupts-joins, SendEr
 use Rattle.buffer_redux.specs.StreamLog.{StreamLog}
 use Rattle.buffer_redux.specs.WriterLaws.{WritesInOrder-then}
 use Rattle.buffer_redux.specs.declared.policy.StdPolicy.{StdPolicy}
-use Rattle.chunked.specs.Chunk.{body_end}
+use Rattle.chunked.specs.Chunk.{body_end, chunk}
 use Rattle.chunked.specs.Chunking.{Chunking, IsChunking, PutsFirst, PutsIn, WritesChunk, around, room}
 use Rattle.programs.specs.FlushesLaws.{FlushesOnce-flush, flushed_once}
 use Rattle.programs.specs.PromptLaws.{WritesOn-grows, WritesOn-joins, WritesOn-unflushed}
@@ -26,39 +26,35 @@ pub record Quiet {W : Type 0} (u v : Buffered W StdPolicy) : Type 0 where
 
 module _ {W : Type 0} (tells : W → StreamLog) (stretch : W → W → Type 0) where
   -- so it is where bytes go in, whether or not what was buffered had to be sent first
-  puts : (u v : Buffered W StdPolicy) (bytes : List ℕ) → PutsIn stretch u bytes v → Quiet u v
-  puts u v bytes p = record {
-    met = subst (λ l. MetInterrupts u.log.writes l.writes) (sym p.told) (MetInterrupts-none u.log.writes);
-    not_flushed = ap (λ l. l.writes.flushed) p.told;
-    flushes = ap (λ l. l.writes.flushes) p.told;
-  }
-
-  puts_first : (u v : Buffered W StdPolicy) (bytes : List ℕ) → PutsFirst tells stretch u bytes v → Quiet u v
-  puts_first u v bytes p = record {
-    met = subst (λ l. MetInterrupts u.log.writes l.writes) (sym p.puts.told) p.sends.ok.met;
-    not_flushed = ap (λ l. l.writes.flushed) p.puts.told ∙ p.sends.not_flushed;
-    flushes = ap (λ l. l.writes.flushes) p.puts.told ∙ p.sends.sends.sent.flushes;
-  }
-
-  pub put_quietly : (u v : Buffered W StdPolicy) (bytes : List ℕ) (n : ℕ) → (n ≤ room u → PutsIn stretch u bytes v)
-      → (room u < n → PutsFirst tells stretch u bytes v) → Quiet u v
-  put_quietly u v bytes n fits full = elim (cases_lt (room u) n) [
-    | inl none ↦ puts_first u v bytes (full none)
-    | inr there ↦ puts u v bytes (fits there)
+  pub put_quietly : (u v : Buffered W StdPolicy) (bytes more : List ℕ) (n : ℕ) → (n ≤ room u → PutsIn stretch u bytes v)
+      → (room u < n → PutsFirst tells stretch u more v) → Quiet u v
+  put_quietly u v bytes more n fits full = elim (cases_lt (room u) n) [
+    | inl none ↦
+        let p = full none in
+        record {
+          met = subst (λ l. MetInterrupts u.log.writes l.writes) (sym p.puts.told) p.sends.ok.met;
+          not_flushed = ap (λ l. l.writes.flushed) p.puts.told ∙ p.sends.not_flushed;
+          flushes = ap (λ l. l.writes.flushes) p.puts.told ∙ p.sends.sends.sent.flushes;
+        }
+    | inr there ↦
+        let told = (fits there).told in
+        record {
+          met = subst (λ l. MetInterrupts u.log.writes l.writes) (sym told) (MetInterrupts-none u.log.writes);
+          not_flushed = ap (λ l. l.writes.flushed) told;
+          flushes = ap (λ l. l.writes.flushes) told;
+        }
   ]
 
   module _ (b c : Chunking W) (payload : List ℕ) (some : 0 < length payload) where
     pub chunk_quietly : (n : ℕ) → WritesChunk tells stretch b payload (Ok n) c → Quiet b.writer c.writer
-    chunk_quietly n p = elim (cases_lt (room b.writer) (around + length payload)) [
-      | inl none ↦ puts_first b.writer c.writer _ (p.full some none).1
-      | inr there ↦ puts b.writer c.writer _ (p.fits some there).puts
-    ]
+    chunk_quietly n p = put_quietly b.writer c.writer (chunk payload) (chunk (take n payload)) (around + length payload)
+        (λ there. (p.fits some there).1) (λ none. (p.full some none).1)
 
     -- it has a byte at least
     pub chunk_some : (n : ℕ) → WritesChunk tells stretch b payload (Ok n) c → IsChunking b → 0 < n
     chunk_some n p is = elim (cases_lt (room b.writer) (around + length payload)) [
       | inl none ↦ omega (arith, (p.full some none).0, some, is.capacity)
-      | inr there ↦ omega (arith, ap count (p.fits some there).ok, some)
+      | inr there ↦ omega (arith, ap count (p.fits some there).0, some)
     ]
       where
         count : Result ℕ Error → ℕ
@@ -70,7 +66,7 @@ module _ {W : Type 0} (tells : W → StreamLog) (stretch : W → W → Type 0) w
         → WasSent tells stretch b.writer (Err e) c.writer
     chunk_not_sent e p = elim (cases_lt (room b.writer) (around + length payload)) [
       | inl none ↦ p.full some none
-      | inr there ↦ absurd (let odd = (p.fits some there).ok in cc)
+      | inr there ↦ absurd (let odd = (p.fits some there).0 in cc)
     ]
 
   -- the end of a body, and a flush

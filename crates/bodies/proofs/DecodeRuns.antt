@@ -1,5 +1,5 @@
 -- What a whole run of `decode` comes to.
-use Rattle.std.proofs.Common.{◌≡◌, ℕ, inl, inr, List, [], ◌∷◌, ◌++◌, length, length-append, ◌≤◌, Option, Result, Ok, Err, refl, sym, ap, subst, ◌∙◌, arith, append_assoc, append-nil}
+use Rattle.std.proofs.Common.{◌≡◌, ℕ, inl, inr, List, [], ◌++◌, length, length-append, ◌≤◌, Option, Result, Ok, Err, refl, sym, ap, subst, ◌∙◌, arith, append_assoc, append-nil}
 use Rattle.std.proofs.lemmas.Grind.{flat_map-append}
 use Rattle.std.specs.Global.{Vec}
 use Rattle.std.specs.declared.io.Error.{Error}
@@ -9,8 +9,8 @@ use Rattle.buffer_redux.specs.StreamLog.{StreamLog}
 use Rattle.buffer_redux.specs.WriterLaws.{WritesInOrder-fresh}
 use Rattle.buffer_redux.specs.declared.policy.StdPolicy.{StdPolicy}
 use Rattle.chunked.specs.Body.{IsBody}
-use Rattle.chunked.specs.Dechunking.{IsWhole, begun}
-use Rattle.chunked.specs.Place.{IsWrong, Leads}
+use Rattle.chunked.specs.Dechunking.{BreaksAt, IsWhole, begun}
+use Rattle.chunked.specs.Place.{Leads}
 use Rattle.chunked.specs.PlaceLaws.{Leads-none}
 use Rattle.chunked.specs.declared.limits.Limits.{Limits}
 use Rattle.chunked.specs.declared.place.Place.TheVariants.{Line}
@@ -108,14 +108,7 @@ module _ {R W : Type 0} (remaining : R → Option (List ℕ)) (limits : Limits) 
           → MetNoFault first.log t.source.reader.log u.log t.target.log → Ran (Err why)
       wrong (NotChunked why right) (breaks, count) met = (
         moved_all,
-        record {
-          byte = breaks.byte;
-          later = breaks.later;
-          next = breaks.next;
-          name = subst (λ l. IsWrong l t.source.place breaks.byte why) over.moves.hands.went.limits breaks.name;
-          none = subst (λ l. (rest whole : List ℕ) → ¬ IsBody l (t.source.taken ++ breaks.byte ∷ rest) whole)
-              over.moves.hands.went.limits breaks.none;
-        },
+        subst (λ l. BreaksAt l t.source.place t.source.taken t.source.reader.block.bytes why) over.moves.hands.went.limits breaks,
         count,
         met,
       )

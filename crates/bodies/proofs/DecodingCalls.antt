@@ -32,10 +32,9 @@ use Rattle.bodies.specs.Decode.{IsDue}
 use Rattle.bodies.specs.Decoding.{HandsHeld, HandsPieces, Holds, IsPieceTarget, IsReady, LooksOn, WritesPiece, ask_error, decoding_rules, end_answer, held_of}
 use Rattle.bodies.specs.Decoding as Source
 use Rattle.bodies.specs.DecodingLaws.{hands_held, hands_none, none_held}
-use Rattle.bodies.specs.FiltersLaws.{fault_gives, taken_more}
+use Rattle.bodies.specs.FiltersLaws.{ended, fault_gives, some_of, std_fault, taken_more}
 use Rattle.bodies.specs.declared.decoding.Decoding.{Decoding}
 use Rattle.bodies.specs.declared.error.RunError.{RunError}
-use Rattle.bodies.proofs.Asking.{ended, some_of, std_fault}
 
 -- the payload in what was taken is due, and bytes that hold none make no more due
 due_on : {R : Type 0} (d : Dechunking R StdPolicy) → IsDechunking d → (bytes : List ℕ) → LeadsOn d.limits d.place bytes

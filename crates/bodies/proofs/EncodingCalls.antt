@@ -21,10 +21,9 @@ use Rattle.programs.specs.FlushesLaws.{FlushesOnce-flush}
 use Rattle.programs.specs.PromptLaws.{WritesOn-grows, WritesOn-unflushed}
 use Rattle.bodies.specs.Encoding.{IsReady, encoding_rules}
 use Rattle.bodies.specs.Filters.{Asked}
-use Rattle.bodies.specs.FiltersLaws.{fault_gives, taken_more}
+use Rattle.bodies.specs.FiltersLaws.{ended, fault_gives, fill_asked, some_of, std_fault, taken_more}
 use Rattle.bodies.specs.declared.encoding.Encoding.{Encoding}
 use Rattle.bodies.specs.declared.error.RunError.{RunError}
-use Rattle.bodies.proofs.Asking.{ended, fill_asked, some_of, std_fault}
 use Rattle.bodies.proofs.Chunks.{chunk_not_sent, chunk_quietly, chunk_some}
 
 module _ {R W : Type 0} (remaining : R → Option (List ℕ)) (tells : W → StreamLog) (stretch : W → W → Type 0)

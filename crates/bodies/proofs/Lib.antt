@@ -1,4 +1,3 @@
-pub mod Asking
 pub mod DecodingCalls
 pub mod DecodeRuns
 pub mod Chunks

@@ -1,9 +1,9 @@
 -- What a run of `decode` moves from a reader to a writer.
-use Rattle.std.specs.Prelude.{◌≡◌, ℕ, ◌-◌, ◌^◌, ◌<◌, ◌⊎◌, List, [], ◌∷◌, ◌++◌, length, min, Result, Ok, Err}
+use Rattle.std.specs.Prelude.{◌≡◌, ℕ, ◌-◌, ◌^◌, ◌<◌, ◌⊎◌, List, [], ◌++◌, length, min, Result, Ok, Err}
 use Rattle.buffer_redux.specs.StreamLog.{StreamLog}
 use Rattle.chunked.specs.Body.{IsBody}
-use Rattle.chunked.specs.Place.{IsPlace, IsWrong, Leads}
-use Rattle.chunked.specs.declared.error.Malformed.{Malformed}
+use Rattle.chunked.specs.Dechunking.{BreaksAt}
+use Rattle.chunked.specs.Place.{IsPlace, Leads}
 use Rattle.chunked.specs.declared.limits.Limits.{Limits}
 use Rattle.chunked.specs.declared.place.Place.{Place}
 use Rattle.chunked.specs.declared.place.Place.TheVariants.{Line}
@@ -26,14 +26,6 @@ pub record IsDue (limits : Limits) (bytes due : List ℕ) : Type 0 where
 -- how many bytes these are, as far as a `u64` counts
 abbrev pub counted : List ℕ → ℕ
 counted bytes = min (length bytes) (2 ^ 64 - 1)
-
--- the next byte is wrong in this place, and no body begins with these bytes and then that
-pub record NextIsWrong (limits : Limits) (place : Place) (wire rest : List ℕ) (why : Malformed) : Type 0 where
-  pub byte : ℕ
-  pub later : List ℕ
-  pub next : rest ≡ byte ∷ later
-  pub name : IsWrong limits place byte why
-  pub none : (more whole : List ℕ) → ¬ IsBody limits (wire ++ byte ∷ more) whole
 
 -- what was given is such bytes, and then the rest; of the payload in them all was received that wasn't left unsent
 pub record Moved (limits : Limits) (read read' written written' : StreamLog) : Type 0 where
@@ -59,7 +51,7 @@ DecodeRan limits read read' written written' (Ok _) =
     × GaveNothing read read' × MetNoFault read read' written written'
 DecodeRan limits read read' written written' (Err (NotChunked why right)) =
     (m : MovedAll limits read read' written written')
-    × NextIsWrong limits m.moved.place m.moved.wire m.moved.rest why
+    × BreaksAt limits m.moved.place m.moved.wire m.moved.rest why
     × (right ≡ counted m.moved.wire) × MetNoFault read read' written written'
 DecodeRan limits read read' written written' (Err (Truncated right)) =
     (m : MovedAll limits read read' written written')

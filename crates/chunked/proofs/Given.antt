@@ -11,7 +11,7 @@ use Rattle.chunked.specs.Body.{IsBody, IsSizeLine, HasChunks}
 use Rattle.chunked.specs.BodyLaws.{IsBody-same}
 use Rattle.chunked.specs.Dechunking.{Breaks, Dechunking, EndsEarly, IsDechunking, IsWhole, handed_of}
 use Rattle.chunked.specs.DechunkingLaws.{body_done}
-use Rattle.chunked.specs.Given.{GivenBody}
+use Rattle.chunked.specs.Given.{HandsGiven, WasGiven}
 use Rattle.chunked.specs.Place.{IsWrong}
 use Rattle.chunked.proofs.Alive.{Completes-some}
 
@@ -79,7 +79,7 @@ module _ {S P : Type 0} (t : Dechunking S P) (is : IsDechunking t) (body payload
         )
   ]
 
-  pub front : (more : List ℕ) × (payload ≡ handed_of t ++ more)
+  front : (more : List ℕ) × (payload ≡ handed_of t ++ more)
   front =
       let goes = is.leads.back left_of.0 payload (subst (λ l. IsBody t.limits l payload) left_of.1 is_body) in
       (goes.0, goes.1)
@@ -101,27 +101,32 @@ module _ {S P : Type 0} (t : Dechunking S P) (is : IsDechunking t) (body payload
       (subst (λ l. IsBody t.limits (t.taken ++ l) payload) (sym some)
       (subst (λ l. IsBody t.limits l payload) left_of.1 is_body)))
 
-  pub right : (why : Malformed) → ¬ Breaks why t
+  right : (why : Malformed) → ¬ Breaks why t
   right why b = wrong_next why b left_of.0 refl
 
-  pub there : (rules : ReadRules P) (s : Dechunking S P) → ¬ EndsEarly rules s t
+  there : (rules : ReadRules P) (s : Dechunking S P) → ¬ EndsEarly rules s t
   there rules s early =
       early.none payload (taken_whole (nothing_in left_of.0 behind (sym left_of.2 ∙ early.dry.none)))
 
-  pub all : IsWhole t → (handed_of t ≡ payload) × (t.reader.block.bytes ≡ behind)
+  all : IsWhole t → (handed_of t ≡ payload) × (t.reader.block.bytes ≡ behind)
   all whole =
       let found = IsBody-same t.limits t.limits t.taken body (handed_of t) payload t.reader.block.bytes behind whole
       is_body same in
       (found.1, found.2)
 
 module _ {S P : Type 0} (remaining : S → Option (List ℕ)) (rules : ReadRules P) (first : Buffered S P) (limits : Limits)
-    (body payload behind handed : List ℕ) (t : Dechunking S P)
-    (h : GivenBody remaining rules first limits body payload behind handed t) where
-  pub the_body : IsBody t.limits body payload
-  the_body = subst (λ l. IsBody l body payload) (sym h.went.limits) h.is_body
-
-  pub the_bytes : t.taken ++ t.reader.block.bytes ≡ body ++ behind
-  the_bytes =
+    (body payload behind handed : List ℕ) (t : Dechunking S P) where
+  pub given_body : IsDechunking t → WasGiven remaining rules first limits body behind handed t → IsBody limits body payload
+      → HandsGiven rules payload behind handed t
+  given_body is h is_body =
       let order = h.went.along.in_order in
       let got : order.got ≡ h.got = append_cancel_left first.log.reads.given order.got h.got (sym order.given ∙ h.given) in
-      ap (λ l. l ++ t.reader.block.bytes) h.went.taken ∙ order.equal ∙ ap (λ l. first.block.bytes ++ l) got ∙ h.equal
+      let same : t.taken ++ t.reader.block.bytes ≡ body ++ behind =
+      ap (λ l. l ++ t.reader.block.bytes) h.went.taken ∙ order.equal ∙ ap (λ l. first.block.bytes ++ l) got ∙ h.equal in
+      let body_there = subst (λ l. IsBody l body payload) (sym h.went.limits) is_body in
+      subst (λ l. HandsGiven rules payload behind l t) h.went.handed (record {
+        front = front t is body payload behind body_there same;
+        right = right t is body payload behind body_there same;
+        there = there t is body payload behind body_there same rules;
+        all = all t is body payload behind body_there same;
+      })

@@ -1,8 +1,8 @@
 -- Payload is handed out, and how that ends.
-use Rattle.std.proofs.Common.{◌≡◌, ℕ, zero, suc, ◌-◌, ◌<◌, ◌≤◌, ◌⊎◌, List, [], ◌∷◌, ◌++◌, length, min, take, Option, Result, Ok, Err, sym, ap, subst, ◌∙◌, arith, inl, inr, refl, length-append}
+use Rattle.std.proofs.Common.{◌≡◌, ℕ, zero, suc, ◌-◌, ◌<◌, ◌≤◌, List, [], ◌∷◌, ◌++◌, length, min, take, Option, Result, Ok, Err, sym, ap, subst, ◌∙◌, arith, inl, inr, refl, length-append}
 use Rattle.std.proofs.lemmas.List.{length-drop, length-take-le, nil_from_length, take-append-le}
 use Rattle.std.specs.declared.io.Error.{Error}
-use Rattle.buffer_redux.specs.Buffered.{Buffered, StaysInside}
+use Rattle.buffer_redux.specs.Buffered.{Buffered}
 use Rattle.buffer_redux.specs.BufReader.{EmptyReadCaused, RanDry, ReaderKeeps, ReadErrorCaused, Reads, ReadsAlong, ReadsInOrder}
 use Rattle.buffer_redux.specs.LogGrows.{ReadLogGrows, ReadLogGrows-joins, ReadLogGrows-none}
 use Rattle.buffer_redux.specs.Policy.{ReadRules}
@@ -14,43 +14,27 @@ use Rattle.chunked.specs.declared.place.Place.{Place}
 use Rattle.chunked.specs.declared.place.Place.TheVariants.{Data, Done}
 use Rattle.chunked.specs.declared.progress.Progress.{Progress}
 use Rattle.chunked.specs.Between.{Calls, FailsSo, Faulted, HandsOn, LastCall, NoFault, NothingCame, ReadEnds, Takes, TakesTurns, handed_out}
-use Rattle.chunked.specs.BetweenLaws.{Takes-joins, Takes-none, Takes-still}
+use Rattle.chunked.specs.BetweenLaws.{Reads-ways, Takes-joins, Takes-none, Takes-still}
 use Rattle.chunked.specs.Place.{IsPlace, Leads}
 use Rattle.chunked.proofs.PassingOn.{data_payload}
 use Rattle.chunked.proofs.Skipping.{Notes}
 
-either : (a b : ℕ) → (a ≤ b) ⊎ (b < a)
-either zero b = inl (omega arith)
-either (suc a) zero = inr (omega arith)
-either (suc a) (suc b) = elim (either a b) [ inl few ↦ inl (omega (arith, few)) | inr more ↦ inr (omega (arith, more)) ]
-
 -- a read that hands out nothing, though it has room, leaves nothing buffered
 read_nothing : {S P : Type 0} (rules : ReadRules P) (s : Buffered S P) (before after : List ℕ) (t : Buffered S P)
     → Reads rules s before (Ok 0) after t → 0 < length before → t.block.bytes ≡ []
-read_nothing rules s before after t reads some =
-    let inside : StaysInside s.block (length before) → t.block.bytes ≡ [] = λ stays.
-    let read = reads.buffered stays in
-    let gone = read.handed.1 in
-    nil_from_length t.block.bytes (omega (
-      arith,
-      read.handed.0,
-      some,
-      ap length gone.told_policy.law.bytes,
-      ap length gone.dropped.bytes,
-      length-drop (min 0 (length read.filled.block.bytes)) read.filled.block.bytes,
-    )) in
-    elim (either s.block.capacity (length before)) [
-      | inr short ↦ inside (inr short)
-      | inl long ↦ elim (either (length s.block.bytes) 0) [
-        | inr held ↦ inside (inl held)
-        | inl none ↦
-            nil_from_length t.block.bytes (omega (
-              arith,
-              none,
-              ap (λ b. length b.bytes) (reads.direct (omega (arith, none), long)).block,
-            ))
-      ]
-    ]
+read_nothing rules s before after t reads some = elim (Reads-ways rules s t before after (Ok 0) reads) [
+  | inl read ↦
+      let gone = read.handed.1 in
+      nil_from_length t.block.bytes (omega (
+        arith,
+        read.handed.0,
+        some,
+        ap length gone.told_policy.law.bytes,
+        ap length gone.dropped.bytes,
+        length-drop (min 0 (length read.filled.block.bytes)) read.filled.block.bytes,
+      ))
+  | inr past ↦ ap (λ b. b.bytes) past.1.block ∙ past.0
+]
 
 module _ {S P : Type 0} (rules : ReadRules P) (limits : Limits) where
   -- turns go on
@@ -67,18 +51,14 @@ module _ {S P : Type 0} (rules : ReadRules P) (limits : Limits) where
       → Calls rules limits s p room answer t r
   Calls-after a s p m q first calls =
       let joined = TakesTurns-joins a calls.count s p m q calls.last calls.place first calls.turns in
-      record { count = joined.0; last = calls.last; place = calls.place; turns = joined.1; call = calls.call; before_end = calls.before_end }
-
-  -- a call that hands out none doesn't depend on the room
-  pub Calls-fail : (s : Buffered S P) (p : Place) (e : ChunkedError) (t : Buffered S P) (q : Place)
-      → Calls rules limits s p 0 (Err e) t q → (room : ℕ) → Calls rules limits s p room (Err e) t q
-  Calls-fail s p e t q calls room = record
-      { count = calls.count; last = calls.last; place = calls.place; turns = calls.turns; call = calls.call; before_end = calls.before_end }
-
-  pub Calls-none : (s : Buffered S P) (p : Place) (t : Buffered S P) (q : Place) → Calls rules limits s p 0 (Ok 0) t q
-      → (room : ℕ) → Calls rules limits s p room (Ok 0) t q
-  Calls-none s p t q calls room = record
-      { count = calls.count; last = calls.last; place = calls.place; turns = calls.turns; call = calls.call; before_end = calls.before_end }
+      record {
+        count = joined.0;
+        last = calls.last;
+        place = calls.place;
+        turns = joined.1;
+        call = calls.call;
+        before_end = calls.before_end;
+      }
 
 module _ {S P : Type 0} (remaining : S → Option (List ℕ)) (rules : ReadRules P) where
   -- what one read does as a stretch
@@ -103,7 +83,14 @@ module _ {S P : Type 0} (remaining : S → Option (List ℕ)) (rules : ReadRules
 
     at_once : {room : ℕ} {answer : Result ℕ ChunkedError} {at : Place} → LastCall rules s p.place room answer t at
         → Calls rules p.limits s p.place room answer t at
-    at_once call = record { count = 0; last = s; place = p.place; turns = (refl, refl); call = call; before_end = inr (λ is. let odd : Data left ≡ Done = sym there ∙ is in cc) }
+    at_once call = record {
+      count = 0;
+      last = s;
+      place = p.place;
+      turns = (refl, refl);
+      call = call;
+      before_end = inr (λ is. let odd : Data left ≡ Done = sym there ∙ is in cc);
+    }
 
     pub data_fails : (e : Error) → ReadsInOrder s [] t → ReadErrorCaused {A = ℕ} rules s (Err e) t → (before after : List ℕ)
         → Reads rules s before (Err e) after t → 0 < length before → HandsOn remaining rules s p out (Err (Io e)) t p

@@ -45,8 +45,14 @@ module _ {S P : Type 0} (remaining : S → Option (List ℕ)) (rules : ReadRules
         | inl fault ↦ inl (fault ∙ ap (λ l. l ++ e ∷ []) no_fault)
         | inr gave ↦ inr (record { last = m; grows = before.along.grows; no_fault = no_fault; gave = gave })
       ];
-      calls = record
-          { count = count; last = m; place = q.place; turns = turns; call = inl (Fills-err rules m e f filled.fills); before_end = not_ended goes_on };
+      calls = λ room. record {
+        count = count;
+        last = m;
+        place = q.place;
+        turns = turns;
+        call = inl (Fills-err rules m e f filled.fills);
+        before_end = not_ended goes_on;
+      };
     }
 
     module _ (shown : Bor (List ℕ)) (f : Buffered S P) (filled : FillBuf remaining rules m (Ok shown) f) where
@@ -76,8 +82,14 @@ module _ {S P : Type 0} (remaining : S → Option (List ℕ)) (rules : ReadRules
                     omega (arith, before.along.grows.zero_reads, dry);
               },
             );
-            calls = record
-                { count = count; last = m; place = q.place; turns = turns; call = inl (Fills-ok rules m shown 0 f filled.fills); before_end = not_ended not_settled };
+            calls = λ room. record {
+              count = count;
+              last = m;
+              place = q.place;
+              turns = turns;
+              call = inl (Fills-ok rules m shown 0 f filled.fills);
+              before_end = not_ended not_settled;
+            };
           }
 
       module _ (r : Reached) (reached : Advances q.limits q.place shown.now r) (q' : Progress)
@@ -127,7 +139,8 @@ module _ {S P : Type 0} (remaining : S → Option (List ℕ)) (rules : ReadRules
         )
 
         -- something is wrong with the next byte
-        pub skip_wrong : (why : Malformed) → r.wrong ≡ Some why → ¬ IsSettled q.place → Skips remaining rules s p (Err (NotChunked why q'.count)) t q'
+        pub skip_wrong : (why : Malformed) → r.wrong ≡ Some why → ¬ IsSettled q.place
+            → Skips remaining rules s p (Err (NotChunked why q'.count)) t q'
         skip_wrong why is goes_on =
             let found : (r.taken < length shown.now) × IsWrong q.limits r.place (slice_index shown.now r.taken) why =
             subst (λ o. IfSome o (λ w. (r.taken < length shown.now)
@@ -149,7 +162,7 @@ module _ {S P : Type 0} (remaining : S → Option (List ℕ)) (rules : ReadRules
                       (subst (λ x. IsWrong q.limits x (slice_index shown.now r.taken) why) (sym notes.place) found.1);
                 },
               );
-              calls = record {
+              calls = λ room. record {
                 count = count;
                 last = m;
                 place = q.place;

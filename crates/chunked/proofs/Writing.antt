@@ -14,7 +14,7 @@ use Rattle.buffer_redux.specs.declared.policy.StdPolicy.{StdPolicy}
 use Rattle.chunked.specs.Body.{IsField}
 use Rattle.chunked.specs.Chunk.{IsCarried, IsChunks, body_end, chunk, chunks}
 use Rattle.chunked.specs.ChunkLaws.{IsChunks-body, IsChunks-joins}
-use Rattle.chunked.specs.Chunking.{Chunking, ChunkingWent, ChunksWent, Finishes, IsChunking, PutsFirst, PutsIn, WritesChunk, accepted_of, around, room, taken_payloads, with_own_calls}
+use Rattle.chunked.specs.Chunking.{Chunking, ChunkingWent, ChunksWent, Finishes, IsChunking, PutsFirst, PutsIn, WritesChunk, accepted_of, around, room, taken_payloads}
 use Rattle.chunked.specs.ChunkingLaws.{PutsFirst-order, PutsIn-order}
 
 -- a slice that isn't empty has some byte
@@ -131,11 +131,11 @@ module _ {S : Type 0} (tells : S → StreamLog) (stretch : S → S → Type 0)
             limit = same_limit s.writer m t (around + length payload) spaced (chunk (take n payload)) puts;
           });
       nothing = λ none. absurd (omega (arith, none, some));
-      fits = λ _ there. record {
-        ok = ap (λ k. Ok k) (all there);
-        puts = subst (λ l. PutsIn stretch s.writer (chunk l) t) (take_all n payload (omega (arith, all there)))
-            (straight s.writer m t (around + length payload) spaced (chunk (take n payload)) puts there);
-      };
+      fits = λ _ there. (
+        ap (λ k. Ok k) (all there),
+        subst (λ l. PutsIn stretch s.writer (chunk l) t) (take_all n payload (omega (arith, all there)))
+            (straight s.writer m t (around + length payload) spaced (chunk (take n payload)) puts there),
+      );
       full = λ _ none. (
         counted,
         behind s.writer m t (around + length payload) spaced (chunk (take n payload)) puts none,
@@ -166,7 +166,7 @@ module _ {S : Type 0} (tells : S → StreamLog) (stretch : S → S → Type 0)
   -- a flush that is told took no chunk in
   pub flush_went : (s m v : Chunking S) (answer : Result (Unit {0}) Error) (calls : StreamLog) → v ≡ m
       → ChunksWent stretch s [] m → m.calls ≡ s.calls → calls ≡ after_flush v.calls answer
-      → ChunkingWent stretch s (with_own_calls v calls)
+      → ChunkingWent stretch s (record v { calls = calls })
   flush_went s m v answer calls same went still noted =
       let before : v.calls ≡ s.calls = ap (λ c. c.calls) same ∙ still in
       let told : calls ≡ after_flush s.calls answer = noted ∙ ap (λ l. after_flush l answer) before in

@@ -1,9 +1,8 @@
--- What was written is a body, and so what a reader of it hands out is what was written.
-use Rattle.std.proofs.Common.{◌≡◌, ℕ, List, ◌++◌, Option, sym, subst, ◌∙◌}
+-- What was written is a body.
+use Rattle.std.proofs.Common.{◌≡◌, ℕ, List, ◌++◌, sym, subst, ◌∙◌}
 use Rattle.std.proofs.lemmas.List.{append_cancel_left}
 use Rattle.std.specs.List.{flat_map}
 use Rattle.buffer_redux.specs.Buffered.{Buffered}
-use Rattle.buffer_redux.specs.Policy.{ReadRules}
 use Rattle.buffer_redux.specs.StreamLog.{StreamLog}
 use Rattle.buffer_redux.specs.WriterLaws.{WritesInOrder-contents, WritesInOrder-joins}
 use Rattle.buffer_redux.specs.declared.policy.StdPolicy.{StdPolicy}
@@ -11,9 +10,7 @@ use Rattle.chunked.specs.declared.limits.Limits.{Limits}
 use Rattle.chunked.specs.Body.{IsBody}
 use Rattle.chunked.specs.Chunk.{body_end, chunks}
 use Rattle.chunked.specs.Chunking.{Chunking, LetsThrough, accepted_of}
-use Rattle.chunked.specs.Dechunking.{Dechunking}
-use Rattle.chunked.specs.Given.{GivenBody}
-use Rattle.chunked.specs.RoundTrip.{ReadsWritten, WroteBody, holds}
+use Rattle.chunked.specs.RoundTrip.{WroteBody, holds}
 
 module _ {S : Type 0} (tells : S → StreamLog) (stretch : S → S → Type 0) (first : Buffered S StdPolicy)
     (payloads fields : List (List ℕ)) (w : Chunking S) (last : Buffered S StdPolicy) (wrote : List ℕ)
@@ -30,15 +27,3 @@ module _ {S : Type 0} (tells : S → StreamLog) (stretch : S → S → Type 0) (
   written_body limits lets =
       subst (λ p. IsBody limits wrote p) h.went.accepted
       (subst (λ l. IsBody limits l (accepted_of w)) (sym the_bytes) (h.finishes.body limits lets))
-
-  pub given_written : {R P : Type 0} (remaining : R → Option (List ℕ)) (rules : ReadRules P) (start : Buffered R P)
-      (limits : Limits) (behind handed : List ℕ) (t : Dechunking R P)
-      → LetsThrough fields limits → ReadsWritten remaining rules start limits wrote behind handed t
-      → GivenBody remaining rules start limits wrote (flat_map (λ p. p) payloads) behind handed t
-  given_written remaining rules start limits behind handed t lets g = record {
-    went = g.went;
-    got = g.got;
-    given = g.given;
-    equal = g.equal;
-    is_body = written_body limits lets;
-  }

@@ -1,5 +1,5 @@
 -- What a reader of a body does between two payloads: it takes the bytes that are none.
-use Rattle.std.specs.Prelude.{◌≡◌, ◌≢◌, ℕ, zero, suc, ◌+◌, ◌<◌, ◌≤◌, ◌⊎◌, List, [], ◌∷◌, ◌++◌, length, min, take, Option, Result, Ok, Err}
+use Rattle.std.specs.Prelude.{◌≡◌, ◌≢◌, ℕ, zero, suc, ◌+◌, ◌<◌, ◌≤◌, ◌⊎◌, List, [], ◌∷◌, ◌++◌, length, min, take, Option, Result, Ok, Err, MatchResult}
 use Rattle.std.specs.IoError.{error_kind}
 use Rattle.std.specs.declared.io.Error.{Error}
 use Rattle.std.specs.declared.io.ErrorKind.TheVariants.{InvalidData, UnexpectedEof}
@@ -138,24 +138,18 @@ FailsSo rules s (NotChunked why count) t q = NoFault s t × (count ≡ q.count) 
 FailsSo rules s (Truncated count) t q = NoFault s t × (count ≡ q.count) × (q.place ≢ Done) × NothingCame rules s t
 FailsSo rules s (Io e) t q = Faulted rules s e t
 
--- how taking what is no payload ends
-abbrev pub SkipEnds : {S P : Type 0} → ReadRules P → Buffered S P → Result (Unit {0}) ChunkedError → Buffered S P → Progress
-    → Type 0
-SkipEnds rules s (Ok _) t q = NoFault s t × IsSettled q.place
-SkipEnds rules s (Err e) t q = FailsSo rules s e t q
-
 -- the same answer of a call that hands nothing out
 abbrev pub none_handed : Result (Unit {0}) ChunkedError → Result ℕ ChunkedError
 none_handed (Ok _) = Ok 0
 none_handed (Err e) = Err e
 
--- what taking all of that does
+-- what taking all of that does; how the buffered reader is called so doesn't depend on the room that there is for payload
 pub record Skips {S P : Type 0} (remaining : S → Option (List ℕ)) (rules : ReadRules P) (s : Buffered S P) (p : Progress)
     (answer : Result (Unit {0}) ChunkedError) (t : Buffered S P) (q : Progress) : Type 0 where
   pub wire : List ℕ
   pub takes : Takes remaining rules s p wire [] t q
-  pub ends : SkipEnds rules s answer t q
-  pub calls : Calls rules p.limits s p.place 0 (none_handed answer) t q.place
+  pub ends : MatchResult answer (λ _. NoFault s t × IsSettled q.place) (λ e. FailsSo rules s e t q)
+  pub calls : (room : ℕ) → Calls rules p.limits s p.place room (none_handed answer) t q.place
 
 -- no payload can be handed out of these bytes: the body ended, or there is none, or the next is wrong
 abbrev pub NoneLeft : Limits → Place → List ℕ → Type 0

@@ -82,14 +82,8 @@ taken_payloads payload (Ok zero) = []
 taken_payloads payload (Ok (suc n)) = take (suc n) payload ∷ []
 taken_payloads payload (Err e) = []
 
--- where the payload fits behind what is buffered, its chunk stands there, and the inner writer isn't called
-pub record ChunkAdded {S : Type 0} (stretch : S → S → Type 0) (s : Chunking S) (payload : List ℕ) (answer : Result ℕ Error)
-    (t : Chunking S) : Type 0 where
-  pub ok : answer ≡ Ok (length payload)
-  pub puts : PutsIn stretch s.writer (chunk payload) t.writer
-
--- where it doesn't, all that was buffered is sent first, and then the chunk has as much of it as fits; where sending fails,
--- no byte is taken in
+-- where the payload doesn't fit behind what is buffered, all that was buffered is sent first, and then the chunk has as much
+-- of it as fits; where sending fails, no byte is taken in
 abbrev pub SendsFirst : {S : Type 0} → (S → StreamLog) → (S → S → Type 0) → Chunking S → List ℕ → Result ℕ Error → Chunking S
     → Type 0
 SendsFirst tells stretch s payload (Ok n) t =
@@ -102,12 +96,14 @@ abbrev pub after_chunk : StreamLog → List ℕ → Result ℕ Error → StreamL
 after_chunk calls payload (Ok n) = after_write calls payload (Ok n)
 after_chunk calls payload (Err e) = calls
 
--- what one write does. No answer leaves a part of a chunk, and an empty payload makes none
+-- what one write does. No answer leaves a part of a chunk, and an empty payload makes none. Where the payload fits behind what is
+-- buffered its chunk stands there, and the inner writer isn't called
 pub record WritesChunk {S : Type 0} (tells : S → StreamLog) (stretch : S → S → Type 0) (s : Chunking S) (payload : List ℕ)
     (answer : Result ℕ Error) (t : Chunking S) : Type 0 where
   pub went : ChunksWent stretch s (taken_payloads payload answer) t
   pub nothing : length payload ≡ 0 → (answer ≡ Ok 0) × (t.writer ≡ s.writer)
-  pub fits : 0 < length payload → around + length payload ≤ room s.writer → ChunkAdded stretch s payload answer t
+  pub fits : 0 < length payload → around + length payload ≤ room s.writer
+      → (answer ≡ Ok (length payload)) × PutsIn stretch s.writer (chunk payload) t.writer
   pub full : 0 < length payload → room s.writer < around + length payload → SendsFirst tells stretch s payload answer t
   pub noted : t.calls ≡ after_chunk s.calls payload answer
   pub whole : IsChunking t
@@ -136,13 +132,10 @@ pub record NotFinished {S : Type 0} (tells : S → StreamLog) (stretch : S → S
   pub whole : IsChunking t
 
 -- a write that is told does the same, and then notes a failure
-abbrev pub with_own_calls : {S : Type 0} → Chunking S → StreamLog → Chunking S
-with_own_calls c calls = record c { calls = calls }
-
 pub record WritesTold {S : Type 0} (tells : S → StreamLog) (stretch : S → S → Type 0) (s : Chunking S) (payload : List ℕ)
     (answer : Result ℕ Error) (t : Chunking S) : Type 0 where
   pub untold : StreamLog
-  pub writes : WritesChunk tells stretch s payload answer (with_own_calls t untold)
+  pub writes : WritesChunk tells stretch s payload answer (record t { calls = untold })
   pub whole : IsChunking t
 
 -- what any calls that are told do, one after another: some chunks went in, and the log of the writer's own calls only goes on

@@ -58,13 +58,17 @@ pub record BodyWent {S P : Type 0} (remaining : S → Option (List ℕ)) (rules 
   pub handed : handed_of t ≡ handed_of s ++ payload
   pub limits : t.limits ≡ s.limits
 
--- the next byte is still buffered, and no body begins with what was taken and then that byte
-pub record Breaks {S P : Type 0} (why : Malformed) (t : Dechunking S P) : Type 0 where
+-- the next of these bytes is wrong in this place, and no body begins with what was taken and then that byte
+pub record BreaksAt (limits : Limits) (p : Place) (taken bytes : List ℕ) (why : Malformed) : Type 0 where
   pub byte : ℕ
   pub later : List ℕ
-  pub next : t.reader.block.bytes ≡ byte ∷ later
-  pub name : IsWrong t.limits t.place byte why
-  pub none : (rest payload : List ℕ) → ¬ IsBody t.limits (t.taken ++ byte ∷ rest) payload
+  pub next : bytes ≡ byte ∷ later
+  pub name : IsWrong limits p byte why
+  pub none : (rest payload : List ℕ) → ¬ IsBody limits (taken ++ byte ∷ rest) payload
+
+-- it is still buffered
+abbrev pub Breaks : {S P : Type 0} → Malformed → Dechunking S P → Type 0
+Breaks why t = BreaksAt t.limits t.place t.taken t.reader.block.bytes why
 
 -- what was taken is no body, and no further byte came
 pub record EndsEarly {S P : Type 0} (rules : ReadRules P) (s t : Dechunking S P) : Type 0 where
@@ -183,11 +187,8 @@ pub record ReadsAsIo {S P : Type 0} (remaining : S → Option (List ℕ)) (rules
   pub same : StandsFor payload answer
 
 -- a read that is told does the same, and then notes a failure
-abbrev pub with_calls : {S P : Type 0} → Dechunking S P → StreamLog → Dechunking S P
-with_calls d calls = record d { calls = calls }
-
 pub record ReadsTold {S P : Type 0} (remaining : S → Option (List ℕ)) (rules : ReadRules P) (s : Dechunking S P)
     (out : List ℕ) (answer : Result ℕ Error) (t : Dechunking S P) : Type 0 where
   pub untold : StreamLog
-  pub reads : ReadsAsIo remaining rules s out answer (with_calls t untold)
+  pub reads : ReadsAsIo remaining rules s out answer (record t { calls = untold })
   pub whole : IsDechunking t

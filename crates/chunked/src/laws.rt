@@ -7,10 +7,10 @@ ghost use Rattle.buffer_redux.specs.Remaining.{ahead};
 ghost use Rattle.buffer_redux.specs.declared.policy.StdPolicy.{StdPolicy};
 ghost use Rattle.chunked.specs.Body.{IsBody, IsField, fields_bytes};
 ghost use Rattle.chunked.specs.Chunking.{LetsThrough};
-ghost use Rattle.chunked.specs.Dechunking.{BodyWent, Breaks, Dechunking, EndsEarly, IsWhole, begun, handed_of};
-ghost use Rattle.chunked.specs.Given.{GivenBody};
+ghost use Rattle.chunked.specs.Dechunking.{BodyWent, IsWhole, begun, handed_of};
+ghost use Rattle.chunked.specs.Given.{HandsGiven, WasGiven};
 ghost use Rattle.chunked.specs.Place.{IsWrong};
-ghost use Rattle.chunked.specs.RoundTrip.{ReadsWritten, WroteBody};
+ghost use Rattle.chunked.specs.RoundTrip.{WroteBody};
 
 use crate::error::Malformed;
 use crate::limits::Limits;
@@ -64,18 +64,9 @@ pub fn taken_begins<R: TellRead, P: ReaderPolicy>(reader: &ChunkedReader<R, P>)
 /// answered as wrong then, nor as missing. And once the body ended all of its payload was handed out, and what is buffered is
 /// what follows the body.
 pub fn given_body<R: TellRead, P: ReaderPolicy>(reader: &ChunkedReader<R, P>)
-    ensures front { (first : Buffered R P) (limits : Limits) (body payload behind handed : List ℕ)
-        → GivenBody R.remaining P.rules first limits body payload behind handed reader.now
-        → (more : List ℕ) × (payload ≡ handed ++ more) }
-    ensures right { (first : Buffered R P) (limits : Limits) (body payload behind handed : List ℕ)
-        → GivenBody R.remaining P.rules first limits body payload behind handed reader.now
-        → (why : Malformed) → ¬ Breaks why reader.now }
-    ensures there { (first : Buffered R P) (limits : Limits) (body payload behind handed : List ℕ)
-        → GivenBody R.remaining P.rules first limits body payload behind handed reader.now
-        → (s : Dechunking R P) → ¬ EndsEarly P.rules s reader.now }
-    ensures all { (first : Buffered R P) (limits : Limits) (body payload behind handed : List ℕ)
-        → GivenBody R.remaining P.rules first limits body payload behind handed reader.now → IsWhole reader.now
-        → (handed ≡ payload) × (reader.now.reader.block.bytes ≡ behind) }
+    ensures { (first : Buffered R P) (limits : Limits) (body payload behind handed : List ℕ)
+        → WasGiven R.remaining P.rules first limits body behind handed reader.now → IsBody limits body payload
+        → HandsGiven P.rules payload behind handed reader.now }
 {
     let _ = reader.get_ref();
 }
@@ -104,26 +95,11 @@ pub fn round_trip<W: TellWrite, R: TellRead, P: ReaderPolicy>(
     writer: &ChunkedWriter<W>,
     reader: &ChunkedReader<R, P>,
 )
-    ensures front { (first last : Buffered W StdPolicy) (payloads fields : List (List ℕ)) (wrote : List ℕ)
+    ensures { (first last : Buffered W StdPolicy) (payloads fields : List (List ℕ)) (wrote : List ℕ)
         → WroteBody W.log W.stretch first payloads fields writer.now last wrote
         → (start : Buffered R P) (limits : Limits) (behind handed : List ℕ) → LetsThrough fields limits
-        → ReadsWritten R.remaining P.rules start limits wrote behind handed reader.now
-        → (more : List ℕ) × (flat_map (λ p. p) payloads ≡ handed ++ more) }
-    ensures right { (first last : Buffered W StdPolicy) (payloads fields : List (List ℕ)) (wrote : List ℕ)
-        → WroteBody W.log W.stretch first payloads fields writer.now last wrote
-        → (start : Buffered R P) (limits : Limits) (behind handed : List ℕ) → LetsThrough fields limits
-        → ReadsWritten R.remaining P.rules start limits wrote behind handed reader.now
-        → (why : Malformed) → ¬ Breaks why reader.now }
-    ensures there { (first last : Buffered W StdPolicy) (payloads fields : List (List ℕ)) (wrote : List ℕ)
-        → WroteBody W.log W.stretch first payloads fields writer.now last wrote
-        → (start : Buffered R P) (limits : Limits) (behind handed : List ℕ) → LetsThrough fields limits
-        → ReadsWritten R.remaining P.rules start limits wrote behind handed reader.now
-        → (s : Dechunking R P) → ¬ EndsEarly P.rules s reader.now }
-    ensures all { (first last : Buffered W StdPolicy) (payloads fields : List (List ℕ)) (wrote : List ℕ)
-        → WroteBody W.log W.stretch first payloads fields writer.now last wrote
-        → (start : Buffered R P) (limits : Limits) (behind handed : List ℕ) → LetsThrough fields limits
-        → ReadsWritten R.remaining P.rules start limits wrote behind handed reader.now → IsWhole reader.now
-        → (handed ≡ flat_map (λ p. p) payloads) × (reader.now.reader.block.bytes ≡ behind) }
+        → WasGiven R.remaining P.rules start limits wrote behind handed reader.now
+        → HandsGiven P.rules (flat_map (λ p. p) payloads) behind handed reader.now }
 {
     given_body(reader);
 }

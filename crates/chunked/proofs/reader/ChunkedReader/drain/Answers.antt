@@ -26,7 +26,8 @@ returns-in_err-read_payload g c =
     let p = err_from_is_err_and c.from_residual.result c.from_residual.ensures.1 in
     let open' : ¬ IsWhole c.args.self.now = λ whole. (let odd = c.is_done.ensures.1 whole in cc) in
     rw (p.1, p.2) (not_drained g.R.TellRead.remaining g.P.ReaderPolicy.rules c.args.self.now open' c.loop-read.self before.payload
-    before.went before.no_fault before.count before.turns c.read_payload.new.out (search rules) c.read_payload.new.self _ c.in_err-read_payload.ensures.reads)
+    before.went before.no_fault before.count before.turns c.read_payload.new.out (search rules) c.read_payload.new.self _
+    c.in_err-read_payload.ensures.reads)
 
 pub returns-then-branch-eq0 : goal.returns-then-branch-eq0
 returns-then-branch-eq0 g c =
