@@ -1,8 +1,9 @@
 //! Lines as they go over, one by one, as frames.
-ghost use Rattle.std.specs.Prelude.{◌≡◌, ◌≤◌, [], ◌∷◌, length, IfErr, OnErr, OnOk};
+ghost use Rattle.std.specs.Prelude.{◌≡◌, ◌≤◌, [], ◌∷◌, length, Some, IfErr, OnErr, OnOk};
 ghost use Rattle.buffer_redux.specs.Faults.{MetInterrupts, SendErrorCaused};
+ghost use Rattle.forward.specs.Filter.{Passes};
 ghost use Rattle.frame_reader.specs.WriteFrame.{FramesTaken};
-ghost use Rattle.frames.specs.Packing.{packing_rules};
+ghost use Rattle.frames.specs.Packing.{IsReady, packing_rules};
 ghost use Rattle.frames.specs.PackingLaws.{packing_lawful};
 
 use crate::error::RunError;
@@ -29,9 +30,7 @@ impl<R: TellRead, W: TellWrite> Filter for Packing<R, W> {
     #[inline(always)]
     fn pass(&mut self) -> io::Result<bool> {
         if let Some(span) = self.held {
-            write_line(&mut self.target, self.source.lent(span))?;
-            self.held = None;
-            return Ok(true);
+            return pass_held(self, span);
         }
         match self.source.next_buffered() {
             Some(line) => {
@@ -70,6 +69,18 @@ impl<R: TellRead, W: TellWrite> Filter for Packing<R, W> {
     }
 
     ghost lawful = { packing_lawful R.remaining W.stretch W.stretch_none W.stretch_joins };
+}
+
+// Passes the line that is held. It stands apart, so that a line that is buffered clears none of its answers.
+#[inline(never)]
+fn pass_held<R: TellRead, W: TellWrite>(filter: &mut Packing<R, W>, span: Span) -> io::Result<bool>
+    requires ready { IsReady filter.old }
+    requires held { filter.old.held ≡ Some span }
+    ensures { Passes (packing_rules R.remaining W.stretch) filter.old result filter.new }
+{
+    write_line(&mut filter.target, filter.source.lent(span))?;
+    filter.held = None;
+    Ok(true)
 }
 
 // Takes the frame of the line in, or nothing of it where room can't be had.

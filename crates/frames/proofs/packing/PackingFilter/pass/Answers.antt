@@ -1,29 +1,10 @@
-use Rattle.std.proofs.Common.{◌∷◌, [], Ok, false, subst, sym}
+use Rattle.std.proofs.Common.{Ok, false, subst, sym}
 use Rattle.std.proofs.lemmas.Result.{err_from_is_err_and}
 use Rattle.forward.specs.Filter.{Passes}
 use Rattle.line_reader.specs.LinesAlongLaws.{NextBuffered-none, NextBuffered-some}
-use Rattle.frame_reader.specs.WriteFrame.{FramesTaken}
 use Rattle.frames.specs.Packing.{packing_rules}
-use Rattle.frames.proofs.PackingCalls.{held_lost, held_written, lost, none_passed, not_held, written}
+use Rattle.frames.proofs.PackingCalls.{lost, none_passed, not_held, written}
 use Rattle.frames.proofs.packing.PackingFilter.pass.Goals as goal
-
-pub returns-in_err-write_line : goal.returns-in_err-write_line
-returns-in_err-write_line g c =
-    let remaining = g.R.TellRead.remaining in
-    let s = c.args.self.now in
-    let p = err_from_is_err_and c.from_residual.result c.from_residual.ensures.1 in
-    let wrote = c.in_err-write_line.ensures in
-    let v = c.write_line.new.target in
-    rw (p.1, p.2) (held_lost remaining g.W.TellWrite.stretch g.met.W.TellWrite.stretch_none s c.requires v wrote.not_flushed wrote.flushes wrote.none _ wrote.caused)
-
-pub returns-in-Some : goal.returns-in-Some
-returns-in-Some g c =
-    let remaining = g.R.TellRead.remaining in
-    let s = c.args.self.now in
-    let wrote = c.in_ok-write_line.ensures in
-    let v = c.write_line.new.target in
-    held_written remaining g.W.TellWrite.stretch g.met.W.TellWrite.stretch_none s c.requires v wrote.not_flushed wrote.flushes c.in-Some.span c.in-Some.is
-    (subst (λ l. FramesTaken g.W.TellWrite.stretch s.target (l ∷ []) v) c.lent.ensures wrote.taken) wrote.met
 
 pub returns-in_err-write_line-in-Some-next_buffered : goal.returns-in_err-write_line-in-Some-next_buffered
 returns-in_err-write_line-in-Some-next_buffered g c =
@@ -32,10 +13,10 @@ returns-in_err-write_line-in-Some-next_buffered g c =
     let t = c.next_buffered.follows.lender-at-none in
     let some = c.in-Some-next_buffered in
     let took = NextBuffered-some _ s.source t _ _ some.is c.next_buffered.follows.holds-at-none in
-    let from = c.from_residual-in_err-write_line-in-Some-next_buffered in
+    let from = c.from_residual in
     let p = err_from_is_err_and from.result from.ensures.1 in
     let wrote = c.in_err-write_line-in-Some-next_buffered.ensures in
-    let v = c.write_line-in-Some-next_buffered.new.target in
+    let v = c.write_line.new.target in
     rw (p.1, p.2)
     (lost remaining g.W.TellWrite.stretch g.met.W.TellWrite.stretch_none s c.requires v wrote.not_flushed wrote.flushes
     (not_held s.held c.in_default.not-Some) t some.line.now took wrote.none _ wrote.caused)
@@ -48,7 +29,7 @@ returns-in_ok-write_line-in-Some-next_buffered g c =
     let some = c.in-Some-next_buffered in
     let took = NextBuffered-some _ s.source t _ _ some.is c.next_buffered.follows.holds-at-none in
     let wrote = c.in_ok-write_line-in-Some-next_buffered.ensures in
-    let v = c.write_line-in-Some-next_buffered.new.target in
+    let v = c.write_line.new.target in
     written remaining g.W.TellWrite.stretch g.met.W.TellWrite.stretch_none s c.requires v wrote.not_flushed wrote.flushes
     (not_held s.held c.in_default.not-Some) t some.line.now took wrote.taken wrote.met
 

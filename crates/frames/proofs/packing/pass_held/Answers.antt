@@ -1,0 +1,23 @@
+use Rattle.std.proofs.Common.{◌∷◌, [], subst}
+use Rattle.std.proofs.lemmas.Result.{err_from_is_err_and}
+use Rattle.frame_reader.specs.WriteFrame.{FramesTaken}
+use Rattle.frames.proofs.PackingCalls.{held_lost, held_written}
+use Rattle.frames.proofs.packing.pass_held.Goals as goal
+
+pub returns-in_err-write_line : goal.returns-in_err-write_line
+returns-in_err-write_line g c =
+    let s = c.args.filter.now in
+    let p = err_from_is_err_and c.from_residual.result c.from_residual.ensures.1 in
+    let wrote = c.in_err-write_line.ensures in
+    let v = c.write_line.new.target in
+    rw (p.1, p.2) (held_lost g.R.TellRead.remaining g.W.TellWrite.stretch g.met.W.TellWrite.stretch_none s c.requires.ready v
+    wrote.not_flushed wrote.flushes wrote.none _ wrote.caused)
+
+pub returns : goal.returns
+returns g c =
+    let s = c.args.filter.now in
+    let wrote = c.in_ok-write_line.ensures in
+    let v = c.write_line.new.target in
+    held_written g.R.TellRead.remaining g.W.TellWrite.stretch g.met.W.TellWrite.stretch_none s c.requires.ready v
+    wrote.not_flushed wrote.flushes _ c.requires.held
+    (subst (λ l. FramesTaken g.W.TellWrite.stretch s.target (l ∷ []) v) c.lent.ensures wrote.taken) wrote.met
