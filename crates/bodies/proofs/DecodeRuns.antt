@@ -26,7 +26,7 @@ use Rattle.bodies.specs.Filters.{IsErrorOf, joined}
 use Rattle.bodies.specs.FiltersLaws.{each_some}
 use Rattle.bodies.specs.declared.decoding.Decoding.{Decoding}
 use Rattle.bodies.specs.declared.error.RunError.{RunError}
-use Rattle.bodies.specs.declared.error.RunError.TheVariants.{NotChunked, Truncated, Behind, Read, Write, Io}
+use Rattle.bodies.specs.declared.error.RunError.TheVariants.{NotChunked, Truncated, Behind, Io}
 
 -- a filter before a body
 abbrev pub start : {R W : Type 0} → Limits → Buffered R StdPolicy → Buffered W StdPolicy → Vec ℕ → Decoding R W
@@ -121,9 +121,7 @@ module _ {R W : Type 0} (remaining : R → Option (List ℕ)) (limits : Limits) 
         met,
       )
       wrong (Behind right) (whole, some, count) met = (moved_all, is_body whole, some, count, met)
-      wrong (Read e) end met = absurd end
-      wrong (Write e) end met = absurd end
-      wrong (Io e) end met = absurd end
+      wrong other end met = absurd end
 
   -- all went over
   pub ended : (count : ℕ) → ForwardAnswers rules begin (Ok count) t → Ran (Ok tt)

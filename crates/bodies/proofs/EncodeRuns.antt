@@ -28,7 +28,7 @@ use Rattle.bodies.specs.Filters.{IsErrorOf, joined}
 use Rattle.bodies.specs.FiltersLaws.{each_some}
 use Rattle.bodies.specs.declared.encoding.Encoding.{Encoding}
 use Rattle.bodies.specs.declared.error.RunError.{RunError}
-use Rattle.bodies.specs.declared.error.RunError.TheVariants.{NotChunked, Truncated, Behind, Read, Write, Io}
+use Rattle.bodies.specs.declared.error.RunError.TheVariants.{Write, Io}
 
 abbrev least : Limits
 least = record { line = 16; trailers = 0 }
@@ -149,11 +149,7 @@ module _ {R W : Type 0} (remaining : R → Option (List ℕ)) (stretch : W → W
         SendFailed-after e first.log t.source.log t.source.log u.log t.target.writer.log v.log met
             (record { reader = OnlyInterrupts-none t.source.log.reads.faults; writer = end.answers.1 }),
       )
-      ended once (Err (NotChunked why right)) end = absurd end.answers
-      ended once (Err (Truncated right)) end = absurd end.answers
-      ended once (Err (Behind right)) end = absurd end.answers
-      ended once (Err (Read e)) end = absurd end.answers
-      ended once (Err (Io e)) end = absurd end.answers
+      ended once (Err other) end = absurd end.answers
 
   -- it was stopped, and no end was taken in
   abbrev still : WritesInOrder t.target.writer [] t.target.writer

@@ -16,7 +16,7 @@ use Rattle.bodies.specs.Filters.{joined}
 use Rattle.bodies.specs.FiltersLaws.{asked_after, sent_all, taken_more}
 use Rattle.bodies.specs.declared.decoding.Decoding.{Decoding}
 use Rattle.bodies.specs.declared.error.RunError.{RunError}
-use Rattle.bodies.specs.declared.error.RunError.TheVariants.{NotChunked, Truncated, Behind, Read, Write, Io}
+use Rattle.bodies.specs.declared.error.RunError.TheVariants.{NotChunked, Truncated, Behind}
 
 module _ {R W : Type 0} (remaining : R → Option (List ℕ)) where
   abbrev rules : FilterRules (Decoding R W) RunError
@@ -57,9 +57,7 @@ module _ {R W : Type 0} (remaining : R → Option (List ℕ)) where
   ends_after a b c (Err (NotChunked why right)) gives end = end
   ends_after a b c (Err (Truncated right)) gives end = (end.0, end.1, omega (arith, gives.zero_reads, end.2), end.3)
   ends_after a b c (Err (Behind right)) gives end = end
-  ends_after a b c (Err (Read e)) gives end = absurd end
-  ends_after a b c (Err (Write e)) gives end = absurd end
-  ends_after a b c (Err (Io e)) gives end = absurd end
+  ends_after a b c (Err other) gives end = absurd end
 
   still_open : (a b : Decoding R W) → StaysOpen rules a b → Gives rules a b
   still_open a b (inl gives) = gives

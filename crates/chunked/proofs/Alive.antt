@@ -1,10 +1,11 @@
 -- From each place a body can be completed.
-use Rattle.std.proofs.Common.{ℕ, zero, suc, ◌-◌, ◌<◌, List, [], ◌∷◌, ◌++◌, replicate, arith, inl, refl}
+use Rattle.std.proofs.Common.{ℕ, zero, suc, ◌-◌, ◌<◌, List, [], ◌∷◌, ◌++◌, length, replicate, arith, inl, refl}
 use Rattle.std.proofs.lemmas.List.{length-replicate}
 use Rattle.chunked.specs.declared.limits.Limits.{Limits}
 use Rattle.chunked.specs.declared.place.Place.{Place}
 use Rattle.chunked.specs.declared.place.Place.TheVariants.{Line, Size, Extension, SizeFeed, Data, DataFeed, Fields, FieldName, FieldValue, FieldFeed, LastFeed, Done}
 use Rattle.chunked.specs.Body.{line_end, IsBody, IsTrailers}
+use Rattle.chunked.specs.ChunkLaws.{zero_line}
 use Rattle.chunked.specs.FieldLaws.{IsField-valued}
 use Rattle.chunked.specs.Place.{BehindSize, Completes, CompletesData, IsPlace}
 
@@ -17,16 +18,7 @@ module _ (limits : Limits) where
     payloads = [];
     chunks = record {
       text = 48 ∷ [];
-      size_line = record {
-        digits = 48 ∷ [];
-        extension = [];
-        equal = refl;
-        numeral = (omega arith, (omega arith, tt));
-        value = refl;
-        small = omega arith;
-        follows = (0, refl);
-        fits = omega (arith, some);
-      };
+      size_line = zero_line limits.line some;
       behind = line_end [];
       trailers = no_trailers limits.trailers;
       equal = refl;
@@ -88,15 +80,18 @@ module _ (limits : Limits) where
   Completes-some some (Extension within size room) is = let goes = size_some some size in record {
     rest = is.1.0 ++ line_end goes.rest;
     payload = goes.payload;
-    completes = record {
-      text = is.1.0;
-      behind = goes.rest;
-      equal = refl;
-      is_rest = is.1.1;
-      fits = is.1.2;
-      small = is.0;
-      goes_on = goes.goes_on;
-    };
+    completes = (
+      record {
+        text = is.1.0;
+        behind = goes.rest;
+        left = room - length is.1.0;
+        equal = refl;
+        is_rest = is.1.1;
+        fits = omega (arith, is.1.2);
+        goes_on = goes.goes_on;
+      },
+      is.0,
+    );
   }
   Completes-some some (SizeFeed size) is = let goes = size_some some size in
       record { rest = 10 ∷ goes.rest; payload = goes.payload; completes = ((goes.rest, refl, goes.goes_on), is) }
@@ -121,9 +116,9 @@ module _ (limits : Limits) where
         behind = line_end [];
         left = room - 1;
         equal = refl;
-        is_field = IsField-valued 97 [] (inl refl) tt;
+        is_rest = IsField-valued 97 [] (inl refl) tt;
         fits = omega (arith, is);
-        trailers = no_trailers (room - 1);
+        goes_on = no_trailers (room - 1);
       },
     );
   }
@@ -137,9 +132,9 @@ module _ (limits : Limits) where
         behind = line_end [];
         left = room;
         equal = refl;
-        is_field = IsField-valued 97 [] (inl refl) tt;
+        is_rest = IsField-valued 97 [] (inl refl) tt;
         fits = omega arith;
-        trailers = no_trailers room;
+        goes_on = no_trailers room;
       },
     );
   }

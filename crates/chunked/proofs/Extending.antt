@@ -3,7 +3,7 @@ use Rattle.std.proofs.Common.{◌≡◌, ◌≢◌, ℕ, ◌-◌, ◌<◌, ◌�
 use Rattle.chunked.specs.declared.extension.Within.{Within}
 use Rattle.chunked.specs.declared.limits.Limits.{Limits}
 use Rattle.chunked.specs.declared.place.Place.TheVariants.{Extension, SizeFeed}
-use Rattle.chunked.specs.Place.{Passes}
+use Rattle.chunked.specs.Place.{BehindSize, Passes}
 use Rattle.chunked.specs.Within.{Extends, FitsIn, Follows, IsLeast, RunsOver}
 use Rattle.chunked.specs.WithinLaws.{Extends-text}
 use Rattle.chunked.proofs.Passing.{quiet, line_back, line_on, return_back, return_on}
@@ -27,10 +27,16 @@ module _ (within next : Within) (b least : ℕ) (follows : Follows within b (Som
       → Passes limits (Extension within size room) (b ∷ []) (Extension next size (room - 1))
   extension_on limits size room some = record {
     leads = quiet limits (Extension within size room) (Extension next size (room - 1)) (b ∷ [])
-        (λ rest payload c. line_on limits (Extends within) (Extends next) b size room rest payload (omega (arith, some))
-        (λ text e. (follows text).1 e) c)
-        (λ rest payload c. line_back limits (Extends within) (Extends next) b size room rest payload c.text no_return
-        (λ text e. (follows text).0 e) c refl);
+        (λ rest payload c. (
+          line_on (Extends within) (Extends next) (λ left behind. BehindSize limits size behind payload) b room rest
+              (omega (arith, some)) (λ text e. (follows text).1 e) c.0,
+          c.1,
+        ))
+        (λ rest payload c. (
+          line_back (Extends within) (Extends next) (λ left behind. BehindSize limits size behind payload) b room rest c.0.text
+              no_return (λ text e. (follows text).0 e) c.0 refl,
+          c.1,
+        ));
     few = omega (arith, some);
   }
 
@@ -39,8 +45,14 @@ pub extension_return : (limits : Limits) (within : Within) (b size room : ℕ) �
     → Passes limits (Extension within size room) (b ∷ []) (SizeFeed size)
 extension_return limits within b size room none is = record {
   leads = quiet limits (Extension within size room) (SizeFeed size) (b ∷ [])
-      (λ rest payload c. return_on limits (Extends within) size room b rest payload is none c)
-      (λ rest payload c. return_back limits (Extends within) size b rest payload c.text c.behind is c.equal
-      (λ x more e. (Extends-text within (x ∷ more) e).0.0) c.is_rest c.small c.goes_on);
+      (λ rest payload c. (
+        return_on (Extends within) (λ left behind. BehindSize limits size behind payload) b room rest is none c.0,
+        c.1,
+      ))
+      (λ rest payload c. (
+        return_back (Extends within) (λ left behind. BehindSize limits size behind payload) b room rest is c.0.text
+            (λ x more e. (Extends-text within (x ∷ more) e).0.0) c.0 refl,
+        c.1,
+      ));
   few = omega arith;
 }

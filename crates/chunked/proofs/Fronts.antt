@@ -7,7 +7,7 @@ use borrow.Rule.Slice.PartMut.{put_mid}
 use Rattle.chunked.specs.declared.error.Malformed.{Malformed}
 use Rattle.chunked.specs.declared.limits.Limits.{Limits}
 use Rattle.chunked.specs.declared.place.Place.{Place}
-use Rattle.chunked.specs.declared.place.Place.TheVariants.{Line, Size, Extension, SizeFeed, Data, DataFeed, Fields, FieldName, FieldValue, FieldFeed, LastFeed, Done}
+use Rattle.chunked.specs.declared.place.Place.TheVariants.{Data, Done}
 use Rattle.chunked.specs.declared.step.Reached.{Reached}
 use Rattle.chunked.specs.declared.unchunk.Unchunked.{Unchunked}
 use Rattle.chunked.specs.Between.{HandsFront, MeetsWrong, NoneLeft}
@@ -17,18 +17,9 @@ use Rattle.chunked.proofs.PassingOn.{data_payload}
 
 -- where nothing is done, and no payload comes next, the body ended
 settled_done : (p : Place) → IsSettled p → ((left : ℕ) → p ≢ Data left) → p ≡ Done
-settled_done Line settled other = absurd settled
-settled_done (Size number room) settled other = absurd settled
-settled_done (Extension within size room) settled other = absurd settled
-settled_done (SizeFeed size) settled other = absurd settled
 settled_done (Data left) settled other = absurd (other left refl)
-settled_done DataFeed settled other = absurd settled
-settled_done (Fields room) settled other = absurd settled
-settled_done (FieldName room) settled other = absurd settled
-settled_done (FieldValue room) settled other = absurd settled
-settled_done (FieldFeed room) settled other = absurd settled
-settled_done LastFeed settled other = absurd settled
 settled_done Done settled other = refl
+settled_done p settled other = absurd settled
 
 -- a slice whose end was written
 put_rest : (out tail : List ℕ) (n : ℕ) → put_mid n (length out - n) out tail ≡ take n out ++ tail

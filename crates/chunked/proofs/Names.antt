@@ -23,17 +23,6 @@ module _ (l : Limits) (b : ℕ) where
   digit_no_feed : IsDigit b → b ≡ 10 → ⊥
   digit_no_feed digit feed = (digit_is_text b digit).1 feed
 
-  -- before a line
-  no_size : (v : Malformed) → ¬ IsDigit b → IsWrong l Line b v → NoSize ≡ v
-  no_size NoSize h k = refl
-  no_size LineTooLong h k = absurd (h k.0)
-  no_size v h k = absurd k
-
-  no_room : (v : Malformed) → IsDigit b → IsWrong l Line b v → LineTooLong ≡ v
-  no_room NoSize h k = absurd (k h)
-  no_room LineTooLong h k = refl
-  no_room v h k = absurd k
-
   -- in an extension
   in_extension : (within : Within) (size room : ℕ) (w v : Malformed) → IsWrong l (Extension within size room) b w
       → IsWrong l (Extension within size room) b v → w ≡ v
@@ -142,38 +131,26 @@ module _ (l : Limits) (b : ℕ) where
   in_value room BadField v h k = absurd k
   in_value room w v h k = absurd h
 
-  -- where one name alone may stand
-  size_feed_only : (size : ℕ) (v : Malformed) → IsWrong l (SizeFeed size) b v → BareReturn ≡ v
-  size_feed_only size BareReturn k = refl
-  size_feed_only size v k = absurd k
-
-  data_feed_only : (v : Malformed) → IsWrong l DataFeed b v → BareReturn ≡ v
-  data_feed_only BareReturn k = refl
-  data_feed_only v k = absurd k
-
-  field_feed_only : (room : ℕ) (v : Malformed) → IsWrong l (FieldFeed room) b v → BareReturn ≡ v
-  field_feed_only room BareReturn k = refl
-  field_feed_only room v k = absurd k
-
-  last_feed_only : (v : Malformed) → IsWrong l LastFeed b v → BareReturn ≡ v
-  last_feed_only BareReturn k = refl
-  last_feed_only v k = absurd k
-
-  data_only : (left : ℕ) (v : Malformed) → IsWrong l (Data left) b v → ChunkTooLong ≡ v
-  data_only left ChunkTooLong k = refl
-  data_only left v k = absurd k
-
   pub one_name : (p : Place) (w v : Malformed) → IsWrong l p b w → IsWrong l p b v → w ≡ v
-  one_name Line NoSize v h k = no_size v h k
-  one_name Line LineTooLong v h k = no_room v h.0 k
+  one_name Line NoSize NoSize h k = refl
+  one_name Line NoSize LineTooLong h k = absurd (h k.0)
+  one_name Line NoSize v h k = absurd k
+  one_name Line LineTooLong NoSize h k = absurd (k h.0)
+  one_name Line LineTooLong LineTooLong h k = refl
+  one_name Line LineTooLong v h k = absurd k
   one_name (Size number room) w v h k = in_size number room w v h k
   one_name (Extension within size room) w v h k = in_extension within size room w v h k
-  one_name (SizeFeed size) BareReturn v h k = size_feed_only size v k
-  one_name (Data left) ChunkTooLong v h k = data_only left v k
-  one_name DataFeed BareReturn v h k = data_feed_only v k
+  one_name (SizeFeed size) BareReturn BareReturn h k = refl
+  one_name (SizeFeed size) BareReturn v h k = absurd k
+  one_name (Data left) ChunkTooLong ChunkTooLong h k = refl
+  one_name (Data left) ChunkTooLong v h k = absurd k
+  one_name DataFeed BareReturn BareReturn h k = refl
+  one_name DataFeed BareReturn v h k = absurd k
   one_name (Fields room) w v h k = in_fields room w v h k
   one_name (FieldName room) w v h k = in_name room w v h k
   one_name (FieldValue room) w v h k = in_value room w v h k
-  one_name (FieldFeed room) BareReturn v h k = field_feed_only room v k
-  one_name LastFeed BareReturn v h k = last_feed_only v k
+  one_name (FieldFeed room) BareReturn BareReturn h k = refl
+  one_name (FieldFeed room) BareReturn v h k = absurd k
+  one_name LastFeed BareReturn BareReturn h k = refl
+  one_name LastFeed BareReturn v h k = absurd k
   one_name p w v h k = absurd h

@@ -8,12 +8,69 @@ use Rattle.chunked.specs.declared.limits.Limits.{Limits}
 use Rattle.chunked.specs.declared.place.Place.{Place}
 use Rattle.chunked.specs.declared.place.Place.TheVariants.{Line, Size, Extension, SizeFeed, Data, DataFeed, Fields, FieldFeed, LastFeed, Done}
 use Rattle.chunked.specs.Extension.{IsExtension}
-use Rattle.chunked.specs.Within.{Extends}
 use Rattle.chunked.specs.declared.extension.Within.TheVariants.{Behind}
 use Rattle.chunked.specs.Body.{line_end, IsTrailers}
 use Rattle.chunked.specs.BodyLaws.{extension_no_digit}
-use Rattle.chunked.specs.Place.{BehindSize, Completes, CompletesSize, CompletesLine, Feeds, Leads, Passes, IsDigit, IsSettled, StepsOver}
+use Rattle.chunked.specs.Place.{BehindSize, Completes, CompletesSize, EndsLine, Feeds, Leads, Passes, IsDigit, IsSettled, StepsOver}
 use Rattle.chunked.proofs.Lines.{first_digit, digit_first}
+
+-- in a line, of whatever kind its rest is and what stands behind it
+module _ (IsRest IsNext : List ℕ → Type 0) (GoesOn : ℕ → List ℕ → Type 0) (b room : ℕ) (rest : List ℕ) where
+  -- a byte of it
+  pub line_on : 0 < room → ((text : List ℕ) → IsNext text → IsRest (b ∷ text)) → EndsLine IsNext GoesOn (room - 1) rest
+      → EndsLine IsRest GoesOn room (b ∷ rest)
+  line_on some on c = record {
+    text = b ∷ c.text;
+    behind = c.behind;
+    left = c.left;
+    equal = ap (λ l. b ∷ l) c.equal;
+    is_rest = on c.text c.is_rest;
+    fits = omega (arith, c.fits, some);
+    goes_on = c.goes_on;
+  }
+
+  pub line_back : (text : List ℕ) → b ≢ 13 → ((text : List ℕ) → IsRest (b ∷ text) → IsNext text)
+      → (c : EndsLine IsRest GoesOn room (b ∷ rest)) → c.text ≡ text → EndsLine IsNext GoesOn (room - 1) rest
+  line_back [] differs back c is =
+      let same : b ∷ rest ≡ line_end c.behind = c.equal ∙ ap (λ l. l ++ line_end c.behind) is in
+      let odd : b ≡ 13 = cc in
+      absurd (differs odd)
+  line_back (x ∷ text) differs back c is =
+      let same : b ∷ rest ≡ x ∷ (text ++ line_end c.behind) = c.equal ∙ ap (λ l. l ++ line_end c.behind) is in
+      let head : x ≡ b = cc in
+      record {
+        text = text;
+        behind = c.behind;
+        left = c.left;
+        equal = cc;
+        is_rest = back text (subst (λ y. IsRest (y ∷ text)) head (subst IsRest is c.is_rest));
+        fits = omega (arith, c.fits, ap length is);
+        goes_on = c.goes_on;
+      }
+
+-- a CR ends it
+module _ (IsRest : List ℕ → Type 0) (GoesOn : ℕ → List ℕ → Type 0) (b room : ℕ) (rest : List ℕ) (is : b ≡ 13) where
+  pub return_on : IsRest [] → Feeds (GoesOn room) rest → EndsLine IsRest GoesOn room (b ∷ rest)
+  return_on none (behind, same, goes_on) = record {
+    text = [];
+    behind = behind;
+    left = room;
+    equal = ap (λ x. x ∷ rest) is ∙ ap (λ l. 13 ∷ l) same;
+    is_rest = none;
+    fits = omega arith;
+    goes_on = goes_on;
+  }
+
+  pub return_back : (text : List ℕ) → ((x : ℕ) (more : List ℕ) → IsRest (x ∷ more) → x ≢ 13)
+      → (c : EndsLine IsRest GoesOn room (b ∷ rest)) → c.text ≡ text → Feeds (GoesOn room) rest
+  return_back [] differs c same =
+      let all : b ∷ rest ≡ line_end c.behind = c.equal ∙ ap (λ l. l ++ line_end c.behind) same in
+      let left : c.left ≡ room = omega (arith, c.fits, ap length same) in
+      (c.behind, cc, subst (λ n. GoesOn n c.behind) left c.goes_on)
+  return_back (x ∷ text) differs c same =
+      let all : b ∷ rest ≡ x ∷ (text ++ line_end c.behind) = c.equal ∙ ap (λ l. l ++ line_end c.behind) same in
+      let head : x ≡ b = cc in
+      absurd (differs x text (subst IsRest same c.is_rest) (head ∙ is))
 
 module _ (limits : Limits) where
   -- bytes that are no payload
@@ -90,37 +147,40 @@ module _ (limits : Limits) where
   -- where no digit comes, digits lead on as the beginning of an extension does
   as_extension : (b number room : ℕ) (rest payload digits : List ℕ) → ¬ IsDigit b
       → (c : CompletesSize limits number room (b ∷ rest) payload) → c.digits ≡ digits
-      → CompletesLine (Extends Behind) limits number room (b ∷ rest) payload
-  as_extension b number room rest payload [] no_digit c is = record {
-    text = c.extension;
-    behind = c.behind;
-    equal = c.equal ∙ ap (λ l. l ++ (c.extension ++ line_end c.behind)) is;
-    is_rest = c.follows;
-    fits = omega (arith, c.fits);
-    small = subst (λ n. n < 2 ^ 62) (sym (ap (λ ds. digits_value_after 16 number ds) (sym is) ∙ c.value)) c.small;
-    goes_on = subst (λ n. BehindSize limits n c.behind payload)
-        (sym (ap (λ ds. digits_value_after 16 number ds) (sym is) ∙ c.value)) c.goes_on;
-  }
+      → Completes limits (Extension Behind number room) (b ∷ rest) payload
+  as_extension b number room rest payload [] no_digit c is =
+      let size : number ≡ c.size = ap (λ ds. digits_value_after 16 number ds) (sym is) ∙ c.value in (
+        record {
+          text = c.extension;
+          behind = c.behind;
+          left = room - length c.extension;
+          equal = c.equal ∙ ap (λ l. l ++ (c.extension ++ line_end c.behind)) is;
+          is_rest = c.follows;
+          fits = omega (arith, c.fits);
+          goes_on = subst (λ n. BehindSize limits n c.behind payload) (sym size) c.goes_on;
+        },
+        subst (λ n. n < 2 ^ 62) (sym size) c.small,
+      )
   as_extension b number room rest payload (d ∷ digits) no_digit c is =
       let same : b ∷ rest ≡ d ∷ (digits ++ (c.extension ++ line_end c.behind)) =
       c.equal ∙ ap (λ l. l ++ (c.extension ++ line_end c.behind)) is in
       let head : d ≡ b = cc in
       absurd (no_digit (subst IsDigit head (subst (λ ds. AllDigits 16 ds) is c.all).0))
 
-  of_extension : (number room : ℕ) (bytes payload : List ℕ) → CompletesLine (Extends Behind) limits number room bytes payload
+  of_extension : (number room : ℕ) (bytes payload : List ℕ) → Completes limits (Extension Behind number room) bytes payload
       → CompletesSize limits number room bytes payload
   of_extension number room bytes payload c = record {
     digits = [];
-    extension = c.text;
+    extension = c.0.text;
     size = number;
-    behind = c.behind;
-    equal = c.equal;
+    behind = c.0.behind;
+    equal = c.0.equal;
     all = tt;
     value = refl;
-    small = c.small;
-    follows = c.is_rest;
-    fits = omega (arith, c.fits);
-    goes_on = c.goes_on;
+    small = c.1;
+    follows = c.0.is_rest;
+    fits = omega (arith, c.0.fits);
+    goes_on = c.0.goes_on;
   }
 
   pub size_as_extension : (b number room : ℕ) (q : Place) → ¬ IsDigit b
@@ -131,61 +191,6 @@ module _ (limits : Limits) where
       back = λ rest whole c. goes.leads.back rest whole (as_extension b number room rest whole c.digits no_digit c refl);
     };
     few = goes.few;
-  }
-
-  -- a byte of a line, of whatever kind its rest may be
-  pub line_on : (IsRest IsNext : List ℕ → Type 0) (b size room : ℕ) (rest payload : List ℕ) → 0 < room
-      → ((text : List ℕ) → IsNext text → IsRest (b ∷ text))
-      → CompletesLine IsNext limits size (room - 1) rest payload → CompletesLine IsRest limits size room (b ∷ rest) payload
-  line_on IsRest IsNext b size room rest payload some on c = record {
-    text = b ∷ c.text;
-    behind = c.behind;
-    equal = ap (λ l. b ∷ l) c.equal;
-    is_rest = on c.text c.is_rest;
-    fits = omega (arith, c.fits, some);
-    small = c.small;
-    goes_on = c.goes_on;
-  }
-
-  pub line_back : (IsRest IsNext : List ℕ → Type 0) (b size room : ℕ) (rest payload text : List ℕ) → b ≢ 13
-      → ((text : List ℕ) → IsRest (b ∷ text) → IsNext text)
-      → (c : CompletesLine IsRest limits size room (b ∷ rest) payload) → c.text ≡ text
-      → CompletesLine IsNext limits size (room - 1) rest payload
-  line_back IsRest IsNext b size room rest payload [] differs back c is =
-      let same : b ∷ rest ≡ line_end c.behind = c.equal ∙ ap (λ l. l ++ line_end c.behind) is in
-      let odd : b ≡ 13 = cc in
-      absurd (differs odd)
-  line_back IsRest IsNext b size room rest payload (x ∷ text) differs back c is =
-      let same : b ∷ rest ≡ x ∷ (text ++ line_end c.behind) = c.equal ∙ ap (λ l. l ++ line_end c.behind) is in
-      let head : x ≡ b = cc in
-      record {
-        text = text;
-        behind = c.behind;
-        equal = cc;
-        is_rest = back text (subst (λ y. IsRest (y ∷ text)) head (subst IsRest is c.is_rest));
-        fits = omega (arith, c.fits, ap length is);
-        small = c.small;
-        goes_on = c.goes_on;
-      }
-
-  -- a CR ends a line
-  pub return_back : (IsRest : List ℕ → Type 0) (size : ℕ) (b : ℕ) (rest payload text behind : List ℕ) → b ≡ 13
-      → b ∷ rest ≡ text ++ line_end behind → ((x : ℕ) (more : List ℕ) → IsRest (x ∷ more) → x ≢ 13) → IsRest text
-      → size < 2 ^ 62 → BehindSize limits size behind payload → Completes limits (SizeFeed size) rest payload
-  return_back IsRest size b rest payload [] behind is same differs h small goes_on = ((behind, cc, goes_on), small)
-  return_back IsRest size b rest payload (x ∷ text) behind is same differs h small goes_on =
-      let head : b ≡ x = cc in absurd (differs x text h (sym head ∙ is))
-
-  pub return_on : (IsRest : List ℕ → Type 0) (size room b : ℕ) (rest payload : List ℕ) → b ≡ 13 → IsRest []
-      → Completes limits (SizeFeed size) rest payload → CompletesLine IsRest limits size room (b ∷ rest) payload
-  return_on IsRest size room b rest payload is none ((behind, same, goes_on), small) = record {
-    text = [];
-    behind = behind;
-    equal = ap (λ x. x ∷ rest) is ∙ ap (λ l. 13 ∷ l) same;
-    is_rest = none;
-    fits = omega arith;
-    small = small;
-    goes_on = goes_on;
   }
 
   -- an LF behind a CR

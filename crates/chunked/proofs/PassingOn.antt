@@ -1,14 +1,14 @@
 -- Which bytes lead on in a chunk and in the trailers.
-use Rattle.std.proofs.Common.{◌≡◌, ◌≢◌, ℕ, ◌-◌, ◌<◌, ◌≤◌, List, [], ◌∷◌, ◌++◌, codes, length, sym, ap, subst, ◌∙◌, arith, inl, refl, append_assoc, length-append}
+use Rattle.std.proofs.Common.{◌≡◌, ℕ, ◌-◌, ◌<◌, ◌≤◌, List, [], ◌∷◌, ◌++◌, codes, length, sym, ap, subst, ◌∙◌, arith, inl, refl, append_assoc, length-append}
 use Rattle.std.specs.List.{AllByRecursion, flat_map}
 use Rattle.chunked.specs.declared.limits.Limits.{Limits}
 use Rattle.chunked.specs.declared.place.Place.TheVariants.{Data, DataFeed, Fields, FieldName, FieldValue, FieldFeed, LastFeed}
 use Rattle.chunked.specs.Token.{IsTokenByte, IsValueByte}
 use Rattle.chunked.specs.Body.{line_end, IsTrailers, IsField, fields_bytes}
 use Rattle.chunked.specs.FieldLaws.{IsField-longer, IsField-none, IsField-shorter, IsField-text, IsField-value, IsField-valued, other_first, token_is_text, value_is_text}
-use Rattle.chunked.specs.Place.{Completes, CompletesData, CompletesField, Feeds, Leads, Passes}
+use Rattle.chunked.specs.Place.{Completes, CompletesData, EndsField, Leads, Passes}
 use Rattle.chunked.proofs.Lines.{longer_front}
-use Rattle.chunked.proofs.Passing.{quiet}
+use Rattle.chunked.proofs.Passing.{line_back, line_on, quiet, return_back, return_on}
 
 module _ (limits : Limits) where
   -- bytes of a payload
@@ -99,7 +99,7 @@ module _ (limits : Limits) where
 
   -- the first byte of a line of the trailers
   fields_first_back : (b room : ℕ) (rest : List ℕ) (fields : List (List ℕ)) → IsTokenByte b
-      → (t : IsTrailers room (b ∷ rest)) → t.fields ≡ fields → CompletesField (codes "a") (room - 1) rest
+      → (t : IsTrailers room (b ∷ rest)) → t.fields ≡ fields → EndsField (codes "a") (room - 1) rest
   fields_first_back b room rest [] byte t same =
       let all : b ∷ rest ≡ line_end [] = t.equal ∙ ap fields_bytes same in
       let head : b ≡ 13 = cc in
@@ -117,9 +117,9 @@ module _ (limits : Limits) where
         behind = fields_bytes fields;
         left = room - length (x ∷ f);
         equal = cc;
-        is_field = other_first x 97 f (inl refl) lines.0;
+        is_rest = other_first x 97 f (inl refl) lines.0;
         fits = omega (arith, few, sum);
-        trailers = record { fields = fields; equal = refl; lines = lines.1; few = omega (arith, few, sum) };
+        goes_on = record { fields = fields; equal = refl; lines = lines.1; few = omega (arith, few, sum) };
       }
 
   pub fields_first : (b room : ℕ) → IsTokenByte b → 2 ≤ room → Passes limits (Fields room) (b ∷ []) (FieldName (room - 1))
@@ -128,15 +128,15 @@ module _ (limits : Limits) where
         (λ rest payload c. let f = c.1 in (
           c.0,
           record {
-            fields = (b ∷ f.text) ∷ f.trailers.fields;
-            equal = ap (λ l. b ∷ l) (f.equal ∙ ap (λ l. f.text ++ line_end l) f.trailers.equal);
-            lines = (other_first 97 b f.text byte f.is_field, f.trailers.lines);
+            fields = (b ∷ f.text) ∷ f.goes_on.fields;
+            equal = ap (λ l. b ∷ l) (f.equal ∙ ap (λ l. f.text ++ line_end l) f.goes_on.equal);
+            lines = (other_first 97 b f.text byte f.is_rest, f.goes_on.lines);
             few = omega (
               arith,
               f.fits,
               fits,
-              f.trailers.few,
-              length-append (b ∷ f.text) (flat_map (λ g. g) f.trailers.fields),
+              f.goes_on.few,
+              length-append (b ∷ f.text) (flat_map (λ g. g) f.goes_on.fields),
             );
           },
         ))
@@ -145,50 +145,22 @@ module _ (limits : Limits) where
   }
 
   -- one more byte of such a line
-  field_on : (begun further : List ℕ) (b room : ℕ) (rest : List ℕ) → 0 < room
-      → ((text : List ℕ) → IsField (further ++ text) → IsField (begun ++ (b ∷ text)))
-      → CompletesField further (room - 1) rest → CompletesField begun room (b ∷ rest)
-  field_on begun further b room rest some on f = record {
-    text = b ∷ f.text;
-    behind = f.behind;
-    left = f.left;
-    equal = ap (λ l. b ∷ l) f.equal;
-    is_field = on f.text f.is_field;
-    fits = omega (arith, f.fits, some);
-    trailers = f.trailers;
-  }
+  abbrev Named : List ℕ → Type 0
+  Named text = IsField (codes "a" ++ text)
 
-  field_back : (begun further : List ℕ) (b room : ℕ) (rest text : List ℕ) → b ≢ 13
-      → ((text : List ℕ) → IsField (begun ++ (b ∷ text)) → IsField (further ++ text))
-      → (f : CompletesField begun room (b ∷ rest)) → f.text ≡ text → CompletesField further (room - 1) rest
-  field_back begun further b room rest [] differs back f is =
-      let same : b ∷ rest ≡ line_end f.behind = f.equal ∙ ap (λ l. l ++ line_end f.behind) is in
-      let odd : b ≡ 13 = cc in
-      absurd (differs odd)
-  field_back begun further b room rest (x ∷ text) differs back f is =
-      let same : b ∷ rest ≡ x ∷ (text ++ line_end f.behind) = f.equal ∙ ap (λ l. l ++ line_end f.behind) is in
-      let head : x ≡ b = cc in
-      let field : IsField (begun ++ (x ∷ text)) = subst (λ t. IsField (begun ++ t)) is f.is_field in
-      record {
-        text = text;
-        behind = f.behind;
-        left = f.left;
-        equal = cc;
-        is_field = back text (subst (λ y. IsField (begun ++ (y ∷ text))) head field);
-        fits = omega (arith, f.fits, ap length is);
-        trailers = f.trailers;
-      }
+  abbrev Valued : List ℕ → Type 0
+  Valued text = IsField (codes "a:" ++ text)
 
   pub name_on : (b room : ℕ) → IsTokenByte b → 2 ≤ room → Passes limits (FieldName room) (b ∷ []) (FieldName (room - 1))
   name_on b room byte fits = record {
     leads = quiet limits (FieldName room) (FieldName (room - 1)) (b ∷ [])
         (λ rest payload c. (
           c.0,
-          field_on (codes "a") (codes "a") b room rest (omega (arith, fits)) (λ text f. IsField-longer 97 b text byte f) c.1,
+          line_on Named Named IsTrailers b room rest (omega (arith, fits)) (λ text f. IsField-longer 97 b text byte f) c.1,
         ))
         (λ rest payload c. (
           c.0,
-          field_back (codes "a") (codes "a") b room rest c.1.text (token_is_text b byte).0
+          line_back Named Named IsTrailers b room rest c.1.text (token_is_text b byte).0
               (λ text f. IsField-shorter 97 b text byte f) c.1 refl,
         ));
     few = omega (arith, fits);
@@ -199,12 +171,12 @@ module _ (limits : Limits) where
     leads = quiet limits (FieldName room) (FieldValue (room - 1)) (b ∷ [])
         (λ rest payload c. (
           c.0,
-          field_on (codes "a") (codes "a:") b room rest some
+          line_on Named Valued IsTrailers b room rest some
               (λ text f. subst (λ x. IsField (97 ∷ (x ∷ text))) (sym is) f) c.1,
         ))
         (λ rest payload c. (
           c.0,
-          field_back (codes "a") (codes "a:") b room rest c.1.text (λ odd. omega (arith, is, odd))
+          line_back Named Valued IsTrailers b room rest c.1.text (λ odd. omega (arith, is, odd))
               (λ text f. subst (λ x. IsField (97 ∷ (x ∷ text))) is f) c.1 refl,
         ));
     few = omega (arith, some);
@@ -215,45 +187,26 @@ module _ (limits : Limits) where
     leads = quiet limits (FieldValue room) (FieldValue (room - 1)) (b ∷ [])
         (λ rest payload c. (
           c.0,
-          field_on (codes "a:") (codes "a:") b room rest some
+          line_on Valued Valued IsTrailers b room rest some
               (λ text f. IsField-valued 97 (b ∷ text) (inl refl) (byte, IsField-value 97 text f)) c.1,
         ))
         (λ rest payload c. (
           c.0,
-          field_back (codes "a:") (codes "a:") b room rest c.1.text (value_is_text b byte).0
+          line_back Valued Valued IsTrailers b room rest c.1.text (value_is_text b byte).0
               (λ text f. IsField-valued 97 text (inl refl) (IsField-value 97 (b ∷ text) f).1) c.1 refl,
         ));
     few = omega (arith, some);
   }
 
   -- a CR ends the value of a line
-  value_return_back : (b room : ℕ) (rest text : List ℕ) → b ≡ 13 → (f : CompletesField (codes "a:") room (b ∷ rest))
-      → f.text ≡ text → Feeds (IsTrailers room) rest
-  value_return_back b room rest [] is f same =
-      let all : b ∷ rest ≡ line_end f.behind = f.equal ∙ ap (λ l. l ++ line_end f.behind) same in
-      let left : f.left ≡ room = omega (arith, f.fits, ap length same) in
-      (f.behind, cc, subst (λ n. IsTrailers n f.behind) left f.trailers)
-  value_return_back b room rest (x ∷ text) is f same =
-      let all : b ∷ rest ≡ x ∷ (text ++ line_end f.behind) = f.equal ∙ ap (λ l. l ++ line_end f.behind) same in
-      let head : x ≡ b = cc in
-      let field : IsField (97 ∷ (58 ∷ (x ∷ text))) = subst (λ t. IsField (97 ∷ (58 ∷ t))) same f.is_field in
-      absurd ((value_is_text x (IsField-value 97 (x ∷ text) field).0).0 (head ∙ is))
-
   pub value_return : (b room : ℕ) → b ≡ 13 → Passes limits (FieldValue room) (b ∷ []) (FieldFeed room)
   value_return b room is = record {
     leads = quiet limits (FieldValue room) (FieldFeed room) (b ∷ [])
+        (λ rest payload c. (c.0, return_on Valued IsTrailers b room rest is (IsField-valued 97 [] (inl refl) tt) c.1))
         (λ rest payload c. (
           c.0,
-          record {
-            text = [];
-            behind = c.1.0;
-            left = room;
-            equal = ap (λ x. x ∷ rest) is ∙ ap (λ l. 13 ∷ l) c.1.1;
-            is_field = IsField-valued 97 [] (inl refl) tt;
-            fits = omega arith;
-            trailers = c.1.2;
-          },
-        ))
-        (λ rest payload c. (c.0, value_return_back b room rest c.1.text is c.1 refl));
+          return_back Valued IsTrailers b room rest is c.1.text
+              (λ x more f. (value_is_text x (IsField-value 97 (x ∷ more) f).0).0) c.1 refl,
+        ));
     few = omega arith;
   }

@@ -34,9 +34,16 @@ block_small b is = omega (arith, is.limit, is.most, limit_small b.kind)
 abbrev pub Spaced : {S : Type 0} → (S → StreamLog) → (S → S → Type 0) → ℕ → Buffered S StdPolicy → Buffered S StdPolicy → Type 0
 Spaced tells stretch n s m = (n ≤ room s → m ≡ s) × (room s < n → WasSent tells stretch s (Ok tt) m)
 
+-- these bytes went in behind what was buffered, or sent
+record WentIn {S : Type 0} (stretch : S → S → Type 0) (s : Buffered S StdPolicy) (bytes : List ℕ) (t : Buffered S StdPolicy)
+    : Type 0 where
+  pub in_order : WritesInOrder s bytes t
+  pub went : stretch s.inner t.inner
+  pub capacity : t.block.capacity ≡ s.block.capacity
+  pub limit : t.block.limit ≡ s.block.limit
+
 module _ {S : Type 0} (tells : S → StreamLog) (stretch : S → S → Type 0)
     (joins : (a b c : S) → stretch a b → stretch b c → stretch a c) where
-  -- the bytes went in behind what was buffered, or sent
   module _ (s m t : Buffered S StdPolicy) (n : ℕ) (spaced : Spaced tells stretch n s m) (bytes : List ℕ)
       (puts : PutsIn stretch m bytes t) where
     pub straight : n ≤ room s → PutsIn stretch s bytes t
@@ -45,28 +52,24 @@ module _ {S : Type 0} (tells : S → StreamLog) (stretch : S → S → Type 0)
     pub behind : room s < n → PutsFirst tells stretch s bytes t
     behind none = record { sent = m; sends = spaced.1 none; puts = puts }
 
-    pub in_order : WritesInOrder s bytes t
-    in_order = elim (cases_lt (room s) n) [
-      | inl none ↦ PutsFirst-order tells stretch s t bytes (behind none)
-      | inr there ↦ PutsIn-order tells stretch s t bytes (straight there)
-    ]
-
-    pub went : stretch s.inner t.inner
-    went = elim (cases_lt (room s) n) [
-      | inl none ↦ joins s.inner m.inner t.inner (spaced.1 none).went.calls puts.calls
-      | inr there ↦ (straight there).calls
-    ]
-
-    pub same_capacity : t.block.capacity ≡ s.block.capacity
-    same_capacity = elim (cases_lt (room s) n) [
-      | inl none ↦ puts.capacity ∙ (spaced.1 none).capacity
-      | inr there ↦ (straight there).capacity
-    ]
-
-    pub same_limit : t.block.limit ≡ s.block.limit
-    same_limit = elim (cases_lt (room s) n) [
-      | inl none ↦ puts.limit ∙ (spaced.1 none).sends.sent.dropped.limit
-      | inr there ↦ (straight there).limit
+    put : WentIn stretch s bytes t
+    put = elim (cases_lt (room s) n) [
+      | inl none ↦
+          let sent = spaced.1 none in
+          record {
+            in_order = PutsFirst-order tells stretch s t bytes (behind none);
+            went = joins s.inner m.inner t.inner sent.went.calls puts.calls;
+            capacity = puts.capacity ∙ sent.capacity;
+            limit = puts.limit ∙ sent.sends.sent.dropped.limit;
+          }
+      | inr there ↦
+          let puts = straight there in
+          record {
+            in_order = PutsIn-order tells stretch s t bytes puts;
+            went = puts.calls;
+            capacity = puts.capacity;
+            limit = puts.limit;
+          }
     ]
 
   taken_some : (payload : List ℕ) (n : ℕ) → 0 < n → taken_payloads payload (Ok n) ≡ take n payload ∷ []
@@ -81,11 +84,11 @@ module _ {S : Type 0} (tells : S → StreamLog) (stretch : S → S → Type 0)
     abbrev Left : Chunking S
     Left = record { writer = t; wire = wire; calls = calls }
 
-    capacity : t.block.capacity ≡ s.writer.block.capacity
-    capacity = same_capacity s.writer m t (around + length payload) spaced (chunk (take n payload)) puts
+    went_in : WentIn stretch s.writer (chunk (take n payload)) t
+    went_in = put s.writer m t (around + length payload) spaced (chunk (take n payload)) puts
 
     counted : n ≡ min (length payload) (s.writer.block.capacity - around)
-    counted = count ∙ ap (λ c. min (length payload) (c - around)) (sym puts.capacity ∙ capacity)
+    counted = count ∙ ap (λ c. min (length payload) (c - around)) (sym puts.capacity ∙ went_in.capacity)
 
     within : n ≤ length payload
     within = omega (arith, counted)
@@ -111,7 +114,7 @@ module _ {S : Type 0} (tells : S → StreamLog) (stretch : S → S → Type 0)
           (subst (λ l. IsChunks l (accepted_of s ++ flat_map (λ p. p) (take n payload ∷ []))) (sym wire_more)
           (IsChunks-joins s.wire (accepted_of s) (take n payload ∷ []) is.whole one));
       block = puts.whole;
-      capacity = omega (arith, capacity, is.capacity);
+      capacity = omega (arith, went_in.capacity, is.capacity);
     }
 
     all : around + length payload ≤ room s.writer → n ≡ length payload
@@ -122,13 +125,12 @@ module _ {S : Type 0} (tells : S → StreamLog) (stretch : S → S → Type 0)
       went = subst (λ l. ChunksWent stretch s l Left) (sym (taken_some payload n (omega (arith, counted, some, is.capacity))))
           (record {
             carried = one;
-            in_order = subst (λ l. WritesInOrder s.writer l t) (sym (append-nil (chunk (take n payload))))
-                (in_order s.writer m t (around + length payload) spaced (chunk (take n payload)) puts);
+            in_order = subst (λ l. WritesInOrder s.writer l t) (sym (append-nil (chunk (take n payload)))) went_in.in_order;
             wire = wire_more;
             accepted = accepted_more;
-            calls = went s.writer m t (around + length payload) spaced (chunk (take n payload)) puts;
-            capacity = capacity;
-            limit = same_limit s.writer m t (around + length payload) spaced (chunk (take n payload)) puts;
+            calls = went_in.went;
+            capacity = went_in.capacity;
+            limit = went_in.limit;
           });
       nothing = λ none. absurd (omega (arith, none, some));
       fits = λ _ there. (
@@ -157,7 +159,7 @@ module _ {S : Type 0} (tells : S → StreamLog) (stretch : S → S → Type 0)
       let there = subst (λ k. Spaced tells stretch k v.writer m) len spaced in
       subst (λ c. Finishes tells stretch c fields t) same (record {
         lines = lines;
-        in_order = in_order v.writer m t (length (body_end fields)) there (body_end fields) puts;
+        in_order = (put v.writer m t (length (body_end fields)) there (body_end fields) puts).in_order;
         body = λ limits lets. IsChunks-body limits lets.0 fields lines lets.1 v.wire (accepted_of v) is.whole;
         fits = straight v.writer m t (length (body_end fields)) there (body_end fields) puts;
         full = behind v.writer m t (length (body_end fields)) there (body_end fields) puts;

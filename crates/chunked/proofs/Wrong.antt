@@ -16,7 +16,7 @@ use Rattle.chunked.specs.declared.extension.Within.TheVariants.{Behind}
 use Rattle.chunked.specs.Body.{line_end, IsSizeLine, IsTrailers, IsField, IsBody, fields_bytes}
 use Rattle.chunked.specs.BodyLaws.{digit_is_text, extension_no_digit}
 use Rattle.chunked.specs.FieldLaws.{IsField-first, IsField-next, IsField-none, IsField-value, token_is_text, token_plain, value_is_text}
-use Rattle.chunked.specs.Place.{Completes, CompletesData, CompletesField, CompletesSize, Feeds, IsDigit, IsWrong}
+use Rattle.chunked.specs.Place.{Completes, CompletesData, CompletesSize, EndsField, Feeds, IsDigit, IsWrong}
 use Rattle.chunked.proofs.Lines.{line_of}
 
 value_grows : (n : ℕ) (digits : List ℕ) → n ≤ digits_value_after 16 n digits
@@ -95,15 +95,15 @@ module _ (limits : Limits) where
       )
 
   -- in a name, and in a value
-  name_first : (b room : ℕ) (rest text : List ℕ) → (f : CompletesField (codes "a") room (b ∷ rest)) → f.text ≡ text
+  name_first : (b room : ℕ) (rest text : List ℕ) → (f : EndsField (codes "a") room (b ∷ rest)) → f.text ≡ text
       → (b ≡ 58) ⊎ (IsTokenByte b × (2 ≤ room))
   name_first b room rest [] f is =
-      let begins = IsField-first 97 [] (subst (λ t. IsField (97 ∷ t)) is f.is_field) in
+      let begins = IsField-first 97 [] (subst (λ t. IsField (97 ∷ t)) is f.is_rest) in
       absurd (omega (arith, ap length begins.equal, length-append begins.more (58 ∷ begins.value)))
   name_first b room rest (x ∷ text) f is =
       let same : b ∷ rest ≡ x ∷ (text ++ line_end f.behind) = f.equal ∙ ap (λ l. l ++ line_end f.behind) is in
       let head : x ≡ b = cc in
-      elim (IsField-next 97 x text (subst (λ t. IsField (97 ∷ t)) is f.is_field)) [
+      elim (IsField-next 97 x text (subst (λ t. IsField (97 ∷ t)) is f.is_rest)) [
         | inl token ↦
             let begins = IsField-first 97 text token.1 in
             let long = ap length begins.equal ∙ length-append begins.more (58 ∷ begins.value) in
@@ -111,14 +111,14 @@ module _ (limits : Limits) where
         | inr colon ↦ inl (sym head ∙ colon.0)
       ]
 
-  value_first : (b room : ℕ) (rest text : List ℕ) → (f : CompletesField (codes "a:") room (b ∷ rest)) → f.text ≡ text
+  value_first : (b room : ℕ) (rest text : List ℕ) → (f : EndsField (codes "a:") room (b ∷ rest)) → f.text ≡ text
       → (b ≡ 13) ⊎ (IsValueByte b × (0 < room))
   value_first b room rest [] f is =
       let same : b ∷ rest ≡ line_end f.behind = f.equal ∙ ap (λ l. l ++ line_end f.behind) is in inl cc
   value_first b room rest (x ∷ text) f is =
       let same : b ∷ rest ≡ x ∷ (text ++ line_end f.behind) = f.equal ∙ ap (λ l. l ++ line_end f.behind) is in
       let head : x ≡ b = cc in
-      let all = IsField-value 97 (x ∷ text) (subst (λ t. IsField (97 ∷ (58 ∷ t))) is f.is_field) in
+      let all = IsField-value 97 (x ∷ text) (subst (λ t. IsField (97 ∷ (58 ∷ t))) is f.is_rest) in
       inr (subst IsValueByte head all.0, omega (arith, f.fits, ap length is))
 
   data_first : (b : ℕ) (rest payload front : List ℕ) → (c : CompletesData limits 0 (b ∷ rest) payload) → c.front ≡ front
@@ -196,7 +196,8 @@ module _ (limits : Limits) where
   IsWrong-none (Size number room) b why rest payload wrong c =
       wrong_size number room b why wrong (size_first b number room rest payload c.digits c refl)
   IsWrong-none (Extension within size room) b why rest payload wrong c =
-      wrong_extension within size room b why wrong (extension_first within b room rest c.text c.behind c.equal c.is_rest c.fits)
+      wrong_extension within size room b why wrong
+      (extension_first within b room rest c.0.text c.0.behind c.0.equal c.0.is_rest (omega (arith, c.0.fits)))
   IsWrong-none (SizeFeed size) b BareReturn rest payload wrong c = wrong (feed_first _ b rest c.0)
   IsWrong-none (Data left) b ChunkTooLong rest payload wrong c =
       wrong.1 (data_first b rest payload _ (subst (λ n. CompletesData limits n (b ∷ rest) payload) wrong.0 c) refl)

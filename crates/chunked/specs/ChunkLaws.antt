@@ -52,6 +52,19 @@ size_digits-line limit size some small room =
     }
 
 -- no chunk is there at first, and one more stands behind the others
+-- the line of the last chunk
+pub zero_line : (limit : ℕ) → 0 < limit → IsSizeLine limit 0 (48 ∷ [])
+zero_line limit some = record {
+  digits = 48 ∷ [];
+  extension = [];
+  equal = refl;
+  numeral = (omega arith, (omega arith, tt));
+  value = refl;
+  small = omega arith;
+  follows = (0, refl);
+  fits = omega (arith, some);
+}
+
 pub IsChunks-none : IsChunks [] []
 IsChunks-none = record { payloads = []; carried = All-nil IsCarried; equal = refl; joined = refl }
 
@@ -66,23 +79,11 @@ IsChunks-joins bytes payload more h carried = record {
 
 module _ (limits : Limits) (line : 16 ≤ limits.line) (fields : List (List ℕ)) (lines : AllByRecursion IsField fields)
     (few : length (flat_map (λ f. f) fields) ≤ limits.trailers) where
-  zero_line : IsSizeLine limits.line 0 (48 ∷ [])
-  zero_line = record {
-    digits = 48 ∷ [];
-    extension = [];
-    equal = refl;
-    numeral = (omega arith, (omega arith, tt));
-    value = refl;
-    small = omega arith;
-    follows = (0, refl);
-    fits = omega (arith, line);
-  }
-
   has_chunks : (payloads : List (List ℕ)) → All IsCarried payloads
       → HasChunks limits payloads (chunks payloads ++ body_end fields)
   has_chunks [] carried = record {
     text = 48 ∷ [];
-    size_line = zero_line;
+    size_line = zero_line limits.line (omega (arith, line));
     behind = fields_bytes fields;
     trailers = record { fields = fields; equal = refl; lines = lines; few = few };
     equal = refl;

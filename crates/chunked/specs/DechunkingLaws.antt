@@ -35,7 +35,7 @@ Completes-nothing limits Line payload c = absurd (no_chunks limits c.payloads c.
 Completes-nothing limits (Size number room) payload c =
     absurd (no_line (c.digits ++ c.extension) c.behind
     (c.equal ∙ sym (append_assoc c.digits c.extension (line_end c.behind))))
-Completes-nothing limits (Extension within size room) payload c = absurd (no_line c.text c.behind c.equal)
+Completes-nothing limits (Extension within size room) payload c = absurd (no_line c.0.text c.0.behind c.0.equal)
 Completes-nothing limits (SizeFeed size) payload c = absurd (let odd = c.0.1 in cc)
 Completes-nothing limits (Data left) payload c = absurd (no_line c.front c.behind c.equal)
 Completes-nothing limits DataFeed payload c = absurd (let odd = c.1 in cc)

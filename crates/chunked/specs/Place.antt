@@ -47,39 +47,33 @@ pub record CompletesSize (limits : Limits) (number room : ℕ) (rest payload : L
   pub fits : length digits + length extension ≤ room
   pub goes_on : BehindSize limits size behind payload
 
--- a text such as this ends the line of this size
-pub record CompletesLine (IsRest : List ℕ → Type 0) (limits : Limits) (size room : ℕ) (rest payload : List ℕ)
-    : Type 0 where
-  pub text : List ℕ
-  pub behind : List ℕ
-  pub equal : rest ≡ text ++ line_end behind
-  pub is_rest : IsRest text
-  pub fits : length text ≤ room
-  pub small : size < 2 ^ 62
-  pub goes_on : BehindSize limits size behind payload
-
--- a text ends the line of the trailers as it would end one that begins so, and then further lines and an empty one
-pub record CompletesField (begun : List ℕ) (room : ℕ) (rest : List ℕ) : Type 0 where
+-- a text such as this ends its line, and what is left of so much room, and what stands behind the line, go on so
+pub record EndsLine (IsRest : List ℕ → Type 0) (GoesOn : ℕ → List ℕ → Type 0) (room : ℕ) (rest : List ℕ) : Type 0 where
   pub text : List ℕ
   pub behind : List ℕ
   pub left : ℕ
   pub equal : rest ≡ text ++ line_end behind
-  pub is_field : IsField (begun ++ text)
+  pub is_rest : IsRest text
   pub fits : length text + left ≡ room
-  pub trailers : IsTrailers left behind
+  pub goes_on : GoesOn left behind
+
+-- it is one that ends a line of the trailers which begins so, and then come further lines and an empty one
+abbrev pub EndsField : List ℕ → ℕ → List ℕ → Type 0
+EndsField begun room rest = EndsLine (λ text. IsField (begun ++ text)) IsTrailers room rest
 
 -- these bytes complete the body from here, and this is the payload in them
 abbrev pub Completes : Limits → Place → List ℕ → List ℕ → Type 0
 Completes limits Line rest payload = IsBody limits rest payload
 Completes limits (Size number room) rest payload = CompletesSize limits number room rest payload
-Completes limits (Extension within size room) rest payload = CompletesLine (Extends within) limits size room rest payload
+Completes limits (Extension within size room) rest payload =
+    EndsLine (Extends within) (λ left behind. BehindSize limits size behind payload) room rest × (size < 2 ^ 62)
 Completes limits (SizeFeed size) rest payload =
     Feeds (λ behind. BehindSize limits size behind payload) rest × (size < 2 ^ 62)
 Completes limits (Data left) rest payload = CompletesData limits left rest payload
 Completes limits DataFeed rest payload = Feeds (λ behind. IsBody limits behind payload) rest
 Completes limits (Fields room) rest payload = (payload ≡ []) × IsTrailers room rest
-Completes limits (FieldName room) rest payload = (payload ≡ []) × CompletesField (codes "a") room rest
-Completes limits (FieldValue room) rest payload = (payload ≡ []) × CompletesField (codes "a:") room rest
+Completes limits (FieldName room) rest payload = (payload ≡ []) × EndsField (codes "a") room rest
+Completes limits (FieldValue room) rest payload = (payload ≡ []) × EndsField (codes "a:") room rest
 Completes limits (FieldFeed room) rest payload = (payload ≡ []) × Feeds (IsTrailers room) rest
 Completes limits LastFeed rest payload = (payload ≡ []) × (rest ≡ 10 ∷ [])
 Completes limits Done rest payload = (payload ≡ []) × (rest ≡ [])
