@@ -30,7 +30,8 @@ module _ {S : Type 0} (remaining : S → Option (List ℕ)) (s : Piecing S head.
   module _ (b : InBody S) (begun : Begun remaining s b) where
     pub passed : (t : Unbuffered S) → (ends : Ends remaining b.stream b.rest t)
         → MessageWent remaining (left_of s) b.head ([] ++ ends.payload) t
-    passed t ends = MessageWent-of remaining s b b [] t begun (Takes-none remaining b.stream b.rest) ends
+    passed t ends =
+        MessageWent-of remaining s b b [] ends.wire ends.payload t begun (Takes-none remaining b.stream b.rest) ends.went ends.is
 
     pub stopped_inside : (handed : List ℕ) (t : InBody S) → InsideGoes remaining b handed t
         → MessageBegun remaining (left_of s) t

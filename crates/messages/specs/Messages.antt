@@ -159,11 +159,14 @@ pub record MessageWent {S : Type 0} (remaining : S → Option (List ℕ)) (s : U
 abbrev pub Message : Type 0
 Message = List ℕ × List ℕ
 
--- these bytes are these messages, one after another
+-- these bytes are one such text of each, one after another
+abbrev pub InTurn : (Message → List ℕ → Type 0) → List Message → List ℕ → Type 0
+InTurn Is [] bytes = bytes ≡ []
+InTurn Is (m ∷ later) bytes =
+    (first : List ℕ) × (more : List ℕ) × Is m first × InTurn Is later more × (bytes ≡ first ++ more)
+
 abbrev pub AreMessages : List Message → List ℕ → Type 0
-AreMessages [] bytes = bytes ≡ []
-AreMessages (m ∷ later) bytes =
-    (first : List ℕ) × (more : List ℕ) × IsMessage first m.0 m.1 × AreMessages later more × (bytes ≡ first ++ more)
+AreMessages messages bytes = InTurn (λ m first. IsMessage first m.0 m.1) messages bytes
 
 -- these messages went, one after another: each begins where the one before it ended
 pub record MessagesWent {S : Type 0} (remaining : S → Option (List ℕ)) (s : Unbuffered S) (messages : List Message)

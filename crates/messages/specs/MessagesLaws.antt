@@ -1,6 +1,7 @@
 -- Laws of messages.
-use Rattle.std.specs.Prelude.{◌≡◌, ℕ, List, [], ◌∷◌, ◌++◌, length, Option, Some, Ok}
+use Rattle.std.specs.Prelude.{◌≡◌, ℕ, List, [], ◌∷◌, ◌++◌, length, take, drop, Option, Some, Ok}
 use Rattle.std.proofs.Common.{sym, ap, subst, ◌∙◌, arith, refl, append_assoc, append-nil, inl, inr}
+use Rattle.std.proofs.Math.Seq.{drop-append_seam, take-append_seam}
 use Rattle.std.proofs.lemmas.List.{append_cancel_left}
 use Rattle.buffer_redux.specs.Unbuffer.{StreamWent, Unbuffered, unbuffer_remaining}
 use Rattle.buffer_redux.specs.UnbufferLaws.{StreamWent-front, StreamWent-joins, StreamWent-none}
@@ -17,18 +18,14 @@ use Rattle.messages.specs.declared.head.Heads as head
 use Rattle.messages.specs.declared.head.Said.{Said}
 use Rattle.messages.specs.Heads.{IsHead, IsHeadPiece, extent_of, heads, texts}
 use Rattle.messages.specs.HeadsLaws.{heads_lawful}
-use Rattle.messages.specs.Messages.{AreMessages, Begun, Ends, InBody, InsideGoes, IsMessage, IsRest, Message, MessageWent, MessagesWent, Onward, Rest, Takes, body_of}
+use Rattle.messages.specs.Messages.{AreMessages, Begun, InBody, InTurn, InsideGoes, IsMessage, IsRest, Message, MessageWent, MessagesWent, Onward, Rest, Takes, body_of}
 
 -- of two texts that begin so and have one length
 split : (a b xs ys : List ℕ) → length a ≡ length b → a ++ xs ≡ b ++ ys → (a ≡ b) × (xs ≡ ys)
-split [] [] xs ys long same = (refl, same)
-split [] (y ∷ b) xs ys long same = absurd (omega (arith, long))
-split (x ∷ a) [] xs ys long same = absurd (omega (arith, long))
-split (x ∷ a) (y ∷ b) xs ys long same =
-    let first : x ≡ y = cc in
-    let more : a ++ xs ≡ b ++ ys = cc in
-    let rest = split a b xs ys (omega (arith, long)) more in
-    (ap (λ c. c ∷ a) first ∙ ap (λ l. y ∷ l) rest.0, rest.1)
+split a b xs ys long same = (
+  sym (take-append_seam a xs) ∙ ap (λ l. take (length a) l) same ∙ ap (λ n. take n (b ++ ys)) long ∙ take-append_seam b ys,
+  sym (drop-append_seam a xs) ∙ ap (λ l. drop (length a) l) same ∙ ap (λ n. drop n (b ++ ys)) long ∙ drop-append_seam b ys,
+)
 
 -- a head says in one way where the body ends
 pub one_extent : (bytes : List ℕ) (e e' : Said) → IsHead bytes e → IsHead bytes e' → e.extent ≡ e'.extent
@@ -77,6 +74,16 @@ one_cut (m ∷ ms) (n ∷ ns) a b xs ys many (f, x, is, are, equal) (k, y, is', 
     let later = one_cut ms ns x y xs ys (omega (arith, many)) are are' first.3 in
     let pair : m ≡ n = ap (λ l. (l, m.1)) first.1 ∙ ap (λ l. (n.0, l)) first.2 in
     (ap (λ l. l ∷ ms) pair ∙ ap (λ l. n ∷ l) later.0, later.1)
+
+-- of one, and of some and then more
+pub InTurn-one : (Is : Message → List ℕ → Type 0) (m : Message) (text : List ℕ) → Is m text → InTurn Is (m ∷ []) text
+InTurn-one Is m text is = (text, [], is, refl, sym (append-nil text))
+
+pub InTurn-joins : (Is : Message → List ℕ → Type 0) (ms ns : List Message) (a b : List ℕ) → InTurn Is ms a → InTurn Is ns b
+    → InTurn Is (ms ++ ns) (a ++ b)
+InTurn-joins Is [] ns a b is are = subst (λ l. InTurn Is ns (l ++ b)) (sym is) are
+InTurn-joins Is (m ∷ ms) ns a b (f, more, one, is, equal) are =
+    (f, more ++ b, one, InTurn-joins Is ms ns more b is are, ap (λ l. l ++ b) equal ∙ append_assoc f more b)
 
 -- what goes on behind what was taken
 pub Onward-joins : (r q u : Rest) (a b h k : List ℕ) → Onward r a h q → Onward q b k u → Onward r (a ++ b) (h ++ k) u
@@ -132,40 +139,33 @@ module _ {S : Type 0} (remaining : S → Option (List ℕ)) where
   }
 
   -- whatever was read of it, a message that is begun and ended went whole
-  pub MessageWent-of : (s : Piecing S head.Heads) (b m : InBody S) (handed : List ℕ) (t : Unbuffered S)
-      → Begun remaining s b → Takes remaining b.stream b.rest handed m.stream m.rest
-      → (ends : Ends remaining m.stream m.rest t)
-      → MessageWent remaining (left_of s) b.head (handed ++ ends.payload) t
-  MessageWent-of s b m handed t begun takes ends = record {
-    bytes = b.head ++ (takes.wire ++ ends.wire);
-    went = StreamWent-joins remaining (left_of s) b.stream t b.head (takes.wire ++ ends.wire)
+  pub MessageWent-of : (s : Piecing S head.Heads) (b m : InBody S) (handed wire payload : List ℕ) (t : Unbuffered S)
+      → Begun remaining s b → Takes remaining b.stream b.rest handed m.stream m.rest → StreamWent remaining m.stream wire t
+      → IsRest m.rest wire payload → MessageWent remaining (left_of s) b.head (handed ++ payload) t
+  MessageWent-of s b m handed wire payload t begun takes went is = record {
+    bytes = b.head ++ (takes.wire ++ wire);
+    went = StreamWent-joins remaining (left_of s) b.stream t b.head (takes.wire ++ wire)
         (Begun-went s b begun)
-        (StreamWent-joins remaining b.stream m.stream t takes.wire ends.wire takes.went ends.went);
+        (StreamWent-joins remaining b.stream m.stream t takes.wire wire takes.went went);
     is = record {
-      wire = takes.wire ++ ends.wire;
+      wire = takes.wire ++ wire;
       equal = refl;
       text = (lent s begun.behind b.head begun.next).1;
       said = b.said;
       is = begun.is;
-      body = subst (λ r. IsRest r (takes.wire ++ ends.wire) (handed ++ ends.payload)) begun.rest
-          (takes.onward ends.wire ends.payload ends.is);
+      body = subst (λ r. IsRest r (takes.wire ++ wire) (handed ++ payload)) begun.rest (takes.onward wire payload is);
     };
   }
 
   pub MessagesWent-none : (s : Unbuffered S) → MessagesWent remaining s [] s
   MessagesWent-none s = record { bytes = []; are = refl; went = StreamWent-none remaining s }
 
-  snoc : (ms : List Message) (bytes first : List ℕ) (m : Message) → AreMessages ms bytes → IsMessage first m.0 m.1
-      → AreMessages (ms ++ m ∷ []) (bytes ++ first)
-  snoc [] bytes first m are is = (first, [], is, refl, ap (λ l. l ++ first) are ∙ sym (append-nil first))
-  snoc (x ∷ ms) bytes first m (f, more, is', are, equal) is =
-      (f, more ++ first, is', snoc ms more first m are is, ap (λ l. l ++ first) equal ∙ append_assoc f more first)
-
   pub MessagesWent-more : (s m t : Unbuffered S) (ms : List Message) (h p : List ℕ) → MessagesWent remaining s ms m
       → MessageWent remaining m h p t → MessagesWent remaining s (ms ++ (h, p) ∷ []) t
   MessagesWent-more s m t ms h p before one = record {
     bytes = before.bytes ++ one.bytes;
-    are = snoc ms before.bytes one.bytes (h, p) before.are one.is;
+    are = InTurn-joins (λ m first. IsMessage first m.0 m.1) ms ((h, p) ∷ []) before.bytes one.bytes before.are
+        (InTurn-one (λ m first. IsMessage first m.0 m.1) (h, p) one.bytes one.is);
     went = StreamWent-joins remaining s m t before.bytes one.bytes before.went one.went;
   }
 

@@ -3,7 +3,9 @@ use Rattle.messages.specs.MessagesLaws.{MessageWent-of, MessagesWent-known, Mess
 use Rattle.messages.proofs.laws.no_byte_between.Goals as goal
 
 pub returns-clause-one : goal.returns-clause-one
-returns-clause-one g c = λ s b m handed. MessageWent-of g.R.TellRead.remaining s b m handed (left_of c.args.requests.now)
+returns-clause-one g c = λ s b m handed begun takes ends.
+    MessageWent-of g.R.TellRead.remaining s b m handed ends.wire ends.payload (left_of c.args.requests.now) begun takes ends.went
+    ends.is
 
 pub returns-clause-many : goal.returns-clause-many
 returns-clause-many g c = λ s m messages head payload.
