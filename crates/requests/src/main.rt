@@ -1,16 +1,23 @@
 //! Answers each request on standard input by how many bytes of payload its body has.
 //!
-//! 200 and that number; 100 before it, where the client waits for that; 400 where what comes is no request, or its body is none,
-//! or ends early, and then no more. It ends behind a request after which none may follow, and where the stream does. It reads
-//! only where all that it answered was sent (`sent`).
+//! 200 and that number, where all of the body came; 100 before it, where the client waits for that; 400 where what comes is no
+//! request, or its body is none, or ends early, and then no more. It ends behind a request after which none may follow, and
+//! where the stream does. It reads only where all that it answered was sent (`sent`).
 #![tactic(auto)]
 
-ghost use Rattle.std.specs.Prelude.{◌≡◌, ℕ, List, [], length, IfOk, OnOk};
-ghost use Rattle.messages.specs.Messages.{InsideGoes, IsRest};
+ghost use Rattle.std.specs.Prelude.{◌≡◌, ℕ, if◌then◌else◌, Bool, true, List, [], ◌++◌, codes, length, map, IfErr, IfOk, Ok, OnOk};
+ghost use Rattle.std.specs.List.{concat};
+ghost use Rattle.buffer_redux.specs.Buffered.{Buffered};
+ghost use Rattle.buffer_redux.specs.Unbuffer.{StreamWent};
+ghost use Rattle.buffer_redux.specs.declared.policy.StdPolicy.{StdPolicy};
+ghost use Rattle.codec.specs.Piecing.{Piecing, left_of};
+ghost use Rattle.messages.specs.declared.head.Heads.{Heads};
+ghost use Rattle.messages.specs.Messages.{Begun, InsideGoes, IsRest};
 ghost use Rattle.programs.specs.Streams.{AllSent};
+ghost use Rattle.requests.specs.Answers.{Sends, Serves, Turns, accepted, called, has_body, length_line, refused, waits};
 
 use buffer_redux::BufWriter;
-use buffer_redux::tell::{TellRead, TellWrite, Told};
+use buffer_redux::tell::{Tell, TellRead, TellWrite, Told};
 use messages::{Body, BodyError, Extent, FinishError, Requests, Said, Stop};
 use std::io;
 use std::io::{ErrorKind, Write};
@@ -19,36 +26,45 @@ fn main(rt: HostRuntime) -> io::Result<()> {
     let alloc = rt.alloc();
     let mut writer = BufWriter::new(alloc, Told::new(rt.stdout()))?;
     match Requests::new(alloc, Told::new(rt.stdin())) {
-        Ok(requests) => serve(requests, &mut writer),
+        Ok(requests) => serve(requests, &mut writer).1,
         Err(_) => Err(io::Error::from(ErrorKind::OutOfMemory)),
     }
 }
 
-fn serve<R: TellRead + Drop, W: TellWrite>(
-    requests: Requests<R>,
-    writer: &mut BufWriter<W>,
-) -> io::Result<()>
-    requires sent { AllSent writer.old }
-{
-    let mut next = Some(requests);
-    for _message in 0..u64::MAX {
-        match next {
-            Some(requests) => {
-                next = answer(requests, writer)?;
-            }
-            None => return Ok(()),
-        }
-    }
-    Ok(drop(next))
+// Where the reader stands at the end.
+#[derive(Drop)]
+enum Place<R: Tell> {
+    Before(Requests<R>),
+    Inside(Body<R>),
 }
 
-// Answers one request, and goes on to the next. None where there is none, or none may follow.
-fn answer<R: TellRead + Drop, W: TellWrite>(
+// Answers each request.
+fn serve<R: TellRead, W: TellWrite>(
     requests: Requests<R>,
     writer: &mut BufWriter<W>,
-) -> io::Result<Option<Requests<R>>>
+) -> (Place<R>, io::Result<()>)
     requires sent { AllSent writer.old }
-    ensures sent { OnOk result (AllSent writer.new) }
+    ensures { Serves R.remaining W.log W.stretch (left_of requests) writer.old result.0 result.1 writer.new }
+{
+    let mut next = requests;
+    for _message in 0..u64::MAX {
+        match answer(next, writer) {
+            Ok(behind) => {
+                next = behind;
+            }
+            Err(end) => return end,
+        }
+    }
+    (Place::Before(next), Ok(()))
+}
+
+// Answers one request, and goes on to the next. An `Err` is the end: there is none, or none may follow.
+fn answer<R: TellRead, W: TellWrite>(
+    requests: Requests<R>,
+    writer: &mut BufWriter<W>,
+) -> Result<Requests<R>, (Place<R>, io::Result<()>)>
+    requires sent { AllSent writer.old }
+    ensures { Turns R.remaining W.log W.stretch (left_of requests) writer.old result writer.new }
 {
     match requests.next() {
         Ok(body) => answer_body(body, writer),
@@ -57,24 +73,26 @@ fn answer<R: TellRead + Drop, W: TellWrite>(
 }
 
 // Refuses what is no request. A read that was interrupted is made again.
-fn stopped<R: TellRead + Drop, W: TellWrite>(
+fn stopped<R: TellRead, W: TellWrite>(
     requests: Requests<R>,
     stop: Stop,
     writer: &mut BufWriter<W>,
-) -> io::Result<Option<Requests<R>>>
+) -> Result<Requests<R>, (Place<R>, io::Result<()>)>
     requires sent { AllSent writer.old }
-    ensures sent { OnOk result (AllSent writer.new) }
+    ensures { (s : Piecing R Heads) → StreamWent R.remaining (left_of s) [] (left_of requests)
+        → Turns R.remaining W.log W.stretch (left_of s) writer.old result writer.new }
 {
     if is_interrupt(&stop) {
-        return Ok(Some(requests));
+        return Ok(requests);
     }
-    drop(requests);
     match stop {
-        Stop::Ended => {}
-        Stop::Bad(_) => refuse(writer)?,
-        Stop::Io(e) => return Err(e),
+        Stop::Ended => Err((Place::Before(requests), Ok(()))),
+        Stop::Bad(_) => {
+            let ending = refuse(writer);
+            Err((Place::Before(requests), ending))
+        }
+        Stop::Io(e) => Err((Place::Before(requests), Err(e))),
     }
-    Ok(None)
 }
 
 fn is_interrupt(stop: &Stop) -> bool {
@@ -84,33 +102,73 @@ fn is_interrupt(stop: &Stop) -> bool {
     }
 }
 
-fn answer_body<R: TellRead + Drop, W: TellWrite>(
+fn answer_body<R: TellRead, W: TellWrite>(
     body: Body<R>,
     writer: &mut BufWriter<W>,
-) -> io::Result<Option<Requests<R>>>
+) -> Result<Requests<R>, (Place<R>, io::Result<()>)>
     requires sent { AllSent writer.old }
-    ensures sent { OnOk result (AllSent writer.new) }
+    ensures answers { (s : Piecing R Heads) → Begun R.remaining s body
+        → Turns R.remaining W.log W.stretch (left_of s) writer.old result writer.new }
+    ensures keeps { OnOk result (body.said.keeps ≡ true) }
+{
+    match call_for_body(body.said(), writer) {
+        Ok(()) => answer_called(body, writer),
+        Err(e) => Err((Place::Inside(body), Err(e))),
+    }
+}
+
+// The same, where the body was called for. It goes on only where another request may follow.
+fn answer_called<R: TellRead, W: TellWrite>(
+    body: Body<R>,
+    writer: &mut BufWriter<W>,
+) -> Result<Requests<R>, (Place<R>, io::Result<()>)>
+    requires sent { AllSent writer.old }
+    ensures answers { (s : Piecing R Heads) (w : Buffered W StdPolicy) → Begun R.remaining s body
+        → Sends W.log W.stretch w (called (waits body.said)) (Ok tt) writer.old
+        → Turns R.remaining W.log W.stretch (left_of s) w result writer.new }
+    ensures keeps { OnOk result (body.said.keeps ≡ true) }
+{
+    let said = body.said();
+    match take_whole(body) {
+        Ok((len, requests)) => match accept(len, said, writer) {
+            Ok(()) => {
+                if said.keeps {
+                    Ok(requests)
+                } else {
+                    Err((Place::Before(requests), Ok(())))
+                }
+            }
+            Err(e) => Err((Place::Before(requests), Err(e))),
+        },
+        Err((body, why)) => {
+            let ending = unended(why, writer);
+            Err((Place::Inside(body), ending))
+        }
+    }
+}
+
+// Takes the whole body, and counts its payload.
+fn take_whole<R: TellRead>(body: Body<R>) -> Result<(u64, Requests<R>), (Body<R>, FinishError)>
+    ensures whole { IfOk result (λ r. (wire : List ℕ) × (payload : List ℕ)
+        × StreamWent R.remaining body.stream wire (left_of r.1) × IsRest body.rest wire payload × (r.0 ≡ length payload)) }
+    ensures part { IfErr result (λ e. (handed : List ℕ) × InsideGoes R.remaining body handed e.0) }
 {
     let mut body = body;
-    let said = body.said();
-    if said.expects && !matches!(said.extent, Extent::Sized(0)) {
-        call_for_body(writer)?;
-    }
     match payload_len(&mut body) {
-        Ok(len) => answer_whole(body, len, said, writer),
-        Err(e) => {
-            drop(body);
-            unread(e, writer)?;
-            Ok(None)
-        }
+        Ok(len) => match body.finish() {
+            Ok(requests) => Ok((len, requests)),
+            Err((body, e)) => Err((body, e)),
+        },
+        Err(e) => Err((body, FinishError::Body(e))),
     }
 }
 
 // How many bytes of payload the body has, of which all is read. A read that was interrupted is made again; any other failure is
 // returned, so no answer counts a part of a body.
 fn payload_len<R: TellRead>(body: &mut Body<R>) -> Result<u64, BodyError>
-    ensures whole { IfOk result (λ len. (payload : List ℕ) × InsideGoes R.remaining body.old payload body.new
-        × (len ≡ length payload) × IsRest body.new.rest [] []) }
+    ensures goes { (payload : List ℕ) × InsideGoes R.remaining body.old payload body.new
+        × IfOk result (λ len. len ≡ length payload) }
+    ensures ended { OnOk result (IsRest body.new.rest [] []) }
 {
     let mut out = [0; 4096];
     let mut len = 0u64;
@@ -144,76 +202,93 @@ fn too_many() -> BodyError {
     BodyError::Io(io::Error::from(ErrorKind::Other))
 }
 
-fn answer_whole<R: TellRead + Drop, W: TellWrite>(
-    body: Body<R>,
-    len: u64,
-    said: Said,
-    writer: &mut BufWriter<W>,
-) -> io::Result<Option<Requests<R>>>
-    requires sent { AllSent writer.old }
-    ensures sent { OnOk result (AllSent writer.new) }
-{
-    match body.finish() {
-        Ok(requests) => {
-            accept(len, said, writer)?;
-            if said.keeps {
-                return Ok(Some(requests));
-            }
-            Ok(None)
-        }
-        Err((body, e)) => {
-            drop(body);
-            unended(e, writer)?;
-            Ok(None)
-        }
-    }
-}
-
+// Refuses a body that isn't whole, where that isn't the stream's fault.
 fn unended<W: TellWrite>(e: FinishError, writer: &mut BufWriter<W>) -> io::Result<()>
-    ensures sent { OnOk result (AllSent writer.new) }
+    requires sent { AllSent writer.old }
+    ensures { (refuses : Bool) × Sends W.log W.stretch writer.old (refused refuses) result writer.new }
 {
     match e {
-        FinishError::Body(e) => unread(e, writer),
+        FinishError::Body(BodyError::Io(e)) => Err(e),
+        FinishError::Body(_) => refuse(writer),
         FinishError::Memory(_) => Err(io::Error::from(ErrorKind::OutOfMemory)),
-    }
-}
-
-fn unread<W: TellWrite>(e: BodyError, writer: &mut BufWriter<W>) -> io::Result<()>
-    ensures sent { OnOk result (AllSent writer.new) }
-{
-    match e {
-        BodyError::Wrong(_) | BodyError::Truncated => refuse(writer),
-        BodyError::Io(e) => Err(e),
     }
 }
 
 // Says how many bytes of payload there were, and whether another request may follow.
 fn accept<W: TellWrite>(len: u64, said: Said, writer: &mut BufWriter<W>) -> io::Result<()>
-    ensures sent { OnOk result (AllSent writer.new) }
+    ensures { Sends W.log W.stretch writer.old (accepted said len) result writer.new }
 {
-    let connection = if said.keeps { "keep-alive" } else { "close" };
-    write!(
-        writer,
-        "HTTP/1.1 200 OK\r\nContent-Length: 21\r\nConnection: {connection}\r\n\r\n"
-    )?;
-    if !said.bare {
-        write!(writer, "{len:>20}\n")?;
+    if said.keeps {
+        let head = b"HTTP/1.1 200 OK\r\nContent-Length: 21\r\nConnection: keep-alive\r\n\r\n";
+        accept_by(head, len, said.bare, writer)
+    } else {
+        let head = b"HTTP/1.1 200 OK\r\nContent-Length: 21\r\nConnection: close\r\n\r\n";
+        accept_by(head, len, said.bare, writer)
     }
-    writer.flush()
 }
 
-fn call_for_body<W: TellWrite>(writer: &mut BufWriter<W>) -> io::Result<()>
-    ensures sent { OnOk result (AllSent writer.new) }
+fn accept_by<W: TellWrite>(
+    head: &[u8],
+    len: u64,
+    bare: bool,
+    writer: &mut BufWriter<W>,
+) -> io::Result<()>
+    ensures { Sends W.log W.stretch writer.old (head.now ++ (if bare then [] else length_line len)) result writer.new }
 {
-    writer.write_all(b"HTTP/1.1 100 Continue\r\n\r\n")?;
-    writer.flush()
+    if bare {
+        return send(writer, &[head]);
+    }
+    let mut digits = itoa::Buffer::new();
+    let number = digits.format(len).as_bytes();
+    let blanks: &[u8] = b"                    ";
+    send_line(head, &blanks[number.len()..], number, writer)
+}
+
+fn send_line<'a, W: TellWrite>(
+    head: &'a [u8],
+    blanks: &'a [u8],
+    number: &'a [u8],
+    writer: &mut BufWriter<W>,
+) -> io::Result<()>
+    ensures { Sends W.log W.stretch writer.old (head.now ++ (blanks.now ++ (number.now ++ codes "\n"))) result writer.new }
+{
+    send(writer, &[head, blanks, number, b"\n"])
+}
+
+fn call_for_body<W: TellWrite>(said: Said, writer: &mut BufWriter<W>) -> io::Result<()>
+    requires sent { AllSent writer.old }
+    ensures { Sends W.log W.stretch writer.old (called (waits said)) result writer.new }
+{
+    if said.expects && has_body(said.extent) {
+        send(writer, &[b"HTTP/1.1 100 Continue\r\n\r\n"])
+    } else {
+        Ok(())
+    }
+}
+
+fn has_body(extent: Extent) -> bool
+    ensures { result ≡ has_body extent }
+{
+    match extent {
+        Extent::Sized(len) => len > 0,
+        Extent::Chunked => true,
+    }
 }
 
 fn refuse<W: TellWrite>(writer: &mut BufWriter<W>) -> io::Result<()>
-    ensures sent { OnOk result (AllSent writer.new) }
+    ensures { Sends W.log W.stretch writer.old (refused true) result writer.new }
 {
-    writer.write_all(
-        b"HTTP/1.1 400 Bad Request\r\nContent-Length: 0\r\nConnection: close\r\n\r\n",
-    )?;
-    writer.flush()
+    send(
+        writer,
+        &[b"HTTP/1.1 400 Bad Request\r\nContent-Length: 0\r\nConnection: close\r\n\r\n"],
+    )
+}
+
+fn send<W: TellWrite>(writer: &mut BufWriter<W>, parts: &[&[u8]]) -> io::Result<()>
+    ensures { Sends W.log W.stretch writer.old (concat (map (λ part. part.now) parts.now)) result writer.new }
+{
+    match writer.write_parts(parts) {
+        Ok(()) => writer.flush(),
+        Err(e) => Err(e),
+    }
 }

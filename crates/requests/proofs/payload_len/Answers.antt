@@ -1,4 +1,4 @@
-use Rattle.std.proofs.Common.{◌≡◌, ℕ, ◌+◌, ◌<◌, ◌≤◌, List, [], ◌++◌, length, Result, Ok, Err, IfOk, refl, arith, rules, ◌∙◌, length-append}
+use Rattle.std.proofs.Common.{◌≡◌, ℕ, ◌<◌, ◌≤◌, List, [], ◌++◌, length, Result, Ok, Err, IfOk, refl, arith, rules, ◌∙◌, length-append}
 use Rattle.std.proofs.lemmas.List.{length-take-le}
 use Rattle.messages.specs.declared.error.BodyError.{BodyError}
 use Rattle.messages.specs.Messages.{handed_out}
@@ -51,7 +51,7 @@ returns-in-Ok-eq0 g c =
     let zero : c.read.result ≡ Ok 0 = cc in
     let room : 0 < length c.read.new.out = search rules in
     record {
-      whole = (
+      goes = (
         before.payload ++ handed,
         InsideGoes-joins g.R.TellRead.remaining c.args.body.now c.loop-read.body c.read.new.self before.payload handed
             before.goes c.read.ensures.goes,
@@ -61,6 +61,26 @@ returns-in-Ok-eq0 g c =
           before.many,
           some c.read.new.out c.read.result 0 zero c.read.ensures.bound,
         ),
-        c.read.ensures.ended zero room,
       );
+      ended = c.read.ensures.ended zero room;
     }
+
+pub returns-in_default-clause-goes : goal.returns-in_default-clause-goes
+returns-in_default-clause-goes g c =
+    let before = c.loop-read.invariant in
+    let handed = handed_out c.read.new.out c.read.result in (
+      before.payload ++ handed,
+      InsideGoes-joins g.R.TellRead.remaining c.args.body.now c.loop-read.body c.read.new.self before.payload handed before.goes
+          c.read.ensures.goes,
+      tt,
+    )
+
+pub returns-then-not-is_interrupted-clause-goes : goal.returns-then-not-is_interrupted-clause-goes
+returns-then-not-is_interrupted-clause-goes g c =
+    let before = c.loop-read.invariant in
+    let handed = handed_out c.read.new.out c.read.result in (
+      before.payload ++ handed,
+      InsideGoes-joins g.R.TellRead.remaining c.args.body.now c.loop-read.body c.read.new.self before.payload handed before.goes
+          c.read.ensures.goes,
+      tt,
+    )
