@@ -1,7 +1,7 @@
 -- Frames, and streams of them.
 use Rattle.std.specs.Prelude.{◌≡◌, ℕ, ◌+◌, ◌<◌, ◌^◌, ◌≤◌, ◌⊎◌, List, ◌++◌, length, get_or}
 use Rattle.std.specs.Int.{w16, to_be_bytes}
-use Rattle.std.specs.List.{All, flat_map}
+use Rattle.std.specs.List.{flat_map}
 
 -- a length in two bytes, the higher first
 abbrev pub header : ℕ → List ℕ
@@ -29,13 +29,6 @@ pub record BeginsWith (len : ℕ) (bytes : List ℕ) : Type 0 where
   pub more : List ℕ
   pub equal : bytes ≡ header len ++ more
 
--- the bytes begin with a frame, of a payload of at most max bytes
-pub record BeginsWhole (max : ℕ) (bytes : List ℕ) : Type 0 where
-  pub payload : List ℕ
-  pub more : List ℕ
-  pub fits : Fits max payload
-  pub equal : bytes ≡ frame payload ++ more
-
 -- the bytes begin with a length above max
 pub record BeginsTooLong (max : ℕ) (bytes : List ℕ) : Type 0 where
   pub len : ℕ
@@ -52,9 +45,3 @@ pub record StopsInPayload (max : ℕ) (bytes : List ℕ) : Type 0 where
 -- the bytes are less than a frame, and not nothing
 abbrev pub IsCutShort : ℕ → List ℕ → Type 0
 IsCutShort max bytes = (length bytes ≡ 1) ⊎ StopsInPayload max bytes
-
--- a stream is the frames of these payloads, and then bytes that don't begin with a whole one
-pub record Splits (max : ℕ) (stream : List ℕ) (payloads : List (List ℕ)) (left : List ℕ) : Type 0 where
-  pub equal : stream ≡ frames payloads ++ left
-  pub fit : All (Fits max) payloads
-  pub no_more : ¬ BeginsWhole max left

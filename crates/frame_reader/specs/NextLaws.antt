@@ -1,23 +1,28 @@
 -- Laws of a reader of frames, for the proofs of those who call one.
-use Rattle.std.specs.Prelude.{◌≡◌, ℕ, ◌+◌, ◌<◌, ◌≤◌, ◌^◌, List, [], ◌++◌, length, Option, None, Some, Ok, Err, option_copied}
-use Rattle.std.proofs.Common.{sym, ap, subst, ◌∙◌, arith, refl}
+use Rattle.std.specs.Prelude.{◌≡◌, ℕ, ◌+◌, ◌<◌, ◌≤◌, List, [], ◌∷◌, ◌++◌, length, false, Option, None, Some, Ok, Err}
+use Rattle.std.proofs.Common.{sym, ap, subst, ◌∙◌, inl, inr, refl, append-nil}
 use Rattle.std.proofs.lemmas.List.Concat.{flat_map-append}
-use Rattle.std.proofs.lemmas.List.Elements.{All-nil, All-append}
-use Rattle.std.specs.Borrow.{Bor}
+use Rattle.std.proofs.lemmas.List.Elements.{All-append, All-cons, All-nil}
 use Rattle.std.specs.List.{All}
-use Rattle.buffer_redux.specs.Sparing.{MovedAtMostGiven}
-use Rattle.buffer_redux.specs.StreamLog.{StreamLog}
 use Rattle.codec.specs.declared.error.NextError.TheVariants.{Wrong}
-use Rattle.codec.specs.NextPiece.{PiecesWent}
+use Rattle.codec.specs.declared.error.NextError.TheVariants as piece
+use Rattle.codec.specs.KnownPayloads.{AnswersKnown}
+use Rattle.codec.specs.KnownPieces.{HasLeft}
+use Rattle.codec.specs.KnownPiecesLaws.{NextPiece-answers}
+use Rattle.codec.specs.NextPiece as pieces
+use Rattle.codec.specs.NextPiece.{NextPiece, PiecesWent, StaysLeft}
 use Rattle.codec.specs.NextPieceLaws.{NextPiece-ready, NextPiece-wrong}
-use Rattle.codec.specs.PiecesWentLaws as pieces
+use Rattle.codec.specs.PiecesWentLaws.{PiecesWent-joins, PiecesWent-none}
+use Rattle.codec.specs.Piecing.{IsPiecing, Piecing, rest}
+use Rattle.codec.specs.Runs.{AnswerRuns, all_handed, handed_payload}
 use Rattle.frame_reader.specs.declared.error.FrameError.TheVariants.{Truncated, TooLong, Io}
+use Rattle.frame_reader.specs.declared.frame.FrameFault.{FrameFault}
 use Rattle.frame_reader.specs.declared.frame.FrameFault.TheVariants as Fault
+use Rattle.frame_reader.specs.declared.frame.Frames.{Frames}
 use Rattle.frame_reader.specs.Framed.{framed}
-use Rattle.frame_reader.specs.FramedLaws.{framed_lawful, is_frame}
-use Rattle.frame_reader.specs.Frames.{BeginsWhole, BeginsWith, Fits, frame, frames}
-use Rattle.frame_reader.specs.Framing.{Framing, IsFresh, most, piecing, rest}
-use Rattle.frame_reader.specs.Next.{FramesWent, Next, NextAnswer, NextBuffered, piece_answer}
+use Rattle.frame_reader.specs.FramedLaws.{framed_lawful}
+use Rattle.frame_reader.specs.Frames.{BeginsWith, Fits, frame, frames}
+use Rattle.frame_reader.specs.Next.{FramesWent, Next, NextAnswer, ReadsFrames, piece_answer}
 
 -- an answer of a reader of pieces is of one answer
 same_some : (answer : NextAnswer) (payload : List ℕ) → piece_answer answer ≡ Ok (Some payload)
@@ -35,87 +40,114 @@ same_wrong (Err (TooLong n)) len is = (let same : n ≡ len = cc in ap (λ x. Er
 same_wrong (Err (Io e)) len is = cc
 
 module _ {S : Type 0} (remaining : S → Option (List ℕ)) where
-  -- what calls of a reader of pieces do, in the words of frames, and the other way
-  pub frames_went : (s t : Framing S) (payloads : List (List ℕ)) (bytes : List ℕ) → All (Fits s.max) payloads
-      → bytes ≡ frames payloads → PiecesWent remaining (most s) (piecing s) bytes (piecing t)
-      → FramesWent remaining s payloads t
-  frames_went s t payloads bytes fit is went =
-      let went' = subst (λ l. PiecesWent remaining (most s) (piecing s) l (piecing t)) is went in
-      record {
-        fit = fit;
-        hands = went'.hands;
-        known = went'.known;
-        grows = went'.grows;
-        held = went'.held;
-        capacity = went'.capacity;
-        limit = went'.limit;
-        max = ap (λ d. d.max) went'.decoder;
-      }
-
-  pub pieces_went : (s t : Framing S) (payloads : List (List ℕ)) → FramesWent remaining s payloads t
-      → PiecesWent remaining (most s) (piecing s) (frames payloads) (piecing t)
-  pieces_went s t payloads went = record {
-    hands = went.hands;
-    known = went.known;
-    grows = went.grows;
-    held = went.held;
-    capacity = went.capacity;
-    limit = went.limit;
-    decoder = ap (λ n. record { max = n }) went.max;
-  }
-
   -- no call hands out nothing, and calls join
-  pub FramesWent-none : (s : Framing S) → FramesWent remaining s [] s
+  pub FramesWent-none : (s : Piecing S Frames) → FramesWent remaining s [] s
   FramesWent-none s =
-      frames_went s s [] [] (All-nil (Fits s.max)) refl (pieces.PiecesWent-none remaining (most s) (piecing s))
+      record { fit = All-nil (Fits s.decoder.max); went = PiecesWent-none remaining (2 + s.decoder.max) s }
 
-  pub FramesWent-joins : (s m t : Framing S) (ps qs : List (List ℕ)) → FramesWent remaining s ps m
+  pub FramesWent-joins : (s m t : Piecing S Frames) (ps qs : List (List ℕ)) → FramesWent remaining s ps m
       → FramesWent remaining m qs t → FramesWent remaining s (ps ++ qs) t
   FramesWent-joins s m t ps qs p q =
-      frames_went s t (ps ++ qs) (frames ps ++ frames qs)
-      (All-append (Fits s.max) ps qs p.fit (subst (λ max. All (Fits max) qs) p.max q.fit))
-      (sym (flat_map-append frame ps qs))
-      (pieces.PiecesWent-joins remaining (most s) (piecing s) (piecing m) (piecing t) (frames ps) (frames qs)
-      (pieces_went s m ps p)
-      (subst (λ k. PiecesWent remaining (2 + k) (piecing m) (frames qs) (piecing t)) p.max (pieces_went m t qs q)))
+      let max : m.decoder.max ≡ s.decoder.max = ap (λ d. d.max) p.went.decoder in
+      let most = 2 + s.decoder.max in
+      record {
+        fit = All-append (Fits s.decoder.max) ps qs p.fit (subst (λ n. All (Fits n) qs) max q.fit);
+        went = subst (λ l. PiecesWent remaining most s l t) (sym (flat_map-append frame ps qs))
+            (PiecesWent-joins remaining most s m t (frames ps) (frames qs) p.went
+            (subst (λ n. PiecesWent remaining (2 + n) m (frames qs) t) max q.went));
+      }
 
-  -- the same of a reader that was just made: what was given since is the frames that were handed out, then what is left,
-  -- and no more bytes were moved than were given
-  module _ (tells : S → StreamLog) (size max : ℕ) (stream : S) (s t : Framing S) (payloads : List (List ℕ))
-      (fresh : IsFresh tells size max stream s) (went : FramesWent remaining s payloads t) where
-    pub FramesWent-given : t.reader.log.reads.given ≡ (tells stream).reads.given ++ (frames payloads ++ rest t)
-    FramesWent-given =
-        went.hands.given ∙ ap (λ l. l.reads.given ++ went.hands.got) fresh.log
-        ∙ ap (λ l. (tells stream).reads.given ++ l)
-        (sym (went.hands.equal ∙ ap (λ l. l ++ went.hands.got) (pieces.drop_none s.lent s.reader.block.bytes fresh.empty)))
+  module _ (s t : Piecing S Frames) where
+    -- what a call of the reader of pieces handed out, and that no end is left to tell
+    frames_of : (answer : pieces.NextAnswer FrameFault) (bytes : List ℕ)
+        → pieces.NextAnswers (framed s.decoder.max) s answer bytes t
+        → All (Fits s.decoder.max) (handed_payload answer) × (bytes ≡ frames (handed_payload answer)) × (t.ended ≡ false)
+    frames_of (Ok (Some payload)) bytes (fault, inl (is, told, none)) = (
+      All-cons (Fits s.decoder.max) payload [] is.fits (All-nil (Fits s.decoder.max)),
+      is.equal ∙ sym (append-nil (frame payload)),
+      told,
+    )
+    frames_of (Ok (Some payload)) bytes (fault, inr last) = absurd last.0
+    frames_of (Ok None) bytes (none, left, fault, told, met) = (All-nil (Fits s.decoder.max), none, told)
+    frames_of (Err (Wrong e)) bytes (none, fault, told, refused) = (All-nil (Fits s.decoder.max), none, told)
+    frames_of (Err (piece.Io e)) bytes (none, open', fault, told, met) = (All-nil (Fits s.decoder.max), none, told)
 
-    pub FramesWent-moved : MovedAtMostGiven s.reader t.reader
-    FramesWent-moved = omega (arith, went.held.held, went.held.moved, fresh.potential)
+    pub NextPiece-frames : (answer : pieces.NextAnswer FrameFault) → NextPiece remaining (framed s.decoder.max) s answer t
+        → FramesWent remaining s (handed_payload answer) t
+    NextPiece-frames answer next =
+        let is = frames_of answer next.bytes next.answers in
+        record { fit = is.0; went = subst (λ l. PiecesWent remaining (2 + s.decoder.max) s l t) is.1 next.went }
 
-  -- what is known in an arm of `match reader.next_buffered()`
-  module _ (s t : Framing S) where
-    pub NextBuffered-some : (r : Option (Bor (List ℕ))) (payload : Bor (List ℕ)) → r ≡ Some payload
-        → NextBuffered remaining s (option_copied r) t → Next remaining s (Ok (Some payload.now)) t × (t.reader ≡ s.reader)
-    NextBuffered-some r payload = subst (λ r. NextBuffered remaining s (option_copied r) t)
+    pub NextPiece-reads : (answer : pieces.NextAnswer FrameFault) → NextPiece remaining (framed s.decoder.max) s answer t
+        → ReadsFrames t
+    NextPiece-reads answer next = record {
+      told = (frames_of answer next.bytes next.answers).2;
+      whole = subst (λ d. IsPiecing (framed d.max) t) (sym next.went.decoder) next.whole;
+    }
 
-    pub NextBuffered-none : (r : Option (Bor (List ℕ))) → r ≡ None → NextBuffered remaining s (option_copied r) t
-        → (t ≡ s) × ¬ (BeginsWhole s.max (rest s))
-    NextBuffered-none r = subst (λ r. NextBuffered remaining s (option_copied r) t)
+    -- where nothing was done it reads frames still
+    pub StaysLeft-reads : ReadsFrames s → StaysLeft (framed s.decoder.max) s t → ReadsFrames t
+    StaysLeft-reads reads stays = record {
+      told = ap (λ x. x.ended) stays.same ∙ reads.told;
+      whole = subst (λ x. IsPiecing (framed x.decoder.max) t) (sym stays.same) stays.whole;
+    }
 
-  module _ (s : Framing S) (answer : NextAnswer) (t : Framing S) (next : Next remaining s answer t) where
-    -- a whole frame that stands in front is handed out, and the inner reader isn't called
-    pub Next-ready : (payload more : List ℕ) → length payload ≤ s.max → rest s ≡ frame payload ++ more
-        → (answer ≡ Ok (Some payload)) × (rest t ≡ more)
-    Next-ready payload more fits front =
-        let word : s.max < 2 ^ 16 = omega (arith, next.whole.word, next.went.max) in
-        let is = NextPiece-ready remaining (framed s.max) (framed_lawful s.max) (piecing s) (piece_answer answer) (piecing t)
-        next.piece (frame payload) payload more (is_frame s.max word payload fits) front in
-        (same_some answer payload is.0, is.1)
+    module _ (answer : NextAnswer) (next : Next remaining s answer t) where
+      -- what it handed out
+      pub Next-went : FramesWent remaining s (handed_payload answer) t
+      Next-went = subst (λ l. FramesWent remaining s l t) (same answer) (NextPiece-frames (piece_answer answer) next.piece)
+        where
+          same : (answer : NextAnswer) → handed_payload (piece_answer answer) ≡ handed_payload answer
+          same (Ok found) = refl
+          same (Err e) = refl
 
-    -- a length that is too large is refused each time, and the inner reader isn't called
-    pub Next-too_long : (len : ℕ) → s.max < len → BeginsWith len (rest s)
-        → (answer ≡ Err (TooLong len)) × (rest t ≡ rest s)
-    Next-too_long len above front =
-        let is = NextPiece-wrong remaining (framed s.max) (framed_lawful s.max) (piecing s) (piece_answer answer) (piecing t)
-        next.piece (Fault.TooLong len) (record { len = len; begins = front; above = above; told = refl }) in
-        (same_wrong answer len is.0, is.1)
+      -- a whole frame that stands in front is handed out, and the stream isn't asked
+      pub Next-ready : (payload more : List ℕ) → length payload ≤ s.decoder.max → rest s ≡ frame payload ++ more
+          → (answer ≡ Ok (Some payload)) × (rest t ≡ more) × (t.reader.log ≡ s.reader.log)
+      Next-ready payload more fits front =
+          let is = NextPiece-ready remaining (framed s.decoder.max) (framed_lawful s.decoder.max s.decoder.fits) s
+          (piece_answer answer) t next.piece (frame payload) payload more (record { fits = fits; equal = refl }) front in
+          (same_some answer payload is.0, is.1, is.2)
+
+      -- a length that is too large is refused each time, and the stream isn't asked
+      pub Next-too_long : (len : ℕ) → s.decoder.max < len → BeginsWith len (rest s)
+          → (answer ≡ Err (TooLong len)) × (rest t ≡ rest s) × (t.reader.log ≡ s.reader.log)
+      Next-too_long len above front =
+          let is = NextPiece-wrong remaining (framed s.decoder.max) (framed_lawful s.decoder.max s.decoder.fits) s
+          (piece_answer answer) t next.piece (Fault.TooLong len)
+          (record { len = len; above = above; begins = front }, refl) in
+          (same_wrong answer len is.0, is.1, is.2)
+
+  -- what any calls of `next` come to
+  pub NextRuns-went : (s : Piecing S Frames) (answers : List NextAnswer) (t : Piecing S Frames)
+      → AnswerRuns (Next remaining) s answers t → FramesWent remaining s (all_handed answers) t
+  NextRuns-went s [] t e = subst (FramesWent remaining s []) e (FramesWent-none s)
+  NextRuns-went s (answer ∷ answers) t run =
+      FramesWent-joins s run.0 t (handed_payload answer) (all_handed answers) (Next-went s run.0 answer run.1)
+      (NextRuns-went run.0 answers t run.2)
+
+  -- what a call answers where it is known which payloads are left, as of any reader of payloads
+  abbrev Left : Piecing S Frames → List (List ℕ) → Type 0
+  Left s payloads = HasLeft remaining (framed s.decoder.max) s payloads
+
+  module _ (s t : Piecing S Frames) where
+    answers_of : (answer : NextAnswer) (payloads : List (List ℕ))
+        → AnswersKnown Left (λ f. f.reader.log.reads.faults) piece.Io s (piece_answer answer) payloads t
+        → AnswersKnown Left (λ f. f.reader.log.reads.faults) Io s answer payloads t
+    answers_of (Ok (Some found)) [] known = known
+    answers_of (Ok (Some found)) (payload ∷ later) known = known
+    answers_of (Ok None) [] known = known
+    answers_of (Ok None) (payload ∷ later) known = known
+    answers_of (Err (Truncated have)) payloads known =
+        (let odd : piece.Wrong (Fault.Truncated have) ≡ piece.Io known.0.0 = known.0.1 in cc)
+    answers_of (Err (TooLong len)) payloads known =
+        (let odd : piece.Wrong (Fault.TooLong len) ≡ piece.Io known.0.0 = known.0.1 in cc)
+    answers_of (Err (Io e)) payloads known =
+        ((e, refl), known.1, λ why is. known.2 why (let same : e ≡ why = cc in ap (λ x. piece.Io x) same))
+
+  pub Next-answers : (s : Piecing S Frames) (answer : NextAnswer) (payloads : List (List ℕ)) (t : Piecing S Frames)
+      → Left s payloads → Next remaining s answer t
+      → AnswersKnown Left (λ f. f.reader.log.reads.faults) Io s answer payloads t
+  Next-answers s answer payloads t has next = answers_of s t answer payloads
+      (NextPiece-answers remaining (λ (d : Frames). framed d.max) (λ d. framed_lawful d.max d.fits) s (piece_answer answer)
+      payloads t has next.piece)

@@ -1,16 +1,17 @@
 //! Frames as pieces: which bytes are one, and which are written.
-ghost use Rattle.std.specs.Prelude.{◌≤◌, length};
+ghost use Rattle.std.specs.Prelude.{◌<◌, ◌≤◌, ◌^◌, length};
 ghost use Rattle.frame_reader.specs.Frames.{AreBytes, BeginsWith};
 
 use codec::{Codec, Decoder, Encoder, End, Found, Head, Span};
 
 /// How many bytes the length of a frame takes.
-pub const HEADER: usize = 2;
+const HEADER: usize = 2;
 
 /// Frames whose payload has at most `max` bytes.
 #[derive(Clone, Copy, Debug, Drop)]
 pub struct Frames {
     pub max: u16,
+    pub ghost fits: { max < 2 ^ 16 },
 }
 
 /// Why bytes are no frame.
@@ -55,7 +56,7 @@ impl Decoder for Frames {
         End::Wrong(FrameFault::Truncated(bytes.len()))
     }
 
-    ghost lawful = { λ d. framed_lawful d.max };
+    ghost lawful = { λ d. framed_lawful d.max d.fits };
 }
 
 /// A payload that is longer is refused by its length.

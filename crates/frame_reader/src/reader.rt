@@ -6,12 +6,12 @@ ghost use Rattle.buffer_redux.specs.Block.{Plain};
 ghost use Rattle.buffer_redux.specs.GrowError.{FitsWithin};
 ghost use Rattle.buffer_redux.specs.MakeError.{growth};
 ghost use Rattle.codec.specs.Decoding.{IsLent, bytes_at};
-ghost use Rattle.codec.specs.Piecing.{IsOver, TakenApart};
+ghost use Rattle.codec.specs.NextPiece.{NextBuffered, answer_of, buffered_answer, load_answer};
+ghost use Rattle.codec.specs.Piecing.{IsFresh, IsOver, IsSettled, TakenApart, rest, room_for};
 ghost use Rattle.frame_reader.specs.contracts.reader.FrameReader.{the_row};
 ghost use Rattle.frame_reader.specs.Framed.{framed};
 ghost use Rattle.frame_reader.specs.Frames.{AreBytes, BeginsWith, frame};
-ghost use Rattle.frame_reader.specs.Framing.{IsFraming, IsFresh, frame_capacity, piecing, rest};
-ghost use Rattle.frame_reader.specs.Next.{IsSettled, Next, NextBuffered, answer_of, buffered_answer, frame_error, load_answer};
+ghost use Rattle.frame_reader.specs.Next.{Next, ReadsFrames, piece_error};
 
 use crate::error::FrameError;
 use crate::frame::{FrameFault, Frames, are_bytes};
@@ -39,11 +39,13 @@ pub struct FrameReader<R: Tell> {
 }
 
 impl<R: Tell> Model for FrameReader<R> {
-    ghost use Rattle.frame_reader.specs.Framing.{Framing, ReadsFrames, framing};
+    ghost use Rattle.codec.specs.Piecing.{Piecing};
+    ghost use Rattle.frame_reader.specs.declared.frame.Frames.{Frames};
+    ghost use Rattle.frame_reader.specs.Next.{ReadsFrames};
 
-    ghost Value = { Framing R };
+    ghost Value = { Piecing R Frames };
 
-    ghost view = { λ f. framing f.pieces };
+    ghost view = { λ f. f.pieces };
 
     ghost invariant = { λ f. ReadsFrames f.pieces };
 }
@@ -52,8 +54,9 @@ impl<R: Tell> FrameReader<R> {
     /// A reader of frames whose payload has at most `max` bytes, over a buffer of [`DEFAULT_BUF_SIZE`] bytes, or of
     /// `3 * (2 + max)` where that is more. A refusal hands `inner` back.
     pub fn new(alloc: Global, inner: R, max: u16) -> Result<Self, MakeError<R>>
-        ensures made { IfOk result (IsFresh R.log (frame_capacity 8192 max) max inner) }
-        ensures whole { IfOk result IsFraming }
+        ensures made { IfOk result (λ f. IsFresh R.log 8192 (2 + max) inner f.decoder f) }
+        ensures takes { IfOk result (λ f. f.decoder.max ≡ max) }
+        ensures whole { IfOk result ReadsFrames }
         ensures handed_back { IfErr result (λ e. e.0 ≡ inner) }
         ensures refused { IfErr result (λ e. e.1 ≡ GrowError.Memory) }
     {
@@ -69,10 +72,11 @@ impl<R: Tell> FrameReader<R> {
         inner: R,
         max: u16,
     ) -> Result<Self, MakeError<R>>
-        ensures made { IfOk result (IsFresh R.log (frame_capacity capacity max) max inner) }
-        ensures whole { IfOk result IsFraming }
+        ensures made { IfOk result (λ f. IsFresh R.log capacity (2 + max) inner f.decoder f) }
+        ensures takes { IfOk result (λ f. f.decoder.max ≡ max) }
+        ensures whole { IfOk result ReadsFrames }
         ensures handed_back { IfErr result (λ e. e.0 ≡ inner) }
-        ensures within { FitsWithin (growth result) (frame_capacity capacity max) (2 ^ 62) }
+        ensures within { FitsWithin (growth result) (room_for capacity (2 + max)) (2 ^ 62) }
     {
         match PieceReader::with_capacity(alloc, capacity, inner, Frames { max }) {
             Ok(pieces) => Ok(FrameReader { pieces }),
@@ -88,10 +92,11 @@ impl<R: Tell> FrameReader<R> {
         inner: R,
         max: u16,
     ) -> Result<Self, MakeError<(Buffer, R)>>
-        ensures made { IfOk result (λ f. IsOver R.log (2 + max) buffer inner (record { max = max }) (piecing f)) }
-        ensures whole { IfOk result IsFraming }
+        ensures made { IfOk result (λ f. IsOver R.log (2 + max) buffer inner f.decoder f) }
+        ensures takes { IfOk result (λ f. f.decoder.max ≡ max) }
+        ensures whole { IfOk result ReadsFrames }
         ensures handed_back { IfErr result (λ e. (e.0.0 ≡ buffer) × (e.0.1 ≡ inner)) }
-        ensures within { FitsWithin (growth result) (frame_capacity buffer.capacity max) (2 ^ 62) }
+        ensures within { FitsWithin (growth result) (room_for buffer.capacity (2 + max)) (2 ^ 62) }
         ensures kept { buffer.kind ≡ Plain → 3 * (2 + max) ≤ buffer.capacity → IsOk result }
     {
         match PieceReader::with_buffer(alloc, buffer, inner, Frames { max }) {
@@ -104,7 +109,7 @@ impl<R: Tell> FrameReader<R> {
     pub fn get_ref(&self) -> &R
         ensures inner { result.now ≡ self.now.reader.inner }
         ensures log { R.log result.now ≡ self.now.reader.log }
-        ensures whole { IsFraming self.now }
+        ensures whole { ReadsFrames self.now }
     {
         self.pieces.get_ref()
     }
@@ -121,7 +126,7 @@ impl<R: Tell> FrameReader<R> {
     /// The inner reader, and the buffer with the bytes behind the frame that was lent last, of which
     /// [`with_buffer`](FrameReader::with_buffer) makes a reader again, of this layer or another.
     pub fn into_inner_with_buffer(self) -> (R, Buffer)
-        ensures { TakenApart R.log (piecing self) result.0 result.1 }
+        ensures { TakenApart R.log self result.0 result.1 }
     {
         let FrameReader { pieces } = self;
         // No frame is one only since the stream ends, so no end is left to tell.
@@ -133,7 +138,7 @@ impl<R: Tell> FrameReader<R> {
     #[inline(always)]
     pub fn rest(&self) -> &[u8]
         ensures value { result.now ≡ rest self.now }
-        ensures whole { IsFraming self.now }
+        ensures whole { ReadsFrames self.now }
     {
         self.pieces.rest()
     }
@@ -142,8 +147,8 @@ impl<R: Tell> FrameReader<R> {
     /// [`next`](FrameReader::next) doesn't read the stream.
     #[inline(always)]
     pub fn has_frame(&self) -> bool
-        ensures settled { IsTrue result ↔ IsSettled self.now.max (rest self.now) }
-        ensures whole { IsFraming self.now }
+        ensures settled { IsTrue result ↔ IsSettled (framed self.now.decoder.max) self.now }
+        ensures whole { ReadsFrames self.now }
     {
         match self.pieces.decoder().decode(self.pieces.rest(), 0) {
             Found::Piece(_, _) => true,
@@ -155,7 +160,7 @@ impl<R: Tell> FrameReader<R> {
     // Why there is no frame. What is left is bytes, so it is a length and what stands behind it, or shorter than one.
     #[cold]
     fn no_frame(&self, e: NextError<FrameFault>) -> FrameError
-        ensures error { result ≡ frame_error e }
+        ensures error { piece_error result ≡ e }
         ensures bytes { AreBytes (rest self.now) }
     {
         are_bytes(self.rest());
@@ -169,7 +174,7 @@ impl<R: Tell> FrameReader<R> {
     /// The payload that the last [`step`](FrameReader::step) went on to. A place that an earlier step said is refused.
     #[inline(always)]
     pub fn lent(&self, span: Span) -> &[u8]
-        requires { IsLent (framed self.now.max) self.now.lent self.now.reader.block.bytes span }
+        requires { IsLent (framed self.now.decoder.max) self.now.handed self.now.reader.block.bytes span }
         ensures { result.now ≡ bytes_at span self.now.reader.block.bytes }
     {
         self.pieces.lent(span)
@@ -186,10 +191,10 @@ impl<R: TellRead> FrameReader<R> {
     pub fn next(&mut self) -> Result<Option<&[u8]>, FrameError>
         ensures* after_borrow { sem 𝓛 (Rests (the_row R.row R.Tell) self.entry
             (Next R.remaining self.entry.now (answer_of result))) }
-        ensures fits { IfOk result (λ found. IfSome found (λ payload. length payload.now ≤ self.old.max)) }
-        ensures ready { (payload more : List ℕ) → length payload ≤ self.old.max
+        ensures fits { IfOk result (λ found. IfSome found (λ payload. length payload.now ≤ self.old.decoder.max)) }
+        ensures ready { (payload more : List ℕ) → length payload ≤ self.old.decoder.max
             → rest self.old ≡ frame payload ++ more → answer_of result ≡ Ok (Some payload) }
-        ensures too_long { (len : ℕ) → self.old.max < len → BeginsWith len (rest self.old)
+        ensures too_long { (len : ℕ) → self.old.decoder.max < len → BeginsWith len (rest self.old)
             → answer_of result ≡ Err (FrameError.TooLong len) }
     {
         match self.step()? {
@@ -203,8 +208,8 @@ impl<R: TellRead> FrameReader<R> {
     #[inline(always)]
     pub fn next_buffered(&mut self) -> Option<&[u8]>
         ensures* after_borrow { sem 𝓛 (Rests (the_row R.row R.Tell) self.entry
-            (NextBuffered R.remaining self.entry.now (option_copied result))) }
-        ensures fits { IfSome result (λ payload. length payload.now ≤ self.old.max) }
+            (NextBuffered R.remaining (framed self.entry.now.decoder.max) self.entry.now (option_copied result))) }
+        ensures fits { IfSome result (λ payload. length payload.now ≤ self.old.decoder.max) }
     {
         match self.step_buffered() {
             Some(span) => Some(self.lent(span)),
@@ -218,7 +223,7 @@ impl<R: TellRead> FrameReader<R> {
     pub fn step(&mut self) -> Result<Option<Span>, FrameError>
         ensures next { Next R.remaining self.old (load_answer result self.new) self.new }
         ensures lends { IfOk result (λ found. IfSome found
-            (IsLent (framed self.new.max) self.new.lent self.new.reader.block.bytes)) }
+            (IsLent (framed self.new.decoder.max) self.new.handed self.new.reader.block.bytes)) }
     {
         match self.pieces.step() {
             Ok(found) => Ok(found),
@@ -229,8 +234,10 @@ impl<R: TellRead> FrameReader<R> {
     // The same where it stands whole in the buffer.
     #[inline(always)]
     fn step_buffered(&mut self) -> Option<Span>
-        ensures next { NextBuffered R.remaining self.old (buffered_answer result self.new) self.new }
-        ensures lends { IfSome result (IsLent (framed self.new.max) self.new.lent self.new.reader.block.bytes) }
+        ensures next { NextBuffered R.remaining (framed self.old.decoder.max) self.old
+            (buffered_answer result self.new) self.new }
+        ensures lends { IfSome result
+            (IsLent (framed self.new.decoder.max) self.new.handed self.new.reader.block.bytes) }
     {
         self.pieces.step_buffered()
     }

@@ -4,14 +4,14 @@ ghost use Rattle.buffer_redux.specs.BufWriter.{WasFlushed, WasSent};
 ghost use Rattle.buffer_redux.specs.Unwrapping.{InnerOfFlushed};
 ghost use Rattle.buffer_redux.specs.GrowError.{FitsWithin};
 ghost use Rattle.buffer_redux.specs.MakeError.{growth};
-ghost use Rattle.frame_reader.specs.Frames.{Fits, frame};
-ghost use Rattle.frame_reader.specs.Framing.{frame_capacity};
-ghost use Rattle.codec.specs.Outgoing.{IsOver};
-ghost use Rattle.frame_reader.specs.Outgoing.{IsOutgoing, IsUnused, room, writing};
-ghost use Rattle.frame_reader.specs.WriteFrame.{FramesTaken, PutsIn, WritesFrame, write_error};
+ghost use Rattle.codec.specs.Outgoing.{IsOutgoing, IsOver, IsUnused};
+ghost use Rattle.codec.specs.Piecing.{room_for};
+ghost use Rattle.codec.specs.WritePiece.{PiecesTaken};
+ghost use Rattle.frame_reader.specs.Framed.{framed_out};
+ghost use Rattle.frame_reader.specs.WriteFrame.{WritesFrame, piece_refused};
 
 use crate::error::WriteFrameError;
-use crate::frame::{Frames, HEADER};
+use crate::frame::Frames;
 use buffer_redux::tell::TellWrite;
 use buffer_redux::{Buffer, DEFAULT_BUF_SIZE, GrowError, IntoInnerError, MakeError};
 use codec::{PieceWriter, WritePieceError};
@@ -36,21 +36,24 @@ pub struct FrameWriter<W: TellWrite> {
 }
 
 impl<W: TellWrite> Model for FrameWriter<W> {
-    ghost use Rattle.frame_reader.specs.Outgoing.{Outgoing, IsOutgoing, outgoing};
+    ghost use Rattle.std.specs.Prelude.{◌+◌};
+    ghost use Rattle.codec.specs.Outgoing.{Outgoing, IsOutgoing};
+    ghost use Rattle.frame_reader.specs.declared.frame.Frames.{Frames};
 
-    ghost Value = { Outgoing W };
+    ghost Value = { Outgoing W Frames };
 
-    ghost view = { λ f. outgoing f.pieces };
+    ghost view = { λ f. f.pieces };
 
-    ghost invariant = { λ f. IsOutgoing (outgoing f.pieces) };
+    ghost invariant = { λ f. IsOutgoing (2 + f.pieces.encoder.max) f.pieces };
 }
 
 impl<W: TellWrite> FrameWriter<W> {
     /// A writer of frames whose payload has at most `max` bytes, over a buffer of [`DEFAULT_BUF_SIZE`] bytes, or of
     /// `3 * (2 + max)` where that is more. A refusal hands `inner` back.
     pub fn new(alloc: Global, inner: W, max: u16) -> Result<Self, MakeError<W>>
-        ensures made { IfOk result (IsUnused W.log (frame_capacity 8192 max) max inner) }
-        ensures whole { IfOk result IsOutgoing }
+        ensures made { IfOk result (λ f. IsUnused W.log 8192 (2 + max) inner f.encoder f) }
+        ensures takes { IfOk result (λ f. f.encoder.max ≡ max) }
+        ensures whole { IfOk result (IsOutgoing (2 + max)) }
         ensures handed_back { IfErr result (λ e. e.0 ≡ inner) }
         ensures refused { IfErr result (λ e. e.1 ≡ GrowError.Memory) }
     {
@@ -66,10 +69,11 @@ impl<W: TellWrite> FrameWriter<W> {
         inner: W,
         max: u16,
     ) -> Result<Self, MakeError<W>>
-        ensures made { IfOk result (IsUnused W.log (frame_capacity capacity max) max inner) }
-        ensures whole { IfOk result IsOutgoing }
+        ensures made { IfOk result (λ f. IsUnused W.log capacity (2 + max) inner f.encoder f) }
+        ensures takes { IfOk result (λ f. f.encoder.max ≡ max) }
+        ensures whole { IfOk result (IsOutgoing (2 + max)) }
         ensures handed_back { IfErr result (λ e. e.0 ≡ inner) }
-        ensures within { FitsWithin (growth result) (frame_capacity capacity max) (2 ^ 62) }
+        ensures within { FitsWithin (growth result) (room_for capacity (2 + max)) (2 ^ 62) }
     {
         match PieceWriter::with_capacity(alloc, capacity, inner, Frames { max }) {
             Ok(pieces) => Ok(FrameWriter { pieces }),
@@ -85,10 +89,11 @@ impl<W: TellWrite> FrameWriter<W> {
         inner: W,
         max: u16,
     ) -> Result<Self, MakeError<(Buffer, W)>>
-        ensures made { IfOk result (λ f. IsOver W.log (2 + max) buffer inner (record { max = max }) (writing f)) }
-        ensures whole { IfOk result IsOutgoing }
+        ensures made { IfOk result (λ f. IsOver W.log (2 + max) buffer inner f.encoder f) }
+        ensures takes { IfOk result (λ f. f.encoder.max ≡ max) }
+        ensures whole { IfOk result (IsOutgoing (2 + max)) }
         ensures handed_back { IfErr result (λ e. (e.0.0 ≡ buffer) × (e.0.1 ≡ inner)) }
-        ensures within { FitsWithin (growth result) (frame_capacity buffer.capacity max) (2 ^ 62) }
+        ensures within { FitsWithin (growth result) (room_for buffer.capacity (2 + max)) (2 ^ 62) }
     {
         match PieceWriter::with_buffer(alloc, buffer, inner, Frames { max }) {
             Ok(pieces) => Ok(FrameWriter { pieces }),
@@ -100,7 +105,7 @@ impl<W: TellWrite> FrameWriter<W> {
     pub fn get_ref(&self) -> &W
         ensures inner { result.now ≡ self.now.writer.inner }
         ensures log { W.log result.now ≡ self.now.writer.log }
-        ensures whole { IsOutgoing self.now }
+        ensures whole { IsOutgoing (2 + self.now.encoder.max) self.now }
     {
         self.pieces.get_ref()
     }
@@ -125,8 +130,8 @@ impl<W: TellWrite> FrameWriter<W> {
     /// buffered.
     pub fn send(&mut self) -> io::Result<()>
         ensures sent { WasSent W.log W.stretch self.old.writer result self.new.writer }
-        ensures went { FramesTaken W.stretch self.old [] self.new }
-        ensures whole { IsOutgoing self.new }
+        ensures went { PiecesTaken W.stretch (framed_out self.old.encoder.max) self.old [] self.new }
+        ensures whole { IsOutgoing (2 + self.old.encoder.max) self.new }
     {
         self.pieces.send()
     }
@@ -134,8 +139,8 @@ impl<W: TellWrite> FrameWriter<W> {
     /// Sends all frames, and flushes the inner writer.
     pub fn flush(&mut self) -> io::Result<()>
         ensures flushed { WasFlushed W.log W.stretch self.old.writer result self.new.writer }
-        ensures went { FramesTaken W.stretch self.old [] self.new }
-        ensures whole { IsOutgoing self.new }
+        ensures went { PiecesTaken W.stretch (framed_out self.old.encoder.max) self.old [] self.new }
+        ensures whole { IsOutgoing (2 + self.old.encoder.max) self.new }
     {
         self.pieces.flush()
     }
@@ -144,7 +149,8 @@ impl<W: TellWrite> FrameWriter<W> {
     /// fault.
     pub fn into_inner(self) -> Result<W, IntoInnerError<Self>>
         ensures { MatchResult result (InnerOfFlushed W.log W.stretch self.writer (Ok tt))
-            (λ e. WasFlushed W.log W.stretch self.writer (Err e.1) e.0.writer × FramesTaken W.stretch self [] e.0) }
+            (λ e. WasFlushed W.log W.stretch self.writer (Err e.1) e.0.writer
+            × PiecesTaken W.stretch (framed_out self.encoder.max) self [] e.0) }
     {
         let FrameWriter { pieces } = self;
         match pieces.into_inner() {
@@ -167,41 +173,28 @@ impl<W: TellWrite> FrameWriter<W> {
     // a call made in here, which is inlined, that is behind the look at the room.
     #[inline(always)]
     fn write_aside(&mut self, payload: &[u8]) -> Result<(), WriteFrameError>
-        requires fits { Fits self.old.max payload.now }
-        requires full { room self.old < HEADER + length payload.now }
         ensures { WritesFrame W.stretch self.old payload.now result self.new }
     {
         self.write_slowly(payload)
     }
 
-    // Sends all that is buffered, and then takes the frame in. It stands apart, so that a frame for which there is room is short
-    // in its caller.
+    // Takes the frame in where what is buffered has to be sent before. It stands apart, so that a frame for which there is room is
+    // short in its caller.
     #[cold]
     #[inline(never)]
     fn write_slowly(&mut self, payload: &[u8]) -> Result<(), WriteFrameError>
-        requires fits { Fits self.old.max payload.now }
-        requires full { room self.old < HEADER + length payload.now }
         ensures { WritesFrame W.stretch self.old payload.now result self.new }
     {
-        self.send()?;
-        self.take_in(payload);
-        Ok(())
-    }
-
-    // Copies the frame in, for which there is room.
-    #[inline(always)]
-    fn take_in(&mut self, payload: &[u8])
-        requires fits { Fits self.old.max payload.now }
-        requires room { HEADER + length payload.now ≤ room self.old }
-        ensures { PutsIn W.stretch self.old (frame payload.now) self.new }
-    {
-        let _ = self.pieces.write_buffered(payload);
+        match self.pieces.write_piece(payload) {
+            Ok(()) => Ok(()),
+            Err(e) => Err(unwritten(e)),
+        }
     }
 }
 
 // Why a frame was not taken in.
 pub(crate) fn unwritten(e: WritePieceError<usize>) -> WriteFrameError
-    ensures { result ≡ write_error e }
+    ensures { piece_refused result ≡ e }
 {
     match e {
         WritePieceError::Refused(len) => WriteFrameError::TooLong(len),

@@ -1,5 +1,5 @@
 -- What a whole run of `pack` comes to.
-use Rattle.std.proofs.Common.{◌≡◌, ℕ, ◌^◌, ◌<◌, ◌⊎◌, inl, inr, List, [], ◌∷◌, ◌++◌, length, false, Option, None, Result, Ok, Err, refl, sym, ap, subst, ◌∙◌, arith, append-nil, append_assoc, length-append}
+use Rattle.std.proofs.Common.{◌≡◌, ℕ, ◌+◌, ◌^◌, ◌<◌, ◌⊎◌, inl, inr, List, [], ◌∷◌, ◌++◌, length, false, Option, None, Result, Ok, Err, refl, sym, ap, subst, ◌∙◌, arith, append-nil, append_assoc, length-append}
 use Rattle.std.proofs.Math.Seq.{take-append_seam}
 use Rattle.std.proofs.lemmas.Bool.{true≢false}
 use Rattle.std.proofs.lemmas.List.Concat.{flat_map-append}
@@ -17,9 +17,10 @@ use Rattle.forward.specs.Filter.{FilterRules}
 use Rattle.forward.specs.Forward.{ForwardAnswers, Forwarded, ForwardedFirst, StopsBy}
 use Rattle.forward.specs.declared.error.Cause.{Cause}
 use Rattle.forward.specs.declared.error.Cause.TheVariants as cause
+use Rattle.codec.specs.Outgoing.{unsent}
+use Rattle.codec.specs.Piecing as pieces
 use Rattle.frame_reader.specs.Frames.{Fits, frames}
-use Rattle.frame_reader.specs.Framing.{frame_capacity}
-use Rattle.frame_reader.specs.Outgoing.{unsent}
+use Rattle.frame_reader.specs.WriteFrameLaws.{PiecesTaken-frames}
 use Rattle.line_reader.specs.Lines.{BeginsTooLong, HasLines, IsLine, IsUnended, last_line, with_end, with_ends}
 use Rattle.line_reader.specs.Lining.{rest, room_for}
 use Rattle.line_reader.specs.NextLine.{LinesWent}
@@ -86,7 +87,7 @@ front_of lines (first ∷ more) text has plain =
 -- from empty buffers on
 module _ {R W : Type 0} (remaining : R → Option (List ℕ)) (stretch : W → W → Type 0) (s t : Packing R W)
     (none : s.source.reader.block.bytes ≡ []) (none' : unsent s.target ≡ []) (empty : s.held ≡ None)
-    (going : s.source.ended ≡ false) (most : s.source.max ≡ s.target.max) (ready : IsReady t) where
+    (going : s.source.ended ≡ false) (most : s.source.max ≡ s.target.encoder.max) (ready : IsReady t) where
   abbrev rules : FilterRules (Packing R W) RunError
   rules = packing_rules remaining stretch
 
@@ -98,7 +99,8 @@ module _ {R W : Type 0} (remaining : R → Option (List ℕ)) (stretch : W → W
   received count p all =
       let log = t.target.writer.log.writes in
       sym (append-nil log.received) ∙ ap (λ l. log.received ++ l) (sym all.empty)
-      ∙ WritesInOrder-fresh s.target.writer t.target.writer (frames p.payloads) none' p.moves.takes.in_order
+      ∙ WritesInOrder-fresh s.target.writer t.target.writer (frames p.payloads) none'
+      (PiecesTaken-frames stretch s.target t.target p.payloads p.moves.takes)
 
   ended_dry : (p : List (List ℕ)) → HandsLines remaining s p t → HasEnded s.source ⊎ GaveNothing s.source.reader.log t.source.reader.log
       → GaveNothing s.source.reader.log t.source.reader.log
@@ -186,7 +188,8 @@ module _ {R W : Type 0} (remaining : R → Option (List ℕ)) (stretch : W → W
           given = lines_given remaining s.source t.source hands.bytes none hands.went
               ∙ ap (λ l. s.source.reader.log.reads.given ++ (l ++ rest t.source)) front.equal
               ∙ ap (λ l. s.source.reader.log.reads.given ++ l) (append_assoc front.front front.more (rest t.source));
-          received = WritesInOrder-fresh s.target.writer t.target.writer (frames lines) none' p.moves.takes.in_order;
+          received = WritesInOrder-fresh s.target.writer t.target.writer (frames lines) none'
+              (PiecesTaken-frames stretch s.target t.target p.payloads p.moves.takes);
         },
         p.all,
       )
@@ -237,7 +240,7 @@ only_memory most TooLarge small within = absurd (omega (arith, small, within))
 
 -- and so is one for the frames
 pub only_memory_too : (most room : ℕ) (refusal : GrowError) → most < 2 ^ 16 → room < 2 ^ 20
-    → FitsWithin {T = Unit {0}} (Err refusal) (frame_capacity room most) (2 ^ 62) → kind_of refusal ≡ OutOfMemory
+    → FitsWithin {T = Unit {0}} (Err refusal) (pieces.room_for room (2 + most)) (2 ^ 62) → kind_of refusal ≡ OutOfMemory
 only_memory_too most room Memory small little within = refl
 only_memory_too most room TooLarge small little within = absurd (omega (arith, small, little, within))
 

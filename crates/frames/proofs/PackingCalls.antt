@@ -13,9 +13,12 @@ use Rattle.forward.specs.Filter.{AskAnswers, Asks, FilterRules, FlushAnswers, Fl
 use Rattle.forward.specs.declared.error.AskError.{AskError}
 use Rattle.forward.specs.declared.error.AskError.TheVariants.{Wrong, Io, IoBehind}
 use Rattle.frame_reader.specs.Frames.{Fits, frame, frames, header}
-use Rattle.frame_reader.specs.Outgoing.{Outgoing}
-use Rattle.frame_reader.specs.WriteFrame.{FramesTaken}
-use Rattle.frame_reader.specs.WriteFrameLaws.{FramesTaken-none}
+use Rattle.codec.specs.Outgoing.{Outgoing}
+use Rattle.codec.specs.WritePiece.{PiecesTaken}
+use Rattle.codec.specs.WritePieceLaws.{PiecesTaken-none}
+use Rattle.frame_reader.specs.Framed.{framed_out}
+use Rattle.frame_reader.specs.WriteFrameLaws.{PiecesTaken-frames}
+use Rattle.frame_reader.specs.declared.frame.Frames.{Frames}
 use Rattle.line_reader.specs.Lines.{BeginsTooLong, HasLines, IsLine, IsUnended, last_line, with_end}
 use Rattle.line_reader.specs.Lining.{IsLining, Lining, lined, rest}
 use Rattle.line_reader.specs.LinesWentLaws.{LinesWent-none}
@@ -56,6 +59,9 @@ module _ {R W : Type 0} (remaining : R → Option (List ℕ)) (stretch : W → W
   abbrev pub rules : FilterRules (Packing R W) RunError
   rules = packing_rules remaining stretch
 
+  abbrev Takes : List (List ℕ) → Outgoing W Frames → Type 0
+  Takes lines v = PiecesTaken stretch (framed_out s.target.encoder.max) s.target lines v
+
   -- the reader handed out a line
   module _ (m : Lining R) (line : List ℕ) (next : NextLine remaining s.source (Ok (Some line)) m) where
     going : s.source.ended ≡ false
@@ -95,7 +101,7 @@ module _ {R W : Type 0} (remaining : R → Option (List ℕ)) (stretch : W → W
       | inr last ↦ inr (omega (arith, met_end _ last.4))
     ]
 
-    hands_line : (v : Outgoing W) (h : Option Span) (lines : List (List ℕ))
+    hands_line : (v : Outgoing W Frames) (h : Option Span) (lines : List (List ℕ))
         → held_of s ++ (line ∷ []) ≡ lines ++ held_at m h
         → HandsLines remaining s lines (record { source = m; target = v; held = h })
     hands_line v h lines order = record {
@@ -111,7 +117,7 @@ module _ {R W : Type 0} (remaining : R → Option (List ℕ)) (stretch : W → W
     }
 
   -- nothing was done by the reader
-  still : (v : Outgoing W) (h : Option Span) (lines : List (List ℕ)) → held_of s ≡ lines ++ held_at s.source h
+  still : (v : Outgoing W Frames) (h : Option Span) (lines : List (List ℕ)) → held_of s ≡ lines ++ held_at s.source h
       → HandsLines remaining s lines (record { source = s.source; target = v; held = h })
   still v h lines order = record {
     bytes = [];
@@ -126,20 +132,20 @@ module _ {R W : Type 0} (remaining : R → Option (List ℕ)) (stretch : W → W
   }
 
   -- a line was taken in, or nothing of it was
-  module _ (v : Outgoing W) (same : v.writer.log.writes.flushed ≡ s.target.writer.log.writes.flushed)
+  module _ (v : Outgoing W Frames) (same : v.writer.log.writes.flushed ≡ s.target.writer.log.writes.flushed)
       (steady : v.writer.log.writes.flushes ≡ s.target.writer.log.writes.flushes) where
     line_written : (m : Lining R) (h : Option Span) → m.reader.log ≡ s.source.reader.log → m.max ≡ s.source.max → IsLining m
         → m.skipping ≡ false → (HasEnded s.source → HasEnded m) → CanShow m h → (line : List ℕ)
         → HandsLines remaining s (line ∷ []) (record { source = m; target = v; held = h })
-        → FramesTaken stretch s.target (line ∷ []) v → MetInterrupts s.target.writer.log.writes v.writer.log.writes
+        → Takes (line ∷ []) v → MetInterrupts s.target.writer.log.writes v.writer.log.writes
         → Passes rules s (Ok true) (record { source = m; target = v; held = h })
     line_written m h told max whole open' ended shows line hands taken met =
         let t : Packing R W = record { source = m; target = v; held = h } in
         record {
           told = told;
-          ready = record { most = max ∙ ready.most ∙ sym taken.max; whole = whole; open' = open'; shows = shows };
+          ready = record { most = max ∙ ready.most ∙ sym (ap (λ d. d.max) taken.encoder); whole = whole; open' = open'; shows = shows };
           closed = ended;
-          writes = WritesOn-unflushed s.target.writer v.writer (frames (line ∷ [])) taken.in_order same;
+          writes = WritesOn-unflushed s.target.writer v.writer (frames (line ∷ [])) (PiecesTaken-frames stretch s.target v (line ∷ []) taken) same;
           flushes = steady;
           answers = (
             line,
@@ -156,12 +162,12 @@ module _ {R W : Type 0} (remaining : R → Option (List ℕ)) (stretch : W → W
 
     line_lost : (m : Lining R) → m.reader.log ≡ s.source.reader.log → m.max ≡ s.source.max → IsLining m
         → m.skipping ≡ false → (HasEnded s.source → HasEnded m) → CanShow m s.held → (lost : List (List ℕ))
-        → HandsLines remaining s lost (record s { source = m; target = v }) → FramesTaken stretch s.target [] v → (e : Error)
+        → HandsLines remaining s lost (record s { source = m; target = v }) → Takes [] v → (e : Error)
         → SendErrorCaused s.target.writer.log.writes v.writer.log.writes e
         → Passes rules s (Err e) (record s { source = m; target = v })
     line_lost m told max whole open' ended shows lost hands taken e caused = record {
       told = told;
-      ready = record { most = max ∙ ready.most ∙ sym taken.max; whole = whole; open' = open'; shows = shows };
+      ready = record { most = max ∙ ready.most ∙ sym (ap (λ d. d.max) taken.encoder); whole = whole; open' = open'; shows = shows };
       closed = ended;
       writes = WritesOn-unflushed s.target.writer v.writer [] taken.in_order same;
       flushes = steady;
@@ -169,14 +175,14 @@ module _ {R W : Type 0} (remaining : R → Option (List ℕ)) (stretch : W → W
     }
 
     -- the line was held
-    pub held_written : (span : Span) → s.held ≡ Some span → FramesTaken stretch s.target (shown s.source span ∷ []) v
+    pub held_written : (span : Span) → s.held ≡ Some span → Takes (shown s.source span ∷ []) v
         → MetInterrupts s.target.writer.log.writes v.writer.log.writes
         → Passes rules s (Ok true) (record s { target = v; held = None })
     held_written span is taken met =
         line_written s.source None refl refl ready.whole ready.open' (λ ended. ended) tt (shown s.source span)
         (still v None (shown s.source span ∷ []) (ap (λ h. held_at s.source h) is)) taken met
 
-    pub held_lost : FramesTaken stretch s.target [] v → (e : Error)
+    pub held_lost : Takes [] v → (e : Error)
         → SendErrorCaused s.target.writer.log.writes v.writer.log.writes e → Passes rules s (Err e) (record s { target = v })
     held_lost taken e caused =
         line_lost s.source refl refl ready.whole ready.open' (λ ended. ended) ready.shows [] (still v s.held [] refl) taken e
@@ -194,12 +200,12 @@ module _ {R W : Type 0} (remaining : R → Option (List ℕ)) (stretch : W → W
       hands = hands_line m line took.0 v s.held (line ∷ [])
           (ap (λ l. l ++ line ∷ []) (none_held remaining s empty) ∙ ap (λ h. line ∷ held_at m h) (sym empty))
 
-      pub written : FramesTaken stretch s.target (line ∷ []) v → MetInterrupts s.target.writer.log.writes v.writer.log.writes
+      pub written : Takes (line ∷ []) v → MetInterrupts s.target.writer.log.writes v.writer.log.writes
           → Passes rules s (Ok true) (record s { source = m; target = v })
       written taken met = line_written m s.held (ap (λ r. r.log) took.1) took.0.piece.went.decoder took.0.whole took.0.open'
           ended shows line hands taken met
 
-      pub lost : FramesTaken stretch s.target [] v → (e : Error)
+      pub lost : Takes [] v → (e : Error)
           → SendErrorCaused s.target.writer.log.writes v.writer.log.writes e
           → Passes rules s (Err e) (record s { source = m; target = v })
       lost taken e caused = line_lost m (ap (λ r. r.log) took.1) took.0.piece.went.decoder took.0.whole took.0.open' ended shows
@@ -214,25 +220,25 @@ module _ {R W : Type 0} (remaining : R → Option (List ℕ)) (stretch : W → W
     writes = WritesOn-none s.target.writer.log.writes;
     flushes = refl;
     answers = (
-      record { hands = still s.target s.held [] refl; takes = FramesTaken-none stretch none s.target },
+      record { hands = still s.target s.held [] refl; takes = PiecesTaken-none stretch (framed_out s.target.encoder.max) none s.target },
       MetInterrupts-none s.target.writer.log.writes,
       empty,
       λ has. has empty,
     );
   }
 
-  module _ (tells : W → StreamLog) (v : Outgoing W) where
+  module _ (tells : W → StreamLog) (v : Outgoing W Frames) where
     flush_answers : (answer : Result (Unit {0}) Error) → WasFlushed tells stretch s.target.writer answer v.writer
         → FlushAnswers rules s answer (record s { target = v })
     flush_answers (Ok _) f = (record { empty = f.ok.empty; flushed = f.ok.flushed }, f.ok.met)
     flush_answers (Err e) f = f.caused
 
     pub flushes_all : (answer : Result (Unit {0}) Error) → WasFlushed tells stretch s.target.writer answer v.writer
-        → FramesTaken stretch s.target [] v → Flushes rules s answer (record s { target = v })
+        → Takes [] v → Flushes rules s answer (record s { target = v })
     flushes_all answer f taken = record {
       told = refl;
       ready = record {
-        most = ready.most ∙ sym taken.max;
+        most = ready.most ∙ sym (ap (λ d. d.max) taken.encoder);
         whole = ready.whole;
         open' = ready.open';
         shows = ready.shows;
@@ -250,7 +256,7 @@ module _ {R W : Type 0} (remaining : R → Option (List ℕ)) (stretch : W → W
   asked_ended empty ended = record {
     told = refl;
     ready = ready;
-    moves = record { hands = still s.target s.held [] refl; takes = FramesTaken-none stretch none s.target };
+    moves = record { hands = still s.target s.held [] refl; takes = PiecesTaken-none stretch (framed_out s.target.encoder.max) none s.target };
     sent = λ sent. sent;
     asks = inl refl;
     once = record { once = omega arith; quiet = λ closed. refl; closed = λ closed. closed };
@@ -290,7 +296,7 @@ module _ {R W : Type 0} (remaining : R → Option (List ℕ)) (stretch : W → W
           open' = next.open';
           shows = shows;
         };
-        moves = record { hands = hands; takes = FramesTaken-none stretch none s.target };
+        moves = record { hands = hands; takes = PiecesTaken-none stretch (framed_out s.target.encoder.max) none s.target };
         sent = λ sent. sent;
         asks = asks_over;
         once = record {

@@ -10,9 +10,11 @@ use Rattle.forward.specs.Filter.{FilterRules}
 use Rattle.forward.specs.Forward.{ForwardAnswers, Forwarded, ForwardedFirst, StopsBy}
 use Rattle.forward.specs.declared.error.Cause.{Cause}
 use Rattle.forward.specs.declared.error.Cause.TheVariants as cause
+use Rattle.codec.specs.Grammar.{IsOpen}
+use Rattle.codec.specs.Piecing.{rest}
+use Rattle.frame_reader.specs.Framed.{framed}
 use Rattle.frame_reader.specs.Frames.{BeginsTooLong, Fits, IsCutShort}
-use Rattle.frame_reader.specs.Framing.{rest}
-use Rattle.frame_reader.specs.Next.{FramesWent, IsUnsettled}
+use Rattle.frame_reader.specs.Next.{FramesWent}
 use Rattle.line_reader.specs.Lines.{with_ends}
 use Rattle.programs.specs.Streams.{AllSent}
 use Rattle.frames.specs.Ending.{IsErrorOf}
@@ -31,7 +33,7 @@ module _ {R W : Type 0} (remaining : R → Option (List ℕ)) (s t : Unpacking R
 
   abbrev Ran : Result (Unit {0}) RunError → Type 0
   Ran answer =
-      UnpackRan s.source.max s.source.reader.log t.source.reader.log s.target.log t.target.log answer
+      UnpackRan s.source.decoder.max s.source.reader.log t.source.reader.log s.target.log t.target.log answer
 
   went_all : (count : ℕ) (p : Forwarded rules count s t) → t.held ≡ None → FramesWent remaining s.source p.payloads t.source
   went_all count p empty' =
@@ -39,7 +41,7 @@ module _ {R W : Type 0} (remaining : R → Option (List ℕ)) (s t : Unpacking R
       p.moves.hands.went
 
   unpacked : (count : ℕ) → Forwarded rules count s t → t.held ≡ None → AllSent t.target
-      → Unpacked s.source.max s.source.reader.log t.source.reader.log s.target.log t.target.log (rest t.source)
+      → Unpacked s.source.decoder.max s.source.reader.log t.source.reader.log s.target.log t.target.log (rest t.source)
   unpacked count p empty' all =
       let went = went_all count p empty' in
       let log = t.target.log.writes in
@@ -55,7 +57,7 @@ module _ {R W : Type 0} (remaining : R → Option (List ℕ)) (s t : Unpacking R
 
   -- some were lost, also one that is held
   first : (count : ℕ) → ForwardedFirst rules count s t
-      → (ran : UnpackedFirst s.source.max s.source.reader.log t.source.reader.log s.target.log t.target.log)
+      → (ran : UnpackedFirst s.source.decoder.max s.source.reader.log t.source.reader.log s.target.log t.target.log)
       × (length ran.lines ≡ count)
   first count p =
       let hands = p.moves.hands in
@@ -77,7 +79,7 @@ module _ {R W : Type 0} (remaining : R → Option (List ℕ)) (s t : Unpacking R
 
   pub all_ran : (count : ℕ) → ForwardAnswers rules s (Ok count) t → Ran (Ok tt)
   all_ran count p = (
-    subst (Unpacked s.source.max s.source.reader.log t.source.reader.log s.target.log t.target.log) p.1.1.0
+    subst (Unpacked s.source.decoder.max s.source.reader.log t.source.reader.log s.target.log t.target.log) p.1.1.0
         (unpacked count p.0 p.1.0 p.2),
     p.1.1.1,
     p.3,
@@ -85,13 +87,13 @@ module _ {R W : Type 0} (remaining : R → Option (List ℕ)) (s t : Unpacking R
 
   wrong_ran : (count : ℕ) (why : RunError) → StopsBy rules count s (cause.Wrong why) t → Ran (Err why)
   wrong_ran count TooLong p =
-      let max = (went_all count p.0 p.1.0).max in
-      (rest t.source, unpacked count p.0 p.1.0 p.2, subst (λ n. BeginsTooLong n (rest t.source)) max p.1.1, p.3)
+      let same = (went_all count p.0 p.1.0).went.decoder in
+      (rest t.source, unpacked count p.0 p.1.0 p.2, subst (λ d. BeginsTooLong d.max (rest t.source)) same p.1.1, p.3)
   wrong_ran count Truncated p =
-      let max = (went_all count p.0 p.1.0).max in (
+      let same = (went_all count p.0 p.1.0).went.decoder in (
         rest t.source,
         unpacked count p.0 p.1.0 p.2,
-        subst (λ n. IsCutShort n (rest t.source)) max p.1.1.0,
+        subst (λ d. IsCutShort d.max (rest t.source)) same p.1.1.0,
         p.1.1.1,
         p.3,
       )
@@ -103,7 +105,7 @@ module _ {R W : Type 0} (remaining : R → Option (List ℕ)) (s t : Unpacking R
   read_ran count e p = (
     rest t.source,
     unpacked count p.0 p.1.0 p.2,
-    subst (λ n. IsUnsettled n (rest t.source)) (went_all count p.0 p.1.0).max p.1.1,
+    subst (λ d. IsOpen (framed d.max) (rest t.source)) (went_all count p.0 p.1.0).went.decoder p.1.1,
     p.3,
   )
 

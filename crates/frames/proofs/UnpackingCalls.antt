@@ -1,5 +1,6 @@
 -- What the calls of a filter of frames do.
-use Rattle.std.proofs.Common.{◌≡◌, ℕ, ◌+◌, ◌≤◌, ◌^◌, ◌<◌, ◌⊎◌, inl, inr, Bool, true, false, List, [], ◌∷◌, ◌++◌, length, Option, None, Some, Result, Ok, Err, refl, sym, ap, subst, ◌∙◌, arith, append-nil, append_assoc, length-append}
+use Rattle.std.proofs.Common.{◌≡◌, ℕ, ◌+◌, ◌≤◌, ◌<◌, ◌⊎◌, inl, inr, Bool, true, false, List, [], ◌∷◌, ◌++◌, length, Option, None, Some, Result, Ok, Err, refl, sym, ap, subst, ◌∙◌, arith, append-nil, length-append}
+use Rattle.std.proofs.lemmas.List.Elements.{All-nil}
 use Rattle.std.specs.declared.io.Error.{Error}
 use Rattle.buffer_redux.specs.BufWriter.{WasFlushed, WritesInOrder}
 use Rattle.buffer_redux.specs.Buffered.{Buffered}
@@ -8,12 +9,19 @@ use Rattle.buffer_redux.specs.StreamLog.{StreamLog}
 use Rattle.buffer_redux.specs.WriterLaws.{WritesInOrder-none}
 use Rattle.buffer_redux.specs.declared.policy.StdPolicy.{StdPolicy}
 use Rattle.codec.specs.declared.decoder.Span.{Span}
-use Rattle.frame_reader.specs.Frames.{IsCutShort, header}
-use Rattle.frame_reader.specs.FramesLaws.{header-same}
-use Rattle.frame_reader.specs.Framing.{Framing, rest}
-use Rattle.frame_reader.specs.Next.{FramesWent, IsUnsettled, Next, NextAnswer}
-use Rattle.frame_reader.specs.NextLaws.{FramesWent-none}
+use Rattle.codec.specs.Grammar.{IsOpen}
+use Rattle.codec.specs.NextPiece.{MetEnd, NextBuffered, StaysLeft}
+use Rattle.codec.specs.NextPieceLaws.{MetEnd-once}
+use Rattle.codec.specs.Piecing.{Piecing, rest}
+use Rattle.frame_reader.specs.Framed.{framed}
+use Rattle.frame_reader.specs.Frames.{BeginsTooLong, Fits, IsCutShort}
+use Rattle.frame_reader.specs.Next.{FramesWent, Next, NextAnswer, ReadsFrames, piece_answer}
+use Rattle.frame_reader.specs.NextLaws.{FramesWent-none, Next-went, NextPiece-frames, NextPiece-reads, StaysLeft-reads}
+use Rattle.frame_reader.specs.declared.frame.Frames.{Frames}
+use Rattle.codec.specs.Runs.{handed_payload}
+use Rattle.codec.specs.StaysLeftLaws.{StaysLeft-went}
 use Rattle.frame_reader.specs.declared.error.FrameError.TheVariants as NoFrame
+use Rattle.frame_reader.specs.declared.frame.FrameFault.TheVariants as Fault
 use Rattle.forward.specs.Filter.{AskAnswers, Asks, FilterRules, FlushAnswers, Flushes, Gives, Passes}
 use Rattle.forward.specs.declared.error.AskError.{AskError}
 use Rattle.forward.specs.declared.error.AskError.TheVariants.{Wrong, Io, IoBehind}
@@ -32,23 +40,7 @@ pub not_held : (h : Option Span) → ((span : Span) → ¬ (h ≡ Some span)) �
 not_held None isnt = refl
 not_held (Some span) isnt = absurd (isnt span refl)
 
--- what is nothing, or cut short, is no whole frame
-unsettled_few : (max : ℕ) (bytes : List ℕ) → max < 2 ^ 16 → (bytes ≡ []) ⊎ IsCutShort max bytes → IsUnsettled max bytes
-unsettled_few max bytes word (inl none) (inl whole) = absurd (omega (arith, ap length none, ap length whole.equal))
-unsettled_few max bytes word (inl none) (inr long) = absurd (omega (arith, ap length none, ap length long.begins.equal))
-unsettled_few max bytes word (inr (inl one)) (inl whole) = absurd (omega (arith, one, ap length whole.equal))
-unsettled_few max bytes word (inr (inl one)) (inr long) = absurd (omega (arith, one, ap length long.begins.equal))
-unsettled_few max bytes word (inr (inr cut)) (inl whole) =
-    let same = header-same cut.len (length whole.payload) cut.begins.more (whole.payload ++ whole.more)
-    cut.begins.word (omega (arith, word, whole.fits)) (sym cut.begins.equal ∙ whole.equal
-    ∙ append_assoc (header (length whole.payload)) whole.payload whole.more) in
-    absurd (omega (arith, same.0, cut.short, ap length whole.equal, length-append whole.payload whole.more))
-unsettled_few max bytes word (inr (inr cut)) (inr long) =
-    let same = header-same cut.len long.len cut.begins.more long.begins.more
-    cut.begins.word long.begins.word (sym cut.begins.equal ∙ long.begins.equal) in
-    absurd (omega (arith, same.0, cut.fits, long.above))
-
--- it has fewer bytes than the longest frame
+-- what is nothing, or cut short, has fewer bytes than the longest frame
 few : (max : ℕ) (bytes : List ℕ) → (bytes ≡ []) ⊎ IsCutShort max bytes → length bytes < 2 + max
 few max bytes (inl none) = omega (arith, ap length none)
 few max bytes (inr (inl one)) = omega (arith, one)
@@ -63,21 +55,26 @@ module _ {R W : Type 0} (remaining : R → Option (List ℕ)) (s : Unpacking R W
       (capacity : v.block.capacity ≡ s.target.block.capacity)
       (unflushed : v.log.writes.flushed ≡ s.target.log.writes.flushed)
       (steady : v.log.writes.flushes ≡ s.target.log.writes.flushes) where
-    target : (max : ℕ) → max ≡ s.source.max → IsLineTarget max v
-    target max same = record {
-      plain = kind ∙ ready.target.plain;
-      capacity = omega (arith, ready.target.capacity, capacity, same);
+    still_ready : (m : Piecing R Frames) (h : Option Span) → m.decoder ≡ s.source.decoder → ReadsFrames m → CanShow m h
+        → IsReady (record { source = m; target = v; held = h })
+    still_ready m h same reads shows = record {
+      target = record {
+        plain = kind ∙ ready.target.plain;
+        capacity = omega (arith, ready.target.capacity, capacity, ap (λ d. d.max) same);
+      };
+      reads = reads;
+      shows = shows;
     }
 
-    line_printed : (m : Framing R) (h : Option Span) → m.reader.log ≡ s.source.reader.log → m.max ≡ s.source.max → CanShow m h
-        → (payload : List ℕ) → HandsFrames remaining s (payload ∷ []) (record { source = m; target = v; held = h })
+    line_printed : (m : Piecing R Frames) (h : Option Span) → m.reader.log ≡ s.source.reader.log
+        → IsReady (record { source = m; target = v; held = h }) → (payload : List ℕ) → HandsFrames remaining s (payload ∷ []) (record { source = m; target = v; held = h })
         → WritesInOrder s.target (with_end payload) v → MetInterrupts s.target.log.writes v.log.writes
         → Passes rules s (Ok true) (record { source = m; target = v; held = h })
-    line_printed m h told max shows payload hands taken met =
+    line_printed m h told is_ready payload hands taken met =
         let t : Unpacking R W = record { source = m; target = v; held = h } in
         record {
           told = told;
-          ready = record { target = target m.max max; shows = shows };
+          ready = is_ready;
           closed = λ closed. closed;
           writes = WritesOn-unflushed s.target v (with_end payload) taken unflushed;
           flushes = steady;
@@ -92,13 +89,13 @@ module _ {R W : Type 0} (remaining : R → Option (List ℕ)) (s : Unpacking R W
           );
         }
 
-    line_lost : (m : Framing R) → m.reader.log ≡ s.source.reader.log → m.max ≡ s.source.max → CanShow m s.held
+    line_lost : (m : Piecing R Frames) → m.reader.log ≡ s.source.reader.log → IsReady (record s { source = m; target = v })
         → (lost : List (List ℕ)) → HandsFrames remaining s lost (record s { source = m; target = v })
         → WritesInOrder s.target [] v → (e : Error) → SendErrorCaused s.target.log.writes v.log.writes e
         → Passes rules s (Err e) (record s { source = m; target = v })
-    line_lost m told max shows lost hands none e caused = record {
+    line_lost m told is_ready lost hands none e caused = record {
       told = told;
-      ready = record { target = target m.max max; shows = shows };
+      ready = is_ready;
       closed = λ closed. closed;
       writes = WritesOn-unflushed s.target v [] none unflushed;
       flushes = steady;
@@ -109,7 +106,7 @@ module _ {R W : Type 0} (remaining : R → Option (List ℕ)) (s : Unpacking R W
     pub held_printed : (span : Span) → s.held ≡ Some span → WritesInOrder s.target (with_end (shown s.source span)) v
         → MetInterrupts s.target.log.writes v.log.writes → Passes rules s (Ok true) (record s { target = v; held = None })
     held_printed span is taken met =
-        line_printed s.source None refl refl tt (shown s.source span)
+        line_printed s.source None refl (still_ready s.source None refl ready.reads tt) (shown s.source span)
         (record {
           got = [];
           went = FramesWent-none remaining s.source;
@@ -119,19 +116,20 @@ module _ {R W : Type 0} (remaining : R → Option (List ℕ)) (s : Unpacking R W
     pub held_lost : WritesInOrder s.target [] v → (e : Error) → SendErrorCaused s.target.log.writes v.log.writes e
         → Passes rules s (Err e) (record s { target = v })
     held_lost none e caused =
-        line_lost s.source refl refl ready.shows []
+        line_lost s.source refl (still_ready s.source s.held refl ready.reads ready.shows) []
         (record { got = []; went = FramesWent-none remaining s.source; order = append-nil (held_of s) }) none e caused
 
     -- or it was buffered
-    module _ (empty : s.held ≡ None) (m : Framing R) (payload : List ℕ)
-        (took : Next remaining s.source (Ok (Some payload)) m × (m.reader ≡ s.source.reader)) where
-      shows : CanShow m s.held
-      shows = subst (λ h. CanShow m h) (sym empty) tt
+    module _ (empty : s.held ≡ None) (m : Piecing R Frames) (payload : List ℕ)
+        (took : NextBuffered remaining (framed s.source.decoder.max) s.source (Some payload) m) where
+      is_ready : IsReady (record s { source = m; target = v })
+      is_ready = still_ready m s.held took.0.went.decoder (NextPiece-reads remaining s.source m _ took.0)
+          (subst (λ h. CanShow m h) (sym empty) tt)
 
       hands : (w : Buffered W StdPolicy) → HandsFrames remaining s (payload ∷ []) (record s { source = m; target = w })
       hands w = record {
         got = payload ∷ [];
-        went = took.0.went;
+        went = NextPiece-frames remaining s.source m _ took.0;
         order =
             ap (λ l. l ++ payload ∷ []) (none_held remaining s empty)
             ∙ ap (λ l. payload ∷ l) (sym (none_held remaining (record s { source = m; target = w }) empty));
@@ -140,24 +138,36 @@ module _ {R W : Type 0} (remaining : R → Option (List ℕ)) (s : Unpacking R W
       pub printed : WritesInOrder s.target (with_end payload) v → MetInterrupts s.target.log.writes v.log.writes
           → Passes rules s (Ok true) (record s { source = m; target = v })
       printed taken met =
-          line_printed m s.held (ap (λ r. r.log) took.1) took.0.went.max shows payload (hands v) taken met
+          line_printed m s.held (ap (λ r. r.log) took.1) is_ready payload (hands v) taken met
 
       pub lost : WritesInOrder s.target [] v → (e : Error) → SendErrorCaused s.target.log.writes v.log.writes e
           → Passes rules s (Err e) (record s { source = m; target = v })
       lost none e caused =
-          line_lost m (ap (λ r. r.log) took.1) took.0.went.max shows (payload ∷ []) (hands v) none e caused
+          line_lost m (ap (λ r. r.log) took.1) is_ready (payload ∷ []) (hands v) none e caused
 
   -- none was there
-  pub none_passed : s.held ≡ None → Passes rules s (Ok false) s
-  none_passed empty = record {
-    told = refl;
-    ready = ready;
+  pub none_passed : s.held ≡ None → (m : Piecing R Frames) → StaysLeft (framed s.source.decoder.max) s.source m
+      → Passes rules s (Ok false) (record s { source = m })
+  none_passed empty m stays = record {
+    told = ap (λ x. x.reader.log) stays.same;
+    ready = record {
+      target = subst (λ x. IsLineTarget x.decoder.max s.target) (sym stays.same) ready.target;
+      reads = StaysLeft-reads remaining s.source m ready.reads stays;
+      shows = subst (λ h. CanShow m h) (sym empty) tt;
+    };
     closed = λ closed. closed;
     writes = WritesOn-none s.target.log.writes;
     flushes = refl;
     answers = (
       record {
-        hands = record { got = []; went = FramesWent-none remaining s.source; order = append-nil (held_of s) };
+        hands = record {
+          got = [];
+          went = record {
+            fit = All-nil (Fits s.source.decoder.max);
+            went = StaysLeft-went remaining (framed s.source.decoder.max) s.source m stays;
+          };
+          order = append-nil (held_of s) ∙ none_held remaining s empty ∙ sym (none_held remaining (record s { source = m }) empty);
+        };
         takes = WritesInOrder-none s.target;
       },
       MetInterrupts-none s.target.log.writes,
@@ -181,6 +191,7 @@ module _ {R W : Type 0} (remaining : R → Option (List ℕ)) (s : Unpacking R W
           plain = f.kind ∙ ready.target.plain;
           capacity = omega (arith, f.capacity, ready.target.capacity);
         };
+        reads = ready.reads;
         shows = ready.shows;
       };
       closed = λ closed. closed;
@@ -195,14 +206,17 @@ module _ {R W : Type 0} (remaining : R → Option (List ℕ)) (s : Unpacking R W
     }
 
   -- the reader was asked for the next
-  module _ (empty : s.held ≡ None) (m : Framing R) where
+  module _ (empty : s.held ≡ None) (m : Piecing R Frames) where
+    once_met : MetEnd s.source m → m.reader.log.reads.zero_reads ≡ s.source.reader.log.reads.zero_reads + 1
+    once_met = MetEnd-once s.source m ready.reads.told
+
     module _ (found : NextAnswer) (next : Next remaining s.source found m) where
       more_faults : length s.source.reader.log.reads.faults ≤ length m.reader.log.reads.faults
-      more_faults = let grows = next.went.grows.faults in
+      more_faults = let grows = next.piece.went.grows.faults in
           omega (arith, ap length grows.equal, length-append s.source.reader.log.reads.faults grows.more)
 
       asks_over : AsksReader s.source m
-      asks_over = elim next.asked [
+      asks_over = elim next.piece.asked [
         | inl same ↦ inl same
         | inr over ↦ inr (record {
           came = over.came;
@@ -221,7 +235,8 @@ module _ {R W : Type 0} (remaining : R → Option (List ℕ)) (s : Unpacking R W
       asked h shows hands once answer answers = record {
         told = refl;
         ready = record {
-          target = subst (λ max. IsLineTarget max s.target) (sym next.went.max) ready.target;
+          target = subst (λ d. IsLineTarget d.max s.target) (sym next.piece.went.decoder) ready.target;
+          reads = NextPiece-reads remaining s.source m (piece_answer found) next.piece;
           shows = shows;
         };
         moves = record { hands = hands; takes = WritesInOrder-none s.target };
@@ -232,15 +247,14 @@ module _ {R W : Type 0} (remaining : R → Option (List ℕ)) (s : Unpacking R W
       }
 
       -- and handed out nothing
-      asked_nothing : FramesWent remaining s.source [] m
-          → m.reader.log.reads.zero_reads ≤ s.source.reader.log.reads.zero_reads + 1
+      asked_nothing : handed_payload found ≡ [] → m.reader.log.reads.zero_reads ≤ s.source.reader.log.reads.zero_reads + 1
           → (answer : Result Bool (AskError RunError)) → AskAnswers rules s answer (record s { source = m })
           → Asks rules s answer (record s { source = m })
-      asked_nothing went once answer answers =
+      asked_nothing none once answer answers =
           asked s.held (subst (λ h. CanShow m h) (sym empty) tt)
           (record {
             got = [];
-            went = went;
+            went = subst (λ l. FramesWent remaining s.source l m) none (Next-went remaining s.source m found next);
             order =
                 append-nil (held_of s) ∙ none_held remaining s empty
                 ∙ sym (none_held remaining (record s { source = m }) empty);
@@ -249,74 +263,111 @@ module _ {R W : Type 0} (remaining : R → Option (List ℕ)) (s : Unpacking R W
 
     pub asked_more : (span : Span) → CanShow m (Some span) → Next remaining s.source (Ok (Some (shown m span))) m
         → Asks rules s (Ok true) (record s { source = m; held = Some span })
-    asked_more span shows next = asked (Ok (Some (shown m span))) next (Some span) shows
+    asked_more span shows next =
+        let none : m.reader.log.reads.zero_reads ≡ s.source.reader.log.reads.zero_reads = elim next.piece.answers.1 [
+          | inl whole ↦ whole.2
+          | inr last ↦ absurd last.0
+        ] in
+        asked (Ok (Some (shown m span))) next (Some span) shows
         (record {
           got = shown m span ∷ [];
-          went = next.went;
+          went = Next-went remaining s.source m _ next;
           order = ap (λ l. l ++ shown m span ∷ []) (none_held remaining s empty);
         })
-        (omega (arith, next.once)) (Ok true) (
+        (omega (arith, none)) (Ok true) (
           λ is. (let no : Some span ≡ None = is in cc),
-          next.answers.1,
+          next.piece.answers.0,
           inl (record {
-            zero_reads = omega (arith, next.once);
-            give = omega (arith, next.asks, ap length next.answers.1);
+            zero_reads = none;
+            give = omega (arith, next.piece.gave none next.piece.answers.0, ap length next.piece.answers.0);
           }),
         )
 
     pub asked_none : Next remaining s.source (Ok None) m → Asks rules s (Ok false) (record s { source = m })
-    asked_none next = asked_nothing (Ok None) next next.went (omega (arith, next.once)) (Ok false)
-        ((empty, (next.answers.0, next.answers.1.0)), next.answers.1.1)
+    asked_none next =
+        let once = once_met next.piece.answers.4 in
+        asked_nothing (Ok None) next refl (omega (arith, once)) (Ok false)
+        ((empty, (next.piece.answers.1, omega (arith, once))), next.piece.answers.2)
 
     pub asked_long : (len : ℕ) → Next remaining s.source (Err (NoFrame.TooLong len)) m
         → Asks rules s (Err (Wrong TooLong)) (record s { source = m })
     asked_long len next =
-        asked_nothing (Err (NoFrame.TooLong len)) next next.went (omega (arith, next.once)) (Err (Wrong TooLong)) (
+        let none : m.reader.log.reads.zero_reads ≡ s.source.reader.log.reads.zero_reads = elim next.piece.answers.3 [
+          | inl wrong ↦ wrong.1
+          | inr cut ↦ (let odd : Fault.TooLong len ≡ Fault.Truncated (length (rest m)) = cut.0 in cc)
+        ] in
+        asked_nothing (Err (NoFrame.TooLong len)) next refl (omega (arith, none)) (Err (Wrong TooLong)) (
           (
             empty,
-            record { len = len; above = omega (arith, next.answers.0, next.went.max); begins = next.answers.1 },
+            subst (λ d. BeginsTooLong d.max (rest m)) (sym next.piece.went.decoder)
+                (record { len = len; above = next.leaves.0; begins = next.leaves.1 }),
           ),
-          next.answers.2,
+          next.piece.answers.1,
         )
 
     pub asked_cut : (have : ℕ) → Next remaining s.source (Err (NoFrame.Truncated have)) m
         → Asks rules s (Err (Wrong Truncated)) (record s { source = m })
     asked_cut have next =
-        asked_nothing (Err (NoFrame.Truncated have)) next next.went (omega (arith, next.once)) (Err (Wrong Truncated)) (
-          (empty, (subst (λ max. IsCutShort max (rest m)) (sym next.went.max) next.answers.1, next.answers.2.0)),
-          next.answers.2.1,
+        let once : m.reader.log.reads.zero_reads ≡ s.source.reader.log.reads.zero_reads + 1 = elim next.piece.answers.3 [
+          | inl wrong ↦ (let odd : Fault.Truncated have ≡ Fault.TooLong wrong.0.0.len = wrong.0.1 in cc)
+          | inr cut ↦ once_met cut.3
+        ] in
+        asked_nothing (Err (NoFrame.Truncated have)) next refl (omega (arith, once)) (Err (Wrong Truncated)) (
+          (
+            empty,
+            (
+              subst (λ d. IsCutShort d.max (rest m)) (sym next.piece.went.decoder) next.leaves.1,
+              omega (arith, once),
+            ),
+          ),
+          next.piece.answers.1,
         )
 
     -- or failed
     module _ (e : Error) (next : Next remaining s.source (Err (NoFrame.Io e)) m) where
-      waits : (s.held ≡ None) × IsUnsettled m.max (rest m)
+      waits : (s.held ≡ None) × IsOpen (framed m.decoder.max) (rest m)
       waits = (
         empty,
-        unsettled_few m.max (rest m) next.whole.word
-            (subst (λ max. (rest m ≡ []) ⊎ IsCutShort max (rest m)) (sym next.went.max) next.answers.1),
+        subst (λ d. IsOpen (framed d.max) (rest m)) (sym next.piece.went.decoder) next.piece.answers.1,
       )
 
-      short : length (rest m) < 2 + s.source.max
-      short = few s.source.max (rest m) next.answers.1
+      short : length (rest m) < 2 + s.source.decoder.max
+      short = few s.source.decoder.max (rest m) next.leaves
 
       gives : Gives rules s (record s { source = m })
       gives = record {
-        zero_reads = omega (arith, next.once);
-        give = omega (
-          arith,
-          next.asks,
-          ap length next.answers.0,
-          length-append s.source.reader.log.reads.faults (e ∷ []),
-        );
+        zero_reads = next.piece.answers.4;
+        give = elim next.piece.asked [
+          | inl same ↦ omega (
+            arith,
+            ap (λ l. l.reads.asks) same,
+            ap (λ l. length l.reads.given) same,
+            ap (λ l. length l.reads.faults) same,
+          )
+          | inr over ↦ omega (
+            arith,
+            over.asks,
+            ap length over.given,
+            length-append s.source.reader.log.reads.given (over.came ++ over.last),
+            length-append over.came over.last,
+            ap length next.piece.answers.2,
+            length-append s.source.reader.log.reads.faults (e ∷ []),
+          )
+        ];
       }
 
       grew : length (rest s.source) ≤ length (rest m)
-      grew = omega (arith, ap length next.went.hands.equal, length-append (rest s.source) next.went.hands.got)
+      grew = let went = (Next-went remaining s.source m _ next).went in
+          omega (arith, ap length went.hands.equal, length-append (rest s.source) went.hands.got)
+
+      max : m.decoder.max ≡ s.source.decoder.max
+      max = ap (λ d. d.max) next.piece.went.decoder
 
       pub asked_idle : length (rest m) ≤ length (rest s.source) → Asks rules s (Err (Io e)) (record s { source = m })
-      asked_idle idle = asked_nothing (Err (NoFrame.Io e)) next next.went (omega (arith, next.once)) (Err (Io e))
-          (waits, next.answers.0, inl gives, omega (arith, idle, grew, next.went.max))
+      asked_idle idle = asked_nothing (Err (NoFrame.Io e)) next refl (omega (arith, next.piece.answers.4)) (Err (Io e))
+          (waits, next.piece.answers.2, inl gives, omega (arith, idle, grew, max))
 
       pub asked_behind : length (rest s.source) < length (rest m) → Asks rules s (Err (IoBehind e)) (record s { source = m })
-      asked_behind came = asked_nothing (Err (NoFrame.Io e)) next next.went (omega (arith, next.once)) (Err (IoBehind e))
-          (waits, next.answers.0, inl gives, omega (arith, came, short, next.went.max))
+      asked_behind came =
+          asked_nothing (Err (NoFrame.Io e)) next refl (omega (arith, next.piece.answers.4)) (Err (IoBehind e))
+          (waits, next.piece.answers.2, inl gives, omega (arith, came, short, max))

@@ -6,7 +6,8 @@ use Rattle.codec.specs.Decoding.{IsLent, bytes_at}
 use Rattle.codec.specs.declared.decoder.Span.{Span}
 use Rattle.forward.specs.Filter.{FilterRules}
 use Rattle.frame_reader.specs.Frames.{Fits}
-use Rattle.frame_reader.specs.WriteFrame.{FramesTaken}
+use Rattle.codec.specs.WritePiece.{PiecesTaken}
+use Rattle.frame_reader.specs.Framed.{framed_out}
 use Rattle.line_reader.specs.Lines.{BeginsTooLong, HasLines, IsUnended}
 use Rattle.line_reader.specs.Lining.{IsLining, Lining, lined, rest}
 use Rattle.line_reader.specs.NextLine.{LinesWent, empties}
@@ -36,7 +37,7 @@ held_of s = held_at s.source s.held
 
 -- what each call of the filter wants
 pub record IsReady {R W : Type 0} (s : Packing R W) : Type 0 where
-  pub most : s.source.max ≡ s.target.max
+  pub most : s.source.max ≡ s.target.encoder.max
   pub whole : IsLining s.source
   pub open' : s.source.skipping ≡ false
   pub shows : CanShow s.source s.held
@@ -86,7 +87,7 @@ packing_rules remaining stretch = record {
   written = λ s. s.target.writer.log;
   ready = λ s. IsReady s;
   hands = HandsLines remaining;
-  takes = λ s lines t. FramesTaken stretch s.target lines t.target;
+  takes = λ s lines t. PiecesTaken stretch (framed_out s.target.encoder.max) s.target lines t.target;
   has = λ s. ¬ (s.held ≡ None);
   lacks = λ s. s.held ≡ None;
   waits = λ s. (s.held ≡ None) × IsUnended s.source.max (rest s.source) × (s.source.ended ≡ false);

@@ -9,8 +9,10 @@ use Rattle.buffer_redux.specs.GoesOn.{GoesOn, GoesOn-none}
 use Rattle.buffer_redux.specs.WriterLaws.{WritesInOrder-fresh}
 use Rattle.forward.specs.Filter.{AsksSent, IsLawful, Moves, StaysOpen}
 use Rattle.frame_reader.specs.Frames.{Fits, frames}
-use Rattle.frame_reader.specs.WriteFrame.{FramesTaken}
-use Rattle.frame_reader.specs.WriteFrameLaws.{FramesTaken-joins, FramesTaken-none}
+use Rattle.codec.specs.WritePiece.{PiecesTaken}
+use Rattle.codec.specs.WritePieceLaws.{PiecesTaken-joins, PiecesTaken-none}
+use Rattle.frame_reader.specs.Framed.{framed_out}
+use Rattle.frame_reader.specs.WriteFrameLaws.{PiecesTaken-frames}
 use Rattle.line_reader.specs.Lines.{HasLines, IsLine, IsUnended, last_line, with_end, with_ends}
 use Rattle.line_reader.specs.Lining.{Lining, rest}
 use Rattle.line_reader.specs.LinesWentLaws.{LinesWent-joins, LinesWent-none}
@@ -179,17 +181,20 @@ module _ {R W : Type 0} (remaining : R → Option (List ℕ)) where
   ends_after a b c p (Err (Io e)) f end = absurd end
 
   -- bytes that are taken in are received or buffered
-  pub counted : (stretch : W → W → Type 0) (s t : Packing R W) (lines : List (List ℕ)) → FramesTaken stretch s.target lines t.target
+  pub counted : (stretch : W → W → Type 0) (s t : Packing R W) (lines : List (List ℕ))
+      → PiecesTaken stretch (framed_out s.target.encoder.max) s.target lines t.target
       → length s.target.writer.log.writes.received + length s.target.writer.block.bytes + length (frames lines)
       ≡ length t.target.writer.log.writes.received + length t.target.writer.block.bytes
-  counted stretch s t lines taken = omega (
-    arith,
-    ap length taken.in_order.received,
-    ap length taken.in_order.equal,
-    length-append s.target.writer.log.writes.received taken.in_order.sent,
-    length-append taken.in_order.sent t.target.writer.block.bytes,
-    length-append s.target.writer.block.bytes (frames lines),
-  )
+  counted stretch s t lines taken =
+      let in_order = PiecesTaken-frames stretch s.target t.target lines taken in
+      omega (
+        arith,
+        ap length in_order.received,
+        ap length in_order.equal,
+        length-append s.target.writer.log.writes.received in_order.sent,
+        length-append in_order.sent t.target.writer.block.bytes,
+        length-append s.target.writer.block.bytes (frames lines),
+      )
 
   module _ (stretch : W → W → Type 0) (none : (x : W) → stretch x x)
       (joins : (a b c : W) → stretch a b → stretch b c → stretch a c) where
@@ -233,7 +238,8 @@ module _ {R W : Type 0} (remaining : R → Option (List ℕ)) where
             frames_are = refl;
           };
           sent = subst (λ l. WasSent l s.target.writer.log.writes)
-              (WritesInOrder-fresh first.target.writer s.target.writer (frames p) fresh.1 moves.takes.in_order)
+              (WritesInOrder-fresh first.target.writer s.target.writer (frames p) fresh.1
+              (PiecesTaken-frames stretch first.target s.target p moves.takes))
               (all_sent s sent);
         })
 
@@ -241,8 +247,10 @@ module _ {R W : Type 0} (remaining : R → Option (List ℕ)) where
     packing_lawful = record {
       hands_none = hands_none;
       hands_joins = hands_joins;
-      takes_none = λ s. FramesTaken-none stretch none s.target;
-      takes_joins = λ a b c p q f g. FramesTaken-joins stretch joins a.target b.target c.target p q f g;
+      takes_none = λ s. PiecesTaken-none stretch (framed_out s.target.encoder.max) none s.target;
+      takes_joins = λ a b c p q f g.
+          PiecesTaken-joins stretch (framed_out a.target.encoder.max) joins a.target b.target c.target p q f
+          (subst (λ d. PiecesTaken stretch (framed_out d.max) b.target q c.target) f.encoder g);
       ends_after = λ a b c p how hands still end. (end.0, ends_after a b c p how hands end.1);
       waits_lacks = λ s waits. waits.0;
       received_taken = λ s. omega arith;

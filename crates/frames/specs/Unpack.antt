@@ -2,8 +2,9 @@
 use Rattle.std.specs.Prelude.{◌≡◌, ℕ, List, [], ◌++◌, length, ◌⊎◌, Result, Ok, Err}
 use Rattle.std.specs.List.{All}
 use Rattle.buffer_redux.specs.StreamLog.{StreamLog}
-use Rattle.frame_reader.specs.Frames.{BeginsTooLong, Fits, IsCutShort, Splits, frames}
-use Rattle.frame_reader.specs.Next.{IsUnsettled}
+use Rattle.codec.specs.Grammar.{IsOpen}
+use Rattle.frame_reader.specs.Framed.{Splits, framed}
+use Rattle.frame_reader.specs.Frames.{BeginsTooLong, Fits, IsCutShort, frames}
 use Rattle.frames.specs.declared.error.RunError.{RunError}
 use Rattle.frames.specs.declared.error.RunError.TheVariants.{TooLong, Truncated, Read, Write, Io}
 use Rattle.line_reader.specs.Lines.{with_ends}
@@ -48,7 +49,7 @@ UnpackRan most read read' written written' (Err Truncated) =
     (more : List ℕ) × Unpacked most read read' written written' more × IsCutShort most more × GaveNothing read read'
     × MetNoFault read read' written written'
 UnpackRan most read read' written written' (Err (Read e)) =
-    (more : List ℕ) × Unpacked most read read' written written' more × IsUnsettled most more
+    (more : List ℕ) × Unpacked most read read' written written' more × IsOpen (framed most) more
     × AReadFailed e read read' written written'
 UnpackRan most read read' written written' (Err (Write e)) =
     UnpackedFirst most read read' written written' × SendFailed e read read' written written'

@@ -5,9 +5,12 @@ use Rattle.std.proofs.lemmas.Grind.{flat_map-append}
 use Rattle.buffer_redux.specs.BufWriter.{WritesInOrder}
 use Rattle.buffer_redux.specs.GoesOn.{GoesOn, GoesOn-none}
 use Rattle.buffer_redux.specs.WriterLaws.{WritesInOrder-fresh, WritesInOrder-joins, WritesInOrder-none}
+use Rattle.codec.specs.Grammar.{IsOpen}
+use Rattle.codec.specs.Piecing.{Piecing, rest}
+use Rattle.frame_reader.specs.Framed.{framed}
 use Rattle.frame_reader.specs.Frames.{frames}
-use Rattle.frame_reader.specs.Framing.{Framing, rest}
-use Rattle.frame_reader.specs.Next.{FramesWent, IsUnsettled}
+use Rattle.frame_reader.specs.Next.{FramesWent}
+use Rattle.frame_reader.specs.declared.frame.Frames.{Frames}
 use Rattle.frame_reader.specs.NextLaws.{FramesWent-joins, FramesWent-none}
 use Rattle.forward.specs.Filter.{AsksSent, IsLawful, Moves, StaysOpen}
 use Rattle.line_reader.specs.Lines.{with_end, with_ends}
@@ -20,14 +23,14 @@ use Rattle.frames.specs.declared.error.RunError.TheVariants.{TooLong, Truncated,
 use Rattle.frames.specs.declared.unpacking.Unpacking.{Unpacking}
 
 -- from an empty buffer on, what was given is the frames that were handed out, and what is left
-pub frames_given : {R : Type 0} (remaining : R → Option (List ℕ)) (s t : Framing R) (payloads : List (List ℕ))
+pub frames_given : {R : Type 0} (remaining : R → Option (List ℕ)) (s t : Piecing R Frames) (payloads : List (List ℕ))
     → s.reader.block.bytes ≡ [] → FramesWent remaining s payloads t
     → t.reader.log.reads.given ≡ s.reader.log.reads.given ++ (frames payloads ++ rest t)
 frames_given remaining s t payloads none went =
-    let hands = went.hands in
+    let hands = went.went.hands in
     hands.given
     ∙ ap (λ l. s.reader.log.reads.given ++ l)
-    (sym (hands.equal ∙ ap (λ l. l ++ hands.got) (ap (λ l. drop s.lent l) none ∙ drop-nil s.lent)))
+    (sym (hands.equal ∙ ap (λ l. l ++ hands.got) (ap (λ l. drop s.handed l) none ∙ drop-nil s.handed)))
 
 module _ {R W : Type 0} (remaining : R → Option (List ℕ)) where
   -- nothing is held where there is no place
@@ -101,7 +104,7 @@ module _ {R W : Type 0} (remaining : R → Option (List ℕ)) where
           splits = record {
             equal = append_assoc (frames p) left over.came;
             fit = went.fit;
-            no_more = λ whole. subst (λ n. IsUnsettled n (left ++ over.came)) went.max over.left (inl whole);
+            no_more = (subst (λ d. IsOpen (framed d.max) (left ++ over.came)) went.went.decoder over.left).no_piece;
           };
           lines = refl;
         };

@@ -1,6 +1,6 @@
 //! Lines made frames, over any two streams that tell.
 ghost use Rattle.std.specs.Prelude.{◌≡◌, [], false};
-ghost use Rattle.frame_reader.specs.Outgoing.{unsent};
+ghost use Rattle.codec.specs.Outgoing.{unsent};
 ghost use Rattle.line_reader.specs.Lining.{IsLining};
 ghost use Rattle.programs.specs.Flushes.{FlushesSend};
 ghost use Rattle.programs.specs.Prompt.{HoldsNothingBack};
@@ -54,7 +54,7 @@ fn pack_all<R: TellRead, W: TellWrite>(
     source: LineReader<R>,
     target: FrameWriter<W>,
 ) -> (Result<(), RunError>, LineReader<R>, FrameWriter<W>)
-    requires most { source.max ≡ target.max }
+    requires most { source.max ≡ target.encoder.max }
     requires whole { IsLining source }
     requires going { source.ended ≡ false }
     requires open { source.skipping ≡ false }

@@ -1,8 +1,9 @@
 //! Lines as they go over, one by one, as frames.
 ghost use Rattle.std.specs.Prelude.{◌≡◌, ◌≤◌, [], ◌∷◌, length, Some, IfErr, OnErr, OnOk};
 ghost use Rattle.buffer_redux.specs.Faults.{MetInterrupts, SendErrorCaused};
+ghost use Rattle.codec.specs.WritePiece.{PiecesTaken};
 ghost use Rattle.forward.specs.Filter.{Passes};
-ghost use Rattle.frame_reader.specs.WriteFrame.{FramesTaken};
+ghost use Rattle.frame_reader.specs.Framed.{framed_out};
 ghost use Rattle.frames.specs.Packing.{IsReady, packing_rules};
 ghost use Rattle.frames.specs.PackingLaws.{packing_lawful};
 
@@ -86,9 +87,10 @@ fn pass_held<R: TellRead, W: TellWrite>(filter: &mut Packing<R, W>, span: Span) 
 // Takes the frame of the line in, or nothing of it where room can't be had.
 #[inline(always)]
 fn write_line<W: TellWrite>(target: &mut FrameWriter<W>, line: &[u8]) -> io::Result<()>
-    requires { length line.now ≤ target.old.max }
-    ensures taken { OnOk result (FramesTaken W.stretch target.old (line.now ∷ []) target.new) }
-    ensures none { OnErr result (FramesTaken W.stretch target.old [] target.new) }
+    requires { length line.now ≤ target.old.encoder.max }
+    ensures taken { OnOk result
+        (PiecesTaken W.stretch (framed_out target.old.encoder.max) target.old (line.now ∷ []) target.new) }
+    ensures none { OnErr result (PiecesTaken W.stretch (framed_out target.old.encoder.max) target.old [] target.new) }
     ensures met { OnOk result (MetInterrupts target.old.writer.log.writes target.new.writer.log.writes) }
     ensures caused { IfErr result (λ e. SendErrorCaused target.old.writer.log.writes target.new.writer.log.writes e) }
     ensures not_flushed { target.new.writer.log.writes.flushed ≡ target.old.writer.log.writes.flushed }

@@ -1,5 +1,6 @@
 //! Payloads printed as lines, over any two streams that tell.
 ghost use Rattle.std.specs.Prelude.{◌≡◌, []};
+ghost use Rattle.frame_reader.specs.Next.{ReadsFrames};
 ghost use Rattle.programs.specs.Flushes.{FlushesSend};
 ghost use Rattle.programs.specs.Prompt.{HoldsNothingBack};
 ghost use Rattle.programs.specs.Streams.{EndsOnce};
@@ -53,11 +54,12 @@ fn unpack_all<R: TellRead, W: TellWrite>(
     source: FrameReader<R>,
     target: BufWriter<W>,
 ) -> (Result<(), RunError>, FrameReader<R>, BufWriter<W>)
-    requires target { IsLineTarget source.max target }
+    requires target { IsLineTarget source.decoder.max target }
+    requires reads { ReadsFrames source }
     requires nothing { source.reader.block.bytes ≡ [] }
     requires empty { target.block.bytes ≡ [] }
-    ensures ran { UnpackRan source.max source.reader.log result.1.reader.log target.log result.2.log result.0 }
-    ensures prompt { HoldsNothingBack (IsDue source.max) source.reader.log result.1.reader.log target.log result.2.log }
+    ensures ran { UnpackRan source.decoder.max source.reader.log result.1.reader.log target.log result.2.log result.0 }
+    ensures prompt { HoldsNothingBack (IsDue source.decoder.max) source.reader.log result.1.reader.log target.log result.2.log }
     ensures once { EndsOnce source.reader.log.reads result.1.reader.log.reads }
     ensures flushes { FlushesSend 1 target.log.writes result.2.log.writes }
 {

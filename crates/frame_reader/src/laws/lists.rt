@@ -1,8 +1,10 @@
 //! Payloads that are written and read again.
 ghost use Rattle.std.specs.Prelude.{◌≡◌, map, IfOk, IfErr, OnOk};
 ghost use Rattle.std.specs.List.{All};
+ghost use Rattle.buffer_redux.specs.Faults.{IsMemory};
+ghost use Rattle.codec.specs.WriteRuns.{IfFault, IsFault};
 ghost use Rattle.frame_reader.specs.Frames.{Fits};
-ghost use Rattle.frame_reader.specs.WriteFrame.{IsFault, IsWantOfMemory};
+ghost use Rattle.frame_reader.specs.WriteFrame.{piece_refused};
 
 use crate::error::WriteFrameError;
 use crate::frame::Frames;
@@ -17,8 +19,8 @@ pub fn round_trip(
 ) -> Result<Vec<Vec<u8>>, WriteFrameError>
     ensures same { IfOk result (λ kept. map (λ v. v.items) kept.items ≡ map (λ v. v.items) payloads.now) }
     ensures fit { OnOk result (All (Fits max) (map (λ v. v.items) payloads.now)) }
-    ensures fault { IfErr result (λ e. All (Fits max) (map (λ v. v.items) payloads.now) → IsFault e) }
-    ensures memory { IfErr result IsWantOfMemory }
+    ensures fault { IfErr result (λ e. All (Fits max) (map (λ v. v.items) payloads.now) → IsFault (piece_refused e)) }
+    ensures memory { IfErr result (λ e. IfFault IsMemory (piece_refused e)) }
 {
     match codec::laws::round_trip(alloc, Frames { max }, payloads) {
         Ok(kept) => Ok(kept),

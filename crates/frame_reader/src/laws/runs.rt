@@ -1,12 +1,19 @@
 //! Frames are payloads that are read and written in runs.
+ghost use Rattle.std.specs.Prelude.{map};
+ghost use Rattle.codec.specs.KnownPieces.{HasLeft};
+ghost use Rattle.codec.specs.Runs.{AnswerPlays, all_handed};
+ghost use Rattle.codec.specs.RunsLaws.{AnswerPlays-more, AnswerPlays-none};
+ghost use Rattle.codec.specs.WriteRuns.{IsFault, WritePlays};
+ghost use Rattle.codec.specs.WriteRunsLaws.{WritePlays-none, WritesPiece-fails, WritesPiece-takes};
 ghost use Rattle.frame_reader.specs.declared.error.FrameError.TheVariants.{Io};
+ghost use Rattle.frame_reader.specs.declared.frame.Frames.{Frames};
+ghost use Rattle.frame_reader.specs.Framed.{framed, framed_out};
+ghost use Rattle.frame_reader.specs.FramedLaws.{framed_writable};
 ghost use Rattle.frame_reader.specs.Frames.{Fits};
-ghost use Rattle.frame_reader.specs.KnownFrames.{LeavesFrames};
-ghost use Rattle.frame_reader.specs.KnownFramesLaws.{Next-answers};
-ghost use Rattle.frame_reader.specs.Next.{Next};
-ghost use Rattle.frame_reader.specs.Runs.{NextPlays, WritePlays};
-ghost use Rattle.frame_reader.specs.RunsLaws.{NextPlays-more, NextPlays-none, WritePlays-more, WritePlays-none, WritesFrame-fails, WritesFrame-takes};
-ghost use Rattle.frame_reader.specs.WriteFrame.{IsFault, WritesFrame};
+ghost use Rattle.frame_reader.specs.Next.{FramesWent, Next};
+ghost use Rattle.frame_reader.specs.NextLaws.{Next-answers, NextRuns-went};
+ghost use Rattle.frame_reader.specs.WriteFrame.{WritesFrame, piece_refused, piece_written};
+ghost use Rattle.frame_reader.specs.WriteFrameLaws.{WritesFrame-more};
 
 use crate::error::{FrameError, WriteFrameError};
 use crate::reader::FrameReader;
@@ -22,7 +29,7 @@ impl<R: TellRead> PayloadReader for FrameReader<R> {
 
     ghost goes = { Next R.remaining };
 
-    ghost plays = { NextPlays R.remaining };
+    ghost plays = { AnswerPlays (Next R.remaining) (λ s answers t. FramesWent R.remaining s (all_handed answers) t) };
 
     fn next_copied(
         &mut self,
@@ -35,13 +42,15 @@ impl<R: TellRead> PayloadReader for FrameReader<R> {
         }
     }
 
-    ghost plays_none = { NextPlays-none R.remaining };
+    ghost plays_none = { AnswerPlays-none (Next R.remaining)
+        (λ s answers t. FramesWent R.remaining s (all_handed answers) t) (NextRuns-went R.remaining) };
 
-    ghost plays_more = { NextPlays-more R.remaining };
+    ghost plays_more = { AnswerPlays-more (Next R.remaining)
+        (λ s answers t. FramesWent R.remaining s (all_handed answers) t) (NextRuns-went R.remaining) };
 }
 
 impl<R: TellRead> KnownReader for FrameReader<R> {
-    ghost has_left = { LeavesFrames R.remaining };
+    ghost has_left = { λ s. HasLeft R.remaining (framed s.decoder.max) s };
 
     ghost faults = { λ s. s.reader.log.reads.faults };
 
@@ -63,21 +72,24 @@ impl<W: TellWrite> PayloadWriter for FrameWriter<W> {
 
     ghost goes = { WritesFrame W.stretch };
 
-    ghost plays = { WritePlays W.stretch };
+    ghost plays = { λ s payloads answers.
+        WritePlays W.stretch (framed_out s.encoder.max) s payloads (map piece_written answers) };
 
-    ghost takes = { λ s. Fits s.max };
+    ghost takes = { λ s. Fits s.encoder.max };
 
-    ghost fault = { IsFault };
+    ghost fault = { λ e. IsFault (piece_refused e) };
 
     fn write_payload(&mut self, payload: &[u8]) -> Result<(), WriteFrameError> {
         self.write_frame(payload)
     }
 
-    ghost plays_none = { WritePlays-none W.stretch W.stretch_none };
+    ghost plays_none = { λ s. WritePlays-none W.stretch W.stretch_none (framed_out s.encoder.max) s };
 
-    ghost plays_more = { WritePlays-more W.stretch W.stretch_none W.stretch_joins };
+    ghost plays_more = { WritesFrame-more W.stretch W.stretch_none W.stretch_joins };
 
-    ghost still_takes = { WritesFrame-takes W.stretch };
+    ghost still_takes = { λ s payload answer.
+        WritesPiece-takes W.stretch (λ (d : Frames). framed_out d.max) s payload (piece_written answer) };
 
-    ghost fails_by_fault = { WritesFrame-fails W.stretch };
+    ghost fails_by_fault = { λ s payload why. WritesPiece-fails W.stretch (λ (d : Frames). framed_out d.max)
+        (λ d. framed_writable d.max) s payload (piece_refused why) };
 }

@@ -1,6 +1,11 @@
-use Rattle.frame_reader.specs.WriteFrameLaws.{FramesTaken-since}
+use Rattle.std.proofs.Common.{◌++◌, ◌∙◌, ap}
+use Rattle.codec.specs.WritePieceLaws.{PiecesTaken-since}
+use Rattle.frame_reader.specs.Framed.{framed_out}
+use Rattle.frame_reader.specs.FramedLaws.{coded_frames}
 use Rattle.frame_reader.proofs.laws.written_since_new.Goals as goal
 
 pub returns : goal.returns
-returns g c size max stream first payloads =
-    FramesTaken-since g.W.Tell.log g.W.TellWrite.stretch size max stream first c.args.writer.now payloads
+returns g c least stream first payloads unused taken =
+    PiecesTaken-since g.W.TellWrite.stretch (framed_out first.encoder.max) g.W.Tell.log least _ stream first.encoder first
+    c.args.writer.now payloads unused taken
+    ∙ ap (λ l. (g.W.Tell.log stream).writes.received ++ l) (coded_frames first.encoder.max payloads)

@@ -1,6 +1,7 @@
 use Rattle.std.proofs.Common.{◌∷◌, [], subst}
 use Rattle.std.proofs.lemmas.Result.{err_from_is_err_and}
-use Rattle.frame_reader.specs.WriteFrame.{FramesTaken}
+use Rattle.codec.specs.WritePiece.{PiecesTaken}
+use Rattle.frame_reader.specs.Framed.{framed_out}
 use Rattle.frames.proofs.PackingCalls.{held_lost, held_written}
 use Rattle.frames.proofs.packing.pass_held.Goals as goal
 
@@ -20,4 +21,5 @@ returns g c =
     let v = c.write_line.new.target in
     held_written g.R.TellRead.remaining g.W.TellWrite.stretch g.met.W.TellWrite.stretch_none s c.requires.ready v
     wrote.not_flushed wrote.flushes _ c.requires.held
-    (subst (λ l. FramesTaken g.W.TellWrite.stretch s.target (l ∷ []) v) c.lent.ensures wrote.taken) wrote.met
+    (subst (λ l. PiecesTaken g.W.TellWrite.stretch (framed_out s.target.encoder.max) s.target (l ∷ []) v) c.lent.ensures
+    wrote.taken) wrote.met

@@ -30,7 +30,7 @@ returns-clause-ran g c =
       c.into_inner_with_buffer-writer.ensures.log,
       ← made.log,
       ← c.in-Ok-buffered_writer.ensures.log,
-      ← made.max,
+      ← c.in-Ok.ensures.takes,
     )
     c.unpack_all-answer.ensures.ran
 
@@ -42,7 +42,7 @@ returns-clause-prompt g c =
       c.into_inner_with_buffer-writer.ensures.log,
       ← made.log,
       ← c.in-Ok-buffered_writer.ensures.log,
-      ← made.max,
+      ← c.in-Ok.ensures.takes,
     )
     c.unpack_all-answer.ensures.prompt
 

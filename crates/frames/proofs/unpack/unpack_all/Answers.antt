@@ -35,7 +35,7 @@ returns-in-Ok-clause-prompt g c =
     let rules = unpacking_rules {W = g.row.W.Denot} g.R.TellRead.remaining in
     let t = c.forward-answer.new.link in
     let goes = subst (λ k. Goes rules (IsPrompt rules k.filter) (last_flush c.forward-answer.result) k t) c.new-link.ensures c.forward-answer.ensures.goes in
-    subst (λ x. HoldsNothingBack (IsDue c.args.source.max) c.args.source.reader.log x.source.reader.log c.args.target.log
+    subst (λ x. HoldsNothingBack (IsDue c.args.source.decoder.max) c.args.source.reader.log x.source.reader.log c.args.target.log
     x.target.log) (sym c.into_inner-source.ensures) (Goes-holds rules _ t goes)
 
 pub returns-in-Err-clause-prompt : goal.returns-in-Err-clause-prompt
@@ -43,5 +43,5 @@ returns-in-Err-clause-prompt g c =
     let rules = unpacking_rules {W = g.row.W.Denot} g.R.TellRead.remaining in
     let t = c.forward-answer.new.link in
     let goes = subst (λ k. Goes rules (IsPrompt rules k.filter) (last_flush c.forward-answer.result) k t) c.new-link.ensures c.forward-answer.ensures.goes in
-    subst (λ x. HoldsNothingBack (IsDue c.args.source.max) c.args.source.reader.log x.source.reader.log c.args.target.log
+    subst (λ x. HoldsNothingBack (IsDue c.args.source.decoder.max) c.args.source.reader.log x.source.reader.log c.args.target.log
     x.target.log) (sym c.into_inner-source.ensures) (Goes-holds rules _ t goes)

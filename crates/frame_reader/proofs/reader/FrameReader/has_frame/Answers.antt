@@ -1,24 +1,31 @@
-use Rattle.std.proofs.Common.{◌∙◌, ap, arith, refl}
-use Rattle.frame_reader.specs.Framing.{rest}
-use Rattle.frame_reader.proofs.Pieces.{settled_piece, unsettled_more}
+use Rattle.std.proofs.Common.{◌∙◌, ap, inl, inr, refl, subst}
+use Rattle.codec.specs.declared.decoder.Found.TheVariants.{More, Piece, Wrong}
+use Rattle.codec.specs.GrammarLaws.{begins_of}
+use Rattle.codec.specs.Piecing.{rest}
+use Rattle.frame_reader.specs.Framed.{framed}
+use Rattle.frame_reader.specs.Next.{ReadsFrames}
+use Rattle.frame_reader.proofs.Pieces.{decoded, unsettled}
 use Rattle.frame_reader.proofs.reader.FrameReader.has_frame.Goals as goal
 
 pub returns-in-Piece-clause-settled : goal.returns-in-Piece-clause-settled
 returns-in-Piece-clause-settled g c =
     let s = c.args.self.now in
-    let same = ap (λ d. d.max) c.decoder.ensures ∙ ap (λ x. x.max) c.self.view_is in
-    let shown = c.rest.ensures.value ∙ ap rest c.self.view_is in (
-      λ _. settled_piece s.max c.decoder.result.now.max (rest s) c.rest.result.now same shown c.in-Piece.field-0
-          c.in-Piece.field-1 c.in-Piece.ensures,
-      λ _. refl,
-    )
+    let span = c.in-Piece.field-0 in
+    let used = c.in-Piece.field-1 in
+    let found = decoded s _ _ (c.decoder.ensures ∙ ap (λ x. x.decoder) c.self.view_is)
+    (c.rest.ensures.value ∙ ap rest c.self.view_is) (Piece span used) c.in-Piece.ensures in
+    (λ _. inr (inl (begins_of (framed s.decoder.max) (rest s) span used found)), λ _. refl)
 
 pub returns-in-More-clause-settled : goal.returns-in-More-clause-settled
 returns-in-More-clause-settled g c =
     let s = c.args.self.now in
-    let same = ap (λ d. d.max) c.decoder.ensures ∙ ap (λ x. x.max) c.self.view_is in
-    let shown = c.rest.ensures.value ∙ ap rest c.self.view_is in (
-      λ odd. cc,
-      λ settled. absurd (unsettled_more s.max c.decoder.result.now.max (rest s) c.rest.result.now same shown
-          (omega (arith, ap (λ d. d.max) c.decoder.ensures, c.self.invariant.word)) c.in-More.field-0 c.in-More.ensures settled),
-    )
+    let found = decoded s _ _ (c.decoder.ensures ∙ ap (λ x. x.decoder) c.self.view_is)
+    (c.rest.ensures.value ∙ ap rest c.self.view_is) (More c.in-More.field-0) c.in-More.ensures in
+    (λ odd. cc, λ settled. absurd (unsettled s c.in-More.field-0 (subst ReadsFrames c.self.view_is c.self.invariant) found settled))
+
+pub returns-in-Wrong-clause-settled : goal.returns-in-Wrong-clause-settled
+returns-in-Wrong-clause-settled g c =
+    let s = c.args.self.now in
+    let found = decoded s _ _ (c.decoder.ensures ∙ ap (λ x. x.decoder) c.self.view_is)
+    (c.rest.ensures.value ∙ ap rest c.self.view_is) (Wrong c.in-Wrong.field-0) c.in-Wrong.ensures in
+    (λ _. inr (inr (c.in-Wrong.field-0, found)), λ _. refl)

@@ -1,7 +1,10 @@
-use Rattle.std.proofs.Common.{Ok, Err, Some, refl, subst, sym}
+use Rattle.std.proofs.Common.{[], Ok, Err, Some, refl, subst, sym}
+use Rattle.std.proofs.lemmas.List.Elements.{All-head}
 use Rattle.std.proofs.lemmas.Result.{err_from_is_err_and}
-use Rattle.frame_reader.specs.Next.{Next, load_answer}
-use Rattle.frame_reader.specs.NextLaws.{Next-ready, Next-too_long}
+use Rattle.codec.specs.NextPiece.{load_answer}
+use Rattle.frame_reader.specs.Frames.{Fits}
+use Rattle.frame_reader.specs.Next.{Next}
+use Rattle.frame_reader.specs.NextLaws.{Next-ready, Next-too_long, Next-went}
 use Rattle.frame_reader.proofs.reader.FrameReader.next.Goals as goal
 
 pub returns-in_err-span : goal.returns-in_err-span
@@ -17,8 +20,8 @@ returns-in_err-span g c =
       record {
         after_borrow = tt;
         fits = tt;
-        ready = λ payload more fits front. (Next-ready remaining s (Err e) t fails payload more fits front).0;
-        too_long = λ len above front. (Next-too_long remaining s (Err e) t fails len above front).0;
+        ready = λ payload more fits front. (Next-ready remaining s t (Err e) fails payload more fits front).0;
+        too_long = λ len above front. (Next-too_long remaining s t (Err e) fails len above front).0;
       },
     )
 
@@ -33,8 +36,8 @@ returns-in-Some g c =
       (refl, (λ _. tt), lends),
       record {
         after_borrow = tt;
-        fits = lends.answers.0;
-        ready = λ payload more fits front. (Next-ready remaining s (Ok (Some found)) t lends payload more fits front).0;
-        too_long = λ len above front. (Next-too_long remaining s (Ok (Some found)) t lends len above front).0;
+        fits = All-head (Fits s.decoder.max) found [] (Next-went remaining s t (Ok (Some found)) lends).fit;
+        ready = λ payload more fits front. (Next-ready remaining s t (Ok (Some found)) lends payload more fits front).0;
+        too_long = λ len above front. (Next-too_long remaining s t (Ok (Some found)) lends len above front).0;
       },
     )

@@ -1,7 +1,8 @@
 use Rattle.std.proofs.Common.{Err, IfSome, Ok, ap, arith, length, subst}
 use Rattle.codec.specs.Decoding.{IsLent}
 use Rattle.frame_reader.specs.Framed.{framed}
-use Rattle.frame_reader.specs.Next.{Next, load_answer}
+use Rattle.codec.specs.NextPiece.{load_answer}
+use Rattle.frame_reader.specs.Next.{Next}
 use Rattle.frames.proofs.UnpackingCalls.{asked_behind, asked_cut, asked_idle, asked_long, asked_more, asked_none}
 use Rattle.frames.proofs.unpacking.UnpackingFilter.ask.Goals as goal
 
@@ -11,7 +12,7 @@ returns-in-Ok-Some g c =
     let s = c.args.self.now in
     let t = c.step.new.self in
     asked_more remaining s c.requires.ready c.requires.lacks t c.in-Ok-Some.span
-    (subst (λ found. IfSome found (IsLent (framed t.max) t.lent t.reader.block.bytes)) c.in-Ok-Some.field-0-is
+    (subst (λ found. IfSome found (IsLent (framed t.decoder.max) t.handed t.reader.block.bytes)) c.in-Ok-Some.field-0-is
     c.in-Ok-Some.ensures.lends)
     (subst (λ found. Next remaining s.source (load_answer (Ok found) t) t) c.in-Ok-Some.field-0-is c.in-Ok-Some.ensures.next)
 

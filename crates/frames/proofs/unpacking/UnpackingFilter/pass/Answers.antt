@@ -1,10 +1,10 @@
-use Rattle.std.proofs.Common.{Ok, false, subst, sym}
+use Rattle.std.proofs.Common.{subst}
+use Rattle.std.specs.Prelude.{option_copied}
 use Rattle.std.proofs.lemmas.Result.{err_from_is_err_and}
 use Rattle.buffer_redux.specs.BufWriter.{WritesInOrder}
-use Rattle.forward.specs.Filter.{Passes}
-use Rattle.frame_reader.specs.NextLaws.{NextBuffered-none, NextBuffered-some}
+use Rattle.codec.specs.NextPiece.{NextBuffered}
+use Rattle.frame_reader.specs.Framed.{framed}
 use Rattle.line_reader.specs.Lines.{with_end}
-use Rattle.frames.specs.Unpacking.{unpacking_rules}
 use Rattle.frames.proofs.UnpackingCalls.{held_lost, held_printed, lost, none_passed, not_held, printed}
 use Rattle.frames.proofs.unpacking.UnpackingFilter.pass.Goals as goal
 
@@ -32,7 +32,8 @@ returns-in_err-print_line-in-Some-next_buffered g c =
     let s = c.args.self.now in
     let t = c.next_buffered.follows.lender-at-none in
     let some = c.in-Some-next_buffered in
-    let took = NextBuffered-some _ s.source t _ _ some.is c.next_buffered.follows.holds-at-none in
+    let took = subst (λ r. NextBuffered remaining (framed s.source.decoder.max) s.source (option_copied r) t) some.is
+    c.next_buffered.follows.holds-at-none in
     let from = c.from_residual-in_err-print_line-in-Some-next_buffered in
     let p = err_from_is_err_and from.result from.ensures.1 in
     let wrote = c.in_err-print_line-in-Some-next_buffered.ensures in
@@ -47,7 +48,8 @@ returns-in_ok-print_line-in-Some-next_buffered g c =
     let s = c.args.self.now in
     let t = c.next_buffered.follows.lender-at-none in
     let some = c.in-Some-next_buffered in
-    let took = NextBuffered-some _ s.source t _ _ some.is c.next_buffered.follows.holds-at-none in
+    let took = subst (λ r. NextBuffered remaining (framed s.source.decoder.max) s.source (option_copied r) t) some.is
+    c.next_buffered.follows.holds-at-none in
     let wrote = c.in_ok-print_line-in-Some-next_buffered.ensures in
     let v = c.print_line-in-Some-next_buffered.new.target in
     printed remaining s c.requires v wrote.kind wrote.capacity wrote.not_flushed wrote.flushes
@@ -58,6 +60,6 @@ returns-in-None g c =
     let remaining = g.R.TellRead.remaining in
     let s = c.args.self.now in
     let t = c.next_buffered.follows.lender-at-none in
-    let same = (NextBuffered-none _ s.source t _ c.in-None.is c.next_buffered.follows.holds-at-none).0 in
-    subst (λ x. Passes (unpacking_rules remaining) s (Ok false) (record s { source = x })) (sym same)
-    (none_passed remaining s c.requires (not_held s.held c.in_default.not-Some))
+    let stays = subst (λ r. NextBuffered remaining (framed s.source.decoder.max) s.source (option_copied r) t) c.in-None.is
+    c.next_buffered.follows.holds-at-none in
+    none_passed remaining s c.requires (not_held s.held c.in_default.not-Some) t stays.0

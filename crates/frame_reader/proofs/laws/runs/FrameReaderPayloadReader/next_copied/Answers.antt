@@ -1,6 +1,7 @@
 use Rattle.std.proofs.Common.{Ok, Some, ap, subst, ◌∙◌}
 use Rattle.std.proofs.lemmas.Result.{err_from_is_err_and}
-use Rattle.frame_reader.specs.Next.{Next, answer_of}
+use Rattle.codec.specs.NextPiece.{answer_of}
+use Rattle.frame_reader.specs.Next.{Next}
 use Rattle.frame_reader.proofs.laws.runs.FrameReaderPayloadReader.next_copied.Goals as goal
 
 pub returns-in-Ok-None-clause-next : goal.returns-in-Ok-None-clause-next
