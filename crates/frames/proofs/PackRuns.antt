@@ -13,6 +13,8 @@ use Rattle.buffer_redux.specs.StreamLog.{StreamLog}
 use Rattle.buffer_redux.specs.WriterLaws.{WritesInOrder-fresh}
 use Rattle.redux_buffer.specs.declared.grow_error.GrowError.{GrowError}
 use Rattle.redux_buffer.specs.declared.grow_error.GrowError.TheVariants.{TooLarge, Memory}
+use Rattle.codec.specs.NextPiece.{PiecesWent}
+use Rattle.codec.specs.Piecing.{rest, room_for}
 use Rattle.forward.specs.Filter.{FilterRules}
 use Rattle.forward.specs.Forward.{ForwardAnswers, Forwarded, ForwardedFirst, StopsBy}
 use Rattle.forward.specs.declared.error.Cause.{Cause}
@@ -22,8 +24,6 @@ use Rattle.codec.specs.Piecing as pieces
 use Rattle.frame_reader.specs.Frames.{Fits, frames}
 use Rattle.frame_reader.specs.WriteFrameLaws.{PiecesTaken-frames}
 use Rattle.line_reader.specs.Lines.{BeginsTooLong, HasLines, IsLine, IsUnended, last_line, with_end, with_ends}
-use Rattle.line_reader.specs.Lining.{rest, room_for}
-use Rattle.line_reader.specs.NextLine.{LinesWent}
 use Rattle.programs.specs.Streams.{AllSent, GaveNothing}
 use Rattle.frames.specs.Ending.{IsErrorOf}
 use Rattle.frames.specs.Pack.{PackedFirst, PackedLines, PackRan}
@@ -86,13 +86,15 @@ front_of lines (first ∷ more) text has plain =
 
 -- from empty buffers on
 module _ {R W : Type 0} (remaining : R → Option (List ℕ)) (stretch : W → W → Type 0) (s t : Packing R W)
-    (none : s.source.reader.block.bytes ≡ []) (none' : unsent s.target ≡ []) (empty : s.held ≡ None)
-    (going : s.source.ended ≡ false) (most : s.source.max ≡ s.target.encoder.max) (ready : IsReady t) where
+    (none : s.source.pieces.reader.block.bytes ≡ []) (none' : unsent s.target ≡ []) (empty : s.held ≡ None)
+    (going : s.source.pieces.ended ≡ false) (most : s.source.pieces.decoder.max ≡ s.target.encoder.max) (ready : IsReady t) where
   abbrev rules : FilterRules (Packing R W) RunError
   rules = packing_rules remaining stretch
 
   abbrev Ran : Result (Unit {0}) RunError → Type 0
-  Ran answer = PackRan s.source.max s.source.reader.log t.source.reader.log s.target.writer.log t.target.writer.log answer
+  Ran answer =
+      PackRan s.source.pieces.decoder.max s.source.pieces.reader.log t.source.pieces.reader.log s.target.writer.log
+      t.target.writer.log answer
 
   received : (count : ℕ) (p : Forwarded rules count s t) → AllSent t.target.writer
       → t.target.writer.log.writes.received ≡ s.target.writer.log.writes.received ++ frames p.payloads
@@ -102,8 +104,9 @@ module _ {R W : Type 0} (remaining : R → Option (List ℕ)) (stretch : W → W
       ∙ WritesInOrder-fresh s.target.writer t.target.writer (frames p.payloads) none'
       (PiecesTaken-frames stretch s.target t.target p.payloads p.moves.takes)
 
-  ended_dry : (p : List (List ℕ)) → HandsLines remaining s p t → HasEnded s.source ⊎ GaveNothing s.source.reader.log t.source.reader.log
-      → GaveNothing s.source.reader.log t.source.reader.log
+  ended_dry : (p : List (List ℕ)) → HandsLines remaining s p t
+      → HasEnded s.source ⊎ GaveNothing s.source.pieces.reader.log t.source.pieces.reader.log
+      → GaveNothing s.source.pieces.reader.log t.source.pieces.reader.log
   ended_dry p hands (inl ended) = absurd (true≢false (sym ended ∙ going))
   ended_dry p hands (inr dry) = dry
 
@@ -116,10 +119,10 @@ module _ {R W : Type 0} (remaining : R → Option (List ℕ)) (stretch : W → W
           text = hands.bytes;
           lines = lines;
           has = subst (HasLines hands.bytes) all hands.has;
-          fit = subst (All (Fits s.source.max)) all hands.fit;
+          fit = subst (All (Fits s.source.pieces.decoder.max)) all hands.fit;
           given = lines_given remaining s.source t.source hands.bytes none hands.went
-              ∙ ap (λ l. s.source.reader.log.reads.given ++ (hands.bytes ++ l)) p.1.1.0
-              ∙ ap (λ l. s.source.reader.log.reads.given ++ l) (append-nil hands.bytes);
+              ∙ ap (λ l. s.source.pieces.reader.log.reads.given ++ (hands.bytes ++ l)) p.1.1.0
+              ∙ ap (λ l. s.source.pieces.reader.log.reads.given ++ l) (append-nil hands.bytes);
           ended = ended_dry lines hands p.1.1.1;
           received = received count p.0 p.2;
           flushed = p.2.flushed;
@@ -128,30 +131,33 @@ module _ {R W : Type 0} (remaining : R → Option (List ℕ)) (stretch : W → W
       )
 
   -- all that was handed out went over, and each line had its end
-  some_lines : (Such : List ℕ → Type 0) (count : ℕ) (p : Forwarded rules count s t) → t.held ≡ None → t.source.ended ≡ false
-      → AllSent t.target.writer → Such (rest t.source)
-      → PackedLines Such s.source.max s.source.reader.log t.source.reader.log s.target.writer.log t.target.writer.log
+  some_lines : (Such : List ℕ → Type 0) (count : ℕ) (p : Forwarded rules count s t) → t.held ≡ None
+      → t.source.pieces.ended ≡ false → AllSent t.target.writer → Such (rest t.source.pieces)
+      → PackedLines Such s.source.pieces.decoder.max s.source.pieces.reader.log t.source.pieces.reader.log
+      s.target.writer.log t.target.writer.log
   some_lines Such count p empty' open' sent such =
       let lines = p.payloads in
       let hands = p.moves.hands in
       let all = handed_all remaining s t lines hands empty empty' in
       let text : hands.bytes ≡ with_ends lines =
       ended_all hands.bytes hands.got hands.has (all_whole remaining s t lines hands open') ∙ ap with_ends all in
+      let most = 1 + s.source.pieces.decoder.max in
       record {
         lines = lines;
-        more = rest t.source;
+        more = rest t.source.pieces;
         plain = subst (All IsLine) all hands.has.plain;
-        fit = subst (All (Fits s.source.max)) all hands.fit;
+        fit = subst (All (Fits s.source.pieces.decoder.max)) all hands.fit;
         such = such;
         given = lines_given remaining s.source t.source (with_ends lines) none
-            (subst (λ l. LinesWent remaining s.source l t.source) text hands.went);
+            (subst (λ l. PiecesWent remaining most s.source.pieces l t.source.pieces) text hands.went);
         received = received count p sent;
         flushed = sent.flushed;
       }
 
   -- the first lines went over
   first : (count : ℕ) → ForwardedFirst rules count s t
-      → (ran : PackedFirst s.source.max s.source.reader.log t.source.reader.log s.target.writer.log t.target.writer.log)
+      → (ran : PackedFirst s.source.pieces.decoder.max s.source.pieces.reader.log t.source.pieces.reader.log
+      s.target.writer.log t.target.writer.log)
       × (length ran.lines ≡ count)
   first count p =
       let lines = p.payloads in
@@ -171,7 +177,7 @@ module _ {R W : Type 0} (remaining : R → Option (List ℕ)) (stretch : W → W
         record {
           text = front.front;
           lines = lines;
-          more = front.more ++ rest t.source;
+          more = front.more ++ rest t.source.pieces;
           unsent = unsent t.target;
           has = front.has;
           fit = subst (λ n. All (Fits n) lines) (sym most) p.moves.takes.fit;
@@ -180,14 +186,15 @@ module _ {R W : Type 0} (remaining : R → Option (List ℕ)) (stretch : W → W
             | inr whole ↦ elim hands.ends [
               | inl none_cut ↦ inl (whole.2 ∙ none_cut)
               | inr ended ↦ inr (
-                ap (λ l. l ++ rest t.source) whole.1 ∙ ready.whole.ended ended,
+                ap (λ l. l ++ rest t.source.pieces) whole.1 ∙ ready.whole.whole.ended ended,
                 ended_dry (lines ++ p.lost) hands (hands.dry ended),
               )
             ]
           ];
           given = lines_given remaining s.source t.source hands.bytes none hands.went
-              ∙ ap (λ l. s.source.reader.log.reads.given ++ (l ++ rest t.source)) front.equal
-              ∙ ap (λ l. s.source.reader.log.reads.given ++ l) (append_assoc front.front front.more (rest t.source));
+              ∙ ap (λ l. s.source.pieces.reader.log.reads.given ++ (l ++ rest t.source.pieces)) front.equal
+              ∙ ap (λ l. s.source.pieces.reader.log.reads.given ++ l)
+              (append_assoc front.front front.more (rest t.source.pieces));
           received = WritesInOrder-fresh s.target.writer t.target.writer (frames lines) none'
               (PiecesTaken-frames stretch s.target t.target p.payloads p.moves.takes);
         },
@@ -196,9 +203,9 @@ module _ {R W : Type 0} (remaining : R → Option (List ℕ)) (stretch : W → W
 
   wrong_ran : (count : ℕ) (why : RunError) → StopsBy rules count s (cause.Wrong why) t → Ran (Err why)
   wrong_ran count TooLong p =
-      let max = p.0.moves.hands.went.decoder in (
-        some_lines (BeginsTooLong s.source.max) count p.0 p.1.0 p.1.1.1 p.2
-            (subst (λ n. BeginsTooLong n (rest t.source)) max p.1.1.0),
+      let max = ap (λ d. d.max) p.0.moves.hands.went.decoder in (
+        some_lines (BeginsTooLong s.source.pieces.decoder.max) count p.0 p.1.0 p.1.1.1 p.2
+            (subst (λ n. BeginsTooLong n (rest t.source.pieces)) max p.1.1.0),
         p.3,
       )
   wrong_ran count Truncated p = absurd p.1.1
@@ -208,8 +215,9 @@ module _ {R W : Type 0} (remaining : R → Option (List ℕ)) (stretch : W → W
 
   read_ran : (count : ℕ) (e : Error) → StopsBy rules count s (cause.Read e) t → Ran (Err (Read e))
   read_ran count e p =
-      let max = p.0.moves.hands.went.decoder in
-      (some_lines (IsUnended s.source.max) count p.0 p.1.0 p.1.2 p.2 (subst (λ n. IsUnended n (rest t.source)) max p.1.1), p.3)
+      let max = ap (λ d. d.max) p.0.moves.hands.went.decoder in
+      let left = subst (λ n. IsUnended n (rest t.source.pieces)) max p.1.1 in
+      (some_lines (IsUnended s.source.pieces.decoder.max) count p.0 p.1.0 p.1.2 p.2 left, p.3)
 
   count_ran : (count : ℕ) (e : Error) → StopsBy rules count s cause.Count t → error_kind e ≡ Other → Ran (Err (Io e))
   count_ran count e p other =
@@ -234,7 +242,7 @@ module _ {R W : Type 0} (remaining : R → Option (List ℕ)) (stretch : W → W
 
 -- a buffer for lines this short is refused for want of memory alone
 pub only_memory : (most : ℕ) (refusal : GrowError) → most < 2 ^ 16
-    → FitsWithin {T = Unit {0}} (Err refusal) (room_for 8192 most) (2 ^ 62) → kind_of refusal ≡ OutOfMemory
+    → FitsWithin {T = Unit {0}} (Err refusal) (room_for 8192 (1 + most)) (2 ^ 62) → kind_of refusal ≡ OutOfMemory
 only_memory most Memory small within = refl
 only_memory most TooLarge small within = absurd (omega (arith, small, within))
 

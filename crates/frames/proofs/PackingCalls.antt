@@ -9,6 +9,10 @@ use Rattle.buffer_redux.specs.Faults.{MetInterrupts, SendErrorCaused}
 use Rattle.buffer_redux.specs.StreamLog.{StreamLog}
 use Rattle.codec.specs.Decoding.{IsLent}
 use Rattle.codec.specs.declared.decoder.Span.{Span}
+use Rattle.codec.specs.NextPiece.{PiecesWent, StaysLeft, empties}
+use Rattle.codec.specs.PiecesWentLaws.{PiecesWent-none}
+use Rattle.codec.specs.Piecing.{rest}
+use Rattle.codec.specs.StaysLeftLaws.{StaysLeft-went}
 use Rattle.forward.specs.Filter.{AskAnswers, Asks, FilterRules, FlushAnswers, Flushes, Gives, Passes}
 use Rattle.forward.specs.declared.error.AskError.{AskError}
 use Rattle.forward.specs.declared.error.AskError.TheVariants.{Wrong, Io, IoBehind}
@@ -19,10 +23,10 @@ use Rattle.codec.specs.WritePieceLaws.{PiecesTaken-none}
 use Rattle.frame_reader.specs.Framed.{framed_out}
 use Rattle.frame_reader.specs.WriteFrameLaws.{PiecesTaken-frames}
 use Rattle.frame_reader.specs.declared.frame.Frames.{Frames}
-use Rattle.line_reader.specs.Lines.{BeginsTooLong, HasLines, IsLine, IsUnended, last_line, with_end}
-use Rattle.line_reader.specs.Lining.{IsLining, Lining, lined, rest}
-use Rattle.line_reader.specs.LinesWentLaws.{LinesWent-none}
-use Rattle.line_reader.specs.NextLine.{LinesWent, NextAnswer, NextLine, empties}
+use Rattle.line_reader.specs.Lines.{BeginsTooLong, FitsLine, HasLines, IsLine, IsUnended, last_line, with_end}
+use Rattle.line_reader.specs.Lining.{IsLining, Lining, lined}
+use Rattle.line_reader.specs.NextLine.{NextAnswer}
+use Rattle.line_reader.specs.NextLineLaws.{IsHanded-fits, IsLining-open, IsPiecing-same, NextOpen, NextOpen-whole, NextPiece-long, open_unended, same_none}
 use Rattle.line_reader.specs.declared.error.LineError.TheVariants as NoLine
 use Rattle.programs.specs.FlushesLaws.{FlushesOnce-flush}
 use Rattle.programs.specs.PromptLaws.{WritesOn-grows, WritesOn-none, WritesOn-unflushed}
@@ -63,23 +67,26 @@ module _ {R W : Type 0} (remaining : R → Option (List ℕ)) (stretch : W → W
   Takes lines v = PiecesTaken stretch (framed_out s.target.encoder.max) s.target lines v
 
   -- the reader handed out a line
-  module _ (m : Lining R) (line : List ℕ) (next : NextLine remaining s.source (Ok (Some line)) m) where
-    going : s.source.ended ≡ false
-    going = open_line s.source.ended line next.told
+  module _ (m : Lining R) (line : List ℕ) (next : NextOpen remaining s.source (Ok (Some line)) m) where
+    going : s.source.pieces.ended ≡ false
+    going = open_line s.source.pieces.ended line (λ ended. same_none (Ok (Some line)) (next.0.told ended))
 
-    met_end : (A : Type 0) → MatchBool s.source.ended A (empties m.reader ≡ empties s.source.reader + 1)
-        → empties m.reader ≡ empties s.source.reader + 1
-    met_end A met = met_open A (empties m.reader ≡ empties s.source.reader + 1) s.source.ended going met
+    fits : FitsLine s.source.pieces.decoder.max line
+    fits = IsHanded-fits s.source.pieces.decoder.max s.source.pieces m.pieces line next.0.bytes next.0.answers.1
 
-    text : (has : HasLines next.piece.bytes (line ∷ [])) × ((has.last ≡ []) ⊎ HasEnded m)
-    text = elim next.answers.3 [
+    met_end : (A : Type 0) → MatchBool s.source.pieces.ended A (empties m.pieces.reader ≡ empties s.source.pieces.reader + 1)
+        → empties m.pieces.reader ≡ empties s.source.pieces.reader + 1
+    met_end A met = met_open A (empties m.pieces.reader ≡ empties s.source.pieces.reader + 1) s.source.pieces.ended going met
+
+    text : (has : HasLines next.0.bytes (line ∷ [])) × ((has.last ≡ []) ⊎ HasEnded m)
+    text = elim next.0.answers.1 [
       | inl ended ↦ (
         record {
           whole = line ∷ [];
           last = [];
-          bytes = ended.0 ∙ sym (append-nil (with_end line)) ∙ sym (append-nil (with_end line ++ []));
+          bytes = ended.0.equal ∙ sym (append-nil (with_end line)) ∙ sym (append-nil (with_end line ++ []));
           all = refl;
-          plain = All-cons IsLine line [] next.answers.0 (All-nil IsLine);
+          plain = All-cons IsLine line [] fits.plain (All-nil IsLine);
         },
         inl refl,
       )
@@ -87,29 +94,29 @@ module _ {R W : Type 0} (remaining : R → Option (List ℕ)) (stretch : W → W
         record {
           whole = [];
           last = line;
-          bytes = last.0;
-          all = last_line_some line last.1;
-          plain = All-cons IsLine line [] next.answers.0 (All-nil IsLine);
+          bytes = sym last.0;
+          all = last_line_some line (omega (arith, last.2, ap length last.0));
+          plain = All-cons IsLine line [] fits.plain (All-nil IsLine);
         },
-        inr last.3,
+        inr last.4,
       )
     ]
 
-    dry : HasEnded m → HasEnded s.source ⊎ RanDry s.source.reader m.reader
-    dry ended = elim next.answers.3 [
+    dry : HasEnded m → HasEnded s.source ⊎ RanDry s.source.pieces.reader m.pieces.reader
+    dry ended = elim next.0.answers.1 [
       | inl whole ↦ absurd (true≢false (sym ended ∙ whole.1))
-      | inr last ↦ inr (omega (arith, met_end _ last.4))
+      | inr last ↦ inr (omega (arith, met_end _ last.5))
     ]
 
     hands_line : (v : Outgoing W Frames) (h : Option Span) (lines : List (List ℕ))
         → held_of s ++ (line ∷ []) ≡ lines ++ held_at m h
         → HandsLines remaining s lines (record { source = m; target = v; held = h })
     hands_line v h lines order = record {
-      bytes = next.piece.bytes;
+      bytes = next.0.bytes;
       got = line ∷ [];
-      went = next.piece.went;
+      went = next.0.went;
       has = text.0;
-      fit = All-cons (Fits s.source.max) line [] next.answers.1 (All-nil (Fits s.source.max));
+      fit = All-cons (Fits s.source.pieces.decoder.max) line [] fits.fits (All-nil (Fits s.source.pieces.decoder.max));
       order = order;
       ends = text.1;
       dry = dry;
@@ -122,9 +129,9 @@ module _ {R W : Type 0} (remaining : R → Option (List ℕ)) (stretch : W → W
   still v h lines order = record {
     bytes = [];
     got = [];
-    went = LinesWent-none remaining s.source;
+    went = PiecesWent-none remaining _ s.source.pieces;
     has = all_ended [] (All-nil IsLine);
-    fit = All-nil (Fits s.source.max);
+    fit = All-nil (Fits s.source.pieces.decoder.max);
     order = append-nil (held_of s) ∙ order;
     ends = inl refl;
     dry = λ ended. inl ended;
@@ -134,7 +141,8 @@ module _ {R W : Type 0} (remaining : R → Option (List ℕ)) (stretch : W → W
   -- a line was taken in, or nothing of it was
   module _ (v : Outgoing W Frames) (same : v.writer.log.writes.flushed ≡ s.target.writer.log.writes.flushed)
       (steady : v.writer.log.writes.flushes ≡ s.target.writer.log.writes.flushes) where
-    line_written : (m : Lining R) (h : Option Span) → m.reader.log ≡ s.source.reader.log → m.max ≡ s.source.max → IsLining m
+    line_written : (m : Lining R) (h : Option Span) → m.pieces.reader.log ≡ s.source.pieces.reader.log
+        → m.pieces.decoder.max ≡ s.source.pieces.decoder.max → IsLining m
         → m.skipping ≡ false → (HasEnded s.source → HasEnded m) → CanShow m h → (line : List ℕ)
         → HandsLines remaining s (line ∷ []) (record { source = m; target = v; held = h })
         → Takes (line ∷ []) v → MetInterrupts s.target.writer.log.writes v.writer.log.writes
@@ -160,7 +168,8 @@ module _ {R W : Type 0} (remaining : R → Option (List ℕ)) (stretch : W → W
           );
         }
 
-    line_lost : (m : Lining R) → m.reader.log ≡ s.source.reader.log → m.max ≡ s.source.max → IsLining m
+    line_lost : (m : Lining R) → m.pieces.reader.log ≡ s.source.pieces.reader.log
+        → m.pieces.decoder.max ≡ s.source.pieces.decoder.max → IsLining m
         → m.skipping ≡ false → (HasEnded s.source → HasEnded m) → CanShow m s.held → (lost : List (List ℕ))
         → HandsLines remaining s lost (record s { source = m; target = v }) → Takes [] v → (e : Error)
         → SendErrorCaused s.target.writer.log.writes v.writer.log.writes e
@@ -189,7 +198,10 @@ module _ {R W : Type 0} (remaining : R → Option (List ℕ)) (stretch : W → W
         caused
 
     module _ (empty : s.held ≡ None) (m : Lining R) (line : List ℕ)
-        (took : NextLine remaining s.source (Ok (Some line)) m × (m.reader ≡ s.source.reader)) where
+        (took : NextOpen remaining s.source (Ok (Some line)) m × (m.pieces.reader ≡ s.source.pieces.reader)) where
+      whole : IsLining m
+      whole = NextOpen-whole remaining s.source m (Ok (Some line)) took.0
+
       shows : CanShow m s.held
       shows = subst (λ h. CanShow m h) (sym empty) tt
 
@@ -202,25 +214,39 @@ module _ {R W : Type 0} (remaining : R → Option (List ℕ)) (stretch : W → W
 
       pub written : Takes (line ∷ []) v → MetInterrupts s.target.writer.log.writes v.writer.log.writes
           → Passes rules s (Ok true) (record s { source = m; target = v })
-      written taken met = line_written m s.held (ap (λ r. r.log) took.1) took.0.piece.went.decoder took.0.whole took.0.open'
+      written taken met = line_written m s.held (ap (λ r. r.log) took.1) (ap (λ d. d.max) took.0.0.went.decoder) whole took.0.1
           ended shows line hands taken met
 
       pub lost : Takes [] v → (e : Error)
           → SendErrorCaused s.target.writer.log.writes v.writer.log.writes e
           → Passes rules s (Err e) (record s { source = m; target = v })
-      lost taken e caused = line_lost m (ap (λ r. r.log) took.1) took.0.piece.went.decoder took.0.whole took.0.open' ended shows
+      lost taken e caused =
+          line_lost m (ap (λ r. r.log) took.1) (ap (λ d. d.max) took.0.0.went.decoder) whole took.0.1 ended shows
           (line ∷ []) hands taken e caused
 
   -- none was there
-  pub none_passed : s.held ≡ None → Passes rules s (Ok false) s
-  none_passed empty = record {
-    told = refl;
-    ready = ready;
-    closed = λ closed. closed;
+  pub none_passed : s.held ≡ None → (m : Lining R) → StaysLeft (lined s.source.pieces.decoder.max) s.source.pieces m.pieces
+      → m.skipping ≡ s.source.skipping → Passes rules s (Ok false) (record s { source = m })
+  none_passed empty m stays same = record {
+    told = ap (λ x. x.reader.log) stays.same;
+    ready = record {
+      most = ap (λ x. x.decoder.max) stays.same ∙ ready.most;
+      whole = IsLining-open m (IsPiecing-same s.source.pieces m.pieces (ap (λ x. x.decoder) stays.same) stays.whole)
+          (same ∙ ready.open');
+      open' = same ∙ ready.open';
+      shows = subst (λ h. CanShow m h) (sym empty) tt;
+    };
+    closed = λ closed. ap (λ x. x.ended) stays.same ∙ closed;
     writes = WritesOn-none s.target.writer.log.writes;
     flushes = refl;
     answers = (
-      record { hands = still s.target s.held [] refl; takes = PiecesTaken-none stretch (framed_out s.target.encoder.max) none s.target },
+      record {
+        hands = hands_nothing remaining s (record s { source = m })
+            (StaysLeft-went remaining (lined s.source.pieces.decoder.max) s.source.pieces m.pieces stays)
+            (none_held remaining (record s { source = m }) empty ∙ sym (none_held remaining s empty))
+            (λ ended. sym (ap (λ x. x.ended) stays.same) ∙ ended) (λ ended. ap (λ x. x.ended) stays.same ∙ ended);
+        takes = PiecesTaken-none stretch (framed_out s.target.encoder.max) none s.target;
+      },
       MetInterrupts-none s.target.writer.log.writes,
       empty,
       λ has. has empty,
@@ -252,7 +278,7 @@ module _ {R W : Type 0} (remaining : R → Option (List ℕ)) (stretch : W → W
     }
 
   -- the end is known, and the reader isn't asked
-  pub asked_ended : s.held ≡ None → s.source.ended ≡ true → Asks rules s (Ok false) s
+  pub asked_ended : s.held ≡ None → s.source.pieces.ended ≡ true → Asks rules s (Ok false) s
   asked_ended empty ended = record {
     told = refl;
     ready = ready;
@@ -260,40 +286,40 @@ module _ {R W : Type 0} (remaining : R → Option (List ℕ)) (stretch : W → W
     sent = λ sent. sent;
     asks = inl refl;
     once = record { once = omega arith; quiet = λ closed. refl; closed = λ closed. closed };
-    answers = ((empty, (ready.whole.ended ended, inl ended, omega arith)), refl);
+    answers = ((empty, (ready.whole.whole.ended ended, inl ended, omega arith)), refl);
   }
 
   -- the reader was asked for the next
-  module _ (empty : s.held ≡ None) (going' : s.source.ended ≡ false) (m : Lining R) where
-    module _ (found : NextAnswer) (next : NextLine remaining s.source found m) where
-      more_faults : length s.source.reader.log.reads.faults ≤ length m.reader.log.reads.faults
-      more_faults = let grows = next.piece.went.grows.faults in
-          omega (arith, ap length grows.equal, length-append s.source.reader.log.reads.faults grows.more)
+  module _ (empty : s.held ≡ None) (going' : s.source.pieces.ended ≡ false) (m : Lining R) where
+    module _ (found : NextAnswer) (next : NextOpen remaining s.source found m) where
+      more_faults : length s.source.pieces.reader.log.reads.faults ≤ length m.pieces.reader.log.reads.faults
+      more_faults = let grows = next.0.went.grows.faults in
+          omega (arith, ap length grows.equal, length-append s.source.pieces.reader.log.reads.faults grows.more)
 
       asks_over : AsksReader s.source m
-      asks_over = elim next.asked [
+      asks_over = elim next.0.asked [
         | inl same ↦ inl same
         | inr over ↦ inr (record {
           going = over.not_ended;
           came = over.came;
           asked = record {
-            given = over.given ∙ ap (λ l. s.source.reader.log.reads.given ++ (over.came ++ l)) (sym over.latest);
+            given = over.given ∙ ap (λ l. s.source.pieces.reader.log.reads.given ++ (over.came ++ l)) (sym over.latest);
             asks = omega (arith, over.asks, more_faults);
           };
-          left = over.such;
+          left = open_unended s.source.pieces.decoder.max (rest s.source.pieces ++ over.came) over.such;
         })
       ]
 
       asked : (h : Option Span) → CanShow m h → HandsLines remaining s [] (record s { source = m; held = h })
-          → empties m.reader ≤ empties s.source.reader + 1
+          → empties m.pieces.reader ≤ empties s.source.pieces.reader + 1
           → (answer : Result Bool (AskError RunError)) → AskAnswers rules s answer (record s { source = m; held = h })
           → Asks rules s answer (record s { source = m; held = h })
       asked h shows hands once answer answers = record {
         told = refl;
         ready = record {
-          most = next.piece.went.decoder ∙ ready.most;
-          whole = next.whole;
-          open' = next.open';
+          most = ap (λ d. d.max) next.0.went.decoder ∙ ready.most;
+          whole = NextOpen-whole remaining s.source m found next;
+          open' = next.1;
           shows = shows;
         };
         moves = record { hands = hands; takes = PiecesTaken-none stretch (framed_out s.target.encoder.max) none s.target };
@@ -308,64 +334,72 @@ module _ {R W : Type 0} (remaining : R → Option (List ℕ)) (stretch : W → W
       }
 
       -- and handed out nothing
-      asked_nothing : next.piece.bytes ≡ [] → m.ended ≡ false → empties m.reader ≤ empties s.source.reader + 1
+      asked_nothing : next.0.bytes ≡ [] → m.pieces.ended ≡ false → empties m.pieces.reader ≤ empties s.source.pieces.reader + 1
           → (answer : Result Bool (AskError RunError)) → AskAnswers rules s answer (record s { source = m })
           → Asks rules s answer (record s { source = m })
       asked_nothing is open' once answer answers =
           asked s.held (subst (λ h. CanShow m h) (sym empty) tt)
-          (hands_nothing remaining s (record s { source = m }) (subst (λ l. LinesWent remaining s.source l m) is next.piece.went)
+          (hands_nothing remaining s (record s { source = m })
+          (subst (λ l. PiecesWent remaining (1 + s.source.pieces.decoder.max) s.source.pieces l m.pieces) is next.0.went)
           (none_held remaining (record s { source = m }) empty ∙ sym (none_held remaining s empty))
           (λ ended. absurd (true≢false (sym ended ∙ open'))) (λ ended. absurd (true≢false (sym ended ∙ going'))))
           once answer answers
 
-    pub asked_more : (span : Span) → IsLent (lined m.max) m.handed m.reader.block.bytes span
-        → NextLine remaining s.source (Ok (Some (shown m span))) m
+    pub asked_more : (span : Span) → IsLent (lined m.pieces.decoder.max) m.pieces.handed m.pieces.reader.block.bytes span
+        → NextOpen remaining s.source (Ok (Some (shown m span))) m
         → Asks rules s (Ok true) (record s { source = m; held = Some span })
     asked_more span lent next =
         let line = shown m span in
-        asked (Ok (Some line)) next (Some span) (lent, omega (arith, next.answers.1, next.piece.went.decoder))
+        asked (Ok (Some line)) next (Some span)
+        (lent, omega (arith, (fits m line next).fits, ap (λ d. d.max) next.0.went.decoder))
         (hands_line m line next s.target (Some span) [] (ap (λ l. l ++ line ∷ []) (none_held remaining s empty)))
-        (elim next.answers.3 [
+        (elim next.0.answers.1 [
           | inl whole ↦ omega (arith, whole.2)
-          | inr last ↦ omega (arith, met_end m line next _ last.4)
+          | inr last ↦ omega (arith, met_end m line next _ last.5)
         ])
         (Ok true) (
           λ is. (let no : Some span ≡ None = is in cc),
-          next.answers.2,
-          elim next.answers.3 [
+          next.0.answers.0,
+          elim next.0.answers.1 [
             | inl whole ↦ inl (record {
               zero_reads = whole.2;
-              give = omega (arith, next.piece.gave whole.2 next.answers.2, ap length next.answers.2);
+              give = omega (arith, next.0.gave whole.2 next.0.answers.0, ap length next.0.answers.0);
             })
-            | inr last ↦ inr last.3
+            | inr last ↦ inr last.4
           ],
         )
 
-    pub asked_none : NextLine remaining s.source (Ok None) m → Asks rules s (Ok false) (record s { source = m })
+    pub asked_none : NextOpen remaining s.source (Ok None) m → Asks rules s (Ok false) (record s { source = m })
     asked_none next =
-        let met = met_open _ (empties m.reader ≡ empties s.source.reader + 1) s.source.ended going' next.answers.4 in
-        asked_nothing (Ok None) next next.answers.0 next.answers.3 (omega (arith, met)) (Ok false)
-        ((empty, (next.answers.1, inr (omega (arith, met)), omega (arith, met))), next.answers.2)
+        let met = met_open _ (empties m.pieces.reader ≡ empties s.source.pieces.reader + 1) s.source.pieces.ended going'
+        next.0.answers.4 in
+        let a = next.0.answers in
+        asked_nothing (Ok None) next a.0 a.3 (omega (arith, met)) (Ok false)
+        ((empty, (a.1, inr (omega (arith, met)), omega (arith, met))), a.2)
 
-    pub asked_long : (n : ℕ) → NextLine remaining s.source (Err (NoLine.TooLong n)) m
+    pub asked_long : (n : ℕ) → NextOpen remaining s.source (Err (NoLine.TooLong n)) m
         → Asks rules s (Err (Wrong TooLong)) (record s { source = m })
     asked_long n next =
-        let a = next.answers in
-        asked_nothing (Err (NoLine.TooLong n)) next a.0 a.4 (omega (arith, a.5)) (Err (Wrong TooLong))
-        ((empty, (subst (λ k. BeginsTooLong k (rest m)) (sym next.piece.went.decoder) a.2, a.4)), a.3)
+        let a = next.0.answers in
+        let long = NextPiece-long remaining s.source.pieces.decoder.max s.source.pieces m.pieces (record { 0 = n }) next.0 in
+        asked_nothing (Err (NoLine.TooLong n)) next a.0 a.2 (omega (arith, long.1)) (Err (Wrong TooLong))
+        ((empty, (subst (λ d. BeginsTooLong d.max (rest m.pieces)) (sym next.0.went.decoder) long.0, a.2)), a.1)
 
-    module _ (e : Error) (next : NextLine remaining s.source (Err (NoLine.Io e)) m) where
-      waits : (s.held ≡ None) × IsUnended m.max (rest m) × (m.ended ≡ false)
+    module _ (e : Error) (next : NextOpen remaining s.source (Err (NoLine.Io e)) m) where
+      unended : IsUnended s.source.pieces.decoder.max (rest m.pieces)
+      unended = open_unended s.source.pieces.decoder.max (rest m.pieces) next.0.answers.1
+
+      waits : (s.held ≡ None) × IsUnended m.pieces.decoder.max (rest m.pieces) × (m.pieces.ended ≡ false)
       waits = (
         empty,
-        subst (λ k. IsUnended k (rest m)) (sym next.piece.went.decoder) next.answers.1,
-        next.answers.3,
+        subst (λ d. IsUnended d.max (rest m.pieces)) (sym next.0.went.decoder) unended,
+        next.0.answers.3,
       )
 
       gives : Gives rules s (record s { source = m })
       gives = record {
-        zero_reads = next.answers.4;
-        give = elim next.asked [
+        zero_reads = next.0.answers.4;
+        give = elim next.0.asked [
           | inl same ↦ omega (
             arith,
             ap (λ l. l.reads.asks) same,
@@ -376,30 +410,34 @@ module _ {R W : Type 0} (remaining : R → Option (List ℕ)) (stretch : W → W
             arith,
             over.asks,
             ap length over.given,
-            length-append s.source.reader.log.reads.given (over.came ++ over.last),
+            length-append s.source.pieces.reader.log.reads.given (over.came ++ over.last),
             length-append over.came over.last,
-            ap length next.answers.2,
-            length-append s.source.reader.log.reads.faults (e ∷ []),
+            ap length next.0.answers.2,
+            length-append s.source.pieces.reader.log.reads.faults (e ∷ []),
           )
         ];
       }
 
-      grew : length (rest s.source) ≤ length (rest m)
-      grew = let hands = next.piece.went.hands in
+      grew : length (rest s.source.pieces) ≤ length (rest m.pieces)
+      grew = let hands = next.0.went.hands in
           omega (
             arith,
-            ap length next.answers.0,
+            ap length next.0.answers.0,
             ap length hands.equal,
-            length-append next.piece.bytes (rest m),
-            length-append (rest s.source) hands.got,
+            length-append next.0.bytes (rest m.pieces),
+            length-append (rest s.source.pieces) hands.got,
           )
 
-      pub asked_idle : length (rest m) ≤ length (rest s.source) → Asks rules s (Err (Io e)) (record s { source = m })
+      pub asked_idle : length (rest m.pieces) ≤ length (rest s.source.pieces)
+          → Asks rules s (Err (Io e)) (record s { source = m })
       asked_idle idle =
-          asked_nothing (Err (NoLine.Io e)) next next.answers.0 next.answers.3 (omega (arith, next.answers.4)) (Err (Io e))
-          (waits, next.answers.2, inl gives, omega (arith, idle, grew, next.piece.went.decoder))
+          let a = next.0.answers in
+          asked_nothing (Err (NoLine.Io e)) next a.0 a.3 (omega (arith, a.4)) (Err (Io e))
+          (waits, a.2, inl gives, omega (arith, idle, grew, ap (λ d. d.max) next.0.went.decoder))
 
-      pub asked_behind : length (rest s.source) < length (rest m) → Asks rules s (Err (IoBehind e)) (record s { source = m })
+      pub asked_behind : length (rest s.source.pieces) < length (rest m.pieces)
+          → Asks rules s (Err (IoBehind e)) (record s { source = m })
       asked_behind came =
-          asked_nothing (Err (NoLine.Io e)) next next.answers.0 next.answers.3 (omega (arith, next.answers.4)) (Err (IoBehind e))
-          (waits, next.answers.2, inl gives, omega (arith, came, next.answers.1.fits, next.piece.went.decoder))
+          let a = next.0.answers in
+          asked_nothing (Err (NoLine.Io e)) next a.0 a.3 (omega (arith, a.4)) (Err (IoBehind e))
+          (waits, a.2, inl gives, omega (arith, came, unended.fits, ap (λ d. d.max) next.0.went.decoder))

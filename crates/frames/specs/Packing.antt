@@ -4,13 +4,14 @@ use Rattle.std.specs.List.{All}
 use Rattle.buffer_redux.specs.BufReader.{RanDry}
 use Rattle.codec.specs.Decoding.{IsLent, bytes_at}
 use Rattle.codec.specs.declared.decoder.Span.{Span}
+use Rattle.codec.specs.NextPiece.{PiecesWent, empties}
+use Rattle.codec.specs.Piecing.{rest}
 use Rattle.forward.specs.Filter.{FilterRules}
 use Rattle.frame_reader.specs.Frames.{Fits}
 use Rattle.codec.specs.WritePiece.{PiecesTaken}
 use Rattle.frame_reader.specs.Framed.{framed_out}
 use Rattle.line_reader.specs.Lines.{BeginsTooLong, HasLines, IsUnended}
-use Rattle.line_reader.specs.Lining.{IsLining, Lining, lined, rest}
-use Rattle.line_reader.specs.NextLine.{LinesWent, empties}
+use Rattle.line_reader.specs.Lining.{IsLining, Lining, lined}
 use Rattle.programs.specs.Prompt.{AskedLast}
 use Rattle.programs.specs.Streams.{AllSent}
 use Rattle.frames.specs.Pack.{IsDue}
@@ -20,7 +21,7 @@ use Rattle.frames.specs.declared.packing.Packing.{Packing}
 
 -- the line there
 abbrev pub shown : {R : Type 0} → Lining R → Span → List ℕ
-shown s span = bytes_at span s.reader.block.bytes
+shown s span = bytes_at span s.pieces.reader.block.bytes
 
 -- the line that is held, where one is
 abbrev pub held_at : {R : Type 0} → Lining R → Option Span → List (List ℕ)
@@ -29,7 +30,9 @@ held_at s None = []
 
 -- the reader lends it
 abbrev pub CanShow : {R : Type 0} → Lining R → Option Span → Type 0
-CanShow s (Some span) = IsLent (lined s.max) s.handed s.reader.block.bytes span × (length (shown s span) ≤ s.max)
+CanShow s (Some span) =
+    IsLent (lined s.pieces.decoder.max) s.pieces.handed s.pieces.reader.block.bytes span
+    × (length (shown s span) ≤ s.pieces.decoder.max)
 CanShow s None = Unit {0}
 
 abbrev pub held_of : {R W : Type 0} → Packing R W → List (List ℕ)
@@ -37,45 +40,46 @@ held_of s = held_at s.source s.held
 
 -- what each call of the filter wants
 pub record IsReady {R W : Type 0} (s : Packing R W) : Type 0 where
-  pub most : s.source.max ≡ s.target.encoder.max
+  pub most : s.source.pieces.decoder.max ≡ s.target.encoder.max
   pub whole : IsLining s.source
   pub open' : s.source.skipping ≡ false
   pub shows : CanShow s.source s.held
 
 -- the stream ended behind a last line without an end
 abbrev pub HasEnded : {R : Type 0} → Lining R → Type 0
-HasEnded s = s.ended ≡ true
+HasEnded s = s.pieces.ended ≡ true
 
 -- these lines are what was held, then what the reader handed out, but for what is held still. One without an end is the last
 pub record HandsLines {R W : Type 0} (remaining : R → Option (List ℕ)) (s : Packing R W) (lines : List (List ℕ))
     (t : Packing R W) : Type 0 where
   pub bytes : List ℕ
   pub got : List (List ℕ)
-  pub went : LinesWent remaining s.source bytes t.source
+  pub went : PiecesWent remaining (1 + s.source.pieces.decoder.max) s.source.pieces bytes t.source.pieces
   pub has : HasLines bytes got
-  pub fit : All (Fits s.source.max) got
+  pub fit : All (Fits s.source.pieces.decoder.max) got
   pub order : held_of s ++ got ≡ lines ++ held_of t
   pub ends : (has.last ≡ []) ⊎ HasEnded t.source
-  pub dry : HasEnded t.source → HasEnded s.source ⊎ RanDry s.source.reader t.source.reader
+  pub dry : HasEnded t.source → HasEnded s.source ⊎ RanDry s.source.pieces.reader t.source.pieces.reader
   pub behind : HasEnded s.source → (bytes ≡ []) × HasEnded t.source
 
 -- the reader was asked, also for the last time, only where what was left, then what had come, was less than a line, and it hadn't
 -- ended; and each ask but the last gave a byte, or failed
 pub record AskedOver {R : Type 0} (s t : Lining R) : Type 0 where
-  pub going : s.ended ≡ false
+  pub going : s.pieces.ended ≡ false
   pub came : List ℕ
-  pub asked : AskedLast came s.reader.log t.reader.log
-  pub left : IsUnended s.max (rest s ++ came)
+  pub asked : AskedLast came s.pieces.reader.log t.pieces.reader.log
+  pub left : IsUnended s.pieces.decoder.max (rest s.pieces ++ came)
 
 -- or it wasn't
 abbrev pub Asks : {R : Type 0} → Lining R → Lining R → Type 0
-Asks s t = (t.reader.log ≡ s.reader.log) ⊎ AskedOver s t
+Asks s t = (t.pieces.reader.log ≡ s.pieces.reader.log) ⊎ AskedOver s t
 
 -- how the lines end: nothing is left, and the reader gave no more; or one that is too long begins there
 abbrev pub LinesEnd : {R : Type 0} → Lining R → Result (Unit {0}) RunError → Lining R → Type 0
 LinesEnd s (Ok _) t =
-    (rest t ≡ []) × (HasEnded s ⊎ RanDry s.reader t.reader) × (empties s.reader ≤ empties t.reader)
-LinesEnd s (Err TooLong) t = BeginsTooLong t.max (rest t) × (t.ended ≡ false)
+    (rest t.pieces ≡ []) × (HasEnded s ⊎ RanDry s.pieces.reader t.pieces.reader)
+    × (empties s.pieces.reader ≤ empties t.pieces.reader)
+LinesEnd s (Err TooLong) t = BeginsTooLong t.pieces.decoder.max (rest t.pieces) × (t.pieces.ended ≡ false)
 LinesEnd s (Err Truncated) t = ⊥
 LinesEnd s (Err (Read e)) t = ⊥
 LinesEnd s (Err (Write e)) t = ⊥
@@ -83,20 +87,20 @@ LinesEnd s (Err (Io e)) t = ⊥
 
 abbrev pub packing_rules : {R W : Type 0} → (R → Option (List ℕ)) → (W → W → Type 0) → FilterRules (Packing R W) RunError
 packing_rules remaining stretch = record {
-  read = λ s. s.source.reader.log;
+  read = λ s. s.source.pieces.reader.log;
   written = λ s. s.target.writer.log;
   ready = λ s. IsReady s;
   hands = HandsLines remaining;
   takes = λ s lines t. PiecesTaken stretch (framed_out s.target.encoder.max) s.target lines t.target;
   has = λ s. ¬ (s.held ≡ None);
   lacks = λ s. s.held ≡ None;
-  waits = λ s. (s.held ≡ None) × IsUnended s.source.max (rest s.source) × (s.source.ended ≡ false);
+  waits = λ s. (s.held ≡ None) × IsUnended s.source.pieces.decoder.max (rest s.source.pieces) × (s.source.pieces.ended ≡ false);
   sent = λ s. AllSent s.target.writer;
   taken = λ s. length s.target.writer.log.writes.received + length s.target.writer.block.bytes;
   asks = λ s t. Asks s.source t.source;
-  wants = λ s. 1 + s.source.max - length (rest s.source);
+  wants = λ s. 1 + s.source.pieces.decoder.max - length (rest s.source.pieces);
   ends = λ s how t. (t.held ≡ None) × LinesEnd s.source how t.source;
   closed = λ s. HasEnded s.source;
-  fresh = λ s. (s.source.reader.block.bytes ≡ []) × (s.target.writer.block.bytes ≡ []) × (s.held ≡ None);
-  due = λ s. IsDue s.source.max;
+  fresh = λ s. (s.source.pieces.reader.block.bytes ≡ []) × (s.target.writer.block.bytes ≡ []) × (s.held ≡ None);
+  due = λ s. IsDue s.source.pieces.decoder.max;
 }

@@ -7,6 +7,9 @@ use Rattle.std.proofs.lemmas.List.Elements.{All-append, All-nil}
 use Rattle.std.specs.List.{All}
 use Rattle.buffer_redux.specs.GoesOn.{GoesOn, GoesOn-none}
 use Rattle.buffer_redux.specs.WriterLaws.{WritesInOrder-fresh}
+use Rattle.codec.specs.NextPiece.{PiecesWent}
+use Rattle.codec.specs.PiecesWentLaws.{PiecesWent-none}
+use Rattle.codec.specs.Piecing.{rest}
 use Rattle.forward.specs.Filter.{AsksSent, IsLawful, Moves, StaysOpen}
 use Rattle.frame_reader.specs.Frames.{Fits, frames}
 use Rattle.codec.specs.WritePiece.{PiecesTaken}
@@ -14,9 +17,8 @@ use Rattle.codec.specs.WritePieceLaws.{PiecesTaken-joins, PiecesTaken-none}
 use Rattle.frame_reader.specs.Framed.{framed_out}
 use Rattle.frame_reader.specs.WriteFrameLaws.{PiecesTaken-frames}
 use Rattle.line_reader.specs.Lines.{HasLines, IsLine, IsUnended, last_line, with_end, with_ends}
-use Rattle.line_reader.specs.Lining.{Lining, rest}
-use Rattle.line_reader.specs.LinesWentLaws.{LinesWent-joins, LinesWent-none}
-use Rattle.line_reader.specs.NextLine.{LinesWent}
+use Rattle.line_reader.specs.CallsLaws.{lines_join}
+use Rattle.line_reader.specs.Lining.{Lining}
 use Rattle.programs.specs.Prompt.{WasSent}
 use Rattle.programs.specs.PromptLaws.{AskedLast-after}
 use Rattle.programs.specs.Streams.{AllSent}
@@ -79,13 +81,13 @@ no_lines lines text has none = none_of has.whole has.last lines has.all (sym has
 
 -- from an empty buffer on, what was given is the lines that were handed out, and what is left
 pub lines_given : {R : Type 0} (remaining : R → Option (List ℕ)) (s t : Lining R) (bytes : List ℕ)
-    → s.reader.block.bytes ≡ [] → LinesWent remaining s bytes t
-    → t.reader.log.reads.given ≡ s.reader.log.reads.given ++ (bytes ++ rest t)
+    → s.pieces.reader.block.bytes ≡ [] → PiecesWent remaining (1 + s.pieces.decoder.max) s.pieces bytes t.pieces
+    → t.pieces.reader.log.reads.given ≡ s.pieces.reader.log.reads.given ++ (bytes ++ rest t.pieces)
 lines_given remaining s t bytes none went =
     let hands = went.hands in
     hands.given
-    ∙ ap (λ l. s.reader.log.reads.given ++ l)
-    (sym (hands.equal ∙ ap (λ l. l ++ hands.got) (ap (λ l. drop s.handed l) none ∙ drop-nil s.handed)))
+    ∙ ap (λ l. s.pieces.reader.log.reads.given ++ l)
+    (sym (hands.equal ∙ ap (λ l. l ++ hands.got) (ap (λ l. drop s.pieces.handed l) none ∙ drop-nil s.pieces.handed)))
 
 module _ {R W : Type 0} (remaining : R → Option (List ℕ)) where
   -- nothing is held where there is no place
@@ -99,7 +101,7 @@ module _ {R W : Type 0} (remaining : R → Option (List ℕ)) where
       sym (ap (λ l. l ++ hands.got) (none_held s none)) ∙ hands.order ∙ ap (λ l. p ++ l) (none_held t none') ∙ append-nil p
 
   -- where the stream has not ended, each line had its end
-  pub all_whole : (s t : Packing R W) (p : List (List ℕ)) (hands : HandsLines remaining s p t) → t.source.ended ≡ false
+  pub all_whole : (s t : Packing R W) (p : List (List ℕ)) (hands : HandsLines remaining s p t) → t.source.pieces.ended ≡ false
       → hands.has.last ≡ []
   all_whole s t p hands going = elim hands.ends [
     | inl none ↦ none
@@ -107,14 +109,15 @@ module _ {R W : Type 0} (remaining : R → Option (List ℕ)) where
   ]
 
   -- nothing was handed out
-  pub hands_nothing : (s t : Packing R W) → LinesWent remaining s.source [] t.source → held_of t ≡ held_of s
+  pub hands_nothing : (s t : Packing R W)
+      → PiecesWent remaining (1 + s.source.pieces.decoder.max) s.source.pieces [] t.source.pieces → held_of t ≡ held_of s
       → (HasEnded t.source → HasEnded s.source) → (HasEnded s.source → HasEnded t.source) → HandsLines remaining s [] t
   hands_nothing s t went held back on = record {
     bytes = [];
     got = [];
     went = went;
     has = all_ended [] (All-nil IsLine);
-    fit = All-nil (Fits s.source.max);
+    fit = All-nil (Fits s.source.pieces.decoder.max);
     order = append-nil (held_of s) ∙ sym held;
     ends = inl refl;
     dry = λ ended. inl (back ended);
@@ -122,7 +125,7 @@ module _ {R W : Type 0} (remaining : R → Option (List ℕ)) where
   }
 
   hands_none : (s : Packing R W) → HandsLines remaining s [] s
-  hands_none s = hands_nothing s s (LinesWent-none remaining s.source) refl (λ ended. ended) (λ ended. ended)
+  hands_none s = hands_nothing s s (PiecesWent-none remaining _ s.source.pieces) refl (λ ended. ended) (λ ended. ended)
 
   module _ (a b c : Packing R W) (p q : List (List ℕ)) (f : HandsLines remaining a p b) (g : HandsLines remaining b q c) where
     -- behind the end nothing more is handed out
@@ -144,9 +147,10 @@ module _ {R W : Type 0} (remaining : R → Option (List ℕ)) where
     hands_joins = record {
       bytes = f.bytes ++ g.bytes;
       got = f.got ++ g.got;
-      went = LinesWent-joins remaining a.source b.source c.source f.bytes g.bytes f.went g.went;
+      went = lines_join remaining a.source.pieces b.source.pieces c.source.pieces f.bytes g.bytes f.went g.went;
       has = text_joins.0;
-      fit = All-append (Fits a.source.max) f.got g.got f.fit (subst (λ n. All (Fits n) g.got) f.went.decoder g.fit);
+      fit = All-append (Fits a.source.pieces.decoder.max) f.got g.got f.fit
+          (subst (λ d. All (Fits d.max) g.got) f.went.decoder g.fit);
       order =
           sym (append_assoc (held_of a) f.got g.got) ∙ ap (λ l. l ++ g.got) f.order ∙ append_assoc p (held_of b) g.got
           ∙ ap (λ l. p ++ l) g.order ∙ sym (append_assoc p q (held_of c));
@@ -217,24 +221,25 @@ module _ {R W : Type 0} (remaining : R → Option (List ℕ)) where
     asks_sent first s t p fresh moves (inr closed) lacks sent (inr over) = absurd (true≢false (sym closed ∙ over.going))
     asks_sent first s t p fresh moves (inl gives) lacks sent (inr over) =
         let hands = moves.hands in
-        let left = rest s.source in
+        let left = rest s.source.pieces in
         let is : hands.bytes ≡ with_ends hands.got =
         ended_all hands.bytes hands.got hands.has (all_whole first s p hands over.going) in
         let all = handed_all first s p hands fresh.2 lacks in
         let text : hands.bytes ≡ with_ends p = is ∙ ap with_ends all in
-        let went = subst (λ l. LinesWent remaining first.source l s.source) text hands.went in
+        let most = 1 + first.source.pieces.decoder.max in
+        let went = subst (λ l. PiecesWent remaining most first.source.pieces l s.source.pieces) text hands.went in
         inr (record {
           before = (with_ends p ++ left) ++ over.came;
-          asked = AskedLast-after first.source.reader.log s.source.reader.log t.source.reader.log (with_ends p ++ left)
-              over.came (lines_given remaining first.source s.source (with_ends p) fresh.0 went) gives.give over.asked;
+          asked = AskedLast-after first.source.pieces.reader.log s.source.pieces.reader.log t.source.pieces.reader.log
+              (with_ends p ++ left) over.came (lines_given remaining first.source s.source (with_ends p) fresh.0 went) gives.give over.asked;
           due = frames p;
           is_due = record {
             lines = p;
             left = left ++ over.came;
             equal = append_assoc (with_ends p) left over.came;
             plain = subst (All IsLine) all hands.has.plain;
-            fit = subst (All (Fits first.source.max)) all hands.fit;
-            no_more = subst (λ n. IsUnended n (left ++ over.came)) went.decoder over.left;
+            fit = subst (All (Fits first.source.pieces.decoder.max)) all hands.fit;
+            no_more = subst (λ d. IsUnended d.max (left ++ over.came)) went.decoder over.left;
             frames_are = refl;
           };
           sent = subst (λ l. WasSent l s.target.writer.log.writes)

@@ -54,16 +54,16 @@ fn pack_all<R: TellRead, W: TellWrite>(
     source: LineReader<R>,
     target: FrameWriter<W>,
 ) -> (Result<(), RunError>, LineReader<R>, FrameWriter<W>)
-    requires most { source.max ≡ target.encoder.max }
+    requires most { source.pieces.decoder.max ≡ target.encoder.max }
     requires whole { IsLining source }
-    requires going { source.ended ≡ false }
+    requires going { source.pieces.ended ≡ false }
     requires open { source.skipping ≡ false }
-    requires nothing { source.reader.block.bytes ≡ [] }
+    requires nothing { source.pieces.reader.block.bytes ≡ [] }
     requires empty { unsent target ≡ [] }
-    ensures ran { PackRan source.max source.reader.log result.1.reader.log target.writer.log result.2.writer.log result.0 }
-    ensures prompt { HoldsNothingBack (IsDue source.max) source.reader.log result.1.reader.log
+    ensures ran { PackRan source.pieces.decoder.max source.pieces.reader.log result.1.pieces.reader.log target.writer.log result.2.writer.log result.0 }
+    ensures prompt { HoldsNothingBack (IsDue source.pieces.decoder.max) source.pieces.reader.log result.1.pieces.reader.log
         target.writer.log result.2.writer.log }
-    ensures once { EndsOnce source.reader.log.reads result.1.reader.log.reads }
+    ensures once { EndsOnce source.pieces.reader.log.reads result.1.pieces.reader.log.reads }
     ensures flushes { FlushesSend 1 target.writer.log.writes result.2.writer.log.writes }
 {
     let mut link = Link::new(Packing {

@@ -1,115 +1,242 @@
--- A line that is being skipped is skipped first.
-use Rattle.std.proofs.Common.{[], ◌≡◌, ℕ, ◌≤◌, List, ◌∷◌, ◌++◌, length, length-append, Bool, true, false, Option, Result, Ok, Err, Some, None, inl, inr, refl, sym, ap, subst, ◌∙◌, arith}
-use Rattle.std.specs.Prelude.{MatchBool, is_err, ◌⊎◌}
-use Rattle.std.specs.declared.io.Error.{Error}
+-- What a call of a reader of pieces comes to in a reader of lines.
+use Rattle.std.proofs.Common.{[], ◌≡◌, ℕ, ◌+◌, ◌<◌, ◌≤◌, List, ◌∷◌, ◌++◌, length, length-append, length-drop, take, true, false, Option, Ok, Err, Some, None, IfSome, inl, inr, refl, sym, ap, subst, ◌∙◌, arith, append_assoc}
+use Rattle.std.proofs.lemmas.Bool.{cases_lt}
+use Rattle.std.proofs.lemmas.List.{take-append-le}
+use Rattle.codec.specs.declared.decoder.Span.{Span}
+use Rattle.codec.specs.Decoding.{bytes_at}
+use Rattle.codec.specs.DelimitedLaws.{delimited_lawful}
+use Rattle.codec.specs.Grammar.{Begins, Lacks}
+use Rattle.codec.specs.GrammarLaws.{lacks_one}
+use Rattle.codec.specs.NextPiece as pieces
+use Rattle.codec.specs.NextPiece.{NextPiece, StaysLeft, buffered_answer, empties, load_answer}
+use Rattle.codec.specs.NextPieceLaws.{MetEnd-once, NextPiece-ready, NextPiece-refused, NextPiece-wrong}
+use Rattle.codec.specs.PiecesWentLaws.{PiecesWent-unasked, drop_none}
+use Rattle.codec.specs.Piecing.{IsPiecing, IsSettled, Piecing, Skips, rest}
+use Rattle.codec.specs.StaysLeftLaws.{StaysLeft-next}
 use Rattle.line_reader.specs.declared.error.LineError.TheVariants.{TooLong, Io}
-use Rattle.line_reader.specs.Lines.{newline, BeginsTooLong, IsLine}
-use Rattle.line_reader.specs.Lining.{Lining, IsLining, rest}
-use Rattle.line_reader.specs.NextLine.{NextAnswer, NextLine}
-use Rattle.line_reader.specs.NextLineLaws.{NextLine-ready, NextLine-too_long}
-use Rattle.line_reader.specs.SkipLine.{DropsThrough, NextGoes, SkipAnswers, SkipsFirst, SkipsLine, SkipsStill}
+use Rattle.line_reader.specs.declared.line.Lines.{Lines}
+use Rattle.line_reader.specs.Lines.{BeginsTooLong, IsLine, newline, with_end}
+use Rattle.line_reader.specs.LinesLaws.{line_or_end, take_plain}
+use Rattle.line_reader.specs.Lining.{IsLining, Lining, lined}
+use Rattle.line_reader.specs.NextLine.{NextAnswer, NextBuffered, NextLine, piece_answer}
+use Rattle.line_reader.specs.NextLineLaws.{IsHanded-fits, IsPiecing-same, NextLine-of, NextLine-open, NextOpen, NextOpen-whole, by_skipping, same_long, same_none, same_some}
 
-module _ {S : Type 0} (remaining : S → Option (List ℕ)) (s t : Lining S) (answer : NextAnswer) where
-  abbrev Either : Bool → Type 0
-  Either b = MatchBool b (SkipsFirst remaining s answer t ⊎ SkipsStill remaining s answer t) (NextLine remaining s answer t)
+-- where no line that fits stands there, the bytes are a part of one, or too long
+module _ (max : ℕ) (bytes : List ℕ) (none : ¬ (Begins (lined max) bytes)) where
+  pub lacks_more : length bytes ≤ max → Lacks (lined max) (1 + length bytes) bytes
+  lacks_more few = lacks_one (lined max) bytes (record {
+    no_piece = none;
+    not_wrong = λ e wrong. absurd (omega (arith, wrong.above, few));
+  })
 
-  pub goes_plain : s.skipping ≡ false → NextLine remaining s answer t → NextGoes remaining s answer t
-  goes_plain open' next = subst Either (sym open') next
+  long_plain : max < length bytes → IsLine (take (1 + max) bytes)
+  long_plain above = elim (line_or_end bytes) [
+    | inl plain ↦ take_plain (1 + max) bytes plain
+    | inr (line, more, plain, equal) ↦ elim (cases_lt max (length line)) [
+      | inl long ↦ subst (λ l. IsLine (take (1 + max) l)) (sym equal)
+          (subst IsLine (sym (take-append-le (1 + max) line (newline ∷ more) (omega (arith, long))))
+          (take_plain (1 + max) line plain))
+      | inr fits ↦ absurd (none (record {
+        piece = with_end line;
+        payload = line;
+        more = more;
+        is = record { plain = plain; fits = fits; equal = refl };
+        equal = equal ∙ sym (append_assoc line (newline ∷ []) more);
+      }))
+    ]
+  ]
 
-  pub plain_of : s.skipping ≡ false → NextGoes remaining s answer t → NextLine remaining s answer t
-  plain_of open' next = subst Either open' next
+module _ {S : Type 0} (f : Lining S) (whole : IsLining f) where
+  -- no line is being skipped where something is left, or an end that no call has told
+  open_where : (f.skipping ≡ true → ⊥) → f.skipping ≡ false
+  open_where never = elim f.skipping as (λ b. b ≡ f.skipping → b ≡ false) [
+    | true ↦ λ is. absurd (never (sym is))
+    | false ↦ λ _. refl
+  ] refl
 
-  pub goes_first : s.skipping ≡ true → SkipsFirst remaining s answer t → NextGoes remaining s answer t
-  goes_first is first = subst Either (sym is) (inl first)
+  pub open_left : 0 < length (rest f.pieces) → f.skipping ≡ false
+  open_left some = open_where (λ is. omega (arith, some, ap length (whole.skipped is)))
 
-  pub goes_still : s.skipping ≡ true → SkipsStill remaining s answer t → NextGoes remaining s answer t
-  goes_still is still = subst Either (sym is) (inr still)
+  pub settled_open : IsSettled (lined f.pieces.decoder.max) f.pieces → f.skipping ≡ false
+  settled_open (inl ended) = open_where (λ is. let odd : true ≡ false = sym ended ∙ whole.goes_on is in cc)
+  settled_open (inr (inl b)) = open_left (omega (
+    arith,
+    ap length b.equal,
+    length-append b.piece b.more,
+    (delimited_lawful newline f.pieces.decoder.max).some b.piece b.payload b.is,
+  ))
+  settled_open (inr (inr (e, wrong))) = open_left (omega (arith, wrong.above))
 
--- what is dropped through the end, by the state with the flag in it
-module _ {S : Type 0} (remaining : S → Option (List ℕ)) (s t : Lining S) (was is : Bool) where
-  abbrev before : Lining S
-  before = record s { skipping = was }
-
-  abbrev after : Lining S
-  after = record t { skipping = is }
-
-  answers_flagged : (answer : Result ℕ Error) (bytes : List ℕ) → SkipAnswers before answer bytes t
-      → SkipAnswers s answer bytes after
-  answers_flagged (Ok n) bytes a = a
-  answers_flagged (Err e) bytes a = a
-
-  pub skips_flagged : (answer : Result ℕ Error) → is ≡ is_err answer → DropsThrough remaining before answer t
-      → IsLining after → SkipsLine remaining s answer after
-  skips_flagged answer flag d whole = record {
-    drops = record {
-      bytes = d.bytes;
-      went = d.went;
-      answers = answers_flagged answer d.bytes d.answers;
-      asked = d.asked;
-      whole = whole;
-    };
-    skipping = flag;
+-- what is true of a reader of lines stays so
+module _ {S : Type 0} (f : Lining S) (t : Piecing S Lines) (whole : IsLining f) (decoder : t.decoder ≡ f.pieces.decoder)
+    (ended : t.ended ≡ f.pieces.ended) where
+  still_whole : IsPiecing (lined f.pieces.decoder.max) t → (rest f.pieces ≡ [] → rest t ≡ [])
+      → IsLining (record { pieces = t; skipping = f.skipping })
+  still_whole is none = record {
+    whole = IsPiecing-same f.pieces t decoder is;
+    skipped = λ skips. none (whole.skipped skips);
+    goes_on = λ skips. ended ∙ whole.goes_on skips;
   }
 
--- the flag may stand there where nothing is left, and the stream hasn't ended
-whole_flagged : {S : Type 0} (f : Lining S) (flag : Bool) → IsLining f → (flag ≡ true → rest f ≡ [])
-    → (flag ≡ true → f.ended ≡ false) → IsLining (record f { skipping = flag })
-whole_flagged f flag whole none going = record {
-  block = whole.block;
-  plain = whole.plain;
-  capacity = whole.capacity;
-  limit = whole.limit;
-  ahead = whole.ahead;
-  handed = whole.handed;
-  ended = whole.ended;
-  skipped = none;
-  goes_on = going;
-}
+-- where bytes are dropped, and where only more bytes were looked at
+module _ {S : Type 0} (f : Lining S) (t : Piecing S Lines) (whole : IsLining f) where
+  pub Skips-whole : (count : ℕ) → Skips (lined f.pieces.decoder.max) f.pieces count t
+      → IsLining (record { pieces = t; skipping = f.skipping })
+  Skips-whole count skips =
+      still_whole f t whole (ap (λ x. x.decoder) skips.same) (ap (λ x. x.ended) skips.same) skips.whole
+      (λ none. skips.left ∙ drop_none count (rest f.pieces) none)
 
--- the state is whole with the flag that the answer sets
-pub flag_whole : {S : Type 0} (remaining : S → Option (List ℕ)) (s t : Lining S) (answer : Result ℕ Error)
-    → DropsThrough remaining s answer t → IsLining (record t { skipping = is_err answer })
-flag_whole remaining s t (Ok n) d = whole_flagged t false d.whole (λ odd. cc) (λ odd. cc)
-flag_whole remaining s t (Err e) d = whole_flagged t true d.whole (λ _. d.answers.1) (λ _. d.answers.2)
+  pub StaysLeft-whole : StaysLeft (lined f.pieces.decoder.max) f.pieces t
+      → IsLining (record { pieces = t; skipping = f.skipping })
+  StaysLeft-whole stays =
+      still_whole f t whole (ap (λ x. x.decoder) stays.same) (ap (λ x. x.ended) stays.same) stays.whole
+      (λ none. ap (λ x. rest x) stays.same ∙ none)
 
--- what a call of `next` does, by whether a line is being skipped
-module _ {S : Type 0} (remaining : S → Option (List ℕ)) (s t : Lining S) (answer : NextAnswer)
-    (goes : NextGoes remaining s answer t) where
-  pub by_skipping : (P : Type 0) → (s.skipping ≡ false → NextLine remaining s answer t → P)
-      → (s.skipping ≡ true → SkipsFirst remaining s answer t ⊎ SkipsStill remaining s answer t → P) → P
-  by_skipping P plain skips = elim s.skipping as (λ b. b ≡ s.skipping → Either remaining s t answer b → P) [
-    | true ↦ λ is n. skips (sym is) n
-    | false ↦ λ is n. plain (sym is) n
-  ] refl goes
+module _ {S : Type 0} (remaining : S → Option (List ℕ)) where
+  -- a line that is too long is refused as it stands
+  pub NextLine-long : (s : Lining S) → IsLining s → s.skipping ≡ false → s.pieces.decoder.max < length (rest s.pieces)
+      → ¬ (Begins (lined s.pieces.decoder.max) (rest s.pieces))
+      → NextLine remaining s (Err (TooLong s.pieces.decoder.max)) s
+  NextLine-long s whole open' above none =
+      let max = s.pieces.decoder.max in
+      NextLine-of remaining s s (Err (TooLong max)) open' (
+        NextPiece-refused remaining (lined max) s.pieces whole.whole (omega (arith, above)) (record { 0 = max })
+            (record { above = above; plain = long_plain max (rest s.pieces) none above; told = refl }),
+        open',
+      )
 
-  module _ (whole : IsLining s) where
-    pub goes_ready : (line more : List ℕ) → IsLine line → length line ≤ s.max → rest s ≡ line ++ newline ∷ more
+  module _ (s : Lining S) (t : Piecing S Lines) (whole : IsLining s) where
+    -- where a line is handed out of what is buffered none is being skipped, and it isn't the last one
+    module _ (line : List ℕ) (next : NextPiece remaining (lined s.pieces.decoder.max) s.pieces (Ok (Some line)) t)
+        (same : t.reader ≡ s.pieces.reader) where
+      open_found : s.skipping ≡ false
+      open_found =
+          let all = PiecesWent-unasked remaining _ s.pieces t next.bytes next.went (ap (λ r. r.log) same) in
+          let some : 0 < length next.bytes = elim next.answers.1 [
+            | inl (is, going, none) ↦ omega (arith, ap length is.equal, length-append line (newline ∷ []))
+            | inr (last, part, some, none, ended, met) ↦ some
+          ] in
+          open_left s whole (omega (arith, some, ap length all, length-append next.bytes (rest t)))
+
+      going_found : t.ended ≡ false
+      going_found = elim next.answers.1 [
+        | inl (is, going, none) ↦ going
+        | inr (last, part, some, none, ended, met) ↦ absurd (elim s.pieces.ended as (λ b. b ≡ s.pieces.ended → ⊥) [
+          | true ↦ λ before. (let odd : Ok (Some line) ≡ Ok None = same_none (Ok (Some line)) (next.told (sym before)) in cc)
+          | false ↦ λ before. omega (arith, MetEnd-once s.pieces t (sym before) met, ap (λ r. empties r) same)
+        ] refl)
+      ]
+
+    abbrev after : Lining S
+    after = record { pieces = t; skipping = s.skipping }
+
+    -- by what `step_buffered` answers
+    pub NextBuffered-of : (found : Option Span)
+        → pieces.NextBuffered remaining (lined s.pieces.decoder.max) s.pieces (buffered_answer found t) t
+        → NextBuffered remaining s (buffered_answer found t) after
+    NextBuffered-of (Some span) (next, same) =
+        record { piece = (next, same); open' = open_found (bytes_at span t.reader.block.bytes) next same; skipping = refl }
+    NextBuffered-of None (stays, none) = record { piece = (stays, none); open' = tt; skipping = refl }
+
+    pub whole_buffered : (found : Option Span)
+        → pieces.NextBuffered remaining (lined s.pieces.decoder.max) s.pieces (buffered_answer found t) t → IsLining after
+    whole_buffered (Some span) (next, same) =
+        NextOpen-whole remaining s after (Ok (Some (bytes_at span t.reader.block.bytes)))
+        (next, open_found (bytes_at span t.reader.block.bytes) next same)
+    whole_buffered None (stays, none) = StaysLeft-whole s t whole stays
+
+    pub going_buffered : (found : Option Span)
+        → pieces.NextBuffered remaining (lined s.pieces.decoder.max) s.pieces (buffered_answer found t) t
+        → IfSome found (λ _. t.ended ≡ false)
+    going_buffered (Some span) (next, same) = going_found (bytes_at span t.reader.block.bytes) next same
+    going_buffered None stays = tt
+
+  -- what the line of pieces is that was handed out
+  pub piece_loaded : (s t : Piecing S Lines) (found : Option Span)
+      → NextPiece remaining (lined s.decoder.max) s (load_answer (Ok found) t) t
+      → NextPiece remaining (lined s.decoder.max) s (piece_answer (load_answer (Ok found) t)) t
+  piece_loaded s t (Some span) next = next
+  piece_loaded s t None next = next
+
+  -- a line that was buffered was handed out
+  pub NextLine-found : (s t : Lining S) (line : List ℕ) → NextBuffered remaining s (Some line) t
+      → NextLine remaining s (Ok (Some line)) t
+  NextLine-found s t line found =
+      NextLine-of remaining s t (Ok (Some line)) found.open' (found.piece.0, found.skipping ∙ found.open')
+
+  -- where nothing is left a look finds nothing
+  looked_none : (s m : Piecing S Lines) → IsPiecing (lined s.decoder.max) s → rest s ≡ []
+      → StaysLeft (lined s.decoder.max) s m → m ≡ s
+  looked_none s m whole none stays =
+      let left = length-drop s.handed s.reader.block.bytes in
+      let same : m.seen ≡ s.seen = omega (
+        arith,
+        whole.handed,
+        left,
+        ap length none,
+        stays.whole.handed,
+        ap (λ x. x.handed) stays.same,
+        ap (λ x. length x.reader.block.bytes) stays.same,
+      ) in
+      stays.same ∙ ap (λ n. record s { seen = n }) same
+
+  -- behind a look that found no line a call is what it would have been before
+  pub NextLine-looked : (s m t : Lining S) (answer : NextAnswer) → IsLining s → NextBuffered remaining s None m
+      → NextLine remaining m answer t → NextLine remaining s answer t
+  NextLine-looked s m t answer whole looked next = elim s.skipping as (λ b. b ≡ s.skipping → NextLine remaining s answer t) [
+    | true ↦ λ is.
+        let same = looked_none s.pieces m.pieces whole.whole (whole.skipped (sym is)) looked.piece.0 in
+        let all : m ≡ s =
+        ap (λ p. record m { pieces = p }) same ∙ ap (λ b. record s { skipping = b }) looked.skipping in
+        subst (λ x. NextLine remaining x answer t) all next
+    | false ↦ λ is.
+        let step = NextLine-open remaining m t answer (looked.skipping ∙ sym is) next in
+        let grammar = ap (λ x. x.decoder) looked.piece.0.same in
+        NextLine-of remaining s t answer (sym is) (
+          StaysLeft-next remaining (lined s.pieces.decoder.max) s.pieces m.pieces looked.piece.0 t.pieces (piece_answer answer)
+              (subst (λ d. NextPiece remaining (lined d.max) m.pieces (piece_answer answer) t.pieces) grammar step.0),
+          step.1,
+        )
+  ] refl
+
+  -- what each answer of `next` says
+  module _ (s t : Lining S) (answer : NextAnswer) (whole : IsLining s) (next : NextLine remaining s answer t) where
+    abbrev max : ℕ
+    max = s.pieces.decoder.max
+
+    -- where no line is being skipped
+    by_open : (P : Type 0) → (NextOpen remaining s answer t → P) → s.skipping ≡ false → P
+    by_open P then open' = then (NextLine-open remaining s t answer open' next)
+
+    pub NextLine-ready : (line more : List ℕ) → IsLine line → length line ≤ max → rest s.pieces ≡ line ++ newline ∷ more
         → answer ≡ Ok (Some line)
-    goes_ready line more plain fits front = by_skipping (answer ≡ Ok (Some line))
-        (λ open' next. (NextLine-ready remaining s answer t line more next plain fits front).0)
-        (λ is n. absurd (omega (
-          arith,
-          ap length front,
-          ap length (whole.skipped is),
-          length-append line (newline ∷ more),
-        )))
+    NextLine-ready line more plain fits front =
+        by_open (answer ≡ Ok (Some line))
+        (λ step. same_some answer line
+        (NextPiece-ready remaining (lined max) (delimited_lawful newline max) s.pieces (piece_answer answer) t.pieces step.0
+        (with_end line) line more (record { plain = plain; fits = fits; equal = refl })
+        (front ∙ sym (append_assoc line (newline ∷ []) more))).0)
+        (open_left s whole (omega (arith, ap length front, length-append line (newline ∷ more))))
 
-    pub goes_too_long : BeginsTooLong s.max (rest s) → answer ≡ Err (TooLong s.max)
-    goes_too_long long = by_skipping (answer ≡ Err (TooLong s.max))
-        (λ open' next. (NextLine-too_long remaining s answer t next long).0)
-        (λ is n. absurd (omega (arith, long.above, ap length (whole.skipped is))))
+    pub NextLine-too_long : BeginsTooLong max (rest s.pieces) → answer ≡ Err (TooLong max)
+    NextLine-too_long long =
+        by_open (answer ≡ Err (TooLong max))
+        (λ step. same_long answer (record { 0 = max })
+        (NextPiece-wrong remaining (lined max) (delimited_lawful newline max) s.pieces (piece_answer answer) t.pieces step.0
+        (record { 0 = max }) (record { above = long.above; plain = long.plain; told = refl })).0)
+        (open_left s whole (omega (arith, long.above)))
 
-    pub goes_told : s.ended ≡ true → answer ≡ Ok None
-    goes_told ended = by_skipping (answer ≡ Ok None)
-        (λ open' next. next.told ended)
-        (λ is n. (let odd : true ≡ false = sym ended ∙ whole.goes_on is in cc))
+    pub NextLine-told : s.pieces.ended ≡ true → answer ≡ Ok None
+    NextLine-told ended =
+        by_open (answer ≡ Ok None) (λ step. same_none answer (step.0.told ended)) (settled_open s whole (inl ended))
 
--- a line that is lent fits
-pub goes_fits : {S : Type 0} (remaining : S → Option (List ℕ)) (s t : Lining S) (line : List ℕ)
-    → NextGoes remaining s (Ok (Some line)) t → length line ≤ s.max
-goes_fits remaining s t line goes = by_skipping remaining s t (Ok (Some line)) goes (length line ≤ s.max)
-    (λ open' next. next.answers.1)
-    (λ is n. elim n [
-      | inl first ↦ omega (arith, first.next.answers.1, first.skips.drops.went.decoder)
-      | inr still ↦ (let odd : Ok (Some line) ≡ Err (Io still.error) = still.answers in cc)
-    ])
+  -- a line that is lent fits
+  pub NextLine-fits : (s t : Lining S) (line : List ℕ) → NextLine remaining s (Ok (Some line)) t
+      → length line ≤ s.pieces.decoder.max
+  NextLine-fits s t line = by_skipping remaining s t (Ok (Some line)) (length line ≤ s.pieces.decoder.max)
+      (λ open' next. fits s next)
+      (λ m count is skips next. omega (arith, fits m next, ap (λ d. d.max) skips.drops.went.decoder))
+      (λ e is skips fails. let odd : Ok (Some line) ≡ Err (Io e) = fails in cc)
+    where
+      fits : (m : Lining S) → NextOpen remaining m (Ok (Some line)) t → length line ≤ m.pieces.decoder.max
+      fits m next = (IsHanded-fits m.pieces.decoder.max m.pieces t.pieces line next.0.bytes next.0.answers.1).fits

@@ -1,8 +1,9 @@
 -- One step of a loop that plays calls.
 use Rattle.std.proofs.Common.{◌≡◌, ℕ, ◌+◌, ◌<◌, ◌≤◌, List, [], ◌∷◌, ◌++◌, length, map, take, drop, Option, inl, inr, sym, ap, ◌∙◌, get_or}
 use Rattle.std.proofs.lemmas.List.{drop_more, map-append, take_more, take-append-drop}
-use Rattle.line_reader.specs.Calls.{Call, CallsGo, call_lines}
-use Rattle.line_reader.specs.CallsWentLaws.{CallsGo-more}
+use Rattle.line_reader.specs.Calls.{Call, CallGoes, call_lines}
+use Rattle.codec.specs.Runs.{AnswerRuns}
+use Rattle.codec.specs.RunsLaws.{AnswerRuns-more}
 use Rattle.line_reader.specs.Lining.{Lining}
 use Rattle.line_reader.specs.Played.{CallMade, CallsStopped, asked}
 use Rattle.line_reader.specs.declared.laws.calls.Ask.{Ask}
@@ -16,7 +17,8 @@ parted_asks asks i other inside calls so_far =
 
 -- no further call was begun
 pub none_begun : {S : Type 0} (remaining : S → Option (List ℕ)) (s m : Lining S) (asks : List Ask) (i : ℕ) (other : Ask)
-    → i < length asks → (calls : List Call) → map asked calls ≡ take i asks → CallsGo remaining s calls m → (room : ℕ)
+    → i < length asks → (calls : List Call) → map asked calls ≡ take i asks → AnswerRuns (CallGoes remaining) s calls m
+    → (room : ℕ)
     (old new : List Call) → new ≡ old ++ calls → room ≤ length new → CallsStopped remaining s asks room old new m
 none_begun remaining s m asks i other inside calls so_far run room old new gained full = record {
   calls = calls;
@@ -29,15 +31,15 @@ none_begun remaining s m asks i other inside calls so_far run room old new gaine
 
 module _ {S : Type 0} (remaining : S → Option (List ℕ)) (s m t : Lining S) (asks : List Ask) (i : ℕ)
     (inside : i < length asks) (calls : List Call) (so_far : map asked calls ≡ take i asks)
-    (run : CallsGo remaining s calls m) (other : Ask) (call : Call)
+    (run : AnswerRuns (CallGoes remaining) s calls m) (other : Ask) (call : Call)
     (made : CallMade remaining m (get_or asks i other) call t) where
   pub asked_more : map asked (calls ++ call ∷ []) ≡ take (i + 1) asks
   asked_more =
       map-append asked calls (call ∷ []) ∙ ap (λ l. l ++ asked call ∷ []) so_far
       ∙ ap (λ a. take i asks ++ a ∷ []) made.asked ∙ sym (take_more asks i other inside)
 
-  pub run_more : CallsGo remaining s (calls ++ call ∷ []) t
-  run_more = CallsGo-more remaining s calls m call t run made.goes
+  pub run_more : AnswerRuns (CallGoes remaining) s (calls ++ call ∷ []) t
+  run_more = AnswerRuns-more (CallGoes remaining) s calls m call t run made.goes
 
   pub line_lost : (room : ℕ) (old new : List Call) → new ≡ old ++ calls → 0 < length (call_lines call)
       → CallsStopped remaining s asks room old new t

@@ -2,11 +2,13 @@
 use Rattle.std.specs.Prelude.{◌≡◌, ℕ, ◌+◌, ◌<◌, ◌≤◌, ◌⊎◌, List, [], ◌∷◌, ◌++◌, length, Bool, true, false, Option, None, Some, Result, Ok, Err}
 use Rattle.std.specs.List.{flat_map}
 use Rattle.std.specs.declared.io.Error.{Error}
-use Rattle.line_reader.specs.Lines.{IsLine, IsTrimmed, with_end}
-use Rattle.line_reader.specs.Lining.{Lining}
-use Rattle.line_reader.specs.NextLine.{LinesWent, NextAnswer}
+use Rattle.codec.specs.NextPiece.{PiecesWent}
 use Rattle.codec.specs.Runs.{handed_payload}
-use Rattle.line_reader.specs.SkipLine.{NextGoes, NextTrimmed, SkipsLine}
+use Rattle.codec.specs.Trimming.{IsTrimmed}
+use Rattle.line_reader.specs.Lines.{IsLine, with_end}
+use Rattle.line_reader.specs.Lining.{Lining}
+use Rattle.line_reader.specs.NextLine.{NextAnswer, NextLine, NextTrimmed}
+use Rattle.line_reader.specs.SkipLine.{SkipsLine}
 
 -- what calls come to: `next` handed a line out; `next_trimmed` did, and showed this of it; a line was skipped; or the end of
 -- the stream was told
@@ -24,10 +26,6 @@ EndNext ended (Trimmed shown ∷ events) = ⊥
 EndNext ended (Skipped line ∷ events) = ⊥
 EndNext ended (Ended ∷ events) = Unit {0}
 
--- these bytes begin with a line and its end, and then comes more
-abbrev pub WithEnd : List ℕ → List ℕ → List ℕ → Type 0
-WithEnd line bytes more = bytes ≡ with_end line ++ more
-
 -- these bytes begin with a line without an end, before an end of the stream
 abbrev pub WithoutEnd : Bool → List Event → List ℕ → List ℕ → List ℕ → Type 0
 WithoutEnd ended events line bytes more = (bytes ≡ line ++ more) × (0 < length line) × EndNext ended events
@@ -37,14 +35,15 @@ WithoutEnd ended events line bytes more = (bytes ≡ line ++ more) × (0 < lengt
 abbrev pub CutsInto : Bool → List Event → List ℕ → List ℕ → Type 0
 CutsInto ended [] after bytes = IsLine bytes × (bytes ≡ after)
 CutsInto ended (Handed line ∷ events) after bytes =
-    (more : List ℕ) × IsLine line × (WithEnd line bytes more ⊎ WithoutEnd ended events line bytes more)
+    (more : List ℕ) × IsLine line × ((bytes ≡ with_end line ++ more) ⊎ WithoutEnd ended events line bytes more)
     × CutsInto ended events after more
 CutsInto ended (Trimmed shown ∷ events) after bytes =
     (line : List ℕ) × (more : List ℕ) × IsLine line
-    × ((WithEnd line bytes more × IsTrimmed line shown) ⊎ (WithoutEnd ended events line bytes more × (shown ≡ line)))
+    × (((bytes ≡ with_end line ++ more) × IsTrimmed line shown)
+    ⊎ (WithoutEnd ended events line bytes more × (shown ≡ line)))
     × CutsInto ended events after more
 CutsInto ended (Skipped line ∷ events) after bytes =
-    (more : List ℕ) × IsLine line × (WithEnd line bytes more ⊎ WithoutEnd ended events line bytes more)
+    (more : List ℕ) × IsLine line × ((bytes ≡ with_end line ++ more) ⊎ WithoutEnd ended events line bytes more)
     × CutsInto ended events after more
 CutsInto ended (Ended ∷ events) after bytes = CutsInto ended events after bytes
 
@@ -54,10 +53,10 @@ CutsInto ended (Ended ∷ events) after bytes = CutsInto ended events after byte
 pub record LinesAlong {S : Type 0} (remaining : S → Option (List ℕ)) (before : List ℕ) (s : Lining S)
     (events : List Event) (after : List ℕ) (t : Lining S) : Type 0 where
   pub bytes : List ℕ
-  pub went : LinesWent remaining s bytes t
-  pub cut : CutsInto t.ended events after (before ++ bytes)
+  pub went : PiecesWent remaining (1 + s.pieces.decoder.max) s.pieces bytes t.pieces
+  pub cut : CutsInto t.pieces.ended events after (before ++ bytes)
   pub closed : t.skipping ≡ false → after ≡ []
-  pub told : s.ended ≡ true → EndNext t.ended events
+  pub told : s.pieces.ended ≡ true → EndNext t.pieces.ended events
 
 -- what an answer of `next`, or of `next_trimmed`, comes to where no line is being skipped
 abbrev pub next_events : NextAnswer → List Event
@@ -76,16 +75,11 @@ pub data Call : Type 0 where
   NextsTrimmed : NextAnswer → Call
   Skips : Result ℕ Error → Call
 
--- calls, one after another
+-- what it does
 abbrev pub CallGoes : {S : Type 0} → (S → Option (List ℕ)) → Lining S → Call → Lining S → Type 0
-CallGoes remaining s (Nexts answer) t = NextGoes remaining s answer t
+CallGoes remaining s (Nexts answer) t = NextLine remaining s answer t
 CallGoes remaining s (NextsTrimmed answer) t = NextTrimmed remaining s answer t
 CallGoes remaining s (Skips answer) t = SkipsLine remaining s answer t
-
-abbrev pub CallsGo : {S : Type 0} → (S → Option (List ℕ)) → Lining S → List Call → Lining S → Type 0
-CallsGo remaining s [] t = s ≡ t
-CallsGo {S} remaining s (call ∷ calls) t =
-    (m : Lining S) × CallGoes remaining s call m × CallsGo remaining m calls t
 
 -- the lines that they hand out
 abbrev pub call_lines : Call → List (List ℕ)

@@ -1,14 +1,19 @@
 -- Any calls hand out and skip whole lines of the stream: what they do joins, and what each of them does.
-use Rattle.std.specs.Prelude.{◌≡◌, ℕ, ◌<◌, List, [], ◌∷◌, ◌++◌, length, true, false, Bool, MatchBool, Option, None, Some, Result, Ok, Err}
+use Rattle.std.specs.Prelude.{◌+◌, ◌≡◌, ℕ, ◌<◌, List, [], ◌∷◌, ◌++◌, length, true, false, Bool, MatchBool, Option, None, Some, Result, Ok, Err}
 use Rattle.std.proofs.Common.{sym, ap, subst, ◌∙◌, arith, refl, inl, inr, append-nil, append_assoc, length-append}
 use Rattle.std.proofs.lemmas.List.Elements.{All-nil, All-append}
 use Rattle.std.specs.declared.io.Error.{Error}
+use Rattle.codec.specs.NextPiece.{PiecesWent}
+use Rattle.codec.specs.PiecesWentLaws.{PiecesWent-joins, PiecesWent-none, PiecesWent-unasked}
+use Rattle.codec.specs.Piecing.{Piecing, rest}
+use Rattle.codec.specs.Trimming.{IsTrimmed}
 use Rattle.line_reader.specs.declared.error.LineError.TheVariants.{TooLong, Io}
 use Rattle.line_reader.specs.Calls.{Handed, Trimmed, Skipped, Ended, Event, LinesAlong, CutsInto, EndNext, next_events, trimmed_events}
-use Rattle.line_reader.specs.Lines.{IsLine, IsTrimmed, newline, with_end}
-use Rattle.line_reader.specs.Lining.{Lining, rest}
-use Rattle.line_reader.specs.LinesWentLaws.{LinesWent-joins, LinesWent-none, LinesWent-unasked}
-use Rattle.line_reader.specs.NextLine.{NextAnswer, NextLine, Trims}
+use Rattle.line_reader.specs.declared.line.Lines.{Lines}
+use Rattle.line_reader.specs.Lines.{IsLine, newline, with_end}
+use Rattle.line_reader.specs.Lining.{Lining}
+use Rattle.line_reader.specs.NextLine.{NextAnswer, Trims}
+use Rattle.line_reader.specs.NextLineLaws.{IsHanded-fits, NextOpen, same_none}
 use Rattle.line_reader.specs.SkipLine.{IsWithEnd, SkipsLine}
 
 abbrev isnt_end : ℕ → Type 0
@@ -71,11 +76,17 @@ module _ (was is : Bool) (later : List Event) (told : was ≡ true → EndNext i
     cuts_join (Ended ∷ events) bytes cut = cuts_join events bytes cut
 
 module _ {S : Type 0} (remaining : S → Option (List ℕ)) where
+  -- calls join, since the lines stay as long
+  pub lines_join : (s m t : Piecing S Lines) (h k : List ℕ) → PiecesWent remaining (1 + s.decoder.max) s h m
+      → PiecesWent remaining (1 + m.decoder.max) m k t → PiecesWent remaining (1 + s.decoder.max) s (h ++ k) t
+  lines_join s m t h k p q = PiecesWent-joins remaining (1 + s.decoder.max) s m t h k p
+      (subst (λ d. PiecesWent remaining (1 + d.max) m k t) p.decoder q)
+
   -- no call does nothing
   pub LinesAlong-none : (s : Lining S) → LinesAlong remaining [] s [] [] s
   LinesAlong-none s = record {
     bytes = [];
-    went = LinesWent-none remaining s;
+    went = PiecesWent-none remaining (1 + s.pieces.decoder.max) s.pieces;
     cut = (no_line, refl);
     closed = λ open'. refl;
     told = λ ended. ended;
@@ -86,75 +97,76 @@ module _ {S : Type 0} (remaining : S → Option (List ℕ)) where
       → LinesAlong remaining before s (first ++ later) after t
   LinesAlong-joins s m t before mid after first later p q = record {
     bytes = p.bytes ++ q.bytes;
-    went = LinesWent-joins remaining s m t p.bytes q.bytes p.went q.went;
-    cut = subst (CutsInto t.ended (first ++ later) after) (append_assoc before p.bytes q.bytes)
-        (cuts_join m.ended t.ended later q.told mid after q.bytes q.cut first (before ++ p.bytes) p.cut);
+    went = lines_join s.pieces m.pieces t.pieces p.bytes q.bytes p.went q.went;
+    cut = subst (CutsInto t.pieces.ended (first ++ later) after) (append_assoc before p.bytes q.bytes)
+        (cuts_join m.pieces.ended t.pieces.ended later q.told mid after q.bytes q.cut first (before ++ p.bytes) p.cut);
     closed = q.closed;
-    told = λ ended. end_joins m.ended t.ended later q.told first (p.told ended);
+    told = λ ended. end_joins m.pieces.ended t.pieces.ended later q.told first (p.told ended);
   }
 
 -- a call of `next` where no line is being skipped
 module _ {S : Type 0} (remaining : S → Option (List ℕ)) (s t : Lining S) where
-  nothing : (answer : NextAnswer) (n : NextLine remaining s answer t) → n.piece.bytes ≡ [] → ¬ (answer ≡ Ok None)
+  nothing : (answer : NextAnswer) (n : NextOpen remaining s answer t) → n.0.bytes ≡ [] → ¬ (answer ≡ Ok None)
       → LinesAlong remaining [] s [] [] t
   nothing answer n none isnt = record {
-    bytes = n.piece.bytes;
-    went = n.piece.went;
+    bytes = n.0.bytes;
+    went = n.0.went;
     cut = (subst IsLine (sym none) no_line, none);
     closed = λ open'. refl;
-    told = λ ended. absurd (isnt (n.told ended));
+    told = λ ended. absurd (isnt (same_none answer (n.0.told ended)));
   }
 
-  pub NextLine-along : (answer : NextAnswer) → NextLine remaining s answer t
+  pub NextLine-along : (answer : NextAnswer) → NextOpen remaining s answer t
       → LinesAlong remaining [] s (next_events answer) [] t
   NextLine-along (Ok (Some line)) n = record {
-    bytes = n.piece.bytes;
-    went = n.piece.went;
+    bytes = n.0.bytes;
+    went = n.0.went;
     cut = (
       [],
-      n.answers.0,
-      elim n.answers.3 [
-        | inl (is, open', none) ↦ inl (is ∙ sym (append-nil (with_end line)))
-        | inr (is, some, none, ended, met) ↦ inr (is ∙ sym (append-nil line), some, ended)
+      (IsHanded-fits s.pieces.decoder.max s.pieces t.pieces line n.0.bytes n.0.answers.1).plain,
+      elim n.0.answers.1 [
+        | inl (is, going, none) ↦ inl (is.equal ∙ sym (append-nil (with_end line)))
+        | inr (is, part, some, none, ended, met) ↦
+            inr (sym is ∙ sym (append-nil line), omega (arith, some, ap length is), ended)
       ],
       (no_line, refl),
     );
     closed = λ open'. refl;
-    told = λ ended. (let odd : Ok (Some line) ≡ Ok None = n.told ended in cc);
+    told = λ ended. (let odd : Ok (Some line) ≡ Ok None = same_none (Ok (Some line)) (n.0.told ended) in cc);
   }
   NextLine-along (Ok None) n = record {
-    bytes = n.piece.bytes;
-    went = n.piece.went;
-    cut = (subst IsLine (sym n.answers.0) no_line, n.answers.0);
+    bytes = n.0.bytes;
+    went = n.0.went;
+    cut = (subst IsLine (sym n.0.answers.0) no_line, n.0.answers.0);
     closed = λ open'. refl;
     told = λ ended. tt;
   }
   NextLine-along (Err (TooLong most)) n =
-      nothing (Err (TooLong most)) n n.answers.0 (λ is. (let odd : Err (TooLong most) ≡ Ok None = is in cc))
+      nothing (Err (TooLong most)) n n.0.answers.0 (λ is. (let odd : Err (TooLong most) ≡ Ok None = is in cc))
   NextLine-along (Err (Io e)) n =
-      nothing (Err (Io e)) n n.answers.0 (λ is. (let odd : Err (Io e) ≡ Ok None = is in cc))
+      nothing (Err (Io e)) n n.0.answers.0 (λ is. (let odd : Err (Io e) ≡ Ok None = is in cc))
 
   -- a call of `next_trimmed` where no line is being skipped
-  pub Trims-along : (whole answer : NextAnswer) → NextLine remaining s whole t → Trims whole answer t
+  pub Trims-along : (whole answer : NextAnswer) → NextOpen remaining s whole t → Trims whole answer t.pieces.ended
       → LinesAlong remaining [] s (trimmed_events answer) [] t
   Trims-along (Ok (Some line)) (Ok (Some shown)) n trims =
       let Shows : Bool → Type 0 = λ b. MatchBool b (shown ≡ line) (IsTrimmed line shown) in
       record {
-        bytes = n.piece.bytes;
-        went = n.piece.went;
+        bytes = n.0.bytes;
+        went = n.0.went;
         cut = (
           line,
           [],
-          n.answers.0,
-          elim n.answers.3 [
-            | inl (is, open', none) ↦ inl (is ∙ sym (append-nil (with_end line)), subst Shows open' trims)
-            | inr (is, some, none, ended, met) ↦
-                inr ((is ∙ sym (append-nil line), some, ended), subst Shows ended trims)
+          (IsHanded-fits s.pieces.decoder.max s.pieces t.pieces line n.0.bytes n.0.answers.1).plain,
+          elim n.0.answers.1 [
+            | inl (is, going, none) ↦ inl (is.equal ∙ sym (append-nil (with_end line)), subst Shows going trims)
+            | inr (is, part, some, none, ended, met) ↦
+                inr ((sym is ∙ sym (append-nil line), omega (arith, some, ap length is), ended), subst Shows ended trims)
           ],
           (no_line, refl),
         );
         closed = λ open'. refl;
-        told = λ ended. (let odd : Ok (Some line) ≡ Ok None = n.told ended in cc);
+        told = λ ended. (let odd : Ok (Some line) ≡ Ok None = same_none (Ok (Some line)) (n.0.told ended) in cc);
       }
   Trims-along (Ok (Some line)) (Ok None) n trims = absurd trims
   Trims-along (Ok (Some line)) (Err e) n trims = absurd trims
@@ -165,20 +177,21 @@ module _ {S : Type 0} (remaining : S → Option (List ℕ)) (s t : Lining S) whe
 
 -- a call of `skip_line`, or the part of another call that goes on skipping, behind so many bytes of the line
 module _ {S : Type 0} (remaining : S → Option (List ℕ)) (s t : Lining S) (before : List ℕ) (plain : IsLine before)
-    (closed : s.skipping ≡ false → before ≡ []) (empty : s.ended ≡ true → (rest s ≡ []) × (s.skipping ≡ false)) where
+    (closed : s.skipping ≡ false → before ≡ [])
+    (empty : s.pieces.ended ≡ true → (rest s.pieces ≡ []) × (s.skipping ≡ false)) where
   -- behind the end of the stream nothing is dropped
-  unasked : (answer : Result ℕ Error) (k : SkipsLine remaining s answer t) → s.ended ≡ true
-      → (k.drops.bytes ≡ []) × (t.reader.log ≡ s.reader.log)
+  unasked : (answer : Result ℕ Error) (k : SkipsLine remaining s answer t) → s.pieces.ended ≡ true
+      → (k.drops.bytes ≡ []) × (t.pieces.reader.log ≡ s.pieces.reader.log)
   unasked answer k ended =
-      let told : t.reader.log ≡ s.reader.log = elim k.drops.asked [
+      let told : t.pieces.reader.log ≡ s.pieces.reader.log = elim k.drops.asked [
         | inl same ↦ same
         | inr over ↦ (let odd : true ≡ false = sym ended ∙ over.not_ended in cc)
       ] in
-      let same = LinesWent-unasked remaining s t k.drops.bytes k.drops.went told ∙ (empty ended).0 in
-      (nil_front k.drops.bytes (rest t) same, told)
+      let same = PiecesWent-unasked remaining _ s.pieces t.pieces k.drops.bytes k.drops.went told ∙ (empty ended).0 in
+      (nil_front k.drops.bytes (rest t.pieces) same, told)
 
   -- the stream has ended before, so nothing was skipped
-  told_skip : (answer : Result ℕ Error) (k : SkipsLine remaining s answer t) → s.ended ≡ true
+  told_skip : (answer : Result ℕ Error) (k : SkipsLine remaining s answer t) → s.pieces.ended ≡ true
       → ¬ (0 < length (before ++ k.drops.bytes))
   told_skip answer k ended some = omega (
     arith,
@@ -209,7 +222,7 @@ module _ {S : Type 0} (remaining : S → Option (List ℕ)) (s t : Lining S) (be
       }
 
   -- the last line, which has none
-  pub skip_last : (count : ℕ) (k : SkipsLine remaining s (Ok count) t) → IsLine k.drops.bytes → t.ended ≡ true
+  pub skip_last : (count : ℕ) (k : SkipsLine remaining s (Ok count) t) → IsLine k.drops.bytes → t.pieces.ended ≡ true
       → 0 < length (before ++ k.drops.bytes)
       → LinesAlong remaining before s (Skipped (before ++ k.drops.bytes) ∷ []) [] t
   skip_last count k line ended some = record {
@@ -226,7 +239,7 @@ module _ {S : Type 0} (remaining : S → Option (List ℕ)) (s t : Lining S) (be
   }
 
   -- nothing, at the end of the stream
-  pub skip_none : (count : ℕ) (k : SkipsLine remaining s (Ok count) t) → t.ended ≡ true → before ++ k.drops.bytes ≡ []
+  pub skip_none : (count : ℕ) (k : SkipsLine remaining s (Ok count) t) → t.pieces.ended ≡ true → before ++ k.drops.bytes ≡ []
       → LinesAlong remaining before s [] [] t
   skip_none count k ended none = record {
     bytes = k.drops.bytes;
@@ -251,7 +264,7 @@ module _ {S : Type 0} (remaining : S → Option (List ℕ)) (s t : Lining S) (be
             arith,
             ap length met,
             ap (λ l. length l.reads.faults) u.1,
-            length-append s.reader.log.reads.faults (e ∷ []),
+            length-append s.pieces.reader.log.reads.faults (e ∷ []),
           ))
           | inr (fault, other, above) ↦ absurd (omega (arith, above, ap length u.0))
         ];

@@ -1,17 +1,19 @@
 -- What any calls come to, whatever they answer.
-use Rattle.std.specs.Prelude.{◌≡◌, ℕ, ◌+◌, ◌≤◌, ◌⊎◌, List, [], ◌∷◌, ◌++◌, length, true, false, MatchBool, Option, None, Some, Ok, Err}
+use Rattle.std.specs.Prelude.{◌≡◌, ℕ, ◌+◌, ◌≤◌, List, [], ◌∷◌, ◌++◌, length, true, false, Option, None, Some, Ok, Err}
 use Rattle.std.proofs.Common.{sym, ap, subst, ◌∙◌, arith, refl, inl, inr, append-nil}
 use Rattle.std.proofs.lemmas.List.Concat.{flat_map-append}
 use Rattle.std.specs.declared.io.Error.{Error}
+use Rattle.codec.specs.PiecesWentLaws.{PiecesWent-none}
+use Rattle.codec.specs.Piecing.{rest}
+use Rattle.codec.specs.Runs.{AnswerRuns, handed_payload}
 use Rattle.line_reader.specs.declared.error.LineError.TheVariants.{Io}
-use Rattle.line_reader.specs.Calls.{Handed, Trimmed, Skipped, Ended, Nexts, NextsTrimmed, Skips, Call, CallGoes, CallsGo, CallsWent, Event, call_asks, call_lines, event_lines, lines_of_calls, lines_of_events, next_events, pending, skip_calls, skipped_count, trimmed_events}
+use Rattle.line_reader.specs.Calls.{Handed, Trimmed, Skipped, Ended, Nexts, NextsTrimmed, Skips, Call, CallGoes, CallsWent, Event, call_asks, call_lines, event_lines, lines_of_calls, lines_of_events, next_events, pending, skip_calls, skipped_count, trimmed_events}
 use Rattle.line_reader.specs.CallsLaws.{CutsInto-after, LinesAlong-joins, NextLine-along, Trims-along, skip_fails, skip_last, skip_none, skip_whole}
 use Rattle.line_reader.specs.Lines.{IsLine}
-use Rattle.line_reader.specs.Lining.{Lining, IsLining, rest}
-use Rattle.line_reader.specs.LinesWentLaws.{LinesWent-none}
+use Rattle.line_reader.specs.Lining.{Lining, IsLining}
 use Rattle.line_reader.specs.NextLine.{NextAnswer, NextLine, Trims}
-use Rattle.codec.specs.Runs.{handed_payload}
-use Rattle.line_reader.specs.SkipLine.{NextGoes, SkipsFirst, SkipsLine, SkipsStill}
+use Rattle.line_reader.specs.NextLineLaws.{NextLine-whole, NextOpen, SkipsLine-whole, by_skipping}
+use Rattle.line_reader.specs.SkipLine.{SkipsLine}
 
 -- lines that were skipped are counted in any part
 skipped_append : (first later : List Event) → skipped_count (first ++ later) ≡ skipped_count first + skipped_count later
@@ -34,9 +36,10 @@ trimmed_lines (Ok None) = (refl, refl)
 trimmed_lines (Err e) = (refl, refl)
 
 -- where the stream has ended nothing is left, and no line is being skipped
-pub ended_empty : {S : Type 0} (s : Lining S) → IsLining s → s.ended ≡ true → (rest s ≡ []) × (s.skipping ≡ false)
+pub ended_empty : {S : Type 0} (s : Lining S) → IsLining s → s.pieces.ended ≡ true
+    → (rest s.pieces ≡ []) × (s.skipping ≡ false)
 ended_empty s whole ended = (
-  whole.ended ended,
+  whole.whole.ended ended,
   elim s.skipping as (λ b. b ≡ s.skipping → b ≡ false) [
     | true ↦ λ is. (let odd : true ≡ false = sym ended ∙ whole.goes_on (sym is) in cc)
     | false ↦ λ is. refl
@@ -51,7 +54,7 @@ module _ {S : Type 0} (remaining : S → Option (List ℕ)) where
     after = before;
     along = record {
       bytes = [];
-      went = LinesWent-none remaining s;
+      went = PiecesWent-none remaining (1 + s.pieces.decoder.max) s.pieces;
       cut = (subst IsLine (sym (append-nil before)) plain, append-nil before);
       closed = closed;
       told = λ ended. ended;
@@ -74,24 +77,25 @@ module _ {S : Type 0} (remaining : S → Option (List ℕ)) where
   }
 
   -- one call of `next`, or of `next_trimmed`, where no line is being skipped
-  next_plain : (s t : Lining S) (answer : NextAnswer) → NextLine remaining s answer t
+  next_plain : (s t : Lining S) (answer : NextAnswer) → NextOpen remaining s answer t
       → CallsWent remaining [] s (handed_payload answer) 0 t
   next_plain s t answer n = record {
     events = next_events answer;
     after = [];
     along = NextLine-along remaining s t answer n;
     handed = (next_lines answer).0;
-    few = omega (arith, (next_lines answer).1, ap pending n.open');
+    few = omega (arith, (next_lines answer).1, ap pending n.1);
   }
 
-  trimmed_plain : (s t : Lining S) (whole answer : NextAnswer) → NextLine remaining s whole t → Trims whole answer t
+  trimmed_plain : (s t : Lining S) (whole answer : NextAnswer) → NextOpen remaining s whole t
+      → Trims whole answer t.pieces.ended
       → CallsWent remaining [] s (handed_payload answer) 0 t
   trimmed_plain s t whole answer n trims = record {
     events = trimmed_events answer;
     after = [];
     along = Trims-along remaining s t whole answer n trims;
     handed = (trimmed_lines answer).0;
-    few = omega (arith, (trimmed_lines answer).1, ap pending n.open');
+    few = omega (arith, (trimmed_lines answer).1, ap pending n.1);
   }
 
   module _ (s t : Lining S) (before : List ℕ) (plain : IsLine before) (closed : s.skipping ≡ false → before ≡ [])
@@ -110,7 +114,7 @@ module _ {S : Type 0} (remaining : S → Option (List ℕ)) where
       | inr (line, none, ended, met) ↦ last line ended (before ++ k.drops.bytes) refl
     ]
       where
-        last : IsLine k.drops.bytes → t.ended ≡ true → (all : List ℕ) → all ≡ before ++ k.drops.bytes
+        last : IsLine k.drops.bytes → t.pieces.ended ≡ true → (all : List ℕ) → all ≡ before ++ k.drops.bytes
             → CallsWent remaining before s [] asks t
         last line ended [] is = record {
           events = [];
@@ -141,29 +145,18 @@ module _ {S : Type 0} (remaining : S → Option (List ℕ)) where
   -- a call that goes on skipping first
   skips_first : (s t : Lining S) (before : List ℕ) → IsLine before → (s.skipping ≡ false → before ≡ []) → IsLining s
       → (answer : NextAnswer) (lines : List (List ℕ))
-      → ((m : Lining S) → NextLine remaining m answer t → CallsWent remaining [] m lines 0 t)
-      → ((e : Error) → answer ≡ Err (Io e) → lines ≡ []) → NextGoes remaining s answer t
+      → ((m : Lining S) → NextOpen remaining m answer t → CallsWent remaining [] m lines 0 t)
+      → ((e : Error) → answer ≡ Err (Io e) → lines ≡ []) → NextLine remaining s answer t
       → CallsWent remaining before s lines 0 t
-  skips_first s t before plain closed whole answer lines then still goes =
-      let Goal = CallsWent remaining before s lines 0 t in
-      elim s.skipping as (λ b. b ≡ s.skipping
-      → MatchBool b (SkipsFirst remaining s answer t ⊎ SkipsStill remaining s answer t) (NextLine remaining s answer t)
-      → Goal) [
-        | true ↦ λ is n.
-            let enough : 1 ≤ 0 + pending s.skipping = omega (arith, ap pending is) in
-            elim n [
-              | inl f ↦
-                  (let first = skip_ends s f.between before plain closed whole f.count f.skips 0 enough in
-                  CallsWent-joins s f.between t before [] lines 0 0 first
-                  (subst (λ l. CallsWent remaining l f.between lines 0 t) (sym (first.along.closed f.skips.skipping))
-                  (then f.between f.next)))
-              | inr f ↦
-                  subst (λ l. CallsWent remaining before s l 0 t) (sym (still f.error f.answers))
-                  (skip_failed s t before plain closed whole f.error f.skips 0 enough)
-            ]
-        | false ↦ λ is n.
-            subst (λ l. CallsWent remaining l s lines 0 t) (sym (closed (sym is))) (then s n)
-      ] refl goes
+  skips_first s t before plain closed whole answer lines then still =
+      by_skipping remaining s t answer (CallsWent remaining before s lines 0 t)
+      (λ open' next. subst (λ l. CallsWent remaining l s lines 0 t) (sym (closed open')) (then s next))
+      (λ m count is skips next.
+      let first = skip_ends s m before plain closed whole count skips 0 (omega (arith, ap pending is)) in
+      CallsWent-joins s m t before [] lines 0 0 first
+      (subst (λ l. CallsWent remaining l m lines 0 t) (sym (first.along.closed skips.skipping)) (then m next)))
+      (λ e is skips fails. subst (λ l. CallsWent remaining before s l 0 t) (sym (still e fails))
+      (skip_failed s t before plain closed whole e skips 0 (omega (arith, ap pending is))))
 
   -- one call
   pub CallGoes-went : (s : Lining S) (call : Call) (t : Lining S) → CallGoes remaining s call t → (before : List ℕ)
@@ -175,42 +168,26 @@ module _ {S : Type 0} (remaining : S → Option (List ℕ)) where
   CallGoes-went s (NextsTrimmed answer) t n before plain closed whole =
       skips_first s t before plain closed whole n.whole (handed_payload answer)
       (λ m line. trimmed_plain m t n.whole answer line n.trims)
-      (λ e is. ap handed_payload (subst (λ w. Trims w answer t) is n.trims)) n.next
+      (λ e is. ap handed_payload (subst (λ w. Trims w answer t.pieces.ended) is n.trims)) n.next
   CallGoes-went s (Skips (Ok count)) t k before plain closed whole =
       skip_ends s t before plain closed whole count k 1 (omega arith)
   CallGoes-went s (Skips (Err e)) t k before plain closed whole =
       skip_failed s t before plain closed whole e k 1 (omega arith)
 
-  goes_whole : (s t : Lining S) (answer : NextAnswer) → NextGoes remaining s answer t → IsLining t
-  goes_whole s t answer goes =
-      elim s.skipping as (λ b.
-      MatchBool b (SkipsFirst remaining s answer t ⊎ SkipsStill remaining s answer t) (NextLine remaining s answer t)
-      → IsLining t) [
-        | true ↦ λ n. elim n [ inl f ↦ f.next.whole | inr f ↦ f.skips.drops.whole ]
-        | false ↦ λ n. n.whole
-      ] goes
-
   call_whole : (s : Lining S) (call : Call) (t : Lining S) → CallGoes remaining s call t → IsLining t
-  call_whole s (Nexts answer) t goes = goes_whole s t answer goes
-  call_whole s (NextsTrimmed answer) t n = goes_whole s t n.whole n.next
-  call_whole s (Skips answer) t k = k.drops.whole
-
-  -- calls go on by one
-  pub CallsGo-more : (s : Lining S) (calls : List Call) (m : Lining S) (call : Call) (t : Lining S)
-      → CallsGo remaining s calls m → CallGoes remaining m call t → CallsGo remaining s (calls ++ call ∷ []) t
-  CallsGo-more s [] m call t same goes = (t, subst (λ x. CallGoes remaining x call t) (sym same) goes, refl)
-  CallsGo-more s (first ∷ calls) m call t (between, went, run) goes =
-      (between, went, CallsGo-more between calls m call t run goes)
+  call_whole s (Nexts answer) t goes = NextLine-whole remaining s t answer goes
+  call_whole s (NextsTrimmed answer) t n = NextLine-whole remaining s t n.whole n.next
+  call_whole s (Skips answer) t k = SkipsLine-whole remaining s t answer k
 
   -- what any come to
-  pub CallsGo-went : (s : Lining S) (calls : List Call) (t : Lining S) → CallsGo remaining s calls t → (before : List ℕ)
-      → IsLine before → (s.skipping ≡ false → before ≡ []) → IsLining s
+  pub Calls-went : (s : Lining S) (calls : List Call) (t : Lining S) → AnswerRuns (CallGoes remaining) s calls t
+      → (before : List ℕ) → IsLine before → (s.skipping ≡ false → before ≡ []) → IsLining s
       → CallsWent remaining before s (lines_of_calls calls) (skip_calls calls) t
-  CallsGo-went s [] t same before plain closed whole =
+  Calls-went s [] t same before plain closed whole =
       subst (CallsWent remaining before s [] 0) same (CallsWent-none s before plain closed)
-  CallsGo-went s (call ∷ calls) t (m, goes, run) before plain closed whole =
+  Calls-went s (call ∷ calls) t (m, goes, run) before plain closed whole =
       let first = CallGoes-went s call m goes before plain closed whole in
       CallsWent-joins s m t before (call_lines call) (lines_of_calls calls) (call_asks call) (skip_calls calls) first
-      (CallsGo-went m calls t run first.after
-      (CutsInto-after m.ended first.events first.after (before ++ first.along.bytes) first.along.cut) first.along.closed
+      (Calls-went m calls t run first.after
+      (CutsInto-after m.pieces.ended first.events first.after (before ++ first.along.bytes) first.along.cut) first.along.closed
       (call_whole s call m goes))

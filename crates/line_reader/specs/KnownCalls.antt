@@ -1,20 +1,26 @@
--- What any calls of a reader of lines take out of a stream that is known.
+-- What a reader of lines takes out of a stream that is known.
 use Rattle.std.specs.Prelude.{◌≡◌, ℕ, ◌⊎◌, List, [], ◌∷◌, ◌++◌, true, false, Option, Some}
+use Rattle.codec.specs.KnownPieces.{HasLeft, ahead_of}
+use Rattle.codec.specs.Trimming.{IsTrimmed}
 use Rattle.line_reader.specs.Calls.{Handed, Trimmed, Skipped, Ended, Event, lines_of_events}
-use Rattle.line_reader.specs.KnownLines.{ahead_of}
-use Rattle.line_reader.specs.Lines.{HasLines, IsLine, IsTrimmed}
-use Rattle.line_reader.specs.Lining.{Lining}
+use Rattle.line_reader.specs.Lines.{HasLines, IsLine}
+use Rattle.line_reader.specs.Lining.{Lining, lined}
+
+-- just these lines are left, and each of them fits; no line is being skipped
+pub record LeavesLines {S : Type 0} (remaining : S → Option (List ℕ)) (f : Lining S) (lines : List (List ℕ)) : Type 0 where
+  pub has : HasLeft remaining (lined f.pieces.decoder.max) f.pieces lines
+  pub open' : f.skipping ≡ false
 
 -- the bytes that weren't handed out are known, and behind so many bytes of a line that is being skipped a text of these lines,
 -- of which that line is the first; where the stream has ended there are none
 pub record LeavesBehind {S : Type 0} (remaining : S → Option (List ℕ)) (before : List ℕ) (f : Lining S)
     (lines : List (List ℕ)) : Type 0 where
   pub text : List ℕ
-  pub known : ahead_of remaining f ≡ Some text
+  pub known : ahead_of remaining f.pieces ≡ Some text
   pub plain : IsLine before
   pub closed : f.skipping ≡ false → before ≡ []
   pub has : HasLines (before ++ text) lines
-  pub none : f.ended ≡ true → lines ≡ []
+  pub none : f.pieces.ended ≡ true → lines ≡ []
 
 -- the first of these lines are those of the events, in order, and the others come then; an end is told behind the last alone
 abbrev pub TakesLines : List (List ℕ) → List Event → List (List ℕ) → Type 0

@@ -4,14 +4,11 @@ pub mod CallsLaws
 pub mod CallsWentLaws
 pub mod KnownCalls
 pub mod KnownCallsLaws
-pub mod KnownLines
 pub mod KnownLinesLaws
-pub mod LeavesLinesLaws
 pub mod LineError
 pub mod Lines
 pub mod LinesAlongLaws
 pub mod LinesLaws
-pub mod LinesWentLaws
 pub mod Lining
 pub mod NextLine
 pub mod NextLineLaws
@@ -19,6 +16,5 @@ pub mod Played
 pub mod Runs
 pub mod RunsLaws
 pub mod SkipLine
-pub mod Steps
 pub mod TextLaws
 pub mod WrittenLines

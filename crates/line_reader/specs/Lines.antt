@@ -1,13 +1,10 @@
 -- Lines, where they end, and texts of them.
-use Rattle.std.specs.Prelude.{◌≡◌, ℕ, ◌+◌, ◌<◌, ◌≤◌, ◌⊎◌, List, [], ◌∷◌, ◌++◌, length, take}
+use Rattle.std.specs.Prelude.{◌≡◌, ℕ, ◌+◌, ◌<◌, ◌≤◌, List, [], ◌∷◌, ◌++◌, length, take}
 use Rattle.std.specs.List.{All, flat_map}
 
--- the byte that ends a line, and the one that may stand before it
+-- the byte that ends a line
 abbrev pub newline : ℕ
 newline = 10
-
-abbrev pub carriage_return : ℕ
-carriage_return = 13
 
 -- no byte of it ends a line
 abbrev pub IsLine : List ℕ → Type 0
@@ -39,14 +36,6 @@ pub record FitsLine (max : ℕ) (line : List ℕ) : Type 0 where
   pub plain : IsLine line
   pub fits : length line ≤ max
 
--- the bytes begin with a line of at most max bytes, and its end
-pub record BeginsWhole (max : ℕ) (bytes : List ℕ) : Type 0 where
-  pub line : List ℕ
-  pub more : List ℕ
-  pub fits : length line ≤ max
-  pub plain : IsLine line
-  pub equal : bytes ≡ line ++ newline ∷ more
-
 -- the bytes begin with more than max bytes of a line
 pub record BeginsTooLong (max : ℕ) (bytes : List ℕ) : Type 0 where
   pub above : max < length bytes
@@ -56,9 +45,3 @@ pub record BeginsTooLong (max : ℕ) (bytes : List ℕ) : Type 0 where
 pub record IsUnended (max : ℕ) (bytes : List ℕ) : Type 0 where
   pub fits : length bytes ≤ max
   pub plain : IsLine bytes
-
--- the line without the carriage return that it may end with
-abbrev pub IsTrimmed : List ℕ → List ℕ → Type 0
-IsTrimmed line shown =
-    (line ≡ shown ++ carriage_return ∷ [])
-    ⊎ ((line ≡ shown) × ((front : List ℕ) → ¬ (line ≡ front ++ carriage_return ∷ [])))

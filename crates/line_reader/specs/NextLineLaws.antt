@@ -1,75 +1,127 @@
 -- Laws of one call of `next`, for the proofs of those who call it.
-use Rattle.std.specs.Prelude.{◌≡◌, ℕ, ◌≤◌, List, [], ◌∷◌, ◌++◌, length, true, false, Bool, MatchBool, ◌⊎◌, Option, None, Some, Ok, Err}
-use Rattle.std.proofs.Common.{sym, ap, subst, ◌∙◌, refl, inl, inr, append_assoc}
+use Rattle.std.specs.Prelude.{◌≡◌, ℕ, List, length, true, false, Option, None, Some, Result, Ok, Err}
+use Rattle.std.proofs.Common.{sym, ap, subst, ◌∙◌, refl, arith, inl, inr}
+use Rattle.std.proofs.lemmas.Bool.{true≢false}
+use Rattle.std.specs.declared.io.Error.{Error}
 use Rattle.codec.specs.declared.delimited.TooLong as piece
 use Rattle.codec.specs.declared.error.NextError.TheVariants.{Wrong}
-use Rattle.codec.specs.DelimitedLaws.{delimited_lawful}
-use Rattle.codec.specs.NextPieceLaws.{NextPiece-ready, NextPiece-wrong}
+use Rattle.codec.specs.DelimitedLaws.{open_plain}
+use Rattle.codec.specs.Grammar.{IsOpen}
+use Rattle.codec.specs.NextPiece.{IsHanded, NextPiece, NoEnd}
+use Rattle.codec.specs.Piecing.{IsPiecing, Piecing, rest}
 use Rattle.line_reader.specs.declared.error.LineError.TheVariants.{TooLong, Io}
-use Rattle.line_reader.specs.Lines.{newline, IsLine, BeginsTooLong, with_end}
-use Rattle.line_reader.specs.Lining.{Lining, lined, piecing, rest}
-use Rattle.line_reader.specs.NextLine.{IsHanded, NextAnswer, NextLine, piece_answer}
-use Rattle.line_reader.specs.SkipLine.{NextGoes, SkipsFirst, SkipsStill}
+use Rattle.line_reader.specs.declared.line.Lines.{Lines}
+use Rattle.line_reader.specs.Lines.{BeginsTooLong, FitsLine, IsLine, IsUnended, newline, with_end}
+use Rattle.line_reader.specs.Lining.{IsLining, Lining, lined}
+use Rattle.line_reader.specs.NextLine.{NextAnswer, NextLine, piece_answer}
+use Rattle.line_reader.specs.SkipLine.{SkipsLine}
 
 -- an answer of a reader of pieces is of one answer
-same_some : (answer : NextAnswer) (line : List ℕ) → piece_answer answer ≡ Ok (Some line) → answer ≡ Ok (Some line)
+pub same_some : (answer : NextAnswer) (line : List ℕ) → piece_answer answer ≡ Ok (Some line) → answer ≡ Ok (Some line)
 same_some (Ok found) line is = (let same : found ≡ Some line = cc in ap (λ x. Ok x) same)
 same_some (Err (TooLong n)) line is = cc
 same_some (Err (Io e)) line is = cc
 
-same_long : (answer : NextAnswer) (e : piece.TooLong) → piece_answer answer ≡ Err (Wrong e) → answer ≡ Err (TooLong e.0)
+pub same_none : (answer : NextAnswer) → piece_answer answer ≡ Ok None → answer ≡ Ok None
+same_none (Ok found) is = (let same : found ≡ None = cc in ap (λ x. Ok x) same)
+same_none (Err (TooLong n)) is = cc
+same_none (Err (Io e)) is = cc
+
+pub same_long : (answer : NextAnswer) (e : piece.TooLong) → piece_answer answer ≡ Err (Wrong e) → answer ≡ Err (TooLong e.0)
 same_long (Ok found) e is = cc
 same_long (Err (TooLong n)) e is = (let same : e ≡ record { 0 = n } = cc in ap (λ x. Err (TooLong x.0)) (sym same))
 same_long (Err (Io x)) e is = cc
 
-module _ {S : Type 0} (remaining : S → Option (List ℕ)) (s : Lining S) (answer : NextAnswer) (t : Lining S) where
-  -- where the stream has ended it isn't asked
-  pub NextLine-ended : NextLine remaining s answer t → s.ended ≡ true
-      → (answer ≡ Ok None) × (t.reader.log ≡ s.reader.log)
-  NextLine-ended next ended = (
-    next.told ended,
-    elim next.asked [
-      | inl same ↦ same
-      | inr over ↦ (let odd : true ≡ false = sym ended ∙ over.not_ended in cc)
-    ],
-  )
+-- a piece that is handed out is a line that fits
+pub IsHanded-fits : {S D : Type 0} (max : ℕ) (s t : Piecing S D) (line bytes : List ℕ)
+    → IsHanded (lined max) s line bytes t → FitsLine max line
+IsHanded-fits max s t line bytes (inl (is, going, none)) = record { plain = is.plain; fits = is.fits }
+IsHanded-fits max s t line bytes (inr (is, open', some, none, ended, met)) =
+    let p = open_plain newline max bytes open' in
+    record { plain = subst IsLine (sym is) p.0; fits = omega (arith, p.1, ap length is) }
 
-  -- a whole line that is left is handed out, and the stream isn't asked
-  pub NextLine-ready : (line more : List ℕ) → NextLine remaining s answer t → IsLine line → length line ≤ s.max
-      → rest s ≡ line ++ newline ∷ more
-      → (answer ≡ Ok (Some line)) × (rest t ≡ more) × (t.reader.log ≡ s.reader.log)
-  NextLine-ready line more next plain fits front =
-      let is = NextPiece-ready remaining (lined s.max) (delimited_lawful newline s.max) (piecing s) (piece_answer answer)
-      (piecing t) next.piece (with_end line) line more (record { plain = plain; fits = fits; equal = refl })
-      (front ∙ sym (append_assoc line (newline ∷ []) more)) in
-      (same_some answer line is.0, is.1, is.2)
-
-  -- a line that is too long is refused each time, and the stream isn't asked
-  pub NextLine-too_long : NextLine remaining s answer t → BeginsTooLong s.max (rest s)
-      → (answer ≡ Err (TooLong s.max)) × (rest t ≡ rest s) × (t.reader.log ≡ s.reader.log)
-  NextLine-too_long next long =
-      let is = NextPiece-wrong remaining (lined s.max) (delimited_lawful newline s.max) (piecing s) (piece_answer answer)
-      (piecing t) next.piece (record { 0 = s.max }) (record { above = long.above; plain = long.plain; told = refl }) in
-      (same_long answer (record { 0 = s.max }) is.0, is.1, is.2)
-
--- where no line is being skipped none is skipped first
-pub NextGoes-plain : {S : Type 0} (remaining : S → Option (List ℕ)) (s t : Lining S) (answer : NextAnswer)
-    → s.skipping ≡ false → NextGoes remaining s answer t → NextLine remaining s answer t
-NextGoes-plain remaining s t answer open' goes =
-    let Either : Bool → Type 0 =
-    λ b. MatchBool b (SkipsFirst remaining s answer t ⊎ SkipsStill remaining s answer t) (NextLine remaining s answer t) in
-    subst Either open' goes
-
--- a line that was handed out had its end where the stream didn't end behind it, and else it had none
-module _ {S : Type 0} (s t : Lining S) (line bytes : List ℕ) (handed : IsHanded s line bytes t) where
+-- it had its end where the stream didn't end behind it, and else it had none
+module _ {S D : Type 0} (max : ℕ) (s t : Piecing S D) (line bytes : List ℕ) (handed : IsHanded (lined max) s line bytes t) where
   pub IsHanded-end : t.ended ≡ false → bytes ≡ with_end line
   IsHanded-end going = elim handed [
-    | inl whole ↦ whole.0
-    | inr last ↦ (let odd : true ≡ false = sym last.3 ∙ going in cc)
+    | inl whole ↦ whole.0.equal
+    | inr last ↦ (let odd : true ≡ false = sym last.4 ∙ going in cc)
   ]
 
   pub IsHanded-last : t.ended ≡ true → bytes ≡ line
   IsHanded-last ended = elim handed [
     | inl whole ↦ (let odd : true ≡ false = sym ended ∙ whole.1 in cc)
-    | inr last ↦ last.0
+    | inr last ↦ sym last.0
   ]
+
+-- a line that is too long stays at the front, and no end was met
+pub NextPiece-long : {S D : Type 0} (remaining : S → Option (List ℕ)) (max : ℕ) (s t : Piecing S D) (e : piece.TooLong)
+    → NextPiece remaining (lined max) s (Err (Wrong e)) t → BeginsTooLong max (rest t) × NoEnd s t
+NextPiece-long remaining max s t e next = elim next.answers.3 [
+  | inl (wrong, none) ↦ (record { above = wrong.above; plain = wrong.plain }, none)
+  | inr (cut, open', some, met) ↦ absurd cut
+]
+
+-- what settles nothing has no end, and isn't too long
+pub open_unended : (max : ℕ) (bytes : List ℕ) → IsOpen (lined max) bytes → IsUnended max bytes
+open_unended max bytes is = (let p = open_plain newline max bytes is in record { fits = p.1; plain = p.0 })
+
+-- a reader over the same lines, and one behind a call
+module _ {S : Type 0} where
+  pub IsLining-open : (f : Lining S) → IsPiecing (lined f.pieces.decoder.max) f.pieces → f.skipping ≡ false → IsLining f
+  IsLining-open f whole open' = record {
+    whole = whole;
+    skipped = λ is. absurd (true≢false (sym is ∙ open'));
+    goes_on = λ is. absurd (true≢false (sym is ∙ open'));
+  }
+
+  pub IsPiecing-same : (s t : Piecing S Lines) → t.decoder ≡ s.decoder → IsPiecing (lined s.decoder.max) t
+      → IsPiecing (lined t.decoder.max) t
+  IsPiecing-same s t same = subst (λ d. IsPiecing (lined d.max) t) (sym same)
+
+  pub SkipsLine-whole : (remaining : S → Option (List ℕ)) (s t : Lining S) (answer : Result ℕ Error)
+      → SkipsLine remaining s answer t → IsLining t
+  SkipsLine-whole remaining s t (Ok count) k = IsLining-open t k.drops.whole k.skipping
+  SkipsLine-whole remaining s t (Err e) k = record {
+    whole = k.drops.whole;
+    skipped = λ _. k.drops.answers.1;
+    goes_on = λ _. k.drops.answers.2;
+  }
+
+-- what one call comes to
+module _ {S : Type 0} (remaining : S → Option (List ℕ)) where
+  abbrev pub NextOpen : Lining S → NextAnswer → Lining S → Type 0
+  NextOpen s answer t =
+      NextPiece remaining (lined s.pieces.decoder.max) s.pieces (piece_answer answer) t.pieces × (t.skipping ≡ false)
+
+  module _ (s t : Lining S) (answer : NextAnswer) where
+    -- where no line is being skipped it is one of a reader of pieces
+    pub NextLine-of : s.skipping ≡ false → NextOpen s answer t → NextLine remaining s answer t
+    NextLine-of open' (next, after) = inl (s, inl (open', refl), next, after)
+
+    -- else that is skipped first
+    pub NextLine-behind : s.skipping ≡ true → (m : Lining S) (count : ℕ) → SkipsLine remaining s (Ok count) m
+        → NextOpen m answer t → NextLine remaining s answer t
+    NextLine-behind is m count skips (next, after) = inl (m, inr (is, count, skips), next, after)
+
+    -- by whether one is
+    pub by_skipping : (P : Type 0) → (s.skipping ≡ false → NextOpen s answer t → P)
+        → ((m : Lining S) (count : ℕ) → s.skipping ≡ true → SkipsLine remaining s (Ok count) m → NextOpen m answer t → P)
+        → ((e : Error) → s.skipping ≡ true → SkipsLine remaining s (Err e) t → answer ≡ Err (Io e) → P)
+        → NextLine remaining s answer t → P
+    by_skipping P plain first still (inl (m, inl (open', same), next, after)) =
+        plain open' (subst (λ x. NextOpen x answer t) same (next, after))
+    by_skipping P plain first still (inl (m, inr (is, count, skips), next, after)) = first m count is skips (next, after)
+    by_skipping P plain first still (inr (is, e, skips, fails)) = still e is skips fails
+
+    pub NextLine-open : s.skipping ≡ false → NextLine remaining s answer t → NextOpen s answer t
+    NextLine-open open' = by_skipping (NextOpen s answer t) (λ _ next. next)
+        (λ m count is skips next. absurd (true≢false (sym is ∙ open'))) (λ e is skips fails. absurd (true≢false (sym is ∙ open')))
+
+    pub NextOpen-whole : NextOpen s answer t → IsLining t
+    NextOpen-whole (next, after) =
+        IsLining-open t (IsPiecing-same s.pieces t.pieces next.went.decoder next.whole) after
+
+  pub NextLine-whole : (s t : Lining S) (answer : NextAnswer) → NextLine remaining s answer t → IsLining t
+  NextLine-whole s t answer = by_skipping s t answer (IsLining t) (λ _. NextOpen-whole s t answer)
+      (λ m count is skips. NextOpen-whole m t answer) (λ e is skips fails. SkipsLine-whole remaining s t (Err e) skips)

@@ -1,8 +1,8 @@
 -- Calls of a reader of lines as they were asked for, and what was recorded of them.
 use Rattle.std.specs.Prelude.{◌≡◌, ℕ, ◌<◌, ◌≤◌, ◌⊎◌, List, [], ◌∷◌, ◌++◌, length, map, Option}
-use Rattle.line_reader.specs.Calls.{Call, CallGoes, CallsGo, Nexts, NextsTrimmed, Skips, call_lines}
+use Rattle.line_reader.specs.Calls.{Call, CallGoes, Nexts, NextsTrimmed, Skips, call_lines}
 use Rattle.line_reader.specs.Lining.{Lining}
-use Rattle.codec.specs.Runs.{kept_answer}
+use Rattle.codec.specs.Runs.{AnswerRuns, kept_answer}
 use Rattle.line_reader.specs.declared.laws.calls.Ask.{Ask}
 use Rattle.line_reader.specs.declared.laws.calls.Ask.TheVariants as ask
 use Rattle.line_reader.specs.declared.laws.calls.Played.{Played}
@@ -32,7 +32,7 @@ pub record CallsPlayed {S : Type 0} (remaining : S → Option (List ℕ)) (s : L
   pub calls : List Call
   pub gained : new ≡ old ++ calls
   pub all : map asked calls ≡ asks
-  pub run : CallsGo remaining s calls t
+  pub run : AnswerRuns (CallGoes remaining) s calls t
 
 -- the first of these calls were made, and the record gained them. It had room for so many, and was full, so no further call was
 -- begun; or one more was made, and the line that it handed out is lost
@@ -43,5 +43,6 @@ pub record CallsStopped {S : Type 0} (remaining : S → Option (List ℕ)) (s : 
   pub next : Ask
   pub more : List Ask
   pub front : asks ≡ map asked calls ++ next ∷ more
-  pub wanted : (CallsGo remaining s calls t × (room ≤ length new))
-      ⊎ ((lost : Call) × (asked lost ≡ next) × (0 < length (call_lines lost)) × CallsGo remaining s (calls ++ lost ∷ []) t)
+  pub wanted : (AnswerRuns (CallGoes remaining) s calls t × (room ≤ length new))
+      ⊎ ((lost : Call) × (asked lost ≡ next) × (0 < length (call_lines lost))
+      × AnswerRuns (CallGoes remaining) s (calls ++ lost ∷ []) t)

@@ -3,19 +3,17 @@ use Rattle.std.specs.Prelude.{◌≡◌, ℕ, List, [], ◌∷◌, ◌++◌, map
 use Rattle.std.proofs.Common.{ap, subst, refl}
 use Rattle.std.proofs.lemmas.List.{map-append}
 use Rattle.codec.specs.Runs as pieces
-use Rattle.codec.specs.Runs.{NoneTold, all_handed}
+use Rattle.codec.specs.Runs.{Cuts, NoneTold, all_handed}
 use Rattle.codec.specs.RunsLaws as pieces_laws
-pub use Rattle.codec.specs.RunsLaws.{all_handed-more}
 use Rattle.codec.specs.RunsLaws.{AnswerPlays-more, AnswerPlays-none, AnswerRuns-more}
 use Rattle.codec.specs.Texts.{HasPieces}
 use Rattle.line_reader.specs.declared.error.LineError.TheVariants.{TooLong, Io}
 use Rattle.line_reader.specs.Lines.{HasLines}
-use Rattle.line_reader.specs.Lining.{Lining, lined, piecing}
-use Rattle.line_reader.specs.NextLine.{NextAnswer, piece_answer}
-use Rattle.line_reader.specs.NextLineLaws.{NextGoes-plain}
-use Rattle.line_reader.specs.SkipLine.{NextGoes}
+use Rattle.line_reader.specs.Lining.{Lining, lined}
+use Rattle.line_reader.specs.NextLine.{NextAnswer, NextLine, piece_answer}
+use Rattle.line_reader.specs.NextLineLaws.{NextLine-open}
 use Rattle.line_reader.specs.TextLaws.{lines_of}
-use Rattle.line_reader.specs.Runs.{Cuts, NextPlays, NextRuns, RunWent, RunWentOpen}
+use Rattle.line_reader.specs.Runs.{NextPlays, NextRuns, RunWent}
 
 -- the answers of a reader of pieces hand out the same, and tell an end where these do
 handed_same : (answers : List NextAnswer) → all_handed (map piece_answer answers) ≡ all_handed answers
@@ -34,44 +32,40 @@ none_told (Err (Io e) ∷ answers) none = none_told answers none
 
 -- what was handed out up to the first end of the stream is a text of just these lines
 pub Cuts-text : (max : ℕ) (answers : List NextAnswer) (bytes : List ℕ) → NoneTold answers
-    → Cuts max (answers ++ Ok None ∷ []) bytes → HasLines bytes (all_handed answers)
+    → Cuts (lined max) (map piece_answer (answers ++ Ok None ∷ [])) bytes → HasLines bytes (all_handed answers)
 Cuts-text max answers bytes none cut =
     let has : HasPieces (lined max) bytes (all_handed (map piece_answer answers)) =
     pieces_laws.Cuts-text (lined max) (map piece_answer answers) bytes (none_told answers none)
-    (subst (λ l. pieces.Cuts (lined max) l bytes) (map-append piece_answer answers (Ok None ∷ [])) cut) in
+    (subst (λ l. Cuts (lined max) l bytes) (map-append piece_answer answers (Ok None ∷ [])) cut) in
     subst (HasLines bytes) (handed_same answers) (lines_of max bytes (all_handed (map piece_answer answers)) has)
 
 module _ {S : Type 0} (remaining : S → Option (List ℕ)) where
   pub NextRuns-more : (s : Lining S) (answers : List NextAnswer) (m : Lining S) (answer : NextAnswer) (t : Lining S)
-      → NextRuns remaining s answers m → NextGoes remaining m answer t → NextRuns remaining s (answers ++ answer ∷ []) t
-  NextRuns-more = AnswerRuns-more (NextGoes remaining)
+      → NextRuns remaining s answers m → NextLine remaining m answer t → NextRuns remaining s (answers ++ answer ∷ []) t
+  NextRuns-more = AnswerRuns-more (NextLine remaining)
 
   -- where no line is being skipped they are calls of a reader of pieces
   runs_of : (s : Lining S) (answers : List NextAnswer) (t : Lining S) → s.skipping ≡ false
       → NextRuns remaining s answers t
-      → pieces.NextRuns remaining (lined s.max) (piecing s) (map piece_answer answers) (piecing t)
-  runs_of s [] t open' run = ap piecing run
+      → pieces.NextRuns remaining (lined s.pieces.decoder.max) s.pieces (map piece_answer answers) t.pieces
+  runs_of s [] t open' run = ap (λ x. x.pieces) run
   runs_of s (answer ∷ answers) t open' run =
-      let next = NextGoes-plain remaining s run.0 answer open' run.1 in (
-        piecing run.0,
-        next.piece,
-        subst (λ n. pieces.NextRuns remaining (lined n) (piecing run.0) (map piece_answer answers) (piecing t))
-            next.piece.went.decoder (runs_of run.0 answers t next.open' run.2),
+      let next = NextLine-open remaining s run.0 answer open' run.1 in (
+        run.0.pieces,
+        next.0,
+        subst (λ d. pieces.NextRuns remaining (lined d.max) run.0.pieces (map piece_answer answers) t.pieces)
+            next.0.went.decoder (runs_of run.0 answers t next.1 run.2),
       )
 
-  pub NextRuns-went : (s : Lining S) (answers : List NextAnswer) (t : Lining S) → s.skipping ≡ false
-      → NextRuns remaining s answers t → RunWent remaining s answers t
-  NextRuns-went s answers t open' run = pieces_laws.NextRuns-went remaining (lined s.max) (piecing s)
-      (map piece_answer answers) (piecing t) (runs_of s answers t open' run)
-
-  pub NextRuns-open : (s : Lining S) (answers : List NextAnswer) (t : Lining S) → NextRuns remaining s answers t
-      → RunWentOpen remaining s answers t
-  NextRuns-open s answers t run = λ open'. NextRuns-went s answers t open' run
+  pub NextRuns-went : (s : Lining S) (answers : List NextAnswer) (t : Lining S) → NextRuns remaining s answers t
+      → RunWent remaining s answers t
+  NextRuns-went s answers t run open' = pieces_laws.NextRuns-went remaining (lined s.pieces.decoder.max) s.pieces
+      (map piece_answer answers) t.pieces (runs_of s answers t open' run)
 
   -- calls, and what they come to: no call, and one more
   pub NextPlays-none : (s : Lining S) → NextPlays remaining s [] s
-  NextPlays-none = AnswerPlays-none (NextGoes remaining) (RunWentOpen remaining) NextRuns-open
+  NextPlays-none = AnswerPlays-none (NextLine remaining) (RunWent remaining) NextRuns-went
 
   pub NextPlays-more : (s : Lining S) (answers : List NextAnswer) (m : Lining S) (answer : NextAnswer) (t : Lining S)
-      → NextPlays remaining s answers m → NextGoes remaining m answer t → NextPlays remaining s (answers ++ answer ∷ []) t
-  NextPlays-more = AnswerPlays-more (NextGoes remaining) (RunWentOpen remaining) NextRuns-open
+      → NextPlays remaining s answers m → NextLine remaining m answer t → NextPlays remaining s (answers ++ answer ∷ []) t
+  NextPlays-more = AnswerPlays-more (NextLine remaining) (RunWent remaining) NextRuns-went

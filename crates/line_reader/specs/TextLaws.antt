@@ -1,13 +1,13 @@
 -- Laws of texts: their lines are what they are cut into, in one way.
-use Rattle.std.specs.Prelude.{◌≡◌, ℕ, ◌+◌, ◌<◌, List, [], ◌∷◌, ◌++◌, length, take}
+use Rattle.std.specs.Prelude.{◌≡◌, ℕ, ◌+◌, ◌<◌, List, [], ◌∷◌, ◌++◌, length}
 use Rattle.std.proofs.Common.{sym, ap, subst, ◌∙◌, refl, arith, inl, inr, append_assoc, append-nil}
 use Rattle.std.proofs.lemmas.List.Elements.{All-nil, All-cons, All-head, All-tail}
 use Rattle.std.specs.List.{All}
-use Rattle.codec.specs.DelimitedLaws.{open_plain}
+use Rattle.codec.specs.DelimitedLaws.{open_plain, plain_open}
 use Rattle.codec.specs.Texts.{HasPieces}
-use Rattle.line_reader.specs.Lines.{BeginsTooLong, FitsLine, HasLines, IsLine, last_line, newline, with_end, with_ends}
+use Rattle.line_reader.specs.Lines.{FitsLine, HasLines, IsLine, last_line, newline, with_end, with_ends}
 use Rattle.line_reader.specs.Lining.{lined}
-use Rattle.line_reader.specs.LinesLaws.{line-same, no-end-within, no_end_in}
+use Rattle.line_reader.specs.LinesLaws.{line-same, no_end_in}
 
 -- a text of no line, and of one that has no end
 pub lines-none : HasLines [] []
@@ -124,28 +124,34 @@ Lines-same text lines others has has' = same has.whole text lines others has.byt
         (All-tail IsLine line (whole ++ last_line has.last) plains) first.2)
         ∙ sym first.1
 
--- a text whose lines fit begins with no line that is too long
-pub Lines-fit : (max : ℕ) (text : List ℕ) (lines : List (List ℕ)) → HasLines text lines → All (FitsLine max) lines
-    → ¬ (BeginsTooLong max text)
-Lines-fit max text lines has fit long = fits has.whole has.last lines has.bytes has.all fit
+-- a text whose lines fit is these lines as pieces
+pub pieces_of : (max : ℕ) (text : List ℕ) (lines : List (List ℕ)) → HasLines text lines → All (FitsLine max) lines
+    → HasPieces (lined max) text lines
+pieces_of max text lines has fit =
+    subst (λ l. HasPieces (lined max) l lines) (sym has.bytes)
+    (subst (HasPieces (lined max) (with_ends has.whole ++ has.last)) (sym has.all)
+    (pieces has.whole has.last (subst (All (FitsLine max)) has.all fit)))
   where
-    fits : (whole : List (List ℕ)) (last : List ℕ) (lines : List (List ℕ)) → text ≡ with_ends whole ++ last
-        → lines ≡ whole ++ last_line last → All (FitsLine max) lines → ⊥
-    fits [] [] lines is all fit = omega (arith, long.above, ap length is)
-    fits [] (byte ∷ last) lines is all fit =
-        omega (
-          arith,
-          long.above,
-          ap length is,
-          (All-head (FitsLine max) (byte ∷ last) [] (subst (All (FitsLine max)) all fit)).fits,
+    pieces : (whole : List (List ℕ)) (last : List ℕ) → All (FitsLine max) (whole ++ last_line last)
+        → HasPieces (lined max) (with_ends whole ++ last) (whole ++ last_line last)
+    pieces [] [] fit = refl
+    pieces [] (byte ∷ last) fit =
+        let line = All-head (FitsLine max) (byte ∷ last) [] fit in
+        inr (
+          record { is = refl; open' = plain_open newline max (byte ∷ last) line.plain line.fits; some = omega arith },
+          refl,
         )
-    fits (line ∷ whole) last lines is all fit =
-        let cut : text ≡ line ++ newline ∷ (with_ends whole ++ last) =
-        is ∙ append_assoc (with_end line) (with_ends whole) last
-        ∙ append_assoc line (newline ∷ []) (with_ends whole ++ last) in
-        no-end-within line (with_ends whole ++ last) max
-        (All-head (FitsLine max) line (whole ++ last_line last) (subst (All (FitsLine max)) all fit)).fits
-        (subst (λ l. IsLine (take (1 + max) l)) cut long.plain)
+    pieces (line ∷ whole) last fit =
+        let first = All-head (FitsLine max) line (whole ++ last_line last) fit in
+        inl (
+          with_ends whole ++ last,
+          record {
+            piece = with_end line;
+            is = record { plain = first.plain; fits = first.fits; equal = refl };
+            equal = append_assoc (with_end line) (with_ends whole) last;
+          },
+          pieces whole last (All-tail (FitsLine max) line (whole ++ last_line last) fit),
+        )
 
 -- lines, each with its end, are a text of these lines
 pub Lines-with_ends : (lines : List (List ℕ)) → All IsLine lines → HasLines (with_ends lines) lines
@@ -156,3 +162,9 @@ Lines-with_ends lines plain = record {
   all = sym (append-nil lines);
   plain = plain;
 }
+
+-- a line that fits is a line
+pub all_plain : (max : ℕ) (lines : List (List ℕ)) → All (FitsLine max) lines → All IsLine lines
+all_plain max [] fit = All-nil IsLine
+all_plain max (line ∷ lines) fit = All-cons IsLine line lines (All-head (FitsLine max) line lines fit).plain
+    (all_plain max lines (All-tail (FitsLine max) line lines fit))

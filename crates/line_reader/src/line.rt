@@ -1,6 +1,7 @@
 //! Lines as pieces, and a line as it is shown.
 ghost use Rattle.std.specs.Prelude.{◌≡◌, ◌^◌, ◌<◌};
-ghost use Rattle.line_reader.specs.Lines.{IsTrimmed, newline};
+ghost use Rattle.codec.specs.Trimming.{IsTrimmed};
+ghost use Rattle.line_reader.specs.Lines.{newline};
 
 use codec::{Decoder, Delimited, End, Found, TooLong};
 

@@ -8,10 +8,11 @@ ghost use Rattle.buffer_redux.specs.MakeError.{growth};
 ghost use Rattle.line_reader.specs.contracts.reader.LineReader.{the_row};
 ghost use Rattle.line_reader.specs.Lines.{BeginsTooLong, IsLine, newline};
 ghost use Rattle.codec.specs.Decoding.{IsLent, bytes_at};
-ghost use Rattle.codec.specs.Piecing.{IsOver, TakenApart};
-ghost use Rattle.line_reader.specs.Lining.{HasLine, IsLining, IsFresh, lined, piecing, rest, room_for, with_stream};
-ghost use Rattle.line_reader.specs.NextLine.{NextBuffered, answer_of, load_answer};
-ghost use Rattle.line_reader.specs.SkipLine.{NextGoes, NextTrimmed, SkipsLine};
+ghost use Rattle.codec.specs.NextPiece.{answer_of, load_answer};
+ghost use Rattle.codec.specs.Piecing.{IsFresh, IsOver, TakenApart, rest, room_for, with_stream};
+ghost use Rattle.line_reader.specs.Lining.{HasLine, IsLining, lined};
+ghost use Rattle.line_reader.specs.NextLine.{NextBuffered, NextLine, NextTrimmed};
+ghost use Rattle.line_reader.specs.SkipLine.{SkipsLine};
 
 mod steps;
 
@@ -44,23 +45,25 @@ pub struct LineReader<R: Tell> {
 }
 
 impl<R: Tell> Model for LineReader<R> {
-    ghost use Rattle.line_reader.specs.Lining.{Lining, ReadsLines, lining};
+    ghost use Rattle.line_reader.specs.Lining.{IsLining, Lining};
 
     ghost Value = { Lining R };
 
-    ghost view = { λ f. lining f.pieces f.skipping };
+    ghost view = { λ f. record { pieces = f.pieces; skipping = f.skipping } };
 
-    ghost invariant = { λ f. ReadsLines f.pieces f.skipping };
+    ghost invariant = { λ f. IsLining (record { pieces = f.pieces; skipping = f.skipping }) };
 }
 
 impl<R: Tell> LineReader<R> {
     /// A reader of lines of at most `max` bytes, over a buffer of [`DEFAULT_BUF_SIZE`] bytes, or of what three lines take
     /// where that is more. A refusal hands `inner` back.
     pub fn new(alloc: Global, inner: R, max: usize) -> Result<Self, MakeError<R>>
-        ensures made { IfOk result (IsFresh R.log 8192 max inner) }
+        ensures made { IfOk result (λ f. IsFresh R.log 8192 (1 + max) inner f.pieces.decoder f.pieces) }
+        ensures max { IfOk result (λ f. f.pieces.decoder.max ≡ max) }
+        ensures going { IfOk result (λ f. f.skipping ≡ false) }
         ensures whole { IfOk result IsLining }
         ensures handed_back { IfErr result (λ e. e.0 ≡ inner) }
-        ensures within { FitsWithin (growth result) (room_for 8192 max) (2 ^ 62) }
+        ensures within { FitsWithin (growth result) (room_for 8192 (1 + max)) (2 ^ 62) }
     {
         LineReader::with_capacity(alloc, DEFAULT_BUF_SIZE, inner, max)
     }
@@ -72,10 +75,12 @@ impl<R: Tell> LineReader<R> {
         inner: R,
         max: usize,
     ) -> Result<Self, MakeError<R>>
-        ensures made { IfOk result (IsFresh R.log capacity max inner) }
+        ensures made { IfOk result (λ f. IsFresh R.log capacity (1 + max) inner f.pieces.decoder f.pieces) }
+        ensures max { IfOk result (λ f. f.pieces.decoder.max ≡ max) }
+        ensures going { IfOk result (λ f. f.skipping ≡ false) }
         ensures whole { IfOk result IsLining }
         ensures handed_back { IfErr result (λ e. e.0 ≡ inner) }
-        ensures within { FitsWithin (growth result) (room_for capacity max) (2 ^ 62) }
+        ensures within { FitsWithin (growth result) (room_for capacity (1 + max)) (2 ^ 62) }
     {
         if max >= MAX_CAPACITY {
             return Err(MakeError(inner, GrowError::TooLarge));
@@ -97,11 +102,12 @@ impl<R: Tell> LineReader<R> {
         inner: R,
         max: usize,
     ) -> Result<Self, MakeError<(Buffer, R)>>
-        ensures made { IfOk result (λ f. IsOver R.log (1 + max) buffer inner max (piecing f)) }
+        ensures made { IfOk result (λ f. IsOver R.log (1 + max) buffer inner f.pieces.decoder f.pieces) }
+        ensures max { IfOk result (λ f. f.pieces.decoder.max ≡ max) }
         ensures going { IfOk result (λ f. f.skipping ≡ false) }
         ensures whole { IfOk result IsLining }
         ensures handed_back { IfErr result (λ e. (e.0.0 ≡ buffer) × (e.0.1 ≡ inner)) }
-        ensures within { FitsWithin (growth result) (room_for buffer.capacity max) (2 ^ 62) }
+        ensures within { FitsWithin (growth result) (room_for buffer.capacity (1 + max)) (2 ^ 62) }
         ensures kept { buffer.kind ≡ Plain → 3 * (1 + max) ≤ buffer.capacity → max < 2 ^ 62 → IsOk result }
     {
         if max >= MAX_CAPACITY {
@@ -118,8 +124,8 @@ impl<R: Tell> LineReader<R> {
 
     /// The inner reader.
     pub fn get_ref(&self) -> &R
-        ensures inner { result.now ≡ self.now.reader.inner }
-        ensures log { R.log result.now ≡ self.now.reader.log }
+        ensures inner { result.now ≡ self.now.pieces.reader.inner }
+        ensures log { R.log result.now ≡ self.now.pieces.reader.log }
         ensures whole { IsLining self.now }
     {
         self.pieces.get_ref()
@@ -132,9 +138,9 @@ impl<R: Tell> LineReader<R> {
     /// answered `None`.
     pub fn get_mut(&mut self) -> &mut R
         ensures* writes_back { sem 𝓛 (Lends (the_row R.row R.Tell) R.row
-            self.entry result (with_stream R.log self.old)) }
-        ensures inner { result.now ≡ self.old.reader.inner }
-        ensures log { R.log result.now ≡ self.old.reader.log }
+            self.entry result (λ stream. record self.old { pieces = with_stream R.log self.old.pieces stream })) }
+        ensures inner { result.now ≡ self.old.pieces.reader.inner }
+        ensures log { R.log result.now ≡ self.old.pieces.reader.log }
     {
         self.pieces.get_mut()
     }
@@ -142,8 +148,8 @@ impl<R: Tell> LineReader<R> {
     /// The inner reader. What is buffered is gone, and so is an end that no call has told; [`rest`](LineReader::rest) shows it
     /// before.
     pub fn into_inner(self) -> R
-        ensures inner { result ≡ self.reader.inner }
-        ensures log { R.log result ≡ self.reader.log }
+        ensures inner { result ≡ self.pieces.reader.inner }
+        ensures log { R.log result ≡ self.pieces.reader.log }
     {
         let LineReader {
             pieces,
@@ -159,8 +165,8 @@ impl<R: Tell> LineReader<R> {
     /// of the others doesn't know that, and would ask the stream again. That a line [`is_skipping`](LineReader::is_skipping) is
     /// forgotten: ask before.
     pub fn into_inner_with_buffer(self) -> (R, Buffer, bool)
-        ensures apart { TakenApart R.log (piecing self) result.0 result.1 }
-        ensures ended { result.2 ≡ self.ended }
+        ensures apart { TakenApart R.log self.pieces result.0 result.1 }
+        ensures ended { result.2 ≡ self.pieces.ended }
     {
         let LineReader {
             pieces,
@@ -171,7 +177,7 @@ impl<R: Tell> LineReader<R> {
 
     /// The greatest length of a line, in bytes, its end not counted.
     pub fn max(&self) -> usize
-        ensures { result ≡ self.now.max }
+        ensures { result ≡ self.now.pieces.decoder.max }
     {
         self.pieces.decoder().max
     }
@@ -189,7 +195,7 @@ impl<R: Tell> LineReader<R> {
     /// lacked its end. It may be a part of a longer one, so who acts on lines asks this between [`step`](LineReader::step) and
     /// [`lent`](LineReader::lent).
     pub fn has_ended(&self) -> bool
-        ensures value { result ≡ self.now.ended }
+        ensures value { result ≡ self.now.pieces.ended }
         ensures whole { IsLining self.now }
     {
         self.pieces.has_ended()
@@ -199,15 +205,15 @@ impl<R: Tell> LineReader<R> {
     /// carriage return off it. A place that an earlier step said is refused.
     #[inline(always)]
     pub fn lent(&self, span: Span) -> &[u8]
-        requires { IsLent (lined self.now.max) self.now.handed self.now.reader.block.bytes span }
-        ensures { result.now ≡ bytes_at span self.now.reader.block.bytes }
+        requires { IsLent (lined self.now.pieces.decoder.max) self.now.pieces.handed self.now.pieces.reader.block.bytes span }
+        ensures { result.now ≡ bytes_at span self.now.pieces.reader.block.bytes }
     {
         self.pieces.lent(span)
     }
 
     /// The buffered bytes that weren't handed out.
     pub fn rest(&self) -> &[u8]
-        ensures value { result.now ≡ rest self.now }
+        ensures value { result.now ≡ rest self.now.pieces }
         ensures whole { IsLining self.now }
     {
         self.pieces.rest()
@@ -239,13 +245,13 @@ impl<R: TellRead> LineReader<R> {
     #[inline(always)]
     pub fn next(&mut self) -> Result<Option<&[u8]>, LineError>
         ensures* after_borrow { sem 𝓛 (Rests (the_row R.row R.Tell) self.entry
-            (NextGoes R.remaining self.entry.now (answer_of result))) }
-        ensures fits { IfOk result (λ found. IfSome found (λ line. length line.now ≤ self.old.max)) }
-        ensures ready { (line more : List ℕ) → IsLine line → length line ≤ self.old.max
-            → rest self.old ≡ line ++ newline ∷ more → answer_of result ≡ Ok (Some line) }
-        ensures too_long { BeginsTooLong self.old.max (rest self.old)
-            → answer_of result ≡ Err (LineError.TooLong self.old.max) }
-        ensures ended { self.old.ended ≡ true → answer_of result ≡ Ok None }
+            (NextLine R.remaining self.entry.now (answer_of result))) }
+        ensures fits { IfOk result (λ found. IfSome found (λ line. length line.now ≤ self.old.pieces.decoder.max)) }
+        ensures ready { (line more : List ℕ) → IsLine line → length line ≤ self.old.pieces.decoder.max
+            → rest self.old.pieces ≡ line ++ newline ∷ more → answer_of result ≡ Ok (Some line) }
+        ensures too_long { BeginsTooLong self.old.pieces.decoder.max (rest self.old.pieces)
+            → answer_of result ≡ Err (LineError.TooLong self.old.pieces.decoder.max) }
+        ensures ended { self.old.pieces.ended ≡ true → answer_of result ≡ Ok None }
     {
         if let Some(span) = self.step_buffered() {
             return Ok(Some(self.lent(span)));
@@ -260,9 +266,9 @@ impl<R: TellRead> LineReader<R> {
     /// until the next call. What is asked in between, as [`has_ended`](LineReader::has_ended), is asked while no line is lent.
     #[inline(always)]
     pub fn step(&mut self) -> Result<Option<Span>, LineError>
-        ensures next { NextGoes R.remaining self.old (load_answer result self.new) self.new }
+        ensures next { NextLine R.remaining self.old (load_answer result self.new.pieces) self.new }
         ensures lends { IfOk result (λ found. IfSome found
-            (IsLent (lined self.new.max) self.new.handed self.new.reader.block.bytes)) }
+            (IsLent (lined self.new.pieces.decoder.max) self.new.pieces.handed self.new.pieces.reader.block.bytes)) }
     {
         match self.step_buffered() {
             Some(span) => Ok(Some(span)),

@@ -3,7 +3,7 @@ ghost use Rattle.std.specs.Prelude.{◌<◌, length, map, IfOk, OnOk, OnErr, vec
 ghost use Rattle.line_reader.specs.Calls.{Call, call_lines};
 ghost use Rattle.line_reader.specs.Played.{CallMade, CallsPlayed, CallsStopped, kept_call};
 ghost use Rattle.codec.specs.Runs.{NextLost, kept_answer};
-ghost use Rattle.line_reader.specs.SkipLine.{NextTrimmed};
+ghost use Rattle.line_reader.specs.NextLine.{NextTrimmed};
 
 use crate::error::LineError;
 use crate::reader::LineReader;

@@ -1,11 +1,11 @@
 //! Lists of lines, written and read again.
-ghost use Rattle.std.specs.Prelude.{◌≡◌, map, IfOk, IfErr, OnOk};
+ghost use Rattle.std.specs.Prelude.{◌≡◌, ◌+◌, map, IfOk, IfErr, OnOk};
 ghost use Rattle.std.specs.List.{All};
 ghost use Rattle.buffer_redux.specs.BufWriter.{WritesInOrder, WriterStopped};
 ghost use Rattle.buffer_redux.specs.Faults.{IsMemory};
 ghost use Rattle.buffer_redux.specs.LogGrows.{WriteLogGrows};
 ghost use Rattle.buffer_redux.specs.WriteAll.{TookBeginning};
-ghost use Rattle.line_reader.specs.KnownLines.{BufferRefused};
+ghost use Rattle.codec.specs.KnownPieces.{BufferRefused};
 ghost use Rattle.line_reader.specs.Lines.{FitsLine, with_end, with_ends};
 ghost use Rattle.line_reader.specs.WrittenLines.{StopsInLine};
 
@@ -62,7 +62,7 @@ fn write_line<W: TellWrite>(writer: &mut LineWriter<W>, line: &[u8]) -> io::Resu
 pub fn round_trip(alloc: Global, lines: &[Vec<u8>], max: usize) -> io::Result<Vec<Vec<u8>>>
     requires { All (FitsLine max) (map (λ v. v.items) lines.now) }
     ensures same { IfOk result (λ kept. map (λ v. v.items) kept.items ≡ map (λ v. v.items) lines.now) }
-    ensures refused { IfErr result (BufferRefused max) }
+    ensures refused { IfErr result (BufferRefused (1 + max)) }
 {
     let bytes = written(alloc, lines)?;
     read_back(alloc, bytes.as_slice(), lines, max)
@@ -89,7 +89,7 @@ fn read_back(alloc: Global, text: &[u8], lines: &[Vec<u8>], max: usize) -> io::R
     requires fit { All (FitsLine max) (map (λ v. v.items) lines.now) }
     requires text { text.now ≡ with_ends (map (λ v. v.items) lines.now) }
     ensures same { IfOk result (λ kept. map (λ v. v.items) kept.items ≡ map (λ v. v.items) lines.now) }
-    ensures refused { IfErr result (BufferRefused max) }
+    ensures refused { IfErr result (BufferRefused (1 + max)) }
 {
     let mut reader = LineReader::new(alloc, MemoryReader::new(text), max)?;
     let read = read_each(alloc, &mut reader, lines);

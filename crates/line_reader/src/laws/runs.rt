@@ -1,10 +1,10 @@
 //! Lines are payloads that are read in runs.
 ghost use Rattle.line_reader.specs.declared.error.LineError.TheVariants.{Io};
-ghost use Rattle.line_reader.specs.KnownLines.{LeavesLines};
-ghost use Rattle.line_reader.specs.LeavesLinesLaws.{NextGoes-answers};
+ghost use Rattle.line_reader.specs.KnownCalls.{LeavesLines};
+ghost use Rattle.line_reader.specs.KnownLinesLaws.{NextLine-answers};
 ghost use Rattle.line_reader.specs.Runs.{NextPlays};
 ghost use Rattle.line_reader.specs.RunsLaws.{NextPlays-more, NextPlays-none};
-ghost use Rattle.line_reader.specs.SkipLine.{NextGoes};
+ghost use Rattle.line_reader.specs.NextLine.{NextLine};
 
 use crate::error::LineError;
 use crate::reader::LineReader;
@@ -17,7 +17,7 @@ use std::io;
 impl<R: TellRead> PayloadReader for LineReader<R> {
     type Error = LineError;
 
-    ghost goes = { NextGoes R.remaining };
+    ghost goes = { NextLine R.remaining };
 
     ghost plays = { NextPlays R.remaining };
 
@@ -40,7 +40,7 @@ impl<R: TellRead> PayloadReader for LineReader<R> {
 impl<R: TellRead> KnownReader for LineReader<R> {
     ghost has_left = { LeavesLines R.remaining };
 
-    ghost faults = { λ s. s.reader.log.reads.faults };
+    ghost faults = { λ s. s.pieces.reader.log.reads.faults };
 
     ghost stream_error = { Io };
 
@@ -51,5 +51,5 @@ impl<R: TellRead> KnownReader for LineReader<R> {
         }
     }
 
-    ghost answers_known = { NextGoes-answers R.remaining };
+    ghost answers_known = { NextLine-answers R.remaining };
 }

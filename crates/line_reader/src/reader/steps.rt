@@ -2,11 +2,13 @@
 ghost use Rattle.std.specs.Prelude.{◌≡◌, IfOk, IfSome, true, false};
 ghost use Rattle.std.specs.Bool.{OnFalse, OnTrue};
 ghost use Rattle.codec.specs.Decoding.{IsLent, bytes_at};
-ghost use Rattle.line_reader.specs.Lines.{BeginsWhole, IsTrimmed};
-ghost use Rattle.line_reader.specs.Lining.{IsLining, lined, rest};
-ghost use Rattle.line_reader.specs.NextLine.{NextBuffered, NextLine, buffered_answer, load_answer};
-ghost use Rattle.line_reader.specs.SkipLine.{DropsThrough, NextGoes};
-ghost use Rattle.line_reader.specs.Steps.{DropsLine};
+ghost use Rattle.codec.specs.Grammar.{Begins};
+ghost use Rattle.codec.specs.NextPiece.{buffered_answer, load_answer};
+ghost use Rattle.codec.specs.Piecing.{rest};
+ghost use Rattle.codec.specs.Trimming.{IsTrimmed};
+ghost use Rattle.line_reader.specs.Lining.{IsLining, lined};
+ghost use Rattle.line_reader.specs.NextLine.{NextBuffered, NextLine};
+ghost use Rattle.line_reader.specs.SkipLine.{DropsLine, DropsThrough};
 
 use crate::error::LineError;
 use crate::line::trimmed;
@@ -23,9 +25,10 @@ impl<R: Tell> LineReader<R> {
     // The line that the last step handed out, without the carriage return before its end; the last one has none.
     #[inline(always)]
     pub(super) fn shown(&self, span: Span) -> &[u8]
-        requires { IsLent (lined self.now.max) self.now.handed self.now.reader.block.bytes span }
-        ensures last { OnTrue self.now.ended (result.now ≡ bytes_at span self.now.reader.block.bytes) }
-        ensures trimmed { OnFalse self.now.ended (IsTrimmed (bytes_at span self.now.reader.block.bytes) result.now) }
+        requires { IsLent (lined self.now.pieces.decoder.max) self.now.pieces.handed self.now.pieces.reader.block.bytes span }
+        ensures last { OnTrue self.now.pieces.ended (result.now ≡ bytes_at span self.now.pieces.reader.block.bytes) }
+        ensures trimmed { OnFalse self.now.pieces.ended
+            (IsTrimmed (bytes_at span self.now.pieces.reader.block.bytes) result.now) }
     {
         let line = self.lent(span);
         if self.pieces.has_ended() {
@@ -38,7 +41,8 @@ impl<R: Tell> LineReader<R> {
     // Drops the bytes through the next end of a line, or all that are buffered; how many they are, and whether the end was
     // there.
     pub(super) fn drop_line(&mut self) -> (usize, bool)
-        ensures { DropsLine self.old result.0 result.1 self.new }
+        ensures drops { DropsLine self.old.pieces result.0 result.1 self.new.pieces }
+        ensures skipping { self.new.skipping ≡ self.old.skipping }
     {
         let left = self.pieces.rest();
         let (count, found) = match find_end(b'\n', left, self.pieces.looked(), left.len()) {
@@ -55,10 +59,10 @@ impl<R: TellRead> LineReader<R> {
     #[inline(always)]
     pub(super) fn step_buffered(&mut self) -> Option<Span>
         ensures before { IsLining self.old }
-        ensures next { NextBuffered R.remaining self.old (buffered_answer result self.new) self.new }
-        ensures lends { IfSome result (IsLent (lined self.new.max) self.new.handed self.new.reader.block.bytes) }
-        ensures open { IfSome result (λ _. self.old.skipping ≡ false) }
-        ensures going { IfSome result (λ _. self.new.ended ≡ false) }
+        ensures next { NextBuffered R.remaining self.old (buffered_answer result self.new.pieces) self.new }
+        ensures lends { IfSome result
+            (IsLent (lined self.new.pieces.decoder.max) self.new.pieces.handed self.new.pieces.reader.block.bytes) }
+        ensures going { IfSome result (λ _. self.new.pieces.ended ≡ false) }
     {
         self.pieces.step_buffered()
     }
@@ -67,10 +71,10 @@ impl<R: TellRead> LineReader<R> {
     // called where its answer is looked at; as a part of one step with `step_buffered` it would have an error cleared for it.
     #[inline(always)]
     pub(super) fn load(&mut self) -> Result<Option<Span>, LineError>
-        requires none { ¬ (BeginsWhole self.old.max (rest self.old)) }
-        ensures next { NextGoes R.remaining self.old (load_answer result self.new) self.new }
+        requires none { ¬ (Begins (lined self.old.pieces.decoder.max) (rest self.old.pieces)) }
+        ensures next { NextLine R.remaining self.old (load_answer result self.new.pieces) self.new }
         ensures lends { IfOk result (λ found. IfSome found
-            (IsLent (lined self.new.max) self.new.handed self.new.reader.block.bytes)) }
+            (IsLent (lined self.new.pieces.decoder.max) self.new.pieces.handed self.new.pieces.reader.block.bytes)) }
     {
         if self.skipping {
             self.load_aside()
@@ -84,9 +88,9 @@ impl<R: TellRead> LineReader<R> {
     #[inline(always)]
     fn load_aside(&mut self) -> Result<Option<Span>, LineError>
         requires skipping { self.old.skipping ≡ true }
-        ensures next { NextGoes R.remaining self.old (load_answer result self.new) self.new }
+        ensures next { NextLine R.remaining self.old (load_answer result self.new.pieces) self.new }
         ensures lends { IfOk result (λ found. IfSome found
-            (IsLent (lined self.new.max) self.new.handed self.new.reader.block.bytes)) }
+            (IsLent (lined self.new.pieces.decoder.max) self.new.pieces.handed self.new.pieces.reader.block.bytes)) }
     {
         self.load_behind()
     }
@@ -95,9 +99,9 @@ impl<R: TellRead> LineReader<R> {
     #[inline(never)]
     fn load_behind(&mut self) -> Result<Option<Span>, LineError>
         requires skipping { self.old.skipping ≡ true }
-        ensures next { NextGoes R.remaining self.old (load_answer result self.new) self.new }
+        ensures next { NextLine R.remaining self.old (load_answer result self.new.pieces) self.new }
         ensures lends { IfOk result (λ found. IfSome found
-            (IsLent (lined self.new.max) self.new.handed self.new.reader.block.bytes)) }
+            (IsLent (lined self.new.pieces.decoder.max) self.new.pieces.handed self.new.pieces.reader.block.bytes)) }
     {
         self.skip_line()?;
         match self.step_buffered() {
@@ -110,10 +114,10 @@ impl<R: TellRead> LineReader<R> {
     #[inline(never)]
     fn load_line(&mut self) -> Result<Option<Span>, LineError>
         requires open { self.old.skipping ≡ false }
-        requires none { ¬ (BeginsWhole self.old.max (rest self.old)) }
-        ensures next { NextLine R.remaining self.old (load_answer result self.new) self.new }
+        requires none { ¬ (Begins (lined self.old.pieces.decoder.max) (rest self.old.pieces)) }
+        ensures next { NextLine R.remaining self.old (load_answer result self.new.pieces) self.new }
         ensures lends { IfOk result (λ found. IfSome found
-            (IsLent (lined self.new.max) self.new.handed self.new.reader.block.bytes)) }
+            (IsLent (lined self.new.pieces.decoder.max) self.new.pieces.handed self.new.pieces.reader.block.bytes)) }
     {
         let have = self.pieces.rest().len();
         let max = self.pieces.decoder().max;
@@ -130,7 +134,7 @@ impl<R: TellRead> LineReader<R> {
     // Drops the bytes through the next end of a line, or all before that of the stream, and returns how many they are.
     pub(super) fn drop_through(&mut self) -> io::Result<u64>
         requires open { self.old.skipping ≡ false }
-        ensures { DropsThrough R.remaining self.old result self.new }
+        ensures { DropsThrough R.remaining self.old.pieces result self.new.pieces }
     {
         let mut dropped = 0u64;
         'turns: loop {

@@ -1,8 +1,8 @@
-use Rattle.std.proofs.Common.{◌≡◌, ◌^◌, ◌∙◌, Err, arith, inl, refl, subst}
+use Rattle.std.proofs.Common.{◌≡◌, ◌+◌, ◌^◌, ◌∙◌, Err, arith, inl, refl, subst}
 use Rattle.std.specs.IoError.{error_kind}
 use Rattle.std.specs.declared.io.ErrorKind.TheVariants.{OutOfMemory}
 use Rattle.buffer_redux.specs.GrowError.{FitsWithin}
-use Rattle.line_reader.specs.Lining.{room_for}
+use Rattle.codec.specs.Piecing.{room_for}
 use Rattle.frames.proofs.PackRuns.{pack_refused, only_memory, only_memory_too}
 use Rattle.frames.proofs.pack.pack.Goals as goal
 
@@ -11,7 +11,7 @@ returns-in-Err-clause-ran g c =
     rw c.in-Err.ensures.handed_back
     (pack_refused c.args.most _ _ c.into.result
     (c.into.ensures ∙ only_memory c.args.most c.in-Err.field-0.1 c.ranges.most.fits
-    (subst (λ n. FitsWithin {T = Unit {0}} (Err c.in-Err.field-0.1) (room_for 8192 n) (2 ^ 62)) c.from.ensures
+    (subst (λ n. FitsWithin {T = Unit {0}} (Err c.in-Err.field-0.1) (room_for 8192 (1 + n)) (2 ^ 62)) c.from.ensures
     c.in-Err.ensures.within)))
 
 pub returns-in-Err-clause-prompt : goal.returns-in-Err-clause-prompt
@@ -44,7 +44,7 @@ returns-clause-ran g c =
       ← read.log,
       ← made.log,
       ← c.from.ensures,
-      ← read.max,
+      ← c.in-Ok.ensures.max,
     )
     c.pack_all-answer.ensures.ran
 
@@ -58,7 +58,7 @@ returns-clause-prompt g c =
       ← read.log,
       ← made.log,
       ← c.from.ensures,
-      ← read.max,
+      ← c.in-Ok.ensures.max,
     )
     c.pack_all-answer.ensures.prompt
 

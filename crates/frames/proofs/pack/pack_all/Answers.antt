@@ -37,7 +37,7 @@ returns-in-Ok-clause-prompt g c =
     let rules = packing_rules g.R.TellRead.remaining g.W.TellWrite.stretch in
     let t = c.forward-answer.new.link in
     let goes = subst (λ k. Goes rules (IsPrompt rules k.filter) (last_flush c.forward-answer.result) k t) c.new-link.ensures c.forward-answer.ensures.goes in
-    subst (λ x. HoldsNothingBack (IsDue c.args.source.max) c.args.source.reader.log x.source.reader.log c.args.target.writer.log
+    subst (λ x. HoldsNothingBack (IsDue c.args.source.pieces.decoder.max) c.args.source.pieces.reader.log x.source.pieces.reader.log c.args.target.writer.log
     x.target.writer.log) (sym c.into_inner-source.ensures) (Goes-holds rules _ t goes)
 
 pub returns-in-Err-clause-prompt : goal.returns-in-Err-clause-prompt
@@ -45,5 +45,5 @@ returns-in-Err-clause-prompt g c =
     let rules = packing_rules g.R.TellRead.remaining g.W.TellWrite.stretch in
     let t = c.forward-answer.new.link in
     let goes = subst (λ k. Goes rules (IsPrompt rules k.filter) (last_flush c.forward-answer.result) k t) c.new-link.ensures c.forward-answer.ensures.goes in
-    subst (λ x. HoldsNothingBack (IsDue c.args.source.max) c.args.source.reader.log x.source.reader.log c.args.target.writer.log
+    subst (λ x. HoldsNothingBack (IsDue c.args.source.pieces.decoder.max) c.args.source.pieces.reader.log x.source.pieces.reader.log c.args.target.writer.log
     x.target.writer.log) (sym c.into_inner-source.ensures) (Goes-holds rules _ t goes)

@@ -1,5 +1,19 @@
-use Rattle.line_reader.specs.KnownLinesLaws.{NextGoes-known}
+use Rattle.codec.specs.DelimitedLaws.{delimited_lawful}
+use Rattle.codec.specs.KnownPiecesLaws.{NextPiece-known}
+use Rattle.line_reader.specs.Lines.{newline}
+use Rattle.line_reader.specs.Lining.{lined}
+use Rattle.line_reader.specs.NextLine.{piece_answer}
+use Rattle.line_reader.specs.NextLineLaws.{NextLine-open}
 use Rattle.line_reader.proofs.laws.next_known.Goals as goal
 
 pub returns : goal.returns
-returns g c s lines answer = NextGoes-known g.R.TellRead.remaining s c.args.reader.now answer lines
+returns g c =
+    let remaining = g.R.TellRead.remaining in
+    let t = c.args.reader.now in
+    record {
+      known = λ s lines answer open' line has.
+          let max = s.pieces.decoder.max in
+          NextPiece-known remaining (lined max) (delimited_lawful newline max) s.pieces t.pieces (piece_answer answer) lines
+          (NextLine-open remaining s t answer open' line).0 has;
+      going = λ s answer open' line. (NextLine-open remaining s t answer open' line).1;
+    }

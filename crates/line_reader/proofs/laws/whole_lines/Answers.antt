@@ -1,10 +1,10 @@
 use Rattle.std.proofs.Common.{[], refl}
 use Rattle.line_reader.specs.CallsLaws.{no_line}
-use Rattle.line_reader.specs.CallsWentLaws.{CallsGo-went}
+use Rattle.line_reader.specs.CallsWentLaws.{Calls-went}
 use Rattle.line_reader.proofs.laws.whole_lines.Goals as goal
 
 pub returns : goal.returns
 returns g c = record {
   went = λ least greatest stream first calls fresh whole run.
-      CallsGo-went g.R.TellRead.remaining first calls _ run [] no_line (λ _. refl) whole;
+      Calls-went g.R.TellRead.remaining first calls _ run [] no_line (λ _. refl) whole;
 }

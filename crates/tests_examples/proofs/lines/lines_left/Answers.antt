@@ -1,6 +1,6 @@
 use Rattle.std.proofs.Common.{◌∷◌, [], ◌++◌, arith, length-append, refl}
 use Rattle.std.proofs.lemmas.List.{map-append}
-use Rattle.line_reader.specs.LinesAlongLaws.{NextGoes-none, NextGoes-some}
+use Rattle.line_reader.specs.LinesAlongLaws.{NextLine-none, NextLine-some}
 use Rattle.line_reader.specs.RunsLaws.{NextRuns-more}
 use Rattle.tests_examples.proofs.lines.lines_left.Goals as goal
 
@@ -10,7 +10,7 @@ loop-count-init g c = record { lines = []; counted = refl; run = refl }
 pub loop-count-preserved : goal.loop-count-preserved
 loop-count-preserved g c =
     let before = c.loop-count.invariant in
-    let next = NextGoes-some _ c.loop-count.reader c.next.follows.lender-at-none _ _ _ c.in_ok-next.was c.in-Some.is
+    let next = NextLine-some _ c.loop-count.reader c.next.follows.lender-at-none _ _ _ c.in_ok-next.was c.in-Some.is
     c.next.follows.holds-at-none in
     record {
       lines = before.lines ++ c.in-Some.field-0.now ∷ [];
@@ -21,6 +21,6 @@ loop-count-preserved g c =
 pub returns-in-None : goal.returns-in-None
 returns-in-None g c =
     let before = c.loop-count.invariant in
-    let next = NextGoes-none _ c.loop-count.reader c.next.follows.lender-at-none _ _ c.in_ok-next.was c.in-None.is
+    let next = NextLine-none _ c.loop-count.reader c.next.follows.lender-at-none _ _ c.in_ok-next.was c.in-None.is
     c.next.follows.holds-at-none in
     record { counted = (before.lines, before.counted, NextRuns-more _ _ _ _ _ _ before.run next) }

@@ -1,8 +1,5 @@
-use Rattle.std.proofs.Common.{Ok, false, subst, sym}
 use Rattle.std.proofs.lemmas.Result.{err_from_is_err_and}
-use Rattle.forward.specs.Filter.{Passes}
 use Rattle.line_reader.specs.LinesAlongLaws.{NextBuffered-none, NextBuffered-some}
-use Rattle.frames.specs.Packing.{packing_rules}
 use Rattle.frames.proofs.PackingCalls.{lost, none_passed, not_held, written}
 use Rattle.frames.proofs.packing.PackingFilter.pass.Goals as goal
 
@@ -38,6 +35,6 @@ returns-in-None g c =
     let remaining = g.R.TellRead.remaining in
     let s = c.args.self.now in
     let t = c.next_buffered.follows.lender-at-none in
-    let same = (NextBuffered-none _ s.source t _ c.in-None.is c.next_buffered.follows.holds-at-none).0 in
-    subst (λ x. Passes (packing_rules remaining g.W.TellWrite.stretch) s (Ok false) (record s { source = x })) (sym same)
-    (none_passed remaining g.W.TellWrite.stretch g.met.W.TellWrite.stretch_none s c.requires (not_held s.held c.in_default.not-Some))
+    let looked = NextBuffered-none _ s.source t _ c.in-None.is c.next_buffered.follows.holds-at-none in
+    none_passed remaining g.W.TellWrite.stretch g.met.W.TellWrite.stretch_none s c.requires (not_held s.held c.in_default.not-Some)
+    t looked.0 looked.2

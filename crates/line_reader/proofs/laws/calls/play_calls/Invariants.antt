@@ -1,5 +1,6 @@
 use Rattle.std.proofs.Common.{◌≡◌, ◌≤◌, List, ◌++◌, map, take, vec_capacity}
-use Rattle.line_reader.specs.Calls.{Call, CallsGo}
+use Rattle.codec.specs.Runs.{AnswerRuns}
+use Rattle.line_reader.specs.Calls.{Call, CallGoes}
 use Rattle.line_reader.specs.Played.{asked, kept_call}
 use Rattle.line_reader.proofs.laws.calls.play_calls.Given as goal
 
@@ -10,5 +11,5 @@ invariant-loop-ask g l = record {
   gained : map kept_call l.played.items ≡ map kept_call l.fn.played.items ++ calls;
   asked : map asked calls ≡ take l.ask-index l.fn.asks;
   capacity : vec_capacity l.fn.played ≤ vec_capacity l.played;
-  run : CallsGo g.R.TellRead.remaining l.fn.reader calls l.reader;
+  run : AnswerRuns (CallGoes g.R.TellRead.remaining) l.fn.reader calls l.reader;
 }

@@ -1,24 +1,29 @@
-use Rattle.std.proofs.Common.{map, ap, inl, sym, subst, Some, ◌∙◌}
+use Rattle.std.proofs.Common.{◌+◌, map, ap, inl, sym, subst, Some, ◌∙◌}
 use Rattle.std.specs.List.{All}
 use Rattle.buffer_redux.specs.Memory.{reader-faultless}
 use Rattle.codec.specs.KnownPayloadsLaws.{read_refused}
-use Rattle.line_reader.specs.KnownLines.{BufferRefused}
-use Rattle.line_reader.specs.KnownLinesLaws.{IsFresh-left, all_plain}
+use Rattle.codec.specs.KnownPieces.{BufferRefused}
+use Rattle.codec.specs.KnownPiecesLaws.{IsFresh-left}
 use Rattle.line_reader.specs.Lines.{FitsLine, HasLines}
-use Rattle.line_reader.specs.TextLaws.{Lines-with_ends}
+use Rattle.line_reader.specs.Lining.{lined}
+use Rattle.line_reader.specs.TextLaws.{Lines-with_ends, all_plain, pieces_of}
 use Rattle.line_reader.proofs.laws.lists.read_back.Goals as goal
 
 pub read_each-read-requires : goal.read_each-read-requires
 read_each-read-requires c =
+    let max = c.args.max in
     let lines = map (λ v. v.items) c.args.lines.now in
-    let made = c.in_ok-reader.ensures.made in
-    let has : HasLines c.args.text.now lines =
-    subst (λ l. HasLines l lines) (sym c.requires.text) (Lines-with_ends lines (all_plain c.args.max lines c.requires.fit)) in
+    let made = c.in_ok-reader.ensures in
+    let f = c.in_ok-reader.reader.pieces in
+    let text = c.args.text.now in
+    let has : HasLines text lines =
+    subst (λ l. HasLines l lines) (sym c.requires.text) (Lines-with_ends lines (all_plain max lines c.requires.fit)) in
     record {
       left = record {
-        fit = subst (λ max. All (FitsLine max) lines) (sym made.max) c.requires.fit;
-        has = IsFresh-left _ _ 8192 c.args.max c.new.result c.in_ok-reader.reader c.args.text.now lines made
-            (ap (λ l. Some l) c.new.ensures.bytes) has;
+        has = IsFresh-left _ (lined f.decoder.max) _ 8192 (1 + max) c.new.result f.decoder f text lines made.made
+            (ap (λ l. Some l) c.new.ensures.bytes)
+            (pieces_of f.decoder.max text lines has (subst (λ n. All (FitsLine n) lines) (sym made.max) c.requires.fit));
+        open' = made.going;
       };
     }
 

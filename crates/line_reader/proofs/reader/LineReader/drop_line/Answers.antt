@@ -2,11 +2,10 @@ use Rattle.std.proofs.Common.{◌≡◌, true, false, ap, arith, length, subst, 
 use Rattle.std.proofs.lemmas.List.{take_all}
 use Rattle.codec.specs.DelimitedLaws.{open_plain}
 use Rattle.codec.specs.Plain.{EndsAt, IsPlain}
-use Rattle.codec.specs.Piecing.{rest}
+use Rattle.codec.specs.Piecing.{IsPiecing, rest}
 use Rattle.line_reader.specs.Lines.{IsLine, newline}
-use Rattle.line_reader.specs.Lining.{ReadsLines, lining}
-use Rattle.line_reader.specs.Steps.{DropsLine}
-use Rattle.line_reader.proofs.Pieces.{drops_line}
+use Rattle.line_reader.specs.Lining.{lined}
+use Rattle.line_reader.specs.SkipLine.{DropsLine}
 use Rattle.line_reader.proofs.reader.LineReader.drop_line.Goals.{in-Some, in-None}
 use Rattle.line_reader.proofs.reader.LineReader.drop_line.Goals as goal
 
@@ -17,37 +16,39 @@ find_end-requires-clause-plain g c =
     (subst (λ n. IsPlain newline (take n (rest f))) (sym c.looked.ensures.value)
     (open_plain newline f.decoder.max (take f.seen (rest f)) c.self.invariant.whole.searched).0)
 
-pub returns : goal.returns
-returns g c =
+pub returns-clause-drops : goal.returns-clause-drops
+returns-clause-drops g c =
     let i = c.match-find_end.self-inside in
     let count = c.match-find_end.count in
     let t = c.skip.new.self in
     elim c.match-find_end.branch [
       | in-Some w ↦
           let same = w.self-inside-is in
-          let reads = subst (λ x. ReadsLines x.pieces x.skipping) (sym same) c.self.invariant in
-          let view = ap (λ x. lining x.pieces x.skipping) same ∙ c.self.view_is in
           let left = c.rest-left.ensures.value ∙ ap (λ x. rest x.pieces) (sym same) in
           let found = w.in-Some.ensures.found in
           let size = ap (λ p. p.0) w.count-is in
-          subst (λ x. DropsLine x count.0 count.1 (lining t i.skipping)) view
-          (drops_line i.pieces t i.skipping reads count.0 c.skip.ensures.skips count.1
-          (omega (arith, size, found.0, ap length left))
-          (λ _. (w.in-Some.len, size, subst (EndsAt newline w.in-Some.len) left found.1))
-          (λ odd. (let no : true ≡ false = sym (ap (λ p. p.1) w.count-is) ∙ odd in cc)))
+          let view = ap (λ x. x.pieces) same ∙ ap (λ x. x.pieces) c.self.view_is in
+          subst (λ x. DropsLine x count.0 count.1 t) view (record {
+            before = subst (λ x. IsPiecing (lined x.pieces.decoder.max) x.pieces) (sym same) c.self.invariant.whole;
+            inside = omega (arith, size, found.0, ap length left);
+            skips = c.skip.ensures.skips;
+            ends = λ _. (w.in-Some.len, size, subst (EndsAt newline w.in-Some.len) left found.1);
+            none = λ odd. (let no : true ≡ false = sym (ap (λ p. p.1) w.count-is) ∙ odd in cc);
+          })
       | in-None w ↦
           let same = w.self-inside-is in
-          let reads = subst (λ x. ReadsLines x.pieces x.skipping) (sym same) c.self.invariant in
-          let view = ap (λ x. lining x.pieces x.skipping) same ∙ c.self.view_is in
           let left = c.rest-left.ensures.value ∙ ap (λ x. rest x.pieces) (sym same) in
           let size = ap (λ p. p.0) w.count-is in
-          subst (λ x. DropsLine x count.0 count.1 (lining t i.skipping)) view
-          (drops_line i.pieces t i.skipping reads count.0 c.skip.ensures.skips count.1
-          (omega (arith, size, ap length left))
-          (λ odd. (let no : true ≡ false = sym odd ∙ ap (λ p. p.1) w.count-is in cc))
-          (λ _. (
-            size ∙ ap length left,
-            subst IsLine (take_all (length c.rest-left.result.now) c.rest-left.result.now (omega arith) ∙ left)
-                w.in-None.ensures.none,
-          )))
+          let view = ap (λ x. x.pieces) same ∙ ap (λ x. x.pieces) c.self.view_is in
+          subst (λ x. DropsLine x count.0 count.1 t) view (record {
+            before = subst (λ x. IsPiecing (lined x.pieces.decoder.max) x.pieces) (sym same) c.self.invariant.whole;
+            inside = omega (arith, size, ap length left);
+            skips = c.skip.ensures.skips;
+            ends = λ odd. (let no : true ≡ false = sym odd ∙ ap (λ p. p.1) w.count-is in cc);
+            none = λ _. (
+              size ∙ ap length left,
+              subst IsLine (take_all (length c.rest-left.result.now) c.rest-left.result.now (omega arith) ∙ left)
+                  w.in-None.ensures.none,
+            );
+          })
     ]

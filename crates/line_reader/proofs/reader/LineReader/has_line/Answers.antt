@@ -1,9 +1,12 @@
 use Rattle.std.proofs.Common.{◌↔◌, IsTrue, subst}
 use Rattle.line_reader.specs.Lining.{HasLine}
-use Rattle.line_reader.proofs.Pieces.{HasLine-of}
+use Rattle.line_reader.proofs.Going.{settled_open}
 use Rattle.line_reader.proofs.reader.LineReader.has_line.Goals as goal
 
 pub returns : goal.returns
 returns g c =
-    subst (λ x. IsTrue c.is_settled.result ↔ HasLine x) c.self.view_is
-    (HasLine-of c.self.inside.pieces c.self.inside.skipping c.self.invariant c.is_settled.ensures.settled)
+    let settled = c.is_settled.ensures.settled in
+    subst (λ x. IsTrue c.is_settled.result ↔ HasLine x) c.self.view_is (
+      (λ is. record { open' = settled_open _ c.self.invariant (settled.0 is); settled = settled.0 is }),
+      (λ has. settled.1 has.settled),
+    )

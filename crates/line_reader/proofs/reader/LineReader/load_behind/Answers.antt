@@ -1,25 +1,22 @@
-use Rattle.std.proofs.Common.{subst}
-use Rattle.line_reader.specs.NextLine.{NextLine, load_answer}
-use Rattle.line_reader.proofs.Going.{goes_first}
+use Rattle.std.proofs.Common.{◌∙◌}
+use Rattle.line_reader.specs.NextLineLaws.{NextLine-behind, NextLine-open, SkipsLine-whole}
+use Rattle.line_reader.proofs.Going.{NextLine-looked}
 use Rattle.line_reader.proofs.reader.LineReader.load_behind.Goals as goal
 
 pub returns-in-Some-clause-next : goal.returns-in-Some-clause-next
 returns-in-Some-clause-next g c =
-    goes_first g.R.TellRead.remaining c.args.self.now c.step_buffered.new.self _ c.requires.skipping (record {
-      count = c.in_ok-skip_line.field-0;
-      between = c.skip_line.new.self;
-      skips = c.in_ok-skip_line.ensures;
-      next = c.in-Some.ensures.next.0;
-    })
+    let m = c.skip_line.new.self in
+    let found = c.in-Some.ensures.next in
+    NextLine-behind g.R.TellRead.remaining c.args.self.now c.step_buffered.new.self _ c.requires.skipping m
+    c.in_ok-skip_line.field-0 c.in_ok-skip_line.ensures (found.piece.0, found.skipping ∙ c.in_ok-skip_line.ensures.skipping)
 
 pub returns-in-None-clause-next : goal.returns-in-None-clause-next
 returns-in-None-clause-next g c =
     let remaining = g.R.TellRead.remaining in
+    let m = c.skip_line.new.self in
     let t = c.load_line.new.self in
-    goes_first remaining c.args.self.now t _ c.requires.skipping (record {
-      count = c.in_ok-skip_line.field-0;
-      between = c.skip_line.new.self;
-      skips = c.in_ok-skip_line.ensures;
-      next = subst (λ x. NextLine remaining x (load_answer c.load_line.result t) t) c.in-None.ensures.next.0
-          c.load_line.ensures.next;
-    })
+    let skips = c.in_ok-skip_line.ensures in
+    let whole = SkipsLine-whole remaining c.args.self.now m _ skips in
+    let next = NextLine-looked remaining m c.step_buffered.new.self t _ whole c.in-None.ensures.next c.load_line.ensures.next in
+    NextLine-behind remaining c.args.self.now t _ c.requires.skipping m c.in_ok-skip_line.field-0 skips
+    (NextLine-open remaining m t _ skips.skipping next)

@@ -1,26 +1,60 @@
-use Rattle.std.proofs.Common.{◌≡◌, MatchBool, Ok, Some, refl, subst, sym}
-use Rattle.line_reader.specs.Lines.{IsTrimmed}
-use Rattle.line_reader.specs.NextLine.{NextLine}
-use Rattle.line_reader.proofs.Going.{goes_plain}
+use Rattle.std.proofs.Common.{◌≡◌, Ok, Err, Some, None, refl, subst, sym}
+use Rattle.std.proofs.lemmas.Result.{err_from_is_err_and}
+use Rattle.std.specs.Prelude.{MatchBool}
+use Rattle.codec.specs.NextPiece.{load_answer}
+use Rattle.codec.specs.Trimming.{IsTrimmed}
+use Rattle.line_reader.specs.NextLine.{NextBuffered, NextLine}
+use Rattle.line_reader.proofs.Going.{NextLine-found, NextLine-looked}
+use Rattle.line_reader.proofs.Trimming.{trims_line}
 use Rattle.line_reader.proofs.reader.LineReader.next_trimmed.Goals as goal
 
 pub returns-in-Some : goal.returns-in-Some
 returns-in-Some g c =
+    let remaining = g.R.TellRead.remaining in
     let s = c.args.self.now in
     let t = c.step_buffered.new.self in
     let line = c.lent.result.now in
-    let shown = c.trimmed.result.now in
-    let found = subst (λ l. NextLine g.R.TellRead.remaining s (Ok (Some l)) t) (sym c.lent.ensures)
-    c.in-Some.ensures.next.0 in (
+    let shown = c.trimmed.result.now in (
       (
         refl,
         (λ _. tt),
         record {
           whole = Ok (Some line);
-          next = goes_plain g.R.TellRead.remaining s t _ c.in-Some.ensures.open found;
+          next = NextLine-found remaining s t line
+              (subst (λ l. NextBuffered remaining s (Some l) t) (sym c.lent.ensures) c.in-Some.ensures.next);
           trims = subst (λ b. MatchBool b (shown ≡ line) (IsTrimmed line shown)) (sym c.in-Some.ensures.going)
               c.trimmed.ensures;
         },
       ),
       record { after_borrow = tt },
     )
+
+pub returns-in_err-span : goal.returns-in_err-span
+returns-in_err-span g c =
+    let next = NextLine-looked g.R.TellRead.remaining c.args.self.now c.step_buffered.new.self c.load.new.self
+    (Err c.in_err-span.field-0.0) c.step_buffered.ensures.before c.in_default.ensures.next c.in_err-span.ensures.next in
+    let p = err_from_is_err_and c.from_residual.result c.from_residual.ensures.1 in
+    rw (p.1, p.2)
+    ((refl, (λ _. tt), record { whole = Err c.in_err-span.field-0.0; next = next; trims = refl }), record { after_borrow = tt })
+
+pub returns-in-Some-2 : goal.returns-in-Some-2
+returns-in-Some-2 g c =
+    let remaining = g.R.TellRead.remaining in
+    let s = c.args.self.now in
+    let t = c.load.new.self in
+    let loads = NextLine-looked remaining s c.step_buffered.new.self t (load_answer (Ok c.in_ok-span.field-0) t.pieces)
+    c.step_buffered.ensures.before c.in_default.ensures.next c.in_ok-span.ensures.next in
+    let next = subst (λ o. NextLine remaining s (load_answer (Ok o) t.pieces) t) c.in-Some-2.is loads in (
+      (refl, (λ _. tt), trims_line remaining s t _ c.shown.result.now next c.shown.ensures.last c.shown.ensures.trimmed),
+      record { after_borrow = tt },
+    )
+
+pub returns-in-None : goal.returns-in-None
+returns-in-None g c =
+    let remaining = g.R.TellRead.remaining in
+    let s = c.args.self.now in
+    let t = c.load.new.self in
+    let loads = NextLine-looked remaining s c.step_buffered.new.self t (load_answer (Ok c.in_ok-span.field-0) t.pieces)
+    c.step_buffered.ensures.before c.in_default.ensures.next c.in_ok-span.ensures.next in
+    let next = subst (λ o. NextLine remaining s (load_answer (Ok o) t.pieces) t) c.in-None.is loads in
+    ((refl, (λ _. tt), record { whole = Ok None; next = next; trims = refl }), record { after_borrow = tt })
