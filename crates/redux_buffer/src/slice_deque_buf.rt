@@ -186,7 +186,6 @@ impl SliceDequeBuf {
     }
 
     /// Drops the first `n` bytes, or all where it holds fewer.
-    #[tactic(auto, using(crate::proofs::Ranges::drop_range, crate::proofs::Ranges::length_range))]
     pub fn consume(&mut self, n: usize)
         ensures bytes { ConsumesFirst n self.old.block self.new.block }
         ensures shift { CountsShift (min n (length self.old.block.bytes)) self.old self.new }
@@ -202,7 +201,6 @@ impl SliceDequeBuf {
     }
 
     // Drops the first `n` bytes, which it holds. To drop all stands apart, so that to drop some is short in its caller.
-    #[tactic(auto, using(crate::proofs::Ranges::drop_range, crate::proofs::Ranges::length_range))]
     pub(crate) fn consume_exact(&mut self, n: usize)
         requires within { n ≤ length self.old.block.bytes }
         ensures bytes { ConsumesFirst n self.old.block self.new.block }
@@ -220,7 +218,6 @@ impl SliceDequeBuf {
     }
 
     // Drops all bytes.
-    #[tactic(auto, using(crate::proofs::Ranges::drop_range, crate::proofs::Ranges::length_range))]
     fn clear(&mut self)
         ensures bytes { ConsumesFirst (length self.old.block.bytes) self.old.block self.new.block }
         ensures shift { CountsShift (length self.old.block.bytes) self.old self.new }

@@ -35,3 +35,6 @@ returns-clause-moved c = grind (arith, common_steps)
 
 pub returns-clause-whole : goal.returns-clause-whole
 returns-clause-whole c = grind (arith, common_steps)
+
+pub take_front-requires-clause-fits : goal.take_front-requires-clause-fits
+take_front-requires-clause-fits c = grind (arith, common_steps)

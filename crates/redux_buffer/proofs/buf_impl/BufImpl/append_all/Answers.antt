@@ -1,4 +1,5 @@
-use Rattle.std.proofs.Common.{rules, ◌≡◌, ◌≤◌, length, subst, ap}
+use Rattle.std.proofs.Common.{rules, ◌≡◌, ◌≤◌, length, subst, ap, arith}
+use Rattle.std.proofs.lemmas.Grind.{common_steps}
 use Rattle.redux_buffer.specs.Block.{Extends, draw_back, usable}
 use Rattle.redux_buffer.specs.BufImpl.{as_placed}
 use Rattle.redux_buffer.proofs.Written.{front_adds}
@@ -22,3 +23,6 @@ returns-clause-bytes c =
     let moves : (as_placed t).block.moved ≡ (draw_back p).block.moved = search rules in
     subst (λ l. Extends l p.block (as_placed t).block) is
     (front_adds c.if-is_past.self t p w n is_drawn size room c.take_front.ensures.bytes moves)
+
+pub take_front-requires-clause-fits : goal.take_front-requires-clause-fits
+take_front-requires-clause-fits c = grind (arith, common_steps)

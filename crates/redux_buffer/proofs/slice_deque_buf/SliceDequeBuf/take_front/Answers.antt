@@ -29,3 +29,6 @@ returns-clause-whole c = grind (arith, common_steps)
 
 pub overflow_add-self : goal.overflow_add-self
 overflow_add-self c = grind (arith, common_steps)
+
+pub invariant_of-self : goal.invariant_of-self
+invariant_of-self c = grind (arith, common_steps)
