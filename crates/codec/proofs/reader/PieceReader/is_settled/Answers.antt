@@ -1,4 +1,5 @@
-use Rattle.std.proofs.Common.{ap, inl, inr, refl, subst}
+use Rattle.std.proofs.Common.{ap, inl, inr, refl, subst, arith}
+use Rattle.std.proofs.lemmas.Grind.{common_steps}
 use Rattle.codec.specs.Decoding.{IsPiece}
 use Rattle.codec.specs.Grammar.{Begins}
 use Rattle.codec.specs.GrammarLaws.{begins_of}
@@ -36,3 +37,6 @@ pub returns-in-Wrong-clause-unasked : goal.returns-in-Wrong-clause-unasked
 returns-in-Wrong-clause-unasked g c =
     AsksNone-settled g.R.TellRead.remaining (g.D.Decoder.grammar c.args.self.now.decoder)
     (g.met.D.Decoder.lawful c.args.self.now.decoder) c.args.self.now (wrong g c)
+
+pub decode-requires-clause-within : goal.decode-requires-clause-within
+decode-requires-clause-within g c = grind (arith, common_steps)
