@@ -53,6 +53,8 @@ impl<W: TellWrite, P: WriterPolicy> BufWriter<W, P> {
         self.write_slowly(first, bytes)
     }
 
+    // Answers by the parts, as the next three `aside`s do: a whole answer is loaded in other widths than it was stored in, and
+    // waits until the stores are done.
     #[inline(always)]
     pub(super) fn write_asking_aside(&mut self, bytes: &[u8]) -> io::Result<usize>
         ensures bound { WritesAtMost result bytes.now }
@@ -60,7 +62,10 @@ impl<W: TellWrite, P: WriterPolicy> BufWriter<W, P> {
         ensures whole { IsBlock self.new.block }
         ensures stretch { InnerWent W.log W.stretch self.old self.new }
     {
-        self.write_asking(bytes)
+        match self.write_asking(bytes) {
+            Ok(n) => Ok(n),
+            Err(e) => Err(e),
+        }
     }
 
     // Goes on in `write_apart`. The kit's compiler clears the answer of a call, here 96 bytes, where the function that makes
@@ -72,7 +77,10 @@ impl<W: TellWrite, P: WriterPolicy> BufWriter<W, P> {
         ensures whole { IsBlock self.new.block }
         ensures stretch { InnerWent W.log W.stretch self.old self.new }
     {
-        self.write_apart(first, bytes)
+        match self.write_apart(first, bytes) {
+            Ok(n) => Ok(n),
+            Err(e) => Err(e),
+        }
     }
 
     // Goes on after the first write of a write of all bytes, which returned `answer`: writes what is left, where that write
@@ -117,7 +125,10 @@ impl<W: TellWrite, P: WriterPolicy> BufWriter<W, P> {
         ensures all { (s : Buffered W P) → AskedFirst W.log P.rules (length bytes.now) first s self.old
             → WritesAll W.log W.stretch P.rules s bytes.now result self.new }
     {
-        self.write_rest(first, bytes)
+        match self.write_rest(first, bytes) {
+            Ok(()) => Ok(()),
+            Err(e) => Err(e),
+        }
     }
 
     // A write of all bytes that may not fit behind those that are buffered.
@@ -137,7 +148,10 @@ impl<W: TellWrite, P: WriterPolicy> BufWriter<W, P> {
         requires some { 0 < length bytes.now }
         ensures all { WritesAll W.log W.stretch P.rules self.old bytes.now result self.new }
     {
-        self.write_large(bytes)
+        match self.write_large(bytes) {
+            Ok(()) => Ok(()),
+            Err(e) => Err(e),
+        }
     }
 
     #[inline(always)]

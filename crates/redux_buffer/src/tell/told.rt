@@ -120,7 +120,11 @@ impl<S: Write> TellWrite for Told<S> {
     {
         let answer = self.stream.write(buf);
         self.calls.note(&Call::Write(buf, &answer));
-        answer
+        // Answered by the parts, as in `read_told`.
+        match answer {
+            Ok(taken) => Ok(taken),
+            Err(fault) => Err(fault),
+        }
     }
 
     fn flush_told(&mut self) -> io::Result<()>
@@ -156,6 +160,10 @@ impl<S: Seek> TellSeek for Told<S> {
     {
         let answer = self.stream.seek(to);
         self.calls.note(&Call::Seek(to, &answer));
-        answer
+        // Answered by the parts, as in `read_told`.
+        match answer {
+            Ok(at) => Ok(at),
+            Err(refusal) => Err(refusal),
+        }
     }
 }
