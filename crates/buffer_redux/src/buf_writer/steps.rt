@@ -53,8 +53,8 @@ impl<W: TellWrite, P: WriterPolicy> BufWriter<W, P> {
         self.write_slowly(first, bytes)
     }
 
-    // Answers by the parts, as the next three `aside`s do: a whole answer is loaded in other widths than it was stored in, and
-    // waits until the stores are done.
+    // Answers by the parts, as `write_aside` does: a whole answer is loaded in other widths than it was stored in, and waits
+    // until the stores are done.
     #[inline(always)]
     pub(super) fn write_asking_aside(&mut self, bytes: &[u8]) -> io::Result<usize>
         ensures bound { WritesAtMost result bytes.now }
@@ -125,10 +125,7 @@ impl<W: TellWrite, P: WriterPolicy> BufWriter<W, P> {
         ensures all { (s : Buffered W P) → AskedFirst W.log P.rules (length bytes.now) first s self.old
             → WritesAll W.log W.stretch P.rules s bytes.now result self.new }
     {
-        match self.write_rest(first, bytes) {
-            Ok(()) => Ok(()),
-            Err(e) => Err(e),
-        }
+        self.write_rest(first, bytes)
     }
 
     // A write of all bytes that may not fit behind those that are buffered.
@@ -148,10 +145,7 @@ impl<W: TellWrite, P: WriterPolicy> BufWriter<W, P> {
         requires some { 0 < length bytes.now }
         ensures all { WritesAll W.log W.stretch P.rules self.old bytes.now result self.new }
     {
-        match self.write_large(bytes) {
-            Ok(()) => Ok(()),
-            Err(e) => Err(e),
-        }
+        self.write_large(bytes)
     }
 
     #[inline(always)]
