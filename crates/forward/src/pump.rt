@@ -21,7 +21,15 @@ pub fn forward<F: Filter>(link: &mut Link<F>) -> Result<u64, Stopped<F::Wrong>>
     ensures { Forwards F.rules link.old result link.new }
 {
     for count in 0..u64::MAX {
-        match forward_next(link) {
+        match link.pass() {
+            Ok(true) => continue,
+            Ok(false) => {}
+            Err(e) => {
+                let cause = Cause::Write(e);
+                return Err(Stopped { count, cause });
+            }
+        }
+        match forward_asked(link) {
             Ok(true) => {}
             Ok(false) => return Ok(count),
             Err(cause) => return Err(Stopped { count, cause }),
@@ -33,20 +41,8 @@ pub fn forward<F: Filter>(link: &mut Link<F>) -> Result<u64, Stopped<F::Wrong>>
     })
 }
 
-// Forwards the next payload, and returns whether there was one.
-#[inline(always)]
-fn forward_next<F: Filter>(link: &mut Link<F>) -> Result<bool, Cause<F::Wrong>>
-    requires { F.rules.ready link.old.filter }
-    ensures { ForwardsNext F.rules link.old result link.new }
-{
-    match link.pass() {
-        Ok(true) => Ok(true),
-        Ok(false) => forward_asked(link),
-        Err(e) => Err(Cause::Write(e)),
-    }
-}
-
-// The same where none is there: all that was taken in is sent and flushed, and then it is asked for.
+// Forwards the next payload where none is there, and returns whether there was one: all that was taken in is sent and flushed, and
+// then it is asked for.
 #[inline(always)]
 fn forward_asked<F: Filter>(link: &mut Link<F>) -> Result<bool, Cause<F::Wrong>>
     requires ready { F.rules.ready link.old.filter }
