@@ -14,7 +14,7 @@ use Rattle.messages.specs.declared.head.Extent.TheVariants.{Sized, Chunked}
 use Rattle.messages.specs.declared.head.Said.{Said}
 use Rattle.messages.specs.Heads.{IsHead}
 use Rattle.messages.specs.declared.head.Heads.{Heads}
-use Rattle.messages.specs.Messages.{AreMessages, InTurn, Message}
+use Rattle.messages.specs.Messages.{AreMessages, InBody, InTurn, IsRest, Message}
 use Rattle.programs.specs.Streams.{AllSent}
 use Rattle.requests.specs.declared.Place.{Place}
 use Rattle.requests.specs.declared.Place.TheVariants.{Before, Inside}
@@ -52,6 +52,11 @@ accepted said len = success said.keeps ++ (if said.bare then [] else length_line
 -- the answer to a message: 200, and how much payload all of its body has
 abbrev pub IsAnswer : Message → List ℕ → Type 0
 IsAnswer m text = (said : Said) × IsHead m.0 said × (text ≡ called (waits said) ++ accepted said (length m.1))
+
+-- the whole body was taken, with so much payload
+abbrev pub TakesWhole : {S : Type 0} → (S → Option (List ℕ)) → InBody S → Unbuffered S → ℕ → Type 0
+TakesWhole remaining b t len = (wire : List ℕ) × (payload : List ℕ) × StreamWent remaining b.stream wire t
+    × IsRest b.rest wire payload × (len ≡ length payload)
 
 -- what the stream has left
 abbrev pub stream_at : {S : Type 0} → Place S → Unbuffered S

@@ -14,7 +14,7 @@ ghost use Rattle.codec.specs.Piecing.{Piecing, left_of};
 ghost use Rattle.messages.specs.declared.head.Heads.{Heads};
 ghost use Rattle.messages.specs.Messages.{Begun, InsideGoes, IsRest};
 ghost use Rattle.programs.specs.Streams.{AllSent};
-ghost use Rattle.requests.specs.Answers.{Sends, Serves, Turns, accepted, called, has_body, length_line, refused, waits};
+ghost use Rattle.requests.specs.Answers.{Sends, Serves, TakesWhole, Turns, accepted, called, has_body, length_line, refused, waits};
 
 use buffer_redux::BufWriter;
 use buffer_redux::tell::{Tell, TellRead, TellWrite, Told};
@@ -149,8 +149,7 @@ fn answer_called<R: TellRead, W: TellWrite>(
 
 // Takes the whole body, and counts its payload.
 fn take_whole<R: TellRead>(body: Body<R>) -> Result<(u64, Requests<R>), (Body<R>, FinishError)>
-    ensures whole { IfOk result (λ r. (wire : List ℕ) × (payload : List ℕ)
-        × StreamWent R.remaining body.stream wire (left_of r.1) × IsRest body.rest wire payload × (r.0 ≡ length payload)) }
+    ensures whole { IfOk result (λ r. TakesWhole R.remaining body (left_of r.1) r.0) }
     ensures part { IfErr result (λ e. (handed : List ℕ) × InsideGoes R.remaining body handed e.0) }
 {
     let mut body = body;

@@ -67,20 +67,8 @@ returns-in-Ok-eq0 g c =
 
 pub returns-in_default-clause-goes : goal.returns-in_default-clause-goes
 returns-in_default-clause-goes g c =
-    let before = c.loop-read.invariant in
-    let handed = handed_out c.read.new.out c.read.result in (
-      before.payload ++ handed,
-      InsideGoes-joins g.R.TellRead.remaining c.args.body.now c.loop-read.body c.read.new.self before.payload handed before.goes
-          c.read.ensures.goes,
-      tt,
-    )
+    (_, InsideGoes-joins _ _ _ _ _ _ c.loop-read.invariant.goes c.read.ensures.goes, tt)
 
 pub returns-then-not-is_interrupted-clause-goes : goal.returns-then-not-is_interrupted-clause-goes
 returns-then-not-is_interrupted-clause-goes g c =
-    let before = c.loop-read.invariant in
-    let handed = handed_out c.read.new.out c.read.result in (
-      before.payload ++ handed,
-      InsideGoes-joins g.R.TellRead.remaining c.args.body.now c.loop-read.body c.read.new.self before.payload handed before.goes
-          c.read.ensures.goes,
-      tt,
-    )
+    (_, InsideGoes-joins _ _ _ _ _ _ c.loop-read.invariant.goes c.read.ensures.goes, tt)

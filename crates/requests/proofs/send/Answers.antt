@@ -6,8 +6,8 @@ use Rattle.requests.proofs.send.Goals as goal
 
 pub returns-in-Ok : goal.returns-in-Ok
 returns-in-Ok g c =
-    Sends-flushed g.W.Tell.log g.W.TellWrite.stretch g.met.W.TellWrite.stretch_none g.met.W.TellWrite.stretch_joins
-    c.args.writer.now c.write_parts.new.self c.flush.new.self _ c.flush.result c.in-Ok.ensures.along c.flush.ensures.flushed
+    Sends-flushed g.met.W.TellWrite.stretch_joins c.args.writer.now c.write_parts.new.self c.flush.new.self _ c.flush.result
+    c.in-Ok.ensures.along c.flush.ensures.flushed
 
 pub returns-in-Err : goal.returns-in-Err
 returns-in-Err g c = record {

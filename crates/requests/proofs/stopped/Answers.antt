@@ -1,44 +1,22 @@
 use Rattle.std.proofs.Common.{[], Ok, Err, true, false}
-use Rattle.codec.specs.Piecing.{left_of}
-use Rattle.requests.specs.Answers.{refused}
 use Rattle.requests.proofs.Answering.{Sends-none, none_answered}
 use Rattle.requests.proofs.stopped.Goals as goal
 
 pub returns-then-is_interrupt : goal.returns-then-is_interrupt
 returns-then-is_interrupt g c = λ s went.
-    none_answered g.W.Tell.log g.W.TellWrite.stretch g.met.W.TellWrite.stretch_none g.met.W.TellWrite.stretch_joins
-    g.R.TellRead.remaining (left_of s) c.args.writer.now [] [] (left_of c.args.requests) (Ok tt) c.args.writer.now went
-    (Sends-none g.W.Tell.log g.W.TellWrite.stretch g.met.W.TellWrite.stretch_none g.met.W.TellWrite.stretch_joins
-    c.args.writer.now (Ok tt) c.requires.sent)
+    none_answered went (Sends-none g.met.W.TellWrite.stretch_none c.args.writer.now (Ok tt) c.requires.sent)
 
 pub returns-in-Ended : goal.returns-in-Ended
-returns-in-Ended g c = λ s went. (
-  [],
-  false,
-  false,
-  none_answered g.W.Tell.log g.W.TellWrite.stretch g.met.W.TellWrite.stretch_none g.met.W.TellWrite.stretch_joins
-      g.R.TellRead.remaining (left_of s) c.args.writer.now [] [] (left_of c.args.requests) (Ok tt) c.args.writer.now went
-      (Sends-none g.W.Tell.log g.W.TellWrite.stretch g.met.W.TellWrite.stretch_none g.met.W.TellWrite.stretch_joins
-      c.args.writer.now (Ok tt) c.requires.sent),
-)
+returns-in-Ended g c = λ s went.
+    ([], false, false, none_answered went (Sends-none g.met.W.TellWrite.stretch_none c.args.writer.now (Ok tt) c.requires.sent))
 
 pub returns-in-Bad : goal.returns-in-Bad
-returns-in-Bad g c = λ s went. (
-  [],
-  false,
-  true,
-  none_answered g.W.Tell.log g.W.TellWrite.stretch g.met.W.TellWrite.stretch_none g.met.W.TellWrite.stretch_joins
-      g.R.TellRead.remaining (left_of s) c.args.writer.now [] (refused true) (left_of c.args.requests) c.refuse-ending.result
-      c.refuse-ending.new.writer went c.refuse-ending.ensures,
-)
+returns-in-Bad g c = λ s went. ([], false, true, none_answered went c.refuse-ending.ensures)
 
 pub returns-in-Io : goal.returns-in-Io
 returns-in-Io g c = λ s went. (
   [],
   false,
   false,
-  none_answered g.W.Tell.log g.W.TellWrite.stretch g.met.W.TellWrite.stretch_none g.met.W.TellWrite.stretch_joins
-      g.R.TellRead.remaining (left_of s) c.args.writer.now [] [] (left_of c.args.requests) (Err c.in-Io.e) c.args.writer.now went
-      (Sends-none g.W.Tell.log g.W.TellWrite.stretch g.met.W.TellWrite.stretch_none g.met.W.TellWrite.stretch_joins
-      c.args.writer.now (Err c.in-Io.e) c.requires.sent),
+  none_answered went (Sends-none g.met.W.TellWrite.stretch_none c.args.writer.now (Err c.in-Io.e) c.requires.sent),
 )
