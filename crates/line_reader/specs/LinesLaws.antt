@@ -3,22 +3,13 @@ use Rattle.std.specs.Prelude.{◌≡◌, ℕ, ◌+◌, ◌≤◌, ◌⊎◌, Lis
 use Rattle.std.proofs.Common.{sym, subst, arith, length-append}
 use Rattle.std.proofs.lemmas.List.{take-append-le}
 use Rattle.std.proofs.lemmas.List.Elements.{All-nil, All-cons, All-head, All-tail, All-take}
-use Rattle.codec.specs.DelimitedLaws.{end-within, end_in, first_end, isnt_end, plain-same}
+use Rattle.codec.specs.DelimitedLaws.{end-within, first_end, isnt_end}
 use Rattle.line_reader.specs.Lines.{newline, BeginsTooLong, IsLine}
-
--- bytes begin with a line and its end in one way
-pub line-same : (p q xs ys : List ℕ) → IsLine p → IsLine q → p ++ newline ∷ xs ≡ q ++ newline ∷ ys
-    → (p ≡ q) × (xs ≡ ys)
-line-same = plain-same newline
 
 -- the end of a line of at most max bytes is one of the first max + 1
 pub no-end-within : (line more : List ℕ) (max : ℕ) → length line ≤ max
     → ¬ (IsLine (take (1 + max) (line ++ newline ∷ more)))
 no-end-within = end-within newline
-
--- what has an end isn't a line
-pub no_end_in : (line more : List ℕ) → ¬ (IsLine (line ++ newline ∷ more))
-no_end_in = end_in newline
 
 -- there is an end among bytes, or none
 pub line_or_end : (bytes : List ℕ)
