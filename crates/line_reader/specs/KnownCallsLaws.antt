@@ -3,12 +3,14 @@ use Rattle.std.specs.Prelude.{◌≡◌, ℕ, ◌+◌, ◌<◌, ◌⊎◌, List,
 use Rattle.std.proofs.Common.{sym, ap, subst, ◌∙◌, refl, arith, inl, inr, append-nil, append_assoc}
 use Rattle.std.proofs.lemmas.List.Concat.{flat_map-append}
 use Rattle.std.proofs.lemmas.List.Elements.{All-append}
+use Rattle.std.proofs.lemmas.Bool.{true≢false}
 use Rattle.std.specs.Io.KnownBytes.{prepend_known}
 use Rattle.std.specs.declared.io.Error.{Error}
 use Rattle.buffer_redux.specs.StreamLog.{StreamLog}
+use Rattle.codec.specs.DelimitedLaws.{isnt_end}
 use Rattle.codec.specs.KnownPieces.{ahead_of}
-use Rattle.codec.specs.KnownPiecesLaws.{PiecesWent-dry, PiecesWent-front, PiecesWent-stays}
-use Rattle.codec.specs.NextPiece.{MetEnd, NextPiece, PiecesWent}
+use Rattle.codec.specs.KnownPiecesLaws.{PiecesWent-dry, PiecesWent-front}
+use Rattle.codec.specs.NextPiece.{MetEnd, PiecesWent}
 use Rattle.codec.specs.PiecesWentLaws.{drop_none}
 use Rattle.codec.specs.Piecing.{IsFresh, rest}
 use Rattle.codec.specs.Runs.{AnswerRuns, handed_payload}
@@ -18,8 +20,8 @@ use Rattle.line_reader.specs.Calls.{Handed, Trimmed, Skipped, Ended, Nexts, Next
 use Rattle.line_reader.specs.CallsLaws.{no_line}
 use Rattle.line_reader.specs.KnownCalls.{LeavesBehind, LeavesLines, TakesLines, TookFront}
 use Rattle.line_reader.specs.Lines.{HasLines, IsLine, last_line, newline, with_end}
-use Rattle.line_reader.specs.Lining.{Lining, lined}
-use Rattle.line_reader.specs.NextLine.{NextAnswer, NextLine, Trims, piece_answer}
+use Rattle.line_reader.specs.Lining.{Lining}
+use Rattle.line_reader.specs.NextLine.{NextAnswer, NextLine, Trims}
 use Rattle.line_reader.specs.NextLineLaws.{IsHanded-fits, NextOpen, by_skipping}
 use Rattle.line_reader.specs.SkipLine.{IsWithEnd, SkipsLine}
 use Rattle.line_reader.specs.TextLaws.{Lines-first, Lines-last, Lines-none, Lines-same, lines-last, lines-none, lines_of}
@@ -71,6 +73,13 @@ module _ {S : Type 0} (remaining : S → Option (List ℕ)) where
       → LeavesBehind remaining before f lines → LeavesBehind remaining [] f lines
   none_before f before lines open' b = subst (λ l. LeavesBehind remaining l f lines) (b.closed open') b
 
+  -- the front of the lines went by these events
+  front : (lines : List (List ℕ)) (t : Lining S) (events : List Event) (later : List (List ℕ)) (after : List ℕ)
+      → TakesLines lines events later → LeavesBehind remaining after t later
+      → TookFront remaining lines (lines_of_events events) t
+  front lines t events later after takes left =
+      record { events = events; later = later; takes = takes; same = refl; before = after; left = left }
+
   TookFront-joins : (m t : Lining S) (lines handed then : List (List ℕ)) (f : TookFront remaining lines handed m)
       → TookFront remaining f.later then t → TookFront remaining lines (handed ++ then) t
   TookFront-joins m t lines handed then f g = record {
@@ -84,109 +93,121 @@ module _ {S : Type 0} (remaining : S → Option (List ℕ)) where
     left = g.left;
   }
 
+-- the end of the stream is behind these bytes, where it was met
+abbrev Quiet : {S : Type 0} → Lining S → List ℕ → Lining S → Type 0
+Quiet s after t = t.pieces.ended ≡ true → (after ≡ []) × (rest t.pieces ≡ []) × MetEnd s.pieces t.pieces
+
+-- what is left of a known text behind some bytes that went, the last of which are the beginning of a line
+module _ {S : Type 0} (remaining : S → Option (List ℕ)) (s t : Lining S) (before : List ℕ) (lines : List (List ℕ))
+    (b : LeavesBehind remaining before s lines) (bytes : List ℕ)
+    (went : PiecesWent remaining (1 + s.pieces.decoder.max) s.pieces bytes t.pieces) (after : List ℕ) (plain : IsLine after)
+    (closed : t.skipping ≡ false → after ≡ []) (quiet : Quiet s after t) where
+  abbrev all : List ℕ
+  all = before ++ bytes
+
+  abbrev behind : (more : List ℕ) × (ahead_of remaining t.pieces ≡ Some more) × (b.text ≡ bytes ++ more)
+  behind = PiecesWent-front remaining _ s.pieces t.pieces b.text bytes b.known went
+
+  has : HasLines (all ++ behind.0) lines
+  has = subst (λ l. HasLines l lines) (ap (λ l. before ++ l) behind.2 ∙ sym (append_assoc before bytes behind.0)) b.has
+
+  -- nothing is, once the end of the stream was met
+  dry : rest t.pieces ≡ [] → MetEnd s.pieces t.pieces → behind.0 ≡ []
+  dry none met = elim s.pieces.ended as (λ e. e ≡ s.pieces.ended → behind.0 ≡ []) [
+    | true ↦ λ is. nil_behind all behind.0
+        (Lines-none (all ++ behind.0) (subst (HasLines (all ++ behind.0)) (b.none (sym is)) has))
+    | false ↦ λ is. PiecesWent-dry remaining _ s.pieces t.pieces b.text bytes b.known went (sym is) met ∙ none
+  ] refl
+    where
+      nil_behind : (front more : List ℕ) → front ++ more ≡ [] → more ≡ []
+      nil_behind [] more is = is
+      nil_behind (byte ∷ front) more is = cc
+
+  nothing : t.pieces.ended ≡ true → after ++ behind.0 ≡ []
+  nothing ended = (let q = quiet ended in ap (λ l. l ++ behind.0) q.0 ∙ dry q.1 q.2)
+
+  leaves : (later : List (List ℕ)) → HasLines (after ++ behind.0) later → LeavesBehind remaining after t later
+  leaves later has' = record {
+    text = behind.0;
+    known = behind.1;
+    plain = plain;
+    closed = closed;
+    has = has';
+    none = λ ended. Lines-last [] later no_line (subst (λ l. HasLines l later) (nothing ended) has');
+  }
+
+  -- a line went, with its end or as the last one
+  took_line : (line : List ℕ) → IsLine line
+      → (all ≡ with_end line ++ after) ⊎ ((all ≡ line ++ after) × (0 < length line) × (t.pieces.ended ≡ true))
+      → (later : List (List ℕ)) × (lines ≡ line ∷ later) × LeavesBehind remaining after t later
+  took_line line is_line (inl is) =
+      let front : all ++ behind.0 ≡ line ++ newline ∷ (after ++ behind.0) =
+      ap (λ l. l ++ behind.0) is ∙ append_assoc (with_end line) after behind.0
+      ∙ append_assoc line (newline ∷ []) (after ++ behind.0) in
+      let first = Lines-first line (after ++ behind.0) (all ++ behind.0) lines is_line front has in
+      (first.0, first.1, leaves first.0 first.2)
+  took_line line is_line (inr (is, some, ended)) =
+      let text : all ++ behind.0 ≡ line =
+      ap (λ l. l ++ behind.0) is ∙ append_assoc line after behind.0 ∙ ap (λ l. line ++ l) (nothing ended)
+      ∙ append-nil line in (
+        [],
+        Lines-same line lines (line ∷ []) (subst (λ l. HasLines l lines) text has) (lines-last line is_line some),
+        leaves [] (subst (λ l. HasLines l []) (sym (nothing ended)) lines-none),
+      )
+
+  -- none did
+  took_none : all ≡ after → LeavesBehind remaining after t lines
+  took_none is = leaves lines (subst (λ l. HasLines (l ++ behind.0) lines) is has)
+
+  -- none did, and the end was told
+  took_end : all ≡ [] → after ≡ [] → rest t.pieces ≡ [] → MetEnd s.pieces t.pieces
+      → (lines ≡ []) × LeavesBehind remaining after t []
+  took_end is no_after none met =
+      let over = dry none met in (
+        Lines-last [] lines no_line (subst (λ l. HasLines l lines) (ap (λ l. l ++ behind.0) is ∙ over) has),
+        leaves [] (subst (λ l. HasLines l []) (sym (ap (λ l. l ++ behind.0) no_after ∙ over)) lines-none),
+      )
+
 -- one call of `next` where no line is being skipped
 module _ {S : Type 0} (remaining : S → Option (List ℕ)) (s t : Lining S) (lines : List (List ℕ))
-    (has : LeavesBehind remaining [] s lines) where
-  module _ (answer : NextAnswer) (step : NextOpen remaining s answer t) where
-    abbrev next : NextPiece remaining (lined s.pieces.decoder.max) s.pieces (piece_answer answer) t.pieces
-    next = step.0
-
-    -- what is left now
-    abbrev left : (more : List ℕ) × (ahead_of remaining t.pieces ≡ Some more) × (has.text ≡ next.bytes ++ more)
-    left = PiecesWent-front remaining _ s.pieces t.pieces has.text next.bytes has.known next.went
-
-    buffered_left : s.pieces.ended ≡ false → MetEnd s.pieces t.pieces → left.0 ≡ rest t.pieces
-    buffered_left = PiecesWent-dry remaining _ s.pieces t.pieces has.text next.bytes has.known next.went
-
-    -- these lines are left
-    lines_left : (text : List ℕ) (later : List (List ℕ)) → ahead_of remaining t.pieces ≡ Some text → HasLines text later
-        → (t.pieces.ended ≡ true → later ≡ []) → LeavesBehind remaining [] t later
-    lines_left text later known has' none =
-        record { text = text; known = known; plain = no_line; closed = λ _. refl; has = has'; none = none }
-
-    goes_on : (later : List (List ℕ)) → t.pieces.ended ≡ false → t.pieces.ended ≡ true → later ≡ []
-    goes_on later going ended = (let odd : true ≡ false = sym ended ∙ going in cc)
-
-    -- nothing was handed out
-    stays : next.bytes ≡ [] → t.pieces.ended ≡ false → LeavesBehind remaining [] t lines
-    stays none going =
-        let same = PiecesWent-stays remaining _ s.pieces t.pieces has.text next.bytes has.known next.went none in
-        lines_left has.text lines same has.has (goes_on lines going)
-
-    -- none was there, at the end
-    none_of : next.bytes ≡ [] → rest t.pieces ≡ [] → t.pieces.ended ≡ false → MetEnd s.pieces t.pieces
-        → (lines ≡ []) × LeavesBehind remaining [] t []
-    none_of is none going met =
-        elim s.pieces.ended as (λ b. b ≡ s.pieces.ended → (lines ≡ []) × LeavesBehind remaining [] t []) [
-          | true ↦ λ ended. (
-            has.none (sym ended),
-            subst (LeavesBehind remaining [] t) (has.none (sym ended)) (stays is going),
-          )
-          | false ↦ λ not_ended.
-              let all : has.text ≡ [] = left.2 ∙ ap (λ l. l ++ left.0) is ∙ buffered_left (sym not_ended) met ∙ none in
-              let no_line = Lines-same [] lines [] (subst (λ l. HasLines l lines) all has.has) lines-none in
-              (no_line, subst (LeavesBehind remaining [] t) no_line (stays is going))
-        ] refl
-
-    -- one was
-    module _ (line : List ℕ) (plain : IsLine line) where
-      first_of : next.bytes ≡ with_end line → t.pieces.ended ≡ false
-          → (later : List (List ℕ)) × (lines ≡ line ∷ later) × LeavesBehind remaining [] t later
-      first_of is going =
-          let front : has.text ≡ line ++ newline ∷ left.0 =
-          left.2 ∙ ap (λ l. l ++ left.0) is ∙ append_assoc line (newline ∷ []) left.0 in
-          let first = Lines-first line left.0 has.text lines plain front has.has in
-          (first.0, first.1, lines_left left.0 first.0 left.1 first.2 (goes_on first.0 going))
-
-      last_of : next.bytes ≡ line → 0 < length line → rest t.pieces ≡ [] → s.pieces.ended ≡ false → MetEnd s.pieces t.pieces
-          → (lines ≡ line ∷ []) × LeavesBehind remaining [] t []
-      last_of is some none going met =
-          let nothing : left.0 ≡ [] = buffered_left going met ∙ none in
-          let all : has.text ≡ line = left.2 ∙ ap (λ l. l ++ left.0) is ∙ ap (λ l. line ++ l) nothing ∙ append-nil line in (
-            Lines-same line lines (line ∷ []) (subst (λ l. HasLines l lines) all has.has) (lines-last line plain some),
-            lines_left [] [] (left.1 ∙ ap (λ l. Some l) nothing) lines-none (λ _. refl),
-          )
+    (b : LeavesBehind remaining [] s lines) where
+  next_quiet : (answer : NextAnswer) → NextOpen remaining s answer t → Quiet s [] t
+  next_quiet (Ok (Some line)) (next, open') ended = elim next.answers.1 [
+    | inl (is, going, none) ↦ absurd (true≢false (sym ended ∙ going))
+    | inr (is, part, some, none, told, met) ↦ (refl, none, met)
+  ]
+  next_quiet (Ok None) (next, open') ended = absurd (true≢false (sym ended ∙ next.answers.3))
+  next_quiet (Err (TooLong most)) (next, open') ended = absurd (true≢false (sym ended ∙ next.answers.2))
+  next_quiet (Err (Io e)) (next, open') ended = absurd (true≢false (sym ended ∙ next.answers.3))
 
   takes_one : (line : List ℕ) → NextOpen remaining s (Ok (Some line)) t
       → (later : List (List ℕ)) × (lines ≡ line ∷ later) × LeavesBehind remaining [] t later
-  takes_one line step =
-      let next = step.0 in
+  takes_one line n =
+      let next = n.0 in
       let fits = IsHanded-fits s.pieces.decoder.max s.pieces t.pieces line next.bytes next.answers.1 in
-      elim next.answers.1 [
-        | inl (is, going, none) ↦ first_of (Ok (Some line)) step line fits.plain is.equal going
+      took_line remaining s t [] lines b next.bytes next.went [] no_line (λ _. refl) (next_quiet (Ok (Some line)) n) line
+      fits.plain (elim next.answers.1 [
+        | inl (is, going, none) ↦ inl (is.equal ∙ sym (append-nil (with_end line)))
         | inr (is, part, some, none, ended, met) ↦
-            (let not_ended : s.pieces.ended ≡ false = elim s.pieces.ended as (λ b. b ≡ s.pieces.ended → b ≡ false) [
-              | true ↦ λ told. (let odd : Ok (Some line) ≡ Ok None = next.told (sym told) in cc)
-              | false ↦ λ _. refl
-            ] refl in
-            let some' : 0 < length line = omega (arith, some, ap length is) in
-            let last = last_of (Ok (Some line)) step line fits.plain (sym is) some' none not_ended met in
-            ([], last.0, last.1))
-      ]
+            inr (sym is ∙ sym (append-nil line), omega (arith, some, ap length is), ended)
+      ])
 
-  front : (events : List Event) (handed : List (List ℕ)) → lines_of_events events ≡ handed → (later : List (List ℕ))
-      → TakesLines lines events later → LeavesBehind remaining [] t later → TookFront remaining lines handed t
-  front events handed is later takes left = record {
-    events = events;
-    later = later;
-    takes = takes;
-    same = is;
-    before = [];
-    left = left;
-  }
+  stays : (answer : NextAnswer) (n : NextOpen remaining s answer t) → n.0.bytes ≡ [] → TookFront remaining lines [] t
+  stays answer n none =
+      front remaining lines t [] lines [] refl
+      (took_none remaining s t [] lines b n.0.bytes n.0.went [] no_line (λ _. refl) (next_quiet answer n) none)
 
   next_takes : (answer : NextAnswer) → NextOpen remaining s answer t → TookFront remaining lines (handed_payload answer) t
-  next_takes (Ok (Some line)) step =
-      let one = takes_one line step in
-      front (Handed line ∷ []) (line ∷ []) refl one.0 (one.0, one.1, refl) one.2
-  next_takes (Ok None) step =
-      let a = step.0.answers in
-      let end = none_of (Ok None) step a.0 a.1 a.3 a.4 in
-      front (Ended ∷ []) [] refl [] (end.0, refl) end.1
-  next_takes (Err (TooLong most)) step =
-      let a = step.0.answers in front [] [] refl lines refl (stays (Err (TooLong most)) step a.0 a.2)
-  next_takes (Err (Io e)) step =
-      let a = step.0.answers in front [] [] refl lines refl (stays (Err (Io e)) step a.0 a.3)
+  next_takes (Ok (Some line)) n =
+      let one = takes_one line n in
+      front remaining lines t (Handed line ∷ []) one.0 [] (one.0, one.1, refl) one.2
+  next_takes (Ok None) n =
+      let a = n.0.answers in
+      let end = took_end remaining s t [] lines b n.0.bytes n.0.went [] no_line (λ _. refl) (next_quiet (Ok None) n) a.0 refl
+      a.1 a.4 in
+      front remaining lines t (Ended ∷ []) [] [] (end.0, refl) end.1
+  next_takes (Err (TooLong most)) n = stays (Err (TooLong most)) n n.0.answers.0
+  next_takes (Err (Io e)) n = stays (Err (Io e)) n n.0.answers.0
 
   either_shown : (ended : Bool) (line shown : List ℕ) → MatchBool ended (shown ≡ line) (IsTrimmed line shown)
       → IsTrimmed line shown ⊎ (shown ≡ line)
@@ -197,7 +218,7 @@ module _ {S : Type 0} (remaining : S → Option (List ℕ)) (s t : Lining S) (li
       → TookFront remaining lines (handed_payload answer) t
   trimmed_takes (Ok (Some line)) (Ok (Some shown)) n trims =
       let one = takes_one line n in
-      front (Trimmed shown ∷ []) (shown ∷ []) refl one.0
+      front remaining lines t (Trimmed shown ∷ []) one.0 []
       (line, one.0, one.1, either_shown t.pieces.ended line shown trims, refl) one.2
   trimmed_takes (Ok (Some line)) (Ok None) n trims = absurd trims
   trimmed_takes (Ok (Some line)) (Err e) n trims = absurd trims
@@ -209,125 +230,42 @@ module _ {S : Type 0} (remaining : S → Option (List ℕ)) (s t : Lining S) (li
 -- a skip, or the part of a call that goes on skipping
 module _ {S : Type 0} (remaining : S → Option (List ℕ)) (s t : Lining S) (before : List ℕ) (lines : List (List ℕ))
     (b : LeavesBehind remaining before s lines) where
-  -- what is left now
-  module _ (bytes : List ℕ) (went : PiecesWent remaining (1 + s.pieces.decoder.max) s.pieces bytes t.pieces) where
-    abbrev behind : (more : List ℕ) × (ahead_of remaining t.pieces ≡ Some more) × (b.text ≡ bytes ++ more)
-    behind = PiecesWent-front remaining _ s.pieces t.pieces b.text bytes b.known went
-
-    all_text : before ++ b.text ≡ (before ++ bytes) ++ behind.0
-    all_text = ap (λ l. before ++ l) behind.2 ∙ sym (append_assoc before bytes behind.0)
-
-    -- the end of the stream was met, so nothing is
-    nothing_left : rest t.pieces ≡ [] → MetEnd s.pieces t.pieces → behind.0 ≡ [] ⊎ (s.pieces.ended ≡ true)
-    nothing_left none met = elim s.pieces.ended as (λ e. e ≡ s.pieces.ended → behind.0 ≡ [] ⊎ (s.pieces.ended ≡ true)) [
-      | true ↦ λ is. inr (sym is)
-      | false ↦ λ is. inl (PiecesWent-dry remaining _ s.pieces t.pieces b.text bytes b.known went (sym is) met ∙ none)
-    ] refl
-
-  skip_whole_takes : (count : ℕ) (k : SkipsLine remaining s (Ok count) t) (w : IsWithEnd k.drops.bytes) → t.pieces.ended ≡ false
-      → TookFront remaining lines [] t
-  skip_whole_takes count k w going =
-      let more = behind k.drops.bytes k.drops.went in
-      let is : before ++ b.text ≡ (before ++ w.line) ++ newline ∷ more.0 =
-      all_text k.drops.bytes k.drops.went ∙ ap (λ l. (before ++ l) ++ more.0) w.equal
-      ∙ ap (λ l. l ++ more.0) (sym (append_assoc before w.line (newline ∷ [])))
-      ∙ append_assoc (before ++ w.line) (newline ∷ []) more.0 in
-      let first = Lines-first (before ++ w.line) more.0 (before ++ b.text) lines
-      (All-append (λ byte. ¬ (byte ≡ newline)) before w.line b.plain w.plain) is b.has in
-      record {
-        events = Skipped (before ++ w.line) ∷ [];
-        later = first.0;
-        takes = (first.0, first.1, refl);
-        same = refl;
-        before = [];
-        left = record {
-          text = more.0;
-          known = more.1;
-          plain = no_line;
-          closed = λ _. refl;
-          has = first.2;
-          none = λ ended. (let odd : true ≡ false = sym ended ∙ going in cc);
-        };
-      }
-
-  -- nothing is left behind
-  at_end : (k : ahead_of remaining t.pieces ≡ Some []) → LeavesBehind remaining [] t []
-  at_end known = record {
-    text = [];
-    known = known;
-    plain = no_line;
-    closed = λ _. refl;
-    has = lines-none;
-    none = λ _. refl;
-  }
-
-  skip_last_takes : (count : ℕ) (k : SkipsLine remaining s (Ok count) t) → IsLine k.drops.bytes → rest t.pieces ≡ []
-      → MetEnd s.pieces t.pieces → TookFront remaining lines [] t
-  skip_last_takes count k plain none met =
-      let more = behind k.drops.bytes k.drops.went in
-      elim (nothing_left k.drops.bytes k.drops.went none met) [
-        | inl over ↦
-            (let all : before ++ b.text ≡ before ++ k.drops.bytes =
-            all_text k.drops.bytes k.drops.went ∙ ap (λ l. (before ++ k.drops.bytes) ++ l) over
-            ∙ append-nil (before ++ k.drops.bytes) in
-            let line = All-append (λ byte. ¬ (byte ≡ newline)) before k.drops.bytes b.plain plain in
-            let is = Lines-last (before ++ k.drops.bytes) lines line (subst (λ l. HasLines l lines) all b.has) in
-            last_takes (before ++ k.drops.bytes) is (at_end (more.1 ∙ ap (λ l. Some l) over)))
-        | inr ended ↦
-            (let no_lines = b.none ended in
-            let empty = Lines-none (before ++ b.text) (subst (HasLines (before ++ b.text)) no_lines b.has) in
-            let over : more.0 ≡ [] = nil_behind (before ++ k.drops.bytes) more.0
-            (sym (all_text k.drops.bytes k.drops.went) ∙ empty) in
-            record {
-              events = [];
-              later = [];
-              takes = no_lines;
-              same = refl;
-              before = [];
-              left = at_end (more.1 ∙ ap (λ l. Some l) over);
-            })
+  skip_takes : (count : ℕ) → SkipsLine remaining s (Ok count) t → TookFront remaining lines [] t
+  skip_takes count k =
+      let bytes = k.drops.bytes in
+      elim k.drops.answers.2 [
+        | inl (w, going, met) ↦
+            (let line = before ++ w.line in
+            let is : before ++ bytes ≡ with_end line ++ [] =
+            ap (λ l. before ++ l) w.equal ∙ sym (append_assoc before w.line (newline ∷ [])) ∙ sym (append-nil (with_end line)) in
+            let quiet : Quiet s [] t = λ ended. absurd (true≢false (sym ended ∙ going)) in
+            let one = took_line remaining s t before lines b bytes k.drops.went [] no_line (λ _. refl) quiet line
+            (All-append (isnt_end newline) before w.line b.plain w.plain) (inl is) in
+            front remaining lines t (Skipped line ∷ []) one.0 [] (one.0, one.1, refl) one.2)
+        | inr (plain, none, ended, met) ↦
+            through (before ++ bytes) refl (All-append (isnt_end newline) before bytes b.plain plain) none ended met
       ]
     where
-      nil_behind : (a c : List ℕ) → a ++ c ≡ [] → c ≡ []
-      nil_behind [] c is = is
-      nil_behind (x ∷ a) c is = cc
-
-      last_takes : (all : List ℕ) → lines ≡ last_line all → LeavesBehind remaining [] t [] → TookFront remaining lines [] t
-      last_takes [] is left =
-          record { events = []; later = []; takes = is; same = refl; before = []; left = left }
-      last_takes (byte ∷ all) is left = record {
-        events = Skipped (byte ∷ all) ∷ [];
-        later = [];
-        takes = ([], is, refl);
-        same = refl;
-        before = [];
-        left = left;
-      }
-
-  skip_takes : (count : ℕ) → SkipsLine remaining s (Ok count) t → TookFront remaining lines [] t
-  skip_takes count k = elim k.drops.answers.2 [
-    | inl (w, going, met) ↦ skip_whole_takes count k w going
-    | inr (plain, none, ended, met) ↦ skip_last_takes count k plain none met
-  ]
+      -- to the end of the stream
+      through : (all : List ℕ) → all ≡ before ++ k.drops.bytes → IsLine all → rest t.pieces ≡ [] → t.pieces.ended ≡ true
+          → MetEnd s.pieces t.pieces → TookFront remaining lines [] t
+      through [] is plain none ended met =
+          front remaining lines t [] lines [] refl
+          (took_none remaining s t before lines b k.drops.bytes k.drops.went [] no_line (λ _. refl) (λ _. (refl, none, met))
+          (sym is))
+      through (byte ∷ more) is plain none ended met =
+          let line = byte ∷ more in
+          let one = took_line remaining s t before lines b k.drops.bytes k.drops.went [] no_line (λ _. refl)
+          (λ _. (refl, none, met)) line plain (inr (sym is ∙ sym (append-nil line), omega arith, ended)) in
+          front remaining lines t (Skipped line ∷ []) one.0 [] (one.0, one.1, refl) one.2
 
   skip_failed_takes : (e : Error) → SkipsLine remaining s (Err e) t → TookFront remaining lines [] t
   skip_failed_takes e k =
-      let more = behind k.drops.bytes k.drops.went in
-      record {
-        events = [];
-        later = lines;
-        takes = refl;
-        same = refl;
-        before = before ++ k.drops.bytes;
-        left = record {
-          text = more.0;
-          known = more.1;
-          plain = All-append (λ byte. ¬ (byte ≡ newline)) before k.drops.bytes b.plain k.drops.answers.0;
-          closed = λ open'. (let odd : true ≡ false = sym k.skipping ∙ open' in cc);
-          has = subst (λ l. HasLines l lines) (all_text k.drops.bytes k.drops.went) b.has;
-          none = λ ended. (let odd : true ≡ false = sym ended ∙ k.drops.answers.2 in cc);
-        };
-      }
+      let bytes = k.drops.bytes in
+      let plain = All-append (isnt_end newline) before bytes b.plain k.drops.answers.0 in
+      front remaining lines t [] lines (before ++ bytes) refl
+      (took_none remaining s t before lines b bytes k.drops.went (before ++ bytes) plain
+      (λ open'. absurd (true≢false (sym k.skipping ∙ open'))) (λ ended. absurd (true≢false (sym ended ∙ k.drops.answers.2))) refl)
 
 module _ {S : Type 0} (remaining : S → Option (List ℕ)) where
   -- a call that goes on skipping first
