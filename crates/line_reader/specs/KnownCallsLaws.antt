@@ -19,11 +19,11 @@ use Rattle.line_reader.specs.declared.error.LineError.TheVariants.{TooLong, Io}
 use Rattle.line_reader.specs.Calls.{Handed, Trimmed, Skipped, Ended, Nexts, NextsTrimmed, Skips, Call, CallGoes, Event, call_lines, event_lines, lines_of_calls, lines_of_events}
 use Rattle.line_reader.specs.CallsLaws.{no_line}
 use Rattle.line_reader.specs.KnownCalls.{LeavesBehind, LeavesLines, TakesLines, TookFront}
-use Rattle.line_reader.specs.Lines.{HasLines, IsLine, last_line, newline, with_end}
+use Rattle.line_reader.specs.Lines.{HasLines, IsLine, newline, with_end}
 use Rattle.line_reader.specs.Lining.{Lining}
 use Rattle.line_reader.specs.NextLine.{NextAnswer, NextLine, Trims}
 use Rattle.line_reader.specs.NextLineLaws.{IsHanded-fits, NextOpen, by_skipping}
-use Rattle.line_reader.specs.SkipLine.{IsWithEnd, SkipsLine}
+use Rattle.line_reader.specs.SkipLine.{SkipsLine}
 use Rattle.line_reader.specs.TextLaws.{Lines-first, Lines-last, Lines-none, Lines-same, lines-last, lines-none, lines_of}
 
 -- parts join

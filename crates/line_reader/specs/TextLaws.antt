@@ -46,6 +46,18 @@ lines_of max text (line ∷ lines) (inr (last, none)) =
     (subst (λ l. HasLines text (text ∷ l)) (sym none)
     (lines-last text (open_plain newline max text last.open').0 last.some))
 
+-- and they fit
+pub fits_of : (max : ℕ) (text : List ℕ) (lines : List (List ℕ)) → HasPieces (lined max) text lines
+    → All (FitsLine max) lines
+fits_of max text [] none = All-nil (FitsLine max)
+fits_of max text (line ∷ lines) (inl (more, s, has)) =
+    All-cons (FitsLine max) line lines (record { plain = s.is.plain; fits = s.is.fits }) (fits_of max more lines has)
+fits_of max text (line ∷ lines) (inr (last, none)) =
+    let p = open_plain newline max text last.open' in
+    let line_fits : FitsLine max line =
+    record { plain = subst IsLine (sym last.is) p.0; fits = omega (arith, p.1, ap length last.is) } in
+    All-cons (FitsLine max) line lines line_fits (subst (All (FitsLine max)) (sym none) (All-nil (FitsLine max)))
+
 -- a text whose lines fit is these lines as pieces
 pub pieces_of : (max : ℕ) (text : List ℕ) (lines : List (List ℕ)) → HasLines text lines → All (FitsLine max) lines
     → HasPieces (lined max) text lines

@@ -1,5 +1,5 @@
 //! Laws, each as the contract of a function over the calls.
-ghost use Rattle.std.specs.Prelude.{◌≡◌, ℕ, List, [], ◌∷◌, ◌++◌, ◌⊎◌, false, map, true, None, Some, Ok, Result};
+ghost use Rattle.std.specs.Prelude.{◌≡◌, ◌↔◌, ℕ, List, [], ◌∷◌, ◌++◌, ◌⊎◌, false, map, true, None, Some, Ok, Result};
 ghost use Rattle.std.specs.List.{All};
 ghost use Rattle.std.specs.declared.io.Error.{Error};
 ghost use Rattle.buffer_redux.specs.Sparing.{MovedAtMostGiven};
@@ -78,12 +78,12 @@ pub fn asks_nobody<R: TellRead>(reader: &LineReader<R>)
 {}
 
 /// What a run of calls handed out, up to the one that told the end, is a text, and the lines that were handed out are its
-/// lines. And a text of lines that fit is these lines as pieces.
+/// lines. A text of lines that fit is one of these lines as pieces.
 pub fn lines_of_text()
     ensures lines { (max : ℕ) (answers : List NextAnswer) (bytes : List ℕ) → NoneTold answers
         → Cuts (lined max) (map piece_answer (answers ++ Ok None ∷ [])) bytes → HasLines bytes (all_handed answers) }
-    ensures pieces { (max : ℕ) (text : List ℕ) (lines : List (List ℕ)) → HasLines text lines → All (FitsLine max) lines
-        → HasPieces (lined max) text lines }
+    ensures pieces { (max : ℕ) (text : List ℕ) (lines : List (List ℕ))
+        → (HasLines text lines × All (FitsLine max) lines) ↔ HasPieces (lined max) text lines }
 {}
 
 /// Where just some lines are left of a stream that is known, `next` hands out the first, or answers `None` where there is
