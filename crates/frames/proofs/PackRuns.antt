@@ -20,7 +20,6 @@ use Rattle.forward.specs.Forward.{ForwardAnswers, Forwarded, ForwardedFirst, Sto
 use Rattle.forward.specs.declared.error.Cause.{Cause}
 use Rattle.forward.specs.declared.error.Cause.TheVariants as cause
 use Rattle.codec.specs.Outgoing.{unsent}
-use Rattle.codec.specs.Piecing as pieces
 use Rattle.frame_reader.specs.Frames.{Fits, frames}
 use Rattle.frame_reader.specs.WriteFrameLaws.{PiecesTaken-frames}
 use Rattle.line_reader.specs.Lines.{BeginsTooLong, HasLines, IsLine, IsUnended, last_line, with_end, with_ends}
@@ -248,7 +247,7 @@ only_memory most TooLarge small within = absurd (omega (arith, small, within))
 
 -- and so is one for the frames
 pub only_memory_too : (most room : ℕ) (refusal : GrowError) → most < 2 ^ 16 → room < 2 ^ 20
-    → FitsWithin {T = Unit {0}} (Err refusal) (pieces.room_for room (2 + most)) (2 ^ 62) → kind_of refusal ≡ OutOfMemory
+    → FitsWithin {T = Unit {0}} (Err refusal) (room_for room (2 + most)) (2 ^ 62) → kind_of refusal ≡ OutOfMemory
 only_memory_too most room Memory small little within = refl
 only_memory_too most room TooLarge small little within = absurd (omega (arith, small, little, within))
 

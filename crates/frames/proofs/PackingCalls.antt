@@ -153,7 +153,8 @@ module _ {R W : Type 0} (remaining : R → Option (List ℕ)) (stretch : W → W
           told = told;
           ready = record { most = max ∙ ready.most ∙ sym (ap (λ d. d.max) taken.encoder); whole = whole; open' = open'; shows = shows };
           closed = ended;
-          writes = WritesOn-unflushed s.target.writer v.writer (frames (line ∷ [])) (PiecesTaken-frames stretch s.target v (line ∷ []) taken) same;
+          writes = WritesOn-unflushed s.target.writer v.writer (frames (line ∷ []))
+              (PiecesTaken-frames stretch s.target v (line ∷ []) taken) same;
           flushes = steady;
           answers = (
             line,
