@@ -1,7 +1,7 @@
-//! What fits into a buffer, and its laws. What it holds call by call are lines of the program `replay`.
-use redux_buffer::{Buffer, laws};
+//! What fits into a buffer. What it holds call by call are lines of the program `replay`.
+use redux_buffer::Buffer;
 use std::test::Fail;
-use tests_common::{empty, holding_in};
+use tests_common::empty;
 
 // What is appended, how many bytes are dropped then, how many are left, and how many more can be written without a move.
 type Fit = (&'static [u8], usize, usize, usize);
@@ -38,39 +38,24 @@ fn says(b: &Buffer, space: usize) -> bool {
     !b.has_space_behind(space) && b.has_space_behind(space.wrapping_sub(1)) == (space > 0)
 }
 
+// Whether a buffer goes as its rows say.
+fn fits(b: &mut Buffer, rows: &[Fit]) -> bool {
+    for &(src, dropped, left, space) in rows {
+        turn(b, src, dropped);
+        if b.len() != left || !says(b, space) {
+            return false;
+        }
+    }
+    true
+}
+
 #[test]
 fn what_fits(rt: HostRuntime) -> Result<(), Fail> {
     for (ring, capacity, rows) in FITS {
-        let mut b = empty(rt.alloc(), ring, capacity)?;
-        for &(src, dropped, left, space) in rows {
-            turn(&mut b, src, dropped);
-            assert!(rt; b.len() == left && says(&b, space), "{left}");
-        }
+        assert!(rt;
+            fits(&mut empty(rt.alloc(), ring, capacity)?, rows),
+            "{capacity}"
+        );
     }
-    Ok(())
-}
-
-fn make_room_twice(b: &mut Buffer) {
-    b.buf_mut().fill(8);
-    b.make_room();
-    laws::make_room_again(b);
-    laws::block_law(b);
-    laws::ring_law(b);
-}
-
-fn copy_through(b: &mut Buffer, bytes: &[u8], out: &mut [u8]) -> usize {
-    b.clear();
-    laws::copy_through(b, bytes, out)
-}
-
-#[test]
-fn laws_of_a_buffer(rt: HostRuntime) -> Result<(), Fail> {
-    let mut b = holding_in(rt.alloc(), false, 4, &[1, 2, 3])?;
-    b.consume(1);
-    make_room_twice(&mut b);
-    assert!(rt; (b.buf(), b.usable_space()) == ([8, 8].as_slice(), 2));
-    let mut out = [0u8; 5];
-    assert!(rt; copy_through(&mut b, &[1, 2, 3, 4, 5], &mut out) == 4);
-    assert!(rt; out == [1, 2, 3, 4, 0]);
     Ok(())
 }

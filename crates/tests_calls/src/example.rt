@@ -9,7 +9,7 @@ use std::alloc::Global;
 use std::io;
 use std::io::{BufRead, Read, Write};
 use std::test::Fail;
-use tests_common::{fill_buf, writer};
+use tests_common::writer;
 
 /// Writes one entry of a log, and flushes it.
 fn log<W: TellWrite, P: WriterPolicy>(writer: &mut BufWriter<W, P>, entry: &[u8]) -> io::Result<()>
@@ -76,31 +76,4 @@ fn look_ahead<R: Read + Drop>(
     min: usize,
 ) -> io::Result<BufReader<Told<R>, MinBuffered>> {
     Ok(BufReader::new(alloc, Told::new(from))?.set_policy(MinBuffered(min)))
-}
-
-// How many bytes a fill shows, and how many are handed on.
-fn fills_and_hands_on<R: TellRead, P: ReaderPolicy, W: TellWrite>(
-    from: &mut BufReader<R, P>,
-    to: &mut BufWriter<W>,
-) -> io::Result<(usize, usize)> {
-    let shown = fill_buf(from)?.len();
-    Ok((shown, hand_on(from, to)?))
-}
-
-fn hands_on<R: TellRead + Drop, P: ReaderPolicy + Drop, W: TellWrite + Drop>(
-    alloc: Global,
-    mut from: BufReader<R, P>,
-    to: W,
-) -> io::Result<(usize, usize)> {
-    let mut to = writer(alloc, 3, &[], to)?;
-    fills_and_hands_on(&mut from, &mut to)
-}
-
-#[test]
-fn hands_on_what_is_buffered(rt: HostRuntime) -> Result<(), Fail> {
-    let mut sink = Vec::new(rt.alloc());
-    let reader = look_ahead(rt.alloc(), b"hello".as_slice(), 5)?;
-    assert!(rt; hands_on(rt.alloc(), reader, Told::new(&mut sink))? == (5, 5));
-    assert!(rt; sink.as_slice() == b"hello".as_slice());
-    Ok(())
 }

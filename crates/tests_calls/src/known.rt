@@ -6,7 +6,6 @@ ghost use Rattle.buffer_redux.specs.Told.{told_stream};
 ghost use Rattle.buffer_redux.specs.Copy.{ReceivesAll};
 ghost use Rattle.buffer_redux.specs.WriterTells.{writer_log};
 
-use crate::fixtures::{over, shows};
 use buffer_redux::tell::Told;
 use buffer_redux::{BufReader, BufWriter, GrowError, Unbuffer};
 use redux_play::laws;
@@ -14,7 +13,7 @@ use std::alloc::Global;
 use std::io;
 use std::io::{BufRead, Cursor, Read, Seek, Write};
 use std::test::Fail;
-use tests_common::{consume, flush, reader, writer};
+use tests_common::{consume, fill_buf, flush, reader, writer};
 
 type Bytes<'a> = BufReader<Told<&'a [u8]>>;
 
@@ -219,11 +218,15 @@ fn begun(alloc: Global) -> Result<Bytes<'static>, GrowError> {
     reader(alloc, 4, b"a", Told::new(b"b\nthe rest".as_slice()))
 }
 
+fn read_all_unbuffered(mut reader: Unbuffer<Told<&[u8]>>, into: &mut Vec<u8>) -> io::Result<usize> {
+    read_unbuffered(&mut reader, into)
+}
+
 #[test]
 fn all_that_is_left_of_an_unbuffered_one(rt: HostRuntime) -> Result<(), Fail> {
     let mut all = Vec::new(rt.alloc());
     let reader = begun(rt.alloc())?.unbuffer();
-    over(reader, |it| read_unbuffered(it, &mut all))?;
+    read_all_unbuffered(reader, &mut all)?;
     assert!(rt; all.as_slice() == ALL);
     Ok(())
 }
@@ -248,7 +251,7 @@ fn a_copy_of_all_that_is_left(rt: HostRuntime) -> Result<(), Fail> {
 
 // Whether a fill shows these bytes, and where the reader stands once one is consumed.
 fn places(reader: &mut Text<'_>, shown: &[u8]) -> io::Result<(bool, u64)> {
-    let is_shown = shows(reader, shown)?;
+    let is_shown = fill_buf(reader)? == shown;
     consume(reader, 1);
     Ok((is_shown, place(reader)?))
 }

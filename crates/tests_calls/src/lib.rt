@@ -1,21 +1,14 @@
-//! What no line of the program `replay` can ask: of readers and writers their laws, seeks, limits, copies, what is printed, what is
-//! known of a stream of std, and what becomes of one that is taken apart, changed or dropped; of their parts each public call
-//! once; and what `bufcopy` does.
+//! What no line of the program `replay` can ask: of readers and writers seeks, texts, what is printed, what is known of a
+//! stream of std, and what becomes of one that is taken apart or dropped; of blocks and of `bufcopy` their worked examples; and
+//! callers that rest on what a policy claims, which are proved and not run.
 #![tactic(auto)]
 
-#[cfg(test)]
-mod ahead;
 #[cfg(test)]
 mod blocks;
 #[cfg(test)]
 mod buffers;
 #[cfg(test)]
-mod callers;
-#[cfg(test)]
-mod changed;
-pub mod claims;
-#[cfg(test)]
-mod copy;
+mod claims;
 #[cfg(test)]
 mod copying;
 #[cfg(test)]
@@ -25,15 +18,13 @@ mod fixtures;
 #[cfg(test)]
 mod known;
 #[cfg(test)]
-mod laws;
-#[cfg(test)]
 mod limits;
-#[cfg(test)]
-mod lines;
 #[cfg(test)]
 mod pieces;
 #[cfg(test)]
 mod play;
+#[cfg(test)]
+mod printed;
 #[cfg(test)]
 mod reader;
 #[cfg(test)]

@@ -1,32 +1,9 @@
-//! Readers that are taken apart, or read by a trait alone.
-use crate::fixtures::of_four;
-use buffer_redux::BufReader;
-use buffer_redux::policy::MinBuffered;
-use buffer_redux::tell::{Tell, Told};
+//! Readers that are read by a trait alone.
+use buffer_redux::tell::Told;
 use std::alloc::Global;
 use std::io::BufRead;
 use std::test::Fail;
-use tests_common::{Source, debug, reader, reader_under, source};
-
-fn into_inner<R: Tell, P: Drop>(rdr: BufReader<R, P>) -> R {
-    rdr.into_inner()
-}
-
-// What a reader shows, and how many bytes the source then gave.
-fn shown(alloc: Global) -> Result<(String, usize), Fail> {
-    let rdr = reader_under(of_four(alloc, &[1], &[2], &[])?, MinBuffered(2));
-    let text = debug(alloc, &rdr)?;
-    Ok((text, into_inner(rdr).get_ref().served()))
-}
-
-// The source comes out as it is, and what is buffered is gone.
-#[test]
-fn shows(rt: HostRuntime) -> Result<(), Fail> {
-    let (text, served) = shown(rt.alloc())?;
-    let end = "buf_len: 1, capacity: 4, policy: MinBuffered(2) }";
-    assert!(rt; text.as_str().ends_with(end) && served == 0);
-    Ok(())
-}
+use tests_common::reader;
 
 // All bytes up to and with the first `end`, or all that are left, by the trait alone.
 fn read_until<R: BufRead>(alloc: Global, rdr: &mut R, end: u8) -> Result<Vec<u8>, Fail> {

@@ -1,7 +1,6 @@
 //! Readers and writers that seek.
-use crate::unwrapping::unwrapped;
 use buffer_redux::script::{Answer, FaultAt};
-use buffer_redux::tell::{Tell, TellBufRead, TellRead, TellSeek, TellWrite, Told};
+use buffer_redux::tell::{Tell, TellRead, TellSeek, TellWrite, Told};
 use buffer_redux::{BufReader, BufWriter, Buffer, GrowError, seek_plan};
 use std::alloc::{AllocError, Global};
 use std::io;
@@ -118,49 +117,6 @@ fn walks_in_text(buf: Buffer, steps: &[Step]) -> bool {
 fn in_a_cursor(rt: HostRuntime) -> Result<(), Fail> {
     assert!(rt; walks_in_text(empty(rt.alloc(), false, 2)?, &PLAIN));
     assert!(rt; walks_in_text(empty(rt.alloc(), true, 8192)?, &RING));
-    Ok(())
-}
-
-// A reader over a reader.
-type Nested<R> = BufReader<Told<BufReader<R>>>;
-
-fn nested(alloc: Global) -> Result<Nested<Text>, GrowError> {
-    reader(alloc, 2, &[], Told::new(reader(alloc, 5, &[], text())?))
-}
-
-fn inside<R: TellRead>(rdr: Nested<R>) -> BufReader<R> {
-    rdr.into_inner().into_inner()
-}
-
-// A seek and a fill by the calls that tell, behind which a reader shows these bytes.
-fn goes_on<R: TellBufRead + TellSeek>(rdr: &mut R, to: u64, shown: &[u8]) -> io::Result<bool> {
-    Ok(rdr.seek_told(Start(to))? == to && rdr.fill_told()? == shown)
-}
-
-fn is_left<R: TellRead + TellSeek>(rdr: &mut BufReader<R>) -> io::Result<bool> {
-    Ok(rdr.buffer() == [1, 2, 3].as_slice() && goes_on(rdr, 6, &[3, 4])?)
-}
-
-// Whether the reader inside holds what it read, and goes on.
-fn goes_on_inside<R: TellRead + TellSeek + Drop>(rdr: Nested<R>) -> io::Result<bool> {
-    is_left(&mut inside(rdr))
-}
-
-static OUTSIDE: [Step; 6] = [
-    Step::Fill(&[5, 6]),
-    Step::Consume(1),
-    Step::Seek(Current(2), Ok(3)),
-    Step::Fill(&[0, 1]),
-    Step::Seek(Current(-1), Ok(2)),
-    Step::Fill(&[7, 0]),
-];
-
-// A reader inside a reader drops what it holds, by the calls of std and by those that tell.
-#[test]
-fn in_a_reader(rt: HostRuntime) -> Result<(), Fail> {
-    let mut rdr = nested(rt.alloc())?;
-    assert!(rt; walks(&mut rdr, &OUTSIDE));
-    assert!(rt; goes_on_inside(rdr)?);
     Ok(())
 }
 
@@ -292,7 +248,7 @@ fn writes_in_place(wrt: &mut BufWriter<Place>) -> io::Result<bool> {
 }
 
 fn leaves(wrt: BufWriter<Place>, bytes: &[u8]) -> io::Result<bool> {
-    Ok(in_place(&unwrapped(wrt)?) == bytes)
+    Ok(in_place(&wrt.into_inner()?) == bytes)
 }
 
 #[test]

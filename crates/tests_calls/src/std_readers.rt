@@ -1,6 +1,5 @@
 //! Calls of std's readers, as a user of std writes them, so that `docs/STD.md` says what is there; and rows of those that a
 //! reader has of its own.
-use crate::fixtures::of_four;
 use buffer_redux::BufReader;
 use buffer_redux::script::Answer;
 use buffer_redux::tell::Told;
@@ -8,12 +7,12 @@ use std::alloc::Global;
 use std::io;
 use std::io::{BufRead, Cursor, ErrorKind, Read, Seek, SeekFrom};
 use std::test::Fail;
-use tests_common::{Source, kind, reader};
+use tests_common::{Source, kind, reader, source};
 
 type Text = BufReader<Told<Cursor<&'static [u8]>>>;
 
 // What the calls that append leave behind one another.
-fn appends(from: &mut Text, line: &mut Vec<u8>) -> io::Result<usize> {
+fn appends<R: BufRead>(from: &mut R, line: &mut Vec<u8>) -> io::Result<usize> {
     let mut two = [0; 2];
     from.by_ref().read_exact(&mut two)?;
     let one = from.read(&mut two[1..])?;
@@ -24,7 +23,7 @@ fn appends(from: &mut Text, line: &mut Vec<u8>) -> io::Result<usize> {
     Ok(one.saturating_add(count).saturating_add(skipped))
 }
 
-fn seeks(from: &mut Text) -> io::Result<u64> {
+fn seeks<R: BufRead + Seek>(from: &mut R) -> io::Result<u64> {
     from.rewind()?;
     let shown = from.fill_buf()?.len();
     from.consume(shown.min(2));
@@ -34,14 +33,18 @@ fn seeks(from: &mut Text) -> io::Result<u64> {
     Ok(at)
 }
 
-fn text(from: &mut Text, text: &mut String) -> io::Result<usize> {
+fn text<R: BufRead>(from: &mut R, text: &mut String) -> io::Result<usize> {
     let line = from.read_line(text)?;
     from.read_to_string(text)?;
     Ok(line)
 }
 
 // What each of these counts.
-fn reads(from: &mut Text, line: &mut Vec<u8>, all: &mut String) -> io::Result<(usize, u64, usize)> {
+fn reads<R: BufRead + Seek>(
+    from: &mut R,
+    line: &mut Vec<u8>,
+    all: &mut String,
+) -> io::Result<(usize, u64, usize)> {
     let count = appends(from, line)?;
     let at = seeks(from)?;
     Ok((count, at, text(from, all)?))
@@ -61,32 +64,6 @@ fn through(alloc: Global, mut from: Text) -> bool {
     counts == Ok((6, 3, 3)) && is_left(&from, line.as_slice(), all.as_str())
 }
 
-// Whether these come first by iterators: a line, a piece up to an `i`, and a byte.
-fn gives_line(alloc: Global, from: &mut Text, text: &str) -> bool {
-    match from.by_ref().lines(alloc).next() {
-        Some(Ok(line)) => line.as_str() == text,
-        _ => false,
-    }
-}
-
-fn gives_piece(alloc: Global, from: &mut Text, piece: &[u8]) -> bool {
-    match from.by_ref().split(alloc, b'i').next() {
-        Some(Ok(given)) => given.as_slice() == piece,
-        _ => false,
-    }
-}
-
-fn gives_byte(from: &mut Text, byte: u8) -> bool {
-    let given = from.by_ref().chain(b"xyz".as_slice()).bytes().next();
-    matches!(given, Some(Ok(it)) if it == byte)
-}
-
-fn by_parts(alloc: Global, mut from: Text) -> bool {
-    gives_line(alloc, &mut from, "abcd")
-        && gives_piece(alloc, &mut from, b"ef\ngh")
-        && gives_byte(&mut from, b'j')
-}
-
 static TEXT: &[u8] = b"abcd\nef\nghijk\n";
 
 fn of_text(alloc: Global) -> Result<Text, Fail> {
@@ -96,7 +73,6 @@ fn of_text(alloc: Global) -> Result<Text, Fail> {
 #[test]
 fn read_as_stds_do(rt: HostRuntime) -> Result<(), Fail> {
     assert!(rt; through(rt.alloc(), of_text(rt.alloc())?));
-    assert!(rt; by_parts(rt.alloc(), of_text(rt.alloc())?));
     Ok(())
 }
 
@@ -211,7 +187,7 @@ static ROWS: [Row; 3] = [
 
 fn holds(alloc: Global, row: &Row) -> Result<bool, Fail> {
     let &(held, bytes, script, steps) = row;
-    let mut rdr = of_four(alloc, held, bytes, script)?;
+    let mut rdr = reader(alloc, 4, held, source(alloc, bytes, script)?)?;
     let mut out = Vec::new(alloc);
     for step in steps {
         if !is_so(&mut rdr, &mut out, step) {

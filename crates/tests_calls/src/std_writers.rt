@@ -1,10 +1,17 @@
 //! The calls of std's writers, each as a user of std writes it, so that `docs/STD.md` says what is there.
-use crate::fixtures::{Sink, sink};
+use buffer_redux::tell::Told;
 use buffer_redux::{BufWriter, LineWriter};
+use std::alloc::Global;
 use std::io;
 use std::io::{IoSlice, Write};
 use std::test::Fail;
 use tests_common::{line_writer, writer};
+
+type Sink = Told<Vec<u8>>;
+
+fn sink(alloc: Global) -> Sink {
+    Told::new(Vec::new(alloc))
+}
 
 static TEXT: &[u8] = b"abcd5-6\nxy";
 

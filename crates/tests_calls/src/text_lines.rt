@@ -182,11 +182,15 @@ fn is_so(alloc: Global, rdr: &mut Text, row: &Row) -> bool {
     is_answer && out.as_str() == appended && rdr.buffer() == left
 }
 
+fn leaves(alloc: Global, row: &Row) -> Result<bool, Fail> {
+    let mut rdr = text(alloc, (8, 9), row.0, NEVER)?;
+    Ok(is_so(alloc, &mut rdr, row))
+}
+
 #[test]
 fn what_stays_buffered(rt: HostRuntime) -> Result<(), Fail> {
     for row in &ROWS {
-        let mut rdr = text(rt.alloc(), (8, 9), row.0, NEVER)?;
-        assert!(rt; is_so(rt.alloc(), &mut rdr, row), "{:?}", row.0);
+        assert!(rt; leaves(rt.alloc(), row)?, "{:?}", row.0);
     }
     Ok(())
 }

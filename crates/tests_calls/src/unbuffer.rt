@@ -6,7 +6,7 @@ use buffer_redux::{BufReader, Unbuffer};
 use std::alloc::Global;
 use std::io::ErrorKind;
 use std::test::Fail;
-use tests_common::{Source, debug, first, kind, read};
+use tests_common::{Source, first, kind, read};
 
 // The room of a read, what it returns, what it hands out, and what is left afterwards.
 type Step = (
@@ -94,17 +94,5 @@ fn reads_by_rows(rt: HostRuntime) -> Result<(), Fail> {
     for row in &ROWS {
         assert!(rt; reads(rt.alloc(), row)?, "{:?}", row.0);
     }
-    Ok(())
-}
-
-fn shown(alloc: Global) -> Result<String, Fail> {
-    let rdr = unbuffered(of_four(alloc, &[1], &[2], &[])?);
-    Ok(debug(alloc, &rdr)?)
-}
-
-#[test]
-fn shows(rt: HostRuntime) -> Result<(), Fail> {
-    let text = shown(rt.alloc())?;
-    assert!(rt; text.as_str().starts_with("buffer_redux::Unbuffer"));
     Ok(())
 }

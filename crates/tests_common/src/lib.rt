@@ -21,7 +21,7 @@ pub use crate::makers::{
     Source, Target, line_writer, reader, reader_under, source, target, writer, writer_under,
 };
 pub use crate::positions::Positions;
-pub use crate::texts::{debug, display};
+pub use crate::texts::{debug, display, shown};
 use redux_buffer::{Buffer, GrowError};
 use std::alloc::Global;
 

@@ -11,3 +11,8 @@ pub fn display<T: fmt::Display>(alloc: Global, value: &T) -> Result<String, Allo
 pub fn debug<T: fmt::Debug>(alloc: Global, value: &T) -> Result<String, AllocError> {
     format!(in alloc; "{value:?}")
 }
+
+/// The same of a value that is dropped then.
+pub fn shown<T: fmt::Debug + Drop>(alloc: Global, value: T) -> Result<String, AllocError> {
+    debug(alloc, &value)
+}
