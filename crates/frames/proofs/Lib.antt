@@ -1,3 +1,4 @@
+pub mod Asking
 pub mod PackingCalls
 pub mod PackRuns
 pub mod UnpackingCalls

@@ -13,7 +13,7 @@ use Rattle.buffer_redux.specs.StreamLog.{StreamLog}
 use Rattle.buffer_redux.specs.WriterLaws.{WritesInOrder-fresh}
 use Rattle.redux_buffer.specs.declared.grow_error.GrowError.{GrowError}
 use Rattle.redux_buffer.specs.declared.grow_error.GrowError.TheVariants.{TooLarge, Memory}
-use Rattle.codec.specs.NextPiece.{PiecesWent}
+use Rattle.codec.specs.NextPiece.{HandsBytes}
 use Rattle.codec.specs.Piecing.{rest, room_for}
 use Rattle.forward.specs.Filter.{FilterRules}
 use Rattle.forward.specs.Forward.{ForwardAnswers, Forwarded, ForwardedFirst, StopsBy}
@@ -27,7 +27,8 @@ use Rattle.programs.specs.Streams.{AllSent, GaveNothing}
 use Rattle.frames.specs.Ending.{IsErrorOf}
 use Rattle.frames.specs.Pack.{PackedFirst, PackedLines, PackRan}
 use Rattle.frames.specs.Packing.{HandsLines, HasEnded, IsReady, held_of, packing_rules}
-use Rattle.frames.specs.PackingLaws.{all_ended, all_whole, ended_all, handed_all, lines_given, none_held}
+use Rattle.frames.specs.PackingLaws.{all_ended, all_whole, ended_all, handed_all, none_held}
+use Rattle.frames.specs.StreamsLaws.{given_since}
 use Rattle.frames.specs.declared.error.RunError.{RunError}
 use Rattle.frames.specs.declared.error.RunError.TheVariants.{TooLong, Truncated, Read, Write, Io}
 use Rattle.frames.specs.declared.packing.Packing.{Packing}
@@ -119,7 +120,7 @@ module _ {R W : Type 0} (remaining : R → Option (List ℕ)) (stretch : W → W
           lines = lines;
           has = subst (HasLines hands.bytes) all hands.has;
           fit = subst (All (Fits s.source.pieces.decoder.max)) all hands.fit;
-          given = lines_given remaining s.source t.source hands.bytes none hands.went
+          given = given_since s.source.pieces t.source.pieces hands.bytes none hands.went.hands
               ∙ ap (λ l. s.source.pieces.reader.log.reads.given ++ (hands.bytes ++ l)) p.1.1.0
               ∙ ap (λ l. s.source.pieces.reader.log.reads.given ++ l) (append-nil hands.bytes);
           ended = ended_dry lines hands p.1.1.1;
@@ -140,15 +141,14 @@ module _ {R W : Type 0} (remaining : R → Option (List ℕ)) (stretch : W → W
       let all = handed_all remaining s t lines hands empty empty' in
       let text : hands.bytes ≡ with_ends lines =
       ended_all hands.bytes hands.got hands.has (all_whole remaining s t lines hands open') ∙ ap with_ends all in
-      let most = 1 + s.source.pieces.decoder.max in
       record {
         lines = lines;
         more = rest t.source.pieces;
         plain = subst (All IsLine) all hands.has.plain;
         fit = subst (All (Fits s.source.pieces.decoder.max)) all hands.fit;
         such = such;
-        given = lines_given remaining s.source t.source (with_ends lines) none
-            (subst (λ l. PiecesWent remaining most s.source.pieces l t.source.pieces) text hands.went);
+        given = given_since s.source.pieces t.source.pieces (with_ends lines) none
+            (subst (λ l. HandsBytes s.source.pieces l t.source.pieces) text hands.went.hands);
         received = received count p sent;
         flushed = sent.flushed;
       }
@@ -190,7 +190,7 @@ module _ {R W : Type 0} (remaining : R → Option (List ℕ)) (stretch : W → W
               )
             ]
           ];
-          given = lines_given remaining s.source t.source hands.bytes none hands.went
+          given = given_since s.source.pieces t.source.pieces hands.bytes none hands.went.hands
               ∙ ap (λ l. s.source.pieces.reader.log.reads.given ++ (l ++ rest t.source.pieces)) front.equal
               ∙ ap (λ l. s.source.pieces.reader.log.reads.given ++ l)
               (append_assoc front.front front.more (rest t.source.pieces));

@@ -32,15 +32,12 @@ use Rattle.programs.specs.FlushesLaws.{FlushesOnce-flush}
 use Rattle.programs.specs.PromptLaws.{WritesOn-grows, WritesOn-none, WritesOn-unflushed}
 use Rattle.programs.specs.StreamsLaws.{MetInterrupts-none}
 use Rattle.frames.specs.Packing.{Asks as AsksReader, CanShow, HandsLines, HasEnded, IsReady, held_at, held_of, packing_rules, shown}
-use Rattle.frames.specs.PackingLaws.{all_ended, counted, hands_nothing, none_held}
+use Rattle.frames.specs.PackingLaws.{all_ended, hands_nothing, none_held}
+use Rattle.frames.specs.StreamsLaws.{counted}
 use Rattle.frames.specs.declared.error.RunError.{RunError}
 use Rattle.frames.specs.declared.error.RunError.TheVariants.{TooLong}
 use Rattle.frames.specs.declared.packing.Packing.{Packing}
-
--- there is no place
-pub not_held : (h : Option Span) → ((span : Span) → ¬ (h ≡ Some span)) → h ≡ None
-not_held None isnt = refl
-not_held (Some span) isnt = absurd (isnt span refl)
+use Rattle.frames.proofs.Asking.{asked_last, gave_but_failed}
 
 -- how the end was met, where it wasn't known
 met_open : (A B : Type 0) (ended : Bool) → ended ≡ false → MatchBool ended A B → B
@@ -162,7 +159,7 @@ module _ {R W : Type 0} (remaining : R → Option (List ℕ)) (stretch : W → W
             met,
             omega (
               arith,
-              counted remaining stretch s t (line ∷ []) taken,
+              counted s.target.writer v.writer (frames (line ∷ [])) (PiecesTaken-frames stretch s.target v (line ∷ []) taken),
               length-append (frame line) [],
               length-append (header (length line)) line,
             ),
@@ -293,20 +290,13 @@ module _ {R W : Type 0} (remaining : R → Option (List ℕ)) (stretch : W → W
   -- the reader was asked for the next
   module _ (empty : s.held ≡ None) (going' : s.source.pieces.ended ≡ false) (m : Lining R) where
     module _ (found : NextAnswer) (next : NextOpen remaining s.source found m) where
-      more_faults : length s.source.pieces.reader.log.reads.faults ≤ length m.pieces.reader.log.reads.faults
-      more_faults = let grows = next.0.went.grows.faults in
-          omega (arith, ap length grows.equal, length-append s.source.pieces.reader.log.reads.faults grows.more)
-
       asks_over : AsksReader s.source m
       asks_over = elim next.0.asked [
         | inl same ↦ inl same
         | inr over ↦ inr (record {
           going = over.not_ended;
           came = over.came;
-          asked = record {
-            given = over.given ∙ ap (λ l. s.source.pieces.reader.log.reads.given ++ (over.came ++ l)) (sym over.latest);
-            asks = omega (arith, over.asks, more_faults);
-          };
+          asked = asked_last _ s.source.pieces m.pieces over next.0.went.grows;
           left = open_unended s.source.pieces.decoder.max (rest s.source.pieces ++ over.came) over.such;
         })
       ]
@@ -400,23 +390,7 @@ module _ {R W : Type 0} (remaining : R → Option (List ℕ)) (stretch : W → W
       gives : Gives rules s (record s { source = m })
       gives = record {
         zero_reads = next.0.answers.4;
-        give = elim next.0.asked [
-          | inl same ↦ omega (
-            arith,
-            ap (λ l. l.reads.asks) same,
-            ap (λ l. length l.reads.given) same,
-            ap (λ l. length l.reads.faults) same,
-          )
-          | inr over ↦ omega (
-            arith,
-            over.asks,
-            ap length over.given,
-            length-append s.source.pieces.reader.log.reads.given (over.came ++ over.last),
-            length-append over.came over.last,
-            ap length next.0.answers.2,
-            length-append s.source.pieces.reader.log.reads.faults (e ∷ []),
-          )
-        ];
+        give = gave_but_failed _ s.source.pieces m.pieces e next.0.asked next.0.answers.2;
       }
 
       grew : length (rest s.source.pieces) ≤ length (rest m.pieces)

@@ -13,14 +13,15 @@ use Rattle.forward.specs.declared.error.Cause.TheVariants as cause
 use Rattle.codec.specs.Grammar.{IsOpen}
 use Rattle.codec.specs.Piecing.{rest}
 use Rattle.frame_reader.specs.Framed.{framed}
-use Rattle.frame_reader.specs.Frames.{BeginsTooLong, Fits, IsCutShort}
+use Rattle.frame_reader.specs.Frames.{BeginsTooLong, Fits, IsCutShort, frames}
 use Rattle.frame_reader.specs.Next.{FramesWent}
 use Rattle.line_reader.specs.Lines.{with_ends}
 use Rattle.programs.specs.Streams.{AllSent}
 use Rattle.frames.specs.Ending.{IsErrorOf}
 use Rattle.frames.specs.Unpack.{Unpacked, UnpackedFirst, UnpackRan}
 use Rattle.frames.specs.Unpacking.{HandsFrames, held_of, unpacking_rules}
-use Rattle.frames.specs.UnpackingLaws.{frames_given, handed_all, none_held}
+use Rattle.frames.specs.StreamsLaws.{given_since}
+use Rattle.frames.specs.UnpackingLaws.{handed_all, none_held}
 use Rattle.frames.specs.declared.error.RunError.{RunError}
 use Rattle.frames.specs.declared.error.RunError.TheVariants.{TooLong, Truncated, Read, Write, Io}
 use Rattle.frames.specs.declared.unpacking.Unpacking.{Unpacking}
@@ -48,7 +49,7 @@ module _ {R W : Type 0} (remaining : R → Option (List ℕ)) (s t : Unpacking R
       record {
         payloads = p.payloads;
         fit = went.fit;
-        given = frames_given remaining s.source t.source p.payloads none went;
+        given = given_since s.source t.source (frames p.payloads) none went.went.hands;
         received =
             sym (append-nil log.received) ∙ ap (λ l. log.received ++ l) (sym all.empty)
             ∙ WritesInOrder-fresh s.target t.target (with_ends p.payloads) none' p.moves.takes;
@@ -71,7 +72,7 @@ module _ {R W : Type 0} (remaining : R → Option (List ℕ)) (s t : Unpacking R
           more = rest t.source;
           unsent = t.target.block.bytes;
           fit = went.fit;
-          given = frames_given remaining s.source t.source (p.payloads ++ lost) none went;
+          given = given_since s.source t.source (frames (p.payloads ++ lost)) none went.went.hands;
           received = WritesInOrder-fresh s.target t.target (with_ends p.payloads) none' p.moves.takes;
         },
         p.all,

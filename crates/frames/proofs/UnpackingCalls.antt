@@ -30,15 +30,12 @@ use Rattle.programs.specs.FlushesLaws.{FlushesOnce-flush}
 use Rattle.programs.specs.PromptLaws.{WritesOn-grows, WritesOn-none, WritesOn-unflushed}
 use Rattle.programs.specs.StreamsLaws.{MetInterrupts-none}
 use Rattle.frames.specs.Unpacking.{Asks as AsksReader, CanShow, HandsFrames, IsLineTarget, IsReady, held_of, shown, unpacking_rules}
-use Rattle.frames.specs.UnpackingLaws.{counted, none_held}
+use Rattle.frames.specs.StreamsLaws.{counted}
+use Rattle.frames.specs.UnpackingLaws.{none_held}
 use Rattle.frames.specs.declared.error.RunError.{RunError}
 use Rattle.frames.specs.declared.error.RunError.TheVariants.{TooLong, Truncated}
 use Rattle.frames.specs.declared.unpacking.Unpacking.{Unpacking}
-
--- there is no place
-pub not_held : (h : Option Span) → ((span : Span) → ¬ (h ≡ Some span)) → h ≡ None
-not_held None isnt = refl
-not_held (Some span) isnt = absurd (isnt span refl)
+use Rattle.frames.proofs.Asking.{asked_last, gave_but_failed}
 
 -- what is nothing, or cut short, has fewer bytes than the longest frame
 few : (max : ℕ) (bytes : List ℕ) → (bytes ≡ []) ⊎ IsCutShort max bytes → length bytes < 2 + max
@@ -85,7 +82,7 @@ module _ {R W : Type 0} (remaining : R → Option (List ℕ)) (s : Unpacking R W
               takes = subst (λ l. WritesInOrder s.target l v) (sym (append-nil (with_end payload))) taken;
             },
             met,
-            omega (arith, counted remaining s t (with_end payload) taken, length-append payload (newline ∷ [])),
+            omega (arith, counted s.target v (with_end payload) taken, length-append payload (newline ∷ [])),
           );
         }
 
@@ -211,19 +208,12 @@ module _ {R W : Type 0} (remaining : R → Option (List ℕ)) (s : Unpacking R W
     once_met = MetEnd-once s.source m ready.reads.told
 
     module _ (found : NextAnswer) (next : Next remaining s.source found m) where
-      more_faults : length s.source.reader.log.reads.faults ≤ length m.reader.log.reads.faults
-      more_faults = let grows = next.piece.went.grows.faults in
-          omega (arith, ap length grows.equal, length-append s.source.reader.log.reads.faults grows.more)
-
       asks_over : AsksReader s.source m
       asks_over = elim next.piece.asked [
         | inl same ↦ inl same
         | inr over ↦ inr (record {
           came = over.came;
-          asked = record {
-            given = over.given ∙ ap (λ l. s.source.reader.log.reads.given ++ (over.came ++ l)) (sym over.latest);
-            asks = omega (arith, over.asks, more_faults);
-          };
+          asked = asked_last _ s.source m over next.piece.went.grows;
           left = over.such;
         })
       ]
@@ -337,23 +327,7 @@ module _ {R W : Type 0} (remaining : R → Option (List ℕ)) (s : Unpacking R W
       gives : Gives rules s (record s { source = m })
       gives = record {
         zero_reads = next.piece.answers.4;
-        give = elim next.piece.asked [
-          | inl same ↦ omega (
-            arith,
-            ap (λ l. l.reads.asks) same,
-            ap (λ l. length l.reads.given) same,
-            ap (λ l. length l.reads.faults) same,
-          )
-          | inr over ↦ omega (
-            arith,
-            over.asks,
-            ap length over.given,
-            length-append s.source.reader.log.reads.given (over.came ++ over.last),
-            length-append over.came over.last,
-            ap length next.piece.answers.2,
-            length-append s.source.reader.log.reads.faults (e ∷ []),
-          )
-        ];
+        give = gave_but_failed _ s.source m e next.piece.asked next.piece.answers.2;
       }
 
       grew : length (rest s.source) ≤ length (rest m)

@@ -3,6 +3,7 @@ pub mod Ending
 pub mod Pack
 pub mod Packing
 pub mod PackingLaws
+pub mod StreamsLaws
 pub mod Unpack
 pub mod Unpacking
 pub mod UnpackingLaws

@@ -1,11 +1,9 @@
 -- Lines are handed out in order, and what is due is sent with their frames.
-use Rattle.std.proofs.Common.{◌≡◌, ℕ, ◌+◌, ◌⊎◌, inl, inr, List, [], ◌∷◌, ◌++◌, drop, length, false, Option, None, Result, Ok, Err, refl, sym, ap, subst, ◌∙◌, arith, append-nil, append_assoc, length-append}
-use Rattle.std.proofs.Math.Seq.{drop-nil}
+use Rattle.std.proofs.Common.{◌≡◌, ℕ, ◌+◌, ◌⊎◌, inl, inr, List, [], ◌∷◌, ◌++◌, length, false, Option, None, Result, Ok, Err, refl, sym, ap, subst, ◌∙◌, arith, append-nil, append_assoc, length-append}
 use Rattle.std.proofs.lemmas.Bool.{true≢false}
 use Rattle.std.proofs.lemmas.List.Concat.{flat_map-append}
 use Rattle.std.proofs.lemmas.List.Elements.{All-append, All-nil}
 use Rattle.std.specs.List.{All}
-use Rattle.buffer_redux.specs.GoesOn.{GoesOn, GoesOn-none}
 use Rattle.buffer_redux.specs.WriterLaws.{WritesInOrder-fresh}
 use Rattle.codec.specs.NextPiece.{PiecesWent}
 use Rattle.codec.specs.PiecesWentLaws.{PiecesWent-none}
@@ -18,10 +16,10 @@ use Rattle.frame_reader.specs.Framed.{framed_out}
 use Rattle.frame_reader.specs.WriteFrameLaws.{PiecesTaken-frames}
 use Rattle.line_reader.specs.Lines.{HasLines, IsLine, IsUnended, last_line, with_end, with_ends}
 use Rattle.line_reader.specs.CallsLaws.{lines_join}
-use Rattle.line_reader.specs.Lining.{Lining}
 use Rattle.programs.specs.Prompt.{WasSent}
 use Rattle.programs.specs.PromptLaws.{AskedLast-after}
 use Rattle.programs.specs.Streams.{AllSent}
+use Rattle.frames.specs.StreamsLaws.{all_sent, counted, given_since}
 use Rattle.frames.specs.Packing.{Asks, HandsLines, HasEnded, LinesEnd, held_at, held_of, packing_rules}
 use Rattle.frames.specs.declared.error.RunError.{RunError}
 use Rattle.frames.specs.declared.error.RunError.TheVariants.{TooLong, Truncated, Read, Write, Io}
@@ -78,16 +76,6 @@ no_lines lines text has none = none_of has.whole has.last lines has.all (sym has
       length-append (with_end line) (with_ends whole),
       length-append line (Rattle.line_reader.specs.Lines.newline ∷ []),
     ))
-
--- from an empty buffer on, what was given is the lines that were handed out, and what is left
-pub lines_given : {R : Type 0} (remaining : R → Option (List ℕ)) (s t : Lining R) (bytes : List ℕ)
-    → s.pieces.reader.block.bytes ≡ [] → PiecesWent remaining (1 + s.pieces.decoder.max) s.pieces bytes t.pieces
-    → t.pieces.reader.log.reads.given ≡ s.pieces.reader.log.reads.given ++ (bytes ++ rest t.pieces)
-lines_given remaining s t bytes none went =
-    let hands = went.hands in
-    hands.given
-    ∙ ap (λ l. s.pieces.reader.log.reads.given ++ l)
-    (sym (hands.equal ∙ ap (λ l. l ++ hands.got) (ap (λ l. drop s.pieces.handed l) none ∙ drop-nil s.pieces.handed)))
 
 module _ {R W : Type 0} (remaining : R → Option (List ℕ)) where
   -- nothing is held where there is no place
@@ -184,36 +172,8 @@ module _ {R W : Type 0} (remaining : R → Option (List ℕ)) where
   ends_after a b c p (Err (Write e)) f end = absurd end
   ends_after a b c p (Err (Io e)) f end = absurd end
 
-  -- bytes that are taken in are received or buffered
-  pub counted : (stretch : W → W → Type 0) (s t : Packing R W) (lines : List (List ℕ))
-      → PiecesTaken stretch (framed_out s.target.encoder.max) s.target lines t.target
-      → length s.target.writer.log.writes.received + length s.target.writer.block.bytes + length (frames lines)
-      ≡ length t.target.writer.log.writes.received + length t.target.writer.block.bytes
-  counted stretch s t lines taken =
-      let in_order = PiecesTaken-frames stretch s.target t.target lines taken in
-      omega (
-        arith,
-        ap length in_order.received,
-        ap length in_order.equal,
-        length-append s.target.writer.log.writes.received in_order.sent,
-        length-append in_order.sent t.target.writer.block.bytes,
-        length-append s.target.writer.block.bytes (frames lines),
-      )
-
   module _ (stretch : W → W → Type 0) (none : (x : W) → stretch x x)
       (joins : (a b c : W) → stretch a b → stretch b c → stretch a c) where
-    -- all that was taken in was sent
-    all_sent : (s : Packing R W) → AllSent s.target.writer
-        → WasSent (s.target.writer.log.writes.received ++ s.target.writer.block.bytes) s.target.writer.log.writes
-    all_sent s sent =
-        let log = s.target.writer.log.writes in
-        let whole : log.received ++ s.target.writer.block.bytes ≡ log.received =
-        ap (λ l. log.received ++ l) sent.empty ∙ append-nil log.received in
-        record {
-          received = subst (λ l. GoesOn l log.received) (sym whole) (GoesOn-none log.received);
-          flushed = subst (λ l. GoesOn l log.flushed) (sent.flushed ∙ sym whole) (GoesOn-none log.flushed);
-        }
-
     asks_sent : (first s t : Packing R W) (p : List (List ℕ)) → (packing_rules remaining stretch).fresh first
         → Moves (packing_rules remaining stretch) first p p s → StaysOpen (packing_rules remaining stretch) first s
         → s.held ≡ None → AllSent s.target.writer → Asks s.source t.source → AsksSent (packing_rules remaining stretch) first s t
@@ -231,7 +191,7 @@ module _ {R W : Type 0} (remaining : R → Option (List ℕ)) where
         inr (record {
           before = (with_ends p ++ left) ++ over.came;
           asked = AskedLast-after first.source.pieces.reader.log s.source.pieces.reader.log t.source.pieces.reader.log
-              (with_ends p ++ left) over.came (lines_given remaining first.source s.source (with_ends p) fresh.0 went) gives.give over.asked;
+              (with_ends p ++ left) over.came (given_since first.source.pieces s.source.pieces (with_ends p) fresh.0 went.hands) gives.give over.asked;
           due = frames p;
           is_due = record {
             lines = p;
@@ -245,7 +205,7 @@ module _ {R W : Type 0} (remaining : R → Option (List ℕ)) where
           sent = subst (λ l. WasSent l s.target.writer.log.writes)
               (WritesInOrder-fresh first.target.writer s.target.writer (frames p) fresh.1
               (PiecesTaken-frames stretch first.target s.target p moves.takes))
-              (all_sent s sent);
+              (all_sent s.target.writer sent);
         })
 
     pub packing_lawful : IsLawful (packing_rules {R = R} {W = W} remaining stretch)
@@ -259,6 +219,9 @@ module _ {R W : Type 0} (remaining : R → Option (List ℕ)) where
       ends_after = λ a b c p how hands still end. (end.0, ends_after a b c p how hands end.1);
       waits_lacks = λ s waits. waits.0;
       received_taken = λ s. omega arith;
-      taken_on = λ s t p taken. omega (arith, counted stretch s t p taken);
+      taken_on = λ s t p taken. omega (
+        arith,
+        counted s.target.writer t.target.writer (frames p) (PiecesTaken-frames stretch s.target t.target p taken),
+      );
       asks_sent = asks_sent;
     }

@@ -1,36 +1,24 @@
 -- The payloads of frames are handed out in order, and what is due is sent with them.
-use Rattle.std.proofs.Common.{◌≡◌, ℕ, ◌+◌, inl, inr, List, [], ◌++◌, drop, length, Option, None, Result, Ok, Err, refl, sym, ap, subst, ◌∙◌, arith, append-nil, append_assoc, length-append}
-use Rattle.std.proofs.Math.Seq.{drop-nil}
+use Rattle.std.proofs.Common.{◌≡◌, ℕ, inl, inr, List, [], ◌++◌, Option, None, Result, Ok, Err, refl, sym, ap, subst, ◌∙◌, arith, append-nil, append_assoc}
 use Rattle.std.proofs.lemmas.Grind.{flat_map-append}
 use Rattle.buffer_redux.specs.BufWriter.{WritesInOrder}
-use Rattle.buffer_redux.specs.GoesOn.{GoesOn, GoesOn-none}
 use Rattle.buffer_redux.specs.WriterLaws.{WritesInOrder-fresh, WritesInOrder-joins, WritesInOrder-none}
 use Rattle.codec.specs.Grammar.{IsOpen}
-use Rattle.codec.specs.Piecing.{Piecing, rest}
+use Rattle.codec.specs.Piecing.{rest}
 use Rattle.frame_reader.specs.Framed.{framed}
 use Rattle.frame_reader.specs.Frames.{frames}
 use Rattle.frame_reader.specs.Next.{FramesWent}
-use Rattle.frame_reader.specs.declared.frame.Frames.{Frames}
 use Rattle.frame_reader.specs.NextLaws.{FramesWent-joins, FramesWent-none}
 use Rattle.forward.specs.Filter.{AsksSent, IsLawful, Moves, StaysOpen}
 use Rattle.line_reader.specs.Lines.{with_end, with_ends}
 use Rattle.programs.specs.Prompt.{WasSent}
 use Rattle.programs.specs.PromptLaws.{AskedLast-after}
 use Rattle.programs.specs.Streams.{AllSent}
+use Rattle.frames.specs.StreamsLaws.{all_sent, counted, given_since}
 use Rattle.frames.specs.Unpacking.{Asks, FramesEnd, HandsFrames, held_at, held_of, unpacking_rules}
 use Rattle.frames.specs.declared.error.RunError.{RunError}
 use Rattle.frames.specs.declared.error.RunError.TheVariants.{TooLong, Truncated, Read, Write, Io}
 use Rattle.frames.specs.declared.unpacking.Unpacking.{Unpacking}
-
--- from an empty buffer on, what was given is the frames that were handed out, and what is left
-pub frames_given : {R : Type 0} (remaining : R → Option (List ℕ)) (s t : Piecing R Frames) (payloads : List (List ℕ))
-    → s.reader.block.bytes ≡ [] → FramesWent remaining s payloads t
-    → t.reader.log.reads.given ≡ s.reader.log.reads.given ++ (frames payloads ++ rest t)
-frames_given remaining s t payloads none went =
-    let hands = went.went.hands in
-    hands.given
-    ∙ ap (λ l. s.reader.log.reads.given ++ l)
-    (sym (hands.equal ∙ ap (λ l. l ++ hands.got) (ap (λ l. drop s.handed l) none ∙ drop-nil s.handed)))
 
 module _ {R W : Type 0} (remaining : R → Option (List ℕ)) where
   -- nothing is held where there is no place
@@ -71,18 +59,6 @@ module _ {R W : Type 0} (remaining : R → Option (List ℕ)) where
   ends_after a b c (Err (Write e)) (inl gives) end = absurd end
   ends_after a b c (Err (Io e)) (inl gives) end = absurd end
 
-  -- all that was taken in was sent
-  all_sent : (s : Unpacking R W) → AllSent s.target
-      → WasSent (s.target.log.writes.received ++ s.target.block.bytes) s.target.log.writes
-  all_sent s sent =
-      let log = s.target.log.writes in
-      let whole : log.received ++ s.target.block.bytes ≡ log.received =
-      ap (λ l. log.received ++ l) sent.empty ∙ append-nil log.received in
-      record {
-        received = subst (λ l. GoesOn l log.received) (sym whole) (GoesOn-none log.received);
-        flushed = subst (λ l. GoesOn l log.flushed) (sent.flushed ∙ sym whole) (GoesOn-none log.flushed);
-      }
-
   asks_sent : (first s t : Unpacking R W) (p : List (List ℕ)) → (unpacking_rules remaining).fresh first
       → Moves (unpacking_rules remaining) first p p s → StaysOpen (unpacking_rules remaining) first s → s.held ≡ None
       → AllSent s.target → Asks s.source t.source → AsksSent (unpacking_rules remaining) first s t
@@ -96,7 +72,7 @@ module _ {R W : Type 0} (remaining : R → Option (List ℕ)) where
       inr (record {
         before = (frames p ++ left) ++ over.came;
         asked = AskedLast-after first.source.reader.log s.source.reader.log t.source.reader.log (frames p ++ left) over.came
-            (frames_given remaining first.source s.source p fresh.0 went) gives.give over.asked;
+            (given_since first.source s.source (frames p) fresh.0 went.went.hands) gives.give over.asked;
         due = with_ends p;
         is_due = record {
           payloads = p;
@@ -109,21 +85,8 @@ module _ {R W : Type 0} (remaining : R → Option (List ℕ)) where
           lines = refl;
         };
         sent = subst (λ l. WasSent l s.target.log.writes)
-            (WritesInOrder-fresh first.target s.target (with_ends p) fresh.1 moves.takes) (all_sent s sent);
+            (WritesInOrder-fresh first.target s.target (with_ends p) fresh.1 moves.takes) (all_sent s.target sent);
       })
-
-  -- bytes that are taken in are received or buffered
-  pub counted : (s t : Unpacking R W) (bytes : List ℕ) → WritesInOrder s.target bytes t.target
-      → length s.target.log.writes.received + length s.target.block.bytes + length bytes
-      ≡ length t.target.log.writes.received + length t.target.block.bytes
-  counted s t bytes taken = omega (
-    arith,
-    ap length taken.received,
-    ap length taken.equal,
-    length-append s.target.log.writes.received taken.sent,
-    length-append taken.sent t.target.block.bytes,
-    length-append s.target.block.bytes bytes,
-  )
 
   pub unpacking_lawful : IsLawful (unpacking_rules {R = R} {W = W} remaining)
   unpacking_lawful = record {
@@ -134,6 +97,6 @@ module _ {R W : Type 0} (remaining : R → Option (List ℕ)) where
     ends_after = λ a b c p how hands still end. (end.0, ends_after a b c how still end.1);
     waits_lacks = λ s waits. waits.0;
     received_taken = λ s. omega arith;
-    taken_on = λ s t p taken. omega (arith, counted s t (with_ends p) taken);
+    taken_on = λ s t p taken. omega (arith, counted s.target t.target (with_ends p) taken);
     asks_sent = asks_sent;
   }

@@ -1,6 +1,7 @@
 use Rattle.std.proofs.lemmas.Result.{err_from_is_err_and}
 use Rattle.line_reader.specs.LinesAlongLaws.{NextBuffered-none, NextBuffered-some}
-use Rattle.frames.proofs.PackingCalls.{lost, none_passed, not_held, written}
+use Rattle.frames.proofs.Asking.{not_held}
+use Rattle.frames.proofs.PackingCalls.{lost, none_passed, written}
 use Rattle.frames.proofs.packing.PackingFilter.pass.Goals as goal
 
 pub returns-in_err-write_line-in-Some-next_buffered : goal.returns-in_err-write_line-in-Some-next_buffered

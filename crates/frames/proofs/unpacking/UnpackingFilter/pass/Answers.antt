@@ -5,7 +5,8 @@ use Rattle.buffer_redux.specs.BufWriter.{WritesInOrder}
 use Rattle.codec.specs.NextPiece.{NextBuffered}
 use Rattle.frame_reader.specs.Framed.{framed}
 use Rattle.line_reader.specs.Lines.{with_end}
-use Rattle.frames.proofs.UnpackingCalls.{held_lost, held_printed, lost, none_passed, not_held, printed}
+use Rattle.frames.proofs.Asking.{not_held}
+use Rattle.frames.proofs.UnpackingCalls.{held_lost, held_printed, lost, none_passed, printed}
 use Rattle.frames.proofs.unpacking.UnpackingFilter.pass.Goals as goal
 
 pub returns-in_err-print_line : goal.returns-in_err-print_line
