@@ -19,12 +19,13 @@ use Rattle.forward.specs.Filter.{FilterRules}
 use Rattle.forward.specs.Forward.{ForwardAnswers, Forwarded, ForwardedFirst, StopsBy}
 use Rattle.forward.specs.declared.error.Cause.{Cause}
 use Rattle.forward.specs.declared.error.Cause.TheVariants as cause
+use Rattle.forward.specs.declared.error.Stopped.{Stopped}
 use Rattle.codec.specs.Outgoing.{unsent}
 use Rattle.frame_reader.specs.Frames.{Fits, frames}
 use Rattle.frame_reader.specs.WriteFrameLaws.{PiecesTaken-frames}
 use Rattle.line_reader.specs.Lines.{BeginsTooLong, HasLines, IsLine, IsUnended, last_line, with_end, with_ends}
 use Rattle.programs.specs.Streams.{AllSent, GaveNothing}
-use Rattle.frames.specs.Ending.{IsErrorOf}
+use Rattle.frames.specs.Ending.{IsErrorOf, IsOutcome}
 use Rattle.frames.specs.Pack.{PackedFirst, PackedLines, PackRan}
 use Rattle.frames.specs.Packing.{HandsLines, HasEnded, IsReady, held_of, packing_rules}
 use Rattle.frames.specs.PackingLaws.{all_ended, all_whole, ended_all, handed_all, none_held}
@@ -110,7 +111,7 @@ module _ {R W : Type 0} (remaining : R → Option (List ℕ)) (stretch : W → W
   ended_dry p hands (inl ended) = absurd (true≢false (sym ended ∙ going))
   ended_dry p hands (inr dry) = dry
 
-  pub all_ran : (count : ℕ) → ForwardAnswers rules s (Ok count) t → Ran (Ok tt)
+  all_ran : (count : ℕ) → ForwardAnswers rules s (Ok count) t → Ran (Ok tt)
   all_ran count p =
       let lines = p.0.payloads in
       let hands = p.0.moves.hands in
@@ -232,12 +233,19 @@ module _ {R W : Type 0} (remaining : R → Option (List ℕ)) (stretch : W → W
       }) in
       (over.0, inl (record { other = other; large = omega (arith, p.1, over.1); met = p.2 }))
 
-  pub stopped_ran : (count : ℕ) (why : Cause RunError) (e : RunError) → StopsBy rules count s why t → IsErrorOf why e
+  stopped_ran : (count : ℕ) (why : Cause RunError) (e : RunError) → StopsBy rules count s why t → IsErrorOf why e
       → Ran (Err e)
   stopped_ran count (cause.Wrong why) e p is = subst (λ x. Ran (Err x)) (sym is) (wrong_ran count why p)
   stopped_ran count (cause.Read fault) e p is = subst (λ x. Ran (Err x)) (sym is) (read_ran count fault p)
   stopped_ran count (cause.Write fault) e p is = subst (λ x. Ran (Err x)) (sym is) ((first count p.0).0, p.1)
   stopped_ran count cause.Count e p is = subst (λ x. Ran (Err x)) (sym is.2) (count_ran count is.0 p is.1)
+
+  pub outcome_ran : (answer : Result ℕ (Stopped RunError)) (outcome : Result (Unit {0}) RunError) → IsOutcome answer outcome
+      → ForwardAnswers rules s answer t → Ran outcome
+  outcome_ran (Ok count) (Ok _) is p = all_ran count p
+  outcome_ran (Ok count) (Err e) is p = absurd is
+  outcome_ran (Err stopped) (Ok _) is p = absurd is
+  outcome_ran (Err stopped) (Err e) is p = stopped_ran stopped.count stopped.cause e p is
 
 -- a buffer for lines this short is refused for want of memory alone
 pub only_memory : (most : ℕ) (refusal : GrowError) → most < 2 ^ 16

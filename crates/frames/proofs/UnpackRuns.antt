@@ -10,6 +10,7 @@ use Rattle.forward.specs.Filter.{FilterRules}
 use Rattle.forward.specs.Forward.{ForwardAnswers, Forwarded, ForwardedFirst, StopsBy}
 use Rattle.forward.specs.declared.error.Cause.{Cause}
 use Rattle.forward.specs.declared.error.Cause.TheVariants as cause
+use Rattle.forward.specs.declared.error.Stopped.{Stopped}
 use Rattle.codec.specs.Grammar.{IsOpen}
 use Rattle.codec.specs.Piecing.{rest}
 use Rattle.frame_reader.specs.Framed.{framed}
@@ -17,7 +18,7 @@ use Rattle.frame_reader.specs.Frames.{BeginsTooLong, Fits, IsCutShort, frames}
 use Rattle.frame_reader.specs.Next.{FramesWent}
 use Rattle.line_reader.specs.Lines.{with_ends}
 use Rattle.programs.specs.Streams.{AllSent}
-use Rattle.frames.specs.Ending.{IsErrorOf}
+use Rattle.frames.specs.Ending.{IsErrorOf, IsOutcome}
 use Rattle.frames.specs.Unpack.{Unpacked, UnpackedFirst, UnpackRan}
 use Rattle.frames.specs.Unpacking.{HandsFrames, held_of, unpacking_rules}
 use Rattle.frames.specs.StreamsLaws.{given_since}
@@ -78,7 +79,7 @@ module _ {R W : Type 0} (remaining : R → Option (List ℕ)) (s t : Unpacking R
         p.all,
       )
 
-  pub all_ran : (count : ℕ) → ForwardAnswers rules s (Ok count) t → Ran (Ok tt)
+  all_ran : (count : ℕ) → ForwardAnswers rules s (Ok count) t → Ran (Ok tt)
   all_ran count p = (
     subst (Unpacked s.source.decoder.max s.source.reader.log t.source.reader.log s.target.log t.target.log) p.1.1.0
         (unpacked count p.0 p.1.0 p.2),
@@ -124,13 +125,20 @@ module _ {R W : Type 0} (remaining : R → Option (List ℕ)) (s t : Unpacking R
       }) in
       (over.0, inl (record { other = other; large = omega (arith, p.1, over.1); met = p.2 }))
 
-  pub stopped_ran : (count : ℕ) (why : Cause RunError) (e : RunError) → StopsBy rules count s why t → IsErrorOf why e
+  stopped_ran : (count : ℕ) (why : Cause RunError) (e : RunError) → StopsBy rules count s why t → IsErrorOf why e
       → Ran (Err e)
   stopped_ran count (cause.Wrong why) e p is = subst (λ x. Ran (Err x)) (sym is) (wrong_ran count why p)
   stopped_ran count (cause.Read fault) e p is = subst (λ x. Ran (Err x)) (sym is) (read_ran count fault p)
   stopped_ran count (cause.Write fault) e p is =
       subst (λ x. Ran (Err x)) (sym is) ((first count p.0).0, p.1)
   stopped_ran count cause.Count e p is = subst (λ x. Ran (Err x)) (sym is.2) (count_ran count is.0 p is.1)
+
+  pub outcome_ran : (answer : Result ℕ (Stopped RunError)) (outcome : Result (Unit {0}) RunError) → IsOutcome answer outcome
+      → ForwardAnswers rules s answer t → Ran outcome
+  outcome_ran (Ok count) (Ok _) is p = all_ran count p
+  outcome_ran (Ok count) (Err e) is p = absurd is
+  outcome_ran (Err stopped) (Ok _) is p = absurd is
+  outcome_ran (Err stopped) (Err e) is p = stopped_ran stopped.count stopped.cause e p is
 
 -- a buffer was refused
 pub unpack_refused : (most : ℕ) (read written : StreamLog) (e : Error) → error_kind e ≡ OutOfMemory

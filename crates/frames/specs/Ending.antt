@@ -5,6 +5,7 @@ use Rattle.std.specs.declared.io.Error.{Error}
 use Rattle.std.specs.declared.io.ErrorKind.TheVariants.{Other}
 use Rattle.forward.specs.declared.error.Cause.{Cause}
 use Rattle.forward.specs.declared.error.Cause.TheVariants as cause
+use Rattle.forward.specs.declared.error.Stopped.{Stopped}
 use Rattle.programs.specs.Ending.{FailsAs, FailsSo}
 use Rattle.programs.specs.Ending as usual
 use Rattle.programs.specs.declared.ending.Ending.{Ending as Usually}
@@ -20,6 +21,13 @@ IsErrorOf (cause.Wrong why) error = error ≡ why
 IsErrorOf (cause.Read e) error = error ≡ Why.Read e
 IsErrorOf (cause.Write e) error = error ≡ Why.Write e
 IsErrorOf cause.Count error = (e : Error) × (error_kind e ≡ Other) × (error ≡ Why.Io e)
+
+-- what a run returns whose payloads went over so
+abbrev pub IsOutcome : Result ℕ (Stopped RunError) → Result (Unit {0}) RunError → Type 0
+IsOutcome (Ok count) (Ok _) = Unit {0}
+IsOutcome (Ok count) (Err e) = ⊥
+IsOutcome (Err stopped) (Ok _) = ⊥
+IsOutcome (Err stopped) (Err e) = IsErrorOf stopped.cause e
 
 -- how a run ends that returned this
 abbrev pub EndsAs : Result (Unit {0}) RunError → Ending → Type 0

@@ -1,5 +1,5 @@
 //! Why a run failed.
-use forward::Cause;
+use forward::{Cause, Stopped};
 use std::io;
 use std::io::ErrorKind;
 
@@ -19,7 +19,17 @@ pub enum RunError {
 }
 
 impl RunError {
-    ghost use Rattle.frames.specs.Ending.{IsErrorOf};
+    ghost use Rattle.frames.specs.Ending.{IsErrorOf, IsOutcome};
+
+    /// What a run returns whose payloads went over so.
+    pub fn outcome(answer: Result<u64, Stopped<RunError>>) -> Result<(), RunError>
+        ensures { IsOutcome answer result }
+    {
+        match answer {
+            Ok(_) => Ok(()),
+            Err(stopped) => Err(RunError::of(stopped.cause)),
+        }
+    }
 
     /// Why a run failed whose payloads were stopped so.
     pub fn of(cause: Cause<RunError>) -> RunError

@@ -74,8 +74,5 @@ fn unpack_all<R: TellRead, W: TellWrite>(
         target,
         held: _,
     } = link.into_inner();
-    match answer {
-        Ok(_) => (Ok(()), source, target),
-        Err(stopped) => (Err(RunError::of(stopped.cause)), source, target),
-    }
+    (RunError::outcome(answer), source, target)
 }
