@@ -1,7 +1,5 @@
 -- What a call of a reader of pieces comes to in a reader of lines.
 use Rattle.std.proofs.Common.{[], ◌≡◌, ℕ, ◌+◌, ◌<◌, ◌≤◌, List, ◌∷◌, ◌++◌, length, length-append, length-drop, take, true, false, Option, Ok, Err, Some, None, IfSome, inl, inr, refl, sym, ap, subst, ◌∙◌, arith, append_assoc}
-use Rattle.std.proofs.lemmas.Bool.{cases_lt}
-use Rattle.std.proofs.lemmas.List.{take-append-le}
 use Rattle.codec.specs.declared.decoder.Span.{Span}
 use Rattle.codec.specs.Decoding.{bytes_at}
 use Rattle.codec.specs.DelimitedLaws.{delimited_lawful}
@@ -16,7 +14,7 @@ use Rattle.codec.specs.StaysLeftLaws.{StaysLeft-next}
 use Rattle.line_reader.specs.declared.error.LineError.TheVariants.{TooLong, Io}
 use Rattle.line_reader.specs.declared.line.Lines.{Lines}
 use Rattle.line_reader.specs.Lines.{BeginsTooLong, IsLine, newline, with_end}
-use Rattle.line_reader.specs.LinesLaws.{line_or_end, take_plain}
+use Rattle.line_reader.specs.LinesLaws.{line_or_end, line_or_long, take_plain}
 use Rattle.line_reader.specs.Lining.{IsLining, Lining, lined}
 use Rattle.line_reader.specs.NextLine.{NextAnswer, NextBuffered, NextLine, piece_answer}
 use Rattle.line_reader.specs.NextLineLaws.{IsHanded-fits, IsPiecing-same, NextLine-of, NextLine-open, NextOpen, NextOpen-whole, by_skipping, same_long, same_none, same_some}
@@ -32,17 +30,9 @@ module _ (max : ℕ) (bytes : List ℕ) (none : ¬ (Begins (lined max) bytes)) w
   long_plain : max < length bytes → IsLine (take (1 + max) bytes)
   long_plain above = elim (line_or_end bytes) [
     | inl plain ↦ take_plain (1 + max) bytes plain
-    | inr (line, more, plain, equal) ↦ elim (cases_lt max (length line)) [
-      | inl long ↦ subst (λ l. IsLine (take (1 + max) l)) (sym equal)
-          (subst IsLine (sym (take-append-le (1 + max) line (newline ∷ more) (omega (arith, long))))
-          (take_plain (1 + max) line plain))
-      | inr fits ↦ absurd (none (record {
-        piece = with_end line;
-        payload = line;
-        more = more;
-        is = record { plain = plain; fits = fits; equal = refl };
-        equal = equal ∙ sym (append_assoc line (newline ∷ []) more);
-      }))
+    | inr (line, more, plain, equal) ↦ elim (line_or_long max bytes line more plain equal) [
+      | inl begins ↦ absurd (none begins)
+      | inr long ↦ long.plain
     ]
   ]
 
@@ -151,7 +141,7 @@ module _ {S : Type 0} (remaining : S → Option (List ℕ)) where
     going_buffered (Some span) (next, same) = going_found (bytes_at span t.reader.block.bytes) next same
     going_buffered None stays = tt
 
-  -- what the line of pieces is that was handed out
+  -- an `Ok` of a reader of lines is one of a reader of pieces
   pub piece_loaded : (s t : Piecing S Lines) (found : Option Span)
       → NextPiece remaining (lined s.decoder.max) s (load_answer (Ok found) t) t
       → NextPiece remaining (lined s.decoder.max) s (piece_answer (load_answer (Ok found) t)) t

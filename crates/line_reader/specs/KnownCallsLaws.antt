@@ -56,7 +56,7 @@ module _ {S : Type 0} (remaining : S → Option (List ℕ)) where
     none = λ ended. (let odd : true ≡ false = sym ended ∙ fresh.ended in cc);
   }
 
-  -- so does one that has just these lines left, which fit
+  -- a reader that has just these lines left, which fit, leaves them
   pub LeavesBehind-of : (f : Lining S) (lines : List (List ℕ)) → LeavesLines remaining f lines
       → LeavesBehind remaining [] f lines
   LeavesBehind-of f lines left = record {

@@ -1,3 +1,5 @@
+pub use Rattle.codec.specs.KnownPieces
+pub use Rattle.codec.specs.NextPiece
 pub use Rattle.codec.specs.Piecing
 pub mod Calls
 pub mod CallsLaws

@@ -2,7 +2,6 @@
 use Rattle.std.specs.Prelude.{◌≡◌, ℕ, ◌+◌, ◌<◌, ◌⊎◌, List, [], ◌∷◌, ◌++◌, length, take, true, false, Option, None, Some, Result, Ok, Err, option_copied}
 use Rattle.std.proofs.Common.{sym, ap, subst, ◌∙◌, arith, refl, inl, inr, append_assoc, length-append}
 use Rattle.std.proofs.lemmas.Bool.{cases_lt}
-use Rattle.std.proofs.lemmas.List.{take-append-le}
 use Rattle.std.specs.Borrow.{Bor}
 use Rattle.std.specs.IoError.{error_kind}
 use Rattle.std.specs.declared.io.Error.{Error}
@@ -18,8 +17,8 @@ use Rattle.line_reader.specs.declared.error.LineError.TheVariants.{TooLong, Io}
 use Rattle.line_reader.specs.Calls.{Event, LinesAlong, Skipped, trimmed_events}
 use Rattle.line_reader.specs.CallsLaws.{LinesAlong-joins, NextLine-along, Trims-along, no_line, skip_last, skip_none, skip_whole}
 use Rattle.line_reader.specs.CallsWentLaws.{ended_empty}
-use Rattle.line_reader.specs.Lines.{BeginsTooLong, IsLine, newline, with_end}
-use Rattle.line_reader.specs.LinesLaws.{front_plain, line_or_end, no-end-within, take_plain, too_long-append}
+use Rattle.line_reader.specs.Lines.{BeginsTooLong, IsLine, newline}
+use Rattle.line_reader.specs.LinesLaws.{front_plain, line_or_end, line_or_long, no-end-within, too_long-append}
 use Rattle.line_reader.specs.Lining.{HasLine, IsLining, Lining, lined}
 use Rattle.line_reader.specs.NextLine.{NextAnswer, NextBuffered, NextLine, NextTrimmed, Trims, piece_answer}
 use Rattle.line_reader.specs.NextLineLaws.{NextLine-open, NextOpen, NextPiece-long, by_skipping}
@@ -114,33 +113,17 @@ module _ {S : Type 0} (remaining : S → Option (List ℕ)) (s t : Lining S) whe
   pub NextTrimmed-failed : (e : Error) → NextTrimmed remaining s (Err (Io e)) t → LineFails s e t
   NextTrimmed-failed e n = NextLine-failed e (NextTrimmed-fails (Io e) n)
 
--- it is settled what the next call answers where an end of a line is
+-- an end of a line settles what the next call answers
 pub HasLine-end : {S : Type 0} (s : Lining S) → s.skipping ≡ false → ¬ (IsLine (rest s.pieces)) → HasLine s
 HasLine-end s open' isnt =
     let max = s.pieces.decoder.max in
-    let bytes = rest s.pieces in
-    elim (line_or_end bytes) [
+    elim (line_or_end (rest s.pieces)) [
       | inl plain ↦ absurd (isnt plain)
       | inr (line, more, plain, equal) ↦ record {
         open' = open';
-        settled = inr (elim (cases_lt max (length line)) [
-          | inl long ↦ inr (
-            record { 0 = max },
-            record {
-              above = omega (arith, long, ap length equal, length-append line (newline ∷ more));
-              plain = subst IsLine
-                  (sym (ap (λ l. take (1 + max) l) equal ∙ take-append-le (1 + max) line (newline ∷ more) (omega (arith, long))))
-                  (take_plain (1 + max) line plain);
-              told = refl;
-            },
-          )
-          | inr fits ↦ inl (record {
-            piece = with_end line;
-            payload = line;
-            more = more;
-            is = record { plain = plain; fits = fits; equal = refl };
-            equal = equal ∙ sym (append_assoc line (newline ∷ []) more);
-          })
+        settled = inr (elim (line_or_long max (rest s.pieces) line more plain equal) [
+          | inl begins ↦ inl begins
+          | inr long ↦ inr (record { 0 = max }, record { above = long.above; plain = long.plain; told = refl })
         ]);
       }
     ]

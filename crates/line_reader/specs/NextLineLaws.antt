@@ -16,7 +16,7 @@ use Rattle.line_reader.specs.Lining.{IsLining, Lining, lined}
 use Rattle.line_reader.specs.NextLine.{NextAnswer, NextLine, piece_answer}
 use Rattle.line_reader.specs.SkipLine.{SkipsLine}
 
--- an answer of a reader of pieces is of one answer
+-- what one answer of a reader of pieces is of a reader of lines
 pub same_some : (answer : NextAnswer) (line : List ℕ) → piece_answer answer ≡ Ok (Some line) → answer ≡ Ok (Some line)
 same_some (Ok found) line is = (let same : found ≡ Some line = cc in ap (λ x. Ok x) same)
 same_some (Err (TooLong n)) line is = cc
@@ -40,7 +40,7 @@ IsHanded-fits max s t line bytes (inr (is, open', some, none, ended, met)) =
     let p = open_plain newline max bytes open' in
     record { plain = subst IsLine (sym is) p.0; fits = omega (arith, p.1, ap length is) }
 
--- it had its end where the stream didn't end behind it, and else it had none
+-- a line that was handed out had its end where the stream didn't end behind it, and else it had none
 module _ {S D : Type 0} (max : ℕ) (s t : Piecing S D) (line bytes : List ℕ) (handed : IsHanded (lined max) s line bytes t) where
   pub IsHanded-end : t.ended ≡ false → bytes ≡ with_end line
   IsHanded-end going = elim handed [

@@ -46,7 +46,7 @@ lines_of max text (line ∷ lines) (inr (last, none)) =
     (subst (λ l. HasLines text (text ∷ l)) (sym none)
     (lines-last text (open_plain newline max text last.open').0 last.some))
 
--- and they fit
+-- lines as pieces fit
 pub fits_of : (max : ℕ) (text : List ℕ) (lines : List (List ℕ)) → HasPieces (lined max) text lines
     → All (FitsLine max) lines
 fits_of max text [] none = All-nil (FitsLine max)
@@ -103,7 +103,7 @@ all_fit max (line ∷ whole) last few plain =
     All-cons (FitsLine max) line more (record { plain = All-head IsLine line more plain; fits = fits })
     (all_fit max whole last (omega (arith, few, all, ended, behind)) (All-tail IsLine line more plain))
 
--- its lines are pieces, and the laws of those are theirs
+-- the lines of a text are pieces, of which the laws hold
 text_pieces : (text : List ℕ) (lines : List (List ℕ)) → HasLines text lines → HasPieces (lined (length text)) text lines
 text_pieces text lines has =
     let few : length (with_ends has.whole ++ has.last) ≤ length text = omega (arith, ap length has.bytes) in
