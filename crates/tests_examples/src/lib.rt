@@ -18,7 +18,8 @@ mod lines;
 mod policies;
 #[cfg(test)]
 mod readers;
-pub mod sends;
+#[cfg(test)]
+mod sends;
 #[cfg(test)]
 mod streams;
 #[cfg(test)]

@@ -75,108 +75,80 @@ pub fn files(reader: &BufReader<Told<File>>, log: &LineWriter<Told<File>>) {
     is_both(log);
 }
 
-pub fn told_sent<R: Send>(x: &Told<R>) {
-    is_send(x);
+pub fn readers_sent<R: Tell + Send, P: Send>(
+    a: &BufReader<R, P>,
+    b: &ChunkedReader<R, P>,
+    c: &Unbuffer<R>,
+    d: &FrameReader<R>,
+    e: &LineReader<R>,
+) {
+    is_send(a);
+    is_send(b);
+    is_send(c);
+    is_send(d);
+    is_send(e);
 }
 
-pub fn told_shared<R: Sync>(x: &Told<R>) {
-    is_sync(x);
+pub fn readers_shared<R: Tell + Sync, P: Sync>(
+    a: &BufReader<R, P>,
+    b: &ChunkedReader<R, P>,
+    c: &Unbuffer<R>,
+    d: &FrameReader<R>,
+    e: &LineReader<R>,
+) {
+    is_sync(a);
+    is_sync(b);
+    is_sync(c);
+    is_sync(d);
+    is_sync(e);
 }
 
-pub fn reader_sent<R: Tell + Send, P: Send>(x: &BufReader<R, P>) {
-    is_send(x);
+pub fn writers_sent<W: TellWrite + Send, P: Send>(
+    a: &BufWriter<W, P>,
+    b: &ChunkedWriter<W>,
+    c: &LineWriter<W>,
+    d: &FrameWriter<W>,
+) {
+    is_send(a);
+    is_send(b);
+    is_send(c);
+    is_send(d);
 }
 
-pub fn reader_shared<R: Tell + Sync, P: Sync>(x: &BufReader<R, P>) {
-    is_sync(x);
+pub fn writers_shared<W: TellWrite + Sync, P: Sync>(
+    a: &BufWriter<W, P>,
+    b: &ChunkedWriter<W>,
+    c: &LineWriter<W>,
+    d: &FrameWriter<W>,
+) {
+    is_sync(a);
+    is_sync(b);
+    is_sync(c);
+    is_sync(d);
 }
 
-pub fn unbuffered_sent<R: Tell + Send>(x: &Unbuffer<R>) {
-    is_send(x);
+pub fn wrappers_sent<T: Send>(
+    a: &Told<T>,
+    b: &MakeError<T>,
+    c: &IntoInnerError<T>,
+    d: &FinishError<T>,
+) {
+    is_send(a);
+    is_send(b);
+    is_send(c);
+    is_send(d);
 }
 
-pub fn unbuffered_shared<R: Tell + Sync>(x: &Unbuffer<R>) {
-    is_sync(x);
-}
-
-pub fn writer_sent<W: TellWrite + Send, P: Send>(x: &BufWriter<W, P>) {
-    is_send(x);
-}
-
-pub fn writer_shared<W: TellWrite + Sync, P: Sync>(x: &BufWriter<W, P>) {
-    is_sync(x);
-}
-
-pub fn line_writer_sent<W: TellWrite + Send>(x: &LineWriter<W>) {
-    is_send(x);
-}
-
-pub fn line_writer_shared<W: TellWrite + Sync>(x: &LineWriter<W>) {
-    is_sync(x);
-}
-
-pub fn refusal_sent<T: Send>(x: &MakeError<T>) {
-    is_send(x);
-}
-
-pub fn refusal_shared<T: Sync>(x: &MakeError<T>) {
-    is_sync(x);
-}
-
-pub fn unwrapping_sent<W: Send>(x: &IntoInnerError<W>) {
-    is_send(x);
-}
-
-pub fn unwrapping_shared<W: Sync>(x: &IntoInnerError<W>) {
-    is_sync(x);
-}
-
-pub fn frame_reader_sent<R: Tell + Send>(x: &FrameReader<R>) {
-    is_send(x);
-}
-
-pub fn frame_reader_shared<R: Tell + Sync>(x: &FrameReader<R>) {
-    is_sync(x);
-}
-
-pub fn frame_writer_sent<W: TellWrite + Send>(x: &FrameWriter<W>) {
-    is_send(x);
-}
-
-pub fn frame_writer_shared<W: TellWrite + Sync>(x: &FrameWriter<W>) {
-    is_sync(x);
-}
-
-pub fn line_reader_sent<R: Tell + Send>(x: &LineReader<R>) {
-    is_send(x);
-}
-
-pub fn line_reader_shared<R: Tell + Sync>(x: &LineReader<R>) {
-    is_sync(x);
-}
-
-pub fn chunked_reader_sent<R: Tell + Send, P: Send>(x: &ChunkedReader<R, P>) {
-    is_send(x);
-}
-
-pub fn chunked_reader_shared<R: Tell + Sync, P: Sync>(x: &ChunkedReader<R, P>) {
-    is_sync(x);
-}
-
-pub fn chunked_writer_sent<W: TellWrite + Send>(x: &ChunkedWriter<W>) {
-    is_send(x);
-}
-
-pub fn chunked_writer_shared<W: TellWrite + Sync>(x: &ChunkedWriter<W>) {
-    is_sync(x);
-}
-
-pub fn finishing_sent<B: Send>(x: &FinishError<B>) {
-    is_send(x);
-}
-
-pub fn finishing_shared<B: Sync>(x: &FinishError<B>) {
-    is_sync(x);
+pub fn wrappers_shared<T: Sync>(
+    a: &Told<T>,
+    b: &MakeError<T>,
+    c: &IntoInnerError<T>,
+    d: &FinishError<T>,
+) {
+    is_sync(a);
+    is_sync(b);
+    is_sync(c);
+    is_sync(d);
 }
 
 pub fn piece_reader_sent<R: Tell + Send, D: Decoder + Send>(x: &PieceReader<R, D>) {
