@@ -7,8 +7,7 @@
 mod blocks;
 #[cfg(test)]
 mod buffers;
-#[cfg(test)]
-mod claims;
+pub mod claims;
 #[cfg(test)]
 mod copying;
 #[cfg(test)]
