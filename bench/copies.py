@@ -1,24 +1,31 @@
 """Prints how much processor time copying takes: python3 bench/copies.py
 
-A file of 256 MiB goes from file to file and from pipe to pipe, through `cat` and through `bufcopy` of two capacities, all by
-turns, so that what else the machine does meets each alike. Beside each stands the median of its seconds for a GiB, of the
-copying process alone. crates/bufcopy has to be built: (cd crates/bufcopy && rt run < stdin).
+A file of 256 MiB goes from file to file and from pipe to pipe, through `cat`, through Rust's `io::copy` (bench/copy.rs) with
+and without the help of the kernel, and through `bufcopy` of two capacities, all by turns, so that what else the machine does
+meets each alike. Beside each stands the least of its seconds for a GiB, of the copying process alone. crates/bufcopy has to be
+built: (cd crates/bufcopy && rt run < stdin).
 """
 
 import os
 import pathlib
-import statistics
 import subprocess
 import tempfile
 
 SIZE = 256 << 20
 RUNS = 7
-BUFCOPY = str(pathlib.Path(__file__).resolve().parent.parent / "crates/bufcopy/out/bufcopy")
-COMMANDS = {
-    "`cat`": ["cat"],
-    "`bufcopy`, 8192": [BUFCOPY],
-    "`bufcopy`, 65536": [BUFCOPY, "std", "65536"],
-}
+HERE = pathlib.Path(__file__).resolve().parent
+BUFCOPY = str(HERE.parent / "crates/bufcopy/out/bufcopy")
+
+
+def commands(rust):
+    """Each program by its name; rust is bench/copy.rs."""
+    return {
+        "`cat`": ["cat"],
+        "Rust's `io::copy`": [rust],
+        "the same by reads and writes of 8192": [rust, "hidden"],
+        "`bufcopy`, 8192": [BUFCOPY],
+        "`bufcopy`, 65536": [BUFCOPY, "std", "65536"],
+    }
 
 
 def seconds(process):
@@ -54,16 +61,19 @@ def main():
         with open(source, "wb") as made:
             for _ in range(SIZE >> 20):
                 made.write(os.urandom(1 << 20))
+        rust = os.path.join(folder, "copy")
+        subprocess.run(["rustc", "-O", "-o", rust, HERE / "copy.rs"], check=True)
+        copiers = commands(rust)
         used = {}
         for _ in range(RUNS):
             for way, copy in ways.items():
-                for name, command in COMMANDS.items():
+                for name, command in copiers.items():
                     used.setdefault((name, way), []).append(copy(command, source, target))
     print("| Processor seconds for a GiB | " + " | ".join(ways) + " |")
     print("|---" * (len(ways) + 1) + "|")
-    for name in COMMANDS:
-        medians = [statistics.median(used[name, way]) * (1 << 30) / SIZE for way in ways]
-        print(f"| {name} | " + " | ".join(f"{median:.2f}" for median in medians) + " |")
+    for name in copiers:
+        least = [min(used[name, way]) * (1 << 30) / SIZE for way in ways]
+        print(f"| {name} | " + " | ".join(f"{seconds:.2f}" for seconds in least) + " |")
 
 
 if __name__ == "__main__":

@@ -3,7 +3,8 @@
 The cases are those of bench/table.sh, or those in whose names a WORD stands. Each goes over the same MiB again and again, which
 stays in the cache, so that making the stream doesn't count. The programs take turns, on one core of their own, and of all
 runs of one the least stands in the table; what the median is above it is noise of the machine. A ratio whose two sides differ
-by less than that is in brackets. crates/bench has to be built: (cd crates/bench && rt run).
+by less than that is in brackets. crates/bench has to be built: (cd crates/bench && rt run). Beside other work root keeps the
+core free of it: chrt -f 50 python3 bench/time.py.
 """
 
 import os
