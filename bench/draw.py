@@ -1,8 +1,8 @@
 """Draws docs/speed.svg from the tables of docs/SPEED.md: python3 bench/draw.py
 
 A bar is how much of Rust's instructions ours takes, by the numbers of one row: to the left of the line less, to the right more.
-Columns that name Rust go with ours in order; where there is but one, the first of ours is the bar, and the next a mark in it.
-Those of the kit's std are left out. The axis goes by doublings. Who changes a number there draws again.
+A mark in it is how much of Rust's time. Columns that name Rust go with ours in order, and so do those of times, which are ratios;
+those of rings and of the kit's std are left out. The axis goes by doublings. Who changes a number there draws again.
 """
 
 import math
@@ -20,20 +20,23 @@ def cells_of(line):
 
 
 def number(cell):
+    cell = cell.strip("()")
     return float(cell) if cell.replace(".", "", 1).isdigit() else None
 
 
 def bars_of(columns):
-    """For each bar a name, the columns of ours and the one of Rust, by their places."""
+    """For each bar a name, and the columns of ours, of Rust and of the time, where there is one, by their places."""
     rust = [at for at, name in enumerate(columns) if at and "Rust" in name]
-    ours = [at for at, name in enumerate(columns) if at and at not in rust and not name.startswith("the kit's")]
-    if len(rust) == 1:
-        return [("", ours, rust[0])]
-    return [(f": {columns[our]}", [our], other) for our, other in zip(ours, rust)]
+    times = [at for at, name in enumerate(columns) if at and name.startswith("time")]
+    left_out = [at for at, name in enumerate(columns) if name == "ring" or name.startswith("the kit's")]
+    ours = [at for at in range(1, len(columns)) if at not in rust + times + left_out]
+    times += [None] * (len(rust) - len(times))
+    names = [""] if len(rust) == 1 else [f": {columns[our]}" for our in ours]
+    return list(zip(names, ours, rust, times))
 
 
 def groups_of(page):
-    """Of each table that has a column of Rust the heading above it, and each bar's name and ratios."""
+    """Of each table that has a column of Rust the heading above it, and each bar's name, ratio and time."""
     found, heading, columns = [], "", None
     for line in page.splitlines():
         if line.startswith("## "):
@@ -47,11 +50,10 @@ def groups_of(page):
                 found.append((f"{heading}: {columns[0][0].lower()}{columns[0][1:]}", rows))
         elif not line.startswith("|-"):
             row = cells_of(line)
-            for name, ours, other in wanted:
-                below = number(row[other])
-                ratios = [number(row[at]) / below for at in ours if below and number(row[at])]
-                if ratios:
-                    rows.append((row[0] + name, ratios))
+            for name, our, other, time in wanted:
+                if number(row[our]) and number(row[other]):
+                    took = number(row[time]) if time else None
+                    rows.append((row[0] + name, number(row[our]) / number(row[other]), took))
     return found
 
 
@@ -75,12 +77,14 @@ def drawing(groups):
     for head, rows in groups:
         parts.append(text(12, y + BAR, head, weight="bold"))
         y += BAR + 6
-        for name, (ratio, *others) in rows:
+        for name, ratio, took in rows:
             first, last = sorted((place(1), place(ratio)))
             parts.append(text(NAMES - 12, y + BAR - 3, name.replace("`", ""), anchor="end"))
             parts.append(block(first, y, last - first, BAR - 2, LESS if ratio < 1 else MORE))
-            parts += [block(place(it) - 1, y, 2, BAR - 2, "#222222") for it in others]
-            ends = [first, last, *map(place, others)]
+            ends = [first, last]
+            if took:
+                parts.append(block(place(took) - 1, y, 2, BAR - 2, "#222222"))
+                ends.append(place(took))
             at, anchor = (min(ends) - 4, "end") if ratio < 1 else (max(ends) + 4, "start")
             parts.append(text(at, y + BAR - 3, f"{ratio:.2f}", 9, anchor))
             y += BAR
@@ -89,7 +93,7 @@ def drawing(groups):
     for at, words in (1 / 4, "1/4"), (1 / 2, "1/2"), (1, "as Rust"), (2, "2"), (4, "4"), (8, "8"), (16, "16"):
         colour = "#444444" if at == 1 else "#dddddd"
         lines += [block(place(at), TOP - 6, 1, y - TOP, colour), text(place(at), TOP - 10, words, 10, "middle")]
-    title = "Instructions of ours for one of Rust's std: less is better. A mark is a ring"
+    title = "Instructions of ours for one of Rust's std: less is better. A mark is the same of time"
     head = f'<svg xmlns="http://www.w3.org/2000/svg" width="{WIDTH}" height="{y + 8}" font-family="sans-serif" role="img">'
     back = '<rect width="100%" height="100%" fill="white"/>' + text(12, 22, title, 13, weight="bold")
     return "\n".join([head, f"<title>{title}</title>", back, *lines, *parts, "</svg>\n"])
