@@ -2,6 +2,7 @@ pub mod IntLines
 pub mod LineCount
 pub mod Progress
 pub mod Records
+pub mod Sifted
 pub mod Sniff
 pub mod Stops
 pub mod Survive

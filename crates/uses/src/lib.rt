@@ -12,6 +12,7 @@ pub mod own_policy;
 pub mod packed;
 pub mod progress;
 pub mod records;
+pub mod sifted;
 pub mod sniff;
 pub mod survive;
 pub mod tally;
