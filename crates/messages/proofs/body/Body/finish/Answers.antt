@@ -1,4 +1,4 @@
-use Rattle.std.proofs.Common.{refl, ◌≡◌, ◌∙◌, ap, sym, subst}
+use Rattle.std.proofs.Common.{refl, ◌≡◌, ap, sym, subst}
 use Rattle.buffer_redux.specs.Unbuffer.{Unbuffered, unbuffered}
 use Rattle.chunked.specs.Asking.{AskedWhere}
 use Rattle.messages.specs.Messages.{FailsBehind, Bytes, Ends, NoFault, Takes, Unended}
@@ -12,26 +12,12 @@ returns-in-Err-with_buffer g c =
     let source = c.self.inside.source in
     let s = stream_of source in
     let r = rest_of source in
-    let there = c.in-Err-with_buffer.field-0.0 in
     let same = c.in-Err-with_buffer.ensures.handed_back in
-    let reader = c.in-Ok.reader in
     let apart = c.into_inner_with_buffer-inner.ensures in
     let u : Unbuffered g.row.R.Denot = unbuffered c.with_buffer-in-Err-with_buffer.result in
-    let log = g.R.Tell.log in
-    let inner = c.into_inner_with_buffer-inner.result.0 in
-    let bytes = reader.block.bytes in
-    let a : Unbuffered g.row.R.Denot = record { left = there.0.bytes; inner = there.1; log = log there.1 } in
-    let b : Unbuffered g.row.R.Denot = record { left = bytes; inner = there.1; log = log there.1 } in
-    let d : Unbuffered g.row.R.Denot = record { left = bytes; inner = inner; log = log inner } in
-    let e : Unbuffered g.row.R.Denot = record { left = bytes; inner = reader.inner; log = log inner } in
-    let block : there.0 ≡ reader.block = same.0 ∙ apart.block in
-    let stream : there.1 ≡ inner = same.1 in
-    let one : u ≡ a = ap unbuffered c.with_buffer-in-Err-with_buffer.ensures in
-    let two : a ≡ b = ap (λ x. record { left = x.bytes; inner = there.1; log = log there.1 }) block in
-    let three : b ≡ d = ap (λ x. record { left = bytes; inner = x; log = log x }) stream in
-    let four : d ≡ e = ap (λ x. record { left = bytes; inner = x; log = log inner }) apart.inner in
-    let five : e ≡ unbuffered reader = ap (λ x. record { left = bytes; inner = reader.inner; log = x }) apart.log in
-    let all : unbuffered reader ≡ u = sym (one ∙ two ∙ three ∙ four ∙ five) in
+    let back : u ≡ unbuffered c.in-Ok.reader =
+    rw (c.with_buffer-in-Err-with_buffer.ensures, same.0, same.1, apart.block, apart.log, apart.inner) refl in
+    let all = sym back in
     let ends : Ends remaining s r u = subst (λ v. Ends remaining s r v) all c.in-Ok.ensures.ends in
     let asked : AskedWhere (Unended r) s u = subst (λ v. AskedWhere (Unended r) s v) all c.in-Ok.ensures.asked in
     let takes : Takes remaining s r ends.payload u (Bytes 0) = ends_of remaining s r u ends in

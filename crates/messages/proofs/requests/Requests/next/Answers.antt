@@ -2,7 +2,7 @@ use Rattle.std.proofs.Common.{◌≡◌, ◌++◌, Ok, Some, arith, ap, sym, sub
 use Rattle.buffer_redux.specs.Unbuffer.{Unbuffered, unbuffered}
 use Rattle.codec.specs.Decoding.{bytes_at}
 use Rattle.codec.specs.NextPiece.{NextPiece}
-use Rattle.codec.specs.Piecing.{left_of, rest}
+use Rattle.codec.specs.Piecing.{left_of}
 use Rattle.messages.specs.Heads.{IsHead, heads}
 use Rattle.messages.specs.Messages.{Begun, begun}
 use Rattle.messages.specs.MessagesLaws.{lent}
@@ -36,18 +36,9 @@ returns-in-Some g c =
     let t = c.step.new.self in
     let said = c.in-Some.said in
     let head = c.append.new.self.bytes in
-    let inner = c.into_inner_with_buffer-inner.result.0 in
-    let buffer = c.into_inner_with_buffer-inner.result.1 in
     let apart = c.into_inner_with_buffer-inner.ensures.apart in
-    let log = g.R.Tell.log inner in
     let u : Unbuffered g.row.R.Denot = unbuffered c.with_buffer.result in
-    let a : Unbuffered g.row.R.Denot = record { left = buffer.bytes; inner = inner; log = log } in
-    let b : Unbuffered g.row.R.Denot = record { left = rest t; inner = inner; log = log } in
-    let d : Unbuffered g.row.R.Denot = record { left = rest t; inner = t.reader.inner; log = log } in
-    let one : u ≡ a = ap unbuffered c.with_buffer.ensures in
-    let two : a ≡ b = ap (λ x. record { left = x; inner = inner; log = log }) apart.bytes in
-    let three : b ≡ d = ap (λ x. record { left = rest t; inner = x; log = log }) apart.inner in
-    let four : d ≡ left_of t = ap (λ x. record { left = rest t; inner = t.reader.inner; log = x }) apart.log in
+    let stands : u ≡ left_of t = rw (c.with_buffer.ensures, apart.bytes, apart.log, apart.inner) refl in
     let lent : head ≡ c.lent-lent.result.now =
     c.append.ensures.bytes.bytes ∙ ap (λ l. l ++ c.lent-lent.result.now) c.clear.ensures.bytes.bytes in
     let bytes : bytes_at c.in-Ok-Some.span t.reader.block.bytes ≡ head = sym c.lent-lent.ensures ∙ sym lent in
@@ -56,7 +47,7 @@ returns-in-Some g c =
     let begins : Begun remaining s (begun u head said) = record {
       behind = t;
       next = next;
-      stream = one ∙ two ∙ three ∙ four;
+      stream = stands;
       is = subst (λ l. IsHead l said) (sym lent) c.in-Some.ensures.some;
       rest = refl;
     } in
