@@ -1,4 +1,4 @@
-use Rattle.std.proofs.Common.{Ok, Err, true, false, ap, subst, refl, ◌∙◌, arith}
+use Rattle.std.proofs.Common.{Ok, Err, ap, subst, refl, ◌∙◌, arith}
 use Rattle.std.proofs.lemmas.Result.{err_from_is_err_and}
 use Rattle.codec.specs.NextPiece.{Refills}
 use Rattle.line_reader.specs.Lining.{lined}
