@@ -18,8 +18,6 @@ pub enum Want<'a> {
     Rest(&'a [u8]),
     /// The stream was read so often.
     Asked(usize),
-    /// The first read of it was offered so many bytes.
-    Offered(usize),
 }
 
 /// Why bytes are no piece.
@@ -47,12 +45,11 @@ pub trait Asks {
     fn asked(&self) -> &[usize];
 }
 
-/// Whether this holds of a reader, and nothing where the stream failed.
-pub fn meets<A: Asks>(reader: &mut A, want: Want<'_>) -> Option<bool> {
+// Whether this holds of a reader, and nothing where the stream failed.
+fn meets<A: Asks>(reader: &mut A, want: Want<'_>) -> Option<bool> {
     match want {
         Want::Rest(bytes) => Some(reader.left() == bytes),
         Want::Asked(count) => Some(reader.asked().len() == count),
-        Want::Offered(count) => Some(reader.asked().first() == Some(&count)),
         _ => reader.answers(want),
     }
 }

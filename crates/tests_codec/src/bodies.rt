@@ -1,21 +1,20 @@
 //! The reader of bodies in the chunked coding.
 use End::{Truncated, Whole, Wrong};
+use buffer_redux::BufReader;
 use buffer_redux::policy::ReaderPolicy;
 use buffer_redux::script::Answer;
-use buffer_redux::tell::{Tell, TellRead, Told};
-use buffer_redux::{BufReader, GrowError};
+use buffer_redux::tell::{Tell, TellRead};
 use chunked::Malformed::{
     BadField, BadSize, BareFeed, BareReturn, ChunkTooLong, LineTooLong, NoSize, SizeTooLarge,
     TrailersTooLong,
 };
 use chunked::{ChunkedError, ChunkedReader, Limits, Malformed};
 use std::alloc::{AllocError, Global};
-use std::fmt::Debug;
 use std::io;
-use std::io::{ErrorKind, Read};
+use std::io::Read;
 use std::test::Fail;
 use tests_common::sweep::{Came, FAULT, Run, sweep};
-use tests_common::{Source, asked, debug, first, kind, read_to_end, reader, source};
+use tests_common::{Source, asked, first, read_to_end, reader, source};
 
 // How a body ends.
 #[derive(Clone, Copy)]
@@ -148,11 +147,6 @@ fn body(alloc: Global, row: &Row<'_>, script: &[Answer]) -> io::Result<Body> {
     Ok(over(reader, row.0, row.1))
 }
 
-/// One that was not begun, of no byte.
-pub fn unbegun(alloc: Global) -> io::Result<Body> {
-    body(alloc, &Row(9, 9, b"", b"", Truncated(0)), &[])
-}
-
 // One read of payload.
 fn read_payload<R: TellRead, P: ReaderPolicy>(
     body: &mut ChunkedReader<R, P>,
@@ -282,67 +276,5 @@ fn tells_how_bodies_end(rt: HostRuntime) -> Result<(), Fail> {
         *met = sweep(rt.alloc(), rows, &[1], FAULT)?;
     }
     assert!(rt; met == [Ok(36), Ok(40), Ok(104), Ok(55)], "{met:?}");
-    Ok(())
-}
-
-type Outer<'a> = BufReader<ChunkedReader<Told<&'a [u8]>>>;
-
-// A buffered reader over the body in these bytes.
-fn outer(alloc: Global, bytes: &[u8]) -> Result<Outer<'_>, GrowError> {
-    let body = over(reader(alloc, 8, b"", Told::new(bytes))?, 9, 9);
-    reader(alloc, 8, b"", body)
-}
-
-// Whether a reader shows this payload, and why it ends.
-fn shows<R: Read>(alloc: Global, reader: &mut R, want: &[u8]) -> (bool, Option<ErrorKind>) {
-    let mut payload = Vec::new(alloc);
-    let failed = kind(read_to_end(reader, &mut payload)).err();
-    (payload.as_slice() == want, failed)
-}
-
-static UNDER: [(&[u8], Option<ErrorKind>); 3] = [
-    (b"1\r\na\r\n1\r\nb\r\n0\r\n\r\nc", None),
-    (b"1\r\na\r\n1\r\nb\r\n", Some(ErrorKind::UnexpectedEof)),
-    (b"1\r\na\r\n1\r\nbc\r\n", Some(ErrorKind::InvalidData)),
-];
-
-fn through(alloc: Global, bytes: &[u8]) -> Result<(bool, Option<ErrorKind>), GrowError> {
-    Ok(shows(alloc, &mut outer(alloc, bytes)?, b"ab"))
-}
-
-#[test]
-fn goes_under_a_buffered_reader(rt: HostRuntime) -> Result<(), Fail> {
-    for &(bytes, failed) in &UNDER {
-        assert!(rt; through(rt.alloc(), bytes)? == (true, failed));
-    }
-    Ok(())
-}
-
-// Whether a value is shown by a text that begins and ends so.
-pub fn is_shown<T: Debug>(
-    alloc: Global,
-    value: &T,
-    front: &str,
-    back: &str,
-) -> Result<bool, AllocError> {
-    let said = debug(alloc, value)?;
-    Ok(said.starts_with(front) && said.ends_with(back))
-}
-
-fn buffered<R: Tell, P>(body: &ChunkedReader<R, P>) -> usize {
-    body.get_ref().buf_len()
-}
-
-fn is_unbegun<R: Tell + Debug, P: Debug>(
-    alloc: Global,
-    body: &ChunkedReader<R, P>,
-) -> Result<bool, AllocError> {
-    let front = "chunked::ChunkedReader { reader: buffer_redux::BufReader {";
-    Ok(is_shown(alloc, body, front, ", place: Line, taken: 0 }")? && buffered(body) == 0)
-}
-
-#[test]
-fn shows_where_it_stands(rt: HostRuntime) -> Result<(), Fail> {
-    assert!(rt; is_unbegun(rt.alloc(), &unbegun(rt.alloc())?)?);
     Ok(())
 }

@@ -1,5 +1,4 @@
 //! The writer of bodies in the chunked coding.
-use crate::bodies::is_shown;
 use buffer_redux::script::Answer;
 use buffer_redux::tell::TellWrite;
 use buffer_redux::{BufWriter, IntoInnerError};
@@ -76,10 +75,6 @@ pub fn body(alloc: Global, capacity: usize, script: &[Answer]) -> io::Result<Bod
 
 fn inner<W: TellWrite>(body: &ChunkedWriter<W>) -> &BufWriter<W> {
     body.get_ref()
-}
-
-fn into_inner<W: TellWrite>(body: ChunkedWriter<W>) -> BufWriter<W> {
-    body.into_inner()
 }
 
 fn finish<W: TellWrite>(
@@ -185,42 +180,6 @@ impl Run for Row<'_> {
 fn writes_bodies(rt: HostRuntime) -> Result<(), Fail> {
     let met = sweep(rt.alloc(), &BODIES, &[usize::MAX, 3, 1], FAULT)?;
     assert!(rt; met == Ok(460), "{met:?}");
-    Ok(())
-}
-
-fn write_each<W: Write>(outer: &mut W, bytes: &[u8]) -> io::Result<()> {
-    for byte in bytes {
-        write_all(outer, &[*byte])?;
-    }
-    Ok(())
-}
-
-fn unwrapped<W: TellWrite + Drop>(outer: BufWriter<W>) -> io::Result<W> {
-    match outer.into_inner() {
-        Ok(inner) => Ok(inner),
-        Err(IntoInnerError(_, e)) => Err(e),
-    }
-}
-
-// A writer behind a buffered one over it, which these bytes went into one by one.
-fn bytewise<W: TellWrite + Drop>(alloc: Global, inner: W, bytes: &[u8]) -> io::Result<W> {
-    let mut outer = writer(alloc, 64, b"", inner)?;
-    write_each(&mut outer, bytes)?;
-    unwrapped(outer)
-}
-
-// Whether it is shown, and sends these bytes.
-fn shows(alloc: Global, body: Body, want: &[u8]) -> io::Result<bool> {
-    let front = "chunked::ChunkedWriter { writer: buffer_redux::BufWriter {";
-    let shown = is_shown(alloc, &body, front, " }")?;
-    Ok(shown && sends(into_inner(body), want)?)
-}
-
-// Small writes through a buffered writer over the body are one chunk.
-#[test]
-fn goes_under_a_buffered_writer(rt: HostRuntime) -> Result<(), Fail> {
-    let body = bytewise(rt.alloc(), body(rt.alloc(), 64, &[])?, b"hello world")?;
-    assert!(rt; shows(rt.alloc(), body, b"b\r\nhello world\r\n")?);
     Ok(())
 }
 

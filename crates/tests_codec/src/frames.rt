@@ -1,5 +1,5 @@
 //! Frames, read and written.
-use crate::asks::Want::{Asked, End, Next, Offered, Rest, Wrong};
+use crate::asks::Want::{Asked, End, Next, Rest, Wrong};
 use crate::asks::Why::{Long, Truncated};
 use crate::asks::{Asks, Want, walk};
 use buffer_redux::MakeError;
@@ -45,28 +45,13 @@ static READS: [Reads<'static>; 9] = [
 
 type Frames = FrameReader<Source>;
 
-/// A reader over the usual buffer, or one of at least this capacity. Neither it nor any call below promises anything.
+/// A reader over the least buffer. Neither it nor any call below promises anything.
 pub fn reader<R: TellRead + Drop>(
     alloc: Global,
-    capacity: Option<usize>,
     max: u16,
     inner: R,
 ) -> Result<FrameReader<R>, MakeError<R>> {
-    match capacity {
-        Some(capacity) => FrameReader::with_capacity(alloc, capacity, inner, max),
-        None => FrameReader::new(alloc, inner, max),
-    }
-}
-
-/// Such a reader of these bytes.
-pub fn frames_over(
-    alloc: Global,
-    capacity: Option<usize>,
-    max: u16,
-    bytes: &[u8],
-    script: &[Answer],
-) -> io::Result<Frames> {
-    Ok(reader(alloc, capacity, max, source(alloc, bytes, script)?)?)
+    FrameReader::with_capacity(alloc, 0, inner, max)
 }
 
 fn next<R: TellRead>(frames: &mut FrameReader<R>) -> Result<Option<&[u8]>, FrameError> {
@@ -105,7 +90,7 @@ fn is_such(answer: Result<Option<&[u8]>, FrameError>, want: Want<'_>) -> Option<
 
 impl Run for Reads<'_> {
     fn run(&self, alloc: Global, script: &[Answer]) -> io::Result<Option<Came>> {
-        let frames = frames_over(alloc, Some(0), self.0, self.1, script)?;
+        let frames = reader(alloc, self.0, source(alloc, self.1, script)?)?;
         Ok(walk(frames, self.2))
     }
 }
@@ -183,27 +168,13 @@ static WRITES: [Writes<'static>; 2] = [
 
 type Sends = FrameWriter<Target>;
 
-/// A writer over such a buffer.
+/// A writer over the least buffer. Neither it nor any call below promises anything.
 pub fn writer<W: TellWrite + Drop>(
     alloc: Global,
-    capacity: Option<usize>,
     max: u16,
     inner: W,
 ) -> Result<FrameWriter<W>, MakeError<W>> {
-    match capacity {
-        Some(capacity) => FrameWriter::with_capacity(alloc, capacity, inner, max),
-        None => FrameWriter::new(alloc, inner, max),
-    }
-}
-
-/// A writer over the usual buffer, or one of at least this capacity. Neither it nor any call below promises anything.
-pub fn frames_into(
-    alloc: Global,
-    capacity: Option<usize>,
-    max: u16,
-    script: &[Answer],
-) -> io::Result<Sends> {
-    Ok(writer(alloc, capacity, max, target(alloc, script)?)?)
+    FrameWriter::with_capacity(alloc, 0, inner, max)
 }
 
 /// Whether a frame was taken in, or refused as it should be, and nothing where the stream failed.
@@ -263,7 +234,7 @@ fn puts_each<W: TellWrite>(
 // No frame is torn.
 impl Run for Writes<'_> {
     fn run(&self, alloc: Global, script: &[Answer]) -> io::Result<Option<Came>> {
-        let mut frames = frames_into(alloc, Some(0), self.0, script)?;
+        let mut frames = writer(alloc, self.0, target(alloc, script)?)?;
         let failed = puts_each(&mut frames, self.1, self.0);
         let calls = offered(&frames);
         Ok(match failed {
@@ -277,55 +248,5 @@ impl Run for Writes<'_> {
 fn writes_frames(rt: HostRuntime) -> Result<(), Fail> {
     let met = sweep(rt.alloc(), &WRITES, &[usize::MAX, 2, 1], FAULT)?;
     assert!(rt; met == Ok(48), "{met:?}");
-    Ok(())
-}
-
-// The stream inside took so many bytes, or failed so, and the writer is back.
-fn ended(frames: Sends) -> Result<usize, (Sends, ErrorKind)> {
-    match frames.into_inner() {
-        Ok(inner) => Ok(inner.get_ref().taken().len()),
-        Err(e) => {
-            let kind = e.error().kind();
-            Err((e.into_inner(), kind))
-        }
-    }
-}
-
-// How the first unwrapping fails, how many bytes the stream took by then, and how many by the second.
-fn unwraps_twice(frames: Sends) -> Option<(ErrorKind, usize, usize)> {
-    let (frames, kind) = ended(frames).err()?;
-    let before = taken(&frames).len();
-    Some((kind, before, ended(frames).ok()?))
-}
-
-#[test]
-fn hands_the_writer_back_at_a_fault(rt: HostRuntime) -> Result<(), Fail> {
-    let mut frames = frames_into(rt.alloc(), None, 1, &[FAULT])?;
-    let put = puts(&mut frames, b"a", 1);
-    assert!(rt; (put, unwraps_twice(frames)) == (Some(true), Some((ErrorKind::Other, 0, 3))));
-    Ok(())
-}
-
-// The capacity that is asked for, the greatest length of a payload, and the capacity that is made: three frames at least.
-static CAPACITIES: [(Option<usize>, u16, usize); 4] = [
-    (Some(0), 3, 15),
-    (Some(16), 3, 16),
-    (None, 3, 8192),
-    (None, 65535, 196611),
-];
-
-// The capacity of a writer.
-fn capacity_of(alloc: Global, capacity: Option<usize>, max: u16) -> io::Result<usize> {
-    let (_, buffer) = frames_into(alloc, capacity, max, &[])?.into_inner_with_buffer();
-    Ok(buffer.capacity())
-}
-
-#[test]
-fn takes_the_capacity(rt: HostRuntime) -> Result<(), Fail> {
-    for &(capacity, max, count) in &CAPACITIES {
-        let frames = frames_over(rt.alloc(), capacity, max, b"", &[])?;
-        assert!(rt; walk(frames, &[End, Offered(count)]).is_some());
-        assert!(rt; capacity_of(rt.alloc(), capacity, max)? == count);
-    }
     Ok(())
 }

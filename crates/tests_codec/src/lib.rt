@@ -15,15 +15,7 @@ mod examples;
 #[cfg(test)]
 mod frames;
 #[cfg(test)]
-mod handover;
-#[cfg(test)]
-mod in_turn;
-#[cfg(test)]
-mod laws;
-#[cfg(test)]
 mod lines;
-#[cfg(test)]
-mod packed;
 pub mod packets;
 #[cfg(test)]
 mod pieces;

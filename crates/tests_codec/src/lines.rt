@@ -1,12 +1,12 @@
 //! Lines.
-use crate::asks::Want::{Asked, End, Next, Offered, Rest, Skipped, Trimmed, Wrong};
+use crate::asks::Want::{Asked, End, Next, Rest, Skipped, Trimmed, Wrong};
 use crate::asks::Why::Long;
-use crate::asks::{Asks, Want, meets, walk};
+use crate::asks::{Asks, Want, walk};
+use buffer_redux::MakeError;
 use buffer_redux::script::Answer;
 use buffer_redux::tell::TellRead;
-use buffer_redux::{GrowError, MakeError};
 use line_reader::{LineError, LineReader};
-use std::alloc::{AllocError, Global};
+use std::alloc::Global;
 use std::io;
 use std::io::ErrorKind;
 use std::test::Fail;
@@ -75,31 +75,15 @@ static SKIPPED: [Row<'static>; 3] = [
     ),
 ];
 
-/// A reader of lines over a stream that answers as it is told.
-pub type Lines = LineReader<Source>;
+type Lines = LineReader<Source>;
 
-/// A reader over the usual buffer, or one of at least this capacity. Neither it nor any call below promises anything.
+/// A reader over the least buffer. Neither it nor any call below promises anything.
 pub fn reader<R: TellRead + Drop>(
     alloc: Global,
-    capacity: Option<usize>,
     max: usize,
     inner: R,
 ) -> Result<LineReader<R>, MakeError<R>> {
-    match capacity {
-        Some(capacity) => LineReader::with_capacity(alloc, capacity, inner, max),
-        None => LineReader::new(alloc, inner, max),
-    }
-}
-
-/// Such a reader of these bytes.
-pub fn lines_over(
-    alloc: Global,
-    capacity: Option<usize>,
-    max: usize,
-    bytes: &[u8],
-    script: &[Answer],
-) -> io::Result<Lines> {
-    Ok(reader(alloc, capacity, max, source(alloc, bytes, script)?)?)
+    LineReader::with_capacity(alloc, 0, inner, max)
 }
 
 fn next<R: TellRead>(lines: &mut LineReader<R>) -> Result<Option<&[u8]>, LineError> {
@@ -149,7 +133,7 @@ fn is_such(answer: Result<Option<&[u8]>, LineError>, want: Want<'_>) -> Option<b
 
 impl Run for Row<'_> {
     fn run(&self, alloc: Global, script: &[Answer]) -> io::Result<Option<Came>> {
-        let lines = lines_over(alloc, Some(0), self.0, self.1, script)?;
+        let lines = reader(alloc, self.0, source(alloc, self.1, script)?)?;
         Ok(walk(lines, self.2))
     }
 }
@@ -250,90 +234,5 @@ fn reads_as_the_stream_gives(rt: HostRuntime) -> Result<(), Fail> {
         let came = row.run(rt.alloc(), script)?;
         assert!(rt; matches!(came, Some(Came { failed, .. }) if failed == *times));
     }
-    Ok(())
-}
-
-// The capacity that is asked for, the greatest length of a line, and how many bytes the first read is offered: all of the
-// buffer, which holds three lines at least.
-static CAPACITIES: [(Option<usize>, usize, usize); 4] = [
-    (Some(0), 3, 12),
-    (Some(13), 3, 13),
-    (None, 3, 8192),
-    (None, 65535, 196608),
-];
-
-#[test]
-fn takes_the_capacity(rt: HostRuntime) -> Result<(), Fail> {
-    for &(capacity, max, count) in &CAPACITIES {
-        let lines = lines_over(rt.alloc(), capacity, max, b"", &[])?;
-        assert!(rt; walk(lines, &[End, Asked(1), Offered(count)]).is_some());
-    }
-    Ok(())
-}
-
-// The stream of a reader that is refused as too large.
-fn too_large<R: TellRead + Drop>(made: Result<LineReader<R>, MakeError<R>>) -> Option<R> {
-    match made {
-        Err(MakeError(inner, GrowError::TooLarge)) => Some(inner),
-        _ => None,
-    }
-}
-
-// How many bytes of it were read, where it comes back.
-fn refused(alloc: Global, capacity: usize, max: usize) -> Result<Option<usize>, AllocError> {
-    Ok(
-        match too_large(reader(alloc, Some(capacity), max, source(alloc, b"abc", &[])?)) {
-            Some(inner) => Some(served(&inner)),
-            None => None,
-        },
-    )
-}
-
-// No memory is asked for then, and the stream comes back unread.
-#[test]
-fn refuses_what_is_too_large(rt: HostRuntime) -> Result<(), Fail> {
-    for (capacity, max) in [(0, usize::MAX), (usize::MAX, 3)] {
-        assert!(rt; refused(rt.alloc(), capacity, max)? == Some(0));
-    }
-    Ok(())
-}
-
-// Whether this line comes first.
-fn begins<A: Asks>(lines: &mut A, first: &[u8]) -> bool {
-    meets(lines, Next(first)) == Some(true)
-}
-
-// The stream that a reader is over, and whether these bytes are in the buffer that is taken out of it.
-fn apart<R: TellRead>(lines: LineReader<R>, held: &[u8]) -> (R, bool) {
-    let (inner, buffer, _ended) = lines.into_inner_with_buffer();
-    (inner, buffer.buf() == held)
-}
-
-fn served(inner: &Source) -> usize {
-    inner.get_ref().served()
-}
-
-// How many bytes it served by then.
-fn served_apart(mut lines: Lines) -> (bool, usize, bool) {
-    let begun = begins(&mut lines, b"a");
-    let (inner, held) = apart(lines, b"bc");
-    (begun, served(&inner), held)
-}
-
-// The same of the stream, lent and handed back.
-fn served_lent(mut lines: Lines) -> (bool, usize, usize) {
-    let begun = begins(&mut lines, b"a");
-    let lent = served(lines.get_mut());
-    (begun, lent, served(&lines.into_inner()))
-}
-
-fn half_read(alloc: Global) -> io::Result<Lines> {
-    lines_over(alloc, None, 3, b"a\nbcd\n", &[Answer::Serve(4)])
-}
-
-#[test]
-fn hands_the_stream_back(rt: HostRuntime) -> Result<(), Fail> {
-    assert!(rt; served_apart(half_read(rt.alloc())?) == (true, 4, true));
-    assert!(rt; served_lent(half_read(rt.alloc())?) == (true, 4, 4));
     Ok(())
 }

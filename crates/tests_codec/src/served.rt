@@ -21,38 +21,6 @@ fn fetched(rt: HostRuntime) -> Result<(), Fail> {
     Ok(drop(reader))
 }
 
-fn echo(
-    reader: &mut PieceReader<Told<&[u8]>, Delimited>,
-    writer: &mut BufWriter<Told<Vec<u8>>>,
-) -> Result<(), Fail> {
-    for _ in 0..u64::MAX {
-        let next = match reader.step_buffered() {
-            Some(span) => Some(span),
-            None => {
-                writer.flush()?;
-                reader.step()?
-            }
-        };
-        match next {
-            Some(span) => writer.write_all(reader.lent(span))?,
-            None => return Ok(()),
-        }
-    }
-    Ok(())
-}
-
-#[test]
-fn echoed(rt: HostRuntime) -> Result<(), Fail> {
-    let alloc = rt.alloc();
-    let lines = Delimited { end: b'\n', max: 9 };
-    let mut reader = PieceReader::new(alloc, Told::new(b"one\ntwo\n".as_slice()), lines)?;
-    let mut writer = BufWriter::new(alloc, Told::new(Vec::new(alloc)))?;
-    echo(&mut reader, &mut writer)?;
-    assert!(rt; writer.get_ref().get_ref().as_slice() == b"onetwo".as_slice());
-    drop(writer);
-    Ok(drop(reader))
-}
-
 #[test]
 fn by_first(rt: HostRuntime) -> Result<(), Fail> {
     let alloc = rt.alloc();

@@ -1,9 +1,12 @@
-//! What the errors say.
+//! What the errors say, and what is printed of a reader and a writer of a body.
+use crate::{bodies, chunks};
+use buffer_redux::GrowError;
+use buffer_redux::tell::Told;
 use chunked::Malformed::{
     BadField, BadSize, BareFeed, BareReturn, ChunkTooLong, LineTooLong, NoSize, SizeTooLarge,
     TrailersTooLong,
 };
-use chunked::{ChunkedError, FinishError, Malformed, TrailersError};
+use chunked::{ChunkedError, ChunkedReader, FinishError, Malformed, TrailersError};
 use frame_reader::{FrameError, WriteFrameError};
 use line_reader::LineError;
 use std::alloc::{AllocError, Global};
@@ -11,7 +14,7 @@ use std::fmt::Display;
 use std::io;
 use std::io::ErrorKind;
 use std::test::Fail;
-use tests_common::{debug, display};
+use tests_common::{debug, display, reader, shown, writer};
 
 // The fault of a stream, whose text is "timed out".
 fn fault() -> io::Error {
@@ -138,8 +141,35 @@ fn kind_of<E: Into<io::Error>>(error: E) -> ErrorKind {
 fn as_io_errors(rt: HostRuntime) {
     assert!(rt; kind_of(LineError::TooLong(4)) == ErrorKind::InvalidData);
     assert!(rt; kind_of(LineError::from(fault())) == ErrorKind::TimedOut);
+    assert!(rt; kind_of(ChunkedError::Truncated(7)) == ErrorKind::UnexpectedEof);
+    assert!(rt; kind_of(ChunkedError::NotChunked(BadSize, 7)) == ErrorKind::InvalidData);
     let refused = |why| kind_of(FinishError(7, why));
     assert!(rt; refused(TrailersError::NoField(7)) == ErrorKind::InvalidInput);
     assert!(rt; refused(TrailersError::TooLong) == ErrorKind::InvalidInput);
     assert!(rt; refused(TrailersError::Io(fault())) == ErrorKind::TimedOut);
+}
+
+type Reader = ChunkedReader<Told<&'static [u8]>>;
+
+// A reader of a body that was not begun.
+fn body(alloc: Global) -> Result<Reader, GrowError> {
+    Ok(bodies::over(reader(alloc, 8, b"", Told::new(b"".as_slice()))?, 9, 9))
+}
+
+#[test]
+fn of_bodies(rt: HostRuntime) -> Result<(), Fail> {
+    let text = shown(rt.alloc(), body(rt.alloc())?)?;
+    assert!(rt;
+        text.as_str()
+            == "chunked::ChunkedReader { reader: buffer_redux::BufReader { reader: Told { stream: [] }, buf_len: 0, capacity: 8, \
+policy: StdPolicy }, place: Line, taken: 0 }"
+    );
+    let inner = writer(rt.alloc(), 45, b"", Told::new(Vec::new(rt.alloc())))?;
+    let text = shown(rt.alloc(), chunks::over(inner)?)?;
+    assert!(rt;
+        text.as_str()
+            == "chunked::ChunkedWriter { writer: buffer_redux::BufWriter { writer: Told { stream: [] }, buf_len: 0, capacity: 45, \
+policy: StdPolicy } }"
+    );
+    Ok(())
 }

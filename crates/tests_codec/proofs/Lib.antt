@@ -1,2 +1,0 @@
--- Lemmas of the tests.
-pub mod Fitting
