@@ -9,6 +9,7 @@ mod own_policy;
 mod packed;
 mod progress;
 mod records;
+mod sifted;
 mod sniff;
 mod survive;
 mod tally;
