@@ -1,5 +1,6 @@
 //! The writer of frames.
-ghost use Rattle.std.specs.Prelude.{◌≡◌, ◌+◌, ◌<◌, ◌≤◌, ◌^◌, [], length, Ok, Err, IfOk, IfErr, MatchResult};
+ghost use Rattle.std.specs.Prelude.{◌≡◌, ◌+◌, ◌*◌, ◌<◌, ◌≤◌, ◌^◌, [], length, Ok, Err, IfOk, IfErr, IsOk, MatchResult};
+ghost use Rattle.buffer_redux.specs.Block.{Plain};
 ghost use Rattle.buffer_redux.specs.BufWriter.{WasFlushed, WasSent};
 ghost use Rattle.buffer_redux.specs.Unwrapping.{InnerOfFlushed};
 ghost use Rattle.buffer_redux.specs.GrowError.{FitsWithin};
@@ -94,6 +95,7 @@ impl<W: TellWrite> FrameWriter<W> {
         ensures whole { IfOk result (IsOutgoing (2 + max)) }
         ensures handed_back { IfErr result (λ e. (e.0.0 ≡ buffer) × (e.0.1 ≡ inner)) }
         ensures within { FitsWithin (growth result) (room_for buffer.capacity (2 + max)) (2 ^ 62) }
+        ensures kept { buffer.kind ≡ Plain → 3 * (2 + max) ≤ buffer.capacity → IsOk result }
     {
         match PieceWriter::with_buffer(alloc, buffer, inner, Frames { max }) {
             Ok(pieces) => Ok(FrameWriter { pieces }),

@@ -1,7 +1,7 @@
 //! Buffers and bytes to begin with.
 use crate::empty;
 use redux_buffer::{Buffer, GrowError};
-use std::alloc::{AllocError, Global};
+use std::alloc::Global;
 
 /// A buffer of this kind that holds the first of these bytes, as many as fit.
 pub fn holding_in(
@@ -13,15 +13,6 @@ pub fn holding_in(
     let mut buf = empty(alloc, is_ring, capacity)?;
     let _ = buf.copy_from_slice(bytes);
     Ok(buf)
-}
-
-/// So many different bytes, again and again from the first.
-pub fn numbered(alloc: Global, count: usize) -> Result<Vec<u8>, AllocError> {
-    let mut bytes = Vec::new(alloc);
-    for i in 0..count {
-        bytes.push((i % 251) as u8)?;
-    }
-    Ok(bytes)
 }
 
 /// So many of the bytes, or all.

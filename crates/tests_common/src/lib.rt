@@ -15,7 +15,7 @@ pub mod sweep;
 mod texts;
 
 pub use crate::calls::{consume, fill_buf, flush, kind, read, read_to_end, seek, write, write_all};
-pub use crate::fixtures::{first, holding_in, numbered};
+pub use crate::fixtures::{first, holding_in};
 pub use crate::looks::{asked, flushes, offered, taken, taken_lines};
 pub use crate::makers::{
     Source, Target, line_writer, reader, reader_under, source, target, writer, writer_under,
