@@ -9,7 +9,7 @@ use Rattle.buffer_redux.specs.StreamLog.{StreamLog}
 use Rattle.buffer_redux.specs.WriterLaws.{WritesInOrder-then}
 use Rattle.buffer_redux.specs.declared.policy.StdPolicy.{StdPolicy}
 use Rattle.chunked.specs.Chunk.{body_end, chunk}
-use Rattle.chunked.specs.Chunking.{Chunking, IsChunking, PutsFirst, PutsIn, WritesChunk, around, room}
+use Rattle.chunked.specs.ChunkedWriter.{ChunkedWriterState, IsChunkedWriter, PutsFirst, PutsIn, WritesChunk, around, room}
 use Rattle.programs.specs.FlushesLaws.{FlushesOnce-flush, flushed_once}
 use Rattle.programs.specs.PromptLaws.{WritesOn-grows, WritesOn-joins, WritesOn-unflushed}
 use Rattle.programs.specs.StreamsLaws.{MetInterrupts-none}
@@ -24,10 +24,10 @@ pub record Quiet {W : Type 0} (u v : Buffered W StdPolicy) : Type 0 where
   pub not_flushed : v.log.writes.flushed ≡ u.log.writes.flushed
   pub flushes : v.log.writes.flushes ≡ u.log.writes.flushes
 
-module _ {W : Type 0} (tells : W → StreamLog) (stretch : W → W → Type 0) where
+module _ {W : Type 0} (tells : W → StreamLog) (trace : W → W → Type 0) where
   -- so it is where bytes go in, whether or not what was buffered had to be sent first
-  pub put_quietly : (u v : Buffered W StdPolicy) (bytes more : List ℕ) (n : ℕ) → (n ≤ room u → PutsIn stretch u bytes v)
-      → (room u < n → PutsFirst tells stretch u more v) → Quiet u v
+  pub put_quietly : (u v : Buffered W StdPolicy) (bytes more : List ℕ) (n : ℕ) → (n ≤ room u → PutsIn trace u bytes v)
+      → (room u < n → PutsFirst tells trace u more v) → Quiet u v
   put_quietly u v bytes more n fits full = elim (cases_lt (room u) n) [
     | inl none ↦
         let p = full none in
@@ -45,13 +45,13 @@ module _ {W : Type 0} (tells : W → StreamLog) (stretch : W → W → Type 0) w
         }
   ]
 
-  module _ (b c : Chunking W) (payload : List ℕ) (some : 0 < length payload) where
-    pub chunk_quietly : (n : ℕ) → WritesChunk tells stretch b payload (Ok n) c → Quiet b.writer c.writer
+  module _ (b c : ChunkedWriterState W) (payload : List ℕ) (some : 0 < length payload) where
+    pub chunk_quietly : (n : ℕ) → WritesChunk tells trace b payload (Ok n) c → Quiet b.writer c.writer
     chunk_quietly n p = put_quietly b.writer c.writer (chunk payload) (chunk (take n payload)) (around + length payload)
         (λ there. (p.fits some there).1) (λ none. (p.full some none).1)
 
     -- it has a byte at least
-    pub chunk_some : (n : ℕ) → WritesChunk tells stretch b payload (Ok n) c → IsChunking b → 0 < n
+    pub chunk_some : (n : ℕ) → WritesChunk tells trace b payload (Ok n) c → IsChunkedWriter b → 0 < n
     chunk_some n p is = elim (cases_lt (room b.writer) (around + length payload)) [
       | inl none ↦ omega (arith, (p.full some none).0, some, is.capacity)
       | inr there ↦ omega (arith, ap count (p.fits some there).0, some)
@@ -62,8 +62,8 @@ module _ {W : Type 0} (tells : W → StreamLog) (stretch : W → W → Type 0) w
         count (Err e) = 0
 
     -- one that took nothing in
-    pub chunk_not_sent : (e : Error) → WritesChunk tells stretch b payload (Err e) c
-        → WasSent tells stretch b.writer (Err e) c.writer
+    pub chunk_not_sent : (e : Error) → WritesChunk tells trace b payload (Err e) c
+        → WasSent tells trace b.writer (Err e) c.writer
     chunk_not_sent e p = elim (cases_lt (room b.writer) (around + length payload)) [
       | inl none ↦ p.full some none
       | inr there ↦ absurd (let odd = (p.fits some there).0 in cc)
@@ -71,7 +71,7 @@ module _ {W : Type 0} (tells : W → StreamLog) (stretch : W → W → Type 0) w
 
   -- the end of a body, and a flush
   module _ (u m v : Buffered W StdPolicy) (taken : WritesInOrder u (body_end []) m) (quiet : Quiet u m) where
-    ends : (answer : Result (Unit {0}) Error) → WasFlushed tells stretch m answer v → (said : Result (Unit {0}) RunError)
+    ends : (answer : Result (Unit {0}) Error) → WasFlushed tells trace m answer v → (said : Result (Unit {0}) RunError)
         → EndAnswers u (body_end []) said v → EndsBody u said v
     ends answer f said answers =
         let writes = WritesOn-joins u.log.writes m.log.writes v.log.writes
@@ -94,13 +94,13 @@ module _ {W : Type 0} (tells : W → StreamLog) (stretch : W → W → Type 0) w
           ];
         }
 
-    pub ends_well : WasFlushed tells stretch m (Ok tt) v → EndsBody u (Ok tt) v
+    pub ends_well : WasFlushed tells trace m (Ok tt) v → EndsBody u (Ok tt) v
     ends_well f = ends (Ok tt) f (Ok tt) (
       refl,
       record { empty = f.ok.empty; flushed = f.ok.flushed },
       MetInterrupts-joins u.log.writes m.log.writes v.log.writes quiet.met f.ok.met,
     )
 
-    pub ends_badly : (e : Error) → WasFlushed tells stretch m (Err e) v → EndsBody u (Err (Write e)) v
+    pub ends_badly : (e : Error) → WasFlushed tells trace m (Err e) v → EndsBody u (Err (Write e)) v
     ends_badly e f = ends (Err e) f (Err (Write e))
         (inl refl, SendErrorCaused-after u.log.writes m.log.writes v.log.writes e quiet.met f.caused)

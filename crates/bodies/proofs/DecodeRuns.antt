@@ -9,7 +9,7 @@ use Rattle.buffer_redux.specs.StreamLog.{StreamLog}
 use Rattle.buffer_redux.specs.WriterLaws.{WritesInOrder-fresh}
 use Rattle.buffer_redux.specs.declared.policy.StdPolicy.{StdPolicy}
 use Rattle.chunked.specs.Body.{IsBody}
-use Rattle.chunked.specs.Dechunking.{BreaksAt, IsWhole, begun}
+use Rattle.chunked.specs.ChunkedReader.{BreaksAt, IsWhole, begun}
 use Rattle.chunked.specs.Place.{Leads}
 use Rattle.chunked.specs.PlaceLaws.{Leads-none}
 use Rattle.chunked.specs.declared.limits.Limits.{Limits}

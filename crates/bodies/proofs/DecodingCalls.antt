@@ -16,8 +16,8 @@ use Rattle.buffer_redux.specs.WriterLaws.{WritesInOrder-none}
 use Rattle.buffer_redux.specs.declared.policy.StdPolicy.{StdPolicy}
 use Rattle.chunked.specs.AskingLaws.{AskedWhere-of, AskedWhere-on, LeadsOn, fill_asks, fill_leaves, payload_asks, payload_gives, payload_leaves}
 use Rattle.chunked.specs.Between.{Faulted}
-use Rattle.chunked.specs.Dechunking.{BodyWent, Dechunking, IsDechunking, IsWhole, LooksBehind, ReadsPayload, handed_of, taken_count}
-use Rattle.chunked.specs.DechunkingLaws.{BodyWent-joins, LooksBehind-went}
+use Rattle.chunked.specs.ChunkedReader.{BodyWent, ChunkedState, IsChunkedReader, IsWhole, LooksBehind, ReadsPayload, handed_of, taken_count}
+use Rattle.chunked.specs.ChunkedReaderLaws.{BodyWent-joins, LooksBehind-went}
 use Rattle.chunked.specs.EmptyReads.{EndsOnce, ReadsPayload-ends}
 use Rattle.chunked.specs.Place.{Leads}
 use Rattle.chunked.specs.PlaceLaws.{Leads-joins}
@@ -37,7 +37,7 @@ use Rattle.bodies.specs.declared.decoding.Decoding.{Decoding}
 use Rattle.bodies.specs.declared.error.RunError.{RunError}
 
 -- the payload in what was taken is due, and bytes that hold none make no more due
-due_on : {R : Type 0} (d : Dechunking R StdPolicy) → IsDechunking d → (bytes : List ℕ) → LeadsOn d.limits d.place bytes
+due_on : {R : Type 0} (d : ChunkedState R StdPolicy) → IsChunkedReader d → (bytes : List ℕ) → LeadsOn d.limits d.place bytes
     → IsDue d.limits (d.taken ++ bytes) (handed_of d)
 due_on d is bytes on = record {
   place = on.place;
@@ -67,19 +67,19 @@ module _ {R W : Type 0} (remaining : R → Option (List ℕ)) (s : Decoding R W)
   }
 
   -- none was held, and payload was read into the piece
-  module _ (none : s.held ≡ 0) (m : Dechunking R StdPolicy) (out : List ℕ) (len : length out ≡ length s.piece.items) where
-    abbrev read : Dechunking R StdPolicy → ℕ → Decoding R W
+  module _ (none : s.held ≡ 0) (m : ChunkedState R StdPolicy) (out : List ℕ) (len : length out ≡ length s.piece.items) where
+    abbrev read : ChunkedState R StdPolicy → ℕ → Decoding R W
     read t n = record s { source = t; piece = with_items s.piece out; held = n }
 
     refilled : (with_items s.piece out).items ≡ out
     refilled = with_items_is s.piece out (len ∙ sym s.piece.ok.0)
 
-    module _ (t : Dechunking R StdPolicy) (n : ℕ) (went : BodyWent remaining std_read_rules s.source (take n out) t) where
+    module _ (t : ChunkedState R StdPolicy) (n : ℕ) (went : BodyWent remaining std_read_rules s.source (take n out) t) where
       read_hands : HandsPieces remaining s [] (read t n)
       read_hands = hands_held remaining s (read t n) (take n out) went
           (ap (λ l. l ++ take n out) (none_held remaining s none) ∙ sym (ap (λ l. take n l) refilled))
 
-      read_ready : n ≤ 16384 → IsDechunking t → IsReady (read t n)
+      read_ready : n ≤ 16384 → IsChunkedReader t → IsReady (read t n)
       read_ready most whole = record {
         capacity = omega (arith, ready.capacity, went.along.capacity);
         whole = whole;
@@ -158,13 +158,13 @@ module _ {R W : Type 0} (remaining : R → Option (List ℕ)) (s : Decoding R W)
         }
 
   -- all that was taken in was flushed, or not
-  module _ (tells : W → StreamLog) (stretch : W → W → Type 0) (v : Buffered W StdPolicy) where
-    flush_answers : (answer : Result (Unit {0}) Error) → WasFlushed tells stretch s.target answer v
+  module _ (tells : W → StreamLog) (trace : W → W → Type 0) (v : Buffered W StdPolicy) where
+    flush_answers : (answer : Result (Unit {0}) Error) → WasFlushed tells trace s.target answer v
         → FlushAnswers rules s answer (record s { target = v })
     flush_answers (Ok _) f = (record { empty = f.ok.empty; flushed = f.ok.flushed }, f.ok.met)
     flush_answers (Err e) f = f.caused
 
-    pub flushes_all : (answer : Result (Unit {0}) Error) → WasFlushed tells stretch s.target answer v
+    pub flushes_all : (answer : Result (Unit {0}) Error) → WasFlushed tells trace s.target answer v
         → Flushes rules s answer (record s { target = v })
     flushes_all answer f = record {
       told = refl;
@@ -184,12 +184,12 @@ module _ {R W : Type 0} (remaining : R → Option (List ℕ)) (s : Decoding R W)
     }
 
   -- the reader inside was asked for a piece
-  module _ (none : s.held ≡ 0) (m : Dechunking R StdPolicy) (out : List ℕ) (len : length out ≡ length s.piece.items) where
-    abbrev asked : Dechunking R StdPolicy → ℕ → Decoding R W
+  module _ (none : s.held ≡ 0) (m : ChunkedState R StdPolicy) (out : List ℕ) (len : length out ≡ length s.piece.items) where
+    abbrev asked : ChunkedState R StdPolicy → ℕ → Decoding R W
     asked = read none m out len
 
-    asks_so : (t : Dechunking R StdPolicy) (n : ℕ) → n ≤ 16384 → BodyWent remaining std_read_rules s.source (take n out) t
-        → IsDechunking t → Source.Asks s.source t
+    asks_so : (t : ChunkedState R StdPolicy) (n : ℕ) → n ≤ 16384 → BodyWent remaining std_read_rules s.source (take n out) t
+        → IsChunkedReader t → Source.Asks s.source t
         → t.reader.log.reads.zero_reads ≤ s.source.reader.log.reads.zero_reads + 1
         → (answer : Result Bool (AskError RunError)) → AskAnswers rules s answer (asked t n) → Asks rules s answer (asked t n)
     asks_so t n most went whole over once answer answers = record {
@@ -206,7 +206,7 @@ module _ {R W : Type 0} (remaining : R → Option (List ℕ)) (s : Decoding R W)
     }
 
     -- nothing was handed out
-    asks_none : (t : Dechunking R StdPolicy) → BodyWent remaining std_read_rules s.source [] t → IsDechunking t
+    asks_none : (t : ChunkedState R StdPolicy) → BodyWent remaining std_read_rules s.source [] t → IsChunkedReader t
         → Source.Asks s.source t → t.reader.log.reads.zero_reads ≤ s.source.reader.log.reads.zero_reads + 1
         → (answer : Result Bool (AskError RunError)) → AskAnswers rules s answer (asked t s.held)
         → Asks rules s answer (asked t s.held)
@@ -284,7 +284,7 @@ module _ {R W : Type 0} (remaining : R → Option (List ℕ)) (s : Decoding R W)
 
     -- the body ended, and then it was asked whether more follows
     module _ (k : ℕ) (nothing : k ≡ 0) (p : ReadsPayload remaining std_read_rules s.source out (Ok k) m)
-        (t : Dechunking R StdPolicy) where
+        (t : ChunkedState R StdPolicy) where
       first : BodyWent remaining std_read_rules s.source [] m
       first = subst (λ j. BodyWent remaining std_read_rules s.source (take j out) m) nothing p.went
 
@@ -318,7 +318,7 @@ module _ {R W : Type 0} (remaining : R → Option (List ℕ)) (s : Decoding R W)
             asks_none t
             (BodyWent-joins remaining std_read_rules s.source m t [] [] first
             (LooksBehind-went remaining std_read_rules m t end looks))
-            (subst IsDechunking (sym looks.still) (record { leads = p.whole.leads; place = p.whole.place })) over_on
+            (subst IsChunkedReader (sym looks.still) (record { leads = p.whole.leads; place = p.whole.place })) over_on
             (omega (arith, once, ends (Ok k) p)) answer answers
 
       -- none does, or some, or that can't be told

@@ -14,7 +14,7 @@ use Rattle.chunked.specs.Body.{IsBody}
 use Rattle.chunked.specs.BodyLaws.{IsBody-same}
 use Rattle.chunked.specs.Chunk.{IsCarried, IsChunks, body_end, chunks}
 use Rattle.chunked.specs.ChunkLaws.{IsChunks-body, IsChunks-none}
-use Rattle.chunked.specs.Chunking.{unbegun}
+use Rattle.chunked.specs.ChunkedWriter.{unbegun}
 use Rattle.chunked.specs.declared.limits.Limits.{Limits}
 use Rattle.forward.specs.Filter.{FilterRules, Moves}
 use Rattle.forward.specs.Forward.{Forwarded, NoneFailed, StopsBy}
@@ -70,10 +70,10 @@ abbrev pub start : {R W : Type 0} → Buffered R StdPolicy → Buffered W StdPol
 start first u = record { source = first; target = unbegun u }
 
 -- from empty buffers on
-module _ {R W : Type 0} (remaining : R → Option (List ℕ)) (stretch : W → W → Type 0) (first : Buffered R StdPolicy)
+module _ {R W : Type 0} (remaining : R → Option (List ℕ)) (trace : W → W → Type 0) (first : Buffered R StdPolicy)
     (u : Buffered W StdPolicy) (none : first.block.bytes ≡ []) (none' : u.block.bytes ≡ []) (t : Encoding R W) where
   abbrev rules : FilterRules (Encoding R W) RunError
-  rules = encoding_rules remaining stretch
+  rules = encoding_rules remaining trace
 
   abbrev begin : Encoding R W
   begin = start first u

@@ -12,8 +12,8 @@ use Rattle.buffer_redux.specs.declared.policy.StdPolicy.{StdPolicy}
 use Rattle.chunked.specs.AskingLaws.{fill_leaves, took_some}
 use Rattle.chunked.specs.Body.{line_end}
 use Rattle.chunked.specs.Chunk.{chunk, size_digits}
-use Rattle.chunked.specs.Chunking.{Chunking, ChunksWent, IsChunking, WritesChunk}
-use Rattle.chunked.specs.ChunkingLaws.{ChunksWent-none}
+use Rattle.chunked.specs.ChunkedWriter.{ChunkedWriterState, ChunksWent, IsChunkedWriter, WritesChunk}
+use Rattle.chunked.specs.ChunkedWriterLaws.{ChunksWent-none}
 use Rattle.forward.specs.Filter.{AskAnswers, Asks, FilterRules, FlushAnswers, Flushes, Passes}
 use Rattle.forward.specs.declared.error.AskError.{AskError}
 use Rattle.forward.specs.declared.error.AskError.TheVariants.{Io}
@@ -26,18 +26,18 @@ use Rattle.bodies.specs.declared.encoding.Encoding.{Encoding}
 use Rattle.bodies.specs.declared.error.RunError.{RunError}
 use Rattle.bodies.proofs.Chunks.{chunk_not_sent, chunk_quietly, chunk_some}
 
-module _ {R W : Type 0} (remaining : R → Option (List ℕ)) (tells : W → StreamLog) (stretch : W → W → Type 0)
-    (none : (x : W) → stretch x x) (joins : (a b c : W) → stretch a b → stretch b c → stretch a c) (s : Encoding R W)
+module _ {R W : Type 0} (remaining : R → Option (List ℕ)) (tells : W → StreamLog) (trace : W → W → Type 0)
+    (none : (x : W) → trace x x) (joins : (a b c : W) → trace a b → trace b c → trace a c) (s : Encoding R W)
     (ready : IsReady s) where
   abbrev rules : FilterRules (Encoding R W) RunError
-  rules = encoding_rules remaining stretch
+  rules = encoding_rules remaining trace
 
   -- it is made a chunk
-  module _ (some : 0 < length s.source.block.bytes) (c : Chunking W) where
-    pub not_passed : (e : Error) → WritesChunk tells stretch s.target s.source.block.bytes (Err e) c
+  module _ (some : 0 < length s.source.block.bytes) (c : ChunkedWriterState W) where
+    pub not_passed : (e : Error) → WritesChunk tells trace s.target s.source.block.bytes (Err e) c
         → Passes rules s (Err e) (record s { target = c })
     not_passed e p =
-        let failed = chunk_not_sent tells stretch s.target c s.source.block.bytes some e p in
+        let failed = chunk_not_sent tells trace s.target c s.source.block.bytes some e p in
         record {
           told = refl;
           ready = record { capacity = ready.capacity; whole = p.whole };
@@ -47,14 +47,14 @@ module _ {R W : Type 0} (remaining : R → Option (List ℕ)) (tells : W → Str
           answers = ([], record { hands = ReadsAlong-none remaining std_read_rules s.source; takes = p.went }, failed.caused);
         }
 
-    pub passed : (n : ℕ) → n ≤ length s.source.block.bytes → WritesChunk tells stretch s.target s.source.block.bytes (Ok n) c
+    pub passed : (n : ℕ) → n ≤ length s.source.block.bytes → WritesChunk tells trace s.target s.source.block.bytes (Ok n) c
         → (t : Buffered R StdPolicy) → ReadsAlong remaining std_read_rules s.source (take n s.source.block.bytes) t
         → t.log ≡ s.source.log → Passes rules s (Ok true) (record s { source = t; target = c })
     passed zero within p t gone told =
-        absurd (omega (arith, chunk_some tells stretch s.target c s.source.block.bytes some 0 p ready.whole))
+        absurd (omega (arith, chunk_some tells trace s.target c s.source.block.bytes some 0 p ready.whole))
     passed (suc n) within p t gone told =
         let payload = take (suc n) s.source.block.bytes in
-        let quiet = chunk_quietly tells stretch s.target c s.source.block.bytes some (suc n) p in
+        let quiet = chunk_quietly tells trace s.target c s.source.block.bytes some (suc n) p in
         let order = p.went.in_order in
         record {
           told = told;
@@ -79,13 +79,13 @@ module _ {R W : Type 0} (remaining : R → Option (List ℕ)) (tells : W → Str
         }
 
   -- all chunks are sent and flushed, or not
-  module _ (c : Chunking W) (went : ChunksWent stretch s.target [] c) (whole : IsChunking c) where
-    flush_answers : (answer : Result (Unit {0}) Error) → WasFlushed tells stretch s.target.writer answer c.writer
+  module _ (c : ChunkedWriterState W) (went : ChunksWent trace s.target [] c) (whole : IsChunkedWriter c) where
+    flush_answers : (answer : Result (Unit {0}) Error) → WasFlushed tells trace s.target.writer answer c.writer
         → FlushAnswers rules s answer (record s { target = c })
     flush_answers (Ok _) f = (record { empty = f.ok.empty; flushed = f.ok.flushed }, f.ok.met)
     flush_answers (Err e) f = f.caused
 
-    pub flushes_all : (answer : Result (Unit {0}) Error) → WasFlushed tells stretch s.target.writer answer c.writer
+    pub flushes_all : (answer : Result (Unit {0}) Error) → WasFlushed tells trace s.target.writer answer c.writer
         → Flushes rules s answer (record s { target = c })
     flushes_all answer f = record {
       told = refl;
@@ -110,7 +110,7 @@ module _ {R W : Type 0} (remaining : R → Option (List ℕ)) (tells : W → Str
     empty_asked asked told quiet answer answers = record {
       told = refl;
       ready = record { capacity = omega (arith, ready.capacity, along.capacity); whole = ready.whole };
-      moves = record { hands = along; takes = ChunksWent-none stretch none joins s.target };
+      moves = record { hands = along; takes = ChunksWent-none trace none joins s.target };
       sent = λ sent. sent;
       asks = (asked, elim asked.asked [ inl same ↦ absurd (told same) | inr over ↦ over.some ]);
       once = record { once = quiet; quiet = λ closed. absurd closed; closed = λ closed. closed };

@@ -2,7 +2,7 @@
 use Rattle.std.specs.Prelude.{◌≡◌, ℕ, ◌-◌, ◌^◌, ◌<◌, ◌⊎◌, List, [], ◌++◌, length, min, Result, Ok, Err}
 use Rattle.buffer_redux.specs.StreamLog.{StreamLog}
 use Rattle.chunked.specs.Body.{IsBody}
-use Rattle.chunked.specs.Dechunking.{BreaksAt}
+use Rattle.chunked.specs.ChunkedReader.{BreaksAt}
 use Rattle.chunked.specs.Place.{IsPlace, Leads}
 use Rattle.chunked.specs.declared.limits.Limits.{Limits}
 use Rattle.chunked.specs.declared.place.Place.{Place}

@@ -10,7 +10,7 @@ use Rattle.buffer_redux.specs.Faults.{MetInterrupts, SendErrorCaused}
 use Rattle.buffer_redux.specs.Policy.{std_read_rules}
 use Rattle.buffer_redux.specs.declared.policy.StdPolicy.{StdPolicy}
 use Rattle.chunked.specs.Body.{IsBody}
-use Rattle.chunked.specs.Dechunking.{BodyWent, Breaks, Dechunking, IsDechunking, IsWhole, LooksBehind, handed_of, taken_count}
+use Rattle.chunked.specs.ChunkedReader.{BodyWent, Breaks, ChunkedState, IsChunkedReader, IsWhole, LooksBehind, handed_of, taken_count}
 use Rattle.chunked.specs.declared.error.ChunkedError.{ChunkedError}
 use Rattle.chunked.specs.declared.error.ChunkedError.TheVariants as chunked
 use Rattle.forward.specs.Filter.{FilterRules}
@@ -30,7 +30,7 @@ pub record IsPieceTarget {W : Type 0} (u : Buffered W StdPolicy) : Type 0 where
   pub capacity : 16384 < u.block.capacity
 
 -- the reader inside was asked only where the payload in all that had come was handed out before
-abbrev pub Asks : {R : Type 0} → Dechunking R StdPolicy → Dechunking R StdPolicy → Type 0
+abbrev pub Asks : {R : Type 0} → ChunkedState R StdPolicy → ChunkedState R StdPolicy → Type 0
 Asks s t = Asked (λ bytes. IsDue s.limits (s.taken ++ bytes) (handed_of s)) s.reader t.reader
 
 -- the payload that was read and not passed on
@@ -40,7 +40,7 @@ held_of s = take s.held s.piece.items
 -- what each call of the filter wants
 pub record IsReady {R W : Type 0} (s : Decoding R W) : Type 0 where
   pub capacity : 0 < s.source.reader.block.capacity
-  pub whole : IsDechunking s.source
+  pub whole : IsChunkedReader s.source
   pub target : IsPieceTarget s.target
   pub room : length s.piece.items ≡ 16384
   pub held : s.held ≤ 16384
@@ -62,12 +62,12 @@ pub record HandsPieces {R W : Type 0} (remaining : R → Option (List ℕ)) (s :
   pub some : All (λ piece. 0 < length piece) pieces
 
 -- payload that was buffered was handed out, as so many first bytes of the piece
-pub record HandsHeld {R : Type 0} (remaining : R → Option (List ℕ)) (s : Dechunking R StdPolicy) (piece : List ℕ) (n : ℕ)
-    (t : Dechunking R StdPolicy) : Type 0 where
+pub record HandsHeld {R : Type 0} (remaining : R → Option (List ℕ)) (s : ChunkedState R StdPolicy) (piece : List ℕ) (n : ℕ)
+    (t : ChunkedState R StdPolicy) : Type 0 where
   pub went : BodyWent remaining std_read_rules s (take n piece) t
   pub told : t.reader.log ≡ s.reader.log
   pub bound : n ≤ length piece
-  pub whole : IsDechunking t
+  pub whole : IsChunkedReader t
 
 -- where none was held, a piece of what is buffered is, or there is none; and the reader inside wasn't asked
 pub record Holds {R W : Type 0} (remaining : R → Option (List ℕ)) (s t : Decoding R W) : Type 0 where
@@ -100,14 +100,14 @@ end_answer (Ok true) taken = Ok false
 end_answer (Ok false) taken = Err (Wrong (Behind taken))
 end_answer (Err e) taken = Err (ask.Io e)
 
-pub record LooksOn {R : Type 0} (remaining : R → Option (List ℕ)) (s : Dechunking R StdPolicy)
-    (answer : Result Bool (AskError RunError)) (t : Dechunking R StdPolicy) : Type 0 where
+pub record LooksOn {R : Type 0} (remaining : R → Option (List ℕ)) (s : ChunkedState R StdPolicy)
+    (answer : Result Bool (AskError RunError)) (t : ChunkedState R StdPolicy) : Type 0 where
   pub end : Result Bool Error
   pub looks : LooksBehind remaining std_read_rules s end t
   pub equal : answer ≡ end_answer end (taken_count t)
 
 -- the body ended, and the stream behind it, which gave nothing; or what comes next is wrong, or missing, or more than the body
-abbrev pub PiecesEnd : {R : Type 0} → Dechunking R StdPolicy → Result (Unit {0}) RunError → Dechunking R StdPolicy → Type 0
+abbrev pub PiecesEnd : {R : Type 0} → ChunkedState R StdPolicy → Result (Unit {0}) RunError → ChunkedState R StdPolicy → Type 0
 PiecesEnd s (Ok _) t = IsWhole t × (t.reader.block.bytes ≡ []) × RanDry s.reader t.reader
 PiecesEnd s (Err (NotChunked why right)) t = Breaks why t × (right ≡ taken_count t)
 PiecesEnd s (Err (Truncated right)) t =

@@ -5,8 +5,8 @@ use Rattle.std.proofs.lemmas.List.Elements.{All-append, All-nil}
 use Rattle.buffer_redux.specs.BufWriter.{WritesInOrder}
 use Rattle.buffer_redux.specs.Policy.{std_read_rules}
 use Rattle.buffer_redux.specs.WriterLaws.{WritesInOrder-joins, WritesInOrder-none}
-use Rattle.chunked.specs.Dechunking.{BodyWent, handed_of}
-use Rattle.chunked.specs.DechunkingLaws.{BodyWent-joins, BodyWent-none}
+use Rattle.chunked.specs.ChunkedReader.{BodyWent, handed_of}
+use Rattle.chunked.specs.ChunkedReaderLaws.{BodyWent-joins, BodyWent-none}
 use Rattle.forward.specs.Filter.{AsksSent, FilterRules, Gives, IsLawful, Moves, StaysOpen}
 use Rattle.programs.specs.Prompt.{WasSent}
 use Rattle.programs.specs.Streams.{AllSent}

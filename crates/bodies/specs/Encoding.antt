@@ -2,7 +2,7 @@
 use Rattle.std.specs.Prelude.{◌≡◌, ℕ, ◌+◌, ◌<◌, List, [], length, Result, Ok, Err, Option}
 use Rattle.buffer_redux.specs.BufReader.{ReadsAlong}
 use Rattle.buffer_redux.specs.Policy.{std_read_rules}
-use Rattle.chunked.specs.Chunking.{ChunksWent, IsChunking}
+use Rattle.chunked.specs.ChunkedWriter.{ChunksWent, IsChunkedWriter}
 use Rattle.forward.specs.Filter.{FilterRules}
 use Rattle.programs.specs.Streams.{AllSent}
 use Rattle.bodies.specs.Encode.{IsDue}
@@ -13,7 +13,7 @@ use Rattle.bodies.specs.declared.error.RunError.{RunError}
 -- what each call of the filter wants
 pub record IsReady {R W : Type 0} (s : Encoding R W) : Type 0 where
   pub capacity : 0 < s.source.block.capacity
-  pub whole : IsChunking s.target
+  pub whole : IsChunkedWriter s.target
 
 -- nothing is left, and the reader gave nothing, once. No byte is wrong
 abbrev pub ReaderEnds : {R W : Type 0} → Encoding R W → Result (Unit {0}) RunError → Encoding R W → Type 0
@@ -22,12 +22,12 @@ ReaderEnds s (Ok _) t =
 ReaderEnds s (Err why) t = ⊥
 
 abbrev pub encoding_rules : {R W : Type 0} → (R → Option (List ℕ)) → (W → W → Type 0) → FilterRules (Encoding R W) RunError
-encoding_rules remaining stretch = record {
+encoding_rules remaining trace = record {
   read = λ s. s.source.log;
   written = λ s. s.target.writer.log;
   ready = λ s. IsReady s;
   hands = λ s payloads t. ReadsAlong remaining std_read_rules s.source (joined payloads) t.source;
-  takes = λ s payloads t. ChunksWent stretch s.target payloads t.target;
+  takes = λ s payloads t. ChunksWent trace s.target payloads t.target;
   has = λ s. 0 < length s.source.block.bytes;
   lacks = λ s. s.source.block.bytes ≡ [];
   waits = λ s. s.source.block.bytes ≡ [];

@@ -5,7 +5,7 @@ use Rattle.buffer_redux.specs.BufReader.{ReadsAlong}
 use Rattle.buffer_redux.specs.Policy.{std_read_rules}
 use Rattle.buffer_redux.specs.ReaderLaws.{ReadsAlong-joins, ReadsAlong-none}
 use Rattle.chunked.specs.Chunk.{chunks}
-use Rattle.chunked.specs.ChunkingLaws.{ChunksWent-joins, ChunksWent-none}
+use Rattle.chunked.specs.ChunkedWriterLaws.{ChunksWent-joins, ChunksWent-none}
 use Rattle.forward.specs.Filter.{AsksSent, IsLawful, Moves, StaysOpen}
 use Rattle.programs.specs.Prompt.{AskedLast}
 use Rattle.programs.specs.Streams.{AllSent}
@@ -15,7 +15,7 @@ use Rattle.bodies.specs.FiltersLaws.{asked_after, sent_all, taken_more}
 use Rattle.bodies.specs.declared.encoding.Encoding.{Encoding}
 use Rattle.bodies.specs.declared.error.RunError.{RunError}
 
-module _ {R W : Type 0} (remaining : R → Option (List ℕ)) (stretch : W → W → Type 0) where
+module _ {R W : Type 0} (remaining : R → Option (List ℕ)) (trace : W → W → Type 0) where
   hands_joins : (a b c : Encoding R W) (p q : List (List ℕ)) → ReadsAlong remaining std_read_rules a.source (joined p) b.source
       → ReadsAlong remaining std_read_rules b.source (joined q) c.source
       → ReadsAlong remaining std_read_rules a.source (joined (p ++ q)) c.source
@@ -23,16 +23,16 @@ module _ {R W : Type 0} (remaining : R → Option (List ℕ)) (stretch : W → W
       subst (λ l. ReadsAlong remaining std_read_rules a.source l c.source) (sym (flat_map-append (λ x. x) p q))
       (ReadsAlong-joins remaining std_read_rules a.source b.source c.source (joined p) (joined q) f g)
 
-  ends_after : (a b c : Encoding R W) (how : Result (Unit {0}) RunError) → StaysOpen (encoding_rules remaining stretch) a b
+  ends_after : (a b c : Encoding R W) (how : Result (Unit {0}) RunError) → StaysOpen (encoding_rules remaining trace) a b
       → ReaderEnds b how c → ReaderEnds a how c
   ends_after a b c (Ok _) (inl gives) end = (end.0, omega (arith, end.1, gives.zero_reads))
   ends_after a b c (Ok _) (inr closed) end = absurd closed
   ends_after a b c (Err why) still end = absurd end
 
-  asks_sent : (first s t : Encoding R W) (p : List (List ℕ)) → (encoding_rules remaining stretch).fresh first
-      → Moves (encoding_rules remaining stretch) first p p s → StaysOpen (encoding_rules remaining stretch) first s
+  asks_sent : (first s t : Encoding R W) (p : List (List ℕ)) → (encoding_rules remaining trace).fresh first
+      → Moves (encoding_rules remaining trace) first p p s → StaysOpen (encoding_rules remaining trace) first s
       → AllSent s.target.writer → Asked (λ bytes. bytes ≡ []) s.source t.source
-      → AsksSent (encoding_rules remaining stretch) first s t
+      → AsksSent (encoding_rules remaining trace) first s t
   asks_sent first s t p fresh moves (inr closed) sent asked = absurd closed
   asks_sent first s t p fresh moves (inl gives) sent asked =
       elim (asked_after (λ bytes. bytes ≡ []) s.source t.source asked first.source (joined p) fresh.0 moves.hands.in_order
@@ -48,13 +48,13 @@ module _ {R W : Type 0} (remaining : R → Option (List ℕ)) (stretch : W → W
         })
       ]
 
-  pub encoding_lawful : ((x : W) → stretch x x) → ((a b c : W) → stretch a b → stretch b c → stretch a c)
-      → IsLawful (encoding_rules {R = R} {W = W} remaining stretch)
+  pub encoding_lawful : ((x : W) → trace x x) → ((a b c : W) → trace a b → trace b c → trace a c)
+      → IsLawful (encoding_rules {R = R} {W = W} remaining trace)
   encoding_lawful none joins = record {
     hands_none = λ s. ReadsAlong-none remaining std_read_rules s.source;
     hands_joins = hands_joins;
-    takes_none = λ s. ChunksWent-none stretch none joins s.target;
-    takes_joins = λ a b c p q. ChunksWent-joins stretch none joins a.target b.target c.target p q;
+    takes_none = λ s. ChunksWent-none trace none joins s.target;
+    takes_joins = λ a b c p q. ChunksWent-joins trace none joins a.target b.target c.target p q;
     ends_after = λ a b c p how hands still end. ends_after a b c how still end;
     waits_lacks = λ s waits. waits;
     received_taken = λ s. omega arith;

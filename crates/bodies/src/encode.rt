@@ -1,6 +1,6 @@
 //! What is given made the payload of a body, over any two streams that tell.
 ghost use Rattle.std.specs.Prelude.{◌+◌};
-ghost use Rattle.chunked.specs.Chunking.{around};
+ghost use Rattle.chunked.specs.ChunkedWriter.{around};
 ghost use Rattle.programs.specs.Streams.{IsFresh};
 ghost use Rattle.bodies.specs.Encode.{Encodes, EndsBody};
 

@@ -20,7 +20,7 @@ pub struct Encoding<R: TellRead, W: TellWrite> {
 impl<R: TellRead, W: TellWrite> Filter for Encoding<R, W> {
     type Wrong = RunError;
 
-    ghost rules = { encoding_rules R.remaining W.stretch };
+    ghost rules = { encoding_rules R.remaining W.trace };
 
     #[inline(always)]
     fn pass(&mut self) -> io::Result<bool> {
@@ -44,5 +44,5 @@ impl<R: TellRead, W: TellWrite> Filter for Encoding<R, W> {
         }
     }
 
-    ghost lawful = { encoding_lawful R.remaining W.stretch W.stretch_none W.stretch_joins };
+    ghost lawful = { encoding_lawful R.remaining W.trace W.trace_none W.trace_joins };
 }

@@ -3,7 +3,7 @@ ghost use Rattle.std.specs.Prelude.{◌≡◌};
 
 use crate::error::RunError;
 use chunked::Malformed;
-use programs::{Ending as Usual, Said};
+use programs::{Ending as Usual, Report};
 use std::fmt;
 
 /// How a run ends.
@@ -31,8 +31,8 @@ impl Ending {
             Err(RunError::NotChunked(why, right)) => Ending::NotChunked(*why, *right),
             Err(RunError::Truncated(right)) => Ending::Truncated(*right),
             Err(RunError::Behind(right)) => Ending::Behind(*right),
-            Err(RunError::Read(e)) => Ending::Usual(Usual::of_fault_so(e, Usual::ReadFailed)),
-            Err(RunError::Write(e)) => Ending::Usual(Usual::of_fault_so(e, Usual::WriteFailed)),
+            Err(RunError::Read(e)) => Ending::Usual(Usual::of_fault_or(e, Usual::ReadFailed)),
+            Err(RunError::Write(e)) => Ending::Usual(Usual::of_fault_or(e, Usual::WriteFailed)),
             Err(RunError::Io(e)) => Ending::Usual(Usual::of_fault(e)),
         }
     }
@@ -60,7 +60,7 @@ impl fmt::Display for Ending {
     fn fmt<W: fmt::Write>(&self, f: &mut fmt::Formatter<W>) -> fmt::Result {
         match self {
             Ending::Usual(ending) => {
-                let said = Said {
+                let said = Report {
                     program: "bodies",
                     usage: "decode|encode",
                     ending: *ending,

@@ -29,20 +29,20 @@ pub on_ok : {A E : Type 0} (r : Result A E) (X : Type 0) → X → OnOk r X
 on_ok (Ok a) X x = x
 on_ok (Err e) X x = tt
 
-module _ {S P : Type 0} (tells : S → StreamLog) (stretch : S → S → Type 0) where
+module _ {S P : Type 0} (tells : S → StreamLog) (trace : S → S → Type 0) where
   pub steps_failed : (Wrote : Result (Unit {0}) Error → Buffered S P → Type 0) (e : Error) (t : Buffered S P)
-      → Wrote (Err e) t → ThenSendsLines tells stretch Wrote (Err e) t
+      → Wrote (Err e) t → ThenSendsLines tells trace Wrote (Err e) t
   steps_failed Wrote e t wrote = record { writing = Err e; written = t; wrote = wrote; ended = (refl, refl) }
 
   pub steps_sent : (Wrote : Result (Unit {0}) Error → Buffered S P → Type 0) (x : Unit {0}) (m : Buffered S P)
-      (answer : Result (Unit {0}) Error) (t : Buffered S P) → Wrote (Ok x) m → SendsLines tells stretch m answer t
-      → ThenSendsLines tells stretch Wrote answer t
+      (answer : Result (Unit {0}) Error) (t : Buffered S P) → Wrote (Ok x) m → SendsLines tells trace m answer t
+      → ThenSendsLines tells trace Wrote answer t
   steps_sent Wrote x m answer t wrote sends =
       record { writing = Ok x; written = m; wrote = wrote; ended = sends }
 
   -- what is received and buffered stays
   pub contents_sent : (m : Buffered S P) (answer : Result (Unit {0}) Error) (t : Buffered S P)
-      → SendsLines tells stretch m answer t → writer_contents t ≡ writer_contents m
+      → SendsLines tells trace m answer t → writer_contents t ≡ writer_contents m
   contents_sent m answer t sends = elim (lacks_or m.block.bytes) [
     | inl none ↦ ap writer_contents (sends.none none).1
     | inr some ↦ ap Some (WritesInOrder-contents m t [] (sends.some some).in_order
@@ -50,30 +50,30 @@ module _ {S P : Type 0} (tells : S → StreamLog) (stretch : S → S → Type 0)
   ]
 
   pub appends_sent : (s m : Buffered S P) (answer : Result (Unit {0}) Error) (t : Buffered S P)
-      → SendsLines tells stretch m answer t → (bytes : List ℕ) → Appends (writer_contents s) (writer_contents m) bytes
+      → SendsLines tells trace m answer t → (bytes : List ℕ) → Appends (writer_contents s) (writer_contents m) bytes
       → OnOk answer (Appends (writer_contents s) (writer_contents t) bytes)
   appends_sent s m answer t sends bytes all = on_ok answer (Appends (writer_contents s) (writer_contents t) bytes)
       (subst (λ o. Appends (writer_contents s) o bytes) (sym (contents_sent m answer t sends)) all)
 
   pub text_sent : (s m : Buffered S P) (answer : Result (Unit {0}) Error) (t : Buffered S P)
-      → SendsLines tells stretch m answer t → (text : Option (List ℕ))
+      → SendsLines tells trace m answer t → (text : Option (List ℕ))
       → IfSome text (Appends (writer_contents s) (writer_contents m))
       → OnOk answer (IfSome text (Appends (writer_contents s) (writer_contents t)))
   text_sent s m answer t sends text all = on_ok answer (IfSome text (Appends (writer_contents s) (writer_contents t)))
       (rw (contents_sent m answer t sends) all)
 
-  module _ (rules : WriteRules P) (none : (u : S) → stretch u u)
-      (joins : (u v w : S) → stretch u v → stretch v w → stretch u w)
-      (goes : (u v : S) → stretch u v → WritesGoOn (tells u) (tells v)) where
+  module _ (rules : WriteRules P) (none : (u : S) → trace u u)
+      (joins : (u v w : S) → trace u v → trace v w → trace u w)
+      (goes : (u v : S) → trace u v → WritesGoOn (tells u) (tells v)) where
     sends_all : (m : Buffered S P) (answer : Result (Unit {0}) Error) (t : Buffered S P)
-        → SendsLines tells stretch m answer t → AllAlong tells stretch rules m [] answer t
+        → SendsLines tells trace m answer t → AllAlong tells trace rules m [] answer t
     sends_all m answer t sends = elim (lacks_or m.block.bytes) [
-      | inl nothing ↦ rw ((sends.none nothing).0, (sends.none nothing).1) (WritesAlong-none tells stretch rules none m)
-      | inr some ↦ WasSent-all tells stretch rules goes m answer t (sends.some some)
+      | inl nothing ↦ rw ((sends.none nothing).0, (sends.none nothing).1) (WritesAlong-none tells trace rules none m)
+      | inr some ↦ WasSent-all tells trace rules goes m answer t (sends.some some)
     ]
 
     pub all_sent : (s m : Buffered S P) (bytes : List ℕ) (answer : Result (Unit {0}) Error) (t : Buffered S P)
-        → WritesAlong tells stretch rules s bytes m → SendsLines tells stretch m answer t
-        → AllAlong tells stretch rules s bytes answer t
-    all_sent s m bytes answer t wrote sends = subst (λ l. AllAlong tells stretch rules s l answer t) (append-nil bytes)
-        (AllAlong-after tells stretch rules joins s m t bytes [] answer wrote (sends_all m answer t sends))
+        → WritesAlong tells trace rules s bytes m → SendsLines tells trace m answer t
+        → AllAlong tells trace rules s bytes answer t
+    all_sent s m bytes answer t wrote sends = subst (λ l. AllAlong tells trace rules s l answer t) (append-nil bytes)
+        (AllAlong-after tells trace rules joins s m t bytes [] answer wrote (sends_all m answer t sends))

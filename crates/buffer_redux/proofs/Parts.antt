@@ -71,12 +71,12 @@ roomy b a whole = cond_both (nat_le a (usable b)) b.capacity (needed_capacity b 
     (λ yes. (le_refl _, omega (arith, leb-true a (usable b) yes)))
     (λ no. grows b.kind b a refl whole (leb-false a (usable b) no))
 
-module _ {S P : Type 0} (tells : S → StreamLog) (stretch : S → S → Type 0) (none : (u : S) → stretch u u) where
+module _ {S P : Type 0} (tells : S → StreamLog) (trace : S → S → Type 0) (none : (u : S) → trace u u) where
   -- what touches the buffer alone, and has these bytes behind it
   block_along : (s t : Buffered S P) (bytes : List ℕ) → t ≡ with_block s t.block → t.block.bytes ≡ s.block.bytes ++ bytes
       → s.block.capacity ≤ t.block.capacity → t.block.kind ≡ s.block.kind
-      → WritesAlong tells stretch std_write_rules s bytes t
-  block_along s t bytes same is up kind = subst (WritesAlong tells stretch std_write_rules s bytes) (sym same) (record {
+      → WritesAlong tells trace std_write_rules s bytes t
+  block_along s t bytes same is up kind = subst (WritesAlong tells trace std_write_rules s bytes) (sym same) (record {
     in_order = record { sent = []; received = sym (append-nil s.log.writes.received); equal = is };
     calls = none s.inner;
     told = λ told. told;
@@ -88,12 +88,12 @@ module _ {S P : Type 0} (tells : S → StreamLog) (stretch : S → S → Type 0)
   })
 
   put_along : (s t : Buffered S P) (bytes : List ℕ) → PutsIn bytes s.block t.block → t ≡ with_block s t.block
-      → WritesAlong tells stretch std_write_rules s bytes t
+      → WritesAlong tells trace std_write_rules s bytes t
   put_along s t bytes p others = block_along s t bytes others p.bytes (omega (arith, p.capacity)) p.kind
 
   -- where they fit nothing else is done
   pub parts_fit : (s t : Buffered S P) (bytes : List ℕ) → PutsIn bytes s.block t.block → t ≡ with_block s t.block
-      → WritesParts tells stretch s bytes (Ok tt) t
+      → WritesParts tells trace s bytes (Ok tt) t
   parts_fit s t bytes p others = record {
     along = put_along s t bytes p others;
     fits = λ _. (refl, ap (λ x. x.log) others);
@@ -103,8 +103,8 @@ module _ {S P : Type 0} (tells : S → StreamLog) (stretch : S → S → Type 0)
   }
 
   -- what was sent before, and the room that there is then, or none
-  pub place_made : (s m t : Buffered S P) (count : ℕ) (x y : Unit {0}) → WasSent tells stretch s (Ok x) m
-      → Reserves count m.block t.block → t ≡ with_block m t.block → IsBlock t.block → MakesPlace tells stretch count s (Ok y) t
+  pub place_made : (s m t : Buffered S P) (count : ℕ) (x y : Unit {0}) → WasSent tells trace s (Ok x) m
+      → Reserves count m.block t.block → t ≡ with_block m t.block → IsBlock t.block → MakesPlace tells trace count s (Ok y) t
   place_made s m t count x y sent grown others whole =
       let up = roomy m.block count sent.whole in record {
         sending = Ok x;
@@ -118,8 +118,8 @@ module _ {S P : Type 0} (tells : S → StreamLog) (stretch : S → S → Type 0)
         whole = whole;
       }
 
-  pub place_refused : (s m : Buffered S P) (count : ℕ) (x : Unit {0}) (e : Error) → WasSent tells stretch s (Ok x) m
-      → GrowthFailed count m.block e → MakesPlace tells stretch count s (Err e) m
+  pub place_refused : (s m : Buffered S P) (count : ℕ) (x : Unit {0}) (e : Error) → WasSent tells trace s (Ok x) m
+      → GrowthFailed count m.block e → MakesPlace tells trace count s (Err e) m
   place_refused s m count x e sent failed = record {
     sending = Ok x;
     left = m;
@@ -132,8 +132,8 @@ module _ {S P : Type 0} (tells : S → StreamLog) (stretch : S → S → Type 0)
     whole = sent.whole;
   }
 
-  pub place_unsent : (s t : Buffered S P) (count : ℕ) (e : Error) → WasSent tells stretch s (Err e) t
-      → MakesPlace tells stretch count s (Err e) t
+  pub place_unsent : (s t : Buffered S P) (count : ℕ) (e : Error) → WasSent tells trace s (Err e) t
+      → MakesPlace tells trace count s (Err e) t
   place_unsent s t count e sent = record {
     sending = Err e;
     left = t;
@@ -146,21 +146,21 @@ module _ {S P : Type 0} (tells : S → StreamLog) (stretch : S → S → Type 0)
     whole = sent.whole;
   }
 
-  module _ (joins : (u v w : S) → stretch u v → stretch v w → stretch u w)
-      (goes : (u v : S) → stretch u v → WritesGoOn (tells u) (tells v)) where
+  module _ (joins : (u v w : S) → trace u v → trace v w → trace u w)
+      (goes : (u v : S) → trace u v → WritesGoOn (tells u) (tells v)) where
     -- what was sent before
-    place_along : (s t : Buffered S P) (count : ℕ) (answer : Result (Unit {0}) Error) → MakesPlace tells stretch count s answer t
-        → WritesAlong tells stretch std_write_rules s [] t
-    place_along s t count answer p = WritesAlong-then tells stretch std_write_rules joins s p.left t []
-        (WasSent-along tells stretch std_write_rules goes s p.sending p.left p.sent)
+    place_along : (s t : Buffered S P) (count : ℕ) (answer : Result (Unit {0}) Error) → MakesPlace tells trace count s answer t
+        → WritesAlong tells trace std_write_rules s [] t
+    place_along s t count answer p = WritesAlong-then tells trace std_write_rules joins s p.left t []
+        (WasSent-along tells trace std_write_rules goes s p.sending p.left p.sent)
         (block_along p.left t [] p.others (p.kept.bytes ∙ sym (append-nil p.left.block.bytes)) p.kept.capacity p.kept.kind)
 
     -- the parts moved in, once there was room
     pub parts_moved : (s m t : Buffered S P) (count : ℕ) (bytes : List ℕ) → usable s.block < length bytes
-        → MakesPlace tells stretch count s (Ok tt) m → PutsIn bytes m.block t.block → t ≡ with_block m t.block
-        → WritesParts tells stretch s bytes (Ok tt) t
+        → MakesPlace tells trace count s (Ok tt) m → PutsIn bytes m.block t.block → t ≡ with_block m t.block
+        → WritesParts tells trace s bytes (Ok tt) t
     parts_moved s m t count bytes few p put others = record {
-      along = WritesAlong-joins tells stretch std_write_rules joins s m t [] bytes (place_along s m count (Ok tt) p)
+      along = WritesAlong-joins tells trace std_write_rules joins s m t [] bytes (place_along s m count (Ok tt) p)
           (put_along m t bytes put others);
       fits = λ fit. absurd (omega (arith, fit, few));
       calls = inr (p.sending, p.left, p.sent, ap (λ x. x.log) others ∙ ap (λ x. x.log) p.others);
@@ -170,7 +170,7 @@ module _ {S P : Type 0} (tells : S → StreamLog) (stretch : S → S → Type 0)
 
     -- no room was made, and no part moved in
     pub parts_failed : (s t : Buffered S P) (count : ℕ) (bytes : List ℕ) (e : Error) → usable s.block < length bytes
-        → count ≤ length bytes → MakesPlace tells stretch count s (Err e) t → WritesParts tells stretch s bytes (Err e) t
+        → count ≤ length bytes → MakesPlace tells trace count s (Err e) t → WritesParts tells trace s bytes (Err e) t
     parts_failed s t count bytes e few within p = record {
       along = place_along s t count (Err e) p;
       fits = λ fit. absurd (omega (arith, fit, few));

@@ -55,9 +55,9 @@ stays_flushed (Ok _) answer sent new e failed told = ap (λ l. l.writes.flushed)
     ∙ ap (with_flush sent.writes.flushed sent.writes.received) failed
 stays_flushed (Err e') answer sent new e failed told = ap (λ l. l.writes.flushed) told.1
 
-module _ {S P : Type 0} (tells : S → StreamLog) (stretch : S → S → Type 0) (readies : Readies) (s m : Buffered S P)
+module _ {S P : Type 0} (tells : S → StreamLog) (trace : S → S → Type 0) (readies : Readies) (s m : Buffered S P)
     (to : SeekFrom) where
-  after_failed_flush : (e : Error) → WasFlushed tells stretch s (Err e) m
+  after_failed_flush : (e : Error) → WasFlushed tells trace s (Err e) m
       → SeekTells flushes_received (writer_log s) to (Err e) (writer_log (with_calls m (after_seek s.own_calls to (Err e))))
   after_failed_flush e was =
       let held = holds s m to was.in_order in
@@ -95,13 +95,13 @@ module _ {S P : Type 0} (tells : S → StreamLog) (stretch : S → S → Type 0)
       }
 
   sought_from : (flushing : Result (Unit {0}) Error) (answer : Result ℕ Error) (left : Buffered S P)
-      → WasFlushed tells stretch s flushing left
+      → WasFlushed tells trace s flushing left
       → MatchResult flushing (λ _. SeeksInner tells readies left to answer m) (λ e. (answer ≡ Err e) × (m ≡ left))
       → SeekTells flushes_received (writer_log s) to answer (writer_log (with_calls m (after_seek s.own_calls to answer)))
   sought_from (Ok _) (Ok n) left was sought = after_flush_of (Ok n) left was.ok sought refl
   sought_from (Ok _) (Err e) left was sought = after_flush_of (Err e) left was.ok sought (inr refl)
   sought_from (Err e) answer left was ended = rw (ended.0) (after_failed_flush e (rw ended.1 was))
 
-  pub writer_sought : (answer : Result ℕ Error) → SeeksFlushed tells stretch readies s to answer m
+  pub writer_sought : (answer : Result ℕ Error) → SeeksFlushed tells trace readies s to answer m
       → SeekTells flushes_received (writer_log s) to answer (writer_log (with_calls m (after_seek s.own_calls to answer)))
   writer_sought answer steps = sought_from steps.flushing answer steps.left steps.flushed steps.ended

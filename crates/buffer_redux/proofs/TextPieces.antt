@@ -18,40 +18,40 @@ use Rattle.buffer_redux.specs.WriteFmt.{IsFormatError, PieceFailed, StoppedIn, T
 use Rattle.buffer_redux.specs.WriterLaws.{WritesInOrder-contents}
 use Rattle.buffer_redux.specs.WritesAlongLaws.{WritesAll-along, WritesAll-took, WritesAlong-joins, WritesAlong-none}
 
-module _ {S P : Type 0} (tells : S → StreamLog) (stretch : S → S → Type 0) (rules : WriteRules P)
-    (none : (u : S) → stretch u u) (joins : (u v w : S) → stretch u v → stretch v w → stretch u w) where
+module _ {S P : Type 0} (tells : S → StreamLog) (trace : S → S → Type 0) (rules : WriteRules P)
+    (none : (u : S) → trace u u) (joins : (u v w : S) → trace u v → trace v w → trace u w) where
   -- no piece, one, and pieces behind others
-  pub pieces_none : (s : Buffered S P) → WritesPieces tells stretch rules s [] s
+  pub pieces_none : (s : Buffered S P) → WritesPieces tells trace rules s [] s
   pieces_none s =
-      record { pieces = []; all = refl; each = refl; along = WritesAlong-none tells stretch rules none s }
+      record { pieces = []; all = refl; each = refl; along = WritesAlong-none tells trace rules none s }
 
   pub one_piece : (s : Buffered S P) (piece : List ℕ) (t : Buffered S P)
-      → WritesAll tells stretch rules s piece (Ok tt) t → WritesPieces tells stretch rules s piece t
+      → WritesAll tells trace rules s piece (Ok tt) t → WritesPieces tells trace rules s piece t
   one_piece s piece t all = record {
     pieces = piece ∷ [];
     all = append-nil piece;
     each = (t, all, refl);
-    along = WritesAll-took tells stretch rules s piece tt t all;
+    along = WritesAll-took tells trace rules s piece tt t all;
   }
 
-  each_joins : (s m t : Buffered S P) (xs ys : List (List ℕ)) → WritesEach tells stretch rules s xs m
-      → WritesEach tells stretch rules m ys t → WritesEach tells stretch rules s (xs ++ ys) t
-  each_joins s m t [] ys same q = subst (λ u. WritesEach tells stretch rules u ys t) (sym same) q
+  each_joins : (s m t : Buffered S P) (xs ys : List (List ℕ)) → WritesEach tells trace rules s xs m
+      → WritesEach tells trace rules m ys t → WritesEach tells trace rules s (xs ++ ys) t
+  each_joins s m t [] ys same q = subst (λ u. WritesEach tells trace rules u ys t) (sym same) q
   each_joins s m t (x ∷ xs) ys (u, all, p) q = (u, all, each_joins u m t xs ys p q)
 
-  pub pieces_behind : (s m t : Buffered S P) (a b : List ℕ) → WritesPieces tells stretch rules s a m
-      → WritesPieces tells stretch rules m b t → WritesPieces tells stretch rules s (a ++ b) t
+  pub pieces_behind : (s m t : Buffered S P) (a b : List ℕ) → WritesPieces tells trace rules s a m
+      → WritesPieces tells trace rules m b t → WritesPieces tells trace rules s (a ++ b) t
   pieces_behind s m t a b p q = record {
     pieces = p.pieces ++ q.pieces;
     all = concat-append p.pieces q.pieces ∙ ap (λ l. l ++ concat q.pieces) p.all ∙ ap (λ l. a ++ l) q.all;
     each = each_joins s m t p.pieces q.pieces p.each q.each;
-    along = WritesAlong-joins tells stretch rules joins s m t a b p.along q.along;
+    along = WritesAlong-joins tells trace rules joins s m t a b p.along q.along;
   }
 
   -- a piece whose write failed
   pub stopped : (s : Buffered S P) (piece : List ℕ) (e : Error) (t : Buffered S P)
-      → WritesAll tells stretch rules s piece (Err e) t → WriteAllErrorCaused tells stretch rules s piece (Err e) t
-      → WritesAllSteadily rules s (Err e) t → StoppedIn tells stretch rules s piece e t
+      → WritesAll tells trace rules s piece (Err e) t → WriteAllErrorCaused tells trace rules s piece (Err e) t
+      → WritesAllSteadily rules s (Err e) t → StoppedIn tells trace rules s piece e t
   stopped s piece e t all caused steadily = record {
     why = record {
       before = [];
@@ -67,11 +67,11 @@ module _ {S P : Type 0} (tells : S → StreamLog) (stretch : S → S → Type 0)
     accepted = take all.count piece;
     more = drop all.count piece;
     all = sym (take-append-drop all.count piece);
-    along = WritesAll-along tells stretch rules s piece (Err e) t all;
+    along = WritesAll-along tells trace rules s piece (Err e) t all;
   }
 
-  failed_after : (s m t : Buffered S P) (a : List ℕ) (e : Error) → WritesPieces tells stretch rules s a m
-      → PieceFailed tells stretch rules m e t → PieceFailed tells stretch rules s e t
+  failed_after : (s m t : Buffered S P) (a : List ℕ) (e : Error) → WritesPieces tells trace rules s a m
+      → PieceFailed tells trace rules m e t → PieceFailed tells trace rules s e t
   failed_after s m t a e p q = record {
     before = a ++ q.before;
     last = q.last;
@@ -82,8 +82,8 @@ module _ {S P : Type 0} (tells : S → StreamLog) (stretch : S → S → Type 0)
     steadily = q.steadily;
   }
 
-  stopped_after : (s m t : Buffered S P) (a b : List ℕ) (e : Error) → WritesPieces tells stretch rules s a m
-      → StoppedIn tells stretch rules m b e t → StoppedIn tells stretch rules s (a ++ b) e t
+  stopped_after : (s m t : Buffered S P) (a b : List ℕ) (e : Error) → WritesPieces tells trace rules s a m
+      → StoppedIn tells trace rules m b e t → StoppedIn tells trace rules s (a ++ b) e t
   unfolding failed_after
   stopped_after s m t a b e p q = record {
     why = failed_after s m t a e p q.why;
@@ -94,11 +94,11 @@ module _ {S P : Type 0} (tells : S → StreamLog) (stretch : S → S → Type 0)
     accepted = a ++ q.accepted;
     more = q.more;
     all = ap (λ l. a ++ l) q.all ∙ sym (append_assoc a q.accepted q.more);
-    along = WritesAlong-joins tells stretch rules joins s m t a q.accepted p.along q.along;
+    along = WritesAlong-joins tells trace rules joins s m t a q.accepted p.along q.along;
   }
 
   stopped_before : (s t : Buffered S P) (a b : List ℕ) (e : Error)
-      → StoppedIn tells stretch rules s a e t → StoppedIn tells stretch rules s (a ++ b) e t
+      → StoppedIn tells trace rules s a e t → StoppedIn tells trace rules s (a ++ b) e t
   stopped_before s t a b e p = record {
     why = p.why;
     behind = p.behind ++ b;
@@ -110,96 +110,96 @@ module _ {S P : Type 0} (tells : S → StreamLog) (stretch : S → S → Type 0)
   }
 
   -- pieces, and pieces behind them
-  pieces_join : (s m t : Buffered S P) (k l n : Option Error) (a b : List ℕ) → TakesPieces tells stretch rules s k a m l
-      → TakesPieces tells stretch rules m l b t n → TakesPieces tells stretch rules s k (a ++ b) t n
+  pieces_join : (s m t : Buffered S P) (k l n : Option Error) (a b : List ℕ) → TakesPieces tells trace rules s k a m l
+      → TakesPieces tells trace rules m l b t n → TakesPieces tells trace rules s k (a ++ b) t n
   pieces_join s m t None None None a b p q = pieces_behind s m t a b p q
   pieces_join s m t None None (Some e) a b p q = stopped_after s m t a b e p q
   pieces_join s m t None (Some e) None a b p q = absurd q
   pieces_join s m t None (Some e) (Some f) a b p q =
-      subst (λ u. StoppedIn tells stretch rules s (a ++ b) f u) q.1
-      (subst (λ x. StoppedIn tells stretch rules s (a ++ b) x m) q.0 (stopped_before s m a b e p))
+      subst (λ u. StoppedIn tells trace rules s (a ++ b) f u) q.1
+      (subst (λ x. StoppedIn tells trace rules s (a ++ b) x m) q.0 (stopped_before s m a b e p))
   pieces_join s m t (Some e) None n a b p q = absurd p
   pieces_join s m t (Some e) (Some f) None a b p q = absurd q
   pieces_join s m t (Some e) (Some f) (Some h) a b p q = (p.0 ∙ q.0, p.1 ∙ q.1)
 
-  no_pieces : (s : Buffered S P) (k : Option Error) → TakesPieces tells stretch rules s k [] s k
+  no_pieces : (s : Buffered S P) (k : Option Error) → TakesPieces tells trace rules s k [] s k
   no_pieces s None = pieces_none s
   no_pieces s (Some e) = (refl, refl)
 
   -- all pieces, one after another
   pub pieces : {A : Type 0} (writer : A → Buffered S P) (ended : A → Option Error) (parts : List (List ℕ)) (f g : A)
-      → FoldsTo (λ x bytes y. TakesPieces tells stretch rules (writer x) (ended x) bytes (writer y) (ended y)) f parts g
-      → TakesPieces tells stretch rules (writer f) (ended f) (concat parts) (writer g) (ended g)
+      → FoldsTo (λ x bytes y. TakesPieces tells trace rules (writer x) (ended x) bytes (writer y) (ended y)) f parts g
+      → TakesPieces tells trace rules (writer f) (ended f) (concat parts) (writer g) (ended g)
   pieces writer ended [] f g same = subst
-      (λ x. TakesPieces tells stretch rules (writer f) (ended f) [] (writer x) (ended x)) same
+      (λ x. TakesPieces tells trace rules (writer f) (ended f) [] (writer x) (ended x)) same
       (no_pieces (writer f) (ended f))
   pieces writer ended (a ∷ parts) f g (m, p, q) = pieces_join (writer f) (writer m) (writer g) (ended f) (ended m) (ended g)
       a (concat parts) p (pieces writer ended parts m g q)
 
   -- a text that went so far goes on
   pub went_on : (o : Option (Buffered S P)) (k : Option Error) (m t : Buffered S P) (a : List ℕ) → is_some k ≡ false
-      → ∥ IfSome o (λ s. TextWent tells stretch rules s k m) ∥₁ → WritesPieces tells stretch rules m a t
-      → ∥ IfSome o (λ s. TextWent tells stretch rules s k t) ∥₁
+      → ∥ IfSome o (λ s. TextWent tells trace rules s k m) ∥₁ → WritesPieces tells trace rules m a t
+      → ∥ IfSome o (λ s. TextWent tells trace rules s k t) ∥₁
   went_on None k m t a open' went p = ∣ tt ∣₁
   went_on (Some s) None m t a open' went p = ∥∥₁_map went (λ w. (w.0 ++ a, pieces_behind s m t w.0 a w.1 p))
   went_on (Some s) (Some e) m t a open' went p = absurd (subst T open' tt)
 
   pub went_wrong : (o : Option (Buffered S P)) (k : Option Error) (m t : Buffered S P) (a : List ℕ) (e : Error)
-      → is_some k ≡ false → ∥ IfSome o (λ s. TextWent tells stretch rules s k m) ∥₁
-      → StoppedIn tells stretch rules m a e t → ∥ IfSome o (λ s. TextWent tells stretch rules s (Some e) t) ∥₁
+      → is_some k ≡ false → ∥ IfSome o (λ s. TextWent tells trace rules s k m) ∥₁
+      → StoppedIn tells trace rules m a e t → ∥ IfSome o (λ s. TextWent tells trace rules s (Some e) t) ∥₁
   went_wrong None k m t a e open' went p = ∣ tt ∣₁
   went_wrong (Some s) None m t a e open' went p = ∥∥₁_map went (λ w. failed_after s m t w.0 e w.1 p.why)
   went_wrong (Some s) (Some x) m t a e open' went p = absurd (subst T open' tt)
 
   -- a text that went so far lost no byte
-  went_along : (s : Buffered S P) (k : Option Error) (t : Buffered S P) → TextWent tells stretch rules s k t
-      → (accepted : List ℕ) × WritesAlong tells stretch rules s accepted t
+  went_along : (s : Buffered S P) (k : Option Error) (t : Buffered S P) → TextWent tells trace rules s k t
+      → (accepted : List ℕ) × WritesAlong tells trace rules s accepted t
   went_along s None t w = (w.0, w.1.along)
   went_along s (Some e) t w = let took = take w.steps.count w.piece in (
     w.before ++ took,
-    WritesAlong-joins tells stretch rules joins s w.last t w.before took w.went.along
-        (WritesAll-along tells stretch rules w.last w.piece (Err e) t w.steps),
+    WritesAlong-joins tells trace rules joins s w.last t w.before took w.went.along
+        (WritesAll-along tells trace rules w.last w.piece (Err e) t w.steps),
   )
 
   -- the piece whose write failed, where none had
   pub piece_stopped : (k : Option Error) (s : Buffered S P) (a : List ℕ) (e : Error) (t : Buffered S P)
-      → is_some k ≡ false → StoppedIn tells stretch rules s a e t → TakesPieces tells stretch rules s k a t (Some e)
+      → is_some k ≡ false → StoppedIn tells trace rules s a e t → TakesPieces tells trace rules s k a t (Some e)
   piece_stopped None s a e t open' p = p
   piece_stopped (Some x) s a e t open' p = absurd (subst T open' tt)
 
   -- a piece that was taken, where no write had failed
   pub piece_taken : (k : Option Error) (s : Buffered S P) (a : List ℕ) (t : Buffered S P) → is_some k ≡ false
-      → WritesPieces tells stretch rules s a t → TakesPieces tells stretch rules s k a t k
+      → WritesPieces tells trace rules s a t → TakesPieces tells trace rules s k a t k
   piece_taken None s a t open' p = p
   piece_taken (Some x) s a t open' p = absurd (subst T open' tt)
 
   -- a text that is known was taken, where the formatting didn't fail
   pub text_taken : {A : Type 0} (writer : A → Buffered S P) (ended : A → Option Error) (f g : Formatter A) (a b : A)
       (k : Option Error) (formatted : Result (Unit {0}) fmt.Error) (text : Option (List ℕ))
-      → DisplaysOnOk (λ x bytes y. TakesPieces tells stretch rules (writer x) (ended x) bytes (writer y) (ended y))
+      → DisplaysOnOk (λ x bytes y. TakesPieces tells trace rules (writer x) (ended x) bytes (writer y) (ended y))
       f formatted text g
       → IsPlainFormatter f → IsOk formatted → formatter_writer f ≡ a → b ≡ formatter_writer g → ended b ≡ k
-      → IfSome text (λ bytes. TakesPieces tells stretch rules (writer a) (ended a) bytes (writer b) k)
+      → IfSome text (λ bytes. TakesPieces tells trace rules (writer a) (ended a) bytes (writer b) k)
   text_taken writer ended f g a b k formatted None shown plain ok is gives so = tt
   text_taken writer ended f g a b k formatted (Some bytes) shown plain ok is gives so =
       let wrote = (shown plain ok).wrote in
-      subst (λ l. TakesPieces tells stretch rules (writer a) (ended a) bytes (writer b) l) so
-      (subst (λ x. TakesPieces tells stretch rules (writer a) (ended a) bytes (writer x) (ended x)) (sym gives)
-      (subst (λ x. TakesPieces tells stretch rules (writer x) (ended x) bytes (writer (formatter_writer g))
+      subst (λ l. TakesPieces tells trace rules (writer a) (ended a) bytes (writer b) l) so
+      (subst (λ x. TakesPieces tells trace rules (writer a) (ended a) bytes (writer x) (ended x)) (sym gives)
+      (subst (λ x. TakesPieces tells trace rules (writer x) (ended x) bytes (writer (formatter_writer g))
       (ended (formatter_writer g))) is
-      (subst (λ l. TakesPieces tells stretch rules (writer (formatter_writer f)) (ended (formatter_writer f)) l
+      (subst (λ l. TakesPieces tells trace rules (writer (formatter_writer f)) (ended (formatter_writer f)) l
       (writer (formatter_writer g)) (ended (formatter_writer g))) wrote.whole
       (pieces writer ended wrote.parts (formatter_writer f) (formatter_writer g) wrote.calls))))
 
   -- what went of a text that began so
   pub went_so : (o : Option (Buffered S P)) (s t : Buffered S P) (k l : Option Error) → o ≡ Some s → k ≡ l
-      → ∥ IfSome o (λ s. TextWent tells stretch rules s k t) ∥₁ → ∥ TextWent tells stretch rules s l t ∥₁
-  went_so o s t k l began so went = subst (λ n. ∥ TextWent tells stretch rules s n t ∥₁) so
-      (subst (λ b. ∥ IfSome b (λ s. TextWent tells stretch rules s k t) ∥₁) began went)
+      → ∥ IfSome o (λ s. TextWent tells trace rules s k t) ∥₁ → ∥ TextWent tells trace rules s l t ∥₁
+  went_so o s t k l began so went = subst (λ n. ∥ TextWent tells trace rules s n t ∥₁) so
+      (subst (λ b. ∥ IfSome b (λ s. TextWent tells trace rules s k t) ∥₁) began went)
 
   -- the formatting failed
   pub text_failed : (s : Buffered S P) (text : Option (List ℕ)) (k : Option Error) (e : Error) (t : Buffered S P)
-      → ∥ TextWent tells stretch rules s k t ∥₁ → IsFormatError e → WritesText tells stretch rules s text (Err e) t
+      → ∥ TextWent tells trace rules s k t ∥₁ → IsFormatError e → WritesText tells trace rules s text (Err e) t
   text_failed s text k e t went failed = record {
     along = ∥∥₁_map went (λ w. went_along s k t w);
     went = ∥∥₁_map went (λ w. inl (failed, (k, w)));
@@ -207,15 +207,15 @@ module _ {S P : Type 0} (tells : S → StreamLog) (stretch : S → S → Type 0)
     beginning = of text;
   }
     where
-      of : (text : Option (List ℕ)) → IfSome text (λ bytes. IsFormatError e ⊎ StoppedIn tells stretch rules s bytes e t)
+      of : (text : Option (List ℕ)) → IfSome text (λ bytes. IsFormatError e ⊎ StoppedIn tells trace rules s bytes e t)
       of None = tt
       of (Some bytes) = inl failed
 
   -- the write of a piece failed
   pub text_stopped : (s : Buffered S P) (text : Option (List ℕ)) (e : Error) (t : Buffered S P)
-      → ∥ TextWent tells stretch rules s (Some e) t ∥₁
-      → IfSome text (λ bytes. TakesPieces tells stretch rules s None bytes t (Some e))
-      → WritesText tells stretch rules s text (Err e) t
+      → ∥ TextWent tells trace rules s (Some e) t ∥₁
+      → IfSome text (λ bytes. TakesPieces tells trace rules s None bytes t (Some e))
+      → WritesText tells trace rules s text (Err e) t
   text_stopped s text e t went taken = record {
     along = ∥∥₁_map went (λ w. went_along s (Some e) t w);
     went = ∥∥₁_map went (λ w. inr w);
@@ -223,22 +223,22 @@ module _ {S P : Type 0} (tells : S → StreamLog) (stretch : S → S → Type 0)
     beginning = of text taken;
   }
     where
-      of : (text : Option (List ℕ)) → IfSome text (λ bytes. StoppedIn tells stretch rules s bytes e t)
-          → IfSome text (λ bytes. IsFormatError e ⊎ StoppedIn tells stretch rules s bytes e t)
+      of : (text : Option (List ℕ)) → IfSome text (λ bytes. StoppedIn tells trace rules s bytes e t)
+          → IfSome text (λ bytes. IsFormatError e ⊎ StoppedIn tells trace rules s bytes e t)
       of None p = tt
       of (Some bytes) p = inr p
 
   -- neither the formatting nor the write of a piece failed
   pub text_written : (s : Buffered S P) (text : Option (List ℕ)) (x : Unit {0}) (t : Buffered S P)
-      → ∥ TextWent tells stretch rules s None t ∥₁
-      → IfSome text (λ bytes. TakesPieces tells stretch rules s None bytes t None)
-      → WritesText tells stretch rules s text (Ok x) t
+      → ∥ TextWent tells trace rules s None t ∥₁
+      → IfSome text (λ bytes. TakesPieces tells trace rules s None bytes t None)
+      → WritesText tells trace rules s text (Ok x) t
   text_written s text x t went taken =
       record { along = ∥∥₁_map went (λ w. went_along s None t w); went = went; whole = taken; beginning = tt }
 
 -- as std has it
-pub text_appends : {S P : Type 0} (tells : S → StreamLog) (stretch : S → S → Type 0) (rules : WriteRules P)
-    (s t : Buffered S P) (text : Option (List ℕ)) → IfSome text (λ bytes. WritesPieces tells stretch rules s bytes t)
+pub text_appends : {S P : Type 0} (tells : S → StreamLog) (trace : S → S → Type 0) (rules : WriteRules P)
+    (s t : Buffered S P) (text : Option (List ℕ)) → IfSome text (λ bytes. WritesPieces tells trace rules s bytes t)
     → IfSome text (Appends (writer_contents s) (writer_contents t))
-text_appends tells stretch rules s t None p = tt
-text_appends tells stretch rules s t (Some bytes) p = WritesInOrder-contents s t bytes p.along.in_order
+text_appends tells trace rules s t None p = tt
+text_appends tells trace rules s t (Some bytes) p = WritesInOrder-contents s t bytes p.along.in_order

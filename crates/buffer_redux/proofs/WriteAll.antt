@@ -70,10 +70,10 @@ module _ {S P : Type 0} where
     caused_of (Err e) t w = writes_caused rules s bs e t w
 
 -- what a write keeps
-pub writer_keeps : {S P : Type 0} (tells : S → StreamLog) (stretch : S → S → Type 0) (rules : WriteRules P)
+pub writer_keeps : {S P : Type 0} (tells : S → StreamLog) (trace : S → S → Type 0) (rules : WriteRules P)
     (s : Buffered S P) (bs : List ℕ) (answer : Result ℕ Error) (t : Buffered S P) → IsBlock t.block
-    → Writes rules s bs answer t → InnerWent tells stretch s t → WriterKeeps tells stretch rules s t
-writer_keeps tells stretch rules s bs answer t whole steps went =
+    → Writes rules s bs answer t → InnerWent tells trace s t → WriterKeeps tells trace rules s t
+writer_keeps tells trace rules s bs answer t whole steps went =
     let keeps = writes_keep rules s bs answer t steps in
     record {
       grows = keeps.grows;
@@ -97,11 +97,11 @@ pub bound_rest : (answer : Result ℕ Error) (bs : List ℕ) (at : ℕ)
     → WritesAtMost answer (take (length bs - at) (drop at bs)) → WritesAtMost answer (drop at bs)
 bound_rest answer bs at bound = subst (WritesAtMost answer) (between_to_end bs at (length bs) (le_refl _)) bound
 
-pub one_rest : {S P : Type 0} (tells : S → StreamLog) (stretch : S → S → Type 0) (rules : WriteRules P)
+pub one_rest : {S P : Type 0} (tells : S → StreamLog) (trace : S → S → Type 0) (rules : WriteRules P)
     (m : Buffered S P) (bs : List ℕ) (at : ℕ) (answer : Result ℕ Error) (t : Buffered S P) → IsBlock m.block
-    → IsBlock t.block → Writes rules m (take (length bs - at) (drop at bs)) answer t → InnerWent tells stretch m t
-    → OneWrite tells stretch rules m (drop at bs) answer t
-one_rest tells stretch rules m bs at answer t before after steps went = record {
+    → IsBlock t.block → Writes rules m (take (length bs - at) (drop at bs)) answer t → InnerWent tells trace m t
+    → OneWrite tells trace rules m (drop at bs) answer t
+one_rest tells trace rules m bs at answer t before after steps went = record {
   steps = subst (λ l. Writes rules m l answer t) (between_to_end bs at (length bs) (le_refl _)) steps;
   whole = (before, after);
   went = went;
@@ -123,18 +123,18 @@ pub not_interrupted : (nothing : ErrorKind) → nothing ≢ Interrupted → (ans
 not_interrupted nothing other (Ok k) e ends odd = other (sym ends.1 ∙ odd)
 not_interrupted nothing other (Err x) e ends odd = ends.1 odd
 
-module _ {S P : Type 0} (tells : S → StreamLog) (stretch : S → S → Type 0) (rules : WriteRules P) where
+module _ {S P : Type 0} (tells : S → StreamLog) (trace : S → S → Type 0) (rules : WriteRules P) where
   -- `turns` turns took the bytes before `at` in
   pub record Turned (s : Buffered S P) (bs : List ℕ) (turns at : ℕ) (t : Buffered S P) : Type 0 where
     pub within : at ≤ length bs
     pub run : WriteTurns rules bs turns at s t
-    pub front : TookFront tells stretch rules s (take at bs) t
+    pub front : TookFront tells trace rules s (take at bs) t
 
-module _ {S P : Type 0} (tells : S → StreamLog) (stretch : S → S → Type 0)
-    (none : (a : S) → stretch a a) (joins : (a b c : S) → stretch a b → stretch b c → stretch a c)
+module _ {S P : Type 0} (tells : S → StreamLog) (trace : S → S → Type 0)
+    (none : (a : S) → trace a a) (joins : (a b c : S) → trace a b → trace b c → trace a c)
     (rules : WriteRules P) where
   front_none : (s : Buffered S P) → IsBlock s.block → s.log ≡ tells s.inner
-      → TookFront tells stretch rules s [] s
+      → TookFront tells trace rules s [] s
   front_none s whole told = record {
     in_order = WritesInOrder-none s;
     keeps = record {
@@ -149,8 +149,8 @@ module _ {S P : Type 0} (tells : S → StreamLog) (stretch : S → S → Type 0)
     };
   }
 
-  keeps_joins : (s m t : Buffered S P) → WriterKeeps tells stretch rules s m → WriterKeeps tells stretch rules m t
-      → WriterKeeps tells stretch rules s t
+  keeps_joins : (s m t : Buffered S P) → WriterKeeps tells trace rules s m → WriterKeeps tells trace rules m t
+      → WriterKeeps tells trace rules s t
   keeps_joins s m t p q = record {
     grows = WriteLogGrows-joins s.log.writes m.log.writes t.log.writes p.grows q.grows;
     not_flushed = q.not_flushed ∙ p.not_flushed;
@@ -167,36 +167,36 @@ module _ {S P : Type 0} (tells : S → StreamLog) (stretch : S → S → Type 0)
     };
   }
 
-  front_joins : (s m t : Buffered S P) (a b : List ℕ) → TookFront tells stretch rules s a m
-      → TookFront tells stretch rules m b t → TookFront tells stretch rules s (a ++ b) t
+  front_joins : (s m t : Buffered S P) (a b : List ℕ) → TookFront tells trace rules s a m
+      → TookFront tells trace rules m b t → TookFront tells trace rules s (a ++ b) t
   front_joins s m t a b p q = record {
     in_order = WritesInOrder-joins s m t a b p.in_order q.in_order;
     keeps = keeps_joins s m t p.keeps q.keeps;
   }
 
   front_of : (s : Buffered S P) (bs : List ℕ) (answer : Result ℕ Error) (t : Buffered S P)
-      → OneWrite tells stretch rules s bs answer t → TookFront tells stretch rules s (portion bs answer) t
+      → OneWrite tells trace rules s bs answer t → TookFront tells trace rules s (portion bs answer) t
   front_of s bs answer t w = record {
     in_order = (writes_keep rules s bs answer t w.steps).in_order;
-    keeps = writer_keeps tells stretch rules s bs answer t w.whole.1 w.steps w.went;
+    keeps = writer_keeps tells trace rules s bs answer t w.whole.1 w.steps w.went;
   }
 
   pub turned_none : (s : Buffered S P) (bs : List ℕ) → IsBlock s.block → s.log ≡ tells s.inner
-      → Turned tells stretch rules s bs 0 0 s
+      → Turned tells trace rules s bs 0 0 s
   turned_none s bs whole told =
       record { within = omega arith; run = (refl, refl); front = front_none s whole told }
 
   module _ (s : Buffered S P) (bs : List ℕ) (turns at : ℕ) (m : Buffered S P)
-      (before : Turned tells stretch rules s bs turns at m) where
+      (before : Turned tells trace rules s bs turns at m) where
     -- one more write of the bytes that are left
     module _ (answer : Result ℕ Error) (t : Buffered S P) (fewer : at < length bs)
-        (one : OneWrite tells stretch rules m (drop at bs) answer t) where
-      both : TookFront tells stretch rules s (take at bs ++ portion (drop at bs) answer) t
+        (one : OneWrite tells trace rules m (drop at bs) answer t) where
+      both : TookFront tells trace rules s (take at bs ++ portion (drop at bs) answer) t
       both = front_joins s m t (take at bs) (portion (drop at bs) answer) before.front
           (front_of m (drop at bs) answer t one)
 
       pub turned_more : (n : ℕ) → GoesBy answer n → WritesAtMost answer (drop at bs)
-          → Turned tells stretch rules s bs (turns + 1) (at + n) t
+          → Turned tells trace rules s bs (turns + 1) (at + n) t
       turned_more n goes bound =
           let step = further_by answer n goes (drop at bs) bound in
           record {
@@ -207,11 +207,11 @@ module _ {S P : Type 0} (tells : S → StreamLog) (stretch : S → S → Type 0)
               before.run,
               record { fewer = fewer; answer = answer; steps = one.steps; further = n; goes = goes; adds = refl },
             );
-            front = subst (λ l. TookFront tells stretch rules s l t)
+            front = subst (λ l. TookFront tells trace rules s l t)
                 (ap (λ l. take at bs ++ l) step.1 ∙ sym (take-add at n bs)) both;
           }
 
-      pub ended_failed : (e : Error) → EndsBy WriteZero answer e → WritesAll tells stretch rules s bs (Err e) t
+      pub ended_failed : (e : Error) → EndsBy WriteZero answer e → WritesAll tells trace rules s bs (Err e) t
       ended_failed e ends =
           let some : 0 < length (drop at bs) = omega (arith, fewer, length-drop at bs) in
           record {
@@ -221,7 +221,7 @@ module _ {S P : Type 0} (tells : S → StreamLog) (stretch : S → S → Type 0)
             last = m;
             run = before.run;
             first = before.front;
-            front = subst (λ l. TookFront tells stretch rules s l t)
+            front = subst (λ l. TookFront tells trace rules s l t)
                 (ap (λ l. take at bs ++ l) (none_taken WriteZero answer e ends (drop at bs)) ∙ append-nil (take at bs)) both;
             ended = inl (record {
               some = some;
@@ -237,7 +237,7 @@ module _ {S P : Type 0} (tells : S → StreamLog) (stretch : S → S → Type 0)
     ended : (answer : Result (Unit {0}) Error)
         → MatchResult answer (λ _. (at ≡ length bs) × (m ≡ m))
         (λ e. LastWriteFailed rules (drop at bs) e m m ⊎ (GaveUp turns at (length bs) e × (m ≡ m)))
-        → WritesAll tells stretch rules s bs answer m
+        → WritesAll tells trace rules s bs answer m
     ended answer is = record {
       turns = turns;
       count = at;
@@ -249,52 +249,52 @@ module _ {S P : Type 0} (tells : S → StreamLog) (stretch : S → S → Type 0)
       ended = is;
     }
 
-    pub ended_all : length bs ≤ at → WritesAll tells stretch rules s bs (Ok tt) m
+    pub ended_all : length bs ≤ at → WritesAll tells trace rules s bs (Ok tt) m
     ended_all long = ended (Ok tt) (omega (arith, long, before.within), refl)
 
-    pub ended_late : (e : Error) → GaveUp turns at (length bs) e → WritesAll tells stretch rules s bs (Err e) m
+    pub ended_late : (e : Error) → GaveUp turns at (length bs) e → WritesAll tells trace rules s bs (Err e) m
     ended_late e late = ended (Err e) (inr (late, refl))
 
   -- the first write of some bytes
   module _ (s : Buffered S P) (bs : List ℕ) (answer : Result ℕ Error) (t : Buffered S P) (some : 0 < length bs)
-      (one : OneWrite tells stretch rules s bs answer t) where
-    pub first_more : (n : ℕ) → GoesBy answer n → WritesAtMost answer bs → Turned tells stretch rules s bs 1 n t
+      (one : OneWrite tells trace rules s bs answer t) where
+    pub first_more : (n : ℕ) → GoesBy answer n → WritesAtMost answer bs → Turned tells trace rules s bs 1 n t
     first_more n goes bound =
-        subst (λ k. Turned tells stretch rules s bs 1 k t) (zero_on n)
+        subst (λ k. Turned tells trace rules s bs 1 k t) (zero_on n)
         (turned_more s bs 0 0 s (turned_none s bs one.whole.0 one.went.told_before) answer t some one n goes bound)
 
-    pub first_failed : (e : Error) → EndsBy WriteZero answer e → WritesAll tells stretch rules s bs (Err e) t
+    pub first_failed : (e : Error) → EndsBy WriteZero answer e → WritesAll tells trace rules s bs (Err e) t
     first_failed e ends =
         ended_failed s bs 0 0 s (turned_none s bs one.whole.0 one.went.told_before) answer t some one e ends
 
   -- no byte, and all bytes at once
   pub all_none : (s : Buffered S P) → IsBlock s.block → s.log ≡ tells s.inner
-      → WritesAll tells stretch rules s [] (Ok tt) s
+      → WritesAll tells trace rules s [] (Ok tt) s
   all_none s whole told = ended_all s [] 0 0 s (turned_none s [] whole told) (le_refl 0)
 
   pub all_at_once : (s : Buffered S P) (bs : List ℕ) (n : ℕ) (t : Buffered S P) → 0 < length bs → n ≡ length bs
-      → OneWrite tells stretch rules s bs (Ok n) t → WritesAll tells stretch rules s bs (Ok tt) t
+      → OneWrite tells trace rules s bs (Ok n) t → WritesAll tells trace rules s bs (Ok tt) t
   all_at_once s bs n t some full w =
       ended_all s bs 1 n t
       (first_more s bs (Ok n) t some w n (omega (arith, some, full), refl) (omega (arith, full)))
       (omega (arith, full))
 
 -- all that `write_all` promises, as its clauses say it
-module _ {S P : Type 0} (tells : S → StreamLog) (stretch : S → S → Type 0) (rules : WriteRules P)
+module _ {S P : Type 0} (tells : S → StreamLog) (trace : S → S → Type 0) (rules : WriteRules P)
     (s : Buffered S P) (bs : List ℕ) (t : Buffered S P) where
-  beginning : {answer : Result (Unit {0}) Error} → WritesAll tells stretch rules s bs answer t → TookBeginning bs s t
+  beginning : {answer : Result (Unit {0}) Error} → WritesAll tells trace rules s bs answer t → TookBeginning bs s t
   beginning w = record { count = w.count; within = w.within; in_order = w.front.in_order }
 
-  pub all_says : (answer : Result (Unit {0}) Error) → WritesAll tells stretch rules s bs answer t → record {
+  pub all_says : (answer : Result (Unit {0}) Error) → WritesAll tells trace rules s bs answer t → record {
     bytes : OnOk answer (Appends (writer_contents s) (writer_contents t) bs);
     in_order : OnOk answer (WritesInOrder s bs t);
     beginning : TookBeginning bs s t;
-    caused : WriteAllErrorCaused tells stretch rules s bs answer t;
+    caused : WriteAllErrorCaused tells trace rules s bs answer t;
     steadily : WritesAllSteadily rules s answer t;
     retried : IfErr answer (λ e. error_kind e ≢ Interrupted);
     whole : IsBlock t.block;
-    steps : WritesAll tells stretch rules s bs answer t;
-    stretch : InnerWent tells stretch s t;
+    steps : WritesAll tells trace rules s bs answer t;
+    trace : InnerWent tells trace s t;
   }
   all_says (Ok _) w =
       let in_order : WritesInOrder s bs t =
@@ -308,19 +308,19 @@ module _ {S P : Type 0} (tells : S → StreamLog) (stretch : S → S → Type 0)
         retried = tt;
         whole = w.front.keeps.whole;
         steps = w;
-        stretch = w.front.keeps.went;
+        trace = w.front.keeps.went;
       }
   all_says (Err e) w = record {
     bytes = tt;
     in_order = tt;
     beginning = beginning w;
-    caused = all_caused tells stretch rules s bs e t w;
-    steadily = all_steadily tells stretch rules s bs e t w;
+    caused = all_caused tells trace rules s bs e t w;
+    steadily = all_steadily tells trace rules s bs e t w;
     retried = elim w.ended [
       | inl failed ↦ not_interrupted WriteZero (λ odd. cc) failed.answer e failed.ends
       | inr late ↦ λ odd. (let two = sym late.0.timed_out ∙ odd in cc)
     ];
     whole = w.front.keeps.whole;
     steps = w;
-    stretch = w.front.keeps.went;
+    trace = w.front.keeps.went;
   }

@@ -53,22 +53,22 @@ module _ {S P : Type 0} (rules : WriteRules P) (rest : List ℕ) (e : Error) (m 
       of (Ok k) ends caused nothing = (let c = nothing (ap (λ n. Ok n) ends.0) in empty ends.1 c c.why)
       of (Err x) ends caused nothing = blamed x ends.0 caused
 
-module _ {S P : Type 0} (tells : S → StreamLog) (stretch : S → S → Type 0) (rules : WriteRules P)
+module _ {S P : Type 0} (tells : S → StreamLog) (trace : S → S → Type 0) (rules : WriteRules P)
     (s : Buffered S P) (bs : List ℕ) where
-  pub all_caused : (e : Error) (t : Buffered S P) → WritesAll tells stretch rules s bs (Err e) t
-      → WriteAllErrorCaused tells stretch rules s bs (Err e) t
+  pub all_caused : (e : Error) (t : Buffered S P) → WritesAll tells trace rules s bs (Err e) t
+      → WriteAllErrorCaused tells trace rules s bs (Err e) t
   all_caused e t all = of all.ended
     where
       later : WriterStopped all.last.log.writes t.log.writes e
           ⊎ (WriteRefused rules all.last (drop all.count bs) e t ⊎ LeftNoSpace rules all.last (drop all.count bs) e t)
-          → WriteAllErrorCaused tells stretch rules s bs (Err e) t
+          → WriteAllErrorCaused tells trace rules s bs (Err e) t
       later (inl stopped) =
           inl (WriterStopped-after s.log.writes all.last.log.writes t.log.writes e all.first.keeps.grows stopped)
       later (inr policy) = inr (inl (record { count = all.count; last = all.last; first = all.first; why = policy }))
 
       of : LastWriteFailed rules (drop all.count bs) e all.last t
           ⊎ (GaveUp all.turns all.count (length bs) e × (t ≡ all.last))
-          → WriteAllErrorCaused tells stretch rules s bs (Err e) t
+          → WriteAllErrorCaused tells trace rules s bs (Err e) t
       of (inl failed) = later (last_caused rules _ e all.last t failed)
       of (inr gave) = inr (inr (record {
         turns = all.turns;
@@ -77,7 +77,7 @@ module _ {S P : Type 0} (tells : S → StreamLog) (stretch : S → S → Type 0)
         gave_up = gave.0;
       }))
 
-  pub all_steadily : (e : Error) (t : Buffered S P) → WritesAll tells stretch rules s bs (Err e) t
+  pub all_steadily : (e : Error) (t : Buffered S P) → WritesAll tells trace rules s bs (Err e) t
       → WritesAllSteadily rules s (Err e) t
   all_steadily e t all steady = of all.ended
     where

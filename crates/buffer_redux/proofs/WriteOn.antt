@@ -78,7 +78,7 @@ takes_in_all m t bs whole room added policy told = takes_in_roomy m t bs (length
     (subst (λ l. Extends l m.block t.block) (sym (take-length bs)) added) policy told
 
 -- all that `write` promises, as its clauses say it
-module _ {S P : Type 0} (tells : S → StreamLog) (stretch : S → S → Type 0) (rules : WriteRules P)
+module _ {S P : Type 0} (tells : S → StreamLog) (trace : S → S → Type 0) (rules : WriteRules P)
     (s : Buffered S P) (bs : List ℕ) where
   contents : (answer : Result ℕ Error) (t : Buffered S P) → Writes rules s bs answer t
       → WriteAppends (writer_contents s) (writer_contents t) answer bs
@@ -89,7 +89,7 @@ module _ {S P : Type 0} (tells : S → StreamLog) (stretch : S → S → Type 0)
       ∙ append-nil (s.log.writes.received ++ s.block.bytes)
 
   pub write_says : (answer : Result ℕ Error) (t : Buffered S P) → WritesAtMost answer bs → IsBlock t.block
-      → InnerWent tells stretch s t → Writes rules s bs answer t → record {
+      → InnerWent tells trace s t → Writes rules s bs answer t → record {
         bound : WritesAtMost answer bs;
         bytes : WriteAppends (writer_contents s) (writer_contents t) answer bs;
         in_order : WritesInOrder s (portion bs answer) t;
@@ -97,7 +97,7 @@ module _ {S P : Type 0} (tells : S → StreamLog) (stretch : S → S → Type 0)
         empty : answer ≡ Ok 0 → 0 < length bs → EmptyWriteCaused rules s bs t;
         steadily : WritesSteadily rules s (length bs) answer t;
         steps : Writes rules s bs answer t;
-        keeps : WriterKeeps tells stretch rules s t;
+        keeps : WriterKeeps tells trace rules s t;
       }
   write_says answer t bound whole went w = record {
     bound = bound;
@@ -107,5 +107,5 @@ module _ {S P : Type 0} (tells : S → StreamLog) (stretch : S → S → Type 0)
     empty = writes_nothing rules s bs answer t w;
     steadily = writes_steadily rules s bs answer t w;
     steps = w;
-    keeps = writer_keeps tells stretch rules s bs answer t whole w went;
+    keeps = writer_keeps tells trace rules s bs answer t whole w went;
   }

@@ -75,10 +75,10 @@ module _ {S P : Type 0} where
       WritesInOrder-added s t [] (ap (λ l. l.writes.received) told) (b ∙ sym (append-nil s.block.bytes))
 
   -- what a send and a failed flush promise, of their sending
-  pub was_sent : (tells : S → StreamLog) (stretch : S → S → Type 0) (s t : Buffered S P)
+  pub was_sent : (tells : S → StreamLog) (trace : S → S → Type 0) (s t : Buffered S P)
       (answer : Result (Unit {0}) Error) → Sends (length s.block.bytes) s.block s.log answer t.block t.log
-      → t.policy ≡ s.policy → IsBlock t.block → InnerWent tells stretch s t → WasSent tells stretch s answer t
-  was_sent tells stretch s t (Ok _) f policy whole went =
+      → t.policy ≡ s.policy → IsBlock t.block → InnerWent tells trace s t → WasSent tells trace s answer t
+  was_sent tells trace s t (Ok _) f policy whole went =
       let all : length s.block.bytes ≤ f.count = omega (arith, f.whole) in
       record {
         sends = f;
@@ -95,7 +95,7 @@ module _ {S P : Type 0} where
         whole = whole;
         went = went;
       }
-  was_sent tells stretch s t (Err e) f policy whole went = record {
+  was_sent tells trace s t (Err e) f policy whole went = record {
     sends = f;
     in_order = WritesInOrder-sends s t (length s.block.bytes) (Err e) f;
     ok = tt;
@@ -107,9 +107,9 @@ module _ {S P : Type 0} where
     went = went;
   }
 
-  pub not_sent : (tells : S → StreamLog) (stretch : S → S → Type 0) (s t : Buffered S P) (e : Error)
-      → WasSent tells stretch s (Err e) t → WasFlushed tells stretch s (Err e) t
-  not_sent tells stretch s t e sent = record {
+  pub not_sent : (tells : S → StreamLog) (trace : S → S → Type 0) (s t : Buffered S P) (e : Error)
+      → WasSent tells trace s (Err e) t → WasFlushed tells trace s (Err e) t
+  not_sent tells trace s t e sent = record {
     steps = record {
       policy = sent.policy;
       sent_log = t.log;

@@ -154,8 +154,8 @@ pub flush_once : {S P : Type 0} (s t : Buffered S P) (answer : Result (Unit {0})
 flush_once s t answer f = flush_counted s t f.sent_log answer f.sending f.sends.sent.flushes f.ended
 
 -- a call of a writer that was noted
-pub call_went : {S P : Type 0} (stretch : S → S → Type 0) (rules : WriteRules P) (s m t : Buffered S P)
-    (calls noted : StreamLog) → t ≡ m → calls ≡ noted → stretch s.inner m.inner
+pub call_went : {S P : Type 0} (trace : S → S → Type 0) (rules : WriteRules P) (s m t : Buffered S P)
+    (calls noted : StreamLog) → t ≡ m → calls ≡ noted → trace s.inner m.inner
     → WriteLogGrows s.log.writes m.log.writes
     → WriteLogGrows (writer_log s).writes (writer_log (with_calls t calls)).writes
     → s.block.capacity ≤ m.block.capacity → m.block.kind ≡ s.block.kind → rules.claims m.policy ≡ rules.claims s.policy
@@ -164,10 +164,10 @@ pub call_went : {S P : Type 0} (stretch : S → S → Type 0) (rules : WriteRule
     → failures noted.writes + failures s.log.writes ≤ failures s.own_calls.writes + failures m.log.writes)
     → (TellsFailures rules s.policy → MetInterrupts s.own_calls.writes noted.writes
     → MetInterrupts s.log.writes m.log.writes)
-    → WriterWent stretch rules s (with_calls t calls)
-call_went stretch rules s m t calls noted is told went grows own capacity kind claims flushes fails met =
+    → WriterWent trace rules s (with_calls t calls)
+call_went trace rules s m t calls noted is told went grows own capacity kind claims flushes fails met =
     let log : t.log ≡ m.log = ap (λ x. x.log) is in record {
-      inner = subst (stretch s.inner) (sym (ap (λ x. x.inner) is)) went;
+      inner = subst (trace s.inner) (sym (ap (λ x. x.inner) is)) went;
       grows = subst (λ l. WriteLogGrows s.log.writes l.writes) (sym log) grows;
       own_grows = own;
       capacity = omega (arith, ap (λ x. x.block.capacity) is, capacity);

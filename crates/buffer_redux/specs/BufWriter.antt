@@ -155,8 +155,8 @@ abbrev pub WritesSteadily : {S P : Type 0} → WriteRules P → Buffered S P →
 WritesSteadily rules s incoming answer t = (rules.claims s.policy).steady ≡ true → SteadyWrite s incoming answer t
 
 -- what each write keeps: the log only goes on, and nothing is flushed; the capacity doesn't fall, and the kind and the
--- policy's claims stay; the inner writer went a stretch of calls, and no call of its own is noted
-pub record WriterKeeps {S P : Type 0} (tells : S → StreamLog) (stretch : S → S → Type 0) (rules : WriteRules P)
+-- policy's claims stay; the inner writer went through a trace of calls, and no call of its own is noted
+pub record WriterKeeps {S P : Type 0} (tells : S → StreamLog) (trace : S → S → Type 0) (rules : WriteRules P)
     (s t : Buffered S P) : Type 0 where
   pub grows : WriteLogGrows s.log.writes t.log.writes
   pub not_flushed : t.log.writes.flushed ≡ s.log.writes.flushed
@@ -165,7 +165,7 @@ pub record WriterKeeps {S P : Type 0} (tells : S → StreamLog) (stretch : S →
   pub kind : t.block.kind ≡ s.block.kind
   pub claims : rules.claims t.policy ≡ rules.claims s.policy
   pub whole : IsBlock t.block
-  pub went : InnerWent tells stretch s t
+  pub went : InnerWent tells trace s t
 
 -- what an Ok `send()` has done: nothing is buffered, the inner writer received what was, and nothing went wrong but that
 -- writes were interrupted
@@ -175,7 +175,7 @@ pub record IsSent {S P : Type 0} (s t : Buffered S P) : Type 0 where
   pub met : MetInterrupts s.log.writes t.log.writes
 
 -- all that is promised of a send with this answer
-pub record WasSent {S P : Type 0} (tells : S → StreamLog) (stretch : S → S → Type 0)
+pub record WasSent {S P : Type 0} (tells : S → StreamLog) (trace : S → S → Type 0)
     (s : Buffered S P) (answer : Result (Unit {0}) Error) (t : Buffered S P) : Type 0 where
   pub sends : Sends (length s.block.bytes) s.block s.log answer t.block t.log
   pub in_order : WritesInOrder s [] t
@@ -185,7 +185,7 @@ pub record WasSent {S P : Type 0} (tells : S → StreamLog) (stretch : S → S �
   pub policy : t.policy ≡ s.policy
   pub capacity : t.block.capacity ≡ s.block.capacity
   pub whole : IsBlock t.block
-  pub went : InnerWent tells stretch s t
+  pub went : InnerWent tells trace s t
 
 -- what `flush()` does: all bytes are sent, and then the inner writer is flushed
 pub record Flushes {S P : Type 0} (s : Buffered S P) (answer : Result (Unit {0}) Error)
@@ -206,7 +206,7 @@ pub record IsFlushed {S P : Type 0} (s t : Buffered S P) : Type 0 where
   pub met : MetInterrupts s.log.writes t.log.writes
 
 -- all that is promised of a flush with this answer
-pub record WasFlushed {S P : Type 0} (tells : S → StreamLog) (stretch : S → S → Type 0)
+pub record WasFlushed {S P : Type 0} (tells : S → StreamLog) (trace : S → S → Type 0)
     (s : Buffered S P) (answer : Result (Unit {0}) Error) (t : Buffered S P) : Type 0 where
   pub steps : Flushes s answer t
   pub in_order : WritesInOrder s [] t
@@ -217,13 +217,13 @@ pub record WasFlushed {S P : Type 0} (tells : S → StreamLog) (stretch : S → 
   pub capacity : t.block.capacity ≡ s.block.capacity
   pub kind : t.block.kind ≡ s.block.kind
   pub whole : IsBlock t.block
-  pub went : InnerWent tells stretch s t
+  pub went : InnerWent tells trace s t
 
 -- what any calls do, one after another, that accept these bytes and make no seek
-pub record WritesAlong {S P : Type 0} (tells : S → StreamLog) (stretch : S → S → Type 0) (rules : WriteRules P)
+pub record WritesAlong {S P : Type 0} (tells : S → StreamLog) (trace : S → S → Type 0) (rules : WriteRules P)
     (s : Buffered S P) (accepted : List ℕ) (t : Buffered S P) : Type 0 where
   pub in_order : WritesInOrder s accepted t
-  pub calls : stretch s.inner t.inner
+  pub calls : trace s.inner t.inner
   pub told : s.log ≡ tells s.inner → t.log ≡ tells t.inner
   pub noted : t.own_calls ≡ s.own_calls
   pub grows : WriteLogGrows s.log.writes t.log.writes
@@ -233,9 +233,9 @@ pub record WritesAlong {S P : Type 0} (tells : S → StreamLog) (stretch : S →
 
 -- calls accepted these bytes, and the last was an Ok flush: nothing is buffered, and the inner writer received what was, then
 -- what was accepted, and has flushed all that it received
-pub record FlushedAlong {S P : Type 0} (tells : S → StreamLog) (stretch : S → S → Type 0) (rules : WriteRules P)
+pub record FlushedAlong {S P : Type 0} (tells : S → StreamLog) (trace : S → S → Type 0) (rules : WriteRules P)
     (s : Buffered S P) (accepted : List ℕ) (t : Buffered S P) : Type 0 where
-  pub along : WritesAlong tells stretch rules s accepted t
+  pub along : WritesAlong tells trace rules s accepted t
   pub empty : t.block.bytes ≡ []
   pub received : t.log.writes.received ≡ s.log.writes.received ++ (s.block.bytes ++ accepted)
   pub flushed : t.log.writes.flushed ≡ t.log.writes.received
@@ -269,36 +269,36 @@ abbrev pub WriterStopped : WriteLog → WriteLog → Error → Type 0
 WriterStopped old new e = LastFault old new e ⊎ (ZeroWritten old new e ⊎ InterruptedTooOften old new e)
 
 -- calls accepted a beginning of these bytes, of which none is lost
-pub record BegunAlong {S P : Type 0} (tells : S → StreamLog) (stretch : S → S → Type 0) (rules : WriteRules P)
+pub record BegunAlong {S P : Type 0} (tells : S → StreamLog) (trace : S → S → Type 0) (rules : WriteRules P)
     (s : Buffered S P) (bytes : List ℕ) (t : Buffered S P) : Type 0 where
   pub accepted : List ℕ
   pub more : List ℕ
   pub all : bytes ≡ accepted ++ more
-  pub along : WritesAlong tells stretch rules s accepted t
+  pub along : WritesAlong tells trace rules s accepted t
 
 -- calls accepted a beginning of these bytes, and then ended with this error of the inner writer
-pub record StoppedAlong {S P : Type 0} (tells : S → StreamLog) (stretch : S → S → Type 0) (rules : WriteRules P)
+pub record StoppedAlong {S P : Type 0} (tells : S → StreamLog) (trace : S → S → Type 0) (rules : WriteRules P)
     (s : Buffered S P) (bytes : List ℕ) (e : Error) (t : Buffered S P) : Type 0 where
-  pub begun : BegunAlong tells stretch rules s bytes t
+  pub begun : BegunAlong tells trace rules s bytes t
   pub why : WriterStopped s.log.writes t.log.writes e
 
 -- at Ok they accepted these bytes, at an Err a beginning of them
 abbrev pub FrontAlong : {S P A E : Type 0} → (S → StreamLog) → (S → S → Type 0) → WriteRules P → Buffered S P → List ℕ
     → Result A E → Buffered S P → Type 0
-FrontAlong tells stretch rules s bytes answer t = MatchResult answer
-    (λ _. WritesAlong tells stretch rules s bytes t) (λ _. BegunAlong tells stretch rules s bytes t)
+FrontAlong tells trace rules s bytes answer t = MatchResult answer
+    (λ _. WritesAlong tells trace rules s bytes t) (λ _. BegunAlong tells trace rules s bytes t)
 
 -- at Ok calls accepted these bytes, at an Err a beginning of them, and the error is the inner writer's
 abbrev pub AllAlong : {S P A : Type 0} → (S → StreamLog) → (S → S → Type 0) → WriteRules P → Buffered S P → List ℕ
     → Result A Error → Buffered S P → Type 0
-AllAlong tells stretch rules s bytes answer t = MatchResult answer
-    (λ _. WritesAlong tells stretch rules s bytes t) (λ e. StoppedAlong tells stretch rules s bytes e t)
+AllAlong tells trace rules s bytes answer t = MatchResult answer
+    (λ _. WritesAlong tells trace rules s bytes t) (λ e. StoppedAlong tells trace rules s bytes e t)
 
 -- at Ok the last was an Ok flush too
 abbrev pub AllFlushed : {S P A : Type 0} → (S → StreamLog) → (S → S → Type 0) → WriteRules P → Buffered S P → List ℕ
     → Result A Error → Buffered S P → Type 0
-AllFlushed tells stretch rules s bytes answer t = MatchResult answer
-    (λ _. FlushedAlong tells stretch rules s bytes t) (λ e. StoppedAlong tells stretch rules s bytes e t)
+AllFlushed tells trace rules s bytes answer t = MatchResult answer
+    (λ _. FlushedAlong tells trace rules s bytes t) (λ e. StoppedAlong tells trace rules s bytes e t)
 
 -- one seek of the inner writer; neither the policy nor the buffer was touched
 pub record SeeksInner {S P : Type 0} (tells : S → StreamLog) (readies : Readies) (s : Buffered S P) (to : SeekFrom)
@@ -310,11 +310,11 @@ pub record SeeksInner {S P : Type 0} (tells : S → StreamLog) (readies : Readie
   pub noted : t.own_calls ≡ s.own_calls
 
 -- what `seek(to)` does: a flush, whose error it returns, and then one seek of the inner writer to the same place
-pub record SeeksFlushed {S P : Type 0} (tells : S → StreamLog) (stretch : S → S → Type 0) (readies : Readies)
+pub record SeeksFlushed {S P : Type 0} (tells : S → StreamLog) (trace : S → S → Type 0) (readies : Readies)
     (s : Buffered S P) (to : SeekFrom) (answer : Result ℕ Error) (t : Buffered S P) : Type 0 where
   pub flushing : Result (Unit {0}) Error
   pub left : Buffered S P
-  pub flushed : WasFlushed tells stretch s flushing left
+  pub flushed : WasFlushed tells trace s flushing left
   pub ended : MatchResult flushing (λ _. SeeksInner tells readies left to answer t) (λ e. (answer ≡ Err e) × (t ≡ left))
 
 -- the seeks that were told, with one more
@@ -337,9 +337,9 @@ abbrev pub SeekErrorCaused : {S P : Type 0} → Buffered S P → SeekFrom → Er
 SeekErrorCaused s to e t = NotSought s e t ⊎ IsSought s to (Err e) t
 
 -- all that `seek(to)` promises
-pub record WasSought {S P : Type 0} (tells : S → StreamLog) (stretch : S → S → Type 0) (readies : Readies)
+pub record WasSought {S P : Type 0} (tells : S → StreamLog) (trace : S → S → Type 0) (readies : Readies)
     (s : Buffered S P) (to : SeekFrom) (answer : Result ℕ Error) (t : Buffered S P) : Type 0 where
-  pub steps : SeeksFlushed tells stretch readies s to answer t
+  pub steps : SeeksFlushed tells trace readies s to answer t
   pub in_order : WritesInOrder s [] t
   pub grows : WriteLogGrows s.log.writes t.log.writes
   pub ok : OnOk answer (IsSought s to answer t)

@@ -49,9 +49,9 @@ pub record GoesDirect {S P : Type 0} (after : StreamLog → List ℕ → Result 
 
 -- calls took the stream inside from where it was to where it is, the log is what it tells, and no call of its own was
 -- noted
-pub record InnerWent {S P : Type 0} (tells : S → StreamLog) (stretch : S → S → Type 0)
+pub record InnerWent {S P : Type 0} (tells : S → StreamLog) (trace : S → S → Type 0)
     (s t : Buffered S P) : Type 0 where
-  pub calls : stretch s.inner t.inner
+  pub calls : trace s.inner t.inner
   pub told_before : s.log ≡ tells s.inner
   pub told_after : t.log ≡ tells t.inner
   pub noted : t.own_calls ≡ s.own_calls

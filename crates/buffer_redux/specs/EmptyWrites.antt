@@ -62,7 +62,7 @@ module _ {S P : Type 0} (s t : Buffered S P) (e : Error) (room : 0 < s.block.cap
     | inr flush ↦ omega (arith, ap (λ l. l.writes.asks) flush.noted, ap (λ l. l.writes.asks) told)
   ]
 
-pub TakesNothing-std : {S P : Type 0} (stretch : S → S → Type 0) (s : Buffered S P) → 0 < s.block.capacity
-    → TakesNothing writer_log (WriterWent stretch std_write_rules) (WriterCalled std_write_rules) s
-TakesNothing-std stretch s room =
+pub TakesNothing-std : {S P : Type 0} (trace : S → S → Type 0) (s : Buffered S P) → 0 < s.block.capacity
+    → TakesNothing writer_log (WriterWent trace std_write_rules) (WriterCalled std_write_rules) s
+TakesNothing-std trace s room =
     λ before after e went called told. no_empty_failure before after e (omega (arith, room, went.capacity)) told called

@@ -12,10 +12,10 @@ use Rattle.buffer_redux.specs.WriterPolicies.{flush_on_rules}
 abbrev pub line_rules : {P : Type 0} → WriteRules P
 line_rules = flush_on_rules (λ p. 10)
 
-module _ {S P : Type 0} (tells : S → StreamLog) (stretch : S → S → Type 0) where
+module _ {S P : Type 0} (tells : S → StreamLog) (trace : S → S → Type 0) where
   -- all that is buffered is sent where a line feed is among it; else nothing is done
   pub record SendsLines (s : Buffered S P) (answer : Result (Unit {0}) Error) (t : Buffered S P) : Type 0 where
-    pub some : ¬ (Lacks 10 s.block.bytes) → WasSent tells stretch s answer t
+    pub some : ¬ (Lacks 10 s.block.bytes) → WasSent tells trace s answer t
     pub none : Lacks 10 s.block.bytes → (answer ≡ Ok tt) × (t ≡ s)
 
   -- a call that wrote so, and behind an Ok of it a send of lines

@@ -18,7 +18,7 @@ use Rattle.buffer_redux.specs.Remaining.{ahead, wants_some, may_stop, reader_rem
 use Rattle.buffer_redux.specs.Unbuffer.{HandsOutInOrder, unbuffered, Unbuffered}
 use Rattle.buffer_redux.specs.Seek.{SeekLeaves}
 
--- no call hands out nothing, and two stretches of calls join
+-- no call hands out nothing, and two traces of calls join
 pub ReadsInOrder-none : {S P : Type 0} (s : Buffered S P) → ReadsInOrder s [] s
 ReadsInOrder-none s =
     record { got = []; given = sym (append-nil s.log.reads.given); equal = sym (append-nil s.block.bytes) }
@@ -61,7 +61,7 @@ ReadsInOrder-ahead remaining s t handed order known =
     GivesRemaining-ahead (remaining s.inner) (remaining t.inner) s.log.reads t.log.reads s.block.bytes t.block.bytes
     handed order.got known order.given order.equal
 
--- of what the reader inside had left no call took anything, and two stretches of calls join
+-- of what the reader inside had left no call took anything, and two traces of calls join
 pub InnerGives-none : {S P : Type 0} (remaining : S → Option (List ℕ)) (s : Buffered S P) → InnerGives remaining s s
 InnerGives-none remaining s = GivesRemaining-none (remaining s.inner) s.log.reads
 
@@ -240,7 +240,7 @@ module _ {S P : Type 0} (remaining : S → Option (List ℕ)) (rules : ReadRules
       ∙ ap (λ bs. prepend_known bs (remaining r.inner)) made.new.bytes
       ∙ nothing_before (remaining r.inner) ∙ ap remaining made.inner
 
-  -- no call hands out nothing, and two stretches of calls join
+  -- no call hands out nothing, and two traces of calls join
   pub ReadsAlong-none : (s : Buffered S P) → ReadsAlong remaining rules s [] s
   ReadsAlong-none s = record {
     in_order = ReadsInOrder-none s;
@@ -260,13 +260,13 @@ module _ {S P : Type 0} (remaining : S → Option (List ℕ)) (rules : ReadRules
     claims = q.claims ∙ p.claims;
   }
 
-  -- a stretch that hands out nothing more
+  -- a trace that hands out nothing more
   pub ReadsAlong-then : (a b c : Buffered S P) (h : List ℕ) → ReadsAlong remaining rules a h b
       → ReadsAlong remaining rules b [] c → ReadsAlong remaining rules a h c
   ReadsAlong-then a b c h p q =
       subst (λ l. ReadsAlong remaining rules a l c) (append-nil h) (ReadsAlong-joins a b c h [] p q)
 
-  -- a stretch that goes to the end, behind another
+  -- a trace that goes to the end, behind another
   pub ReadsToEnd-after : (a b c : Buffered S P) (h k : List ℕ) → ReadsAlong remaining rules a h b
       → ReadsToEnd remaining rules b k c → ReadsToEnd remaining rules a (h ++ k) c
   ReadsToEnd-after a b c h k p q = record {

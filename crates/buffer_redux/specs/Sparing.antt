@@ -1,4 +1,4 @@
--- How calls of a reader spare its plain buffer moves, over any stretch of them.
+-- How calls of a reader spare its plain buffer moves, over any trace of them.
 use Rattle.std.specs.Prelude.{◌≡◌, ℕ, ◌+◌, ◌*◌, ◌≤◌, ◌⊎◌, [], length, Result, Ok, Err}
 use Rattle.std.proofs.Common.{◌∙◌, ap, arith, le_refl, le_trans, refl}
 use Rattle.std.specs.declared.io.Error.{Error}
@@ -54,7 +54,7 @@ GrowsAndSeeks readies more to s (Ok n) t = GrewAndSought readies more to s (Ok n
 GrowsAndSeeks readies more to s (Err e) t =
     (GrowthFailed more s.block e × (t ≡ s)) ⊎ GrewAndSought readies more to s (Err e) t
 
--- no call spares every number, and two stretches join, also where the policy is another from the second on
+-- no call spares every number, and two traces join, also where the policy is another from the second on
 pub Spared-none : {S P : Type 0} (keep : ℕ) (s : Buffered S P) → Spared keep s s
 Spared-none keep s =
     record { kind = refl; capacity = le_refl _; plain = λ _ _. record { moved = le_refl _; held = le_refl _ } }

@@ -110,7 +110,7 @@ module _ {S P : Type 0} (remaining : S → Option (List ℕ)) (rules : ReadRules
       (ReaderKeeps-along remaining rules s reads.handed t reads.front.in_order reads.front.keeps))
       (EndsUntil-known (FillRetried remaining rules) no_memory n reads.handed t reads.front reads.ends)
 
-  -- the call as a stretch, whatever it answers
+  -- the call as a trace, whatever it answers
   pub ReadsUntil-along : (before : List ℕ) (answer : Result ℕ Error) (after : List ℕ) (t : Buffered S P)
       → (reads : ReadsUntil remaining rules byte s before answer after t) → ReadsAlong remaining rules s reads.handed t
   ReadsUntil-along before answer after t reads =

@@ -10,10 +10,10 @@ use Rattle.buffer_redux.specs.Buffered.{Buffered, InnerWent, with_block, with_in
 use Rattle.buffer_redux.specs.BufWriter.{WritesInOrder, WasFlushed}
 
 -- the inner writer of what a flush with this answer left
-pub record InnerOfFlushed {S P : Type 0} (tells : S → StreamLog) (stretch : S → S → Type 0)
+pub record InnerOfFlushed {S P : Type 0} (tells : S → StreamLog) (trace : S → S → Type 0)
     (s : Buffered S P) (answer : Result (Unit {0}) Error) (inner : S) : Type 0 where
   pub left : Buffered S P
-  pub flushed : WasFlushed tells stretch s answer left
+  pub flushed : WasFlushed tells trace s answer left
   pub is_inner : left.inner ≡ inner
 
 -- what a handler may do: the writer and the buffer that it is lent, the fault, and both when it gives them back
@@ -34,12 +34,12 @@ pub record Handled {S : Type 0} (handler : Handler S) (inner : S) (b : Block) (e
   pub leaves_buffer : left_buffer.now ≡ b'
 
 -- all bytes were sent, and both parts come as that left them; where it failed, as the handler left them after that
-pub record SendsOrHandles {S P : Type 0} (tells : S → StreamLog) (stretch : S → S → Type 0) (handler : Handler S)
+pub record SendsOrHandles {S P : Type 0} (tells : S → StreamLog) (trace : S → S → Type 0) (handler : Handler S)
     (s : Buffered S P) (inner : S) (b : Block) : Type 0 where
   pub sending : Result (Unit {0}) Error
   pub sent : Buffered S P
   pub sends : Sends (length s.block.bytes) s.block s.log sending sent.block sent.log
-  pub went : InnerWent tells stretch s sent
+  pub went : InnerWent tells trace s sent
   pub ended : MatchResult sending
       (λ _. (inner ≡ sent.inner) × (b ≡ sent.block)) (λ e. Handled handler sent.inner sent.block e inner b)
 

@@ -28,10 +28,10 @@ WriteTurns {S} {P} rules bs (suc k) count s t =
     (before : ℕ) × (m : Buffered S P) × WriteTurns rules bs k before s m × WriteTurn rules bs before count m t
 
 -- just these bytes were taken in, and none was lost or changed place
-pub record TookFront {S P : Type 0} (tells : S → StreamLog) (stretch : S → S → Type 0) (rules : WriteRules P)
+pub record TookFront {S P : Type 0} (tells : S → StreamLog) (trace : S → S → Type 0) (rules : WriteRules P)
     (s : Buffered S P) (front : List ℕ) (t : Buffered S P) : Type 0 where
   pub in_order : WritesInOrder s front t
-  pub keeps : WriterKeeps tells stretch rules s t
+  pub keeps : WriterKeeps tells trace rules s t
 
 -- some first bytes were taken in
 pub record TookBeginning {S P : Type 0} (bs : List ℕ) (s t : Buffered S P) : Type 0 where
@@ -52,15 +52,15 @@ pub record LastWriteFailed {S P : Type 0} (rules : WriteRules P) (rest : List �
 
 -- what `write_all(bs)` does: turns took the first `count` bytes in. At `Ok` these are all; at `Err` one more write ended it,
 -- which took nothing in, or there were too many turns
-pub record WritesAll {S P : Type 0} (tells : S → StreamLog) (stretch : S → S → Type 0) (rules : WriteRules P)
+pub record WritesAll {S P : Type 0} (tells : S → StreamLog) (trace : S → S → Type 0) (rules : WriteRules P)
     (s : Buffered S P) (bs : List ℕ) (answer : Result (Unit {0}) Error) (t : Buffered S P) : Type 0 where
   pub turns : ℕ
   pub count : ℕ
   pub within : count ≤ length bs
   pub last : Buffered S P
   pub run : WriteTurns rules bs turns count s last
-  pub first : TookFront tells stretch rules s (take count bs) last
-  pub front : TookFront tells stretch rules s (take count bs) t
+  pub first : TookFront tells trace rules s (take count bs) last
+  pub front : TookFront tells trace rules s (take count bs) t
   pub ended : MatchResult answer (λ _. (count ≡ length bs) × (t ≡ last))
       (λ e. LastWriteFailed rules (drop count bs) e last t ⊎ (GaveUp turns count (length bs) e × (t ≡ last)))
 
@@ -72,11 +72,11 @@ pub record LeftNoSpace {S P : Type 0} (rules : WriteRules P) (m : Buffered S P) 
   pub full : NoSpace m (length rest) steps.before
 
 -- some first bytes were taken in, and the policy's answer to the write of the others ended it
-pub record PolicyStopped {S P : Type 0} (tells : S → StreamLog) (stretch : S → S → Type 0) (rules : WriteRules P)
+pub record PolicyStopped {S P : Type 0} (tells : S → StreamLog) (trace : S → S → Type 0) (rules : WriteRules P)
     (s : Buffered S P) (bs : List ℕ) (e : Error) (t : Buffered S P) : Type 0 where
   pub count : ℕ
   pub last : Buffered S P
-  pub first : TookFront tells stretch rules s (take count bs) last
+  pub first : TookFront tells trace rules s (take count bs) last
   pub why : WriteRefused rules last (drop count bs) e t ⊎ LeftNoSpace rules last (drop count bs) e t
 
 -- as many writes as std makes were gone on from, and some bytes are left
@@ -90,9 +90,9 @@ pub record RanOutOfTurns {S P : Type 0} (rules : WriteRules P) (s : Buffered S P
 -- an error is the inner writer's or the policy's, or there were too many turns
 abbrev pub WriteAllErrorCaused : {S P : Type 0} → (S → StreamLog) → (S → S → Type 0) → WriteRules P → Buffered S P
     → List ℕ → Result (Unit {0}) Error → Buffered S P → Type 0
-WriteAllErrorCaused tells stretch rules s bs answer t = IfErr answer
+WriteAllErrorCaused tells trace rules s bs answer t = IfErr answer
     (λ e. WriterStopped s.log.writes t.log.writes e
-    ⊎ (PolicyStopped tells stretch rules s bs e t ⊎ RanOutOfTurns rules s bs e t))
+    ⊎ (PolicyStopped tells trace rules s bs e t ⊎ RanOutOfTurns rules s bs e t))
 
 -- under a steady policy an error is the inner writer's
 abbrev pub WritesAllSteadily : {S P : Type 0} → WriteRules P → Buffered S P → Result (Unit {0}) Error → Buffered S P
@@ -101,11 +101,11 @@ WritesAllSteadily rules s answer t =
     (rules.claims s.policy).steady ≡ true → IfErr answer (WriterStopped s.log.writes t.log.writes)
 
 -- one write, with this answer
-pub record OneWrite {S P : Type 0} (tells : S → StreamLog) (stretch : S → S → Type 0) (rules : WriteRules P)
+pub record OneWrite {S P : Type 0} (tells : S → StreamLog) (trace : S → S → Type 0) (rules : WriteRules P)
     (s : Buffered S P) (bs : List ℕ) (answer : Result ℕ Error) (t : Buffered S P) : Type 0 where
   pub steps : Writes rules s bs answer t
   pub whole : IsBlock s.block × IsBlock t.block
-  pub went : InnerWent tells stretch s t
+  pub went : InnerWent tells trace s t
 
 -- the policy was asked before so many incoming bytes and answered this amount, and nothing else was done
 pub record AskedFirst {S P : Type 0} (tells : S → StreamLog) (rules : WriteRules P) (incoming amount : ℕ)

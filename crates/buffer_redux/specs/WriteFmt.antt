@@ -14,19 +14,19 @@ use Rattle.buffer_redux.specs.WriteAll.{WriteAllErrorCaused, WritesAll, WritesAl
 abbrev pub IsFormatError : Error → Type 0
 IsFormatError e = error_kind e ≡ Uncategorized
 
-module _ {S P : Type 0} (tells : S → StreamLog) (stretch : S → S → Type 0) (rules : WriteRules P) where
+module _ {S P : Type 0} (tells : S → StreamLog) (trace : S → S → Type 0) (rules : WriteRules P) where
   -- these pieces were written, one after another, each by a `write_all` of it, and nothing else was done
   abbrev pub WritesEach : Buffered S P → List (List ℕ) → Buffered S P → Type 0
   WritesEach s [] t = s ≡ t
   WritesEach s (piece ∷ pieces) t =
-      (m : Buffered S P) × WritesAll tells stretch rules s piece (Ok tt) m × WritesEach m pieces t
+      (m : Buffered S P) × WritesAll tells trace rules s piece (Ok tt) m × WritesEach m pieces t
 
   -- these bytes were accepted, piece by piece
   pub record WritesPieces (s : Buffered S P) (bytes : List ℕ) (t : Buffered S P) : Type 0 where
     pub pieces : List (List ℕ)
     pub all : concat pieces ≡ bytes
     pub each : WritesEach s pieces t
-    pub along : WritesAlong tells stretch rules s bytes t
+    pub along : WritesAlong tells trace rules s bytes t
 
   -- some bytes were accepted so, and then the write of all of a piece ended with this error
   pub record PieceFailed (s : Buffered S P) (e : Error) (t : Buffered S P) : Type 0 where
@@ -34,8 +34,8 @@ module _ {S P : Type 0} (tells : S → StreamLog) (stretch : S → S → Type 0)
     pub last : Buffered S P
     pub went : WritesPieces s before last
     pub piece : List ℕ
-    pub steps : WritesAll tells stretch rules last piece (Err e) t
-    pub caused : WriteAllErrorCaused tells stretch rules last piece (Err e) t
+    pub steps : WritesAll tells trace rules last piece (Err e) t
+    pub caused : WriteAllErrorCaused tells trace rules last piece (Err e) t
     pub steadily : WritesAllSteadily rules last (Err e) t
 
   -- just a beginning of the text was accepted, and that piece was one of the text's
@@ -46,7 +46,7 @@ module _ {S P : Type 0} (tells : S → StreamLog) (stretch : S → S → Type 0)
     pub accepted : List ℕ
     pub more : List ℕ
     pub all : text ≡ accepted ++ more
-    pub along : WritesAlong tells stretch rules s accepted t
+    pub along : WritesAlong tells trace rules s accepted t
 
   -- a text went so far, whatever is known of it: pieces were written, and the write of one more failed, where there is an error
   abbrev pub TextWent : Buffered S P → Option Error → Buffered S P → Type 0
@@ -61,7 +61,7 @@ module _ {S P : Type 0} (tells : S → StreamLog) (stretch : S → S → Type 0)
   -- pieces and did nothing else: some bytes were accepted, and none was lost
   pub record WritesText (s : Buffered S P) (text : Option (List ℕ)) (answer : Result (Unit {0}) Error) (t : Buffered S P)
       : Type 0 where
-    pub along : ∥ ((accepted : List ℕ) × WritesAlong tells stretch rules s accepted t) ∥₁
+    pub along : ∥ ((accepted : List ℕ) × WritesAlong tells trace rules s accepted t) ∥₁
     pub went : MatchResult answer (λ _. ∥ TextWent s None t ∥₁) (λ e. ∥ (FormatFailed s e t ⊎ PieceFailed s e t) ∥₁)
     pub whole : OnOk answer (IfSome text (λ bytes. WritesPieces s bytes t))
     pub beginning : IfErr answer (λ e. IfSome text (λ bytes. IsFormatError e ⊎ StoppedIn s bytes e t))

@@ -27,12 +27,12 @@ abbrev pub PartsRefused : {S P : Type 0} → ℕ → Buffered S P → Error → 
 PartsRefused count s e t = SendErrorCaused s.log.writes t.log.writes e
     ⊎ ((more : ℕ) × (more ≤ count) × GrowthFailed more t.block e)
 
-module _ {S P : Type 0} (tells : S → StreamLog) (stretch : S → S → Type 0) where
+module _ {S P : Type 0} (tells : S → StreamLog) (trace : S → S → Type 0) where
   -- all that was buffered was sent, and then there was room for so many bytes, or it was refused
   pub record MakesPlace (count : ℕ) (s : Buffered S P) (answer : Result (Unit {0}) Error) (t : Buffered S P) : Type 0 where
     pub sending : Result (Unit {0}) Error
     pub left : Buffered S P
-    pub sent : WasSent tells stretch s sending left
+    pub sent : WasSent tells trace s sending left
     pub others : t ≡ with_block left t.block
     pub kept : KeepsBytes left.block t.block
     pub room : OnOk answer (count ≤ usable t.block)
@@ -43,11 +43,11 @@ module _ {S P : Type 0} (tells : S → StreamLog) (stretch : S → S → Type 0)
   -- all of these bytes were taken in, or nothing was; where they fit the inner writer isn't called, and else what was buffered
   -- is sent, once
   pub record WritesParts (s : Buffered S P) (bytes : List ℕ) (answer : Result (Unit {0}) Error) (t : Buffered S P) : Type 0 where
-    pub along : MatchResult answer (λ _. WritesAlong tells stretch std_write_rules s bytes t)
-        (λ e. WritesAlong tells stretch std_write_rules s [] t)
+    pub along : MatchResult answer (λ _. WritesAlong tells trace std_write_rules s bytes t)
+        (λ e. WritesAlong tells trace std_write_rules s [] t)
     pub fits : length bytes ≤ usable s.block → IsOk answer × (t.log ≡ s.log)
     pub calls : (t.log ≡ s.log)
         ⊎ ((sending : Result (Unit {0}) Error) × (left : Buffered S P)
-        × WasSent tells stretch s sending left × (t.log ≡ left.log))
+        × WasSent tells trace s sending left × (t.log ≡ left.log))
     pub caused : IfErr answer (λ e. PartsRefused (length bytes) s e t)
     pub whole : IsBlock t.block

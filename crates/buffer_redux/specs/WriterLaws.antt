@@ -16,7 +16,7 @@ use Rattle.buffer_redux.specs.Policy.{WriteRules}
 use Rattle.buffer_redux.specs.Buffered.{Buffered, GoesPast, StaysInside, InnerWent}
 use Rattle.buffer_redux.specs.BufWriter.{WritesInOrder, FlushesAmount, Wrote}
 
--- no call accepts nothing, and two stretches of calls join
+-- no call accepts nothing, and two traces of calls join
 pub WritesInOrder-none : {S P : Type 0} (s : Buffered S P) → WritesInOrder s [] s
 WritesInOrder-none s =
     record { sent = []; received = sym (append-nil s.log.writes.received); equal = sym (append-nil s.block.bytes) }
@@ -74,11 +74,11 @@ WritesInOrder-piece s m t bytes at n within before wrote =
     (WritesInOrder-joins s m t (take at bytes) (take n (drop at bytes)) before
     (subst (λ l. WritesInOrder m (take n l) t) rest wrote))
 
--- two stretches of calls of the stream inside join
-pub InnerWent-joins : {S P : Type 0} (tells : S → StreamLog) (stretch : S → S → Type 0)
-    → ((u v w : S) → stretch u v → stretch v w → stretch u w) → (a b c : Buffered S P)
-    → InnerWent tells stretch a b → InnerWent tells stretch b c → InnerWent tells stretch a c
-InnerWent-joins tells stretch joins a b c p q = record {
+-- two traces of calls of the stream inside join
+pub InnerWent-joins : {S P : Type 0} (tells : S → StreamLog) (trace : S → S → Type 0)
+    → ((u v w : S) → trace u v → trace v w → trace u w) → (a b c : Buffered S P)
+    → InnerWent tells trace a b → InnerWent tells trace b c → InnerWent tells trace a c
+InnerWent-joins tells trace joins a b c p q = record {
   calls = joins a.inner b.inner c.inner p.calls q.calls;
   told_before = p.told_before;
   told_after = q.told_after;

@@ -41,9 +41,9 @@ TellsFailures rules p = ((rules.claims p).steady ≡ true) × FlushesNothingAfte
 -- the lists and counts only go on, its own and the inner writer's, which was flushed no more often than it was itself. Under
 -- a steady policy it failed no more often than the inner writer; and where no failure is kept back, the inner writer was at
 -- most interrupted where it was so itself
-pub record WriterWent {S P : Type 0} (stretch : S → S → Type 0) (rules : WriteRules P) (s t : Buffered S P)
+pub record WriterWent {S P : Type 0} (trace : S → S → Type 0) (rules : WriteRules P) (s t : Buffered S P)
     : Type 0 where
-  pub inner : stretch s.inner t.inner
+  pub inner : trace s.inner t.inner
   pub grows : WriteLogGrows s.log.writes t.log.writes
   pub own_grows : WriteLogGrows (writer_log s).writes (writer_log t).writes
   pub capacity : s.block.capacity ≤ t.block.capacity
@@ -79,8 +79,8 @@ pub record WriterCalled {S P : Type 0} (rules : WriteRules P) (s t : Buffered S 
       → t.own_calls.writes.zero_writes ≡ s.own_calls.writes.zero_writes + 1
       → (interrupts : List Error) × TookNothing interrupts s.log.writes t.log.writes WriteZero
 
-module _ {S P : Type 0} (stretch : S → S → Type 0) (rules : WriteRules P) where
-  -- the interrupted calls of a stretch are those of its parts
+module _ {S P : Type 0} (trace : S → S → Type 0) (rules : WriteRules P) where
+  -- the interrupted calls of a trace are those of its parts
   parts_of : (a b c : Buffered S P) → WriteLogGrows (writer_log a).writes (writer_log b).writes
       → WriteLogGrows (writer_log b).writes (writer_log c).writes → MetInterrupts a.own_calls.writes c.own_calls.writes
       → MetInterrupts a.own_calls.writes b.own_calls.writes × MetInterrupts b.own_calls.writes c.own_calls.writes
@@ -112,7 +112,7 @@ module _ {S P : Type 0} (stretch : S → S → Type 0) (rules : WriteRules P) wh
         },
       )
 
-  pub WriterWent-none : ((w : S) → stretch w w) → (s : Buffered S P) → WriterWent stretch rules s s
+  pub WriterWent-none : ((w : S) → trace w w) → (s : Buffered S P) → WriterWent trace rules s s
   WriterWent-none none s = record {
     inner = none s.inner;
     grows = WriteLogGrows-none s.log.writes;
@@ -125,8 +125,8 @@ module _ {S P : Type 0} (stretch : S → S → Type 0) (rules : WriteRules P) wh
     met = λ tells only. record { interrupts = []; only = OnlyInterrupted-none s.log.writes };
   }
 
-  pub WriterWent-joins : ((u v w : S) → stretch u v → stretch v w → stretch u w) → (a b c : Buffered S P)
-      → WriterWent stretch rules a b → WriterWent stretch rules b c → WriterWent stretch rules a c
+  pub WriterWent-joins : ((u v w : S) → trace u v → trace v w → trace u w) → (a b c : Buffered S P)
+      → WriterWent trace rules a b → WriterWent trace rules b c → WriterWent trace rules a c
   WriterWent-joins joins a b c p q =
       let still : TellsFailures rules a.policy → TellsFailures rules b.policy =
       λ tells. (ap (λ x. x.steady) p.claims ∙ tells.0, tells.1) in
@@ -151,6 +151,6 @@ module _ {S P : Type 0} (stretch : S → S → Type 0) (rules : WriteRules P) wh
             (p.met tells (parts only).0) (q.met (still tells) (parts only).1);
       }
 
-  pub WriterWent-grows : (s t : Buffered S P) → WriterWent stretch rules s t
+  pub WriterWent-grows : (s t : Buffered S P) → WriterWent trace rules s t
       → WritesGoOn (writer_log s) (writer_log t)
   WriterWent-grows s t went = WritesGoOn-of (writer_log s) (writer_log t) went.own_grows

@@ -1,4 +1,4 @@
--- Laws of stretches of a writer's calls, for the proofs of those who make them.
+-- Laws of traces of a writer's calls, for the proofs of those who make them.
 use Rattle.std.specs.Prelude.{◌≡◌, ℕ, ◌⊎◌, List, [], ◌∷◌, ◌++◌, length, take, drop, Result, Ok, Err, Option, true}
 use Rattle.std.proofs.Common.{sym, ap, subst, refl, ◌∙◌, arith, inl, inr, le_refl, le_trans, append_assoc, append-nil, take-append-drop}
 use Rattle.std.proofs.Math.Seq.{take-length}
@@ -24,7 +24,7 @@ goes_on : (s t : StreamLog) → WritesGoOn s t → WriteLogGrows s.writes t.writ
 unfolding WritesGoOn
 goes_on s t grows = grows
 
--- what was interrupted in a part of a stretch was so in the whole
+-- what was interrupted in a part of a trace was so in the whole
 pub WasInterrupted-after : (a b c : WriteLog) → WriteLogGrows a b → WasInterrupted b c → WasInterrupted a c
 WasInterrupted-after a b c grows was = record {
   before = grows.faults.more ++ was.before;
@@ -59,7 +59,7 @@ WasInterrupted-send old new e is s = elim s.cause [
   }
 ]
 
--- what ended a later stretch ended the whole
+-- what ended a later trace ended the whole
 pub WriterStopped-after : (a b c : WriteLog) (e : Error) → WriteLogGrows a b → WriterStopped b c e → WriterStopped a c e
 WriterStopped-after a b c e grows (inl fault) = inl (record {
   before = grows.faults.more ++ fault.before;
@@ -93,9 +93,9 @@ WriterStopped-memory w old e (inr (inr late)) =
     absurd (cc)
 
 -- a flush to a writer in memory failed for want of memory
-pub WasFlushed-memory : {P : Type 0} (stretch : MemoryWriter → MemoryWriter → Type 0) (s t : Buffered MemoryWriter P)
-    (e : Error) → WasFlushed writer_log stretch s (Err e) t → IsMemory e
-WasFlushed-memory stretch s t e f = send-memory t.inner s.log.writes e
+pub WasFlushed-memory : {P : Type 0} (trace : MemoryWriter → MemoryWriter → Type 0) (s t : Buffered MemoryWriter P)
+    (e : Error) → WasFlushed writer_log trace s (Err e) t → IsMemory e
+WasFlushed-memory trace s t e f = send-memory t.inner s.log.writes e
     (subst (λ l. SendErrorCaused s.log.writes l.writes e) f.went.told_after f.caused)
 
 -- the same list is no longer, and the same count no larger
@@ -115,9 +115,9 @@ WriteErrorCaused-failed rules s bs e t caused failed = of caused
         absurd (nothing_failed s.log.writes t.log.writes (ap (λ l. l.writes) refused.told) failed)
     of (inr sent) = WriterStopped-send s.log.writes t.log.writes e sent
 
-module _ {S P : Type 0} (tells : S → StreamLog) (stretch : S → S → Type 0) (rules : WriteRules P) where
+module _ {S P : Type 0} (tells : S → StreamLog) (trace : S → S → Type 0) (rules : WriteRules P) where
   -- no call accepts nothing
-  pub WritesAlong-none : ((u : S) → stretch u u) → (s : Buffered S P) → WritesAlong tells stretch rules s [] s
+  pub WritesAlong-none : ((u : S) → trace u u) → (s : Buffered S P) → WritesAlong tells trace rules s [] s
   WritesAlong-none none s = record {
     in_order = WritesInOrder-none s;
     calls = none s.inner;
@@ -130,18 +130,18 @@ module _ {S P : Type 0} (tells : S → StreamLog) (stretch : S → S → Type 0)
   }
 
   pub WritesAlong-went : (s t : Buffered S P) (a : List ℕ) → s.log ≡ tells s.inner
-      → WritesAlong tells stretch rules s a t → InnerWent tells stretch s t
+      → WritesAlong tells trace rules s a t → InnerWent tells trace s t
   WritesAlong-went s t a is p =
       record { calls = p.calls; told_before = is; told_after = p.told is; noted = p.noted }
 
   -- a steady policy stays one
-  pub WritesAlong-steady : (s t : Buffered S P) (a : List ℕ) → WritesAlong tells stretch rules s a t
+  pub WritesAlong-steady : (s t : Buffered S P) (a : List ℕ) → WritesAlong tells trace rules s a t
       → (rules.claims s.policy).steady ≡ true → (rules.claims t.policy).steady ≡ true
   WritesAlong-steady s t a p steady = ap (λ c. c.steady) p.claims ∙ steady
 
   -- a call that says what it accepted and what it keeps, as `write` does, whatever it answers
   pub WriterKeeps-along : (s : Buffered S P) (accepted : List ℕ) (t : Buffered S P) → WritesInOrder s accepted t
-      → WriterKeeps tells stretch rules s t → WritesAlong tells stretch rules s accepted t
+      → WriterKeeps tells trace rules s t → WritesAlong tells trace rules s accepted t
   WriterKeeps-along s accepted t order keeps = record {
     in_order = order;
     calls = keeps.went.calls;
@@ -153,14 +153,14 @@ module _ {S P : Type 0} (tells : S → StreamLog) (stretch : S → S → Type 0)
     claims = keeps.claims;
   }
 
-  -- a stretch that accepted the first of these bytes
-  pub BegunAlong-of : (s t : Buffered S P) (a more : List ℕ) → WritesAlong tells stretch rules s a t
-      → BegunAlong tells stretch rules s (a ++ more) t
+  -- a trace that accepted the first of these bytes
+  pub BegunAlong-of : (s t : Buffered S P) (a more : List ℕ) → WritesAlong tells trace rules s a t
+      → BegunAlong tells trace rules s (a ++ more) t
   BegunAlong-of s t a more p = record { accepted = a; more = more; all = refl; along = p }
 
   -- a beginning of some bytes is one of more
-  pub BegunAlong-more : (s t : Buffered S P) (a more : List ℕ) → BegunAlong tells stretch rules s a t
-      → BegunAlong tells stretch rules s (a ++ more) t
+  pub BegunAlong-more : (s t : Buffered S P) (a more : List ℕ) → BegunAlong tells trace rules s a t
+      → BegunAlong tells trace rules s (a ++ more) t
   BegunAlong-more s t a more p = record {
     accepted = p.accepted;
     more = p.more ++ more;
@@ -169,21 +169,21 @@ module _ {S P : Type 0} (tells : S → StreamLog) (stretch : S → S → Type 0)
   }
 
   -- where a call stopped, it did so before more bytes
-  pub StoppedAlong-more : (s t : Buffered S P) (a more : List ℕ) (e : Error) → StoppedAlong tells stretch rules s a e t
-      → StoppedAlong tells stretch rules s (a ++ more) e t
+  pub StoppedAlong-more : (s t : Buffered S P) (a more : List ℕ) (e : Error) → StoppedAlong tells trace rules s a e t
+      → StoppedAlong tells trace rules s (a ++ more) e t
   StoppedAlong-more s t a more e p = record { begun = BegunAlong-more s t a more p.begun; why = p.why }
 
   -- whatever the cause
   pub AllAlong-front : {A : Type 0} (s t : Buffered S P) (a : List ℕ) (answer : Result A Error)
-      → AllAlong tells stretch rules s a answer t → FrontAlong tells stretch rules s a answer t
+      → AllAlong tells trace rules s a answer t → FrontAlong tells trace rules s a answer t
   AllAlong-front s t a (Ok x) p = p
   AllAlong-front s t a (Err e) p = p.begun
 
   -- the same with why it failed, under a steady policy
   pub Writes-all : (s : Buffered S P) (bs : List ℕ) (answer : Result ℕ Error) (t : Buffered S P)
       → WritesInOrder s (portion bs answer) t → WriteErrorCaused rules s bs answer t
-      → WritesSteadily rules s (length bs) answer t → WriterKeeps tells stretch rules s t
-      → (rules.claims s.policy).steady ≡ true → AllAlong tells stretch rules s (portion bs answer) answer t
+      → WritesSteadily rules s (length bs) answer t → WriterKeeps tells trace rules s t
+      → (rules.claims s.policy).steady ≡ true → AllAlong tells trace rules s (portion bs answer) answer t
   Writes-all s bs (Ok n) t order caused steadily keeps steady = WriterKeeps-along s (take n bs) t order keeps
   Writes-all s bs (Err e) t order caused steadily keeps steady = record {
     begun = BegunAlong-of s t [] [] (WriterKeeps-along s [] t order keeps);
@@ -192,16 +192,16 @@ module _ {S P : Type 0} (tells : S → StreamLog) (stretch : S → S → Type 0)
 
   -- a write of all bytes, which at Err accepted some of the first
   pub WritesAll-along : (s : Buffered S P) (bs : List ℕ) (answer : Result (Unit {0}) Error) (t : Buffered S P)
-      → (all : WritesAll tells stretch rules s bs answer t) → WritesAlong tells stretch rules s (take all.count bs) t
+      → (all : WritesAll tells trace rules s bs answer t) → WritesAlong tells trace rules s (take all.count bs) t
   WritesAll-along s bs answer t all = WriterKeeps-along s (take all.count bs) t all.front.in_order all.front.keeps
 
   pub WritesAll-took : (s : Buffered S P) (bs : List ℕ) (x : Unit {0}) (t : Buffered S P)
-      → WritesAll tells stretch rules s bs (Ok x) t → WritesAlong tells stretch rules s bs t
-  WritesAll-took s bs x t all = subst (λ l. WritesAlong tells stretch rules s l t)
+      → WritesAll tells trace rules s bs (Ok x) t → WritesAlong tells trace rules s bs t
+  WritesAll-took s bs x t all = subst (λ l. WritesAlong tells trace rules s l t)
       (ap (λ n. take n bs) all.ended.0 ∙ take-length bs) (WritesAll-along s bs (Ok x) t all)
 
   pub WritesAll-front : (s : Buffered S P) (bs : List ℕ) (answer : Result (Unit {0}) Error) (t : Buffered S P)
-      → WritesAll tells stretch rules s bs answer t → FrontAlong tells stretch rules s bs answer t
+      → WritesAll tells trace rules s bs answer t → FrontAlong tells trace rules s bs answer t
   WritesAll-front s bs (Ok x) t all = WritesAll-took s bs x t all
   WritesAll-front s bs (Err e) t all = record {
     accepted = take all.count bs;
@@ -212,15 +212,15 @@ module _ {S P : Type 0} (tells : S → StreamLog) (stretch : S → S → Type 0)
 
   -- the same with why it failed, under a steady policy
   pub WritesAll-all : (s : Buffered S P) (bs : List ℕ) (answer : Result (Unit {0}) Error) (t : Buffered S P)
-      → WritesAll tells stretch rules s bs answer t → WritesAllSteadily rules s answer t
-      → (rules.claims s.policy).steady ≡ true → AllAlong tells stretch rules s bs answer t
+      → WritesAll tells trace rules s bs answer t → WritesAllSteadily rules s answer t
+      → (rules.claims s.policy).steady ≡ true → AllAlong tells trace rules s bs answer t
   WritesAll-all s bs (Ok x) t all steadily steady = WritesAll-took s bs x t all
   WritesAll-all s bs (Err e) t all steadily steady =
       record { begun = WritesAll-front s bs (Err e) t all; why = steadily steady }
 
   -- a flush accepts nothing, whatever it answers
   pub WasFlushed-along : (s : Buffered S P) (answer : Result (Unit {0}) Error) (t : Buffered S P)
-      → WasFlushed tells stretch s answer t → WritesAlong tells stretch rules s [] t
+      → WasFlushed tells trace s answer t → WritesAlong tells trace rules s [] t
   WasFlushed-along s answer t f = record {
     in_order = f.in_order;
     calls = f.went.calls;
@@ -233,7 +233,7 @@ module _ {S P : Type 0} (tells : S → StreamLog) (stretch : S → S → Type 0)
   }
 
   pub WasFlushed-all : (s : Buffered S P) (answer : Result (Unit {0}) Error) (t : Buffered S P)
-      → WasFlushed tells stretch s answer t → AllAlong tells stretch rules s [] answer t
+      → WasFlushed tells trace s answer t → AllAlong tells trace rules s [] answer t
   WasFlushed-all s (Ok x) t f = WasFlushed-along s (Ok x) t f
   WasFlushed-all s (Err e) t f = record {
     begun = BegunAlong-of s t [] [] (WasFlushed-along s (Err e) t f);
@@ -241,9 +241,9 @@ module _ {S P : Type 0} (tells : S → StreamLog) (stretch : S → S → Type 0)
   }
 
   -- a send accepts nothing, whatever it answers
-  module _ (goes : (u v : S) → stretch u v → WritesGoOn (tells u) (tells v)) where
+  module _ (goes : (u v : S) → trace u v → WritesGoOn (tells u) (tells v)) where
     pub WasSent-along : (s : Buffered S P) (answer : Result (Unit {0}) Error) (t : Buffered S P)
-        → WasSent tells stretch s answer t → WritesAlong tells stretch rules s [] t
+        → WasSent tells trace s answer t → WritesAlong tells trace rules s [] t
     WasSent-along s answer t f = record {
       in_order = f.in_order;
       calls = f.went.calls;
@@ -256,17 +256,17 @@ module _ {S P : Type 0} (tells : S → StreamLog) (stretch : S → S → Type 0)
     }
 
     pub WasSent-all : (s : Buffered S P) (answer : Result (Unit {0}) Error) (t : Buffered S P)
-        → WasSent tells stretch s answer t → AllAlong tells stretch rules s [] answer t
+        → WasSent tells trace s answer t → AllAlong tells trace rules s [] answer t
     WasSent-all s (Ok x) t f = WasSent-along s (Ok x) t f
     WasSent-all s (Err e) t f = record {
       begun = BegunAlong-of s t [] [] (WasSent-along s (Err e) t f);
       why = WriterStopped-send s.log.writes t.log.writes e f.caused;
     }
 
-  -- stretches join
-  module _ (joins : (u v w : S) → stretch u v → stretch v w → stretch u w) where
-    pub WritesAlong-joins : (s m t : Buffered S P) (a b : List ℕ) → WritesAlong tells stretch rules s a m
-        → WritesAlong tells stretch rules m b t → WritesAlong tells stretch rules s (a ++ b) t
+  -- traces join
+  module _ (joins : (u v w : S) → trace u v → trace v w → trace u w) where
+    pub WritesAlong-joins : (s m t : Buffered S P) (a b : List ℕ) → WritesAlong tells trace rules s a m
+        → WritesAlong tells trace rules m b t → WritesAlong tells trace rules s (a ++ b) t
     WritesAlong-joins s m t a b p q = record {
       in_order = WritesInOrder-joins s m t a b p.in_order q.in_order;
       calls = joins s.inner m.inner t.inner p.calls q.calls;
@@ -278,15 +278,15 @@ module _ {S P : Type 0} (tells : S → StreamLog) (stretch : S → S → Type 0)
       claims = q.claims ∙ p.claims;
     }
 
-    -- a stretch that accepts nothing more
-    pub WritesAlong-then : (s m t : Buffered S P) (a : List ℕ) → WritesAlong tells stretch rules s a m
-        → WritesAlong tells stretch rules m [] t → WritesAlong tells stretch rules s a t
+    -- a trace that accepts nothing more
+    pub WritesAlong-then : (s m t : Buffered S P) (a : List ℕ) → WritesAlong tells trace rules s a m
+        → WritesAlong tells trace rules m [] t → WritesAlong tells trace rules s a t
     WritesAlong-then s m t a p q =
-        subst (λ l. WritesAlong tells stretch rules s l t) (append-nil a) (WritesAlong-joins s m t a [] p q)
+        subst (λ l. WritesAlong tells trace rules s l t) (append-nil a) (WritesAlong-joins s m t a [] p q)
 
     -- a beginning behind what was accepted
-    pub BegunAlong-after : (s m t : Buffered S P) (a b : List ℕ) → WritesAlong tells stretch rules s a m
-        → BegunAlong tells stretch rules m b t → BegunAlong tells stretch rules s (a ++ b) t
+    pub BegunAlong-after : (s m t : Buffered S P) (a b : List ℕ) → WritesAlong tells trace rules s a m
+        → BegunAlong tells trace rules m b t → BegunAlong tells trace rules s (a ++ b) t
     BegunAlong-after s m t a b p q = record {
       accepted = a ++ q.accepted;
       more = q.more;
@@ -295,34 +295,34 @@ module _ {S P : Type 0} (tells : S → StreamLog) (stretch : S → S → Type 0)
     }
 
     pub FrontAlong-after : {A E : Type 0} (s m t : Buffered S P) (a b : List ℕ) (answer : Result A E)
-        → WritesAlong tells stretch rules s a m → FrontAlong tells stretch rules m b answer t
-        → FrontAlong tells stretch rules s (a ++ b) answer t
+        → WritesAlong tells trace rules s a m → FrontAlong tells trace rules m b answer t
+        → FrontAlong tells trace rules s (a ++ b) answer t
     FrontAlong-after s m t a b (Ok x) p q = WritesAlong-joins s m t a b p q
     FrontAlong-after s m t a b (Err e) p q = BegunAlong-after s m t a b p q
 
-    -- where a later stretch stopped, the whole did
-    pub StoppedAlong-after : (s m t : Buffered S P) (a b : List ℕ) (e : Error) → WritesAlong tells stretch rules s a m
-        → StoppedAlong tells stretch rules m b e t → StoppedAlong tells stretch rules s (a ++ b) e t
+    -- where a later trace stopped, the whole did
+    pub StoppedAlong-after : (s m t : Buffered S P) (a b : List ℕ) (e : Error) → WritesAlong tells trace rules s a m
+        → StoppedAlong tells trace rules m b e t → StoppedAlong tells trace rules s (a ++ b) e t
     StoppedAlong-after s m t a b e p q = record {
       begun = BegunAlong-after s m t a b p q.begun;
       why = WriterStopped-after s.log.writes m.log.writes t.log.writes e p.grows q.why;
     }
 
     pub AllAlong-after : {A : Type 0} (s m t : Buffered S P) (a b : List ℕ) (answer : Result A Error)
-        → WritesAlong tells stretch rules s a m → AllAlong tells stretch rules m b answer t
-        → AllAlong tells stretch rules s (a ++ b) answer t
+        → WritesAlong tells trace rules s a m → AllAlong tells trace rules m b answer t
+        → AllAlong tells trace rules s (a ++ b) answer t
     AllAlong-after s m t a b (Ok x) p q = WritesAlong-joins s m t a b p q
     AllAlong-after s m t a b (Err e) p q = StoppedAlong-after s m t a b e p q
 
     -- nothing more was to be accepted
-    pub StoppedAlong-then : (s m t : Buffered S P) (a : List ℕ) (e : Error) → WritesAlong tells stretch rules s a m
-        → StoppedAlong tells stretch rules m [] e t → StoppedAlong tells stretch rules s a e t
+    pub StoppedAlong-then : (s m t : Buffered S P) (a : List ℕ) (e : Error) → WritesAlong tells trace rules s a m
+        → StoppedAlong tells trace rules m [] e t → StoppedAlong tells trace rules s a e t
     StoppedAlong-then s m t a e p q =
-        subst (λ l. StoppedAlong tells stretch rules s l e t) (append-nil a) (StoppedAlong-after s m t a [] e p q)
+        subst (λ l. StoppedAlong tells trace rules s l e t) (append-nil a) (StoppedAlong-after s m t a [] e p q)
 
     -- behind an Ok flush all is received and flushed
-    pub FlushedAlong-of : (s m t : Buffered S P) (a : List ℕ) (x : Unit {0}) → WritesAlong tells stretch rules s a m
-        → WasFlushed tells stretch m (Ok x) t → FlushedAlong tells stretch rules s a t
+    pub FlushedAlong-of : (s m t : Buffered S P) (a : List ℕ) (x : Unit {0}) → WritesAlong tells trace rules s a m
+        → WasFlushed tells trace m (Ok x) t → FlushedAlong tells trace rules s a t
     FlushedAlong-of s m t a x p f =
         let whole = WritesAlong-then s m t a p (WasFlushed-along m (Ok x) t f) in record {
           along = whole;
@@ -333,8 +333,8 @@ module _ {S P : Type 0} (tells : S → StreamLog) (stretch : S → S → Type 0)
         }
 
     pub AllFlushed-of : (s m t : Buffered S P) (a : List ℕ) (answer : Result (Unit {0}) Error)
-        → WritesAlong tells stretch rules s a m → WasFlushed tells stretch m answer t
-        → AllFlushed tells stretch rules s a answer t
+        → WritesAlong tells trace rules s a m → WasFlushed tells trace m answer t
+        → AllFlushed tells trace rules s a answer t
     AllFlushed-of s m t a (Ok x) p f = FlushedAlong-of s m t a x p f
     AllFlushed-of s m t a (Err e) p f = StoppedAlong-then s m t a e p (WasFlushed-all m (Err e) t f)
 

@@ -8,7 +8,7 @@ use std::io::ErrorKind;
 // How many bytes further such a call goes on after a turn with this answer. Where the turn did nothing, that ends the call
 // with an error of the kind `nothing`.
 #[inline(always)]
-pub(crate) fn further(answer: io::Result<usize>, nothing: ErrorKind) -> io::Result<usize>
+pub(crate) fn progress(answer: io::Result<usize>, nothing: ErrorKind) -> io::Result<usize>
     ensures { MatchResult result (GoesBy answer) (EndsBy nothing answer) }
 {
     match answer {

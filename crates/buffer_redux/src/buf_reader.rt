@@ -217,18 +217,18 @@ impl<R: Tell, P> BufReader<R, P> {
         self.buf.make_room();
     }
 
-    /// Makes sure that `a` more bytes can be read into the buffer behind those that it holds. A refusal changes nothing.
-    pub fn reserve(&mut self, a: usize) -> Result<(), GrowError>
-        ensures grown { OnOk result (Reserves a self.old.block self.new.block) }
+    /// Makes sure that `additional` more bytes can be read into the buffer behind those that it holds. A refusal changes nothing.
+    pub fn reserve(&mut self, additional: usize) -> Result<(), GrowError>
+        ensures grown { OnOk result (Reserves additional self.old.block self.new.block) }
         ensures unchanged { OnErr result (self.new ≡ self.old) }
-        ensures limit { FitsWithin result (capacity_for self.old.block a) self.old.block.limit }
-        ensures succeeds { a ≤ usable self.old.block → IsOk result }
+        ensures limit { FitsWithin result (capacity_for self.old.block additional) self.old.block.limit }
+        ensures succeeds { additional ≤ usable self.old.block → IsOk result }
         ensures in_order { ReadsInOrder self.old [] self.new }
         ensures spared { (keep : ℕ) → Spared keep self.old self.new }
         ensures others { self.new ≡ with_block self.old self.new.block }
         ensures whole { IsBlock self.new.block }
     {
-        self.buf.reserve(a)
+        self.buf.reserve(additional)
     }
 
     /// The inner reader. The bytes that are left in the buffer are gone, and the policy is dropped;
@@ -300,7 +300,7 @@ impl<R: TellRead, P: ReaderPolicy> Read for BufReader<R, P> {
             return self.inner.read_told(out);
         }
         if self.policy.before_read(&mut self.buf)?.0 && self.buf.usable_space() > 0 {
-            return self.read_aside(out);
+            return self.read_outlined(out);
         }
         Ok(self.hand_out(out))
     }
@@ -322,17 +322,17 @@ impl<R: TellRead, P: ReaderPolicy> Read for BufReader<R, P> {
         // The first test is for the compiler alone: an empty buffer has fewer bytes than any slice that isn't empty, but of that
         // it asks again in the policy.
         if self.buf.is_empty() || self.buf.len() < out.len() || out.is_empty() {
-            return self.read_rest_aside(out);
+            return self.read_rest_outlined(out);
         }
         match self.policy.before_read(&mut self.buf) {
             Ok(DoRead(more)) => {
                 if more {
-                    return self.read_ordered_aside(out);
+                    return self.read_ordered_outlined(out);
                 }
                 let _count = self.hand_out(out);
                 Ok(())
             }
-            Err(e) => self.read_on_aside(e, out),
+            Err(e) => self.read_on_outlined(e, out),
         }
     }
 }

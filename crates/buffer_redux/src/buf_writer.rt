@@ -194,17 +194,17 @@ impl<W: TellWrite, P> BufWriter<W, P> {
         self.buf.make_room();
     }
 
-    /// Makes sure that `a` more bytes fit behind those that are buffered. A refusal changes nothing.
-    pub fn reserve(&mut self, a: usize) -> Result<(), GrowError>
-        ensures grown { OnOk result (Reserves a self.old.block self.new.block) }
+    /// Makes sure that `additional` more bytes fit behind those that are buffered. A refusal changes nothing.
+    pub fn reserve(&mut self, additional: usize) -> Result<(), GrowError>
+        ensures grown { OnOk result (Reserves additional self.old.block self.new.block) }
         ensures unchanged { OnErr result (self.new ≡ self.old) }
-        ensures limit { FitsWithin result (capacity_for self.old.block a) self.old.block.limit }
-        ensures succeeds { a ≤ usable self.old.block → IsOk result }
+        ensures limit { FitsWithin result (capacity_for self.old.block additional) self.old.block.limit }
+        ensures succeeds { additional ≤ usable self.old.block → IsOk result }
         ensures in_order { WritesInOrder self.old [] self.new }
         ensures others { self.new ≡ with_block self.old self.new.block }
         ensures whole { IsBlock self.new.block }
     {
-        self.buf.reserve(a)
+        self.buf.reserve(additional)
     }
 
     /// Sends all that is buffered, without a flush of the inner writer. Where that fails, just what the inner writer took is
@@ -212,7 +212,7 @@ impl<W: TellWrite, P> BufWriter<W, P> {
     ///
     /// The original has no such call: it sends all only where it flushes too.
     pub fn send(&mut self) -> io::Result<()>
-        ensures sent { WasSent W.log W.stretch self.old result self.new }
+        ensures sent { WasSent W.log W.trace self.old result self.new }
     {
         self.buf.write_all(&mut self.inner)
     }
@@ -222,7 +222,7 @@ impl<W: TellWrite, P> BufWriter<W, P> {
     fn flush_amount(&mut self, amount: usize) -> io::Result<()>
         ensures flushed { FlushesAmount amount self.old result self.new }
         ensures whole { IsBlock self.new.block }
-        ensures stretch { InnerWent W.log W.stretch self.old self.new }
+        ensures trace { InnerWent W.log W.trace self.old self.new }
     {
         if amount == 0 || amount > self.buf.len() {
             return Ok(());
@@ -230,24 +230,24 @@ impl<W: TellWrite, P> BufWriter<W, P> {
         self.send_first(amount)
     }
 
-    // Inlined, as `write_aside` is.
+    // Inlined, as `write_outlined` is.
     #[inline(always)]
     fn send_first(&mut self, amount: usize) -> io::Result<()>
         requires some { 0 < amount }
         requires within { amount ≤ length self.old.block.bytes }
         ensures flushed { FlushesAmount amount self.old result self.new }
         ensures whole { IsBlock self.new.block }
-        ensures stretch { InnerWent W.log W.stretch self.old self.new }
+        ensures trace { InnerWent W.log W.trace self.old self.new }
     {
         self.buf.write_max(amount, &mut self.inner)
     }
 
     // Takes bytes in past an empty buffer that is no larger, and else copies those that fit.
     #[inline(always)]
-    fn take_in(&mut self, bytes: &[u8]) -> io::Result<usize>
+    fn append_or_write(&mut self, bytes: &[u8]) -> io::Result<usize>
         ensures took_in { TakesIn bytes.now self.old result self.new }
         ensures whole { IsBlock self.new.block }
-        ensures stretch { InnerWent W.log W.stretch self.old self.new }
+        ensures trace { InnerWent W.log W.trace self.old self.new }
     {
         if self.buf.is_empty() && bytes.len() >= self.buf.capacity() {
             return self.inner.write_told(bytes);
@@ -265,7 +265,7 @@ impl<W: TellWrite, P: WriterPolicy> BufWriter<W, P> {
     fn flush_after(&mut self)
         ensures finished { Finished P.rules self.old self.new }
         ensures whole { IsBlock self.new.block }
-        ensures stretch { InnerWent W.log W.stretch self.old self.new }
+        ensures trace { InnerWent W.log W.trace self.old self.new }
     {
         let FlushAmt(last) = self.policy.after_write(&self.buf);
         let _ = self.flush_amount(last);
@@ -291,18 +291,18 @@ impl<W: TellWrite, P: WriterPolicy> Write for BufWriter<W, P> {
             → EmptyWriteCaused P.rules self.old bytes.now self.new }
         ensures steadily { WritesSteadily P.rules self.old (length bytes.now) result self.new }
         ensures steps { Writes P.rules self.old bytes.now result self.new }
-        ensures keeps { WriterKeeps W.log W.stretch P.rules self.old self.new }
+        ensures keeps { WriterKeeps W.log W.trace P.rules self.old self.new }
     {
         // Asked before the policy is, so that a policy that asks the same isn't compiled into the caller.
         if !self.buf.has_space_behind(bytes.len()) {
-            return self.write_asking_aside(bytes);
+            return self.write_asking_outlined(bytes);
         }
         let FlushAmt(first) = self.policy.before_write(&mut self.buf, bytes.len())?;
         if first > 0 {
-            return self.write_aside(first, bytes);
+            return self.write_outlined(first, bytes);
         }
         if bytes.len() >= self.buf.usable_space() {
-            return self.write_aside(0, bytes);
+            return self.write_outlined(0, bytes);
         }
         // Nothing is sent first, and the bytes fit with room to spare.
         self.buf.append(bytes);
@@ -319,12 +319,12 @@ impl<W: TellWrite, P: WriterPolicy> Write for BufWriter<W, P> {
         ensures bytes { OnOk result (Appends (writer_contents self.old) (writer_contents self.new) bytes.now) }
         ensures in_order { OnOk result (WritesInOrder self.old bytes.now self.new) }
         ensures beginning { TookBeginning bytes.now self.old self.new }
-        ensures caused { WriteAllErrorCaused W.log W.stretch P.rules self.old bytes.now result self.new }
+        ensures caused { WriteAllErrorCaused W.log W.trace P.rules self.old bytes.now result self.new }
         ensures steadily { WritesAllSteadily P.rules self.old result self.new }
         ensures retried { IfErr result (λ e. error_kind e ≢ ErrorKind.Interrupted) }
         ensures whole { IsBlock self.new.block }
-        ensures steps { WritesAll W.log W.stretch P.rules self.old bytes.now result self.new }
-        ensures stretch { InnerWent W.log W.stretch self.old self.new }
+        ensures steps { WritesAll W.log W.trace P.rules self.old bytes.now result self.new }
+        ensures trace { InnerWent W.log W.trace self.old self.new }
     {
         if bytes.is_empty() {
             let _ = &self.buf;
@@ -332,22 +332,22 @@ impl<W: TellWrite, P: WriterPolicy> Write for BufWriter<W, P> {
         }
         // Asked before the policy is, so that a policy that asks the same isn't compiled into the caller.
         if !self.buf.has_space_behind(bytes.len()) {
-            return self.write_large_aside(bytes);
+            return self.write_large_outlined(bytes);
         }
         match self.policy.before_write(&mut self.buf, bytes.len()) {
             Ok(FlushAmt(first)) => {
                 if first > 0 {
-                    return self.write_rest_aside(first, bytes);
+                    return self.write_rest_outlined(first, bytes);
                 }
                 if self.buf.usable_space() <= bytes.len() {
-                    return self.write_rest_aside(0, bytes);
+                    return self.write_rest_outlined(0, bytes);
                 }
                 // Nothing is sent first, and the bytes fit with room to spare.
                 self.buf.append(bytes);
                 self.flush_after();
                 Ok(())
             }
-            Err(e) => self.write_on_aside(e, bytes),
+            Err(e) => self.write_on_outlined(e, bytes),
         }
     }
 
@@ -355,7 +355,7 @@ impl<W: TellWrite, P: WriterPolicy> Write for BufWriter<W, P> {
     /// buffered, and it isn't flushed.
     fn flush(&mut self) -> io::Result<()>
         ensures bytes { Keeps (writer_contents self.old) (writer_contents self.new) }
-        ensures flushed { WasFlushed W.log W.stretch self.old result self.new }
+        ensures flushed { WasFlushed W.log W.trace self.old result self.new }
     {
         self.send()?;
         self.inner.flush_told()
@@ -368,7 +368,7 @@ impl<W: TellWrite + TellSeek, P: WriterPolicy> Seek for BufWriter<W, P> {
     fn seek(&mut self, to: SeekFrom) -> io::Result<u64>
         ensures moves { SeekMoves None None None to result }
         ensures bytes { Keeps None None }
-        ensures sought { WasSought W.log W.stretch W.readies self.old to result self.new }
+        ensures sought { WasSought W.log W.trace W.readies self.old to result self.new }
     {
         self.flush()?;
         self.inner.seek_told(to)

@@ -146,23 +146,23 @@ impl<W: TellWrite> LineWriter<W> {
         self.writer.capacity()
     }
 
-    /// Makes sure that `a` more bytes fit behind those that are buffered. A refusal changes nothing.
-    pub fn reserve(&mut self, a: usize) -> Result<(), GrowError>
-        ensures grown { OnOk result (Reserves a self.old.block self.new.block) }
+    /// Makes sure that `additional` more bytes fit behind those that are buffered. A refusal changes nothing.
+    pub fn reserve(&mut self, additional: usize) -> Result<(), GrowError>
+        ensures grown { OnOk result (Reserves additional self.old.block self.new.block) }
         ensures unchanged { OnErr result (self.new ≡ self.old) }
-        ensures limit { FitsWithin result (capacity_for self.old.block a) self.old.block.limit }
-        ensures succeeds { a ≤ usable self.old.block → IsOk result }
+        ensures limit { FitsWithin result (capacity_for self.old.block additional) self.old.block.limit }
+        ensures succeeds { additional ≤ usable self.old.block → IsOk result }
         ensures in_order { WritesInOrder self.old [] self.new }
         ensures others { self.new ≡ with_block self.old self.new.block }
         ensures whole { IsBlock self.new.block }
     {
-        self.writer.reserve(a)
+        self.writer.reserve(additional)
     }
 
     /// Sends all that is buffered, without a flush of the inner writer. Where that fails, just what the inner writer took is
     /// no longer buffered, so the call can be made again.
     pub fn send(&mut self) -> io::Result<()>
-        ensures sent { WasSent W.log W.stretch self.old result self.new }
+        ensures sent { WasSent W.log W.trace self.old result self.new }
     {
         self.writer.send()
     }
@@ -190,7 +190,7 @@ impl<W: TellWrite> LineWriter<W> {
     /// the fault.
     pub fn into_inner(self) -> Result<W, IntoInnerError<Self>>
         ensures { MatchResult result
-            (InnerOfFlushed W.log W.stretch self (Ok tt)) (λ e. WasFlushed W.log W.stretch self (Err e.1) e.0) }
+            (InnerOfFlushed W.log W.trace self (Ok tt)) (λ e. WasFlushed W.log W.trace self (Err e.1) e.0) }
     {
         let LineWriter { writer } = self;
         match writer.into_inner() {
@@ -203,8 +203,8 @@ impl<W: TellWrite> LineWriter<W> {
     /// gone.
     pub fn into_inner_with_err(self) -> (W, Option<io::Error>)
         ensures { MatchOption result.1
-            (InnerOfFlushed W.log W.stretch self (Ok tt) result.0)
-            (λ e. InnerOfFlushed W.log W.stretch self (Err e) result.0) }
+            (InnerOfFlushed W.log W.trace self (Ok tt) result.0)
+            (λ e. InnerOfFlushed W.log W.trace self (Err e) result.0) }
     {
         let LineWriter { writer } = self;
         writer.into_inner_with_err()
@@ -215,7 +215,7 @@ impl<W: TellWrite> LineWriter<W> {
     #[inline(always)]
     pub fn write_fmt<D: Display + Drop>(&mut self, text: D) -> io::Result<()>
         ensures bytes { OnOk result (IfSome (D.output text) (Appends (writer_contents self.old) (writer_contents self.new))) }
-        ensures text { WritesText W.log W.stretch line_rules self.old (D.output text) result self.new }
+        ensures text { WritesText W.log W.trace line_rules self.old (D.output text) result self.new }
     {
         self.writer.write_fmt(text)
     }
@@ -225,7 +225,7 @@ impl<W: TellWrite> LineWriter<W> {
     pub fn finish<F: FnOnce(&mut W, &mut Buffer, io::Error)>(self, handler: F) -> (W, Buffer)
     where
         requires { F.IsAlwaysCallable handler }
-        ensures { SendsOrHandles W.log W.stretch (λ w b e w' b'. F.post handler w b e tt w' b') self result.0 result.1 }
+        ensures { SendsOrHandles W.log W.trace (λ w b e w' b'. F.post handler w b e tt w' b') self result.0 result.1 }
     {
         let LineWriter { writer } = self;
         writer.finish(handler)
@@ -245,7 +245,7 @@ impl<W: TellWrite> Write for LineWriter<W> {
             → EmptyWriteCaused line_rules self.old bytes.now self.new }
         ensures steadily { WritesSteadily line_rules self.old (length bytes.now) result self.new }
         ensures steps { Writes line_rules self.old bytes.now result self.new }
-        ensures keeps { WriterKeeps W.log W.stretch line_rules self.old self.new }
+        ensures keeps { WriterKeeps W.log W.trace line_rules self.old self.new }
     {
         self.writer.write(bytes)
     }
@@ -255,19 +255,19 @@ impl<W: TellWrite> Write for LineWriter<W> {
         ensures bytes { OnOk result (Appends (writer_contents self.old) (writer_contents self.new) bytes.now) }
         ensures in_order { OnOk result (WritesInOrder self.old bytes.now self.new) }
         ensures beginning { TookBeginning bytes.now self.old self.new }
-        ensures caused { WriteAllErrorCaused W.log W.stretch line_rules self.old bytes.now result self.new }
+        ensures caused { WriteAllErrorCaused W.log W.trace line_rules self.old bytes.now result self.new }
         ensures steadily { WritesAllSteadily line_rules self.old result self.new }
         ensures retried { IfErr result (λ e. error_kind e ≢ ErrorKind.Interrupted) }
         ensures whole { IsBlock self.new.block }
-        ensures steps { WritesAll W.log W.stretch line_rules self.old bytes.now result self.new }
-        ensures stretch { InnerWent W.log W.stretch self.old self.new }
+        ensures steps { WritesAll W.log W.trace line_rules self.old bytes.now result self.new }
+        ensures trace { InnerWent W.log W.trace self.old self.new }
     {
         self.writer.write_all(bytes)
     }
 
     fn flush(&mut self) -> io::Result<()>
         ensures bytes { Keeps (writer_contents self.old) (writer_contents self.new) }
-        ensures flushed { WasFlushed W.log W.stretch self.old result self.new }
+        ensures flushed { WasFlushed W.log W.trace self.old result self.new }
     {
         self.writer.flush()
     }

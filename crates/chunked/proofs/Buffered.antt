@@ -8,8 +8,8 @@ use Rattle.buffer_redux.specs.StreamLog.{StreamLog, after_read}
 use Rattle.chunked.specs.declared.progress.Progress.{Progress}
 use Rattle.chunked.specs.declared.unchunk.Unchunked.{Unchunked}
 use Rattle.chunked.specs.Between.{HandsFront, HandsOnBuffered, NoneLeft}
-use Rattle.chunked.specs.Dechunking.{Dechunking, HandsBuffered, HasNoneBuffered, IsDechunking, after_buffered}
-use Rattle.chunked.specs.DechunkingLaws.{IsWhole-done}
+use Rattle.chunked.specs.ChunkedReader.{ChunkedState, HandsBuffered, HasNoneBuffered, IsChunkedReader, after_buffered}
+use Rattle.chunked.specs.ChunkedReaderLaws.{IsWhole-done}
 use Rattle.chunked.specs.Place.{IsPlace, Leads}
 use Rattle.chunked.proofs.Payload.{body_went, breaks, seen, still_is}
 use Rattle.chunked.proofs.Skipping.{Notes}
@@ -61,19 +61,19 @@ module _ {S P : Type 0} (remaining : S → Option (List ℕ)) (rules : ReadRules
   given_buffered calls out zero = sym (append-nil calls.reads.given)
   given_buffered calls out (suc n) = refl
 
-  has_none : (t : Dechunking S P) → IsDechunking t → NoneLeft t.limits t.place t.reader.block.bytes → HasNoneBuffered t
+  has_none : (t : ChunkedState S P) → IsChunkedReader t → NoneLeft t.limits t.place t.reader.block.bytes → HasNoneBuffered t
   has_none t is (inl done) = inl (IsWhole-done t is done)
   has_none t is (inr (inl empty)) = inr (inl empty)
   has_none t is (inr (inr (why, wrong))) = inr (inr (why, breaks t is why wrong))
 
-  module _ (d : Dechunking S P) (r : Buffered S P) (p : Progress) (calls : StreamLog) (view : seen r p calls ≡ d)
-      (is : IsDechunking (seen r p calls)) (out : List ℕ) (n : ℕ) (r' : Buffered S P) (q : Progress)
+  module _ (d : ChunkedState S P) (r : Buffered S P) (p : Progress) (calls : StreamLog) (view : seen r p calls ≡ d)
+      (is : IsChunkedReader (seen r p calls)) (out : List ℕ) (n : ℕ) (r' : Buffered S P) (q : Progress)
       (hands : HandsOnBuffered remaining rules r p out n r' q) (later : StreamLog)
       (noted : later ≡ after_buffered calls out n) where
     given : later.reads.given ≡ calls.reads.given ++ take n out
     given = ap (λ c. c.reads.given) noted ∙ given_buffered calls out n
 
-    pub kept : IsDechunking (seen r' q later)
+    pub kept : IsChunkedReader (seen r' q later)
     kept = still_is remaining rules r p calls is (take n out) r' q hands.wire hands.takes later given
 
     pub hands_buffered : HandsBuffered remaining rules d out n (seen r' q later)

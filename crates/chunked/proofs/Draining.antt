@@ -7,11 +7,11 @@ use Rattle.buffer_redux.specs.Policy.{ReadRules}
 use Rattle.chunked.specs.declared.error.ChunkedError.{ChunkedError}
 use Rattle.chunked.specs.declared.error.ChunkedError.TheVariants.{NotChunked, Truncated, Io}
 use Rattle.chunked.specs.Between.{NoFault}
-use Rattle.chunked.specs.Dechunking.{BodyWent, Dechunking, Drains, IsWhole, LeavesBody, PayloadAnswers, ReadsOn, ReadsPayload}
-use Rattle.chunked.specs.DechunkingLaws.{BodyWent-joins, BodyWent-none}
+use Rattle.chunked.specs.ChunkedReader.{BodyWent, ChunkedState, Drains, IsWhole, LeavesBody, PayloadAnswers, ReadsOn, ReadsPayload}
+use Rattle.chunked.specs.ChunkedReaderLaws.{BodyWent-joins, BodyWent-none}
 use Rattle.chunked.proofs.Handing.{Faulted-after, NothingCame-after}
 
-module _ {S P : Type 0} (remaining : S → Option (List ℕ)) (rules : ReadRules P) (s : Dechunking S P) where
+module _ {S P : Type 0} (remaining : S → Option (List ℕ)) (rules : ReadRules P) (s : ChunkedState S P) where
   -- the body had ended
   pub drained_before : IsWhole s → Drains remaining rules s (Ok tt) s
   drained_before whole = record {
@@ -23,9 +23,9 @@ module _ {S P : Type 0} (remaining : S → Option (List ℕ)) (rules : ReadRules
   }
 
   -- this much was dropped so far
-  module _ (open' : ¬ IsWhole s) (m : Dechunking S P) (payload : List ℕ) (went : BodyWent remaining rules s payload m)
+  module _ (open' : ¬ IsWhole s) (m : ChunkedState S P) (payload : List ℕ) (went : BodyWent remaining rules s payload m)
       (well : NoFault s.reader m.reader) (count : ℕ) (before : ReadsOn remaining rules count s m) where
-    module _ (out : List ℕ) (some : 0 < length out) (t : Dechunking S P) where
+    module _ (out : List ℕ) (some : 0 < length out) (t : ChunkedState S P) where
       pub drained : ReadsPayload remaining rules m out (Ok 0) t → Drains remaining rules s (Ok tt) t
       drained reads = record {
         payload = payload ++ take 0 out;
@@ -69,7 +69,7 @@ module _ {S P : Type 0} (remaining : S → Option (List ℕ)) (rules : ReadRules
     }
 
   -- an Ok drain leaves what follows the body
-  pub leaves : (t : Dechunking S P) → Drains remaining rules s (Ok tt) t → LeavesBody remaining rules s t.reader
+  pub leaves : (t : ChunkedState S P) → Drains remaining rules s (Ok tt) t → LeavesBody remaining rules s t.reader
   leaves t drains = record {
     body = t;
     drains = drains;
@@ -81,8 +81,8 @@ module _ {S P : Type 0} (remaining : S → Option (List ℕ)) (rules : ReadRules
   }
 
 -- one more read
-pub reads_more : {S P : Type 0} (remaining : S → Option (List ℕ)) (rules : ReadRules P) (count : ℕ) (s m : Dechunking S P)
-    (out : List ℕ) (n : ℕ) (t : Dechunking S P) → ReadsOn remaining rules count s m → 0 < n
+pub reads_more : {S P : Type 0} (remaining : S → Option (List ℕ)) (rules : ReadRules P) (count : ℕ) (s m : ChunkedState S P)
+    (out : List ℕ) (n : ℕ) (t : ChunkedState S P) → ReadsOn remaining rules count s m → 0 < n
     → ReadsPayload remaining rules m out (Ok n) t → ReadsOn remaining rules (suc count) s t
 reads_more remaining rules count s m out zero t before some reads = absurd (omega (arith, some))
 reads_more remaining rules count s m out (suc n) t before some reads = (m, out, n, before, reads)

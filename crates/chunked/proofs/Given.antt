@@ -9,8 +9,8 @@ use Rattle.chunked.specs.declared.limits.Limits.{Limits}
 use Rattle.chunked.specs.declared.place.Place.TheVariants.{Done}
 use Rattle.chunked.specs.Body.{IsBody, IsSizeLine, HasChunks}
 use Rattle.chunked.specs.BodyLaws.{IsBody-same}
-use Rattle.chunked.specs.Dechunking.{Breaks, Dechunking, EndsEarly, IsDechunking, IsWhole, handed_of}
-use Rattle.chunked.specs.DechunkingLaws.{body_done}
+use Rattle.chunked.specs.ChunkedReader.{Breaks, ChunkedState, EndsEarly, IsChunkedReader, IsWhole, handed_of}
+use Rattle.chunked.specs.ChunkedReaderLaws.{body_done}
 use Rattle.chunked.specs.Given.{HandsGiven, WasGiven}
 use Rattle.chunked.specs.Place.{IsWrong}
 use Rattle.chunked.proofs.Alive.{Completes-some}
@@ -52,7 +52,7 @@ nothing_in : (m rest : List ℕ) → m ++ rest ≡ [] → m ≡ []
 nothing_in [] rest same = refl
 nothing_in (x ∷ m) rest same = cc
 
-module _ {S P : Type 0} (t : Dechunking S P) (is : IsDechunking t) (body payload behind : List ℕ)
+module _ {S P : Type 0} (t : ChunkedState S P) (is : IsChunkedReader t) (body payload behind : List ℕ)
     (is_body : IsBody t.limits body payload) (same : t.taken ++ t.reader.block.bytes ≡ body ++ behind) where
   -- what is left of the body stands in front of what follows it
   abbrev Left : Type 0
@@ -104,7 +104,7 @@ module _ {S P : Type 0} (t : Dechunking S P) (is : IsDechunking t) (body payload
   right : (why : Malformed) → ¬ Breaks why t
   right why b = wrong_next why b left_of.0 refl
 
-  there : (rules : ReadRules P) (s : Dechunking S P) → ¬ EndsEarly rules s t
+  there : (rules : ReadRules P) (s : ChunkedState S P) → ¬ EndsEarly rules s t
   there rules s early =
       early.none payload (taken_whole (nothing_in left_of.0 behind (sym left_of.2 ∙ early.dry.none)))
 
@@ -115,8 +115,8 @@ module _ {S P : Type 0} (t : Dechunking S P) (is : IsDechunking t) (body payload
       (found.1, found.2)
 
 module _ {S P : Type 0} (remaining : S → Option (List ℕ)) (rules : ReadRules P) (first : Buffered S P) (limits : Limits)
-    (body payload behind handed : List ℕ) (t : Dechunking S P) where
-  pub given_body : IsDechunking t → WasGiven remaining rules first limits body behind handed t → IsBody limits body payload
+    (body payload behind handed : List ℕ) (t : ChunkedState S P) where
+  pub given_body : IsChunkedReader t → WasGiven remaining rules first limits body behind handed t → IsBody limits body payload
       → HandsGiven rules payload behind handed t
   given_body is h is_body =
       let order = h.went.along.in_order in

@@ -61,7 +61,7 @@ module _ {S P : Type 0} (rules : ReadRules P) (limits : Limits) where
       }
 
 module _ {S P : Type 0} (remaining : S → Option (List ℕ)) (rules : ReadRules P) where
-  -- what one read does as a stretch
+  -- what one read does as a trace
   read_along : (s t : Buffered S P) (h : List ℕ) → ReadsInOrder s h t → ReaderKeeps remaining rules s t
       → ReadsAlong remaining rules s h t
   read_along s t h order keeps = record {

@@ -9,18 +9,18 @@ use Rattle.chunked.specs.declared.error.Malformed.{Malformed}
 use Rattle.chunked.specs.declared.place.Place.TheVariants.{Line, Done}
 use Rattle.chunked.specs.declared.progress.Progress.{Progress}
 use Rattle.chunked.specs.Between.{HandsOn, MeetsWrong, ReadEnds, Takes, handed_out, taken_of}
-use Rattle.chunked.specs.Dechunking.{BodyWent, Breaks, Dechunking, IsDechunking, PayloadAnswers, ReadsPayload, after_payload}
-use Rattle.chunked.specs.DechunkingLaws.{IsWhole-done, body_done}
+use Rattle.chunked.specs.ChunkedReader.{BodyWent, Breaks, ChunkedState, IsChunkedReader, PayloadAnswers, ReadsPayload, after_payload}
+use Rattle.chunked.specs.ChunkedReaderLaws.{IsWhole-done, body_done}
 use Rattle.chunked.specs.Place.{Leads}
 use Rattle.chunked.specs.PlaceLaws.{Leads-joins}
 use Rattle.chunked.proofs.Wrong.{IsWrong-none}
 
 -- a reader of a body, by its parts
-abbrev pub seen : {S P : Type 0} → Buffered S P → Progress → StreamLog → Dechunking S P
+abbrev pub seen : {S P : Type 0} → Buffered S P → Progress → StreamLog → ChunkedState S P
 seen r p calls = record { reader = r; limits = p.limits; place = p.place; taken = taken_of p; calls = calls }
 
 -- a wrong byte
-pub breaks : {S P : Type 0} (t : Dechunking S P) → IsDechunking t → (why : Malformed)
+pub breaks : {S P : Type 0} (t : ChunkedState S P) → IsChunkedReader t → (why : Malformed)
     → MeetsWrong t.limits t.place t.reader.block.bytes why → Breaks why t
 breaks t is why wrong = record {
   byte = wrong.byte;
@@ -34,10 +34,10 @@ breaks t is why wrong = record {
 
 -- some bytes were taken, and the payload in them was noted
 module _ {S P : Type 0} (remaining : S → Option (List ℕ)) (rules : ReadRules P) (r : Buffered S P) (p : Progress)
-    (calls : StreamLog) (is : IsDechunking (seen r p calls)) (handed : List ℕ) (r' : Buffered S P) (q : Progress)
+    (calls : StreamLog) (is : IsChunkedReader (seen r p calls)) (handed : List ℕ) (r' : Buffered S P) (q : Progress)
     (wire : List ℕ) (takes : Takes remaining rules r p wire handed r' q) (later : StreamLog)
     (given : later.reads.given ≡ calls.reads.given ++ handed) where
-  pub still_is : IsDechunking (seen r' q later)
+  pub still_is : IsChunkedReader (seen r' q later)
   still_is =
       let joined = Leads-joins p.limits Line p.place q.place (taken_of p) wire calls.reads.given handed is.leads takes.leads in
       record {
@@ -57,12 +57,12 @@ given_after calls out (Ok n) = refl
 given_after calls out (Err e) = sym (append-nil calls.reads.given)
 
 module _ {S P : Type 0} (remaining : S → Option (List ℕ)) (rules : ReadRules P) (r : Buffered S P) (p : Progress)
-    (calls : StreamLog) (is : IsDechunking (seen r p calls)) (out : List ℕ) (answer : Result ℕ ChunkedError)
+    (calls : StreamLog) (is : IsChunkedReader (seen r p calls)) (out : List ℕ) (answer : Result ℕ ChunkedError)
     (r' : Buffered S P) (q : Progress) (hands : HandsOn remaining rules r p out answer r' q) where
-  abbrev after : Dechunking S P
+  abbrev after : ChunkedState S P
   after = seen r' q (after_payload calls out answer)
 
-  still : IsDechunking after
+  still : IsChunkedReader after
   still = still_is remaining rules r p calls is (handed_out out answer) r' q hands.wire hands.takes
       (after_payload calls out answer) (given_after calls out answer)
 
@@ -98,8 +98,8 @@ noted_some calls later out answer n is noted = noted ∙ ap (after_payload calls
 
 -- the same with the calls as they were noted
 module _ {S P : Type 0} (remaining : S → Option (List ℕ)) (rules : ReadRules P)
-    (d : Dechunking S P) (r : Buffered S P) (p : Progress)
-    (calls : StreamLog) (view : seen r p calls ≡ d) (is : IsDechunking (seen r p calls)) (out : List ℕ)
+    (d : ChunkedState S P) (r : Buffered S P) (p : Progress)
+    (calls : StreamLog) (view : seen r p calls ≡ d) (is : IsChunkedReader (seen r p calls)) (out : List ℕ)
     (answer : Result ℕ ChunkedError) (r' : Buffered S P) (q : Progress) (hands : HandsOn remaining rules r p out answer r' q)
     (done : p.place ≡ Done → r' ≡ r) (idle : length out ≡ 0 → (answer ≡ Ok 0) × (r' ≡ r)) (calls' : StreamLog)
     (noted : calls' ≡ after_payload calls out answer) where

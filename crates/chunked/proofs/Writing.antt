@@ -14,8 +14,8 @@ use Rattle.buffer_redux.specs.declared.policy.StdPolicy.{StdPolicy}
 use Rattle.chunked.specs.Body.{IsField}
 use Rattle.chunked.specs.Chunk.{IsCarried, IsChunks, body_end, chunk, chunks}
 use Rattle.chunked.specs.ChunkLaws.{IsChunks-body, IsChunks-joins}
-use Rattle.chunked.specs.Chunking.{Chunking, ChunkingWent, ChunksWent, Finishes, IsChunking, PutsFirst, PutsIn, WritesChunk, accepted_of, around, room, taken_payloads}
-use Rattle.chunked.specs.ChunkingLaws.{PutsFirst-order, PutsIn-order}
+use Rattle.chunked.specs.ChunkedWriter.{ChunkedWriterState, ChunkingWent, ChunksWent, Finishes, IsChunkedWriter, PutsFirst, PutsIn, WritesChunk, accepted_of, around, room, taken_payloads}
+use Rattle.chunked.specs.ChunkedWriterLaws.{PutsFirst-order, PutsIn-order}
 
 -- a slice that isn't empty has some byte
 pub some_of : (n : ℕ) → (n == 0) ≡ false → 0 < n
@@ -32,32 +32,32 @@ block_small b is = omega (arith, is.limit, is.most, limit_small b.kind)
 
 -- all was sent first, where there was no room
 abbrev pub Spaced : {S : Type 0} → (S → StreamLog) → (S → S → Type 0) → ℕ → Buffered S StdPolicy → Buffered S StdPolicy → Type 0
-Spaced tells stretch n s m = (n ≤ room s → m ≡ s) × (room s < n → WasSent tells stretch s (Ok tt) m)
+Spaced tells trace n s m = (n ≤ room s → m ≡ s) × (room s < n → WasSent tells trace s (Ok tt) m)
 
 -- these bytes went in behind what was buffered, or sent
-record WentIn {S : Type 0} (stretch : S → S → Type 0) (s : Buffered S StdPolicy) (bytes : List ℕ) (t : Buffered S StdPolicy)
+record WentIn {S : Type 0} (trace : S → S → Type 0) (s : Buffered S StdPolicy) (bytes : List ℕ) (t : Buffered S StdPolicy)
     : Type 0 where
   pub in_order : WritesInOrder s bytes t
-  pub went : stretch s.inner t.inner
+  pub went : trace s.inner t.inner
   pub capacity : t.block.capacity ≡ s.block.capacity
   pub limit : t.block.limit ≡ s.block.limit
 
-module _ {S : Type 0} (tells : S → StreamLog) (stretch : S → S → Type 0)
-    (joins : (a b c : S) → stretch a b → stretch b c → stretch a c) where
-  module _ (s m t : Buffered S StdPolicy) (n : ℕ) (spaced : Spaced tells stretch n s m) (bytes : List ℕ)
-      (puts : PutsIn stretch m bytes t) where
-    pub straight : n ≤ room s → PutsIn stretch s bytes t
-    straight there = subst (λ w. PutsIn stretch w bytes t) (spaced.0 there) puts
+module _ {S : Type 0} (tells : S → StreamLog) (trace : S → S → Type 0)
+    (joins : (a b c : S) → trace a b → trace b c → trace a c) where
+  module _ (s m t : Buffered S StdPolicy) (n : ℕ) (spaced : Spaced tells trace n s m) (bytes : List ℕ)
+      (puts : PutsIn trace m bytes t) where
+    pub straight : n ≤ room s → PutsIn trace s bytes t
+    straight there = subst (λ w. PutsIn trace w bytes t) (spaced.0 there) puts
 
-    pub behind : room s < n → PutsFirst tells stretch s bytes t
+    pub behind : room s < n → PutsFirst tells trace s bytes t
     behind none = record { sent = m; sends = spaced.1 none; puts = puts }
 
-    put : WentIn stretch s bytes t
+    put : WentIn trace s bytes t
     put = elim (cases_lt (room s) n) [
       | inl none ↦
           let sent = spaced.1 none in
           record {
-            in_order = PutsFirst-order tells stretch s t bytes (behind none);
+            in_order = PutsFirst-order tells trace s t bytes (behind none);
             went = joins s.inner m.inner t.inner sent.went.calls puts.calls;
             capacity = puts.capacity ∙ sent.capacity;
             limit = puts.limit ∙ sent.sends.sent.dropped.limit;
@@ -65,7 +65,7 @@ module _ {S : Type 0} (tells : S → StreamLog) (stretch : S → S → Type 0)
       | inr there ↦
           let puts = straight there in
           record {
-            in_order = PutsIn-order tells stretch s t bytes puts;
+            in_order = PutsIn-order tells trace s t bytes puts;
             went = puts.calls;
             capacity = puts.capacity;
             limit = puts.limit;
@@ -76,15 +76,16 @@ module _ {S : Type 0} (tells : S → StreamLog) (stretch : S → S → Type 0)
   taken_some payload zero some = absurd (omega (arith, some))
   taken_some payload (suc n) some = refl
 
-  module _ (s : Chunking S) (is : IsChunking s) (payload : List ℕ) (some : 0 < length payload) (m t : Buffered S StdPolicy)
-      (spaced : Spaced tells stretch (around + length payload) s.writer m) (n : ℕ)
-      (count : n ≡ min (length payload) (m.block.capacity - around)) (puts : PutsIn stretch m (chunk (take n payload)) t)
+  module _ (s : ChunkedWriterState S) (is : IsChunkedWriter s) (payload : List ℕ) (some : 0 < length payload)
+      (m t : Buffered S StdPolicy)
+      (spaced : Spaced tells trace (around + length payload) s.writer m) (n : ℕ)
+      (count : n ≡ min (length payload) (m.block.capacity - around)) (puts : PutsIn trace m (chunk (take n payload)) t)
       (wire : List ℕ) (wired : wire ≡ s.wire ++ chunk (take n payload)) (calls : StreamLog)
       (noted : calls ≡ after_write s.calls payload (Ok n)) where
-    abbrev Left : Chunking S
+    abbrev Left : ChunkedWriterState S
     Left = record { writer = t; wire = wire; calls = calls }
 
-    went_in : WentIn stretch s.writer (chunk (take n payload)) t
+    went_in : WentIn trace s.writer (chunk (take n payload)) t
     went_in = put s.writer m t (around + length payload) spaced (chunk (take n payload)) puts
 
     counted : n ≡ min (length payload) (s.writer.block.capacity - around)
@@ -108,7 +109,7 @@ module _ {S : Type 0} (tells : S → StreamLog) (stretch : S → S → Type 0)
     accepted_more : accepted_of Left ≡ accepted_of s ++ flat_map (λ p. p) (take n payload ∷ [])
     accepted_more = ap (λ l. l.writes.received) noted ∙ ap (λ l. accepted_of s ++ l) (sym (append-nil (take n payload)))
 
-    pub whole : IsChunking Left
+    pub whole : IsChunkedWriter Left
     whole = record {
       whole = subst (λ l. IsChunks wire l) (sym accepted_more)
           (subst (λ l. IsChunks l (accepted_of s ++ flat_map (λ p. p) (take n payload ∷ []))) (sym wire_more)
@@ -120,9 +121,9 @@ module _ {S : Type 0} (tells : S → StreamLog) (stretch : S → S → Type 0)
     all : around + length payload ≤ room s.writer → n ≡ length payload
     all there = omega (arith, there, counted)
 
-    pub wrote : WritesChunk tells stretch s payload (Ok n) Left
+    pub wrote : WritesChunk tells trace s payload (Ok n) Left
     wrote = record {
-      went = subst (λ l. ChunksWent stretch s l Left) (sym (taken_some payload n (omega (arith, counted, some, is.capacity))))
+      went = subst (λ l. ChunksWent trace s l Left) (sym (taken_some payload n (omega (arith, counted, some, is.capacity))))
           (record {
             carried = one;
             in_order = subst (λ l. WritesInOrder s.writer l t) (sym (append-nil (chunk (take n payload)))) went_in.in_order;
@@ -135,7 +136,7 @@ module _ {S : Type 0} (tells : S → StreamLog) (stretch : S → S → Type 0)
       nothing = λ none. absurd (omega (arith, none, some));
       fits = λ _ there. (
         ap (λ k. Ok k) (all there),
-        subst (λ l. PutsIn stretch s.writer (chunk l) t) (take_all n payload (omega (arith, all there)))
+        subst (λ l. PutsIn trace s.writer (chunk l) t) (take_all n payload (omega (arith, all there)))
             (straight s.writer m t (around + length payload) spaced (chunk (take n payload)) puts there),
       );
       full = λ _ none. (
@@ -147,17 +148,17 @@ module _ {S : Type 0} (tells : S → StreamLog) (stretch : S → S → Type 0)
     }
 
   -- the same of a writer that is known by another name
-  pub same_writer : (v s t : Chunking S) (payload : List ℕ) (answer : Result ℕ Error) → v ≡ s
-      → WritesChunk tells stretch v payload answer t → WritesChunk tells stretch s payload answer t
-  same_writer v s t payload answer same h = subst (λ c. WritesChunk tells stretch c payload answer t) same h
+  pub same_writer : (v s t : ChunkedWriterState S) (payload : List ℕ) (answer : Result ℕ Error) → v ≡ s
+      → WritesChunk tells trace v payload answer t → WritesChunk tells trace s payload answer t
+  same_writer v s t payload answer same h = subst (λ c. WritesChunk tells trace c payload answer t) same h
 
   -- the end of the body went in behind the chunks
-  pub finishes : (v s : Chunking S) → v ≡ s → (is : IsChunking v) → (m t : Buffered S StdPolicy)
+  pub finishes : (v s : ChunkedWriterState S) → v ≡ s → (is : IsChunkedWriter v) → (m t : Buffered S StdPolicy)
       → (fields : List (List ℕ)) → AllByRecursion IsField fields → (n : ℕ) → n ≡ length (body_end fields)
-      → Spaced tells stretch n v.writer m → PutsIn stretch m (body_end fields) t → Finishes tells stretch s fields t
+      → Spaced tells trace n v.writer m → PutsIn trace m (body_end fields) t → Finishes tells trace s fields t
   finishes v s same is m t fields lines n len spaced puts =
-      let there = subst (λ k. Spaced tells stretch k v.writer m) len spaced in
-      subst (λ c. Finishes tells stretch c fields t) same (record {
+      let there = subst (λ k. Spaced tells trace k v.writer m) len spaced in
+      subst (λ c. Finishes tells trace c fields t) same (record {
         lines = lines;
         in_order = (put v.writer m t (length (body_end fields)) there (body_end fields) puts).in_order;
         body = λ limits lets. IsChunks-body limits lets.0 fields lines lets.1 v.wire (accepted_of v) is.whole;
@@ -166,13 +167,13 @@ module _ {S : Type 0} (tells : S → StreamLog) (stretch : S → S → Type 0)
       })
 
   -- a flush that is told took no chunk in
-  pub flush_went : (s m v : Chunking S) (answer : Result (Unit {0}) Error) (calls : StreamLog) → v ≡ m
-      → ChunksWent stretch s [] m → m.calls ≡ s.calls → calls ≡ after_flush v.calls answer
-      → ChunkingWent stretch s (record v { calls = calls })
+  pub flush_went : (s m v : ChunkedWriterState S) (answer : Result (Unit {0}) Error) (calls : StreamLog) → v ≡ m
+      → ChunksWent trace s [] m → m.calls ≡ s.calls → calls ≡ after_flush v.calls answer
+      → ChunkingWent trace s (record v { calls = calls })
   flush_went s m v answer calls same went still noted =
       let before : v.calls ≡ s.calls = ap (λ c. c.calls) same ∙ still in
       let told : calls ≡ after_flush s.calls answer = noted ∙ ap (λ l. after_flush l answer) before in
-      let went : ChunksWent stretch s [] v = subst (λ c. ChunksWent stretch s [] c) (sym same) went in
+      let went : ChunksWent trace s [] v = subst (λ c. ChunksWent trace s [] c) (sym same) went in
       record {
         payloads = [];
         went = record {

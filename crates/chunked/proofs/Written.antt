@@ -9,12 +9,12 @@ use Rattle.buffer_redux.specs.declared.policy.StdPolicy.{StdPolicy}
 use Rattle.chunked.specs.declared.limits.Limits.{Limits}
 use Rattle.chunked.specs.Body.{IsBody}
 use Rattle.chunked.specs.Chunk.{body_end, chunks}
-use Rattle.chunked.specs.Chunking.{Chunking, LetsThrough, accepted_of}
+use Rattle.chunked.specs.ChunkedWriter.{ChunkedWriterState, LetsThrough, accepted_of}
 use Rattle.chunked.specs.RoundTrip.{WroteBody, holds}
 
-module _ {S : Type 0} (tells : S → StreamLog) (stretch : S → S → Type 0) (first : Buffered S StdPolicy)
-    (payloads fields : List (List ℕ)) (w : Chunking S) (last : Buffered S StdPolicy) (wrote : List ℕ)
-    (h : WroteBody tells stretch first payloads fields w last wrote) where
+module _ {S : Type 0} (tells : S → StreamLog) (trace : S → S → Type 0) (first : Buffered S StdPolicy)
+    (payloads fields : List (List ℕ)) (w : ChunkedWriterState S) (last : Buffered S StdPolicy) (wrote : List ℕ)
+    (h : WroteBody tells trace first payloads fields w last wrote) where
   the_bytes : wrote ≡ w.wire ++ body_end fields
   the_bytes =
       let whole = WritesInOrder-joins first w.writer last (chunks payloads) (body_end fields) h.went.in_order

@@ -15,7 +15,7 @@ use Rattle.buffer_redux.specs.declared.policy.StdPolicy.{StdPolicy}
 use Rattle.chunked.specs.Asking.{AskedWhere}
 use Rattle.chunked.specs.Between.{FillsAndTakes, LastCall, TakesTurn, TakesTurns}
 use Rattle.chunked.specs.BetweenLaws.{Reads-ways}
-use Rattle.chunked.specs.Dechunking.{Dechunking, IsDechunking, ReadsPayload}
+use Rattle.chunked.specs.ChunkedReader.{ChunkedState, IsChunkedReader, ReadsPayload}
 use Rattle.chunked.specs.Place.{IsPlace, IsSettled, Leads}
 use Rattle.chunked.specs.PlaceLaws.{Leads-joins, Leads-none}
 use Rattle.chunked.specs.declared.error.ChunkedError.{ChunkedError}
@@ -335,7 +335,7 @@ module _ {R : Type 0} (limits : Limits) (s : Buffered R StdPolicy) (p : Place) w
   ]
 
 -- one read of payload
-module _ {R : Type 0} (remaining : R → Option (List ℕ)) (s t : Dechunking R StdPolicy) (is : IsDechunking s) (out : List ℕ)
+module _ {R : Type 0} (remaining : R → Option (List ℕ)) (s t : ChunkedState R StdPolicy) (is : IsChunkedReader s) (out : List ℕ)
     (answer : Result ℕ ChunkedError) (reads : ReadsPayload remaining std_read_rules s out answer t) where
   done : TurnsDone s.limits s.reader s.place reads.calls.last reads.calls.place
   done = turns_done s.limits s.reader s.place reads.calls.count reads.calls.last reads.calls.place is.place reads.calls.turns

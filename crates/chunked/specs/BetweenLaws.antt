@@ -1,4 +1,4 @@
--- Laws of what is taken of a body: stretches of calls join; and the two ways of a read.
+-- Laws of what is taken of a body: traces of calls join; and the two ways of a read.
 use Rattle.std.proofs.Common.{◌≡◌, ℕ, List, [], ◌++◌, length, Option, Result, ◌⊎◌, inl, inr, sym, ap, subst, ◌∙◌, refl, arith, append_assoc, append-nil}
 use Rattle.std.proofs.lemmas.Bool.{cases_lt}
 use Rattle.std.proofs.lemmas.List.{nil_from_length}
@@ -14,7 +14,7 @@ use Rattle.chunked.specs.Place.{IsPlace, Leads}
 use Rattle.chunked.specs.PlaceLaws.{Leads-none, Leads-joins}
 
 module _ {S P : Type 0} (remaining : S → Option (List ℕ)) (rules : ReadRules P) where
-  -- no call takes nothing, and two stretches of calls join
+  -- no call takes nothing, and two traces of calls join
   pub Takes-none : (s : Buffered S P) (p : Progress) → IsPlace p.place → Takes remaining rules s p [] [] s p
   Takes-none s p place = record {
     along = ReadsAlong-none remaining rules s;

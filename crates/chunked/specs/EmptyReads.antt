@@ -10,7 +10,7 @@ use Rattle.buffer_redux.specs.Policy.{ReadRules}
 use Rattle.buffer_redux.specs.StreamLog.{ReadLog, with_zero, zero_of_some}
 use Rattle.chunked.specs.Between.{FillsAndTakes, TakesTurns}
 use Rattle.chunked.specs.BetweenLaws.{Reads-ways}
-use Rattle.chunked.specs.Dechunking.{Dechunking, ReadsPayload}
+use Rattle.chunked.specs.ChunkedReader.{ChunkedState, ReadsPayload}
 use Rattle.chunked.specs.declared.error.ChunkedError.{ChunkedError}
 use Rattle.chunked.specs.declared.error.ChunkedError.TheVariants.{NotChunked, Truncated, Io}
 use Rattle.chunked.specs.declared.limits.Limits.{Limits}
@@ -80,7 +80,7 @@ module _ {S P : Type 0} (rules : ReadRules P) (orders : ReadsWhenEmpty rules) wh
       | inr past ↦ ap (λ l. l.reads.zero_reads) past.1.told
     ]
 
-  module _ (remaining : S → Option (List ℕ)) (s t : Dechunking S P) (out : List ℕ) where
+  module _ (remaining : S → Option (List ℕ)) (s t : ChunkedState S P) (out : List ℕ) where
     module _ (answer : Result ℕ ChunkedError) (reads : ReadsPayload remaining rules s out answer t) where
       gave : reads.calls.last.log.reads.zero_reads ≡ s.reader.log.reads.zero_reads
       gave = turns_gave s.limits reads.calls.count s.reader s.place reads.calls.last reads.calls.place reads.calls.turns

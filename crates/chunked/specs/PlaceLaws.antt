@@ -1,4 +1,4 @@
--- Laws of places: stretches of bytes join, and what is wrong completes no body.
+-- Laws of places: traces of bytes join, and what is wrong completes no body.
 use Rattle.std.specs.Prelude.{ℕ, List, [], ◌++◌}
 use Rattle.std.proofs.Common.{sym, ap, subst, ◌∙◌, arith, refl, append_assoc, append-nil, length-append}
 use Rattle.chunked.specs.declared.limits.Limits.{Limits}
@@ -8,7 +8,7 @@ use Rattle.chunked.specs.Body.{IsBody}
 use Rattle.chunked.specs.Place.{Completes, Leads, Passes}
 
 module _ (limits : Limits) where
-  -- no byte leads nowhere, and two stretches of bytes join
+  -- no byte leads nowhere, and two traces of bytes join
   pub Leads-none : (p : Place) → Leads limits p [] [] p
   Leads-none p = record { onward = λ rest payload c. c; back = λ rest whole c. (whole, refl, c) }
 

@@ -10,7 +10,7 @@ use Rattle.chunked.specs.declared.error.TrailersError.{TrailersError}
 use Rattle.chunked.specs.declared.error.TrailersError.TheVariants.{NoField, TooLong, Io}
 use Rattle.chunked.specs.Body.{IsField}
 use Rattle.chunked.specs.Chunk.{body_end}
-use Rattle.chunked.specs.Chunking.{Chunking, IsChunking, NotFinished}
+use Rattle.chunked.specs.ChunkedWriter.{ChunkedWriterState, IsChunkedWriter, NotFinished}
 
 -- the lines in a slice of slices
 abbrev pub lines_of : List (Bor (List ℕ)) → List (List ℕ)
@@ -34,17 +34,18 @@ CannotEnd fields capacity TooLong = AllByRecursion IsField fields × (capacity <
 CannotEnd fields capacity (Io e) = ⊥
 
 -- the writer is as it was, and trailers that can't go into its buffer are why
-pub record Refuses {S : Type 0} (s : Chunking S) (fields : List (List ℕ)) (why : TrailersError) (t : Chunking S) : Type 0 where
+pub record Refuses {S : Type 0} (s : ChunkedWriterState S) (fields : List (List ℕ)) (why : TrailersError)
+    (t : ChunkedWriterState S) : Type 0 where
   pub cannot : CannotEnd fields s.writer.block.capacity why
   pub same : t ≡ s
-  pub whole : IsChunking t
+  pub whole : IsChunkedWriter t
 
 -- what stands after an `Err` of finishing with trailers, one line for each
-abbrev pub NotEnded : {S : Type 0} → (S → StreamLog) → (S → S → Type 0) → Chunking S → List (List ℕ) → TrailersError
-    → Chunking S → Type 0
-NotEnded tells stretch s fields (NoField index) t = Refuses s fields (NoField index) t
-NotEnded tells stretch s fields TooLong t = Refuses s fields TooLong t
-NotEnded tells stretch s fields (Io e) t = CanEnd fields s.writer.block.capacity × NotFinished tells stretch s fields e t
+abbrev pub NotEnded : {S : Type 0} → (S → StreamLog) → (S → S → Type 0) → ChunkedWriterState S → List (List ℕ) → TrailersError
+    → ChunkedWriterState S → Type 0
+NotEnded tells trace s fields (NoField index) t = Refuses s fields (NoField index) t
+NotEnded tells trace s fields TooLong t = Refuses s fields TooLong t
+NotEnded tells trace s fields (Io e) t = CanEnd fields s.writer.block.capacity × NotFinished tells trace s fields e t
 
 -- the same as an error of std's streams
 abbrev pub EndsAsIo : TrailersError → Error → Type 0

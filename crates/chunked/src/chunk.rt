@@ -4,7 +4,7 @@ ghost use Rattle.buffer_redux.specs.Block.{usable};
 ghost use Rattle.buffer_redux.specs.BufWriter.{WasSent};
 ghost use Rattle.chunked.specs.Body.{line_end};
 ghost use Rattle.chunked.specs.Chunk.{chunk, size_digits};
-ghost use Rattle.chunked.specs.Chunking.{PutsIn, around, room};
+ghost use Rattle.chunked.specs.ChunkedWriter.{PutsIn, around, room};
 
 use buffer_redux::BufWriter;
 use buffer_redux::tell::{Call, CallLog, TellWrite};
@@ -57,7 +57,7 @@ impl SizeLine {
 #[inline(always)]
 pub fn make_space<W: TellWrite>(writer: &mut BufWriter<W>, bytes: usize) -> io::Result<()>
     ensures fits { bytes ≤ room writer.old → (result ≡ Ok tt) × (writer.new ≡ writer.old) }
-    ensures full { room writer.old < bytes → WasSent W.log W.stretch writer.old result writer.new }
+    ensures full { room writer.old < bytes → WasSent W.log W.trace writer.old result writer.new }
 {
     if writer.capacity() - writer.buf_len() < bytes {
         return writer.send();
@@ -70,7 +70,7 @@ pub fn make_space<W: TellWrite>(writer: &mut BufWriter<W>, bytes: usize) -> io::
 pub fn put<W: TellWrite>(writer: &mut BufWriter<W>, wire: &mut CallLog, bytes: &[u8])
     requires room { length bytes.now ≤ usable writer.old.block }
     requires inside { length bytes.now < writer.old.block.capacity }
-    ensures put { PutsIn W.stretch writer.old bytes.now writer.new }
+    ensures put { PutsIn W.trace writer.old bytes.now writer.new }
     ensures usable { usable writer.old.block ≤ usable writer.new.block + length bytes.now }
     ensures wire { wire.new.log.writes.received ≡ wire.old.log.writes.received ++ bytes.now }
 {
@@ -84,7 +84,7 @@ pub fn put_chunk<W: TellWrite>(writer: &mut BufWriter<W>, wire: &mut CallLog, pa
     requires some { 0 < length payload.now }
     requires small { length payload.now < 2 ^ 62 }
     requires room { around + length payload.now ≤ room writer.old }
-    ensures put { PutsIn W.stretch writer.old (chunk payload.now) writer.new }
+    ensures put { PutsIn W.trace writer.old (chunk payload.now) writer.new }
     ensures wire { wire.new.log.writes.received ≡ wire.old.log.writes.received ++ chunk payload.now }
 {
     let line = SizeLine::new(payload.len() as u64);

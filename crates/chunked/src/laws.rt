@@ -6,8 +6,8 @@ ghost use Rattle.buffer_redux.specs.BufReader.{ReadsAlong};
 ghost use Rattle.buffer_redux.specs.Remaining.{ahead};
 ghost use Rattle.buffer_redux.specs.declared.policy.StdPolicy.{StdPolicy};
 ghost use Rattle.chunked.specs.Body.{IsBody, IsField, fields_bytes};
-ghost use Rattle.chunked.specs.Chunking.{LetsThrough};
-ghost use Rattle.chunked.specs.Dechunking.{BodyWent, IsWhole, begun, handed_of};
+ghost use Rattle.chunked.specs.ChunkedWriter.{LetsThrough};
+ghost use Rattle.chunked.specs.ChunkedReader.{BodyWent, IsWhole, begun, handed_of};
 ghost use Rattle.chunked.specs.Given.{HandsGiven, WasGiven};
 ghost use Rattle.chunked.specs.Place.{IsWrong};
 ghost use Rattle.chunked.specs.RoundTrip.{WroteBody};
@@ -84,7 +84,7 @@ pub fn behind_body<R: TellRead, P: ReaderPolicy>(reader: &ChunkedReader<R, P>)
 /// buffered writer gained is a body with these payloads, joined.
 pub fn written_body<W: TellWrite>(writer: &ChunkedWriter<W>)
     ensures { (first last : Buffered W StdPolicy) (payloads fields : List (List ℕ)) (wrote : List ℕ) (limits : Limits)
-        → WroteBody W.log W.stretch first payloads fields writer.now last wrote → LetsThrough fields limits
+        → WroteBody W.log W.trace first payloads fields writer.now last wrote → LetsThrough fields limits
         → IsBody limits wrote (flat_map (λ p. p) payloads) }
 {}
 
@@ -96,7 +96,7 @@ pub fn round_trip<W: TellWrite, R: TellRead, P: ReaderPolicy>(
     reader: &ChunkedReader<R, P>,
 )
     ensures { (first last : Buffered W StdPolicy) (payloads fields : List (List ℕ)) (wrote : List ℕ)
-        → WroteBody W.log W.stretch first payloads fields writer.now last wrote
+        → WroteBody W.log W.trace first payloads fields writer.now last wrote
         → (start : Buffered R P) (limits : Limits) (behind handed : List ℕ) → LetsThrough fields limits
         → WasGiven R.remaining P.rules start limits wrote behind handed reader.now
         → HandsGiven P.rules (flat_map (λ p. p) payloads) behind handed reader.now }

@@ -4,7 +4,7 @@ ghost use Rattle.std.specs.Io.{ReadsAtMost};
 ghost use Rattle.std.specs.Io.KnownBytes.{ReadConsumes};
 ghost use Rattle.buffer_redux.specs.StreamLog.{after_read};
 ghost use Rattle.chunked.specs.Between.{HandsOn, HandsOnBuffered, Skips};
-ghost use Rattle.chunked.specs.Dechunking.{Drains, HandsBuffered, IsDechunking, IsWhole, LeavesBody, LooksBehind, ReadsAsIo, ReadsPayload, ReadsTold, begun, taken_count};
+ghost use Rattle.chunked.specs.ChunkedReader.{Drains, HandsBuffered, IsChunkedReader, IsWhole, LeavesBody, LooksBehind, ReadsAsIo, ReadsPayload, ReadsTold, begun, taken_count};
 ghost use Rattle.chunked.specs.Place.{IsPlace, IsSettled};
 
 use crate::error::ChunkedError;
@@ -49,9 +49,9 @@ pub struct ChunkedReader<R: Tell, P = StdPolicy> {
 
 impl<R: Tell, P> Model for ChunkedReader<R, P> {
     ghost use Rattle.chunked.specs.Between.{taken_of};
-    ghost use Rattle.chunked.specs.Dechunking.{Dechunking, IsDechunking};
+    ghost use Rattle.chunked.specs.ChunkedReader.{ChunkedState, IsChunkedReader};
 
-    ghost Value = { Dechunking R P };
+    ghost Value = { ChunkedState R P };
 
     ghost view = { λ c. record {
       reader = c.reader;
@@ -61,7 +61,7 @@ impl<R: Tell, P> Model for ChunkedReader<R, P> {
       calls = c.calls.log;
     } };
 
-    ghost invariant = { λ c. IsDechunking (record {
+    ghost invariant = { λ c. IsChunkedReader (record {
       reader = c.reader;
       limits = c.progress.limits;
       place = c.progress.place;
@@ -74,7 +74,7 @@ impl<R: Tell, P> ChunkedReader<R, P> {
     /// A reader of the body that comes next of `reader`.
     pub fn new(reader: BufReader<R, P>, limits: Limits) -> Self
         ensures begun { result ≡ begun reader limits }
-        ensures whole { IsDechunking result }
+        ensures whole { IsChunkedReader result }
     {
         ChunkedReader {
             reader,
@@ -86,7 +86,7 @@ impl<R: Tell, P> ChunkedReader<R, P> {
     /// The buffered reader.
     pub fn get_ref(&self) -> &BufReader<R, P>
         ensures reader { result.now ≡ self.now.reader }
-        ensures whole { IsDechunking self.now }
+        ensures whole { IsChunkedReader self.now }
     {
         &self.reader
     }

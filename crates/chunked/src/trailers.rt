@@ -2,7 +2,7 @@
 ghost use Rattle.std.specs.Prelude.{◌≡◌, ◌↔◌, ◌^◌, ◌<◌, ◌≤◌, ◌++◌, length, IsTrue, IfOk, IfErr};
 ghost use Rattle.chunked.specs.Body.{IsField};
 ghost use Rattle.chunked.specs.Chunk.{body_end};
-ghost use Rattle.chunked.specs.Chunking.{PutsIn, room};
+ghost use Rattle.chunked.specs.ChunkedWriter.{PutsIn, room};
 ghost use Rattle.chunked.specs.Trailers.{CanEnd, CannotEnd, lines_of};
 
 use crate::chunk::put;
@@ -48,7 +48,7 @@ pub fn end_len(fields: &[&[u8]], capacity: usize) -> Result<usize, TrailersError
 /// Copies the end of a body with these trailers in, for which there is room, and notes it.
 pub fn put_end<W: TellWrite>(writer: &mut BufWriter<W>, wire: &mut CallLog, fields: &[&[u8]])
     requires room { length (body_end (lines_of fields.now)) ≤ room writer.old }
-    ensures put { PutsIn W.stretch writer.old (body_end (lines_of fields.now)) writer.new }
+    ensures put { PutsIn W.trace writer.old (body_end (lines_of fields.now)) writer.new }
     ensures wire { wire.new.log.writes.received ≡ wire.old.log.writes.received ++ body_end (lines_of fields.now) }
 {
     writer.make_room();

@@ -6,9 +6,9 @@ ghost use Rattle.buffer_redux.specs.Buffered.{over_buffer};
 ghost use Rattle.buffer_redux.specs.BufWriter.{WasFlushed};
 ghost use Rattle.buffer_redux.specs.StreamLog.{after_flush, after_write};
 ghost use Rattle.chunked.specs.Chunk.{body_end};
-ghost use Rattle.chunked.specs.Chunking.{ChunkingWent, ChunksWent, Finishes, IsChunking, NotFinished, WritesChunk, WritesTold};
-ghost use Rattle.chunked.specs.Chunking.{accepted, around, unbegun};
-ghost use Rattle.chunked.specs.ChunkingLaws.{ChunkingWent-none, ChunkingWent-joins, ChunkingWent-grows};
+ghost use Rattle.chunked.specs.ChunkedWriter.{ChunkingWent, ChunksWent, Finishes, IsChunkedWriter, NotFinished, WritesChunk, WritesTold};
+ghost use Rattle.chunked.specs.ChunkedWriter.{accepted, around, unbegun};
+ghost use Rattle.chunked.specs.ChunkedWriterLaws.{ChunkingWent-none, ChunkingWent-joins, ChunkingWent-grows};
 ghost use Rattle.chunked.specs.Trailers.{CanEnd, NotEnded, lines_of};
 
 use crate::chunk::{AROUND, make_space, put_chunk};
@@ -44,9 +44,9 @@ pub struct ChunkedWriter<W: TellWrite> {
 }
 
 impl<W: TellWrite> Model for ChunkedWriter<W> {
-    ghost use Rattle.chunked.specs.Chunking.{Chunking, IsChunking};
+    ghost use Rattle.chunked.specs.ChunkedWriter.{ChunkedWriterState, IsChunkedWriter};
 
-    ghost Value = { Chunking W };
+    ghost Value = { ChunkedWriterState W };
 
     ghost view = { λ c. record {
       writer = c.writer;
@@ -54,7 +54,7 @@ impl<W: TellWrite> Model for ChunkedWriter<W> {
       calls = c.calls.log;
     } };
 
-    ghost invariant = { λ c. IsChunking (record {
+    ghost invariant = { λ c. IsChunkedWriter (record {
       writer = c.writer;
       wire = c.wire.log.writes.received;
       calls = c.calls.log;
@@ -67,7 +67,7 @@ impl<W: TellWrite> ChunkedWriter<W> {
     pub fn new(writer: BufWriter<W>) -> Self
         requires room { around < writer.block.capacity }
         ensures begun { result ≡ unbegun writer }
-        ensures whole { IsChunking result }
+        ensures whole { IsChunkedWriter result }
     {
         let _ = writer.capacity();
         ChunkedWriter {
@@ -82,7 +82,7 @@ impl<W: TellWrite> ChunkedWriter<W> {
     pub fn with_buffer(buffer: Buffer, inner: W) -> Self
         requires room { around < buffer.capacity }
         ensures begun { result ≡ unbegun (over_buffer W.log (record {}) buffer inner) }
-        ensures whole { IsChunking result }
+        ensures whole { IsChunkedWriter result }
     {
         ChunkedWriter::new(BufWriter::with_buffer(buffer, inner))
     }
@@ -90,7 +90,7 @@ impl<W: TellWrite> ChunkedWriter<W> {
     /// The buffered writer.
     pub fn get_ref(&self) -> &BufWriter<W>
         ensures writer { result.now ≡ self.now.writer }
-        ensures whole { IsChunking self.now }
+        ensures whole { IsChunkedWriter self.now }
     {
         &self.writer
     }
@@ -121,8 +121,8 @@ impl<W: TellWrite> ChunkedWriter<W> {
     /// flushed it. Where it doesn't fit, all that is buffered is sent first. Where that fails, the writer comes back with the
     /// fault and as it was, but for what the inner writer took: it can be finished again, or written to.
     pub fn finish(self) -> Result<BufWriter<W>, IntoInnerError<Self>>
-        ensures { MatchResult result (Finishes W.log W.stretch self [])
-            (λ e. NotFinished W.log W.stretch self [] e.1 e.0) }
+        ensures { MatchResult result (Finishes W.log W.trace self [])
+            (λ e. NotFinished W.log W.trace self [] e.1 e.0) }
     {
         self.end(BARE_END, &[])
     }
@@ -147,8 +147,8 @@ impl<W: TellWrite> ChunkedWriter<W> {
     /// );
     /// ```
     pub fn finish_with_trailers(self, fields: &[&[u8]]) -> Result<BufWriter<W>, FinishError<Self>>
-        ensures { MatchResult result (Finishes W.log W.stretch self (lines_of fields.now))
-            (λ e. NotEnded W.log W.stretch self (lines_of fields.now) e.1 e.0) }
+        ensures { MatchResult result (Finishes W.log W.trace self (lines_of fields.now))
+            (λ e. NotEnded W.log W.trace self (lines_of fields.now) e.1 e.0) }
     {
         match end_len(fields, self.writer.capacity()) {
             Ok(len) => match self.end(len, fields) {
@@ -163,8 +163,8 @@ impl<W: TellWrite> ChunkedWriter<W> {
     fn end(mut self, len: usize, fields: &[&[u8]]) -> Result<BufWriter<W>, IntoInnerError<Self>>
         requires can { CanEnd (lines_of fields.now) self.writer.block.capacity }
         requires len { len ≡ length (body_end (lines_of fields.now)) }
-        ensures { MatchResult result (Finishes W.log W.stretch self (lines_of fields.now))
-            (λ e. NotFinished W.log W.stretch self (lines_of fields.now) e.1 e.0) }
+        ensures { MatchResult result (Finishes W.log W.trace self (lines_of fields.now))
+            (λ e. NotFinished W.log W.trace self (lines_of fields.now) e.1 e.0) }
     {
         match make_space(&mut self.writer, len) {
             Ok(()) => {
@@ -194,7 +194,7 @@ impl<W: TellWrite> Write for ChunkedWriter<W> {
     fn write(&mut self, payload: &[u8]) -> io::Result<usize>
         ensures bound { WritesAtMost result payload.now }
         ensures bytes { WriteAppends (accepted self.old) (accepted self.new) result payload.now }
-        ensures writes { WritesChunk W.log W.stretch self.old payload.now result self.new }
+        ensures writes { WritesChunk W.log W.trace self.old payload.now result self.new }
     {
         if payload.is_empty() {
             self.calls.note(&Call::Write(payload, &Ok(0)));
@@ -210,10 +210,10 @@ impl<W: TellWrite> Write for ChunkedWriter<W> {
     /// Sends all chunks, and flushes the inner writer. It makes no chunk, and doesn't end the body.
     fn flush(&mut self) -> io::Result<()>
         ensures bytes { Keeps (accepted self.old) (accepted self.new) }
-        ensures flushed { WasFlushed W.log W.stretch self.old.writer result self.new.writer }
-        ensures went { ChunksWent W.stretch self.old [] self.new }
+        ensures flushed { WasFlushed W.log W.trace self.old.writer result self.new.writer }
+        ensures went { ChunksWent W.trace self.old [] self.new }
         ensures calls { self.new.calls ≡ self.old.calls }
-        ensures whole { IsChunking self.new }
+        ensures whole { IsChunkedWriter self.new }
     {
         self.writer.flush()
     }
@@ -225,13 +225,13 @@ impl<W: TellWrite> Tell for ChunkedWriter<W> {
 
 /// The same, told. So a `BufWriter` goes over this, which gathers small writes into chunks.
 impl<W: TellWrite> TellWrite for ChunkedWriter<W> {
-    ghost stretch = { ChunkingWent W.stretch };
+    ghost trace = { ChunkingWent W.trace };
 
     fn write_told(&mut self, payload: &[u8]) -> io::Result<usize>
         ensures bound { WritesAtMost result payload.now }
         ensures told { self.new.calls ≡ after_write self.old.calls payload.now result }
-        ensures stretch { ChunkingWent W.stretch self.old self.new }
-        ensures writes { WritesTold W.log W.stretch self.old payload.now result self.new }
+        ensures trace { ChunkingWent W.trace self.old self.new }
+        ensures writes { WritesTold W.log W.trace self.old payload.now result self.new }
     {
         let answer = self.write(payload);
         if answer.is_err() {
@@ -242,21 +242,21 @@ impl<W: TellWrite> TellWrite for ChunkedWriter<W> {
 
     fn flush_told(&mut self) -> io::Result<()>
         ensures told { self.new.calls ≡ after_flush self.old.calls result }
-        ensures stretch { ChunkingWent W.stretch self.old self.new }
-        ensures flushed { WasFlushed W.log W.stretch self.old.writer result self.new.writer }
-        ensures went { ChunksWent W.stretch self.old [] self.new }
-        ensures whole { IsChunking self.new }
+        ensures trace { ChunkingWent W.trace self.old self.new }
+        ensures flushed { WasFlushed W.log W.trace self.old.writer result self.new.writer }
+        ensures went { ChunksWent W.trace self.old [] self.new }
+        ensures whole { IsChunkedWriter self.new }
     {
         let answer = self.flush();
         self.calls.note(&Call::Flush(&answer));
         answer
     }
 
-    ghost stretch_none = { ChunkingWent-none W.stretch W.stretch_none W.stretch_joins };
+    ghost trace_none = { ChunkingWent-none W.trace W.trace_none W.trace_joins };
 
-    ghost stretch_joins = { ChunkingWent-joins W.stretch W.stretch_none W.stretch_joins };
+    ghost trace_joins = { ChunkingWent-joins W.trace W.trace_none W.trace_joins };
 
-    ghost stretch_grows = { ChunkingWent-grows W.stretch };
+    ghost trace_grows = { ChunkingWent-grows W.trace };
 }
 
 /// The buffered writer.

@@ -3,10 +3,10 @@ use Rattle.std.proofs.Common.{◌≡◌, ℕ, length, ap, subst, sym, ◌∙◌}
 use Rattle.codec.specs.Grammar.{Begins, Grammar, IsLawful}
 use Rattle.codec.specs.GrammarLaws.{open_of}
 use Rattle.codec.specs.NextPiece.{StaysLeft}
-use Rattle.codec.specs.Piecing.{Piecing, IsPiecing, rest}
+use Rattle.codec.specs.PieceReader.{ReaderState, IsPieceReader, rest}
 use Rattle.codec.specs.Steps.{WantsMore}
 
-module _ {S D W : Type 0} (g : Grammar W) (s t : Piecing S D) (whole : IsPiecing g t) where
+module _ {S D W : Type 0} (g : Grammar W) (s t : ReaderState S D) (whole : IsPieceReader g t) where
   -- a look alone hands nothing out
   looked : (seen : ℕ) → t ≡ record s { seen = seen } → StaysLeft g s t
   looked seen same = record {

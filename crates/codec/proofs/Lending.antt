@@ -6,17 +6,17 @@ use Rattle.codec.specs.declared.error.NextError.{NextError}
 use Rattle.codec.specs.declared.error.NextError.TheVariants.{Wrong, Io}
 use Rattle.codec.specs.Decoding.{IsLent, bytes_at}
 use Rattle.codec.specs.Grammar.{Grammar}
-use Rattle.codec.specs.Piecing.{Piecing, IsPiecing, rest}
+use Rattle.codec.specs.PieceReader.{ReaderState, IsPieceReader, rest}
 use Rattle.codec.specs.Steps.{TakesEnd, TakesPiece}
 use Rattle.codec.proofs.Reading.{rest_whole}
 
 -- the span is lent out of this reader
-abbrev pub Lends : {S D W : Type 0} → (D → Grammar W) → Piecing S D → Span → Type 0
+abbrev pub Lends : {S D W : Type 0} → (D → Grammar W) → ReaderState S D → Span → Type 0
 Lends grammar t span = IsLent (grammar t.decoder) t.handed t.reader.block.bytes span
 
-module _ {S D W : Type 0} (grammar : D → Grammar W) (s t : Piecing S D) where
+module _ {S D W : Type 0} (grammar : D → Grammar W) (s t : ReaderState S D) where
   -- of a piece that was buffered whole, as the place was told of what was left
-  pub lends_piece : (at : ℕ) → at ≡ s.handed → IsPiecing (grammar s.decoder) t → (span : Span) (used : ℕ)
+  pub lends_piece : (at : ℕ) → at ≡ s.handed → IsPieceReader (grammar s.decoder) t → (span : Span) (used : ℕ)
       → TakesPiece (grammar s.decoder) s t span used → Lends grammar t (record { from = at + span.from; len = span.len })
   lends_piece at is whole span used takes =
       let bytes = s.reader.block.bytes in
@@ -29,13 +29,13 @@ module _ {S D W : Type 0} (grammar : D → Grammar W) (s t : Piecing S D) where
         start = s.handed;
         after = omega (arith, is);
         within = omega (arith, is, takes.piece.within);
-        inside = omega (arith, (subst (IsPiecing (grammar s.decoder)) same whole).handed);
+        inside = omega (arith, (subst (IsPieceReader (grammar s.decoder)) same whole).handed);
         is = inl (subst (λ p. (grammar s.decoder).piece p (bytes_at there bytes)) piece
             (subst ((grammar s.decoder).piece (take used (rest s))) shown takes.piece.is));
       })
 
   -- of one that stands at the front
-  pub lends_first : s.handed ≡ 0 → IsPiecing (grammar s.decoder) t → (span : Span) (used : ℕ)
+  pub lends_first : s.handed ≡ 0 → IsPieceReader (grammar s.decoder) t → (span : Span) (used : ℕ)
       → TakesPiece (grammar s.decoder) s t span used → Lends grammar t span
   lends_first none whole span used takes =
       let here : 0 + span.from ≡ span.from = omega arith in

@@ -1,7 +1,7 @@
 pub mod Buffered
 pub mod Delimiting
 pub mod Fetched
-pub mod Heads
+pub mod Headers
 pub mod Lending
 pub mod Loading
 pub mod Playing

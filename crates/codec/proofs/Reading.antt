@@ -13,11 +13,11 @@ use Rattle.codec.specs.Grammar.{Grammar, IsOpen}
 use Rattle.codec.specs.NextPiece.{AskedWhere, PiecesWent, Faulted}
 use Rattle.codec.specs.NextPieceLaws.{MetEnd-before, MetEnd-now}
 use Rattle.codec.specs.PiecesWentLaws.{PiecesWent-none}
-use Rattle.codec.specs.Piecing.{Piecing, IsPiecing, rest}
+use Rattle.codec.specs.PieceReader.{ReaderState, IsPieceReader, rest}
 use Rattle.codec.specs.Steps.{AsksFor}
 
 -- where no byte was handed out, all that is buffered is left
-pub rest_whole : {S D : Type 0} (f : Piecing S D) → f.handed ≡ 0 → rest f ≡ f.reader.block.bytes
+pub rest_whole : {S D : Type 0} (f : ReaderState S D) → f.handed ≡ 0 → rest f ≡ f.reader.block.bytes
 rest_whole f none = ap (λ n. drop n f.reader.block.bytes) none
 
 -- what some turns of a fill gave, each a byte at least
@@ -128,8 +128,8 @@ module _ {S : Type 0} (s : Buffered S MinBuffered) where
       ]
 
 -- where the stream had ended it isn't asked
-pub AsksFor-ended : {S D W : Type 0} (remaining : S → Option (List ℕ)) (g : Grammar W) (n : ℕ) (s : Piecing S D)
-    → IsPiecing g s → s.handed ≡ 0 → s.ended ≡ true → length (rest s) < n → AsksFor remaining g n s (Ok false) s
+pub AsksFor-ended : {S D W : Type 0} (remaining : S → Option (List ℕ)) (g : Grammar W) (n : ℕ) (s : ReaderState S D)
+    → IsPieceReader g s → s.handed ≡ 0 → s.ended ≡ true → length (rest s) < n → AsksFor remaining g n s (Ok false) s
 AsksFor-ended remaining g n s whole handed ended few = record {
   went = PiecesWent-none remaining g.most s;
   handed = handed;
@@ -142,11 +142,11 @@ AsksFor-ended remaining g n s whole handed ended few = record {
   whole = whole;
 }
 
-module _ {S D W : Type 0} (remaining : S → Option (List ℕ)) (g : Grammar W) (n : ℕ) (s : Piecing S D)
-    (whole : IsPiecing g s) (handed : s.handed ≡ 0) (few : length (rest s) < n) (most : n ≤ g.most)
+module _ {S D W : Type 0} (remaining : S → Option (List ℕ)) (g : Grammar W) (n : ℕ) (s : ReaderState S D)
+    (whole : IsPieceReader g s) (handed : s.handed ≡ 0) (few : length (rest s) < n) (most : n ≤ g.most)
     (not_ended : s.ended ≡ false) (p : MinBuffered) (number : p.0 ≡ n) (answer : Result (Bor (List ℕ)) Error)
     (t : Buffered S MinBuffered) (f : FillBuf remaining min_read_rules (with_policy s.reader p) answer t) where
-  abbrev pub filled : Piecing S D
+  abbrev pub filled : ReaderState S D
   filled = record s { reader = t }
 
   claimed : t.policy.0 ≡ p.0
@@ -165,7 +165,7 @@ module _ {S D W : Type 0} (remaining : S → Option (List ℕ)) (g : Grammar W) 
   rest_grown =
       ap (λ n. drop n t.block.bytes) handed ∙ grown ∙ ap (λ l. l ++ f.fills.in_order.got) (sym (rest_whole s handed))
 
-  pub filled_whole : IsPiecing g filled
+  pub filled_whole : IsPieceReader g filled
   filled_whole =
       let within : s.seen ≤ length (rest s) = omega (arith, whole.handed, handed, ap length (rest_whole s handed)) in
       record {
@@ -213,14 +213,14 @@ module _ {S D W : Type 0} (remaining : S → Option (List ℕ)) (g : Grammar W) 
   ]
 
 -- where the read didn't fail, so many bytes came, or the stream ended
-pub AsksFor-ok : {S D W : Type 0} (remaining : S → Option (List ℕ)) (g : Grammar W) (n : ℕ) (s : Piecing S D)
-    → IsPiecing g s → s.handed ≡ 0 → length (rest s) < n → n ≤ g.most → s.ended ≡ false → (p : MinBuffered)
+pub AsksFor-ok : {S D W : Type 0} (remaining : S → Option (List ℕ)) (g : Grammar W) (n : ℕ) (s : ReaderState S D)
+    → IsPieceReader g s → s.handed ≡ 0 → length (rest s) < n → n ≤ g.most → s.ended ≡ false → (p : MinBuffered)
     → p.0 ≡ n → (bytes : Bor (List ℕ)) (t : Buffered S MinBuffered)
     → FillBuf remaining min_read_rules (with_policy s.reader p) (Ok bytes) t → (some : Bool)
     → (some ≡ true → n ≤ length t.block.bytes) → (some ≡ false → length t.block.bytes < n)
     → AsksFor remaining g n s (Ok some) (record s { reader = t })
 AsksFor-ok {S} {D} remaining g n s whole handed few most not_ended p number bytes t f some more less =
-    let v : Piecing S D = record s { reader = t } in
+    let v : ReaderState S D = record s { reader = t } in
     let left : length (rest v) ≡ length t.block.bytes = ap length (rest_whole v handed) in
     record {
       went = went remaining g n s whole handed few most not_ended p number (Ok bytes) t f;
@@ -254,13 +254,13 @@ no_policy_error e s t holds gave =
     let table = gave.gave.allowed in
     omega (arith, holds, table.3.refused.tight, ap (λ p. p.0) table.0, ap (λ b. b.capacity) table.1)
 
-pub AsksFor-err : {S D W : Type 0} (remaining : S → Option (List ℕ)) (g : Grammar W) (n : ℕ) (s : Piecing S D)
-    → IsPiecing g s → s.handed ≡ 0 → length (rest s) < n → n ≤ g.most → s.ended ≡ false → (p : MinBuffered)
+pub AsksFor-err : {S D W : Type 0} (remaining : S → Option (List ℕ)) (g : Grammar W) (n : ℕ) (s : ReaderState S D)
+    → IsPieceReader g s → s.handed ≡ 0 → length (rest s) < n → n ≤ g.most → s.ended ≡ false → (p : MinBuffered)
     → p.0 ≡ n → (e : Error) (t : Buffered S MinBuffered)
     → FillBuf remaining min_read_rules (with_policy s.reader p) (Err e) t
     → AsksFor remaining g n s (Err e) (record s { reader = t })
 AsksFor-err {S} {D} remaining g n s whole handed few most not_ended p number e t f =
-    let v : Piecing S D = record s { reader = t } in
+    let v : ReaderState S D = record s { reader = t } in
     record {
       went = went remaining g n s whole handed few most not_ended p number (Err e) t f;
       handed = handed;

@@ -6,18 +6,18 @@ use Rattle.codec.specs.Grammar.{Grammar}
 use Rattle.codec.specs.NextPiece.{AskedWhere, Faulted, PiecesWent, Refills}
 use Rattle.codec.specs.NextPieceLaws.{AskedWhere-told, MetEnd-joins, still_going}
 use Rattle.codec.specs.PiecesWentLaws.{PiecesWent-inside, PiecesWent-joins}
-use Rattle.codec.specs.Piecing.{IsPiecing, Piecing, rest}
+use Rattle.codec.specs.PieceReader.{IsPieceReader, ReaderState, rest}
 use Rattle.codec.specs.Steps.{AsksFor}
-use Rattle.codec.proofs.Heads.{Head, Head-none, Head-told}
+use Rattle.codec.proofs.Headers.{HeaderBytes, HeaderBytes-none, HeaderBytes-told}
 
 -- what was handed out was dropped, and nothing is left
-module _ {S D W : Type 0} (remaining : S → Option (List ℕ)) (g : Grammar W) (s m : Piecing S D)
+module _ {S D W : Type 0} (remaining : S → Option (List ℕ)) (g : Grammar W) (s m : ReaderState S D)
     (went : PiecesWent remaining g.most s [] m) (left : rest m ≡ rest s) (ended : m.ended ≡ s.ended)
     (told : m.reader.log ≡ s.reader.log) (none : rest s ≡ []) where
-  head : Head remaining g s m
-  head = Head-told remaining g s s (Head-none remaining g s) m went told ended
+  header : HeaderBytes remaining g s m
+  header = HeaderBytes-told remaining g s s (HeaderBytes-none remaining g s) m went told ended
 
-  asked_over : (t : Piecing S D) → AskedWhere (λ bytes. length bytes < 1) m t → AskedWhere (λ bytes. bytes ≡ []) s t
+  asked_over : (t : ReaderState S D) → AskedWhere (λ bytes. length bytes < 1) m t → AskedWhere (λ bytes. bytes ≡ []) s t
   asked_over t (inl same) = inl (same ∙ told)
   asked_over t (inr over) = inr (record {
     not_ended = sym ended ∙ over.not_ended;
@@ -30,8 +30,8 @@ module _ {S D W : Type 0} (remaining : S → Option (List ℕ)) (g : Grammar W) 
   })
 
   -- what changes where the end alone is noted behind the answer
-  module _ (t : Piecing S D) (came flag : Bool) where
-    abbrev pub noted : Piecing S D
+  module _ (t : ReaderState S D) (came flag : Bool) where
+    abbrev pub noted : ReaderState S D
     noted = record t { ended = flag }
 
     went_on : AsksFor remaining g 1 m (Ok came) t → PiecesWent remaining g.most s [] noted
@@ -42,7 +42,7 @@ module _ {S D W : Type 0} (remaining : S → Option (List ℕ)) (g : Grammar W) 
     asked_then : AsksFor remaining g 1 m (Ok came) t → AskedWhere (λ bytes. bytes ≡ []) s noted
     asked_then a = AskedWhere-told (λ bytes. bytes ≡ []) s t noted refl (asked_over t a.asked)
 
-    still_whole : AsksFor remaining g 1 m (Ok came) t → (flag ≡ true → rest t ≡ []) → IsPiecing g noted
+    still_whole : AsksFor remaining g 1 m (Ok came) t → (flag ≡ true → rest t ≡ []) → IsPieceReader g noted
     still_whole a none_left = record {
       block = a.whole.block;
       plain = a.whole.plain;
@@ -82,14 +82,14 @@ module _ {S D W : Type 0} (remaining : S → Option (List ℕ)) (g : Grammar W) 
           end = λ _. (
             empty,
             closed,
-            MetEnd-joins s m t head.ended head.no_end end.1,
+            MetEnd-joins s m t header.ended header.no_end end.1,
             end.2 ∙ ap (λ l. l.reads.faults) told,
           );
           failed = λ e odd. cc;
           whole = still_whole a (λ _. empty);
         }
 
-  module _ (t : Piecing S D) where
+  module _ (t : ReaderState S D) where
     pub fails : (e : Error) → AsksFor remaining g 1 m (Err e) t → Refills remaining g s (Err e) t
     fails e a =
         let f = a.failed e refl in record {

@@ -8,25 +8,25 @@ use Rattle.codec.specs.declared.laws.runs.WriteEachError.{WriteEachError}
 use Rattle.codec.specs.declared.error.WritePieceError.TheVariants.{Refused, Io}
 use Rattle.codec.specs.Encoding.{Encoding}
 use Rattle.codec.specs.KnownPieces.{BufferRefused}
-use Rattle.codec.specs.Outgoing.{Outgoing}
+use Rattle.codec.specs.PieceWriter.{WriterState}
 use Rattle.codec.specs.WritePiece.{WriteAnswer, WritesPiece}
 use Rattle.codec.specs.WriteRuns.{CallsEach, IfFault}
 
-refused : {E W : Type 0} (stretch : MemoryWriter → MemoryWriter → Type 0) (e : Encoding W) (m t : Outgoing MemoryWriter E)
+refused : {E W : Type 0} (trace : MemoryWriter → MemoryWriter → Type 0) (e : Encoding W) (m t : WriterState MemoryWriter E)
     (w : MemoryWriter) → writer_log w ≡ t.writer.log → (payload : List ℕ) (why : WritePieceError W)
-    → WritesPiece stretch e m payload (Err why) t → IfFault IsMemory why
-refused stretch e m t w told payload (Refused x) failed = tt
-refused stretch e m t w told payload (Io fault) failed = send-memory w m.writer.log.writes fault
+    → WritesPiece trace e m payload (Err why) t → IfFault IsMemory why
+refused trace e m t w told payload (Refused x) failed = tt
+refused trace e m t w told payload (Io fault) failed = send-memory w m.writer.log.writes fault
     (subst (λ l. SendErrorCaused m.writer.log.writes l.writes fault) (sym told) failed.answers.1)
 
 -- what a writer of pieces over memory, whose log is this, failed by
-pub write_refused : {E W : Type 0} (stretch : MemoryWriter → MemoryWriter → Type 0) (encoding : E → Encoding W)
-    (Plays : Outgoing MemoryWriter E → List (List ℕ) → List (WriteAnswer W) → Outgoing MemoryWriter E → Type 0)
-    (s t : Outgoing MemoryWriter E) (w : MemoryWriter) → writer_log w ≡ t.writer.log → (payloads : List (List ℕ))
+pub write_refused : {E W : Type 0} (trace : MemoryWriter → MemoryWriter → Type 0) (encoding : E → Encoding W)
+    (Plays : WriterState MemoryWriter E → List (List ℕ) → List (WriteAnswer W) → WriterState MemoryWriter E → Type 0)
+    (s t : WriterState MemoryWriter E) (w : MemoryWriter) → writer_log w ≡ t.writer.log → (payloads : List (List ℕ))
     (why : WriteEachError (WritePieceError W))
-    → CallsEach (λ m. WritesPiece stretch (encoding m.encoder) m) Plays s payloads (Err why) t → IfFault IsMemory why.error
-write_refused stretch encoding Plays s t w told payloads why each =
-    refused stretch (encoding each.before.encoder) each.before t w told each.payload why.error each.failed
+    → CallsEach (λ m. WritesPiece trace (encoding m.encoder) m) Plays s payloads (Err why) t → IfFault IsMemory why.error
+write_refused trace encoding Plays s t w told payloads why each =
+    refused trace (encoding each.before.encoder) each.before t w told each.payload why.error each.failed
 
 pub or_larger : {W : Type 0} (most : ℕ) (why : WritePieceError W) → IfFault IsMemory why
     → IfFault (BufferRefused most) why

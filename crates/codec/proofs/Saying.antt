@@ -11,14 +11,14 @@ use Rattle.codec.specs.NextPiece.{HandsBytes, NextPiece, PiecesWent, load_answer
 use Rattle.codec.specs.GrammarLaws.{wrong_some}
 use Rattle.codec.specs.NextPieceLaws.{NextPiece-refused}
 use Rattle.codec.specs.PiecesWentLaws.{HandsBytes-same}
-use Rattle.codec.specs.Piecing.{Piecing, IsPiecing, rest}
+use Rattle.codec.specs.PieceReader.{ReaderState, IsPieceReader, rest}
 use Rattle.codec.specs.Steps.{TakesEnd, TakesPiece}
 use Rattle.codec.proofs.Loading.{takes_shown}
 use Rattle.codec.proofs.Reading.{rest_whole}
 
 module _ {S D : Type 0} where
   -- what stands at the front of the buffer is what was left, and what came
-  pub hands_front : (s m t : Piecing S D) (remaining : S → Option (List ℕ)) (most : ℕ) → PiecesWent remaining most s [] m
+  pub hands_front : (s m t : ReaderState S D) (remaining : S → Option (List ℕ)) (most : ℕ) → PiecesWent remaining most s [] m
       → m.handed ≡ 0 → t.reader ≡ m.reader → HandsBytes s (take t.handed t.reader.block.bytes) t
   hands_front s m t remaining most went none same = record {
     got = went.hands.got;
@@ -27,14 +27,14 @@ module _ {S D : Type 0} where
         ∙ went.hands.equal;
   }
 
-  pub part_front : (t : Piecing S D) → part 0 t.handed t.reader.block.bytes ≡ take t.handed t.reader.block.bytes
+  pub part_front : (t : ReaderState S D) → part 0 t.handed t.reader.block.bytes ≡ take t.handed t.reader.block.bytes
   part_front t =
       let count : t.handed - 0 ≡ t.handed = omega arith in
       ap (λ n. take n t.reader.block.bytes) count
 
 module _ {S D W : Type 0} where
   -- what was handed out as the last piece is what stands at the front of the buffer
-  pub hands_last : (s m t : Piecing S D) (remaining : S → Option (List ℕ)) (most : ℕ) (g : Grammar W)
+  pub hands_last : (s m t : ReaderState S D) (remaining : S → Option (List ℕ)) (most : ℕ) (g : Grammar W)
       → PiecesWent remaining most s [] m → m.handed ≡ 0 → (r : Result (Option Span) (NextError W)) → TakesEnd g m r t
       → IfOk r (λ found. IfSome found (λ _. HandsBytes s (take t.handed t.reader.block.bytes) t))
   hands_last s m t remaining most g went none (Ok None) takes = tt
@@ -44,7 +44,7 @@ module _ {S D W : Type 0} where
       hands_front s m t remaining most went none (ap (λ x. x.reader) takes.3)
 
   -- a piece that was buffered whole is what was handed out
-  pub part_piece : (g : Grammar W) (s t : Piecing S D) (at : ℕ) (span : Span) (used : ℕ) → at ≡ s.handed
+  pub part_piece : (g : Grammar W) (s t : ReaderState S D) (at : ℕ) (span : Span) (used : ℕ) → at ≡ s.handed
       → TakesPiece g s t span used → part at t.handed t.reader.block.bytes ≡ take used (rest s)
   part_piece g s t at span used is takes =
       let same = takes.same in
@@ -52,7 +52,7 @@ module _ {S D W : Type 0} where
       ap (λ n. take n (drop at t.reader.block.bytes)) count ∙ ap (λ x. take used (drop at x.reader.block.bytes)) same
       ∙ ap (λ n. take used (drop n s.reader.block.bytes)) is
 
-  pub hands_piece : (g : Grammar W) (s t : Piecing S D) (span : Span) (used : ℕ) → TakesPiece g s t span used
+  pub hands_piece : (g : Grammar W) (s t : ReaderState S D) (span : Span) (used : ℕ) → TakesPiece g s t span used
       → HandsBytes s (take used (rest s)) t
   hands_piece g s t span used takes =
       let same = takes.same in
@@ -65,14 +65,14 @@ module _ {S D W : Type 0} where
       }
 
   -- what a call handed out is a piece, or a last one
-  pub whole_of : (remaining : S → Option (List ℕ)) (g : Grammar W) (s t : Piecing S D) (payload : List ℕ)
+  pub whole_of : (remaining : S → Option (List ℕ)) (g : Grammar W) (s t : ReaderState S D) (payload : List ℕ)
       (next : NextPiece remaining g s (Ok (Some payload)) t) → IsWhole g next.bytes
   whole_of remaining g s t payload next = elim next.answers.1 [
     | inl is ↦ (payload, inl is.0)
     | inr is ↦ (payload, inr is.0)
   ]
 
-module _ {S D W : Type 0} (grammar : D → Grammar W) (s t : Piecing S D) where
+module _ {S D W : Type 0} (grammar : D → Grammar W) (s t : ReaderState S D) where
   -- what is looked at for an item is a piece
   pub whole_piece : (at : ℕ) (span : Span) (used : ℕ) → at ≡ s.handed → TakesPiece (grammar s.decoder) s t span used
       → IsWhole (grammar t.decoder) (part at t.handed t.reader.block.bytes)
@@ -93,14 +93,14 @@ module _ {S D W : Type 0} (grammar : D → Grammar W) (s t : Piecing S D) where
         (whole_of remaining (grammar s.decoder) s t payload next))
 
 -- what is promised of an answer, where that is a place
-module _ {S D W : Type 0} (s t : Piecing S D) (r : Result (Option Span) (NextError W)) (span : Span)
+module _ {S D W : Type 0} (s t : ReaderState S D) (r : Result (Option Span) (NextError W)) (span : Span)
     (is : r ≡ Ok (Some span)) where
   pub loaded_front : IfOk r (λ found. IfSome found (λ _. HandsBytes s (take t.handed t.reader.block.bytes) t))
       → HandsBytes s (take t.handed t.reader.block.bytes) t
   loaded_front front = subst (λ x. IfOk x (λ found. IfSome found (λ _. HandsBytes s (take t.handed t.reader.block.bytes) t))) is
       front
 
-pub loaded_next : {S D W : Type 0} (grammar : D → Grammar W) (s t : Piecing S D) (remaining : S → Option (List ℕ))
+pub loaded_next : {S D W : Type 0} (grammar : D → Grammar W) (s t : ReaderState S D) (remaining : S → Option (List ℕ))
     (r : Result (Option Span) (NextError W)) (span : Span) → r ≡ Ok (Some span)
     → NextPiece remaining (grammar s.decoder) s (load_answer r t) t
     → NextPiece remaining (grammar s.decoder) s (load_answer (Ok (Some span)) t) t
@@ -108,14 +108,15 @@ loaded_next grammar s t remaining r span is next =
     subst (λ x. NextPiece remaining (grammar s.decoder) s (load_answer x t) t) is next
 
 -- what is left begins with no piece
-pub wrong_now : {S D W : Type 0} (remaining : S → Option (List ℕ)) (g : Grammar W) → IsLawful g → (s t : Piecing S D) (e : W)
-    → g.wrong (rest s) e → t ≡ s → IsPiecing g s → NextPiece remaining g s (Err (Wrong e)) t
+pub wrong_now : {S D W : Type 0} (remaining : S → Option (List ℕ)) (g : Grammar W) → IsLawful g → (s t : ReaderState S D) (e : W)
+    → g.wrong (rest s) e → t ≡ s → IsPieceReader g s → NextPiece remaining g s (Err (Wrong e)) t
 wrong_now remaining g law s t e wrong same whole = subst (NextPiece remaining g s (Err (Wrong e))) (sym same)
     (NextPiece-refused remaining g s whole (wrong_some g law (rest s) e wrong) e wrong)
 
 -- a piece that was buffered whole says what all of its bytes say
 pub says_piece : {S D W I : Type 0} (remaining : S → Option (List ℕ)) (grammar : D → Grammar W) (item_of : D → List ℕ → I)
-    (s t : Piecing S D) → IsLawful (grammar s.decoder) → IsPiecing (grammar s.decoder) s → IsPiecing (grammar s.decoder) t
+    (s t : ReaderState S D) → IsLawful (grammar s.decoder) → IsPieceReader (grammar s.decoder) s → IsPieceReader
+    (grammar s.decoder) t
     → (at : ℕ) → at ≡ s.handed → (span : Span) (used : ℕ) → TakesPiece (grammar s.decoder) s t span used → (item : I)
     → item ≡ item_of t.decoder (part at t.handed t.reader.block.bytes)
     → NextItem remaining (grammar s.decoder) (item_of s.decoder) s

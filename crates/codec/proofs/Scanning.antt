@@ -1,31 +1,31 @@
--- A head is read byte by byte.
+-- A header is read byte by byte.
 use Rattle.std.specs.Prelude.{◌≡◌, ℕ, zero, suc, ◌+◌, ◌<◌, ◌≤◌, List, [], ◌∷◌, length, drop, get_or}
 use Rattle.std.proofs.Common.{sym, ap, ◌∙◌, arith, refl}
 use Rattle.std.proofs.lemmas.List.{drop_all, drop_more}
 use Rattle.codec.specs.Scanning.{says, scan_on}
-use Rattle.codec.specs.declared.heading.Heading.TheVariants as heading
-use Rattle.codec.specs.declared.scan.Turn.{Turn}
-use Rattle.codec.specs.declared.scan.Turn.TheVariants.{More, Bad}
+use Rattle.codec.specs.declared.header.Header.TheVariants as header
+use Rattle.codec.specs.declared.scan.ScanStep.{ScanStep}
+use Rattle.codec.specs.declared.scan.ScanStep.TheVariants.{More, Bad}
 
-module _ {S : Type 0} (go : S → ℕ → Turn S) where
-  -- one byte more is read, where one may be the head's
-  pub read : (left : ℕ) (state : S) (used byte : ℕ) (more : List ℕ) (t : Turn S) → 0 < left → go state byte ≡ t
+module _ {S : Type 0} (go : S → ℕ → ScanStep S) where
+  -- one byte more is read, where one may be the header's
+  pub read : (left : ℕ) (state : S) (used byte : ℕ) (more : List ℕ) (t : ScanStep S) → 0 < left → go state byte ≡ t
       → (fewer : ℕ) × (fewer + 1 ≡ left)
       × (scan_on go left state used (byte ∷ more) ≡ says t (used + 1) (λ next. scan_on go fewer next (used + 1) more))
   read zero state used byte more t some is = absurd (omega (arith, some))
   read (suc left) state used byte more t some is =
       (left, omega arith, ap (λ t. says t (used + 1) (λ next. scan_on go left next (used + 1) more)) is)
 
-  none_left : (left : ℕ) (state : S) (used : ℕ) (bytes : List ℕ) → left ≡ 0 → scan_on go left state used bytes ≡ heading.Bad
+  none_left : (left : ℕ) (state : S) (used : ℕ) (bytes : List ℕ) → left ≡ 0 → scan_on go left state used bytes ≡ header.Bad
   none_left zero state used bytes is = refl
   none_left (suc left) state used bytes is = absurd (omega (arith, is))
 
-  no_byte : (left : ℕ) (state : S) (used : ℕ) → 0 < left → scan_on go left state used [] ≡ heading.Short
+  no_byte : (left : ℕ) (state : S) (used : ℕ) → 0 < left → scan_on go left state used [] ≡ header.Short
   no_byte zero state used some = absurd (omega (arith, some))
   no_byte (suc left) state used some = refl
 
   module _ (most : ℕ) (start : S) (bytes : List ℕ) where
-    -- the first so many bytes were read, and this is where the head stands
+    -- the first so many bytes were read, and this is where the header stands
     pub record ScansOn (state : S) (used : ℕ) : Type 0 where
       pub left : ℕ
       pub all : left + used ≡ most
@@ -35,18 +35,18 @@ module _ {S : Type 0} (go : S → ℕ → Turn S) where
     scans_none = record { left = most; all = omega arith; goes = refl }
 
     module _ (state : S) (used : ℕ) (so : ScansOn state used) where
-      -- no more bytes may be the head's
-      pub scans_full : used ≡ most → scan_on go most start 0 bytes ≡ heading.Bad
+      -- no more bytes may be the header's
+      pub scans_full : used ≡ most → scan_on go most start 0 bytes ≡ header.Bad
       scans_full full = so.goes ∙ none_left so.left state used (drop used bytes) (omega (arith, full, so.all))
 
       -- there is none
-      pub scans_short : length bytes ≤ used → ¬ (used ≡ most) → scan_on go most start 0 bytes ≡ heading.Short
+      pub scans_short : length bytes ≤ used → ¬ (used ≡ most) → scan_on go most start 0 bytes ≡ header.Short
       scans_short end some =
           so.goes ∙ ap (λ l. scan_on go so.left state used l) (drop_all used bytes end)
           ∙ no_byte so.left state used (omega (arith, some, so.all))
 
       module _ (byte other : ℕ) (inside : used < length bytes) (is : byte ≡ get_or bytes used other) (some : ¬ (used ≡ most))
-          (t : Turn S) (turns : go state byte ≡ t) where
+          (t : ScanStep S) (turns : go state byte ≡ t) where
         abbrev next_read : (fewer : ℕ) × (fewer + 1 ≡ so.left) × (scan_on go so.left state used (byte ∷ drop (used + 1) bytes)
             ≡ says t (used + 1) (λ next. scan_on go fewer next (used + 1) (drop (used + 1) bytes)))
         next_read = read so.left state used byte (drop (used + 1) bytes) t (omega (arith, some, so.all)) turns

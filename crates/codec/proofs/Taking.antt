@@ -5,12 +5,12 @@ use Rattle.codec.specs.declared.decoder.Span.{Span}
 use Rattle.codec.specs.Decoding.{IsPiece}
 use Rattle.codec.specs.Grammar.{Grammar, IsLawful, IsOpen}
 use Rattle.codec.specs.GrammarLaws.{open_take}
-use Rattle.codec.specs.Piecing.{Piecing, IsPiecing, rest}
+use Rattle.codec.specs.PieceReader.{ReaderState, IsPieceReader, rest}
 
-module _ {S D W : Type 0} (g : Grammar W) (law : IsLawful g) (f : Piecing S D) (whole : IsPiecing g f) where
+module _ {S D W : Type 0} (g : Grammar W) (law : IsLawful g) (f : ReaderState S D) (whole : IsPieceReader g f) where
   -- a piece was handed out
   pub taken_whole : (span : Span) (used : ℕ) → IsPiece g (rest f) span used
-      → IsPiecing g (record f { handed = f.handed + used; seen = 0 })
+      → IsPieceReader g (record f { handed = f.handed + used; seen = 0 })
   taken_whole span used piece =
       let left = length-drop f.handed f.reader.block.bytes in
       record {
@@ -31,7 +31,7 @@ module _ {S D W : Type 0} (g : Grammar W) (law : IsLawful g) (f : Piecing S D) (
       }
 
   -- what is left settles nothing
-  pub looked_whole : (seen : ℕ) → seen ≡ length (rest f) → IsOpen g (rest f) → IsPiecing g (record f { seen = seen })
+  pub looked_whole : (seen : ℕ) → seen ≡ length (rest f) → IsOpen g (rest f) → IsPieceReader g (record f { seen = seen })
   looked_whole seen is open' = record {
     block = whole.block;
     plain = whole.plain;
@@ -45,7 +45,7 @@ module _ {S D W : Type 0} (g : Grammar W) (law : IsLawful g) (f : Piecing S D) (
 
   -- all that is buffered was handed out, at the end
   pub ended_whole : (len : ℕ) → len ≡ length f.reader.block.bytes
-      → IsPiecing g (record f { handed = len; seen = 0; ended = true })
+      → IsPieceReader g (record f { handed = len; seen = 0; ended = true })
   ended_whole len is = record {
     block = whole.block;
     plain = whole.plain;

@@ -10,14 +10,14 @@ use Rattle.codec.specs.Decoding.{bytes_at}
 use Rattle.codec.specs.Fetching.{FlushedFirst}
 use Rattle.codec.specs.Grammar.{Grammar}
 use Rattle.codec.specs.Items.{NextItem}
-use Rattle.codec.specs.Piecing.{Piecing}
+use Rattle.codec.specs.PieceReader.{ReaderState}
 use Rattle.codec.specs.Serving.{AnswerFailed, Answering, Exchange, Fetched, FlushFailed, Server, TookPiece, server}
 
-module _ {S D W I A T P : Type 0} (remaining : S → Option (List ℕ)) (tells : T → StreamLog) (stretch : T → T → Type 0)
-    (g : Grammar W) (item_of : List ℕ → I) (Answers : Answering A I) (s : Server S D A T P) (t : Piecing S D)
+module _ {S D W I A T P : Type 0} (remaining : S → Option (List ℕ)) (tells : T → StreamLog) (trace : T → T → Type 0)
+    (g : Grammar W) (item_of : List ℕ → I) (Answers : Answering A I) (s : Server S D A T P) (t : ReaderState S D)
     (ready : Buffered T P) (r : Result (Result (Option (I × Span)) (NextError W)) Error) (said : I × Span)
     (is : r ≡ Ok (Ok (Some said))) (next : IfOk r (λ answer. NextItem remaining g item_of s.pieces answer t))
-    (first : FlushedFirst tells stretch g s.pieces s.answers r t ready) (shown : List ℕ)
+    (first : FlushedFirst tells trace g s.pieces s.answers r t ready) (shown : List ℕ)
     (lent : shown ≡ bytes_at said.1 t.reader.block.bytes) (after : A) (last : Buffered T P) where
   abbrev item : NextItem remaining g item_of s.pieces (Ok (Some said)) t
   item = subst (λ r. IfOk r (λ answer. NextItem remaining g item_of s.pieces answer t)) is next
@@ -25,10 +25,10 @@ module _ {S D W I A T P : Type 0} (remaining : S → Option (List ℕ)) (tells :
   abbrev exchange : List ℕ → Exchange
   exchange reply = record { bytes = item.next.bytes; payload = bytes_at said.1 t.reader.block.bytes; reply = reply }
 
-  abbrev fetched : Fetched remaining tells stretch g item_of Answers s (Ok (Some (bytes_at said.1 t.reader.block.bytes))) ready t
+  abbrev fetched : Fetched remaining tells trace g item_of Answers s (Ok (Some (bytes_at said.1 t.reader.block.bytes))) ready t
   fetched = record {
     next = item.next;
-    first = subst (λ r. FlushedFirst tells stretch g s.pieces s.answers r t ready) is first;
+    first = subst (λ r. FlushedFirst tells trace g s.pieces s.answers r t ready) is first;
   }
 
   answers : (reply : List ℕ) (more : Bool) → Answers s.service said.0 shown reply more after
@@ -37,8 +37,8 @@ module _ {S D W I A T P : Type 0} (remaining : S → Option (List ℕ)) (tells :
       (subst (λ l. Answers s.service said.0 l reply more after) lent a)
 
   -- the piece was answered
-  pub took_piece : (b more : Bool) → b ≡ more → Answered tells stretch (Answers s.service said.0 shown) ready (Ok b) after last
-      → (x : Exchange) × TookPiece remaining tells stretch g item_of Answers s x more (server t after last)
+  pub took_piece : (b more : Bool) → b ≡ more → Answered tells trace (Answers s.service said.0 shown) ready (Ok b) after last
+      → (x : Exchange) × TookPiece remaining tells trace g item_of Answers s x more (server t after last)
   took_piece b more same (reply, a, along) = (
     exchange reply,
     record {
@@ -51,9 +51,9 @@ module _ {S D W I A T P : Type 0} (remaining : S → Option (List ℕ)) (tells :
   )
 
   -- the piece couldn't be answered
-  pub answer_failed : (e : Error) → Answered tells stretch (Answers s.service said.0 shown) ready (Err e) after last
-      → FlushFailed remaining tells stretch g item_of Answers s e (server t after last)
-      ⊎ ((x : Exchange) × AnswerFailed remaining tells stretch g item_of Answers s x e (server t after last))
+  pub answer_failed : (e : Error) → Answered tells trace (Answers s.service said.0 shown) ready (Err e) after last
+      → FlushFailed remaining tells trace g item_of Answers s e (server t after last)
+      ⊎ ((x : Exchange) × AnswerFailed remaining tells trace g item_of Answers s x e (server t after last))
   answer_failed e (reply, more, a, nothing, refused) = inr (
     exchange reply,
     record {

@@ -11,8 +11,8 @@ use Rattle.buffer_redux.specs.WriteParts.{PartsRefused}
 -- taken in, since the writer refused it
 abbrev pub Answered : {A T P : Type 0} → (T → StreamLog) → (T → T → Type 0) → (List ℕ → Bool → A → Type 0) → Buffered T P
     → Result Bool Error → A → Buffered T P → Type 0
-Answered tells stretch Answers w (Ok more) t v =
-    (reply : List ℕ) × Answers reply more t × WritesAlong tells stretch std_write_rules w reply v
-Answered tells stretch Answers w (Err e) t v =
-    (reply : List ℕ) × (more : Bool) × Answers reply more t × WritesAlong tells stretch std_write_rules w [] v
+Answered tells trace Answers w (Ok more) t v =
+    (reply : List ℕ) × Answers reply more t × WritesAlong tells trace std_write_rules w reply v
+Answered tells trace Answers w (Err e) t v =
+    (reply : List ℕ) × (more : Bool) × Answers reply more t × WritesAlong tells trace std_write_rules w [] v
     × PartsRefused (length reply) w e v

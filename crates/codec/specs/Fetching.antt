@@ -6,18 +6,18 @@ use Rattle.buffer_redux.specs.BufWriter.{WasFlushed}
 use Rattle.buffer_redux.specs.StreamLog.{StreamLog}
 use Rattle.codec.specs.Grammar.{Grammar}
 use Rattle.codec.specs.NextPiece.{StaysLeft}
-use Rattle.codec.specs.Piecing.{IsSettled, Piecing}
+use Rattle.codec.specs.PieceReader.{IsSettled, ReaderState}
 
-module _ {S D V T P : Type 0} (tells : T → StreamLog) (stretch : T → T → Type 0) (g : Grammar V) (s : Piecing S D)
+module _ {S D V T P : Type 0} (tells : T → StreamLog) (trace : T → T → Type 0) (g : Grammar V) (s : ReaderState S D)
     (w : Buffered T P) where
   -- the writer was flushed where the next step would ask the stream, and else it is as it was
   abbrev pub FlushesToAsk : Result (Unit {0}) Error → Buffered T P → Type 0
   FlushesToAsk answer v =
-      (IsSettled g s × (answer ≡ Ok tt) × (v ≡ w)) ⊎ ((¬ (IsSettled g s)) × WasFlushed tells stretch w answer v)
+      (IsSettled g s × (answer ≡ Ok tt) × (v ≡ w)) ⊎ ((¬ (IsSettled g s)) × WasFlushed tells trace w answer v)
 
   -- the stream wasn't asked, and the writer is as it was; or what was left settled nothing, and all that was written was
   -- received and flushed before the stream was asked. Where that failed nothing was asked or taken
-  abbrev pub FlushedFirst : {A : Type 0} → Result A Error → Piecing S D → Buffered T P → Type 0
+  abbrev pub FlushedFirst : {A : Type 0} → Result A Error → ReaderState S D → Buffered T P → Type 0
   FlushedFirst (Ok a) t v =
-      ((v ≡ w) × (t.reader.log ≡ s.reader.log)) ⊎ ((¬ (IsSettled g s)) × WasFlushed tells stretch w (Ok tt) v)
-  FlushedFirst (Err e) t v = (¬ (IsSettled g s)) × WasFlushed tells stretch w (Err e) v × StaysLeft g s t
+      ((v ≡ w) × (t.reader.log ≡ s.reader.log)) ⊎ ((¬ (IsSettled g s)) × WasFlushed tells trace w (Ok tt) v)
+  FlushedFirst (Err e) t v = (¬ (IsSettled g s)) × WasFlushed tells trace w (Err e) v × StaysLeft g s t

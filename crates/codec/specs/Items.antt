@@ -5,7 +5,7 @@ use Rattle.codec.specs.declared.error.NextError.{NextError}
 use Rattle.codec.specs.Decoding.{bytes_at}
 use Rattle.codec.specs.Grammar.{Begins, Grammar}
 use Rattle.codec.specs.NextPiece.{NextPiece, StaysLeft}
-use Rattle.codec.specs.Piecing.{Piecing, rest}
+use Rattle.codec.specs.PieceReader.{ReaderState, rest}
 
 -- these bytes are a piece, or a last one
 abbrev pub IsWhole : {W : Type 0} → Grammar W → List ℕ → Type 0
@@ -16,7 +16,7 @@ abbrev pub part : ℕ → ℕ → List ℕ → List ℕ
 part from to bytes = take (to - from) (drop from bytes)
 
 -- what is lent, of an answer that says where it is, and an item
-abbrev pub item_answer : {S D E I : Type 0} → Result (Option (I × Span)) E → Piecing S D → Result (Option (List ℕ)) E
+abbrev pub item_answer : {S D E I : Type 0} → Result (Option (I × Span)) E → ReaderState S D → Result (Option (List ℕ)) E
 item_answer (Ok (Some found)) t = Ok (Some (bytes_at found.1 t.reader.block.bytes))
 item_answer (Ok None) t = Ok None
 item_answer (Err e) t = Err e
@@ -29,13 +29,13 @@ Says item_of (Err e) bytes = Unit {0}
 
 -- what one call of `step_item` does: as `step`, and the item is what the piece says, by all of its bytes
 pub record NextItem {S D W I : Type 0} (remaining : S → Option (List ℕ)) (g : Grammar W) (item_of : List ℕ → I)
-    (s : Piecing S D) (answer : Result (Option (I × Span)) (NextError W)) (t : Piecing S D) : Type 0 where
+    (s : ReaderState S D) (answer : Result (Option (I × Span)) (NextError W)) (t : ReaderState S D) : Type 0 where
   pub next : NextPiece remaining g s (item_answer answer t) t
   pub says : Says item_of answer next.bytes
 
 -- what `step_item_buffered` does: as `step_item` where the next piece stands whole in what is left, and else nothing. The
 -- reader inside isn't called
-abbrev pub ItemBuffered : {S D W I : Type 0} → (S → Option (List ℕ)) → Grammar W → (List ℕ → I) → Piecing S D
-    → Option (I × Span) → Piecing S D → Type 0
+abbrev pub ItemBuffered : {S D W I : Type 0} → (S → Option (List ℕ)) → Grammar W → (List ℕ → I) → ReaderState S D
+    → Option (I × Span) → ReaderState S D → Type 0
 ItemBuffered remaining g item_of s (Some said) t = NextItem remaining g item_of s (Ok (Some said)) t × (t.reader ≡ s.reader)
 ItemBuffered remaining g item_of s None t = StaysLeft g s t × ¬ (Begins g (rest s))

@@ -12,7 +12,7 @@ use Rattle.codec.specs.KnownPieces.{HasLeft, NextKnown, ahead_of}
 use Rattle.codec.specs.NextPiece.{Faulted, MetEnd, NextAnswer, NextPiece, PiecesWent}
 use Rattle.codec.specs.NextPieceLaws.{MetEnd-once}
 use Rattle.codec.specs.PiecesWentLaws.{drop_none}
-use Rattle.codec.specs.Piecing.{Piecing, IsFresh, rest}
+use Rattle.codec.specs.PieceReader.{ReaderState, IsFresh, rest}
 use Rattle.codec.specs.TextLaws.{Pieces-first, Pieces-last, Pieces-none, Pieces-right, Pieces-whole}
 use Rattle.codec.specs.Texts.{HasPieces, IsLast}
 
@@ -30,7 +30,7 @@ dry_front (Some x) None more ended is known was = cc
 dry_front (Some x) (Some y) more ended is known was = (let same : y ≡ more = cc in sym same ∙ ended)
 
 -- where the bytes that weren't handed out are known, what went is a front of them, and the others are left
-module _ {S D : Type 0} (remaining : S → Option (List ℕ)) (most : ℕ) (s t : Piecing S D) (text bytes : List ℕ)
+module _ {S D : Type 0} (remaining : S → Option (List ℕ)) (most : ℕ) (s t : ReaderState S D) (text bytes : List ℕ)
     (known : ahead_of remaining s ≡ Some text) (went : PiecesWent remaining most s bytes t) where
   pub PiecesWent-front : (more : List ℕ) × (ahead_of remaining t ≡ Some more) × (text ≡ bytes ++ more)
   PiecesWent-front =
@@ -52,7 +52,7 @@ module _ {S D : Type 0} (remaining : S → Option (List ℕ)) (most : ℕ) (s t 
   PiecesWent-stays none =
       PiecesWent-front.1 ∙ ap (λ l. Some l) (sym (PiecesWent-front.2 ∙ ap (λ l. l ++ PiecesWent-front.0) none))
 
-module _ {S D W : Type 0} (remaining : S → Option (List ℕ)) (g : Grammar W) (law : IsLawful g) (s t : Piecing S D) where
+module _ {S D W : Type 0} (remaining : S → Option (List ℕ)) (g : Grammar W) (law : IsLawful g) (s t : ReaderState S D) where
   module _ (answer : NextAnswer W) (next : NextPiece remaining g s answer t) (payloads : List (List ℕ))
       (has : HasLeft remaining g s payloads) where
     -- what is left now
@@ -168,8 +168,8 @@ module _ {S D W : Type 0} (remaining : S → Option (List ℕ)) (g : Grammar W) 
 
 -- what a call answers where it is known what is left, of any reader of payloads
 module _ {S D W : Type 0} (remaining : S → Option (List ℕ)) (grammar : D → Grammar W)
-    (law : (d : D) → IsLawful (grammar d)) (s : Piecing S D) where
-  pub NextPiece-answers : (answer : NextAnswer W) (payloads : List (List ℕ)) (t : Piecing S D)
+    (law : (d : D) → IsLawful (grammar d)) (s : ReaderState S D) where
+  pub NextPiece-answers : (answer : NextAnswer W) (payloads : List (List ℕ)) (t : ReaderState S D)
       → HasLeft remaining (grammar s.decoder) s payloads → NextPiece remaining (grammar s.decoder) s answer t
       → AnswersKnown (λ f. HasLeft remaining (grammar f.decoder) f) (λ f. f.reader.log.reads.faults) Io s answer payloads t
   NextPiece-answers (Ok (Some found)) [] t has next =
@@ -193,7 +193,7 @@ module _ {S D W : Type 0} (remaining : S → Option (List ℕ)) (grammar : D →
 
 -- what a fresh reader has left is what its stream has
 pub IsFresh-left : {S D W : Type 0} (remaining : S → Option (List ℕ)) (g : Grammar W) (tells : S → StreamLog)
-    (least most : ℕ) (stream : S) (finder : D) (f : Piecing S D) (text : List ℕ) (payloads : List (List ℕ))
+    (least most : ℕ) (stream : S) (finder : D) (f : ReaderState S D) (text : List ℕ) (payloads : List (List ℕ))
     → IsFresh tells least most stream finder f → remaining stream ≡ Some text → HasPieces g text payloads
     → HasLeft remaining g f payloads
 IsFresh-left remaining g tells least most stream finder f text payloads fresh known has =

@@ -7,10 +7,10 @@ use Rattle.codec.specs.Grammar.{Begins, Grammar, IsLawful, IsOpen}
 use Rattle.codec.specs.GrammarLaws.{open_not}
 use Rattle.codec.specs.NextPiece.{AskedWhere, AsksNone, MetEnd, NextAnswer, NextAnswers, NextPiece, NoEnd, empties}
 use Rattle.codec.specs.PiecesWentLaws.{PiecesWent-none, PiecesWent-unasked}
-use Rattle.codec.specs.Piecing.{Piecing, IsPiecing, IsSettled, rest}
+use Rattle.codec.specs.PieceReader.{ReaderState, IsPieceReader, IsSettled, rest}
 
 -- the answer, by what was left, where the stream wasn't asked
-module _ {S D W : Type 0} (g : Grammar W) (law : IsLawful g) (s t : Piecing S D) (bytes : List ℕ)
+module _ {S D W : Type 0} (g : Grammar W) (law : IsLawful g) (s t : ReaderState S D) (bytes : List ℕ)
     (same : bytes ++ rest t ≡ rest s) where
   none_of : bytes ≡ [] → rest t ≡ rest s
   none_of is = ap (λ l. l ++ rest t) (sym is) ∙ same
@@ -57,8 +57,8 @@ module _ {S D W : Type 0} (g : Grammar W) (law : IsLawful g) (s t : Piecing S D)
   refused e wrong (Err (Io e')) (nothing, open', fault, ended, met) =
       absurd (open'.not_wrong e (subst (λ l. g.wrong l e) (sym (none_of nothing)) wrong))
 
-module _ {S D W : Type 0} (remaining : S → Option (List ℕ)) (g : Grammar W) (law : IsLawful g) (s : Piecing S D)
-    (answer : NextAnswer W) (t : Piecing S D) (next : NextPiece remaining g s answer t) where
+module _ {S D W : Type 0} (remaining : S → Option (List ℕ)) (g : Grammar W) (law : IsLawful g) (s : ReaderState S D)
+    (answer : NextAnswer W) (t : ReaderState S D) (next : NextPiece remaining g s answer t) where
   -- a whole piece that is left is handed out, and the stream isn't asked
   pub NextPiece-ready : (piece payload more : List ℕ) → g.piece piece payload → rest s ≡ piece ++ more
       → (answer ≡ Ok (Some payload)) × (rest t ≡ more) × (t.reader.log ≡ s.reader.log)
@@ -85,13 +85,13 @@ module _ {S D W : Type 0} (remaining : S → Option (List ℕ)) (g : Grammar W) 
       (is.0, is.1, told)
 
 -- where a whole piece is left, the next call doesn't ask the stream
-pub AsksNone-begins : {S D W : Type 0} (remaining : S → Option (List ℕ)) (g : Grammar W) → IsLawful g → (s : Piecing S D)
+pub AsksNone-begins : {S D W : Type 0} (remaining : S → Option (List ℕ)) (g : Grammar W) → IsLawful g → (s : ReaderState S D)
     → Begins g (rest s) → AsksNone remaining g s
 AsksNone-begins remaining g law s b answer t next =
     (NextPiece-ready remaining g law s answer t next b.piece b.payload b.more b.is b.equal).2
 
 -- where it is settled what the next call answers, that call doesn't ask the stream
-pub AsksNone-settled : {S D W : Type 0} (remaining : S → Option (List ℕ)) (g : Grammar W) → IsLawful g → (s : Piecing S D)
+pub AsksNone-settled : {S D W : Type 0} (remaining : S → Option (List ℕ)) (g : Grammar W) → IsLawful g → (s : ReaderState S D)
     → IsSettled g s → AsksNone remaining g s
 AsksNone-settled remaining g law s (inl ended) answer t next = elim next.asked [
   | inl same ↦ same
@@ -103,7 +103,7 @@ AsksNone-settled remaining g law s (inr (inr (e, wrong))) answer t next =
     (NextPiece-wrong remaining g law s answer t next e wrong).2
 
 -- where the log stays as it is, so does what it was asked over
-pub AskedWhere-told : {S D : Type 0} (Such : List ℕ → Type 0) (s m t : Piecing S D) → t.reader.log ≡ m.reader.log
+pub AskedWhere-told : {S D : Type 0} (Such : List ℕ → Type 0) (s m t : ReaderState S D) → t.reader.log ≡ m.reader.log
     → AskedWhere Such s m → AskedWhere Such s t
 AskedWhere-told Such s m t told (inl same) = inl (told ∙ same)
 AskedWhere-told Such s m t told (inr over) = inr (record {
@@ -117,7 +117,7 @@ AskedWhere-told Such s m t told (inr over) = inr (record {
 })
 
 -- an end of the stream that was met: before, which no call had told yet, or now
-module _ {S D : Type 0} (s t : Piecing S D) where
+module _ {S D : Type 0} (s t : ReaderState S D) where
   abbrev End : Bool → Type 0
   End before = MatchBool before (NoEnd s t) (empties t.reader ≡ empties s.reader + 1)
 
@@ -134,7 +134,7 @@ module _ {S D : Type 0} (s t : Piecing S D) where
   MetEnd-once is = subst End is
 
 -- one that was met by the last of some calls, where the others met none, was met by them all
-pub MetEnd-joins : {S D : Type 0} (s m t : Piecing S D) → m.ended ≡ s.ended → NoEnd s m → MetEnd m t → MetEnd s t
+pub MetEnd-joins : {S D : Type 0} (s m t : ReaderState S D) → m.ended ≡ s.ended → NoEnd s m → MetEnd m t → MetEnd s t
 MetEnd-joins s m t same none met = elim m.ended as (λ b. b ≡ m.ended → MetEnd s t) [
   | true ↦ λ is. MetEnd-before s t (sym same ∙ sym is) (MetEnd-told m t (sym is) met ∙ none)
   | false ↦ λ is. MetEnd-now s t (sym same ∙ sym is) (MetEnd-once m t (sym is) met ∙ ap (λ n. n + 1) none)
@@ -146,8 +146,8 @@ still_going true left none some = absurd (omega (arith, some, ap length (none re
 still_going false left none some = refl
 
 -- the beginning of no piece is refused as it stands
-pub NextPiece-refused : {S D W : Type 0} (remaining : S → Option (List ℕ)) (g : Grammar W) (s : Piecing S D)
-    → IsPiecing g s → 0 < length (rest s) → (e : W) → g.wrong (rest s) e → NextPiece remaining g s (Err (Wrong e)) s
+pub NextPiece-refused : {S D W : Type 0} (remaining : S → Option (List ℕ)) (g : Grammar W) (s : ReaderState S D)
+    → IsPieceReader g s → 0 < length (rest s) → (e : W) → g.wrong (rest s) e → NextPiece remaining g s (Err (Wrong e)) s
 NextPiece-refused remaining g s whole some e wrong =
     let going : s.ended ≡ false = still_going s.ended (rest s) whole.ended some in record {
       bytes = [];

@@ -1,4 +1,4 @@
--- Numbers in heads that are text.
+-- Numbers in headers that are text.
 use Rattle.std.specs.Prelude.{ℕ, ◌+◌, ◌-◌, ◌*◌, ◌||◌, ◌==◌, nat_lt, if◌then◌else◌, Option, None, Some}
 use Rattle.codec.specs.declared.number.Number.{Number}
 use Rattle.codec.specs.declared.number.Number.TheVariants.{Empty, Is}

@@ -10,12 +10,12 @@ use Rattle.codec.specs.Items.{NextItem, Says, item_answer}
 use Rattle.codec.specs.NextPiece.{AskedWhere, AsksGive, NextAnswer, NextAnswers, NextPiece, NoEnd, NoFault, PiecesWent, Refills, empties}
 use Rattle.codec.specs.NextPieceLaws.{AskedWhere-told, MetEnd-joins, MetEnd-once}
 use Rattle.codec.specs.PiecesWentLaws.{HandsBytes-joins, HandsBytes-same, PiecesWent-joins}
-use Rattle.codec.specs.Piecing.{Piecing, rest}
+use Rattle.codec.specs.PieceReader.{ReaderState, rest}
 use Rattle.codec.specs.RetoldLaws.{AskedWhere-retold}
 
 -- the stream gave something at each ask, and none of it was handed out: what the next call does then is what it would have
 -- done before
-module _ {S D W : Type 0} (remaining : S → Option (List ℕ)) (g : Grammar W) (s m t : Piecing S D)
+module _ {S D W : Type 0} (remaining : S → Option (List ℕ)) (g : Grammar W) (s m t : ReaderState S D)
     (went : PiecesWent remaining g.most s [] m) (going : s.ended ≡ false) (same : m.ended ≡ s.ended) (none : NoEnd s m)
     (quiet : NoFault s m) where
   answers : (answer : NextAnswer W) (bytes : List ℕ) → NextAnswers g m answer bytes t → NextAnswers g s answer bytes t
@@ -67,7 +67,7 @@ module _ {S D W : Type 0} (remaining : S → Option (List ℕ)) (g : Grammar W) 
     whole = next.whole;
   }
 
-module _ {S D W : Type 0} (remaining : S → Option (List ℕ)) (g : Grammar W) (s m : Piecing S D) where
+module _ {S D W : Type 0} (remaining : S → Option (List ℕ)) (g : Grammar W) (s m : ReaderState S D) where
   -- no fault was met where it answered `Ok`
 
   pub Refills-quiet : (came : Bool) → Refills remaining g s (Ok came) m → NoFault s m
@@ -101,7 +101,7 @@ module _ {S D W : Type 0} (remaining : S → Option (List ℕ)) (g : Grammar W) 
         (λ bytes none. subst (IsOpen g) (sym none) (open_none g law)) refills.asked
 
     -- an end that it met is told by the next call, which asks nothing
-    ended_next : (t : Piecing S D) → Refills remaining g s (Ok false) m → NextPiece remaining g m (Ok None) t
+    ended_next : (t : ReaderState S D) → Refills remaining g s (Ok false) m → NextPiece remaining g m (Ok None) t
         → NextPiece remaining g s (Ok None) t
     ended_next t refills next =
         let end = refills.end refl in
@@ -136,7 +136,7 @@ module _ {S D W : Type 0} (remaining : S → Option (List ℕ)) (g : Grammar W) 
         }
 
     -- what the next call does is what it would have done before
-    pub Refills-next : (came : Bool) (t : Piecing S D) (answer : NextAnswer W) → Refills remaining g s (Ok came) m
+    pub Refills-next : (came : Bool) (t : ReaderState S D) (answer : NextAnswer W) → Refills remaining g s (Ok came) m
         → NextPiece remaining g m answer t → NextPiece remaining g s answer t
     Refills-next true t answer refills next =
         let more = refills.more refl in
@@ -147,7 +147,7 @@ module _ {S D W : Type 0} (remaining : S → Option (List ℕ)) (g : Grammar W) 
         subst (λ a. NextPiece remaining g s a t) (sym none)
         (ended_next t refills (subst (λ a. NextPiece remaining g m a t) none next))
 
-    pub Refills-item : {I : Type 0} (item_of : List ℕ → I) (came : Bool) (t : Piecing S D)
+    pub Refills-item : {I : Type 0} (item_of : List ℕ → I) (came : Bool) (t : ReaderState S D)
         (answer : Result (Option (I × Span)) (NextError W)) → Refills remaining g s (Ok came) m
         → NextItem remaining g item_of m answer t → NextItem remaining g item_of s answer t
     Refills-item item_of came t answer refills item =

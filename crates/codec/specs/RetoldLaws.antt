@@ -5,12 +5,12 @@ use Rattle.codec.specs.declared.error.NextError.TheVariants.{Wrong, Io}
 use Rattle.codec.specs.Grammar.{Grammar, IsLawful}
 use Rattle.codec.specs.GrammarLaws.{open_take}
 use Rattle.codec.specs.NextPiece.{AskedWhere, NextAnswer, NextAnswers, NextPiece, PiecesWent}
-use Rattle.codec.specs.Piecing.{IsPiecing, Piecing, rest, retold}
+use Rattle.codec.specs.PieceReader.{IsPieceReader, ReaderState, rest, retold}
 
 -- a reader that doesn't tell how many bytes were looked at is one still
-pub IsPiecing-unseen : {S D E W : Type 0} (g : Grammar W) → IsLawful g → (d : E) (f : Piecing S D) → IsPiecing g f
-    → IsPiecing g (retold d 0 f)
-IsPiecing-unseen g law d f is = record {
+pub IsPieceReader-unseen : {S D E W : Type 0} (g : Grammar W) → IsLawful g → (d : E) (f : ReaderState S D) → IsPieceReader g f
+    → IsPieceReader g (retold d 0 f)
+IsPieceReader-unseen g law d f is = record {
   block = is.block;
   plain = is.plain;
   capacity = is.capacity;
@@ -21,7 +21,7 @@ IsPiecing-unseen g law d f is = record {
   ended = is.ended;
 }
 
-module _ {S D E : Type 0} (s t : Piecing S D) (d d' : E) (seen seen' : ℕ) where
+module _ {S D E : Type 0} (s t : ReaderState S D) (d d' : E) (seen seen' : ℕ) where
   pub PiecesWent-retold : (remaining : S → Option (List ℕ)) (most : ℕ) (bytes : List ℕ) → d' ≡ d
       → PiecesWent remaining most s bytes t → PiecesWent remaining most (retold d seen s) bytes (retold d' seen' t)
   PiecesWent-retold remaining most bytes same went = record {
@@ -57,7 +57,7 @@ module _ {S D E : Type 0} (s t : Piecing S D) (d d' : E) (seen seen' : ℕ) wher
     answers (Err (Io e)) bytes a = a
 
     pub NextPiece-retold : (remaining : S → Option (List ℕ)) (answer : NextAnswer W) → d' ≡ d
-        → IsPiecing g (retold d' seen' t) → NextPiece remaining g s answer t
+        → IsPieceReader g (retold d' seen' t) → NextPiece remaining g s answer t
         → NextPiece remaining g (retold d seen s) answer (retold d' seen' t)
     NextPiece-retold remaining answer same whole next = record {
       bytes = next.bytes;

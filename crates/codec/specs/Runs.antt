@@ -5,7 +5,7 @@ use Rattle.std.specs.List.{flat_map}
 use Rattle.std.specs.Option.{option_map}
 use Rattle.codec.specs.Grammar.{Grammar}
 use Rattle.codec.specs.NextPiece.{NextAnswer, NextPiece, PiecesWent}
-use Rattle.codec.specs.Piecing.{Piecing}
+use Rattle.codec.specs.PieceReader.{ReaderState}
 use Rattle.codec.specs.Texts.{IsLast, StartsWith}
 
 -- the payload that an answer hands out, or none
@@ -87,18 +87,20 @@ module _ {T E : Type 0} (Plays : T → List (Result (Option (List ℕ)) E) → T
         ⊎ ((payload : List ℕ) × Plays s (answers ++ Ok (Some payload) ∷ []) t)
 
 -- calls of `next`, one after another, with these answers
-abbrev pub NextRuns : {S D W : Type 0} → (S → Option (List ℕ)) → Grammar W → Piecing S D → List (NextAnswer W) → Piecing S D
+abbrev pub NextRuns : {S D W : Type 0} → (S → Option (List ℕ)) → Grammar W → ReaderState S D → List (NextAnswer W)
+    → ReaderState S D
     → Type 0
 NextRuns remaining g = AnswerRuns (NextPiece remaining g)
 
 -- what they come to: the bytes that they handed out, which are their pieces
-pub record RunWent {S D W : Type 0} (remaining : S → Option (List ℕ)) (g : Grammar W) (s : Piecing S D)
-    (answers : List (NextAnswer W)) (t : Piecing S D) : Type 0 where
+pub record RunWent {S D W : Type 0} (remaining : S → Option (List ℕ)) (g : Grammar W) (s : ReaderState S D)
+    (answers : List (NextAnswer W)) (t : ReaderState S D) : Type 0 where
   pub bytes : List ℕ
   pub cut : Cuts g answers bytes
   pub went : PiecesWent remaining g.most s bytes t
 
 -- calls, and what they come to
-abbrev pub NextPlays : {S D W : Type 0} → (S → Option (List ℕ)) → Grammar W → Piecing S D → List (NextAnswer W) → Piecing S D
+abbrev pub NextPlays : {S D W : Type 0} → (S → Option (List ℕ)) → Grammar W → ReaderState S D → List (NextAnswer W)
+    → ReaderState S D
     → Type 0
 NextPlays remaining g = AnswerPlays (NextPiece remaining g) (RunWent remaining g)

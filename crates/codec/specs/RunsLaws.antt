@@ -7,7 +7,7 @@ use Rattle.codec.specs.declared.error.NextError.TheVariants.{Wrong, Io}
 use Rattle.codec.specs.Grammar.{Grammar}
 use Rattle.codec.specs.NextPiece.{NextAnswer, NextAnswers, NextPiece, PiecesWent}
 use Rattle.codec.specs.PiecesWentLaws.{PiecesWent-none, PiecesWent-joins}
-use Rattle.codec.specs.Piecing.{Piecing}
+use Rattle.codec.specs.PieceReader.{ReaderState}
 use Rattle.codec.specs.Runs.{AnswerPlays, AnswerRuns, Cuts, EndFollows, NextPlays, NextRuns, NoneTold, RunWent, all_handed, handed_payload}
 use Rattle.codec.specs.Texts.{HasPieces, IsLast}
 
@@ -71,7 +71,7 @@ module _ {W : Type 0} (g : Grammar W) where
 
 module _ {S D W : Type 0} (remaining : S → Option (List ℕ)) (g : Grammar W) where
   -- after a last piece comes the end of the stream
-  end_follows : (m : Piecing S D) (answers : List (NextAnswer W)) (t : Piecing S D) → m.ended ≡ true
+  end_follows : (m : ReaderState S D) (answers : List (NextAnswer W)) (t : ReaderState S D) → m.ended ≡ true
       → NextRuns remaining g m answers t → EndFollows answers
   end_follows m [] t ended run = tt
   end_follows m (Ok None ∷ answers) t ended run = tt
@@ -79,12 +79,12 @@ module _ {S D W : Type 0} (remaining : S → Option (List ℕ)) (g : Grammar W) 
       let odd : Ok (Some payload) ≡ Ok None = run.1.told ended in cc
   end_follows m (Err e ∷ answers) t ended run = (let odd : Err e ≡ Ok None = run.1.told ended in cc)
 
-  no_bytes : (s m : Piecing S D) (e : NextError W) (bytes : List ℕ) → NextAnswers g s (Err e) bytes m → bytes ≡ []
+  no_bytes : (s m : ReaderState S D) (e : NextError W) (bytes : List ℕ) → NextAnswers g s (Err e) bytes m → bytes ≡ []
   no_bytes s m (Wrong e) bytes (is, fault, ended, refused) = is
   no_bytes s m (Io e) bytes (is, part, fault, ended, met) = is
 
   -- what one call hands out, in front of what the others do
-  cut_off : (s m t : Piecing S D) (answer : NextAnswer W) (answers : List (NextAnswer W)) (bytes more : List ℕ)
+  cut_off : (s m t : ReaderState S D) (answer : NextAnswer W) (answers : List (NextAnswer W)) (bytes more : List ℕ)
       → NextAnswers g s answer bytes m → NextRuns remaining g m answers t → Cuts g answers more
       → Cuts g (answer ∷ answers) (bytes ++ more)
   cut_off s m t (Ok (Some payload)) answers bytes more (fault, inl (is, ended, none)) run cut =
@@ -99,7 +99,7 @@ module _ {S D W : Type 0} (remaining : S → Option (List ℕ)) (g : Grammar W) 
   cut_off s m t (Err e) answers bytes more given run cut =
       subst (Cuts g answers) (ap (λ l. l ++ more) (sym (no_bytes s m e bytes given))) cut
 
-  pub NextRuns-went : (s : Piecing S D) (answers : List (NextAnswer W)) (t : Piecing S D)
+  pub NextRuns-went : (s : ReaderState S D) (answers : List (NextAnswer W)) (t : ReaderState S D)
       → NextRuns remaining g s answers t → RunWent remaining g s answers t
   NextRuns-went s [] t e = record {
     bytes = [];
@@ -114,18 +114,18 @@ module _ {S D W : Type 0} (remaining : S → Option (List ℕ)) (g : Grammar W) 
       }
 
 -- a call under a decoder that is still the same
-pub NextPiece-moved : {S D W : Type 0} (remaining : S → Option (List ℕ)) (grammar : D → Grammar W) (s m t : Piecing S D)
+pub NextPiece-moved : {S D W : Type 0} (remaining : S → Option (List ℕ)) (grammar : D → Grammar W) (s m t : ReaderState S D)
     {answer : NextAnswer W} → m.decoder ≡ s.decoder → NextPiece remaining (grammar m.decoder) m answer t
     → NextPiece remaining (grammar s.decoder) m answer t
 NextPiece-moved remaining grammar s m t {answer} same next = subst (λ d. NextPiece remaining (grammar d) m answer t) same next
 
 -- calls under the decoder of the first: none, and one more
-pub NextPlays-none : {S D W : Type 0} (remaining : S → Option (List ℕ)) (g : Grammar W) (s : Piecing S D)
+pub NextPlays-none : {S D W : Type 0} (remaining : S → Option (List ℕ)) (g : Grammar W) (s : ReaderState S D)
     → NextPlays remaining g s [] s
 NextPlays-none remaining g = AnswerPlays-none (NextPiece remaining g) (RunWent remaining g) (NextRuns-went remaining g)
 
-pub NextPlays-more : {S D W : Type 0} (remaining : S → Option (List ℕ)) (grammar : D → Grammar W) (s : Piecing S D)
-    (answers : List (NextAnswer W)) (m : Piecing S D) (answer : NextAnswer W) (t : Piecing S D)
+pub NextPlays-more : {S D W : Type 0} (remaining : S → Option (List ℕ)) (grammar : D → Grammar W) (s : ReaderState S D)
+    (answers : List (NextAnswer W)) (m : ReaderState S D) (answer : NextAnswer W) (t : ReaderState S D)
     → NextPlays remaining (grammar s.decoder) s answers m → NextPiece remaining (grammar m.decoder) m answer t
     → NextPlays remaining (grammar s.decoder) s (answers ++ answer ∷ []) t
 NextPlays-more remaining grammar s answers m answer t plays next =

@@ -1,22 +1,22 @@
 -- What is said byte by byte stays said.
 use Rattle.std.specs.Prelude.{◌≡◌, ℕ, zero, suc, ◌+◌, ◌<◌, ◌≤◌, List, [], ◌∷◌, ◌++◌, length, take}
 use Rattle.std.proofs.Common.{sym, ap, ◌∙◌, arith, refl}
-use Rattle.codec.specs.Headings.{IsHeading}
+use Rattle.codec.specs.HeaderFormat.{IsHeaderFormat}
 use Rattle.codec.specs.Scanning.{Scanning, IsSmall, says, scan_on, scanned}
-use Rattle.codec.specs.declared.heading.Heading.{Heading}
-use Rattle.codec.specs.declared.heading.Heading.TheVariants.{Short, Sized, Bad}
-use Rattle.codec.specs.declared.scan.Turn.{Turn}
-use Rattle.codec.specs.declared.scan.Turn.TheVariants as turn
+use Rattle.codec.specs.declared.header.Header.{Header}
+use Rattle.codec.specs.declared.header.Header.TheVariants.{Short, Sized, Bad}
+use Rattle.codec.specs.declared.scan.ScanStep.{ScanStep}
+use Rattle.codec.specs.declared.scan.ScanStep.TheVariants as turn
 
-module _ {S : Type 0} (go : S → ℕ → Turn S) where
-  says_too : (t : Turn S) (used : ℕ) (on on' : S → Heading) (x : Heading) → ((s : S) → on s ≡ x → on' s ≡ x)
+module _ {S : Type 0} (go : S → ℕ → ScanStep S) where
+  says_too : (t : ScanStep S) (used : ℕ) (on on' : S → Header) (x : Header) → ((s : S) → on s ≡ x → on' s ≡ x)
       → says t used on ≡ x → says t used on' ≡ x
   says_too (turn.More s) used on on' x goes is = goes s is
   says_too (turn.Sized len) used on on' x goes is = is
   says_too turn.Bad used on on' x goes is = is
 
   -- what isn't short stays so
-  stays : (left : ℕ) (s : S) (used : ℕ) (bytes more : List ℕ) (x : Heading) → ¬ (x ≡ Short)
+  stays : (left : ℕ) (s : S) (used : ℕ) (bytes more : List ℕ) (x : Header) → ¬ (x ≡ Short)
       → scan_on go left s used bytes ≡ x → scan_on go left s used (bytes ++ more) ≡ x
   stays zero s used bytes more x isnt is = is
   stays (suc left) s used [] more x isnt is = absurd (isnt (sym is))
@@ -25,7 +25,7 @@ module _ {S : Type 0} (go : S → ℕ → Turn S) where
       (λ next. scan_on go left next (used + 1) (bs ++ more)) x
       (λ next is'. stays left next (used + 1) bs more x isnt is') is
 
-  -- where a head ends
+  -- where a header ends
   record Ends (left : ℕ) (s : S) (before : ℕ) (bytes : List ℕ) (len used : ℕ) : Type 0 where
     pub count : ℕ
     pub all : used ≡ before + suc count
@@ -33,7 +33,7 @@ module _ {S : Type 0} (go : S → ℕ → Turn S) where
     pub few : suc count ≤ left
     pub again : scan_on go left s before (take (suc count) bytes) ≡ Sized len used
 
-  ends_more : (t : Turn S) (left : ℕ) (s : S) (before : ℕ) (b : ℕ) (bs : List ℕ) (len used : ℕ) → go s b ≡ t
+  ends_more : (t : ScanStep S) (left : ℕ) (s : S) (before : ℕ) (b : ℕ) (bs : List ℕ) (len used : ℕ) → go s b ≡ t
       → ((next : S) → scan_on go left next (before + 1) bs ≡ Sized len used → Ends left next (before + 1) bs len used)
       → says t (before + 1) (λ next. scan_on go left next (before + 1) bs) ≡ Sized len used
       → Ends (suc left) s before (b ∷ bs) len used
@@ -48,34 +48,34 @@ module _ {S : Type 0} (go : S → ℕ → Turn S) where
       }
   ends_more (turn.Sized n) left s before b bs len used turns later is = record {
     count = 0;
-    all = (let same : ◌≡◌ {A = Heading} (Sized n (before + 1)) (Sized len used) = is in
+    all = (let same : ◌≡◌ {A = Header} (Sized n (before + 1)) (Sized len used) = is in
         let size : before + 1 ≡ used = cc in omega (arith, size));
     inside = omega arith;
     few = omega arith;
     again = ap (λ t. says t (before + 1) (λ next'. scan_on go left next' (before + 1) [])) turns ∙ is;
   }
   ends_more turn.Bad left s before b bs len used turns later is =
-      (let odd : ◌≡◌ {A = Heading} Bad (Sized len used) = is in cc)
+      (let odd : ◌≡◌ {A = Header} Bad (Sized len used) = is in cc)
 
   ends : (left : ℕ) (s : S) (before : ℕ) (bytes : List ℕ) (len used : ℕ) → scan_on go left s before bytes ≡ Sized len used
       → Ends left s before bytes len used
-  ends zero s before bytes len used is = (let odd : ◌≡◌ {A = Heading} Bad (Sized len used) = is in cc)
-  ends (suc left) s before [] len used is = (let odd : ◌≡◌ {A = Heading} Short (Sized len used) = is in cc)
+  ends zero s before bytes len used is = (let odd : ◌≡◌ {A = Header} Bad (Sized len used) = is in cc)
+  ends (suc left) s before [] len used is = (let odd : ◌≡◌ {A = Header} Short (Sized len used) = is in cc)
   ends (suc left) s before (b ∷ bs) len used is =
       ends_more (go s b) left s before b bs len used refl
       (λ next is'. ends left next (before + 1) bs len used is') is
 
   -- how many bytes may be short
-  short_more : (t : Turn S) (left : ℕ) (before : ℕ) (bs : List ℕ)
+  short_more : (t : ScanStep S) (left : ℕ) (before : ℕ) (bs : List ℕ)
       → ((next : S) → scan_on go left next (before + 1) bs ≡ Short → length bs < left)
       → says t (before + 1) (λ next. scan_on go left next (before + 1) bs) ≡ Short → length bs < left
   short_more (turn.More next) left before bs later is = later next is
   short_more (turn.Sized n) left before bs later is =
-      (let odd : ◌≡◌ {A = Heading} (Sized n (before + 1)) Short = is in cc)
-  short_more turn.Bad left before bs later is = (let odd : ◌≡◌ {A = Heading} Bad Short = is in cc)
+      (let odd : ◌≡◌ {A = Header} (Sized n (before + 1)) Short = is in cc)
+  short_more turn.Bad left before bs later is = (let odd : ◌≡◌ {A = Header} Bad Short = is in cc)
 
   short : (left : ℕ) (s : S) (before : ℕ) (bytes : List ℕ) → scan_on go left s before bytes ≡ Short → length bytes < left
-  short zero s before bytes is = (let odd : ◌≡◌ {A = Heading} Bad Short = is in cc)
+  short zero s before bytes is = (let odd : ◌≡◌ {A = Header} Bad Short = is in cc)
   short (suc left) s before [] is = omega arith
   short (suc left) s before (b ∷ bs) is =
       omega (arith, short_more (go s b) left before bs (λ next is'. short left next (before + 1) bs is') is)
@@ -84,18 +84,18 @@ module _ {S : Type 0} (go : S → ℕ → Turn S) where
   nothing zero s some = absurd (omega (arith, some))
   nothing (suc left) s some = refl
 
-pub scanned_heads : {S : Type 0} (s : Scanning S) → IsSmall s → IsHeading (scanned s)
-scanned_heads s is = record {
-  sized = λ bytes more len used said. stays s.turn s.most_head s.start 0 bytes more (Sized len used) (λ odd. cc) said;
+pub scanned_headers : {S : Type 0} (s : Scanning S) → IsSmall s → IsHeaderFormat (scanned s)
+scanned_headers s is = record {
+  sized = λ bytes more len used said. stays s.turn s.most_header s.start 0 bytes more (Sized len used) (λ odd. cc) said;
   front = λ bytes len used said.
-      let e = ends s.turn s.most_head s.start 0 bytes len used said in
+      let e = ends s.turn s.most_header s.start 0 bytes len used said in
       let all : used ≡ suc e.count = omega (arith, e.all) in
-      ap (λ n. scan_on s.turn s.most_head s.start 0 (take n bytes)) all ∙ e.again;
-  bad = λ bytes more said. stays s.turn s.most_head s.start 0 bytes more Bad (λ odd. cc) said;
+      ap (λ n. scan_on s.turn s.most_header s.start 0 (take n bytes)) all ∙ e.again;
+  bad = λ bytes more said. stays s.turn s.most_header s.start 0 bytes more Bad (λ odd. cc) said;
   some = λ bytes len used said.
-      let e = ends s.turn s.most_head s.start 0 bytes len used said in
+      let e = ends s.turn s.most_header s.start 0 bytes len used said in
       (omega (arith, e.all), omega (arith, e.all, e.inside), omega (arith, e.all, e.few));
-  short = λ bytes said. short s.turn s.most_head s.start 0 bytes said;
-  nothing = nothing s.turn s.most_head s.start is.some;
+  short = λ bytes said. short s.turn s.most_header s.start 0 bytes said;
+  nothing = nothing s.turn s.most_header s.start is.some;
   small = is.small;
 }

@@ -16,15 +16,15 @@ use Rattle.codec.specs.declared.serving.Step.TheVariants as step
 use Rattle.codec.specs.Fetching.{FlushedFirst}
 use Rattle.codec.specs.Grammar.{Grammar}
 use Rattle.codec.specs.NextPiece.{NextAnswer, NextPiece, PiecesWent}
-use Rattle.codec.specs.Piecing.{Piecing}
+use Rattle.codec.specs.PieceReader.{ReaderState}
 
 -- the reader of pieces, what answers them, and the writer of answers
 pub record Server (S D A T P : Type 0) : Type 0 where
-  pub pieces : Piecing S D
+  pub pieces : ReaderState S D
   pub service : A
   pub answers : Buffered T P
 
-abbrev pub server : {S D A T P : Type 0} → Piecing S D → A → Buffered T P → Server S D A T P
+abbrev pub server : {S D A T P : Type 0} → ReaderState S D → A → Buffered T P → Server S D A T P
 server pieces service answers = record { pieces = pieces; service = service; answers = answers }
 
 -- a piece: all bytes that it takes, its payload, and what was written for it
@@ -49,12 +49,12 @@ Converses {A} item_of Answers a (x ∷ earlier) more b =
     (between : A) × Converses item_of Answers a earlier true between
     × Answers between (item_of x.bytes) x.payload x.reply more b
 
-module _ {S D W I A T P : Type 0} (remaining : S → Option (List ℕ)) (tells : T → StreamLog) (stretch : T → T → Type 0)
+module _ {S D W I A T P : Type 0} (remaining : S → Option (List ℕ)) (tells : T → StreamLog) (trace : T → T → Type 0)
     (g : Grammar W) (item_of : List ℕ → I) (Answers : Answering A I) where
   -- answers were flushed if the stream had to be asked, and then this came of a step
-  pub record Fetched (s : Server S D A T P) (answer : NextAnswer W) (ready : Buffered T P) (t : Piecing S D) : Type 0 where
+  pub record Fetched (s : Server S D A T P) (answer : NextAnswer W) (ready : Buffered T P) (t : ReaderState S D) : Type 0 where
     pub next : NextPiece remaining g s.pieces answer t
-    pub first : FlushedFirst tells stretch g s.pieces s.answers {A = Unit {0}} (Ok tt) t ready
+    pub first : FlushedFirst tells trace g s.pieces s.answers {A = Unit {0}} (Ok tt) t ready
 
   -- just this piece was taken, and answered
   pub record TookPiece (s : Server S D A T P) (x : Exchange) (more : Bool) (t : Server S D A T P) : Type 0 where
@@ -62,7 +62,7 @@ module _ {S D W I A T P : Type 0} (remaining : S → Option (List ℕ)) (tells :
     pub fetched : Fetched s (Ok (Some x.payload)) ready t.pieces
     pub all : fetched.next.bytes ≡ x.bytes
     pub answers : Answers s.service (item_of x.bytes) x.payload x.reply more t.service
-    pub along : WritesAlong tells stretch std_write_rules ready x.reply t.answers
+    pub along : WritesAlong tells trace std_write_rules ready x.reply t.answers
 
   -- there was no piece, and nothing was answered
   pub record TookNone (s : Server S D A T P) (answer : NextAnswer W) (t : Server S D A T P) : Type 0 where
@@ -71,7 +71,7 @@ module _ {S D W I A T P : Type 0} (remaining : S → Option (List ℕ)) (tells :
 
   -- answers couldn't be flushed, and nothing was asked or taken
   pub record FlushFailed (s : Server S D A T P) (e : Error) (t : Server S D A T P) : Type 0 where
-    pub first : FlushedFirst tells stretch g s.pieces s.answers {A = Unit {0}} (Err e) t.pieces t.answers
+    pub first : FlushedFirst tells trace g s.pieces s.answers {A = Unit {0}} (Err e) t.pieces t.answers
     pub service : t.service ≡ s.service
 
   -- a piece was taken, and what it asks for was done, but nothing was written for it
@@ -80,7 +80,7 @@ module _ {S D W I A T P : Type 0} (remaining : S → Option (List ℕ)) (tells :
     pub fetched : Fetched s (Ok (Some x.payload)) ready t.pieces
     pub all : fetched.next.bytes ≡ x.bytes
     pub answers : (more : Bool) × Answers s.service (item_of x.bytes) x.payload x.reply more t.service
-    pub nothing : WritesAlong tells stretch std_write_rules ready [] t.answers
+    pub nothing : WritesAlong tells trace std_write_rules ready [] t.answers
     pub refused : PartsRefused (length x.reply) ready e t.answers
 
   -- what one turn does
@@ -117,14 +117,14 @@ module _ {S D W I A T P : Type 0} (remaining : S → Option (List ℕ)) (tells :
     pub ends : Ends s ended (server t.pieces t.service answers)
     pub taken : PiecesWent remaining g.most s.pieces (joined (λ x. x.bytes) ends.exchanges) t.pieces
     pub service : Converses item_of Answers s.service ends.exchanges ends.more t.service
-    pub all : FlushedAlong tells stretch std_write_rules s.answers (joined (λ x. x.reply) ends.exchanges) t.answers
+    pub all : FlushedAlong tells trace std_write_rules s.answers (joined (λ x. x.reply) ends.exchanges) t.answers
 
   -- a turn failed; or the last flush did
   abbrev pub FailedBy : ServeError W → List Exchange → Bool → Server S D A T P → Server S D A T P → Type 0
   FailedBy e exchanges more s t =
       ((more ≡ true) × Turns s (Err e) t)
       ⊎ ((ended : Served) × (m : Server S D A T P) × EndedBy ended exchanges more s m × (t.pieces ≡ m.pieces)
-      × (t.service ≡ m.service) × ((why : Error) × (e ≡ Write why) × WasFlushed tells stretch m.answers (Err why) t.answers))
+      × (t.service ≡ m.service) × ((why : Error) × (e ≡ Write why) × WasFlushed tells trace m.answers (Err why) t.answers))
 
   -- serving failed: exchanges, and then that
   pub record Stops (s : Server S D A T P) (e : ServeError W) (t : Server S D A T P) : Type 0 where
@@ -135,4 +135,4 @@ module _ {S D W I A T P : Type 0} (remaining : S → Option (List ℕ)) (tells :
     pub fails : FailedBy e exchanges more last t
     pub taken : PiecesWent remaining g.most s.pieces (joined (λ x. x.bytes) exchanges) last.pieces
     pub service : Converses item_of Answers s.service exchanges more last.service
-    pub along : WritesAlong tells stretch std_write_rules s.answers (joined (λ x. x.reply) exchanges) last.answers
+    pub along : WritesAlong tells trace std_write_rules s.answers (joined (λ x. x.reply) exchanges) last.answers

@@ -11,18 +11,18 @@ use Rattle.codec.specs.Fetching.{FlushedFirst}
 use Rattle.codec.specs.Grammar.{Grammar}
 use Rattle.codec.specs.NextPiece.{PiecesWent}
 use Rattle.codec.specs.PiecesWentLaws.{PiecesWent-joins, PiecesWent-none}
-use Rattle.codec.specs.Piecing.{Piecing}
+use Rattle.codec.specs.PieceReader.{ReaderState}
 use Rattle.codec.specs.Serving.{Answering, Converses, EndedBy, Ends, Exchange, FailedBy, Server, Serves, Stops, Talked, joined, server}
 use Rattle.codec.specs.declared.serving.ServeError.{ServeError}
 use Rattle.codec.specs.declared.serving.ServeError.TheVariants.{Write}
 use Rattle.codec.specs.declared.serving.Served.{Served}
 use Rattle.codec.specs.declared.serving.Served.TheVariants as served
 
-module _ {S D W I A T P : Type 0} (remaining : S → Option (List ℕ)) (tells : T → StreamLog) (stretch : T → T → Type 0)
+module _ {S D W I A T P : Type 0} (remaining : S → Option (List ℕ)) (tells : T → StreamLog) (trace : T → T → Type 0)
     (g : Grammar W) (item_of : List ℕ → I) (Answers : Answering A I) (s : Server S D A T P) where
   -- what was talked took whole pieces
   pub Talked-taken : (exchanges : List Exchange) (more : Bool) (t : Server S D A T P)
-      → Talked remaining tells stretch g item_of Answers s exchanges more t
+      → Talked remaining tells trace g item_of Answers s exchanges more t
       → PiecesWent remaining g.most s.pieces (joined (λ x. x.bytes) exchanges) t.pieces
   Talked-taken [] more t (same, is) = subst (λ t. PiecesWent remaining g.most s.pieces [] t.pieces) same
       (PiecesWent-none remaining g.most s.pieces)
@@ -33,49 +33,49 @@ module _ {S D W I A T P : Type 0} (remaining : S → Option (List ℕ)) (tells :
 
   -- answered each
   pub Talked-answers : (exchanges : List Exchange) (more : Bool) (t : Server S D A T P)
-      → Talked remaining tells stretch g item_of Answers s exchanges more t
+      → Talked remaining tells trace g item_of Answers s exchanges more t
       → Converses item_of Answers s.service exchanges more t.service
   Talked-answers [] more t (same, is) = (ap (λ x. x.service) same, is)
   Talked-answers (x ∷ earlier) more t (m, talked, took) =
       (m.service, Talked-answers earlier true m talked, took.answers)
 
-  module _ (none : (u : T) → stretch u u) where
+  module _ (none : (u : T) → trace u u) where
     -- a flush where need be accepts nothing
-    pub first_along : (p : Piecing S D) (w : Buffered T P) (t : Piecing S D) (ready : Buffered T P)
-        → FlushedFirst tells stretch g p w {A = Unit {0}} (Ok tt) t ready → WritesAlong tells stretch std_write_rules w [] ready
+    pub first_along : (p : ReaderState S D) (w : Buffered T P) (t : ReaderState S D) (ready : Buffered T P)
+        → FlushedFirst tells trace g p w {A = Unit {0}} (Ok tt) t ready → WritesAlong tells trace std_write_rules w [] ready
     first_along p w t ready first = elim first [
-      | inl same ↦ subst (λ v. WritesAlong tells stretch std_write_rules w [] v) (sym same.0)
-          (WritesAlong-none tells stretch std_write_rules none w)
-      | inr flushed ↦ WasFlushed-along tells stretch std_write_rules w (Ok tt) ready flushed.1
+      | inl same ↦ subst (λ v. WritesAlong tells trace std_write_rules w [] v) (sym same.0)
+          (WritesAlong-none tells trace std_write_rules none w)
+      | inr flushed ↦ WasFlushed-along tells trace std_write_rules w (Ok tt) ready flushed.1
     ]
 
     -- exchanges wrote just their answers
-    pub Talked-along : ((u v w : T) → stretch u v → stretch v w → stretch u w) → (exchanges : List Exchange) (more : Bool)
-        (t : Server S D A T P) → Talked remaining tells stretch g item_of Answers s exchanges more t
-        → WritesAlong tells stretch std_write_rules s.answers (joined (λ x. x.reply) exchanges) t.answers
-    Talked-along joins [] more t (same, is) = subst (λ t. WritesAlong tells stretch std_write_rules s.answers [] t.answers) same
-        (WritesAlong-none tells stretch std_write_rules none s.answers)
+    pub Talked-along : ((u v w : T) → trace u v → trace v w → trace u w) → (exchanges : List Exchange) (more : Bool)
+        (t : Server S D A T P) → Talked remaining tells trace g item_of Answers s exchanges more t
+        → WritesAlong tells trace std_write_rules s.answers (joined (λ x. x.reply) exchanges) t.answers
+    Talked-along joins [] more t (same, is) = subst (λ t. WritesAlong tells trace std_write_rules s.answers [] t.answers) same
+        (WritesAlong-none tells trace std_write_rules none s.answers)
     Talked-along joins (x ∷ earlier) more t (m, talked, took) =
-        WritesAlong-joins tells stretch std_write_rules joins s.answers took.ready t.answers (joined (λ x. x.reply) earlier)
-        x.reply (WritesAlong-then tells stretch std_write_rules joins s.answers m.answers took.ready
+        WritesAlong-joins tells trace std_write_rules joins s.answers took.ready t.answers (joined (λ x. x.reply) earlier)
+        x.reply (WritesAlong-then tells trace std_write_rules joins s.answers m.answers took.ready
         (joined (λ x. x.reply) earlier) (Talked-along joins earlier true m talked)
         (first_along m.pieces m.answers t.pieces took.ready took.fetched.first)) took.along
 
-    module _ (joins : (u v w : T) → stretch u v → stretch v w → stretch u w) where
+    module _ (joins : (u v w : T) → trace u v → trace v w → trace u w) where
       still : (m t : Server S D A T P) → m ≡ t → PiecesWent remaining g.most m.pieces [] t.pieces × (t.service ≡ m.service)
-          × WritesAlong tells stretch std_write_rules m.answers [] t.answers
+          × WritesAlong tells trace std_write_rules m.answers [] t.answers
       still m t same = (
         subst (λ t. PiecesWent remaining g.most m.pieces [] t.pieces) same (PiecesWent-none remaining g.most m.pieces),
         ap (λ x. x.service) (sym same),
-        subst (λ t. WritesAlong tells stretch std_write_rules m.answers [] t.answers) same
-            (WritesAlong-none tells stretch std_write_rules none m.answers),
+        subst (λ t. WritesAlong tells trace std_write_rules m.answers [] t.answers) same
+            (WritesAlong-none tells trace std_write_rules none m.answers),
       )
 
       -- a failure behind exchanges
       pub stops : (exchanges : List Exchange) (more : Bool) (m : Server S D A T P)
-          → Talked remaining tells stretch g item_of Answers s exchanges more m → (e : ServeError W) (t : Server S D A T P)
-          → FailedBy remaining tells stretch g item_of Answers e exchanges more m t
-          → Stops remaining tells stretch g item_of Answers s e t
+          → Talked remaining tells trace g item_of Answers s exchanges more m → (e : ServeError W) (t : Server S D A T P)
+          → FailedBy remaining tells trace g item_of Answers e exchanges more m t
+          → Stops remaining tells trace g item_of Answers s e t
       stops exchanges more m talked e t fails = record {
         exchanges = exchanges;
         more = more;
@@ -89,9 +89,9 @@ module _ {S D W I A T P : Type 0} (remaining : S → Option (List ℕ)) (tells :
 
       -- up to an end
       ends_so : (by : Served) (exchanges : List Exchange) (more : Bool) (m t : Server S D A T P)
-          → EndedBy remaining tells stretch g item_of Answers by exchanges more m t
+          → EndedBy remaining tells trace g item_of Answers by exchanges more m t
           → PiecesWent remaining g.most m.pieces [] t.pieces × (t.service ≡ m.service)
-          × WritesAlong tells stretch std_write_rules m.answers [] t.answers
+          × WritesAlong tells trace std_write_rules m.answers [] t.answers
       ends_so served.Closed exchanges more m t (is, same) = still m t same
       ends_so served.End exchanges more m t (is, took) = (
         subst (λ l. PiecesWent remaining g.most m.pieces l t.pieces) took.fetched.next.answers.0 took.fetched.next.went,
@@ -101,14 +101,14 @@ module _ {S D W I A T P : Type 0} (remaining : S → Option (List ℕ)) (tells :
       ends_so served.Many exchanges more m t (is, many, same) = still m t same
 
       -- up to an end, and then a flush
-      module _ (by : Served) (t : Server S D A T P) (ends : Ends remaining tells stretch g item_of Answers s by t)
+      module _ (by : Served) (t : Server S D A T P) (ends : Ends remaining tells trace g item_of Answers s by t)
           (v : Buffered T P) where
         so : PiecesWent remaining g.most ends.last.pieces [] t.pieces × (t.service ≡ ends.last.service)
-            × WritesAlong tells stretch std_write_rules ends.last.answers [] t.answers
+            × WritesAlong tells trace std_write_rules ends.last.answers [] t.answers
         so = ends_so by ends.exchanges ends.more ends.last t ends.ends
 
-        pub Ends-served : WasFlushed tells stretch t.answers (Ok tt) v
-            → Serves remaining tells stretch g item_of Answers s by (server t.pieces t.service v)
+        pub Ends-served : WasFlushed tells trace t.answers (Ok tt) v
+            → Serves remaining tells trace g item_of Answers s by (server t.pieces t.service v)
         Ends-served flushed = record {
           answers = t.answers;
           ends = ends;
@@ -117,14 +117,14 @@ module _ {S D W I A T P : Type 0} (remaining : S → Option (List ℕ)) (tells :
               (Talked-taken ends.exchanges ends.more ends.last ends.talked) so.0);
           service = subst (λ b. Converses item_of Answers s.service ends.exchanges ends.more b) (sym so.1)
               (Talked-answers ends.exchanges ends.more ends.last ends.talked);
-          all = FlushedAlong-of tells stretch std_write_rules joins s.answers t.answers v (joined (λ x. x.reply) ends.exchanges)
-              tt (WritesAlong-then tells stretch std_write_rules joins s.answers ends.last.answers t.answers
+          all = FlushedAlong-of tells trace std_write_rules joins s.answers t.answers v (joined (λ x. x.reply) ends.exchanges)
+              tt (WritesAlong-then tells trace std_write_rules joins s.answers ends.last.answers t.answers
               (joined (λ x. x.reply) ends.exchanges) (Talked-along joins ends.exchanges ends.more ends.last ends.talked) so.2)
               flushed;
         }
 
-        pub Ends-failed : (why : Error) → WasFlushed tells stretch t.answers (Err why) v
-            → Stops remaining tells stretch g item_of Answers s (Write why) (server t.pieces t.service v)
+        pub Ends-failed : (why : Error) → WasFlushed tells trace t.answers (Err why) v
+            → Stops remaining tells trace g item_of Answers s (Write why) (server t.pieces t.service v)
         Ends-failed why flushed =
             stops ends.exchanges ends.more ends.last ends.talked (Write why) (server t.pieces t.service v)
             (inr (by, t, ends.ends, refl, refl, (why, refl, flushed)))

@@ -7,10 +7,11 @@ use Rattle.codec.specs.Grammar.{Grammar}
 use Rattle.codec.specs.Items.{NextItem, Says, item_answer}
 use Rattle.codec.specs.NextPiece.{NextAnswer, NextPiece, NoFault, PiecesWent, StaysLeft}
 use Rattle.codec.specs.PiecesWentLaws.{HandsBytes-looked, HandsBytes-same, PiecesWent-inside}
-use Rattle.codec.specs.Piecing.{IsSettled, Piecing, rest, retold}
+use Rattle.codec.specs.PieceReader.{IsSettled, ReaderState, rest, retold}
 use Rattle.codec.specs.RetoldLaws.{NextPiece-retold}
 
-module _ {S D W : Type 0} (remaining : S → Option (List ℕ)) (g : Grammar W) (s m : Piecing S D) (stays : StaysLeft g s m) where
+module _ {S D W : Type 0} (remaining : S → Option (List ℕ)) (g : Grammar W) (s m : ReaderState S D)
+    (stays : StaysLeft g s m) where
   -- nothing was handed out, and no fault was met
   pub StaysLeft-went : PiecesWent remaining g.most s [] m
   StaysLeft-went = PiecesWent-inside remaining g.most s m [] (ap (λ x. x.reader) stays.same) (ap (λ x. x.decoder) stays.same)
@@ -24,7 +25,7 @@ module _ {S D W : Type 0} (remaining : S → Option (List ℕ)) (g : Grammar W) 
   StaysLeft-settled is = subst (IsSettled g) (sym stays.same) is
 
   -- what the next call does is what it would have done before
-  pub StaysLeft-next : (t : Piecing S D) (answer : NextAnswer W) → NextPiece remaining g m answer t
+  pub StaysLeft-next : (t : ReaderState S D) (answer : NextAnswer W) → NextPiece remaining g m answer t
       → NextPiece remaining g s answer t
   StaysLeft-next t answer next =
       let n : NextPiece remaining g (retold s.decoder m.seen s) answer t =
@@ -32,7 +33,8 @@ module _ {S D W : Type 0} (remaining : S → Option (List ℕ)) (g : Grammar W) 
       NextPiece-retold (retold s.decoder m.seen s) t s.decoder t.decoder s.seen t.seen g remaining answer
       n.went.decoder n.whole n
 
-  pub StaysLeft-item : {I : Type 0} (item_of : List ℕ → I) (t : Piecing S D) (answer : Result (Option (I × Span)) (NextError W))
+  pub StaysLeft-item : {I : Type 0} (item_of : List ℕ → I) (t : ReaderState S D)
+      (answer : Result (Option (I × Span)) (NextError W))
       → NextItem remaining g item_of m answer t → NextItem remaining g item_of s answer t
   StaysLeft-item item_of t answer item =
       let next = StaysLeft-next t (item_answer answer t) item.next in

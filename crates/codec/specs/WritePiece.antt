@@ -9,29 +9,29 @@ use Rattle.buffer_redux.specs.Transfer.{Sends}
 use Rattle.codec.specs.declared.error.WritePieceError.{WritePieceError}
 use Rattle.codec.specs.declared.error.WritePieceError.TheVariants.{Refused, Io}
 use Rattle.codec.specs.Encoding.{Encoding, coded, all_coded}
-use Rattle.codec.specs.Outgoing.{Outgoing, IsOutgoing, room, unsent}
+use Rattle.codec.specs.PieceWriter.{WriterState, IsPieceWriter, room, unsent}
 
 -- what any calls do, one after another, that took in the pieces of these payloads, each of which is taken: what was received
 -- since, then what is buffered, is what was buffered, then these pieces, whole and in order; and no memory is taken
-pub record PiecesTaken {S E W : Type 0} (stretch : S → S → Type 0) (e : Encoding W) (s : Outgoing S E)
-    (payloads : List (List ℕ)) (t : Outgoing S E) : Type 0 where
+pub record PiecesTaken {S E W : Type 0} (trace : S → S → Type 0) (e : Encoding W) (s : WriterState S E)
+    (payloads : List (List ℕ)) (t : WriterState S E) : Type 0 where
   pub fit : All e.takes payloads
   pub in_order : WritesInOrder s.writer (all_coded e payloads) t.writer
-  pub calls : stretch s.writer.inner t.writer.inner
+  pub calls : trace s.writer.inner t.writer.inner
   pub capacity : t.writer.block.capacity ≡ s.writer.block.capacity
   pub limit : t.writer.block.limit ≡ s.writer.block.limit
   pub encoder : t.encoder ≡ s.encoder
 
 -- these bytes were copied behind those that are buffered, and the inner writer wasn't called
-pub record PutsIn {S E : Type 0} (stretch : S → S → Type 0) (most : ℕ) (s : Outgoing S E) (bytes : List ℕ)
-    (t : Outgoing S E) : Type 0 where
+pub record PutsIn {S E : Type 0} (trace : S → S → Type 0) (most : ℕ) (s : WriterState S E) (bytes : List ℕ)
+    (t : WriterState S E) : Type 0 where
   pub added : unsent t ≡ unsent s ++ bytes
   pub told : t.writer.log ≡ s.writer.log
-  pub calls : stretch s.writer.inner t.writer.inner
+  pub calls : trace s.writer.inner t.writer.inner
   pub capacity : t.writer.block.capacity ≡ s.writer.block.capacity
   pub limit : t.writer.block.limit ≡ s.writer.block.limit
   pub encoder : t.encoder ≡ s.encoder
-  pub whole : IsOutgoing most t
+  pub whole : IsPieceWriter most t
 
 -- what a call of `write_piece` answers: `Refused` is why the payload isn't taken
 abbrev pub WriteAnswer : Type 0 → Type 0
@@ -43,53 +43,53 @@ accepted payload (Ok _) = payload ∷ []
 accepted payload (Err e) = []
 
 -- what each answer means. No answer leaves a part of the piece
-abbrev pub WriteAnswers : {S E W : Type 0} → Encoding W → Outgoing S E → List ℕ → WriteAnswer W → Outgoing S E → Type 0
+abbrev pub WriteAnswers : {S E W : Type 0} → Encoding W → WriterState S E → List ℕ → WriteAnswer W → WriterState S E → Type 0
 WriteAnswers e s payload (Ok _) t = e.takes payload × MetInterrupts s.writer.log.writes t.writer.log.writes
 WriteAnswers e s payload (Err (Refused w)) t = e.refuses payload w × (t ≡ s)
 WriteAnswers e s payload (Err (Io x)) t = e.takes payload × SendErrorCaused s.writer.log.writes t.writer.log.writes x
 
 -- where the piece fits behind what is buffered, it stands there, and the inner writer isn't called
-pub record PieceAdded {S E W : Type 0} (e : Encoding W) (s : Outgoing S E) (payload : List ℕ) (answer : WriteAnswer W)
-    (t : Outgoing S E) : Type 0 where
+pub record PieceAdded {S E W : Type 0} (e : Encoding W) (s : WriterState S E) (payload : List ℕ) (answer : WriteAnswer W)
+    (t : WriterState S E) : Type 0 where
   pub ok : answer ≡ Ok tt
   pub told : t.writer.log ≡ s.writer.log
   pub added : unsent t ≡ unsent s ++ coded e payload
 
 -- all that was buffered was sent, once, with this answer; where that failed, nothing was done since
-abbrev pub SendsAll : {S E : Type 0} → Outgoing S E → Result (Unit {0}) Error → Outgoing S E → Type 0
+abbrev pub SendsAll : {S E : Type 0} → WriterState S E → Result (Unit {0}) Error → WriterState S E → Type 0
 SendsAll s (Ok _) t =
     (sent : Block) × Sends (length (unsent s)) s.writer.block s.writer.log (Ok tt) sent t.writer.log
 SendsAll s (Err x) t = Sends (length (unsent s)) s.writer.block s.writer.log (Err x) t.writer.block t.writer.log
 
 -- all went out, and then the piece was taken in
-pub record SentFirst {S E W : Type 0} (e : Encoding W) (s : Outgoing S E) (payload : List ℕ) (t : Outgoing S E)
+pub record SentFirst {S E W : Type 0} (e : Encoding W) (s : WriterState S E) (payload : List ℕ) (t : WriterState S E)
     : Type 0 where
   pub sends : SendsAll s (Ok tt) t
   pub received : t.writer.log.writes.received ≡ s.writer.log.writes.received ++ unsent s
   pub added : unsent t ≡ coded e payload
 
 -- where it doesn't, all that was buffered is sent first, and the inner writer isn't flushed
-abbrev pub SendsFirst : {S E W : Type 0} → Encoding W → Outgoing S E → List ℕ → WriteAnswer W → Outgoing S E → Type 0
+abbrev pub SendsFirst : {S E W : Type 0} → Encoding W → WriterState S E → List ℕ → WriteAnswer W → WriterState S E → Type 0
 SendsFirst e s payload (Ok _) t = SentFirst e s payload t
 SendsFirst e s payload (Err (Io x)) t = SendsAll s (Err x) t
 SendsFirst e s payload (Err (Refused w)) t = ⊥
 
 -- what one call of `write_piece` does
-pub record WritesPiece {S E W : Type 0} (stretch : S → S → Type 0) (e : Encoding W) (s : Outgoing S E) (payload : List ℕ)
-    (answer : WriteAnswer W) (t : Outgoing S E) : Type 0 where
-  pub went : PiecesTaken stretch e s (accepted payload answer) t
+pub record WritesPiece {S E W : Type 0} (trace : S → S → Type 0) (e : Encoding W) (s : WriterState S E) (payload : List ℕ)
+    (answer : WriteAnswer W) (t : WriterState S E) : Type 0 where
+  pub went : PiecesTaken trace e s (accepted payload answer) t
   pub answers : WriteAnswers e s payload answer t
   pub fits : e.takes payload → length (coded e payload) ≤ room s → PieceAdded e s payload answer t
   pub full : e.takes payload → room s < length (coded e payload) → SendsFirst e s payload answer t
   pub not_flushed : t.writer.log.writes.flushed ≡ s.writer.log.writes.flushed
-  pub whole : IsOutgoing e.most t
+  pub whole : IsPieceWriter e.most t
 
 -- what one call of `write_buffered` does: where the piece fits behind what is buffered, what `write_piece` does, and else
 -- nothing
-abbrev pub WritesBuffered : {S E W : Type 0} → (S → S → Type 0) → Encoding W → Outgoing S E → List ℕ → Result Bool W
-    → Outgoing S E → Type 0
-WritesBuffered stretch e s payload (Ok true) t =
-    WritesPiece stretch e s payload (Ok tt) t × (length (coded e payload) ≤ room s)
-WritesBuffered stretch e s payload (Ok false) t =
+abbrev pub WritesBuffered : {S E W : Type 0} → (S → S → Type 0) → Encoding W → WriterState S E → List ℕ → Result Bool W
+    → WriterState S E → Type 0
+WritesBuffered trace e s payload (Ok true) t =
+    WritesPiece trace e s payload (Ok tt) t × (length (coded e payload) ≤ room s)
+WritesBuffered trace e s payload (Ok false) t =
     e.takes payload × (room s < length (coded e payload)) × (t ≡ s)
-WritesBuffered stretch e s payload (Err w) t = WritesPiece stretch e s payload (Err (Refused w)) t
+WritesBuffered trace e s payload (Err w) t = WritesPiece trace e s payload (Err (Refused w)) t

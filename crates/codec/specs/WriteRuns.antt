@@ -5,7 +5,7 @@ use Rattle.codec.specs.declared.error.WritePieceError.{WritePieceError}
 use Rattle.codec.specs.declared.error.WritePieceError.TheVariants.{Refused, Io}
 use Rattle.codec.specs.declared.laws.runs.WriteEachError.{WriteEachError}
 use Rattle.codec.specs.Encoding.{Encoding}
-use Rattle.codec.specs.Outgoing.{Outgoing}
+use Rattle.codec.specs.PieceWriter.{WriterState}
 use Rattle.codec.specs.WritePiece.{PiecesTaken, WriteAnswer, WritesPiece, accepted}
 
 -- the payloads that calls with these took in: those whose call returned `Ok`
@@ -66,9 +66,9 @@ module _ {T X : Type 0} (Call : T → List ℕ → Result (Unit {0}) X → T →
   CallsEach s payloads (Err stopped) t = CallsStopped s payloads stopped t
 
 -- calls of `write_piece`, and what they took in
-abbrev pub WritePlays : {S E W : Type 0} → (S → S → Type 0) → Encoding W → Outgoing S E → List (List ℕ)
-    → List (WriteAnswer W) → Outgoing S E → Type 0
-WritePlays stretch e = CallPlays (WritesPiece stretch e) (PiecesTaken stretch e)
+abbrev pub WritePlays : {S E W : Type 0} → (S → S → Type 0) → Encoding W → WriterState S E → List (List ℕ)
+    → List (WriteAnswer W) → WriterState S E → Type 0
+WritePlays trace e = CallPlays (WritesPiece trace e) (PiecesTaken trace e)
 
 -- an error that isn't about a payload
 abbrev pub IsFault : {W : Type 0} → WritePieceError W → Type 0

@@ -6,7 +6,7 @@ use Rattle.codec.specs.declared.error.WritePieceError.{WritePieceError}
 use Rattle.codec.specs.declared.error.WritePieceError.TheVariants.{Refused, Io}
 use Rattle.codec.specs.declared.laws.runs.WriteEachError.{WriteEachError}
 use Rattle.codec.specs.Encoding.{Encoding, IsWritable}
-use Rattle.codec.specs.Outgoing.{Outgoing}
+use Rattle.codec.specs.PieceWriter.{WriterState}
 use Rattle.codec.specs.WritePiece.{PiecesTaken, WriteAnswer, WritesPiece, accepted}
 use Rattle.codec.specs.WritePieceLaws.{PiecesTaken-joins, PiecesTaken-none}
 use Rattle.codec.specs.WriteRuns.{CallPlays, CallRuns, CallsStopped, IsFault, WritePlays, all_accepted, all_ok}
@@ -74,40 +74,40 @@ module _ {T X : Type 0} (Call : T → List ℕ → Result (Unit {0}) X → T →
         record { run = run; taken = CallRuns-taken s (payloads ++ payload ∷ []) (answers ++ answer ∷ []) t run }
 
 -- the same of `write_piece`, under the encoder of the first
-module _ {S E W : Type 0} (stretch : S → S → Type 0) where
+module _ {S E W : Type 0} (trace : S → S → Type 0) where
   -- a call under an encoder that is still the same
-  pub WritesPiece-moved : (encoding : E → Encoding W) (s m t : Outgoing S E) (payload : List ℕ) (answer : WriteAnswer W)
-      → m.encoder ≡ s.encoder → WritesPiece stretch (encoding m.encoder) m payload answer t
-      → WritesPiece stretch (encoding s.encoder) m payload answer t
+  pub WritesPiece-moved : (encoding : E → Encoding W) (s m t : WriterState S E) (payload : List ℕ) (answer : WriteAnswer W)
+      → m.encoder ≡ s.encoder → WritesPiece trace (encoding m.encoder) m payload answer t
+      → WritesPiece trace (encoding s.encoder) m payload answer t
   WritesPiece-moved encoding s m t payload answer same wrote =
-      subst (λ d. WritesPiece stretch (encoding d) m payload answer t) same wrote
+      subst (λ d. WritesPiece trace (encoding d) m payload answer t) same wrote
 
-  module _ (none : (x : S) → stretch x x) where
-    pub WritePlays-none : (e : Encoding W) (s : Outgoing S E) → WritePlays stretch e s [] [] s
-    WritePlays-none e s = record { run = refl; taken = PiecesTaken-none stretch e none s }
+  module _ (none : (x : S) → trace x x) where
+    pub WritePlays-none : (e : Encoding W) (s : WriterState S E) → WritePlays trace e s [] [] s
+    WritePlays-none e s = record { run = refl; taken = PiecesTaken-none trace e none s }
 
-    pub WritePlays-more : ((a b c : S) → stretch a b → stretch b c → stretch a c) → (encoding : E → Encoding W)
-        (s : Outgoing S E) (payloads : List (List ℕ)) (answers : List (WriteAnswer W)) (m : Outgoing S E)
-        (payload : List ℕ) (answer : WriteAnswer W) (t : Outgoing S E)
-        → WritePlays stretch (encoding s.encoder) s payloads answers m
-        → WritesPiece stretch (encoding m.encoder) m payload answer t
-        → WritePlays stretch (encoding s.encoder) s (payloads ++ payload ∷ []) (answers ++ answer ∷ []) t
+    pub WritePlays-more : ((a b c : S) → trace a b → trace b c → trace a c) → (encoding : E → Encoding W)
+        (s : WriterState S E) (payloads : List (List ℕ)) (answers : List (WriteAnswer W)) (m : WriterState S E)
+        (payload : List ℕ) (answer : WriteAnswer W) (t : WriterState S E)
+        → WritePlays trace (encoding s.encoder) s payloads answers m
+        → WritesPiece trace (encoding m.encoder) m payload answer t
+        → WritePlays trace (encoding s.encoder) s (payloads ++ payload ∷ []) (answers ++ answer ∷ []) t
     WritePlays-more joins encoding s payloads answers m payload answer t plays wrote =
         let e = encoding s.encoder in
-        CallPlays-more (WritesPiece stretch e) (PiecesTaken stretch e) (PiecesTaken-none stretch e none)
-        (PiecesTaken-joins stretch e joins) (λ _ _ _ _ wrote. wrote.went) s payloads answers m payload answer t plays
+        CallPlays-more (WritesPiece trace e) (PiecesTaken trace e) (PiecesTaken-none trace e none)
+        (PiecesTaken-joins trace e joins) (λ _ _ _ _ wrote. wrote.went) s payloads answers m payload answer t plays
         (WritesPiece-moved encoding s m t payload answer plays.taken.encoder wrote)
 
   -- what is taken stays so, and where a payload is, only a fault stops it
-  pub WritesPiece-takes : (encoding : E → Encoding W) (s : Outgoing S E) (payload : List ℕ) (answer : WriteAnswer W)
-      (t : Outgoing S E) → WritesPiece stretch (encoding s.encoder) s payload answer t → (other : List ℕ)
+  pub WritesPiece-takes : (encoding : E → Encoding W) (s : WriterState S E) (payload : List ℕ) (answer : WriteAnswer W)
+      (t : WriterState S E) → WritesPiece trace (encoding s.encoder) s payload answer t → (other : List ℕ)
       → (encoding s.encoder).takes other → (encoding t.encoder).takes other
   WritesPiece-takes encoding s payload answer t wrote other taken =
       subst (λ d. (encoding d).takes other) (sym wrote.went.encoder) taken
 
-  pub WritesPiece-fails : (encoding : E → Encoding W) → ((d : E) → IsWritable (encoding d)) → (s : Outgoing S E)
-      (payload : List ℕ) (why : WritePieceError W) (t : Outgoing S E) → (encoding s.encoder).takes payload
-      → WritesPiece stretch (encoding s.encoder) s payload (Err why) t → IsFault why
+  pub WritesPiece-fails : (encoding : E → Encoding W) → ((d : E) → IsWritable (encoding d)) → (s : WriterState S E)
+      (payload : List ℕ) (why : WritePieceError W) (t : WriterState S E) → (encoding s.encoder).takes payload
+      → WritesPiece trace (encoding s.encoder) s payload (Err why) t → IsFault why
   WritesPiece-fails encoding law s payload (Io x) t taken wrote = tt
   WritesPiece-fails encoding law s payload (Refused w) t taken wrote =
       absurd ((law s.encoder).apart payload w taken wrote.answers.0)

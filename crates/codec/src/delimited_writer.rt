@@ -5,7 +5,7 @@ ghost use Rattle.codec.specs.Plain.{IsPlain};
 use crate::both::Codec;
 use crate::delimited::Delimited;
 use crate::encoder::Encoder;
-use crate::head::Head;
+use crate::header_bytes::HeaderBytes;
 use memchr::memchr;
 use std::error::Error;
 use std::{fmt, slice};
@@ -43,14 +43,14 @@ impl Encoder for Delimited {
     }
 
     #[inline(always)]
-    fn head(&self, payload: &[u8]) -> Result<Head, NotPlain> {
+    fn header(&self, payload: &[u8]) -> Result<HeaderBytes, NotPlain> {
         if payload.len() > self.max {
             return Err(NotPlain::TooLong(payload.len()));
         }
         if !is_plain(self.end, payload) {
             return Err(NotPlain::HasEnd);
         }
-        Ok(Head {
+        Ok(HeaderBytes {
             bytes: [0; 24],
             len: 0,
         })

@@ -37,7 +37,7 @@ pub fn fetch<R: TellRead, D: Decoder, W: TellWrite, P: WriterPolicy>(
         (load_answer answer reader.new) reader.new) }
     ensures lends { IfOk result (λ answer. IfOk answer (λ found. IfSome found
         (IsLent (D.grammar reader.new.decoder) reader.new.handed reader.new.reader.block.bytes))) }
-    ensures first { FlushedFirst W.log W.stretch (D.grammar reader.old.decoder) reader.old writer.old result
+    ensures first { FlushedFirst W.log W.trace (D.grammar reader.old.decoder) reader.old writer.old result
         reader.new writer.new }
 {
     if let Some(span) = reader.step_buffered() {
@@ -58,7 +58,7 @@ pub fn fetch_item<R: TellRead, D: Items, W: TellWrite, P: WriterPolicy>(
         (D.item_of reader.old.decoder) reader.old answer reader.new) }
     ensures lends { IfOk result (λ answer. IfOk answer (λ found. IfSome found (λ said.
         IsLent (D.grammar reader.new.decoder) reader.new.handed reader.new.reader.block.bytes said.1))) }
-    ensures first { FlushedFirst W.log W.stretch (D.grammar reader.old.decoder) reader.old writer.old result
+    ensures first { FlushedFirst W.log W.trace (D.grammar reader.old.decoder) reader.old writer.old result
         reader.new writer.new }
 {
     if let Some(said) = reader.step_item_buffered() {
@@ -75,7 +75,7 @@ fn flush_to_ask<R: TellRead, D: Decoder, W: TellWrite, P: WriterPolicy>(
     reader: &PieceReader<R, D>,
     writer: &mut BufWriter<W, P>,
 ) -> io::Result<()>
-    ensures { FlushesToAsk W.log W.stretch (D.grammar reader.now.decoder) reader.now writer.old result writer.new }
+    ensures { FlushesToAsk W.log W.trace (D.grammar reader.now.decoder) reader.now writer.old result writer.new }
 {
     if reader.is_settled() {
         return Ok(());

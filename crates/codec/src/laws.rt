@@ -5,8 +5,8 @@ ghost use Rattle.buffer_redux.specs.Unbuffer.{StreamTook, StreamWent, unbuffered
 ghost use Rattle.codec.specs.Encoding.{all_coded};
 ghost use Rattle.codec.specs.KnownPieces.{HasLeft, NextKnown};
 ghost use Rattle.codec.specs.NextPiece.{NextAnswer, NextPiece, PiecesWent};
-ghost use Rattle.codec.specs.Outgoing.{Outgoing, IsUnused, unsent};
-ghost use Rattle.codec.specs.Piecing.{Piecing, IsFresh, left_of, rest};
+ghost use Rattle.codec.specs.PieceWriter.{WriterState, IsUnused, unsent};
+ghost use Rattle.codec.specs.PieceReader.{ReaderState, IsFresh, left_of, rest};
 ghost use Rattle.codec.specs.Runs.{Cuts, NextRuns, NoneTold, RunWent, all_handed};
 ghost use Rattle.codec.specs.Texts.{HasPieces, Splits};
 ghost use Rattle.codec.specs.WritePiece.{PiecesTaken};
@@ -39,10 +39,10 @@ pub fn one_reading<D: Decoder>(decoder: &D)
 /// Since the reader was made, what was given is the bytes that were handed out, then what is left; and no more bytes were
 /// moved than were given.
 pub fn since_new<R: TellRead, D: Decoder>(reader: &PieceReader<R, D>)
-    ensures given { (least most : ℕ) (stream : R) (finder : D) (first : Piecing R D) (bytes : List ℕ)
+    ensures given { (least most : ℕ) (stream : R) (finder : D) (first : ReaderState R D) (bytes : List ℕ)
         → IsFresh R.log least most stream finder first → PiecesWent R.remaining most first bytes reader.now
         → reader.now.reader.log.reads.given ≡ (R.log stream).reads.given ++ (bytes ++ rest reader.now) }
-    ensures moved { (least most : ℕ) (stream : R) (finder : D) (first : Piecing R D) (bytes : List ℕ)
+    ensures moved { (least most : ℕ) (stream : R) (finder : D) (first : ReaderState R D) (bytes : List ℕ)
         → IsFresh R.log least most stream finder first → PiecesWent R.remaining most first bytes reader.now
         → MovedAtMostGiven first.reader reader.now.reader }
 {}
@@ -50,16 +50,16 @@ pub fn since_new<R: TellRead, D: Decoder>(reader: &PieceReader<R, D>)
 /// Since the writer was made, what the stream received, then what is buffered, is the pieces of the payloads that were taken
 /// in: so no piece was torn, whatever failed.
 pub fn written_since_new<W: TellWrite, E: Encoder>(writer: &PieceWriter<W, E>)
-    ensures { (least : ℕ) (stream : W) (maker : E) (first : Outgoing W E) (payloads : List (List ℕ))
+    ensures { (least : ℕ) (stream : W) (maker : E) (first : WriterState W E) (payloads : List (List ℕ))
         → IsUnused W.log least (E.encoding maker).most stream maker first
-        → PiecesTaken W.stretch (E.encoding maker) first payloads writer.now
+        → PiecesTaken W.trace (E.encoding maker) first payloads writer.now
         → writer.now.writer.log.writes.received ++ unsent writer.now
         ≡ (W.log stream).writes.received ++ all_coded (E.encoding maker) payloads }
 {}
 
 /// A run of calls handed out just the bytes of its pieces, and what one did up to the end that it told is a text of them.
 pub fn went<R: TellRead, D: Decoder>(reader: &PieceReader<R, D>)
-    ensures went { (first : Piecing R D) (answers : List (NextAnswer D.Wrong))
+    ensures went { (first : ReaderState R D) (answers : List (NextAnswer D.Wrong))
         → NextRuns R.remaining (D.grammar first.decoder) first answers reader.now
         → RunWent R.remaining (D.grammar first.decoder) first answers reader.now }
     ensures text { (decoder : D) (answers : List (NextAnswer D.Wrong)) (bytes : List ℕ) → NoneTold answers
@@ -70,7 +70,7 @@ pub fn went<R: TellRead, D: Decoder>(reader: &PieceReader<R, D>)
 /// Where just some pieces are left of a stream that is known, a call hands out the first, or answers `None` where there is
 /// none; it has no other `Err` than the stream's own.
 pub fn next_known<R: TellRead, D: Decoder>(reader: &PieceReader<R, D>)
-    ensures { (s : Piecing R D) (payloads : List (List ℕ)) (answer : NextAnswer D.Wrong)
+    ensures { (s : ReaderState R D) (payloads : List (List ℕ)) (answer : NextAnswer D.Wrong)
         → NextPiece R.remaining (D.grammar s.decoder) s answer reader.now
         → HasLeft R.remaining (D.grammar s.decoder) s payloads
         → NextKnown R.remaining (D.grammar s.decoder) answer payloads reader.now }
@@ -85,7 +85,7 @@ pub fn handed_over<R: TellRead, D: Decoder, E: Decoder>(
     decoder: E,
 ) -> Result<PieceReader<R, E>, MakeError<(Buffer, R, E)>>
     ensures left { IfOk result (λ next. left_of next ≡ left_of reader) }
-    ensures went { IfOk result (λ next. (most more : ℕ) (first : Piecing R D) (last : Piecing R E) (bytes later : List ℕ)
+    ensures went { IfOk result (λ next. (most more : ℕ) (first : ReaderState R D) (last : ReaderState R E) (bytes later : List ℕ)
         → PiecesWent R.remaining most first bytes reader → PiecesWent R.remaining more next later last
         → StreamWent R.remaining (left_of first) (bytes ++ later) (left_of last)) }
 {
@@ -101,9 +101,9 @@ pub fn written_over<W: TellWrite, E: Encoder, F: Encoder>(
     encoder: F,
 ) -> Result<PieceWriter<W, F>, MakeError<(Buffer, W, F)>>
     ensures left { IfOk result (λ next. unbuffered next.writer ≡ unbuffered writer.writer) }
-    ensures took { IfOk result (λ next. (first : Outgoing W E) (last : Outgoing W F) (payloads later : List (List ℕ))
-        → PiecesTaken W.stretch (E.encoding writer.encoder) first payloads writer
-        → PiecesTaken W.stretch (F.encoding encoder) next later last
+    ensures took { IfOk result (λ next. (first : WriterState W E) (last : WriterState W F) (payloads later : List (List ℕ))
+        → PiecesTaken W.trace (E.encoding writer.encoder) first payloads writer
+        → PiecesTaken W.trace (F.encoding encoder) next later last
         → StreamTook (unbuffered first.writer)
         (all_coded (E.encoding writer.encoder) payloads ++ all_coded (F.encoding encoder) later) (unbuffered last.writer)) }
 {

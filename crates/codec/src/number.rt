@@ -1,4 +1,4 @@
-//! Numbers in heads that are text.
+//! Numbers in headers that are text.
 ghost use Rattle.std.specs.Prelude.{◌≡◌};
 ghost use Rattle.codec.specs.Number.{with_byte};
 

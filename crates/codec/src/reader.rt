@@ -9,7 +9,7 @@ ghost use Rattle.codec.specs.contracts.reader.PieceReader.{the_row};
 ghost use Rattle.codec.specs.declared.error.NextError.TheVariants.{Wrong};
 ghost use Rattle.codec.specs.Decoding.{IsLent, bytes_at};
 ghost use Rattle.codec.specs.Grammar.{Begins, Lacks};
-ghost use Rattle.codec.specs.Piecing.{IsOver, IsPiecing, IsFresh, IsSettled, Skips, TakenApart, redecoded, rest, room_for, with_stream};
+ghost use Rattle.codec.specs.PieceReader.{IsOver, IsPieceReader, IsFresh, IsSettled, Skips, TakenApart, redecoded, rest, room_for, with_stream};
 ghost use Rattle.codec.specs.NextPiece.{AsksNone, HandsBytes, NextBuffered, NextPiece, Refills, buffered_answer, load_answer};
 
 mod saying;
@@ -52,9 +52,9 @@ pub struct PieceReader<R: Tell, D: Decoder> {
 }
 
 impl<R: Tell, D: Decoder> Model for PieceReader<R, D> {
-    ghost use Rattle.codec.specs.Piecing.{Piecing, IsPiecing};
+    ghost use Rattle.codec.specs.PieceReader.{ReaderState, IsPieceReader};
 
-    ghost Value = { Piecing R D };
+    ghost Value = { ReaderState R D };
 
     ghost view = { λ f. record {
       reader = f.reader;
@@ -64,7 +64,7 @@ impl<R: Tell, D: Decoder> Model for PieceReader<R, D> {
       ended = f.ended;
     } };
 
-    ghost invariant = { λ f. IsPiecing (D.grammar f.decoder) (record {
+    ghost invariant = { λ f. IsPieceReader (D.grammar f.decoder) (record {
       reader = f.reader;
       decoder = f.decoder;
       handed = f.handed;
@@ -78,7 +78,7 @@ impl<R: Tell, D: Decoder> PieceReader<R, D> {
     /// where that is more. A refusal hands `inner` and `decoder` back.
     pub fn new(alloc: Global, inner: R, decoder: D) -> Result<Self, MakeError<(R, D)>>
         ensures made { IfOk result (IsFresh R.log 8192 (D.grammar decoder).most inner decoder) }
-        ensures whole { IfOk result (IsPiecing (D.grammar decoder)) }
+        ensures whole { IfOk result (IsPieceReader (D.grammar decoder)) }
         ensures handed_back { IfErr result (λ e. (e.0.0 ≡ inner) × (e.0.1 ≡ decoder)) }
         ensures within { FitsWithin (growth result) (room_for 8192 (D.grammar decoder).most) (2 ^ 62) }
     {
@@ -94,7 +94,7 @@ impl<R: Tell, D: Decoder> PieceReader<R, D> {
         decoder: D,
     ) -> Result<Self, MakeError<(R, D)>>
         ensures made { IfOk result (IsFresh R.log capacity (D.grammar decoder).most inner decoder) }
-        ensures whole { IfOk result (IsPiecing (D.grammar decoder)) }
+        ensures whole { IfOk result (IsPieceReader (D.grammar decoder)) }
         ensures handed_back { IfErr result (λ e. (e.0.0 ≡ inner) × (e.0.1 ≡ decoder)) }
         ensures within { FitsWithin (growth result) (room_for capacity (D.grammar decoder).most) (2 ^ 62) }
     {
@@ -121,7 +121,7 @@ impl<R: Tell, D: Decoder> PieceReader<R, D> {
         decoder: D,
     ) -> Result<Self, MakeError<(Buffer, R, D)>>
         ensures made { IfOk result (IsOver R.log (D.grammar decoder).most buffer inner decoder) }
-        ensures whole { IfOk result (IsPiecing (D.grammar decoder)) }
+        ensures whole { IfOk result (IsPieceReader (D.grammar decoder)) }
         ensures handed_back { IfErr result (λ e. (e.0.0 ≡ buffer) × (e.0.1 ≡ inner) × (e.0.2 ≡ decoder)) }
         ensures within { FitsWithin (growth result) (room_for buffer.capacity (D.grammar decoder).most) (2 ^ 62) }
         ensures kept { buffer.kind ≡ Plain → 3 * (D.grammar decoder).most ≤ buffer.capacity → IsOk result }
@@ -143,7 +143,7 @@ impl<R: Tell, D: Decoder> PieceReader<R, D> {
     /// Where three pieces of `decoder` don't fit into the buffer, both are handed back as they were.
     pub fn set_decoder<E: Decoder>(self, decoder: E) -> Result<PieceReader<R, E>, (Self, E)>
         ensures set { IfOk result (λ f. f ≡ redecoded decoder self) }
-        ensures whole { IfOk result (IsPiecing (E.grammar decoder)) }
+        ensures whole { IfOk result (IsPieceReader (E.grammar decoder)) }
         ensures handed_back { IfErr result (λ e. (e.0 ≡ self) × (e.1 ≡ decoder)) }
         ensures fits { IsOk result ↔ (3 * (E.grammar decoder).most ≤ self.reader.block.capacity) }
     {
@@ -226,7 +226,7 @@ impl<R: Tell, D: Decoder> PieceReader<R, D> {
     #[inline(always)]
     pub fn rest(&self) -> &[u8]
         ensures value { result.now ≡ rest self.now }
-        ensures whole { IsPiecing (D.grammar self.now.decoder) self.now }
+        ensures whole { IsPieceReader (D.grammar self.now.decoder) self.now }
     {
         &self.reader.buffer()[self.handed..]
     }
@@ -245,7 +245,7 @@ impl<R: Tell, D: Decoder> PieceReader<R, D> {
     #[inline(always)]
     pub fn looked(&self) -> usize
         ensures value { result ≡ self.now.seen }
-        ensures whole { IsPiecing (D.grammar self.now.decoder) self.now }
+        ensures whole { IsPieceReader (D.grammar self.now.decoder) self.now }
     {
         self.seen
     }
@@ -255,7 +255,7 @@ impl<R: Tell, D: Decoder> PieceReader<R, D> {
     #[inline(always)]
     pub fn has_ended(&self) -> bool
         ensures value { result ≡ self.now.ended }
-        ensures whole { IsPiecing (D.grammar self.now.decoder) self.now }
+        ensures whole { IsPieceReader (D.grammar self.now.decoder) self.now }
     {
         self.ended
     }
@@ -297,7 +297,7 @@ impl<R: TellRead, D: Decoder> PieceReader<R, D> {
                 from: at + span.from,
                 len: span.len,
             })),
-            Found::More(need) => self.load_aside(need),
+            Found::More(need) => self.load_outlined(need),
             Found::Wrong(e) => Err(NextError::Wrong(e)),
         }
     }

@@ -1,13 +1,13 @@
-//! Heads that are read byte by byte.
+//! Headers that are read byte by byte.
 ghost use Rattle.std.specs.Prelude.{◌≡◌, ℕ, ◌+◌, ◌<◌, ◌^◌, List, length};
 ghost use Rattle.codec.specs.Scanning.{Scanning, IsSmall, scanned};
 
-use crate::headed::Headed;
-use crate::heading::Heading;
+use crate::header::Header;
+use crate::length_prefixed::LengthPrefixed;
 
-/// What a head is after one more byte.
+/// What a header is after one more byte.
 #[derive(Clone, Copy, Debug, PartialEq, Eq, Drop)]
-pub enum Turn<S> {
+pub enum ScanStep<S> {
     /// Still none, and this is where it stands.
     More(S),
     /// Whole, and this is the length of the payload.
@@ -16,26 +16,26 @@ pub enum Turn<S> {
     Bad,
 }
 
-/// A protocol whose head is read byte by byte, as text is: so what its head says stays so, and nothing of that is left to
-/// prove. [`ByScan`] has such a head.
+/// A protocol whose header is read byte by byte, as text is: so what its header says stays so, and nothing of that is left to
+/// prove. [`ByScan`] has such a header.
 pub trait Scan: Drop {
-    /// Where a head stands.
+    /// Where a header stands.
     type State: Copy;
 
-    // How a head goes on, and how many bytes each part has.
+    // How a header goes on, and how many bytes each part has.
     ghost scanning: { Self → Scanning Self.State };
 
-    /// Where a head stands before its first byte.
+    /// Where a header stands before its first byte.
     fn start(&self) -> Self::State
         ensures { result ≡ (scanning self.now).start };
 
     /// What it is after one more byte.
-    fn turn(&self, state: Self::State, byte: u8) -> Turn<Self::State>
+    fn turn(&self, state: Self::State, byte: u8) -> ScanStep<Self::State>
         ensures { result ≡ (scanning self.now).turn state byte };
 
-    /// No head takes more bytes; what isn't whole then is none.
-    fn most_head(&self) -> usize
-        ensures { result ≡ (scanning self.now).most_head };
+    /// No header takes more bytes; what isn't whole then is none.
+    fn most_header(&self) -> usize
+        ensures { result ≡ (scanning self.now).most_header };
 
     /// No payload has more bytes.
     fn max(&self) -> usize
@@ -49,23 +49,23 @@ pub trait Scan: Drop {
     ghost small: { (s : Self) → IsSmall (scanning s) };
 }
 
-/// The head that is read byte by byte.
+/// The header that is read byte by byte.
 #[derive(Clone, Copy, Debug, Drop)]
 pub struct ByScan<S: Scan>(pub S);
 
-impl<S: Scan> Headed for ByScan<S> {
+impl<S: Scan> LengthPrefixed for ByScan<S> {
     ghost use Rattle.codec.specs.Scanning.{scanned};
-    ghost use Rattle.codec.specs.ScanningLaws.{scanned_heads};
+    ghost use Rattle.codec.specs.ScanningLaws.{scanned_headers};
 
-    ghost headings = { λ s. scanned (S.scanning s.0) };
+    ghost header_format = { λ s. scanned (S.scanning s.0) };
 
     #[inline(always)]
-    fn heading(&self, bytes: &[u8]) -> Heading {
-        scan_head(&self.0, bytes)
+    fn header(&self, bytes: &[u8]) -> Header {
+        scan_header(&self.0, bytes)
     }
 
-    fn most_head(&self) -> usize {
-        self.0.most_head()
+    fn most_header(&self) -> usize {
+        self.0.most_header()
     }
 
     #[inline(always)]
@@ -78,32 +78,32 @@ impl<S: Scan> Headed for ByScan<S> {
         self.0.tail()
     }
 
-    ghost heads = { λ s. scanned_heads (S.scanning s.0) (S.small s.0) };
+    ghost headers = { λ s. scanned_headers (S.scanning s.0) (S.small s.0) };
 }
 
-// What the head says at the front of these bytes.
-pub(crate) fn scan_head<S: Scan>(protocol: &S, bytes: &[u8]) -> Heading
-    ensures { result ≡ (scanned (S.scanning protocol.now)).heading bytes.now }
+// What the header says at the front of these bytes.
+pub(crate) fn scan_header<S: Scan>(protocol: &S, bytes: &[u8]) -> Header
+    ensures { result ≡ (scanned (S.scanning protocol.now)).header bytes.now }
 {
-    let most = protocol.most_head();
+    let most = protocol.most_header();
     let mut state = protocol.start();
     let mut used = 0usize;
     for byte in bytes {
         if used == most {
-            return Heading::Bad;
+            return Header::Bad;
         }
         used += 1;
         match protocol.turn(state, *byte) {
-            Turn::More(next) => {
+            ScanStep::More(next) => {
                 state = next;
             }
-            Turn::Sized(len) => return Heading::Sized(len, used),
-            Turn::Bad => return Heading::Bad,
+            ScanStep::Sized(len) => return Header::Sized(len, used),
+            ScanStep::Bad => return Header::Bad,
         }
     }
     if used == most {
-        Heading::Bad
+        Header::Bad
     } else {
-        Heading::Short
+        Header::Short
     }
 }

@@ -25,7 +25,7 @@ pub trait Service<D: Items> {
         payload: &[u8],
         writer: &mut BufWriter<W>,
     ) -> io::Result<bool>
-        ensures { Answered W.log W.stretch (answers self.old item payload.now) writer.old result self.new writer.new };
+        ensures { Answered W.log W.trace (answers self.old item payload.now) writer.old result self.new writer.new };
 }
 
 /// Why serving ended.
@@ -68,10 +68,10 @@ pub fn serve<R: TellRead, D: Items, W: TellWrite, S: Service<D>>(
     reader: &mut PieceReader<R, D>,
     writer: &mut BufWriter<W>,
 ) -> Result<Served, ServeError<D::Wrong>>
-    ensures served { IfOk result (λ ended. Serves R.remaining W.log W.stretch (D.grammar reader.old.decoder)
+    ensures served { IfOk result (λ ended. Serves R.remaining W.log W.trace (D.grammar reader.old.decoder)
         (D.item_of reader.old.decoder) S.answers (server reader.old service.old writer.old) ended
         (server reader.new service.new writer.new)) }
-    ensures failed { IfErr result (λ e. Stops R.remaining W.log W.stretch (D.grammar reader.old.decoder)
+    ensures failed { IfErr result (λ e. Stops R.remaining W.log W.trace (D.grammar reader.old.decoder)
         (D.item_of reader.old.decoder) S.answers (server reader.old service.old writer.old) e
         (server reader.new service.new writer.new)) }
 {
@@ -88,10 +88,10 @@ fn answer_pieces<R: TellRead, D: Items, W: TellWrite, S: Service<D>>(
     reader: &mut PieceReader<R, D>,
     writer: &mut BufWriter<W>,
 ) -> Result<Served, ServeError<D::Wrong>>
-    ensures ended { IfOk result (λ ended. Ends R.remaining W.log W.stretch (D.grammar reader.old.decoder)
+    ensures ended { IfOk result (λ ended. Ends R.remaining W.log W.trace (D.grammar reader.old.decoder)
         (D.item_of reader.old.decoder) S.answers (server reader.old service.old writer.old) ended
         (server reader.new service.new writer.new)) }
-    ensures failed { IfErr result (λ e. Stops R.remaining W.log W.stretch (D.grammar reader.old.decoder)
+    ensures failed { IfErr result (λ e. Stops R.remaining W.log W.trace (D.grammar reader.old.decoder)
         (D.item_of reader.old.decoder) S.answers (server reader.old service.old writer.old) e
         (server reader.new service.new writer.new)) }
 {
@@ -111,7 +111,7 @@ fn turn<R: TellRead, D: Items, W: TellWrite, S: Service<D>>(
     reader: &mut PieceReader<R, D>,
     writer: &mut BufWriter<W>,
 ) -> Result<Step, ServeError<D::Wrong>>
-    ensures { Turns R.remaining W.log W.stretch (D.grammar reader.old.decoder) (D.item_of reader.old.decoder) S.answers
+    ensures { Turns R.remaining W.log W.trace (D.grammar reader.old.decoder) (D.item_of reader.old.decoder) S.answers
         (server reader.old service.old writer.old) result (server reader.new service.new writer.new) }
 {
     match fetch_item(reader, writer) {

@@ -7,15 +7,15 @@ ghost use Rattle.buffer_redux.specs.Unwrapping.{InnerOfFlushed};
 ghost use Rattle.buffer_redux.specs.GrowError.{FitsWithin};
 ghost use Rattle.buffer_redux.specs.MakeError.{growth};
 ghost use Rattle.codec.specs.contracts.writer.PieceWriter.{the_row};
-ghost use Rattle.codec.specs.Encoding.{IsHead, coded};
-ghost use Rattle.codec.specs.Outgoing.{IsOutgoing, IsOver, IsUnused, room, with_stream};
-ghost use Rattle.codec.specs.Piecing.{room_for};
+ghost use Rattle.codec.specs.Encoding.{IsHeaderBytes, coded};
+ghost use Rattle.codec.specs.PieceWriter.{IsPieceWriter, IsOver, IsUnused, room, with_stream};
+ghost use Rattle.codec.specs.PieceReader.{room_for};
 ghost use Rattle.codec.specs.WritePiece.{PiecesTaken, PutsIn, WritesBuffered, WritesPiece};
 
 use crate::buffer::{fit_buffer, piece_buffer};
 use crate::encoder::Encoder;
 use crate::error::WritePieceError;
-use crate::head::Head;
+use crate::header_bytes::HeaderBytes;
 use buffer_redux::tell::TellWrite;
 use buffer_redux::{BufWriter, Buffer, DEFAULT_BUF_SIZE, IntoInnerError, MakeError};
 use std::alloc::Global;
@@ -42,13 +42,13 @@ pub struct PieceWriter<W: TellWrite, E: Encoder> {
 }
 
 impl<W: TellWrite, E: Encoder> Model for PieceWriter<W, E> {
-    ghost use Rattle.codec.specs.Outgoing.{Outgoing, IsOutgoing};
+    ghost use Rattle.codec.specs.PieceWriter.{WriterState, IsPieceWriter};
 
-    ghost Value = { Outgoing W E };
+    ghost Value = { WriterState W E };
 
     ghost view = { λ f. record { writer = f.writer; encoder = f.encoder } };
 
-    ghost invariant = { λ f. IsOutgoing (E.encoding f.encoder).most (record { writer = f.writer; encoder = f.encoder }) };
+    ghost invariant = { λ f. IsPieceWriter (E.encoding f.encoder).most (record { writer = f.writer; encoder = f.encoder }) };
 }
 
 impl<W: TellWrite, E: Encoder> PieceWriter<W, E> {
@@ -56,7 +56,7 @@ impl<W: TellWrite, E: Encoder> PieceWriter<W, E> {
     /// where that is more. A refusal hands `inner` and `encoder` back.
     pub fn new(alloc: Global, inner: W, encoder: E) -> Result<Self, MakeError<(W, E)>>
         ensures made { IfOk result (IsUnused W.log 8192 (E.encoding encoder).most inner encoder) }
-        ensures whole { IfOk result (IsOutgoing (E.encoding encoder).most) }
+        ensures whole { IfOk result (IsPieceWriter (E.encoding encoder).most) }
         ensures handed_back { IfErr result (λ e. (e.0.0 ≡ inner) × (e.0.1 ≡ encoder)) }
         ensures within { FitsWithin (growth result) (room_for 8192 (E.encoding encoder).most) (2 ^ 62) }
     {
@@ -72,7 +72,7 @@ impl<W: TellWrite, E: Encoder> PieceWriter<W, E> {
         encoder: E,
     ) -> Result<Self, MakeError<(W, E)>>
         ensures made { IfOk result (IsUnused W.log capacity (E.encoding encoder).most inner encoder) }
-        ensures whole { IfOk result (IsOutgoing (E.encoding encoder).most) }
+        ensures whole { IfOk result (IsPieceWriter (E.encoding encoder).most) }
         ensures handed_back { IfErr result (λ e. (e.0.0 ≡ inner) × (e.0.1 ≡ encoder)) }
         ensures within { FitsWithin (growth result) (room_for capacity (E.encoding encoder).most) (2 ^ 62) }
     {
@@ -97,7 +97,7 @@ impl<W: TellWrite, E: Encoder> PieceWriter<W, E> {
         encoder: E,
     ) -> Result<Self, MakeError<(Buffer, W, E)>>
         ensures made { IfOk result (IsOver W.log (E.encoding encoder).most buffer inner encoder) }
-        ensures whole { IfOk result (IsOutgoing (E.encoding encoder).most) }
+        ensures whole { IfOk result (IsPieceWriter (E.encoding encoder).most) }
         ensures handed_back { IfErr result (λ e. (e.0.0 ≡ buffer) × (e.0.1 ≡ inner) × (e.0.2 ≡ encoder)) }
         ensures within { FitsWithin (growth result) (room_for buffer.capacity (E.encoding encoder).most) (2 ^ 62) }
         ensures kept { buffer.kind ≡ Plain → 3 * (E.encoding encoder).most ≤ buffer.capacity → IsOk result }
@@ -138,14 +138,14 @@ impl<W: TellWrite, E: Encoder> PieceWriter<W, E> {
     /// comes only where the piece found no room, and then just what the inner writer took is gone from the buffer.
     #[inline(always)]
     pub fn write_piece(&mut self, payload: &[u8]) -> Result<(), WritePieceError<E::Refusal>>
-        ensures { WritesPiece W.stretch (E.encoding self.old.encoder) self.old payload.now result self.new }
+        ensures { WritesPiece W.trace (E.encoding self.old.encoder) self.old payload.now result self.new }
     {
-        match self.encoder.head(payload) {
-            Ok(head) => {
-                if !self.has_room(&head, payload) {
-                    return self.write_aside(head, payload);
+        match self.encoder.header(payload) {
+            Ok(header) => {
+                if !self.has_room(&header, payload) {
+                    return self.write_outlined(header, payload);
                 }
-                self.take_in(&head, payload);
+                self.append(&header, payload);
                 Ok(())
             }
             Err(e) => Err(WritePieceError::Refused(e)),
@@ -159,14 +159,14 @@ impl<W: TellWrite, E: Encoder> PieceWriter<W, E> {
     /// sends what is buffered before.
     #[inline(always)]
     pub fn write_buffered(&mut self, payload: &[u8]) -> Result<bool, E::Refusal>
-        ensures { WritesBuffered W.stretch (E.encoding self.old.encoder) self.old payload.now result self.new }
+        ensures { WritesBuffered W.trace (E.encoding self.old.encoder) self.old payload.now result self.new }
     {
-        match self.encoder.head(payload) {
-            Ok(head) => {
-                if !self.has_room(&head, payload) {
+        match self.encoder.header(payload) {
+            Ok(header) => {
+                if !self.has_room(&header, payload) {
                     return Ok(false);
                 }
-                self.take_in(&head, payload);
+                self.append(&header, payload);
                 Ok(true)
             }
             Err(e) => Err(e),
@@ -174,14 +174,18 @@ impl<W: TellWrite, E: Encoder> PieceWriter<W, E> {
     }
 
     // Goes on in `write_slowly`. The kit's compiler clears the answer of a call where the function that makes the call begins; of
-    // a call made in here, which is inlined, that is behind the look at the room. So is the copy of the head.
+    // a call made in here, which is inlined, that is behind the look at the room. So is the copy of the header.
     #[inline(always)]
-    fn write_aside(&mut self, head: Head, payload: &[u8]) -> Result<(), WritePieceError<E::Refusal>>
-        requires head { IsHead (E.encoding self.old.encoder) payload.now head }
+    fn write_outlined(
+        &mut self,
+        header: HeaderBytes,
+        payload: &[u8],
+    ) -> Result<(), WritePieceError<E::Refusal>>
+        requires header { IsHeaderBytes (E.encoding self.old.encoder) payload.now header }
         requires full { room self.old < length (coded (E.encoding self.old.encoder) payload.now) }
-        ensures { WritesPiece W.stretch (E.encoding self.old.encoder) self.old payload.now result self.new }
+        ensures { WritesPiece W.trace (E.encoding self.old.encoder) self.old payload.now result self.new }
     {
-        self.write_slowly(&head, payload)
+        self.write_slowly(&header, payload)
     }
 
     // Sends all that is buffered, and then takes the piece in. It stands apart, so that a piece for which there is room is short
@@ -190,44 +194,44 @@ impl<W: TellWrite, E: Encoder> PieceWriter<W, E> {
     #[inline(never)]
     fn write_slowly(
         &mut self,
-        head: &Head,
+        header: &HeaderBytes,
         payload: &[u8],
     ) -> Result<(), WritePieceError<E::Refusal>>
-        requires head { IsHead (E.encoding self.old.encoder) payload.now head.now }
+        requires header { IsHeaderBytes (E.encoding self.old.encoder) payload.now header.now }
         requires full { room self.old < length (coded (E.encoding self.old.encoder) payload.now) }
-        ensures { WritesPiece W.stretch (E.encoding self.old.encoder) self.old payload.now result self.new }
+        ensures { WritesPiece W.trace (E.encoding self.old.encoder) self.old payload.now result self.new }
     {
         self.send()?;
-        self.take_in(head, payload);
+        self.append(header, payload);
         Ok(())
     }
 
     // Whether the piece fits behind what is buffered.
     #[inline(always)]
-    fn has_room(&self, head: &Head, payload: &[u8]) -> bool
-        requires head { IsHead (E.encoding self.now.encoder) payload.now head.now }
+    fn has_room(&self, header: &HeaderBytes, payload: &[u8]) -> bool
+        requires header { IsHeaderBytes (E.encoding self.now.encoder) payload.now header.now }
         ensures room { IsTrue result ↔ (length (coded (E.encoding self.now.encoder) payload.now) ≤ room self.now) }
-        ensures whole { IsOutgoing (E.encoding self.now.encoder).most self.now }
+        ensures whole { IsPieceWriter (E.encoding self.now.encoder).most self.now }
     {
-        let piece = head.len + payload.len() + self.encoder.tail().len();
+        let piece = header.len + payload.len() + self.encoder.tail().len();
         piece <= self.writer.capacity() - self.writer.buf_len()
     }
 
     /// Sends all pieces, without a flush of the inner writer. Where that fails, just what the inner writer took is no longer
     /// buffered.
     pub fn send(&mut self) -> io::Result<()>
-        ensures sent { WasSent W.log W.stretch self.old.writer result self.new.writer }
-        ensures went { PiecesTaken W.stretch (E.encoding self.old.encoder) self.old [] self.new }
-        ensures whole { IsOutgoing (E.encoding self.old.encoder).most self.new }
+        ensures sent { WasSent W.log W.trace self.old.writer result self.new.writer }
+        ensures went { PiecesTaken W.trace (E.encoding self.old.encoder) self.old [] self.new }
+        ensures whole { IsPieceWriter (E.encoding self.old.encoder).most self.new }
     {
         self.writer.send()
     }
 
     /// Sends all pieces, and flushes the inner writer.
     pub fn flush(&mut self) -> io::Result<()>
-        ensures flushed { WasFlushed W.log W.stretch self.old.writer result self.new.writer }
-        ensures went { PiecesTaken W.stretch (E.encoding self.old.encoder) self.old [] self.new }
-        ensures whole { IsOutgoing (E.encoding self.old.encoder).most self.new }
+        ensures flushed { WasFlushed W.log W.trace self.old.writer result self.new.writer }
+        ensures went { PiecesTaken W.trace (E.encoding self.old.encoder) self.old [] self.new }
+        ensures whole { IsPieceWriter (E.encoding self.old.encoder).most self.new }
     {
         self.writer.flush()
     }
@@ -235,9 +239,9 @@ impl<W: TellWrite, E: Encoder> PieceWriter<W, E> {
     /// Flushes, and hands the inner writer back; where that fails, the writer with the bytes that were not sent, and the
     /// fault.
     pub fn into_inner(mut self) -> Result<W, IntoInnerError<Self>>
-        ensures { MatchResult result (InnerOfFlushed W.log W.stretch self.writer (Ok tt))
-            (λ e. WasFlushed W.log W.stretch self.writer (Err e.1) e.0.writer
-            × PiecesTaken W.stretch (E.encoding self.encoder) self [] e.0) }
+        ensures { MatchResult result (InnerOfFlushed W.log W.trace self.writer (Ok tt))
+            (λ e. WasFlushed W.log W.trace self.writer (Err e.1) e.0.writer
+            × PiecesTaken W.trace (E.encoding self.encoder) self [] e.0) }
     {
         match self.flush() {
             Ok(()) => {
@@ -258,38 +262,38 @@ impl<W: TellWrite, E: Encoder> PieceWriter<W, E> {
         writer.into_inner_with_buffer()
     }
 
-    // Copies the piece in, for which there is room. The length of the head and its first bytes are read before the room is made:
-    // where the compiler knows the length, no part of the head is laid out in memory then.
+    // Copies the piece in, for which there is room. The length of the header and its first bytes are read before the room is
+    // made: where the compiler knows the length, no part of the header is laid out in memory then.
     #[inline(always)]
-    fn take_in(&mut self, head: &Head, payload: &[u8])
-        requires head { IsHead (E.encoding self.old.encoder) payload.now head.now }
+    fn append(&mut self, header: &HeaderBytes, payload: &[u8])
+        requires header { IsHeaderBytes (E.encoding self.old.encoder) payload.now header.now }
         requires room { length (coded (E.encoding self.old.encoder) payload.now) ≤ room self.old }
-        ensures { PutsIn W.stretch (E.encoding self.old.encoder).most self.old
+        ensures { PutsIn W.trace (E.encoding self.old.encoder).most self.old
             (coded (E.encoding self.old.encoder) payload.now) self.new }
     {
-        let len = head.len;
+        let len = header.len;
         let mut word = [0; 8];
-        word.copy_from_slice(&head.bytes[..8]);
+        word.copy_from_slice(&header.bytes[..8]);
         self.writer.make_room();
-        self.put_head(head, len, &word);
+        self.put_header(header, len, &word);
         self.put(payload);
         if !self.encoder.tail().is_empty() {
             let _ = self.writer.write(self.encoder.tail());
         }
     }
 
-    // Copies the head in, for which there is room: it has `len` bytes, of which `word` are the first.
+    // Copies the header in, for which there is room: it has `len` bytes, of which `word` are the first.
     #[inline(always)]
-    fn put_head(&mut self, head: &Head, len: usize, word: &[u8])
-        requires len { len ≡ head.now.len }
-        requires word { word.now ≡ take 8 head.now.bytes }
-        requires room { head.now.len ≤ usable self.old.writer.block }
-        requires inside { head.now.len < self.old.writer.block.capacity }
-        ensures put { PutsIn W.stretch (E.encoding self.old.encoder).most self.old (take head.now.len head.now.bytes) self.new }
-        ensures usable { usable self.old.writer.block ≤ usable self.new.writer.block + head.now.len }
+    fn put_header(&mut self, header: &HeaderBytes, len: usize, word: &[u8])
+        requires len { len ≡ header.now.len }
+        requires word { word.now ≡ take 8 header.now.bytes }
+        requires room { header.now.len ≤ usable self.old.writer.block }
+        requires inside { header.now.len < self.old.writer.block.capacity }
+        ensures put { PutsIn W.trace (E.encoding self.old.encoder).most self.old (take header.now.len header.now.bytes) self.new }
+        ensures usable { usable self.old.writer.block ≤ usable self.new.writer.block + header.now.len }
     {
         if len > 8 {
-            return self.put(&head.bytes[..len]);
+            return self.put(&header.bytes[..len]);
         }
         self.put(&word[..len]);
     }
@@ -299,7 +303,7 @@ impl<W: TellWrite, E: Encoder> PieceWriter<W, E> {
     fn put(&mut self, bytes: &[u8])
         requires room { length bytes.now ≤ usable self.old.writer.block }
         requires inside { length bytes.now < self.old.writer.block.capacity }
-        ensures put { PutsIn W.stretch (E.encoding self.old.encoder).most self.old bytes.now self.new }
+        ensures put { PutsIn W.trace (E.encoding self.old.encoder).most self.old bytes.now self.new }
         ensures usable { usable self.old.writer.block ≤ usable self.new.writer.block + length bytes.now }
     {
         let _ = self.writer.write(bytes);

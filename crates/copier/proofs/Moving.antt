@@ -78,9 +78,9 @@ own_met u v met = record {
 }
 
 -- what the writer inside met where the last write of a copy had this answer
-module _ {W Q : Type 0} (stretch : W → W → Type 0) (u v : Buffered W Q) (bytes : List ℕ) where
+module _ {W Q : Type 0} (trace : W → W → Type 0) (u v : Buffered W Q) (bytes : List ℕ) where
   err_caused : (e : Error)
-      → LastWrite writer_log (WriterWent stretch std_write_rules) (WriterCalled std_write_rules) u bytes (Err e) v
+      → LastWrite writer_log (WriterWent trace std_write_rules) (WriterCalled std_write_rules) u bytes (Err e) v
       → SendErrorCaused u.log.writes v.log.writes e
   err_caused e last =
       let m = last.before in
@@ -88,7 +88,7 @@ module _ {W Q : Type 0} (stretch : W → W → Type 0) (u v : Buffered W Q) (byt
       (last.went.met (tells_all u.policy) (own_met u m last.met))
       (last.called.fault (tells_all m.policy).0 e (ap (λ l. l.writes.faults) last.told))
 
-  module _ (last : LastWrite writer_log (WriterWent stretch std_write_rules)
+  module _ (last : LastWrite writer_log (WriterWent trace std_write_rules)
       (WriterCalled std_write_rules) u bytes (Ok 0) v) where
     stuck_caused : 0 < length bytes → 0 < u.block.capacity
         → (interrupts : List Error) × TookNothing interrupts u.log.writes v.log.writes WriteZero
@@ -102,7 +102,7 @@ module _ {W Q : Type 0} (stretch : W → W → Type 0) (u v : Buffered W Q) (byt
           TookNothing-after met.interrupts nothing.0 u.log.writes m.log.writes v.log.writes WriteZero met.only nothing.1,
         )
 
-    out_met : length bytes ≡ 0 → WriterWent stretch std_write_rules u v
+    out_met : length bytes ≡ 0 → WriterWent trace std_write_rules u v
         → MetInterrupts u.log.writes v.log.writes
     out_met none went =
         let m = last.before in
@@ -118,9 +118,9 @@ module _ {W Q : Type 0} (stretch : W → W → Type 0) (u v : Buffered W Q) (byt
         })
 
 -- a copy between buffers that were empty at first
-module _ {R P W Q : Type 0} {remaining : R → Option (List ℕ)} {stretch : W → W → Type 0} {s t : Buffered R P}
+module _ {R P W Q : Type 0} {remaining : R → Option (List ℕ)} {trace : W → W → Type 0} {s t : Buffered R P}
     {u v : Buffered W Q} (went : ReaderWent remaining std_read_rules s t)
-    (went' : WriterWent stretch std_write_rules u v) (none : s.block.bytes ≡ [])
+    (went' : WriterWent trace std_write_rules u v) (none : s.block.bytes ≡ [])
     (none' : u.block.bytes ≡ []) where
   module _ (n : ℕ)
       (moved : MovedBy n (reader_log s).fills (reader_log t).fills
@@ -171,12 +171,12 @@ module _ {R P W Q : Type 0} {remaining : R → Option (List ℕ)} {stretch : W �
 
   -- the reader inside gave nothing only where that one showed nothing
   pub copy_once : 0 < u.block.capacity
-      → (TakesNothing writer_log (WriterWent stretch std_write_rules) (WriterCalled std_write_rules) u
+      → (TakesNothing writer_log (WriterWent trace std_write_rules) (WriterCalled std_write_rules) u
       → (reader_log t).fills.zero_fills ≤ (reader_log s).fills.zero_fills + 1) → EndsOnce s.log.reads t.log.reads
-  copy_once room shows = omega (arith, went.once ReadsWhenEmpty-std, shows (TakesNothing-std stretch u room))
+  copy_once room shows = omega (arith, went.once ReadsWhenEmpty-std, shows (TakesNothing-std trace u room))
 
   pub copy_caused : (e : Error)
-      → CopyFailed writer_log (WriterWent stretch std_write_rules) (WriterCalled std_write_rules) e
+      → CopyFailed writer_log (WriterWent trace std_write_rules) (WriterCalled std_write_rules) e
       (reader_log s).fills (reader_log t).fills u v
       → EitherFailed e s.log t.log u.log v.log ⊎ OverTotal e s.log t.log u.log v.log
   copy_caused e (inl (inl source)) = inl (inl (record {
@@ -186,7 +186,7 @@ module _ {R P W Q : Type 0} {remaining : R → Option (List ℕ)} {stretch : W �
   }))
   copy_caused e (inl (inr target)) = inl (inr (record {
     reader = only target.reader;
-    writer = err_caused stretch u v t.block.bytes e target.last;
+    writer = err_caused trace u v t.block.bytes e target.last;
   }))
   copy_caused e (inr much) = inr (record {
     other = much.other;
@@ -219,7 +219,7 @@ module _ {R P W Q : Type 0} {remaining : R → Option (List ℕ)} {stretch : W �
   zero_same e is caused = elim caused.cause [ inl nothing ↦ cc | inr fault ↦ fault.zero_writes ]
 
   pub copy_often : (e : Error)
-      → CopyFailed writer_log (WriterWent stretch std_write_rules) (WriterCalled std_write_rules) e
+      → CopyFailed writer_log (WriterWent trace std_write_rules) (WriterCalled std_write_rules) e
       (reader_log s).fills (reader_log t).fills u v
       → (error_kind e ≡ Interrupted
       → FaultsRise 65 (reader_log s).fills (reader_log t).fills (writer_log u).writes (writer_log v).writes)
@@ -227,16 +227,16 @@ module _ {R P W Q : Type 0} {remaining : R → Option (List ℕ)} {stretch : W �
   copy_often e (inl (inl source)) often is =
       inl (rise_inside (often is) (went'.met (tells_all u.policy) (own_met u v source.writer)).only.zero_writes)
   copy_often e (inl (inr target)) often is =
-      inl (rise_inside (often is) (zero_same e is (err_caused stretch u v t.block.bytes e target.last)))
+      inl (rise_inside (often is) (zero_same e is (err_caused trace u v t.block.bytes e target.last)))
   copy_often e (inr much) often is = let kind = much.other in cc
 
-  module _ (ended : CopyEnded writer_log (WriterWent stretch std_write_rules) (WriterCalled std_write_rules)
+  module _ (ended : CopyEnded writer_log (WriterWent trace std_write_rules) (WriterCalled std_write_rules)
       (reader_log s).fills (reader_log t).fills u v) where
     -- bytes are left in the reader
     pub left_caused : (e : Error) → error_kind e ≡ WriteZero → 0 < length t.block.bytes → 0 < u.block.capacity
         → EitherFailed e s.log t.log u.log v.log
     left_caused e is some room =
-        let stuck = stuck_caused stretch u v t.block.bytes ended.last some room in
+        let stuck = stuck_caused trace u v t.block.bytes ended.last some room in
         inr (record {
           reader = only ended.reader;
           writer = record {
@@ -251,7 +251,7 @@ module _ {R P W Q : Type 0} {remaining : R → Option (List ℕ)} {stretch : W �
       flush_caused e caused = inr (record {
         reader = only ended.reader;
         writer = SendErrorCaused-after u.log.writes v.log.writes v'.log.writes e
-            (out_met stretch u v t.block.bytes ended.last left went') caused;
+            (out_met trace u v t.block.bytes ended.last left went') caused;
       })
 
       -- all was sent, and then the flush was left
@@ -369,6 +369,6 @@ module _ {R P W Q : Type 0} {remaining : R → Option (List ℕ)} {stretch : W �
               reader = only ended.reader;
               writer =
                   MetInterrupts-joins u.log.writes v.log.writes v'.log.writes
-                  (out_met stretch u v t.block.bytes ended.last left went') flushed.met;
+                  (out_met trace u v t.block.bytes ended.last left went') flushed.met;
             };
           }

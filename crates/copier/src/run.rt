@@ -7,7 +7,7 @@ ghost use Rattle.copier.specs.Copy.{EitherFailed, OverTotal, Copied, Interrupted
 use crate::settings::settings;
 use buffer_redux::tell::{TellRead, TellWrite};
 use buffer_redux::{BufReader, BufWriter, copy_buf};
-use programs::{Ending, GREATEST_CAPACITY, Said, buffered};
+use programs::{Ending, GREATEST_CAPACITY, Report, buffered};
 use std::alloc::Global;
 use std::io;
 use std::io::{ErrorKind, Write};
@@ -93,12 +93,12 @@ pub fn run_asked<R: TellRead, W: TellWrite>(
 }
 
 /// What the program says of an ending.
-pub fn said(ending: Ending) -> Said<'static>
+pub fn said(ending: Ending) -> Report<'static>
     ensures program { result.program.now ≡ codes "bufcopy" }
     ensures usage { result.usage.now ≡ codes "[std|ring] [CAPACITY]" }
     ensures ending { result.ending ≡ ending }
 {
-    Said {
+    Report {
         program: "bufcopy",
         usage: "[std|ring] [CAPACITY]",
         ending,

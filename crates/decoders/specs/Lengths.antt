@@ -1,8 +1,8 @@
 -- Lengths in bytes.
 use Rattle.std.specs.Prelude.{ℕ, List, [], length, take, nat_lt, if◌then◌else◌}
 use Rattle.std.specs.Int.{w8, w16, w32, w64, from_be_bytes, from_le_bytes}
-use Rattle.codec.specs.Headings.{Headings}
-use Rattle.codec.specs.declared.heading.Heading.TheVariants.{Short, Sized}
+use Rattle.codec.specs.HeaderFormat.{HeaderFormat}
+use Rattle.codec.specs.declared.header.Header.TheVariants.{Short, Sized}
 use Rattle.decoders.specs.declared.lengths.Order.{Order}
 use Rattle.decoders.specs.declared.lengths.Order.TheVariants.{BigEndian, LittleEndian}
 use Rattle.decoders.specs.declared.lengths.Width.{Width}
@@ -30,10 +30,10 @@ number_of_all Eight LittleEndian bytes = from_le_bytes w64 bytes
 abbrev pub number_of : Width → Order → List ℕ → ℕ
 number_of width order bytes = number_of_all width order (take (size_of width) bytes)
 
-abbrev pub lengths : Width → Order → ℕ → Headings
+abbrev pub lengths : Width → Order → ℕ → HeaderFormat
 lengths width order max = record {
-  heading = λ bytes. if nat_lt (length bytes) (size_of width) then Short else Sized (number_of width order bytes) (size_of width);
-  most_head = size_of width;
+  header = λ bytes. if nat_lt (length bytes) (size_of width) then Short else Sized (number_of width order bytes) (size_of width);
+  most_header = size_of width;
   max = max;
   tail = [];
 }

@@ -1,6 +1,6 @@
 -- How long a payload may be.
 use Rattle.std.specs.Prelude.{ℕ, ◌<◌, ◌^◌}
 
--- with head and tail it still has a length
+-- with header and tail it still has a length
 abbrev pub IsSmall : ℕ → Type 0
 IsSmall max = max < 2 ^ 62

@@ -4,7 +4,7 @@ use Rattle.codec.specs.Delimited.{delimited}
 use Rattle.codec.specs.Ended.{ended}
 use Rattle.codec.specs.FirstByte.{either}
 use Rattle.codec.specs.Grammar.{Grammar}
-use Rattle.codec.specs.Headings.{headed}
+use Rattle.codec.specs.HeaderFormat.{length_prefixed}
 use Rattle.codec.specs.Number.{with_byte}
 use Rattle.codec.specs.Scanning.{scanned}
 use Rattle.codec.specs.Showing.{showing}
@@ -12,7 +12,7 @@ use Rattle.codec.specs.Trimming.{trimming}
 use Rattle.codec.specs.declared.by_first.EitherWrong.{EitherWrong}
 use Rattle.codec.specs.declared.delimited.TooLong.{TooLong}
 use Rattle.codec.specs.declared.ended.Unended.{Unended}
-use Rattle.codec.specs.declared.head_error.HeadError.{HeadError}
+use Rattle.codec.specs.declared.header_error.HeaderError.{HeaderError}
 use Rattle.codec.specs.declared.number.Number.{Number}
 use Rattle.codec.specs.declared.number.Number.TheVariants as number
 use Rattle.decoders.specs.Nullable.{nullable}
@@ -32,8 +32,8 @@ abbrev pub lines : ℕ → Grammar TooLong
 lines max = showing behind_kind (trimming (delimited 10 max))
 
 -- what a dollar sign begins is a bulk string, or the null one; each other piece is a line, with its end
-abbrev pub resp : ℕ → Grammar (EitherWrong HeadError (Unended TooLong))
-resp max = either 36 (headed (scanned (nullable max))) (ended (lines max))
+abbrev pub resp : ℕ → Grammar (EitherWrong HeaderError (Unended TooLong))
+resp max = either 36 (length_prefixed (scanned (nullable max))) (ended (lines max))
 
 -- a line ends here: with LF, or with CR and LF
 abbrev pub ends_line : ℕ → List ℕ → Bool

@@ -6,10 +6,10 @@ use Rattle.codec.specs.EndedLaws.{ended_lawful}
 use Rattle.codec.specs.FirstByteLaws.{either_lawful}
 use Rattle.codec.specs.Ended.{ended}
 use Rattle.codec.specs.Grammar.{IsLawful}
-use Rattle.codec.specs.Headings.{headed}
-use Rattle.codec.specs.HeadingsLaws.{headed_lawful}
+use Rattle.codec.specs.HeaderFormat.{length_prefixed}
+use Rattle.codec.specs.HeaderFormatLaws.{length_prefixed_lawful}
 use Rattle.codec.specs.Scanning.{scanned}
-use Rattle.codec.specs.ScanningLaws.{scanned_heads}
+use Rattle.codec.specs.ScanningLaws.{scanned_headers}
 use Rattle.codec.specs.ShowingLaws.{showing_lawful}
 use Rattle.codec.specs.Trimming.{trimming}
 use Rattle.codec.specs.TrimmingLaws.{trimming_lawful}
@@ -23,6 +23,6 @@ lines_lawful max = showing_lawful behind_kind (trimming (delimited 10 max))
     (trimming_lawful (delimited 10 max) (delimited_lawful 10 max))
 
 pub resp_lawful : (max : ℕ) → IsSmall max → IsLawful (resp max)
-resp_lawful max fits = either_lawful 36 (headed (scanned (nullable max))) (ended (lines max))
-    (headed_lawful (scanned (nullable max)) (scanned_heads (nullable max) (nullable_small max fits)))
+resp_lawful max fits = either_lawful 36 (length_prefixed (scanned (nullable max))) (ended (lines max))
+    (length_prefixed_lawful (scanned (nullable max)) (scanned_headers (nullable max) (nullable_small max fits)))
     (ended_lawful (lines max) (lines_lawful max))

@@ -1,6 +1,6 @@
 -- Which bytes stand around a length in text.
 use Rattle.std.specs.Prelude.{ℕ, [], ◌∷◌}
-use Rattle.codec.specs.TextHeads.{Words}
+use Rattle.codec.specs.TextHeaders.{Words}
 
 -- a colon behind the length, and a comma behind the payload
 abbrev pub netstrings : ℕ → Words

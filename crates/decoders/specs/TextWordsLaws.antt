@@ -1,8 +1,8 @@
 -- The bytes around a length in text are few.
 use Rattle.std.specs.Prelude.{ℕ}
 use Rattle.std.proofs.Common.{arith, inl, inr}
-use Rattle.codec.specs.TextHeads.{IsSound}
-use Rattle.codec.specs.TextHeadsOut.{IsWritten}
+use Rattle.codec.specs.TextHeaders.{IsSound}
+use Rattle.codec.specs.TextHeadersOut.{IsWritten}
 use Rattle.decoders.specs.Limits.{IsSmall}
 use Rattle.decoders.specs.TextWords.{bulk_strings, netstrings}
 

@@ -1,13 +1,13 @@
 //! Bulk strings of RESP.
 ghost use Rattle.decoders.specs.Limits.{IsSmall};
 
-use codec::{TextHead, TextHeadOut};
+use codec::{TextHeader, TextHeaderOut};
 
 /// Bulk strings of RESP of at most `max` bytes: a dollar sign, a length in decimal, CR and LF, so many bytes, and CR and LF. The
 /// null string of RESP 2, whose length is -1, is none.
 ///
 /// ```
-/// let strings = ByHead(ByText(BulkStrings { max: 100 }));
+/// let strings = ByHeader(ByTextHeader(BulkStrings { max: 100 }));
 /// let stream = Told::new(b"$2\r\nhi\r\n".as_slice());
 /// let mut reader = PieceReader::new(alloc, stream, strings)?;
 /// assert!(rt; matches!(reader.next(), Ok(Some(b"hi"))));
@@ -19,7 +19,7 @@ pub struct BulkStrings {
     pub ghost fits: { IsSmall max },
 }
 
-impl TextHead for BulkStrings {
+impl TextHeader for BulkStrings {
     ghost use Rattle.decoders.specs.TextWords.{bulk_strings};
     ghost use Rattle.decoders.specs.TextWordsLaws.{bulk_strings_sound};
 
@@ -48,7 +48,7 @@ impl TextHead for BulkStrings {
     ghost sound = { λ d. bulk_strings_sound d.max d.fits };
 }
 
-impl TextHeadOut for BulkStrings {
+impl TextHeaderOut for BulkStrings {
     ghost use Rattle.decoders.specs.TextWordsLaws.{bulk_strings_written};
 
     ghost written = { λ d. bulk_strings_written d.max };

@@ -4,7 +4,7 @@ ghost use Rattle.decoders.specs.Lengths.{number_of, size_of};
 ghost use Rattle.decoders.specs.Limits.{IsSmall};
 ghost use Rattle.decoders.specs.declared.lengths.Order.TheVariants as Order;
 
-use codec::{Headed, Heading};
+use codec::{Header, LengthPrefixed};
 
 /// How many bytes a length takes.
 #[derive(Clone, Copy, Debug, PartialEq, Eq, Drop)]
@@ -37,7 +37,7 @@ pub enum Order {
 ///     max: 100,
 /// };
 /// let stream = Told::new(b"\x00\x02hi\x00\x00".as_slice());
-/// let mut reader = PieceReader::new(alloc, stream, ByHead(lengths))?;
+/// let mut reader = PieceReader::new(alloc, stream, ByHeader(lengths))?;
 /// assert!(rt; matches!(reader.next(), Ok(Some(b"hi"))));
 /// assert!(rt; matches!(reader.next(), Ok(Some(b""))));
 /// assert!(rt; matches!(reader.next(), Ok(None)));
@@ -50,26 +50,26 @@ pub struct Lengths {
     pub ghost fits: { IsSmall max },
 }
 
-impl Headed for Lengths {
+impl LengthPrefixed for Lengths {
     ghost use Rattle.decoders.specs.Lengths.{lengths};
-    ghost use Rattle.decoders.specs.LengthsLaws.{lengths_heads};
+    ghost use Rattle.decoders.specs.LengthsLaws.{lengths_headers};
 
-    ghost headings = { λ d. lengths d.width d.order d.max };
+    ghost header_format = { λ d. lengths d.width d.order d.max };
 
     #[inline(always)]
-    fn heading(&self, bytes: &[u8]) -> Heading {
+    fn header(&self, bytes: &[u8]) -> Header {
         let size = self.width.size();
         if bytes.len() < size {
-            return Heading::Short;
+            return Header::Short;
         }
         let len = match self.order {
             Order::BigEndian => highest_first(self.width, bytes),
             Order::LittleEndian => lowest_first(self.width, bytes),
         };
-        Heading::Sized(len, size)
+        Header::Sized(len, size)
     }
 
-    fn most_head(&self) -> usize {
+    fn most_header(&self) -> usize {
         self.width.size()
     }
 
@@ -83,7 +83,7 @@ impl Headed for Lengths {
         b""
     }
 
-    ghost heads = { λ d. lengths_heads d.width d.order d.max d.fits };
+    ghost headers = { λ d. lengths_headers d.width d.order d.max d.fits };
 }
 
 impl Width {

@@ -4,17 +4,17 @@ ghost use Rattle.decoders.specs.LengthsOut.{bytes_of, most_of};
 ghost use Rattle.decoders.specs.declared.lengths.Order.TheVariants as Order;
 
 use crate::lengths::{Lengths, Order, Width};
-use codec::{Head, HeadedOut};
+use codec::{HeaderBytes, LengthPrefixedOut};
 
 /// A payload is written where it has at most `max` bytes, and no more than its length can say.
-impl HeadedOut for Lengths {
+impl LengthPrefixedOut for Lengths {
     ghost use Rattle.decoders.specs.LengthsOut.{lengths_out};
     ghost use Rattle.decoders.specs.LengthsOutLaws.{lengths_read_back};
 
-    ghost heads_out = { λ d. lengths_out d.width d.order d.max };
+    ghost headers_out = { λ d. lengths_out d.width d.order d.max };
 
     #[inline(always)]
-    fn head_of(&self, len: usize) -> Head {
+    fn header_of(&self, len: usize) -> HeaderBytes {
         match self.order {
             Order::BigEndian => highest_first(self.width, len),
             Order::LittleEndian => lowest_first(self.width, len),
@@ -46,28 +46,28 @@ impl Width {
 
 // The bytes of the length.
 #[inline(always)]
-fn highest_first(width: Width, len: usize) -> Head
+fn highest_first(width: Width, len: usize) -> HeaderBytes
     requires { len ≤ most_of width }
     ensures { take result.len result.bytes ≡ bytes_of width Order.BigEndian len }
 {
     match width {
-        Width::One => Head::new(&(len as u8).to_be_bytes()),
-        Width::Two => Head::new(&(len as u16).to_be_bytes()),
-        Width::Four => Head::new(&(len as u32).to_be_bytes()),
-        Width::Eight => Head::new(&(len as u64).to_be_bytes()),
+        Width::One => HeaderBytes::new(&(len as u8).to_be_bytes()),
+        Width::Two => HeaderBytes::new(&(len as u16).to_be_bytes()),
+        Width::Four => HeaderBytes::new(&(len as u32).to_be_bytes()),
+        Width::Eight => HeaderBytes::new(&(len as u64).to_be_bytes()),
     }
 }
 
 // The same with the lowest byte first.
 #[inline(always)]
-fn lowest_first(width: Width, len: usize) -> Head
+fn lowest_first(width: Width, len: usize) -> HeaderBytes
     requires { len ≤ most_of width }
     ensures { take result.len result.bytes ≡ bytes_of width Order.LittleEndian len }
 {
     match width {
-        Width::One => Head::new(&(len as u8).to_le_bytes()),
-        Width::Two => Head::new(&(len as u16).to_le_bytes()),
-        Width::Four => Head::new(&(len as u32).to_le_bytes()),
-        Width::Eight => Head::new(&(len as u64).to_le_bytes()),
+        Width::One => HeaderBytes::new(&(len as u8).to_le_bytes()),
+        Width::Two => HeaderBytes::new(&(len as u16).to_le_bytes()),
+        Width::Four => HeaderBytes::new(&(len as u32).to_le_bytes()),
+        Width::Eight => HeaderBytes::new(&(len as u64).to_le_bytes()),
     }
 }

@@ -13,5 +13,5 @@ mod resp;
 pub use bulk_strings::BulkStrings;
 pub use lengths::{Lengths, Order, Width};
 pub use netstrings::Netstrings;
-pub use nullable::{NullableStrings, StringPlace};
+pub use nullable::{NullableStrings, StringState};
 pub use resp::{Resp, RespItem};

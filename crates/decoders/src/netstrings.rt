@@ -1,12 +1,12 @@
 //! Netstrings.
 ghost use Rattle.decoders.specs.Limits.{IsSmall};
 
-use codec::{TextHead, TextHeadOut};
+use codec::{TextHeader, TextHeaderOut};
 
 /// Netstrings of at most `max` bytes: a length in decimal, a colon, so many bytes, and a comma.
 ///
 /// ```
-/// let netstrings = ByHead(ByText(Netstrings { max: 100 }));
+/// let netstrings = ByHeader(ByTextHeader(Netstrings { max: 100 }));
 /// let stream = Told::new(b"2:hi,0:,".as_slice());
 /// let mut reader = PieceReader::new(alloc, stream, netstrings)?;
 /// assert!(rt; matches!(reader.next(), Ok(Some(b"hi"))));
@@ -19,7 +19,7 @@ pub struct Netstrings {
     pub ghost fits: { IsSmall max },
 }
 
-impl TextHead for Netstrings {
+impl TextHeader for Netstrings {
     ghost use Rattle.decoders.specs.TextWords.{netstrings};
     ghost use Rattle.decoders.specs.TextWordsLaws.{netstrings_sound};
 
@@ -48,7 +48,7 @@ impl TextHead for Netstrings {
     ghost sound = { λ d. netstrings_sound d.max d.fits };
 }
 
-impl TextHeadOut for Netstrings {
+impl TextHeaderOut for Netstrings {
     ghost use Rattle.decoders.specs.TextWordsLaws.{netstrings_written};
 
     ghost written = { λ d. netstrings_written d.max };

@@ -4,13 +4,13 @@ ghost use Rattle.decoders.specs.Limits.{IsSmall};
 ghost use Rattle.decoders.specs.Nullable.{begins_length, in_text};
 
 use crate::bulk_strings::BulkStrings;
-use codec::{ByText, Number, Place, Scan, Turn};
+use codec::{ByTextHeader, Number, Scan, ScanStep, TextHeaderState};
 
 /// Bulk strings of RESP of at most `max` bytes, as [`BulkStrings`] has them, and the null string of RESP 2: `$-1`, CR and LF. The
 /// payload of that is empty.
 ///
 /// ```
-/// let strings = ByHead(ByScan(NullableStrings { max: 100 }));
+/// let strings = ByHeader(ByScan(NullableStrings { max: 100 }));
 /// let stream = Told::new(b"$2\r\nhi\r\n$-1\r\n".as_slice());
 /// let mut reader = PieceReader::new(alloc, stream, strings)?;
 /// assert!(rt; matches!(reader.next(), Ok(Some(b"hi"))));
@@ -23,11 +23,11 @@ pub struct NullableStrings {
     pub ghost fits: { IsSmall max },
 }
 
-/// Where such a head stands.
+/// Where such a header stands.
 #[derive(Clone, Copy, Debug, PartialEq, Eq, Drop)]
-pub enum StringPlace {
-    /// In the head of a bulk string.
-    Text(Place),
+pub enum StringState {
+    /// In the header of a bulk string.
+    Text(TextHeaderState),
     /// Behind the minus of the null string.
     Minus,
 }
@@ -36,36 +36,36 @@ impl Scan for NullableStrings {
     ghost use Rattle.decoders.specs.Nullable.{nullable};
     ghost use Rattle.decoders.specs.NullableLaws.{nullable_small};
 
-    type State = StringPlace;
+    type State = StringState;
 
     ghost scanning = { λ d. nullable d.max };
 
-    fn start(&self) -> StringPlace {
-        StringPlace::Text(Place::Before(0))
+    fn start(&self) -> StringState {
+        StringState::Text(TextHeaderState::Before(0))
     }
 
     #[inline(always)]
-    fn turn(&self, state: StringPlace, byte: u8) -> Turn<StringPlace> {
+    fn turn(&self, state: StringState, byte: u8) -> ScanStep<StringState> {
         match state {
-            StringPlace::Text(place) => {
+            StringState::Text(place) => {
                 if byte == b'-' && is_length(place) {
-                    Turn::More(StringPlace::Minus)
+                    ScanStep::More(StringState::Minus)
                 } else {
-                    text_turn(ByText(BulkStrings { max: self.max }).turn(place, byte))
+                    text_turn(ByTextHeader(BulkStrings { max: self.max }).turn(place, byte))
                 }
             }
-            StringPlace::Minus => {
+            StringState::Minus => {
                 if byte == b'1' {
-                    Turn::Sized(0)
+                    ScanStep::Sized(0)
                 } else {
-                    Turn::Bad
+                    ScanStep::Bad
                 }
             }
         }
     }
 
     #[inline(always)]
-    fn most_head(&self) -> usize {
+    fn most_header(&self) -> usize {
         21
     }
 
@@ -84,25 +84,25 @@ impl Scan for NullableStrings {
 
 // Whether a length begins here.
 #[inline(always)]
-fn is_length(place: Place) -> bool
+fn is_length(place: TextHeaderState) -> bool
     ensures { result ≡ begins_length place }
 {
     match place {
-        Place::Length(Number::Empty) => true,
-        Place::Length(Number::Is(_)) => false,
-        Place::Before(_) => false,
-        Place::After(_, _) => false,
+        TextHeaderState::Length(Number::Empty) => true,
+        TextHeaderState::Length(Number::Is(_)) => false,
+        TextHeaderState::Before(_) => false,
+        TextHeaderState::After(_, _) => false,
     }
 }
 
-// The same turn, in the head of a bulk string.
+// The same turn, in the header of a bulk string.
 #[inline(always)]
-fn text_turn(turn: Turn<Place>) -> Turn<StringPlace>
+fn text_turn(turn: ScanStep<TextHeaderState>) -> ScanStep<StringState>
     ensures { result ≡ in_text turn }
 {
     match turn {
-        Turn::More(place) => Turn::More(StringPlace::Text(place)),
-        Turn::Sized(len) => Turn::Sized(len),
-        Turn::Bad => Turn::Bad,
+        ScanStep::More(place) => ScanStep::More(StringState::Text(place)),
+        ScanStep::Sized(len) => ScanStep::Sized(len),
+        ScanStep::Bad => ScanStep::Bad,
     }
 }

@@ -7,15 +7,15 @@ ghost use Rattle.decoders.specs.Resp.{behind_kind, count_in, counted, ends_line,
 
 use crate::nullable::NullableStrings;
 use codec::{
-    ByFirst, ByHead, ByScan, Decoder, Delimited, EitherWrong, End, Ended, Found, HeadError, Items,
-    Number, Span, TooLong, Trimmed, Unended,
+    ByFirst, ByHeader, ByScan, Decoder, Delimited, EitherWrong, End, Ended, Found, HeaderError,
+    Items, Number, Span, TooLong, Trimmed, Unended,
 };
 
 /// The pieces of RESP 2, of requests as of replies: bulk strings of at most `max` bytes, and lines of as many, which a line feed
 /// ends, or CR and LF. A payload is what stands behind the first byte, or in a bulk string; of a command in one line it is all.
 ///
-/// A line that the stream ends in is no piece, so a command that was cut off is none. An array is its head alone: as many pieces
-/// as it says come behind it.
+/// A line that the stream ends in is no piece, so a command that was cut off is none. An array is its header alone: as many
+/// pieces as it says come behind it.
 ///
 /// ```
 /// let stream = Told::new(b"*2\r\n$4\r\nECHO\r\n$-1\r\n".as_slice());
@@ -42,7 +42,7 @@ pub enum RespItem {
     Bulk,
     /// The null string: `$-1`.
     Null,
-    /// The head of an array: `*`, and of how many pieces, where that is a number in decimal, of 18 digits at most.
+    /// The header of an array: `*`, and of how many pieces, where that is a number in decimal, of 18 digits at most.
     Array(Option<usize>),
     /// The null array: `*-1`.
     NullArray,
@@ -60,7 +60,7 @@ impl Decoder for Resp {
     ghost use Rattle.decoders.specs.Resp.{resp};
     ghost use Rattle.decoders.specs.RespLaws.{resp_lawful};
 
-    type Wrong = EitherWrong<HeadError, Unended<TooLong>>;
+    type Wrong = EitherWrong<HeaderError, Unended<TooLong>>;
 
     ghost grammar = { λ d. resp d.max };
 
@@ -68,28 +68,32 @@ impl Decoder for Resp {
         let max = self.max;
         ByFirst {
             byte: b'$',
-            one: ByHead(ByScan(NullableStrings { max })),
+            one: ByHeader(ByScan(NullableStrings { max })),
             other: Ended(Lines { max }),
         }
         .most()
     }
 
     #[inline(always)]
-    fn decode(&self, bytes: &[u8], seen: usize) -> Found<EitherWrong<HeadError, Unended<TooLong>>> {
+    fn decode(
+        &self,
+        bytes: &[u8],
+        seen: usize,
+    ) -> Found<EitherWrong<HeaderError, Unended<TooLong>>> {
         let max = self.max;
         ByFirst {
             byte: b'$',
-            one: ByHead(ByScan(NullableStrings { max })),
+            one: ByHeader(ByScan(NullableStrings { max })),
             other: Ended(Lines { max }),
         }
         .decode(bytes, seen)
     }
 
-    fn at_end(&self, bytes: &[u8]) -> End<EitherWrong<HeadError, Unended<TooLong>>> {
+    fn at_end(&self, bytes: &[u8]) -> End<EitherWrong<HeaderError, Unended<TooLong>>> {
         let max = self.max;
         ByFirst {
             byte: b'$',
-            one: ByHead(ByScan(NullableStrings { max })),
+            one: ByHeader(ByScan(NullableStrings { max })),
             other: Ended(Lines { max }),
         }
         .at_end(bytes)

@@ -75,7 +75,7 @@ fn ask_retried<F: Filter>(link: &mut Link<F>) -> Result<bool, AskError<F::Wrong>
     let mut row = 0;
     'tries: loop {
         let answer = link.ask();
-        match row_with(&answer, row) {
+        match interruptions_with(&answer, row) {
             Some(with) => row = with,
             None => return answer,
         }
@@ -84,7 +84,7 @@ fn ask_retried<F: Filter>(link: &mut Link<F>) -> Result<bool, AskError<F::Wrong>
 
 // How many asks in a row were interrupted with this one, where so many were before; `None` where it isn't made again.
 #[inline(always)]
-fn row_with<W>(answer: &Result<bool, AskError<W>>, row: u32) -> Option<u32>
+fn interruptions_with<W>(answer: &Result<bool, AskError<W>>, row: u32) -> Option<u32>
     ensures { RowGoes answer.now row result }
 {
     match answer {

@@ -9,7 +9,7 @@ use Rattle.codec.specs.Decoding.{Decodes}
 use Rattle.codec.specs.Grammar.{IsOpen}
 use Rattle.codec.specs.GrammarLaws.{begins_of, open_of}
 use Rattle.codec.specs.NextPiece.{NextAnswers, NextPiece, load_answer}
-use Rattle.codec.specs.Piecing.{IsSettled, Piecing, rest}
+use Rattle.codec.specs.PieceReader.{IsSettled, ReaderState, rest}
 use Rattle.frame_reader.specs.declared.error.FrameError.{FrameError}
 use Rattle.frame_reader.specs.declared.error.FrameError.TheVariants.{Truncated, TooLong, Io}
 use Rattle.frame_reader.specs.declared.frame.FrameFault.{FrameFault}
@@ -48,7 +48,7 @@ some_cut : (max : ℕ) (bytes : List ℕ) → 0 < length bytes → (bytes ≡ []
 some_cut max bytes some (inl none) = absurd (omega (arith, some, ap length none))
 some_cut max bytes some (inr cut) = cut
 
-module _ {S : Type 0} (remaining : S → Option (List ℕ)) (s t : Piecing S Frames) where
+module _ {S : Type 0} (remaining : S → Option (List ℕ)) (s t : ReaderState S Frames) where
   -- what is left where there is no frame, as it is bytes
   leaves_of : (e : FrameError) (bytes : List ℕ) → AreBytes (rest t)
       → NextAnswers (framed s.decoder.max) s (Err (piece_error e)) bytes t → ErrorLeaves s.decoder.max e (rest t)
@@ -73,7 +73,7 @@ module _ {S : Type 0} (remaining : S → Option (List ℕ)) (s t : Piecing S Fra
   Next-found None next = record { piece = next; leaves = tt }
 
 -- where a frame lacks bytes nothing is settled
-pub unsettled : {S : Type 0} (f : Piecing S Frames) (n : ℕ) → ReadsFrames f
+pub unsettled : {S : Type 0} (f : ReaderState S Frames) (n : ℕ) → ReadsFrames f
     → Decodes (framed f.decoder.max) (rest f) (More n) → ¬ (IsSettled (framed f.decoder.max) f)
 unsettled f n reads lacks (inl ended) = (let odd : true ≡ false = sym ended ∙ reads.told in cc)
 unsettled f n reads lacks (inr (inl begins)) =
@@ -82,7 +82,7 @@ unsettled f n reads lacks (inr (inr (e, wrong))) =
     (open_of (framed f.decoder.max) n (rest f) lacks.0 lacks.2).not_wrong e wrong
 
 -- what was found is found of what is left
-pub decoded : {S : Type 0} (f : Piecing S Frames) (d : Frames) (bytes : List ℕ) → d ≡ f.decoder → bytes ≡ rest f
+pub decoded : {S : Type 0} (f : ReaderState S Frames) (d : Frames) (bytes : List ℕ) → d ≡ f.decoder → bytes ≡ rest f
     → (found : Found FrameFault) → Decodes (framed d.max) bytes found → Decodes (framed f.decoder.max) (rest f) found
 decoded f d bytes same shown found is = subst (λ x. Decodes (framed x.max) (rest f) found) same
     (subst (λ l. Decodes (framed d.max) l found) shown is)

@@ -27,7 +27,7 @@ abbrev pub framed_out : ℕ → Encoding ℕ
 framed_out max = record {
   most = 2 + max;
   takes = Fits max;
-  head = λ payload. header (length payload);
+  header = λ payload. header (length payload);
   tail = [];
   refuses = λ payload len. (len ≡ length payload) × (max < len);
 }

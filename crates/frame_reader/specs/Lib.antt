@@ -3,9 +3,9 @@ pub use Rattle.codec.specs.KnownPieces
 pub use Rattle.codec.specs.KnownPiecesLaws
 pub use Rattle.codec.specs.NextPiece
 pub use Rattle.codec.specs.NextPieceLaws
-pub use Rattle.codec.specs.Outgoing
+pub use Rattle.codec.specs.PieceWriter
 pub use Rattle.codec.specs.PiecesWentLaws
-pub use Rattle.codec.specs.Piecing
+pub use Rattle.codec.specs.PieceReader
 pub use Rattle.codec.specs.Runs
 pub use Rattle.codec.specs.RunsLaws
 pub use Rattle.codec.specs.WritePiece

@@ -5,7 +5,7 @@ use Rattle.codec.specs.declared.error.NextError.{NextError}
 use Rattle.codec.specs.declared.error.NextError.TheVariants as piece
 use Rattle.codec.specs.NextPiece as pieces
 use Rattle.codec.specs.NextPiece.{NextPiece, PiecesWent}
-use Rattle.codec.specs.Piecing.{IsPiecing, Piecing, rest}
+use Rattle.codec.specs.PieceReader.{IsPieceReader, ReaderState, rest}
 use Rattle.frame_reader.specs.declared.error.FrameError.{FrameError}
 use Rattle.frame_reader.specs.declared.error.FrameError.TheVariants.{Truncated, TooLong, Io}
 use Rattle.frame_reader.specs.declared.frame.FrameFault.{FrameFault}
@@ -15,13 +15,13 @@ use Rattle.frame_reader.specs.Framed.{framed}
 use Rattle.frame_reader.specs.Frames.{BeginsWith, Fits, IsCutShort, frames}
 
 -- what is true of every reader of frames: no frame is one only since the stream ends, so no end is left to tell
-pub record ReadsFrames {S : Type 0} (f : Piecing S Frames) : Type 0 where
+pub record ReadsFrames {S : Type 0} (f : ReaderState S Frames) : Type 0 where
   pub told : f.ended ≡ false
-  pub whole : IsPiecing (framed f.decoder.max) f
+  pub whole : IsPieceReader (framed f.decoder.max) f
 
 -- what any calls do, one after another, that handed out these payloads: each fits, and their frames are the pieces that went
-pub record FramesWent {S : Type 0} (remaining : S → Option (List ℕ)) (s : Piecing S Frames) (payloads : List (List ℕ))
-    (t : Piecing S Frames) : Type 0 where
+pub record FramesWent {S : Type 0} (remaining : S → Option (List ℕ)) (s : ReaderState S Frames) (payloads : List (List ℕ))
+    (t : ReaderState S Frames) : Type 0 where
   pub fit : All (Fits s.decoder.max) payloads
   pub went : PiecesWent remaining (2 + s.decoder.max) s (frames payloads) t
 
@@ -46,7 +46,7 @@ ErrorLeaves max (TooLong len) bytes = (max < len) × BeginsWith len bytes
 ErrorLeaves max (Io e) bytes = (bytes ≡ []) ⊎ IsCutShort max bytes
 
 -- what one call of `next` does
-pub record Next {S : Type 0} (remaining : S → Option (List ℕ)) (s : Piecing S Frames) (answer : NextAnswer)
-    (t : Piecing S Frames) : Type 0 where
+pub record Next {S : Type 0} (remaining : S → Option (List ℕ)) (s : ReaderState S Frames) (answer : NextAnswer)
+    (t : ReaderState S Frames) : Type 0 where
   pub piece : NextPiece remaining (framed s.decoder.max) s (piece_answer answer) t
   pub leaves : IfErr answer (λ e. ErrorLeaves s.decoder.max e (rest t))

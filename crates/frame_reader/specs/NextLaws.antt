@@ -13,7 +13,7 @@ use Rattle.codec.specs.NextPiece as pieces
 use Rattle.codec.specs.NextPiece.{NextPiece, PiecesWent, StaysLeft}
 use Rattle.codec.specs.NextPieceLaws.{NextPiece-ready, NextPiece-wrong}
 use Rattle.codec.specs.PiecesWentLaws.{PiecesWent-joins, PiecesWent-none}
-use Rattle.codec.specs.Piecing.{IsPiecing, Piecing, rest}
+use Rattle.codec.specs.PieceReader.{IsPieceReader, ReaderState, rest}
 use Rattle.codec.specs.Runs.{AnswerRuns, all_handed, handed_payload}
 use Rattle.frame_reader.specs.declared.error.FrameError.TheVariants.{Truncated, TooLong, Io}
 use Rattle.frame_reader.specs.declared.frame.FrameFault.{FrameFault}
@@ -41,11 +41,11 @@ same_wrong (Err (Io e)) len is = cc
 
 module _ {S : Type 0} (remaining : S → Option (List ℕ)) where
   -- no call hands out nothing, and calls join
-  pub FramesWent-none : (s : Piecing S Frames) → FramesWent remaining s [] s
+  pub FramesWent-none : (s : ReaderState S Frames) → FramesWent remaining s [] s
   FramesWent-none s =
       record { fit = All-nil (Fits s.decoder.max); went = PiecesWent-none remaining (2 + s.decoder.max) s }
 
-  pub FramesWent-joins : (s m t : Piecing S Frames) (ps qs : List (List ℕ)) → FramesWent remaining s ps m
+  pub FramesWent-joins : (s m t : ReaderState S Frames) (ps qs : List (List ℕ)) → FramesWent remaining s ps m
       → FramesWent remaining m qs t → FramesWent remaining s (ps ++ qs) t
   FramesWent-joins s m t ps qs p q =
       let max : m.decoder.max ≡ s.decoder.max = ap (λ d. d.max) p.went.decoder in
@@ -57,7 +57,7 @@ module _ {S : Type 0} (remaining : S → Option (List ℕ)) where
             (subst (λ n. PiecesWent remaining (2 + n) m (frames qs) t) max q.went));
       }
 
-  module _ (s t : Piecing S Frames) where
+  module _ (s t : ReaderState S Frames) where
     -- what a call of the reader of pieces handed out, and that no end is left to tell
     frames_of : (answer : pieces.NextAnswer FrameFault) (bytes : List ℕ)
         → pieces.NextAnswers (framed s.decoder.max) s answer bytes t
@@ -82,14 +82,14 @@ module _ {S : Type 0} (remaining : S → Option (List ℕ)) where
         → ReadsFrames t
     NextPiece-reads answer next = record {
       told = (frames_of answer next.bytes next.answers).2;
-      whole = subst (λ d. IsPiecing (framed d.max) t) (sym next.went.decoder) next.whole;
+      whole = subst (λ d. IsPieceReader (framed d.max) t) (sym next.went.decoder) next.whole;
     }
 
     -- where nothing was done it reads frames still
     pub StaysLeft-reads : ReadsFrames s → StaysLeft (framed s.decoder.max) s t → ReadsFrames t
     StaysLeft-reads reads stays = record {
       told = ap (λ x. x.ended) stays.same ∙ reads.told;
-      whole = subst (λ x. IsPiecing (framed x.decoder.max) t) (sym stays.same) stays.whole;
+      whole = subst (λ x. IsPieceReader (framed x.decoder.max) t) (sym stays.same) stays.whole;
     }
 
     module _ (answer : NextAnswer) (next : Next remaining s answer t) where
@@ -119,7 +119,7 @@ module _ {S : Type 0} (remaining : S → Option (List ℕ)) where
           (same_wrong answer len is.0, is.1, is.2)
 
   -- what any calls of `next` come to
-  pub NextRuns-went : (s : Piecing S Frames) (answers : List NextAnswer) (t : Piecing S Frames)
+  pub NextRuns-went : (s : ReaderState S Frames) (answers : List NextAnswer) (t : ReaderState S Frames)
       → AnswerRuns (Next remaining) s answers t → FramesWent remaining s (all_handed answers) t
   NextRuns-went s [] t e = subst (FramesWent remaining s []) e (FramesWent-none s)
   NextRuns-went s (answer ∷ answers) t run =
@@ -127,10 +127,10 @@ module _ {S : Type 0} (remaining : S → Option (List ℕ)) where
       (NextRuns-went run.0 answers t run.2)
 
   -- what a call answers where it is known which payloads are left, as of any reader of payloads
-  abbrev Left : Piecing S Frames → List (List ℕ) → Type 0
+  abbrev Left : ReaderState S Frames → List (List ℕ) → Type 0
   Left s payloads = HasLeft remaining (framed s.decoder.max) s payloads
 
-  module _ (s t : Piecing S Frames) where
+  module _ (s t : ReaderState S Frames) where
     answers_of : (answer : NextAnswer) (payloads : List (List ℕ))
         → AnswersKnown Left (λ f. f.reader.log.reads.faults) piece.Io s (piece_answer answer) payloads t
         → AnswersKnown Left (λ f. f.reader.log.reads.faults) Io s answer payloads t
@@ -145,7 +145,7 @@ module _ {S : Type 0} (remaining : S → Option (List ℕ)) where
     answers_of (Err (Io e)) payloads known =
         ((e, refl), known.1, λ why is. known.2 why (let same : e ≡ why = cc in ap (λ x. piece.Io x) same))
 
-  pub Next-answers : (s : Piecing S Frames) (answer : NextAnswer) (payloads : List (List ℕ)) (t : Piecing S Frames)
+  pub Next-answers : (s : ReaderState S Frames) (answer : NextAnswer) (payloads : List (List ℕ)) (t : ReaderState S Frames)
       → Left s payloads → Next remaining s answer t
       → AnswersKnown Left (λ f. f.reader.log.reads.faults) Io s answer payloads t
   Next-answers s answer payloads t has next = answers_of s t answer payloads

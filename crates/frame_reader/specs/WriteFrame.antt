@@ -2,7 +2,7 @@
 use Rattle.std.specs.Prelude.{ℕ, List, Result, Ok, Err}
 use Rattle.codec.specs.declared.error.WritePieceError.{WritePieceError}
 use Rattle.codec.specs.declared.error.WritePieceError.TheVariants as piece
-use Rattle.codec.specs.Outgoing.{Outgoing}
+use Rattle.codec.specs.PieceWriter.{WriterState}
 use Rattle.codec.specs.WritePiece as pieces
 use Rattle.codec.specs.WritePiece.{WritesPiece}
 use Rattle.frame_reader.specs.declared.error.WriteFrameError.{WriteFrameError}
@@ -24,6 +24,6 @@ piece_written (Ok _) = Ok tt
 piece_written (Err e) = Err (piece_refused e)
 
 -- what one call of `write_frame` does
-abbrev pub WritesFrame : {S : Type 0} → (S → S → Type 0) → Outgoing S Frames → List ℕ → WriteAnswer → Outgoing S Frames
+abbrev pub WritesFrame : {S : Type 0} → (S → S → Type 0) → WriterState S Frames → List ℕ → WriteAnswer → WriterState S Frames
     → Type 0
-WritesFrame stretch s payload answer t = WritesPiece stretch (framed_out s.encoder.max) s payload (piece_written answer) t
+WritesFrame trace s payload answer t = WritesPiece trace (framed_out s.encoder.max) s payload (piece_written answer) t

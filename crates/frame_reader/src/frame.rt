@@ -2,7 +2,7 @@
 ghost use Rattle.std.specs.Prelude.{◌<◌, ◌≤◌, ◌^◌, length};
 ghost use Rattle.frame_reader.specs.Frames.{AreBytes, BeginsWith};
 
-use codec::{Codec, Decoder, Encoder, End, Found, Head, Span};
+use codec::{Codec, Decoder, Encoder, End, Found, HeaderBytes, Span};
 
 /// How many bytes the length of a frame takes.
 const HEADER: usize = 2;
@@ -73,11 +73,11 @@ impl Encoder for Frames {
     }
 
     #[inline(always)]
-    fn head(&self, payload: &[u8]) -> Result<Head, usize> {
+    fn header(&self, payload: &[u8]) -> Result<HeaderBytes, usize> {
         if payload.len() > usize::from(self.max) {
             return Err(payload.len());
         }
-        Ok(Head::new(&(payload.len() as u16).to_be_bytes()))
+        Ok(HeaderBytes::new(&(payload.len() as u16).to_be_bytes()))
     }
 
     #[inline(always)]

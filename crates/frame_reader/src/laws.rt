@@ -2,8 +2,8 @@
 ghost use Rattle.std.specs.Prelude.{◌≡◌, ℕ, ◌+◌, ◌<◌, ◌^◌, List, ◌++◌, length};
 ghost use Rattle.buffer_redux.specs.Sparing.{MovedAtMostGiven};
 ghost use Rattle.codec.specs.KnownPieces.{HasLeft, NextKnown};
-ghost use Rattle.codec.specs.Outgoing.{Outgoing, IsUnused, unsent};
-ghost use Rattle.codec.specs.Piecing.{Piecing, IsFresh, rest};
+ghost use Rattle.codec.specs.PieceWriter.{WriterState, IsUnused, unsent};
+ghost use Rattle.codec.specs.PieceReader.{ReaderState, IsFresh, rest};
 ghost use Rattle.codec.specs.WritePiece.{PiecesTaken};
 ghost use Rattle.frame_reader.specs.declared.frame.Frames.{Frames};
 ghost use Rattle.frame_reader.specs.Framed.{Splits, framed, framed_out};
@@ -39,11 +39,11 @@ pub fn one_reading(max: u16)
 /// Since the reader was made, what was given is the frames that were handed out, then what is left; and no more bytes were
 /// moved than were given.
 pub fn since_new<R: TellRead>(reader: &FrameReader<R>)
-    ensures given { (least : ℕ) (stream : R) (first : Piecing R Frames) (payloads : List (List ℕ))
+    ensures given { (least : ℕ) (stream : R) (first : ReaderState R Frames) (payloads : List (List ℕ))
         → IsFresh R.log least (2 + first.decoder.max) stream first.decoder first → FramesWent R.remaining first payloads reader.now
         → reader.now.reader.log.reads.given
         ≡ (R.log stream).reads.given ++ (frames payloads ++ rest reader.now) }
-    ensures moved { (least : ℕ) (stream : R) (first : Piecing R Frames) (payloads : List (List ℕ))
+    ensures moved { (least : ℕ) (stream : R) (first : ReaderState R Frames) (payloads : List (List ℕ))
         → IsFresh R.log least (2 + first.decoder.max) stream first.decoder first → FramesWent R.remaining first payloads reader.now
         → MovedAtMostGiven first.reader reader.now.reader }
 {}
@@ -51,9 +51,9 @@ pub fn since_new<R: TellRead>(reader: &FrameReader<R>)
 /// Since the writer was made, what the stream received, then what is buffered, is the frames of the payloads that were
 /// taken in: so no frame was torn, whatever failed.
 pub fn written_since_new<W: TellWrite>(writer: &FrameWriter<W>)
-    ensures { (least : ℕ) (stream : W) (first : Outgoing W Frames) (payloads : List (List ℕ))
+    ensures { (least : ℕ) (stream : W) (first : WriterState W Frames) (payloads : List (List ℕ))
         → IsUnused W.log least (2 + first.encoder.max) stream first.encoder first
-        → PiecesTaken W.stretch (framed_out first.encoder.max) first payloads writer.now
+        → PiecesTaken W.trace (framed_out first.encoder.max) first payloads writer.now
         → writer.now.writer.log.writes.received ++ unsent writer.now
         ≡ (W.log stream).writes.received ++ frames payloads }
 {}
@@ -61,7 +61,7 @@ pub fn written_since_new<W: TellWrite>(writer: &FrameWriter<W>)
 /// Where just the frames of some payloads are left of a stream that is known, `next` hands out the first, or answers
 /// `None` where there is none; it has no other `Err` than the stream's own.
 pub fn next_known<R: TellRead>(reader: &FrameReader<R>)
-    ensures { (s : Piecing R Frames) (payloads : List (List ℕ)) (answer : NextAnswer)
+    ensures { (s : ReaderState R Frames) (payloads : List (List ℕ)) (answer : NextAnswer)
         → Next R.remaining s answer reader.now → HasLeft R.remaining (framed s.decoder.max) s payloads
         → NextKnown R.remaining (framed s.decoder.max) (piece_answer answer) payloads reader.now }
 {}

@@ -7,7 +7,7 @@ ghost use Rattle.buffer_redux.specs.GrowError.{FitsWithin};
 ghost use Rattle.buffer_redux.specs.MakeError.{growth};
 ghost use Rattle.codec.specs.Decoding.{IsLent, bytes_at};
 ghost use Rattle.codec.specs.NextPiece.{NextBuffered, answer_of, buffered_answer, load_answer};
-ghost use Rattle.codec.specs.Piecing.{IsFresh, IsOver, IsSettled, TakenApart, rest, room_for};
+ghost use Rattle.codec.specs.PieceReader.{IsFresh, IsOver, IsSettled, TakenApart, rest, room_for};
 ghost use Rattle.frame_reader.specs.contracts.reader.FrameReader.{the_row};
 ghost use Rattle.frame_reader.specs.Framed.{framed};
 ghost use Rattle.frame_reader.specs.Frames.{AreBytes, BeginsWith, frame};
@@ -39,11 +39,11 @@ pub struct FrameReader<R: Tell> {
 }
 
 impl<R: Tell> Model for FrameReader<R> {
-    ghost use Rattle.codec.specs.Piecing.{Piecing};
+    ghost use Rattle.codec.specs.PieceReader.{ReaderState};
     ghost use Rattle.frame_reader.specs.declared.frame.Frames.{Frames};
     ghost use Rattle.frame_reader.specs.Next.{ReadsFrames};
 
-    ghost Value = { Piecing R Frames };
+    ghost Value = { ReaderState R Frames };
 
     ghost view = { λ f. f.pieces };
 

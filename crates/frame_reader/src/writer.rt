@@ -5,8 +5,8 @@ ghost use Rattle.buffer_redux.specs.BufWriter.{WasFlushed, WasSent};
 ghost use Rattle.buffer_redux.specs.Unwrapping.{InnerOfFlushed};
 ghost use Rattle.buffer_redux.specs.GrowError.{FitsWithin};
 ghost use Rattle.buffer_redux.specs.MakeError.{growth};
-ghost use Rattle.codec.specs.Outgoing.{IsOutgoing, IsOver, IsUnused};
-ghost use Rattle.codec.specs.Piecing.{room_for};
+ghost use Rattle.codec.specs.PieceWriter.{IsPieceWriter, IsOver, IsUnused};
+ghost use Rattle.codec.specs.PieceReader.{room_for};
 ghost use Rattle.codec.specs.WritePiece.{PiecesTaken};
 ghost use Rattle.frame_reader.specs.Framed.{framed_out};
 ghost use Rattle.frame_reader.specs.WriteFrame.{WritesFrame, piece_refused};
@@ -38,14 +38,14 @@ pub struct FrameWriter<W: TellWrite> {
 
 impl<W: TellWrite> Model for FrameWriter<W> {
     ghost use Rattle.std.specs.Prelude.{◌+◌};
-    ghost use Rattle.codec.specs.Outgoing.{Outgoing, IsOutgoing};
+    ghost use Rattle.codec.specs.PieceWriter.{WriterState, IsPieceWriter};
     ghost use Rattle.frame_reader.specs.declared.frame.Frames.{Frames};
 
-    ghost Value = { Outgoing W Frames };
+    ghost Value = { WriterState W Frames };
 
     ghost view = { λ f. f.pieces };
 
-    ghost invariant = { λ f. IsOutgoing (2 + f.pieces.encoder.max) f.pieces };
+    ghost invariant = { λ f. IsPieceWriter (2 + f.pieces.encoder.max) f.pieces };
 }
 
 impl<W: TellWrite> FrameWriter<W> {
@@ -54,7 +54,7 @@ impl<W: TellWrite> FrameWriter<W> {
     pub fn new(alloc: Global, inner: W, max: u16) -> Result<Self, MakeError<W>>
         ensures made { IfOk result (λ f. IsUnused W.log 8192 (2 + max) inner f.encoder f) }
         ensures takes { IfOk result (λ f. f.encoder.max ≡ max) }
-        ensures whole { IfOk result (IsOutgoing (2 + max)) }
+        ensures whole { IfOk result (IsPieceWriter (2 + max)) }
         ensures handed_back { IfErr result (λ e. e.0 ≡ inner) }
         ensures refused { IfErr result (λ e. e.1 ≡ GrowError.Memory) }
     {
@@ -72,7 +72,7 @@ impl<W: TellWrite> FrameWriter<W> {
     ) -> Result<Self, MakeError<W>>
         ensures made { IfOk result (λ f. IsUnused W.log capacity (2 + max) inner f.encoder f) }
         ensures takes { IfOk result (λ f. f.encoder.max ≡ max) }
-        ensures whole { IfOk result (IsOutgoing (2 + max)) }
+        ensures whole { IfOk result (IsPieceWriter (2 + max)) }
         ensures handed_back { IfErr result (λ e. e.0 ≡ inner) }
         ensures within { FitsWithin (growth result) (room_for capacity (2 + max)) (2 ^ 62) }
     {
@@ -92,7 +92,7 @@ impl<W: TellWrite> FrameWriter<W> {
     ) -> Result<Self, MakeError<(Buffer, W)>>
         ensures made { IfOk result (λ f. IsOver W.log (2 + max) buffer inner f.encoder f) }
         ensures takes { IfOk result (λ f. f.encoder.max ≡ max) }
-        ensures whole { IfOk result (IsOutgoing (2 + max)) }
+        ensures whole { IfOk result (IsPieceWriter (2 + max)) }
         ensures handed_back { IfErr result (λ e. (e.0.0 ≡ buffer) × (e.0.1 ≡ inner)) }
         ensures within { FitsWithin (growth result) (room_for buffer.capacity (2 + max)) (2 ^ 62) }
         ensures kept { buffer.kind ≡ Plain → 3 * (2 + max) ≤ buffer.capacity → IsOk result }
@@ -107,7 +107,7 @@ impl<W: TellWrite> FrameWriter<W> {
     pub fn get_ref(&self) -> &W
         ensures inner { result.now ≡ self.now.writer.inner }
         ensures log { W.log result.now ≡ self.now.writer.log }
-        ensures whole { IsOutgoing (2 + self.now.encoder.max) self.now }
+        ensures whole { IsPieceWriter (2 + self.now.encoder.max) self.now }
     {
         self.pieces.get_ref()
     }
@@ -119,11 +119,11 @@ impl<W: TellWrite> FrameWriter<W> {
     /// `Io` comes only where the frame found no room, and then just what the inner writer took is gone from the buffer.
     #[inline(always)]
     pub fn write_frame(&mut self, payload: &[u8]) -> Result<(), WriteFrameError>
-        ensures { WritesFrame W.stretch self.old payload.now result self.new }
+        ensures { WritesFrame W.trace self.old payload.now result self.new }
     {
         match self.pieces.write_buffered(payload) {
             Ok(true) => Ok(()),
-            Ok(false) => self.write_aside(payload),
+            Ok(false) => self.write_outlined(payload),
             Err(len) => Err(WriteFrameError::TooLong(len)),
         }
     }
@@ -131,18 +131,18 @@ impl<W: TellWrite> FrameWriter<W> {
     /// Sends all frames, without a flush of the inner writer. Where that fails, just what the inner writer took is no longer
     /// buffered.
     pub fn send(&mut self) -> io::Result<()>
-        ensures sent { WasSent W.log W.stretch self.old.writer result self.new.writer }
-        ensures went { PiecesTaken W.stretch (framed_out self.old.encoder.max) self.old [] self.new }
-        ensures whole { IsOutgoing (2 + self.old.encoder.max) self.new }
+        ensures sent { WasSent W.log W.trace self.old.writer result self.new.writer }
+        ensures went { PiecesTaken W.trace (framed_out self.old.encoder.max) self.old [] self.new }
+        ensures whole { IsPieceWriter (2 + self.old.encoder.max) self.new }
     {
         self.pieces.send()
     }
 
     /// Sends all frames, and flushes the inner writer.
     pub fn flush(&mut self) -> io::Result<()>
-        ensures flushed { WasFlushed W.log W.stretch self.old.writer result self.new.writer }
-        ensures went { PiecesTaken W.stretch (framed_out self.old.encoder.max) self.old [] self.new }
-        ensures whole { IsOutgoing (2 + self.old.encoder.max) self.new }
+        ensures flushed { WasFlushed W.log W.trace self.old.writer result self.new.writer }
+        ensures went { PiecesTaken W.trace (framed_out self.old.encoder.max) self.old [] self.new }
+        ensures whole { IsPieceWriter (2 + self.old.encoder.max) self.new }
     {
         self.pieces.flush()
     }
@@ -150,9 +150,9 @@ impl<W: TellWrite> FrameWriter<W> {
     /// Flushes, and hands the inner writer back; where that fails, the writer with the bytes that were not sent, and the
     /// fault.
     pub fn into_inner(self) -> Result<W, IntoInnerError<Self>>
-        ensures { MatchResult result (InnerOfFlushed W.log W.stretch self.writer (Ok tt))
-            (λ e. WasFlushed W.log W.stretch self.writer (Err e.1) e.0.writer
-            × PiecesTaken W.stretch (framed_out self.encoder.max) self [] e.0) }
+        ensures { MatchResult result (InnerOfFlushed W.log W.trace self.writer (Ok tt))
+            (λ e. WasFlushed W.log W.trace self.writer (Err e.1) e.0.writer
+            × PiecesTaken W.trace (framed_out self.encoder.max) self [] e.0) }
     {
         let FrameWriter { pieces } = self;
         match pieces.into_inner() {
@@ -174,8 +174,8 @@ impl<W: TellWrite> FrameWriter<W> {
     // Goes on in `write_slowly`. The kit's compiler clears the answer of a call where the function that makes the call begins; of
     // a call made in here, which is inlined, that is behind the look at the room.
     #[inline(always)]
-    fn write_aside(&mut self, payload: &[u8]) -> Result<(), WriteFrameError>
-        ensures { WritesFrame W.stretch self.old payload.now result self.new }
+    fn write_outlined(&mut self, payload: &[u8]) -> Result<(), WriteFrameError>
+        ensures { WritesFrame W.trace self.old payload.now result self.new }
     {
         self.write_slowly(payload)
     }
@@ -185,7 +185,7 @@ impl<W: TellWrite> FrameWriter<W> {
     #[cold]
     #[inline(never)]
     fn write_slowly(&mut self, payload: &[u8]) -> Result<(), WriteFrameError>
-        ensures { WritesFrame W.stretch self.old payload.now result self.new }
+        ensures { WritesFrame W.trace self.old payload.now result self.new }
     {
         match self.pieces.write_piece(payload) {
             Ok(()) => Ok(()),

@@ -3,7 +3,7 @@ use Rattle.std.proofs.Common.{◌≡◌, ◌∷◌, inl, inr, ℕ, List, [], ◌
 use Rattle.std.specs.declared.io.Error.{Error}
 use Rattle.buffer_redux.specs.LogGrows.{ReadLogGrows}
 use Rattle.codec.specs.NextPiece.{AskedOver, AskedWhere, Faulted}
-use Rattle.codec.specs.Piecing.{Piecing}
+use Rattle.codec.specs.PieceReader.{ReaderState}
 use Rattle.codec.specs.declared.decoder.Span.{Span}
 use Rattle.programs.specs.Prompt.{AskedLast, AsksGive}
 
@@ -12,7 +12,7 @@ pub not_held : (h : Option Span) → ((span : Span) → ¬ (h ≡ Some span)) �
 not_held None isnt = refl
 not_held (Some span) isnt = absurd (isnt span refl)
 
-module _ {S D : Type 0} (Such : List ℕ → Type 0) (s m : Piecing S D) where
+module _ {S D : Type 0} (Such : List ℕ → Type 0) (s m : ReaderState S D) where
   -- the reader was asked, also for the last time, behind what had come
   pub asked_last : (over : AskedOver Such s m) → ReadLogGrows s.reader.log.reads m.reader.log.reads
       → AskedLast over.came s.reader.log m.reader.log

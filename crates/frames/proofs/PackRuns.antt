@@ -14,13 +14,13 @@ use Rattle.buffer_redux.specs.WriterLaws.{WritesInOrder-fresh}
 use Rattle.redux_buffer.specs.declared.grow_error.GrowError.{GrowError}
 use Rattle.redux_buffer.specs.declared.grow_error.GrowError.TheVariants.{TooLarge, Memory}
 use Rattle.codec.specs.NextPiece.{HandsBytes}
-use Rattle.codec.specs.Piecing.{rest, room_for}
+use Rattle.codec.specs.PieceReader.{rest, room_for}
 use Rattle.forward.specs.Filter.{FilterRules}
 use Rattle.forward.specs.Forward.{ForwardAnswers, Forwarded, ForwardedFirst, StopsBy}
 use Rattle.forward.specs.declared.error.Cause.{Cause}
 use Rattle.forward.specs.declared.error.Cause.TheVariants as cause
 use Rattle.forward.specs.declared.error.Stopped.{Stopped}
-use Rattle.codec.specs.Outgoing.{unsent}
+use Rattle.codec.specs.PieceWriter.{unsent}
 use Rattle.frame_reader.specs.Frames.{Fits, frames}
 use Rattle.frame_reader.specs.WriteFrameLaws.{PiecesTaken-frames}
 use Rattle.line_reader.specs.Lines.{BeginsTooLong, HasLines, IsLine, IsUnended, last_line, with_end, with_ends}
@@ -86,11 +86,11 @@ front_of lines (first ∷ more) text has plain =
     )
 
 -- from empty buffers on
-module _ {R W : Type 0} (remaining : R → Option (List ℕ)) (stretch : W → W → Type 0) (s t : Packing R W)
+module _ {R W : Type 0} (remaining : R → Option (List ℕ)) (trace : W → W → Type 0) (s t : Packing R W)
     (none : s.source.pieces.reader.block.bytes ≡ []) (none' : unsent s.target ≡ []) (empty : s.held ≡ None)
     (going : s.source.pieces.ended ≡ false) (most : s.source.pieces.decoder.max ≡ s.target.encoder.max) (ready : IsReady t) where
   abbrev rules : FilterRules (Packing R W) RunError
-  rules = packing_rules remaining stretch
+  rules = packing_rules remaining trace
 
   abbrev Ran : Result (Unit {0}) RunError → Type 0
   Ran answer =
@@ -103,7 +103,7 @@ module _ {R W : Type 0} (remaining : R → Option (List ℕ)) (stretch : W → W
       let log = t.target.writer.log.writes in
       sym (append-nil log.received) ∙ ap (λ l. log.received ++ l) (sym all.empty)
       ∙ WritesInOrder-fresh s.target.writer t.target.writer (frames p.payloads) none'
-      (PiecesTaken-frames stretch s.target t.target p.payloads p.moves.takes)
+      (PiecesTaken-frames trace s.target t.target p.payloads p.moves.takes)
 
   ended_dry : (p : List (List ℕ)) → HandsLines remaining s p t
       → HasEnded s.source ⊎ GaveNothing s.source.pieces.reader.log t.source.pieces.reader.log
@@ -196,7 +196,7 @@ module _ {R W : Type 0} (remaining : R → Option (List ℕ)) (stretch : W → W
               ∙ ap (λ l. s.source.pieces.reader.log.reads.given ++ l)
               (append_assoc front.front front.more (rest t.source.pieces));
           received = WritesInOrder-fresh s.target.writer t.target.writer (frames lines) none'
-              (PiecesTaken-frames stretch s.target t.target p.payloads p.moves.takes);
+              (PiecesTaken-frames trace s.target t.target p.payloads p.moves.takes);
         },
         p.all,
       )

@@ -11,22 +11,22 @@ use Rattle.codec.specs.Decoding.{IsLent}
 use Rattle.codec.specs.declared.decoder.Span.{Span}
 use Rattle.codec.specs.NextPiece.{PiecesWent, StaysLeft, empties}
 use Rattle.codec.specs.PiecesWentLaws.{PiecesWent-none}
-use Rattle.codec.specs.Piecing.{rest}
+use Rattle.codec.specs.PieceReader.{rest}
 use Rattle.codec.specs.StaysLeftLaws.{StaysLeft-went}
 use Rattle.forward.specs.Filter.{AskAnswers, Asks, FilterRules, FlushAnswers, Flushes, Gives, Passes}
 use Rattle.forward.specs.declared.error.AskError.{AskError}
 use Rattle.forward.specs.declared.error.AskError.TheVariants.{Wrong, Io, IoBehind}
 use Rattle.frame_reader.specs.Frames.{Fits, frame, frames, header}
-use Rattle.codec.specs.Outgoing.{Outgoing}
+use Rattle.codec.specs.PieceWriter.{WriterState}
 use Rattle.codec.specs.WritePiece.{PiecesTaken}
 use Rattle.codec.specs.WritePieceLaws.{PiecesTaken-none}
 use Rattle.frame_reader.specs.Framed.{framed_out}
 use Rattle.frame_reader.specs.WriteFrameLaws.{PiecesTaken-frames}
 use Rattle.frame_reader.specs.declared.frame.Frames.{Frames}
 use Rattle.line_reader.specs.Lines.{BeginsTooLong, FitsLine, HasLines, IsLine, IsUnended, last_line, with_end}
-use Rattle.line_reader.specs.Lining.{IsLining, Lining, lined}
+use Rattle.line_reader.specs.LineReader.{IsLineReader, LineState, lined}
 use Rattle.line_reader.specs.NextLine.{NextAnswer}
-use Rattle.line_reader.specs.NextLineLaws.{IsHanded-fits, IsLining-open, IsPiecing-same, NextOpen, NextOpen-whole, NextPiece-long, open_unended, same_none}
+use Rattle.line_reader.specs.NextLineLaws.{IsHanded-fits, IsLineReader-open, IsPieceReader-same, NextOpen, NextOpen-whole, NextPiece-long, open_unended, same_none}
 use Rattle.line_reader.specs.declared.error.LineError.TheVariants as NoLine
 use Rattle.programs.specs.FlushesLaws.{FlushesOnce-flush}
 use Rattle.programs.specs.PromptLaws.{WritesOn-grows, WritesOn-none, WritesOn-unflushed}
@@ -55,16 +55,16 @@ open_line : (ended : Bool) (line : List ℕ) → (ended ≡ true → Ok (Some li
 open_line true line told = (let odd : Ok (Some line) ≡ told_end = told refl in cc)
 open_line false line told = refl
 
-module _ {R W : Type 0} (remaining : R → Option (List ℕ)) (stretch : W → W → Type 0) (none : (x : W) → stretch x x)
+module _ {R W : Type 0} (remaining : R → Option (List ℕ)) (trace : W → W → Type 0) (none : (x : W) → trace x x)
     (s : Packing R W) (ready : IsReady s) where
   abbrev pub rules : FilterRules (Packing R W) RunError
-  rules = packing_rules remaining stretch
+  rules = packing_rules remaining trace
 
-  abbrev Takes : List (List ℕ) → Outgoing W Frames → Type 0
-  Takes lines v = PiecesTaken stretch (framed_out s.target.encoder.max) s.target lines v
+  abbrev Takes : List (List ℕ) → WriterState W Frames → Type 0
+  Takes lines v = PiecesTaken trace (framed_out s.target.encoder.max) s.target lines v
 
   -- the reader handed out a line
-  module _ (m : Lining R) (line : List ℕ) (next : NextOpen remaining s.source (Ok (Some line)) m) where
+  module _ (m : LineState R) (line : List ℕ) (next : NextOpen remaining s.source (Ok (Some line)) m) where
     going : s.source.pieces.ended ≡ false
     going = open_line s.source.pieces.ended line (λ ended. same_none (Ok (Some line)) (next.0.told ended))
 
@@ -105,7 +105,7 @@ module _ {R W : Type 0} (remaining : R → Option (List ℕ)) (stretch : W → W
       | inr last ↦ inr (omega (arith, met_end _ last.5))
     ]
 
-    hands_line : (v : Outgoing W Frames) (h : Option Span) (lines : List (List ℕ))
+    hands_line : (v : WriterState W Frames) (h : Option Span) (lines : List (List ℕ))
         → held_of s ++ (line ∷ []) ≡ lines ++ held_at m h
         → HandsLines remaining s lines (record { source = m; target = v; held = h })
     hands_line v h lines order = record {
@@ -121,7 +121,7 @@ module _ {R W : Type 0} (remaining : R → Option (List ℕ)) (stretch : W → W
     }
 
   -- nothing was done by the reader
-  still : (v : Outgoing W Frames) (h : Option Span) (lines : List (List ℕ)) → held_of s ≡ lines ++ held_at s.source h
+  still : (v : WriterState W Frames) (h : Option Span) (lines : List (List ℕ)) → held_of s ≡ lines ++ held_at s.source h
       → HandsLines remaining s lines (record { source = s.source; target = v; held = h })
   still v h lines order = record {
     bytes = [];
@@ -136,10 +136,10 @@ module _ {R W : Type 0} (remaining : R → Option (List ℕ)) (stretch : W → W
   }
 
   -- a line was taken in, or nothing of it was
-  module _ (v : Outgoing W Frames) (same : v.writer.log.writes.flushed ≡ s.target.writer.log.writes.flushed)
+  module _ (v : WriterState W Frames) (same : v.writer.log.writes.flushed ≡ s.target.writer.log.writes.flushed)
       (steady : v.writer.log.writes.flushes ≡ s.target.writer.log.writes.flushes) where
-    line_written : (m : Lining R) (h : Option Span) → m.pieces.reader.log ≡ s.source.pieces.reader.log
-        → m.pieces.decoder.max ≡ s.source.pieces.decoder.max → IsLining m
+    line_written : (m : LineState R) (h : Option Span) → m.pieces.reader.log ≡ s.source.pieces.reader.log
+        → m.pieces.decoder.max ≡ s.source.pieces.decoder.max → IsLineReader m
         → m.skipping ≡ false → (HasEnded s.source → HasEnded m) → CanShow m h → (line : List ℕ)
         → HandsLines remaining s (line ∷ []) (record { source = m; target = v; held = h })
         → Takes (line ∷ []) v → MetInterrupts s.target.writer.log.writes v.writer.log.writes
@@ -151,7 +151,7 @@ module _ {R W : Type 0} (remaining : R → Option (List ℕ)) (stretch : W → W
           ready = record { most = max ∙ ready.most ∙ sym (ap (λ d. d.max) taken.encoder); whole = whole; open' = open'; shows = shows };
           closed = ended;
           writes = WritesOn-unflushed s.target.writer v.writer (frames (line ∷ []))
-              (PiecesTaken-frames stretch s.target v (line ∷ []) taken) same;
+              (PiecesTaken-frames trace s.target v (line ∷ []) taken) same;
           flushes = steady;
           answers = (
             line,
@@ -159,15 +159,15 @@ module _ {R W : Type 0} (remaining : R → Option (List ℕ)) (stretch : W → W
             met,
             omega (
               arith,
-              counted s.target.writer v.writer (frames (line ∷ [])) (PiecesTaken-frames stretch s.target v (line ∷ []) taken),
+              counted s.target.writer v.writer (frames (line ∷ [])) (PiecesTaken-frames trace s.target v (line ∷ []) taken),
               length-append (frame line) [],
               length-append (header (length line)) line,
             ),
           );
         }
 
-    line_lost : (m : Lining R) → m.pieces.reader.log ≡ s.source.pieces.reader.log
-        → m.pieces.decoder.max ≡ s.source.pieces.decoder.max → IsLining m
+    line_lost : (m : LineState R) → m.pieces.reader.log ≡ s.source.pieces.reader.log
+        → m.pieces.decoder.max ≡ s.source.pieces.decoder.max → IsLineReader m
         → m.skipping ≡ false → (HasEnded s.source → HasEnded m) → CanShow m s.held → (lost : List (List ℕ))
         → HandsLines remaining s lost (record s { source = m; target = v }) → Takes [] v → (e : Error)
         → SendErrorCaused s.target.writer.log.writes v.writer.log.writes e
@@ -195,9 +195,9 @@ module _ {R W : Type 0} (remaining : R → Option (List ℕ)) (stretch : W → W
         line_lost s.source refl refl ready.whole ready.open' (λ ended. ended) ready.shows [] (still v s.held [] refl) taken e
         caused
 
-    module _ (empty : s.held ≡ None) (m : Lining R) (line : List ℕ)
+    module _ (empty : s.held ≡ None) (m : LineState R) (line : List ℕ)
         (took : NextOpen remaining s.source (Ok (Some line)) m × (m.pieces.reader ≡ s.source.pieces.reader)) where
-      whole : IsLining m
+      whole : IsLineReader m
       whole = NextOpen-whole remaining s.source m (Ok (Some line)) took.0
 
       shows : CanShow m s.held
@@ -223,13 +223,13 @@ module _ {R W : Type 0} (remaining : R → Option (List ℕ)) (stretch : W → W
           (line ∷ []) hands taken e caused
 
   -- none was there
-  pub none_passed : s.held ≡ None → (m : Lining R) → StaysLeft (lined s.source.pieces.decoder.max) s.source.pieces m.pieces
+  pub none_passed : s.held ≡ None → (m : LineState R) → StaysLeft (lined s.source.pieces.decoder.max) s.source.pieces m.pieces
       → m.skipping ≡ s.source.skipping → Passes rules s (Ok false) (record s { source = m })
   none_passed empty m stays same = record {
     told = ap (λ x. x.reader.log) stays.same;
     ready = record {
       most = ap (λ x. x.decoder.max) stays.same ∙ ready.most;
-      whole = IsLining-open m (IsPiecing-same s.source.pieces m.pieces (ap (λ x. x.decoder) stays.same) stays.whole)
+      whole = IsLineReader-open m (IsPieceReader-same s.source.pieces m.pieces (ap (λ x. x.decoder) stays.same) stays.whole)
           (same ∙ ready.open');
       open' = same ∙ ready.open';
       shows = subst (λ h. CanShow m h) (sym empty) tt;
@@ -243,7 +243,7 @@ module _ {R W : Type 0} (remaining : R → Option (List ℕ)) (stretch : W → W
             (StaysLeft-went remaining (lined s.source.pieces.decoder.max) s.source.pieces m.pieces stays)
             (none_held remaining (record s { source = m }) empty ∙ sym (none_held remaining s empty))
             (λ ended. sym (ap (λ x. x.ended) stays.same) ∙ ended) (λ ended. ap (λ x. x.ended) stays.same ∙ ended);
-        takes = PiecesTaken-none stretch (framed_out s.target.encoder.max) none s.target;
+        takes = PiecesTaken-none trace (framed_out s.target.encoder.max) none s.target;
       },
       MetInterrupts-none s.target.writer.log.writes,
       empty,
@@ -251,13 +251,13 @@ module _ {R W : Type 0} (remaining : R → Option (List ℕ)) (stretch : W → W
     );
   }
 
-  module _ (tells : W → StreamLog) (v : Outgoing W Frames) where
-    flush_answers : (answer : Result (Unit {0}) Error) → WasFlushed tells stretch s.target.writer answer v.writer
+  module _ (tells : W → StreamLog) (v : WriterState W Frames) where
+    flush_answers : (answer : Result (Unit {0}) Error) → WasFlushed tells trace s.target.writer answer v.writer
         → FlushAnswers rules s answer (record s { target = v })
     flush_answers (Ok _) f = (record { empty = f.ok.empty; flushed = f.ok.flushed }, f.ok.met)
     flush_answers (Err e) f = f.caused
 
-    pub flushes_all : (answer : Result (Unit {0}) Error) → WasFlushed tells stretch s.target.writer answer v.writer
+    pub flushes_all : (answer : Result (Unit {0}) Error) → WasFlushed tells trace s.target.writer answer v.writer
         → Takes [] v → Flushes rules s answer (record s { target = v })
     flushes_all answer f taken = record {
       told = refl;
@@ -280,7 +280,7 @@ module _ {R W : Type 0} (remaining : R → Option (List ℕ)) (stretch : W → W
   asked_ended empty ended = record {
     told = refl;
     ready = ready;
-    moves = record { hands = still s.target s.held [] refl; takes = PiecesTaken-none stretch (framed_out s.target.encoder.max) none s.target };
+    moves = record { hands = still s.target s.held [] refl; takes = PiecesTaken-none trace (framed_out s.target.encoder.max) none s.target };
     sent = λ sent. sent;
     asks = inl refl;
     once = record { once = omega arith; quiet = λ closed. refl; closed = λ closed. closed };
@@ -288,7 +288,7 @@ module _ {R W : Type 0} (remaining : R → Option (List ℕ)) (stretch : W → W
   }
 
   -- the reader was asked for the next
-  module _ (empty : s.held ≡ None) (going' : s.source.pieces.ended ≡ false) (m : Lining R) where
+  module _ (empty : s.held ≡ None) (going' : s.source.pieces.ended ≡ false) (m : LineState R) where
     module _ (found : NextAnswer) (next : NextOpen remaining s.source found m) where
       asks_over : AsksReader s.source m
       asks_over = elim next.0.asked [
@@ -313,7 +313,7 @@ module _ {R W : Type 0} (remaining : R → Option (List ℕ)) (stretch : W → W
           open' = next.1;
           shows = shows;
         };
-        moves = record { hands = hands; takes = PiecesTaken-none stretch (framed_out s.target.encoder.max) none s.target };
+        moves = record { hands = hands; takes = PiecesTaken-none trace (framed_out s.target.encoder.max) none s.target };
         sent = λ sent. sent;
         asks = asks_over;
         once = record {

@@ -12,7 +12,7 @@ use Rattle.forward.specs.declared.error.Cause.{Cause}
 use Rattle.forward.specs.declared.error.Cause.TheVariants as cause
 use Rattle.forward.specs.declared.error.Stopped.{Stopped}
 use Rattle.codec.specs.Grammar.{IsOpen}
-use Rattle.codec.specs.Piecing.{rest}
+use Rattle.codec.specs.PieceReader.{rest}
 use Rattle.frame_reader.specs.Framed.{framed}
 use Rattle.frame_reader.specs.Frames.{BeginsTooLong, Fits, IsCutShort, frames}
 use Rattle.frame_reader.specs.Next.{FramesWent}

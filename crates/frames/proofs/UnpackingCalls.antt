@@ -12,7 +12,7 @@ use Rattle.codec.specs.declared.decoder.Span.{Span}
 use Rattle.codec.specs.Grammar.{IsOpen}
 use Rattle.codec.specs.NextPiece.{MetEnd, NextBuffered, StaysLeft}
 use Rattle.codec.specs.NextPieceLaws.{MetEnd-once}
-use Rattle.codec.specs.Piecing.{Piecing, rest}
+use Rattle.codec.specs.PieceReader.{ReaderState, rest}
 use Rattle.frame_reader.specs.Framed.{framed}
 use Rattle.frame_reader.specs.Frames.{BeginsTooLong, Fits, IsCutShort}
 use Rattle.frame_reader.specs.Next.{FramesWent, Next, NextAnswer, ReadsFrames, piece_answer}
@@ -52,7 +52,7 @@ module _ {R W : Type 0} (remaining : R → Option (List ℕ)) (s : Unpacking R W
       (capacity : v.block.capacity ≡ s.target.block.capacity)
       (unflushed : v.log.writes.flushed ≡ s.target.log.writes.flushed)
       (steady : v.log.writes.flushes ≡ s.target.log.writes.flushes) where
-    still_ready : (m : Piecing R Frames) (h : Option Span) → m.decoder ≡ s.source.decoder → ReadsFrames m → CanShow m h
+    still_ready : (m : ReaderState R Frames) (h : Option Span) → m.decoder ≡ s.source.decoder → ReadsFrames m → CanShow m h
         → IsReady (record { source = m; target = v; held = h })
     still_ready m h same reads shows = record {
       target = record {
@@ -63,7 +63,7 @@ module _ {R W : Type 0} (remaining : R → Option (List ℕ)) (s : Unpacking R W
       shows = shows;
     }
 
-    line_printed : (m : Piecing R Frames) (h : Option Span) → m.reader.log ≡ s.source.reader.log
+    line_printed : (m : ReaderState R Frames) (h : Option Span) → m.reader.log ≡ s.source.reader.log
         → IsReady (record { source = m; target = v; held = h }) → (payload : List ℕ) → HandsFrames remaining s (payload ∷ []) (record { source = m; target = v; held = h })
         → WritesInOrder s.target (with_end payload) v → MetInterrupts s.target.log.writes v.log.writes
         → Passes rules s (Ok true) (record { source = m; target = v; held = h })
@@ -86,7 +86,7 @@ module _ {R W : Type 0} (remaining : R → Option (List ℕ)) (s : Unpacking R W
           );
         }
 
-    line_lost : (m : Piecing R Frames) → m.reader.log ≡ s.source.reader.log → IsReady (record s { source = m; target = v })
+    line_lost : (m : ReaderState R Frames) → m.reader.log ≡ s.source.reader.log → IsReady (record s { source = m; target = v })
         → (lost : List (List ℕ)) → HandsFrames remaining s lost (record s { source = m; target = v })
         → WritesInOrder s.target [] v → (e : Error) → SendErrorCaused s.target.log.writes v.log.writes e
         → Passes rules s (Err e) (record s { source = m; target = v })
@@ -117,7 +117,7 @@ module _ {R W : Type 0} (remaining : R → Option (List ℕ)) (s : Unpacking R W
         (record { got = []; went = FramesWent-none remaining s.source; order = append-nil (held_of s) }) none e caused
 
     -- or it was buffered
-    module _ (empty : s.held ≡ None) (m : Piecing R Frames) (payload : List ℕ)
+    module _ (empty : s.held ≡ None) (m : ReaderState R Frames) (payload : List ℕ)
         (took : NextBuffered remaining (framed s.source.decoder.max) s.source (Some payload) m) where
       is_ready : IsReady (record s { source = m; target = v })
       is_ready = still_ready m s.held took.0.went.decoder (NextPiece-reads remaining s.source m _ took.0)
@@ -143,7 +143,7 @@ module _ {R W : Type 0} (remaining : R → Option (List ℕ)) (s : Unpacking R W
           line_lost m (ap (λ r. r.log) took.1) is_ready (payload ∷ []) (hands v) none e caused
 
   -- none was there
-  pub none_passed : s.held ≡ None → (m : Piecing R Frames) → StaysLeft (framed s.source.decoder.max) s.source m
+  pub none_passed : s.held ≡ None → (m : ReaderState R Frames) → StaysLeft (framed s.source.decoder.max) s.source m
       → Passes rules s (Ok false) (record s { source = m })
   none_passed empty m stays = record {
     told = ap (λ x. x.reader.log) stays.same;
@@ -173,13 +173,13 @@ module _ {R W : Type 0} (remaining : R → Option (List ℕ)) (s : Unpacking R W
     );
   }
 
-  module _ (tells : W → StreamLog) (stretch : W → W → Type 0) (v : Buffered W StdPolicy) where
-    flush_answers : (answer : Result (Unit {0}) Error) → WasFlushed tells stretch s.target answer v
+  module _ (tells : W → StreamLog) (trace : W → W → Type 0) (v : Buffered W StdPolicy) where
+    flush_answers : (answer : Result (Unit {0}) Error) → WasFlushed tells trace s.target answer v
         → FlushAnswers rules s answer (record s { target = v })
     flush_answers (Ok _) f = (record { empty = f.ok.empty; flushed = f.ok.flushed }, f.ok.met)
     flush_answers (Err e) f = f.caused
 
-    pub flushes_all : (answer : Result (Unit {0}) Error) → WasFlushed tells stretch s.target answer v
+    pub flushes_all : (answer : Result (Unit {0}) Error) → WasFlushed tells trace s.target answer v
         → Flushes rules s answer (record s { target = v })
     flushes_all answer f = record {
       told = refl;
@@ -203,7 +203,7 @@ module _ {R W : Type 0} (remaining : R → Option (List ℕ)) (s : Unpacking R W
     }
 
   -- the reader was asked for the next
-  module _ (empty : s.held ≡ None) (m : Piecing R Frames) where
+  module _ (empty : s.held ≡ None) (m : ReaderState R Frames) where
     once_met : MetEnd s.source m → m.reader.log.reads.zero_reads ≡ s.source.reader.log.reads.zero_reads + 1
     once_met = MetEnd-once s.source m ready.reads.told
 

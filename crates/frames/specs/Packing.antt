@@ -5,13 +5,13 @@ use Rattle.buffer_redux.specs.BufReader.{RanDry}
 use Rattle.codec.specs.Decoding.{IsLent, bytes_at}
 use Rattle.codec.specs.declared.decoder.Span.{Span}
 use Rattle.codec.specs.NextPiece.{PiecesWent, empties}
-use Rattle.codec.specs.Piecing.{rest}
+use Rattle.codec.specs.PieceReader.{rest}
 use Rattle.forward.specs.Filter.{FilterRules}
 use Rattle.frame_reader.specs.Frames.{Fits}
 use Rattle.codec.specs.WritePiece.{PiecesTaken}
 use Rattle.frame_reader.specs.Framed.{framed_out}
 use Rattle.line_reader.specs.Lines.{BeginsTooLong, HasLines, IsUnended}
-use Rattle.line_reader.specs.Lining.{IsLining, Lining, lined}
+use Rattle.line_reader.specs.LineReader.{IsLineReader, LineState, lined}
 use Rattle.programs.specs.Prompt.{AskedLast}
 use Rattle.programs.specs.Streams.{AllSent}
 use Rattle.frames.specs.Pack.{IsDue}
@@ -20,16 +20,16 @@ use Rattle.frames.specs.declared.error.RunError.TheVariants.{TooLong, Truncated,
 use Rattle.frames.specs.declared.packing.Packing.{Packing}
 
 -- the line there
-abbrev pub shown : {R : Type 0} → Lining R → Span → List ℕ
+abbrev pub shown : {R : Type 0} → LineState R → Span → List ℕ
 shown s span = bytes_at span s.pieces.reader.block.bytes
 
 -- the line that is held, where one is
-abbrev pub held_at : {R : Type 0} → Lining R → Option Span → List (List ℕ)
+abbrev pub held_at : {R : Type 0} → LineState R → Option Span → List (List ℕ)
 held_at s (Some span) = shown s span ∷ []
 held_at s None = []
 
 -- the reader lends it
-abbrev pub CanShow : {R : Type 0} → Lining R → Option Span → Type 0
+abbrev pub CanShow : {R : Type 0} → LineState R → Option Span → Type 0
 CanShow s (Some span) =
     IsLent (lined s.pieces.decoder.max) s.pieces.handed s.pieces.reader.block.bytes span
     × (length (shown s span) ≤ s.pieces.decoder.max)
@@ -41,12 +41,12 @@ held_of s = held_at s.source s.held
 -- what each call of the filter wants
 pub record IsReady {R W : Type 0} (s : Packing R W) : Type 0 where
   pub most : s.source.pieces.decoder.max ≡ s.target.encoder.max
-  pub whole : IsLining s.source
+  pub whole : IsLineReader s.source
   pub open' : s.source.skipping ≡ false
   pub shows : CanShow s.source s.held
 
 -- the stream ended behind a last line without an end
-abbrev pub HasEnded : {R : Type 0} → Lining R → Type 0
+abbrev pub HasEnded : {R : Type 0} → LineState R → Type 0
 HasEnded s = s.pieces.ended ≡ true
 
 -- these lines are what was held, then what the reader handed out, but for what is held still. One without an end is the last
@@ -64,18 +64,18 @@ pub record HandsLines {R W : Type 0} (remaining : R → Option (List ℕ)) (s : 
 
 -- the reader was asked, also for the last time, only where what was left, then what had come, was less than a line, and it hadn't
 -- ended; and each ask but the last gave a byte, or failed
-pub record AskedOver {R : Type 0} (s t : Lining R) : Type 0 where
+pub record AskedOver {R : Type 0} (s t : LineState R) : Type 0 where
   pub going : s.pieces.ended ≡ false
   pub came : List ℕ
   pub asked : AskedLast came s.pieces.reader.log t.pieces.reader.log
   pub left : IsUnended s.pieces.decoder.max (rest s.pieces ++ came)
 
 -- or it wasn't
-abbrev pub Asks : {R : Type 0} → Lining R → Lining R → Type 0
+abbrev pub Asks : {R : Type 0} → LineState R → LineState R → Type 0
 Asks s t = (t.pieces.reader.log ≡ s.pieces.reader.log) ⊎ AskedOver s t
 
 -- how the lines end: nothing is left, and the reader gave no more; or one that is too long begins there
-abbrev pub LinesEnd : {R : Type 0} → Lining R → Result (Unit {0}) RunError → Lining R → Type 0
+abbrev pub LinesEnd : {R : Type 0} → LineState R → Result (Unit {0}) RunError → LineState R → Type 0
 LinesEnd s (Ok _) t =
     (rest t.pieces ≡ []) × (HasEnded s ⊎ RanDry s.pieces.reader t.pieces.reader)
     × (empties s.pieces.reader ≤ empties t.pieces.reader)
@@ -86,12 +86,12 @@ LinesEnd s (Err (Write e)) t = ⊥
 LinesEnd s (Err (Io e)) t = ⊥
 
 abbrev pub packing_rules : {R W : Type 0} → (R → Option (List ℕ)) → (W → W → Type 0) → FilterRules (Packing R W) RunError
-packing_rules remaining stretch = record {
+packing_rules remaining trace = record {
   read = λ s. s.source.pieces.reader.log;
   written = λ s. s.target.writer.log;
   ready = λ s. IsReady s;
   hands = HandsLines remaining;
-  takes = λ s lines t. PiecesTaken stretch (framed_out s.target.encoder.max) s.target lines t.target;
+  takes = λ s lines t. PiecesTaken trace (framed_out s.target.encoder.max) s.target lines t.target;
   has = λ s. ¬ (s.held ≡ None);
   lacks = λ s. s.held ≡ None;
   waits = λ s. (s.held ≡ None) × IsUnended s.source.pieces.decoder.max (rest s.source.pieces) × (s.source.pieces.ended ≡ false);

@@ -7,7 +7,7 @@ use Rattle.std.specs.List.{All}
 use Rattle.buffer_redux.specs.WriterLaws.{WritesInOrder-fresh}
 use Rattle.codec.specs.NextPiece.{PiecesWent}
 use Rattle.codec.specs.PiecesWentLaws.{PiecesWent-none}
-use Rattle.codec.specs.Piecing.{rest}
+use Rattle.codec.specs.PieceReader.{rest}
 use Rattle.forward.specs.Filter.{AsksSent, IsLawful, Moves, StaysOpen}
 use Rattle.frame_reader.specs.Frames.{Fits, frames}
 use Rattle.codec.specs.WritePiece.{PiecesTaken}
@@ -172,11 +172,11 @@ module _ {R W : Type 0} (remaining : R → Option (List ℕ)) where
   ends_after a b c p (Err (Write e)) f end = absurd end
   ends_after a b c p (Err (Io e)) f end = absurd end
 
-  module _ (stretch : W → W → Type 0) (none : (x : W) → stretch x x)
-      (joins : (a b c : W) → stretch a b → stretch b c → stretch a c) where
-    asks_sent : (first s t : Packing R W) (p : List (List ℕ)) → (packing_rules remaining stretch).fresh first
-        → Moves (packing_rules remaining stretch) first p p s → StaysOpen (packing_rules remaining stretch) first s
-        → s.held ≡ None → AllSent s.target.writer → Asks s.source t.source → AsksSent (packing_rules remaining stretch) first s t
+  module _ (trace : W → W → Type 0) (none : (x : W) → trace x x)
+      (joins : (a b c : W) → trace a b → trace b c → trace a c) where
+    asks_sent : (first s t : Packing R W) (p : List (List ℕ)) → (packing_rules remaining trace).fresh first
+        → Moves (packing_rules remaining trace) first p p s → StaysOpen (packing_rules remaining trace) first s
+        → s.held ≡ None → AllSent s.target.writer → Asks s.source t.source → AsksSent (packing_rules remaining trace) first s t
     asks_sent first s t p fresh moves still lacks sent (inl same) = inl same
     asks_sent first s t p fresh moves (inr closed) lacks sent (inr over) = absurd (true≢false (sym closed ∙ over.going))
     asks_sent first s t p fresh moves (inl gives) lacks sent (inr over) =
@@ -204,24 +204,24 @@ module _ {R W : Type 0} (remaining : R → Option (List ℕ)) where
           };
           sent = subst (λ l. WasSent l s.target.writer.log.writes)
               (WritesInOrder-fresh first.target.writer s.target.writer (frames p) fresh.1
-              (PiecesTaken-frames stretch first.target s.target p moves.takes))
+              (PiecesTaken-frames trace first.target s.target p moves.takes))
               (all_sent s.target.writer sent);
         })
 
-    pub packing_lawful : IsLawful (packing_rules {R = R} {W = W} remaining stretch)
+    pub packing_lawful : IsLawful (packing_rules {R = R} {W = W} remaining trace)
     packing_lawful = record {
       hands_none = hands_none;
       hands_joins = hands_joins;
-      takes_none = λ s. PiecesTaken-none stretch (framed_out s.target.encoder.max) none s.target;
+      takes_none = λ s. PiecesTaken-none trace (framed_out s.target.encoder.max) none s.target;
       takes_joins = λ a b c p q f g.
-          PiecesTaken-joins stretch (framed_out a.target.encoder.max) joins a.target b.target c.target p q f
-          (subst (λ d. PiecesTaken stretch (framed_out d.max) b.target q c.target) f.encoder g);
+          PiecesTaken-joins trace (framed_out a.target.encoder.max) joins a.target b.target c.target p q f
+          (subst (λ d. PiecesTaken trace (framed_out d.max) b.target q c.target) f.encoder g);
       ends_after = λ a b c p how hands still end. (end.0, ends_after a b c p how hands end.1);
       waits_lacks = λ s waits. waits.0;
       received_taken = λ s. omega arith;
       taken_on = λ s t p taken. omega (
         arith,
-        counted s.target.writer t.target.writer (frames p) (PiecesTaken-frames stretch s.target t.target p taken),
+        counted s.target.writer t.target.writer (frames p) (PiecesTaken-frames trace s.target t.target p taken),
       );
       asks_sent = asks_sent;
     }

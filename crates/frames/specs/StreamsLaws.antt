@@ -6,12 +6,12 @@ use Rattle.buffer_redux.specs.BufWriter.{WritesInOrder}
 use Rattle.buffer_redux.specs.GoesOn.{GoesOn, GoesOn-none}
 use Rattle.buffer_redux.specs.declared.policy.StdPolicy.{StdPolicy}
 use Rattle.codec.specs.NextPiece.{HandsBytes}
-use Rattle.codec.specs.Piecing.{Piecing, rest}
+use Rattle.codec.specs.PieceReader.{ReaderState, rest}
 use Rattle.programs.specs.Prompt.{WasSent}
 use Rattle.programs.specs.Streams.{AllSent}
 
 -- from an empty buffer on, what was given is what was handed out, and what is left
-pub given_since : {S D : Type 0} (s t : Piecing S D) (bytes : List ℕ) → s.reader.block.bytes ≡ [] → HandsBytes s bytes t
+pub given_since : {S D : Type 0} (s t : ReaderState S D) (bytes : List ℕ) → s.reader.block.bytes ≡ [] → HandsBytes s bytes t
     → t.reader.log.reads.given ≡ s.reader.log.reads.given ++ (bytes ++ rest t)
 given_since s t bytes none hands =
     hands.given

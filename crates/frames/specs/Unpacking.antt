@@ -7,7 +7,7 @@ use Rattle.buffer_redux.specs.Buffered.{Buffered}
 use Rattle.buffer_redux.specs.declared.policy.StdPolicy.{StdPolicy}
 use Rattle.codec.specs.Decoding.{IsLent, bytes_at}
 use Rattle.codec.specs.Grammar.{IsOpen}
-use Rattle.codec.specs.Piecing.{Piecing, rest}
+use Rattle.codec.specs.PieceReader.{ReaderState, rest}
 use Rattle.codec.specs.declared.decoder.Span.{Span}
 use Rattle.frame_reader.specs.Framed.{framed}
 use Rattle.frame_reader.specs.Frames.{BeginsTooLong, IsCutShort}
@@ -28,16 +28,16 @@ pub record IsLineTarget {W : Type 0} (most : ℕ) (u : Buffered W StdPolicy) : T
   pub capacity : most + 1 < u.block.capacity
 
 -- the payload there
-abbrev pub shown : {R : Type 0} → Piecing R Frames → Span → List ℕ
+abbrev pub shown : {R : Type 0} → ReaderState R Frames → Span → List ℕ
 shown s span = bytes_at span s.reader.block.bytes
 
 -- the payload that is held, where one is
-abbrev pub held_at : {R : Type 0} → Piecing R Frames → Option Span → List (List ℕ)
+abbrev pub held_at : {R : Type 0} → ReaderState R Frames → Option Span → List (List ℕ)
 held_at s (Some span) = shown s span ∷ []
 held_at s None = []
 
 -- the reader lends it
-abbrev pub CanShow : {R : Type 0} → Piecing R Frames → Option Span → Type 0
+abbrev pub CanShow : {R : Type 0} → ReaderState R Frames → Option Span → Type 0
 CanShow s (Some span) = IsLent (framed s.decoder.max) s.handed s.reader.block.bytes span
 CanShow s None = Unit {0}
 
@@ -59,17 +59,17 @@ pub record HandsFrames {R W : Type 0} (remaining : R → Option (List ℕ)) (s :
 
 -- the reader was asked, also for the last time, only where what was left, then what had come, was no whole frame; and each ask
 -- but the last gave a byte, or failed
-pub record AskedOver {R : Type 0} (s t : Piecing R Frames) : Type 0 where
+pub record AskedOver {R : Type 0} (s t : ReaderState R Frames) : Type 0 where
   pub came : List ℕ
   pub asked : AskedLast came s.reader.log t.reader.log
   pub left : IsOpen (framed s.decoder.max) (rest s ++ came)
 
 -- or it wasn't
-abbrev pub Asks : {R : Type 0} → Piecing R Frames → Piecing R Frames → Type 0
+abbrev pub Asks : {R : Type 0} → ReaderState R Frames → ReaderState R Frames → Type 0
 Asks s t = (t.reader.log ≡ s.reader.log) ⊎ AskedOver s t
 
 -- how the frames end: nothing is left; or one that is too long begins there; or less than one is there
-abbrev pub FramesEnd : {R : Type 0} → Piecing R Frames → Result (Unit {0}) RunError → Piecing R Frames → Type 0
+abbrev pub FramesEnd : {R : Type 0} → ReaderState R Frames → Result (Unit {0}) RunError → ReaderState R Frames → Type 0
 FramesEnd s (Ok _) t = (rest t ≡ []) × RanDry s.reader t.reader
 FramesEnd s (Err TooLong) t = BeginsTooLong t.decoder.max (rest t)
 FramesEnd s (Err Truncated) t = IsCutShort t.decoder.max (rest t) × RanDry s.reader t.reader

@@ -4,7 +4,7 @@ use Rattle.std.proofs.lemmas.Grind.{flat_map-append}
 use Rattle.buffer_redux.specs.BufWriter.{WritesInOrder}
 use Rattle.buffer_redux.specs.WriterLaws.{WritesInOrder-fresh, WritesInOrder-joins, WritesInOrder-none}
 use Rattle.codec.specs.Grammar.{IsOpen}
-use Rattle.codec.specs.Piecing.{rest}
+use Rattle.codec.specs.PieceReader.{rest}
 use Rattle.frame_reader.specs.Framed.{framed}
 use Rattle.frame_reader.specs.Frames.{frames}
 use Rattle.frame_reader.specs.Next.{FramesWent}

@@ -2,7 +2,7 @@
 ghost use Rattle.std.specs.Prelude.{◌≡◌};
 
 use crate::error::RunError;
-use programs::{Ending as Usual, Said};
+use programs::{Ending as Usual, Report};
 use std::fmt;
 
 /// How a run ends.
@@ -27,8 +27,8 @@ impl Ending {
             Ok(()) => Ending::Usual(Usual::Done),
             Err(RunError::TooLong) => Ending::TooLong,
             Err(RunError::Truncated) => Ending::Truncated,
-            Err(RunError::Read(e)) => Ending::Usual(Usual::of_fault_so(e, Usual::ReadFailed)),
-            Err(RunError::Write(e)) => Ending::Usual(Usual::of_fault_so(e, Usual::WriteFailed)),
+            Err(RunError::Read(e)) => Ending::Usual(Usual::of_fault_or(e, Usual::ReadFailed)),
+            Err(RunError::Write(e)) => Ending::Usual(Usual::of_fault_or(e, Usual::WriteFailed)),
             Err(RunError::Io(e)) => Ending::Usual(Usual::of_fault(e)),
         }
     }
@@ -55,7 +55,7 @@ impl fmt::Display for Ending {
     fn fmt<W: fmt::Write>(&self, f: &mut fmt::Formatter<W>) -> fmt::Result {
         match self {
             Ending::Usual(ending) => {
-                let said = Said {
+                let said = Report {
                     program: "frames",
                     usage: "pack|unpack",
                     ending: *ending,

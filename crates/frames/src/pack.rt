@@ -1,7 +1,7 @@
 //! Lines made frames, over any two streams that tell.
 ghost use Rattle.std.specs.Prelude.{◌≡◌, [], false};
-ghost use Rattle.codec.specs.Outgoing.{unsent};
-ghost use Rattle.line_reader.specs.Lining.{IsLining};
+ghost use Rattle.codec.specs.PieceWriter.{unsent};
+ghost use Rattle.line_reader.specs.LineReader.{IsLineReader};
 ghost use Rattle.programs.specs.Flushes.{FlushesSend};
 ghost use Rattle.programs.specs.Prompt.{HoldsNothingBack};
 ghost use Rattle.programs.specs.Streams.{EndsOnce};
@@ -55,7 +55,7 @@ fn pack_all<R: TellRead, W: TellWrite>(
     target: FrameWriter<W>,
 ) -> (Result<(), RunError>, LineReader<R>, FrameWriter<W>)
     requires most { source.pieces.decoder.max ≡ target.encoder.max }
-    requires whole { IsLining source }
+    requires whole { IsLineReader source }
     requires going { source.pieces.ended ≡ false }
     requires open { source.skipping ≡ false }
     requires nothing { source.pieces.reader.block.bytes ≡ [] }

@@ -26,7 +26,7 @@ pub struct Packing<R: TellRead, W: TellWrite> {
 impl<R: TellRead, W: TellWrite> Filter for Packing<R, W> {
     type Wrong = RunError;
 
-    ghost rules = { packing_rules R.remaining W.stretch };
+    ghost rules = { packing_rules R.remaining W.trace };
 
     #[inline(always)]
     fn pass(&mut self) -> io::Result<bool> {
@@ -69,7 +69,7 @@ impl<R: TellRead, W: TellWrite> Filter for Packing<R, W> {
         }
     }
 
-    ghost lawful = { packing_lawful R.remaining W.stretch W.stretch_none W.stretch_joins };
+    ghost lawful = { packing_lawful R.remaining W.trace W.trace_none W.trace_joins };
 }
 
 // Passes the line that is held. It stands apart, so that a line that is buffered clears none of its answers.
@@ -77,7 +77,7 @@ impl<R: TellRead, W: TellWrite> Filter for Packing<R, W> {
 fn pass_held<R: TellRead, W: TellWrite>(filter: &mut Packing<R, W>, span: Span) -> io::Result<bool>
     requires ready { IsReady filter.old }
     requires held { filter.old.held ≡ Some span }
-    ensures { Passes (packing_rules R.remaining W.stretch) filter.old result filter.new }
+    ensures { Passes (packing_rules R.remaining W.trace) filter.old result filter.new }
 {
     write_line(&mut filter.target, filter.source.lent(span))?;
     filter.held = None;
@@ -89,8 +89,8 @@ fn pass_held<R: TellRead, W: TellWrite>(filter: &mut Packing<R, W>, span: Span) 
 fn write_line<W: TellWrite>(target: &mut FrameWriter<W>, line: &[u8]) -> io::Result<()>
     requires { length line.now ≤ target.old.encoder.max }
     ensures taken { OnOk result
-        (PiecesTaken W.stretch (framed_out target.old.encoder.max) target.old (line.now ∷ []) target.new) }
-    ensures none { OnErr result (PiecesTaken W.stretch (framed_out target.old.encoder.max) target.old [] target.new) }
+        (PiecesTaken W.trace (framed_out target.old.encoder.max) target.old (line.now ∷ []) target.new) }
+    ensures none { OnErr result (PiecesTaken W.trace (framed_out target.old.encoder.max) target.old [] target.new) }
     ensures met { OnOk result (MetInterrupts target.old.writer.log.writes target.new.writer.log.writes) }
     ensures caused { IfErr result (λ e. SendErrorCaused target.old.writer.log.writes target.new.writer.log.writes e) }
     ensures not_flushed { target.new.writer.log.writes.flushed ≡ target.old.writer.log.writes.flushed }

@@ -9,15 +9,15 @@ use Rattle.codec.specs.NextPiece as pieces
 use Rattle.codec.specs.NextPiece.{NextPiece, StaysLeft, buffered_answer, empties, load_answer}
 use Rattle.codec.specs.NextPieceLaws.{MetEnd-once, NextPiece-ready, NextPiece-refused, NextPiece-wrong}
 use Rattle.codec.specs.PiecesWentLaws.{PiecesWent-unasked, drop_none}
-use Rattle.codec.specs.Piecing.{IsPiecing, IsSettled, Piecing, Skips, rest}
+use Rattle.codec.specs.PieceReader.{IsPieceReader, IsSettled, ReaderState, Skips, rest}
 use Rattle.codec.specs.StaysLeftLaws.{StaysLeft-next}
 use Rattle.line_reader.specs.declared.error.LineError.TheVariants.{TooLong, Io}
 use Rattle.line_reader.specs.declared.line.Lines.{Lines}
 use Rattle.line_reader.specs.Lines.{BeginsTooLong, IsLine, newline, with_end}
 use Rattle.line_reader.specs.LinesLaws.{line_or_end, line_or_long, take_plain}
-use Rattle.line_reader.specs.Lining.{IsLining, Lining, lined}
+use Rattle.line_reader.specs.LineReader.{IsLineReader, LineState, lined}
 use Rattle.line_reader.specs.NextLine.{NextAnswer, NextBuffered, NextLine, piece_answer}
-use Rattle.line_reader.specs.NextLineLaws.{IsHanded-fits, IsPiecing-same, NextLine-of, NextLine-open, NextOpen, NextOpen-whole, by_skipping, same_long, same_none, same_some}
+use Rattle.line_reader.specs.NextLineLaws.{IsHanded-fits, IsPieceReader-same, NextLine-of, NextLine-open, NextOpen, NextOpen-whole, by_skipping, same_long, same_none, same_some}
 
 -- where no line that fits stands there, the bytes are a part of one, or too long
 module _ (max : ℕ) (bytes : List ℕ) (none : ¬ (Begins (lined max) bytes)) where
@@ -36,7 +36,7 @@ module _ (max : ℕ) (bytes : List ℕ) (none : ¬ (Begins (lined max) bytes)) w
     ]
   ]
 
-module _ {S : Type 0} (f : Lining S) (whole : IsLining f) where
+module _ {S : Type 0} (f : LineState S) (whole : IsLineReader f) where
   -- no line is being skipped where something is left, or an end that no call has told
   open_where : (f.skipping ≡ true → ⊥) → f.skipping ≡ false
   open_where never = elim f.skipping as (λ b. b ≡ f.skipping → b ≡ false) [
@@ -58,33 +58,34 @@ module _ {S : Type 0} (f : Lining S) (whole : IsLining f) where
   settled_open (inr (inr (e, wrong))) = open_left (omega (arith, wrong.above))
 
 -- what is true of a reader of lines stays so
-module _ {S : Type 0} (f : Lining S) (t : Piecing S Lines) (whole : IsLining f) (decoder : t.decoder ≡ f.pieces.decoder)
+module _ {S : Type 0} (f : LineState S) (t : ReaderState S Lines) (whole : IsLineReader f)
+    (decoder : t.decoder ≡ f.pieces.decoder)
     (ended : t.ended ≡ f.pieces.ended) where
-  still_whole : IsPiecing (lined f.pieces.decoder.max) t → (rest f.pieces ≡ [] → rest t ≡ [])
-      → IsLining (record { pieces = t; skipping = f.skipping })
+  still_whole : IsPieceReader (lined f.pieces.decoder.max) t → (rest f.pieces ≡ [] → rest t ≡ [])
+      → IsLineReader (record { pieces = t; skipping = f.skipping })
   still_whole is none = record {
-    whole = IsPiecing-same f.pieces t decoder is;
+    whole = IsPieceReader-same f.pieces t decoder is;
     skipped = λ skips. none (whole.skipped skips);
     goes_on = λ skips. ended ∙ whole.goes_on skips;
   }
 
 -- where bytes are dropped, and where only more bytes were looked at
-module _ {S : Type 0} (f : Lining S) (t : Piecing S Lines) (whole : IsLining f) where
+module _ {S : Type 0} (f : LineState S) (t : ReaderState S Lines) (whole : IsLineReader f) where
   pub Skips-whole : (count : ℕ) → Skips (lined f.pieces.decoder.max) f.pieces count t
-      → IsLining (record { pieces = t; skipping = f.skipping })
+      → IsLineReader (record { pieces = t; skipping = f.skipping })
   Skips-whole count skips =
       still_whole f t whole (ap (λ x. x.decoder) skips.same) (ap (λ x. x.ended) skips.same) skips.whole
       (λ none. skips.left ∙ drop_none count (rest f.pieces) none)
 
   pub StaysLeft-whole : StaysLeft (lined f.pieces.decoder.max) f.pieces t
-      → IsLining (record { pieces = t; skipping = f.skipping })
+      → IsLineReader (record { pieces = t; skipping = f.skipping })
   StaysLeft-whole stays =
       still_whole f t whole (ap (λ x. x.decoder) stays.same) (ap (λ x. x.ended) stays.same) stays.whole
       (λ none. ap (λ x. rest x) stays.same ∙ none)
 
 module _ {S : Type 0} (remaining : S → Option (List ℕ)) where
   -- a line that is too long is refused as it stands
-  pub NextLine-long : (s : Lining S) → IsLining s → s.skipping ≡ false → s.pieces.decoder.max < length (rest s.pieces)
+  pub NextLine-long : (s : LineState S) → IsLineReader s → s.skipping ≡ false → s.pieces.decoder.max < length (rest s.pieces)
       → ¬ (Begins (lined s.pieces.decoder.max) (rest s.pieces))
       → NextLine remaining s (Err (TooLong s.pieces.decoder.max)) s
   NextLine-long s whole open' above none =
@@ -95,7 +96,7 @@ module _ {S : Type 0} (remaining : S → Option (List ℕ)) where
         open',
       )
 
-  module _ (s : Lining S) (t : Piecing S Lines) (whole : IsLining s) where
+  module _ (s : LineState S) (t : ReaderState S Lines) (whole : IsLineReader s) where
     -- where a line is handed out of what is buffered none is being skipped, and it isn't the last one
     module _ (line : List ℕ) (next : NextPiece remaining (lined s.pieces.decoder.max) s.pieces (Ok (Some line)) t)
         (same : t.reader ≡ s.pieces.reader) where
@@ -117,7 +118,7 @@ module _ {S : Type 0} (remaining : S → Option (List ℕ)) where
         ] refl)
       ]
 
-    abbrev after : Lining S
+    abbrev after : LineState S
     after = record { pieces = t; skipping = s.skipping }
 
     -- by what `step_buffered` answers
@@ -129,7 +130,7 @@ module _ {S : Type 0} (remaining : S → Option (List ℕ)) where
     NextBuffered-of None (stays, none) = record { piece = (stays, none); open' = tt; skipping = refl }
 
     pub whole_buffered : (found : Option Span)
-        → pieces.NextBuffered remaining (lined s.pieces.decoder.max) s.pieces (buffered_answer found t) t → IsLining after
+        → pieces.NextBuffered remaining (lined s.pieces.decoder.max) s.pieces (buffered_answer found t) t → IsLineReader after
     whole_buffered (Some span) (next, same) =
         NextOpen-whole remaining s after (Ok (Some (bytes_at span t.reader.block.bytes)))
         (next, open_found (bytes_at span t.reader.block.bytes) next same)
@@ -142,20 +143,20 @@ module _ {S : Type 0} (remaining : S → Option (List ℕ)) where
     going_buffered None stays = tt
 
   -- an `Ok` of a reader of lines is one of a reader of pieces
-  pub piece_loaded : (s t : Piecing S Lines) (found : Option Span)
+  pub piece_loaded : (s t : ReaderState S Lines) (found : Option Span)
       → NextPiece remaining (lined s.decoder.max) s (load_answer (Ok found) t) t
       → NextPiece remaining (lined s.decoder.max) s (piece_answer (load_answer (Ok found) t)) t
   piece_loaded s t (Some span) next = next
   piece_loaded s t None next = next
 
   -- a line that was buffered was handed out
-  pub NextLine-found : (s t : Lining S) (line : List ℕ) → NextBuffered remaining s (Some line) t
+  pub NextLine-found : (s t : LineState S) (line : List ℕ) → NextBuffered remaining s (Some line) t
       → NextLine remaining s (Ok (Some line)) t
   NextLine-found s t line found =
       NextLine-of remaining s t (Ok (Some line)) found.open' (found.piece.0, found.skipping ∙ found.open')
 
   -- where nothing is left a look finds nothing
-  looked_none : (s m : Piecing S Lines) → IsPiecing (lined s.decoder.max) s → rest s ≡ []
+  looked_none : (s m : ReaderState S Lines) → IsPieceReader (lined s.decoder.max) s → rest s ≡ []
       → StaysLeft (lined s.decoder.max) s m → m ≡ s
   looked_none s m whole none stays =
       let left = length-drop s.handed s.reader.block.bytes in
@@ -171,7 +172,7 @@ module _ {S : Type 0} (remaining : S → Option (List ℕ)) where
       stays.same ∙ ap (λ n. record s { seen = n }) same
 
   -- behind a look that found no line a call is what it would have been before
-  pub NextLine-looked : (s m t : Lining S) (answer : NextAnswer) → IsLining s → NextBuffered remaining s None m
+  pub NextLine-looked : (s m t : LineState S) (answer : NextAnswer) → IsLineReader s → NextBuffered remaining s None m
       → NextLine remaining m answer t → NextLine remaining s answer t
   NextLine-looked s m t answer whole looked next = elim s.skipping as (λ b. b ≡ s.skipping → NextLine remaining s answer t) [
     | true ↦ λ is.
@@ -190,7 +191,7 @@ module _ {S : Type 0} (remaining : S → Option (List ℕ)) where
   ] refl
 
   -- what each answer of `next` says
-  module _ (s t : Lining S) (answer : NextAnswer) (whole : IsLining s) (next : NextLine remaining s answer t) where
+  module _ (s t : LineState S) (answer : NextAnswer) (whole : IsLineReader s) (next : NextLine remaining s answer t) where
     abbrev max : ℕ
     max = s.pieces.decoder.max
 
@@ -221,12 +222,12 @@ module _ {S : Type 0} (remaining : S → Option (List ℕ)) where
         by_open (answer ≡ Ok None) (λ step. same_none answer (step.0.told ended)) (settled_open s whole (inl ended))
 
   -- a line that is lent fits
-  pub NextLine-fits : (s t : Lining S) (line : List ℕ) → NextLine remaining s (Ok (Some line)) t
+  pub NextLine-fits : (s t : LineState S) (line : List ℕ) → NextLine remaining s (Ok (Some line)) t
       → length line ≤ s.pieces.decoder.max
   NextLine-fits s t line = by_skipping remaining s t (Ok (Some line)) (length line ≤ s.pieces.decoder.max)
       (λ open' next. fits s next)
       (λ m count is skips next. omega (arith, fits m next, ap (λ d. d.max) skips.drops.went.decoder))
       (λ e is skips fails. let odd : Ok (Some line) ≡ Err (Io e) = fails in cc)
     where
-      fits : (m : Lining S) → NextOpen remaining m (Ok (Some line)) t → length line ≤ m.pieces.decoder.max
+      fits : (m : LineState S) → NextOpen remaining m (Ok (Some line)) t → length line ≤ m.pieces.decoder.max
       fits m next = (IsHanded-fits m.pieces.decoder.max m.pieces t.pieces line next.0.bytes next.0.answers.1).fits

@@ -4,7 +4,7 @@ use Rattle.std.proofs.lemmas.List.{drop_more, map-append, take_more, take-append
 use Rattle.line_reader.specs.Calls.{Call, CallGoes, call_lines}
 use Rattle.codec.specs.Runs.{AnswerRuns}
 use Rattle.codec.specs.RunsLaws.{AnswerRuns-more}
-use Rattle.line_reader.specs.Lining.{Lining}
+use Rattle.line_reader.specs.LineReader.{LineState}
 use Rattle.line_reader.specs.Played.{CallMade, CallsStopped, asked}
 use Rattle.line_reader.specs.declared.laws.calls.Ask.{Ask}
 
@@ -16,7 +16,7 @@ parted_asks asks i other inside calls so_far =
     ∙ ap (λ l. l ++ get_or asks i other ∷ drop (i + 1) asks) (sym so_far)
 
 -- no further call was begun
-pub none_begun : {S : Type 0} (remaining : S → Option (List ℕ)) (s m : Lining S) (asks : List Ask) (i : ℕ) (other : Ask)
+pub none_begun : {S : Type 0} (remaining : S → Option (List ℕ)) (s m : LineState S) (asks : List Ask) (i : ℕ) (other : Ask)
     → i < length asks → (calls : List Call) → map asked calls ≡ take i asks → AnswerRuns (CallGoes remaining) s calls m
     → (room : ℕ)
     (old new : List Call) → new ≡ old ++ calls → room ≤ length new → CallsStopped remaining s asks room old new m
@@ -29,7 +29,7 @@ none_begun remaining s m asks i other inside calls so_far run room old new gaine
   wanted = inl (run, full);
 }
 
-module _ {S : Type 0} (remaining : S → Option (List ℕ)) (s m t : Lining S) (asks : List Ask) (i : ℕ)
+module _ {S : Type 0} (remaining : S → Option (List ℕ)) (s m t : LineState S) (asks : List Ask) (i : ℕ)
     (inside : i < length asks) (calls : List Call) (so_far : map asked calls ≡ take i asks)
     (run : AnswerRuns (CallGoes remaining) s calls m) (other : Ask) (call : Call)
     (made : CallMade remaining m (get_or asks i other) call t) where

@@ -8,12 +8,12 @@ use Rattle.std.specs.declared.io.ErrorKind.TheVariants.{Other}
 use Rattle.codec.specs.NextPiece.{AskedWhere, AsksGive, NoEnd, NoFault, PiecesWent, Refills}
 use Rattle.codec.specs.NextPieceLaws.{AskedWhere-told, MetEnd-joins, still_going}
 use Rattle.codec.specs.PiecesWentLaws.{PiecesWent-inside, PiecesWent-joins, PiecesWent-none}
-use Rattle.codec.specs.Piecing.{Piecing, rest}
+use Rattle.codec.specs.PieceReader.{ReaderState, rest}
 use Rattle.line_reader.specs.declared.line.Lines.{Lines}
 use Rattle.line_reader.specs.CallsLaws.{lines_join}
 use Rattle.line_reader.specs.Lines.{newline, IsLine, with_end}
-use Rattle.line_reader.specs.Lining.{lined}
-use Rattle.line_reader.specs.NextLineLaws.{IsPiecing-same}
+use Rattle.line_reader.specs.LineReader.{lined}
+use Rattle.line_reader.specs.NextLineLaws.{IsPieceReader-same}
 use Rattle.line_reader.specs.SkipLine.{DropsLine, DropsThrough}
 
 abbrev isnt_end : ℕ → Type 0
@@ -21,7 +21,7 @@ isnt_end byte = ¬ (byte ≡ newline)
 
 -- what holds before each turn of `drop_through`: so many bytes went, and none of them ends a line. Neither a fault nor an end
 -- was met, and each ask gave a byte
-pub record SkipHead {S : Type 0} (remaining : S → Option (List ℕ)) (s m : Piecing S Lines) (dropped : ℕ) : Type 0 where
+pub record SkipHead {S : Type 0} (remaining : S → Option (List ℕ)) (s m : ReaderState S Lines) (dropped : ℕ) : Type 0 where
   pub bytes : List ℕ
   pub went : PiecesWent remaining (1 + s.decoder.max) s bytes m
   pub count : dropped ≡ length bytes
@@ -33,7 +33,7 @@ pub record SkipHead {S : Type 0} (remaining : S → Option (List ℕ)) (s m : Pi
   pub asked : AskedWhere IsLine s m
 
 -- before the first
-pub SkipHead-none : {S : Type 0} (remaining : S → Option (List ℕ)) (s : Piecing S Lines) → SkipHead remaining s s 0
+pub SkipHead-none : {S : Type 0} (remaining : S → Option (List ℕ)) (s : ReaderState S Lines) → SkipHead remaining s s 0
 SkipHead-none remaining s = record {
   bytes = [];
   went = PiecesWent-none remaining (1 + s.decoder.max) s;
@@ -46,10 +46,10 @@ SkipHead-none remaining s = record {
   asked = inl refl;
 }
 
-module _ {S : Type 0} (remaining : S → Option (List ℕ)) (s m : Piecing S Lines) (dropped : ℕ)
+module _ {S : Type 0} (remaining : S → Option (List ℕ)) (s m : ReaderState S Lines) (dropped : ℕ)
     (h : SkipHead remaining s m dropped) where
   -- bytes that are left are dropped
-  module _ (count : ℕ) (found : Bool) (t : Piecing S Lines) (drops : DropsLine m count found t) where
+  module _ (count : ℕ) (found : Bool) (t : ReaderState S Lines) (drops : DropsLine m count found t) where
     same_reader : t.reader ≡ m.reader
     same_reader = ap (λ x. x.reader) drops.skips.same
 
@@ -103,7 +103,7 @@ module _ {S : Type 0} (remaining : S → Option (List ℕ)) (s m : Piecing S Lin
             ),
           );
           asked = asked_still;
-          whole = IsPiecing-same m t (ap (λ x. x.decoder) drops.skips.same) drops.skips.whole;
+          whole = IsPieceReader-same m t (ap (λ x. x.decoder) drops.skips.same) drops.skips.whole;
         }
 
     -- no end was there: all that was left is gone
@@ -147,11 +147,11 @@ module _ {S : Type 0} (remaining : S → Option (List ℕ)) (s m : Piecing S Lin
               inr (skip_all.faults, other, omega (arith, above, skip_all.count)),
             );
             asked = skip_all.asked;
-            whole = IsPiecing-same m t (ap (λ x. x.decoder) drops.skips.same) drops.skips.whole;
+            whole = IsPieceReader-same m t (ap (λ x. x.decoder) drops.skips.same) drops.skips.whole;
           }
 
   -- nothing is left, so the stream is asked
-  module _ (none : rest m ≡ []) (answer : Result Bool Error) (t : Piecing S Lines)
+  module _ (none : rest m ≡ []) (answer : Result Bool Error) (t : ReaderState S Lines)
       (r : Refills remaining (lined m.decoder.max) m answer t) where
     all_plain : IsLine (rest s ++ h.went.hands.got)
     all_plain = subst IsLine
@@ -231,7 +231,7 @@ module _ {S : Type 0} (remaining : S → Option (List ℕ)) (s m : Piecing S Lin
           went = came_on;
           answers = (h.plain, f.0, f.2, f.3 ∙ h.no_end, inl (f.4 ∙ ap (λ l. l ++ e ∷ []) h.faults));
           asked = asked_on;
-          whole = IsPiecing-same m t r.went.decoder r.whole;
+          whole = IsPieceReader-same m t r.went.decoder r.whole;
         }
 
     pub skip_ends : answer ≡ Ok false → DropsThrough remaining s (Ok dropped) t
@@ -246,5 +246,5 @@ module _ {S : Type 0} (remaining : S → Option (List ℕ)) (s m : Piecing S Lin
             inr (h.plain, end.0, end.1, MetEnd-joins s m t h.ended h.no_end end.2),
           );
           asked = asked_on;
-          whole = IsPiecing-same m t r.went.decoder r.whole;
+          whole = IsPieceReader-same m t r.went.decoder r.whole;
         }

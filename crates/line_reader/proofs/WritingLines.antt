@@ -12,10 +12,10 @@ use Rattle.line_reader.specs.WrittenLines.{StopsInLine}
 use Rattle.codec.specs.PayloadsLaws.{before, parted}
 
 -- these lines were taken in, one after another
-pub record WroteLines {S P : Type 0} (stretch : S → S → Type 0) (s : Buffered S P) (lines : List (List ℕ)) (t : Buffered S P)
+pub record WroteLines {S P : Type 0} (trace : S → S → Type 0) (s : Buffered S P) (lines : List (List ℕ)) (t : Buffered S P)
     : Type 0 where
   pub in_order : WritesInOrder s (with_ends lines) t
-  pub went : stretch s.inner t.inner
+  pub went : trace s.inner t.inner
 
 -- a beginning of what comes behind what was taken in is a beginning of all
 pub begins_after : {S P : Type 0} (s m t : Buffered S P) (front bytes behind all : List ℕ) → all ≡ front ++ (bytes ++ behind)
@@ -54,9 +54,9 @@ module _ {S P : Type 0} (line : List ℕ) (s t : Buffered S P) where
   end_begins m wrote took = begins_after s m t line (newline ∷ []) [] (with_end line) refl wrote took
 
 module _ {V : Type 0} (f : V → List ℕ) (vs : List V) (i : ℕ) (x : V) (inside : i < length vs)
-    (is : x ≡ get_or vs i x) {S P : Type 0} (stretch : S → S → Type 0)
-    (joins : (a b c : S) → stretch a b → stretch b c → stretch a c) (s m t : Buffered S P)
-    (so_far : WroteLines stretch s (map f (take i vs)) m) where
+    (is : x ≡ get_or vs i x) {S P : Type 0} (trace : S → S → Type 0)
+    (joins : (a b c : S) → trace a b → trace b c → trace a c) (s m t : Buffered S P)
+    (so_far : WroteLines trace s (map f (take i vs)) m) where
   -- the next line was not taken in whole
   pub stops_in : (taken : ℕ) → taken ≡ i → TookBeginning (with_end (f x)) m t → StopsInLine (map f vs) taken s t
   stops_in taken count part =
@@ -70,8 +70,8 @@ module _ {V : Type 0} (f : V → List ℕ) (vs : List V) (i : ℕ) (x : V) (insi
       }
 
   -- the next line was taken in whole
-  pub line_written : WritesInOrder m (with_end (f x)) t → stretch m.inner t.inner
-      → WroteLines stretch s (map f (take (i + 1) vs)) t
+  pub line_written : WritesInOrder m (with_end (f x)) t → trace m.inner t.inner
+      → WroteLines trace s (map f (take (i + 1) vs)) t
   line_written one went =
       let all = WritesInOrder-joins s m t (with_ends (map f (take i vs))) (with_end (f x)) so_far.in_order one in
       let same : with_ends (map f (take (i + 1) vs)) ≡ with_ends (map f (take i vs)) ++ with_end (f x) =
@@ -83,11 +83,11 @@ module _ {V : Type 0} (f : V → List ℕ) (vs : List V) (i : ℕ) (x : V) (insi
       }
 
 -- before the first, and after the last
-pub none_written : {S P : Type 0} (stretch : S → S → Type 0) → ((x : S) → stretch x x) → (s : Buffered S P)
-    → WroteLines stretch s [] s
-none_written stretch none s = record { in_order = WritesInOrder-none s; went = none s.inner }
+pub none_written : {S P : Type 0} (trace : S → S → Type 0) → ((x : S) → trace x x) → (s : Buffered S P)
+    → WroteLines trace s [] s
+none_written trace none s = record { in_order = WritesInOrder-none s; went = none s.inner }
 
-pub all_written : {V S P : Type 0} (f : V → List ℕ) (vs : List V) (i : ℕ) → length vs ≤ i → (stretch : S → S → Type 0)
-    (s t : Buffered S P) → WroteLines stretch s (map f (take i vs)) t → WritesInOrder s (with_ends (map f vs)) t
-all_written f vs i end stretch s t wrote =
+pub all_written : {V S P : Type 0} (f : V → List ℕ) (vs : List V) (i : ℕ) → length vs ≤ i → (trace : S → S → Type 0)
+    (s t : Buffered S P) → WroteLines trace s (map f (take i vs)) t → WritesInOrder s (with_ends (map f vs)) t
+all_written f vs i end trace s t wrote =
     subst (λ l. WritesInOrder s (with_ends (map f l)) t) (take_all i vs end) wrote.in_order

@@ -6,7 +6,7 @@ use Rattle.codec.specs.NextPiece.{PiecesWent}
 use Rattle.codec.specs.Runs.{handed_payload}
 use Rattle.codec.specs.Trimming.{IsTrimmed}
 use Rattle.line_reader.specs.Lines.{IsLine, with_end}
-use Rattle.line_reader.specs.Lining.{Lining}
+use Rattle.line_reader.specs.LineReader.{LineState}
 use Rattle.line_reader.specs.NextLine.{NextAnswer, NextLine, NextTrimmed}
 use Rattle.line_reader.specs.SkipLine.{SkipsLine}
 
@@ -50,8 +50,8 @@ CutsInto ended (Ended ∷ events) after bytes = CutsInto ended events after byte
 -- what any calls do, one after another: what went of a line that was being skipped before them, and the bytes that they took,
 -- are the lines of these events, in order, and then what went of a line that is being skipped. An end of the stream that no
 -- call has told comes first
-pub record LinesAlong {S : Type 0} (remaining : S → Option (List ℕ)) (before : List ℕ) (s : Lining S)
-    (events : List Event) (after : List ℕ) (t : Lining S) : Type 0 where
+pub record LinesAlong {S : Type 0} (remaining : S → Option (List ℕ)) (before : List ℕ) (s : LineState S)
+    (events : List Event) (after : List ℕ) (t : LineState S) : Type 0 where
   pub bytes : List ℕ
   pub went : PiecesWent remaining (1 + s.pieces.decoder.max) s.pieces bytes t.pieces
   pub cut : CutsInto t.pieces.ended events after (before ++ bytes)
@@ -76,7 +76,7 @@ pub data Call : Type 0 where
   Skips : Result ℕ Error → Call
 
 -- what it does
-abbrev pub CallGoes : {S : Type 0} → (S → Option (List ℕ)) → Lining S → Call → Lining S → Type 0
+abbrev pub CallGoes : {S : Type 0} → (S → Option (List ℕ)) → LineState S → Call → LineState S → Type 0
 CallGoes remaining s (Nexts answer) t = NextLine remaining s answer t
 CallGoes remaining s (NextsTrimmed answer) t = NextTrimmed remaining s answer t
 CallGoes remaining s (Skips answer) t = SkipsLine remaining s answer t
@@ -123,8 +123,8 @@ pending false = 0
 
 -- what calls come to that hand out these lines and ask so often for a skip, behind so many bytes of a line that was being
 -- skipped. No more lines are skipped than it was asked for
-pub record CallsWent {S : Type 0} (remaining : S → Option (List ℕ)) (before : List ℕ) (s : Lining S)
-    (lines : List (List ℕ)) (asks : ℕ) (t : Lining S) : Type 0 where
+pub record CallsWent {S : Type 0} (remaining : S → Option (List ℕ)) (before : List ℕ) (s : LineState S)
+    (lines : List (List ℕ)) (asks : ℕ) (t : LineState S) : Type 0 where
   pub events : List Event
   pub after : List ℕ
   pub along : LinesAlong remaining before s events after t

@@ -5,13 +5,13 @@ use Rattle.std.proofs.lemmas.List.Elements.{All-nil, All-append}
 use Rattle.std.specs.declared.io.Error.{Error}
 use Rattle.codec.specs.NextPiece.{PiecesWent}
 use Rattle.codec.specs.PiecesWentLaws.{PiecesWent-joins, PiecesWent-none, PiecesWent-unasked}
-use Rattle.codec.specs.Piecing.{Piecing, rest}
+use Rattle.codec.specs.PieceReader.{ReaderState, rest}
 use Rattle.codec.specs.Trimming.{IsTrimmed}
 use Rattle.line_reader.specs.declared.error.LineError.TheVariants.{TooLong, Io}
 use Rattle.line_reader.specs.Calls.{Handed, Trimmed, Skipped, Ended, Event, LinesAlong, CutsInto, EndNext, next_events, trimmed_events}
 use Rattle.line_reader.specs.declared.line.Lines.{Lines}
 use Rattle.line_reader.specs.Lines.{IsLine, newline, with_end}
-use Rattle.line_reader.specs.Lining.{Lining}
+use Rattle.line_reader.specs.LineReader.{LineState}
 use Rattle.line_reader.specs.NextLine.{NextAnswer, Trims}
 use Rattle.line_reader.specs.NextLineLaws.{IsHanded-fits, NextOpen, same_none}
 use Rattle.line_reader.specs.SkipLine.{IsWithEnd, SkipsLine}
@@ -77,13 +77,13 @@ module _ (was is : Bool) (later : List Event) (told : was ≡ true → EndNext i
 
 module _ {S : Type 0} (remaining : S → Option (List ℕ)) where
   -- calls join, since the lines stay as long
-  pub lines_join : (s m t : Piecing S Lines) (h k : List ℕ) → PiecesWent remaining (1 + s.decoder.max) s h m
+  pub lines_join : (s m t : ReaderState S Lines) (h k : List ℕ) → PiecesWent remaining (1 + s.decoder.max) s h m
       → PiecesWent remaining (1 + m.decoder.max) m k t → PiecesWent remaining (1 + s.decoder.max) s (h ++ k) t
   lines_join s m t h k p q = PiecesWent-joins remaining (1 + s.decoder.max) s m t h k p
       (subst (λ d. PiecesWent remaining (1 + d.max) m k t) p.decoder q)
 
   -- no call does nothing
-  pub LinesAlong-none : (s : Lining S) → LinesAlong remaining [] s [] [] s
+  pub LinesAlong-none : (s : LineState S) → LinesAlong remaining [] s [] [] s
   LinesAlong-none s = record {
     bytes = [];
     went = PiecesWent-none remaining (1 + s.pieces.decoder.max) s.pieces;
@@ -92,7 +92,7 @@ module _ {S : Type 0} (remaining : S → Option (List ℕ)) where
     told = λ ended. ended;
   }
 
-  pub LinesAlong-joins : (s m t : Lining S) (before mid after : List ℕ) (first later : List Event)
+  pub LinesAlong-joins : (s m t : LineState S) (before mid after : List ℕ) (first later : List Event)
       → LinesAlong remaining before s first mid m → LinesAlong remaining mid m later after t
       → LinesAlong remaining before s (first ++ later) after t
   LinesAlong-joins s m t before mid after first later p q = record {
@@ -105,7 +105,7 @@ module _ {S : Type 0} (remaining : S → Option (List ℕ)) where
   }
 
 -- a call of `next` where no line is being skipped
-module _ {S : Type 0} (remaining : S → Option (List ℕ)) (s t : Lining S) where
+module _ {S : Type 0} (remaining : S → Option (List ℕ)) (s t : LineState S) where
   nothing : (answer : NextAnswer) (n : NextOpen remaining s answer t) → n.0.bytes ≡ [] → ¬ (answer ≡ Ok None)
       → LinesAlong remaining [] s [] [] t
   nothing answer n none isnt = record {
@@ -176,7 +176,7 @@ module _ {S : Type 0} (remaining : S → Option (List ℕ)) (s t : Lining S) whe
       subst (λ a. LinesAlong remaining [] s (trimmed_events a) [] t) (sym trims) (NextLine-along (Err e) n)
 
 -- a call of `skip_line`, or the part of another call that goes on skipping, behind so many bytes of the line
-module _ {S : Type 0} (remaining : S → Option (List ℕ)) (s t : Lining S) (before : List ℕ) (plain : IsLine before)
+module _ {S : Type 0} (remaining : S → Option (List ℕ)) (s t : LineState S) (before : List ℕ) (plain : IsLine before)
     (closed : s.skipping ≡ false → before ≡ [])
     (empty : s.pieces.ended ≡ true → (rest s.pieces ≡ []) × (s.skipping ≡ false)) where
   -- behind the end of the stream nothing is dropped

@@ -4,13 +4,13 @@ use Rattle.std.proofs.Common.{sym, ap, subst, ◌∙◌, arith, refl, inl, inr, 
 use Rattle.std.proofs.lemmas.List.Concat.{flat_map-append}
 use Rattle.std.specs.declared.io.Error.{Error}
 use Rattle.codec.specs.PiecesWentLaws.{PiecesWent-none}
-use Rattle.codec.specs.Piecing.{rest}
+use Rattle.codec.specs.PieceReader.{rest}
 use Rattle.codec.specs.Runs.{AnswerRuns, handed_payload}
 use Rattle.line_reader.specs.declared.error.LineError.TheVariants.{Io}
 use Rattle.line_reader.specs.Calls.{Handed, Trimmed, Skipped, Ended, Nexts, NextsTrimmed, Skips, Call, CallGoes, CallsWent, Event, call_asks, call_lines, event_lines, lines_of_calls, lines_of_events, next_events, pending, skip_calls, skipped_count, trimmed_events}
 use Rattle.line_reader.specs.CallsLaws.{CutsInto-after, LinesAlong-joins, NextLine-along, Trims-along, skip_fails, skip_last, skip_none, skip_whole}
 use Rattle.line_reader.specs.Lines.{IsLine}
-use Rattle.line_reader.specs.Lining.{Lining, IsLining}
+use Rattle.line_reader.specs.LineReader.{LineState, IsLineReader}
 use Rattle.line_reader.specs.NextLine.{NextAnswer, NextLine, Trims}
 use Rattle.line_reader.specs.NextLineLaws.{NextLine-whole, NextOpen, SkipsLine-whole, by_skipping}
 use Rattle.line_reader.specs.SkipLine.{SkipsLine}
@@ -36,7 +36,7 @@ trimmed_lines (Ok None) = (refl, refl)
 trimmed_lines (Err e) = (refl, refl)
 
 -- where the stream has ended nothing is left, and no line is being skipped
-pub ended_empty : {S : Type 0} (s : Lining S) → IsLining s → s.pieces.ended ≡ true
+pub ended_empty : {S : Type 0} (s : LineState S) → IsLineReader s → s.pieces.ended ≡ true
     → (rest s.pieces ≡ []) × (s.skipping ≡ false)
 ended_empty s whole ended = (
   whole.whole.ended ended,
@@ -47,7 +47,7 @@ ended_empty s whole ended = (
 )
 
 module _ {S : Type 0} (remaining : S → Option (List ℕ)) where
-  CallsWent-none : (s : Lining S) (before : List ℕ) → IsLine before → (s.skipping ≡ false → before ≡ [])
+  CallsWent-none : (s : LineState S) (before : List ℕ) → IsLine before → (s.skipping ≡ false → before ≡ [])
       → CallsWent remaining before s [] 0 s
   CallsWent-none s before plain closed = record {
     events = [];
@@ -63,7 +63,7 @@ module _ {S : Type 0} (remaining : S → Option (List ℕ)) where
     few = omega arith;
   }
 
-  CallsWent-joins : (s m t : Lining S) (before : List ℕ) (lines later : List (List ℕ)) (asks more : ℕ)
+  CallsWent-joins : (s m t : LineState S) (before : List ℕ) (lines later : List (List ℕ)) (asks more : ℕ)
       (c : CallsWent remaining before s lines asks m) → CallsWent remaining c.after m later more t
       → CallsWent remaining before s (lines ++ later) (asks + more) t
   CallsWent-joins s m t before lines later asks more c d = record {
@@ -77,7 +77,7 @@ module _ {S : Type 0} (remaining : S → Option (List ℕ)) where
   }
 
   -- one call of `next`, or of `next_trimmed`, where no line is being skipped
-  next_plain : (s t : Lining S) (answer : NextAnswer) → NextOpen remaining s answer t
+  next_plain : (s t : LineState S) (answer : NextAnswer) → NextOpen remaining s answer t
       → CallsWent remaining [] s (handed_payload answer) 0 t
   next_plain s t answer n = record {
     events = next_events answer;
@@ -87,7 +87,7 @@ module _ {S : Type 0} (remaining : S → Option (List ℕ)) where
     few = omega (arith, (next_lines answer).1, ap pending n.1);
   }
 
-  trimmed_plain : (s t : Lining S) (whole answer : NextAnswer) → NextOpen remaining s whole t
+  trimmed_plain : (s t : LineState S) (whole answer : NextAnswer) → NextOpen remaining s whole t
       → Trims whole answer t.pieces.ended
       → CallsWent remaining [] s (handed_payload answer) 0 t
   trimmed_plain s t whole answer n trims = record {
@@ -98,8 +98,8 @@ module _ {S : Type 0} (remaining : S → Option (List ℕ)) where
     few = omega (arith, (trimmed_lines answer).1, ap pending n.1);
   }
 
-  module _ (s t : Lining S) (before : List ℕ) (plain : IsLine before) (closed : s.skipping ≡ false → before ≡ [])
-      (whole : IsLining s) where
+  module _ (s t : LineState S) (before : List ℕ) (plain : IsLine before) (closed : s.skipping ≡ false → before ≡ [])
+      (whole : IsLineReader s) where
     -- a skip that ends, and one that fails
     skip_ends : (count : ℕ) (k : SkipsLine remaining s (Ok count) t) (asks : ℕ) → 1 ≤ asks + pending s.skipping
         → CallsWent remaining before s [] asks t
@@ -143,9 +143,9 @@ module _ {S : Type 0} (remaining : S → Option (List ℕ)) where
     }
 
   -- a call that goes on skipping first
-  skips_first : (s t : Lining S) (before : List ℕ) → IsLine before → (s.skipping ≡ false → before ≡ []) → IsLining s
+  skips_first : (s t : LineState S) (before : List ℕ) → IsLine before → (s.skipping ≡ false → before ≡ []) → IsLineReader s
       → (answer : NextAnswer) (lines : List (List ℕ))
-      → ((m : Lining S) → NextOpen remaining m answer t → CallsWent remaining [] m lines 0 t)
+      → ((m : LineState S) → NextOpen remaining m answer t → CallsWent remaining [] m lines 0 t)
       → ((e : Error) → answer ≡ Err (Io e) → lines ≡ []) → NextLine remaining s answer t
       → CallsWent remaining before s lines 0 t
   skips_first s t before plain closed whole answer lines then still =
@@ -159,8 +159,8 @@ module _ {S : Type 0} (remaining : S → Option (List ℕ)) where
       (skip_failed s t before plain closed whole e skips 0 (omega (arith, ap pending is))))
 
   -- one call
-  pub CallGoes-went : (s : Lining S) (call : Call) (t : Lining S) → CallGoes remaining s call t → (before : List ℕ)
-      → IsLine before → (s.skipping ≡ false → before ≡ []) → IsLining s
+  pub CallGoes-went : (s : LineState S) (call : Call) (t : LineState S) → CallGoes remaining s call t → (before : List ℕ)
+      → IsLine before → (s.skipping ≡ false → before ≡ []) → IsLineReader s
       → CallsWent remaining before s (call_lines call) (call_asks call) t
   CallGoes-went s (Nexts answer) t goes before plain closed whole =
       skips_first s t before plain closed whole answer (handed_payload answer) (λ m n. next_plain m t answer n)
@@ -174,14 +174,14 @@ module _ {S : Type 0} (remaining : S → Option (List ℕ)) where
   CallGoes-went s (Skips (Err e)) t k before plain closed whole =
       skip_failed s t before plain closed whole e k 1 (omega arith)
 
-  call_whole : (s : Lining S) (call : Call) (t : Lining S) → CallGoes remaining s call t → IsLining t
+  call_whole : (s : LineState S) (call : Call) (t : LineState S) → CallGoes remaining s call t → IsLineReader t
   call_whole s (Nexts answer) t goes = NextLine-whole remaining s t answer goes
   call_whole s (NextsTrimmed answer) t n = NextLine-whole remaining s t n.whole n.next
   call_whole s (Skips answer) t k = SkipsLine-whole remaining s t answer k
 
   -- what any come to
-  pub Calls-went : (s : Lining S) (calls : List Call) (t : Lining S) → AnswerRuns (CallGoes remaining) s calls t
-      → (before : List ℕ) → IsLine before → (s.skipping ≡ false → before ≡ []) → IsLining s
+  pub Calls-went : (s : LineState S) (calls : List Call) (t : LineState S) → AnswerRuns (CallGoes remaining) s calls t
+      → (before : List ℕ) → IsLine before → (s.skipping ≡ false → before ≡ []) → IsLineReader s
       → CallsWent remaining before s (lines_of_calls calls) (skip_calls calls) t
   Calls-went s [] t same before plain closed whole =
       subst (CallsWent remaining before s [] 0) same (CallsWent-none s before plain closed)

@@ -4,16 +4,16 @@ use Rattle.codec.specs.KnownPieces.{HasLeft, ahead_of}
 use Rattle.codec.specs.Trimming.{IsTrimmed}
 use Rattle.line_reader.specs.Calls.{Handed, Trimmed, Skipped, Ended, Event, lines_of_events}
 use Rattle.line_reader.specs.Lines.{HasLines, IsLine}
-use Rattle.line_reader.specs.Lining.{Lining, lined}
+use Rattle.line_reader.specs.LineReader.{LineState, lined}
 
 -- just these lines are left, and each of them fits; no line is being skipped
-pub record LeavesLines {S : Type 0} (remaining : S → Option (List ℕ)) (f : Lining S) (lines : List (List ℕ)) : Type 0 where
+pub record LeavesLines {S : Type 0} (remaining : S → Option (List ℕ)) (f : LineState S) (lines : List (List ℕ)) : Type 0 where
   pub has : HasLeft remaining (lined f.pieces.decoder.max) f.pieces lines
   pub open' : f.skipping ≡ false
 
 -- the bytes that weren't handed out are known, and behind so many bytes of a line that is being skipped a text of these lines,
 -- of which that line is the first; where the stream has ended there are none
-pub record LeavesBehind {S : Type 0} (remaining : S → Option (List ℕ)) (before : List ℕ) (f : Lining S)
+pub record LeavesBehind {S : Type 0} (remaining : S → Option (List ℕ)) (before : List ℕ) (f : LineState S)
     (lines : List (List ℕ)) : Type 0 where
   pub text : List ℕ
   pub known : ahead_of remaining f.pieces ≡ Some text
@@ -35,7 +35,7 @@ TakesLines lines (Skipped line ∷ events) later =
 TakesLines lines (Ended ∷ events) later = (lines ≡ []) × TakesLines [] events later
 
 -- calls that handed these out took the first of the lines, whole and in order, and the others are left
-pub record TookFront {S : Type 0} (remaining : S → Option (List ℕ)) (lines handed : List (List ℕ)) (t : Lining S)
+pub record TookFront {S : Type 0} (remaining : S → Option (List ℕ)) (lines handed : List (List ℕ)) (t : LineState S)
     : Type 0 where
   pub events : List Event
   pub later : List (List ℕ)

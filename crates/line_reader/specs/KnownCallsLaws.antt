@@ -12,7 +12,7 @@ use Rattle.codec.specs.KnownPieces.{ahead_of}
 use Rattle.codec.specs.KnownPiecesLaws.{PiecesWent-dry, PiecesWent-front}
 use Rattle.codec.specs.NextPiece.{MetEnd, PiecesWent}
 use Rattle.codec.specs.PiecesWentLaws.{drop_none}
-use Rattle.codec.specs.Piecing.{IsFresh, rest}
+use Rattle.codec.specs.PieceReader.{IsFresh, rest}
 use Rattle.codec.specs.Runs.{AnswerRuns, handed_payload}
 use Rattle.codec.specs.Trimming.{IsTrimmed}
 use Rattle.line_reader.specs.declared.error.LineError.TheVariants.{TooLong, Io}
@@ -20,7 +20,7 @@ use Rattle.line_reader.specs.Calls.{Handed, Trimmed, Skipped, Ended, Nexts, Next
 use Rattle.line_reader.specs.CallsLaws.{no_line}
 use Rattle.line_reader.specs.KnownCalls.{LeavesBehind, LeavesLines, TakesLines, TookFront}
 use Rattle.line_reader.specs.Lines.{HasLines, IsLine, newline, with_end}
-use Rattle.line_reader.specs.Lining.{Lining}
+use Rattle.line_reader.specs.LineReader.{LineState}
 use Rattle.line_reader.specs.NextLine.{NextAnswer, NextLine, Trims}
 use Rattle.line_reader.specs.NextLineLaws.{IsHanded-fits, NextOpen, by_skipping}
 use Rattle.line_reader.specs.SkipLine.{SkipsLine}
@@ -41,7 +41,7 @@ TakesLines-joins (Ended ∷ first) lines mid then later (is, more_takes) takes =
 
 module _ {S : Type 0} (remaining : S → Option (List ℕ)) where
   -- a fresh reader leaves what its stream has
-  pub LeavesBehind-fresh : (tells : S → StreamLog) (least most : ℕ) (stream : S) (f : Lining S) (text : List ℕ)
+  pub LeavesBehind-fresh : (tells : S → StreamLog) (least most : ℕ) (stream : S) (f : LineState S) (text : List ℕ)
       (lines : List (List ℕ)) → IsFresh tells least most stream f.pieces.decoder f.pieces → remaining stream ≡ Some text
       → HasLines text lines → LeavesBehind remaining [] f lines
   LeavesBehind-fresh tells least most stream f text lines fresh known has = record {
@@ -57,7 +57,7 @@ module _ {S : Type 0} (remaining : S → Option (List ℕ)) where
   }
 
   -- a reader that has just these lines left, which fit, leaves them
-  pub LeavesBehind-of : (f : Lining S) (lines : List (List ℕ)) → LeavesLines remaining f lines
+  pub LeavesBehind-of : (f : LineState S) (lines : List (List ℕ)) → LeavesLines remaining f lines
       → LeavesBehind remaining [] f lines
   LeavesBehind-of f lines left = record {
     text = left.has.text;
@@ -69,18 +69,18 @@ module _ {S : Type 0} (remaining : S → Option (List ℕ)) where
   }
 
   -- nothing went of a line, where none is being skipped
-  none_before : (f : Lining S) (before : List ℕ) (lines : List (List ℕ)) → f.skipping ≡ false
+  none_before : (f : LineState S) (before : List ℕ) (lines : List (List ℕ)) → f.skipping ≡ false
       → LeavesBehind remaining before f lines → LeavesBehind remaining [] f lines
   none_before f before lines open' b = subst (λ l. LeavesBehind remaining l f lines) (b.closed open') b
 
   -- the front of the lines went by these events
-  front : (lines : List (List ℕ)) (t : Lining S) (events : List Event) (later : List (List ℕ)) (after : List ℕ)
+  front : (lines : List (List ℕ)) (t : LineState S) (events : List Event) (later : List (List ℕ)) (after : List ℕ)
       → TakesLines lines events later → LeavesBehind remaining after t later
       → TookFront remaining lines (lines_of_events events) t
   front lines t events later after takes left =
       record { events = events; later = later; takes = takes; same = refl; before = after; left = left }
 
-  TookFront-joins : (m t : Lining S) (lines handed then : List (List ℕ)) (f : TookFront remaining lines handed m)
+  TookFront-joins : (m t : LineState S) (lines handed then : List (List ℕ)) (f : TookFront remaining lines handed m)
       → TookFront remaining f.later then t → TookFront remaining lines (handed ++ then) t
   TookFront-joins m t lines handed then f g = record {
     events = f.events ++ g.events;
@@ -94,11 +94,11 @@ module _ {S : Type 0} (remaining : S → Option (List ℕ)) where
   }
 
 -- the end of the stream is behind these bytes, where it was met
-abbrev Quiet : {S : Type 0} → Lining S → List ℕ → Lining S → Type 0
+abbrev Quiet : {S : Type 0} → LineState S → List ℕ → LineState S → Type 0
 Quiet s after t = t.pieces.ended ≡ true → (after ≡ []) × (rest t.pieces ≡ []) × MetEnd s.pieces t.pieces
 
 -- what is left of a known text behind some bytes that went, the last of which are the beginning of a line
-module _ {S : Type 0} (remaining : S → Option (List ℕ)) (s t : Lining S) (before : List ℕ) (lines : List (List ℕ))
+module _ {S : Type 0} (remaining : S → Option (List ℕ)) (s t : LineState S) (before : List ℕ) (lines : List (List ℕ))
     (b : LeavesBehind remaining before s lines) (bytes : List ℕ)
     (went : PiecesWent remaining (1 + s.pieces.decoder.max) s.pieces bytes t.pieces) (after : List ℕ) (plain : IsLine after)
     (closed : t.skipping ≡ false → after ≡ []) (quiet : Quiet s after t) where
@@ -169,7 +169,7 @@ module _ {S : Type 0} (remaining : S → Option (List ℕ)) (s t : Lining S) (be
       )
 
 -- one call of `next` where no line is being skipped
-module _ {S : Type 0} (remaining : S → Option (List ℕ)) (s t : Lining S) (lines : List (List ℕ))
+module _ {S : Type 0} (remaining : S → Option (List ℕ)) (s t : LineState S) (lines : List (List ℕ))
     (b : LeavesBehind remaining [] s lines) where
   next_quiet : (answer : NextAnswer) → NextOpen remaining s answer t → Quiet s [] t
   next_quiet (Ok (Some line)) (next, open') ended = elim next.answers.1 [
@@ -228,7 +228,7 @@ module _ {S : Type 0} (remaining : S → Option (List ℕ)) (s t : Lining S) (li
       subst (λ a. TookFront remaining lines (handed_payload a) t) (sym trims) (next_takes (Err e) n)
 
 -- a skip, or the part of a call that goes on skipping
-module _ {S : Type 0} (remaining : S → Option (List ℕ)) (s t : Lining S) (before : List ℕ) (lines : List (List ℕ))
+module _ {S : Type 0} (remaining : S → Option (List ℕ)) (s t : LineState S) (before : List ℕ) (lines : List (List ℕ))
     (b : LeavesBehind remaining before s lines) where
   skip_takes : (count : ℕ) → SkipsLine remaining s (Ok count) t → TookFront remaining lines [] t
   skip_takes count k =
@@ -269,9 +269,9 @@ module _ {S : Type 0} (remaining : S → Option (List ℕ)) (s t : Lining S) (be
 
 module _ {S : Type 0} (remaining : S → Option (List ℕ)) where
   -- a call that goes on skipping first
-  goes_takes : (s t : Lining S) (before : List ℕ) (lines handed : List (List ℕ)) → LeavesBehind remaining before s lines
+  goes_takes : (s t : LineState S) (before : List ℕ) (lines handed : List (List ℕ)) → LeavesBehind remaining before s lines
       → (answer : NextAnswer)
-      → ((m : Lining S) (some : List (List ℕ)) → LeavesBehind remaining [] m some → NextOpen remaining m answer t
+      → ((m : LineState S) (some : List (List ℕ)) → LeavesBehind remaining [] m some → NextOpen remaining m answer t
       → TookFront remaining some handed t)
       → ((e : Error) → answer ≡ Err (Io e) → handed ≡ []) → NextLine remaining s answer t
       → TookFront remaining lines handed t
@@ -285,7 +285,7 @@ module _ {S : Type 0} (remaining : S → Option (List ℕ)) where
       (λ e is skips fails. subst (λ l. TookFront remaining lines l t) (sym (still e fails))
       (skip_failed_takes remaining s t before lines b e skips))
 
-  call_takes : (s : Lining S) (call : Call) (t : Lining S) → CallGoes remaining s call t → (before : List ℕ)
+  call_takes : (s : LineState S) (call : Call) (t : LineState S) → CallGoes remaining s call t → (before : List ℕ)
       (lines : List (List ℕ)) → LeavesBehind remaining before s lines → TookFront remaining lines (call_lines call) t
   call_takes s (Nexts answer) t goes before lines b =
       goes_takes s t before lines (handed_payload answer) b answer (λ m some has n. next_takes remaining m t some has answer n)
@@ -298,7 +298,7 @@ module _ {S : Type 0} (remaining : S → Option (List ℕ)) where
   call_takes s (Skips (Err e)) t k before lines b = skip_failed_takes remaining s t before lines b e k
 
   -- any calls, one after another
-  pub Calls-takes : (s : Lining S) (calls : List Call) (t : Lining S) → AnswerRuns (CallGoes remaining) s calls t
+  pub Calls-takes : (s : LineState S) (calls : List Call) (t : LineState S) → AnswerRuns (CallGoes remaining) s calls t
       → (before : List ℕ) (lines : List (List ℕ)) → LeavesBehind remaining before s lines
       → TookFront remaining lines (lines_of_calls calls) t
   Calls-takes s [] t same before lines b = record {

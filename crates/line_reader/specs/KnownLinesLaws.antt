@@ -10,17 +10,17 @@ use Rattle.line_reader.specs.declared.error.LineError.TheVariants.{TooLong, Io}
 use Rattle.line_reader.specs.declared.line.Lines.{Lines}
 use Rattle.line_reader.specs.KnownCalls.{LeavesLines}
 use Rattle.line_reader.specs.Lines.{newline}
-use Rattle.line_reader.specs.Lining.{Lining, lined}
+use Rattle.line_reader.specs.LineReader.{LineState, lined}
 use Rattle.line_reader.specs.NextLine.{NextAnswer, NextLine, piece_answer}
 use Rattle.line_reader.specs.NextLineLaws.{NextLine-open}
 
-module _ {S : Type 0} (remaining : S → Option (List ℕ)) (s : Lining S) where
-  abbrev KnownAs : (answer : NextAnswer) → List (List ℕ) → Lining S → Type 0
+module _ {S : Type 0} (remaining : S → Option (List ℕ)) (s : LineState S) where
+  abbrev KnownAs : (answer : NextAnswer) → List (List ℕ) → LineState S → Type 0
   KnownAs answer lines t =
       AnswersKnown (λ f. HasLeft remaining (lined f.decoder.max) f) (λ f. f.reader.log.reads.faults) why.Io s.pieces
       (piece_answer answer) lines t.pieces
 
-  lines_known : (answer : NextAnswer) (lines : List (List ℕ)) (t : Lining S) → KnownAs answer lines t → t.skipping ≡ false
+  lines_known : (answer : NextAnswer) (lines : List (List ℕ)) (t : LineState S) → KnownAs answer lines t → t.skipping ≡ false
       → AnswersKnown (LeavesLines remaining) (λ f. f.pieces.reader.log.reads.faults) Io s answer lines t
   lines_known (Ok (Some found)) [] t a open' = a
   lines_known (Ok (Some found)) (line ∷ later) t a open' = (a.0, record { has = a.1; open' = open' }, a.2)
@@ -33,7 +33,7 @@ module _ {S : Type 0} (remaining : S → Option (List ℕ)) (s : Lining S) where
     λ x is. a.2 x (let same : e ≡ x = cc in ap (λ y. why.Io y) same),
   )
 
-  pub NextLine-answers : (answer : NextAnswer) (lines : List (List ℕ)) (t : Lining S) → LeavesLines remaining s lines
+  pub NextLine-answers : (answer : NextAnswer) (lines : List (List ℕ)) (t : LineState S) → LeavesLines remaining s lines
       → NextLine remaining s answer t
       → AnswersKnown (LeavesLines remaining) (λ f. f.pieces.reader.log.reads.faults) Io s answer lines t
   NextLine-answers answer lines t left line =

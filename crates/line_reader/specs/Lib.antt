@@ -1,6 +1,6 @@
 pub use Rattle.codec.specs.KnownPieces
 pub use Rattle.codec.specs.NextPiece
-pub use Rattle.codec.specs.Piecing
+pub use Rattle.codec.specs.PieceReader
 pub mod Calls
 pub mod CallsLaws
 pub mod CallsWentLaws
@@ -11,7 +11,7 @@ pub mod LineError
 pub mod Lines
 pub mod LinesAlongLaws
 pub mod LinesLaws
-pub mod Lining
+pub mod LineReader
 pub mod NextLine
 pub mod NextLineLaws
 pub mod Played

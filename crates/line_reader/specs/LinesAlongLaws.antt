@@ -11,7 +11,7 @@ use Rattle.codec.specs.Grammar.{Begins}
 use Rattle.codec.specs.NextPiece.{Faulted, NoFault, StaysLeft, answer_of}
 use Rattle.codec.specs.NextPieceLaws.{AsksNone-settled}
 use Rattle.codec.specs.PiecesWentLaws.{PiecesWent-unasked}
-use Rattle.codec.specs.Piecing.{rest}
+use Rattle.codec.specs.PieceReader.{rest}
 use Rattle.line_reader.specs.declared.error.LineError.{LineError}
 use Rattle.line_reader.specs.declared.error.LineError.TheVariants.{TooLong, Io}
 use Rattle.line_reader.specs.Calls.{Event, LinesAlong, Skipped, trimmed_events}
@@ -19,16 +19,16 @@ use Rattle.line_reader.specs.CallsLaws.{LinesAlong-joins, NextLine-along, Trims-
 use Rattle.line_reader.specs.CallsWentLaws.{ended_empty}
 use Rattle.line_reader.specs.Lines.{BeginsTooLong, IsLine, newline}
 use Rattle.line_reader.specs.LinesLaws.{front_plain, line_or_end, line_or_long, no-end-within, too_long-append}
-use Rattle.line_reader.specs.Lining.{HasLine, IsLining, Lining, lined}
+use Rattle.line_reader.specs.LineReader.{HasLine, IsLineReader, LineState, lined}
 use Rattle.line_reader.specs.NextLine.{NextAnswer, NextBuffered, NextLine, NextTrimmed, Trims, piece_answer}
 use Rattle.line_reader.specs.NextLineLaws.{NextLine-open, NextOpen, NextPiece-long, by_skipping}
 use Rattle.line_reader.specs.SkipLine.{IsWithEnd, SkipsLine}
 
 -- why a call failed: this error is the one fault that the stream met; or more than 2^63 bytes of a line were dropped
-abbrev pub LineFails : {S : Type 0} → Lining S → Error → Lining S → Type 0
+abbrev pub LineFails : {S : Type 0} → LineState S → Error → LineState S → Type 0
 LineFails s e t = Faulted s.pieces e t.pieces ⊎ (NoFault s.pieces t.pieces × (error_kind e ≡ Other))
 
-module _ {S : Type 0} (remaining : S → Option (List ℕ)) (s t : Lining S) where
+module _ {S : Type 0} (remaining : S → Option (List ℕ)) (s t : LineState S) where
   -- the arms of `match reader.next()`
   pub NextLine-some : (r : Result (Option (Bor (List ℕ))) LineError) (found : Option (Bor (List ℕ))) (line : Bor (List ℕ))
       → r ≡ Ok found → found ≡ Some line → NextLine remaining s (answer_of r) t
@@ -114,7 +114,7 @@ module _ {S : Type 0} (remaining : S → Option (List ℕ)) (s t : Lining S) whe
   NextTrimmed-failed e n = NextLine-failed e (NextTrimmed-fails (Io e) n)
 
 -- an end of a line settles what the next call answers
-pub HasLine-end : {S : Type 0} (s : Lining S) → s.skipping ≡ false → ¬ (IsLine (rest s.pieces)) → HasLine s
+pub HasLine-end : {S : Type 0} (s : LineState S) → s.skipping ≡ false → ¬ (IsLine (rest s.pieces)) → HasLine s
 HasLine-end s open' isnt =
     let max = s.pieces.decoder.max in
     elim (line_or_end (rest s.pieces)) [
@@ -128,7 +128,7 @@ HasLine-end s open' isnt =
       }
     ]
 
-module _ {S : Type 0} (remaining : S → Option (List ℕ)) (s t : Lining S) where
+module _ {S : Type 0} (remaining : S → Option (List ℕ)) (s t : LineState S) where
   -- where the next call answers without the stream, it does
   pub NextLine-quiet : (answer : NextAnswer) → HasLine s → NextLine remaining s answer t
       → t.pieces.reader.log ≡ s.pieces.reader.log
@@ -156,7 +156,7 @@ module _ {S : Type 0} (remaining : S → Option (List ℕ)) (s t : Lining S) whe
 abbrev pub IsSkip : List Event → Type 0
 IsSkip events = ((line : List ℕ) × (events ≡ Skipped line ∷ [])) ⊎ (events ≡ [])
 
-module _ {S : Type 0} (remaining : S → Option (List ℕ)) (s t : Lining S) (whole : IsLining s) (count : ℕ)
+module _ {S : Type 0} (remaining : S → Option (List ℕ)) (s t : LineState S) (whole : IsLineReader s) (count : ℕ)
     (k : SkipsLine remaining s (Ok count) t) where
   skips_rest : (bytes : List ℕ) → k.drops.bytes ≡ bytes → IsLine k.drops.bytes → t.pieces.ended ≡ true
       → (events : List Event) × IsSkip events × LinesAlong remaining [] s events [] t
@@ -180,7 +180,7 @@ module _ {S : Type 0} (remaining : S → Option (List ℕ)) (s t : Lining S) (wh
   ]
 
 -- a line that is too long, and then skipped
-module _ {S : Type 0} (remaining : S → Option (List ℕ)) (s m t : Lining S) (max : ℕ) (open' : s.skipping ≡ false)
+module _ {S : Type 0} (remaining : S → Option (List ℕ)) (s m t : LineState S) (max : ℕ) (open' : s.skipping ≡ false)
     (met : NextLine remaining s (Err (TooLong max)) m) where
   refused : NextOpen remaining s (Err (TooLong max)) m
   refused = NextLine-open remaining s m (Err (TooLong max)) open' met

@@ -7,7 +7,7 @@ use Rattle.std.proofs.lemmas.List.Elements.{All-nil, All-cons, All-head, All-tai
 use Rattle.codec.specs.DelimitedLaws.{end-within, first_end, isnt_end}
 use Rattle.codec.specs.Grammar.{Begins}
 use Rattle.line_reader.specs.Lines.{newline, BeginsTooLong, IsLine, with_end}
-use Rattle.line_reader.specs.Lining.{lined}
+use Rattle.line_reader.specs.LineReader.{lined}
 
 -- the end of a line of at most max bytes is one of the first max + 1
 pub no-end-within : (line more : List ℕ) (max : ℕ) → length line ≤ max

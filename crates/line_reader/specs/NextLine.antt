@@ -8,7 +8,7 @@ use Rattle.codec.specs.NextPiece.{NextPiece}
 use Rattle.codec.specs.Trimming.{IsTrimmed}
 use Rattle.line_reader.specs.declared.error.LineError.{LineError}
 use Rattle.line_reader.specs.declared.error.LineError.TheVariants.{TooLong, Io}
-use Rattle.line_reader.specs.Lining.{Lining, lined}
+use Rattle.line_reader.specs.LineReader.{LineState, lined}
 use Rattle.line_reader.specs.SkipLine.{SkipsLine}
 
 -- what a call of `next` answers: a line, `None` at the end, or why there is no line
@@ -22,20 +22,21 @@ piece_answer (Err (TooLong n)) = Err (why.Wrong (record { 0 = n }))
 piece_answer (Err (Io e)) = Err (why.Io e)
 
 -- where a line was being skipped, it came to its end
-abbrev pub SkipsFirst : {S : Type 0} → (S → Option (List ℕ)) → Lining S → Lining S → Type 0
+abbrev pub SkipsFirst : {S : Type 0} → (S → Option (List ℕ)) → LineState S → LineState S → Type 0
 SkipsFirst remaining s t =
     ((s.skipping ≡ false) × (t ≡ s)) ⊎ ((s.skipping ≡ true) × (count : ℕ) × SkipsLine remaining s (Ok count) t)
 
 -- what one call of `next` does. A line that is being skipped is skipped first: then it is a call of a reader of pieces; or the
 -- skip failed, and so did the call
-abbrev pub NextLine : {S : Type 0} → (S → Option (List ℕ)) → Lining S → NextAnswer → Lining S → Type 0
+abbrev pub NextLine : {S : Type 0} → (S → Option (List ℕ)) → LineState S → NextAnswer → LineState S → Type 0
 NextLine {S} remaining s answer t =
-    ((m : Lining S) × SkipsFirst remaining s m
+    ((m : LineState S) × SkipsFirst remaining s m
     × NextPiece remaining (lined m.pieces.decoder.max) m.pieces (piece_answer answer) t.pieces × (t.skipping ≡ false))
     ⊎ ((s.skipping ≡ true) × (e : Error) × SkipsLine remaining s (Err e) t × (answer ≡ Err (Io e)))
 
 -- what `next_buffered` does: what a reader of pieces does, which finds none while a line is being skipped
-pub record NextBuffered {S : Type 0} (remaining : S → Option (List ℕ)) (s : Lining S) (found : Option (List ℕ)) (t : Lining S)
+pub record NextBuffered {S : Type 0} (remaining : S → Option (List ℕ)) (s : LineState S) (found : Option (List ℕ))
+    (t : LineState S)
     : Type 0 where
   pub piece : pieces.NextBuffered remaining (lined s.pieces.decoder.max) s.pieces found t.pieces
   pub open' : IfSome found (λ _. s.skipping ≡ false)
@@ -50,7 +51,7 @@ Trims (Ok None) answer ended = answer ≡ Ok None
 Trims (Err e) answer ended = answer ≡ Err e
 
 -- what one call of `next_trimmed` does: what `next` does, and its line is trimmed
-pub record NextTrimmed {S : Type 0} (remaining : S → Option (List ℕ)) (s : Lining S) (answer : NextAnswer) (t : Lining S)
+pub record NextTrimmed {S : Type 0} (remaining : S → Option (List ℕ)) (s : LineState S) (answer : NextAnswer) (t : LineState S)
     : Type 0 where
   pub whole : NextAnswer
   pub next : NextLine remaining s whole t

@@ -8,11 +8,11 @@ use Rattle.codec.specs.declared.error.NextError.TheVariants.{Wrong}
 use Rattle.codec.specs.DelimitedLaws.{open_plain}
 use Rattle.codec.specs.Grammar.{IsOpen}
 use Rattle.codec.specs.NextPiece.{IsHanded, NextPiece, NoEnd}
-use Rattle.codec.specs.Piecing.{IsPiecing, Piecing, rest}
+use Rattle.codec.specs.PieceReader.{IsPieceReader, ReaderState, rest}
 use Rattle.line_reader.specs.declared.error.LineError.TheVariants.{TooLong, Io}
 use Rattle.line_reader.specs.declared.line.Lines.{Lines}
 use Rattle.line_reader.specs.Lines.{BeginsTooLong, FitsLine, IsLine, IsUnended, newline, with_end}
-use Rattle.line_reader.specs.Lining.{IsLining, Lining, lined}
+use Rattle.line_reader.specs.LineReader.{IsLineReader, LineState, lined}
 use Rattle.line_reader.specs.NextLine.{NextAnswer, NextLine, piece_answer}
 use Rattle.line_reader.specs.SkipLine.{SkipsLine}
 
@@ -33,7 +33,7 @@ same_long (Err (TooLong n)) e is = (let same : e ≡ record { 0 = n } = cc in ap
 same_long (Err (Io x)) e is = cc
 
 -- a piece that is handed out is a line that fits
-pub IsHanded-fits : {S D : Type 0} (max : ℕ) (s t : Piecing S D) (line bytes : List ℕ)
+pub IsHanded-fits : {S D : Type 0} (max : ℕ) (s t : ReaderState S D) (line bytes : List ℕ)
     → IsHanded (lined max) s line bytes t → FitsLine max line
 IsHanded-fits max s t line bytes (inl (is, going, none)) = record { plain = is.plain; fits = is.fits }
 IsHanded-fits max s t line bytes (inr (is, open', some, none, ended, met)) =
@@ -41,7 +41,8 @@ IsHanded-fits max s t line bytes (inr (is, open', some, none, ended, met)) =
     record { plain = subst IsLine (sym is) p.0; fits = omega (arith, p.1, ap length is) }
 
 -- a line that was handed out had its end where the stream didn't end behind it, and else it had none
-module _ {S D : Type 0} (max : ℕ) (s t : Piecing S D) (line bytes : List ℕ) (handed : IsHanded (lined max) s line bytes t) where
+module _ {S D : Type 0} (max : ℕ) (s t : ReaderState S D) (line bytes : List ℕ)
+    (handed : IsHanded (lined max) s line bytes t) where
   pub IsHanded-end : t.ended ≡ false → bytes ≡ with_end line
   IsHanded-end going = elim handed [
     | inl whole ↦ whole.0.equal
@@ -55,7 +56,7 @@ module _ {S D : Type 0} (max : ℕ) (s t : Piecing S D) (line bytes : List ℕ) 
   ]
 
 -- a line that is too long stays at the front, and no end was met
-pub NextPiece-long : {S D : Type 0} (remaining : S → Option (List ℕ)) (max : ℕ) (s t : Piecing S D) (e : piece.TooLong)
+pub NextPiece-long : {S D : Type 0} (remaining : S → Option (List ℕ)) (max : ℕ) (s t : ReaderState S D) (e : piece.TooLong)
     → NextPiece remaining (lined max) s (Err (Wrong e)) t → BeginsTooLong max (rest t) × NoEnd s t
 NextPiece-long remaining max s t e next = elim next.answers.3 [
   | inl (wrong, none) ↦ (record { above = wrong.above; plain = wrong.plain }, none)
@@ -68,20 +69,21 @@ open_unended max bytes is = (let p = open_plain newline max bytes is in record {
 
 -- a reader over the same lines, and one behind a call
 module _ {S : Type 0} where
-  pub IsLining-open : (f : Lining S) → IsPiecing (lined f.pieces.decoder.max) f.pieces → f.skipping ≡ false → IsLining f
-  IsLining-open f whole open' = record {
+  pub IsLineReader-open : (f : LineState S) → IsPieceReader (lined f.pieces.decoder.max) f.pieces → f.skipping ≡ false
+      → IsLineReader f
+  IsLineReader-open f whole open' = record {
     whole = whole;
     skipped = λ is. absurd (true≢false (sym is ∙ open'));
     goes_on = λ is. absurd (true≢false (sym is ∙ open'));
   }
 
-  pub IsPiecing-same : (s t : Piecing S Lines) → t.decoder ≡ s.decoder → IsPiecing (lined s.decoder.max) t
-      → IsPiecing (lined t.decoder.max) t
-  IsPiecing-same s t same = subst (λ d. IsPiecing (lined d.max) t) (sym same)
+  pub IsPieceReader-same : (s t : ReaderState S Lines) → t.decoder ≡ s.decoder → IsPieceReader (lined s.decoder.max) t
+      → IsPieceReader (lined t.decoder.max) t
+  IsPieceReader-same s t same = subst (λ d. IsPieceReader (lined d.max) t) (sym same)
 
-  pub SkipsLine-whole : (remaining : S → Option (List ℕ)) (s t : Lining S) (answer : Result ℕ Error)
-      → SkipsLine remaining s answer t → IsLining t
-  SkipsLine-whole remaining s t (Ok count) k = IsLining-open t k.drops.whole k.skipping
+  pub SkipsLine-whole : (remaining : S → Option (List ℕ)) (s t : LineState S) (answer : Result ℕ Error)
+      → SkipsLine remaining s answer t → IsLineReader t
+  SkipsLine-whole remaining s t (Ok count) k = IsLineReader-open t k.drops.whole k.skipping
   SkipsLine-whole remaining s t (Err e) k = record {
     whole = k.drops.whole;
     skipped = λ _. k.drops.answers.1;
@@ -90,23 +92,23 @@ module _ {S : Type 0} where
 
 -- what one call comes to
 module _ {S : Type 0} (remaining : S → Option (List ℕ)) where
-  abbrev pub NextOpen : Lining S → NextAnswer → Lining S → Type 0
+  abbrev pub NextOpen : LineState S → NextAnswer → LineState S → Type 0
   NextOpen s answer t =
       NextPiece remaining (lined s.pieces.decoder.max) s.pieces (piece_answer answer) t.pieces × (t.skipping ≡ false)
 
-  module _ (s t : Lining S) (answer : NextAnswer) where
+  module _ (s t : LineState S) (answer : NextAnswer) where
     -- where no line is being skipped it is one of a reader of pieces
     pub NextLine-of : s.skipping ≡ false → NextOpen s answer t → NextLine remaining s answer t
     NextLine-of open' (next, after) = inl (s, inl (open', refl), next, after)
 
     -- else that is skipped first
-    pub NextLine-behind : s.skipping ≡ true → (m : Lining S) (count : ℕ) → SkipsLine remaining s (Ok count) m
+    pub NextLine-behind : s.skipping ≡ true → (m : LineState S) (count : ℕ) → SkipsLine remaining s (Ok count) m
         → NextOpen m answer t → NextLine remaining s answer t
     NextLine-behind is m count skips (next, after) = inl (m, inr (is, count, skips), next, after)
 
     -- by whether one is
     pub by_skipping : (P : Type 0) → (s.skipping ≡ false → NextOpen s answer t → P)
-        → ((m : Lining S) (count : ℕ) → s.skipping ≡ true → SkipsLine remaining s (Ok count) m → NextOpen m answer t → P)
+        → ((m : LineState S) (count : ℕ) → s.skipping ≡ true → SkipsLine remaining s (Ok count) m → NextOpen m answer t → P)
         → ((e : Error) → s.skipping ≡ true → SkipsLine remaining s (Err e) t → answer ≡ Err (Io e) → P)
         → NextLine remaining s answer t → P
     by_skipping P plain first still (inl (m, inl (open', same), next, after)) =
@@ -118,10 +120,10 @@ module _ {S : Type 0} (remaining : S → Option (List ℕ)) where
     NextLine-open open' = by_skipping (NextOpen s answer t) (λ _ next. next)
         (λ m count is skips next. absurd (true≢false (sym is ∙ open'))) (λ e is skips fails. absurd (true≢false (sym is ∙ open')))
 
-    pub NextOpen-whole : NextOpen s answer t → IsLining t
+    pub NextOpen-whole : NextOpen s answer t → IsLineReader t
     NextOpen-whole (next, after) =
-        IsLining-open t (IsPiecing-same s.pieces t.pieces next.went.decoder next.whole) after
+        IsLineReader-open t (IsPieceReader-same s.pieces t.pieces next.went.decoder next.whole) after
 
-  pub NextLine-whole : (s t : Lining S) (answer : NextAnswer) → NextLine remaining s answer t → IsLining t
-  NextLine-whole s t answer = by_skipping s t answer (IsLining t) (λ _. NextOpen-whole s t answer)
+  pub NextLine-whole : (s t : LineState S) (answer : NextAnswer) → NextLine remaining s answer t → IsLineReader t
+  NextLine-whole s t answer = by_skipping s t answer (IsLineReader t) (λ _. NextOpen-whole s t answer)
       (λ m count is skips. NextOpen-whole m t answer) (λ e is skips fails. SkipsLine-whole remaining s t (Err e) skips)

@@ -1,7 +1,7 @@
 -- Calls of a reader of lines as they were asked for, and what was recorded of them.
 use Rattle.std.specs.Prelude.{◌≡◌, ℕ, ◌<◌, ◌≤◌, ◌⊎◌, List, [], ◌∷◌, ◌++◌, length, map, Option}
 use Rattle.line_reader.specs.Calls.{Call, CallGoes, Nexts, NextsTrimmed, Skips, call_lines}
-use Rattle.line_reader.specs.Lining.{Lining}
+use Rattle.line_reader.specs.LineReader.{LineState}
 use Rattle.codec.specs.Runs.{AnswerRuns, kept_answer}
 use Rattle.line_reader.specs.declared.laws.calls.Ask.{Ask}
 use Rattle.line_reader.specs.declared.laws.calls.Ask.TheVariants as ask
@@ -21,14 +21,14 @@ asked (NextsTrimmed answer) = ask.NextTrimmed
 asked (Skips answer) = ask.SkipLine
 
 -- this call was made as it was asked for
-pub record CallMade {S : Type 0} (remaining : S → Option (List ℕ)) (s : Lining S) (wanted : Ask) (call : Call)
-    (t : Lining S) : Type 0 where
+pub record CallMade {S : Type 0} (remaining : S → Option (List ℕ)) (s : LineState S) (wanted : Ask) (call : Call)
+    (t : LineState S) : Type 0 where
   pub asked : asked call ≡ wanted
   pub goes : CallGoes remaining s call t
 
 -- just these calls were made, and the record gained them
-pub record CallsPlayed {S : Type 0} (remaining : S → Option (List ℕ)) (s : Lining S) (asks : List Ask)
-    (old new : List Call) (t : Lining S) : Type 0 where
+pub record CallsPlayed {S : Type 0} (remaining : S → Option (List ℕ)) (s : LineState S) (asks : List Ask)
+    (old new : List Call) (t : LineState S) : Type 0 where
   pub calls : List Call
   pub gained : new ≡ old ++ calls
   pub all : map asked calls ≡ asks
@@ -36,8 +36,8 @@ pub record CallsPlayed {S : Type 0} (remaining : S → Option (List ℕ)) (s : L
 
 -- the first of these calls were made, and the record gained them. It had room for so many, and was full, so no further call was
 -- begun; or one more was made, and the line that it handed out is lost
-pub record CallsStopped {S : Type 0} (remaining : S → Option (List ℕ)) (s : Lining S) (asks : List Ask) (room : ℕ)
-    (old new : List Call) (t : Lining S) : Type 0 where
+pub record CallsStopped {S : Type 0} (remaining : S → Option (List ℕ)) (s : LineState S) (asks : List Ask) (room : ℕ)
+    (old new : List Call) (t : LineState S) : Type 0 where
   pub calls : List Call
   pub gained : new ≡ old ++ calls
   pub next : Ask

@@ -3,22 +3,22 @@ use Rattle.std.specs.Prelude.{◌≡◌, ℕ, List, map, false, Option}
 use Rattle.codec.specs.KnownPayloads as known
 use Rattle.codec.specs.Runs as pieces
 use Rattle.codec.specs.Runs.{AnswerPlays, AnswerRuns}
-use Rattle.line_reader.specs.Lining.{Lining, lined}
+use Rattle.line_reader.specs.LineReader.{LineState, lined}
 use Rattle.line_reader.specs.NextLine.{NextAnswer, NextLine, piece_answer}
 
 -- calls of `next`, one after another, with these answers
-abbrev pub NextRuns : {S : Type 0} → (S → Option (List ℕ)) → Lining S → List NextAnswer → Lining S → Type 0
+abbrev pub NextRuns : {S : Type 0} → (S → Option (List ℕ)) → LineState S → List NextAnswer → LineState S → Type 0
 NextRuns remaining = AnswerRuns (NextLine remaining)
 
 -- each of these lines was handed out by a call, and one more call told the end
-abbrev pub AllRead : {S : Type 0} → (S → Option (List ℕ)) → Lining S → List (List ℕ) → Lining S → Type 0
+abbrev pub AllRead : {S : Type 0} → (S → Option (List ℕ)) → LineState S → List (List ℕ) → LineState S → Type 0
 AllRead remaining = known.AllRead (NextRuns remaining)
 
 -- what they come to: where no line was being skipped, what such calls of a reader of pieces do
-abbrev pub RunWent : {S : Type 0} → (S → Option (List ℕ)) → Lining S → List NextAnswer → Lining S → Type 0
+abbrev pub RunWent : {S : Type 0} → (S → Option (List ℕ)) → LineState S → List NextAnswer → LineState S → Type 0
 RunWent remaining s answers t = s.skipping ≡ false
     → pieces.RunWent remaining (lined s.pieces.decoder.max) s.pieces (map piece_answer answers) t.pieces
 
 -- calls, and what they come to
-abbrev pub NextPlays : {S : Type 0} → (S → Option (List ℕ)) → Lining S → List NextAnswer → Lining S → Type 0
+abbrev pub NextPlays : {S : Type 0} → (S → Option (List ℕ)) → LineState S → List NextAnswer → LineState S → Type 0
 NextPlays remaining = AnswerPlays (NextLine remaining) (RunWent remaining)

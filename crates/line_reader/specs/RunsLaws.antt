@@ -9,7 +9,7 @@ use Rattle.codec.specs.RunsLaws.{AnswerPlays-more, AnswerPlays-none, AnswerRuns-
 use Rattle.codec.specs.Texts.{HasPieces}
 use Rattle.line_reader.specs.declared.error.LineError.TheVariants.{TooLong, Io}
 use Rattle.line_reader.specs.Lines.{HasLines}
-use Rattle.line_reader.specs.Lining.{Lining, lined}
+use Rattle.line_reader.specs.LineReader.{LineState, lined}
 use Rattle.line_reader.specs.NextLine.{NextAnswer, NextLine, piece_answer}
 use Rattle.line_reader.specs.NextLineLaws.{NextLine-open}
 use Rattle.line_reader.specs.TextLaws.{lines_of}
@@ -40,12 +40,12 @@ Cuts-text max answers bytes none cut =
     subst (HasLines bytes) (handed_same answers) (lines_of max bytes (all_handed (map piece_answer answers)) has)
 
 module _ {S : Type 0} (remaining : S → Option (List ℕ)) where
-  pub NextRuns-more : (s : Lining S) (answers : List NextAnswer) (m : Lining S) (answer : NextAnswer) (t : Lining S)
+  pub NextRuns-more : (s : LineState S) (answers : List NextAnswer) (m : LineState S) (answer : NextAnswer) (t : LineState S)
       → NextRuns remaining s answers m → NextLine remaining m answer t → NextRuns remaining s (answers ++ answer ∷ []) t
   NextRuns-more = AnswerRuns-more (NextLine remaining)
 
   -- where no line is being skipped they are calls of a reader of pieces
-  runs_of : (s : Lining S) (answers : List NextAnswer) (t : Lining S) → s.skipping ≡ false
+  runs_of : (s : LineState S) (answers : List NextAnswer) (t : LineState S) → s.skipping ≡ false
       → NextRuns remaining s answers t
       → pieces.NextRuns remaining (lined s.pieces.decoder.max) s.pieces (map piece_answer answers) t.pieces
   runs_of s [] t open' run = ap (λ x. x.pieces) run
@@ -57,15 +57,15 @@ module _ {S : Type 0} (remaining : S → Option (List ℕ)) where
             next.0.went.decoder (runs_of run.0 answers t next.1 run.2),
       )
 
-  pub NextRuns-went : (s : Lining S) (answers : List NextAnswer) (t : Lining S) → NextRuns remaining s answers t
+  pub NextRuns-went : (s : LineState S) (answers : List NextAnswer) (t : LineState S) → NextRuns remaining s answers t
       → RunWent remaining s answers t
   NextRuns-went s answers t run open' = pieces_laws.NextRuns-went remaining (lined s.pieces.decoder.max) s.pieces
       (map piece_answer answers) t.pieces (runs_of s answers t open' run)
 
   -- calls, and what they come to: no call, and one more
-  pub NextPlays-none : (s : Lining S) → NextPlays remaining s [] s
+  pub NextPlays-none : (s : LineState S) → NextPlays remaining s [] s
   NextPlays-none = AnswerPlays-none (NextLine remaining) (RunWent remaining) NextRuns-went
 
-  pub NextPlays-more : (s : Lining S) (answers : List NextAnswer) (m : Lining S) (answer : NextAnswer) (t : Lining S)
+  pub NextPlays-more : (s : LineState S) (answers : List NextAnswer) (m : LineState S) (answer : NextAnswer) (t : LineState S)
       → NextPlays remaining s answers m → NextLine remaining m answer t → NextPlays remaining s (answers ++ answer ∷ []) t
   NextPlays-more = AnswerPlays-more (NextLine remaining) (RunWent remaining) NextRuns-went

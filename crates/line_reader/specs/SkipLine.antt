@@ -4,11 +4,11 @@ use Rattle.std.specs.IoError.{error_kind}
 use Rattle.std.specs.declared.io.Error.{Error}
 use Rattle.std.specs.declared.io.ErrorKind.TheVariants.{Other}
 use Rattle.codec.specs.NextPiece.{AskedWhere, Faulted, MetEnd, NoEnd, NoFault, PiecesWent}
-use Rattle.codec.specs.Piecing.{IsPiecing, Piecing, Skips, rest}
+use Rattle.codec.specs.PieceReader.{IsPieceReader, ReaderState, Skips, rest}
 use Rattle.codec.specs.Plain.{EndsAt}
 use Rattle.line_reader.specs.declared.line.Lines.{Lines}
 use Rattle.line_reader.specs.Lines.{IsLine, newline, with_end}
-use Rattle.line_reader.specs.Lining.{Lining, lined}
+use Rattle.line_reader.specs.LineReader.{LineState, lined}
 
 -- these bytes are a line and its end
 pub record IsWithEnd (bytes : List ℕ) : Type 0 where
@@ -18,40 +18,40 @@ pub record IsWithEnd (bytes : List ℕ) : Type 0 where
 
 -- the bytes that were dropped are a line and its end; or they are all that came before the stream's, which the next call
 -- of `next` tells
-abbrev pub IsSkipped : {S D : Type 0} → Piecing S D → List ℕ → Piecing S D → Type 0
+abbrev pub IsSkipped : {S D : Type 0} → ReaderState S D → List ℕ → ReaderState S D → Type 0
 IsSkipped s bytes t =
     (IsWithEnd bytes × (t.ended ≡ false) × NoEnd s t)
     ⊎ (IsLine bytes × (rest t ≡ []) × (t.ended ≡ true) × MetEnd s t)
 
 -- why no end came: the stream failed, or more bytes were dropped than this
-abbrev pub SkipFails : {S D : Type 0} → Piecing S D → List ℕ → Error → Piecing S D → Type 0
+abbrev pub SkipFails : {S D : Type 0} → ReaderState S D → List ℕ → Error → ReaderState S D → Type 0
 SkipFails s bytes e t = Faulted s e t ⊎ (NoFault s t × (error_kind e ≡ Other) × (2 ^ 63 < length bytes))
 
 -- what each answer means, by the bytes that were dropped and what is left
-abbrev pub SkipAnswers : {S D : Type 0} → Piecing S D → Result ℕ Error → List ℕ → Piecing S D → Type 0
+abbrev pub SkipAnswers : {S D : Type 0} → ReaderState S D → Result ℕ Error → List ℕ → ReaderState S D → Type 0
 SkipAnswers s (Ok n) bytes t = (n ≡ length bytes) × NoFault s t × IsSkipped s bytes t
 SkipAnswers s (Err e) bytes t =
     IsLine bytes × (rest t ≡ []) × (t.ended ≡ false) × NoEnd s t × SkipFails s bytes e t
 
 -- the first bytes that are left were dropped: through the first end of a line, or all
-pub record DropsLine {S : Type 0} (s : Piecing S Lines) (count : ℕ) (found : Bool) (t : Piecing S Lines) : Type 0 where
-  pub before : IsPiecing (lined s.decoder.max) s
+pub record DropsLine {S : Type 0} (s : ReaderState S Lines) (count : ℕ) (found : Bool) (t : ReaderState S Lines) : Type 0 where
+  pub before : IsPieceReader (lined s.decoder.max) s
   pub inside : count ≤ length (rest s)
   pub skips : Skips (lined s.decoder.max) s count t
   pub ends : found ≡ true → (len : ℕ) × (count ≡ 1 + len) × EndsAt newline len (rest s)
   pub none : found ≡ false → (count ≡ length (rest s)) × IsLine (rest s)
 
 -- what is dropped through the end of a line. The stream is asked only where no end of a line is buffered
-pub record DropsThrough {S : Type 0} (remaining : S → Option (List ℕ)) (s : Piecing S Lines) (answer : Result ℕ Error)
-    (t : Piecing S Lines) : Type 0 where
+pub record DropsThrough {S : Type 0} (remaining : S → Option (List ℕ)) (s : ReaderState S Lines) (answer : Result ℕ Error)
+    (t : ReaderState S Lines) : Type 0 where
   pub bytes : List ℕ
   pub went : PiecesWent remaining (1 + s.decoder.max) s bytes t
   pub answers : SkipAnswers s answer bytes t
   pub asked : AskedWhere IsLine s t
-  pub whole : IsPiecing (lined t.decoder.max) t
+  pub whole : IsPieceReader (lined t.decoder.max) t
 
 -- what one call of `skip_line` does: the line is skipped, or is being skipped still
-pub record SkipsLine {S : Type 0} (remaining : S → Option (List ℕ)) (s : Lining S) (answer : Result ℕ Error)
-    (t : Lining S) : Type 0 where
+pub record SkipsLine {S : Type 0} (remaining : S → Option (List ℕ)) (s : LineState S) (answer : Result ℕ Error)
+    (t : LineState S) : Type 0 where
   pub drops : DropsThrough remaining s.pieces answer t.pieces
   pub skipping : t.skipping ≡ is_err answer

@@ -8,7 +8,7 @@ use Rattle.codec.specs.Grammar.{IsLawful}
 use Rattle.codec.specs.TextLaws.{Pieces-first, Pieces-last, Pieces-none, Pieces-same}
 use Rattle.codec.specs.Texts.{HasPieces}
 use Rattle.line_reader.specs.Lines.{FitsLine, HasLines, IsLine, last_line, newline, with_end, with_ends}
-use Rattle.line_reader.specs.Lining.{lined}
+use Rattle.line_reader.specs.LineReader.{lined}
 
 -- a text of no line, and of one that has no end
 pub lines-none : HasLines [] []

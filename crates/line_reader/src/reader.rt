@@ -9,8 +9,8 @@ ghost use Rattle.line_reader.specs.contracts.reader.LineReader.{the_row};
 ghost use Rattle.line_reader.specs.Lines.{BeginsTooLong, IsLine, newline};
 ghost use Rattle.codec.specs.Decoding.{IsLent, bytes_at};
 ghost use Rattle.codec.specs.NextPiece.{answer_of, load_answer};
-ghost use Rattle.codec.specs.Piecing.{IsFresh, IsOver, TakenApart, rest, room_for, with_stream};
-ghost use Rattle.line_reader.specs.Lining.{HasLine, IsLining, lined};
+ghost use Rattle.codec.specs.PieceReader.{IsFresh, IsOver, TakenApart, rest, room_for, with_stream};
+ghost use Rattle.line_reader.specs.LineReader.{HasLine, IsLineReader, lined};
 ghost use Rattle.line_reader.specs.NextLine.{NextBuffered, NextLine, NextTrimmed};
 ghost use Rattle.line_reader.specs.SkipLine.{SkipsLine};
 
@@ -45,13 +45,13 @@ pub struct LineReader<R: Tell> {
 }
 
 impl<R: Tell> Model for LineReader<R> {
-    ghost use Rattle.line_reader.specs.Lining.{IsLining, Lining};
+    ghost use Rattle.line_reader.specs.LineReader.{IsLineReader, LineState};
 
-    ghost Value = { Lining R };
+    ghost Value = { LineState R };
 
     ghost view = { λ f. record { pieces = f.pieces; skipping = f.skipping } };
 
-    ghost invariant = { λ f. IsLining (record { pieces = f.pieces; skipping = f.skipping }) };
+    ghost invariant = { λ f. IsLineReader (record { pieces = f.pieces; skipping = f.skipping }) };
 }
 
 impl<R: Tell> LineReader<R> {
@@ -61,7 +61,7 @@ impl<R: Tell> LineReader<R> {
         ensures made { IfOk result (λ f. IsFresh R.log 8192 (1 + max) inner f.pieces.decoder f.pieces) }
         ensures max { IfOk result (λ f. f.pieces.decoder.max ≡ max) }
         ensures going { IfOk result (λ f. f.skipping ≡ false) }
-        ensures whole { IfOk result IsLining }
+        ensures whole { IfOk result IsLineReader }
         ensures handed_back { IfErr result (λ e. e.0 ≡ inner) }
         ensures within { FitsWithin (growth result) (room_for 8192 (1 + max)) (2 ^ 62) }
     {
@@ -78,7 +78,7 @@ impl<R: Tell> LineReader<R> {
         ensures made { IfOk result (λ f. IsFresh R.log capacity (1 + max) inner f.pieces.decoder f.pieces) }
         ensures max { IfOk result (λ f. f.pieces.decoder.max ≡ max) }
         ensures going { IfOk result (λ f. f.skipping ≡ false) }
-        ensures whole { IfOk result IsLining }
+        ensures whole { IfOk result IsLineReader }
         ensures handed_back { IfErr result (λ e. e.0 ≡ inner) }
         ensures within { FitsWithin (growth result) (room_for capacity (1 + max)) (2 ^ 62) }
     {
@@ -105,7 +105,7 @@ impl<R: Tell> LineReader<R> {
         ensures made { IfOk result (λ f. IsOver R.log (1 + max) buffer inner f.pieces.decoder f.pieces) }
         ensures max { IfOk result (λ f. f.pieces.decoder.max ≡ max) }
         ensures going { IfOk result (λ f. f.skipping ≡ false) }
-        ensures whole { IfOk result IsLining }
+        ensures whole { IfOk result IsLineReader }
         ensures handed_back { IfErr result (λ e. (e.0.0 ≡ buffer) × (e.0.1 ≡ inner)) }
         ensures within { FitsWithin (growth result) (room_for buffer.capacity (1 + max)) (2 ^ 62) }
         ensures kept { buffer.kind ≡ Plain → 3 * (1 + max) ≤ buffer.capacity → max < 2 ^ 62 → IsOk result }
@@ -126,7 +126,7 @@ impl<R: Tell> LineReader<R> {
     pub fn get_ref(&self) -> &R
         ensures inner { result.now ≡ self.now.pieces.reader.inner }
         ensures log { R.log result.now ≡ self.now.pieces.reader.log }
-        ensures whole { IsLining self.now }
+        ensures whole { IsLineReader self.now }
     {
         self.pieces.get_ref()
     }
@@ -186,7 +186,7 @@ impl<R: Tell> LineReader<R> {
     /// is dropped by the next call. Who takes the reader apart then has the middle of that line before it.
     pub fn is_skipping(&self) -> bool
         ensures value { result ≡ self.now.skipping }
-        ensures whole { IsLining self.now }
+        ensures whole { IsLineReader self.now }
     {
         self.skipping
     }
@@ -196,7 +196,7 @@ impl<R: Tell> LineReader<R> {
     /// [`lent`](LineReader::lent).
     pub fn has_ended(&self) -> bool
         ensures value { result ≡ self.now.pieces.ended }
-        ensures whole { IsLining self.now }
+        ensures whole { IsLineReader self.now }
     {
         self.pieces.has_ended()
     }
@@ -214,7 +214,7 @@ impl<R: Tell> LineReader<R> {
     /// The buffered bytes that weren't handed out.
     pub fn rest(&self) -> &[u8]
         ensures value { result.now ≡ rest self.now.pieces }
-        ensures whole { IsLining self.now }
+        ensures whole { IsLineReader self.now }
     {
         self.pieces.rest()
     }

@@ -9,8 +9,8 @@ use Rattle.buffer_redux.specs.Unbuffer.{unbuffered}
 use Rattle.buffer_redux.specs.declared.policy.StdPolicy.{StdPolicy}
 use Rattle.chunked.specs.Asking.{AskedWhere}
 use Rattle.chunked.specs.AskingLaws.{AskedWhere-of, AsksEmpty, asks_none, fill_asks, AskedWhere-on, AsksGive, LeadsOn, Took, payload_asks, payload_gives, payload_idle}
-use Rattle.chunked.specs.Dechunking.{BodyWent, Dechunking, DrainReads, IsDechunking, ReadsOn, ReadsPayload}
-use Rattle.chunked.specs.DechunkingLaws.{BodyWent-joins, BodyWent-none, Completes-nothing, IsWhole-done}
+use Rattle.chunked.specs.ChunkedReader.{BodyWent, ChunkedState, DrainReads, IsChunkedReader, ReadsOn, ReadsPayload}
+use Rattle.chunked.specs.ChunkedReaderLaws.{BodyWent-joins, BodyWent-none, Completes-nothing, IsWhole-done}
 use Rattle.chunked.specs.Place.{Completes}
 use Rattle.chunked.specs.declared.error.ChunkedError.{ChunkedError}
 use Rattle.chunked.specs.declared.limits.Limits.{Limits}
@@ -93,10 +93,10 @@ further r wire handed q onward more bytes on = record {
   is = on.is;
 }
 
-module _ {R : Type 0} (remaining : R → Option (List ℕ)) (s : Dechunking R StdPolicy) (is : IsDechunking s)
+module _ {R : Type 0} (remaining : R → Option (List ℕ)) (s : ChunkedState R StdPolicy) (is : IsChunkedReader s)
     (some : 0 < s.limits.line) where
   -- one read
-  module _ (t : Dechunking R StdPolicy) (out : List ℕ) (answer : Result ℕ ChunkedError)
+  module _ (t : ChunkedState R StdPolicy) (out : List ℕ) (answer : Result ℕ ChunkedError)
       (reads : ReadsPayload remaining std_read_rules s out answer t) where
     pub chunks_asked : AskedWhere (GoesOn (Chunks s.limits s.place) []) (unbuffered s.reader) (unbuffered t.reader)
     chunks_asked =
@@ -108,14 +108,14 @@ module _ {R : Type 0} (remaining : R → Option (List ℕ)) (s : Dechunking R St
     chunks_idle (inr held) = payload_idle remaining s t is out answer reads held.0 held.1
 
   -- reads that handed some out each
-  record Drained (m : Dechunking R StdPolicy) : Type 0 where
+  record Drained (m : ChunkedState R StdPolicy) : Type 0 where
     pub handed : List ℕ
     pub went : BodyWent remaining std_read_rules s handed m
-    pub whole : IsDechunking m
+    pub whole : IsChunkedReader m
     pub gives : AsksGive s.reader m.reader
     pub asked : AskedWhere (Unended (Chunks s.limits s.place)) (unbuffered s.reader) (unbuffered m.reader)
 
-  then_asked : (m t : Dechunking R StdPolicy) (out : List ℕ) (answer : Result ℕ ChunkedError) → Drained m
+  then_asked : (m t : ChunkedState R StdPolicy) (out : List ℕ) (answer : Result ℕ ChunkedError) → Drained m
       → ReadsPayload remaining std_read_rules m out answer t
       → AskedWhere (Unended (Chunks s.limits s.place)) (unbuffered s.reader) (unbuffered t.reader)
   then_asked m t out answer d reads =
@@ -129,7 +129,7 @@ module _ {R : Type 0} (remaining : R → Option (List ℕ)) (s : Dechunking R St
       ))
       d.asked (payload_asks remaining m t d.whole out answer reads)
 
-  drained : (count : ℕ) (t : Dechunking R StdPolicy) → ReadsOn remaining std_read_rules count s t → Drained t
+  drained : (count : ℕ) (t : ChunkedState R StdPolicy) → ReadsOn remaining std_read_rules count s t → Drained t
   drained zero t same = subst Drained same (record {
     handed = [];
     went = BodyWent-none remaining std_read_rules s;
@@ -147,7 +147,8 @@ module _ {R : Type 0} (remaining : R → Option (List ℕ)) (s : Dechunking R St
         asked = then_asked m t out (Ok (suc n)) d reads;
       }
 
-  pub drain_asked : (answer : Result ℕ ChunkedError) (t : Dechunking R StdPolicy) → DrainReads remaining std_read_rules s answer t
+  pub drain_asked : (answer : Result ℕ ChunkedError) (t : ChunkedState R StdPolicy)
+      → DrainReads remaining std_read_rules s answer t
       → AskedWhere (Unended (Chunks s.limits s.place)) (unbuffered s.reader) (unbuffered t.reader)
   drain_asked answer t reads =
       let d = drained reads.count reads.last reads.before in

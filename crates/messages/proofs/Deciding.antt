@@ -4,11 +4,11 @@ use Rattle.std.proofs.lemmas.List.{take-append-drop}
 use Rattle.codec.specs.declared.decoder.Span.{Span}
 use Rattle.codec.specs.Decoding.{IsPiece, bytes_at}
 use Rattle.messages.specs.declared.head.BadHead.TheVariants.{Refused}
-use Rattle.messages.specs.declared.head.Said.{Said}
+use Rattle.messages.specs.declared.head.ParsedHead.{ParsedHead}
 use Rattle.messages.specs.Heads.{IsHead, heads, texts}
 
 module _ (bytes : List ℕ) (span : Span) (used : ℕ) (found : IsPiece texts bytes span used) where
-  pub head_piece : (said : Said) → IsHead (take used bytes) said
+  pub head_piece : (said : ParsedHead) → IsHead (take used bytes) said
       → IsPiece heads bytes (record { from = 0; len = used }) used
   head_piece said is = record {
     inside = found.inside;
@@ -16,7 +16,7 @@ module _ (bytes : List ℕ) (span : Span) (used : ℕ) (found : IsPiece texts by
     is = record { same = refl; none = bytes_at span bytes; text = found.is; said = said; is = is };
   }
 
-  pub refused : ((said : Said) → ¬ (IsHead (take used bytes) said)) → heads.wrong bytes Refused
+  pub refused : ((said : ParsedHead) → ¬ (IsHead (take used bytes) said)) → heads.wrong bytes Refused
   refused none = inr (record {
     text = record {
       piece = take used bytes;

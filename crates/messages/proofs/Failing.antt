@@ -8,7 +8,7 @@ use Rattle.buffer_redux.specs.ReaderLaws.{WantsBytes-std}
 use Rattle.buffer_redux.specs.Unbuffer.{unbuffered}
 use Rattle.buffer_redux.specs.declared.policy.StdPolicy.{StdPolicy}
 use Rattle.chunked.specs.Body.{IsBody}
-use Rattle.chunked.specs.Dechunking.{Dechunking, DropsTooMany, IsDechunking, PayloadAnswers, handed_of}
+use Rattle.chunked.specs.ChunkedReader.{ChunkedState, DropsTooMany, IsChunkedReader, PayloadAnswers, handed_of}
 use Rattle.chunked.specs.Place.{Completes}
 use Rattle.chunked.specs.declared.error.ChunkedError.{ChunkedError}
 use Rattle.chunked.specs.declared.error.ChunkedError.TheVariants.{NotChunked, Truncated, Io}
@@ -18,7 +18,7 @@ use Rattle.messages.specs.Messages.{Chunks, Fails, FailsBehind, body_error}
 pub never_gave : {S : Type 0} (e : Error) (s t : Buffered S StdPolicy) → ¬ (PolicyGave std_read_rules (Err e) s t)
 never_gave e s t gave = gave.gave.allowed
 
-module _ {S : Type 0} (s t : Dechunking S StdPolicy) (is : IsDechunking t) (room : 0 < s.reader.block.capacity) where
+module _ {S : Type 0} (s t : ChunkedState S StdPolicy) (is : IsChunkedReader t) (room : 0 < s.reader.block.capacity) where
   whole : (wire payload : List ℕ) → Completes t.limits t.place wire payload
       → IsBody t.limits (t.taken ++ wire) (handed_of t ++ payload)
   whole wire payload c = is.leads.onward wire payload c

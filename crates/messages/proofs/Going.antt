@@ -5,8 +5,8 @@ use Rattle.buffer_redux.specs.Policy.{ReadRules}
 use Rattle.buffer_redux.specs.Unbuffer.{Unbuffered, unbuffered}
 use Rattle.buffer_redux.specs.UnbufferLaws.{ReadsAlong-stream}
 use Rattle.chunked.specs.Body.{IsBody}
-use Rattle.chunked.specs.Dechunking.{BodyWent, Dechunking, IsDechunking, IsWhole, handed_of}
-use Rattle.chunked.specs.DechunkingLaws.{body_done}
+use Rattle.chunked.specs.ChunkedReader.{BodyWent, ChunkedState, IsChunkedReader, IsWhole, handed_of}
+use Rattle.chunked.specs.ChunkedReaderLaws.{body_done}
 use Rattle.chunked.specs.Place.{Completes}
 use Rattle.chunked.specs.declared.place.Place.TheVariants.{Line}
 use Rattle.messages.specs.Messages.{Bytes, Chunks, Ends, IsRest, Onward, Rest, Takes}
@@ -36,8 +36,8 @@ ends_of remaining s r t ends = record {
 }
 
 -- some of a body in chunks
-module _ {S P : Type 0} (remaining : S → Option (List ℕ)) (rules : ReadRules P) (s : Dechunking S P) (is : IsDechunking s)
-    (handed : List ℕ) (t : Dechunking S P) (is' : IsDechunking t) (went : BodyWent remaining rules s handed t) where
+module _ {S P : Type 0} (remaining : S → Option (List ℕ)) (rules : ReadRules P) (s : ChunkedState S P) (is : IsChunkedReader s)
+    (handed : List ℕ) (t : ChunkedState S P) (is' : IsChunkedReader t) (went : BodyWent remaining rules s handed t) where
   pub chunks_onward : Onward (Chunks s.limits s.place) went.wire handed (Chunks t.limits t.place)
   chunks_onward later payload completes =
       let whole : Completes s.limits Line (t.taken ++ later) (handed_of t ++ payload) =
@@ -67,8 +67,8 @@ module _ {S P : Type 0} (remaining : S → Option (List ℕ)) (rules : ReadRules
       subst (λ p. IsRest (Chunks t.limits p) [] []) (sym (body_done t (handed_of t) is' whole)) (refl, refl)
 
 -- it ended
-module _ {S P : Type 0} (remaining : S → Option (List ℕ)) (rules : ReadRules P) (s : Dechunking S P) (is : IsDechunking s)
-    (handed : List ℕ) (t : Dechunking S P) (went : BodyWent remaining rules s handed t)
+module _ {S P : Type 0} (remaining : S → Option (List ℕ)) (rules : ReadRules P) (s : ChunkedState S P) (is : IsChunkedReader s)
+    (handed : List ℕ) (t : ChunkedState S P) (went : BodyWent remaining rules s handed t)
     (no_fault : t.reader.log.reads.faults ≡ s.reader.log.reads.faults) where
   pub chunks_end : IsWhole t → Ends remaining (unbuffered s.reader) (Chunks s.limits s.place) (unbuffered t.reader)
   chunks_end whole =

@@ -4,7 +4,7 @@ use Rattle.buffer_redux.specs.Unbuffer.{StreamWent, Unbuffered}
 use Rattle.buffer_redux.specs.UnbufferLaws.{StreamWent-joins}
 use Rattle.codec.specs.NextPiece.{NextPiece}
 use Rattle.codec.specs.PiecesWentLaws.{PiecesWent-stream}
-use Rattle.codec.specs.Piecing.{Piecing, left_of}
+use Rattle.codec.specs.PieceReader.{ReaderState, left_of}
 use Rattle.messages.specs.declared.head.Heads as head
 use Rattle.messages.specs.declared.requests.Stop.{Stop}
 use Rattle.messages.specs.declared.requests.Stop.TheVariants.{Ended, Bad, Io}
@@ -12,13 +12,13 @@ use Rattle.messages.specs.Heads.{IsHead, heads}
 use Rattle.messages.specs.Messages.{Begun, Ends, InBody, InsideGoes, MessageBegun, MessageWent, Onward, answer_of, body_of}
 use Rattle.messages.specs.MessagesLaws.{Begun-went, MessageWent-of, Takes-none, lent}
 
-module _ {S : Type 0} (remaining : S → Option (List ℕ)) (s : Piecing S head.Heads) where
+module _ {S : Type 0} (remaining : S → Option (List ℕ)) (s : ReaderState S head.Heads) where
   -- a call that goes into no message takes nothing
-  stays : (t : Piecing S head.Heads) (bytes : List ℕ) → bytes ≡ [] → StreamWent remaining (left_of s) bytes (left_of t)
+  stays : (t : ReaderState S head.Heads) (bytes : List ℕ) → bytes ≡ [] → StreamWent remaining (left_of s) bytes (left_of t)
       → StreamWent remaining (left_of s) [] (left_of t)
   stays t bytes none went = subst (λ l. StreamWent remaining (left_of s) l (left_of t)) none went
 
-  pub stopped_before : (stop : Stop) (t : Piecing S head.Heads) → NextPiece remaining heads s (answer_of stop) t
+  pub stopped_before : (stop : Stop) (t : ReaderState S head.Heads) → NextPiece remaining heads s (answer_of stop) t
       → StreamWent remaining (left_of s) [] (left_of t)
   stopped_before Ended t next =
       stays t next.bytes next.answers.0 (PiecesWent-stream remaining heads.most s t next.bytes next.went)

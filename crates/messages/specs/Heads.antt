@@ -1,11 +1,11 @@
 -- Heads of requests, and what they say of the body.
 use Rattle.std.specs.Prelude.{◌≡◌, ℕ, ◌≤◌, ◌⊎◌, ◌==◌, ◌&&◌, ◌||◌, not, nat_lt, if◌then◌else◌, Bool, true, false, List, [], length, IsTrue, Option, None, Some, Result, Ok, Err}
-use Rattle.codec.specs.declared.head_error.HeadError.{HeadError}
-use Rattle.codec.specs.declared.head_error.HeadError.TheVariants.{Truncated}
-use Rattle.codec.specs.declared.scan.Turn.{Turn}
-use Rattle.codec.specs.declared.scan.Turn.TheVariants.{More, Sized, Bad}
+use Rattle.codec.specs.declared.header_error.HeaderError.{HeaderError}
+use Rattle.codec.specs.declared.header_error.HeaderError.TheVariants.{Truncated}
+use Rattle.codec.specs.declared.scan.ScanStep.{ScanStep}
+use Rattle.codec.specs.declared.scan.ScanStep.TheVariants.{More, Sized, Bad}
 use Rattle.codec.specs.Grammar.{Begins, Grammar}
-use Rattle.codec.specs.Headings.{headed}
+use Rattle.codec.specs.HeaderFormat.{length_prefixed}
 use Rattle.codec.specs.Scanning.{Scanning, scanned}
 use Rattle.http1.specs.declared.framing.Framing.{Framing}
 use Rattle.http1.specs.declared.framing.Framing.TheVariants as framing
@@ -20,23 +20,23 @@ use Rattle.messages.specs.declared.head.BadHead.{BadHead}
 use Rattle.messages.specs.declared.head.BadHead.TheVariants.{Lines, Refused}
 use Rattle.messages.specs.declared.head.Extent.{Extent}
 use Rattle.messages.specs.declared.head.Extent.TheVariants as extent
-use Rattle.messages.specs.declared.head.Said.{Said}
+use Rattle.messages.specs.declared.head.ParsedHead.{ParsedHead}
 use Rattle.messages.specs.declared.lines.Before.{Before}
 use Rattle.messages.specs.declared.lines.Before.TheVariants.{Text, Return, Feed, EmptyReturn}
 
 -- one more byte of a head: each CR and LF is one of a CR LF, and behind an empty line the head ends
-abbrev pub turn : Before → ℕ → Turn Before
+abbrev pub turn : Before → ℕ → ScanStep Before
 turn Text byte = if byte == 13 then More Return else (if byte == 10 then Bad else More Text)
 turn Return byte = if byte == 10 then More Feed else Bad
 turn Feed byte = if byte == 13 then More EmptyReturn else (if byte == 10 then Bad else More Text)
 turn EmptyReturn byte = if byte == 10 then Sized 0 else Bad
 
 abbrev pub lines : Scanning Before
-lines = record { start = Text; turn = turn; most_head = 8192; max = 0; tail = [] }
+lines = record { start = Text; turn = turn; most_header = 8192; max = 0; tail = [] }
 
 -- lines up to an empty one, as pieces
-abbrev pub texts : Grammar HeadError
-texts = headed (scanned lines)
+abbrev pub texts : Grammar HeaderError
+texts = length_prefixed (scanned lines)
 
 -- where the body ends, if that is said plainly
 abbrev pub extent_of : Result Framing FramingError → Option Extent
@@ -66,13 +66,13 @@ abbrev pub expects : ℕ → KnownFields → Bool
 expects minor known = nat_lt 0 minor && known.expect_continue
 
 -- what a head with this method, of this version, with these fields says, of a body that ends so
-abbrev pub said_of : MethodKind → ℕ → KnownFields → Extent → Said
+abbrev pub said_of : MethodKind → ℕ → KnownFields → Extent → ParsedHead
 said_of method minor known extent =
     record { extent = extent; bare = is_bare method; keeps = keeps minor known; expects = expects minor known }
 
 -- these bytes are just the head of a request, which says so (RFC 9112, section 6): at most one field says where the body ends, no
 -- tunnel begins behind it, and it has one `Host`, which HTTP/1.0 may leave out
-pub record IsHead (bytes : List ℕ) (said : Said) : Type 0 where
+pub record IsHead (bytes : List ℕ) (said : ParsedHead) : Type 0 where
   pub head : RequestHead
   pub reads : ReadsRequest bytes head []
   pub few : length head.fields ≤ 64
@@ -87,18 +87,18 @@ pub record IsHeadPiece (bytes payload : List ℕ) : Type 0 where
   pub same : payload ≡ bytes
   pub none : List ℕ
   pub text : texts.piece bytes none
-  pub said : Said
+  pub said : ParsedHead
   pub is : IsHead bytes said
 
 -- lines in front are no such head
 pub record IsRefused (bytes : List ℕ) (e : BadHead) : Type 0 where
   pub text : Begins texts bytes
-  pub not_head : (said : Said) → ¬ (IsHead text.piece said)
+  pub not_head : (said : ParsedHead) → ¬ (IsHead text.piece said)
   pub told : e ≡ Refused
 
 -- or they are no lines
 pub record IsNoText (bytes : List ℕ) (e : BadHead) : Type 0 where
-  pub why : HeadError
+  pub why : HeaderError
   pub wrong : texts.wrong bytes why
   pub told : e ≡ Lines why
 

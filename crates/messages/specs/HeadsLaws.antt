@@ -2,9 +2,9 @@
 use Rattle.std.specs.Prelude.{ℕ, List, ◌++◌, length}
 use Rattle.std.proofs.Common.{sym, ap, subst, ◌∙◌, arith, inl, inr, append_assoc, length-append}
 use Rattle.codec.specs.Grammar.{Begins, IsLawful, IsOpen, Lacks}
-use Rattle.codec.specs.HeadingsLaws.{headed_lawful}
+use Rattle.codec.specs.HeaderFormatLaws.{length_prefixed_lawful}
 use Rattle.codec.specs.Scanning.{IsSmall, scanned}
-use Rattle.codec.specs.ScanningLaws.{scanned_heads}
+use Rattle.codec.specs.ScanningLaws.{scanned_headers}
 use Rattle.messages.specs.declared.head.BadHead.{BadHead}
 use Rattle.messages.specs.declared.head.BadHead.TheVariants.{Lines}
 use Rattle.messages.specs.Heads.{IsHead, IsNoText, heads, lines, texts}
@@ -13,7 +13,7 @@ pub lines_small : IsSmall lines
 lines_small = record { some = omega arith; small = omega arith }
 
 pub texts_lawful : IsLawful texts
-texts_lawful = headed_lawful (scanned lines) (scanned_heads lines lines_small)
+texts_lawful = length_prefixed_lawful (scanned lines) (scanned_headers lines lines_small)
 
 -- what settles nothing of lines settles nothing of heads
 pub open_head : (bytes : List ℕ) → IsOpen texts bytes → IsOpen heads bytes

@@ -9,7 +9,7 @@ use Rattle.chunked.specs.declared.place.Place.TheVariants.{Line, Done}
 use Rattle.chunked.specs.Place.{Completes, IsSettled}
 use Rattle.codec.specs.declared.error.NextError.TheVariants as why
 use Rattle.codec.specs.NextPiece.{NextAnswer, NextPiece}
-use Rattle.codec.specs.Piecing.{Piecing, left_of}
+use Rattle.codec.specs.PieceReader.{ReaderState, left_of}
 use Rattle.messages.specs.declared.error.BodyError.{BodyError}
 use Rattle.messages.specs.declared.error.BodyError.TheVariants.{Wrong, Truncated, Io as Fault}
 use Rattle.messages.specs.declared.error.FinishError.{FinishError}
@@ -18,7 +18,7 @@ use Rattle.messages.specs.declared.head.Extent.{Extent}
 use Rattle.messages.specs.declared.head.Extent.TheVariants.{Sized, Chunked}
 use Rattle.messages.specs.declared.head.BadHead.{BadHead}
 use Rattle.messages.specs.declared.head.Heads.{Heads}
-use Rattle.messages.specs.declared.head.Said.{Said}
+use Rattle.messages.specs.declared.head.ParsedHead.{ParsedHead}
 use Rattle.messages.specs.declared.requests.Stop.{Stop}
 use Rattle.messages.specs.declared.requests.Stop.TheVariants.{Ended, Bad, Io}
 use Rattle.messages.specs.Heads.{IsHead, heads}
@@ -59,7 +59,7 @@ pub record IsMessage (bytes head payload : List ℕ) : Type 0 where
   pub wire : List ℕ
   pub equal : bytes ≡ head ++ wire
   pub text : heads.piece head head
-  pub said : Said
+  pub said : ParsedHead
   pub is : IsHead head said
   pub body : IsRest (body_of said.extent) wire payload
 
@@ -67,15 +67,15 @@ pub record IsMessage (bytes head payload : List ℕ) : Type 0 where
 pub record InBody (S : Type 0) : Type 0 where
   pub stream : Unbuffered S
   pub head : List ℕ
-  pub said : Said
+  pub said : ParsedHead
   pub rest : Rest
 
-abbrev pub begun : {S : Type 0} → Unbuffered S → List ℕ → Said → InBody S
+abbrev pub begun : {S : Type 0} → Unbuffered S → List ℕ → ParsedHead → InBody S
 begun stream head said = record { stream = stream; head = head; said = said; rest = body_of said.extent }
 
 -- the reader stands in front of a body, behind its head, which was the next piece
-pub record Begun {S : Type 0} (remaining : S → Option (List ℕ)) (s : Piecing S Heads) (b : InBody S) : Type 0 where
-  pub behind : Piecing S Heads
+pub record Begun {S : Type 0} (remaining : S → Option (List ℕ)) (s : ReaderState S Heads) (b : InBody S) : Type 0 where
+  pub behind : ReaderState S Heads
   pub next : NextPiece remaining heads s (Ok (Some b.head)) behind
   pub stream : b.stream ≡ left_of behind
   pub is : IsHead b.head b.said

@@ -8,14 +8,14 @@ use Rattle.buffer_redux.specs.UnbufferLaws.{StreamWent-front, StreamWent-joins, 
 use Rattle.chunked.specs.BodyLaws.{IsBody-same}
 use Rattle.codec.specs.NextPiece.{NextPiece}
 use Rattle.codec.specs.PiecesWentLaws.{PiecesWent-stream}
-use Rattle.codec.specs.Piecing.{Piecing, left_of}
+use Rattle.codec.specs.PieceReader.{ReaderState, left_of}
 use Rattle.httparse.proofs.GrammarLemmas.{request_unique}
 use Rattle.http1.specs.Framing.{method_kind, request_framing}
 use Rattle.http1.specs.Message.{known_of}
 use Rattle.messages.specs.declared.head.Extent.{Extent}
 use Rattle.messages.specs.declared.head.Extent.TheVariants.{Sized, Chunked}
 use Rattle.messages.specs.declared.head.Heads as head
-use Rattle.messages.specs.declared.head.Said.{Said}
+use Rattle.messages.specs.declared.head.ParsedHead.{ParsedHead}
 use Rattle.messages.specs.Heads.{IsHead, IsHeadPiece, extent_of, heads, texts}
 use Rattle.messages.specs.HeadsLaws.{heads_lawful}
 use Rattle.messages.specs.Messages.{AreMessages, Begun, InBody, InTurn, InsideGoes, IsMessage, IsRest, Message, MessageWent, MessagesWent, Onward, Rest, Takes, body_of}
@@ -28,7 +28,7 @@ split a b xs ys long same = (
 )
 
 -- a head says in one way where the body ends
-pub one_extent : (bytes : List ℕ) (e e' : Said) → IsHead bytes e → IsHead bytes e' → e.extent ≡ e'.extent
+pub one_extent : (bytes : List ℕ) (e e' : ParsedHead) → IsHead bytes e → IsHead bytes e' → e.extent ≡ e'.extent
 one_extent bytes e e' is is' =
     let same = request_unique bytes is.head is'.head [] [] is.reads is'.reads in
     let both : Some e.extent ≡ Some e'.extent =
@@ -94,7 +94,7 @@ Onward-joins r q u a b h k first second later payload is =
 
 module _ {S : Type 0} (remaining : S → Option (List ℕ)) where
   -- a head that was handed out
-  pub lent : (s t : Piecing S head.Heads) (bytes : List ℕ) (next : NextPiece remaining heads s (Ok (Some bytes)) t)
+  pub lent : (s t : ReaderState S head.Heads) (bytes : List ℕ) (next : NextPiece remaining heads s (Ok (Some bytes)) t)
       → (next.bytes ≡ bytes) × IsHeadPiece bytes bytes
   lent s t bytes next =
       let piece : IsHeadPiece next.bytes bytes = elim next.answers.1 [ inl is ↦ is.0 | inr last ↦ absurd last.0 ] in (
@@ -108,7 +108,7 @@ module _ {S : Type 0} (remaining : S → Option (List ℕ)) where
         },
       )
 
-  pub Begun-went : (s : Piecing S head.Heads) (b : InBody S) → Begun remaining s b
+  pub Begun-went : (s : ReaderState S head.Heads) (b : InBody S) → Begun remaining s b
       → StreamWent remaining (left_of s) b.head b.stream
   Begun-went s b begun =
       subst (λ l. StreamWent remaining (left_of s) l b.stream) (lent s begun.behind b.head begun.next).0
@@ -139,7 +139,7 @@ module _ {S : Type 0} (remaining : S → Option (List ℕ)) where
   }
 
   -- whatever was read of it, a message that is begun and ended went whole
-  pub MessageWent-of : (s : Piecing S head.Heads) (b m : InBody S) (handed wire payload : List ℕ) (t : Unbuffered S)
+  pub MessageWent-of : (s : ReaderState S head.Heads) (b m : InBody S) (handed wire payload : List ℕ) (t : Unbuffered S)
       → Begun remaining s b → Takes remaining b.stream b.rest handed m.stream m.rest → StreamWent remaining m.stream wire t
       → IsRest m.rest wire payload → MessageWent remaining (left_of s) b.head (handed ++ payload) t
   MessageWent-of s b m handed wire payload t begun takes went is = record {

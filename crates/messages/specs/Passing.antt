@@ -1,7 +1,7 @@
 -- Messages that are passed, one after another.
 use Rattle.std.specs.Prelude.{ℕ, ◌<◌, List, [], length, Option}
 use Rattle.buffer_redux.specs.Unbuffer.{StreamWent, Unbuffered}
-use Rattle.codec.specs.Piecing.{left_of}
+use Rattle.codec.specs.PieceReader.{left_of}
 use Rattle.messages.specs.declared.laws.Stopped.{Stopped}
 use Rattle.messages.specs.declared.laws.Stopped.TheVariants.{Before, Inside}
 use Rattle.messages.specs.Messages.{Message, MessageBegun, MessagesWent}

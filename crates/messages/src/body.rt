@@ -4,12 +4,12 @@ ghost use Rattle.chunked.specs.Asking.{AskedWhere};
 ghost use Rattle.buffer_redux.specs.BufReader.{ReadsAlong};
 ghost use Rattle.buffer_redux.specs.Policy.{std_read_rules};
 ghost use Rattle.buffer_redux.specs.Unbuffer.{unbuffered};
-ghost use Rattle.codec.specs.Piecing.{left_of};
+ghost use Rattle.codec.specs.PieceReader.{left_of};
 ghost use Rattle.messages.specs.Messages.{Bytes, Chunks, Ends, Fails, FailsBehind, FinishFails, GoesOn, InsideGoes, IsReady, IsRest, NoFault, Takes, Unended, begun, handed_out};
 ghost use Rattle.messages.specs.Source.{HasRoom, rest_of, stream_of};
 
 use crate::error::{BodyError, FinishError, unread};
-use crate::head::{Extent, Heads, Said};
+use crate::head::{Extent, Heads, ParsedHead};
 use crate::requests::Requests;
 use buffer_redux::tell::{Tell, TellRead};
 use buffer_redux::{BufReader, Buffer, MakeError};
@@ -39,7 +39,7 @@ pub struct Body<R: Tell> {
     alloc: Global,
     source: Source<R>,
     head: Buffer,
-    said: Said,
+    said: ParsedHead,
 }
 
 impl<R: Tell> Model for Body<R> {
@@ -61,7 +61,7 @@ impl<R: Tell> Model for Body<R> {
 
 impl<R: Tell> Body<R> {
     /// The body of a message with this head, of which the reader has the beginning.
-    pub(crate) fn new(alloc: Global, reader: BufReader<R>, head: Buffer, said: Said) -> Self
+    pub(crate) fn new(alloc: Global, reader: BufReader<R>, head: Buffer, said: ParsedHead) -> Self
         requires room { 8192 ≤ head.capacity }
         requires some { 0 < reader.block.capacity }
         ensures { result ≡ begun (unbuffered reader) head.bytes said }
@@ -86,7 +86,7 @@ impl<R: Tell> Body<R> {
     }
 
     /// What the head says.
-    pub fn said(&self) -> Said
+    pub fn said(&self) -> ParsedHead
         ensures { result ≡ self.now.said }
     {
         self.said

@@ -1,11 +1,11 @@
 //! Heads of requests as pieces, and what they say of the body.
 ghost use Rattle.std.specs.Prelude.{◌≡◌, IfNone, IfSome};
 ghost use Rattle.http1.specs.Message.{has_one_host};
-ghost use Rattle.messages.specs.declared.head.Said.{Said};
+ghost use Rattle.messages.specs.declared.head.ParsedHead.{ParsedHead};
 ghost use Rattle.messages.specs.Heads.{IsHead, expects, extent_of, is_bare, is_connect, keeps};
 
 use crate::lines::Lines;
-use codec::{ByHead, ByScan, Decoder, End, Found, HeadError, Span};
+use codec::{ByHeader, ByScan, Decoder, End, Found, HeaderError, Span};
 use http1::fields::KnownFields;
 use http1::framing::{Framing, FramingError, MethodKind, request_framing};
 use httparse::Status;
@@ -30,7 +30,7 @@ pub enum Extent {
 
 /// What a head says.
 #[derive(Clone, Copy, Debug, PartialEq, Eq, Drop)]
-pub struct Said {
+pub struct ParsedHead {
     /// Where the body ends.
     pub extent: Extent,
     /// Whether the answer has no body, as one to `HEAD`, whatever its fields say.
@@ -45,7 +45,7 @@ pub struct Said {
 #[derive(Clone, Copy, Debug, PartialEq, Eq, Drop)]
 pub enum BadHead {
     /// Its lines don't end by CR LF, or are too many, or are cut short.
-    Lines(HeadError),
+    Lines(HeaderError),
     /// The lines are no request of HTTP/1.1, or it isn't plain where its body ends.
     Refused,
 }
@@ -78,7 +78,7 @@ impl Decoder for Heads {
     }
 
     fn decode(&self, bytes: &[u8], _seen: usize) -> Found<BadHead> {
-        match ByHead(ByScan(Lines)).decode(bytes, 0) {
+        match ByHeader(ByScan(Lines)).decode(bytes, 0) {
             Found::Piece(_, used) => match read_head(&bytes[..used]) {
                 Some(_) => Found::Piece(Span { from: 0, len: used }, used),
                 None => Found::Wrong(BadHead::Refused),
@@ -89,7 +89,7 @@ impl Decoder for Heads {
     }
 
     fn at_end(&self, bytes: &[u8]) -> End<BadHead> {
-        End::Wrong(BadHead::Lines(HeadError::Truncated(bytes.len())))
+        End::Wrong(BadHead::Lines(HeaderError::Truncated(bytes.len())))
     }
 
     ghost lawful = { λ _. heads_lawful };
@@ -97,9 +97,9 @@ impl Decoder for Heads {
 
 /// What a head says: these bytes are just a head, of HTTP/1.0 or 1.1, with one `Host`, which 1.0 may leave out, and at most one
 /// field that says where the body ends, as RFC 9112, section 6 has it. `CONNECT` is refused: a tunnel begins behind it.
-pub fn read_head(head: &[u8]) -> Option<Said>
+pub fn read_head(head: &[u8]) -> Option<ParsedHead>
     ensures some { IfSome result (λ said. IsHead head.now said) }
-    ensures none { IfNone result ((said : Said) → ¬ (IsHead head.now said)) }
+    ensures none { IfNone result ((said : ParsedHead) → ¬ (IsHead head.now said)) }
 {
     let mut fields = [EMPTY_HEADER_SPAN; MAX_FIELDS];
     let Ok(Status::Complete(spans)) = parse_request(head, &mut fields) else {
@@ -117,7 +117,7 @@ pub fn read_head(head: &[u8]) -> Option<Said>
         return None;
     }
     match extent_of(request_framing(method, spans.version, &known)) {
-        Some(extent) => Some(Said {
+        Some(extent) => Some(ParsedHead {
             extent,
             bare: is_bare(method),
             keeps: keeps(spans.version, &known),

@@ -1,7 +1,7 @@
 //! Laws, each as the contract of a function.
 ghost use Rattle.std.specs.Prelude.{◌≡◌, ℕ, List, ◌∷◌, [], ◌++◌, length, IfErr, IfOk, Some};
 ghost use Rattle.buffer_redux.specs.Unbuffer.{Unbuffered, unbuffer_remaining};
-ghost use Rattle.codec.specs.Piecing.{Piecing, left_of};
+ghost use Rattle.codec.specs.PieceReader.{ReaderState, left_of};
 ghost use Rattle.messages.specs.declared.head.Heads as head;
 ghost use Rattle.messages.specs.Messages.{AreMessages, Begun, Ends, InBody, Message, MessageWent, MessagesWent, Takes};
 ghost use Rattle.messages.specs.Passing.{StopsBehind, StopsIn};
@@ -23,7 +23,7 @@ pub fn one_cut()
 /// messages that went are its first, and what follows them is left (`known`). Where a call failed, the reader that it hands back
 /// stands before the same head, or in the same body, of which what was taken is gone (`next`, `read` and `finish` say so).
 pub fn no_byte_between<R: TellRead>(requests: &Requests<R>)
-    ensures one { (s : Piecing R head.Heads) (b m : InBody R) (handed : List ℕ) → Begun R.remaining s b
+    ensures one { (s : ReaderState R head.Heads) (b m : InBody R) (handed : List ℕ) → Begun R.remaining s b
         → Takes R.remaining b.stream b.rest handed m.stream m.rest
         → (ends : Ends R.remaining m.stream m.rest (left_of requests.now))
         → MessageWent R.remaining (left_of s) b.head (handed ++ ends.payload) (left_of requests.now) }

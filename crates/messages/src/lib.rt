@@ -13,5 +13,5 @@ mod requests;
 
 pub use body::Body;
 pub use error::{BodyError, FinishError};
-pub use head::{BadHead, Extent, Heads, MAX_FIELDS, MAX_HEAD, Said, read_head};
+pub use head::{BadHead, Extent, Heads, MAX_FIELDS, MAX_HEAD, ParsedHead, read_head};
 pub use requests::{Requests, Stop};

@@ -1,6 +1,6 @@
 //! Where a head ends: behind the first empty line, where CR LF ends each line.
 use crate::head::MAX_HEAD;
-use codec::{Scan, Turn};
+use codec::{Scan, ScanStep};
 
 /// What stands before the next byte of a head.
 #[derive(Clone, Copy, Debug, Drop)]
@@ -31,30 +31,30 @@ impl Scan for Lines {
         Before::Text
     }
 
-    fn turn(&self, before: Before, byte: u8) -> Turn<Before> {
+    fn turn(&self, before: Before, byte: u8) -> ScanStep<Before> {
         match before {
             Before::Text => match byte {
-                b'\r' => Turn::More(Before::Return),
-                b'\n' => Turn::Bad,
-                _ => Turn::More(Before::Text),
+                b'\r' => ScanStep::More(Before::Return),
+                b'\n' => ScanStep::Bad,
+                _ => ScanStep::More(Before::Text),
             },
             Before::Return => match byte {
-                b'\n' => Turn::More(Before::Feed),
-                _ => Turn::Bad,
+                b'\n' => ScanStep::More(Before::Feed),
+                _ => ScanStep::Bad,
             },
             Before::Feed => match byte {
-                b'\r' => Turn::More(Before::EmptyReturn),
-                b'\n' => Turn::Bad,
-                _ => Turn::More(Before::Text),
+                b'\r' => ScanStep::More(Before::EmptyReturn),
+                b'\n' => ScanStep::Bad,
+                _ => ScanStep::More(Before::Text),
             },
             Before::EmptyReturn => match byte {
-                b'\n' => Turn::Sized(0),
-                _ => Turn::Bad,
+                b'\n' => ScanStep::Sized(0),
+                _ => ScanStep::Bad,
             },
         }
     }
 
-    fn most_head(&self) -> usize {
+    fn most_header(&self) -> usize {
         MAX_HEAD
     }
 

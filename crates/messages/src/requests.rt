@@ -1,7 +1,7 @@
 //! The reader of requests, before a head.
 ghost use Rattle.std.specs.Prelude.{◌≡◌, ◌≤◌, IfErr, IfOk, MatchResult, false};
 ghost use Rattle.codec.specs.NextPiece.{NextPiece};
-ghost use Rattle.codec.specs.Piecing.{IsFresh, TakenApart};
+ghost use Rattle.codec.specs.PieceReader.{IsFresh, TakenApart};
 ghost use Rattle.messages.specs.Heads.{heads};
 ghost use Rattle.messages.specs.Messages.{Begun, answer_of};
 
@@ -36,10 +36,10 @@ pub struct Requests<R: Tell> {
 
 impl<R: Tell> Model for Requests<R> {
     ghost use Rattle.std.specs.Prelude.{◌≡◌, ◌≤◌, false};
-    ghost use Rattle.codec.specs.Piecing.{Piecing};
+    ghost use Rattle.codec.specs.PieceReader.{ReaderState};
     ghost use Rattle.messages.specs.declared.head.Heads.{Heads};
 
-    ghost Value = { Piecing R Heads };
+    ghost Value = { ReaderState R Heads };
 
     ghost view = { λ r. r.pieces };
 

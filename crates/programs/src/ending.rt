@@ -40,11 +40,11 @@ impl Ending {
     pub fn of_fault(e: &io::Error) -> Ending
         ensures { FailsAs e.now result }
     {
-        Ending::of_fault_so(e, Ending::Failed)
+        Ending::of_fault_or(e, Ending::Failed)
     }
 
     /// How a run ends that failed with this error: so, or for want of memory.
-    pub fn of_fault_so(e: &io::Error, failed: Ending) -> Ending
+    pub fn of_fault_or(e: &io::Error, failed: Ending) -> Ending
         ensures { FailsSo failed e.now result }
     {
         if e.kind() == ErrorKind::OutOfMemory {
@@ -69,14 +69,14 @@ impl Ending {
 
 /// An ending in the words of a program of this name, behind which these words are expected.
 #[derive(Clone, Copy, Debug)]
-pub struct Said<'a> {
+pub struct Report<'a> {
     pub program: &'a str,
     pub usage: &'a str,
     pub ending: Ending,
 }
 
 /// The line for standard error; of a run that is done there is none.
-impl fmt::Display for Said<'_> {
+impl fmt::Display for Report<'_> {
     ghost use Rattle.std.specs.Prelude.{Some};
     ghost use Rattle.programs.specs.Ending.{line_of};
 

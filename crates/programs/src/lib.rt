@@ -8,5 +8,5 @@ mod ending;
 mod words;
 
 pub use buffers::{GREATEST_CAPACITY, buffered, buffered_writer, make_room, put};
-pub use ending::{Ending, Said, end};
+pub use ending::{Ending, Report, end};
 pub use words::{args, number, only_word};

@@ -34,10 +34,10 @@ end_counted before shown = (grind arith, grind arith)
 no_end : (before : ℕ) (shown : List ℕ) → 0 < length shown → with_end before shown ≡ before
 no_end before shown some = grind arith
 
-module _ {W : Type 0} (tells : W → StreamLog) (stretch call : W → W → Type 0) (from : StreamLog) (w : W) where
+module _ {W : Type 0} (tells : W → StreamLog) (trace call : W → W → Type 0) (from : StreamLog) (w : W) where
   -- a turn whose fill failed
   pub not_filled : (shown : List ℕ) (e : Error)
-      → CopyTurn tells stretch call (Err e) from.fills (after_fill_fault from shown e).fills w w
+      → CopyTurn tells trace call (Err e) from.fills (after_fill_fault from shown e).fills w w
   not_filled shown e =
       let none : MetInterrupts (tells w).writes (tells w).writes =
       record { interrupts = []; only = OnlyInterrupted-none (tells w).writes } in
@@ -88,9 +88,9 @@ module _ {W : Type 0} (tells : W → StreamLog) (stretch call : W → W → Type
       }
 
   -- a turn whose write failed
-  pub not_written : ((x : W) → stretch x x) → (bytes : List ℕ) (e : Error) (w' : W)
+  pub not_written : ((x : W) → trace x x) → (bytes : List ℕ) (e : Error) (w' : W)
       → tells w' ≡ after_write (tells w) bytes (Err e) → call w w'
-      → CopyTurn tells stretch call (Err e) from.fills (after_shown from bytes).fills w w'
+      → CopyTurn tells trace call (Err e) from.fills (after_shown from bytes).fills w w'
   not_written none bytes e w' told called =
       let faults = ap (λ l. l.writes.faults) told in
       let kept = still from.fills (after_shown from bytes).fills (tells w).writes (tells w').writes refl refl
@@ -157,20 +157,20 @@ module _ {W : Type 0} (tells : W → StreamLog) (stretch call : W → W → Type
       }
 
 -- the last turn of those that are begun again
-module _ {W : Type 0} (tells : W → StreamLog) (stretch call : W → W → Type 0)
-    (joins : (u v w : W) → stretch u v → stretch v w → stretch u w) {a b : FillLog} {x y : W}
-    (before : CopiesOn 0 a b (tells x).writes (tells y).writes) (went : stretch x y)
-    (still : TakesNothing tells stretch call x → b.zero_fills ≡ a.zero_fills) where
+module _ {W : Type 0} (tells : W → StreamLog) (trace call : W → W → Type 0)
+    (joins : (u v w : W) → trace u v → trace v w → trace u w) {a b : FillLog} {x y : W}
+    (before : CopiesOn 0 a b (tells x).writes (tells y).writes) (went : trace x y)
+    (still : TakesNothing tells trace call x → b.zero_fills ≡ a.zero_fills) where
   pub last_retried : {c : FillLog} {z : W} (answer : Result ℕ Error)
       → FaultsRise 64 a b (tells x).writes (tells y).writes → FaultsAtMost 64 a b (tells x).writes (tells y).writes
-      → CopyTurn tells stretch call answer b c y z → CopyRetried tells stretch call answer a c x z
+      → CopyTurn tells trace call answer b c y z → CopyRetried tells trace call answer a c x z
   last_retried (Ok n) rise few turn = record {
-    answers = TurnAnswers-after tells stretch call joins before went still (Ok n) turn.answers;
+    answers = TurnAnswers-after tells trace call joins before went still (Ok n) turn.answers;
     often = tt;
     few = omega (arith, few, turn.one_fault);
   }
   last_retried (Err e) rise few turn = record {
-    answers = TurnAnswers-after tells stretch call joins before went still (Err e) turn.answers;
+    answers = TurnAnswers-after tells trace call joins before went still (Err e) turn.answers;
     often = λ is. omega (arith, rise, turn.one_fault);
     few = omega (arith, few, turn.one_fault);
   }

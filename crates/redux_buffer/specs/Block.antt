@@ -97,8 +97,8 @@ abbrev pub overwrite : List ℕ → List ℕ → List ℕ
 overwrite xs ws = take (length xs) (ws ++ drop (length ws) xs)
 
 -- what `write_buf` lends out of: a ring whose place has passed its capacity is drawn back to the front
-abbrev pub draw_back : Placed → Placed
-draw_back p = by_kind p.block.kind p (
+abbrev pub compact : Placed → Placed
+compact p = by_kind p.block.kind p (
     if nat_lt p.block.capacity p.place
     then record { block = record p.block { moved = p.block.moved + length p.block.bytes; tail_behind = true }; place = 0 }
     else p)
@@ -109,7 +109,7 @@ IsInFront p = OnKind p.block.kind ⊤ (p.place ≤ p.block.capacity)
 
 -- p with ws written over its tail
 abbrev pub with_tail : Placed → List ℕ → Placed
-with_tail p ws = let q = draw_back p in record q { block = record q.block { tail = overwrite p.block.tail ws } }
+with_tail p ws = let q = compact p in record q { block = record q.block { tail = overwrite p.block.tail ws } }
 
 -- b with ws written over its bytes. A ws that is longer, which no loan leaves, goes on into a tail that is behind them
 abbrev pub with_bytes : Block → List ℕ → Block

@@ -43,20 +43,20 @@ pub record CopiesOn (n : ℕ) (from from' : FillLog) (to to' : WriteLog) : Type 
   pub writer : MetInterrupts to to'
 
 -- the writer was at most interrupted, up to its last call: a write of these bytes with this answer
-pub record LastWrite {W : Type 0} (tells : W → StreamLog) (stretch call : W → W → Type 0)
+pub record LastWrite {W : Type 0} (tells : W → StreamLog) (trace call : W → W → Type 0)
     (w : W) (bytes : List ℕ) (answer : Result ℕ Error) (w' : W) : Type 0 where
   pub before : W
-  pub went : stretch w before
+  pub went : trace w before
   pub met : MetInterrupts (tells w).writes (tells before).writes
   pub called : call before w'
   pub told : tells w' ≡ after_write (tells before) bytes answer
 
 -- copying ended: the last write took nothing of all that is shown, the reader was at most interrupted, and where it had
 -- nothing to show it told so
-pub record CopyEnded {W : Type 0} (tells : W → StreamLog) (stretch call : W → W → Type 0)
+pub record CopyEnded {W : Type 0} (tells : W → StreamLog) (trace call : W → W → Type 0)
     (from from' : FillLog) (w w' : W) : Type 0 where
   pub reader : OnlyInterrupts from.faults from'.faults
-  pub last : LastWrite tells stretch call w from'.shown (Ok 0) w'
+  pub last : LastWrite tells trace call w from'.shown (Ok 0) w'
   pub ends : length from'.shown ≡ 0 → from.zero_fills < from'.zero_fills
 
 -- the reader, whose faults these are, failed with this error, and the writer was at most interrupted
@@ -65,16 +65,16 @@ pub record SourceFailed (e : Error) (faults faults' : List Error) (to to' : Writ
   pub writer : MetInterrupts to to'
 
 -- the last write, of all that is shown, failed with this error, and the reader was at most interrupted
-pub record TargetFailed {W : Type 0} (tells : W → StreamLog) (stretch call : W → W → Type 0)
+pub record TargetFailed {W : Type 0} (tells : W → StreamLog) (trace call : W → W → Type 0)
     (e : Error) (from from' : FillLog) (w w' : W) : Type 0 where
   pub reader : OnlyInterrupts from.faults from'.faults
-  pub last : LastWrite tells stretch call w from'.shown (Err e) w'
+  pub last : LastWrite tells trace call w from'.shown (Err e) w'
 
 abbrev pub StreamFailed : {W : Type 0} → (W → StreamLog) → (W → W → Type 0) → (W → W → Type 0) → Error
     → FillLog → FillLog → W → W → Type 0
-StreamFailed tells stretch call e from from' w w' =
+StreamFailed tells trace call e from from' w w' =
     SourceFailed e from.faults from'.faults (tells w).writes (tells w').writes
-    ⊎ TargetFailed tells stretch call e from from' w w'
+    ⊎ TargetFailed tells trace call e from from' w w'
 
 -- more bytes were moved than a `u64` counts, and the streams were at most interrupted
 pub record MovedTooMuch (e : Error) (from from' : FillLog) (to to' : WriteLog) : Type 0 where
@@ -86,8 +86,8 @@ pub record MovedTooMuch (e : Error) (from from' : FillLog) (to to' : WriteLog) :
 -- why a copy failed with this error
 abbrev pub CopyFailed : {W : Type 0} → (W → StreamLog) → (W → W → Type 0) → (W → W → Type 0) → Error
     → FillLog → FillLog → W → W → Type 0
-CopyFailed tells stretch call e from from' w w' =
-    StreamFailed tells stretch call e from from' w w'
+CopyFailed tells trace call e from from' w w' =
+    StreamFailed tells trace call e from from' w w'
     ⊎ MovedTooMuch e from from' (tells w).writes (tells w').writes
 
 -- the streams met just so many faults, both together
@@ -113,8 +113,8 @@ MeetsFewFaults (Err e) from from' to to' = FaultsAtMost (64 * (consumed_since fr
 
 -- whatever calls the writer went through, no write of nothing fails
 abbrev pub TakesNothing : {W : Type 0} → (W → StreamLog) → (W → W → Type 0) → (W → W → Type 0) → W → Type 0
-TakesNothing {W} tells stretch call w =
-    (before after : W) (e : Error) → stretch w before → call before after → tells after ≢ after_write (tells before) [] (Err e)
+TakesNothing {W} tells trace call w =
+    (before after : W) (e : Error) → trace w before → call before after → tells after ≢ after_write (tells before) [] (Err e)
 
 -- at Ok the reader showed nothing once at most, and at an `Err` never
 abbrev pub ShowsOneEnd : {A : Type 0} → Result A Error → FillLog → FillLog → Type 0
@@ -122,38 +122,38 @@ ShowsOneEnd (Ok a) from from' = from'.zero_fills ≤ from.zero_fills + 1
 ShowsOneEnd (Err e) from from' = from'.zero_fills ≡ from.zero_fills
 
 -- the last turn of a copy: it moved nothing, and its fill had no consume
-pub record TurnEnded {W : Type 0} (tells : W → StreamLog) (stretch call : W → W → Type 0)
+pub record TurnEnded {W : Type 0} (tells : W → StreamLog) (trace call : W → W → Type 0)
     (from from' : FillLog) (w w' : W) : Type 0 where
-  pub ended : CopyEnded tells stretch call from from' w w'
+  pub ended : CopyEnded tells trace call from from' w w'
   pub nothing : MovedBy 0 from from' (tells w).writes (tells w').writes
   pub fills : FillsMade 1 from from' (tells w).writes (tells w').writes
 
 -- a turn in which a stream failed: it moved nothing
-pub record TurnFailed {W : Type 0} (tells : W → StreamLog) (stretch call : W → W → Type 0) (e : Error)
+pub record TurnFailed {W : Type 0} (tells : W → StreamLog) (trace call : W → W → Type 0) (e : Error)
     (from from' : FillLog) (w w' : W) : Type 0 where
-  pub failed : StreamFailed tells stretch call e from from' w w'
+  pub failed : StreamFailed tells trace call e from from' w w'
   pub nothing : MovedBy 0 from from' (tells w).writes (tells w').writes
   pub fills : FillsMade 0 from from' (tells w).writes (tells w').writes
 
 -- what one turn of a copy answered, also one that was begun again where it was interrupted: how many bytes went over, none
 -- at the end, or why a stream failed
-pub record TurnAnswers {W : Type 0} (tells : W → StreamLog) (stretch call : W → W → Type 0) (result : Result ℕ Error)
+pub record TurnAnswers {W : Type 0} (tells : W → StreamLog) (trace call : W → W → Type 0) (result : Result ℕ Error)
     (from from' : FillLog) (w w' : W) : Type 0 where
   pub copies : IfOk result (λ n. 0 < n → CopiesOn n from from' (tells w).writes (tells w').writes)
-  pub ended : result ≡ Ok 0 → TurnEnded tells stretch call from from' w w'
-  pub failed : IfErr result (λ e. TurnFailed tells stretch call e from from' w w')
+  pub ended : result ≡ Ok 0 → TurnEnded tells trace call from from' w w'
+  pub failed : IfErr result (λ e. TurnFailed tells trace call e from from' w w')
   pub writes : WritesEachFill from from' (tells w).writes (tells w').writes
   pub ends_shown : MatchResult result
       (λ _. EndsShown 1 from from' (tells w).writes (tells w').writes)
       (λ _. EndsShown 0 from from' (tells w).writes (tells w').writes)
-  pub one_end : TakesNothing tells stretch call w → ShowsOneEnd result from from'
-  pub none_ended : TakesNothing tells stretch call w → IfOk result (λ n. 0 < n → from'.zero_fills ≡ from.zero_fills)
+  pub one_end : TakesNothing tells trace call w → ShowsOneEnd result from from'
+  pub none_ended : TakesNothing tells trace call w → IfOk result (λ n. 0 < n → from'.zero_fills ≡ from.zero_fills)
 
 -- one turn of a copy: one fill, then one write of all that it shows, none where the fill failed, and so one consume where
 -- bytes went over; a failure is one fault, which moved nothing
-pub record CopyTurn {W : Type 0} (tells : W → StreamLog) (stretch call : W → W → Type 0) (result : Result ℕ Error)
+pub record CopyTurn {W : Type 0} (tells : W → StreamLog) (trace call : W → W → Type 0) (result : Result ℕ Error)
     (from from' : FillLog) (w w' : W) : Type 0 where
-  pub answers : TurnAnswers tells stretch call result from from' w w'
+  pub answers : TurnAnswers tells trace call result from from' w w'
   pub interrupted : IfErr result
       (λ e. error_kind e ≡ Interrupted → CopiesOn 0 from from' (tells w).writes (tells w').writes)
   pub one_fill : from'.asks ≡ from.asks + 1
@@ -168,9 +168,9 @@ pub record CopyTurn {W : Type 0} (tells : W → StreamLog) (stretch call : W →
       (λ _. FaultsMet 1 from from' (tells w).writes (tells w').writes)
 
 -- a turn that is begun again where it was interrupted, 64 times at the most
-pub record CopyRetried {W : Type 0} (tells : W → StreamLog) (stretch call : W → W → Type 0) (result : Result ℕ Error)
+pub record CopyRetried {W : Type 0} (tells : W → StreamLog) (trace call : W → W → Type 0) (result : Result ℕ Error)
     (from from' : FillLog) (w w' : W) : Type 0 where
-  pub answers : TurnAnswers tells stretch call result from from' w w'
+  pub answers : TurnAnswers tells trace call result from from' w w'
   pub often : IfErr result
       (λ e. error_kind e ≡ Interrupted → FaultsRise 65 from from' (tells w).writes (tells w').writes)
   pub few : MatchResult result
@@ -179,13 +179,13 @@ pub record CopyRetried {W : Type 0} (tells : W → StreamLog) (stretch call : W 
 
 -- a whole copy: at Ok it ended, and the total is the number of bytes that went over; at an `Err` some went over, and
 -- `Interrupted` comes only after 64 more such faults; and each fill and each write was one of a turn
-pub record CopyBuf {W : Type 0} (tells : W → StreamLog) (stretch call : W → W → Type 0) (result : Result ℕ Error)
+pub record CopyBuf {W : Type 0} (tells : W → StreamLog) (trace call : W → W → Type 0) (result : Result ℕ Error)
     (from from' : FillLog) (w w' : W) : Type 0 where
   pub moved : MatchResult result
       (λ n. MovedBy n from from' (tells w).writes (tells w').writes)
       (λ _. (n : ℕ) × MovedBy n from from' (tells w).writes (tells w').writes)
-  pub ended : OnOk result (CopyEnded tells stretch call from from' w w')
-  pub failed : IfErr result (λ e. CopyFailed tells stretch call e from from' w w')
+  pub ended : OnOk result (CopyEnded tells trace call from from' w w')
+  pub failed : IfErr result (λ e. CopyFailed tells trace call e from from' w w')
   pub often : IfErr result
       (λ e. error_kind e ≡ Interrupted → FaultsRise 65 from from' (tells w).writes (tells w').writes)
   pub few : MeetsFewFaults result from from' (tells w).writes (tells w').writes
@@ -196,7 +196,7 @@ pub record CopyBuf {W : Type 0} (tells : W → StreamLog) (stretch call : W → 
   pub ends_shown : MatchResult result
       (λ _. EndsShown 1 from from' (tells w).writes (tells w').writes)
       (λ _. EndsShown 0 from from' (tells w).writes (tells w').writes)
-  pub one_end : TakesNothing tells stretch call w → ShowsOneEnd result from from'
+  pub one_end : TakesNothing tells trace call w → ShowsOneEnd result from from'
 
 -- the writer received just what the reader, of which all that is left is known, lost
 pub record MovesKnown (left left' : Option (List ℕ)) (to to' : WriteLog) : Type 0 where

@@ -59,11 +59,11 @@ module _ {n : ℕ} {a b : FillLog} {x y : WriteLog} (before : CopiesOn n a b x y
   }
 
 -- what comes after turns in which the streams were at most interrupted
-module _ {W : Type 0} (tells : W → StreamLog) (stretch call : W → W → Type 0)
-    (joins : (u v w : W) → stretch u v → stretch v w → stretch u w) {n : ℕ} {a b : FillLog} {x y : W}
-    (before : CopiesOn n a b (tells x).writes (tells y).writes) (went : stretch x y) where
+module _ {W : Type 0} (tells : W → StreamLog) (trace call : W → W → Type 0)
+    (joins : (u v w : W) → trace u v → trace v w → trace u w) {n : ℕ} {a b : FillLog} {x y : W}
+    (before : CopiesOn n a b (tells x).writes (tells y).writes) (went : trace x y) where
   LastWrite-after : {z : W} (bytes : List ℕ) (answer : Result ℕ Error)
-      → LastWrite tells stretch call y bytes answer z → LastWrite tells stretch call x bytes answer z
+      → LastWrite tells trace call y bytes answer z → LastWrite tells trace call x bytes answer z
   LastWrite-after bytes answer last = record {
     before = last.before;
     went = joins x y last.before went last.went;
@@ -74,7 +74,7 @@ module _ {W : Type 0} (tells : W → StreamLog) (stretch call : W → W → Type
   }
 
   pub CopyEnded-after : {c : FillLog} {z : W}
-      → CopyEnded tells stretch call b c y z → CopyEnded tells stretch call a c x z
+      → CopyEnded tells trace call b c y z → CopyEnded tells trace call a c x z
   CopyEnded-after {c} ended = record {
     reader = OnlyInterrupts-joins a.faults b.faults c.faults before.reader ended.reader;
     last = LastWrite-after c.shown (Ok 0) ended.last;
@@ -82,7 +82,7 @@ module _ {W : Type 0} (tells : W → StreamLog) (stretch call : W → W → Type
   }
 
   pub StreamFailed-after : {e : Error} {c : FillLog} {z : W}
-      → StreamFailed tells stretch call e b c y z → StreamFailed tells stretch call e a c x z
+      → StreamFailed tells trace call e b c y z → StreamFailed tells trace call e a c x z
   StreamFailed-after {e} {c} {z} (inl source) = inl (record {
     fault = FaultAfterInterrupts-after a.faults b.faults c.faults e before.reader source.fault;
     writer =
@@ -100,37 +100,37 @@ module _ {a b : FillLog} {x y : WriteLog} (before : CopiesOn 0 a b x y) where
       subst (λ k. CopiesOn k a c x z) (omega arith) (CopiesOn-joins before last)
 
 -- what takes nothing from here on does so later too
-pub TakesNothing-after : {W : Type 0} (tells : W → StreamLog) (stretch call : W → W → Type 0)
-    → ((u v w : W) → stretch u v → stretch v w → stretch u w) → {x y : W} → stretch x y
-    → TakesNothing tells stretch call x → TakesNothing tells stretch call y
-TakesNothing-after tells stretch call joins {x} {y} went takes =
+pub TakesNothing-after : {W : Type 0} (tells : W → StreamLog) (trace call : W → W → Type 0)
+    → ((u v w : W) → trace u v → trace v w → trace u w) → {x y : W} → trace x y
+    → TakesNothing tells trace call x → TakesNothing tells trace call y
+TakesNothing-after tells trace call joins {x} {y} went takes =
     λ before after e on. takes before after e (joins x y before went on)
 
 -- what a turn answers that was begun again
-module _ {W : Type 0} (tells : W → StreamLog) (stretch call : W → W → Type 0)
-    (joins : (u v w : W) → stretch u v → stretch v w → stretch u w) {a b : FillLog} {x y : W}
-    (before : CopiesOn 0 a b (tells x).writes (tells y).writes) (went : stretch x y)
-    (still : TakesNothing tells stretch call x → b.zero_fills ≡ a.zero_fills) where
-  TurnEnded-after : {c : FillLog} {z : W} → TurnEnded tells stretch call b c y z → TurnEnded tells stretch call a c x z
+module _ {W : Type 0} (tells : W → StreamLog) (trace call : W → W → Type 0)
+    (joins : (u v w : W) → trace u v → trace v w → trace u w) {a b : FillLog} {x y : W}
+    (before : CopiesOn 0 a b (tells x).writes (tells y).writes) (went : trace x y)
+    (still : TakesNothing tells trace call x → b.zero_fills ≡ a.zero_fills) where
+  TurnEnded-after : {c : FillLog} {z : W} → TurnEnded tells trace call b c y z → TurnEnded tells trace call a c x z
   TurnEnded-after turn = record {
-    ended = CopyEnded-after tells stretch call joins before went turn.ended;
+    ended = CopyEnded-after tells trace call joins before went turn.ended;
     nothing = MovedBy-still before.moved turn.nothing;
     fills = omega (arith, before.fills, turn.fills);
   }
 
   TurnFailed-after : {e : Error} {c : FillLog} {z : W}
-      → TurnFailed tells stretch call e b c y z → TurnFailed tells stretch call e a c x z
+      → TurnFailed tells trace call e b c y z → TurnFailed tells trace call e a c x z
   TurnFailed-after turn = record {
-    failed = StreamFailed-after tells stretch call joins before went turn.failed;
+    failed = StreamFailed-after tells trace call joins before went turn.failed;
     nothing = MovedBy-still before.moved turn.nothing;
     fills = omega (arith, before.fills, turn.fills);
   }
 
-  takes_on : TakesNothing tells stretch call x → TakesNothing tells stretch call y
-  takes_on = TakesNothing-after tells stretch call joins went
+  takes_on : TakesNothing tells trace call x → TakesNothing tells trace call y
+  takes_on = TakesNothing-after tells trace call joins went
 
   pub TurnAnswers-after : {c : FillLog} {z : W} (answer : Result ℕ Error)
-      → TurnAnswers tells stretch call answer b c y z → TurnAnswers tells stretch call answer a c x z
+      → TurnAnswers tells trace call answer b c y z → TurnAnswers tells trace call answer a c x z
   TurnAnswers-after (Ok n) turn = record {
     copies = λ some. CopiesOn-after before (turn.copies some);
     ended = λ is. TurnEnded-after (turn.ended is);
@@ -151,8 +151,8 @@ module _ {W : Type 0} (tells : W → StreamLog) (stretch call : W → W → Type
   }
 
 -- how much went over in a copy, whatever it answered
-pub CopyBuf-moved : {W : Type 0} {tells : W → StreamLog} {stretch call : W → W → Type 0} {a b : FillLog} {x y : W}
-    → (answer : Result ℕ Error) → CopyBuf tells stretch call answer a b x y
+pub CopyBuf-moved : {W : Type 0} {tells : W → StreamLog} {trace call : W → W → Type 0} {a b : FillLog} {x y : W}
+    → (answer : Result ℕ Error) → CopyBuf tells trace call answer a b x y
     → (n : ℕ) × MovedBy n a b (tells x).writes (tells y).writes
 CopyBuf-moved (Ok n) copied = (n, copied.moved)
 CopyBuf-moved (Err e) copied = copied.moved

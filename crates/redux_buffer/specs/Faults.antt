@@ -119,7 +119,7 @@ row_parts xs ys es row all =
       subst (All IsInterrupt) (drop_at xs ys (length xs) refl) (All-drop IsInterrupt (length xs) (xs ++ ys) whole),
     )
 
--- where nothing but interrupted writes was met in a stretch, so it was in each of its parts
+-- where nothing but interrupted writes was met in a trace, so it was in each of its parts
 pub MetInterrupts-parts : (a b c : WriteLog) → WriteLogGrows a b → WriteLogGrows b c → MetInterrupts a c
     → MetInterrupts a b × MetInterrupts b c
 MetInterrupts-parts a b c p q met =

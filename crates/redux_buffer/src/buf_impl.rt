@@ -2,7 +2,7 @@
 ghost use Rattle.std.specs.Prelude.{◌≡◌, true, false, ◌+◌, ◌-◌, ◌^◌, ◌≤◌, ◌<◌, ◌↔◌, ◌++◌, ◌&&◌, length, min, take, drop, nat_le, nat_lt, IsTrue, IfOk, IsOk, OnOk, OnErr};
 ghost use Rattle.std.specs.Borrow.{Lends, Array, sem, u8};
 ghost use Rattle.redux_buffer.specs.GrowError.{FitsWithin};
-ghost use Rattle.redux_buffer.specs.Block.{Plain, Ring, IsPlaced, IsNew, GrowsToFront, BytesWritten, ConsumesFirst, Extends, Reserves, MakesRoom, CountsShift, IsInFront, usable, capacity_for, with_tail, with_bytes, draw_back, round};
+ghost use Rattle.redux_buffer.specs.Block.{Plain, Ring, IsPlaced, IsNew, GrowsToFront, BytesWritten, ConsumesFirst, Extends, Reserves, MakesRoom, CountsShift, IsInFront, usable, capacity_for, with_tail, with_bytes, compact, round};
 ghost use Rattle.redux_buffer.specs.BufImpl.{as_placed, with_placed};
 ghost use Rattle.redux_buffer.specs.contracts.buf_impl.BufImpl.{the_row};
 
@@ -208,16 +208,16 @@ impl BufImpl {
     // Draws a ring back, whose tail reaches past its storage.
     #[cold]
     #[inline(never)]
-    fn draw_back(&mut self)
+    fn compact(&mut self)
         requires ring { (as_placed self.old).block.kind ≡ Ring }
         requires far { (as_placed self.old).block.capacity < (as_placed self.old).place }
-        ensures draw_back { as_placed self.new ≡ draw_back (as_placed self.old) }
+        ensures compact { as_placed self.new ≡ compact (as_placed self.old) }
     {
         match self {
             BufImpl::Std(b) => {
                 let _ = b.capacity();
             }
-            BufImpl::Ringbuf(b) => b.draw_back(),
+            BufImpl::Ringbuf(b) => b.compact(),
         }
     }
 
@@ -239,7 +239,7 @@ impl BufImpl {
     }
 
     // Takes the first `n` bytes of such a tail as the last bytes.
-    fn take_front(&mut self, n: usize)
+    fn commit(&mut self, n: usize)
         requires fits { n ≤ usable (as_placed self.old).block }
         requires in_front { IsInFront (as_placed self.old) }
         ensures bytes { BytesWritten n (as_placed self.old).block (as_placed self.new).block }
@@ -248,10 +248,10 @@ impl BufImpl {
         ensures whole { IsPlaced (as_placed self.new) }
     {
         match self {
-            BufImpl::Std(b) => b.take_front(n),
+            BufImpl::Std(b) => b.commit(n),
             BufImpl::Ringbuf(b) => {
                 let _ = b.capacity();
-                b.take_front(n);
+                b.commit(n);
             }
         }
     }
@@ -261,16 +261,16 @@ impl BufImpl {
     pub(crate) fn append(&mut self, src: &[u8]) -> usize
         ensures count { result ≡ min (usable (as_placed self.old).block) (length src.now) }
         ensures bytes { Extends (take result src.now) (as_placed self.old).block (as_placed self.new).block }
-        ensures place { (as_placed self.new).place ≡ (draw_back (as_placed self.old)).place }
-        ensures moved { (as_placed self.new).block.moved ≡ (draw_back (as_placed self.old)).block.moved }
+        ensures place { (as_placed self.new).place ≡ (compact (as_placed self.old)).place }
+        ensures moved { (as_placed self.new).block.moved ≡ (compact (as_placed self.old)).block.moved }
         ensures whole { IsPlaced (as_placed self.new) }
     {
         if self.is_past() {
-            self.draw_back();
+            self.compact();
         }
         let n = src.len().min(self.usable_space());
         self.write_front(n).copy_from_slice(&src[..n]);
-        self.take_front(n);
+        self.commit(n);
         n
     }
 
@@ -279,16 +279,16 @@ impl BufImpl {
     pub(crate) fn append_all(&mut self, src: &[u8])
         requires fits { length src.now ≤ usable (as_placed self.old).block }
         ensures bytes { Extends src.now (as_placed self.old).block (as_placed self.new).block }
-        ensures place { (as_placed self.new).place ≡ (draw_back (as_placed self.old)).place }
-        ensures moved { (as_placed self.new).block.moved ≡ (draw_back (as_placed self.old)).block.moved }
+        ensures place { (as_placed self.new).place ≡ (compact (as_placed self.old)).place }
+        ensures moved { (as_placed self.new).block.moved ≡ (compact (as_placed self.old)).block.moved }
         ensures whole { IsPlaced (as_placed self.new) }
     {
         if self.is_past() {
-            self.draw_back();
+            self.compact();
         }
         let n = src.len();
         self.write_front(n).copy_from_slice(src);
-        self.take_front(n);
+        self.commit(n);
     }
 
     // Copies the first bytes to the front of `out`, as many as fit, drops them, and returns how many those are.
@@ -318,19 +318,19 @@ impl BufImpl {
         }
     }
 
-    /// Makes sure that `a` more bytes can be written. A refusal changes nothing.
-    pub fn reserve(&mut self, a: usize) -> Result<(), GrowError>
-        ensures grown { OnOk result (Reserves a (as_placed self.old).block (as_placed self.new).block) }
+    /// Makes sure that `additional` more bytes can be written. A refusal changes nothing.
+    pub fn reserve(&mut self, additional: usize) -> Result<(), GrowError>
+        ensures grown { OnOk result (Reserves additional (as_placed self.old).block (as_placed self.new).block) }
         ensures place { GrowsToFront (as_placed self.old) (as_placed self.new) }
         ensures shift { CountsShift 0 (as_placed self.old) (as_placed self.new) }
         ensures unchanged { OnErr result (as_placed self.new ≡ as_placed self.old) }
-        ensures limit { FitsWithin result (capacity_for (as_placed self.old).block a) (as_placed self.old).block.limit }
-        ensures succeeds { a ≤ usable (as_placed self.old).block → IsOk result }
+        ensures limit { FitsWithin result (capacity_for (as_placed self.old).block additional) (as_placed self.old).block.limit }
+        ensures succeeds { additional ≤ usable (as_placed self.old).block → IsOk result }
         ensures whole { IsPlaced (as_placed self.new) }
     {
         match self {
-            BufImpl::Std(b) => b.reserve(a),
-            BufImpl::Ringbuf(b) => b.reserve(a),
+            BufImpl::Std(b) => b.reserve(additional),
+            BufImpl::Ringbuf(b) => b.reserve(additional),
         }
     }
 }

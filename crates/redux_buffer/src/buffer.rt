@@ -243,11 +243,11 @@ impl Buffer {
     }
 
     // Whether the capacity that `reserve(a)` needs is within the limit.
-    fn allows(&self, a: usize) -> bool
-        ensures { IsTrue result ↔ (capacity_for self.now a ≤ self.now.limit) }
+    fn allows(&self, additional: usize) -> bool
+        ensures { IsTrue result ↔ (capacity_for self.now additional ≤ self.now.limit) }
     {
         let usable = self.usable_space();
-        if a <= usable {
+        if additional <= usable {
             return true;
         }
         let (kept, most) = if self.is_ringbuf() {
@@ -257,26 +257,26 @@ impl Buffer {
         } else {
             (self.capacity() - usable, self.limit)
         };
-        a <= most.saturating_sub(kept)
+        additional <= most.saturating_sub(kept)
     }
 
-    /// Makes sure that `a` more bytes can be written behind those that are buffered. Free space in front of a plain buffer's
-    /// bytes doesn't count: [`make_room`](Buffer::make_room) makes it usable.
+    /// Makes sure that `additional` more bytes can be written behind those that are buffered. Free space in front of a plain
+    /// buffer's bytes doesn't count: [`make_room`](Buffer::make_room) makes it usable.
     ///
-    /// A plain buffer grows by `a`, less what can be written already where bytes are buffered; a ring to what it holds and
-    /// `a`, rounded up. `TooLarge` is returned where that capacity passes [`limit`](Buffer::limit), and `Memory` where memory
-    /// was refused. Either changes nothing.
-    pub fn reserve(&mut self, a: usize) -> Result<(), GrowError>
-        ensures grown { OnOk result (Reserves a self.old self.new) }
+    /// A plain buffer grows by `additional`, less what can be written already where bytes are buffered; a ring to what it holds
+    /// and `additional`, rounded up. `TooLarge` is returned where that capacity passes [`limit`](Buffer::limit), and `Memory`
+    /// where memory was refused. Either changes nothing.
+    pub fn reserve(&mut self, additional: usize) -> Result<(), GrowError>
+        ensures grown { OnOk result (Reserves additional self.old self.new) }
         ensures unchanged { OnErr result (self.new ≡ self.old) }
-        ensures limit { FitsWithin result (capacity_for self.old a) self.old.limit }
-        ensures succeeds { a ≤ usable self.old → IsOk result }
+        ensures limit { FitsWithin result (capacity_for self.old additional) self.old.limit }
+        ensures succeeds { additional ≤ usable self.old → IsOk result }
         ensures whole { IsBlock self.new }
     {
-        if !self.allows(a) {
+        if !self.allows(additional) {
             return Err(GrowError::TooLarge);
         }
-        self.imp.reserve(a)
+        self.imp.reserve(additional)
     }
 
     /// Appends the first bytes of `src`, as many as can be written now, and returns how many those are.

@@ -2,7 +2,7 @@
 ghost use Rattle.std.specs.Prelude.{◌≡◌, ◌+◌, ◌-◌, ◌^◌, ◌≤◌, ◌<◌, ◌↔◌, ◌++◌, length, min, take, drop, nat_le, IsTrue, IfOk, IsOk, OnOk, OnErr};
 ghost use Rattle.std.specs.Borrow.{Lends, Array, sem, u8};
 ghost use Rattle.redux_buffer.specs.GrowError.{FitsWithin};
-ghost use Rattle.redux_buffer.specs.Block.{Ring, IsPlaced, IsNew, GrowsToFront, BytesWritten, ConsumesFirst, Reserves, MakesRoom, CountsShift, usable, capacity_for, with_tail, with_bytes, draw_back, round};
+ghost use Rattle.redux_buffer.specs.Block.{Ring, IsPlaced, IsNew, GrowsToFront, BytesWritten, ConsumesFirst, Reserves, MakesRoom, CountsShift, usable, capacity_for, with_tail, with_bytes, compact, round};
 ghost use Rattle.redux_buffer.specs.contracts.slice_deque_buf.SliceDequeBuf.{the_row};
 
 use crate::count::Count;
@@ -135,9 +135,9 @@ impl SliceDequeBuf {
 
     // Moves the bytes to the front.
     #[inline(never)]
-    pub(crate) fn draw_back(&mut self)
+    pub(crate) fn compact(&mut self)
         requires { self.old.block.capacity < self.old.place }
-        ensures { self.new ≡ draw_back self.old }
+        ensures { self.new ≡ compact self.old }
     {
         let len = self.end - self.head;
         self.buf.as_mut_slice().copy_within(self.head..self.end, 0);
@@ -154,7 +154,7 @@ impl SliceDequeBuf {
         ensures value { result.now ≡ self.old.block.tail }
     {
         if self.stop > self.buf.capacity() {
-            self.draw_back();
+            self.compact();
         }
         let (start, end) = (self.end, self.stop);
         self.buf.range_mut(start, end)
@@ -178,7 +178,7 @@ impl SliceDequeBuf {
     {
         let written = n.min(self.stop - self.end);
         if self.stop > self.buf.capacity() {
-            self.draw_back();
+            self.compact();
             // A step that changes the place counts every byte that is held after it.
             self.moved.add(written);
         }
@@ -213,7 +213,7 @@ impl SliceDequeBuf {
             self.stop += n;
             self.consumed.add(n);
         } else {
-            self.clear_aside();
+            self.clear_outlined();
         }
     }
 
@@ -232,7 +232,7 @@ impl SliceDequeBuf {
 
     #[cold]
     #[inline(never)]
-    fn clear_aside(&mut self)
+    fn clear_outlined(&mut self)
         ensures bytes { ConsumesFirst (length self.old.block.bytes) self.old.block self.new.block }
         ensures shift { CountsShift (length self.old.block.bytes) self.old self.new }
         ensures whole { IsPlaced self.new }
@@ -266,7 +266,7 @@ impl SliceDequeBuf {
     }
 
     // Takes the first `n` bytes of the tail, which doesn't reach past the storage, as the last bytes.
-    pub(crate) fn take_front(&mut self, n: usize)
+    pub(crate) fn commit(&mut self, n: usize)
         requires fits { n ≤ usable self.old.block }
         requires in_front { self.old.place ≤ self.old.block.capacity }
         ensures bytes { BytesWritten n self.old.block self.new.block }
@@ -303,25 +303,25 @@ impl SliceDequeBuf {
         let _ = &self.stop;
     }
 
-    /// Makes sure that `a` more bytes can be written. The capacity stays a multiple of [`RING_UNIT`], and the bytes of a ring
-    /// that grew stand at the front. A refusal changes nothing.
-    pub fn reserve(&mut self, a: usize) -> Result<(), GrowError>
-        ensures grown { OnOk result (Reserves a self.old.block self.new.block) }
+    /// Makes sure that `additional` more bytes can be written. The capacity stays a multiple of [`RING_UNIT`], and the bytes of
+    /// a ring that grew stand at the front. A refusal changes nothing.
+    pub fn reserve(&mut self, additional: usize) -> Result<(), GrowError>
+        ensures grown { OnOk result (Reserves additional self.old.block self.new.block) }
         ensures place { GrowsToFront self.old self.new }
         ensures shift { CountsShift 0 self.old self.new }
         ensures unchanged { OnErr result (self.new ≡ self.old) }
-        ensures limit { FitsWithin result (capacity_for self.old.block a) self.old.block.limit }
-        ensures succeeds { a ≤ usable self.old.block → IsOk result }
+        ensures limit { FitsWithin result (capacity_for self.old.block additional) self.old.block.limit }
+        ensures succeeds { additional ≤ usable self.old.block → IsOk result }
         ensures whole { IsPlaced self.new }
     {
         let len = self.end - self.head;
-        if a <= self.stop - self.end {
+        if additional <= self.stop - self.end {
             return Ok(());
         }
-        if a > MAX_RING - len {
+        if additional > MAX_RING - len {
             return Err(GrowError::TooLarge);
         }
-        let cap = round_up(len + a);
+        let cap = round_up(len + additional);
         if self.head > 0 {
             // Bytes that have to move anyhow are moved once, into a new block.
             self.buf = self.buf.copy_of(self.head, self.end, 2 * cap)?;

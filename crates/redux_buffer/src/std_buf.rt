@@ -169,7 +169,7 @@ impl StdBuf {
             self.pos = at;
             self.consumed.add(n);
         } else {
-            self.clear_aside();
+            self.clear_outlined();
         }
     }
 
@@ -187,7 +187,7 @@ impl StdBuf {
 
     #[cold]
     #[inline(never)]
-    fn clear_aside(&mut self)
+    fn clear_outlined(&mut self)
         ensures bytes { ConsumesFirst (length self.old.block.bytes) self.old.block self.new.block }
         ensures shift { CountsShift (length self.old.block.bytes) self.old self.new }
         ensures whole { IsPlaced self.new }
@@ -229,7 +229,7 @@ impl StdBuf {
     }
 
     // Takes the first `n` bytes of the tail as the last bytes.
-    pub(crate) fn take_front(&mut self, n: usize)
+    pub(crate) fn commit(&mut self, n: usize)
         requires { n ≤ usable self.old.block }
         ensures bytes { BytesWritten n self.old.block self.new.block }
         ensures place { self.new.place ≡ self.old.place }
@@ -271,32 +271,32 @@ impl StdBuf {
         self.moved.add(len);
     }
 
-    /// Makes sure that `a` more bytes can be written. A refusal changes nothing.
-    pub fn reserve(&mut self, a: usize) -> Result<(), GrowError>
-        ensures grown { OnOk result (Reserves a self.old.block self.new.block) }
+    /// Makes sure that `additional` more bytes can be written. A refusal changes nothing.
+    pub fn reserve(&mut self, additional: usize) -> Result<(), GrowError>
+        ensures grown { OnOk result (Reserves additional self.old.block self.new.block) }
         ensures place { GrowsToFront self.old self.new }
         ensures shift { CountsShift 0 self.old self.new }
         ensures unchanged { OnErr result (self.new ≡ self.old) }
-        ensures limit { FitsWithin result (capacity_for self.old.block a) self.old.block.limit }
-        ensures succeeds { a ≤ usable self.old.block → IsOk result }
+        ensures limit { FitsWithin result (capacity_for self.old.block additional) self.old.block.limit }
+        ensures succeeds { additional ≤ usable self.old.block → IsOk result }
         ensures whole { IsPlaced self.new }
     {
         let usable = self.stop - self.end;
-        if usable >= a {
+        if usable >= additional {
             return Ok(());
         }
         if self.end > 0 {
-            let more = a - usable;
+            let more = additional - usable;
             self.buf.reserve(more)?;
             self.stop += more;
             return Ok(());
         }
         // No byte of an empty buffer is worth copying.
-        if a > MAX_CAPACITY - self.stop {
+        if additional > MAX_CAPACITY - self.stop {
             return Err(GrowError::TooLarge);
         }
-        self.buf = self.buf.copy_of(0, 0, self.stop + a)?;
-        self.stop += a;
+        self.buf = self.buf.copy_of(0, 0, self.stop + additional)?;
+        self.stop += additional;
         Ok(())
     }
 }

@@ -34,11 +34,11 @@ module _ {S P : Type 0} (remaining : S → Option (List ℕ)) (rules : ReadRules
     went = remaining_gives remaining rules s t went.handed went.in_order went.known went.claims went.capacity;
   }
 
-  pub receives_all : {W : Type 0} (tells : W → StreamLog) (stretch call : W → W → Type 0) (w w' : W)
+  pub receives_all : {W : Type 0} (tells : W → StreamLog) (trace call : W → W → Type 0) (w w' : W)
       → (tells w).writes ≡ to → (tells w').writes ≡ to'
-      → CopyEnded tells stretch call (reader_log s).fills (reader_log t).fills w w'
+      → CopyEnded tells trace call (reader_log s).fills (reader_log t).fills w w'
       → ReceivesAll (reader_remaining remaining rules s) to to'
-  receives_all tells stretch call w w' at at' ended =
+  receives_all tells trace call w w' at at' ended =
       IfSome-unless (may_stop rules s) (ahead remaining s) _ (λ is.
       let wants = may_stop-false rules s is in
       elim (cases_lt 0 (length t.block.bytes)) [

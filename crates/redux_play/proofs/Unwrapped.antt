@@ -19,7 +19,7 @@ Leaves {S} handler Left =
     (w w' : MutBor S) (b b' : MutBor Block) (e : Error) → handler w b e w' b'
     → (w'.now ≡ w.now) × Left b.now b'.now
 
-module _ {S P : Type 0} (tells : S → StreamLog) (stretch : S → S → Type 0) (handler : Handler S)
+module _ {S P : Type 0} (tells : S → StreamLog) (trace : S → S → Type 0) (handler : Handler S)
     (s : Buffered S P) where
   parts_left : (Left : Block → Block → Type 0) → Leaves handler Left
       → (sending : Result (Unit {0}) Error) (sent : Buffered S P) (inner : S) (b : Block)
@@ -44,7 +44,7 @@ module _ {S P : Type 0} (tells : S → StreamLog) (stretch : S → S → Type 0)
   why_left (Err e) b log f = record { interrupts = f.interrupts; cause = f.failed.cause }
 
   -- what sending left, before the handler was called
-  sending_keeps : (inner : S) (b : Block) (f : SendsOrHandles tells stretch handler s inner b)
+  sending_keeps : (inner : S) (b : Block) (f : SendsOrHandles tells trace handler s inner b)
       → KeepsUnsent tells s f.sent.inner f.sent.block
   sending_keeps inner b f =
       let left : Buffered S P = with_inner tells (with_block s f.sent.block) f.sent.inner in
@@ -58,13 +58,13 @@ module _ {S P : Type 0} (tells : S → StreamLog) (stretch : S → S → Type 0)
       }
 
   pub keeps_unsent : Leaves handler (λ b b'. b' ≡ b)
-      → (inner : S) (b : Block) → SendsOrHandles tells stretch handler s inner b → KeepsUnsent tells s inner b
+      → (inner : S) (b : Block) → SendsOrHandles tells trace handler s inner b → KeepsUnsent tells s inner b
   keeps_unsent leaves inner b f =
       let left = parts_left (λ b b'. b' ≡ b) leaves f.sending f.sent inner b f.ended in
       rw (left.0, same_left f.sending f.sent.block b left.1) (sending_keeps inner b f)
 
   pub drops_unsent : Leaves handler Clears
-      → (inner : S) (b : Block) → SendsOrHandles tells stretch handler s inner b → DropsUnsent tells s inner b
+      → (inner : S) (b : Block) → SendsOrHandles tells trace handler s inner b → DropsUnsent tells s inner b
   unfolding sending_keeps
   drops_unsent leaves inner b f =
       let left = parts_left Clears leaves f.sending f.sent inner b f.ended in

@@ -10,7 +10,7 @@ ghost use Rattle.std.specs.List.{concat};
 ghost use Rattle.buffer_redux.specs.Buffered.{Buffered};
 ghost use Rattle.buffer_redux.specs.Unbuffer.{StreamWent};
 ghost use Rattle.buffer_redux.specs.declared.policy.StdPolicy.{StdPolicy};
-ghost use Rattle.codec.specs.Piecing.{Piecing, left_of};
+ghost use Rattle.codec.specs.PieceReader.{ReaderState, left_of};
 ghost use Rattle.messages.specs.declared.head.Heads.{Heads};
 ghost use Rattle.messages.specs.Messages.{Begun, InsideGoes, IsRest};
 ghost use Rattle.programs.specs.Streams.{AllSent};
@@ -18,7 +18,7 @@ ghost use Rattle.requests.specs.Answers.{Sends, Serves, TakesWhole, Turns, accep
 
 use buffer_redux::BufWriter;
 use buffer_redux::tell::{Tell, TellRead, TellWrite, Told};
-use messages::{Body, BodyError, Extent, FinishError, Requests, Said, Stop};
+use messages::{Body, BodyError, Extent, FinishError, ParsedHead, Requests, Stop};
 use std::io;
 use std::io::{ErrorKind, Write};
 
@@ -44,7 +44,7 @@ fn serve<R: TellRead, W: TellWrite>(
     writer: &mut BufWriter<W>,
 ) -> (Place<R>, io::Result<()>)
     requires sent { AllSent writer.old }
-    ensures { Serves R.remaining W.log W.stretch (left_of requests) writer.old result.0 result.1 writer.new }
+    ensures { Serves R.remaining W.log W.trace (left_of requests) writer.old result.0 result.1 writer.new }
 {
     let mut next = requests;
     for _message in 0..u64::MAX {
@@ -64,7 +64,7 @@ fn answer<R: TellRead, W: TellWrite>(
     writer: &mut BufWriter<W>,
 ) -> Result<Requests<R>, (Place<R>, io::Result<()>)>
     requires sent { AllSent writer.old }
-    ensures { Turns R.remaining W.log W.stretch (left_of requests) writer.old result writer.new }
+    ensures { Turns R.remaining W.log W.trace (left_of requests) writer.old result writer.new }
 {
     match requests.next() {
         Ok(body) => answer_body(body, writer),
@@ -79,8 +79,8 @@ fn stopped<R: TellRead, W: TellWrite>(
     writer: &mut BufWriter<W>,
 ) -> Result<Requests<R>, (Place<R>, io::Result<()>)>
     requires sent { AllSent writer.old }
-    ensures { (s : Piecing R Heads) → StreamWent R.remaining (left_of s) [] (left_of requests)
-        → Turns R.remaining W.log W.stretch (left_of s) writer.old result writer.new }
+    ensures { (s : ReaderState R Heads) → StreamWent R.remaining (left_of s) [] (left_of requests)
+        → Turns R.remaining W.log W.trace (left_of s) writer.old result writer.new }
 {
     if is_interrupt(&stop) {
         return Ok(requests);
@@ -107,8 +107,8 @@ fn answer_body<R: TellRead, W: TellWrite>(
     writer: &mut BufWriter<W>,
 ) -> Result<Requests<R>, (Place<R>, io::Result<()>)>
     requires sent { AllSent writer.old }
-    ensures answers { (s : Piecing R Heads) → Begun R.remaining s body
-        → Turns R.remaining W.log W.stretch (left_of s) writer.old result writer.new }
+    ensures answers { (s : ReaderState R Heads) → Begun R.remaining s body
+        → Turns R.remaining W.log W.trace (left_of s) writer.old result writer.new }
     ensures keeps { OnOk result (body.said.keeps ≡ true) }
 {
     match call_for_body(body.said(), writer) {
@@ -123,9 +123,9 @@ fn answer_called<R: TellRead, W: TellWrite>(
     writer: &mut BufWriter<W>,
 ) -> Result<Requests<R>, (Place<R>, io::Result<()>)>
     requires sent { AllSent writer.old }
-    ensures answers { (s : Piecing R Heads) (w : Buffered W StdPolicy) → Begun R.remaining s body
-        → Sends W.log W.stretch w (called (waits body.said)) (Ok tt) writer.old
-        → Turns R.remaining W.log W.stretch (left_of s) w result writer.new }
+    ensures answers { (s : ReaderState R Heads) (w : Buffered W StdPolicy) → Begun R.remaining s body
+        → Sends W.log W.trace w (called (waits body.said)) (Ok tt) writer.old
+        → Turns R.remaining W.log W.trace (left_of s) w result writer.new }
     ensures keeps { OnOk result (body.said.keeps ≡ true) }
 {
     let said = body.said();
@@ -204,7 +204,7 @@ fn too_many() -> BodyError {
 // Refuses a body that isn't whole, where that isn't the stream's fault.
 fn unended<W: TellWrite>(e: FinishError, writer: &mut BufWriter<W>) -> io::Result<()>
     requires sent { AllSent writer.old }
-    ensures { (refuses : Bool) × Sends W.log W.stretch writer.old (refused refuses) result writer.new }
+    ensures { (refuses : Bool) × Sends W.log W.trace writer.old (refused refuses) result writer.new }
 {
     match e {
         FinishError::Body(BodyError::Io(e)) => Err(e),
@@ -214,8 +214,8 @@ fn unended<W: TellWrite>(e: FinishError, writer: &mut BufWriter<W>) -> io::Resul
 }
 
 // Says how many bytes of payload there were, and whether another request may follow.
-fn accept<W: TellWrite>(len: u64, said: Said, writer: &mut BufWriter<W>) -> io::Result<()>
-    ensures { Sends W.log W.stretch writer.old (accepted said len) result writer.new }
+fn accept<W: TellWrite>(len: u64, said: ParsedHead, writer: &mut BufWriter<W>) -> io::Result<()>
+    ensures { Sends W.log W.trace writer.old (accepted said len) result writer.new }
 {
     if said.keeps {
         let head = b"HTTP/1.1 200 OK\r\nContent-Length: 21\r\nConnection: keep-alive\r\n\r\n";
@@ -232,7 +232,7 @@ fn accept_by<W: TellWrite>(
     bare: bool,
     writer: &mut BufWriter<W>,
 ) -> io::Result<()>
-    ensures { Sends W.log W.stretch writer.old (head.now ++ (if bare then [] else length_line len)) result writer.new }
+    ensures { Sends W.log W.trace writer.old (head.now ++ (if bare then [] else length_line len)) result writer.new }
 {
     if bare {
         return send(writer, &[head]);
@@ -249,14 +249,14 @@ fn send_line<'a, W: TellWrite>(
     number: &'a [u8],
     writer: &mut BufWriter<W>,
 ) -> io::Result<()>
-    ensures { Sends W.log W.stretch writer.old (head.now ++ (blanks.now ++ (number.now ++ codes "\n"))) result writer.new }
+    ensures { Sends W.log W.trace writer.old (head.now ++ (blanks.now ++ (number.now ++ codes "\n"))) result writer.new }
 {
     send(writer, &[head, blanks, number, b"\n"])
 }
 
-fn call_for_body<W: TellWrite>(said: Said, writer: &mut BufWriter<W>) -> io::Result<()>
+fn call_for_body<W: TellWrite>(said: ParsedHead, writer: &mut BufWriter<W>) -> io::Result<()>
     requires sent { AllSent writer.old }
-    ensures { Sends W.log W.stretch writer.old (called (waits said)) result writer.new }
+    ensures { Sends W.log W.trace writer.old (called (waits said)) result writer.new }
 {
     if said.expects && has_body(said.extent) {
         send(writer, &[b"HTTP/1.1 100 Continue\r\n\r\n"])
@@ -275,7 +275,7 @@ fn has_body(extent: Extent) -> bool
 }
 
 fn refuse<W: TellWrite>(writer: &mut BufWriter<W>) -> io::Result<()>
-    ensures { Sends W.log W.stretch writer.old (refused true) result writer.new }
+    ensures { Sends W.log W.trace writer.old (refused true) result writer.new }
 {
     send(
         writer,
@@ -284,7 +284,7 @@ fn refuse<W: TellWrite>(writer: &mut BufWriter<W>) -> io::Result<()>
 }
 
 fn send<W: TellWrite>(writer: &mut BufWriter<W>, parts: &[&[u8]]) -> io::Result<()>
-    ensures { Sends W.log W.stretch writer.old (concat (map (λ part. part.now) parts.now)) result writer.new }
+    ensures { Sends W.log W.trace writer.old (concat (map (λ part. part.now) parts.now)) result writer.new }
 {
     match writer.write_parts(parts) {
         Ok(()) => writer.flush(),

@@ -14,12 +14,12 @@ use Rattle.resp.specs.declared.command.Command.{Command}
 use Rattle.resp.proofs.Keys.{same_of}
 
 -- a reply that was written, or couldn't be
-pub answered : {A T P : Type 0} (tells : T → StreamLog) (stretch : T → T → Type 0) (Says : List ℕ → Bool → A → Type 0)
+pub answered : {A T P : Type 0} (tells : T → StreamLog) (trace : T → T → Type 0) (Says : List ℕ → Bool → A → Type 0)
     (reply : List ℕ) (more : Bool) (t : A) → Says reply more t → (w v : Buffered T P) (r : Result Bool Error)
-    → Replied tells stretch w reply r v → IfOk r (λ b. b ≡ more) → Answered tells stretch Says w r t v
-answered tells stretch Says reply more t says w v (Ok b) along is =
+    → Replied tells trace w reply r v → IfOk r (λ b. b ≡ more) → Answered tells trace Says w r t v
+answered tells trace Says reply more t says w v (Ok b) along is =
     (reply, subst (λ b. Says reply b t) (sym is) says, along)
-answered tells stretch Says reply more t says w v (Err e) (nothing, refused) is = (reply, more, says, nothing, refused)
+answered tells trace Says reply more t says w v (Err e) (nothing, refused) is = (reply, more, says, nothing, refused)
 
 -- to a request that was lost
 pub lost_whole : (m : Waiting) (old : Values) (t : Waiting) → m.lost ≡ true → t ≡ nothing

@@ -147,7 +147,7 @@ pub fn act<W: TellWrite>(
     writer: &mut BufWriter<W>,
 ) -> io::Result<()>
     ensures { (reply : List ℕ) × Acts (held store.old) command.entry reply (held store.new)
-        × Replied W.log W.stretch writer.old reply result writer.new }
+        × Replied W.log W.trace writer.old reply result writer.new }
 {
     match command {
         Command::Ping => put(writer, b"+PONG\r\n"),

@@ -71,7 +71,7 @@ fn answer_whole<W: TellWrite>(
     store: &mut Store,
     writer: &mut BufWriter<W>,
 ) -> io::Result<bool>
-    ensures { Answered W.log W.stretch (λ reply more t. RepliesWhole request.old (held store.old) reply more t.waiting t.values)
+    ensures { Answered W.log W.trace (λ reply more t. RepliesWhole request.old (held store.old) reply more t.waiting t.values)
         writer.old result (session request.new (held store.new)) writer.new }
 {
     if request.is_lost() {
@@ -90,7 +90,7 @@ fn answer_whole<W: TellWrite>(
 
 // Writes a reply, behind which a further request is taken.
 fn put_on<W: TellWrite>(writer: &mut BufWriter<W>, bytes: &[u8]) -> io::Result<bool>
-    ensures replied { Replied W.log W.stretch writer.old bytes.now result writer.new }
+    ensures replied { Replied W.log W.trace writer.old bytes.now result writer.new }
     ensures more { IfOk result (λ more. more ≡ true) }
 {
     match put(writer, bytes) {
@@ -101,7 +101,7 @@ fn put_on<W: TellWrite>(writer: &mut BufWriter<W>, bytes: &[u8]) -> io::Result<b
 
 // Writes the last reply.
 fn put_last<W: TellWrite>(writer: &mut BufWriter<W>, bytes: &[u8]) -> io::Result<bool>
-    ensures replied { Replied W.log W.stretch writer.old bytes.now result writer.new }
+    ensures replied { Replied W.log W.trace writer.old bytes.now result writer.new }
     ensures more { IfOk result (λ more. more ≡ false) }
 {
     match put(writer, bytes) {

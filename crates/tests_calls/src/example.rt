@@ -43,7 +43,7 @@ fn log_line<W: TellWrite, P: WriterPolicy>(
     line: &[u8],
 ) -> io::Result<()>
     requires steady { (P.rules.claims writer.old.policy).steady ≡ true }
-    ensures { AllFlushed W.log W.stretch P.rules writer.old (line.now ++ 10 ∷ []) result writer.new }
+    ensures { AllFlushed W.log W.trace P.rules writer.old (line.now ++ 10 ∷ []) result writer.new }
 {
     writer.write_all(line)?;
     writer.write_all(b"\n")?;

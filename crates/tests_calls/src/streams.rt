@@ -144,7 +144,7 @@ impl Tell for Page<'_> {
 impl TellBufRead for Page<'_> {
     ghost use Rattle.redux_buffer.specs.StreamLog.{with_shown};
 
-    ghost stretch = { λ s t. FillLogGrows (with_shown s.calls.log s.left.now).fills (with_shown t.calls.log t.left.now).fills };
+    ghost trace = { λ s t. FillLogGrows (with_shown s.calls.log s.left.now).fills (with_shown t.calls.log t.left.now).fills };
 
     fn fill_told(&mut self) -> io::Result<&[u8]> {
         self.calls.note(&Call::Shown(self.left));
@@ -156,11 +156,11 @@ impl TellBufRead for Page<'_> {
         self.left = &self.left[amount.min(self.left.len())..];
     }
 
-    ghost stretch_none = { λ s. FillLogGrows-none _ };
+    ghost trace_none = { λ s. FillLogGrows-none _ };
 
-    ghost stretch_joins = { λ a b c. FillLogGrows-joins _ _ _ };
+    ghost trace_joins = { λ a b c. FillLogGrows-joins _ _ _ };
 
-    ghost stretch_grows = { λ s t grows.
+    ghost trace_grows = { λ s t grows.
         FillsGoOn-of (with_shown s.calls.log s.left.now) (with_shown t.calls.log t.left.now) grows };
 }
 

@@ -1,13 +1,13 @@
--- The head of a short packet is read as it was written.
+-- The header of a short packet is read as it was written.
 use Rattle.std.specs.Prelude.{◌≡◌, ℕ, ◌≤◌, zero, suc, length}
 use Rattle.std.proofs.Common.{arith, refl}
-use Rattle.codec.specs.HeadsOut.{IsReadBack}
+use Rattle.codec.specs.HeadersOut.{IsReadBack}
 use Rattle.codec.specs.Scanning.{scanned}
-use Rattle.codec.specs.declared.heading.Heading.TheVariants.{Sized}
+use Rattle.codec.specs.declared.header.Header.TheVariants.{Sized}
 use Rattle.tests_codec.specs.Packets.{packets}
-use Rattle.tests_codec.specs.PacketsOut.{packets_out, short_head}
+use Rattle.tests_codec.specs.PacketsOut.{packets_out, short_header}
 
-again : (len : ℕ) → len ≤ 1 → (scanned packets).heading (short_head len) ≡ Sized len (length (short_head len))
+again : (len : ℕ) → len ≤ 1 → (scanned packets).header (short_header len) ≡ Sized len (length (short_header len))
 again zero fits = refl
 again (suc zero) fits = refl
 again (suc (suc more)) fits = absurd (omega (arith, fits))

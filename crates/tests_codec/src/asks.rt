@@ -25,8 +25,8 @@ pub enum Want<'a> {
 pub enum Why {
     /// A payload has so many bytes, or more than so many.
     Long(usize),
-    /// No head is there.
-    NoHead,
+    /// No header is there.
+    NoHeader,
     /// Another tail is.
     NoTail,
     /// The stream ended after so many bytes.

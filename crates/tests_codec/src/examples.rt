@@ -2,8 +2,8 @@
 use crate::packets::Packets;
 use buffer_redux::tell::Told;
 use codec::{
-    ByHead, ByScan, ByText, Delimited, NextError, NotPlain, PieceReader, PieceWriter, TooLong,
-    Trimmed, WritePieceError,
+    ByHeader, ByScan, ByTextHeader, Delimited, NextError, NotPlain, PieceReader, PieceWriter,
+    TooLong, Trimmed, WritePieceError,
 };
 use decoders::{BulkStrings, Lengths, Netstrings, Order, Width};
 use std::test::Fail;
@@ -81,7 +81,7 @@ fn piece_writer(rt: HostRuntime) -> Result<(), Fail> {
 #[test]
 fn netstrings(rt: HostRuntime) -> Result<(), Fail> {
     let alloc = rt.alloc();
-    let netstrings = ByHead(ByText(Netstrings { max: 100 }));
+    let netstrings = ByHeader(ByTextHeader(Netstrings { max: 100 }));
     let stream = Told::new(b"2:hi,0:,".as_slice());
     let mut reader = PieceReader::new(alloc, stream, netstrings)?;
     assert!(rt; matches!(reader.next(), Ok(Some(b"hi"))));
@@ -93,7 +93,7 @@ fn netstrings(rt: HostRuntime) -> Result<(), Fail> {
 #[test]
 fn bulk_strings(rt: HostRuntime) -> Result<(), Fail> {
     let alloc = rt.alloc();
-    let strings = ByHead(ByText(BulkStrings { max: 100 }));
+    let strings = ByHeader(ByTextHeader(BulkStrings { max: 100 }));
     let stream = Told::new(b"$2\r\nhi\r\n".as_slice());
     let mut reader = PieceReader::new(alloc, stream, strings)?;
     assert!(rt; matches!(reader.next(), Ok(Some(b"hi"))));
@@ -110,7 +110,7 @@ fn lengths(rt: HostRuntime) -> Result<(), Fail> {
         max: 100,
     };
     let stream = Told::new(b"\x00\x02hi\x00\x00".as_slice());
-    let mut reader = PieceReader::new(alloc, stream, ByHead(lengths))?;
+    let mut reader = PieceReader::new(alloc, stream, ByHeader(lengths))?;
     assert!(rt; matches!(reader.next(), Ok(Some(b"hi"))));
     assert!(rt; matches!(reader.next(), Ok(Some(b""))));
     assert!(rt; matches!(reader.next(), Ok(None)));
@@ -121,7 +121,7 @@ fn lengths(rt: HostRuntime) -> Result<(), Fail> {
 fn packets(rt: HostRuntime) -> Result<(), Fail> {
     let alloc = rt.alloc();
     let stream = Told::new(b"0006a\n0005b".as_slice());
-    let mut reader = PieceReader::new(alloc, stream, ByHead(ByScan(Packets)))?;
+    let mut reader = PieceReader::new(alloc, stream, ByHeader(ByScan(Packets)))?;
     assert!(rt; matches!(reader.next(), Ok(Some(b"a\n"))));
     assert!(rt; matches!(reader.next(), Ok(Some(b"b"))));
     assert!(rt; matches!(reader.next(), Ok(None)));

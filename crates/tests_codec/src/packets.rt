@@ -2,9 +2,9 @@
 ghost use Rattle.std.specs.Prelude.{◌≡◌};
 ghost use Rattle.tests_codec.specs.Packets.{behind, digit_of};
 
-use codec::{Head, Scan, ScanOut, Turn};
+use codec::{HeaderBytes, Scan, ScanOut, ScanStep};
 
-/// Where a head stands: behind these digits.
+/// Where a header stands: behind these digits.
 #[derive(Clone, Copy, Debug, Drop)]
 pub enum Place {
     None,
@@ -29,14 +29,14 @@ impl Scan for Packets {
         Place::None
     }
 
-    fn turn(&self, place: Place, byte: u8) -> Turn<Place> {
+    fn turn(&self, place: Place, byte: u8) -> ScanStep<Place> {
         match digit(byte) {
             Some(digit) => with_digit(place, digit),
-            None => Turn::Bad,
+            None => ScanStep::Bad,
         }
     }
 
-    fn most_head(&self) -> usize {
+    fn most_header(&self) -> usize {
         4
     }
 
@@ -56,13 +56,13 @@ impl ScanOut for Packets {
     ghost use Rattle.tests_codec.specs.PacketsOut.{packets_out};
     ghost use Rattle.tests_codec.specs.PacketsOutLaws.{packets_read_back};
 
-    ghost heads_out = { λ _. packets_out };
+    ghost headers_out = { λ _. packets_out };
 
-    fn head_of(&self, len: usize) -> Head {
+    fn header_of(&self, len: usize) -> HeaderBytes {
         if len == 0 {
-            Head::new(b"0004")
+            HeaderBytes::new(b"0004")
         } else {
-            Head::new(b"0005")
+            HeaderBytes::new(b"0005")
         }
     }
 
@@ -87,22 +87,22 @@ fn digit(byte: u8) -> Option<u8>
 }
 
 // Behind one more digit.
-fn with_digit(place: Place, digit: u8) -> Turn<Place>
+fn with_digit(place: Place, digit: u8) -> ScanStep<Place>
     ensures { result ≡ behind place digit }
 {
     match place {
-        Place::None => Turn::More(Place::One(digit)),
-        Place::One(a) => Turn::More(Place::Two(a, digit)),
-        Place::Two(a, b) => Turn::More(Place::Three(a, b, digit)),
+        Place::None => ScanStep::More(Place::One(digit)),
+        Place::One(a) => ScanStep::More(Place::Two(a, digit)),
+        Place::Two(a, b) => ScanStep::More(Place::Three(a, b, digit)),
         Place::Three(a, b, c) => {
             let all = 4096 * usize::from(a)
                 + 256 * usize::from(b)
                 + 16 * usize::from(c)
                 + usize::from(digit);
             if all < 4 {
-                Turn::Bad
+                ScanStep::Bad
             } else {
-                Turn::Sized(all - 4)
+                ScanStep::Sized(all - 4)
             }
         }
     }

@@ -5,7 +5,7 @@ use crate::asks::{Asks, Want, Why, walk};
 use buffer_redux::MakeError;
 use buffer_redux::script::Answer;
 use buffer_redux::tell::TellRead;
-use codec::{Decoder, Delimited, HeadError, NextError, PieceReader, TooLong, Trimmed};
+use codec::{Decoder, Delimited, HeaderError, NextError, PieceReader, TooLong, Trimmed};
 use std::alloc::Global;
 use std::io;
 use std::test::Fail;
@@ -24,13 +24,13 @@ impl Explained for TooLong {
     }
 }
 
-impl Explained for HeadError {
+impl Explained for HeaderError {
     fn why(self) -> Why {
         match self {
-            HeadError::NoHead => Why::NoHead,
-            HeadError::TooLong(len) => Long(len),
-            HeadError::NoTail => Why::NoTail,
-            HeadError::Truncated(have) => Why::Truncated(have),
+            HeaderError::NoHeader => Why::NoHeader,
+            HeaderError::TooLong(len) => Long(len),
+            HeaderError::NoTail => Why::NoTail,
+            HeaderError::Truncated(have) => Why::Truncated(have),
         }
     }
 }

@@ -1,8 +1,8 @@
 //! The ready decoders.
 use crate::asks::Want::{End, Next, Rest, Wrong};
-use crate::asks::Why::{Long, NoHead, NoTail, Truncated};
+use crate::asks::Why::{Long, NoHeader, NoTail, Truncated};
 use crate::pieces::{Row, swept};
-use codec::{ByHead, ByText};
+use codec::{ByHeader, ByTextHeader};
 use decoders::{BulkStrings, Lengths, Netstrings, Order, Width};
 use std::alloc::Global;
 use std::io;
@@ -16,11 +16,11 @@ static NETSTRINGS: [Row<'static>; 5] = [
     ),
     (
         b"1:a,5x",
-        &[Next(b"a"), Wrong(NoHead), Wrong(NoHead), Rest(b"5x")],
+        &[Next(b"a"), Wrong(NoHeader), Wrong(NoHeader), Rest(b"5x")],
     ),
     // No length without a digit, and no zero in front of another.
-    (b"0:,:,", &[Next(b""), Wrong(NoHead)]),
-    (b"0:,01:a,", &[Next(b""), Wrong(NoHead)]),
+    (b"0:,:,", &[Next(b""), Wrong(NoHeader)]),
+    (b"0:,01:a,", &[Next(b""), Wrong(NoHeader)]),
     (b"1:ab", &[Wrong(NoTail), Rest(b"1:ab")]),
 ];
 
@@ -31,7 +31,7 @@ static LIMITS: [Row<'static>; 5] = [
         b"999999999999999999:",
         &[Wrong(Long(999_999_999_999_999_999))],
     ),
-    (b"9999999999999999999:", &[Wrong(NoHead)]),
+    (b"9999999999999999999:", &[Wrong(NoHeader)]),
     (b"3:ab", &[Wrong(Truncated(4)), Wrong(Truncated(4))]),
     (b"3:abc", &[Wrong(Truncated(5))]),
 ];
@@ -42,8 +42,8 @@ static STRINGS: [Row<'static>; 5] = [
         &[Next(b"hello"), Next(b""), End],
     ),
     (b"$2\r\n\r\n\r\n", &[Next(b"\r\n"), End]),
-    (b"$-1\r\n", &[Wrong(NoHead), Wrong(NoHead)]),
-    (b"$1\na\r\n", &[Wrong(NoHead)]),
+    (b"$-1\r\n", &[Wrong(NoHeader), Wrong(NoHeader)]),
+    (b"$1\na\r\n", &[Wrong(NoHeader)]),
     (b"$1\r\na\n\r", &[Wrong(NoTail)]),
 ];
 
@@ -78,7 +78,7 @@ type Answer = io::Result<Result<usize, (usize, usize)>>;
 fn lengths(alloc: Global, width: Width, order: Order, rows: &[Row<'_>]) -> Answer {
     swept(
         alloc,
-        ByHead(Lengths {
+        ByHeader(Lengths {
             width,
             order,
             max: 3,
@@ -102,9 +102,21 @@ fn lengths_in_bytes(rt: HostRuntime) -> Result<(), Fail> {
 #[test]
 fn lengths_in_text(rt: HostRuntime) -> Result<(), Fail> {
     let alloc = rt.alloc();
-    let netstrings = swept(alloc, ByHead(ByText(Netstrings { max: 12 })), &NETSTRINGS)?;
-    let limits = swept(alloc, ByHead(ByText(Netstrings { max: 12 })), &LIMITS)?;
-    let strings = swept(alloc, ByHead(ByText(BulkStrings { max: 5 })), &STRINGS)?;
+    let netstrings = swept(
+        alloc,
+        ByHeader(ByTextHeader(Netstrings { max: 12 })),
+        &NETSTRINGS,
+    )?;
+    let limits = swept(
+        alloc,
+        ByHeader(ByTextHeader(Netstrings { max: 12 })),
+        &LIMITS,
+    )?;
+    let strings = swept(
+        alloc,
+        ByHeader(ByTextHeader(BulkStrings { max: 5 })),
+        &STRINGS,
+    )?;
     let met = (netstrings, limits, strings);
     assert!(rt; met == (Ok(100), Ok(117), Ok(87)), "{met:?}");
     Ok(())

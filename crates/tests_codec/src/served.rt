@@ -1,7 +1,7 @@
 //! Pieces of several kinds, and steps before which a writer is flushed.
 use buffer_redux::BufWriter;
 use buffer_redux::tell::Told;
-use codec::{ByFirst, ByHead, ByScan, ByText, Delimited, PieceReader, fetch};
+use codec::{ByFirst, ByHeader, ByScan, ByTextHeader, Delimited, PieceReader, fetch};
 use decoders::{BulkStrings, NullableStrings, Resp, RespItem};
 use std::io::Write;
 use std::test::Fail;
@@ -26,7 +26,7 @@ fn by_first(rt: HostRuntime) -> Result<(), Fail> {
     let alloc = rt.alloc();
     let mixed = ByFirst {
         byte: b'$',
-        one: ByHead(ByText(BulkStrings { max: 9 })),
+        one: ByHeader(ByTextHeader(BulkStrings { max: 9 })),
         other: Delimited { end: b'\n', max: 9 },
     };
     let stream = Told::new(b"one\n$2\r\nhi\r\n".as_slice());
@@ -39,7 +39,7 @@ fn by_first(rt: HostRuntime) -> Result<(), Fail> {
 #[test]
 fn nullable(rt: HostRuntime) -> Result<(), Fail> {
     let alloc = rt.alloc();
-    let strings = ByHead(ByScan(NullableStrings { max: 100 }));
+    let strings = ByHeader(ByScan(NullableStrings { max: 100 }));
     let stream = Told::new(b"$2\r\nhi\r\n$-1\r\n".as_slice());
     let mut reader = PieceReader::new(alloc, stream, strings)?;
     assert!(rt; matches!(reader.next(), Ok(Some(b"hi"))));

@@ -2,7 +2,7 @@
 use buffer_redux::MakeError;
 use buffer_redux::script::Answer;
 use buffer_redux::tell::TellWrite;
-use codec::{ByHead, ByText, Delimited, Encoder, PieceWriter, WritePieceError};
+use codec::{ByHeader, ByTextHeader, Delimited, Encoder, PieceWriter, WritePieceError};
 use decoders::{BulkStrings, Lengths, Netstrings, Order, Width};
 use std::alloc::Global;
 use std::io;
@@ -145,8 +145,8 @@ fn swept<E: Encoder + Copy>(
     sweep(alloc, &[Encoded(&encoder, row)], &[7, 3, 2, 1], FAULT)
 }
 
-fn lengths(width: Width, order: Order) -> ByHead<Lengths> {
-    ByHead(Lengths {
+fn lengths(width: Width, order: Order) -> ByHeader<Lengths> {
+    ByHeader(Lengths {
         width,
         order,
         max: 3,
@@ -159,8 +159,16 @@ fn pieces_come_out_whole(rt: HostRuntime) -> Result<(), Fail> {
     let lines = swept(alloc, Delimited { end: b'\n', max: 3 }, &LINES)?;
     let big = swept(alloc, lengths(Width::Two, Order::BigEndian), &BIG)?;
     let little = swept(alloc, lengths(Width::Four, Order::LittleEndian), &LITTLE)?;
-    let netstrings = swept(alloc, ByHead(ByText(Netstrings { max: 12 })), &NETSTRINGS)?;
-    let strings = swept(alloc, ByHead(ByText(BulkStrings { max: 5 })), &STRINGS)?;
+    let netstrings = swept(
+        alloc,
+        ByHeader(ByTextHeader(Netstrings { max: 12 })),
+        &NETSTRINGS,
+    )?;
+    let strings = swept(
+        alloc,
+        ByHeader(ByTextHeader(BulkStrings { max: 5 })),
+        &STRINGS,
+    )?;
     let met = (lines, big, little, netstrings, strings);
     assert!(rt; met == (Ok(35), Ok(23), Ok(35), Ok(51), Ok(51)), "{met:?}");
     Ok(())

@@ -10,8 +10,9 @@ use buffer_redux::{
 };
 use chunked::{ChunkedError, ChunkedReader, ChunkedWriter, FinishError, TrailersError};
 use codec::{
-    ByHead, ByScan, ByText, Decoder, Delimited, Encoder, End, Found, Head, HeadError, Headed,
-    NextError, NotPlain, PieceReader, PieceWriter, Scan, Span, TextHead, TooLong, WritePieceError,
+    ByHeader, ByScan, ByTextHeader, Decoder, Delimited, Encoder, End, Found, HeaderBytes,
+    HeaderError, LengthPrefixed, NextError, NotPlain, PieceReader, PieceWriter, Scan, Span,
+    TextHeader, TooLong, WritePieceError,
 };
 use decoders::{BulkStrings, Lengths, Netstrings};
 use frame_reader::{FrameError, FrameReader, FrameWriter, WriteFrameError};
@@ -167,27 +168,34 @@ pub fn piece_writer_shared<W: TellWrite + Sync, E: Encoder + Sync>(x: &PieceWrit
     is_sync(x);
 }
 
-pub fn decoders_sent<H: Headed + Send, S: Scan + Send, T: TextHead + Send>(
-    a: &ByHead<H>,
+pub fn decoders_sent<H: LengthPrefixed + Send, S: Scan + Send, T: TextHeader + Send>(
+    a: &ByHeader<H>,
     b: &ByScan<S>,
-    c: &ByText<T>,
+    c: &ByTextHeader<T>,
 ) {
     is_send(a);
     is_send(b);
     is_send(c);
 }
 
-pub fn decoders_shared<H: Headed + Sync, S: Scan + Sync, T: TextHead + Sync>(
-    a: &ByHead<H>,
+pub fn decoders_shared<H: LengthPrefixed + Sync, S: Scan + Sync, T: TextHeader + Sync>(
+    a: &ByHeader<H>,
     b: &ByScan<S>,
-    c: &ByText<T>,
+    c: &ByTextHeader<T>,
 ) {
     is_sync(a);
     is_sync(b);
     is_sync(c);
 }
 
-pub fn ready(a: &Delimited, b: &Lengths, c: &Netstrings, d: &BulkStrings, e: &Head, f: &Span) {
+pub fn ready(
+    a: &Delimited,
+    b: &Lengths,
+    c: &Netstrings,
+    d: &BulkStrings,
+    e: &HeaderBytes,
+    f: &Span,
+) {
     is_both(a);
     is_both(b);
     is_both(c);
@@ -196,7 +204,7 @@ pub fn ready(a: &Delimited, b: &Lengths, c: &Netstrings, d: &BulkStrings, e: &He
     is_both(f);
 }
 
-pub fn wrong_pieces(a: &TooLong, b: &HeadError, c: &NotPlain) {
+pub fn wrong_pieces(a: &TooLong, b: &HeaderError, c: &NotPlain) {
     is_both(a);
     is_both(b);
     is_both(c);

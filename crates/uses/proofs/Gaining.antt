@@ -1,4 +1,4 @@
--- Stretches of reading into a list join.
+-- Traces of reading into a list join.
 use Rattle.std.proofs.Common.{ℕ, List, Option, ◌++◌, ap, ◌∙◌, append_assoc}
 use Rattle.buffer_redux.specs.Policy.{ReadRules}
 use Rattle.buffer_redux.specs.Buffered.{Buffered}

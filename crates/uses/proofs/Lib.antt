@@ -1,4 +1,4 @@
-pub mod Framing
+pub mod FrameState
 pub mod Gaining
 pub mod Enduring
 pub mod Failing

@@ -35,7 +35,7 @@ pub fn pack_record<W: TellWrite, P: WriterPolicy>(
     ensures packed { OnOk result (WritesInOrder writer.old (frame bytes.now) writer.new) }
     ensures caused { (P.rules.claims writer.old.policy).steady ≡ true
         → IfErr result (WriterStopped writer.old.log.writes writer.new.log.writes) }
-    ensures went { InnerWent W.log W.stretch writer.old writer.new }
+    ensures went { InnerWent W.log W.trace writer.old writer.new }
 {
     writer.write_all(&(bytes.len() as u16).to_be_bytes())?;
     writer.write_all(bytes)

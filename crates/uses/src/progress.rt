@@ -21,16 +21,16 @@ pub fn copy_with_progress<B: TellBufRead, W: TellWrite, F: FnMut(u64) + Drop>(
         × MovedBy n (B.log from.old).fills (B.log from.new).fills (W.log to.old).writes (W.log to.new).writes
         × Tells (λ p n q. F.step p n tt q) report ((B.log from.new).fills.consumes - (B.log from.old).fills.consumes) n
         × IfOk result (λ total. total ≡ u64_saturate n) }
-    ensures ended { OnOk result (CopyEnded W.log W.stretch W.call
+    ensures ended { OnOk result (CopyEnded W.log W.trace W.call
         (B.log from.old).fills (B.log from.new).fills to.old to.new) }
     ensures caused { IfErr result (λ e.
-        StreamFailed W.log W.stretch W.call e (B.log from.old).fills (B.log from.new).fills to.old to.new
+        StreamFailed W.log W.trace W.call e (B.log from.old).fills (B.log from.new).fills to.old to.new
         ⊎ TooManyTurns e (B.log from.old).fills (B.log from.new).fills) }
     ensures at_once { MatchResult result
         (λ _. FaultsMet 0 (B.log from.old).fills (B.log from.new).fills (W.log to.old).writes (W.log to.new).writes)
         (λ _. FaultsAtMost 1 (B.log from.old).fills (B.log from.new).fills (W.log to.old).writes (W.log to.new).writes) }
-    ensures reader { B.stretch from.old from.new }
-    ensures writer { W.stretch to.old to.new }
+    ensures reader { B.trace from.old from.new }
+    ensures writer { W.trace to.old to.new }
 {
     let mut total = 0u64;
     for _ in 0..u64::MAX {

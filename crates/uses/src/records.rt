@@ -67,7 +67,7 @@ pub fn read_records<R: BufRead + Drop>(alloc: Global, reader: R) -> io::Result<V
 }
 
 /// Records that were written come back as they were.
-#[tactic(auto, using(crate::proofs::Framing::frames_same))]
+#[tactic(auto, using(crate::proofs::FrameState::frames_same))]
 pub fn there_and_back(alloc: Global, records: &[Vec<u8>]) -> io::Result<Vec<Vec<u8>>>
     requires short { AreShort records.now }
     ensures { IfOk result (λ v. map vec_items (vec_items v) ≡ map vec_items records.now) }

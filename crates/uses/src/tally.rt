@@ -37,7 +37,7 @@ pub fn write_tally<W: TellWrite, P: WriterPolicy>(
     count: u64,
     line: &[u8],
 ) -> io::Result<()>
-    ensures { FrontAlong W.log W.stretch P.rules writer.old (tally_text count line.now) result writer.new }
+    ensures { FrontAlong W.log W.trace P.rules writer.old (tally_text count line.now) result writer.new }
 {
     let head = format!(in alloc; "{count} ")?;
     writer.write_all(head.as_bytes())?;

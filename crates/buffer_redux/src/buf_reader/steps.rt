@@ -10,7 +10,7 @@ ghost use Rattle.buffer_redux.specs.ReadAll.{OneRead, ReadsExactly};
 ghost use Rattle.buffer_redux.specs.ReadInside.{AskedRead, FillDone, HandOut, ReadsInside};
 ghost use Rattle.buffer_redux.specs.Policy.{read_now};
 
-use crate::all_bytes::further;
+use crate::all_bytes::progress;
 use crate::buf_reader::BufReader;
 use crate::policy::ReaderPolicy;
 use redux_buffer::tell::TellRead;
@@ -87,7 +87,7 @@ impl<R: TellRead, P: ReaderPolicy> BufReader<R, P> {
     // The kit's compiler clears the answer of a call where the function that makes the call begins; of a call made in here,
     // which is inlined, that is behind the tests of the caller. So it is of each `aside`.
     #[inline(always)]
-    pub(super) fn read_aside(&mut self, out: &mut [u8]) -> io::Result<usize>
+    pub(super) fn read_outlined(&mut self, out: &mut [u8]) -> io::Result<usize>
         requires room { 0 < usable self.old.block }
         ensures bound { ReadsAtMost result out.new }
         ensures read { (s : Buffered R P) → AskedRead P.rules read_now s self.old
@@ -106,12 +106,12 @@ impl<R: TellRead, P: ReaderPolicy> BufReader<R, P> {
         ensures exact { (s : Buffered R P) → OneRead R.remaining P.rules s out.old answer self.old
             → ReadsExactly R.remaining P.rules s result out.new self.new }
     {
-        let mut at = further(answer, ErrorKind::UnexpectedEof)?;
+        let mut at = progress(answer, ErrorKind::UnexpectedEof)?;
         for _ in 1..u64::MAX {
             if at >= out.len() {
                 return Ok(());
             }
-            at += further(self.read(&mut out[at..]), ErrorKind::UnexpectedEof)?;
+            at += progress(self.read(&mut out[at..]), ErrorKind::UnexpectedEof)?;
         }
         if at >= out.len() {
             return Ok(());
@@ -134,7 +134,7 @@ impl<R: TellRead, P: ReaderPolicy> BufReader<R, P> {
     }
 
     #[inline(always)]
-    pub(super) fn read_rest_aside(&mut self, out: &mut [u8]) -> io::Result<()>
+    pub(super) fn read_rest_outlined(&mut self, out: &mut [u8]) -> io::Result<()>
         ensures exact { ReadsExactly R.remaining P.rules self.old result out.new self.new }
     {
         self.read_rest(out)
@@ -157,7 +157,7 @@ impl<R: TellRead, P: ReaderPolicy> BufReader<R, P> {
     }
 
     #[inline(always)]
-    pub(super) fn read_ordered_aside(&mut self, out: &mut [u8]) -> io::Result<()>
+    pub(super) fn read_ordered_outlined(&mut self, out: &mut [u8]) -> io::Result<()>
         requires some { 0 < length out.old }
         ensures exact { (s : Buffered R P) → AskedRead P.rules read_now s self.old → 0 < length s.block.bytes
             → ReadsExactly R.remaining P.rules s result out.new self.new }
@@ -167,7 +167,7 @@ impl<R: TellRead, P: ReaderPolicy> BufReader<R, P> {
 
     // The policy returned this error to the first question of a read of a whole slice.
     #[inline(always)]
-    pub(super) fn read_on_aside(&mut self, e: io::Error, out: &mut [u8]) -> io::Result<()>
+    pub(super) fn read_on_outlined(&mut self, e: io::Error, out: &mut [u8]) -> io::Result<()>
         requires some { 0 < length out.old }
         ensures exact { (s : Buffered R P) → OneRead R.remaining P.rules s out.old (Err e) self.old
             → ReadsExactly R.remaining P.rules s result out.new self.new }

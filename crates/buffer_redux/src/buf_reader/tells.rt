@@ -41,7 +41,7 @@ impl<R: TellRead, P: ReaderPolicy> BufReader<R, P> {
 }
 
 impl<R: TellRead, P: ReaderPolicy> TellBufRead for BufReader<R, P> {
-    ghost stretch = { ReaderWent R.remaining P.rules };
+    ghost trace = { ReaderWent R.remaining P.rules };
 
     fn fill_told(&mut self) -> io::Result<&[u8]>
         ensures* after_borrow { sem 𝓛 (Rests (the_row R.row P.row R.Tell) self.entry
@@ -53,7 +53,7 @@ impl<R: TellRead, P: ReaderPolicy> TellBufRead for BufReader<R, P> {
 
     fn consume_told(&mut self, amount: usize)
         ensures told { reader_log self.new ≡ after_consume (reader_log self.old) amount }
-        ensures stretch { ReaderWent R.remaining P.rules self.old self.new }
+        ensures trace { ReaderWent R.remaining P.rules self.old self.new }
         ensures consumed { ReaderConsumes P.rules amount self.old self.new }
         ensures whole { IsBlock self.new.block }
     {
@@ -61,11 +61,11 @@ impl<R: TellRead, P: ReaderPolicy> TellBufRead for BufReader<R, P> {
         self.consume(amount);
     }
 
-    ghost stretch_none = { ReaderWent-none R.remaining P.rules };
+    ghost trace_none = { ReaderWent-none R.remaining P.rules };
 
-    ghost stretch_joins = { ReaderWent-joins R.remaining P.rules };
+    ghost trace_joins = { ReaderWent-joins R.remaining P.rules };
 
-    ghost stretch_grows = { ReaderWent-grows R.remaining P.rules };
+    ghost trace_grows = { ReaderWent-grows R.remaining P.rules };
 }
 
 impl<R: TellSeek, P> TellSeek for BufReader<R, P> {

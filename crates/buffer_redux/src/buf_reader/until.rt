@@ -35,12 +35,12 @@ impl<R: TellRead, P: ReaderPolicy> BufReader<R, P> {
                 self.append_first(n, out)?;
                 Ok(n)
             }
-            None => self.read_until_aside(byte, out),
+            None => self.read_until_outlined(byte, out),
         }
     }
 
     #[inline(always)]
-    fn read_until_aside<A: Allocator>(
+    fn read_until_outlined<A: Allocator>(
         &mut self,
         byte: u8,
         out: &mut Vec<u8, A>,
@@ -97,12 +97,12 @@ impl<R: TellRead, P: ReaderPolicy> BufReader<R, P> {
                 self.consume_exact(n);
                 Ok(n)
             }
-            None => self.skip_until_aside(byte),
+            None => self.skip_until_outlined(byte),
         }
     }
 
     #[inline(always)]
-    fn skip_until_aside(&mut self, byte: u8) -> io::Result<usize>
+    fn skip_until_outlined(&mut self, byte: u8) -> io::Result<usize>
         requires plain { Lacks byte self.old.block.bytes }
         ensures until { SkipsUntil R.remaining P.rules byte self.old result self.new }
     {

@@ -23,7 +23,7 @@ impl<W: TellWrite> BufWriter<W, StdPolicy> {
     /// assert!(rt; writer.buffer() == b"$2\r\nhi".as_slice());
     /// ```
     pub fn write_parts(&mut self, parts: &[&[u8]]) -> io::Result<()>
-        ensures { WritesParts W.log W.stretch self.old (concat (map (λ part. part.now) parts.now)) result self.new }
+        ensures { WritesParts W.log W.trace self.old (concat (map (λ part. part.now) parts.now)) result self.new }
     {
         let len = total(parts);
         if self.buf.usable_space() >= len {
@@ -43,7 +43,7 @@ impl<W: TellWrite> BufWriter<W, StdPolicy> {
     #[cold]
     #[inline(never)]
     fn make_place(&mut self, len: usize) -> io::Result<()>
-        ensures { MakesPlace W.log W.stretch len self.old result self.new }
+        ensures { MakesPlace W.log W.trace len self.old result self.new }
     {
         if let Err(e) = self.send() {
             return Err(e);

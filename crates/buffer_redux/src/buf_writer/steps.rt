@@ -6,7 +6,7 @@ ghost use Rattle.buffer_redux.specs.Buffered.{Buffered, InnerWent};
 ghost use Rattle.buffer_redux.specs.BufWriter.{Writes, WritesOn};
 ghost use Rattle.buffer_redux.specs.WriteAll.{AskedFirst, OneWrite, WritesAll};
 
-use crate::all_bytes::further;
+use crate::all_bytes::progress;
 use crate::buf_writer::BufWriter;
 use crate::policy::{FlushAmt, WriterPolicy};
 use redux_buffer::tell::TellWrite;
@@ -20,10 +20,10 @@ impl<W: TellWrite, P: WriterPolicy> BufWriter<W, P> {
         ensures bound { WritesAtMost result bytes.now }
         ensures steps { WritesOn P.rules first self.old bytes.now result self.new }
         ensures whole { IsBlock self.new.block }
-        ensures stretch { InnerWent W.log W.stretch self.old self.new }
+        ensures trace { InnerWent W.log W.trace self.old self.new }
     {
         self.flush_amount(first)?;
-        let written = self.take_in(bytes)?;
+        let written = self.append_or_write(bytes)?;
         self.flush_after();
         Ok(written)
     }
@@ -31,11 +31,11 @@ impl<W: TellWrite, P: WriterPolicy> BufWriter<W, P> {
     // The same apart, so that a write that sends nothing first and fits is short in its caller.
     #[cold]
     #[inline(never)]
-    fn write_apart(&mut self, first: usize, bytes: &[u8]) -> io::Result<usize>
+    fn write_cold(&mut self, first: usize, bytes: &[u8]) -> io::Result<usize>
         ensures bound { WritesAtMost result bytes.now }
         ensures steps { WritesOn P.rules first self.old bytes.now result self.new }
         ensures whole { IsBlock self.new.block }
-        ensures stretch { InnerWent W.log W.stretch self.old self.new }
+        ensures trace { InnerWent W.log W.trace self.old self.new }
     {
         self.write_slowly(first, bytes)
     }
@@ -47,20 +47,20 @@ impl<W: TellWrite, P: WriterPolicy> BufWriter<W, P> {
         ensures bound { WritesAtMost result bytes.now }
         ensures steps { Writes P.rules self.old bytes.now result self.new }
         ensures whole { IsBlock self.new.block }
-        ensures stretch { InnerWent W.log W.stretch self.old self.new }
+        ensures trace { InnerWent W.log W.trace self.old self.new }
     {
         let FlushAmt(first) = self.policy.before_write(&mut self.buf, bytes.len())?;
         self.write_slowly(first, bytes)
     }
 
-    // Answers by the parts, as `write_aside` does: a whole answer is loaded in other widths than it was stored in, and waits
+    // Answers by the parts, as `write_outlined` does: a whole answer is loaded in other widths than it was stored in, and waits
     // until the stores are done.
     #[inline(always)]
-    pub(super) fn write_asking_aside(&mut self, bytes: &[u8]) -> io::Result<usize>
+    pub(super) fn write_asking_outlined(&mut self, bytes: &[u8]) -> io::Result<usize>
         ensures bound { WritesAtMost result bytes.now }
         ensures steps { Writes P.rules self.old bytes.now result self.new }
         ensures whole { IsBlock self.new.block }
-        ensures stretch { InnerWent W.log W.stretch self.old self.new }
+        ensures trace { InnerWent W.log W.trace self.old self.new }
     {
         match self.write_asking(bytes) {
             Ok(n) => Ok(n),
@@ -68,16 +68,16 @@ impl<W: TellWrite, P: WriterPolicy> BufWriter<W, P> {
         }
     }
 
-    // Goes on in `write_apart`. The kit's compiler clears the answer of a call, here 96 bytes, where the function that makes
+    // Goes on in `write_cold`. The kit's compiler clears the answer of a call, here 96 bytes, where the function that makes
     // the call begins; of a call made in here, which is inlined, that is behind the tests of `write`.
     #[inline(always)]
-    pub(super) fn write_aside(&mut self, first: usize, bytes: &[u8]) -> io::Result<usize>
+    pub(super) fn write_outlined(&mut self, first: usize, bytes: &[u8]) -> io::Result<usize>
         ensures bound { WritesAtMost result bytes.now }
         ensures steps { WritesOn P.rules first self.old bytes.now result self.new }
         ensures whole { IsBlock self.new.block }
-        ensures stretch { InnerWent W.log W.stretch self.old self.new }
+        ensures trace { InnerWent W.log W.trace self.old self.new }
     {
-        match self.write_apart(first, bytes) {
+        match self.write_cold(first, bytes) {
             Ok(n) => Ok(n),
             Err(e) => Err(e),
         }
@@ -90,15 +90,15 @@ impl<W: TellWrite, P: WriterPolicy> BufWriter<W, P> {
     fn write_on(&mut self, answer: io::Result<usize>, bytes: &[u8]) -> io::Result<()>
         requires bound { WritesAtMost answer bytes.now }
         requires some { 0 < length bytes.now }
-        ensures all { (s : Buffered W P) → OneWrite W.log W.stretch P.rules s bytes.now answer self.old
-            → WritesAll W.log W.stretch P.rules s bytes.now result self.new }
+        ensures all { (s : Buffered W P) → OneWrite W.log W.trace P.rules s bytes.now answer self.old
+            → WritesAll W.log W.trace P.rules s bytes.now result self.new }
     {
-        let mut at = further(answer, ErrorKind::WriteZero)?;
+        let mut at = progress(answer, ErrorKind::WriteZero)?;
         for _ in 1..u64::MAX {
             if at >= bytes.len() {
                 return Ok(());
             }
-            at += further(self.write(&bytes[at..]), ErrorKind::WriteZero)?;
+            at += progress(self.write(&bytes[at..]), ErrorKind::WriteZero)?;
         }
         if at >= bytes.len() {
             return Ok(());
@@ -106,24 +106,24 @@ impl<W: TellWrite, P: WriterPolicy> BufWriter<W, P> {
         Err(io::Error::from(ErrorKind::TimedOut))
     }
 
-    // All of a write of all bytes but the first question. It stands apart, as `write_apart` does.
+    // All of a write of all bytes but the first question. It stands apart, as `write_cold` does.
     #[cold]
     #[inline(never)]
     fn write_rest(&mut self, first: usize, bytes: &[u8]) -> io::Result<()>
         requires some { 0 < length bytes.now }
         ensures all { (s : Buffered W P) → AskedFirst W.log P.rules (length bytes.now) first s self.old
-            → WritesAll W.log W.stretch P.rules s bytes.now result self.new }
+            → WritesAll W.log W.trace P.rules s bytes.now result self.new }
     {
         let answer = self.write_slowly(first, bytes);
         self.write_on(answer, bytes)
     }
 
-    // These are inlined, as `write_aside` is.
+    // These are inlined, as `write_outlined` is.
     #[inline(always)]
-    pub(super) fn write_rest_aside(&mut self, first: usize, bytes: &[u8]) -> io::Result<()>
+    pub(super) fn write_rest_outlined(&mut self, first: usize, bytes: &[u8]) -> io::Result<()>
         requires some { 0 < length bytes.now }
         ensures all { (s : Buffered W P) → AskedFirst W.log P.rules (length bytes.now) first s self.old
-            → WritesAll W.log W.stretch P.rules s bytes.now result self.new }
+            → WritesAll W.log W.trace P.rules s bytes.now result self.new }
     {
         self.write_rest(first, bytes)
     }
@@ -133,7 +133,7 @@ impl<W: TellWrite, P: WriterPolicy> BufWriter<W, P> {
     #[inline(never)]
     fn write_large(&mut self, bytes: &[u8]) -> io::Result<()>
         requires some { 0 < length bytes.now }
-        ensures all { WritesAll W.log W.stretch P.rules self.old bytes.now result self.new }
+        ensures all { WritesAll W.log W.trace P.rules self.old bytes.now result self.new }
     {
         let _ = &self.buf;
         let answer = self.write_asking(bytes);
@@ -141,18 +141,18 @@ impl<W: TellWrite, P: WriterPolicy> BufWriter<W, P> {
     }
 
     #[inline(always)]
-    pub(super) fn write_large_aside(&mut self, bytes: &[u8]) -> io::Result<()>
+    pub(super) fn write_large_outlined(&mut self, bytes: &[u8]) -> io::Result<()>
         requires some { 0 < length bytes.now }
-        ensures all { WritesAll W.log W.stretch P.rules self.old bytes.now result self.new }
+        ensures all { WritesAll W.log W.trace P.rules self.old bytes.now result self.new }
     {
         self.write_large(bytes)
     }
 
     #[inline(always)]
-    pub(super) fn write_on_aside(&mut self, e: io::Error, bytes: &[u8]) -> io::Result<()>
+    pub(super) fn write_on_outlined(&mut self, e: io::Error, bytes: &[u8]) -> io::Result<()>
         requires some { 0 < length bytes.now }
-        ensures all { (s : Buffered W P) → OneWrite W.log W.stretch P.rules s bytes.now (Err e) self.old
-            → WritesAll W.log W.stretch P.rules s bytes.now result self.new }
+        ensures all { (s : Buffered W P) → OneWrite W.log W.trace P.rules s bytes.now (Err e) self.old
+            → WritesAll W.log W.trace P.rules s bytes.now result self.new }
     {
         self.write_on(Err(e), bytes)
     }

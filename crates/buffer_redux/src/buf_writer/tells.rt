@@ -20,14 +20,14 @@ impl<W: TellWrite, P> Tell for BufWriter<W, P> {
 }
 
 impl<W: TellWrite, P: WriterPolicy> TellWrite for BufWriter<W, P> {
-    ghost stretch = { WriterWent W.stretch P.rules };
+    ghost trace = { WriterWent W.trace P.rules };
 
     ghost call = { WriterCalled P.rules };
 
     fn write_told(&mut self, buf: &[u8]) -> io::Result<usize>
         ensures bound { WritesAtMost result buf.now }
         ensures told { writer_log self.new ≡ after_write (writer_log self.old) buf.now result }
-        ensures stretch { WriterWent W.stretch P.rules self.old self.new }
+        ensures trace { WriterWent W.trace P.rules self.old self.new }
         ensures call { WriterCalled P.rules self.old self.new }
         ensures steps { Writes P.rules self.old buf.now result self.new }
         ensures whole { IsBlock self.new.block }
@@ -39,7 +39,7 @@ impl<W: TellWrite, P: WriterPolicy> TellWrite for BufWriter<W, P> {
 
     fn flush_told(&mut self) -> io::Result<()>
         ensures told { writer_log self.new ≡ after_flush (writer_log self.old) result }
-        ensures stretch { WriterWent W.stretch P.rules self.old self.new }
+        ensures trace { WriterWent W.trace P.rules self.old self.new }
         ensures call { WriterCalled P.rules self.old self.new }
         ensures steps { Flushes self.old result self.new }
         ensures whole { IsBlock self.new.block }
@@ -49,11 +49,11 @@ impl<W: TellWrite, P: WriterPolicy> TellWrite for BufWriter<W, P> {
         answer
     }
 
-    ghost stretch_none = { WriterWent-none W.stretch P.rules W.stretch_none };
+    ghost trace_none = { WriterWent-none W.trace P.rules W.trace_none };
 
-    ghost stretch_joins = { WriterWent-joins W.stretch P.rules W.stretch_joins };
+    ghost trace_joins = { WriterWent-joins W.trace P.rules W.trace_joins };
 
-    ghost stretch_grows = { WriterWent-grows W.stretch P.rules };
+    ghost trace_grows = { WriterWent-grows W.trace P.rules };
 }
 
 // A seek is told as one; the flush before it shows in what is flushed.
@@ -64,7 +64,7 @@ impl<W: TellWrite + TellSeek, P: WriterPolicy> TellSeek for BufWriter<W, P> {
         ensures told { SeekTells flushes_received (writer_log self.old) to result (writer_log self.new) }
         ensures moves { SeekMoves None None None to result }
         ensures bytes { Keeps None None }
-        ensures sought { WasSought W.log W.stretch W.readies self.old to result
+        ensures sought { WasSought W.log W.trace W.readies self.old to result
             (with_calls self.new self.old.own_calls) }
     {
         let answer = self.seek(to);

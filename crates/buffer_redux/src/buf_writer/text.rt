@@ -33,11 +33,11 @@ struct Pieces<'a, W: TellWrite, P: WriterPolicy, B: Began<W, P>> {
     ended: Option<io::Error>,
     of: PhantomData<B>,
     ghost same_writer: { writer.ghost_name ≡ B.name },
-    ghost went: { ∥ IfSome B.writer (λ s. TextWent W.log W.stretch P.rules s ended writer.now) ∥₁ },
+    ghost went: { ∥ IfSome B.writer (λ s. TextWent W.log W.trace P.rules s ended writer.now) ∥₁ },
 }
 
 impl<W: TellWrite, P: WriterPolicy, B: Began<W, P>> fmt::Write for Pieces<'_, W, P, B> {
-    ghost write_str_gives = { λ s bytes t. TakesPieces W.log W.stretch P.rules s.writer.now s.ended bytes t.writer.now t.ended };
+    ghost write_str_gives = { λ s bytes t. TakesPieces W.log W.trace P.rules s.writer.now s.ended bytes t.writer.now t.ended };
 
     fn write_str(&mut self, piece: &str) -> fmt::Result {
         if self.ended.is_none() {
@@ -66,7 +66,7 @@ impl<W: TellWrite, P: WriterPolicy> BufWriter<W, P> {
     #[inline(always)]
     pub fn write_fmt<D: Display + Drop>(&mut self, text: D) -> io::Result<()>
         ensures bytes { OnOk result (IfSome (D.output text) (Appends (writer_contents self.old) (writer_contents self.new))) }
-        ensures text { WritesText W.log W.stretch P.rules self.old (D.output text) result self.new }
+        ensures text { WritesText W.log W.trace P.rules self.old (D.output text) result self.new }
     {
         let (writer, answer) = write_text::<Brand, W, P, D>(self, text);
         // No effect at run time. The proof reads what was written from this use of `writer`.
@@ -84,7 +84,7 @@ fn write_text<'a, B: Began<W, P>, W: TellWrite, P: WriterPolicy, D: Display + Dr
     requires name { B.name ≡ writer.ghost_name }
     requires began { B.writer ≡ Some writer.old }
     ensures same_writer { result.0.ghost_name ≡ writer.entry.ghost_name }
-    ensures text { WritesText W.log W.stretch P.rules writer.old (D.output text) result.1 result.0.now }
+    ensures text { WritesText W.log W.trace P.rules writer.old (D.output text) result.1 result.0.now }
 {
     let pieces: Pieces<'a, W, P, B> = Pieces {
         writer,

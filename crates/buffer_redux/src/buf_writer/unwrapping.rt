@@ -61,7 +61,7 @@ impl<W: TellWrite, P> BufWriter<W, P> {
     where
         P: Drop,
         requires { F.IsAlwaysCallable handler }
-        ensures { SendsOrHandles W.log W.stretch (λ w b e w' b'. F.post handler w b e tt w' b') self result.0 result.1 }
+        ensures { SendsOrHandles W.log W.trace (λ w b e w' b'. F.post handler w b e tt w' b') self result.0 result.1 }
     {
         let (mut inner, mut unsent) = self.into_inner_with_buffer();
         if let Err(e) = unsent.write_all(&mut inner) {
@@ -76,7 +76,7 @@ impl<W: TellWrite, P: WriterPolicy + Drop> BufWriter<W, P> {
     /// and the fault.
     pub fn into_inner(mut self) -> Result<W, IntoInnerError<Self>>
         ensures { MatchResult result
-            (InnerOfFlushed W.log W.stretch self (Ok tt)) (λ e. WasFlushed W.log W.stretch self (Err e.1) e.0) }
+            (InnerOfFlushed W.log W.trace self (Ok tt)) (λ e. WasFlushed W.log W.trace self (Err e.1) e.0) }
     {
         match self.flush() {
             Ok(()) => {
@@ -96,8 +96,8 @@ impl<W: TellWrite, P: WriterPolicy + Drop> BufWriter<W, P> {
     /// gone.
     pub fn into_inner_with_err(mut self) -> (W, Option<io::Error>)
         ensures { MatchOption result.1
-            (InnerOfFlushed W.log W.stretch self (Ok tt) result.0)
-            (λ e. InnerOfFlushed W.log W.stretch self (Err e) result.0) }
+            (InnerOfFlushed W.log W.trace self (Ok tt) result.0)
+            (λ e. InnerOfFlushed W.log W.trace self (Err e) result.0) }
     {
         let fault = match self.flush() {
             Ok(()) => None,

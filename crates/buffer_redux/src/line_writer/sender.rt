@@ -73,7 +73,7 @@ impl<W: TellWrite> LineSender<W> {
     // Sends what is buffered, where a line feed is among it: one stays there only where its send failed.
     #[inline(always)]
     fn send_lines(&mut self) -> io::Result<()>
-        ensures sends { SendsLines W.log W.stretch self.old result self.new }
+        ensures sends { SendsLines W.log W.trace self.old result self.new }
         ensures sent { OnOk result (Lacks 10 self.new.block.bytes) }
         ensures whole { IsBlock self.new.block }
     {
@@ -88,8 +88,8 @@ impl<W: TellWrite> LineSender<W> {
     #[inline(always)]
     pub fn write_fmt<D: Display + Drop>(&mut self, text: D) -> io::Result<()>
         ensures bytes { OnOk result (IfSome (D.output text) (Appends (writer_contents self.old) (writer_contents self.new))) }
-        ensures steps { ThenSendsLines W.log W.stretch
-            (WritesText W.log W.stretch line_rules self.old (D.output text)) result self.new }
+        ensures steps { ThenSendsLines W.log W.trace
+            (WritesText W.log W.trace line_rules self.old (D.output text)) result self.new }
         ensures sent { OnOk result (Lacks 10 self.new.block.bytes) }
     {
         self.writer.write_fmt(text)?;
@@ -105,7 +105,7 @@ impl<W: TellWrite> Write for LineSender<W> {
         ensures bound { WritesAtMost result bytes.now }
         ensures bytes { WriteAppends (writer_contents self.old) (writer_contents self.new) result bytes.now }
         ensures steps { Writes line_rules self.old bytes.now result self.new }
-        ensures keeps { WriterKeeps W.log W.stretch line_rules self.old self.new }
+        ensures keeps { WriterKeeps W.log W.trace line_rules self.old self.new }
     {
         self.writer.write(bytes)
     }
@@ -114,8 +114,8 @@ impl<W: TellWrite> Write for LineSender<W> {
     #[inline(always)]
     fn write_all(&mut self, bytes: &[u8]) -> io::Result<()>
         ensures bytes { OnOk result (Appends (writer_contents self.old) (writer_contents self.new) bytes.now) }
-        ensures all { AllAlong W.log W.stretch line_rules self.old bytes.now result self.new }
-        ensures steps { ThenSendsLines W.log W.stretch (WritesAll W.log W.stretch line_rules self.old bytes.now)
+        ensures all { AllAlong W.log W.trace line_rules self.old bytes.now result self.new }
+        ensures steps { ThenSendsLines W.log W.trace (WritesAll W.log W.trace line_rules self.old bytes.now)
             result self.new }
         ensures sent { OnOk result (Lacks 10 self.new.block.bytes) }
         ensures whole { IsBlock self.new.block }
@@ -126,7 +126,7 @@ impl<W: TellWrite> Write for LineSender<W> {
 
     fn flush(&mut self) -> io::Result<()>
         ensures bytes { Keeps (writer_contents self.old) (writer_contents self.new) }
-        ensures flushed { WasFlushed W.log W.stretch self.old result self.new }
+        ensures flushed { WasFlushed W.log W.trace self.old result self.new }
     {
         self.writer.flush()
     }

@@ -17,14 +17,14 @@ impl<W: TellWrite> Tell for LineWriter<W> {
 
 // A `LineWriter` tells what the writer inside it tells.
 impl<W: TellWrite> TellWrite for LineWriter<W> {
-    ghost stretch = { WriterWent W.stretch line_rules };
+    ghost trace = { WriterWent W.trace line_rules };
 
     ghost call = { WriterCalled line_rules };
 
     fn write_told(&mut self, buf: &[u8]) -> io::Result<usize>
         ensures bound { WritesAtMost result buf.now }
         ensures told { writer_log self.new ≡ after_write (writer_log self.old) buf.now result }
-        ensures stretch { WriterWent W.stretch line_rules self.old self.new }
+        ensures trace { WriterWent W.trace line_rules self.old self.new }
         ensures call { WriterCalled line_rules self.old self.new }
         ensures steps { Writes line_rules self.old buf.now result self.new }
         ensures whole { IsBlock self.new.block }
@@ -34,7 +34,7 @@ impl<W: TellWrite> TellWrite for LineWriter<W> {
 
     fn flush_told(&mut self) -> io::Result<()>
         ensures told { writer_log self.new ≡ after_flush (writer_log self.old) result }
-        ensures stretch { WriterWent W.stretch line_rules self.old self.new }
+        ensures trace { WriterWent W.trace line_rules self.old self.new }
         ensures call { WriterCalled line_rules self.old self.new }
         ensures steps { Flushes self.old result self.new }
         ensures whole { IsBlock self.new.block }
@@ -42,9 +42,9 @@ impl<W: TellWrite> TellWrite for LineWriter<W> {
         self.writer.flush_told()
     }
 
-    ghost stretch_none = { WriterWent-none W.stretch line_rules W.stretch_none };
+    ghost trace_none = { WriterWent-none W.trace line_rules W.trace_none };
 
-    ghost stretch_joins = { WriterWent-joins W.stretch line_rules W.stretch_joins };
+    ghost trace_joins = { WriterWent-joins W.trace line_rules W.trace_joins };
 
-    ghost stretch_grows = { WriterWent-grows W.stretch line_rules };
+    ghost trace_grows = { WriterWent-grows W.trace line_rules };
 }

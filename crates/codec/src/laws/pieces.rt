@@ -65,9 +65,9 @@ impl<R: TellRead, D: Decoder> KnownReader for PieceReader<R, D> {
 impl<W: TellWrite, E: Encoder> PayloadWriter for PieceWriter<W, E> {
     type Error = WritePieceError<E::Refusal>;
 
-    ghost goes = { λ s. WritesPiece W.stretch (E.encoding s.encoder) s };
+    ghost goes = { λ s. WritesPiece W.trace (E.encoding s.encoder) s };
 
-    ghost plays = { λ s. WritePlays W.stretch (E.encoding s.encoder) s };
+    ghost plays = { λ s. WritePlays W.trace (E.encoding s.encoder) s };
 
     ghost takes = { λ s. (E.encoding s.encoder).takes };
 
@@ -77,11 +77,11 @@ impl<W: TellWrite, E: Encoder> PayloadWriter for PieceWriter<W, E> {
         self.write_piece(payload)
     }
 
-    ghost plays_none = { λ s. WritePlays-none W.stretch W.stretch_none (E.encoding s.encoder) s };
+    ghost plays_none = { λ s. WritePlays-none W.trace W.trace_none (E.encoding s.encoder) s };
 
-    ghost plays_more = { WritePlays-more W.stretch W.stretch_none W.stretch_joins E.encoding };
+    ghost plays_more = { WritePlays-more W.trace W.trace_none W.trace_joins E.encoding };
 
-    ghost still_takes = { WritesPiece-takes W.stretch E.encoding };
+    ghost still_takes = { WritesPiece-takes W.trace E.encoding };
 
-    ghost fails_by_fault = { WritesPiece-fails W.stretch E.encoding E.writable };
+    ghost fails_by_fault = { WritesPiece-fails W.trace E.encoding E.writable };
 }

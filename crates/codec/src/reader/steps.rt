@@ -3,7 +3,7 @@ ghost use Rattle.std.specs.Prelude.{◌≡◌, ◌<◌, ◌≤◌, [], length, t
 ghost use Rattle.codec.specs.Decoding.{IsLent};
 ghost use Rattle.codec.specs.Grammar.{IsOpen, Lacks};
 ghost use Rattle.codec.specs.NextPiece.{HandsBytes, NextPiece, PiecesWent, load_answer};
-ghost use Rattle.codec.specs.Piecing.{IsPiecing, rest};
+ghost use Rattle.codec.specs.PieceReader.{IsPieceReader, rest};
 ghost use Rattle.codec.specs.Steps.{AsksFor, Takes, TakesEnd};
 
 use crate::decoder::{Decoder, End, Found, Span};
@@ -18,8 +18,8 @@ impl<R: Tell, D: Decoder> PieceReader<R, D> {
     #[inline(always)]
     pub(super) fn take(&mut self) -> Found<D::Wrong>
         ensures takes { Takes (D.grammar self.old.decoder) self.old result self.new }
-        ensures before { IsPiecing (D.grammar self.old.decoder) self.old }
-        ensures whole { IsPiecing (D.grammar self.old.decoder) self.new }
+        ensures before { IsPieceReader (D.grammar self.old.decoder) self.old }
+        ensures whole { IsPieceReader (D.grammar self.old.decoder) self.new }
     {
         let left = self.rest();
         let have = left.len();
@@ -42,7 +42,7 @@ impl<R: Tell, D: Decoder> PieceReader<R, D> {
         requires handed { self.old.handed ≡ 0 }
         requires open { IsOpen (D.grammar self.old.decoder) (rest self.old) }
         ensures takes { TakesEnd (D.grammar self.old.decoder) self.old result self.new }
-        ensures whole { IsPiecing (D.grammar self.old.decoder) self.new }
+        ensures whole { IsPieceReader (D.grammar self.old.decoder) self.new }
     {
         let len = self.reader.buf_len();
         if len == 0 {
@@ -65,7 +65,7 @@ impl<R: TellRead, D: Decoder> PieceReader<R, D> {
     // Goes on in `load`. The kit's compiler clears the answer of a call where the function that makes the call begins; of a
     // call made in here, which is inlined, that is behind the look at what is buffered.
     #[inline(always)]
-    pub(super) fn load_aside(&mut self, need: usize) -> Result<Option<Span>, NextError<D::Wrong>>
+    pub(super) fn load_outlined(&mut self, need: usize) -> Result<Option<Span>, NextError<D::Wrong>>
         requires few { length (rest self.old) < need }
         requires most { need ≤ (D.grammar self.old.decoder).most }
         requires lacks { Lacks (D.grammar self.old.decoder) need (rest self.old) }
@@ -120,7 +120,7 @@ impl<R: TellRead, D: Decoder> PieceReader<R, D> {
         ensures seen { self.new.seen ≡ self.old.seen }
         ensures ended { self.new.ended ≡ self.old.ended }
         ensures told { self.new.reader.log ≡ self.old.reader.log }
-        ensures whole { IsPiecing (D.grammar self.old.decoder) self.new }
+        ensures whole { IsPieceReader (D.grammar self.old.decoder) self.new }
     {
         self.reader.consume(self.handed);
         self.handed = 0;

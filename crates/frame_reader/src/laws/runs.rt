@@ -70,10 +70,10 @@ impl<R: TellRead> KnownReader for FrameReader<R> {
 impl<W: TellWrite> PayloadWriter for FrameWriter<W> {
     type Error = WriteFrameError;
 
-    ghost goes = { WritesFrame W.stretch };
+    ghost goes = { WritesFrame W.trace };
 
     ghost plays = { λ s payloads answers.
-        WritePlays W.stretch (framed_out s.encoder.max) s payloads (map piece_written answers) };
+        WritePlays W.trace (framed_out s.encoder.max) s payloads (map piece_written answers) };
 
     ghost takes = { λ s. Fits s.encoder.max };
 
@@ -83,13 +83,13 @@ impl<W: TellWrite> PayloadWriter for FrameWriter<W> {
         self.write_frame(payload)
     }
 
-    ghost plays_none = { λ s. WritePlays-none W.stretch W.stretch_none (framed_out s.encoder.max) s };
+    ghost plays_none = { λ s. WritePlays-none W.trace W.trace_none (framed_out s.encoder.max) s };
 
-    ghost plays_more = { WritesFrame-more W.stretch W.stretch_none W.stretch_joins };
+    ghost plays_more = { WritesFrame-more W.trace W.trace_none W.trace_joins };
 
     ghost still_takes = { λ s payload answer.
-        WritesPiece-takes W.stretch (λ (d : Frames). framed_out d.max) s payload (piece_written answer) };
+        WritesPiece-takes W.trace (λ (d : Frames). framed_out d.max) s payload (piece_written answer) };
 
-    ghost fails_by_fault = { λ s payload why. WritesPiece-fails W.stretch (λ (d : Frames). framed_out d.max)
+    ghost fails_by_fault = { λ s payload why. WritesPiece-fails W.trace (λ (d : Frames). framed_out d.max)
         (λ d. framed_writable d.max) s payload (piece_refused why) };
 }

@@ -29,7 +29,7 @@ pub fn write_each<W: TellWrite>(
         StopsInLine (map (λ v. v.items) lines.now) e.taken writer.old writer.new) }
     ensures caused { IfErr result (λ e. WriterStopped writer.old.log.writes writer.new.log.writes e.error) }
     ensures not_flushed { writer.new.log.writes.flushed ≡ writer.old.log.writes.flushed }
-    ensures stretch { W.stretch writer.old.inner writer.new.inner }
+    ensures trace { W.trace writer.old.inner writer.new.inner }
 {
     let mut taken = 0usize;
     for line in lines {
@@ -50,7 +50,7 @@ fn write_line<W: TellWrite>(writer: &mut LineWriter<W>, line: &[u8]) -> io::Resu
     ensures caused { IfErr result (WriterStopped writer.old.log.writes writer.new.log.writes) }
     ensures grows { WriteLogGrows writer.old.log.writes writer.new.log.writes }
     ensures not_flushed { writer.new.log.writes.flushed ≡ writer.old.log.writes.flushed }
-    ensures stretch { W.stretch writer.old.inner writer.new.inner }
+    ensures trace { W.trace writer.old.inner writer.new.inner }
 {
     writer.write_all(line)?;
     writer.write_all(b"\n")?;

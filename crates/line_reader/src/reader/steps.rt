@@ -4,9 +4,9 @@ ghost use Rattle.std.specs.Bool.{OnFalse, OnTrue};
 ghost use Rattle.codec.specs.Decoding.{IsLent, bytes_at};
 ghost use Rattle.codec.specs.Grammar.{Begins};
 ghost use Rattle.codec.specs.NextPiece.{buffered_answer, load_answer};
-ghost use Rattle.codec.specs.Piecing.{rest};
+ghost use Rattle.codec.specs.PieceReader.{rest};
 ghost use Rattle.codec.specs.Trimming.{IsTrimmed};
-ghost use Rattle.line_reader.specs.Lining.{IsLining, lined};
+ghost use Rattle.line_reader.specs.LineReader.{IsLineReader, lined};
 ghost use Rattle.line_reader.specs.NextLine.{NextBuffered, NextLine};
 ghost use Rattle.line_reader.specs.SkipLine.{DropsLine, DropsThrough};
 
@@ -58,7 +58,7 @@ impl<R: TellRead> LineReader<R> {
     // Hands the next line out where it is buffered whole, and says where it is. What was searched before isn't searched again.
     #[inline(always)]
     pub(super) fn step_buffered(&mut self) -> Option<Span>
-        ensures before { IsLining self.old }
+        ensures before { IsLineReader self.old }
         ensures next { NextBuffered R.remaining self.old (buffered_answer result self.new.pieces) self.new }
         ensures lends { IfSome result
             (IsLent (lined self.new.pieces.decoder.max) self.new.pieces.handed self.new.pieces.reader.block.bytes) }
@@ -77,7 +77,7 @@ impl<R: TellRead> LineReader<R> {
             (IsLent (lined self.new.pieces.decoder.max) self.new.pieces.handed self.new.pieces.reader.block.bytes)) }
     {
         if self.skipping {
-            self.load_aside()
+            self.load_outlined()
         } else {
             self.load_line()
         }
@@ -86,7 +86,7 @@ impl<R: TellRead> LineReader<R> {
     // Goes on in `load_behind`. The kit's compiler clears the answer of a call where the function that makes the call begins; of
     // a call made in here, which is inlined, that is behind the test of `load`.
     #[inline(always)]
-    fn load_aside(&mut self) -> Result<Option<Span>, LineError>
+    fn load_outlined(&mut self) -> Result<Option<Span>, LineError>
         requires skipping { self.old.skipping ≡ true }
         ensures next { NextLine R.remaining self.old (load_answer result self.new.pieces) self.new }
         ensures lends { IfOk result (λ found. IfSome found

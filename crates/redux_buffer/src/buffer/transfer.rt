@@ -39,7 +39,7 @@ impl Buffer {
         ensures wrote { WritesTo self.old (W.log wrt.old) result self.new (W.log wrt.new) }
         ensures not_asked { length self.old.bytes ≡ 0 → wrt.new ≡ wrt.old }
         ensures moved { OnlyRingMoves self.old self.new }
-        ensures stretch { W.stretch wrt.old wrt.new }
+        ensures trace { W.trace wrt.old wrt.new }
         ensures whole { IsBlock self.new }
     {
         if self.is_empty() {
@@ -60,7 +60,7 @@ impl Buffer {
         ensures sent { Sends max self.old (W.log wrt.old) result self.new (W.log wrt.new) }
         ensures idle { max ≡ 0 ⊎ (length self.old.bytes ≡ 0)
             → (result ≡ Ok tt) × (wrt.new ≡ wrt.old) × (self.new ≡ self.old) }
-        ensures stretch { W.stretch wrt.old wrt.new }
+        ensures trace { W.trace wrt.old wrt.new }
         ensures whole { IsBlock self.new }
     {
         let mut left = max.min(self.len());
@@ -83,7 +83,7 @@ impl Buffer {
         ensures sent { Sends (length self.old.bytes) self.old (W.log wrt.old) result self.new (W.log wrt.new) }
         ensures idle { length self.old.bytes ≡ 0
             → (result ≡ Ok tt) × (wrt.new ≡ wrt.old) × (self.new ≡ self.old) }
-        ensures stretch { W.stretch wrt.old wrt.new }
+        ensures trace { W.trace wrt.old wrt.new }
         ensures whole { IsBlock self.new }
     {
         let len = self.len();
@@ -96,22 +96,22 @@ impl Buffer {
 fn write_retried<W: TellWrite>(wrt: &mut W, bytes: &[u8]) -> io::Result<usize>
     ensures bound { WritesAtMost result bytes.now }
     ensures wrote { WritesRetried bytes.now (W.log wrt.old) result (W.log wrt.new) }
-    ensures stretch { W.stretch wrt.old wrt.new }
+    ensures trace { W.trace wrt.old wrt.new }
 {
     match wrt.write_told(bytes) {
         Ok(n) => Ok(n),
-        Err(e) => retry_aside(e, wrt, bytes),
+        Err(e) => retry_outlined(e, wrt, bytes),
     }
 }
 
 // Goes on after a first write that failed so. It stands apart, and what it answers is cleared in here, which is inlined,
 // and so where it is called alone.
 #[inline(always)]
-fn retry_aside<W: TellWrite>(e: io::Error, wrt: &mut W, bytes: &[u8]) -> io::Result<usize>
+fn retry_outlined<W: TellWrite>(e: io::Error, wrt: &mut W, bytes: &[u8]) -> io::Result<usize>
     ensures bound { WritesAtMost result bytes.now }
     ensures wrote { (log : StreamLog) → W.log wrt.old ≡ after_write log bytes.now (Err e)
         → WritesRetried bytes.now log result (W.log wrt.new) }
-    ensures stretch { W.stretch wrt.old wrt.new }
+    ensures trace { W.trace wrt.old wrt.new }
 {
     retry(e, wrt, bytes)
 }
@@ -122,7 +122,7 @@ fn retry<W: TellWrite>(e: io::Error, wrt: &mut W, bytes: &[u8]) -> io::Result<us
     ensures bound { WritesAtMost result bytes.now }
     ensures wrote { (log : StreamLog) → W.log wrt.old ≡ after_write log bytes.now (Err e)
         → WritesRetried bytes.now log result (W.log wrt.new) }
-    ensures stretch { W.stretch wrt.old wrt.new }
+    ensures trace { W.trace wrt.old wrt.new }
 {
     if e.kind() != ErrorKind::Interrupted {
         return Err(e);

@@ -44,14 +44,14 @@ pub fn clear(buffer: &mut Buffer)
 }
 
 /// A growth doesn't raise it, nor one that is refused.
-pub fn reserve(buffer: &mut Buffer, a: usize) -> Result<(), GrowError>
-    ensures grown { OnOk result (Reserves a buffer.old buffer.new) }
+pub fn reserve(buffer: &mut Buffer, additional: usize) -> Result<(), GrowError>
+    ensures grown { OnOk result (Reserves additional buffer.old buffer.new) }
     ensures unchanged { OnErr result (buffer.new ≡ buffer.old) }
-    ensures limit { FitsWithin result (capacity_for buffer.old a) buffer.old.limit }
-    ensures succeeds { a ≤ usable buffer.old → IsOk result }
+    ensures limit { FitsWithin result (capacity_for buffer.old additional) buffer.old.limit }
+    ensures succeeds { additional ≤ usable buffer.old → IsOk result }
     ensures potential { PlainRises 0 buffer.old buffer.new }
 {
-    buffer.reserve(a)
+    buffer.reserve(additional)
 }
 
 /// A limit doesn't raise it, nor one that is refused.
@@ -100,7 +100,7 @@ pub fn read_from<R: TellRead>(buffer: &mut Buffer, rdr: &mut R) -> io::Result<us
 pub fn write_to<W: TellWrite>(buffer: &mut Buffer, wrt: &mut W) -> io::Result<usize>
     ensures wrote { WritesTo buffer.old (W.log wrt.old) result buffer.new (W.log wrt.new) }
     ensures not_asked { length buffer.old.bytes ≡ 0 → wrt.new ≡ wrt.old }
-    ensures stretch { W.stretch wrt.old wrt.new }
+    ensures trace { W.trace wrt.old wrt.new }
     ensures potential { PlainRises 0 buffer.old buffer.new }
 {
     buffer.write_to(wrt)
@@ -109,7 +109,7 @@ pub fn write_to<W: TellWrite>(buffer: &mut Buffer, wrt: &mut W) -> io::Result<us
 /// Sending the first bytes doesn't raise it.
 pub fn write_max<W: TellWrite>(buffer: &mut Buffer, max: usize, wrt: &mut W) -> io::Result<()>
     ensures sent { Sends max buffer.old (W.log wrt.old) result buffer.new (W.log wrt.new) }
-    ensures stretch { W.stretch wrt.old wrt.new }
+    ensures trace { W.trace wrt.old wrt.new }
     ensures potential { PlainRises 0 buffer.old buffer.new }
 {
     buffer.write_max(max, wrt)
@@ -119,7 +119,7 @@ pub fn write_max<W: TellWrite>(buffer: &mut Buffer, max: usize, wrt: &mut W) -> 
 pub fn write_all<W: TellWrite>(buffer: &mut Buffer, wrt: &mut W) -> io::Result<()>
     ensures sent { Sends (length buffer.old.bytes) buffer.old (W.log wrt.old) result
         buffer.new (W.log wrt.new) }
-    ensures stretch { W.stretch wrt.old wrt.new }
+    ensures trace { W.trace wrt.old wrt.new }
     ensures potential { PlainRises 0 buffer.old buffer.new }
 {
     buffer.write_all(wrt)

@@ -95,7 +95,7 @@ impl Tell for MemoryWriter {
 impl TellWrite for MemoryWriter {
     ghost use Rattle.redux_buffer.specs.Memory.{writer_log};
 
-    ghost stretch = { λ s t. WriteLogGrows s.calls.log.writes t.calls.log.writes };
+    ghost trace = { λ s t. WriteLogGrows s.calls.log.writes t.calls.log.writes };
 
     fn write_told(&mut self, buf: &[u8]) -> io::Result<usize>
         ensures bound { WritesAtMost result buf.now }
@@ -117,11 +117,11 @@ impl TellWrite for MemoryWriter {
         answer
     }
 
-    ghost stretch_none = { λ s. WriteLogGrows-none s.calls.log.writes };
+    ghost trace_none = { λ s. WriteLogGrows-none s.calls.log.writes };
 
-    ghost stretch_joins = { λ a b c p q. WriteLogGrows-joins a.calls.log.writes b.calls.log.writes c.calls.log.writes p q };
+    ghost trace_joins = { λ a b c p q. WriteLogGrows-joins a.calls.log.writes b.calls.log.writes c.calls.log.writes p q };
 
-    ghost stretch_grows = { λ s t grows. WritesGoOn-of s.calls.log t.calls.log grows };
+    ghost trace_grows = { λ s t grows. WritesGoOn-of s.calls.log t.calls.log grows };
 }
 
 impl Drop for MemoryReader<'_> {

@@ -32,7 +32,7 @@ pub trait TellRead: Tell {
 /// An honest writer: `Ok(n)` took the first n bytes of the slice, and an `Err` took none.
 pub trait TellWrite: Tell {
     // What any calls, one after another, may do to the writer.
-    ghost stretch: { Self → Self → Type 0 };
+    ghost trace: { Self → Self → Type 0 };
 
     // What is known of one call alone, and not of several together: by default nothing.
     ghost call: { Self → Self → Type 0 } = { λ _ _. ⊤ };
@@ -41,48 +41,48 @@ pub trait TellWrite: Tell {
     fn write_told(&mut self, buf: &[u8]) -> io::Result<usize>
         ensures bound { WritesAtMost result buf.now }
         ensures told { Self.log self.new ≡ after_write (Self.log self.old) buf.now result }
-        ensures stretch { stretch self.old self.new }
+        ensures trace { trace self.old self.new }
         ensures call { call self.old self.new };
 
     /// [`Write::flush`](std::io::Write::flush).
     fn flush_told(&mut self) -> io::Result<()>
         ensures told { Self.log self.new ≡ after_flush (Self.log self.old) result }
-        ensures stretch { stretch self.old self.new }
+        ensures trace { trace self.old self.new }
         ensures call { call self.old self.new };
 
-    // No call is a stretch too.
-    ghost stretch_none: { (s : Self) → stretch s s };
+    // No call is a trace too.
+    ghost trace_none: { (s : Self) → trace s s };
 
-    // Two stretches join.
-    ghost stretch_joins: { (a b c : Self) → stretch a b → stretch b c → stretch a c };
+    // Two traces join.
+    ghost trace_joins: { (a b c : Self) → trace a b → trace b c → trace a c };
 
-    // In a stretch the log only goes on.
-    ghost stretch_grows: { (s t : Self) → stretch s t → WritesGoOn (Self.log s) (Self.log t) };
+    // In a trace the log only goes on.
+    ghost trace_grows: { (s t : Self) → trace s t → WritesGoOn (Self.log s) (Self.log t) };
 }
 
 /// An honest buffered reader: what a fill shows is what is consumed next, and what isn't consumed is shown again.
 pub trait TellBufRead: Tell {
     // What any calls, one after another, may do to the reader.
-    ghost stretch: { Self → Self → Type 0 };
+    ghost trace: { Self → Self → Type 0 };
 
     /// [`BufRead::fill_buf`](std::io::BufRead::fill_buf).
     fn fill_told(&mut self) -> io::Result<&[u8]>
         ensures* after_borrow { sem 𝓛 (Rests Self.row self.entry (λ new.
-            FillTells (Self.log self.old) result (Self.log new) × stretch self.old new)) };
+            FillTells (Self.log self.old) result (Self.log new) × trace self.old new)) };
 
     /// [`BufRead::consume`](std::io::BufRead::consume).
     fn consume_told(&mut self, amount: usize)
         ensures told { Self.log self.new ≡ after_consume (Self.log self.old) amount }
-        ensures stretch { stretch self.old self.new };
+        ensures trace { trace self.old self.new };
 
-    // No call is a stretch too.
-    ghost stretch_none: { (s : Self) → stretch s s };
+    // No call is a trace too.
+    ghost trace_none: { (s : Self) → trace s s };
 
-    // Two stretches join.
-    ghost stretch_joins: { (a b c : Self) → stretch a b → stretch b c → stretch a c };
+    // Two traces join.
+    ghost trace_joins: { (a b c : Self) → trace a b → trace b c → trace a c };
 
-    // In a stretch the log only goes on.
-    ghost stretch_grows: { (s t : Self) → stretch s t → FillsGoOn (Self.log s) (Self.log t) };
+    // In a trace the log only goes on.
+    ghost trace_grows: { (s t : Self) → trace s t → FillsGoOn (Self.log s) (Self.log t) };
 }
 
 /// A seeker that tells where it was asked to go, and what it answered.

@@ -109,12 +109,12 @@ impl<S: Read> TellRead for Told<S> {
 impl<S: Write> TellWrite for Told<S> {
     ghost use Rattle.redux_buffer.specs.Told.{told_stream, told_log, ToldWrites, ToldWrites-none, ToldWrites-joins};
 
-    ghost stretch = { ToldWrites S.contents };
+    ghost trace = { ToldWrites S.contents };
 
     fn write_told(&mut self, buf: &[u8]) -> io::Result<usize>
         ensures bound { WritesAtMost result buf.now }
         ensures told { told_log self.new ≡ after_write (told_log self.old) buf.now result }
-        ensures stretch { ToldWrites S.contents self.old self.new }
+        ensures trace { ToldWrites S.contents self.old self.new }
         ensures passed_on { WriteAppends (S.contents (told_stream self.old))
             (S.contents (told_stream self.new)) result buf.now }
     {
@@ -129,7 +129,7 @@ impl<S: Write> TellWrite for Told<S> {
 
     fn flush_told(&mut self) -> io::Result<()>
         ensures told { told_log self.new ≡ after_flush (told_log self.old) result }
-        ensures stretch { ToldWrites S.contents self.old self.new }
+        ensures trace { ToldWrites S.contents self.old self.new }
         ensures passed_on { Keeps (S.contents (told_stream self.old))
             (S.contents (told_stream self.new)) }
     {
@@ -138,11 +138,11 @@ impl<S: Write> TellWrite for Told<S> {
         answer
     }
 
-    ghost stretch_none = { ToldWrites-none S.contents };
+    ghost trace_none = { ToldWrites-none S.contents };
 
-    ghost stretch_joins = { ToldWrites-joins S.contents };
+    ghost trace_joins = { ToldWrites-joins S.contents };
 
-    ghost stretch_grows = { λ s t stretch. WritesGoOn-of s.calls.log t.calls.log stretch.grows };
+    ghost trace_grows = { λ s t trace. WritesGoOn-of s.calls.log t.calls.log trace.grows };
 }
 
 impl<S: Seek> TellSeek for Told<S> {

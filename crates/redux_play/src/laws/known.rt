@@ -25,10 +25,10 @@ pub fn copy_known<R: TellRead, P: ReaderPolicy, W: TellWrite>(
         (reader_remaining R.remaining P.rules from.new) (W.log to.old).writes (W.log to.new).writes }
     ensures all { OnOk result (ReceivesAll (reader_remaining R.remaining P.rules from.old)
         (W.log to.old).writes (W.log to.new).writes) }
-    ensures copied { CopyBuf W.log W.stretch W.call result
+    ensures copied { CopyBuf W.log W.trace W.call result
         (reader_log from.old).fills (reader_log from.new).fills to.old to.new }
     ensures reader { ReaderWent R.remaining P.rules from.old from.new }
-    ensures writer { W.stretch to.old to.new }
+    ensures writer { W.trace to.old to.new }
 {
     copy_buf(from, to)
 }

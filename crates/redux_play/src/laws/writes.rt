@@ -22,7 +22,7 @@ pub fn write_law<W: TellWrite, P: WriterPolicy>(
 ) -> io::Result<usize>
     ensures exactly { IfOk result (λ n. WroteExactly P.rules writer.old bytes.now n writer.new) }
     ensures steps { Writes P.rules writer.old bytes.now result writer.new }
-    ensures keeps { WriterKeeps W.log W.stretch P.rules writer.old writer.new }
+    ensures keeps { WriterKeeps W.log W.trace P.rules writer.old writer.new }
 {
     writer.write(bytes)
 }
@@ -36,7 +36,7 @@ pub fn flush_on_law<W: TellWrite>(
         → HasNo writer.old.policy.0 writer.new.block.bytes) }
     ensures policy { writer.new.policy ≡ writer.old.policy }
     ensures steps { Writes (flush_on_rules (λ p. p.0)) writer.old bytes.now result writer.new }
-    ensures keeps { WriterKeeps W.log W.stretch (flush_on_rules (λ p. p.0)) writer.old writer.new }
+    ensures keeps { WriterKeeps W.log W.trace (flush_on_rules (λ p. p.0)) writer.old writer.new }
 {
     writer.write(bytes)
 }
@@ -50,7 +50,7 @@ pub fn flush_on_newline_law<W: TellWrite>(
         → HasNo 10 writer.new.block.bytes) }
     ensures policy { writer.new.policy ≡ writer.old.policy }
     ensures steps { Writes (flush_on_rules (λ p. 10)) writer.old bytes.now result writer.new }
-    ensures keeps { WriterKeeps W.log W.stretch (flush_on_rules (λ p. 10)) writer.old writer.new }
+    ensures keeps { WriterKeeps W.log W.trace (flush_on_rules (λ p. 10)) writer.old writer.new }
 {
     writer.write(bytes)
 }
@@ -60,7 +60,7 @@ pub fn line_law<W: TellWrite>(writer: &mut LineWriter<W>, bytes: &[u8]) -> io::R
     ensures none_left { OnOk result (EachTook writer.old.log.writes writer.new.log.writes
         → HasNo 10 writer.new.block.bytes) }
     ensures steps { Writes line_rules writer.old bytes.now result writer.new }
-    ensures keeps { WriterKeeps W.log W.stretch line_rules writer.old writer.new }
+    ensures keeps { WriterKeeps W.log W.trace line_rules writer.old writer.new }
 {
     writer.write(bytes)
 }
@@ -75,7 +75,7 @@ pub fn flush_at_least_law<W: TellWrite>(
         → length writer.new.block.bytes < max writer.old.policy.0 1) }
     ensures policy { writer.new.policy ≡ writer.old.policy }
     ensures steps { Writes (at_least_rules (λ p. p.0)) writer.old bytes.now result writer.new }
-    ensures keeps { WriterKeeps W.log W.stretch (at_least_rules (λ p. p.0)) writer.old writer.new }
+    ensures keeps { WriterKeeps W.log W.trace (at_least_rules (λ p. p.0)) writer.old writer.new }
 {
     writer.write(bytes)
 }
@@ -90,7 +90,7 @@ pub fn flush_exact_law<W: TellWrite>(
         SendsExactly (exact_rules (λ p. p.0)) writer.old.policy.0 writer.old bytes.now k writer.new) }
     ensures policy { writer.new.policy ≡ writer.old.policy }
     ensures steps { Writes (exact_rules (λ p. p.0)) writer.old bytes.now result writer.new }
-    ensures keeps { WriterKeeps W.log W.stretch (exact_rules (λ p. p.0)) writer.old writer.new }
+    ensures keeps { WriterKeeps W.log W.trace (exact_rules (λ p. p.0)) writer.old writer.new }
 {
     writer.write(bytes)
 }

@@ -128,12 +128,15 @@ fn make_room<R: TellRead, P: ReaderPolicy>(reader: &mut BufReader<R, P>) -> Read
     ReaderAnswer::Done
 }
 
-fn reserve<R: TellRead, P: ReaderPolicy>(reader: &mut BufReader<R, P>, a: usize) -> ReaderAnswer
-    ensures step { (handed : List ℕ) → ReaderStep P.rules (with_handed reader.old handed) (Reserve a) result
+fn reserve<R: TellRead, P: ReaderPolicy>(
+    reader: &mut BufReader<R, P>,
+    additional: usize,
+) -> ReaderAnswer
+    ensures step { (handed : List ℕ) → ReaderStep P.rules (with_handed reader.old handed) (Reserve additional) result
         (with_handed reader.new handed) }
     ensures whole { IsBlock reader.new.block }
 {
-    match reader.reserve(a) {
+    match reader.reserve(additional) {
         Ok(()) => ReaderAnswer::Done,
         Err(e) => ReaderAnswer::Refused(e),
     }

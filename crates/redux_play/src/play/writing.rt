@@ -53,11 +53,14 @@ fn make_room<W: TellWrite, P: WriterPolicy>(writer: &mut BufWriter<W, P>) -> Wri
     WriterAnswer::Done
 }
 
-fn reserve<W: TellWrite, P: WriterPolicy>(writer: &mut BufWriter<W, P>, a: usize) -> WriterAnswer
-    ensures step { WriterStep P.rules writer.old (Reserve a) result writer.new }
+fn reserve<W: TellWrite, P: WriterPolicy>(
+    writer: &mut BufWriter<W, P>,
+    additional: usize,
+) -> WriterAnswer
+    ensures step { WriterStep P.rules writer.old (Reserve additional) result writer.new }
     ensures whole { IsBlock writer.new.block }
 {
-    match writer.reserve(a) {
+    match writer.reserve(additional) {
         Ok(()) => WriterAnswer::Done,
         Err(e) => WriterAnswer::Refused(e),
     }

@@ -5,14 +5,14 @@ use Rattle.requests.proofs.answer_called.Goals as goal
 
 pub returns-then-said-clause-answers : goal.returns-then-said-clause-answers
 returns-then-said-clause-answers g c = λ s w begun call.
-    one_answered g.met.W.TellWrite.stretch_joins begun c.in-Ok.ensures.whole c.said-said.ensures call c.in-Ok-accept.ensures
+    one_answered g.met.W.TellWrite.trace_joins begun c.in-Ok.ensures.whole c.said-said.ensures call c.in-Ok-accept.ensures
 
 pub returns-else-said-clause-answers : goal.returns-else-said-clause-answers
 returns-else-said-clause-answers g c = λ s w begun call. (
   [],
   false,
   false,
-  one_answered g.met.W.TellWrite.stretch_joins begun c.in-Ok.ensures.whole c.said-said.ensures call c.in-Ok-accept.ensures,
+  one_answered g.met.W.TellWrite.trace_joins begun c.in-Ok.ensures.whole c.said-said.ensures call c.in-Ok-accept.ensures,
 )
 
 pub returns-in-Err-accept-clause-answers : goal.returns-in-Err-accept-clause-answers
@@ -20,7 +20,7 @@ returns-in-Err-accept-clause-answers g c = λ s w begun call. (
   [],
   false,
   false,
-  one_answered g.met.W.TellWrite.stretch_joins begun c.in-Ok.ensures.whole c.said-said.ensures call c.in-Err-accept.ensures,
+  one_answered g.met.W.TellWrite.trace_joins begun c.in-Ok.ensures.whole c.said-said.ensures call c.in-Err-accept.ensures,
 )
 
 pub returns-in-Err-clause-answers : goal.returns-in-Err-clause-answers
@@ -32,6 +32,6 @@ returns-in-Err-clause-answers g c = λ s w begun call.
       waits b.said,
       end.ensures.0,
       part_answered begun part.1
-          (Sends-after g.met.W.TellWrite.stretch_joins w c.args.writer.now end.new.writer (called (waits b.said))
+          (Sends-after g.met.W.TellWrite.trace_joins w c.args.writer.now end.new.writer (called (waits b.said))
           (refused end.ensures.0) end.result call end.ensures.1),
     )

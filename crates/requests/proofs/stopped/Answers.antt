@@ -4,11 +4,11 @@ use Rattle.requests.proofs.stopped.Goals as goal
 
 pub returns-then-is_interrupt : goal.returns-then-is_interrupt
 returns-then-is_interrupt g c = λ s went.
-    none_answered went (Sends-none g.met.W.TellWrite.stretch_none c.args.writer.now (Ok tt) c.requires.sent)
+    none_answered went (Sends-none g.met.W.TellWrite.trace_none c.args.writer.now (Ok tt) c.requires.sent)
 
 pub returns-in-Ended : goal.returns-in-Ended
 returns-in-Ended g c = λ s went.
-    ([], false, false, none_answered went (Sends-none g.met.W.TellWrite.stretch_none c.args.writer.now (Ok tt) c.requires.sent))
+    ([], false, false, none_answered went (Sends-none g.met.W.TellWrite.trace_none c.args.writer.now (Ok tt) c.requires.sent))
 
 pub returns-in-Bad : goal.returns-in-Bad
 returns-in-Bad g c = λ s went. ([], false, true, none_answered went c.refuse-ending.ensures)
@@ -18,5 +18,5 @@ returns-in-Io g c = λ s went. (
   [],
   false,
   false,
-  none_answered went (Sends-none g.met.W.TellWrite.stretch_none c.args.writer.now (Err c.in-Io.e) c.requires.sent),
+  none_answered went (Sends-none g.met.W.TellWrite.trace_none c.args.writer.now (Err c.in-Io.e) c.requires.sent),
 )

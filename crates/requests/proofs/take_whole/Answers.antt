@@ -1,5 +1,5 @@
 use Rattle.std.proofs.Common.{◌++◌}
-use Rattle.codec.specs.Piecing.{left_of}
+use Rattle.codec.specs.PieceReader.{left_of}
 use Rattle.messages.specs.MessagesLaws.{InsideGoes-joins}
 use Rattle.requests.proofs.Answering.{whole_taken}
 use Rattle.requests.proofs.take_whole.Goals as goal

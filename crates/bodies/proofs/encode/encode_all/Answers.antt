@@ -9,7 +9,7 @@ use Rattle.bodies.proofs.encode.encode_all.Goals as goal
 
 pub returns-in-Ok : goal.returns-in-Ok
 returns-in-Ok g c =
-    let rules = encoding_rules g.R.TellRead.remaining g.W.TellWrite.stretch in
+    let rules = encoding_rules g.R.TellRead.remaining g.W.TellWrite.trace in
     let first = start c.args.source c.args.target in
     let t = c.forward-answer.new.link in
     let over = rw (c.new-link.ensures, c.new.ensures.begun) at c.in-Ok.ensures in
@@ -17,7 +17,7 @@ returns-in-Ok g c =
     let end = rw c.into_inner-source.ensures at c.end-answer.ensures in
     let before = Goes-per_ask rules (linked first) t over.goes (λ s t asked. asked.1) in
     rw c.into_inner-source.ensures (record {
-      ran = ended g.R.TellRead.remaining g.W.TellWrite.stretch c.args.source c.args.target c.requires.source.bytes
+      ran = ended g.R.TellRead.remaining g.W.TellWrite.trace c.args.source c.args.target c.requires.source.bytes
           c.requires.target.bytes t.filter _ answers.0 answers.1.0 answers.3 c.end-answer.result.1 answers.1.1
           c.end-answer.result.0 end;
       prompt = HoldsNothingBack-on IsDue c.args.source.log _ _ c.args.target.log _ _ (Goes-holds rules (linked first) t over.goes)
@@ -29,12 +29,12 @@ returns-in-Ok g c =
 
 pub returns-in-Err : goal.returns-in-Err
 returns-in-Err g c =
-    let rules = encoding_rules g.R.TellRead.remaining g.W.TellWrite.stretch in
+    let rules = encoding_rules g.R.TellRead.remaining g.W.TellWrite.trace in
     let first = start c.args.source c.args.target in
     let over = rw (c.new-link.ensures, c.new.ensures.begun) at c.in-Err.ensures in
     let before = Goes-per_ask rules (linked first) c.forward-answer.new.link over.goes (λ s t asked. asked.1) in
     rw (c.into_inner.ensures, c.into_inner-source.ensures) (record {
-      ran = stopped g.R.TellRead.remaining g.W.TellWrite.stretch c.args.source c.args.target c.requires.source.bytes
+      ran = stopped g.R.TellRead.remaining g.W.TellWrite.trace c.args.source c.args.target c.requires.source.bytes
           c.requires.target.bytes c.forward-answer.new.link.filter _ _ _ over.answers c.error_of.ensures;
       prompt = Goes-holds rules (linked first) c.forward-answer.new.link over.goes;
       once = over.once;

@@ -6,15 +6,15 @@ use Rattle.bodies.proofs.encode.end.Goals as goal
 pub returns-in-Ok-flush : goal.returns-in-Ok-flush
 returns-in-Ok-flush g c =
     let end = c.in-Ok.ensures in
-    ends_well g.W.Tell.log g.W.TellWrite.stretch c.args.body.writer c.in-Ok.target c.flush.new.self end.in_order
-    (put_quietly g.W.Tell.log g.W.TellWrite.stretch c.args.body.writer c.in-Ok.target (body_end []) (body_end []) _ end.fits
+    ends_well g.W.Tell.log g.W.TellWrite.trace c.args.body.writer c.in-Ok.target c.flush.new.self end.in_order
+    (put_quietly g.W.Tell.log g.W.TellWrite.trace c.args.body.writer c.in-Ok.target (body_end []) (body_end []) _ end.fits
     end.full)
     c.in-Ok-flush.ensures.flushed
 
 pub returns-in-Err-flush : goal.returns-in-Err-flush
 returns-in-Err-flush g c =
     let end = c.in-Ok.ensures in
-    ends_badly g.W.Tell.log g.W.TellWrite.stretch c.args.body.writer c.in-Ok.target c.flush.new.self end.in_order
-    (put_quietly g.W.Tell.log g.W.TellWrite.stretch c.args.body.writer c.in-Ok.target (body_end []) (body_end []) _ end.fits
+    ends_badly g.W.Tell.log g.W.TellWrite.trace c.args.body.writer c.in-Ok.target c.flush.new.self end.in_order
+    (put_quietly g.W.Tell.log g.W.TellWrite.trace c.args.body.writer c.in-Ok.target (body_end []) (body_end []) _ end.fits
     end.full)
     c.in-Err-flush.e c.in-Err-flush.ensures.flushed

@@ -1,4 +1,4 @@
-use Rattle.chunked.specs.DechunkingLaws.{BodyWent-behind}
+use Rattle.chunked.specs.ChunkedReaderLaws.{BodyWent-behind}
 use Rattle.chunked.proofs.laws.behind_body.Goals as goal
 
 pub returns : goal.returns

@@ -59,7 +59,7 @@ loop-field-preserved g c =
     let line = c.put-in-loop-field.ensures in
     let ends = c.put-in-loop-field-2.ensures in
     record {
-      put = line_in g.W.TellWrite.stretch g.met.W.TellWrite.stretch_none g.met.W.TellWrite.stretch_joins _ _ _ _
+      put = line_in g.W.TellWrite.trace g.met.W.TellWrite.trace_none g.met.W.TellWrite.trace_joins _ _ _ _
           (lines_of fields) i _ there is before.put line.put ends.put;
       space = omega (arith, before.space, line.usable, ends.usable, front_more_len (lines_of fields) i there, ap length is);
       wire = line_noted _ _ _ _ (lines_of fields) i _ there is before.wire line.wire ends.wire;
@@ -80,7 +80,7 @@ put-requires-2-clause-room g c =
 pub returns-clause-put : goal.returns-clause-put
 returns-clause-put g c =
     let fields = c.args.fields.now in
-    end_in g.W.TellWrite.stretch g.met.W.TellWrite.stretch_none g.met.W.TellWrite.stretch_joins _ _ _ (lines_of fields) _
+    end_in g.W.TellWrite.trace g.met.W.TellWrite.trace_none g.met.W.TellWrite.trace_joins _ _ _ (lines_of fields) _
     (all_lines fields c.loop-field.field-index c.loop-field-test.false) c.loop-field.invariant.put c.put-2.ensures.put
 
 pub returns-clause-wire : goal.returns-clause-wire

@@ -22,9 +22,9 @@ returns-in-Ok-clause-first g c =
     let m = c.step_item_buffered.new.self in
     let gram = g.D.Decoder.grammar s.decoder in
     let stays : StaysLeft gram s m = c.in_default.ensures.next.0 in
-    first_ok g.R.TellRead.remaining g.W.Tell.log g.W.TellWrite.stretch gram s m stays c.args.writer.now c.flush_to_ask.new.writer
+    first_ok g.R.TellRead.remaining g.W.Tell.log g.W.TellWrite.trace gram s m stays c.args.writer.now c.flush_to_ask.new.writer
     _ (g.met.D.Decoder.lawful s.decoder)
-    (subst (λ d. FlushesToAsk g.W.Tell.log g.W.TellWrite.stretch (g.D.Decoder.grammar d) m c.args.writer.now (Ok _)
+    (subst (λ d. FlushesToAsk g.W.Tell.log g.W.TellWrite.trace (g.D.Decoder.grammar d) m c.args.writer.now (Ok _)
     c.flush_to_ask.new.writer) (ap (λ x. x.decoder) stays.same) c.in-Ok.ensures)
     (item_answer c.step_item.result c.step_item.new.self) c.step_item.new.self
     ((subst (λ d. NextItem g.R.TellRead.remaining (g.D.Decoder.grammar d) (g.D.Items.item_of d) m c.step_item.result
@@ -36,7 +36,7 @@ returns-in-Err-clause-first g c =
     let m = c.step_item_buffered.new.self in
     let gram = g.D.Decoder.grammar s.decoder in
     let stays : StaysLeft gram s m = c.in_default.ensures.next.0 in
-    first_err g.R.TellRead.remaining g.W.Tell.log g.W.TellWrite.stretch gram s m stays c.args.writer.now c.flush_to_ask.new.writer
+    first_err g.R.TellRead.remaining g.W.Tell.log g.W.TellWrite.trace gram s m stays c.args.writer.now c.flush_to_ask.new.writer
     c.in-Err.e
-    (subst (λ d. FlushesToAsk g.W.Tell.log g.W.TellWrite.stretch (g.D.Decoder.grammar d) m c.args.writer.now (Err c.in-Err.e)
+    (subst (λ d. FlushesToAsk g.W.Tell.log g.W.TellWrite.trace (g.D.Decoder.grammar d) m c.args.writer.now (Err c.in-Err.e)
     c.flush_to_ask.new.writer) (ap (λ x. x.decoder) stays.same) c.in-Err.ensures)

@@ -1,6 +1,6 @@
 use Rattle.std.proofs.Common.{◌≡◌, rules}
 use Rattle.codec.specs.PiecesWentLaws.{PiecesWent-then}
-use Rattle.codec.specs.Piecing.{left_of}
+use Rattle.codec.specs.PieceReader.{left_of}
 use Rattle.codec.proofs.Handover.{on_ok}
 use Rattle.codec.proofs.laws.handed_over.Goals as goal
 

@@ -3,5 +3,5 @@ use Rattle.codec.proofs.laws.written_since_new.Goals as goal
 
 pub returns : goal.returns
 returns g c least stream maker first payloads =
-    PiecesTaken-since g.W.TellWrite.stretch (g.E.Encoder.encoding maker) g.W.Tell.log least
+    PiecesTaken-since g.W.TellWrite.trace (g.E.Encoder.encoding maker) g.W.Tell.log least
     (g.E.Encoder.encoding maker).most stream maker first c.args.writer.now payloads

@@ -9,7 +9,7 @@ pub loop-turn-preserved : goal.loop-turn-preserved
 loop-turn-preserved g c =
     let m = server c.loop-turn.reader c.loop-turn.service c.loop-turn.writer in
     let before = c.loop-turn.invariant in
-    let took = subst (λ d. Turns g.R.TellRead.remaining g.W.Tell.log g.W.TellWrite.stretch (g.D.Decoder.grammar d)
+    let took = subst (λ d. Turns g.R.TellRead.remaining g.W.Tell.log g.W.TellWrite.trace (g.D.Decoder.grammar d)
     (g.D.Items.item_of d) g.S.Service.answers m (Ok Went) (server c.turn.new.reader c.turn.new.service c.turn.new.writer))
     before.decoder (rw c.in-Went.is at c.in_ok-turn.ensures) in
     record {
@@ -24,7 +24,7 @@ returns-in-Closed-clause-ended g c =
     let m = server c.loop-turn.reader c.loop-turn.service c.loop-turn.writer in
     let t = server c.turn.new.reader c.turn.new.service c.turn.new.writer in
     let before = c.loop-turn.invariant in
-    let took = subst (λ d. Turns g.R.TellRead.remaining g.W.Tell.log g.W.TellWrite.stretch (g.D.Decoder.grammar d)
+    let took = subst (λ d. Turns g.R.TellRead.remaining g.W.Tell.log g.W.TellWrite.trace (g.D.Decoder.grammar d)
     (g.D.Items.item_of d) g.S.Service.answers m (Ok Closed) t) before.decoder (rw c.in-Closed.is at c.in_ok-turn.ensures) in
     record {
       exchanges = took.0 ∷ before.exchanges;
@@ -38,7 +38,7 @@ pub returns-in-End-clause-ended : goal.returns-in-End-clause-ended
 returns-in-End-clause-ended g c =
     let m = server c.loop-turn.reader c.loop-turn.service c.loop-turn.writer in
     let before = c.loop-turn.invariant in
-    let none = subst (λ d. Turns g.R.TellRead.remaining g.W.Tell.log g.W.TellWrite.stretch (g.D.Decoder.grammar d)
+    let none = subst (λ d. Turns g.R.TellRead.remaining g.W.Tell.log g.W.TellWrite.trace (g.D.Decoder.grammar d)
     (g.D.Items.item_of d) g.S.Service.answers m (Ok End) (server c.turn.new.reader c.turn.new.service c.turn.new.writer))
     before.decoder (rw c.in-End.is at c.in_ok-turn.ensures) in
     record { exchanges = before.exchanges; more = true; last = m; talked = before.talked; ends = (refl, none) }
@@ -60,7 +60,7 @@ returns-in_err-turn-clause-failed g c =
     let m = server c.loop-turn.reader c.loop-turn.service c.loop-turn.writer in
     let t = server c.turn.new.reader c.turn.new.service c.turn.new.writer in
     let before = c.loop-turn.invariant in
-    let failed = subst (λ d. Turns g.R.TellRead.remaining g.W.Tell.log g.W.TellWrite.stretch (g.D.Decoder.grammar d)
+    let failed = subst (λ d. Turns g.R.TellRead.remaining g.W.Tell.log g.W.TellWrite.trace (g.D.Decoder.grammar d)
     (g.D.Items.item_of d) g.S.Service.answers m (Err c.in_err-turn.field-0.0) t) before.decoder c.in_err-turn.ensures in
-    rw (p.1, p.2) (stops _ _ _ _ _ _ _ g.met.W.TellWrite.stretch_none g.met.W.TellWrite.stretch_joins before.exchanges true m
+    rw (p.1, p.2) (stops _ _ _ _ _ _ _ g.met.W.TellWrite.trace_none g.met.W.TellWrite.trace_joins before.exchanges true m
     before.talked c.in_err-turn.field-0.0 t (inl (refl, failed)))

@@ -7,7 +7,7 @@ pub returns-in-Ok-true : goal.returns-in-Ok-true
 returns-in-Ok-true g c =
     let said = c.in-Ok-Ok-Some.is ∙ ap (λ x. Ok x) (c.in-Ok-Ok-Some.field-0-is ∙ ap (λ x. Ok x) c.in-Ok-Ok-Some.field-0-0-is) in
     let r = c.args.reader.now in
-    took_piece g.R.TellRead.remaining g.W.Tell.log g.W.TellWrite.stretch (g.D.Decoder.grammar r.decoder)
+    took_piece g.R.TellRead.remaining g.W.Tell.log g.W.TellWrite.trace (g.D.Decoder.grammar r.decoder)
     (g.D.Items.item_of r.decoder) g.S.Service.answers (server r c.args.service.now c.args.writer.now) c.fetch_item.new.reader
     c.fetch_item.new.writer c.fetch_item.result _ said c.fetch_item.ensures.next c.fetch_item.ensures.first c.lent.result.now
     c.lent.ensures c.answer.new.self c.answer.new.writer c.in-Ok-true.field-0 _ c.in-Ok-true.field-0-test
@@ -17,7 +17,7 @@ pub returns-in-Ok-false : goal.returns-in-Ok-false
 returns-in-Ok-false g c =
     let said = c.in-Ok-Ok-Some.is ∙ ap (λ x. Ok x) (c.in-Ok-Ok-Some.field-0-is ∙ ap (λ x. Ok x) c.in-Ok-Ok-Some.field-0-0-is) in
     let r = c.args.reader.now in
-    took_piece g.R.TellRead.remaining g.W.Tell.log g.W.TellWrite.stretch (g.D.Decoder.grammar r.decoder)
+    took_piece g.R.TellRead.remaining g.W.Tell.log g.W.TellWrite.trace (g.D.Decoder.grammar r.decoder)
     (g.D.Items.item_of r.decoder) g.S.Service.answers (server r c.args.service.now c.args.writer.now) c.fetch_item.new.reader
     c.fetch_item.new.writer c.fetch_item.result _ said c.fetch_item.ensures.next c.fetch_item.ensures.first c.lent.result.now
     c.lent.ensures c.answer.new.self c.answer.new.writer c.in-Ok-false.field-0 _ c.in-Ok-false.field-0-test
@@ -27,7 +27,7 @@ pub returns-in-Err-answer : goal.returns-in-Err-answer
 returns-in-Err-answer g c =
     let said = c.in-Ok-Ok-Some.is ∙ ap (λ x. Ok x) (c.in-Ok-Ok-Some.field-0-is ∙ ap (λ x. Ok x) c.in-Ok-Ok-Some.field-0-0-is) in
     let r = c.args.reader.now in
-    answer_failed g.R.TellRead.remaining g.W.Tell.log g.W.TellWrite.stretch (g.D.Decoder.grammar r.decoder)
+    answer_failed g.R.TellRead.remaining g.W.Tell.log g.W.TellWrite.trace (g.D.Decoder.grammar r.decoder)
     (g.D.Items.item_of r.decoder) g.S.Service.answers (server r c.args.service.now c.args.writer.now) c.fetch_item.new.reader
     c.fetch_item.new.writer c.fetch_item.result _ said c.fetch_item.ensures.next c.fetch_item.ensures.first c.lent.result.now
     c.lent.ensures c.answer.new.self c.answer.new.writer c.in-Err-answer.e c.in-Err-answer.ensures

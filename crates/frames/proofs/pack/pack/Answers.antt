@@ -2,7 +2,7 @@ use Rattle.std.proofs.Common.{◌≡◌, ◌+◌, ◌^◌, ◌∙◌, Err, arith
 use Rattle.std.specs.IoError.{error_kind}
 use Rattle.std.specs.declared.io.ErrorKind.TheVariants.{OutOfMemory}
 use Rattle.buffer_redux.specs.GrowError.{FitsWithin}
-use Rattle.codec.specs.Piecing.{room_for}
+use Rattle.codec.specs.PieceReader.{room_for}
 use Rattle.frames.proofs.PackRuns.{pack_refused, only_memory, only_memory_too}
 use Rattle.frames.proofs.pack.pack.Goals as goal
 

@@ -12,18 +12,18 @@ use Rattle.frames.proofs.pack.pack_all.Goals as goal
 pub returns-clause-ran : goal.returns-clause-ran
 returns-clause-ran g c =
     let remaining = g.R.TellRead.remaining in
-    let rules = packing_rules remaining g.W.TellWrite.stretch in
+    let rules = packing_rules remaining g.W.TellWrite.trace in
     let first : Packing g.row.R.Denot g.row.W.Denot =
     record { source = c.args.source; target = c.args.target; held = None } in
     let answer = c.forward-answer.result in
     let over = subst (λ k. Forwards rules k answer c.forward-answer.new.link) c.new-link.ensures c.forward-answer.ensures in
-    outcome_ran remaining g.W.TellWrite.stretch first c.into_inner-source.result c.requires.nothing c.requires.empty refl
+    outcome_ran remaining g.W.TellWrite.trace first c.into_inner-source.result c.requires.nothing c.requires.empty refl
     c.requires.going c.requires.most (subst IsReady (sym c.into_inner-source.ensures) over.ready) answer c.outcome.result
     c.outcome.ensures (subst (ForwardAnswers rules first answer) (sym c.into_inner-source.ensures) over.answers)
 
 pub returns-clause-prompt : goal.returns-clause-prompt
 returns-clause-prompt g c =
-    let rules = packing_rules g.R.TellRead.remaining g.W.TellWrite.stretch in
+    let rules = packing_rules g.R.TellRead.remaining g.W.TellWrite.trace in
     let t = c.forward-answer.new.link in
     let goes = subst (λ k. Goes rules (IsPrompt rules k.filter) (last_flush c.forward-answer.result) k t) c.new-link.ensures
     c.forward-answer.ensures.goes in

@@ -11,7 +11,7 @@ returns-in_err-write_line g c =
     let p = err_from_is_err_and c.from_residual.result c.from_residual.ensures.1 in
     let wrote = c.in_err-write_line.ensures in
     let v = c.write_line.new.target in
-    rw (p.1, p.2) (held_lost g.R.TellRead.remaining g.W.TellWrite.stretch g.met.W.TellWrite.stretch_none s c.requires.ready v
+    rw (p.1, p.2) (held_lost g.R.TellRead.remaining g.W.TellWrite.trace g.met.W.TellWrite.trace_none s c.requires.ready v
     wrote.not_flushed wrote.flushes wrote.none _ wrote.caused)
 
 pub returns : goal.returns
@@ -19,7 +19,7 @@ returns g c =
     let s = c.args.filter.now in
     let wrote = c.in_ok-write_line.ensures in
     let v = c.write_line.new.target in
-    held_written g.R.TellRead.remaining g.W.TellWrite.stretch g.met.W.TellWrite.stretch_none s c.requires.ready v
+    held_written g.R.TellRead.remaining g.W.TellWrite.trace g.met.W.TellWrite.trace_none s c.requires.ready v
     wrote.not_flushed wrote.flushes _ c.requires.held
-    (subst (λ l. PiecesTaken g.W.TellWrite.stretch (framed_out s.target.encoder.max) s.target (l ∷ []) v) c.lent.ensures
+    (subst (λ l. PiecesTaken g.W.TellWrite.trace (framed_out s.target.encoder.max) s.target (l ∷ []) v) c.lent.ensures
     wrote.taken) wrote.met

@@ -1,7 +1,7 @@
 use Rattle.codec.specs.DelimitedLaws.{delimited_lawful}
 use Rattle.codec.specs.KnownPiecesLaws.{NextPiece-known}
 use Rattle.line_reader.specs.Lines.{newline}
-use Rattle.line_reader.specs.Lining.{lined}
+use Rattle.line_reader.specs.LineReader.{lined}
 use Rattle.line_reader.specs.NextLine.{piece_answer}
 use Rattle.line_reader.specs.NextLineLaws.{NextLine-open}
 use Rattle.line_reader.proofs.laws.next_known.Goals as goal

@@ -1,4 +1,4 @@
-use Rattle.codec.specs.Piecing.{left_of}
+use Rattle.codec.specs.PieceReader.{left_of}
 use Rattle.messages.specs.MessagesLaws.{MessageWent-of, MessagesWent-known, MessagesWent-more}
 use Rattle.messages.proofs.laws.no_byte_between.Goals as goal
 

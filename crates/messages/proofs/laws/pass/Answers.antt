@@ -1,5 +1,5 @@
 use Rattle.std.proofs.Common.{[], ◌∷◌, ◌++◌, arith, length-append, refl}
-use Rattle.codec.specs.Piecing.{left_of}
+use Rattle.codec.specs.PieceReader.{left_of}
 use Rattle.messages.specs.MessagesLaws.{MessagesWent-more, MessagesWent-none}
 use Rattle.messages.proofs.laws.pass.Goals as goal
 

@@ -1,5 +1,5 @@
 use Rattle.std.proofs.Common.{◌≡◌, List, length}
-use Rattle.codec.specs.Piecing.{left_of}
+use Rattle.codec.specs.PieceReader.{left_of}
 use Rattle.messages.specs.Messages.{Message, MessagesWent}
 use Rattle.messages.proofs.laws.pass.Given as goal
 

@@ -1,5 +1,5 @@
 use Rattle.std.proofs.Common.{[], ◌++◌}
-use Rattle.codec.specs.Piecing.{left_of}
+use Rattle.codec.specs.PieceReader.{left_of}
 use Rattle.messages.proofs.Passed.{passed, stopped_inside}
 use Rattle.messages.proofs.laws.pass_one.Goals as goal
 

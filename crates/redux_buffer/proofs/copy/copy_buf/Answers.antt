@@ -8,8 +8,8 @@ pub turns-init : goal.turns-init
 turns-init g c = record {
   copies = CopiesOn-none _ _;
   few = omega arith;
-  reader = g.met.B.TellBufRead.stretch_none _;
-  writer = g.met.W.TellWrite.stretch_none _;
+  reader = g.met.B.TellBufRead.trace_none _;
+  writer = g.met.W.TellWrite.trace_none _;
   still = λ takes. refl;
 }
 
@@ -22,7 +22,7 @@ returns-in_err-taken-clause-copied g c =
     rw (p.1, p.2) (record {
       moved = (c.turns.total, moved);
       ended = tt;
-      failed = inl (StreamFailed-after _ _ _ g.met.W.TellWrite.stretch_joins before.copies before.writer
+      failed = inl (StreamFailed-after _ _ _ g.met.W.TellWrite.trace_joins before.copies before.writer
           turn.answers.failed.failed);
       often = λ is. omega (arith, turn.often is, faults_come before.copies);
       few = omega (arith, before.few, turn.few, moved_count moved);
@@ -30,17 +30,17 @@ returns-in_err-taken-clause-copied g c =
       writes = omega (arith, before.copies.writes, turn.answers.writes);
       ends_shown = omega (arith, before.copies.ends_shown, turn.answers.ends_shown);
       one_end = λ takes.
-          turn.answers.one_end (TakesNothing-after _ _ _ g.met.W.TellWrite.stretch_joins before.writer takes)
+          turn.answers.one_end (TakesNothing-after _ _ _ g.met.W.TellWrite.trace_joins before.writer takes)
           ∙ before.still takes;
     })
 
 pub returns-in_err-taken-clause-reader : goal.returns-in_err-taken-clause-reader
 returns-in_err-taken-clause-reader g c =
-    g.met.B.TellBufRead.stretch_joins _ _ _ c.turns.invariant.reader c.in_err-taken.ensures.reader
+    g.met.B.TellBufRead.trace_joins _ _ _ c.turns.invariant.reader c.in_err-taken.ensures.reader
 
 pub returns-in_err-taken-clause-writer : goal.returns-in_err-taken-clause-writer
 returns-in_err-taken-clause-writer g c =
-    g.met.W.TellWrite.stretch_joins _ _ _ c.turns.invariant.writer c.in_err-taken.ensures.writer
+    g.met.W.TellWrite.trace_joins _ _ _ c.turns.invariant.writer c.in_err-taken.ensures.writer
 
 pub returns-then-taken-eq0-clause-copied : goal.returns-then-taken-eq0-clause-copied
 returns-then-taken-eq0-clause-copied g c =
@@ -50,7 +50,7 @@ returns-then-taken-eq0-clause-copied g c =
     let moved = MovedBy-still before.copies.moved last.nothing in
     record {
       moved = moved;
-      ended = CopyEnded-after _ _ _ g.met.W.TellWrite.stretch_joins before.copies before.writer last.ended;
+      ended = CopyEnded-after _ _ _ g.met.W.TellWrite.trace_joins before.copies before.writer last.ended;
       failed = tt;
       often = tt;
       few = omega (arith, before.few, turn.few, moved_count moved);
@@ -60,17 +60,17 @@ returns-then-taken-eq0-clause-copied g c =
       one_end = λ takes. omega (
         arith,
         before.still takes,
-        turn.answers.one_end (TakesNothing-after _ _ _ g.met.W.TellWrite.stretch_joins before.writer takes),
+        turn.answers.one_end (TakesNothing-after _ _ _ g.met.W.TellWrite.trace_joins before.writer takes),
       );
     }
 
 pub returns-then-taken-eq0-clause-reader : goal.returns-then-taken-eq0-clause-reader
 returns-then-taken-eq0-clause-reader g c =
-    g.met.B.TellBufRead.stretch_joins _ _ _ c.turns.invariant.reader c.in_ok-taken.ensures.reader
+    g.met.B.TellBufRead.trace_joins _ _ _ c.turns.invariant.reader c.in_ok-taken.ensures.reader
 
 pub returns-then-taken-eq0-clause-writer : goal.returns-then-taken-eq0-clause-writer
 returns-then-taken-eq0-clause-writer g c =
-    g.met.W.TellWrite.stretch_joins _ _ _ c.turns.invariant.writer c.in_ok-taken.ensures.writer
+    g.met.W.TellWrite.trace_joins _ _ _ c.turns.invariant.writer c.in_ok-taken.ensures.writer
 
 pub turns-preserved : goal.turns-preserved
 turns-preserved g c =
@@ -81,10 +81,10 @@ turns-preserved g c =
       copies = rw c.in-Some.ensures.some
           (CopiesOn-joins before.copies (turn.answers.copies (omega (arith, some))));
       few = omega (arith, c.in-Some.ensures.some, before.few, turn.few, some);
-      reader = g.met.B.TellBufRead.stretch_joins _ _ _ before.reader c.in_ok-taken.ensures.reader;
-      writer = g.met.W.TellWrite.stretch_joins _ _ _ before.writer c.in_ok-taken.ensures.writer;
+      reader = g.met.B.TellBufRead.trace_joins _ _ _ before.reader c.in_ok-taken.ensures.reader;
+      writer = g.met.W.TellWrite.trace_joins _ _ _ before.writer c.in_ok-taken.ensures.writer;
       still = λ takes.
-          turn.answers.none_ended (TakesNothing-after _ _ _ g.met.W.TellWrite.stretch_joins before.writer takes)
+          turn.answers.none_ended (TakesNothing-after _ _ _ g.met.W.TellWrite.trace_joins before.writer takes)
           (omega (arith, some))
           ∙ before.still takes;
     }
@@ -109,15 +109,15 @@ returns-in-None-clause-copied g c =
       writes = copies.writes;
       ends_shown = copies.ends_shown;
       one_end = λ takes.
-          turn.answers.none_ended (TakesNothing-after _ _ _ g.met.W.TellWrite.stretch_joins before.writer takes)
+          turn.answers.none_ended (TakesNothing-after _ _ _ g.met.W.TellWrite.trace_joins before.writer takes)
           (omega (arith, c.if-taken-eq0.false))
           ∙ before.still takes;
     }
 
 pub returns-in-None-clause-reader : goal.returns-in-None-clause-reader
 returns-in-None-clause-reader g c =
-    g.met.B.TellBufRead.stretch_joins _ _ _ c.turns.invariant.reader c.in_ok-taken.ensures.reader
+    g.met.B.TellBufRead.trace_joins _ _ _ c.turns.invariant.reader c.in_ok-taken.ensures.reader
 
 pub returns-in-None-clause-writer : goal.returns-in-None-clause-writer
 returns-in-None-clause-writer g c =
-    g.met.W.TellWrite.stretch_joins _ _ _ c.turns.invariant.writer c.in_ok-taken.ensures.writer
+    g.met.W.TellWrite.trace_joins _ _ _ c.turns.invariant.writer c.in_ok-taken.ensures.writer

@@ -8,9 +8,9 @@ invariant-turns g l = record {
       (g.W.Tell.log l.initial.w).writes (g.W.Tell.log l.w).writes;
   few : FaultsAtMost (64 * l.total) (g.B.Tell.log l.initial.b).fills (g.B.Tell.log l.b).fills
       (g.W.Tell.log l.initial.w).writes (g.W.Tell.log l.w).writes;
-  reader : g.B.TellBufRead.stretch l.initial.b l.b;
-  writer : g.W.TellWrite.stretch l.initial.w l.w;
-  still : TakesNothing g.W.Tell.log g.W.TellWrite.stretch g.W.TellWrite.call l.initial.w
+  reader : g.B.TellBufRead.trace l.initial.b l.b;
+  writer : g.W.TellWrite.trace l.initial.w l.w;
+  still : TakesNothing g.W.Tell.log g.W.TellWrite.trace g.W.TellWrite.call l.initial.w
       → (g.B.Tell.log l.b).fills.zero_fills ≡ (g.B.Tell.log l.initial.b).fills.zero_fills;
 }
 

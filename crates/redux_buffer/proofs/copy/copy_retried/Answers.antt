@@ -8,8 +8,8 @@ loop-init g c = record {
   copies = CopiesOn-none _ _;
   faults = omega arith;
   few = omega arith;
-  reader = g.met.B.TellBufRead.stretch_none _;
-  writer = g.met.W.TellWrite.stretch_none _;
+  reader = g.met.B.TellBufRead.trace_none _;
+  writer = g.met.W.TellWrite.trace_none _;
   still = λ takes. refl;
 }
 
@@ -18,7 +18,7 @@ returns-in-Ok-clause-retried g c =
     let before = c.loop.invariant in
     let turn = c.in-Ok.ensures.turn in
     record {
-      answers = TurnAnswers-after _ _ _ g.met.W.TellWrite.stretch_joins before.copies before.writer before.still
+      answers = TurnAnswers-after _ _ _ g.met.W.TellWrite.trace_joins before.copies before.writer before.still
           (Ok c.in-Ok.n) turn.answers;
       often = tt;
       few = omega (arith, before.few, turn.one_fault);
@@ -26,18 +26,18 @@ returns-in-Ok-clause-retried g c =
 
 pub returns-in-Ok-clause-reader : goal.returns-in-Ok-clause-reader
 returns-in-Ok-clause-reader g c =
-    g.met.B.TellBufRead.stretch_joins _ _ _ c.loop.invariant.reader c.in-Ok.ensures.reader
+    g.met.B.TellBufRead.trace_joins _ _ _ c.loop.invariant.reader c.in-Ok.ensures.reader
 
 pub returns-in-Ok-clause-writer : goal.returns-in-Ok-clause-writer
 returns-in-Ok-clause-writer g c =
-    g.met.W.TellWrite.stretch_joins _ _ _ c.loop.invariant.writer c.in-Ok.ensures.writer
+    g.met.W.TellWrite.trace_joins _ _ _ c.loop.invariant.writer c.in-Ok.ensures.writer
 
 pub returns-then-ne-clause-retried : goal.returns-then-ne-clause-retried
 returns-then-ne-clause-retried g c =
     let before = c.loop.invariant in
     let turn = c.in-Err.ensures.turn in
     record {
-      answers = TurnAnswers-after _ _ _ g.met.W.TellWrite.stretch_joins before.copies before.writer before.still
+      answers = TurnAnswers-after _ _ _ g.met.W.TellWrite.trace_joins before.copies before.writer before.still
           (Err c.in-Err.e) turn.answers;
       often = search rules;
       few = omega (arith, before.few, turn.one_fault);
@@ -45,11 +45,11 @@ returns-then-ne-clause-retried g c =
 
 pub returns-then-ne-clause-reader : goal.returns-then-ne-clause-reader
 returns-then-ne-clause-reader g c =
-    g.met.B.TellBufRead.stretch_joins _ _ _ c.loop.invariant.reader c.in-Err.ensures.reader
+    g.met.B.TellBufRead.trace_joins _ _ _ c.loop.invariant.reader c.in-Err.ensures.reader
 
 pub returns-then-ne-clause-writer : goal.returns-then-ne-clause-writer
 returns-then-ne-clause-writer g c =
-    g.met.W.TellWrite.stretch_joins _ _ _ c.loop.invariant.writer c.in-Err.ensures.writer
+    g.met.W.TellWrite.trace_joins _ _ _ c.loop.invariant.writer c.in-Err.ensures.writer
 
 pub loop-preserved : goal.loop-preserved
 loop-preserved g c =
@@ -59,23 +59,23 @@ loop-preserved g c =
       copies = CopiesOn-after before.copies (turn.interrupted (search rules));
       faults = omega (arith, before.faults, turn.one_fault);
       few = omega (arith, before.few, turn.one_fault);
-      reader = g.met.B.TellBufRead.stretch_joins _ _ _ before.reader c.in-Err.ensures.reader;
-      writer = g.met.W.TellWrite.stretch_joins _ _ _ before.writer c.in-Err.ensures.writer;
+      reader = g.met.B.TellBufRead.trace_joins _ _ _ before.reader c.in-Err.ensures.reader;
+      writer = g.met.W.TellWrite.trace_joins _ _ _ before.writer c.in-Err.ensures.writer;
       still = λ takes.
-          turn.answers.one_end (TakesNothing-after _ _ _ g.met.W.TellWrite.stretch_joins before.writer takes)
+          turn.answers.one_end (TakesNothing-after _ _ _ g.met.W.TellWrite.trace_joins before.writer takes)
           ∙ before.still takes;
     }
 
 pub returns-clause-retried : goal.returns-clause-retried
 returns-clause-retried g c =
     let before = c.loop.invariant in
-    last_retried _ _ _ g.met.W.TellWrite.stretch_joins before.copies before.writer before.still c.copy_turn-2.result
+    last_retried _ _ _ g.met.W.TellWrite.trace_joins before.copies before.writer before.still c.copy_turn-2.result
     (search rules) (search rules) c.copy_turn-2.ensures.turn
 
 pub returns-clause-reader : goal.returns-clause-reader
 returns-clause-reader g c =
-    g.met.B.TellBufRead.stretch_joins _ _ _ c.loop.invariant.reader c.copy_turn-2.ensures.reader
+    g.met.B.TellBufRead.trace_joins _ _ _ c.loop.invariant.reader c.copy_turn-2.ensures.reader
 
 pub returns-clause-writer : goal.returns-clause-writer
 returns-clause-writer g c =
-    g.met.W.TellWrite.stretch_joins _ _ _ c.loop.invariant.writer c.copy_turn-2.ensures.writer
+    g.met.W.TellWrite.trace_joins _ _ _ c.loop.invariant.writer c.copy_turn-2.ensures.writer

@@ -9,14 +9,14 @@ returns-in_err-taken-in-Ok-clause-turn g c =
     let filled = (rw c.in-Ok.is at c.fill_told.follows.holds-at-none).0.0 in
     let wrote = c.in_err-taken-in-Ok.ensures in
     rw (p.1, p.2, filled)
-    (not_written g.W.Tell.log g.W.TellWrite.stretch g.W.TellWrite.call (g.B.Tell.log c.args.b.now) c.args.w.now
-    g.met.W.TellWrite.stretch_none c.in-Ok.bytes.now _ c.write_told.new.self wrote.told wrote.call)
+    (not_written g.W.Tell.log g.W.TellWrite.trace g.W.TellWrite.call (g.B.Tell.log c.args.b.now) c.args.w.now
+    g.met.W.TellWrite.trace_none c.in-Ok.bytes.now _ c.write_told.new.self wrote.told wrote.call)
 
 pub returns-in-Err-clause-turn : goal.returns-in-Err-clause-turn
 returns-in-Err-clause-turn g c =
     let filled = (rw c.in-Err.is at c.fill_told.follows.holds-at-none).0 in
     rw filled.1
-    (not_filled g.W.Tell.log g.W.TellWrite.stretch g.W.TellWrite.call (g.B.Tell.log c.args.b.now) c.args.w.now filled.0
+    (not_filled g.W.Tell.log g.W.TellWrite.trace g.W.TellWrite.call (g.B.Tell.log c.args.b.now) c.args.w.now filled.0
     c.in-Err.e)
 
 pub returns-clause-turn : goal.returns-clause-turn
@@ -53,4 +53,4 @@ returns-clause-turn g c =
 
 pub returns-clause-reader : goal.returns-clause-reader
 returns-clause-reader g c =
-    g.met.B.TellBufRead.stretch_joins _ _ _ c.fill_told.follows.holds-at-none.1 c.consume_told.ensures.stretch
+    g.met.B.TellBufRead.trace_joins _ _ _ c.fill_told.follows.holds-at-none.1 c.consume_told.ensures.trace

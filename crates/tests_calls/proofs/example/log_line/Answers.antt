@@ -20,7 +20,7 @@ returns-in_err-write_all-2 g c =
     let m = c.write_all.new.self in
     let e = c.in_err-write_all-2.ensures in
     let line = WritesAll-took _ _ _ s _ _ m c.in_ok-write_all.ensures.steps in
-    rw (p.1, p.2) (StoppedAlong-after _ _ _ g.met.W.TellWrite.stretch_joins s m c.write_all-2.new.self _ _ _ line
+    rw (p.1, p.2) (StoppedAlong-after _ _ _ g.met.W.TellWrite.trace_joins s m c.write_all-2.new.self _ _ _ line
     (WritesAll-all _ _ _ m _ _ c.write_all-2.new.self e.steps e.steadily (WritesAlong-steady _ _ _ s m _ line c.requires.steady)))
 
 pub returns : goal.returns
@@ -28,7 +28,7 @@ returns g c =
     let s = c.args.writer.now in
     let m = c.write_all.new.self in
     let n = c.write_all-2.new.self in
-    let joins = g.met.W.TellWrite.stretch_joins in
+    let joins = g.met.W.TellWrite.trace_joins in
     let both = WritesAlong-joins _ _ _ joins s m n _ _
     (WritesAll-took _ _ _ s _ _ m c.in_ok-write_all.ensures.steps)
     (WritesAll-took _ _ _ m _ _ n c.in_ok-write_all-2.ensures.steps) in

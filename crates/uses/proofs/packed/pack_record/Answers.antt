@@ -20,7 +20,7 @@ returns-clause-packed g c =
 
 pub returns-clause-went : goal.returns-clause-went
 returns-clause-went g c =
-    InnerWent-joins _ _ g.met.W.TellWrite.stretch_joins _ _ _ c.in_ok-write_all.ensures.stretch c.write_all-2.ensures.stretch
+    InnerWent-joins _ _ g.met.W.TellWrite.trace_joins _ _ _ c.in_ok-write_all.ensures.trace c.write_all-2.ensures.trace
 
 later : (a b c : WriteLog) (answer : Result (Unit {0}) Error) → WriteLogGrows a b → IfErr answer (WriterStopped b c)
     → IfErr answer (WriterStopped a c)

@@ -20,8 +20,8 @@ loop-preserved g c =
       none = omega (arith, before.none, turn.turn.one_fault);
       turns = omega (arith, before.turns, c.if-taken-eq0.false);
       told = (_, _, before.told, omega arith, rw total at c.report.ensures);
-      reader = g.met.B.TellBufRead.stretch_joins _ _ _ before.reader turn.reader;
-      writer = g.met.W.TellWrite.stretch_joins _ _ _ before.writer turn.writer;
+      reader = g.met.B.TellBufRead.trace_joins _ _ _ before.reader turn.reader;
+      writer = g.met.W.TellWrite.trace_joins _ _ _ before.writer turn.writer;
     }
 
 pub returns-in_err-taken-clause-moved : goal.returns-in_err-taken-clause-moved
@@ -40,7 +40,7 @@ returns-in_err-taken-clause-caused g c =
     let p = err_from_is_err_and c.from_residual.result c.from_residual.ensures.1 in
     let before = c.loop.invariant in
     rw (p.1, p.2)
-    (inl (StreamFailed-after _ _ _ g.met.W.TellWrite.stretch_joins before.copies before.writer
+    (inl (StreamFailed-after _ _ _ g.met.W.TellWrite.trace_joins before.copies before.writer
     c.in_err-taken.ensures.turn.answers.failed.failed))
 
 pub returns-in_err-taken-clause-at_once : goal.returns-in_err-taken-clause-at_once
@@ -50,11 +50,11 @@ returns-in_err-taken-clause-at_once g c =
 
 pub returns-in_err-taken-clause-reader : goal.returns-in_err-taken-clause-reader
 returns-in_err-taken-clause-reader g c =
-    g.met.B.TellBufRead.stretch_joins _ _ _ c.loop.invariant.reader c.in_err-taken.ensures.reader
+    g.met.B.TellBufRead.trace_joins _ _ _ c.loop.invariant.reader c.in_err-taken.ensures.reader
 
 pub returns-in_err-taken-clause-writer : goal.returns-in_err-taken-clause-writer
 returns-in_err-taken-clause-writer g c =
-    g.met.W.TellWrite.stretch_joins _ _ _ c.loop.invariant.writer c.in_err-taken.ensures.writer
+    g.met.W.TellWrite.trace_joins _ _ _ c.loop.invariant.writer c.in_err-taken.ensures.writer
 
 pub returns-then-taken-eq0-clause-moved : goal.returns-then-taken-eq0-clause-moved
 returns-then-taken-eq0-clause-moved g c =
@@ -73,7 +73,7 @@ returns-then-taken-eq0-clause-at_once g c = omega (arith, c.loop.invariant.none,
 
 pub returns-then-taken-eq0-clause-ended : goal.returns-then-taken-eq0-clause-ended
 returns-then-taken-eq0-clause-ended g c =
-    CopyEnded-after _ _ _ g.met.W.TellWrite.stretch_joins c.loop.invariant.copies c.loop.invariant.writer
+    CopyEnded-after _ _ _ g.met.W.TellWrite.trace_joins c.loop.invariant.copies c.loop.invariant.writer
     (c.in_ok-taken.ensures.turn.answers.ended (cc)).ended
 
 pub returns-clause-moved : goal.returns-clause-moved

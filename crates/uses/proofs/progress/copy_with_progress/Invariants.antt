@@ -17,6 +17,6 @@ invariant-loop g l = record {
       (g.W.Tell.log l.initial.to).writes (g.W.Tell.log l.to).writes;
   turns : l.counter ≤ count;
   told : Reports (λ p n q. goal.F-step g p n tt q) l.fn.report calls (u64_saturate count) l.report;
-  reader : g.B.TellBufRead.stretch l.initial.from l.from;
-  writer : g.W.TellWrite.stretch l.initial.to l.to;
+  reader : g.B.TellBufRead.trace l.initial.from l.from;
+  writer : g.W.TellWrite.trace l.initial.to l.to;
 }

@@ -10,9 +10,9 @@ pub returns-in_err-head : goal.returns-in_err-head
 returns-in_err-head g c =
     let p = err_from_is_err_and c.from_residual.result c.from_residual.ensures.1 in
     let s = c.args.writer.now in
-    rw p.1 (BegunAlong-of g.W.Tell.log g.W.TellWrite.stretch g.P.WriterPolicy.rules s s []
+    rw p.1 (BegunAlong-of g.W.Tell.log g.W.TellWrite.trace g.P.WriterPolicy.rules s s []
     (tally_text c.args.count c.args.line.now)
-    (WritesAlong-none g.W.Tell.log g.W.TellWrite.stretch g.P.WriterPolicy.rules g.met.W.TellWrite.stretch_none s))
+    (WritesAlong-none g.W.Tell.log g.W.TellWrite.trace g.P.WriterPolicy.rules g.met.W.TellWrite.trace_none s))
 
 -- the count was refused
 pub returns-in_err-write_all : goal.returns-in_err-write_all
@@ -22,7 +22,7 @@ returns-in_err-write_all g c =
     let s = c.args.writer.now in
     let t = c.write_all.new.self in
     let tail = c.args.line.now ++ 10 ∷ [] in
-    rw p.1 (subst (λ l. BegunAlong g.W.Tell.log g.W.TellWrite.stretch g.P.WriterPolicy.rules s (l ++ tail) t) is
+    rw p.1 (subst (λ l. BegunAlong g.W.Tell.log g.W.TellWrite.trace g.P.WriterPolicy.rules s (l ++ tail) t) is
     (BegunAlong-more _ _ _ s t c.as_bytes.result.now _ (WritesAll-front _ _ _ s _ _ t c.in_err-write_all.ensures.steps)))
 
 -- the line was
@@ -34,8 +34,8 @@ returns-in_err-write_all-2 g c =
     let m = c.write_all.new.self in
     let t = c.write_all-2.new.self in
     let tail = c.args.line.now ++ 10 ∷ [] in
-    rw p.1 (subst (λ l. BegunAlong g.W.Tell.log g.W.TellWrite.stretch g.P.WriterPolicy.rules s (l ++ tail) t) is
-    (BegunAlong-after _ _ _ g.met.W.TellWrite.stretch_joins s m t c.as_bytes.result.now _
+    rw p.1 (subst (λ l. BegunAlong g.W.Tell.log g.W.TellWrite.trace g.P.WriterPolicy.rules s (l ++ tail) t) is
+    (BegunAlong-after _ _ _ g.met.W.TellWrite.trace_joins s m t c.as_bytes.result.now _
     (WritesAll-took _ _ _ s _ _ m c.in_ok-write_all.ensures.steps)
     (BegunAlong-more _ _ _ m t c.args.line.now _ (WritesAll-front _ _ _ m _ _ t c.in_err-write_all-2.ensures.steps))))
 
@@ -47,9 +47,9 @@ returns g c =
     let n = c.write_all-2.new.self in
     let t = c.write_all-3.new.self in
     let r = c.write_all-3.result in
-    let joins = g.met.W.TellWrite.stretch_joins in
+    let joins = g.met.W.TellWrite.trace_joins in
     let tail = c.args.line.now ++ 10 ∷ [] in
-    subst (λ l. FrontAlong g.W.Tell.log g.W.TellWrite.stretch g.P.WriterPolicy.rules s (l ++ tail) r t) is
+    subst (λ l. FrontAlong g.W.Tell.log g.W.TellWrite.trace g.P.WriterPolicy.rules s (l ++ tail) r t) is
     (FrontAlong-after _ _ _ joins s m t c.as_bytes.result.now _ r (WritesAll-took _ _ _ s _ _ m c.in_ok-write_all.ensures.steps)
     (FrontAlong-after _ _ _ joins m n t c.args.line.now _ r (WritesAll-took _ _ _ m _ _ n c.in_ok-write_all-2.ensures.steps)
     (WritesAll-front _ _ _ n _ r t c.write_all-3.ensures.steps)))

@@ -58,8 +58,8 @@ returns-in_ok-n-in-Some-clause-bytes g c =
 
 pub returns-in-None-clause-bytes : goal.returns-in-None-clause-bytes
 returns-in-None-clause-bytes g c =
-    ReadsLine-known g.R.TellRead.remaining g.P.ReaderPolicy.rules c.args.self.now _ _ _ c.read_line_aside.new.self
-    c.read_line_aside.ensures.line
+    ReadsLine-known g.R.TellRead.remaining g.P.ReaderPolicy.rules c.args.self.now _ _ _ c.read_line_outlined.new.self
+    c.read_line_outlined.ensures.line
 
 pub returns-in_err-n-in-Some-clause-invalid : goal.returns-in_err-n-in-Some-clause-invalid
 returns-in_err-n-in-Some-clause-invalid g c =
@@ -68,5 +68,5 @@ returns-in_err-n-in-Some-clause-invalid g c =
 
 pub returns-in-None-clause-invalid : goal.returns-in-None-clause-invalid
 returns-in-None-clause-invalid g c =
-    ReadsLine-invalid g.R.TellRead.remaining g.P.ReaderPolicy.rules c.args.self.now _ _ _ c.read_line_aside.new.self
-    c.read_line_aside.ensures.line
+    ReadsLine-invalid g.R.TellRead.remaining g.P.ReaderPolicy.rules c.args.self.now _ _ _ c.read_line_outlined.new.self
+    c.read_line_outlined.ensures.line

@@ -51,7 +51,7 @@ returns-in_ok-append_first-in-Some g c =
 
 pub returns-in-None : goal.returns-in-None
 returns-in-None g c =
-    let until = c.read_until_aside.ensures.until in record {
+    let until = c.read_until_outlined.ensures.until in record {
       until = until;
       bytes = ReadsUntil-known g.R.TellRead.remaining g.P.ReaderPolicy.rules c.args.byte c.args.self.now _ _ _ _ until;
     }

@@ -27,7 +27,7 @@ returns-in-Some g c =
 
 pub returns-in-None : goal.returns-in-None
 returns-in-None g c =
-    let until = c.skip_until_aside.ensures.until in record {
+    let until = c.skip_until_outlined.ensures.until in record {
       until = until;
       count = SkipsUntil-known g.R.TellRead.remaining g.P.ReaderPolicy.rules c.args.byte c.args.self.now _ _ until;
     }

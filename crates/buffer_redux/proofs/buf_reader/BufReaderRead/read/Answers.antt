@@ -78,8 +78,8 @@ returns-then-usable_space-gt0 g c =
     let table = g.P.ReaderPolicy.rules in
     let m = asked_reader g before in
     let is = subst (λ a. AskedRead table a c.args.self.now m) c.in_ok-before_read.was (asked g before) in
-    says g.R.TellRead.remaining table c.args.self.now c.args.out.now c.read_aside.result c.read_aside.new.out
-    c.read_aside.new.self (c.read_aside.ensures.read c.args.self.now
+    says g.R.TellRead.remaining table c.args.self.now c.args.out.now c.read_outlined.result c.read_outlined.new.out
+    c.read_outlined.new.self (c.read_outlined.ensures.read c.args.self.now
     (asked_so table c.args.self.now m c.in_ok-before_read.field-0 true c.if-branch.true is)) (inside g before)
 
 -- the policy said no, or left no room

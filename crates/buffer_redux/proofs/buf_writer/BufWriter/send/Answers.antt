@@ -7,5 +7,5 @@ returns g c =
     let w = c.write_all.ensures in
     record {
       sent = rw (← c.self.view_is) (was_sent _ _ _ _ _ w.sent refl w.whole
-          (record { calls = w.stretch; told_before = refl; told_after = refl; noted = refl }));
+          (record { calls = w.trace; told_before = refl; told_after = refl; noted = refl }));
     }

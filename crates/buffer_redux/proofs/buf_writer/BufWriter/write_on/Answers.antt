@@ -7,14 +7,14 @@ pub returns-in_err-at : goal.returns-in_err-at
 returns-in_err-at g c = record {
   all = λ s one.
       let p = err_from_is_err_and c.from_residual.result c.from_residual.ensures.1 in
-      rw (p.1, p.2) (first_failed _ _ g.met.W.TellWrite.stretch_none g.met.W.TellWrite.stretch_joins _ s _ _ _
+      rw (p.1, p.2) (first_failed _ _ g.met.W.TellWrite.trace_none g.met.W.TellWrite.trace_joins _ s _ _ _
       c.requires.some one _ c.in_err-at.ensures);
 }
 
 pub loop-init : goal.loop-init
 loop-init g c = record {
   within = (further_by c.args.answer c.in_ok-at.at c.in_ok-at.ensures c.args.bytes.now c.requires.bound).0;
-  turned = λ s one. first_more _ _ g.met.W.TellWrite.stretch_none g.met.W.TellWrite.stretch_joins _ s _ _ _
+  turned = λ s one. first_more _ _ g.met.W.TellWrite.trace_none g.met.W.TellWrite.trace_joins _ s _ _ _
       c.requires.some one c.in_ok-at.at c.in_ok-at.ensures c.requires.bound;
 }
 
@@ -30,7 +30,7 @@ loop-preserved g c = record {
   within = within g c;
   turned = λ s first.
       let before = c.loop.invariant.turned s first in
-      turned_more _ _ g.met.W.TellWrite.stretch_none g.met.W.TellWrite.stretch_joins _ s _ _ _ _ before _ _
+      turned_more _ _ g.met.W.TellWrite.trace_none g.met.W.TellWrite.trace_joins _ s _ _ _ _ before _ _
       c.if-at-bytes.false
       (one_rest _ _ _ _ _ c.loop.at _ _ before.front.keeps.whole c.write.ensures.keeps.whole c.write.ensures.steps
       c.write.ensures.keeps.went)
@@ -39,7 +39,7 @@ loop-preserved g c = record {
 
 pub returns-then-at-bytes : goal.returns-then-at-bytes
 returns-then-at-bytes g c = record {
-  all = λ s first. ended_all _ _ g.met.W.TellWrite.stretch_none g.met.W.TellWrite.stretch_joins _ s _ _ _ _
+  all = λ s first. ended_all _ _ g.met.W.TellWrite.trace_none g.met.W.TellWrite.trace_joins _ s _ _ _ _
       (c.loop.invariant.turned s first) c.if-at-bytes.true;
 }
 
@@ -51,7 +51,7 @@ returns-in_err-at-2 g c = record {
   all = λ s first.
       let before = c.loop.invariant.turned s first in
       let p = err_from_is_err_and c.from_residual-in_err-at-2.result c.from_residual-in_err-at-2.ensures.1 in
-      rw (p.1, p.2) (ended_failed _ _ g.met.W.TellWrite.stretch_none g.met.W.TellWrite.stretch_joins _ s _ _ _ _ before
+      rw (p.1, p.2) (ended_failed _ _ g.met.W.TellWrite.trace_none g.met.W.TellWrite.trace_joins _ s _ _ _ _ before
       _ _ c.if-at-bytes.false
       (one_rest _ _ _ _ _ c.loop.at _ _ before.front.keeps.whole c.write.ensures.keeps.whole c.write.ensures.steps
       c.write.ensures.keeps.went)
@@ -60,13 +60,13 @@ returns-in_err-at-2 g c = record {
 
 pub returns-then-at-bytes-2 : goal.returns-then-at-bytes-2
 returns-then-at-bytes-2 g c = record {
-  all = λ s first. ended_all _ _ g.met.W.TellWrite.stretch_none g.met.W.TellWrite.stretch_joins _ s _ _ _ _
+  all = λ s first. ended_all _ _ g.met.W.TellWrite.trace_none g.met.W.TellWrite.trace_joins _ s _ _ _ _
       (c.loop.invariant.turned s first) c.if-at-bytes-2.true;
 }
 
 pub returns : goal.returns
 returns g c = record {
-  all = λ s first. ended_late _ _ g.met.W.TellWrite.stretch_none g.met.W.TellWrite.stretch_joins _ s _ _ _ _
+  all = λ s first. ended_late _ _ g.met.W.TellWrite.trace_none g.met.W.TellWrite.trace_joins _ s _ _ _ _
       (c.loop.invariant.turned s first) _
       (record {
         some = omega (arith, c.if-at-bytes-2.false);

@@ -9,6 +9,6 @@ abbrev pub invariant-loop : goal.invariant-loop
 invariant-loop g l = record {
   within : l.at ≤ length l.bytes;
   turned : (s : Buffered g.row.W.Denot g.row.P.Denot)
-      → OneWrite g.W.Tell.log g.W.TellWrite.stretch g.P.WriterPolicy.rules s l.bytes l.fn.answer l.fn.self
-      → Turned g.W.Tell.log g.W.TellWrite.stretch g.P.WriterPolicy.rules s l.bytes l.counter l.at l.self;
+      → OneWrite g.W.Tell.log g.W.TellWrite.trace g.P.WriterPolicy.rules s l.bytes l.fn.answer l.fn.self
+      → Turned g.W.Tell.log g.W.TellWrite.trace g.P.WriterPolicy.rules s l.bytes l.counter l.at l.self;
 }

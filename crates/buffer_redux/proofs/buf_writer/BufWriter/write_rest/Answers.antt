@@ -13,10 +13,10 @@ returns g c = record {
             (rw asked.is w.steps);
         whole = (asked.whole, w.whole);
         went = record {
-          calls = rw (← asked.inner) w.stretch.calls;
+          calls = rw (← asked.inner) w.trace.calls;
           told_before = asked.told_before;
-          told_after = w.stretch.told_after;
-          noted = w.stretch.noted ∙ asked.noted;
+          told_after = w.trace.told_after;
+          noted = w.trace.noted ∙ asked.noted;
         };
       });
 }

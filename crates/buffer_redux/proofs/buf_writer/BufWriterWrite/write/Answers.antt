@@ -17,30 +17,30 @@ asked_writer g c = record {
 -- the bytes may not fit, before the policy was asked
 pub returns-then-not-has_space_behind : goal.returns-then-not-has_space_behind
 returns-then-not-has_space_behind g c =
-    let wrote = c.write_asking_aside.ensures in
-    write_says _ _ g.P.WriterPolicy.rules _ _ _ _ wrote.bound wrote.whole wrote.stretch wrote.steps
+    let wrote = c.write_asking_outlined.ensures in
+    write_says _ _ g.P.WriterPolicy.rules _ _ _ _ wrote.bound wrote.whole wrote.trace wrote.steps
 
 -- something is sent first
 pub returns-then-first-gt0 : goal.returns-then-first-gt0
 returns-then-first-gt0 g c =
-    let went : InnerWent g.W.Tell.log g.W.TellWrite.stretch c.args.self.now c.write_aside.new.self = search rules in
-    write_says _ _ g.P.WriterPolicy.rules _ _ _ _ c.write_aside.ensures.bound c.write_aside.ensures.whole went
+    let went : InnerWent g.W.Tell.log g.W.TellWrite.trace c.args.self.now c.write_outlined.new.self = search rules in
+    write_says _ _ g.P.WriterPolicy.rules _ _ _ _ c.write_outlined.ensures.bound c.write_outlined.ensures.whole went
     (rw (← c.self.view_is) (writes_on g.P.WriterPolicy.rules _ _ c.args.bytes.now c.in_ok-first.field-0
-    c.in_ok-first.ensures (c.in_ok-first.ensures.law.whole c.self.invariant) refl c.write_aside.result
-    c.write_aside.new.self c.write_aside.ensures.steps))
+    c.in_ok-first.ensures (c.in_ok-first.ensures.law.whole c.self.invariant) refl c.write_outlined.result
+    c.write_outlined.new.self c.write_outlined.ensures.steps))
 
 -- the bytes may not fit
 pub returns-then-bytes-usable_space : goal.returns-then-bytes-usable_space
 returns-then-bytes-usable_space g c =
     let none : c.in_ok-first.field-0.0 ≡ 0 = omega (arith, c.if-first-gt0.false, c.in_ok-first.first-is) in
     let before = asked_writer g (goal.at.returns-then-bytes-usable_space g c).After-before_write in
-    let t = c.write_aside-then-bytes-usable_space.new.self in
-    let went : InnerWent g.W.Tell.log g.W.TellWrite.stretch c.args.self.now t = search rules in
-    let wrote = c.write_aside-then-bytes-usable_space.ensures in
+    let t = c.write_outlined-then-bytes-usable_space.new.self in
+    let went : InnerWent g.W.Tell.log g.W.TellWrite.trace c.args.self.now t = search rules in
+    let wrote = c.write_outlined-then-bytes-usable_space.ensures in
     write_says _ _ g.P.WriterPolicy.rules _ _ _ _ wrote.bound wrote.whole went
     (rw (← c.self.view_is) (writes_on g.P.WriterPolicy.rules _ before c.args.bytes.now c.in_ok-first.field-0
     c.in_ok-first.ensures (c.in_ok-first.ensures.law.whole c.self.invariant) refl
-    c.write_aside-then-bytes-usable_space.result t (rw none wrote.steps)))
+    c.write_outlined-then-bytes-usable_space.result t (rw none wrote.steps)))
 
 -- neither is so
 pub returns : goal.returns
@@ -49,7 +49,7 @@ returns g c =
     let whole = c.in_ok-first.ensures.law.whole c.self.invariant in
     let before = asked_writer g (goal.at.returns g c).After-before_write in
     let after : Buffered g.row.W.Denot g.row.P.Denot = record before { block = c.append.new.self } in
-    let went : InnerWent g.W.Tell.log g.W.TellWrite.stretch c.args.self.now c.flush_after.new.self = search rules in
+    let went : InnerWent g.W.Tell.log g.W.TellWrite.trace c.args.self.now c.flush_after.new.self = search rules in
     write_says _ _ g.P.WriterPolicy.rules _ _ (Ok (length bytes)) _ (omega arith)
     c.flush_after.ensures.whole went (rw (← c.self.view_is) (writes_on g.P.WriterPolicy.rules _ before
     bytes c.in_ok-first.field-0 c.in_ok-first.ensures whole refl (Ok (length bytes)) c.flush_after.new.self (record {

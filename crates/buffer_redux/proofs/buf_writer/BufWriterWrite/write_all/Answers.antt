@@ -34,23 +34,23 @@ pub returns-then-is_empty : goal.returns-then-is_empty
 returns-then-is_empty g c =
     let empty : c.args.bytes.now ≡ [] = nil_from_length c.args.bytes.now
     (zero_of (length c.args.bytes.now) (sym c.is_empty.ensures ∙ c.if-is_empty.true)) in
-    all_says _ _ _ _ _ _ (Ok tt) (rw empty (rw (← c.self.view_is) (all_none _ _ g.met.W.TellWrite.stretch_none
-    g.met.W.TellWrite.stretch_joins _ _ c.self.invariant refl)))
+    all_says _ _ _ _ _ _ (Ok tt) (rw empty (rw (← c.self.view_is) (all_none _ _ g.met.W.TellWrite.trace_none
+    g.met.W.TellWrite.trace_joins _ _ c.self.invariant refl)))
 
 -- something is sent first
 pub returns-then-first-gt0 : goal.returns-then-first-gt0
 returns-then-first-gt0 g c =
-    all_says _ _ _ _ _ _ _ (c.write_rest_aside.ensures.all c.args.self.now
+    all_says _ _ _ _ _ _ _ (c.write_rest_outlined.ensures.all c.args.self.now
     (asked_first g (goal.at.returns-then-first-gt0 g c).In-Ok _ refl))
 
 -- the bytes may not fit, before the policy was asked
 pub returns-then-not-has_space_behind : goal.returns-then-not-has_space_behind
-returns-then-not-has_space_behind g c = all_says _ _ _ _ _ _ _ c.write_large_aside.ensures.all
+returns-then-not-has_space_behind g c = all_says _ _ _ _ _ _ _ c.write_large_outlined.ensures.all
 
 -- the bytes may not fit, once the policy was asked
 pub returns-then-usable_space-bytes : goal.returns-then-usable_space-bytes
 returns-then-usable_space-bytes g c =
-    all_says _ _ _ _ _ _ _ (c.write_rest_aside-then-usable_space-bytes.ensures.all c.args.self.now
+    all_says _ _ _ _ _ _ _ (c.write_rest_outlined-then-usable_space-bytes.ensures.all c.args.self.now
     (asked_first g (goal.at.returns-then-usable_space-bytes g c).In-Ok 0
     (omega (arith, c.if-first-gt0.false, c.in-Ok.first-is))))
 
@@ -72,7 +72,7 @@ returns-else-usable_space-bytes g c =
       own_calls = c.self.inside.calls.log;
     } in
     let after : Buffered g.row.W.Denot g.row.P.Denot = record before { block = c.append.new.self } in
-    all_says _ _ _ _ _ _ (Ok tt) (all_at_once _ _ g.met.W.TellWrite.stretch_none g.met.W.TellWrite.stretch_joins rules
+    all_says _ _ _ _ _ _ (Ok tt) (all_at_once _ _ g.met.W.TellWrite.trace_none g.met.W.TellWrite.trace_joins rules
     c.args.self.now bytes (length bytes) c.flush_after.new.self some refl
     (rw (← c.self.view_is) (record {
       steps = writes_on rules _ before bytes c.in-Ok.field-0 c.in-Ok.ensures whole refl (Ok (length bytes))
@@ -85,19 +85,19 @@ returns-else-usable_space-bytes g c =
           });
       whole = (c.self.invariant, c.flush_after.ensures.whole);
       went = record {
-        calls = c.flush_after.ensures.stretch.calls;
+        calls = c.flush_after.ensures.trace.calls;
         told_before = refl;
-        told_after = c.flush_after.ensures.stretch.told_after;
-        noted = c.flush_after.ensures.stretch.noted;
+        told_after = c.flush_after.ensures.trace.told_after;
+        noted = c.flush_after.ensures.trace.noted;
       };
     })))
 
 -- the policy returned an error
 pub returns-in-Err : goal.returns-in-Err
 returns-in-Err g c =
-    all_says _ _ _ _ _ _ _ (c.write_on_aside.ensures.all c.args.self.now (rw (← c.self.view_is) (record {
+    all_says _ _ _ _ _ _ _ (c.write_on_outlined.ensures.all c.args.self.now (rw (← c.self.view_is) (record {
       steps = inl (record { asked = c.in-Err.ensures; told = refl });
       whole = (c.self.invariant, c.in-Err.ensures.law.whole c.self.invariant);
       went = record
-          { calls = g.met.W.TellWrite.stretch_none c.self.inside.inner; told_before = refl; told_after = refl; noted = refl };
+          { calls = g.met.W.TellWrite.trace_none c.self.inside.inner; told_before = refl; told_after = refl; noted = refl };
     })))

@@ -1,8 +1,8 @@
 use Rattle.std.proofs.Common.{suc, [], ◌++◌, ◌∙◌, length-append, take, refl, arith, rules}
 use Rattle.std.proofs.lemmas.List.{length-take-le}
 use Rattle.std.proofs.lemmas.Result.{err_from_is_err_and}
-use Rattle.chunked.specs.DechunkingLaws.{BodyWent-joins, BodyWent-none}
-use Rattle.chunked.specs.Dechunking.{IsWhole}
+use Rattle.chunked.specs.ChunkedReaderLaws.{BodyWent-joins, BodyWent-none}
+use Rattle.chunked.specs.ChunkedReader.{IsWhole}
 use Rattle.chunked.proofs.Draining.{drained, drained_before, not_drained, reads_more, too_many}
 use Rattle.chunked.proofs.reader.ChunkedReader.drain.Goals as goal
 

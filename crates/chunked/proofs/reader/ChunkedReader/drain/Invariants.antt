@@ -1,6 +1,6 @@
 use Rattle.std.proofs.Common.{ℕ, ◌≤◌, List, length}
 use Rattle.chunked.specs.Between.{NoFault}
-use Rattle.chunked.specs.Dechunking.{BodyWent, ReadsOn}
+use Rattle.chunked.specs.ChunkedReader.{BodyWent, ReadsOn}
 use Rattle.chunked.proofs.reader.ChunkedReader.drain.Given as goal
 
 -- each read so far dropped some payload

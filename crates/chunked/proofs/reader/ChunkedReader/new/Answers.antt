@@ -1,4 +1,4 @@
-use Rattle.chunked.specs.DechunkingLaws.{begun-is}
+use Rattle.chunked.specs.ChunkedReaderLaws.{begun-is}
 use Rattle.chunked.proofs.reader.ChunkedReader.new.Goals as goal
 
 pub invariant_of-result : goal.invariant_of-result

@@ -3,7 +3,7 @@ use Rattle.codec.specs.Decoding.{IsPiece}
 use Rattle.codec.specs.Grammar.{Begins}
 use Rattle.codec.specs.GrammarLaws.{begins_of}
 use Rattle.codec.specs.NextPieceLaws.{AsksNone-begins}
-use Rattle.codec.specs.Piecing.{rest}
+use Rattle.codec.specs.PieceReader.{rest}
 use Rattle.codec.proofs.reader.PieceReader.has_piece.Goals as goal
 
 begins : (g : _) (c : goal.In-Piece g) → Begins (g.D.Decoder.grammar c.args.self.now.decoder) (rest c.args.self.now)

@@ -4,7 +4,7 @@ use Rattle.codec.specs.Decoding.{IsPiece}
 use Rattle.codec.specs.Grammar.{Begins}
 use Rattle.codec.specs.GrammarLaws.{begins_of}
 use Rattle.codec.specs.NextPieceLaws.{AsksNone-settled}
-use Rattle.codec.specs.Piecing.{IsSettled}
+use Rattle.codec.specs.PieceReader.{IsSettled}
 use Rattle.codec.proofs.reader.PieceReader.is_settled.Goals as goal
 
 piece : (g : _) (c : goal.In-Piece g) → IsSettled (g.D.Decoder.grammar c.args.self.now.decoder) c.args.self.now

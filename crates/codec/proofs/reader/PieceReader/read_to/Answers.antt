@@ -1,7 +1,7 @@
 use Rattle.std.proofs.Common.{◌≡◌, ◌<◌, ◌≤◌, Ok, Err, ap, subst, ◌∙◌, arith, length}
 use Rattle.std.proofs.lemmas.Bool.{leb-true, leb-false}
 use Rattle.std.proofs.lemmas.Result.{err_from_is_err_and}
-use Rattle.codec.specs.Piecing.{Piecing, rest}
+use Rattle.codec.specs.PieceReader.{ReaderState, rest}
 use Rattle.codec.specs.Steps.{AsksFor}
 use Rattle.codec.proofs.Reading.{AsksFor-ok, AsksFor-err}
 use Rattle.codec.proofs.reader.PieceReader.read_to.Goals as goal
@@ -11,9 +11,9 @@ returns-in_err-fill_buf g c =
     let remaining = g.R.TellRead.remaining in
     let grammar = g.D.Decoder.grammar in
     let i = c.self.inside in
-    let m : Piecing g.row.R.Denot g.row.D.Denot =
+    let m : ReaderState g.row.R.Denot g.row.D.Denot =
     record { reader = i.reader; decoder = i.decoder; handed = i.handed; seen = i.seen; ended = i.ended } in
-    let t : Piecing g.row.R.Denot g.row.D.Denot = record m { reader = c.fill_buf.follows.lender-at-none } in
+    let t : ReaderState g.row.R.Denot g.row.D.Denot = record m { reader = c.fill_buf.follows.lender-at-none } in
     let f = rw c.in_err-fill_buf.was at c.fill_buf.follows.holds-at-none in
     let handed : i.handed ≡ 0 = ap (λ x. x.handed) c.self.view_is ∙ c.requires.handed in
     let few : length (rest m) < c.args.need = omega (arith, c.requires.few, ap (λ x. length (rest x)) c.self.view_is) in
@@ -30,9 +30,9 @@ returns g c =
     let remaining = g.R.TellRead.remaining in
     let grammar = g.D.Decoder.grammar in
     let i = c.self.inside in
-    let m : Piecing g.row.R.Denot g.row.D.Denot =
+    let m : ReaderState g.row.R.Denot g.row.D.Denot =
     record { reader = i.reader; decoder = i.decoder; handed = i.handed; seen = i.seen; ended = i.ended } in
-    let t : Piecing g.row.R.Denot g.row.D.Denot = record m { reader = c.fill_buf.follows.lender-at-none } in
+    let t : ReaderState g.row.R.Denot g.row.D.Denot = record m { reader = c.fill_buf.follows.lender-at-none } in
     let f = rw c.in_ok-fill_buf.was at c.fill_buf.follows.holds-at-none in
     let handed : i.handed ≡ 0 = ap (λ x. x.handed) c.self.view_is ∙ c.requires.handed in
     let few : length (rest m) < c.args.need = omega (arith, c.requires.few, ap (λ x. length (rest x)) c.self.view_is) in

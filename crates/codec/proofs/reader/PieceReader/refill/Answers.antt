@@ -1,7 +1,7 @@
 use Rattle.std.proofs.Common.{Ok, Err, arith, not, true, false, refl, subst, sym}
 use Rattle.std.proofs.lemmas.Result.{err_from_is_err_and}
 use Rattle.codec.specs.NextPiece.{Refills}
-use Rattle.codec.specs.Piecing.{Piecing}
+use Rattle.codec.specs.PieceReader.{ReaderState}
 use Rattle.codec.specs.Steps.{AsksFor}
 use Rattle.codec.proofs.Refilling.{ends, fails, refilled}
 use Rattle.codec.proofs.reader.PieceReader.refill.Goals as goal
@@ -31,7 +31,7 @@ returns g c =
     let m = c.drop_handed.new.self in
     let d = c.drop_handed.ensures in
     let i = c.self.inside in
-    let t : Piecing g.row.R.Denot g.row.D.Denot =
+    let t : ReaderState g.row.R.Denot g.row.D.Denot =
     record { reader = i.reader; decoder = i.decoder; handed = i.handed; seen = i.seen; ended = i.ended } in
     let asked = subst (λ x. AsksFor remaining (grammar x) 1 m (Ok c.in_ok-came.came) c.read_to.new.self) d.went.decoder
     c.in_ok-came.ensures in

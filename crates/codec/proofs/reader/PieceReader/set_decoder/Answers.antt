@@ -1,13 +1,13 @@
 use Rattle.std.proofs.Common.{◌*◌, ◌^◌, ◌≤◌, arith, subst}
 use Rattle.buffer_redux.specs.Block.{limit_of}
 use Rattle.codec.proofs.Handover.{redecoded_piecing}
-use Rattle.codec.specs.Piecing.{Piecing}
+use Rattle.codec.specs.PieceReader.{ReaderState}
 use Rattle.codec.proofs.reader.PieceReader.set_decoder.Goals as goal
 
 pub invariant_of-result : goal.invariant_of-result
 invariant_of-result g c =
     let i = c.self.inside in
-    let f : Piecing g.row.R.Denot g.row.D.Denot =
+    let f : ReaderState g.row.R.Denot g.row.D.Denot =
     record { reader = i.reader; decoder = i.decoder; handed = i.handed; seen = i.seen; ended = i.ended } in
     let most : i.reader.block.limit ≤ 2 ^ 62 =
     subst (λ k. i.reader.block.limit ≤ limit_of k) c.self.invariant.plain c.self.invariant.block.most in
@@ -26,7 +26,7 @@ invariant_of-result g c =
 pub returns-clause-whole : goal.returns-clause-whole
 returns-clause-whole g c =
     let i = c.self.inside in
-    let f : Piecing g.row.R.Denot g.row.D.Denot =
+    let f : ReaderState g.row.R.Denot g.row.D.Denot =
     record { reader = i.reader; decoder = i.decoder; handed = i.handed; seen = i.seen; ended = i.ended } in
     let most : i.reader.block.limit ≤ 2 ^ 62 =
     subst (λ k. i.reader.block.limit ≤ limit_of k) c.self.invariant.plain c.self.invariant.block.most in

@@ -33,13 +33,13 @@ returns-in-More-clause-next g c =
     let remaining = g.R.TellRead.remaining in
     let s = c.args.self.now in
     let m = c.take.new.self in
-    let t = c.load_aside.new.self in
+    let t = c.load_outlined.new.self in
     let gram = g.D.Decoder.grammar s.decoder in
-    let answer = load_answer c.load_aside.result t in
+    let answer = load_answer c.load_outlined.result t in
     let wants = c.in-More.ensures.takes in
     let same = ap (λ x. x.decoder) wants.same in
     next_looked remaining gram (g.met.D.Decoder.lawful s.decoder) s m t c.in-More.need answer wants
-    (subst (λ d. NextPiece remaining (g.D.Decoder.grammar d) m answer t) same c.load_aside.ensures.next)
+    (subst (λ d. NextPiece remaining (g.D.Decoder.grammar d) m answer t) same c.load_outlined.ensures.next)
 
 pub returns-in-Piece-clause-lends : goal.returns-in-Piece-clause-lends
 returns-in-Piece-clause-lends g c =
@@ -53,13 +53,13 @@ pub returns-in-More-clause-ready : goal.returns-in-More-clause-ready
 returns-in-More-clause-ready g c piece payload more is front =
     let s = c.args.self.now in
     (NextPiece-ready g.R.TellRead.remaining (g.D.Decoder.grammar s.decoder) (g.met.D.Decoder.lawful s.decoder) s
-    _ c.load_aside.new.self (returns-in-More-clause-next g c) piece payload more is front).0
+    _ c.load_outlined.new.self (returns-in-More-clause-next g c) piece payload more is front).0
 
 pub returns-in-More-clause-wrong : goal.returns-in-More-clause-wrong
 returns-in-More-clause-wrong g c e wrong =
     let s = c.args.self.now in
     (NextPiece-wrong g.R.TellRead.remaining (g.D.Decoder.grammar s.decoder) (g.met.D.Decoder.lawful s.decoder) s
-    _ c.load_aside.new.self (returns-in-More-clause-next g c) e wrong).0
+    _ c.load_outlined.new.self (returns-in-More-clause-next g c) e wrong).0
 
 pub returns-in-Wrong-clause-ready : goal.returns-in-Wrong-clause-ready
 returns-in-Wrong-clause-ready g c piece payload more is front =

@@ -15,10 +15,11 @@ said-item-requires-clause-whole g c =
 pub said-item-requires-in-Ok-Some-clause-whole : goal.said-item-requires-in-Ok-Some-clause-whole
 said-item-requires-in-Ok-Some-clause-whole g c =
     let found = c.in-Ok-Some.is ∙ ap (λ x. Ok x) c.in-Ok-Some.field-0-is in
-    whole_front g.D.Decoder.grammar c.take.new.self c.load_aside.new.self g.R.TellRead.remaining _
-    (loaded_next g.D.Decoder.grammar c.take.new.self c.load_aside.new.self g.R.TellRead.remaining c.load_aside.result
-    c.in-Ok-Some.span found c.load_aside.ensures.next)
-    (loaded_front c.take.new.self c.load_aside.new.self c.load_aside.result c.in-Ok-Some.span found c.load_aside.ensures.front)
+    whole_front g.D.Decoder.grammar c.take.new.self c.load_outlined.new.self g.R.TellRead.remaining _
+    (loaded_next g.D.Decoder.grammar c.take.new.self c.load_outlined.new.self g.R.TellRead.remaining c.load_outlined.result
+    c.in-Ok-Some.span found c.load_outlined.ensures.next)
+    (loaded_front c.take.new.self c.load_outlined.new.self c.load_outlined.result c.in-Ok-Some.span found
+    c.load_outlined.ensures.front)
 
 pub returns-in-Piece-clause-next : goal.returns-in-Piece-clause-next
 returns-in-Piece-clause-next g c =
@@ -37,7 +38,7 @@ returns-in-Ok-Some-clause-next g c =
     let remaining = g.R.TellRead.remaining in
     let s = c.args.self.now in
     let m = c.take.new.self in
-    let t = c.load_aside.new.self in
+    let t = c.load_outlined.new.self in
     let gram = g.D.Decoder.grammar s.decoder in
     let wants = c.in-More.ensures.takes in
     let answer = load_answer (Ok (Some c.in-Ok-Some.span)) t in
@@ -45,10 +46,11 @@ returns-in-Ok-Some-clause-next g c =
     let found = c.in-Ok-Some.is ∙ ap (λ x. Ok x) c.in-Ok-Some.field-0-is in
     let next = next_looked remaining gram (g.met.D.Decoder.lawful s.decoder) s m t c.in-More.need answer wants
     (subst (λ d. NextPiece remaining (g.D.Decoder.grammar d) m answer t) told
-    (loaded_next g.D.Decoder.grammar m t remaining c.load_aside.result c.in-Ok-Some.span found c.load_aside.ensures.next)) in
+    (loaded_next g.D.Decoder.grammar m t remaining c.load_outlined.result c.in-Ok-Some.span found c.load_outlined.ensures.next))
+    in
     let bytes = part_front t ∙ HandsBytes-same s t (take t.handed t.reader.block.bytes) next.bytes
     (HandsBytes-looked s m t (take t.handed t.reader.block.bytes) _ wants.same
-    (loaded_front m t c.load_aside.result c.in-Ok-Some.span found c.load_aside.ensures.front)) next.went.hands in
+    (loaded_front m t c.load_outlined.result c.in-Ok-Some.span found c.load_outlined.ensures.front)) next.went.hands in
     record {
       next = next;
       says = c.said-item-in-Ok-Some.ensures
@@ -61,13 +63,13 @@ returns-in-Ok-None-clause-next g c =
     let remaining = g.R.TellRead.remaining in
     let s = c.args.self.now in
     let m = c.take.new.self in
-    let t = c.load_aside.new.self in
+    let t = c.load_outlined.new.self in
     let wants = c.in-More.ensures.takes in
     record {
       next = next_looked remaining (g.D.Decoder.grammar s.decoder) (g.met.D.Decoder.lawful s.decoder) s m t c.in-More.need
           (Ok None) wants (subst (λ d. NextPiece remaining (g.D.Decoder.grammar d) m (Ok None) t) (ap (λ x. x.decoder) wants.same)
           (subst (λ r. NextPiece remaining (g.D.Decoder.grammar m.decoder) m (load_answer r t) t)
-          (c.in-Ok-None.is ∙ ap (λ x. Ok x) c.in-Ok-None.field-0-is) c.load_aside.ensures.next));
+          (c.in-Ok-None.is ∙ ap (λ x. Ok x) c.in-Ok-None.field-0-is) c.load_outlined.ensures.next));
       says = tt;
     }
 
@@ -76,14 +78,14 @@ returns-in-Err-clause-next g c =
     let remaining = g.R.TellRead.remaining in
     let s = c.args.self.now in
     let m = c.take.new.self in
-    let t = c.load_aside.new.self in
+    let t = c.load_outlined.new.self in
     let wants = c.in-More.ensures.takes in
     record {
       next = next_looked remaining (g.D.Decoder.grammar s.decoder) (g.met.D.Decoder.lawful s.decoder) s m t c.in-More.need
           (Err c.in-Err.e) wants (subst (λ d. NextPiece remaining (g.D.Decoder.grammar d) m (Err c.in-Err.e) t)
           (ap (λ x. x.decoder) wants.same)
           (subst (λ r. NextPiece remaining (g.D.Decoder.grammar m.decoder) m (load_answer r t) t) c.in-Err.is
-          c.load_aside.ensures.next));
+          c.load_outlined.ensures.next));
       says = tt;
     }
 

@@ -1,5 +1,5 @@
 use Rattle.std.proofs.Common.{Err, [], ap, false, subst, ◌∙◌}
-use Rattle.codec.specs.Piecing.{IsPiecing}
+use Rattle.codec.specs.PieceReader.{IsPieceReader}
 use Rattle.codec.specs.PiecesWentLaws.{PiecesWent-joins}
 use Rattle.codec.specs.Steps.{AsksFor, TakesEnd}
 use Rattle.codec.proofs.Lending.{lends_end, lends_first}
@@ -16,7 +16,7 @@ returns-in-Err-clause-next g c =
     let t = c.read_to.new.self in
     let inv = c.turns.invariant in
     load_fails remaining (grammar s.decoder) (g.met.D.Decoder.lawful s.decoder) s m c.turns.need inv c.in-Err.e t
-    (subst (λ d. AsksFor remaining (grammar d) c.turns.need m (Err c.in-Err.e) t) inv.head.went.decoder c.in-Err.ensures)
+    (subst (λ d. AsksFor remaining (grammar d) c.turns.need m (Err c.in-Err.e) t) inv.header.went.decoder c.in-Err.ensures)
 
 pub returns-in-Ok-false-clause-next : goal.returns-in-Ok-false-clause-next
 returns-in-Ok-false-clause-next g c =
@@ -27,13 +27,13 @@ returns-in-Ok-false-clause-next g c =
     let t = c.read_to.new.self in
     let v = c.take_end.new.self in
     let inv = c.turns.invariant in
-    let asked = asked_as remaining grammar s m t c.turns.need _ false c.in-Ok-false.field-0-test inv.head.went.decoder
+    let asked = asked_as remaining grammar s m t c.turns.need _ false c.in-Ok-false.field-0-test inv.header.went.decoder
     c.in-Ok-false.ensures in
-    let decoder = asked.went.decoder ∙ inv.head.went.decoder in
+    let decoder = asked.went.decoder ∙ inv.header.went.decoder in
     load_finished remaining (grammar s.decoder) (g.met.D.Decoder.lawful s.decoder) s m c.turns.need inv t asked
     c.take_end.result v
     (subst (λ d. TakesEnd (grammar d) t c.take_end.result v) decoder c.take_end.ensures.takes)
-    (subst (λ d. IsPiecing (grammar d) v) decoder c.take_end.ensures.whole)
+    (subst (λ d. IsPieceReader (grammar d) v) decoder c.take_end.ensures.whole)
 
 pub returns-in-Piece-clause-next : goal.returns-in-Piece-clause-next
 returns-in-Piece-clause-next g c =
@@ -84,10 +84,10 @@ returns-in-Ok-false-clause-front g c =
     let m = c.turns.self in
     let t = c.read_to.new.self in
     let inv = c.turns.invariant in
-    let asked = asked_as remaining grammar s m t c.turns.need _ false c.in-Ok-false.field-0-test inv.head.went.decoder
+    let asked = asked_as remaining grammar s m t c.turns.need _ false c.in-Ok-false.field-0-test inv.header.went.decoder
     c.in-Ok-false.ensures in
     hands_last s t c.take_end.new.self remaining (grammar s.decoder).most (grammar t.decoder)
-    (PiecesWent-joins remaining (grammar s.decoder).most s m t [] [] inv.head.went asked.went) asked.handed c.take_end.result
+    (PiecesWent-joins remaining (grammar s.decoder).most s m t [] [] inv.header.went asked.went) asked.handed c.take_end.result
     c.take_end.ensures.takes
 
 pub returns-in-Piece-clause-front : goal.returns-in-Piece-clause-front
@@ -98,4 +98,4 @@ returns-in-Piece-clause-front g c =
     let v = c.take.new.self in
     let turn = turned remaining g.D.Decoder.grammar g.met.D.Decoder.lawful s c.turns.self t v c.turns.need c.turns.invariant
     c.in-Ok-true.field-0-test c.in-Ok-true.ensures c.in-Piece.is c.take.ensures.takes c.take.ensures.whole in
-    hands_front s t v remaining (g.D.Decoder.grammar s.decoder).most turn.head.went turn.handed (ap (λ x. x.reader) turn.takes.same)
+    hands_front s t v remaining (g.D.Decoder.grammar s.decoder).most turn.header.went turn.handed (ap (λ x. x.reader) turn.takes.same)

@@ -1,6 +1,6 @@
 use Rattle.std.proofs.Common.{◌-◌, length}
 use Rattle.codec.proofs.Loading.{LoadHead}
-use Rattle.codec.specs.Piecing.{rest}
+use Rattle.codec.specs.PieceReader.{rest}
 use Rattle.codec.proofs.reader.PieceReader.step_on.Given as goal
 
 abbrev pub invariant-turns : goal.invariant-turns

@@ -1,5 +1,5 @@
 use Rattle.std.proofs.Common.{refl, subst}
-use Rattle.codec.specs.Piecing.{IsFitted}
+use Rattle.codec.specs.PieceReader.{IsFitted}
 use Rattle.codec.proofs.Handover.{over_piecing}
 use Rattle.codec.proofs.reader.PieceReader.with_buffer.Goals as goal
 

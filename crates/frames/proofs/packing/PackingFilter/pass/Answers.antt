@@ -16,7 +16,7 @@ returns-in_err-write_line-in-Some-next_buffered g c =
     let wrote = c.in_err-write_line-in-Some-next_buffered.ensures in
     let v = c.write_line.new.target in
     rw (p.1, p.2)
-    (lost remaining g.W.TellWrite.stretch g.met.W.TellWrite.stretch_none s c.requires v wrote.not_flushed wrote.flushes
+    (lost remaining g.W.TellWrite.trace g.met.W.TellWrite.trace_none s c.requires v wrote.not_flushed wrote.flushes
     (not_held s.held c.in_default.not-Some) t some.line.now took wrote.none _ wrote.caused)
 
 pub returns-in_ok-write_line-in-Some-next_buffered : goal.returns-in_ok-write_line-in-Some-next_buffered
@@ -28,7 +28,7 @@ returns-in_ok-write_line-in-Some-next_buffered g c =
     let took = NextBuffered-some _ s.source t _ _ some.is c.next_buffered.follows.holds-at-none in
     let wrote = c.in_ok-write_line-in-Some-next_buffered.ensures in
     let v = c.write_line.new.target in
-    written remaining g.W.TellWrite.stretch g.met.W.TellWrite.stretch_none s c.requires v wrote.not_flushed wrote.flushes
+    written remaining g.W.TellWrite.trace g.met.W.TellWrite.trace_none s c.requires v wrote.not_flushed wrote.flushes
     (not_held s.held c.in_default.not-Some) t some.line.now took wrote.taken wrote.met
 
 pub returns-in-None : goal.returns-in-None
@@ -37,5 +37,5 @@ returns-in-None g c =
     let s = c.args.self.now in
     let t = c.next_buffered.follows.lender-at-none in
     let looked = NextBuffered-none _ s.source t _ c.in-None.is c.next_buffered.follows.holds-at-none in
-    none_passed remaining g.W.TellWrite.stretch g.met.W.TellWrite.stretch_none s c.requires (not_held s.held c.in_default.not-Some)
+    none_passed remaining g.W.TellWrite.trace g.met.W.TellWrite.trace_none s c.requires (not_held s.held c.in_default.not-Some)
     t looked.0 looked.2

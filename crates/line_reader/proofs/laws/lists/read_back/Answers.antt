@@ -5,7 +5,7 @@ use Rattle.codec.specs.KnownPayloadsLaws.{read_refused}
 use Rattle.codec.specs.KnownPieces.{BufferRefused}
 use Rattle.codec.specs.KnownPiecesLaws.{IsFresh-left}
 use Rattle.line_reader.specs.Lines.{FitsLine, HasLines}
-use Rattle.line_reader.specs.Lining.{lined}
+use Rattle.line_reader.specs.LineReader.{lined}
 use Rattle.line_reader.specs.TextLaws.{Lines-with_ends, all_plain, pieces_of}
 use Rattle.line_reader.proofs.laws.lists.read_back.Goals as goal
 

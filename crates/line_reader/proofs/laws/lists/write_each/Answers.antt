@@ -10,7 +10,7 @@ use Rattle.line_reader.proofs.laws.lists.write_each.Goals as goal
 pub returns-in-Err-clause-stopped : goal.returns-in-Err-clause-stopped
 returns-in-Err-clause-stopped g c =
     stops_in (λ v. v.items) c.args.lines.now c.loop-line.line-index c.line-item.result c.loop-line-test.true c.line-item.is
-    g.W.TellWrite.stretch g.met.W.TellWrite.stretch_joins c.args.writer.now c.loop-line.writer c.write_line.new.writer
+    g.W.TellWrite.trace g.met.W.TellWrite.trace_joins c.args.writer.now c.loop-line.writer c.write_line.new.writer
     c.loop-line.invariant.wrote c.loop-line.taken c.loop-line.invariant.count
     (subst (λ l. TookBeginning (with_end l) c.loop-line.writer c.write_line.new.writer) c.deref.ensures.value
     c.write_line.ensures.beginning)
@@ -21,10 +21,10 @@ returns-in-Err-clause-caused g c = WriterStopped-after _ _ _ _ c.loop-line.invar
 pub loop-line-preserved : goal.loop-line-preserved
 loop-line-preserved g c = record {
   wrote = line_written (λ v. v.items) c.args.lines.now c.loop-line.line-index c.line-item.result c.loop-line-test.true
-      c.line-item.is g.W.TellWrite.stretch g.met.W.TellWrite.stretch_joins c.args.writer.now c.loop-line.writer
+      c.line-item.is g.W.TellWrite.trace g.met.W.TellWrite.trace_joins c.args.writer.now c.loop-line.writer
       c.write_line.new.writer c.loop-line.invariant.wrote
       (subst (λ l. WritesInOrder c.loop-line.writer (with_end l) c.write_line.new.writer) c.deref.ensures.value
-      c.in-Ok.ensures.written) c.write_line.ensures.stretch;
+      c.in-Ok.ensures.written) c.write_line.ensures.trace;
   grows = WriteLogGrows-joins _ _ _ c.loop-line.invariant.grows c.write_line.ensures.grows;
   same_flushed = c.write_line.ensures.not_flushed ∙ c.loop-line.invariant.same_flushed;
   count = omega (arith, c.loop-line.invariant.count);

@@ -5,7 +5,7 @@ use Rattle.line_reader.proofs.laws.lists.write_each.Given as goal
 
 abbrev pub invariant-loop-line : goal.invariant-loop-line
 invariant-loop-line g l = record {
-  wrote : WroteLines g.W.TellWrite.stretch l.fn.writer (map (λ v. v.items) (take l.line-index l.lines)) l.writer;
+  wrote : WroteLines g.W.TellWrite.trace l.fn.writer (map (λ v. v.items) (take l.line-index l.lines)) l.writer;
   grows : WriteLogGrows l.fn.writer.log.writes l.writer.log.writes;
   same_flushed : l.writer.log.writes.flushed ≡ l.fn.writer.log.writes.flushed;
   count : l.taken ≡ l.line-index;

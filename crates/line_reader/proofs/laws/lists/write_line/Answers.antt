@@ -22,10 +22,10 @@ returns-in_err-write_all-2-clause-caused g c =
     let first = c.in_ok-write_all.ensures.steps.front.keeps in
     rw (p.1, p.2) (WriterStopped-after _ _ _ _ first.grows (c.in_err-write_all-2.ensures.steadily refl))
 
-pub returns-in_err-write_all-2-clause-stretch : goal.returns-in_err-write_all-2-clause-stretch
-returns-in_err-write_all-2-clause-stretch g c =
-    g.met.W.TellWrite.stretch_joins c.args.writer.now.inner c.write_all.new.self.inner c.write_all-2.new.self.inner
-    c.write_all.ensures.stretch.calls c.write_all-2.ensures.stretch.calls
+pub returns-in_err-write_all-2-clause-trace : goal.returns-in_err-write_all-2-clause-trace
+returns-in_err-write_all-2-clause-trace g c =
+    g.met.W.TellWrite.trace_joins c.args.writer.now.inner c.write_all.new.self.inner c.write_all-2.new.self.inner
+    c.write_all.ensures.trace.calls c.write_all-2.ensures.trace.calls
 
 pub returns-clause-written : goal.returns-clause-written
 returns-clause-written g c =
@@ -38,7 +38,7 @@ returns-clause-beginning g c =
     (WritesInOrder-joins c.args.writer.now c.write_all.new.self c.write_all-2.new.self c.args.line.now (newline ∷ [])
     c.in_ok-write_all.ensures.in_order c.in_ok-write_all-2.ensures.in_order)
 
-pub returns-clause-stretch : goal.returns-clause-stretch
-returns-clause-stretch g c =
-    g.met.W.TellWrite.stretch_joins c.args.writer.now.inner c.write_all.new.self.inner c.write_all-2.new.self.inner
-    c.write_all.ensures.stretch.calls c.write_all-2.ensures.stretch.calls
+pub returns-clause-trace : goal.returns-clause-trace
+returns-clause-trace g c =
+    g.met.W.TellWrite.trace_joins c.args.writer.now.inner c.write_all.new.self.inner c.write_all-2.new.self.inner
+    c.write_all.ensures.trace.calls c.write_all-2.ensures.trace.calls

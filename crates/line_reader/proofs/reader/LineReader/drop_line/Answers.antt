@@ -2,9 +2,9 @@ use Rattle.std.proofs.Common.{◌≡◌, true, false, ap, arith, length, subst, 
 use Rattle.std.proofs.lemmas.List.{take_all}
 use Rattle.codec.specs.DelimitedLaws.{open_plain}
 use Rattle.codec.specs.Plain.{EndsAt, IsPlain}
-use Rattle.codec.specs.Piecing.{IsPiecing, rest}
+use Rattle.codec.specs.PieceReader.{IsPieceReader, rest}
 use Rattle.line_reader.specs.Lines.{IsLine, newline}
-use Rattle.line_reader.specs.Lining.{lined}
+use Rattle.line_reader.specs.LineReader.{lined}
 use Rattle.line_reader.specs.SkipLine.{DropsLine}
 use Rattle.line_reader.proofs.reader.LineReader.drop_line.Goals.{in-Some, in-None}
 use Rattle.line_reader.proofs.reader.LineReader.drop_line.Goals as goal
@@ -29,7 +29,7 @@ returns-clause-drops g c =
           let size = ap (λ p. p.0) w.count-is in
           let view = ap (λ x. x.pieces) same ∙ ap (λ x. x.pieces) c.self.view_is in
           subst (λ x. DropsLine x count.0 count.1 t) view (record {
-            before = subst (λ x. IsPiecing (lined x.pieces.decoder.max) x.pieces) (sym same) c.self.invariant.whole;
+            before = subst (λ x. IsPieceReader (lined x.pieces.decoder.max) x.pieces) (sym same) c.self.invariant.whole;
             inside = omega (arith, size, found.0, ap length left);
             skips = c.skip.ensures.skips;
             ends = λ _. (w.in-Some.len, size, subst (EndsAt newline w.in-Some.len) left found.1);
@@ -41,7 +41,7 @@ returns-clause-drops g c =
           let size = ap (λ p. p.0) w.count-is in
           let view = ap (λ x. x.pieces) same ∙ ap (λ x. x.pieces) c.self.view_is in
           subst (λ x. DropsLine x count.0 count.1 t) view (record {
-            before = subst (λ x. IsPiecing (lined x.pieces.decoder.max) x.pieces) (sym same) c.self.invariant.whole;
+            before = subst (λ x. IsPieceReader (lined x.pieces.decoder.max) x.pieces) (sym same) c.self.invariant.whole;
             inside = omega (arith, size, ap length left);
             skips = c.skip.ensures.skips;
             ends = λ odd. (let no : true ≡ false = sym odd ∙ ap (λ p. p.1) w.count-is in cc);

@@ -1,5 +1,5 @@
 use Rattle.std.proofs.Common.{◌↔◌, IsTrue, subst}
-use Rattle.line_reader.specs.Lining.{HasLine}
+use Rattle.line_reader.specs.LineReader.{HasLine}
 use Rattle.line_reader.proofs.Going.{settled_open}
 use Rattle.line_reader.proofs.reader.LineReader.has_line.Goals as goal
 

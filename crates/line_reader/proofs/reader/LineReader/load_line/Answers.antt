@@ -1,9 +1,9 @@
 use Rattle.std.proofs.Common.{◌≡◌, Ok, Err, false, ap, arith, length, subst, sym, ◌∙◌}
 use Rattle.codec.specs.Grammar.{Begins}
 use Rattle.codec.specs.NextPiece.{NextPiece, load_answer}
-use Rattle.codec.specs.Piecing.{rest}
+use Rattle.codec.specs.PieceReader.{rest}
 use Rattle.line_reader.specs.declared.error.LineError.TheVariants.{TooLong, Io}
-use Rattle.line_reader.specs.Lining.{Lining, lined}
+use Rattle.line_reader.specs.LineReader.{LineState, lined}
 use Rattle.line_reader.specs.NextLine.{NextLine, piece_answer}
 use Rattle.line_reader.specs.NextLineLaws.{NextLine-of}
 use Rattle.line_reader.proofs.Going.{NextLine-long, piece_loaded}
@@ -28,8 +28,8 @@ returns-clause-next g c =
     let f = c.self.inside.pieces in
     let skipping = c.self.inside.skipping in
     let t = c.step_on.new.self in
-    let before : Lining g.row.R.Denot = record { pieces = f; skipping = skipping } in
-    let after : Lining g.row.R.Denot = record { pieces = t; skipping = skipping } in
+    let before : LineState g.row.R.Denot = record { pieces = f; skipping = skipping } in
+    let after : LineState g.row.R.Denot = record { pieces = t; skipping = skipping } in
     let open' : skipping ≡ false = ap (λ x. x.skipping) c.self.view_is ∙ c.requires.open in
     let finish : (r : _) → c.match-step_on.result ≡ r
     → NextPiece remaining (lined f.decoder.max) f (piece_answer (load_answer r t)) t

@@ -2,7 +2,7 @@ use Rattle.std.proofs.Common.{◌≡◌, ◌++◌, Ok, Some, arith, ap, sym, sub
 use Rattle.buffer_redux.specs.Unbuffer.{Unbuffered, unbuffered}
 use Rattle.codec.specs.Decoding.{bytes_at}
 use Rattle.codec.specs.NextPiece.{NextPiece}
-use Rattle.codec.specs.Piecing.{left_of}
+use Rattle.codec.specs.PieceReader.{left_of}
 use Rattle.messages.specs.Heads.{IsHead, heads}
 use Rattle.messages.specs.Messages.{Begun, begun}
 use Rattle.messages.specs.MessagesLaws.{lent}

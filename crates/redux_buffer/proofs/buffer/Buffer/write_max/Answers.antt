@@ -35,7 +35,7 @@ loop-left-init g c = record {
   offered = omega arith;
   short = λ _. record { short = 0; fell_short = omega arith; asks = omega arith };
   last = λ _ some. absurd (omega (arith, some));
-  stretch = search rules;
+  trace = search rules;
   whole = search rules;
 }
 
@@ -66,7 +66,7 @@ loop-left-preserved g c =
       last = λ none _. whole_more inv.count inv.interrupts left _ _ _ _ _ inv.sent inv.only inv.few n
           (inv.short (omega (arith, some, fits))) wrote (omega (arith, none, size));
       untouched = λ none. absurd (omega (arith, none, some));
-      stretch = g.met.W.TellWrite.stretch_joins _ _ _ inv.stretch c.in-Ok.ensures.stretch;
+      trace = g.met.W.TellWrite.trace_joins _ _ _ inv.trace c.in-Ok.ensures.trace;
       whole = c.consume.ensures.whole;
     }
 

@@ -18,7 +18,7 @@ invariant-loop-left g l = record {
   short : 0 < l.left → WholeWrites 0 (g.W.Tell.log l.initial.wrt).writes (g.W.Tell.log l.wrt).writes;
   last : l.left ≡ 0 → 0 < count → WholeWrites 1 (g.W.Tell.log l.initial.wrt).writes (g.W.Tell.log l.wrt).writes;
   untouched : count ≡ 0 → (l.wrt ≡ l.initial.wrt) × (l.self ≡ l.initial.self);
-  stretch : g.W.TellWrite.stretch l.initial.wrt l.wrt;
+  trace : g.W.TellWrite.trace l.initial.wrt l.wrt;
   whole : IsBlock l.self;
 }
 

@@ -9,7 +9,7 @@ returns-then-ne-clause-wrote g c log told = Interrupts-none _ _ log _ told (sear
 pub loop-init : goal.loop-init
 loop-init g c = record {
   interrupted = λ log told. Interrupts-first _ _ log _ (search rules) told;
-  stretch = g.met.W.TellWrite.stretch_none _;
+  trace = g.met.W.TellWrite.trace_none _;
 }
 
 pub loop-preserved : goal.loop-preserved
@@ -18,7 +18,7 @@ loop-preserved g c =
     let wrote = c.in-Err.ensures in
     record {
       interrupted = λ log told. Interrupts-more _ _ _ log _ _ (before.interrupted log told) (search rules) wrote.told;
-      stretch = g.met.W.TellWrite.stretch_joins _ _ _ before.stretch wrote.stretch;
+      trace = g.met.W.TellWrite.trace_joins _ _ _ before.trace wrote.trace;
     }
 
 pub returns-in-Ok-clause-wrote : goal.returns-in-Ok-clause-wrote

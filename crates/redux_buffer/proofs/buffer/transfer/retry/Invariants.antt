@@ -7,5 +7,5 @@ abbrev pub invariant-loop : goal.invariant-loop
 invariant-loop g l = record {
   interrupted : (log : StreamLog) → g.W.Tell.log l.initial.wrt ≡ after_write log l.fn.bytes (Err l.fn.e)
       → Interrupts l.counter log (g.W.Tell.log l.wrt);
-  stretch : g.W.TellWrite.stretch l.initial.wrt l.wrt;
+  trace : g.W.TellWrite.trace l.initial.wrt l.wrt;
 }

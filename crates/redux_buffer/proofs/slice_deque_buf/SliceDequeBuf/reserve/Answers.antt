@@ -100,23 +100,23 @@ returns-clause-whole c =
     let behind = le-ltb (length c.clear_range.new.self) c.round_up-cap.result (omega (arith, long)) in
     grind (arith, common_steps, length_range)
 
-pub returns-then-a-self-clause-grown : goal.returns-then-a-self-clause-grown
-returns-then-a-self-clause-grown c = grind (arith, common_steps)
+pub returns-then-additional-self-clause-grown : goal.returns-then-additional-self-clause-grown
+returns-then-additional-self-clause-grown c = grind (arith, common_steps)
 
-pub returns-then-a-self-clause-limit : goal.returns-then-a-self-clause-limit
-returns-then-a-self-clause-limit c = grind (arith, common_steps)
+pub returns-then-additional-self-clause-limit : goal.returns-then-additional-self-clause-limit
+returns-then-additional-self-clause-limit c = grind (arith, common_steps)
 
-pub returns-then-a-self-clause-whole : goal.returns-then-a-self-clause-whole
-returns-then-a-self-clause-whole c = grind (arith, common_steps)
+pub returns-then-additional-self-clause-whole : goal.returns-then-additional-self-clause-whole
+returns-then-additional-self-clause-whole c = grind (arith, common_steps)
 
-pub returns-then-a-len-clause-limit : goal.returns-then-a-len-clause-limit
-returns-then-a-len-clause-limit c = grind (arith, common_steps)
+pub returns-then-additional-len-clause-limit : goal.returns-then-additional-len-clause-limit
+returns-then-additional-len-clause-limit c = grind (arith, common_steps)
 
-pub returns-then-a-len-clause-succeeds : goal.returns-then-a-len-clause-succeeds
-returns-then-a-len-clause-succeeds c = grind (arith, common_steps)
+pub returns-then-additional-len-clause-succeeds : goal.returns-then-additional-len-clause-succeeds
+returns-then-additional-len-clause-succeeds c = grind (arith, common_steps)
 
-pub returns-then-a-len-clause-whole : goal.returns-then-a-len-clause-whole
-returns-then-a-len-clause-whole c = grind (arith, common_steps)
+pub returns-then-additional-len-clause-whole : goal.returns-then-additional-len-clause-whole
+returns-then-additional-len-clause-whole c = grind (arith, common_steps)
 
 pub returns-in_err-self-inside-clause-limit : goal.returns-in_err-self-inside-clause-limit
 returns-in_err-self-inside-clause-limit c = grind (arith, common_steps)

@@ -7,8 +7,8 @@ pub returns-clause-grown : goal.returns-clause-grown
 returns-clause-grown c =
     let b = c.self.inside in
     let empty : b.end ≡ 0 = omega (arith, c.if-self-gt0.false) in
-    let all = b.stop + c.args.a - 0 in
-    let size : all - length b.buf ≡ b.stop + c.args.a - b.stop = omega arith in
+    let all = b.stop + c.args.additional - 0 in
+    let size : all - length b.buf ≡ b.stop + c.args.additional - b.stop = omega arith in
     let copied = c.in_ok-self-inside.ensures.copied in
     let zeros = zeros_left c.in_ok-self-inside.field-0 b.buf all b.end copied empty in
     rw (← c.self.view_is) (record {
@@ -22,14 +22,14 @@ returns-clause-grown c =
       moved = search rules;
     })
 
-pub returns-then-usable-a-clause-grown : goal.returns-then-usable-a-clause-grown
-returns-then-usable-a-clause-grown c = grind (arith, common_steps)
+pub returns-then-usable-additional-clause-grown : goal.returns-then-usable-additional-clause-grown
+returns-then-usable-additional-clause-grown c = grind (arith, common_steps)
 
-pub returns-then-usable-a-clause-limit : goal.returns-then-usable-a-clause-limit
-returns-then-usable-a-clause-limit c = grind (arith, common_steps)
+pub returns-then-usable-additional-clause-limit : goal.returns-then-usable-additional-clause-limit
+returns-then-usable-additional-clause-limit c = grind (arith, common_steps)
 
-pub returns-then-usable-a-clause-whole : goal.returns-then-usable-a-clause-whole
-returns-then-usable-a-clause-whole c = grind (arith, common_steps)
+pub returns-then-usable-additional-clause-whole : goal.returns-then-usable-additional-clause-whole
+returns-then-usable-additional-clause-whole c = grind (arith, common_steps)
 
 pub returns-in_err-reserve-clause-limit : goal.returns-in_err-reserve-clause-limit
 returns-in_err-reserve-clause-limit c = grind (arith, common_steps)

@@ -14,4 +14,4 @@ returns-clause-all g c =
     let e = c.copy_buf.ensures in
     let moved = CopyBuf-moved c.copy_buf.result e.copied in
     on_ok _ _ _ (receives_all g.R.TellRead.remaining g.P.ReaderPolicy.rules _ _ e.reader moved.0 _ _ moved.1
-    g.W.Tell.log g.W.TellWrite.stretch g.W.TellWrite.call _ _ refl refl) e.copied.ended
+    g.W.Tell.log g.W.TellWrite.trace g.W.TellWrite.call _ _ refl refl) e.copied.ended

@@ -12,7 +12,7 @@ returns-in-More g c =
     let values = held c.args.self.now.store in (
       [],
       (More, c.take.new.self, c.in-More.ensures, (refl, refl, refl, same_of values values refl)),
-      WritesAlong-none _ _ _ g.met.W.TellWrite.stretch_none _,
+      WritesAlong-none _ _ _ g.met.W.TellWrite.trace_none _,
     )
 
 pub returns-in-Bad : goal.returns-in-Bad

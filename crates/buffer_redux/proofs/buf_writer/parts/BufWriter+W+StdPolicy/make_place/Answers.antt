@@ -6,10 +6,10 @@ use Rattle.buffer_redux.proofs.Parts.{place_made, place_refused, place_unsent}
 use Rattle.buffer_redux.proofs.buf_writer.parts.BufWriter+W+StdPolicy.make_place.Goals as goal
 
 pub returns-in-Err : goal.returns-in-Err
-returns-in-Err g c = place_unsent _ _ g.met.W.TellWrite.stretch_none _ _ _ _ c.in-Err.ensures.sent
+returns-in-Err g c = place_unsent _ _ g.met.W.TellWrite.trace_none _ _ _ _ c.in-Err.ensures.sent
 
 pub returns-in-Ok : goal.returns-in-Ok
-returns-in-Ok g c = place_made _ _ g.met.W.TellWrite.stretch_none _ c.send.new.self _ _ _ _ c.in_default.ensures.sent
+returns-in-Ok g c = place_made _ _ g.met.W.TellWrite.trace_none _ c.send.new.self _ _ _ _ c.in_default.ensures.sent
     c.in-Ok.ensures.grown c.in-Ok.ensures.others c.in-Ok.ensures.whole
 
 pub returns-in-Err-reserve : goal.returns-in-Err-reserve
@@ -19,8 +19,8 @@ returns-in-Err-reserve g c =
       | inl few ↦ few
       | inr many ↦ (let odd : false ≡ true = refused.succeeds many in cc)
     ] in
-    subst (MakesPlace g.W.Tell.log g.W.TellWrite.stretch c.args.len c.args.self.now (Err c.from.result)) (sym refused.unchanged)
-    (place_refused _ _ g.met.W.TellWrite.stretch_none _ _ _ _ _ c.in_default.ensures.sent (record {
+    subst (MakesPlace g.W.Tell.log g.W.TellWrite.trace c.args.len c.args.self.now (Err c.from.result)) (sym refused.unchanged)
+    (place_refused _ _ g.met.W.TellWrite.trace_none _ _ _ _ _ c.in_default.ensures.sent (record {
       refusal = c.in-Err-reserve.e;
       tells = c.from.ensures;
       refused = record { tight = tight; within = refused.limit };

@@ -14,7 +14,7 @@ append_parts-requires-in-Ok-clause-room g c =
     (omega (arith, c.in-Ok.ensures.room, ap (λ x. usable x.block) c.self-2.view_is))
 
 pub returns-then-usable_space-len : goal.returns-then-usable_space-len
-returns-then-usable_space-len g c = parts_fit _ _ g.met.W.TellWrite.stretch_none c.args.self.now _ _
+returns-then-usable_space-len g c = parts_fit _ _ g.met.W.TellWrite.trace_none c.args.self.now _ _
     (rw (← c.self.view_is) c.append_parts.ensures) (rw (← c.self.view_is) refl)
 
 pub returns-in-Ok : goal.returns-in-Ok
@@ -26,7 +26,7 @@ returns-in-Ok g c =
       c.total-len.ensures,
       ap (λ x. usable x.block) c.self.view_is,
     ) in
-    parts_moved _ _ g.met.W.TellWrite.stretch_none g.met.W.TellWrite.stretch_joins g.met.W.TellWrite.stretch_grows c.args.self.now
+    parts_moved _ _ g.met.W.TellWrite.trace_none g.met.W.TellWrite.trace_joins g.met.W.TellWrite.trace_grows c.args.self.now
     c.make_place.new.self _ c.total-len.result _ few c.in-Ok.ensures
     (rw (← c.self-2.view_is) c.append_parts-in-Ok.ensures) (rw (← c.self-2.view_is) refl)
 
@@ -39,6 +39,6 @@ returns-in-Err g c =
       c.total-len.ensures,
       ap (λ x. usable x.block) c.self.view_is,
     ) in
-    parts_failed _ _ g.met.W.TellWrite.stretch_none g.met.W.TellWrite.stretch_joins g.met.W.TellWrite.stretch_grows
+    parts_failed _ _ g.met.W.TellWrite.trace_none g.met.W.TellWrite.trace_joins g.met.W.TellWrite.trace_grows
     c.args.self.now c.make_place.new.self c.total-len.result _ c.in-Err.e few (omega (arith, c.total-len.ensures))
     c.in-Err.ensures

@@ -10,15 +10,15 @@ use Rattle.buffer_redux.proofs.buf_writer.tells.BufWriterTellWrite.flush_told.Go
 pub returns-clause-told : goal.returns-clause-told
 returns-clause-told g c = search rules
 
-pub returns-clause-stretch : goal.returns-clause-stretch
-returns-clause-stretch g c =
+pub returns-clause-trace : goal.returns-clause-trace
+returns-clause-trace g c =
     let table = g.P.WriterPolicy.rules in
     let s = c.args.self.now in
     let m = c.flush-answer.new.self in
     let answer = c.flush-answer.result in
     let flush = c.flush-answer.ensures.flushed in
     let noted : c.note.new.self.log ≡ after_flush s.own_calls answer = search rules in
-    call_went g.W.TellWrite.stretch table s m _ _ (after_flush s.own_calls answer) c.self.view_is noted
+    call_went g.W.TellWrite.trace table s m _ _ (after_flush s.own_calls answer) c.self.view_is noted
     flush.went.calls flush.grows
     (subst (λ l. WriteLogGrows (writer_log s).writes l.writes) (sym (returns-clause-told g c))
     (WriteLogGrows-flush (writer_log s) answer))

@@ -12,15 +12,15 @@ use Rattle.buffer_redux.proofs.buf_writer.tells.BufWriterTellWrite.write_told.Go
 pub returns-clause-told : goal.returns-clause-told
 returns-clause-told g c = search rules
 
-pub returns-clause-stretch : goal.returns-clause-stretch
-returns-clause-stretch g c =
+pub returns-clause-trace : goal.returns-clause-trace
+returns-clause-trace g c =
     let s = c.args.self.now in
     let m = c.write-answer.new.self in
     let bs = c.args.buf.now in
     let answer = c.write-answer.result in
     let wrote = c.write-answer.ensures in
     let noted : c.note.new.self.log ≡ after_write s.own_calls bs answer = search rules in
-    call_went g.W.TellWrite.stretch g.P.WriterPolicy.rules s m _ _ (after_write s.own_calls bs answer)
+    call_went g.W.TellWrite.trace g.P.WriterPolicy.rules s m _ _ (after_write s.own_calls bs answer)
     c.self.view_is noted wrote.keeps.went.calls wrote.keeps.grows
     (subst (λ l. WriteLogGrows (writer_log s).writes l.writes) (sym (returns-clause-told g c))
     (WriteLogGrows-write (writer_log s) bs answer)) wrote.keeps.capacity wrote.keeps.kind wrote.keeps.claims

@@ -10,30 +10,30 @@ pub returns-in_err-write_all-clause-all : goal.returns-in_err-write_all-clause-a
 returns-in_err-write_all-clause-all g c =
     let p = err_from_is_err_and c.from_residual.result c.from_residual.ensures.1 in
     let e = c.in_err-write_all.ensures in
-    rw (p.1, p.2) (rw (← c.self.view_is) (WritesAll-all g.W.Tell.log g.W.TellWrite.stretch line_rules
+    rw (p.1, p.2) (rw (← c.self.view_is) (WritesAll-all g.W.Tell.log g.W.TellWrite.trace line_rules
     _ c.args.bytes.now _ c.write_all.new.self e.steps e.steadily refl))
 
 pub returns-in_err-write_all-clause-steps : goal.returns-in_err-write_all-clause-steps
 returns-in_err-write_all-clause-steps g c =
     let p = err_from_is_err_and c.from_residual.result c.from_residual.ensures.1 in
-    rw (p.1, p.2) (steps_failed g.W.Tell.log g.W.TellWrite.stretch
-    (WritesAll g.W.Tell.log g.W.TellWrite.stretch line_rules c.args.self.now c.args.bytes.now) _
+    rw (p.1, p.2) (steps_failed g.W.Tell.log g.W.TellWrite.trace
+    (WritesAll g.W.Tell.log g.W.TellWrite.trace line_rules c.args.self.now c.args.bytes.now) _
     c.write_all.new.self (rw (← c.self.view_is) c.in_err-write_all.ensures.steps))
 
 pub returns-clause-bytes : goal.returns-clause-bytes
-returns-clause-bytes g c = appends_sent g.W.Tell.log g.W.TellWrite.stretch c.args.self.now c.write_all.new.self
+returns-clause-bytes g c = appends_sent g.W.Tell.log g.W.TellWrite.trace c.args.self.now c.write_all.new.self
     c.send_lines.result c.send_lines.new.self c.send_lines.ensures.sends c.args.bytes.now
     (rw (← c.self.view_is) c.in_ok-write_all.ensures.bytes)
 
 pub returns-clause-all : goal.returns-clause-all
-returns-clause-all g c = all_sent g.W.Tell.log g.W.TellWrite.stretch line_rules g.met.W.TellWrite.stretch_none
-    g.met.W.TellWrite.stretch_joins g.met.W.TellWrite.stretch_grows c.args.self.now c.write_all.new.self c.args.bytes.now
-    c.send_lines.result c.send_lines.new.self (WritesAll-took g.W.Tell.log g.W.TellWrite.stretch line_rules
+returns-clause-all g c = all_sent g.W.Tell.log g.W.TellWrite.trace line_rules g.met.W.TellWrite.trace_none
+    g.met.W.TellWrite.trace_joins g.met.W.TellWrite.trace_grows c.args.self.now c.write_all.new.self c.args.bytes.now
+    c.send_lines.result c.send_lines.new.self (WritesAll-took g.W.Tell.log g.W.TellWrite.trace line_rules
     c.args.self.now c.args.bytes.now _ c.write_all.new.self (rw (← c.self.view_is) c.in_ok-write_all.ensures.steps))
     c.send_lines.ensures.sends
 
 pub returns-clause-steps : goal.returns-clause-steps
-returns-clause-steps g c = steps_sent g.W.Tell.log g.W.TellWrite.stretch
-    (WritesAll g.W.Tell.log g.W.TellWrite.stretch line_rules c.args.self.now c.args.bytes.now) _
+returns-clause-steps g c = steps_sent g.W.Tell.log g.W.TellWrite.trace
+    (WritesAll g.W.Tell.log g.W.TellWrite.trace line_rules c.args.self.now c.args.bytes.now) _
     c.write_all.new.self c.send_lines.result c.send_lines.new.self
     (rw (← c.self.view_is) c.in_ok-write_all.ensures.steps) c.send_lines.ensures.sends

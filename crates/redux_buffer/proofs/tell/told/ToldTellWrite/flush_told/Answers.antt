@@ -1,5 +1,5 @@
 use Rattle.redux_buffer.specs.Told.{ToldWrites-flush}
 use Rattle.redux_buffer.proofs.tell.told.ToldTellWrite.flush_told.Goals as goal
 
-pub returns-clause-stretch : goal.returns-clause-stretch
-returns-clause-stretch g c = ToldWrites-flush g.S.Write.contents _ _ _ c.note.ensures c.flush-answer.ensures.bytes
+pub returns-clause-trace : goal.returns-clause-trace
+returns-clause-trace g c = ToldWrites-flush g.S.Write.contents _ _ _ c.note.ensures c.flush-answer.ensures.bytes

@@ -1,0 +1,195 @@
+-- What contracts see of a reader of a body, and what its calls promise.
+use Rattle.std.specs.Prelude.{◌≡◌, ℕ, zero, suc, ◌-◌, ◌^◌, ◌<◌, ◌≤◌, ◌⊎◌, List, [], ◌∷◌, ◌++◌, length, min, take, ◌==◌, Bool, Option, Result, Ok, Err, IfOk}
+use Rattle.std.specs.IoError.{error_kind}
+use Rattle.std.specs.declared.io.Error.{Error}
+use Rattle.std.specs.declared.io.ErrorKind.TheVariants.{Other}
+use Rattle.buffer_redux.specs.Buffered.{Buffered}
+use Rattle.buffer_redux.specs.BufReader.{Fills, ReadsAlong}
+use Rattle.buffer_redux.specs.Policy.{ReadRules}
+use Rattle.buffer_redux.specs.StreamLog.{StreamLog, after_read, no_calls}
+use Rattle.chunked.specs.declared.error.ChunkedError.{ChunkedError}
+use Rattle.chunked.specs.declared.error.ChunkedError.TheVariants.{NotChunked, Truncated, Io}
+use Rattle.chunked.specs.declared.error.Malformed.{Malformed}
+use Rattle.chunked.specs.declared.limits.Limits.{Limits}
+use Rattle.chunked.specs.declared.place.Place.{Place}
+use Rattle.chunked.specs.declared.place.Place.TheVariants.{Line}
+use Rattle.chunked.specs.Between.{BecomesIo, Calls, Faulted, NoFault, NothingCame, handed_out, none_handed}
+use Rattle.chunked.specs.Body.{IsBody}
+use Rattle.chunked.specs.Place.{IsPlace, IsWrong, Leads}
+
+-- the buffered reader; how much of the body may be no payload; where in it the reader stands; the bytes of it that were
+-- taken so far; and its own calls, as a stream tells them
+pub record ChunkedState (S P : Type 0) : Type 0 where
+  pub reader : Buffered S P
+  pub limits : Limits
+  pub place : Place
+  pub taken : List ℕ
+  pub calls : StreamLog
+
+-- the payload that was handed out so far
+abbrev pub handed_of : {S P : Type 0} → ChunkedState S P → List ℕ
+handed_of d = d.calls.reads.given
+
+-- what is true of every reader of a body: the bytes that were taken lead to where it stands, and what was handed out is the
+-- payload in them
+pub record IsChunkedReader {S P : Type 0} (d : ChunkedState S P) : Type 0 where
+  pub leads : Leads d.limits Line d.taken (handed_of d) d.place
+  pub place : IsPlace d.place
+
+-- no byte was taken yet
+abbrev pub begun : {S P : Type 0} → Buffered S P → Limits → ChunkedState S P
+begun reader limits = record { reader = reader; limits = limits; place = Line; taken = []; calls = no_calls }
+
+-- what was taken is a body, and what was handed out its payload
+abbrev pub IsWhole : {S P : Type 0} → ChunkedState S P → Type 0
+IsWhole d = IsBody d.limits d.taken (handed_of d)
+
+-- how many bytes were taken, as far as a `u64` counts
+abbrev pub taken_count : {S P : Type 0} → ChunkedState S P → ℕ
+taken_count d = min (length d.taken) (2 ^ 64 - 1)
+
+-- what any calls do, one after another, that handed out this payload: some bytes were taken out of the buffered reader, in
+-- order, and none is lost
+pub record BodyWent {S P : Type 0} (remaining : S → Option (List ℕ)) (rules : ReadRules P) (s : ChunkedState S P)
+    (payload : List ℕ) (t : ChunkedState S P) : Type 0 where
+  pub wire : List ℕ
+  pub along : ReadsAlong remaining rules s.reader wire t.reader
+  pub taken : t.taken ≡ s.taken ++ wire
+  pub handed : handed_of t ≡ handed_of s ++ payload
+  pub limits : t.limits ≡ s.limits
+
+-- the next of these bytes is wrong in this place, and no body begins with what was taken and then that byte
+pub record BreaksAt (limits : Limits) (p : Place) (taken bytes : List ℕ) (why : Malformed) : Type 0 where
+  pub byte : ℕ
+  pub later : List ℕ
+  pub next : bytes ≡ byte ∷ later
+  pub name : IsWrong limits p byte why
+  pub none : (rest payload : List ℕ) → ¬ IsBody limits (taken ++ byte ∷ rest) payload
+
+-- it is still buffered
+abbrev pub Breaks : {S P : Type 0} → Malformed → ChunkedState S P → Type 0
+Breaks why t = BreaksAt t.limits t.place t.taken t.reader.block.bytes why
+
+-- what was taken is no body, and no further byte came
+pub record EndsEarly {S P : Type 0} (rules : ReadRules P) (s t : ChunkedState S P) : Type 0 where
+  pub none : (payload : List ℕ) → ¬ IsBody t.limits t.taken payload
+  pub dry : NothingCame rules s.reader t.reader
+
+-- what each answer to a slice of so many bytes means
+abbrev pub PayloadAnswers : {S P : Type 0} → ReadRules P → ChunkedState S P → ℕ → Result ℕ ChunkedError → ChunkedState S P
+    → Type 0
+PayloadAnswers rules s room (Ok n) t =
+    (n ≤ room) × NoFault s.reader t.reader × (n ≡ 0 → 0 < room → IsWhole t)
+PayloadAnswers rules s room (Err (NotChunked why right)) t =
+    (right ≡ taken_count t) × NoFault s.reader t.reader × Breaks why t
+PayloadAnswers rules s room (Err (Truncated right)) t =
+    (right ≡ taken_count t) × NoFault s.reader t.reader × EndsEarly rules s t
+PayloadAnswers rules s room (Err (Io e)) t = Faulted rules s.reader e t.reader
+
+-- an Ok read is noted
+abbrev pub after_payload : StreamLog → List ℕ → Result ℕ ChunkedError → StreamLog
+after_payload calls out (Ok n) = after_read calls out (Ok n)
+after_payload calls out (Err e) = calls
+
+-- what one call of `read_payload` does, which left the slice as out. Once the body ended, or where the slice is empty, the
+-- buffered reader isn't called
+pub record ReadsPayload {S P : Type 0} (remaining : S → Option (List ℕ)) (rules : ReadRules P) (s : ChunkedState S P)
+    (out : List ℕ) (answer : Result ℕ ChunkedError) (t : ChunkedState S P) : Type 0 where
+  pub went : BodyWent remaining rules s (handed_out out answer) t
+  pub answers : PayloadAnswers rules s (length out) answer t
+  pub calls : Calls rules s.limits s.reader s.place (length out) answer t.reader t.place
+  pub ended : IsWhole s → t.reader ≡ s.reader
+  pub idle : length out ≡ 0 → (answer ≡ Ok 0) × (t.reader ≡ s.reader)
+  pub noted : t.calls ≡ after_payload s.calls out answer
+  pub whole : IsChunkedReader t
+
+-- more pieces of payload were dropped than are counted
+pub record DropsTooMany (payload : List ℕ) (answer : Result (Unit {0}) ChunkedError) : Type 0 where
+  pub error : Error
+  pub answers : answer ≡ Err (Io error)
+  pub kind : error_kind error ≡ Other
+  pub many : 2 ^ 64 - 1 ≤ length payload
+
+-- this many reads of payload, one after another, each of which handed some out
+abbrev pub ReadsOn : {S P : Type 0} → (S → Option (List ℕ)) → ReadRules P → ℕ → ChunkedState S P → ChunkedState S P → Type 0
+ReadsOn remaining rules zero s t = s ≡ t
+ReadsOn {S} {P} remaining rules (suc count) s t =
+    (m : ChunkedState S P) × (out : List ℕ) × (n : ℕ) × ReadsOn remaining rules count s m
+    × ReadsPayload remaining rules m out (Ok (suc n)) t
+
+-- how the rest of a body is read: so, and then by one read with this answer, unless none was to be made. So nobody is asked
+-- behind the end of the body, as no such read does
+pub record DrainReads {S P : Type 0} (remaining : S → Option (List ℕ)) (rules : ReadRules P) (s : ChunkedState S P)
+    (answer : Result ℕ ChunkedError) (t : ChunkedState S P) : Type 0 where
+  pub count : ℕ
+  pub last : ChunkedState S P
+  pub before : ReadsOn remaining rules count s last
+  pub end : (last ≡ t) ⊎ ((out : List ℕ) × (0 < length out) × ReadsPayload remaining rules last out answer t)
+
+-- the rest of the body was taken, and its payload dropped, or why not: as one read answers that hands out nothing. Once the
+-- body ended the buffered reader isn't called
+pub record Drains {S P : Type 0} (remaining : S → Option (List ℕ)) (rules : ReadRules P) (s : ChunkedState S P)
+    (answer : Result (Unit {0}) ChunkedError) (t : ChunkedState S P) : Type 0 where
+  pub payload : List ℕ
+  pub went : BodyWent remaining rules s payload t
+  pub answers : PayloadAnswers rules s 1 (none_handed answer) t ⊎ DropsTooMany payload answer
+  pub ended : IsWhole s → t.reader ≡ s.reader
+  pub reads : DrainReads remaining rules s (none_handed answer) t
+
+-- the same where that ended well, of the buffered reader alone, which has what follows the body
+pub record LeavesBody {S P : Type 0} (remaining : S → Option (List ℕ)) (rules : ReadRules P) (s : ChunkedState S P)
+    (rest : Buffered S P) : Type 0 where
+  pub body : ChunkedState S P
+  pub drains : Drains remaining rules s (Ok tt) body
+  pub is_whole : IsWhole body
+  pub is_rest : rest ≡ body.reader
+
+-- it was asked whether nothing follows what was taken: the buffer was filled, and nothing else is done
+pub record LooksBehind {S P : Type 0} (remaining : S → Option (List ℕ)) (rules : ReadRules P) (s : ChunkedState S P)
+    (answer : Result Bool Error) (t : ChunkedState S P) : Type 0 where
+  pub fills : Fills rules s.reader answer t.reader
+  pub along : ReadsAlong remaining rules s.reader [] t.reader
+  pub none : IfOk answer (λ none. none ≡ (length t.reader.block.bytes == 0))
+  pub still : t ≡ record s { reader = t.reader }
+
+-- no further payload is buffered: the body ended, or all was taken, or the next byte is wrong
+abbrev pub HasNoneBuffered : {S P : Type 0} → ChunkedState S P → Type 0
+HasNoneBuffered t = IsWhole t ⊎ ((t.reader.block.bytes ≡ []) ⊎ ((why : Malformed) × Breaks why t))
+
+-- bytes that were handed out are noted as an Ok read, and none as no call
+abbrev pub after_buffered : StreamLog → List ℕ → ℕ → StreamLog
+after_buffered calls out zero = calls
+after_buffered calls out (suc n) = after_read calls out (Ok (suc n))
+
+-- what one call of `read_buffered` does, which left the slice as out: it hands out as many bytes as the slice takes, or all that
+-- are buffered. The stream isn't asked
+pub record HandsBuffered {S P : Type 0} (remaining : S → Option (List ℕ)) (rules : ReadRules P) (s : ChunkedState S P)
+    (out : List ℕ) (n : ℕ) (t : ChunkedState S P) : Type 0 where
+  pub went : BodyWent remaining rules s (take n out) t
+  pub told : t.reader.log ≡ s.reader.log
+  pub bound : n ≤ length out
+  pub all : (n ≡ length out) ⊎ HasNoneBuffered t
+  pub noted : t.calls ≡ after_buffered s.calls out n
+  pub whole : IsChunkedReader t
+
+-- an answer of one of std's streams stands for an answer of a payload: the same number of bytes, the stream's own error, or
+-- an error whose kind tells which it was
+abbrev pub StandsFor : Result ℕ ChunkedError → Result ℕ Error → Type 0
+StandsFor (Ok n) (Ok m) = m ≡ n
+StandsFor (Err e) (Err f) = BecomesIo e f
+StandsFor (Ok n) (Err f) = ⊥
+StandsFor (Err e) (Ok m) = ⊥
+
+-- what a read as one of std's does: it hands payload out
+pub record ReadsAsIo {S P : Type 0} (remaining : S → Option (List ℕ)) (rules : ReadRules P) (s : ChunkedState S P)
+    (out : List ℕ) (answer : Result ℕ Error) (t : ChunkedState S P) : Type 0 where
+  pub payload : Result ℕ ChunkedError
+  pub reads : ReadsPayload remaining rules s out payload t
+  pub same : StandsFor payload answer
+
+-- a read that is told does the same, and then notes a failure
+pub record ReadsTold {S P : Type 0} (remaining : S → Option (List ℕ)) (rules : ReadRules P) (s : ChunkedState S P)
+    (out : List ℕ) (answer : Result ℕ Error) (t : ChunkedState S P) : Type 0 where
+  pub untold : StreamLog
+  pub reads : ReadsAsIo remaining rules s out answer (record t { calls = untold })
+  pub whole : IsChunkedReader t

@@ -1,0 +1,37 @@
+//! Headers that are text, as they are written.
+ghost use Rattle.std.specs.Prelude.{◌≡◌};
+ghost use Rattle.codec.specs.TextHeadersOut.{IsWritten};
+
+use crate::header_bytes::HeaderBytes;
+use crate::length_prefixed_writer::LengthPrefixedOut;
+use crate::text_header::{ByTextHeader, TextHeader};
+
+// The greatest number of 18 digits.
+const MOST: usize = 999_999_999_999_999_999;
+
+/// A protocol whose headers are text and are written too: what stands around a length is that of [`TextHeader`].
+pub trait TextHeaderOut: TextHeader {
+    // A header has room for it, and what stands behind a length is no digit of it.
+    ghost written: { (t : Self) → IsWritten (Self.words t) };
+}
+
+impl<T: TextHeaderOut> LengthPrefixedOut for ByTextHeader<T> {
+    ghost use Rattle.codec.specs.TextHeadersOut.{text_out};
+    ghost use Rattle.codec.specs.TextHeadersOutLaws.{text_read_back};
+
+    ghost headers_out = { λ t. text_out (T.words t.0) };
+
+    fn header_of(&self, len: usize) -> HeaderBytes {
+        let mut header = HeaderBytes::new(self.0.before());
+        header.push_number(len);
+        header.push(self.0.after());
+        header
+    }
+
+    #[inline(always)]
+    fn max_written(&self) -> usize {
+        self.0.max().min(MOST)
+    }
+
+    ghost read_back = { λ t. text_read_back (T.words t.0) (T.sound t.0) (T.written t.0) };
+}

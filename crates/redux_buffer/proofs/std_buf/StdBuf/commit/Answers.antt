@@ -1,0 +1,21 @@
+use Rattle.std.proofs.Common.{◌≤◌, ◌-◌, length, ap, arith, length-drop}
+use Rattle.std.proofs.lemmas.Grind.{common_steps}
+use Rattle.redux_buffer.proofs.Loans.{std_took}
+use Rattle.redux_buffer.proofs.std_buf.StdBuf.commit.Goals as goal
+
+pub returns-clause-bytes : goal.returns-clause-bytes
+returns-clause-bytes c =
+    let b = c.self.inside in
+    let fits : c.args.n ≤ b.stop - b.end =
+    omega (arith, c.requires, length-drop b.end b.buf, ap (λ p. length p.block.tail) c.self.view_is) in
+    rw (← c.self.view_is)
+    (std_took b c.args.n c.args.n (omega arith) (omega arith) (omega arith) (omega (arith, fits)))
+
+pub overflow_add-self : goal.overflow_add-self
+overflow_add-self c = grind (arith, common_steps)
+
+pub invariant_of-self : goal.invariant_of-self
+invariant_of-self c = grind (arith, common_steps)
+
+pub returns-clause-whole : goal.returns-clause-whole
+returns-clause-whole c = grind (arith, common_steps)
