@@ -4,16 +4,14 @@ use Rattle.std.proofs.lemmas.Bool.{true≢false}
 use Rattle.std.proofs.lemmas.List.Elements.{All-cons, All-nil}
 use Rattle.std.specs.declared.io.Error.{Error}
 use Rattle.buffer_redux.specs.BufReader.{RanDry}
-use Rattle.buffer_redux.specs.BufWriter.{WasFlushed}
 use Rattle.buffer_redux.specs.Faults.{MetInterrupts, SendErrorCaused}
-use Rattle.buffer_redux.specs.StreamLog.{StreamLog}
 use Rattle.codec.specs.Decoding.{IsLent}
 use Rattle.codec.specs.declared.decoder.Span.{Span}
 use Rattle.codec.specs.NextPiece.{PiecesWent, StaysLeft, empties}
 use Rattle.codec.specs.PiecesWentLaws.{PiecesWent-none}
 use Rattle.codec.specs.PieceReader.{rest}
 use Rattle.codec.specs.StaysLeftLaws.{StaysLeft-went}
-use Rattle.forward.specs.Filter.{AskAnswers, Asks, FilterRules, FlushAnswers, Flushes, Gives, Passes}
+use Rattle.forward.specs.Filter.{AskAnswers, Asks, FilterRules, Gives, Passes}
 use Rattle.forward.specs.declared.error.AskError.{AskError}
 use Rattle.forward.specs.declared.error.AskError.TheVariants.{Wrong, Io, IoBehind}
 use Rattle.frame_reader.specs.Frames.{Fits, frame, frames, header}
@@ -28,8 +26,7 @@ use Rattle.line_reader.specs.LineReader.{IsLineReader, LineState, lined}
 use Rattle.line_reader.specs.NextLine.{NextAnswer}
 use Rattle.line_reader.specs.NextLineLaws.{IsHanded-fits, IsLineReader-open, IsPieceReader-same, NextOpen, NextOpen-whole, NextPiece-long, open_unended, same_none}
 use Rattle.line_reader.specs.declared.error.LineError.TheVariants as NoLine
-use Rattle.programs.specs.FlushesLaws.{FlushesOnce-flush}
-use Rattle.programs.specs.PromptLaws.{WritesOn-grows, WritesOn-none, WritesOn-unflushed}
+use Rattle.programs.specs.PromptLaws.{WritesOn-none, WritesOn-unflushed}
 use Rattle.programs.specs.StreamsLaws.{MetInterrupts-none}
 use Rattle.frames.specs.Packing.{Asks as AsksReader, CanShow, HandsLines, HasEnded, IsReady, held_at, held_of, packing_rules, shown}
 use Rattle.frames.specs.PackingLaws.{all_ended, hands_nothing, none_held}
@@ -121,7 +118,7 @@ module _ {R W : Type 0} (remaining : R → Option (List ℕ)) (trace : W → W �
     }
 
   -- nothing was done by the reader
-  still : (v : WriterState W Frames) (h : Option Span) (lines : List (List ℕ)) → held_of s ≡ lines ++ held_at s.source h
+  pub still : (v : WriterState W Frames) (h : Option Span) (lines : List (List ℕ)) → held_of s ≡ lines ++ held_at s.source h
       → HandsLines remaining s lines (record { source = s.source; target = v; held = h })
   still v h lines order = record {
     bytes = [];
@@ -250,30 +247,6 @@ module _ {R W : Type 0} (remaining : R → Option (List ℕ)) (trace : W → W �
       λ has. has empty,
     );
   }
-
-  module _ (tells : W → StreamLog) (v : WriterState W Frames) where
-    flush_answers : (answer : Result (Unit {0}) Error) → WasFlushed tells trace s.target.writer answer v.writer
-        → FlushAnswers rules s answer (record s { target = v })
-    flush_answers (Ok _) f = (record { empty = f.ok.empty; flushed = f.ok.flushed }, f.ok.met)
-    flush_answers (Err e) f = f.caused
-
-    pub flushes_all : (answer : Result (Unit {0}) Error) → WasFlushed tells trace s.target.writer answer v.writer
-        → Takes [] v → Flushes rules s answer (record s { target = v })
-    flushes_all answer f taken = record {
-      told = refl;
-      ready = record {
-        most = ready.most ∙ sym (ap (λ d. d.max) taken.encoder);
-        whole = ready.whole;
-        open' = ready.open';
-        shows = ready.shows;
-      };
-      closed = λ closed. closed;
-      writes = WritesOn-grows s.target.writer.log.writes v.writer.log.writes f.grows;
-      flushes = FlushesOnce-flush s.target.writer v.writer answer f.steps;
-      moves = record { hands = still v s.held [] refl; takes = taken };
-      lacks = λ lacks. lacks;
-      answers = flush_answers answer f;
-    }
 
   -- the end is known, and the reader isn't asked
   pub asked_ended : s.held ≡ None → s.source.pieces.ended ≡ true → Asks rules s (Ok false) s

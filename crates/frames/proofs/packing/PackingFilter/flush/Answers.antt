@@ -1,4 +1,4 @@
-use Rattle.frames.proofs.PackingCalls.{flushes_all}
+use Rattle.frames.proofs.PackingFlush.{flushes_all}
 use Rattle.frames.proofs.packing.PackingFilter.flush.Goals as goal
 
 pub returns : goal.returns
