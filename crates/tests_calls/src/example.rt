@@ -23,7 +23,7 @@ fn log<W: TellWrite, P: WriterPolicy>(writer: &mut BufWriter<W, P>, entry: &[u8]
 
 // How many bytes stay buffered.
 fn logs<W: TellWrite + Drop>(alloc: Global, to: W) -> io::Result<usize> {
-    let mut writer = writer(alloc, 4, b"ab", to)?;
+    let mut writer = writer(alloc, 16, b"ab", to)?;
     log(&mut writer, b"cdefg\n")?;
     Ok(writer.buf_len())
 }
