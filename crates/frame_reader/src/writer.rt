@@ -1,5 +1,5 @@
 //! The writer of frames.
-ghost use Rattle.std.specs.Prelude.{◌≡◌, ◌+◌, ◌*◌, ◌<◌, ◌≤◌, ◌^◌, [], length, Ok, Err, IfOk, IfErr, IsOk, MatchResult};
+ghost use Rattle.std.specs.Prelude.{◌≡◌, ◌+◌, ◌*◌, ◌<◌, ◌≤◌, ◌^◌, [], length, false, Ok, Err, IfOk, IfErr, IsOk, MatchResult};
 ghost use Rattle.buffer_redux.specs.Block.{Plain};
 ghost use Rattle.buffer_redux.specs.BufWriter.{WasFlushed, WasSent};
 ghost use Rattle.buffer_redux.specs.Unwrapping.{InnerOfFlushed};
@@ -7,15 +7,15 @@ ghost use Rattle.buffer_redux.specs.GrowError.{FitsWithin};
 ghost use Rattle.buffer_redux.specs.MakeError.{growth};
 ghost use Rattle.codec.specs.PieceWriter.{IsPieceWriter, IsOver, IsUnused};
 ghost use Rattle.codec.specs.PieceReader.{room_for};
-ghost use Rattle.codec.specs.WritePiece.{PiecesTaken};
+ghost use Rattle.codec.specs.WritePiece.{PiecesTaken, WritesBuffered};
 ghost use Rattle.frame_reader.specs.Framed.{framed_out};
-ghost use Rattle.frame_reader.specs.WriteFrame.{WritesFrame, piece_refused};
+ghost use Rattle.frame_reader.specs.WriteFrame.{WritesFrame};
 
 use crate::error::WriteFrameError;
 use crate::frame::Frames;
 use buffer_redux::tell::TellWrite;
 use buffer_redux::{Buffer, DEFAULT_BUF_SIZE, GrowError, IntoInnerError, MakeError};
-use codec::{PieceWriter, WritePieceError};
+use codec::PieceWriter;
 use std::alloc::Global;
 use std::io;
 use std::marker::Model;
@@ -175,31 +175,24 @@ impl<W: TellWrite> FrameWriter<W> {
     // a call made in here, which is inlined, that is behind the look at the room.
     #[inline(always)]
     fn write_outlined(&mut self, payload: &[u8]) -> Result<(), WriteFrameError>
+        requires full { WritesBuffered W.trace (framed_out self.old.encoder.max) self.old payload.now (Ok false) self.old }
         ensures { WritesFrame W.trace self.old payload.now result self.new }
     {
         self.write_slowly(payload)
     }
 
-    // Takes the frame in where what is buffered has to be sent before. It stands apart, so that a frame for which there is room is
-    // short in its caller.
+    // Sends all that is buffered, and then takes the frame in. It stands apart, so that a frame for which there is room is short
+    // in its caller.
     #[cold]
     #[inline(never)]
     fn write_slowly(&mut self, payload: &[u8]) -> Result<(), WriteFrameError>
+        requires full { WritesBuffered W.trace (framed_out self.old.encoder.max) self.old payload.now (Ok false) self.old }
         ensures { WritesFrame W.trace self.old payload.now result self.new }
     {
-        match self.pieces.write_piece(payload) {
-            Ok(()) => Ok(()),
-            Err(e) => Err(unwritten(e)),
+        self.send()?;
+        if let Err(len) = self.pieces.write_buffered(payload) {
+            return Err(WriteFrameError::TooLong(len));
         }
-    }
-}
-
-// Why a frame was not taken in.
-pub(crate) fn unwritten(e: WritePieceError<usize>) -> WriteFrameError
-    ensures { piece_refused result ≡ e }
-{
-    match e {
-        WritePieceError::Refused(len) => WriteFrameError::TooLong(len),
-        WritePieceError::Io(e) => WriteFrameError::Io(e),
+        Ok(())
     }
 }

@@ -8,7 +8,7 @@ ghost use Rattle.frame_reader.specs.WriteFrame.{piece_refused};
 
 use crate::error::WriteFrameError;
 use crate::frame::Frames;
-use crate::writer::unwritten;
+use codec::WritePieceError;
 use std::alloc::Global;
 
 /// Payloads that are written and flushed are read again, each of them whole, in order, and no other. An `Io` is want of memory.
@@ -25,5 +25,15 @@ pub fn round_trip(
     match codec::laws::round_trip(alloc, Frames { max }, payloads) {
         Ok(kept) => Ok(kept),
         Err(e) => Err(unwritten(e)),
+    }
+}
+
+// Why a frame was not taken in.
+fn unwritten(e: WritePieceError<usize>) -> WriteFrameError
+    ensures { piece_refused result ≡ e }
+{
+    match e {
+        WritePieceError::Refused(len) => WriteFrameError::TooLong(len),
+        WritePieceError::Io(e) => WriteFrameError::Io(e),
     }
 }
