@@ -1,15 +1,17 @@
--- What calls of the layers below take of a body, and of its stream.
-use Rattle.std.proofs.Common.{◌≡◌, ℕ, ◌+◌, List, [], ◌++◌, length, Option, sym, ap, subst, ◌∙◌, arith, refl, append_assoc, append-nil, length-append}
+-- What calls of the layers below take of a body, and of its stream, and why they fail.
+use Rattle.std.proofs.Common.{◌≡◌, ℕ, ◌+◌, ◌<◌, List, [], ◌++◌, length, Option, Err, inl, inr, sym, ap, subst, ◌∙◌, arith, refl, append_assoc, append-nil, length-append}
 use Rattle.std.proofs.lemmas.List.{append_cancel_left, nil_from_length}
-use Rattle.buffer_redux.specs.Policy.{ReadRules}
-use Rattle.buffer_redux.specs.Unbuffer.{Unbuffered, unbuffered}
+use Rattle.buffer_redux.specs.Policy.{ReadRules, std_read_rules}
+use Rattle.buffer_redux.specs.ReaderLaws.{WantsBytes-std}
+use Rattle.buffer_redux.specs.Unbuffer.{unbuffered}
 use Rattle.buffer_redux.specs.UnbufferLaws.{ReadsAlong-stream}
-use Rattle.chunked.specs.Body.{IsBody}
-use Rattle.chunked.specs.ChunkedReader.{BodyWent, ChunkedState, IsChunkedReader, IsWhole, handed_of}
+use Rattle.buffer_redux.specs.declared.policy.StdPolicy.{StdPolicy}
+use Rattle.chunked.specs.ChunkedReader.{BodyWent, ChunkedState, IsChunkedReader, IsWhole, PayloadAnswers, handed_of}
 use Rattle.chunked.specs.ChunkedReaderLaws.{body_done}
 use Rattle.chunked.specs.Place.{Completes}
-use Rattle.chunked.specs.declared.place.Place.TheVariants.{Line}
-use Rattle.messages.specs.Messages.{Bytes, Chunks, Ends, IsRest, Onward, Rest, Takes}
+use Rattle.chunked.specs.declared.error.ChunkedError.{ChunkedError}
+use Rattle.chunked.specs.declared.error.ChunkedError.TheVariants.{NotChunked, Truncated, Io}
+use Rattle.messages.specs.Messages.{Bytes, Chunks, Ends, Fails, IsRest, NoFault, Onward, Rest, Takes, body_error}
 
 -- some of so many bytes
 pub bytes_onward : (left : ℕ) (wire : List ℕ) (left' : ℕ) → length wire + left' ≡ left
@@ -21,61 +23,21 @@ bytes_onward left wire left' few later payload is =
 pub none_onward : (r : Rest) (wire payload : List ℕ) → IsRest r wire payload → Onward r wire payload (Bytes 0)
 none_onward r wire payload is later more done =
     let none : later ≡ [] = nil_from_length later (omega (arith, done.0)) in
-    subst (λ l. IsRest r (wire ++ l) (payload ++ more)) (sym none)
-    (subst (λ l. IsRest r (wire ++ []) (payload ++ l)) (sym (done.1 ∙ none))
-    (subst (λ l. IsRest r l (payload ++ [])) (sym (append-nil wire))
-    (subst (λ l. IsRest r wire l) (sym (append-nil payload)) is)))
+    subst (λ l. IsRest r l (payload ++ more)) (sym (append-nil wire) ∙ ap (λ l. wire ++ l) (sym none))
+    (subst (IsRest r wire) (sym (append-nil payload) ∙ ap (λ l. payload ++ l) (sym (done.1 ∙ none))) is)
 
--- the rest of a body that ended
-pub ends_of : {S : Type 0} (remaining : S → Option (List ℕ)) (s : Unbuffered S) (r : Rest) (t : Unbuffered S)
-    → (ends : Ends remaining s r t) → Takes remaining s r ends.payload t (Bytes 0)
-ends_of remaining s r t ends = record {
-  wire = ends.wire;
-  went = ends.went;
-  onward = none_onward r ends.wire ends.payload ends.is;
-}
+-- where a body in chunks ended none is left
+pub chunks_done : {S P : Type 0} {t : ChunkedState S P} → IsChunkedReader t → IsWhole t → IsRest (Chunks t.limits t.place) [] []
+chunks_done {S} {P} {t} is whole =
+    subst (λ p. IsRest (Chunks t.limits p) [] []) (sym (body_done t (handed_of t) is whole)) (refl, refl)
 
--- some of a body in chunks
-module _ {S P : Type 0} (remaining : S → Option (List ℕ)) (rules : ReadRules P) (s : ChunkedState S P) (is : IsChunkedReader s)
-    (handed : List ℕ) (t : ChunkedState S P) (is' : IsChunkedReader t) (went : BodyWent remaining rules s handed t) where
-  pub chunks_onward : Onward (Chunks s.limits s.place) went.wire handed (Chunks t.limits t.place)
-  chunks_onward later payload completes =
-      let whole : Completes s.limits Line (t.taken ++ later) (handed_of t ++ payload) =
-      subst (λ l. Completes l Line (t.taken ++ later) (handed_of t ++ payload)) went.limits
-      (is'.leads.onward later payload completes) in
-      let taken : t.taken ++ later ≡ s.taken ++ (went.wire ++ later) =
-      ap (λ l. l ++ later) went.taken ∙ append_assoc s.taken went.wire later in
-      let given : handed_of t ++ payload ≡ handed_of s ++ (handed ++ payload) =
-      ap (λ l. l ++ payload) went.handed ∙ append_assoc (handed_of s) handed payload in
-      let back = is.leads.back (went.wire ++ later) (handed_of s ++ (handed ++ payload))
-      (subst (λ l. Completes s.limits Line l (handed_of s ++ (handed ++ payload))) taken
-      (subst (λ l. Completes s.limits Line (t.taken ++ later) l) given whole)) in
-      subst (λ l. Completes s.limits s.place (went.wire ++ later) l)
-      (sym (append_cancel_left (handed_of s) (handed ++ payload) back.0 back.1)) back.2
-
-  pub chunks_take : Takes remaining (unbuffered s.reader) (Chunks s.limits s.place) handed (unbuffered t.reader)
-      (Chunks t.limits t.place)
-  chunks_take = record {
-    wire = went.wire;
-    went = ReadsAlong-stream remaining rules s.reader went.wire t.reader went.along;
-    onward = chunks_onward;
-  }
-
-  -- where the body ended none is left
-  pub chunks_done : IsWhole t → IsRest (Chunks t.limits t.place) [] []
-  chunks_done whole =
-      subst (λ p. IsRest (Chunks t.limits p) [] []) (sym (body_done t (handed_of t) is' whole)) (refl, refl)
-
--- it ended
-module _ {S P : Type 0} (remaining : S → Option (List ℕ)) (rules : ReadRules P) (s : ChunkedState S P) (is : IsChunkedReader s)
-    (handed : List ℕ) (t : ChunkedState S P) (went : BodyWent remaining rules s handed t)
-    (no_fault : t.reader.log.reads.faults ≡ s.reader.log.reads.faults) where
-  pub chunks_end : IsWhole t → Ends remaining (unbuffered s.reader) (Chunks s.limits s.place) (unbuffered t.reader)
-  chunks_end whole =
-      let body : IsBody s.limits (s.taken ++ went.wire) (handed_of t) =
-      subst (λ l. IsBody s.limits l (handed_of t)) went.taken
-      (subst (λ l. IsBody l t.taken (handed_of t)) went.limits whole) in
-      let back = is.leads.back went.wire (handed_of t) body in
+module _ {S P : Type 0} {remaining : S → Option (List ℕ)} {rules : ReadRules P} {s : ChunkedState S P} (is : IsChunkedReader s)
+    {handed : List ℕ} {t : ChunkedState S P} (went : BodyWent remaining rules s handed t) where
+  -- the rest of it
+  pub chunks_end : IsWhole t → NoFault (unbuffered s.reader) (unbuffered t.reader)
+      → Ends remaining (unbuffered s.reader) (Chunks s.limits s.place) (unbuffered t.reader)
+  chunks_end whole no_fault =
+      let back = is.leads.back went.wire (handed_of t) (rw (← went.taken, ← went.limits) whole) in
       record {
         wire = went.wire;
         payload = back.0;
@@ -83,3 +45,45 @@ module _ {S P : Type 0} (remaining : S → Option (List ℕ)) (rules : ReadRules
         is = back.2;
         no_fault = no_fault;
       }
+
+  -- some of it
+  module _ (is' : IsChunkedReader t) where
+    pub chunks_onward : Onward (Chunks s.limits s.place) went.wire handed (Chunks t.limits t.place)
+    chunks_onward later payload completes =
+        let back = is.leads.back (went.wire ++ later) (handed_of s ++ (handed ++ payload))
+        (rw (
+          ← went.limits,
+          ← append_assoc s.taken went.wire later,
+          ← went.taken,
+          ← append_assoc (handed_of s) handed payload,
+          ← went.handed,
+        ) (is'.leads.onward later payload completes)) in
+        subst (Completes s.limits s.place (went.wire ++ later))
+        (sym (append_cancel_left (handed_of s) (handed ++ payload) back.0 back.1)) back.2
+
+    pub chunks_take : Takes remaining (unbuffered s.reader) (Chunks s.limits s.place) handed (unbuffered t.reader)
+        (Chunks t.limits t.place)
+    chunks_take = record {
+      wire = went.wire;
+      went = ReadsAlong-stream remaining rules s.reader went.wire t.reader went.along;
+      onward = chunks_onward;
+    }
+
+-- why one in chunks doesn't go on is why none completes it
+pub chunks_fail : {S : Type 0} (s t : ChunkedState S StdPolicy) → IsChunkedReader t → 0 < s.reader.block.capacity → (asked : ℕ)
+    (e : ChunkedError) → PayloadAnswers std_read_rules s asked (Err e) t
+    → Fails (unbuffered s.reader) (body_error e) (unbuffered t.reader) (Chunks t.limits t.place)
+chunks_fail s t is room asked (NotChunked why right) answers = (
+  answers.1,
+  λ later payload c.
+      answers.2.none (answers.2.later ++ later) (handed_of t ++ payload)
+      (rw answers.2.next at (is.leads.onward (t.reader.block.bytes ++ later) payload c)),
+)
+chunks_fail s t is room asked (Truncated right) answers = (
+  answers.1,
+  answers.2.dry.dry (WantsBytes-std s.reader.policy) room,
+  answers.2.dry.none,
+  λ payload c. answers.2.none (handed_of t ++ payload) (rw append-nil at (is.leads.onward [] payload c)),
+)
+chunks_fail s t is room asked (Io e) answers =
+    elim answers [ inl fault ↦ fault | inr failed ↦ absurd failed.gave.gave.allowed ]

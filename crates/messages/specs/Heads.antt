@@ -1,5 +1,5 @@
 -- Heads of requests, and what they say of the body.
-use Rattle.std.specs.Prelude.{◌≡◌, ℕ, ◌≤◌, ◌⊎◌, ◌==◌, ◌&&◌, ◌||◌, not, nat_lt, if◌then◌else◌, Bool, true, false, List, [], length, IsTrue, Option, None, Some, Result, Ok, Err}
+use Rattle.std.specs.Prelude.{◌≡◌, ℕ, ◌≤◌, ◌==◌, ◌&&◌, ◌||◌, not, nat_lt, if◌then◌else◌, Bool, true, false, List, [], length, IsTrue, Option, None, Some, Result, Ok}
 use Rattle.codec.specs.declared.header_error.HeaderError.{HeaderError}
 use Rattle.codec.specs.declared.header_error.HeaderError.TheVariants.{Truncated}
 use Rattle.codec.specs.declared.scan.ScanStep.{ScanStep}
@@ -43,19 +43,16 @@ abbrev pub extent_of : Result Framing FramingError → Option Extent
 extent_of (Ok framing.NoBody) = Some (extent.Sized 0)
 extent_of (Ok (framing.Length len)) = Some (extent.Sized len)
 extent_of (Ok framing.Chunked) = Some extent.Chunked
-extent_of (Ok framing.UntilClose) = None
-extent_of (Err e) = None
+extent_of _ = None
 
 -- whether it is the method of a tunnel, or of a request whose answer has no body
 abbrev pub is_connect : MethodKind → Bool
-is_connect kind.Head = false
 is_connect kind.Connect = true
-is_connect kind.Other = false
+is_connect _ = false
 
 abbrev pub is_bare : MethodKind → Bool
 is_bare kind.Head = true
-is_bare kind.Connect = false
-is_bare kind.Other = false
+is_bare _ = false
 
 -- whether another request may follow (RFC 9112, section 9.3)
 abbrev pub keeps : ℕ → KnownFields → Bool
@@ -64,11 +61,6 @@ keeps minor known = not known.close && (nat_lt 0 minor || known.keep_alive)
 -- whether the client waits for a 100 before it sends the body (RFC 9110, section 10.1.1)
 abbrev pub expects : ℕ → KnownFields → Bool
 expects minor known = nat_lt 0 minor && known.expect_continue
-
--- what a head with this method, of this version, with these fields says, of a body that ends so
-abbrev pub said_of : MethodKind → ℕ → KnownFields → Extent → ParsedHead
-said_of method minor known extent =
-    record { extent = extent; bare = is_bare method; keeps = keeps minor known; expects = expects minor known }
 
 -- these bytes are just the head of a request, which says so (RFC 9112, section 6): at most one field says where the body ends, no
 -- tunnel begins behind it, and it has one `Host`, which HTTP/1.0 may leave out
@@ -80,7 +72,9 @@ pub record IsHead (bytes : List ℕ) (said : ParsedHead) : Type 0 where
   pub single : (known_of head.fields).framing_fields ≤ 1
   pub open' : is_connect (method_kind head.method) ≡ false
   pub framed : extent_of (request_framing (method_kind head.method) head.minor (known_of head.fields)) ≡ Some said.extent
-  pub says : said ≡ said_of (method_kind head.method) head.minor (known_of head.fields) said.extent
+  pub bare : said.bare ≡ is_bare (method_kind head.method)
+  pub keeps : said.keeps ≡ keeps head.minor (known_of head.fields)
+  pub expects : said.expects ≡ expects head.minor (known_of head.fields)
 
 -- a head as a piece, lent whole
 pub record IsHeadPiece (bytes payload : List ℕ) : Type 0 where
@@ -90,23 +84,16 @@ pub record IsHeadPiece (bytes payload : List ℕ) : Type 0 where
   pub said : ParsedHead
   pub is : IsHead bytes said
 
--- lines in front are no such head
-pub record IsRefused (bytes : List ℕ) (e : BadHead) : Type 0 where
-  pub text : Begins texts bytes
-  pub not_head : (said : ParsedHead) → ¬ (IsHead text.piece said)
-  pub told : e ≡ Refused
-
--- or they are no lines
-pub record IsNoText (bytes : List ℕ) (e : BadHead) : Type 0 where
-  pub why : HeaderError
-  pub wrong : texts.wrong bytes why
-  pub told : e ≡ Lines why
+-- these are no lines, or lines in front are no such head
+abbrev pub IsNoHead : List ℕ → BadHead → Type 0
+IsNoHead bytes (Lines why) = texts.wrong bytes why
+IsNoHead bytes Refused = (text : Begins texts bytes) × ((said : ParsedHead) → ¬ (IsHead text.piece said))
 
 abbrev pub heads : Grammar BadHead
 heads = record {
   most = 8192;
   piece = IsHeadPiece;
-  wrong = λ bytes e. IsNoText bytes e ⊎ IsRefused bytes e;
+  wrong = IsNoHead;
   last = λ bytes payload. ⊥;
   cut = λ bytes e. e ≡ Lines (Truncated (length bytes));
 }

@@ -1,6 +1,6 @@
 -- Messages, and what contracts see of a reader that stands in one.
 use Rattle.std.specs.Prelude.{◌≡◌, ◌⊎◌, ◌≤◌, ◌<◌, ◌-◌, ◌^◌, ℕ, List, [], ◌∷◌, ◌++◌, length, take, Option, None, Some, Result, Ok, Err}
-use Rattle.buffer_redux.specs.Unbuffer.{StreamWent, Unbuffered}
+use Rattle.buffer_redux.specs.Unbuffer.{StreamWent, Unbuffered, unbuffered}
 use Rattle.chunked.specs.declared.error.ChunkedError.{ChunkedError}
 use Rattle.chunked.specs.declared.error.ChunkedError.TheVariants as chunks
 use Rattle.chunked.specs.declared.limits.Limits.{Limits}
@@ -10,6 +10,8 @@ use Rattle.chunked.specs.Place.{Completes, IsSettled}
 use Rattle.codec.specs.declared.error.NextError.TheVariants as why
 use Rattle.codec.specs.NextPiece.{NextAnswer, NextPiece}
 use Rattle.codec.specs.PieceReader.{ReaderState, left_of}
+use Rattle.messages.specs.declared.body.Source.{Source}
+use Rattle.messages.specs.declared.body.Source.TheVariants as source
 use Rattle.messages.specs.declared.error.BodyError.{BodyError}
 use Rattle.messages.specs.declared.error.BodyError.TheVariants.{Wrong, Truncated, Io as Fault}
 use Rattle.messages.specs.declared.error.FinishError.{FinishError}
@@ -21,7 +23,7 @@ use Rattle.messages.specs.declared.head.Heads.{Heads}
 use Rattle.messages.specs.declared.head.ParsedHead.{ParsedHead}
 use Rattle.messages.specs.declared.requests.Stop.{Stop}
 use Rattle.messages.specs.declared.requests.Stop.TheVariants.{Ended, Bad, Io}
-use Rattle.messages.specs.Heads.{IsHead, heads}
+use Rattle.messages.specs.Heads.{IsHead, IsHeadPiece, heads}
 
 -- what is left of a body: so many bytes, or what completes a chunked one from here
 pub data Rest : Type 0 where
@@ -41,10 +43,7 @@ Onward r wire handed r' = (later payload : List ℕ) → IsRest r' later payload
 pub record GoesOn (r : Rest) (handed bytes : List ℕ) : Type 0 where
   pub rest : Rest
   pub onward : Onward r bytes handed rest
-  pub later : List ℕ
-  pub payload : List ℕ
-  pub some : 0 < length later
-  pub is : IsRest rest later payload
+  pub more : (later : List ℕ) × (payload : List ℕ) × (0 < length later) × IsRest rest later payload
 
 abbrev pub Unended : Rest → List ℕ → Type 0
 Unended r bytes = (handed : List ℕ) × GoesOn r handed bytes
@@ -58,10 +57,8 @@ body_of Chunked = Chunks (record { line = 256; trailers = 4096 }) Line
 pub record IsMessage (bytes head payload : List ℕ) : Type 0 where
   pub wire : List ℕ
   pub equal : bytes ≡ head ++ wire
-  pub text : heads.piece head head
-  pub said : ParsedHead
-  pub is : IsHead head said
-  pub body : IsRest (body_of said.extent) wire payload
+  pub text : IsHeadPiece head head
+  pub body : IsRest (body_of text.said.extent) wire payload
 
 -- a reader in a body: what the stream has left, the head and what that says, and what is left of the body
 pub record InBody (S : Type 0) : Type 0 where
@@ -123,13 +120,10 @@ body_error (chunks.NotChunked name right) = Wrong name
 body_error (chunks.Truncated right) = Truncated
 body_error (chunks.Io e) = Fault e
 
--- why a body wasn't taken to its end, of which this payload was dropped: so, or it is of more pieces than are counted
-abbrev pub FailsBehind : {S : Type 0} → Unbuffered S → List ℕ → BodyError → Unbuffered S → Rest → Type 0
-FailsBehind s handed e t r = Fails s e t r ⊎ (2 ^ 64 - 1 ≤ length handed)
-
--- or it was, and memory was refused for the next head
+-- why a body wasn't finished, of which this payload was dropped: none comes; or it is of more pieces than are counted; or it was
+-- taken to its end, and memory was refused for the next head
 abbrev pub FinishFails : {S : Type 0} → Unbuffered S → List ℕ → FinishError → Unbuffered S → Rest → Type 0
-FinishFails s handed (Body e) t r = FailsBehind s handed e t r
+FinishFails s handed (Body e) t r = Fails s e t r ⊎ (2 ^ 64 - 1 ≤ length handed)
 FinishFails s handed (Memory e) t r = NoFault s t × (r ≡ Bytes 0)
 
 -- all of that was taken, and what stands behind the body is left
@@ -175,11 +169,17 @@ pub record MessagesWent {S : Type 0} (remaining : S → Option (List ℕ)) (s : 
   pub are : AreMessages messages bytes
   pub went : StreamWent remaining s bytes t
 
--- it is cut short: a head, and the beginning of the body that it says; nothing else of the stream was taken
-pub record MessageBegun {S : Type 0} (remaining : S → Option (List ℕ)) (s : Unbuffered S) (b : InBody S) : Type 0 where
-  pub taken : List ℕ
-  pub went : StreamWent remaining s (b.head ++ taken) b.stream
-  pub text : heads.piece b.head b.head
-  pub is : IsHead b.head b.said
-  pub handed : List ℕ
-  pub onward : Onward (body_of b.said.extent) taken handed b.rest
+-- what the stream has left, where this reads the rest of a body
+abbrev pub stream_of : {S : Type 0} → Source S → Unbuffered S
+stream_of (source.Sized reader left) = unbuffered reader
+stream_of (source.Chunked body) = unbuffered body.reader
+
+-- what is left of the body
+abbrev pub rest_of : {S : Type 0} → Source S → Rest
+rest_of (source.Sized reader left) = Bytes left
+rest_of (source.Chunked body) = Chunks body.limits body.place
+
+-- its buffer has some capacity, so that the stream ended where it shows nothing; and a chunk has room for its size
+abbrev pub HasRoom : {S : Type 0} → Source S → Type 0
+HasRoom (source.Sized reader left) = 0 < reader.block.capacity
+HasRoom (source.Chunked body) = (0 < body.reader.block.capacity) × (0 < body.limits.line)

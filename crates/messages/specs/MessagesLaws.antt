@@ -1,11 +1,10 @@
 -- Laws of messages.
-use Rattle.std.specs.Prelude.{◌≡◌, ℕ, List, [], ◌∷◌, ◌++◌, length, take, drop, Option, Some, Ok}
+use Rattle.std.specs.Prelude.{◌≡◌, ℕ, List, [], ◌∷◌, ◌++◌, length, Option, Some, Ok}
 use Rattle.std.proofs.Common.{sym, ap, subst, ◌∙◌, arith, refl, append_assoc, append-nil, inl, inr}
-use Rattle.std.proofs.Math.Seq.{drop-append_seam, take-append_seam}
 use Rattle.std.proofs.lemmas.List.{append_cancel_left}
-use Rattle.buffer_redux.specs.Unbuffer.{StreamWent, Unbuffered, unbuffer_remaining}
-use Rattle.buffer_redux.specs.UnbufferLaws.{StreamWent-front, StreamWent-joins, StreamWent-none}
-use Rattle.chunked.specs.BodyLaws.{IsBody-same}
+use Rattle.buffer_redux.specs.Unbuffer.{StreamWent, Unbuffered}
+use Rattle.buffer_redux.specs.UnbufferLaws.{StreamWent-joins, StreamWent-none}
+use Rattle.chunked.specs.BodyLaws.{IsBody-same, front_same}
 use Rattle.codec.specs.NextPiece.{NextPiece}
 use Rattle.codec.specs.PiecesWentLaws.{PiecesWent-stream}
 use Rattle.codec.specs.PieceReader.{ReaderState, left_of}
@@ -15,48 +14,33 @@ use Rattle.http1.specs.Message.{known_of}
 use Rattle.messages.specs.declared.head.Extent.{Extent}
 use Rattle.messages.specs.declared.head.Extent.TheVariants.{Sized, Chunked}
 use Rattle.messages.specs.declared.head.Heads as head
-use Rattle.messages.specs.declared.head.ParsedHead.{ParsedHead}
-use Rattle.messages.specs.Heads.{IsHead, IsHeadPiece, extent_of, heads, texts}
+use Rattle.messages.specs.Heads.{IsHead, IsHeadPiece, extent_of, heads}
 use Rattle.messages.specs.HeadsLaws.{heads_lawful}
 use Rattle.messages.specs.Messages.{AreMessages, Begun, InBody, InTurn, InsideGoes, IsMessage, IsRest, Message, MessageWent, MessagesWent, Onward, Rest, Takes, body_of}
 
--- of two texts that begin so and have one length
-split : (a b xs ys : List ℕ) → length a ≡ length b → a ++ xs ≡ b ++ ys → (a ≡ b) × (xs ≡ ys)
-split a b xs ys long same = (
-  sym (take-append_seam a xs) ∙ ap (λ l. take (length a) l) same ∙ ap (λ n. take n (b ++ ys)) long ∙ take-append_seam b ys,
-  sym (drop-append_seam a xs) ∙ ap (λ l. drop (length a) l) same ∙ ap (λ n. drop n (b ++ ys)) long ∙ drop-append_seam b ys,
-)
-
--- a head says in one way where the body ends
-pub one_extent : (bytes : List ℕ) (e e' : ParsedHead) → IsHead bytes e → IsHead bytes e' → e.extent ≡ e'.extent
-one_extent bytes e e' is is' =
-    let same = request_unique bytes is.head is'.head [] [] is.reads is'.reads in
-    let both : Some e.extent ≡ Some e'.extent =
-    sym is.framed ∙ ap (λ h. extent_of (request_framing (method_kind h.method) h.minor (known_of h.fields))) same.0 ∙ is'.framed in
-    cc
-
--- and so a body ends in one place
+-- a body ends in one place
 one_body : (e : Extent) (a b p q xs ys : List ℕ) → IsRest (body_of e) a p → IsRest (body_of e) b q → a ++ xs ≡ b ++ ys
     → (a ≡ b) × (p ≡ q) × (xs ≡ ys)
 one_body (Sized n) a b p q xs ys is is' same =
-    let parts = split a b xs ys (is.0 ∙ sym is'.0) same in
+    let parts = front_same a b xs ys (is.0 ∙ sym is'.0) same in
     (parts.0, is.1 ∙ parts.0 ∙ sym is'.1, parts.1)
-one_body Chunked a b p q xs ys is is' same =
-    IsBody-same (record { line = 256; trailers = 4096 }) (record { line = 256; trailers = 4096 }) a b p q xs ys is is' same
+one_body Chunked a b p q xs ys is is' same = IsBody-same _ _ a b p q xs ys is is' same
 
 -- no message begins another
 pub one_message : (a b xs ys h k p q : List ℕ) → IsMessage a h p → IsMessage b k q → a ++ xs ≡ b ++ ys
     → (a ≡ b) × (h ≡ k) × (p ≡ q) × (xs ≡ ys)
 one_message a b xs ys h k p q m n same =
     let cut : h ++ (m.wire ++ xs) ≡ k ++ (n.wire ++ ys) =
-    sym (append_assoc h m.wire xs) ∙ sym (ap (λ l. l ++ xs) m.equal) ∙ same ∙ ap (λ l. l ++ ys) n.equal
-    ∙ append_assoc k n.wire ys in
-    let head : h ≡ k = (heads_lawful.one h k (m.wire ++ xs) (n.wire ++ ys) h k m.text n.text cut).0 in
+    simp append_assoc at (ap (λ l. l ++ xs) (sym m.equal) ∙ same ∙ ap (λ l. l ++ ys) n.equal) in
+    let head = (heads_lawful.one h k (m.wire ++ xs) (n.wire ++ ys) h k m.text n.text cut).0 in
     let behind : m.wire ++ xs ≡ n.wire ++ ys =
     append_cancel_left h (m.wire ++ xs) (n.wire ++ ys) (cut ∙ ap (λ l. l ++ (n.wire ++ ys)) (sym head)) in
-    let extent : m.said.extent ≡ n.said.extent =
-    one_extent h m.said n.said m.is (subst (λ l. IsHead l n.said) (sym head) n.is) in
-    let body = one_body m.said.extent m.wire n.wire p q xs ys m.body
+    let is = subst (λ l. IsHead l n.text.said) (sym head) n.text.is in
+    let says = request_unique h m.text.is.head is.head [] [] m.text.is.reads is.reads in
+    let both = sym m.text.is.framed
+    ∙ ap (λ h. extent_of (request_framing (method_kind h.method) h.minor (known_of h.fields))) says.0 ∙ is.framed in
+    let extent : m.text.said.extent ≡ n.text.said.extent = cc in
+    let body = one_body m.text.said.extent m.wire n.wire p q xs ys m.body
     (subst (λ e. IsRest (body_of e) n.wire q) (sym extent) n.body) behind in
     (m.equal ∙ ap (λ l. l ++ m.wire) head ∙ ap (λ l. k ++ l) body.0 ∙ sym n.equal, head, body.1, body.2)
 
@@ -69,7 +53,7 @@ one_cut [] (n ∷ ns) a b xs ys many is is' same = absurd (omega (arith, many))
 one_cut (m ∷ ms) [] a b xs ys many is is' same = absurd (omega (arith, many))
 one_cut (m ∷ ms) (n ∷ ns) a b xs ys many (f, x, is, are, equal) (k, y, is', are', equal') same =
     let cut : f ++ (x ++ xs) ≡ k ++ (y ++ ys) =
-    sym (append_assoc f x xs) ∙ sym (ap (λ l. l ++ xs) equal) ∙ same ∙ ap (λ l. l ++ ys) equal' ∙ append_assoc k y ys in
+    simp append_assoc at (ap (λ l. l ++ xs) (sym equal) ∙ same ∙ ap (λ l. l ++ ys) equal') in
     let first = one_message f k (x ++ xs) (y ++ ys) m.0 n.0 m.1 n.1 is is' cut in
     let later = one_cut ms ns x y xs ys (omega (arith, many)) are are' first.3 in
     let pair : m ≡ n = ap (λ l. (l, m.1)) first.1 ∙ ap (λ l. (n.0, l)) first.2 in
@@ -88,32 +72,21 @@ InTurn-joins Is (m ∷ ms) ns a b (f, more, one, is, equal) are =
 -- what goes on behind what was taken
 pub Onward-joins : (r q u : Rest) (a b h k : List ℕ) → Onward r a h q → Onward q b k u → Onward r (a ++ b) (h ++ k) u
 Onward-joins r q u a b h k first second later payload is =
-    subst (λ l. IsRest r l ((h ++ k) ++ payload)) (sym (append_assoc a b later))
-    (subst (λ l. IsRest r (a ++ (b ++ later)) l) (sym (append_assoc h k payload))
-    (first (b ++ later) (k ++ payload) (second later payload is)))
+    simp append_assoc (first (b ++ later) (k ++ payload) (second later payload is))
 
 module _ {S : Type 0} (remaining : S → Option (List ℕ)) where
   -- a head that was handed out
   pub lent : (s t : ReaderState S head.Heads) (bytes : List ℕ) (next : NextPiece remaining heads s (Ok (Some bytes)) t)
       → (next.bytes ≡ bytes) × IsHeadPiece bytes bytes
   lent s t bytes next =
-      let piece : IsHeadPiece next.bytes bytes = elim next.answers.1 [ inl is ↦ is.0 | inr last ↦ absurd last.0 ] in (
-        sym piece.same,
-        record {
-          same = refl;
-          none = piece.none;
-          text = subst (λ l. texts.piece l piece.none) (sym piece.same) piece.text;
-          said = piece.said;
-          is = subst (λ l. IsHead l piece.said) (sym piece.same) piece.is;
-        },
-      )
+      let piece : IsHeadPiece next.bytes bytes = elim next.answers.1 [ inl is ↦ is.0 | inr last ↦ absurd last.0 ] in
+      (sym piece.same, subst (λ l. IsHeadPiece l bytes) (sym piece.same) piece)
 
   pub Begun-went : (s : ReaderState S head.Heads) (b : InBody S) → Begun remaining s b
       → StreamWent remaining (left_of s) b.head b.stream
   Begun-went s b begun =
-      subst (λ l. StreamWent remaining (left_of s) l b.stream) (lent s begun.behind b.head begun.next).0
-      (subst (λ u. StreamWent remaining (left_of s) begun.next.bytes u) (sym begun.stream)
-      (PiecesWent-stream remaining heads.most s begun.behind begun.next.bytes begun.next.went))
+      rw (begun.stream, ← (lent s begun.behind b.head begun.next).0)
+      (PiecesWent-stream remaining heads.most s begun.behind begun.next.bytes begun.next.went)
 
   -- calls in a body go on
   pub Takes-none : (s : Unbuffered S) (r : Rest) → Takes remaining s r [] s r
@@ -150,15 +123,10 @@ module _ {S : Type 0} (remaining : S → Option (List ℕ)) where
     is = record {
       wire = takes.wire ++ wire;
       equal = refl;
-      text = (lent s begun.behind b.head begun.next).1;
-      said = b.said;
-      is = begun.is;
+      text = record (lent s begun.behind b.head begun.next).1 { said = b.said; is = begun.is };
       body = subst (λ r. IsRest r (takes.wire ++ wire) (handed ++ payload)) begun.rest (takes.onward wire payload is);
     };
   }
-
-  pub MessagesWent-none : (s : Unbuffered S) → MessagesWent remaining s [] s
-  MessagesWent-none s = record { bytes = []; are = refl; went = StreamWent-none remaining s }
 
   pub MessagesWent-more : (s m t : Unbuffered S) (ms : List Message) (h p : List ℕ) → MessagesWent remaining s ms m
       → MessageWent remaining m h p t → MessagesWent remaining s (ms ++ (h, p) ∷ []) t
@@ -168,12 +136,3 @@ module _ {S : Type 0} (remaining : S → Option (List ℕ)) where
         (InTurn-one (λ m first. IsMessage first m.0 m.1) (h, p) one.bytes one.is);
     went = StreamWent-joins remaining s m t before.bytes one.bytes before.went one.went;
   }
-
-  -- of a stream that is known, the messages that went are its first, and what follows them is left
-  pub MessagesWent-known : (s t : Unbuffered S) (ms ns : List Message) (text behind : List ℕ) → MessagesWent remaining s ms t
-      → unbuffer_remaining remaining s ≡ Some (text ++ behind) → AreMessages ns text → length ms ≡ length ns
-      → (ms ≡ ns) × (unbuffer_remaining remaining t ≡ Some behind)
-  MessagesWent-known s t ms ns text behind went known are many =
-      let left = StreamWent-front remaining s t went.bytes (text ++ behind) went.went known in
-      let same = one_cut ms ns went.bytes text left.0 behind many went.are are (sym left.2) in
-      (same.0, left.1 ∙ ap (λ l. Some l) same.1)

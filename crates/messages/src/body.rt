@@ -5,8 +5,7 @@ ghost use Rattle.buffer_redux.specs.BufReader.{ReadsAlong};
 ghost use Rattle.buffer_redux.specs.Policy.{std_read_rules};
 ghost use Rattle.buffer_redux.specs.Unbuffer.{unbuffered};
 ghost use Rattle.codec.specs.PieceReader.{left_of};
-ghost use Rattle.messages.specs.Messages.{Bytes, Chunks, Ends, Fails, FailsBehind, FinishFails, GoesOn, InsideGoes, IsReady, IsRest, NoFault, Takes, Unended, begun, handed_out};
-ghost use Rattle.messages.specs.Source.{HasRoom, rest_of, stream_of};
+ghost use Rattle.messages.specs.Messages.{Bytes, Chunks, Ends, Fails, FinishFails, GoesOn, HasRoom, InsideGoes, IsReady, IsRest, NoFault, Takes, Unended, begun, handed_out, rest_of, stream_of};
 
 use crate::error::{BodyError, FinishError, unread};
 use crate::head::{Extent, Heads, ParsedHead};
@@ -44,8 +43,7 @@ pub struct Body<R: Tell> {
 
 impl<R: Tell> Model for Body<R> {
     ghost use Rattle.std.specs.Prelude.{◌≤◌};
-    ghost use Rattle.messages.specs.Messages.{InBody};
-    ghost use Rattle.messages.specs.Source.{HasRoom, rest_of, stream_of};
+    ghost use Rattle.messages.specs.Messages.{HasRoom, InBody, rest_of, stream_of};
 
     ghost Value = { InBody R };
 
@@ -97,7 +95,7 @@ impl<R: TellRead> Body<R> {
     /// Hands out payload, at least a byte unless the body ended or the slice is empty. After an `Io` the call can be made again;
     /// what is wrong, or missing, is so at each further call.
     ///
-    /// The stream is asked only where no payload is buffered and the body goes on behind all that is: for no byte behind its last.
+    /// The stream is asked only where no payload is buffered and the body goes on behind all that is: for no byte behind it.
     pub fn read(&mut self, out: &mut [u8]) -> Result<usize, BodyError>
         ensures bound { IfOk result (λ n. n ≤ length out.new) }
         ensures goes { InsideGoes R.remaining self.old (handed_out out.new result) self.new }
@@ -113,8 +111,8 @@ impl<R: TellRead> Body<R> {
         }
     }
 
-    /// Goes on to the next head: takes what is left of the body, and drops its payload. The stream is asked for no byte behind the
-    /// body. An `Err` hands the reader back, in the body still.
+    /// Goes on to the next head: takes what is left of the body, and drops its payload. The stream is asked for no byte behind
+    /// it. An `Err` hands the reader back, in the body still.
     pub fn finish(self) -> Result<Requests<R>, (Self, FinishError)>
         ensures ends { MatchResult result (λ next. Ends R.remaining self.stream self.rest (left_of next))
             (λ e. (handed : List ℕ) × InsideGoes R.remaining self handed e.0
@@ -219,7 +217,7 @@ fn end_of<R: TellRead>(source: Source<R>) -> Result<BufReader<R>, (Source<R>, Bo
         (λ reader. Ends R.remaining (stream_of source) (rest_of source) (unbuffered reader))
         (λ e. (handed : List ℕ)
         × Takes R.remaining (stream_of source) (rest_of source) handed (stream_of e.0) (rest_of e.0)
-        × FailsBehind (stream_of source) handed e.1 (stream_of e.0) (rest_of e.0)) }
+        × FinishFails (stream_of source) handed (FinishError.Body e.1) (stream_of e.0) (rest_of e.0)) }
     ensures asked { MatchResult result
         (λ reader. AskedWhere (Unended (rest_of source)) (stream_of source) (unbuffered reader))
         (λ e. AskedWhere (Unended (rest_of source)) (stream_of source) (stream_of e.0)) }
@@ -242,7 +240,7 @@ fn finish_chunked<R: TellRead>(
         (λ reader. Ends R.remaining (unbuffered body.reader) (Chunks body.limits body.place) (unbuffered reader))
         (λ e. (handed : List ℕ) × Takes R.remaining (unbuffered body.reader) (Chunks body.limits body.place) handed
         (stream_of e.0) (rest_of e.0)
-        × FailsBehind (unbuffered body.reader) handed e.1 (stream_of e.0) (rest_of e.0)) }
+        × FinishFails (unbuffered body.reader) handed (FinishError.Body e.1) (stream_of e.0) (rest_of e.0)) }
     ensures asked { MatchResult result
         (λ reader. AskedWhere (Unended (Chunks body.limits body.place)) (unbuffered body.reader) (unbuffered reader))
         (λ e. AskedWhere (Unended (Chunks body.limits body.place)) (unbuffered body.reader) (stream_of e.0)) }

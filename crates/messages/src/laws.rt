@@ -1,10 +1,10 @@
 //! Laws, each as the contract of a function.
-ghost use Rattle.std.specs.Prelude.{◌≡◌, ℕ, List, ◌∷◌, [], ◌++◌, length, IfErr, IfOk, Some};
+ghost use Rattle.std.specs.Prelude.{◌≡◌, ℕ, ◌<◌, List, ◌∷◌, [], ◌++◌, length, IfErr, IfOk, Some};
 ghost use Rattle.buffer_redux.specs.Unbuffer.{Unbuffered, unbuffer_remaining};
 ghost use Rattle.codec.specs.PieceReader.{ReaderState, left_of};
 ghost use Rattle.messages.specs.declared.head.Heads as head;
 ghost use Rattle.messages.specs.Messages.{AreMessages, Begun, Ends, InBody, Message, MessageWent, MessagesWent, Takes};
-ghost use Rattle.messages.specs.Passing.{StopsBehind, StopsIn};
+ghost use Rattle.messages.specs.Passing.{StopsIn};
 
 use crate::body::Body;
 use crate::error::FinishError;
@@ -49,7 +49,9 @@ pub enum Stopped<R: Tell> {
 pub fn pass<R: TellRead>(requests: Requests<R>, count: usize) -> Result<Requests<R>, Stopped<R>>
     ensures passed { IfOk result (λ next. (messages : List Message) × (length messages ≡ count)
         × MessagesWent R.remaining (left_of requests) messages (left_of next)) }
-    ensures stopped { IfErr result (StopsBehind R.remaining (left_of requests) count) }
+    ensures stopped { IfErr result (λ stopped. (messages : List Message) × (between : ReaderState R head.Heads)
+        × (length messages < count) × MessagesWent R.remaining (left_of requests) messages (left_of between)
+        × StopsIn R.remaining between stopped) }
 {
     let mut next = requests;
     for _ in 0..count {
@@ -67,7 +69,7 @@ pub fn pass<R: TellRead>(requests: Requests<R>, count: usize) -> Result<Requests
 fn pass_one<R: TellRead>(requests: Requests<R>) -> Result<Requests<R>, Stopped<R>>
     ensures passed { IfOk result (λ next. (head : List ℕ) × (payload : List ℕ)
         × MessageWent R.remaining (left_of requests) head payload (left_of next)) }
-    ensures stopped { IfErr result (StopsIn R.remaining (left_of requests)) }
+    ensures stopped { IfErr result (StopsIn R.remaining requests) }
 {
     match requests.next() {
         Ok(body) => match body.finish() {

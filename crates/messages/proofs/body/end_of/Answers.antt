@@ -11,8 +11,8 @@ returns-in-Err-clause-ends g c =
       dropped.0,
       record {
         wire = dropped.0;
-        went = ReadsAlong-stream g.R.TellRead.remaining std_read_rules c.in-Sized.reader dropped.0 c.skip.new.reader dropped.1;
-        onward = bytes_onward c.in-Sized.left dropped.0 c.skip.new.left dropped.2;
+        went = ReadsAlong-stream g.R.TellRead.remaining std_read_rules _ dropped.0 _ dropped.1;
+        onward = bytes_onward _ dropped.0 _ dropped.2;
       },
       inl c.in-Err.ensures.fails,
     )

@@ -1,63 +1,48 @@
-use Rattle.std.proofs.Common.{◌≡◌, ◌<◌, [], length, subst, sym, take, arith}
-use Rattle.buffer_redux.specs.Policy.{std_read_rules}
+use Rattle.std.proofs.Common.{◌≡◌, length, arith}
 use Rattle.messages.proofs.Asking.{chunks_asked, chunks_idle}
-use Rattle.messages.proofs.Failing.{chunks_fail}
-use Rattle.messages.proofs.Going.{chunks_done, chunks_take}
+use Rattle.messages.proofs.Going.{chunks_done, chunks_fail, chunks_take}
 use Rattle.messages.proofs.body.read_chunked.Goals as goal
 
 pub returns-in-Ok-clause-room : goal.returns-in-Ok-clause-room
-returns-in-Ok-clause-room g c = (
-  omega (arith, c.requires.0, c.in-Ok.ensures.reads.went.along.capacity),
-  subst (λ l. 0 < l.line) (sym c.in-Ok.ensures.reads.went.limits) c.requires.1,
-)
-
-pub returns-in-Ok-clause-asked : goal.returns-in-Ok-clause-asked
-returns-in-Ok-clause-asked g c =
-    chunks_asked g.R.TellRead.remaining c.args.body.now c.get_ref.ensures.whole c.requires.1 c.read_payload.new.self _ _
-    c.in-Ok.ensures.reads
-
-pub returns-in-Ok-clause-idle : goal.returns-in-Ok-clause-idle
-returns-in-Ok-clause-idle g c =
-    chunks_idle g.R.TellRead.remaining c.args.body.now c.get_ref.ensures.whole c.requires.1 c.read_payload.new.self _ _
-    c.in-Ok.ensures.reads
-
-pub returns-in-Err-clause-asked : goal.returns-in-Err-clause-asked
-returns-in-Err-clause-asked g c =
-    chunks_asked g.R.TellRead.remaining c.args.body.now c.get_ref.ensures.whole c.requires.1 c.read_payload.new.self _ _
-    c.in-Err.ensures.reads
-
-pub returns-in-Err-clause-idle : goal.returns-in-Err-clause-idle
-returns-in-Err-clause-idle g c =
-    chunks_idle g.R.TellRead.remaining c.args.body.now c.get_ref.ensures.whole c.requires.1 c.read_payload.new.self _ _
-    c.in-Err.ensures.reads
+returns-in-Ok-clause-room g c =
+    let went = c.in-Ok.ensures.reads.went in
+    (omega (arith, c.requires.0, went.along.capacity), rw went.limits c.requires.1)
 
 pub returns-in-Ok-clause-takes : goal.returns-in-Ok-clause-takes
 returns-in-Ok-clause-takes g c =
     let reads = c.in-Ok.ensures.reads in
-    chunks_take g.R.TellRead.remaining std_read_rules c.args.body.now c.get_ref.ensures.whole
-    (take c.in-Ok.count c.read_payload.new.out) c.read_payload.new.self reads.whole reads.went
+    chunks_take c.get_ref.ensures.whole reads.went reads.whole
 
 pub returns-in-Ok-clause-ended : goal.returns-in-Ok-clause-ended
 returns-in-Ok-clause-ended g c = λ none some.
     let reads = c.in-Ok.ensures.reads in
     let zero : c.in-Ok.count ≡ 0 = cc in
-    chunks_done g.R.TellRead.remaining std_read_rules c.args.body.now c.get_ref.ensures.whole
-    (take c.in-Ok.count c.read_payload.new.out) c.read_payload.new.self reads.whole reads.went (reads.answers.2 zero some)
+    chunks_done reads.whole (reads.answers.2 zero some)
+
+pub returns-in-Ok-clause-asked : goal.returns-in-Ok-clause-asked
+returns-in-Ok-clause-asked g c = chunks_asked c.get_ref.ensures.whole c.requires.1 c.in-Ok.ensures.reads
+
+pub returns-in-Ok-clause-idle : goal.returns-in-Ok-clause-idle
+returns-in-Ok-clause-idle g c = chunks_idle c.get_ref.ensures.whole c.requires.1 c.in-Ok.ensures.reads
 
 pub returns-in-Err-clause-room : goal.returns-in-Err-clause-room
-returns-in-Err-clause-room g c = (
-  omega (arith, c.requires.0, c.in-Err.ensures.reads.went.along.capacity),
-  subst (λ l. 0 < l.line) (sym c.in-Err.ensures.reads.went.limits) c.requires.1,
-)
+returns-in-Err-clause-room g c =
+    let went = c.in-Err.ensures.reads.went in
+    (omega (arith, c.requires.0, went.along.capacity), rw went.limits c.requires.1)
 
 pub returns-in-Err-clause-takes : goal.returns-in-Err-clause-takes
 returns-in-Err-clause-takes g c =
     let reads = c.in-Err.ensures.reads in
-    chunks_take g.R.TellRead.remaining std_read_rules c.args.body.now c.get_ref.ensures.whole [] c.read_payload.new.self
-    reads.whole reads.went
+    chunks_take c.get_ref.ensures.whole reads.went reads.whole
 
 pub returns-in-Err-clause-fails : goal.returns-in-Err-clause-fails
 returns-in-Err-clause-fails g c =
     let reads = c.in-Err.ensures.reads in
     rw c.unread.ensures (chunks_fail c.args.body.now c.read_payload.new.self reads.whole c.requires.0
     (length c.read_payload.new.out) c.in-Err.e reads.answers)
+
+pub returns-in-Err-clause-asked : goal.returns-in-Err-clause-asked
+returns-in-Err-clause-asked g c = chunks_asked c.get_ref.ensures.whole c.requires.1 c.in-Err.ensures.reads
+
+pub returns-in-Err-clause-idle : goal.returns-in-Err-clause-idle
+returns-in-Err-clause-idle g c = chunks_idle c.get_ref.ensures.whole c.requires.1 c.in-Err.ensures.reads

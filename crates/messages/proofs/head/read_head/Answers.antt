@@ -1,30 +1,48 @@
-use Rattle.std.proofs.Common.{◌≡◌, ◌∙◌, length, sym, ap, subst, arith, refl, rules}
-use Rattle.http1.specs.Framing.{method_kind, request_framing}
-use Rattle.messages.specs.Heads.{IsHead, extent_of, is_bare, is_connect, said_of}
-use Rattle.messages.proofs.Parsing.{is_head}
+use Rattle.std.proofs.Common.{◌≡◌, ◌∙◌, length, take, drop, IsTrue, sym, ap, subst, arith, rules}
+use Rattle.std.proofs.lemmas.List.{length-drop, length-map, length-take-le, nil_from_length}
+use Rattle.http1.specs.Fields.{known_fields}
+use Rattle.http1.specs.Framing.{method_kind}
+use Rattle.http1.specs.Message.{has_one_host, known_of}
+use Rattle.httparse.specs.Grammar.{ReadsRequest}
+use Rattle.httparse.specs.Spans.{header_bytes, name_and_value}
+use Rattle.messages.specs.Heads.{expects, extent_of, is_bare, is_connect, keeps}
 use Rattle.messages.proofs.head.read_head.Goals as goal
 
 pub returns-in-Some-clause-some : goal.returns-in-Some-clause-some
 returns-in-Some-clause-some c =
+    let bytes = c.args.head.now in
+    let spans = c.in-Ok-Complete.spans in
+    let headers = c.parse_request.new.headers in
     let found = rw c.in-Ok-Complete.field-0-is at c.in-Ok-Complete.ensures.complete in
     let within = rw c.in-Ok-Complete.field-0-is at c.in-Ok-Complete.ensures.within in
-    let spans = c.in-Ok-Complete.spans in
+    let room : length headers ≡ 64 = search rules in
+    let h = found.0 in
     let known = c.from_spans-known.result in
-    let room : length c.parse_request.new.headers ≡ 64 = search rules in
-    let method = c.of.result.now in
-    let extent = c.in-Some.extent in
-    let kind : c.of-method.result ≡ method_kind method = c.of-method.ensures in
-    let bare : c.is_bare.result ≡ is_bare (method_kind method) = c.is_bare.ensures ∙ ap is_bare kind in
-    let says : said_of (method_kind method) spans.version known extent ≡ record {
-      extent = extent;
-      bare = c.is_bare.result;
-      keeps = c.keeps.result;
-      expects = c.expects.result;
-    } = rw (bare, c.keeps.ensures, c.expects.ensures) refl in
-    subst (λ x. IsHead c.args.head.now x) says
-    (is_head c.args.head.now c.parse_request.new.headers spans found.0 found.1 (omega (arith, c.if-spans-head.false))
-    known c.from_spans-known.ensures method (c.of.ensures ∙ found.1.method) extent
-    within room (omega (arith, c.if-known-gt1.false)) (search rules)
-    (sym (ap is_connect kind) ∙ sym c.is_connect.ensures ∙ c.if-is_connect.false)
-    (sym (c.extent_of.ensures ∙ ap extent_of (c.request_framing.ensures
-    ∙ ap (λ m. request_framing m spans.version known) kind)) ∙ c.in-Some.is))
+    let fields : known ≡ known_of h.fields = c.from_spans-known.ensures ∙ ap known_fields found.1.fields in
+    let minor : spans.version ≡ h.minor = found.1.version in
+    let kind : c.of-method.result ≡ method_kind h.method =
+    c.of-method.ensures ∙ ap method_kind (c.of.ensures ∙ found.1.method) in
+    let host : IsTrue (has_one_host spans.version known) = search rules in
+    record {
+      head = h;
+      reads = subst (ReadsRequest bytes h)
+          (nil_from_length (drop spans.len bytes) (omega (arith, c.if-spans-head.false, length-drop spans.len bytes)))
+          found.1.reads;
+      few = omega (
+        arith,
+        room,
+        within.section.count_fits,
+        ap length found.1.fields,
+        length-map (take spans.headers headers) (header_bytes bytes),
+        length-map h.fields name_and_value,
+        length-take-le spans.headers headers within.section.count_fits,
+      );
+      host = subst (λ k. IsTrue (has_one_host h.minor k)) fields (subst (λ n. IsTrue (has_one_host n known)) minor host);
+      single = omega (arith, c.if-known-gt1.false, ap (λ k. k.framing_fields) fields);
+      open' = sym (ap is_connect kind) ∙ sym c.is_connect.ensures ∙ c.if-is_connect.false;
+      framed = rw (← fields, ← minor, ← kind)
+          (sym (c.extent_of.ensures ∙ ap extent_of c.request_framing.ensures) ∙ c.in-Some.is);
+      bare = c.is_bare.ensures ∙ ap is_bare kind;
+      keeps = c.keeps.ensures ∙ ap (λ n. keeps n known) minor ∙ ap (keeps h.minor) fields;
+      expects = c.expects.ensures ∙ ap (λ n. expects n known) minor ∙ ap (expects h.minor) fields;
+    }

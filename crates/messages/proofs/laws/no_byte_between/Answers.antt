@@ -1,5 +1,7 @@
+use Rattle.std.proofs.Common.{◌++◌, Some, ap, sym, ◌∙◌}
+use Rattle.buffer_redux.specs.UnbufferLaws.{StreamWent-front}
 use Rattle.codec.specs.PieceReader.{left_of}
-use Rattle.messages.specs.MessagesLaws.{MessageWent-of, MessagesWent-known, MessagesWent-more}
+use Rattle.messages.specs.MessagesLaws.{MessageWent-of, MessagesWent-more, one_cut}
 use Rattle.messages.proofs.laws.no_byte_between.Goals as goal
 
 pub returns-clause-one : goal.returns-clause-one
@@ -12,5 +14,7 @@ returns-clause-many g c = λ s m messages head payload.
     MessagesWent-more g.R.TellRead.remaining s m (left_of c.args.requests.now) messages head payload
 
 pub returns-clause-known : goal.returns-clause-known
-returns-clause-known g c = λ s messages others text behind.
-    MessagesWent-known g.R.TellRead.remaining s (left_of c.args.requests.now) messages others text behind
+returns-clause-known g c = λ s messages others text behind went known are many.
+    let left = StreamWent-front g.R.TellRead.remaining s (left_of c.args.requests.now) went.bytes (text ++ behind) went.went known in
+    let same = one_cut messages others went.bytes text left.0 behind many went.are are (sym left.2) in
+    (same.0, left.1 ∙ ap (λ l. Some l) same.1)

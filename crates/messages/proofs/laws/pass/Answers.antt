@@ -1,13 +1,14 @@
 use Rattle.std.proofs.Common.{[], ◌∷◌, ◌++◌, arith, length-append, refl}
+use Rattle.buffer_redux.specs.UnbufferLaws.{StreamWent-none}
 use Rattle.codec.specs.PieceReader.{left_of}
-use Rattle.messages.specs.MessagesLaws.{MessagesWent-more, MessagesWent-none}
+use Rattle.messages.specs.MessagesLaws.{MessagesWent-more}
 use Rattle.messages.proofs.laws.pass.Goals as goal
 
 pub loop-init : goal.loop-init
 loop-init g c = record {
   messages = [];
   many = refl;
-  went = MessagesWent-none g.R.TellRead.remaining (left_of c.args.requests);
+  went = record { bytes = []; are = refl; went = StreamWent-none g.R.TellRead.remaining (left_of c.args.requests) };
 }
 
 pub loop-preserved : goal.loop-preserved
@@ -24,10 +25,4 @@ loop-preserved g c =
 pub returns-in-Err-clause-stopped : goal.returns-in-Err-clause-stopped
 returns-in-Err-clause-stopped g c =
     let before = c.loop.invariant in
-    record {
-      messages = before.messages;
-      between = left_of c.loop.next;
-      fewer = omega (arith, before.many, c.loop-test.true);
-      went = before.went;
-      stops = c.in-Err.ensures.stopped;
-    }
+    (before.messages, c.loop.next, omega (arith, before.many, c.loop-test.true), before.went, c.in-Err.ensures.stopped)

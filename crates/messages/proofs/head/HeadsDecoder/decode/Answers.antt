@@ -1,10 +1,33 @@
-use Rattle.messages.specs.HeadsLaws.{lacks_head}
-use Rattle.messages.proofs.Deciding.{refused}
+use Rattle.std.proofs.Common.{ℕ, List, ◌++◌, drop, sym, take}
+use Rattle.std.proofs.lemmas.List.{take-append-drop}
+use Rattle.codec.specs.Decoding.{bytes_at}
+use Rattle.codec.specs.Grammar.{Lacks}
+use Rattle.messages.specs.declared.head.BadHead.TheVariants.{Lines, Refused}
+use Rattle.messages.specs.Heads.{IsNoHead, heads, texts}
 use Rattle.messages.proofs.head.HeadsDecoder.decode.Goals as goal
 
+-- what settles nothing of lines settles nothing of heads
+lacks_head : (n : ℕ) (bytes : List ℕ) → Lacks texts n bytes → Lacks heads n bytes
+lacks_head n bytes lacks more few = let still = lacks more few in record {
+  no_piece = λ b. still.no_piece
+      (record { piece = b.piece; payload = b.is.none; more = b.more; is = b.is.text; equal = b.equal });
+  not_wrong = λ e. elim e as (λ e. ¬ (IsNoHead (bytes ++ more) e)) [
+    | Lines why ↦ still.not_wrong why
+    | Refused ↦ λ refused. still.no_piece refused.0
+  ];
+}
+
 pub returns-in-None : goal.returns-in-None
-returns-in-None c =
-    refused c.args.bytes.now c.in-Piece.field-0 c.in-Piece.used c.in-Piece.ensures c.in-None.ensures.none
+returns-in-None c = (
+  record {
+    piece = take c.in-Piece.used c.args.bytes.now;
+    payload = bytes_at c.in-Piece.field-0 c.args.bytes.now;
+    more = drop c.in-Piece.used c.args.bytes.now;
+    is = c.in-Piece.ensures.is;
+    equal = sym (take-append-drop c.in-Piece.used c.args.bytes.now);
+  },
+  c.in-None.ensures.none,
+)
 
 pub returns-in-More : goal.returns-in-More
 returns-in-More c =
