@@ -1,17 +1,18 @@
 -- What calls of the layers below take of a body, and of its stream, and why they fail.
 use Rattle.std.proofs.Common.{◌≡◌, ℕ, ◌+◌, ◌<◌, List, [], ◌++◌, length, Option, Err, inl, inr, sym, ap, subst, ◌∙◌, arith, refl, append_assoc, append-nil, length-append}
+use Rattle.std.specs.IoError.{error_kind}
 use Rattle.std.proofs.lemmas.List.{append_cancel_left, nil_from_length}
 use Rattle.buffer_redux.specs.Policy.{ReadRules, std_read_rules}
 use Rattle.buffer_redux.specs.ReaderLaws.{WantsBytes-std}
 use Rattle.buffer_redux.specs.Unbuffer.{unbuffered}
 use Rattle.buffer_redux.specs.UnbufferLaws.{ReadsAlong-stream}
 use Rattle.buffer_redux.specs.declared.policy.StdPolicy.{StdPolicy}
-use Rattle.chunked.specs.ChunkedReader.{BodyWent, ChunkedState, IsChunkedReader, IsWhole, PayloadAnswers, handed_of}
+use Rattle.chunked.specs.ChunkedReader.{BodyWent, ChunkedState, DropsTooMany, IsChunkedReader, IsWhole, PayloadAnswers, handed_of}
 use Rattle.chunked.specs.ChunkedReaderLaws.{body_done}
 use Rattle.chunked.specs.Place.{Completes}
 use Rattle.chunked.specs.declared.error.ChunkedError.{ChunkedError}
 use Rattle.chunked.specs.declared.error.ChunkedError.TheVariants.{NotChunked, Truncated, Io}
-use Rattle.messages.specs.Messages.{Bytes, Chunks, Ends, Fails, IsRest, NoFault, Onward, Rest, Takes, body_error}
+use Rattle.messages.specs.Messages.{Bytes, Chunks, Ends, Fails, IsRest, NoFault, Onward, Rest, Takes, TooMany, body_error}
 
 -- some of so many bytes
 pub bytes_onward : (left : ℕ) (wire : List ℕ) (left' : ℕ) → length wire + left' ≡ left
@@ -87,3 +88,11 @@ chunks_fail s t is room asked (Truncated right) answers = (
 )
 chunks_fail s t is room asked (Io e) answers =
     elim answers [ inl fault ↦ fault | inr failed ↦ absurd failed.gave.gave.allowed ]
+
+-- or it is of more pieces than are counted
+pub counts_many : (handed : List ℕ) (e : ChunkedError) → DropsTooMany handed (Err e) → TooMany handed (body_error e)
+counts_many handed (Io e) many =
+    let same : e ≡ many.error = (let is = many.answers in cc) in
+    (ap error_kind same ∙ many.kind, many.many)
+counts_many handed (NotChunked why right) many = absurd (let odd = many.answers in cc)
+counts_many handed (Truncated right) many = absurd (let odd = many.answers in cc)

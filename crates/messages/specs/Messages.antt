@@ -1,5 +1,7 @@
 -- Messages, and what contracts see of a reader that stands in one.
 use Rattle.std.specs.Prelude.{◌≡◌, ◌⊎◌, ◌≤◌, ◌<◌, ◌-◌, ◌^◌, ℕ, List, [], ◌∷◌, ◌++◌, length, take, Option, None, Some, Result, Ok, Err}
+use Rattle.std.specs.IoError.{error_kind}
+use Rattle.std.specs.declared.io.ErrorKind.TheVariants.{Other}
 use Rattle.buffer_redux.specs.Unbuffer.{StreamWent, Unbuffered, unbuffered}
 use Rattle.chunked.specs.declared.error.ChunkedError.{ChunkedError}
 use Rattle.chunked.specs.declared.error.ChunkedError.TheVariants as chunks
@@ -120,10 +122,16 @@ body_error (chunks.NotChunked name right) = Wrong name
 body_error (chunks.Truncated right) = Truncated
 body_error (chunks.Io e) = Fault e
 
+-- a body of which this was dropped is of more pieces than are counted
+abbrev pub TooMany : List ℕ → BodyError → Type 0
+TooMany handed (Fault e) = (error_kind e ≡ Other) × (2 ^ 64 - 1 ≤ length handed)
+TooMany handed (Wrong name) = ⊥
+TooMany handed Truncated = ⊥
+
 -- why a body wasn't finished, of which this payload was dropped: none comes; or it is of more pieces than are counted; or it was
 -- taken to its end, and memory was refused for the next head
 abbrev pub FinishFails : {S : Type 0} → Unbuffered S → List ℕ → FinishError → Unbuffered S → Rest → Type 0
-FinishFails s handed (Body e) t r = Fails s e t r ⊎ (2 ^ 64 - 1 ≤ length handed)
+FinishFails s handed (Body e) t r = Fails s e t r ⊎ TooMany handed e
 FinishFails s handed (Memory e) t r = NoFault s t × (r ≡ Bytes 0)
 
 -- all of that was taken, and what stands behind the body is left

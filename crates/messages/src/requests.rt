@@ -98,8 +98,9 @@ impl<R: Tell> Requests<R> {
 impl<R: TellRead> Requests<R> {
     /// Goes on into the next message. An `Err` says why there is none, and hands the reader back, before what there is.
     pub fn next(mut self) -> Result<Body<R>, (Self, Stop)>
-        ensures { MatchResult result (Begun R.remaining self)
+        ensures next { MatchResult result (Begun R.remaining self)
             (λ e. NextPiece R.remaining heads self (answer_of e.1) e.0) }
+        ensures told { self.ended ≡ false }
     {
         match self.pieces.step() {
             Ok(Some(span)) => {

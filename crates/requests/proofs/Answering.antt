@@ -1,61 +1,81 @@
 -- Answers, one after another.
-use Rattle.std.proofs.Common.{◌≡◌, ℕ, List, [], ◌∷◌, ◌++◌, length, Option, Result, Ok, Err, sym, ap, subst, ◌∙◌, refl, append_assoc, append-nil}
-use Rattle.std.proofs.lemmas.List.{nil_from_length}
+use Rattle.std.proofs.Common.{◌≡◌, ℕ, ◌+◌, ◌-◌, ◌<◌, ◌≤◌, Bool, true, false, List, [], ◌∷◌, ◌++◌, All, length, Option, Result, Ok, Err, OnOk, IfErr, sym, ap, subst, inl, inr, ◌∙◌, refl, arith, le_refl, append_assoc, append-nil, length-append}
+use Rattle.std.proofs.lemmas.List.Elements.{All-append, All-nil}
 use Rattle.std.specs.declared.io.Error.{Error}
+use Rattle.redux_buffer.specs.Faults.{OnlyInterrupts, OnlyInterrupts-joins}
 use Rattle.buffer_redux.specs.BufWriter.{BegunAlong, WasFlushed, WritesAlong}
 use Rattle.buffer_redux.specs.Buffered.{Buffered}
 use Rattle.buffer_redux.specs.Policy.{std_write_rules}
 use Rattle.buffer_redux.specs.StreamLog.{StreamLog}
 use Rattle.buffer_redux.specs.Unbuffer.{StreamWent, Unbuffered}
 use Rattle.buffer_redux.specs.UnbufferLaws.{StreamWent-joins}
-use Rattle.buffer_redux.specs.WritesAlongLaws.{BegunAlong-more, BegunAlong-of, FrontAlong-after, WasFlushed-along, WritesAlong-none, WritesAlong-then}
+use Rattle.buffer_redux.specs.WritesAlongLaws.{BegunAlong-more, BegunAlong-of, FrontAlong-after, WasFlushed-along, WriterStopped-after, WriterStopped-send, WritesAlong-none, WritesAlong-then}
 use Rattle.buffer_redux.specs.declared.policy.StdPolicy.{StdPolicy}
-use Rattle.chunked.specs.ChunkedReaderLaws.{Completes-nothing}
-use Rattle.chunked.specs.Place.{Completes}
 use Rattle.codec.specs.PieceReader.{ReaderState, left_of}
+use Rattle.messages.specs.declared.error.BodyError.TheVariants.{Wrong, Truncated, Io}
+use Rattle.messages.specs.declared.error.FinishError.{FinishError}
+use Rattle.messages.specs.declared.error.FinishError.TheVariants.{Body, Memory}
 use Rattle.messages.specs.declared.head.Heads.{Heads}
 use Rattle.messages.specs.declared.head.ParsedHead.{ParsedHead}
-use Rattle.messages.specs.Messages.{Begun, Bytes, Chunks, Ends, InBody, InsideGoes, IsMessage, IsRest, Rest}
+use Rattle.messages.specs.Messages.{Begun, InBody, InsideGoes, IsMessage, Message}
 use Rattle.messages.specs.MessagesLaws.{Begun-went, InTurn-joins, InTurn-one, MessageWent-of, Takes-none}
 use Rattle.programs.specs.Streams.{AllSent}
-use Rattle.requests.specs.Answers.{Answers, IsAnswer, Sends, TakesWhole, accepted, called, waits}
+use Rattle.requests.specs.declared.Place.{Place}
+use Rattle.requests.specs.declared.Place.TheVariants.{Before, Inside}
+use Rattle.requests.proofs.Reading.{IsOver-still, IsTorn-still, IsWrong-still, ReadStops-still, begun_ends, begun_reads, is_part}
+use Rattle.requests.specs.Answers.{Answers, EndsBody, Continues, IsAnswer, IsOver, IsPart, IsTorn, IsWrong, Keeps, ReadStops, Sends, SendStops, Serves, TakeFails, TakesWhole, accepted, called, ends_of, faults_of, refused, stream_at, waits}
+
+pub on_ok : {P : Type 0} (answer : Result (Unit {0}) Error) → P → OnOk answer P
+on_ok (Ok x) p = p
+on_ok (Err e) p = tt
 
 regroup : (a b more : List ℕ) → (a ++ []) ++ (b ++ more) ≡ (a ++ b) ++ more
 regroup a b more = ap (λ l. l ++ (b ++ more)) (append-nil a) ∙ sym (append_assoc a b more)
 
 module _ {W : Type 0} {tells : W → StreamLog} {trace : W → W → Type 0} where
   -- nothing was written
-  pub Sends-none : ((u : W) → trace u u) → (w : Buffered W StdPolicy) (answer : Result (Unit {0}) Error) → AllSent w
-      → Sends tells trace w [] answer w
-  Sends-none none w (Ok x) all = record { front = WritesAlong-none tells trace std_write_rules none w; sent = all }
-  Sends-none none w (Err e) all = record {
-    front = BegunAlong-of tells trace std_write_rules w w [] [] (WritesAlong-none tells trace std_write_rules none w);
-    sent = tt;
-  }
+  pub Sends-none : ((u : W) → trace u u) → (w : Buffered W StdPolicy) → AllSent w → Sends tells trace w [] (Ok tt) w
+  Sends-none none w all = record { front = WritesAlong-none tells trace std_write_rules none w; sent = all; why = tt }
 
   -- a beginning of some text is one of more
   pub Sends-more : {w w' : Buffered W StdPolicy} {text : List ℕ} {e : Error} (more : List ℕ)
       → Sends tells trace w text (Err e) w' → Sends tells trace w (text ++ more) (Err e) w'
-  Sends-more {w} {w'} {text} more p =
-      record { front = BegunAlong-more tells trace std_write_rules w w' text more p.front; sent = tt }
+  Sends-more {w} {w'} {text} {e} more p = record {
+    front = BegunAlong-more tells trace std_write_rules w w' text more p.front;
+    sent = tt;
+    why = longer p.why;
+  }
+    where
+      longer : SendStops text w e w' → SendStops (text ++ more) w e w'
+      longer (inl stopped) = inl stopped
+      longer (inr (room, few, refused)) = inr (room, omega (arith, few, length-append text more), refused)
 
   module _ (joins : (u v x : W) → trace u v → trace v x → trace u x) where
     -- more was sent behind that
-    pub Sends-after : (w v w' : Buffered W StdPolicy) (a b : List ℕ) (answer : Result (Unit {0}) Error)
-        → Sends tells trace w a (Ok tt) v → Sends tells trace v b answer w' → Sends tells trace w (a ++ b) answer w'
-    Sends-after w v w' a b answer p q = record {
-      front = FrontAlong-after tells trace std_write_rules joins w v w' a b answer p.front q.front;
+    pub Sends-after : (w v w' : Buffered W StdPolicy) (a b : List ℕ) (sending : Result (Unit {0}) Error)
+        → Sends tells trace w a (Ok tt) v → Sends tells trace v b sending w' → Sends tells trace w (a ++ b) sending w'
+    Sends-after w v w' a b sending p q = record {
+      front = FrontAlong-after tells trace std_write_rules joins w v w' a b sending p.front q.front;
       sent = q.sent;
+      why = later sending q.why;
     }
+      where
+        later : (sending : Result (Unit {0}) Error) → IfErr sending (λ e. SendStops b v e w')
+            → IfErr sending (λ e. SendStops (a ++ b) w e w')
+        later (Ok x) why = tt
+        later (Err e) (inl stopped) =
+            inl (WriterStopped-after w.log.writes v.log.writes w'.log.writes e p.front.grows stopped)
+        later (Err e) (inr (room, few, refused)) = inr (room, omega (arith, few, length-append a b), refused)
 
     -- a flush ended it
-    pub Sends-flushed : (w v w' : Buffered W StdPolicy) (a : List ℕ) (answer : Result (Unit {0}) Error)
-        → WritesAlong tells trace std_write_rules w a v → WasFlushed tells trace v answer w'
-        → Sends tells trace w a answer w'
+    pub Sends-flushed : (w v w' : Buffered W StdPolicy) (a : List ℕ) (sending : Result (Unit {0}) Error)
+        → WritesAlong tells trace std_write_rules w a v → WasFlushed tells trace v sending w'
+        → Sends tells trace w a sending w'
     Sends-flushed w v w' a (Ok x) p f = record {
       front = WritesAlong-then tells trace std_write_rules joins w v w' a p
           (WasFlushed-along tells trace std_write_rules v (Ok x) w' f);
       sent = record { empty = f.ok.empty; flushed = f.ok.flushed };
+      why = tt;
     }
     Sends-flushed w v w' a (Err e) p f = record {
       front = subst (λ l. BegunAlong tells trace std_write_rules w l w') (append-nil a)
@@ -63,81 +83,196 @@ module _ {W : Type 0} {tells : W → StreamLog} {trace : W → W → Type 0} whe
           (WritesAlong-then tells trace std_write_rules joins w v w' a p
           (WasFlushed-along tells trace std_write_rules v (Err e) w' f)));
       sent = tt;
+      why = inl (WriterStopped-after w.log.writes v.log.writes w'.log.writes e p.grows
+          (WriterStopped-send v.log.writes w'.log.writes e f.caused));
     }
 
   module _ {R : Type 0} {remaining : R → Option (List ℕ)} where
     -- no message went
     pub none_answered : {s t : Unbuffered R} {w w' : Buffered W StdPolicy} {taken last : List ℕ}
-        {answer : Result (Unit {0}) Error} → StreamWent remaining s taken t → Sends tells trace w last answer w'
-        → Answers remaining tells trace s w taken last t answer w'
-    none_answered went sends =
-        record { messages = []; bytes = []; are = refl; went = went; text = []; answers = refl; sends = sends }
+        {sending : Result (Unit {0}) Error} → StreamWent remaining s taken t → Sends tells trace w last sending w'
+        → Answers remaining tells trace [] s w taken last t sending w'
+    none_answered went sends = record { bytes = []; are = refl; went = went; text = []; answers = refl; sends = sends }
 
     -- a part of one did
-    pub part_answered : {s : ReaderState R Heads} {b t : InBody R} {handed last : List ℕ} {w w' : Buffered W StdPolicy}
-        {answer : Result (Unit {0}) Error} → Begun remaining s b → (goes : InsideGoes remaining b handed t)
-        → Sends tells trace w last answer w'
-        → Answers remaining tells trace (left_of s) w (b.head ++ goes.takes.wire) last t.stream answer w'
-    part_answered {s} {b} {t} begun goes sends =
-        none_answered (StreamWent-joins remaining (left_of s) b.stream t.stream b.head goes.takes.wire
-        (Begun-went remaining s b begun) goes.takes.went) sends
+    module _ {s : ReaderState R Heads} {b t : InBody R} {handed : List ℕ} (begun : Begun remaining s b)
+        (goes : InsideGoes remaining b handed t) where
+      pub part_answered : {last : List ℕ} {w w' : Buffered W StdPolicy} {sending : Result (Unit {0}) Error}
+          → Sends tells trace w last sending w'
+          → Answers remaining tells trace [] (left_of s) w (b.head ++ goes.takes.wire) last t.stream sending w'
+      part_answered sends =
+          none_answered (StreamWent-joins remaining (left_of s) b.stream t.stream b.head goes.takes.wire
+          (Begun-went remaining s b begun) goes.takes.went) sends
+
+    -- sending what ends a run, of which this is the answer
+    pub Serves-sent : {messages : List Message} {s : Unbuffered R} {w w' : Buffered W StdPolicy} {taken : List ℕ}
+        (handed : List ℕ) (place : Place R) (calls refuses : Bool) (sending : Result (Unit {0}) Error)
+        → IsPart place taken handed
+        → Answers remaining tells trace messages s w taken (called calls ++ refused refuses) (stream_at place) sending w'
+        → (refuses ≡ true → IsWrong s place)
+        → OnOk sending (OnlyInterrupts (faults_of s) (faults_of (stream_at place)) × IsOver messages refuses s place)
+        → Serves remaining tells trace s w place sending w'
+    Serves-sent {messages} {s} {w} {w'} {taken} handed place calls refuses (Ok tt) part answers wrong over = record {
+      messages = messages;
+      taken = taken;
+      handed = handed;
+      part = part;
+      calls = calls;
+      refuses = refuses;
+      sending = Ok tt;
+      answers = answers;
+      wrong = wrong;
+      unsent = tt;
+      over = over;
+      unread = tt;
+    }
+    Serves-sent {messages} {s} {w} {w'} {taken} handed place calls refuses (Err e) part answers wrong over = record {
+      messages = messages;
+      taken = taken;
+      handed = handed;
+      part = part;
+      calls = calls;
+      refuses = refuses;
+      sending = Err e;
+      answers = answers;
+      wrong = wrong;
+      unsent = refl;
+      over = tt;
+      unread = tt;
+    }
+
+    -- all was sent, and this is why no more was read
+    pub Serves-unread : {messages : List Message} {s : Unbuffered R} {w w' : Buffered W StdPolicy} {taken : List ℕ}
+        (handed : List ℕ) (place : Place R) (calls : Bool) (e : Error) → IsPart place taken handed
+        → Answers remaining tells trace messages s w taken (called calls ++ []) (stream_at place) (Ok tt) w'
+        → ReadStops (length messages + length handed) s e (stream_at place)
+        → Serves remaining tells trace s w place (Err e) w'
+    Serves-unread {messages} {s} {w} {w'} {taken} handed place calls e part answers stops = record {
+      messages = messages;
+      taken = taken;
+      handed = handed;
+      part = part;
+      calls = calls;
+      refuses = false;
+      sending = Ok tt;
+      answers = answers;
+      wrong = λ odd. absurd (cc);
+      unsent = tt;
+      over = tt;
+      unread = stops;
+    }
 
     module _ (joins : (u v x : W) → trace u v → trace v x → trace u x) where
+      -- one did in part, and this is why
+      module _ {s : ReaderState R Heads} {b t : InBody R} {handed : List ℕ} (begun : Begun remaining s b)
+          (goes : InsideGoes remaining b handed t) {w v w' : Buffered W StdPolicy} (calls : Bool)
+          (call : Sends tells trace w (called calls) (Ok tt) v) where
+        refused_torn : (answer : Result (Unit {0}) Error) → OnlyInterrupts (faults_of b.stream) (faults_of t.stream)
+            → IsTorn b.stream t → Sends tells trace v (refused true) answer w'
+            → Serves remaining tells trace (left_of s) w (Inside t) answer w'
+        refused_torn answer reads torn sends =
+            Serves-sent handed (Inside t) calls true answer (is_part begun goes)
+            (part_answered begun goes (Sends-after joins w v w' (called calls) (refused true) answer call sends))
+            (λ _. IsTorn-still (left_of s) b.stream (begun_reads begun) (begun_ends begun) t torn)
+            (on_ok answer (
+              OnlyInterrupts-joins (faults_of (left_of s)) (faults_of b.stream) (faults_of t.stream) (begun_reads begun) reads,
+              inr (All-nil (Keeps true), inl refl),
+            ))
+
+        failed_inside : (e : Error) → ReadStops (length handed) b.stream e t.stream → Sends tells trace v [] (Ok tt) w'
+            → Serves remaining tells trace (left_of s) w (Inside t) (Err e) w'
+        failed_inside e stops sends =
+            Serves-unread handed (Inside t) calls e (is_part begun goes)
+            (part_answered begun goes (Sends-after joins w v w' (called calls) [] (Ok tt) call sends))
+            (ReadStops-still (left_of s) b.stream (begun_reads begun) (begun_ends begun) 0 (length handed) e t.stream stops)
+
+        pub torn_answered : (why : FinishError) (answer : Result (Unit {0}) Error) → TakeFails b.stream handed why t
+            → EndsBody tells trace v why answer w' → Serves remaining tells trace (left_of s) w (Inside t) answer w'
+        torn_answered (Body (Wrong why)) answer (reads, torn) sends = refused_torn answer reads torn sends
+        torn_answered (Body Truncated) answer (reads, torn) sends = refused_torn answer reads torn sends
+        torn_answered (Body (Io e)) answer stops (same, sends) =
+            subst (λ r. Serves remaining tells trace (left_of s) w (Inside t) r w') (sym same) (failed_inside e stops sends)
+        torn_answered (Memory e) (Err why) reads (memory, sends) = failed_inside why (inr (reads, inl memory)) sends
+        torn_answered (Memory e) (Ok x) reads (odd, sends) = absurd odd
+
       -- one did, whole, and its payload was counted
       pub one_answered : {s : ReaderState R Heads} {b : InBody R} {t : Unbuffered R} {len : ℕ} {said : ParsedHead}
-          {w v w' : Buffered W StdPolicy} {answer : Result (Unit {0}) Error} → Begun remaining s b
-          → TakesWhole remaining b t len → said ≡ b.said → Sends tells trace w (called (waits b.said)) (Ok tt) v
-          → Sends tells trace v (accepted said len) answer w'
-          → Answers remaining tells trace (left_of s) w [] [] t answer w'
-      one_answered {s} {b} {t} {len} {said} {w} {v} {w'} {answer} begun (wire, payload, went, is, many) same call sends =
+          {w v w' : Buffered W StdPolicy} {sending : Result (Unit {0}) Error} → Begun remaining s b
+          → (whole : TakesWhole remaining b t len) → said ≡ b.said → Sends tells trace w (called (waits b.said)) (Ok tt) v
+          → Sends tells trace v (accepted said len) sending w'
+          → Answers remaining tells trace ((b.head, whole.1) ∷ []) (left_of s) w [] [] t sending w'
+      one_answered {s} {b} {t} {len} {said} {w} {v} {w'} {sending} begun (wire, payload, went, is, many) same call sends =
           let one = MessageWent-of remaining s b b [] wire payload t begun (Takes-none remaining b.stream b.rest) went is in
           let text = called (waits b.said) ++ accepted b.said (length payload) in
-          let both : Sends tells trace w text answer w' = Sends-after joins w v w' (called (waits b.said))
-          (accepted b.said (length payload)) answer call
-          (subst (λ n. Sends tells trace v (accepted b.said n) answer w') many
-          (subst (λ x. Sends tells trace v (accepted x len) answer w') same sends)) in
+          let both : Sends tells trace w text sending w' = Sends-after joins w v w' (called (waits b.said))
+          (accepted b.said (length payload)) sending call
+          (subst (λ n. Sends tells trace v (accepted b.said n) sending w') many
+          (subst (λ x. Sends tells trace v (accepted x len) sending w') same sends)) in
           record {
-            messages = (b.head, payload) ∷ [];
             bytes = one.bytes;
             are = InTurn-one (λ m first. IsMessage first m.0 m.1) (b.head, payload) one.bytes one.is;
             went = subst (λ l. StreamWent remaining (left_of s) l t) (sym (append-nil one.bytes)) one.went;
             text = text;
             answers = InTurn-one IsAnswer (b.head, payload) text (b.said, begun.is, refl);
-            sends = subst (λ l. Sends tells trace w l answer w') (sym (append-nil text)) both;
+            sends = subst (λ l. Sends tells trace w l sending w') (sym (append-nil text)) both;
           }
 
       -- some did, and then more
-      pub Answers-joins : {s m t : Unbuffered R} {w v w' : Buffered W StdPolicy} {taken last : List ℕ}
-          {answer : Result (Unit {0}) Error} → Answers remaining tells trace s w [] [] m (Ok tt) v
-          → Answers remaining tells trace m v taken last t answer w'
-          → Answers remaining tells trace s w taken last t answer w'
-      Answers-joins {s} {m} {t} {w} {v} {w'} {taken} {last} {answer} a b = record {
-        messages = a.messages ++ b.messages;
+      pub Answers-joins : {ms ns : List Message} {s m t : Unbuffered R} {w v w' : Buffered W StdPolicy} {taken last : List ℕ}
+          {sending : Result (Unit {0}) Error} → Answers remaining tells trace ms s w [] [] m (Ok tt) v
+          → Answers remaining tells trace ns m v taken last t sending w'
+          → Answers remaining tells trace (ms ++ ns) s w taken last t sending w'
+      Answers-joins {ms} {ns} {s} {m} {t} {w} {v} {w'} {taken} {last} {sending} a b = record {
         bytes = a.bytes ++ b.bytes;
-        are = InTurn-joins (λ m first. IsMessage first m.0 m.1) a.messages b.messages a.bytes b.bytes a.are b.are;
+        are = InTurn-joins (λ m first. IsMessage first m.0 m.1) ms ns a.bytes b.bytes a.are b.are;
         went = subst (λ l. StreamWent remaining s l t) (regroup a.bytes b.bytes taken)
             (StreamWent-joins remaining s m t (a.bytes ++ []) (b.bytes ++ taken) a.went b.went);
         text = a.text ++ b.text;
-        answers = InTurn-joins IsAnswer a.messages b.messages a.text b.text a.answers b.answers;
-        sends = subst (λ l. Sends tells trace w l answer w') (regroup a.text b.text last)
-            (Sends-after joins w v w' (a.text ++ []) (b.text ++ last) answer a.sends b.sends);
+        answers = InTurn-joins IsAnswer ms ns a.text b.text a.answers b.answers;
+        sends = subst (λ l. Sends tells trace w l sending w') (regroup a.text b.text last)
+            (Sends-after joins w v w' (a.text ++ []) (b.text ++ last) sending a.sends b.sends);
       }
 
--- nothing is left where none is
-nothing_more : (r : Rest) (wire payload : List ℕ) → IsRest r [] [] → IsRest r wire payload → payload ≡ []
-nothing_more (Bytes n) wire payload none is = is.1 ∙ nil_from_length wire (is.0 ∙ sym none.0)
-nothing_more (Chunks limits place) wire payload none is =
-    (subst (λ p. Completes limits p wire payload) (Completes-nothing limits place [] none) is).0
+      module _ {s m : Unbuffered R} {w v : Buffered W StdPolicy} (a : Continues remaining tells trace s w m v) where
+        pub Serves-after : {place : Place R} {w' : Buffered W StdPolicy} (answer : Result (Unit {0}) Error)
+            → Serves remaining tells trace m v place answer w' → Serves remaining tells trace s w place answer w'
+        Serves-after {place} answer b = record {
+          messages = a.messages ++ b.messages;
+          taken = b.taken;
+          handed = b.handed;
+          part = b.part;
+          calls = b.calls;
+          refuses = b.refuses;
+          sending = b.sending;
+          answers = Answers-joins a.answers b.answers;
+          wrong = λ is. IsWrong-still s m a.reads ends place (b.wrong is);
+          unsent = b.unsent;
+          over = over answer b.over;
+          unread = unread b.sending answer b.unread;
+        }
+          where
+            ends : ends_of s ≤ ends_of m
+            ends = a.answers.went.grows.zero_reads
 
--- what was read, and what ended it, is the whole body
-pub whole_taken : {R : Type 0} (remaining : R → Option (List ℕ)) (b m : InBody R) (payload : List ℕ) (t : Unbuffered R) (len : ℕ)
-    → InsideGoes remaining b payload m → len ≡ length payload → IsRest m.rest [] [] → Ends remaining m.stream m.rest t
-    → TakesWhole remaining b t len
-whole_taken remaining b m payload t len goes many none ends = (
-  goes.takes.wire ++ ends.wire,
-  payload ++ ends.payload,
-  StreamWent-joins remaining b.stream m.stream t goes.takes.wire ends.wire goes.takes.went ends.went,
-  goes.takes.onward ends.wire ends.payload ends.is,
-  many ∙ ap length (sym (append-nil payload))
-      ∙ ap (λ l. length (payload ++ l)) (sym (nothing_more m.rest ends.wire ends.payload none ends.is)),
-)
+            over : (answer : Result (Unit {0}) Error)
+                → OnOk answer (OnlyInterrupts (faults_of m) (faults_of (stream_at place)) × IsOver b.messages b.refuses m place)
+                → OnOk answer (OnlyInterrupts (faults_of s) (faults_of (stream_at place))
+                × IsOver (a.messages ++ b.messages) b.refuses s place)
+            over (Ok x) (met, is) = (
+              OnlyInterrupts-joins (faults_of s) (faults_of m) (faults_of (stream_at place)) a.reads met,
+              IsOver-still s m a.reads ends a.messages b.messages b.refuses place a.keep is,
+            )
+            over (Err e) is = tt
+
+            unread : (sending answer : Result (Unit {0}) Error)
+                → OnOk sending (IfErr answer (λ e. ReadStops (length b.messages + length b.handed) m e (stream_at place)))
+                → OnOk sending (IfErr answer (λ e. ReadStops (length (a.messages ++ b.messages) + length b.handed) s e
+                (stream_at place)))
+            unread (Err e) answer is = tt
+            unread (Ok x) (Ok y) is = tt
+            unread (Ok x) (Err e) is =
+                let both : length a.messages + (length b.messages + length b.handed)
+                ≡ length (a.messages ++ b.messages) + length b.handed = omega (arith, length-append a.messages b.messages) in
+                subst (λ n. ReadStops n s e (stream_at place)) both
+                (ReadStops-still s m a.reads ends (length a.messages) (length b.messages + length b.handed) e (stream_at place)
+                is)

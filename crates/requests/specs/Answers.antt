@@ -1,20 +1,29 @@
 -- What is answered to requests.
-use Rattle.std.specs.Prelude.{◌≡◌, ℕ, ◌&&◌, nat_lt, if◌then◌else◌, Bool, true, false, List, [], ◌++◌, length, drop, Option, Result, Ok, MatchResult, OnOk, codes}
+use Rattle.std.specs.Prelude.{◌≡◌, ℕ, ◌+◌, ◌-◌, ◌^◌, ◌<◌, ◌≤◌, ◌⊎◌, ◌&&◌, nat_lt, if◌then◌else◌, Bool, true, false, List, [], ◌∷◌, ◌++◌, All, length, drop, Option, Result, Ok, Err, MatchResult, OnOk, IfErr, IsErrAnd, codes}
 use Rattle.std.specs.Fmt.{decimal}
+use Rattle.std.specs.IoError.{error_kind}
 use Rattle.std.specs.declared.io.Error.{Error}
-use Rattle.buffer_redux.specs.BufWriter.{FrontAlong}
+use Rattle.std.specs.declared.io.ErrorKind.TheVariants.{Other}
+use Rattle.redux_buffer.specs.Faults.{FaultAfterInterrupts, IsMemory, OnlyInterrupts}
+use Rattle.redux_buffer.specs.GrowError.{GrowthFailed}
+use Rattle.buffer_redux.specs.BufWriter.{FrontAlong, WriterStopped}
 use Rattle.buffer_redux.specs.Buffered.{Buffered}
 use Rattle.buffer_redux.specs.Policy.{std_write_rules}
 use Rattle.buffer_redux.specs.StreamLog.{StreamLog}
 use Rattle.buffer_redux.specs.Unbuffer.{StreamWent, Unbuffered}
 use Rattle.buffer_redux.specs.declared.policy.StdPolicy.{StdPolicy}
-use Rattle.codec.specs.PieceReader.{ReaderState, left_of}
+use Rattle.codec.specs.Grammar.{IsOpen}
+use Rattle.codec.specs.PieceReader.{ReaderState, left_of, rest}
+use Rattle.messages.specs.declared.error.BodyError.TheVariants.{Wrong, Truncated, Io}
+use Rattle.messages.specs.declared.error.FinishError.{FinishError}
+use Rattle.messages.specs.declared.error.FinishError.TheVariants.{Body, Memory}
+use Rattle.messages.specs.declared.head.BadHead.{BadHead}
 use Rattle.messages.specs.declared.head.Extent.{Extent}
 use Rattle.messages.specs.declared.head.Extent.TheVariants.{Sized, Chunked}
 use Rattle.messages.specs.declared.head.ParsedHead.{ParsedHead}
-use Rattle.messages.specs.Heads.{IsHead}
+use Rattle.messages.specs.Heads.{IsHead, heads}
 use Rattle.messages.specs.declared.head.Heads.{Heads}
-use Rattle.messages.specs.Messages.{AreMessages, InBody, InTurn, IsRest, Message}
+use Rattle.messages.specs.Messages.{AreMessages, InBody, InTurn, IsRest, Message, Onward, body_of}
 use Rattle.programs.specs.Streams.{AllSent}
 use Rattle.requests.specs.declared.Place.{Place}
 use Rattle.requests.specs.declared.Place.TheVariants.{Before, Inside}
@@ -58,37 +67,137 @@ abbrev pub TakesWhole : {S : Type 0} → (S → Option (List ℕ)) → InBody S 
 TakesWhole remaining b t len = (wire : List ℕ) × (payload : List ℕ) × StreamWent remaining b.stream wire t
     × IsRest b.rest wire payload × (len ≡ length payload)
 
+-- how often the stream gave nothing, though it was asked for something; and what it failed with
+abbrev pub ends_of : {S : Type 0} → Unbuffered S → ℕ
+ends_of s = s.log.reads.zero_reads
+
+abbrev pub faults_of : {S : Type 0} → Unbuffered S → List Error
+faults_of s = s.log.reads.faults
+
 -- what the stream has left
 abbrev pub stream_at : {S : Type 0} → Place S → Unbuffered S
 stream_at (Before requests) = left_of requests
 stream_at (Inside body) = body.stream
 
+-- a body isn't whole: what is left doesn't complete it, however it goes on; or nothing is left, the stream gave nothing, and that
+-- doesn't complete it
+abbrev pub IsTorn : {S : Type 0} → Unbuffered S → InBody S → Type 0
+IsTorn s b = ((later payload : List ℕ) → ¬ (IsRest b.rest (b.stream.left ++ later) payload))
+    ⊎ ((ends_of s < ends_of b.stream) × (b.stream.left ≡ []) × ((payload : List ℕ) → ¬ (IsRest b.rest [] payload)))
+
+-- what comes is to be refused: no head begins what is left, or the stream ended in one; or the body isn't whole
+abbrev pub IsWrong : {S : Type 0} → Unbuffered S → Place S → Type 0
+IsWrong s (Before requests) = ((e : BadHead) × heads.wrong (rest requests) e)
+    ⊎ ((ends_of s < ends_of (left_of requests)) × (0 < length (rest requests)) × IsOpen heads (rest requests))
+IsWrong s (Inside body) = IsTorn s body
+
+-- the stream ended, and nothing is left, where a head would begin
+abbrev pub HasEnded : {S : Type 0} → Unbuffered S → Place S → Type 0
+HasEnded s (Before requests) = (ends_of s < ends_of (left_of requests)) × (rest requests ≡ [])
+HasEnded s (Inside body) = ⊥
+
+-- whether another message may follow this one, as its head says
+abbrev pub Keeps : Bool → Message → Type 0
+Keeps keeps m = (said : ParsedHead) × IsHead m.0 said × (said.keeps ≡ keeps)
+
+-- none may follow the last of these, and one each other
+pub record Closes (messages : List Message) : Type 0 where
+  pub before : List Message
+  pub last : Message
+  pub all : messages ≡ before ++ last ∷ []
+  pub keep : All (Keeps true) before
+  pub close : Keeps false last
+
+-- why no more is answered: behind the last message none may follow; or what comes was refused, or the stream ended
+abbrev pub IsOver : {S : Type 0} → List Message → Bool → Unbuffered S → Place S → Type 0
+IsOver messages refuses s place =
+    (Closes messages × (refuses ≡ false)) ⊎ (All (Keeps true) messages × ((refuses ≡ true) ⊎ HasEnded s place))
+
+-- these bytes behind whole messages are none, or a head, and of the body that it says some with this payload
+abbrev pub IsPart : {S : Type 0} → Place S → List ℕ → List ℕ → Type 0
+IsPart (Before requests) taken handed = (taken ≡ []) × (handed ≡ [])
+IsPart (Inside body) taken handed = (wire : List ℕ) × (taken ≡ body.head ++ wire) × IsHead body.head body.said
+    × Onward (body_of body.said.extent) wire handed body.rest
+
+-- an error says that this is more than is counted
+pub record IsCount (e : Error) (count : ℕ) : Type 0 where
+  pub other : error_kind e ≡ Other
+  pub large : 2 ^ 64 ≤ count + 1
+
+-- why no more is read: behind interruptions a read failed so; or memory was refused; or there were too many interruptions, with
+-- what was counted before
+abbrev pub ReadStops : {S : Type 0} → ℕ → Unbuffered S → Error → Unbuffered S → Type 0
+ReadStops count s e t = FaultAfterInterrupts (faults_of s) (faults_of t) e
+    ⊎ (OnlyInterrupts (faults_of s) (faults_of t)
+    × (IsMemory e ⊎ IsCount e (count + (length (faults_of t) - length (faults_of s)))))
+
+-- why a body isn't taken whole, of which this payload was: so, or it is torn
+abbrev pub TakeFails : {S : Type 0} → Unbuffered S → List ℕ → FinishError → InBody S → Type 0
+TakeFails s handed (Body (Wrong why)) b = OnlyInterrupts (faults_of s) (faults_of b.stream) × IsTorn s b
+TakeFails s handed (Body Truncated) b = OnlyInterrupts (faults_of s) (faults_of b.stream) × IsTorn s b
+TakeFails s handed (Body (Io e)) b = ReadStops (length handed) s e b.stream
+TakeFails s handed (Memory e) b = OnlyInterrupts (faults_of s) (faults_of b.stream)
+
+-- why text wasn't sent: the writer failed, or room for it was refused
+abbrev pub SendStops : {W : Type 0} → List ℕ → Buffered W StdPolicy → Error → Buffered W StdPolicy → Type 0
+SendStops text w e w' = WriterStopped w.log.writes w'.log.writes e
+    ⊎ ((more : ℕ) × (more ≤ length text) × GrowthFailed more w'.block e)
+
 -- at Ok this text was sent and flushed, at an Err a beginning of it was accepted
 pub record Sends {W : Type 0} (tells : W → StreamLog) (trace : W → W → Type 0) (w : Buffered W StdPolicy) (text : List ℕ)
-    (answer : Result (Unit {0}) Error) (w' : Buffered W StdPolicy) : Type 0 where
-  pub front : FrontAlong tells trace std_write_rules w text answer w'
-  pub sent : OnOk answer (AllSent w')
+    (sending : Result (Unit {0}) Error) (w' : Buffered W StdPolicy) : Type 0 where
+  pub front : FrontAlong tells trace std_write_rules w text sending w'
+  pub sent : OnOk sending (AllSent w')
+  pub why : IfErr sending (λ e. SendStops text w e w')
+
+-- how that ends a run: what isn't whole is refused
+abbrev pub EndsBody : {W : Type 0} → (W → StreamLog) → (W → W → Type 0) → Buffered W StdPolicy → FinishError
+    → Result (Unit {0}) Error → Buffered W StdPolicy → Type 0
+EndsBody tells trace w (Body (Wrong why)) answer w' = Sends tells trace w (refused true) answer w'
+EndsBody tells trace w (Body Truncated) answer w' = Sends tells trace w (refused true) answer w'
+EndsBody tells trace w (Body (Io e)) answer w' = (answer ≡ Err e) × Sends tells trace w [] (Ok tt) w'
+EndsBody tells trace w (Memory e) answer w' = IsErrAnd answer IsMemory × Sends tells trace w [] (Ok tt) w'
 
 module _ {R W : Type 0} (remaining : R → Option (List ℕ)) (tells : W → StreamLog) (trace : W → W → Type 0) where
-  -- of what was given, whole messages went, and then these bytes; what was written is the answer to each, in their order, and then
-  -- this text
-  pub record Answers (s : Unbuffered R) (w : Buffered W StdPolicy) (taken last : List ℕ) (t : Unbuffered R)
-      (answer : Result (Unit {0}) Error) (w' : Buffered W StdPolicy) : Type 0 where
-    pub messages : List Message
+  -- of what was given, these messages went, and then these bytes; what was written is the answer to each, in their order, and
+  -- then this text
+  pub record Answers (messages : List Message) (s : Unbuffered R) (w : Buffered W StdPolicy) (taken last : List ℕ)
+      (t : Unbuffered R) (sending : Result (Unit {0}) Error) (w' : Buffered W StdPolicy) : Type 0 where
     pub bytes : List ℕ
     pub are : AreMessages messages bytes
     pub went : StreamWent remaining s (bytes ++ taken) t
     pub text : List ℕ
     pub answers : InTurn IsAnswer messages text
-    pub sends : Sends tells trace w (text ++ last) answer w'
+    pub sends : Sends tells trace w (text ++ last) sending w'
 
-  -- a run: behind the answers at most a call for a body was written, and a refusal; so there is no 200 but for a whole message
-  abbrev pub Serves : Unbuffered R → Buffered W StdPolicy → Place R → Result (Unit {0}) Error → Buffered W StdPolicy → Type 0
-  Serves s w place answer w' = (taken : List ℕ) × (calls : Bool) × (refuses : Bool)
-      × Answers s w taken (called calls ++ refused refuses) (stream_at place) answer w'
+  -- messages went, each was answered, and another may follow
+  pub record Continues (s : Unbuffered R) (w : Buffered W StdPolicy) (t : Unbuffered R) (w' : Buffered W StdPolicy) : Type 0 where
+    pub messages : List Message
+    pub answers : Answers messages s w [] [] t (Ok tt) w'
+    pub keep : All (Keeps true) messages
+    pub reads : OnlyInterrupts (faults_of s) (faults_of t)
 
-  -- one message at most: it went, and was answered, and the reader stands behind it; or the run ended
+  -- a run: behind the answers at most a call for a body was written, and a refusal of what is wrong; so there is no 200 but for a
+  -- whole message. It returns why sending failed; or all was sent, and it says why no more is answered, or read
+  pub record Serves (s : Unbuffered R) (w : Buffered W StdPolicy) (place : Place R) (answer : Result (Unit {0}) Error)
+      (w' : Buffered W StdPolicy) : Type 0 where
+    pub messages : List Message
+    pub taken : List ℕ
+    pub handed : List ℕ
+    pub part : IsPart place taken handed
+    pub calls : Bool
+    pub refuses : Bool
+    pub sending : Result (Unit {0}) Error
+    pub answers : Answers messages s w taken (called calls ++ refused refuses) (stream_at place) sending w'
+    pub wrong : refuses ≡ true → IsWrong s place
+    pub unsent : IfErr sending (λ e. answer ≡ Err e)
+    pub over : OnOk answer (OnlyInterrupts (faults_of s) (faults_of (stream_at place)) × IsOver messages refuses s place)
+    pub unread : OnOk sending (IfErr answer (λ e. ReadStops (length messages + length handed) s e (stream_at place)))
+
+  -- one turn: a message went, or a read was interrupted; or the run ended
   abbrev pub Turns : Unbuffered R → Buffered W StdPolicy → Result (ReaderState R Heads) (Place R × Result (Unit {0}) Error)
       → Buffered W StdPolicy → Type 0
-  Turns s w result w' =
-      MatchResult result (λ next. Answers s w [] [] (left_of next) (Ok tt) w') (λ e. Serves s w e.0 e.1 w')
+  Turns s w result w' = MatchResult result
+      (λ next. (goes : Continues s w (left_of next) w')
+      × (length (faults_of s) < length goes.messages + length (faults_of (left_of next))))
+      (λ e. Serves s w e.0 e.1 w')

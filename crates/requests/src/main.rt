@@ -5,16 +5,20 @@
 //! where the stream does. It reads only where all that it answered was sent (`sent`).
 #![tactic(auto)]
 
-ghost use Rattle.std.specs.Prelude.{◌≡◌, ℕ, if◌then◌else◌, Bool, true, List, [], ◌++◌, codes, length, map, IfErr, IfOk, Ok, OnOk};
+ghost use Rattle.std.specs.Prelude.{◌≡◌, ℕ, if◌then◌else◌, true, false, List, [], ◌++◌, codes, length, map, IfErr, IfOk, MatchResult, Ok, OnOk};
+ghost use Rattle.std.specs.IoError.{error_kind};
 ghost use Rattle.std.specs.List.{concat};
+ghost use Rattle.std.specs.declared.io.Error.{Error};
+ghost use Rattle.redux_buffer.specs.Faults.{IsInterrupt, OnlyInterrupts};
 ghost use Rattle.buffer_redux.specs.Buffered.{Buffered};
-ghost use Rattle.buffer_redux.specs.Unbuffer.{StreamWent};
 ghost use Rattle.buffer_redux.specs.declared.policy.StdPolicy.{StdPolicy};
+ghost use Rattle.codec.specs.NextPiece.{NextPiece};
 ghost use Rattle.codec.specs.PieceReader.{ReaderState, left_of};
 ghost use Rattle.messages.specs.declared.head.Heads.{Heads};
-ghost use Rattle.messages.specs.Messages.{Begun, InsideGoes, IsRest};
+ghost use Rattle.messages.specs.Heads.{heads};
+ghost use Rattle.messages.specs.Messages.{Begun, InsideGoes, IsRest, answer_of};
 ghost use Rattle.programs.specs.Streams.{AllSent};
-ghost use Rattle.requests.specs.Answers.{Sends, Serves, TakesWhole, Turns, accepted, called, has_body, length_line, refused, waits};
+ghost use Rattle.requests.specs.Answers.{EndsBody, Sends, Serves, TakeFails, TakesWhole, Turns, accepted, called, faults_of, has_body, length_line, refused, waits};
 
 use buffer_redux::BufWriter;
 use buffer_redux::tell::{Tell, TellRead, TellWrite, Told};
@@ -55,7 +59,7 @@ fn serve<R: TellRead, W: TellWrite>(
             Err(end) => return end,
         }
     }
-    (Place::Before(next), Ok(()))
+    (Place::Before(next), Err(too_many()))
 }
 
 // Answers one request, and goes on to the next. An `Err` is the end: there is none, or none may follow.
@@ -79,7 +83,7 @@ fn stopped<R: TellRead, W: TellWrite>(
     writer: &mut BufWriter<W>,
 ) -> Result<Requests<R>, (Place<R>, io::Result<()>)>
     requires sent { AllSent writer.old }
-    ensures { (s : ReaderState R Heads) → StreamWent R.remaining (left_of s) [] (left_of requests)
+    ensures { (s : ReaderState R Heads) → s.ended ≡ false → NextPiece R.remaining heads s (answer_of stop) requests
         → Turns R.remaining W.log W.trace (left_of s) writer.old result writer.new }
 {
     if is_interrupt(&stop) {
@@ -95,7 +99,9 @@ fn stopped<R: TellRead, W: TellWrite>(
     }
 }
 
-fn is_interrupt(stop: &Stop) -> bool {
+fn is_interrupt(stop: &Stop) -> bool
+    ensures { result ≡ true → (e : Error) × (stop.now ≡ Stop.Io e) × IsInterrupt e }
+{
     match stop {
         Stop::Io(e) => e.kind() == ErrorKind::Interrupted,
         _ => false,
@@ -150,7 +156,9 @@ fn answer_called<R: TellRead, W: TellWrite>(
 // Takes the whole body, and counts its payload.
 fn take_whole<R: TellRead>(body: Body<R>) -> Result<(u64, Requests<R>), (Body<R>, FinishError)>
     ensures whole { IfOk result (λ r. TakesWhole R.remaining body (left_of r.1) r.0) }
-    ensures part { IfErr result (λ e. (handed : List ℕ) × InsideGoes R.remaining body handed e.0) }
+    ensures steady { IfOk result (λ r. OnlyInterrupts (faults_of body.stream) (faults_of (left_of r.1))) }
+    ensures part { IfErr result (λ e. (handed : List ℕ) × InsideGoes R.remaining body handed e.0
+        × TakeFails body.stream handed e.1 e.0) }
 {
     let mut body = body;
     match payload_len(&mut body) {
@@ -166,8 +174,10 @@ fn take_whole<R: TellRead>(body: Body<R>) -> Result<(u64, Requests<R>), (Body<R>
 // returned, so no answer counts a part of a body.
 fn payload_len<R: TellRead>(body: &mut Body<R>) -> Result<u64, BodyError>
     ensures goes { (payload : List ℕ) × InsideGoes R.remaining body.old payload body.new
-        × IfOk result (λ len. len ≡ length payload) }
+        × MatchResult result (λ len. len ≡ length payload)
+        (λ e. TakeFails body.old.stream payload (FinishError.Body e) body.new) }
     ensures ended { OnOk result (IsRest body.new.rest [] []) }
+    ensures steady { OnOk result (OnlyInterrupts (faults_of body.old.stream) (faults_of body.new.stream)) }
 {
     let mut out = [0; 4096];
     let mut len = 0u64;
@@ -176,7 +186,7 @@ fn payload_len<R: TellRead>(body: &mut Body<R>) -> Result<u64, BodyError>
             Ok(0) => return Ok(len),
             Ok(count) => {
                 let Some(sum) = len.checked_add(count as u64) else {
-                    return Err(too_many());
+                    return Err(BodyError::Io(too_many()));
                 };
                 len = sum;
             }
@@ -187,28 +197,33 @@ fn payload_len<R: TellRead>(body: &mut Body<R>) -> Result<u64, BodyError>
             }
         }
     }
-    Err(too_many())
+    Err(BodyError::Io(too_many()))
 }
 
-fn is_interrupted(e: &BodyError) -> bool {
+fn is_interrupted(e: &BodyError) -> bool
+    ensures { result ≡ true → (why : Error) × (e.now ≡ BodyError.Io why) × IsInterrupt why }
+{
     match e {
         BodyError::Io(e) => e.kind() == ErrorKind::Interrupted,
         _ => false,
     }
 }
 
-fn too_many() -> BodyError {
-    BodyError::Io(io::Error::from(ErrorKind::Other))
+fn too_many() -> io::Error
+    ensures { error_kind result ≡ ErrorKind.Other }
+{
+    io::Error::from(ErrorKind::Other)
 }
 
 // Refuses a body that isn't whole, where that isn't the stream's fault.
 fn unended<W: TellWrite>(e: FinishError, writer: &mut BufWriter<W>) -> io::Result<()>
     requires sent { AllSent writer.old }
-    ensures { (refuses : Bool) × Sends W.log W.trace writer.old (refused refuses) result writer.new }
+    ensures { EndsBody W.log W.trace writer.old e result writer.new }
 {
     match e {
+        FinishError::Body(BodyError::Wrong(_)) => refuse(writer),
+        FinishError::Body(BodyError::Truncated) => refuse(writer),
         FinishError::Body(BodyError::Io(e)) => Err(e),
-        FinishError::Body(_) => refuse(writer),
         FinishError::Memory(_) => Err(io::Error::from(ErrorKind::OutOfMemory)),
     }
 }

@@ -1,37 +1,55 @@
-use Rattle.std.proofs.Common.{[], ◌++◌, false}
-use Rattle.requests.specs.Answers.{called, refused, waits}
-use Rattle.requests.proofs.Answering.{Sends-after, one_answered, part_answered}
+use Rattle.std.proofs.Common.{[], ◌∷◌, Err, Ok, true, false, ap, sym, ◌∙◌, refl, inl, arith}
+use Rattle.std.proofs.lemmas.List.Elements.{All-cons, All-nil}
+use Rattle.redux_buffer.specs.Faults.{OnlyInterrupts-joins}
+use Rattle.requests.specs.declared.Place.TheVariants.{Before}
+use Rattle.requests.specs.Answers.{Keeps, waits}
+use Rattle.requests.proofs.Answering.{Serves-sent, one_answered, torn_answered}
+use Rattle.requests.proofs.Reading.{begun_reads, no_shorter}
 use Rattle.requests.proofs.answer_called.Goals as goal
 
 pub returns-then-said-clause-answers : goal.returns-then-said-clause-answers
 returns-then-said-clause-answers g c = λ s w begun call.
-    one_answered g.met.W.TellWrite.trace_joins begun c.in-Ok.ensures.whole c.said-said.ensures call c.in-Ok-accept.ensures
+    let b = c.args.body in
+    let whole = c.in-Ok.ensures.whole in
+    let reads = OnlyInterrupts-joins _ _ _ (begun_reads begun) c.in-Ok.ensures.steady in
+    let keeps = sym (ap (λ x. x.keeps) c.said-said.ensures) ∙ c.if-said.true in (
+      record {
+        messages = (b.head, whole.1) ∷ [];
+        answers = one_answered g.met.W.TellWrite.trace_joins begun whole c.said-said.ensures call c.in-Ok-accept.ensures;
+        keep = All-cons (Keeps true) (b.head, whole.1) [] (b.said, begun.is, keeps) (All-nil (Keeps true));
+        reads = reads;
+      },
+      omega (arith, no_shorter reads),
+    )
 
 pub returns-else-said-clause-answers : goal.returns-else-said-clause-answers
-returns-else-said-clause-answers g c = λ s w begun call. (
-  [],
-  false,
-  false,
-  one_answered g.met.W.TellWrite.trace_joins begun c.in-Ok.ensures.whole c.said-said.ensures call c.in-Ok-accept.ensures,
-)
+returns-else-said-clause-answers g c = λ s w begun call.
+    let b = c.args.body in
+    let whole = c.in-Ok.ensures.whole in
+    Serves-sent [] (Before c.in-Ok.requests) false false (Ok tt) (refl, refl)
+    (one_answered g.met.W.TellWrite.trace_joins begun whole c.said-said.ensures call c.in-Ok-accept.ensures)
+    (λ odd. absurd (cc)) (
+      OnlyInterrupts-joins _ _ _ (begun_reads begun) c.in-Ok.ensures.steady,
+      inl (
+        record {
+          before = [];
+          last = (b.head, whole.1);
+          all = refl;
+          keep = All-nil (Keeps true);
+          close = (b.said, begun.is, sym (ap (λ x. x.keeps) c.said-said.ensures) ∙ c.if-said.false);
+        },
+        refl,
+      ),
+    )
 
 pub returns-in-Err-accept-clause-answers : goal.returns-in-Err-accept-clause-answers
-returns-in-Err-accept-clause-answers g c = λ s w begun call. (
-  [],
-  false,
-  false,
-  one_answered g.met.W.TellWrite.trace_joins begun c.in-Ok.ensures.whole c.said-said.ensures call c.in-Err-accept.ensures,
-)
+returns-in-Err-accept-clause-answers g c = λ s w begun call.
+    Serves-sent [] (Before c.in-Ok.requests) false false (Err c.in-Err-accept.e) (refl, refl)
+    (one_answered g.met.W.TellWrite.trace_joins begun c.in-Ok.ensures.whole c.said-said.ensures call c.in-Err-accept.ensures)
+    (λ odd. absurd (cc)) tt
 
 pub returns-in-Err-clause-answers : goal.returns-in-Err-clause-answers
 returns-in-Err-clause-answers g c = λ s w begun call.
-    let b = c.args.body in
     let part = c.in-Err.ensures.part in
-    let end = c.unended-ending in (
-      b.head ++ part.1.takes.wire,
-      waits b.said,
-      end.ensures.0,
-      part_answered begun part.1
-          (Sends-after g.met.W.TellWrite.trace_joins w c.args.writer.now end.new.writer (called (waits b.said))
-          (refused end.ensures.0) end.result call end.ensures.1),
-    )
+    torn_answered g.met.W.TellWrite.trace_joins begun part.1 (waits c.args.body.said) call c.in-Err.why c.unended-ending.result
+    part.2 c.unended-ending.ensures

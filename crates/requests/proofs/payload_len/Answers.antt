@@ -1,8 +1,11 @@
-use Rattle.std.proofs.Common.{◌≡◌, ℕ, ◌<◌, ◌≤◌, List, [], ◌++◌, length, Result, Ok, Err, IfOk, refl, arith, rules, ◌∙◌, length-append}
+use Rattle.std.proofs.Common.{◌≡◌, ℕ, ◌<◌, ◌≤◌, List, [], ◌∷◌, ◌++◌, length, Result, Ok, Err, IfOk, ap, inr, refl, arith, rules, ◌∙◌, length-append}
 use Rattle.std.proofs.lemmas.List.{length-take-le}
+use Rattle.redux_buffer.specs.Faults.{OnlyInterrupts-joins, OnlyInterrupts-none}
 use Rattle.messages.specs.declared.error.BodyError.{BodyError}
 use Rattle.messages.specs.Messages.{handed_out}
 use Rattle.messages.specs.MessagesLaws.{InsideGoes-joins, InsideGoes-none}
+use Rattle.requests.specs.Answers.{faults_of}
+use Rattle.requests.proofs.Reading.{TakeFails-of, interrupted_once, none_met}
 use Rattle.requests.proofs.payload_len.Goals as goal
 use Rattle.requests.proofs.payload_len.Goals.{in-Ok+in-Some, in-Err+else-not-is_interrupted}
 
@@ -16,8 +19,13 @@ none out (Ok m) e same = cc
 none out (Err x) e same = refl
 
 pub loop-read-init : goal.loop-read-init
-loop-read-init g c =
-    record { payload = []; goes = InsideGoes-none g.R.TellRead.remaining c.args.body.now; many = refl }
+loop-read-init g c = record {
+  payload = [];
+  goes = InsideGoes-none g.R.TellRead.remaining c.args.body.now;
+  many = refl;
+  steady = OnlyInterrupts-none (faults_of c.args.body.now.stream);
+  turns = omega arith;
+}
 
 pub loop-read-preserved : goal.loop-read-preserved
 loop-read-preserved g c =
@@ -42,6 +50,30 @@ loop-read-preserved g c =
             (let is : c.read.result ≡ Err w.in-Err.e = cc in
             omega (arith, both, before.many, none c.read.new.out c.read.result w.in-Err.e is))
       ];
+      steady = elim c.match-read.branch [
+        | in-Ok+in-Some w ↦ OnlyInterrupts-joins _ _ _ before.steady (none_met w.in-Ok.ensures.no_fault)
+        | in-Err+else-not-is_interrupted w ↦
+            (let was = w.is_interrupted.ensures w.if-not-is_interrupted.false in
+            OnlyInterrupts-joins _ _ _ before.steady (interrupted_once (faults_of c.loop-read.body.stream)
+            (faults_of c.read.new.self.stream) was.0 was.2 (rw was.1 at w.in-Err.ensures.fails)))
+      ];
+      turns = elim c.match-read.branch [
+        | in-Ok+in-Some w ↦
+            (let is : c.read.result ≡ Ok w.in-Ok.count = cc in
+            omega (
+              arith,
+              both,
+              before.turns,
+              some c.read.new.out c.read.result w.in-Ok.count is c.read.ensures.bound,
+              w.in-Ok.count-test.1,
+              ap length w.in-Ok.ensures.no_fault,
+            ))
+        | in-Err+else-not-is_interrupted w ↦
+            (let was = w.is_interrupted.ensures w.if-not-is_interrupted.false in
+            let one : faults_of c.read.new.self.stream ≡ faults_of c.loop-read.body.stream ++ was.0 ∷ [] =
+            rw was.1 at w.in-Err.ensures.fails in
+            omega (arith, both, before.turns, ap length one, length-append (faults_of c.loop-read.body.stream) (was.0 ∷ [])))
+      ];
     }
 
 pub returns-in-Ok-eq0 : goal.returns-in-Ok-eq0
@@ -63,12 +95,48 @@ returns-in-Ok-eq0 g c =
         ),
       );
       ended = c.read.ensures.ended zero room;
+      steady = OnlyInterrupts-joins _ _ _ before.steady (none_met (rw zero at c.read.ensures.no_fault));
     }
 
 pub returns-in_default-clause-goes : goal.returns-in_default-clause-goes
 returns-in_default-clause-goes g c =
-    (_, InsideGoes-joins _ _ _ _ _ _ c.loop-read.invariant.goes c.read.ensures.goes, tt)
+    let before = c.loop-read.invariant in
+    let handed = handed_out c.read.new.out c.read.result in
+    let is : c.read.result ≡ Ok c.in-Ok.count = cc in (
+      before.payload ++ handed,
+      InsideGoes-joins _ _ _ _ _ _ before.goes c.read.ensures.goes,
+      inr (
+        OnlyInterrupts-joins _ _ _ before.steady (none_met c.in-Ok.ensures.no_fault),
+        inr (record {
+          other = c.too_many.ensures;
+          large = omega (
+            arith,
+            length-append before.payload handed,
+            before.many,
+            some c.read.new.out c.read.result c.in-Ok.count is c.read.ensures.bound,
+            c.in_default.ensures,
+          );
+        }),
+      ),
+    )
 
 pub returns-then-not-is_interrupted-clause-goes : goal.returns-then-not-is_interrupted-clause-goes
 returns-then-not-is_interrupted-clause-goes g c =
-    (_, InsideGoes-joins _ _ _ _ _ _ c.loop-read.invariant.goes c.read.ensures.goes, tt)
+    let before = c.loop-read.invariant in
+    let payload = before.payload ++ handed_out c.read.new.out c.read.result in (
+      payload,
+      InsideGoes-joins _ _ _ _ _ _ before.goes c.read.ensures.goes,
+      TakeFails-of c.args.body.now.stream c.loop-read.body.stream before.steady before.goes.takes.went.grows.zero_reads payload
+          c.read.new.self c.in-Err.e c.in-Err.ensures.fails,
+    )
+
+pub returns-clause-goes : goal.returns-clause-goes
+returns-clause-goes g c =
+    let before = c.loop-read.invariant in (
+      before.payload,
+      before.goes,
+      inr (
+        before.steady,
+        inr (record { other = c.too_many-2.ensures; large = omega (arith, before.turns, c.loop-read-test.false) }),
+      ),
+    )

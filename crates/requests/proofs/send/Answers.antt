@@ -1,6 +1,6 @@
-use Rattle.std.proofs.Common.{[]}
+use Rattle.std.proofs.Common.{[], inl, inr}
 use Rattle.buffer_redux.specs.Policy.{std_write_rules}
-use Rattle.buffer_redux.specs.WritesAlongLaws.{BegunAlong-of}
+use Rattle.buffer_redux.specs.WritesAlongLaws.{BegunAlong-of, WriterStopped-send}
 use Rattle.requests.proofs.Answering.{Sends-flushed}
 use Rattle.requests.proofs.send.Goals as goal
 
@@ -14,4 +14,9 @@ returns-in-Err g c = record {
   front = BegunAlong-of g.W.Tell.log g.W.TellWrite.trace std_write_rules c.args.writer.now c.write_parts.new.self [] _
       c.in-Err.ensures.along;
   sent = tt;
+  why = elim c.in-Err.ensures.caused [
+    | inl sent ↦
+        inl (WriterStopped-send c.args.writer.now.log.writes c.write_parts.new.self.log.writes c.in-Err.e sent)
+    | inr room ↦ inr room
+  ];
 }

@@ -1,24 +1,54 @@
-use Rattle.std.proofs.Common.{[], Ok, false}
+use Rattle.std.proofs.Common.{[], ◌++◌, true, false, inr, refl, arith, length-append}
+use Rattle.std.proofs.lemmas.List.Elements.{All-append, All-nil}
+use Rattle.redux_buffer.specs.Faults.{OnlyInterrupts-joins, OnlyInterrupts-none}
 use Rattle.buffer_redux.specs.UnbufferLaws.{StreamWent-none}
 use Rattle.codec.specs.PieceReader.{left_of}
-use Rattle.requests.proofs.Answering.{Answers-joins, Sends-none, none_answered}
+use Rattle.requests.specs.declared.Place.TheVariants.{Before}
+use Rattle.requests.specs.Answers.{Keeps, faults_of}
+use Rattle.requests.proofs.Answering.{Answers-joins, Sends-none, Serves-after, Serves-unread, none_answered}
 use Rattle.requests.proofs.serve.Goals as goal
 
 pub loop-message-init : goal.loop-message-init
-loop-message-init g c =
-    none_answered (StreamWent-none g.R.TellRead.remaining (left_of c.args.requests))
-    (Sends-none g.met.W.TellWrite.trace_none c.args.writer.now (Ok tt) c.requires.sent)
+loop-message-init g c = record {
+  goes = record {
+    messages = [];
+    answers = none_answered (StreamWent-none g.R.TellRead.remaining (left_of c.args.requests))
+        (Sends-none g.met.W.TellWrite.trace_none c.args.writer.now c.requires.sent);
+    keep = All-nil (Keeps true);
+    reads = OnlyInterrupts-none (faults_of (left_of c.args.requests));
+  };
+  turns = omega arith;
+}
 
 pub answer-requires : goal.answer-requires
-answer-requires g c = record { sent = c.loop-message.invariant.sends.sent }
+answer-requires g c = record { sent = c.loop-message.invariant.goes.answers.sends.sent }
 
 pub loop-message-preserved : goal.loop-message-preserved
-loop-message-preserved g c = Answers-joins g.met.W.TellWrite.trace_joins c.loop-message.invariant c.in-Ok.ensures
+loop-message-preserved g c =
+    let before = c.loop-message.invariant in
+    let a = before.goes in
+    let b = c.in-Ok.ensures.0 in
+    record {
+      goes = record {
+        messages = a.messages ++ b.messages;
+        answers = Answers-joins g.met.W.TellWrite.trace_joins a.answers b.answers;
+        keep = All-append (Keeps true) a.messages b.messages a.keep b.keep;
+        reads = OnlyInterrupts-joins _ _ _ a.reads b.reads;
+      };
+      turns = omega (arith, before.turns, c.in-Ok.ensures.1, length-append a.messages b.messages);
+    }
 
 pub returns-in-Err : goal.returns-in-Err
 returns-in-Err g c =
-    let end = c.in-Err.ensures in
-    (end.0, end.1, end.2, Answers-joins g.met.W.TellWrite.trace_joins c.loop-message.invariant end.3)
+    Serves-after g.met.W.TellWrite.trace_joins c.loop-message.invariant.goes c.in-Err.end.1 c.in-Err.ensures
 
 pub returns : goal.returns
-returns g c = ([], false, false, c.loop-message.invariant)
+returns g c =
+    let before = c.loop-message.invariant in
+    Serves-unread [] (Before c.loop-message.next) false c.too_many.result (refl, refl) before.goes.answers (inr (
+      before.goes.reads,
+      inr (record {
+        other = c.too_many.ensures;
+        large = omega (arith, before.turns, c.loop-message-test.false);
+      }),
+    ))

@@ -1,7 +1,9 @@
-use Rattle.std.proofs.Common.{◌++◌}
+use Rattle.std.proofs.Common.{◌++◌, sym, subst}
+use Rattle.redux_buffer.specs.Faults.{OnlyInterrupts}
 use Rattle.codec.specs.PieceReader.{left_of}
 use Rattle.messages.specs.MessagesLaws.{InsideGoes-joins}
-use Rattle.requests.proofs.Answering.{whole_taken}
+use Rattle.requests.specs.Answers.{faults_of}
+use Rattle.requests.proofs.Reading.{TakeFails-behind, unasked, whole_taken}
 use Rattle.requests.proofs.take_whole.Goals as goal
 
 pub returns-in-Ok-finish-clause-whole : goal.returns-in-Ok-finish-clause-whole
@@ -10,13 +12,23 @@ returns-in-Ok-finish-clause-whole g c =
     whole_taken g.R.TellRead.remaining c.args.body c.payload_len.new.body read.0 (left_of c.in-Ok-finish.requests) c.in-Ok.len
     read.1 read.2 c.in-Ok.ensures.ended c.in-Ok-finish.ensures.ends
 
+pub returns-in-Ok-finish-clause-steady : goal.returns-in-Ok-finish-clause-steady
+returns-in-Ok-finish-clause-steady g c =
+    subst (OnlyInterrupts (faults_of c.args.body.stream)) (sym c.in-Ok-finish.ensures.ends.no_fault) c.in-Ok.ensures.steady
+
 pub returns-in-Err-finish-clause-part : goal.returns-in-Err-finish-clause-part
 returns-in-Err-finish-clause-part g c =
     let read = c.in-Ok.ensures.goes in
     let rest = c.in-Err-finish.ensures.ends in (
       read.0 ++ rest.0,
       InsideGoes-joins g.R.TellRead.remaining c.args.body c.payload_len.new.body c.in-Err-finish.body read.0 rest.0 read.1 rest.1,
+      TakeFails-behind c.args.body.stream c.payload_len.new.body.stream c.in-Ok.ensures.steady
+          read.1.takes.went.grows.zero_reads read.0 rest.0 c.in-Err-finish.body c.in-Err-finish.e rest.2
+          (unasked c.payload_len.new.body.stream c.in-Err-finish.body.stream c.payload_len.new.body.rest c.in-Ok.ensures.ended
+          c.in-Err-finish.ensures.asked),
     )
 
 pub returns-in-Err-clause-part : goal.returns-in-Err-clause-part
-returns-in-Err-clause-part g c = (c.in-Err.ensures.goes.0, c.in-Err.ensures.goes.1)
+returns-in-Err-clause-part g c =
+    let goes = c.in-Err.ensures.goes in
+    (goes.0, goes.1, goes.2)

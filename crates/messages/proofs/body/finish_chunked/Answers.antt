@@ -1,6 +1,6 @@
 use Rattle.std.proofs.Common.{ap, arith, inl, inr}
 use Rattle.messages.proofs.Asking.{drain_asked}
-use Rattle.messages.proofs.Going.{chunks_end, chunks_fail, chunks_take}
+use Rattle.messages.proofs.Going.{chunks_end, chunks_fail, chunks_take, counts_many}
 use Rattle.messages.proofs.body.finish_chunked.Goals as goal
 
 pub returns-in-Ok-clause-room : goal.returns-in-Ok-clause-room
@@ -35,6 +35,6 @@ returns-in-Err-clause-ends g c =
       chunks_take c.get_ref.ensures.whole drains.went whole,
       elim drains.answers [
         | inl answers ↦ inl (chunks_fail c.args.body c.in-Err.body whole c.requires.0 1 c.in-Err.e answers)
-        | inr many ↦ inr many.many
+        | inr many ↦ inr (counts_many drains.payload c.in-Err.e many)
       ],
     )

@@ -10,9 +10,9 @@ returns-in-Ok-finish-clause-passed g c =
       body.head,
       [] ++ ends.payload,
       MessageWent-of g.R.TellRead.remaining c.args.requests body body [] ends.wire ends.payload (left_of c.in-Ok-finish.next)
-          c.in-Ok.ensures (Takes-none g.R.TellRead.remaining body.stream body.rest) ends.went ends.is,
+          c.in-Ok.ensures.next (Takes-none g.R.TellRead.remaining body.stream body.rest) ends.went ends.is,
     )
 
 pub returns-in-Err-finish-clause-stopped : goal.returns-in-Err-finish-clause-stopped
 returns-in-Err-finish-clause-stopped g c =
-    (c.in-Ok.body, c.in-Err-finish.ensures.ends.0, c.in-Ok.ensures, c.in-Err-finish.ensures.ends.1)
+    (c.in-Ok.body, c.in-Err-finish.ensures.ends.0, c.in-Ok.ensures.next, c.in-Err-finish.ensures.ends.1)

@@ -29,8 +29,8 @@ append-requires g c =
       );
     }
 
-pub returns-in-Some : goal.returns-in-Some
-returns-in-Some g c =
+pub returns-in-Some-clause-next : goal.returns-in-Some-clause-next
+returns-in-Some-clause-next g c =
     let remaining = g.R.TellRead.remaining in
     let s = c.self.inside.pieces in
     let t = c.step.new.self in

@@ -1,0 +1,169 @@
+-- What reads of a run met.
+use Rattle.std.proofs.Common.{◌≡◌, ℕ, ◌+◌, ◌-◌, ◌<◌, ◌≤◌, Bool, true, false, List, [], ◌∷◌, ◌++◌, All, length, Option, Result, Ok, Err, sym, ap, subst, inl, inr, ◌∙◌, refl, arith, append_assoc, append-nil, length-append}
+use Rattle.std.proofs.lemmas.List.{nil_from_length}
+use Rattle.std.proofs.lemmas.List.Elements.{All-append, All-cons, All-nil}
+use Rattle.std.specs.declared.io.Error.{Error}
+use Rattle.redux_buffer.specs.Faults.{FaultAfterInterrupts, FaultAfterInterrupts-after, IsInterrupt, OnlyInterrupts, OnlyInterrupts-joins, OnlyInterrupts-none}
+use Rattle.buffer_redux.specs.Unbuffer.{StreamWent, Unbuffered}
+use Rattle.buffer_redux.specs.UnbufferLaws.{StreamWent-joins}
+use Rattle.chunked.specs.Asking.{AskedWhere}
+use Rattle.chunked.specs.ChunkedReaderLaws.{Completes-nothing}
+use Rattle.chunked.specs.Place.{Completes}
+use Rattle.chunked.specs.declared.place.Place.TheVariants.{Done}
+use Rattle.codec.specs.PieceReader.{ReaderState, left_of}
+use Rattle.messages.specs.declared.error.BodyError.{BodyError}
+use Rattle.messages.specs.declared.error.BodyError.TheVariants.{Wrong, Truncated, Io}
+use Rattle.messages.specs.declared.error.FinishError.{FinishError}
+use Rattle.messages.specs.declared.error.FinishError.TheVariants.{Body, Memory}
+use Rattle.messages.specs.declared.head.Heads.{Heads}
+use Rattle.messages.specs.Heads.{IsHead}
+use Rattle.messages.specs.Messages.{Begun, Bytes, Chunks, Ends, Fails, FinishFails, InBody, InsideGoes, IsRest, Message, Onward, Rest, Unended, body_of}
+use Rattle.messages.specs.MessagesLaws.{Begun-went}
+use Rattle.requests.specs.declared.Place.{Place}
+use Rattle.requests.specs.declared.Place.TheVariants.{Before, Inside}
+use Rattle.requests.specs.Answers.{Closes, HasEnded, IsCount, IsOver, IsPart, IsTorn, IsWrong, Keeps, ReadStops, TakeFails, TakesWhole, ends_of, faults_of}
+
+-- no fault was met, or one
+pub none_met : {a b : List Error} → b ≡ a → OnlyInterrupts a b
+none_met {a} {b} same = subst (OnlyInterrupts a) (sym same) (OnlyInterrupts-none a)
+
+pub interrupted_once : (a b : List Error) (e : Error) → IsInterrupt e → b ≡ a ++ e ∷ [] → OnlyInterrupts a b
+interrupted_once a b e is faults = record {
+  interrupts = e ∷ [];
+  interrupted = All-cons IsInterrupt e [] is (All-nil IsInterrupt);
+  faults = faults;
+}
+
+pub failed_behind : (a b c : List Error) (e : Error) → OnlyInterrupts a b → c ≡ b ++ e ∷ [] → FaultAfterInterrupts a c e
+failed_behind a b c e reads faults = record {
+  interrupts = reads.interrupts;
+  interrupted = reads.interrupted;
+  faults = faults ∙ ap (λ l. l ++ e ∷ []) reads.faults;
+}
+
+pub no_shorter : {a b : List Error} → OnlyInterrupts a b → length a ≤ length b
+no_shorter {a} {b} reads = omega (arith, ap length reads.faults, length-append a reads.interrupts)
+
+-- what was met from here on was met since
+module _ {S : Type 0} (s m : Unbuffered S) (reads : OnlyInterrupts (faults_of s) (faults_of m))
+    (ends : ends_of s ≤ ends_of m) where
+  joined : (t : Unbuffered S) → OnlyInterrupts (faults_of m) (faults_of t) → OnlyInterrupts (faults_of s) (faults_of t)
+  joined t met = OnlyInterrupts-joins (faults_of s) (faults_of m) (faults_of t) reads met
+
+  pub IsTorn-still : (b : InBody S) → IsTorn m b → IsTorn s b
+  IsTorn-still b (inl torn) = inl torn
+  IsTorn-still b (inr (more, none, cut)) = inr (omega (arith, ends, more), none, cut)
+
+  pub IsWrong-still : (place : Place S) → IsWrong m place → IsWrong s place
+  IsWrong-still (Before requests) (inl none) = inl none
+  IsWrong-still (Before requests) (inr (more, some, cut)) = inr (omega (arith, ends, more), some, cut)
+  IsWrong-still (Inside body) torn = IsTorn-still body torn
+
+  HasEnded-still : (place : Place S) → HasEnded m place → HasEnded s place
+  HasEnded-still (Before requests) (more, none) = (omega (arith, ends, more), none)
+  HasEnded-still (Inside body) odd = odd
+
+  pub IsOver-still : (ms ns : List Message) (refuses : Bool) (place : Place S) → All (Keeps true) ms → IsOver ns refuses m place
+      → IsOver (ms ++ ns) refuses s place
+  IsOver-still ms ns refuses place keep (inl (closes, not)) = inl (
+    record {
+      before = ms ++ closes.before;
+      last = closes.last;
+      all = ap (λ l. ms ++ l) closes.all ∙ sym (append_assoc ms closes.before (closes.last ∷ []));
+      keep = All-append (Keeps true) ms closes.before keep closes.keep;
+      close = closes.close;
+    },
+    not,
+  )
+  IsOver-still ms ns refuses place keep (inr (more, inl is)) = inr (All-append (Keeps true) ms ns keep more, inl is)
+  IsOver-still ms ns refuses place keep (inr (more, inr ended)) =
+      inr (All-append (Keeps true) ms ns keep more, inr (HasEnded-still place ended))
+
+  pub ReadStops-still : (more count : ℕ) (e : Error) (t : Unbuffered S) → ReadStops count m e t
+      → ReadStops (more + count) s e t
+  ReadStops-still more count e t (inl fault) =
+      inl (FaultAfterInterrupts-after (faults_of s) (faults_of m) (faults_of t) e reads fault)
+  ReadStops-still more count e t (inr (met, inl memory)) = inr (joined t met, inl memory)
+  ReadStops-still more count e t (inr (met, inr many)) = inr (
+    joined t met,
+    inr (record { other = many.other; large = omega (arith, many.large, no_shorter reads, no_shorter met) }),
+  )
+
+  -- why a read in a body failed is why the whole isn't taken
+  pub TakeFails-of : (handed : List ℕ) (b : InBody S) (e : BodyError) → Fails m e b.stream b.rest → TakeFails s handed (Body e) b
+  TakeFails-of handed b (Wrong why) (none, torn) = (joined b.stream (none_met none), inl torn)
+  TakeFails-of handed b Truncated (none, more, left, cut) =
+      (joined b.stream (none_met none), inr (omega (arith, ends, more), left, cut))
+  TakeFails-of handed b (Io e) fault =
+      inl (failed_behind (faults_of s) (faults_of m) (faults_of b.stream) e reads fault)
+
+  pub TakeFails-behind : (handed more : List ℕ) (b : InBody S) (why : FinishError) → FinishFails m more why b.stream b.rest
+      → faults_of b.stream ≡ faults_of m → TakeFails s (handed ++ more) why b
+  TakeFails-behind handed more b (Body e) (inl fails) same = TakeFails-of (handed ++ more) b e fails
+  TakeFails-behind handed more b (Body (Wrong why)) (inr odd) same = absurd odd
+  TakeFails-behind handed more b (Body Truncated) (inr odd) same = absurd odd
+  TakeFails-behind handed more b (Body (Io e)) (inr (other, many)) same = inr (
+    joined b.stream (none_met same),
+    inr (record { other = other; large = omega (arith, many, length-append handed more) }),
+  )
+  TakeFails-behind handed more b (Memory e) (none, whole) same = joined b.stream (none_met none)
+
+-- the head of a message went without a fault, and no end was met again
+module _ {R : Type 0} {remaining : R → Option (List ℕ)} {s : ReaderState R Heads} {b : InBody R}
+    (begun : Begun remaining s b) where
+  pub begun_reads : OnlyInterrupts (faults_of (left_of s)) (faults_of b.stream)
+  begun_reads = none_met (ap faults_of begun.stream ∙ begun.next.answers.0)
+
+  pub begun_ends : ends_of (left_of s) ≤ ends_of b.stream
+  begun_ends = (Begun-went remaining s b begun).grows.zero_reads
+
+  -- a part of it was taken
+  pub is_part : {t : InBody R} {handed : List ℕ} (goes : InsideGoes remaining b handed t)
+      → IsPart (Inside t) (b.head ++ goes.takes.wire) handed
+  is_part {t} {handed} goes = (
+    goes.takes.wire,
+    ap (λ l. l ++ goes.takes.wire) (sym goes.head),
+    subst (λ h. IsHead h t.said) (sym goes.head) (subst (λ x. IsHead b.head x) (sym goes.said) begun.is),
+    subst (λ x. Onward (body_of x.extent) goes.takes.wire handed t.rest) (sym goes.said)
+        (subst (λ r. Onward r goes.takes.wire handed t.rest) begun.rest goes.takes.onward),
+  )
+
+-- nothing is left where none is
+nothing_more : (r : Rest) (wire payload : List ℕ) → IsRest r [] [] → IsRest r wire payload → payload ≡ []
+nothing_more (Bytes n) wire payload none is = is.1 ∙ nil_from_length wire (is.0 ∙ sym none.0)
+nothing_more (Chunks limits place) wire payload none is =
+    (subst (λ p. Completes limits p wire payload) (Completes-nothing limits place [] none) is).0
+
+-- so the stream isn't asked for more of it
+none_asked : (r : Rest) (bytes : List ℕ) → IsRest r [] [] → ¬ (Unended r bytes)
+none_asked (Bytes n) bytes none (handed, on) =
+    omega (
+      arith,
+      on.some,
+      none.0,
+      (on.onward on.later on.payload on.is).0,
+      length-append bytes on.later,
+    )
+none_asked (Chunks limits place) bytes none (handed, on) =
+    let done : Completes limits Done (bytes ++ on.later) (handed ++ on.payload) =
+    subst (λ p. Completes limits p (bytes ++ on.later) (handed ++ on.payload)) (Completes-nothing limits place [] none)
+    (on.onward on.later on.payload on.is) in
+    omega (arith, on.some, ap length done.1, length-append bytes on.later)
+
+pub unasked : {S : Type 0} (s t : Unbuffered S) (r : Rest) → IsRest r [] [] → AskedWhere (Unended r) s t
+    → faults_of t ≡ faults_of s
+unasked s t r none (inl same) = ap (λ l. l.reads.faults) same
+unasked s t r none (inr over) = absurd (none_asked r (s.left ++ over.came) none over.such)
+
+-- what was read, and what ended it, is the whole body
+pub whole_taken : {R : Type 0} (remaining : R → Option (List ℕ)) (b m : InBody R) (payload : List ℕ) (t : Unbuffered R) (len : ℕ)
+    → InsideGoes remaining b payload m → len ≡ length payload → IsRest m.rest [] [] → Ends remaining m.stream m.rest t
+    → TakesWhole remaining b t len
+whole_taken remaining b m payload t len goes many none ends = (
+  goes.takes.wire ++ ends.wire,
+  payload ++ ends.payload,
+  StreamWent-joins remaining b.stream m.stream t goes.takes.wire ends.wire goes.takes.went ends.went,
+  goes.takes.onward ends.wire ends.payload ends.is,
+  many ∙ ap length (sym (append-nil payload))
+      ∙ ap (λ l. length (payload ++ l)) (sym (nothing_more m.rest ends.wire ends.payload none ends.is)),
+)
