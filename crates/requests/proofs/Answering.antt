@@ -1,6 +1,6 @@
 -- Answers, one after another.
-use Rattle.std.proofs.Common.{◌≡◌, ℕ, ◌+◌, ◌-◌, ◌<◌, ◌≤◌, Bool, true, false, List, [], ◌∷◌, ◌++◌, All, length, Option, Result, Ok, Err, OnOk, IfErr, sym, ap, subst, inl, inr, ◌∙◌, refl, arith, le_refl, append_assoc, append-nil, length-append}
-use Rattle.std.proofs.lemmas.List.Elements.{All-append, All-nil}
+use Rattle.std.proofs.Common.{◌≡◌, ℕ, ◌+◌, ◌≤◌, ◌⊎◌, Bool, true, false, List, [], ◌∷◌, ◌++◌, length, Option, Result, Ok, Err, OnOk, IfErr, sym, ap, subst, inl, inr, ◌∙◌, refl, arith, append_assoc, append-nil, length-append}
+use Rattle.std.proofs.lemmas.List.Elements.{All-nil}
 use Rattle.std.specs.declared.io.Error.{Error}
 use Rattle.redux_buffer.specs.Faults.{OnlyInterrupts, OnlyInterrupts-joins}
 use Rattle.buffer_redux.specs.BufWriter.{BegunAlong, WasFlushed, WritesAlong}
@@ -21,9 +21,9 @@ use Rattle.messages.specs.Messages.{Begun, InBody, InsideGoes, IsMessage, Messag
 use Rattle.messages.specs.MessagesLaws.{Begun-went, InTurn-joins, InTurn-one, MessageWent-of, Takes-none}
 use Rattle.programs.specs.Streams.{AllSent}
 use Rattle.requests.specs.declared.Place.{Place}
-use Rattle.requests.specs.declared.Place.TheVariants.{Before, Inside}
-use Rattle.requests.proofs.Reading.{IsOver-still, IsTorn-still, IsWrong-still, ReadStops-still, begun_ends, begun_reads, is_part}
-use Rattle.requests.specs.Answers.{Answers, EndsBody, Continues, IsAnswer, IsOver, IsPart, IsTorn, IsWrong, Keeps, ReadStops, Sends, SendStops, Serves, TakeFails, TakesWhole, accepted, called, ends_of, faults_of, refused, stream_at, waits}
+use Rattle.requests.specs.declared.Place.TheVariants.{Inside}
+use Rattle.requests.proofs.Reading.{IsOver-still, IsTorn-still, IsWrong-still, begun_ends, begun_reads, is_part, unread_still}
+use Rattle.requests.specs.Answers.{Answers, EndsBody, Continues, IsAnswer, IsOver, IsPart, IsTorn, IsWrong, Keeps, LacksMemory, ReadStops, Sends, SendStops, Serves, TakeFails, TakesWhole, accepted, called, ends_of, faults_of, refused, stream_at, waits}
 
 pub on_ok : {P : Type 0} (answer : Result (Unit {0}) Error) → P → OnOk answer P
 on_ok (Ok x) p = p
@@ -145,7 +145,7 @@ module _ {W : Type 0} {tells : W → StreamLog} {trace : W → W → Type 0} whe
     pub Serves-unread : {messages : List Message} {s : Unbuffered R} {w w' : Buffered W StdPolicy} {taken : List ℕ}
         (handed : List ℕ) (place : Place R) (calls : Bool) (e : Error) → IsPart place taken handed
         → Answers remaining tells trace messages s w taken (called calls ++ []) (stream_at place) (Ok tt) w'
-        → ReadStops (length messages + length handed) s e (stream_at place)
+        → ReadStops (length messages + length handed) s e (stream_at place) ⊎ LacksMemory s e place
         → Serves remaining tells trace s w place (Err e) w'
     Serves-unread {messages} {s} {w} {w'} {taken} handed place calls e part answers stops = record {
       messages = messages;
@@ -179,21 +179,22 @@ module _ {W : Type 0} {tells : W → StreamLog} {trace : W → W → Type 0} whe
               inr (All-nil (Keeps true), inl refl),
             ))
 
-        failed_inside : (e : Error) → ReadStops (length handed) b.stream e t.stream → Sends tells trace v [] (Ok tt) w'
-            → Serves remaining tells trace (left_of s) w (Inside t) (Err e) w'
+        failed_inside : (e : Error) → ReadStops (length handed) b.stream e t.stream ⊎ LacksMemory b.stream e (Inside t)
+            → Sends tells trace v [] (Ok tt) w' → Serves remaining tells trace (left_of s) w (Inside t) (Err e) w'
         failed_inside e stops sends =
             Serves-unread handed (Inside t) calls e (is_part begun goes)
             (part_answered begun goes (Sends-after joins w v w' (called calls) [] (Ok tt) call sends))
-            (ReadStops-still (left_of s) b.stream (begun_reads begun) (begun_ends begun) 0 (length handed) e t.stream stops)
+            (unread_still (left_of s) b.stream (begun_reads begun) (begun_ends begun) 0 (length handed) e (Inside t) stops)
 
         pub torn_answered : (why : FinishError) (answer : Result (Unit {0}) Error) → TakeFails b.stream handed why t
             → EndsBody tells trace v why answer w' → Serves remaining tells trace (left_of s) w (Inside t) answer w'
         torn_answered (Body (Wrong why)) answer (reads, torn) sends = refused_torn answer reads torn sends
         torn_answered (Body Truncated) answer (reads, torn) sends = refused_torn answer reads torn sends
         torn_answered (Body (Io e)) answer stops (same, sends) =
-            subst (λ r. Serves remaining tells trace (left_of s) w (Inside t) r w') (sym same) (failed_inside e stops sends)
-        torn_answered (Memory e) (Err why) reads (memory, sends) = failed_inside why (inr (reads, inl memory)) sends
-        torn_answered (Memory e) (Ok x) reads (odd, sends) = absurd odd
+            subst (λ r. Serves remaining tells trace (left_of s) w (Inside t) r w') (sym same) (failed_inside e (inl stops) sends)
+        torn_answered (Memory e) (Err why) (reads, whole) (memory, sends) =
+            failed_inside why (inr (memory, reads, whole)) sends
+        torn_answered (Memory e) (Ok x) fails (odd, sends) = absurd odd
 
       -- one did, whole, and its payload was counted
       pub one_answered : {s : ReaderState R Heads} {b : InBody R} {t : Unbuffered R} {len : ℕ} {said : ParsedHead}
@@ -265,14 +266,14 @@ module _ {W : Type 0} {tells : W → StreamLog} {trace : W → W → Type 0} whe
             over (Err e) is = tt
 
             unread : (sending answer : Result (Unit {0}) Error)
-                → OnOk sending (IfErr answer (λ e. ReadStops (length b.messages + length b.handed) m e (stream_at place)))
+                → OnOk sending (IfErr answer (λ e. ReadStops (length b.messages + length b.handed) m e (stream_at place)
+                ⊎ LacksMemory m e place))
                 → OnOk sending (IfErr answer (λ e. ReadStops (length (a.messages ++ b.messages) + length b.handed) s e
-                (stream_at place)))
+                (stream_at place) ⊎ LacksMemory s e place))
             unread (Err e) answer is = tt
             unread (Ok x) (Ok y) is = tt
             unread (Ok x) (Err e) is =
                 let both : length a.messages + (length b.messages + length b.handed)
                 ≡ length (a.messages ++ b.messages) + length b.handed = omega (arith, length-append a.messages b.messages) in
-                subst (λ n. ReadStops n s e (stream_at place)) both
-                (ReadStops-still s m a.reads ends (length a.messages) (length b.messages + length b.handed) e (stream_at place)
-                is)
+                subst (λ n. ReadStops n s e (stream_at place) ⊎ LacksMemory s e place) both
+                (unread_still s m a.reads ends (length a.messages) (length b.messages + length b.handed) e place is)

@@ -1,10 +1,10 @@
 -- What reads of a run met.
-use Rattle.std.proofs.Common.{◌≡◌, ℕ, ◌+◌, ◌-◌, ◌<◌, ◌≤◌, Bool, true, false, List, [], ◌∷◌, ◌++◌, All, length, Option, Result, Ok, Err, sym, ap, subst, inl, inr, ◌∙◌, refl, arith, append_assoc, append-nil, length-append}
+use Rattle.std.proofs.Common.{◌≡◌, ℕ, ◌+◌, ◌≤◌, ◌⊎◌, Bool, true, List, [], ◌∷◌, ◌++◌, All, length, Option, sym, ap, subst, inl, inr, ◌∙◌, refl, arith, append_assoc, append-nil, length-append}
 use Rattle.std.proofs.lemmas.List.{nil_from_length}
 use Rattle.std.proofs.lemmas.List.Elements.{All-append, All-cons, All-nil}
 use Rattle.std.specs.declared.io.Error.{Error}
 use Rattle.redux_buffer.specs.Faults.{FaultAfterInterrupts, FaultAfterInterrupts-after, IsInterrupt, OnlyInterrupts, OnlyInterrupts-joins, OnlyInterrupts-none}
-use Rattle.buffer_redux.specs.Unbuffer.{StreamWent, Unbuffered}
+use Rattle.buffer_redux.specs.Unbuffer.{Unbuffered}
 use Rattle.buffer_redux.specs.UnbufferLaws.{StreamWent-joins}
 use Rattle.chunked.specs.Asking.{AskedWhere}
 use Rattle.chunked.specs.ChunkedReaderLaws.{Completes-nothing}
@@ -21,7 +21,7 @@ use Rattle.messages.specs.Messages.{Begun, Bytes, Chunks, Ends, Fails, FinishFai
 use Rattle.messages.specs.MessagesLaws.{Begun-went}
 use Rattle.requests.specs.declared.Place.{Place}
 use Rattle.requests.specs.declared.Place.TheVariants.{Before, Inside}
-use Rattle.requests.specs.Answers.{Closes, HasEnded, IsCount, IsOver, IsPart, IsTorn, IsWrong, Keeps, ReadStops, TakeFails, TakesWhole, ends_of, faults_of}
+use Rattle.requests.specs.Answers.{HasEnded, IsOver, IsPart, IsTorn, IsWrong, Keeps, LacksMemory, ReadStops, TakeFails, TakesWhole, ends_of, faults_of, stream_at}
 
 -- no fault was met, or one
 pub none_met : {a b : List Error} → b ≡ a → OnlyInterrupts a b
@@ -79,34 +79,51 @@ module _ {S : Type 0} (s m : Unbuffered S) (reads : OnlyInterrupts (faults_of s)
   IsOver-still ms ns refuses place keep (inr (more, inr ended)) =
       inr (All-append (Keeps true) ms ns keep more, inr (HasEnded-still place ended))
 
-  pub ReadStops-still : (more count : ℕ) (e : Error) (t : Unbuffered S) → ReadStops count m e t
+  ReadStops-still : (more count : ℕ) (e : Error) (t : Unbuffered S) → ReadStops count m e t
       → ReadStops (more + count) s e t
-  ReadStops-still more count e t (inl fault) =
-      inl (FaultAfterInterrupts-after (faults_of s) (faults_of m) (faults_of t) e reads fault)
-  ReadStops-still more count e t (inr (met, inl memory)) = inr (joined t met, inl memory)
-  ReadStops-still more count e t (inr (met, inr many)) = inr (
+  ReadStops-still more count e t (inl (fault, hard)) =
+      inl (FaultAfterInterrupts-after (faults_of s) (faults_of m) (faults_of t) e reads fault, hard)
+  ReadStops-still more count e t (inr (met, many)) = inr (
     joined t met,
-    inr (record { other = many.other; large = omega (arith, many.large, no_shorter reads, no_shorter met) }),
+    record { other = many.other; large = omega (arith, many.large, no_shorter reads, no_shorter met) },
   )
 
+  LacksMemory-still : (e : Error) (place : Place S) → LacksMemory m e place → LacksMemory s e place
+  LacksMemory-still e (Before requests) odd = odd
+  LacksMemory-still e (Inside body) (memory, met, whole) = (memory, joined body.stream met, whole)
+
+  pub unread_still : (more count : ℕ) (e : Error) (place : Place S)
+      → ReadStops count m e (stream_at place) ⊎ LacksMemory m e place
+      → ReadStops (more + count) s e (stream_at place) ⊎ LacksMemory s e place
+  unread_still more count e place (inl stops) = inl (ReadStops-still more count e (stream_at place) stops)
+  unread_still more count e place (inr lacks) = inr (LacksMemory-still e place lacks)
+
   -- why a read in a body failed is why the whole isn't taken
-  pub TakeFails-of : (handed : List ℕ) (b : InBody S) (e : BodyError) → Fails m e b.stream b.rest → TakeFails s handed (Body e) b
-  TakeFails-of handed b (Wrong why) (none, torn) = (joined b.stream (none_met none), inl torn)
-  TakeFails-of handed b Truncated (none, more, left, cut) =
+  pub TakeFails-of : (handed : List ℕ) (b : InBody S) (e : BodyError) → ((why : Error) → e ≡ Io why → ¬ (IsInterrupt why))
+      → Fails m e b.stream b.rest → TakeFails s handed (Body e) b
+  TakeFails-of handed b (Wrong why) hard (none, torn) = (joined b.stream (none_met none), inl torn)
+  TakeFails-of handed b Truncated hard (none, more, left, cut) =
       (joined b.stream (none_met none), inr (omega (arith, ends, more), left, cut))
-  TakeFails-of handed b (Io e) fault =
-      inl (failed_behind (faults_of s) (faults_of m) (faults_of b.stream) e reads fault)
+  TakeFails-of handed b (Io e) hard fault =
+      inl (failed_behind (faults_of s) (faults_of m) (faults_of b.stream) e reads fault, hard e refl)
+
+  -- where no fault was met, none is why
+  no_fault : (b : InBody S) (e : Error) → Fails m (Io e) b.stream b.rest → faults_of b.stream ≡ faults_of m → ⊥
+  no_fault b e fault same =
+      omega (arith, ap length fault, ap length same, length-append (faults_of m) (e ∷ []))
 
   pub TakeFails-behind : (handed more : List ℕ) (b : InBody S) (why : FinishError) → FinishFails m more why b.stream b.rest
       → faults_of b.stream ≡ faults_of m → TakeFails s (handed ++ more) why b
-  TakeFails-behind handed more b (Body e) (inl fails) same = TakeFails-of (handed ++ more) b e fails
+  TakeFails-behind handed more b (Body e) (inl fails) same =
+      TakeFails-of (handed ++ more) b e (λ why is. absurd (no_fault b why (subst (λ x. Fails m x b.stream b.rest) is fails) same))
+      fails
   TakeFails-behind handed more b (Body (Wrong why)) (inr odd) same = absurd odd
   TakeFails-behind handed more b (Body Truncated) (inr odd) same = absurd odd
   TakeFails-behind handed more b (Body (Io e)) (inr (other, many)) same = inr (
     joined b.stream (none_met same),
-    inr (record { other = other; large = omega (arith, many, length-append handed more) }),
+    record { other = other; large = omega (arith, many, length-append handed more) },
   )
-  TakeFails-behind handed more b (Memory e) (none, whole) same = joined b.stream (none_met none)
+  TakeFails-behind handed more b (Memory e) (none, whole) same = (joined b.stream (none_met none), whole)
 
 -- the head of a message went without a fault, and no end was met again
 module _ {R : Type 0} {remaining : R → Option (List ℕ)} {s : ReaderState R Heads} {b : InBody R}

@@ -1,9 +1,9 @@
 -- What is answered to requests.
-use Rattle.std.specs.Prelude.{◌≡◌, ℕ, ◌+◌, ◌-◌, ◌^◌, ◌<◌, ◌≤◌, ◌⊎◌, ◌&&◌, nat_lt, if◌then◌else◌, Bool, true, false, List, [], ◌∷◌, ◌++◌, All, length, drop, Option, Result, Ok, Err, MatchResult, OnOk, IfErr, IsErrAnd, codes}
+use Rattle.std.specs.Prelude.{◌≡◌, ◌≢◌, ℕ, ◌+◌, ◌-◌, ◌^◌, ◌<◌, ◌≤◌, ◌⊎◌, ◌&&◌, nat_lt, if◌then◌else◌, Bool, true, false, List, [], ◌∷◌, ◌++◌, All, length, drop, Option, Result, Ok, Err, MatchResult, OnOk, IfErr, IsErrAnd, codes}
 use Rattle.std.specs.Fmt.{decimal}
 use Rattle.std.specs.IoError.{error_kind}
 use Rattle.std.specs.declared.io.Error.{Error}
-use Rattle.std.specs.declared.io.ErrorKind.TheVariants.{Other}
+use Rattle.std.specs.declared.io.ErrorKind.TheVariants.{Interrupted, Other}
 use Rattle.redux_buffer.specs.Faults.{FaultAfterInterrupts, IsMemory, OnlyInterrupts}
 use Rattle.redux_buffer.specs.GrowError.{GrowthFailed}
 use Rattle.buffer_redux.specs.BufWriter.{FrontAlong, WriterStopped}
@@ -23,7 +23,7 @@ use Rattle.messages.specs.declared.head.Extent.TheVariants.{Sized, Chunked}
 use Rattle.messages.specs.declared.head.ParsedHead.{ParsedHead}
 use Rattle.messages.specs.Heads.{IsHead, heads}
 use Rattle.messages.specs.declared.head.Heads.{Heads}
-use Rattle.messages.specs.Messages.{AreMessages, InBody, InTurn, IsRest, Message, Onward, body_of}
+use Rattle.messages.specs.Messages.{AreMessages, Bytes, InBody, InTurn, IsRest, Message, Onward, body_of}
 use Rattle.programs.specs.Streams.{AllSent}
 use Rattle.requests.specs.declared.Place.{Place}
 use Rattle.requests.specs.declared.Place.TheVariants.{Before, Inside}
@@ -124,19 +124,22 @@ pub record IsCount (e : Error) (count : ℕ) : Type 0 where
   pub other : error_kind e ≡ Other
   pub large : 2 ^ 64 ≤ count + 1
 
--- why no more is read: behind interruptions a read failed so; or memory was refused; or there were too many interruptions, with
--- what was counted before
+-- why no more is read: behind interruptions a read failed so; or there were too many of them, with what was counted before
 abbrev pub ReadStops : {S : Type 0} → ℕ → Unbuffered S → Error → Unbuffered S → Type 0
-ReadStops count s e t = FaultAfterInterrupts (faults_of s) (faults_of t) e
-    ⊎ (OnlyInterrupts (faults_of s) (faults_of t)
-    × (IsMemory e ⊎ IsCount e (count + (length (faults_of t) - length (faults_of s)))))
+ReadStops count s e t = (FaultAfterInterrupts (faults_of s) (faults_of t) e × (error_kind e ≢ Interrupted))
+    ⊎ (OnlyInterrupts (faults_of s) (faults_of t) × IsCount e (count + (length (faults_of t) - length (faults_of s))))
+
+-- behind a whole body memory was refused for the next head
+abbrev pub LacksMemory : {S : Type 0} → Unbuffered S → Error → Place S → Type 0
+LacksMemory s e (Before requests) = ⊥
+LacksMemory s e (Inside body) = IsMemory e × OnlyInterrupts (faults_of s) (faults_of body.stream) × (body.rest ≡ Bytes 0)
 
 -- why a body isn't taken whole, of which this payload was: so, or it is torn
 abbrev pub TakeFails : {S : Type 0} → Unbuffered S → List ℕ → FinishError → InBody S → Type 0
 TakeFails s handed (Body (Wrong why)) b = OnlyInterrupts (faults_of s) (faults_of b.stream) × IsTorn s b
 TakeFails s handed (Body Truncated) b = OnlyInterrupts (faults_of s) (faults_of b.stream) × IsTorn s b
 TakeFails s handed (Body (Io e)) b = ReadStops (length handed) s e b.stream
-TakeFails s handed (Memory e) b = OnlyInterrupts (faults_of s) (faults_of b.stream)
+TakeFails s handed (Memory e) b = OnlyInterrupts (faults_of s) (faults_of b.stream) × (b.rest ≡ Bytes 0)
 
 -- why text wasn't sent: the writer failed, or room for it was refused
 abbrev pub SendStops : {W : Type 0} → List ℕ → Buffered W StdPolicy → Error → Buffered W StdPolicy → Type 0
@@ -192,7 +195,8 @@ module _ {R W : Type 0} (remaining : R → Option (List ℕ)) (tells : W → Str
     pub wrong : refuses ≡ true → IsWrong s place
     pub unsent : IfErr sending (λ e. answer ≡ Err e)
     pub over : OnOk answer (OnlyInterrupts (faults_of s) (faults_of (stream_at place)) × IsOver messages refuses s place)
-    pub unread : OnOk sending (IfErr answer (λ e. ReadStops (length messages + length handed) s e (stream_at place)))
+    pub unread : OnOk sending (IfErr answer (λ e. ReadStops (length messages + length handed) s e (stream_at place)
+        ⊎ LacksMemory s e place))
 
   -- one turn: a message went, or a read was interrupted; or the run ended
   abbrev pub Turns : Unbuffered R → Buffered W StdPolicy → Result (ReaderState R Heads) (Place R × Result (Unit {0}) Error)

@@ -100,7 +100,8 @@ fn stopped<R: TellRead, W: TellWrite>(
 }
 
 fn is_interrupt(stop: &Stop) -> bool
-    ensures { result ≡ true → (e : Error) × (stop.now ≡ Stop.Io e) × IsInterrupt e }
+    ensures yes { result ≡ true → (e : Error) × (stop.now ≡ Stop.Io e) × IsInterrupt e }
+    ensures no { (e : Error) → stop.now ≡ Stop.Io e → IsInterrupt e → result ≡ true }
 {
     match stop {
         Stop::Io(e) => e.kind() == ErrorKind::Interrupted,
@@ -201,7 +202,8 @@ fn payload_len<R: TellRead>(body: &mut Body<R>) -> Result<u64, BodyError>
 }
 
 fn is_interrupted(e: &BodyError) -> bool
-    ensures { result ≡ true → (why : Error) × (e.now ≡ BodyError.Io why) × IsInterrupt why }
+    ensures yes { result ≡ true → (why : Error) × (e.now ≡ BodyError.Io why) × IsInterrupt why }
+    ensures no { (why : Error) → e.now ≡ BodyError.Io why → IsInterrupt why → result ≡ true }
 {
     match e {
         BodyError::Io(e) => e.kind() == ErrorKind::Interrupted,

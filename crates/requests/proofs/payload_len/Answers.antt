@@ -53,7 +53,7 @@ loop-read-preserved g c =
       steady = elim c.match-read.branch [
         | in-Ok+in-Some w ↦ OnlyInterrupts-joins _ _ _ before.steady (none_met w.in-Ok.ensures.no_fault)
         | in-Err+else-not-is_interrupted w ↦
-            (let was = w.is_interrupted.ensures w.if-not-is_interrupted.false in
+            (let was = w.is_interrupted.ensures.yes w.if-not-is_interrupted.false in
             OnlyInterrupts-joins _ _ _ before.steady (interrupted_once (faults_of c.loop-read.body.stream)
             (faults_of c.read.new.self.stream) was.0 was.2 (rw was.1 at w.in-Err.ensures.fails)))
       ];
@@ -69,7 +69,7 @@ loop-read-preserved g c =
               ap length w.in-Ok.ensures.no_fault,
             ))
         | in-Err+else-not-is_interrupted w ↦
-            (let was = w.is_interrupted.ensures w.if-not-is_interrupted.false in
+            (let was = w.is_interrupted.ensures.yes w.if-not-is_interrupted.false in
             let one : faults_of c.read.new.self.stream ≡ faults_of c.loop-read.body.stream ++ was.0 ∷ [] =
             rw was.1 at w.in-Err.ensures.fails in
             omega (arith, both, before.turns, ap length one, length-append (faults_of c.loop-read.body.stream) (was.0 ∷ [])))
@@ -107,7 +107,7 @@ returns-in_default-clause-goes g c =
       InsideGoes-joins _ _ _ _ _ _ before.goes c.read.ensures.goes,
       inr (
         OnlyInterrupts-joins _ _ _ before.steady (none_met c.in-Ok.ensures.no_fault),
-        inr (record {
+        record {
           other = c.too_many.ensures;
           large = omega (
             arith,
@@ -116,7 +116,7 @@ returns-in_default-clause-goes g c =
             some c.read.new.out c.read.result c.in-Ok.count is c.read.ensures.bound,
             c.in_default.ensures,
           );
-        }),
+        },
       ),
     )
 
@@ -127,7 +127,8 @@ returns-then-not-is_interrupted-clause-goes g c =
       payload,
       InsideGoes-joins _ _ _ _ _ _ before.goes c.read.ensures.goes,
       TakeFails-of c.args.body.now.stream c.loop-read.body.stream before.steady before.goes.takes.went.grows.zero_reads payload
-          c.read.new.self c.in-Err.e c.in-Err.ensures.fails,
+          c.read.new.self c.in-Err.e (λ why same is. (let odd = c.is_interrupted.ensures.no why same is in absurd (cc)))
+          c.in-Err.ensures.fails,
     )
 
 pub returns-clause-goes : goal.returns-clause-goes
@@ -137,6 +138,6 @@ returns-clause-goes g c =
       before.goes,
       inr (
         before.steady,
-        inr (record { other = c.too_many-2.ensures; large = omega (arith, before.turns, c.loop-read-test.false) }),
+        record { other = c.too_many-2.ensures; large = omega (arith, before.turns, c.loop-read-test.false) },
       ),
     )

@@ -1,4 +1,4 @@
-use Rattle.std.proofs.Common.{◌≡◌, ◌+◌, ◌<◌, MatchBool, [], ◌∷◌, Ok, Err, true, false, ap, length, subst, inl, inr, refl, arith, length-append}
+use Rattle.std.proofs.Common.{◌≡◌, ◌+◌, ◌<◌, MatchBool, [], ◌∷◌, Ok, true, false, ap, length, subst, inl, inr, refl, arith, length-append}
 use Rattle.std.proofs.lemmas.List.Elements.{All-nil}
 use Rattle.redux_buffer.specs.Faults.{OnlyInterrupts-none}
 use Rattle.codec.specs.NextPiece.{MetEnd, NoEnd, empties}
@@ -18,7 +18,7 @@ met_end s t told met =
 
 pub returns-then-is_interrupt : goal.returns-then-is_interrupt
 returns-then-is_interrupt g c = λ s told next.
-    let was = c.is_interrupt.ensures c.if-is_interrupt.true in
+    let was = c.is_interrupt.ensures.yes c.if-is_interrupt.true in
     let reads = interrupted_once (faults_of (left_of s)) (faults_of (left_of c.args.requests)) was.0 was.2
     ((rw was.1 at next).answers.2) in (
       record {
@@ -57,4 +57,7 @@ returns-in-Io g c = λ s told next.
     Serves-unread [] (Before c.args.requests) false c.in-Io.e (refl, refl)
     (none_answered (stopped_before g.R.TellRead.remaining s c.args.stop c.args.requests next)
     (Sends-none g.met.W.TellWrite.trace_none c.args.writer.now c.requires.sent))
-    (inl (failed_behind _ _ _ c.in-Io.e (OnlyInterrupts-none (faults_of (left_of s))) (rw c.in-Io.is at next).answers.2))
+    (inl (inl (
+      failed_behind _ _ _ c.in-Io.e (OnlyInterrupts-none (faults_of (left_of s))) (rw c.in-Io.is at next).answers.2,
+      λ is. absurd (let odd = c.is_interrupt.ensures.no c.in-Io.e c.in-Io.is is in cc),
+    )))
