@@ -22,8 +22,8 @@ use Rattle.messages.specs.MessagesLaws.{Begun-went, InTurn-joins, InTurn-one, Me
 use Rattle.programs.specs.Streams.{AllSent}
 use Rattle.requests.specs.declared.Place.{Place}
 use Rattle.requests.specs.declared.Place.TheVariants.{Inside}
-use Rattle.requests.proofs.Reading.{IsOver-still, IsTorn-still, IsWrong-still, begun_ends, begun_reads, is_part, unread_still}
-use Rattle.requests.specs.Answers.{Answers, EndsBody, Continues, IsAnswer, IsOver, IsPart, IsTorn, IsWrong, Keeps, LacksMemory, ReadStops, Sends, SendStops, Serves, TakeFails, TakesWhole, accepted, called, ends_of, faults_of, refused, stream_at, waits}
+use Rattle.requests.proofs.Reading.{IsOver-still, IsWrong-still, begun_ends, begun_reads, is_part, unread_still}
+use Rattle.requests.specs.Answers.{Answers, EndsBody, Continues, IsAnswer, IsOver, IsPart, IsWrong, Keeps, LacksMemory, ReadStops, Sends, SendStops, Serves, TakeFails, TakesWhole, accepted, call_at, called, ends_of, faults_of, refused, stream_at, waits}
 
 pub on_ok : {P : Type 0} (answer : Result (Unit {0}) Error) → P → OnOk answer P
 on_ok (Ok x) p = p
@@ -106,18 +106,17 @@ module _ {W : Type 0} {tells : W → StreamLog} {trace : W → W → Type 0} whe
 
     -- sending what ends a run, of which this is the answer
     pub Serves-sent : {messages : List Message} {s : Unbuffered R} {w w' : Buffered W StdPolicy} {taken : List ℕ}
-        (handed : List ℕ) (place : Place R) (calls refuses : Bool) (sending : Result (Unit {0}) Error)
+        (handed : List ℕ) (place : Place R) (refuses : Bool) (sending : Result (Unit {0}) Error)
         → IsPart place taken handed
-        → Answers remaining tells trace messages s w taken (called calls ++ refused refuses) (stream_at place) sending w'
+        → Answers remaining tells trace messages s w taken (call_at place ++ refused refuses) (stream_at place) sending w'
         → (refuses ≡ true → IsWrong s place)
         → OnOk sending (OnlyInterrupts (faults_of s) (faults_of (stream_at place)) × IsOver messages refuses s place)
         → Serves remaining tells trace s w place sending w'
-    Serves-sent {messages} {s} {w} {w'} {taken} handed place calls refuses (Ok tt) part answers wrong over = record {
+    Serves-sent {messages} {s} {w} {w'} {taken} handed place refuses (Ok tt) part answers wrong over = record {
       messages = messages;
       taken = taken;
       handed = handed;
       part = part;
-      calls = calls;
       refuses = refuses;
       sending = Ok tt;
       answers = answers;
@@ -126,12 +125,11 @@ module _ {W : Type 0} {tells : W → StreamLog} {trace : W → W → Type 0} whe
       over = over;
       unread = tt;
     }
-    Serves-sent {messages} {s} {w} {w'} {taken} handed place calls refuses (Err e) part answers wrong over = record {
+    Serves-sent {messages} {s} {w} {w'} {taken} handed place refuses (Err e) part answers wrong over = record {
       messages = messages;
       taken = taken;
       handed = handed;
       part = part;
-      calls = calls;
       refuses = refuses;
       sending = Err e;
       answers = answers;
@@ -143,16 +141,15 @@ module _ {W : Type 0} {tells : W → StreamLog} {trace : W → W → Type 0} whe
 
     -- all was sent, and this is why no more was read
     pub Serves-unread : {messages : List Message} {s : Unbuffered R} {w w' : Buffered W StdPolicy} {taken : List ℕ}
-        (handed : List ℕ) (place : Place R) (calls : Bool) (e : Error) → IsPart place taken handed
-        → Answers remaining tells trace messages s w taken (called calls ++ []) (stream_at place) (Ok tt) w'
+        (handed : List ℕ) (place : Place R) (e : Error) → IsPart place taken handed
+        → Answers remaining tells trace messages s w taken (call_at place ++ []) (stream_at place) (Ok tt) w'
         → ReadStops (length messages + length handed) s e (stream_at place) ⊎ LacksMemory s e place
         → Serves remaining tells trace s w place (Err e) w'
-    Serves-unread {messages} {s} {w} {w'} {taken} handed place calls e part answers stops = record {
+    Serves-unread {messages} {s} {w} {w'} {taken} handed place e part answers stops = record {
       messages = messages;
       taken = taken;
       handed = handed;
       part = part;
-      calls = calls;
       refuses = false;
       sending = Ok tt;
       answers = answers;
@@ -165,15 +162,22 @@ module _ {W : Type 0} {tells : W → StreamLog} {trace : W → W → Type 0} whe
     module _ (joins : (u v x : W) → trace u v → trace v x → trace u x) where
       -- one did in part, and this is why
       module _ {s : ReaderState R Heads} {b t : InBody R} {handed : List ℕ} (begun : Begun remaining s b)
-          (goes : InsideGoes remaining b handed t) {w v w' : Buffered W StdPolicy} (calls : Bool)
-          (call : Sends tells trace w (called calls) (Ok tt) v) where
+          (goes : InsideGoes remaining b handed t) {w v w' : Buffered W StdPolicy}
+          (call : Sends tells trace w (called (waits b.said)) (Ok tt) v) where
+        -- the call that the reader's place tells of
+        behind : (last : List ℕ) (sending : Result (Unit {0}) Error) → Sends tells trace v last sending w'
+            → Sends tells trace w (call_at (Inside t) ++ last) sending w'
+        behind last sending sends =
+            Sends-after joins w v w' (call_at (Inside t)) last sending
+            (subst (λ x. Sends tells trace w (called (waits x)) (Ok tt) v) (sym goes.said) call) sends
+
         refused_torn : (answer : Result (Unit {0}) Error) → OnlyInterrupts (faults_of b.stream) (faults_of t.stream)
-            → IsTorn b.stream t → Sends tells trace v (refused true) answer w'
+            → IsWrong b.stream (Inside t) → Sends tells trace v (refused true) answer w'
             → Serves remaining tells trace (left_of s) w (Inside t) answer w'
         refused_torn answer reads torn sends =
-            Serves-sent handed (Inside t) calls true answer (is_part begun goes)
-            (part_answered begun goes (Sends-after joins w v w' (called calls) (refused true) answer call sends))
-            (λ _. IsTorn-still (left_of s) b.stream (begun_reads begun) (begun_ends begun) t torn)
+            Serves-sent handed (Inside t) true answer (is_part begun goes)
+            (part_answered begun goes (behind (refused true) answer sends))
+            (λ _. IsWrong-still (left_of s) b.stream (begun_reads begun) (begun_ends begun) (Inside t) torn)
             (on_ok answer (
               OnlyInterrupts-joins (faults_of (left_of s)) (faults_of b.stream) (faults_of t.stream) (begun_reads begun) reads,
               inr (All-nil (Keeps true), inl refl),
@@ -182,8 +186,7 @@ module _ {W : Type 0} {tells : W → StreamLog} {trace : W → W → Type 0} whe
         failed_inside : (e : Error) → ReadStops (length handed) b.stream e t.stream ⊎ LacksMemory b.stream e (Inside t)
             → Sends tells trace v [] (Ok tt) w' → Serves remaining tells trace (left_of s) w (Inside t) (Err e) w'
         failed_inside e stops sends =
-            Serves-unread handed (Inside t) calls e (is_part begun goes)
-            (part_answered begun goes (Sends-after joins w v w' (called calls) [] (Ok tt) call sends))
+            Serves-unread handed (Inside t) e (is_part begun goes) (part_answered begun goes (behind [] (Ok tt) sends))
             (unread_still (left_of s) b.stream (begun_reads begun) (begun_ends begun) 0 (length handed) e (Inside t) stops)
 
         pub torn_answered : (why : FinishError) (answer : Result (Unit {0}) Error) → TakeFails b.stream handed why t
@@ -242,7 +245,6 @@ module _ {W : Type 0} {tells : W → StreamLog} {trace : W → W → Type 0} whe
           taken = b.taken;
           handed = b.handed;
           part = b.part;
-          calls = b.calls;
           refuses = b.refuses;
           sending = b.sending;
           answers = Answers-joins a.answers b.answers;

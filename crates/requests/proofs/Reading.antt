@@ -21,7 +21,7 @@ use Rattle.messages.specs.Messages.{Begun, Bytes, Chunks, Ends, Fails, FinishFai
 use Rattle.messages.specs.MessagesLaws.{Begun-went}
 use Rattle.requests.specs.declared.Place.{Place}
 use Rattle.requests.specs.declared.Place.TheVariants.{Before, Inside}
-use Rattle.requests.specs.Answers.{HasEnded, IsOver, IsPart, IsTorn, IsWrong, Keeps, LacksMemory, ReadStops, TakeFails, TakesWhole, ends_of, faults_of, stream_at}
+use Rattle.requests.specs.Answers.{HasEnded, IsOver, IsPart, IsWrong, Keeps, LacksMemory, ReadStops, TakeFails, TakesWhole, ends_of, faults_of, stream_at}
 
 -- no fault was met, or one
 pub none_met : {a b : List Error} → b ≡ a → OnlyInterrupts a b
@@ -50,14 +50,11 @@ module _ {S : Type 0} (s m : Unbuffered S) (reads : OnlyInterrupts (faults_of s)
   joined : (t : Unbuffered S) → OnlyInterrupts (faults_of m) (faults_of t) → OnlyInterrupts (faults_of s) (faults_of t)
   joined t met = OnlyInterrupts-joins (faults_of s) (faults_of m) (faults_of t) reads met
 
-  pub IsTorn-still : (b : InBody S) → IsTorn m b → IsTorn s b
-  IsTorn-still b (inl torn) = inl torn
-  IsTorn-still b (inr (more, none, cut)) = inr (omega (arith, ends, more), none, cut)
-
   pub IsWrong-still : (place : Place S) → IsWrong m place → IsWrong s place
   IsWrong-still (Before requests) (inl none) = inl none
   IsWrong-still (Before requests) (inr (more, some, cut)) = inr (omega (arith, ends, more), some, cut)
-  IsWrong-still (Inside body) torn = IsTorn-still body torn
+  IsWrong-still (Inside body) (inl torn) = inl torn
+  IsWrong-still (Inside body) (inr (more, none, cut)) = inr (omega (arith, ends, more), none, cut)
 
   HasEnded-still : (place : Place S) → HasEnded m place → HasEnded s place
   HasEnded-still (Before requests) (more, none) = (omega (arith, ends, more), none)

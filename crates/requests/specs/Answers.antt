@@ -79,17 +79,19 @@ abbrev pub stream_at : {S : Type 0} → Place S → Unbuffered S
 stream_at (Before requests) = left_of requests
 stream_at (Inside body) = body.stream
 
--- a body isn't whole: what is left doesn't complete it, however it goes on; or nothing is left, the stream gave nothing, and that
--- doesn't complete it
-abbrev pub IsTorn : {S : Type 0} → Unbuffered S → InBody S → Type 0
-IsTorn s b = ((later payload : List ℕ) → ¬ (IsRest b.rest (b.stream.left ++ later) payload))
-    ⊎ ((ends_of s < ends_of b.stream) × (b.stream.left ≡ []) × ((payload : List ℕ) → ¬ (IsRest b.rest [] payload)))
+-- the call for the body that the reader stands in
+abbrev pub call_at : {S : Type 0} → Place S → List ℕ
+call_at (Before requests) = []
+call_at (Inside body) = called (waits body.said)
 
--- what comes is to be refused: no head begins what is left, or the stream ended in one; or the body isn't whole
+-- what comes is to be refused: no head begins what is left, or the stream ended in one; or what is left doesn't complete the
+-- body, however it goes on, or the stream ended before that was complete
 abbrev pub IsWrong : {S : Type 0} → Unbuffered S → Place S → Type 0
 IsWrong s (Before requests) = ((e : BadHead) × heads.wrong (rest requests) e)
     ⊎ ((ends_of s < ends_of (left_of requests)) × (0 < length (rest requests)) × IsOpen heads (rest requests))
-IsWrong s (Inside body) = IsTorn s body
+IsWrong s (Inside body) = ((later payload : List ℕ) → ¬ (IsRest body.rest (body.stream.left ++ later) payload))
+    ⊎ ((ends_of s < ends_of body.stream) × (body.stream.left ≡ [])
+    × ((payload : List ℕ) → ¬ (IsRest body.rest [] payload)))
 
 -- the stream ended, and nothing is left, where a head would begin
 abbrev pub HasEnded : {S : Type 0} → Unbuffered S → Place S → Type 0
@@ -134,10 +136,10 @@ abbrev pub LacksMemory : {S : Type 0} → Unbuffered S → Error → Place S →
 LacksMemory s e (Before requests) = ⊥
 LacksMemory s e (Inside body) = IsMemory e × OnlyInterrupts (faults_of s) (faults_of body.stream) × (body.rest ≡ Bytes 0)
 
--- why a body isn't taken whole, of which this payload was: so, or it is torn
+-- why a body isn't taken whole, of which this payload was: so, or it is wrong
 abbrev pub TakeFails : {S : Type 0} → Unbuffered S → List ℕ → FinishError → InBody S → Type 0
-TakeFails s handed (Body (Wrong why)) b = OnlyInterrupts (faults_of s) (faults_of b.stream) × IsTorn s b
-TakeFails s handed (Body Truncated) b = OnlyInterrupts (faults_of s) (faults_of b.stream) × IsTorn s b
+TakeFails s handed (Body (Wrong why)) b = OnlyInterrupts (faults_of s) (faults_of b.stream) × IsWrong s (Inside b)
+TakeFails s handed (Body Truncated) b = OnlyInterrupts (faults_of s) (faults_of b.stream) × IsWrong s (Inside b)
 TakeFails s handed (Body (Io e)) b = ReadStops (length handed) s e b.stream
 TakeFails s handed (Memory e) b = OnlyInterrupts (faults_of s) (faults_of b.stream) × (b.rest ≡ Bytes 0)
 
@@ -153,7 +155,7 @@ pub record Sends {W : Type 0} (tells : W → StreamLog) (trace : W → W → Typ
   pub sent : OnOk sending (AllSent w')
   pub why : IfErr sending (λ e. SendStops text w e w')
 
--- how that ends a run: what isn't whole is refused
+-- how that ends a run: what is wrong is refused
 abbrev pub EndsBody : {W : Type 0} → (W → StreamLog) → (W → W → Type 0) → Buffered W StdPolicy → FinishError
     → Result (Unit {0}) Error → Buffered W StdPolicy → Type 0
 EndsBody tells trace w (Body (Wrong why)) answer w' = Sends tells trace w (refused true) answer w'
@@ -180,18 +182,17 @@ module _ {R W : Type 0} (remaining : R → Option (List ℕ)) (tells : W → Str
     pub keep : All (Keeps true) messages
     pub reads : OnlyInterrupts (faults_of s) (faults_of t)
 
-  -- a run: behind the answers at most a call for a body was written, and a refusal of what is wrong; so there is no 200 but for a
-  -- whole message. It returns why sending failed; or all was sent, and it says why no more is answered, or read
+  -- a run: behind the answers were written the call for a body that the client waits for, and a refusal of what is wrong; so
+  -- there is no 200 but for a whole message. It returns why sending failed; or all was sent, and it is over, or reading stopped
   pub record Serves (s : Unbuffered R) (w : Buffered W StdPolicy) (place : Place R) (answer : Result (Unit {0}) Error)
       (w' : Buffered W StdPolicy) : Type 0 where
     pub messages : List Message
     pub taken : List ℕ
     pub handed : List ℕ
     pub part : IsPart place taken handed
-    pub calls : Bool
     pub refuses : Bool
     pub sending : Result (Unit {0}) Error
-    pub answers : Answers messages s w taken (called calls ++ refused refuses) (stream_at place) sending w'
+    pub answers : Answers messages s w taken (call_at place ++ refused refuses) (stream_at place) sending w'
     pub wrong : refuses ≡ true → IsWrong s place
     pub unsent : IfErr sending (λ e. answer ≡ Err e)
     pub over : OnOk answer (OnlyInterrupts (faults_of s) (faults_of (stream_at place)) × IsOver messages refuses s place)

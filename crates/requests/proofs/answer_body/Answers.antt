@@ -1,7 +1,6 @@
 use Rattle.std.proofs.Common.{[], Err, false}
 use Rattle.messages.specs.MessagesLaws.{InsideGoes-none}
 use Rattle.requests.specs.declared.Place.TheVariants.{Inside}
-use Rattle.requests.specs.Answers.{waits}
 use Rattle.requests.proofs.Answering.{Sends-more, Serves-sent, part_answered}
 use Rattle.requests.proofs.Reading.{is_part}
 use Rattle.requests.proofs.answer_body.Goals as goal
@@ -16,5 +15,5 @@ returns-in-Ok-clause-answers g c = λ s begun.
 pub returns-in-Err-clause-answers : goal.returns-in-Err-clause-answers
 returns-in-Err-clause-answers g c = λ s begun.
     let none = InsideGoes-none g.R.TellRead.remaining c.args.body in
-    Serves-sent [] (Inside c.args.body) (waits c.args.body.said) false (Err c.in-Err.e) (is_part begun none)
+    Serves-sent [] (Inside c.args.body) false (Err c.in-Err.e) (is_part begun none)
     (part_answered begun none (Sends-more [] (rw c.said.ensures at c.in-Err.ensures))) (λ odd. absurd (cc)) tt

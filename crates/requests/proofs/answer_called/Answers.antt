@@ -2,7 +2,7 @@ use Rattle.std.proofs.Common.{[], ◌∷◌, Err, Ok, true, false, ap, sym, ◌�
 use Rattle.std.proofs.lemmas.List.Elements.{All-cons, All-nil}
 use Rattle.redux_buffer.specs.Faults.{OnlyInterrupts-joins}
 use Rattle.requests.specs.declared.Place.TheVariants.{Before}
-use Rattle.requests.specs.Answers.{Keeps, waits}
+use Rattle.requests.specs.Answers.{Keeps}
 use Rattle.requests.proofs.Answering.{Serves-sent, one_answered, torn_answered}
 use Rattle.requests.proofs.Reading.{begun_reads, no_shorter}
 use Rattle.requests.proofs.answer_called.Goals as goal
@@ -26,7 +26,7 @@ pub returns-else-said-clause-answers : goal.returns-else-said-clause-answers
 returns-else-said-clause-answers g c = λ s w begun call.
     let b = c.args.body in
     let whole = c.in-Ok.ensures.whole in
-    Serves-sent [] (Before c.in-Ok.requests) false false (Ok tt) (refl, refl)
+    Serves-sent [] (Before c.in-Ok.requests) false (Ok tt) (refl, refl)
     (one_answered g.met.W.TellWrite.trace_joins begun whole c.said-said.ensures call c.in-Ok-accept.ensures)
     (λ odd. absurd (cc)) (
       OnlyInterrupts-joins _ _ _ (begun_reads begun) c.in-Ok.ensures.steady,
@@ -44,12 +44,12 @@ returns-else-said-clause-answers g c = λ s w begun call.
 
 pub returns-in-Err-accept-clause-answers : goal.returns-in-Err-accept-clause-answers
 returns-in-Err-accept-clause-answers g c = λ s w begun call.
-    Serves-sent [] (Before c.in-Ok.requests) false false (Err c.in-Err-accept.e) (refl, refl)
+    Serves-sent [] (Before c.in-Ok.requests) false (Err c.in-Err-accept.e) (refl, refl)
     (one_answered g.met.W.TellWrite.trace_joins begun c.in-Ok.ensures.whole c.said-said.ensures call c.in-Err-accept.ensures)
     (λ odd. absurd (cc)) tt
 
 pub returns-in-Err-clause-answers : goal.returns-in-Err-clause-answers
 returns-in-Err-clause-answers g c = λ s w begun call.
     let part = c.in-Err.ensures.part in
-    torn_answered g.met.W.TellWrite.trace_joins begun part.1 (waits c.args.body.said) call c.in-Err.why c.unended-ending.result
+    torn_answered g.met.W.TellWrite.trace_joins begun part.1 call c.in-Err.why c.unended-ending.result
     part.2 c.unended-ending.ensures

@@ -1,4 +1,4 @@
-use Rattle.std.proofs.Common.{[], ◌++◌, true, false, inl, inr, refl, arith, length-append}
+use Rattle.std.proofs.Common.{[], ◌++◌, true, inl, inr, refl, arith, length-append}
 use Rattle.std.proofs.lemmas.List.Elements.{All-append, All-nil}
 use Rattle.redux_buffer.specs.Faults.{OnlyInterrupts-joins, OnlyInterrupts-none}
 use Rattle.buffer_redux.specs.UnbufferLaws.{StreamWent-none}
@@ -45,7 +45,7 @@ returns-in-Err g c =
 pub returns : goal.returns
 returns g c =
     let before = c.loop-message.invariant in
-    Serves-unread [] (Before c.loop-message.next) false c.too_many.result (refl, refl) before.goes.answers (inl (inr (
+    Serves-unread [] (Before c.loop-message.next) c.too_many.result (refl, refl) before.goes.answers (inl (inr (
       before.goes.reads,
       record { other = c.too_many.ensures; large = omega (arith, before.turns, c.loop-message-test.false) },
     )))

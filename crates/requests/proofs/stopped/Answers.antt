@@ -34,7 +34,7 @@ returns-then-is_interrupt g c = λ s told next.
 pub returns-in-Ended : goal.returns-in-Ended
 returns-in-Ended g c = λ s told next.
     let ended = rw c.in-Ended.is at next in
-    Serves-sent [] (Before c.args.requests) false false (Ok tt) (refl, refl)
+    Serves-sent [] (Before c.args.requests) false (Ok tt) (refl, refl)
     (none_answered (stopped_before g.R.TellRead.remaining s c.args.stop c.args.requests next)
     (Sends-none g.met.W.TellWrite.trace_none c.args.writer.now c.requires.sent)) (λ odd. absurd (cc)) (
       none_met ended.answers.2,
@@ -44,7 +44,7 @@ returns-in-Ended g c = λ s told next.
 pub returns-in-Bad : goal.returns-in-Bad
 returns-in-Bad g c = λ s told next.
     let bad = rw c.in-Bad.is at next in
-    Serves-sent [] (Before c.args.requests) false true c.refuse-ending.result (refl, refl)
+    Serves-sent [] (Before c.args.requests) true c.refuse-ending.result (refl, refl)
     (none_answered (stopped_before g.R.TellRead.remaining s c.args.stop c.args.requests next) c.refuse-ending.ensures)
     (λ _. elim bad.answers.3 [
       | inl wrong ↦ inl (_, wrong.0)
@@ -54,7 +54,7 @@ returns-in-Bad g c = λ s told next.
 
 pub returns-in-Io : goal.returns-in-Io
 returns-in-Io g c = λ s told next.
-    Serves-unread [] (Before c.args.requests) false c.in-Io.e (refl, refl)
+    Serves-unread [] (Before c.args.requests) c.in-Io.e (refl, refl)
     (none_answered (stopped_before g.R.TellRead.remaining s c.args.stop c.args.requests next)
     (Sends-none g.met.W.TellWrite.trace_none c.args.writer.now c.requires.sent))
     (inl (inl (
