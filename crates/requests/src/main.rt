@@ -114,9 +114,8 @@ fn answer_body<R: TellRead, W: TellWrite>(
     writer: &mut BufWriter<W>,
 ) -> Result<Requests<R>, (Place<R>, io::Result<()>)>
     requires sent { AllSent writer.old }
-    ensures answers { (s : ReaderState R Heads) → Begun R.remaining s body
+    ensures { (s : ReaderState R Heads) → Begun R.remaining s body
         → Turns R.remaining W.log W.trace (left_of s) writer.old result writer.new }
-    ensures keeps { OnOk result (body.said.keeps ≡ true) }
 {
     match call_for_body(body.said(), writer) {
         Ok(()) => answer_called(body, writer),
@@ -130,10 +129,9 @@ fn answer_called<R: TellRead, W: TellWrite>(
     writer: &mut BufWriter<W>,
 ) -> Result<Requests<R>, (Place<R>, io::Result<()>)>
     requires sent { AllSent writer.old }
-    ensures answers { (s : ReaderState R Heads) (w : Buffered W StdPolicy) → Begun R.remaining s body
+    ensures { (s : ReaderState R Heads) (w : Buffered W StdPolicy) → Begun R.remaining s body
         → Sends W.log W.trace w (called (waits body.said)) (Ok tt) writer.old
         → Turns R.remaining W.log W.trace (left_of s) w result writer.new }
-    ensures keeps { OnOk result (body.said.keeps ≡ true) }
 {
     let said = body.said();
     match take_whole(body) {

@@ -7,8 +7,8 @@ use Rattle.requests.proofs.Answering.{Serves-sent, one_answered, torn_answered}
 use Rattle.requests.proofs.Reading.{begun_reads, no_shorter}
 use Rattle.requests.proofs.answer_called.Goals as goal
 
-pub returns-then-said-clause-answers : goal.returns-then-said-clause-answers
-returns-then-said-clause-answers g c = λ s w begun call.
+pub returns-then-said : goal.returns-then-said
+returns-then-said g c = λ s w begun call.
     let b = c.args.body in
     let whole = c.in-Ok.ensures.whole in
     let reads = OnlyInterrupts-joins _ _ _ (begun_reads begun) c.in-Ok.ensures.steady in
@@ -22,8 +22,8 @@ returns-then-said-clause-answers g c = λ s w begun call.
       omega (arith, no_shorter reads),
     )
 
-pub returns-else-said-clause-answers : goal.returns-else-said-clause-answers
-returns-else-said-clause-answers g c = λ s w begun call.
+pub returns-else-said : goal.returns-else-said
+returns-else-said g c = λ s w begun call.
     let b = c.args.body in
     let whole = c.in-Ok.ensures.whole in
     Serves-sent [] (Before c.in-Ok.requests) false (Ok tt) (refl, refl)
@@ -42,14 +42,14 @@ returns-else-said-clause-answers g c = λ s w begun call.
       ),
     )
 
-pub returns-in-Err-accept-clause-answers : goal.returns-in-Err-accept-clause-answers
-returns-in-Err-accept-clause-answers g c = λ s w begun call.
+pub returns-in-Err-accept : goal.returns-in-Err-accept
+returns-in-Err-accept g c = λ s w begun call.
     Serves-sent [] (Before c.in-Ok.requests) false (Err c.in-Err-accept.e) (refl, refl)
     (one_answered g.met.W.TellWrite.trace_joins begun c.in-Ok.ensures.whole c.said-said.ensures call c.in-Err-accept.ensures)
     (λ odd. absurd (cc)) tt
 
-pub returns-in-Err-clause-answers : goal.returns-in-Err-clause-answers
-returns-in-Err-clause-answers g c = λ s w begun call.
+pub returns-in-Err : goal.returns-in-Err
+returns-in-Err g c = λ s w begun call.
     let part = c.in-Err.ensures.part in
     torn_answered g.met.W.TellWrite.trace_joins begun part.1 call c.in-Err.why c.unended-ending.result
     part.2 c.unended-ending.ensures
