@@ -2,30 +2,21 @@
 use Rattle.std.proofs.Common.{◌≡◌, ℕ, inl, inr, List, [], ◌++◌, length, length-append, ◌≤◌, Option, Result, Ok, Err, refl, sym, ap, subst, ◌∙◌, arith, append_assoc, append-nil}
 use Rattle.std.proofs.lemmas.Grind.{flat_map-append}
 use Rattle.std.specs.Global.{Vec}
-use Rattle.std.specs.declared.io.Error.{Error}
-use Rattle.buffer_redux.specs.Buffered.{Buffered}
 use Rattle.buffer_redux.specs.ReaderLaws.{ReadsInOrder-fresh}
-use Rattle.buffer_redux.specs.StreamLog.{StreamLog}
 use Rattle.buffer_redux.specs.WriterLaws.{WritesInOrder-fresh}
-use Rattle.buffer_redux.specs.declared.policy.StdPolicy.{StdPolicy}
-use Rattle.chunked.specs.Body.{IsBody}
-use Rattle.chunked.specs.ChunkedReader.{BreaksAt, IsWhole, begun}
 use Rattle.chunked.specs.Place.{Leads}
 use Rattle.chunked.specs.PlaceLaws.{Leads-none}
-use Rattle.chunked.specs.declared.limits.Limits.{Limits}
 use Rattle.chunked.specs.declared.place.Place.TheVariants.{Line}
-use Rattle.forward.specs.Filter.{FilterRules, Moves}
 use Rattle.forward.specs.Forward.{ForwardAnswers, Forwarded, StopsBy}
 use Rattle.forward.specs.declared.error.Cause.{Cause}
 use Rattle.forward.specs.declared.error.Cause.TheVariants as cause
-use Rattle.programs.specs.Streams.{AllSent, BufferRefused, MetNoFault}
+use Rattle.bodies.specs.Words.{Error, Buffered, StreamLog, StdPolicy, IsBody, BreaksAt, IsWhole, begun, Limits, FilterRules, Moves, AllSent, BufferRefused, MetNoFault, RunError}
 use Rattle.bodies.specs.Decode.{DecodeRan, Decodes, Moved, MovedAll}
 use Rattle.bodies.specs.Decoding.{IsReady, PiecesEnd, decoding_rules, held_of}
 use Rattle.bodies.specs.DecodingLaws.{none_held}
 use Rattle.bodies.specs.Filters.{IsErrorOf, joined}
 use Rattle.bodies.specs.FiltersLaws.{each_some}
 use Rattle.bodies.specs.declared.decoding.Decoding.{Decoding}
-use Rattle.bodies.specs.declared.error.RunError.{RunError}
 use Rattle.bodies.specs.declared.error.RunError.TheVariants.{NotChunked, Truncated, Behind, Io}
 
 -- a filter before a body

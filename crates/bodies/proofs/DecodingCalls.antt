@@ -3,20 +3,13 @@ use Rattle.std.proofs.Common.{◌≡◌, ℕ, ◌+◌, ◌<◌, ◌≤◌, inl, 
 use Rattle.std.proofs.lemmas.List.Elements.{All-cons, All-nil}
 use Rattle.std.proofs.lemmas.List.{with_items_is}
 use Rattle.std.specs.Vec.{with_items}
-use Rattle.std.specs.declared.io.Error.{Error}
-use Rattle.buffer_redux.specs.BufWriter.{WasFlushed, WritesInOrder}
-use Rattle.buffer_redux.specs.Buffered.{Buffered}
 use Rattle.buffer_redux.specs.EmptyReads.{ReadsWhenEmpty-std, none_before_fault, none_where_shown}
 use Rattle.buffer_redux.specs.LogGrows.{ReadLogGrows-joins}
-use Rattle.buffer_redux.specs.Policy.{std_read_rules}
 use Rattle.buffer_redux.specs.ReaderLaws.{WantsBytes-std}
-use Rattle.buffer_redux.specs.StreamLog.{StreamLog}
 use Rattle.buffer_redux.specs.Unbuffer.{unbuffered}
 use Rattle.buffer_redux.specs.WriterLaws.{WritesInOrder-none}
-use Rattle.buffer_redux.specs.declared.policy.StdPolicy.{StdPolicy}
 use Rattle.chunked.specs.AskingLaws.{AskedWhere-of, AskedWhere-on, LeadsOn, fill_asks, fill_leaves, payload_asks, payload_gives, payload_leaves}
 use Rattle.chunked.specs.Between.{Faulted}
-use Rattle.chunked.specs.ChunkedReader.{BodyWent, ChunkedState, IsChunkedReader, IsWhole, LooksBehind, ReadsPayload, handed_of, taken_count}
 use Rattle.chunked.specs.ChunkedReaderLaws.{BodyWent-joins, LooksBehind-went}
 use Rattle.chunked.specs.EmptyReads.{EndsOnce, ReadsPayload-ends}
 use Rattle.chunked.specs.Place.{Leads}
@@ -24,17 +17,16 @@ use Rattle.chunked.specs.PlaceLaws.{Leads-joins}
 use Rattle.chunked.specs.declared.error.ChunkedError.{ChunkedError}
 use Rattle.chunked.specs.declared.error.ChunkedError.TheVariants.{NotChunked, Truncated, Io}
 use Rattle.chunked.specs.declared.place.Place.TheVariants.{Line}
-use Rattle.forward.specs.Filter.{AskAnswers, Asks, FlushAnswers, Flushes, FilterRules, Gives, Passes}
 use Rattle.forward.specs.declared.error.AskError.{AskError}
 use Rattle.programs.specs.FlushesLaws.{FlushesOnce-flush}
 use Rattle.programs.specs.PromptLaws.{WritesOn-grows, WritesOn-unflushed}
+use Rattle.bodies.specs.Words.{Error, WasFlushed, WritesInOrder, Buffered, std_read_rules, StreamLog, StdPolicy, BodyWent, ChunkedState, IsChunkedReader, IsWhole, LooksBehind, ReadsPayload, handed_of, taken_count, AskAnswers, Asks, FlushAnswers, Flushes, FilterRules, Gives, Passes, taken_more, RunError}
 use Rattle.bodies.specs.Decode.{IsDue}
 use Rattle.bodies.specs.Decoding.{HandsHeld, HandsPieces, Holds, IsPieceTarget, IsReady, LooksOn, WritesPiece, ask_error, decoding_rules, end_answer, held_of}
 use Rattle.bodies.specs.Decoding as Source
 use Rattle.bodies.specs.DecodingLaws.{hands_held, hands_none, none_held}
-use Rattle.bodies.specs.FiltersLaws.{ended, fault_gives, some_of, std_fault, taken_more}
+use Rattle.bodies.specs.FiltersLaws.{ended, fault_gives, some_of, std_fault}
 use Rattle.bodies.specs.declared.decoding.Decoding.{Decoding}
-use Rattle.bodies.specs.declared.error.RunError.{RunError}
 
 -- the payload in what was taken is due, and bytes that hold none make no more due
 due_on : {R : Type 0} (d : ChunkedState R StdPolicy) → IsChunkedReader d → (bytes : List ℕ) → LeadsOn d.limits d.place bytes

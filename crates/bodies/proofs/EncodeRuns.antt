@@ -2,32 +2,20 @@
 use Rattle.std.proofs.Common.{◌≡◌, ℕ, ◌+◌, ◌<◌, inl, inr, List, [], ◌++◌, length, length-append, Option, Result, Ok, Err, refl, sym, ap, subst, ◌∙◌, arith, append_assoc, append-nil}
 use Rattle.std.proofs.lemmas.Grind.{flat_map-append}
 use Rattle.std.proofs.lemmas.List.Elements.{All-weaker}
-use Rattle.std.specs.declared.io.Error.{Error}
-use Rattle.buffer_redux.specs.BufWriter.{WritesInOrder}
-use Rattle.buffer_redux.specs.Buffered.{Buffered}
-use Rattle.buffer_redux.specs.Faults.{OnlyInterrupts-none}
 use Rattle.buffer_redux.specs.ReaderLaws.{ReadsInOrder-fresh}
-use Rattle.buffer_redux.specs.StreamLog.{StreamLog}
 use Rattle.buffer_redux.specs.WriterLaws.{WritesInOrder-joins, WritesInOrder-none}
-use Rattle.buffer_redux.specs.declared.policy.StdPolicy.{StdPolicy}
-use Rattle.chunked.specs.Body.{IsBody}
 use Rattle.chunked.specs.BodyLaws.{IsBody-same}
-use Rattle.chunked.specs.Chunk.{IsCarried, IsChunks, body_end, chunks}
 use Rattle.chunked.specs.ChunkLaws.{IsChunks-body, IsChunks-none}
-use Rattle.chunked.specs.ChunkedWriter.{unbegun}
-use Rattle.chunked.specs.declared.limits.Limits.{Limits}
-use Rattle.forward.specs.Filter.{FilterRules, Moves}
 use Rattle.forward.specs.Forward.{Forwarded, NoneFailed, StopsBy}
 use Rattle.forward.specs.declared.error.Cause.{Cause}
 use Rattle.forward.specs.declared.error.Cause.TheVariants as cause
-use Rattle.programs.specs.Streams.{AllSent, BufferRefused}
 use Rattle.programs.specs.StreamsLaws.{MetNoFault-joins, SendFailed-after}
+use Rattle.bodies.specs.Words.{Error, WritesInOrder, Buffered, OnlyInterrupts-none, StreamLog, StdPolicy, IsBody, IsCarried, IsChunks, body_end, chunks, unbegun, Limits, FilterRules, Moves, AllSent, BufferRefused, RunError}
 use Rattle.bodies.specs.Encode.{EncodeRan, Encodes, EndsBody, IsCut, IsUnended, IsUnflushed, IsWritten, Moved, MovedAll}
 use Rattle.bodies.specs.Encoding.{encoding_rules}
 use Rattle.bodies.specs.Filters.{IsErrorOf, joined}
 use Rattle.bodies.specs.FiltersLaws.{each_some}
 use Rattle.bodies.specs.declared.encoding.Encoding.{Encoding}
-use Rattle.bodies.specs.declared.error.RunError.{RunError}
 use Rattle.bodies.specs.declared.error.RunError.TheVariants.{Write, Io}
 
 abbrev least : Limits

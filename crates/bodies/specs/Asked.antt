@@ -1,11 +1,9 @@
 -- What a run does that words ask for.
 use Rattle.std.specs.Prelude.{◌≡◌, ℕ, List, [], ◌∷◌, codes, Result}
-use Rattle.buffer_redux.specs.StreamLog.{StreamLog}
-use Rattle.chunked.specs.declared.limits.Limits.{Limits}
 use Rattle.programs.specs.declared.ending.Ending.TheVariants.{Usage}
+use Rattle.bodies.specs.Words.{StreamLog, Limits, RunError}
 use Rattle.bodies.specs.declared.ending.Ending.{Ending}
 use Rattle.bodies.specs.declared.ending.Ending.TheVariants.{Usual}
-use Rattle.bodies.specs.declared.error.RunError.{RunError}
 use Rattle.bodies.specs.Decode.{Decodes}
 use Rattle.bodies.specs.Encode.{Encodes}
 use Rattle.bodies.specs.Ending.{EndsAs}

@@ -1,17 +1,11 @@
 -- What a run of `decode` moves from a reader to a writer.
 use Rattle.std.specs.Prelude.{◌≡◌, ℕ, ◌-◌, ◌^◌, ◌<◌, ◌⊎◌, List, [], ◌++◌, length, min, Result, Ok, Err}
-use Rattle.buffer_redux.specs.StreamLog.{StreamLog}
-use Rattle.chunked.specs.Body.{IsBody}
-use Rattle.chunked.specs.ChunkedReader.{BreaksAt}
 use Rattle.chunked.specs.Place.{IsPlace, Leads}
-use Rattle.chunked.specs.declared.limits.Limits.{Limits}
 use Rattle.chunked.specs.declared.place.Place.{Place}
 use Rattle.chunked.specs.declared.place.Place.TheVariants.{Line}
-use Rattle.bodies.specs.declared.error.RunError.{RunError}
+use Rattle.bodies.specs.Words.{StreamLog, IsBody, BreaksAt, Limits, RunError, HoldsNothingBack, EndsOnce, MetNoFault, ReadFailed, SendFailed, OverCount, BufferRefused, GaveNothing, AllFlushed}
 use Rattle.bodies.specs.declared.error.RunError.TheVariants.{NotChunked, Truncated, Behind, Read, Write, Io}
 use Rattle.programs.specs.Flushes.{FlushesSend}
-use Rattle.programs.specs.Prompt.{HoldsNothingBack}
-use Rattle.programs.specs.Streams.{EndsOnce, MetNoFault, ReadFailed, SendFailed, OverCount, BufferRefused, GaveNothing, AllFlushed}
 
 -- these bytes lead from before a body to this place in it, and this is the payload in them
 pub record IsPart (limits : Limits) (wire payload : List ℕ) (place : Place) : Type 0 where

@@ -1,27 +1,16 @@
 -- A filter that hands out the payload of a body.
 use Rattle.std.specs.Prelude.{◌≡◌, ℕ, ◌<◌, ◌≤◌, List, [], ◌++◌, length, take, Bool, true, false, Result, Ok, Err, Option}
 use Rattle.std.specs.List.{All}
-use Rattle.std.specs.declared.io.Error.{Error}
 use Rattle.buffer_redux.specs.Block.{Plain}
-use Rattle.buffer_redux.specs.BufReader.{RanDry}
-use Rattle.buffer_redux.specs.BufWriter.{WritesInOrder}
-use Rattle.buffer_redux.specs.Buffered.{Buffered}
-use Rattle.buffer_redux.specs.Faults.{MetInterrupts, SendErrorCaused}
-use Rattle.buffer_redux.specs.Policy.{std_read_rules}
-use Rattle.buffer_redux.specs.declared.policy.StdPolicy.{StdPolicy}
-use Rattle.chunked.specs.Body.{IsBody}
-use Rattle.chunked.specs.ChunkedReader.{BodyWent, Breaks, ChunkedState, IsChunkedReader, IsWhole, LooksBehind, handed_of, taken_count}
 use Rattle.chunked.specs.declared.error.ChunkedError.{ChunkedError}
 use Rattle.chunked.specs.declared.error.ChunkedError.TheVariants as chunked
-use Rattle.forward.specs.Filter.{FilterRules}
 use Rattle.forward.specs.declared.error.AskError.{AskError}
 use Rattle.forward.specs.declared.error.AskError.TheVariants.{Wrong}
 use Rattle.forward.specs.declared.error.AskError.TheVariants as ask
-use Rattle.programs.specs.Streams.{AllSent}
+use Rattle.bodies.specs.Words.{Error, RanDry, WritesInOrder, Buffered, MetInterrupts, SendErrorCaused, std_read_rules, StdPolicy, IsBody, BodyWent, Breaks, ChunkedState, IsChunkedReader, IsWhole, LooksBehind, handed_of, taken_count, FilterRules, AllSent, taken_in, RunError}
 use Rattle.bodies.specs.Decode.{IsDue}
-use Rattle.bodies.specs.Filters.{Asked, joined, taken_in}
+use Rattle.bodies.specs.Filters.{Asked, joined}
 use Rattle.bodies.specs.declared.decoding.Decoding.{Decoding}
-use Rattle.bodies.specs.declared.error.RunError.{RunError}
 use Rattle.bodies.specs.declared.error.RunError.TheVariants.{NotChunked, Truncated, Behind}
 
 -- a buffered writer whose buffer is larger than a piece of payload

@@ -2,20 +2,15 @@
 use Rattle.std.proofs.Common.{◌≡◌, ℕ, ◌<◌, inl, inr, List, [], ◌++◌, length, take, Option, Result, Ok, Err, refl, sym, ap, subst, ◌∙◌, arith, append-nil, append_assoc}
 use Rattle.std.proofs.lemmas.Grind.{flat_map-append}
 use Rattle.std.proofs.lemmas.List.Elements.{All-append, All-nil}
-use Rattle.buffer_redux.specs.BufWriter.{WritesInOrder}
-use Rattle.buffer_redux.specs.Policy.{std_read_rules}
 use Rattle.buffer_redux.specs.WriterLaws.{WritesInOrder-joins, WritesInOrder-none}
-use Rattle.chunked.specs.ChunkedReader.{BodyWent, handed_of}
 use Rattle.chunked.specs.ChunkedReaderLaws.{BodyWent-joins, BodyWent-none}
-use Rattle.forward.specs.Filter.{AsksSent, FilterRules, Gives, IsLawful, Moves, StaysOpen}
 use Rattle.programs.specs.Prompt.{WasSent}
-use Rattle.programs.specs.Streams.{AllSent}
+use Rattle.bodies.specs.Words.{WritesInOrder, std_read_rules, BodyWent, handed_of, AsksSent, FilterRules, Gives, IsLawful, Moves, StaysOpen, AllSent, sent_all, taken_more, RunError}
 use Rattle.bodies.specs.Decode.{IsDue}
 use Rattle.bodies.specs.Decoding.{Asks, HandsPieces, IsUnread, PiecesEnd, decoding_rules, held_of}
 use Rattle.bodies.specs.Filters.{joined}
-use Rattle.bodies.specs.FiltersLaws.{asked_after, sent_all, taken_more}
+use Rattle.bodies.specs.FiltersLaws.{asked_after}
 use Rattle.bodies.specs.declared.decoding.Decoding.{Decoding}
-use Rattle.bodies.specs.declared.error.RunError.{RunError}
 use Rattle.bodies.specs.declared.error.RunError.TheVariants.{NotChunked, Truncated, Behind}
 
 module _ {R W : Type 0} (remaining : R → Option (List ℕ)) where

@@ -1,17 +1,7 @@
 -- What a run of `encode` moves from a reader to a writer.
 use Rattle.std.specs.Prelude.{◌≡◌, ℕ, ◌+◌, ◌<◌, ◌≤◌, ◌⊎◌, List, [], ◌++◌, length, Result, Ok, Err}
-use Rattle.buffer_redux.specs.Buffered.{Buffered}
-use Rattle.buffer_redux.specs.BufWriter.{WritesInOrder}
-use Rattle.buffer_redux.specs.Faults.{MetInterrupts, SendErrorCaused}
-use Rattle.buffer_redux.specs.StreamLog.{StreamLog}
-use Rattle.buffer_redux.specs.declared.policy.StdPolicy.{StdPolicy}
-use Rattle.chunked.specs.Body.{IsBody}
-use Rattle.chunked.specs.Chunk.{IsChunks, body_end}
-use Rattle.chunked.specs.declared.limits.Limits.{Limits}
 use Rattle.programs.specs.Flushes.{FlushesPerAsk, FlushesSend}
-use Rattle.programs.specs.Prompt.{HoldsNothingBack, WritesOn}
-use Rattle.programs.specs.Streams.{AllFlushed, AllSent, EndsOnce, MetNoFault, ReadFailed, SendFailed, OverCount, BufferRefused}
-use Rattle.bodies.specs.declared.error.RunError.{RunError}
+use Rattle.bodies.specs.Words.{Buffered, WritesInOrder, MetInterrupts, SendErrorCaused, StreamLog, StdPolicy, IsBody, IsChunks, body_end, Limits, HoldsNothingBack, WritesOn, AllFlushed, AllSent, EndsOnce, MetNoFault, ReadFailed, SendFailed, OverCount, BufferRefused, RunError}
 use Rattle.bodies.specs.declared.error.RunError.TheVariants.{Read, Write, Io}
 
 -- what is due of these bytes: chunks with all of them

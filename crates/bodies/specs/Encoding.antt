@@ -1,14 +1,9 @@
 -- A filter that makes what is given chunks.
 use Rattle.std.specs.Prelude.{◌≡◌, ℕ, ◌+◌, ◌<◌, List, [], length, Result, Ok, Err, Option}
-use Rattle.buffer_redux.specs.BufReader.{ReadsAlong}
-use Rattle.buffer_redux.specs.Policy.{std_read_rules}
-use Rattle.chunked.specs.ChunkedWriter.{ChunksWent, IsChunkedWriter}
-use Rattle.forward.specs.Filter.{FilterRules}
-use Rattle.programs.specs.Streams.{AllSent}
+use Rattle.bodies.specs.Words.{ReadsAlong, std_read_rules, ChunksWent, IsChunkedWriter, FilterRules, AllSent, taken_in, RunError}
 use Rattle.bodies.specs.Encode.{IsDue}
-use Rattle.bodies.specs.Filters.{Asked, joined, taken_in}
+use Rattle.bodies.specs.Filters.{Asked, joined}
 use Rattle.bodies.specs.declared.encoding.Encoding.{Encoding}
-use Rattle.bodies.specs.declared.error.RunError.{RunError}
 
 -- what each call of the filter wants
 pub record IsReady {R W : Type 0} (s : Encoding R W) : Type 0 where

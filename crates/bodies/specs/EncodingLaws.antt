@@ -1,19 +1,13 @@
 -- What is given is handed out in order, and what is due is sent with it.
 use Rattle.std.proofs.Common.{◌≡◌, ℕ, inl, inr, List, [], ◌++◌, Option, Result, Ok, Err, refl, sym, ap, subst, ◌∙◌, arith, append-nil}
 use Rattle.std.proofs.lemmas.Grind.{flat_map-append}
-use Rattle.buffer_redux.specs.BufReader.{ReadsAlong}
-use Rattle.buffer_redux.specs.Policy.{std_read_rules}
 use Rattle.buffer_redux.specs.ReaderLaws.{ReadsAlong-joins, ReadsAlong-none}
-use Rattle.chunked.specs.Chunk.{chunks}
 use Rattle.chunked.specs.ChunkedWriterLaws.{ChunksWent-joins, ChunksWent-none}
-use Rattle.forward.specs.Filter.{AsksSent, IsLawful, Moves, StaysOpen}
-use Rattle.programs.specs.Prompt.{AskedLast}
-use Rattle.programs.specs.Streams.{AllSent}
+use Rattle.bodies.specs.Words.{ReadsAlong, std_read_rules, chunks, AsksSent, IsLawful, Moves, StaysOpen, AskedLast, AllSent, sent_all, taken_more, RunError}
 use Rattle.bodies.specs.Encoding.{ReaderEnds, encoding_rules}
 use Rattle.bodies.specs.Filters.{Asked, joined}
-use Rattle.bodies.specs.FiltersLaws.{asked_after, sent_all, taken_more}
+use Rattle.bodies.specs.FiltersLaws.{asked_after}
 use Rattle.bodies.specs.declared.encoding.Encoding.{Encoding}
-use Rattle.bodies.specs.declared.error.RunError.{RunError}
 
 module _ {R W : Type 0} (remaining : R → Option (List ℕ)) (trace : W → W → Type 0) where
   hands_joins : (a b c : Encoding R W) (p q : List (List ℕ)) → ReadsAlong remaining std_read_rules a.source (joined p) b.source

@@ -1,16 +1,13 @@
 -- What the filters of both runs say.
-use Rattle.std.specs.Prelude.{◌≡◌, ℕ, ◌+◌, List, length, flat_map}
+use Rattle.std.specs.Prelude.{◌≡◌, ℕ, List, flat_map}
 use Rattle.std.specs.IoError.{error_kind}
-use Rattle.std.specs.declared.io.Error.{Error}
 use Rattle.std.specs.declared.io.ErrorKind.TheVariants.{Other}
-use Rattle.buffer_redux.specs.Buffered.{Buffered}
 use Rattle.buffer_redux.specs.LogGrows.{ReadLogGrows}
 use Rattle.buffer_redux.specs.Unbuffer.{unbuffered}
-use Rattle.buffer_redux.specs.declared.policy.StdPolicy.{StdPolicy}
 use Rattle.chunked.specs.Asking.{AskedWhere}
 use Rattle.forward.specs.declared.error.Cause.{Cause}
 use Rattle.forward.specs.declared.error.Cause.TheVariants as cause
-use Rattle.bodies.specs.declared.error.RunError.{RunError}
+use Rattle.bodies.specs.Words.{Error, Buffered, StdPolicy, RunError}
 use Rattle.bodies.specs.declared.error.RunError.TheVariants.{Read, Write, Io}
 
 -- the reader inside was asked only where what was buffered, then what had come, was such; and its log only goes on
@@ -21,10 +18,6 @@ pub record Asked {R : Type 0} (Such : List ℕ → Type 0) (s t : Buffered R Std
 -- payloads, one behind the other
 abbrev pub joined : List (List ℕ) → List ℕ
 joined payloads = flat_map (λ payload. payload) payloads
-
--- how many bytes a buffered writer took in, whether or not they were received
-abbrev pub taken_in : {W P : Type 0} → Buffered W P → ℕ
-taken_in u = length u.log.writes.received + length u.block.bytes
 
 -- the error that a run of the program fails with, by what stopped it
 abbrev pub IsErrorOf : Cause RunError → RunError → Type 0

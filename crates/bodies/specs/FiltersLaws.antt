@@ -1,48 +1,14 @@
--- What a buffered writer took in, which was received once all was sent; how many bytes payloads have; asks behind what was taken;
--- and one fill.
+-- How many bytes payloads have; asks behind what was taken; and one fill.
 use Rattle.std.proofs.Common.{◌≡◌, ◌+◌, ◌<◌, ◌≤◌, ◌==◌, ◌⊎◌, inl, inr, true, false, ℕ, List, [], ◌∷◌, ◌++◌, All, length, length-append, Result, Ok, Err, sym, ap, subst, ◌∙◌, arith, append-nil, append_assoc}
 use Rattle.std.proofs.lemmas.Bool.Decides.{nat_tests}
 use Rattle.std.proofs.lemmas.List.{nil_from_length}
 use Rattle.std.proofs.lemmas.List.Elements.{All-head, All-tail}
-use Rattle.std.specs.declared.io.Error.{Error}
-use Rattle.buffer_redux.specs.BufReader.{Fills, ReadsInOrder}
-use Rattle.buffer_redux.specs.BufWriter.{WritesInOrder}
-use Rattle.buffer_redux.specs.Buffered.{Buffered}
 use Rattle.buffer_redux.specs.EmptyReads.{ReadsWhenEmpty-std, once_at_most}
-use Rattle.buffer_redux.specs.GoesOn.{GoesOn, GoesOn-none}
-use Rattle.buffer_redux.specs.Policy.{std_read_rules}
 use Rattle.buffer_redux.specs.ReaderLaws.{Fills-empty, ReadsInOrder-fresh, WantsBytes-std}
-use Rattle.buffer_redux.specs.WriterLaws.{WritesInOrder-fresh}
-use Rattle.buffer_redux.specs.declared.policy.StdPolicy.{StdPolicy}
 use Rattle.chunked.specs.AskingLaws.{fill_asks}
-use Rattle.programs.specs.Prompt.{AskedLast, AsksGive, WasSent}
 use Rattle.programs.specs.PromptLaws.{AskedLast-after}
-use Rattle.programs.specs.Streams.{AllSent}
-use Rattle.bodies.specs.Filters.{Asked, joined, taken_in}
-
-module _ {W P : Type 0} (u v : Buffered W P) (accepted : List ℕ) (taken : WritesInOrder u accepted v) where
-  -- from an empty buffer on
-  module _ (none : u.block.bytes ≡ []) (sent : AllSent v) where
-    pub received_all : v.log.writes.received ≡ u.log.writes.received ++ accepted
-    received_all =
-        sym (append-nil v.log.writes.received) ∙ ap (λ l. v.log.writes.received ++ l) (sym sent.empty)
-        ∙ WritesInOrder-fresh u v accepted none taken
-
-    pub sent_all : WasSent (u.log.writes.received ++ accepted) v.log.writes
-    sent_all = subst (λ l. WasSent l v.log.writes) received_all (record {
-      received = GoesOn-none v.log.writes.received;
-      flushed = subst (λ l. GoesOn l v.log.writes.flushed) sent.flushed (GoesOn-none v.log.writes.flushed);
-    })
-
-  pub taken_more : taken_in u + length accepted ≡ taken_in v
-  taken_more = omega (
-    arith,
-    ap length taken.received,
-    ap length taken.equal,
-    length-append u.log.writes.received taken.sent,
-    length-append taken.sent v.block.bytes,
-    length-append u.block.bytes accepted,
-  )
+use Rattle.bodies.specs.Words.{Error, Fills, ReadsInOrder, Buffered, std_read_rules, StdPolicy, AskedLast, AsksGive}
+use Rattle.bodies.specs.Filters.{Asked, joined}
 
 -- payloads that aren't empty have a byte each
 pub each_some : (payloads : List (List ℕ)) → All (λ p. 0 < length p) payloads → length payloads ≤ length (joined payloads)

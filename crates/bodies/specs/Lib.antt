@@ -8,3 +8,4 @@ pub mod Encode
 pub mod Encoding
 pub mod EncodingLaws
 pub mod Asked
+pub mod Words

@@ -1,6 +1,4 @@
-pub mod Asking
-pub mod PackingCalls
-pub mod PackingFlush
-pub mod PackRuns
-pub mod UnpackingCalls
-pub mod UnpackRuns
+pub mod Packs
+pub mod PieceRuns
+pub mod PiecesCalls
+pub mod Unpacks

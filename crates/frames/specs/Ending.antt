@@ -1,18 +1,15 @@
 -- What the program says of each ending.
 use Rattle.std.specs.Prelude.{◌≡◌, ℕ, List, codes, Result, Ok, Err}
-use Rattle.std.specs.IoError.{error_kind}
-use Rattle.std.specs.declared.io.Error.{Error}
 use Rattle.std.specs.declared.io.ErrorKind.TheVariants.{Other}
 use Rattle.forward.specs.declared.error.Cause.{Cause}
 use Rattle.forward.specs.declared.error.Cause.TheVariants as cause
-use Rattle.forward.specs.declared.error.Stopped.{Stopped}
 use Rattle.programs.specs.Ending.{FailsAs, FailsSo}
 use Rattle.programs.specs.Ending as usual
 use Rattle.programs.specs.declared.ending.Ending.{Ending as Usually}
 use Rattle.programs.specs.declared.ending.Ending.TheVariants.{Done, ReadFailed, WriteFailed}
+use Rattle.frames.specs.Words.{error_kind, Error, Stopped, RunError}
 use Rattle.frames.specs.declared.ending.Ending.{Ending}
 use Rattle.frames.specs.declared.ending.Ending.TheVariants.{Usual, TooLong, Truncated}
-use Rattle.frames.specs.declared.error.RunError.{RunError}
 use Rattle.frames.specs.declared.error.RunError.TheVariants as Why
 
 -- the error that a run fails with, by what stopped its payloads

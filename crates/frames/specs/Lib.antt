@@ -3,7 +3,9 @@ pub mod Ending
 pub mod Pack
 pub mod Packing
 pub mod PackingLaws
-pub mod StreamsLaws
+pub mod Pieces
+pub mod PiecesLaws
 pub mod Unpack
 pub mod Unpacking
 pub mod UnpackingLaws
+pub mod Words

@@ -1,12 +1,9 @@
 -- What a run of `pack` moves from a reader to a writer.
 use Rattle.std.specs.Prelude.{◌≡◌, ℕ, ◌⊎◌, List, [], ◌++◌, length, Result, Ok, Err}
-use Rattle.std.specs.List.{All}
-use Rattle.buffer_redux.specs.StreamLog.{StreamLog}
-use Rattle.frame_reader.specs.Frames.{Fits, frames}
-use Rattle.line_reader.specs.Lines.{IsLine, IsUnended, BeginsTooLong, HasLines, with_ends}
-use Rattle.frames.specs.declared.error.RunError.{RunError}
+use Rattle.line_reader.specs.Lines.{BeginsTooLong}
+use Rattle.frames.specs.Words.{All, StreamLog, Fits, frames, IsLine, IsUnended, HasLines, with_ends, RunError, HoldsNothingBack, EndsOnce, MetNoFault, ReadFailed as AReadFailed, SendFailed, OverCount, BufferRefused, GaveNothing, AllFlushed}
 use Rattle.frames.specs.declared.error.RunError.TheVariants.{TooLong, Truncated, Read, Write, Io}
-use Rattle.programs.specs.Streams.{MetNoFault, ReadFailed as AReadFailed, SendFailed, OverCount, BufferRefused, GaveNothing, AllFlushed}
+use Rattle.programs.specs.Flushes.{FlushesSend}
 
 -- what is due of these bytes: the frames of all whole lines in them
 pub record IsDue (most : ℕ) (bytes due : List ℕ) : Type 0 where
@@ -69,3 +66,10 @@ PackRan most read read' written written' (Err (Write e)) =
 PackRan most read read' written written' (Err (Io e)) =
     (first : PackedFirst most read read' written written')
     × (OverCount e (length first.lines) read read' written written' ⊎ BufferRefused e read read' written written')
+
+-- all that a run of `pack` promises
+pub record Packs (most : ℕ) (read read' written written' : StreamLog) (answer : Result (Unit {0}) RunError) : Type 0 where
+  pub ran : PackRan most read read' written written' answer
+  pub prompt : HoldsNothingBack (IsDue most) read read' written written'
+  pub once : EndsOnce read.reads read'.reads
+  pub flushes : FlushesSend 1 written.writes written'.writes

@@ -1,14 +1,9 @@
 -- What a run of `unpack` moves from a reader to a writer.
 use Rattle.std.specs.Prelude.{◌≡◌, ℕ, List, [], ◌++◌, length, ◌⊎◌, Result, Ok, Err}
-use Rattle.std.specs.List.{All}
-use Rattle.buffer_redux.specs.StreamLog.{StreamLog}
-use Rattle.codec.specs.Grammar.{IsOpen}
-use Rattle.frame_reader.specs.Framed.{Splits, framed}
-use Rattle.frame_reader.specs.Frames.{BeginsTooLong, Fits, IsCutShort, frames}
-use Rattle.frames.specs.declared.error.RunError.{RunError}
+use Rattle.frame_reader.specs.Frames.{BeginsTooLong}
+use Rattle.frames.specs.Words.{All, StreamLog, IsOpen, Splits, framed, Fits, IsCutShort, frames, RunError, with_ends, HoldsNothingBack, EndsOnce, MetNoFault, ReadFailed as AReadFailed, SendFailed, OverCount, BufferRefused, GaveNothing, AllFlushed}
 use Rattle.frames.specs.declared.error.RunError.TheVariants.{TooLong, Truncated, Read, Write, Io}
-use Rattle.line_reader.specs.Lines.{with_ends}
-use Rattle.programs.specs.Streams.{MetNoFault, ReadFailed as AReadFailed, SendFailed, OverCount, BufferRefused, GaveNothing, AllFlushed}
+use Rattle.programs.specs.Flushes.{FlushesSend}
 
 -- what is due of these bytes: the payloads of all whole frames in them, as lines
 pub record IsDue (most : ℕ) (bytes due : List ℕ) : Type 0 where
@@ -56,3 +51,10 @@ UnpackRan most read read' written written' (Err (Write e)) =
 UnpackRan most read read' written written' (Err (Io e)) =
     (first : UnpackedFirst most read read' written written')
     × (OverCount e (length first.lines) read read' written written' ⊎ BufferRefused e read read' written written')
+
+-- all that a run of `unpack` promises
+pub record Unpacks (most : ℕ) (read read' written written' : StreamLog) (answer : Result (Unit {0}) RunError) : Type 0 where
+  pub ran : UnpackRan most read read' written written' answer
+  pub prompt : HoldsNothingBack (IsDue most) read read' written written'
+  pub once : EndsOnce read.reads read'.reads
+  pub flushes : FlushesSend 1 written.writes written'.writes

@@ -2,10 +2,7 @@
 ghost use Rattle.std.specs.Prelude.{◌≡◌, [], false};
 ghost use Rattle.codec.specs.PieceWriter.{unsent};
 ghost use Rattle.line_reader.specs.LineReader.{IsLineReader};
-ghost use Rattle.programs.specs.Flushes.{FlushesSend};
-ghost use Rattle.programs.specs.Prompt.{HoldsNothingBack};
-ghost use Rattle.programs.specs.Streams.{EndsOnce};
-ghost use Rattle.frames.specs.Pack.{IsDue, PackRan};
+ghost use Rattle.frames.specs.Pack.{Packs};
 
 use crate::error::RunError;
 use crate::packing::Packing;
@@ -27,10 +24,7 @@ pub fn pack<R: TellRead, W: TellWrite>(
     reader: R,
     writer: W,
 ) -> (Result<(), RunError>, R, W)
-    ensures ran { PackRan most (R.log reader) (R.log result.1) (W.log writer) (W.log result.2) result.0 }
-    ensures prompt { HoldsNothingBack (IsDue most) (R.log reader) (R.log result.1) (W.log writer) (W.log result.2) }
-    ensures once { EndsOnce (R.log reader).reads (R.log result.1).reads }
-    ensures flushes { FlushesSend 1 (W.log writer).writes (W.log result.2).writes }
+    ensures { Packs most (R.log reader) (R.log result.1) (W.log writer) (W.log result.2) result.0 }
 {
     let source = match LineReader::new(alloc, reader, usize::from(most)) {
         Ok(source) => source,
@@ -60,11 +54,8 @@ fn pack_all<R: TellRead, W: TellWrite>(
     requires open { source.skipping ≡ false }
     requires nothing { source.pieces.reader.block.bytes ≡ [] }
     requires empty { unsent target ≡ [] }
-    ensures ran { PackRan source.pieces.decoder.max source.pieces.reader.log result.1.pieces.reader.log target.writer.log result.2.writer.log result.0 }
-    ensures prompt { HoldsNothingBack (IsDue source.pieces.decoder.max) source.pieces.reader.log result.1.pieces.reader.log
-        target.writer.log result.2.writer.log }
-    ensures once { EndsOnce source.pieces.reader.log.reads result.1.pieces.reader.log.reads }
-    ensures flushes { FlushesSend 1 target.writer.log.writes result.2.writer.log.writes }
+    ensures { Packs source.pieces.decoder.max source.pieces.reader.log result.1.pieces.reader.log target.writer.log
+        result.2.writer.log result.0 }
 {
     let mut link = Link::new(Packing {
         source,

@@ -4,8 +4,9 @@ ghost use Rattle.buffer_redux.specs.Faults.{MetInterrupts, SendErrorCaused};
 ghost use Rattle.codec.specs.WritePiece.{PiecesTaken};
 ghost use Rattle.forward.specs.Filter.{Passes};
 ghost use Rattle.frame_reader.specs.Framed.{framed_out};
-ghost use Rattle.frames.specs.Packing.{IsReady, packing_rules};
+ghost use Rattle.frames.specs.Packing.{packing, packing_rules};
 ghost use Rattle.frames.specs.PackingLaws.{packing_lawful};
+ghost use Rattle.frames.specs.Pieces.{IsReady};
 
 use crate::error::RunError;
 use buffer_redux::tell::{TellRead, TellWrite};
@@ -26,7 +27,7 @@ pub struct Packing<R: TellRead, W: TellWrite> {
 impl<R: TellRead, W: TellWrite> Filter for Packing<R, W> {
     type Wrong = RunError;
 
-    ghost rules = { packing_rules R.remaining W.trace };
+    ghost rules = { packing_rules R.remaining };
 
     #[inline(always)]
     fn pass(&mut self) -> io::Result<bool> {
@@ -69,15 +70,15 @@ impl<R: TellRead, W: TellWrite> Filter for Packing<R, W> {
         }
     }
 
-    ghost lawful = { packing_lawful R.remaining W.trace W.trace_none W.trace_joins };
+    ghost lawful = { packing_lawful R.remaining };
 }
 
 // Passes the line that is held. It stands apart, so that a line that is buffered clears none of its answers.
 #[inline(never)]
 fn pass_held<R: TellRead, W: TellWrite>(filter: &mut Packing<R, W>, span: Span) -> io::Result<bool>
-    requires ready { IsReady filter.old }
+    requires ready { IsReady packing filter.old }
     requires held { filter.old.held ≡ Some span }
-    ensures { Passes (packing_rules R.remaining W.trace) filter.old result filter.new }
+    ensures { Passes (packing_rules R.remaining) filter.old result filter.new }
 {
     write_line(&mut filter.target, filter.source.lent(span))?;
     filter.held = None;

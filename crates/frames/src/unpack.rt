@@ -1,10 +1,7 @@
 //! Payloads printed as lines, over any two streams that tell.
 ghost use Rattle.std.specs.Prelude.{◌≡◌, []};
 ghost use Rattle.frame_reader.specs.Next.{ReadsFrames};
-ghost use Rattle.programs.specs.Flushes.{FlushesSend};
-ghost use Rattle.programs.specs.Prompt.{HoldsNothingBack};
-ghost use Rattle.programs.specs.Streams.{EndsOnce};
-ghost use Rattle.frames.specs.Unpack.{IsDue, UnpackRan};
+ghost use Rattle.frames.specs.Unpack.{Unpacks};
 ghost use Rattle.frames.specs.Unpacking.{IsLineTarget};
 
 use crate::error::RunError;
@@ -27,10 +24,7 @@ pub fn unpack<R: TellRead, W: TellWrite>(
     reader: R,
     writer: W,
 ) -> (Result<(), RunError>, R, W)
-    ensures ran { UnpackRan most (R.log reader) (R.log result.1) (W.log writer) (W.log result.2) result.0 }
-    ensures prompt { HoldsNothingBack (IsDue most) (R.log reader) (R.log result.1) (W.log writer) (W.log result.2) }
-    ensures once { EndsOnce (R.log reader).reads (R.log result.1).reads }
-    ensures flushes { FlushesSend 1 (W.log writer).writes (W.log result.2).writes }
+    ensures { Unpacks most (R.log reader) (R.log result.1) (W.log writer) (W.log result.2) result.0 }
 {
     let source = match FrameReader::new(alloc, reader, most) {
         Ok(source) => source,
@@ -58,10 +52,7 @@ fn unpack_all<R: TellRead, W: TellWrite>(
     requires reads { ReadsFrames source }
     requires nothing { source.reader.block.bytes ≡ [] }
     requires empty { target.block.bytes ≡ [] }
-    ensures ran { UnpackRan source.decoder.max source.reader.log result.1.reader.log target.log result.2.log result.0 }
-    ensures prompt { HoldsNothingBack (IsDue source.decoder.max) source.reader.log result.1.reader.log target.log result.2.log }
-    ensures once { EndsOnce source.reader.log.reads result.1.reader.log.reads }
-    ensures flushes { FlushesSend 1 target.log.writes result.2.log.writes }
+    ensures { Unpacks source.decoder.max source.reader.log result.1.reader.log target.log result.2.log result.0 }
 {
     let mut link = Link::new(Unpacking {
         source,

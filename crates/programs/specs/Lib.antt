@@ -5,4 +5,5 @@ pub mod Prompt
 pub mod PromptLaws
 pub mod Streams
 pub mod StreamsLaws
+pub mod TakenIn
 pub mod Words

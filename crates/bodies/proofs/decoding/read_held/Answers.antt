@@ -1,7 +1,6 @@
 use Rattle.std.proofs.Common.{arith, drop, length-append, length-take-le, subst, sym}
 use Rattle.std.proofs.lemmas.List.{take-append-le}
-use Rattle.buffer_redux.specs.Policy.{std_read_rules}
-use Rattle.chunked.specs.ChunkedReader.{BodyWent}
+use Rattle.bodies.specs.Words.{std_read_rules, BodyWent}
 use Rattle.bodies.proofs.decoding.read_held.Goals as goal
 
 pub returns : goal.returns

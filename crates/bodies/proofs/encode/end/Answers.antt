@@ -1,6 +1,6 @@
 use Rattle.std.proofs.Common.{[]}
 use Rattle.chunked.specs.Chunk.{body_end}
-use Rattle.bodies.proofs.Chunks.{ends_badly, ends_well, put_quietly}
+use Rattle.bodies.proofs.EncodingCalls.{ends_badly, ends_well, put_quietly}
 use Rattle.bodies.proofs.encode.end.Goals as goal
 
 pub returns-in-Ok-flush : goal.returns-in-Ok-flush

@@ -1,25 +1,30 @@
-use Rattle.std.proofs.Common.{◌∷◌, [], subst}
+use Rattle.std.proofs.Common.{◌∷◌, [], None, refl, subst}
 use Rattle.std.proofs.lemmas.Result.{err_from_is_err_and}
-use Rattle.codec.specs.WritePiece.{PiecesTaken}
-use Rattle.frame_reader.specs.Framed.{framed_out}
-use Rattle.frames.proofs.PackingCalls.{held_lost, held_written}
+use Rattle.frame_reader.specs.WriteFrameLaws.{PiecesTaken-frames}
+use Rattle.frames.specs.Words.{WritesInOrder, frames}
+use Rattle.frames.specs.PackingLaws.{packing_sound}
+use Rattle.frames.proofs.Packs.{lines_on}
+use Rattle.frames.proofs.PiecesCalls.{lost, passed, took_held, took_none}
 use Rattle.frames.proofs.packing.pass_held.Goals as goal
 
 pub returns-in_err-write_line : goal.returns-in_err-write_line
 returns-in_err-write_line g c =
-    let s = c.args.filter.now in
+    let ready = c.requires.ready in
+    let t = record c.args.filter.now { target = c.write_line.new.target } in
     let p = err_from_is_err_and c.from_residual.result c.from_residual.ensures.1 in
     let wrote = c.in_err-write_line.ensures in
-    let v = c.write_line.new.target in
-    rw (p.1, p.2) (held_lost g.R.TellRead.remaining g.W.TellWrite.trace g.met.W.TellWrite.trace_none s c.requires.ready v
-    wrote.not_flushed wrote.flushes wrote.none _ wrote.caused)
+    rw (p.1, p.2) (lost g.R.TellRead.remaining packing_sound ready t wrote.not_flushed wrote.flushes []
+    (took_none g.R.TellRead.remaining packing_sound ready t refl
+    (lines_on t ready.also refl wrote.none.encoder ready.also.open' ready.also.fits) refl) wrote.none.in_order _ wrote.caused)
 
 pub returns : goal.returns
 returns g c =
+    let ready = c.requires.ready in
     let s = c.args.filter.now in
+    let t = record s { target = c.write_line.new.target; held = None } in
     let wrote = c.in_ok-write_line.ensures in
-    let v = c.write_line.new.target in
-    held_written g.R.TellRead.remaining g.W.TellWrite.trace g.met.W.TellWrite.trace_none s c.requires.ready v
-    wrote.not_flushed wrote.flushes _ c.requires.held
-    (subst (λ l. PiecesTaken g.W.TellWrite.trace (framed_out s.target.encoder.max) s.target (l ∷ []) v) c.lent.ensures
-    wrote.taken) wrote.met
+    passed g.R.TellRead.remaining packing_sound ready t wrote.not_flushed wrote.flushes _
+    (took_held g.R.TellRead.remaining packing_sound ready t refl
+    (lines_on t ready.also refl wrote.taken.encoder ready.also.open' tt) c.args.span c.requires.held refl)
+    (subst (λ l. WritesInOrder s.target.writer (frames (l ∷ [])) t.target.writer) c.lent.ensures
+    (PiecesTaken-frames g.W.TellWrite.trace s.target t.target _ wrote.taken)) wrote.met

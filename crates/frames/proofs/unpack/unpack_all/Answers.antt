@@ -1,30 +1,23 @@
-use Rattle.std.proofs.Common.{None, refl, subst, sym}
-use Rattle.forward.specs.Forward.{ForwardAnswers, Forwards, last_flush}
+use Rattle.std.proofs.Common.{None, refl, subst}
+use Rattle.forward.specs.Forward.{Forwards}
 use Rattle.forward.specs.ForwardLaws.{Goes-holds}
-use Rattle.forward.specs.Link.{Goes, IsPrompt}
-use Rattle.programs.specs.Prompt.{HoldsNothingBack}
-use Rattle.frames.specs.Unpack.{IsDue}
+use Rattle.forward.specs.Link.{linked}
 use Rattle.frames.specs.Unpacking.{unpacking_rules}
 use Rattle.frames.specs.declared.unpacking.Unpacking.{Unpacking}
-use Rattle.frames.proofs.UnpackRuns.{outcome_ran}
+use Rattle.frames.proofs.Unpacks.{unpacked_all}
 use Rattle.frames.proofs.unpack.unpack_all.Goals as goal
 
-pub returns-clause-ran : goal.returns-clause-ran
-returns-clause-ran g c =
-    let remaining = g.R.TellRead.remaining in
-    let rules = unpacking_rules {W = g.row.W.Denot} remaining in
+pub returns : goal.returns
+returns g c =
+    let rules = unpacking_rules {W = g.row.W.Denot} g.R.TellRead.remaining in
     let first : Unpacking g.row.R.Denot g.row.W.Denot =
     record { source = c.args.source; target = c.args.target; held = None } in
-    let answer = c.forward-answer.result in
-    let over = subst (λ k. Forwards rules k answer c.forward-answer.new.link) c.new-link.ensures c.forward-answer.ensures in
-    outcome_ran remaining first c.into_inner-source.result c.requires.nothing c.requires.empty refl answer c.outcome.result
-    c.outcome.ensures (subst (ForwardAnswers rules first answer) (sym c.into_inner-source.ensures) over.answers)
-
-pub returns-clause-prompt : goal.returns-clause-prompt
-returns-clause-prompt g c =
-    let rules = unpacking_rules {W = g.row.W.Denot} g.R.TellRead.remaining in
     let t = c.forward-answer.new.link in
-    let goes = subst (λ k. Goes rules (IsPrompt rules k.filter) (last_flush c.forward-answer.result) k t) c.new-link.ensures
-    c.forward-answer.ensures.goes in
-    subst (λ x. HoldsNothingBack (IsDue c.args.source.decoder.max) c.args.source.reader.log x.source.reader.log c.args.target.log
-    x.target.log) (sym c.into_inner-source.ensures) (Goes-holds rules _ t goes)
+    let over = subst (λ k. Forwards rules k c.forward-answer.result t) c.new-link.ensures c.forward-answer.ensures in
+    rw c.into_inner-source.ensures (record {
+      ran = unpacked_all g.R.TellRead.remaining first t.filter (c.requires.nothing, c.requires.empty, refl) c.requires.reads.told
+          over.ready c.forward-answer.result c.outcome.result c.outcome.ensures over.answers;
+      prompt = Goes-holds rules (linked first) t over.goes;
+      once = over.once;
+      flushes = over.flushes;
+    })

@@ -1,8 +1,7 @@
 use Rattle.std.proofs.Common.{length, ◌==◌, ◌≤◌, Err, Ok, ap, subst, sym, ◌∙◌}
 use Rattle.std.proofs.lemmas.Result.{err_from_is_err_and}
-use Rattle.buffer_redux.specs.Policy.{std_read_rules}
 use Rattle.buffer_redux.specs.ReaderLaws.{ReaderConsumes-along}
-use Rattle.chunked.specs.ChunkedWriter.{WritesChunk}
+use Rattle.bodies.specs.Words.{std_read_rules, WritesChunk}
 use Rattle.bodies.specs.FiltersLaws.{some_of}
 use Rattle.bodies.proofs.EncodingCalls.{not_passed, passed}
 use Rattle.bodies.proofs.encoding.EncodingFilter.pass.Goals as goal

@@ -1,7 +1,12 @@
-use Rattle.frames.proofs.PackingFlush.{flushes_all}
+use Rattle.std.proofs.Common.{refl}
+use Rattle.frames.specs.PackingLaws.{packing_sound}
+use Rattle.frames.proofs.Packs.{lines_on}
+use Rattle.frames.proofs.PiecesCalls.{flushed, took_none}
 use Rattle.frames.proofs.packing.PackingFilter.flush.Goals as goal
 
 pub returns : goal.returns
 returns g c =
-    flushes_all g.R.TellRead.remaining g.W.TellWrite.trace g.met.W.TellWrite.trace_none c.args.self.now c.requires _
-    c.flush.new.self c.flush.result c.flush.ensures.flushed c.flush.ensures.went
+    let t = record c.args.self.now { target = c.flush.new.self } in
+    let lines = lines_on t c.requires.also refl c.flush.ensures.went.encoder c.requires.also.open' c.requires.also.fits in
+    flushed g.R.TellRead.remaining packing_sound c.requires t
+    (took_none g.R.TellRead.remaining packing_sound c.requires t refl lines refl) refl _ _ c.flush.result c.flush.ensures.flushed

@@ -1,41 +1,49 @@
+use Rattle.std.proofs.Common.{◌∷◌, [], ap, refl, subst, sym, ◌∙◌}
 use Rattle.std.proofs.lemmas.Result.{err_from_is_err_and}
+use Rattle.frame_reader.specs.WriteFrameLaws.{PiecesTaken-frames}
 use Rattle.line_reader.specs.LinesAlongLaws.{NextBuffered-none, NextBuffered-some}
-use Rattle.frames.proofs.Asking.{not_held}
-use Rattle.frames.proofs.PackingCalls.{lost, none_passed, written}
+use Rattle.frames.specs.Packing.{HeldFits}
+use Rattle.frames.specs.PackingLaws.{packing_sound}
+use Rattle.frames.proofs.Packs.{lines_on}
+use Rattle.frames.proofs.PiecesCalls.{lost, none_passed, not_held, passed, took_next}
 use Rattle.frames.proofs.packing.PackingFilter.pass.Goals as goal
 
 pub returns-in_err-write_line-in-Some-next_buffered : goal.returns-in_err-write_line-in-Some-next_buffered
 returns-in_err-write_line-in-Some-next_buffered g c =
-    let remaining = g.R.TellRead.remaining in
-    let s = c.args.self.now in
-    let t = c.next_buffered.follows.lender-at-none in
-    let some = c.in-Some-next_buffered in
-    let took = NextBuffered-some _ s.source t _ _ some.is c.next_buffered.follows.holds-at-none in
-    let from = c.from_residual in
-    let p = err_from_is_err_and from.result from.ensures.1 in
+    let m = c.next_buffered.follows.lender-at-none in
+    let t = record c.args.self.now { source = m; target = c.write_line.new.target } in
+    let line = c.in-Some-next_buffered.line.now in
+    let next = NextBuffered-some _ c.args.self.now.source m _ _ c.in-Some-next_buffered.is
+    c.next_buffered.follows.holds-at-none in
+    let p = err_from_is_err_and c.from_residual.result c.from_residual.ensures.1 in
     let wrote = c.in_err-write_line-in-Some-next_buffered.ensures in
-    let v = c.write_line.new.target in
-    rw (p.1, p.2)
-    (lost remaining g.W.TellWrite.trace g.met.W.TellWrite.trace_none s c.requires v wrote.not_flushed wrote.flushes
-    (not_held s.held c.in_default.not-Some) t some.line.now took wrote.none _ wrote.caused)
+    let none = not_held c.args.self.now.held c.in_default.not-Some in
+    rw (p.1, p.2) (lost g.R.TellRead.remaining packing_sound c.requires t wrote.not_flushed wrote.flushes (line ∷ [])
+    (took_next g.R.TellRead.remaining packing_sound c.requires t none none (lines_on t c.requires.also next.0.0.went.decoder
+    wrote.none.encoder next.0.1 (subst (HeldFits m.pieces) (sym none) tt)) line next.0.0 next.1) wrote.none.in_order _
+    wrote.caused)
 
 pub returns-in_ok-write_line-in-Some-next_buffered : goal.returns-in_ok-write_line-in-Some-next_buffered
 returns-in_ok-write_line-in-Some-next_buffered g c =
-    let remaining = g.R.TellRead.remaining in
-    let s = c.args.self.now in
-    let t = c.next_buffered.follows.lender-at-none in
-    let some = c.in-Some-next_buffered in
-    let took = NextBuffered-some _ s.source t _ _ some.is c.next_buffered.follows.holds-at-none in
+    let m = c.next_buffered.follows.lender-at-none in
+    let t = record c.args.self.now { source = m; target = c.write_line.new.target } in
+    let line = c.in-Some-next_buffered.line.now in
+    let next = NextBuffered-some _ c.args.self.now.source m _ _ c.in-Some-next_buffered.is
+    c.next_buffered.follows.holds-at-none in
     let wrote = c.in_ok-write_line-in-Some-next_buffered.ensures in
-    let v = c.write_line.new.target in
-    written remaining g.W.TellWrite.trace g.met.W.TellWrite.trace_none s c.requires v wrote.not_flushed wrote.flushes
-    (not_held s.held c.in_default.not-Some) t some.line.now took wrote.taken wrote.met
+    let none = not_held c.args.self.now.held c.in_default.not-Some in
+    passed g.R.TellRead.remaining packing_sound c.requires t wrote.not_flushed wrote.flushes line
+    (took_next g.R.TellRead.remaining packing_sound c.requires t none none (lines_on t c.requires.also next.0.0.went.decoder
+    wrote.taken.encoder next.0.1 (subst (HeldFits m.pieces) (sym none) tt)) line next.0.0 next.1)
+    (PiecesTaken-frames g.W.TellWrite.trace c.args.self.now.target t.target _ wrote.taken) wrote.met
 
 pub returns-in-None : goal.returns-in-None
 returns-in-None g c =
-    let remaining = g.R.TellRead.remaining in
     let s = c.args.self.now in
-    let t = c.next_buffered.follows.lender-at-none in
-    let looked = NextBuffered-none _ s.source t _ c.in-None.is c.next_buffered.follows.holds-at-none in
-    none_passed remaining g.W.TellWrite.trace g.met.W.TellWrite.trace_none s c.requires (not_held s.held c.in_default.not-Some)
-    t looked.0 looked.2
+    let m = c.next_buffered.follows.lender-at-none in
+    let t = record s { source = m } in
+    let looked = NextBuffered-none _ s.source m _ c.in-None.is c.next_buffered.follows.holds-at-none in
+    let none = not_held s.held c.in_default.not-Some in
+    none_passed g.R.TellRead.remaining packing_sound c.requires t none refl
+    (lines_on t c.requires.also (ap (λ x. x.decoder) looked.0.same) refl (looked.2 ∙ c.requires.also.open')
+    (subst (HeldFits m.pieces) (sym none) tt)) none looked.0

@@ -1,66 +1,76 @@
-use Rattle.std.proofs.Common.{subst}
+use Rattle.std.proofs.Common.{◌∷◌, [], None, ap, append-nil, refl, subst, sym, ◌∙◌}
 use Rattle.std.specs.Prelude.{option_copied}
 use Rattle.std.proofs.lemmas.Result.{err_from_is_err_and}
-use Rattle.buffer_redux.specs.BufWriter.{WritesInOrder}
-use Rattle.codec.specs.NextPiece.{NextBuffered}
-use Rattle.frame_reader.specs.Framed.{framed}
-use Rattle.line_reader.specs.Lines.{with_end}
-use Rattle.frames.proofs.Asking.{not_held}
-use Rattle.frames.proofs.UnpackingCalls.{held_lost, held_printed, lost, none_passed, printed}
+use Rattle.frame_reader.specs.NextLaws.{NextPiece-reads}
+use Rattle.frames.specs.Words.{WritesInOrder, NextBuffered, framed, with_end}
+use Rattle.frames.specs.UnpackingLaws.{unpacking_sound}
+use Rattle.frames.proofs.PiecesCalls.{lost, none_passed, not_held, passed, took_held, took_next, took_none}
+use Rattle.frames.proofs.Unpacks.{frames_on}
 use Rattle.frames.proofs.unpacking.UnpackingFilter.pass.Goals as goal
 
 pub returns-in_err-print_line : goal.returns-in_err-print_line
 returns-in_err-print_line g c =
-    let remaining = g.R.TellRead.remaining in
-    let s = c.args.self.now in
+    let t = record c.args.self.now { target = c.print_line.new.target } in
     let p = err_from_is_err_and c.from_residual.result c.from_residual.ensures.1 in
     let wrote = c.in_err-print_line.ensures in
-    let v = c.print_line.new.target in
-    rw (p.1, p.2) (held_lost remaining s c.requires v wrote.kind wrote.capacity wrote.not_flushed wrote.flushes wrote.none _ wrote.caused)
+    let frames = c.requires.also in
+    rw (p.1, p.2) (lost g.R.TellRead.remaining unpacking_sound c.requires t wrote.not_flushed wrote.flushes []
+    (took_none g.R.TellRead.remaining unpacking_sound c.requires t refl
+    (frames_on t frames refl frames.told wrote.kind wrote.capacity) refl) wrote.none _ wrote.caused)
 
 pub returns-in-Some : goal.returns-in-Some
 returns-in-Some g c =
-    let remaining = g.R.TellRead.remaining in
     let s = c.args.self.now in
+    let t = record s { target = c.print_line.new.target; held = None } in
     let wrote = c.in_ok-print_line.ensures in
-    let v = c.print_line.new.target in
-    held_printed remaining s c.requires v wrote.kind wrote.capacity wrote.not_flushed wrote.flushes c.in-Some.span c.in-Some.is
-    (subst (λ l. WritesInOrder s.target (with_end l) v) c.lent.ensures wrote.taken) wrote.met
+    let frames = c.requires.also in
+    passed g.R.TellRead.remaining unpacking_sound c.requires t wrote.not_flushed wrote.flushes _
+    (took_held g.R.TellRead.remaining unpacking_sound c.requires t refl
+    (frames_on t frames refl frames.told wrote.kind wrote.capacity) c.in-Some.span c.in-Some.is refl)
+    (subst (λ l. WritesInOrder s.target l t.target) (ap (λ l. with_end l) c.lent.ensures ∙ sym (append-nil _)) wrote.taken)
+    wrote.met
 
 pub returns-in_err-print_line-in-Some-next_buffered : goal.returns-in_err-print_line-in-Some-next_buffered
 returns-in_err-print_line-in-Some-next_buffered g c =
-    let remaining = g.R.TellRead.remaining in
     let s = c.args.self.now in
-    let t = c.next_buffered.follows.lender-at-none in
+    let m = c.next_buffered.follows.lender-at-none in
+    let t = record s { source = m; target = c.print_line-in-Some-next_buffered.new.target } in
     let some = c.in-Some-next_buffered in
-    let took = subst (λ r. NextBuffered remaining (framed s.source.decoder.max) s.source (option_copied r) t) some.is
+    let next = subst (λ r. NextBuffered g.R.TellRead.remaining (framed s.source.decoder.max) s.source (option_copied r) m) some.is
     c.next_buffered.follows.holds-at-none in
     let from = c.from_residual-in_err-print_line-in-Some-next_buffered in
     let p = err_from_is_err_and from.result from.ensures.1 in
     let wrote = c.in_err-print_line-in-Some-next_buffered.ensures in
-    let v = c.print_line-in-Some-next_buffered.new.target in
-    rw (p.1, p.2)
-    (lost remaining s c.requires v wrote.kind wrote.capacity wrote.not_flushed wrote.flushes
-    (not_held s.held c.in_default.not-Some) t some.payload.now took wrote.none _ wrote.caused)
+    let none = not_held s.held c.in_default.not-Some in
+    rw (p.1, p.2) (lost g.R.TellRead.remaining unpacking_sound c.requires t wrote.not_flushed wrote.flushes
+    (some.payload.now ∷ []) (took_next g.R.TellRead.remaining unpacking_sound c.requires t none none
+    (frames_on t c.requires.also next.0.went.decoder (NextPiece-reads g.R.TellRead.remaining s.source m _ next.0).told wrote.kind
+    wrote.capacity) some.payload.now next.0 next.1) wrote.none _ wrote.caused)
 
 pub returns-in_ok-print_line-in-Some-next_buffered : goal.returns-in_ok-print_line-in-Some-next_buffered
 returns-in_ok-print_line-in-Some-next_buffered g c =
-    let remaining = g.R.TellRead.remaining in
     let s = c.args.self.now in
-    let t = c.next_buffered.follows.lender-at-none in
+    let m = c.next_buffered.follows.lender-at-none in
+    let t = record s { source = m; target = c.print_line-in-Some-next_buffered.new.target } in
     let some = c.in-Some-next_buffered in
-    let took = subst (λ r. NextBuffered remaining (framed s.source.decoder.max) s.source (option_copied r) t) some.is
+    let next = subst (λ r. NextBuffered g.R.TellRead.remaining (framed s.source.decoder.max) s.source (option_copied r) m) some.is
     c.next_buffered.follows.holds-at-none in
     let wrote = c.in_ok-print_line-in-Some-next_buffered.ensures in
-    let v = c.print_line-in-Some-next_buffered.new.target in
-    printed remaining s c.requires v wrote.kind wrote.capacity wrote.not_flushed wrote.flushes
-    (not_held s.held c.in_default.not-Some) t some.payload.now took wrote.taken wrote.met
+    let none = not_held s.held c.in_default.not-Some in
+    passed g.R.TellRead.remaining unpacking_sound c.requires t wrote.not_flushed wrote.flushes some.payload.now
+    (took_next g.R.TellRead.remaining unpacking_sound c.requires t none none
+    (frames_on t c.requires.also next.0.went.decoder (NextPiece-reads g.R.TellRead.remaining s.source m _ next.0).told wrote.kind
+    wrote.capacity) some.payload.now next.0 next.1)
+    (subst (λ l. WritesInOrder s.target l t.target) (sym (append-nil (with_end some.payload.now))) wrote.taken) wrote.met
 
 pub returns-in-None : goal.returns-in-None
 returns-in-None g c =
-    let remaining = g.R.TellRead.remaining in
     let s = c.args.self.now in
-    let t = c.next_buffered.follows.lender-at-none in
-    let stays = subst (λ r. NextBuffered remaining (framed s.source.decoder.max) s.source (option_copied r) t) c.in-None.is
-    c.next_buffered.follows.holds-at-none in
-    none_passed remaining s c.requires (not_held s.held c.in_default.not-Some) t stays.0
+    let m = c.next_buffered.follows.lender-at-none in
+    let t = record s { source = m } in
+    let stays = subst (λ r. NextBuffered g.R.TellRead.remaining (framed s.source.decoder.max) s.source (option_copied r) m)
+    c.in-None.is c.next_buffered.follows.holds-at-none in
+    let none = not_held s.held c.in_default.not-Some in
+    none_passed g.R.TellRead.remaining unpacking_sound c.requires t none refl
+    (frames_on t c.requires.also (ap (λ x. x.decoder) stays.0.same) (ap (λ x. x.ended) stays.0.same ∙ c.requires.also.told)
+    refl refl) none stays.0

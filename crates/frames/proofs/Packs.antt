@@ -1,0 +1,282 @@
+-- What the calls of a filter of lines do, and what a whole run of `pack` comes to.
+use Rattle.std.proofs.Common.{◌≡◌, ℕ, ◌≤◌, ◌<◌, List, length, true, false, Option, None, Some, Ok, Err, refl, sym, ap, subst, ◌∙◌, arith, ◌^◌, ◌⊎◌, inl, inr, [], ◌∷◌, ◌++◌, Result, append-nil, append_assoc, length-append}
+use Rattle.line_reader.specs.Lines.{BeginsTooLong}
+use Rattle.line_reader.specs.NextLine.{NextAnswer, NextLine}
+use Rattle.line_reader.specs.NextLineLaws.{IsHanded-fits, NextLine-open, NextOpen, NextPiece-long, open_unended}
+use Rattle.frames.specs.Words.{Error, IsLent, bytes_at, Span, rest, room_for, Asks, HasLines, IsLine, IsUnended, with_ends, LineState, lined, error_kind, All, RanDry, StreamLog, Grammar, IsOpen, HasPieces, IsPieces, ForwardAnswers, Stopped, Fits, frames, AllSent, GaveNothing, MetNoFault, OverCount, RunError}
+use Rattle.frames.specs.Packing.{HeldFits, TakesLines, packing, packing_rules, NoLine}
+use Rattle.frames.specs.PackingLaws.{packing_sound, all_ended, all_fit}
+use Rattle.frames.specs.Pieces.{IsReady, HasEnded, PiecesEnd}
+use Rattle.frames.specs.declared.error.RunError.TheVariants.{TooLong, Io}
+use Rattle.frames.specs.declared.packing.Packing.{Packing}
+use Rattle.std.proofs.lemmas.Bool.{true≢false}
+use Rattle.std.proofs.lemmas.List.Elements.{All-nil}
+use Rattle.std.specs.declared.io.ErrorKind.TheVariants.{OutOfMemory}
+use Rattle.buffer_redux.specs.GrowError.{FitsWithin, kind_of}
+use Rattle.redux_buffer.specs.declared.grow_error.GrowError.{GrowError}
+use Rattle.redux_buffer.specs.declared.grow_error.GrowError.TheVariants.{TooLarge, Memory}
+use Rattle.line_reader.specs.TextLaws.{lines_of}
+use Rattle.frames.specs.Ending.{IsOutcome}
+use Rattle.frames.specs.Pack.{PackedFirst, PackedLines, PackRan, Packs}
+use Rattle.frames.specs.PiecesLaws.{whole_text}
+use Rattle.forward.specs.declared.error.AskError.TheVariants as ask
+use Rattle.line_reader.specs.declared.error.LineError.TheVariants as error
+use Rattle.frames.proofs.PieceRuns.{Over, all_received, outcome_ran}
+use Rattle.frames.proofs.PiecesCalls as pieces
+
+-- so it is still, where neither limit changed
+pub lines_on : {R W : Type 0} {s : Packing R W} (t : Packing R W) → TakesLines s
+    → t.source.pieces.decoder ≡ s.source.pieces.decoder → t.target.encoder ≡ s.target.encoder → t.source.skipping ≡ false
+    → HeldFits t.source.pieces t.held → TakesLines t
+lines_on t lines decoder encoder open' fits = record {
+  most = ap (λ d. d.max) decoder ∙ lines.most ∙ sym (ap (λ d. d.max) encoder);
+  open' = open';
+  fits = fits;
+}
+
+-- the reader was asked for the next line
+module _ {R W : Type 0} (remaining : R → Option (List ℕ)) {s : Packing R W} (ready : IsReady packing s) (lacks : s.held ≡ None)
+    (going : s.source.pieces.ended ≡ false) (m : LineState R) where
+  abbrev after : Option Span → Packing R W
+  after h = record s { source = m; held = h }
+
+  opened : (answer : NextAnswer) → NextLine remaining s.source answer m → NextOpen remaining s.source answer m
+  opened answer = NextLine-open remaining s.source m answer ready.also.open'
+
+  lines : (answer : NextAnswer) → NextLine remaining s.source answer m → (h : Option Span) → HeldFits m.pieces h
+      → TakesLines (after h)
+  lines answer line h fits =
+      let next = opened answer line in lines_on (after h) ready.also next.0.went.decoder refl next.1 fits
+
+  pub asked_more : (span : Span) → IsLent (lined m.pieces.decoder.max) m.pieces.handed m.pieces.reader.block.bytes span
+      → NextLine remaining s.source (Ok (Some (bytes_at span m.pieces.reader.block.bytes))) m
+      → Asks (packing_rules remaining) s (Ok true) (after (Some span))
+  asked_more span lent line =
+      let payload = bytes_at span m.pieces.reader.block.bytes in
+      let next = (opened (Ok (Some payload)) line).0 in
+      let fits = IsHanded-fits s.source.pieces.decoder.max s.source.pieces m.pieces payload next.bytes next.answers.1 in
+      pieces.asked_more remaining packing_sound ready (after (Some span)) lacks refl
+      (lines (Ok (Some payload)) line (Some span) (omega (arith, fits.fits, ap (λ d. d.max) next.went.decoder)))
+      going span refl lent next
+
+  -- none came
+  lines_none : (answer : NextAnswer) → NextLine remaining s.source answer m → TakesLines (after s.held)
+  lines_none answer line = lines answer line s.held (subst (HeldFits m.pieces) (sym lacks) tt)
+
+  pub asked_none : NextLine remaining s.source (Ok None) m
+      → Asks (packing_rules remaining) s (Ok false) (after s.held)
+  asked_none line = pieces.asked_none remaining packing_sound ready (after s.held) lacks refl
+      (lines_none (Ok None) line) going lacks (opened (Ok None) line).0
+
+  pub asked_long : (n : ℕ) → NextLine remaining s.source (Err (error.TooLong n)) m
+      → Asks (packing_rules remaining) s (Err (ask.Wrong TooLong)) (after s.held)
+  asked_long n line =
+      let next = (opened (Err (error.TooLong n)) line).0 in
+      let long = NextPiece-long remaining s.source.pieces.decoder.max s.source.pieces m.pieces (record { 0 = n }) next in
+      pieces.asked_wrong remaining packing_sound ready (after s.held) lacks refl
+      (lines_none (Err (error.TooLong n)) line) going lacks (record { 0 = n }) next TooLong
+      (subst (λ d. BeginsTooLong d.max (rest m.pieces)) (sym next.went.decoder) long.0, next.answers.2)
+
+  -- a read failed
+  module _ (e : Error) (line : NextLine remaining s.source (Err (error.Io e)) m) where
+    pub asked_idle : length (rest m.pieces) ≤ length (rest s.source.pieces)
+        → Asks (packing_rules remaining) s (Err (ask.Io e)) (after s.held)
+    asked_idle = pieces.asked_idle remaining packing_sound ready (after s.held) lacks refl
+        (lines_none (Err (error.Io e)) line) going lacks e (opened (Err (error.Io e)) line).0
+
+    pub asked_behind : length (rest s.source.pieces) < length (rest m.pieces)
+        → Asks (packing_rules remaining) s (Err (ask.IoBehind e)) (after s.held)
+    asked_behind came =
+        let next = (opened (Err (error.Io e)) line).0 in
+        let fits = (open_unended s.source.pieces.decoder.max (rest m.pieces) next.answers.1).fits in
+        pieces.asked_behind remaining packing_sound ready (after s.held) lacks refl
+        (lines_none (Err (error.Io e)) line) going lacks e next came (omega (arith, fits))
+
+-- lines, each with its end, are a text
+abbrev with_ends_of : (lines : List (List ℕ)) → All IsLine lines → HasLines (with_ends lines) lines
+with_ends_of lines plain = record {
+  whole = lines;
+  last = [];
+  bytes = sym (append-nil (with_ends lines));
+  all = sym (append-nil lines);
+  plain = plain;
+}
+
+-- what comes before another payload of a text is whole pieces
+fronts : {X : Type 0} (g : Grammar X) (p : List (List ℕ)) (next : List ℕ) (more : List (List ℕ)) (bytes : List ℕ)
+    → HasPieces g bytes (p ++ next ∷ more)
+    → (front : List ℕ) × (behind : List ℕ) × (bytes ≡ front ++ behind) × IsPieces g front p []
+fronts g [] next more bytes has = ([], bytes, refl, refl)
+fronts g (payload ∷ p) next more bytes (inl (left, starts, has)) =
+    let (front, behind, equal, whole) = fronts g p next more left has in (
+      starts.piece ++ front,
+      behind,
+      starts.equal ∙ ap (λ l. starts.piece ++ l) equal ∙ sym (append_assoc starts.piece front behind),
+      (front, record { piece = starts.piece; is = starts.is; equal = refl }, whole),
+    )
+fronts g (payload ∷ p) next more bytes (inr (last, none)) =
+    absurd (omega (arith, ap length none, length-append p (next ∷ more)))
+
+-- from empty buffers on
+module _ {R W : Type 0} (remaining : R → Option (List ℕ)) (s t : Packing R W)
+    (fresh : (packing_rules {W = W} remaining).fresh s) (going : s.source.pieces.ended ≡ false) (ready : IsReady packing t) where
+  abbrev max : ℕ
+  max = s.source.pieces.decoder.max
+
+  abbrev Went : List (List ℕ) → List (List ℕ) → Type 0
+  Went = Over remaining packing_sound s t fresh
+
+  abbrev Ran : Result (Unit {0}) RunError → Type 0
+  Ran = PackRan max s.source.pieces.reader.log t.source.pieces.reader.log s.target.writer.log t.target.writer.log
+
+  received : (handed p : List (List ℕ)) → Went handed p → AllSent t.target.writer
+      → t.target.writer.log.writes.received ≡ s.target.writer.log.writes.received ++ frames p
+  received = all_received remaining packing_sound s t fresh
+
+  dry : HasEnded packing s ⊎ RanDry s.source.pieces.reader t.source.pieces.reader
+      → GaveNothing s.source.pieces.reader.log t.source.pieces.reader.log
+  dry (inl before) = absurd (true≢false (sym before ∙ going))
+  dry (inr ran) = ran
+
+  texts : (handed p : List (List ℕ)) (over : Went handed p) → HasPieces (lined max) over.bytes handed
+  texts handed p over = elim over.text [ inl whole ↦ whole_text (lined max) over.bytes handed whole | inr last ↦ last.0 ]
+
+  ended_ran : (p : List (List ℕ)) → Went p p → PiecesEnd packing s (Ok tt) t → AllSent t.target.writer
+      → MetNoFault s.source.pieces.reader.log t.source.pieces.reader.log s.target.writer.log t.target.writer.log → Ran (Ok tt)
+  ended_ran p over end sent met = (
+    record {
+      text = over.bytes;
+      lines = p;
+      has = lines_of max over.bytes p (texts p p over);
+      fit = all_fit max over.bytes p (texts p p over);
+      given = over.given ∙ ap (λ l. s.source.pieces.reader.log.reads.given ++ (over.bytes ++ l)) end.0
+          ∙ ap (λ l. s.source.pieces.reader.log.reads.given ++ l) (append-nil over.bytes);
+      ended = dry end.1;
+      received = received p p over sent;
+      flushed = sent.flushed;
+    },
+    met,
+  )
+
+  -- each line had its end
+  some_lines : (Such : List ℕ → Type 0) (p : List (List ℕ)) → Went p p → t.source.pieces.ended ≡ false → AllSent t.target.writer
+      → Such (rest t.source.pieces)
+      → PackedLines Such max s.source.pieces.reader.log t.source.pieces.reader.log s.target.writer.log t.target.writer.log
+  some_lines Such p over open' sent such =
+      let whole : IsPieces (lined max) over.bytes p [] =
+      elim over.text [ inl is ↦ is | inr last ↦ absurd (true≢false (sym last.1 ∙ open')) ] in
+      let all = all_ended max over.bytes p whole in
+      record {
+        lines = p;
+        more = rest t.source.pieces;
+        plain = all.1;
+        fit = all.2;
+        such = such;
+        given = over.given ∙ ap (λ l. s.source.pieces.reader.log.reads.given ++ (l ++ rest t.source.pieces)) all.0;
+        received = received p p over sent;
+        flushed = sent.flushed;
+      }
+
+  wrong_ran : (p : List (List ℕ)) → Went p p → (why : RunError) → NoLine why t.source.pieces → AllSent t.target.writer
+      → MetNoFault s.source.pieces.reader.log t.source.pieces.reader.log s.target.writer.log t.target.writer.log
+      → Ran (Err why)
+  wrong_ran p over TooLong wrong sent met = (
+    some_lines (BeginsTooLong max) p over wrong.1 sent
+        (subst (λ d. BeginsTooLong d.max (rest t.source.pieces)) over.decoder wrong.0),
+    met,
+  )
+  wrong_ran p over other wrong sent met = absurd wrong
+
+  -- the first lines went over
+  abbrev First : Type 0
+  First = PackedFirst max s.source.pieces.reader.log t.source.pieces.reader.log s.target.writer.log t.target.writer.log
+
+  module _ (p lost : List (List ℕ)) (over : Went (p ++ lost) p) where
+    first_of : (text more : List ℕ) → over.bytes ≡ text ++ more → (has : HasLines text p) → All (Fits max) p
+        → (has.last ≡ [])
+        ⊎ ((more ++ rest t.source.pieces ≡ []) × GaveNothing s.source.pieces.reader.log t.source.pieces.reader.log)
+        → (ran : First) × (ran.lines ≡ p)
+    first_of text more equal has fit whole =
+        let given = s.source.pieces.reader.log.reads.given in
+        let left = rest t.source.pieces in (
+          record {
+            text = text;
+            lines = p;
+            more = more ++ left;
+            unsent = t.target.writer.block.bytes;
+            has = has;
+            fit = fit;
+            whole = whole;
+            given = over.given ∙ ap (λ l. given ++ (l ++ left)) equal ∙ ap (λ l. given ++ l) (append_assoc text more left);
+            received = over.received;
+          },
+          refl,
+        )
+
+    whole_lines : (front more : List ℕ) → over.bytes ≡ front ++ more → IsPieces (lined max) front p []
+        → (ran : First) × (ran.lines ≡ p)
+    whole_lines front more equal whole =
+        let all = all_ended max front p whole in
+        first_of (with_ends p) more (equal ∙ ap (λ l. l ++ more) all.0) (with_ends_of p all.1) all.2 (inl refl)
+
+    all_lines : p ++ lost ≡ p → (ran : First) × (ran.lines ≡ p)
+    all_lines none = elim over.text [
+      | inl whole ↦ whole_lines over.bytes [] (sym (append-nil over.bytes))
+          (subst (λ l. IsPieces (lined max) over.bytes l []) none whole)
+      | inr (has, ended) ↦
+          let lines = subst (HasPieces (lined max) over.bytes) none has in
+          first_of over.bytes [] (sym (append-nil over.bytes)) (lines_of max over.bytes p lines)
+          (all_fit max over.bytes p lines) (inr (ready.whole.ended ended, dry (over.dry ended)))
+    ]
+
+  first : (p lost : List (List ℕ)) → Went (p ++ lost) p → (ran : First) × (ran.lines ≡ p)
+  first p [] over = all_lines p [] over (append-nil p)
+  first p (next ∷ more) over =
+      let (front, behind, equal, whole) = fronts (lined max) p next more over.bytes (texts (p ++ next ∷ more) p over) in
+      whole_lines p (next ∷ more) over front behind equal whole
+
+  pub packed : (answer : Result ℕ (Stopped RunError)) (outcome : Result (Unit {0}) RunError) → IsOutcome answer outcome
+      → ForwardAnswers (packing_rules remaining) s answer t → Ran outcome
+  packed = outcome_ran remaining packing_sound s t fresh Ran ended_ran wrong_ran
+      (λ p over open' still sent e failed. (
+        some_lines (IsUnended max) p over still sent
+            (open_unended max (rest t.source.pieces)
+            (subst (λ d. IsOpen (lined d.max) (rest t.source.pieces)) over.decoder open')),
+        failed,
+      ))
+      (λ p lost over e failed. ((first p lost over).0, failed))
+      (λ p lost over e much.
+      let ran = first p lost over in (
+        ran.0,
+        inl (subst (λ l. OverCount e (length l) s.source.pieces.reader.log t.source.pieces.reader.log s.target.writer.log
+            t.target.writer.log) (sym ran.1) much),
+      ))
+
+-- a buffer this large is refused for want of memory alone
+pub only_memory : (least most : ℕ) (refusal : GrowError) → least < 2 ^ 20 → most < 2 ^ 17
+    → FitsWithin {T = Unit {0}} (Err refusal) (room_for least most) (2 ^ 62) → kind_of refusal ≡ OutOfMemory
+only_memory least most Memory little small within = refl
+only_memory least most TooLarge little small within = absurd (omega (arith, little, small, within))
+
+-- a buffer was refused
+pub pack_refused : (most : ℕ) (read written : StreamLog) (e : Error) → error_kind e ≡ OutOfMemory
+    → Packs most read read written written (Err (Io e))
+pack_refused most read written e memory = record {
+  ran = (
+    record {
+      text = [];
+      lines = [];
+      more = [];
+      unsent = [];
+      has = with_ends_of [] (All-nil IsLine);
+      fit = All-nil (Fits most);
+      whole = inl refl;
+      given = sym (append-nil read.reads.given);
+      received = refl;
+    },
+    inr (record { memory = memory; read_same = refl; written_same = refl }),
+  );
+  prompt = inl refl;
+  once = omega arith;
+  flushes = omega arith;
+}

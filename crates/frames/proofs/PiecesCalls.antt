@@ -1,0 +1,332 @@
+-- What the calls of a filter of pieces do.
+use Rattle.std.proofs.Common.{◌≡◌, ℕ, ◌+◌, ◌≤◌, ◌<◌, inl, inr, Bool, true, false, List, [], ◌∷◌, ◌++◌, length, Option, None, Some, Result, Ok, Err, refl, sym, ap, subst, ◌∙◌, arith, length-append}
+use Rattle.std.proofs.lemmas.Bool.{true≢false}
+use Rattle.buffer_redux.specs.Faults.{MetInterrupts, SendErrorCaused}
+use Rattle.buffer_redux.specs.LogGrows.{ReadLogGrows-none}
+use Rattle.buffer_redux.specs.WriterLaws.{WritesInOrder-none}
+use Rattle.codec.specs.declared.error.NextError.TheVariants as Why
+use Rattle.codec.specs.NextPieceLaws.{MetEnd-once}
+use Rattle.codec.specs.PiecesWentLaws.{PiecesWent-none}
+use Rattle.codec.specs.StaysLeftLaws.{StaysLeft-went}
+use Rattle.forward.specs.declared.error.AskError.{AskError}
+use Rattle.forward.specs.declared.error.AskError.TheVariants.{Wrong, Io, IoBehind}
+use Rattle.programs.specs.FlushesLaws.{FlushesOnce-flush}
+use Rattle.programs.specs.PromptLaws.{WritesOn-grows, WritesOn-none, WritesOn-unflushed}
+use Rattle.programs.specs.StreamsLaws.{MetInterrupts-none}
+use Rattle.programs.specs.TakenIn.{taken_more}
+use Rattle.frames.specs.Words.{Error, WasFlushed, WritesInOrder, StreamLog, IsLent, bytes_at, Span, IsOpen, AskedWhere, Faulted, NextAnswer, NextPiece, PiecesWent, StaysLeft, empties, IsPieceReader, ReaderState, rest, AskAnswers, Asks, FilterRules, FlushAnswers, Flushes, Passes, StaysOpen, AsksGive, WritesOn, AllSent}
+use Rattle.frames.specs.Pieces.{CanShow, HandsPieces, HasEnded, IsReady, IsSound, Piecewise, grammar_of, held_at, held_of, made, piece_rules}
+use Rattle.frames.specs.PiecesLaws.{hands_nothing, hands_one, none_held}
+
+-- there is no place
+pub not_held : (h : Option Span) → ((span : Span) → ¬ (h ≡ Some span)) → h ≡ None
+not_held None isnt = refl
+not_held (Some span) isnt = absurd (isnt span refl)
+
+-- no payload is handed out behind an end that no call has told
+open_piece : {X : Type 0} (none : NextAnswer X) (ended : Bool) (payload : List ℕ) → none ≡ Ok None
+    → (ended ≡ true → Ok (Some payload) ≡ none) → ended ≡ false
+open_piece none true payload is told = (let odd : Ok (Some payload) ≡ none = told refl in cc)
+open_piece none false payload is told = refl
+
+-- each ask gave a byte, but for the one that failed
+gave_but_failed : {S D : Type 0} (Such : List ℕ → Type 0) (s m : ReaderState S D) (e : Error) → AskedWhere Such s m
+    → Faulted s e m → AsksGive s.reader.log m.reader.log
+gave_but_failed Such s m e (inl same) fault = omega (
+  arith,
+  ap (λ l. l.reads.asks) same,
+  ap (λ l. length l.reads.given) same,
+  ap (λ l. length l.reads.faults) same,
+)
+gave_but_failed Such s m e (inr over) fault = omega (
+  arith,
+  over.asks,
+  ap length over.given,
+  length-append s.reader.log.reads.given (over.came ++ over.last),
+  length-append over.came over.last,
+  ap length fault,
+  length-append s.reader.log.reads.faults (e ∷ []),
+)
+
+module _ {T R D X W E : Type 0} (remaining : R → Option (List ℕ)) {f : Piecewise T R D X W E} (sound : IsSound f) {s : T}
+    (ready : IsReady f s) (t : T) where
+  abbrev pub rules : FilterRules T E
+  rules = piece_rules remaining f
+
+  abbrev Next : NextAnswer X → Type 0
+  Next answer = NextPiece remaining (grammar_of f s) (f.source s) answer (f.source t)
+
+  -- these payloads were taken out, and the stream wasn't asked
+  pub record Took (p : List (List ℕ)) : Type 0 where
+    pub hands : HandsPieces remaining f s p t
+    pub told : (f.source t).reader.log ≡ (f.source s).reader.log
+    pub closed : HasEnded f s → HasEnded f t
+    pub leaves : IsReady f t
+
+  -- the reader was let be
+  module _ (same : f.source t ≡ f.source s) (also : f.also t) where
+    let_be : (p : List (List ℕ)) → held_of f s ≡ p ++ held_at (f.source s) (f.held t)
+        → CanShow (grammar_of f s) (f.source s) (f.held t) → Took p
+    let_be p order shows = record {
+      hands = hands_nothing remaining f s t p
+          (subst (PiecesWent remaining (grammar_of f s).most (f.source s) []) (sym same)
+          (PiecesWent-none remaining (grammar_of f s).most (f.source s)))
+          (order ∙ ap (λ m. p ++ held_at m (f.held t)) (sym same)) (ap (λ m. m.ended) same);
+      told = ap (λ m. m.reader.log) same;
+      closed = λ ended. ap (λ m. m.ended) same ∙ ended;
+      leaves = record {
+        whole = subst (λ m. IsPieceReader (f.grammar m.decoder) m) (sym same) ready.whole;
+        shows = subst (λ m. CanShow (f.grammar m.decoder) m (f.held t)) (sym same) shows;
+        also = also;
+      };
+    }
+
+    -- what is held still is, or was taken out
+    pub took_none : f.held t ≡ f.held s → Took []
+    took_none held = let_be [] (ap (λ h. held_at (f.source s) h) (sym held))
+        (subst (CanShow (grammar_of f s) (f.source s)) (sym held) ready.shows)
+
+    pub took_held : (span : Span) → f.held s ≡ Some span → f.held t ≡ None
+        → Took (bytes_at span (f.source s).reader.block.bytes ∷ [])
+    took_held span is none = let_be (bytes_at span (f.source s).reader.block.bytes ∷ [])
+        (ap (λ h. held_at (f.source s) h) is
+        ∙ ap (λ h. bytes_at span (f.source s).reader.block.bytes ∷ held_at (f.source s) h) (sym none))
+        (subst (CanShow (grammar_of f s) (f.source s)) (sym none) tt)
+
+  none_shown : f.held t ≡ None → CanShow (grammar_of f t) (f.source t) (f.held t)
+  none_shown none = subst (CanShow (grammar_of f t) (f.source t)) (sym none) tt
+
+  -- a call of the reader leaves one
+  ready_then : (answer : NextAnswer X) → Next answer → CanShow (grammar_of f t) (f.source t) (f.held t) → f.also t
+      → IsReady f t
+  ready_then answer next shows also = record {
+    whole = subst (λ d. IsPieceReader (f.grammar d) (f.source t)) (sym next.went.decoder) next.whole;
+    shows = shows;
+    also = also;
+  }
+
+  open_behind : (payload : List ℕ) → Next (Ok (Some payload)) → (f.source s).ended ≡ false
+  open_behind payload next = open_piece (Ok None) (f.source s).ended payload refl next.told
+
+  -- the next was taken out that was buffered
+  pub took_next : f.held s ≡ None → f.held t ≡ None → f.also t → (payload : List ℕ) → Next (Ok (Some payload))
+      → (f.source t).reader ≡ (f.source s).reader → Took (payload ∷ [])
+  took_next lacks none also payload next same =
+      let going = open_behind payload next in
+      record {
+        hands = hands_one remaining f s t payload (payload ∷ []) going next
+            (ap (λ l. l ++ payload ∷ []) (none_held remaining f s lacks)
+            ∙ ap (λ l. payload ∷ l) (sym (none_held remaining f t none)));
+        told = ap (λ r. r.log) same;
+        closed = λ ended. absurd (true≢false (sym ended ∙ going));
+        leaves = ready_then (Ok (Some payload)) next (none_shown none) also;
+      }
+
+  -- it was taken in, or nothing was
+  module _ (unflushed : (f.target t).log.writes.flushed ≡ (f.target s).log.writes.flushed)
+      (steady : (f.target t).log.writes.flushes ≡ (f.target s).log.writes.flushes) where
+    pub passed : (payload : List ℕ) → Took (payload ∷ [])
+        → WritesInOrder (f.target s) (made f (payload ∷ [])) (f.target t)
+        → MetInterrupts (f.target s).log.writes (f.target t).log.writes → Passes rules s (Ok true) t
+    passed payload took taken met = record {
+      told = took.told;
+      ready = took.leaves;
+      closed = took.closed;
+      writes = WritesOn-unflushed (f.target s) (f.target t) (made f (payload ∷ [])) taken unflushed;
+      flushes = steady;
+      answers = (
+        payload,
+        record { hands = took.hands; takes = taken },
+        met,
+        omega (
+          arith,
+          taken_more (f.target s) (f.target t) (made f (payload ∷ [])) taken,
+          length-append (f.coded payload) [],
+          sound.some payload,
+        ),
+      );
+    }
+
+    pub lost : (p : List (List ℕ)) → Took p → WritesInOrder (f.target s) [] (f.target t) → (e : Error)
+        → SendErrorCaused (f.target s).log.writes (f.target t).log.writes e → Passes rules s (Err e) t
+    lost p took taken e caused = record {
+      told = took.told;
+      ready = took.leaves;
+      closed = took.closed;
+      writes = WritesOn-unflushed (f.target s) (f.target t) [] taken unflushed;
+      flushes = steady;
+      answers = (p, record { hands = took.hands; takes = taken }, caused);
+    }
+
+  -- all was flushed, or not
+  module _ (took : Took []) (held : f.held t ≡ f.held s) (tells : W → StreamLog) (trace : W → W → Type 0) where
+    flush_answers : (answer : Result (Unit {0}) Error) → WasFlushed tells trace (f.target s) answer (f.target t)
+        → FlushAnswers rules s answer t
+    flush_answers (Ok _) w = (record { empty = w.ok.empty; flushed = w.ok.flushed }, w.ok.met)
+    flush_answers (Err e) w = w.caused
+
+    pub flushed : (answer : Result (Unit {0}) Error) → WasFlushed tells trace (f.target s) answer (f.target t)
+        → Flushes rules s answer t
+    flushed answer w = record {
+      told = took.told;
+      ready = took.leaves;
+      closed = took.closed;
+      writes = WritesOn-grows (f.target s).log.writes (f.target t).log.writes w.grows;
+      flushes = FlushesOnce-flush (f.target s) (f.target t) answer w.steps;
+      moves = record { hands = took.hands; takes = w.in_order };
+      lacks = λ lacks. held ∙ lacks;
+      answers = flush_answers answer w;
+    }
+
+  -- none is held, and the writer is let be
+  module _ (lacks : f.held s ≡ None) (same : f.target t ≡ f.target s) (also : f.also t) where
+    taken : WritesInOrder (f.target s) [] (f.target t)
+    taken = subst (WritesInOrder (f.target s) []) (sym same) (WritesInOrder-none (f.target s))
+
+    -- none was there
+    pub none_passed : f.held t ≡ None → StaysLeft (grammar_of f s) (f.source s) (f.source t) → Passes rules s (Ok false) t
+    none_passed none stays = record {
+      told = ap (λ m. m.reader.log) stays.same;
+      ready = record {
+        whole = subst (λ d. IsPieceReader (f.grammar d) (f.source t)) (sym (ap (λ m. m.decoder) stays.same)) stays.whole;
+        shows = none_shown none;
+        also = also;
+      };
+      closed = λ ended. ap (λ m. m.ended) stays.same ∙ ended;
+      writes = subst (λ v. WritesOn (f.target s).log.writes v.log.writes) (sym same) (WritesOn-none (f.target s).log.writes);
+      flushes = ap (λ v. v.log.writes.flushes) same;
+      answers = (
+        record {
+          hands = hands_nothing remaining f s t []
+              (StaysLeft-went remaining (grammar_of f s) (f.source s) (f.source t) stays)
+              (none_held remaining f s lacks ∙ sym (none_held remaining f t none)) (ap (λ m. m.ended) stays.same);
+          takes = taken;
+        },
+        subst (λ v. MetInterrupts (f.target s).log.writes v.log.writes) (sym same)
+            (MetInterrupts-none (f.target s).log.writes),
+        none,
+        λ has. has lacks,
+      );
+    }
+
+    -- the reader was asked for the next
+    module _ (going : (f.source s).ended ≡ false) where
+      asked : (found : NextAnswer X) → Next found → CanShow (grammar_of f t) (f.source t) (f.held t)
+          → HandsPieces remaining f s [] t → empties (f.source t).reader ≤ empties (f.source s).reader + 1
+          → (answer : Result Bool (AskError E)) → AskAnswers rules s answer t → Asks rules s answer t
+      asked found next shows hands once answer answers = record {
+        told = ap (λ v. v.log) same;
+        ready = ready_then found next shows also;
+        moves = record { hands = hands; takes = taken };
+        sent = λ sent. subst AllSent (sym same) sent;
+        asks = (next.asked, next.went.grows);
+        once = record {
+          once = once;
+          quiet = λ ended. absurd (true≢false (sym ended ∙ going));
+          closed = λ ended. absurd (true≢false (sym ended ∙ going));
+        };
+        answers = answers;
+      }
+
+      -- a payload came, and is held
+      pub asked_more : (span : Span) → f.held t ≡ Some span
+          → IsLent (grammar_of f t) (f.source t).handed (f.source t).reader.block.bytes span
+          → Next (Ok (Some (bytes_at span (f.source t).reader.block.bytes))) → Asks rules s (Ok true) t
+      asked_more span is lent next =
+          let payload = bytes_at span (f.source t).reader.block.bytes in
+          asked (Ok (Some payload)) next (subst (CanShow (grammar_of f t) (f.source t)) (sym is) lent)
+          (hands_one remaining f s t payload [] going next
+          (ap (λ l. l ++ payload ∷ []) (none_held remaining f s lacks) ∙ ap (λ h. held_at (f.source t) h) (sym is)))
+          (elim next.answers.1 [
+            | inl whole ↦ omega (arith, whole.2)
+            | inr last ↦ omega (arith, MetEnd-once (f.source s) (f.source t) going last.5)
+          ])
+          (Ok true) (
+            λ none. (let no : Some span ≡ None = sym is ∙ none in cc),
+            next.answers.0,
+            elim next.answers.1 [
+              | inl whole ↦ inl (record {
+                zero_reads = whole.2;
+                give = omega (arith, next.gave whole.2 next.answers.0, ap length next.answers.0);
+              })
+              | inr last ↦ inr last.4
+            ],
+          )
+
+      -- or none
+      module _ (none : f.held t ≡ None) where
+        asked_nothing : (found : NextAnswer X) (next : Next found) → next.bytes ≡ [] → (f.source t).ended ≡ false
+            → empties (f.source t).reader ≤ empties (f.source s).reader + 1
+            → (answer : Result Bool (AskError E)) → AskAnswers rules s answer t → Asks rules s answer t
+        asked_nothing found next is open' once answer answers = asked found next (none_shown none)
+            (hands_nothing remaining f s t []
+            (subst (λ l. PiecesWent remaining (grammar_of f s).most (f.source s) l (f.source t)) is next.went)
+            (none_held remaining f s lacks ∙ sym (none_held remaining f t none)) (open' ∙ sym going))
+            once answer answers
+
+        pub asked_none : Next (Ok None) → Asks rules s (Ok false) t
+        asked_none next =
+            let a = next.answers in
+            let met = MetEnd-once (f.source s) (f.source t) going a.4 in
+            asked_nothing (Ok None) next a.0 a.3 (omega (arith, met)) (Ok false)
+            ((none, (a.1, inr (omega (arith, met)), omega (arith, met))), a.2)
+
+        pub asked_wrong : (e : X) → Next (Err (Why.Wrong e)) → (why : E) → f.wrong s why t → Asks rules s (Err (Wrong why)) t
+        asked_wrong e next why wrong =
+            let a = next.answers in
+            asked_nothing (Err (Why.Wrong e)) next a.0 a.2 (elim a.3 [
+              | inl begins ↦ omega (arith, begins.1)
+              | inr cut ↦ omega (arith, MetEnd-once (f.source s) (f.source t) going cut.3)
+            ]) (Err (Wrong why)) ((none, wrong), a.1)
+
+        -- or a read failed, behind bytes that came or not
+        module _ (e : Error) (next : Next (Err (Why.Io e))) where
+          failed : (answer : Result Bool (AskError E))
+              → (rules.waits t → Faulted (f.source s) e (f.source t) → StaysOpen rules s t → AskAnswers rules s answer t)
+              → Asks rules s answer t
+          failed answer answers =
+              let a = next.answers in
+              asked_nothing (Err (Why.Io e)) next a.0 a.3 (omega (arith, a.4)) answer (answers
+              (none, subst (λ d. IsOpen (f.grammar d) (rest (f.source t))) (sym next.went.decoder) a.1, a.3) a.2
+              (inl (record {
+                zero_reads = a.4;
+                give = gave_but_failed (IsOpen (grammar_of f s)) (f.source s) (f.source t) e next.asked a.2;
+              })))
+
+          most : (grammar_of f t).most ≡ (grammar_of f s).most
+          most = ap (λ d. (f.grammar d).most) next.went.decoder
+
+          grew : length (rest (f.source s)) ≤ length (rest (f.source t))
+          grew =
+              let hands = next.went.hands in
+              omega (
+                arith,
+                ap length next.answers.0,
+                ap length hands.equal,
+                length-append next.bytes (rest (f.source t)),
+                length-append (rest (f.source s)) hands.got,
+              )
+
+          pub asked_idle : length (rest (f.source t)) ≤ length (rest (f.source s)) → Asks rules s (Err (Io e)) t
+          asked_idle idle = failed (Err (Io e)) (λ waits fault still. (waits, fault, still, omega (arith, idle, grew, most)))
+
+          pub asked_behind : length (rest (f.source s)) < length (rest (f.source t))
+              → length (rest (f.source t)) < (grammar_of f s).most → Asks rules s (Err (IoBehind e)) t
+          asked_behind came few =
+              failed (Err (IoBehind e)) (λ waits fault still. (waits, fault, still, omega (arith, came, few, most)))
+
+-- the end is known, and the reader isn't asked
+pub asked_ended : {T R D X W E : Type 0} (remaining : R → Option (List ℕ)) {f : Piecewise T R D X W E} (sound : IsSound f)
+    {s : T} → IsReady f s → f.held s ≡ None → HasEnded f s → Asks (piece_rules remaining f) s (Ok false) s
+asked_ended remaining {f} sound {s} ready lacks ended = record {
+  told = refl;
+  ready = ready;
+  moves = record {
+    hands = (took_none remaining sound ready s refl ready.also refl).hands;
+    takes = WritesInOrder-none (f.target s);
+  };
+  sent = λ sent. sent;
+  asks = (inl refl, ReadLogGrows-none (f.source s).reader.log.reads);
+  once = record { once = omega arith; quiet = λ closed. refl; closed = λ closed. closed };
+  answers = ((lacks, (ready.whole.ended ended, inl ended, omega arith)), refl);
+}

@@ -1,0 +1,195 @@
+-- What the calls of a filter of frames do, and what a whole run of `unpack` comes to.
+use Rattle.std.proofs.Common.{true, ◌≡◌, ℕ, ◌+◌, ◌≤◌, ◌<◌, ◌⊎◌, inl, inr, List, [], length, false, Option, None, Some, Ok, Err, refl, sym, ap, subst, ◌∙◌, arith, ◌++◌, Result, append-nil}
+use Rattle.frame_reader.specs.Frames.{BeginsTooLong}
+use Rattle.frame_reader.specs.Next.{Next, NextAnswer, piece_answer}
+use Rattle.frame_reader.specs.NextLaws.{NextPiece-reads}
+use Rattle.frame_reader.specs.declared.frame.Frames.{Frames}
+use Rattle.codec.specs.NextPieceLaws.{MetEnd-once}
+use Rattle.frames.specs.Words.{Error, IsLent, bytes_at, Span, ReaderState, rest, Asks, framed, IsCutShort, Fits, frames, error_kind, All, RanDry, StreamLog, IsOpen, ForwardAnswers, Stopped, AllSent, GaveNothing, MetNoFault, RunError}
+use Rattle.frames.specs.Pieces.{IsReady, HasEnded}
+use Rattle.frames.specs.Unpacking.{TakesFrames, unpacking, unpacking_rules, NoFrame}
+use Rattle.frames.specs.UnpackingLaws.{unpacking_sound, all_frames}
+use Rattle.frames.specs.declared.error.RunError.TheVariants.{TooLong, Truncated, Io}
+use Rattle.frames.specs.declared.unpacking.Unpacking.{Unpacking}
+use Rattle.std.proofs.lemmas.Bool.{true≢false}
+use Rattle.std.proofs.lemmas.List.Elements.{All-nil}
+use Rattle.std.specs.declared.io.ErrorKind.TheVariants.{OutOfMemory}
+use Rattle.frames.specs.Ending.{IsOutcome}
+use Rattle.frames.specs.Unpack.{Unpacked, UnpackedFirst, UnpackRan, Unpacks}
+use Rattle.forward.specs.declared.error.AskError.TheVariants as ask
+use Rattle.frame_reader.specs.declared.error.FrameError.TheVariants as error
+use Rattle.frame_reader.specs.declared.frame.FrameFault.TheVariants as Fault
+use Rattle.frames.proofs.PieceRuns.{Over, all_received, outcome_ran}
+use Rattle.frames.proofs.PiecesCalls as pieces
+
+-- so it is still, where the limit, the kind of the buffer and its capacity didn't change
+pub frames_on : {R W : Type 0} {s : Unpacking R W} (t : Unpacking R W) → TakesFrames s
+    → t.source.decoder ≡ s.source.decoder → t.source.ended ≡ false → t.target.block.kind ≡ s.target.block.kind
+    → t.target.block.capacity ≡ s.target.block.capacity → TakesFrames t
+frames_on t takes decoder told kind capacity = record {
+  target = record {
+    plain = kind ∙ takes.target.plain;
+    capacity = omega (arith, takes.target.capacity, capacity, ap (λ d. d.max) decoder);
+  };
+  told = told;
+}
+
+-- what is nothing, or cut short, has fewer bytes than the longest frame
+few : (max : ℕ) (bytes : List ℕ) → (bytes ≡ []) ⊎ IsCutShort max bytes → length bytes < 2 + max
+few max bytes (inl none) = omega (arith, ap length none)
+few max bytes (inr (inl one)) = omega (arith, one)
+few max bytes (inr (inr cut)) = omega (arith, cut.short, cut.fits)
+
+-- the reader was asked for the next payload
+module _ {R W : Type 0} (remaining : R → Option (List ℕ)) {s : Unpacking R W} (ready : IsReady unpacking s)
+    (lacks : s.held ≡ None) (m : ReaderState R Frames) where
+  abbrev after : Option Span → Unpacking R W
+  after h = record s { source = m; held = h }
+
+  takes_then : (answer : NextAnswer) → Next remaining s.source answer m → (h : Option Span) → TakesFrames (after h)
+  takes_then answer next h = frames_on (after h) ready.also next.piece.went.decoder
+      (NextPiece-reads remaining s.source m (piece_answer answer) next.piece).told refl refl
+
+  pub asked_more : (span : Span) → IsLent (framed m.decoder.max) m.handed m.reader.block.bytes span
+      → Next remaining s.source (Ok (Some (bytes_at span m.reader.block.bytes))) m
+      → Asks (unpacking_rules remaining) s (Ok true) (after (Some span))
+  asked_more span lent next =
+      pieces.asked_more remaining unpacking_sound ready (after (Some span)) lacks refl
+      (takes_then (Ok (Some (bytes_at span m.reader.block.bytes))) next (Some span)) ready.also.told span refl lent next.piece
+
+  -- none came
+  pub asked_none : Next remaining s.source (Ok None) m → Asks (unpacking_rules remaining) s (Ok false) (after s.held)
+  asked_none next = pieces.asked_none remaining unpacking_sound ready (after s.held) lacks refl
+      (takes_then (Ok None) next s.held) ready.also.told lacks next.piece
+
+  pub asked_long : (len : ℕ) → Next remaining s.source (Err (error.TooLong len)) m
+      → Asks (unpacking_rules remaining) s (Err (ask.Wrong TooLong)) (after s.held)
+  asked_long len next = pieces.asked_wrong remaining unpacking_sound ready (after s.held) lacks refl
+      (takes_then (Err (error.TooLong len)) next s.held) ready.also.told lacks (Fault.TooLong len) next.piece TooLong
+      (subst (λ d. BeginsTooLong d.max (rest m)) (sym next.piece.went.decoder)
+      (record { len = len; above = next.leaves.0; begins = next.leaves.1 }))
+
+  pub asked_cut : (have : ℕ) → Next remaining s.source (Err (error.Truncated have)) m
+      → Asks (unpacking_rules remaining) s (Err (ask.Wrong Truncated)) (after s.held)
+  asked_cut have next =
+      let once : m.reader.log.reads.zero_reads ≡ s.source.reader.log.reads.zero_reads + 1 = elim next.piece.answers.3 [
+        | inl wrong ↦ (let odd : Fault.Truncated have ≡ Fault.TooLong wrong.0.0.len = wrong.0.1 in cc)
+        | inr cut ↦ MetEnd-once s.source m ready.also.told cut.3
+      ] in
+      pieces.asked_wrong remaining unpacking_sound ready (after s.held) lacks refl
+      (takes_then (Err (error.Truncated have)) next s.held) ready.also.told lacks (Fault.Truncated have) next.piece Truncated
+      (subst (λ d. IsCutShort d.max (rest m)) (sym next.piece.went.decoder) next.leaves.1, omega (arith, once))
+
+  -- a read failed
+  module _ (e : Error) (next : Next remaining s.source (Err (error.Io e)) m) where
+    pub asked_idle : length (rest m) ≤ length (rest s.source)
+        → Asks (unpacking_rules remaining) s (Err (ask.Io e)) (after s.held)
+    asked_idle = pieces.asked_idle remaining unpacking_sound ready (after s.held) lacks refl
+        (takes_then (Err (error.Io e)) next s.held) ready.also.told lacks e next.piece
+
+    pub asked_behind : length (rest s.source) < length (rest m)
+        → Asks (unpacking_rules remaining) s (Err (ask.IoBehind e)) (after s.held)
+    asked_behind came = pieces.asked_behind remaining unpacking_sound ready (after s.held) lacks refl
+        (takes_then (Err (error.Io e)) next s.held) ready.also.told lacks e next.piece came
+        (few s.source.decoder.max (rest m) next.leaves)
+
+-- from empty buffers on
+module _ {R W : Type 0} (remaining : R → Option (List ℕ)) (s t : Unpacking R W)
+    (fresh : (unpacking_rules {W = W} remaining).fresh s) (told : s.source.ended ≡ false) (ready : IsReady unpacking t) where
+  abbrev max : ℕ
+  max = s.source.decoder.max
+
+  abbrev Went : List (List ℕ) → List (List ℕ) → Type 0
+  Went = Over remaining unpacking_sound s t fresh
+
+  abbrev Ran : Result (Unit {0}) RunError → Type 0
+  Ran = UnpackRan max s.source.reader.log t.source.reader.log s.target.log t.target.log
+
+  abbrev NoFault : Type 0
+  NoFault = MetNoFault s.source.reader.log t.source.reader.log s.target.log t.target.log
+
+  -- no end is left to tell, so the pieces are whole
+  whole : (handed p : List (List ℕ)) (over : Went handed p) → (over.bytes ≡ frames handed) × All (Fits max) handed
+  whole handed p over = elim over.text [
+    | inl is ↦ all_frames max over.bytes handed is
+    | inr last ↦ absurd (true≢false (sym last.1 ∙ ready.also.told))
+  ]
+
+  unpacked : (p : List (List ℕ)) → Went p p → AllSent t.target
+      → Unpacked max s.source.reader.log t.source.reader.log s.target.log t.target.log (rest t.source)
+  unpacked p over sent = record {
+    payloads = p;
+    fit = (whole p p over).1;
+    given = over.given ∙ ap (λ l. s.source.reader.log.reads.given ++ (l ++ rest t.source)) (whole p p over).0;
+    received = all_received remaining unpacking_sound s t fresh p p over sent;
+    flushed = sent.flushed;
+  }
+
+  wrong_ran : (p : List (List ℕ)) → Went p p → (why : RunError) → NoFrame s.source why t.source → AllSent t.target → NoFault
+      → Ran (Err why)
+  wrong_ran p over TooLong wrong sent met =
+      (rest t.source, unpacked p over sent, subst (λ d. BeginsTooLong d.max (rest t.source)) over.decoder wrong, met)
+  wrong_ran p over Truncated wrong sent met = (
+    rest t.source,
+    unpacked p over sent,
+    subst (λ d. IsCutShort d.max (rest t.source)) over.decoder wrong.0,
+    wrong.1,
+    met,
+  )
+  wrong_ran p over other wrong sent met = absurd wrong
+
+  dry : HasEnded unpacking s ⊎ RanDry s.source.reader t.source.reader → GaveNothing s.source.reader.log t.source.reader.log
+  dry (inl before) = absurd (true≢false (sym before ∙ told))
+  dry (inr ran) = ran
+
+  -- some were lost, also one that is held
+  abbrev first : (p lost : List (List ℕ)) → Went (p ++ lost) p
+      → UnpackedFirst max s.source.reader.log t.source.reader.log s.target.log t.target.log
+  first p lost over = record {
+    lines = p;
+    lost = lost;
+    more = rest t.source;
+    unsent = t.target.block.bytes;
+    fit = (whole (p ++ lost) p over).1;
+    given = over.given ∙ ap (λ l. s.source.reader.log.reads.given ++ (l ++ rest t.source)) (whole (p ++ lost) p over).0;
+    received = over.received;
+  }
+
+  pub unpacked_all : (answer : Result ℕ (Stopped RunError)) (outcome : Result (Unit {0}) RunError) → IsOutcome answer outcome
+      → ForwardAnswers (unpacking_rules remaining) s answer t → Ran outcome
+  unpacked_all = outcome_ran remaining unpacking_sound s t fresh Ran
+      (λ p over end sent met. (
+        subst (Unpacked max s.source.reader.log t.source.reader.log s.target.log t.target.log) end.0 (unpacked p over sent),
+        dry end.1,
+        met,
+      ))
+      wrong_ran
+      (λ p over open' still sent e failed. (
+        rest t.source,
+        unpacked p over sent,
+        subst (λ d. IsOpen (framed d.max) (rest t.source)) over.decoder open',
+        failed,
+      ))
+      (λ p lost over e failed. (first p lost over, failed))
+      (λ p lost over e much. (first p lost over, inl much))
+
+-- a buffer was refused
+pub unpack_refused : (most : ℕ) (read written : StreamLog) (e : Error) → error_kind e ≡ OutOfMemory
+    → Unpacks most read read written written (Err (Io e))
+unpack_refused most read written e memory = record {
+  ran = (
+    record {
+      lines = [];
+      lost = [];
+      more = [];
+      unsent = [];
+      fit = All-nil (Fits most);
+      given = sym (append-nil read.reads.given);
+      received = refl;
+    },
+    inr (record { memory = memory; read_same = refl; written_same = refl }),
+  );
+  prompt = inl refl;
+  once = omega arith;
+  flushes = omega arith;
+}

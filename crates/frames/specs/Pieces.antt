@@ -1,0 +1,104 @@
+-- A filter that hands out the payloads of pieces, one by one.
+use Rattle.std.specs.Prelude.{◌≡◌, ℕ, ◌-◌, ◌<◌, ◌≤◌, ◌⊎◌, List, [], ◌∷◌, ◌++◌, length, Bool, true, false, Option, None, Some, Result, Ok, Err, flat_map}
+use Rattle.buffer_redux.specs.Buffered.{Buffered}
+use Rattle.buffer_redux.specs.LogGrows.{ReadLogGrows}
+use Rattle.buffer_redux.specs.declared.policy.StdPolicy.{StdPolicy}
+use Rattle.programs.specs.TakenIn.{taken_in}
+use Rattle.frames.specs.Words.{RanDry, WritesInOrder, IsLent, bytes_at, Span, Grammar, IsOpen, AskedWhere, PiecesWent, empties, IsPieceReader, ReaderState, rest, HasPieces, IsPieces, FilterRules, AllSent}
+
+-- the parts of such a filter: a reader, the place of a payload that is held until it is passed, and a writer; which bytes are
+-- pieces, and what is made of their payloads
+pub record Piecewise (T R D X W E : Type 0) : Type 1 where
+  pub source : T → ReaderState R D
+  pub held : T → Option Span
+  pub target : T → Buffered W StdPolicy
+  -- what each call wants, and leaves, beside what all such filters do
+  pub also : T → Type 0
+  pub grammar : D → Grammar X
+  -- what becomes of a payload, and what is due of bytes
+  pub coded : List ℕ → List ℕ
+  pub due : D → List ℕ → List ℕ → Type 0
+  -- what comes next is no piece
+  pub wrong : T → E → T → Type 0
+
+-- the payload that is held, where one is
+abbrev pub held_at : {R D : Type 0} → ReaderState R D → Option Span → List (List ℕ)
+held_at m (Some span) = bytes_at span m.reader.block.bytes ∷ []
+held_at m None = []
+
+-- the reader lends it
+abbrev pub CanShow : {R D X : Type 0} → Grammar X → ReaderState R D → Option Span → Type 0
+CanShow g m (Some span) = IsLent g m.handed m.reader.block.bytes span
+CanShow g m None = Unit {0}
+
+-- the bytes are pieces with these payloads, the last of which may be one only since the stream ended
+abbrev pub IsText : {X : Type 0} → Grammar X → List ℕ → List (List ℕ) → Bool → Type 0
+IsText g bytes payloads ended = IsPieces g bytes payloads [] ⊎ (HasPieces g bytes payloads × (ended ≡ true))
+
+module _ {T R D X W E : Type 0} (f : Piecewise T R D X W E) where
+  abbrev pub grammar_of : T → Grammar X
+  grammar_of s = f.grammar (f.source s).decoder
+
+  abbrev pub made : List (List ℕ) → List ℕ
+  made payloads = flat_map f.coded payloads
+
+  abbrev pub held_of : T → List (List ℕ)
+  held_of s = held_at (f.source s) (f.held s)
+
+  -- what each call of the filter wants
+  pub record IsReady (s : T) : Type 0 where
+    pub whole : IsPieceReader (grammar_of s) (f.source s)
+    pub shows : CanShow (grammar_of s) (f.source s) (f.held s)
+    pub also : f.also s
+
+  -- the stream ended behind a last piece, which no call has told yet
+  abbrev pub HasEnded : T → Type 0
+  HasEnded s = (f.source s).ended ≡ true
+
+  -- how payloads end: nothing is left, and the reader gave no more; or what comes next is wrong
+  abbrev pub PiecesEnd : T → Result (Unit {0}) E → T → Type 0
+  PiecesEnd s (Ok _) t =
+      (rest (f.source t) ≡ []) × (HasEnded s ⊎ RanDry (f.source s).reader (f.source t).reader)
+      × (empties (f.source s).reader ≤ empties (f.source t).reader)
+  PiecesEnd s (Err why) t = f.wrong s why t
+
+  -- a byte at least becomes of each payload; what is wrong stays so; and what is due of whole pieces is what becomes of them
+  pub record IsSound : Type 0 where
+    pub some : (payload : List ℕ) → 0 < length (f.coded payload)
+    pub wrong_after : (a b c : T) (why : E) → empties (f.source a).reader ≤ empties (f.source b).reader → f.wrong b why c
+        → f.wrong a why c
+    pub is_due : (d : D) (bytes left : List ℕ) (p : List (List ℕ)) → IsPieces (f.grammar d) bytes p []
+        → IsOpen (f.grammar d) left → f.due d (bytes ++ left) (made p)
+
+module _ {T R D X W E : Type 0} (remaining : R → Option (List ℕ)) (f : Piecewise T R D X W E) where
+  -- these payloads are what was held, then what the reader handed out, but for what is held still
+  pub record HandsPieces (s : T) (payloads : List (List ℕ)) (t : T) : Type 0 where
+    pub bytes : List ℕ
+    pub got : List (List ℕ)
+    pub went : PiecesWent remaining (grammar_of f s).most (f.source s) bytes (f.source t)
+    pub text : IsText (grammar_of f s) bytes got (f.source t).ended
+    pub order : held_of f s ++ got ≡ payloads ++ held_of f t
+    pub dry : HasEnded f t → HasEnded f s ⊎ RanDry (f.source s).reader (f.source t).reader
+    pub behind : HasEnded f s → (bytes ≡ []) × (got ≡ []) × HasEnded f t
+
+  abbrev pub piece_rules : FilterRules T E
+  piece_rules = record {
+    read = λ s. (f.source s).reader.log;
+    written = λ s. (f.target s).log;
+    ready = λ s. IsReady f s;
+    hands = HandsPieces;
+    takes = λ s payloads t. WritesInOrder (f.target s) (made f payloads) (f.target t);
+    has = λ s. ¬ (f.held s ≡ None);
+    lacks = λ s. f.held s ≡ None;
+    waits = λ s.
+        (f.held s ≡ None) × IsOpen (grammar_of f s) (rest (f.source s)) × ((f.source s).ended ≡ false);
+    sent = λ s. AllSent (f.target s);
+    taken = λ s. taken_in (f.target s);
+    asks = λ s t. AskedWhere (IsOpen (grammar_of f s)) (f.source s) (f.source t)
+        × ReadLogGrows (f.source s).reader.log.reads (f.source t).reader.log.reads;
+    wants = λ s. (grammar_of f s).most - length (rest (f.source s));
+    ends = λ s how t. (f.held t ≡ None) × PiecesEnd f s how t;
+    closed = λ s. HasEnded f s;
+    fresh = λ s. ((f.source s).reader.block.bytes ≡ []) × ((f.target s).block.bytes ≡ []) × (f.held s ≡ None);
+    due = λ s. f.due (f.source s).decoder;
+  }

@@ -1,0 +1,200 @@
+-- Payloads of pieces are handed out in order, and what is due is sent with what becomes of them.
+use Rattle.std.proofs.Common.{◌≡◌, ℕ, inl, inr, List, [], ◌∷◌, ◌++◌, length, false, Option, None, Some, Result, Ok, Err, refl, sym, ap, subst, ◌∙◌, arith, append-nil, append_assoc, length-append}
+use Rattle.std.proofs.lemmas.Bool.{true≢false}
+use Rattle.std.proofs.lemmas.Grind.{flat_map-append}
+use Rattle.buffer_redux.specs.LogGrows.{ReadLogGrows}
+use Rattle.buffer_redux.specs.WriterLaws.{WritesInOrder-joins, WritesInOrder-none}
+use Rattle.codec.specs.NextPieceLaws.{MetEnd-once}
+use Rattle.codec.specs.PiecesWentLaws.{PiecesWent-joins, PiecesWent-none, drop_none}
+use Rattle.programs.specs.PromptLaws.{AskedLast-after}
+use Rattle.programs.specs.TakenIn.{sent_all, taken_more}
+use Rattle.frames.specs.Words.{WritesInOrder, Grammar, IsOpen, AskedOver, HandsBytes, NextPiece, PiecesWent, ReaderState, rest, HasPieces, IsPieces, StartsWith, AsksSent, FilterRules, IsLawful, Moves, StaysOpen, AskedLast, AllSent}
+use Rattle.frames.specs.Pieces.{HandsPieces, IsSound, IsText, PiecesEnd, Piecewise, grammar_of, held_at, held_of, made, piece_rules}
+
+-- from an empty buffer on, what was given is what was handed out, and what is left
+pub given_since : {S D : Type 0} (s t : ReaderState S D) (bytes : List ℕ) → s.reader.block.bytes ≡ [] → HandsBytes s bytes t
+    → t.reader.log.reads.given ≡ s.reader.log.reads.given ++ (bytes ++ rest t)
+given_since s t bytes none hands = hands.given ∙ ap (λ l. s.reader.log.reads.given ++ l)
+    (sym (hands.equal ∙ ap (λ l. l ++ hands.got) (drop_none s.handed s.reader.block.bytes none)))
+
+module _ {X : Type 0} (g : Grammar X) where
+  -- whole pieces stand in front of others
+  pieces_join : (P : List ℕ → List (List ℕ) → Type 0)
+      → ((bytes payload more : List ℕ) (q : List (List ℕ)) → StartsWith g bytes payload more → P more q → P bytes (payload ∷ q))
+      → (a b : List ℕ) (p q : List (List ℕ)) → IsPieces g a p [] → P b q → P (a ++ b) (p ++ q)
+  pieces_join P one a b [] q is others = subst (λ l. P (l ++ b) q) (sym is) others
+  pieces_join P one a b (payload ∷ p) q (more, starts, is) others =
+      one (a ++ b) payload (more ++ b) (p ++ q) (record {
+        piece = starts.piece;
+        is = starts.is;
+        equal = ap (λ l. l ++ b) starts.equal ∙ append_assoc starts.piece more b;
+      }) (pieces_join P one more b p q is others)
+
+  -- and are a text
+  pub whole_text : (bytes : List ℕ) (p : List (List ℕ)) → IsPieces g bytes p [] → HasPieces g bytes p
+  whole_text bytes [] is = is
+  whole_text bytes (payload ∷ p) (more, starts, is) = inl (more, starts, whole_text more p is)
+
+-- the stream was asked, also for the last time, behind what had come
+asked_last : {S D : Type 0} (Such : List ℕ → Type 0) (s m : ReaderState S D) (over : AskedOver Such s m)
+    → ReadLogGrows s.reader.log.reads m.reader.log.reads → AskedLast over.came s.reader.log m.reader.log
+asked_last Such s m over grows = record {
+  given = over.given ∙ ap (λ l. s.reader.log.reads.given ++ (over.came ++ l)) (sym over.latest);
+  asks = omega (
+    arith,
+    over.asks,
+    ap length grows.faults.equal,
+    length-append s.reader.log.reads.faults grows.faults.more,
+  );
+}
+
+module _ {T R D X W E : Type 0} (remaining : R → Option (List ℕ)) (f : Piecewise T R D X W E) where
+  abbrev rules : FilterRules T E
+  rules = piece_rules remaining f
+
+  -- nothing is held where there is no place
+  pub none_held : (s : T) → f.held s ≡ None → held_of f s ≡ []
+  none_held s none = ap (λ h. held_at (f.source s) h) none
+
+  -- what was handed out went over
+  pub handed_all : (s t : T) (p : List (List ℕ)) (hands : HandsPieces remaining f s p t) → f.held s ≡ None → f.held t ≡ None
+      → hands.got ≡ p
+  handed_all s t p hands none none' =
+      sym (ap (λ l. l ++ hands.got) (none_held s none)) ∙ hands.order ∙ ap (λ l. p ++ l) (none_held t none') ∙ append-nil p
+
+  -- nothing was handed out, or one payload
+  pub hands_nothing : (s t : T) (p : List (List ℕ))
+      → PiecesWent remaining (grammar_of f s).most (f.source s) [] (f.source t) → held_of f s ≡ p ++ held_of f t
+      → (f.source t).ended ≡ (f.source s).ended → HandsPieces remaining f s p t
+  hands_nothing s t p went order same = record {
+    bytes = [];
+    got = [];
+    went = went;
+    text = inl refl;
+    order = append-nil (held_of f s) ∙ order;
+    dry = λ ended. inl (sym same ∙ ended);
+    behind = λ ended. (refl, refl, same ∙ ended);
+  }
+
+  pub hands_one : (s t : T) (payload : List ℕ) (p : List (List ℕ)) → (f.source s).ended ≡ false
+      → NextPiece remaining (grammar_of f s) (f.source s) (Ok (Some payload)) (f.source t)
+      → held_of f s ++ payload ∷ [] ≡ p ++ held_of f t → HandsPieces remaining f s p t
+  hands_one s t payload p going next order = record {
+    bytes = next.bytes;
+    got = payload ∷ [];
+    went = next.went;
+    text = elim next.answers.1 [
+      | inl whole ↦ inl ([], record { piece = next.bytes; is = whole.0; equal = sym (append-nil next.bytes) }, refl)
+      | inr last ↦ inr (inr (record { is = last.0; open' = last.1; some = last.2 }, refl), last.4)
+    ];
+    order = order;
+    dry = λ ended. elim next.answers.1 [
+      | inl whole ↦ absurd (true≢false (sym ended ∙ whole.1))
+      | inr last ↦ inr (omega (arith, MetEnd-once (f.source s) (f.source t) going last.5))
+    ];
+    behind = λ ended. absurd (true≢false (sym ended ∙ going));
+  }
+
+  hands_none : (s : T) → HandsPieces remaining f s [] s
+  hands_none s = hands_nothing s s [] (PiecesWent-none remaining (grammar_of f s).most (f.source s)) refl refl
+
+  module _ (a b c : T) (p q : List (List ℕ)) (h : HandsPieces remaining f a p b) (k : HandsPieces remaining f b q c) where
+    -- behind the end nothing more is handed out
+    text_joins : IsText (grammar_of f a) (h.bytes ++ k.bytes) (h.got ++ k.got) (f.source c).ended
+    text_joins =
+        let g = grammar_of f a in
+        elim h.text [
+          | inl whole ↦ elim (subst (λ d. IsText (f.grammar d) k.bytes k.got (f.source c).ended) h.went.decoder k.text) [
+            | inl more ↦ inl (pieces_join g (λ bytes l. IsPieces g bytes l []) (λ bytes l more q starts is. (more, starts, is))
+                h.bytes k.bytes h.got k.got whole more)
+            | inr last ↦ inr (
+              pieces_join g (HasPieces g) (λ bytes l more q starts is. inl (more, starts, is)) h.bytes k.bytes h.got k.got
+                  whole last.0,
+              last.1,
+            )
+          ]
+          | inr last ↦
+              let none = k.behind last.1 in inr (
+                subst (λ l. HasPieces g (h.bytes ++ l) (h.got ++ k.got)) (sym none.0)
+                    (subst (λ l. HasPieces g (h.bytes ++ []) (h.got ++ l)) (sym none.1)
+                    (subst (λ l. HasPieces g l (h.got ++ [])) (sym (append-nil h.bytes))
+                    (subst (λ l. HasPieces g h.bytes l) (sym (append-nil h.got)) last.0))),
+                none.2,
+              )
+        ]
+
+    hands_joins : HandsPieces remaining f a (p ++ q) c
+    hands_joins = record {
+      bytes = h.bytes ++ k.bytes;
+      got = h.got ++ k.got;
+      went = PiecesWent-joins remaining (grammar_of f a).most (f.source a) (f.source b) (f.source c) h.bytes k.bytes h.went
+          (subst (λ d. PiecesWent remaining (f.grammar d).most (f.source b) k.bytes (f.source c)) h.went.decoder k.went);
+      text = text_joins;
+      order =
+          sym (append_assoc (held_of f a) h.got k.got) ∙ ap (λ l. l ++ k.got) h.order ∙ append_assoc p (held_of f b) k.got
+          ∙ ap (λ l. p ++ l) k.order ∙ sym (append_assoc p q (held_of f c));
+      dry = λ ended. elim (k.dry ended) [
+        | inl before ↦ elim (h.dry before) [
+          | inl first ↦ inl first
+          | inr dry ↦ inr (omega (arith, dry, k.went.grows.zero_reads))
+        ]
+        | inr dry ↦ inr (omega (arith, dry, h.went.grows.zero_reads))
+      ];
+      behind = λ ended.
+          let first = h.behind ended in
+          let next = k.behind first.2 in
+          (ap (λ l. l ++ k.bytes) first.0 ∙ next.0, ap (λ l. l ++ k.got) first.1 ∙ next.1, next.2);
+    }
+
+  module _ (sound : IsSound f) where
+    ends_after : (a b c : T) (p : List (List ℕ)) (how : Result (Unit {0}) E) → HandsPieces remaining f a p b
+        → PiecesEnd f b how c → PiecesEnd f a how c
+    ends_after a b c p (Ok _) h end = (
+      end.0,
+      elim end.1 [
+        | inl ended ↦ elim (h.dry ended) [ inl first ↦ inl first | inr dry ↦ inr (omega (arith, dry, end.2)) ]
+        | inr dry ↦ inr (omega (arith, dry, h.went.grows.zero_reads))
+      ],
+      omega (arith, end.2, h.went.grows.zero_reads),
+    )
+    ends_after a b c p (Err why) h end = sound.wrong_after a b c why h.went.grows.zero_reads end
+
+    asks_sent : (first s t : T) (p : List (List ℕ)) → rules.fresh first → Moves rules first p p s → StaysOpen rules first s
+        → f.held s ≡ None → AllSent (f.target s) → rules.asks s t → AsksSent rules first s t
+    asks_sent first s t p fresh moves still lacks sent (inl same, grows) = inl same
+    asks_sent first s t p fresh moves (inr closed) lacks sent (inr over, grows) =
+        absurd (true≢false (sym closed ∙ over.not_ended))
+    asks_sent first s t p fresh moves (inl gives) lacks sent (inr over, grows) =
+        let hands = moves.hands in
+        let left = rest (f.source s) in
+        let d = (f.source first).decoder in
+        let whole : IsPieces (f.grammar d) hands.bytes p [] = elim hands.text [
+          | inl is ↦ subst (λ l. IsPieces (f.grammar d) hands.bytes l []) (handed_all first s p hands fresh.2 lacks) is
+          | inr last ↦ absurd (true≢false (sym last.1 ∙ over.not_ended))
+        ] in
+        inr (record {
+          before = (hands.bytes ++ left) ++ over.came;
+          asked = AskedLast-after (f.source first).reader.log (f.source s).reader.log (f.source t).reader.log
+              (hands.bytes ++ left) over.came (given_since (f.source first) (f.source s) hands.bytes fresh.0 hands.went.hands)
+              gives.give (asked_last (IsOpen (grammar_of f s)) (f.source s) (f.source t) over grows);
+          due = made f p;
+          is_due = subst (λ l. f.due d l (made f p)) (sym (append_assoc hands.bytes left over.came))
+              (sound.is_due d hands.bytes (left ++ over.came) p whole
+              (subst (λ d. IsOpen (f.grammar d) (left ++ over.came)) hands.went.decoder over.such));
+          sent = sent_all (f.target first) (f.target s) (made f p) moves.takes fresh.1 sent;
+        })
+
+    pub piece_lawful : IsLawful (piece_rules remaining f)
+    piece_lawful = record {
+      hands_none = hands_none;
+      hands_joins = hands_joins;
+      takes_none = λ s. WritesInOrder-none (f.target s);
+      takes_joins = λ a b c p q h k.
+          subst (λ l. WritesInOrder (f.target a) l (f.target c)) (sym (flat_map-append f.coded p q))
+          (WritesInOrder-joins (f.target a) (f.target b) (f.target c) (made f p) (made f q) h k);
+      ends_after = λ a b c p how h still end. (end.0, ends_after a b c p how h end.1);
+      waits_lacks = λ s waits. waits.0;
+      received_taken = λ s. omega arith;
+      taken_on = λ s t p taken. omega (arith, taken_more (f.target s) (f.target t) (made f p) taken);
+      asks_sent = asks_sent;
+    }

@@ -1,0 +1,37 @@
+-- What a buffered writer took in, whether or not it was received.
+use Rattle.std.proofs.Common.{◌≡◌, ℕ, ◌+◌, List, [], ◌++◌, length, length-append, sym, ap, subst, ◌∙◌, arith, append-nil}
+use Rattle.buffer_redux.specs.BufWriter.{WritesInOrder}
+use Rattle.buffer_redux.specs.Buffered.{Buffered}
+use Rattle.buffer_redux.specs.GoesOn.{GoesOn, GoesOn-none}
+use Rattle.buffer_redux.specs.WriterLaws.{WritesInOrder-fresh}
+use Rattle.programs.specs.Prompt.{WasSent}
+use Rattle.programs.specs.Streams.{AllSent}
+
+-- how many bytes it is
+abbrev pub taken_in : {W P : Type 0} → Buffered W P → ℕ
+taken_in u = length u.log.writes.received + length u.block.bytes
+
+module _ {W P : Type 0} (u v : Buffered W P) (accepted : List ℕ) (taken : WritesInOrder u accepted v) where
+  -- from an empty buffer on, all that was taken in was received once all was sent
+  module _ (none : u.block.bytes ≡ []) (sent : AllSent v) where
+    pub received_all : v.log.writes.received ≡ u.log.writes.received ++ accepted
+    received_all =
+        sym (append-nil v.log.writes.received) ∙ ap (λ l. v.log.writes.received ++ l) (sym sent.empty)
+        ∙ WritesInOrder-fresh u v accepted none taken
+
+    pub sent_all : WasSent (u.log.writes.received ++ accepted) v.log.writes
+    sent_all = subst (λ l. WasSent l v.log.writes) received_all (record {
+      received = GoesOn-none v.log.writes.received;
+      flushed = subst (λ l. GoesOn l v.log.writes.flushed) sent.flushed (GoesOn-none v.log.writes.flushed);
+    })
+
+  -- it is so many bytes more
+  pub taken_more : taken_in u + length accepted ≡ taken_in v
+  taken_more = omega (
+    arith,
+    ap length taken.received,
+    ap length taken.equal,
+    length-append u.log.writes.received taken.sent,
+    length-append taken.sent v.block.bytes,
+    length-append u.block.bytes accepted,
+  )
